@@ -1,12 +1,10 @@
 -- bits of octets
-use Rattle.std.proofs.Common.{◌≡◌, ℕ, zero, suc, ◌+◌, ◌-◌, ◌*◌, ◌/◌, ◌%◌, ◌^◌, ◌<◌, ◌≤◌, ◌≢◌, Bool, true, false, refl, sym, ap, ◌∙◌, inl, inr, w8, arith}
+use Rattle.std.proofs.Common.{◌≡◌, ℕ, ◌+◌, ◌-◌, ◌*◌, ◌/◌, ◌%◌, ◌^◌, ◌<◌, ◌≤◌, ◌≢◌, Bool, true, false, refl, sym, ap, ◌∙◌, inl, inr, w8, arith, rules}
 use Rattle.std.specs.Prelude.{◌||◌, ◌==◌, bit_or, bit_and}
 use Rattle.std.specs.Int.{bit_at}
 use Rattle.std.proofs.lemmas.Nat.Bits.{bit_at_set_same, bit_at_set_other, shr_and_one, same_from_bits_below, bit_at-lt, bit_at-zero}
-use Rattle.std.proofs.lemmas.Bool.{cases_eq}
 use Rattle.std.proofs.lemmas.Bool.Decides.{nat_tests, eqb_tells}
-use Rattle.domain_bitmap.specs.Bits.{bit_of, AreClear, octet_with, weight}
-use Rattle.std.proofs.Common.{rules}
+use Rattle.domain_bitmap.specs.Bits.{bit_of, octet_with, weight}
 use Rattle.std.proofs.lemmas.Grind.{common_steps}
 
 -- a bit as a number
@@ -16,18 +14,15 @@ digit false = 0
 
 weight-digit : (value : ℕ) (b : Bool) → weight value b ≡ value * digit b
 unfolding digit
-weight-digit value true = omega arith
-weight-digit value false = omega arith
+weight-digit value b = grind (arith, common_steps)
 
 digit_small : (b : Bool) → digit b ≤ 1
 unfolding digit
-digit_small true = omega arith
-digit_small false = omega arith
+digit_small b = grind (arith, common_steps)
 
 digit_tells : (b : Bool) → (digit b == 1) ≡ b
 unfolding digit
-digit_tells true = refl
-digit_tells false = refl
+digit_tells b = grind (arith, common_steps)
 
 -- an octet as the sum of its bits
 record Sum (bit : ℕ → Bool) : Type 0 where
@@ -50,15 +45,7 @@ pub octet_with-lt : (bit : ℕ → Bool) → octet_with bit < 256
 octet_with-lt bit = let s = sum_of bit in omega arith
 
 bit_at-octet_with : (bit : ℕ → Bool) (b : ℕ) → b < 8 → bit_at (octet_with bit) (7 - b) ≡ digit (bit b)
-bit_at-octet_with bit zero small = let s = sum_of bit in omega arith
-bit_at-octet_with bit (suc zero) small = let s = sum_of bit in omega arith
-bit_at-octet_with bit (suc (suc zero)) small = let s = sum_of bit in omega arith
-bit_at-octet_with bit (suc (suc (suc zero))) small = let s = sum_of bit in omega arith
-bit_at-octet_with bit (suc (suc (suc (suc zero)))) small = let s = sum_of bit in omega arith
-bit_at-octet_with bit (suc (suc (suc (suc (suc zero))))) small = let s = sum_of bit in omega arith
-bit_at-octet_with bit (suc (suc (suc (suc (suc (suc zero)))))) small = let s = sum_of bit in omega arith
-bit_at-octet_with bit (suc (suc (suc (suc (suc (suc (suc zero))))))) small = let s = sum_of bit in omega arith
-bit_at-octet_with bit (suc (suc (suc (suc (suc (suc (suc (suc b)))))))) small = absurd (omega (arith, small))
+bit_at-octet_with bit b small = grind (arith, common_steps, sum_of)
 
 pub bit_of-octet_with : (bit : ℕ → Bool) (b : ℕ) → b < 8 → bit_of (octet_with bit) b ≡ bit b
 unfolding bit_of
@@ -95,10 +82,9 @@ one_bit m n m_small n_small same = grind (arith, nat_tests)
 pub octets_same : (x y : ℕ) → x < 256 → y < 256 → ((b : ℕ) → b < 8 → bit_of x b ≡ bit_of y b) → x ≡ y
 unfolding bit_of
 octets_same x y x_small y_small same =
-    same_from_bits_below 8 x y x_small y_small (λ i small.
-    let back : 7 - (7 - i) ≡ i = omega arith in
+    same_from_bits_below 8 x y x_small y_small (λ i small. let back : 7 - (7 - i) ≡ i = omega arith in
     let equal : (bit_at x i == 1) ≡ (bit_at y i == 1) = rw back at (same (7 - i) (omega arith)) in
-    one_bit (bit_at x i) (bit_at y i) (bit_at-lt x i) (bit_at-lt y i) equal)
+    one_bit _ _ (bit_at-lt x i) (bit_at-lt y i) equal)
 
 pub octet_with-bit_of : (x : ℕ) → x < 256 → octet_with (bit_of x) ≡ x
 octet_with-bit_of x small = octets_same (octet_with (bit_of x)) x (octet_with-lt (bit_of x)) small (bit_of-octet_with (bit_of x))
@@ -108,12 +94,7 @@ pub octet_with-same : (p q : ℕ → Bool) → ((b : ℕ) → b < 8 → p b ≡ 
 octet_with-same p q same = search (rules, octets_same, octet_with-lt, bit_of-octet_with)
 
 pub octet_with-none : (p : ℕ → Bool) → ((b : ℕ) → b < 8 → p b ≡ false) → octet_with p ≡ 0
-octet_with-none p none = octets_same (octet_with p) 0 (octet_with-lt p) (omega arith) (λ b small. bit_of-octet_with p b small
-    ∙ none b small ∙ sym (bit_of-zero b))
+octet_with-none p none =
+    octets_same _ 0 (octet_with-lt p) (omega arith) (λ b small. bit_of-octet_with p b small ∙ none b small ∙ sym (bit_of-zero b))
 
 pub ruleset bit_reads = (bit_of-shr, bit_of-zero)
-
--- one more bit that is not set
-pub clear_more : (octet from b : ℕ) → AreClear octet from b → bit_of octet b ≡ false → AreClear octet from (b + 1)
-clear_more octet from b clear here = λ k low high.
-    elim (cases_eq k b) [ inl same ↦ ap (bit_of octet) same ∙ here | inr other ↦ clear k low (omega (arith, high, other)) ]

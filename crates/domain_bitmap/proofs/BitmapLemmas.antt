@@ -1,6 +1,6 @@
 -- the octets of a set of types
-use Rattle.std.proofs.Common.{◌≡◌, ℕ, zero, suc, ◌+◌, ◌*◌, ◌/◌, ◌<◌, ◌≤◌, Bool, false, List, [], ◌∷◌, ◌++◌, length, get_or, refl, sym, ap, ◌∙◌, subst}
-use Rattle.std.proofs.Common.{arith, zero-add}
+use Rattle.std.proofs.Common.{subst}
+use Rattle.std.proofs.Common.{◌≡◌, ℕ, zero, suc, ◌+◌, ◌*◌, ◌/◌, ◌<◌, ◌≤◌, Bool, false, List, [], ◌∷◌, ◌++◌, length, get_or, refl, sym, ap, ◌∙◌, arith, zero-add}
 use Rattle.std.proofs.lemmas.List.{append-nil}
 use Rattle.std.specs.List.{AllByRecursion, flat_map, range_with_len}
 use Rattle.std.proofs.lemmas.List.FromFn.{length-map-range_with_len, get_or-map-range_with_len, fill_by_all}
@@ -29,9 +29,8 @@ pub window_octets-is : (types : ℕ → Bool) (w : ℕ) (xs : List ℕ) → leng
     → ((k b : ℕ) → k < 32 → b < 8 → bit_of (get_or xs k 0) b ≡ types (256 * w + 8 * k + b)) → window_octets types w ≡ xs
 unfolding window_octets
 window_octets-is types w xs long small bits =
-    sym (fill_by_all (λ i. octet_with (λ b. types (256 * w + 8 * i + b))) xs 32 0 long
-    (λ k inside. sym (octet_with-bit_of (get_or xs k 0) (small k))
-    ∙ octet_with-same (bit_of (get_or xs k 0)) (λ b. types (256 * w + 8 * k + b)) (λ b b_small. bits k b inside b_small)))
+    sym (fill_by_all (λ i. octet_with (λ b. types (256 * w + 8 * i + b))) xs 32 0 long (λ k inside. sym (octet_with-bit_of _ (small k))
+    ∙ octet_with-same _ (λ b. types (256 * w + 8 * k + b)) (λ b b_small. bits k b inside b_small)))
 
 -- the types of a window
 in_window : (w k b : ℕ) → k < 32 → b < 8 → (256 * w + 8 * k + b) / 256 ≡ w
@@ -47,12 +46,7 @@ window_block-none types w none = rw (trimmed-zeros (window_octets types w) (zero
 
 window_octets-same : (p q : ℕ → Bool) (w : ℕ) → ((t : ℕ) → t / 256 ≡ w → p t ≡ q t) → window_octets p w ≡ window_octets q w
 window_octets-same p q w same =
-    window_octets-is p w (window_octets q w) (length-window_octets q w) (bounded q w)
-    (λ k b k_small b_small. rw (
-      get_or-window_octets q w k k_small,
-      bit_of-octet_with (λ c. q (256 * w + 8 * k + c)) b b_small,
-    )
-    (sym (same (256 * w + 8 * k + b) (in_window w k b k_small b_small))))
+    grind (arith, common_steps, window_octets-is, bounded, get_or-window_octets, bit_of-octet_with, in_window, (length-window_octets q w), (bounded q w))
 
 window_block-same : (p q : ℕ → Bool) (w : ℕ) → ((t : ℕ) → t / 256 ≡ w → p t ≡ q t) → window_block p w ≡ window_block q w
 unfolding window_block
@@ -61,8 +55,7 @@ window_block-same p q w same = ap (λ xs. block_with w (trimmed xs)) (window_oct
 -- tests that agree on all types have the same octets
 pub bitmap_octets-same : (p q : ℕ → Bool) → ((t : ℕ) → t < 65536 → p t ≡ q t) → bitmap_octets p ≡ bitmap_octets q
 unfolding bitmap_octets
-bitmap_octets-same p q same =
-    flat_same (window_block p) (window_block q) 256 (λ w below. window_block-same p q w (λ t of_window. same t (omega arith)))
+bitmap_octets-same p q same = flat_same _ _ 256 (λ w below. window_block-same p q w (λ t of_window. same t (omega arith)))
 
 -- the block of a window, if it has types
 unfoldable pub block_list : ℕ → List ℕ → List Block
@@ -81,8 +74,7 @@ blocks_from types a (suc n) = block_list a (trimmed (window_octets types a)) ++ 
 pub octets_of_blocks-blocks_from : (types : ℕ → Bool) (a n : ℕ) → octets_of_blocks (blocks_from types a n) ≡ flat_map (window_block types) (range_with_len a n)
 unfolding blocks_from window_block
 octets_of_blocks-blocks_from types a zero = refl
-octets_of_blocks-blocks_from types a (suc n) =
-    grind (arith, common_steps, octets_of_blocks-block_list, (octets_of_blocks-blocks_from types (a + 1) n))
+octets_of_blocks-blocks_from types a (suc n) = grind (arith, common_steps, octets_of_blocks-block_list, (octets_of_blocks-blocks_from types (a + 1) n))
 
 valid_list : (w : ℕ) (xs : List ℕ) → w < 256 → length xs ≤ 32 → ((i : ℕ) → get_or xs i 0 < 256) → AllByRecursion IsBlock (block_list w xs)
 unfolding block_list
@@ -121,8 +113,7 @@ length-block_with w (x ∷ xs) = omega arith
 
 length-window_block : (types : ℕ → Bool) (w : ℕ) → length (window_block types w) ≤ 34
 unfolding window_block
-length-window_block types w =
-    omega (arith, length-block_with w (trimmed (window_octets types w)), length-trimmed (window_octets types w), length-window_octets types w)
+length-window_block types w = grind (arith, common_steps, length-block_with, length-trimmed, length-window_octets)
 
 -- all windows with all their octets
 pub length-bitmap_octets : (types : ℕ → Bool) → length (bitmap_octets types) ≤ 8704

@@ -3,7 +3,7 @@ use Rattle.std.proofs.Common.{◌≡◌, ℕ, zero, suc, ◌+◌, ◌-◌, ◌*�
 use Rattle.std.proofs.Common.{take, drop, refl, sym, ap, ◌∙◌, subst, arith, length-append}
 use Rattle.std.specs.List.{AllByRecursion, flat_map}
 use Rattle.std.proofs.lemmas.List.{take_at, drop_at}
-use Rattle.std.proofs.lemmas.List.Elements.{All-from_recursion, All-append, All-cons, All-nil}
+use Rattle.std.proofs.lemmas.List.Elements.{All-append, All-nil}
 use Rattle.domain_octets.specs.Words.{AreOctets}
 use Rattle.domain_bitmap.proofs.RangeLemmas.{filter_none}
 use Rattle.domain_bitmap.proofs.BitLemmas.{bit_of-zero}
@@ -59,8 +59,7 @@ block_from (block ∷ blocks) valid some =
     }
 
 pub block_at : (octets : List ℕ) → IsBitmap octets → 0 < length octets → HasBlock octets
-block_at octets bitmap some =
-    subst HasBlock (sym bitmap.spelled) (block_from (blocks_of octets) bitmap.valid (subst (λ (o : List ℕ). 0 < length o) bitmap.spelled some))
+block_at octets bitmap some = grind (arith, common_steps, block_from)
 
 pub nothing_at : (octets : List ℕ) → length octets ≡ 0 → blocks_of octets ≡ []
 unfolding blocks_of blocks_within
@@ -105,12 +104,11 @@ clear_in : (octets : List ℕ) (w place bit : ℕ) → place < 256 → place % 8
     ≡ block_types_from (record { window = w; octets = octets }) (place / 8 * 8 + bit)
 clear_in octets w place bit inside low high clear =
     let moved : place + (bit - place % 8) ≡ place / 8 * 8 + bit = omega (arith, low) in
-    clear_run (record { window = w; octets = octets }) place (bit - place % 8) (omega (arith, inside, high, low)) (λ k from to.
+    clear_run (record { window = w; octets = octets }) place _ (omega (arith, inside, high, low)) (λ k from to.
     let octet : k / 8 ≡ place / 8 = omega (arith, from, to, high, low) in
     let kept : bit_of (slice_index octets (k / 8)) (k % 8) ≡ false
     = rw octet (clear (k % 8) (omega (arith, from, to, high, low)) (omega (arith, from, to, high, low))) in
-    bit_in octets w k (omega (arith, to, inside, high, low)) ∙ kept)
-    ∙ ap (block_types_from (record { window = w; octets = octets })) moved
+    bit_in octets w k (omega (arith, to, inside, high, low)) ∙ kept) ∙ ap (block_types_from (record { window = w; octets = octets })) moved
 
 pub found_at : (octets : List ℕ) (place bit : ℕ) → place < 256 → bit < 8 → IsFirstBit (slice_index octets (place / 8)) (place % 8) bit → (w : ℕ)
     → block_types_from (record { window = w; octets = octets }) place
@@ -175,15 +173,12 @@ small_at [] bounded = tt
 small_at (octet ∷ octets) bounded = (bounded 0, small_at octets (λ i. bounded (suc i)))
 
 small_block : (block : Block) → IsBlock block → AreOctets (block.window ∷ length block.octets ∷ block.octets)
-small_block block is =
-    All-cons (λ octet. octet < 256) block.window (length block.octets ∷ block.octets) is.window
-    (All-cons (λ octet. octet < 256) (length block.octets) block.octets (omega (arith, is.fits))
-    (All-from_recursion (λ octet. octet < 256) block.octets (small_at block.octets is.bounded)))
+small_block block is = grind (arith, common_steps, (small_at block.octets is.bounded))
 
 blocks_small : (blocks : List Block) → AllByRecursion IsBlock blocks → AreOctets (octets_of_blocks blocks)
 blocks_small [] all = All-nil (λ octet. octet < 256)
 blocks_small (block ∷ blocks) (here, all) =
-    All-append (λ octet. octet < 256) (block.window ∷ length block.octets ∷ block.octets) (octets_of_blocks blocks)
+    All-append (λ octet. octet < 256) (block.window ∷ length block.octets ∷ block.octets) _
     (small_block block here) (blocks_small blocks all)
 
 pub bitmap_small : (octets : List ℕ) → IsBitmap octets → AreOctets octets

@@ -7,7 +7,7 @@ use Rattle.domain_names.specs.declared.error.ScanError.TheVariants.{ShortBuf}
 use Rattle.domain_octets.specs.Limit.{HasRoom}
 use Rattle.domain_codecs.specs.Codec.{Decodes}
 use Rattle.domain_codecs.specs.declared.codec.Codec.{Codec}
-use Rattle.domain_names.specs.TextFault.{ScanFault, entry_ends, illegal, no_room, no_memory}
+use Rattle.domain_names.specs.TextFault.{ScanFault, illegal}
 use Rattle.domain_base.specs.Scan.{CodecFault, TokenHasNoRoom, TakesToken, RefusesToken, ended, refused}
 use Rattle.domain_bitmap.specs.HashScan.{CountedFault}
 use Rattle.domain_bitmap.specs.Counted.{IsCutShort}
@@ -39,10 +39,7 @@ token_has_room codec limit old new octets x r is took room over = grind (arith, 
 
 pub counted_fault : (codec : Codec) (long : List ℕ) (limit : Option ℕ) (fault : ScanFault) (token : List ℕ)
     → CodecFault codec limit fault token → CountedFault codec long limit fault token
-counted_fault codec long limit entry_ends token bad = bad
-counted_fault codec long limit (illegal said) token bad = inl bad
-counted_fault codec long limit no_room token bad = bad
-counted_fault codec long limit no_memory token bad = bad
+counted_fault codec long limit fault token bad = grind (arith, common_steps)
 
 -- a token that the codec refused
 pub refused_by_codec : (codec : Codec) (long : List ℕ) (limit : Option ℕ) (old new : List (List ℕ)) (fault : ScanFault)

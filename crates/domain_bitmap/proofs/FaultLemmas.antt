@@ -1,4 +1,5 @@
 -- why octets are no list of blocks
+use Rattle.std.proofs.lemmas.Grind.{common_steps}
 use Rattle.std.proofs.Common.{◌≡◌, ℕ, suc, ◌+◌, ◌-◌, ◌<◌, ◌≤◌, ◌⊎◌, inl, inr, List, [], ◌∷◌, ◌++◌, length, get_or, take, drop, refl, sym, ap, ◌∙◌, subst, arith}
 use Rattle.std.proofs.lemmas.List.{take-append-drop, length-take, get_or-take, get_or-drop, get_or_past, drop_at}
 use Rattle.std.proofs.lemmas.Bool.Decides.{leb_tells}
@@ -93,17 +94,10 @@ nothing_left (x ∷ rest) none = absurd (omega (arith, none))
 -- a list of blocks has no fault
 pub no_fault : {octets : List ℕ} {e : RtypeBitmapError} → FirstBlockFault octets e → IsBitmap octets → ⊥
 no_fault (no_length window) bitmap = let has = block_at (window ∷ []) bitmap (omega arith) in omega (arith, has.headed)
-no_fault (bad_length window len rest bad) bitmap =
-    let has = block_at (window ∷ len ∷ rest) bitmap (omega arith) in
-    elim bad [
-      | inl zero_len ↦ omega (arith, has.first.not_empty, length-take len rest, zero_len)
-      | inr long ↦ omega (arith, has.first.fits, has.inside, length-take len rest, long)
-    ]
-no_fault (cut_block window len rest some small cut) bitmap =
-    let has = block_at (window ∷ len ∷ rest) bitmap (omega arith) in
-    omega (arith, has.inside, cut)
+no_fault (bad_length window len rest bad) bitmap = grind (arith, common_steps, (block_at (window ∷ len ∷ rest) bitmap (omega arith)))
+no_fault (cut_block window len rest some small cut) bitmap = grind (arith, common_steps, (block_at (window ∷ len ∷ rest) bitmap (omega arith)))
 no_fault (after window block rest fault some small later) bitmap =
-    let has = block_at (window ∷ length block ∷ (block ++ rest)) bitmap (omega arith) in
+    let has = block_at _ bitmap (omega arith) in
     let left : drop (length block + 2) (window ∷ length block ∷ (block ++ rest))
     ≡ rest = rw (add_two (length block)) (drop_at block rest (length block) refl) in
     no_fault later (subst IsBitmap left has.rest)

@@ -1,7 +1,6 @@
 -- bitmaps whose octets stand one after another
-use Rattle.std.proofs.Common.{◌≡◌, ℕ, zero, suc, ◌+◌, ◌-◌, ◌<◌, ◌≤◌, List, [], ◌∷◌, ◌++◌, length, get_or, drop, refl, sym, ap, ◌∙◌, arith, length-drop}
+use Rattle.std.proofs.Common.{◌≡◌, ℕ, zero, suc, ◌+◌, ◌<◌, ◌≤◌, List, [], ◌∷◌, ◌++◌, length, get_or, refl, sym, ap, ◌∙◌, arith}
 use Rattle.std.specs.Prelude.{slice_range}
-use Rattle.std.proofs.lemmas.List.{take_all, drop_at, take-append-le, drop-append-le}
 use Rattle.std.proofs.lemmas.List.Elements.{All-get_or}
 use Rattle.domain_bitmap.specs.Blocks.{IsBitmap}
 use Rattle.domain_bitmap.specs.List.{cut_at, EndAt, AreBitmaps}
@@ -27,19 +26,13 @@ pub ruleset count_steps = (length-cut_at, none_cut, no_ends)
 
 -- ---- one more
 
-part-append : (octets more : List ℕ) (start end : ℕ) → start ≤ end → end ≤ length octets → slice_range (octets ++ more) start end ≡ slice_range octets start end
-part-append octets more start end low high =
-    rw (drop-append-le start octets more (omega arith)) (take-append-le (end - start) (drop start octets) more (omega (arith, length-drop start octets)))
-
 last_part : (octets more : List ℕ) (start : ℕ) → start ≡ length octets → slice_range (octets ++ more) start (length octets + length more) ≡ more
-last_part octets more start is =
-    rw (drop_at octets more start (sym is)) (take_all (length octets + length more - start) more (omega arith))
+last_part octets more start is = grind (arith, common_steps)
 
 cut_more : (ends : List ℕ) (start : ℕ) (octets more : List ℕ) → EndAt (length octets) ends start
     → cut_at (ends ++ (length octets + length more) ∷ []) start (octets ++ more) ≡ cut_at ends start octets ++ more ∷ []
 cut_more [] start octets more is = ap (λ l. l ∷ []) (last_part octets more start is)
-cut_more (end ∷ ends) start octets more is =
-    rw (part-append octets more start end is.0 (end_high (length octets) ends end is.1), cut_more ends end octets more is.1) refl
+cut_more (end ∷ ends) start octets more is = grind (arith, common_steps, end_high, (cut_more ends end octets more is.1))
 
 end_more : (len next : ℕ) (ends : List ℕ) (start : ℕ) → EndAt len ends start → len ≤ next → EndAt next (ends ++ next ∷ []) start
 end_more len next [] start is long = (omega arith, refl)

@@ -34,8 +34,7 @@ in_list-other w (x ∷ xs) blocks t other = grind (arith, common_steps)
 in_blocks-past : (types : ℕ → Bool) (t a n : ℕ) → t / 256 < a → in_first_block (blocks_from types a n) t ≡ false
 unfolding blocks_from
 in_blocks-past types t a zero past = refl
-in_blocks-past types t a (suc n) past =
-    in_list-other a (trimmed (window_octets types a)) (blocks_from types (a + 1) n) t (omega arith) ∙ in_blocks-past types t (a + 1) n (omega arith)
+in_blocks-past types t a (suc n) past = in_list-other a _ _ t (omega arith) ∙ in_blocks-past types t (a + 1) n (omega arith)
 
 in_list-here : (w : ℕ) (xs : List ℕ) (blocks : List Block) (t : ℕ) → w ≡ t / 256 → in_first_block blocks t ≡ false
     → in_first_block (block_list w xs ++ blocks) t ≡ has_bit xs t
@@ -53,7 +52,7 @@ in_blocks types t a (suc n) low high =
           in_list-here a (trimmed (window_octets types a)) (blocks_from types (a + 1) n) t h.1 past
           ∙ ap (λ w. has_bit (trimmed (window_octets types w)) t) h.1 ∙ has_bit-window types t
       | inr h ↦
-          in_list-other a (trimmed (window_octets types a)) (blocks_from types (a + 1) n) t h.1 ∙ in_blocks types t (a + 1) n (omega (arith, h.1)) (omega arith)
+          in_list-other a _ (blocks_from types (a + 1) n) t h.1 ∙ in_blocks types t (a + 1) n (omega (arith, h.1)) (omega arith)
     ]
 
 -- a built bitmap has the types that it was built of
@@ -94,12 +93,12 @@ unfolding blocks_from
 types_of_blocks types m a zero all = grind (arith, common_steps)
 types_of_blocks types m a (suc n) all =
     let xs = trimmed (window_octets types a) in
-    let count : m * suc n ≡ m + m * n = mul-suc m n ∙ add_comm (m * n) m in
+    let count : m * suc n ≡ m + m * n = mul-suc m n ∙ add_comm _ m in
     let next : m * (a + 1) ≡ m * a + m = ap (λ k. m * k) (add-one a) ∙ mul-suc m a in
     let list = types_of_list types a m xs all (λ t window. rw (← window) (has_bit-window types t)) in
     let rest : flat_map (λ b. block_types_from b 0) (blocks_from types (a + 1) n)
     ≡ filter types (range_with_len (m * a + m) (m * n)) = rw (← next) (types_of_blocks types m (a + 1) n all) in
-    flat_map-append (λ b. block_types_from b 0) (block_list a xs) (blocks_from types (a + 1) n) ∙ rw (list, rest, count) (filter_append types (m * a) m (m * n))
+    flat_map-append _ (block_list a xs) (blocks_from types (a + 1) n) ∙ rw (list, rest, count) (filter_append types (m * a) m (m * n))
 
 pub blocks_of-bitmap_octets : (types : ℕ → Bool) → blocks_of (bitmap_octets types) ≡ blocks_from types 0 256
 unfolding bitmap_octets

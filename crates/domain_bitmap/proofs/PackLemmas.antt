@@ -10,19 +10,13 @@ use Rattle.std.proofs.lemmas.Bool.Decides.{eqb_tells}
 use Rattle.domain_bitmap.specs.Bits.{bit_of}
 use Rattle.domain_bitmap.specs.Bitmap.{window_octets, window_block, block_with, trimmed, bitmap_octets}
 use Rattle.domain_bitmap.specs.Builder.{is_of_window, block_holds, has_window, holds}
-use Rattle.domain_bitmap.proofs.RangeLemmas.{any_more, any_suc, any_none, any_at, flat_none, flat_single}
+use Rattle.domain_bitmap.proofs.RangeLemmas.{any_more, any_suc, any_none, any_at, flat_single}
 use Rattle.domain_bitmap.proofs.BitmapLemmas.{window_octets-is, window_block-none}
 use Rattle.domain_bitmap.proofs.SlotLemmas.{window_absent}
 use Rattle.std.proofs.lemmas.Grind.{common_steps}
 
 or_bits : (m n : ℕ) → m < 2 → n < 2 → (max m n == 1) ≡ ((m == 1) || (n == 1))
-or_bits zero zero m_small n_small = refl
-or_bits zero (suc zero) m_small n_small = refl
-or_bits (suc zero) zero m_small n_small = refl
-or_bits (suc zero) (suc zero) m_small n_small = refl
-or_bits (suc (suc m)) n m_small n_small = absurd (omega (arith, m_small))
-or_bits zero (suc (suc n)) m_small n_small = absurd (omega (arith, n_small))
-or_bits (suc zero) (suc (suc n)) m_small n_small = absurd (omega (arith, n_small))
+or_bits m n m_small n_small = grind (arith, common_steps)
 
 -- the bits of two octets together
 pub bit_of-or : (x y b : ℕ) → bit_of (bit_or x y) b ≡ (bit_of x b || bit_of y b)
@@ -57,12 +51,10 @@ tally-less p n fails = rw (add-one, fails) (add-zero (tally p n))
 
 tally-same : (p q : ℕ → Bool) (n : ℕ) → ((j : ℕ) → p j ≡ q j) → tally p n ≡ tally q n
 unfolding tally
-tally-same p q zero same = refl
-tally-same p q (suc n) same = rw (tally-same p q n same, same n) refl
+tally-same p q n same = grind (arith, common_steps)
 
 one_of : (a b : Bool) → (if a || b then 1 else 0) ≤ (if a then 1 else 0) + (if b then 1 else 0)
-one_of true b = omega arith
-one_of false b = omega arith
+one_of a b = grind (arith, common_steps)
 
 tally-or : (p q : ℕ → Bool) (n : ℕ) → tally (λ j. p j || q j) n ≤ tally p n + tally q n
 unfolding tally
@@ -88,9 +80,7 @@ tally-absent (suc n) = rw (tally-absent n) refl
 tally-blocks : (value : List ℕ) (k n : ℕ) → tally (λ w. list_any (is_of_window value w) (range_with_len 0 k)) n ≤ k
 tally-blocks value zero n = omega (arith, tally-absent n)
 tally-blocks value (suc k) n =
-    let split = tally-same (λ w. list_any (is_of_window value w) (range_with_len 0 (suc k)))
-    (λ w. list_any (is_of_window value w) (range_with_len 0 k) || is_of_window value w k) n
-    (λ w. any_suc (is_of_window value w) k) in
+    let split = tally-same _ _ n (λ w. any_suc (is_of_window value w) k) in
     let parts = tally-or (λ w. list_any (is_of_window value w) (range_with_len 0 k)) (λ w. is_of_window value w k) n in
     omega (arith, split, parts, tally-blocks value k n, tally-one (get_or value (34 * k) 0) n)
 
@@ -133,9 +123,7 @@ pub table_window : (octets value xs : List ℕ) (w : ℕ) → w < 256 → length
     → ((t : ℕ) → t < 65536 → bit_of (get_or octets (t / 8) 0) (t % 8) ≡ holds value t) → window_octets (holds value) w ≡ xs
 table_window octets value xs w inside all is small bits =
     let long : length xs ≡ 32 = omega (arith, ap length is, length-take 32 (drop (32 * w) octets), length-drop (32 * w) octets) in
-    window_octets-is (holds value) w xs long small
-    (λ k b k_small b_small.
-    let t : ℕ = 256 * w + 8 * k + b in
+    window_octets-is _ w xs long small (λ k b k_small b_small. let t : ℕ = 256 * w + 8 * k + b in
     let place : t / 8 ≡ 32 * w + k = omega arith in
     let bit : t % 8 ≡ b = omega arith in
     let octet : get_or xs k 0 ≡ get_or octets (t / 8) 0 = rw (
@@ -147,8 +135,7 @@ table_window octets value xs w inside all is small bits =
 -- a builder without blocks, and one with one block
 pub holds_nothing : (value : List ℕ) → length value ≡ 0 → bitmap_octets (holds value) ≡ []
 unfolding bitmap_octets holds
-holds_nothing value none =
-    flat_none (window_block (holds value)) 256 (λ w below. window_block-none (holds value) w (λ t of_window. rw none refl))
+holds_nothing value none = grind (arith, common_steps, window_block-none)
 
 one_bit : (value : List ℕ) (t : ℕ) → length value ≡ 34 → get_or value 0 0 ≡ t / 256 → holds value t ≡ bit_of (get_or value (2 + t % 256 / 8) 0) (t % 8)
 unfolding holds
@@ -161,15 +148,12 @@ one_block value one small =
     let w = get_or value 0 0 in
     let xs = drop 2 value in
     let long : length xs ≡ 32 = omega (arith, length-drop 2 value) in
-    let octets : window_octets (holds value) w ≡ xs =
-    window_octets-is (holds value) w xs long (λ k. rw (get_or-drop 2 value k 0) (small (2 + k)))
-    (λ k b k_small b_small.
-    let t : ℕ = 256 * w + 8 * k + b in
+    let octets : window_octets (holds value) w ≡ xs = window_octets-is _ w xs long (λ k. rw (get_or-drop 2 value k 0) (small (2 + k)))
+    (λ k b k_small b_small. let t : ℕ = 256 * w + 8 * k + b in
     let window : w ≡ t / 256 = omega arith in
     let place : t % 256 / 8 ≡ k = omega arith in
     let bit : t % 8 ≡ b = omega arith in
     rw (get_or-drop 2 value k 0) (sym (one_bit value t one window ∙ rw (place, bit) refl))) in
-    flat_single (window_block (holds value)) w 256 (small 0)
-    (λ v below other. window_block-none (holds value) v (holds-absent value v
+    flat_single _ w 256 (small 0) (λ v below other. window_block-none _ v (holds-absent value v
     (window_absent value v (λ j inside. let at : j ≡ 0 = omega arith in rw at (λ is. other (sym is))))))
     ∙ ap (λ l. block_with w (trimmed l)) octets

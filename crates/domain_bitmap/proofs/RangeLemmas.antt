@@ -1,14 +1,12 @@
 -- numbers in a row
 use Rattle.std.proofs.Common.{◌≡◌, ℕ, zero, suc, ◌+◌, ◌*◌, ◌<◌, ◌≤◌, ◌≢◌, Bool, true, false, List, [], ◌∷◌, ◌++◌, length, get_or, refl, sym, ap, ◌∙◌, inl, inr}
-use Rattle.std.proofs.Common.{arith, add-zero, zero-add, add-one, append-nil, length-append, cond, subst}
-use Rattle.std.proofs.Math.Nat.{mul-suc}
+use Rattle.std.proofs.Common.{arith, add-zero, zero-add, add-one, append-nil, cond, subst}
 use Rattle.std.specs.Prelude.{◌||◌}
 use Rattle.std.specs.List.{range_with_len, list_any, flat_map, filter}
 use Rattle.std.proofs.lemmas.Bool.Decides.{eqb_tells}
-use Rattle.std.proofs.lemmas.List.Folds.{list_any-append, list_any_at, list_any_none}
-use Rattle.std.proofs.lemmas.List.Concat.{flat_map-append}
+use Rattle.std.proofs.lemmas.List.Folds.{list_any_at, list_any_none}
 use Rattle.std.proofs.lemmas.List.FromFn.{length-range_with_len, get_or-range_with_len}
-use Rattle.domain_octets.proofs.StdLemmas.{or_false, or_next}
+use Rattle.domain_octets.proofs.StdLemmas.{or_next}
 use Rattle.std.proofs.lemmas.Grind.{common_steps}
 
 range-suc : (a n : ℕ) → range_with_len a (suc n) ≡ range_with_len a n ++ (a + n) ∷ []
@@ -19,14 +17,11 @@ pub range_more : (n : ℕ) → range_with_len 0 (n + 1) ≡ range_with_len 0 n +
 range_more n = ap (range_with_len 0) (add-one n) ∙ range-suc 0 n ∙ ap (λ k. range_with_len 0 n ++ k ∷ []) (zero-add n)
 
 or_swap : (a b c : Bool) → (a || (b || c)) ≡ (b || (a || c))
-or_swap true true c = refl
-or_swap true false c = refl
-or_swap false b c = refl
+or_swap a b c = grind (arith, common_steps)
 
 -- whether some number in a row passes a test
 pub any_more : (p : ℕ → Bool) (n : ℕ) → list_any p (range_with_len 0 (n + 1)) ≡ (list_any p (range_with_len 0 n) || p n)
-any_more p n =
-    ap (list_any p) (range_more n) ∙ list_any-append p (range_with_len 0 n) (n ∷ []) ∙ ap (λ b. list_any p (range_with_len 0 n) || b) (or_false (p n))
+any_more p n = grind (arith, common_steps, range_more)
 
 pub any_suc : (p : ℕ → Bool) (n : ℕ) → list_any p (range_with_len 0 (suc n)) ≡ (list_any p (range_with_len 0 n) || p n)
 any_suc p n = ap (λ m. list_any p (range_with_len 0 m)) (sym (add-one n)) ∙ any_more p n
@@ -41,7 +36,7 @@ any_same p q n same = any_same_from p q 0 n (λ j low high. same j (omega arith)
 pub any_at : (p : ℕ → Bool) (n k : ℕ) → k < n → p k ≡ true → list_any p (range_with_len 0 n) ≡ true
 any_at p n k below passes =
     let at : get_or (range_with_len 0 n) k 0 ≡ k = get_or-range_with_len 0 n k 0 below ∙ zero-add k in
-    list_any_at p (range_with_len 0 n) k 0 (omega (arith, length-range_with_len 0 n)) (ap p at ∙ passes)
+    list_any_at p _ k 0 (omega (arith, length-range_with_len 0 n)) (ap p at ∙ passes)
 
 pub any_none : (p : ℕ → Bool) (n : ℕ) → ((j : ℕ) → j < n → p j ≡ false) → list_any p (range_with_len 0 n) ≡ false
 any_none p n fails = any_same p (λ _. false) n fails ∙ list_any_none (λ _. false) (range_with_len 0 n) (λ k d below. refl)
@@ -54,7 +49,7 @@ any_with_from p q c a (suc n) k low high same more =
       | inl h ↦
           let here : q a ≡ (c || p a) = subst (λ j. q j ≡ (c || p j)) (sym h.1) more in
           let rest : list_any q (range_with_len (a + 1) n) ≡ list_any p (range_with_len (a + 1) n) =
-          any_same_from q p (a + 1) n (λ j j_low j_high. same j (omega arith) (omega arith) (omega (arith, h.1))) in
+          any_same_from q p _ n (λ j j_low j_high. same j (omega arith) (omega arith) (omega (arith, h.1))) in
           rw (here, rest) (or_next c (p a) (list_any p (range_with_len (a + 1) n)))
       | inr h ↦
           let other : a ≢ k = h.1 in
@@ -79,16 +74,12 @@ pub flat_same : (f g : ℕ → List ℕ) (n : ℕ) → ((j : ℕ) → j < n → 
 flat_same f g n same = flat_same_from f g 0 n (λ j low high. same j (omega arith))
 
 pub flat_more : (f : ℕ → List ℕ) (n : ℕ) → flat_map f (range_with_len 0 (n + 1)) ≡ flat_map f (range_with_len 0 n) ++ f n
-flat_more f n = ap (flat_map f) (range_more n) ∙ flat_map-append f (range_with_len 0 n) (n ∷ [])
-    ∙ ap (λ l. flat_map f (range_with_len 0 n) ++ l) (append-nil (f n))
+flat_more f n = grind (arith, common_steps, range_more)
 
 flat_none_from : (f : ℕ → List ℕ) (a n : ℕ) → ((j : ℕ) → a ≤ j → j < a + n → f j ≡ []) → flat_map f (range_with_len a n) ≡ []
 flat_none_from f a zero none = refl
 flat_none_from f a (suc n) none =
     rw (none a (omega arith) (omega arith)) (flat_none_from f (a + 1) n (λ j low high. none j (omega arith) (omega arith)))
-
-pub flat_none : (f : ℕ → List ℕ) (n : ℕ) → ((j : ℕ) → j < n → f j ≡ []) → flat_map f (range_with_len 0 n) ≡ []
-flat_none f n none = flat_none_from f 0 n (λ j low high. none j (omega arith))
 
 flat_single_from : (f : ℕ → List ℕ) (w a n : ℕ) → a ≤ w → w < a + n → ((j : ℕ) → a ≤ j → j < a + n → j ≢ w → f j ≡ []) → flat_map f (range_with_len a n) ≡ f w
 flat_single_from f w a zero low high none = absurd (omega arith)
@@ -116,8 +107,7 @@ filter_same p q a (suc n) same =
     rw (same a (omega arith) (omega arith), filter_same p q (a + 1) n (λ j low high. same j (omega arith) (omega arith))) refl
 
 kept_append : (b : Bool) (x : ℕ) (xs ys : List ℕ) → cond b (x ∷ xs) xs ++ ys ≡ cond b (x ∷ (xs ++ ys)) (xs ++ ys)
-kept_append true x xs ys = refl
-kept_append false x xs ys = refl
+kept_append b x xs ys = grind (arith, common_steps)
 
 pub filter_append : (p : ℕ → Bool) (a m n : ℕ) → filter p (range_with_len a m) ++ filter p (range_with_len (a + m) n) ≡ filter p (range_with_len a (m + n))
 filter_append p a zero n = rw (add-zero a, zero-add n) refl
@@ -128,8 +118,7 @@ filter_append p a (suc m) n =
     ∙ ap (λ rest. cond (p a) (a ∷ rest) rest) (filter_append p (a + 1) m n))
 
 kept_length : (b : Bool) (x : ℕ) (xs : List ℕ) → length (cond b (x ∷ xs) xs) ≡ length xs + cond b 1 0
-kept_length true x xs = omega arith
-kept_length false x xs = omega arith
+kept_length b x xs = grind (arith, common_steps)
 
 filter_more_from : (p q : ℕ → Bool) (c a n : ℕ) → a ≤ c → c < a + n → ((j : ℕ) → j ≢ c → q j ≡ p j) → p c ≡ false → q c ≡ true
     → length (filter q (range_with_len a n)) ≡ length (filter p (range_with_len a n)) + 1
@@ -155,5 +144,4 @@ filter_more p q c n inside same was is = filter_more_from p q c 0 n (omega arith
 
 pub flat_length : (f : ℕ → List ℕ) (most a n : ℕ) → ((j : ℕ) → length (f j) ≤ most) → length (flat_map f (range_with_len a n)) ≤ most * n
 flat_length f most a zero each = omega arith
-flat_length f most a (suc n) each =
-    omega (arith, each a, flat_length f most (a + 1) n each, length-append (f a) (flat_map f (range_with_len (a + 1) n)), mul-suc most n)
+flat_length f most a (suc n) each = grind (arith, common_steps, (flat_length f most (a + 1) n each))

@@ -32,10 +32,6 @@ use Rattle.std.proofs.lemmas.Grind.{common_steps}
 abbrev pub AreTypes : List ℕ → Type 0
 AreTypes types = AllByRecursion (λ t. t < 65536) types
 
-types-append : (a b : List ℕ) → AreTypes a → AreTypes b → AreTypes (a ++ b)
-types-append [] b small more = more
-types-append (t ∷ a) b small more = (small.0, types-append a b small.1 more)
-
 filtered_types : (test : ℕ → Bool) (a n : ℕ) → a + n ≤ 65536 → AreTypes (filter test (range_with_len a n))
 filtered_types test a zero fits = tt
 filtered_types test a (suc n) fits = grind (arith, common_steps, (filtered_types test (a + 1) n (omega (arith, fits))))
@@ -46,8 +42,7 @@ block_types block small = filtered_types (has_bit block.octets) (256 * block.win
 
 blocks_types : (blocks : List Block) → AllByRecursion IsBlock blocks → AreTypes (flat_map (λ block. block_types_from block 0) blocks)
 blocks_types [] valid = tt
-blocks_types (block ∷ blocks) valid = types-append (block_types_from block 0) (flat_map (λ b. block_types_from b 0) blocks)
-    (block_types block valid.0.window) (blocks_types blocks valid.1)
+blocks_types (block ∷ blocks) valid = grind (arith, common_steps, block_types, (blocks_types blocks valid.1))
 
 pub are_types : (octets : List ℕ) → IsBitmap octets → AreTypes (types_of octets)
 unfolding types_of
@@ -73,8 +68,7 @@ spaced_words front (t ∷ types) small =
     let parts : front ++ (32 ∷ (type_text t ++ flat_map (λ u. 32 ∷ type_text u) types)) ≡ before ++ flat_map (λ u. 32 ∷ type_text u) types =
     sym (append_assoc front (32 ∷ []) (type_text t ++ flat_map (λ u. 32 ∷ type_text u) types))
     ∙ sym (append_assoc (front ++ 32 ∷ []) (type_text t) (flat_map (λ u. 32 ∷ type_text u) types)) in
-    ap words_of parts ∙ spaced_words before types small.1
-    ∙ ap (λ l. l ++ map type_text types) (next_word front (type_text t) (type_word t small.0))
+    ap words_of parts ∙ spaced_words before types small.1 ∙ ap (λ l. l ++ map type_text types) (next_word front _ (type_word t small.0))
     ∙ append_assoc (words_of front) (type_text t ∷ []) (map type_text types)
 
 -- words, and types after a space
@@ -84,14 +78,13 @@ types_after front [] small = ap words_of (append-nil (front ++ 32 ∷ [])) ∙ l
 types_after front (t ∷ types) small =
     let before = (front ++ 32 ∷ []) ++ type_text t in
     ap words_of (sym (append_assoc (front ++ 32 ∷ []) (type_text t) (spaced_types types))) ∙ spaced_words before types small.1
-    ∙ ap (λ l. l ++ map type_text types) (next_word front (type_text t) (type_word t small.0))
+    ∙ ap (λ l. l ++ map type_text types) (next_word front _ (type_word t small.0))
     ∙ append_assoc (words_of front) (type_text t ∷ []) (map type_text types)
 
 types_words : (types : List ℕ) → AreTypes types → words_of (types_text types) ≡ map type_text types
 unfolding types_text words_after
 types_words [] small = refl
-types_words (t ∷ types) small =
-    spaced_words (type_text t) types small.1 ∙ ap (λ l. l ++ map type_text types) (one_word (type_text t) (type_word t small.0))
+types_words (t ∷ types) small = grind (arith, common_steps, spaced_words, one_word, type_word)
 
 pub types_back : (octets : List ℕ) → IsBitmap octets → TypeTexts (words_of (types_text (types_of octets))) (types_of octets)
 types_back octets bitmap = grind (arith, common_steps, are_types, types_words, texts_spell)
@@ -104,20 +97,17 @@ number_at test t u same = let e : u ≡ t = grind (arith, nat_tests) in ap test 
 among_below : (types : ℕ → Bool) (n t : ℕ) → t < n → is_among (types_below n types) t ≡ types t
 unfolding is_among types_below
 among_below types n t below =
-    any-filter_same (λ u. t == u) types (types t) (λ u same. number_at types t u same) (range_with_len 0 n)
-    ∙ ap (λ b. types t && b) (any_at (λ u. t == u) n t below (eq-eqb t t refl)) ∙ and_true (types t)
+    any-filter_same _ types _ (λ u same. number_at types t u same) _
+    ∙ ap (λ b. types t && b) (any_at _ n t below (eq-eqb t t refl)) ∙ and_true _
 
 among_built : (types : ℕ → Bool) (n t : ℕ) → n ≡ 65536 → t < 65536 → is_among (types_of (bitmap_octets types)) t ≡ types t
-among_built types n t all small =
-    ap (λ l. is_among l t) (types_of-bitmap_octets types 256 n refl all) ∙ among_below types n t (omega (arith, all, small))
+among_built types n t all small = grind (arith, common_steps, types_of-bitmap_octets, among_below)
 
 pub bitmap_back : (octets : List ℕ) → IsBitmap octets → IsShortest octets → bitmap_octets (is_among (types_of octets)) ≡ octets
 bitmap_back octets bitmap shortest =
     let built = built_from_shortest octets bitmap shortest in
     let types = contains_type octets in
-    bitmap_octets-same (is_among (types_of octets)) types
-    (λ t small. ap (λ o. is_among (types_of o) t) built ∙ among_built types 65536 t refl small)
-    ∙ sym built
+    bitmap_octets-same _ types (λ t small. ap (λ o. is_among (types_of o) t) built ∙ among_built types 65536 t refl small) ∙ sym built
 
 -- ---- salts
 
@@ -127,8 +117,8 @@ no_dash octet octets = λ same. cc
 
 pub salt_back : (octets : List ℕ) → All (λ octet. octet < 256) octets → length octets ≤ 255 → SaltText (salt_text octets) octets
 salt_back [] small counted = dash (codes "-") refl
-salt_back (octet ∷ octets) small counted = digits (encode_upper (octet ∷ octets)) (octet ∷ octets) (no_dash octet octets)
-    (upper_back (octet ∷ octets) small) counted
+salt_back (octet ∷ octets) small counted =
+    digits (encode_upper (octet ∷ octets)) (octet ∷ octets) (no_dash octet octets) (upper_back _ small) counted
 
 pub salt_word : (octets : List ℕ) → IsWord (salt_text octets)
 salt_word [] = record { some = λ none. cc; unbroken = (refl, tt) }

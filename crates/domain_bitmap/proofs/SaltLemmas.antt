@@ -1,6 +1,7 @@
 -- salts read from tokens
-use Rattle.std.proofs.Common.{◌≡◌, ◌≢◌, ◌≤◌, ℕ, List, [], ◌∷◌, length, drop, sym, ap, ◌∙◌, subst, codes}
-use Rattle.std.specs.Prelude.{Option, Result, Ok, Err, IfOk, IfErr}
+use Rattle.std.proofs.Common.{arith, ◌≡◌, ◌≢◌, ◌≤◌, ℕ, List, [], ◌∷◌, length, drop, sym, ap, ◌∙◌, subst, codes}
+use Rattle.std.proofs.lemmas.Grind.{common_steps}
+use Rattle.std.specs.Prelude.{Option, Result, IfOk, IfErr}
 use Rattle.domain_codecs.specs.Codec.{Decodes}
 use Rattle.domain_codecs.specs.declared.codec.Codec.TheVariants.{Base16}
 use Rattle.domain_names.specs.TextFault.{ScanFault, entry_ends, illegal}
@@ -46,7 +47,7 @@ took_digits old new token salt first other took counted =
     record {
       token = took.token;
       first = took.first;
-      holds = digits took.token salt (not_dash took.token (subst (λ (t : List ℕ). BeginsWithDash t → ⊥) same other)) took.holds counted;
+      holds = digits took.token salt (not_dash _ (subst (λ (t : List ℕ). BeginsWithDash t → ⊥) same other)) took.holds counted;
     }
 
 refused_digits : (limit : Option ℕ) (old new : List (List ℕ)) (token : List ℕ) (fault : ScanFault)
@@ -64,12 +65,10 @@ pub digits_ok : {E : Type 0} (r : Result (List ℕ) E) (old new : List (List ℕ
     → (rest : List (List ℕ)) × (old ≡ token ∷ rest) → (BeginsWithDash token → ⊥)
     → IfOk r (λ salt. TakesToken (λ t. Decodes Base16 t salt) old new) → IfOk r (λ salt. length salt ≤ 255)
     → IfOk r (λ salt. TakesToken (λ t. SaltText t salt) old new)
-digits_ok (Ok salt) old new token first other took counted = took_digits old new token salt first other took counted
-digits_ok (Err e) old new token first other took counted = took
+digits_ok r old new token first other took counted = grind (arith, common_steps, took_digits)
 
 pub digits_err : {A E : Type 0} (fault_of : E → ScanFault) (r : Result A E) (limit : Option ℕ) (old new : List (List ℕ))
     (token : List ℕ) → (rest : List (List ℕ)) × (old ≡ token ∷ rest) → (BeginsWithDash token → ⊥)
     → IfErr r (λ e. RefusesToken (CountedFault Base16 (codes "illegal NSEC3 salt") limit) old new (fault_of e))
     → IfErr r (λ e. RefusesToken (SaltTokenFault limit) old new (fault_of e))
-digits_err fault_of (Ok a) limit old new token first other why = why
-digits_err fault_of (Err e) limit old new token first other why = refused_digits limit old new token (fault_of e) first other why
+digits_err fault_of r limit old new token first other why = grind (arith, common_steps, refused_digits)

@@ -1,9 +1,7 @@
 -- types read from tokens
 use Rattle.std.proofs.Common.{◌≡◌, ◌≢◌, ℕ, ◌+◌, ◌*◌, ◌/◌, ◌<◌, Bool, true, false, List, [], ◌∷◌, ◌++◌, length, refl, sym, ap, ◌∙◌, subst, inl, inr, arith}
 use Rattle.std.proofs.Common.{eq-eqb, append_assoc}
-use Rattle.std.specs.Prelude.{◌||◌, ◌==◌, Option, if◌then◌else◌, IsNone, Result, Ok, Err, IsErrAnd, IfErr}
-use Rattle.std.specs.List.{list_any}
-use Rattle.std.proofs.lemmas.List.Folds.{list_any-append}
+use Rattle.std.specs.Prelude.{◌||◌, ◌==◌, Option, if◌then◌else◌, IsNone, Result, IsErrAnd, IfErr}
 use Rattle.std.proofs.lemmas.Bool.Decides.{nat_tests, eqb_tells}
 use Rattle.domain_base.specs.Numbers.{TypeText, IsNoType}
 use Rattle.domain_names.specs.TextFault.{ScanFault, scan_fault_of, scan_error_of}
@@ -12,7 +10,6 @@ use Rattle.domain_names.specs.declared.error.ScanError.{ScanError}
 use Rattle.domain_octets.specs.Limit.{IsOver}
 use Rattle.domain_octets.specs.declared.error.AppendError.{AppendError}
 use Rattle.domain_octets.specs.declared.error.AppendError.TheVariants.{ShortBuf, OutOfMemory}
-use Rattle.domain_octets.proofs.StdLemmas.{or_false, or_turn}
 use Rattle.domain_bitmap.specs.Builder.{holds, has_window}
 use Rattle.domain_bitmap.specs.Scan.{TypeTexts, no_types, one_more, is_among, has_type_in, room_for, not_a_type, without_room, without_memory, RefusesTypes}
 use Rattle.domain_bitmap.proofs.RangeLemmas.{filter_same, filter_more}
@@ -26,18 +23,16 @@ texts-more token t (one_more first tokens u types first_spells rest) spells =
 
 among-more : (types : List ℕ) (t u : ℕ) → is_among (types ++ t ∷ []) u ≡ ((u == t) || is_among types u)
 unfolding is_among
-among-more types t u =
-    list_any-append (λ v. u == v) types (t ∷ []) ∙ rw (or_false (u == t)) (or_turn (list_any (λ v. u == v) types) (u == t))
+among-more types t u = grind (arith, common_steps)
 
 type_in-more : (types : List ℕ) (t w : ℕ) → has_type_in (types ++ t ∷ []) w ≡ ((w == t / 256) || has_type_in types w)
 unfolding has_type_in
-type_in-more types t w =
-    list_any-append (λ v. w == v / 256) types (t ∷ []) ∙ rw (or_false (w == t / 256)) (or_turn (list_any (λ v. w == v / 256) types) (w == t / 256))
+type_in-more types t w = grind (arith, common_steps)
 
 room-same : (types : List ℕ) (t : ℕ) → has_type_in types (t / 256) ≡ true → room_for (types ++ t ∷ []) ≡ room_for types
 unfolding room_for
 room-same types t known =
-    ap (λ l. 34 * length l) (filter_same (has_type_in (types ++ t ∷ [])) (has_type_in types) 0 256
+    ap (λ l. 34 * length l) (filter_same _ (has_type_in types) 0 256
     (λ w low high. type_in-more types t w ∙ elim (eqb_tells w (t / 256)) [
       | inl h ↦ let is : has_type_in types w ≡ true = ap (has_type_in types) h.1 ∙ known in rw (h.0, is) refl
       | inr h ↦ rw h.0 refl
@@ -46,7 +41,7 @@ room-same types t known =
 room-more : (types : List ℕ) (t : ℕ) → t < 65536 → has_type_in types (t / 256) ≡ false → room_for (types ++ t ∷ []) ≡ room_for types + 34
 unfolding room_for
 room-more types t small new =
-    let more = filter_more (has_type_in types) (has_type_in (types ++ t ∷ [])) (t / 256) 256 (omega arith)
+    let more = filter_more (has_type_in types) _ (t / 256) 256 (omega arith)
     (λ w other. type_in-more types t w ∙ (let test : (w == t / 256) ≡ false = grind (arith, nat_tests) in rw test refl)) new
     (type_in-more types t (t / 256) ∙ rw (eq-eqb (t / 256) (t / 256) refl) refl) in
     omega (arith, more)
@@ -58,8 +53,7 @@ room-none = refl
 room-step_at : (types : List ℕ) (t : ℕ) (value after : List ℕ) (known : Bool) → has_type_in types (t / 256) ≡ known
     → length value ≡ room_for types → t < 65536 → length after ≡ (if known then length value else length value + 34)
     → length after ≡ room_for (types ++ t ∷ [])
-room-step_at types t value after true known room small size = size ∙ room ∙ sym (room-same types t known)
-room-step_at types t value after false known room small size = size ∙ ap (λ n. n + 34) room ∙ sym (room-more types t small known)
+room-step_at types t value after known h room small size = grind (arith, common_steps, room-same, room-more)
 
 room-step : (types : List ℕ) (t : ℕ) (value after : List ℕ) → length value ≡ room_for types → t < 65536
     → has_window value (t / 256) ≡ has_type_in types (t / 256)
@@ -100,15 +94,18 @@ pub scan_goes : (old now rest : List (List ℕ)) (value after : List ℕ) (token
     → now ≡ token ∷ rest → TypeText token t → t < 65536
     → ((u : ℕ) → u < 65536 → holds after u ≡ ((u == t) || holds value u)) → ((w : ℕ) → has_window after w ≡ ((w == t / 256) || has_window value w))
     → length after ≡ (if has_window value (t / 256) then length value else length value + 34) → Scanned old rest after
-scan_goes old now rest value after token t scanned first spells small held windows size = record {
-  taken = scanned.taken ++ token ∷ [];
-  types = scanned.types ++ t ∷ [];
-  parts = scanned.parts ∙ ap (λ l. scanned.taken ++ l) first ∙ sym (append_assoc scanned.taken (token ∷ []) rest);
-  spelled = texts-more token t scanned.spelled spells;
-  held = λ u u_small. held u u_small ∙ ap (λ b. (u == t) || b) (scanned.held u u_small) ∙ sym (among-more scanned.types t u);
-  windows = λ w. windows w ∙ ap (λ b. (w == t / 256) || b) (scanned.windows w) ∙ sym (type_in-more scanned.types t w);
-  room = room-step scanned.types t value after scanned.room small (scanned.windows (t / 256)) size;
-}
+scan_goes old now rest value after token t scanned first spells small held windows size =
+    grind (
+      arith,
+      common_steps,
+      texts-more,
+      among-more,
+      type_in-more,
+      room-step,
+      (append_assoc scanned.taken (token ∷ []) rest),
+      (texts-more token t scanned.spelled spells),
+      (room-step scanned.types t value after scanned.room small (scanned.windows (t / 256)) size),
+    )
 
 pub scan_ends : (old now : List (List ℕ)) (value : List ℕ) → Scanned old now value → now ≡ []
     → (types : List ℕ) × TypeTexts old types × ((t : ℕ) → t < 65536 → holds value t ≡ is_among types t)
@@ -159,5 +156,4 @@ none_left [] not_some = refl
 none_left (token ∷ tokens) not_some = absurd (not_some (λ e. cc))
 
 pub refused_with : (r : Result (Unit {0}) ScanError) (error : ScanError) (P : ScanError → Type 0) → IsErrAnd r (λ e. e ≡ error) → P error → IfErr r P
-refused_with (Ok x) error P gives holds = tt
-refused_with (Err e) error P gives holds = subst P (sym gives) holds
+refused_with r error P gives h = grind (arith, common_steps)

@@ -1,9 +1,9 @@
 -- the blocks of 34 octets that a builder holds
-use Rattle.std.proofs.Common.{◌≡◌, ℕ, zero, suc, ◌+◌, ◌-◌, ◌*◌, ◌/◌, ◌%◌, ◌^◌, ◌<◌, ◌≢◌, true, false, List, ◌∷◌, ◌++◌, length, get_or, take, drop, refl, sym}
+use Rattle.std.proofs.Common.{◌≡◌, ℕ, ◌+◌, ◌-◌, ◌*◌, ◌/◌, ◌%◌, ◌^◌, ◌<◌, ◌≢◌, true, false, List, ◌∷◌, ◌++◌, length, get_or, take, drop, refl}
 use Rattle.std.proofs.Common.{ap, ◌∙◌, inl, inr, arith, length-append, set, get_or-set_same, get_or-set_other, rules}
 use Rattle.std.specs.Prelude.{◌||◌, ◌==◌, bit_or, replicate}
 use Rattle.std.proofs.lemmas.Bool.Decides.{nat_tests, eqb_tells}
-use Rattle.std.proofs.lemmas.List.{take-set, drop-set, take-append-drop, get_or_append_left}
+use Rattle.std.proofs.lemmas.List.{take-set, drop-set, get_or_append_left}
 use Rattle.domain_octets.proofs.StdLemmas.{and_false}
 use Rattle.domain_bitmap.specs.Bits.{bit_of}
 use Rattle.domain_bitmap.specs.Builder.{is_of_window, block_holds, has_window, holds}
@@ -18,15 +18,11 @@ window_found value window j inside is = any_at (is_of_window value window) (leng
 
 pub window_absent : (value : List ℕ) (window : ℕ) → ((j : ℕ) → j < length value / 34 → get_or value (34 * j) 0 ≢ window) → has_window value window ≡ false
 unfolding has_window
-window_absent value window other = any_none (is_of_window value window) (length value / 34)
-    (λ j inside. let differs = other j inside in grind (arith, nat_tests))
+window_absent value window other = grind (arith, common_steps, any_none)
 
 -- one octet written over
 pub written_is : (value : List ℕ) (at octet : ℕ) → at < length value → take at value ++ (octet ∷ drop (at + 1) value) ≡ set value at octet
-written_is value at octet inside =
-    sym (ap (λ l. l ++ (octet ∷ drop (at + 1) value)) (take-set value at octet))
-    ∙ ap (λ l. take at (set value at octet) ++ l) (sym (drop-set value at octet inside))
-    ∙ take-append-drop at (set value at octet)
+written_is value at octet inside = grind (arith, common_steps, (take-set value), (drop-set value))
 
 same_type : (t r : ℕ) → t / 256 ≡ r / 256 → t % 256 / 8 ≡ r % 256 / 8 → (t == r) ≡ (t % 8 == r % 8)
 same_type t r window octet = grind (arith, nat_tests)
@@ -106,14 +102,10 @@ has_window-added value slots j o b r same inside window octet bit w =
 
 -- zero octets
 pub zeros_at : (n k : ℕ) → get_or {A = ℕ} (replicate n 0) k 0 ≡ 0
-zeros_at zero k = refl
-zeros_at (suc n) zero = refl
-zeros_at (suc n) (suc k) = zeros_at n k
+zeros_at n k = grind (arith, common_steps)
 
 pub same_at : {X : Type 0} (n : ℕ) (x : X) (k : ℕ) → get_or (replicate n x) k x ≡ x
-same_at zero x k = refl
-same_at (suc n) x zero = refl
-same_at (suc n) x (suc k) = same_at n x k
+same_at n x k = grind (arith, common_steps)
 
 -- a block of a window without types is appended
 module _ (value rest : List ℕ) (window : ℕ) (whole : length value % 34 ≡ 0) (long : length rest ≡ 33) (zeros : (k : ℕ) → get_or rest k 0 ≡ 0) where

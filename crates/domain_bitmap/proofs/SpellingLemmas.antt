@@ -5,10 +5,9 @@ use Rattle.std.specs.Prelude.{◌==◌}
 use Rattle.std.specs.List.{AllByRecursion}
 use Rattle.std.proofs.lemmas.Bool.Decides.{nat_tests, eqb_tells, leb_tells}
 use Rattle.std.proofs.lemmas.List.{get_or_past}
-use Rattle.domain_bitmap.specs.Bits.{bit_of, has_bit}
+use Rattle.domain_bitmap.specs.Bits.{has_bit}
 use Rattle.domain_bitmap.specs.Bitmap.{window_octets, trimmed, before_trimmed, bitmap_octets}
-use Rattle.domain_bitmap.specs.Blocks.{Block, IsBlock, IsBitmap, IsShortest, WindowsAscendFrom, last_octet, blocks_of, octets_of_blocks, in_first_block}
-use Rattle.domain_bitmap.specs.Blocks.{contains_type}
+use Rattle.domain_bitmap.specs.Blocks.{Block, IsBlock, IsBitmap, IsShortest, WindowsAscendFrom, last_octet, octets_of_blocks, in_first_block, contains_type}
 use Rattle.domain_bitmap.proofs.BitLemmas.{octet_with-same, octet_with-bit_of}
 use Rattle.domain_bitmap.proofs.TrimLemmas.{before_trimmed-cons, before_trimmed-last, trimmed-zeros}
 use Rattle.domain_bitmap.proofs.BitmapLemmas.{block_list, blocks_from, octets_of_blocks-blocks_from, length-window_octets, get_or-window_octets, zero_octets}
@@ -60,8 +59,7 @@ ascend-list low w (x ∷ xs) blocks lower ascend = (lower, ascend)
 ascend-blocks_from : (types : ℕ → Bool) (a n : ℕ) → WindowsAscendFrom a (blocks_from types a n)
 unfolding blocks_from
 ascend-blocks_from types a zero = tt
-ascend-blocks_from types a (suc n) = ascend-list a a (trimmed (window_octets types a)) (blocks_from types (a + 1) n) (omega arith)
-    (ascend-blocks_from types (a + 1) n)
+ascend-blocks_from types a (suc n) = ascend-list a a _ _ (omega arith) (ascend-blocks_from types (a + 1) n)
 
 abbrev IsCut : Block → Type 0
 IsCut block = last_octet block.octets ≢ 0
@@ -74,8 +72,7 @@ cut-list w (x ∷ xs) blocks cut all = (cut, all)
 cut-blocks_from : (types : ℕ → Bool) (a n : ℕ) → AllByRecursion IsCut (blocks_from types a n)
 unfolding blocks_from
 cut-blocks_from types a zero = tt
-cut-blocks_from types a (suc n) = cut-list a (trimmed (window_octets types a)) (blocks_from types (a + 1) n)
-    (cut-trimmed (window_octets types a)) (cut-blocks_from types (a + 1) n)
+cut-blocks_from types a (suc n) = cut-list a _ _ (cut-trimmed _) (cut-blocks_from types (a + 1) n)
 
 pub IsShortest-bitmap_octets : (types : ℕ → Bool) → IsShortest (bitmap_octets types)
 IsShortest-bitmap_octets types = grind (arith, common_steps, blocks_of-bitmap_octets, ascend-blocks_from, cut-blocks_from)
@@ -83,8 +80,7 @@ IsShortest-bitmap_octets types = grind (arith, common_steps, blocks_of-bitmap_oc
 -- a window below all others has no types
 none_below : (blocks : List Block) (low t : ℕ) → WindowsAscendFrom low blocks → t / 256 < low → in_first_block blocks t ≡ false
 none_below [] low t ascend below = refl
-none_below (block ∷ blocks) low t ascend below =
-    grind (arith, common_steps, (none_below blocks (block.window + 1) t ascend.1 (omega (arith, ascend.0))))
+none_below (block ∷ blocks) low t ascend below = grind (arith, common_steps, (none_below blocks (block.window + 1) t ascend.1 (omega (arith, ascend.0))))
 
 -- the octets of a window whose types are the bits of a block
 window_of_block : (types : ℕ → Bool) (block : Block) → IsBlock block
@@ -94,19 +90,19 @@ unfolding has_bit
 window_of_block types block valid same i =
     elim (leb_tells 32 i) [
       | inl h ↦
-          get_or_past (window_octets types block.window) i 0 (omega (arith, h.1, length-window_octets types block.window))
-          ∙ sym (get_or_past block.octets i 0 (omega (arith, h.1, valid.fits)))
+          get_or_past _ i 0 (omega (arith, h.1, length-window_octets types block.window))
+          ∙ sym (get_or_past _ i 0 (omega (arith, h.1, valid.fits)))
       | inr h ↦
           let inside : i < 32 = h.1 in
-          get_or-window_octets types block.window i inside
-          ∙ octet_with-same (λ b. types (256 * block.window + 8 * i + b)) (bit_of (get_or block.octets i 0))
+          get_or-window_octets types _ i inside
+          ∙ octet_with-same _ _
           (λ b small.
           let t : ℕ = 256 * block.window + 8 * i + b in
           let window : t / 256 ≡ block.window = omega arith in
           let octet : t % 256 / 8 ≡ i = omega arith in
           let bit : t % 8 ≡ b = omega arith in
           same t window ∙ rw (octet, bit) refl)
-          ∙ octet_with-bit_of (get_or block.octets i 0) (valid.bounded i)
+          ∙ octet_with-bit_of _ (valid.bounded i)
     ]
 
 zero_window : (types : ℕ → Bool) (w : ℕ) → ((t : ℕ) → t / 256 ≡ w → types t ≡ false) → block_list w (trimmed (window_octets types w)) ≡ []
@@ -116,8 +112,7 @@ zero_window types w none = ap (block_list w) (trimmed-zeros (window_octets types
 own_window : (types : ℕ → Bool) (block : Block) → IsBlock block → IsCut block
     → ((t : ℕ) → t / 256 ≡ block.window → types t ≡ has_bit block.octets t)
     → trimmed (window_octets types block.window) ≡ block.octets
-own_window types block valid cut same =
-    trimmed-same (window_octets types block.window) block.octets (window_of_block types block valid same) ∙ trimmed-whole block.octets cut
+own_window types block valid cut same = trimmed-same _ _ (window_of_block types block valid same) ∙ trimmed-whole _ cut
 
 list_of_block : (w : ℕ) (xs : List ℕ) → 0 < length xs → block_list w xs ≡ record { window = w; octets = xs } ∷ []
 unfolding block_list
@@ -156,13 +151,12 @@ rebuilt types (block ∷ blocks) a (suc n) whole valid ascend cut same =
           let low : a ≤ block.window = ascend.0 in
           let ascend_rest : WindowsAscendFrom (a + 1) (block ∷ blocks) = (omega arith, ascend.1) in
           let empty = zero_window types a (λ t here. same t (omega arith) ∙ none_below (block ∷ blocks) (a + 1) t ascend_rest (omega arith)) in
-          rw empty (rebuilt types (block ∷ blocks) (a + 1) n (omega arith) valid ascend_rest cut (λ t above. same t (omega arith)))
+          rw empty (rebuilt types _ (a + 1) n (omega arith) valid ascend_rest cut (λ t above. same t (omega arith)))
     ]
 
 -- a list of blocks in that form is a built bitmap: that of the types that it contains
 pub built_from_shortest : (octets : List ℕ) → IsBitmap octets → IsShortest octets → octets ≡ bitmap_octets (contains_type octets)
 unfolding contains_type bitmap_octets
 built_from_shortest octets bitmap shortest =
-    bitmap.spelled
-    ∙ ap octets_of_blocks (rebuilt (contains_type octets) (blocks_of octets) 0 256 refl bitmap.valid shortest.ascending shortest.cut (λ t above. refl))
-    ∙ octets_of_blocks-blocks_from (contains_type octets) 0 256
+    bitmap.spelled ∙ ap octets_of_blocks (rebuilt _ _ 0 256 refl bitmap.valid shortest.ascending shortest.cut (λ t above. refl))
+    ∙ octets_of_blocks-blocks_from _ 0 256

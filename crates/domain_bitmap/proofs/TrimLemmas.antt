@@ -4,12 +4,10 @@ use Rattle.domain_bitmap.specs.Bitmap.{trimmed, before_trimmed}
 use Rattle.std.proofs.lemmas.Grind.{common_steps}
 
 pub before_trimmed-cons : (x y : ℕ) (ys : List ℕ) → before_trimmed x (y ∷ ys) ≡ x ∷ y ∷ ys
-before_trimmed-cons zero y ys = refl
-before_trimmed-cons (suc x) y ys = refl
+before_trimmed-cons x y ys = grind (arith, common_steps)
 
 pub before_trimmed-last : (x : ℕ) → x ≢ 0 → before_trimmed x [] ≡ x ∷ []
-before_trimmed-last zero more = absurd (more refl)
-before_trimmed-last (suc x) more = refl
+before_trimmed-last x more = grind (arith, common_steps)
 
 pub trimmed-zeros : (xs : List ℕ) → ((k : ℕ) → get_or xs k 0 ≡ 0) → trimmed xs ≡ []
 unfolding trimmed
@@ -33,9 +31,7 @@ pub trimmed-cut : (xs : List ℕ) (n : ℕ) → 0 < n → n ≤ length xs → ge
 trimmed-cut xs n some within last zeros = grind (arith, common_steps, trimmed-to)
 
 zero_end : (x i : ℕ) → get_or (before_trimmed x []) i 0 ≡ get_or (x ∷ []) i 0
-zero_end zero zero = refl
-zero_end zero (suc i) = refl
-zero_end (suc x) i = refl
+zero_end x i = grind (arith, common_steps)
 
 keeps : (x i : ℕ) (rest xs : List ℕ) → ((k : ℕ) → get_or rest k 0 ≡ get_or xs k 0) → get_or (before_trimmed x rest) i 0 ≡ get_or (x ∷ xs) i 0
 keeps x zero [] xs same = zero_end x zero

@@ -70,15 +70,15 @@ module _ {X : Type 0} (xs : List X) (from : List ℕ) (ys : List X) (s t : List 
       let there = h.ranks.place i in_s in
       let back = h.ranks.rank i in_s in
       let v = swap s i (get_or t i 0) in
-      let a = swapped_from_swap s v i (get_or t i 0) 0 in_s back.0 refl in record {
-        many = length-swap ys i (get_or s i 0) ∙ h.many;
-        places = length-swap s i (get_or t i 0) ∙ h.places;
+      let a = swapped_from_swap s v i _ 0 in_s back.0 refl in record {
+        many = length-swap ys i _ ∙ h.many;
+        places = length-swap s i _ ∙ h.places;
         ranks = ranks_next s t i h.ranks in_s;
-        done = below_more (λ k. get_or v k 0 ≡ k) i
+        done = below_more _ i
             (λ k less. a.2 k (λ e. absurd (omega arith))
             (λ e. absurd (let is : get_or s k 0 ≡ i = ap (λ q. get_or s q 0) e ∙ back.1 in let stays = h.done k less in omega arith)) ∙ h.done k less)
             (a.0 ∙ back.1);
         same = λ k d less. turned s t i h.ranks in_s ys k d (omega arith) (omega arith) ∙ h.same k d less;
-        moved = IsPermutation-trans xs ys (swap ys i (get_or s i 0)) h.moved
-            (IsPermutation-swap ys (swap ys i (get_or s i 0)) i (get_or s i 0) (omega arith) (omega (arith, there.0)) refl);
+        moved = IsPermutation-trans xs ys _ h.moved
+            (IsPermutation-swap ys _ i _ (omega arith) (omega (arith, there.0)) refl);
       }

@@ -44,9 +44,7 @@ pub clone_tied : {N D : Type 0} (labels : N → List (List ℕ)) (rtype : D → 
     → ((a b : D) → is_data_clone a b → data_cmp a b ≡ Equal)
     → (r copy : Record N D) → IsRecordClone is_owner_clone is_data_clone r copy → record_cmp labels rtype data_cmp r copy ≡ Equal
 clone_tied labels rtype data_cmp is_owner_clone is_data_clone by_owner by_type by_data r copy h =
-    all_tied (nat_cmp r.class copy.class) (canonical_cmp (labels r.owner) (labels copy.owner)) (nat_cmp (rtype r.«data») (rtype copy.«data»))
-    (data_cmp r.«data» copy.«data»)
-    (ap (λ c. nat_cmp r.class c) h.class ∙ tied_itself nat_cmp_total r.class)
+    all_tied _ _ _ _ (ap (λ c. nat_cmp r.class c) h.class ∙ tied_itself nat_cmp_total r.class)
     (ap (λ l. canonical_cmp (labels r.owner) l) (by_owner r.owner copy.owner h.owner) ∙ tied_itself canonical_cmp_total (labels r.owner))
     (ap (λ n. nat_cmp (rtype r.«data») n) (by_type r.«data» copy.«data» h.«data») ∙ tied_itself nat_cmp_total (rtype r.«data»))
     (by_data r.«data» copy.«data» h.«data»)

@@ -1,9 +1,9 @@
 -- The first element of a list, and of what is left of it.
-use Rattle.std.proofs.Common.{◌≡◌, ℕ, ◌<◌, ◌≤◌, List, [], ◌∷◌, length, get_or, take, drop, slice_get, Some, sym, subst, arith}
-use Rattle.std.proofs.Math.Seq.{drop-cons}
+use Rattle.std.proofs.lemmas.Grind.{common_steps}
+use Rattle.std.proofs.Common.{◌≡◌, ℕ, ◌<◌, ◌≤◌, List, [], ◌∷◌, length, get_or, take, drop, slice_get, Some, sym, arith}
 use Rattle.std.proofs.lemmas.List.{take-append-drop, get_or-take, length-take-le}
 use Rattle.std.proofs.lemmas.List.Elements.{recursion_from_All}
-use Rattle.std.proofs.lemmas.Option.{get_or_from_slice_get, slice_get_within}
+use Rattle.std.proofs.lemmas.Option.{get_or_from_slice_get}
 use Rattle.domain_records.specs.Groups.{HasFirst, IfFirst, SkipsTo}
 
 module _ {X : Type 0} where
@@ -14,9 +14,7 @@ module _ {X : Type 0} where
   module _ (P : X → Type 0) where
     -- what holds of the element at n holds of the first of what is left from n on
     pub if_first_at : (xs : List X) (n : ℕ) (x : X) → slice_get xs n ≡ Some x → P x → IfFirst P (drop n xs)
-    if_first_at xs n x is p =
-        let lt = slice_get_within xs n x is in
-        subst (IfFirst P) (sym (drop-cons xs n x lt)) (subst P (sym (get_or_from_slice_get xs n x x is)) p)
+    if_first_at xs n x is p = grind (arith, common_steps, (get_or_from_slice_get xs n x x is))
 
     pub skips_to : (xs : List X) (n : ℕ) → n ≤ length xs → ((k : ℕ) (d : X) → k < n → ¬ (P (get_or xs k d))) → IfFirst P (drop n xs) → SkipsTo P xs (drop n xs)
     skips_to xs n le before first = record {

@@ -1,6 +1,5 @@
 -- The first group that begins with an element of some kind.
-use Rattle.std.proofs.Common.{◌≡◌, ℕ, zero, suc, Bool, true, false, cond, ◌&&◌, eqb, List, [], ◌∷◌, find, Option, Some, None, Result, Ok, Err, refl, sym, ◌∙◌}
-use Rattle.std.proofs.Common.{ap, subst, arith}
+use Rattle.std.proofs.Common.{◌≡◌, ℕ, zero, suc, Bool, true, false, cond, ◌&&◌, eqb, List, [], ◌∷◌, find, Option, Some, None, Result, refl, ◌∙◌, ap, arith}
 use Rattle.std.specs.Option.{option_transpose}
 use Rattle.std.proofs.lemmas.Bool.{eqb-true, and_parts}
 use Rattle.domain_names.specs.Name.{same_name}
@@ -17,8 +16,7 @@ use Rattle.std.proofs.lemmas.Grind.{common_steps}
 module _ {X : Type 0} (same : X → X → Bool) (p : X → Bool) (alike : (x y : X) → same x y ≡ true → p x ≡ p y) where
   passed_step : (x y : X) (ys : List X) (gs : List (List X)) (b : Bool) → same x y ≡ b → p x ≡ false
       → find (begins_with p) (cond b ((x ∷ y ∷ ys) ∷ gs) ((x ∷ []) ∷ (y ∷ ys) ∷ gs)) ≡ find (begins_with p) ((y ∷ ys) ∷ gs)
-  passed_step x y ys gs true is h = grind (arith, common_steps)
-  passed_step x y ys gs false is h = ap (λ c. cond c (Some (x ∷ [])) (find (begins_with p) ((y ∷ ys) ∷ gs))) h
+  passed_step x y ys gs b is h = grind (arith, common_steps)
 
   passed : (x : X) (gs : List (List X)) → p x ≡ false → find (begins_with p) (add_to same x gs) ≡ find (begins_with p) gs
   passed x [] h = ap (λ c. cond c (Some (x ∷ [])) None) h
@@ -26,9 +24,7 @@ module _ {X : Type 0} (same : X → X → Bool) (p : X → Bool) (alike : (x y :
   passed x ((y ∷ ys) ∷ gs) h = passed_step x y ys gs (same x y) refl h
 
   hit : (x : X) (xs : List X) → p x ≡ true → find (begins_with p) (runs same (x ∷ xs)) ≡ first_group (runs same (x ∷ xs))
-  hit x xs h =
-      let b = begins same x xs in
-      ap (find (begins_with p)) b.2 ∙ ap (λ c. cond c (Some (x ∷ b.0)) (find (begins_with p) b.1)) h ∙ sym (ap first_group b.2)
+  hit x xs h = grind (arith, common_steps, (begins same x xs))
 
   -- it is the group that begins at the place of the first such element
   found_group : (xs : List X) (place : Option ℕ) → IsFirstPlace p xs place → find (begins_with p) (runs same xs) ≡ group_at same xs place
@@ -38,27 +34,23 @@ module _ {X : Type 0} (same : X → X → Bool) (p : X → Bool) (alike : (x y :
   found_group (x ∷ xs) None h = passed x (runs same xs) (h 0 x (omega arith)) ∙ found_group xs None (λ k d lt. h (suc k) d (omega arith))
   found_group (x ∷ xs) (Some zero) h = hit x xs (h.1 x)
   found_group (x ∷ xs) (Some (suc i)) h =
-      passed x (runs same xs) (h.2 0 x (omega arith)) ∙ found_group xs (Some i) (let lt = h.0 in omega arith, λ d. h.1 d, λ k d lt. h.2 (suc k) d (omega arith))
+      passed x _ (h.2 0 x (omega arith)) ∙ found_group xs (Some i) (let lt = h.0 in omega arith, λ d. h.1 d, λ k d lt. h.2 (suc k) d (omega arith))
 
 module _ {N D : Type 0} (same : Record N D → Record N D → Bool) (rtype : D → ℕ) where
   taken_some : (item : Result (List (Record N D)) SigningError) (group : List (Record N D)) → IsRrsetOf rtype group item
       → IsFound rtype (Some group) (option_transpose (Some item))
-  taken_some (Ok set) group h = (ap Some h.0, h.1)
-  taken_some (Err e) group h = h
+  taken_some item group h = grind (arith, common_steps)
 
   -- what stands at the place of the first record that passes the test is the first group that begins with one
   pub found_by : (p : Record N D → Bool) → ((r s : Record N D) → same r s ≡ true → p r ≡ p s)
       → (records : List (Record N D)) (place : Option ℕ) (found : Result (Option (List (Record N D))) SigningError)
       → IsFirstPlace p records place → IsFound rtype (group_at same records place) found → IsFound rtype (find (begins_with p) (runs same records)) found
-  found_by p alike records place found first h = subst (λ (group : Option (List (Record N D))). IsFound rtype group found)
-      (sym (found_group same p alike records place first)) h
+  found_by p alike records place found first h = grind (arith, common_steps, found_group)
 
   -- the first call of `next` finds the first group
   pub taken_group : (s : List (Record N D)) (r : Option (Result (List (Record N D)) SigningError)) (t : List (Record N D))
       → TakesRrset same rtype s r t → IsFound rtype (first_group (runs same s)) (option_transpose r)
-  taken_group s None t h = subst (λ (gs : List (List (Record N D))). IsFound rtype (first_group gs) (Ok None)) (sym (runs_nil same s h.0)) refl
-  taken_group s (Some item) t h = subst (λ (gs : List (List (Record N D))). IsFound rtype (first_group gs) (option_transpose (Some item))) (sym h.2)
-      (taken_some item h.0 h.3)
+  taken_group s r t h = grind (arith, common_steps, runs_nil)
 
 module _ {N D : Type 0} (labels : N → List (List ℕ)) (rtype : D → ℕ) where
   -- records of one owner and one type are of a type alike
@@ -69,7 +61,7 @@ module _ {N D : Type 0} (labels : N → List (List ℕ)) (rtype : D → ℕ) whe
   pub matches_alike : (owner : List (List ℕ)) (type : Option ℕ) (r s : Record N D) → same_rrset labels rtype r s ≡ true
       → matches labels rtype owner None type r ≡ matches labels rtype owner None type s
   matches_alike owner type r s h =
-      let p = and_parts (same_owner labels r s) (same_type rtype r s) h in
+      let p = and_parts _ _ h in
       let a = same_name_equiv.congr (labels r.owner) (labels s.owner) owner p.0 in
-      let b = ap (is_asked type) (eqb-true (rtype r.«data») (rtype s.«data») p.1) in
+      let b = ap (is_asked type) (eqb-true _ _ p.1) in
       ap (λ c. c && is_asked type (rtype r.«data»)) a ∙ ap (λ c. same_name (labels s.owner) owner && c) b

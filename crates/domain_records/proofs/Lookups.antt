@@ -4,9 +4,9 @@ use Rattle.std.specs.Cmp.{IsTotalOrder, tied_itself, alike_right, ranks, nat_cmp
 use Rattle.std.specs.List.Sorted.{IsStrictlySortedBy, IsPartitionedBy}
 use Rattle.std.specs.Ordering.{ordering_then, nat_cmp, is_gt, is_lt, is_eq, MatchOrdering}
 use Rattle.std.specs.declared.cmp.Ordering.{Ordering}
-use Rattle.std.specs.declared.cmp.Ordering.TheVariants.{Less, Equal, Greater}
+use Rattle.std.specs.declared.cmp.Ordering.TheVariants.{Less, Equal}
 use Rattle.std.proofs.lemmas.Map.Keys.{Less-from_sorted}
-use Rattle.std.proofs.lemmas.Bool.{eqb-true, eq-eqb, leb-true, le-leb, cases_lt, and_parts, false_from_ne_true}
+use Rattle.std.proofs.lemmas.Bool.{leb-true, le-leb, cases_lt, and_parts, false_from_ne_true}
 use Rattle.std.proofs.lemmas.List.{get_or_default}
 use Rattle.domain_names.specs.Name.{same_name}
 use Rattle.domain_names.specs.Order.{canonical_cmp, canonical_cmp_total}
@@ -23,29 +23,18 @@ key_cmp_total = then_total (on_total (λ k. k.class) nat_cmp_total)
 
 module _ {X : Type 0} {R : X → X → Ordering} (o : IsTotalOrder R) where
   less_by : (x y z : X) (r : Ordering) → R x y ≡ r → is_gt r ≡ false → R y z ≡ Less → R x z ≡ Less
-  less_by x y z Less is h k = o.trans x y z is k
-  less_by x y z Equal is h k = o.congr x y z is ∙ k
-  less_by x y z Greater is h k = absurd (cc)
+  less_by x y z r is h k = grind (arith, common_steps)
 
   -- what isn't after a lesser one is lesser
   pub less_from : (x y z : X) → is_gt (R x y) ≡ false → R y z ≡ Less → R x z ≡ Less
   less_from x y z h k = less_by x y z (R x y) refl h k
 
 pub is_less : (r : Ordering) → is_lt r ≡ true → r ≡ Less
-is_less Less h = refl
-is_less Equal h = absurd (cc)
-is_less Greater h = absurd (cc)
-
-asked_step : (type : Option ℕ) (m n : ℕ) → (r : Ordering) → nat_cmp m n ≡ r → is_gt r ≡ false
-    → is_gt (nat_cmp (where_asked type m) (where_asked type n)) ≡ false
-asked_step None m n r is h = refl
-asked_step (Some t) m n r is h = ap is_gt is ∙ h
+is_less r h = grind (arith, common_steps)
 
 class_by : (x y : Key) (a : Ordering) → nat_cmp x.class y.class ≡ a → MatchOrdering a (x.class < y.class) (x.class ≡ y.class) (y.class < x.class)
     → is_gt (ordering_then a (ordering_then (canonical_cmp x.owner y.owner) (nat_cmp x.type y.type))) ≡ false → x.class ≤ y.class
-class_by x y Less is h k = omega arith
-class_by x y Equal is h k = omega arith
-class_by x y Greater is h k = absurd (cc)
+class_by x y a is h k = grind (arith, common_steps)
 
 class_upto : (x y : Key) → is_gt (key_cmp x y) ≡ false → x.class ≤ y.class
 class_upto x y h = class_by x y (nat_cmp x.class y.class) refl (ranks x.class y.class) h
@@ -54,47 +43,35 @@ number_tied : (m n : ℕ) → m ≡ n → nat_cmp m n ≡ Equal
 number_tied m n is = rw is (tied_itself nat_cmp_total n)
 
 tied_number_by : (m n : ℕ) (r : Ordering) → MatchOrdering r (m < n) (m ≡ n) (n < m) → r ≡ Equal → m ≡ n
-tied_number_by m n Less h k = absurd (cc)
-tied_number_by m n Equal h k = h
-tied_number_by m n Greater h k = absurd (cc)
+tied_number_by m n r h k = grind (arith, common_steps)
 
 tied_number : (m n : ℕ) → nat_cmp m n ≡ Equal → m ≡ n
 tied_number m n = tied_number_by m n (nat_cmp m n) (ranks m n)
 
 type_tied : (type : Option ℕ) (n : ℕ) → is_asked type n ≡ true → nat_cmp (where_asked type n) (number_asked type) ≡ Equal
-type_tied None n h = refl
-type_tied (Some m) n h = number_tied n m (eqb-true n m h)
+type_tied type n h = grind (arith, common_steps)
 
 tied_type : (type : Option ℕ) (n : ℕ) → nat_cmp (where_asked type n) (number_asked type) ≡ Equal → is_asked type n ≡ true
-tied_type None n h = refl
-tied_type (Some m) n h = eq-eqb n m (tied_number n m h)
+tied_type type n h = grind (arith, common_steps)
 
 all_tied : (a b c : Ordering) → a ≡ Equal → b ≡ Equal → c ≡ Equal → ordering_then a (ordering_then b c) ≡ Equal
 all_tied a b c p q r = rw (p, q, r) refl
 
 tied_parts : (a b c : Ordering) → ordering_then a (ordering_then b c) ≡ Equal → (a ≡ Equal) × (b ≡ Equal) × (c ≡ Equal)
-tied_parts Less b c h = absurd (cc)
-tied_parts Equal Less c h = absurd (cc)
-tied_parts Equal Equal c h = (refl, refl, h)
-tied_parts Equal Greater c h = absurd (cc)
-tied_parts Greater b c h = absurd (cc)
+tied_parts a b c h = grind (arith, common_steps)
 
 level : (r : Ordering) → is_lt r ≡ false → is_gt r ≡ false → r ≡ Equal
-level Less h k = absurd (cc)
-level Equal h k = refl
-level Greater h k = absurd (cc)
+level r h k = grind (arith, common_steps)
 
 -- the element at that place passes the test
 module _ {N D : Type 0} (labels : N → List (List ℕ)) (rtype : D → ℕ) (owner : List (List ℕ)) (asked : Option ℕ) (type : Option ℕ) where
   -- a record that matches has the wanted key of its class
   matched_key : (r : Record N D) → matches labels rtype owner asked type r ≡ true → key_cmp (key_of labels rtype type r) (wanted_key r.class owner type) ≡ Equal
   matched_key r h =
-      let p = and_parts (same_name (labels r.owner) owner) _ h in
-      let q = and_parts (is_asked asked r.class) (is_asked type (rtype r.«data»)) p.1 in
-      all_tied (nat_cmp r.class r.class) (canonical_cmp (labels r.owner) owner) (nat_cmp (where_asked type (rtype r.«data»)) (number_asked type))
-      (number_tied r.class r.class refl)
-      ((Equal-is (canonical_cmp (labels r.owner) owner)).0 (sym (same_name_ties (labels r.owner) owner) ∙ p.0))
-      (type_tied type (rtype r.«data») q.1)
+      let p = and_parts _ _ h in
+      let q = and_parts _ _ p.1 in
+      all_tied _ _ _ (number_tied r.class _ refl)
+      ((Equal-is (canonical_cmp (labels r.owner) owner)).0 (sym (same_name_ties (labels r.owner) owner) ∙ p.0)) (type_tied type _ q.1)
 
   unmatched_before : (r : Record N D) (class : ℕ) → r.class ≡ class → is_before labels rtype class owner type r ≡ true
       → matches labels rtype owner asked type r ≡ false
@@ -106,14 +83,13 @@ module _ {N D : Type 0} (labels : N → List (List ℕ)) (rtype : D → ℕ) (ow
   matched_too r s class one up before m =
       let tied : key_cmp (key_of labels rtype type s) (wanted_key class owner type) ≡ Equal = rw (← one) (matched_key s m) in
       let same = alike_right key_cmp_total (key_of labels rtype type s) (wanted_key class owner type) (key_of labels rtype type r) tied in
-      let all = tied_parts (nat_cmp r.class class) (canonical_cmp (labels r.owner) owner)
-      (nat_cmp (where_asked type (rtype r.«data»)) (number_asked type)) (level _ before (ap is_gt (sym same) ∙ up)) in
+      let all = tied_parts _ _ _ (level _ before (ap is_gt (sym same) ∙ up)) in
       let of_s = and_parts (same_name (labels s.owner) owner) _ m in
-      let asks = and_parts (is_asked asked s.class) (is_asked type (rtype s.«data»)) of_s.1 in
-      let r_class : r.class ≡ s.class = tied_number r.class class all.0 ∙ sym one in
+      let asks = and_parts _ (is_asked type (rtype s.«data»)) of_s.1 in
+      let r_class : r.class ≡ s.class = tied_number _ class all.0 ∙ sym one in
       let a : same_name (labels r.owner) owner ≡ true = same_name_ties (labels r.owner) owner ∙ ap is_eq all.1 in
       let b : is_asked asked r.class ≡ true = rw r_class asks.0 in
-      let c : is_asked type (rtype r.«data») ≡ true = tied_type type (rtype r.«data») all.2 in
+      let c : is_asked type (rtype r.«data») ≡ true = tied_type type _ all.2 in
       rw (a, b, c) refl
 
 module _ {N D : Type 0} (labels : N → List (List ℕ)) (rtype : D → ℕ) (data_cmp : D → D → Ordering) where
@@ -121,13 +97,7 @@ module _ {N D : Type 0} (labels : N → List (List ℕ)) (rtype : D → ℕ) (da
       → canonical_cmp (labels r.owner) (labels s.owner) ≡ b → nat_cmp (rtype r.«data») (rtype s.«data») ≡ c
       → ordering_then a (ordering_then b (ordering_then c (data_cmp r.«data» s.«data»))) ≡ Less
       → is_gt (ordering_then a (ordering_then b (nat_cmp (where_asked type (rtype r.«data»)) (where_asked type (rtype s.«data»))))) ≡ false
-  rises_by type r s Less b c p q t h = refl
-  rises_by type r s Equal Less c p q t h = refl
-  rises_by type r s Equal Equal Less p q t h = asked_step type _ _ Less t refl
-  rises_by type r s Equal Equal Equal p q t h = asked_step type _ _ Equal t refl
-  rises_by type r s Equal Equal Greater p q t h = absurd (cc)
-  rises_by type r s Equal Greater c p q t h = absurd (cc)
-  rises_by type r s Greater b c p q t h = absurd (cc)
+  rises_by type r s a b c p q t h = grind (arith, common_steps)
 
   -- the keys of records in canonical order never descend
   rises : (type : Option ℕ) (r s : Record N D) → record_cmp labels rtype data_cmp r s ≡ Less

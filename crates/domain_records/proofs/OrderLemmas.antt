@@ -1,8 +1,9 @@
 -- Records in order: from neighbours to all pairs, and from the canonical order.
+use Rattle.std.proofs.lemmas.Grind.{common_steps}
 use Rattle.std.proofs.Common.{◌≡◌, ℕ, ◌+◌, ◌<◌, ◌≤◌, zero, suc, add-one, Bool, true, false, List, [], ◌∷◌, length, get_or, refl, sym, ◌∙◌, ap, arith}
 use Rattle.std.specs.List.{AllByRecursion}
 use Rattle.std.specs.List.Sorted.{IsStrictlySortedBy}
-use Rattle.std.specs.Cmp.{IsTotalOrder, upto, tied_itself, alike_right, ranks, nat_cmp_total}
+use Rattle.std.specs.Cmp.{IsTotalOrder, upto, tied_itself, ranks, nat_cmp_total}
 use Rattle.std.specs.Ordering.{ordering_then, nat_cmp, is_gt, is_le, MatchOrdering}
 use Rattle.std.specs.declared.cmp.Ordering.{Ordering}
 use Rattle.std.specs.declared.cmp.Ordering.TheVariants.{Less, Equal, Greater}
@@ -44,30 +45,17 @@ module _ {X : Type 0} (P : X → X → Type 0) where
 
 module _ {X : Type 0} {R : X → X → Ordering} (o : IsTotalOrder R) where
   not_less_by : (x y z : X) (r s : Ordering) → R x y ≡ r → R y z ≡ s → R x z ≡ Equal → is_gt r ≡ false → is_gt s ≡ false → r ≡ Equal
-  not_less_by x y z Less Less p q e h k = absurd (let l = o.trans x y z p q in cc)
-  not_less_by x y z Less Equal p q e h k = absurd (let l = alike_right o y z x q in cc)
-  not_less_by x y z Less Greater p q e h k = absurd (cc)
-  not_less_by x y z Equal s p q e h k = refl
-  not_less_by x y z Greater s p q e h k = absurd (cc)
+  not_less_by x y z r s p q e h k = grind (arith, common_steps)
 
   -- what stands between two that are tied is tied to them
   pub tied_between : (x y z : X) → is_gt (R x y) ≡ false → is_gt (R y z) ≡ false → R x z ≡ Equal → R x y ≡ Equal
   tied_between x y z h k e = not_less_by x y z (R x y) (R y z) refl refl e h k
 
 number_by : (m n : ℕ) (r : Ordering) → MatchOrdering r (m < n) (m ≡ n) (n < m) → is_le r ≡ true → m ≤ n
-number_by m n Less h k = omega arith
-number_by m n Equal h k = omega arith
-number_by m n Greater h k = absurd (cc)
+number_by m n r h k = grind (arith, common_steps)
 
 by_number : (m n : ℕ) (r : Ordering) → MatchOrdering r (m < n) (m ≡ n) (n < m) → m ≤ n → is_le r ≡ true
-by_number m n Less h k = refl
-by_number m n Equal h k = refl
-by_number m n Greater h k = absurd (omega arith)
-
-number_upto : (m n : ℕ) (r : Ordering) → MatchOrdering r (m < n) (m ≡ n) (n < m) → is_gt r ≡ false → m ≤ n
-number_upto m n Less h k = omega arith
-number_upto m n Equal h k = omega arith
-number_upto m n Greater h k = absurd (cc)
+by_number m n r h k = grind (arith, common_steps)
 
 module _ {N D : Type 0} (labels : N → List (List ℕ)) (rtype : D → ℕ) where
   -- by what the order of the owners answers
@@ -82,7 +70,7 @@ module _ {N D : Type 0} (labels : N → List (List ℕ)) (rtype : D → ℕ) whe
   follows_chain r s t h k = record {
     owner = upto canonical_cmp_total (labels r.owner) (labels s.owner) (labels t.owner) h.owner k.owner;
     type = λ same.
-        let tied = tied_between canonical_cmp_total (labels r.owner) (labels s.owner) (labels t.owner) h.owner k.owner
+        let tied = tied_between canonical_cmp_total _ _ (labels t.owner) h.owner k.owner
         (same_tied (labels r.owner) (labels t.owner) same) in
         let first : IsSame (labels r.owner) (labels s.owner) = tied_same (labels r.owner) (labels s.owner) tied in
         let a = h.type first in
@@ -119,10 +107,8 @@ module _ {N D : Type 0} (labels : N → List (List ℕ)) (rtype : D → ℕ) whe
     follows_step : (r s : Record N D) (o p : Ordering) → canonical_cmp (labels r.owner) (labels s.owner) ≡ o
         → nat_cmp (rtype r.«data») (rtype s.«data») ≡ p → ordering_then o (ordering_then p (data_cmp r.«data» s.«data»)) ≡ Less → MayFollow labels rtype r s
     follows_step r s Less p is types h = follows_by r s Less is refl (λ e. absurd (cc))
-    follows_step r s Equal Less is types h = follows_by r s Equal is refl
-        (λ e. number_upto _ _ Less (rw types at (ranks (rtype r.«data») (rtype s.«data»))) refl)
-    follows_step r s Equal Equal is types h = follows_by r s Equal is refl
-        (λ e. number_upto _ _ Equal (rw types at (ranks (rtype r.«data») (rtype s.«data»))) refl)
+    follows_step r s Equal Less is types h = grind (arith, common_steps)
+    follows_step r s Equal Equal is types h = grind (arith, common_steps)
     follows_step r s Equal Greater is types h = absurd (cc)
     follows_step r s Greater p is types h = absurd (cc)
 

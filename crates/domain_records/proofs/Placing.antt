@@ -1,11 +1,12 @@
 -- A list in the order of places that ascend is sorted, and of equals the earliest comes first.
-use Rattle.std.proofs.Common.{◌≡◌, ◌∙◌, ℕ, ◌+◌, ◌<◌, ◌≤◌, Some, Bool, true, false, List, length, get_or, refl, sym, ap, subst, arith, is_lt, inl, inr}
+use Rattle.std.proofs.lemmas.Grind.{common_steps}
+use Rattle.std.proofs.Common.{◌≡◌, ◌∙◌, ℕ, ◌+◌, ◌<◌, ◌≤◌, Some, Bool, true, false, List, length, get_or, sym, ap, subst, arith, is_lt, inl, inr}
 use Rattle.std.specs.Cmp.{IsTotalOrder, then_total, on_total, nat_cmp_total, alike_right, tied_back, Equal-is, ranks}
 use Rattle.std.specs.List.{position_or_len, find, slice_get}
 use Rattle.std.specs.List.Sorted.{IsPermutation}
-use Rattle.std.specs.Ordering.{is_eq, nat_cmp, ordering_then, ordering_reverse, MatchOrdering}
+use Rattle.std.specs.Ordering.{is_eq, ordering_then, ordering_reverse, MatchOrdering}
 use Rattle.std.specs.declared.cmp.Ordering.{Ordering}
-use Rattle.std.specs.declared.cmp.Ordering.TheVariants.{Less, Equal, Greater}
+use Rattle.std.specs.declared.cmp.Ordering.TheVariants.{Less, Equal}
 use Rattle.std.proofs.lemmas.Bool.{cases_Bool, cases_order}
 use Rattle.std.proofs.lemmas.List.Folds.{find_at}
 use Rattle.std.proofs.lemmas.List.Sums.{position_or_len_is, fails_before_first, passes_at_first}
@@ -26,9 +27,7 @@ unfolding compared_runs
 runs_total o xs d = then_total (on_total (λ (r : Run). r.key) nat_cmp_total) (on_total (λ (r : Run). get_or xs r.start d) o)
 
 not_after : (a b : Ordering) → ordering_then a b ≡ Less → is_lt (ordering_reverse a) ≡ false
-not_after Less b h = refl
-not_after Equal b h = refl
-not_after Greater b h = absurd (cc)
+not_after a b h = grind (arith, common_steps)
 
 second_less : (a b : Ordering) → a ≡ Equal → ordering_then a b ≡ Less → b ≡ Less
 second_less a b tie h = ap (λ r. ordering_then r b) (sym tie) ∙ h
@@ -39,12 +38,11 @@ module _ {X : Type 0} {R : X → X → Ordering} (o : IsTotalOrder R) (xs : List
 
   in_order : (k : ℕ) → k + 1 < length places → is_lt (R (key (k + 1)) (key k)) ≡ false
   unfolding compared_places
-  in_order k lt = ap is_lt (o.antisymm (key (k + 1)) (key k))
-      ∙ not_after (R (key k) (key (k + 1))) (nat_cmp (get_or places k 0) (get_or places (k + 1) 0)) (h.ascend k 0 lt)
+  in_order k lt = grind (arith, common_steps)
 
   both : (j k : ℕ) → j < k → k < length places → compared_places R xs d (get_or places j 0) (get_or places k 0) ≡ Less
-  both j k lt below = Less-from_sorted (compared_places R xs d) places j k 0
-      (sorted_from_all_adjacent (places_total o xs d) places 0 (λ i less. h.ascend i 0 less)) lt below
+  both j k lt below =
+      Less-from_sorted _ places j k 0 (sorted_from_all_adjacent (places_total o xs d) places 0 (λ i less. h.ascend i 0 less)) lt below
 
   -- of two that are equal to x, the one that comes first is the earlier
   earlier : (x : X) (j k : ℕ) → j < k → k < length places → is_eq (R (key j) x) ≡ true → is_eq (R (key k) x) ≡ true → get_or places j 0 < get_or places k 0
@@ -54,7 +52,7 @@ module _ {X : Type 0} {R : X → X → Ordering} (o : IsTotalOrder R) (xs : List
       let b = get_or places k 0 in
       let tie : R (key j) (key k) ≡ Equal = sym (alike_right o x (key k) (key j) (tied_back o (key k) x ((Equal-is (R (key k) x)).0 q)))
       ∙ (Equal-is (R (key j) x)).0 p in
-      subst (λ r. MatchOrdering r (a < b) (a ≡ b) (b < a)) (second_less (R (key j) (key k)) (nat_cmp a b) tie (both j k lt below)) (ranks a b)
+      subst (λ r. MatchOrdering r (a < b) (a ≡ b) (b < a)) (second_less _ _ tie (both j k lt below)) (ranks a b)
 
   module _ (ys : List X) (put : IsArranged xs places ys) where
     at : (k : ℕ) (e : X) → k < length ys → get_or ys k e ≡ key k

@@ -1,4 +1,5 @@
 -- What is left without the elements that pass a test.
+use Rattle.std.proofs.lemmas.Grind.{common_steps}
 use Rattle.std.proofs.Common.{◌≡◌, ℕ, zero, suc, Bool, true, false, not, cond, ◌||◌, List, [], ◌∷◌, Option, Some, None, refl, ◌∙◌, ap, arith}
 use Rattle.std.specs.Option.{is_some}
 use Rattle.std.specs.List.{filter, list_any, remove}
@@ -35,8 +36,7 @@ module _ {X : Type 0} (p : X → Bool) where
       ap (λ c. c || list_any p xs) (h.2 0 x (omega arith)) ∙ first_any xs i (let lt = h.0 in omega arith, λ d. h.1 d, λ k d lt. h.2 (suc k) d (omega arith))
 
   pub no_place : (xs : List X) (place : Option ℕ) → IsFirstPlace p xs place → is_some place ≡ false → IsFirstPlace p xs None
-  no_place xs None h none = h
-  no_place xs (Some i) h none = absurd (cc)
+  no_place xs place h none = grind (arith, common_steps)
 
   pub some_any : (xs : List X) (place : Option ℕ) → IsFirstPlace p xs place → is_some place ≡ true → list_any p xs ≡ true
   some_any xs None h some = absurd (cc)

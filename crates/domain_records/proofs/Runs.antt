@@ -1,7 +1,7 @@
 -- The maximal runs of a list.
 use Rattle.std.proofs.Common.{◌≡◌, ℕ, ◌+◌, ◌<◌, ◌≤◌, eqb, IsTrue, zero, suc, Bool, true, false, cond, List, [], ◌∷◌, length, get_or, take, drop, refl, sym, ◌∙◌}
 use Rattle.std.proofs.Common.{ap, arith, add-one}
-use Rattle.std.proofs.lemmas.Bool.{eqb-true, eq-eqb}
+use Rattle.std.proofs.lemmas.Bool.{eq-eqb}
 use Rattle.domain_records.specs.Runs.{AreGroups, Apart, add_to, runs, IsFirstRun, HoldsOfNeighbours}
 use Rattle.std.proofs.lemmas.Grind.{common_steps}
 
@@ -45,7 +45,7 @@ module _ {X : Type 0} (same : X → X → Bool) where
   runs-first (x ∷ []) (suc (suc m)) h = absurd (let w = h.within in omega arith)
   runs-first (x ∷ y ∷ ys) (suc (suc m)) h =
       let alike : same x y ≡ true = h.alike 0 x (omega arith) in
-      ap (add_to same x) (runs-first (y ∷ ys) (suc m) (tail_run x (y ∷ ys) (suc m) (omega arith) h))
+      ap (add_to same x) (runs-first (y ∷ ys) (suc m) (tail_run x _ _ (omega arith) h))
       ∙ ap (λ c. cond c ((x ∷ y ∷ take m ys) ∷ runs same (drop m ys)) ((x ∷ []) ∷ (y ∷ take m ys) ∷ runs same (drop m ys))) alike
 
 pub runs_nil : {X : Type 0} (same : X → X → Bool) (xs : List X) → xs ≡ [] → runs same xs ≡ []
@@ -64,9 +64,6 @@ module _ {X : Type 0} (same : X → X → Bool) where
   runs_are_groups (x ∷ xs) = grind (arith, common_steps, (runs_are_groups xs))
 
 module _ {X : Type 0} (same : X → X → Bool) (xs : List X) (n : ℕ) (h : IsFirstRun same xs n) where
-  pub whole_run : IsTrue (eqb n (length xs)) → HoldsOfNeighbours same xs
-  whole_run e k d lt = h.alike k d (let is = eqb-true n (length xs) e in omega arith)
-
   -- a first run that ends before the list does ends where two neighbours differ
   ends_short : (m : ℕ) (d : X) → n ≡ suc m → HoldsOfNeighbours same xs → n < length xs → ⊥
   ends_short m d is all lt =

@@ -1,12 +1,12 @@
 -- Sorted sets as lists: where an element stands or goes, and what a sort and a dedup leave.
-use Rattle.std.proofs.Common.{◌≡◌, ℕ, ◌+◌, ◌<◌, suc, Bool, true, false, cond, not, ◌&&◌, List, [], ◌∷◌, ◌++◌, length, get_or, take, drop, Option, Some}
+use Rattle.std.proofs.Common.{◌≡◌, ℕ, ◌+◌, ◌<◌, suc, Bool, false, cond, not, ◌&&◌, List, [], ◌∷◌, ◌++◌, length, get_or, take, drop, Option, Some}
 use Rattle.std.proofs.Common.{None, Result, Ok, Err, IfOk, IfErr, refl, sym, ◌∙◌, ap, subst, arith, is_lt}
 use Rattle.std.specs.List.{AllByRecursion, Contains, dedup, dedup_from, filter, find, insert, remove}
 use Rattle.std.specs.List.Sorted.{IsStrictlySortedBy, IsSorted, IsStable, IsPermutation, ties, IsSearchInRange, IsBinarySearchResult, IsNonDecreasingBy}
 use Rattle.std.specs.Cmp.{IsTotalOrder, IsEquivalence, eq_by_cmp_equiv, tied_back, Equal-is}
 use Rattle.std.specs.Ordering.{eq_by_cmp, is_eq, ordering_index, ordering_reverse}
 use Rattle.std.specs.declared.cmp.Ordering.{Ordering}
-use Rattle.std.specs.declared.cmp.Ordering.TheVariants.{Less, Equal, Greater}
+use Rattle.std.specs.declared.cmp.Ordering.TheVariants.{Less, Greater}
 use Rattle.std.proofs.lemmas.Map.Keys.{Less-from_sorted}
 use Rattle.std.proofs.lemmas.List.Sorted.{searchable_from_sorted, IsPermutation-insert, Contains-permutation, All-permutation}
 use Rattle.std.proofs.lemmas.List.Kept.{IsStrictlySortedBy-dedup, Any-dedup}
@@ -25,8 +25,7 @@ module _ {X : Type 0} where
 
   first_step : (p : X → Bool) (x : X) (xs : List X) (b : Bool) → find p xs ≡ first_of (filter p xs)
       → cond b (Some x) (find p xs) ≡ first_of (cond b (x ∷ filter p xs) (filter p xs))
-  first_step p x xs true h = refl
-  first_step p x xs false h = h
+  first_step p x xs b h = grind (arith, common_steps)
 
   pub find_first : (p : X → Bool) (xs : List X) → find p xs ≡ first_of (filter p xs)
   find_first p [] = refl
@@ -38,15 +37,13 @@ module _ {X : Type 0} where
 
   module _ {E : X → X → Bool} (e : IsEquivalence E) (x : X) where
     alike_step : (k y : X) (f : Option X) (b c : Bool) → c ≡ b → cond b (Some k) f ≡ cond b (Some k) (cond c (Some y) f)
-    alike_step k y f true c h = refl
-    alike_step k y f false c h = sym (ap (λ d. cond d (Some y) f) h)
+    alike_step k y f b c h = grind (arith, common_steps)
 
     dedup_step : (k y : X) (xs : List X) (b : Bool) → E y k ≡ b
         → find (λ z. E z x) (dedup_from E k xs) ≡ find (λ z. E z x) (k ∷ xs)
         → find (λ z. E z x) (dedup_from E y xs) ≡ find (λ z. E z x) (y ∷ xs)
         → find (λ z. E z x) (cond b (dedup_from E k xs) (k ∷ dedup_from E y xs)) ≡ find (λ z. E z x) (k ∷ y ∷ xs)
-    dedup_step k y xs true h one two = one ∙ alike_step k y (find (λ z. E z x) xs) (E k x) (E y x) (e.congr y k x h)
-    dedup_step k y xs false h one two = ap (cond (E k x) (Some k)) two
+    dedup_step k y xs b h one two = grind (arith, common_steps)
 
     find-dedup_from : (k : X) (xs : List X) → find (λ z. E z x) (dedup_from E k xs) ≡ find (λ z. E z x) (k ∷ xs)
     find-dedup_from k [] = refl
@@ -66,9 +63,7 @@ module _ {X : Type 0} where
   rec_cut P (y ∷ xs) x ys h = (h.0, rec_cut P xs x ys h.1)
 
 tied : (s : Ordering) → not (is_lt (ordering_reverse s)) && not (is_lt s) ≡ is_eq s
-tied Less = refl
-tied Equal = refl
-tied Greater = refl
+tied s = grind (arith, common_steps)
 
 module _ {X : Type 0} {R : X → X → Ordering} (o : IsTotalOrder R) where
   pub sorted_join : (xs : List X) (x : X) (ys : List X) → IsStrictlySortedBy R (xs ++ ys) → AllByRecursion (λ y. R y x ≡ Less) xs
@@ -96,9 +91,7 @@ module _ {X : Type 0} {R : X → X → Ordering} (o : IsTotalOrder R) where
   pub searched : (xs : List X) (x : X) (r : Result ℕ ℕ) → IsStrictlySortedBy R xs → IsSearchInRange r (length xs)
       → IsBinarySearchResult (λ y. R y x) xs r → IfOk r (IsAt R xs x) × IfErr r (IsGapFor R xs x)
   searched xs x (Ok i) s bound at = (record { in_range = bound; equal = at }, tt)
-  searched xs x (Err i) s bound parted =
-      let p = parted (answers_rise xs x s) in
-      (tt, record { in_range = bound; lesser = λ k d lt. p.0 k d (omega arith) lt; greater = λ k d le lt. p.1 k d le lt })
+  searched xs x (Err i) s bound parted = grind (arith, common_steps, (answers_rise xs x s))
 
   -- a dedup keeps the earliest of equals
   pub dedup_earliest : (xs ys : List X) → KeepsEarliest R xs ys → KeepsEarliest R xs (dedup (eq_by_cmp R) ys)
@@ -108,7 +101,7 @@ module _ {X : Type 0} {R : X → X → Ordering} (o : IsTotalOrder R) where
   pub sorted_set : (xs ys : List X) → IsPermutation xs ys → IsSorted R ys → IsSortedSetOf R xs (dedup (eq_by_cmp R) ys)
   sorted_set xs ys moved s = record {
     sorted = IsStrictlySortedBy-dedup o (λ x y. refl) ys s;
-    among = All-dedup (eq_by_cmp R) (Contains xs) ys (All-permutation (Contains xs) xs ys moved (All-contains_itself xs));
+    among = All-dedup _ (Contains xs) ys (All-permutation (Contains xs) xs ys moved (All-contains_itself xs));
     each = λ x h.
         let a = Any-dedup (eq_by_cmp_equiv o) ys x (Contains-permutation xs ys x moved h) in
         (a.0, a.1, a.2, a.3, tied_back o x a.1 ((Equal-is (R x a.1)).0 a.4));
@@ -118,8 +111,8 @@ module _ {X : Type 0} {R : X → X → Ordering} (o : IsTotalOrder R) where
   pub stable_earliest : (xs ys : List X) → IsStable R xs ys → KeepsEarliest R xs ys
   stable_earliest xs ys stable x =
       let same : (y : X) → ties (λ a b. is_lt (R a b)) x y ≡ is_eq (R y x) = λ y. ap (λ r. not (is_lt r) && not (is_lt (R y x))) (o.antisymm x y)
-      ∙ tied (R y x) in
-      find_alike (λ y. is_eq (R y x)) ys xs (sym (filter_agree _ _ same ys) ∙ stable x ∙ filter_agree _ _ same xs)
+      ∙ tied _ in
+      find_alike _ ys xs (sym (filter_agree _ _ same ys) ∙ stable x ∙ filter_agree _ _ same xs)
 
   -- a sorted list without all but the first of equals is the sorted set
   pub union_of : (stable : Bool) (xs ys : List X) → IsSortOf stable R xs ys → IsUnion stable R xs (dedup (eq_by_cmp R) ys)
@@ -129,10 +122,10 @@ module _ {X : Type 0} {R : X → X → Ordering} (o : IsTotalOrder R) where
   pub sorted_insert : (xs : List X) (x : X) (i : ℕ) → IsStrictlySortedBy R xs → IsGapFor R xs x i → Adds R xs x (insert xs i x)
   sorted_insert xs x i s gap = record {
     sorted = sorted_join (take i xs) x (drop i xs) (subst (IsStrictlySortedBy R) (sym (take-append-drop i xs)) s)
-        (recursion_from_All (λ y. R y x ≡ Less) (take i xs) (λ k d lt.
+        (recursion_from_All _ (take i xs) (λ k d lt.
         let below : k < i = omega (arith, length-take-le i xs gap.in_range) in
         rw (get_or-take i xs k d below) (gap.lesser k d below)))
-        (recursion_from_All (λ y. R x y ≡ Less) (drop i xs) (λ k d lt.
+        (recursion_from_All _ (drop i xs) (λ k d lt.
         rw (get_or-drop i xs k d) (greater x _ (gap.greater (i + k) d (omega arith) (omega (arith, length-drop i xs))))));
     moved = IsPermutation-insert xs i x;
   }

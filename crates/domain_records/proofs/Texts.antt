@@ -1,8 +1,8 @@
 -- One text after another.
-use Rattle.std.proofs.Common.{◌≡◌, ℕ, ◌+◌, ◌<◌, length, get_or, drop, subst, Result, Bool, true, false, not, List, [], ◌∷◌, ◌++◌, Option, Some, None}
-use Rattle.std.proofs.Common.{refl, sym, ◌∙◌, ap, append_assoc, append-nil, arith}
+use Rattle.std.proofs.Common.{◌≡◌, ℕ, ◌+◌, ◌<◌, length, get_or, drop, subst, Result, Bool, true, false, not, List, [], ◌∷◌, ◌++◌, Option, Some}
+use Rattle.std.proofs.Common.{refl, sym, ◌∙◌, ap, append-nil, arith}
 use Rattle.std.specs.Bool.{beq}
-use Rattle.std.specs.List.{FoldsTo, concat, filter}
+use Rattle.std.specs.List.{FoldsTo, filter}
 use Rattle.std.specs.Fmt.{WritesInCalls, WritesText, ◌++?◌}
 use Rattle.std.proofs.lemmas.List.Folds.{concat-append}
 use Rattle.std.specs.Fn.{Shared}
@@ -20,23 +20,13 @@ module _ {W : Type 0} (took : W → List ℕ → W → Type 0) where
   one_call w v bs h = record { parts = bs ∷ []; calls = (v, h, refl); whole = append-nil bs }
 
   pub writes_append : (o p : Option (List ℕ)) (w u v : W) → WritesText took w o u → WritesText took u p v → WritesText took w (o ++? p) v
-  writes_append None p w u v h k = tt
-  writes_append (Some a) None w u v h k = tt
-  writes_append (Some a) (Some b) w u v h k = record {
-    parts = h.parts ++ k.parts;
-    calls = calls_append w u v h.parts k.parts h.calls k.calls;
-    whole = concat-append h.parts k.parts ∙ ap (λ l. l ++ concat k.parts) h.whole ∙ ap (λ l. a ++ l) k.whole;
-  }
+  writes_append o p w u v h k = grind (arith, common_steps, calls_append, concat-append)
 
 append_nil_text : (p : Option (List ℕ)) → p ≡ Some [] ++? p
-append_nil_text None = refl
-append_nil_text (Some b) = refl
+append_nil_text p = grind (arith, common_steps)
 
 append_assoc_text : (o p q : Option (List ℕ)) → o ++? (p ++? q) ≡ (o ++? p) ++? q
-append_assoc_text None p q = refl
-append_assoc_text (Some a) None q = refl
-append_assoc_text (Some a) (Some b) None = refl
-append_assoc_text (Some a) (Some b) (Some c) = ap Some (sym (append_assoc a b c))
+append_assoc_text o p q = grind (arith, common_steps)
 
 -- the texts of two lists joined
 pub texts_append : {X : Type 0} (output : X → Option (List ℕ)) (xs ys : List X) → texts output (xs ++ ys) ≡ texts output xs ++? texts output ys

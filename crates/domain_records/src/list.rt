@@ -53,6 +53,7 @@ pub(crate) fn first_match<T, F: Fn(&T) -> bool>(items: &[T], test: &F) -> Option
 }
 
 /// Copies of the items, in the same order.
+#[tactic(auto, using(std::proofs::lemmas::Grind::common_steps, crate::proofs::Clones::zip_push))]
 pub(crate) fn clone_all<T: TryClone + Drop>(
     items: &[T],
     alloc: Global,

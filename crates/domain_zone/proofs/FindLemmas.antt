@@ -78,7 +78,7 @@ module _ {X : Type 0} (p : X → Bool) where
   pub find_some : (xs : List X) (x : X) → find p xs ≡ Some x → In x xs × (p x ≡ true)
   find_some [] x e = absurd (cc)
   find_some (y ∷ xs) x e =
-      elim (cases_Bool (p y)) [
+      elim (cases_Bool _) [
         | inl h ↦
             let same : y ≡ x = let f : Some y ≡ Some x = sym (λ i. cond (h i) (Some y) (find p xs)) ∙ e in cc in
             (inl same, ap p (sym same) ∙ h)
@@ -88,7 +88,7 @@ module _ {X : Type 0} (p : X → Bool) where
   pub find_none : (xs : List X) → find p xs ≡ None → (x : X) → In x xs → p x ≡ false
   find_none [] e x i = absurd i
   find_none (y ∷ xs) e x i =
-      elim (cases_Bool (p y)) [
+      elim (cases_Bool _) [
         | inl h ↦ let f : Some y ≡ None = sym (λ i. cond (h i) (Some y) (find p xs)) ∙ e in absurd (cc)
         | inr h ↦ elim i [
           | inl same ↦ ap p (sym same) ∙ h

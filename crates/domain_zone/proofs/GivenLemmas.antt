@@ -1,5 +1,6 @@
 -- What is known of the owners that an iterator has given and has left.
-use Rattle.std.proofs.Common.{◌≡◌, ◌≤◌, Bool, true, false, cond, ◌||◌, List, [], ◌∷◌, ◌++◌, map, refl, sym, ap, ◌∙◌, subst, Option, ℕ}
+use Rattle.std.proofs.Common.{arith, ◌≡◌, ◌≤◌, Bool, true, false, cond, ◌||◌, List, [], ◌∷◌, ◌++◌, map, refl, sym, ap, ◌∙◌, subst, Option, ℕ}
+use Rattle.std.proofs.lemmas.Grind.{common_steps}
 use Rattle.std.proofs.lemmas.List.{append-nil}
 use Rattle.std.specs.List.{list_any, AllByRecursion}
 use Rattle.std.proofs.lemmas.Bool.{or_right}
@@ -43,15 +44,14 @@ module _ (d : Bool) (L : List ZoneRecord) (a : Name) (given : List OwnerRecords)
   all_given e = ap (map name_of) (sym (append-nil given) ∙ e) ∙ names_again L a (unoccluded_owners d L a)
 
   pub even_given : given ++ [] ≡ owners_with_records d L a → list_any clashes_in given ≡ false → has_unequal_ttls L (unoccluded_owners d L a) ≡ false
-  even_given e h =
-      sym (any_map clashes_in (owner_at L a) (unoccluded_owners d L a)) ∙ ap (list_any clashes_in) (sym e ∙ append-nil given) ∙ h
+  even_given e h = grind (arith, common_steps, any_map)
 
   -- an owner with unequal TTLs
   pub uneven_next : (o : OwnerRecords) (left : List OwnerRecords) → given ++ o ∷ left ≡ owners_with_records d L a
       → has_clash o.records ≡ true → has_unequal_ttls L (unoccluded_owners d L a) ≡ true
   uneven_next o left e h =
       sym (any_map clashes_in (owner_at L a) (unoccluded_owners d L a)) ∙ ap (list_any clashes_in) (sym e)
-      ∙ list_any-append clashes_in given (o ∷ left)
+      ∙ list_any-append clashes_in given _
       ∙ or_right (list_any clashes_in given) (list_any clashes_in (o ∷ left)) (λ i. h i || list_any clashes_in left)
 
 -- ---- the types of an owner's records never descend
@@ -74,8 +74,7 @@ module _ {N D : Type 0} (labels : N → Name) (rtype_of : D → ℕ) (minimum_of
       elim (same_name (labels r.owner) n) as (λ b. same_name (labels r.owner) n ≡ b
       → NeverDescend (cond b (see r ∷ records_of (map see rs) n) (records_of (map see rs) n))) [
         | true ↦ λ e. (
-          filter_passes (λ s. same_name (labels r.owner) s.owner ≡ true
-              → rtype_of r.«data» ≤ s.rtype) (λ s. rtype_of r.«data» ≤ s.rtype) (λ s. same_name s.owner n)
+          filter_passes _ (λ s. rtype_of r.«data» ≤ s.rtype) (λ s. same_name s.owner n)
               (λ s f q. f (same_itself (labels r.owner) s.owner (one_lowered (labels r.owner) n e
               ∙ sym (one_lowered s.owner n q)))) (map see rs) (follows r rs h.0),
           types_at rs n h.1,

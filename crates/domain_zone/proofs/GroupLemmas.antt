@@ -18,7 +18,7 @@ use Rattle.domain_records.specs.Order.{MayFollow, IsInOrder}
 use Rattle.domain_names.specs.Words.{Name}
 use Rattle.domain_zone.specs.Zone.{ZoneRecord, OwnersNeverDescend, has_type}
 use Rattle.domain_zone.specs.View.{as_zone_record}
-use Rattle.domain_zone.proofs.NameLemmas.{one_lowered, same_itself, same_lowered}
+use Rattle.domain_zone.proofs.NameLemmas.{one_lowered, same_itself}
 use Rattle.domain_zone.proofs.ZoneLemmas.{any_map, BeginsElsewhere, IsFront}
 use Rattle.std.proofs.Common.{arith}
 use Rattle.std.proofs.lemmas.Grind.{common_steps}
@@ -116,8 +116,7 @@ module _ {N D : Type 0} (labels : N → Name) (rtype_of : D → ℕ) (minimum_of
   owner_key r s e = one_lowered (labels r.owner) (labels s.owner) e
 
   owner_onward : (r s t : Record N D) → same_owner labels r s ≡ true → same_owner labels r t ≡ same_owner labels s t
-  owner_onward r s t e =
-      ap (λ k. same_lowered k (lowered (labels t.owner))) (owner_key r s e)
+  owner_onward r s t e = grind (arith, common_steps, owner_key)
 
   all_at : (r : Record N D) (more : List (Record N D)) → AllByRecursion (λ s. same_owner labels r s ≡ true) more
       → AllByRecursion (λ s. same_name s.owner (labels r.owner) ≡ true) (map see more)

@@ -151,17 +151,14 @@ pub left_first : {N D : Type 0} (labels : N → Name) (rtype_of : D → ℕ) (mi
     → left_owners d a None (map (map (as_zone_record labels rtype_of minimum_of)) (runs (same_owner labels) rs))
     ≡ owners_with_records d (map (as_zone_record labels rtype_of minimum_of) rs) a
 left_first labels rtype_of minimum_of d a rs h =
-    left_all labels rtype_of minimum_of d (map (as_zone_record labels rtype_of minimum_of) rs) a
-    (runs (same_owner labels) rs) rs None [] refl (walk_start d (map (as_zone_record labels rtype_of minimum_of) rs) a
-    (owners_in_order labels rtype_of minimum_of rs h))
+    left_all labels rtype_of minimum_of d _ a _ rs None [] refl (walk_start d _ a (owners_in_order labels rtype_of minimum_of rs h))
 
 -- at last none are
 pub left_none : {N D : Type 0} (labels : N → Name) (rtype_of : D → ℕ) (minimum_of : D
     → Option ℕ) (d : Bool) (a : Name) (o : Option Name) (rs : List (Record N D)) → rs ≡ []
     → left_owners d a o (map (map (as_zone_record labels rtype_of minimum_of)) (runs (same_owner labels) rs)) ≡ []
 unfolding runs
-left_none labels rtype_of minimum_of d a o rs e = ap (λ ts.
-    left_owners d a o (map (map (as_zone_record labels rtype_of minimum_of)) (runs (same_owner labels) ts))) e
+left_none labels rtype_of minimum_of d a o rs e = grind (arith, common_steps)
 
 -- the occluder after a group
 pub occluder_after : (d : Bool) (a n : Name) (G : List ZoneRecord) (cut owns : Bool) (o : Option Name) → cut ≡ is_cut_group a n G → owns ≡ has_type G dname

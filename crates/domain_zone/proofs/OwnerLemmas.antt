@@ -18,9 +18,9 @@ module _ {X : Type 0} where
   pub any_weaker : (p q : X → Bool) → ((x : X) → p x ≡ true → q x ≡ true) → (xs : List X) → list_any p xs ≡ true → list_any q xs ≡ true
   any_weaker p q f [] h = absurd (false≢true h)
   any_weaker p q f (x ∷ xs) h =
-      elim (or_cases (p x) (list_any p xs) h) [
+      elim (or_cases _ _ h) [
         | inl e ↦ (λ i. f x e i || list_any q xs)
-        | inr e ↦ or_right (q x) (list_any q xs) (any_weaker p q f xs e)
+        | inr e ↦ or_right _ _ (any_weaker p q f xs e)
       ]
 
   pub any_filter : (p q : X → Bool) (xs : List X) → list_any p (filter q xs) ≡ list_any (λ x. q x && p x) xs
@@ -30,7 +30,7 @@ module _ {X : Type 0} where
   pub any_in : (p : X → Bool) (xs : List X) → list_any p xs ≡ true → (x : X) × In x xs × (p x ≡ true)
   any_in p [] h = absurd (false≢true h)
   any_in p (x ∷ xs) h =
-      elim (or_cases (p x) (list_any p xs) h) [
+      elim (or_cases _ _ h) [
         | inl e ↦ (x, inl refl, e)
         | inr e ↦ let r = any_in p xs e in (r.0, inr r.1, r.2)
       ]
@@ -98,24 +98,20 @@ any_owner d L a x s o k e =
     && not (list_any (λ r. occludes d L a r.owner && (lowered_below m (lowered r.owner)
     && not (same_lowered m (lowered r.owner)))) L)) && s m in
     any_filter (λ m. s (lowered m)) (is_unoccluded d L a) (distinct (map (λ r. r.owner) L))
-    ∙ any_distinct unoccluded_at (map (λ r. r.owner) L)
-    (any_map (λ m. unoccluded_at (lowered m)) (λ r. r.owner) L
-    ∙ any_weaker (λ r. same_name r.owner x) (λ r. unoccluded_at (lowered r.owner))
-    (λ r h. ap unoccluded_at (one_lowered r.owner x h) ∙ and_from (is_unoccluded d L a x) (s (lowered x)) k e) L o)
+    ∙ any_distinct unoccluded_at (map (λ r. r.owner) L) (any_map (λ m. unoccluded_at (lowered m)) (λ r. r.owner) L ∙ any_weaker _ _
+    (λ r h. ap unoccluded_at (one_lowered _ x h) ∙ and_from _ _ k e) L o)
 
 owns_itself : (L : List ZoneRecord) (K : List ZoneRecord) → ((r : ZoneRecord) → In r K → In r L) → AllByRecursion (λ n. owns L n ≡ true) (map (λ r. r.owner) K)
 owns_itself L [] f = tt
 owns_itself L (r ∷ K) f = (
-  in_any (λ s. same_name s.owner r.owner) L r (f r (inl refl)) (same_itself r.owner r.owner refl),
+  in_any _ L r (f r (inl refl)) (same_itself r.owner r.owner refl),
   owns_itself L K (λ s i. f s (inr i)),
 )
 
 -- each owner of the chain owns records, and is at or below the apex
 pub owners_are : (d : Bool) (L : List ZoneRecord) (a : Name)
     → AllByRecursion (λ n. (owns L n ≡ true) × (is_unoccluded d L a n ≡ true)) (unoccluded_owners d L a)
-owners_are d L a =
-    filter_passes (λ n. owns L n ≡ true) (λ n. (owns L n ≡ true) × (is_unoccluded d L a n ≡ true)) (is_unoccluded d L a) (λ n o k. (o, k))
-    (distinct (map (λ r. r.owner) L)) (all_distinct (λ n. owns L n ≡ true) (map (λ r. r.owner) L) (owns_itself L L (λ r i. i)))
+owners_are d L a = filter_passes _ _ _ (λ n o k. (o, k)) _ (all_distinct _ _ (owns_itself L L (λ r i. i)))
 
 -- what occludes is at or below the apex
 pub occluder_below : (d : Bool) (L : List ZoneRecord) (a n : Name) → occludes d L a n ≡ true → is_at_or_below n a ≡ true
@@ -142,7 +138,7 @@ apex_unoccluded d L a = λ i. below_itself a i && not (any_none (λ r. occludes 
 pub typed_owns : (M : List ZoneRecord) (c : Name) (t : ℕ) → has_type (records_of M c) t ≡ true → owns M c ≡ true
 typed_owns [] c t h = h
 typed_owns (r ∷ M) c t h =
-    elim (cases_Bool (same_name r.owner c)) [
+    elim (cases_Bool _) [
       | inl e ↦ (λ i. e i || owns M c)
       | inr e ↦ (λ i. e i || owns M c) ∙ typed_owns M c t (sym (ap (λ b. has_type (cond b (r ∷ records_of M c) (records_of M c)) t) e) ∙ h)
     ]
@@ -158,6 +154,6 @@ below_occluder d L a c x h s =
     let over : Name → Bool = λ k. (lowered_below k (lowered a) && not (same_lowered k (lowered a)) && types k ns)
     || (d && lowered_below k (lowered a) && types k dname) in
     let at : Name → Bool = λ k. over k && (lowered_below (lowered x) k && not (same_lowered (lowered x) k)) in
-    let q = any_in (λ r. same_name r.owner c) L (occluder_owns d L a c h) in
-    in_any (λ r. occludes d L a r.owner && is_strictly_below x r.owner) L q.0 q.1 (ap at (one_lowered q.0.owner c q.2)
-    ∙ and_from (occludes d L a c) (is_strictly_below x c) h s)
+    let q = any_in _ L (occluder_owns d L a c h) in
+    in_any _ L q.0 q.1 (ap at (one_lowered _ c q.2)
+    ∙ and_from _ _ h s)

@@ -1,9 +1,9 @@
 -- A list that ascends in a strict order, and the pairs of it: exactly one pair matches or covers each value, and nothing of the list lies in a gap.
-use Rattle.std.proofs.Common.{◌≡◌, ℕ, ◌+◌, Bool, true, false, cond, not, ◌&&◌, ◌||◌, List, [], ◌∷◌, refl, sym, ap, ◌∙◌, subst, inl, inr, ◌⊎◌, arith}
+use Rattle.std.proofs.Common.{◌≡◌, ℕ, ◌+◌, Bool, true, false, cond, not, ◌&&◌, ◌||◌, List, [], ◌∷◌, refl, ap, ◌∙◌, subst, inl, inr, ◌⊎◌, arith}
 use Rattle.std.specs.Prelude.{count_by}
 use Rattle.std.specs.List.{AllByRecursion}
 use Rattle.std.specs.Cmp.{IsStrictWeakOrder}
-use Rattle.std.proofs.lemmas.Bool.{cases_Bool, false≢true, true≢false}
+use Rattle.std.proofs.lemmas.Bool.{cases_Bool}
 use Rattle.std.proofs.lemmas.List.Sums.{sum_by-cons}
 use Rattle.domain_octets.proofs.StdLemmas.{or_true}
 use Rattle.domain_zone.specs.Covering.{matches_or_covers, pairs}
@@ -34,34 +34,22 @@ answers ox xo on xn = not (ox || xo) || (not (not (ox || xo)) && cond on (ox && 
 
 rising : (ox xo on xn : Bool) → (xo ≡ true → ox ≡ false) → (ox ≡ false → xo ≡ false → xn ≡ on) → on ≡ true → answers ox xo on xn ≡ (not xo && xn)
 unfolding answers
-rising true true on xn f g e = absurd (true≢false (f refl))
-rising true false true xn f g e = refl
-rising true false false xn f g e = absurd (false≢true e)
-rising false true true xn f g e = refl
-rising false true false xn f g e = absurd (false≢true e)
-rising false false on xn f g e = sym (g refl refl ∙ e)
+rising ox xo on xn f g e = grind (arith, common_steps)
 
 falling : (ox xo on xn : Bool) → (xo ≡ true → ox ≡ false) → on ≡ false → answers ox xo on xn ≡ (not xo || xn)
 unfolding answers
-falling true true on xn f e = absurd (true≢false (f refl))
-falling true false true xn f e = absurd (true≢false e)
-falling true false false xn f e = refl
-falling false true true xn f e = absurd (true≢false e)
-falling false true false xn f e = refl
-falling false false on xn f e = refl
+falling ox xo on xn f e = grind (arith, common_steps)
 
 module _ {X : Type 0} {lt : X → X → Bool} (o : IsStrictWeakOrder lt) where
   pub irreflexive : (x : X) → lt x x ≡ false
   irreflexive x = elim (cases_Bool (lt x x)) [ inl e ↦ o.one_way x x e | inr e ↦ e ]
 
   pub lt_trans : (x y z : X) → lt x y ≡ true → lt y z ≡ true → lt x z ≡ true
-  lt_trans x y z p q =
-      elim (cases_Bool (lt x z)) [ inl e ↦ e | inr e ↦ absurd (false≢true (sym (o.chain x z y e (o.one_way y z q)) ∙ p)) ]
+  lt_trans x y z p q = grind (arith, common_steps)
 
   -- x ≤ y < z
   pub le_lt : (x y z : X) → lt y x ≡ false → lt y z ≡ true → lt x z ≡ true
-  le_lt x y z p q =
-      elim (cases_Bool (lt x z)) [ inl e ↦ e | inr e ↦ absurd (false≢true (sym (o.chain y x z p e) ∙ q)) ]
+  le_lt x y z p q = grind (arith, common_steps)
 
   tied : (p n x : X) → lt p x ≡ false → lt x p ≡ false → lt x n ≡ lt p n
   tied p n x e f = grind (arith, common_steps)
@@ -92,7 +80,7 @@ module _ {X : Type 0} {lt : X → X → Bool} (o : IsStrictWeakOrder lt) where
       → lt x k ≡ false → lt x a ≡ false → count_of (k ∷ ks) a x ≡ 1
   one_from k [] a x up low e f = step k a x [] true 0 (falling_answer k a x low.0 ∙ (λ i. not (e i) || lt x a)) refl
   one_from k (l ∷ ks) a x up low e f =
-      elim (cases_Bool (lt x l)) [
+      elim (cases_Bool _) [
         | inl h ↦ step k l x (pairs (l ∷ ks) a) true 0 (rising_answer k l x up.0.0 ∙ (λ i. not (e i) && h i)) (none_before l ks a x up.1 low.1 h f)
         | inr h ↦ step k l x (pairs (l ∷ ks) a) false 1 (rising_answer k l x up.0.0 ∙ (λ i. not (e i) && h i)) (one_from l ks a x up.1 low.1 h f)
       ]
@@ -121,23 +109,18 @@ module _ {X : Type 0} {lt : X → X → Bool} (o : IsStrictWeakOrder lt) where
       → ((lt p.0 p.1 ≡ true) × In p.1 (k ∷ ks)) ⊎ (a ≡ p.1)
   next_is k [] a p up (inl e) = inr (ap (λ q. q.1) e)
   next_is k [] a p up (inr i) = absurd i
-  next_is k (l ∷ ks) a p up (inl e) =
-      inl (subst (λ (q : X × X). lt q.0 q.1 ≡ true) e up.0.0, inr (inl (ap (λ q. q.1) e)))
-  next_is k (l ∷ ks) a p up (inr i) =
-      elim (next_is l ks a p up.1 i) [ inl h ↦ inl (h.0, inr h.1) | inr h ↦ inr h ]
+  next_is k (l ∷ ks) a p up (inl e) = grind (arith, common_steps)
+  next_is k (l ∷ ks) a p up (inr i) = grind (arith, common_steps, (next_is l ks a p up.1 i))
 
   -- y is at or before the owner, or at or after the next one, which is then after the owner
   abbrev pub IsApart : X → X × X → Type 0
   IsApart y p = (lt p.0 y ≡ false) ⊎ ((lt p.0 p.1 ≡ true) × (lt y p.1 ≡ false))
 
   pub gap : (k : X) (ks : List X) (a : X) (p : X × X) (y : X) → IsAscending lt (k ∷ ks) → In p (pairs (k ∷ ks) a) → In y (k ∷ ks) → IsApart y p
-  gap k [] a p y up (inl e) (inl f) =
-      inl (subst (λ (q : X × X). lt q.0 y ≡ false) e (subst (λ z. lt k z ≡ false) f (irreflexive k)))
+  gap k [] a p y up (inl e) (inl f) = grind (arith, common_steps)
   gap k [] a p y up (inl e) (inr j) = absurd j
   gap k [] a p y up (inr i) j = absurd i
-  gap k (l ∷ ks) a p y up (inl e) (inl f) =
-      inl (subst (λ (q : X × X). lt q.0 y ≡ false) e (subst (λ z. lt k z ≡ false) f (irreflexive k)))
+  gap k (l ∷ ks) a p y up (inl e) (inl f) = grind (arith, common_steps)
   gap k (l ∷ ks) a p y up (inl e) (inr j) = grind (arith, common_steps, all_in)
-  gap k (l ∷ ks) a p y up (inr i) (inl f) =
-      inl (subst (λ z. lt p.0 z ≡ false) f (o.one_way k p.0 (all_in (λ z. lt k z ≡ true) (l ∷ ks) p.0 up.0 (owner_in l ks a p i))))
+  gap k (l ∷ ks) a p y up (inr i) (inl f) = grind (arith, common_steps, all_in, (owner_in l ks a p i))
   gap k (l ∷ ks) a p y up (inr i) (inr j) = gap l ks a p y up.1 i j

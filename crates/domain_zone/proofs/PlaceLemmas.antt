@@ -1,7 +1,7 @@
 -- Of a list with exactly one element that passes a test, the place of that element.
-use Rattle.std.proofs.Common.{◌≡◌, ℕ, ◌+◌, Bool, true, false, cond, List, [], ◌∷◌, refl, sym, ap, ◌∙◌, inl, inr, Some, suc, zero, arith}
+use Rattle.std.proofs.Common.{◌≡◌, ℕ, ◌+◌, Bool, true, false, cond, List, [], ◌∷◌, refl, ap, ◌∙◌, inl, inr, Some, suc, zero, arith}
 use Rattle.std.specs.Prelude.{count_by, slice_get}
-use Rattle.std.proofs.lemmas.Bool.{cases_Bool, false≢true}
+use Rattle.std.proofs.lemmas.Bool.{cases_Bool}
 use Rattle.std.proofs.lemmas.List.Sums.{sum_by-cons}
 use Rattle.std.proofs.lemmas.Grind.{common_steps}
 
@@ -31,21 +31,19 @@ module _ {X : Type 0} where
     pub only : (j : ℕ) (s : X) → slice_get xs j ≡ Some s → p s ≡ true → j ≡ place
 
   only_first : (p : X → Bool) (x : X) (xs : List X) → count_by p xs ≡ 0 → (j : ℕ) (s : X) → slice_get (x ∷ xs) j ≡ Some s → p s ≡ true → j ≡ 0
-  only_first p x xs z zero s g h = refl
-  only_first p x xs z (suc j) s g h = absurd (none_counted p xs z j s g h)
+  only_first p x xs z j s g h = grind (arith, common_steps, none_counted)
 
   only_later : (p : X → Bool) (x : X) (xs : List X) → p x ≡ false → (place : ℕ)
       → ((j : ℕ) (s : X) → slice_get xs j ≡ Some s → p s ≡ true → j ≡ place) → (j : ℕ) (s : X) → slice_get (x ∷ xs) j ≡ Some s
       → p s ≡ true → j ≡ suc place
-  only_later p x xs t place f zero s g h = let same : x ≡ s = cc in absurd (false≢true (sym t ∙ ap p same ∙ h))
-  only_later p x xs t place f (suc j) s g h = ap suc (f j s g h)
+  only_later p x xs t place f j s g h = grind (arith, common_steps)
 
   pub one_place : (p : X → Bool) (xs : List X) → count_by p xs ≡ 1 → IsOnly p xs
   one_place p [] e = absurd (omega arith)
   one_place p (x ∷ xs) e =
-      elim (cases_Bool (p x)) [
+      elim (cases_Bool _) [
         | inl t ↦ record { place = 0; item = x; there = refl; passes = t; only = only_first p x xs (omega (arith, counted_here p x xs t)) }
         | inr t ↦
             let r = one_place p xs (omega (arith, counted_later p x xs t)) in
-            record { place = suc r.place; item = r.item; there = r.there; passes = r.passes; only = only_later p x xs t r.place r.only }
+            record { place = suc r.place; item = r.item; there = r.there; passes = r.passes; only = only_later p x xs t _ r.only }
       ]

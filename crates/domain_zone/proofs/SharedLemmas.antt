@@ -1,4 +1,5 @@
 -- The longest name that two names are at or below.
+use Rattle.std.proofs.lemmas.Grind.{common_steps}
 use Rattle.std.proofs.Common.{◌≡◌, ◌≤◌, Bool, true, false, cond, [], ◌∷◌, length, refl, sym, ◌∙◌, inl, inr, arith}
 use Rattle.std.proofs.lemmas.Bool.{false≢true, cases_lt}
 use Rattle.domain_zone.specs.Enclosers.{IsShared, shared}
@@ -7,9 +8,7 @@ use Rattle.domain_names.specs.Words.{Name}
 use Rattle.domain_zone.proofs.NameLemmas.{below_itself, below_trans, below_longer, below_length, below_parent, below_root}
 
 pub either_way : (s t : Bool) → (s ≡ true → t ≡ true) → (t ≡ true → s ≡ true) → s ≡ t
-either_way true t f g = sym (f refl)
-either_way false true f g = absurd (false≢true (g refl))
-either_way false false f g = refl
+either_way s t f g = grind (arith, common_steps)
 
 -- names share one
 pub shared_is : (x y : Name) → IsShared x y (shared x y)

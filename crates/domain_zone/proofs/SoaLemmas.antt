@@ -1,10 +1,9 @@
 -- The SOA records that a scan of the records finds.
-use Rattle.std.proofs.Common.{◌≡◌, List, [], ◌∷◌, ◌++◌, Option, Some, None, true, false, cond, nat_eq, refl, ap, ◌∙◌, sym, inl, inr, append_assoc}
-use Rattle.std.proofs.lemmas.List.{append-nil}
+use Rattle.std.proofs.Common.{arith, ◌≡◌, List, [], ◌∷◌, ◌++◌, Option, Some, None, true, false, cond, nat_eq, refl, ap, ◌∙◌, sym, inl, inr, append_assoc}
+use Rattle.std.proofs.lemmas.Grind.{common_steps}
 use Rattle.std.specs.Prelude.{filter}
 use Rattle.std.specs.Option.{is_some}
-use Rattle.std.proofs.lemmas.Bool.{true≢false, cases_Bool, or_parts, and_right}
-use Rattle.std.proofs.lemmas.List.Elements.{filter-append}
+use Rattle.std.proofs.lemmas.Bool.{cases_Bool, or_parts, and_right}
 use Rattle.domain_names.specs.Name.{same_name}
 use Rattle.domain_names.specs.Words.{Name}
 use Rattle.domain_base.specs.Types.{soa}
@@ -23,17 +22,12 @@ pub record IsScanned (a : Name) (L rest : List ZoneRecord) (found : Option ZoneR
   pub whole : passed ++ rest ≡ L
   pub is_found : IsFoundIn a passed found
 
-passed_over : (a : Name) (rs : List ZoneRecord) (r : ZoneRecord) → is_soa a r ≡ false → filter (is_soa a) (rs ++ r ∷ []) ≡ filter (is_soa a) rs
-passed_over a rs r e = filter-append (is_soa a) rs (r ∷ []) ∙ (λ i. filter (is_soa a) rs ++ cond (e i) (r ∷ []) []) ∙ append-nil (filter (is_soa a) rs)
-
 still_found : (a : Name) (rs : List ZoneRecord) (r : ZoneRecord) (f : Option ZoneRecord) → is_soa a r ≡ false → IsFoundIn a rs f → IsFoundIn a (rs ++ r ∷ []) f
-still_found a rs r None e h = passed_over a rs r e ∙ h
-still_found a rs r (Some s) e h = passed_over a rs r e ∙ h
+still_found a rs r f e h = grind (arith, common_steps)
 
 found_now : (a : Name) (rs : List ZoneRecord) (r : ZoneRecord) (f : Option ZoneRecord) → is_soa a r ≡ true → is_some f ≡ false
     → IsFoundIn a rs f → IsFoundIn a (rs ++ r ∷ []) (Some r)
-found_now a rs r None e s h = filter-append (is_soa a) rs (r ∷ []) ∙ (λ i. h i ++ cond (e i) (r ∷ []) [])
-found_now a rs r (Some t) e s h = absurd (true≢false s)
+found_now a rs r f e s h = grind (arith, common_steps)
 
 module _ {a : Name} {L left rest : List ZoneRecord} {r : ZoneRecord} {f : Option ZoneRecord} (s : IsScanned a L left f)
     (next : left ≡ r ∷ rest) where

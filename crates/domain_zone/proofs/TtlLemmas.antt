@@ -28,8 +28,7 @@ record Clash (r s : ZoneRecord) : Type 0 where
   apart : nat_eq r.ttl s.ttl ≡ false
 
 opposite : (b c : Bool) → not b ≡ c → b ≡ not c
-opposite true c e = ap not e
-opposite false c e = ap not e
+opposite b c e = grind (arith, common_steps)
 
 clash_is : (r s : ZoneRecord) → clashes r s ≡ true → Clash r s
 clash_is r s e = grind (arith, common_steps)
@@ -79,12 +78,10 @@ all_pairs : (rs : List ZoneRecord) → NeverDescend rs → has_neighbour_clash r
 all_pairs [] order e = refl
 all_pairs (r ∷ []) order e = λ i. (no_clash_itself r i || false) || false
 all_pairs (r ∷ s ∷ rs) order e =
-    let p = or_parts (clashes r s) (has_neighbour_clash (s ∷ rs)) e in
+    let p = or_parts (clashes r s) _ e in
     let first = first_even r (s ∷ rs) order e in
     (λ i. (no_clash_itself r i || any_none (clashes r) (s ∷ rs) first i) || list_any (λ t. list_any (clashes t) (r ∷ s ∷ rs)) (s ∷ rs))
-    ∙ any_front (λ t. list_any (clashes t) (r ∷ s ∷ rs)) (λ t. list_any (clashes t) (s ∷ rs)) (s ∷ rs)
-    (weaker (λ t. clashes r t ≡ false) (λ t. list_any (clashes t) (r ∷ s ∷ rs) ≡ list_any (clashes t) (s ∷ rs))
-    (λ t h. λ i. no_clash_back r t h i || list_any (clashes t) (s ∷ rs)) (s ∷ rs) first)
+    ∙ any_front _ _ (s ∷ rs) (weaker _ _ (λ t h. λ i. no_clash_back r t h i || list_any (clashes t) (s ∷ rs)) (s ∷ rs) first)
     ∙ all_pairs (s ∷ rs) order.1 p.1
 
 -- neighbours that clash are a pair that clashes

@@ -117,10 +117,7 @@ all_distinct P [] h = tt
 all_distinct P (x ∷ xs) h = (h.0, all_filter P (λ y. not (same_name x y)) (distinct xs) (all_distinct P xs h.1))
 
 distinct_one : (n : Name) (ys : List Name) → AllByRecursion (λ y. lowered y ≡ lowered n) ys → distinct (n ∷ ys) ≡ n ∷ []
-distinct_one n ys h =
-    ap (λ zs. n ∷ zs) (filter_none (λ y. not (same_name n y)) (distinct ys)
-    (all_distinct (λ y. not (same_name n y) ≡ false) ys (weaker (λ y. lowered y ≡ lowered n) (λ y. not (same_name n y) ≡ false)
-    (λ y e. ap not (same_itself n y (sym e))) ys h)))
+distinct_one n ys h = ap (λ zs. n ∷ zs) (filter_none _ _ (all_distinct _ ys (weaker _ _ (λ y e. ap not (same_itself n y (sym e))) ys h)))
 
 -- names that are one, after others
 pub distinct_more : (xs : List Name) (n : Name) (ys : List Name) → AllByRecursion (λ x. before x n ≡ true) xs

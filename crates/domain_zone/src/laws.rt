@@ -13,6 +13,7 @@ use domain_base::ToName;
 use domain_record::ZoneData;
 
 /// A pair of names matches and covers a name in each of its spellings alike.
+#[tactic(auto, using(crate::proofs::NameLemmas::one_lowered, crate::proofs::NameLemmas::before_right, crate::proofs::NameLemmas::before_left))]
 pub fn covering_ignores_case()
     ensures matches { (owner x y : Name) → same_name x y ≡ true
         → matches before owner x ≡ matches before owner y }

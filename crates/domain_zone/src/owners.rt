@@ -95,6 +95,7 @@ impl<'a, N: ToName, D: ZoneData> UnoccludedOwners<'a, N, D> {
     /// Over the owners of records in order, at or below the apex and not strictly below a zone cut,
     /// nor, where `below_dname` says so, strictly below a name at or below the apex that owns a
     /// DNAME record.
+    #[tactic(auto, using(crate::proofs::LeftLemmas::left_first))]
     pub fn new(apex: &'a N, records: RecordsIter<'a, N, D>, below_dname: bool) -> Self
         requires { IsInOrder N.labels D.rtype records }
         ensures { result ≡ owners_with_records below_dname

@@ -19,6 +19,7 @@ fn clash<N: ToName, D: ZoneData>(first: &Record<N, D>, second: &Record<N, D>) ->
 
 /// Whether two of these records, whose types never descend, are of one type other than RRSIG and
 /// differ in their TTLs (RFC 2181, section 5.2). Looks at neighbours alone.
+#[tactic(auto, using(crate::proofs::TtlLemmas::neighbours_tell, crate::proofs::TtlLemmas::seen_never_descend))]
 pub fn has_unequal_ttls<N: ToName, D: ZoneData>(
     mut records: SliceRefsOrOwnedIterator<'_, Record<N, D>>,
 ) -> bool

@@ -38,6 +38,7 @@ pub fn add_type<B: GrowingBuilder>(
 /// # Errors
 ///
 /// `OutOfMemory`; some types may then have been added.
+#[tactic(auto, using(crate::proofs::TypeLemmas::list_more, crate::proofs::TypeLemmas::list_not))]
 pub fn add_types<B: GrowingBuilder, N: ToName, D: ZoneData>(
     types: &mut RtypeBitmapBuilder<B>,
     mut records: SliceRefsOrOwnedIterator<'_, Record<N, D>>,

@@ -1,4 +1,4 @@
-use Rattle.std.proofs.Common.{◌∙◌, arith}
+use Rattle.std.proofs.Common.{arith}
 use Rattle.domain_bitmap.proofs.BlockLemmas.{found_at, clear_at, types_past}
 use Rattle.domain_bitmap.proofs.blocks.first_set.Goals as goal
 use Rattle.std.proofs.lemmas.Grind.{common_steps}
@@ -10,5 +10,4 @@ pub loop-place-preserved : goal.loop-place-preserved
 loop-place-preserved c = grind (arith, common_steps, clear_at)
 
 pub returns-clause-none : goal.returns-clause-none
-returns-clause-none c = λ w.
-    c.loop-place.invariant w ∙ types_past (record { window = w; octets = c.args.octets.now }) c.loop-place.place (omega arith)
+returns-clause-none c = grind (arith, common_steps, types_past)

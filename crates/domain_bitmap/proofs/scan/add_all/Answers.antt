@@ -11,16 +11,16 @@ returns-in-Err-clause-err g c = scan_refused _ _ _ _ _ _ c.loop-scanner.invarian
 pub loop-scanner-preserved : goal.loop-scanner-preserved
 loop-scanner-preserved g c =
     let took = c.in-Ok.ensures.ok in
-    scan_goes _ _ _ _ _ took.token c.in-Ok.rtype c.loop-scanner.invariant took.first took.holds c.in-Ok.ensures.number
+    scan_goes _ _ _ _ _ took.token _ c.loop-scanner.invariant took.first took.holds c.in-Ok.ensures.number
     c.in_ok-add.ensures.ok c.in_ok-add.ensures.windows c.in_ok-add.ensures.size
 
 pub returns-in_err-add-clause-err : goal.returns-in_err-add-clause-err
 returns-in_err-add-clause-err g c =
     let took = c.in-Ok.ensures.ok in
-    let full = scan_full g.B.OctetsBuilder.limit _ _ _ _ took.token c.in-Ok.rtype c.in_err-add.field-0.0 c.loop-scanner.invariant
+    let full = scan_full _ _ _ _ _ took.token _ _ c.loop-scanner.invariant
     took.first took.holds c.in-Ok.ensures.number (λ e. c.in_err-add.ensures.short.0 (ap Err e))
     (λ e. (c.in_err-add.ensures.memory (ap Err e)).1) in
-    refused_with c.from_residual.result _ _ c.from_residual.ensures.1 full
+    refused_with _ _ _ c.from_residual.ensures.1 full
 
 pub returns-clause-ok : goal.returns-clause-ok
 returns-clause-ok g c = scan_ends _ _ _ c.loop-scanner.invariant

@@ -1,6 +1,7 @@
-use Rattle.domain_records.proofs.Runs.{whole_run, run_is_whole}
+use Rattle.std.proofs.Common.{arith}
+use Rattle.std.proofs.lemmas.Grind.{common_steps}
+use Rattle.domain_records.proofs.Runs.{run_is_whole}
 use Rattle.domain_records.proofs.group.is_one_run.Goals as goal
 
 pub returns-else-len-eq0 : goal.returns-else-len-eq0
-returns-else-len-eq0 g c =
-    rw c.len-else-len-eq0.ensures (whole_run _ _ _ c.first_run.ensures, run_is_whole _ _ _ c.first_run.ensures)
+returns-else-len-eq0 g c = grind (arith, common_steps, (run_is_whole _ _ _ c.first_run.ensures))

@@ -8,4 +8,4 @@ pub returns-clause-parted : goal.returns-clause-parted
 returns-clause-parted g c =
     c.partition_point.ensures.partitioned (λ (r : Record g.row.N.Denot g.row.D.Denot). leb r.class c.args.class)
     (always_returns_same _ _ _ (λ a r f' called. search rules))
-    (parted_by_class g.N.ToName.labels g.D.RecordData.rtype g.D.CanonicalOrd.canonical_cmp _ c.requires c.args.class)
+    (parted_by_class _ g.D.RecordData.rtype g.D.CanonicalOrd.canonical_cmp _ c.requires _)

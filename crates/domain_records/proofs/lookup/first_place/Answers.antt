@@ -10,11 +10,9 @@ returns-then-is_wanted_at g c =
     let rs = c.args.records.now in
     let class : (d : Record g.row.N.Denot g.row.D.Denot)
     → (get_or rs c.loop-start.start d).class ≡ c.class-class.result = λ d. ap (λ r. r.class)
-    (get_or_default rs c.loop-start.start d c.index-records-start.result c.loop-start-test.true ∙ sym c.index-records-start.is)
-    ∙ sym c.class-class.ensures in
-    found g.N.ToName.labels g.D.RecordData.rtype g.D.CanonicalOrd.canonical_cmp rs c.requires
-    (g.N.ToName.labels c.args.wanted.now.owner.now) c.args.wanted.now.class c.args.wanted.now.rtype c.loop-start.start c.class-class.result
-    c.loop-start-test.true class c.loop-start.invariant.none c.lower_bound-at.result c.lower_bound-at.ensures.parted
+    (get_or_default rs _ d _ c.loop-start-test.true ∙ sym c.index-records-start.is) ∙ sym c.class-class.ensures in
+    found _ g.D.RecordData.rtype g.D.CanonicalOrd.canonical_cmp rs c.requires _ c.args.wanted.now.class c.args.wanted.now.rtype _ _
+    c.loop-start-test.true class c.loop-start.invariant.none _ c.lower_bound-at.ensures.parted
     (c.is_wanted_at.ensures.0 c.if-is_wanted_at.true)
 
 pub loop-start-preserved : goal.loop-start-preserved
@@ -22,14 +20,13 @@ loop-start-preserved g c =
     let rs = c.args.records.now in
     let class : (d : Record g.row.N.Denot g.row.D.Denot)
     → (get_or rs c.loop-start.start d).class ≡ c.class-class.result = λ d. ap (λ r. r.class)
-    (get_or_default rs c.loop-start.start d c.index-records-start.result c.loop-start-test.true ∙ sym c.index-records-start.is)
+    (get_or_default rs _ d _ c.loop-start-test.true ∙ sym c.index-records-start.is)
     ∙ sym c.class-class.ensures in
     record {
       within = c.class_end-start.ensures.bound;
       none = λ k d below.
-          passed g.N.ToName.labels g.D.RecordData.rtype g.D.CanonicalOrd.canonical_cmp rs c.requires
-          (g.N.ToName.labels c.args.wanted.now.owner.now) c.args.wanted.now.class c.args.wanted.now.rtype c.loop-start.start
-          c.class-class.result c.loop-start-test.true class c.loop-start.invariant.none c.lower_bound-at.result c.lower_bound-at.ensures.parted
-          (λ h. false≢true (sym c.if-is_wanted_at.false ∙ c.is_wanted_at.ensures.1 h))
-          c.class_end-start.result c.class_end-start.ensures.parted k d below (omega (arith, c.class_end-start.ensures.bound));
+          passed _ g.D.RecordData.rtype g.D.CanonicalOrd.canonical_cmp rs c.requires _ c.args.wanted.now.class c.args.wanted.now.rtype _
+          _ c.loop-start-test.true class c.loop-start.invariant.none _ c.lower_bound-at.ensures.parted
+          (λ h. false≢true (sym c.if-is_wanted_at.false ∙ c.is_wanted_at.ensures.1 h)) _ c.class_end-start.ensures.parted k d below
+          (omega (arith, c.class_end-start.ensures.bound));
     }

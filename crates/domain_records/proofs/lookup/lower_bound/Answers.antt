@@ -10,4 +10,4 @@ returns-clause-parted g c =
     let type = c.args.wanted.now.rtype in
     c.partition_point.ensures.partitioned (is_before g.N.ToName.labels g.D.RecordData.rtype c.args.class owner type)
     (always_returns_same _ _ _ (λ a r f' called. search rules))
-    (parted_by_key g.N.ToName.labels g.D.RecordData.rtype g.D.CanonicalOrd.canonical_cmp _ c.requires c.args.class owner type)
+    (parted_by_key _ g.D.RecordData.rtype g.D.CanonicalOrd.canonical_cmp _ c.requires _ owner type)

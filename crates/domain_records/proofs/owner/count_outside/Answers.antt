@@ -11,7 +11,7 @@ returns-else-not-ends_with g c =
     let P = λ (r : Record g.row.N.Denot g.row.D.Denot). IsAtOrBelow (g.N.ToName.labels r.owner) (g.N.ToName.labels c.args.apex.now) in
     let below : P c.at.result.now = rw c.owner.ensures at (c.ends_with.ensures.below.0 c.if-not-ends_with.false) in
     let items = items_of c.args.records.now in (
-      skips_to P items c.loop-n.n c.loop-n.invariant.within c.loop-n.invariant.outside (if_first_at P items c.loop-n.n c.at.result.now c.at.ensures below),
+      skips_to P items _ c.loop-n.invariant.within c.loop-n.invariant.outside (if_first_at P items _ _ c.at.ensures below),
       c.loop-n.invariant.within,
     )
 

@@ -8,13 +8,12 @@ use Rattle.std.proofs.lemmas.Grind.{common_steps}
 pub returns-then-eq : goal.returns-then-eq
 returns-then-eq g c =
     let items = items_of c.args.records.now in
-    let is = sym c.rtype.ensures ∙ eqb-true c.rtype.result c.args.wanted (sym c.eq.ensures ∙ c.if-eq.true) in (
+    let is = sym c.rtype.ensures ∙ eqb-true _ _ (sym c.eq.ensures ∙ c.if-eq.true) in (
       λ e. (
         c.loop-i.i,
         c.at.result.now,
-        slice_get_within items c.loop-i.i c.at.result.now c.at.ensures,
-        get_or_from_slice_get items c.loop-i.i
-            c.at.result.now c.at.result.now c.at.ensures,
+        slice_get_within items _ _ c.at.ensures,
+        get_or_from_slice_get items _ _ _ c.at.ensures,
         is,
       ),
       λ h. refl,

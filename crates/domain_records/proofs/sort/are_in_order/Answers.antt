@@ -1,22 +1,19 @@
-use Rattle.std.proofs.Common.{◌≡◌, Bool, true, false, List, length, rules, is_lt, IsTrue, refl}
+use Rattle.std.proofs.Common.{arith, ◌≡◌, Bool, true, List, length, rules, is_lt, IsTrue, refl}
+use Rattle.std.proofs.lemmas.Grind.{common_steps}
 use Rattle.std.specs.List.{AllAdjacentBelow, IsAllAdjacentAnswer}
 use Rattle.std.specs.declared.cmp.Ordering.{Ordering}
-use Rattle.std.specs.declared.cmp.Ordering.TheVariants.{Less, Equal, Greater}
-use Rattle.std.proofs.lemmas.Bool.{false≢true}
+use Rattle.std.specs.declared.cmp.Ordering.TheVariants.{Less}
 use Rattle.std.proofs.lemmas.Fn.{always_returns_same}
 use Rattle.domain_record.specs.Record.{record_cmp}
 use Rattle.domain_records.specs.Places.{compared_places}
 use Rattle.domain_records.proofs.sort.are_in_order.Goals as goal
 
 is_less : (r : Ordering) → true ≡ is_lt r → r ≡ Less
-is_less Less h = refl
-is_less Equal h = absurd (cc)
-is_less Greater h = absurd (cc)
+is_less r h = grind (arith, common_steps)
 
 each_next : {X : Type 0} (e : X → X → Bool) (xs : List X) (r : Bool) → IsTrue r → IsAllAdjacentAnswer (λ x y b. b ≡ e x y) xs r
     → AllAdjacentBelow (λ x y. true ≡ e x y) xs (length xs)
-each_next e xs true on h = h
-each_next e xs false on h = absurd (false≢true on)
+each_next e xs r on h = grind (arith, common_steps)
 
 pub returns : goal.returns
 returns g c = λ on.
@@ -24,5 +21,5 @@ returns g c = λ on.
     let answer = c.is_sorted_by.ensures.cases (λ a b. is_lt (R a b)) (always_returns_same _ _ _ (λ a r h called. search rules)) in record {
       all = c.if-places-records.false;
       inverse = c.if-not-are_ranks.ensures refl;
-      ascend = λ k d lt. is_less (R _ _) (each_next (λ a b. is_lt (R a b)) c.args.places.now c.is_sorted_by.result on answer k d lt);
+      ascend = λ k d lt. is_less (R _ _) (each_next (λ a b. is_lt (R a b)) _ _ on answer k d lt);
     }

@@ -12,5 +12,5 @@ returns g c =
       c.comment.new.arg3,
       c.in_ok-write.ensures.writes,
       record { shown = c.args.item; shows = refl; target = _; before = refl; left = _; called = c.in_ok-comment.ensures; after = refl },
-      one_call g.W.Write.write_str_gives _ _ (10 ∷ []) u,
+      one_call _ _ _ (10 ∷ []) u,
     )) c.write_char.ensures.writes

@@ -2,11 +2,9 @@ use Rattle.domain_bitmap.proofs.CountedLemmas.{over_limit, refused_by_codec, ref
 use Rattle.domain_bitmap.proofs.counted.CountedOctets.scan_token.Goals as goal
 
 pub returns-in-Err-clause-err : goal.returns-in-Err-clause-err
-returns-in-Err-clause-err g c =
-    refused_by_codec _ _ g.O.Builder.OctetsBuilder.limit _ _ _ c.in-Err.ensures.err
+returns-in-Err-clause-err g c = refused_by_codec _ _ _ _ _ _ c.in-Err.ensures.err
 
 pub returns-clause-err : goal.returns-clause-err
 returns-clause-err g c =
-    refused_too_long _ _ g.O.Builder.OctetsBuilder.limit _ _ _ c.in-Ok.ensures.ok
-    (token_has_room _ g.O.Builder.OctetsBuilder.limit _ _ _ _ c.convert_token.result c.in-Ok.is c.in-Ok.ensures.ok
+    refused_too_long _ _ _ _ _ _ c.in-Ok.ensures.ok (token_has_room _ _ _ _ _ _ _ c.in-Ok.is c.in-Ok.ensures.ok
     c.convert_token.ensures.room) (over_limit _ c.in-Err-from_octets.ensures.ok.1)

@@ -26,13 +26,12 @@ loop-rtype-init g c = λ plain.
 
 pub loop-rtype-preserved : goal.loop-rtype-preserved
 unfolding spaced_types
-loop-rtype-preserved g c = λ plain.
-    let so_far = c.loop-rtype.invariant plain in
+loop-rtype-preserved g c =
+    λ plain. let so_far = c.loop-rtype.invariant plain in
     let more = c.in_ok-write-2.ensures.writes so_far.2.plain refl in
     let word = 32 ∷ type_text c.in-Some-next.rtype in (
       so_far.0 ++ word,
-      so_far.1 ∙ ap (λ l. so_far.0 ++ spaced_types l) c.in-Some-next.ensures.steps
-          ∙ sym (append_assoc so_far.0 word (spaced_types c.next-in-loop-rtype.new.self)),
+      so_far.1 ∙ ap (λ l. so_far.0 ++ spaced_types l) c.in-Some-next.ensures.steps ∙ sym (append_assoc _ word _),
       has_written_append _ _ _ _ _ _ so_far.2 more,
     )
 

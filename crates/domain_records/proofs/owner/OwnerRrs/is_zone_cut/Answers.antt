@@ -12,7 +12,7 @@ returns-then-not-name_eq g c =
     let apart : (r : Record g.row.N.Denot g.row.D.Denot) → P r
     → Q r = λ r is h. false≢true (sym c.if-not-name_eq.true ∙ c.name_eq.ensures.same.1 (rw is at h)) in (
       λ e. record {
-        below = has_first_weaker P Q apart c.args.self.now c.owner.ensures;
+        below = has_first_weaker P Q apart _ c.owner.ensures;
         delegates = rw (← c.self.view_is) (c.has_type.ensures.0 e);
       },
       λ h. c.has_type.ensures.1 (rw c.self.view_is h.delegates),

@@ -1,5 +1,4 @@
 use Rattle.domain_record.specs.Record.{record_cmp_total}
-use Rattle.domain_record.specs.RecordClone.{IsRecordClone}
 use Rattle.domain_records.proofs.Clones.{sorted_too, clone_tied}
 use Rattle.domain_records.proofs.sorted.SortedRecords.clone.Goals as goal
 
@@ -8,7 +7,6 @@ invariant_of-result g c =
     let labels = g.N.ToName.labels in
     let rtype = g.D.RecordData.rtype in
     let data_cmp = g.D.CanonicalOrd.canonical_cmp in
-    sorted_too (record_cmp_total labels rtype data_cmp g.met.D.CanonicalOrd.total) (IsRecordClone g.N.TryClone.is_clone g.D.TryClone.is_clone)
-    (clone_tied labels rtype data_cmp g.N.TryClone.is_clone g.D.TryClone.is_clone g.met.N.ToName.clone_labels g.met.D.CloneRecordData.clone_rtype
-    g.met.D.CloneRecordData.clone_canonical)
-    _ _ c.in_ok-records.ensures (rw c.as_slice.ensures.records c.as_slice.ensures.sorted)
+    sorted_too (record_cmp_total labels rtype data_cmp g.met.D.CanonicalOrd.total) _
+    (clone_tied labels rtype data_cmp _ _ g.met.N.ToName.clone_labels g.met.D.CloneRecordData.clone_rtype
+    g.met.D.CloneRecordData.clone_canonical) _ _ c.in_ok-records.ensures (rw c.as_slice.ensures.records c.as_slice.ensures.sorted)

@@ -1,6 +1,4 @@
-use Rattle.std.proofs.Common.{None, Some}
-use Rattle.domain_records.specs.Groups.{same_rrset}
-use Rattle.domain_records.specs.Lookup.{matches}
+use Rattle.std.proofs.Common.{Some}
 use Rattle.domain_records.proofs.FoundGroups.{found_by, matches_alike}
 use Rattle.domain_records.proofs.sorted.SortedRecords.find_apex_rtype.Goals as goal
 
@@ -9,6 +7,5 @@ returns g c =
     let labels = g.N.ToName.labels in
     let rtype = g.D.RecordData.rtype in
     let owner = labels c.args.apex.now in
-    let found = found_by (same_rrset labels rtype) rtype (matches labels rtype owner None (Some c.args.rtype))
-    (matches_alike labels rtype owner (Some c.args.rtype)) _ _ _ c.first_place.ensures c.rrset_at.ensures in
+    let found = found_by _ rtype _ (matches_alike labels rtype owner (Some c.args.rtype)) _ _ _ c.first_place.ensures c.rrset_at.ensures in
     rw (← c.as_slice-records.ensures.records) found

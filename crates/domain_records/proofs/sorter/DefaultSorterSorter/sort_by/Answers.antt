@@ -1,5 +1,6 @@
 -- std's sort orders by the one order that the closure answers by
-use Rattle.std.proofs.Common.{is_lt, OnOk, Ordering, rules}
+use Rattle.std.proofs.Common.{arith, is_lt, OnOk, Ordering, rules}
+use Rattle.std.proofs.lemmas.Grind.{common_steps}
 use Rattle.std.specs.Cmp.{IsTotalOrder}
 use Rattle.std.specs.List.Sorted.{IsSorted}
 use Rattle.std.proofs.lemmas.Result.{on_ok_weaker}
@@ -16,5 +17,4 @@ returns-clause-sorted g c =
     search rules
 
 pub returns-clause-stable : goal.returns-clause-stable
-returns-clause-stable g c on R o by =
-    c.sort_by.ensures.stable (λ x y. is_lt (R x y)) (ranks_by o (λ x. x)) (ComparesAs-from_order _ R _ by)
+returns-clause-stable g c on R o by = grind (arith, common_steps, ComparesAs-from_order)
