@@ -1,25 +1,20 @@
 -- data of hashed names: their octets, how they are read and how they are written
-use Rattle.std.proofs.Common.{◌≡◌, ℕ, ◌↔◌, Bool, true, List, [], ◌∷◌, ◌++◌, refl, sym, ap, subst, ◌∙◌}
+use Rattle.std.proofs.Common.{arith, ◌≡◌, ℕ, ◌↔◌, Bool, true, List, [], ◌∷◌, ◌++◌, refl, sym, ap, subst, ◌∙◌}
+use Rattle.std.proofs.lemmas.Grind.{common_steps}
 use Rattle.std.specs.Prelude.{bytes_eq, IsTrue, codes}
 use Rattle.std.specs.Fmt.{decimal}
 use Rattle.std.specs.Cmp.Lexicographic.{bytes_decides}
-use Rattle.std.proofs.lemmas.List.{append-nil, append_assoc}
-use Rattle.domain_codecs.specs.Base32.{base32_upper}
-use Rattle.domain_octets.specs.Piece.{PieceText, token, comment, opens, closes}
+use Rattle.domain_octets.specs.Piece.{PieceText, token, comment}
 use Rattle.domain_octets.specs.Place.{Place, Takes}
 use Rattle.domain_octets.specs.Words.{AreOctets}
 use Rattle.domain_names.specs.Fault.{Fault}
-use Rattle.domain_bitmap.specs.Blocks.{IsBitmap, types_of}
+use Rattle.domain_bitmap.specs.Blocks.{IsBitmap}
 use Rattle.domain_bitmap.specs.Fault.{BitmapFault}
-use Rattle.domain_bitmap.specs.Pieces.{type_pieces, salt_pieces}
 use Rattle.domain_bitmap.specs.Text.{types_text, spaced_types}
 use Rattle.domain_fields.specs.Layout.{Layout, Values, octets_of, Fits, Ends, Begins, ParsesBack, splits}
 use Rattle.domain_fields.proofs.ExactLemmas.{parses_back, same_values}
-use Rattle.domain_fields.proofs.PieceLemmas.{pieces_before}
-use Rattle.domain_chain_rdata.specs.OptOut.{opt_out_comment}
-use Rattle.domain_chain_rdata.specs.Rdata.{hash_numbers, nsec3param, uncounted, hash_fields, nsec3}
-use Rattle.domain_chain_rdata.specs.Nsec3paramText.{number_pieces, nsec3param_pieces}
-use Rattle.domain_chain_rdata.specs.Nsec3Text.{nsec3_pieces}
+use Rattle.domain_chain_rdata.specs.Rdata.{nsec3param, uncounted, hash_fields, nsec3}
+use Rattle.domain_chain_rdata.specs.Nsec3paramText.{number_pieces}
 use Rattle.domain_chain_rdata.specs.Nsec3Wire.{BeginsNsec3, Nsec3Fault, in_fields, in_types, Nsec3ParsesBack}
 use Rattle.domain_chain_rdata.proofs.NsecLemmas.{fields_excluded, types_excluded}
 
@@ -61,15 +56,7 @@ nsec3_back v fits bitmap =
 pub fields_then_types : (old start between new : Place) (v : Values hash_fields) (types : List ℕ) → start ≡ old → Begins hash_fields start.left v between.left
     → Takes types between new → new.left ≡ [] → IsBitmap between.left → AreOctets types → BeginsNsec3 old.left (v, types) new.left
 unfolding octets_of
-fields_then_types old start between new v types from read takes all bitmap small = record {
-  begins = record {
-    parts = sym (ap (λ p. p.left) from) ∙ read.parts ∙ ap (λ o. octets_of hash_fields v ++ o) takes.parts
-        ∙ sym (append_assoc (octets_of hash_fields v) types new.left);
-    fits = (read.fits, small);
-    ends = ((((tt, (tt, tt)), tt), tt), all);
-  };
-  bitmap = subst IsBitmap (takes.parts ∙ ap (λ o. types ++ o) all ∙ append-nil types) bitmap;
-}
+fields_then_types old start between new v types from read takes all bitmap small = grind (arith, common_steps)
 
 -- fields were read, and what was left is no bitmap
 pub fields_then_fault : (old start between : Place) (v : Values hash_fields) (fault : Fault) → start ≡ old → Begins hash_fields start.left v between.left
@@ -89,24 +76,4 @@ after_a_space (t ∷ types) some = refl
 pub numbers_written : (a b c d e f : List PieceText) (said : List ℕ) (x y z : ℕ)
     → b ≡ a ++ token (decimal x) ∷ [] → c ≡ b ++ token (decimal y) ∷ [] → d ≡ c ++ comment said ∷ [] → e ≡ d ++ token (decimal z) ∷ []
     → f ≡ e ++ comment (codes "iterations") ∷ [] → f ≡ a ++ number_pieces said (x, (y, z))
-numbers_written a b c d e f said x y z ab bc cd de ef =
-    pieces_before a b f (token (decimal x) ∷ []) _ ab (pieces_before b c f (token (decimal y) ∷ []) _ bc
-    (pieces_before c d f (comment said ∷ []) _ cd (pieces_before d e f (token (decimal z) ∷ []) _ de ef)))
-
-pub params_written : (a b c d e : List PieceText) (v : Values nsec3param) (numbers : Values hash_numbers) (salt : List ℕ) → numbers ≡ v.0 → salt ≡ v.1
-    → b ≡ a ++ opens ∷ [] → c ≡ b ++ number_pieces (codes "flags") numbers → d ≡ c ++ salt_pieces salt → e ≡ d ++ closes ∷ []
-    → e ≡ a ++ nsec3param_pieces v
-params_written a b c d e v numbers salt same_numbers same_salt ab bc cd de =
-    pieces_before a b e (opens ∷ []) _ ab (pieces_before b c e (number_pieces (codes "flags") numbers) _ bc (pieces_before c d e (salt_pieces salt) _ cd de))
-    ∙ (λ i. a ++ (opens ∷ (number_pieces (codes "flags") (same_numbers i) ++ (salt_pieces (same_salt i) ++ closes ∷ []))))
-
-pub nsec3_written : (a b c d e f g : List PieceText) (v : Values nsec3) (said : List ℕ) (numbers : Values hash_numbers) (salt hash types : List ℕ)
-    → said ≡ opt_out_comment v.0.0.0.1.0 → numbers ≡ v.0.0.0 → salt ≡ v.0.0.1 → hash ≡ v.0.1 → types ≡ v.1
-    → b ≡ a ++ opens ∷ [] → c ≡ b ++ number_pieces said numbers → d ≡ c ++ salt_pieces salt → e ≡ d ++ token (base32_upper hash) ∷ []
-    → f ≡ e ++ type_pieces (types_of types) → g ≡ f ++ closes ∷ []
-    → g ≡ a ++ nsec3_pieces v
-nsec3_written a b c d e f g v said numbers salt hash types same_said same_numbers same_salt same_hash same_types ab bc cd de ef fg =
-    pieces_before a b g (opens ∷ []) _ ab (pieces_before b c g (number_pieces said numbers) _ bc (pieces_before c d g (salt_pieces salt) _ cd
-    (pieces_before d e g (token (base32_upper hash) ∷ []) _ de (pieces_before e f g (type_pieces (types_of types)) _ ef fg))))
-    ∙ (λ i. a ++ (opens ∷ (number_pieces (same_said i) (same_numbers i) ++ (salt_pieces (same_salt i)
-    ++ (token (base32_upper (same_hash i)) ∷ (type_pieces (types_of (same_types i)) ++ closes ∷ []))))))
+numbers_written a b c d e f said x y z ab bc cd de ef = grind (arith, common_steps)

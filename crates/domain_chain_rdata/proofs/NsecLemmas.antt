@@ -1,13 +1,12 @@
 -- NSEC data on the wire: how they are read
-use Rattle.std.proofs.Common.{◌≡◌, ℕ, true, List, [], ◌++◌, refl, sym, ap, subst, ◌∙◌}
-use Rattle.domain_names.specs.Name.{wire_of}
+use Rattle.std.proofs.Common.{arith, ◌≡◌, ℕ, true, List, [], refl, subst}
+use Rattle.std.proofs.lemmas.Grind.{common_steps}
 use Rattle.domain_names.specs.Fault.{Fault}
 use Rattle.domain_octets.specs.Place.{Place, Takes}
 use Rattle.domain_octets.specs.Words.{AreOctets}
 use Rattle.domain_bitmap.specs.Blocks.{IsBitmap}
 use Rattle.domain_bitmap.specs.Fault.{BitmapFault}
 use Rattle.domain_bitmap.proofs.FaultLemmas.{no_bitmap_fault}
-use Rattle.std.proofs.lemmas.List.{append-nil, append_assoc}
 use Rattle.domain_fields.specs.Field.{spelled_name, rest}
 use Rattle.domain_fields.specs.Layout.{Layout, Values, one, ◌▸◌, Fits, Begins, FirstFault, in_first, ParsesBack, octets_of, is_delimited}
 use Rattle.domain_fields.proofs.ExactLemmas.{parses_back}
@@ -20,14 +19,7 @@ pub name_then_types : (old start between new : Place) (labels : List (List ℕ))
     → Begins (one spelled_name) start.left labels between.left
     → Takes types between new → new.left ≡ [] → IsBitmap between.left → AreOctets types → BeginsNsec old.left (labels, types) new.left
 unfolding octets_of
-name_then_types old start between new labels types from name takes all bitmap small = record {
-  begins = record {
-    parts = sym (ap (λ p. p.left) from) ∙ name.parts ∙ ap (λ o. wire_of labels ++ o) takes.parts ∙ sym (append_assoc (wire_of labels) types new.left);
-    fits = (name.fits, small);
-    ends = (tt, all);
-  };
-  bitmap = subst IsBitmap (takes.parts ∙ ap (λ o. types ++ o) all ∙ append-nil types) bitmap;
-}
+name_then_types old start between new labels types from name takes all bitmap small = grind (arith, common_steps)
 
 -- a name was read, and what was left is no bitmap
 pub name_then_fault : (old start between : Place) (labels : List (List ℕ)) (fault : Fault) → start ≡ old

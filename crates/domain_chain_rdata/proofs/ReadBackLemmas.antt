@@ -1,4 +1,5 @@
 -- what NSEC and NSEC3 data and the parameters of hashes are written as is read back
+use Rattle.std.proofs.lemmas.Grind.{common_steps}
 use Rattle.std.proofs.Common.{◌≡◌, ◌≢◌, ℕ, ◌<◌, All, List, [], ◌∷◌, ◌++◌, map, refl, sym, ap, subst, ◌∙◌, arith, append_assoc}
 use Rattle.std.specs.Fmt.{decimal}
 use Rattle.domain_codecs.specs.Base32.{base32_upper}
@@ -50,33 +51,24 @@ nsec_text_back labels octets valid bitmap =
 pub nsec_text_same : (labels : List (List ℕ)) (octets : List ℕ) → IsName labels → IsBitmap octets → IsShortest octets
     → NsecText (words_of (name_text labels ++ 46 ∷ 32 ∷ [] ++ types_text (types_of octets))) labels octets []
 nsec_text_same labels octets valid bitmap shortest =
-    subst (λ o. NsecText (words_of (name_text labels ++ 46 ∷ 32 ∷ [] ++ types_text (types_of octets))) labels o [])
-    (bitmap_back octets bitmap shortest) (nsec_text_back labels octets valid bitmap)
+    grind (arith, common_steps, nsec_text_back, (bitmap_back octets bitmap shortest), (nsec_text_back labels octets valid bitmap))
 
 -- ---- the parameters of hashes
 
 numbers_words : (v : Values hash_numbers) → Fits hash_numbers v → words_of (hash_numbers_text v) ≡ decimal v.0 ∷ decimal v.1.0 ∷ decimal v.1.1 ∷ []
 unfolding hash_numbers_text
-numbers_words v fits =
-    let first = one_word (decimal v.0) (decimal_word v.0 (omega (arith, fits.0))) in
-    let second = next_word (decimal v.0) (decimal v.1.0) (decimal_word v.1.0 (omega (arith, fits.1.0))) ∙ ap (λ l. l ++ decimal v.1.0 ∷ []) first in
-    next_word (decimal v.0 ++ 32 ∷ [] ++ decimal v.1.0) (decimal v.1.1) (decimal_word v.1.1 (omega (arith, fits.1.1)))
-    ∙ ap (λ l. l ++ decimal v.1.1 ∷ []) second
+numbers_words v fits = grind (arith, common_steps, one_word, decimal_word, next_word)
 
 abbrev params_tokens : Values nsec3param → List (List ℕ)
 params_tokens v = decimal v.0.0 ∷ decimal v.0.1.0 ∷ decimal v.0.1.1 ∷ salt_text v.1 ∷ []
 
 params_words : (v : Values nsec3param) → Fits nsec3param v → words_of (nsec3param_text v) ≡ params_tokens v
-params_words v fits =
-    next_word (hash_numbers_text v.0) (salt_text v.1) (salt_word v.1) ∙ ap (λ l. l ++ salt_text v.1 ∷ []) (numbers_words v.0 fits.0)
+params_words v fits = grind (arith, common_steps, next_word, salt_word, numbers_words)
 
 params_read : (v : Values nsec3param) (after : List (List ℕ)) → Fits nsec3param v → All (λ octet. octet < 256) v.1
     → Nsec3paramText (params_tokens v ++ after) v after
-params_read v after fits small = (
-  salt_text v.1 ∷ after,
-  fields_back hash_numbers v.0 (salt_text v.1 ∷ after) refl fits.0,
-  record { token = salt_text v.1; first = refl; holds = salt_back v.1 small (omega (arith, fits.1.0)) },
-)
+params_read v after fits small =
+    grind (arith, common_steps, salt_back, (fields_back hash_numbers v.0 (salt_text v.1 ∷ after) refl fits.0), (salt_back v.1 small (omega (arith, fits.1.0))))
 
 pub params_text_back : (v : Values nsec3param) → Fits nsec3param v → All (λ octet. octet < 256) v.1 → Nsec3paramText (words_of (nsec3param_text v)) v []
 params_text_back v fits small = subst (λ tokens. Nsec3paramText tokens v []) (sym (params_words v fits)) (params_read v [] fits small)
@@ -85,22 +77,15 @@ params_text_back v fits small = subst (λ tokens. Nsec3paramText tokens v []) (s
 
 hash_read : (v : Values hash_fields) (after : List (List ℕ)) → Fits hash_fields v → All (λ octet. octet < 256) v.0.1
     → All (λ octet. octet < 256) v.1 → HashText (params_tokens v.0 ++ base32_upper v.1 ∷ after) v after
-hash_read v after fits salt_small hash_small = (
-  base32_upper v.1 ∷ after,
-  params_read v.0 (base32_upper v.1 ∷ after) fits.0 salt_small,
-  record { token = base32_upper v.1; first = refl; holds = record { decoded = upper_reads_back v.1 hash_small; counted = omega (arith, fits.1.0) } },
-)
+hash_read v after fits salt_small hash_small =
+    grind (arith, common_steps, (params_read v.0 (base32_upper v.1 ∷ after) fits.0 salt_small), (upper_reads_back v.1 hash_small))
 
 types_read : (octets : List ℕ) → IsBitmap octets → BitmapText (map type_text (types_of octets)) (rebuilt octets) []
 types_read octets bitmap = record { types = types_of octets; spelled = texts_spell (types_of octets) (are_types octets bitmap); built = refl; all = refl }
 
 nsec3_words : (v : Values nsec3) → Fits nsec3 v → v.0.1 ≢ [] → IsBitmap v.1
     → words_of (nsec3_text v) ≡ params_tokens v.0.0 ++ base32_upper v.0.1 ∷ map type_text (types_of v.1)
-nsec3_words v fits some bitmap =
-    let hash = base32_upper v.0.1 in
-    spaced_words (nsec3param_text v.0.0 ++ 32 ∷ [] ++ hash) (types_of v.1) (are_types v.1 bitmap)
-    ∙ ap (λ l. l ++ map type_text (types_of v.1)) (next_word (nsec3param_text v.0.0) hash (upper_base32_word v.0.1 some)
-    ∙ ap (λ l. l ++ hash ∷ []) (params_words v.0.0 fits.0.0))
+nsec3_words v fits some bitmap = grind (arith, common_steps, spaced_words, are_types, next_word, upper_base32_word, params_words)
 
 pub nsec3_text_back : (v : Values nsec3) → Fits nsec3 v → v.0.1 ≢ [] → IsBitmap v.1 → All (λ octet. octet < 256) v.0.0.1
     → All (λ octet. octet < 256) v.0.1 → Nsec3Text (words_of (nsec3_text v)) (v.0, rebuilt v.1) []
@@ -111,5 +96,4 @@ nsec3_text_back v fits some bitmap salt_small hash_small =
 
 pub nsec3_text_same : (v : Values nsec3) → Fits nsec3 v → v.0.1 ≢ [] → IsBitmap v.1 → IsShortest v.1
     → All (λ octet. octet < 256) v.0.0.1 → All (λ octet. octet < 256) v.0.1 → Nsec3Text (words_of (nsec3_text v)) v []
-nsec3_text_same v fits some bitmap shortest salt_small hash_small =
-    subst (λ o. Nsec3Text (words_of (nsec3_text v)) (v.0, o) []) (bitmap_back v.1 bitmap shortest) (nsec3_text_back v fits some bitmap salt_small hash_small)
+nsec3_text_same v fits some bitmap shortest salt_small hash_small = grind (arith, common_steps, bitmap_back, nsec3_text_back)

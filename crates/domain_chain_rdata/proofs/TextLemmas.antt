@@ -1,11 +1,11 @@
 -- The text of NSEC data: tokens spell one at most, and are refused for one reason, spelling none.
-use Rattle.std.proofs.Common.{◌≡◌, ℕ, List, sym, ap, ◌∙◌, subst, Option}
+use Rattle.std.proofs.Common.{arith, ◌≡◌, ℕ, List, subst, Option}
+use Rattle.std.proofs.lemmas.Grind.{common_steps}
 use Rattle.domain_names.specs.TextFault.{ScanFault, IsOfTokens, NameTextFault}
 use Rattle.domain_names.specs.Text.{NameText}
 use Rattle.domain_base.proofs.RefusalLemmas.{token_excludes, token_one_fault, name_excludes, name_one_fault}
 use Rattle.domain_names.proofs.SpellingLemmas.{one_name}
-use Rattle.domain_bitmap.specs.Bitmap.{bitmap_octets}
-use Rattle.domain_bitmap.specs.Scan.{TypeTexts, is_among, RefusesTypes}
+use Rattle.domain_bitmap.specs.Scan.{TypeTexts, RefusesTypes}
 use Rattle.domain_bitmap.proofs.ReadBackLemmas.{spelled_once}
 use Rattle.domain_bitmap.proofs.RefusalLemmas.{types_refused, types_one_fault}
 use Rattle.domain_chain_rdata.specs.NsecText.{NsecText, RefusesNsec, in_name, in_types}
@@ -24,20 +24,15 @@ module _ (names bitmaps : Option ℕ) (old : List (List ℕ)) where
       → IsOfTokens names x → IsOfTokens bitmaps x → IsOfTokens names y → IsOfTokens bitmaps y → (x ≡ y) × (m ≡ n)
   nsec_one_fault m n x y (in_name p) (in_name q) own also own' also' = token_one_fault (NameTextFault names) (name_one_fault names) old m n x y p q
   nsec_one_fault m n x y (in_name p) (in_types labels between takes q) own also own' also' =
-      absurd (token_excludes NameText (NameTextFault names) names (name_excludes names) old m between labels x p takes own)
+      absurd (token_excludes NameText _ names (name_excludes names) old m between labels x p takes own)
   nsec_one_fault m n x y (in_types labels between takes p) (in_name q) own also own' also' =
-      absurd (token_excludes NameText (NameTextFault names) names (name_excludes names) old n between labels y q takes own')
+      absurd (token_excludes NameText _ names (name_excludes names) old n between labels y q takes own')
   nsec_one_fault m n x y (in_types labels between takes p) (in_types others left took q) own also own' also' =
       let same : left ≡ between = (let e = takes.first in let f = took.first in cc) in
       types_one_fault bitmaps between m n x y p (subst (λ t. RefusesTypes bitmaps t n y) same q) also also'
 
 pub nsec_name_once : (old m n : List (List ℕ)) (a b : List (List ℕ)) (x y : List ℕ) → NsecText old a x m → NsecText old b y n → a ≡ b
-nsec_name_once old m n a b x y p q =
-    let same : q.next_name.token ≡ p.next_name.token = (let e = p.next_name.first in let f = q.next_name.first in cc) in
-    one_name p.next_name.token a b p.next_name.holds (subst (λ t. NameText t b) same q.next_name.holds)
+nsec_name_once old m n a b x y p q = grind (arith, common_steps, one_name)
 
 pub nsec_types_once : (old m n : List (List ℕ)) (a b : List (List ℕ)) (x y : List ℕ) → NsecText old a x m → NsecText old b y n → x ≡ y
-nsec_types_once old m n a b x y p q =
-    let same : q.between ≡ p.between = (let e = p.next_name.first in let f = q.next_name.first in cc) in
-    let types : p.types ≡ q.types = spelled_once p.between p.types q.types p.spelled (subst (λ t. TypeTexts t q.types) same q.spelled) in
-    p.built ∙ ap (λ ts. bitmap_octets (is_among ts)) types ∙ sym q.built
+nsec_types_once old m n a b x y p q = grind (arith, common_steps, spelled_once)

@@ -109,6 +109,7 @@ impl<'a, O: Octets> fmt::Display for AfterSpaces<'a, O> {
 
 /// The parameters that a zone should have, as they are written before a hash: SHA-1, with opt-out
 /// or not, no iterations and no salt (RFC 9276, section 3.1).
+#[tactic(auto, using(crate::proofs::Nsec3TextLemmas::usual_text))]
 fn usual_params(numbers: HashNumbers, salt: &[u8]) -> Option<&'static str>
     ensures { IfSome result (λ text. text.now ≡ params_before_hash numbers salt.now) }
 {

@@ -30,6 +30,7 @@ pub fn nsec_parses_back<O: Octets, N: ToName>(value: &Nsec<O, N>)
 
 /// The words of what NSEC data are written as spell the same name and the same types. They spell
 /// the same bitmap too, if its windows ascend strictly and no block ends in a zero octet.
+#[tactic(auto, using(crate::proofs::ReadBackLemmas::nsec_text_back, crate::proofs::ReadBackLemmas::nsec_text_same))]
 pub fn nsec_reads_back<O: Octets, N: ToName>(value: &Nsec<O, N>)
     ensures types { NsecText (words_of (name_text (N.labels value.now.next_name) ++ codes ". "
         ++ types_text (types_of value.now.types))) (N.labels value.now.next_name)

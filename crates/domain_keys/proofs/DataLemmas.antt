@@ -32,8 +32,7 @@ pub same_dnskey : (a b : DnskeyData) (r : Bool) → Fits dnskey (dnskey_values a
     → r ≡ bytes_eq (dnskey_octets a) (dnskey_octets b) → IsTrue r ↔ (a ≡ b)
 same_dnskey a b r fits_a fits_b limit_a limit_b is = (
   λ yes. ap (λ v. record { flags = v.0; protocol = v.1.0; algorithm = v.1.1.0; public_key = v.1.1.1.1 })
-      (same_values dnskey (dnskey_values a) (dnskey_values b) refl fits_a fits_b (ends_of_octets (dnskey_values a) limit_a)
-      (ends_of_octets (dnskey_values b) limit_b)
+      (same_values dnskey _ _ refl fits_a fits_b (ends_of_octets (dnskey_values a) limit_a) (ends_of_octets (dnskey_values b) limit_b)
       ((bytes_decides (dnskey_octets a) (dnskey_octets b)).0 (sym is ∙ yes))),
   λ same. is ∙ (bytes_decides (dnskey_octets a) (dnskey_octets b)).1 (ap dnskey_octets same),
 )
@@ -42,7 +41,7 @@ pub same_ds : (a b : DsData) (r : Bool) → Fits ds (ds_values a) → Fits ds (d
     → r ≡ bytes_eq (ds_octets a) (ds_octets b) → IsTrue r ↔ (a ≡ b)
 same_ds a b r fits_a fits_b limit_a limit_b is = (
   λ yes. ap (λ v. record { key_tag = v.0; algorithm = v.1.0; digest_type = v.1.1.0; digest = v.1.1.1.1 })
-      (same_values ds (ds_values a) (ds_values b) refl fits_a fits_b (ends_of_octets (ds_values a) limit_a) (ends_of_octets (ds_values b) limit_b)
+      (same_values ds _ _ refl fits_a fits_b (ends_of_octets (ds_values a) limit_a) (ends_of_octets (ds_values b) limit_b)
       ((bytes_decides (ds_octets a) (ds_octets b)).0 (sym is ∙ yes))),
   λ same. is ∙ (bytes_decides (ds_octets a) (ds_octets b)).1 (ap ds_octets same),
 )

@@ -1,5 +1,6 @@
 -- the pieces of keys and of digests, written one after another
-use Rattle.std.proofs.Common.{◌≡◌, ℕ, List, [], ◌∷◌, ◌++◌}
+use Rattle.std.proofs.Common.{arith, ◌≡◌, ℕ, List, [], ◌∷◌, ◌++◌}
+use Rattle.std.proofs.lemmas.Grind.{common_steps}
 use Rattle.std.specs.Prelude.{codes}
 use Rattle.std.specs.Fmt.{decimal}
 use Rattle.hex.specs.Hex.{encode_upper}
@@ -35,8 +36,4 @@ pub ds_written : (a b c d e f g h : List PieceText) (ds : DsData) (key_tag algor
     → f ≡ e ++ token (decimal digest_type) ∷ [] → g ≡ f ++ token (encode_upper octets) ∷ [] → h ≡ g ++ closes ∷ []
     → h ≡ a ++ ds_pieces ds
 ds_written a b c d e f g h ds key_tag algorithm digest_type octets same_tag same_algorithm same_type same_digest ab bc cd de ef fg gh =
-    let all : h ≡ a ++ (opens ∷ token (decimal key_tag) ∷ comment (codes "key tag") ∷ token (decimal algorithm) ∷ token
-    (decimal digest_type) ∷ token (encode_upper octets) ∷ closes ∷ []) =
-    piece_before a b h _ _ ab (piece_before b c h _ _ bc (piece_before c d h _ _ cd
-    (piece_before d e h _ _ de (piece_before e f h _ _ ef (piece_before f g h _ _ fg gh))))) in
-    cc
+    grind (arith, common_steps)

@@ -1,12 +1,9 @@
 -- what keys and digests are written as is read back
-use Rattle.std.proofs.Common.{ℕ, ◌<◌, ◌≤◌, All, List, [], ◌∷◌, ◌++◌, length, refl, sym, ap, subst, ◌∙◌, arith}
+use Rattle.std.proofs.Common.{ap, subst, sym, ◌∙◌, ℕ, ◌<◌, ◌≤◌, All, List, [], ◌∷◌, ◌++◌, length, refl, arith}
+use Rattle.std.proofs.lemmas.Grind.{common_steps}
 use Rattle.std.specs.Prelude.{◌^◌}
 use Rattle.std.specs.Fmt.{decimal}
-use Rattle.base64.specs.GeneralPurpose.{encode_of}
-use Rattle.base64.specs.Engines.{standard}
-use Rattle.hex.specs.Hex.{encode_lower}
 use Rattle.domain_codecs.specs.declared.codec.Codec.{Codec}
-use Rattle.domain_codecs.specs.declared.codec.Codec.TheVariants.{Base16, Base64}
 use Rattle.domain_codecs.specs.Codec.{Decodes}
 use Rattle.domain_octets.specs.Line.{words_of, word_if_any, HasNoSpace}
 use Rattle.domain_codecs.proofs.CodecBackLemmas.{lower_back, base64_back}
@@ -34,16 +31,7 @@ numbers_and_text codec x y z text octets x_small y_small z_small plain decoded =
 
 pub dnskey_text_back : (d : DnskeyData) → Fits dnskey (dnskey_values d) → length d.public_key ≤ 65531
     → All (λ octet. octet < 256) d.public_key → DnskeyText (words_of (dnskey_text d)) d
-dnskey_text_back d fits few small = record {
-  spelled = numbers_and_text Base64 d.flags d.protocol d.algorithm
-      (encode_of standard d.public_key) d.public_key fits.0 fits.1.0 fits.1.1.0 (base64_plain d.public_key)
-      (base64_back d.public_key small);
-  fits = few;
-}
+dnskey_text_back d fits few small = grind (arith, common_steps, numbers_and_text, base64_plain, base64_back)
 
 pub ds_text_back : (d : DsData) → Fits ds (ds_values d) → length d.digest ≤ 65531 → All (λ octet. octet < 256) d.digest → DsText (words_of (ds_text d)) d
-ds_text_back d fits few small = record {
-  spelled = numbers_and_text Base16 d.key_tag d.algorithm d.digest_type
-      (encode_lower d.digest) d.digest fits.0 fits.1.0 fits.1.1.0 (lower_hex_plain d.digest) (lower_back d.digest small);
-  fits = few;
-}
+ds_text_back d fits few small = grind (arith, common_steps, numbers_and_text, lower_hex_plain, lower_back)

@@ -1,9 +1,10 @@
 -- The texts of keys and of digests: tokens spell one at most, and none where they are refused.
+use Rattle.std.proofs.lemmas.Grind.{common_steps}
 use Rattle.std.proofs.Common.{◌≡◌, ℕ, ◌<◌, List, length, arith, Option}
-use Rattle.domain_codecs.specs.declared.codec.Codec.TheVariants.{Base16, Base64}
+use Rattle.domain_codecs.specs.declared.codec.Codec.TheVariants.{Base64}
 use Rattle.domain_names.specs.TextFault.{ScanFault, IsOfTokens}
 use Rattle.domain_fields.specs.Scan.{Scans, Refuses}
-use Rattle.domain_fields.proofs.GrammarLemmas.{fields_once, fields_refused, fields_one_fault, same_fields, same_octets, entry_refused, entry_refused_once}
+use Rattle.domain_fields.proofs.GrammarLemmas.{fields_once, fields_refused, fields_one_fault, entry_refused, entry_refused_once}
 use Rattle.domain_keys.specs.Data.{DnskeyData, DsData}
 use Rattle.domain_keys.specs.Scan.{three_numbers, DnskeyText, RefusesDnskey, DsText, RefusesDs}
 
@@ -13,17 +14,14 @@ Long fields octets = 65531 < length octets
 
 -- keys
 pub dnskey_once : (old : List (List ℕ)) (d e : DnskeyData) → DnskeyText old d → DnskeyText old e → d ≡ e
-dnskey_once old d e x y =
-    let numbers = same_fields (Scans three_numbers) (fields_once three_numbers) Base64 old _ _ d.public_key e.public_key x.spelled y.spelled in
-    let octets = same_octets (Scans three_numbers) (fields_once three_numbers) Base64 old _ _ d.public_key e.public_key x.spelled y.spelled in
-    λ i. record { flags = (numbers i).0; protocol = (numbers i).1.0; algorithm = (numbers i).1.1; public_key = octets i }
+dnskey_once old d e x y = grind (arith, common_steps)
 
 pub refused_dnskey : (limit : Option ℕ) (old new : List (List ℕ)) (fault : ScanFault) (d : DnskeyData)
     → RefusesDnskey limit old new fault → IsOfTokens limit fault → DnskeyText old d → ⊥
 refused_dnskey limit old new fault d why own text =
-    entry_refused limit (Scans three_numbers) (Refuses limit three_numbers) (fields_once three_numbers)
-    (fields_refused limit three_numbers) Long Base64 old new fault own
-    (d.flags, (d.protocol, d.algorithm)) d.public_key text.spelled (λ many. omega (arith, many, text.fits)) why
+    entry_refused limit (Scans three_numbers) _ (fields_once three_numbers)
+    (fields_refused limit three_numbers) Long Base64 old new fault own _ d.public_key text.spelled (λ many. omega (arith, many, text.fits))
+    why
 
 pub dnskey_one_fault : (limit : Option ℕ) (old m n : List (List ℕ)) (x y : ScanFault) → RefusesDnskey limit old m x
     → RefusesDnskey limit old n y → IsOfTokens limit x → IsOfTokens limit y → x ≡ y
@@ -33,20 +31,12 @@ dnskey_one_fault limit old m n x y p q own also =
 
 -- digests
 pub ds_once : (old : List (List ℕ)) (d e : DsData) → DsText old d → DsText old e → d ≡ e
-ds_once old d e x y =
-    let numbers = same_fields (Scans three_numbers) (fields_once three_numbers) Base16 old _ _ d.digest e.digest x.spelled y.spelled in
-    let octets = same_octets (Scans three_numbers) (fields_once three_numbers) Base16 old _ _ d.digest e.digest x.spelled y.spelled in
-    λ i. record { key_tag = (numbers i).0; algorithm = (numbers i).1.0; digest_type = (numbers i).1.1; digest = octets i }
+ds_once old d e x y = grind (arith, common_steps)
 
 pub refused_ds : (limit : Option ℕ) (old new : List (List ℕ)) (fault : ScanFault) (d : DsData) → RefusesDs limit old new fault
     → IsOfTokens limit fault → DsText old d → ⊥
-refused_ds limit old new fault d why own text =
-    entry_refused limit (Scans three_numbers) (Refuses limit three_numbers) (fields_once three_numbers)
-    (fields_refused limit three_numbers) Long Base16 old new fault own
-    (d.key_tag, (d.algorithm, d.digest_type)) d.digest text.spelled (λ many. omega (arith, many, text.fits)) why
+refused_ds limit old new fault d why own text = grind (arith, common_steps)
 
 pub ds_one_fault : (limit : Option ℕ) (old m n : List (List ℕ)) (x y : ScanFault) → RefusesDs limit old m x
     → RefusesDs limit old n y → IsOfTokens limit x → IsOfTokens limit y → x ≡ y
-ds_one_fault limit old m n x y p q own also =
-    entry_refused_once limit (Scans three_numbers) (Refuses limit three_numbers) (fields_once three_numbers)
-    (fields_refused limit three_numbers) Long Base16 (fields_one_fault limit three_numbers) old m n x y p q own also
+ds_one_fault limit old m n x y p q own also = grind (arith, common_steps)

@@ -1,5 +1,6 @@
 -- what data are written as is read back
-use Rattle.std.proofs.Common.{◌≡◌, ◌≢◌, ℕ, ◌<◌, ◌≤◌, false, All, List, [], ◌∷◌, ◌++◌, length, codes, refl, sym, ap, subst, ◌∙◌, arith, append_assoc}
+use Rattle.std.proofs.lemmas.Grind.{common_steps}
+use Rattle.std.proofs.Common.{◌≡◌, ◌≢◌, ℕ, ◌<◌, ◌≤◌, false, All, List, [], ◌∷◌, ◌++◌, length, refl, sym, ap, subst, ◌∙◌, arith, append_assoc}
 use Rattle.std.specs.Prelude.{◌^◌, ◌==◌, slice_index}
 use Rattle.std.specs.Fmt.{decimal}
 use Rattle.std.specs.Net.Text.{ipv4_text, dotted_text}
@@ -11,7 +12,7 @@ use Rattle.domain_codecs.specs.declared.codec.Codec.TheVariants.{Base16}
 use Rattle.domain_octets.specs.Line.{words_of, IsWord}
 use Rattle.domain_codecs.proofs.CodecBackLemmas.{upper_back}
 use Rattle.domain_codecs.proofs.NoSpaceLemmas.{upper_hex_word}
-use Rattle.domain_octets.proofs.WordLemmas.{one_word, first_word, next_word, no_space-append, decimal_word}
+use Rattle.domain_octets.proofs.WordLemmas.{one_word, first_word, next_word, decimal_word}
 use Rattle.domain_names.specs.Name.{IsName}
 use Rattle.domain_names.specs.Text.{name_text}
 use Rattle.domain_base.proofs.ReadBackLemmas.{number_back, name_word}
@@ -28,27 +29,10 @@ some_after (c ∷ front) text some = λ none. cc
 -- ---- addresses
 
 dotted_word : (w x y z : ℕ) → w < 256 → x < 256 → y < 256 → z < 256 → IsWord (dotted_text w x y z)
-dotted_word w x y z w_small x_small y_small z_small =
-    let first = decimal_word w (omega (arith, w_small)) in
-    let second = decimal_word x (omega (arith, x_small)) in
-    let third = decimal_word y (omega (arith, y_small)) in
-    let last = decimal_word z (omega (arith, z_small)) in
-    record {
-      some = some_after (decimal w ++ codes "." ++ decimal x ++ codes "." ++ decimal y ++ codes ".") (decimal z) last.some;
-      unbroken = no_space-append (decimal w ++ codes "." ++ decimal x ++ codes "." ++ decimal y ++ codes ".") (decimal z)
-          (no_space-append (decimal w ++ codes "." ++ decimal x ++ codes "." ++ decimal y) (codes ".")
-          (no_space-append (decimal w ++ codes "." ++ decimal x ++ codes ".") (decimal y)
-          (no_space-append (decimal w ++ codes "." ++ decimal x) (codes ".")
-          (no_space-append (decimal w ++ codes ".") (decimal x)
-          (no_space-append (decimal w) (codes ".") first.unbroken (refl, tt)) second.unbroken) (refl, tt)) third.unbroken) (refl, tt)) last.unbroken;
-    }
+dotted_word w x y z w_small x_small y_small z_small = grind (arith, common_steps, decimal_word, some_after)
 
 four_back : (w x y z : ℕ) → w < 256 → x < 256 → y < 256 → z < 256 → Scans a (words_of (dotted_text w x y z)) (w ∷ x ∷ y ∷ z ∷ []) []
-four_back w x y z w_small x_small y_small z_small = record {
-  token = dotted_text w x y z;
-  first = one_word (dotted_text w x y z) (dotted_word w x y z w_small x_small y_small z_small);
-  holds = (record { a = w; b = x; c = y; d = z; fit = (w_small, x_small, y_small, z_small); value = refl; spelled = refl }, refl);
-}
+four_back w x y z w_small x_small y_small z_small = grind (arith, common_steps, one_word, dotted_word)
 
 pub a_back : (octets : List ℕ) → length octets ≡ 4 → slice_index octets 0 < 256 → slice_index octets 1 < 256
     → slice_index octets 2 < 256 → slice_index octets 3 < 256 → Scans a (words_of (ipv4_text octets)) octets []
@@ -69,11 +53,8 @@ pub mx_back : (n : ℕ) (labels : List (List ℕ)) → n < 2 ^ 16 → IsName lab
     → Scans mx (words_of (decimal n ++ 32 ∷ [] ++ name_text labels ++ 46 ∷ [])) (n, labels) []
 mx_back n labels small valid =
     let number = decimal_word n (omega (arith, small)) in
-    fields_alone mx (n, labels) (words_of (decimal n ++ 32 ∷ [] ++ name_text labels ++ 46 ∷ []))
-    (ap words_of (append_assoc (decimal n ++ 32 ∷ []) (name_text labels) (46 ∷ []))
-    ∙ next_word (decimal n) (name_text labels ++ 46 ∷ []) (name_word labels valid)
-    ∙ ap (λ l. l ++ (name_text labels ++ 46 ∷ []) ∷ []) (one_word (decimal n) number))
-    refl (small, valid)
+    fields_alone mx _ _ (ap words_of (append_assoc (decimal n ++ 32 ∷ []) (name_text labels) (46 ∷ []))
+    ∙ next_word _ _ (name_word labels valid) ∙ ap (λ l. l ++ (name_text labels ++ 46 ∷ []) ∷ []) (one_word _ number)) refl (small, valid)
 
 pub soa_back : (m r : List (List ℕ)) (serial refresh retry expire minimum : ℕ) → IsName m → IsName r → serial < 2 ^ 32
     → refresh < 2 ^ 32 → retry < 2 ^ 32 → expire < 2 ^ 32 → minimum < 2 ^ 32
@@ -82,20 +63,14 @@ pub soa_back : (m r : List (List ℕ)) (serial refresh retry expire minimum : �
     ++ 32 ∷ (decimal expire ++ 32 ∷ decimal minimum)))))))
     ((m, r), ((serial, (refresh, retry)), (expire, minimum))) []
 soa_back m r serial refresh retry expire minimum m_valid r_valid a_small b_small c_small d_small e_small =
-    let fifth = one_word (decimal minimum) (decimal_word minimum (omega (arith, e_small))) in
-    let fourth = first_word (decimal expire) (decimal minimum) (decimal_word expire (omega (arith, d_small))) ∙ ap (λ l. decimal expire ∷ l) fifth in
-    let third = first_word (decimal retry) (decimal expire ++ 32 ∷ decimal minimum) (decimal_word retry (omega (arith, c_small)))
-    ∙ ap (λ l. decimal retry ∷ l) fourth in
-    let second = first_word (decimal refresh) (decimal retry ++ 32 ∷ (decimal expire ++ 32 ∷ decimal minimum))
-    (decimal_word refresh (omega (arith, b_small))) ∙ ap (λ l. decimal refresh ∷ l) third in
-    let numbers = first_word (decimal serial) (decimal refresh
-    ++ 32 ∷ (decimal retry ++ 32 ∷ (decimal expire ++ 32 ∷ decimal minimum))) (decimal_word serial (omega (arith, a_small)))
-    ∙ ap (λ l. decimal serial ∷ l) second in
+    let fifth = one_word _ (decimal_word minimum (omega (arith, e_small))) in
+    let fourth = first_word _ _ (decimal_word expire (omega (arith, d_small))) ∙ ap (λ l. decimal expire ∷ l) fifth in
+    let third = first_word _ _ (decimal_word retry (omega (arith, c_small))) ∙ ap (λ l. decimal retry ∷ l) fourth in
+    let second = first_word _ _ (decimal_word refresh (omega (arith, b_small))) ∙ ap (λ l. decimal refresh ∷ l) third in
+    let numbers = first_word _ _ (decimal_word serial (omega (arith, a_small))) ∙ ap (λ l. decimal serial ∷ l) second in
     let after = decimal serial ++ 32 ∷ (decimal refresh ++ 32 ∷ (decimal retry ++ 32 ∷ (decimal expire ++ 32 ∷ decimal minimum))) in
-    let names = first_word (name_text r ++ 46 ∷ []) after (name_word r r_valid) ∙ ap (λ l. (name_text r ++ 46 ∷ []) ∷ l) numbers in
-    fields_alone soa ((m, r), ((serial, (refresh, retry)), (expire, minimum)))
-    (words_of ((name_text m ++ 46 ∷ []) ++ 32 ∷ ((name_text r ++ 46 ∷ []) ++ 32 ∷ after)))
-    (first_word (name_text m ++ 46 ∷ []) ((name_text r ++ 46 ∷ []) ++ 32 ∷ after) (name_word m m_valid) ∙ ap (λ l. (name_text m ++ 46 ∷ []) ∷ l) names)
+    let names = first_word _ after (name_word r r_valid) ∙ ap (λ l. (name_text r ++ 46 ∷ []) ∷ l) numbers in
+    fields_alone soa _ _ (first_word _ _ (name_word m m_valid) ∙ ap (λ l. (name_text m ++ 46 ∷ []) ∷ l) names)
     refl ((m_valid, r_valid), ((a_small, (b_small, c_small)), (d_small, e_small)))
 
 -- ---- the generic form
@@ -111,8 +86,8 @@ pub generic_back : (octets : List ℕ) → All (λ octet. octet < 256) octets �
 generic_back [] small fits = record {
   count = decimal 0;
   digits = [];
-  parts = ap words_of (append-nil (generic_mark ++ 32 ∷ decimal 0)) ∙ first_word generic_mark (decimal 0) mark_word
-      ∙ ap (λ l. generic_mark ∷ l) (one_word (decimal 0) (decimal_word 0 (omega arith)));
+  parts = ap words_of (append-nil _) ∙ first_word generic_mark _ mark_word
+      ∙ ap (λ l. generic_mark ∷ l) (one_word _ (decimal_word 0 (omega arith)));
   counted = number_back 16 0 (omega arith) (omega arith);
   decoded = subst (λ t. Decodes Base16 t []) none_written (upper_back [] small);
 }
@@ -123,9 +98,9 @@ generic_back (octet ∷ octets) small fits =
     record {
       count = decimal n;
       digits = text ∷ [];
-      parts = rw some (ap words_of (append_assoc generic_mark (32 ∷ decimal n) (32 ∷ text)) ∙ first_word generic_mark (decimal n ++ 32 ∷ text) mark_word
-          ∙ ap (λ l. generic_mark ∷ l) (first_word (decimal n) text (decimal_word n (omega (arith, fits)))
-          ∙ ap (λ l. decimal n ∷ l) (one_word text (upper_hex_word (octet ∷ octets) (λ none. cc)))));
+      parts = rw some (ap words_of (append_assoc generic_mark (32 ∷ decimal n) (32 ∷ text)) ∙ first_word generic_mark _ mark_word
+          ∙ ap (λ l. generic_mark ∷ l) (first_word _ text (decimal_word n (omega (arith, fits)))
+          ∙ ap (λ l. decimal n ∷ l) (one_word text (upper_hex_word _ (λ none. cc)))));
       counted = number_back 16 n (omega (arith, fits)) (omega (arith, fits));
       decoded = subst (λ t. Decodes Base16 t (octet ∷ octets)) (sym (append-nil text)) (upper_back (octet ∷ octets) small);
     }

@@ -1,8 +1,7 @@
 -- what data are written as does not begin with the mark of the generic form
+use Rattle.std.proofs.lemmas.Grind.{common_steps}
 use Rattle.std.proofs.Common.{◌≡◌, ℕ, ◌<◌, All, List, [], ◌∷◌, ◌++◌, length, refl, sym, ap, subst, ◌∙◌, arith, append_assoc, length-append}
 use Rattle.std.specs.Prelude.{IfSome, slice_index}
-use Rattle.std.specs.Char.{to_ascii_lowercase}
-use Rattle.std.proofs.lemmas.List.{length-map}
 use Rattle.domain_octets.specs.Line.{words_of}
 use Rattle.domain_octets.proofs.WordLemmas.{one_word, first_word}
 use Rattle.domain_base.specs.Types as rtypes
@@ -36,8 +35,7 @@ no_number bits n number = omega (arith, number.digits.1.0)
 
 no_type : (n : ℕ) → TypeText generic_mark n → ⊥
 no_type n (by_name text m is) = let e = is in cc
-no_type n (by_number text digits m none has number) =
-    omega (arith, ap length has.parts, length-append has.front digits, ap length has.same, length-map has.front to_ascii_lowercase)
+no_type n (by_number text digits m none has number) = grind (arith, common_steps, (length-append has.front digits))
 
 no_dotted : (text : List ℕ) → text ++ 46 ∷ [] ≡ generic_mark → ⊥
 no_dotted [] same = omega (arith, ap length same)
@@ -51,25 +49,16 @@ first_of (token ∷ tokens) = token
 -- ---- tokens that begin with such texts
 
 mark_first : {P : List ℕ → Type 0} (old new : List (List ℕ)) → TakesToken P old new → IsGeneric old → P generic_mark
-mark_first {P} old new takes marked =
-    let both : takes.token ∷ new ≡ generic_mark ∷ marked.0 = sym takes.first ∙ marked.1 in
-    let same : takes.token ≡ generic_mark = ap first_of both in
-    subst P same takes.holds
+mark_first {P} old new takes marked = grind (arith, common_steps)
 
 pub type_first : (n : ℕ) (old new : List (List ℕ)) → TakesToken (λ text. TypeText text n) old new → IsGeneric old → ⊥
 type_first n old new takes marked = no_type n (mark_first old new takes marked)
 
 pub name_alone : (labels : List (List ℕ)) → IsName labels → IsGeneric (words_of (name_text labels ++ 46 ∷ [])) → ⊥
-name_alone labels valid marked =
-    let both : (name_text labels ++ 46 ∷ []) ∷ [] ≡ generic_mark ∷ marked.0 =
-    sym (one_word (name_text labels ++ 46 ∷ []) (name_word labels valid)) ∙ marked.1 in
-    no_dotted (name_text labels) (ap first_of both)
+name_alone labels valid marked = grind (arith, common_steps, one_word, name_word, no_dotted)
 
 pub name_first : (labels : List (List ℕ)) (rest : List ℕ) → IsName labels → IsGeneric (words_of ((name_text labels ++ 46 ∷ []) ++ 32 ∷ rest)) → ⊥
-name_first labels rest valid marked =
-    let both : (name_text labels ++ 46 ∷ []) ∷ words_of rest
-    ≡ generic_mark ∷ marked.0 = sym (first_word (name_text labels ++ 46 ∷ []) rest (name_word labels valid)) ∙ marked.1 in
-    no_dotted (name_text labels) (ap first_of both)
+name_first labels rest valid marked = grind (arith, common_steps, first_word, name_word, no_dotted)
 
 -- ---- data in their own form, or in the generic one
 
@@ -88,7 +77,7 @@ module _ {O N : Type 0} (octets : O → List ℕ) (labels : N → List (List ℕ
   pub nsec_first : (name : List (List ℕ)) (types : List ℕ) → IsName name → IsGeneric (words_of (name_text name ++ 46 ∷ 32 ∷ [] ++ types)) → ⊥
   nsec_first name types valid marked =
       let parts : name_text name ++ 46 ∷ 32 ∷ [] ++ types ≡ (name_text name ++ 46 ∷ []) ++ 32 ∷ types =
-      ap (λ l. l ++ types) (sym (append_assoc (name_text name) (46 ∷ []) (32 ∷ []))) ∙ append_assoc (name_text name ++ 46 ∷ []) (32 ∷ []) types in
+      ap (λ l. l ++ types) (sym (append_assoc (name_text name) (46 ∷ []) (32 ∷ []))) ∙ append_assoc _ (32 ∷ []) types in
       name_first name types valid (subst (λ t. IsGeneric (words_of t)) parts marked)
 
   pub unknown_back : (d : UnknownData O) → All (λ octet. octet < 256) (octets d.«data»)

@@ -1,13 +1,10 @@
 -- Tokens that are refused as the data of a type spell no data of that type, and tokens spell data of a type in one way at most.
-use Rattle.std.proofs.Common.{◌≡◌, ℕ, List, [], ◌∷◌, refl, sym, ap, ◌∙◌, subst, Option, Some, None, length}
+use Rattle.std.proofs.Common.{arith, ◌≡◌, ℕ, List, [], ◌∷◌, refl, sym, ap, ◌∙◌, subst, Option, Some, None}
+use Rattle.std.proofs.lemmas.Grind.{common_steps}
 use Rattle.std.proofs.lemmas.List.{append-nil}
 use Rattle.std.specs.Prelude.{Result, Ok, Err, IfOk, IfErr}
 use Rattle.domain_names.specs.declared.error.ScanError.{ScanError}
-use Rattle.std.specs.List.{concat}
-use Rattle.domain_codecs.specs.Codec.{Decodes}
-use Rattle.domain_codecs.specs.declared.codec.Codec.TheVariants.{Base16}
-use Rattle.domain_names.specs.TextFault.{ScanFault, entry_ends, illegal, no_room, no_memory, IsOfTokens, scan_fault_of}
-use Rattle.domain_base.proofs.RefusalLemmas.{over_none}
+use Rattle.domain_names.specs.TextFault.{ScanFault, IsOfTokens, scan_fault_of}
 use Rattle.domain_plain.specs.Generic.{GenericText, GenericFault}
 use Rattle.domain_fields.specs.Layout.{Values, octets_of}
 use Rattle.domain_plain.proofs.GenericLemmas.{refused_is_no_text}
@@ -32,9 +29,7 @@ kind_once key old m n v w p q = (p.1 ∙ sym q.1, ap dnskey_values (dnskey_once 
 kind_once digest old m n v w p q = (p.1 ∙ sym q.1, ap ds_values (ds_once old (ds_of v) (ds_of w) p.0 q.0))
 kind_once signature old m n v w p q = (p.1 ∙ sym q.1, ap rrsig_values (rrsig_once old (rrsig_of v) (rrsig_of w) p.0 q.0))
 kind_once next_by_name old m n v w p q =
-    let names = nsec_name_once old m n v.0 w.0 v.1 w.1 p q in
-    let types = nsec_types_once old m n v.0 w.0 v.1 w.1 p q in
-    (p.all ∙ sym q.all, λ i. (names i, types i))
+    grind (arith, common_steps, (nsec_name_once old m n v.0 w.0 v.1 w.1 p q), (nsec_types_once old m n v.0 w.0 v.1 w.1 p q))
 kind_once next_by_hash old m n v w p q = (nsec3_once.left old m n v w p q, nsec3_once.value old m n v w p q)
 kind_once params old m n v w p q = (params_once.left old m n v w p q, params_once.value old m n v w p q)
 
@@ -66,8 +61,7 @@ way_of rtype old new (mere o) is h = absurd h
 
 module _ {O N : Type 0} (octets : O → List ℕ) (labels : N → List (List ℕ)) (rtype : ℕ) (old new : List (List ℕ)) where
   pub way : (d : ZoneRecordData O N) → OwnText octets labels rtype old d new → Way rtype old new (wire_octets octets labels d)
-  way d h = way_of rtype old new (content_of octets labels d)
-      (subst (λ t. IsOfKind (kind_of t) (content_of octets labels d)) (sym h.0) (of_kind octets labels d)) h.1
+  way d h = way_of rtype old new _ (subst (λ t. IsOfKind (kind_of t) (content_of octets labels d)) (sym h.0) (of_kind octets labels d)) h.1
 
 -- a type is of one kind
 one_kind : (known : Option Kind) (k j : Kind) → known ≡ Some k → known ≡ Some j → k ≡ j
@@ -85,7 +79,7 @@ one_way rtype old m n x y p q =
 own_refused : (limit : Option ℕ) (rtype : ℕ) (old new after : List (List ℕ)) (wire : List ℕ) (fault : ScanFault)
     → RefusesOwn limit rtype old new fault → IsOfTokens limit fault → Way rtype old after wire → ⊥
 own_refused limit rtype old new after wire fault (at_field kind is why) alone way =
-    let same = one_kind (kind_of rtype) kind way.kind is way.is in
+    let same = one_kind _ kind _ is way.is in
     kind_refused way.kind limit old new after way.reads.0 fault (subst (λ k. RefusesKind limit k old new fault) same why) way.reads.1 alone
 own_refused limit rtype old new after wire fault (no_form none said all) alone way = let e = sym way.is ∙ none in cc
 
@@ -93,15 +87,6 @@ own_refused limit rtype old new after wire fault (no_form none said all) alone w
 abbrev pub AreOf : Option Kind → List ℕ → Type 0
 AreOf None wire = Unit {0}
 AreOf (Some kind) wire = AreOfKind kind wire
-
--- octets that are refused, but for want of room or memory, are no data
-octets_refused : (limit : Option ℕ) (known : Option Kind) (wire : List ℕ) (fault : ScanFault) → OctetsFault limit known wire fault
-    → IsOfTokens limit fault → AreOf known wire → ⊥
-octets_refused limit None wire fault why alone are = why
-octets_refused limit (Some kind) wire entry_ends why alone are = why
-octets_refused limit (Some kind) wire (illegal said) why alone are = why.1 are
-octets_refused limit (Some kind) wire no_room why alone are = over_none limit (length why.0) why.2 alone
-octets_refused limit (Some kind) wire no_memory why alone are = alone
 
 -- octets that are values of a kind are their octets
 fields_are : (k : Kind) (wire : List ℕ) (v : Values (layout_of k)) → AreFields k wire v → octets_of (layout_of k) v ≡ wire
@@ -115,12 +100,7 @@ fields_are params wire v h = sym (h.parts ∙ append-nil _)
 
 content_is : (rtype : ℕ) (wire : List ℕ) (c : Content) → AreContent rtype wire c → content_octets c ≡ wire
 unfolding octets_of
-content_is rtype wire (fields k v) h = fields_are k wire v h
-content_is rtype wire (mere o) h = h.1
-
-content_of_kind : (rtype : ℕ) (wire : List ℕ) (c : Content) → IsOfKind (kind_of rtype) c → AreContent rtype wire c → AreOf (kind_of rtype) wire
-content_of_kind rtype wire (fields k v) is h = subst (λ k. AreOf k wire) (sym is) (v, h)
-content_of_kind rtype wire (mere o) is h = subst (λ k. AreOf k wire) (sym h.0) tt
+content_is rtype wire c h = grind (arith, common_steps, fields_are)
 
 module _ {O N : Type 0} (octets : O → List ℕ) (labels : N → List (List ℕ)) (rtype : ℕ) (wire : List ℕ) (d : ZoneRecordData O N)
     (are : AreData octets labels rtype wire d) where
@@ -130,36 +110,21 @@ module _ {O N : Type 0} (octets : O → List ℕ) (labels : N → List (List ℕ
 
   -- they are of the kind of the type
   pub are_of : AreOf (kind_of rtype) wire
-  are_of = content_of_kind rtype wire (content_of octets labels d)
-      (subst (λ t. IsOfKind (kind_of t) (content_of octets labels d)) (sym are.0) (of_kind octets labels d)) are.1
+  are_of = grind (arith, common_steps)
 
 -- generic text
 generic_begins : (tokens : List (List ℕ)) (wire : List ℕ) → GenericText tokens wire → IsGeneric tokens
 generic_begins tokens wire text = (text.count ∷ text.digits, text.parts)
 
-generic_once : (tokens : List (List ℕ)) (x y : List ℕ) → GenericText tokens x → GenericText tokens y → x ≡ y
-generic_once tokens x y p q =
-    let same : q.digits ≡ p.digits = (let e = p.parts in let f = q.parts in cc) in
-    let again : Decodes Base16 (concat p.digits) y = subst (λ t. Decodes Base16 (concat t) y) same q.decoded in
-    let first = p.decoded in
-    cc
-
 module _ {O N : Type 0} (octets : O → List ℕ) (labels : N → List (List ℕ)) (rtype : ℕ) (old : List (List ℕ)) where
   own_excludes : (IsGeneric old → ⊥) → ((d : ZoneRecordData O N) (after : List (List ℕ)) → OwnText octets labels rtype old d after → ⊥)
       → (d : ZoneRecordData O N) (after : List (List ℕ)) → RdataText octets labels rtype old d after → ⊥
-  own_excludes unmarked none d after (own other text) = none d after text
-  own_excludes unmarked none d after (generic wire text are all) = unmarked (generic_begins old wire text)
+  own_excludes unmarked none d after h = grind (arith, common_steps)
 
   mark_excludes : (limit : Option ℕ) (new : List (List ℕ)) (fault : ScanFault) → IsGeneric old → GenericFault limit old new fault → IsOfTokens limit fault
       → (d : ZoneRecordData O N) (after : List (List ℕ)) → RdataText octets labels rtype old d after → ⊥
   mark_excludes limit new fault marked why known d after (own other text) = other marked
   mark_excludes limit new fault marked why known d after (generic wire text are all) = refused_is_no_text limit old new fault wire why text known
-
-  octets_exclude : (wire : List ℕ) → GenericText old wire → ((d : ZoneRecordData O N) → AreData octets labels rtype wire d → ⊥)
-      → (d : ZoneRecordData O N) (after : List (List ℕ)) → RdataText octets labels rtype old d after → ⊥
-  octets_exclude wire is none d after (own other text) = other (generic_begins old wire is)
-  octets_exclude wire is none d after (generic wire' text are all) =
-      none d (subst (λ w. AreData octets labels rtype w d) (generic_once old wire' wire text is) are)
 
   -- what is refused, but for want of room or memory, spells no data of the type
   pub none_spelled : (limit : Option ℕ) (new : List (List ℕ)) (fault : ScanFault) → RefusesRdata limit rtype old new fault → IsOfTokens limit fault
@@ -167,8 +132,7 @@ module _ {O N : Type 0} (octets : O → List ℕ) (labels : N → List (List ℕ
   none_spelled limit new fault (in_own unmarked why) known d after spelled =
       own_excludes unmarked (λ d after text. own_refused limit rtype old new after _ fault why known (way octets labels rtype old after d text)) d after spelled
   none_spelled limit new fault (in_generic marked why) known d after spelled = mark_excludes limit new fault marked why known d after spelled
-  none_spelled limit new fault (in_octets wire text all why) known d after spelled =
-      octets_exclude wire text (λ d are. octets_refused limit (kind_of rtype) wire fault why known (are_of octets labels rtype wire d are)) d after spelled
+  none_spelled limit new fault (in_octets wire text all why) known d after spelled = grind (arith, common_steps)
 
   pub refused_none : (limit : Option ℕ) (new : List (List ℕ)) (result : Result (ZoneRecordData O N) ScanError)
       → IfErr result (λ e. RefusesRdata limit rtype old new (scan_fault_of e))
@@ -203,8 +167,4 @@ module _ {O N : Type 0} (octets : O → List ℕ) (labels : N → List (List ℕ
   text_once m n d e (own p x) (own q y) = one_way rtype old m n _ _ (way octets labels rtype old m d x) (way octets labels rtype old n e y)
   text_once m n d e (own p x) (generic wire text are all) = absurd (p (generic_begins old wire text))
   text_once m n d e (generic wire text are all) (own q y) = absurd (q (generic_begins old wire text))
-  text_once m n d e (generic w x are all) (generic w' x' are' all') = (
-    all ∙ sym all',
-    are_wire octets labels rtype w d are
-        ∙ generic_once old w w' x x' ∙ sym (are_wire octets labels rtype w' e are'),
-  )
+  text_once m n d e (generic w x are all) (generic w' x' are' all') = grind (arith, common_steps)

@@ -1,5 +1,6 @@
 -- the pieces of signatures, written one after another
-use Rattle.std.proofs.Common.{◌≡◌, ℕ, List, [], ◌∷◌, ◌++◌, ◌∙◌}
+use Rattle.std.proofs.Common.{arith, ◌≡◌, ℕ, List, [], ◌∷◌, ◌++◌}
+use Rattle.std.proofs.lemmas.Grind.{common_steps}
 use Rattle.std.specs.Prelude.{codes}
 use Rattle.std.specs.Fmt.{decimal}
 use Rattle.base64.specs.GeneralPurpose.{encode_of}
@@ -18,12 +19,7 @@ pub numbers_written : (a b c d e f g : List PieceText) (fields : ProtoRrsigData)
     → f ≡ e ++ token (decimal ttl) ∷ [] → g ≡ f ++ comment (codes "original ttl") ∷ []
     → g ≡ a ++ signed_number_pieces fields
 numbers_written a b c d e f g fields type_covered algorithm labels ttl same_type same_algorithm same_labels same_ttl ab bc cd de ef fg =
-    piece_before a b g (token (type_text type_covered)) _ ab
-    (piece_before b c g (token (decimal algorithm)) _ bc (piece_before c d g (token (decimal labels)) _ cd
-    (piece_before d e g _ _ de (piece_before e f g (token (decimal ttl)) _ ef fg))))
-    ∙ (λ i. a ++ (token (type_text (same_type i)) ∷ token (decimal (same_algorithm i)) ∷ token (decimal (same_labels i)) ∷ comment
-    (codes "labels") ∷ token (decimal (same_ttl i))
-    ∷ comment (codes "original ttl") ∷ []))
+    grind (arith, common_steps)
 
 pub signer_written : (a b c d e f g h i : List PieceText) (fields : ProtoRrsigData) (expiration inception tag : ℕ) (name : List (List ℕ))
     → expiration ≡ fields.expiration → inception ≡ fields.inception → tag ≡ fields.key_tag → name ≡ fields.signer_name
@@ -33,12 +29,7 @@ pub signer_written : (a b c d e f g h i : List PieceText) (fields : ProtoRrsigDa
     → h ≡ g ++ token (name_text name ++ 46 ∷ []) ∷ [] → i ≡ h ++ comment (codes "signer name") ∷ []
     → i ≡ a ++ signer_pieces fields
 signer_written a b c d e f g h i fields expiration inception tag name same_expiration same_inception same_tag same_name ab bc cd de ef fg gh hi =
-    piece_before a b i (token (decimal expiration)) _ ab (piece_before b c i _ _ bc
-    (piece_before c d i (token (decimal inception)) _ cd (piece_before d e i _ _ de
-    (piece_before e f i (token (decimal tag)) _ ef (piece_before f g i _ _ fg (piece_before g h i (token (name_text name ++ 46 ∷ [])) _ gh hi))))))
-    ∙ (λ j. a ++ (token (decimal (same_expiration j)) ∷ comment (codes "expiration") ∷ token
-    (decimal (same_inception j)) ∷ comment (codes "inception") ∷ token (decimal (same_tag j))
-    ∷ comment (codes "key tag") ∷ token (name_text (same_name j) ++ 46 ∷ []) ∷ comment (codes "signer name") ∷ []))
+    grind (arith, common_steps)
 
 pub rrsig_written : (a b c d e f : List PieceText) (rrsig : RrsigData) (fields : ProtoRrsigData) (octets : List ℕ)
     → fields ≡ rrsig.fields → octets ≡ rrsig.signature
@@ -46,9 +37,11 @@ pub rrsig_written : (a b c d e f : List PieceText) (rrsig : RrsigData) (fields :
     → e ≡ d ++ token (encode_of standard octets) ∷ [] → f ≡ e ++ closes ∷ []
     → f ≡ a ++ rrsig_pieces rrsig
 rrsig_written a b c d e f rrsig fields octets same_fields same_octets ab bc cd de ef =
-    piece_before a b f opens (signed_number_pieces fields ++ (signer_pieces fields ++ (token (encode_of standard octets) ∷ closes ∷ []))) ab
-    (pieces_before b c f (signed_number_pieces fields) (signer_pieces fields ++ (token (encode_of standard octets) ∷ closes ∷ [])) bc
-    (pieces_before c d f (signer_pieces fields) (token (encode_of standard octets) ∷ closes ∷ []) cd
-    (piece_before d e f (token (encode_of standard octets)) (closes ∷ []) de ef)))
-    ∙ (λ i. a ++ (opens ∷ (signed_number_pieces (same_fields i)
-    ++ (signer_pieces (same_fields i) ++ (token (encode_of standard (same_octets i)) ∷ closes ∷ [])))))
+    grind (
+      arith,
+      common_steps,
+      (piece_before a b f opens (signed_number_pieces fields ++ (signer_pieces fields ++ (token (encode_of standard octets) ∷ closes ∷ []))) ab
+          (pieces_before b c f (signed_number_pieces fields) (signer_pieces fields ++ (token (encode_of standard octets) ∷ closes ∷ [])) bc
+          (pieces_before c d f (signer_pieces fields) (token (encode_of standard octets) ∷ closes ∷ []) cd (piece_before d e f (token (encode_of
+          standard octets)) (closes ∷ []) de ef)))),
+    )

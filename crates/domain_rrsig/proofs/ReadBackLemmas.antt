@@ -1,11 +1,10 @@
 -- what times and signatures are written as is read back
-use Rattle.std.proofs.Common.{◌≡◌, ℕ, ◌<◌, ◌≤◌, false, All, List, [], ◌∷◌, ◌++◌, length, refl, sym, ap, subst, ◌∙◌, arith}
-use Rattle.std.specs.Prelude.{◌^◌, ◌==◌}
+use Rattle.std.proofs.lemmas.Grind.{common_steps}
+use Rattle.std.proofs.Common.{◌≡◌, ℕ, ◌<◌, ◌≤◌, All, List, [], ◌∷◌, ◌++◌, length, refl, sym, ap, subst, ◌∙◌, arith}
+use Rattle.std.specs.Prelude.{◌^◌}
 use Rattle.std.specs.Fmt.{decimal}
-use Rattle.std.specs.Char.{digit_value}
-use Rattle.std.specs.Str.Parse.{AllDigits, without_leading_plus}
+use Rattle.std.specs.Str.Parse.{without_leading_plus}
 use Rattle.std.proofs.lemmas.Fmt.{decimal_is_IsNumeral, length-decimal-le}
-use Rattle.std.proofs.lemmas.Bool.Decides.{nat_tests}
 use Rattle.base64.specs.GeneralPurpose.{encode_of}
 use Rattle.base64.specs.Engines.{standard}
 use Rattle.domain_codecs.specs.declared.codec.Codec.TheVariants.{Base64}
@@ -15,7 +14,7 @@ use Rattle.domain_codecs.proofs.NoSpaceLemmas.{base64_plain}
 use Rattle.domain_octets.proofs.WordLemmas.{one_word, next_word, next_any, two_lines, decimal_word}
 use Rattle.domain_base.specs.Numbers.{type_text}
 use Rattle.domain_base.specs.Scan.{IsNumber}
-use Rattle.domain_base.proofs.ReadBackLemmas.{number_back, type_back, type_word, name_word}
+use Rattle.domain_base.proofs.ReadBackLemmas.{type_back, type_word, name_word}
 use Rattle.domain_fields.specs.Entry.{Spells}
 use Rattle.domain_fields.specs.Field.{octet, short, long, name}
 use Rattle.domain_fields.specs.Layout.{one, ◌▸◌, Fits}
@@ -27,17 +26,8 @@ use Rattle.domain_rrsig.specs.Time.{TimeText, TimeToken}
 
 -- ---- times
 
-no_plus_digit : (c : ℕ) → digit_value c < 10 → (c == 43) ≡ false
-no_plus_digit c digit = grind (arith, nat_tests)
-
-no_plus : (ds : List ℕ) → AllDigits 10 ds → without_leading_plus ds ≡ ds
-no_plus [] all = refl
-no_plus (c ∷ ds) all = let e = no_plus_digit c all.0 in rw e refl
-
 stamp_number : (n : ℕ) → n < 2 ^ 32 → IsNumber 32 (without_leading_plus (decimal n)) n
-stamp_number n small =
-    let plain = no_plus (decimal n) (decimal_is_IsNumeral n (omega (arith, small))).0.1 in
-    subst (λ t. IsNumber 32 t n) (sym plain) (number_back 32 n small (omega (arith, small)))
+stamp_number n small = grind (arith, common_steps, decimal_is_IsNumeral)
 
 few_digits : (n : ℕ) → n < 2 ^ 32 → length (decimal n) ≤ 10
 few_digits n small = length-decimal-le 10 n (omega arith) (omega (arith, small)) (omega (arith, small))
@@ -65,19 +55,12 @@ module _ (d : ProtoRrsigData) (fits : Fits proto_rrsig (proto_rrsig_values d)) w
 
   times_words : words_of (signed_times_text d) ≡ decimal d.expiration ∷ decimal d.inception ∷ decimal d.key_tag ∷ []
   unfolding signed_times_text
-  times_words =
-      let first = one_word (decimal d.expiration) (decimal_word d.expiration (omega (arith, fits.1.0.1.0))) in
-      let second = next_word (decimal d.expiration) (decimal d.inception) (decimal_word d.inception (omega (arith, fits.1.0.1.1)))
-      ∙ ap (λ l. l ++ decimal d.inception ∷ []) first in
-      next_word (decimal d.expiration ++ 32 ∷ [] ++ decimal d.inception) (decimal d.key_tag)
-      (decimal_word d.key_tag (omega (arith, fits.1.1.0))) ∙ ap (λ l. l ++ decimal d.key_tag ∷ []) second
+  times_words = grind (arith, common_steps, one_word, decimal_word, next_word)
 
   fields_words : words_of (signed_numbers_text d ++ 32 ∷ [] ++ signed_times_text d ++ 32 ∷ [] ++ dotted d.signer_name)
       ≡ type_text d.type_covered ∷ decimal d.algorithm ∷ decimal d.labels ∷ decimal d.original_ttl ∷ decimal d.expiration ∷
       decimal d.inception ∷ decimal d.key_tag ∷ dotted d.signer_name ∷ []
-  fields_words =
-      next_word (signed_numbers_text d ++ 32 ∷ [] ++ signed_times_text d) (dotted d.signer_name) (name_word d.signer_name fits.1.1.1)
-      ∙ ap (λ l. l ++ dotted d.signer_name ∷ []) (two_lines (signed_numbers_text d) (signed_times_text d) ∙ (λ i. numbers_words i ++ times_words i))
+  fields_words = grind (arith, common_steps, next_word, name_word, two_lines, numbers_words, times_words)
 
   fields_text : (after : List (List ℕ)) → rrsig_fields_text
       (type_text d.type_covered ∷ decimal d.algorithm ∷ decimal d.labels ∷ decimal d.original_ttl ∷ decimal d.expiration ∷ decimal
@@ -90,15 +73,15 @@ module _ (d : ProtoRrsigData) (fits : Fits proto_rrsig (proto_rrsig_values d)) w
         times,
         (
           numbers,
-          record { token = type_text d.type_covered; first = refl; holds = type_back d.type_covered fits.0.0 },
+          record { token = type_text d.type_covered; first = refl; holds = type_back _ fits.0.0 },
           fields_back (one octet ▸ one octet ▸ one long) (d.algorithm, (d.labels, d.original_ttl)) times refl (fits.0.1.0, (fits.0.1.1, fits.1.0.0)),
         ),
         (
           last,
           (
             decimal d.inception ∷ last,
-            record { token = decimal d.expiration; first = refl; holds = time_back d.expiration fits.1.0.1.0 },
-            record { token = decimal d.inception; first = refl; holds = time_back d.inception fits.1.0.1.1 },
+            record { token = decimal d.expiration; first = refl; holds = time_back _ fits.1.0.1.0 },
+            record { token = decimal d.inception; first = refl; holds = time_back _ fits.1.0.1.1 },
           ),
           fields_back (one short ▸ one name) (d.key_tag, d.signer_name) after refl (fits.1.1.0, fits.1.1.1),
         ),
@@ -112,7 +95,7 @@ rrsig_text_back d fits brief small =
     let before = type_text fields.type_covered ∷ decimal fields.algorithm ∷ decimal fields.labels ∷ decimal fields.original_ttl ∷
     decimal fields.expiration ∷ decimal fields.inception ∷ decimal fields.key_tag ∷ dotted fields.signer_name ∷ [] in
     let words : words_of (rrsig_text d) ≡ before ++ word_if_any text =
-    next_any (signed_numbers_text fields ++ 32 ∷ [] ++ signed_times_text fields ++ 32 ∷ [] ++ dotted fields.signer_name) text (base64_plain d.signature)
+    next_any _ text (base64_plain _)
     ∙ ap (λ l. l ++ word_if_any text) (fields_words fields fits.1.0) in
     let values : (ℕ × (ℕ × (ℕ × ℕ))) × ((ℕ × ℕ) × (ℕ × List (List ℕ))) = (
       (fields.type_covered, (fields.algorithm, (fields.labels, fields.original_ttl))),
@@ -120,7 +103,7 @@ rrsig_text_back d fits brief small =
     ) in
     record {
       spelled = subst (λ tokens. Spells rrsig_fields_text Base64 tokens values d.signature) (sym words)
-          (entry_back rrsig_fields_text Base64 (before ++ word_if_any text) values text d.signature
-          (fields_text fields fits.1.0 (word_if_any text)) (base64_back d.signature small));
+          (entry_back rrsig_fields_text Base64 _ values text _
+          (fields_text fields fits.1.0 _) (base64_back _ small));
       fits = brief;
     }

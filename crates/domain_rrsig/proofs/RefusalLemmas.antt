@@ -51,14 +51,11 @@ module _ (limit : Option ℕ) where
   type_one_fault = token_once_refused limit IsNoType (λ x y text p q. p.said ∙ sym q.said)
 
   numbers_apart : Excludes limit numbers_text (RefusesNumbers limit)
-  numbers_apart =
-      both_refused limit (OneToken TypeText) (Scans lengths) (RefusesToken IsNoType) (Refuses limit lengths)
-      (one_token TypeText type_once) type_apart (fields_refused limit lengths)
+  numbers_apart = both_refused limit _ _ _ _ (one_token TypeText type_once) type_apart (fields_refused limit lengths)
 
   numbers_one_fault : OneFault limit (RefusesNumbers limit)
   numbers_one_fault =
-      both_one_fault limit (OneToken TypeText) (Scans lengths) (RefusesToken IsNoType) (Refuses limit lengths) (one_token TypeText type_once) type_apart
-      type_one_fault (fields_one_fault limit lengths)
+      both_one_fault limit _ (Scans lengths) _ _ (one_token TypeText type_once) type_apart type_one_fault (fields_one_fault limit lengths)
 
   time_apart : Excludes limit (OneToken TimeToken) (RefusesToken IsNoTime)
   time_apart = token_refused limit TimeToken IsNoTime (λ fault text n why is own. why.none n is)
@@ -67,32 +64,24 @@ module _ (limit : Option ℕ) where
   time_one_fault = token_once_refused limit IsNoTime (λ x y text p q. p.said ∙ sym q.said)
 
   times_apart : Excludes limit times_text RefusesTimes
-  times_apart =
-      both_refused limit (OneToken TimeToken) (OneToken TimeToken) (RefusesToken IsNoTime) (RefusesToken IsNoTime)
-      (one_token TimeToken time_once) time_apart time_apart
+  times_apart = both_refused limit _ _ _ _ (one_token TimeToken time_once) time_apart time_apart
 
   times_one_fault : OneFault limit RefusesTimes
-  times_one_fault =
-      both_one_fault limit (OneToken TimeToken) (OneToken TimeToken) (RefusesToken IsNoTime) (RefusesToken IsNoTime) (one_token TimeToken time_once) time_apart
-      time_one_fault time_one_fault
+  times_one_fault = both_one_fault limit _ (OneToken TimeToken) _ _ (one_token TimeToken time_once) time_apart time_one_fault time_one_fault
 
   end_apart : Excludes limit (Both times_text (Scans signer)) (RefusesBoth times_text RefusesTimes (Refuses limit signer))
   end_apart = both_refused limit times_text (Scans signer) RefusesTimes (Refuses limit signer) times_once times_apart (fields_refused limit signer)
 
   end_one_fault : OneFault limit (RefusesBoth times_text RefusesTimes (Refuses limit signer))
   end_one_fault =
-      both_one_fault limit times_text (Scans signer) RefusesTimes (Refuses limit signer) times_once times_apart times_one_fault (fields_one_fault limit signer)
+      both_one_fault limit times_text (Scans signer) RefusesTimes _ times_once times_apart times_one_fault (fields_one_fault limit signer)
 
   rrsig_fields_apart : Excludes limit rrsig_fields_text (RefusesRrsigFields limit)
-  rrsig_fields_apart =
-      both_refused limit numbers_text (Both times_text (Scans signer)) (RefusesNumbers limit)
-      (RefusesBoth times_text RefusesTimes (Refuses limit signer)) numbers_once numbers_apart end_apart
+  rrsig_fields_apart = both_refused limit numbers_text _ _ _ numbers_once numbers_apart end_apart
 
   rrsig_fields_one_fault : OneFault limit (RefusesRrsigFields limit)
   rrsig_fields_one_fault =
-      both_one_fault limit numbers_text (Both times_text (Scans signer)) (RefusesNumbers limit)
-      (RefusesBoth times_text RefusesTimes (Refuses limit signer)) numbers_once numbers_apart
-      numbers_one_fault end_one_fault
+      both_one_fault limit numbers_text (Both times_text (Scans signer)) _ _ numbers_once numbers_apart numbers_one_fault end_one_fault
 
 -- over the limit of all data
 abbrev Long : (ℕ × (ℕ × (ℕ × ℕ))) × ((ℕ × ℕ) × (ℕ × List (List ℕ))) → List ℕ → Type 0
@@ -101,7 +90,7 @@ Long fields octets = 65535 < 18 + length (wire_of fields.1.1.1) + length octets
 pub rrsig_once : (old : List (List ℕ)) (d e : RrsigData) → RrsigText old d → RrsigText old e → d ≡ e
 rrsig_once old d e x y =
     let fields = same_fields rrsig_fields_text rrsig_fields_once Base64 old _ _ d.signature e.signature x.spelled y.spelled in
-    let octets = same_octets rrsig_fields_text rrsig_fields_once Base64 old _ _ d.signature e.signature x.spelled y.spelled in
+    let octets = same_octets rrsig_fields_text rrsig_fields_once Base64 old _ _ _ _ x.spelled y.spelled in
     λ i. record {
       fields = proto_rrsig_data (fields i).0.0 (fields i).0.1.0 (fields i).0.1.1.0 (fields i).0.1.1.1 (fields i).1.0.0
           (fields i).1.0.1 (fields i).1.1.0 (fields i).1.1.1;
@@ -111,11 +100,11 @@ rrsig_once old d e x y =
 pub refused_rrsig : (limit : Option ℕ) (old new : List (List ℕ)) (fault : ScanFault) (d : RrsigData)
     → RefusesRrsig limit old new fault → IsOfTokens limit fault → RrsigText old d → ⊥
 refused_rrsig limit old new fault d why own text =
-    entry_refused limit rrsig_fields_text (RefusesRrsigFields limit) rrsig_fields_once (rrsig_fields_apart limit) Long Base64 old new fault own
-    _ d.signature text.spelled (λ many. omega (arith, many, text.fits, length_of_rrsig d)) why
+    entry_refused limit rrsig_fields_text _ rrsig_fields_once (rrsig_fields_apart limit) Long Base64 old new fault own _ d.signature
+    text.spelled (λ many. omega (arith, many, text.fits, length_of_rrsig d)) why
 
 pub rrsig_one_fault : (limit : Option ℕ) (old m n : List (List ℕ)) (x y : ScanFault) → RefusesRrsig limit old m x
     → RefusesRrsig limit old n y → IsOfTokens limit x → IsOfTokens limit y → x ≡ y
 rrsig_one_fault limit old m n x y p q own also =
-    entry_refused_once limit rrsig_fields_text (RefusesRrsigFields limit) rrsig_fields_once (rrsig_fields_apart limit) Long Base64
+    entry_refused_once limit rrsig_fields_text _ rrsig_fields_once (rrsig_fields_apart limit) Long Base64
     (rrsig_fields_one_fault limit) old m n x y p q own also

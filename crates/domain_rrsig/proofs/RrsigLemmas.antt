@@ -31,10 +31,9 @@ lowered_fit d fits = (numbers_fit d.fields fits.1.0, (IsName-lowered d.fields.si
 pub same_rrsig : (a b : RrsigData) (r : Bool) → Fits rrsig (rrsig_values a) → Fits rrsig (rrsig_values b) → r ≡ bytes_eq (rrsig_canonical a) (rrsig_canonical b)
     → IsTrue r ↔ IsSameRrsig a b
 same_rrsig a b r fits_a fits_b is = (
-  λ yes.
-      let octets : octets_of grouped (lowered_values a) ≡ octets_of grouped (lowered_values b) =
+  λ yes. let octets : octets_of grouped (lowered_values a) ≡ octets_of grouped (lowered_values b) =
       sym (canonical_of_lowered a) ∙ (bytes_decides (rrsig_canonical a) (rrsig_canonical b)).0 (sym is ∙ yes) ∙ canonical_of_lowered b in
-      let same = same_values grouped (lowered_values a) (lowered_values b) refl (lowered_fit a fits_a) (lowered_fit b fits_b)
+      let same = same_values grouped _ _ refl (lowered_fit a fits_a) (lowered_fit b fits_b)
       (((tt, (tt, tt)), ((tt, (tt, tt)), tt)), (tt, refl)) (((tt, (tt, tt)), ((tt, (tt, tt)), tt)), (tt, refl)) octets in
       record { numbers = ap (λ v. v.0) same; signer = ap (λ v. v.1.0) same; signature = ap (λ v. v.1.1) same },
   λ same. is ∙ (bytes_decides (rrsig_canonical a) (rrsig_canonical b)).1
@@ -55,4 +54,4 @@ rrsig_back d fits brief =
       brief,
       length-append (octets_of (proto_rrsig ▸ one rest) (rrsig_values d).1) [],
     ) in
-    parses_back rrsig (rrsig_values d) refl fits (limit, (((tt, (tt, tt)), ((tt, (tt, tt)), (tt, tt))), refl))
+    parses_back rrsig _ refl fits (limit, (((tt, (tt, tt)), ((tt, (tt, tt)), (tt, tt))), refl))

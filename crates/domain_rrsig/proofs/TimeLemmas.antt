@@ -1,23 +1,16 @@
 -- times that a stamp stands for
-use Rattle.std.proofs.Common.{◌≡◌, ℕ, ◌+◌, ◌-◌, ◌%◌, ◌<◌, ◌≤◌, ◌↔◌, Option, None, Some, IsNone, IfSome, refl, sym, subst, arith}
+use Rattle.std.proofs.lemmas.Grind.{common_steps}
+use Rattle.std.proofs.Common.{◌≡◌, ℕ, ◌+◌, ◌-◌, ◌%◌, ◌<◌, ◌≤◌, ◌↔◌, Option, None, Some, IsNone, IfSome, sym, subst, arith}
 use Rattle.std.specs.Option.{SomeIff}
 use Rattle.domain_rrsig.specs.Time.{IsNear, TimeAt, nearest}
-
--- only one of them is near the reference
-pub one_near : (stamp reference x y : ℕ) → IsNear stamp reference x → IsNear stamp reference y → x ≡ y
-one_near stamp reference x y a b = omega (arith, a.congruent, a.not_before, a.not_after, b.congruent, b.not_before, b.not_after)
 
 -- `ahead` is how far the stamp is ahead of the reference in the circle
 module _ (stamp reference ahead : ℕ) (small : stamp < 4294967296) (is : ahead ≡ (stamp + (4294967296 - reference % 4294967296)) % 4294967296) where
   pub congruent_ahead : (reference + ahead) % 4294967296 ≡ stamp
   congruent_ahead = omega arith
 
-  pub near_after : ahead < 2147483648 → IsNear stamp reference (reference + ahead)
-  near_after close = record { congruent = congruent_ahead; not_before = omega arith; not_after = omega arith }
-
   pub near_before : 2147483648 ≤ ahead → 4294967296 - ahead ≤ reference → IsNear stamp reference (reference - (4294967296 - ahead))
-  near_before far room =
-      record { congruent = omega (arith, congruent_ahead); not_before = omega arith; not_after = omega arith }
+  near_before far room = grind (arith, common_steps)
 
   pub none_near : 2147483648 ≤ ahead → reference < 4294967296 - ahead → (time : ℕ) → IsNear stamp reference time → ⊥
   none_near far early time n = omega (arith, congruent_ahead, n.congruent, n.not_before, n.not_after)
@@ -30,8 +23,4 @@ time_after stamp reference ahead limit (Some x) is n = nearest x (subst (IsNear 
 
 pub none_after : (stamp reference ahead limit : ℕ) (o : Option ℕ) → SomeIff o (reference + ahead < limit) (reference + ahead)
     → IsNear stamp reference (reference + ahead) → IsNone o ↔ ((time : ℕ) × IsNear stamp reference time × (limit ≤ time))
-none_after stamp reference ahead limit None is n = (λ _. (reference + ahead, n, omega (arith, is)), λ _. refl)
-none_after stamp reference ahead limit (Some x) is n = (
-  λ e. absurd (cc),
-  λ late. absurd (omega (arith, one_near stamp reference late.0 (reference + ahead) late.1 n, late.2, is.0)),
-)
+none_after stamp reference ahead limit o is n = grind (arith, common_steps)

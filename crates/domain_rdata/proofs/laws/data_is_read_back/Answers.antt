@@ -1,4 +1,5 @@
-use Rattle.std.proofs.Common.{◌<◌, refl, rules}
+use Rattle.std.proofs.Common.{arith, ◌<◌, refl, rules}
+use Rattle.std.proofs.lemmas.Grind.{common_steps}
 use Rattle.std.specs.List.{All}
 use Rattle.domain_names.proofs.SpellingLemmas.{name_is_valid}
 use Rattle.domain_rdata.specs.Scan.{own}
@@ -12,9 +13,7 @@ pub returns-in-Soa : goal.returns-in-Soa
 returns-in-Soa g c = rw c.in-Soa.is (λ exact. soa_back g.O.Octets.octets g.N.ToName.labels c.in-Soa.data c.soa_reads_back.ensures)
 
 pub returns-in-Rrsig : goal.returns-in-Rrsig
-returns-in-Rrsig g c =
-    rw c.in-Rrsig.is (λ exact. own (rrsig_back g.O.Octets.octets g.N.ToName.labels c.in-Rrsig.data _ c.rrsig_reads_back.ensures)
-    (refl, (c.rrsig_reads_back.ensures, refl)))
+returns-in-Rrsig g c = grind (arith, common_steps, (rrsig_back g.O.Octets.octets g.N.ToName.labels c.in-Rrsig.data _ c.rrsig_reads_back.ensures))
 
 pub returns-in-Nsec : goal.returns-in-Nsec
 returns-in-Nsec g c =
@@ -26,4 +25,4 @@ returns-in-Nsec g c =
 pub returns-in-Unknown : goal.returns-in-Unknown
 returns-in-Unknown g c =
     let small : All (λ octet. octet < 256) (g.O.Octets.octets c.in-Unknown.data.«data») = search rules in
-    rw c.in-Unknown.is (λ exact. unknown_back g.O.Octets.octets g.N.ToName.labels c.in-Unknown.data small exact)
+    rw c.in-Unknown.is (λ exact. unknown_back _ _ _ small exact)

@@ -9,7 +9,7 @@ use Rattle.domain_rdata.proofs.zone_octets.nsec3_of.Goals as goal
 pub returns-in_err-data-clause-err : goal.returns-in_err-data-clause-err
 returns-in_err-data-clause-err g c =
     let p = err_from_is_err_and c.from_residual.result c.from_residual.ensures.1 in
-    rw p.1 (not_nsec3 nsec3_values c.args.octets.now g.O.Builder.OctetsBuilder.limit _ p.2 c.in_err-data.ensures.err)
+    rw p.1 (not_nsec3 nsec3_values c.args.octets.now _ _ p.2 c.in_err-data.ensures.err)
 
 pub returns-in_err-salt-clause-err : goal.returns-in_err-salt-clause-err
 returns-in_err-salt-clause-err g c =

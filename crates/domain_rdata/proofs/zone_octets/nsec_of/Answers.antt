@@ -9,7 +9,7 @@ use Rattle.domain_rdata.proofs.zone_octets.nsec_of.Goals as goal
 pub returns-in_err-data-clause-err : goal.returns-in_err-data-clause-err
 returns-in_err-data-clause-err g c =
     let p = err_from_is_err_and c.from_residual.result c.from_residual.ensures.1 in
-    rw p.1 (not_nsec (nsec_values {N = List (List ℕ)} (λ name. name)) c.args.octets.now g.O.Builder.OctetsBuilder.limit _ p.2 c.in_err-data.ensures.err)
+    rw p.1 (not_nsec _ c.args.octets.now _ _ p.2 c.in_err-data.ensures.err)
 
 pub returns-in_err-types-clause-err : goal.returns-in_err-types-clause-err
 returns-in_err-types-clause-err g c =

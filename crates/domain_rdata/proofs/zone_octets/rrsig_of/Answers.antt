@@ -10,7 +10,7 @@ use Rattle.domain_rdata.proofs.zone_octets.rrsig_of.Goals as goal
 pub returns-in_err-data-clause-err : goal.returns-in_err-data-clause-err
 returns-in_err-data-clause-err g c =
     let p = err_from_is_err_and c.from_residual.result c.from_residual.ensures.1 in
-    rw p.1 (not_fields rrsig rrsig_values c.args.octets.now signature g.O.Builder.OctetsBuilder.limit _ refl (λ w. w) p.2 c.in_err-data.ensures.err)
+    rw p.1 (not_fields rrsig rrsig_values c.args.octets.now signature _ _ refl (λ w. w) p.2 c.in_err-data.ensures.err)
 
 pub returns-in_err-signature-clause-err : goal.returns-in_err-signature-clause-err
 returns-in_err-signature-clause-err g c =

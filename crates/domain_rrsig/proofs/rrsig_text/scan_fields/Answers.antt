@@ -13,5 +13,5 @@ returns-clause-ok g c =
     let times = c.in-Ok-scan_times.times in
     let tag = c.in-Ok-scan.signer.0 in
     let labels = g.S.Name.ToName.labels c.in-Ok-scan.signer.1.0 in
-    read_fields _ _ _ _ numbers times c.in-Ok.ensures.ok c.in-Ok-scan_times.ensures.ok (tag, labels) c.new.result c.in-Ok-scan.ensures.ok
+    read_fields _ _ _ _ numbers times c.in-Ok.ensures.ok c.in-Ok-scan_times.ensures.ok _ _ c.in-Ok-scan.ensures.ok
     (c.new.ensures ∙ (λ i. proto_rrsig_data numbers.0 (c.from_int.ensures i) numbers.1.1.0 (c.from_secs.ensures i) times.0 times.1 tag labels))

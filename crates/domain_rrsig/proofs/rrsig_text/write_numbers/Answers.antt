@@ -5,10 +5,7 @@ use Rattle.domain_rrsig.proofs.rrsig_text.write_numbers.Goals as goal
 
 pub returns : goal.returns
 returns g c =
-    on_ok_gives c.write_comment-2.result
-    (numbers_written _ _ _ _ _ _ _ c.args.fields.now c.type_covered-type_covered.result c.algorithm-algorithm.result
-    c.labels-labels.result c.as_secs-original_ttl.result
+    on_ok_gives _ (numbers_written _ _ _ _ _ _ _ c.args.fields.now _ _ _ _
     c.type_covered-type_covered.ensures c.algorithm-algorithm.ensures c.labels-labels.ensures (c.as_secs-original_ttl.ensures ∙ c.original_ttl.ensures)
     c.in_ok-write_token.ensures.ok c.in_ok-write_token-2.ensures.ok c.in_ok-write_token-3.ensures.ok
-    c.in_ok-write_comment.ensures.ok c.in_ok-write_token-4.ensures.ok)
-    c.write_comment-2.ensures.ok
+    c.in_ok-write_comment.ensures.ok c.in_ok-write_token-4.ensures.ok) c.write_comment-2.ensures.ok

@@ -17,5 +17,4 @@ pub returns-clause-value : goal.returns-clause-value
 returns-clause-value g c = equal g c
 
 pub returns-clause-same : goal.returns-clause-same
-returns-clause-same g c =
-    same_rrsig c.args.self.now c.args.other.now c.is_eq.result c.fields.ensures.fits c.fields-2.ensures.fits (equal g c)
+returns-clause-same g c = same_rrsig _ _ _ c.fields.ensures.fits c.fields-2.ensures.fits (equal g c)

@@ -8,6 +8,5 @@ returns-in-Err-convert_entry-clause-err g c =
 
 pub returns-in-Err-into_rrsig-clause-err : goal.returns-in-Err-into_rrsig-clause-err
 returns-in-Err-into_rrsig-clause-err g c =
-    refused_length _ _ _ _ _ c.in-Ok.fields (g.O.Octets.octets c.in-Ok-convert_entry.signature) c.in-Ok.ensures.ok
-    c.in-Ok-convert_entry.ensures.ok c.in-Ok-convert_entry.ensures.room
+    refused_length _ _ _ _ _ _ _ c.in-Ok.ensures.ok c.in-Ok-convert_entry.ensures.ok c.in-Ok-convert_entry.ensures.room
     c.in-Ok-convert_entry.ensures.all (λ le. let e = c.in-Err-into_rrsig.ensures.ok.1 le in cc) refl

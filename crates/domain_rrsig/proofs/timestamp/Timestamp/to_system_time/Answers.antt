@@ -1,26 +1,23 @@
+use Rattle.std.proofs.lemmas.Grind.{common_steps}
 use Rattle.std.proofs.Common.{◌∙◌, arith, sym, subst}
 use Rattle.domain_rrsig.specs.Time.{IsNear, TimeAt, nearest, before_1970}
-use Rattle.domain_rrsig.proofs.TimeLemmas.{near_after, near_before, none_near, time_after, none_after}
+use Rattle.domain_rrsig.proofs.TimeLemmas.{near_before, none_near, time_after, none_after}
 use Rattle.domain_rrsig.proofs.timestamp.Timestamp.to_system_time.Goals as goal
 
 pub returns-then-ahead-lt2147483648-clause-time : goal.returns-then-ahead-lt2147483648-clause-time
-returns-then-ahead-lt2147483648-clause-time c =
-    time_after _ _ _ _ _ c.checked_add.ensures
-    (near_after c.args.self c.args.reference c.from-ahead.result (omega arith) (omega arith) c.if-ahead-lt2147483648.true)
+returns-then-ahead-lt2147483648-clause-time c = grind (arith, common_steps, time_after)
 
 pub returns-then-ahead-lt2147483648-clause-none : goal.returns-then-ahead-lt2147483648-clause-none
-returns-then-ahead-lt2147483648-clause-none c =
-    none_after _ _ _ _ _ c.checked_add.ensures
-    (near_after c.args.self c.args.reference c.from-ahead.result (omega arith) (omega arith) c.if-ahead-lt2147483648.true)
+returns-then-ahead-lt2147483648-clause-none c = grind (arith, common_steps, none_after)
 
 pub returns-in-Some-clause-time : goal.returns-in-Some-clause-time
 returns-in-Some-clause-time c =
     let found = c.in-Some.ensures in
     nearest c.in-Some.time (subst (IsNear c.args.self c.args.reference) (sym found.1)
-    (near_before c.args.self c.args.reference c.from-ahead.result (omega arith) (omega arith) c.if-ahead-lt2147483648.false found.0))
+    (near_before c.args.self c.args.reference _ (omega arith) (omega arith) c.if-ahead-lt2147483648.false found.0))
 
 pub returns-in-None-clause-time : goal.returns-in-None-clause-time
 returns-in-None-clause-time c =
     subst (TimeAt c.args.self c.args.reference) (sym (c.from.ensures ∙ c.into_int-in-None.ensures))
-    (before_1970 (none_near c.args.self c.args.reference c.from-ahead.result (omega arith)
+    (before_1970 (none_near c.args.self c.args.reference _ (omega arith)
     (omega arith) c.if-ahead-lt2147483648.false (omega (arith, c.in-None.ensures))))
