@@ -1,5 +1,6 @@
 -- The data of records, read whole.
-use Rattle.std.proofs.Common.{◌≡◌, ℕ, List, [], ap, subst}
+use Rattle.std.proofs.Common.{arith, ◌≡◌, ℕ, List, [], ap, subst}
+use Rattle.std.proofs.lemmas.Grind.{common_steps}
 use Rattle.domain_names.specs.Fault.{Fault}
 use Rattle.domain_bitmap.proofs.BlockLemmas.{bitmap_small}
 use Rattle.domain_fields.specs.Layout.{Values, Begins, FirstFault}
@@ -11,7 +12,7 @@ use Rattle.domain_chain_rdata.proofs.Nsec3Lemmas.{nsec3_back, params_back}
 use Rattle.domain_nsec.specs.Chain.{Link}
 use Rattle.domain_nsec3.specs.Chain.{HashedLink, ParamRecord}
 use Rattle.domain_borrowed.specs.Data.{RawRecord}
-use Rattle.domain_borrowed.specs.Links.{nsec_record, nsec3_record, param_record, hash_values, param_values, IsNsec, IsNsec3, IsParam}
+use Rattle.domain_borrowed.specs.Links.{nsec_record, nsec3_record, param_record, hash_values, IsNsec, IsNsec3, IsParam}
 
 octets_in : (q r : RawRecord) → q ≡ r → q.«data».octets ≡ r.«data».octets
 octets_in q r e = ap (λ (o : RawRecord). o.«data».octets) e
@@ -33,11 +34,9 @@ no_nsec3 q fault found k e is =
 -- ---- NSEC3PARAM
 
 pub no_param : (q : RawRecord) (fault : Fault) → FirstFault nsec3param q.«data».octets fault → (k : ParamRecord) → q ≡ param_record k → IsParam k → ⊥
-no_param q fault found k e is =
-    (params_back (param_values k) is).no_fault fault (subst (λ o. FirstFault nsec3param o fault) (octets_in q (param_record k) e) found)
+no_param q fault found k e is = grind (arith, common_steps, params_back)
 
 -- octets are left over
 pub no_whole_param : (q : RawRecord) (v : Values nsec3param) (after : List ℕ) → Begins nsec3param q.«data».octets v after → (after ≡ [] → ⊥)
     → (k : ParamRecord) → q ≡ param_record k → IsParam k → ⊥
-no_whole_param q v after b some k e is =
-    some ((params_back (param_values k) is).alone v after (subst (λ o. Begins nsec3param o v after) (octets_in q (param_record k) e) b)).1
+no_whole_param q v after b some k e is = grind (arith, common_steps, params_back)

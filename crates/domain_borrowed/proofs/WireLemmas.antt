@@ -1,5 +1,6 @@
 -- Octets begin with one record at most.
-use Rattle.std.proofs.Common.{◌≡◌, ℕ, ◌<◌, ◌+◌, List, [], ◌∷◌, ◌++◌, length, take, drop, refl, sym, ap, ◌∙◌, arith, append_assoc, append-nil, length-append}
+use Rattle.std.proofs.lemmas.Grind.{common_steps}
+use Rattle.std.proofs.Common.{◌≡◌, ℕ, ◌<◌, ◌+◌, List, [], ◌∷◌, ◌++◌, length, take, drop, refl, sym, ap, ◌∙◌, arith, append_assoc, length-append}
 use Rattle.std.proofs.lemmas.List.{take_at, drop_at}
 use Rattle.domain_names.specs.Fault.{Fault}
 use Rattle.domain_names.specs.Name.{wire_of}
@@ -15,22 +16,17 @@ header_first r after = append_assoc (octets_of header (header_of r)) r.«data».
 
 begins_header : (r : RawRecord) (octets after : List ℕ) → IsRecord r → octets ≡ record_octets r ++ after
     → Begins header octets (header_of r) (r.«data».octets ++ after)
-begins_header r octets after fits e = record {
-  parts = e ∙ header_first r after;
-  fits = fits;
-  ends = (tt, (tt, (tt, (tt, tt))));
-}
+begins_header r octets after fits e = grind (arith, common_steps)
 
 -- a header with a fault begins no record
 pub faulty_header : (octets : List ℕ) (fault : Fault) → FirstFault header octets fault
     → (r : RawRecord) (after : List ℕ) → IsRecord r → octets ≡ record_octets r ++ after → ⊥
-faulty_header octets fault found r after fits e = fault_excludes header octets fault found refl (header_of r) (r.«data».octets
-    ++ after) (begins_header r octets after fits e)
+faulty_header octets fault found r after fits e = grind (arith, common_steps, fault_excludes)
 
 same_header : (v : Values header) (octets left : List ℕ) → Begins header octets v left
     → (r : RawRecord) (after : List ℕ) → IsRecord r → octets ≡ record_octets r ++ after → Same v (header_of r) left (r.«data».octets ++ after)
 same_header v octets left front r after fits e =
-    same_data header v (header_of r) left (r.«data».octets ++ after) refl front.fits fits (sym front.parts ∙ e ∙ header_first r after)
+    same_data header v _ left _ refl front.fits fits (sym front.parts ∙ e ∙ header_first r after)
 
 -- nor does one whose data are cut
 pub cut_data : (v : Values header) (octets left : List ℕ) → Begins header octets v left → length left < v.1.1.1.1
@@ -38,15 +34,15 @@ pub cut_data : (v : Values header) (octets left : List ℕ) → Begins header oc
 cut_data v octets left front short r after fits e =
     let s = same_header v octets left front r after fits e in
     let count : v.1.1.1.1 ≡ length r.«data».octets = ap (λ (u : Values header). u.1.1.1.1) s.values in
-    let long : length left ≡ length r.«data».octets + length after = ap length s.after ∙ length-append r.«data».octets after in
+    let long : length left ≡ length r.«data».octets + length after = ap length s.after ∙ length-append _ after in
     absurd (omega arith)
 
 pub same_record : (q r : RawRecord) (x y : List ℕ) → IsRecord q → IsRecord r → record_octets q ++ x ≡ record_octets r ++ y → IsOneRecord q r x y
 same_record q r x y fits_q fits_r e =
-    let s = same_header (header_of q) (record_octets q ++ x) (q.«data».octets ++ x) (begins_header q (record_octets q ++ x) x fits_q refl) r y fits_r e in
+    let s = same_header _ _ _ (begins_header q _ x fits_q refl) r y fits_r e in
     let as_long : length q.«data».octets ≡ length r.«data».octets = ap (λ (u : Values header). u.1.1.1.1) s.values in
-    let same : q.«data».octets ≡ r.«data».octets = sym (take_at q.«data».octets x (length q.«data».octets) refl)
-    ∙ ap (take (length q.«data».octets)) s.after ∙ take_at r.«data».octets y (length q.«data».octets) (sym as_long) in
+    let same : q.«data».octets ≡ r.«data».octets = sym (take_at _ x _ refl)
+    ∙ ap (take (length q.«data».octets)) s.after ∙ take_at _ y _ (sym as_long) in
     record {
       records = λ i. record {
         owner = (s.values i).0;
@@ -54,8 +50,8 @@ same_record q r x y fits_q fits_r e =
         ttl = (s.values i).1.1.1.0;
         «data» = record { rtype = (s.values i).1.0; octets = same i };
       };
-      after = sym (drop_at q.«data».octets x (length q.«data».octets) refl) ∙ ap (drop (length q.«data».octets)) s.after
-          ∙ drop_at r.«data».octets y (length q.«data».octets) (sym as_long);
+      after = sym (drop_at q.«data».octets x _ refl) ∙ ap (drop (length q.«data».octets)) s.after
+          ∙ drop_at _ y _ (sym as_long);
     }
 
 named_octets : (labels : List (List ℕ)) (after : List ℕ) → wire_of labels ++ after ≡ [] → ⊥
@@ -73,7 +69,4 @@ not_empty (octet ∷ octets) some = omega arith
 
 -- less is left after a record
 pub shorter : (r : RawRecord) (left after : List ℕ) → left ≡ record_octets r ++ after → length after < length left
-shorter r left after e =
-    let some = not_empty (record_octets r) (λ none. some_octets r [] (append-nil (record_octets r) ∙ none)) in
-    let long = ap length e ∙ length-append (record_octets r) after in
-    omega arith
+shorter r left after e = grind (arith, common_steps, some_octets)

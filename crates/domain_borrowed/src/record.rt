@@ -63,6 +63,7 @@ pub fn into_nsec3<'a>(borrowed: BorrowedRecord<'a>) -> Option<ReadNsec3<'a>>
 
 /// The record with its data read as NSEC3PARAM data (RFC 5155, section 4.2). None where it is of
 /// another type, or the octets are no such data, or more than these.
+#[tactic(auto, using(crate::proofs::DataLemmas::no_whole_param, crate::proofs::DataLemmas::no_param))]
 pub fn into_nsec3param<'a>(borrowed: BorrowedRecord<'a>) -> Option<ReadNsec3param<'a>>
     ensures some { IfSome result (λ r. (borrowed.entry ≡ param_record (as_param_record (λ n. n) r))
         × IsParam (as_param_record (λ n. n) r)) }

@@ -46,6 +46,7 @@ pub fn read_record<'a>(parser: &mut Parser<'a>) -> Option<BorrowedRecord<'a>>
 ///
 /// `ShortBuf` exactly where the octets would pass the limit of the builder; and `OutOfMemory`. Both
 /// leave what stood, and a beginning of the octets.
+#[tactic(auto, using(domain_fields::proofs::TargetLemmas::appends_more))]
 pub fn compose_parts<N: ToName, D: ComposeRecordData, B: OctetsBuilder>(
     owner: &N,
     class: Class,

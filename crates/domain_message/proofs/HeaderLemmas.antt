@@ -64,7 +64,7 @@ pub one_header : (message : List ℕ) (at : ℕ) (owner other : Name) (rtype cla
 one_header message at owner other rtype class ttl count place rtype' class' ttl' count' place' x y =
     let names = one_name message at owner other x.owner_end y.owner_end x.owned y.owned in
     let read =
-    one_reading numbers (drop x.owner_end message) (rtype, (class, (ttl, count))) (rtype', (class', (ttl', count'))) x.behind y.behind refl
+    one_reading numbers (drop x.owner_end message) _ _ x.behind y.behind refl
     x.numbered (subst (λ e. Begins numbers (drop e message) (rtype', (class', (ttl', count'))) y.behind) (sym names.1) y.numbered) in
     record {
       owners = names.0;

@@ -1,6 +1,6 @@
 -- names that are read label by label, one run after another
-use Rattle.std.proofs.Common.{◌≡◌, ℕ, ◌+◌, ◌-◌, ◌*◌, ◌/◌, ◌%◌, ◌<◌, ◌≤◌, List, [], ◌∷◌, ◌++◌, length, get_or, take, drop, refl, sym, ap, subst, ◌∙◌, arith}
-use Rattle.std.proofs.Common.{length-append}
+use Rattle.std.proofs.lemmas.Grind.{common_steps}
+use Rattle.std.proofs.Common.{◌≡◌, ℕ, ◌+◌, ◌-◌, ◌*◌, ◌<◌, ◌≤◌, List, [], ◌∷◌, ◌++◌, length, get_or, take, drop, refl, sym, ap, subst, ◌∙◌, arith, length-append}
 use Rattle.std.specs.Prelude.{All, Option, Some, None}
 use Rattle.std.specs.List.{AllByRecursion}
 use Rattle.std.proofs.lemmas.List.{append-nil, append_assoc, take-append-drop, drop-drop, drop_more, drop_all, length-drop, length-take-le}
@@ -17,9 +17,7 @@ use Rattle.domain_message.specs.declared.name.NameFault.TheVariants as name_faul
 
 pub octets_of_more : (labels more : Name) → labels_octets (labels ++ more) ≡ labels_octets labels ++ labels_octets more
 octets_of_more [] more = refl
-octets_of_more (label ∷ labels) more =
-    ap (λ r. length label ∷ r) (ap (λ r. label ++ r) (octets_of_more labels more)
-    ∙ sym (append_assoc label (labels_octets labels) (labels_octets more)))
+octets_of_more (label ∷ labels) more = grind (arith, common_steps, (octets_of_more labels more))
 
 pub all_of_more : (labels more : Name) → AllByRecursion IsLabel labels → AllByRecursion IsLabel more
     → AllByRecursion IsLabel (labels ++ more)
@@ -29,8 +27,7 @@ all_of_more (label ∷ labels) more all others = (all.0, all_of_more labels more
 -- the root behind labels makes them a name
 pub wire_is : (labels : Name) → wire_of labels ≡ labels_octets labels ++ 0 ∷ []
 wire_is [] = refl
-wire_is (label ∷ labels) =
-    ap (λ r. length label ∷ r) (ap (λ r. label ++ r) (wire_is labels) ∙ sym (append_assoc label (labels_octets labels) (0 ∷ [])))
+wire_is (label ∷ labels) = grind (arith, common_steps, (wire_is labels))
 
 -- ---- within one run
 
@@ -63,15 +60,15 @@ module _ (message : List ℕ) (start used at len : ℕ) (inside : at < length me
   between_more bytes some small short whole =
       let label = take len (drop (at + 1) message) in
       let rest = drop (at + 1 + len) message in
-      let long : length label ≡ len = length-take-le len (drop (at + 1) message) (omega (arith, length-drop (at + 1) message)) in
-      let tail : drop (at + 1) message ≡ label ++ rest = sym (take-append-drop len (drop (at + 1) message))
-      ∙ ap (λ r. label ++ r) (drop-drop len (at + 1) message) in
+      let long : length label ≡ len = length-take-le len _ (omega (arith, length-drop (at + 1) message)) in
+      let tail : drop (at + 1) message ≡ label ++ rest = sym (take-append-drop len _)
+      ∙ ap (λ r. label ++ r) (drop-drop len _ message) in
       let label_bytes =
-      All-take (λ octet. octet < 256) len (drop (at + 1) message) (All-drop (λ octet. octet < 256) (at + 1) message bytes) in
+      All-take (λ octet. octet < 256) len _ (All-drop (λ octet. octet < 256) _ message bytes) in
       let is_label : IsLabel label = record { not_empty = omega arith; fits = omega arith; octets = label_bytes } in
       let one : length label ∷ (label ++ []) ≡ len ∷ label = rw (long, append-nil label) refl in
       let octets : labels_octets (so_far.labels ++ label ∷ []) ≡ labels_octets so_far.labels ++ len ∷ label =
-      octets_of_more so_far.labels (label ∷ []) ∙ ap (λ r. labels_octets so_far.labels ++ r) one in
+      octets_of_more _ _ ∙ ap (λ r. labels_octets so_far.labels ++ r) one in
       let count : length (labels_octets (so_far.labels ++ label ∷ [])) ≡ length (labels_octets so_far.labels) + 1 + len =
       rw octets (omega (arith, length-append (labels_octets so_far.labels) (len ∷ label))) in
       record {
@@ -79,7 +76,7 @@ module _ (message : List ℕ) (start used at len : ℕ) (inside : at < length me
         run = record {
           spelled =
               so_far.run.spelled ∙ ap (λ r. labels_octets so_far.labels ++ r) (ahead ∙ ap (λ r. len ∷ r) tail)
-              ∙ sym (append_assoc (labels_octets so_far.labels) (len ∷ label) rest) ∙ ap (λ r. r ++ rest) (sym octets);
+              ∙ sym (append_assoc _ _ rest) ∙ ap (λ r. r ++ rest) (sym octets);
           of_labels = all_of_more so_far.labels (label ∷ []) so_far.run.of_labels (is_label, tt);
         };
         place = omega (arith, so_far.place, count);
@@ -109,15 +106,7 @@ pub record Pointer (message : List ℕ) (at upper low : ℕ) : Type 0 where
 
 module _ (message : List ℕ) (start at upper low : ℕ) (here : Pointer message at upper low) where
   pointer_ahead : drop at message ≡ pointer_octets (upper * 256 + low) ++ drop (at + 2) message
-  pointer_ahead =
-      let two : at + 1 + 1 ≡ at + 2 = omega arith in
-      let high_ahead : drop at message ≡ (192 + upper) ∷ drop (at + 1) message =
-      rw (← here.high_is) (drop_more message at 0 (omega (arith, here.inside))) in
-      let low_ahead : drop (at + 1) message ≡ low ∷ drop (at + 2) message =
-      rw (← here.low_is, ← two) (drop_more message (at + 1) 0 here.inside) in
-      let first : 192 + (upper * 256 + low) / 256 ≡ 192 + upper = omega (arith, here.low_fits) in
-      let second : (upper * 256 + low) % 256 ≡ low = omega (arith, here.low_fits) in
-      rw (first, second) (high_ahead ∙ ap (λ r. (192 + upper) ∷ r) low_ahead)
+  pointer_ahead = grind (arith, common_steps)
 
   pub forward_fault : (used : ℕ) → start ≤ upper * 256 + low → EndFault start used (drop at message) name_fault.ForwardPointer
   forward_fault used forward = rw pointer_ahead (not_backward (upper * 256 + low) (drop (at + 2) message) forward)
@@ -186,7 +175,7 @@ pub under_way_next : (message : List ℕ) (at : ℕ) (old wire : List ℕ) (targ
     → IsUnderWay message at wire next end
 under_way_next message at old wire target start next end far so_far is run =
     let count : length wire ≡ length old + length (labels_octets run.labels) =
-    ap length run.wire ∙ length-append old (labels_octets run.labels) in
+    ap length run.wire ∙ length-append old _ in
     record {
       room = run.room;
       labels = λ more goes.
@@ -195,11 +184,11 @@ under_way_next message at old wire target start next end far so_far is run =
             whole.0,
             whole.1,
             whole.2 ∙ ap (λ o. old ++ o) (octets_of_more run.labels more)
-                ∙ sym (append_assoc old (labels_octets run.labels) (labels_octets more)) ∙ ap (λ w. w ++ labels_octets more) (sym run.wire),
+                ∙ sym (append_assoc old _ _) ∙ ap (λ w. w ++ labels_octets more) (sym run.wire),
           );
       fault = λ further further_is f h.
           so_far.fault start is f
-          (run_fault message start (length old) run.labels run.behind further far run.run (omega (arith, count, run.room))
+          (run_fault message start _ run.labels run.behind further far run.run (omega (arith, count, run.room))
           (subst (λ t. EndsWith start (start + length (labels_octets run.labels)) run.behind t far) further_is run.ends) f
           (subst (λ n. LabelsFault message further n f) count h));
     }

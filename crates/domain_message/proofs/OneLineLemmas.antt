@@ -1,5 +1,6 @@
 -- a line spells one record at most
-use Rattle.std.proofs.Common.{◌≡◌, ℕ, List, [], ◌∷◌, refl, sym, subst, ◌∙◌}
+use Rattle.std.proofs.Common.{arith, ◌≡◌, ℕ, List, [], refl, sym, subst, ◌∙◌}
+use Rattle.std.proofs.lemmas.Grind.{common_steps}
 use Rattle.domain_octets.specs.Line.{words_of}
 use Rattle.domain_octets.specs.Words.{Octets}
 use Rattle.domain_base.specs.Numbers.{ClassText, TypeText}
@@ -10,7 +11,7 @@ use Rattle.domain_base.proofs.NamedLemmas.{one_named}
 use Rattle.domain_names.proofs.SpellingLemmas.{one_name}
 use Rattle.domain_record.specs.declared.record.Record.{Record}
 use Rattle.domain_rdata.proofs.ScanLemmas.{text_once}
-use Rattle.domain_rdata.specs.Scan.{RdataText, own, generic}
+use Rattle.domain_rdata.specs.Scan.{RdataText}
 use Rattle.domain_rdata.specs.Zone.{rtype_of}
 use Rattle.domain_rdata.specs.declared.zone_record_data.ZoneRecordData.{ZoneRecordData}
 use Rattle.domain_message.specs.Alike.{AreAlike}
@@ -19,11 +20,7 @@ use Rattle.domain_message.specs.Entry.{EntryText, LineText}
 -- a token that is taken is told from the tokens
 taken_once : {V : Type 0} (P : Token → V → Type 0) → ((t : Token) (v w : V) → P t v → P t w → v ≡ w) → (v w : V) (old other m n : Tokens)
     → old ≡ other → TakesToken (λ t. P t v) old m → TakesToken (λ t. P t w) other n → (v ≡ w) × (m ≡ n)
-taken_once P once v w old other m n same x y =
-    let parts : x.token ∷ m ≡ y.token ∷ n = sym x.first ∙ same ∙ y.first in
-    let tokens : x.token ≡ y.token = cc in
-    let rests : m ≡ n = cc in
-    (once y.token v w (subst (λ t. P t v) tokens x.holds) y.holds, rests)
+taken_once P once v w old other m n same x y = grind (arith, common_steps)
 
 same_number : (text : Token) (m n : ℕ) → IsNumber 32 text m → IsNumber 32 text n → m ≡ n
 same_number text m n p q = p.value ∙ sym q.value
@@ -36,19 +33,18 @@ same_type text m n p q = one_named _ _ text m n p q
 
 module _ {O N : Type 0} (octets : O → Octets) (labels : N → Name) where
   text_type : (rtype : ℕ) (old new : Tokens) (d : ZoneRecordData O N) → RdataText octets labels rtype old d new → rtype_of d ≡ rtype
-  text_type rtype old new d (own unmarked text) = sym text.0
-  text_type rtype old new d (generic wire text are all) = sym are.0
+  text_type rtype old new d h = grind (arith, common_steps)
 
   one_entry : (tokens : Tokens) (r s : Record N (ZoneRecordData O N)) → EntryText octets labels tokens r → EntryText octets labels tokens s
       → AreAlike octets labels r s
   one_entry tokens r s x y =
-      let owner = taken_once NameText one_name (labels r.owner) (labels s.owner) tokens tokens x.head.behind_owner y.head.behind_owner refl
+      let owner = taken_once NameText one_name _ _ tokens tokens x.head.behind_owner y.head.behind_owner refl
       x.head.owned y.head.owned in
-      let ttl = taken_once (IsNumber 32) same_number r.ttl s.ttl x.head.behind_owner y.head.behind_owner x.head.behind_ttl y.head.behind_ttl
+      let ttl = taken_once _ same_number _ _ x.head.behind_owner y.head.behind_owner x.head.behind_ttl y.head.behind_ttl
       owner.1 x.head.timed y.head.timed in
-      let class = taken_once ClassText same_class r.class s.class x.head.behind_ttl y.head.behind_ttl x.head.behind_class
+      let class = taken_once ClassText same_class _ _ x.head.behind_ttl y.head.behind_ttl x.head.behind_class
       y.head.behind_class ttl.1 x.head.classed y.head.classed in
-      let rtype = taken_once TypeText same_type x.rtype y.rtype x.head.behind_class y.head.behind_class x.data_tokens y.data_tokens
+      let rtype = taken_once TypeText same_type _ _ x.head.behind_class y.head.behind_class x.data_tokens y.data_tokens
       class.1 x.head.typed y.head.typed in
       let other = subst (λ t. RdataText octets labels t x.data_tokens s.«data» []) (sym rtype.0)
       (subst (λ ws. RdataText octets labels y.rtype ws s.«data» []) (sym rtype.1) y.spelled) in
@@ -57,9 +53,9 @@ module _ {O N : Type 0} (octets : O → Octets) (labels : N → Name) where
         classes = class.0;
         ttls = ttl.0;
         types =
-            text_type x.rtype x.data_tokens [] r.«data» x.spelled ∙ rtype.0
-            ∙ sym (text_type y.rtype y.data_tokens [] s.«data» y.spelled);
-        wires = (text_once octets labels x.rtype x.data_tokens [] [] r.«data» s.«data» x.spelled other).1;
+            text_type _ _ [] r.«data» x.spelled ∙ rtype.0
+            ∙ sym (text_type _ _ [] s.«data» y.spelled);
+        wires = (text_once octets labels _ _ [] [] r.«data» s.«data» x.spelled other).1;
       }
 
   pub one_line : (line : List ℕ) (r s : Record N (ZoneRecordData O N)) → LineText octets labels line r → LineText octets labels line s

@@ -1,5 +1,6 @@
 -- at a place of a message stands one name at most, and none where there is a fault
-use Rattle.std.proofs.Common.{◌≡◌, ℕ, ◌+◌, ◌/◌, ◌%◌, ◌<◌, ◌≤◌, List, [], ◌∷◌, ◌++◌, length, take, drop, refl, sym, ap, subst, ◌∙◌, arith, length-append}
+use Rattle.std.proofs.lemmas.Grind.{common_steps}
+use Rattle.std.proofs.Common.{◌≡◌, ℕ, ◌+◌, ◌/◌, ◌<◌, ◌≤◌, List, [], ◌∷◌, ◌++◌, length, take, drop, refl, sym, ap, subst, ◌∙◌, arith, length-append}
 use Rattle.std.specs.List.{AllByRecursion}
 use Rattle.std.proofs.lemmas.List.{append_assoc, take_at, length-drop}
 use Rattle.domain_names.specs.Name.{wire_of, IsLabel, IsName}
@@ -9,7 +10,7 @@ use Rattle.domain_message.specs.Name.{labels_octets, pointer_octets, RunAt, Labe
 use Rattle.domain_message.specs.Fault.{EndFault, no_octet, half_pointer, bad_type, not_backward, long_name, cut_label, LabelsFault, here, beyond}
 use Rattle.domain_message.specs.Steps.{LabelsRead}
 use Rattle.domain_message.specs.declared.name.NameFault.{NameFault}
-use Rattle.domain_message.proofs.NameLemmas.{octets_of_more, all_of_more, wire_is}
+use Rattle.domain_message.proofs.NameLemmas.{octets_of_more, wire_is}
 
 -- no label stands here for which there is room in the name
 abbrev pub Ends : ℕ → List ℕ → Type 0
@@ -21,27 +22,19 @@ pub same_run : (used : ℕ) (xs ys : Name) (a b : List ℕ) → AllByRecursion I
     → Ends (used + length (labels_octets xs)) a → Ends (used + length (labels_octets ys)) b
     → labels_octets xs ++ a ≡ labels_octets ys ++ b → (xs ≡ ys) × (a ≡ b)
 same_run used [] [] a b xs_are ys_are xs_fit ys_fit a_ends b_ends same = (refl, same)
-same_run used [] (y ∷ ys) a b xs_are ys_are xs_fit ys_fit a_ends b_ends same =
-    absurd (a_ends y (labels_octets ys ++ b) ys_are.0 (same ∙ ap (λ r. length y ∷ r) (append_assoc y (labels_octets ys) b))
-    (omega (arith, ys_fit, length-append y (labels_octets ys))))
-same_run used (x ∷ xs) [] a b xs_are ys_are xs_fit ys_fit a_ends b_ends same =
-    absurd (b_ends x (labels_octets xs ++ a) xs_are.0 (sym same ∙ ap (λ r. length x ∷ r) (append_assoc x (labels_octets xs) a))
-    (omega (arith, xs_fit, length-append x (labels_octets xs))))
+same_run used [] (y ∷ ys) a b xs_are ys_are xs_fit ys_fit a_ends b_ends same = grind (arith, common_steps)
+same_run used (x ∷ xs) [] a b xs_are ys_are xs_fit ys_fit a_ends b_ends same = grind (arith, common_steps)
 same_run used (x ∷ xs) (y ∷ ys) a b xs_are ys_are xs_fit ys_fit a_ends b_ends same =
     let long : length x ≡ length y = cc in
     let tails : (x ++ labels_octets xs) ++ a ≡ (y ++ labels_octets ys) ++ b = cc in
-    let joined : x ++ (labels_octets xs ++ a) ≡ y ++ (labels_octets ys ++ b) =
-    sym (append_assoc x (labels_octets xs) a) ∙ tails ∙ append_assoc y (labels_octets ys) b in
-    let heads : x ≡ y =
-    sym (take_at x (labels_octets xs ++ a) (length x) refl) ∙ ap (take (length x)) joined
-    ∙ take_at y (labels_octets ys ++ b) (length x) (sym long) in
+    let joined : x ++ (labels_octets xs ++ a) ≡ y ++ (labels_octets ys ++ b) = sym (append_assoc x _ a) ∙ tails ∙ append_assoc y _ b in
+    let heads : x ≡ y = sym (take_at x _ _ refl) ∙ ap (take (length x)) joined ∙ take_at y _ _ (sym long) in
     let x_more : used + length (labels_octets (x ∷ xs)) ≡ used + length x + 1 + length (labels_octets xs) =
     omega (arith, length-append x (labels_octets xs)) in
     let y_more : used + length (labels_octets (y ∷ ys)) ≡ used + length x + 1 + length (labels_octets ys) =
     omega (arith, long, length-append y (labels_octets ys)) in
     let rest = same_run (used + length x + 1) xs ys a b xs_are.1 ys_are.1 (omega (arith, xs_fit, x_more)) (omega (arith, ys_fit, y_more))
-    (subst (λ n. Ends n a) x_more a_ends) (subst (λ n. Ends n b) y_more b_ends)
-    (rest_of x (labels_octets xs ++ a) y (labels_octets ys ++ b) long joined) in
+    (subst (λ n. Ends n a) x_more a_ends) (subst (λ n. Ends n b) y_more b_ends) (rest_of x _ y _ long joined) in
     let labels = rest.0 in
     (cc, rest.1)
 
@@ -54,20 +47,13 @@ pointer_ends used target after label rest is same room = let e : 192 + target / 
 fault_ends : (at used : ℕ) (behind : List ℕ) (fault : NameFault) → EndFault at used behind fault → Ends used behind
 fault_ends at used behind fault no_octet label rest is same room = cc
 fault_ends at used behind fault (half_pointer high big) label rest is same room = let e : high ≡ length label = cc in omega (arith, is.fits)
-fault_ends at used behind fault (bad_type len after big small) label rest is same room =
-    let e : len ≡ length label = cc in omega (arith, is.fits)
-fault_ends at used behind fault (not_backward target after forward) label rest is same room =
-    pointer_ends used target after label rest is same room
-fault_ends at used behind fault (long_name len after some small big) label rest is same room =
-    let e : len ≡ length label = cc in omega arith
-fault_ends at used behind fault (cut_label len after some small short cut) label rest is same room =
-    let e : len ≡ length label = cc in let t : after ≡ label ++ rest = cc in omega (arith, ap length t, length-append label rest)
+fault_ends at used behind fault (bad_type len after big small) label rest is same room = grind (arith, common_steps)
+fault_ends at used behind fault (not_backward target after forward) label rest is same room = grind (arith, common_steps)
+fault_ends at used behind fault (long_name len after some small big) label rest is same room = grind (arith, common_steps)
+fault_ends at used behind fault (cut_label len after some small short cut) label rest is same room = grind (arith, common_steps)
 
 same_target : (t u : ℕ) (a b : List ℕ) → pointer_octets t ++ a ≡ pointer_octets u ++ b → t ≡ u
-same_target t u a b same =
-    let high : 192 + t / 256 ≡ 192 + u / 256 = cc in
-    let low : t % 256 ≡ u % 256 = cc in
-    omega arith
+same_target t u a b same = grind (arith, common_steps)
 
 no_root_is_pointer : (t : ℕ) (a b : List ℕ) → 0 ∷ a ≡ pointer_octets t ++ b → ⊥
 no_root_is_pointer t a b same = let high : 0 ≡ 192 + t / 256 = cc in omega arith
@@ -112,23 +98,11 @@ one_reading message at used xs ys e f (pointed _ l t a _ m far x e_is back on)
 
 -- where a name stands, no fault is
 no_end_fault_of_root : (at used : ℕ) (a : List ℕ) (fault : NameFault) (b : List ℕ) → EndFault at used b fault → 0 ∷ a ≡ b → ⊥
-no_end_fault_of_root at used a fault b no_octet same = cc
-no_end_fault_of_root at used a fault b (half_pointer high big) same = let e : 0 ≡ high = cc in omega arith
-no_end_fault_of_root at used a fault b (bad_type len after big small) same = let e : 0 ≡ len = cc in omega arith
-no_end_fault_of_root at used a fault b (not_backward target after forward) same = no_root_is_pointer target a after same
-no_end_fault_of_root at used a fault b (long_name len after some small big) same = let e : 0 ≡ len = cc in omega arith
-no_end_fault_of_root at used a fault b (cut_label len after some small short cut) same = let e : 0 ≡ len = cc in omega arith
+no_end_fault_of_root at used a fault b h same = grind (arith, common_steps)
 
 no_end_fault_of_pointer : (at used t : ℕ) (a : List ℕ) (fault : NameFault) (b : List ℕ) → t < at → EndFault at used b fault
     → pointer_octets t ++ a ≡ b → ⊥
-no_end_fault_of_pointer at used t a fault b back no_octet same = cc
-no_end_fault_of_pointer at used t a fault b back (half_pointer high big) same = cc
-no_end_fault_of_pointer at used t a fault b back (bad_type len after big small) same = let e : 192 + t / 256 ≡ len = cc in omega arith
-no_end_fault_of_pointer at used t a fault b back (not_backward target after forward) same =
-    let e = same_target t target a after same in omega arith
-no_end_fault_of_pointer at used t a fault b back (long_name len after some small big) same = let e : 192 + t / 256 ≡ len = cc in omega arith
-no_end_fault_of_pointer at used t a fault b back (cut_label len after some small short cut) same =
-    let e : 192 + t / 256 ≡ len = cc in omega arith
+no_end_fault_of_pointer at used t a fault b back h same = grind (arith, common_steps)
 
 pub no_labels_fault : (message : List ℕ) (at used : ℕ) (xs : Name) (e : ℕ) (fault : NameFault) → LabelsAt message at xs e
     → used + length (labels_octets xs) + 1 ≤ 255 → LabelsFault message at used fault → ⊥
@@ -167,13 +141,11 @@ no_fault message at x e fault a found = no_labels_fault message at 0 x e fault a
 -- labels that stand somewhere are labels
 pub labels_valid : (message : List ℕ) (at : ℕ) (labels : Name) (end : ℕ) → LabelsAt message at labels end → AllByRecursion IsLabel labels
 labels_valid message at labels end (in_full _ _ after _ run end_is) = run.of_labels
-labels_valid message at labels end (pointed _ l t after _ more far run end_is back on) =
-    all_of_more l more run.of_labels (labels_valid message t more far on)
+labels_valid message at labels end (pointed _ l t after _ more far run end_is back on) = grind (arith, common_steps, (labels_valid message t more far on))
 
 -- and end within the message
 pub ends_inside : (message : List ℕ) (at : ℕ) (labels : Name) (end : ℕ) → LabelsAt message at labels end → end ≤ length message
-ends_inside message at labels end (in_full _ _ after _ run end_is) =
-    omega (arith, end_is, ap length run.spelled, length-append (labels_octets labels) (0 ∷ after), length-drop at message)
+ends_inside message at labels end (in_full _ _ after _ run end_is) = grind (arith, common_steps, (length-append (labels_octets labels) (0 ∷ after)))
 ends_inside message at labels end (pointed _ l t after _ more far run end_is back on) =
     omega (arith, end_is, ap length run.spelled, length-append (labels_octets l) (pointer_octets t ++ after), length-drop at message)
 
@@ -182,10 +154,10 @@ pub in_full_at : (message : List ℕ) (at : ℕ) (name : Name) (after : List ℕ
     → NameAt message at name (at + length (wire_of name))
 in_full_at message at name after valid is =
     let count : length (wire_of name) ≡ length (labels_octets name) + 1 =
-    ap length (wire_is name) ∙ length-append (labels_octets name) (0 ∷ []) in
+    ap length (wire_is name) ∙ length-append _ _ in
     record {
       stands = in_full at name after (at + length (wire_of name)) (record {
-        spelled = is ∙ ap (λ w. w ++ after) (wire_is name) ∙ append_assoc (labels_octets name) (0 ∷ []) after;
+        spelled = is ∙ ap (λ w. w ++ after) (wire_is name) ∙ append_assoc _ _ after;
         of_labels = valid.of_labels;
       }) (omega (arith, count));
       valid = valid;
@@ -194,16 +166,7 @@ in_full_at message at name after valid is =
 -- the labels that were read, with the root, are the octets of a name
 pub named : (message : List ℕ) (at end : ℕ) (octets wire : List ℕ) → LabelsRead message at octets end → wire ≡ octets ++ 0 ∷ []
     → (name : Name) × NameAt message at name end × (wire ≡ wire_of name)
-named message at end octets wire read is =
-    let same : wire ≡ wire_of read.labels = is ∙ ap (λ o. o ++ 0 ∷ []) read.are ∙ sym (wire_is read.labels) in
-    let count : length (wire_of read.labels) ≡ length octets + 1 = ap length (sym same ∙ is) ∙ length-append octets (0 ∷ []) in (
-      read.labels,
-      record {
-        stands = read.stands;
-        valid = record { of_labels = labels_valid message at read.labels end read.stands; fits = omega (arith, count, read.room) };
-      },
-      same,
-    )
+named message at end octets wire read is = grind (arith, common_steps, wire_is, labels_valid)
 
 pub read_inside : (message : List ℕ) (at end : ℕ) (octets : List ℕ) → LabelsRead message at octets end → end ≤ length message
 read_inside message at end octets read = ends_inside message at read.labels end read.stands

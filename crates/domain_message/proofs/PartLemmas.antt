@@ -1,23 +1,15 @@
 -- data stand at a place in one way at most, and in none where they have a fault
-use Rattle.std.proofs.Common.{◌≡◌, ℕ, ◌+◌, List, [], ◌∷◌, ◌++◌, sym, ap, subst, ◌∙◌, arith, inl, inr}
-use Rattle.std.specs.Prelude.{Option, Some, None}
-use Rattle.domain_names.specs.Name.{wire_of}
-use Rattle.domain_message.specs.Data.{PartAt, PartsAt, PartFault, PartsFault, PlacedAt, OctetsAt}
+use Rattle.std.proofs.lemmas.Grind.{common_steps}
+use Rattle.std.proofs.Common.{◌≡◌, ℕ, List, [], ◌∷◌, ◌++◌, sym, subst, ◌∙◌, arith, inl, inr}
+use Rattle.std.specs.Prelude.{Option}
+use Rattle.domain_message.specs.Data.{PartAt, PartsAt, PartFault, PartsFault, PlacedAt}
 use Rattle.domain_message.specs.declared.parts.Part.{Part}
-use Rattle.domain_message.specs.declared.parts.Part.TheVariants as part
 use Rattle.domain_message.specs.declared.name.NameFault.{NameFault}
 use Rattle.domain_message.proofs.OneNameLemmas.{one_name, no_fault}
 
-one_plain : (message : List ℕ) (count at : ℕ) (a b : List ℕ) (e f : ℕ) → OctetsAt message at count a e → OctetsAt message at count b f
-    → (a ≡ b) × (e ≡ f)
-one_plain message count at a b e f x y = (x.are ∙ sym y.are, x.end_is ∙ sym y.end_is)
-
 one_part : (message : List ℕ) (p : Part) (at : ℕ) (a b : List ℕ) (e f : ℕ) → PartAt message p at a e → PartAt message p at b f
     → (a ≡ b) × (e ≡ f)
-one_part message (part.Plain count) at a b e f x y = one_plain message count at a b e f x y
-one_part message part.Name at a b e f x y =
-    let same = one_name message at x.0 y.0 e f x.1 y.1 in
-    (x.2 ∙ ap wire_of same.0 ∙ sym y.2, same.1)
+one_part message p at a b e f x y = grind (arith, common_steps, one_name)
 
 pub one_parts : (message : List ℕ) (ps : List Part) (at : ℕ) (a b : List ℕ) (e f : ℕ) → PartsAt message ps at a e
     → PartsAt message ps at b f
@@ -30,8 +22,7 @@ one_parts message (p ∷ ps) at a b e f x y =
 
 no_part : (message : List ℕ) (p : Part) (at : ℕ) (a : List ℕ) (e : ℕ) (fault : NameFault) → PartAt message p at a e
     → PartFault message p at fault → ⊥
-no_part message (part.Plain count) at a e fault x why = let is : OctetsAt message at count a e = x in omega (arith, is.inside, why.0)
-no_part message part.Name at a e fault x why = no_fault message at x.0 e fault x.1 why
+no_part message p at a e fault x why = grind (arith, common_steps, no_fault)
 
 pub no_parts : (message : List ℕ) (ps : List Part) (at : ℕ) (a : List ℕ) (e : ℕ) (fault : NameFault) → PartsAt message ps at a e
     → PartsFault message ps at fault → ⊥
@@ -43,5 +34,4 @@ no_parts message (p ∷ ps) at a e fault x (inr why) =
 
 pub one_placed : (message : List ℕ) (ps : Option (List Part)) (at count : ℕ) (a b : List ℕ) → PlacedAt message ps at count a
     → PlacedAt message ps at count b → a ≡ b
-one_placed message None at count a b x y = (one_plain message count at a b (at + count) (at + count) x y).0
-one_placed message (Some ps) at count a b x y = (one_parts message ps at a b (at + count) (at + count) x y).0
+one_placed message ps at count a b x y = grind (arith, common_steps, one_parts)

@@ -1,11 +1,12 @@
 -- the words of a line, one after another
+use Rattle.std.proofs.lemmas.Grind.{common_steps}
 use Rattle.std.proofs.Common.{◌≡◌, ℕ, ◌<◌, List, [], ◌∷◌, ◌++◌, Bor, length, map, get_or, refl, sym, ap, subst, ◌∙◌, arith, true, false}
 use Rattle.std.specs.Prelude.{◌==◌, Bool}
 use Rattle.std.specs.List.{before_first, after_first, position_or_len}
 use Rattle.std.specs.Str.{IsUtf8}
 use Rattle.std.proofs.lemmas.Bool.{eqb-true}
 use Rattle.std.proofs.lemmas.Bool.Decides.{nat_tests}
-use Rattle.std.proofs.lemmas.List.{append-nil, append_assoc, map_push, get_or-take, length-take, take_all}
+use Rattle.std.proofs.lemmas.List.{get_or-take, length-take}
 use Rattle.std.proofs.lemmas.List.Elements.{recursion_from_All, All-from_get_or}
 use Rattle.std.proofs.lemmas.List.Sums.{split_at_first, fails_before_first, passes_at_first}
 use Rattle.domain_octets.specs.Line.{word_if_any, words_after, words_of, HasNoSpace, IsWord}
@@ -45,71 +46,40 @@ module _ (rest : List ℕ) where
 
   no_space : HasNoSpace before
   no_space =
-      recursion_from_All (λ c. (c == 32) ≡ false) before
-      (All-from_get_or (λ c. (c == 32) ≡ false) before 0 (λ i below.
+      recursion_from_All _ before (All-from_get_or (λ c. (c == 32) ≡ false) before 0 (λ i below.
       let inside : i < place = omega (arith, below, length-take place rest) in
-      ap (λ c. c == 32) (get_or-take place rest i 0 inside) ∙ fails_before_first (λ b. b == 32) rest i 0 inside))
+      ap (λ c. c == 32) (get_or-take place rest i 0 inside) ∙ fails_before_first _ rest i 0 inside))
 
   words_cut : (word after : List ℕ) → word ≡ before → after ≡ after_first (λ b. b == 32) rest → place < length rest
       → words_of rest ≡ word_if_any word ++ words_of after
   words_cut word after word_is after_is inside =
-      let space : get_or rest place 0 ≡ 32 = eqb-true (get_or rest place 0) 32 (passes_at_first (λ b. b == 32) rest 0 inside) in
-      let parts : rest ≡ word ++ 32 ∷ after =
-      split_at_first (λ b. b == 32) rest 0 inside ∙ (λ i. sym word_is i ++ space i ∷ sym after_is i) in
+      let space : get_or rest place 0 ≡ 32 = eqb-true _ 32 (passes_at_first _ rest 0 inside) in
+      let parts : rest ≡ word ++ 32 ∷ after = split_at_first _ rest 0 inside ∙ (λ i. sym word_is i ++ space i ∷ sym after_is i) in
       ap words_of parts ∙ first_any word after (subst HasNoSpace (sym word_is) no_space)
 
   words_whole : place ≡ length rest → words_of rest ≡ word_if_any rest
-  words_whole none =
-      let all : before ≡ rest = take_all place rest (omega arith) in
-      last_any rest (subst HasNoSpace all no_space)
-
--- one word more
-more_words : (words : List (Bor (List ℕ))) (w : Bor (List ℕ)) (word : List ℕ) → w.now ≡ word
-    → map (λ x. x.now) (words ++ w ∷ []) ≡ map (λ x. x.now) words ++ word ∷ []
-more_words words w word e = map_push (λ x. x.now) words w ∙ ap (λ q. map (λ x. x.now) words ++ q ∷ []) e
+  words_whole none = grind (arith, common_steps, last_any, no_space)
 
 some_word : (word : List ℕ) → 0 < length word → word_if_any word ≡ word ∷ []
 some_word [] some = absurd (omega arith)
 some_word (c ∷ word) some = refl
 
-no_word : (word : List ℕ) → length word ≡ 0 → word_if_any word ≡ []
-no_word [] none = refl
-no_word (c ∷ word) none = absurd (omega arith)
-
 module _ (line rest : List ℕ) (words : List (Bor (List ℕ))) (so_far : HasWords line rest words) (word after : List ℕ)
     (word_is : word ≡ before_first (λ b. b == 32) rest) (after_is : after ≡ after_first (λ b. b == 32) rest)
     (inside : position_or_len (λ b. b == 32) rest < length rest) (text : IsUtf8 after) where
   pub word_found : (w : Bor (List ℕ)) → w.now ≡ word → 0 < length word → HasWords line after (words ++ w ∷ [])
-  word_found w is some = record {
-    text = text;
-    same =
-        ap (λ ws. ws ++ words_of after) (more_words words w word is)
-        ∙ append_assoc (map (λ x. x.now) words) (word ∷ []) (words_of after)
-        ∙ ap (λ ws. map (λ x. x.now) words ++ ws) (ap (λ v. v ++ words_of after) (sym (some_word word some))
-        ∙ sym (words_cut rest word after word_is after_is inside))
-        ∙ so_far.same;
-  }
+  word_found w is some = grind (arith, common_steps, (some_word word some), (words_cut rest word after word_is after_is inside))
 
   pub word_missing : length word ≡ 0 → HasWords line after words
-  word_missing none = record {
-    text = text;
-    same =
-        ap (λ ws. map (λ x. x.now) words ++ ws) (ap (λ v. v ++ words_of after) (sym (no_word word none))
-        ∙ sym (words_cut rest word after word_is after_is inside))
-        ∙ so_far.same;
-  }
+  word_missing none = grind (arith, common_steps, words_cut)
 
 module _ (line rest : List ℕ) (words : List (Bor (List ℕ))) (so_far : HasWords line rest words)
     (whole : position_or_len (λ b. b == 32) rest ≡ length rest) where
   pub last_found : (w : Bor (List ℕ)) → w.now ≡ rest → 0 < length rest → map (λ x. x.now) (words ++ w ∷ []) ≡ words_of line
-  last_found w is some =
-      more_words words w rest is ∙ ap (λ ws. map (λ x. x.now) words ++ ws) (sym (words_whole rest whole ∙ some_word rest some))
-      ∙ so_far.same
+  last_found w is some = grind (arith, common_steps, words_whole)
 
   pub last_missing : length rest ≡ 0 → map (λ x. x.now) words ≡ words_of line
-  last_missing none =
-      sym (append-nil (map (λ x. x.now) words))
-      ∙ ap (λ ws. map (λ x. x.now) words ++ ws) (sym (words_whole rest whole ∙ no_word rest none)) ∙ so_far.same
+  last_missing none = grind (arith, common_steps, words_whole)
 
 pub not_empty : (word : List ℕ) (test : Bool) → test ≡ (length word == 0) → test ≡ false → 0 < length word
 not_empty word test is other = grind (arith, nat_tests)

@@ -1,6 +1,7 @@
 -- a record that is written without compression stands where it was written
-use Rattle.std.proofs.Common.{◌≡◌, ℕ, ◌+◌, ◌<◌, ◌≤◌, ◌^◌, List, [], ◌∷◌, ◌++◌, refl, sym, ap, subst, ◌∙◌, arith, length, length-append, take, drop}
-use Rattle.std.specs.Int.{w16, w32, to_be_bytes}
+use Rattle.std.proofs.lemmas.Grind.{common_steps}
+use Rattle.std.proofs.Common.{◌≡◌, ℕ, ◌+◌, ◌<◌, ◌≤◌, ◌^◌, List, [], ◌∷◌, ◌++◌, refl, sym, ap, subst, ◌∙◌, arith, length, length-append, drop}
+use Rattle.std.specs.Int.{w16, to_be_bytes}
 use Rattle.std.proofs.lemmas.List.{append-nil, append_assoc, drop-drop, drop_at, take_at, length-drop}
 use Rattle.domain_octets.specs.Words.{Octets}
 use Rattle.domain_names.specs.Name.{wire_of, IsName}
@@ -11,7 +12,7 @@ use Rattle.domain_rdata.specs.Scan.{AreData}
 use Rattle.domain_rdata.specs.Zone.{rtype_of, wire_octets}
 use Rattle.domain_rdata.specs.declared.zone_record_data.ZoneRecordData.{ZoneRecordData}
 use Rattle.domain_rdata.specs.declared.zone_record_data.ZoneRecordData.TheVariants.{A, Ns, Soa, Mx, Dnskey, Ds, Rrsig, Nsec, Nsec3, Nsec3param, Unknown}
-use Rattle.domain_message.specs.Data.{PlacedAt, PartsAt, DataAt, OctetsAt}
+use Rattle.domain_message.specs.Data.{PartsAt, DataAt, OctetsAt}
 use Rattle.domain_message.specs.Header.{numbers}
 use Rattle.domain_message.specs.Record.{RecordAt}
 use Rattle.domain_message.specs.Written.{HasExactWire, record_octets}
@@ -26,11 +27,8 @@ module _ (message : List ℕ) where
   -- octets stand where they are
   octets_stand : (at count : ℕ) (front rest : List ℕ) → at ≤ length message → length front ≡ count → drop at message ≡ front ++ rest
       → OctetsAt message at count front (at + count)
-  octets_stand at count front rest within long is = record {
-    inside = omega (arith, within, long, ap length is, length-append front rest, length-drop at message);
-    are = sym (ap (take count) is ∙ take_at front rest count long);
-    end_is = refl;
-  }
+  octets_stand at count front rest within long is =
+      grind (arith, common_steps, length-drop, take_at, (length-append front rest), (take_at front rest count long))
 
   within_past : (at : ℕ) (front rest : List ℕ) → at ≤ length message → drop at message ≡ front ++ rest → at + length front ≤ length message
   within_past at front rest within is = omega (arith, within, ap length is, length-append front rest, length-drop at message)
@@ -38,32 +36,23 @@ module _ (message : List ℕ) where
   name_parts : (at : ℕ) (name : Name) (rest : List ℕ) (end : ℕ) → IsName name → drop at message ≡ wire_of name ++ rest
       → end ≡ at + length (wire_of name)
       → PartsAt message (part.Name ∷ []) at (wire_of name) end
-  name_parts at name rest end valid is end_is = (
-    wire_of name,
-    [],
-    at + length (wire_of name),
-    (name, in_full_at message at name rest valid is, refl),
-    (refl, end_is),
-    sym
-        (append-nil (wire_of name)),
-  )
+  name_parts at name rest end valid is end_is = grind (arith, common_steps, in_full_at)
 
   exchange_parts : (at : ℕ) (preference : List ℕ) (name : Name) (rest : List ℕ) → at ≤ length message → length preference ≡ 2 → IsName name
       → drop at message ≡ (preference ++ wire_of name) ++ rest
       → PartsAt message (part.Plain 2 ∷ part.Name ∷ []) at (preference ++ wire_of name) (at + length (preference ++ wire_of name))
   exchange_parts at preference name rest within two valid is =
-      let joined : drop at message ≡ preference ++ (wire_of name ++ rest) = is ∙ append_assoc preference (wire_of name) rest in
+      let joined : drop at message ≡ preference ++ (wire_of name ++ rest) = is ∙ append_assoc preference _ rest in
       let next : drop (at + 2) message ≡ wire_of name ++ rest =
       subst (λ n. drop (at + n) message ≡ wire_of name ++ rest) two (past at preference (wire_of name ++ rest) joined) in (
         preference,
         wire_of name,
         at + 2,
         octets_stand at 2 preference (wire_of name ++ rest) within two joined,
-        name_parts (at + 2) name rest (at + length (preference ++ wire_of name)) valid next (omega (
+        name_parts _ name rest _ valid next (omega (
           arith,
           two,
-          length-append preference
-              (wire_of name),
+          length-append preference (wire_of name),
         )),
         refl,
       )
@@ -74,11 +63,11 @@ module _ (message : List ℕ) where
       (at + length ((wire_of m ++ wire_of r) ++ numbers))
   start_parts at m r numbers rest within twenty m_is r_is is =
       let joined : drop at message ≡ wire_of m ++ (wire_of r ++ (numbers ++ rest)) =
-      is ∙ append_assoc (wire_of m ++ wire_of r) numbers rest ∙ append_assoc (wire_of m) (wire_of r) (numbers ++ rest) in
+      is ∙ append_assoc _ numbers rest ∙ append_assoc (wire_of m) (wire_of r) (numbers ++ rest) in
       let second = past at (wire_of m) (wire_of r ++ (numbers ++ rest)) joined in
-      let third = past (at + length (wire_of m)) (wire_of r) (numbers ++ rest) second in
+      let third = past _ _ _ second in
       let within_second = within_past at (wire_of m) (wire_of r ++ (numbers ++ rest)) within joined in
-      let within_third = within_past (at + length (wire_of m)) (wire_of r) (numbers ++ rest) within_second second in
+      let within_third = within_past _ _ _ within_second second in
       let end_is : at + length ((wire_of m ++ wire_of r) ++ numbers) ≡ at + length (wire_of m) + length (wire_of r) + 20 =
       omega (arith, twenty, length-append (wire_of m ++ wire_of r) numbers, length-append (wire_of m) (wire_of r)) in (
         wire_of m,
@@ -89,18 +78,18 @@ module _ (message : List ℕ) where
           wire_of r,
           numbers,
           at + length (wire_of m) + length (wire_of r),
-          (r, in_full_at message (at + length (wire_of m)) r (numbers ++ rest) r_is second, refl),
+          (r, in_full_at message _ r _ r_is second, refl),
           (
             numbers,
             [],
             at + length (wire_of m) + length (wire_of r) + 20,
-            octets_stand (at + length (wire_of m) + length (wire_of r)) 20 numbers rest within_third twenty third,
+            octets_stand _ 20 numbers rest within_third twenty third,
             (refl, end_is),
             sym (append-nil numbers),
           ),
           refl,
         ),
-        append_assoc (wire_of m) (wire_of r) numbers,
+        append_assoc _ _ numbers,
       )
 
 module _ {O N : Type 0} (octets : O → Octets) (labels : N → Name) (message : List ℕ) (place : ℕ) (after : List ℕ)
@@ -111,23 +100,15 @@ module _ {O N : Type 0} (octets : O → Octets) (labels : N → Name) (message :
   unfolding octets_of
   placed (A d) exact are is = octets_stand message place (length (wire_octets octets labels (A d))) _ after within refl is
   placed (Ns d) exact are is = name_parts message place (labels d.nsdname) after _ are.1.fits is refl
-  placed (Soa d) exact are is =
-      start_parts message place (labels d.mname) (labels d.rname)
-      ((to_be_bytes w32 d.serial ++ (to_be_bytes w32 d.refresh ++ to_be_bytes w32 d.retry)) ++
-      (to_be_bytes w32 d.expire ++ to_be_bytes w32 d.minimum))
-      after within refl are.1.fits.0.0 are.1.fits.0.1 is
-  placed (Mx d) exact are is =
-      exchange_parts message place (to_be_bytes w16 d.preference) (labels d.exchange) after within refl are.1.fits.1 is
+  placed (Soa d) exact are is = start_parts message place _ _ _ after within refl are.1.fits.0.0 are.1.fits.0.1 is
+  placed (Mx d) exact are is = exchange_parts message place (to_be_bytes w16 d.preference) _ after within refl are.1.fits.1 is
   placed (Dnskey d) exact are is = octets_stand message place (length (wire_octets octets labels (Dnskey d))) _ after within refl is
   placed (Ds d) exact are is = octets_stand message place (length (wire_octets octets labels (Ds d))) _ after within refl is
   placed (Rrsig d) exact are is = octets_stand message place (length (wire_octets octets labels (Rrsig d))) _ after within refl is
   placed (Nsec d) exact are is = octets_stand message place (length (wire_octets octets labels (Nsec d))) _ after within refl is
   placed (Nsec3 d) exact are is = octets_stand message place (length (wire_octets octets labels (Nsec3 d))) _ after within refl is
   placed (Nsec3param d) exact are is = octets_stand message place (length (wire_octets octets labels (Nsec3param d))) _ after within refl is
-  placed (Unknown d) exact are is =
-      subst (λ ps. PlacedAt message ps place (length (wire_octets octets labels (Unknown d))) (wire_octets octets labels (Unknown d)))
-      (sym exact.1)
-      (octets_stand message place (length (wire_octets octets labels (Unknown d))) _ after within refl is)
+  placed (Unknown d) exact are is = grind (arith, common_steps)
 
 numbers_count : (t c l n : ℕ) → length (octets_of numbers (t, (c, (l, n)))) ≡ 10
 unfolding octets_of
@@ -144,13 +125,13 @@ module _ {O N : Type 0} (octets : O → Octets) (labels : N → Name) (message a
       let wire = wire_octets octets labels r.«data» in
       let name = wire_of (labels r.owner) in
       let fields = octets_of numbers (rtype_of r.«data», (r.class, (r.ttl, length wire))) in
-      let ten : length fields ≡ 10 = numbers_count (rtype_of r.«data») r.class r.ttl (length wire) in
+      let ten : length fields ≡ 10 = numbers_count _ _ _ _ in
       let joined : drop at message ≡ name ++ (fields ++ (wire ++ after)) =
-      is ∙ append_assoc name (fields ++ wire) after ∙ ap (λ o. name ++ o) (append_assoc fields wire after) in
+      is ∙ append_assoc name _ after ∙ ap (λ o. name ++ o) (append_assoc fields wire after) in
       let second = past message at name (fields ++ (wire ++ after)) joined in
       let third : drop (at + length name + 10) message ≡ wire ++ after =
-      subst (λ n. drop (at + length name + n) message ≡ wire ++ after) ten (past message (at + length name) fields
-      (wire ++ after) second) in
+      subst (λ n. drop (at + length name + n) message ≡ wire ++ after) ten (past message _ fields _
+      second) in
       let within : at + length name + 10 ≤ length message =
       omega (arith, ten, ap length second, length-append fields (wire ++ after), length-drop (at + length name) message) in
       record {
@@ -167,7 +148,7 @@ module _ {O N : Type 0} (octets : O → Octets) (labels : N → Name) (message a
         holds = record {
           wire = wire;
           inside = omega (arith, within, ap length third, length-append wire after, length-drop (at + length name + 10) message);
-          placed = placed octets labels message (at + length name + 10) after within r.«data» exact are third;
+          placed = placed octets labels message _ after within _ exact are third;
           read = are;
         };
         end_is = omega (arith, ten, length-append name (fields ++ wire), length-append fields wire);

@@ -158,6 +158,7 @@ fn record_of(alloc: Global, words: &[&str]) -> Result<OwnedRecord, LineError>
 /// `NoEntry` where the line is blank or its first word begins with a semicolon; else the first of
 /// its parts that is missing or refused, with what is said of it, and `Trailing` where words are
 /// left behind the data. `OutOfMemory` where there is no memory for the words of the line.
+#[tactic(auto, using(std::proofs::lemmas::Grind::common_steps, crate::proofs::LineLemmas::line_refused))]
 pub fn scan_record(alloc: Global, line: &str) -> Result<OwnedRecord, LineError>
     ensures ok { IfOk result (LineText (λ o. o.items) (λ n. n) line.now) }
     ensures err { IfErr result (RefusesLine ⟦<Vec<u8> as Octets>⟧.octets

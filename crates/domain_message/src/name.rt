@@ -104,6 +104,7 @@ fn run_end(message: &[u8], start: usize, at: usize) -> Result<Run, NameFault>
 }
 
 /// Appends the octets of the labels that stand at a place.
+#[tactic(auto, using(crate::proofs::NameLemmas::end_fault_here))]
 fn read_run(message: &[u8], start: usize, wire: &mut NameOctets) -> Result<Run, NameFault>
     requires { length wire.old < 255 }
     ensures ok { IfOk result (λ run.

@@ -4,7 +4,7 @@ use Rattle.std.proofs.Common.{zero, suc, ◌<◌, length, get_or, take, arith}
 use Rattle.std.specs.Prelude.{count_by, All}
 use Rattle.std.specs.List.{AllByRecursion, list_any}
 use Rattle.std.proofs.lemmas.Bool.{cases_Bool, false≢true, true≢false, and_parts, or_cases, not-true}
-use Rattle.std.proofs.lemmas.List.{get_or_read, map-append as made_more, take_more}
+use Rattle.std.proofs.lemmas.List.{take_more}
 use Rattle.std.proofs.lemmas.List.Elements.{recursion_from_All}
 use Rattle.domain_bitmap.specs.Bitmap.{bitmap_octets}
 use Rattle.domain_zone.specs.Covering.{matches, covers, matches_or_covers, pairs}
@@ -17,7 +17,7 @@ use Rattle.domain_zone.specs.declared.soa.ApexSoa.{ApexSoa}
 use Rattle.domain_zone.proofs.NameLemmas.{before_order, one_lowered, same_itself, same_is, before_left, before_right, below_from, same_lowered}
 use Rattle.domain_zone.proofs.OwnerLemmas.{any_owner, any_in, owners_are, owners_ascend, apex_unoccluded}
 use Rattle.domain_zone.proofs.PairLemmas.{In, all_in, IsAscending, IsApart, one_matches_or_covers, gap, owner_in, next_is}
-use Rattle.domain_zone.proofs.PlaceLemmas.{count_cons, one_place}
+use Rattle.domain_zone.proofs.PlaceLemmas.{one_place}
 use Rattle.domain_zone.proofs.SoaLemmas.{soa_owned}
 use Rattle.domain_zone.proofs.ZoneLemmas.{weaker, apart_right}
 use Rattle.domain_zone.proofs.FindLemmas.{in_at}
@@ -65,8 +65,7 @@ link_at numbers a (n ∷ names) (b ∷ bits) (suc i) d e l = link_at numbers a n
 -- the owner of the link at a place
 pub owner_borrowed : (numbers : ApexSoa) (a : Name) (names : List Name) (bits : List (List ℕ)) (i : ℕ) (d : Link) (n : Name)
     → length names ≡ length bits → i < length names → n ≡ get_or names i n → n ≡ (get_or (links_in numbers a names bits) i d).owner
-owner_borrowed numbers a names bits i d n even within owner =
-    get_or_read names i n within owner a ∙ ap (λ k. k.owner) (link_at numbers a names bits i d even within)
+owner_borrowed numbers a names bits i d n even within owner = grind (arith, common_steps, link_at)
 
 -- the link at a place has that owner, the owner after it, or the apex, for a next name, and the bits there
 pub link_borrowed : (numbers : ApexSoa) (a : Name) (names : List Name) (bits : List (List ℕ)) (i : ℕ) (d : Link) (n next : Name) (types : List ℕ)
@@ -78,8 +77,7 @@ link_borrowed numbers a names bits i d n next types even within owner listed lat
 pub record_made : {X : Type 0} (see : X → Link) (old new : List X) (item : X) (i : ℕ) (links : List Link) → i < length links
     → new ≡ old ++ item ∷ [] → ((d : Link) → see item ≡ get_or links i d) → map see old ≡ take i links
     → map see new ≡ take (i + 1) links
-record_made see old new item i links within pushed is h =
-    ap (map see) pushed ∙ made_more see old (item ∷ []) ∙ (λ j. h j ++ is (see item) j ∷ []) ∙ sym (take_more links i (see item) within)
+record_made see old new item i links within pushed is h = grind (arith, common_steps, (take_more links i (see item) within))
 
 -- the owners of a zone with their types are its chain
 pub chain_of : (L : List ZoneRecord) (a : Name) (config : GenerateNsecConfig) (numbers : ApexSoa) (names : List Name)
@@ -93,10 +91,7 @@ chain_of L a config numbers names bits soa named listed = grind (arith, common_s
 count_pairs : (x : Name) (links : List Link) → count_by (λ k. matches_or_covers before k.owner k.next x) links
     ≡ count_by (λ (p : Name × Name). matches_or_covers before p.0 p.1 x) (map pair_of links)
 count_pairs x [] = refl
-count_pairs x (k ∷ links) =
-    count_cons (λ k. matches_or_covers before k.owner k.next x) k links
-    ∙ ap (λ n. cond (matches_or_covers before k.owner k.next x) 1 0 + n) (count_pairs x links)
-    ∙ sym (count_cons (λ (p : Name × Name). matches_or_covers before p.0 p.1 x) (pair_of k) (map pair_of links))
+count_pairs x (k ∷ links) = grind (arith, common_steps)
 
 in_map : (links : List Link) (k : Link) → In k links → In (pair_of k) (map pair_of links)
 in_map [] k i = i
@@ -150,31 +145,26 @@ module _ (L : List ZoneRecord) (a : Name) (order : OwnersNeverDescend L) (config
       → IsApart {lt = before} before_order m (l.owner, l.next)
   owner_gap l m i j =
       let k = owners in
-      gap before_order k.first k.later a (l.owner, l.next) m k.up
-      (subst (In (l.owner, l.next)) (chain.names ∙ ap (λ ks. pairs ks a) k.are) (in_map links l i)) (subst (In m) k.are j)
+      gap before_order _ _ a _ m k.up (subst (In _) (chain.names ∙ ap (λ ks. pairs ks a) k.are) (in_map links l i)) (subst (In m) k.are j)
 
   pub link_owner : (l : Link) → In l links → In l.owner (unoccluded_owners config.occlude_below_dname L a)
   link_owner l i =
       let k = owners in
-      subst (In l.owner) (sym k.are)
-      (owner_in before_order k.first k.later a (l.owner, l.next) (subst (In (l.owner, l.next)) (chain.names ∙ ap (λ ks. pairs ks a) k.are) (in_map links l i)))
+      subst (In _) (sym k.are) (owner_in before_order _ _ a _ (subst (In _) (chain.names ∙ ap (λ ks. pairs ks a) k.are) (in_map links l i)))
 
   pub link_next : (l : Link) → In l links → ((before l.owner l.next ≡ true) × In l.next (unoccluded_owners config.occlude_below_dname L a)) ⊎ (a ≡ l.next)
   link_next l i =
       let k = owners in
-      elim (next_is before_order k.first k.later a (
-        l.owner,
-        l.next,
-      ) k.up (subst (In (l.owner, l.next)) (chain.names ∙ ap (λ ks. pairs ks a) k.are) (in_map links l i))) [
-        | inl h ↦ inl (h.0, subst (In l.next) (sym k.are) h.1)
+      elim (next_is before_order _ _ a _ k.up (subst (In _) (chain.names ∙ ap (λ ks. pairs ks a) k.are) (in_map links l i))) [
+        | inl h ↦ inl (h.0, subst (In _) (sym k.are) h.1)
         | inr h ↦ inr h
       ]
 
   bit_at : (l : Link) (xs : List Link) → All (λ k. k.bits ≡ bitmap_octets
       (nsec_lists L a config.assume_dnskeys_will_be_added k.owner)) xs → In l xs
       → l.bits ≡ bitmap_octets (nsec_lists L a config.assume_dnskeys_will_be_added l.owner)
-  bit_at l xs h i = all_in (λ k. k.bits ≡ bitmap_octets (nsec_lists L a config.assume_dnskeys_will_be_added k.owner)) xs l
-      (recursion_from_All (λ k. k.bits ≡ bitmap_octets (nsec_lists L a config.assume_dnskeys_will_be_added k.owner)) xs h) i
+  bit_at l xs h i =
+      all_in (λ k. k.bits ≡ bitmap_octets (nsec_lists L a config.assume_dnskeys_will_be_added k.owner)) xs l (recursion_from_All _ xs h) i
 
   -- where x is not occluded and isn't the owner of the record that matches or covers it, it owns nothing
   uncovered : (x : Name) (l : Link) → In l links → is_unoccluded config.occlude_below_dname L a x ≡ true
@@ -221,20 +211,18 @@ module _ (L : List ZoneRecord) (a : Name) (order : OwnersNeverDescend L) (config
         there = one.there;
         says = one.passes;
         only = one.only;
-        matched = elim (or_cases (matches before one.item.owner x) (covers before one.item.owner one.item.next x) one.passes) [
+        matched = elim (or_cases _ _ one.passes) [
           | inl m ↦
-              let own = (all_in (λ n. (owns L n ≡ true) × (is_unoccluded config.occlude_below_dname L a n ≡ true))
-              (unoccluded_owners config.occlude_below_dname L a) one.item.owner (owners_are config.occlude_below_dname L a)
-              (link_owner one.item i)).0 in
-              let same_key = one_lowered one.item.owner x (same_is one.item.owner x ∙ m) in
+              let own = (all_in _ _ _ (owners_are _ L a)
+              (link_owner _ i)).0 in
+              let same_key = one_lowered _ x (same_is _ x ∙ m) in
               m ∙ sym (ap (λ k. list_any (λ r. same_lowered (lowered r.owner) k) L) (sym same_key) ∙ own)
           | inr c ↦
-              not-true (matches before one.item.owner x) (and_parts (not (matches before one.item.owner x))
-              (cond (before one.item.owner one.item.next) (before one.item.owner x && before x one.item.next)
-              (before one.item.owner x || before x one.item.next)) c).0
-              ∙ sym (uncovered x one.item i chosen c)
+              not-true _ (and_parts _ _
+              c).0
+              ∙ sym (uncovered x _ i chosen c)
         ];
-        bits = bit_at one.item links chain.bits i;
+        bits = bit_at _ links chain.bits i;
       }
 
   -- the chain mirrors the zone
@@ -275,12 +263,12 @@ pub chain_cycle : (L : List ZoneRecord) (a : Name) (order : OwnersNeverDescend L
     (links : List Link) (chain : IsChain L a config links) → IsCycle a links
 chain_cycle L a order config links chain =
     let k = owners L a order config links chain in
-    let r = round a k.first k.later links (chain.names ∙ ap (λ ks. pairs ks a) k.are) k.up in
+    let r = round a _ _ links (chain.names ∙ ap (λ ks. pairs ks a) k.are) k.up in
     record {
       first = r.first;
       later = r.later;
       are = r.are;
-      begins = ap (λ n. same_name n a) r.begins ∙ same_is k.first a ∙ (λ i. not (k.low.0 i || k.begins i));
+      begins = ap (λ n. same_name n a) r.begins ∙ same_is _ a ∙ (λ i. not (k.low.0 i || k.begins i));
       ascends = r.ascends;
       ends = r.ends;
     }

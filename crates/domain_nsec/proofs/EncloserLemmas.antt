@@ -68,8 +68,8 @@ module _ (L : List ZoneRecord) (a : Name) (order : OwnersNeverDescend L) (config
   apart x l c m j s =
       let k = one_lowered m x s in
       elim (c.sides m j) [
-        | inl f ↦ false≢true (sym f ∙ before_right l.owner m x k ∙ c.after)
-        | inr f ↦ false≢true (sym f.1 ∙ before_left m x l.next k ∙ f.0)
+        | inl f ↦ false≢true (sym f ∙ before_right _ m x k ∙ c.after)
+        | inr f ↦ false≢true (sym f.1 ∙ before_left m x _ k ∙ f.0)
       ]
 
   told_empty : (x : Name) → is_at_or_below x a ≡ true → (place : ℕ) (l : Link) → slice_get links place ≡ Some l → covers before l.owner l.next x ≡ true

@@ -24,6 +24,5 @@ pub listed_octets : (assumed cut : Bool) (G : List ZoneRecord) (old new : List �
     → ((at_cut : Bool) (t : ℕ) → t < 65536 → holds old t ≡ is_listed assumed at_cut [] t)
     → ((t : ℕ) → t < 65536 → holds new t ≡ (holds old t || lists_type cut G t)) → bitmap_octets (holds new) ≡ bitmap_octets (is_listed assumed cut G)
 listed_octets assumed cut G old new common more =
-    bitmap_octets-same (holds new) (is_listed assumed cut G)
-    (λ t b. more t b ∙ (λ i. common cut t b i || lists_type cut G t)
+    bitmap_octets-same _ _ (λ t b. more t b ∙ (λ i. common cut t b i || lists_type cut G t)
     ∙ ap (λ b. b || lists_type cut G t) (or_false (nat_eq t 46 || nat_eq t 47 || (assumed && nat_eq t 48))))

@@ -115,6 +115,7 @@ impl<'a, N: ToName> NsecChain<'a, N> {
     }
 
     /// How many records the chain has.
+    #[tactic(auto, using(crate::proofs::ChainLemmas::links_counted))]
     pub fn len(&self) -> usize
         ensures { result ≡ length self.now }
     {
@@ -129,6 +130,7 @@ impl<'a, N: ToName> NsecChain<'a, N> {
     }
 
     /// The owner of the record at a place; None past the last one. Takes no memory.
+    #[tactic(auto, using(crate::proofs::ChainLemmas::links_counted, crate::proofs::ChainLemmas::owner_borrowed))]
     pub fn owner(&self, place: usize) -> Option<&ParsedName<'a>>
         ensures some { IfSome result (λ owner. (d : Link)
             → owner.now ≡ (slice_index_or self.now place d).owner) }

@@ -1,6 +1,6 @@
-use Rattle.std.proofs.Common.{refl, sym, subst}
+use Rattle.std.proofs.Common.{arith, refl, sym, subst}
+use Rattle.std.proofs.lemmas.Grind.{common_steps}
 use Rattle.std.proofs.lemmas.Result.{err_from_is_err_and}
-use Rattle.domain_rdata.specs.Scan.{RdataText}
 use Rattle.domain_message.specs.Entry.{RefusesHead, in_head, in_data, behind_data}
 use Rattle.domain_message.proofs.LineLemmas.{none_left}
 use Rattle.domain_message.proofs.line.scan_entry.Goals as goal
@@ -27,13 +27,4 @@ returns-then-continues-clause-err g c =
 
 pub returns-clause-ok : goal.returns-clause-ok
 returns-clause-ok g c =
-    let h = c.in_ok-head.head in
-    rw c.new.ensures (record {
-      rtype = h.rtype;
-      data_tokens = g.S.Scanner.tokens c.scan_head.new.scanner;
-      head = c.in_ok-head.ensures.ok;
-      spelled =
-          subst (RdataText g.O.Octets.octets g.N.ToName.labels h.rtype (g.S.Scanner.tokens c.scan_head.new.scanner) c.in-Ok.data)
-          (none_left
-          (g.S.Scanner.tokens c.scan_rdata.new.scanner) c.continues.result c.continues.ensures c.if-continues.false) c.in-Ok.ensures.ok;
-    })
+    grind (arith, common_steps, (none_left (g.S.Scanner.tokens c.scan_rdata.new.scanner) c.continues.result c.continues.ensures c.if-continues.false))

@@ -1,4 +1,4 @@
-use Rattle.std.proofs.Common.{◌≡◌, ◌<◌, length, get_or, sym, ◌∙◌, arith}
+use Rattle.std.proofs.Common.{◌≡◌, ◌<◌, length, get_or, arith}
 use Rattle.std.proofs.lemmas.Grind.{common_steps}
 use Rattle.domain_octets.proofs.OctetLemmas.{octets_from_type}
 use Rattle.domain_message.proofs.NameLemmas.{end_fault, type_fault, length_fault, cut_fault, between_more}
@@ -18,17 +18,10 @@ returns-then-from-gt-MAX_LABEL_LEN-clause-err c =
     type_fault _ _ _ _ _ here.0 here.1 c.labels.invariant (omega arith) (omega arith)
 
 pub returns-then-used-end-ge-MAX_LEN-clause-err : goal.returns-then-used-end-ge-MAX_LEN-clause-err
-returns-then-used-end-ge-MAX_LEN-clause-err c =
-    let here = octet_at (goal.at.returns-then-used-end-ge-MAX_LEN-clause-err c).In-Some in
-    length_fault _ _ _ _ _ here.0 here.1 c.labels.invariant (omega arith) (omega arith) (omega arith)
+returns-then-used-end-ge-MAX_LEN-clause-err c = grind (arith, common_steps, length_fault)
 
 pub returns-then-end-message-clause-err : goal.returns-then-end-message-clause-err
-returns-then-end-message-clause-err c =
-    let here = octet_at (goal.at.returns-then-end-message-clause-err c).In-Some in
-    cut_fault _ _ _ _ _ here.0 here.1 c.labels.invariant (omega arith) (omega arith) (omega arith) (omega arith)
+returns-then-end-message-clause-err c = grind (arith, common_steps, cut_fault)
 
 pub labels-preserved : goal.labels-preserved
-labels-preserved c =
-    let here = octet_at (goal.at.labels-preserved c).In-Some in
-    between_more _ _ _ _ _ here.0 (here.1 ∙ sym c.from-in-labels.ensures) c.labels.invariant
-    (octets_from_type c.args.message.now c.type_inv.message) (omega arith) (omega arith) (omega arith) (omega arith)
+labels-preserved c = grind (arith, common_steps, between_more, octets_from_type)

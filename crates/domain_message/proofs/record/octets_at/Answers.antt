@@ -6,8 +6,7 @@ use Rattle.domain_message.proofs.record.octets_at.Goals as goal
 
 pub returns-in_default-clause-err : goal.returns-in_default-clause-err
 returns-in_default-clause-err g c =
-    copy_refused g.O.Builder.OctetsBuilder.limit c.args.message.now c.args.rtype c.args.place c.args.count c.requires.inside _ c.copied.result
-    (placed_plain g.O.Builder.OctetsBuilder.limit c.args.message.now c.args.rtype c.args.place c.args.count c.requires.inside
+    copy_refused _ _ _ _ _ c.requires.inside _ _ (placed_plain g.O.Builder.OctetsBuilder.limit _ c.args.rtype _ _ c.requires.inside
     c.in_default.ensures.none) c.copied.ensures.err
 
 pub returns-in_err-end-clause-err : goal.returns-in_err-end-clause-err
@@ -24,7 +23,5 @@ pub returns-clause-err : goal.returns-clause-err
 returns-clause-err g c =
     let ok = c.in_ok-end.ensures.ok in
     let end_is : c.in_ok-end.end ≡ c.args.place + c.args.count = omega arith in
-    copy_refused g.O.Builder.OctetsBuilder.limit c.args.message.now c.args.rtype c.args.place c.args.count c.requires.inside _ c.copied-2.result
-    (placed_parts g.O.Builder.OctetsBuilder.limit c.args.message.now c.args.rtype c.args.place c.args.count c.requires.inside
-    c.in-Some.parts.now ok.0 c.as_slice.result.now c.in_ok-end.end
+    copy_refused _ _ _ _ _ c.requires.inside _ _ (placed_parts g.O.Builder.OctetsBuilder.limit _ c.args.rtype _ _ c.requires.inside _ _ _ _
     c.in-Some.ensures.some ok.1 end_is (c.as_slice.ensures ∙ ok.2 ∙ ap (λ o. o ++ ok.0) c.new-octets.ensures)) c.copied-2.ensures.err

@@ -28,5 +28,4 @@ pub returns-clause-enclosers : goal.returns-clause-enclosers
 returns-clause-enclosers g c = tells_encloser _ _ (owners_in_order _ _ g.D.ZoneData.minimum _ c.requires.in_order) _ _ (chain_made g c)
 
 pub returns-clause-occluded : goal.returns-clause-occluded
-returns-clause-occluded g c =
-    covers_below_occluders _ _ (owners_in_order _ _ g.D.ZoneData.minimum _ c.requires.in_order) _ _ (chain_made g c)
+returns-clause-occluded g c = grind (arith, common_steps, covers_below_occluders, owners_in_order)

@@ -4,7 +4,7 @@ use Rattle.domain_nsec.proofs.types.common_types.Goals.{then-assumed+in_ok-add_t
 
 pub returns : goal.returns
 returns g c = λ cut t b.
-    let two = common_two cut c.new-types.result c.add_type.new.types c.add_type-2.new.types c.new-types.ensures.empty
+    let two = common_two cut _ _ _ c.new-types.ensures.empty
     c.in_ok-add_type.ensures c.in_ok-add_type-2.ensures in
     elim c.if-assumed.branch [
       | then-assumed+in_ok-add_type-3 w ↦ rw (w.types-is, w.if-assumed.true)

@@ -29,34 +29,26 @@ pub has_unequal_ttls-requires : goal.has_unequal_ttls-requires
 has_unequal_ttls-requires g c =
     let labels = g.N.ToName.labels in
     let known = at_known c.owners.invariant c.in-Some-next.ensures.steps in
-    raw_types labels g.D.RecordData.rtype g.D.ZoneData.minimum c.records-in-Some-next.result
+    raw_types labels _ g.D.ZoneData.minimum _
     (subst (λ rs. NeverDescend (map (as_zone_record labels g.D.RecordData.rtype g.D.ZoneData.minimum) rs))
-    (sym c.records-in-Some-next.ensures)
-    (subst NeverDescend (sym (ap (λ p. p.records) known)) (types_at labels g.D.RecordData.rtype g.D.ZoneData.minimum
-    c.args.records (labels c.in-Some-next.owner.name.now) c.requires.in_order)))
+    (sym c.records-in-Some-next.ensures) (subst NeverDescend (sym (ap (λ p. p.records) known)) (types_at labels _ _ _ _
+    c.requires.in_order)))
 
 pub returns-then-has_unequal_ttls-clause-fault : goal.returns-then-has_unequal_ttls-clause-fault
 returns-then-has_unequal_ttls-clause-fault g c =
     let at = goal.at.returns-then-has_unequal_ttls-clause-fault g c in (
-      λ e. cc (soa_found g at.In-Some),
-      at_fault c.owners.invariant c.in-Some-next.ensures.steps
-          (clash_found g at.After-has_unequal_ttls ∙ c.if-has_unequal_ttls.true),
+      λ e. cc (soa_found g _),
+      at_fault c.owners.invariant c.in-Some-next.ensures.steps (clash_found g at.After-has_unequal_ttls ∙ c.if-has_unequal_ttls.true),
     )
 
 pub owners-preserved : goal.owners-preserved
 owners-preserved g c =
-    at_owner c.owners.invariant c.in-Some-next.ensures.steps c.name_eq.result c.add.new.self
-    (clash_found g (goal.at.owners-preserved g c).After-has_unequal_ttls ∙ c.if-has_unequal_ttls.false)
-    c.name_eq.ensures.value
-    c.add.ensures.room
-    c.add.ensures.names
-    c.add.ensures.types
+    at_owner c.owners.invariant c.in-Some-next.ensures.steps _ _
+    (clash_found g (goal.at.owners-preserved g c).After-has_unequal_ttls ∙ c.if-has_unequal_ttls.false) c.name_eq.ensures.value
+    c.add.ensures.room c.add.ensures.names c.add.ensures.types
 
 pub returns-then-owners-clause-fault : goal.returns-then-owners-clause-fault
-returns-then-owners-clause-fault g c = (
-  λ e. cc (soa_found g (goal.at.returns-then-owners-clause-fault g c).In-Some),
-  even_end c.owners.invariant c.in_default-next.ensures.steps.0,
-)
+returns-then-owners-clause-fault g c = grind (arith, common_steps, (even_end c.owners.invariant c.in_default-next.ensures.steps.0))
 
 pub returns-clause-chain : goal.returns-clause-chain
 returns-clause-chain g c =
@@ -64,7 +56,4 @@ returns-clause-chain g c =
     (soa_found g (goal.at.returns-clause-chain g c).In-Some) c.if-owners.false)
 
 pub returns-clause-faultless : goal.returns-clause-faultless
-returns-clause-faultless g c = (
-  λ e. cc (soa_found g (goal.at.returns-clause-faultless g c).In-Some),
-  even_end c.owners.invariant c.in_default-next.ensures.steps.0,
-)
+returns-clause-faultless g c = grind (arith, common_steps, (even_end c.owners.invariant c.in_default-next.ensures.steps.0))

@@ -17,8 +17,7 @@ returns-clause-some g c d =
       ttl = c.chain_ttl.ensures i;
       bits = (c.new-nsec.ensures i).types;
     })
-    ∙ link_borrowed c.self.inside.soa (g.N.ToName.labels c.self.inside.apex.now) c.self.inside.names.items c.self.inside.types
-    c.args.place d c.index.result.now c.owner_or_apex-next.result c.in_ok-types.types
+    ∙ link_borrowed _ _ _ _ _ d _ _ _
     c.self.invariant (omega arith) c.index.ensures (c.in_ok-types.ensures.some [])
     (c.owner_or_apex-next.ensures ∙ ap (λ ns. get_or ns (c.args.place + 1) (g.N.ToName.labels c.self.inside.apex.now)) c.deref.ensures.value)
     ∙ ap (λ links. get_or links c.args.place d) c.self.view_is
