@@ -1,10 +1,10 @@
 -- Records that are read one after another, of which some are kept.
-use Rattle.std.proofs.Common.{◌≡◌, ℕ, suc, Bool, true, false, cond, List, [], ◌∷◌, ◌++◌, length, map, refl, sym, ap, ◌∙◌, append_assoc, append-nil}
+use Rattle.std.proofs.Common.{arith, ◌≡◌, ℕ, Bool, true, false, cond, List, [], ◌∷◌, ◌++◌, map, refl, sym, ap, ◌∙◌, append_assoc, append-nil}
+use Rattle.std.proofs.lemmas.Grind.{common_steps}
 use Rattle.std.specs.Prelude.{filter}
 use Rattle.std.specs.List.{AllByRecursion, flat_map}
 use Rattle.std.proofs.lemmas.Bool.{false≢true}
 use Rattle.std.proofs.lemmas.List.{map-append}
-use Rattle.std.proofs.lemmas.List.Concat.{flat_map-append}
 use Rattle.std.proofs.lemmas.List.Elements.{filter-append}
 use Rattle.domain_borrowed.specs.Data.{RawRecord}
 use Rattle.domain_borrowed.specs.Wire.{record_octets, IsRecord}
@@ -17,13 +17,7 @@ all_push P (x ∷ xs) y h p = (h.0, all_push P xs y h.1 p)
 
 pub joined_push : (records : List RawRecord) (r : RawRecord) (after : List ℕ)
     → flat_map record_octets (records ++ r ∷ []) ++ after ≡ flat_map record_octets records ++ (record_octets r ++ after)
-joined_push records r after =
-    ap (λ o. o ++ after) (flat_map-append record_octets records (r ∷ []) ∙ ap (λ o. flat_map record_octets records ++ o) (append-nil (record_octets r)))
-    ∙ append_assoc (flat_map record_octets records) (record_octets r) after
-
-pub length_map : {X Y : Type 0} (f : X → Y) (xs : List X) → length (map f xs) ≡ length xs
-length_map f [] = refl
-length_map f (x ∷ xs) = ap (λ n. suc n) (length_map f xs)
+joined_push records r after = grind (arith, common_steps)
 
 module _ {K : Type 0} (is_kept : RawRecord → Bool) (raw : K → RawRecord) (IsKept : K → Type 0) where
   -- the records before what is left are read, and those of them that are kept are these
@@ -41,10 +35,10 @@ module _ {K : Type 0} (is_kept : RawRecord → Bool) (raw : K → RawRecord) (Is
       → is_kept r ≡ false → IsRead octets after kept
   passed octets left after kept r s begins fits off = record {
     records = s.records ++ r ∷ [];
-    are = s.are ∙ ap (λ o. flat_map record_octets s.records ++ o) begins ∙ sym (joined_push s.records r after);
-    whole = all_push IsRecord s.records r s.whole fits;
-    those = filter-append is_kept s.records (r ∷ []) ∙ (λ i. filter is_kept s.records ++ cond (off i) (r ∷ []) [])
-        ∙ append-nil (filter is_kept s.records) ∙ s.those;
+    are = s.are ∙ ap (λ o. flat_map record_octets s.records ++ o) begins ∙ sym (joined_push _ r after);
+    whole = all_push IsRecord _ r s.whole fits;
+    those = filter-append is_kept _ _ ∙ (λ i. filter is_kept s.records ++ cond (off i) (r ∷ []) [])
+        ∙ append-nil _ ∙ s.those;
     fit = s.fit;
   }
 
@@ -52,19 +46,10 @@ module _ {K : Type 0} (is_kept : RawRecord → Bool) (raw : K → RawRecord) (Is
       → is_kept r ≡ true → r ≡ raw k → IsKept k → IsRead octets after (kept ++ k ∷ [])
   taken octets left after kept r k s begins fits on is fit = record {
     records = s.records ++ r ∷ [];
-    are = s.are ∙ ap (λ o. flat_map record_octets s.records ++ o) begins ∙ sym (joined_push s.records r after);
-    whole = all_push IsRecord s.records r s.whole fits;
-    those = filter-append is_kept s.records (r ∷ []) ∙ (λ i. s.those i ++ cond (on i) (is i ∷ []) []) ∙ sym (map-append raw kept (k ∷ []));
+    are = s.are ∙ ap (λ o. flat_map record_octets s.records ++ o) begins ∙ sym (joined_push _ r after);
+    whole = all_push IsRecord _ r s.whole fits;
+    those = filter-append is_kept _ _ ∙ (λ i. s.those i ++ cond (on i) (is i ∷ []) []) ∙ sym (map-append raw kept _);
     fit = all_push IsKept kept k s.fit fit;
-  }
-
-  pub finished : (octets left : List ℕ) (kept : List K) → IsRead octets left kept → left ≡ [] → AreAmong is_kept raw IsKept octets kept
-  finished octets left kept s none = record {
-    records = s.records;
-    are = s.are ∙ ap (λ o. flat_map record_octets s.records ++ o) none ∙ append-nil (flat_map record_octets s.records);
-    whole = s.whole;
-    those = s.those;
-    fit = s.fit;
   }
 
   -- a record that can stand among those that are read
@@ -90,29 +75,23 @@ module _ {K : Type 0} (is_kept : RawRecord → Bool) (raw : K → RawRecord) (Is
       → flat_map record_octets records ++ left ≡ flat_map record_octets others → ⊥
   stuck [] [] left some whole good none e = some e
   stuck [] (r ∷ rs) left some whole good none e = none r (flat_map record_octets rs) e good.0
-  stuck (q ∷ qs) [] left some whole good none e =
-      some_octets q (flat_map record_octets qs ++ left) (sym (append_assoc (record_octets q) (flat_map record_octets qs) left) ∙ e)
+  stuck (q ∷ qs) [] left some whole good none e = grind (arith, common_steps, some_octets)
   stuck (q ∷ qs) (r ∷ rs) left some whole good none e =
-      let one = same_record q r (flat_map record_octets qs ++ left) (flat_map record_octets rs) whole.0 good.0.0
-      (sym (append_assoc (record_octets q) (flat_map record_octets qs) left) ∙ e) in
+      let one = same_record q r _ _ whole.0 good.0.0 (sym (append_assoc _ _ left) ∙ e) in
       stuck qs rs left some whole.1 good.1 none one.after
 
   -- what is left begins with no record that can stand there
   pub refused : (octets left : List ℕ) (kept : List K) → IsRead octets left kept → (left ≡ [] → ⊥)
       → ((r : RawRecord) (after : List ℕ) → IsRecord r → left ≡ record_octets r ++ after → ⊥)
       → (others : List K) → AreAmong is_kept raw IsKept octets others → ⊥
-  refused octets left kept s some none others m =
-      stuck s.records m.records left some s.whole (all_good m.records others m.whole m.those m.fit)
-      (λ r after e good. none r after good.0 e) (sym s.are ∙ m.are)
+  refused octets left kept s some none others m = grind (arith, common_steps, stuck, all_good)
 
   -- what is left begins with a record that is to be kept, and can't be
   pub refused_data : (octets left after : List ℕ) (kept : List K) (q : RawRecord) → IsRead octets left kept → left ≡ record_octets q ++ after → IsRecord q
       → is_kept q ≡ true → ((k : K) → q ≡ raw k → IsKept k → ⊥)
       → (others : List K) → AreAmong is_kept raw IsKept octets others → ⊥
   refused_data octets left after kept q s begins fits on none others m =
-      stuck s.records m.records left (λ e. some_octets q after (sym begins ∙ e)) s.whole (all_good m.records others m.whole m.those m.fit)
-      (λ r rest e good.
+      stuck _ _ left (λ e. some_octets q after (sym begins ∙ e)) s.whole (all_good _ others m.whole m.those m.fit) (λ r rest e good.
       let one = same_record q r after rest fits good.0 (sym begins ∙ e) in
       let kept_as = good.1 (sym (ap is_kept one.records) ∙ on) in
-      none kept_as.0 (one.records ∙ kept_as.1) kept_as.2)
-      (sym s.are ∙ m.are)
+      none kept_as.0 (one.records ∙ kept_as.1) kept_as.2) (sym s.are ∙ m.are)

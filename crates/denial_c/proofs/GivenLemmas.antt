@@ -1,5 +1,6 @@
 -- Octets that are read as records of a class, one after another.
-use Rattle.std.proofs.Common.{◌≡◌, ℕ, ◌-◌, ◌≤◌, List, [], ◌∷◌, ◌++◌, length, refl, sym, ap, ◌∙◌, subst, arith, append_assoc, append-nil, length-append}
+use Rattle.std.proofs.lemmas.Grind.{common_steps}
+use Rattle.std.proofs.Common.{◌≡◌, ℕ, ◌-◌, ◌≤◌, List, [], ◌∷◌, ◌++◌, length, refl, sym, ap, ◌∙◌, subst, arith, append_assoc, append-nil}
 use Rattle.std.specs.List.{AllByRecursion, flat_map}
 use Rattle.domain_borrowed.specs.Data.{RawRecord}
 use Rattle.domain_borrowed.specs.Wire.{record_octets, IsRecord}
@@ -21,22 +22,12 @@ module _ (class : ℕ) (octets : List ℕ) where
     pub whole : AllByRecursion (IsOfClass class) before
 
   pub past_more : (left after : List ℕ) (r : RawRecord) → IsPast left → left ≡ record_octets r ++ after → IsRecord r → r.class ≡ class → IsPast after
-  past_more left after r s begins fits same = record {
-    before = s.before ++ r ∷ [];
-    are = s.are ∙ ap (λ o. flat_map record_octets s.before ++ o) begins ∙ sym (joined_push s.before r after);
-    whole = all_push (IsOfClass class) s.before r s.whole (fits, same);
-  }
+  past_more left after r s begins fits same =
+      grind (arith, common_steps, all_push, (joined_push s.before r after), (all_push (IsOfClass class) s.before r s.whole (fits, same)))
 
   -- they end where what is left begins
   pub up_to : (left : List ℕ) (offset : ℕ) → IsPast left → offset ≡ length octets - length left → IsReadUpTo class octets offset left
-  up_to left offset s at =
-      let long = ap length s.are ∙ length-append (flat_map record_octets s.before) left in
-      record {
-        before = s.before;
-        are = s.are;
-        whole = s.whole;
-        far = omega (arith, at, long);
-      }
+  up_to left offset s at = grind (arith, common_steps)
 
   -- these records are read, and others are left, of the class as well
   pub record IsHalfRead (left : List ℕ) (records : List RawRecord) : Type 0 where
@@ -44,9 +35,6 @@ module _ (class : ℕ) (octets : List ℕ) where
     pub are : octets ≡ flat_map record_octets (records ++ rest)
     pub whole : AllByRecursion (IsOfClass class) (records ++ rest)
     pub left_is : left ≡ flat_map record_octets rest
-
-  pub half_none : (given : List RawRecord) → AreGiven class octets given → IsHalfRead octets []
-  half_none given g = record { rest = given; are = g.are; whole = g.whole; left_is = g.are }
 
   later : (xs ys : List RawRecord) → AllByRecursion (IsOfClass class) (xs ++ ys) → AllByRecursion (IsOfClass class) ys
   later [] ys h = h
@@ -59,7 +47,7 @@ module _ (class : ℕ) (octets : List ℕ) where
       elim s.rest as (λ rest. left ≡ flat_map record_octets rest → AllByRecursion (IsOfClass class) rest → ⊥) [
         | [] ↦ λ e h. some e
         | r ∷ rs ↦ λ e h. none r (flat_map record_octets rs) h.0.0 e
-      ] s.left_is (later records s.rest s.whole)
+      ] s.left_is (later records _ s.whole)
 
   pub half_more : (left after : List ℕ) (records : List RawRecord) (q : RawRecord) → IsHalfRead left records → left ≡ record_octets q ++ after
       → IsRecord q → IsHalfRead after (records ++ q ∷ [])
@@ -68,9 +56,9 @@ module _ (class : ℕ) (octets : List ℕ) where
       → left ≡ flat_map record_octets rest → IsHalfRead after (records ++ q ∷ [])) [
         | [] ↦ λ are whole e. absurd (some_octets q after (sym begins ∙ e))
         | r ∷ rs ↦ λ are whole e.
-            let one = same_record q r after (flat_map record_octets rs) fits (later records (r ∷ rs) whole).0.0 (sym begins ∙ e) in
+            let one = same_record q r after _ fits (later records _ whole).0.0 (sym begins ∙ e) in
             let same : records ++ r ∷ rs ≡ (records ++ q ∷ []) ++ rs =
-            ap (λ (p : RawRecord). records ++ p ∷ rs) (sym one.records) ∙ sym (append_assoc records (q ∷ []) rs) in
+            ap (λ (p : RawRecord). records ++ p ∷ rs) (sym one.records) ∙ sym (append_assoc records _ rs) in
             record {
               rest = rs;
               are = are ∙ ap (flat_map record_octets) same;
@@ -87,7 +75,7 @@ module _ (class : ℕ) (octets : List ℕ) where
           are = are ∙ ap (flat_map record_octets) (append-nil records);
           whole = subst (AllByRecursion (IsOfClass class)) (append-nil records) whole;
         }
-        | r ∷ rs ↦ λ are whole e. absurd (some_octets r (flat_map record_octets rs) (sym e ∙ none))
+        | r ∷ rs ↦ λ are whole e. absurd (some_octets r _ (sym e ∙ none))
       ] s.are s.whole s.left_is
 
 -- records of the class are of one class

@@ -1,5 +1,6 @@
 -- NSEC records of octets, handed in one after another.
-use Rattle.std.proofs.Common.{◌≡◌, ℕ, true, false, List, [], ◌∷◌, ◌++◌, sym, subst, append_assoc, append-nil}
+use Rattle.std.proofs.Common.{arith, ◌≡◌, ℕ, true, false, List, [], ◌∷◌, ◌++◌}
+use Rattle.std.proofs.lemmas.Grind.{common_steps}
 use Rattle.domain_base.specs.Types as rtypes
 use Rattle.domain_names.specs.Words.{Name}
 use Rattle.domain_nsec.specs.Chain.{Link}
@@ -9,7 +10,7 @@ use Rattle.domain_borrowed.specs.Data.{RawRecord}
 use Rattle.domain_borrowed.specs.Wire.{record_octets, IsRecord}
 use Rattle.domain_borrowed.specs.Links.{nsec_record, IsNsec}
 use Rattle.denial_c.specs.Among.{is_of}
-use Rattle.denial_c.proofs.AmongLemmas.{IsRead, read_none, passed, taken}
+use Rattle.denial_c.proofs.AmongLemmas.{IsRead, passed, taken}
 
 -- the NSEC records before what is left were handed in, after those that had been
 abbrev pub Adds : NsecCheck → NsecCheck → List Link → Type 0
@@ -21,29 +22,17 @@ pub record IsHanding (class : ℕ) (octets left : List ℕ) (old new : NsecCheck
   pub adds : Adds old new links
 
 pub handing_none : (class : ℕ) (octets : List ℕ) (check : NsecCheck) → IsHanding class octets octets check check
-handing_none class octets check = record {
-  links = [];
-  read = read_none (is_of rtypes.nsec class) nsec_record IsNsec octets;
-  adds = λ a x t before h. subst (λ links. HasRead a x t links check) (sym (append-nil before)) h;
-}
+handing_none class octets check = grind (arith, common_steps)
 
 pub handing_other : (class : ℕ) (octets left after : List ℕ) (old new : NsecCheck) (r : RawRecord)
     → IsHanding class octets left old new → left ≡ record_octets r ++ after → IsRecord r
     → is_of rtypes.nsec class r ≡ false → IsHanding class octets after old new
-handing_other class octets left after old new r s begins fits off = record {
-  links = s.links;
-  read = passed (is_of rtypes.nsec class) nsec_record IsNsec octets left after s.links r s.read begins fits off;
-  adds = s.adds;
-}
+handing_other class octets left after old new r s begins fits off = grind (arith, common_steps, passed)
 
 pub handing_one : (class : ℕ) (octets left after : List ℕ) (old mid new : NsecCheck) (r : RawRecord) (k : Link)
     → IsHanding class octets left old mid → left ≡ record_octets r ++ after → IsRecord r
     → is_of rtypes.nsec class r ≡ true → r ≡ nsec_record k → IsNsec k
     → ((a x : Name) (t : ℕ) (before : List Link) → HasRead a x t before mid → HasRead a x t (before ++ k ∷ []) new)
     → IsHanding class octets after old new
-handing_one class octets left after old mid new r k s begins fits on is fit adds = record {
-  links = s.links ++ k ∷ [];
-  read = taken (is_of rtypes.nsec class) nsec_record IsNsec octets left after s.links r k s.read begins fits on is fit;
-  adds = λ a x t before h. subst (λ links. HasRead a x t links new) (append_assoc before s.links (k ∷ []))
-      (adds a x t (before ++ s.links) (s.adds a x t before h));
-}
+handing_one class octets left after old mid new r k s begins fits on is fit adds =
+    grind (arith, common_steps, (taken (is_of rtypes.nsec class) nsec_record IsNsec octets left after s.links r k s.read begins fits on is fit))

@@ -1,10 +1,10 @@
 -- Records of one owner and type that differ in TTL.
+use Rattle.std.proofs.lemmas.Grind.{common_steps}
 use Rattle.std.proofs.Common.{◌≡◌, ℕ, ◌-◌, ◌<◌, ◌≤◌, Bool, true, false, cond, not, ◌&&◌, ◌||◌, List, [], ◌∷◌, ◌++◌, map, length, refl, sym, ap, ◌∙◌, subst, inl}
 use Rattle.std.proofs.Common.{inr, arith, nat_eq, append_assoc, append-nil, length-append, Some, None, Option}
 use Rattle.std.specs.Prelude.{filter, Contains}
 use Rattle.std.specs.List.{AllByRecursion, flat_map, list_any}
-use Rattle.std.proofs.lemmas.Bool.{and_from, and_parts, and_right, cases_Bool, eq-eqb, eqb-false, eqb-true, false≢true, not-false, not-true, or_left, or_parts}
-use Rattle.std.proofs.lemmas.Bool.{or_right}
+use Rattle.std.proofs.lemmas.Bool.{and_from, and_parts, cases_Bool, eq-eqb, eqb-false, eqb-true, false≢true, not-false, not-true, or_left, or_parts, or_right}
 use Rattle.std.proofs.lemmas.List.{map-append}
 use Rattle.std.proofs.lemmas.List.Concat.{flat_map-append}
 use Rattle.std.proofs.lemmas.List.Elements.{filter-append}
@@ -52,14 +52,12 @@ clash_of_type zs z w i j e =
     let apart = and_parts (nat_eq z.rtype w.rtype && not (nat_eq z.rtype 46)) (not (nat_eq z.ttl w.ttl)) e in
     let same = (and_parts (nat_eq z.rtype w.rtype) (not (nat_eq z.rtype 46)) apart.0).0 in
     let q : ZoneRecord → Bool = λ y. nat_eq y.rtype w.rtype in
-    in_any (λ x. list_any (clashes x) (filter q zs)) (filter q zs) z (in_filtered q zs z i same)
-    (in_any (clashes z) (filter q zs) w (in_filtered q zs w j (eq-eqb w.rtype w.rtype refl)) e)
+    in_any _ _ z (in_filtered q zs z i same) (in_any _ _ w (in_filtered q zs w j (eq-eqb _ _ refl)) e)
 
 -- those of a list whose types never descend, and what follows them
 descend_parts : (xs ys : List ZoneRecord) → NeverDescend (xs ++ ys) → NeverDescend xs × NeverDescend ys
 descend_parts [] ys h = (tt, h)
-descend_parts (x ∷ xs) ys h =
-    let k = descend_parts xs ys h.1 in (((all_front (λ y. x.rtype ≤ y.rtype) xs ys h.0).0, k.0), k.1)
+descend_parts (x ∷ xs) ys h = let k = descend_parts xs ys h.1 in (((all_front _ xs ys h.0).0, k.0), k.1)
 
 -- those of a lesser type than a record's stand before it, and clash with none where no neighbours there do
 lesser_even : (front back : List ZoneRecord) (r : ZoneRecord) → NeverDescend (front ++ r ∷ back) → has_neighbour_clash front ≡ false
@@ -68,8 +66,8 @@ lesser_even front back r order quiet t less =
     let q : ZoneRecord → Bool = λ y. nat_eq y.rtype t in
     let parts = descend_parts front (r ∷ back) order in
     let even : has_clash front ≡ false = sym (neighbours_tell front parts.0) ∙ quiet in
-    elim (cases_Bool (has_clash (filter q (front ++ r ∷ back)))) [
-      | inl h ↦ absurd (false≢true (sym even ∙ any_two clashes (filter q (front ++ r ∷ back)) front (λ z i.
+    elim (cases_Bool _) [
+      | inl h ↦ absurd (false≢true (sym even ∙ any_two clashes _ front (λ z i.
           let f = in_filter q (front ++ r ∷ back) z i in
           elim (in_either front (r ∷ back) z f.0) [
             | inl j ↦ j
@@ -86,7 +84,7 @@ neighbours_push : (xs : List RawRecord) (p r : RawRecord) → has_neighbour_clas
 neighbours_push [] p r h e = λ i. e i || false
 neighbours_push (x ∷ []) p r h e = let k = or_parts (clashes (see x) (see p)) false h in λ i. k.0 i || (e i || false)
 neighbours_push (x ∷ y ∷ xs) p r h e =
-    let k = or_parts (clashes (see x) (see y)) (has_neighbour_clash (map see (y ∷ xs ++ p ∷ []))) h in
+    let k = or_parts _ (has_neighbour_clash (map see (y ∷ xs ++ p ∷ []))) h in
     λ i. k.0 i || neighbours_push (y ∷ xs) p r k.1 e i
 
 -- the records up to one, of which no neighbours clash, and whether neighbours from it on clash
@@ -112,14 +110,14 @@ between_clash records previous r left s order e =
     let front = map see (s.passed ++ previous ∷ []) in
     let all : map see records ≡ front ++ see r ∷ map see left =
     ap (map see) (s.all ∙ sym (append_assoc s.passed (previous ∷ []) (r ∷ left)))
-    ∙ map-append see (s.passed ++ previous ∷ []) (r ∷ left) in
+    ∙ map-append see _ (r ∷ left) in
     record {
-      clash = clash_of_type (map see records) (see previous) (see r)
-          (in_map see records previous (subst (In previous) (sym s.all) (in_middle s.passed previous (r ∷ left))))
-          (in_map see records r (subst (In r) (sym s.all) (in_next s.passed previous r left))) e;
+      clash = clash_of_type _ _ _
+          (in_map see records previous (subst (In previous) (sym s.all) (in_middle _ previous _)))
+          (in_map see records r (subst (In r) (sym s.all) (in_next _ previous r left))) e;
       lesser = λ t less.
           ap (λ zs. has_clash (filter (λ y. nat_eq y.rtype t) zs)) all
-          ∙ lesser_even front (map see left) (see r) (subst NeverDescend all order) s.quiet t less;
+          ∙ lesser_even front _ _ (subst NeverDescend all order) s.quiet t less;
     }
 
 -- ---- owners
@@ -182,9 +180,7 @@ module _ {excludes d : Bool} {L : List ZoneRecord} {a : Name} where
           }
 
   pub walked_all : {left : List OwnerRecords} → IsWalked excludes d L a left → left ≡ [] → has_unequal_ttls L (covered_names excludes d L a) ≡ false
-  walked_all s none =
-      ap (has_unequal_ttls L) (sym (names_stay excludes L a (unoccluded_owners d L a))
-      ∙ ap (λ l. map name_of (filter (stays excludes) l)) (sym s.all ∙ ap (λ os. s.given ++ os) none ∙ append-nil s.given)) ∙ s.even
+  walked_all s none = grind (arith, common_steps, names_stay)
 
 -- none is left out of an NSEC chain
 pub none_left_out : (d : Bool) (L : List ZoneRecord) (a : Name) → covered_names false d L a ≡ unoccluded_owners d L a
@@ -208,8 +204,8 @@ record IsSeen (given : List RawRecord) (n : Name) (t : ℕ) (z : ZoneRecord) : T
 
 seen_of : (given : List RawRecord) (n : Name) (t : ℕ) (z : ZoneRecord) → In z (set_of (zone given) n t) → IsSeen given n t z
 seen_of given n t z i =
-    let f = in_filter (λ y. nat_eq y.rtype t) (records_of (zone given) n) z i in
-    let g = in_filter (λ r. same_name r.owner n) (zone given) z f.0 in
+    let f = in_filter (λ y. nat_eq y.rtype t) _ z i in
+    let g = in_filter _ _ z f.0 in
     let m = from_map see given z g.0 in
     record { raw = m.0; is = m.1; sees = m.2; owner = g.1; type = f.1 }
 
@@ -217,33 +213,26 @@ seen_of given n t z i =
 pub clash_given : (given sorted : List RawRecord) (n : Name) (t : ℕ) → Sorts given sorted → has_clash (set_of (zone sorted) n t) ≡ true
     → has_clash (set_of (zone given) n t) ≡ true
 clash_given given sorted n t s h =
-    any_two clashes (set_of (zone sorted) n t) (set_of (zone given) n t) (λ z i.
-    let k = seen_of sorted n t z i in
-    let c = in_contains sorted k.raw k.is in
+    any_two clashes _ (set_of (zone given) n t) (λ z i. let k = seen_of sorted n t z i in
+    let c = in_contains sorted _ k.is in
     let r = contains_in given k.raw (subst (Contains given) c.2 (s.set.among c.0 k.raw c.1)) in
     in_filtered (λ y. nat_eq y.rtype t) (records_of (zone given) n) z
-    (in_filtered (λ r. same_name r.owner n) (zone given) z (subst (λ y. In y (zone given)) k.sees (in_map see given k.raw r)) k.owner) k.type) h
+    (in_filtered (λ r. same_name r.owner n) (zone given) z (subst (λ y. In y (zone given)) k.sees (in_map see given _ r)) k.owner) k.type) h
 
 apart : (z y : ZoneRecord) (w : ℕ) → z.ttl ≡ w → y.ttl ≡ w → clashes z y ≡ false
-apart z y w e f =
-    and_right (nat_eq z.rtype y.rtype && not (nat_eq z.rtype 46)) (not (nat_eq z.ttl y.ttl)) (ap not (eq-eqb z.ttl y.ttl (e ∙ sym f)))
+apart z y w e f = grind (arith, common_steps)
 
 one_is_even : (zs : List ZoneRecord) (w : ℕ) → AllByRecursion (λ z. z.ttl ≡ w) zs → has_clash zs ≡ false
-one_is_even zs w h =
-    any_none (λ z. list_any (clashes z) zs) zs (all_from_in (λ z. list_any (clashes z) zs ≡ false) zs (λ z i.
-    any_none (clashes z) zs (all_from_in (λ y. clashes z y ≡ false) zs (λ y j.
-    apart z y w (all_in (λ x. x.ttl ≡ w) zs z h i) (all_in (λ x. x.ttl ≡ w) zs y h j)))))
+one_is_even zs w h = grind (arith, common_steps, any_none, all_from_in, all_in)
 
 -- those of an owner and a type have one TTL
 even_given : (given : List RawRecord) (n : Name) (t w : ℕ) → AllByRecursion (λ r. is_in_set n t r ≡ true → r.ttl ≡ w) given
     → has_clash (set_of (zone given) n t) ≡ false
 even_given given n t w h =
-    one_is_even (set_of (zone given) n t) w (all_from_in (λ z. z.ttl ≡ w) (set_of (zone given) n t) (λ z i.
-    let k = seen_of given n t z i in
-    let among : is_in_set n t k.raw ≡ true =
-    and_from (same_name k.raw.owner n) (nat_eq k.raw.«data».rtype t) (ap (λ y. same_name y.owner n) k.sees ∙ k.owner)
+    one_is_even _ w (all_from_in _ _ (λ z i. let k = seen_of given n t z i in
+    let among : is_in_set n t k.raw ≡ true = and_from _ (nat_eq k.raw.«data».rtype t) (ap (λ y. same_name y.owner n) k.sees ∙ k.owner)
     (ap (λ y. nat_eq y.rtype t) k.sees ∙ k.type) in
-    ap (λ y. y.ttl) (sym k.sees) ∙ all_in (λ r. is_in_set n t r ≡ true → r.ttl ≡ w) given k.raw h k.is among))
+    ap (λ y. y.ttl) (sym k.sees) ∙ all_in _ given _ h k.is among))
 
 -- ---- going over the octets
 

@@ -163,6 +163,7 @@ fn first_params<'a>(
 
 /// The NSEC3 records of the class among the records that the octets are, but for those that are to
 /// be ignored, with an NSEC3PARAM record of the apex that repeats the parameters of the first.
+#[tactic(auto, using(crate::proofs::Nsec3Lemmas::first_by_sha1))]
 fn alone_among<'a>(
     alloc: Global,
     apex: &ParsedName<'a>,

@@ -26,6 +26,7 @@ use std::alloc::Global;
 /// # Errors
 ///
 /// `Soa` or `Ttls`, the first fault of the zone; and `OutOfMemory`, only where it has none.
+#[tactic(auto, using(crate::proofs::UnevenLemmas::none_left_out))]
 fn sorted_nsecs(
     alloc: Global,
     apex: &ParsedName<'_>,

@@ -129,6 +129,7 @@ fn uneven_offset(class: Class, octets: &[u8], set: &RrsetKey<'_>) -> usize
 /// Where the records that the octets are have unequal TTLs: the offset of the first record that has
 /// another TTL than those before it of its owner and type, which are the first of the chain that
 /// have several.
+#[tactic(auto, using(crate::proofs::UnevenLemmas::clash_given))]
 pub(crate) fn uneven_at(
     apex: &ParsedName<'_>,
     class: Class,

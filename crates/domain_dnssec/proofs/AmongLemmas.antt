@@ -1,4 +1,5 @@
 -- Elements of lists, of what is mapped and of what passes a filter.
+use Rattle.std.proofs.lemmas.Grind.{common_steps}
 use Rattle.std.proofs.Common.{◌≡◌, ℕ, ◌<◌, zero, suc, Bool, true, List, [], ◌∷◌, length, refl, subst, inl, inr, arith}
 use Rattle.std.specs.Prelude.{Contains, slice_index_or}
 use Rattle.std.specs.List.{list_any}
@@ -23,10 +24,7 @@ module _ {X : Type 0} where
   -- what passes a test twice over a list does so over one that has all of its elements
   pub any_two : (c : X → X → Bool) (xs ys : List X) → ((x : X) → In x xs → In x ys) → list_any (λ x. list_any (c x) xs) xs ≡ true
       → list_any (λ x. list_any (c x) ys) ys ≡ true
-  any_two c xs ys f h =
-      let p = any_in (λ x. list_any (c x) xs) xs h in
-      let q = any_in (c p.0) xs p.2 in
-      in_any (λ x. list_any (c x) ys) ys p.0 (f p.0 p.1) (in_any (c p.0) ys q.0 (f q.0 q.1) q.2)
+  any_two c xs ys f h = grind (arith, common_steps, any_in, in_any)
 
   -- of a relation that is symmetric and holds of each element with itself
   module _ (P : X → X → Type 0) (itself : (x : X) → P x x) (turned : (x y : X) → P x y → P y x) where

@@ -1,11 +1,12 @@
 -- What a sorted set keeps of the records that were given: which names own records, and of which types.
-use Rattle.std.proofs.Common.{◌≡◌, ◌↔◌, ℕ, Bool, true, not, ◌&&◌, ◌||◌, List, [], ◌∷◌, Option, Some, inl, nat_eq, refl, sym, ap, ◌∙◌, subst}
+use Rattle.std.proofs.Common.{arith, ◌≡◌, ◌↔◌, ℕ, Bool, true, not, ◌&&◌, ◌||◌, List, [], ◌∷◌, Option, Some, inl, nat_eq, refl, sym, ap, ◌∙◌, subst}
+use Rattle.std.proofs.lemmas.Grind.{common_steps}
 use Rattle.std.specs.Prelude.{filter, Contains}
 use Rattle.std.specs.List.{list_any}
 use Rattle.std.specs.FinMap.{nat_cmp-IsAntisymmetric}
 use Rattle.std.specs.Ordering.{is_eq, ordering_then, nat_cmp}
 use Rattle.std.specs.declared.cmp.Ordering.{Ordering}
-use Rattle.std.specs.declared.cmp.Ordering.TheVariants.{Less, Equal, Greater}
+use Rattle.std.specs.declared.cmp.Ordering.TheVariants.{Equal}
 use Rattle.std.proofs.lemmas.List.Folds.{Any-from_list_any, list_any-from_Any}
 use Rattle.domain_names.specs.Laws.{same_name_ties}
 use Rattle.domain_names.specs.Order.{canonical_cmp}
@@ -29,9 +30,7 @@ use Rattle.domain_dnssec.specs.AnyOrder.{Sorts}
 use Rattle.domain_dnssec.proofs.AmongLemmas.{contains_in, in_contains, any_two, pair_of_two, all_pairs}
 
 then_equal : (x y : Ordering) → ordering_then x y ≡ Equal → (x ≡ Equal) × (y ≡ Equal)
-then_equal Less y e = absurd (cc)
-then_equal Equal y e = (refl, e)
-then_equal Greater y e = absurd (cc)
+then_equal x y e = grind (arith, common_steps)
 
 abbrev alike : {N D : Type 0} → Record N D → Record N D → Type 0
 alike r t = r.class ≡ t.class
@@ -43,10 +42,9 @@ module _ {N D : Type 0} (labels : N → Name) (rtype_of : D → ℕ) (minimum_of
   tied r s e =
       let class = then_equal (nat_cmp r.class s.class) (ordering_then (canonical_cmp (labels r.owner) (labels s.owner))
       (ordering_then (nat_cmp (rtype_of r.«data») (rtype_of s.«data»)) (data_cmp r.«data» s.«data»))) e in
-      let owner = then_equal (canonical_cmp (labels r.owner) (labels s.owner))
-      (ordering_then (nat_cmp (rtype_of r.«data») (rtype_of s.«data»)) (data_cmp r.«data» s.«data»)) class.1 in
-      let type = then_equal (nat_cmp (rtype_of r.«data») (rtype_of s.«data»)) (data_cmp r.«data» s.«data») owner.1 in (
-        one_lowered (labels r.owner) (labels s.owner) (same_name_ties (labels r.owner) (labels s.owner) ∙ ap is_eq owner.0),
+      let owner = then_equal _ (ordering_then (nat_cmp (rtype_of r.«data») (rtype_of s.«data»)) (data_cmp r.«data» s.«data»)) class.1 in
+      let type = then_equal _ (data_cmp r.«data» s.«data») owner.1 in (
+        one_lowered _ _ (same_name_ties (labels r.owner) (labels s.owner) ∙ ap is_eq owner.0),
         nat_cmp-IsAntisymmetric (rtype_of r.«data») (rtype_of s.«data») type.0,
       )
 

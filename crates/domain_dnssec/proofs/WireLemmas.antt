@@ -1,8 +1,7 @@
 -- Chains as octets, record by record.
-use Rattle.std.proofs.Common.{◌≡◌, ℕ, ◌+◌, ◌<◌, ◌≤◌, List, [], ◌∷◌, ◌++◌, length, take, get_or, sym, ap, ◌∙◌, arith, append-nil, length-append, ◌⊎◌, inl, inr}
+use Rattle.std.proofs.lemmas.Grind.{common_steps}
+use Rattle.std.proofs.Common.{◌≡◌, ℕ, ◌+◌, ◌<◌, ◌≤◌, List, ◌∷◌, ◌++◌, length, take, get_or, arith, length-append, ◌⊎◌}
 use Rattle.std.specs.List.{flat_map}
-use Rattle.std.proofs.lemmas.List.{append_assoc, take_more}
-use Rattle.std.proofs.lemmas.List.Concat.{flat_map-append}
 use Rattle.domain_fields.specs.Layout.{octets_of, Values}
 use Rattle.domain_chain_rdata.specs.Rdata.{hash_numbers, nsec3param}
 use Rattle.domain_nsec.specs.Chain.{Link}
@@ -12,19 +11,10 @@ use Rattle.domain_dnssec.specs.Wire.{HasLongNsec, HasLongNsec3}
 use Rattle.domain_dnssec.specs.declared.error.Error.{Error}
 use Rattle.domain_dnssec.specs.declared.error.Error.TheVariants.{LongRecordData, OutOfMemory}
 
--- one more item
-pub joined_more : {T : Type 0} (octets : T → List ℕ) (items : List T) (i : ℕ) (d : T) → i < length items
-    → flat_map octets (take (i + 1) items) ≡ flat_map octets (take i items) ++ octets (get_or items i d)
-joined_more octets items i d l =
-    ap (flat_map octets) (take_more items i d l)
-    ∙ flat_map-append octets (take i items) (get_or items i d ∷ [])
-    ∙ ap (λ t. flat_map octets (take i items) ++ t) (append-nil (octets (get_or items i d)))
-
 -- one more item after what stood
 pub onward : {T : Type 0} (octets : T → List ℕ) (old : List ℕ) (items : List T) (i : ℕ) (d : T) → i < length items
     → (old ++ flat_map octets (take i items)) ++ octets (get_or items i d) ≡ old ++ flat_map octets (take (i + 1) items)
-onward octets old items i d l =
-    append_assoc old (flat_map octets (take i items)) (octets (get_or items i d)) ∙ ap (λ t. old ++ t) (sym (joined_more octets items i d l))
+onward octets old items i d l = grind (arith, common_steps)
 
 -- NSEC3PARAM data are short
 pub param_short : (v : Values nsec3param) → length v.1 ≤ 255 → length (octets_of nsec3param v) ≤ 65535
@@ -35,11 +25,9 @@ param_short v salted = let c = length-append (octets_of hash_numbers v.0) (lengt
 pub long_nsec : (links : List Link) (i : ℕ) (k : Link) → i < length links → k ≡ get_or links i k → (e y : Error) → y ≡ e
     → (e ≡ OutOfMemory) ⊎ ((e ≡ LongRecordData) × (65535 < length (nsec_record k).«data».octets))
     → (y ≡ OutOfMemory) ⊎ ((y ≡ LongRecordData) × HasLongNsec links)
-long_nsec links i k l is e y same (inl h) = inl (same ∙ h)
-long_nsec links i k l is e y same (inr h) = inr (same ∙ h.0, (k, (i, l, sym is), h.1))
+long_nsec links i k l is e y same h = grind (arith, common_steps)
 
 pub long_nsec3 : (links : List HashedLink) (i : ℕ) (k : HashedLink) → i < length links → k ≡ get_or links i k → (e y : Error) → y ≡ e
     → (e ≡ OutOfMemory) ⊎ ((e ≡ LongRecordData) × (65535 < length (nsec3_record k).«data».octets))
     → (y ≡ OutOfMemory) ⊎ ((y ≡ LongRecordData) × HasLongNsec3 links)
-long_nsec3 links i k l is e y same (inl h) = inl (same ∙ h)
-long_nsec3 links i k l is e y same (inr h) = inr (same ∙ h.0, (k, (i, l, sym is), h.1))
+long_nsec3 links i k l is e y same h = grind (arith, common_steps)

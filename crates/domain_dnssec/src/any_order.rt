@@ -42,6 +42,7 @@ where
 /// # Errors
 ///
 /// `Signing` with the first fault of the zone; and `OutOfMemory`, only where it has none.
+#[tactic(auto, using(crate::proofs::AnyOrderLemmas::no_sorted_chain))]
 fn nsecs_of_sorted<O, N: MakeName, D: ZoneData + CanonicalOrd>(
     alloc: Global,
     apex: &N,
@@ -70,6 +71,7 @@ where
 /// The first that stands: `MixedClasses` where the records are not of one class; `Signing` with the
 /// first fault of the zone; and `OutOfMemory`, only where it has none. Before a fault of the zone
 /// is known, `Sort` where there was no memory to sort them, which only the sort answers.
+#[tactic(auto, using(crate::proofs::AnyOrderLemmas::no_chain))]
 pub fn generate_nsecs_of_records<O, N: MakeName, D: ZoneData + CanonicalOrd>(
     alloc: Global,
     apex: &N,

@@ -52,6 +52,7 @@ where
 /// first fault of the zone; and `OutOfMemory`, only where it has none but, where it has one, a
 /// fault of hashing. Before a fault of the zone is known, `Sort` where there was no memory to sort
 /// them, which only the sort answers.
+#[tactic(auto, using(crate::proofs::AnyOrderLemmas::no_hashed_chain))]
 pub fn generate_nsec3s_of_records<
     S: Sorter,
     H: Nsec3Hasher,

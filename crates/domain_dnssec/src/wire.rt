@@ -73,6 +73,7 @@ fn add_nsec3(alloc: Global, nsec3: &BorrowedNsec3<'_>, octets: &mut Vec<u8>) -> 
 }
 
 /// Appends an NSEC3PARAM record.
+#[tactic(auto, using(crate::proofs::WireLemmas::param_short))]
 fn add_param<O: Octets>(
     param: &Record<ParsedName<'_>, Nsec3param<O>>,
     octets: &mut Vec<u8>,

@@ -17,7 +17,7 @@ returns c =
     c.args.options.occlude_below_dname in
     let made_with = c.in_ok-config in
     let a = c.in-Ok.apex in
-    let zone = is_sorted c.args.apex.now c.args.class c.from_int-class.result c.args.records.now a sorted c.in-Ok.ensures.ok c.from_int-class.ensures
+    let zone = is_sorted _ _ _ _ a sorted c.in-Ok.ensures.ok c.from_int-class.ensures
     c.in_ok-sorted.ensures.sorts c.in_ok-sorted.ensures.one_class in
     let pair = pair_of c.in-Some.alike in
     let first = subst (λ (xs : List RawRecord). IsFirstPair (zone_of_raw xs) a config (Some pair)) c.deref.ensures.value
@@ -27,7 +27,7 @@ returns c =
       made_with.ensures.fits,
       (
         pair,
-        first_pair_of c.args.apex.now c.args.class config c.args.records.now a sorted zone (Some pair) first,
+        first_pair_of _ _ config _ a sorted zone _ first,
         c.write_lowered.ensures,
         c.write_lowered-2.ensures,
       ),

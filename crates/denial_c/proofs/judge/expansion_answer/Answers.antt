@@ -1,4 +1,5 @@
-use Rattle.std.proofs.Common.{◌≡◌, true, false, ap, Err, refl, sym, subst}
+use Rattle.std.proofs.Common.{arith, ◌≡◌, true, false, ap, Err, refl, sym, subst}
+use Rattle.std.proofs.lemmas.Grind.{common_steps}
 use Rattle.std.proofs.lemmas.Result.{err_from_is_err_and}
 use Rattle.domain_answer.specs.Expansion.{closer_name, is_expanded, ExpansionRestsOn, IsExpansionAnswered, IsExpansionRead}
 use Rattle.domain_answer.specs.declared.answer.Answer.TheVariants.{OutsideZone, NotProven, TooManyIterations}
@@ -8,15 +9,11 @@ use Rattle.denial_c.specs.Judged.{IsExpansionRefused}
 use Rattle.denial_c.specs.Question.{as_question}
 use Rattle.denial_c.specs.Result.{sha1_records, source_of}
 use Rattle.denial_c.proofs.JudgeLemmas.{allowed, expanded}
-use Rattle.denial_c.proofs.Nsec3Lemmas.{asked_fault, hash_fault}
+use Rattle.denial_c.proofs.Nsec3Lemmas.{hash_fault}
 use Rattle.denial_c.proofs.judge.expansion_answer.Goals as goal
 
 pub returns-in_err-apex : goal.returns-in_err-apex
-returns-in_err-apex c =
-    let q = err_from_is_err_and c.from_residual.result c.from_residual.ensures.1 in
-    rw (q.1, q.2) (asked_fault (source_of c.args.telling c.args.class c.args.records.now) c.args.apex.now c.args.name.now
-    (IsExpansionRefused (source_of c.args.telling c.args.class c.args.records.now) c.args.apex.now c.args.name.now c.args.rrsig_labels c.args.limit)
-    _ c.in_err-apex.ensures.err)
+returns-in_err-apex c = grind (arith, common_steps)
 
 pub returns : goal.returns
 returns c =
@@ -45,7 +42,7 @@ returns-in_err-answer c =
     let error = c.in_err-answer.field-0.0 in
     let are = c.in_err-answer.ensures in
     let same = c.from-labels.ensures in
-    let some = expanded (Err error) error refl (is_at_or_below q.name q.apex) (is_expanded q.apex q.name c.from-labels.result) OutsideZone NotProven
+    let some = expanded (Err error) error refl (is_at_or_below q.name q.apex) _ OutsideZone NotProven
     are.outside are.none in
     let r = err_from_is_err_and c.from_residual-in_err-answer.result c.from_residual-in_err-answer.ensures.1 in
     rw (r.1, r.2) (hash_fault source c.args.apex.now c.args.name.now

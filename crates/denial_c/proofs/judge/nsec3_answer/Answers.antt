@@ -1,4 +1,5 @@
-use Rattle.std.proofs.Common.{◌≡◌, true, false, ap, Err, refl, sym, subst}
+use Rattle.std.proofs.Common.{arith, ◌≡◌, true, false, ap, Err, refl, sym, subst}
+use Rattle.std.proofs.lemmas.Grind.{common_steps}
 use Rattle.std.proofs.lemmas.Result.{err_from_is_err_and}
 use Rattle.domain_answer.specs.HashedProved.{IsHashedAnswered}
 use Rattle.domain_answer.specs.HashedReading.{IsFirstOfRefusals, IsHashedRead}
@@ -10,15 +11,11 @@ use Rattle.denial_c.specs.Judged.{IsAnswerRefused}
 use Rattle.denial_c.specs.Question.{as_question}
 use Rattle.denial_c.specs.Result.{sha1_records, source_of}
 use Rattle.denial_c.proofs.JudgeLemmas.{allowed, needed}
-use Rattle.denial_c.proofs.Nsec3Lemmas.{asked_fault, hash_fault}
+use Rattle.denial_c.proofs.Nsec3Lemmas.{hash_fault}
 use Rattle.denial_c.proofs.judge.nsec3_answer.Goals as goal
 
 pub returns-in_err-apex : goal.returns-in_err-apex
-returns-in_err-apex c =
-    let q = err_from_is_err_and c.from_residual.result c.from_residual.ensures.1 in
-    rw (q.1, q.2) (asked_fault (source_of c.args.telling c.args.class c.args.records.now) c.args.apex.now c.args.name.now
-    (IsAnswerRefused (source_of c.args.telling c.args.class c.args.records.now) c.args.apex.now c.args.name.now c.args.rtype c.args.limit)
-    _ c.in_err-apex.ensures.err)
+returns-in_err-apex c = grind (arith, common_steps)
 
 pub returns : goal.returns
 returns c =
@@ -46,7 +43,7 @@ returns-in_err-answer c =
     let error = c.in_err-answer.field-0.0 in
     let are = c.in_err-answer.ensures in
     let same = c.from_int-rtype.ensures in
-    let some = needed (Err error) error refl (is_at_or_below q.name q.apex) (is_at_parent q.apex q.name c.from_int-rtype.result) OutsideZone AtParent
+    let some = needed (Err error) error refl (is_at_or_below q.name q.apex) _ OutsideZone AtParent
     are.outside are.parent in
     let r = err_from_is_err_and c.from_residual-in_err-answer.result c.from_residual-in_err-answer.ensures.1 in
     rw (r.1, r.2) (hash_fault source c.args.apex.now c.args.name.now (IsAnswerRefused source c.args.apex.now c.args.name.now c.args.rtype c.args.limit)

@@ -1,4 +1,5 @@
-use Rattle.std.proofs.Common.{◌≡◌, ℕ, List, [], ◌++◌, refl, sym, ◌∙◌, append-nil}
+use Rattle.std.proofs.Common.{arith, ◌≡◌, ℕ, List, [], ◌++◌, sym, ◌∙◌, append-nil}
+use Rattle.std.proofs.lemmas.Grind.{common_steps}
 use Rattle.domain_names.specs.Fault.{Fault, NameFault, WholeNameFault, in_name, trailing}
 use Rattle.domain_names.specs.Name.{wire_of, IsName}
 use Rattle.domain_names.specs.Words.{Name}
@@ -9,12 +10,7 @@ no_spelling : ((octets after : List ℕ) (name : Name) (fault : Fault) → IsNam
     → ((x y : Name) (a b : List ℕ) → IsName x → IsName y → wire_of x ++ a ≡ wire_of y ++ b → (x ≡ y) × (a ≡ b))
     → (octets : List ℕ) (fault : Fault) → WholeNameFault octets fault → (labels : Name) → Spells octets labels → ⊥
 no_spelling faultless one octets fault (in_name _ _ found) labels s = faultless octets [] labels fault s.valid (s.are ∙ sym (append-nil (wire_of labels))) found
-no_spelling faultless one octets fault (trailing other after valid some) labels s =
-    some (one other labels after [] valid s.valid (s.are ∙ sym (append-nil (wire_of labels)))).1
+no_spelling faultless one octets fault (trailing other after valid some) labels s = grind (arith, common_steps, (append-nil (wire_of labels)))
 
 pub returns-in-Err-clause-err : goal.returns-in-Err-clause-err
-returns-in-Err-clause-err c = (
-  refl,
-  λ s. no_spelling c.octets_begin_with_one_name.ensures.fault c.octets_begin_with_one_name.ensures.one c.args.octets.now
-      _ c.in-Err.ensures.err s.0 s.1,
-)
+returns-in-Err-clause-err c = grind (arith, common_steps, no_spelling)

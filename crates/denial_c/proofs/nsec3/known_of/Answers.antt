@@ -1,12 +1,10 @@
 use Rattle.std.proofs.Common.{ap, map, rules, ◌∙◌}
 use Rattle.std.proofs.lemmas.Fn.{filter_same}
 use Rattle.domain_nsec3.specs.View.{as_hashed_link}
-use Rattle.denial_c.specs.Result.{is_known}
 use Rattle.denial_c.proofs.Nsec3Lemmas.{map_filter}
 use Rattle.denial_c.proofs.nsec3.known_of.Goals as goal
 
 pub returns : goal.returns
 returns c =
-    ap (map (as_hashed_link (λ n. n)))
-    (filter_same _ (λ r. is_known c.args.apex.now (as_hashed_link (λ n. n) r)) _ (λ x b f' k. search rules) _ _ c.retain.ensures.filtered)
-    ∙ map_filter (as_hashed_link (λ n. n)) (is_known c.args.apex.now) c.args.nsec3s.items
+    ap (map (as_hashed_link (λ n. n))) (filter_same _ _ _ (λ x b f' k. search rules) _ _ c.retain.ensures.filtered)
+    ∙ map_filter (as_hashed_link (λ n. n)) _ c.args.nsec3s.items

@@ -1,17 +1,15 @@
-use Rattle.std.proofs.Common.{◌≡◌, ap, Err, subst}
+use Rattle.std.proofs.Common.{arith, ap, Err, subst}
+use Rattle.std.proofs.lemmas.Grind.{common_steps}
 use Rattle.std.proofs.lemmas.Result.{err_from_is_err_and}
 use Rattle.domain_checker.specs.HashedReading.{IsWalked}
 use Rattle.domain_checker.specs.HashedVerdict.{IsHashedProved}
 use Rattle.denial_c.specs.Question.{as_question}
-use Rattle.denial_c.specs.Result.{sha1_records, source_of, HashedQuestion, IsRefused}
-use Rattle.denial_c.proofs.Nsec3Lemmas.{asked_fault, hash_fault}
+use Rattle.denial_c.specs.Result.{sha1_records, source_of, IsRefused}
+use Rattle.denial_c.proofs.Nsec3Lemmas.{hash_fault}
 use Rattle.denial_c.proofs.nsec3.nsec3_verdict.Goals as goal
 
 pub returns-in_err-apex : goal.returns-in_err-apex
-returns-in_err-apex c =
-    let q = err_from_is_err_and c.from_residual.result c.from_residual.ensures.1 in
-    rw (q.1, q.2) (asked_fault (source_of c.args.telling c.args.class c.args.records.now) c.args.apex.now c.args.name.now
-    (IsRefused (source_of c.args.telling c.args.class c.args.records.now) c.args.apex.now c.args.name.now) _ c.in_err-apex.ensures.err)
+returns-in_err-apex c = grind (arith, common_steps)
 
 pub returns : goal.returns
 returns c =

@@ -1,23 +1,17 @@
-use Rattle.std.proofs.Common.{[], ap, length, sym, ◌∙◌, subst, ◌∷◌, arith}
-use Rattle.std.proofs.lemmas.List.{map-append}
-use Rattle.domain_base.specs.Types as rtypes
-use Rattle.domain_nsec3.specs.View.{as_hashed_link, hashed_links_of}
+use Rattle.std.proofs.lemmas.Grind.{common_steps}
+use Rattle.std.proofs.Common.{ap, length, sym, ◌∙◌, arith}
 use Rattle.domain_borrowed.specs.Links.{nsec3_record, IsNsec3}
-use Rattle.denial_c.specs.Among.{is_of}
-use Rattle.denial_c.proofs.AmongLemmas.{IsRead, passed, refused, refused_data, taken}
+use Rattle.denial_c.proofs.AmongLemmas.{passed, refused, refused_data, taken}
 use Rattle.domain_borrowed.proofs.WireLemmas.{shorter}
 use Rattle.denial_c.proofs.nsec3.nsec3s_among.Goals as goal
 
 pub returns-in_default-clause-err : goal.returns-in_default-clause-err
 returns-in_default-clause-err c =
-    refused (is_of rtypes.nsec3 c.args.class) nsec3_record IsNsec3 c.args.octets.now c.records.parser.left
-    (hashed_links_of (λ n. n) c.records.nsec3s.items) c.records.invariant
-    (λ none. let n = ap length none in omega arith) c.in_default.ensures.none
+    refused _ nsec3_record IsNsec3 _ _ _ c.records.invariant (λ none. let n = ap length none in omega arith) c.in_default.ensures.none
 
 pub returns-in_default-into_nsec3-clause-err : goal.returns-in_default-into_nsec3-clause-err
 returns-in_default-into_nsec3-clause-err c =
-    refused_data (is_of rtypes.nsec3 c.args.class) nsec3_record IsNsec3 c.args.octets.now c.records.parser.left
-    c.read_record.new.parser.left (hashed_links_of (λ n. n) c.records.nsec3s.items)
+    refused_data _ nsec3_record IsNsec3 _ _ _ _
     c.in-Some.record c.records.invariant c.in-Some.ensures.some.0 c.in-Some.ensures.some.1 (sym c.is_of.ensures
     ∙ c.if-is_of.true) c.in_default-into_nsec3.ensures.none
 
@@ -25,21 +19,10 @@ pub records-smaller-in-Ok-1 : goal.records-smaller-in-Ok-1
 records-smaller-in-Ok-1 c = shorter c.in-Some.record c.records.parser.left c.read_record.new.parser.left c.in-Some.ensures.some.0
 
 pub records-preserved-in-Ok-1 : goal.records-preserved-in-Ok-1
-records-preserved-in-Ok-1 c =
-    let more = taken (is_of rtypes.nsec3 c.args.class) nsec3_record IsNsec3 c.args.octets.now c.records.parser.left
-    c.read_record.new.parser.left (hashed_links_of (λ n. n) c.records.nsec3s.items)
-    c.in-Some.record (as_hashed_link (λ n. n) c.in-Some-into_nsec3.nsec3) c.records.invariant c.in-Some.ensures.some.0
-    c.in-Some.ensures.some.1 (sym c.is_of.ensures ∙ c.if-is_of.true)
-    c.in-Some-into_nsec3.ensures.some.0 c.in-Some-into_nsec3.ensures.some.1 in
-    subst (λ ks. IsRead (is_of rtypes.nsec3 c.args.class) nsec3_record IsNsec3 c.args.octets.now c.read_record.new.parser.left ks)
-    (sym (map-append (as_hashed_link (λ n. n)) c.records.nsec3s.items (c.in-Some-into_nsec3.nsec3 ∷ []))
-    ∙ ap (hashed_links_of (λ n. n)) (sym c.in-Ok.ensures.items)) more
+records-preserved-in-Ok-1 c = grind (arith, common_steps, taken)
 
 pub records-smaller : goal.records-smaller
 records-smaller c = shorter c.in-Some.record c.records.parser.left c.read_record.new.parser.left c.in-Some.ensures.some.0
 
 pub records-preserved : goal.records-preserved
-records-preserved c =
-    passed (is_of rtypes.nsec3 c.args.class) nsec3_record IsNsec3 c.args.octets.now c.records.parser.left
-    c.read_record.new.parser.left (hashed_links_of (λ n. n) c.records.nsec3s.items)
-    c.in-Some.record c.records.invariant c.in-Some.ensures.some.0 c.in-Some.ensures.some.1 (sym c.is_of.ensures ∙ c.if-is_of.false)
+records-preserved c = grind (arith, common_steps, passed)

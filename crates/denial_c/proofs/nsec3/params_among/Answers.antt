@@ -1,4 +1,4 @@
-use Rattle.std.proofs.Common.{◌≡◌, ◌&&◌, [], ap, length, sym, ◌∙◌, subst, map, ◌∷◌, arith}
+use Rattle.std.proofs.Common.{◌≡◌, ◌&&◌, ap, length, sym, ◌∙◌, subst, map, arith}
 use Rattle.std.proofs.lemmas.List.{map-append}
 use Rattle.domain_names.specs.Name.{same_name}
 use Rattle.domain_nsec3.specs.View.{as_param_record}
@@ -15,14 +15,11 @@ asked c = (λ i. sym c.is_of.ensures i && (ap (λ n. same_name n c.args.apex.now
 
 pub returns-in_default-clause-err : goal.returns-in_default-clause-err
 returns-in_default-clause-err c =
-    refused (is_param c.args.apex.now c.args.class) param_record IsParam c.args.octets.now c.records.parser.left
-    (map (as_param_record (λ n. n)) c.records.params.items) c.records.invariant (λ none. let n = ap length none in omega arith) c.in_default.ensures.none
+    refused _ param_record IsParam _ _ _ c.records.invariant (λ none. let n = ap length none in omega arith) c.in_default.ensures.none
 
 pub returns-in_default-into_nsec3param-clause-err : goal.returns-in_default-into_nsec3param-clause-err
 returns-in_default-into_nsec3param-clause-err c =
-    refused_data (is_param c.args.apex.now c.args.class) param_record IsParam c.args.octets.now c.records.parser.left
-    c.read_record.new.parser.left
-    (map (as_param_record (λ n. n)) c.records.params.items) c.in-Some.record c.records.invariant c.in-Some.ensures.some.0 c.in-Some.ensures.some.1
+    refused_data _ param_record IsParam _ _ _ _ c.in-Some.record c.records.invariant c.in-Some.ensures.some.0 c.in-Some.ensures.some.1
     (asked (goal.at.returns-in_default-into_nsec3param-clause-err c).After-name_eq ∙ c.if-is_of-name_eq.true) c.in_default-into_nsec3param.ensures.none
 
 pub records-smaller-in-Ok-1 : goal.records-smaller-in-Ok-1
@@ -30,21 +27,16 @@ records-smaller-in-Ok-1 c = shorter c.in-Some.record c.records.parser.left c.rea
 
 pub records-preserved-in-Ok-1 : goal.records-preserved-in-Ok-1
 records-preserved-in-Ok-1 c =
-    let more = taken (is_param c.args.apex.now c.args.class) param_record IsParam c.args.octets.now c.records.parser.left
-    c.read_record.new.parser.left
-    (map (as_param_record (λ n. n)) c.records.params.items) c.in-Some.record (as_param_record (λ n. n) c.in-Some-into_nsec3param.param) c.records.invariant
+    let more = taken _ param_record IsParam _ _ _ _ c.in-Some.record _ c.records.invariant
     c.in-Some.ensures.some.0 c.in-Some.ensures.some.1 (asked (goal.at.records-preserved-in-Ok-1 c).After-name_eq ∙ c.if-is_of-name_eq.true)
     c.in-Some-into_nsec3param.ensures.some.0 c.in-Some-into_nsec3param.ensures.some.1 in
     subst (λ ks. IsRead (is_param c.args.apex.now c.args.class) param_record IsParam c.args.octets.now c.read_record.new.parser.left ks)
-    (sym (map-append (as_param_record (λ n. n)) c.records.params.items (c.in-Some-into_nsec3param.param ∷ []))
-    ∙ ap (map (as_param_record (λ n. n))) (sym c.in-Ok.ensures.items)) more
+    (sym (map-append _ _ _) ∙ ap (map (as_param_record (λ n. n))) (sym c.in-Ok.ensures.items)) more
 
 pub records-smaller : goal.records-smaller
 records-smaller c = shorter c.in-Some.record c.records.parser.left c.read_record.new.parser.left c.in-Some.ensures.some.0
 
 pub records-preserved : goal.records-preserved
 records-preserved c =
-    passed (is_param c.args.apex.now c.args.class) param_record IsParam
-    c.args.octets.now c.records.parser.left c.read_record.new.parser.left
-    (map (as_param_record (λ n. n)) c.records.params.items) c.in-Some.record c.records.invariant c.in-Some.ensures.some.0 c.in-Some.ensures.some.1
+    passed _ param_record IsParam _ _ _ _ c.in-Some.record c.records.invariant c.in-Some.ensures.some.0 c.in-Some.ensures.some.1
     (asked (goal.at.records-preserved c).After-name_eq ∙ c.if-is_of-name_eq.false)

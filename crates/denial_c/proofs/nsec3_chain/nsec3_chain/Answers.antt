@@ -36,7 +36,7 @@ returns c =
     c.args.options.occlude_below_dname in
     let made_with = c.in_ok-config in
     let a = c.in-Ok.apex in
-    let zone = is_sorted c.args.apex.now c.args.class c.from_int-class.result c.args.records.now a sorted c.in-Ok.ensures.ok c.from_int-class.ensures
+    let zone = is_sorted _ _ _ _ a sorted c.in-Ok.ensures.ok c.from_int-class.ensures
     c.in_ok-sorted.ensures.sorts c.in_ok-sorted.ensures.one_class in
     let made = c.in_ok-octets.ensures.ok in
     let octets = c.in_ok-octets.octets.items in
@@ -48,10 +48,8 @@ returns c =
     (subst (λ mode. IsChainParam (zone_of_raw c.deref.result.now) a config mode made.0.param) made_with.ensures.mode
     (subst (λ (k : ChainConfig). IsChainParam (zone_of_raw c.deref.result.now) a k made_with.config.nsec3param_ttl_mode
     made.0.param) made_with.ensures.ok made.2)) in
-    chain_result (nsec3_asking c.args.apex.now c.args.class config c.args.records.now) c.args.apex.now c.args.class c.args.records.now octets old new
-    made_with.ensures.fits
-    (nsec3_made c.args.apex.now c.args.class config c.args.records.now made_with.ensures.fits a sorted octets made.0 zone chain param made.3)
-    c.write_octets.result
+    chain_result (nsec3_asking c.args.apex.now c.args.class config c.args.records.now) _ _ _ octets old new made_with.ensures.fits
+    (nsec3_made _ _ config _ made_with.ensures.fits a sorted octets made.0 zone chain param made.3) _
     (subst (λ w. IfOk c.write_octets.result (IsWritten w old new)) c.deref-2.ensures.value c.write_octets.ensures.ok)
     (subst (λ w. IfErr c.write_octets.result (λ e. (e ≡ ShortBuffer (length w)) × (length old < length w) × (new ≡ old))) c.deref-2.ensures.value
     c.write_octets.ensures.err)

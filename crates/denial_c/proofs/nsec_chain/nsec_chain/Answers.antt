@@ -25,19 +25,15 @@ returns-in_err-octets c =
 pub returns : goal.returns
 returns c =
     let sorted = c.in_ok-sorted.sorted.items in
-    let zone = is_sorted c.args.apex.now c.args.class c.from_int-class.result c.args.records.now c.in-Ok.apex sorted c.in-Ok.ensures.ok c.from_int-class.ensures
+    let zone = is_sorted _ _ _ _ _ sorted c.in-Ok.ensures.ok c.from_int-class.ensures
     c.in_ok-sorted.ensures.sorts c.in_ok-sorted.ensures.one_class in
     let made = c.in_ok-octets.ensures.ok in
     let octets = c.in_ok-octets.octets.items in
     let old = c.args.buffer.now in
     let new = c.write_octets.new.buffer in
-    chain_result (nsec_asking c.args.apex.now c.args.class c.args.config.now c.args.records.now) c.args.apex.now c.args.class c.args.records.now
-    octets old new tt
-    (nsec_made c.args.apex.now c.args.class c.args.config.now c.args.records.now c.in-Ok.apex sorted octets made.0 zone
-    (subst (λ (xs : List RawRecord). IsChain (zone_of_raw xs) c.in-Ok.apex c.args.config.now made.0)
-    c.deref.ensures.value made.1)
-    made.2)
-    c.write_octets.result
+    chain_result (nsec_asking c.args.apex.now c.args.class c.args.config.now c.args.records.now) _ _ _ octets old new tt
+    (nsec_made _ _ _ _ _ sorted octets made.0 zone
+    (subst (λ (xs : List RawRecord). IsChain (zone_of_raw xs) c.in-Ok.apex c.args.config.now made.0) c.deref.ensures.value made.1) made.2) _
     (subst (λ w. IfOk c.write_octets.result (IsWritten w old new)) c.deref-2.ensures.value c.write_octets.ensures.ok)
     (subst (λ w. IfErr c.write_octets.result (λ e. (e ≡ ShortBuffer (length w)) × (length old < length w) × (new ≡ old))) c.deref-2.ensures.value
     c.write_octets.ensures.err)

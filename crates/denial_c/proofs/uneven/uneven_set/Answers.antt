@@ -1,11 +1,11 @@
-use Rattle.std.proofs.Common.{ap, map, subst, sym, ◌∙◌}
-use Rattle.domain_alike.specs.Covered.{covered_names}
+use Rattle.std.proofs.Common.{arith, ap, map, subst, sym, ◌∙◌}
+use Rattle.std.proofs.lemmas.Grind.{common_steps}
 use Rattle.domain_borrowed.specs.Data.{minimum_of, zone_of_raw}
 use Rattle.domain_zone.specs.View.{as_zone_record}
 use Rattle.domain_zone.specs.Zone.{has_clash, records_of}
 use Rattle.domain_zone.proofs.GivenLemmas.{raw_types, types_at}
 use Rattle.domain_zone.proofs.TtlLemmas.{NeverDescend}
-use Rattle.denial_c.specs.Uneven.{IsFirstClash, IsFirstUneven}
+use Rattle.denial_c.specs.Uneven.{IsFirstClash}
 use Rattle.denial_c.proofs.UnevenLemmas.{walked_all, walked_clash, walked_even, walked_first, walked_known, walked_past}
 use Rattle.denial_c.proofs.uneven.uneven_set.Goals as goal
 
@@ -15,16 +15,14 @@ owners-preserved-then-excludes-is_unsigned_cut c =
 
 pub clashing_type-requires : goal.clashing_type-requires
 clashing_type-requires c =
-    raw_types (λ n. n) (λ d. d.rtype) minimum_of c.records.result
+    raw_types (λ n. n) _ minimum_of _
     (subst (λ rs. NeverDescend (map (as_zone_record (λ n. n) (λ d. d.rtype) minimum_of) rs)) (sym c.records.ensures)
     (subst NeverDescend (sym (ap (λ p. p.records) (walked_known c.owners.invariant c.in-Some.ensures.steps)))
-    (types_at (λ n. n) (λ d. d.rtype) minimum_of c.args.sorted.now c.in-Some.owner.name.now c.requires)))
+    (types_at _ _ minimum_of _ _ c.requires)))
 
 pub returns-in-Some-clashing_type-clause-first : goal.returns-in-Some-clashing_type-clause-first
 returns-in-Some-clashing_type-clause-first c =
-    let L = zone_of_raw c.args.sorted.now in
-    subst (IsFirstUneven L (covered_names c.args.excludes c.args.below_dname L c.args.apex.now)) (sym c.as_parsed-name.ensures)
-    (walked_first c.owners.invariant c.in-Some.ensures.steps c.is_unsigned_cut.ensures c.if-excludes-is_unsigned_cut.false)
+    grind (arith, common_steps, (walked_first c.owners.invariant c.in-Some.ensures.steps c.is_unsigned_cut.ensures c.if-excludes-is_unsigned_cut.false))
 
 pub returns-in-Some-clashing_type-clause-clash : goal.returns-in-Some-clashing_type-clause-clash
 returns-in-Some-clashing_type-clause-clash c =

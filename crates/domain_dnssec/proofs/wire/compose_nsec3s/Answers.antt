@@ -17,6 +17,5 @@ pub loop-place-preserved : goal.loop-place-preserved
 loop-place-preserved g c =
     let link = c.in-Some.nsec3 in
     let octets : HashedLink → _ = λ k. record_octets (nsec3_record k) in
-    c.in_ok-add_nsec3.ensures.ok
-    ∙ (λ i. c.loop-place.invariant i ++ octets (c.in-Some.ensures.some link i))
-    ∙ onward octets c.args.octets.now.items c.args.chain.now.links c.loop-place.place link (omega arith)
+    c.in_ok-add_nsec3.ensures.ok ∙ (λ i. c.loop-place.invariant i ++ octets (c.in-Some.ensures.some link i))
+    ∙ onward octets _ _ _ link (omega arith)

@@ -18,6 +18,5 @@ pub loop-place-preserved : goal.loop-place-preserved
 loop-place-preserved g c =
     let link = as_link (λ n. n) c.in-Some.nsec in
     let octets : Link → _ = λ k. record_octets (nsec_record k) in
-    c.in_ok-add_nsec.ensures.ok
-    ∙ (λ i. c.loop-place.invariant i ++ octets (c.in-Some.ensures.some link i))
-    ∙ onward octets c.args.octets.now.items c.args.chain.now c.loop-place.place link (omega arith)
+    c.in_ok-add_nsec.ensures.ok ∙ (λ i. c.loop-place.invariant i ++ octets (c.in-Some.ensures.some link i))
+    ∙ onward octets _ _ _ link (omega arith)
