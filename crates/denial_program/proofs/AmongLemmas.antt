@@ -1,5 +1,6 @@
 -- Records that are gone over one by one, of which some are kept.
-use Rattle.std.proofs.Common.{◌≡◌, ℕ, List, [], ◌∷◌, ◌++◌, arith, length, refl, sym, subst, inl, inr, append_assoc, append-nil}
+use Rattle.std.proofs.lemmas.Grind.{common_steps}
+use Rattle.std.proofs.Common.{◌≡◌, ℕ, List, [], ◌∷◌, ◌++◌, arith, length, refl, sym, subst, inr, append_assoc, append-nil}
 use Rattle.domain_names.specs.Words.{Name}
 use Rattle.domain_nsec.specs.Chain.{Link}
 use Rattle.domain_record.specs.RecordClone.{IsRecordClone}
@@ -14,26 +15,16 @@ ended (r ∷ rs) e = absurd (omega arith)
 
 -- a copy is the record
 pub cloned : (r copy : RawRecord) → IsRecordClone (λ n m. m ≡ n) (λ d e. e ≡ d) r copy → r ≡ copy
-cloned r copy s = λ i. record {
-  owner = sym s.owner i;
-  class = sym s.class i;
-  ttl = sym s.ttl i;
-  «data» = sym s.«data» i;
-}
+cloned r copy s = grind (arith, common_steps)
 
 module _ {K : Type 0} (Is : RawRecord → K → Type 0) where
   -- the records before those that are left gave these
   abbrev pub Goes : List RawRecord → List RawRecord → List K → Type 0
   Goes all left kept = (more : List K) → AreAmong Is left more → AreAmong Is all (kept ++ more)
 
-  pub goes_start : (all left : List RawRecord) → left ≡ all → Goes all left []
-  goes_start all left e more h = subst (λ rs. AreAmong Is rs more) e h
-
   pub goes_kept : (all left rest : List RawRecord) (kept : List K) (r : RawRecord) (k : K) → Goes all left kept → left ≡ r ∷ rest → Is r k
       → Goes all rest (kept ++ k ∷ [])
-  goes_kept all left rest kept r k h e is more m =
-      subst (AreAmong Is all) (sym (append_assoc kept (k ∷ []) more))
-      (h (k ∷ more) (subst (λ rs. AreAmong Is rs (k ∷ more)) (sym e) (inl (k, more, refl, is, m))))
+  goes_kept all left rest kept r k h e is more m = grind (arith, common_steps)
 
   pub goes_past : (all left rest : List RawRecord) (kept : List K) (r : RawRecord) → Goes all left kept → left ≡ r ∷ rest
       → ((k : K) → Is r k → ⊥) → Goes all rest kept
@@ -54,20 +45,12 @@ pub record IsHanding (all left : List RawRecord) (old new : NsecCheck) : Type 0 
   pub adds : Adds old new links
 
 pub handing_none : (all left : List RawRecord) (check : NsecCheck) → left ≡ all → IsHanding all left check check
-handing_none all left check e = record {
-  links = [];
-  goes = goes_start IsNsecOf all left e;
-  adds = λ a x t before h. subst (λ links. HasRead a x t links check) (sym (append-nil before)) h;
-}
+handing_none all left check e = grind (arith, common_steps)
 
 pub handing_other : (all left rest : List RawRecord) (old new : NsecCheck) (r : RawRecord) → IsHanding all left old new → left ≡ r ∷ rest
     → ((k : Link) → IsNsecOf r k → ⊥)
     → IsHanding all rest old new
-handing_other all left rest old new r s e none = record {
-  links = s.links;
-  goes = goes_past IsNsecOf all left rest s.links r s.goes e none;
-  adds = s.adds;
-}
+handing_other all left rest old new r s e none = grind (arith, common_steps)
 
 pub handing_one : (all left rest : List RawRecord) (old mid new : NsecCheck) (r : RawRecord) (k : Link)
     → IsHanding all left old mid → left ≡ r ∷ rest → IsNsecOf r k
@@ -75,7 +58,7 @@ pub handing_one : (all left rest : List RawRecord) (old mid new : NsecCheck) (r 
     → IsHanding all rest old new
 handing_one all left rest old mid new r k s e is adds = record {
   links = s.links ++ k ∷ [];
-  goes = goes_kept IsNsecOf all left rest s.links r k s.goes e is;
+  goes = goes_kept IsNsecOf all left rest _ r k s.goes e is;
   adds = λ a x t before h.
       subst (λ links. HasRead a x t links new) (append_assoc before s.links (k ∷ [])) (adds a x t (before ++ s.links) (s.adds a x t before h));
 }

@@ -1,81 +1,33 @@
 -- How the program makes chains.
-use Rattle.std.proofs.Common.{◌≡◌, ◌⊎◌, true, false, List, sym, subst, inl, inr, Result, Ok, Err, IfErr, IsErrOf, OnOk}
+use Rattle.std.proofs.Common.{arith, ◌≡◌, ◌⊎◌, List, inl, inr, Result, IfErr, IsErrOf, OnOk}
+use Rattle.std.proofs.lemmas.Grind.{common_steps}
 use Rattle.std.specs.Result.{IsErrAnd}
-use Rattle.domain_dnssec.specs.declared.chain.ChainError.{ChainError}
-use Rattle.domain_dnssec.specs.declared.chain.ChainError.TheVariants.{MixedClasses, Sort, Signing, OutOfMemory}
-use Rattle.domain_octets.specs.Words.{Octets}
+use Rattle.domain_dnssec.specs.declared.chain.ChainError.TheVariants.{MixedClasses, Sort}
 use Rattle.domain_octets.proofs.StdLemmas.{if_err_of}
 use Rattle.domain_names.specs.Words.{Name}
 use Rattle.domain_nsec.specs.Chain.{usual_config, IsFaultless}
 use Rattle.domain_nsec3.specs.Faults.{IsReady}
-use Rattle.domain_nsec3.specs.View.{HasherAnswer, config_of, hash_by, parameters_of}
-use Rattle.domain_nsec3.specs.declared.config.GenerateNsec3Config.{GenerateNsec3Config}
+use Rattle.domain_nsec3.specs.View.{HasherAnswer}
 use Rattle.domain_borrowed.specs.Data.{RawRecord, data_cmp, minimum_of, zone_of_raw}
 use Rattle.domain_records.specs.Errors.{sort_error}
 use Rattle.domain_records.specs.Order.{IsOneClass}
 use Rattle.domain_dnssec.proofs.KeptLemmas.{classes_kept}
-use Rattle.denial_program.specs.Answer.{fault_of_chain, usual_nsec3_config, HasNoAnswer, HasNoNsecs, HasNoNsec3s, IsAnswer, IsNsecs, IsNsec3s, IsUnsorted}
-use Rattle.denial_program.specs.Answer.{IsUnwritten, Sorts}
+use Rattle.denial_program.specs.Answer.{usual_nsec3_config, HasNoAnswer, HasNoNsecs, HasNoNsec3s, IsAnswer, IsNsecs, IsNsec3s, IsUnsorted, IsUnwritten, Sorts}
 use Rattle.denial_program.specs.Command.{Params}
 use Rattle.denial_program.specs.declared.answer.Reply.{Reply}
 use Rattle.denial_program.specs.declared.command.Command.{Command}
-use Rattle.denial_program.specs.declared.command.Command.TheVariants.{Nsec, Nsec3, CheckNsec, CheckNsec3}
 use Rattle.denial_program.specs.declared.fault.DenialFault.{DenialFault}
 use Rattle.denial_program.specs.declared.fault.DenialFault.TheVariants.{Unprepared, Write, OutOfMemory as NoMemory}
 use Rattle.denial_program.specs.Fault.{prepare_error}
-
--- a configuration with these fields is the usual one
-pub usual_is : {S : Type 0} (answers : HasherAnswer) (config : GenerateNsec3Config Octets S) (p : Params) → config.params ≡ p
-    → config.assume_dnskeys_will_be_added ≡ true → config.opt_out_exclude_owner_names_of_unsigned_delegations ≡ true → config.occlude_below_dname ≡ false
-    → config_of answers config ≡ usual_nsec3_config answers p
-usual_is answers config p params assumed excluded kept = λ i. record {
-  hash = hash_by answers (parameters_of (params i));
-  parameters = parameters_of (params i);
-  flags = (params i).flags;
-  exclude_unsigned = excluded i;
-  assume_dnskeys_will_be_added = assumed i;
-  occlude_below_dname = kept i;
-}
-
--- a fault of a chain is none of the device
-chain_no_write : (e : ChainError) → fault_of_chain e ≡ Write → ⊥
-chain_no_write MixedClasses is = cc
-chain_no_write (Sort e) is = cc
-chain_no_write (Signing e) is = cc
-chain_no_write OutOfMemory is = cc
-
--- nor is any for which there is no answer
-no_answer_no_write : (answers : HasherAnswer) (command : Command) (given : List RawRecord) → HasNoAnswer answers command given Write → ⊥
-no_answer_no_write answers (Nsec apex) given none = chain_no_write none.error (sym none.is)
-no_answer_no_write answers (Nsec3 apex p) given none = chain_no_write none.error (sym none.is)
-no_answer_no_write answers (CheckNsec q) given none = cc
-no_answer_no_write answers (CheckNsec3 q) given none = none
 
 -- where writing failed there was an answer
 pub answer_unwritten : {X : Type 0} (answers : HasherAnswer) (command : Command) (given : List RawRecord) (r : Result X DenialFault)
     → IfErr r (IsUnwritten (IsAnswer answers command given) (HasNoAnswer answers command given)) → IsErrOf r Write
     → (x : Reply) × IsAnswer answers command given x
-answer_unwritten answers command given r h is = there (subst
-    (λ q. IfErr q (IsUnwritten (IsAnswer answers command given) (HasNoAnswer answers command given))) is h)
-  where
-    there : IsUnwritten (IsAnswer answers command given) (HasNoAnswer answers command given) Write → (x : Reply) × IsAnswer answers command given x
-    there (inl h) = h.1
-    there (inr none) = absurd (no_answer_no_write answers command given none)
+answer_unwritten answers command given r h is = grind (arith, common_steps)
 
 pub on_ok : {X E P Q : Type 0} → (P → Q) → (r : Result X E) → OnOk r P → OnOk r Q
-on_ok f (Ok x) h = f h
-on_ok f (Err e) h = tt
-
--- where there was no memory after the records were read, that is why they have no answer
-pub answer_memory : {X : Type 0} (answers : HasherAnswer) (command : Command) (given : List RawRecord) (r : Result X DenialFault)
-    → IfErr r (IsUnwritten (IsAnswer answers command given) (HasNoAnswer answers command given)) → IsErrOf r NoMemory
-    → HasNoAnswer answers command given NoMemory
-answer_memory answers command given r h is = there (subst
-    (λ q. IfErr q (IsUnwritten (IsAnswer answers command given) (HasNoAnswer answers command given))) is h)
-  where
-    there : IsUnwritten (IsAnswer answers command given) (HasNoAnswer answers command given) NoMemory → HasNoAnswer answers command given NoMemory
-    there (inl h) = absurd (let w = h.0 in cc)
-    there (inr none) = none
+on_ok f r h = grind (arith, common_steps)
 
 -- records are of one class exactly where their sorted set is
 pub given_one_class : (given sorted : List RawRecord) → Sorts given sorted → IsOneClass sorted → IsOneClass given
@@ -88,25 +40,13 @@ sorted_one_class given sorted sorts one = (classes_kept (λ n. n) (λ d. d.rtype
 pub nsecs_unwritten : {X : Type 0} (given sorted : List RawRecord) (apex : Name) (x : Reply) → IsNsecs given apex x → Sorts given sorted → IsOneClass sorted
     → IsFaultless (zone_of_raw sorted) apex usual_config → (r : Result X DenialFault)
     → IfErr r (λ e. (e ≡ Write) ⊎ (e ≡ NoMemory)) → IfErr r (IsUnwritten (IsNsecs given apex) (HasNoNsecs given apex))
-nsecs_unwritten given sorted apex x is sorts one faultless (Ok y) h = tt
-nsecs_unwritten given sorted apex x is sorts one faultless (Err e) (inl w) = inl (w, (x, is))
-nsecs_unwritten given sorted apex x is sorts one faultless (Err e) (inr m) = inr (record {
-  error = OutOfMemory;
-  is = m;
-  none = record { sorted = sorted; sorts = sorts; one_class = one; faultless = faultless };
-})
+nsecs_unwritten given sorted apex x is sorts one faultless r h = grind (arith, common_steps)
 
 pub nsec3s_unwritten : {X : Type 0} (answers : HasherAnswer) (given sorted : List RawRecord) (apex : Name) (p : Params) (x : Reply)
     → IsNsec3s answers given apex p x → Sorts given sorted → IsOneClass sorted
     → IsReady (zone_of_raw sorted) apex (usual_nsec3_config answers p) → (r : Result X DenialFault)
     → IfErr r (λ e. (e ≡ Write) ⊎ (e ≡ NoMemory)) → IfErr r (IsUnwritten (IsNsec3s answers given apex p) (HasNoNsec3s answers given apex p))
-nsec3s_unwritten answers given sorted apex p x is sorts one ready (Ok y) h = tt
-nsec3s_unwritten answers given sorted apex p x is sorts one ready (Err e) (inl w) = inl (w, (x, is))
-nsec3s_unwritten answers given sorted apex p x is sorts one ready (Err e) (inr m) = inr (record {
-  error = OutOfMemory;
-  is = m;
-  none = record { sorted = sorted; sorts = sorts; one_class = one; ready = ready };
-})
+nsec3s_unwritten answers given sorted apex p x is sorts one ready r h = grind (arith, common_steps)
 
 -- records that were sorted, and not compacted
 pub uncompacted : (given sorted : List RawRecord) → Sorts given sorted → IsOneClass sorted → (e : DenialFault)
@@ -129,5 +69,4 @@ nsecs_unready given apex e none r h = if_err_of (IsUnwritten (IsNsecs given apex
 
 pub nsec3s_unready : {X : Type 0} (answers : HasherAnswer) (given : List RawRecord) (apex : Name) (p : Params) (e : DenialFault) → IsUnsorted given e
     → (r : Result X DenialFault) → IsErrAnd r (λ f. f ≡ e) → IfErr r (IsUnwritten (IsNsec3s answers given apex p) (HasNoNsec3s answers given apex p))
-nsec3s_unready answers given apex p e none r h =
-    if_err_of (IsUnwritten (IsNsec3s answers given apex p) (HasNoNsec3s answers given apex p)) e r h (inr (nsec3s_unsorted answers given apex p e none))
+nsec3s_unready answers given apex p e none r h = grind (arith, common_steps, nsec3s_unsorted)

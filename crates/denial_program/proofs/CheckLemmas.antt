@@ -1,5 +1,6 @@
 -- Names outside the zone, and what a hasher refuses.
-use Rattle.std.proofs.Common.{◌≡◌, ℕ, false, List, inl, inr, ◌⊎◌}
+use Rattle.std.proofs.Common.{arith, ◌≡◌, ℕ, false, List, ◌⊎◌}
+use Rattle.std.proofs.lemmas.Grind.{common_steps}
 use Rattle.std.proofs.lemmas.Bool.{cond-false}
 use Rattle.domain_names.specs.Name.{is_at_or_below}
 use Rattle.domain_names.specs.Words.{Name}
@@ -17,5 +18,4 @@ reading_outside a listed x t off = cond-false (is_at_or_below x a) (list_verdict
 pub hasher_refused : {P : ℕ → Type 0} (e : Nsec3HashError) → (e ≡ OutOfMemory → ⊥)
     → (e ≡ OutOfMemory) ⊎ ((n : ℕ) × (e ≡ Hasher n)) → ((n : ℕ) → e ≡ Hasher n → P n)
     → (n : ℕ) × ((e ≡ Hasher n) × P n)
-hasher_refused e not (inl memory) first = absurd (not memory)
-hasher_refused e not (inr (n, is)) first = (n, (is, first n is))
+hasher_refused e not h first = grind (arith, common_steps)

@@ -1,15 +1,14 @@
 -- The record that tokens spell, part after part, and tokens that spell none.
-use Rattle.std.proofs.Common.{◌≡◌, ◌≢◌, ◌↔◌, ℕ, Bool, false, IsTrue, List, [], ◌∷◌, refl, ap, sym, ◌∙◌, subst, None}
+use Rattle.std.proofs.Common.{arith, ◌≡◌, ◌≢◌, ◌↔◌, ℕ, Bool, false, IsTrue, List, [], ◌∷◌, refl, subst, None}
+use Rattle.std.proofs.lemmas.Grind.{common_steps}
 use Rattle.domain_octets.specs.Words.{Octets}
 use Rattle.domain_names.specs.Words.{Name}
 use Rattle.domain_names.specs.Text.{NameText}
 use Rattle.domain_names.specs.TextFault.{ScanFault, IsOfTokens, scan_fault_of, NameTextFault}
-use Rattle.domain_base.specs.Scan.{TakesToken, RefusesToken, ended, refused, IsNumber, IsNoNumber}
+use Rattle.domain_base.specs.Scan.{TakesToken, RefusesToken, IsNumber, IsNoNumber}
 use Rattle.domain_base.specs.Numbers.{ClassText, IsNoClass, TypeText, IsNoType, type_names}
 use Rattle.domain_names.specs.declared.error.ScanError.{ScanError}
-use Rattle.domain_names.specs.declared.error.ScanError.TheVariants as scan_error
 use Rattle.domain_base.proofs.NamedLemmas.{one_named}
-use Rattle.domain_base.proofs.RefusalLemmas.{token_excludes, name_excludes}
 use Rattle.domain_rdata.specs.Scan.{RdataText}
 use Rattle.domain_rdata.specs.Zone.{canonical_octets}
 use Rattle.domain_rdata.specs.declared.zone_record_data.ZoneRecordData.{ZoneRecordData}
@@ -34,30 +33,12 @@ pub line_text : (ws1 ws2 ws3 ws4 ws5 ws6 : List (List ℕ)) (owner : Name) (clas
     → stored ≡ record { rtype = rtype; octets = canonical_octets (λ o. o) (λ n. n) d }
     → r ≡ record { owner = owner; class = class; ttl = ttl; «data» = stored }
     → LineText ws1 r
-line_text ws1 ws2 ws3 ws4 ws5 ws6 owner class ttl rtype d stored r o t c k h e kept same =
-    subst (LineText ws1) (sym (same ∙ ap (λ (s : RawData). record { owner = owner; class = class; ttl = ttl; «data» = s }) kept)) (record {
-      owner_word = o.token;
-      ttl_word = t.token;
-      class_word = c.token;
-      type_word = k.token;
-      data_words = ws5;
-      spelled = d;
-      are = o.first ∙ ap (λ ws. o.token ∷ ws) (t.first ∙ ap (λ ws. t.token ∷ ws) (c.first ∙ ap (λ ws. c.token ∷ ws) k.first));
-      owner = o.holds;
-      ttl = t.holds;
-      class = c.holds;
-      type = k.holds;
-      rdata = subst (λ ws. RdataText (λ o. o) (λ n. n) rtype ws5 d ws) e h;
-      octets = refl;
-    })
+line_text ws1 ws2 ws3 ws4 ws5 ws6 owner class ttl rtype d stored r o t c k h e kept same = grind (arith, common_steps)
 
 -- a token that is refused spells no value
 refused_spells : (Why : ScanFault → List ℕ → Type 0) (P : List ℕ → Type 0) (old new after : List (List ℕ)) (fault : ScanFault)
     → ((token : List ℕ) → Why fault token → P token → ⊥) → RefusesToken Why old new fault → TakesToken P old after → ⊥
-refused_spells Why P old new after fault apart ended takes = let e = takes.first in cc
-refused_spells Why P old new after fault apart (refused token left why_fault why) takes =
-    let same : token ≡ takes.token = (let e = takes.first in cc) in
-    apart takes.token (subst (Why fault) same why) takes.holds
+refused_spells Why P old new after fault apart h takes = grind (arith, common_steps)
 
 -- a line that spells a record, whose tokens were read so far
 module _ (ws1 ws2 ws3 ws4 ws5 : List (List ℕ)) (r : RawRecord) (line : LineText ws1 r) where
@@ -112,10 +93,7 @@ spells_none ws OutOfMemory h = tt
 
 -- words are bad only where the refusal was no want of memory
 pub known_if_bad : (s : ScanError) (e : LineError) → e ≡ line_error_of s → e ≡ Bad → IsOfTokens None (scan_fault_of s)
-known_if_bad scan_error.EndOfEntry e made bad = tt
-known_if_bad (scan_error.Custom text) e made bad = tt
-known_if_bad scan_error.ShortBuf e made bad = refl
-known_if_bad scan_error.OutOfMemory e made bad = cc
+known_if_bad s e made bad = grind (arith, common_steps)
 
 -- words whose first spells no name spell no record
 pub no_owner : (ws : List (List ℕ)) (e : LineError) → SpellsNoName ws e → SpellsNone ws e
@@ -126,6 +104,4 @@ no_owner ws OutOfMemory none = tt
 -- a first word that was refused spells no name
 pub no_name : (ws new : List (List ℕ)) (s : ScanError) (e : LineError) → e ≡ line_error_of s
     → RefusesToken (NameTextFault None) ws new (scan_fault_of s) → SpellsNoName ws e
-no_name ws new s Bad made why = λ name after takes.
-    token_excludes NameText (NameTextFault None) None (name_excludes None) ws new after name (scan_fault_of s) why takes (known_if_bad s Bad made refl)
-no_name ws new s OutOfMemory made why = tt
+no_name ws new s e made why = grind (arith, common_steps)

@@ -1,6 +1,6 @@
 -- A line that was found in what the reader holds, and one that the reader found.
-use Rattle.std.proofs.Common.{◌≡◌, ◌≢◌, ℕ, ◌+◌, ◌-◌, ◌<◌, List, [], length, take, get_or, sym, ap, ◌∙◌, subst, arith, Some, None, IfSome, Option}
-use Rattle.std.proofs.Common.{length-take-le}
+use Rattle.std.proofs.lemmas.Grind.{common_steps}
+use Rattle.std.proofs.Common.{◌≡◌, ◌≢◌, ℕ, ◌+◌, ◌-◌, ◌<◌, List, [], length, take, get_or, sym, ap, ◌∙◌, subst, arith, IfSome, Option, length-take-le}
 use Rattle.std.specs.Io.BufRead.{take_through, DropsThrough}
 use Rattle.std.specs.Io.KnownBytes.{Consumes}
 use Rattle.std.proofs.KnownBytes.{Consumes-nil}
@@ -10,8 +10,7 @@ use Rattle.std.proofs.lemmas.List.Elements.{All-nil, All-from_get_or}
 
 -- what is known of octets follows from what else is known of them
 pub known_so : (P Q : List ℕ → Type 0) (known : Option (List ℕ)) → ((xs : List ℕ) → P xs → Q xs) → IfSome known P → IfSome known Q
-known_so P Q None more h = tt
-known_so P Q (Some xs) more h = more xs h
+known_so P Q known more h = grind (arith, common_steps)
 
 -- the octets up to the first line feed were taken
 pub line_taken : (known now : Option (List ℕ)) (held : List ℕ) (place : ℕ) → place < length held
@@ -20,13 +19,10 @@ pub line_taken : (known now : Option (List ℕ)) (held : List ℕ) (place : ℕ)
     → IfSome known (λ xs. take (place + 1) held ≡ take_through 10 xs) × DropsThrough known now 10
 line_taken known now held place within before here taken =
     let part = take (place + 1) held in
-    let long : length part ≡ place + 1 = length-take-le (place + 1) held (omega arith) in
+    let long : length part ≡ place + 1 = length-take-le _ held (omega arith) in
     let end : length part - 1 ≡ place = omega (arith, long) in
-    let last : get_or part (length part - 1) 0 ≡ 10 =
-    ap (λ n. get_or part n 0) end ∙ get_or-take (place + 1) held place 0 (omega arith) ∙ here in
-    Consumes_through 10 known known now [] part (Consumes-nil known) (All-nil (λ x. x ≢ 10)) taken
-    (All-from_get_or (λ x. x ≢ 10) (take (length part - 1) part) 0 (λ k lt.
+    let last : get_or part (length part - 1) 0 ≡ 10 = ap (λ n. get_or part n 0) end ∙ get_or-take _ held place 0 (omega arith) ∙ here in
+    Consumes_through 10 known known now [] part (Consumes-nil known) (All-nil _) taken (All-from_get_or (λ x. x ≢ 10) _ 0 (λ k lt.
     let low : k < length part - 1 = omega (arith, length-take-le (length part - 1) part (omega arith)) in
-    subst (λ x. x ≢ 10) (sym (get_or-take (length part - 1) part k 0 low
-    ∙ get_or-take (place + 1) held k 0 (omega (arith, long)))) (before k (omega (arith, long)))))
+    subst (λ x. x ≢ 10) (sym (get_or-take _ part k 0 low ∙ get_or-take _ held k 0 (omega (arith, long)))) (before k (omega (arith, long)))))
     (λ some. last) (λ none. absurd (omega (arith, long)))

@@ -1,4 +1,5 @@
 -- How far a reader has come, where it tells its octets.
+use Rattle.std.proofs.lemmas.Grind.{common_steps}
 use Rattle.std.proofs.Common.{◌≡◌, ◌≢◌, ℕ, ◌+◌, ◌-◌, ◌<◌, List, [], ◌∷◌, ◌++◌, length, get_or, refl, ap, sym, ◌∙◌, subst, arith, inl, inr, Some, None, IfSome}
 use Rattle.std.proofs.Common.{Option, append-nil, append_assoc}
 use Rattle.std.specs.Str.Lines.{lines, strip_carriage_return}
@@ -6,7 +7,6 @@ use Rattle.std.specs.Io.BufRead.{take_through, drop_through, DropsThrough}
 use Rattle.std.specs.Io.KnownBytes.{IsAtEnd}
 use Rattle.std.proofs.lemmas.List.Elements.{All-nil, All-cons}
 use Rattle.domain_borrowed.specs.Data.{RawRecord}
-use Rattle.denial_program.specs.Fault.{IsReadToEnd}
 use Rattle.denial_program.specs.Words.{words, IsSkipped}
 use Rattle.denial_program.specs.Listing.{Give, IsLineRecord, IsGood, IsBad, IsFirstBad}
 use Rattle.denial_program.proofs.LineSteps.{lines_step}
@@ -30,7 +30,7 @@ first_bad_later line more k good h = record {
   after = h.after;
   are = ap (λ ls. line ∷ ls) h.are;
   place = omega (arith, h.place);
-  good = All-cons IsGood line h.before good h.good;
+  good = All-cons IsGood line _ good h.good;
   bad = h.bad;
 }
 
@@ -43,15 +43,7 @@ abbrev pub FollowsAt : Option (List ℕ) → Option (List ℕ) → List ℕ → 
 FollowsAt known now out records number = IfSome known (λ all. (rest : List ℕ) × (now ≡ Some rest) × Continues (lines all) (out ∷ lines rest) records number)
 
 pub follows_start : (known : Option (List ℕ)) (records : List RawRecord) (number : ℕ) → records ≡ [] → number ≡ 1 → Follows known known records number
-follows_start None records number e one = tt
-follows_start (Some all) records number e one = (
-  all,
-  refl,
-  record {
-    gives = λ more h. subst (λ rs. Give (lines all) (rs ++ more)) (sym e) h;
-    bad = λ k n p h. let same : k ≡ n = omega (arith, one) in subst (IsFirstBad (lines all)) same h;
-  },
-)
+follows_start known records number e one = grind (arith, common_steps)
 
 pub follows_end : (known now : Option (List ℕ)) (records : List RawRecord) (number : ℕ)
     → Follows known now records number → IsAtEnd now → IfSome known (λ all. Give (lines all) records)
@@ -89,7 +81,7 @@ follows_skip (Some all) now out records number h s = (
   h.1,
   record {
     gives = λ more g. h.2.gives more (inl (s, g));
-    bad = λ k n p b. h.2.bad (k + 1) n (omega arith) (first_bad_later out (lines h.0) k (inl s) b);
+    bad = λ k n p b. h.2.bad (k + 1) n (omega arith) (first_bad_later out _ k (inl s) b);
   },
 )
 
@@ -102,7 +94,7 @@ follows_record (Some all) now out old new r number h e s = (
   record {
     gives = λ more g. subst (λ rs. Give (lines all) (rs ++ more)) (sym e)
         (subst (Give (lines all)) (sym (append_assoc old (r ∷ []) more)) (h.2.gives (r ∷ more) (inr (r, more, refl, s, g))));
-    bad = λ k n p b. h.2.bad (k + 1) n (omega arith) (first_bad_later out (lines h.0) k (inr (r, s)) b);
+    bad = λ k n p b. h.2.bad (k + 1) n (omega arith) (first_bad_later out _ k (inr (r, s)) b);
   },
 )
 
@@ -117,23 +109,4 @@ abbrev pub StaysKnown : Option (List ℕ) → Option (List ℕ) → Type 0
 StaysKnown known now = IfSome known (λ all. (rest : List ℕ) × (now ≡ Some rest))
 
 pub known_start : (known : Option (List ℕ)) → StaysKnown known known
-known_start None = tt
-known_start (Some all) = (all, refl)
-
-pub known_next : (known old new : Option (List ℕ)) → StaysKnown known old → DropsThrough old new 10 → StaysKnown known new
-known_next None old new h drops = tt
-known_next (Some all) old new h drops = (drop_through 10 h.0, subst (λ o. DropsThrough o new 10) h.1 drops)
-
-pub known_end : (known old new : Option (List ℕ)) → StaysKnown known old → DropsThrough old new 10 → IsAtEnd old → IsReadToEnd known new
-known_end None old new h drops end = tt
-known_end (Some all) old new h drops end =
-    let left : h.0 ≡ [] = subst IsAtEnd h.1 end in
-    subst (λ o. DropsThrough o new 10) h.1 drops ∙ ap (λ xs. Some (drop_through 10 xs)) left
-
-pub known_after : (known middle new : Option (List ℕ)) → StaysKnown known middle → IsReadToEnd middle new → IsReadToEnd known new
-known_after None middle new h end = tt
-known_after (Some all) middle new h end = subst (λ o. IsReadToEnd o new) h.1 end
-
-pub known_line : (known now : Option (List ℕ)) (records : List RawRecord) (number : ℕ) → Follows known now records number → StaysKnown known now
-known_line None now records number h = tt
-known_line (Some all) now records number h = (h.0, h.1)
+known_start known = grind (arith, common_steps)

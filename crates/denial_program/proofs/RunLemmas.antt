@@ -1,16 +1,14 @@
 -- What a run writes, piece after piece.
-use Rattle.std.proofs.Common.{◌≡◌, ℕ, ◌+◌, ◌<◌, List, [], ◌∷◌, ◌++◌, codes, length, take, get_or, ap, ◌∙◌, Some, None, Option, append_assoc}
-use Rattle.std.proofs.lemmas.Grind.{flat_map-append}
-use Rattle.std.proofs.lemmas.List.{append-nil, take_more}
+use Rattle.std.proofs.Common.{arith, ◌≡◌, ℕ, ◌+◌, ◌<◌, List, ◌++◌, codes, length, take, get_or, Option, append_assoc}
+use Rattle.std.proofs.lemmas.Grind.{common_steps}
 use Rattle.std.specs.Fmt.{decimal}
 use Rattle.std.specs.Io.KnownBytes.{Appends}
 use Rattle.domain_octets.specs.Words.{Octets}
 use Rattle.domain_names.specs.Text.{name_text}
-use Rattle.domain_base.specs.Types.{nsec, nsec3, nsec3param}
+use Rattle.domain_base.specs.Types.{nsec, nsec3param}
 use Rattle.domain_base.specs.Numbers.{class_text, type_text}
 use Rattle.domain_bitmap.specs.Blocks.{types_of}
 use Rattle.domain_bitmap.specs.Text.{types_text}
-use Rattle.domain_chain_rdata.specs.Nsec3Text.{nsec3_text}
 use Rattle.domain_chain_rdata.specs.Nsec3paramText.{nsec3param_text}
 use Rattle.domain_chain_rdata.specs.Rdata.{nsec3param_values}
 use Rattle.domain_names.specs.Words.{Name}
@@ -21,13 +19,10 @@ use Rattle.domain_nsec.specs.ChainView.{as_link}
 use Rattle.domain_nsec3.specs.Chain.{HashedLink}
 use Rattle.domain_nsec3.specs.Text.{link_text}
 use Rattle.domain_nsec3.specs.View.{as_param_record}
-use Rattle.denial_program.specs.Text.{lines_of, link_values, nsec_line, nsec3_line, nsec3param_line}
+use Rattle.denial_program.specs.Text.{lines_of, nsec_line, nsec3_line, nsec3param_line}
 
 pub appends_more : (a b c : Option Octets) (t u : Octets) → Appends a b t → Appends b c u → Appends a c (t ++ u)
-appends_more None b c t u h k = tt
-appends_more (Some x) None c t u h k = absurd h
-appends_more (Some x) (Some y) None t u h k = absurd k
-appends_more (Some x) (Some y) (Some z) t u h k = k ∙ ap (λ l. l ++ u) h ∙ append_assoc x t u
+appends_more a b c t u h k = grind (arith, common_steps)
 
 -- the parts of a line in the grouping in which they are written
 pub parts_of_line : (owner ttl class kind text : Octets)
@@ -42,23 +37,16 @@ pub nsec_printed : {O : Type 0} (r : Record Name (Nsec O Name))
     ++ (codes " " ++ ((name_text r.«data».next_name ++ codes ". ") ++ types_text (types_of r.«data».types)))))))))
     ++ codes "\n"
     ≡ nsec_line (as_link (λ n. n) r) ++ codes "\n"
-nsec_printed r =
-    ap (λ t. t ++ codes "\n")
-    (parts_of_line (name_text r.owner) (decimal r.ttl) (class_text r.class) (type_text nsec)
-    ((name_text r.«data».next_name ++ codes ". ") ++ types_text (types_of r.«data».types)))
+nsec_printed r = grind (arith, common_steps, parts_of_line)
 
 -- so is a link of hashes
 pub nsec3_printed : (k : HashedLink) → link_text k ++ codes "\n" ≡ nsec3_line k ++ codes "\n"
-nsec3_printed k =
-    ap (λ t. t ++ codes "\n") (parts_of_line (name_text k.owner) (decimal k.ttl) (class_text k.class) (type_text nsec3) (nsec3_text (link_values k)))
+nsec3_printed k = grind (arith, common_steps, parts_of_line)
 
 -- one more line
 pub lines_more : {T : Type 0} (text : T → Octets) (items : List T) (i : ℕ) (d : T) → i < length items
     → lines_of text (take (i + 1) items) ≡ lines_of text (take i items) ++ (text (get_or items i d) ++ codes "\n")
-lines_more text items i d l =
-    ap (lines_of text) (take_more items i d l)
-    ∙ flat_map-append (λ item. text item ++ codes "\n") (take i items) (get_or items i d ∷ [])
-    ∙ ap (λ t. lines_of text (take i items) ++ t) (append-nil (text (get_or items i d) ++ codes "\n"))
+lines_more text items i d l = grind (arith, common_steps)
 
 -- and the record of its parameters, with the end of the line
 pub param_printed : (r : Record Name (Nsec3param Octets))
@@ -66,6 +54,4 @@ pub param_printed : (r : Record Name (Nsec3param Octets))
     ++ (codes " " ++ (class_text r.class ++ (codes " " ++ (type_text nsec3param
     ++ (codes " " ++ nsec3param_text (nsec3param_values r.«data»)))))))) ++ codes "\n"
     ≡ nsec3param_line (as_param_record (λ n. n) r) ++ codes "\n"
-param_printed r =
-    ap (λ t. t ++ codes "\n") (parts_of_line (name_text r.owner) (decimal r.ttl) (class_text r.class) (type_text nsec3param)
-    (nsec3param_text (nsec3param_values r.«data»)))
+param_printed r = grind (arith, common_steps, parts_of_line)

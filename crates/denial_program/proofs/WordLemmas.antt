@@ -1,6 +1,6 @@
 -- Words none of whose octets is past `~`, and lines that are bad.
-use Rattle.std.proofs.Common.{◌≡◌, ◌↔◌, Bor, map, Bool, true, false, IsTrue, eqb, ℕ, ◌+◌, ◌<◌, ◌≤◌, List, [], ◌∷◌, ◌++◌, take, drop, length}
-use Rattle.std.proofs.Common.{get_or, ap, sym, ◌∙◌, subst, inl, inr, arith, append_assoc, append-nil, refl, length-drop}
+use Rattle.std.proofs.Common.{◌≡◌, ◌↔◌, Bor, map, Bool, true, false, IsTrue, eqb, ℕ, ◌<◌, ◌≤◌, List, [], ◌∷◌, ◌++◌, take, drop, length}
+use Rattle.std.proofs.Common.{get_or, ap, sym, ◌∙◌, subst, inl, inr, arith, append-nil, refl}
 use Rattle.std.specs.Prelude.{nat_lt}
 use Rattle.std.specs.List.{All, AllByRecursion as ByRecursion, AllPass, slice_split, onto_first}
 use Rattle.std.specs.Str.{IsUtf8}
@@ -9,10 +9,9 @@ use Rattle.std.proofs.lemmas.Bool.Decides.{nat_tests}
 use Rattle.std.proofs.lemmas.Grind.{common_steps}
 use Rattle.std.proofs.lemmas.List.{take-append-drop, drop_at, drop_more, drop_all, get_or-drop}
 use Rattle.std.proofs.lemmas.List.Elements.{All-nil, All-head, All-tail, All-get_or, All-from_recursion, recursion_from_All}
-use Rattle.std.proofs.lemmas.List.Elements.{All-append, All-cons, All-drop, All-filter, All-weaker, filter-append}
+use Rattle.std.proofs.lemmas.List.Elements.{All-drop, All-weaker, filter-append}
 use Rattle.std.proofs.lemmas.List.Splits.{slice_split-cons_yes, slice_split-cons_no, slice_split_at, slice_split_none}
 use Rattle.std.proofs.lemmas.Str.{IsUtf8-from_ascii}
-use Rattle.std.proofs.lemmas.Str.Ascii.{IsAscii-from_all}
 use Rattle.denial_program.specs.Listing.{IsBad}
 use Rattle.denial_program.specs.Said.{SpellsNone}
 use Rattle.denial_program.specs.Words.{without_empty, words, is_blank, IsSkipped, is_of_word, IsPlain, ArePlain, LineText}
@@ -21,37 +20,18 @@ use Rattle.denial_program.specs.declared.line.LineError.TheVariants.{Bad}
 
 -- such a word is text
 pub plain_is_text : (word : List ℕ) → IsPlain word → IsUtf8 word
-plain_is_text word plain = IsUtf8-from_ascii word (IsAscii-from_all word
-    (All-weaker (λ octet. octet ≤ 126) (λ octet. octet < 128) (λ octet h. omega arith) word plain))
+plain_is_text word plain = grind (arith, common_steps, IsUtf8-from_ascii)
 
 abbrev some_octets : List ℕ → Bool
 some_octets w = nat_lt 0 (length w)
-
-words_blank : (b : ℕ) (xs : List ℕ) → is_blank b ≡ true → words (b ∷ xs) ≡ words xs
-words_blank b xs e = ap without_empty (slice_split-cons_yes is_blank b xs e)
-
--- no word begins at a blank
-pub blank_passed : (line : List ℕ) (i : ℕ) → i < length line → is_blank (get_or line i 0) ≡ true → words (drop (i + 1) line) ≡ words (drop i line)
-blank_passed line i lt e = sym (ap words (drop_more line i 0 lt) ∙ words_blank (get_or line i 0) (drop (i + 1) line) e)
 
 begins : (x : ℕ) (parts : List (List ℕ)) → (w : List ℕ) × (ws : List (List ℕ)) × (without_empty (onto_first x parts) ≡ (x ∷ w) ∷ ws)
 begins x [] = ([], [], cond-true (some_octets (x ∷ [])) ((x ∷ []) ∷ []) [] (lt-ltb 0 (length (x ∷ [])) (omega arith)))
 begins x (p ∷ parts) = (
   p,
   without_empty parts,
-  cond-true (some_octets (x ∷ p)) ((x ∷ p) ∷ without_empty parts) (without_empty parts)
-      (lt-ltb 0 (length (x ∷ p)) (omega arith)),
+  cond-true (some_octets (x ∷ p)) _ _ (lt-ltb 0 (length (x ∷ p)) (omega arith)),
 )
-
--- the first word begins with the first octet that is no blank
-pub first_begins : (line : List ℕ) (i : ℕ) → i < length line → is_blank (get_or line i 0) ≡ false
-    → words (drop i line) ≡ words line → IsSkipped (words line) ↔ (get_or line i 0 ≡ 59)
-first_begins line i lt e h =
-    let x = get_or line i 0 in
-    let b = begins x (slice_split is_blank (drop (i + 1) line)) in
-    let is : words line ≡ (x ∷ b.0) ∷ b.1 = sym h ∙ ap words (drop_more line i 0 lt)
-    ∙ ap without_empty (slice_split-cons_no is_blank x (drop (i + 1) line) e) ∙ b.2 in
-    (λ s. subst IsSkipped is s, λ s. subst IsSkipped (sym is) s)
 
 pub nothing_begins : (line : List ℕ) (i : ℕ) → length line ≤ i → words (drop i line) ≡ words line → IsSkipped (words line)
 nothing_begins line i past h = subst IsSkipped (ap words (sym (drop_all i line past)) ∙ h) tt
@@ -60,8 +40,7 @@ plain_parts : (parts : List (List ℕ)) → ByRecursion IsPlain (without_empty p
 plain_parts [] h = tt
 plain_parts ([] ∷ parts) h = (All-nil (λ octet. octet ≤ 126), plain_parts parts h)
 plain_parts ((c ∷ w) ∷ parts) h =
-    let k = subst (ByRecursion IsPlain) (cond-true (some_octets (c ∷ w)) ((c ∷ w) ∷ without_empty parts) (without_empty parts)
-    (lt-ltb 0 (length (c ∷ w)) (omega arith))) h in
+    let k = subst (ByRecursion IsPlain) (cond-true (some_octets (c ∷ w)) _ _ (lt-ltb 0 (length (c ∷ w)) (omega arith))) h in
     (k.0, plain_parts parts k.1)
 
 onto_plain : (x : ℕ) (parts : List (List ℕ)) → ByRecursion IsPlain (onto_first x parts) → (x ≤ 126) × ByRecursion IsPlain parts
@@ -75,28 +54,21 @@ plain_octets : (xs : List ℕ) → ByRecursion IsPlain (slice_split is_blank xs)
 plain_octets [] h = tt
 plain_octets (x ∷ xs) h = elim (cases_Bool (is_blank x)) [
   | inl e ↦ (let k = subst (ByRecursion IsPlain) (slice_split-cons_yes is_blank x xs e) h in (blank_low x e, plain_octets xs k.1))
-  | inr e ↦ (let k = onto_plain x (slice_split is_blank xs) (subst (ByRecursion IsPlain) (slice_split-cons_no is_blank x xs e) h) in (k.0, plain_octets xs k.1))
+  | inr e ↦ (let k = onto_plain x _ (subst (ByRecursion IsPlain) (slice_split-cons_no is_blank x xs e) h) in (k.0, plain_octets xs k.1))
 ]
 
 -- where an octet is past `~`, so is one of a word
 pub not_plain_at : (line : List ℕ) (i : ℕ) → i < length line → 126 < get_or line i 0 → ArePlain (words line) → ⊥
 not_plain_at line i lt high plain =
-    let all = All-from_recursion (λ octet. octet ≤ 126) line
-    (plain_octets line (plain_parts (slice_split is_blank line) (recursion_from_All IsPlain (words line) plain))) in
+    let all = All-from_recursion _ line (plain_octets line (plain_parts _ (recursion_from_All IsPlain _ plain))) in
     let low : get_or line i 0 ≤ 126 = All-get_or (λ octet. octet ≤ 126) line i 0 lt all in
     absurd (omega arith)
 
 of_word_parts : (b : ℕ) → is_of_word b ≡ true → (is_blank b ≡ false) × (b ≤ 126)
 of_word_parts b h = (grind (arith, nat_tests, common_steps), grind (arith, nat_tests, common_steps))
 
-of_word_is : (b : ℕ) → is_blank b ≡ false → b ≤ 126 → is_of_word b ≡ true
-of_word_is b other low = grind (arith, nat_tests, common_steps)
-
 -- the octets of a text up to a place stand in a word
 module _ (text : List ℕ) (n : ℕ) (word : AllPass is_of_word (take n text)) where
-  pub part_plain : IsPlain (take n text)
-  part_plain = All-weaker (λ b. is_of_word b ≡ true) (λ b. b ≤ 126) (λ b h. (of_word_parts b h).1) (take n text) word
-
   part_whole : All (λ c. is_blank c ≡ false) (take n text)
   part_whole = All-weaker (λ b. is_of_word b ≡ true) (λ b. is_blank b ≡ false) (λ b h. (of_word_parts b h).0) (take n text) word
 
@@ -108,17 +80,14 @@ module _ (text : List ℕ) (n : ℕ) (word : AllPass is_of_word (take n text)) w
   next_at after is = ap (λ l. get_or l 0 0) is ∙ get_or-drop n text 0 0 ∙ ap (λ k. get_or text k 0) (omega arith)
 
   next_blank : (after : List ℕ) → after ≡ drop n text → is_of_word (get_or text n 0) ≡ false → get_or after 0 0 ≤ 126 → is_blank (get_or after 0 0) ≡ true
-  next_blank after is other low = elim (cases_Bool (is_blank (get_or after 0 0))) [
-    | inl e ↦ e
-    | inr e ↦ absurd (let in_word = of_word_is (get_or after 0 0) e low in let at = next_at after is in cc)
-  ]
+  next_blank after is other low = grind (arith, common_steps)
 
   -- the word ends at a blank, or with the text, or at an octet past `~`
   pub word_ends : (after : List ℕ) → after ≡ drop n text → 0 < length after → is_of_word (get_or text n 0) ≡ false → get_or after 0 0 ≤ 126
       → words text ≡ without_empty (take n text ∷ []) ++ words (drop 1 after)
   word_ends after is some other low =
       ap words (parted after is ∙ ap (λ l. take n text ++ l) (drop_more after 0 0 some))
-      ∙ ap without_empty (slice_split_at is_blank (take n text) (get_or after 0 0) (drop 1 after) part_whole (next_blank after is other low))
+      ∙ ap without_empty (slice_split_at is_blank _ _ _ part_whole (next_blank after is other low))
       ∙ filter-append some_octets (take n text ∷ []) (slice_split is_blank (drop 1 after))
 
   pub word_last : (after : List ℕ) → after ≡ drop n text → length after ≡ 0 → words text ≡ without_empty (take n text ∷ []) ++ words []
@@ -131,8 +100,7 @@ module _ (text : List ℕ) (n : ℕ) (word : AllPass is_of_word (take n text)) w
       empty (x ∷ l) e = absurd (omega (arith, e))
 
   pub rough_at : (after : List ℕ) → after ≡ drop n text → 0 < length after → 126 < get_or after 0 0 → ArePlain (words text) → ⊥
-  rough_at after is some high =
-      not_plain_at text n (omega (arith, some, ap length is, length-drop n text)) (subst (λ c. 126 < c) (next_at after is) high)
+  rough_at after is some high = grind (arith, common_steps, not_plain_at)
 
 -- the words that have ended, as texts, and the rest of the line
 pub record IsSplit (line rest : List ℕ) (ts : List (Bor (List ℕ))) : Type 0 where
@@ -144,32 +112,21 @@ module _ {line rest w : List ℕ} {ts : List (Bor (List ℕ))} (split : IsSplit 
     (word : AllPass is_of_word (take n rest)) (front : w ≡ take n rest)
     (pushed : map (λ t. t.now) more ≡ map (λ t. t.now) ts ++ without_empty (w ∷ [])) where
   goes_on : (next : List ℕ) → words rest ≡ without_empty (take n rest ∷ []) ++ words next → IsSplit line next more
-  goes_on next ends =
-      let is = pushed ∙ ap (λ v. map (λ t. t.now) ts ++ without_empty (v ∷ [])) front in
-      record {
-        same = ap (λ ws. ws ++ words next) is ∙ append_assoc (map (λ t. t.now) ts) (without_empty (take n rest ∷ [])) (words next)
-            ∙ ap (λ ws. map (λ t. t.now) ts ++ ws) (sym ends) ∙ split.same;
-        plain = subst ArePlain (sym is) (All-append IsPlain (map (λ t. t.now) ts) (without_empty (take n rest ∷ [])) split.plain
-            (All-filter some_octets IsPlain (take n rest ∷ []) (All-cons IsPlain (take n rest) [] (part_plain rest n word) (All-nil IsPlain))));
-      }
+  goes_on next ends = grind (arith, common_steps)
 
   pub split_goes_on : (after : List ℕ) → after ≡ drop n rest → 0 < length after → is_of_word (get_or rest n 0) ≡ false → get_or after 0 0 ≤ 126
       → IsSplit line (drop 1 after) more
   split_goes_on after is some other low = goes_on (drop 1 after) (word_ends rest n word after is some other low)
 
   pub split_ends : (after : List ℕ) → after ≡ drop n rest → length after ≡ 0 → (map (λ t. t.now) more ≡ words line) × ArePlain (words line)
-  split_ends after is none =
-      let whole = goes_on [] (word_last rest n word after is none) in
-      let same = sym (append-nil (map (λ t. t.now) more)) ∙ whole.same in
-      (same, subst ArePlain same whole.plain)
+  split_ends after is none = grind (arith, common_steps, (word_last rest n word after is none))
 
   -- where words of the rest are not plain, those of the line are not
   pub split_rough : (after : List ℕ) → after ≡ drop n rest → 0 < length after → 126 < get_or after 0 0 → ArePlain (words line) → ⊥
   split_rough after is some high plain =
       let front = map (λ t. t.now) ts in
       let all : ArePlain (front ++ words rest) = subst ArePlain (sym split.same) plain in
-      rough_at rest n word after is some high
-      (subst ArePlain (drop_at front (words rest) (length front) refl) (All-drop IsPlain (length front) (front ++ words rest) all))
+      rough_at rest n word after is some high (subst ArePlain (drop_at front _ _ refl) (All-drop IsPlain _ _ all))
 
 -- a line that is not skipped, and whose words spell no record
 pub is_bad : (line : List ℕ) (tokens : List (List ℕ)) (skipped : Bool) (e : LineError) → tokens ≡ words line
@@ -177,11 +134,4 @@ pub is_bad : (line : List ℕ) (tokens : List (List ℕ)) (skipped : Bool) (e : 
 is_bad line tokens skipped e same test off bad none = record {
   seen = λ s. absurd (let on = test.1 s in cc);
   none = λ r h. (subst (SpellsNone tokens) bad none) r (subst (λ ws. LineText ws r) (sym same) h.spelled);
-}
-
--- a line that is not skipped, and holds an octet past `~`
-pub is_not_plain : (line : List ℕ) (skipped : Bool) → IsTrue skipped ↔ IsSkipped (words line) → skipped ≡ false → (ArePlain (words line) → ⊥) → IsBad line
-is_not_plain line skipped test off rough = record {
-  seen = λ s. absurd (let on = test.1 s in cc);
-  none = λ r h. rough h.plain;
 }

@@ -135,6 +135,7 @@ fn write_chain<W: Write>(chain: &Nsec3Chain<'_, ZoneOctets>, output: &mut W) -> 
 }
 
 /// Writes the records of an NSEC3 chain, and the record of its parameters.
+#[tactic(auto, using(crate::proofs::RunLemmas::param_printed, crate::proofs::RunLemmas::appends_more))]
 fn write_nsec3s<W: Write>(chain: &Nsec3Chain<'_, ZoneOctets>, output: &mut W) -> io::Result<()>
     ensures { OnOk result (Appends (W.contents output.old) (W.contents output.new)
         (nsec3s_text chain.now)) }

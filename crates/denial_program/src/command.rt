@@ -73,6 +73,7 @@ fn iterations_of(word: &str) -> Result<u16, DenialFault>
 }
 
 /// A salt that a word spells (RFC 5155, section 4.3).
+#[tactic(auto, using(domain_bitmap::proofs::RefusalLemmas::salt_excludes))]
 fn salt_of(alloc: Global, word: &str) -> Result<Nsec3Salt<ZoneOctets>, DenialFault>
     ensures ok { IfOk result (SaltText word.now) }
     ensures err { IfErr result (λ e. ((e ≡ DenialFault.Usage)
@@ -91,6 +92,7 @@ fn salt_of(alloc: Global, word: &str) -> Result<Nsec3Salt<ZoneOctets>, DenialFau
 }
 
 /// The flags that a last word asks for (RFC 5155, section 3.1.2).
+#[tactic(auto, using(std::proofs::lemmas::Grind::common_steps, crate::proofs::CommandLemmas::same_text))]
 fn flags_of(words: &[String]) -> Option<u8>
     ensures some { IfSome result (FlagsText (map string_bytes words.now)) }
     ensures none { IfNone result

@@ -1,5 +1,6 @@
 -- The text of what NSEC3 records answer, and why there is none.
-use Rattle.std.proofs.Common.{◌≡◌, ◌⊎◌, List, [], ◌∷◌, ◌++◌, refl, sym, subst, inl, inr}
+use Rattle.std.proofs.Common.{arith, ◌≡◌, ◌⊎◌, List, [], ◌∷◌, ◌++◌, refl}
+use Rattle.std.proofs.lemmas.Grind.{common_steps}
 use Rattle.domain_octets.specs.Words.{Octets}
 use Rattle.domain_nsec3.specs.Chain.{HashedLink, ParamRecord}
 use Rattle.domain_nsec3.specs.View.{HasherAnswer}
@@ -36,5 +37,4 @@ nsec3_text_is hashes given q asked shown param links answer below single are is 
 pub nsec3_unwritten : (hashes : HasherAnswer) (given : List RawRecord) (q : Question) (asked : Nsec3Options) (shown : Shown) (text : Octets)
     (fault : DenialFault) → IsNsec3Text hashes given q asked shown text → (fault ≡ Write) ⊎ (fault ≡ OutOfMemory)
     → IsUnwritten (IsNsec3Text hashes given q asked shown) (IsNotNsec3Judged hashes given q asked) fault
-nsec3_unwritten hashes given q asked shown text fault is (inl write) = inl (write, (text, is))
-nsec3_unwritten hashes given q asked shown text fault is (inr memory) = inr (subst (IsNotNsec3Judged hashes given q asked) (sym memory) tt)
+nsec3_unwritten hashes given q asked shown text fault is h = grind (arith, common_steps)

@@ -1,5 +1,6 @@
 -- What a run answers.
-use Rattle.std.proofs.Common.{◌≡◌, ◌⊎◌, List, ◌++◌, refl, subst, sym, inl, inr, Result, IfErr, IsErrOf}
+use Rattle.std.proofs.Common.{arith, ◌≡◌, ◌⊎◌, List, ◌++◌, refl, subst, Result, IfErr, IsErrOf}
+use Rattle.std.proofs.lemmas.Grind.{common_steps}
 use Rattle.domain_octets.specs.Words.{Octets}
 use Rattle.domain_nsec3.specs.View.{HasherAnswer}
 use Rattle.domain_borrowed.specs.Data.{RawRecord}
@@ -16,28 +17,17 @@ use Rattle.judge_program.specs.Records.{nsec_below}
 use Rattle.judge_program.specs.Text.{first_line}
 use Rattle.judge_program.specs.declared.shown.Shown.{Shown}
 use Rattle.judge_program.specs.declared.command.ChainKind.{ChainKind}
-use Rattle.judge_program.specs.declared.command.ChainKind.TheVariants.{Nsec, Nsec3}
-
-no_text_no_write : (hashes : HasherAnswer) (kind : ChainKind) (given : List RawRecord) (q : Question) → HasNoText hashes kind given q Write → ⊥
-no_text_no_write hashes Nsec given q none = cc
-no_text_no_write hashes (Nsec3 asked) given q none = none
 
 -- where writing failed there was an answer
 pub text_unwritten : {X : Type 0} (hashes : HasherAnswer) (kind : ChainKind) (given : List RawRecord) (q : Question) (shown : Shown) (r : Result X DenialFault)
     → IfErr r (IsUnwritten (IsText hashes kind given q shown) (HasNoText hashes kind given q)) → IsErrOf r Write
     → (text : Octets) × IsText hashes kind given q shown text
-text_unwritten hashes kind given q shown r h is =
-    there (subst (λ e. IfErr e (IsUnwritten (IsText hashes kind given q shown) (HasNoText hashes kind given q))) is h)
-  where
-    there : IsUnwritten (IsText hashes kind given q shown) (HasNoText hashes kind given q) Write → (text : Octets) × IsText hashes kind given q shown text
-    there (inl h) = h.1
-    there (inr none) = absurd (no_text_no_write hashes kind given q none)
+text_unwritten hashes kind given q shown r h is = grind (arith, common_steps)
 
 -- a text that could not be written, of which there is one
 pub unwritten : (is_such : Octets → Type 0) (has_none : DenialFault → Type 0) (text : Octets) → is_such text → has_none OutOfMemory
     → (e : DenialFault) → (e ≡ Write) ⊎ (e ≡ OutOfMemory) → IsUnwritten is_such has_none e
-unwritten is_such has_none text is none e (inl w) = inl (w, (text, is))
-unwritten is_such has_none text is none e (inr m) = inr (subst has_none (sym m) none)
+unwritten is_such has_none text is none e h = grind (arith, common_steps)
 
 -- the text of what the NSEC records answer, which are the same links
 pub nsec_text : (given : List RawRecord) (q : Question) (shown : Shown) (answer : Answer) (asked links : List Link) → asked ≡ links

@@ -1,13 +1,13 @@
 -- Lines on records as they are printed.
-use Rattle.std.proofs.Common.{◌≡◌, ◌<◌, ℕ, true, List, [], ◌++◌, length, nat_lt, ap, ◌∙◌, Some, append_assoc}
-use Rattle.std.proofs.lemmas.Bool.{cond-true, lt-ltb}
+use Rattle.std.proofs.Common.{arith, ◌≡◌, ◌<◌, ℕ, true, List, ◌++◌, length, Some, append_assoc}
+use Rattle.std.proofs.lemmas.Grind.{common_steps}
 use Rattle.domain_octets.specs.Words.{Octets}
 use Rattle.domain_names.specs.Words.{Name}
 use Rattle.domain_nsec.specs.Chain.{Link}
 use Rattle.domain_names.specs.Name.{last_labels}
 use Rattle.domain_answer.specs.ZoneAnswer.{wildcard_below}
 use Rattle.domain_answer.specs.declared.answer.Answer.{Answer}
-use Rattle.judge_program.specs.Why.{nsec_told, nsec_why, nsec_wildcard_told, rests_on_records, wildcard_count}
+use Rattle.judge_program.specs.Why.{nsec_told, nsec_why, rests_on_records, wildcard_count}
 use Rattle.judge_program.specs.declared.role.Role.TheVariants.{Asked, Wildcard}
 
 -- the parts of a line in the grouping in which they are written
@@ -19,9 +19,4 @@ pub both_told : (a : Name) (listed : List Link) (x : Name) (answer : Answer) (n 
     → wildcard_count answer ≡ Some n → n < length x
     → nsec_why a listed x answer
     ≡ nsec_told a listed x Asked ++ nsec_told a listed (wildcard_below (last_labels n x)) (Wildcard (last_labels n x))
-both_told a listed x answer n rests asks more =
-    let asked = nsec_told a listed x Asked in
-    let told = nsec_told a listed (wildcard_below (last_labels n x)) (Wildcard (last_labels n x)) in
-    cond-true (rests_on_records answer) (asked ++ nsec_wildcard_told a listed x (wildcard_count answer)) [] rests
-    ∙ ap (λ o. asked ++ nsec_wildcard_told a listed x o) asks
-    ∙ ap (λ t. asked ++ t) (cond-true (nat_lt n (length x)) told [] (lt-ltb n (length x) more))
+both_told a listed x answer n rests asks more = grind (arith, common_steps)

@@ -121,6 +121,7 @@ fn without_labels(asked: (u16, Shown)) -> (Nsec3Options, Shown)
 }
 
 /// How the options ask for NSEC3 records to be judged, and what is printed.
+#[tactic(auto, using(std::proofs::lemmas::Grind::common_steps, denial_program::proofs::CommandLemmas::same_text))]
 fn nsec3_options_of(options: &[String]) -> Option<(Nsec3Options, Shown)>
     ensures some { IfSome result (λ p.
         LabelsText (map string_bytes options.now) p.0.labels p.0.limit p.1) }

@@ -157,6 +157,7 @@ fn nsec3_answer<H: Nsec3Hasher>(
 
 /// Writes what NSEC3 records answer to a question, and what is asked for below it. Hands all on to
 /// the device.
+#[tactic(auto, using(denial_program::proofs::RunLemmas::appends_more))]
 fn write_nsec3<W: Write>(
     name: &ZoneName,
     answer: Answer,

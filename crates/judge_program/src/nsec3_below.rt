@@ -160,6 +160,7 @@ impl<'r, 'a> Nsec3Below<'r, 'a> {
     }
 
     /// Writes it, as it is asked for.
+    #[tactic(auto, using(crate::proofs::Nsec3WhyLemmas::appends_nothing))]
     pub fn write<W: Write>(
         self,
         shown: Shown,

@@ -86,6 +86,7 @@ fn is_told(nsec: &ReadNsec<'_>, other: Option<&ReadNsec<'_>>) -> bool
 }
 
 /// Writes the line of a record, if there is one and it is not the same as the one before it.
+#[tactic(auto, using(denial_program::proofs::RunLemmas::nsec_printed))]
 fn write_once<W: Write>(
     before: Option<&ReadNsec<'_>>,
     found: Option<&ReadNsec<'_>>,
@@ -105,6 +106,7 @@ fn write_once<W: Write>(
 }
 
 /// Writes the NSEC records that a server answers with, one a line.
+#[tactic(auto, using(denial_program::proofs::RunLemmas::appends_more))]
 pub fn write_nsec_records<W: Write>(
     question: &Question,
     nsecs: &[ReadNsec<'_>],

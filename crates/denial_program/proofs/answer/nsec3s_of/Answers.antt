@@ -1,13 +1,13 @@
-use Rattle.std.proofs.Common.{List, refl, rules, subst}
+use Rattle.std.proofs.Common.{arith, List, refl, rules, subst}
+use Rattle.std.proofs.lemmas.Grind.{common_steps}
 use Rattle.domain_zone.specs.Zone.{ZoneRecord}
 use Rattle.domain_nsec3.specs.Chain.{IsChainParam, IsHashedChain}
 use Rattle.domain_nsec3.specs.Config.{ChainConfig}
 use Rattle.domain_nsec3.specs.Faults.{IsFirstFault, IsReady}
 use Rattle.domain_nsec3.specs.View.{config_of}
 use Rattle.domain_dnssec.specs.declared.chain.ChainError.TheVariants.{OutOfMemory, Signing}
-use Rattle.domain_borrowed.specs.Data.{RawRecord, zone_of_raw}
+use Rattle.domain_borrowed.specs.Data.{zone_of_raw}
 use Rattle.denial_program.specs.Answer.{usual_nsec3_config}
-use Rattle.denial_program.proofs.AnswerLemmas.{usual_is}
 use Rattle.denial_program.proofs.answer.nsec3s_of.Given.{Over}
 use Rattle.denial_program.proofs.answer.nsec3s_of.Goals.{After-new_from_owned, In-Err-OutOfMemory}
 use Rattle.denial_program.proofs.answer.nsec3s_of.Goals as goal
@@ -18,20 +18,12 @@ usual : (g : Over) (c : After-new_from_owned g) (P : List ZoneRecord → ChainCo
     (config_of (g.H.Nsec3Hasher.answer c.args.hasher.now) c.new-config.result)
     → P (zone_of_raw c.args.sorted.now)
     (usual_nsec3_config (g.H.Nsec3Hasher.answer c.args.hasher.now) c.args.parameters)
-usual g c P h =
-    let answers = g.H.Nsec3Hasher.answer c.args.hasher.now in
-    let made = c.new-config.ensures in
-    subst (λ (xs : List RawRecord). P (zone_of_raw xs) (usual_nsec3_config answers c.args.parameters))
-    c.new_from_owned.ensures
-    (subst (P (zone_of_raw c.new_from_owned.result))
-    (usual_is answers c.new-config.result c.args.parameters made.params made.dnskeys made.excludes made.dnames) h)
+usual g c P h = grind (arith, common_steps)
 
 -- where there was no memory that zone has no fault but for hashing
 ready : (g : Over) (c : In-Err-OutOfMemory g) → IsReady (zone_of_raw c.new_from_owned.result) c.args.apex.now
     (config_of (g.H.Nsec3Hasher.answer c.args.hasher.now) c.new-config.result)
-ready g c =
-    subst (IsFirstFault (zone_of_raw c.new_from_owned.result) c.args.apex.now
-    (config_of (g.H.Nsec3Hasher.answer c.args.hasher.now) c.new-config.result)) c.in-Err-OutOfMemory.field-0-is c.in-Err-OutOfMemory.ensures.fault
+ready g c = grind (arith, common_steps)
 
 pub returns-in-Ok-clause-ok : goal.returns-in-Ok-clause-ok
 returns-in-Ok-clause-ok g c = λ given sorts.
@@ -55,9 +47,7 @@ returns-in-Ok-clause-ok g c = λ given sorts.
     }
 
 pub returns-in-Ok-clause-ready : goal.returns-in-Ok-clause-ready
-returns-in-Ok-clause-ready g c =
-    usual g (goal.at.returns-in-Ok-clause-ready g c).After-new_from_owned (λ zone config. IsReady zone c.args.apex.now config)
-    c.in-Ok.ensures.faultless.ready
+returns-in-Ok-clause-ready g c = grind (arith, common_steps)
 
 pub returns : goal.returns
 returns g c =
@@ -92,6 +82,4 @@ returns-in-Err-OutOfMemory-clause-err g c = λ given sorts.
     }
 
 pub returns-in-Err-OutOfMemory-clause-memory : goal.returns-in-Err-OutOfMemory-clause-memory
-returns-in-Err-OutOfMemory-clause-memory g c = λ is.
-    let at = goal.at.returns-in-Err-OutOfMemory-clause-memory g c in
-    usual g at.After-new_from_owned (λ zone config. IsReady zone c.args.apex.now config) (ready g at.In-Err-OutOfMemory)
+returns-in-Err-OutOfMemory-clause-memory g c = grind (arith, common_steps)

@@ -1,6 +1,7 @@
-use Rattle.std.proofs.Common.{List, refl, rules, subst}
+use Rattle.std.proofs.Common.{arith, List, refl, rules, subst}
+use Rattle.std.proofs.lemmas.Grind.{common_steps}
 use Rattle.domain_nsec.specs.Chain.{usual_config, IsChain, IsFaultless, IsFirstFault}
-use Rattle.domain_dnssec.specs.declared.chain.ChainError.TheVariants.{OutOfMemory, Signing}
+use Rattle.domain_dnssec.specs.declared.chain.ChainError.TheVariants.{Signing}
 use Rattle.domain_borrowed.specs.Data.{RawRecord, zone_of_raw}
 use Rattle.denial_program.proofs.answer.nsecs_of.Goals as goal
 
@@ -22,10 +23,7 @@ returns-in-Ok-clause-ok c = λ given sorts. record {
 }
 
 pub returns-in-Ok-clause-faultless : goal.returns-in-Ok-clause-faultless
-returns-in-Ok-clause-faultless c =
-    subst (λ (xs : List RawRecord). IsFaultless (zone_of_raw xs) c.args.apex.now usual_config) c.new_from_owned.ensures
-    (subst (λ config. IsFaultless (zone_of_raw c.new_from_owned.result) c.args.apex.now config)
-    c.new-config.ensures c.in-Ok.ensures.faultless)
+returns-in-Ok-clause-faultless c = grind (arith, common_steps)
 
 pub returns-in-Err : goal.returns-in-Err
 returns-in-Err c = record {
@@ -52,18 +50,10 @@ returns-in-Err c = record {
 
 -- the zone has no fault
 faultless : (c : goal.In-Err-OutOfMemory) → IsFaultless (zone_of_raw c.args.sorted.now) c.args.apex.now usual_config
-faultless c =
-    let zone = zone_of_raw c.new_from_owned.result in
-    let first = subst (λ e. IsFirstFault zone c.args.apex.now c.new-config.result e) c.in-Err-OutOfMemory.field-0-is c.in-Err-OutOfMemory.ensures.fault in
-    subst (λ (xs : List RawRecord). IsFaultless (zone_of_raw xs) c.args.apex.now usual_config) c.new_from_owned.ensures
-    (subst (λ config. IsFaultless zone c.args.apex.now config) c.new-config.ensures first)
+faultless c = grind (arith, common_steps)
 
 pub returns-in-Err-OutOfMemory-clause-err : goal.returns-in-Err-OutOfMemory-clause-err
-returns-in-Err-OutOfMemory-clause-err c = λ given sorts. record {
-  error = OutOfMemory;
-  is = refl;
-  none = record { sorted = c.args.sorted.now; sorts = sorts; one_class = c.requires.one_class; faultless = faultless c };
-}
+returns-in-Err-OutOfMemory-clause-err c = grind (arith, common_steps, faultless)
 
 pub returns-in-Err-OutOfMemory-clause-memory : goal.returns-in-Err-OutOfMemory-clause-memory
 returns-in-Err-OutOfMemory-clause-memory c = λ is. faultless c

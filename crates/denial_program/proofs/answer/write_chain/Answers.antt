@@ -1,6 +1,6 @@
-use Rattle.std.proofs.Common.{◌++◌, codes, take, sym, ap, ◌∙◌, subst, arith}
+use Rattle.std.proofs.Common.{◌++◌, codes, sym, ap, ◌∙◌, subst, arith}
 use Rattle.std.specs.Io.KnownBytes.{Appends}
-use Rattle.denial_program.specs.Text.{lines_of, nsec3_line}
+use Rattle.denial_program.specs.Text.{nsec3_line}
 use Rattle.denial_program.proofs.RunLemmas.{appends_more, lines_more, nsec3_printed}
 use Rattle.denial_program.proofs.answer.write_chain.Goals as goal
 
@@ -10,7 +10,5 @@ loop-place-preserved g c =
     let more = lines_more nsec3_line c.args.chain.now.links c.loop-place.place link (omega arith) in
     let line = nsec3_printed c.in-Some.nsec3 ∙ ap (λ k. nsec3_line k ++ codes "\n") (c.in-Some.ensures.some link) in
     subst (Appends (g.W.Write.contents c.args.output.now) (g.W.Write.contents c.writeln.new.self)) (sym more)
-    (appends_more (g.W.Write.contents c.args.output.now) (g.W.Write.contents c.loop-place.output) (g.W.Write.contents c.writeln.new.self)
-    (lines_of nsec3_line (take c.loop-place.place c.args.chain.now.links)) _
-    c.loop-place.invariant
+    (appends_more (g.W.Write.contents c.args.output.now) _ (g.W.Write.contents c.writeln.new.self) _ _ c.loop-place.invariant
     (subst (Appends (g.W.Write.contents c.loop-place.output) (g.W.Write.contents c.writeln.new.self)) line c.in_ok-writeln.ensures.bytes))

@@ -1,6 +1,5 @@
 use Rattle.std.proofs.Common.{◌≡◌, refl, sym, subst, IfOk, Err}
 use Rattle.domain_nsec3.specs.View.{as_param_record, hashed_links_of}
-use Rattle.domain_checker.specs.HashedVerdict.{IsFirstRefusal}
 use Rattle.domain_checker.specs.HashedView.{links_with}
 use Rattle.domain_checker.specs.declared.verdict.Verdict.TheVariants.{OutsideZone}
 use Rattle.domain_records.specs.declared.error.SigningError.TheVariants.{Nsec3HashingError}
@@ -32,8 +31,8 @@ returns g c =
     let param = as_param_record (λ n. n) c.in_ok-chain.chain.nsec3param in
     let links = hashed_links_of (λ n. n) c.in_ok-chain.chain.nsec3s.items in
     let R = links_with q.apex param.parameters (g.H.Nsec3Hasher.answer c.args.hasher.now) links in
-    let refused = hasher_refused {P = λ n. IsFirstRefusal R q.name n}
-    c.in-Err.error c.in_default.not-OutOfMemory c.in-Err.ensures.errors (λ n is. c.in-Err.ensures.refusal n (λ i. Err (is i))) in
+    let refused = hasher_refused _ c.in_default.not-OutOfMemory c.in-Err.ensures.errors
+    (λ n is. c.in-Err.ensures.refusal n (λ i. Err (is i))) in
     record {
       ok = tt;
       err = record {

@@ -13,11 +13,7 @@ left-preserved-in-Continue-1 c =
     let pushed = sym (map-append (as_hashed_link (λ n. n)) c.left.nsec3s.items (c.in-Some-into_nsec3.nsec3 ∷ []))
     ∙ ap (hashed_links_of (λ n. n)) (sym c.in_ok-push.ensures.items) in
     subst (λ ks. Goes IsNsec3Of c.args.records.items c.next.new.self.rest.items ks) pushed
-    (goes_kept IsNsec3Of c.args.records.items c.left.left.rest.items c.next.new.self.rest.items kept c.in-Some.record k
-    c.left.invariant c.in-Some.ensures.items (record { is = some.0; fits = some.1 }))
+    (goes_kept IsNsec3Of _ _ _ kept c.in-Some.record k c.left.invariant c.in-Some.ensures.items (record { is = some.0; fits = some.1 }))
 
 pub returns : goal.returns
-returns c =
-    goes_end IsNsec3Of c.args.records.items c.left.left.rest.items
-    (hashed_links_of (λ n. n) c.left.nsec3s.items) c.left.invariant
-    (ended c.left.left.rest.items (omega (arith, c.in_default.ensures.cases.0, c.left.left.rest.ok.0)))
+returns c = goes_end IsNsec3Of _ _ _ c.left.invariant (ended _ (omega (arith, c.in_default.ensures.cases.0, c.left.left.rest.ok.0)))

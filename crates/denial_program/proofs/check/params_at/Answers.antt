@@ -1,4 +1,4 @@
-use Rattle.std.proofs.Common.{◌≡◌, ◌+◌, [], ◌∷◌, ap, arith, drop, map, sym, ◌∙◌, subst}
+use Rattle.std.proofs.Common.{◌≡◌, ◌+◌, ◌∷◌, ap, arith, drop, map, sym, ◌∙◌, subst}
 use Rattle.std.proofs.lemmas.List.{drop_all, drop_more, map-append}
 use Rattle.std.proofs.lemmas.Bool.{false≢true}
 use Rattle.domain_names.specs.Name.{same_name}
@@ -16,7 +16,7 @@ loop-record-preserved-in_default c =
     let r = c.in_ok-clone.field-0 in
     let here : drop i all ≡ r ∷ drop (i + 1) all = drop_more all i c.record-item.result (omega arith)
     ∙ ap (λ x. x ∷ drop (i + 1) all) (sym c.record-item.is ∙ cloned c.record-item.result r c.in_ok-clone.ensures) in
-    goes_past (IsParamOf c.args.apex.now) all (drop i all) (drop (i + 1) all) (map (as_param_record (λ n. n)) c.loop-record.params.items) r
+    goes_past _ all _ _ (map (as_param_record (λ n. n)) c.loop-record.params.items) r
     c.loop-record.invariant here (λ k is. c.in_default.ensures.none k is.is is.fits)
 
 pub loop-record-preserved : goal.loop-record-preserved
@@ -34,13 +34,13 @@ loop-record-preserved c =
       | then-name_eq+in_ok-push w ↦
           let items = ap (λ v. v.items) w.params-is ∙ w.in_ok-push.ensures.items in
           let pushed = sym (ap (map (as_param_record (λ n. n))) items
-          ∙ map-append (as_param_record (λ n. n)) c.loop-record.params.items (c.in-Some.param ∷ [])) in
+          ∙ map-append _ c.loop-record.params.items _) in
           subst (λ ks. Goes (IsParamOf a) all (drop (i + 1) all) ks) pushed
-          (goes_kept (IsParamOf a) all (drop i all) (drop (i + 1) all) kept r k c.loop-record.invariant here
+          (goes_kept _ all _ _ kept r k c.loop-record.invariant here
           (record { is = c.in-Some.ensures.some.0; fits = c.in-Some.ensures.some.1; owner = same ∙ w.if-name_eq.true }))
       | else-name_eq w ↦
           subst (λ ks. Goes (IsParamOf a) all (drop (i + 1) all) ks) (ap (λ v. map (as_param_record (λ n. n)) v.items) (sym w.params-is))
-          (goes_past (IsParamOf a) all (drop i all) (drop (i + 1) all) kept r c.loop-record.invariant here
+          (goes_past _ all _ _ kept r c.loop-record.invariant here
           (λ other is.
           let owner : k.owner ≡ other.owner = ap (λ (x : RawRecord). x.owner) (sym c.in-Some.ensures.some.0 ∙ is.is) in
           absurd (false≢true (sym (same ∙ w.if-name_eq.false) ∙ ap (λ n. same_name n a) owner ∙ is.owner))))
@@ -48,6 +48,5 @@ loop-record-preserved c =
 
 pub returns : goal.returns
 returns c =
-    goes_end (IsParamOf c.args.apex.now) c.args.records.now (drop c.loop-record.record-index c.args.records.now)
-    (map (as_param_record (λ n. n)) c.loop-record.params.items)
-    c.loop-record.invariant (drop_all c.loop-record.record-index c.args.records.now (omega arith))
+    goes_end _ _ (drop c.loop-record.record-index c.args.records.now) (map (as_param_record (λ n. n)) c.loop-record.params.items)
+    c.loop-record.invariant (drop_all c.loop-record.record-index _ (omega arith))

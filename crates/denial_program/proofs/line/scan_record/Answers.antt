@@ -1,19 +1,16 @@
-use Rattle.std.proofs.Common.{[], subst, sym}
+use Rattle.std.proofs.Common.{arith, []}
+use Rattle.std.proofs.lemmas.Grind.{common_steps}
 use Rattle.std.proofs.lemmas.Result.{err_from_is_err_and}
-use Rattle.denial_program.specs.Said.{SpellsNoName}
 use Rattle.denial_program.proofs.LineLemmas.{line_text, none_left, no_owner, no_ttl, no_class, no_type, no_data, no_more, spells_none, known_if_bad}
 use Rattle.denial_program.proofs.line.scan_record.Goals as goal
 
 pub returns-clause-ok : goal.returns-clause-ok
 returns-clause-ok g c =
-    line_text _ _ _ _ _ (g.S.Scanner.tokens c.scan_rdata.new.scanner) c.in_ok-owner.owner c.in_ok-class.class c.in_ok-ttl.ttl
-    c.in_ok-rtype.rtype c.in_ok-data.data c.in_ok-stored.stored c.new.result c.in_ok-owner.ensures.ok c.in_ok-ttl.ensures.ok c.in_ok-class.ensures.ok
+    line_text _ _ _ _ _ _ _ _ _ _ _ _ _ c.in_ok-owner.ensures.ok c.in_ok-ttl.ensures.ok c.in_ok-class.ensures.ok
     c.in_ok-rtype.ensures.ok c.in_ok-data.ensures.ok (none_left _ _ c.continues.ensures c.if-continues.false) c.in_ok-stored.ensures c.new.ensures
 
 pub returns-in_err-owner-clause-err : goal.returns-in_err-owner-clause-err
-returns-in_err-owner-clause-err g c =
-    let p = err_from_is_err_and c.from_residual.result c.from_residual.ensures.1 in
-    rw (p.1) (no_owner _ p.0 (subst (SpellsNoName (g.S.Scanner.tokens c.args.scanner.now)) (sym p.2) c.in_err-owner.ensures.err))
+returns-in_err-owner-clause-err g c = grind (arith, common_steps, no_owner)
 
 pub returns-in_err-ttl-clause-err : goal.returns-in_err-ttl-clause-err
 returns-in_err-ttl-clause-err g c =
@@ -47,8 +44,6 @@ returns-in_err-data-clause-err g c =
     (c.in_err-data.ensures.spells_none (known_if_bad c.in_err-data.field-0.0 p.0 p.2 bad))))
 
 pub returns-then-continues-clause-err : goal.returns-then-continues-clause-err
-returns-then-continues-clause-err g c = λ r line.
-    no_more (g.S.Scanner.tokens c.args.scanner.now) (g.S.Scanner.tokens c.scan.new.scanner) (g.S.Scanner.tokens c.field.new.scanner)
-    (g.S.Scanner.tokens c.field-2.new.scanner) (g.S.Scanner.tokens c.field-3.new.scanner) r line
-    c.in_ok-owner.ensures.ok c.in_ok-ttl.ensures.ok c.in_ok-class.ensures.ok c.in_ok-rtype.rtype c.in_ok-rtype.ensures.ok
-    c.in_ok-data.data (g.S.Scanner.tokens c.scan_rdata.new.scanner) c.in_ok-data.ensures.ok (c.continues.ensures.0 c.if-continues.true)
+returns-then-continues-clause-err g c =
+    λ r line. no_more _ _ _ _ _ r line c.in_ok-owner.ensures.ok c.in_ok-ttl.ensures.ok c.in_ok-class.ensures.ok _ c.in_ok-rtype.ensures.ok
+    _ _ c.in_ok-data.ensures.ok (c.continues.ensures.0 c.if-continues.true)

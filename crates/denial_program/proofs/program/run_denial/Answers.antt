@@ -1,56 +1,33 @@
-use Rattle.std.proofs.Common.{map, string_bytes}
+use Rattle.std.proofs.Common.{arith, map, string_bytes}
+use Rattle.std.proofs.lemmas.Grind.{common_steps}
 use Rattle.std.specs.Str.Lines.{lines}
 use Rattle.std.specs.Io.KnownBytes.{Appends}
-use Rattle.denial_program.specs.Answer.{Answers, GivesNoAnswer}
-use Rattle.denial_program.specs.Listing.{Give}
+use Rattle.denial_program.specs.Answer.{Answers}
 use Rattle.denial_program.specs.Text.{answer_text}
 use Rattle.denial_program.specs.declared.answer.Reply.{Reply}
-use Rattle.denial_program.specs.declared.fault.DenialFault.TheVariants.{OutOfMemory}
-use Rattle.denial_program.proofs.AnswerLemmas.{answer_memory, answer_unwritten, on_ok}
+use Rattle.denial_program.proofs.AnswerLemmas.{answer_unwritten, on_ok}
 use Rattle.denial_program.proofs.LineReading.{known_so}
 use Rattle.denial_program.proofs.program.run_denial.Goals as goal
 
 pub returns-clause-ok : goal.returns-clause-ok
 returns-clause-ok g c =
     let answers = g.H.Nsec3Hasher.answer c.args.hasher.now in
-    on_ok (λ written.
-    known_so (λ bytes. Give (lines bytes) c.in_ok-records.records.items)
-    (λ bytes. (x : Reply) × Answers answers (map string_bytes c.args.words.now) (lines bytes) x
+    on_ok (λ written. known_so _ (λ bytes. (x : Reply) × Answers answers (map string_bytes c.args.words.now) (lines bytes) x
     × Appends (g.W.Write.contents c.args.output.now) (g.W.Write.contents c.write_answer.new.output) (answer_text x))
-    (g.R.Read.remaining c.args.input.now)
-    (λ bytes gives. (
+    (g.R.Read.remaining c.args.input.now) (λ bytes gives. (
       written.answer,
       record { command = c.in_ok-command.command; given = c.in_ok-records.records.items; asks = c.in_ok-command.ensures.ok; gives = gives; is = written.is },
       written.appends,
-    ))
-    c.in_ok-records.ensures.ok)
-    c.write_answer.result c.write_answer.ensures.ok
+    )) c.in_ok-records.ensures.ok) c.write_answer.result c.write_answer.ensures.ok
 
 pub returns-clause-write : goal.returns-clause-write
-returns-clause-write g c = λ is.
-    let answers = g.H.Nsec3Hasher.answer c.args.hasher.now in
-    let there = answer_unwritten answers c.in_ok-command.command c.in_ok-records.records.items c.write_answer.result c.write_answer.ensures.err is in
-    known_so (λ bytes. Give (lines bytes) c.in_ok-records.records.items)
-    (λ bytes. (x : Reply) × Answers answers (map string_bytes c.args.words.now) (lines bytes) x)
-    (g.R.Read.remaining c.args.input.now)
-    (λ bytes gives. (
+returns-clause-write g c =
+    λ is. let answers = g.H.Nsec3Hasher.answer c.args.hasher.now in
+    let there = answer_unwritten answers _ _ _ c.write_answer.ensures.err is in
+    known_so _ (λ bytes. (x : Reply) × Answers answers (map string_bytes c.args.words.now) (lines bytes) x) _ (λ bytes gives. (
       there.0,
       record { command = c.in_ok-command.command; given = c.in_ok-records.records.items; asks = c.in_ok-command.ensures.ok; gives = gives; is = there.1 },
-    ))
-    c.in_ok-records.ensures.ok
+    )) c.in_ok-records.ensures.ok
 
 pub returns-clause-memory : goal.returns-clause-memory
-returns-clause-memory g c = λ is.
-    let answers = g.H.Nsec3Hasher.answer c.args.hasher.now in
-    let none = answer_memory answers c.in_ok-command.command c.in_ok-records.records.items c.write_answer.result c.write_answer.ensures.err is in
-    known_so (λ bytes. Give (lines bytes) c.in_ok-records.records.items)
-    (λ bytes. GivesNoAnswer answers (map string_bytes c.args.words.now) (lines bytes) OutOfMemory)
-    (g.R.Read.remaining c.args.input.now)
-    (λ bytes gives. record {
-      command = c.in_ok-command.command;
-      given = c.in_ok-records.records.items;
-      asks = c.in_ok-command.ensures.ok;
-      gives = gives;
-      none = none;
-    })
-    c.in_ok-records.ensures.ok
+returns-clause-memory g c = grind (arith, common_steps)

@@ -1,7 +1,8 @@
-use Rattle.std.proofs.Common.{◌≡◌, ◌+◌, ◌<◌, ◌++◌, length, take, eqb-true, refl, ap, subst, ◌∙◌, arith, IfSome}
+use Rattle.std.proofs.lemmas.Grind.{common_steps}
+use Rattle.std.proofs.Common.{◌≡◌, ◌+◌, ◌<◌, length, take, eqb-true, refl, subst, arith, IfSome}
 use Rattle.std.specs.Io.BufRead.{take_through, DropsThrough, FillKeeps}
 use Rattle.std.proofs.BufReadLemmas.{Consumes_shown}
-use Rattle.denial_program.proofs.LineReading.{known_so, line_taken}
+use Rattle.denial_program.proofs.LineReading.{line_taken}
 use Rattle.denial_program.proofs.reading.append_line.Given.{Over}
 use Rattle.denial_program.proofs.reading.append_line.Goals.{After-consume}
 use Rattle.denial_program.proofs.reading.append_line.Goals as goal
@@ -17,17 +18,13 @@ found g c =
     let filled = subst (FillKeeps _ (g.R.Read.remaining rested) (g.R.BufRead.consumable_len rested)) c.in-Ok.is c.fill_buf.follows.holds-at-none in
     let first = c.in-Some.ensures in
     let within : place < length held = first.0.high in
-    let moved = Consumes_shown _ _ _ _ held (place + 1) (omega (arith, within)) c.in-Ok.ensures.front c.in-Ok.ensures.end filled.0
+    let moved = Consumes_shown _ _ _ _ held _ (omega (arith, within)) c.in-Ok.ensures.front c.in-Ok.ensures.end filled.0
     filled.1 c.consume.ensures.bytes in
-    line_taken (g.R.Read.remaining c.args.input.now) (g.R.Read.remaining c.consume.new.self) held place within
+    line_taken _ _ held place within
     (λ k lt is. first.0.before k (omega arith) lt (rw is refl)) (eqb-true _ _ first.1) moved.0
 
 pub returns-clause-bytes : goal.returns-clause-bytes
-returns-clause-bytes g c =
-    let old = c.args.line.now.items in
-    let part = take (c.in-Some.place + 1) c.in-Ok.held.now in
-    known_so (λ all. part ≡ take_through 10 all) (λ all. c.extend_from_slice.new.self.items ≡ old ++ take_through 10 all) (g.R.Read.remaining c.args.input.now)
-    (λ all e. c.in_ok-extend_from_slice.ensures.items ∙ ap (λ l. old ++ l) e) (found g c).0
+returns-clause-bytes g c = grind (arith, common_steps, (found g c))
 
 pub returns-clause-rest : goal.returns-clause-rest
 returns-clause-rest g c = (found g c).1

@@ -1,5 +1,5 @@
 use Rattle.std.proofs.Common.{◌++◌}
-use Rattle.domain_nsec3.specs.View.{as_param_record, hashed_links_of}
+use Rattle.domain_nsec3.specs.View.{as_param_record}
 use Rattle.judge_program.specs.Records.{below_text}
 use Rattle.judge_program.specs.Text.{first_line}
 use Rattle.judge_program.proofs.Nsec3RunLemmas.{nsec3_text_is, nsec3_unwritten}
@@ -13,8 +13,7 @@ returns-in-Ok-clause-ok g c =
     let below = below_text c.args.shown q.name (as_param_record (λ n. n) c.in_ok-chain.chain.nsec3param) answer c.in_ok-below.below in
     record {
       text = first_line c.args.shown q.name answer ++ below;
-      is = nsec3_text_is hashes c.args.records.items q c.args.asked c.args.shown (as_param_record (λ n. n) c.in_ok-chain.chain.nsec3param)
-          (hashed_links_of (λ n. n) c.in_ok-chain.chain.nsec3s.items) answer below c.in_ok-chain.ensures.param c.in_ok-chain.ensures.nsec3s
+      is = nsec3_text_is hashes _ q _ _ _ _ answer below c.in_ok-chain.ensures.param c.in_ok-chain.ensures.nsec3s
           c.in_ok-answer.ensures.ok c.in_ok-below.ensures.ok;
       appends = c.in-Ok.ensures;
     }
@@ -25,8 +24,6 @@ returns-clause-err g c =
     let q = c.args.question.now in
     let answer = c.in_ok-answer.answer in
     let below = below_text c.args.shown q.name (as_param_record (λ n. n) c.in_ok-chain.chain.nsec3param) answer c.in_ok-below.below in
-    let is = nsec3_text_is hashes c.args.records.items q c.args.asked c.args.shown (as_param_record (λ n. n) c.in_ok-chain.chain.nsec3param)
-    (hashed_links_of (λ n. n) c.in_ok-chain.chain.nsec3s.items) answer below c.in_ok-chain.ensures.param c.in_ok-chain.ensures.nsec3s
+    let is = nsec3_text_is hashes _ q _ _ _ _ answer below c.in_ok-chain.ensures.param c.in_ok-chain.ensures.nsec3s
     c.in_ok-answer.ensures.ok c.in_ok-below.ensures.ok in
-    nsec3_unwritten hashes c.args.records.items q c.args.asked c.args.shown (first_line c.args.shown q.name answer ++ below)
-    c.fault_of.result is c.fault_of.ensures.either
+    nsec3_unwritten hashes _ q _ _ _ _ is c.fault_of.ensures.either

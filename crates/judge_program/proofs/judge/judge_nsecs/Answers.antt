@@ -2,7 +2,6 @@ use Rattle.std.proofs.Common.{◌≡◌, ap, refl, sym, ◌∙◌, subst}
 use Rattle.domain_nsec.specs.ChainView.{links_of}
 use Rattle.denial_program.specs.Check.{AreNsecs}
 use Rattle.denial_program.specs.declared.fault.DenialFault.TheVariants.{OutOfMemory}
-use Rattle.judge_program.specs.Run.{IsNsecText}
 use Rattle.judge_program.proofs.RunLemmas.{nsec_text, unwritten}
 use Rattle.judge_program.proofs.judge.judge_nsecs.Goals as goal
 
@@ -11,8 +10,7 @@ returns-in-Ok-clause-ok g c =
     let given = c.args.records.items in
     let q = c.args.question.now in
     let answer = c.judge_nsec-answer.result in
-    let is = nsec_text given q c.args.shown answer (links_of (λ n. n) c.deref.result.now) (links_of (λ n. n) c.deref-2.result.now)
-    (ap (links_of (λ n. n)) (c.deref.ensures.value ∙ sym c.deref-2.ensures.value))
+    let is = nsec_text given q _ answer _ _ (ap (links_of (λ n. n)) (c.deref.ensures.value ∙ sym c.deref-2.ensures.value))
     (subst (λ ks. AreNsecs given (links_of (λ n. n) ks)) (sym c.deref-2.ensures.value) c.in_ok-nsecs.ensures)
     c.judge_nsec-answer.ensures.zone c.judge_nsec-answer.ensures.exact c.judge_nsec-answer.ensures.proof in
     record { text = _; is = is; appends = c.in-Ok.ensures }
@@ -22,8 +20,7 @@ returns-clause-err g c =
     let given = c.args.records.items in
     let q = c.args.question.now in
     let answer = c.judge_nsec-answer.result in
-    let is = nsec_text given q c.args.shown answer (links_of (λ n. n) c.deref.result.now) (links_of (λ n. n) c.deref-2.result.now)
-    (ap (links_of (λ n. n)) (c.deref.ensures.value ∙ sym c.deref-2.ensures.value))
+    let is = nsec_text given q _ answer _ _ (ap (links_of (λ n. n)) (c.deref.ensures.value ∙ sym c.deref-2.ensures.value))
     (subst (λ ks. AreNsecs given (links_of (λ n. n) ks)) (sym c.deref-2.ensures.value) c.in_ok-nsecs.ensures)
     c.judge_nsec-answer.ensures.zone c.judge_nsec-answer.ensures.exact c.judge_nsec-answer.ensures.proof in
-    unwritten (IsNsecText given q c.args.shown) (λ e. e ≡ OutOfMemory) _ is refl c.fault_of.result c.fault_of.ensures.either
+    unwritten _ (λ e. e ≡ OutOfMemory) _ is refl _ c.fault_of.ensures.either

@@ -12,12 +12,8 @@ left-preserved-in-Continue-1 c =
     let kept = links_of (λ n. n) c.left.nsecs.items in
     let pushed = sym (map-append (as_link (λ n. n)) c.left.nsecs.items (c.in-Some-into_nsec.nsec ∷ []))
     ∙ ap (links_of (λ n. n)) (sym c.in_ok-push.ensures.items) in
-    subst (λ ks. Goes IsNsecOf c.args.records.items c.next.new.self.rest.items ks) pushed
-    (goes_kept IsNsecOf c.args.records.items c.left.left.rest.items c.next.new.self.rest.items kept c.in-Some.record k
+    subst (λ ks. Goes IsNsecOf c.args.records.items c.next.new.self.rest.items ks) pushed (goes_kept IsNsecOf _ _ _ kept c.in-Some.record k
     c.left.invariant c.in-Some.ensures.items (record { is = some.0; fits = some.1 }))
 
 pub returns : goal.returns
-returns c =
-    goes_end IsNsecOf c.args.records.items c.left.left.rest.items
-    (links_of (λ n. n) c.left.nsecs.items) c.left.invariant
-    (ended c.left.left.rest.items (omega (arith, c.in_default.ensures.cases.0, c.left.left.rest.ok.0)))
+returns c = goes_end IsNsecOf _ _ _ c.left.invariant (ended _ (omega (arith, c.in_default.ensures.cases.0, c.left.left.rest.ok.0)))

@@ -22,18 +22,13 @@ returns-then-is_some g c =
     let third = g.W.Write.contents c.write_once-3.new.output in
     let new = g.W.Write.contents c.writeln.new.self in
     let is : (is_some e || is_some n || is_some w) ≡ true =
-    ap (λ b. b || is_some n || is_some w) (is_some_mapped _ c.args.encloser ∙ sym c.is_some.ensures)
-    ∙ ap (λ b. c.is_some.result || b || is_some w) (is_some_mapped _ c.args.closer ∙ sym c.is_some-2.ensures)
-    ∙ ap (λ b. c.is_some.result || c.is_some-2.result || b) (is_some_mapped _ c.args.wildcard ∙ sym c.is_some-3.ensures)
-    ∙ c.if-is_some.true in
+    ap (λ b. b || is_some n || is_some w) (is_some_mapped _ _ ∙ sym c.is_some.ensures)
+    ∙ ap (λ b. c.is_some.result || b || is_some w) (is_some_mapped _ _ ∙ sym c.is_some-2.ensures)
+    ∙ ap (λ b. c.is_some.result || c.is_some-2.result || b) (is_some_mapped _ _ ∙ sym c.is_some-3.ensures) ∙ c.if-is_some.true in
     let param = if is_some e || is_some n || is_some w then line else [] in
     let closer = nsec3_once (option_to_list e) n in
     let wildcard = nsec3_once (option_to_list e ++ option_to_list n) w in
-    on_ok (λ h.
-    appends_more old third new ((nsec3_once [] e ++ closer) ++ wildcard) param
-    (appends_more old second third (nsec3_once [] e ++ closer) wildcard
-    (appends_more old first second (nsec3_once [] e) closer c.in_ok-write_once.ensures c.in_ok-write_once-2.ensures)
-    c.in_ok-write_once-3.ensures)
-    (subst (Appends third new) (param_line_printed (as_param_record (λ n. n) c.args.param.now)
-    ∙ sym (cond-true (is_some e || is_some n || is_some w) line [] is)) h))
-    c.writeln.result c.writeln.ensures.bytes
+    on_ok (λ h. appends_more old third new _ param (appends_more old second third _ wildcard
+    (appends_more old first second _ closer c.in_ok-write_once.ensures c.in_ok-write_once-2.ensures) c.in_ok-write_once-3.ensures)
+    (subst (Appends third new) (param_line_printed (as_param_record (λ n. n) c.args.param.now) ∙ sym (cond-true _ line [] is)) h))
+    _ c.writeln.ensures.bytes

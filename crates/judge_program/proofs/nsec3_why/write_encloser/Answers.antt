@@ -17,10 +17,8 @@ returns-then-not-needs_next_closer g c =
     let old = g.W.Write.contents c.args.output.now in
     let new = g.W.Write.contents c.writeln.new.self in
     subst (λ f. Appends old new (encloser_told x c.args.answer (option_map (encloser_of (λ n. n)) f))) (sym c.in-Some.is)
-    (subst (Appends old new)
-    (match_line c.encloser_role-role.result (encloser_role x e.count) e.link c.encloser_role-role.ensures
-    ∙ told_alone x c.args.answer e (sym c.needs_next_closer.ensures ∙ c.if-not-needs_next_closer.true))
-    c.in_ok-writeln.ensures.bytes)
+    (subst (Appends old new) (match_line _ _ e.link c.encloser_role-role.ensures
+    ∙ told_alone x _ e (sym c.needs_next_closer.ensures ∙ c.if-not-needs_next_closer.true)) c.in_ok-writeln.ensures.bytes)
 
 pub returns : goal.returns
 returns g c =
@@ -30,13 +28,10 @@ returns g c =
     let mid = g.W.Write.contents c.writeln.new.self in
     let new = g.W.Write.contents c.write_cover.new.output in
     let labels = c.last_labels.ensures
-    ∙ ap (λ n. last_labels (n + 1) x) (c.min-closer.ensures ∙ ap (λ n. min e.count n) c.count_labels.ensures.count)
-    ∙ closer_labels e.count x in
-    let first = subst (Appends old mid) (match_line c.encloser_role-role.result (encloser_role x e.count) e.link c.encloser_role-role.ensures)
-    c.in_ok-writeln.ensures.bytes in
+    ∙ ap (λ n. last_labels (n + 1) x) (c.min-closer.ensures ∙ ap (λ n. min e.count n) c.count_labels.ensures.count) ∙ closer_labels _ x in
+    let first = subst (Appends old mid) (match_line _ _ e.link c.encloser_role-role.ensures) c.in_ok-writeln.ensures.bytes in
     subst (λ f. OnOk c.write_cover.result (Appends old new (encloser_told x c.args.answer (option_map (encloser_of (λ n. n)) f)))) (sym c.in-Some.is)
-    (on_ok (λ h. subst (Appends old new) (told_both x c.args.answer e (sym c.needs_next_closer.ensures ∙ c.if-not-needs_next_closer.false))
+    (on_ok (λ h. subst (Appends old new) (told_both x _ e (sym c.needs_next_closer.ensures ∙ c.if-not-needs_next_closer.false))
     (appends_more old mid new (nsec3_shown (encloser_role x e.count) (Some e.link) None)
     (nsec3_shown (NextCloser (last_labels (e.count + 1) x)) None e.cover) first
-    (subst (λ l. Appends mid new (nsec3_shown (NextCloser l) None e.cover)) labels h)))
-    c.write_cover.result c.write_cover.ensures)
+    (subst (λ l. Appends mid new (nsec3_shown (NextCloser l) None e.cover)) labels h))) c.write_cover.result c.write_cover.ensures)
