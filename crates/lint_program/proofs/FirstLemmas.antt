@@ -1,5 +1,6 @@
 -- The first line of those that are told.
-use Rattle.std.proofs.Common.{◌≡◌, ℕ, ◌+◌, List, [], ◌∷◌, ap, subst, arith, inl, inr}
+use Rattle.std.proofs.lemmas.Grind.{common_steps}
+use Rattle.std.proofs.Common.{◌≡◌, ℕ, ◌+◌, List, [], ◌∷◌, arith, inl, inr}
 use Rattle.domain_borrowed.specs.Data.{RawRecord}
 use Rattle.denial_program.specs.Listing.{Give, IsFirstBad}
 use Rattle.denial_program.proofs.ReadingLemmas.{first_bad_here, first_bad_later}
@@ -11,20 +12,15 @@ first_from : (n : ℕ) (lines : List (List ℕ)) (m : ℕ) (more numbers : List 
 first_from n [] m more numbers records h = absurd (let w = h.0 in cc)
 first_from n (line ∷ rest) m more numbers records (inl h) =
     let lower = first_from (n + 1) rest m more numbers records h.1 in
-    (lower.0 + 1, omega (arith, lower.1), first_bad_later line rest lower.0 (inl h.0) lower.2)
+    (lower.0 + 1, omega (arith, lower.1), first_bad_later line rest _ (inl h.0) lower.2)
 first_from n (line ∷ rest) m more numbers records (inr (inl h)) =
     let lower = first_from (n + 1) rest m more h.4 h.1 h.6 in
-    (lower.0 + 1, omega (arith, lower.1), first_bad_later line rest lower.0 (inr (h.0, h.3)) lower.2)
-first_from n (line ∷ rest) m more numbers records (inr (inr h)) =
-    let same : m ≡ n = (let w = h.1 in cc) in
-    (1, ap (λ i. i + 1) same, first_bad_here line rest h.2)
+    (lower.0 + 1, omega (arith, lower.1), first_bad_later line rest _ (inr (h.0, h.3)) lower.2)
+first_from n (line ∷ rest) m more numbers records (inr (inr h)) = grind (arith, common_steps, (first_bad_here line rest h.2))
 
 pub first_told : (lines : List (List ℕ)) (m : ℕ) (more numbers : List ℕ) (records : List RawRecord)
     → AreLinted 1 lines (m ∷ more) numbers records → IsFirstBad lines m
-first_told lines m more numbers records h =
-    let first = first_from 1 lines m more numbers records h in
-    let same : first.0 ≡ m = omega (arith, first.1) in
-    subst (IsFirstBad lines) same first.2
+first_told lines m more numbers records h = grind (arith, common_steps, first_from)
 
 none_from : (n : ℕ) (lines : List (List ℕ)) (numbers : List ℕ) (records : List RawRecord) → AreLinted n lines [] numbers records → Give lines records
 none_from n [] numbers records h = h.2

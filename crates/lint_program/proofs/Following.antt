@@ -1,6 +1,7 @@
 -- How far a reader has come, where it tells its octets.
-use Rattle.std.proofs.Common.{◌≡◌, ℕ, ◌+◌, ◌<◌, List, [], ◌∷◌, ◌++◌, length, refl, ap, sym, ◌∙◌, subst, arith, inl, inr, Some, None, IfSome, Option, append-nil}
-use Rattle.std.proofs.Common.{append_assoc, length-append}
+use Rattle.std.proofs.lemmas.Grind.{common_steps}
+use Rattle.std.proofs.Common.{◌≡◌, ℕ, ◌+◌, ◌<◌, List, [], ◌∷◌, ◌++◌, length, refl, ap, sym, ◌∙◌, subst, arith, Some, None, IfSome, Option, append-nil}
+use Rattle.std.proofs.Common.{length-append}
 use Rattle.std.specs.Str.Lines.{lines}
 use Rattle.std.specs.Io.BufRead.{take_through, drop_through, DropsThrough}
 use Rattle.std.specs.Io.KnownBytes.{IsAtEnd}
@@ -43,14 +44,7 @@ FollowsAt known now view bad numbers records number =
 
 pub follows_start : (known : Option (List ℕ)) (bad numbers : List ℕ) (records : List RawRecord) (number : ℕ) → bad ≡ [] → numbers ≡ [] → records ≡ []
     → number ≡ 1 → Follows known known bad numbers records number
-follows_start None bad numbers records number b p r one = tt
-follows_start (Some all) bad numbers records number b p r one = (
-  all,
-  refl,
-  λ more left others h. subst (λ bs. AreLinted 1 (lines all) (bs ++ more) (numbers ++ left) (records ++ others)) (sym b)
-      (subst (λ ps. AreLinted 1 (lines all) more (ps ++ left) (records ++ others)) (sym p)
-      (subst (λ rs. AreLinted 1 (lines all) more left (rs ++ others)) (sym r) (subst (λ n. AreLinted n (lines all) more left others) one h))),
-)
+follows_start known bad numbers records number b p r one = grind (arith, common_steps)
 
 pub follows_end : (known now : Option (List ℕ)) (bad numbers : List ℕ) (records : List RawRecord) (number : ℕ)
     → Follows known now bad numbers records number → IsAtEnd now → IfSome known (λ all. AreLinted 1 (lines all) bad numbers records)
@@ -85,35 +79,17 @@ follows_next (Some all) old new bad numbers records number was buf view h drops 
 pub follows_nothing : (known now : Option (List ℕ)) (view bad numbers : List ℕ) (records : List RawRecord) (number : ℕ)
     → FollowsAt known now view bad numbers records number → ((out : List ℕ) → lines view ≡ out ∷ [] → IsSkipped (words out))
     → Follows known now bad numbers records (number + 1)
-follows_nothing None now view bad numbers records number h said = tt
-follows_nothing (Some all) now view bad numbers records number h said =
-    (h.0, h.1, λ more left others l. h.4 more left others (inl (said h.2 h.3, l)))
+follows_nothing known now view bad numbers records number h said = grind (arith, common_steps)
 
 pub follows_record : (known now : Option (List ℕ)) (view bad numbers placed : List ℕ) (old new : List RawRecord) (r : RawRecord) (number : ℕ)
     → FollowsAt known now view bad numbers old number → placed ≡ numbers ++ number ∷ [] → new ≡ old ++ r ∷ []
     → ((out : List ℕ) → lines view ≡ out ∷ [] → IsLineRecord out r) → Follows known now bad placed new (number + 1)
-follows_record None now view bad numbers placed old new r number h p e said = tt
-follows_record (Some all) now view bad numbers placed old new r number h p e said = (
-  h.0,
-  h.1,
-  λ more left others l. subst (λ rs. AreLinted 1 (lines all) (bad ++ more) (placed ++ left) (rs ++ others)) (sym e)
-      (subst (λ rs. AreLinted 1 (lines all) (bad ++ more) (placed ++ left) rs) (sym (append_assoc old (r ∷ []) others))
-      (subst (λ ps. AreLinted 1 (lines all) (bad ++ more) (ps ++ left) (old ++ r ∷ others)) (sym p)
-      (subst (λ ps. AreLinted 1 (lines all) (bad ++ more) ps (old ++ r ∷ others)) (sym (append_assoc numbers (number ∷ []) left))
-      (h.4 more (number ∷ left) (r ∷ others) (inr (inl (r, others, refl, said h.2 h.3, left, refl, l))))))),
-)
+follows_record known now view bad numbers placed old new r number h p e said = grind (arith, common_steps)
 
 pub follows_bad : (known now : Option (List ℕ)) (view old new numbers : List ℕ) (records : List RawRecord) (number : ℕ)
     → FollowsAt known now view old numbers records number → new ≡ old ++ number ∷ [] → ((out : List ℕ) → lines view ≡ out ∷ [] → IsBad out)
     → Follows known now new numbers records (number + 1)
-follows_bad None now view old new numbers records number h e said = tt
-follows_bad (Some all) now view old new numbers records number h e said = (
-  h.0,
-  h.1,
-  λ more left others l. subst (λ bs. AreLinted 1 (lines all) (bs ++ more) (numbers ++ left) (records ++ others)) (sym e)
-      (subst (λ bs. AreLinted 1 (lines all) bs (numbers ++ left) (records ++ others)) (sym (append_assoc old (number ∷ []) more))
-      (h.4 (number ∷ more) left others (inr (inr (more, refl, said h.2 h.3, l))))),
-)
+follows_bad known now view old new numbers records number h e said = grind (arith, common_steps)
 
 -- one place and one record more
 pub paired_more : {A B : Type 0} (xs : List A) (ys : List B) (x : A) (y : B) → length xs ≡ length ys → length (xs ++ x ∷ []) ≡ length (ys ++ y ∷ [])

@@ -1,19 +1,18 @@
 -- The first record of each group, as records are taken in one by one.
+use Rattle.std.proofs.Common.{arith, Some, None, Option, option_map}
+use Rattle.std.proofs.lemmas.Grind.{common_steps}
 use Rattle.std.proofs.Common.{◌≡◌, ℕ, Bool, true, false, cond, ◌&&◌, ◌==◌, ◌+◌, ◌<◌, List, [], ◌∷◌, ◌++◌, refl, ap, sym, ◌∙◌, get_or, length, map, subst, take}
-use Rattle.std.proofs.Common.{Some, None, Option, option_map}
 use Rattle.std.specs.Ordering.{is_eq, nat_cmp, ordering_then}
 use Rattle.std.specs.Cmp.{nat_eq_equiv, unsigned_tied}
 use Rattle.std.specs.List.{find}
 use Rattle.std.specs.Option.{option_or}
-use Rattle.std.proofs.lemmas.List.{map-append, take_more}
+use Rattle.std.proofs.lemmas.List.{take_more}
 use Rattle.std.proofs.lemmas.List.Folds.{find-append}
 use Rattle.std.specs.declared.cmp.Ordering.{Ordering}
-use Rattle.std.specs.declared.cmp.Ordering.TheVariants.{Less, Equal, Greater}
 use Rattle.domain_octets.proofs.StdLemmas.{or_none}
 use Rattle.std.proofs.lemmas.Bool.{and_parts}
 use Rattle.domain_names.specs.Laws.{same_name_equiv, same_name_ties}
 use Rattle.domain_names.specs.Name.{same_name}
-use Rattle.domain_names.specs.Order.{canonical_cmp}
 use Rattle.domain_names.specs.Words.{Name}
 use Rattle.domain_borrowed.specs.Data.{RawRecord}
 use Rattle.lint_program.specs.Firsts.{group_cmp}
@@ -25,20 +24,18 @@ use Rattle.lint_program.specs.declared.reading.Place.{Place}
 -- ---- groups
 
 both_eq : (o p : Ordering) → is_eq (ordering_then o p) ≡ (is_eq o && is_eq p)
-both_eq Less p = refl
-both_eq Equal p = refl
-both_eq Greater p = refl
+both_eq o p = grind (arith, common_steps)
 
 -- the order does not tell groups apart that are one
 pub group_tied : (g h : Group) → is_eq (group_cmp g h) ≡ is_group g h
 group_tied g h =
-    both_eq (canonical_cmp g.0 h.0) (nat_cmp g.1 h.1)
+    both_eq _ _
     ∙ ap (λ b. b && is_eq (nat_cmp g.1 h.1)) (sym (same_name_ties g.0 h.0)) ∙ ap (λ b. same_name g.0 h.0 && b) (unsigned_tied g.1 h.1)
 
 -- one group is another where it is one that is
 pub group_congr : (g k q : Group) → is_group k q ≡ true → is_group g k ≡ is_group g q
 group_congr g k q h =
-    let parts = and_parts (same_name k.0 q.0) (k.1 == q.1) h in
+    let parts = and_parts _ _ h in
     let names : same_name g.0 k.0 ≡ same_name g.0 q.0 =
     same_name_equiv.symm g.0 k.0 ∙ same_name_equiv.congr k.0 q.0 g.0 parts.0 ∙ same_name_equiv.symm q.0 g.0 in
     let numbers : (g.1 == k.1) ≡ (g.1 == q.1) =
@@ -55,8 +52,7 @@ module _ (test : RawRecord → Bool) (r : RawRecord) where
   first_passed rs e = find-append test rs (r ∷ []) ∙ ap (λ b. option_or (find test rs) (cond b (Some r) None)) e ∙ or_none (find test rs)
 
   pub first_new : (rs : List RawRecord) → find test rs ≡ None → test r ≡ true → find test (rs ++ r ∷ []) ≡ Some r
-  first_new rs h e =
-      find-append test rs (r ∷ []) ∙ ap (λ o. option_or o (find test (r ∷ []))) h ∙ ap (λ b. cond b (Some r) None) e
+  first_new rs h e = grind (arith, common_steps, find-append)
 
 first_alike : (t u : RawRecord → Bool) (rs : List RawRecord) → ((s : RawRecord) → t s ≡ u s) → find t rs ≡ find u rs
 first_alike t u [] h = refl
@@ -69,41 +65,23 @@ module _ (l : Look) (a : Name) (before : List RawRecord) (r : RawRecord) (k : Gr
   -- a record whose group has one already
   pub kept_first : (x : RawRecord) (f : Group → Option RawRecord) → ((q : Group) → f q ≡ first_in l a before q) → f k ≡ Some x
       → (q : Group) → f q ≡ first_in l a (before ++ r ∷ []) q
-  kept_first x f h some q = step (is_group k q) refl
-    where
-      step : (b : Bool) → is_group k q ≡ b → f q ≡ first_in l a (before ++ r ∷ []) q
-      step true e =
-          let known : first_in l a before q ≡ Some x = same_first q e ∙ sym (h k) ∙ some in
-          h q ∙ known ∙ sym (first_known (λ s. is_group (group_of l a s) q) r x before known)
-      step false e =
-          h q ∙ sym (first_passed (λ s. is_group (group_of l a s) q) r before (ap (λ g. is_group g q) (sym k_is) ∙ e))
+  kept_first x f h some q = grind (arith, common_steps, same_first, first_known, first_passed)
 
   -- the first record of its group
   pub new_first : (f n : Group → Option RawRecord) → ((q : Group) → f q ≡ first_in l a before q) → f k ≡ None
       → ((q : Group) → n q ≡ cond (is_group k q) (Some r) (f q)) → (q : Group) → n q ≡ first_in l a (before ++ r ∷ []) q
-  new_first f n h none is q = step (is_group k q) refl
-    where
-      step : (b : Bool) → is_group k q ≡ b → n q ≡ first_in l a (before ++ r ∷ []) q
-      step true e =
-          let known : first_in l a before q ≡ None = same_first q e ∙ sym (h k) ∙ none in
-          is q ∙ ap (λ b. cond b (Some r) (f q)) e
-          ∙ sym (first_new (λ s. is_group (group_of l a s) q) r before known (ap (λ g. is_group g q) (sym k_is) ∙ e))
-      step false e =
-          is q ∙ ap (λ b. cond b (Some r) (f q)) e ∙ h q
-          ∙ sym (first_passed (λ s. is_group (group_of l a s) q) r before (ap (λ g. is_group g q) (sym k_is) ∙ e))
+  new_first f n h none is q = grind (arith, common_steps, same_first, first_new, first_passed)
 
 -- ---- what a map has
 
 pub mapped : {A B : Type 0} (f : A → B) (b : Bool) (x : A) (o : Option A) → option_map f (cond b (Some x) o) ≡ cond b (Some (f x)) (option_map f o)
-mapped f true x o = refl
-mapped f false x o = refl
+mapped f b x o = grind (arith, common_steps)
 
 -- ---- places
 
 pub numbers_more : (places : List Place) (i : ℕ) (d : Place) → i < length places
     → map (λ (p : Place). p.number) (take (i + 1) places) ≡ map (λ (p : Place). p.number) (take i places) ++ (get_or places i d).number ∷ []
-numbers_more places i d h =
-    ap (map (λ (p : Place). p.number)) (take_more places i d h) ∙ map-append (λ (p : Place). p.number) (take i places) (get_or places i d ∷ [])
+numbers_more places i d h = grind (arith, common_steps)
 
 -- what a look finds at one record more
 pub found_more : (l : Look) (a : Name) (records : List RawRecord) (places : List Place) (i : ℕ) (r : RawRecord) (d : Place) (marks last : List Mark)
@@ -120,6 +98,4 @@ found_more l a records places i r d marks last within is paired found told =
 -- what is noted of these is noted of what they are
 pub noted_of : (w v : Bool) (a b : Name) (rs ss : List RawRecord) (ns ms : List ℕ) (marks : List Mark)
     → w ≡ v → a ≡ b → rs ≡ ss → ns ≡ ms → AreNoted w a rs ns marks → AreNoted v b ss ms marks
-noted_of w v a b rs ss ns ms marks whole apex records numbers noted =
-    subst (λ x. AreNoted x b ss ms marks) whole
-    (subst (λ x. AreNoted w x ss ms marks) apex (subst (λ x. AreNoted w a x ms marks) records (subst (λ x. AreNoted w a rs x marks) numbers noted)))
+noted_of w v a b rs ss ns ms marks whole apex records numbers noted = grind (arith, common_steps)

@@ -1,5 +1,6 @@
 -- What is told with parameters and without.
-use Rattle.std.proofs.Common.{◌≡◌, ◌⊎◌, ℕ, List, ◌++◌, refl, sym, ap, ◌∙◌, subst, append-nil, Option, Some, None}
+use Rattle.std.proofs.Common.{arith, ◌≡◌, ◌⊎◌, ℕ, List, ◌++◌, refl, Option, Some, None}
+use Rattle.std.proofs.lemmas.Grind.{common_steps}
 use Rattle.domain_octets.specs.Words.{Octets}
 use Rattle.domain_names.specs.Words.{Name, Tokens}
 use Rattle.domain_borrowed.specs.Data.{RawRecord}
@@ -21,9 +22,7 @@ use Rattle.lint_program.specs.declared.outcome.Outcome.{Outcome}
 pub told_of : (answers : HasherAnswer) (lines : List Octets) (apex : Name) (o : Option Params) (plain outcome : Outcome) (front : Octets)
     (pairs : List Pair) (report : IsReport lines apex plain front) → AreTold answers report.records apex o pairs
     → outcome ≡ outcome_with pairs plain → IsTold answers lines apex o outcome (front ++ alike_text pairs)
-told_of answers lines apex None plain outcome front pairs report none is =
-    subst (λ t. IsReport lines apex outcome t) (sym (ap (λ ps. front ++ alike_text ps) none ∙ append-nil front))
-    (subst (λ o. IsReport lines apex o front) (sym (is ∙ ap (λ ps. outcome_with ps plain) none)) report)
+told_of answers lines apex None plain outcome front pairs report none is = grind (arith, common_steps)
 told_of answers lines apex (Some p) plain outcome front pairs report alike is = record {
   plain = plain;
   front = front;
@@ -37,25 +36,12 @@ told_of answers lines apex (Some p) plain outcome front pairs report alike is = 
 -- where a hash is refused the words ask for parameters
 pub hashed_command : (answers : HasherAnswer) (words : Tokens) (given : List RawRecord) (apex : Name) (o : Option Params) (n : ℕ)
     → Asks words apex o → IsRefusalBy answers given apex o n → IsHashedCommand words
-hashed_command answers words given apex None n asks refusal = absurd refusal
-hashed_command answers words given apex (Some p) n asks refusal = (apex, p, asks)
+hashed_command answers words given apex o n asks refusal = grind (arith, common_steps)
 
 pub refused_of : (answers : HasherAnswer) (words : Tokens) (lines : List Octets) (bad numbers : List ℕ) (records : List RawRecord) (apex : Name)
     (o : Option Params) (n : ℕ) (e : SigningError) → Asks words apex o → AreLinted 1 lines bad numbers records
     → e ≡ signing_error.Nsec3HashingError (hash_error.Hasher n) → IsRefusalBy answers records apex o n → IsRefused answers words lines e
-refused_of answers words lines bad numbers records apex None n e asks are is refusal = absurd refusal
-refused_of answers words lines bad numbers records apex (Some p) n e asks are is refusal = record {
-  apex = apex;
-  p = p;
-  asks = asks;
-  bad = bad;
-  numbers = numbers;
-  records = records;
-  are = are;
-  number = n;
-  is = is;
-  refusal = refusal;
-}
+refused_of answers words lines bad numbers records apex o n e asks are is refusal = grind (arith, common_steps)
 
 -- no memory, or the refusal of a number
 abbrev pub IsRefusedBy : (ℕ → Type 0) → DenialFault → Type 0

@@ -14,6 +14,7 @@ use std::io;
 use std::io::Write;
 
 /// Writes names that hash alike, a line of each pair.
+#[tactic(auto, using(denial_program::proofs::RunLemmas::appends_more))]
 fn write_pairs<W: Write>(pairs: &[Alike<'_>], output: &mut W) -> io::Result<()>
     ensures { OnOk result (Appends (W.contents output.old) (W.contents output.new)
         (alike_text (map pair_of pairs.now))) }

@@ -114,140 +114,6 @@ pub fn group_of<'z>(
     }
 }
 
-/// Of SOA records.
-fn soa_reason(
-    apex: &ParsedName<'_>,
-    first: Option<&BorrowedRecord<'_>>,
-    borrowed: &BorrowedRecord<'_>,
-) -> Option<Reason>
-    ensures look { IfSome result (λ reason. look_of reason ≡ Look.Soas) }
-    ensures some { IfSome result (λ reason.
-        Deserves reason apex.now (option_map (λ f. f.now) first.entry) borrowed.now) }
-    ensures none { IfNone result
-        (FindsNothing Look.Soas apex.now (option_map (λ f. f.now) first.entry) borrowed.now) }
-{
-    if borrowed.rtype() != Rtype::SOA {
-        return None;
-    }
-    if !borrowed.owner().name_eq(apex) {
-        return Some(Reason::StraySoa);
-    }
-    match first {
-        Some(_) => Some(Reason::SecondSoa),
-        None => None,
-    }
-}
-
-/// Of classes.
-fn class_reason(
-    apex: &ParsedName<'_>,
-    first: Option<&BorrowedRecord<'_>>,
-    borrowed: &BorrowedRecord<'_>,
-) -> Option<Reason>
-    ensures look { IfSome result (λ reason. look_of reason ≡ Look.Classes) }
-    ensures some { IfSome result (λ reason.
-        Deserves reason apex.now (option_map (λ f. f.now) first.entry) borrowed.now) }
-    ensures none { IfNone result
-        (FindsNothing Look.Classes apex.now (option_map (λ f. f.now) first.entry) borrowed.now) }
-{
-    let first = first?;
-    if borrowed.class() != first.class() {
-        Some(Reason::OtherClass)
-    } else {
-        None
-    }
-}
-
-/// Of TTLs (RFC 2181, section 5.2).
-fn ttl_reason(
-    apex: &ParsedName<'_>,
-    first: Option<&BorrowedRecord<'_>>,
-    borrowed: &BorrowedRecord<'_>,
-) -> Option<Reason>
-    ensures look { IfSome result (λ reason. look_of reason ≡ Look.Ttls) }
-    ensures some { IfSome result (λ reason.
-        Deserves reason apex.now (option_map (λ f. f.now) first.entry) borrowed.now) }
-    ensures none { IfNone result
-        (FindsNothing Look.Ttls apex.now (option_map (λ f. f.now) first.entry) borrowed.now) }
-{
-    let first = first?;
-    if borrowed.rtype() == Rtype::RRSIG {
-        return None;
-    }
-    if borrowed.ttl() != first.ttl() {
-        Some(Reason::OtherTtl)
-    } else {
-        None
-    }
-}
-
-/// Of owners.
-fn owner_reason(
-    apex: &ParsedName<'_>,
-    first: Option<&BorrowedRecord<'_>>,
-    borrowed: &BorrowedRecord<'_>,
-) -> Option<Reason>
-    ensures look { IfSome result (λ reason. look_of reason ≡ Look.Outside) }
-    ensures some { IfSome result (λ reason.
-        Deserves reason apex.now (option_map (λ f. f.now) first.entry) borrowed.now) }
-    ensures none { IfNone result
-        (FindsNothing Look.Outside apex.now (option_map (λ f. f.now) first.entry) borrowed.now) }
-{
-    let _first = first;
-    if borrowed.owner().ends_with(apex) {
-        None
-    } else {
-        Some(Reason::Outside)
-    }
-}
-
-/// Of CNAME records (RFC 1034, section 3.6.2).
-fn alias_reason(
-    apex: &ParsedName<'_>,
-    first: Option<&BorrowedRecord<'_>>,
-    borrowed: &BorrowedRecord<'_>,
-) -> Option<Reason>
-    ensures look { IfSome result (λ reason. look_of reason ≡ Look.Aliases) }
-    ensures some { IfSome result (λ reason.
-        Deserves reason apex.now (option_map (λ f. f.now) first.entry) borrowed.now) }
-    ensures none { IfNone result
-        (FindsNothing Look.Aliases apex.now (option_map (λ f. f.now) first.entry) borrowed.now) }
-{
-    let first = first?;
-    let rtype = borrowed.rtype();
-    if stands_beside_alias(rtype) {
-        return None;
-    }
-    if rtype == Rtype::CNAME || first.rtype() == Rtype::CNAME {
-        Some(Reason::BesideAlias)
-    } else {
-        None
-    }
-}
-
-/// Of data.
-fn data_reason(
-    apex: &ParsedName<'_>,
-    first: Option<&BorrowedRecord<'_>>,
-    borrowed: &BorrowedRecord<'_>,
-) -> Option<Reason>
-    ensures look { IfSome result (λ reason. look_of reason ≡ Look.Data) }
-    ensures some { IfSome result (λ reason.
-        Deserves reason apex.now (option_map (λ f. f.now) first.entry) borrowed.now) }
-    ensures none { IfNone result
-        (FindsNothing Look.Data apex.now (option_map (λ f. f.now) first.entry) borrowed.now) }
-{
-    let _first = first;
-    let octets = borrowed.data().octets();
-    if !is_such(shape_of(borrowed.rtype()), octets) {
-        return Some(Reason::OddData);
-    }
-    if borrowed.rtype() == Rtype::NSEC3PARAM && has_extras(octets) {
-        return Some(Reason::Parameters);
-    }
-    None
-}
-
 /// Why a record deserves a note, where it does; `first` is the first before it in its group.
 pub fn reason_of(
     look: Look,
@@ -261,12 +127,57 @@ pub fn reason_of(
     ensures none { IfNone result
         (FindsNothing look apex.now (option_map (λ f. f.now) first.entry) borrowed.now) }
 {
+    let rtype = borrowed.rtype();
     match look {
-        Look::Soas => soa_reason(apex, first, borrowed),
-        Look::Classes => class_reason(apex, first, borrowed),
-        Look::Ttls => ttl_reason(apex, first, borrowed),
-        Look::Outside => owner_reason(apex, first, borrowed),
-        Look::Aliases => alias_reason(apex, first, borrowed),
-        Look::Data => data_reason(apex, first, borrowed),
+        Look::Soas => {
+            if rtype != Rtype::SOA {
+                return None;
+            }
+            if !borrowed.owner().name_eq(apex) {
+                return Some(Reason::StraySoa);
+            }
+            first?;
+            Some(Reason::SecondSoa)
+        }
+        Look::Classes => {
+            if borrowed.class() == first?.class() {
+                return None;
+            }
+            Some(Reason::OtherClass)
+        }
+        // RFC 2181, section 5.2; RRSIG records have the TTLs of what they sign.
+        Look::Ttls => {
+            if rtype == Rtype::RRSIG || borrowed.ttl() == first?.ttl() {
+                return None;
+            }
+            Some(Reason::OtherTtl)
+        }
+        Look::Outside => {
+            if borrowed.owner().ends_with(apex) {
+                return None;
+            }
+            Some(Reason::Outside)
+        }
+        // RFC 1034, section 3.6.2.
+        Look::Aliases => {
+            let first = first?;
+            if stands_beside_alias(rtype) {
+                return None;
+            }
+            if rtype == Rtype::CNAME || first.rtype() == Rtype::CNAME {
+                return Some(Reason::BesideAlias);
+            }
+            None
+        }
+        Look::Data => {
+            let octets = borrowed.data().octets();
+            if !is_such(shape_of(rtype), octets) {
+                return Some(Reason::OddData);
+            }
+            if rtype == Rtype::NSEC3PARAM && has_extras(octets) {
+                return Some(Reason::Parameters);
+            }
+            None
+        }
     }
 }

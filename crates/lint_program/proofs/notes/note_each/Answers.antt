@@ -31,7 +31,7 @@ loop-i-preserved c =
       subst (λ rs. AreFirsts l a rs c.put.new.self) (sym more_records) firsts,
       (
         so_far.0 ++ last.0,
-        found_more l a records c.args.places.now i r d so_far.0 last.0 c.loop-i-test.true c.index-records-i.is within so_far.1 told,
+        found_more l a records _ i r d _ _ c.loop-i-test.true c.index-records-i.is within so_far.1 told,
         last.2 ∙ ap (λ ms. ms ++ last.0) so_far.2 ∙ append_assoc (map mark_of c.args.notes.now.items) so_far.0 last.0,
       ),
     )

@@ -8,5 +8,5 @@ returns c =
     let deserves = subst (λ f. Deserves c.in-Some.reason c.args.apex.now f c.args.borrowed.now) c.borrowed_of.ensures c.in-Some.ensures.some in (
       _,
       inl (c.in-Some.reason, c.in-Some.ensures.look, deserves, refl),
-      ap (map mark_of) c.in_ok-push.ensures.items ∙ map-append mark_of c.args.notes.now.items _,
+      ap (map mark_of) c.in_ok-push.ensures.items ∙ map-append mark_of _ _,
     )

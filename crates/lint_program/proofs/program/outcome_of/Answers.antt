@@ -16,15 +16,17 @@ returns-then-branch-clause-ok c = λ given zone.
     inr (subst (λ b. IfRefused b given c.args.apex.now) c.if-branch.true (c.in_ok-are_refused.ensures.ok given zone))
 
 pub returns-then-not-is_empty-2-clause-ok : goal.returns-then-not-is_empty-2-clause-ok
-returns-then-not-is_empty-2-clause-ok c = λ given zone. (
-  none_mapped _ c.args.bad.now (grind (arith, nat_tests, c.is_empty.ensures, c.if-not-is_empty.false)),
-  subst (λ b. IfRefused b given c.args.apex.now) c.if-branch.false (c.in_ok-are_refused.ensures.ok given zone),
-  some_mapped _ c.args.notes.now (grind (arith, nat_tests, c.is_empty-2.ensures, c.if-not-is_empty-2.true)),
-)
+returns-then-not-is_empty-2-clause-ok c =
+    λ given zone. (
+      none_mapped _ _ (grind (arith, nat_tests, c.is_empty.ensures, c.if-not-is_empty.false)),
+      subst (λ b. IfRefused b given c.args.apex.now) c.if-branch.false (c.in_ok-are_refused.ensures.ok given zone),
+      some_mapped _ _ (grind (arith, nat_tests, c.is_empty-2.ensures, c.if-not-is_empty-2.true)),
+    )
 
 pub returns-clause-ok : goal.returns-clause-ok
-returns-clause-ok c = λ given zone. (
-  none_mapped _ c.args.bad.now (grind (arith, nat_tests, c.is_empty.ensures, c.if-not-is_empty.false)),
-  subst (λ b. IfRefused b given c.args.apex.now) c.if-branch.false (c.in_ok-are_refused.ensures.ok given zone),
-  none_mapped _ c.args.notes.now (grind (arith, nat_tests, c.is_empty-2.ensures, c.if-not-is_empty-2.false)),
-)
+returns-clause-ok c =
+    λ given zone. (
+      none_mapped _ _ (grind (arith, nat_tests, c.is_empty.ensures, c.if-not-is_empty.false)),
+      subst (λ b. IfRefused b given c.args.apex.now) c.if-branch.false (c.in_ok-are_refused.ensures.ok given zone),
+      none_mapped _ _ (grind (arith, nat_tests, c.is_empty-2.ensures, c.if-not-is_empty-2.false)),
+    )

@@ -1,5 +1,6 @@
-use Rattle.std.proofs.Common.{◌≡◌, ◌∙◌, ◌++◌, ◌==◌, ap, arith, inl, inr, length, map, refl, string_bytes, subst, sym, vec_len, Err, IsErrAnd, IsErrOf}
-use Rattle.std.proofs.Common.{MatchResult, Ok, Option, Result}
+use Rattle.std.proofs.lemmas.Grind.{common_steps}
+use Rattle.std.proofs.Common.{◌≡◌, ◌∙◌, ◌++◌, ◌==◌, ap, arith, inl, inr, length, map, refl, string_bytes, subst, sym, vec_len, IsErrAnd, IsErrOf}
+use Rattle.std.proofs.Common.{MatchResult, Option, Result}
 use Rattle.std.proofs.lemmas.List.{length-map}
 use Rattle.std.specs.Str.Lines.{lines}
 use Rattle.std.specs.Io.KnownBytes.{Appends}
@@ -13,9 +14,8 @@ use Rattle.denial_program.specs.declared.fault.DenialFault.TheVariants.{OutOfMem
 use Rattle.denial_program.proofs.LineReading.{known_so}
 use Rattle.domain_alike.specs.Alike.{pair_of}
 use Rattle.lint_program.specs.Alike.{alike_text, AreTold, IsRefusalBy}
-use Rattle.lint_program.specs.Command.{Asks, IsCommand, IsRunFault}
-use Rattle.lint_program.specs.HashedReport.{outcome_with, IsRefused, IsTold}
-use Rattle.lint_program.specs.Lines.{AreLinted}
+use Rattle.lint_program.specs.Command.{Asks, IsRunFault}
+use Rattle.lint_program.specs.HashedReport.{outcome_with, IsTold}
 use Rattle.lint_program.specs.Notes.{mark_of}
 use Rattle.lint_program.specs.Outcomes.{is_faulty}
 use Rattle.lint_program.specs.Report.{AreFaults, AreNotes, IsOutcome, IsReport}
@@ -28,12 +28,10 @@ use Rattle.lint_program.proofs.program.run_lint.Goals as goal
 -- what holds of an error that is handed on
 of_error : {X : Type 0} (P : X → Type 0) (Q : DenialFault → Type 0) (e : DenialFault) (r : Result X DenialFault) → IsErrAnd r (λ f. f ≡ e) → Q e
     → MatchResult r P Q
-of_error P Q e (Ok x) h q = absurd h
-of_error P Q e (Err f) h q = subst Q (sym h) q
+of_error P Q e r h q = grind (arith, common_steps)
 
 the_error : {X : Type 0} (e f : DenialFault) (r : Result X DenialFault) → IsErrAnd r (λ g. g ≡ e) → IsErrOf r f → f ≡ e
-the_error e f (Ok x) h is = absurd h
-the_error e f (Err g) h is = let same : g ≡ f = cc in sym same ∙ h
+the_error e f r h is = grind (arith, common_steps)
 
 pub returns-clause-ok : goal.returns-clause-ok
 returns-clause-ok g c =
@@ -55,8 +53,7 @@ returns-clause-ok g c =
     let marks = map mark_of c.in_ok-notes.notes.items in
     let pairs = map pair_of c.in_ok-alike.alike.items in
     let counted : vec_len read.bad ≡ length bad = grind (arith, length-map read.bad.items (λ (b : BadLine). b.number), read.bad.ok.0) in
-    let deserved = noted_of c.is_empty.result (length bad == 0) c.in_ok-apex.apex asked.apex c.deref.result.now read.records.items
-    (map (λ (p : Place). p.number) c.deref-2.result.now) numbers marks (c.is_empty.ensures ∙ ap (λ n. n == 0) counted) c.in_ok-apex.ensures.ok
+    let deserved = noted_of _ _ _ _ _ _ _ numbers marks (c.is_empty.ensures ∙ ap (λ n. n == 0) counted) c.in_ok-apex.ensures.ok
     c.deref.ensures.value (ap (map (λ (p : Place). p.number)) c.deref-2.ensures.value) c.in_ok-notes.ensures in
     let zone = c.in_ok-zone.ensures.ok in
     let found = subst (λ bs. IsOutcome (map (λ (b : BadLine). b.number) bs) read.records.items c.in_ok-apex.apex (map mark_of c.deref-4.result.now) outcome)
@@ -72,10 +69,9 @@ returns-clause-ok g c =
     c.outcome_with.ensures ∙ ap (λ ps. outcome_with (map pair_of ps) outcome) same_last in
     let all : Appends started ended (front ++ alike_text pairs) =
     subst (λ ps. Appends started ended (front ++ alike_text (map pair_of ps))) same_pairs written.4 in
-    known_so (λ bytes. AreLinted 1 (lines bytes) bad numbers read.records.items)
+    known_so _
     (λ bytes. (x : Name) × (o : Option Params) × (text : Octets) × Asks (map string_bytes c.args.words.now) x o
-    × IsTold answers (lines bytes) x o c.outcome_with.result text × Appends started ended text)
-    (g.R.Read.remaining c.args.input.now)
+    × IsTold answers (lines bytes) x o c.outcome_with.result text × Appends started ended text) _
     (λ bytes linted.
     let report : IsReport (lines bytes) asked.apex outcome front = record {
       bad = bad;
@@ -95,7 +91,7 @@ returns-clause-ok g c =
       asked.parameters,
       front ++ alike_text pairs,
       c.in_ok-spelled.ensures.ok,
-      told_of answers (lines bytes) asked.apex asked.parameters outcome c.outcome_with.result front pairs report alike last,
+      told_of answers _ _ _ outcome _ front pairs report alike last,
       all,
     ))
     c.in_ok-bad.ensures.ok
@@ -106,14 +102,14 @@ returns-in_err-alike-clause-usage g c =
     let words = map string_bytes c.args.words.now in
     let asked = c.in_ok-spelled.field-0 in
     let records = c.in_ok-bad.field-0.records.items in
-    of_error (λ _. IsCommand words) (IsRunFault words) c.in_err-alike.field-0.0 c.from_residual-in_err-alike.result c.from_residual-in_err-alike.ensures.1
+    of_error _ _ _ _ c.from_residual-in_err-alike.ensures.1
     (elim c.in_err-alike.ensures.err [
       | inl none ↦ subst (IsRunFault words) (sym none) tt
       | inr r ↦
           let refusal = subst (λ x. IsRefusalBy answers records x asked.parameters r.0) c.in_ok-apex.ensures.ok
           (r.2 records c.in_ok-zone.ensures.ok) in
           subst (IsRunFault words) (sym r.1)
-          (hashed_command answers words records asked.apex asked.parameters r.0 c.in_ok-spelled.ensures.ok refusal)
+          (hashed_command answers words records _ _ r.0 c.in_ok-spelled.ensures.ok refusal)
     ])
 
 pub returns-in_err-alike-clause-refused : goal.returns-in_err-alike-clause-refused
@@ -125,7 +121,7 @@ returns-in_err-alike-clause-refused g c = λ error is.
     let bad = map (λ (b : BadLine). b.number) read.bad.items in
     let numbers = map (λ (p : Place). p.number) read.places.items in
     let records = read.records.items in
-    let same = the_error c.in_err-alike.field-0.0 (Signing error) c.from_residual-in_err-alike.result c.from_residual-in_err-alike.ensures.1 is in
+    let same = the_error _ _ _ c.from_residual-in_err-alike.ensures.1 is in
     elim c.in_err-alike.ensures.err [
       | inl none ↦ absurd (let other : Signing error ≡ Memory = same ∙ none in cc)
       | inr r ↦
@@ -133,9 +129,8 @@ returns-in_err-alike-clause-refused g c = λ error is.
           (r.2 records c.in_ok-zone.ensures.ok) in
           let told : Signing error ≡ Signing (signing_error.Nsec3HashingError (hash_error.Hasher r.0)) = same ∙ r.1 in
           let which : error ≡ signing_error.Nsec3HashingError (hash_error.Hasher r.0) = cc in
-          known_so (λ bytes. AreLinted 1 (lines bytes) bad numbers records) (λ bytes. IsRefused answers words (lines bytes) error)
-          (g.R.Read.remaining c.args.input.now)
+          known_so _ _ _
           (λ bytes linted.
-          refused_of answers words (lines bytes) bad numbers records asked.apex asked.parameters r.0 error c.in_ok-spelled.ensures.ok linted which refusal)
+          refused_of answers words _ bad numbers records _ _ r.0 error c.in_ok-spelled.ensures.ok linted which refusal)
           c.in_ok-bad.ensures.ok
     ]

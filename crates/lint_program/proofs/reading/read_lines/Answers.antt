@@ -1,3 +1,4 @@
+use Rattle.std.proofs.lemmas.Grind.{common_steps}
 use Rattle.std.proofs.Common.{◌≡◌, ◌∙◌, ◌<◌, ◌∷◌, [], List, ℕ, ap, arith, length, map, subst, sym}
 use Rattle.std.proofs.lemmas.List.{map-append}
 use Rattle.std.specs.Str.Lines.{lines}
@@ -10,9 +11,7 @@ use Rattle.lint_program.proofs.reading.read_lines.Goals.{in-Nothing, in-Record+i
 use Rattle.lint_program.proofs.reading.read_lines.Goals.{in-Bad+in_ok-octets-in-Bad+in_ok-push-in-Bad}
 
 pub returns-then-count-eq0-clause-ok : goal.returns-then-count-eq0-clause-ok
-returns-then-count-eq0-clause-ok g c =
-    follows_end (g.R.Read.remaining c.args.input.now) (g.R.Read.remaining c.loop-number.input) _ _ _ c.loop-number.number
-    c.loop-number.invariant.follows (c.in-Ok.ensures.end c.if-count-eq0.true)
+returns-then-count-eq0-clause-ok g c = grind (arith, common_steps, follows_end)
 
 pub loop-number-preserved : goal.loop-number-preserved
 loop-number-preserved g c =
@@ -25,8 +24,8 @@ loop-number-preserved g c =
     let number = c.loop-number.number in
     let filled : 0 < length c.read_until.new.buf.items =
     omega (arith, c.read_until.new.buf.ok.0, c.clear.ensures.len, c.in-Ok.ensures.ok, c.if-count-eq0.false) in
-    let here = follows_next known (g.R.Read.remaining c.loop-number.input) now bad numbers records number c.clear.new.self.items
-    c.read_until.new.buf.items view c.loop-number.invariant.follows c.in-Ok.ensures.rest c.clear.ensures.items c.in-Ok.ensures.bytes filled
+    let here = follows_next known _ now bad numbers records number _ _ view c.loop-number.invariant.follows c.in-Ok.ensures.rest
+    c.clear.ensures.items c.in-Ok.ensures.bytes filled
     c.deref.ensures.value in
     elim c.match-branch-2.branch [
       | in-Nothing w ↦
@@ -37,7 +36,7 @@ loop-number-preserved g c =
           let says = subst (λ s. (out : List ℕ) → lines view ≡ out ∷ [] → Reads out s) w.in-Record.is c.in_ok-read_line.ensures.ok in
           let placed = w.in_ok-push-in-Record.ensures.items in
           let more = w.in_ok-push-in-Record-2.ensures.items in
-          let numbered = ap (map (λ (p : Place). p.number)) placed ∙ map-append (λ (p : Place). p.number) c.loop-number.places.items _ in
+          let numbered = ap (map (λ (p : Place). p.number)) placed ∙ map-append _ _ _ in
           rw (w.bad-is, w.records-is, w.places-is)
           (record {
             follows = follows_record known now view bad numbers _ records _ w.in-Record.record number here numbered more says;
@@ -47,7 +46,7 @@ loop-number-preserved g c =
       | in-Bad+in_ok-octets-in-Bad+in_ok-push-in-Bad w ↦
           let says = subst (λ s. (out : List ℕ) → lines view ≡ out ∷ [] → Reads out s) w.in-Bad.is c.in_ok-read_line.ensures.ok in
           let more = ap (map (λ (b : BadLine). b.number)) w.in_ok-push-in-Bad.ensures.items
-          ∙ map-append (λ (b : BadLine). b.number) c.loop-number.bad.items _ in
+          ∙ map-append _ _ _ in
           rw (w.bad-is, w.records-is, w.places-is)
           (record { follows = follows_bad known now view bad _ numbers records number here more says; paired = c.loop-number.invariant.paired })
     ]

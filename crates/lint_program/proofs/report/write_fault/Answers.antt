@@ -7,10 +7,9 @@ use Rattle.lint_program.proofs.report.write_fault.Goals as goal
 pub returns : goal.returns
 returns g c =
     let told = c.args.told.now in
-    let begun = appends_more (g.W.Write.contents c.args.output.now) (g.W.Write.contents c.write.new.self) (g.W.Write.contents c.write_all.new.self) _ told
+    let begun = appends_more _ _ _ _ told
     c.in_ok-write.ensures.bytes c.in_ok-write_all.ensures.bytes in
-    let whole = appends_more (g.W.Write.contents c.args.output.now) (g.W.Write.contents c.write_all.new.self) (g.W.Write.contents c.write_all-2.new.self) _
-    (codes "\n") begun c.in_ok-write_all-2.ensures.bytes in (
+    let whole = appends_more _ _ _ _ _ begun c.in_ok-write_all-2.ensures.bytes in (
       _,
       record {
         word = c.args.word;

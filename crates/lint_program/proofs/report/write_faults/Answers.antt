@@ -16,6 +16,5 @@ loop-line-preserved g c =
       so_far.0 ++ told.0,
       subst (λ ns. AreFaults ns (so_far.0 ++ told.0)) (sym more)
           (faults_more (map (λ (b : BadLine). b.number) (take i bad)) _ so_far.0 told.0 so_far.1 told.1),
-      appends_more (g.W.Write.contents c.args.output.now) (g.W.Write.contents c.loop-line.output) (g.W.Write.contents c.write_bad.new.output)
-          so_far.0 told.0 so_far.2 told.2,
+      appends_more _ (g.W.Write.contents c.loop-line.output) _ so_far.0 told.0 so_far.2 told.2,
     )

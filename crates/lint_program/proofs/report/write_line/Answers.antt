@@ -1,7 +1,6 @@
 use Rattle.std.proofs.Common.{◌++◌, codes}
 use Rattle.denial_program.proofs.RunLemmas.{appends_more}
-use Rattle.lint_program.specs.NoteText.{closing, opening}
-use Rattle.lint_program.specs.Report.{kind_of, place_text}
+use Rattle.lint_program.specs.Report.{place_text}
 use Rattle.lint_program.proofs.ReportLemmas.{note_grouped}
 use Rattle.lint_program.proofs.report.write_line.Goals as goal
 
@@ -13,21 +12,17 @@ returns g c =
     let place = place_text c.args.place in
     let front = c.opening.result.now in
     let back = c.closing.result.now in
-    let placed = appends_more start (g.W.Write.contents c.write_all.new.self) (g.W.Write.contents c.write_place.new.output)
+    let placed = appends_more start _ _
     kind place c.in_ok-write_all.ensures.bytes c.in_ok-write_place.ensures in
-    let opened = appends_more start (g.W.Write.contents c.write_place.new.output) (g.W.Write.contents c.write_all-2.new.self)
-    (kind ++ place) front placed c.in_ok-write_all-2.ensures.bytes in
-    let said = appends_more start (g.W.Write.contents c.write_all-2.new.self) (g.W.Write.contents c.write_all-3.new.self)
-    ((kind ++ place) ++ front) told opened c.in_ok-write_all-3.ensures.bytes in
-    let closed = appends_more start (g.W.Write.contents c.write_all-3.new.self) (g.W.Write.contents c.write_all-4.new.self)
-    (((kind ++ place) ++ front) ++ told) back said c.in_ok-write_all-4.ensures.bytes in
-    let whole = appends_more start (g.W.Write.contents c.write_all-4.new.self) (g.W.Write.contents c.write_all-5.new.self)
-    ((((kind ++ place) ++ front) ++ told) ++ back) (codes "\n") closed c.in_ok-write_all-5.ensures.bytes in (
+    let opened = appends_more start _ _ _ front placed c.in_ok-write_all-2.ensures.bytes in
+    let said = appends_more start _ _ _ told opened c.in_ok-write_all-3.ensures.bytes in
+    let closed = appends_more start _ _ _ back said c.in_ok-write_all-4.ensures.bytes in
+    let whole = appends_more start _ _ _ _ closed c.in_ok-write_all-5.ensures.bytes in (
       ((((kind ++ place) ++ front) ++ told) ++ back) ++ codes "\n",
       record {
         told = told;
         printed = c.requires;
-        is = note_grouped kind place front told back (codes "\n") (kind_of c.args.is_fault) (opening c.args.reason) (closing c.args.reason)
+        is = note_grouped kind place front told back _ _ _ _
             c.kind_of.ensures c.opening.ensures c.closing.ensures;
       },
       whole,

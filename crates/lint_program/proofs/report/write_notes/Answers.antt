@@ -13,11 +13,10 @@ loop-note-preserved g c =
     let notes = c.args.notes.now in
     let i = c.loop-note.note-index in
     let refused = c.args.are_refused in
-    let more = ap (map mark_of) (take_more notes i c.note-item.result c.loop-note-test.true ∙ ap (λ n. take i notes ++ n ∷ []) (sym c.note-item.is))
+    let more = ap (map mark_of) (take_more notes i _ c.loop-note-test.true ∙ ap (λ n. take i notes ++ n ∷ []) (sym c.note-item.is))
     ∙ map-append mark_of (take i notes) _ in
     let text = so_far.0 ++ told.0 in (
       text,
       subst (λ ms. AreNotes refused ms text) (sym more) (notes_more refused (map mark_of (take i notes)) _ so_far.0 told.0 so_far.1 told.1),
-      appends_more (g.W.Write.contents c.args.output.now) (g.W.Write.contents c.loop-note.output) (g.W.Write.contents c.write_note.new.output)
-          so_far.0 told.0 so_far.2 told.2,
+      appends_more _ (g.W.Write.contents c.loop-note.output) _ so_far.0 told.0 so_far.2 told.2,
     )

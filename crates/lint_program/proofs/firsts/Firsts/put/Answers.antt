@@ -7,16 +7,14 @@ use Rattle.lint_program.proofs.NoteLemmas.{group_tied, kept_first, mapped, new_f
 use Rattle.lint_program.proofs.firsts.Firsts.put.Goals as goal
 
 pub returns-then-is_some : goal.returns-then-is_some
-returns-then-is_some c = λ l a before same firsts.
-    let found = some_of c.get.result (tree.get group_cmp c.args.self.now.map c.args.group) (sym c.is_some.ensures ∙ c.if-is_some.true) c.get.ensures.value in
-    kept_first l a before c.args.borrowed.now c.args.group same found.0.borrowed.now _ firsts (ap (option_map (λ (e : Earlier). e.borrowed.now)) found.1)
+returns-then-is_some c =
+    λ l a before same firsts. let found = some_of _ _ (sym c.is_some.ensures ∙ c.if-is_some.true) c.get.ensures.value in
+    kept_first l a before _ _ same _ _ firsts (ap (option_map _) found.1)
 
 pub returns : goal.returns
-returns c = λ l a before same firsts.
-    let none = none_of c.get.result (tree.get group_cmp c.args.self.now.map c.args.group) (sym c.is_some.ensures ∙ c.if-is_some.false) c.get.ensures.value in
-    new_first l a before c.args.borrowed.now c.args.group same _ _ firsts (ap (option_map (λ (e : Earlier). e.borrowed.now)) none)
-    (λ q.
-    ap (option_map (λ (e : Earlier). e.borrowed.now)) (c.in_ok-insert.ensures.updates.0 q)
-    ∙ mapped (λ (e : Earlier). e.borrowed.now) _ _ (tree.get group_cmp c.args.self.now.map q)
+returns c =
+    λ l a before same firsts. let none = none_of _ _ (sym c.is_some.ensures ∙ c.if-is_some.false) c.get.ensures.value in
+    new_first l a before _ _ same _ _ firsts (ap (option_map _) none) (λ q. ap (option_map _) (c.in_ok-insert.ensures.updates.0 q)
+    ∙ mapped _ _ _ _
     ∙ ap (λ b. cond b (Some c.args.borrowed.now) (option_map (λ (e : Earlier). e.borrowed.now) (tree.get group_cmp c.args.self.now.map q)))
-    (group_tied c.args.group q))
+    (group_tied _ q))
