@@ -1,6 +1,5 @@
 -- What NSEC records say does not depend on TTLs, classes and the case of letters.
-use Rattle.std.proofs.Common.{◌≡◌, ℕ, Bool, cond, not, ◌&&◌, ◌||◌, List, [], ◌∷◌, refl, ◌∙◌, nat_eq, Option, Some, None, arith}
-use Rattle.std.specs.List.{find}
+use Rattle.std.proofs.Common.{◌≡◌, ℕ, Bool, cond, not, ◌&&◌, ◌||◌, List, [], ◌∷◌, refl, nat_eq, Option, Some, None, arith}
 use Rattle.domain_names.specs.Name.{is_at_or_below, lowered}
 use Rattle.domain_names.specs.Order.{before}
 use Rattle.domain_base.specs.Types.{ds, ns}
@@ -24,11 +23,7 @@ matches_alike : (o p x : Name) → lowered o ≡ lowered p → matches before o 
 matches_alike o p x e = λ i. not (before_left o p x e i || before_right x o p e i)
 
 covers_alike : (o p n m x : Name) → lowered o ≡ lowered p → lowered n ≡ lowered m → covers before o n x ≡ covers before p m x
-covers_alike o p n m x e f =
-    λ i. not (matches_alike o p x e i)
-    && cond ((before_left o p n e ∙ before_right p n m f) i)
-    (before_left o p x e i && before_right x n m f i)
-    (before_left o p x e i || before_right x n m f i)
+covers_alike o p n m x e f = grind (arith, common_steps, before_left, before_right, (before_left o p n e), (before_right p n m f))
 
 pub shared_alike : (x y z : Name) → lowered y ≡ lowered z → shared x y ≡ shared x z
 shared_alike [] y z e = refl
@@ -76,10 +71,9 @@ module _ (a x : Name) (t : ℕ) where
 
   pub reading_alike : (ks ls : List Link) → ArePaired IsAlike ks ls → reading a ks x t ≡ reading a ls x t
   reading_alike ks ls h =
-      let matching = find_alike IsAlike (is_match a x) (is_match_alike a x) ks ls h in
-      let covering = find_alike IsAlike (is_cover a x) (is_cover_alike a x) ks ls h in
-      λ i. cond (is_at_or_below x a) (both_alike (find (is_match a x) ks) (find (is_match a x) ls) (find (is_cover a x) ks)
-      (find (is_cover a x) ls) matching covering i) OutsideZone
+      let matching = find_alike IsAlike _ (is_match_alike a x) ks ls h in
+      let covering = find_alike IsAlike _ (is_cover_alike a x) ks ls h in
+      λ i. cond (is_at_or_below x a) (both_alike _ _ _ _ matching covering i) OutsideZone
 
   pub proved_alike : (L : List ZoneRecord) (assume : Bool) (ks ls : List Link) → ArePaired IsAlike ks ls
       → proved_verdict L a assume ks x t ≡ proved_verdict L a assume ls x t

@@ -1,5 +1,6 @@
 -- A zone has a verdict on every name and type: a choice between verdicts is one of them.
-use Rattle.std.proofs.Common.{◌≡◌, ◌≢◌, Bool, true, false, cond, sym, ap, ◌∙◌}
+use Rattle.std.proofs.Common.{arith, ◌≡◌, ◌≢◌, Bool, true, false, cond, sym, ap, ◌∙◌}
+use Rattle.std.proofs.lemmas.Grind.{common_steps}
 use Rattle.std.proofs.lemmas.Bool.{true≢false}
 use Rattle.domain_checker.specs.declared.verdict.Verdict.{Verdict}
 use Rattle.domain_checker.specs.declared.verdict.Verdict.TheVariants.{OutsideZone, BelowDelegation, Has, NoType, EmptyName, OptOut, NoName, NotProven}
@@ -15,8 +16,7 @@ is_definite (NoName n) = true
 is_definite NotProven = false
 
 pub choose : (b : Bool) (v w : Verdict) → is_definite v ≡ true → is_definite w ≡ true → is_definite (cond b v w) ≡ true
-choose true v w e f = e
-choose false v w e f = f
+choose b v w e f = grind (arith, common_steps)
 
 pub definite_proven : (v : Verdict) → is_definite v ≡ true → v ≢ NotProven
 unfolding is_definite

@@ -1,17 +1,15 @@
 -- The first of a name and its ancestors that exists is its closest encloser, and an occluded name is below a name that occludes and is not occluded itself.
 use Rattle.std.proofs.Common.{◌≡◌, ℕ, ◌≤◌, Bool, zero, suc, true, false, cond, not, ◌&&◌, List, [], ◌∷◌, map, length, refl, sym, ap, ◌∙◌, inl, inr, arith}
-use Rattle.std.specs.Prelude.{filter}
 use Rattle.std.specs.Char.{to_ascii_lowercase}
 use Rattle.std.specs.List.{list_any}
 use Rattle.std.proofs.lemmas.Bool.{cases_Bool, false≢true, and_parts, and_from, cases_lt}
 use Rattle.std.proofs.lemmas.List.{length-map}
 use Rattle.domain_names.specs.Name.{is_at_or_below, is_strictly_below, lowered, same_name}
-use Rattle.domain_base.specs.Types.{ns}
 use Rattle.domain_names.specs.Words.{Name}
 use Rattle.domain_zone.specs.Enclosers.{IsClosestEncloser, exists_over}
-use Rattle.domain_zone.specs.Zone.{ZoneRecord, has_type, is_zone_cut, occludes, is_occluded, is_unoccluded, distinct, unoccluded_owners, owns}
+use Rattle.domain_zone.specs.Zone.{ZoneRecord, is_zone_cut, occludes, is_occluded, is_unoccluded, distinct, unoccluded_owners, owns}
 use Rattle.domain_zone.proofs.NameLemmas.{one_lowered, below_itself, below_trans, below_longer, below_length, below_parent}
-use Rattle.domain_zone.proofs.NameLemmas.{strictly_longer, same_length, lowered_below, same_lowered}
+use Rattle.domain_zone.proofs.NameLemmas.{strictly_longer, same_length, lowered_below}
 use Rattle.domain_zone.proofs.PairLemmas.{In}
 use Rattle.domain_zone.proofs.OwnerLemmas.{any_in, in_any, occluder_below}
 use Rattle.domain_zone.proofs.FindLemmas.{in_filter, from_map}
@@ -89,11 +87,11 @@ module _ (below_dname : Bool) (L : List ZoneRecord) (a : Name) where
   top_within zero x l o = let c = some_occluder x o in let m = strictly_longer x c.name c.under in absurd (omega arith)
   top_within (suc n) x l o =
       let c = some_occluder x o in
-      elim (cases_Bool (is_occluded below_dname L a c.name)) [
+      elim (cases_Bool _) [
         | inl e ↦
             let m = strictly_longer x c.name c.under in
             let t = top_within n c.name (omega arith) e in
-            let above = (and_parts (is_at_or_below c.name t.0.name) (not (same_name c.name t.0.name)) t.0.under).0 in
+            let above = (and_parts _ (not (same_name c.name t.0.name)) t.0.under).0 in
             (record { name = t.0.name; over = t.0.over; under = strictly_trans x c.name t.0.name c.under above }, t.1)
         | inr e ↦ (c, e)
       ]
@@ -102,12 +100,11 @@ module _ (below_dname : Bool) (L : List ZoneRecord) (a : Name) where
   pub top_occluder : (x : Name) → is_occluded below_dname L a x ≡ true → (c : OccluderAbove x) × (is_unoccluded below_dname L a c.name ≡ true)
   top_occluder x o =
       let t = top_within (length x) x (omega arith) o in
-      (t.0, and_from (is_at_or_below t.0.name a) (not (is_occluded below_dname L a t.0.name)) (occluder_below below_dname L a t.0.name t.0.over) (ap not t.1))
+      (t.0, and_from _ _ (occluder_below below_dname L a t.0.name t.0.over) (ap not t.1))
 
   -- a name that is the same is occluded alike
   pub occluded_same : (m n : Name) → same_name m n ≡ true → is_occluded below_dname L a m ≡ is_occluded below_dname L a n
-  occluded_same m n s = ap (λ k. list_any (λ r. occludes below_dname L a r.owner
-      && (lowered_below k (lowered r.owner) && not (same_lowered k (lowered r.owner)))) L) (one_lowered m n s)
+  occluded_same m n s = grind (arith, common_steps, one_lowered)
 
   -- and occludes alike
   pub occludes_same : (m n : Name) → same_name m n ≡ true → occludes below_dname L a m ≡ occludes below_dname L a n
@@ -119,8 +116,7 @@ module _ (below_dname : Bool) (L : List ZoneRecord) (a : Name) where
   owner_unoccluded n i = (in_filter (is_unoccluded below_dname L a) (distinct (map (λ r. r.owner) L)) n i).1
 
   record_of : (n : Name) → In n (unoccluded_owners below_dname L a) → (r : ZoneRecord) × In r L × (r.owner ≡ n)
-  record_of n i = from_map (λ r. r.owner) L n (in_distinct (map (λ r. r.owner) L) n
-      (in_filter (is_unoccluded below_dname L a) (distinct (map (λ r. r.owner) L)) n i).0)
+  record_of n i = grind (arith, common_steps, from_map, in_distinct, in_filter)
 
   -- whatever is the same as such an owner owns records
   pub owner_owns : (n x : Name) → In n (unoccluded_owners below_dname L a) → same_name n x ≡ true → owns L x ≡ true
@@ -129,5 +125,4 @@ module _ (below_dname : Bool) (L : List ZoneRecord) (a : Name) where
 -- ---- zone cuts
 
 pub cut_same : (L : List ZoneRecord) (a m n : Name) → same_name m n ≡ true → is_zone_cut L a m ≡ is_zone_cut L a n
-cut_same L a m n s = ap (λ k. (lowered_below k (lowered a) && not (same_lowered k (lowered a)))
-    && has_type (filter (λ r. same_lowered (lowered r.owner) k) L) ns) (one_lowered m n s)
+cut_same L a m n s = grind (arith, common_steps, one_lowered)

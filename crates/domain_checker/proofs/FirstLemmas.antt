@@ -18,9 +18,6 @@ module _ {X Y : Type 0} (p : Y → Bool) (f : X → Y) (xs : List X) (i : ℕ) (
   found_from : find p (map f (drop i xs)) ≡ cond (p (f x)) (Some (f x)) (find p (map f (drop (i + 1) xs)))
   found_from = grind (arith, common_steps)
 
-  pub found_here : p (f x) ≡ true → find p (map f (drop i xs)) ≡ Some (f x)
-  found_here e = found_from ∙ ap (λ b. cond b (Some (f x)) (find p (map f (drop (i + 1) xs)))) e
-
   pub found_later : p (f x) ≡ false → find p (map f (drop i xs)) ≡ find p (map f (drop (i + 1) xs))
   found_later e = found_from ∙ ap (λ b. cond b (Some (f x)) (find p (map f (drop (i + 1) xs)))) e
 

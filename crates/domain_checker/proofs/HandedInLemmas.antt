@@ -45,15 +45,12 @@ module _ {X V : Type 0} (p : X → Bool) (f : X → V) (xs : List X) (x : X) whe
 told : (a x : Name) (t : ℕ) (m c : Option Link) (matched covered : Option Verdict) → matched ≡ option_map (λ k. match_verdict a k t) m
     → (matched ≡ None → covered ≡ option_map (λ k. cover_verdict a k x) c)
     → option_or matched covered ≡ option_or (option_map (λ k. match_verdict a k t) m) (option_map (λ k. cover_verdict a k x) c)
-told a x t None c matched covered e f = (λ i. option_or (e i) covered) ∙ f e
-told a x t (Some k) c matched covered e f = λ i. option_or (e i) covered
+told a x t m c matched covered e f = grind (arith, common_steps)
 
 says : (a x : Name) (t : ℕ) (m c : Option Link) → unwrap_or
     (option_or (option_map (λ k. match_verdict a k t) m) (option_map (λ k. cover_verdict a k x) c)) NotProven
     ≡ verdict_of_both a x t m c
-says a x t (Some k) c = refl
-says a x t None None = refl
-says a x t None (Some k) = refl
+says a x t m c = grind (arith, common_steps)
 
 pub handed_in : (a x : Name) (t : ℕ) (listed : List Link) (check : NsecCheck) → HasRead a x t listed check
     → unwrap_or (option_or check.matched check.covered) NotProven ≡ list_verdict a listed x t

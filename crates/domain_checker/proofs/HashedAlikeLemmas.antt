@@ -11,20 +11,18 @@ use Rattle.domain_names.specs.Name.{is_at_or_below, lowered, same_name}
 use Rattle.domain_base.specs.Types.{ns}
 use Rattle.domain_names.specs.Words.{Label, Name}
 use Rattle.domain_bitmap.specs.Blocks.{contains_type}
-use Rattle.domain_chain_rdata.specs.OptOut.{is_opt_out}
 use Rattle.domain_zone.specs.Covering.{covers, matches}
 use Rattle.domain_zone.specs.Zone.{ZoneRecord, is_zone_cut}
 use Rattle.domain_zone.proofs.NameLemmas.{one_lowered, same_lowered}
 use Rattle.domain_nsec3.specs.Chain.{HashedLink}
-use Rattle.domain_nsec3.specs.Config.{ChainConfig, Parameters, hash_name}
+use Rattle.domain_nsec3.specs.Config.{ChainConfig, Parameters}
 use Rattle.domain_nsec3.specs.Meaning.{octets_before}
 use Rattle.domain_nsec3.specs.Owners.{original_owners}
 use Rattle.domain_checker.specs.Alike.{ArePaired, IsHashedAlike}
 use Rattle.domain_checker.specs.HashedList.{hash_in, is_hash_cover, is_hash_match, is_some_with, is_spelling, owner_hash, read_label, same_parameters}
 use Rattle.domain_checker.specs.HashedView.{HashedRecords, chain_records, first_cover, first_match, with_links}
-use Rattle.domain_checker.specs.HashedReading.{IsWalked, hash_cover_verdict, hash_match_verdict, tells_cut, told_verdict}
-use Rattle.domain_checker.specs.HashedVerdict.{IsFirst, hashed_proved_verdict, hashed_zone_verdict, is_covered, is_matched, is_ok_with, missing_verdict}
-use Rattle.domain_checker.specs.HashedVerdict.{next_closer, proves}
+use Rattle.domain_checker.specs.HashedReading.{IsWalked, hash_cover_verdict, tells_cut, told_verdict}
+use Rattle.domain_checker.specs.HashedVerdict.{IsFirst, hashed_proved_verdict, hashed_zone_verdict, is_covered, is_matched, next_closer, proves}
 use Rattle.domain_checker.specs.Verdict.{closest_encloser}
 use Rattle.domain_checker.specs.declared.verdict.Verdict.{Verdict}
 use Rattle.domain_checker.specs.declared.verdict.Verdict.TheVariants.{NotProven}
@@ -78,9 +76,6 @@ module _ (a : Name) (p : Parameters) (k l : HashedLink) (alike : IsHashedAlike k
   pub cut_alike : (d : Name) → tells_cut a d k ≡ tells_cut a d l
   cut_alike d = λ i. not (same_name d a) && contains_type (alike.bits i) ns
 
-  pub match_says_alike : (d : Name) (t : ℕ) → hash_match_verdict a d k t ≡ hash_match_verdict a d l t
-  match_says_alike d t = grind (arith, common_steps)
-
 -- ---- lists
 
 -- other records, each like the one at its place
@@ -89,12 +84,10 @@ module _ (R : HashedRecords) (ls : List HashedLink) (alike : ArePaired IsHashedA
   S = with_links R ls
 
   pub matched_alike : (n : Name) → is_matched R n ≡ is_matched S n
-  matched_alike n = λ i. is_ok_with (λ v. any_alike IsHashedAlike (is_hash_match R.apex R.parameters v)
-      (λ k l h. hash_match_alike R.apex R.parameters k l h v) R.links ls alike i) (hash_name R.hash n)
+  matched_alike n = grind (arith, common_steps, any_alike, hash_match_alike)
 
   pub covered_alike : (n : Name) → is_covered R n ≡ is_covered S n
-  covered_alike n = λ i. is_ok_with (λ v. any_alike IsHashedAlike (is_hash_cover R.apex R.parameters v)
-      (λ k l h. hash_cover_alike R.apex R.parameters k l h v) R.links ls alike i) (hash_name R.hash n)
+  covered_alike n = grind (arith, common_steps, any_alike, hash_cover_alike)
 
   pub matching : (v : Octets) → OptionsPaired IsHashedAlike (first_match R v) (first_match S v)
   matching v = find_alike IsHashedAlike (is_hash_match R.apex R.parameters v) (λ k l h. hash_match_alike R.apex R.parameters k l h v) R.links ls alike
@@ -117,15 +110,11 @@ module _ (R : HashedRecords) (ls : List HashedLink) (alike : ArePaired IsHashedA
       by (Some l) f h = (l, subst (OptionsPaired IsHashedAlike (Some k)) f h, f)
 
   cover_says_alike : (count : ℕ) (m n : Option HashedLink) → OptionsPaired IsHashedAlike m n → hash_cover_verdict count m ≡ hash_cover_verdict count n
-  cover_says_alike count None None h = refl
-  cover_says_alike count None (Some l) h = absurd h
-  cover_says_alike count (Some k) None h = absurd h
-  cover_says_alike count (Some k) (Some l) h = ap (λ f. missing_verdict (is_opt_out f) count) h.flags
+  cover_says_alike count m n h = grind (arith, common_steps)
 
   told_alike : (d : Name) (k l : HashedLink) → IsHashedAlike k l → (t : ℕ) (next : Option Octets)
       → told_verdict R d k t next ≡ told_verdict S d l t next
-  told_alike d k l h t None = match_says_alike R.apex R.parameters k l h d t
-  told_alike d k l h t (Some v) = grind (arith, common_steps, cover_says_alike, covering)
+  told_alike d k l h t next = grind (arith, common_steps, cover_says_alike, covering)
 
   module _ (x : Name) (t : ℕ) (verdict : Verdict) where
     pub walked_alike : IsWalked R x t verdict → IsWalked S x t verdict

@@ -1,5 +1,5 @@
 -- What the closest encloser tells of a name is what the way from the name to the apex gives.
-use Rattle.std.proofs.Common.{◌≡◌, ℕ, true, false, cond, not, ◌&&◌, List, length, refl, sym, ap, ◌∙◌, inl, inr, nat_eq, Option, Some, None, arith}
+use Rattle.std.proofs.Common.{◌≡◌, ℕ, true, false, cond, not, ◌&&◌, List, length, sym, ap, ◌∙◌, inl, inr, nat_eq, Option, Some, None, arith}
 use Rattle.std.proofs.lemmas.Bool.{cases_Bool, false≢true}
 use Rattle.std.specs.List.{Contains}
 use Rattle.domain_octets.specs.Words.{Octets}
@@ -13,7 +13,7 @@ use Rattle.domain_zone.proofs.FindLemmas.{in_at, stands_from}
 use Rattle.domain_nsec3.specs.Chain.{HashedLink}
 use Rattle.domain_nsec3.specs.Config.{ChainConfig}
 use Rattle.domain_nsec3.specs.Meaning.{IsAlone}
-use Rattle.domain_nsec3.specs.Owners.{is_chain_name, nsec3_lists}
+use Rattle.domain_nsec3.specs.Owners.{nsec3_lists}
 use Rattle.domain_checker.specs.HashedFacts.{ChainFacts}
 use Rattle.domain_checker.specs.HashedList.{is_hash_cover, is_hash_match}
 use Rattle.domain_checker.specs.HashedView.{HashedRecords}
@@ -62,8 +62,7 @@ module _ (R : HashedRecords) (x : Name) (e : Encloser)
 -- what is found gives what the way gives
 pub found_walked : (R : HashedRecords) (x : Name) (t : ℕ) (o : Option Encloser)
     → IsFoundEncloser R x o → IsWalked R x t (found_verdict R.apex o (length x) t)
-found_walked R x t None none = inr (refl, none)
-found_walked R x t (Some e) is = inl (encloser_told R x e is t)
+found_walked R x t o none = grind (arith, common_steps, encloser_told)
 
 -- a name that is not at or below the apex has no ancestor there
 pub outside_unmatched : (R : HashedRecords) (x : Name)
@@ -91,7 +90,7 @@ module _ (L : List ZoneRecord) (a : Name) (config : ChainConfig) (links : List H
       let s = stands_from links k there in
       let i = in_at links s.place k s.there in
       record {
-        absent = facts.exist x low ∙ elim (cases_Bool (is_chain_name L a config x)) [
+        absent = facts.exist x low ∙ elim (cases_Bool _) [
           | inl e ↦ absurd (covered_never L a config links facts x low v alone e k i s h)
           | inr e ↦ e
         ];

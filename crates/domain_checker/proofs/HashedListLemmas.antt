@@ -1,6 +1,6 @@
 -- What a record of an NSEC3 chain says of the hash of a name that no other name of the chain has.
-use Rattle.std.proofs.Common.{◌≡◌, ℕ, Bool, zero, suc, true, cond, not, ◌&&◌, ◌||◌, List, [], ◌∷◌, map, refl, sym, ap, ◌∙◌, inr, eq-eqb, Some, slice_get}
-use Rattle.std.specs.List.{AllByRecursion, list_any}
+use Rattle.std.proofs.Common.{◌≡◌, ℕ, Bool, zero, suc, true, cond, not, ◌&&◌, ◌||◌, List, [], ◌∷◌, map, refl, sym, ap, ◌∙◌, inr, eq-eqb, Some, slice_get, arith}
+use Rattle.std.specs.List.{AllByRecursion}
 use Rattle.std.specs.Cmp.Lexicographic.{nat_list_cmp_total, slice_cmp, bytes_decides}
 use Rattle.std.specs.Ordering.{nat_cmp, is_lt, is_eq, ordering_reverse}
 use Rattle.std.specs.declared.cmp.Ordering.{Ordering}
@@ -27,8 +27,7 @@ use Rattle.domain_nsec3.specs.Owners.{is_chain_name, nsec3_lists}
 use Rattle.domain_checker.specs.HashedFacts.{ChainFacts}
 use Rattle.domain_checker.specs.HashedList.{same_parameters, is_spelling, owner_hash, is_some_with, is_hash_match, is_hash_cover}
 use Rattle.domain_checker.specs.HashedView.{chain_records}
-use Rattle.domain_checker.specs.HashedVerdict.{is_covered, is_matched, is_ok_with}
-use Rattle.std.proofs.Common.{arith}
+use Rattle.domain_checker.specs.HashedVerdict.{is_covered, is_matched}
 use Rattle.std.proofs.lemmas.Grind.{common_steps}
 
 -- octets that the order cannot tell apart
@@ -64,8 +63,7 @@ pub spelled_back : ((h : Octets) → AreOctets h → IsBase32 (base32_lower h) h
 spelled_back reads_back h o = grind (arith, common_steps, list_all-from_AllPass)
 
 pub parameters_tie : (p : Parameters) → same_parameters p p ≡ true
-parameters_tie p =
-    λ j. (eq-eqb p.algorithm p.algorithm refl j && eq-eqb p.iterations p.iterations refl j) && (bytes_decides p.salt p.salt).1 refl j
+parameters_tie p = λ j. (eq-eqb p.algorithm _ refl j && eq-eqb p.iterations _ refl j) && (bytes_decides p.salt p.salt).1 refl j
 
 pub hashes_octets : (L : List ZoneRecord) (a : Name) (config : ChainConfig) (names : List HashedName)
     → AllByRecursion (IsOfChain L a config) names → AllByRecursion AreOctets (map (λ n. n.hash) names)
@@ -77,20 +75,19 @@ module _ (L : List ZoneRecord) (a : Name) (config : ChainConfig) (links : List H
   record_at k s =
       let chain = facts.chain in
       let hashes = map (λ n. n.hash) chain.names in
-      let e = end_at a links (cycle hashes) chain.linked s.place k s.there in (
+      let e = end_at a links _ chain.linked s.place k s.there in (
         e.0.0,
         record {
           there = s.there;
           spelled = e.2;
-          octets = all_in AreOctets hashes e.0.0 (hashes_octets L a config chain.names
-              (recursion_from_All (IsOfChain L a config) chain.names chain.sound)) (in_cycle hashes e.0 e.1);
+          octets = all_in AreOctets hashes _ (hashes_octets L a config _
+              (recursion_from_All _ _ chain.sound)) (in_cycle hashes e.0 e.1);
         },
       )
 
   pub told_at : (k : HashedLink) → In k links → (k.parameters ≡ config.parameters) × (k.flags ≡ config.flags)
   told_at k i =
-      all_in (λ k. (k.parameters ≡ config.parameters) × (k.flags ≡ config.flags)) links k
-      (recursion_from_All (λ k. (k.parameters ≡ config.parameters) × (k.flags ≡ config.flags)) links facts.chain.told) i
+      all_in (λ k. (k.parameters ≡ config.parameters) × (k.flags ≡ config.flags)) links k (recursion_from_All _ links facts.chain.told) i
 
   -- no record of the chain is passed over
   pub hash_at : (k : HashedLink) → In k links → (h : Octets) → AreOctets h → k.owner ≡ hashed_owner a h → owner_hash a config.parameters k ≡ Some h
@@ -99,18 +96,10 @@ module _ (L : List ZoneRecord) (a : Name) (config : ChainConfig) (links : List H
   -- what a record of the chain says of the hash of a name, a list says that has the record
   module _ (listed : List HashedLink) (has : (k : HashedLink) → In k links → In k listed) (d : Name) where
     pub matched_in : IsMatched a config links d → is_matched (chain_records a config listed) d ≡ true
-    matched_in m =
-        let i = in_at links m.place m.link m.is.there in
-        ap (is_ok_with (λ v. list_any (is_hash_match a config.parameters v) listed)) m.known
-        ∙ in_any (is_hash_match a config.parameters m.value) listed m.link (has m.link i)
-        (ap (is_some_with (λ h. matches octets_before h m.value)) (hash_at m.link i m.hash m.is.octets m.is.spelled) ∙ m.says)
+    matched_in m = grind (arith, common_steps, in_any, hash_at, (in_at links m.place m.link m.is.there))
 
     pub covered_in : IsCovered a config links d → is_covered (chain_records a config listed) d ≡ true
-    covered_in m =
-        let i = in_at links m.place m.link m.is.there in
-        ap (is_ok_with (λ v. list_any (is_hash_cover a config.parameters v) listed)) m.known
-        ∙ in_any (is_hash_cover a config.parameters m.value) listed m.link (has m.link i)
-        (ap (is_some_with (λ h. covers octets_before h m.link.next m.value)) (hash_at m.link i m.hash m.is.octets m.is.spelled) ∙ m.says)
+    covered_in m = grind (arith, common_steps, in_any, hash_at, (in_at links m.place m.link m.is.there))
 
   -- the place of the record that says something of d, where no other name of the chain has its hash
   module _ (d : Name) (low : is_at_or_below d a ≡ true) (v : Octets) (alone : IsAlone L a config d v) where

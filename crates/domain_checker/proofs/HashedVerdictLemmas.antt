@@ -14,7 +14,7 @@ use Rattle.domain_bitmap.specs.Bitmap.{bitmap_octets}
 use Rattle.domain_bitmap.specs.Blocks.{contains_type, types_of, types_below}
 use Rattle.domain_chain_rdata.specs.OptOut.{is_opt_out}
 use Rattle.domain_zone.specs.Enclosers.{exists_over, IsClosestEncloser}
-use Rattle.domain_zone.specs.Zone.{ZoneRecord, has_type, is_zone_cut, owns, records_of, unoccluded_owners}
+use Rattle.domain_zone.specs.Zone.{ZoneRecord, has_type, is_zone_cut, owns, records_of}
 use Rattle.domain_zone.proofs.NameLemmas.{one_lowered, below_itself, below_trans, below_longer, below_length, strictly_from, same_length}
 use Rattle.domain_zone.proofs.PairLemmas.{In}
 use Rattle.domain_zone.proofs.OwnerLemmas.{any_in, in_any, typed_owns}
@@ -23,7 +23,7 @@ use Rattle.domain_zone.proofs.FindLemmas.{any_none, in_at, in_filter, find_some,
 use Rattle.domain_nsec3.specs.Chain.{HashedLink, IsHashedChain}
 use Rattle.domain_nsec3.specs.Config.{ChainConfig, hash_name}
 use Rattle.domain_nsec3.specs.Meaning.{AreAlone, IsAlone}
-use Rattle.domain_nsec3.specs.Owners.{is_chain_name, is_empty, is_excluded, is_original_owner, nsec3_lists, original_owners}
+use Rattle.domain_nsec3.specs.Owners.{is_chain_name, is_empty, is_original_owner, nsec3_lists, original_owners}
 use Rattle.domain_checker.specs.HashedFacts.{ChainFacts, ChainsAreKnown}
 use Rattle.domain_checker.specs.HashedList.{is_hash_match, is_hash_cover}
 use Rattle.domain_checker.specs.HashedReading.{is_none, tells_cut, hash_match_verdict, hash_cover_verdict, told_verdict, IsNextHash, IsUnmatched, IsWalked}
@@ -62,7 +62,7 @@ filter_some p (t ∷ ts) h =
 in_range : (n t : ℕ) → t < n → In t (range_with_len 0 n)
 in_range n t l =
     let within : t < length (range_with_len 0 n) = subst (λ m. t < m) (sym (length-range_with_len 0 n)) l in
-    in_at (range_with_len 0 n) t t (slice_get-get_or (range_with_len 0 n) t 0 within ∙ ap Some (get_or-range_with_len 0 n t 0 l ∙ omega arith))
+    in_at _ t t (slice_get-get_or _ t 0 within ∙ ap Some (get_or-range_with_len 0 n t 0 l ∙ omega arith))
 
 nil_some : (types : ℕ → Bool) → types_of (bitmap_octets types) ≡ types_below 65536 types → (t : ℕ) → t < 65536 → types t ≡ true
     → is_none (types_of (bitmap_octets types)) ≡ false
@@ -84,9 +84,8 @@ module _ (L : List ZoneRecord) (a : Name) (config : ChainConfig) where
 
   original_owns : (x : Name) → is_original_owner L a config x ≡ true → owns L x ≡ true
   original_owns x h =
-      let m = any_in (λ n. same_name n x) (original_owners L a config) h in
-      owner_owns config.occlude_below_dname L a m.0 x (in_filter (λ n. not (is_excluded L a config n))
-      (unoccluded_owners config.occlude_below_dname L a) m.0 m.1).0 m.2
+      let m = any_in _ _ h in
+      owner_owns _ L a m.0 x (in_filter _ _ m.0 m.1).0 m.2
 
   -- a name of the chain that is no original owner lists nothing
   empty_lists : (x : Name) → is_chain_name L a config x ≡ true → is_original_owner L a config x ≡ false → (t : ℕ) → nsec3_lists L a config x t ≡ false
@@ -397,20 +396,12 @@ module _ (R : HashedRecords) (x : Name) (t : ℕ) where
           ap (is_ok_with (λ v. list_any (is_hash_cover R.apex R.parameters v) R.links)) s.1 ∙ in_any (is_hash_cover R.apex R.parameters w) R.links r g.0 g.1
 
   pub walked_has_proof : (verdict : Verdict) → IsWalked R x t verdict → verdict ≢ NotProven → HasHashedProof R x
-  walked_has_proof verdict (inl w) n = told_has_proof w.name w.link w.value w.next w.first w.known w.found w.closes (λ e. n (w.says ∙ e))
-  walked_has_proof verdict (inr w) n = absurd (n w.0)
+  walked_has_proof verdict h n = grind (arith, common_steps, told_has_proof)
 
   -- the number is that of the labels of an ancestor
 
-  within_match : (n : ℕ) (b c e : Bool) → IsWithin n (cond b Has (cond c BelowDelegation (cond e EmptyName NoType)))
-  within_match n true c e = tt
-  within_match n false true e = tt
-  within_match n false false true = tt
-  within_match n false false false = tt
-
   within_told : (n : ℕ) (d : Name) (k : HashedLink) (next : Option Octets) → length d ≤ n → IsWithin n (told_verdict R d k t next)
-  within_told n d k None l = within_match n (contains_type k.bits t) (tells_cut R.apex d k && not (nat_eq t ds)) (is_none (types_of k.bits))
-  within_told n d k (Some w) l = grind (arith, common_steps)
+  within_told n d k next l = grind (arith, common_steps)
 
   pub walked_within : (verdict : Verdict) → IsWalked R x t verdict → IsWithin (length x) verdict
   walked_within verdict (inl w) = subst (IsWithin (length x)) (sym w.says) (within_told (length x) w.name w.link w.next (below_length x w.name w.first.above))
@@ -419,8 +410,7 @@ module _ (R : HashedRecords) (x : Name) (t : ℕ) where
 -- records with the hasher and the parameters of a chain
 pub as_chain : (R : HashedRecords) (config : ChainConfig) → config.hash ≡ R.hash → config.parameters ≡ R.parameters
     → R ≡ chain_records R.apex config R.links
-as_chain R config hash parameters =
-    λ i. record { links = R.links; apex = R.apex; parameters = sym parameters i; hash = sym hash i }
+as_chain R config hash parameters = grind (arith, common_steps)
 
 -- for records of the chain of any zone
 pub walked_proved : ChainsAreKnown → (R : HashedRecords) (x : Name) (t : ℕ) (verdict : Verdict) → t < 65536
@@ -444,7 +434,7 @@ pub whole_chain_proves : ChainsAreKnown → (L : List ZoneRecord) (a : Name) (co
     (x : Name) (t : ℕ) → IsHashedChain L a config links → AreAlone L a config x
     → hashed_proved_verdict L a config links x t ≡ hashed_zone_verdict L a config x t
 whole_chain_proves knows L a config links x t chain free =
-    elim (cases_Bool (is_at_or_below x a)) [
+    elim (cases_Bool _) [
       | inl e ↦
           let whole = whole_proves L a config links (knows L a config links chain) links (stands_in links) x e free (λ k i. i) in
           (λ i. cond (not (e i) || whole i) (hashed_zone_verdict L a config x t) NotProven)

@@ -1,11 +1,9 @@
 -- The names from x up to the apex: which of them are passed, and the hash of the next closer name.
-use Rattle.std.proofs.Common.{◌≡◌, ℕ, ◌+◌, ◌-◌, ◌≤◌, ◌<◌, zero, suc, true, false, not, [], ◌∷◌, ◌++◌, map, length, drop, refl, sym, ap, ◌∙◌, inl, inr, Option}
-use Rattle.std.proofs.Common.{Some, None, arith}
+use Rattle.std.proofs.Common.{◌≡◌, ℕ, ◌+◌, ◌-◌, ◌≤◌, ◌<◌, zero, suc, true, false, not, [], ◌∷◌, length, drop, sym, ap, ◌∙◌, inl, inr, Option, Some, None, arith}
 use Rattle.std.specs.Prelude.{Ok, Err}
-use Rattle.std.specs.Char.{to_ascii_lowercase}
 use Rattle.std.specs.List.{list_any}
 use Rattle.std.proofs.lemmas.Bool.{cases_Bool, cases_lt, false≢true, and_from}
-use Rattle.std.proofs.lemmas.List.{length-drop, length-map}
+use Rattle.std.proofs.lemmas.List.{length-drop}
 use Rattle.domain_octets.specs.Words.{Octets}
 use Rattle.domain_names.specs.Name.{is_at_or_below, is_strictly_below, lowered, same_name, wire_of}
 use Rattle.domain_names.specs.Words.{Label, Name}
@@ -38,22 +36,15 @@ pub record IsCloser (x d : Name) : Type 0 where
 
 pub closer_is : (x d : Name) → is_at_or_below x d ≡ true → length d < length x → IsCloser x d
 closer_is x d p l =
-    let up = below_drop (length x - (length d + 1)) x in
+    let up = below_drop _ x in
     let n : length (drop (length x - (length d + 1)) x) ≡ length d + 1 = omega (arith, length-drop (length x - (length d + 1)) x) in
     record {
       above = up;
       long = n;
-      below = strictly_from (next_closer x d) d (below_longer x (next_closer x d) d up p (omega (arith, n))) (omega (arith, n));
+      below = strictly_from _ d (below_longer x _ d up p (omega (arith, n))) (omega (arith, n));
     }
 
 -- ---- wire forms
-
-pub wire_shorter : (l : Label) (x : Name) → length l + 1 ≤ length (wire_of (lowered (l ∷ x)))
-wire_shorter l x = omega (arith, length-map l to_ascii_lowercase, length-append-wire (map to_ascii_lowercase l) (wire_of (lowered x)))
-  where
-    length-append-wire : (u v : Octets) → length u ≤ length (u ++ v)
-    length-append-wire [] v = omega arith
-    length-append-wire (o ∷ u) v = omega (arith, length-append-wire u v)
 
 pub wire_above : (l : Label) (x : Name) → drop (length l + 1) (wire_of (lowered (l ∷ x))) ≡ wire_of (lowered x)
 wire_above l x = grind (arith, common_steps)
@@ -179,21 +170,4 @@ module _ (R : HashedRecords) where
     pub encloser_here : is_at_or_below x R.apex ≡ true → (k : HashedLink) (wire : Octets) (covering : Option HashedLink)
         → wire ≡ wire_of (lowered x) → IsLookedUp R wire (Some k) covering → (n : ℕ) → n ≡ length x
         → IsEncloser R x (record { count = n; link = k; cover = None })
-    encloser_here low k wire covering e looked n counts =
-        let known = ap R.hash (sym e) ∙ looked.known in
-        record {
-          name = x;
-          counts = counts;
-          first = record {
-            above = below_itself x;
-            within = low;
-            found = some_matched x looked.value k known (sym looked.found.matching);
-            first = none_first;
-          };
-          value = looked.value;
-          known = known;
-          found = sym looked.found.matching;
-          next = None;
-          closes = same_itself x x refl;
-          covers = refl;
-        }
+    encloser_here low k wire covering e looked n counts = grind (arith, common_steps, some_matched, same_itself)

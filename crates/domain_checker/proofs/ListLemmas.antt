@@ -33,7 +33,7 @@ meant_keeping : ChainLaws → (L : List ZoneRecord) (a : Name) (config : Generat
 meant_keeping laws L a config links keeps order chain =
     let is : config ≡ config_with false config.assume_dnskeys_will_be_added =
     λ i. record { assume_dnskeys_will_be_added = config.assume_dnskeys_will_be_added; occlude_below_dname = keeps i } in
-    meant_by laws false L a config.assume_dnskeys_will_be_added links order (subst (λ c. IsChain L a c links) is chain)
+    meant_by laws false L a _ links order (subst (λ c. IsChain L a c links) is chain)
 
 -- ---- records of a chain
 

@@ -1,8 +1,8 @@
 -- What the laws of chains say of the records of one, whether it keeps what stands below a DNAME or not.
-use Rattle.std.proofs.Common.{◌≡◌, ℕ, ◌<◌, Bool, true, false, cond, not, ◌&&◌, ◌||◌, List, length, refl, sym, ap, ◌∙◌, subst, inl, inr, ◌⊎◌, Some, None}
+use Rattle.std.proofs.Common.{◌≡◌, ℕ, ◌<◌, Bool, true, false, not, ◌&&◌, ◌||◌, List, length, refl, sym, ap, ◌∙◌, subst, inl, inr, ◌⊎◌, Some, None}
 use Rattle.std.proofs.Common.{slice_get, arith}
 use Rattle.std.specs.List.{find, list_any}
-use Rattle.std.proofs.lemmas.Bool.{cases_Bool, false≢true, and_parts, and_from, or_left, or_right, not-true}
+use Rattle.std.proofs.lemmas.Bool.{cases_Bool, false≢true, and_parts, and_from, or_right, not-true}
 use Rattle.std.proofs.lemmas.List.Elements.{recursion_from_All}
 use Rattle.domain_names.specs.Name.{is_at_or_below, is_strictly_below, lowered, same_name}
 use Rattle.domain_names.specs.Order.{before}
@@ -82,9 +82,7 @@ module _ (below_dname : Bool) (L : List ZoneRecord) (a : Name) (assume : Bool) (
 
   pub ends : (k : Link) → In k links → In k.owner (unoccluded_owners below_dname L a)
       × (In k.next (unoccluded_owners below_dname L a) ⊎ (a ≡ k.next))
-  ends k i =
-      in_pairs owners a (k.owner, k.next)
-      (subst (λ ps. In (k.owner, k.next) ps) meant.chain.names (in_map (λ k. (k.owner, k.next)) links k i))
+  ends k i = in_pairs owners a _ (subst (λ ps. In (k.owner, k.next) ps) meant.chain.names (in_map (λ k. (k.owner, k.next)) links k i))
 
   pub owner_low : (n : Name) → In n (unoccluded_owners below_dname L a) → is_at_or_below n a ≡ true
   owner_low n i = (and_parts (is_at_or_below n a) (not (is_occluded below_dname L a n)) (owner_unoccluded below_dname L a n i)).0
@@ -99,15 +97,15 @@ module _ (below_dname : Bool) (L : List ZoneRecord) (a : Name) (assume : Bool) (
   -- some record of the chain matches or covers each name of the zone
   pub some_link : (x : Name) → is_at_or_below x a ≡ true → list_any (λ k. matches_or_covers before k.owner k.next x) links ≡ true
   some_link x low =
-      elim (cases_Bool (is_occluded below_dname L a x)) [
+      elim (cases_Bool _) [
         | inl e ↦
             let top = top_occluder below_dname L a x e in
             let r = meant.occluded.each top.0.name x top.0.over top.1 top.0.under in
-            in_any (λ k. matches_or_covers before k.owner k.next x) links r.link (in_at links r.place r.link r.there)
+            in_any _ links r.link (in_at links r.place _ r.there)
             (or_right (matches before r.link.owner x) (covers before r.link.owner r.link.next x) r.covered)
         | inr e ↦
             let r = meant.denial.each x low e in
-            in_any (λ k. matches_or_covers before k.owner k.next x) links r.link (in_at links r.place r.link r.there) r.says
+            in_any _ links r.link (in_at links r.place _ r.there) r.says
       ]
 
   module _ (alike : IgnoresCase L a assume) (sets : BitmapsAreSets) where
@@ -142,8 +140,7 @@ module _ (below_dname : Bool) (L : List ZoneRecord) (a : Name) (assume : Bool) (
     says = or_right (matches before k.owner x) (covers before k.owner k.next x) c
 
     other : matches before k.owner x ≡ false
-    other = not-true (matches before k.owner x) (and_parts (not (matches before k.owner x))
-        (cond (before k.owner k.next) (before k.owner x && before x k.next) (before k.owner x || before x k.next)) c).0
+    other = grind (arith, common_steps)
 
     -- a name that is not occluded owns nothing
     pub covered_unowned : is_occluded below_dname L a x ≡ false → owns L x ≡ false
@@ -209,17 +206,11 @@ module _ (below_dname : Bool) (L : List ZoneRecord) (a : Name) (assume : Bool) (
   heard k i e = in_any (λ k. matches_or_covers before k.owner k.next y) listed k i e
 
   pub match_of : (k : Link) → find (is_match a y) listed ≡ Some k → In k links × (matches before k.owner y ≡ true) × (has_match_or_cover listed y ≡ true)
-  match_of k e =
-      let r = find_some (is_match a y) listed k e in
-      let m = (and_parts (matches before k.owner y) (is_inside a k) r.1).0 in
-      (in_links k r.0, m, heard k r.0 (or_left (matches before k.owner y) (covers before k.owner k.next y) m))
+  match_of k e = grind (arith, common_steps, in_links, heard, (find_some (is_match a y) listed k e))
 
   pub cover_of : (k : Link) → find (is_cover a y) listed ≡ Some k
       → Stands links k × (covers before k.owner k.next y ≡ true) × (has_match_or_cover listed y ≡ true)
-  cover_of k e =
-      let r = find_some (is_cover a y) listed k e in
-      let c = (and_parts (covers before k.owner k.next y) (is_inside a k) r.1).0 in
-      (among k r.0, c, heard k r.0 (or_right (matches before k.owner y) (covers before k.owner k.next y) c))
+  cover_of k e = grind (arith, common_steps, heard, (find_some (is_cover a y) listed k e))
 
   pub silent : find (is_match a y) listed ≡ None → find (is_cover a y) listed ≡ None → has_match_or_cover listed y ≡ false
   silent e f =

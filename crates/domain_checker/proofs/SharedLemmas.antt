@@ -1,5 +1,5 @@
 -- The name that two names share has as many labels as they share from the root on.
-use Rattle.std.proofs.Common.{◌≡◌, ◌+◌, ◌≤◌, max, Bool, true, false, cond, [], ◌∷◌, ◌++◌, map, reverse, length, refl, sym, ap, ◌∙◌, inl, inr, arith, nat_eq}
+use Rattle.std.proofs.Common.{◌≡◌, ◌+◌, ◌≤◌, Bool, true, false, cond, [], ◌∷◌, ◌++◌, map, reverse, length, refl, sym, ap, ◌∙◌, inl, inr, arith, nat_eq}
 use Rattle.std.specs.List.{common_prefix_len}
 use Rattle.std.specs.Cmp.Lexicographic.{pointwise, bytes_decides}
 use Rattle.std.specs.Char.{to_ascii_lowercase}
@@ -9,7 +9,7 @@ use Rattle.domain_names.specs.Laws.{from_root-below, below-from_root}
 use Rattle.domain_names.specs.Name.{lowered, is_at_or_below}
 use Rattle.domain_names.specs.Order.{from_root, common_labels}
 use Rattle.domain_names.specs.Words.{Label, Name}
-use Rattle.domain_zone.specs.Enclosers.{shared, longer}
+use Rattle.domain_zone.specs.Enclosers.{shared}
 use Rattle.domain_zone.proofs.NameLemmas.{below_there, below_back}
 use Rattle.std.proofs.lemmas.Grind.{common_steps}
 
@@ -27,13 +27,13 @@ common_front : (us : Name) (n : Label) (ws : Name) → ((rest : Name) → ws ≡
     → common_prefix_len same_label (us ++ n ∷ []) ws ≡ common_prefix_len same_label us ws
 common_front [] n [] h = refl
 common_front [] n (w ∷ ws) h =
-    elim (cases_Bool (same_label n w)) [
+    elim (cases_Bool _) [
       | inl t ↦ absurd (h ws (ap (λ m. m ∷ ws) (sym ((bytes_decides n w).0 t))))
       | inr f ↦ λ i. cond (f i) (1 + common_prefix_len same_label [] ws) 0
     ]
 common_front (u ∷ us) n [] h = refl
 common_front (u ∷ us) n (w ∷ ws) h =
-    elim (cases_Bool (same_label u w)) [
+    elim (cases_Bool _) [
       | inl t ↦
           let same : u ≡ w = (bytes_decides u w).0 t in
           let up = common_front us n ws (λ rest p. h rest (λ j. sym same j ∷ p j)) in
@@ -65,7 +65,3 @@ shared_length (l ∷ x) y =
 pub shared_within : (x y : Name) → length (shared x y) ≤ length x
 shared_within [] y = omega arith
 shared_within (l ∷ x) y = grind (arith, common_steps, (shared_within x y))
-
--- the longer of two
-pub longer_length : (e f : Name) → max (length e) (length f) ≡ length (longer e f)
-longer_length e f = grind (arith, common_steps)

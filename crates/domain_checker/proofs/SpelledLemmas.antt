@@ -29,9 +29,7 @@ ends_before (x ∷ xs) h = refl
 
 -- two orderings are compared by their numbers
 pub equal_by : (o : Ordering) → not (nat_eq (ordering_index o) 1) ≡ false → o ≡ Equal
-equal_by Less h = absurd (true≢false h)
-equal_by Equal h = refl
-equal_by Greater h = absurd (true≢false h)
+equal_by o h = grind (arith, common_steps)
 
 pub apart_by : (o : Ordering) → not (nat_eq (ordering_index o) 1) ≡ true → o ≢ Equal
 apart_by o h e = false≢true (sym (ap (λ r. not (nat_eq (ordering_index r) 1)) e) ∙ h)

@@ -59,6 +59,7 @@ fn hash_label<'a, A: ToName, O: Octets, N: ToName>(
 }
 
 /// Whether a record matches the hash, by the label that spells its own.
+#[tactic(auto, using(crate::proofs::HashedListLemmas::tied_is))]
 fn is_match(label: Option<&[u8]>, hash: &[u8]) -> bool
     ensures { result ≡ is_some_with (λ h. matches octets_before h hash.now)
         (option_map (λ l. read_label l.now) label.entry) }
@@ -71,6 +72,7 @@ fn is_match(label: Option<&[u8]>, hash: &[u8]) -> bool
 
 /// Whether the hash lies between the one that the label spells and the next one, or on either side
 /// of the two where the next one is not after the first.
+#[tactic(auto, using(crate::proofs::HashedListLemmas::tied_is))]
 fn lies_between(label: &[u8], next: &[u8], hash: &[u8]) -> bool
     ensures { result ≡ covers octets_before (read_label label.now) next.now hash.now }
 {

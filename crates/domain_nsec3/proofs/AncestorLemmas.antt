@@ -1,6 +1,6 @@
 -- The names above a name, and those above the owners of a list, collected one owner after another.
 use Rattle.std.proofs.Common.{◌≡◌, ℕ, ◌+◌, ◌≤◌, ◌<◌, Bool, true, false, cond, ◌||◌, List, [], ◌∷◌, ◌++◌, length, refl, sym, ap, ◌∙◌, arith, inl, inr}
-use Rattle.std.specs.Prelude.{nat_le, nat_lt}
+use Rattle.std.specs.Prelude.{nat_lt}
 use Rattle.std.specs.List.{AllByRecursion, list_any}
 use Rattle.std.proofs.lemmas.Bool.{cases_Bool, false≢true, leb-true, or_cases, or_left, or_right}
 use Rattle.std.proofs.lemmas.Bool.Decides.{nat_tests}
@@ -8,8 +8,7 @@ use Rattle.std.proofs.lemmas.List.{append-nil}
 use Rattle.std.proofs.lemmas.List.Folds.{list_any-append}
 use Rattle.domain_names.specs.Name.{is_at_or_below, is_strictly_below, same_name}
 use Rattle.domain_names.specs.Words.{Name}
-use Rattle.domain_zone.proofs.NameLemmas.{one_lowered, same_itself, below_itself, below_trans, below_longer, below_length}
-use Rattle.domain_zone.proofs.NameLemmas.{strictly_longer, strictly_from, below_parent}
+use Rattle.domain_zone.proofs.NameLemmas.{one_lowered, same_itself, below_itself, below_trans, below_longer, strictly_from, below_parent}
 use Rattle.domain_zone.proofs.PairLemmas.{all_in}
 use Rattle.domain_zone.proofs.OwnerLemmas.{any_in}
 use Rattle.domain_zone.proofs.ZoneLemmas.{weaker, all_both}
@@ -39,13 +38,13 @@ pub are_above : (n : ℕ) (o : Name) → AllByRecursion (IsAbove n o) (above_wit
 are_above n [] = tt
 are_above n (label ∷ x) =
     elim (nat_lt n (length x)) as (λ b. nat_lt n (length x) ≡ b → AllByRecursion (IsAbove n (label ∷ x)) (cond b (above_with_more n x ++ x ∷ []) [])) [
-      | true ↦ λ e. all_both (IsAbove n (label ∷ x)) (above_with_more n x) (x ∷ [])
-          (weaker (IsAbove n x) (IsAbove n (label ∷ x)) (λ m h. (
+      | true ↦ λ e. all_both _ _ _
+          (weaker _ _ (λ m h. (
             below_trans (label ∷ x) x m (below_parent label x) h.0,
             omega (arith, h.1),
             h.2,
-          )) (above_with_more n x) (are_above n x))
-          ((below_parent label x, omega arith, is_less n (length x) e), tt)
+          )) _ (are_above n x))
+          ((below_parent label x, omega arith, is_less n _ e), tt)
       | false ↦ λ e. tt
     ] refl
 
@@ -56,10 +55,10 @@ has_each n (label ∷ o) x h more fewer =
     let above : is_at_or_below o x ≡ true = sym (cons_below label o x up) ∙ h in
     let there : list_any (λ m. same_name m x) (above_with_more n o ++ o ∷ [])
     ≡ true = list_any-append (λ m. same_name m x) (above_with_more n o) (o ∷ [])
-    ∙ elim (cases_Bool (nat_le (length o) (length x))) [
-      | inl l ↦ or_right (list_any (λ m. same_name m x) (above_with_more n o)) (same_name o x || false)
-          (or_left (same_name o x) false (same_itself o x (at_length o x above (leb-true (length o) (length x) l))))
-      | inr l ↦ or_left (list_any (λ m. same_name m x) (above_with_more n o)) (same_name o x || false) (has_each n o x above more (grind (arith, nat_tests)))
+    ∙ elim (cases_Bool _) [
+      | inl l ↦ or_right (list_any (λ m. same_name m x) (above_with_more n o)) _
+          (or_left _ false (same_itself o x (at_length o x above (leb-true _ _ l))))
+      | inr l ↦ or_left _ (same_name o x || false) (has_each n o x above more (grind (arith, nat_tests)))
     ] in
     rw (less n (length o) (omega arith)) there
 
@@ -74,10 +73,7 @@ pub holds_none : (a : Name) → HoldsAncestors a [] []
 holds_none a = grind (arith, common_steps)
 
 pub known_apex : (a : Name) → IsKnown a [] a
-known_apex a = record {
-  in_zone = below_itself a;
-  there = λ e h up. let longer = strictly_longer e a h in let shorter = below_length a e up in absurd (omega arith);
-}
+known_apex a = grind (arith, common_steps, (below_itself a))
 
 pub known_owner : (a : Name) (owners : List Name) (o : Name) → is_at_or_below o a ≡ true → IsKnown a (owners ++ o ∷ []) o
 known_owner a owners o h = grind (arith, common_steps)
@@ -92,46 +88,46 @@ module _ (a : Name) (owners names : List Name) (p o : Name) (s : ℕ) (known : I
 
   pub holds_more : HoldsAncestors a (owners ++ o ∷ []) (names ++ above_with_more s o)
   holds_more = record {
-    below = λ x e. elim (or_cases (list_any (λ n. same_name n x) names) (list_any (λ n. same_name n x) (above_with_more s o))
-        (sym (list_any-append (λ n. same_name n x) names (above_with_more s o)) ∙ e)) [
+    below = λ x e. elim (or_cases _ _
+        (sym (list_any-append _ names _) ∙ e)) [
           | inl t ↦ h.below x t
           | inr t ↦ (fresh_below x t).0
         ];
-    above = λ x e. list_any-append (λ n. is_strictly_below n x) owners (o ∷ [])
-        ∙ elim (or_cases (list_any (λ n. same_name n x) names) (list_any (λ n. same_name n x) (above_with_more s o))
-        (sym (list_any-append (λ n. same_name n x) names (above_with_more s o)) ∙ e)) [
+    above = λ x e. list_any-append _ owners _
+        ∙ elim (or_cases _ _
+        (sym (list_any-append _ names _) ∙ e)) [
           | inl t ↦ or_left (list_any (λ n. is_strictly_below n x) owners) (is_strictly_below o x || false) (h.above x t)
-          | inr t ↦ or_right (list_any (λ n. is_strictly_below n x) owners) (is_strictly_below o x || false)
-              (or_left (is_strictly_below o x) false (fresh_below x t).1)
+          | inr t ↦ or_right _ _
+              (or_left _ false (fresh_below x t).1)
         ];
     each = λ x low e.
         let S : List Name → Bool = list_any (λ n. same_name n x) in
         let old : list_any (λ n. is_at_or_below n x) owners ≡ true → (S (owners ++ o ∷ []) || S (names ++ above_with_more s o)) ≡ true = λ t.
         elim (or_cases (S owners) (S names) (h.each x low t)) [
-          | inl u ↦ or_left (S (owners ++ o ∷ [])) (S (names ++ above_with_more s o))
-              (list_any-append (λ n. same_name n x) owners (o ∷ []) ∙ or_left (S owners) (S (o ∷ [])) u)
-          | inr u ↦ or_right (S (owners ++ o ∷ [])) (S (names ++ above_with_more s o))
-              (list_any-append (λ n. same_name n x) names (above_with_more s o) ∙ or_left (S names) (S (above_with_more s o)) u)
+          | inl u ↦ or_left _ _
+              (list_any-append _ owners _ ∙ or_left _ (S (o ∷ [])) u)
+          | inr u ↦ or_right _ _
+              (list_any-append _ names _ ∙ or_left _ (S (above_with_more s o)) u)
         ] in
-        elim (or_cases (list_any (λ n. is_at_or_below n x) owners) (is_at_or_below o x || false)
-        (sym (list_any-append (λ n. is_at_or_below n x) owners (o ∷ [])) ∙ e)) [
+        elim (or_cases _ _
+        (sym (list_any-append _ owners _) ∙ e)) [
           | inl t ↦ old t
-          | inr t ↦ elim (or_cases (is_at_or_below o x) false t) [
+          | inr t ↦ elim (or_cases _ false t) [
             | inr u ↦ absurd (false≢true u)
-            | inl u ↦ elim (cases_Bool (nat_le (length x) s)) [
+            | inl u ↦ elim (cases_Bool _) [
               | inl l ↦ old (known.there x low (shares x u ∙ l))
               | inr l ↦
                   let more : s < length x = grind (arith, nat_tests) in
-                  elim (cases_Bool (nat_le (length o) (length x))) [
+                  elim (cases_Bool _) [
                     | inl w ↦
-                        let one = same_itself o x (at_length o x u (leb-true (length o) (length x) w)) in
-                        or_left (S (owners ++ o ∷ [])) (S (names ++ above_with_more s o))
-                        (list_any-append (λ n. same_name n x) owners (o ∷ [])
-                        ∙ or_right (S owners) (S (o ∷ [])) (or_left (same_name o x) false one))
+                        let one = same_itself o x (at_length o x u (leb-true _ _ w)) in
+                        or_left _ _
+                        (list_any-append _ owners _
+                        ∙ or_right _ _ (or_left _ false one))
                     | inr w ↦
-                        or_right (S (owners ++ o ∷ [])) (S (names ++ above_with_more s o))
-                        (list_any-append (λ n. same_name n x) names (above_with_more s o)
-                        ∙ or_right (S names) (S (above_with_more s o)) (has_each s o x u more (grind (arith, nat_tests))))
+                        or_right _ _
+                        (list_any-append _ names _
+                        ∙ or_right _ _ (has_each s o x u more (grind (arith, nat_tests))))
                   ]
             ]
           ]

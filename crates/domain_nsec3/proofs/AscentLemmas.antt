@@ -8,7 +8,6 @@ use Rattle.std.specs.Ordering.{nat_cmp, ordering_then}
 use Rattle.std.specs.declared.cmp.Ordering.TheVariants.{Less}
 use Rattle.std.proofs.lemmas.Cmp.{tied_itself}
 use Rattle.std.proofs.lemmas.List.Elements.{recursion_from_All}
-use Rattle.domain_codecs.specs.Base32.{base32_lower}
 use Rattle.domain_codecs.proofs.OrderLemmas.{lower_keeps}
 use Rattle.domain_names.specs.Order.{canonical_cmp, canonical_cmp_total}
 use Rattle.domain_names.proofs.OrderLemmas.{canonical_cmp-more}
@@ -23,7 +22,7 @@ use Rattle.domain_nsec3.proofs.TextLemmas.{lower_text}
 before_owner : (a : Name) (u v : List ℕ) → All (λ o. o < 256) u → All (λ o. o < 256) v → slice_cmp nat_cmp u v ≡ Less
     → canonical_cmp (hashed_owner a u) (hashed_owner a v) ≡ Less
 before_owner a u v p q e =
-    canonical_cmp-more a a (base32_lower u) (base32_lower v) refl
+    canonical_cmp-more a a _ _ refl
     ∙ (λ i. ordering_then (tied_itself canonical_cmp_total a i) (slice_cmp nat_cmp (lower_text u p i) (lower_text v q i)))
     ∙ lower_keeps u v p q ∙ e
 

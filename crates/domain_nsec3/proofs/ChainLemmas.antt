@@ -7,7 +7,7 @@ use Rattle.std.specs.List.Sorted.{IsStrictlySortedBy}
 use Rattle.std.specs.Ordering.{nat_cmp}
 use Rattle.std.specs.Cmp.Lexicographic.{slice_cmp}
 use Rattle.std.proofs.lemmas.Bool.{cases_lt}
-use Rattle.std.proofs.lemmas.List.{get_or_default, get_or-map, length-map, map-append, take_more}
+use Rattle.std.proofs.lemmas.List.{get_or_default, get_or-map, length-map, take_more}
 use Rattle.std.proofs.lemmas.Option.{slice_get-get_or}
 use Rattle.std.proofs.lemmas.List.Elements.{recursion_from_All, All-from_recursion}
 use Rattle.std.proofs.lemmas.List.Sorted.{list_any-IsPermutation, IsPermutation-map, All-permutation, length_permutation}
@@ -51,8 +51,8 @@ moved_hashes see {a = a} {hash = hash} {items = items} {ordered = ordered} moved
     let seen = IsPermutation-map see items ordered moved in
     record {
       moved = subst (λ (es : List Entry). IsPermutation es (map without_hash (map see ordered))) same
-          (IsPermutation-map without_hash (map see items) (map see ordered) seen);
-      hashed = All-permutation (IsHashed a hash) (map see items) (map see ordered) seen ok;
+          (IsPermutation-map without_hash _ _ seen);
+      hashed = All-permutation (IsHashed a hash) _ _ seen ok;
     }
 
 pub sound_hashes : {X : Type 0} (see : X → HashedEntry) {a : Name} {hash : Hash} (xs : List X)
@@ -138,15 +138,15 @@ module _ (a : Name) (p : Common) where
   link_is see hs item next i d within is later first =
       let whole = length-map hs see in
       let here : see item ≡ get_or (map see hs) i (see item) = ap see is ∙ sym (get_or-map see hs i item (see item) within) in
-      elim (cases_lt (i + 1) (length hs)) [
+      elim (cases_lt _ _) [
         | inl l ↦
             let after : next ≡ (get_or (map see hs) (i + 1) (see item)).hash = later l item
-            ∙ ap (λ t. t.hash) (sym (get_or-map see hs (i + 1) item (see item) l)) in
-            (λ j. link_to a p (here j) (after j)) ∙ sym (link_before (map see hs) i d (see item) (omega arith))
+            ∙ ap (λ t. t.hash) (sym (get_or-map see hs _ item (see item) l)) in
+            (λ j. link_to a p (here j) (after j)) ∙ sym (link_before _ i d (see item) (omega arith))
         | inr l ↦
             let after : next ≡ (get_or (map see hs) 0 (see item)).hash = first l item
             ∙ ap (λ t. t.hash) (sym (get_or-map see hs 0 item (see item) (omega arith))) in
-            (λ j. link_to a p (here j) (after j)) ∙ sym (link_last (map see hs) i d (see item) (omega arith) (omega arith))
+            (λ j. link_to a p (here j) (after j)) ∙ sym (link_last _ i d (see item) (omega arith) (omega arith))
       ]
 
 -- a link for each hash
@@ -183,8 +183,7 @@ hash_there a chain p i h within is octets =
 pub one_made : {X : Type 0} (see : X → HashedLink) (old new : List X) (item : X) (i : ℕ) (links : List HashedLink)
     → i < length links → new ≡ old ++ item ∷ [] → ((d : HashedLink) → see item ≡ get_or links i d) → map see old ≡ take i links
     → map see new ≡ take (i + 1) links
-one_made see old new item i links within pushed is h =
-    ap (map see) pushed ∙ map-append see old (item ∷ []) ∙ (λ j. h j ++ is (see item) j ∷ []) ∙ sym (take_more links i (see item) within)
+one_made see old new item i links within pushed is h = grind (arith, common_steps, (take_more links i (see item) within))
 
 -- the names with their hashes
 abbrev named : HashedEntry → HashedName
@@ -216,11 +215,7 @@ module _ (L : List ZoneRecord) (a : Name) (config : ChainConfig) (entries : List
   module _ (entry : AreChainNames) (es : List HashedEntry) (moved : IsPermutation entries (map without_hash es))
       (hashed : All (IsHashed a config.hash) es) where
     any_name : (x : Name) → list_any (λ n. same_name n x) (map (λ e. e.name) es) ≡ is_chain_name L a config x
-    any_name x =
-        ap (list_any (λ n. same_name n x)) (sym (names_of es))
-        ∙ sym (list_any-IsPermutation (λ n. same_name n x) (map (λ n. n.name) entries) (map (λ n. n.name) (map without_hash es))
-        (IsPermutation-map (λ n. n.name) entries (map without_hash es) moved))
-        ∙ entry.names x
+    any_name x = grind (arith, common_steps, list_any-IsPermutation, IsPermutation-map, (names_of es))
 
     pub all_complete : (x : Name) → is_chain_name L a config x ≡ true → list_any (λ n. same_name n.name x) (map named es) ≡ true
     all_complete x h = any_named x es ∙ any_name x ∙ h
@@ -271,8 +266,7 @@ module _ (L : List ZoneRecord) (a : Name) (config : ChainConfig) (entries : List
             (numbers_from a p (map without_name (c.first ∷ c.later)) c.first.hash)));
         told = subst (All (λ k. (k.parameters ≡ config.parameters) × (k.flags ≡ config.flags))) (sym c.are)
             (All-from_recursion (λ k. (k.parameters ≡ config.parameters) × (k.flags ≡ config.flags)) (chain_links a p (map without_name (c.first ∷ c.later)))
-            (weaker (λ k. (k.parameters ≡ p.parameters) × (k.flags ≡ p.flags)) (λ k. (k.parameters ≡ config.parameters)
-            × (k.flags ≡ config.flags)) (λ k n. (n.0 ∙ common.parameters, n.1 ∙ common.flags))
+            (weaker (λ k. (k.parameters ≡ p.parameters) × (k.flags ≡ p.flags)) _ (λ k n. (n.0 ∙ common.parameters, n.1 ∙ common.flags))
             (chain_links a p (map without_name (c.first ∷ c.later)))
             (told_from a p (map without_name (c.first ∷ c.later)) c.first.hash)));
       }

@@ -88,20 +88,20 @@ module _ (L : List ZoneRecord) (a : Name) (config : ChainConfig) where
       → IsFirstRefused a config.hash names e → IsFirstHashFault L a config e
   first_fault names e are order r = record {
     name = r.name;
-    in_chain = sym (are r.name) ∙ in_any (λ n. same_name n r.name) names r.name
+    in_chain = sym (are r.name) ∙ in_any _ names r.name
         (subst (In r.name) (sym r.joined) (in_middle r.before r.name r.after)) (same_itself r.name r.name refl);
     fault = r.fault;
     first = λ y c b.
-        let m = any_in (λ n. same_name n y) names (are y ∙ c) in
+        let m = any_in _ names (are y ∙ c) in
         let k = one_lowered m.0 y m.2 in
         let b' : is_hashed_before L a config m.0 r.name ≡ true =
         (λ i. cond (list_any (λ n. same_lowered (lowered n) (k i)) (original_owners L a config))
         (not (is_original_owner L a config r.name) || before_left m.0 y r.name k i) (not (is_original_owner L a config r.name)
         && before_left m.0 y r.name k i)) ∙ b in
         ap (hash_fault a) (sym (hash_same config.hash m.0 y m.2)) ∙ elim (in_parts r.before (r.name ∷ r.after) m.0 (subst (In m.0) r.joined m.1)) [
-          | inl i ↦ all_in (λ n. hash_fault a (hash_name config.hash n) ≡ None) r.before m.0 r.sound i
+          | inl i ↦ all_in _ r.before m.0 r.sound i
           | inr (inl i) ↦ absurd (false≢true (sym (not_itself r.name) ∙ ap (λ n. is_hashed_before L a config n r.name) i ∙ b'))
-          | inr (inr i) ↦ absurd (false≢true (sym (all_in (λ y. is_hashed_before L a config y r.name ≡ false) r.after m.0
+          | inr (inr i) ↦ absurd (false≢true (sym (all_in _ r.after m.0
               (from_on (λ x y. is_hashed_before L a config y x ≡ false) r.before r.name r.after
               (subst (Pairwise (λ x y. is_hashed_before L a config y x ≡ false)) r.joined order)) i) ∙ b'))
         ];
@@ -142,7 +142,7 @@ origin f g a b m s (inr n) (inr o) = (m, inr (inr (n, o, refl)), s.2 m n o)
 distinct_swap : (ks : List Name) (a b : ℕ) → a < length ks → b < length ks → AreDistinct ks → AreDistinct (swap ks a b)
 distinct_swap ks a b p q h i j d less within e =
     let len = length-swap ks a b in
-    let s = swapped_from_swap ks (swap ks a b) a b d p q refl in
+    let s = swapped_from_swap ks _ a b d p q refl in
     let x = origin _ _ a b i s (cases_eq i a) (cases_eq i b) in
     let y = origin _ _ a b j s (cases_eq j a) (cases_eq j b) in
     let one = either_order ks h x.0 y.0 d (omega (arith, x.1)) (omega (arith, y.1)) (sym x.2 ∙ e ∙ y.2) in
@@ -287,10 +287,7 @@ module _ (L : List ZoneRecord) (a : Name) (config : ChainConfig) (links : List H
   never : (k n : HashedName) (ns : List HashedName) → AllByRecursion (λ h. slice_cmp nat_cmp k.hash h ≡ Less)
       (map (λ n. n.hash) ns) → In n ns → k.hash ≡ n.hash → ⊥
   never k n [] h i e = i
-  never k n (m ∷ ns) h (inl f) e =
-      let less : slice_cmp nat_cmp k.hash k.hash ≡ Less = ap (slice_cmp nat_cmp k.hash) (e ∙ ap (λ l. l.hash) (sym f)) ∙ h.0 in
-      let tied = tied_itself nat_list_cmp_total k.hash in
-      true≢false (sym (ap is_lt less) ∙ ap is_lt tied)
+  never k n (m ∷ ns) h (inl f) e = grind (arith, common_steps, (tied_itself nat_list_cmp_total k.hash))
   never k n (m ∷ ns) h (inr i) e = never k n ns h.1 i e
 
   one_place : (ns : List HashedName) → IsStrictlySortedBy (slice_cmp nat_cmp) (map (λ n. n.hash) ns) → (m n : HashedName)
@@ -303,13 +300,4 @@ module _ (L : List ZoneRecord) (a : Name) (config : ChainConfig) (links : List H
   one_place (k ∷ ns) up m n (inr i) (inr j) e = one_place ns up.1 m n i j e
 
   pub apart_hashes : ¬ (HasCollision L a config)
-  apart_hashes c =
-      let m = any_in (λ n. same_name n.name c.x) chain.names (chain.complete c.x c.first) in
-      let n = any_in (λ n. same_name n.name c.y) chain.names (chain.complete c.y c.second) in
-      let sound = recursion_from_All (IsOfChain L a config) chain.names chain.sound in
-      let m_is = (all_in (IsOfChain L a config) chain.names m.0 sound m.1).hashed in
-      let n_is = (all_in (IsOfChain L a config) chain.names n.0 sound n.1).hashed in
-      let both : Ok m.0.hash ≡ Ok n.0.hash = sym m_is ∙ hash_same config.hash m.0.name c.x m.2 ∙ c.alike
-      ∙ sym (hash_same config.hash n.0.name c.y n.2) ∙ n_is in
-      let one = one_place chain.names chain.ascend m.0 n.0 m.1 n.1 (cc) in
-      true≢false (sym (same_itself c.x c.y (sym (one_lowered m.0.name c.x m.2) ∙ ap (λ l. lowered l.name) one ∙ one_lowered n.0.name c.y n.2)) ∙ c.apart)
+  apart_hashes c = grind (arith, common_steps, any_in, all_in, one_place, one_lowered, (recursion_from_All (IsOfChain L a config) chain.names chain.sound))

@@ -36,7 +36,7 @@ get_next x l k d = rw add-one
 dedup_apart : (x : List ℕ) (xs : List (List ℕ)) → AreApart (x ∷ xs) (length (x ∷ xs)) → dedup_from (eq_by_cmp (slice_cmp nat_cmp)) x xs ≡ x ∷ xs
 dedup_apart x [] h = refl
 dedup_apart x (y ∷ xs) h =
-    elim (cases_Bool (eq_by_cmp (slice_cmp nat_cmp) y x)) [
+    elim (cases_Bool _) [
       | inl e ↦ absurd (h 0 [] (omega arith) (ties_are x y e))
       | inr e ↦ rw e (ap (λ zs. x ∷ zs) (dedup_apart y xs (λ k d l same.
           h (k + 1) d (omega arith) (get_next x (y ∷ xs) k d ∙ same ∙ sym (get_next x (y ∷ xs) (k + 1) d)))))
@@ -68,7 +68,7 @@ module _ {X : Type 0} (f : X → List ℕ) where
   alike_at xs i x y some l x_is y_is same = record {
     place = i - 1;
     inside = omega (arith, l, length-map xs f);
-    alike = λ d. let here : i - 1 + 1 ≡ i = omega arith in hash_at xs (i - 1) x d (omega arith) x_is ∙ same
+    alike = λ d. let here : i - 1 + 1 ≡ i = omega arith in hash_at xs _ x d (omega arith) x_is ∙ same
         ∙ sym (hash_at xs i y d l y_is) ∙ ap (λ j. get_or (map f xs) j d) (sym here);
   }
 

@@ -7,7 +7,7 @@ use Rattle.std.specs.Ordering.{nat_cmp, ordering_then, ordering_reverse, is_ne}
 use Rattle.std.specs.declared.cmp.Ordering.TheVariants.{Less, Equal, Greater}
 use Rattle.std.proofs.lemmas.Bool.{cases_order, false≢true}
 use Rattle.std.proofs.lemmas.Nat.{mul-le}
-use Rattle.std.proofs.Math.Nat.{pow-suc, one-le-pow}
+use Rattle.std.proofs.Math.Nat.{one-le-pow}
 use Rattle.domain_octets.specs.Words.{AreOctets}
 use Rattle.std.proofs.lemmas.Grind.{common_steps}
 
@@ -27,8 +27,7 @@ front_below : (n : ℕ) (ds : List ℕ) → AreOctets ds → front_number n ds <
 front_below zero ds octets = omega arith
 front_below (suc n) [] octets = one-le-pow (suc n) 256 (omega arith)
 front_below (suc n) (d ∷ ds) octets =
-    let times = times_less d 256 (256 ^ n) (octets 0 0 (omega arith)) in
-    omega (arith, times, front_below n ds (rest_octets d ds octets), pow-suc 256 n)
+    grind (arith, common_steps, (times_less d 256 (256 ^ n) (octets 0 0 (omega arith))), (front_below n ds (rest_octets d ds octets)))
 
 -- what follows a lesser octet stays below where a greater one begins
 apart : (n d e : ℕ) (ds es : List ℕ) → AreOctets ds → d < e → front_number (suc n) (d ∷ ds) < front_number (suc n) (e ∷ es)

@@ -47,9 +47,8 @@ both P Q (x ∷ xs) p q = ((p.0, q.0), both P Q xs p.1 q.1)
 -- a name above an owner comes before it
 above_before : (n : ℕ) (o : Name) → AllByRecursion (λ m. before m o ≡ true) (above_with_more n o)
 above_before n o =
-    weaker (IsAbove n o) (λ m. before m o ≡ true)
-    (λ m h. after_or m o (below_from o m h.0) (not-true (same_name o m) (and_parts (is_at_or_below o m) (not (same_name o m)) (strictly_from o m h.0 h.1)).1))
-    (above_with_more n o) (are_above n o)
+    weaker (IsAbove n o) _ (λ m h. after_or m o (below_from o m h.0) (not-true _ (and_parts _ _ (strictly_from o m h.0 h.1)).1))
+    _ (are_above n o)
 
 above_ascend : (n : ℕ) (o : Name) → IsAscending before (above_with_more n o)
 above_ascend n [] = tt
@@ -58,16 +57,16 @@ above_ascend n (label ∷ x) = grind (arith, common_steps, ascending_both, weake
 -- those that an owner doesn't share with a name before it come after that name
 above_after : (p o : Name) → before p o ≡ true → AllByRecursion (λ m. before p m ≡ true) (above_with_more (common_labels o p) o)
 above_after p o b =
-    weaker (IsAbove (common_labels o p) o) (λ m. before p m ≡ true)
-    (λ m h. elim (cases_Bool (before p m)) [
+    weaker (IsAbove _ o) _
+    (λ m h. elim (cases_Bool _) [
       | inl e ↦ e
       | inr e ↦
           let below : is_at_or_below p m ≡ true = below_between o m p h.0 e (before_order.one_way p o b) in
-          let few : length m ≤ common_labels o p = leb-true (length m) (common_labels o p) (sym (common_shares o p (common_labels o p) refl m h.0) ∙ below) in
+          let few : length m ≤ common_labels o p = leb-true _ _ (sym (common_shares o p _ refl m h.0) ∙ below) in
           let many : common_labels o p < length m = h.2 in
           absurd (omega arith)
     ])
-    (above_with_more (common_labels o p) o) (are_above (common_labels o p) o)
+    _ (are_above _ o)
 
 -- ---- those above each owner that it doesn't share with the one before it
 
@@ -96,47 +95,42 @@ none_same o n (m ∷ os) e h = λ i. apart_right n m (lt_trans before_order n o 
 gathered_apart : (p : Name) (os : List Name) → IsAscending before os → AllByRecursion (λ m. list_any (λ n. same_name n m) os ≡ false) (gathered p os)
 gathered_apart p [] h = tt
 gathered_apart p (o ∷ os) h =
-    all_both (λ m. list_any (λ n. same_name n m) (o ∷ os) ≡ false) (above_with_more (common_labels o p) o) (gathered o os)
-    (weaker (λ m. before m o ≡ true) (λ m. list_any (λ n. same_name n m) (o ∷ os) ≡ false)
-    (λ m e. (λ i. apart_right m o e i || none_same o m os e h.0 i)) (above_with_more (common_labels o p) o)
-    (above_before (common_labels o p) o))
-    (weaker (λ m. (before o m ≡ true) × (list_any (λ n. same_name n m) os ≡ false)) (λ m. list_any (λ n. same_name n m) (o ∷ os)
-    ≡ false) (λ m e. (λ i. apart_left o m e.0 i || e.1 i)) (gathered o os)
-    (both (λ m. before o m ≡ true) (λ m. list_any (λ n. same_name n m) os ≡ false) (gathered o os) (gathered_after o os h) (gathered_apart o os h.1)))
+    all_both _ _ _ (weaker _ _ (λ m e. (λ i. apart_right m o e i || none_same o m os e h.0 i)) _ (above_before _ o))
+    (weaker _ _ (λ m e. (λ i. apart_left o m e.0 i || e.1 i)) _ (both _ _ _ (gathered_after o os h) (gathered_apart o os h.1)))
 
 -- the names above the owners, without the owners
 module _ (a : Name) (owners names : List Name) (h : HoldsAncestors a owners names) (apex : list_any (λ n. same_name n a) owners ≡ true) where
   left_are : (x : Name) → list_any (λ n. same_name n x) (filter (λ n. not (list_any (λ m. same_name m n) owners)) names) ≡ is_empty_nonterminal owners a x
   left_are x =
-      any_filter (λ n. same_name n x) (λ n. not (list_any (λ m. same_name m n) owners)) names
-      ∙ either_way (list_any (λ n. not (list_any (λ m. same_name m n) owners) && same_name n x) names) (is_empty_nonterminal owners a x)
+      any_filter (λ n. same_name n x) _ names
+      ∙ either_way _ (is_empty_nonterminal owners a x)
       (λ e.
-      let m = any_in (λ n. not (list_any (λ m. same_name m n) owners) && same_name n x) names e in
-      let p = and_parts (not (list_any (λ n. same_name n m.0) owners)) (same_name m.0 x) m.2 in
+      let m = any_in _ names e in
+      let p = and_parts _ (same_name m.0 x) m.2 in
       let k = one_lowered m.0 x p.1 in
       let there : list_any (λ n. same_name n x) names ≡ true = in_any (λ n. same_name n x) names m.0 m.1 p.1 in
-      and_from (is_at_or_below x a && not (list_any (λ n. same_name n x) owners)) (list_any (λ n. is_strictly_below n x) owners)
-      (and_from (is_at_or_below x a) (not (list_any (λ n. same_name n x) owners))
+      and_from _ _
+      (and_from (is_at_or_below x a) _
       (and_parts (is_at_or_below x a) (not (same_name x a)) (h.below x there)).0
       (ap (λ q. not (list_any (λ n. same_lowered (lowered n) q) owners)) (sym k) ∙ p.0))
       (h.above x there))
       (λ e.
-      let p = and_parts (is_at_or_below x a && not (list_any (λ n. same_name n x) owners)) (list_any (λ n. is_strictly_below n x) owners) e in
-      let q = and_parts (is_at_or_below x a) (not (list_any (λ n. same_name n x) owners)) p.0 in
-      let none = not-true (list_any (λ n. same_name n x) owners) q.1 in
+      let p = and_parts _ _ e in
+      let q = and_parts (is_at_or_below x a) _ p.0 in
+      let none = not-true _ q.1 in
       let below : (is_at_or_below x a && not (same_name x a))
       ≡ true = and_from (is_at_or_below x a) (not (same_name x a)) q.0 (elim (cases_Bool (same_name x a)) [
         | inl t ↦ absurd (false≢true (sym none ∙ ap (λ k. list_any (λ n. same_lowered (lowered n) k) owners) (one_lowered x a t) ∙ apex))
         | inr t ↦ ap not t
       ]) in
-      elim (or_cases (list_any (λ n. same_name n x) owners) (list_any (λ n. same_name n x) names)
+      elim (or_cases _ _
       (h.each x below (any_weaker (λ n. is_strictly_below n x) (λ n. is_at_or_below n x)
       (λ n t. (and_parts (is_at_or_below n x) (not (same_name n x)) t).0) owners p.1))) [
         | inl t ↦ absurd (false≢true (sym none ∙ t))
         | inr t ↦
             let m = any_in (λ n. same_name n x) names t in
-            in_any (λ n. not (list_any (λ m. same_name m n) owners) && same_name n x) names m.0 m.1
-            (and_from (not (list_any (λ n. same_name n m.0) owners)) (same_name m.0 x)
+            in_any _ names m.0 m.1
+            (and_from _ (same_name m.0 x)
             (ap (λ k. not (list_any (λ n. same_lowered (lowered n) k) owners)) (one_lowered m.0 x m.2) ∙ q.1) m.2)
       ])
 
@@ -144,11 +138,11 @@ module _ (a : Name) (owners names : List Name) (h : HoldsAncestors a owners name
   listed are up =
       let up_owners = ascending owners up in
       let whole : filter (λ n. not (list_any (λ m. same_name m n) owners)) names ≡ names =
-      filter_whole (λ n. not (list_any (λ m. same_name m n) owners)) names
+      filter_whole _ names
       (subst (AllByRecursion (λ n. not (list_any (λ m. same_name m n) owners) ≡ true)) (sym are)
-      (weaker (λ n. list_any (λ m. same_name m n) owners ≡ false) (λ n. not (list_any (λ m. same_name m n) owners) ≡ true)
-      (λ n e. ap not e) (gathered a owners) (gathered_apart a owners up_owners))) in
+      (weaker _ _
+      (λ n e. ap not e) _ (gathered_apart a owners up_owners))) in
       record {
-        ascend = subst (IsStrictlySortedBy canonical_cmp) (sym are) (sorted (gathered a owners) (gathered_ascend a owners up_owners));
+        ascend = subst (IsStrictlySortedBy canonical_cmp) (sym are) (sorted _ (gathered_ascend a owners up_owners));
         exactly = λ x. ap (list_any (λ n. same_name n x)) (sym whole) ∙ left_are x;
       }

@@ -108,8 +108,8 @@ no_gap (u ∷ us) up p i v j c =
 one_pair : (u : List ℕ) (us : List (List ℕ)) → IsStrictlySortedBy (slice_cmp nat_cmp) (u ∷ us) → (v : List ℕ)
     → IsOnly (λ (p : List ℕ × List ℕ). matches_or_covers octets_before p.0 p.1 v) (cycle (u ∷ us))
 one_pair u us up v =
-    let rise = ascends (u ∷ us) up in
-    one_place (λ (p : List ℕ × List ℕ). matches_or_covers octets_before p.0 p.1 v) (cycle (u ∷ us))
+    let rise = ascends _ up in
+    one_place _ _
     (one_matches_or_covers octets_order u us u v rise (irreflexive octets_order u, all_after us u rise.0) (irreflexive octets_order u))
 
 cycle_owners : (us : List (List ℕ)) → map (λ (p : List ℕ × List ℕ). p.0) (cycle us) ≡ us
@@ -146,7 +146,7 @@ shorter ks a l x d none h p =
 an_encloser : (ks : List Name) (a : Name) → exists_over ks a a ≡ true → (x : Name) → is_at_or_below x a ≡ true → (e : Name) × IsClosestEncloser ks a x e
 an_encloser ks a apex [] low = grind (arith, common_steps)
 an_encloser ks a apex (l ∷ x) low =
-    elim (cases_Bool (exists_over ks a (l ∷ x))) [
+    elim (cases_Bool _) [
       | inl e ↦ (l ∷ x, record { found = e; above = below_itself (l ∷ x); longest = λ d h p. below_length (l ∷ x) d p })
       | inr e ↦
           let up = an_encloser ks a apex x (below_longer (l ∷ x) x a (below_parent l x) low (shorter ks a l x a e apex low)) in (
@@ -199,8 +199,7 @@ module _ (L : List ZoneRecord) (a : Name) (config : ChainConfig) where
   at_place [] names ps h f b k j i = absurd (cc)
   at_place (l ∷ links) [] ps h f b k j i = absurd (cc)
   at_place (l ∷ links) (n ∷ names) [] h f b k j i = absurd (cc)
-  at_place (l ∷ links) (n ∷ names) (p ∷ ps) h f b k (suc j) i =
-      grind (arith, common_steps, (at_place links names ps (tail_is h) (tail_is f) (tail_is b) k j i))
+  at_place (l ∷ links) (n ∷ names) (p ∷ ps) h f b k (suc j) i = grind (arith, common_steps, (at_place links names ps (tail_is h) (tail_is f) (tail_is b) k j i))
   at_place (l ∷ links) (n ∷ names) (p ∷ ps) h f b k zero i = grind (arith, common_steps)
 
   -- there is one
@@ -217,21 +216,18 @@ module _ (L : List ZoneRecord) (a : Name) (config : ChainConfig) where
       let at : Name → Bool = λ k. not (excludes config && ((lowered_below k (lowered a) && not (same_lowered k (lowered a))
       && has_type (filter (λ r. same_lowered (lowered r.owner) k) L) ns)
       && not (has_type (filter (λ r. same_lowered (lowered r.owner) k) L) ds))) && same_lowered k (lowered a) in
-      or_left (is_original_owner L a config a) (is_empty L a config a)
+      or_left _ (is_empty L a config a)
       (any_filter (λ n. same_name n a) (λ n. not (is_excluded L a config n)) (unoccluded_owners config.occlude_below_dname L a)
-      ∙ any_owner config.occlude_below_dname L a a at o (apex_unoccluded config.occlude_below_dname L a)
-      (and_from (not (is_excluded L a config a)) (same_name a a)
+      ∙ any_owner config.occlude_below_dname L a a at o (apex_unoccluded config.occlude_below_dname L a) (and_from _ _
       (ap not ((λ i. excludes config && (((below_itself a i && not (same_itself a a refl i)) && has_type (records_of L a) ns)
-      && not (has_type (records_of L a) ds))) ∙ and_false (excludes config)))
-      (same_itself a a refl)))
+      && not (has_type (records_of L a) ds))) ∙ and_false _)) (same_itself a a refl)))
 
   module _ (links : List HashedLink) (chain : IsHashedChain L a config links) where
     name_sound : (n : HashedName) → In n chain.names → IsOfChain L a config n
     name_sound n i = all_in (IsOfChain L a config) chain.names n (recursion_from_All (IsOfChain L a config) chain.names chain.sound) i
 
     pub of_place : (k : HashedLink) (j : ℕ) → slice_get links j ≡ Some k → IsAtPlace k j chain.names (cycle (map (λ n. n.hash) chain.names))
-    of_place k j i = at_place links chain.names (cycle (map (λ n. n.hash) chain.names)) chain.linked
-        (cycle_owners (map (λ n. n.hash) chain.names)) chain.bits k j i
+    of_place k j i = grind (arith, common_steps, at_place, cycle_owners)
 
     -- what the owner of a record spells
     spelled_is : (k : HashedLink) (j : ℕ) (h : List ℕ) (r : IsRecordOf a links j k h) → (of_place k j r.there).name.hash ≡ h

@@ -1,7 +1,7 @@
 -- What hashing the names of a chain comes to: the chain of the zone, or its first fault.
 use Rattle.std.proofs.Common.{◌≡◌, Bool, true, false, not, ◌&&◌, List, ◌∷◌, map, refl, sym, ap, ◌∙◌, subst, inl, inr, ◌⊎◌, Some, arith}
 use Rattle.std.specs.Prelude.{All, IsPermutation, filter}
-use Rattle.std.specs.List.{AllByRecursion, list_any}
+use Rattle.std.specs.List.{AllByRecursion}
 use Rattle.std.specs.List.Sorted.{IsStrictlySortedBy}
 use Rattle.std.proofs.lemmas.Bool.{and_parts, and_from, not-true}
 use Rattle.domain_octets.proofs.StdLemmas.{and_false}
@@ -9,7 +9,7 @@ use Rattle.domain_names.specs.Order.{canonical_cmp}
 use Rattle.domain_hasher.specs.declared.error.Nsec3HashError.{Nsec3HashError}
 use Rattle.domain_hasher.specs.declared.error.Nsec3HashError.TheVariants.{OutOfMemory}
 use Rattle.domain_zone.specs.Enclosers.{is_empty_nonterminal}
-use Rattle.domain_names.specs.Name.{is_at_or_below, is_strictly_below, lowered, same_name}
+use Rattle.domain_names.specs.Name.{is_at_or_below, lowered, same_name}
 use Rattle.domain_names.specs.Words.{Name}
 use Rattle.domain_zone.specs.Soa.{chain_ttl, soa_of}
 use Rattle.domain_base.specs.Types.{ns, ds}
@@ -21,7 +21,7 @@ use Rattle.domain_zone.proofs.PairLemmas.{all_from_in}
 use Rattle.domain_zone.proofs.ZoneLemmas.{all_filter}
 use Rattle.domain_nsec3.specs.Chain.{HashedLink, IsHashedChain}
 use Rattle.domain_nsec3.specs.Config.{ChainConfig, excludes}
-use Rattle.domain_nsec3.specs.Faults.{AreAllHashed, IsFirstHashingFault, is_hashed_before}
+use Rattle.domain_nsec3.specs.Faults.{AreAllHashed, IsFirstHashingFault}
 use Rattle.domain_nsec3.specs.Owners.{original_owners, is_original_owner, is_excluded}
 use Rattle.domain_nsec3.specs.Steps.{Common, Entry, HashedEntry, without_hash, AreOriginalOwners, IsHashed, IsHashingFault, IsOrderedChain}
 use Rattle.domain_nsec3.proofs.ChainLemmas.{chain_of_zone}
@@ -46,11 +46,9 @@ module _ (L : List ZoneRecord) (a : Name) (config : ChainConfig) where
       && has_type (filter (λ r. same_lowered (lowered r.owner) k) L) ns)
       && not (has_type (filter (λ r. same_lowered (lowered r.owner) k) L) ds))) && same_lowered k (lowered a) in
       any_filter (λ n. same_name n a) (λ n. not (is_excluded L a config n)) (unoccluded_owners config.occlude_below_dname L a)
-      ∙ any_owner config.occlude_below_dname L a a at o (apex_unoccluded config.occlude_below_dname L a)
-      (and_from (not (is_excluded L a config a)) (same_name a a)
+      ∙ any_owner config.occlude_below_dname L a a at o (apex_unoccluded config.occlude_below_dname L a) (and_from _ _
       (ap not ((λ i. excludes config && (((below_itself a i && not (same_itself a a refl i)) && has_type (records_of L a) ns)
-      && not (has_type (records_of L a) ds))) ∙ and_false (excludes config)))
-      (same_itself a a refl))
+      && not (has_type (records_of L a) ds))) ∙ and_false _)) (same_itself a a refl))
 
 -- ---- what hashing comes to
 
@@ -72,22 +70,20 @@ module _ {L : List ZoneRecord} {a : Name} {config : ChainConfig} {owners entries
   up_owners = subst (IsStrictlySortedBy canonical_cmp) os.names joined.ascend
 
   own : AllByRecursion (λ n. is_original_owner L a config n ≡ true) (original_owners L a config)
-  own = all_from_in (λ n. is_original_owner L a config n ≡ true) (original_owners L a config)
-      (λ x i. in_any (λ n. same_name n x) (original_owners L a config) x i (same_itself x x refl))
+  own = all_from_in _ _ (λ x i. in_any _ _ x i (same_itself x x refl))
 
   not_own : AllByRecursion (λ n. is_original_owner L a config n ≡ false) joined.empty
-  not_own = all_from_in (λ n. is_original_owner L a config n ≡ false) joined.empty (λ x i.
-      let e : is_empty_nonterminal (original_owners L a config) a x
+  not_own =
+      all_from_in _ _ (λ x i. let e : is_empty_nonterminal (original_owners L a config) a x
       ≡ true = ap (λ l. is_empty_nonterminal l a x) (sym os.names) ∙ sym (joined.listed.exactly x)
-      ∙ in_any (λ n. same_name n x) joined.empty x i (same_itself x x refl) in
-      let q = and_parts (is_at_or_below x a && not (is_original_owner L a config x))
-      (list_any (λ n. is_strictly_below n x) (original_owners L a config)) e in
-      not-true (is_original_owner L a config x) (and_parts (is_at_or_below x a) (not (is_original_owner L a config x)) q.0).1)
+      ∙ in_any _ _ x i (same_itself x x refl) in
+      let q = and_parts _ _ e in
+      not-true _ (and_parts _ _ q.0).1)
 
   every_hashed : (es : List HashedEntry) → IsPermutation entries (map without_hash es) → All (IsHashed a config.hash) es
       → AreAllHashed L a config
   every_hashed =
-      all_hashed L a config (original_owners L a config) joined.empty up_owners joined.listed.ascend own not_own entries
+      all_hashed L a config _ _ up_owners joined.listed.ascend own not_own entries
       (names_joined os joined) (are_chain_names os joined).names
 
   pub outcome_hashed : {p : Common} {links : List HashedLink} → IsOrderedChain a config.hash p entries links → AreAllHashed L a config
@@ -96,9 +92,8 @@ module _ {L : List ZoneRecord} {a : Name} {config : ChainConfig} {owners entries
   pub outcome_fault : (e : Nsec3HashError) → IsHashingFault a config.hash entries e → (e ≡ OutOfMemory) ⊎ IsFirstHashingFault L a config e
   outcome_fault e (inl m) = inl m
   outcome_fault e (inr (inl r)) =
-      inr (hashing_fault L a config e (first_fault L a config (map (λ n. n.name) entries) e (are_chain_names os joined).names
-      (subst (Pairwise (λ x y. is_hashed_before L a config y x ≡ false)) (sym (names_joined os joined))
-      (hashed_in_order L a config (original_owners L a config) joined.empty up_owners joined.listed.ascend own not_own)) r))
+      inr (hashing_fault L a config e (first_fault L a config _ e (are_chain_names os joined).names
+      (subst (Pairwise _) (sym (names_joined os joined)) (hashed_in_order L a config _ _ up_owners joined.listed.ascend own not_own)) r))
   outcome_fault e (inr (inr k)) =
       inr (subst (IsFirstHashingFault L a config) (sym k.0)
       ((

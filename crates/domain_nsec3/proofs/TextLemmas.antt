@@ -5,7 +5,7 @@ use Rattle.std.specs.Prelude.{All, None, Ok, nat_lt, ◌==◌, true, false, if�
 use Rattle.std.specs.Char.{to_ascii_lowercase}
 use Rattle.std.specs.List.{AllByRecursion}
 use Rattle.std.proofs.lemmas.Bool.Decides.{nat_tests}
-use Rattle.std.proofs.lemmas.List.Elements.{recursion_from_All, All-from_recursion}
+use Rattle.std.proofs.lemmas.List.Elements.{recursion_from_All}
 use Rattle.std.proofs.lemmas.List.{length-map}
 use Rattle.domain_codecs.specs.Base32.{base32_from, base32_lower, lower_digit}
 use Rattle.domain_codecs.proofs.Base32Lemmas.{many_digits}
@@ -48,8 +48,7 @@ digits_small [] all = tt
 digits_small (d ∷ ds) all = (digit_small d all.0, digits_small ds all.1)
 
 pub text_octets : (h : List ℕ) → AreOctets h → All (λ o. o < 256) (base32_lower h)
-text_octets h all = All-from_recursion (λ o. o < 256) (base32_lower h)
-    (digits_small (base32_from 1 0 h) (small h all))
+text_octets h all = grind (arith, common_steps, digits_small, small)
 
 pub lower_text : (h : List ℕ) → AreOctets h → map to_ascii_lowercase (base32_lower h) ≡ base32_lower h
 lower_text h all = digits_lower (base32_from 1 0 h) (small h all)
@@ -95,9 +94,6 @@ is_none n h = grind (arith, nat_tests)
 is_some : (n : ℕ) → 0 < n → (n == 0) ≡ false
 is_some n h = grind (arith, nat_tests)
 
-pub more_than_none : (n : ℕ) → (n == 0) ≡ false → 0 < n
-more_than_none n h = grind (arith, nat_tests)
-
 module _ (a : Name) (h : List ℕ) where
   pub sound_some : hash_fault a (Ok h) ≡ None → 0 < length h
   sound_some e = grind (arith, common_steps)
@@ -140,6 +136,6 @@ owner_made a hash label above wire w l sound octets is made =
     } in
     let same : wire ≡ wire_of (base32_lower hash ∷ labels_of above) = made ∙ (λ i. length (is i) ∷ (is i ++ sym long i)) in
     record {
-      is_wire = subst IsWire (sym same) (IsWire-wire_of (base32_lower hash ∷ labels_of above) valid);
-      labels = ap labels_of same ∙ labels_of-wire_of (base32_lower hash ∷ labels_of above) valid ∙ ap (λ x. base32_lower hash ∷ x) l;
+      is_wire = subst IsWire (sym same) (IsWire-wire_of _ valid);
+      labels = ap labels_of same ∙ labels_of-wire_of _ valid ∙ ap (λ x. base32_lower hash ∷ x) l;
     }

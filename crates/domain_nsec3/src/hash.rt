@@ -107,6 +107,7 @@ fn put_octets(buffer: &mut [u8], at: usize, octets: &[u8]) -> usize
 }
 
 /// Writes a label with its length, and then the name above it, to the front of a buffer.
+#[tactic(auto, using(crate::proofs::TextLemmas::first_set))]
 fn join_label<'a>(buffer: &'a mut [u8], label: &[u8], above: &[u8]) -> &'a [u8]
     requires label { length label.now < 256 }
     requires fits { length label.now + 1 + length above.now ≤ length buffer.old }

@@ -73,6 +73,7 @@ fn front(octets: &[u8]) -> u64
 }
 
 /// Compares octets, the first eight of both as one number first.
+#[tactic(auto, using(crate::proofs::HashOrderLemmas::by_front))]
 fn compare_octets(ours: &[u8], theirs: &[u8]) -> Ordering
     ensures { result ≡ slice_cmp nat_cmp ours.now theirs.now }
 {

@@ -140,6 +140,7 @@ impl<'a, O: Octets> Nsec3Chain<'a, O> {
     }
 
     /// How many NSEC3 records the chain has.
+    #[tactic(auto, using(crate::proofs::ChainLemmas::links_counted))]
     pub fn len(&self) -> usize
         ensures { result ≡ length self.now.links }
     {
@@ -162,6 +163,7 @@ impl<'a, O: Octets> Nsec3Chain<'a, O> {
 
     /// The record at a place, in the order of hashes, which borrows from the chain; None past the
     /// last one. Takes no memory.
+    #[tactic(auto, using(crate::proofs::ChainLemmas::links_counted))]
     pub fn lend(&self, place: usize) -> Option<BorrowedNsec3<'_>>
         ensures some { IfSome result (λ made. (d : HashedLink)
             → made ≡ slice_index_or self.now.links place d) }

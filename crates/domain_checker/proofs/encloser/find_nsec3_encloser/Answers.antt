@@ -8,7 +8,7 @@ use Rattle.std.proofs.lemmas.Grind.{common_steps}
 pub returns-then-not-ends_with-clause-found : goal.returns-then-not-ends_with-clause-found
 returns-then-not-ends_with-clause-found g c =
     let R = hashed_records (g.A.ToName.labels c.args.apex.now) g.N.ToName.labels (g.H.Nsec3Hasher.answer c.args.hasher.now) c.args.records.now in
-    outside_unmatched R (g.M.ToName.labels c.args.name.now) (sym c.ends_with.ensures.value ∙ c.if-not-ends_with.true)
+    outside_unmatched R _ (sym c.ends_with.ensures.value ∙ c.if-not-ends_with.true)
 
 pub walk-requires-clause-wire : goal.walk-requires-clause-wire
 walk-requires-clause-wire g c = c.lower_wire-lowered.ensures.octets ∙ ap (λ l. wire_of (lowered l)) (sym c.as_parsed.ensures)

@@ -48,10 +48,10 @@ loop-listed-preserved g c =
     → whole ≡ option_or (option_map (λ r. see r.now) o) rest =
     λ o e so. so ∙ sym (ap (λ q. option_or (option_map (λ r. see r.now) q) rest) e) in
     record {
-      matching = c.loop-listed.invariant.matching ∙ found_later t.matched see nsec3s at listed c.loop-listed-test.true c.listed-item.is apart;
+      matching = c.loop-listed.invariant.matching ∙ found_later _ see nsec3s at listed c.loop-listed-test.true c.listed-item.is apart;
       covering = elim c.if-is_none.branch [
         | then-is_none+then-is_cover w ↦
-            met_here t.covered see nsec3s at listed c.loop-listed-test.true c.listed-item.is
+            met_here _ see nsec3s at listed c.loop-listed-test.true c.listed-item.is
             (λ r. see r.now) c.loop-listed.cover whole c.loop-listed.invariant.covering
             (none ∙ ap not w.if-is_none.true) (ap (around listed.«data».next_owner) (sym c.hash_label-label.ensures)
             ∙ ap (λ next. around next label) (sym (w.as_slice.ensures.octets ∙ w.next_owner.ensures
@@ -59,13 +59,13 @@ loop-listed-preserved g c =
             ∙ sym (ap (λ q. option_or (option_map (λ r. see r.now) q) rest) w.cover-is)
         | else-is_none w ↦ kept c.if-is_none.cover w.cover-is (elim w.else-is_none.branch [
           | else-is_none-via-then-is_none+else-is_cover u ↦
-              met_later t.covered see nsec3s at listed c.loop-listed-test.true c.listed-item.is
+              met_later _ see nsec3s at listed c.loop-listed-test.true c.listed-item.is
               (λ r. see r.now) c.loop-listed.cover whole c.loop-listed.invariant.covering
               (ap (around listed.«data».next_owner) (sym c.hash_label-label.ensures)
               ∙ ap (λ next. around next label) (sym (u.as_slice.ensures.octets ∙ u.next_owner.ensures
               ∙ ap (λ d. d.next_owner) u.data.ensures)) ∙ sym u.is_cover.ensures ∙ u.if-is_cover.false)
           | else-is_none-via-else-is_none u ↦
-              met_before t.covered see nsec3s at listed c.loop-listed-test.true c.listed-item.is
+              met_before _ see nsec3s at listed c.loop-listed-test.true c.listed-item.is
               (λ r. see r.now) c.loop-listed.cover whole c.loop-listed.invariant.covering
               (none ∙ ap not u.if-is_none.false)
         ])

@@ -1,7 +1,7 @@
 use Rattle.std.proofs.Common.{◌∙◌, sym}
 use Rattle.std.proofs.lemmas.List.Elements.{All-from_recursion, recursion_from_All}
 use Rattle.std.specs.List.{Contains}
-use Rattle.domain_checker.specs.Alike.{IsAlike, IsPairedIn}
+use Rattle.domain_checker.specs.Alike.{IsAlike}
 use Rattle.domain_checker.proofs.AlikeLemmas.{proved_alike, reading_alike}
 use Rattle.domain_checker.proofs.PairedLemmas.{paired_with_some}
 use Rattle.domain_checker.proofs.laws.readings_ignore_case_and_ttl.Goals as goal
@@ -11,7 +11,7 @@ returns-clause-alike c = λ listed other a x t h. reading_alike a x t listed oth
 
 pub returns-clause-proved : goal.returns-clause-proved
 returns-clause-proved c = λ listed a x t bound L config links keeps order chain h.
-    let some = paired_with_some IsAlike links listed (recursion_from_All (IsPairedIn IsAlike links) listed h) in
-    reading_alike a x t listed some.some some.alike
-    ∙ c.readings_are_proved.ensures some.some a x t bound L config links keeps order chain (All-from_recursion (Contains links) some.some some.among)
-    ∙ sym (proved_alike a x t L config.assume_dnskeys_will_be_added listed some.some some.alike)
+    let some = paired_with_some IsAlike links listed (recursion_from_All _ listed h) in
+    reading_alike a x t listed _ some.alike
+    ∙ c.readings_are_proved.ensures some.some a x t bound L config links keeps order chain (All-from_recursion (Contains links) _ some.among)
+    ∙ sym (proved_alike a x t L _ listed _ some.alike)

@@ -16,7 +16,7 @@ returns g c =
     let chain = c.args.chain.now in
     let all : HasRead a x c.args.rtype (links_of labels chain) c.loop-listed.check =
     subst (λ rs. HasRead a x c.args.rtype (links_of labels rs) c.loop-listed.check)
-    (take_all c.loop-listed.listed-index chain c.loop-listed-test.false) c.loop-listed.invariant in
+    (take_all _ chain c.loop-listed-test.false) c.loop-listed.invariant in
     record {
       zone = c.verdict.ensures.zone a x c.args.rtype (links_of labels chain) all;
       proof = c.verdict.ensures.proof a x c.args.rtype (links_of labels chain) all;

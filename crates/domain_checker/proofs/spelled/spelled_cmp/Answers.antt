@@ -26,10 +26,9 @@ returns-then-ne c =
     let small = small_digit (goal.at.returns-then-ne c).After-digit_or_zero in
     let order : c.cmp-order.result ≡ nat_cmp ((32 * rest + digit_at c.args.label.now at) / (32 * scale / 256)) octet =
     c.cmp-order.ensures ∙ (λ j. nat_cmp ((32 * rest + c.digit_or_zero.ensures.value j) / (32 * scale / 256)) (c.from.ensures j)) in
-    order
-    ∙ compared_apart c.args.label.now c.args.hash.now c.loop-c.left.now scale rest at c.loop-c-test.true small c.loop-c.invariant
+    order ∙ compared_apart _ _ _ scale rest at c.loop-c-test.true small c.loop-c.invariant
     octet c.in-Some.after.now c.in-Some.ensures.cases.0 c.if-wider-lt256.false
-    (λ e. apart_by c.cmp-order.result (sym c.ne.ensures ∙ c.if-ne.true) (order ∙ e))
+    (λ e. apart_by _ (sym c.ne.ensures ∙ c.if-ne.true) (order ∙ e))
 
 pub loop-c-preserved : goal.loop-c-preserved
 loop-c-preserved c =
@@ -53,10 +52,8 @@ loop-c-preserved c =
 
 pub returns-then-is_empty : goal.returns-then-is_empty
 returns-then-is_empty c =
-    ends_alike c.loop-c.left.now (sym c.is_empty.ensures ∙ c.if-is_empty.true)
-    ∙ compared_end c.args.label.now c.args.hash.now c.loop-c.left.now c.loop-c.scale c.loop-c.rest c.loop-c.c-index c.loop-c-test.false c.loop-c.invariant
+    ends_alike _ (sym c.is_empty.ensures ∙ c.if-is_empty.true) ∙ compared_end _ _ _ _ _ _ c.loop-c-test.false c.loop-c.invariant
 
 pub returns-else-is_empty : goal.returns-else-is_empty
 returns-else-is_empty c =
-    ends_before c.loop-c.left.now (sym c.is_empty.ensures ∙ c.if-is_empty.false)
-    ∙ compared_end c.args.label.now c.args.hash.now c.loop-c.left.now c.loop-c.scale c.loop-c.rest c.loop-c.c-index c.loop-c-test.false c.loop-c.invariant
+    ends_before _ (sym c.is_empty.ensures ∙ c.if-is_empty.false) ∙ compared_end _ _ _ _ _ _ c.loop-c-test.false c.loop-c.invariant

@@ -45,7 +45,7 @@ names-init g c =
     record {
       wire = c.requires.wire ∙ ap (λ n. wire_of (lowered n)) (sym same);
       missed = subst (λ n. IsMissed R x n cover) (sym same) (missed_here R x x (below_itself x) c.requires.below
-          (none_first R x) c.args.wire.now c.requires.wire cover (rw c.in-NoMatch.is at c.in_ok-matching.ensures.ok));
+          (none_first R x) _ c.requires.wire cover (rw c.in-NoMatch.is at c.in_ok-matching.ensures.ok));
     }
 
 -- ---- at a name above
@@ -57,9 +57,7 @@ skip-octets-requires g c = grind (arith, common_steps)
 passed : (g : Over) (c : After-skip-octets g) → IsPassed
     (hashed_records (g.A.ToName.labels c.args.apex.now) g.N.ToName.labels (g.H.Nsec3Hasher.answer c.args.hasher.now) c.args.records.now)
     c.args.name.now c.in-Some.above c.names.invariant.missed.value
-passed g c =
-    passed_on _ _ _ _ c.names.invariant.missed c.in-Some.label.now c.in-Some.above c.in-Some.ensures.parts
-    (sym c.name_eq.ensures.value ∙ c.names-test.true)
+passed g c = passed_on _ _ _ _ c.names.invariant.missed _ _ c.in-Some.ensures.parts (sym c.name_eq.ensures.value ∙ c.names-test.true)
 
 -- what is left of the wire form is that of the name above
 left_wire : (g : Over) (c : After-skip-octets g) → c.skip-octets.result.now ≡ wire_of (lowered c.in-Some.above)
@@ -82,9 +80,8 @@ returns-in_err-matching-2-clause-err g c =
 pub returns-in-Match-2-clause-ok : goal.returns-in-Match-2-clause-ok
 returns-in-Match-2-clause-ok g c =
     let here = (goal.at.returns-in-Match-2-clause-ok g c).After-skip-octets in
-    encloser_above _ _ _ _ c.names.invariant.missed c.in-Some.above (passed g here) _ c.skip-octets.result.now None
-    (left_wire g here) (rw c.in-Match-2.is at c.in_ok-matching-2.ensures.ok) c.count_labels-in-Match-2.result
-    c.count_labels-in-Match-2.ensures.count
+    encloser_above _ _ _ _ c.names.invariant.missed _ (passed g here) _ _ None
+    (left_wire g here) (rw c.in-Match-2.is at c.in_ok-matching-2.ensures.ok) _ c.count_labels-in-Match-2.ensures.count
 
 pub names-preserved : goal.names-preserved
 names-preserved g c =
@@ -93,7 +90,7 @@ names-preserved g c =
     let cover = option_map (λ k. as_hashed_link g.N.ToName.labels k.now) c.in-NoMatch-2.next in
     record {
       wire = left_wire g here;
-      missed = missed_here _ _ c.in-Some.above on.above on.within on.first c.skip-octets.result.now (left_wire g here) cover
+      missed = missed_here _ _ _ on.above on.within on.first _ (left_wire g here) cover
           (rw c.in-NoMatch-2.is at c.in_ok-matching-2.ensures.ok);
     }
 

@@ -5,13 +5,11 @@ use Rattle.std.specs.List.{list_any}
 use Rattle.std.specs.List.Sorted.{IsStrictlySortedBy}
 use Rattle.domain_names.specs.Order.{canonical_cmp}
 use Rattle.domain_names.specs.Name.{is_at_or_below, same_name}
-use Rattle.domain_zone.specs.Soa.{chain_ttl}
 use Rattle.domain_zone.specs.View.{zone_of}
 use Rattle.domain_zone.proofs.GroupLemmas.{owners_in_order}
 use Rattle.domain_zone.proofs.SoaLemmas.{soa_owned}
 use Rattle.domain_nsec3.specs.Faults.{IsReady}
 use Rattle.domain_nsec3.specs.Owners.{original_owners}
-use Rattle.domain_nsec3.specs.StepView.{common_of, links_in}
 use Rattle.domain_nsec3.specs.View.{config_of}
 use Rattle.domain_nsec3.proofs.EntryLemmas.{entries_names}
 use Rattle.domain_nsec3.proofs.FaultLemmas.{apart_hashes}
@@ -38,15 +36,15 @@ pub chain_of_owners-requires : goal.chain_of_owners-requires
 chain_of_owners-requires g c =
     let zone = zone_in g (goal.at.chain_of_owners-requires g c).In_ok-owners in
     let names : c.in_ok-owners.owners.names.items ≡ original_owners zone.records zone.apex zone.config =
-    sym (entries_names c.in_ok-owners.owners.names.items c.in_ok-owners.owners.types)
+    sym (entries_names _ _)
     ∙ (c.in_ok-owners.ensures.owners (g.H.Nsec3Hasher.answer c.args.hasher.now)).names in
     record {
       paired = c.in_ok-owners.ensures.paired;
-      ascend = subst (IsStrictlySortedBy canonical_cmp) (sym names) (original_ascend zone.records zone.apex zone.config
-          (owners_in_order g.N.ToName.labels g.D.RecordData.rtype g.D.ZoneData.minimum c.args.records c.requires.in_order));
+      ascend = subst (IsStrictlySortedBy canonical_cmp) (sym names) (original_ascend _ zone.apex zone.config
+          (owners_in_order _ _ g.D.ZoneData.minimum _ c.requires.in_order));
       in_zone = subst (All (λ n. is_at_or_below n zone.apex ≡ true)) (sym names) (original_below zone.records zone.apex zone.config);
       begins = ap (list_any (λ n. same_name n zone.apex)) names
-          ∙ apex_original zone.records zone.apex zone.config (soa_owned zone.records zone.apex c.args.soa.now c.requires.soa);
+          ∙ apex_original zone.records zone.apex zone.config (soa_owned zone.records zone.apex _ c.requires.soa);
     }
 
 pub returns-in_err-chain_of_owners-clause-fault : goal.returns-in_err-chain_of_owners-clause-fault
@@ -64,8 +62,7 @@ returns g c =
       faultless = record {
         ready = ready g at;
         hashed = c.in_ok-chain_of_owners.ensures.hashed zone.records owners;
-        apart = apart_hashes zone.records zone.apex zone.config (links_in zone.apex c.in_ok-chain_of_owners.field-0
-            (common_of c.args.config.now.params (chain_ttl c.args.soa.now))) chain;
+        apart = apart_hashes _ _ _ _ chain;
       };
       fault = tt;
     }

@@ -11,8 +11,7 @@ returns-then-eq-clause-alike c _ = grind (arith, common_steps, alike_at, same_oc
 
 pub loop-i-preserved : goal.loop-i-preserved
 loop-i-preserved c =
-    apart_more (λ h. h.hash) c.args.hashed.now c.loop-i.i c.index-hashed-i.result c.index-hashed-i-in-loop-i.result (omega arith)
-    (omega arith) c.index-hashed-i.is c.index-hashed-i-in-loop-i.is
+    apart_more _ _ _ _ _ (omega arith) (omega arith) c.index-hashed-i.is c.index-hashed-i-in-loop-i.is
     (λ e. false≢true (sym c.if-eq.false ∙ c.eq.ensures ∙ (bytes_decides c.as_slice.result.now c.as_slice-in-loop-i.result.now).1
     (c.as_slice.ensures ∙ sym (ap (λ h. h.hash) c.index-hashed-i.is) ∙ e ∙ ap (λ h. h.hash) c.index-hashed-i-in-loop-i.is
     ∙ sym c.as_slice-in-loop-i.ensures))) c.loop-i.invariant

@@ -28,10 +28,10 @@ hashes : (g : Over) (c : In_ok-sort_by_hash g)
     (entries_of c.args.names.items c.args.types) (map (see g c) c.sort_by_hash.new.hashed.items)
 hashes g c =
     let entries = entries_of c.args.names.items c.args.types in
-    let are = entries_names c.args.names.items c.args.types ∙ sym c.as_slice.ensures.value in
+    let are = entries_names _ _ ∙ sym c.as_slice.ensures.value in
     subst (λ (x : Name). AreHashesOf x (hash_by (g.H.Nsec3Hasher.answer c.args.hasher.now) (parameters_of c.args.params.now))
     entries (map (see g c) c.sort_by_hash.new.hashed.items)) c.as_parsed-above.ensures
-    (moved_hashes (see g c) c.in_ok-sort_by_hash.ensures.permutation (c.in_ok-hashed.ensures.same entries are) (c.in_ok-hashed.ensures.ok entries are))
+    (moved_hashes _ c.in_ok-sort_by_hash.ensures.permutation (c.in_ok-hashed.ensures.same entries are) (c.in_ok-hashed.ensures.ok entries are))
 
 pub returns-in_err-hashed-clause-fault : goal.returns-in_err-hashed-clause-fault
 returns-in_err-hashed-clause-fault g c = grind (arith, common_steps, entries_names)
@@ -57,13 +57,13 @@ returns-clause-chain g c p =
     let entries = entries_of c.args.names.items c.args.types in
     let all = entries_names c.args.names.items c.args.types in
     let chain = c.in_ok-without_collision.ensures.ok in
-    ordered_chain (map (see g at) sorted) (omega (arith, c.requires.some, ap length all, length-map entries (λ (n : Entry). n.name)))
+    ordered_chain _ (omega (arith, c.requires.some, ap length all, length-map entries (λ (n : Entry). n.name)))
     (hashes g at) (subst (IsStrictlySortedBy (slice_cmp nat_cmp)) (hashes_of (see g at) sorted) c.in_ok-without_collision.ensures.apart)
     ((λ i. chain_links (g.N.ToName.labels c.args.apex.now) p (map (as_hashed_types (chain.1 i)) (chain.0 i)))
-    ∙ ap (chain_links (g.N.ToName.labels c.args.apex.now) p) (sym (types_told c.args.names.items c.args.types sorted c.requires.within)))
+    ∙ ap (chain_links (g.N.ToName.labels c.args.apex.now) p) (sym (types_told _ c.args.types sorted c.requires.within)))
 
 pub returns-clause-sound : goal.returns-clause-sound
 returns-clause-sound g c =
     let at = (goal.at.returns-clause-sound g c).In_ok-sort_by_hash in
     subst (All (λ x. hash_fault (g.N.ToName.labels c.args.apex.now) (Ok x.hash) ≡ None)) (sym c.in_ok-without_collision.ensures.ok.0)
-    (sound_hashes (see g at) c.sort_by_hash.new.hashed.items (hashes g at).hashed)
+    (sound_hashes _ _ (hashes g at).hashed)

@@ -16,11 +16,11 @@ loop-owner-preserved c =
     let zone : is_at_or_below o c.args.apex.now ≡ true = ap (λ n. is_at_or_below n c.args.apex.now) c.owner-item.is
     ∙ c.requires.in_zone c.loop-owner.owner-index o c.loop-owner-test.true in
     let more : take (c.loop-owner.owner-index + 1) c.args.owners.now ≡ take c.loop-owner.owner-index c.args.owners.now
-    ++ o ∷ [] = take_more c.args.owners.now c.loop-owner.owner-index o c.loop-owner-test.true
+    ++ o ∷ [] = take_more _ _ o c.loop-owner-test.true
     ∙ ap (λ n. take c.loop-owner.owner-index c.args.owners.now ++ n ∷ []) (sym c.owner-item.is) in
     let rest : drop c.loop-owner.owner-index c.args.owners.now
     ≡ o ∷ drop (c.loop-owner.owner-index + 1) c.args.owners.now =
-    drop_more c.args.owners.now c.loop-owner.owner-index o c.loop-owner-test.true
+    drop_more _ _ o c.loop-owner-test.true
     ∙ ap (λ n. n ∷ drop (c.loop-owner.owner-index + 1) c.args.owners.now) (sym c.owner-item.is) in
     record {
       holds = rw (more, c.in_ok-push_ancestors.ensures) (holds_more _ _ _ c.loop-owner.previous.now o
@@ -28,18 +28,16 @@ loop-owner-preserved c =
           (common_shares o c.loop-owner.previous.now c.common_labels-shared.result c.common_labels-shared.ensures)
           c.loop-owner.invariant.holds);
       known = rw more (known_owner _ _ o zone);
-      all = gathered_step c.loop-owner.names.items c.push_ancestors.new.names.items c.loop-owner.previous.now o
-          c.common_labels-shared.result _ _ _ rest c.common_labels-shared.ensures c.in_ok-push_ancestors.ensures
+      all = gathered_step _ _ _ o
+          _ _ _ _ rest c.common_labels-shared.ensures c.in_ok-push_ancestors.ensures
           c.loop-owner.invariant.all;
     }
 
 pub returns : goal.returns
 returns c =
-    let whole : take c.loop-owner.owner-index c.args.owners.now
-    ≡ c.args.owners.now = take_all c.loop-owner.owner-index c.args.owners.now c.loop-owner-test.false in
-    let none : drop c.loop-owner.owner-index c.args.owners.now ≡ [] = drop_all c.loop-owner.owner-index c.args.owners.now c.loop-owner-test.false in
-    let all : c.loop-owner.names.items ≡ gathered c.args.apex.now c.args.owners.now = sym (append-nil c.loop-owner.names.items)
+    let whole : take c.loop-owner.owner-index c.args.owners.now ≡ c.args.owners.now = take_all _ _ c.loop-owner-test.false in
+    let none : drop c.loop-owner.owner-index c.args.owners.now ≡ [] = drop_all _ _ c.loop-owner-test.false in
+    let all : c.loop-owner.names.items ≡ gathered c.args.apex.now c.args.owners.now = sym (append-nil _)
     ∙ ap (λ l. c.loop-owner.names.items ++ gathered c.loop-owner.previous.now l) (sym none) ∙ c.loop-owner.invariant.all in
-    listed c.args.apex.now c.args.owners.now c.loop-owner.names.items
-    (subst (λ os. HoldsAncestors c.args.apex.now os c.loop-owner.names.items) whole c.loop-owner.invariant.holds)
+    listed _ _ _ (subst (λ os. HoldsAncestors c.args.apex.now os c.loop-owner.names.items) whole c.loop-owner.invariant.holds)
     c.requires.begins all c.requires.ascend

@@ -8,12 +8,12 @@ write_hash-label-requires c = grind (arith, common_steps, owner_room)
 
 pub returns-clause-wire : goal.returns-clause-wire
 returns-clause-wire c =
-    (owner_made c.args.apex.now c.args.hash.now c.write_hash-label.result.now c.as_wire-above.result.now c.join_label.result.now
+    (owner_made _ _ _ _ _
     c.as_wire-above.ensures.wire c.as_wire-above.ensures.labels c.requires.sound c.type_inv.hash c.write_hash-label.ensures
     c.join_label.ensures).is_wire
 
 pub returns-clause-labels : goal.returns-clause-labels
 returns-clause-labels c =
-    (owner_made c.args.apex.now c.args.hash.now c.write_hash-label.result.now c.as_wire-above.result.now c.join_label.result.now
+    (owner_made _ _ _ _ _
     c.as_wire-above.ensures.wire c.as_wire-above.ensures.labels c.requires.sound c.type_inv.hash c.write_hash-label.ensures
     c.join_label.ensures).labels

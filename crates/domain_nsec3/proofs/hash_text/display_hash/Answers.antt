@@ -10,5 +10,4 @@ write_hash-text-requires g c = omega (arith, text_length c.args.hash.now, c.requ
 
 pub from_utf8_unchecked-requires : goal.from_utf8_unchecked-requires
 from_utf8_unchecked-requires g c =
-    IsUtf8-from_ascii c.write_hash-text.result.now
-    (subst IsAscii (sym c.write_hash-text.ensures) (ascii_text c.args.hash.now (octets_from_type c.args.hash.now c.type_inv.hash)))
+    IsUtf8-from_ascii _ (subst IsAscii (sym c.write_hash-text.ensures) (ascii_text _ (octets_from_type _ c.type_inv.hash)))

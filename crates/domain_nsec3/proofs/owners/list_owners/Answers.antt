@@ -21,8 +21,7 @@ stay_found : (g : Over) (c : After-is_unsigned_cut-is_unsigned_cut g) (answer : 
     (as_owner_records g.N.ToName.labels g.D.RecordData.rtype g.D.ZoneData.minimum c.in-Some.owner)
     ≡ not ((c.opt_out_flag.result && c.args.config.now.opt_out_exclude_owner_names_of_unsigned_delegations)
     && c.is_unsigned_cut-is_unsigned_cut.result)
-stay_found g c answer = ap not (sym (λ i. (c.opt_out_flag.ensures i
-    && c.args.config.now.opt_out_exclude_owner_names_of_unsigned_delegations) && c.is_unsigned_cut-is_unsigned_cut.ensures i))
+stay_found g c answer = grind (arith, common_steps)
 
 -- whether it has unequal TTLs
 clash_found : (g : Over) (c : After-has_unequal_ttls g)
@@ -40,10 +39,9 @@ pub has_unequal_ttls-requires : goal.has_unequal_ttls-requires
 has_unequal_ttls-requires g c =
     let labels = g.N.ToName.labels in
     let known = at_known (c.owners.invariant refuses) c.in-Some.ensures.steps in
-    raw_types labels g.D.RecordData.rtype g.D.ZoneData.minimum c.records.result
+    raw_types labels _ g.D.ZoneData.minimum _
     (subst (λ rs. NeverDescend (map (as_zone_record labels g.D.RecordData.rtype g.D.ZoneData.minimum) rs)) (sym c.records.ensures)
-    (subst NeverDescend (sym (ap (λ p. p.records) known)) (types_at labels g.D.RecordData.rtype g.D.ZoneData.minimum
-    c.args.records (labels c.in-Some.owner.name.now) c.requires)))
+    (subst NeverDescend (sym (ap (λ p. p.records) known)) (types_at labels _ _ _ _ c.requires)))
 
 pub returns-then-has_unequal_ttls-clause-fault : goal.returns-then-has_unequal_ttls-clause-fault
 returns-then-has_unequal_ttls-clause-fault g c = λ soa answer.

@@ -32,7 +32,7 @@ returns-clause-zone c =
 pub returns-clause-proof : goal.returns-clause-proof
 returns-clause-proof c =
     λ a x t listed h inside some.
-    let is = c.unwrap_or.ensures ∙ ap (λ o. unwrap_or o NotProven) c.or.ensures ∙ handed_in a x t listed c.args.self.now h in
+    let is = c.unwrap_or.ensures ∙ ap (λ o. unwrap_or o NotProven) c.or.ensures ∙ handed_in a x t listed _ h in
     has_proof a listed x t (subst (λ v. v ≢ NotProven) is some)
 
 pub returns-clause-exact : goal.returns-clause-exact
@@ -40,6 +40,5 @@ returns-clause-exact c = grind (arith, common_steps)
 
 pub returns-clause-within : goal.returns-clause-within
 returns-clause-within c =
-    λ a x t listed h.
-    let is = c.unwrap_or.ensures ∙ ap (λ o. unwrap_or o NotProven) c.or.ensures ∙ handed_in a x t listed c.args.self.now h in
+    λ a x t listed h. let is = c.unwrap_or.ensures ∙ ap (λ o. unwrap_or o NotProven) c.or.ensures ∙ handed_in a x t listed _ h in
     subst (IsWithin (length x)) (sym is) (list_within a listed x t)
