@@ -2,7 +2,7 @@
 use Rattle.std.proofs.Common.{◌≡◌, ℕ, Bool, cond, not, ◌&&◌, ◌||◌, List, length, refl, Option, Some, None, arith}
 use Rattle.std.specs.List.{find}
 use Rattle.domain_names.specs.Name.{is_strictly_below, lowered}
-use Rattle.domain_base.specs.Types.{cname, dname, ns}
+use Rattle.domain_base.specs.Types.{dname, ns}
 use Rattle.domain_names.specs.Words.{Name}
 use Rattle.domain_bitmap.specs.Blocks.{contains_type}
 use Rattle.domain_zone.specs.Enclosers.{longer, shared}
@@ -14,7 +14,7 @@ use Rattle.domain_checker.specs.Reading.{is_at_cut, is_cover, is_match}
 use Rattle.domain_checker.proofs.AlikeLemmas.{is_cover_alike, is_match_alike, says_alike, shared_alike}
 use Rattle.domain_checker.proofs.PairedLemmas.{OptionsPaired, any_alike, find_alike}
 use Rattle.domain_checker.proofs.EncloserLemmas.{same_count}
-use Rattle.domain_answer.specs.declared.answer.Answer.TheVariants.{Referral, Redirected, Wildcard, WildcardAlias, WildcardNoData, NameError, NoCloserName}
+use Rattle.domain_answer.specs.declared.answer.Answer.TheVariants.{Referral, Redirected, WildcardNoData, NameError, NoCloserName}
 use Rattle.domain_answer.specs.Proved.{proved_answer}
 use Rattle.domain_answer.specs.Reading.{absent_answer, cover_answer, listed_both, match_answer, owner_answer, reading, tells_occluded}
 use Rattle.domain_answer.specs.Reading.{wildcard_both, wildcard_cover_answer, wildcard_match_answer}
@@ -48,8 +48,7 @@ module _ (a : Name) (k l : Link) (alike : IsAlike k l) where
   match_answer_alike t = grind (arith, common_steps, cut_alike)
 
   wildcard_match_alike : (n t : ℕ) → wildcard_match_answer a n k t ≡ wildcard_match_answer a n l t
-  wildcard_match_alike n t = λ i. cond (contains_type (alike.bits i) t || cut_alike i) (Wildcard n)
-      (cond (contains_type (alike.bits i) cname) (WildcardAlias n) (WildcardNoData n))
+  wildcard_match_alike n t = grind (arith, common_steps, cut_alike)
 
   wildcard_cover_alike : (n : ℕ) (w : Name) → wildcard_cover_answer a n k w ≡ wildcard_cover_answer a n l w
   wildcard_cover_alike n w = λ i. cond (occluded_alike w i) (NoCloserName n) (cond (below_alike w i) (WildcardNoData n) (NameError n))

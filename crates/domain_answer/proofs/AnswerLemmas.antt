@@ -37,8 +37,7 @@ use Rattle.domain_answer.proofs.OccluderLemmas.{highest_is, none_above}
 use Rattle.std.proofs.lemmas.Grind.{common_steps}
 
 turned : (b : Bool) (u v : Answer) → cond b u v ≡ cond (not b) v u
-turned true u v = refl
-turned false u v = refl
+turned b u v = grind (arith, common_steps)
 
 -- a name that exists and owns nothing has no data
 existing_none : (L : List ZoneRecord) (a : Name) (assume : Bool) (x : Name) (t : ℕ) → owns L x ≡ false → existing_answer L a assume x t ≡ NoData

@@ -1,9 +1,10 @@
 -- What a record of a chain that leaves out the names below a DNAME tells of the zone.
+use Rattle.std.proofs.lemmas.Grind.{common_steps}
 use Rattle.std.proofs.Common.{◌≡◌, ℕ, ◌<◌, Bool, true, false, cond, not, ◌&&◌, ◌||◌, List, [], ◌∷◌, refl, sym, ap, ◌∙◌, Some, slice_get, arith}
 use Rattle.std.specs.Prelude.{filter}
 use Rattle.std.specs.List.{list_any}
 use Rattle.std.proofs.lemmas.Bool.{or_parts, and_from}
-use Rattle.domain_octets.proofs.StdLemmas.{and_false, and_true}
+use Rattle.domain_octets.proofs.StdLemmas.{and_false}
 use Rattle.domain_bitmap.specs.Blocks.{contains_type}
 use Rattle.domain_names.specs.Name.{is_at_or_below, is_strictly_below, lowered, same_name}
 use Rattle.domain_names.specs.Order.{before}
@@ -43,20 +44,16 @@ meant_leaving laws L a config links leaves order chain =
 
 -- the bit of DNAME, where it isn't a zone cut, says whether there are DNAME records
 dname_bit : (assumed cut : Bool) (rs : List ZoneRecord) → (cut || is_listed assumed cut rs dname) ≡ (cut || has_type rs dname)
-dname_bit assumed true rs = refl
-dname_bit assumed false rs =
-    (λ i. ((false || false) || and_false assumed i) || (has_type rs dname && true)) ∙ and_true (has_type rs dname)
+dname_bit assumed cut rs = grind (arith, common_steps)
 
 -- at a zone cut there is no bit of SOA
 soa_bit : (assumed cut : Bool) (rs : List ZoneRecord) → (cut && is_listed assumed cut rs soa) ≡ false
-soa_bit assumed true rs = (λ i. ((false || false) || and_false assumed i) || (has_type rs soa && false)) ∙ and_false (has_type rs soa)
-soa_bit assumed false rs = refl
+soa_bit assumed cut rs = grind (arith, common_steps)
 
 -- ---- tests over lists
 
 and_not : (b s : Bool) → s ≡ false → b ≡ (b && not s)
-and_not true s e = sym (ap not e)
-and_not false s e = refl
+and_not b s e = grind (arith, common_steps)
 
 -- where none is the same as x, those at or below x are strictly below it
 strictly_any : (names : List Name) (x : Name) → list_any (λ n. same_name n x) names ≡ false
@@ -124,11 +121,7 @@ module _ (L : List ZoneRecord) (a : Name) (assume : Bool) (links : List Link) (m
       (c : covers before k.owner k.next x ≡ true) where
     -- x exists exactly where the next name is strictly below it
     pub covered_exists : name_exists L a x ≡ is_strictly_below k.next x
-    covered_exists =
-        let none = covered_no_owner true L a assume links meant k place there x low c in
-        (λ j. is_at_or_below x a && strictly_any owners x none j)
-        ∙ (λ j. and_not (is_at_or_below x a) (list_any (λ n. same_name n x) owners) none j && list_any (λ n. is_strictly_below n x) owners)
-        ∙ meant.nonterminals.each x low place k there c
+    covered_exists = grind (arith, common_steps, strictly_any, (covered_no_owner true L a assume links meant k place there x low c))
 
     pub covered_cut : is_at_cut a k ≡ is_zone_cut L a k.owner
     covered_cut = cut_at true L a assume links meant alike sets k (in_at links place k there)

@@ -1,7 +1,7 @@
 -- How many labels names have: the last ones, and those that names share.
 use Rattle.std.proofs.Common.{◌≡◌, ℕ, ◌≤◌, ◌<◌, ◌-◌, suc, Bool, true, false, cond, not, ◌&&◌, ◌||◌, List, [], ◌∷◌, drop, length, refl, sym, ap, ◌∙◌, inl}
-use Rattle.std.proofs.Common.{inr, arith, ltb}
-use Rattle.std.proofs.lemmas.Bool.{cases_Bool, cases_lt, false≢true, and_parts}
+use Rattle.std.proofs.Common.{inr, arith}
+use Rattle.std.proofs.lemmas.Bool.{cases_Bool, false≢true, and_parts}
 use Rattle.domain_names.specs.Name.{is_at_or_below, is_strictly_below, lowered, same_name, last_labels}
 use Rattle.domain_names.specs.Order.{before}
 use Rattle.domain_names.specs.Words.{Label, Name}
@@ -43,11 +43,7 @@ last_above (l ∷ x) n = grind (arith, common_steps, last_more, last_all, below_
 
 pub last_count : (x : Name) (n : ℕ) → n ≤ length x → length (last_labels n x) ≡ n
 last_count [] n h = let none : length {A = Label} [] ≡ n = omega arith in ap length (last_all [] n (omega arith)) ∙ none
-last_count (l ∷ x) n h =
-    elim (cases_lt n (length (l ∷ x))) [
-      | inl g ↦ ap length (last_more l x n (omega arith)) ∙ last_count x n (omega arith)
-      | inr g ↦ let all : length (l ∷ x) ≡ n = omega arith in ap length (last_all (l ∷ x) n g) ∙ all
-    ]
+last_count (l ∷ x) n h = grind (arith, common_steps)
 
 -- ---- the closest encloser is the last labels of the name
 
@@ -62,8 +58,7 @@ shared_less [] y e = absurd (false≢true (sym e ∙ below_root y))
 shared_less (l ∷ x) y e = grind (arith, common_steps, shared_within)
 
 longer_less : (n : ℕ) (e f : Name) → length e < n → length f < n → length (longer e f) < n
-longer_less n e f p q =
-    elim (ltb (length e) (length f)) as (λ b. length (cond b f e) < n) [ true ↦ q | false ↦ p ]
+longer_less n e f p q = grind (arith, common_steps)
 
 -- what a cover says, by what comes before what
 pub covers_parts : (m oo ox xn : Bool) → (not m && cond oo (ox && xn) (ox || xn)) ≡ true → (cond oo (ox && xn) (ox || xn)) ≡ true

@@ -1,15 +1,13 @@
 -- A choice between answers that a zone gives is one of them.
-use Rattle.std.proofs.Common.{◌≡◌, ◌≢◌, ℕ, Bool, true, false, cond, refl, sym, ap, ◌∙◌, arith}
+use Rattle.std.proofs.Common.{◌≡◌, ◌≢◌, ℕ, Bool, true, false, cond, sym, ap, ◌∙◌, arith}
 use Rattle.std.proofs.lemmas.Bool.{true≢false}
 use Rattle.domain_answer.specs.declared.answer.Answer.{Answer}
-use Rattle.domain_answer.specs.declared.answer.Answer.TheVariants.{OutsideZone, AtParent, Referral, Redirected, Has, NoDs, Alias, NoData, Wildcard}
+use Rattle.domain_answer.specs.declared.answer.Answer.TheVariants.{OutsideZone, AtParent, Referral, Redirected, Has, NoDs, Alias, NoData, Wildcard, NotProven}
 use Rattle.domain_answer.specs.declared.answer.Answer.TheVariants.{WildcardAlias, WildcardNoData, NameError, MayBeUnsigned, NoCloserName, TooManyIterations}
-use Rattle.domain_answer.specs.declared.answer.Answer.TheVariants.{NotProven}
 use Rattle.std.proofs.lemmas.Grind.{common_steps}
 
 pub either : (b : Bool) (v : Answer) → cond b v v ≡ v
-either true v = refl
-either false v = refl
+either b v = grind (arith, common_steps)
 
 unfoldable pub is_of_zone : Answer → Bool
 is_of_zone OutsideZone = true
@@ -30,8 +28,7 @@ is_of_zone TooManyIterations = false
 is_of_zone NotProven = false
 
 pub choose : (b : Bool) (v w : Answer) → is_of_zone v ≡ true → is_of_zone w ≡ true → is_of_zone (cond b v w) ≡ true
-choose true v w e f = e
-choose false v w e f = f
+choose b v w e f = grind (arith, common_steps)
 
 -- of a name that exists
 pub existing_says : (n : ℕ) (below has cut alias : Bool)

@@ -32,13 +32,11 @@ use Rattle.domain_answer.specs.HashedReading.{next_answer}
 use Rattle.domain_answer.specs.HashedZoneAnswer.{hashed_encloser, hashed_exists}
 use Rattle.domain_answer.specs.Proved.{CountsWithin}
 use Rattle.domain_answer.specs.ZoneAnswer.{asterisk, wildcard_below}
-use Rattle.domain_answer.proofs.DefiniteLemmas.{either}
 use Rattle.domain_answer.proofs.CountLemmas.{closest_last, last_above, last_count}
 use Rattle.std.proofs.lemmas.Grind.{common_steps}
 
 chosen : (P : Answer → Type 0) (b : Bool) (v w : Answer) → P v → P w → P (cond b v w)
-chosen P true v w h k = h
-chosen P false v w h k = k
+chosen P b v w h k = grind (arith, common_steps)
 
 -- what such a name is known of
 record IsLonger (a x : Name) (n : ℕ) : Type 0 where
@@ -143,9 +141,7 @@ module _ (tells : TellsNames) (L : List ZoneRecord) (a : Name) (config : ChainCo
   by_cover : (o : Option HashedLink) → find (is_hash_cover a config.parameters v) listed ≡ o
       → next_answer n o ≡ proved_expansion L a config listed x n
   by_cover None f =
-      let nothing = covered_is ∙ any_none (is_hash_cover a config.parameters v) listed (find_none (is_hash_cover a config.parameters v) listed f) in
-      sym ((λ j. cond (hashed_exists L a config closer) NotProven (cond (not (nothing j)) NotProven known))
-      ∙ either (hashed_exists L a config closer) NotProven)
+      grind (arith, common_steps, (any_none (is_hash_cover a config.parameters v) listed (find_none (is_hash_cover a config.parameters v) listed f)))
   by_cover (Some k) f =
       let i = find_some (is_hash_cover a config.parameters v) listed k f in
       let denial = tells.covers L a config links chain closer v low alone k (among k i.0) i.1 in

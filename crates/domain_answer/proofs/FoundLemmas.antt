@@ -5,7 +5,7 @@ use Rattle.std.specs.Option.{is_some, option_map, option_or}
 use Rattle.std.specs.Ordering.{is_eq, is_gt, is_lt, ordering_reverse}
 use Rattle.std.specs.declared.cmp.Ordering.{Ordering}
 use Rattle.std.specs.declared.cmp.Ordering.TheVariants.{Less, Equal, Greater}
-use Rattle.std.proofs.lemmas.Bool.{and_parts, false≢true, le-leb, leb-true}
+use Rattle.std.proofs.lemmas.Bool.{and_parts, le-leb, leb-true}
 use Rattle.domain_names.specs.Name.{is_at_or_below, same_name}
 use Rattle.domain_names.specs.Order.{before, canonical_cmp, canonical_cmp_total, common_labels}
 use Rattle.domain_names.specs.Words.{Name}
@@ -14,7 +14,7 @@ use Rattle.domain_zone.specs.Enclosers.{longer, shared}
 use Rattle.domain_zone.proofs.NameLemmas.{below_longer, below_trans, same_is}
 use Rattle.domain_zone.proofs.SharedLemmas.{either_way, shared_is}
 use Rattle.domain_zone.proofs.FindLemmas.{find_some}
-use Rattle.domain_checker.proofs.SharedLemmas.{longer_length, shared_length}
+use Rattle.domain_checker.proofs.SharedLemmas.{shared_length}
 use Rattle.domain_nsec.specs.Chain.{Link}
 use Rattle.domain_checker.specs.Reading.{is_cover, is_match}
 use Rattle.domain_checker.specs.Verdict.{is_inside}
@@ -51,8 +51,7 @@ module _ (o n x : Name) where
   covers_is = λ i. not (tie_is i) && cond (before o n) (after_is i && before x n) (after_is i || before x n)
 
   pub at_owner : is_eq (canonical_cmp x o) ≡ true → false ≡ covers before o n x
-  at_owner e = sym (covers_is
-      ∙ (λ i. covered_by (e i) (is_gt (canonical_cmp x o)) (is_lt (canonical_cmp x n)) (before o n)))
+  at_owner e = grind (arith, common_steps, covers_is)
 
   pub ahead_of_both : is_gt (canonical_cmp x o) ≡ false → before o n ≡ true → false ≡ covers before o n x
   ahead_of_both e f = grind (arith, common_steps, covers_is)
@@ -73,9 +72,7 @@ module _ (o n x : Name) where
 pub met_now : {W : Type 0} (v : W → Link) (met found : Option W) (here : Bool) (k : Link) (whole rest : Option Link) → is_some met ≡ false
     → (here ≡ true → whole ≡ option_or (Some k) rest) → (here ≡ false → whole ≡ option_or (option_map v met) rest)
     → option_map v found ≡ cond here (Some k) None → whole ≡ option_or (option_map v found) rest
-met_now v None found true k whole rest none hit past is = hit refl ∙ sym (ap (λ q. option_or q rest) is)
-met_now v None found false k whole rest none hit past is = past refl ∙ sym (ap (λ q. option_or q rest) is)
-met_now v (Some m) found here k whole rest none hit past is = absurd (false≢true (sym none))
+met_now v met found here k whole rest none hit past is = grind (arith, common_steps)
 
 -- what a match, or what a cover without one, makes of the whole list
 module _ {T : Type 0} (a : Name) (listed : List Link) (x : Name) (read : Option Link → Option Link → T) where
@@ -96,9 +93,7 @@ pub shares_apex : (a x y : Name) → is_at_or_below x a ≡ true → is_at_or_be
 shares_apex a x y under low = let long = (shared_is x y).longest a under low in omega (arith, long, shared_length x y)
 
 pub below_by_shared : (a x y : Name) → is_at_or_below x a ≡ true → length a ≤ common_labels x y → is_at_or_below y a ≡ true
-below_by_shared a x y under many =
-    let both = shared_is x y in
-    below_trans y (shared x y) a both.second (below_longer x (shared x y) a both.first under (omega (arith, many, shared_length x y)))
+below_by_shared a x y under many = grind (arith, common_steps, below_trans, below_longer, shared_length, (shared_is x y), (shared_length x y))
 
 -- so the number of shared labels tests it
 pub below_is : (a x y : Name) (n s : ℕ) → is_at_or_below x a ≡ true → n ≡ length a → s ≡ common_labels x y → leb n s ≡ is_at_or_below y a
@@ -110,5 +105,4 @@ below_is a x y n s under n_is s_is = either_way (leb n s) (is_at_or_below y a)
 
 pub longer_is : (x o n : Name) (so sn m : ℕ) → so ≡ common_labels x o → sn ≡ common_labels x n → m ≡ max so sn
     → m ≡ length (longer (shared x o) (shared x n))
-longer_is x o n so sn m so_is sn_is m_is =
-    m_is ∙ (λ i. max ((so_is ∙ sym (shared_length x o)) i) ((sn_is ∙ sym (shared_length x n)) i)) ∙ longer_length (shared x o) (shared x n)
+longer_is x o n so sn m so_is sn_is m_is = grind (arith, common_steps, shared_length)

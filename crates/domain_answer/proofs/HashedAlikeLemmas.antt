@@ -20,7 +20,7 @@ use Rattle.domain_answer.specs.declared.answer.Answer.{Answer}
 use Rattle.domain_answer.specs.declared.answer.Answer.TheVariants.{MayBeUnsigned, NoCloserName, NotProven}
 use Rattle.domain_answer.specs.Expansion.{IsExpansionRead, closer_name, closer_told, proved_expansion}
 use Rattle.domain_answer.specs.HashedProved.{hashed_proved_answer, tells_encloser, tells_wildcard}
-use Rattle.domain_answer.specs.HashedReading.{IsHashedRead, IsReadOn, encloser_answer, found_answer, next_answer, wildcard_told}
+use Rattle.domain_answer.specs.HashedReading.{IsHashedRead, IsReadOn, encloser_answer, found_answer, wildcard_told}
 use Rattle.domain_answer.specs.HashedZoneAnswer.{hashed_encloser, hashed_exists, hashed_zone_answer}
 use Rattle.domain_answer.specs.ZoneAnswer.{wildcard_below}
 use Rattle.std.proofs.lemmas.Grind.{common_steps}
@@ -31,25 +31,10 @@ abbrev BothAlike : Option HashedLink → Option HashedLink → Type 0
 BothAlike = OptionsPaired IsHashedAlike
 
 wildcard_alike : (n t : ℕ) (m o c d : Option HashedLink) → BothAlike m o → BothAlike c d → wildcard_told n t m c ≡ wildcard_told n t o d
-wildcard_alike n t (Some k) (Some l) c d m h = grind (arith, common_steps)
-wildcard_alike n t (Some k) None c d m h = absurd m
-wildcard_alike n t None (Some l) c d m h = absurd m
-wildcard_alike n t None None None None m h = refl
-wildcard_alike n t None None None (Some d) m h = absurd h
-wildcard_alike n t None None (Some c) None m h = absurd h
-wildcard_alike n t None None (Some c) (Some d) m h = refl
-
-next_alike : (n : ℕ) (c d : Option HashedLink) → BothAlike c d → next_answer n c ≡ next_answer n d
-next_alike n None None h = refl
-next_alike n None (Some d) h = absurd h
-next_alike n (Some c) None h = absurd h
-next_alike n (Some c) (Some d) h = λ i. cond (is_opt_out (h.flags i)) (MayBeUnsigned n) (NoCloserName n)
+wildcard_alike n t m o c d h h7 = grind (arith, common_steps)
 
 closer_alike : (n : ℕ) (m o c d : Option HashedLink) → BothAlike m o → BothAlike c d → closer_told n m c ≡ closer_told n o d
-closer_alike n (Some k) (Some l) c d m h = refl
-closer_alike n (Some k) None c d m h = absurd m
-closer_alike n None (Some l) c d m h = absurd m
-closer_alike n None None c d m h = next_alike n c d h
+closer_alike n m o c d h h6 = grind (arith, common_steps)
 
 abbrev encloser_with : ℕ → HashedLink → Option HashedLink → Encloser
 encloser_with count link cover = record { count = count; link = link; cover = cover }
@@ -69,16 +54,14 @@ module _ (R : HashedRecords) (ls : List HashedLink) (alike : ArePaired IsHashedA
   S = with_links R ls
 
   next_cover_alike : (next : Option Octets) → BothAlike (next_cover R next) (next_cover S next)
-  next_cover_alike None = tt
-  next_cover_alike (Some v) = covering R ls alike v
+  next_cover_alike next = grind (arith, common_steps, covering)
 
   pub expansion_alike : (x : Name) (n : ℕ) (answer : Answer) → IsExpansionRead R x n answer → IsExpansionRead S x n answer
   expansion_alike x n answer r = grind (arith, common_steps, closer_alike, matching, covering)
 
   module _ (x : Name) (t : ℕ) where
     read_on : (first answer : Answer) → IsReadOn R x t first answer → IsReadOn S x t first answer
-    read_on (NoCloserName n) answer r = grind (arith, common_steps, wildcard_alike, matching, covering)
-    read_on first answer r = r
+    read_on first answer r = grind (arith, common_steps, wildcard_alike, matching, covering)
 
     read_found : (answer : Answer) (found : Option Encloser) → IsFoundEncloser R x found
         → IsReadOn R x t (found_answer R.apex found (length x) t) answer → IsHashedRead S x t answer

@@ -50,8 +50,7 @@ use Rattle.std.proofs.lemmas.Grind.{common_steps}
 
 pub read_plain : (R : HashedRecords) (x : Name) (t : ℕ) (first answer : Answer)
     → ((n : ℕ) → first ≡ NoCloserName n → ⊥) → IsReadOn R x t first answer → answer ≡ first
-read_plain R x t (NoCloserName n) answer f r = absurd (f n refl)
-read_plain R x t first answer f r = r
+read_plain R x t first answer f r = grind (arith, common_steps)
 
 pub own_never : (a : Name) (e : Encloser) (t n : ℕ) → own_answer a e t ≡ NoCloserName n → ⊥
 own_never a e t n h = grind (arith, common_steps)

@@ -32,8 +32,7 @@ use Rattle.domain_answer.proofs.HashedAnswerLemmas.{own_never, read_plain}
 use Rattle.std.proofs.lemmas.Grind.{common_steps}
 
 chosen : (P : Answer → Type 0) (b : Bool) (v w : Answer) → P v → P w → P (cond b v w)
-chosen P true v w h k = h
-chosen P false v w h k = k
+chosen P b v w h k = grind (arith, common_steps)
 
 -- ---- what an answer may be
 
@@ -170,15 +169,10 @@ module _ (R : HashedRecords) (x : Name) (t : ℕ) (answer : Answer) where
 -- ---- which labels the wildcard is asked below
 
 asks_lower : (b c o : Bool) (m n : ℕ) → cond b (Referral m) (cond c (Redirected m) (cond o (MayBeUnsigned m) (NoCloserName m))) ≡ NoCloserName n → n ≡ m
-asks_lower true c o m n h = absurd (cc)
-asks_lower false true o m n h = absurd (cc)
-asks_lower false false true m n h = absurd (cc)
-asks_lower false false false m n h = let s : m ≡ n = cc in sym s
+asks_lower b c o m n h = grind (arith, common_steps)
 
 asks_none : (b c : Bool) (m n : ℕ) → cond b (Referral m) (cond c (Redirected m) NotProven) ≡ NoCloserName n → ⊥
-asks_none true c m n h = absurd (cc)
-asks_none false true m n h = absurd (cc)
-asks_none false false m n h = absurd (cc)
+asks_none b c m n h = grind (arith, common_steps)
 
 -- what leaves no more to ask than the wildcard is told below the closest encloser
 pub record IsAsked (R : HashedRecords) (x : Name) (t n : ℕ) : Type 0 where

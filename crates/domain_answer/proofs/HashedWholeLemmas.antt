@@ -54,11 +54,7 @@ next_child l e = let none : length (l ∷ e) - (length e + 1) ≡ 0 = omega arit
 
 -- of a proof that has a record of m, one of m is left, and what closes it
 closed : (m s c d v : Bool) → (m && ((s || c) || v)) ≡ true → (m && (((s || c) || d) || v)) ≡ true
-closed true true c d v e = refl
-closed true false true d v e = refl
-closed true false false true v e = refl
-closed true false false false v e = e
-closed false s c d v e = absurd (false≢true e)
+closed m s c d v e = grind (arith, common_steps)
 
 module _ (verdicts : ProvesVerdicts) (L : List ZoneRecord) (a : Name) (config : ChainConfig) (links : List HashedLink)
     (chain : IsHashedChain L a config links) where

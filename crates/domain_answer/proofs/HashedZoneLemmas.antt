@@ -14,7 +14,7 @@ use Rattle.domain_zone.proofs.NameLemmas.{below_length, below_longer, below_tran
 use Rattle.domain_zone.proofs.PairLemmas.{In}
 use Rattle.domain_zone.proofs.OwnerLemmas.{any_in, in_any, below_occluder, occluder_owns}
 use Rattle.domain_nsec3.specs.Config.{ChainConfig}
-use Rattle.domain_nsec3.specs.Owners.{is_unsigned_cut, nsec3_lists, original_owners}
+use Rattle.domain_nsec3.specs.Owners.{nsec3_lists, original_owners}
 use Rattle.domain_checker.proofs.EncloserLemmas.{apex_from, closest_is, cut_same, exists_same, owner_unoccluded, same_count}
 use Rattle.domain_answer.specs.declared.answer.Answer.TheVariants.{OutsideZone, AtParent, Referral, Redirected, Has, NoDs, Alias, NoData, Wildcard}
 use Rattle.domain_answer.specs.declared.answer.Answer.TheVariants.{WildcardAlias, WildcardNoData, NameError, MayBeUnsigned}
@@ -35,20 +35,14 @@ all_kept (x ∷ xs) = ap (λ ys. x ∷ ys) (all_kept xs)
 -- ---- types that both chains list alike
 
 signed : (r cut d : Bool) → (r && cut) ≡ false → (r && not (cut && not d)) ≡ r
-signed true true d e = absurd (false≢true (sym e))
-signed true false d e = refl
-signed false cut d e = refl
+signed r cut d e = grind (arith, common_steps)
 
 turned : (p q : Bool) → (p && q) ≡ (q && p)
-turned true true = refl
-turned true false = refl
-turned false true = refl
-turned false false = refl
+turned p q = grind (arith, common_steps)
 
 -- at a zone cut they don't list RRSIG alike, where there is no DS record
 signed_at : (t : ℕ) (cut : Bool) → (cut && not (t == ds)) ≡ false → ((t == rrsig) && cut) ≡ false
-signed_at t false e = and_false (t == rrsig)
-signed_at t true e = grind (arith, common_steps)
+signed_at t cut e = grind (arith, common_steps)
 
 module _ (L : List ZoneRecord) (a : Name) (config : ChainConfig) where
   abbrev assume : Bool
@@ -82,9 +76,7 @@ module _ (L : List ZoneRecord) (a : Name) (config : ChainConfig) where
 
   module _ (out : is_opt_out config.flags ≡ false) (leaves : HashedLeavesOutBelowDname L a config) where
     owners_are : original_owners L a config ≡ unoccluded_owners true L a
-    owners_are =
-        (λ j. filter (λ n. not ((out j && config.exclude_unsigned) && is_unsigned_cut L a n)) (leaves j))
-        ∙ all_kept (unoccluded_owners true L a)
+    owners_are = grind (arith, common_steps, (all_kept (unoccluded_owners true L a)))
 
     exists_alike : (y : Name) → hashed_exists L a config y ≡ name_exists L a y
     exists_alike y = ap (λ names. exists_over names a y) owners_are

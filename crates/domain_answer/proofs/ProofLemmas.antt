@@ -1,7 +1,7 @@
 -- Of any records at all: those that an answer rests on are there, and what it counts is within the name.
-use Rattle.std.proofs.Common.{◌≡◌, ◌<◌, arith, ℕ, Bool, true, false, cond, ◌&&◌, ◌||◌, List, length, refl, Option, Some, None}
+use Rattle.std.proofs.Common.{◌≡◌, ◌<◌, arith, ℕ, Bool, true, false, cond, ◌||◌, List, length, refl, Option, Some, None}
 use Rattle.std.specs.List.{find}
-use Rattle.std.proofs.lemmas.Bool.{and_parts, and_from, or_left, or_right}
+use Rattle.std.proofs.lemmas.Bool.{and_parts, or_left, or_right}
 use Rattle.domain_bitmap.specs.Blocks.{contains_type}
 use Rattle.domain_names.specs.Name.{is_strictly_below, last_labels}
 use Rattle.domain_names.specs.Order.{before}
@@ -25,13 +25,11 @@ use Rattle.domain_answer.proofs.CountLemmas.{encloser_less}
 use Rattle.std.proofs.lemmas.Grind.{common_steps}
 
 choose : (P : Answer → Type 0) (b : Bool) (v w : Answer) → P v → P w → P (cond b v w)
-choose P true v w p q = p
-choose P false v w p q = q
+choose P b v w p q = grind (arith, common_steps)
 
 module _ (a : Name) (listed : List Link) where
   told : (y : Name) (k : Link) → In k listed → is_inside a k ≡ true → matches_or_covers before k.owner k.next y ≡ true → HasProof listed a y
-  told y k i e f = in_any (λ k. is_inside a k && matches_or_covers before k.owner k.next y) listed k i
-      (and_from (is_inside a k) (matches_or_covers before k.owner k.next y) e f)
+  told y k i e f = grind (arith, common_steps, in_any)
 
   by_match : (y : Name) (k : Link) → find (is_match a y) listed ≡ Some k → HasProof listed a y
   by_match y k e =
@@ -89,8 +87,7 @@ module _ (a : Name) (listed : List Link) where
     Counts = CountsWithin (length x)
 
     choose_by : (b : Bool) (v w : Answer) → (b ≡ true → Counts v) → (b ≡ false → Counts w) → Counts (cond b v w)
-    choose_by true v w p q = p refl
-    choose_by false v w p q = q refl
+    choose_by b v w p q = grind (arith, common_steps)
 
     absent_counts : (n : ℕ) → n < length x → Counts (absent_answer a listed n x t)
     absent_counts n h = by (find (is_match a w) listed) (find (is_cover a w) listed)

@@ -1,5 +1,5 @@
 -- What records tell of a name by themselves, and what is left to a wildcard.
-use Rattle.std.proofs.Common.{◌≡◌, ◌≢◌, ℕ, ◌<◌, Bool, cond, List, length, Option, Some, None, refl, arith}
+use Rattle.std.proofs.Common.{◌≡◌, ◌≢◌, ℕ, ◌<◌, Bool, cond, List, length, Option, arith}
 use Rattle.std.specs.List.{find}
 use Rattle.domain_names.specs.Words.{Name}
 use Rattle.domain_nsec.specs.Chain.{Link}
@@ -8,8 +8,7 @@ use Rattle.domain_answer.specs.declared.answer.Answer.{Answer}
 use Rattle.domain_answer.specs.declared.answer.Answer.TheVariants as answer
 use Rattle.domain_answer.specs.declared.answer.NameAnswer.TheVariants.{Given, Absent}
 use Rattle.domain_answer.specs.NameAnswer.{IsNameAnswer, name_answer}
-use Rattle.domain_answer.specs.Reading.{absent_answer, match_answer, owner_answer, wildcard_answer, wildcard_both, wildcard_cover_answer}
-use Rattle.domain_answer.specs.Reading.{wildcard_match_answer}
+use Rattle.domain_answer.specs.Reading.{absent_answer, match_answer, owner_answer, wildcard_answer, wildcard_both, wildcard_cover_answer, wildcard_match_answer}
 use Rattle.std.proofs.lemmas.Grind.{common_steps}
 
 -- ---- what a record says of its owner, or of what is below it, rests on no wildcard
@@ -33,9 +32,7 @@ module _ (a w : Name) (n t : ℕ) where
   of_cover k = grind (arith, common_steps)
 
   of_both : (m c : Option Link) → name_answer (wildcard_both a n w t m c) ≡ Absent n
-  of_both (Some k) c = of_match k
-  of_both None (Some k) = of_cover k
-  of_both None None = refl
+  of_both m c = grind (arith, common_steps, of_cover)
 
 pub wildcard_own : (a : Name) (listed : List Link) (n : ℕ) (w : Name) (t : ℕ) → name_answer (wildcard_answer a listed n w t) ≡ Absent n
 wildcard_own a listed n w t = of_both a w n t (find (is_match a w) listed) (find (is_cover a w) listed)
@@ -52,12 +49,7 @@ module _ (a : Name) (listed : List Link) (x : Name) (t : ℕ) (whole : Answer) w
 -- ---- what is given is the whole answer, and no wildcard is asked for
 
 pub given_is : (whole said : Answer) → Given said ≡ name_answer whole → whole ≡ said
-given_is (answer.Wildcard n) said e = absurd (cc)
-given_is (answer.WildcardAlias n) said e = absurd (cc)
-given_is (answer.WildcardNoData n) said e = absurd (cc)
-given_is (answer.NameError n) said e = absurd (cc)
-given_is (answer.NoCloserName n) said e = absurd (cc)
-given_is other said e = cc
+given_is whole said e = grind (arith, common_steps)
 
 pub given_never : (whole said : Answer) → Given said ≡ name_answer whole → (n : ℕ) → said ≢ answer.NoCloserName n
 given_never whole said e n f = grind (arith, common_steps)

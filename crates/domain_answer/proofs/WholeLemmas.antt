@@ -1,6 +1,5 @@
 -- The whole chain proves all that the zone says; and which chains leave out the names below a DNAME.
-use Rattle.std.proofs.Common.{◌≡◌, ◌≢◌, ℕ, Bool, true, false, cond, not, ◌&&◌, ◌||◌, List, [], ◌∷◌, map, length, refl, sym, ap, ◌∙◌, inl, inr, Option, Some}
-use Rattle.std.proofs.Common.{None, arith}
+use Rattle.std.proofs.Common.{◌≡◌, ◌≢◌, ℕ, Bool, true, false, cond, not, ◌&&◌, ◌||◌, List, [], ◌∷◌, map, length, refl, sym, ap, ◌∙◌, inl, inr, Option, arith}
 use Rattle.std.specs.Prelude.{All, filter}
 use Rattle.std.specs.List.{list_any}
 use Rattle.std.proofs.lemmas.Bool.{cases_Bool, and_parts}
@@ -21,11 +20,11 @@ use Rattle.domain_checker.specs.Verdict.{has_match_or_cover}
 use Rattle.domain_checker.proofs.EncloserLemmas.{closest_is, in_distinct}
 use Rattle.domain_checker.proofs.MeantLemmas.{ChainLaws, apex_exists, some_link}
 use Rattle.domain_answer.specs.declared.answer.Answer.{Answer}
-use Rattle.domain_answer.specs.declared.answer.Answer.TheVariants.{Referral, Redirected, NoCloserName, NotProven}
+use Rattle.domain_answer.specs.declared.answer.Answer.TheVariants.{NoCloserName, NotProven}
 use Rattle.domain_answer.specs.Proved.{LeavesOutBelowDname, is_missing, knows_wildcard, proved_answer}
 use Rattle.domain_answer.specs.ZoneAnswer.{asterisk, encloser, inside_answer, is_at_parent, name_exists, wildcard_below, zone_answer}
 use Rattle.domain_answer.proofs.ChainLemmas.{meant_leaving}
-use Rattle.domain_answer.proofs.DefiniteLemmas.{choose, either, existing_says, is_of_zone, of_zone_knows, of_zone_proves, wildcard_says}
+use Rattle.domain_answer.proofs.DefiniteLemmas.{choose, either, is_of_zone, of_zone_knows, of_zone_proves}
 use Rattle.std.proofs.lemmas.Grind.{common_steps}
 
 pub wildcard_low : (L : List ZoneRecord) (a : Name) (x : Name) → name_exists L a a ≡ true → is_at_or_below x a ≡ true
@@ -64,8 +63,7 @@ whole_proves laws L a config links x t leaves order chain =
 module _ (L : List ZoneRecord) (a : Name) (assume : Bool) (x : Name) (t : ℕ) where
   inside_says : (o : Option Name) → is_of_zone (inside_answer L a assume x t o) ≡ true
   unfolding is_of_zone
-  inside_says None = grind (arith, common_steps, choose, existing_says, wildcard_says)
-  inside_says (Some o) = choose (is_zone_cut L a o) (Referral (length o)) (Redirected (length o)) refl refl
+  inside_says o = grind (arith, common_steps, choose)
 
   zone_says : is_of_zone (zone_answer L a assume x t) ≡ true
   unfolding is_of_zone

@@ -23,6 +23,7 @@ struct Shares {
 
 /// Whether the owner and the next name cover the name: it lies between the two, or on either side
 /// of them where the next name is not after the owner. If so, how many labels it shares with them.
+#[tactic(auto, using(crate::proofs::FoundLemmas::at_owner, crate::proofs::FoundLemmas::ahead_of_both, crate::proofs::FoundLemmas::ahead_of_next, crate::proofs::FoundLemmas::after_both, crate::proofs::FoundLemmas::uncovered))]
 fn covered<N: ToName, M: ToName>(owner: &N, next: &N, name: &M) -> Option<Shares>
     ensures covers { is_some result
         ≡ covers before (N.labels owner.now) (N.labels next.now) (M.labels name.now) }
@@ -48,6 +49,7 @@ fn covered<N: ToName, M: ToName>(owner: &N, next: &N, name: &M) -> Option<Shares
 
 /// Whether the owner and the next name are at or below the apex, by what a name shares with them:
 /// where it is at or below the apex, as many labels as that has.
+#[tactic(auto, using(crate::proofs::FoundLemmas::below_by_shared, crate::proofs::FoundLemmas::below_is))]
 fn shares_apex<A: ToName, O: Octets, N: ToName, M: ToName>(
     apex: &A,
     listed: &NsecRr<O, N>,
@@ -81,6 +83,7 @@ pub(crate) fn is_match<A: ToName, O: Octets, N: ToName, M: ToName>(
 }
 
 /// The record with what it shares with the name, where it is not passed over and covers the name.
+#[tactic(auto, using(crate::proofs::FoundLemmas::longer_is))]
 pub(crate) fn cover_of<'a, A: ToName, O: Octets, N: ToName, M: ToName>(
     apex: &A,
     listed: &'a NsecRr<O, N>,

@@ -63,8 +63,7 @@ first_low : (us : List Octets) → IsStrictlySortedBy (slice_cmp nat_cmp) us →
     → octets_before h (get_or us 0 d) ≡ false
 first_low [] up i h d e = absurd (cc)
 first_low (u ∷ us) up zero h d e = let same : u ≡ h = cc in ap (λ w. octets_before w u) (sym same) ∙ irreflexive octets_order u
-first_low (u ∷ us) up (suc i) h d e =
-    all_in (λ v. octets_before v u ≡ false) us h (all_after us u (ascends (u ∷ us) up).0) (in_at us i h e)
+first_low (u ∷ us) up (suc i) h d e = grind (arith, common_steps, all_in, (all_after us u (ascends (u ∷ us) up).0), (in_at us i h e))
 
 -- ---- the pairs of the cycle, by their places
 

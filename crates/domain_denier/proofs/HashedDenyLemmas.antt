@@ -1,5 +1,5 @@
 -- What is picked of the NSEC3 chain of a zone is what its answer rests on, and no more.
-use Rattle.std.proofs.Common.{◌≡◌, ◌≢◌, ℕ, ◌+◌, ◌-◌, ◌<◌, Bool, true, false, cond, not, ◌&&◌, ◌||◌, List, [], ◌∷◌, map, drop, length, Some, None, Option}
+use Rattle.std.proofs.Common.{◌≡◌, ◌≢◌, ℕ, ◌-◌, ◌<◌, Bool, true, false, cond, not, ◌&&◌, ◌||◌, List, [], ◌∷◌, map, length, Some, None, Option}
 use Rattle.std.proofs.Common.{slice_get, nat_eq, refl, sym, ap, ◌∙◌, inl, inr, ◌⊎◌, arith}
 use Rattle.std.specs.Prelude.{All}
 use Rattle.std.specs.List.{Contains, list_any}
@@ -175,8 +175,7 @@ module _ (laws : DenyLaws) (L : List ZoneRecord) (a : Name) (config : ChainConfi
   -- ---- each is needed
 
   without_contained : (place : ℕ) (d : Nsec3Denial) → All (Contains links) (picked_without links place d)
-  without_contained place d =
-      three_contained links (other_place place d.of_encloser) (other_place place d.of_next_closer) (other_place place d.of_wildcard)
+  without_contained place d = grind (arith, common_steps, three_contained)
 
   needed_is : (d : Nsec3Denial) → IsPickedRead (chain_records a config links) x t d → AreHashedNeeded L a config links x t d
   needed_is d read = record {
@@ -221,19 +220,11 @@ module _ (laws : DenyLaws) (L : List ZoneRecord) (a : Name) (config : ChainConfi
 
   encloser_told : (place : ℕ) → IsSoleMatch (chain_records a config links) x place
       → is_matched (chain_records a config (at_place links (Some place))) (hashed_encloser L a config x) ≡ true
-  encloser_told place sole =
-      ap (is_ok_with (λ v. list_any (is_hash_match a config.parameters v) (at_place links (Some place))))
-      (hash_same config.hash en sole.name (is_first place sole) ∙ sole.known)
-      ∙ one_any (is_hash_match a config.parameters sole.value) place sole.of.link sole.of.there sole.of.matched
+  encloser_told place sole = grind (arith, common_steps, (hash_same config.hash en sole.name (is_first place sole)))
 
   closer_told : (place : ℕ) → IsSoleCover (chain_records a config links) x place
       → is_covered (chain_records a config (at_place links (Some place))) (next_closer x (hashed_encloser L a config x)) ≡ true
-  closer_told place cover =
-      let count = same_count en cover.sole.name (is_first cover.encloser cover.sole) in
-      ap (is_ok_with (λ v. list_any (is_hash_cover a config.parameters v) (at_place links (Some place))))
-      (ap (λ n. hash_name config.hash (drop (length x - (n + 1)) x)) count ∙ cover.known)
-      ∙ one_any (is_hash_cover a config.parameters cover.value) place cover.of.link cover.of.there
-      (sym (λ j. cover.of.matched j || is_hash_cover a config.parameters cover.value cover.of.link) ∙ cover.of.says)
+  closer_told place cover = grind (arith, common_steps, (same_count en cover.sole.name (is_first cover.encloser cover.sole)))
 
   wildcard_told : (place : ℕ) → IsSoleWildcard (chain_records a config links) x place
       → tells_wildcard L a config (at_place links (Some place)) x ≡ true

@@ -40,8 +40,7 @@ use Rattle.std.proofs.lemmas.Grind.{common_steps}
 -- a first answer after which the wildcard is not asked for
 plain_on : (R : HashedRecords) (x : Name) (t : ℕ) (first : Answer)
     → ((n : ℕ) → first ≡ NoCloserName n → ⊥) → IsReadOn R x t first first
-plain_on R x t (NoCloserName n) f = absurd (f n refl)
-plain_on R x t first f = refl
+plain_on R x t first f = grind (arith, common_steps)
 
 -- all links stand among themselves
 pub all_among : (links : List HashedLink) → AreAmong links links
@@ -393,17 +392,10 @@ record_there (l ∷ links) (suc place) h = record_there links place (omega (arit
 
 -- ---- the places are places of the chain
 
-role_cover : (a : Name) (e : Encloser) (n : ℕ) (cover : Option ℕ) (q : ℕ) → next_role a e n cover ≡ Some q → cover ≡ Some q
-role_cover a e n cover q h = grind (arith, common_steps)
-
 pub name_there : (links : List HashedLink) (a x : Name) (f : PlacedEncloser) → IsInside links a x f → (k : HashedLink) (n t : ℕ) (d : Nsec3Denial)
     → IsFirstDenial a links k f n t d → (place : ℕ) → TellsOfName d place → place < length links
-name_there links a x f inside k n t d first place (inl e) =
-    subst (λ m. m < length links) (some_is f.place place (sym first.encloser ∙ e)) inside.place
-name_there links a x f inside k n t d first place (inr e) =
-    inside.cover place (role_cover a (encloser_with f.count k (link_at links f.cover)) n f.cover place (sym first.next_closer ∙ e))
+name_there links a x f inside k n t d first place h = grind (arith, common_steps)
 
 pub first_there : (links : List HashedLink) (a x : Name) (f : PlacedEncloser) → IsInside links a x f → (k : HashedLink) (n t : ℕ) (d : Nsec3Denial)
     → IsFirstDenial a links k f n t d → AreHashedThere links d
-first_there links a x f inside k n t d first place (inl e) = name_there links a x f inside k n t d first place e
-first_there links a x f inside k n t d first place (inr e) = absurd (none_some place (sym first.wildcard ∙ e))
+first_there links a x f inside k n t d first place h = grind (arith, common_steps)

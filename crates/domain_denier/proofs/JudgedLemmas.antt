@@ -3,7 +3,7 @@ use Rattle.std.proofs.Common.{◌≡◌, ◌≢◌, ℕ, ◌<◌, Bool, true, fa
 use Rattle.std.proofs.Common.{refl, sym, ap, ◌∙◌, subst, arith, inl, inr, ◌⊎◌}
 use Rattle.std.specs.List.{find}
 use Rattle.std.proofs.lemmas.Option.{slice_get_cases, slice_get-get_or}
-use Rattle.std.proofs.lemmas.Bool.{cases_Bool, false≢true, and_parts, or_left, or_right}
+use Rattle.std.proofs.lemmas.Bool.{cases_Bool, false≢true, and_parts, or_left}
 use Rattle.domain_names.specs.Name.{is_at_or_below, is_strictly_below, same_name, last_labels}
 use Rattle.domain_names.specs.Order.{before}
 use Rattle.domain_names.specs.Words.{Name}
@@ -16,12 +16,12 @@ use Rattle.domain_checker.specs.Reading.{is_at_cut, is_cover, is_match}
 use Rattle.domain_answer.specs.declared.answer.Answer.{Answer}
 use Rattle.domain_answer.specs.declared.answer.Answer.TheVariants.{AtParent, NoCloserName, NoData, OutsideZone}
 use Rattle.domain_answer.specs.declared.answer.NameAnswer.{NameAnswer}
-use Rattle.domain_answer.specs.declared.answer.NameAnswer.TheVariants.{Given, Absent}
+use Rattle.domain_answer.specs.declared.answer.NameAnswer.TheVariants.{Given}
 use Rattle.domain_answer.specs.NameAnswer.{IsNameAnswer, name_answer}
 use Rattle.domain_answer.specs.Reading.{absent_answer, listed_both, match_answer, owner_answer, reading, tells_occluded, wildcard_answer}
-use Rattle.domain_answer.specs.Reading.{wildcard_both, wildcard_cover_answer, wildcard_match_answer}
+use Rattle.domain_answer.specs.Reading.{wildcard_both, wildcard_match_answer}
 use Rattle.domain_answer.specs.ZoneAnswer.{is_at_parent, wildcard_below}
-use Rattle.domain_answer.proofs.ToldLemmas.{given_is, given_never, match_own, owner_own}
+use Rattle.domain_answer.proofs.ToldLemmas.{given_never, match_own, owner_own}
 use Rattle.domain_denier.specs.Judged.{IsOfWildcard, IsSilent, IsTold, Tells}
 use Rattle.domain_denier.specs.declared.judged.OfWildcard.{OfWildcard}
 use Rattle.domain_denier.specs.declared.judged.OfWildcard.TheVariants.{Told, Untold}
@@ -33,8 +33,7 @@ from_match : (a x : Name) (k : Link) → is_match a x k ≡ true → matches_or_
 from_match a x k e = or_left (matches before k.owner x) (covers before k.owner k.next x) (and_parts (matches before k.owner x) (is_inside a k) e).0
 
 from_cover : (a x : Name) (k : Link) → is_cover a x k ≡ true → matches_or_covers before k.owner k.next x ≡ true
-from_cover a x k e =
-    or_right (matches before k.owner x) (covers before k.owner k.next x) (and_parts (covers before k.owner k.next x) (is_inside a k) e).0
+from_cover a x k e = grind (arith, common_steps)
 
 -- a record whose owner is another name does not match
 pub unmatched : (a x : Name) (k : Link) → same_name k.owner x ≡ false → is_match a x k ≡ false
@@ -43,16 +42,8 @@ unmatched a x k e = λ i. (sym (same_is k.owner x) ∙ e) i && is_inside a k
 -- ---- what is said of a wildcard tells that the name is denied
 
 module _ (a w : Name) (n t : ℕ) where
-  told_match : (k : Link) → IsTold (wildcard_match_answer a n k t)
-  told_match k = grind (arith, common_steps)
-
-  told_cover : (k : Link) → IsTold (wildcard_cover_answer a n k w)
-  told_cover k = grind (arith, common_steps)
-
   told_both : (m c : Option Link) → IsTold (wildcard_both a n w t m c)
-  told_both (Some k) c = told_match k
-  told_both None (Some k) = told_cover k
-  told_both None None = record { inside = λ e. cc; here = λ e. cc; proven = λ e. cc }
+  told_both m c = grind (arith, common_steps)
 
   pub told_wildcard : (listed : List Link) → IsTold (wildcard_answer a listed n w t)
   told_wildcard listed = told_both (find (is_match a w) listed) (find (is_cover a w) listed)
@@ -60,8 +51,7 @@ module _ (a w : Name) (n t : ℕ) where
 -- so both forms of an answer of the name tell it
 pub told_whole : (a : Name) (listed : List Link) (x : Name) (t : ℕ) (whole : Answer) (told : NameAnswer) → IsNameAnswer whole a listed x t told
     → Tells told → IsTold whole
-told_whole a listed x t whole (Given answer) is tells = subst IsTold (sym (given_is whole answer is.exact)) tells
-told_whole a listed x t whole (Absent n) is tells = subst IsTold (sym (is.absent n refl).0) (told_wildcard a (wildcard_below (last_labels n x)) n t listed)
+told_whole a listed x t whole told is tells = grind (arith, common_steps)
 
 -- ---- only of a name outside the zone is it said that it is
 
@@ -153,11 +143,7 @@ module _ (a x : Name) (t : ℕ) (k : Link) where
 
   silent_by : (n m : ℕ) (mb cb : Bool) → is_match a (w_of n) k ≡ mb → is_cover a (w_of n) k ≡ cb → said n mb cb ≡ NoCloserName m → Silent n m
   silent_by n m true cb f g e = absurd (wildcard_match_never n m e)
-  silent_by n m false false f g e = record {
-    same = let same : NoCloserName n ≡ NoCloserName m = e in cc;
-    unmatching = f;
-    occluded = λ h. absurd (false≢true (sym g ∙ h));
-  }
+  silent_by n m false false f g e = grind (arith, common_steps)
   silent_by n m false true f g e =
       let by = covered (tells_occluded a k (w_of n)) (is_strictly_below k.next (w_of n)) e in
       record { same = by.0; unmatching = f; occluded = λ h. by.1 }
@@ -206,11 +192,7 @@ module _ (a x : Name) (t : ℕ) (k : Link) where
   module _ (n : ℕ) (d : Denies n) (l : Link) (other : is_match a x l ≡ false) where
     -- both say of the name what they say of the wildcard
     pub both_read : reading a (k ∷ l ∷ []) x t ≡ wildcard_answer a (k ∷ l ∷ []) n (w_of n) t
-    both_read =
-        (λ i. cond (not (d.under i)) OutsideZone (cond (d.parent i) AtParent
-        (listed_both a (k ∷ l ∷ []) x t (cond (d.unmatching i) (Some k) (cond (other i) (Some l) None))
-        (cond (d.covering i) (Some k) (cond (is_cover a x l) (Some l) None)))))
-        ∙ (λ i. cond (d.free i) (owner_answer a k) (cond (d.no_end i) NoData (absent_answer a (k ∷ l ∷ []) (d.counts i) x t)))
+    both_read = grind (arith, common_steps)
 
     -- and where they say something of that, the other record does
     pub second_tells : ((m : ℕ) → wildcard_answer a (k ∷ l ∷ []) n (w_of n) t ≢ NoCloserName m)

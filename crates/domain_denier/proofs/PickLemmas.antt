@@ -1,6 +1,6 @@
 -- What is picked of the chain of a zone is what its answer rests on, and no more.
 use Rattle.std.proofs.Common.{◌≡◌, ◌≢◌, ℕ, zero, suc, ◌<◌, arith, Bool, true, false, cond, not, ◌&&◌, ◌||◌, List, [], ◌∷◌, ◌++◌, length, slice_get, Some, None}
-use Rattle.std.proofs.Common.{refl, sym, ap, ◌∙◌, subst, inl, inr, ◌⊎◌}
+use Rattle.std.proofs.Common.{sym, ap, ◌∙◌, subst, inl, inr, ◌⊎◌}
 use Rattle.std.specs.Prelude.{All}
 use Rattle.std.specs.List.{Contains}
 use Rattle.std.proofs.lemmas.Bool.{cases_Bool, false≢true, and_parts, or_right, not-true}
@@ -79,11 +79,7 @@ module _ (laws : ChainLaws) (answers : AnswerLaws) (links : List Link) (L : List
       → (cond needs v (cond (not has) NotProven (cond (missing && not knows) (NoCloserName n) v)) ≡ v)
       ⊎ ((cond needs v (cond (not has) NotProven (cond (missing && not knows) (NoCloserName n) v)) ≡ NoCloserName n)
       × (missing ≡ true) × (knows ≡ false))
-  halves true has missing knows n v e = inl refl
-  halves false false missing knows n v e = absurd (false≢true e)
-  halves false true false knows n v e = inl refl
-  halves false true true true n v e = inl refl
-  halves false true true false n v e = inr (refl, refl, refl)
+  halves needs has missing knows n v e = grind (arith, common_steps)
 
   pub half : (listed : List Link) → All (Contains links) listed → has_match_or_cover listed x ≡ true
       → (reading a listed x t ≡ zone) ⊎ IsHalf listed

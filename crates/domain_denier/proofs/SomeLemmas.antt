@@ -92,8 +92,7 @@ pub in_place : (links : List HashedLink) (o : Option ℕ) (place : ℕ) (k : Has
 in_place links o place k e g = subst (λ ls. In k ls) (sym (ap (at_place links) e ∙ ap listed_option g)) (inl refl)
 
 from_other : (gone : ℕ) (o : Option ℕ) (place : ℕ) → other_place gone o ≡ Some place → (o ≡ Some place) × (place ≡ gone → ⊥)
-from_other gone None place e = absurd (cc)
-from_other gone (Some q) place e = grind (arith, common_steps)
+from_other gone o place e = grind (arith, common_steps)
 
 -- another place is kept
 pub kept_place : (gone : ℕ) (o : Option ℕ) (place : ℕ) → o ≡ Some place → (place ≡ gone → ⊥) → other_place gone o ≡ Some place

@@ -2,7 +2,6 @@ use Rattle.std.proofs.Common.{List, subst, arith}
 use Rattle.domain_names.specs.Words.{Name}
 use Rattle.domain_nsec.specs.Chain.{Link}
 use Rattle.domain_nsec.specs.ChainView.{links_of}
-use Rattle.domain_answer.specs.Found.{IsCovered}
 use Rattle.domain_answer.specs.NameAnswer.{IsNameAnswer}
 use Rattle.domain_answer.specs.Reading.{listed_both}
 use Rattle.domain_answer.proofs.FoundLemmas.{cover_reads, found_covers}
@@ -31,8 +30,7 @@ pub cover_answer-requires-clause-covers : goal.cover_answer-requires-clause-cove
 cover_answer-requires-clause-covers g c = found_covers _ _ _ _ (rw c.in-Cover.is at c.find_nsec.ensures.found)
 
 pub cover_answer-requires-clause-shared : goal.cover_answer-requires-clause-shared
-cover_answer-requires-clause-shared g c =
-    subst (IsCovered g.N.ToName.labels (g.M.ToName.labels c.args.name.now)) c.in-Cover.is c.find_nsec.ensures.shared
+cover_answer-requires-clause-shared g c = grind (arith, common_steps)
 
 pub returns-in-Cover : goal.returns-in-Cover
 returns-in-Cover g c =

@@ -1,10 +1,11 @@
+use Rattle.std.proofs.Common.{arith}
+use Rattle.std.proofs.lemmas.Grind.{common_steps}
 use Rattle.domain_zone.proofs.NameLemmas.{below_itself}
 use Rattle.domain_answer.proofs.HashedZoneLemmas.{apex_of_chain, zone_alike}
 use Rattle.domain_answer.proofs.nsec3_laws.zones_without_opt_out_answer_alike.Goals as goal
 
 pub returns-clause-zone : goal.returns-clause-zone
-returns-clause-zone c = λ L a config x t out leaves apex apart.
-    zone_alike L a config out leaves (c.types_ignore_case.ensures L a config) apex x t apart
+returns-clause-zone c = grind (arith, common_steps, zone_alike)
 
 pub returns-clause-chain : goal.returns-clause-chain
 returns-clause-chain c = λ L a config links x t out leaves chain apart.

@@ -97,5 +97,4 @@ names-preserved g c =
     }
 
 pub returns-clause-placed : goal.returns-clause-placed
-returns-clause-placed g c L config whole =
-    none_placed _ _ _ _ (c.names.invariant.missed L config whole) (sym c.name_eq.ensures.value ∙ c.names-test.false)
+returns-clause-placed g c L config whole = grind (arith, common_steps, none_placed)
