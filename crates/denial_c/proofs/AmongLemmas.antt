@@ -28,9 +28,6 @@ module _ {K : Type 0} (is_kept : RawRecord → Bool) (raw : K → RawRecord) (Is
     pub those : filter is_kept records ≡ map raw kept
     pub fit : AllByRecursion IsKept kept
 
-  pub read_none : (octets : List ℕ) → IsRead octets octets []
-  read_none octets = record { records = []; are = refl; whole = tt; those = refl; fit = tt }
-
   pub passed : (octets left after : List ℕ) (kept : List K) (r : RawRecord) → IsRead octets left kept → left ≡ record_octets r ++ after → IsRecord r
       → is_kept r ≡ false → IsRead octets after kept
   passed octets left after kept r s begins fits off = record {

@@ -21,9 +21,6 @@ pub record IsHanding (class : ℕ) (octets left : List ℕ) (old new : NsecCheck
   pub read : IsRead (is_of rtypes.nsec class) nsec_record IsNsec octets left links
   pub adds : Adds old new links
 
-pub handing_none : (class : ℕ) (octets : List ℕ) (check : NsecCheck) → IsHanding class octets octets check check
-handing_none class octets check = grind (arith, common_steps)
-
 pub handing_other : (class : ℕ) (octets left after : List ℕ) (old new : NsecCheck) (r : RawRecord)
     → IsHanding class octets left old new → left ≡ record_octets r ++ after → IsRecord r
     → is_of rtypes.nsec class r ≡ false → IsHanding class octets after old new

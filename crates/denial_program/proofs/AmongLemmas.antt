@@ -44,9 +44,6 @@ pub record IsHanding (all left : List RawRecord) (old new : NsecCheck) : Type 0 
   pub goes : Goes IsNsecOf all left links
   pub adds : Adds old new links
 
-pub handing_none : (all left : List RawRecord) (check : NsecCheck) → left ≡ all → IsHanding all left check check
-handing_none all left check e = grind (arith, common_steps)
-
 pub handing_other : (all left rest : List RawRecord) (old new : NsecCheck) (r : RawRecord) → IsHanding all left old new → left ≡ r ∷ rest
     → ((k : Link) → IsNsecOf r k → ⊥)
     → IsHanding all rest old new

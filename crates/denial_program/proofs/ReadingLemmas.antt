@@ -42,9 +42,6 @@ Follows known now records number = IfSome known (λ all. (rest : List ℕ) × (n
 abbrev pub FollowsAt : Option (List ℕ) → Option (List ℕ) → List ℕ → List RawRecord → ℕ → Type 0
 FollowsAt known now out records number = IfSome known (λ all. (rest : List ℕ) × (now ≡ Some rest) × Continues (lines all) (out ∷ lines rest) records number)
 
-pub follows_start : (known : Option (List ℕ)) (records : List RawRecord) (number : ℕ) → records ≡ [] → number ≡ 1 → Follows known known records number
-follows_start known records number e one = grind (arith, common_steps)
-
 pub follows_end : (known now : Option (List ℕ)) (records : List RawRecord) (number : ℕ)
     → Follows known now records number → IsAtEnd now → IfSome known (λ all. Give (lines all) records)
 follows_end None now records number h e = tt

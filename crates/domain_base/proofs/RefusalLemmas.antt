@@ -1,19 +1,15 @@
 -- Tokens that are refused: for one reason, and spelling nothing.
-use Rattle.std.proofs.Common.{arith, ◌≡◌, ◌≢◌, ℕ, List, ◌∷◌, [], ◌⊎◌, Option, None}
+use Rattle.std.proofs.Common.{arith, ◌≡◌, ℕ, List, ◌∷◌, [], ◌⊎◌, Option}
 use Rattle.std.proofs.lemmas.Grind.{common_steps}
 use Rattle.std.specs.Prelude.{IsNone}
 use Rattle.domain_octets.specs.Limit.{IsOver}
-use Rattle.domain_names.specs.TextFault.{ScanFault, entry_ends, no_memory, IsOfTokens, NameTextFault}
+use Rattle.domain_names.specs.TextFault.{ScanFault, entry_ends, IsOfTokens, NameTextFault}
 use Rattle.domain_base.specs.Scan.{TakesToken, RefusesToken}
 use Rattle.domain_names.specs.Text.{NameText}
 
 -- what has a limit takes no memory
 pub over_limit : (limit : Option ℕ) (count : ℕ) → IsOver limit count → IsNone limit → ⊥
 over_limit limit count over none = grind (arith, common_steps)
-
--- what has no limit is not over it
-pub over_none : (limit : Option ℕ) (count : ℕ) → IsOver limit count → limit ≡ None → ⊥
-over_none limit count over none = grind (arith, common_steps)
 
 -- ---- one token
 
@@ -51,6 +47,3 @@ pub name_one_fault : (limit : Option ℕ) (x y : ScanFault) (text : List ℕ) �
 name_one_fault limit x y text p q = grind (arith, common_steps)
 
 -- ---- octets
-
-pub not_memory : (limit : Option ℕ) (fault : ScanFault) → IsOfTokens limit fault → fault ≢ no_memory
-not_memory limit fault own = grind (arith, common_steps)

@@ -206,9 +206,6 @@ pub record Read (text left built : List ℕ) : Type 0 where
   pub whole : DecodesTo text (built ++ rest)
   pub bytes : IsBytes left
 
-pub read_none : (text : List ℕ) → IsBytes text → (octets : List ℕ) → DecodesTo text octets → Read text text []
-read_none text bytes octets decoded = record { rest = octets; decoded = decoded; whole = decoded; bytes = bytes }
-
 -- the next piece stands for these octets, and this is left
 pub record Next (left built : List ℕ) (text : List ℕ) (count : ℕ) : Type 0 where
   pub piece : List ℕ

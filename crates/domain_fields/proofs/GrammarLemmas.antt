@@ -9,7 +9,7 @@ use Rattle.domain_fields.specs.Layout.{Layout}
 use Rattle.domain_fields.specs.Scan.{Scans, Refuses}
 use Rattle.domain_fields.proofs.ScanLemmas.{refused_spells_none, one_first_fault, scans_left, scans_once}
 use Rattle.domain_fields.specs.Sequence.{OneToken, Both, RefusesBoth}
-use Rattle.domain_fields.specs.Entry.{Spells, RefusesEntry, RefusesData}
+use Rattle.domain_fields.specs.Entry.{Spells, RefusesData}
 
 -- a grammar that reads tokens in one way at most
 pub record ReadsOnce {V : Type 0} (G : List (List ℕ) → V → List (List ℕ) → Type 0) : Type 0 where
@@ -73,9 +73,6 @@ module _ {V : Type 0} (limit : Option ℕ) (G : List (List ℕ) → V → List (
     → ScanFault → Type 0) (once : ReadsOnce G) (excludes : Excludes limit G R)
     (TooMany : V → List ℕ → Type 0) (codec : Codec) where
   module _ (old new : List (List ℕ)) (fault : ScanFault) (own : IsOfTokens limit fault) (v : V) (octets : List ℕ) (is : Spells G codec old v octets) where
-    pub entry_apart : RefusesEntry G limit codec old new fault → ⊥
-    entry_apart why = grind (arith, common_steps)
-
     pub entry_refused : (TooMany v octets → ⊥) → RefusesData G R limit TooMany codec old new fault → ⊥
     entry_refused fits h = grind (arith, common_steps)
 

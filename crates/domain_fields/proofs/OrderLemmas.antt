@@ -1,7 +1,6 @@
 -- the lexicographic order of octets, field by field
 use Rattle.std.proofs.Common.{ap}
 use Rattle.std.proofs.lemmas.Grind.{common_steps}
-use Rattle.std.specs.declared.cmp.Ordering.{Ordering}
 use Rattle.std.proofs.Common.{◌≡◌, ℕ, ◌+◌, true, List, [], ◌∷◌, ◌++◌, length, take, drop, refl, sym, subst, ◌∙◌, arith, length-append, append_assoc, append-nil}
 use Rattle.std.specs.declared.cmp.Ordering.TheVariants.{Less, Equal, Greater}
 use Rattle.std.specs.Ordering.{ordering_then, nat_cmp}
@@ -132,9 +131,6 @@ feed_both a b v w = flat_map-append fed.u8 (octets_of a v) (octets_of b w)
 pub fold_both : {S : Type 0} (f : S → List ℕ → S) (s : S) (a b : Layout) (v : Values a) (w : Values b)
     → fold f (fold f s (flat_map fed.u8 (canonical_of a v))) (flat_map fed.u8 (canonical_of b w)) ≡ fold f s (flat_map fed.u8 (canonical_of (a ▸ b) (v, w)))
 fold_both f s a b v w = grind (arith, common_steps, feed_both)
-
-then_assoc : (o p q : Ordering) → ordering_then o (ordering_then p q) ≡ ordering_then (ordering_then o p) q
-then_assoc o p q = grind (arith, common_steps)
 
 -- a list is compared with as many octets part by part
 pub front_cmp : (a b o : List ℕ) → slice_cmp nat_cmp (a ++ b) (take (length (a ++ b)) o)

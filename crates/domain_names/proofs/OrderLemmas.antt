@@ -9,9 +9,6 @@ use Rattle.std.specs.Cmp.Lexicographic.{slice_cmp, pointwise, bytes_decides}
 use Rattle.domain_names.specs.Order.{canonical_cmp}
 use Rattle.std.proofs.lemmas.Grind.{common_steps}
 
-pub then_assoc : (a b c : Ordering) → ordering_then (ordering_then a b) c ≡ ordering_then a (ordering_then b c)
-then_assoc a b c = grind (arith, common_steps)
-
 -- what comes first decides where it tells apart
 pub decided : (first second both : Ordering) → both ≡ ordering_then first second → first ≢ Equal → first ≡ both
 decided first second both is other = grind (arith, common_steps)

@@ -1,7 +1,7 @@
 -- texts whose first octets are all of one set
-use Rattle.std.proofs.Common.{◌≡◌, ℕ, ◌-◌, Bool, true, List, [], ◌∷◌, ◌++◌, length, take, drop, refl, sym, ap, subst, ◌∙◌, arith, length-append}
+use Rattle.std.proofs.Common.{◌≡◌, ℕ, Bool, true, List, [], ◌∷◌, ◌++◌, take, drop, sym, ap, ◌∙◌}
 use Rattle.std.specs.List.{AllPass}
-use Rattle.std.proofs.lemmas.List.{take_at, append_assoc, take-append-drop}
+use Rattle.std.proofs.lemmas.List.{append_assoc, take-append-drop}
 use Rattle.std.proofs.lemmas.List.Elements.{All-append, All-cons, All-nil}
 
 -- these octets are left of the text, and those before them are of the set
@@ -11,9 +11,6 @@ pub record Searched (has : ℕ → Bool) (text left : List ℕ) : Type 0 where
   pub pass : AllPass has front
 
 module _ (has : ℕ → Bool) where
-  pub searched_none : (text : List ℕ) → Searched has text text
-  searched_none text = record { front = []; parts = refl; pass = All-nil (λ c. has c ≡ true) }
-
   pub searched_more : (text left piece after : List ℕ) → Searched has text left → left ≡ piece ++ after → AllPass has piece
       → Searched has text after
   searched_more text left piece after so_far is pass = record {
@@ -30,11 +27,3 @@ module _ (has : ℕ → Bool) where
       → AllPass has eight → Searched has text after
   searched_eight text left eight after so_far front back pass =
       searched_more text left eight after so_far (let whole = take-append-drop 8 left in cc) pass
-
-  -- what was searched, as a part of the text
-  pub searched_front : (text left : List ℕ) → Searched has text left → AllPass has (take (length text - length left) text)
-  searched_front text left so_far =
-      let n = length text - length left in
-      let at : n ≡ length so_far.front = omega (arith, ap length so_far.parts, length-append so_far.front left) in
-      let is : take n text ≡ so_far.front = ap (take n) so_far.parts ∙ take_at so_far.front left n (sym at) in
-      subst (AllPass has) (sym is) so_far.pass

@@ -11,12 +11,6 @@ pub or_true : (b : Bool) → (b || true) ≡ true
 or_true true = refl
 or_true false = refl
 
-pub or_turn : (a b : Bool) → (a || b) ≡ (b || a)
-or_turn true true = refl
-or_turn true false = refl
-or_turn false true = refl
-or_turn false false = refl
-
 pub or_next : (a b c : Bool) → ((a || b) || c) ≡ (a || (b || c))
 or_next true b c = refl
 or_next false b c = refl

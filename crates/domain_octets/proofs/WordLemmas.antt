@@ -1,7 +1,7 @@
 -- the words of a text
-use Rattle.std.proofs.Common.{◌≡◌, ◌≢◌, ℕ, ◌+◌, ◌<◌, false, List, [], ◌∷◌, ◌++◌, length, refl, ap, sym, ◌∙◌, arith, inl, inr}
+use Rattle.std.proofs.Common.{◌≡◌, ◌≢◌, ℕ, ◌<◌, false, List, [], ◌∷◌, ◌++◌, length, refl, ap, sym, ◌∙◌, arith, inl, inr}
 use Rattle.std.specs.Prelude.{◌^◌, ◌==◌}
-use Rattle.std.specs.List.{AllByRecursion, join_with_byte, concat}
+use Rattle.std.specs.List.{AllByRecursion, join_with_byte}
 use Rattle.std.specs.Fmt.{decimal}
 use Rattle.std.specs.Char.{digit_value}
 use Rattle.std.specs.Str.Parse.{AllDigits}
@@ -93,10 +93,6 @@ decimal_word n small =
 pub next_any : (front text : List ℕ) → HasNoSpace text → words_of ((front ++ 32 ∷ []) ++ text) ≡ words_of front ++ word_if_any text
 next_any front [] plain = ap words_of (append-nil (front ++ 32 ∷ [])) ∙ last_space front ∙ sym (append-nil (words_of front))
 next_any front (c ∷ text) plain = next_word front (c ∷ text) (record { some = λ none. cc; unbroken = plain })
-
-pub concat_any : (text : List ℕ) → concat (word_if_any text) ≡ text
-concat_any [] = refl
-concat_any (c ∷ text) = append-nil (c ∷ text)
 
 -- a line after a space
 joined_after : (word front text : List ℕ) → words_after word ((front ++ 32 ∷ []) ++ text) ≡ words_after word front ++ words_of text

@@ -36,9 +36,6 @@ module _ {X : Type 0} where
   find_alike p xs ys h = find_first p xs ∙ ap first_of h ∙ sym (find_first p ys)
 
   module _ {E : X → X → Bool} (e : IsEquivalence E) (x : X) where
-    alike_step : (k y : X) (f : Option X) (b c : Bool) → c ≡ b → cond b (Some k) f ≡ cond b (Some k) (cond c (Some y) f)
-    alike_step k y f b c h = grind (arith, common_steps)
-
     dedup_step : (k y : X) (xs : List X) (b : Bool) → E y k ≡ b
         → find (λ z. E z x) (dedup_from E k xs) ≡ find (λ z. E z x) (k ∷ xs)
         → find (λ z. E z x) (dedup_from E y xs) ≡ find (λ z. E z x) (y ∷ xs)

@@ -1,5 +1,5 @@
 -- Where types never descend, two records of one type differ in TTL exactly where two neighbours do.
-use Rattle.std.proofs.Common.{◌≡◌, ◌≤◌, ℕ, Bool, true, false, not, ◌||◌, List, [], ◌∷◌, map, refl, sym, ap, ◌∙◌, inl, inr, arith, nat_eq, Option}
+use Rattle.std.proofs.Common.{◌≡◌, ◌≤◌, ℕ, Bool, true, false, ◌||◌, List, [], ◌∷◌, map, refl, sym, ap, ◌∙◌, inl, inr, arith, nat_eq, Option}
 use Rattle.std.specs.List.{list_any, AllByRecursion}
 use Rattle.std.proofs.lemmas.Bool.{cases_Bool, false≢true, or_parts, or_cases, eqb-false, or_right}
 use Rattle.domain_record.specs.declared.record.Record.{Record}
@@ -26,9 +26,6 @@ record Clash (r s : ZoneRecord) : Type 0 where
   one_type : r.rtype ≡ s.rtype
   signed : nat_eq r.rtype 46 ≡ false
   apart : nat_eq r.ttl s.ttl ≡ false
-
-opposite : (b c : Bool) → not b ≡ c → b ≡ not c
-opposite b c e = grind (arith, common_steps)
 
 clash_is : (r s : ZoneRecord) → clashes r s ≡ true → Clash r s
 clash_is r s e = grind (arith, common_steps)

@@ -42,10 +42,6 @@ FollowsAt known now view bad numbers records number =
     IfSome known (λ all. (rest : List ℕ) × (now ≡ Some rest) × (out : List ℕ) × (lines view ≡ out ∷ [])
     × Continues (lines all) (out ∷ lines rest) bad numbers records number)
 
-pub follows_start : (known : Option (List ℕ)) (bad numbers : List ℕ) (records : List RawRecord) (number : ℕ) → bad ≡ [] → numbers ≡ [] → records ≡ []
-    → number ≡ 1 → Follows known known bad numbers records number
-follows_start known bad numbers records number b p r one = grind (arith, common_steps)
-
 pub follows_end : (known now : Option (List ℕ)) (bad numbers : List ℕ) (records : List RawRecord) (number : ℕ)
     → Follows known now bad numbers records number → IsAtEnd now → IfSome known (λ all. AreLinted 1 (lines all) bad numbers records)
 follows_end None now bad numbers records number h e = tt
