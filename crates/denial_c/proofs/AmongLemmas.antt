@@ -1,15 +1,9 @@
 -- Records that are read one after another, of which some are kept.
 use Rattle.std.proofs.Common.{arith, ◌≡◌, ℕ, Bool, true, false, cond, List, [], ◌∷◌, ◌++◌, map, refl, sym, ap, ◌∙◌, append_assoc, append-nil}
-use Rattle.std.proofs.lemmas.Grind.{common_steps}
-use Rattle.std.specs.Prelude.{filter}
-use Rattle.std.specs.List.{AllByRecursion, flat_map}
-use Rattle.std.proofs.lemmas.Bool.{false≢true}
-use Rattle.std.proofs.lemmas.List.{map-append}
-use Rattle.std.proofs.lemmas.List.Elements.{filter-append}
-use Rattle.domain_borrowed.specs.Data.{RawRecord}
-use Rattle.domain_borrowed.specs.Wire.{record_octets, IsRecord}
+use Rattle.std.proofs.lemmas.{Grind.common_steps, Bool.false≢true, List.{map-append, Elements.filter-append}}
+use Rattle.std.specs.{Prelude.filter, List.{AllByRecursion, flat_map}}
+use Rattle.domain_borrowed.{specs.{Data.RawRecord, Wire.{record_octets, IsRecord}}, proofs.WireLemmas.{same_record, some_octets}}
 use Rattle.denial_c.specs.Among.{AreAmong}
-use Rattle.domain_borrowed.proofs.WireLemmas.{same_record, some_octets}
 
 pub all_push : {X : Type 0} (P : X → Type 0) (xs : List X) (y : X) → AllByRecursion P xs → P y → AllByRecursion P (xs ++ y ∷ [])
 all_push P [] y h p = (p, tt)

@@ -1,21 +1,14 @@
 -- The octets of chains, and what is answered of them.
-use Rattle.std.proofs.Common.{arith, ◌≡◌, ℕ, ◌<◌, ◌≤◌, List, length, Result, IfOk, IfErr}
-use Rattle.std.proofs.lemmas.Grind.{common_steps}
+use Rattle.std.proofs.{Common.{arith, ◌≡◌, ℕ, ◌<◌, ◌≤◌, List, length, Result, IfOk, IfErr}, lemmas.Grind.common_steps}
 use Rattle.domain_names.specs.Words.{Name}
-use Rattle.domain_dnssec.proofs.KeptLemmas.{classes_kept}
+use Rattle.domain_dnssec.{proofs.KeptLemmas.classes_kept, specs.Wire.{nsecs_octets, nsec3s_octets}}
 use Rattle.domain_borrowed.specs.Data.{data_cmp, minimum_of, RawRecord, zone_of_raw}
-use Rattle.domain_nsec.specs.Chain.{Link, IsChain}
-use Rattle.domain_nsec3.specs.Chain.{ChainRecords, IsChainParam, IsHashedChain}
-use Rattle.domain_nsec3.specs.Config.{ChainConfig}
+use Rattle.domain_nsec.specs.{Chain.{Link, IsChain}, declared.config.GenerateNsecConfig.GenerateNsecConfig}
+use Rattle.domain_nsec3.specs.{Chain.{ChainRecords, IsChainParam, IsHashedChain}, Config.ChainConfig}
 use Rattle.domain_nsec3.specs.declared.config.Nsec3ParamTtlMode.TheVariants.{Soa as TtlOfSoa}
-use Rattle.domain_nsec.specs.declared.config.GenerateNsecConfig.{GenerateNsecConfig}
 use Rattle.domain_records.specs.Order.{IsOneClass}
-use Rattle.denial_c.specs.Chains.{nsec_asking, nsec3_asking, AreZone, Asking, IsChainFault, IsChainResult}
-use Rattle.denial_c.specs.Chains.{IsNsecChain, IsNsec3Chain, IsSortedNsecFault, IsSortedNsec3Fault, IsWritten, Sorts}
-use Rattle.domain_dnssec.specs.Wire.{nsecs_octets, nsec3s_octets}
-use Rattle.denial_c.specs.Given.{AreGiven}
-use Rattle.denial_c.specs.Result.{Spells}
-use Rattle.denial_c.specs.declared.chain_fault.ChainFault.{ChainFault}
+use Rattle.denial_c.specs.Chains.{nsec_asking, nsec3_asking, AreZone, Asking, IsChainFault, IsChainResult, IsNsecChain, IsNsec3Chain, IsSortedNsecFault}
+use Rattle.denial_c.specs.{Chains.{IsSortedNsec3Fault, IsWritten, Sorts}, Given.AreGiven, Result.Spells, declared.chain_fault.ChainFault.ChainFault}
 use Rattle.denial_c.specs.declared.chain_fault.ChainFault.TheVariants.{ShortBuffer}
 
 pub sorted_one_class : (given sorted : List RawRecord) → Sorts given sorted → IsOneClass given → IsOneClass sorted

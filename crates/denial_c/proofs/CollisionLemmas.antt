@@ -4,8 +4,7 @@ use Rattle.domain_alike.specs.Alike.{IsFirstPair, Pair}
 use Rattle.domain_names.specs.Words.{Name}
 use Rattle.domain_borrowed.specs.Data.{RawRecord, zone_of_raw}
 use Rattle.domain_nsec3.specs.Config.{ChainConfig}
-use Rattle.denial_c.specs.Collisions.{HasFirstPair}
-use Rattle.denial_c.proofs.ChainLemmas.{IsSorted}
+use Rattle.denial_c.{specs.Collisions.HasFirstPair, proofs.ChainLemmas.IsSorted}
 
 module _ (apex : List ℕ) (class : ℕ) (config : ChainConfig) (records : List ℕ) (a : Name) (sorted : List RawRecord)
     (s : IsSorted apex class records a sorted) where

@@ -2,12 +2,9 @@
 use Rattle.std.proofs.lemmas.Grind.{common_steps}
 use Rattle.std.proofs.Common.{◌≡◌, ℕ, ◌-◌, ◌≤◌, List, [], ◌∷◌, ◌++◌, length, refl, sym, ap, ◌∙◌, subst, arith, append_assoc, append-nil}
 use Rattle.std.specs.List.{AllByRecursion, flat_map}
-use Rattle.domain_borrowed.specs.Data.{RawRecord}
-use Rattle.domain_borrowed.specs.Wire.{record_octets, IsRecord}
-use Rattle.domain_borrowed.proofs.WireLemmas.{same_record, some_octets}
+use Rattle.domain_borrowed.{specs.{Data.RawRecord, Wire.{record_octets, IsRecord}}, proofs.WireLemmas.{same_record, some_octets}}
 use Rattle.domain_records.specs.Order.{IsOneClass}
-use Rattle.denial_c.specs.Given.{AreGiven, IsOfClass, IsReadUpTo}
-use Rattle.denial_c.proofs.AmongLemmas.{all_push, joined_push}
+use Rattle.denial_c.{specs.Given.{AreGiven, IsOfClass, IsReadUpTo}, proofs.AmongLemmas.{all_push, joined_push}}
 
 -- none where their number is not above 0
 pub no_octets : (octets : List ℕ) → length octets ≤ 0 → octets ≡ []

@@ -1,13 +1,9 @@
 -- Hashes by SHA-1: no name is refused, and each hash has 20 octets.
-use Rattle.std.proofs.lemmas.Grind.{common_steps}
-use Rattle.std.proofs.Common.{◌≡◌, ℕ, zero, suc, ◌*◌, List, length, refl, arith, Ok}
+use Rattle.std.proofs.{lemmas.Grind.common_steps, Common.{◌≡◌, ℕ, zero, suc, ◌*◌, List, length, refl, arith, Ok}}
 use Rattle.sha1.specs.Sha1.{digest_bytes, sha1}
-use Rattle.domain_names.specs.Name.{lowered, wire_of}
-use Rattle.domain_names.specs.Words.{Name}
+use Rattle.domain_names.specs.{Name.{lowered, wire_of}, Words.Name}
 use Rattle.domain_borrowed.specs.Data.{RawRecord, zone_of_raw}
-use Rattle.domain_nsec3.specs.Config.{ChainConfig, Parameters, hash_of}
-use Rattle.domain_nsec3.specs.Faults.{IsFirstHashFault, IsFirstFault}
-use Rattle.domain_nsec3.specs.View.{hash_by}
+use Rattle.domain_nsec3.specs.{Config.{ChainConfig, Parameters, hash_of}, Faults.{IsFirstHashFault, IsFirstFault}, View.hash_by}
 use Rattle.domain_hasher.specs.declared.error.Nsec3HashError.{Nsec3HashError}
 use Rattle.domain_hasher.specs.declared.error.Nsec3HashError.TheVariants.{Hasher, AppendError, OwnerHashError, Nsec3NameTooLong, CollisionDetected, OutOfMemory}
 use Rattle.domain_records.specs.declared.error.SigningError.TheVariants as signing_error

@@ -1,9 +1,6 @@
 -- Faults of whole answers, and which questions an error of the hasher is of.
-use Rattle.std.proofs.Common.{arith, ◌≡◌, ◌<◌, ◌≤◌, ℕ, Bool, true, false, not, ◌||◌, List, Ok, Err, Result, sym, ◌∙◌}
-use Rattle.std.proofs.lemmas.Grind.{common_steps}
-use Rattle.denial_c.specs.Judged.{IsNsecAnswer, IsNsecsFault}
-use Rattle.denial_c.specs.Result.{IsSpelled}
-use Rattle.denial_c.specs.declared.fault.Fault.{Fault}
+use Rattle.std.proofs.{Common.{arith, ◌≡◌, ◌<◌, ◌≤◌, ℕ, Bool, true, false, not, ◌||◌, List, Ok, Err, Result, sym, ◌∙◌}, lemmas.Grind.common_steps}
+use Rattle.denial_c.specs.{Judged.{IsNsecAnswer, IsNsecsFault}, Result.IsSpelled, declared.fault.Fault.Fault}
 
 pub nsecs_fault : (apex name : List ℕ) (t class : ℕ) (octets : List ℕ) → IsSpelled apex → IsSpelled name → (e : Fault)
     → IsNsecsFault class octets e → IsNsecAnswer apex name t class octets (Err e)

@@ -1,13 +1,10 @@
 -- Faults of NSEC3 records.
-use Rattle.std.proofs.Common.{arith, ◌≡◌, ◌⊎◌, ℕ, Bool, List, [], ◌∷◌, map, refl}
-use Rattle.std.proofs.lemmas.Grind.{common_steps}
-use Rattle.std.specs.Prelude.{filter}
+use Rattle.std.{proofs.{Common.{arith, ◌≡◌, ◌⊎◌, ℕ, Bool, List, [], ◌∷◌, map, refl}, lemmas.Grind.common_steps}, specs.Prelude.filter}
 use Rattle.domain_names.specs.Words.{Name}
 use Rattle.domain_nsec3.specs.Chain.{HashedLink}
 use Rattle.domain_hasher.specs.declared.error.Nsec3HashError.{Nsec3HashError}
 use Rattle.domain_hasher.specs.declared.error.Nsec3HashError.TheVariants as hash_error
-use Rattle.denial_c.specs.Result.{fault_of, first_parameters, is_known, source_of, IsNsec3Fault, IsSpelled, Source, Spells}
-use Rattle.denial_c.specs.declared.fault.Fault.{Fault}
+use Rattle.denial_c.specs.{Result.{fault_of, first_parameters, is_known, source_of, IsNsec3Fault, IsSpelled, Source, Spells}, declared.fault.Fault.Fault}
 use Rattle.denial_c.specs.declared.nsec3.Telling.{Telling}
 
 pub chain_fault : (telling : Telling) (apex name : List ℕ) (class : ℕ) (octets : List ℕ) (refused : Type 0) (a : Name) → Spells apex a → IsSpelled name

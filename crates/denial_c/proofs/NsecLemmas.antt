@@ -1,16 +1,11 @@
 -- NSEC records of octets, handed in one after another.
-use Rattle.std.proofs.Common.{arith, ◌≡◌, ℕ, true, false, List, [], ◌∷◌, ◌++◌}
-use Rattle.std.proofs.lemmas.Grind.{common_steps}
+use Rattle.std.proofs.{Common.{arith, ◌≡◌, ℕ, true, false, List, [], ◌∷◌, ◌++◌}, lemmas.Grind.common_steps}
 use Rattle.domain_base.specs.Types as rtypes
 use Rattle.domain_names.specs.Words.{Name}
 use Rattle.domain_nsec.specs.Chain.{Link}
-use Rattle.domain_checker.specs.HandedIn.{HasRead}
-use Rattle.domain_checker.specs.declared.nsec_check.NsecCheck.{NsecCheck}
-use Rattle.domain_borrowed.specs.Data.{RawRecord}
-use Rattle.domain_borrowed.specs.Wire.{record_octets, IsRecord}
-use Rattle.domain_borrowed.specs.Links.{nsec_record, IsNsec}
-use Rattle.denial_c.specs.Among.{is_of}
-use Rattle.denial_c.proofs.AmongLemmas.{IsRead, passed, taken}
+use Rattle.domain_checker.specs.{HandedIn.HasRead, declared.nsec_check.NsecCheck.NsecCheck}
+use Rattle.domain_borrowed.specs.{Data.RawRecord, Wire.{record_octets, IsRecord}, Links.{nsec_record, IsNsec}}
+use Rattle.denial_c.{specs.Among.is_of, proofs.AmongLemmas.{IsRead, passed, taken}}
 
 -- the NSEC records before what is left were handed in, after those that had been
 abbrev pub Adds : NsecCheck → NsecCheck → List Link → Type 0

@@ -2,34 +2,20 @@
 use Rattle.std.proofs.lemmas.Grind.{common_steps}
 use Rattle.std.proofs.Common.{◌≡◌, ℕ, ◌-◌, ◌<◌, ◌≤◌, Bool, true, false, cond, not, ◌&&◌, ◌||◌, List, [], ◌∷◌, ◌++◌, map, length, refl, sym, ap, ◌∙◌, subst, inl}
 use Rattle.std.proofs.Common.{inr, arith, nat_eq, append_assoc, append-nil, length-append, Some, None, Option}
-use Rattle.std.specs.Prelude.{filter, Contains}
-use Rattle.std.specs.List.{AllByRecursion, flat_map, list_any}
 use Rattle.std.proofs.lemmas.Bool.{and_from, and_parts, cases_Bool, eq-eqb, eqb-false, eqb-true, false≢true, not-false, not-true, or_left, or_parts, or_right}
-use Rattle.std.proofs.lemmas.List.{map-append}
-use Rattle.std.proofs.lemmas.List.Concat.{flat_map-append}
-use Rattle.std.proofs.lemmas.List.Elements.{filter-append}
-use Rattle.std.proofs.lemmas.List.Folds.{list_any-append}
-use Rattle.domain_alike.specs.Covered.{covered_names}
-use Rattle.domain_alike.proofs.KeptLemmas.{is_unsigned, names_stay, stays, stays_by}
-use Rattle.domain_names.specs.Name.{same_name}
-use Rattle.domain_names.specs.Words.{Name}
+use Rattle.std.proofs.lemmas.List.{map-append, Concat.flat_map-append, Elements.filter-append, Folds.list_any-append}
+use Rattle.std.specs.{Prelude.{filter, Contains}, List.{AllByRecursion, flat_map, list_any}}
+use Rattle.domain_alike.{specs.Covered.covered_names, proofs.KeptLemmas.{is_unsigned, names_stay, stays, stays_by}}
+use Rattle.domain_names.specs.{Name.same_name, Words.Name}
 use Rattle.domain_dnssec.proofs.AmongLemmas.{any_two, contains_in, in_contains}
-use Rattle.domain_borrowed.specs.Data.{minimum_of, RawRecord, zone_of_raw}
-use Rattle.domain_borrowed.specs.Wire.{record_octets, IsRecord}
-use Rattle.domain_borrowed.proofs.WireLemmas.{same_record, some_octets}
+use Rattle.domain_borrowed.{specs.{Data.{minimum_of, RawRecord, zone_of_raw}, Wire.{record_octets, IsRecord}}, proofs.WireLemmas.{same_record, some_octets}}
 use Rattle.domain_nsec3.specs.Owners.{is_unsigned_cut}
-use Rattle.domain_zone.specs.Owners.{OwnerRecords, owner_at, owners_with_records}
-use Rattle.domain_zone.specs.View.{as_zone_record}
+use Rattle.domain_zone.specs.{Owners.{OwnerRecords, owner_at, owners_with_records}, View.as_zone_record}
 use Rattle.domain_zone.specs.Zone.{ZoneRecord, clashes, has_clash, has_unequal_ttls, records_of, unoccluded_owners}
-use Rattle.domain_zone.proofs.GivenLemmas.{name_of, next_is_owner}
-use Rattle.domain_zone.proofs.OwnerLemmas.{in_any}
-use Rattle.domain_zone.proofs.PairLemmas.{In, all_in, all_from_in}
-use Rattle.domain_zone.proofs.TtlLemmas.{has_neighbour_clash, neighbours_tell, NeverDescend}
-use Rattle.domain_zone.proofs.ZoneLemmas.{all_front, any_none}
+use Rattle.domain_zone.proofs.{GivenLemmas.{name_of, next_is_owner}, OwnerLemmas.in_any, PairLemmas.{In, all_in, all_from_in}}
+use Rattle.domain_zone.proofs.{TtlLemmas.{has_neighbour_clash, neighbours_tell, NeverDescend}, ZoneLemmas.{all_front, any_none}}
 use Rattle.domain_zone.proofs.FindLemmas.{in_filter, in_filtered, in_map, from_map, in_either}
-use Rattle.denial_c.specs.Chains.{Sorts}
-use Rattle.denial_c.specs.Given.{AreGiven, IsOfClass}
-use Rattle.denial_c.specs.Uneven.{is_in_set, is_other, set_of, IsFirstClash, IsFirstUneven, IsUnevenAt}
+use Rattle.denial_c.specs.{Chains.Sorts, Given.{AreGiven, IsOfClass}, Uneven.{is_in_set, is_other, set_of, IsFirstClash, IsFirstUneven, IsUnevenAt}}
 use Rattle.denial_c.proofs.AmongLemmas.{all_push}
 
 abbrev see : RawRecord → ZoneRecord

@@ -2,9 +2,7 @@
 -- sees.
 use Rattle.std.specs.Prelude.{ℕ, Bool, true, false, Result, Ok, Err}
 use Rattle.denial_c.specs.declared.chain_fault.ChainFault.{ChainFault}
-use Rattle.denial_c.specs.declared.chain_fault.ChainFault.TheVariants.{Apex, Records, Class, Soa}
-use Rattle.denial_c.specs.declared.chain_fault.ChainFault.TheVariants.{Ttls, LongSalt, LongOwner}
-use Rattle.denial_c.specs.declared.chain_fault.ChainFault.TheVariants.{Collision, ShortBuffer}
+use Rattle.denial_c.specs.declared.chain_fault.ChainFault.TheVariants.{Apex, Records, Class, Soa, Ttls, LongSalt, LongOwner, Collision, ShortBuffer}
 use Rattle.denial_c.specs.declared.chain_fault.ChainFault.TheVariants.{OutOfMemory}
 
 -- the faults that verdicts have too have the same numbers

@@ -4,13 +4,9 @@ use Rattle.std.specs.Prelude.{◌≡◌, ℕ, ◌<◌, ◌≤◌, Bool, true, fa
 use Rattle.domain_alike.specs.Covered.{covered_names}
 use Rattle.domain_octets.specs.Words.{Octets}
 use Rattle.domain_names.specs.Words.{Name}
-use Rattle.domain_nsec.specs.Chain.{Link, IsFaultless, IsFirstFault}
-use Rattle.domain_nsec3.specs.Chain.{ChainRecords}
-use Rattle.domain_nsec3.specs.Config.{excludes, ChainConfig, Parameters}
-use Rattle.domain_nsec3.specs.Faults.{IsReady, IsFirstFault as IsFirstHashedFault}
-use Rattle.domain_nsec3.specs.View.{hash_by}
-use Rattle.domain_nsec3.specs.declared.config.Nsec3ParamTtlMode.TheVariants.{Soa}
-use Rattle.domain_nsec.specs.declared.config.GenerateNsecConfig.{GenerateNsecConfig}
+use Rattle.domain_nsec.specs.{Chain.{Link, IsFaultless, IsFirstFault}, declared.config.GenerateNsecConfig.GenerateNsecConfig}
+use Rattle.domain_nsec3.specs.{Chain.ChainRecords, Config.{excludes, ChainConfig, Parameters}, Faults.{IsReady, IsFirstFault as IsFirstHashedFault}}
+use Rattle.domain_nsec3.specs.{View.hash_by, declared.config.Nsec3ParamTtlMode.TheVariants.Soa}
 use Rattle.domain_hasher.specs.declared.error.Nsec3HashError.{Nsec3HashError}
 use Rattle.domain_hasher.specs.declared.error.Nsec3HashError.TheVariants as hash_error
 use Rattle.domain_records.specs.declared.error.SigningError.{SigningError}
@@ -21,11 +17,8 @@ use Rattle.domain_dnssec.specs.AnyOrder as any_order
 use Rattle.domain_dnssec.specs.AnyOrderNsec3 as any_order_nsec3
 use Rattle.domain_dnssec.specs.Wire.{nsecs_octets, nsec3s_octets}
 use Rattle.domain_borrowed.specs.Data.{data_cmp, minimum_of, RawRecord, zone_of_raw}
-use Rattle.denial_c.specs.ChainNumbers.{chain_count, chain_number}
-use Rattle.denial_c.specs.Given.{AreGiven, HasNoRecordAt, HasOtherClassAt}
-use Rattle.denial_c.specs.Result.{IsSpelled, Spells}
-use Rattle.denial_c.specs.Uneven.{IsFirstClash, IsFirstUneven, IsUnevenAt}
-use Rattle.denial_c.specs.declared.chain_fault.ChainFault.{ChainFault}
+use Rattle.denial_c.specs.{ChainNumbers.{chain_count, chain_number}, Given.{AreGiven, HasNoRecordAt, HasOtherClassAt}, Result.{IsSpelled, Spells}}
+use Rattle.denial_c.specs.{Uneven.{IsFirstClash, IsFirstUneven, IsUnevenAt}, declared.chain_fault.ChainFault.ChainFault}
 use Rattle.denial_c.specs.declared.chain_fault.ChainFault.TheVariants as fault
 
 -- sorted is the sorted set of the records, by owner, class, type and the octets of the data

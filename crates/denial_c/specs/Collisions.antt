@@ -2,14 +2,11 @@
 -- is no such answer.
 use Rattle.std.specs.Prelude.{◌≡◌, ℕ, ◌<◌, ◌≤◌, Bool, true, false, ◌++◌, List, length, drop, Option, Some, None, Result, Ok, Err}
 use Rattle.domain_octets.specs.Words.{Octets}
-use Rattle.domain_names.specs.Name.{lowered, wire_of}
-use Rattle.domain_names.specs.Words.{Name}
+use Rattle.domain_names.specs.{Name.{lowered, wire_of}, Words.Name}
 use Rattle.domain_alike.specs.Alike.{IsFirstPair, Pair}
 use Rattle.domain_borrowed.specs.Data.{RawRecord, zone_of_raw}
 use Rattle.domain_nsec3.specs.Config.{ChainConfig}
-use Rattle.denial_c.specs.ChainNumbers.{collision_number}
-use Rattle.denial_c.specs.Chains.{AreZone, Asking, IsChainFault, Sorts}
-use Rattle.denial_c.specs.declared.chain_fault.ChainFault.{ChainFault}
+use Rattle.denial_c.specs.{ChainNumbers.collision_number, Chains.{AreZone, Asking, IsChainFault, Sorts}, declared.chain_fault.ChainFault.ChainFault}
 
 -- of the chain of the records, in whatever order they stand, this is the first pair of names that
 -- hash alike, or it has none

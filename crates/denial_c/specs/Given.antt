@@ -1,10 +1,8 @@
 -- Octets as the records of a zone, which are all of one class, or the first place where they are
 -- not.
-use Rattle.std.specs.Prelude.{◌≡◌, ◌≢◌, ℕ, List, [], ◌++◌, length}
-use Rattle.std.specs.List.{AllByRecursion, flat_map}
+use Rattle.std.specs.{Prelude.{◌≡◌, ◌≢◌, ℕ, List, [], ◌++◌, length}, List.{AllByRecursion, flat_map}}
 use Rattle.domain_octets.specs.Words.{Octets}
-use Rattle.domain_borrowed.specs.Data.{RawRecord}
-use Rattle.domain_borrowed.specs.Wire.{record_octets, IsRecord}
+use Rattle.domain_borrowed.specs.{Data.RawRecord, Wire.{record_octets, IsRecord}}
 
 -- a record of the class that has octets
 abbrev pub IsOfClass : ℕ → RawRecord → Type 0

@@ -2,20 +2,14 @@
 -- octets are, or exactly why there is none.
 use Rattle.std.specs.Prelude.{◌≡◌, ◌<◌, ◌≤◌, ℕ, true, false, List, length, Result, Ok, Err}
 use Rattle.domain_octets.specs.Words.{Octets}
-use Rattle.domain_names.specs.Name.{is_at_or_below}
-use Rattle.domain_names.specs.Words.{Name}
+use Rattle.domain_names.specs.{Name.is_at_or_below, Words.Name}
 use Rattle.domain_nsec.specs.Chain.{Link}
 use Rattle.domain_nsec3.specs.Config.{hash_name}
 use Rattle.domain_answer.specs.Expansion.{closer_name, is_expanded, ExpansionRestsOn, IsExpansionAnswered, IsExpansionRead}
-use Rattle.domain_answer.specs.HashedProved.{HashedRestsOn, IsHashedAnswered}
-use Rattle.domain_answer.specs.HashedReading.{IsFirstOfRefusals, IsHashedRead}
-use Rattle.domain_answer.specs.Proved.{needs_no_records, CountsWithin, IsAnswered, RestsOn}
-use Rattle.domain_answer.specs.Reading.{reading}
-use Rattle.domain_answer.specs.ZoneAnswer.{is_at_parent}
-use Rattle.domain_answer.specs.declared.answer.Answer.{Answer}
-use Rattle.domain_answer.specs.declared.answer.Answer.TheVariants.{OutsideZone, AtParent, NotProven, TooManyIterations}
-use Rattle.denial_c.specs.Result.{sha1_records, AreAsked, AreNsecsAsked, HasNoNsecs, HashedQuestion, IsNsecFault, IsNsec3Fault}
-use Rattle.denial_c.specs.Result.{Source}
+use Rattle.domain_answer.specs.{HashedProved.{HashedRestsOn, IsHashedAnswered}, HashedReading.{IsFirstOfRefusals, IsHashedRead}}
+use Rattle.domain_answer.specs.{Proved.{needs_no_records, CountsWithin, IsAnswered, RestsOn}, Reading.reading, ZoneAnswer.is_at_parent}
+use Rattle.domain_answer.specs.declared.answer.Answer.{Answer, TheVariants.{OutsideZone, AtParent, NotProven, TooManyIterations}}
+use Rattle.denial_c.specs.Result.{sha1_records, AreAsked, AreNsecsAsked, HasNoNsecs, HashedQuestion, IsNsecFault, IsNsec3Fault, Source}
 use Rattle.denial_c.specs.declared.fault.Fault.{Fault}
 use Rattle.denial_c.specs.declared.fault.Fault.TheVariants as fault
 

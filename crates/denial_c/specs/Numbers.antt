@@ -4,8 +4,7 @@ use Rattle.domain_answer.specs.declared.answer.Answer.{Answer}
 use Rattle.domain_answer.specs.declared.answer.Answer.TheVariants as answers
 use Rattle.domain_checker.specs.declared.verdict.Verdict.{Verdict}
 use Rattle.domain_checker.specs.declared.verdict.Verdict.TheVariants.{OutsideZone, BelowDelegation, Has, NoType, EmptyName, OptOut, NoName, NotProven}
-use Rattle.denial_c.specs.declared.fault.Fault.{Fault}
-use Rattle.denial_c.specs.declared.fault.Fault.TheVariants.{Apex, Name, Records, Param, Hasher, OutOfMemory}
+use Rattle.denial_c.specs.declared.fault.Fault.{Fault, TheVariants.{Apex, Name, Records, Param, Hasher, OutOfMemory}}
 
 abbrev pub verdict_number : Verdict → ℕ
 verdict_number NotProven = 0

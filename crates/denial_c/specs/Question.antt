@@ -1,8 +1,7 @@
 -- What a question that was read says.
 use Rattle.domain_checker.specs.HashedView.{links}
 use Rattle.domain_nsec3.specs.View.{as_param_record}
-use Rattle.denial_c.specs.Result.{HashedQuestion}
-use Rattle.denial_c.specs.declared.question.Question.{Question}
+use Rattle.denial_c.specs.{Result.HashedQuestion, declared.question.Question.Question}
 
 abbrev pub as_question : Question → HashedQuestion
 as_question q =

@@ -2,24 +2,16 @@
 -- octets are, or exactly why there is none.
 use Rattle.std.specs.Prelude.{◌≡◌, ◌≢◌, ◌⊎◌, ◌&&◌, ◌==◌, nat_lt, ℕ, Bool, true, false, List, [], ◌∷◌, filter, length, Result, Ok, Err}
 use Rattle.domain_octets.specs.Words.{Octets}
-use Rattle.domain_names.specs.Name.{is_at_or_below, wire_of, IsName}
-use Rattle.domain_names.specs.Words.{Name}
+use Rattle.domain_names.specs.{Name.{is_at_or_below, wire_of, IsName}, Words.Name}
 use Rattle.domain_nsec.specs.Chain.{Link}
-use Rattle.domain_nsec3.specs.Chain.{HashedLink, ParamRecord}
-use Rattle.domain_nsec3.specs.Config.{Parameters}
+use Rattle.domain_nsec3.specs.{Chain.{HashedLink, ParamRecord}, Config.Parameters}
 use Rattle.domain_sha1.specs.Iterated.{sha1_answer}
 use Rattle.domain_hasher.specs.declared.error.Nsec3HashError.{Nsec3HashError}
 use Rattle.domain_hasher.specs.declared.error.Nsec3HashError.TheVariants as hash_error
-use Rattle.domain_checker.specs.HashedReading.{IsWalked}
-use Rattle.domain_checker.specs.HashedVerdict.{HasHashedProof, IsFirstRefusal, IsHashedProved}
-use Rattle.domain_checker.specs.HashedView.{HashedRecords, links_with}
-use Rattle.domain_checker.specs.Reading.{reading}
-use Rattle.domain_checker.specs.Verdict.{HasProof, IsProved, IsWithin}
-use Rattle.domain_checker.specs.declared.verdict.Verdict.{Verdict}
+use Rattle.domain_checker.specs.{HashedReading.IsWalked, HashedVerdict.{HasHashedProof, IsFirstRefusal, IsHashedProved}, HashedView.{HashedRecords, links_with}}
+use Rattle.domain_checker.specs.{Reading.reading, Verdict.{HasProof, IsProved, IsWithin}, declared.verdict.Verdict.Verdict}
 use Rattle.domain_checker.specs.declared.verdict.Verdict.TheVariants.{NotProven, OutsideZone}
-use Rattle.denial_c.specs.Among.{AreNsecs, AreNsec3s, AreParams}
-use Rattle.denial_c.specs.Numbers.{number_of, labels_of}
-use Rattle.denial_c.specs.declared.fault.Fault.{Fault}
+use Rattle.denial_c.specs.{Among.{AreNsecs, AreNsec3s, AreParams}, Numbers.{number_of, labels_of}, declared.fault.Fault.Fault}
 use Rattle.denial_c.specs.declared.fault.Fault.TheVariants as fault
 use Rattle.denial_c.specs.declared.nsec3.Telling.{Telling}
 use Rattle.denial_c.specs.declared.nsec3.Telling.TheVariants as telling

@@ -3,8 +3,7 @@ use Rattle.std.specs.Prelude.{◌≡◌, ℕ, ◌-◌, ◌<◌, ◌==◌, Bool, 
 use Rattle.domain_octets.specs.Words.{Octets}
 use Rattle.domain_answer.specs.declared.answer.Answer.TheVariants as answers
 use Rattle.domain_checker.specs.declared.verdict.Verdict.TheVariants as verdicts
-use Rattle.denial_c.specs.ChainNumbers.{chain_fault_number, chain_made, no_collision}
-use Rattle.denial_c.specs.Numbers.{answer_number, fault_number, verdict_number}
+use Rattle.denial_c.specs.{ChainNumbers.{chain_fault_number, chain_made, no_collision}, Numbers.{answer_number, fault_number, verdict_number}}
 use Rattle.denial_c.specs.declared.chain_fault.ChainFault.TheVariants as chain_faults
 use Rattle.denial_c.specs.declared.fault.Fault.TheVariants as faults
 

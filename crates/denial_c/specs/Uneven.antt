@@ -2,11 +2,9 @@
 use Rattle.std.specs.Prelude.{◌≡◌, ◌≢◌, ℕ, ◌<◌, ◌==◌, ◌&&◌, not, Bool, true, false, List, ◌∷◌, ◌++◌, filter, Option, Some, None}
 use Rattle.std.specs.List.{list_any, AllByRecursion}
 use Rattle.domain_octets.specs.Words.{Octets}
-use Rattle.domain_names.specs.Name.{same_name}
-use Rattle.domain_names.specs.Words.{Name}
+use Rattle.domain_names.specs.{Name.same_name, Words.Name}
 use Rattle.domain_zone.specs.Zone.{ZoneRecord, has_clash, has_unequal_ttls, records_of}
-use Rattle.domain_borrowed.specs.Data.{RawRecord}
-use Rattle.domain_borrowed.specs.Wire.{record_octets, IsRecord}
+use Rattle.domain_borrowed.specs.{Data.RawRecord, Wire.{record_octets, IsRecord}}
 use Rattle.denial_c.specs.Given.{IsReadUpTo}
 
 -- of the owner and the type

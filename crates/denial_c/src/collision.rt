@@ -5,8 +5,7 @@ ghost use Rattle.domain_nsec3.specs.View.{config_of};
 ghost use Rattle.domain_records.specs.Order.{IsInOrder};
 ghost use Rattle.domain_borrowed.specs.Data.{zone_of_raw};
 ghost use Rattle.domain_sha1.specs.Iterated.{sha1_answer};
-ghost use Rattle.denial_c.specs.ChainNumbers.{collision_number};
-ghost use Rattle.denial_c.specs.Chains.{hashed_config};
+ghost use Rattle.denial_c.specs.{ChainNumbers.collision_number, Chains.hashed_config};
 ghost use Rattle.denial_c.specs.Collisions.{IsCollisionResult};
 ghost use Rattle.denial_c.specs.declared.chain_fault.ChainFault.TheVariants as fault;
 

@@ -3,8 +3,7 @@ ghost use Rattle.std.specs.Prelude.{◌≡◌, ℕ, List, ◌++◌, IfErr, IfOk}
 ghost use Rattle.domain_names.specs.Words.{Name};
 ghost use Rattle.domain_nsec.specs.Chain.{Link};
 ghost use Rattle.domain_checker.specs.HandedIn.{HasRead};
-ghost use Rattle.denial_c.specs.Among.{AreNsecs};
-ghost use Rattle.denial_c.specs.Result.{IsNsecResult, Spells, IsSpelled};
+ghost use Rattle.denial_c.specs.{Among.AreNsecs, Result.{IsNsecResult, Spells, IsSpelled}};
 
 use crate::among::is_of;
 use crate::fault::Fault;

@@ -2,8 +2,7 @@
 ghost use Rattle.std.specs.Prelude.{List, IfErr, IfOk, OnOk};
 ghost use Rattle.domain_records.specs.Order.{IsInOrder, IsOneClass};
 ghost use Rattle.domain_borrowed.specs.Data.{RawRecord};
-ghost use Rattle.denial_c.specs.Chains.{IsGivenFault, Sorts};
-ghost use Rattle.denial_c.specs.Given.{AreGiven};
+ghost use Rattle.denial_c.specs.{Chains.{IsGivenFault, Sorts}, Given.AreGiven};
 
 use crate::chain_fault::ChainFault;
 use domain_base::{Class, ParsedName};

@@ -1,12 +1,10 @@
 -- Records that are gone over one by one, of which some are kept.
-use Rattle.std.proofs.lemmas.Grind.{common_steps}
-use Rattle.std.proofs.Common.{◌≡◌, ℕ, List, [], ◌∷◌, ◌++◌, arith, length, refl, sym, subst, inr, append_assoc, append-nil}
+use Rattle.std.proofs.{lemmas.Grind.common_steps, Common.{◌≡◌, ℕ, List, [], ◌∷◌, ◌++◌, arith, length, refl, sym, subst, inr, append_assoc, append-nil}}
 use Rattle.domain_names.specs.Words.{Name}
 use Rattle.domain_nsec.specs.Chain.{Link}
 use Rattle.domain_record.specs.RecordClone.{IsRecordClone}
 use Rattle.domain_borrowed.specs.Data.{RawRecord}
-use Rattle.domain_checker.specs.HandedIn.{HasRead}
-use Rattle.domain_checker.specs.declared.nsec_check.NsecCheck.{NsecCheck}
+use Rattle.domain_checker.specs.{HandedIn.HasRead, declared.nsec_check.NsecCheck.NsecCheck}
 use Rattle.denial_program.specs.Check.{AreAmong, IsNsecOf}
 
 pub ended : (left : List RawRecord) → length left ≡ 0 → left ≡ []

@@ -1,24 +1,15 @@
 -- How the program makes chains.
-use Rattle.std.proofs.Common.{arith, ◌≡◌, ◌⊎◌, List, inl, inr, Result, IfErr, IsErrOf, OnOk}
-use Rattle.std.proofs.lemmas.Grind.{common_steps}
-use Rattle.std.specs.Result.{IsErrAnd}
-use Rattle.domain_dnssec.specs.declared.chain.ChainError.TheVariants.{MixedClasses, Sort}
+use Rattle.std.{proofs.{Common.{arith, ◌≡◌, ◌⊎◌, List, inl, inr, Result, IfErr, IsErrOf, OnOk}, lemmas.Grind.common_steps}, specs.Result.IsErrAnd}
+use Rattle.domain_dnssec.{specs.declared.chain.ChainError.TheVariants.{MixedClasses, Sort}, proofs.KeptLemmas.classes_kept}
 use Rattle.domain_octets.proofs.StdLemmas.{if_err_of}
 use Rattle.domain_names.specs.Words.{Name}
 use Rattle.domain_nsec.specs.Chain.{usual_config, IsFaultless}
-use Rattle.domain_nsec3.specs.Faults.{IsReady}
-use Rattle.domain_nsec3.specs.View.{HasherAnswer}
+use Rattle.domain_nsec3.specs.{Faults.IsReady, View.HasherAnswer}
 use Rattle.domain_borrowed.specs.Data.{RawRecord, data_cmp, minimum_of, zone_of_raw}
-use Rattle.domain_records.specs.Errors.{sort_error}
-use Rattle.domain_records.specs.Order.{IsOneClass}
-use Rattle.domain_dnssec.proofs.KeptLemmas.{classes_kept}
+use Rattle.domain_records.specs.{Errors.sort_error, Order.IsOneClass}
 use Rattle.denial_program.specs.Answer.{usual_nsec3_config, HasNoAnswer, HasNoNsecs, HasNoNsec3s, IsAnswer, IsNsecs, IsNsec3s, IsUnsorted, IsUnwritten, Sorts}
-use Rattle.denial_program.specs.Command.{Params}
-use Rattle.denial_program.specs.declared.answer.Reply.{Reply}
-use Rattle.denial_program.specs.declared.command.Command.{Command}
-use Rattle.denial_program.specs.declared.fault.DenialFault.{DenialFault}
-use Rattle.denial_program.specs.declared.fault.DenialFault.TheVariants.{Unprepared, Write, OutOfMemory as NoMemory}
-use Rattle.denial_program.specs.Fault.{prepare_error}
+use Rattle.denial_program.specs.{Command.Params, declared.{answer.Reply.Reply, command.Command.Command, fault.DenialFault.DenialFault}}
+use Rattle.denial_program.specs.{declared.fault.DenialFault.TheVariants.{Unprepared, Write, OutOfMemory as NoMemory}, Fault.prepare_error}
 
 -- where writing failed there was an answer
 pub answer_unwritten : {X : Type 0} (answers : HasherAnswer) (command : Command) (given : List RawRecord) (r : Result X DenialFault)

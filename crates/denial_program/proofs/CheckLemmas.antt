@@ -1,14 +1,9 @@
 -- Names outside the zone, and what a hasher refuses.
-use Rattle.std.proofs.Common.{arith, ◌≡◌, ℕ, false, List, ◌⊎◌}
-use Rattle.std.proofs.lemmas.Grind.{common_steps}
-use Rattle.std.proofs.lemmas.Bool.{cond-false}
-use Rattle.domain_names.specs.Name.{is_at_or_below}
-use Rattle.domain_names.specs.Words.{Name}
+use Rattle.std.proofs.{Common.{arith, ◌≡◌, ℕ, false, List, ◌⊎◌}, lemmas.{Grind.common_steps, Bool.cond-false}}
+use Rattle.domain_names.specs.{Name.is_at_or_below, Words.Name}
 use Rattle.domain_nsec.specs.Chain.{Link}
-use Rattle.domain_checker.specs.Reading.{list_verdict, reading}
-use Rattle.domain_checker.specs.declared.verdict.Verdict.TheVariants.{OutsideZone}
-use Rattle.domain_hasher.specs.declared.error.Nsec3HashError.{Nsec3HashError}
-use Rattle.domain_hasher.specs.declared.error.Nsec3HashError.TheVariants.{Hasher, OutOfMemory}
+use Rattle.domain_checker.specs.{Reading.{list_verdict, reading}, declared.verdict.Verdict.TheVariants.OutsideZone}
+use Rattle.domain_hasher.specs.declared.error.Nsec3HashError.{Nsec3HashError, TheVariants.{Hasher, OutOfMemory}}
 
 -- of a name that is not at or below the apex any list says the same
 pub reading_outside : (a : Name) (listed : List Link) (x : Name) (t : ℕ) → is_at_or_below x a ≡ false → reading a listed x t ≡ OutsideZone

@@ -1,22 +1,12 @@
 -- The record that tokens spell, part after part, and tokens that spell none.
-use Rattle.std.proofs.Common.{arith, ◌≡◌, ◌≢◌, ◌↔◌, ℕ, Bool, false, IsTrue, List, [], ◌∷◌, refl, subst, None}
-use Rattle.std.proofs.lemmas.Grind.{common_steps}
+use Rattle.std.proofs.{Common.{arith, ◌≡◌, ◌≢◌, ◌↔◌, ℕ, Bool, false, IsTrue, List, [], ◌∷◌, refl, subst, None}, lemmas.Grind.common_steps}
 use Rattle.domain_octets.specs.Words.{Octets}
-use Rattle.domain_names.specs.Words.{Name}
-use Rattle.domain_names.specs.Text.{NameText}
-use Rattle.domain_names.specs.TextFault.{ScanFault, IsOfTokens, scan_fault_of, NameTextFault}
-use Rattle.domain_base.specs.Scan.{TakesToken, RefusesToken, IsNumber, IsNoNumber}
-use Rattle.domain_base.specs.Numbers.{ClassText, IsNoClass, TypeText, IsNoType, type_names}
-use Rattle.domain_names.specs.declared.error.ScanError.{ScanError}
+use Rattle.domain_names.specs.{Words.Name, Text.NameText, TextFault.{ScanFault, IsOfTokens, scan_fault_of, NameTextFault}, declared.error.ScanError.ScanError}
+use Rattle.domain_base.specs.{Scan.{TakesToken, RefusesToken, IsNumber, IsNoNumber}, Numbers.{ClassText, IsNoClass, TypeText, IsNoType, type_names}}
 use Rattle.domain_base.proofs.NamedLemmas.{one_named}
-use Rattle.domain_rdata.specs.Scan.{RdataText}
-use Rattle.domain_rdata.specs.Zone.{canonical_octets}
-use Rattle.domain_rdata.specs.declared.zone_record_data.ZoneRecordData.{ZoneRecordData}
-use Rattle.domain_rdata.proofs.ScanLemmas.{text_once}
+use Rattle.domain_rdata.{specs.{Scan.RdataText, Zone.canonical_octets, declared.zone_record_data.ZoneRecordData.ZoneRecordData}, proofs.ScanLemmas.text_once}
 use Rattle.domain_borrowed.specs.Data.{RawData, RawRecord}
-use Rattle.denial_program.specs.Said.{line_error_of, SpellsNoName, SpellsNone}
-use Rattle.denial_program.specs.Words.{LineText}
-use Rattle.denial_program.specs.declared.line.LineError.{LineError}
+use Rattle.denial_program.specs.{Said.{line_error_of, SpellsNoName, SpellsNone}, Words.LineText, declared.line.LineError.LineError}
 use Rattle.denial_program.specs.declared.line.LineError.TheVariants.{Bad, OutOfMemory}
 
 pub none_left : (ts : List (List ℕ)) (b : Bool) → (IsTrue b ↔ (ts ≢ [])) → b ≡ false → ts ≡ []

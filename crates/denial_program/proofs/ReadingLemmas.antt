@@ -1,15 +1,10 @@
 -- How far a reader has come, where it tells its octets.
 use Rattle.std.proofs.lemmas.Grind.{common_steps}
 use Rattle.std.proofs.Common.{◌≡◌, ◌≢◌, ℕ, ◌+◌, ◌-◌, ◌<◌, List, [], ◌∷◌, ◌++◌, length, get_or, refl, ap, sym, ◌∙◌, subst, arith, inl, inr, Some, None, IfSome}
-use Rattle.std.proofs.Common.{Option, append-nil, append_assoc}
-use Rattle.std.specs.Str.Lines.{lines, strip_carriage_return}
-use Rattle.std.specs.Io.BufRead.{take_through, drop_through, DropsThrough}
-use Rattle.std.specs.Io.KnownBytes.{IsAtEnd}
-use Rattle.std.proofs.lemmas.List.Elements.{All-nil, All-cons}
+use Rattle.std.proofs.{Common.{Option, append-nil, append_assoc}, lemmas.List.Elements.{All-nil, All-cons}}
+use Rattle.std.specs.{Str.Lines.{lines, strip_carriage_return}, Io.{BufRead.{take_through, drop_through, DropsThrough}, KnownBytes.IsAtEnd}}
 use Rattle.domain_borrowed.specs.Data.{RawRecord}
-use Rattle.denial_program.specs.Words.{words, IsSkipped}
-use Rattle.denial_program.specs.Listing.{Give, IsLineRecord, IsGood, IsBad, IsFirstBad}
-use Rattle.denial_program.proofs.LineSteps.{lines_step}
+use Rattle.denial_program.{specs.{Words.{words, IsSkipped}, Listing.{Give, IsLineRecord, IsGood, IsBad, IsFirstBad}}, proofs.LineSteps.lines_step}
 
 pub taken_some : (bs : List ℕ) → 0 < length (take_through 10 bs) → 0 < length bs
 taken_some [] h = h

@@ -1,24 +1,14 @@
 -- What a run writes, piece after piece.
-use Rattle.std.proofs.Common.{arith, ◌≡◌, ℕ, ◌+◌, ◌<◌, List, ◌++◌, codes, length, take, get_or, Option, append_assoc}
-use Rattle.std.proofs.lemmas.Grind.{common_steps}
-use Rattle.std.specs.Fmt.{decimal}
-use Rattle.std.specs.Io.KnownBytes.{Appends}
+use Rattle.std.proofs.{Common.{arith, ◌≡◌, ℕ, ◌+◌, ◌<◌, List, ◌++◌, codes, length, take, get_or, Option, append_assoc}, lemmas.Grind.common_steps}
+use Rattle.std.specs.{Fmt.decimal, Io.KnownBytes.Appends}
 use Rattle.domain_octets.specs.Words.{Octets}
-use Rattle.domain_names.specs.Text.{name_text}
-use Rattle.domain_base.specs.Types.{nsec, nsec3param}
-use Rattle.domain_base.specs.Numbers.{class_text, type_text}
-use Rattle.domain_bitmap.specs.Blocks.{types_of}
-use Rattle.domain_bitmap.specs.Text.{types_text}
-use Rattle.domain_chain_rdata.specs.Nsec3paramText.{nsec3param_text}
-use Rattle.domain_chain_rdata.specs.Rdata.{nsec3param_values}
-use Rattle.domain_names.specs.Words.{Name}
-use Rattle.domain_chain_rdata.specs.declared.nsec.Nsec.{Nsec}
-use Rattle.domain_chain_rdata.specs.declared.nsec3param.Nsec3param.{Nsec3param}
+use Rattle.domain_names.specs.{Text.name_text, Words.Name}
+use Rattle.domain_base.specs.{Types.{nsec, nsec3param}, Numbers.{class_text, type_text}}
+use Rattle.domain_bitmap.specs.{Blocks.types_of, Text.types_text}
+use Rattle.domain_chain_rdata.specs.{Nsec3paramText.nsec3param_text, Rdata.nsec3param_values, declared.{nsec.Nsec.Nsec, nsec3param.Nsec3param.Nsec3param}}
 use Rattle.domain_record.specs.declared.record.Record.{Record}
 use Rattle.domain_nsec.specs.ChainView.{as_link}
-use Rattle.domain_nsec3.specs.Chain.{HashedLink}
-use Rattle.domain_nsec3.specs.Text.{link_text}
-use Rattle.domain_nsec3.specs.View.{as_param_record}
+use Rattle.domain_nsec3.specs.{Chain.HashedLink, Text.link_text, View.as_param_record}
 use Rattle.denial_program.specs.Text.{lines_of, nsec_line, nsec3_line, nsec3param_line}
 
 pub appends_more : (a b c : Option Octets) (t u : Octets) → Appends a b t → Appends b c u → Appends a c (t ++ u)

@@ -1,22 +1,13 @@
 -- Words none of whose octets is past `~`, and lines that are bad.
-use Rattle.std.proofs.Common.{◌≡◌, ◌↔◌, Bor, map, Bool, true, false, IsTrue, eqb, ℕ, ◌<◌, ◌≤◌, List, [], ◌∷◌, ◌++◌, take, drop, length}
-use Rattle.std.proofs.Common.{get_or, ap, sym, ◌∙◌, subst, inl, inr, arith, append-nil, refl}
-use Rattle.std.specs.Prelude.{nat_lt}
-use Rattle.std.specs.List.{All, AllByRecursion as ByRecursion, AllPass, slice_split, onto_first}
-use Rattle.std.specs.Str.{IsUtf8}
-use Rattle.std.proofs.lemmas.Bool.{cases_Bool, cond-true, eqb-true, lt-ltb, or_cases}
-use Rattle.std.proofs.lemmas.Bool.Decides.{nat_tests}
-use Rattle.std.proofs.lemmas.Grind.{common_steps}
-use Rattle.std.proofs.lemmas.List.{take-append-drop, drop_at, drop_more, drop_all, get_or-drop}
-use Rattle.std.proofs.lemmas.List.Elements.{All-nil, All-head, All-tail, All-get_or, All-from_recursion, recursion_from_All}
-use Rattle.std.proofs.lemmas.List.Elements.{All-drop, All-weaker, filter-append}
-use Rattle.std.proofs.lemmas.List.Splits.{slice_split-cons_yes, slice_split-cons_no, slice_split_at, slice_split_none}
+use Rattle.std.proofs.Common.{◌≡◌, ◌↔◌, Bor, map, Bool, true, false, IsTrue, eqb, ℕ, ◌<◌, ◌≤◌, List, [], ◌∷◌, ◌++◌, take, drop, length, get_or, ap, sym, ◌∙◌}
+use Rattle.std.proofs.{Common.{subst, inl, inr, arith, append-nil, refl}, lemmas.Bool.{cases_Bool, cond-true, eqb-true, lt-ltb, or_cases, Decides.nat_tests}}
+use Rattle.std.proofs.lemmas.{Grind.common_steps, List.{take-append-drop, drop_at, drop_more, drop_all, get_or-drop}}
+use Rattle.std.proofs.lemmas.List.Elements.{All-nil, All-head, All-tail, All-get_or, All-from_recursion, recursion_from_All, All-drop, All-weaker}
+use Rattle.std.proofs.lemmas.List.{Elements.filter-append, Splits.{slice_split-cons_yes, slice_split-cons_no, slice_split_at, slice_split_none}}
 use Rattle.std.proofs.lemmas.Str.{IsUtf8-from_ascii}
-use Rattle.denial_program.specs.Listing.{IsBad}
-use Rattle.denial_program.specs.Said.{SpellsNone}
-use Rattle.denial_program.specs.Words.{without_empty, words, is_blank, IsSkipped, is_of_word, IsPlain, ArePlain, LineText}
-use Rattle.denial_program.specs.declared.line.LineError.{LineError}
-use Rattle.denial_program.specs.declared.line.LineError.TheVariants.{Bad}
+use Rattle.std.specs.{Prelude.nat_lt, List.{All, AllByRecursion as ByRecursion, AllPass, slice_split, onto_first}, Str.IsUtf8}
+use Rattle.denial_program.specs.{Listing.IsBad, Said.SpellsNone, Words.{without_empty, words, is_blank, IsSkipped, is_of_word, IsPlain, ArePlain, LineText}}
+use Rattle.denial_program.specs.declared.line.LineError.{LineError, TheVariants.Bad}
 
 -- such a word is text
 pub plain_is_text : (word : List ℕ) → IsPlain word → IsUtf8 word

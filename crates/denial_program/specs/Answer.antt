@@ -1,30 +1,20 @@
 -- The answer to a command over the records that were read, in whatever order they came.
-use Rattle.std.specs.Prelude.{◌≡◌, ◌⊎◌, true, false, List, Option}
-use Rattle.std.specs.Io.KnownBytes.{Appends}
+use Rattle.std.specs.{Prelude.{◌≡◌, ◌⊎◌, true, false, List, Option}, Io.KnownBytes.Appends}
 use Rattle.domain_octets.specs.Words.{Octets}
 use Rattle.domain_names.specs.Words.{Name, Tokens}
 use Rattle.domain_records.specs.Order.{IsOneClass}
 use Rattle.domain_nsec.specs.Chain.{Link, usual_config}
-use Rattle.domain_nsec3.specs.Chain.{ChainRecords}
-use Rattle.domain_nsec3.specs.Config.{ChainConfig}
-use Rattle.domain_nsec3.specs.View.{HasherAnswer, hash_by, parameters_of}
+use Rattle.domain_nsec3.specs.{Chain.ChainRecords, Config.ChainConfig, View.{HasherAnswer, hash_by, parameters_of}}
 use Rattle.domain_nsec3.specs.declared.config.Nsec3ParamTtlMode.TheVariants.{Soa}
 use Rattle.domain_borrowed.specs.Data.{data_cmp, minimum_of, RawRecord}
 use Rattle.domain_dnssec.specs.AnyOrder as any_order
 use Rattle.domain_dnssec.specs.AnyOrderNsec3 as any_order_nsec3
 use Rattle.domain_dnssec.specs.declared.chain.ChainError.{ChainError}
 use Rattle.domain_dnssec.specs.declared.chain.ChainError.TheVariants as chain_error
-use Rattle.denial_program.specs.Check.{HasNoNsec3Verdict, IsNsec3Verdict, IsNsecVerdict}
-use Rattle.denial_program.specs.Command.{Asks, Params}
-use Rattle.denial_program.specs.Listing.{Give}
-use Rattle.denial_program.specs.Text.{answer_text}
-use Rattle.denial_program.specs.declared.answer.Reply.{Reply}
-use Rattle.denial_program.specs.declared.answer.Reply.TheVariants.{Nsecs, Nsec3s}
-use Rattle.denial_program.specs.declared.command.Command.{Command}
-use Rattle.denial_program.specs.declared.command.Command.TheVariants.{Nsec, Nsec3, CheckNsec, CheckNsec3}
-use Rattle.denial_program.specs.declared.fault.DenialFault.{DenialFault}
-use Rattle.denial_program.specs.declared.fault.DenialFault.TheVariants.{Unprepared, MixedClasses, Signing, Write, OutOfMemory}
-use Rattle.denial_program.specs.Fault.{prepare_error}
+use Rattle.denial_program.specs.{Check.{HasNoNsec3Verdict, IsNsec3Verdict, IsNsecVerdict}, Command.{Asks, Params}, Listing.Give, Text.answer_text}
+use Rattle.denial_program.specs.declared.{answer.Reply.{Reply, TheVariants.{Nsecs, Nsec3s}}, command.Command.Command}
+use Rattle.denial_program.specs.declared.{command.Command.TheVariants.{Nsec, Nsec3, CheckNsec, CheckNsec3}, fault.DenialFault.DenialFault}
+use Rattle.denial_program.specs.{declared.fault.DenialFault.TheVariants.{Unprepared, MixedClasses, Signing, Write, OutOfMemory}, Fault.prepare_error}
 
 -- sorted is the sorted set of the records, by owner, class, type and octets
 abbrev pub Sorts : List RawRecord → List RawRecord → Type 0

@@ -1,33 +1,19 @@
 -- What the records of a chain that were read prove of a name and a type.
 use Rattle.std.specs.Prelude.{ℕ, ◌≡◌, ◌≢◌, ◌⊎◌, true, false, List, [], ◌∷◌, ◌++◌, codes, length}
 use Rattle.domain_octets.specs.Words.{Octets}
-use Rattle.domain_names.specs.Name.{is_at_or_below, last_labels, same_name}
-use Rattle.domain_names.specs.Text.{name_text}
-use Rattle.domain_names.specs.Words.{Name}
+use Rattle.domain_names.specs.{Name.{is_at_or_below, last_labels, same_name}, Text.name_text, Words.Name}
 use Rattle.domain_hasher.specs.declared.error.Nsec3HashError.TheVariants.{Hasher}
-use Rattle.domain_records.specs.declared.error.SigningError.{SigningError}
-use Rattle.domain_records.specs.declared.error.SigningError.TheVariants.{Nsec3HashingError}
+use Rattle.domain_records.specs.declared.error.SigningError.{SigningError, TheVariants.Nsec3HashingError}
 use Rattle.domain_nsec.specs.Chain.{Link}
-use Rattle.domain_nsec3.specs.Chain.{HashedLink, ParamRecord}
-use Rattle.domain_checker.specs.HashedView.{links_with, HashedRecords}
-use Rattle.domain_nsec3.specs.View.{HasherAnswer}
-use Rattle.domain_borrowed.specs.Data.{RawRecord}
-use Rattle.domain_borrowed.specs.Links.{nsec_record, nsec3_record, param_record, IsNsec, IsNsec3}
-use Rattle.domain_borrowed.specs.Links.{IsParam}
-use Rattle.domain_checker.specs.Verdict.{HasProof, IsProved}
-use Rattle.domain_checker.specs.Reading.{reading}
-use Rattle.domain_checker.specs.HashedVerdict.{HasHashedProof, IsFirstRefusal, IsHashedProved}
-use Rattle.domain_checker.specs.HashedReading.{IsWalked}
-use Rattle.domain_checker.specs.declared.verdict.Verdict.{Verdict}
+use Rattle.domain_nsec3.specs.{Chain.{HashedLink, ParamRecord}, View.HasherAnswer}
+use Rattle.domain_checker.specs.{HashedView.{links_with, HashedRecords}, Verdict.{HasProof, IsProved}, Reading.reading}
+use Rattle.domain_checker.specs.{HashedVerdict.{HasHashedProof, IsFirstRefusal, IsHashedProved}, HashedReading.IsWalked, declared.verdict.Verdict.Verdict}
+use Rattle.domain_borrowed.specs.{Data.RawRecord, Links.{nsec_record, nsec3_record, param_record, IsNsec, IsNsec3, IsParam}}
 use Rattle.domain_checker.specs.declared.verdict.Verdict.TheVariants as verdicts
 use Rattle.denial_program.specs.declared.answer.Reply.{Reply}
 use Rattle.denial_program.specs.declared.answer.Reply.TheVariants as answers
-use Rattle.denial_program.specs.declared.command.Question.{Question}
-use Rattle.denial_program.specs.declared.fault.DenialFault.{DenialFault}
-use Rattle.denial_program.specs.declared.fault.DenialFault.TheVariants.{Usage, Read, Line}
-use Rattle.denial_program.specs.declared.fault.DenialFault.TheVariants.{Unprepared, MixedClasses}
-use Rattle.denial_program.specs.declared.fault.DenialFault.TheVariants.{Signing, Param, Write}
-use Rattle.denial_program.specs.declared.fault.DenialFault.TheVariants.{OutOfMemory}
+use Rattle.denial_program.specs.declared.{command.Question.Question, fault.DenialFault.DenialFault}
+use Rattle.denial_program.specs.declared.fault.DenialFault.TheVariants.{Usage, Read, Line, Unprepared, MixedClasses, Signing, Param, Write, OutOfMemory}
 
 -- what records give, in their order: one thing each that is such, and none those that are not
 abbrev pub AreAmong : {K : Type 0} → (RawRecord → K → Type 0) → List RawRecord → List K → Type 0

@@ -1,15 +1,11 @@
 -- What the words after the program's name ask for.
 use Rattle.std.specs.Prelude.{◌≡◌, ℕ, [], ◌∷◌, codes}
 use Rattle.domain_octets.specs.Words.{Octets}
-use Rattle.domain_base.specs.Numbers.{TypeText}
-use Rattle.domain_base.specs.Scan.{IsNumber}
-use Rattle.domain_names.specs.Text.{NameText}
-use Rattle.domain_names.specs.Words.{Name, Token, Tokens}
+use Rattle.domain_base.specs.{Numbers.TypeText, Scan.IsNumber}
+use Rattle.domain_names.specs.{Text.NameText, Words.{Name, Token, Tokens}}
 use Rattle.domain_bitmap.specs.HashText.{SaltText}
 use Rattle.domain_chain_rdata.specs.declared.nsec3param.Nsec3param.{Nsec3param}
-use Rattle.denial_program.specs.declared.command.Command.{Command}
-use Rattle.denial_program.specs.declared.command.Command.TheVariants.{Nsec, Nsec3, CheckNsec, CheckNsec3}
-use Rattle.denial_program.specs.declared.command.Question.{Question}
+use Rattle.denial_program.specs.declared.command.{Command.{Command, TheVariants.{Nsec, Nsec3, CheckNsec, CheckNsec3}}, Question.Question}
 
 -- the parameters of an NSEC3 chain; the octets of the salt are held in a vector
 abbrev pub Params : Type 0

@@ -2,12 +2,8 @@
 use Rattle.std.specs.Prelude.{◌≡◌, ℕ, [], Option, Some, IfSome}
 use Rattle.domain_octets.specs.Words.{Octets}
 use Rattle.domain_names.specs.Words.{Tokens}
-use Rattle.denial_program.specs.Command.{IsCommand, IsNoCommand}
-use Rattle.denial_program.specs.declared.fault.DenialFault.{DenialFault}
-use Rattle.denial_program.specs.declared.fault.DenialFault.TheVariants.{Usage, Read, Line}
-use Rattle.denial_program.specs.declared.fault.DenialFault.TheVariants.{Unprepared, MixedClasses}
-use Rattle.denial_program.specs.declared.fault.DenialFault.TheVariants.{Signing, Param, Write}
-use Rattle.denial_program.specs.declared.fault.DenialFault.TheVariants.{OutOfMemory}
+use Rattle.denial_program.specs.{Command.{IsCommand, IsNoCommand}, declared.fault.DenialFault.DenialFault}
+use Rattle.denial_program.specs.declared.fault.DenialFault.TheVariants.{Usage, Read, Line, Unprepared, MixedClasses, Signing, Param, Write, OutOfMemory}
 use Rattle.denial_program.specs.declared.prepare.PrepareError.{PrepareError}
 
 -- the one value of its type

@@ -1,13 +1,9 @@
 -- What the program prints on standard error.
-use Rattle.std.specs.Prelude.{◌++◌, codes}
-use Rattle.std.specs.Fmt.{decimal}
+use Rattle.std.specs.{Prelude.{◌++◌, codes}, Fmt.decimal}
 use Rattle.domain_octets.specs.Words.{Octets}
 use Rattle.domain_records.specs.ErrorText.{signing_error_text}
 use Rattle.denial_program.specs.declared.fault.DenialFault.{DenialFault}
-use Rattle.denial_program.specs.declared.fault.DenialFault.TheVariants.{Usage, Read, Line}
-use Rattle.denial_program.specs.declared.fault.DenialFault.TheVariants.{Unprepared, MixedClasses}
-use Rattle.denial_program.specs.declared.fault.DenialFault.TheVariants.{Signing, Param, Write}
-use Rattle.denial_program.specs.declared.fault.DenialFault.TheVariants.{OutOfMemory}
+use Rattle.denial_program.specs.declared.fault.DenialFault.TheVariants.{Usage, Read, Line, Unprepared, MixedClasses, Signing, Param, Write, OutOfMemory}
 
 -- of any fault
 abbrev pub fault_text : DenialFault → Octets

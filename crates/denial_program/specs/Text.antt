@@ -1,24 +1,15 @@
 -- The text of an answer.
-use Rattle.std.specs.Prelude.{ℕ, List, ◌++◌, codes}
-use Rattle.std.specs.List.{flat_map}
-use Rattle.std.specs.Fmt.{decimal}
+use Rattle.std.specs.{Prelude.{ℕ, List, ◌++◌, codes}, List.flat_map, Fmt.decimal}
 use Rattle.domain_octets.specs.Words.{Octets}
-use Rattle.domain_names.specs.Text.{name_text}
-use Rattle.domain_base.specs.Numbers.{class_text, type_text}
-use Rattle.domain_base.specs.Types.{nsec, nsec3, nsec3param}
-use Rattle.domain_names.specs.Words.{Name}
-use Rattle.domain_bitmap.specs.Blocks.{types_of}
-use Rattle.domain_bitmap.specs.Text.{types_text}
+use Rattle.domain_names.specs.{Text.name_text, Words.Name}
+use Rattle.domain_base.specs.{Numbers.{class_text, type_text}, Types.{nsec, nsec3, nsec3param}}
+use Rattle.domain_bitmap.specs.{Blocks.types_of, Text.types_text}
 use Rattle.domain_record.specs.declared.record.Record.{Record}
-use Rattle.domain_chain_rdata.specs.Nsec3Text.{nsec3_text}
-use Rattle.domain_chain_rdata.specs.Nsec3paramText.{nsec3param_text}
-use Rattle.domain_chain_rdata.specs.Rdata.{nsec3 as nsec3_fields}
+use Rattle.domain_chain_rdata.specs.{Nsec3Text.nsec3_text, Nsec3paramText.nsec3param_text, Rdata.nsec3 as nsec3_fields}
 use Rattle.domain_fields.specs.Layout.{Values}
 use Rattle.domain_nsec.specs.Chain.{Link}
 use Rattle.domain_nsec3.specs.Chain.{ChainRecords, HashedLink, ParamRecord}
-use Rattle.denial_program.specs.Check.{verdict_text}
-use Rattle.denial_program.specs.declared.answer.Reply.{Reply}
-use Rattle.denial_program.specs.declared.answer.Reply.TheVariants.{Nsecs, Nsec3s, Verdict}
+use Rattle.denial_program.specs.{Check.verdict_text, declared.answer.Reply.{Reply, TheVariants.{Nsecs, Nsec3s, Verdict}}}
 
 -- the owner with its last dot, the TTL, the class, the type and the text of the data
 abbrev pub record_line : {D : Type 0} → ℕ → (D → Octets) → Record Name D → Octets

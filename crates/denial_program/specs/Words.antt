@@ -1,15 +1,9 @@
 -- The words of a line, and what they say.
-use Rattle.std.specs.Prelude.{◌≡◌, ℕ, ◌≤◌, ◌||◌, ◌&&◌, ◌==◌, Bool, not, [], ◌∷◌, All, filter, length, nat_le, nat_lt, slice_index}
-use Rattle.std.specs.List.{slice_split}
-use Rattle.domain_octets.specs.Words.{Octets}
-use Rattle.domain_octets.specs.Characters.{tab, space, semicolon, tilde}
-use Rattle.domain_names.specs.Text.{NameText}
-use Rattle.domain_base.specs.Scan.{IsNumber}
-use Rattle.domain_base.specs.Numbers.{ClassText, TypeText}
-use Rattle.domain_names.specs.Words.{Name, Token, Tokens}
-use Rattle.domain_rdata.specs.Scan.{RdataText}
-use Rattle.domain_rdata.specs.Zone.{canonical_octets}
-use Rattle.domain_rdata.specs.declared.zone_record_data.ZoneRecordData.{ZoneRecordData}
+use Rattle.std.specs.{Prelude.{◌≡◌, ℕ, ◌≤◌, ◌||◌, ◌&&◌, ◌==◌, Bool, not, [], ◌∷◌, All, filter, length, nat_le, nat_lt, slice_index}, List.slice_split}
+use Rattle.domain_octets.specs.{Words.Octets, Characters.{tab, space, semicolon, tilde}}
+use Rattle.domain_names.specs.{Text.NameText, Words.{Name, Token, Tokens}}
+use Rattle.domain_base.specs.{Scan.IsNumber, Numbers.{ClassText, TypeText}}
+use Rattle.domain_rdata.specs.{Scan.RdataText, Zone.canonical_octets, declared.zone_record_data.ZoneRecordData.ZoneRecordData}
 use Rattle.domain_borrowed.specs.Data.{RawRecord}
 
 abbrev pub is_blank : ℕ → Bool

@@ -1,6 +1,5 @@
 //! Why a run stops.
-ghost use Rattle.std.specs.Prelude.{◌≡◌, ◌⊎◌, ◌↔◌, Some};
-ghost use Rattle.std.specs.IoError.{error_kind};
+ghost use Rattle.std.specs.{Prelude.{◌≡◌, ◌⊎◌, ◌↔◌, Some}, IoError.error_kind};
 ghost use Rattle.denial_program.specs.Fault.{exit_status};
 ghost use Rattle.denial_program.specs.declared.fault.DenialFault.TheVariants as denial_fault;
 

@@ -4,13 +4,12 @@
 //! Want of memory for these says nothing of the zone, and is told as `Unprepared`, whose value only
 //! this module makes. So who makes a chain has to answer `OutOfMemory` for the memory that it takes
 //! itself, and that says that the zone has no fault.
-ghost use Rattle.std.specs.Prelude.{◌≡◌, ◌⊎◌, ℕ, IfErr, IfOk, IfSome, IsErrOf, MatchResult, map, string_bytes};
-ghost use Rattle.std.specs.Str.Lines.{lines};
+ghost use Rattle.std.specs.Prelude.{◌≡◌, ◌⊎◌, ℕ, IfErr, IfOk, IfSome, IsErrOf, MatchResult, map};
+ghost use Rattle.std.specs.{Prelude.string_bytes, Str.Lines.lines};
 ghost use Rattle.domain_records.specs.Order.{IsInOrder, IsOneClass};
-ghost use Rattle.denial_program.specs.Answer.{IsUnsorted, Sorts};
-ghost use Rattle.denial_program.specs.Command.{Asks, IsNoCommand};
-ghost use Rattle.denial_program.specs.Fault.{IsAfterInput, IsReadingFault, IsReadToEnd, prepare_error};
-ghost use Rattle.denial_program.specs.Listing.{Give, IsFirstBad};
+ghost use Rattle.denial_program.specs.{Answer.{IsUnsorted, Sorts}, Command.{Asks, IsNoCommand}};
+ghost use Rattle.denial_program.specs.Fault.{IsAfterInput, IsReadingFault, IsReadToEnd};
+ghost use Rattle.denial_program.specs.{Fault.prepare_error, Listing.{Give, IsFirstBad}};
 
 use crate::arena::{compact_owners, store_name};
 use crate::command::{Command, command_of};

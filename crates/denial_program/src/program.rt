@@ -1,13 +1,10 @@
 //! The run of the program, over any reader and any writer.
-ghost use Rattle.std.specs.Prelude.{◌≡◌, ℕ, IfErr, MatchResult, OnOk, IsErrOf, IfSome, map, string_bytes};
-ghost use Rattle.std.specs.Str.Lines.{lines};
-ghost use Rattle.std.specs.Io.KnownBytes.{Appends};
-ghost use Rattle.denial_program.specs.Answer.{Answers, GivesNoAnswer};
-ghost use Rattle.denial_program.specs.Command.{IsCommand};
-ghost use Rattle.denial_program.specs.Fault.{IsAfterInput, IsBeforeOutput, IsOfRecords, IsReadToEnd, TellsUsage};
-ghost use Rattle.denial_program.specs.Listing.{IsFirstBad};
-ghost use Rattle.denial_program.specs.Text.{answer_text};
-ghost use Rattle.denial_program.specs.declared.answer.Reply.{Reply};
+ghost use Rattle.std.specs.Prelude.{◌≡◌, ℕ, IfErr, MatchResult, OnOk, IsErrOf, IfSome, map};
+ghost use Rattle.std.specs.{Prelude.string_bytes, Str.Lines.lines, Io.KnownBytes.Appends};
+ghost use Rattle.denial_program.specs.{Answer.{Answers, GivesNoAnswer}, Command.IsCommand};
+ghost use Rattle.denial_program.specs.Fault.{IsAfterInput, IsBeforeOutput, IsOfRecords};
+ghost use Rattle.denial_program.specs.{Fault.{IsReadToEnd, TellsUsage}, Listing.IsFirstBad};
+ghost use Rattle.denial_program.specs.{Text.answer_text, declared.answer.Reply.Reply};
 ghost use Rattle.denial_program.specs.declared.fault.DenialFault.TheVariants.{OutOfMemory};
 
 use crate::answer::write_answer;

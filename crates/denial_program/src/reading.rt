@@ -1,10 +1,9 @@
 //! The lines of an input, read to the end.
-ghost use Rattle.std.specs.Prelude.{◌≡◌, ◌≢◌, ◌⊎◌, ℕ, ◌+◌, ◌-◌, [], ◌∷◌, ◌++◌, IfErr, IfOk, MatchResult, OnOk, IsErrOf, IfSome, length, slice_index, vec_len};
-ghost use Rattle.std.specs.Str.Lines.{lines, strip_carriage_return};
-ghost use Rattle.std.specs.Io.BufRead.{take_through, DropsThrough};
-ghost use Rattle.std.specs.Io.KnownBytes.{IsAtEnd};
-ghost use Rattle.domain_octets.specs.Words.{Octets};
-ghost use Rattle.domain_octets.specs.Characters.{line_feed};
+ghost use Rattle.std.specs.Prelude.{◌≡◌, ◌≢◌, ◌⊎◌, ℕ, ◌+◌, ◌-◌, [], ◌∷◌, ◌++◌, IfErr, IfOk};
+ghost use Rattle.std.specs.Prelude.{MatchResult, OnOk, IsErrOf, IfSome, length, slice_index};
+ghost use Rattle.std.specs.{Prelude.vec_len, Str.Lines.{lines, strip_carriage_return}};
+ghost use Rattle.std.specs.Io.{BufRead.{take_through, DropsThrough}, KnownBytes.IsAtEnd};
+ghost use Rattle.domain_octets.specs.{Words.Octets, Characters.line_feed};
 ghost use Rattle.denial_program.specs.Fault.{IsAfterInput, IsReadingFault, IsReadToEnd};
 ghost use Rattle.denial_program.specs.Listing.{Give, IsFirstBad};
 ghost use Rattle.denial_program.specs.declared.fault.DenialFault.TheVariants.{OutOfMemory};

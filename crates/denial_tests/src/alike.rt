@@ -1,6 +1,5 @@
 //! Which names `denial lint` tells as alike, over a hasher by which many are.
-ghost use Rattle.std.specs.Prelude.{Ok, length};
-ghost use Rattle.std.specs.Int.{w64, to_be_bytes};
+ghost use Rattle.std.specs.{Prelude.{Ok, length}, Int.{w64, to_be_bytes}};
 
 use domain_dnssec::{HasherError, Nsec3HashAlgorithm, Nsec3Hasher};
 use domain_sha1::Sha1Hasher;

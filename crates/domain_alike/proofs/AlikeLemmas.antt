@@ -1,38 +1,22 @@
 -- Names that have one hash, found in a list of names in canonical order.
-use Rattle.std.proofs.Common.{◌≡◌, ◌⊎◌, ℕ, Bool, true, false, cond, List, [], ◌∷◌, ◌++◌, map, refl, sym, ap, ◌∙◌, inl, inr, subst, Option, Some}
-use Rattle.std.proofs.Common.{None, Bor, is_some, option_map, Ok, Err, ◌+◌, ◌<◌, drop, get_or, length, take, arith}
-use Rattle.std.specs.Cmp.Lexicographic.{slice_cmp, bytes_decides, nat_list_cmp_total, texts_ties}
-use Rattle.std.specs.List.{find, list_any, AllByRecursion}
-use Rattle.std.specs.Option.{option_copied, option_or}
-use Rattle.std.specs.Prelude.{slice_get}
-use Rattle.std.specs.Ordering.{is_eq, nat_cmp}
-use Rattle.std.proofs.lemmas.Bool.{cases_Bool, false≢true, or_left, or_right}
-use Rattle.std.proofs.lemmas.Cmp.{tied_itself}
-use Rattle.std.proofs.lemmas.List.{drop_more, map-append, take-append-drop}
-use Rattle.std.proofs.lemmas.List.Elements.{All-from_recursion, recursion_from_All}
-use Rattle.std.proofs.lemmas.List.Folds.{find-append, list_any-append}
-use Rattle.domain_octets.specs.Words.{Octets}
-use Rattle.domain_octets.proofs.StdLemmas.{or_none}
-use Rattle.domain_names.specs.Name.{same_name, wire_of}
-use Rattle.domain_names.specs.Order.{before}
-use Rattle.domain_names.specs.Words.{Name}
+use Rattle.std.proofs.Common.{◌≡◌, ◌⊎◌, ℕ, Bool, true, false, cond, List, [], ◌∷◌, ◌++◌, map, refl, sym, ap, ◌∙◌, inl, inr, subst, Option, Some, None, Bor}
+use Rattle.std.proofs.Common.{is_some, option_map, Ok, Err, ◌+◌, ◌<◌, drop, get_or, length, take, arith}
+use Rattle.std.proofs.lemmas.{Bool.{cases_Bool, false≢true, or_left, or_right}, Cmp.tied_itself, List.{drop_more, map-append, take-append-drop}}
+use Rattle.std.proofs.lemmas.List.{Elements.{All-from_recursion, recursion_from_All}, Folds.{find-append, list_any-append}}
+use Rattle.std.specs.{Cmp.Lexicographic.{slice_cmp, bytes_decides, nat_list_cmp_total, texts_ties}, List.{find, list_any, AllByRecursion}}
+use Rattle.std.specs.{Option.{option_copied, option_or}, Prelude.slice_get, Ordering.{is_eq, nat_cmp}}
+use Rattle.domain_octets.{specs.Words.Octets, proofs.StdLemmas.or_none}
+use Rattle.domain_names.specs.{Name.{same_name, wire_of}, Order.before, Words.Name}
 use Rattle.domain_zone.specs.Zone.{ZoneRecord}
-use Rattle.domain_zone.proofs.NameLemmas.{before_left, before_order, before_right, one_lowered, same_itself}
-use Rattle.domain_zone.proofs.OwnerLemmas.{any_in, in_any}
-use Rattle.domain_zone.proofs.PairLemmas.{In, IsAscending, all_in, irreflexive}
-use Rattle.domain_zone.proofs.ZoneLemmas.{after_or, all_both, all_front, weaker}
-use Rattle.domain_nsec3.specs.Ancestors.{IsListOf}
-use Rattle.domain_nsec3.specs.Config.{ChainConfig, Hash, HashAnswer, hash_name, hash_of}
-use Rattle.domain_nsec3.specs.Faults.{HasCollision}
-use Rattle.domain_nsec3.specs.Owners.{is_chain_name}
+use Rattle.domain_zone.proofs.{NameLemmas.{before_left, before_order, before_right, one_lowered, same_itself}, OwnerLemmas.{any_in, in_any}}
+use Rattle.domain_zone.proofs.{PairLemmas.{In, IsAscending, all_in, irreflexive}, ZoneLemmas.{after_or, all_both, all_front, weaker}}
+use Rattle.domain_nsec3.specs.{Ancestors.IsListOf, Config.{ChainConfig, Hash, HashAnswer, hash_name, hash_of}, Faults.HasCollision, Owners.is_chain_name}
 use Rattle.domain_nsec3.proofs.ListLemmas.{sorted, ascending, ascending_both}
 use Rattle.domain_hasher.specs.declared.error.Nsec3HashError.TheVariants as hash_error
 use Rattle.domain_hasher.specs.declared.error.Nsec3HashError.{Nsec3HashError}
 use Rattle.domain_zone.proofs.FindLemmas.{in_middle, in_either, in_front}
-use Rattle.domain_alike.specs.Alike.{pair_of, AreAlike, IsAlike, IsFirstAlike, IsFirstPair, IsFirstRefusal, Pair}
-use Rattle.domain_alike.specs.declared.alike.Alike.{Alike}
-use Rattle.domain_alike.specs.AlikeSteps.{first_with, is_hash, pair_with, IsRefusedAmong, Met}
-use Rattle.domain_alike.specs.AlikeSteps.Met.{more, nothing}
+use Rattle.domain_alike.specs.{Alike.{pair_of, AreAlike, IsAlike, IsFirstAlike, IsFirstPair, IsFirstRefusal, Pair}, declared.alike.Alike.Alike}
+use Rattle.domain_alike.specs.AlikeSteps.{first_with, is_hash, pair_with, IsRefusedAmong, Met, Met.{more, nothing}}
 use Rattle.std.proofs.lemmas.Grind.{common_steps}
 
 -- ---- hashes

@@ -1,36 +1,19 @@
 -- The owners of a list in order and the names above them, gathered one owner after another.
-use Rattle.std.proofs.Common.{◌≡◌, ◌⊎◌, ℕ, ◌+◌, ◌<◌, ◌≤◌, Bool, true, false, cond, not, ◌&&◌, ◌||◌, List, [], ◌∷◌, ◌++◌, length, sym, ap, ◌∙◌, arith, inl}
-use Rattle.std.proofs.Common.{inr, append-nil}
-use Rattle.std.specs.Prelude.{All, filter, nat_le, nat_lt}
-use Rattle.std.specs.List.{AllByRecursion, list_any}
-use Rattle.std.specs.List.Sorted.{IsStrictlySortedBy}
-use Rattle.std.proofs.lemmas.Bool.{cases_Bool, false≢true, leb-true, and_parts, and_from, or_cases, or_left, or_right}
-use Rattle.std.proofs.lemmas.Bool.Decides.{nat_tests}
-use Rattle.std.proofs.lemmas.List.Elements.{recursion_from_All}
-use Rattle.std.proofs.lemmas.List.Folds.{list_any-append}
-use Rattle.domain_names.specs.Name.{is_at_or_below, is_strictly_below, lowered, same_name}
-use Rattle.domain_names.specs.Order.{before, canonical_cmp}
-use Rattle.domain_names.specs.Words.{Name}
-use Rattle.domain_zone.specs.Enclosers.{exists_over}
-use Rattle.domain_zone.specs.Zone.{ZoneRecord, OwnersNeverDescend}
+use Rattle.std.proofs.Common.{◌≡◌, ◌⊎◌, ℕ, ◌+◌, ◌<◌, ◌≤◌, Bool, true, false, cond, not, ◌&&◌, ◌||◌, List, [], ◌∷◌, ◌++◌, length, sym, ap, ◌∙◌, arith, inl, inr}
+use Rattle.std.proofs.{Common.append-nil, lemmas.Bool.{cases_Bool, false≢true, leb-true, and_parts, and_from, or_cases, or_left, or_right, Decides.nat_tests}}
+use Rattle.std.proofs.lemmas.{List.{Elements.recursion_from_All, Folds.list_any-append}, Grind.common_steps}
+use Rattle.std.specs.{Prelude.{All, filter, nat_le, nat_lt}, List.{AllByRecursion, list_any, Sorted.IsStrictlySortedBy}}
+use Rattle.domain_names.specs.{Name.{is_at_or_below, is_strictly_below, lowered, same_name}, Order.{before, canonical_cmp}, Words.Name}
+use Rattle.domain_zone.specs.{Enclosers.exists_over, Zone.{ZoneRecord, OwnersNeverDescend}}
 use Rattle.domain_zone.proofs.NameLemmas.{before_order, one_lowered, same_itself, below_itself, below_trans, below_from, below_between, below_longer}
-use Rattle.domain_zone.proofs.NameLemmas.{below_length, below_parent, lowered_below}
-use Rattle.domain_zone.proofs.OwnerLemmas.{any_in, in_any, owners_are, owners_ascend}
-use Rattle.domain_zone.proofs.PairLemmas.{In, IsAscending, all_in, le_lt}
-use Rattle.domain_zone.proofs.SharedLemmas.{either_way}
-use Rattle.domain_zone.proofs.ZoneLemmas.{all_both, all_filter, after_or, weaker}
+use Rattle.domain_zone.proofs.{NameLemmas.{below_length, below_parent, lowered_below}, OwnerLemmas.{any_in, in_any, owners_are, owners_ascend}}
+use Rattle.domain_zone.proofs.{PairLemmas.{In, IsAscending, all_in, le_lt}, SharedLemmas.either_way, ZoneLemmas.{all_both, all_filter, after_or, weaker}}
 use Rattle.domain_zone.proofs.FindLemmas.{in_either, in_middle}
-use Rattle.domain_nsec3.specs.Ancestors.{above_with_more, IsListOf}
-use Rattle.domain_nsec3.specs.Config.{ChainConfig, excludes}
+use Rattle.domain_nsec3.specs.{Ancestors.{above_with_more, IsListOf}, Config.{ChainConfig, excludes}}
 use Rattle.domain_nsec3.specs.Owners.{is_chain_name, is_empty, is_original_owner, original_owners}
-use Rattle.domain_nsec3.proofs.AncestorLemmas.{are_above, less, not_less, IsAbove}
-use Rattle.domain_nsec3.proofs.ListLemmas.{sorted, ascending, ascending_both}
-use Rattle.domain_nsec3.proofs.OwnerLemmas.{existing_are}
-use Rattle.domain_nsec3.proofs.OutcomeLemmas.{original_below}
-use Rattle.domain_nsec3.proofs.SharedLemmas.{Shares, at_length, cons_below}
-use Rattle.domain_alike.specs.AlikeSteps.{up_with_more}
-use Rattle.domain_alike.specs.Covered.{covered_names}
-use Rattle.std.proofs.lemmas.Grind.{common_steps}
+use Rattle.domain_nsec3.proofs.{AncestorLemmas.{are_above, less, not_less, IsAbove}, ListLemmas.{sorted, ascending, ascending_both}, OwnerLemmas.existing_are}
+use Rattle.domain_nsec3.proofs.{OutcomeLemmas.original_below, SharedLemmas.{Shares, at_length, cons_below}}
+use Rattle.domain_alike.specs.{AlikeSteps.up_with_more, Covered.covered_names}
 
 -- ---- lists
 

@@ -1,14 +1,11 @@
 -- The owners of a chain, as a walk over the owners that are not occluded keeps them.
 use Rattle.std.proofs.Common.{◌≡◌, Bool, true, false, cond, not, ◌&&◌, List, [], ◌∷◌, ◌++◌, map, refl, sym, ap, ◌∙◌, append_assoc, arith}
-use Rattle.std.specs.Prelude.{filter}
+use Rattle.std.{proofs.lemmas.Grind.common_steps, specs.Prelude.filter}
 use Rattle.domain_base.specs.Types.{ds}
 use Rattle.domain_names.specs.Words.{Name}
 use Rattle.domain_nsec3.specs.Owners.{is_unsigned_cut}
-use Rattle.domain_zone.specs.Owners.{OwnerRecords, owner_at, owners_with_records}
-use Rattle.domain_zone.specs.Zone.{ZoneRecord, has_type}
-use Rattle.domain_zone.proofs.GivenLemmas.{name_of}
+use Rattle.domain_zone.{specs.{Owners.{OwnerRecords, owner_at, owners_with_records}, Zone.{ZoneRecord, has_type}}, proofs.GivenLemmas.name_of}
 use Rattle.domain_alike.specs.Covered.{covered_names}
-use Rattle.std.proofs.lemmas.Grind.{common_steps}
 
 -- an unsigned delegation
 abbrev pub is_unsigned : OwnerRecords → Bool

@@ -1,14 +1,8 @@
 -- Names of an NSEC3 chain that hash alike (RFC 5155, section 7.1).
-use Rattle.std.specs.Prelude.{◌≡◌, ℕ, true, false, All, List, Ok, Err, Option, Some, None, map}
-use Rattle.std.specs.List.{list_any}
-use Rattle.std.specs.List.Sorted.{IsStrictlySortedBy}
+use Rattle.std.specs.{Prelude.{◌≡◌, ℕ, true, false, All, List, Ok, Err, Option, Some, None, map}, List.{list_any, Sorted.IsStrictlySortedBy}}
 use Rattle.domain_octets.specs.Words.{Octets}
-use Rattle.domain_names.specs.Name.{same_name}
-use Rattle.domain_names.specs.Order.{before, canonical_cmp}
-use Rattle.domain_names.specs.Words.{Name}
-use Rattle.domain_nsec3.specs.Config.{ChainConfig, hash_of}
-use Rattle.domain_nsec3.specs.Faults.{HasCollision}
-use Rattle.domain_nsec3.specs.Owners.{is_chain_name}
+use Rattle.domain_names.specs.{Name.same_name, Order.{before, canonical_cmp}, Words.Name}
+use Rattle.domain_nsec3.specs.{Config.{ChainConfig, hash_of}, Faults.HasCollision, Owners.is_chain_name}
 use Rattle.domain_zone.specs.Zone.{ZoneRecord}
 use Rattle.domain_alike.specs.declared.alike.Alike.{Alike}
 

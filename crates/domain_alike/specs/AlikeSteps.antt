@@ -1,15 +1,11 @@
 -- The steps by which names that hash alike are found.
 use Rattle.std.specs.Prelude.{◌≡◌, ℕ, Bool, false, List, [], ◌∷◌, ◌++◌, length, nat_lt, Option, Some, None, Ok, Err, if◌then◌else◌}
 use Rattle.std.specs.BTreeMap as tree
-use Rattle.std.specs.Cmp.Lexicographic.{slice_cmp}
-use Rattle.std.specs.List.{find, AllByRecursion}
-use Rattle.std.specs.Ordering.{is_eq, nat_cmp}
+use Rattle.std.specs.{Cmp.Lexicographic.slice_cmp, List.{find, AllByRecursion}, Ordering.{is_eq, nat_cmp}}
 use Rattle.domain_octets.specs.Words.{Octets}
 use Rattle.domain_names.specs.Words.{Name}
-use Rattle.domain_nsec3.specs.Ancestors.{above_with_more}
-use Rattle.domain_nsec3.specs.Config.{Hash, HashAnswer, hash_name}
-use Rattle.domain_alike.specs.Alike.{Pair}
-use Rattle.domain_alike.specs.declared.alike.FirstNames.{FirstNames}
+use Rattle.domain_nsec3.specs.{Ancestors.above_with_more, Config.{Hash, HashAnswer, hash_name}}
+use Rattle.domain_alike.specs.{Alike.Pair, declared.alike.FirstNames.FirstNames}
 
 -- a name and those above it that have more than so many labels, the shortest first
 abbrev pub up_with_more : ℕ → Name → List Name

@@ -1,16 +1,13 @@
 //! The names of the NSEC3 chain of a zone.
 ghost use Rattle.std.specs.Prelude.{◌≡◌, ◌++◌, true, length, All, IfOk, OnOk};
 ghost use Rattle.std.specs.List.Sorted.{IsStrictlySortedBy};
-ghost use Rattle.domain_names.specs.Name.{is_at_or_below};
-ghost use Rattle.domain_names.specs.Order.{canonical_cmp};
-ghost use Rattle.domain_nsec3.specs.Ancestors.{IsListOf};
-ghost use Rattle.domain_nsec3.specs.Config.{excludes, ChainConfig};
+ghost use Rattle.domain_names.specs.{Name.is_at_or_below, Order.canonical_cmp};
+ghost use Rattle.domain_nsec3.specs.{Ancestors.IsListOf, Config.{excludes, ChainConfig}};
 ghost use Rattle.domain_nsec3.specs.Owners.{is_chain_name};
 ghost use Rattle.domain_records.specs.Order.{IsInOrder};
 ghost use Rattle.domain_zone.specs.Enclosers.{exists_over};
 ghost use Rattle.domain_borrowed.specs.Data.{zone_of_raw};
-ghost use Rattle.domain_alike.specs.AlikeSteps.{up_with_more};
-ghost use Rattle.domain_alike.specs.Covered.{covered_names};
+ghost use Rattle.domain_alike.specs.{AlikeSteps.up_with_more, Covered.covered_names};
 
 use domain_base::{ParsedName, ToName};
 use domain_borrowed::BorrowedRecord;

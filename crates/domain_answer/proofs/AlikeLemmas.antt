@@ -1,24 +1,17 @@
 -- What NSEC records answer does not depend on TTLs, classes and the case of letters.
-use Rattle.std.proofs.Common.{◌≡◌, ℕ, Bool, cond, not, ◌&&◌, ◌||◌, List, length, refl, Option, Some, None, arith}
+use Rattle.std.proofs.{Common.{◌≡◌, ℕ, Bool, cond, not, ◌&&◌, ◌||◌, List, length, refl, Option, Some, None, arith}, lemmas.Grind.common_steps}
 use Rattle.std.specs.List.{find}
-use Rattle.domain_names.specs.Name.{is_strictly_below, lowered}
+use Rattle.domain_names.specs.{Name.{is_strictly_below, lowered}, Words.Name}
 use Rattle.domain_base.specs.Types.{dname, ns}
-use Rattle.domain_names.specs.Words.{Name}
 use Rattle.domain_bitmap.specs.Blocks.{contains_type}
-use Rattle.domain_zone.specs.Enclosers.{longer, shared}
-use Rattle.domain_zone.specs.Zone.{ZoneRecord}
-use Rattle.domain_zone.proofs.NameLemmas.{lowered_below, one_lowered, same_lowered}
+use Rattle.domain_zone.{specs.{Enclosers.{longer, shared}, Zone.ZoneRecord}, proofs.NameLemmas.{lowered_below, one_lowered, same_lowered}}
 use Rattle.domain_nsec.specs.Chain.{Link}
-use Rattle.domain_checker.specs.Alike.{ArePaired, IsAlike}
-use Rattle.domain_checker.specs.Reading.{is_at_cut, is_cover, is_match}
-use Rattle.domain_checker.proofs.AlikeLemmas.{is_cover_alike, is_match_alike, says_alike, shared_alike}
-use Rattle.domain_checker.proofs.PairedLemmas.{OptionsPaired, any_alike, find_alike}
+use Rattle.domain_checker.specs.{Alike.{ArePaired, IsAlike}, Reading.{is_at_cut, is_cover, is_match}}
+use Rattle.domain_checker.proofs.{AlikeLemmas.{is_cover_alike, is_match_alike, says_alike, shared_alike}, PairedLemmas.{OptionsPaired, any_alike, find_alike}}
 use Rattle.domain_checker.proofs.EncloserLemmas.{same_count}
-use Rattle.domain_answer.specs.declared.answer.Answer.TheVariants.{Referral, Redirected, WildcardNoData, NameError, NoCloserName}
-use Rattle.domain_answer.specs.Proved.{proved_answer}
-use Rattle.domain_answer.specs.Reading.{absent_answer, cover_answer, listed_both, match_answer, owner_answer, reading, tells_occluded}
-use Rattle.domain_answer.specs.Reading.{wildcard_both, wildcard_cover_answer, wildcard_match_answer}
-use Rattle.std.proofs.lemmas.Grind.{common_steps}
+use Rattle.domain_answer.specs.{declared.answer.Answer.TheVariants.{Referral, Redirected, WildcardNoData, NameError, NoCloserName}, Proved.proved_answer}
+use Rattle.domain_answer.specs.Reading.{absent_answer, cover_answer, listed_both, match_answer, owner_answer, reading, tells_occluded, wildcard_both}
+use Rattle.domain_answer.specs.Reading.{wildcard_cover_answer, wildcard_match_answer}
 
 -- ---- one record
 

@@ -1,24 +1,16 @@
 -- What the records of a chain answer by themselves is what they prove of the zone.
 use Rattle.std.proofs.Common.{◌≡◌, ℕ, ◌<◌, Bool, true, false, cond, not, ◌&&◌, ◌||◌, List, length, refl, sym, ap, ◌∙◌, inl, inr, Option, Some, None, slice_get}
-use Rattle.std.proofs.Common.{arith}
-use Rattle.std.specs.Prelude.{◌==◌}
-use Rattle.std.specs.List.{find, list_any}
-use Rattle.std.proofs.lemmas.Bool.{cases_Bool, false≢true, and_parts, and_from, not-true}
+use Rattle.std.proofs.{Common.arith, lemmas.{Bool.{cases_Bool, false≢true, and_parts, and_from, not-true}, Grind.common_steps}}
+use Rattle.std.specs.{Prelude.◌==◌, List.{find, list_any}}
 use Rattle.domain_octets.proofs.StdLemmas.{and_false}
-use Rattle.domain_names.specs.Name.{is_at_or_below, is_strictly_below, same_name}
-use Rattle.domain_names.specs.Order.{before}
+use Rattle.domain_names.specs.{Name.{is_at_or_below, is_strictly_below, same_name}, Order.before, Words.Name}
 use Rattle.domain_base.specs.Types.{cname, ds}
-use Rattle.domain_names.specs.Words.{Name}
-use Rattle.domain_zone.specs.Covering.{matches, covers}
-use Rattle.domain_zone.specs.Enclosers.{IsClosestEncloser, longer, shared}
+use Rattle.domain_zone.specs.{Covering.{matches, covers}, Enclosers.{IsClosestEncloser, longer, shared}}
 use Rattle.domain_zone.specs.Zone.{ZoneRecord, is_occluded, is_unoccluded, is_zone_cut, owns, unoccluded_owners}
-use Rattle.domain_zone.proofs.NameLemmas.{below_parent, below_trans, one_lowered, same_itself}
-use Rattle.domain_zone.proofs.PairLemmas.{In}
-use Rattle.domain_zone.proofs.OwnerLemmas.{below_occluder}
+use Rattle.domain_zone.proofs.{NameLemmas.{below_parent, below_trans, one_lowered, same_itself}, PairLemmas.In, OwnerLemmas.below_occluder}
 use Rattle.domain_zone.proofs.FindLemmas.{Stands, stands_all}
 use Rattle.domain_nsec.specs.Chain.{Link}
-use Rattle.domain_checker.specs.Reading.{is_cover, is_match}
-use Rattle.domain_checker.specs.Verdict.{has_match_or_cover}
+use Rattle.domain_checker.specs.{Reading.{is_cover, is_match}, Verdict.has_match_or_cover}
 use Rattle.domain_checker.proofs.EncloserLemmas.{closest_is, cut_same, exists_same, top_occluder, same_count, strictly_trans}
 use Rattle.domain_checker.proofs.MeantLemmas.{BitmapsAreSets, ChainLaws, IgnoresCase, IsMeant, apex_exists, cover_of, match_of, silent, covered_encloser}
 use Rattle.domain_checker.proofs.MeantLemmas.{covered_under, covered_unowned, matched_high, matched_same}
@@ -31,10 +23,7 @@ use Rattle.domain_answer.specs.Reading.{wildcard_answer, wildcard_both, wildcard
 use Rattle.domain_answer.specs.ZoneAnswer.{asterisk, encloser, existing_answer, highest_occluder, inside_answer, is_at_parent, missing_answer, name_exists}
 use Rattle.domain_answer.specs.ZoneAnswer.{owns_type, wildcard_below, zone_answer}
 use Rattle.domain_answer.proofs.ChainLemmas.{child_at, covered_cut, covered_exists, covered_told, matched_cut, matched_exists, matched_type, meant_leaving}
-use Rattle.domain_answer.proofs.ChainLemmas.{no_cut, no_type}
-use Rattle.domain_answer.proofs.CountLemmas.{closest_last, parent_below}
-use Rattle.domain_answer.proofs.OccluderLemmas.{highest_is, none_above}
-use Rattle.std.proofs.lemmas.Grind.{common_steps}
+use Rattle.domain_answer.proofs.{ChainLemmas.{no_cut, no_type}, CountLemmas.{closest_last, parent_below}, OccluderLemmas.{highest_is, none_above}}
 
 turned : (b : Bool) (u v : Answer) → cond b u v ≡ cond (not b) v u
 turned b u v = grind (arith, common_steps)

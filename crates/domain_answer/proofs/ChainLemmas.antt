@@ -1,30 +1,19 @@
 -- What a record of a chain that leaves out the names below a DNAME tells of the zone.
 use Rattle.std.proofs.lemmas.Grind.{common_steps}
 use Rattle.std.proofs.Common.{◌≡◌, ℕ, ◌<◌, Bool, true, false, cond, not, ◌&&◌, ◌||◌, List, [], ◌∷◌, refl, sym, ap, ◌∙◌, Some, slice_get, arith}
-use Rattle.std.specs.Prelude.{filter}
-use Rattle.std.specs.List.{list_any}
-use Rattle.std.proofs.lemmas.Bool.{or_parts, and_from}
+use Rattle.std.{proofs.lemmas.Bool.{or_parts, and_from}, specs.{Prelude.filter, List.list_any}}
 use Rattle.domain_octets.proofs.StdLemmas.{and_false}
 use Rattle.domain_bitmap.specs.Blocks.{contains_type}
-use Rattle.domain_names.specs.Name.{is_at_or_below, is_strictly_below, lowered, same_name}
-use Rattle.domain_names.specs.Order.{before}
+use Rattle.domain_names.specs.{Name.{is_at_or_below, is_strictly_below, lowered, same_name}, Order.before, Words.Name}
 use Rattle.domain_base.specs.Types.{dname, ns, soa}
-use Rattle.domain_names.specs.Words.{Name}
 use Rattle.domain_zone.specs.Covering.{matches, covers, pairs}
 use Rattle.domain_zone.specs.Zone.{ZoneRecord, OwnersNeverDescend, has_type, is_occluded, is_zone_cut, occludes, owns, records_of, unoccluded_owners}
-use Rattle.domain_zone.proofs.NameLemmas.{one_lowered, below_itself, lowered_below}
-use Rattle.domain_zone.proofs.PairLemmas.{In}
-use Rattle.domain_zone.proofs.OwnerLemmas.{in_any}
-use Rattle.domain_zone.proofs.FindLemmas.{in_at}
-use Rattle.domain_nsec.specs.Chain.{Link, IsChain, is_listed, nsec_lists}
-use Rattle.domain_nsec.specs.declared.config.GenerateNsecConfig.{GenerateNsecConfig}
-use Rattle.domain_checker.specs.Reading.{is_at_cut}
-use Rattle.domain_checker.proofs.EncloserLemmas.{cut_same, owner_owns}
+use Rattle.domain_zone.proofs.{NameLemmas.{one_lowered, below_itself, lowered_below}, PairLemmas.In, OwnerLemmas.in_any, FindLemmas.in_at}
+use Rattle.domain_nsec.specs.{Chain.{Link, IsChain, is_listed, nsec_lists}, declared.config.GenerateNsecConfig.GenerateNsecConfig}
+use Rattle.domain_checker.{specs.Reading.is_at_cut, proofs.EncloserLemmas.{cut_same, owner_owns}}
 use Rattle.domain_checker.proofs.MeantLemmas.{BitmapsAreSets, ChainLaws, IgnoresCase, IsMeant, cut_at, ends, meant_by, owner_low, type_at, covered_no_owner}
 use Rattle.domain_checker.proofs.MeantLemmas.{covered_occluded, matched_low, matched_same}
-use Rattle.domain_answer.specs.TypesAnswer.{is_of_child}
-use Rattle.domain_answer.specs.Proved.{LeavesOutBelowDname}
-use Rattle.domain_answer.specs.Reading.{tells_occluded, tells_occluder}
+use Rattle.domain_answer.specs.{TypesAnswer.is_of_child, Proved.LeavesOutBelowDname, Reading.{tells_occluded, tells_occluder}}
 use Rattle.domain_answer.specs.ZoneAnswer.{name_exists, owns_type}
 
 -- a chain that leaves out what stands below a DNAME

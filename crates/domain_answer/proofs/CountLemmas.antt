@@ -1,17 +1,11 @@
 -- How many labels names have: the last ones, and those that names share.
-use Rattle.std.proofs.Common.{◌≡◌, ℕ, ◌≤◌, ◌<◌, ◌-◌, suc, Bool, true, false, cond, not, ◌&&◌, ◌||◌, List, [], ◌∷◌, drop, length, refl, sym, ap, ◌∙◌, inl}
-use Rattle.std.proofs.Common.{inr, arith}
-use Rattle.std.proofs.lemmas.Bool.{cases_Bool, false≢true, and_parts}
-use Rattle.domain_names.specs.Name.{is_at_or_below, is_strictly_below, lowered, same_name, last_labels}
-use Rattle.domain_names.specs.Order.{before}
-use Rattle.domain_names.specs.Words.{Label, Name}
-use Rattle.domain_zone.specs.Covering.{covers, matches}
-use Rattle.domain_zone.specs.Enclosers.{longer, shared}
+use Rattle.std.proofs.Common.{◌≡◌, ℕ, ◌≤◌, ◌<◌, ◌-◌, suc, Bool, true, false, cond, not, ◌&&◌, ◌||◌, List, [], ◌∷◌, drop, length, refl, sym, ap, ◌∙◌, inl, inr}
+use Rattle.std.proofs.{Common.arith, lemmas.{Bool.{cases_Bool, false≢true, and_parts}, Grind.common_steps}}
+use Rattle.domain_names.specs.{Name.{is_at_or_below, is_strictly_below, lowered, same_name, last_labels}, Order.before, Words.{Label, Name}}
+use Rattle.domain_zone.specs.{Covering.{covers, matches}, Enclosers.{longer, shared}}
 use Rattle.domain_zone.proofs.NameLemmas.{before_right, before_order, below_between, below_from, below_itself, below_longer, below_parent, below_root}
 use Rattle.domain_zone.proofs.NameLemmas.{strictly_longer, strictly_from, lowered_below, one_lowered, same_lowered}
-use Rattle.domain_checker.specs.Verdict.{closest_encloser}
-use Rattle.domain_checker.proofs.SharedLemmas.{shared_within}
-use Rattle.std.proofs.lemmas.Grind.{common_steps}
+use Rattle.domain_checker.{specs.Verdict.closest_encloser, proofs.SharedLemmas.shared_within}
 
 -- ---- names that are the same, and names below each other
 

@@ -1,39 +1,21 @@
 -- What NSEC3 records answer of a name whose records were expanded from a wildcard is what they prove of the zone.
-use Rattle.std.proofs.Common.{◌≡◌, ℕ, ◌+◌, ◌≤◌, ◌<◌, Bool, true, false, cond, not, List, All, length, refl, sym, ap, ◌∙◌, subst, inl, inr, Option, Some}
-use Rattle.std.proofs.Common.{None, arith}
-use Rattle.std.specs.Prelude.{Ok}
-use Rattle.std.specs.List.{find, list_any, Contains}
-use Rattle.std.proofs.lemmas.Bool.{and_parts, and_from, cases_lt, false≢true}
-use Rattle.std.proofs.lemmas.List.Elements.{recursion_from_All}
+use Rattle.std.proofs.Common.{◌≡◌, ℕ, ◌+◌, ◌≤◌, ◌<◌, Bool, true, false, cond, not, List, All, length, refl, sym, ap, ◌∙◌, subst, inl, inr, Option, Some, None}
+use Rattle.std.proofs.{Common.arith, lemmas.{Bool.{and_parts, and_from, cases_lt, false≢true}, List.Elements.recursion_from_All, Grind.common_steps}}
+use Rattle.std.specs.{Prelude.Ok, List.{find, list_any, Contains}}
 use Rattle.domain_octets.specs.Words.{Octets}
-use Rattle.domain_names.specs.Name.{is_at_or_below, last_labels}
-use Rattle.domain_names.specs.Words.{Name}
+use Rattle.domain_names.specs.{Name.{is_at_or_below, last_labels}, Words.Name}
 use Rattle.domain_chain_rdata.specs.OptOut.{is_opt_out}
-use Rattle.domain_zone.specs.Enclosers.{IsClosestEncloser, exists_over}
-use Rattle.domain_zone.specs.Zone.{ZoneRecord}
-use Rattle.domain_zone.proofs.NameLemmas.{below_itself, below_longer, below_parent, below_trans}
-use Rattle.domain_zone.proofs.PairLemmas.{In, all_in}
-use Rattle.domain_zone.proofs.OwnerLemmas.{any_in, in_any}
+use Rattle.domain_zone.specs.{Enclosers.{IsClosestEncloser, exists_over}, Zone.ZoneRecord}
+use Rattle.domain_zone.proofs.{NameLemmas.{below_itself, below_longer, below_parent, below_trans}, PairLemmas.{In, all_in}, OwnerLemmas.{any_in, in_any}}
 use Rattle.domain_zone.proofs.FindLemmas.{any_none, find_none, find_some}
-use Rattle.domain_nsec3.specs.Chain.{HashedLink, IsHashedChain}
-use Rattle.domain_nsec3.specs.Config.{ChainConfig}
-use Rattle.domain_nsec3.specs.Meaning.{IsAlone}
-use Rattle.domain_nsec3.specs.Owners.{original_owners}
-use Rattle.domain_checker.specs.HashedEncloser.{IsDenial, IsOfName}
-use Rattle.domain_checker.specs.HashedList.{is_hash_cover, is_hash_match}
-use Rattle.domain_checker.specs.HashedView.{HashedRecords, chain_records, first_cover, first_match}
-use Rattle.domain_checker.specs.HashedVerdict.{is_covered, is_ok_with}
-use Rattle.domain_checker.proofs.HashedVerdictLemmas.{as_chain}
-use Rattle.domain_checker.proofs.EncloserLemmas.{closest_is}
-use Rattle.domain_answer.specs.declared.answer.Answer.{Answer}
-use Rattle.domain_answer.specs.declared.answer.Answer.TheVariants.{MayBeUnsigned, NoCloserName, NotProven}
+use Rattle.domain_nsec3.specs.{Chain.{HashedLink, IsHashedChain}, Config.ChainConfig, Meaning.IsAlone, Owners.original_owners}
+use Rattle.domain_checker.specs.{HashedEncloser.{IsDenial, IsOfName}, HashedList.{is_hash_cover, is_hash_match}}
+use Rattle.domain_checker.specs.{HashedView.{HashedRecords, chain_records, first_cover, first_match}, HashedVerdict.{is_covered, is_ok_with}}
+use Rattle.domain_checker.proofs.{HashedVerdictLemmas.as_chain, EncloserLemmas.closest_is}
+use Rattle.domain_answer.specs.declared.answer.Answer.{Answer, TheVariants.{MayBeUnsigned, NoCloserName, NotProven}}
 use Rattle.domain_answer.specs.Expansion.{ExpansionRestsOn, IsExpansionAnswered, IsExpansionRead, closer_name, closer_told, is_expanded, proved_expansion}
-use Rattle.domain_answer.specs.HashedReading.{next_answer}
-use Rattle.domain_answer.specs.HashedZoneAnswer.{hashed_encloser, hashed_exists}
-use Rattle.domain_answer.specs.Proved.{CountsWithin}
-use Rattle.domain_answer.specs.ZoneAnswer.{asterisk, wildcard_below}
-use Rattle.domain_answer.proofs.CountLemmas.{closest_last, last_above, last_count}
-use Rattle.std.proofs.lemmas.Grind.{common_steps}
+use Rattle.domain_answer.specs.{HashedReading.next_answer, HashedZoneAnswer.{hashed_encloser, hashed_exists}, Proved.CountsWithin}
+use Rattle.domain_answer.{specs.ZoneAnswer.{asterisk, wildcard_below}, proofs.CountLemmas.{closest_last, last_above, last_count}}
 
 chosen : (P : Answer → Type 0) (b : Bool) (v w : Answer) → P v → P w → P (cond b v w)
 chosen P b v w h k = grind (arith, common_steps)

@@ -1,26 +1,13 @@
 -- Tests of one NSEC record, and what was found of a name.
 use Rattle.std.proofs.Common.{◌≡◌, ℕ, ◌≤◌, Bool, true, false, cond, not, ◌&&◌, ◌||◌, List, length, Option, Some, None, sym, ap, refl, ◌∙◌, arith, leb, max}
-use Rattle.std.specs.List.{find}
-use Rattle.std.specs.Option.{is_some, option_map, option_or}
-use Rattle.std.specs.Ordering.{is_eq, is_gt, is_lt, ordering_reverse}
-use Rattle.std.specs.declared.cmp.Ordering.{Ordering}
-use Rattle.std.specs.declared.cmp.Ordering.TheVariants.{Less, Equal, Greater}
-use Rattle.std.proofs.lemmas.Bool.{and_parts, le-leb, leb-true}
-use Rattle.domain_names.specs.Name.{is_at_or_below, same_name}
-use Rattle.domain_names.specs.Order.{before, canonical_cmp, canonical_cmp_total, common_labels}
-use Rattle.domain_names.specs.Words.{Name}
-use Rattle.domain_zone.specs.Covering.{covers, matches}
-use Rattle.domain_zone.specs.Enclosers.{longer, shared}
-use Rattle.domain_zone.proofs.NameLemmas.{below_longer, below_trans, same_is}
-use Rattle.domain_zone.proofs.SharedLemmas.{either_way, shared_is}
-use Rattle.domain_zone.proofs.FindLemmas.{find_some}
-use Rattle.domain_checker.proofs.SharedLemmas.{shared_length}
+use Rattle.std.{proofs.lemmas.{Bool.{and_parts, le-leb, leb-true}, Grind.common_steps}, specs.{List.find, Option.{is_some, option_map, option_or}}}
+use Rattle.std.specs.{Ordering.{is_eq, is_gt, is_lt, ordering_reverse}, declared.cmp.Ordering.{Ordering, TheVariants.{Less, Equal, Greater}}}
+use Rattle.domain_names.specs.{Name.{is_at_or_below, same_name}, Order.{before, canonical_cmp, canonical_cmp_total, common_labels}, Words.Name}
+use Rattle.domain_zone.specs.{Covering.{covers, matches}, Enclosers.{longer, shared}}
+use Rattle.domain_zone.proofs.{NameLemmas.{below_longer, below_trans, same_is}, SharedLemmas.{either_way, shared_is}, FindLemmas.find_some}
+use Rattle.domain_checker.{proofs.{SharedLemmas.shared_length, FirstLemmas.match_is_tie}, specs.{Reading.{is_cover, is_match}, Verdict.is_inside}}
 use Rattle.domain_nsec.specs.Chain.{Link}
-use Rattle.domain_checker.specs.Reading.{is_cover, is_match}
-use Rattle.domain_checker.specs.Verdict.{is_inside}
-use Rattle.domain_checker.proofs.FirstLemmas.{match_is_tie}
 use Rattle.domain_answer.specs.Found.{IsFound}
-use Rattle.std.proofs.lemmas.Grind.{common_steps}
 
 pub match_is_same : (x y : Name) → matches before x y ≡ same_name x y
 match_is_same x y = sym (same_is x y)

@@ -1,29 +1,21 @@
 -- What NSEC3 records answer does not depend on TTLs, classes and the case of letters.
 use Rattle.std.proofs.Common.{◌≡◌, ℕ, cond, not, ◌&&◌, ◌||◌, List, length, refl, sym, ◌∙◌, subst, nat_eq, Option, Some, None, arith}
+use Rattle.std.proofs.lemmas.Grind.{common_steps}
 use Rattle.domain_octets.specs.Words.{Octets}
-use Rattle.domain_names.specs.Name.{same_name}
+use Rattle.domain_names.specs.{Name.same_name, Words.Name}
 use Rattle.domain_base.specs.Types.{dname, ns}
-use Rattle.domain_names.specs.Words.{Name}
 use Rattle.domain_bitmap.specs.Blocks.{contains_type}
 use Rattle.domain_chain_rdata.specs.OptOut.{is_opt_out}
 use Rattle.domain_zone.specs.Zone.{ZoneRecord, is_zone_cut}
-use Rattle.domain_nsec3.specs.Chain.{HashedLink}
-use Rattle.domain_nsec3.specs.Config.{ChainConfig}
-use Rattle.domain_nsec3.specs.Owners.{nsec3_lists}
-use Rattle.domain_checker.specs.Alike.{ArePaired, IsHashedAlike}
-use Rattle.domain_checker.specs.HashedEncloser.{Encloser, IsFoundEncloser, encloser_is_cut, next_cover}
-use Rattle.domain_checker.specs.HashedView.{HashedRecords, chain_records, with_links}
-use Rattle.domain_checker.specs.HashedVerdict.{next_closer}
-use Rattle.domain_checker.proofs.HashedAlikeLemmas.{covered_alike, matched_alike, matching, covering, found_alike, first_alike}
-use Rattle.domain_checker.proofs.PairedLemmas.{OptionsPaired}
-use Rattle.domain_answer.specs.declared.answer.Answer.{Answer}
-use Rattle.domain_answer.specs.declared.answer.Answer.TheVariants.{MayBeUnsigned, NoCloserName, NotProven}
+use Rattle.domain_nsec3.specs.{Chain.HashedLink, Config.ChainConfig, Owners.nsec3_lists}
+use Rattle.domain_checker.specs.{Alike.{ArePaired, IsHashedAlike}, HashedEncloser.{Encloser, IsFoundEncloser, encloser_is_cut, next_cover}}
+use Rattle.domain_checker.specs.{HashedView.{HashedRecords, chain_records, with_links}, HashedVerdict.next_closer}
+use Rattle.domain_checker.proofs.{HashedAlikeLemmas.{covered_alike, matched_alike, matching, covering, found_alike, first_alike}, PairedLemmas.OptionsPaired}
+use Rattle.domain_answer.specs.declared.answer.Answer.{Answer, TheVariants.{MayBeUnsigned, NoCloserName, NotProven}}
 use Rattle.domain_answer.specs.Expansion.{IsExpansionRead, closer_name, closer_told, proved_expansion}
 use Rattle.domain_answer.specs.HashedProved.{hashed_proved_answer, tells_encloser, tells_wildcard}
 use Rattle.domain_answer.specs.HashedReading.{IsHashedRead, IsReadOn, encloser_answer, found_answer, wildcard_told}
-use Rattle.domain_answer.specs.HashedZoneAnswer.{hashed_encloser, hashed_exists, hashed_zone_answer}
-use Rattle.domain_answer.specs.ZoneAnswer.{wildcard_below}
-use Rattle.std.proofs.lemmas.Grind.{common_steps}
+use Rattle.domain_answer.specs.{HashedZoneAnswer.{hashed_encloser, hashed_exists, hashed_zone_answer}, ZoneAnswer.wildcard_below}
 
 -- ---- what records say that were found
 

@@ -1,38 +1,24 @@
 -- What the records of an NSEC3 chain answer by themselves is what they prove of the zone.
 use Rattle.std.proofs.Common.{◌≡◌, ℕ, ◌+◌, ◌-◌, ◌≤◌, ◌<◌, Bool, true, false, cond, not, ◌&&◌, ◌||◌, List, All, length, drop, refl, sym, ap, ◌∙◌, subst, inl}
 use Rattle.std.proofs.Common.{inr, nat_eq, Option, Some, None, arith}
-use Rattle.std.specs.Prelude.{Ok}
-use Rattle.std.specs.List.{find, list_any, Contains}
 use Rattle.std.proofs.lemmas.Bool.{cases_Bool, cases_lt, false≢true, and_parts, and_from, and_left, and_right, or_left, or_right}
-use Rattle.std.proofs.lemmas.List.Elements.{recursion_from_All}
+use Rattle.std.{proofs.lemmas.{List.Elements.recursion_from_All, Grind.common_steps}, specs.{Prelude.Ok, List.{find, list_any, Contains}}}
 use Rattle.domain_octets.specs.Words.{Octets}
-use Rattle.domain_names.specs.Name.{is_at_or_below, is_strictly_below, lowered, same_name, last_labels}
+use Rattle.domain_names.specs.{Name.{is_at_or_below, is_strictly_below, lowered, same_name, last_labels}, Words.Name}
 use Rattle.domain_base.specs.Types.{cname, dname, ds, ns, soa}
-use Rattle.domain_names.specs.Words.{Name}
 use Rattle.domain_bitmap.specs.Blocks.{contains_type}
 use Rattle.domain_chain_rdata.specs.OptOut.{is_opt_out}
-use Rattle.domain_zone.specs.Enclosers.{exists_over, IsClosestEncloser}
-use Rattle.domain_zone.specs.Zone.{ZoneRecord, has_type, is_occluded, is_zone_cut, records_of}
+use Rattle.domain_zone.specs.{Enclosers.{exists_over, IsClosestEncloser}, Zone.{ZoneRecord, has_type, is_occluded, is_zone_cut, records_of}}
 use Rattle.domain_zone.proofs.NameLemmas.{one_lowered, same_lowered, below_itself, below_trans, below_longer, below_length, below_parent, strictly_longer}
-use Rattle.domain_zone.proofs.NameLemmas.{strictly_from, same_length}
-use Rattle.domain_zone.proofs.PairLemmas.{In, all_in}
-use Rattle.domain_zone.proofs.OwnerLemmas.{any_in, in_any, below_occluder}
+use Rattle.domain_zone.proofs.{NameLemmas.{strictly_from, same_length}, PairLemmas.{In, all_in}, OwnerLemmas.{any_in, in_any, below_occluder}}
 use Rattle.domain_zone.proofs.FindLemmas.{any_none, in_filter, find_some, find_none}
-use Rattle.domain_nsec3.specs.Chain.{HashedLink}
-use Rattle.domain_nsec3.specs.Config.{ChainConfig, hash_name}
-use Rattle.domain_nsec3.specs.Meaning.{IsAlone}
-use Rattle.domain_nsec3.specs.Owners.{is_original_owner, nsec3_lists, original_owners}
+use Rattle.domain_nsec3.specs.{Chain.HashedLink, Config.{ChainConfig, hash_name}, Meaning.IsAlone, Owners.{is_original_owner, nsec3_lists, original_owners}}
 use Rattle.domain_checker.specs.HashedEncloser.{Encloser, IsDenial, IsEncloser, IsFoundEncloser, IsOfName, encloser_is_cut, next_cover}
-use Rattle.domain_checker.specs.HashedList.{is_hash_cover, is_hash_match}
-use Rattle.domain_checker.specs.HashedReading.{IsNextHash}
-use Rattle.domain_checker.specs.HashedView.{HashedRecords, chain_records}
+use Rattle.domain_checker.specs.{HashedList.{is_hash_cover, is_hash_match}, HashedReading.IsNextHash, HashedView.{HashedRecords, chain_records}}
 use Rattle.domain_checker.specs.HashedVerdict.{is_below_chain_cut, is_covered, is_matched, is_ok_with, next_closer}
 use Rattle.domain_checker.proofs.CutLemmas.{below_cut, cut_above, cut_apart, not_below}
-use Rattle.domain_checker.proofs.EncloserLemmas.{apex_from, closest_is, cut_same, exists_same, owner_unoccluded, same_count}
-use Rattle.domain_checker.proofs.HashedVerdictLemmas.{as_chain}
-use Rattle.domain_checker.proofs.HashedEncloserLemmas.{cut_counted, itself_counted}
-use Rattle.domain_checker.proofs.HashedWalkLemmas.{closer_is}
-use Rattle.domain_checker.proofs.HashedListLemmas.{hash_same}
+use Rattle.domain_checker.proofs.{EncloserLemmas.{apex_from, closest_is, cut_same, exists_same, owner_unoccluded, same_count}, HashedVerdictLemmas.as_chain}
+use Rattle.domain_checker.proofs.{HashedEncloserLemmas.{cut_counted, itself_counted}, HashedWalkLemmas.closer_is, HashedListLemmas.hash_same}
 use Rattle.domain_answer.specs.declared.answer.Answer.{Answer}
 use Rattle.domain_answer.specs.declared.answer.Answer.TheVariants.{OutsideZone, AtParent, Referral, Redirected, Has, NoDs, Alias, NoData, Wildcard}
 use Rattle.domain_answer.specs.declared.answer.Answer.TheVariants.{WildcardAlias, WildcardNoData, NameError, MayBeUnsigned, NoCloserName, NotProven}
@@ -41,10 +27,8 @@ use Rattle.domain_answer.specs.HashedProved.{AreAskedAlone, IsHashedAnswered, ha
 use Rattle.domain_answer.specs.HashedReading.{IsHashedRead, IsReadOn, IsWildcardRead, encloser_answer, found_answer, lower_answer, next_answer, own_answer}
 use Rattle.domain_answer.specs.HashedReading.{wildcard_told}
 use Rattle.domain_answer.specs.HashedZoneAnswer.{hashed_encloser, hashed_existing_answer, hashed_exists, hashed_inside_answer, hashed_missing_answer}
-use Rattle.domain_answer.specs.HashedZoneAnswer.{hashed_wildcard_answer, hashed_zone_answer}
-use Rattle.domain_answer.specs.ZoneAnswer.{asterisk, is_at_parent, wildcard_below}
+use Rattle.domain_answer.specs.{HashedZoneAnswer.{hashed_wildcard_answer, hashed_zone_answer}, ZoneAnswer.{asterisk, is_at_parent, wildcard_below}}
 use Rattle.domain_answer.proofs.CountLemmas.{closest_last}
-use Rattle.std.proofs.lemmas.Grind.{common_steps}
 
 -- ---- where the wildcard is not asked for
 

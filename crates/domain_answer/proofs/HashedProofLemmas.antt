@@ -1,35 +1,24 @@
 -- The records that an answer of NSEC3 records rests on are there, and what it counts are labels of the name.
 use Rattle.std.proofs.Common.{◌≡◌, ℕ, ◌≤◌, ◌<◌, Bool, true, false, cond, ◌||◌, length, refl, sym, ap, ◌∙◌, subst, inl, inr, nat_eq, Option, Some, None, arith}
-use Rattle.std.specs.List.{list_any}
-use Rattle.std.proofs.lemmas.Bool.{cases_Bool, cases_lt, eq-eqb, false≢true}
+use Rattle.std.{proofs.lemmas.{Bool.{cases_Bool, cases_lt, eq-eqb, false≢true}, Grind.common_steps}, specs.List.list_any}
 use Rattle.domain_octets.specs.Words.{Octets}
-use Rattle.domain_names.specs.Name.{same_name, last_labels}
+use Rattle.domain_names.specs.{Name.{same_name, last_labels}, Words.Name}
 use Rattle.domain_base.specs.Types.{cname, dname, ns}
-use Rattle.domain_names.specs.Words.{Name}
 use Rattle.domain_bitmap.specs.Blocks.{contains_type}
 use Rattle.domain_chain_rdata.specs.OptOut.{is_opt_out}
-use Rattle.domain_zone.proofs.NameLemmas.{below_length, same_length}
-use Rattle.domain_zone.proofs.OwnerLemmas.{in_any}
-use Rattle.domain_zone.proofs.ZoneLemmas.{same_back}
-use Rattle.domain_zone.proofs.FindLemmas.{find_some}
+use Rattle.domain_zone.proofs.{NameLemmas.{below_length, same_length}, OwnerLemmas.in_any, ZoneLemmas.same_back, FindLemmas.find_some}
 use Rattle.domain_nsec3.specs.Chain.{HashedLink}
 use Rattle.domain_checker.specs.HashedView.{HashedRecords, first_cover, first_match}
-use Rattle.domain_checker.specs.HashedEncloser.{Encloser, IsEncloser, IsFoundEncloser, encloser_is_cut, next_cover}
-use Rattle.domain_checker.specs.HashedList.{is_hash_cover, is_hash_match}
-use Rattle.domain_checker.specs.HashedReading.{IsNextHash}
-use Rattle.domain_checker.specs.HashedVerdict.{is_covered, is_matched, is_ok_with, next_closer}
-use Rattle.domain_checker.proofs.HashedEncloserLemmas.{itself_counted}
-use Rattle.domain_checker.proofs.HashedWalkLemmas.{matched_same}
+use Rattle.domain_checker.specs.{HashedEncloser.{Encloser, IsEncloser, IsFoundEncloser, encloser_is_cut, next_cover}, HashedList.{is_hash_cover, is_hash_match}}
+use Rattle.domain_checker.specs.{HashedReading.IsNextHash, HashedVerdict.{is_covered, is_matched, is_ok_with, next_closer}}
+use Rattle.domain_checker.proofs.{HashedEncloserLemmas.itself_counted, HashedWalkLemmas.matched_same}
 use Rattle.domain_answer.specs.declared.answer.Answer.{Answer}
 use Rattle.domain_answer.specs.declared.answer.Answer.TheVariants.{Referral, Redirected, Has, NoDs, Alias, NoData, Wildcard, WildcardAlias, WildcardNoData}
 use Rattle.domain_answer.specs.declared.answer.Answer.TheVariants.{NameError, MayBeUnsigned, NoCloserName, NotProven}
 use Rattle.domain_answer.specs.HashedProved.{HasCloserProof, HasEncloserProof, HashedRestsOn}
 use Rattle.domain_answer.specs.HashedReading.{IsHashedRead, IsReadOn, IsWildcardRead, encloser_answer, found_answer, lower_answer, next_answer, own_answer}
-use Rattle.domain_answer.specs.HashedReading.{wildcard_told}
-use Rattle.domain_answer.specs.Proved.{CountsWithin}
-use Rattle.domain_answer.specs.ZoneAnswer.{wildcard_below}
+use Rattle.domain_answer.specs.{HashedReading.wildcard_told, Proved.CountsWithin, ZoneAnswer.wildcard_below}
 use Rattle.domain_answer.proofs.HashedAnswerLemmas.{own_never, read_plain}
-use Rattle.std.proofs.lemmas.Grind.{common_steps}
 
 chosen : (P : Answer → Type 0) (b : Bool) (v w : Answer) → P v → P w → P (cond b v w)
 chosen P b v w h k = grind (arith, common_steps)

@@ -2,38 +2,25 @@
 use Rattle.std.proofs.Common.{◌≡◌, ◌≢◌, ℕ, ◌+◌, ◌-◌, Bool, true, false, cond, not, ◌&&◌, ◌||◌, List, [], ◌∷◌, drop, length, refl, sym, ap, ◌∙◌, inl, inr, arith}
 use Rattle.std.proofs.lemmas.Bool.{cases_Bool, false≢true, and_parts, and_from, not-true, or_left, or_right}
 use Rattle.domain_octets.specs.Words.{Octets}
-use Rattle.domain_names.specs.Name.{is_at_or_below, is_strictly_below, same_name}
+use Rattle.domain_names.specs.{Name.{is_at_or_below, is_strictly_below, same_name}, Words.{Label, Name}}
 use Rattle.domain_base.specs.Types.{dname}
-use Rattle.domain_names.specs.Words.{Label, Name}
 use Rattle.domain_chain_rdata.specs.OptOut.{is_opt_out}
-use Rattle.domain_zone.specs.Covering.{covers, matches}
-use Rattle.domain_zone.specs.Enclosers.{IsClosestEncloser, exists_over}
-use Rattle.domain_zone.specs.Zone.{ZoneRecord, is_zone_cut}
-use Rattle.domain_zone.proofs.NameLemmas.{below_parent, below_trans, one_lowered, same_itself}
-use Rattle.domain_zone.proofs.FindLemmas.{in_at}
-use Rattle.domain_nsec3.specs.Chain.{HashedLink, IsHashedChain}
-use Rattle.domain_nsec3.specs.Config.{ChainConfig}
-use Rattle.domain_nsec3.specs.Meaning.{AreAlone, IsAlone, octets_before}
+use Rattle.domain_zone.specs.{Covering.{covers, matches}, Enclosers.{IsClosestEncloser, exists_over}, Zone.{ZoneRecord, is_zone_cut}}
+use Rattle.domain_zone.proofs.{NameLemmas.{below_parent, below_trans, one_lowered, same_itself}, FindLemmas.in_at}
+use Rattle.domain_nsec3.specs.{Chain.{HashedLink, IsHashedChain}, Config.ChainConfig, Meaning.{AreAlone, IsAlone, octets_before}}
 use Rattle.domain_nsec3.specs.Owners.{nsec3_lists, original_owners}
-use Rattle.domain_checker.specs.HashedFacts.{ChainFacts}
-use Rattle.domain_checker.specs.HashedView.{chain_records}
+use Rattle.domain_checker.specs.{HashedFacts.ChainFacts, HashedView.chain_records}
 use Rattle.domain_checker.specs.HashedVerdict.{hashed_proved_verdict, hashed_zone_verdict, is_below_chain_cut, is_covered, is_matched, next_closer, proves}
 use Rattle.domain_checker.specs.Verdict.{closest_encloser}
 use Rattle.domain_checker.specs.declared.verdict.Verdict.TheVariants as verdict
-use Rattle.domain_checker.proofs.CutLemmas.{below_cut}
-use Rattle.domain_checker.proofs.EncloserLemmas.{exists_same, same_count}
-use Rattle.domain_checker.proofs.HashedListLemmas.{covered_in, told_at, hash_same}
-use Rattle.domain_answer.specs.declared.answer.Answer.{Answer}
-use Rattle.domain_answer.specs.declared.answer.Answer.TheVariants.{NoCloserName, TooManyIterations, NotProven}
-use Rattle.domain_answer.specs.Expansion.{closer_name, is_expanded, missing_closer, proved_expansion}
-use Rattle.domain_answer.specs.HashedMeaning.{ChainMeans, ChainsAreMeant}
+use Rattle.domain_checker.proofs.{CutLemmas.below_cut, EncloserLemmas.{exists_same, same_count}, HashedListLemmas.{covered_in, told_at, hash_same}}
+use Rattle.domain_answer.specs.declared.answer.Answer.{Answer, TheVariants.{NoCloserName, TooManyIterations, NotProven}}
+use Rattle.domain_answer.specs.{Expansion.{closer_name, is_expanded, missing_closer, proved_expansion}, HashedMeaning.{ChainMeans, ChainsAreMeant}}
 use Rattle.domain_answer.specs.HashedProved.{AreAskedAlone, hashed_proved_answer, needs_wildcard, tells_encloser, tells_wildcard}
 use Rattle.domain_answer.specs.HashedZoneAnswer.{HashedLeavesOutBelowDname, hashed_encloser, hashed_exists, hashed_missing_answer, hashed_zone_answer}
-use Rattle.domain_answer.specs.ZoneAnswer.{asterisk, is_at_parent, wildcard_below}
-use Rattle.domain_answer.proofs.CountLemmas.{parent_below}
+use Rattle.domain_answer.{specs.ZoneAnswer.{asterisk, is_at_parent, wildcard_below}, proofs.CountLemmas.parent_below}
 use Rattle.domain_answer.proofs.DefiniteLemmas.{choose, either, existing_says, is_of_zone, of_zone_knows, of_zone_limits, of_zone_proves, wildcard_says}
-use Rattle.domain_answer.proofs.ExpansionLemmas.{closer_low}
-use Rattle.domain_answer.proofs.HashedAnswerLemmas.{cut_original, encloser_is, encloser_low}
+use Rattle.domain_answer.proofs.{ExpansionLemmas.closer_low, HashedAnswerLemmas.{cut_original, encloser_is, encloser_low}}
 use Rattle.std.proofs.lemmas.Grind.{common_steps}
 
 -- what the law of the checker says of whole chains

@@ -1,32 +1,24 @@
 -- A zone whose NSEC3 chain leaves out nothing answers as it does with an NSEC chain.
 use Rattle.std.proofs.Common.{◌≡◌, ℕ, Bool, true, false, cond, not, ◌&&◌, ◌||◌, List, [], ◌∷◌, length, refl, sym, ap, ◌∙◌, inl, inr, arith}
-use Rattle.std.specs.Prelude.{◌==◌, filter}
-use Rattle.std.specs.List.{list_any}
-use Rattle.std.proofs.lemmas.Bool.{cases_Bool, cases_lt, false≢true, and_parts, and_from, not-true, or_left, or_right}
+use Rattle.std.proofs.lemmas.{Bool.{cases_Bool, cases_lt, false≢true, and_parts, and_from, not-true, or_left, or_right}, Grind.common_steps}
+use Rattle.std.specs.{Prelude.{◌==◌, filter}, List.list_any}
 use Rattle.domain_octets.proofs.StdLemmas.{and_false}
-use Rattle.domain_names.specs.Name.{is_at_or_below, is_strictly_below, same_name}
+use Rattle.domain_names.specs.{Name.{is_at_or_below, is_strictly_below, same_name}, Words.Name}
 use Rattle.domain_base.specs.Types.{cname, dname, ds, rrsig}
-use Rattle.domain_names.specs.Words.{Name}
 use Rattle.domain_chain_rdata.specs.OptOut.{is_opt_out}
 use Rattle.domain_zone.specs.Enclosers.{IsClosestEncloser, exists_over}
 use Rattle.domain_zone.specs.Zone.{ZoneRecord, has_type, is_occluded, is_zone_cut, occludes, owns, records_of, unoccluded_owners}
-use Rattle.domain_zone.proofs.NameLemmas.{below_length, below_longer, below_trans, strictly_longer, same_length, strictly_from}
-use Rattle.domain_zone.proofs.PairLemmas.{In}
+use Rattle.domain_zone.proofs.{NameLemmas.{below_length, below_longer, below_trans, strictly_longer, same_length, strictly_from}, PairLemmas.In}
 use Rattle.domain_zone.proofs.OwnerLemmas.{any_in, in_any, below_occluder, occluder_owns}
-use Rattle.domain_nsec3.specs.Config.{ChainConfig}
-use Rattle.domain_nsec3.specs.Owners.{nsec3_lists, original_owners}
+use Rattle.domain_nsec3.specs.{Config.ChainConfig, Owners.{nsec3_lists, original_owners}}
 use Rattle.domain_checker.proofs.EncloserLemmas.{apex_from, closest_is, cut_same, exists_same, owner_unoccluded, same_count}
 use Rattle.domain_answer.specs.declared.answer.Answer.TheVariants.{OutsideZone, AtParent, Referral, Redirected, Has, NoDs, Alias, NoData, Wildcard}
 use Rattle.domain_answer.specs.declared.answer.Answer.TheVariants.{WildcardAlias, WildcardNoData, NameError, MayBeUnsigned}
-use Rattle.domain_answer.specs.HashedZoneAnswer.{HashedLeavesOutBelowDname, hashed_existing_answer, hashed_exists, hashed_inside_answer}
-use Rattle.domain_answer.specs.HashedZoneAnswer.{hashed_missing_answer, hashed_wildcard_answer, hashed_zone_answer, is_of_one_chain}
+use Rattle.domain_answer.specs.HashedZoneAnswer.{HashedLeavesOutBelowDname, hashed_existing_answer, hashed_exists, hashed_inside_answer, hashed_missing_answer}
+use Rattle.domain_answer.specs.HashedZoneAnswer.{hashed_wildcard_answer, hashed_zone_answer, is_of_one_chain}
 use Rattle.domain_answer.specs.ZoneAnswer.{encloser, existing_answer, highest_occluder, inside_answer, is_at_parent, missing_answer, name_exists}
-use Rattle.domain_answer.specs.ZoneAnswer.{occluded_answer, owns_type, unoccluded_answer, wildcard_below, zone_answer}
-use Rattle.domain_answer.proofs.CountLemmas.{strictly_same}
-use Rattle.domain_answer.proofs.HashedAnswerLemmas.{dname_owned}
-use Rattle.domain_answer.proofs.KindLemmas.{IsHighest, highest_of, owner_exists}
-use Rattle.domain_answer.proofs.OccluderLemmas.{none_above}
-use Rattle.std.proofs.lemmas.Grind.{common_steps}
+use Rattle.domain_answer.{specs.ZoneAnswer.{occluded_answer, owns_type, unoccluded_answer, wildcard_below, zone_answer}, proofs.CountLemmas.strictly_same}
+use Rattle.domain_answer.proofs.{HashedAnswerLemmas.dname_owned, KindLemmas.{IsHighest, highest_of, owner_exists}, OccluderLemmas.none_above}
 
 all_kept : {X : Type 0} (xs : List X) → filter (λ x. true) xs ≡ xs
 all_kept [] = refl

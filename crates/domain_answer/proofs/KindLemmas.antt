@@ -1,15 +1,12 @@
 -- Each kind of answer is the zone's exactly where what it says is so.
 use Rattle.std.proofs.Common.{◌≡◌, ℕ, Bool, true, false, cond, not, ◌&&◌, ◌||◌, List, [], ◌∷◌, length, refl, sym, ap, ◌∙◌, inl, inr, Some, None, arith}
+use Rattle.std.proofs.lemmas.{Bool.{cases_Bool, false≢true, and_parts, and_from, not-true, not-false, or_left, or_right}, Grind.common_steps}
 use Rattle.std.specs.Prelude.{◌==◌, filter}
-use Rattle.std.proofs.lemmas.Bool.{cases_Bool, false≢true, and_parts, and_from, not-true, not-false, or_left, or_right}
 use Rattle.domain_octets.proofs.StdLemmas.{and_false}
-use Rattle.domain_names.specs.Name.{is_at_or_below, is_strictly_below, lowered, same_name}
+use Rattle.domain_names.specs.{Name.{is_at_or_below, is_strictly_below, lowered, same_name}, Words.Name}
 use Rattle.domain_base.specs.Types.{cname, dname, ds, ns}
-use Rattle.domain_names.specs.Words.{Name}
 use Rattle.domain_zone.specs.Zone.{ZoneRecord, distinct, has_type, is_occluded, is_unoccluded, is_zone_cut, occludes, owns, records_of}
-use Rattle.domain_zone.proofs.NameLemmas.{below_itself, lowered_below, one_lowered, same_itself}
-use Rattle.domain_zone.proofs.PairLemmas.{In}
-use Rattle.domain_zone.proofs.OwnerLemmas.{any_in, in_any, typed_owns}
+use Rattle.domain_zone.proofs.{NameLemmas.{below_itself, lowered_below, one_lowered, same_itself}, PairLemmas.In, OwnerLemmas.{any_in, in_any, typed_owns}}
 use Rattle.domain_zone.proofs.FindLemmas.{in_map}
 use Rattle.domain_nsec.specs.Chain.{nsec_lists}
 use Rattle.domain_checker.proofs.EncloserLemmas.{cut_same, occluded_same, occludes_same, top_occluder, same_count, strictly_trans}
@@ -19,9 +16,7 @@ use Rattle.domain_answer.specs.declared.answer.Answer.TheVariants.{WildcardAlias
 use Rattle.domain_answer.specs.Kinds.{IsAbsent, IsHere, IsRedirected, IsReferred, IsSo, wildcard_of}
 use Rattle.domain_answer.specs.ZoneAnswer.{encloser, existing_answer, highest_occluder, inside_answer, is_at_parent, missing_answer, name_exists}
 use Rattle.domain_answer.specs.ZoneAnswer.{occluded_answer, owns_type, unoccluded_answer, zone_answer}
-use Rattle.domain_answer.proofs.CountLemmas.{strictly_same}
-use Rattle.domain_answer.proofs.OccluderLemmas.{highest_is, none_above}
-use Rattle.std.proofs.lemmas.Grind.{common_steps}
+use Rattle.domain_answer.proofs.{CountLemmas.strictly_same, OccluderLemmas.{highest_is, none_above}}
 
 -- ---- owners
 

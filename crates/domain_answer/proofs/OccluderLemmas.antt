@@ -1,15 +1,10 @@
 -- The highest of the names above a name that occlude.
 use Rattle.std.proofs.Common.{◌≡◌, true, false, cond, not, List, [], ◌∷◌, refl, sym, ap, ◌∙◌, inl, inr, Some, None, arith}
-use Rattle.std.specs.Option.{option_or}
-use Rattle.std.proofs.lemmas.Bool.{cases_Bool, false≢true, and_parts, and_from}
-use Rattle.domain_names.specs.Name.{is_at_or_below, is_strictly_below, same_name}
-use Rattle.domain_names.specs.Words.{Name}
-use Rattle.domain_zone.specs.Zone.{ZoneRecord, is_occluded, occludes}
-use Rattle.domain_zone.proofs.OwnerLemmas.{below_occluder}
-use Rattle.domain_zone.proofs.NameLemmas.{strictly_longer}
+use Rattle.std.{proofs.lemmas.Bool.{cases_Bool, false≢true, and_parts, and_from}, specs.Option.option_or}
+use Rattle.domain_names.specs.{Name.{is_at_or_below, is_strictly_below, same_name}, Words.Name}
+use Rattle.domain_zone.{specs.Zone.{ZoneRecord, is_occluded, occludes}, proofs.{OwnerLemmas.below_occluder, NameLemmas.strictly_longer}}
 use Rattle.domain_checker.proofs.EncloserLemmas.{occluded_same, occludes_same, strictly_trans, top_occluder}
-use Rattle.domain_answer.specs.ZoneAnswer.{highest_occluder}
-use Rattle.domain_answer.proofs.CountLemmas.{child_below, parent_below}
+use Rattle.domain_answer.{specs.ZoneAnswer.highest_occluder, proofs.CountLemmas.{child_below, parent_below}}
 
 module _ (L : List ZoneRecord) (a : Name) where
   -- above a name that is not occluded none occludes

@@ -1,28 +1,17 @@
 -- Of any records at all: those that an answer rests on are there, and what it counts is within the name.
 use Rattle.std.proofs.Common.{◌≡◌, ◌<◌, arith, ℕ, Bool, true, false, cond, ◌||◌, List, length, refl, Option, Some, None}
-use Rattle.std.specs.List.{find}
-use Rattle.std.proofs.lemmas.Bool.{and_parts, or_left, or_right}
+use Rattle.std.{proofs.lemmas.{Bool.{and_parts, or_left, or_right}, Grind.common_steps}, specs.List.find}
 use Rattle.domain_bitmap.specs.Blocks.{contains_type}
-use Rattle.domain_names.specs.Name.{is_strictly_below, last_labels}
-use Rattle.domain_names.specs.Order.{before}
+use Rattle.domain_names.specs.{Name.{is_strictly_below, last_labels}, Order.before, Words.Name}
 use Rattle.domain_base.specs.Types.{cname}
-use Rattle.domain_names.specs.Words.{Name}
 use Rattle.domain_zone.specs.Covering.{matches, covers, matches_or_covers}
-use Rattle.domain_zone.proofs.NameLemmas.{below_length, same_is}
-use Rattle.domain_zone.proofs.PairLemmas.{In}
-use Rattle.domain_zone.proofs.OwnerLemmas.{in_any}
-use Rattle.domain_zone.proofs.FindLemmas.{find_some}
+use Rattle.domain_zone.proofs.{NameLemmas.{below_length, same_is}, PairLemmas.In, OwnerLemmas.in_any, FindLemmas.find_some}
 use Rattle.domain_nsec.specs.Chain.{Link}
-use Rattle.domain_checker.specs.Reading.{is_at_cut, is_cover, is_match}
-use Rattle.domain_checker.specs.Verdict.{HasProof, is_inside}
-use Rattle.domain_checker.proofs.EncloserLemmas.{same_count}
-use Rattle.domain_answer.specs.declared.answer.Answer.{Answer}
-use Rattle.domain_answer.specs.declared.answer.Answer.TheVariants.{Wildcard, WildcardAlias, WildcardNoData, NameError, NoCloserName}
+use Rattle.domain_checker.{specs.{Reading.{is_at_cut, is_cover, is_match}, Verdict.{HasProof, is_inside}}, proofs.EncloserLemmas.same_count}
+use Rattle.domain_answer.specs.declared.answer.Answer.{Answer, TheVariants.{Wildcard, WildcardAlias, WildcardNoData, NameError, NoCloserName}}
 use Rattle.domain_answer.specs.Proved.{CountsWithin, HasBothProofs, RestsOn}
 use Rattle.domain_answer.specs.Reading.{absent_answer, cover_answer, listed_answer, listed_both, match_answer, reading, tells_occluded, wildcard_both}
-use Rattle.domain_answer.specs.ZoneAnswer.{wildcard_below}
-use Rattle.domain_answer.proofs.CountLemmas.{encloser_less}
-use Rattle.std.proofs.lemmas.Grind.{common_steps}
+use Rattle.domain_answer.{specs.ZoneAnswer.wildcard_below, proofs.CountLemmas.encloser_less}
 
 choose : (P : Answer → Type 0) (b : Bool) (v w : Answer) → P v → P w → P (cond b v w)
 choose P b v w p q = grind (arith, common_steps)

@@ -1,13 +1,11 @@
 -- What records tell of a name by themselves, and what is left to a wildcard.
-use Rattle.std.proofs.Common.{◌≡◌, ◌≢◌, ℕ, ◌<◌, Bool, cond, List, length, Option, arith}
-use Rattle.std.specs.List.{find}
+use Rattle.std.{proofs.Common.{◌≡◌, ◌≢◌, ℕ, ◌<◌, Bool, cond, List, length, Option, arith}, specs.List.find}
 use Rattle.domain_names.specs.Words.{Name}
 use Rattle.domain_nsec.specs.Chain.{Link}
 use Rattle.domain_checker.specs.Reading.{is_cover, is_match}
 use Rattle.domain_answer.specs.declared.answer.Answer.{Answer}
 use Rattle.domain_answer.specs.declared.answer.Answer.TheVariants as answer
-use Rattle.domain_answer.specs.declared.answer.NameAnswer.TheVariants.{Given, Absent}
-use Rattle.domain_answer.specs.NameAnswer.{IsNameAnswer, name_answer}
+use Rattle.domain_answer.specs.{declared.answer.NameAnswer.TheVariants.{Given, Absent}, NameAnswer.{IsNameAnswer, name_answer}}
 use Rattle.domain_answer.specs.Reading.{absent_answer, match_answer, owner_answer, wildcard_answer, wildcard_both, wildcard_cover_answer, wildcard_match_answer}
 use Rattle.std.proofs.lemmas.Grind.{common_steps}
 

@@ -1,31 +1,19 @@
 -- The whole chain proves all that the zone says; and which chains leave out the names below a DNAME.
 use Rattle.std.proofs.Common.{◌≡◌, ◌≢◌, ℕ, Bool, true, false, cond, not, ◌&&◌, ◌||◌, List, [], ◌∷◌, map, length, refl, sym, ap, ◌∙◌, inl, inr, Option, arith}
-use Rattle.std.specs.Prelude.{All, filter}
-use Rattle.std.specs.List.{list_any}
-use Rattle.std.proofs.lemmas.Bool.{cases_Bool, and_parts}
-use Rattle.std.proofs.lemmas.List.Elements.{recursion_from_All}
+use Rattle.std.proofs.lemmas.{Bool.{cases_Bool, and_parts}, List.Elements.recursion_from_All, Grind.common_steps}
+use Rattle.std.specs.{Prelude.{All, filter}, List.list_any}
 use Rattle.domain_octets.proofs.StdLemmas.{and_false}
-use Rattle.domain_names.specs.Name.{is_at_or_below, is_strictly_below}
+use Rattle.domain_names.specs.{Name.{is_at_or_below, is_strictly_below}, Words.Name}
 use Rattle.domain_base.specs.Types.{dname}
-use Rattle.domain_names.specs.Words.{Name}
 use Rattle.domain_zone.specs.Zone.{ZoneRecord, OwnersNeverDescend, distinct, has_type, is_occluded, is_unoccluded, is_zone_cut, occludes, records_of}
 use Rattle.domain_zone.specs.Zone.{unoccluded_owners}
-use Rattle.domain_zone.proofs.NameLemmas.{below_parent, below_trans}
-use Rattle.domain_zone.proofs.PairLemmas.{In, all_in}
-use Rattle.domain_zone.proofs.OwnerLemmas.{in_any}
-use Rattle.domain_zone.proofs.FindLemmas.{any_none, from_map, in_filter}
-use Rattle.domain_nsec.specs.Chain.{IsChain, Link}
-use Rattle.domain_nsec.specs.declared.config.GenerateNsecConfig.{GenerateNsecConfig}
-use Rattle.domain_checker.specs.Verdict.{has_match_or_cover}
-use Rattle.domain_checker.proofs.EncloserLemmas.{closest_is, in_distinct}
-use Rattle.domain_checker.proofs.MeantLemmas.{ChainLaws, apex_exists, some_link}
-use Rattle.domain_answer.specs.declared.answer.Answer.{Answer}
-use Rattle.domain_answer.specs.declared.answer.Answer.TheVariants.{NoCloserName, NotProven}
+use Rattle.domain_zone.proofs.{NameLemmas.{below_parent, below_trans}, PairLemmas.{In, all_in}, OwnerLemmas.in_any, FindLemmas.{any_none, from_map, in_filter}}
+use Rattle.domain_nsec.specs.{Chain.{IsChain, Link}, declared.config.GenerateNsecConfig.GenerateNsecConfig}
+use Rattle.domain_checker.{specs.Verdict.has_match_or_cover, proofs.{EncloserLemmas.{closest_is, in_distinct}, MeantLemmas.{ChainLaws, apex_exists, some_link}}}
+use Rattle.domain_answer.specs.declared.answer.Answer.{Answer, TheVariants.{NoCloserName, NotProven}}
 use Rattle.domain_answer.specs.Proved.{LeavesOutBelowDname, is_missing, knows_wildcard, proved_answer}
 use Rattle.domain_answer.specs.ZoneAnswer.{asterisk, encloser, inside_answer, is_at_parent, name_exists, wildcard_below, zone_answer}
-use Rattle.domain_answer.proofs.ChainLemmas.{meant_leaving}
-use Rattle.domain_answer.proofs.DefiniteLemmas.{choose, either, is_of_zone, of_zone_knows, of_zone_proves}
-use Rattle.std.proofs.lemmas.Grind.{common_steps}
+use Rattle.domain_answer.proofs.{ChainLemmas.meant_leaving, DefiniteLemmas.{choose, either, is_of_zone, of_zone_knows, of_zone_proves}}
 
 pub wildcard_low : (L : List ZoneRecord) (a : Name) (x : Name) → name_exists L a a ≡ true → is_at_or_below x a ≡ true
     → is_at_or_below (wildcard_below (encloser L a x)) a ≡ true

@@ -1,13 +1,10 @@
 -- The wire form of the wildcard below the last labels of a name.
-use Rattle.std.proofs.Common.{◌≡◌, ℕ, ◌+◌, ◌≤◌, ◌<◌, ◌-◌, zero, suc, [], ◌∷◌, drop, length, sym, ap, ◌∙◌, subst, arith}
+use Rattle.std.proofs.{Common.{◌≡◌, ℕ, ◌+◌, ◌≤◌, ◌<◌, ◌-◌, zero, suc, [], ◌∷◌, drop, length, sym, ap, ◌∙◌, subst, arith}, lemmas.Grind.common_steps}
 use Rattle.std.specs.List.{AllByRecursion}
 use Rattle.domain_octets.specs.Words.{Octets}
-use Rattle.domain_names.specs.Name.{IsLabel, IsName, wire_of, last_labels}
-use Rattle.domain_names.specs.Wire.{labels_of, IsWire}
-use Rattle.domain_names.specs.Words.{Name}
+use Rattle.domain_names.specs.{Name.{IsLabel, IsName, wire_of, last_labels}, Wire.{labels_of, IsWire}, Words.Name}
 use Rattle.domain_names.proofs.WireLemmas.{IsWire-wire_of, labels_of-wire_of}
 use Rattle.domain_answer.specs.ZoneAnswer.{asterisk, wildcard_below}
-use Rattle.std.proofs.lemmas.Grind.{common_steps}
 
 labels_drop : (n : ℕ) (x : Name) → AllByRecursion IsLabel x → AllByRecursion IsLabel (drop n x)
 labels_drop zero x all = all

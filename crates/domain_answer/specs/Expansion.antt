@@ -4,23 +4,15 @@
 use Rattle.std.specs.Prelude.{ℕ, ◌≡◌, ◌+◌, Bool, true, false, not, ◌&&◌, nat_le, nat_lt, List, All, length, Option, Some, None, Ok, if◌then◌else◌}
 use Rattle.std.specs.List.{Contains}
 use Rattle.domain_octets.specs.Words.{Octets}
-use Rattle.domain_names.specs.Name.{is_at_or_below, last_labels}
-use Rattle.domain_names.specs.Words.{Name}
+use Rattle.domain_names.specs.{Name.{is_at_or_below, last_labels}, Words.Name}
 use Rattle.domain_chain_rdata.specs.OptOut.{is_opt_out}
 use Rattle.domain_zone.specs.Zone.{ZoneRecord}
-use Rattle.domain_nsec3.specs.Chain.{HashedLink, IsHashedChain}
-use Rattle.domain_nsec3.specs.Config.{ChainConfig, hash_name}
-use Rattle.domain_nsec3.specs.Meaning.{IsAlone}
-use Rattle.domain_checker.specs.HashedVerdict.{is_covered}
-use Rattle.domain_checker.specs.HashedView.{HashedRecords, chain_records, first_cover, first_match}
-use Rattle.domain_answer.specs.HashedReading.{next_answer}
-use Rattle.domain_answer.specs.HashedZoneAnswer.{hashed_exists}
-use Rattle.domain_answer.specs.declared.answer.Answer.{Answer}
-use Rattle.domain_answer.specs.declared.answer.Answer.TheVariants.{OutsideZone, AtParent, Referral, Redirected, Has, NoDs, Alias, NoData}
-use Rattle.domain_answer.specs.declared.answer.Answer.TheVariants.{Wildcard, WildcardAlias}
-use Rattle.domain_answer.specs.declared.answer.Answer.TheVariants.{WildcardNoData, NameError}
-use Rattle.domain_answer.specs.declared.answer.Answer.TheVariants.{MayBeUnsigned, NoCloserName}
-use Rattle.domain_answer.specs.declared.answer.Answer.TheVariants.{TooManyIterations, NotProven}
+use Rattle.domain_nsec3.specs.{Chain.{HashedLink, IsHashedChain}, Config.{ChainConfig, hash_name}, Meaning.IsAlone}
+use Rattle.domain_checker.specs.{HashedVerdict.is_covered, HashedView.{HashedRecords, chain_records, first_cover, first_match}}
+use Rattle.domain_answer.specs.{HashedReading.next_answer, HashedZoneAnswer.hashed_exists, declared.answer.Answer.Answer}
+use Rattle.domain_answer.specs.declared.answer.Answer.TheVariants.{OutsideZone, AtParent, Referral, Redirected, Has, NoDs, Alias, NoData, Wildcard}
+use Rattle.domain_answer.specs.declared.answer.Answer.TheVariants.{WildcardAlias, WildcardNoData, NameError, MayBeUnsigned, NoCloserName, TooManyIterations}
+use Rattle.domain_answer.specs.declared.answer.Answer.TheVariants.{NotProven}
 
 -- x is longer than its last n labels, and these are a name at or below the apex
 abbrev pub is_expanded : Name → Name → ℕ → Bool

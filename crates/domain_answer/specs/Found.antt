@@ -1,14 +1,10 @@
 -- What one pass over NSEC records finds of a name; a is the apex.
-use Rattle.std.specs.Prelude.{◌≡◌, List, Option, Some, None, length}
-use Rattle.std.specs.List.{find}
+use Rattle.std.specs.{Prelude.{◌≡◌, List, Option, Some, None, length}, List.find}
 use Rattle.domain_names.specs.Words.{Name}
 use Rattle.domain_zone.specs.Enclosers.{longer, shared}
-use Rattle.domain_nsec.specs.Chain.{Link}
-use Rattle.domain_nsec.specs.ChainView.{as_link}
+use Rattle.domain_nsec.specs.{Chain.Link, ChainView.as_link}
 use Rattle.domain_checker.specs.Reading.{is_cover, is_match}
-use Rattle.domain_answer.specs.declared.found.NsecCover.{NsecCover}
-use Rattle.domain_answer.specs.declared.found.NsecFound.{NsecFound}
-use Rattle.domain_answer.specs.declared.found.NsecFound.TheVariants.{Match, Cover, Neither}
+use Rattle.domain_answer.specs.declared.found.{NsecCover.NsecCover, NsecFound.{NsecFound, TheVariants.{Match, Cover, Neither}}}
 
 -- the record that covers
 abbrev pub cover_link : {O N : Type 0} → (N → Name) → NsecCover O N → Link

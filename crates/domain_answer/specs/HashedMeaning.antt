@@ -1,17 +1,11 @@
 -- What is known of each NSEC3 chain that leaves out the names below a DNAME.
-use Rattle.std.specs.Prelude.{◌≡◌, ℕ, true, false, List}
-use Rattle.std.specs.List.{Contains}
+use Rattle.std.specs.{Prelude.{◌≡◌, ℕ, true, false, List}, List.Contains}
 use Rattle.domain_octets.specs.Words.{Octets}
-use Rattle.domain_names.specs.Name.{is_at_or_below, same_name}
-use Rattle.domain_names.specs.Words.{Name}
-use Rattle.domain_zone.specs.Enclosers.{exists_over, IsClosestEncloser}
-use Rattle.domain_zone.specs.Zone.{ZoneRecord, is_zone_cut}
-use Rattle.domain_nsec3.specs.Chain.{HashedLink, IsHashedChain}
-use Rattle.domain_nsec3.specs.Config.{ChainConfig}
-use Rattle.domain_nsec3.specs.Meaning.{CutsEnclose, IsAlone}
+use Rattle.domain_names.specs.{Name.{is_at_or_below, same_name}, Words.Name}
+use Rattle.domain_zone.specs.{Enclosers.{exists_over, IsClosestEncloser}, Zone.{ZoneRecord, is_zone_cut}}
+use Rattle.domain_nsec3.specs.{Chain.{HashedLink, IsHashedChain}, Config.ChainConfig, Meaning.{CutsEnclose, IsAlone}}
 use Rattle.domain_nsec3.specs.Owners.{is_chain_name, is_original_owner, nsec3_lists, original_owners}
-use Rattle.domain_checker.specs.HashedEncloser.{IsDenial, IsOfName}
-use Rattle.domain_checker.specs.HashedList.{is_hash_cover, is_hash_match}
+use Rattle.domain_checker.specs.{HashedEncloser.{IsDenial, IsOfName}, HashedList.{is_hash_cover, is_hash_match}}
 use Rattle.domain_answer.specs.HashedZoneAnswer.{HashedLeavesOutBelowDname}
 
 -- what is known of one such chain

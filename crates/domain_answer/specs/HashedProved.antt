@@ -1,27 +1,18 @@
 -- What a list of records of a zone's NSEC3 chain proves of what the zone says.
-use Rattle.std.specs.Prelude.{ℕ, Bool, true, false, not, ◌&&◌, ◌||◌, List, ◌≡◌, All, length, if◌then◌else◌}
-use Rattle.std.specs.List.{Contains}
+use Rattle.std.specs.{Prelude.{ℕ, Bool, true, false, not, ◌&&◌, ◌||◌, List, ◌≡◌, All, length, if◌then◌else◌}, List.Contains}
 use Rattle.domain_octets.specs.Words.{Octets}
-use Rattle.domain_names.specs.Name.{same_name, last_labels}
+use Rattle.domain_names.specs.{Name.{same_name, last_labels}, Words.Name}
 use Rattle.domain_base.specs.Types.{dname}
-use Rattle.domain_names.specs.Words.{Name}
 use Rattle.domain_chain_rdata.specs.OptOut.{is_opt_out}
 use Rattle.domain_zone.specs.Zone.{ZoneRecord, is_zone_cut}
-use Rattle.domain_nsec3.specs.Chain.{HashedLink, IsHashedChain}
-use Rattle.domain_nsec3.specs.Config.{ChainConfig}
-use Rattle.domain_nsec3.specs.Meaning.{AreAlone, IsAlone}
-use Rattle.domain_nsec3.specs.Owners.{nsec3_lists}
+use Rattle.domain_nsec3.specs.{Chain.{HashedLink, IsHashedChain}, Config.ChainConfig, Meaning.{AreAlone, IsAlone}, Owners.nsec3_lists}
 use Rattle.domain_checker.specs.HashedView.{HashedRecords, chain_records}
 use Rattle.domain_checker.specs.HashedVerdict.{is_below_chain_cut, is_covered, is_matched, next_closer, IsFirstMatched}
-use Rattle.domain_answer.specs.HashedZoneAnswer.{hashed_encloser, hashed_exists, hashed_zone_answer, HashedLeavesOutBelowDname}
-use Rattle.domain_answer.specs.Proved.{needs_no_records}
-use Rattle.domain_answer.specs.ZoneAnswer.{wildcard_below}
-use Rattle.domain_answer.specs.declared.answer.Answer.{Answer}
-use Rattle.domain_answer.specs.declared.answer.Answer.TheVariants.{OutsideZone, AtParent, Referral, Redirected, Has, NoDs, Alias, NoData}
-use Rattle.domain_answer.specs.declared.answer.Answer.TheVariants.{Wildcard, WildcardAlias}
-use Rattle.domain_answer.specs.declared.answer.Answer.TheVariants.{WildcardNoData, NameError}
-use Rattle.domain_answer.specs.declared.answer.Answer.TheVariants.{MayBeUnsigned, NoCloserName}
-use Rattle.domain_answer.specs.declared.answer.Answer.TheVariants.{TooManyIterations, NotProven}
+use Rattle.domain_answer.specs.{HashedZoneAnswer.{hashed_encloser, hashed_exists, hashed_zone_answer, HashedLeavesOutBelowDname}, Proved.needs_no_records}
+use Rattle.domain_answer.specs.{ZoneAnswer.wildcard_below, declared.answer.Answer.Answer}
+use Rattle.domain_answer.specs.declared.answer.Answer.TheVariants.{OutsideZone, AtParent, Referral, Redirected, Has, NoDs, Alias, NoData, Wildcard}
+use Rattle.domain_answer.specs.declared.answer.Answer.TheVariants.{WildcardAlias, WildcardNoData, NameError, MayBeUnsigned, NoCloserName, TooManyIterations}
+use Rattle.domain_answer.specs.declared.answer.Answer.TheVariants.{NotProven}
 
 -- a record matches the closest encloser of x and, unless that is x, a zone cut or an owner of a
 -- DNAME record, one covers the next closer name

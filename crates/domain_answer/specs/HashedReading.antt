@@ -3,18 +3,13 @@
 use Rattle.std.specs.Prelude.{ℕ, ◌==◌, ◌≡◌, ◌⊎◌, Option, Some, None, Ok, Err, length, if◌then◌else◌}
 use Rattle.domain_octets.specs.Words.{Octets}
 use Rattle.domain_base.specs.Types.{dname, ns}
-use Rattle.domain_names.specs.Words.{Name}
+use Rattle.domain_names.specs.{Words.Name, Name.last_labels}
 use Rattle.domain_bitmap.specs.Blocks.{contains_type}
 use Rattle.domain_chain_rdata.specs.OptOut.{is_opt_out}
-use Rattle.domain_nsec3.specs.Chain.{HashedLink}
-use Rattle.domain_nsec3.specs.Config.{hash_name}
-use Rattle.domain_checker.specs.HashedEncloser.{Encloser, encloser_is_cut, IsEncloser, IsFoundEncloser}
-use Rattle.domain_checker.specs.HashedVerdict.{IsFirstRefusal}
+use Rattle.domain_nsec3.specs.{Chain.HashedLink, Config.hash_name}
+use Rattle.domain_checker.specs.{HashedEncloser.{Encloser, encloser_is_cut, IsEncloser, IsFoundEncloser}, HashedVerdict.IsFirstRefusal}
 use Rattle.domain_checker.specs.HashedView.{HashedRecords, first_cover, first_match}
-use Rattle.domain_names.specs.Name.{last_labels}
-use Rattle.domain_answer.specs.TypesAnswer.{types_answer, wildcard_types_answer}
-use Rattle.domain_answer.specs.ZoneAnswer.{wildcard_below}
-use Rattle.domain_answer.specs.declared.answer.Answer.{Answer}
+use Rattle.domain_answer.specs.{TypesAnswer.{types_answer, wildcard_types_answer}, ZoneAnswer.wildcard_below, declared.answer.Answer.Answer}
 use Rattle.domain_answer.specs.declared.answer.Answer.TheVariants.{Referral, Redirected, NameError, MayBeUnsigned, NoCloserName, NotProven}
 
 -- the record of the closest encloser says of its own name

@@ -2,20 +2,15 @@
 -- 4592, section 3.3; RFC 6672, section 3.2); a is the apex. The zone's names are those of the
 -- chain: its original owner names and their ancestors at or below the apex.
 use Rattle.std.specs.Prelude.{ℕ, Bool, true, not, ◌&&◌, ◌||◌, ◌==◌, List, ◌≡◌, length, if◌then◌else◌}
-use Rattle.domain_names.specs.Name.{is_at_or_below, same_name}
+use Rattle.domain_names.specs.{Name.{is_at_or_below, same_name}, Words.Name}
 use Rattle.domain_base.specs.Types.{cname, dname, ds, nsec, nsec3param}
-use Rattle.domain_names.specs.Words.{Name}
 use Rattle.domain_chain_rdata.specs.OptOut.{is_opt_out}
-use Rattle.domain_zone.specs.Enclosers.{exists_over}
-use Rattle.domain_zone.specs.Zone.{ZoneRecord, is_zone_cut, unoccluded_owners}
-use Rattle.domain_nsec3.specs.Config.{ChainConfig}
-use Rattle.domain_nsec3.specs.Owners.{nsec3_lists, original_owners}
-use Rattle.domain_checker.specs.HashedVerdict.{is_below_chain_cut}
-use Rattle.domain_checker.specs.Verdict.{closest_encloser}
-use Rattle.domain_answer.specs.ZoneAnswer.{is_at_parent, wildcard_below}
-use Rattle.domain_answer.specs.declared.answer.Answer.{Answer}
-use Rattle.domain_answer.specs.declared.answer.Answer.TheVariants.{OutsideZone, AtParent, Referral, Redirected, Has, NoDs, Alias, NoData}
-use Rattle.domain_answer.specs.declared.answer.Answer.TheVariants.{Wildcard, WildcardAlias, WildcardNoData, NameError, MayBeUnsigned}
+use Rattle.domain_zone.specs.{Enclosers.exists_over, Zone.{ZoneRecord, is_zone_cut, unoccluded_owners}}
+use Rattle.domain_nsec3.specs.{Config.ChainConfig, Owners.{nsec3_lists, original_owners}}
+use Rattle.domain_checker.specs.{HashedVerdict.is_below_chain_cut, Verdict.closest_encloser}
+use Rattle.domain_answer.specs.{ZoneAnswer.{is_at_parent, wildcard_below}, declared.answer.Answer.Answer}
+use Rattle.domain_answer.specs.declared.answer.Answer.TheVariants.{OutsideZone, AtParent, Referral, Redirected, Has, NoDs, Alias, NoData, Wildcard}
+use Rattle.domain_answer.specs.declared.answer.Answer.TheVariants.{WildcardAlias, WildcardNoData, NameError, MayBeUnsigned}
 
 -- x is a name of the chain
 abbrev pub hashed_exists : List ZoneRecord → Name → ChainConfig → Name → Bool

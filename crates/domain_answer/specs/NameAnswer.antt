@@ -2,10 +2,8 @@
 use Rattle.std.specs.Prelude.{◌≡◌, ◌<◌, ℕ, List, length}
 use Rattle.domain_names.specs.Words.{Name}
 use Rattle.domain_nsec.specs.Chain.{Link}
-use Rattle.domain_answer.specs.Reading.{absent_answer}
-use Rattle.domain_answer.specs.declared.answer.Answer.{Answer}
-use Rattle.domain_answer.specs.declared.answer.Answer.TheVariants.{Wildcard, WildcardAlias, WildcardNoData, NameError, NoCloserName}
-use Rattle.domain_answer.specs.declared.answer.NameAnswer.{NameAnswer}
+use Rattle.domain_answer.specs.{Reading.absent_answer, declared.answer.Answer.Answer}
+use Rattle.domain_answer.specs.declared.answer.{Answer.TheVariants.{Wildcard, WildcardAlias, WildcardNoData, NameError, NoCloserName}, NameAnswer.NameAnswer}
 use Rattle.domain_answer.specs.declared.answer.NameAnswer.TheVariants.{Given, Absent}
 
 -- what of an answer rests on no wildcard: all of it or, of a name that does not exist, how many

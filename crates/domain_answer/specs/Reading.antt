@@ -1,19 +1,15 @@
 -- What NSEC records answer by themselves (RFC 4035, section 5.4; RFC 6840, sections 4.1, 4.3 and
 -- 4.4).
-use Rattle.std.specs.Prelude.{ℕ, Bool, not, ◌&&◌, ◌||◌, List, Option, Some, None, length, if◌then◌else◌}
-use Rattle.std.specs.List.{find}
+use Rattle.std.specs.{Prelude.{ℕ, Bool, not, ◌&&◌, ◌||◌, List, Option, Some, None, length, if◌then◌else◌}, List.find}
 use Rattle.domain_bitmap.specs.Blocks.{contains_type}
-use Rattle.domain_names.specs.Name.{is_at_or_below, is_strictly_below, last_labels}
+use Rattle.domain_names.specs.{Name.{is_at_or_below, is_strictly_below, last_labels}, Words.Name}
 use Rattle.domain_base.specs.Types.{dname}
-use Rattle.domain_names.specs.Words.{Name}
 use Rattle.domain_zone.specs.Enclosers.{longer, shared}
 use Rattle.domain_nsec.specs.Chain.{Link}
 use Rattle.domain_checker.specs.Reading.{is_at_cut, is_cover, is_match}
-use Rattle.domain_answer.specs.ZoneAnswer.{is_at_parent, wildcard_below}
-use Rattle.domain_answer.specs.TypesAnswer.{types_answer, wildcard_types_answer}
-use Rattle.domain_answer.specs.declared.answer.Answer.{Answer}
-use Rattle.domain_answer.specs.declared.answer.Answer.TheVariants.{OutsideZone, AtParent, Referral, Redirected, NoData}
-use Rattle.domain_answer.specs.declared.answer.Answer.TheVariants.{WildcardNoData, NameError, NoCloserName, NotProven}
+use Rattle.domain_answer.specs.{ZoneAnswer.{is_at_parent, wildcard_below}, TypesAnswer.{types_answer, wildcard_types_answer}, declared.answer.Answer.Answer}
+use Rattle.domain_answer.specs.declared.answer.Answer.TheVariants.{OutsideZone, AtParent, Referral, Redirected, NoData, WildcardNoData, NameError, NoCloserName}
+use Rattle.domain_answer.specs.declared.answer.Answer.TheVariants.{NotProven}
 
 -- the record's owner is a zone cut or owns a DNAME record
 abbrev pub tells_occluder : Name → Link → Bool

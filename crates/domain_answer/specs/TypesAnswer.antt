@@ -4,8 +4,7 @@ use Rattle.domain_octets.specs.Words.{Octets}
 use Rattle.domain_base.specs.Types.{cname, ds, soa}
 use Rattle.domain_bitmap.specs.Blocks.{contains_type}
 use Rattle.domain_answer.specs.declared.answer.Answer.{Answer}
-use Rattle.domain_answer.specs.declared.answer.Answer.TheVariants.{Referral, Has, NoDs, Alias, NoData, NotProven}
-use Rattle.domain_answer.specs.declared.answer.Answer.TheVariants.{Wildcard, WildcardAlias, WildcardNoData}
+use Rattle.domain_answer.specs.declared.answer.Answer.TheVariants.{Referral, Has, NoDs, Alias, NoData, NotProven, Wildcard, WildcardAlias, WildcardNoData}
 
 -- a zone cut whose record lists SOA is the apex of a child zone, and the record that zone's: the
 -- parent's does not list it (RFC 5155, section 8.9; RFC 6840, section 4.4)

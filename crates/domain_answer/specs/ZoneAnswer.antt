@@ -2,18 +2,15 @@
 -- section 3.2), over its records L alone; a is the apex. A name of the zone is one that is not
 -- occluded, where owners of DNAME records occlude too: nothing below them is a name of the zone
 -- (RFC 6672, section 2.4).
-use Rattle.std.specs.Prelude.{ℕ, Bool, true, not, ◌&&◌, ◌||◌, ◌==◌, List, [], ◌∷◌, Option, Some, None, length, if◌then◌else◌}
-use Rattle.std.specs.Option.{option_or}
-use Rattle.domain_names.specs.Name.{is_at_or_below, same_name}
+use Rattle.std.specs.{Prelude.{ℕ, Bool, true, not, ◌&&◌, ◌||◌, ◌==◌, List, [], ◌∷◌, Option, Some, None, length, if◌then◌else◌}, Option.option_or}
+use Rattle.domain_names.specs.{Name.{is_at_or_below, same_name}, Words.{Label, Name}}
 use Rattle.domain_base.specs.Types.{cname, ds}
-use Rattle.domain_names.specs.Words.{Label, Name}
-use Rattle.domain_zone.specs.Enclosers.{exists_over}
-use Rattle.domain_zone.specs.Zone.{ZoneRecord, is_zone_cut, occludes, owns, unoccluded_owners}
+use Rattle.domain_zone.specs.{Enclosers.exists_over, Zone.{ZoneRecord, is_zone_cut, occludes, owns, unoccluded_owners}}
 use Rattle.domain_nsec.specs.Chain.{nsec_lists}
 use Rattle.domain_checker.specs.Verdict.{closest_encloser}
 use Rattle.domain_answer.specs.declared.answer.Answer.{Answer}
-use Rattle.domain_answer.specs.declared.answer.Answer.TheVariants.{OutsideZone, AtParent, Referral, Redirected, Has, NoDs, Alias, NoData}
-use Rattle.domain_answer.specs.declared.answer.Answer.TheVariants.{Wildcard, WildcardAlias, WildcardNoData, NameError}
+use Rattle.domain_answer.specs.declared.answer.Answer.TheVariants.{OutsideZone, AtParent, Referral, Redirected, Has, NoDs, Alias, NoData, Wildcard}
+use Rattle.domain_answer.specs.declared.answer.Answer.TheVariants.{WildcardAlias, WildcardNoData, NameError}
 
 -- x is an owner that is not occluded, or an ancestor of one
 abbrev pub name_exists : List ZoneRecord → Name → Name → Bool

@@ -7,10 +7,9 @@ ghost use Rattle.domain_nsec.specs.Chain.{IsChain, Link};
 ghost use Rattle.domain_nsec.specs.declared.config.GenerateNsecConfig.{GenerateNsecConfig};
 ghost use Rattle.domain_checker.specs.Alike.{ArePaired, IsAlike, IsPairedIn};
 ghost use Rattle.domain_answer.specs.Kinds.{IsSo};
-ghost use Rattle.domain_answer.specs.Proved.{proved_answer, CountsWithin, IsAnswered, LeavesOutBelowDname, RestsOn};
-ghost use Rattle.domain_answer.specs.Reading.{reading};
-ghost use Rattle.domain_answer.specs.ZoneAnswer.{zone_answer};
-ghost use Rattle.domain_answer.specs.declared.answer.Answer.{Answer};
+ghost use Rattle.domain_answer.specs.Proved.{proved_answer, CountsWithin, IsAnswered};
+ghost use Rattle.domain_answer.specs.{Proved.{LeavesOutBelowDname, RestsOn}, Reading.reading};
+ghost use Rattle.domain_answer.specs.{ZoneAnswer.zone_answer, declared.answer.Answer.Answer};
 ghost use Rattle.domain_answer.specs.declared.answer.Answer.TheVariants.{NoCloserName, NotProven};
 
 pub use crate::nsec3_laws::{

@@ -1,11 +1,9 @@
 //! What one NSEC record tells.
-ghost use Rattle.std.specs.Prelude.{◌≡◌, Some, None, IfSome, cond};
-ghost use Rattle.std.specs.Option.{is_some, option_map};
+ghost use Rattle.std.specs.{Prelude.{◌≡◌, Some, None, IfSome, cond}, Option.{is_some, option_map}};
 ghost use Rattle.domain_names.specs.Order.{before, common_labels};
 ghost use Rattle.domain_zone.specs.Covering.{covers};
 ghost use Rattle.domain_nsec.specs.ChainView.{as_link};
-ghost use Rattle.domain_checker.specs.Reading.{is_cover, is_match};
-ghost use Rattle.domain_checker.specs.Verdict.{is_inside};
+ghost use Rattle.domain_checker.specs.{Reading.{is_cover, is_match}, Verdict.is_inside};
 ghost use Rattle.domain_answer.specs.Found.{cover_link, IsSharing};
 ghost use Rattle.domain_answer.specs.Reading.{tells_occluded, tells_occluder};
 

@@ -2,13 +2,12 @@
 ghost use Rattle.std.specs.Prelude.{◌≡◌, ◌<◌, ℕ, List, true, length};
 ghost use Rattle.domain_names.specs.Order.{before};
 ghost use Rattle.domain_zone.specs.Covering.{covers};
-ghost use Rattle.domain_nsec.specs.Chain.{Link};
-ghost use Rattle.domain_nsec.specs.ChainView.{as_link, links_of};
-ghost use Rattle.domain_answer.specs.Found.{cover_link, IsSharing};
-ghost use Rattle.domain_answer.specs.NameAnswer.{IsNameAnswer};
+ghost use Rattle.domain_nsec.specs.{Chain.Link, ChainView.{as_link, links_of}};
+ghost use Rattle.domain_answer.specs.{Found.{cover_link, IsSharing}, NameAnswer.IsNameAnswer};
 ghost use Rattle.domain_answer.specs.Proved.{CountsWithin, IsAnswered, RestsOn};
-ghost use Rattle.domain_answer.specs.Reading.{absent_answer, cover_answer, listed_answer, match_answer, owner_answer, reading};
-ghost use Rattle.domain_answer.specs.Reading.{wildcard_answer, wildcard_cover_answer, wildcard_match_answer};
+ghost use Rattle.domain_answer.specs.Reading.{absent_answer, cover_answer, listed_answer};
+ghost use Rattle.domain_answer.specs.Reading.{match_answer, owner_answer, reading, wildcard_answer};
+ghost use Rattle.domain_answer.specs.Reading.{wildcard_cover_answer, wildcard_match_answer};
 
 use crate::found::{NsecCover, NsecFound, find_nsec};
 use crate::listed::tells_occluded;

@@ -1,9 +1,8 @@
 //! What records of an NSEC3 chain answer.
-ghost use Rattle.std.specs.Prelude.{◌≡◌, ◌<◌, ◌≤◌, ◌⊎◌, ℕ, Ok, Err, true, false, length, IfOk, IfErr, IsErrOf};
-ghost use Rattle.std.specs.Option.{option_map};
+ghost use Rattle.std.specs.Prelude.{◌≡◌, ◌<◌, ◌≤◌, ◌⊎◌, ℕ, Ok, Err, true, false, length, IfOk};
+ghost use Rattle.std.specs.{Prelude.{IfErr, IsErrOf}, Option.option_map};
 ghost use Rattle.domain_names.specs.Name.{is_at_or_below, last_labels};
-ghost use Rattle.domain_nsec3.specs.Config.{hash_name};
-ghost use Rattle.domain_nsec3.specs.View.{as_hashed_link};
+ghost use Rattle.domain_nsec3.specs.{Config.hash_name, View.as_hashed_link};
 ghost use Rattle.domain_hasher.specs.declared.error.Nsec3HashError.TheVariants as hash_error;
 ghost use Rattle.domain_checker.specs.HashedEncloser.{encloser_of};
 ghost use Rattle.domain_checker.specs.HashedPass.{found_cover, found_match};

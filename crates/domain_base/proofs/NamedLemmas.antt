@@ -1,19 +1,11 @@
 -- tables of numbers and names, entry by entry
 use Rattle.std.proofs.lemmas.Grind.{common_steps}
 use Rattle.std.proofs.Common.{◌≡◌, ℕ, ◌+◌, ◌-◌, ◌<◌, List, [], Bool, true, false, Some, None, map, length, get_or, drop, sym, ap, subst, ◌∙◌, arith, ◌↔◌}
-use Rattle.std.proofs.Common.{IsTrue, length-append}
-use Rattle.std.specs.Prelude.{◌^◌, Option, IsSome, IfSome, IfNone}
-use Rattle.std.specs.Option.{SomeIff}
-use Rattle.std.specs.Str.Parse.{IsNumeral, digits_value}
-use Rattle.domain_base.specs.Scan.{IsNumber}
-use Rattle.std.specs.Borrow.{Bor}
-use Rattle.std.specs.Str.{IsAscii, IsUtf8, IsCharBoundary}
-use Rattle.std.proofs.lemmas.Str.{IsCharBoundary-after_ascii}
-use Rattle.std.specs.Char.{to_ascii_lowercase}
-use Rattle.std.specs.Cmp.Lexicographic.{bytes_decides}
-use Rattle.std.proofs.lemmas.List.{drop_more, length-map, get_or-map, get_or_append_left, drop_at}
-use Rattle.std.proofs.lemmas.Bool.Decides.{nat_tests, same_from_decides}
-use Rattle.domain_base.specs.Named.{Named, same_text, number_named, HasPrefix, IsWithoutPrefix, NumberText, by_name, by_number, entries}
+use Rattle.std.proofs.{Common.{IsTrue, length-append}, lemmas.Str.IsCharBoundary-after_ascii}
+use Rattle.std.proofs.lemmas.{List.{drop_more, length-map, get_or-map, get_or_append_left, drop_at}, Bool.Decides.{nat_tests, same_from_decides}}
+use Rattle.std.specs.{Prelude.{◌^◌, Option, IsSome, IfSome, IfNone}, Option.SomeIff, Str.Parse.{IsNumeral, digits_value}, Borrow.Bor}
+use Rattle.std.specs.{Str.{IsAscii, IsUtf8, IsCharBoundary}, Char.to_ascii_lowercase, Cmp.Lexicographic.bytes_decides}
+use Rattle.domain_base.specs.{Scan.IsNumber, Named.{Named, same_text, number_named, HasPrefix, IsWithoutPrefix, NumberText, by_name, by_number, entries}}
 
 abbrev pub Row : Type 0
 Row = ℕ × Bor (List ℕ)

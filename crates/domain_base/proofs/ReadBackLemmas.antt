@@ -1,21 +1,12 @@
 -- what numbers, types, classes and names are written as is read back
 use Rattle.std.proofs.lemmas.Grind.{common_steps}
-use Rattle.std.proofs.Common.{◌≡◌, ◌≢◌, ℕ, ◌+◌, ◌-◌, ◌*◌, ◌/◌, ◌%◌, ◌<◌, true, false, List, [], ◌∷◌, ◌++◌, Some, None, length, drop, codes, refl, ap}
-use Rattle.std.proofs.Common.{sym, subst, ◌∙◌, arith, inl, inr}
-use Rattle.std.specs.Prelude.{◌^◌, ◌==◌, ◌&&◌, not, nat_le, Option, unwrap_or}
-use Rattle.std.specs.List.{AllByRecursion, list_all}
-use Rattle.std.specs.Fmt.{decimal}
-use Rattle.std.specs.Char.{is_ascii_digit, is_ascii_graphic}
-use Rattle.std.proofs.lemmas.Fmt.{decimal_is_IsNumeral}
-use Rattle.std.proofs.lemmas.List.{append_assoc, append-nil}
-use Rattle.std.proofs.lemmas.List.Elements.{recursion_from_All}
-use Rattle.std.proofs.lemmas.Bool.{cases_Bool, and_parts}
-use Rattle.std.proofs.lemmas.Bool.Decides.{nat_tests}
-use Rattle.domain_octets.specs.Line.{HasNoSpace, IsWord}
-use Rattle.domain_octets.proofs.WordLemmas.{no_space-append, decimal_word}
+use Rattle.std.proofs.Common.{◌≡◌, ◌≢◌, ℕ, ◌+◌, ◌-◌, ◌*◌, ◌/◌, ◌%◌, ◌<◌, true, false, List, [], ◌∷◌, ◌++◌, Some, None, length, drop, codes, refl, ap, sym}
+use Rattle.std.proofs.{Common.{subst, ◌∙◌, arith, inl, inr}, lemmas.{Fmt.decimal_is_IsNumeral, List.{append_assoc, append-nil, Elements.recursion_from_All}}}
+use Rattle.std.{proofs.lemmas.Bool.{cases_Bool, and_parts, Decides.nat_tests}, specs.Prelude.{◌^◌, ◌==◌, ◌&&◌, not, nat_le, Option, unwrap_or}}
+use Rattle.std.specs.{List.{AllByRecursion, list_all}, Fmt.decimal, Char.{is_ascii_digit, is_ascii_graphic}}
+use Rattle.domain_octets.{specs.Line.{HasNoSpace, IsWord}, proofs.WordLemmas.{no_space-append, decimal_word}}
 use Rattle.domain_base.specs.Named.{Named, number_named, name_of, NumberText, by_name, by_number}
-use Rattle.domain_base.specs.Numbers.{type_names, TypeText, type_text, class_names, ClassText, class_text}
-use Rattle.domain_base.specs.Scan.{IsNumber}
+use Rattle.domain_base.specs.{Numbers.{type_names, TypeText, type_text, class_names, ClassText, class_text}, Scan.IsNumber}
 use Rattle.domain_names.specs.Name.{IsLabel, IsName}
 use Rattle.domain_names.specs.Text.{symbol_at, is_printable, is_special, octet_text, label_text, dotted_text, name_text, LabelText, at_end, at_dot, octet}
 use Rattle.domain_names.specs.Text.{LabelTexts, last, last_with_dot, dotted, NameText, root, of_labels}

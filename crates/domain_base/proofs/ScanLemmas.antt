@@ -1,9 +1,6 @@
 -- tokens that are taken
-use Rattle.std.proofs.lemmas.List.{append-nil}
-use Rattle.std.proofs.Common.{◌≡◌, ℕ, List, [], ◌∷◌, drop, sym, ap, subst, ◌∙◌, Result, Ok, Err}
-use Rattle.std.specs.Prelude.{IfErr}
-use Rattle.domain_names.specs.declared.error.ScanError.{ScanError}
-use Rattle.domain_names.specs.TextFault.{ScanFault, entry_ends, scan_fault_of}
+use Rattle.std.{proofs.{lemmas.List.append-nil, Common.{◌≡◌, ℕ, List, [], ◌∷◌, drop, sym, ap, subst, ◌∙◌, Result, Ok, Err}}, specs.Prelude.IfErr}
+use Rattle.domain_names.specs.{declared.error.ScanError.ScanError, TextFault.{ScanFault, entry_ends, scan_fault_of}}
 use Rattle.domain_base.specs.Scan.{RefusesToken, ended, refused, IsEnd}
 
 pub no_token : (Why : ScanFault → List ℕ → Type 0) (old new : List (List ℕ)) → old ≡ [] → new ≡ [] → RefusesToken Why old new entry_ends

@@ -1,9 +1,8 @@
 -- types and classes of records as text
 use Rattle.std.specs.Prelude.{◌≡◌, ℕ, List, [], ◌∷◌, codes}
 use Rattle.domain_octets.specs.Words.{Octets}
-use Rattle.domain_base.specs.Named.{Named, NumberText, number_text}
+use Rattle.domain_base.specs.{Named.{Named, NumberText, number_text}, Classes.{in_class, ch_class, hs_class}}
 use Rattle.domain_names.specs.TextFault.{ScanFault, illegal}
-use Rattle.domain_base.specs.Classes.{in_class, ch_class, hs_class}
 use Rattle.domain_base.specs.Types as rtypes
 
 -- the types that are known by a name, in the order of the code's table

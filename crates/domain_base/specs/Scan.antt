@@ -1,12 +1,8 @@
 -- the tokens of an entry, and what is read from them
-use Rattle.std.specs.Prelude.{◌≡◌, ℕ, ◌<◌, ◌^◌, [], ◌∷◌, ◌++◌, codes, Option, IsNone}
-use Rattle.std.specs.Str.Parse.{IsNumeral, digits_value}
-use Rattle.std.specs.List.{concat}
-use Rattle.domain_codecs.specs.Codec.{Decodes, IsText, HasNoRoom}
-use Rattle.domain_codecs.specs.declared.codec.Codec.{Codec}
+use Rattle.std.specs.{Prelude.{◌≡◌, ℕ, ◌<◌, ◌^◌, [], ◌∷◌, ◌++◌, codes, Option, IsNone}, Str.Parse.{IsNumeral, digits_value}, List.concat}
+use Rattle.domain_codecs.specs.{Codec.{Decodes, IsText, HasNoRoom}, declared.codec.Codec.Codec}
 use Rattle.domain_octets.specs.Words.{Octets}
-use Rattle.domain_names.specs.TextFault.{ScanFault, entry_ends, illegal, no_room, no_memory}
-use Rattle.domain_names.specs.Words.{Tokens, Token}
+use Rattle.domain_names.specs.{TextFault.{ScanFault, entry_ends, illegal, no_room, no_memory}, Words.{Tokens, Token}}
 
 -- the first token was taken, and P holds of it
 pub record TakesToken (P : Token → Type 0) (old new : Tokens) : Type 0 where

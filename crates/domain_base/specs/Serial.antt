@@ -1,11 +1,8 @@
 -- serial numbers (RFC 1982)
-use Rattle.std.specs.Prelude.{ℕ, ◌+◌, ◌-◌, ◌%◌, ◌^◌, ◌==◌, nat_lt, if◌then◌else◌, Option, Some, None, Result, MatchResult}
-use Rattle.std.specs.Str.Parse.{without_leading_plus}
-use Rattle.std.specs.declared.cmp.Ordering.{Ordering}
-use Rattle.std.specs.declared.cmp.Ordering.TheVariants.{Less, Equal, Greater}
+use Rattle.std.specs.{Prelude.{ℕ, ◌+◌, ◌-◌, ◌%◌, ◌^◌, ◌==◌, nat_lt, if◌then◌else◌, Option, Some, None, Result, MatchResult}, Str.Parse.without_leading_plus}
+use Rattle.std.specs.declared.cmp.Ordering.{Ordering, TheVariants.{Less, Equal, Greater}}
 use Rattle.domain_octets.specs.Words.{Octets}
-use Rattle.domain_names.specs.declared.error.ScanError.{ScanError}
-use Rattle.domain_names.specs.TextFault.{scan_fault_of}
+use Rattle.domain_names.specs.{declared.error.ScanError.ScanError, TextFault.scan_fault_of}
 use Rattle.domain_base.specs.Scan.{IsNumber, IsNoNumber}
 
 -- how far the second number is ahead of the first

@@ -1,9 +1,8 @@
 //! Numbers that have names of their own.
 ghost use Rattle.std.specs.Prelude.{◌≡◌, ◌<◌, ℕ, length, IfSome, IfNone, MatchOption};
-ghost use Rattle.std.specs.Option.{option_map};
-ghost use Rattle.std.specs.Str.{IsAscii};
-ghost use Rattle.std.specs.Fmt.{WritesOnOk};
-ghost use Rattle.domain_base.specs.Named.{entries, number_named, name_of, HasPrefix, IsWithoutPrefix, NumberText, number_text};
+ghost use Rattle.std.specs.{Option.option_map, Str.IsAscii, Fmt.WritesOnOk};
+ghost use Rattle.domain_base.specs.Named.{entries, number_named, name_of, HasPrefix};
+ghost use Rattle.domain_base.specs.Named.{IsWithoutPrefix, NumberText, number_text};
 
 use crate::number;
 use std::fmt;

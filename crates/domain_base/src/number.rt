@@ -1,6 +1,5 @@
 //! Numbers as text.
-ghost use Rattle.std.specs.Prelude.{◌<◌, ◌^◌};
-ghost use Rattle.std.specs.Option.{SomeIff};
+ghost use Rattle.std.specs.{Prelude.{◌<◌, ◌^◌}, Option.SomeIff};
 ghost use Rattle.std.specs.Str.Parse.{IsNumeral, digits_value};
 ghost use Rattle.domain_base.specs.Scan.{IsNumber, IsNoNumber};
 

@@ -1,14 +1,13 @@
 //! The tokens of an entry of a zone file.
-ghost use Rattle.std.specs.Prelude.{◌≡◌, ◌≢◌, ◌↔◌, ◌∷◌, [], ℕ, Option, drop, length, map, IsTrue, IfOk, IfErr, IsErrOf, IsOkAnd, OnOk, MatchOption};
-ghost use Rattle.std.specs.Fn.{FnOnceReturnsAt};
+ghost use Rattle.std.specs.Prelude.{◌≡◌, ◌≢◌, ◌↔◌, ◌∷◌, [], ℕ, Option, drop, length, map, IsTrue};
+ghost use Rattle.std.specs.Prelude.{IfOk, IfErr, IsErrOf, IsOkAnd, OnOk, MatchOption};
+ghost use Rattle.std.specs.{Fn.FnOnceReturnsAt, List.concat};
 ghost use Rattle.domain_names.specs.TextFault.{ScanFault, scan_fault_of, NameTextFault};
-ghost use Rattle.domain_base.specs.Scan.{TakesToken, RefusesToken, CodecFault, TokenHasNoRoom, EntryFault, IsEnd};
+ghost use Rattle.domain_names.specs.{Text.NameText, Words.{Tokens, Token}};
+ghost use Rattle.domain_base.specs.Scan.{TakesToken, RefusesToken, CodecFault, TokenHasNoRoom};
+ghost use Rattle.domain_base.specs.Scan.{EntryFault, IsEnd};
 ghost use Rattle.domain_codecs.specs.Codec.{Decodes, HasNoRoom, DecodeFault};
-ghost use Rattle.domain_octets.specs.Limit.{HasRoom};
-ghost use Rattle.std.specs.List.{concat};
-ghost use Rattle.domain_names.specs.Text.{NameText};
-ghost use Rattle.domain_names.specs.Words.{Tokens, Token};
-ghost use Rattle.domain_octets.specs.Words.{Octets};
+ghost use Rattle.domain_octets.specs.{Limit.HasRoom, Words.Octets};
 
 use domain_codecs::{Codec, DecodeError};
 use domain_names::{Name, ScanError, ToName};

@@ -1,12 +1,9 @@
 //! Serial numbers.
-ghost use Rattle.std.specs.Prelude.{◌≡◌, ◌<◌, ◌+◌, ◌++◌, ◌↔◌, length, Some, IsNone, IsErr, IfOk, IfErr, OnOk, OnErr, IsErrOf};
-ghost use Rattle.std.specs.Fmt.{decimal};
-ghost use Rattle.std.specs.Int.{w32, to_be_bytes};
-ghost use Rattle.std.specs.Ordering.{nat_cmp};
-ghost use Rattle.domain_octets.specs.Limit.{IsOver};
-ghost use Rattle.domain_octets.specs.Place.{Takes};
+ghost use Rattle.std.specs.Prelude.{◌≡◌, ◌<◌, ◌+◌, ◌++◌, ◌↔◌, length, Some, IsNone, IsErr, IfOk};
+ghost use Rattle.std.specs.{Prelude.{IfErr, OnOk, OnErr, IsErrOf}, Fmt.decimal};
+ghost use Rattle.std.specs.{Int.{w32, to_be_bytes}, Ordering.nat_cmp, Cmp.nat_cmp_total};
+ghost use Rattle.domain_octets.specs.{Limit.IsOver, Place.Takes};
 ghost use Rattle.domain_base.specs.Serial.{ReadsSerial, serial_cmp};
-ghost use Rattle.std.specs.Cmp.{nat_cmp_total};
 
 use domain_names::{CanonicalOrd, ParseError, ScanError};
 use domain_octets::{AppendError, OctetsBuilder, Parser};

@@ -1,6 +1,5 @@
 //! Times to live.
-ghost use Rattle.std.specs.Prelude.{◌≡◌, ◌*◌, Some, IfOk, IfErr};
-ghost use Rattle.std.specs.Fmt.{decimal};
+ghost use Rattle.std.specs.{Prelude.{◌≡◌, ◌*◌, Some, IfOk, IfErr}, Fmt.decimal};
 ghost use Rattle.domain_names.specs.TextFault.{scan_fault_of};
 ghost use Rattle.domain_base.specs.Scan.{IsNumber, IsNoNumber, RefusesToken, TakesToken};
 

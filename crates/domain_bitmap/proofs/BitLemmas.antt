@@ -1,11 +1,8 @@
 -- bits of octets
 use Rattle.std.proofs.Common.{◌≡◌, ℕ, ◌+◌, ◌-◌, ◌*◌, ◌/◌, ◌%◌, ◌^◌, ◌<◌, ◌≤◌, ◌≢◌, Bool, true, false, refl, sym, ap, ◌∙◌, inl, inr, w8, arith, rules}
-use Rattle.std.specs.Prelude.{◌||◌, ◌==◌, bit_or, bit_and}
-use Rattle.std.specs.Int.{bit_at}
 use Rattle.std.proofs.lemmas.Nat.Bits.{bit_at_set_same, bit_at_set_other, shr_and_one, same_from_bits_below, bit_at-lt, bit_at-zero}
-use Rattle.std.proofs.lemmas.Bool.Decides.{nat_tests, eqb_tells}
+use Rattle.std.{proofs.lemmas.{Bool.Decides.{nat_tests, eqb_tells}, Grind.common_steps}, specs.{Prelude.{◌||◌, ◌==◌, bit_or, bit_and}, Int.bit_at}}
 use Rattle.domain_bitmap.specs.Bits.{bit_of, octet_with, weight}
-use Rattle.std.proofs.lemmas.Grind.{common_steps}
 
 -- a bit as a number
 digit : Bool → ℕ

@@ -1,17 +1,11 @@
 -- the octets of a set of types
-use Rattle.std.proofs.Common.{subst}
-use Rattle.std.proofs.Common.{◌≡◌, ℕ, zero, suc, ◌+◌, ◌*◌, ◌/◌, ◌<◌, ◌≤◌, Bool, false, List, [], ◌∷◌, ◌++◌, length, get_or, refl, sym, ap, ◌∙◌, arith, zero-add}
-use Rattle.std.proofs.lemmas.List.{append-nil}
-use Rattle.std.specs.List.{AllByRecursion, flat_map, range_with_len}
-use Rattle.std.proofs.lemmas.List.FromFn.{length-map-range_with_len, get_or-map-range_with_len, fill_by_all}
-use Rattle.domain_bitmap.specs.Bits.{bit_of, octet_with}
-use Rattle.domain_bitmap.specs.Bitmap.{window_octets, trimmed, block_with, window_block, bitmap_octets}
-use Rattle.domain_bitmap.specs.Blocks.{Block, IsBlock, octets_of_blocks, IsBitmap}
-use Rattle.domain_bitmap.proofs.RangeLemmas.{flat_same, flat_more, flat_length}
+use Rattle.std.proofs.Common.{subst, ◌≡◌, ℕ, zero, suc, ◌+◌, ◌*◌, ◌/◌, ◌<◌, ◌≤◌, Bool, false, List, [], ◌∷◌, ◌++◌, length, get_or, refl, sym, ap, ◌∙◌, arith}
+use Rattle.std.proofs.{Common.zero-add, lemmas.List.{append-nil, FromFn.{length-map-range_with_len, get_or-map-range_with_len, fill_by_all}}}
+use Rattle.std.{proofs.lemmas.Grind.common_steps, specs.List.{AllByRecursion, flat_map, range_with_len}}
+use Rattle.domain_bitmap.specs.{Bits.{bit_of, octet_with}, Bitmap.{window_octets, trimmed, block_with, window_block, bitmap_octets}}
+use Rattle.domain_bitmap.{specs.Blocks.{Block, IsBlock, octets_of_blocks, IsBitmap}, proofs.RangeLemmas.{flat_same, flat_more, flat_length}}
 use Rattle.domain_bitmap.proofs.BitLemmas.{octet_with-lt, octet_with-same, octet_with-none, octet_with-bit_of, bit_of-octet_with}
-use Rattle.domain_bitmap.proofs.TrimLemmas.{get_or-trimmed, length-trimmed, trimmed-zeros}
-use Rattle.domain_bitmap.proofs.BlockLemmas.{IsBitmap-octets_of_blocks}
-use Rattle.std.proofs.lemmas.Grind.{common_steps}
+use Rattle.domain_bitmap.proofs.{TrimLemmas.{get_or-trimmed, length-trimmed, trimmed-zeros}, BlockLemmas.IsBitmap-octets_of_blocks}
 
 pub length-window_octets : (types : ℕ → Bool) (w : ℕ) → length (window_octets types w) ≡ 32
 unfolding window_octets

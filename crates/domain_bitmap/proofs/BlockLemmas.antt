@@ -1,16 +1,11 @@
 -- octets read as blocks
-use Rattle.std.proofs.Common.{◌≡◌, ℕ, zero, suc, ◌+◌, ◌-◌, ◌*◌, ◌/◌, ◌%◌, ◌<◌, ◌≤◌, ◌≢◌, true, false, List, [], ◌∷◌, length, slice_index, get_or}
-use Rattle.std.proofs.Common.{take, drop, refl, sym, ap, ◌∙◌, subst, arith, length-append}
-use Rattle.std.specs.List.{AllByRecursion, flat_map}
-use Rattle.std.proofs.lemmas.List.{take_at, drop_at}
-use Rattle.std.proofs.lemmas.List.Elements.{All-append, All-nil}
+use Rattle.std.proofs.Common.{◌≡◌, ℕ, zero, suc, ◌+◌, ◌-◌, ◌*◌, ◌/◌, ◌%◌, ◌<◌, ◌≤◌, ◌≢◌, true, false, List, [], ◌∷◌, length, slice_index, get_or, take, drop}
+use Rattle.std.proofs.{Common.{refl, sym, ap, ◌∙◌, subst, arith, length-append}, lemmas.List.{take_at, drop_at, Elements.{All-append, All-nil}}}
+use Rattle.std.{proofs.lemmas.Grind.common_steps, specs.List.{AllByRecursion, flat_map}}
 use Rattle.domain_octets.specs.Words.{AreOctets}
-use Rattle.domain_bitmap.proofs.RangeLemmas.{filter_none}
-use Rattle.domain_bitmap.proofs.BitLemmas.{bit_of-zero}
+use Rattle.domain_bitmap.proofs.{RangeLemmas.filter_none, BitLemmas.bit_of-zero}
 use Rattle.domain_bitmap.specs.Blocks.{Block, IsBlock, octets_of_blocks, blocks_within, blocks_of, IsBitmap, block_types_from, types_from, types_of}
-use Rattle.domain_bitmap.specs.Blocks.{contains_type}
-use Rattle.domain_bitmap.specs.Bits.{bit_of, AreClear, IsFirstBit, has_bit}
-use Rattle.std.proofs.lemmas.Grind.{common_steps}
+use Rattle.domain_bitmap.specs.{Blocks.contains_type, Bits.{bit_of, AreClear, IsFirstBit, has_bit}}
 
 blocks_within-octets_of_blocks : (blocks : List Block) (n : ℕ) → length (octets_of_blocks blocks) ≤ n → blocks_within n (octets_of_blocks blocks) ≡ blocks
 unfolding blocks_within

@@ -1,17 +1,11 @@
 -- octets after an octet that counts them
-use Rattle.std.proofs.lemmas.Bool.Decides.{leb_tells}
-use Rattle.std.proofs.Common.{true, false, inl, inr, ◌≤◌, ◌≡◌, ℕ, ◌<◌, List, length, ap, sym, refl, subst, arith}
-use Rattle.std.specs.Prelude.{◌↔◌, Option, Result, Ok, IsErrOf}
-use Rattle.domain_names.specs.declared.error.ScanError.{ScanError}
-use Rattle.domain_names.specs.declared.error.ScanError.TheVariants.{ShortBuf}
+use Rattle.std.proofs.{lemmas.Bool.Decides.leb_tells, Common.{true, false, inl, inr, ◌≤◌, ◌≡◌, ℕ, ◌<◌, List, length, ap, sym, refl, subst, arith}}
+use Rattle.std.{proofs.lemmas.Grind.common_steps, specs.Prelude.{◌↔◌, Option, Result, Ok, IsErrOf}}
+use Rattle.domain_names.specs.{declared.error.ScanError.{ScanError, TheVariants.ShortBuf}, TextFault.{ScanFault, illegal}}
 use Rattle.domain_octets.specs.Limit.{HasRoom}
-use Rattle.domain_codecs.specs.Codec.{Decodes}
-use Rattle.domain_codecs.specs.declared.codec.Codec.{Codec}
-use Rattle.domain_names.specs.TextFault.{ScanFault, illegal}
+use Rattle.domain_codecs.specs.{Codec.Decodes, declared.codec.Codec.Codec}
 use Rattle.domain_base.specs.Scan.{CodecFault, TokenHasNoRoom, TakesToken, RefusesToken, ended, refused}
-use Rattle.domain_bitmap.specs.HashScan.{CountedFault}
-use Rattle.domain_bitmap.specs.Counted.{IsCutShort}
-use Rattle.std.proofs.lemmas.Grind.{common_steps}
+use Rattle.domain_bitmap.specs.{HashScan.CountedFault, Counted.IsCutShort}
 
 -- there is no length
 pub cut_at_length : (left : List ℕ) → length left < 1 → IsCutShort left

@@ -1,14 +1,11 @@
 -- why octets are no list of blocks
 use Rattle.std.proofs.lemmas.Grind.{common_steps}
 use Rattle.std.proofs.Common.{◌≡◌, ℕ, suc, ◌+◌, ◌-◌, ◌<◌, ◌≤◌, ◌⊎◌, inl, inr, List, [], ◌∷◌, ◌++◌, length, get_or, take, drop, refl, sym, ap, ◌∙◌, subst, arith}
-use Rattle.std.proofs.lemmas.List.{take-append-drop, length-take, get_or-take, get_or-drop, get_or_past, drop_at}
-use Rattle.std.proofs.lemmas.Bool.Decides.{leb_tells}
-use Rattle.domain_bitmap.specs.declared.error.RtypeBitmapError.{RtypeBitmapError}
-use Rattle.domain_bitmap.specs.declared.error.RtypeBitmapError.TheVariants.{ShortInput, BadRtypeBitmap}
-use Rattle.domain_names.specs.Fault.{Fault}
+use Rattle.std.proofs.lemmas.{List.{take-append-drop, length-take, get_or-take, get_or-drop, get_or_past, drop_at}, Bool.Decides.leb_tells}
+use Rattle.domain_bitmap.specs.declared.error.RtypeBitmapError.{RtypeBitmapError, TheVariants.{ShortInput, BadRtypeBitmap}}
 use Rattle.domain_bitmap.specs.Fault.{BitmapFault, bitmap_fault_of, FirstBlockFault, no_length, bad_length, cut_block, after}
-use Rattle.domain_bitmap.specs.Blocks.{Block, IsBitmap, octets_of_blocks, blocks_of}
-use Rattle.domain_bitmap.proofs.BlockLemmas.{IsBitmap-octets_of_blocks, block_at, add_two}
+use Rattle.domain_bitmap.{specs.Blocks.{Block, IsBitmap, octets_of_blocks, blocks_of}, proofs.BlockLemmas.{IsBitmap-octets_of_blocks, block_at, add_two}}
+use Rattle.domain_names.specs.Fault.{Fault}
 
 -- what is left of octets of which blocks were read
 pub record Reading (octets rest : List ℕ) : Type 0 where

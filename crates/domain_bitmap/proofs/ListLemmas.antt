@@ -1,10 +1,7 @@
 -- bitmaps whose octets stand one after another
 use Rattle.std.proofs.Common.{◌≡◌, ℕ, zero, suc, ◌+◌, ◌<◌, ◌≤◌, List, [], ◌∷◌, ◌++◌, length, get_or, refl, sym, ap, ◌∙◌, arith}
-use Rattle.std.specs.Prelude.{slice_range}
-use Rattle.std.proofs.lemmas.List.Elements.{All-get_or}
-use Rattle.domain_bitmap.specs.Blocks.{IsBitmap}
-use Rattle.domain_bitmap.specs.List.{cut_at, EndAt, AreBitmaps}
-use Rattle.std.proofs.lemmas.Grind.{common_steps}
+use Rattle.std.{proofs.lemmas.{List.Elements.All-get_or, Grind.common_steps}, specs.Prelude.slice_range}
+use Rattle.domain_bitmap.specs.{Blocks.IsBitmap, List.{cut_at, EndAt, AreBitmaps}}
 
 -- there are as many as there are ends
 pub length-cut_at : (ends : List ℕ) (start : ℕ) (octets : List ℕ) → length (cut_at ends start octets) ≡ length ends

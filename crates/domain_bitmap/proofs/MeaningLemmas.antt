@@ -1,21 +1,12 @@
 -- what the octets of a set of types say
-use Rattle.std.proofs.Common.{◌≡◌, ◌≢◌, ℕ, zero, suc, ◌+◌, ◌-◌, ◌*◌, ◌/◌, ◌%◌, ◌<◌, ◌≤◌, Bool, false, List, [], ◌∷◌, ◌++◌, refl, sym, ap, ◌∙◌, inl, inr}
-use Rattle.std.proofs.Common.{arith, add-one, add_comm}
-use Rattle.std.proofs.Math.Nat.{mul-suc}
-use Rattle.std.specs.Prelude.{filter}
-use Rattle.std.specs.List.{range_with_len, flat_map}
-use Rattle.std.proofs.lemmas.List.{append-nil}
-use Rattle.std.proofs.lemmas.List.Concat.{flat_map-append}
-use Rattle.domain_bitmap.proofs.RangeLemmas.{filter_same, filter_none, filter_append}
-use Rattle.std.proofs.lemmas.Bool.Decides.{eqb_tells}
-use Rattle.domain_bitmap.specs.Bits.{has_bit}
-use Rattle.domain_bitmap.specs.Bitmap.{window_octets, trimmed, bitmap_octets}
-use Rattle.domain_bitmap.specs.Blocks.{Block, blocks_of, in_first_block, contains_type, block_types_from, types_of, types_below}
-use Rattle.domain_bitmap.proofs.BitLemmas.{bit_of-octet_with, bit_of-zero}
-use Rattle.domain_bitmap.proofs.TrimLemmas.{get_or-trimmed}
+use Rattle.std.proofs.Common.{◌≡◌, ◌≢◌, ℕ, zero, suc, ◌+◌, ◌-◌, ◌*◌, ◌/◌, ◌%◌, ◌<◌, ◌≤◌, Bool, false, List, [], ◌∷◌, ◌++◌, refl, sym, ap, ◌∙◌, inl, inr, arith}
+use Rattle.std.proofs.{Common.{add-one, add_comm}, Math.Nat.mul-suc, lemmas.{List.{append-nil, Concat.flat_map-append}, Bool.Decides.eqb_tells}}
+use Rattle.std.{proofs.lemmas.Grind.common_steps, specs.{Prelude.filter, List.{range_with_len, flat_map}}}
+use Rattle.domain_bitmap.proofs.{RangeLemmas.{filter_same, filter_none, filter_append}, BitLemmas.{bit_of-octet_with, bit_of-zero}, TrimLemmas.get_or-trimmed}
 use Rattle.domain_bitmap.proofs.BlockLemmas.{blocks_of-octets_of_blocks}
 use Rattle.domain_bitmap.proofs.BitmapLemmas.{block_list, blocks_from, octets_of_blocks-blocks_from, get_or-window_octets}
-use Rattle.std.proofs.lemmas.Grind.{common_steps}
+use Rattle.domain_bitmap.specs.{Bits.has_bit, Bitmap.{window_octets, trimmed, bitmap_octets}}
+use Rattle.domain_bitmap.specs.Blocks.{Block, blocks_of, in_first_block, contains_type, block_types_from, types_of, types_below}
 
 -- the trimmed octets of a window have the bits of its types
 has_bit-window : (types : ℕ → Bool) (t : ℕ) → has_bit (trimmed (window_octets types (t / 256))) t ≡ types t

@@ -1,19 +1,11 @@
 -- blocks put in order
-use Rattle.std.proofs.Common.{◌≡◌, ℕ, zero, suc, ◌+◌, ◌-◌, ◌*◌, ◌/◌, ◌%◌, ◌<◌, ◌≤◌, max, Bool, true, false, List, [], ◌∷◌, ◌++◌, length, get_or, take}
-use Rattle.std.proofs.Common.{drop, refl, sym, ap, ◌∙◌, inl, inr, arith, add-one, add-zero, set}
-use Rattle.std.specs.Prelude.{◌||◌, ◌==◌, ◌&&◌, bit_or, nat_lt, if◌then◌else◌}
-use Rattle.std.specs.Int.{bit_at}
-use Rattle.std.specs.List.{range_with_len, list_any}
-use Rattle.std.proofs.lemmas.Nat.Bits.{bit_at_or, bit_at-lt}
-use Rattle.std.proofs.lemmas.List.{get_or-take, get_or-drop, length-take, length-drop}
-use Rattle.std.proofs.lemmas.Bool.Decides.{eqb_tells}
-use Rattle.domain_bitmap.specs.Bits.{bit_of}
-use Rattle.domain_bitmap.specs.Bitmap.{window_octets, window_block, block_with, trimmed, bitmap_octets}
-use Rattle.domain_bitmap.specs.Builder.{is_of_window, block_holds, has_window, holds}
-use Rattle.domain_bitmap.proofs.RangeLemmas.{any_more, any_suc, any_none, any_at, flat_single}
-use Rattle.domain_bitmap.proofs.BitmapLemmas.{window_octets-is, window_block-none}
-use Rattle.domain_bitmap.proofs.SlotLemmas.{window_absent}
-use Rattle.std.proofs.lemmas.Grind.{common_steps}
+use Rattle.std.proofs.Common.{◌≡◌, ℕ, zero, suc, ◌+◌, ◌-◌, ◌*◌, ◌/◌, ◌%◌, ◌<◌, ◌≤◌, max, Bool, true, false, List, [], ◌∷◌, ◌++◌, length, get_or, take, drop}
+use Rattle.std.proofs.{Common.{refl, sym, ap, ◌∙◌, inl, inr, arith, add-one, add-zero, set}, lemmas.Nat.Bits.{bit_at_or, bit_at-lt}}
+use Rattle.std.proofs.lemmas.{List.{get_or-take, get_or-drop, length-take, length-drop}, Bool.Decides.eqb_tells, Grind.common_steps}
+use Rattle.std.specs.{Prelude.{◌||◌, ◌==◌, ◌&&◌, bit_or, nat_lt, if◌then◌else◌}, Int.bit_at, List.{range_with_len, list_any}}
+use Rattle.domain_bitmap.specs.{Bits.bit_of, Bitmap.{window_octets, window_block, block_with, trimmed, bitmap_octets}}
+use Rattle.domain_bitmap.{specs.Builder.{is_of_window, block_holds, has_window, holds}, proofs.RangeLemmas.{any_more, any_suc, any_none, any_at, flat_single}}
+use Rattle.domain_bitmap.proofs.{BitmapLemmas.{window_octets-is, window_block-none}, SlotLemmas.window_absent}
 
 or_bits : (m n : ℕ) → m < 2 → n < 2 → (max m n == 1) ≡ ((m == 1) || (n == 1))
 or_bits m n m_small n_small = grind (arith, common_steps)

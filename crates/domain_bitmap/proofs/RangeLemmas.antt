@@ -1,13 +1,9 @@
 -- numbers in a row
 use Rattle.std.proofs.Common.{◌≡◌, ℕ, zero, suc, ◌+◌, ◌*◌, ◌<◌, ◌≤◌, ◌≢◌, Bool, true, false, List, [], ◌∷◌, ◌++◌, length, get_or, refl, sym, ap, ◌∙◌, inl, inr}
-use Rattle.std.proofs.Common.{arith, add-zero, zero-add, add-one, append-nil, cond, subst}
-use Rattle.std.specs.Prelude.{◌||◌}
-use Rattle.std.specs.List.{range_with_len, list_any, flat_map, filter}
-use Rattle.std.proofs.lemmas.Bool.Decides.{eqb_tells}
-use Rattle.std.proofs.lemmas.List.Folds.{list_any_at, list_any_none}
-use Rattle.std.proofs.lemmas.List.FromFn.{length-range_with_len, get_or-range_with_len}
+use Rattle.std.proofs.{Common.{arith, add-zero, zero-add, add-one, append-nil, cond, subst}, lemmas.Bool.Decides.eqb_tells}
+use Rattle.std.proofs.lemmas.{List.{Folds.{list_any_at, list_any_none}, FromFn.{length-range_with_len, get_or-range_with_len}}, Grind.common_steps}
+use Rattle.std.specs.{Prelude.◌||◌, List.{range_with_len, list_any, flat_map, filter}}
 use Rattle.domain_octets.proofs.StdLemmas.{or_next}
-use Rattle.std.proofs.lemmas.Grind.{common_steps}
 
 range-suc : (a n : ℕ) → range_with_len a (suc n) ≡ range_with_len a n ++ (a + n) ∷ []
 range-suc a zero = ap (λ k. k ∷ []) (sym (add-zero a))

@@ -1,31 +1,15 @@
 -- what sets of types and salts are written as is read back
-use Rattle.std.proofs.Common.{◌≡◌, ◌≢◌, ℕ, ◌+◌, ◌-◌, ◌*◌, ◌<◌, ◌≤◌, Bool, true, List, [], ◌∷◌, ◌++◌, zero, suc, map, codes, refl, sym, ap, ◌∙◌, arith}
-use Rattle.std.proofs.Common.{eq-eqb, append_assoc, length}
-use Rattle.std.specs.Prelude.{◌==◌, ◌&&◌, filter}
-use Rattle.std.specs.List.{AllByRecursion, All, range_with_len, flat_map}
-use Rattle.std.proofs.lemmas.Bool.Decides.{nat_tests}
-use Rattle.std.proofs.lemmas.List.{append-nil}
-use Rattle.std.proofs.lemmas.Map.Views.{any-filter_same}
+use Rattle.std.proofs.Common.{◌≡◌, ◌≢◌, ℕ, ◌+◌, ◌-◌, ◌*◌, ◌<◌, ◌≤◌, Bool, true, List, [], ◌∷◌, ◌++◌, zero, suc, map, codes, refl, sym, ap, ◌∙◌, arith, eq-eqb}
+use Rattle.std.proofs.{Common.{append_assoc, length}, lemmas.{Bool.Decides.nat_tests, List.append-nil, Map.Views.any-filter_same, Grind.common_steps}}
+use Rattle.std.specs.{Prelude.{◌==◌, ◌&&◌, filter}, List.{AllByRecursion, All, range_with_len, flat_map}}
 use Rattle.hex.specs.Hex.{encode_upper, encode_with}
-use Rattle.domain_octets.specs.Line.{words_of, words_after, IsWord}
-use Rattle.domain_codecs.proofs.CodecBackLemmas.{upper_back}
-use Rattle.domain_codecs.proofs.NoSpaceLemmas.{upper_hex_word}
-use Rattle.domain_octets.proofs.WordLemmas.{one_word, next_word, last_space}
-use Rattle.domain_octets.proofs.StdLemmas.{and_true}
-use Rattle.domain_base.specs.Numbers.{type_text}
-use Rattle.domain_base.proofs.NamedLemmas.{one_named}
-use Rattle.domain_base.proofs.ReadBackLemmas.{type_back, type_word}
-use Rattle.domain_bitmap.specs.Bits.{has_bit}
-use Rattle.domain_bitmap.specs.Bitmap.{bitmap_octets}
+use Rattle.domain_octets.{specs.Line.{words_of, words_after, IsWord}, proofs.{WordLemmas.{one_word, next_word, last_space}, StdLemmas.and_true}}
+use Rattle.domain_codecs.proofs.{CodecBackLemmas.upper_back, NoSpaceLemmas.upper_hex_word}
+use Rattle.domain_base.{specs.Numbers.type_text, proofs.{NamedLemmas.one_named, ReadBackLemmas.{type_back, type_word}}}
+use Rattle.domain_bitmap.specs.{Bits.has_bit, Bitmap.bitmap_octets}
 use Rattle.domain_bitmap.specs.Blocks.{Block, IsBlock, IsBitmap, IsShortest, blocks_of, block_types_from, types_of, types_below, contains_type}
-use Rattle.domain_bitmap.specs.HashText.{SaltText, dash, digits, salt_text}
-use Rattle.domain_bitmap.specs.Scan.{TypeTexts, no_types, one_more, is_among}
-use Rattle.domain_bitmap.specs.Text.{spaced_types, types_text}
-use Rattle.domain_bitmap.proofs.BitmapLemmas.{bitmap_octets-same}
-use Rattle.domain_bitmap.proofs.MeaningLemmas.{types_of-bitmap_octets}
-use Rattle.domain_bitmap.proofs.RangeLemmas.{any_at}
-use Rattle.domain_bitmap.proofs.SpellingLemmas.{built_from_shortest}
-use Rattle.std.proofs.lemmas.Grind.{common_steps}
+use Rattle.domain_bitmap.specs.{HashText.{SaltText, dash, digits, salt_text}, Scan.{TypeTexts, no_types, one_more, is_among}, Text.{spaced_types, types_text}}
+use Rattle.domain_bitmap.proofs.{BitmapLemmas.bitmap_octets-same, MeaningLemmas.types_of-bitmap_octets, RangeLemmas.any_at, SpellingLemmas.built_from_shortest}
 
 -- ---- types of 16 bits
 

@@ -1,18 +1,12 @@
 -- Tokens that are refused as types, salts and hashes: for one reason, and spelling nothing.
-use Rattle.std.proofs.Common.{◌≡◌, ◌≢◌, ℕ, List, [], ◌∷◌, ◌++◌, length, arith, Option}
+use Rattle.std.proofs.{Common.{◌≡◌, ◌≢◌, ℕ, List, [], ◌∷◌, ◌++◌, length, arith, Option}, lemmas.Grind.common_steps}
 use Rattle.std.specs.Prelude.{codes, ◌%◌, ◌==◌, if◌then◌else◌, Bool, Ok, Err}
-use Rattle.hex.specs.Hex.{decode_pairs}
-use Rattle.hex.specs.declared.error.FromHexError.TheVariants.{OddLength}
-use Rattle.domain_codecs.specs.Codec.{Decodes}
-use Rattle.domain_codecs.specs.declared.codec.Codec.{Codec}
-use Rattle.domain_codecs.specs.declared.codec.Codec.TheVariants.{Base16, Base32Hex}
-use Rattle.domain_codecs.proofs.CodecBackLemmas.{decodes_once}
+use Rattle.hex.specs.{Hex.decode_pairs, declared.error.FromHexError.TheVariants.OddLength}
+use Rattle.domain_codecs.{specs.{Codec.Decodes, declared.codec.Codec.{Codec, TheVariants.{Base16, Base32Hex}}}, proofs.CodecBackLemmas.decodes_once}
 use Rattle.domain_base.specs.Numbers.{TypeText, IsNoType}
 use Rattle.domain_names.specs.TextFault.{ScanFault, no_memory, IsOfTokens}
-use Rattle.domain_bitmap.specs.HashScan.{CountedFault, BeginsWithDash, SaltTokenFault}
-use Rattle.domain_bitmap.specs.HashText.{SaltText, OwnerHashText}
+use Rattle.domain_bitmap.specs.{HashScan.{CountedFault, BeginsWithDash, SaltTokenFault}, HashText.{SaltText, OwnerHashText}}
 use Rattle.domain_bitmap.specs.Scan.{TypeTexts, one_more, TypeFault, RefusesTypes}
-use Rattle.std.proofs.lemmas.Grind.{common_steps}
 
 -- ---- types
 

@@ -1,13 +1,10 @@
 -- salts read from tokens
-use Rattle.std.proofs.Common.{arith, ◌≡◌, ◌≢◌, ◌≤◌, ℕ, List, [], ◌∷◌, length, drop, sym, ap, ◌∙◌, subst, codes}
-use Rattle.std.proofs.lemmas.Grind.{common_steps}
+use Rattle.std.proofs.{Common.{arith, ◌≡◌, ◌≢◌, ◌≤◌, ℕ, List, [], ◌∷◌, length, drop, sym, ap, ◌∙◌, subst, codes}, lemmas.Grind.common_steps}
 use Rattle.std.specs.Prelude.{Option, Result, IfOk, IfErr}
-use Rattle.domain_codecs.specs.Codec.{Decodes}
-use Rattle.domain_codecs.specs.declared.codec.Codec.TheVariants.{Base16}
+use Rattle.domain_codecs.specs.{Codec.Decodes, declared.codec.Codec.TheVariants.Base16}
 use Rattle.domain_names.specs.TextFault.{ScanFault, entry_ends, illegal}
 use Rattle.domain_base.specs.Scan.{TakesToken, RefusesToken, ended, refused}
-use Rattle.domain_bitmap.specs.HashText.{SaltText, dash, digits}
-use Rattle.domain_bitmap.specs.HashScan.{CountedFault, SaltTokenFault, BeginsWithDash, after_dash, in_digits}
+use Rattle.domain_bitmap.specs.{HashText.{SaltText, dash, digits}, HashScan.{CountedFault, SaltTokenFault, BeginsWithDash, after_dash, in_digits}}
 
 pub no_token : (limit : Option ℕ) (tokens : List (List ℕ)) → tokens ≡ [] → RefusesToken (SaltTokenFault limit) tokens tokens entry_ends
 no_token limit tokens none = subst (λ (l : List (List ℕ)). RefusesToken (SaltTokenFault limit) l l entry_ends) (sym none) ended

@@ -1,19 +1,13 @@
 -- types read from tokens
 use Rattle.std.proofs.Common.{◌≡◌, ◌≢◌, ℕ, ◌+◌, ◌*◌, ◌/◌, ◌<◌, Bool, true, false, List, [], ◌∷◌, ◌++◌, length, refl, sym, ap, ◌∙◌, subst, inl, inr, arith}
-use Rattle.std.proofs.Common.{eq-eqb, append_assoc}
+use Rattle.std.proofs.{Common.{eq-eqb, append_assoc}, lemmas.{Bool.Decides.{nat_tests, eqb_tells}, Grind.common_steps}}
 use Rattle.std.specs.Prelude.{◌||◌, ◌==◌, Option, if◌then◌else◌, IsNone, Result, IsErrAnd, IfErr}
-use Rattle.std.proofs.lemmas.Bool.Decides.{nat_tests, eqb_tells}
-use Rattle.domain_base.specs.Numbers.{TypeText, IsNoType}
-use Rattle.domain_names.specs.TextFault.{ScanFault, scan_fault_of, scan_error_of}
-use Rattle.domain_base.specs.Scan.{RefusesToken, ended, refused}
-use Rattle.domain_names.specs.declared.error.ScanError.{ScanError}
-use Rattle.domain_octets.specs.Limit.{IsOver}
-use Rattle.domain_octets.specs.declared.error.AppendError.{AppendError}
-use Rattle.domain_octets.specs.declared.error.AppendError.TheVariants.{ShortBuf, OutOfMemory}
+use Rattle.domain_base.specs.{Numbers.{TypeText, IsNoType}, Scan.{RefusesToken, ended, refused}}
+use Rattle.domain_names.specs.{TextFault.{ScanFault, scan_fault_of, scan_error_of}, declared.error.ScanError.ScanError}
+use Rattle.domain_octets.specs.{Limit.IsOver, declared.error.AppendError.{AppendError, TheVariants.{ShortBuf, OutOfMemory}}}
 use Rattle.domain_bitmap.specs.Builder.{holds, has_window}
 use Rattle.domain_bitmap.specs.Scan.{TypeTexts, no_types, one_more, is_among, has_type_in, room_for, not_a_type, without_room, without_memory, RefusesTypes}
 use Rattle.domain_bitmap.proofs.RangeLemmas.{filter_same, filter_more}
-use Rattle.std.proofs.lemmas.Grind.{common_steps}
 
 texts-more : {taken : List (List ℕ)} {types : List ℕ} (token : List ℕ) (t : ℕ) → TypeTexts taken types → TypeText token t
     → TypeTexts (taken ++ token ∷ []) (types ++ t ∷ [])

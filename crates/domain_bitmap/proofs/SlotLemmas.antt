@@ -1,15 +1,10 @@
 -- the blocks of 34 octets that a builder holds
-use Rattle.std.proofs.Common.{◌≡◌, ℕ, ◌+◌, ◌-◌, ◌*◌, ◌/◌, ◌%◌, ◌^◌, ◌<◌, ◌≢◌, true, false, List, ◌∷◌, ◌++◌, length, get_or, take, drop, refl}
-use Rattle.std.proofs.Common.{ap, ◌∙◌, inl, inr, arith, length-append, set, get_or-set_same, get_or-set_other, rules}
-use Rattle.std.specs.Prelude.{◌||◌, ◌==◌, bit_or, replicate}
-use Rattle.std.proofs.lemmas.Bool.Decides.{nat_tests, eqb_tells}
-use Rattle.std.proofs.lemmas.List.{take-set, drop-set, get_or_append_left}
+use Rattle.std.proofs.Common.{◌≡◌, ℕ, ◌+◌, ◌-◌, ◌*◌, ◌/◌, ◌%◌, ◌^◌, ◌<◌, ◌≢◌, true, false, List, ◌∷◌, ◌++◌, length, get_or, take, drop, refl, ap, ◌∙◌, inl, inr}
+use Rattle.std.proofs.{Common.{arith, length-append, set, get_or-set_same, get_or-set_other, rules}, lemmas.Bool.Decides.{nat_tests, eqb_tells}}
+use Rattle.std.{proofs.lemmas.{List.{take-set, drop-set, get_or_append_left}, Grind.common_steps}, specs.Prelude.{◌||◌, ◌==◌, bit_or, replicate}}
 use Rattle.domain_octets.proofs.StdLemmas.{and_false}
-use Rattle.domain_bitmap.specs.Bits.{bit_of}
-use Rattle.domain_bitmap.specs.Builder.{is_of_window, block_holds, has_window, holds}
-use Rattle.domain_bitmap.proofs.RangeLemmas.{any_more, any_same, any_at, any_none, any_with}
-use Rattle.domain_bitmap.proofs.BitLemmas.{bit_of-set, bit_of-zero}
-use Rattle.std.proofs.lemmas.Grind.{common_steps}
+use Rattle.domain_bitmap.specs.{Bits.bit_of, Builder.{is_of_window, block_holds, has_window, holds}}
+use Rattle.domain_bitmap.proofs.{RangeLemmas.{any_more, any_same, any_at, any_none, any_with}, BitLemmas.{bit_of-set, bit_of-zero}}
 
 -- a block is found
 pub window_found : (value : List ℕ) (window j : ℕ) → j < length value / 34 → get_or value (34 * j) 0 ≡ window → has_window value window ≡ true

@@ -1,18 +1,12 @@
 -- the one form of the octets of a set of types
 use Rattle.std.proofs.Common.{◌≡◌, ◌≢◌, ℕ, zero, suc, ◌+◌, ◌*◌, ◌/◌, ◌%◌, ◌<◌, ◌≤◌, Bool, true, false, List, [], ◌∷◌, ◌++◌, length, get_or, refl, sym, ap, ◌∙◌}
-use Rattle.std.proofs.Common.{inl, inr, arith}
-use Rattle.std.specs.Prelude.{◌==◌}
-use Rattle.std.specs.List.{AllByRecursion}
-use Rattle.std.proofs.lemmas.Bool.Decides.{nat_tests, eqb_tells, leb_tells}
-use Rattle.std.proofs.lemmas.List.{get_or_past}
-use Rattle.domain_bitmap.specs.Bits.{has_bit}
-use Rattle.domain_bitmap.specs.Bitmap.{window_octets, trimmed, before_trimmed, bitmap_octets}
+use Rattle.std.proofs.{Common.{inl, inr, arith}, lemmas.{Bool.Decides.{nat_tests, eqb_tells, leb_tells}, List.get_or_past, Grind.common_steps}}
+use Rattle.std.specs.{Prelude.◌==◌, List.AllByRecursion}
+use Rattle.domain_bitmap.specs.{Bits.has_bit, Bitmap.{window_octets, trimmed, before_trimmed, bitmap_octets}}
 use Rattle.domain_bitmap.specs.Blocks.{Block, IsBlock, IsBitmap, IsShortest, WindowsAscendFrom, last_octet, octets_of_blocks, in_first_block, contains_type}
-use Rattle.domain_bitmap.proofs.BitLemmas.{octet_with-same, octet_with-bit_of}
-use Rattle.domain_bitmap.proofs.TrimLemmas.{before_trimmed-cons, before_trimmed-last, trimmed-zeros}
+use Rattle.domain_bitmap.proofs.{BitLemmas.{octet_with-same, octet_with-bit_of}, TrimLemmas.{before_trimmed-cons, before_trimmed-last, trimmed-zeros}}
 use Rattle.domain_bitmap.proofs.BitmapLemmas.{block_list, blocks_from, octets_of_blocks-blocks_from, length-window_octets, get_or-window_octets, zero_octets}
 use Rattle.domain_bitmap.proofs.MeaningLemmas.{blocks_of-bitmap_octets}
-use Rattle.std.proofs.lemmas.Grind.{common_steps}
 
 -- octets that read alike are cut to the same
 trimmed-same : (xs ys : List ℕ) → ((i : ℕ) → get_or xs i 0 ≡ get_or ys i 0) → trimmed xs ≡ trimmed ys

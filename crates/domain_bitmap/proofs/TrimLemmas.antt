@@ -1,7 +1,6 @@
 -- octets without the zero octets at their end
-use Rattle.std.proofs.Common.{◌≡◌, ℕ, zero, suc, ◌-◌, ◌<◌, ◌≤◌, ◌≢◌, List, [], ◌∷◌, length, get_or, take, refl, ap, ◌∙◌, arith}
+use Rattle.std.proofs.{Common.{◌≡◌, ℕ, zero, suc, ◌-◌, ◌<◌, ◌≤◌, ◌≢◌, List, [], ◌∷◌, length, get_or, take, refl, ap, ◌∙◌, arith}, lemmas.Grind.common_steps}
 use Rattle.domain_bitmap.specs.Bitmap.{trimmed, before_trimmed}
-use Rattle.std.proofs.lemmas.Grind.{common_steps}
 
 pub before_trimmed-cons : (x y : ℕ) (ys : List ℕ) → before_trimmed x (y ∷ ys) ≡ x ∷ y ∷ ys
 before_trimmed-cons x y ys = grind (arith, common_steps)

@@ -1,6 +1,5 @@
 -- the octets of a set of types (RFC 4034, section 4.1.2)
-use Rattle.std.specs.Prelude.{ℕ, zero, suc, ◌+◌, ◌*◌, Bool, [], ◌∷◌, length, map}
-use Rattle.std.specs.List.{range_with_len, flat_map}
+use Rattle.std.specs.{Prelude.{ℕ, zero, suc, ◌+◌, ◌*◌, Bool, [], ◌∷◌, length, map}, List.{range_with_len, flat_map}}
 use Rattle.domain_octets.specs.Words.{Octets}
 use Rattle.domain_bitmap.specs.Bits.{octet_with}
 

@@ -1,7 +1,6 @@
 -- the bits of octets, the most significant bit of an octet being its first (RFC 4034,
 -- section 4.1.2)
-use Rattle.std.specs.Prelude.{◌≡◌, ℕ, ◌+◌, ◌-◌, ◌/◌, ◌%◌, ◌<◌, ◌≤◌, ◌==◌, Bool, true, false, if◌then◌else◌, slice_index}
-use Rattle.std.specs.Int.{bit_at}
+use Rattle.std.specs.{Prelude.{◌≡◌, ℕ, ◌+◌, ◌-◌, ◌/◌, ◌%◌, ◌<◌, ◌≤◌, ◌==◌, Bool, true, false, if◌then◌else◌, slice_index}, Int.bit_at}
 use Rattle.domain_octets.specs.Words.{Octets}
 
 -- whether a bit of an octet is set

@@ -1,7 +1,6 @@
 -- octets read as a list of blocks, whatever their windows are (RFC 4034, section 4.1.2)
-use Rattle.std.specs.Prelude.{◌≡◌, ◌≢◌, ℕ, zero, suc, ◌+◌, ◌-◌, ◌*◌, ◌/◌, ◌<◌, ◌≤◌, ◌==◌}
-use Rattle.std.specs.Prelude.{Bool, false, List, [], ◌∷◌, ◌++◌, length, take, drop, filter, slice_index, if◌then◌else◌}
-use Rattle.std.specs.List.{range_with_len, flat_map, AllByRecursion}
+use Rattle.std.specs.Prelude.{◌≡◌, ◌≢◌, ℕ, zero, suc, ◌+◌, ◌-◌, ◌*◌, ◌/◌, ◌<◌, ◌≤◌, ◌==◌, Bool, false, List, [], ◌∷◌, ◌++◌, length, take, drop, filter}
+use Rattle.std.specs.{Prelude.{slice_index, if◌then◌else◌}, List.{range_with_len, flat_map, AllByRecursion}}
 use Rattle.domain_octets.specs.Words.{Octets}
 use Rattle.domain_base.specs.Types.{Rtypes}
 use Rattle.domain_bitmap.specs.Bits.{has_bit}

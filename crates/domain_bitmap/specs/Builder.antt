@@ -1,7 +1,6 @@
 -- what a builder holds: blocks of 34 octets, each the number of a window, an octet for the length,
 -- and the window's 32 octets
-use Rattle.std.specs.Prelude.{ℕ, ◌+◌, ◌*◌, ◌/◌, ◌%◌, ◌==◌, ◌&&◌, Bool, length, slice_index}
-use Rattle.std.specs.List.{range_with_len, list_any}
+use Rattle.std.specs.{Prelude.{ℕ, ◌+◌, ◌*◌, ◌/◌, ◌%◌, ◌==◌, ◌&&◌, Bool, length, slice_index}, List.{range_with_len, list_any}}
 use Rattle.domain_octets.specs.Words.{Octets}
 use Rattle.domain_bitmap.specs.Bits.{bit_of}
 

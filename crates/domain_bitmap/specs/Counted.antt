@@ -1,9 +1,6 @@
 -- octets after an octet that counts them
-use Rattle.std.specs.Prelude.{◌≡◌, ◌∷◌, ◌++◌, length}
-use Rattle.std.specs.declared.cmp.Ordering.{Ordering}
-use Rattle.std.specs.Ordering.{nat_cmp, on, then_cmp}
-use Rattle.std.specs.Cmp.{IsTotalOrder, on_total, then_total, nat_cmp_total}
-use Rattle.std.specs.Cmp.Lexicographic.{slice_cmp, nat_list_cmp_total}
+use Rattle.std.specs.{Prelude.{◌≡◌, ◌∷◌, ◌++◌, length}, declared.cmp.Ordering.Ordering, Ordering.{nat_cmp, on, then_cmp}}
+use Rattle.std.specs.Cmp.{IsTotalOrder, on_total, then_total, nat_cmp_total, Lexicographic.{slice_cmp, nat_list_cmp_total}}
 use Rattle.domain_octets.specs.Words.{Octets}
 
 -- shorter octets first, and octets of one length in lexicographic order: the order of their wire

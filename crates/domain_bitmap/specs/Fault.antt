@@ -2,8 +2,7 @@
 use Rattle.std.specs.Prelude.{◌≡◌, ℕ, ◌<◌, ◌≤◌, ◌⊎◌, [], ◌∷◌, ◌++◌, length, codes}
 use Rattle.domain_octets.specs.Words.{Octets}
 use Rattle.domain_names.specs.Fault.{Fault, ends_early, malformed}
-use Rattle.domain_bitmap.specs.declared.error.RtypeBitmapError.{RtypeBitmapError}
-use Rattle.domain_bitmap.specs.declared.error.RtypeBitmapError.TheVariants.{ShortInput, BadRtypeBitmap}
+use Rattle.domain_bitmap.specs.declared.error.RtypeBitmapError.{RtypeBitmapError, TheVariants.{ShortInput, BadRtypeBitmap}}
 
 -- the first fault: of each block, first that its length is missing, then that it is not 1 to 32,
 -- then that octets are missing

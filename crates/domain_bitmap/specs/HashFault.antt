@@ -1,11 +1,7 @@
 -- why a text is no hash of an owner name
 use Rattle.std.specs.Prelude.{ℕ, ◌<◌, ◌⊎◌, length, Option}
-use Rattle.domain_octets.specs.Limit.{IsOver}
-use Rattle.domain_codecs.specs.Codec.{Decodes, DecodeFault}
-use Rattle.domain_codecs.specs.declared.codec.Codec.TheVariants.{Base32Hex}
-use Rattle.domain_codecs.specs.declared.codec.DecodeError.{DecodeError}
-use Rattle.domain_codecs.specs.declared.codec.DecodeError.TheVariants.{ShortBuf}
-use Rattle.domain_octets.specs.Words.{Octets}
+use Rattle.domain_octets.specs.{Limit.IsOver, Words.Octets}
+use Rattle.domain_codecs.specs.{Codec.{Decodes, DecodeFault}, declared.codec.{Codec.TheVariants.Base32Hex, DecodeError.{DecodeError, TheVariants.ShortBuf}}}
 
 -- what the codec refuses, and what stands for over 255 octets
 abbrev pub HashFault : Option ℕ → Octets → DecodeError → Type 0

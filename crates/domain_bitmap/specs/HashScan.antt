@@ -1,14 +1,9 @@
 -- salts and hashes of owner names from tokens (RFC 5155, section 3.3)
 use Rattle.std.specs.Prelude.{◌≡◌, ◌≢◌, ℕ, ◌<◌, ◌⊎◌, [], ◌∷◌, length, codes, Option}
-use Rattle.domain_octets.specs.Limit.{HasRoom}
-use Rattle.domain_codecs.specs.Codec.{Decodes}
-use Rattle.domain_codecs.specs.declared.codec.Codec.{Codec}
-use Rattle.domain_codecs.specs.declared.codec.Codec.TheVariants.{Base16}
-use Rattle.domain_octets.specs.Words.{Octets}
-use Rattle.domain_octets.specs.Characters.{dash}
-use Rattle.domain_names.specs.TextFault.{ScanFault, entry_ends, illegal, no_room, no_memory}
+use Rattle.domain_octets.specs.{Limit.HasRoom, Words.Octets, Characters.dash}
+use Rattle.domain_codecs.specs.{Codec.Decodes, declared.codec.Codec.{Codec, TheVariants.Base16}}
+use Rattle.domain_names.specs.{TextFault.{ScanFault, entry_ends, illegal, no_room, no_memory}, Words.Token}
 use Rattle.domain_base.specs.Scan.{CodecFault}
-use Rattle.domain_names.specs.Words.{Token}
 
 -- the text stands for over 255 octets, which a builder with this limit has room for
 pub record StandsForTooMany (codec : Codec) (limit : Option ℕ) (text : Octets) : Type 0 where

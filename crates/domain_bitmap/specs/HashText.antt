@@ -1,11 +1,8 @@
 -- salts and hashes of owner names as text (RFC 5155, section 3.3)
 use Rattle.std.specs.Prelude.{◌≡◌, ◌≢◌, ℕ, ◌<◌, ◌≤◌, [], ◌∷◌, length, codes, Option}
 use Rattle.hex.specs.Hex.{encode_upper}
-use Rattle.domain_octets.specs.Limit.{HasRoom}
-use Rattle.domain_codecs.specs.Codec.{Decodes, DecodeFault}
-use Rattle.domain_codecs.specs.Texts.{decode_error_text}
-use Rattle.domain_codecs.specs.declared.codec.Codec.TheVariants.{Base16, Base32Hex}
-use Rattle.domain_octets.specs.Words.{Octets}
+use Rattle.domain_octets.specs.{Limit.HasRoom, Words.Octets}
+use Rattle.domain_codecs.specs.{Codec.{Decodes, DecodeFault}, Texts.decode_error_text, declared.codec.Codec.TheVariants.{Base16, Base32Hex}}
 use Rattle.domain_bitmap.specs.declared.salt_text.Nsec3SaltFromStrError.{Nsec3SaltFromStrError}
 use Rattle.domain_bitmap.specs.declared.salt_text.Nsec3SaltFromStrError.TheVariants as refusal
 

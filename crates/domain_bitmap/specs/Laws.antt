@@ -1,8 +1,7 @@
 -- what the impls of comparisons cite
 use Rattle.std.specs.Prelude.{bytes_eq}
 use Rattle.std.specs.Hash as fed
-use Rattle.std.specs.Hash.{Alike, same_Alike}
-use Rattle.std.specs.Cmp.Lexicographic.{bytes_decides}
+use Rattle.std.specs.{Hash.{Alike, same_Alike}, Cmp.Lexicographic.bytes_decides}
 
 -- equal octets are fed alike
 pub octets_fed : Alike bytes_eq (fed.slice fed.u8)

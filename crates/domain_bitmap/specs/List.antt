@@ -1,6 +1,5 @@
 -- bitmaps whose octets stand one after another
-use Rattle.std.specs.Prelude.{◌≡◌, ℕ, ◌≤◌, List, [], ◌∷◌, length, slice_range}
-use Rattle.std.specs.List.{All}
+use Rattle.std.specs.{Prelude.{◌≡◌, ℕ, ◌≤◌, List, [], ◌∷◌, length, slice_range}, List.All}
 use Rattle.domain_octets.specs.Words.{Octets}
 use Rattle.domain_bitmap.specs.Blocks.{IsBitmap}
 

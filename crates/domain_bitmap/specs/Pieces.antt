@@ -1,11 +1,8 @@
 -- sets of types and salts in the pieces of a zone file (RFC 4034, section 4.2; RFC 5155,
 -- section 3.3)
-use Rattle.std.specs.Prelude.{ℕ, List, [], ◌∷◌, ◌++◌, map, length, codes}
-use Rattle.std.specs.Fmt.{decimal}
-use Rattle.domain_octets.specs.Piece.{PieceText, token, comment, opens, closes}
-use Rattle.domain_octets.specs.Words.{Octets}
-use Rattle.domain_base.specs.Numbers.{type_text}
-use Rattle.domain_base.specs.Types.{Rtypes}
+use Rattle.std.specs.{Prelude.{ℕ, List, [], ◌∷◌, ◌++◌, map, length, codes}, Fmt.decimal}
+use Rattle.domain_octets.specs.{Piece.{PieceText, token, comment, opens, closes}, Words.Octets}
+use Rattle.domain_base.specs.{Numbers.type_text, Types.Rtypes}
 use Rattle.domain_bitmap.specs.HashText.{salt_text}
 
 -- a token for each type

@@ -1,11 +1,8 @@
 -- sets of types read from tokens, one type a token (RFC 4034, section 4.2)
-use Rattle.std.specs.Prelude.{◌≡◌, ℕ, ◌*◌, ◌/◌, ◌==◌, Bool, [], ◌∷◌, ◌++◌, length, filter, Option, IsNone}
-use Rattle.std.specs.List.{range_with_len, list_any}
+use Rattle.std.specs.{Prelude.{◌≡◌, ℕ, ◌*◌, ◌/◌, ◌==◌, Bool, [], ◌∷◌, ◌++◌, length, filter, Option, IsNone}, List.{range_with_len, list_any}}
 use Rattle.domain_octets.specs.Limit.{IsOver}
-use Rattle.domain_names.specs.TextFault.{ScanFault, no_room, no_memory}
-use Rattle.domain_base.specs.Numbers.{TypeText, IsNoType}
-use Rattle.domain_names.specs.Words.{Tokens, Token}
-use Rattle.domain_base.specs.Types.{Rtypes}
+use Rattle.domain_names.specs.{TextFault.{ScanFault, no_room, no_memory}, Words.{Tokens, Token}}
+use Rattle.domain_base.specs.{Numbers.{TypeText, IsNoType}, Types.Rtypes}
 
 -- the tokens spell these types, one each
 pub data TypeTexts : Tokens → Rtypes → Type 0 where

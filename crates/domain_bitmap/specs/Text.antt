@@ -1,10 +1,7 @@
 -- sets of types as text: the types with one space between them (RFC 4034, section 4.2)
-use Rattle.std.specs.Prelude.{[], ◌∷◌, ◌++◌}
-use Rattle.std.specs.List.{flat_map}
-use Rattle.domain_octets.specs.Words.{Octets}
-use Rattle.domain_octets.specs.Characters.{space}
-use Rattle.domain_base.specs.Numbers.{type_text}
-use Rattle.domain_base.specs.Types.{Rtypes}
+use Rattle.std.specs.{Prelude.{[], ◌∷◌, ◌++◌}, List.flat_map}
+use Rattle.domain_octets.specs.{Words.Octets, Characters.space}
+use Rattle.domain_base.specs.{Numbers.type_text, Types.Rtypes}
 
 -- each type after a space
 unfoldable pub spaced_types : Rtypes → Octets

@@ -1,10 +1,9 @@
 //! Bitmaps as octets, copied and written.
-ghost use Rattle.std.specs.Prelude.{◌≡◌, ◌↔◌, ◌+◌, ◌<◌, ◌^◌, ◌++◌, length, [], IsOk, IfOk, IfErr, OnOk, OnErr, IsErrOf, IsNone};
-ghost use Rattle.domain_octets.specs.Limit.{IsOver};
-ghost use Rattle.domain_octets.specs.Place.{Takes};
+ghost use Rattle.std.specs.Prelude.{◌≡◌, ◌↔◌, ◌+◌, ◌<◌, ◌^◌, ◌++◌, length, [], IsOk, IfOk, IfErr};
+ghost use Rattle.std.specs.Prelude.{OnOk, OnErr, IsErrOf, IsNone};
+ghost use Rattle.domain_octets.specs.{Limit.IsOver, Place.Takes};
 ghost use Rattle.domain_names.specs.Fault.{fault_of};
-ghost use Rattle.domain_bitmap.specs.Blocks.{IsBitmap};
-ghost use Rattle.domain_bitmap.specs.Fault.{BitmapFault};
+ghost use Rattle.domain_bitmap.specs.{Blocks.IsBitmap, Fault.BitmapFault};
 
 use crate::RtypeBitmap;
 use crate::blocks::check;

@@ -5,9 +5,7 @@ ghost use Rattle.std.specs.Ordering.{nat_cmp};
 ghost use Rattle.std.specs.Cmp.{partial_equiv_from_equiv, po};
 ghost use Rattle.std.specs.Cmp.Lexicographic.{slice_cmp, nat_list_cmp_total, nat_list_eq_equiv, texts_ties};
 ghost use Rattle.std.specs.Hash as fed;
-ghost use Rattle.domain_octets.specs.Place.{Takes};
-ghost use Rattle.domain_octets.specs.Limit.{IsOver};
-ghost use Rattle.domain_octets.specs.Words.{Octets};
+ghost use Rattle.domain_octets.specs.{Place.Takes, Limit.IsOver, Words.Octets};
 ghost use Rattle.domain_bitmap.specs.Laws.{octets_fed};
 ghost use Rattle.domain_bitmap.specs.Counted.{by_length, by_length_total, IsCutShort};
 

@@ -1,6 +1,5 @@
 //! The types of a bitmap, one after another.
-ghost use Rattle.std.specs.Prelude.{◌≡◌, ◌<◌, ◌≤◌};
-ghost use Rattle.std.specs.Iterator.{YieldsFirst, item_count};
+ghost use Rattle.std.specs.{Prelude.{◌≡◌, ◌<◌, ◌≤◌}, Iterator.{YieldsFirst, item_count}};
 ghost use Rattle.domain_bitmap.specs.Blocks.{IsBitmap, types_of, types_from, blocks_of};
 
 use crate::blocks::{first_set, split_block};

@@ -2,17 +2,14 @@
 //! and those of salts. A caller calls the law in its body.
 ghost use Rattle.std.specs.Prelude.{◌≡◌, ◌≢◌, ◌<◌, ◌≤◌, length, ◌↔◌, ℕ, Bool, Option, codes};
 ghost use Rattle.domain_codecs.specs.declared.codec.Codec.TheVariants.{Base32Hex};
-ghost use Rattle.domain_octets.specs.Line.{words_of, IsWord};
-ghost use Rattle.domain_octets.specs.Words.{Octets, AreOctets};
-ghost use Rattle.domain_names.specs.TextFault.{ScanFault, no_memory, IsOfTokens};
-ghost use Rattle.domain_names.specs.Words.{Tokens};
+ghost use Rattle.domain_octets.specs.{Line.{words_of, IsWord}, Words.{Octets, AreOctets}};
+ghost use Rattle.domain_names.specs.{TextFault.{ScanFault, no_memory, IsOfTokens}, Words.Tokens};
 ghost use Rattle.domain_base.specs.Types.{Rtypes};
 ghost use Rattle.domain_bitmap.specs.Bitmap.{bitmap_octets};
-ghost use Rattle.domain_bitmap.specs.Blocks.{IsBitmap, IsShortest, contains_type, types_of, types_below};
-ghost use Rattle.domain_bitmap.specs.HashScan.{CountedFault, SaltTokenFault};
+ghost use Rattle.domain_bitmap.specs.Blocks.{IsBitmap, IsShortest, contains_type, types_of};
+ghost use Rattle.domain_bitmap.specs.{Blocks.types_below, HashScan.{CountedFault, SaltTokenFault}};
 ghost use Rattle.domain_bitmap.specs.HashText.{OwnerHashText, SaltText, salt_text};
-ghost use Rattle.domain_bitmap.specs.Scan.{RefusesTypes, TypeTexts, is_among};
-ghost use Rattle.domain_bitmap.specs.Text.{types_text};
+ghost use Rattle.domain_bitmap.specs.{Scan.{RefusesTypes, TypeTexts, is_among}, Text.types_text};
 
 /// Two bitmaps that builders made have the same octets exactly where the same types were added.
 pub fn built_bitmaps_are_sets()

@@ -1,11 +1,9 @@
 //! Sets of types from tokens.
 ghost use Rattle.std.specs.Prelude.{◌≡◌, ℕ, ◌<◌, [], IfOk, IfErr};
 ghost use Rattle.domain_names.specs.TextFault.{scan_fault_of};
-ghost use Rattle.domain_base.specs.Scan.{TakesToken, RefusesToken};
-ghost use Rattle.domain_base.specs.Numbers.{TypeText, IsNoType};
+ghost use Rattle.domain_base.specs.{Scan.{TakesToken, RefusesToken}, Numbers.{TypeText, IsNoType}};
 ghost use Rattle.domain_base.specs.Types.{Rtypes};
-ghost use Rattle.domain_bitmap.specs.Bitmap.{bitmap_octets};
-ghost use Rattle.domain_bitmap.specs.Builder.{holds};
+ghost use Rattle.domain_bitmap.specs.{Bitmap.bitmap_octets, Builder.holds};
 ghost use Rattle.domain_bitmap.specs.Scan.{TypeTexts, RefusesTypes, is_among};
 
 use crate::{RtypeBitmap, RtypeBitmapBuilder};

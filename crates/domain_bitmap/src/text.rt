@@ -1,7 +1,6 @@
 //! Sets of types as text.
 ghost use Rattle.std.specs.Prelude.{Some};
-ghost use Rattle.domain_bitmap.specs.Blocks.{types_of};
-ghost use Rattle.domain_bitmap.specs.Text.{types_text};
+ghost use Rattle.domain_bitmap.specs.{Blocks.types_of, Text.types_text};
 
 use crate::RtypeBitmap;
 use domain_octets::Octets;

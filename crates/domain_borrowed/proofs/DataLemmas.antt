@@ -1,18 +1,13 @@
 -- The data of records, read whole.
-use Rattle.std.proofs.Common.{arith, ◌≡◌, ℕ, List, [], ap, subst}
-use Rattle.std.proofs.lemmas.Grind.{common_steps}
+use Rattle.std.proofs.{Common.{arith, ◌≡◌, ℕ, List, [], ap, subst}, lemmas.Grind.common_steps}
 use Rattle.domain_names.specs.Fault.{Fault}
 use Rattle.domain_bitmap.proofs.BlockLemmas.{bitmap_small}
 use Rattle.domain_fields.specs.Layout.{Values, Begins, FirstFault}
-use Rattle.domain_chain_rdata.specs.NsecWire.{NsecFault}
-use Rattle.domain_chain_rdata.specs.Nsec3Wire.{Nsec3Fault}
-use Rattle.domain_chain_rdata.specs.Rdata.{nsec3param}
-use Rattle.domain_chain_rdata.proofs.NsecLemmas.{nsec_back}
-use Rattle.domain_chain_rdata.proofs.Nsec3Lemmas.{nsec3_back, params_back}
+use Rattle.domain_chain_rdata.specs.{NsecWire.NsecFault, Nsec3Wire.Nsec3Fault, Rdata.nsec3param}
+use Rattle.domain_chain_rdata.proofs.{NsecLemmas.nsec_back, Nsec3Lemmas.{nsec3_back, params_back}}
 use Rattle.domain_nsec.specs.Chain.{Link}
 use Rattle.domain_nsec3.specs.Chain.{HashedLink, ParamRecord}
-use Rattle.domain_borrowed.specs.Data.{RawRecord}
-use Rattle.domain_borrowed.specs.Links.{nsec_record, nsec3_record, param_record, hash_values, IsNsec, IsNsec3, IsParam}
+use Rattle.domain_borrowed.specs.{Data.RawRecord, Links.{nsec_record, nsec3_record, param_record, hash_values, IsNsec, IsNsec3, IsParam}}
 
 octets_in : (q r : RawRecord) → q ≡ r → q.«data».octets ≡ r.«data».octets
 octets_in q r e = ap (λ (o : RawRecord). o.«data».octets) e

@@ -2,13 +2,9 @@
 use Rattle.std.proofs.lemmas.Grind.{common_steps}
 use Rattle.std.proofs.Common.{◌≡◌, ℕ, ◌<◌, ◌+◌, List, [], ◌∷◌, ◌++◌, length, take, drop, refl, sym, ap, ◌∙◌, arith, append_assoc, length-append}
 use Rattle.std.proofs.lemmas.List.{take_at, drop_at}
-use Rattle.domain_names.specs.Fault.{Fault}
-use Rattle.domain_names.specs.Name.{wire_of}
-use Rattle.domain_fields.specs.Layout.{Values, octets_of, Begins, FirstFault}
-use Rattle.domain_fields.proofs.ExactLemmas.{fault_excludes}
-use Rattle.domain_fields.proofs.OrderLemmas.{same_data, Same}
-use Rattle.domain_borrowed.specs.Data.{RawRecord}
-use Rattle.domain_borrowed.specs.Wire.{header, header_of, record_octets, IsOneRecord, IsRecord}
+use Rattle.domain_names.specs.{Fault.Fault, Name.wire_of}
+use Rattle.domain_fields.{specs.Layout.{Values, octets_of, Begins, FirstFault}, proofs.{ExactLemmas.fault_excludes, OrderLemmas.{same_data, Same}}}
+use Rattle.domain_borrowed.specs.{Data.RawRecord, Wire.{header, header_of, record_octets, IsOneRecord, IsRecord}}
 
 -- the header of a record stands before its data
 header_first : (r : RawRecord) (after : List ℕ) → record_octets r ++ after ≡ octets_of header (header_of r) ++ (r.«data».octets ++ after)

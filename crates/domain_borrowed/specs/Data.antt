@@ -1,16 +1,12 @@
 -- Records whose data are octets.
-use Rattle.std.specs.Prelude.{ℕ, ◌==◌, ◌-◌, List, length, drop, nat_lt, Option, Some, None, if◌then◌else◌}
-use Rattle.std.specs.Int.{w32, from_be_bytes}
-use Rattle.std.specs.declared.cmp.Ordering.{Ordering}
-use Rattle.std.specs.Ordering.{nat_cmp, on, then_cmp}
-use Rattle.std.specs.Cmp.{IsTotalOrder, on_total, then_total, nat_cmp_total}
+use Rattle.std.specs.{Prelude.{ℕ, ◌==◌, ◌-◌, List, length, drop, nat_lt, Option, Some, None, if◌then◌else◌}, Int.{w32, from_be_bytes}}
+use Rattle.std.specs.{declared.cmp.Ordering.Ordering, Ordering.{nat_cmp, on, then_cmp}, Cmp.{IsTotalOrder, on_total, then_total, nat_cmp_total}}
 use Rattle.std.specs.Cmp.Lexicographic.{slice_cmp, on_texts}
 use Rattle.domain_octets.specs.Words.{Octets}
 use Rattle.domain_base.specs.Types as rtypes
 use Rattle.domain_names.specs.Words.{Name}
 use Rattle.domain_record.specs.declared.record.Record.{Record}
-use Rattle.domain_zone.specs.Zone.{ZoneRecord}
-use Rattle.domain_zone.specs.View.{zone_of}
+use Rattle.domain_zone.specs.{Zone.ZoneRecord, View.zone_of}
 
 -- data of a type as octets
 pub record RawData : Type 0 where

@@ -2,8 +2,7 @@
 use Rattle.std.specs.Prelude.{◌≡◌, ℕ, ◌++◌, length}
 use Rattle.domain_octets.specs.Words.{Octets}
 use Rattle.domain_names.specs.Words.{Name}
-use Rattle.domain_fields.specs.Field.{name, short, long}
-use Rattle.domain_fields.specs.Layout.{Layout, one, ◌▸◌, Values, octets_of, Fits}
+use Rattle.domain_fields.specs.{Field.{name, short, long}, Layout.{Layout, one, ◌▸◌, Values, octets_of, Fits}}
 use Rattle.domain_record.specs.declared.record.Record.{Record}
 use Rattle.domain_borrowed.specs.Data.{RawRecord}
 

@@ -5,8 +5,7 @@ ghost use Rattle.domain_base.specs.Types as rtypes;
 ghost use Rattle.domain_fields.specs.Layout.{canonical_of};
 ghost use Rattle.domain_borrowed.specs.Data.{minimum_of, RawRecord};
 ghost use Rattle.domain_borrowed.specs.Wire.{record_octets, IsOneRecord, IsRecord};
-ghost use Rattle.domain_plain.specs.Plain.{soa, soa_values};
-ghost use Rattle.domain_plain.specs.declared.soa.Soa.{Soa};
+ghost use Rattle.domain_plain.specs.{Plain.{soa, soa_values}, declared.soa.Soa.Soa};
 
 use domain_base::ToName;
 

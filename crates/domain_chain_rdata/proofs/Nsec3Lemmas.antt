@@ -1,20 +1,11 @@
 -- data of hashed names: their octets, how they are read and how they are written
-use Rattle.std.proofs.Common.{arith, ◌≡◌, ℕ, ◌↔◌, Bool, true, List, [], ◌∷◌, ◌++◌, refl, sym, ap, subst, ◌∙◌}
-use Rattle.std.proofs.lemmas.Grind.{common_steps}
-use Rattle.std.specs.Prelude.{bytes_eq, IsTrue, codes}
-use Rattle.std.specs.Fmt.{decimal}
-use Rattle.std.specs.Cmp.Lexicographic.{bytes_decides}
-use Rattle.domain_octets.specs.Piece.{PieceText, token, comment}
-use Rattle.domain_octets.specs.Place.{Place, Takes}
-use Rattle.domain_octets.specs.Words.{AreOctets}
+use Rattle.std.proofs.{Common.{arith, ◌≡◌, ℕ, ◌↔◌, Bool, true, List, [], ◌∷◌, ◌++◌, refl, sym, ap, subst, ◌∙◌}, lemmas.Grind.common_steps}
+use Rattle.std.specs.{Prelude.{bytes_eq, IsTrue, codes}, Fmt.decimal, Cmp.Lexicographic.bytes_decides}
+use Rattle.domain_octets.specs.{Piece.{PieceText, token, comment}, Place.{Place, Takes}, Words.AreOctets}
 use Rattle.domain_names.specs.Fault.{Fault}
-use Rattle.domain_bitmap.specs.Blocks.{IsBitmap}
-use Rattle.domain_bitmap.specs.Fault.{BitmapFault}
-use Rattle.domain_bitmap.specs.Text.{types_text, spaced_types}
-use Rattle.domain_fields.specs.Layout.{Layout, Values, octets_of, Fits, Ends, Begins, ParsesBack, splits}
-use Rattle.domain_fields.proofs.ExactLemmas.{parses_back, same_values}
-use Rattle.domain_chain_rdata.specs.Rdata.{nsec3param, uncounted, hash_fields, nsec3}
-use Rattle.domain_chain_rdata.specs.Nsec3paramText.{number_pieces}
+use Rattle.domain_bitmap.specs.{Blocks.IsBitmap, Fault.BitmapFault, Text.{types_text, spaced_types}}
+use Rattle.domain_fields.{specs.Layout.{Layout, Values, octets_of, Fits, Ends, Begins, ParsesBack, splits}, proofs.ExactLemmas.{parses_back, same_values}}
+use Rattle.domain_chain_rdata.specs.{Rdata.{nsec3param, uncounted, hash_fields, nsec3}, Nsec3paramText.number_pieces}
 use Rattle.domain_chain_rdata.specs.Nsec3Wire.{BeginsNsec3, Nsec3Fault, in_fields, in_types, Nsec3ParsesBack}
 use Rattle.domain_chain_rdata.proofs.NsecLemmas.{fields_excluded, types_excluded}
 

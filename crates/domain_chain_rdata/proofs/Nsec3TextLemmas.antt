@@ -1,23 +1,15 @@
 -- The texts of the parameters of hashes and of NSEC3 data: tokens spell one at most, and are refused for one reason, spelling none.
-use Rattle.std.proofs.Common.{◌≡◌, ℕ, ◌+◌, ◌<◌, true, List, [], ◌∷◌, length, arith, Option}
-use Rattle.std.proofs.lemmas.Bool.Decides.{nat_tests}
-use Rattle.std.proofs.lemmas.Fmt.{decimal_digit}
-use Rattle.std.proofs.lemmas.Grind.{common_steps}
-use Rattle.std.specs.Prelude.{◌==◌, codes}
+use Rattle.std.proofs.{Common.{◌≡◌, ℕ, ◌+◌, ◌<◌, true, List, [], ◌∷◌, length, arith, Option}, lemmas.{Bool.Decides.nat_tests, Fmt.decimal_digit}}
+use Rattle.std.{proofs.lemmas.Grind.common_steps, specs.Prelude.{◌==◌, codes}}
 use Rattle.domain_codecs.specs.declared.codec.Codec.TheVariants.{Base32Hex}
 use Rattle.domain_base.specs.Scan.{RefusesToken}
-use Rattle.domain_bitmap.specs.HashScan.{CountedFault, SaltTokenFault}
-use Rattle.domain_bitmap.specs.HashText.{SaltText, OwnerHashText}
-use Rattle.domain_bitmap.specs.Scan.{RefusesTypes}
+use Rattle.domain_bitmap.specs.{HashScan.{CountedFault, SaltTokenFault}, HashText.{SaltText, OwnerHashText}, Scan.RefusesTypes}
 use Rattle.domain_bitmap.proofs.ReadBackLemmas.{spelled_once}
 use Rattle.domain_bitmap.proofs.RefusalLemmas.{types_refused, types_one_fault, salt_once, salt_excludes, salt_one_fault, hash_once, hash_excludes}
 use Rattle.domain_bitmap.proofs.RefusalLemmas.{counted_one_fault}
-use Rattle.domain_fields.specs.Layout.{Values}
-use Rattle.domain_fields.specs.Scan.{Scans}
-use Rattle.domain_fields.specs.Sequence.{OneToken}
+use Rattle.domain_fields.specs.{Layout.Values, Scan.Scans, Sequence.OneToken}
 use Rattle.domain_fields.proofs.GrammarLemmas.{ReadsOnce, Excludes, OneFault, fields_once, one_token, token_refused, both_once, both_refused, both_one_fault}
-use Rattle.domain_chain_rdata.specs.Rdata.{hash_numbers}
-use Rattle.domain_chain_rdata.specs.Nsec3paramText.{Nsec3paramText, RefusesNsec3param, hash_numbers_text}
+use Rattle.domain_chain_rdata.specs.{Rdata.hash_numbers, Nsec3paramText.{Nsec3paramText, RefusesNsec3param, hash_numbers_text}}
 use Rattle.domain_chain_rdata.specs.Nsec3Text.{BitmapText, HashText, RefusesHash, Nsec3Text, RefusesNsec3, params_before_hash}
 
 -- parameters

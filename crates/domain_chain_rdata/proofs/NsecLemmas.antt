@@ -1,18 +1,12 @@
 -- NSEC data on the wire: how they are read
-use Rattle.std.proofs.Common.{arith, ◌≡◌, ℕ, true, List, [], refl, subst}
-use Rattle.std.proofs.lemmas.Grind.{common_steps}
+use Rattle.std.proofs.{Common.{arith, ◌≡◌, ℕ, true, List, [], refl, subst}, lemmas.Grind.common_steps}
 use Rattle.domain_names.specs.Fault.{Fault}
-use Rattle.domain_octets.specs.Place.{Place, Takes}
-use Rattle.domain_octets.specs.Words.{AreOctets}
-use Rattle.domain_bitmap.specs.Blocks.{IsBitmap}
-use Rattle.domain_bitmap.specs.Fault.{BitmapFault}
-use Rattle.domain_bitmap.proofs.FaultLemmas.{no_bitmap_fault}
+use Rattle.domain_octets.specs.{Place.{Place, Takes}, Words.AreOctets}
+use Rattle.domain_bitmap.{specs.{Blocks.IsBitmap, Fault.BitmapFault}, proofs.FaultLemmas.no_bitmap_fault}
 use Rattle.domain_fields.specs.Field.{spelled_name, rest}
 use Rattle.domain_fields.specs.Layout.{Layout, Values, one, ◌▸◌, Fits, Begins, FirstFault, in_first, ParsesBack, octets_of, is_delimited}
-use Rattle.domain_fields.proofs.ExactLemmas.{parses_back}
-use Rattle.domain_fields.proofs.OrderLemmas.{same_data}
-use Rattle.domain_chain_rdata.specs.Rdata.{nsec}
-use Rattle.domain_chain_rdata.specs.NsecWire.{BeginsNsec, NsecFault, in_name, in_types, NsecParsesBack}
+use Rattle.domain_fields.proofs.{ExactLemmas.parses_back, OrderLemmas.same_data}
+use Rattle.domain_chain_rdata.specs.{Rdata.nsec, NsecWire.{BeginsNsec, NsecFault, in_name, in_types, NsecParsesBack}}
 
 -- a name was read, and then all that was left as a bitmap
 pub name_then_types : (old start between new : Place) (labels : List (List ℕ)) (types : List ℕ) → start ≡ old

@@ -1,27 +1,15 @@
 -- what NSEC and NSEC3 data and the parameters of hashes are written as is read back
-use Rattle.std.proofs.lemmas.Grind.{common_steps}
-use Rattle.std.proofs.Common.{◌≡◌, ◌≢◌, ℕ, ◌<◌, All, List, [], ◌∷◌, ◌++◌, map, refl, sym, ap, subst, ◌∙◌, arith, append_assoc}
+use Rattle.std.proofs.{lemmas.Grind.common_steps, Common.{◌≡◌, ◌≢◌, ℕ, ◌<◌, All, List, [], ◌∷◌, ◌++◌, map, refl, sym, ap, subst, ◌∙◌, arith, append_assoc}}
 use Rattle.std.specs.Fmt.{decimal}
-use Rattle.domain_codecs.specs.Base32.{base32_upper}
-use Rattle.domain_octets.specs.Line.{words_of}
-use Rattle.domain_codecs.proofs.ReadBackLemmas.{upper_reads_back}
-use Rattle.domain_codecs.proofs.NoSpaceLemmas.{upper_base32_word}
-use Rattle.domain_octets.proofs.WordLemmas.{one_word, next_word, decimal_word}
-use Rattle.domain_names.specs.Name.{IsName}
-use Rattle.domain_base.specs.Numbers.{type_text}
-use Rattle.domain_names.specs.Text.{name_text}
-use Rattle.domain_base.proofs.ReadBackLemmas.{dotted_name_back, name_word}
-use Rattle.domain_bitmap.specs.Bitmap.{bitmap_octets}
-use Rattle.domain_bitmap.specs.Blocks.{IsBitmap, IsShortest, types_of}
-use Rattle.domain_bitmap.specs.HashText.{salt_text}
-use Rattle.domain_bitmap.specs.Scan.{is_among}
-use Rattle.domain_bitmap.specs.Text.{types_text}
+use Rattle.domain_codecs.{specs.Base32.base32_upper, proofs.{ReadBackLemmas.upper_reads_back, NoSpaceLemmas.upper_base32_word}}
+use Rattle.domain_octets.{specs.Line.words_of, proofs.WordLemmas.{one_word, next_word, decimal_word}}
+use Rattle.domain_names.specs.{Name.IsName, Text.name_text}
+use Rattle.domain_base.{specs.Numbers.type_text, proofs.ReadBackLemmas.{dotted_name_back, name_word}}
+use Rattle.domain_bitmap.specs.{Bitmap.bitmap_octets, Blocks.{IsBitmap, IsShortest, types_of}, HashText.salt_text, Scan.is_among, Text.types_text}
 use Rattle.domain_bitmap.proofs.ReadBackLemmas.{are_types, texts_spell, types_after, spaced_words, bitmap_back, salt_back, salt_word}
-use Rattle.domain_fields.specs.Layout.{Values, Fits}
-use Rattle.domain_fields.proofs.ReadBackLemmas.{fields_back}
+use Rattle.domain_fields.{specs.Layout.{Values, Fits}, proofs.ReadBackLemmas.fields_back}
 use Rattle.domain_chain_rdata.specs.Nsec3Text.{HashText, BitmapText, Nsec3Text, nsec3_text}
-use Rattle.domain_chain_rdata.specs.Nsec3paramText.{Nsec3paramText, hash_numbers_text, nsec3param_text}
-use Rattle.domain_chain_rdata.specs.NsecText.{NsecText}
+use Rattle.domain_chain_rdata.specs.{Nsec3paramText.{Nsec3paramText, hash_numbers_text, nsec3param_text}, NsecText.NsecText}
 use Rattle.domain_chain_rdata.specs.Rdata.{hash_numbers, nsec3param, hash_fields, nsec3}
 
 -- the bitmap of the types of a bitmap

@@ -1,13 +1,8 @@
 -- The text of NSEC data: tokens spell one at most, and are refused for one reason, spelling none.
-use Rattle.std.proofs.Common.{arith, ◌≡◌, ℕ, List, subst, Option}
-use Rattle.std.proofs.lemmas.Grind.{common_steps}
-use Rattle.domain_names.specs.TextFault.{ScanFault, IsOfTokens, NameTextFault}
-use Rattle.domain_names.specs.Text.{NameText}
+use Rattle.std.proofs.{Common.{arith, ◌≡◌, ℕ, List, subst, Option}, lemmas.Grind.common_steps}
+use Rattle.domain_names.{specs.{TextFault.{ScanFault, IsOfTokens, NameTextFault}, Text.NameText}, proofs.SpellingLemmas.one_name}
 use Rattle.domain_base.proofs.RefusalLemmas.{token_excludes, token_one_fault, name_excludes, name_one_fault}
-use Rattle.domain_names.proofs.SpellingLemmas.{one_name}
-use Rattle.domain_bitmap.specs.Scan.{TypeTexts, RefusesTypes}
-use Rattle.domain_bitmap.proofs.ReadBackLemmas.{spelled_once}
-use Rattle.domain_bitmap.proofs.RefusalLemmas.{types_refused, types_one_fault}
+use Rattle.domain_bitmap.{specs.Scan.{TypeTexts, RefusesTypes}, proofs.{ReadBackLemmas.spelled_once, RefusalLemmas.{types_refused, types_one_fault}}}
 use Rattle.domain_chain_rdata.specs.NsecText.{NsecText, RefusesNsec, in_name, in_types}
 
 module _ (names bitmaps : Option ℕ) (old : List (List ℕ)) where

@@ -1,16 +1,11 @@
 -- what the impls of comparisons cite
-use Rattle.std.proofs.Common.{◌≡◌, Bool, true, false, bytes_eq, refl, ◌&&◌}
-use Rattle.std.specs.List.{flat_map}
-use Rattle.std.specs.Ordering.{on, eq_of_both}
+use Rattle.std.{proofs.Common.{◌≡◌, Bool, true, false, bytes_eq, refl, ◌&&◌}, specs.{List.flat_map, Ordering.{on, eq_of_both}}}
 use Rattle.std.specs.Hash as fed
-use Rattle.std.specs.Hash.{Alike}
-use Rattle.std.specs.Cmp.Lexicographic.{bytes_decides}
+use Rattle.std.specs.{Hash.Alike, Cmp.Lexicographic.bytes_decides}
 use Rattle.domain_octets.specs.Words.{Octets}
-use Rattle.domain_names.specs.Name.{same_name}
-use Rattle.domain_names.specs.Laws.{same_name_same}
+use Rattle.domain_names.specs.{Name.same_name, Laws.same_name_same, Words.Name}
 use Rattle.domain_fields.specs.Layout.{canonical_of}
 use Rattle.domain_chain_rdata.specs.Rdata.{nsec_hashed}
-use Rattle.domain_names.specs.Words.{Name}
 
 left_true : (a b : Bool) → (a && b) ≡ true → a ≡ true
 left_true true b e = refl

@@ -1,24 +1,14 @@
 -- NSEC3 data as text (RFC 5155, section 3.3), and in the pieces of a zone file
 use Rattle.std.specs.Prelude.{◌≡◌, ℕ, List, [], ◌∷◌, ◌++◌, codes, Option}
-use Rattle.domain_codecs.specs.Base32.{base32_upper}
-use Rattle.domain_codecs.specs.declared.codec.Codec.TheVariants.{Base32Hex}
-use Rattle.domain_octets.specs.Piece.{PieceText, token, opens, closes}
-use Rattle.domain_octets.specs.Words.{Octets}
-use Rattle.domain_base.specs.Scan.{RefusesToken, Refusal, Grammar}
-use Rattle.domain_bitmap.specs.Bitmap.{bitmap_octets}
-use Rattle.domain_bitmap.specs.Blocks.{types_of}
-use Rattle.domain_bitmap.specs.HashScan.{CountedFault}
-use Rattle.domain_bitmap.specs.HashText.{OwnerHashText, salt_text}
-use Rattle.domain_bitmap.specs.Pieces.{type_pieces, salt_pieces}
-use Rattle.domain_bitmap.specs.Scan.{TypeTexts, RefusesTypes, is_among}
-use Rattle.domain_bitmap.specs.Text.{spaced_types}
-use Rattle.domain_fields.specs.Layout.{Values}
-use Rattle.domain_fields.specs.Sequence.{OneToken, Both, RefusesBoth}
-use Rattle.domain_chain_rdata.specs.OptOut.{opt_out_comment}
-use Rattle.domain_chain_rdata.specs.Nsec3paramText.{Nsec3paramText, RefusesNsec3param, hash_numbers_text, number_pieces}
+use Rattle.domain_codecs.specs.{Base32.base32_upper, declared.codec.Codec.TheVariants.Base32Hex}
+use Rattle.domain_octets.specs.{Piece.{PieceText, token, opens, closes}, Words.Octets}
+use Rattle.domain_base.specs.{Scan.{RefusesToken, Refusal, Grammar}, Types.Rtypes}
+use Rattle.domain_bitmap.specs.{Bitmap.bitmap_octets, Blocks.types_of, HashScan.CountedFault, HashText.{OwnerHashText, salt_text}}
+use Rattle.domain_bitmap.specs.{Pieces.{type_pieces, salt_pieces}, Scan.{TypeTexts, RefusesTypes, is_among}, Text.spaced_types}
+use Rattle.domain_fields.specs.{Layout.Values, Sequence.{OneToken, Both, RefusesBoth}}
+use Rattle.domain_chain_rdata.specs.{OptOut.opt_out_comment, Nsec3paramText.{Nsec3paramText, RefusesNsec3param, hash_numbers_text, number_pieces}}
 use Rattle.domain_chain_rdata.specs.Rdata.{hash_numbers, hash_fields, nsec3}
 use Rattle.domain_names.specs.Words.{Tokens}
-use Rattle.domain_base.specs.Types.{Rtypes}
 
 -- all tokens spell the types of a bitmap, one each
 pub record BitmapText (old : Tokens) (octets : Octets) (new : Tokens) : Type 0 where

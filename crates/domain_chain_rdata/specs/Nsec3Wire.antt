@@ -2,8 +2,7 @@
 use Rattle.std.specs.Prelude.{◌≡◌, []}
 use Rattle.domain_octets.specs.Words.{Octets}
 use Rattle.domain_names.specs.Fault.{Fault}
-use Rattle.domain_bitmap.specs.Blocks.{IsBitmap}
-use Rattle.domain_bitmap.specs.Fault.{BitmapFault}
+use Rattle.domain_bitmap.specs.{Blocks.IsBitmap, Fault.BitmapFault}
 use Rattle.domain_fields.specs.Layout.{Values, octets_of, Begins, FirstFault}
 use Rattle.domain_chain_rdata.specs.Rdata.{hash_fields, nsec3}
 

@@ -1,16 +1,10 @@
 -- the parameters of the hashes of names as text (RFC 5155, section 4.3), and in the pieces of a
 -- zone file
-use Rattle.std.specs.Prelude.{ℕ, List, [], ◌∷◌, ◌++◌, codes, Option}
-use Rattle.std.specs.Fmt.{decimal}
-use Rattle.domain_octets.specs.Piece.{PieceText, token, comment, opens, closes}
-use Rattle.domain_octets.specs.Words.{Octets}
+use Rattle.std.specs.{Prelude.{ℕ, List, [], ◌∷◌, ◌++◌, codes, Option}, Fmt.decimal}
+use Rattle.domain_octets.specs.{Piece.{PieceText, token, comment, opens, closes}, Words.Octets}
 use Rattle.domain_base.specs.Scan.{RefusesToken, Refusal, Grammar}
-use Rattle.domain_bitmap.specs.HashText.{SaltText, salt_text}
-use Rattle.domain_bitmap.specs.HashScan.{SaltTokenFault}
-use Rattle.domain_bitmap.specs.Pieces.{salt_pieces}
-use Rattle.domain_fields.specs.Layout.{Values}
-use Rattle.domain_fields.specs.Scan.{Scans, Refuses}
-use Rattle.domain_fields.specs.Sequence.{OneToken, Both, RefusesBoth}
+use Rattle.domain_bitmap.specs.{HashText.{SaltText, salt_text}, HashScan.SaltTokenFault, Pieces.salt_pieces}
+use Rattle.domain_fields.specs.{Layout.Values, Scan.{Scans, Refuses}, Sequence.{OneToken, Both, RefusesBoth}}
 use Rattle.domain_chain_rdata.specs.Rdata.{hash_numbers, nsec3param}
 
 -- the tokens begin with three numbers and a salt, and these are left

@@ -1,16 +1,9 @@
 -- NSEC data as tokens and as pieces of a zone file
 use Rattle.std.specs.Prelude.{◌≡◌, ℕ, List, [], ◌∷◌, ◌++◌, codes, Option}
-use Rattle.domain_octets.specs.Piece.{PieceText, token, opens, closes}
-use Rattle.domain_octets.specs.Words.{Octets}
-use Rattle.domain_names.specs.TextFault.{ScanFault, NameTextFault}
-use Rattle.domain_base.specs.Scan.{TakesToken, RefusesToken}
-use Rattle.domain_names.specs.Text.{NameText, name_text}
-use Rattle.domain_bitmap.specs.Bitmap.{bitmap_octets}
-use Rattle.domain_bitmap.specs.Blocks.{types_of}
-use Rattle.domain_bitmap.specs.Pieces.{type_pieces}
-use Rattle.domain_bitmap.specs.Scan.{TypeTexts, RefusesTypes, is_among}
-use Rattle.domain_names.specs.Words.{Tokens, Name}
-use Rattle.domain_base.specs.Types.{Rtypes}
+use Rattle.domain_octets.specs.{Piece.{PieceText, token, opens, closes}, Words.Octets}
+use Rattle.domain_names.specs.{TextFault.{ScanFault, NameTextFault}, Text.{NameText, name_text}, Words.{Tokens, Name}}
+use Rattle.domain_base.specs.{Scan.{TakesToken, RefusesToken}, Types.Rtypes}
+use Rattle.domain_bitmap.specs.{Bitmap.bitmap_octets, Blocks.types_of, Pieces.type_pieces, Scan.{TypeTexts, RefusesTypes, is_among}}
 
 -- the tokens are a name, and then types to the end, one a token (RFC 4034, section 4.2)
 pub record NsecText (old : Tokens) (labels : Name) (octets : Octets) (new : Tokens) : Type 0 where

@@ -1,13 +1,10 @@
 -- NSEC data on the wire (RFC 4034, section 4.1)
 use Rattle.std.specs.Prelude.{◌≡◌, []}
 use Rattle.domain_octets.specs.Words.{Octets}
-use Rattle.domain_names.specs.Fault.{Fault}
-use Rattle.domain_bitmap.specs.Blocks.{IsBitmap}
-use Rattle.domain_bitmap.specs.Fault.{BitmapFault}
-use Rattle.domain_fields.specs.Field.{spelled_name}
-use Rattle.domain_fields.specs.Layout.{Values, one, octets_of, Begins, FirstFault}
+use Rattle.domain_names.specs.{Fault.Fault, Words.Name}
+use Rattle.domain_bitmap.specs.{Blocks.IsBitmap, Fault.BitmapFault}
+use Rattle.domain_fields.specs.{Field.spelled_name, Layout.{Values, one, octets_of, Begins, FirstFault}}
 use Rattle.domain_chain_rdata.specs.Rdata.{nsec}
-use Rattle.domain_names.specs.Words.{Name}
 
 -- the octets are a name, and then a type bitmap to the end
 pub record BeginsNsec (octets : Octets) (values : Values nsec) (after : Octets) : Type 0 where

@@ -1,10 +1,7 @@
 -- the fields of record data, in the order of the wire
 use Rattle.domain_octets.specs.Words.{Octets}
-use Rattle.domain_fields.specs.Field.{octet, short, name, spelled_name, counted, rest}
-use Rattle.domain_fields.specs.Layout.{Layout, one, ◌▸◌, Values, octets_of}
-use Rattle.domain_chain_rdata.specs.declared.nsec.Nsec.{Nsec}
-use Rattle.domain_chain_rdata.specs.declared.nsec3.Nsec3.{Nsec3}
-use Rattle.domain_chain_rdata.specs.declared.nsec3param.Nsec3param.{Nsec3param}
+use Rattle.domain_fields.specs.{Field.{octet, short, name, spelled_name, counted, rest}, Layout.{Layout, one, ◌▸◌, Values, octets_of}}
+use Rattle.domain_chain_rdata.specs.declared.{nsec.Nsec.Nsec, nsec3.Nsec3.Nsec3, nsec3param.Nsec3param.Nsec3param}
 use Rattle.domain_names.specs.Words.{Name}
 
 -- the next name, whose case the canonical form keeps (RFC 6840, section 5.1), and the type bitmap

@@ -1,8 +1,6 @@
 //! NSEC3 data compared and hashed.
-ghost use Rattle.std.specs.Prelude.{◌≡◌, ◌↔◌, Some, IsTrue, refl, bytes_eq};
-ghost use Rattle.std.specs.List.{flat_map};
-ghost use Rattle.std.specs.Ordering.{on, nat_cmp};
-ghost use Rattle.std.specs.Cmp.{partial_equiv_from_equiv, po};
+ghost use Rattle.std.specs.{Prelude.{◌≡◌, ◌↔◌, Some, IsTrue, refl, bytes_eq}, List.flat_map};
+ghost use Rattle.std.specs.{Ordering.{on, nat_cmp}, Cmp.{partial_equiv_from_equiv, po}};
 ghost use Rattle.std.specs.Cmp.Lexicographic.{slice_cmp, on_texts, on_texts_equal};
 ghost use Rattle.std.specs.Hash as fed;
 ghost use Rattle.domain_fields.specs.Laws.{fed_alike, tied_octets};

@@ -1,7 +1,6 @@
 //! The parameters of the hashes of a zone's names (RFC 5155, section 4).
-ghost use Rattle.std.specs.Prelude.{◌≡◌, ◌↔◌, [], Some, IsTrue, IfOk, IfErr, OnErr, length, refl, bytes_eq, IsNone};
-ghost use Rattle.std.specs.List.{flat_map};
-ghost use Rattle.std.specs.Ordering.{on, nat_cmp};
+ghost use Rattle.std.specs.Prelude.{◌≡◌, ◌↔◌, [], Some, IsTrue, IfOk, IfErr, OnErr, length, refl};
+ghost use Rattle.std.specs.{Prelude.{bytes_eq, IsNone}, List.flat_map, Ordering.{on, nat_cmp}};
 ghost use Rattle.std.specs.Cmp.{partial_equiv_from_equiv, po};
 ghost use Rattle.std.specs.Cmp.Lexicographic.{slice_cmp, on_texts, on_texts_equal};
 ghost use Rattle.std.specs.Hash as fed;

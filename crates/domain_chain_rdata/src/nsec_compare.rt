@@ -8,10 +8,8 @@ ghost use Rattle.std.specs.Hash as fed;
 ghost use Rattle.domain_names.specs.Name.{same_name};
 ghost use Rattle.domain_names.specs.Order.{canonical_cmp as name_cmp, canonical_cmp_total};
 ghost use Rattle.domain_names.specs.Laws.{same_name_equiv};
-ghost use Rattle.domain_fields.specs.Laws.{ties_of_both};
-ghost use Rattle.domain_fields.specs.Layout.{canonical_of};
-ghost use Rattle.domain_chain_rdata.specs.Rdata.{nsec, nsec_values, nsec_hashed};
-ghost use Rattle.domain_chain_rdata.specs.Laws.{nsec_fed};
+ghost use Rattle.domain_fields.specs.{Laws.ties_of_both, Layout.canonical_of};
+ghost use Rattle.domain_chain_rdata.specs.{Rdata.{nsec, nsec_values, nsec_hashed}, Laws.nsec_fed};
 
 use crate::Nsec;
 use domain_base::ToName;

@@ -1,18 +1,13 @@
 //! What holds of the octets and the text of NSEC data (RFC 4034, section 4).
 //! A caller calls the law in its body.
 ghost use Rattle.std.specs.Prelude.{◌≡◌, ℕ, ◌++◌, [], Option, codes};
-ghost use Rattle.domain_octets.specs.Line.{words_of};
-ghost use Rattle.domain_octets.specs.Words.{Octets};
-ghost use Rattle.domain_names.specs.TextFault.{ScanFault, IsOfTokens};
-ghost use Rattle.domain_names.specs.Text.{name_text};
+ghost use Rattle.domain_octets.specs.{Line.words_of, Words.Octets};
+ghost use Rattle.domain_names.specs.{TextFault.{ScanFault, IsOfTokens}, Text.name_text};
 ghost use Rattle.domain_names.specs.Words.{Name, Tokens};
-ghost use Rattle.domain_bitmap.specs.Bitmap.{bitmap_octets};
-ghost use Rattle.domain_bitmap.specs.Blocks.{IsShortest, types_of};
-ghost use Rattle.domain_bitmap.specs.Scan.{is_among};
-ghost use Rattle.domain_bitmap.specs.Text.{types_text};
+ghost use Rattle.domain_bitmap.specs.{Bitmap.bitmap_octets, Blocks.{IsShortest, types_of}};
+ghost use Rattle.domain_bitmap.specs.{Scan.is_among, Text.types_text};
 ghost use Rattle.domain_chain_rdata.specs.NsecText.{NsecText, RefusesNsec};
-ghost use Rattle.domain_chain_rdata.specs.NsecWire.{NsecParsesBack};
-ghost use Rattle.domain_chain_rdata.specs.Rdata.{nsec_values};
+ghost use Rattle.domain_chain_rdata.specs.{NsecWire.NsecParsesBack, Rdata.nsec_values};
 
 use crate::Nsec;
 use domain_base::ToName;

@@ -1,9 +1,7 @@
 //! NSEC data as text.
 ghost use Rattle.std.specs.Prelude.{◌++◌, Some, codes, IfOk, IfErr};
-ghost use Rattle.domain_names.specs.TextFault.{scan_fault_of};
-ghost use Rattle.domain_names.specs.Text.{name_text};
-ghost use Rattle.domain_bitmap.specs.Blocks.{types_of};
-ghost use Rattle.domain_bitmap.specs.Text.{types_text};
+ghost use Rattle.domain_names.specs.{TextFault.scan_fault_of, Text.name_text};
+ghost use Rattle.domain_bitmap.specs.{Blocks.types_of, Text.types_text};
 ghost use Rattle.domain_chain_rdata.specs.NsecText.{NsecText, RefusesNsec, nsec_pieces};
 
 use crate::Nsec;

@@ -2,10 +2,8 @@
 ghost use Rattle.std.specs.Prelude.{◌≡◌, IfOk, IfErr, OnErr};
 ghost use Rattle.domain_names.specs.Fault.{fault_of};
 ghost use Rattle.domain_base.specs.Types as rtypes;
-ghost use Rattle.domain_fields.specs.Field.{spelled_name};
-ghost use Rattle.domain_fields.specs.Layout.{one, Begins, FirstFault, GoesOn};
-ghost use Rattle.domain_chain_rdata.specs.NsecWire.{BeginsNsec, NsecFault};
-ghost use Rattle.domain_chain_rdata.specs.Rdata.{nsec_values};
+ghost use Rattle.domain_fields.specs.{Field.spelled_name, Layout.{one, Begins, FirstFault, GoesOn}};
+ghost use Rattle.domain_chain_rdata.specs.{NsecWire.{BeginsNsec, NsecFault}, Rdata.nsec_values};
 
 use crate::Nsec;
 use domain_base::{ParsedName, Rtype};

@@ -1,21 +1,14 @@
 -- What NSEC records say does not depend on TTLs, classes and the case of letters.
-use Rattle.std.proofs.Common.{◌≡◌, ℕ, Bool, cond, not, ◌&&◌, ◌||◌, List, [], ◌∷◌, refl, nat_eq, Option, Some, None, arith}
-use Rattle.domain_names.specs.Name.{is_at_or_below, lowered}
-use Rattle.domain_names.specs.Order.{before}
+use Rattle.std.proofs.{Common.{◌≡◌, ℕ, Bool, cond, not, ◌&&◌, ◌||◌, List, [], ◌∷◌, refl, nat_eq, Option, Some, None, arith}, lemmas.Grind.common_steps}
+use Rattle.domain_names.specs.{Name.{is_at_or_below, lowered}, Order.before, Words.Name}
 use Rattle.domain_base.specs.Types.{ds, ns}
-use Rattle.domain_names.specs.Words.{Name}
 use Rattle.domain_bitmap.specs.Blocks.{contains_type}
-use Rattle.domain_zone.specs.Covering.{covers, matches, matches_or_covers}
-use Rattle.domain_zone.specs.Enclosers.{shared}
-use Rattle.domain_zone.specs.Zone.{ZoneRecord}
+use Rattle.domain_zone.specs.{Covering.{covers, matches, matches_or_covers}, Enclosers.shared, Zone.ZoneRecord}
 use Rattle.domain_zone.proofs.NameLemmas.{before_left, before_right, lowered_below, one_lowered, same_lowered}
 use Rattle.domain_nsec.specs.Chain.{Link}
-use Rattle.domain_checker.specs.Alike.{ArePaired, IsAlike}
-use Rattle.domain_checker.specs.Reading.{cover_verdict, is_at_cut, is_cover, is_match, match_verdict, reading, verdict_of_both}
-use Rattle.domain_checker.specs.Verdict.{is_inside, proved_verdict}
-use Rattle.domain_checker.specs.declared.verdict.Verdict.TheVariants.{OutsideZone, BelowDelegation, Has, NoType}
+use Rattle.domain_checker.specs.{Alike.{ArePaired, IsAlike}, Reading.{cover_verdict, is_at_cut, is_cover, is_match, match_verdict, reading, verdict_of_both}}
+use Rattle.domain_checker.specs.{Verdict.{is_inside, proved_verdict}, declared.verdict.Verdict.TheVariants.{OutsideZone, BelowDelegation, Has, NoType}}
 use Rattle.domain_checker.proofs.PairedLemmas.{OptionsPaired, any_alike, find_alike}
-use Rattle.std.proofs.lemmas.Grind.{common_steps}
 
 -- ---- one record
 

@@ -1,17 +1,10 @@
 -- The zone cuts that an NSEC3 chain holds: what exists is not strictly below one.
-use Rattle.std.proofs.Common.{◌≡◌, true, false, List, inl, inr, arith}
-use Rattle.std.proofs.lemmas.Bool.{cases_Bool}
-use Rattle.domain_names.specs.Name.{is_strictly_below}
-use Rattle.domain_names.specs.Words.{Name}
-use Rattle.domain_zone.specs.Enclosers.{exists_over}
-use Rattle.domain_zone.specs.Zone.{ZoneRecord, is_zone_cut}
-use Rattle.domain_zone.proofs.NameLemmas.{one_lowered, same_itself, below_itself, strictly_longer}
-use Rattle.domain_zone.proofs.OwnerLemmas.{any_in, in_any}
-use Rattle.domain_nsec3.specs.Config.{ChainConfig}
-use Rattle.domain_nsec3.specs.Meaning.{CutsEnclose}
-use Rattle.domain_nsec3.specs.Owners.{is_original_owner, original_owners}
+use Rattle.std.proofs.{Common.{◌≡◌, true, false, List, inl, inr, arith}, lemmas.{Bool.cases_Bool, Grind.common_steps}}
+use Rattle.domain_names.specs.{Name.is_strictly_below, Words.Name}
+use Rattle.domain_zone.specs.{Enclosers.exists_over, Zone.{ZoneRecord, is_zone_cut}}
+use Rattle.domain_zone.proofs.{NameLemmas.{one_lowered, same_itself, below_itself, strictly_longer}, OwnerLemmas.{any_in, in_any}}
+use Rattle.domain_nsec3.specs.{Config.ChainConfig, Meaning.CutsEnclose, Owners.{is_original_owner, original_owners}}
 use Rattle.domain_checker.specs.HashedVerdict.{is_below_chain_cut}
-use Rattle.std.proofs.lemmas.Grind.{common_steps}
 
 module _ (L : List ZoneRecord) (a : Name) (config : ChainConfig) where
   -- a zone cut of the chain that y is strictly below

@@ -1,7 +1,5 @@
 -- A zone has a verdict on every name and type: a choice between verdicts is one of them.
-use Rattle.std.proofs.Common.{arith, ◌≡◌, ◌≢◌, Bool, true, false, cond, sym, ap, ◌∙◌}
-use Rattle.std.proofs.lemmas.Grind.{common_steps}
-use Rattle.std.proofs.lemmas.Bool.{true≢false}
+use Rattle.std.proofs.{Common.{arith, ◌≡◌, ◌≢◌, Bool, true, false, cond, sym, ap, ◌∙◌}, lemmas.{Grind.common_steps, Bool.true≢false}}
 use Rattle.domain_checker.specs.declared.verdict.Verdict.{Verdict}
 use Rattle.domain_checker.specs.declared.verdict.Verdict.TheVariants.{OutsideZone, BelowDelegation, Has, NoType, EmptyName, OptOut, NoName, NotProven}
 

@@ -1,20 +1,13 @@
 -- The first of a name and its ancestors that exists is its closest encloser, and an occluded name is below a name that occludes and is not occluded itself.
 use Rattle.std.proofs.Common.{◌≡◌, ℕ, ◌≤◌, Bool, zero, suc, true, false, cond, not, ◌&&◌, List, [], ◌∷◌, map, length, refl, sym, ap, ◌∙◌, inl, inr, arith}
-use Rattle.std.specs.Char.{to_ascii_lowercase}
-use Rattle.std.specs.List.{list_any}
-use Rattle.std.proofs.lemmas.Bool.{cases_Bool, false≢true, and_parts, and_from, cases_lt}
-use Rattle.std.proofs.lemmas.List.{length-map}
-use Rattle.domain_names.specs.Name.{is_at_or_below, is_strictly_below, lowered, same_name}
-use Rattle.domain_names.specs.Words.{Name}
+use Rattle.std.proofs.lemmas.{Bool.{cases_Bool, false≢true, and_parts, and_from, cases_lt}, List.length-map, Grind.common_steps}
+use Rattle.std.specs.{Char.to_ascii_lowercase, List.list_any}
+use Rattle.domain_names.specs.{Name.{is_at_or_below, is_strictly_below, lowered, same_name}, Words.Name}
 use Rattle.domain_zone.specs.Enclosers.{IsClosestEncloser, exists_over}
 use Rattle.domain_zone.specs.Zone.{ZoneRecord, is_zone_cut, occludes, is_occluded, is_unoccluded, distinct, unoccluded_owners, owns}
-use Rattle.domain_zone.proofs.NameLemmas.{one_lowered, below_itself, below_trans, below_longer, below_length, below_parent}
-use Rattle.domain_zone.proofs.NameLemmas.{strictly_longer, same_length, lowered_below}
-use Rattle.domain_zone.proofs.PairLemmas.{In}
-use Rattle.domain_zone.proofs.OwnerLemmas.{any_in, in_any, occluder_below}
-use Rattle.domain_zone.proofs.FindLemmas.{in_filter, from_map}
+use Rattle.domain_zone.proofs.NameLemmas.{one_lowered, below_itself, below_trans, below_longer, below_length, below_parent, strictly_longer, same_length}
+use Rattle.domain_zone.proofs.{NameLemmas.lowered_below, PairLemmas.In, OwnerLemmas.{any_in, in_any, occluder_below}, FindLemmas.{in_filter, from_map}}
 use Rattle.domain_checker.specs.Verdict.{closest_encloser}
-use Rattle.std.proofs.lemmas.Grind.{common_steps}
 
 -- ---- names at or below each other
 

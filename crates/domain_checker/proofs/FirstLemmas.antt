@@ -1,14 +1,8 @@
 -- The first element that passes a test, looked for from a place of the list on.
 use Rattle.std.proofs.Common.{◌≡◌, ℕ, ◌+◌, ◌<◌, Bool, true, false, cond, List, map, drop, length, get_or, Option, Some, sym, ap, ◌∙◌, arith}
-use Rattle.std.specs.List.{find}
-use Rattle.std.specs.Option.{is_some, option_map, option_or}
-use Rattle.std.specs.Ordering.{is_eq}
-use Rattle.domain_names.specs.Laws.{same_name_ties}
-use Rattle.domain_names.specs.Order.{before, canonical_cmp}
-use Rattle.domain_names.specs.Words.{Name}
-use Rattle.domain_zone.specs.Covering.{matches}
-use Rattle.domain_zone.proofs.NameLemmas.{same_is}
-use Rattle.std.proofs.lemmas.Grind.{common_steps}
+use Rattle.std.{proofs.lemmas.Grind.common_steps, specs.{List.find, Option.{is_some, option_map, option_or}, Ordering.is_eq}}
+use Rattle.domain_names.specs.{Laws.same_name_ties, Order.{before, canonical_cmp}, Words.Name}
+use Rattle.domain_zone.{specs.Covering.matches, proofs.NameLemmas.same_is}
 
 -- an owner matches the names that the order can't tell from it
 pub match_is_tie : (x y : Name) → matches before x y ≡ is_eq (canonical_cmp x y)

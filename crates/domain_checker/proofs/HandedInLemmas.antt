@@ -1,18 +1,11 @@
 -- The first element that passes a test, looked for in a list to which one element is added.
-use Rattle.std.proofs.Common.{◌≡◌, ℕ, Bool, true, false, cond, List, [], ◌∷◌, ◌++◌, Option, Some, None, refl, sym, ap, ◌∙◌, arith}
-use Rattle.std.specs.List.{find}
-use Rattle.std.specs.Option.{is_some, option_map, option_or, unwrap_or}
-use Rattle.std.proofs.lemmas.Bool.{false≢true}
-use Rattle.std.proofs.lemmas.List.Folds.{find-append}
+use Rattle.std.proofs.{Common.{◌≡◌, ℕ, Bool, true, false, cond, List, [], ◌∷◌, ◌++◌, Option, Some, None, refl, sym, ap, ◌∙◌, arith}, lemmas.Bool.false≢true}
+use Rattle.std.{proofs.lemmas.{List.Folds.find-append, Grind.common_steps}, specs.{List.find, Option.{is_some, option_map, option_or, unwrap_or}}}
 use Rattle.domain_octets.proofs.StdLemmas.{or_none}
 use Rattle.domain_names.specs.Words.{Name}
 use Rattle.domain_nsec.specs.Chain.{Link}
-use Rattle.domain_checker.specs.HandedIn.{HasRead}
-use Rattle.domain_checker.specs.Reading.{cover_verdict, list_verdict, match_verdict, verdict_of_both}
-use Rattle.domain_checker.specs.declared.nsec_check.NsecCheck.{NsecCheck}
-use Rattle.domain_checker.specs.declared.verdict.Verdict.{Verdict}
-use Rattle.domain_checker.specs.declared.verdict.Verdict.TheVariants.{NotProven}
-use Rattle.std.proofs.lemmas.Grind.{common_steps}
+use Rattle.domain_checker.specs.{HandedIn.HasRead, Reading.{cover_verdict, list_verdict, match_verdict, verdict_of_both}}
+use Rattle.domain_checker.specs.declared.{nsec_check.NsecCheck.NsecCheck, verdict.Verdict.{Verdict, TheVariants.NotProven}}
 
 module _ {X V : Type 0} (p : X → Bool) (f : X → V) (xs : List X) (x : X) where
   found_with : (b : Bool) → p x ≡ b → find p (xs ++ x ∷ []) ≡ option_or (find p xs) (cond b (Some x) None)

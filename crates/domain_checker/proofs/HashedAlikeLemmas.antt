@@ -1,33 +1,20 @@
 -- What NSEC3 records say does not depend on TTLs, classes and the case of letters.
 use Rattle.std.proofs.Common.{◌≡◌, ℕ, cond, not, ◌&&◌, ◌||◌, List, [], ◌∷◌, map, refl, sym, ap, ◌∙◌, subst, inl, inr, Option, Some, None, arith}
-use Rattle.std.specs.Prelude.{is_some, unwrap_or}
-use Rattle.std.specs.Char.{to_ascii_lowercase}
-use Rattle.std.specs.List.{list_all}
-use Rattle.std.proofs.lemmas.List.{length-map}
-use Rattle.domain_codecs.specs.Codec.{base32_digits, base32_octets, base32_value, is_base32_length, is_digit}
+use Rattle.std.{proofs.lemmas.{List.length-map, Grind.common_steps}, specs.{Prelude.{is_some, unwrap_or}, Char.to_ascii_lowercase, List.list_all}}
+use Rattle.domain_codecs.specs.{Codec.{base32_digits, base32_octets, base32_value, is_base32_length, is_digit}, declared.codec.Codec.TheVariants.Base32Hex}
 use Rattle.domain_octets.specs.Words.{Octets}
-use Rattle.domain_codecs.specs.declared.codec.Codec.TheVariants.{Base32Hex}
-use Rattle.domain_names.specs.Name.{is_at_or_below, lowered, same_name}
+use Rattle.domain_names.specs.{Name.{is_at_or_below, lowered, same_name}, Words.{Label, Name}}
 use Rattle.domain_base.specs.Types.{ns}
-use Rattle.domain_names.specs.Words.{Label, Name}
 use Rattle.domain_bitmap.specs.Blocks.{contains_type}
-use Rattle.domain_zone.specs.Covering.{covers, matches}
-use Rattle.domain_zone.specs.Zone.{ZoneRecord, is_zone_cut}
-use Rattle.domain_zone.proofs.NameLemmas.{one_lowered, same_lowered}
-use Rattle.domain_nsec3.specs.Chain.{HashedLink}
-use Rattle.domain_nsec3.specs.Config.{ChainConfig, Parameters}
-use Rattle.domain_nsec3.specs.Meaning.{octets_before}
-use Rattle.domain_nsec3.specs.Owners.{original_owners}
+use Rattle.domain_zone.{specs.{Covering.{covers, matches}, Zone.{ZoneRecord, is_zone_cut}}, proofs.NameLemmas.{one_lowered, same_lowered}}
+use Rattle.domain_nsec3.specs.{Chain.HashedLink, Config.{ChainConfig, Parameters}, Meaning.octets_before, Owners.original_owners}
 use Rattle.domain_checker.specs.Alike.{ArePaired, IsHashedAlike}
 use Rattle.domain_checker.specs.HashedList.{hash_in, is_hash_cover, is_hash_match, is_some_with, is_spelling, owner_hash, read_label, same_parameters}
 use Rattle.domain_checker.specs.HashedView.{HashedRecords, chain_records, first_cover, first_match, with_links}
 use Rattle.domain_checker.specs.HashedReading.{IsWalked, hash_cover_verdict, tells_cut, told_verdict}
 use Rattle.domain_checker.specs.HashedVerdict.{IsFirst, hashed_proved_verdict, hashed_zone_verdict, is_covered, is_matched, next_closer, proves}
-use Rattle.domain_checker.specs.Verdict.{closest_encloser}
-use Rattle.domain_checker.specs.declared.verdict.Verdict.{Verdict}
-use Rattle.domain_checker.specs.declared.verdict.Verdict.TheVariants.{NotProven}
+use Rattle.domain_checker.specs.{Verdict.closest_encloser, declared.verdict.Verdict.{Verdict, TheVariants.NotProven}}
 use Rattle.domain_checker.proofs.PairedLemmas.{OptionsPaired, any_alike, find_alike}
-use Rattle.std.proofs.lemmas.Grind.{common_steps}
 
 -- ---- labels
 

@@ -1,29 +1,18 @@
 -- What the closest encloser tells of a name is what the way from the name to the apex gives.
 use Rattle.std.proofs.Common.{◌≡◌, ℕ, true, false, cond, not, ◌&&◌, List, length, sym, ap, ◌∙◌, inl, inr, nat_eq, Option, Some, None, arith}
-use Rattle.std.proofs.lemmas.Bool.{cases_Bool, false≢true}
-use Rattle.std.specs.List.{Contains}
+use Rattle.std.{proofs.lemmas.{Bool.{cases_Bool, false≢true}, Grind.common_steps}, specs.List.Contains}
 use Rattle.domain_octets.specs.Words.{Octets}
-use Rattle.domain_names.specs.Name.{is_at_or_below, same_name}
+use Rattle.domain_names.specs.{Name.{is_at_or_below, same_name}, Words.Name}
 use Rattle.domain_base.specs.Types.{ds, ns}
-use Rattle.domain_names.specs.Words.{Name}
 use Rattle.domain_bitmap.specs.Blocks.{contains_type, types_of}
-use Rattle.domain_zone.specs.Zone.{ZoneRecord, has_type, records_of}
-use Rattle.domain_zone.proofs.NameLemmas.{below_trans, same_length}
-use Rattle.domain_zone.proofs.FindLemmas.{in_at, stands_from}
-use Rattle.domain_nsec3.specs.Chain.{HashedLink}
-use Rattle.domain_nsec3.specs.Config.{ChainConfig}
-use Rattle.domain_nsec3.specs.Meaning.{IsAlone}
-use Rattle.domain_nsec3.specs.Owners.{nsec3_lists}
-use Rattle.domain_checker.specs.HashedFacts.{ChainFacts}
-use Rattle.domain_checker.specs.HashedList.{is_hash_cover, is_hash_match}
-use Rattle.domain_checker.specs.HashedView.{HashedRecords}
+use Rattle.domain_zone.{specs.Zone.{ZoneRecord, has_type, records_of}, proofs.{NameLemmas.{below_trans, same_length}, FindLemmas.{in_at, stands_from}}}
+use Rattle.domain_nsec3.specs.{Chain.HashedLink, Config.ChainConfig, Meaning.IsAlone, Owners.nsec3_lists}
+use Rattle.domain_checker.specs.{HashedFacts.ChainFacts, HashedList.{is_hash_cover, is_hash_match}, HashedView.HashedRecords}
 use Rattle.domain_checker.specs.HashedEncloser.{Encloser, IsDenial, IsEncloser, IsFoundEncloser, IsOfName, encloser_is_cut, encloser_verdict, found_verdict}
 use Rattle.domain_checker.specs.HashedEncloser.{lower_verdict, next_cover, own_verdict}
 use Rattle.domain_checker.specs.HashedReading.{IsNextHash, IsTold, IsUnmatched, IsWalked, hash_cover_verdict, is_none, tells_cut, told_verdict}
 use Rattle.domain_checker.specs.declared.verdict.Verdict.TheVariants.{BelowDelegation, Has, NoType, EmptyName}
-use Rattle.domain_checker.proofs.HashedListLemmas.{covered_never, matched_once, told_at}
-use Rattle.domain_checker.proofs.HashedVerdictLemmas.{ns_listed}
-use Rattle.std.proofs.lemmas.Grind.{common_steps}
+use Rattle.domain_checker.proofs.{HashedListLemmas.{covered_never, matched_once, told_at}, HashedVerdictLemmas.ns_listed}
 
 module _ (R : HashedRecords) (x : Name) (e : Encloser)
     (is : IsEncloser R x e) where

@@ -1,34 +1,18 @@
 -- What a record of an NSEC3 chain says of the hash of a name that no other name of the chain has.
 use Rattle.std.proofs.Common.{◌≡◌, ℕ, Bool, zero, suc, true, cond, not, ◌&&◌, ◌||◌, List, [], ◌∷◌, map, refl, sym, ap, ◌∙◌, inr, eq-eqb, Some, slice_get, arith}
-use Rattle.std.specs.List.{AllByRecursion}
-use Rattle.std.specs.Cmp.Lexicographic.{nat_list_cmp_total, slice_cmp, bytes_decides}
-use Rattle.std.specs.Ordering.{nat_cmp, is_lt, is_eq, ordering_reverse}
-use Rattle.std.specs.declared.cmp.Ordering.{Ordering}
-use Rattle.std.specs.declared.cmp.Ordering.TheVariants.{Less, Equal, Greater}
-use Rattle.std.proofs.lemmas.Bool.{false≢true, and_parts, not-true, or_left, or_right}
-use Rattle.std.proofs.lemmas.List.Elements.{recursion_from_All}
-use Rattle.std.proofs.lemmas.List.Sums.{list_all-from_AllPass}
-use Rattle.domain_codecs.specs.Base32.{base32_lower}
-use Rattle.domain_codecs.specs.Codec.{IsBase32}
+use Rattle.std.proofs.lemmas.{Bool.{false≢true, and_parts, not-true, or_left, or_right}, List.{Elements.recursion_from_All, Sums.list_all-from_AllPass}}
+use Rattle.std.{proofs.lemmas.Grind.common_steps, specs.{List.AllByRecursion, Cmp.Lexicographic.{nat_list_cmp_total, slice_cmp, bytes_decides}}}
+use Rattle.std.specs.{Ordering.{nat_cmp, is_lt, is_eq, ordering_reverse}, declared.cmp.Ordering.{Ordering, TheVariants.{Less, Equal, Greater}}}
+use Rattle.domain_codecs.specs.{Base32.base32_lower, Codec.IsBase32}
 use Rattle.domain_octets.specs.Words.{Octets, AreOctets}
-use Rattle.domain_names.specs.Name.{is_at_or_below, same_name, wire_of}
-use Rattle.domain_names.specs.Words.{Name}
+use Rattle.domain_names.specs.{Name.{is_at_or_below, same_name, wire_of}, Words.Name}
 use Rattle.domain_bitmap.specs.Bitmap.{bitmap_octets}
-use Rattle.domain_zone.specs.Covering.{matches, covers, matches_or_covers}
-use Rattle.domain_zone.specs.Zone.{ZoneRecord}
-use Rattle.domain_zone.proofs.NameLemmas.{same_itself, one_lowered}
-use Rattle.domain_zone.proofs.PairLemmas.{In, all_in}
-use Rattle.domain_zone.proofs.OwnerLemmas.{in_any}
-use Rattle.domain_zone.proofs.FindLemmas.{in_at, in_pairs, Stands}
-use Rattle.domain_nsec3.specs.Chain.{HashedLink, HashedName, IsOfChain, cycle, ends, ends_of, hashed_owner}
-use Rattle.domain_nsec3.specs.Config.{ChainConfig, Parameters, Hash, hash_name}
-use Rattle.domain_nsec3.specs.Meaning.{IsAlone, IsCovered, IsMatched, IsMatchedOrCoveredOnce, IsRecordOf, octets_before}
-use Rattle.domain_nsec3.specs.Owners.{is_chain_name, nsec3_lists}
-use Rattle.domain_checker.specs.HashedFacts.{ChainFacts}
-use Rattle.domain_checker.specs.HashedList.{same_parameters, is_spelling, owner_hash, is_some_with, is_hash_match, is_hash_cover}
-use Rattle.domain_checker.specs.HashedView.{chain_records}
-use Rattle.domain_checker.specs.HashedVerdict.{is_covered, is_matched}
-use Rattle.std.proofs.lemmas.Grind.{common_steps}
+use Rattle.domain_zone.specs.{Covering.{matches, covers, matches_or_covers}, Zone.ZoneRecord}
+use Rattle.domain_zone.proofs.{NameLemmas.{same_itself, one_lowered}, PairLemmas.{In, all_in}, OwnerLemmas.in_any, FindLemmas.{in_at, in_pairs, Stands}}
+use Rattle.domain_nsec3.specs.{Chain.{HashedLink, HashedName, IsOfChain, cycle, ends, ends_of, hashed_owner}, Config.{ChainConfig, Parameters, Hash, hash_name}}
+use Rattle.domain_nsec3.specs.{Meaning.{IsAlone, IsCovered, IsMatched, IsMatchedOrCoveredOnce, IsRecordOf, octets_before}, Owners.{is_chain_name, nsec3_lists}}
+use Rattle.domain_checker.specs.{HashedFacts.ChainFacts, HashedList.{same_parameters, is_spelling, owner_hash, is_some_with, is_hash_match, is_hash_cover}}
+use Rattle.domain_checker.specs.{HashedView.chain_records, HashedVerdict.{is_covered, is_matched}}
 
 -- octets that the order cannot tell apart
 pub tied_is : (u v : Octets) → matches octets_before u v ≡ is_eq (slice_cmp nat_cmp u v)

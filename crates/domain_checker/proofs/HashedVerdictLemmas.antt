@@ -1,44 +1,30 @@
 -- What a list of records of an NSEC3 chain says is what it proves.
-use Rattle.std.proofs.Common.{◌≡◌, ◌≢◌, ℕ, ◌-◌, ◌≤◌, ◌<◌, Bool, true, false, cond, not, ◌&&◌, ◌||◌, List, [], ◌∷◌, All, length, refl, sym, ap, ◌∙◌}
-use Rattle.std.proofs.Common.{subst, inl, inr, ◌⊎◌, nat_eq, Option, Some, None, arith}
-use Rattle.std.specs.Prelude.{Ok, filter}
-use Rattle.std.specs.List.{find, list_any, Contains, range_with_len}
+use Rattle.std.proofs.Common.{◌≡◌, ◌≢◌, ℕ, ◌-◌, ◌≤◌, ◌<◌, Bool, true, false, cond, not, ◌&&◌, ◌||◌, List, [], ◌∷◌, All, length, refl, sym, ap, ◌∙◌, subst, inl}
+use Rattle.std.proofs.Common.{inr, ◌⊎◌, nat_eq, Option, Some, None, arith}
 use Rattle.std.proofs.lemmas.Bool.{cases_Bool, cases_lt, false≢true, and_parts, and_from, and_right, or_left, or_right}
-use Rattle.std.proofs.lemmas.List.FromFn.{get_or-range_with_len, length-range_with_len}
-use Rattle.std.proofs.lemmas.Option.{slice_get-get_or}
+use Rattle.std.proofs.lemmas.{List.FromFn.{get_or-range_with_len, length-range_with_len}, Option.slice_get-get_or, Grind.common_steps}
+use Rattle.std.specs.{Prelude.{Ok, filter}, List.{find, list_any, Contains, range_with_len}}
 use Rattle.domain_octets.specs.Words.{Octets}
-use Rattle.domain_names.specs.Name.{is_at_or_below, is_strictly_below, same_name}
+use Rattle.domain_names.specs.{Name.{is_at_or_below, is_strictly_below, same_name}, Words.Name}
 use Rattle.domain_base.specs.Types.{ds, ns, rrsig}
-use Rattle.domain_names.specs.Words.{Name}
-use Rattle.domain_bitmap.specs.Bitmap.{bitmap_octets}
-use Rattle.domain_bitmap.specs.Blocks.{contains_type, types_of, types_below}
+use Rattle.domain_bitmap.specs.{Bitmap.bitmap_octets, Blocks.{contains_type, types_of, types_below}}
 use Rattle.domain_chain_rdata.specs.OptOut.{is_opt_out}
-use Rattle.domain_zone.specs.Enclosers.{exists_over, IsClosestEncloser}
-use Rattle.domain_zone.specs.Zone.{ZoneRecord, has_type, is_zone_cut, owns, records_of}
-use Rattle.domain_zone.proofs.NameLemmas.{one_lowered, below_itself, below_trans, below_longer, below_length, strictly_from, same_length}
-use Rattle.domain_zone.proofs.PairLemmas.{In}
-use Rattle.domain_zone.proofs.OwnerLemmas.{any_in, in_any, typed_owns}
-use Rattle.domain_zone.proofs.ZoneLemmas.{same_back}
+use Rattle.domain_zone.specs.{Enclosers.{exists_over, IsClosestEncloser}, Zone.{ZoneRecord, has_type, is_zone_cut, owns, records_of}}
+use Rattle.domain_zone.proofs.{NameLemmas.{one_lowered, below_itself, below_trans, below_longer, below_length, strictly_from, same_length}, PairLemmas.In}
+use Rattle.domain_zone.proofs.{OwnerLemmas.{any_in, in_any, typed_owns}, ZoneLemmas.same_back}
 use Rattle.domain_zone.proofs.FindLemmas.{any_none, in_at, in_filter, find_some, find_none, Stands, stands_all, stands_in}
-use Rattle.domain_nsec3.specs.Chain.{HashedLink, IsHashedChain}
-use Rattle.domain_nsec3.specs.Config.{ChainConfig, hash_name}
-use Rattle.domain_nsec3.specs.Meaning.{AreAlone, IsAlone}
+use Rattle.domain_nsec3.specs.{Chain.{HashedLink, IsHashedChain}, Config.{ChainConfig, hash_name}, Meaning.{AreAlone, IsAlone}}
 use Rattle.domain_nsec3.specs.Owners.{is_chain_name, is_empty, is_original_owner, nsec3_lists, original_owners}
-use Rattle.domain_checker.specs.HashedFacts.{ChainFacts, ChainsAreKnown}
-use Rattle.domain_checker.specs.HashedList.{is_hash_match, is_hash_cover}
+use Rattle.domain_checker.specs.{HashedFacts.{ChainFacts, ChainsAreKnown}, HashedList.{is_hash_match, is_hash_cover}}
 use Rattle.domain_checker.specs.HashedReading.{is_none, tells_cut, hash_match_verdict, hash_cover_verdict, told_verdict, IsNextHash, IsUnmatched, IsWalked}
 use Rattle.domain_checker.specs.HashedView.{HashedRecords, chain_records, first_cover, first_match}
 use Rattle.domain_checker.specs.HashedVerdict.{is_below_chain_cut, original_verdict, missing_verdict, hashed_zone_verdict, next_closer, is_ok_with, is_matched}
 use Rattle.domain_checker.specs.HashedVerdict.{is_covered, proves, hashed_proved_verdict, IsHashedProved, IsFirstMatched, lists_ns, is_told_cut, HasHashedProof}
-use Rattle.domain_checker.specs.Verdict.{closest_encloser, IsWithin}
-use Rattle.domain_checker.specs.declared.verdict.Verdict.{Verdict}
+use Rattle.domain_checker.specs.{Verdict.{closest_encloser, IsWithin}, declared.verdict.Verdict.Verdict}
 use Rattle.domain_checker.specs.declared.verdict.Verdict.TheVariants.{OutsideZone, BelowDelegation, Has, NoType, EmptyName, OptOut, NoName, NotProven}
-use Rattle.domain_checker.proofs.CutLemmas.{below_cut, cut_above, cut_apart, not_below}
-use Rattle.domain_checker.proofs.DefiniteLemmas.{choose, definite_proven, is_definite}
+use Rattle.domain_checker.proofs.{CutLemmas.{below_cut, cut_above, cut_apart, not_below}, DefiniteLemmas.{choose, definite_proven, is_definite}}
 use Rattle.domain_checker.proofs.EncloserLemmas.{apex_from, closest_is, cut_same, exists_same, owner_owns}
-use Rattle.domain_checker.proofs.HashedListLemmas.{covered_in, covered_never, matched_in, matched_once, told_at}
-use Rattle.domain_checker.proofs.HashedWalkLemmas.{closer_is}
-use Rattle.std.proofs.lemmas.Grind.{common_steps}
+use Rattle.domain_checker.proofs.{HashedListLemmas.{covered_in, covered_never, matched_in, matched_once, told_at}, HashedWalkLemmas.closer_is}
 
 -- ---- a bitmap without types
 

@@ -1,27 +1,16 @@
 -- The names from x up to the apex: which of them are passed, and the hash of the next closer name.
 use Rattle.std.proofs.Common.{◌≡◌, ℕ, ◌+◌, ◌-◌, ◌≤◌, ◌<◌, zero, suc, true, false, not, [], ◌∷◌, length, drop, sym, ap, ◌∙◌, inl, inr, Option, Some, None, arith}
-use Rattle.std.specs.Prelude.{Ok, Err}
-use Rattle.std.specs.List.{list_any}
-use Rattle.std.proofs.lemmas.Bool.{cases_Bool, cases_lt, false≢true, and_from}
-use Rattle.std.proofs.lemmas.List.{length-drop}
+use Rattle.std.proofs.lemmas.{Bool.{cases_Bool, cases_lt, false≢true, and_from}, List.length-drop, Grind.common_steps}
+use Rattle.std.specs.{Prelude.{Ok, Err}, List.list_any}
 use Rattle.domain_octets.specs.Words.{Octets}
-use Rattle.domain_names.specs.Name.{is_at_or_below, is_strictly_below, lowered, same_name, wire_of}
-use Rattle.domain_names.specs.Words.{Label, Name}
-use Rattle.domain_zone.proofs.NameLemmas.{one_lowered, same_itself, below_itself, below_trans, below_longer, below_length, below_parent}
-use Rattle.domain_zone.proofs.NameLemmas.{strictly_longer, strictly_from, same_length}
-use Rattle.domain_zone.proofs.OwnerLemmas.{in_any}
-use Rattle.domain_zone.proofs.FindLemmas.{any_none, find_none, find_some}
-use Rattle.domain_nsec3.specs.Chain.{HashedLink}
-use Rattle.domain_nsec3.specs.Config.{hash_name}
-use Rattle.domain_checker.specs.HashedList.{is_hash_match}
-use Rattle.domain_checker.specs.HashedView.{HashedRecords, first_cover, first_match}
-use Rattle.domain_checker.specs.HashedEncloser.{IsEncloser}
-use Rattle.domain_checker.specs.HashedPass.{IsLookedUp}
-use Rattle.domain_checker.specs.HashedReading.{IsNextHash, IsUnmatched}
+use Rattle.domain_names.specs.{Name.{is_at_or_below, is_strictly_below, lowered, same_name, wire_of}, Words.{Label, Name}}
+use Rattle.domain_zone.proofs.NameLemmas.{one_lowered, same_itself, below_itself, below_trans, below_longer, below_length, below_parent, strictly_longer}
+use Rattle.domain_zone.proofs.{NameLemmas.{strictly_from, same_length}, OwnerLemmas.in_any, FindLemmas.{any_none, find_none, find_some}}
+use Rattle.domain_nsec3.specs.{Chain.HashedLink, Config.hash_name}
+use Rattle.domain_checker.specs.{HashedList.is_hash_match, HashedView.{HashedRecords, first_cover, first_match}, HashedEncloser.IsEncloser}
+use Rattle.domain_checker.specs.{HashedPass.IsLookedUp, HashedReading.{IsNextHash, IsUnmatched}}
 use Rattle.domain_checker.specs.HashedVerdict.{IsFirst, IsFirstRefusal, is_matched, is_ok_with, next_closer}
-use Rattle.domain_checker.proofs.EncloserLemmas.{same_count}
-use Rattle.domain_checker.proofs.HashedListLemmas.{hash_same}
-use Rattle.std.proofs.lemmas.Grind.{common_steps}
+use Rattle.domain_checker.proofs.{EncloserLemmas.same_count, HashedListLemmas.hash_same}
 
 pub below_drop : (n : ℕ) (x : Name) → is_at_or_below x (drop n x) ≡ true
 below_drop zero x = below_itself x

@@ -1,30 +1,20 @@
 -- What a list of records of the chain says by itself is what it proves.
-use Rattle.std.proofs.Common.{◌≡◌, ◌≢◌, ℕ, ◌<◌, Bool, true, false, cond, not, ◌&&◌, ◌||◌, nat_eq, List, length, refl, sym, ◌∙◌, subst, inl, inr}
-use Rattle.std.proofs.Common.{Option, Some, None, arith}
+use Rattle.std.proofs.Common.{◌≡◌, ◌≢◌, ℕ, ◌<◌, Bool, true, false, cond, not, ◌&&◌, ◌||◌, nat_eq, List, length, refl, sym, ◌∙◌, subst, inl, inr, Option, Some}
+use Rattle.std.proofs.{Common.{None, arith}, lemmas.{Bool.{cases_Bool, and_parts, and_from, or_left, or_right}, Grind.common_steps}}
 use Rattle.std.specs.List.{find, list_any}
-use Rattle.std.proofs.lemmas.Bool.{cases_Bool, and_parts, and_from, or_left, or_right}
-use Rattle.domain_names.specs.Name.{is_at_or_below, same_name}
-use Rattle.domain_names.specs.Order.{before}
+use Rattle.domain_names.specs.{Name.{is_at_or_below, same_name}, Order.before, Words.Name}
 use Rattle.domain_base.specs.Types.{ds}
-use Rattle.domain_names.specs.Words.{Name}
-use Rattle.domain_zone.specs.Covering.{matches, covers, matches_or_covers}
-use Rattle.domain_zone.specs.Enclosers.{is_empty_nonterminal}
+use Rattle.domain_zone.specs.{Covering.{matches, covers, matches_or_covers}, Enclosers.is_empty_nonterminal}
 use Rattle.domain_zone.specs.Zone.{ZoneRecord, OwnersNeverDescend, is_occluded, is_zone_cut, unoccluded_owners}
-use Rattle.domain_zone.proofs.PairLemmas.{In}
-use Rattle.domain_zone.proofs.OwnerLemmas.{in_any}
-use Rattle.domain_zone.proofs.FindLemmas.{find_some, Stands, stands_all}
-use Rattle.domain_nsec.specs.Chain.{Link, IsChain, nsec_lists}
-use Rattle.domain_nsec.specs.declared.config.GenerateNsecConfig.{GenerateNsecConfig}
-use Rattle.domain_checker.specs.declared.verdict.Verdict.{Verdict}
-use Rattle.domain_checker.specs.declared.verdict.Verdict.TheVariants.{OutsideZone, BelowDelegation, Has, NoType, EmptyName, NoName, NotProven}
+use Rattle.domain_zone.proofs.{PairLemmas.In, OwnerLemmas.in_any, FindLemmas.{find_some, Stands, stands_all}}
+use Rattle.domain_nsec.specs.{Chain.{Link, IsChain, nsec_lists}, declared.config.GenerateNsecConfig.GenerateNsecConfig}
+use Rattle.domain_checker.specs.declared.verdict.Verdict.{Verdict, TheVariants.{OutsideZone, BelowDelegation, Has, NoType, EmptyName, NoName, NotProven}}
 use Rattle.domain_checker.specs.Verdict.{closest_encloser, owner_verdict, other_verdict, zone_verdict, has_match_or_cover, proved_verdict, IsProved, is_inside}
 use Rattle.domain_checker.specs.Verdict.{HasProof, IsWithin}
 use Rattle.domain_checker.specs.Reading.{is_match, is_cover, verdict_of_both, verdict_of_cover, match_verdict, cover_verdict, list_verdict, reading}
 use Rattle.domain_checker.proofs.DefiniteLemmas.{choose, definite_proven, is_definite}
 use Rattle.domain_checker.proofs.MeantLemmas.{BitmapsAreSets, ChainLaws, IgnoresCase, IsMeant, config_with, meant_by, some_link, cover_of, match_of, silent}
-use Rattle.domain_checker.proofs.SharedLemmas.{shared_within}
-use Rattle.domain_checker.proofs.VerdictLemmas.{matched, covers_told}
-use Rattle.std.proofs.lemmas.Grind.{common_steps}
+use Rattle.domain_checker.proofs.{SharedLemmas.shared_within, VerdictLemmas.{matched, covers_told}}
 
 -- a chain that keeps what stands below a DNAME
 meant_keeping : ChainLaws → (L : List ZoneRecord) (a : Name) (config : GenerateNsecConfig) (links : List Link)

@@ -1,29 +1,18 @@
 -- What the laws of chains say of the records of one, whether it keeps what stands below a DNAME or not.
-use Rattle.std.proofs.Common.{◌≡◌, ℕ, ◌<◌, Bool, true, false, not, ◌&&◌, ◌||◌, List, length, refl, sym, ap, ◌∙◌, subst, inl, inr, ◌⊎◌, Some, None}
-use Rattle.std.proofs.Common.{slice_get, arith}
-use Rattle.std.specs.List.{find, list_any}
-use Rattle.std.proofs.lemmas.Bool.{cases_Bool, false≢true, and_parts, and_from, or_right, not-true}
-use Rattle.std.proofs.lemmas.List.Elements.{recursion_from_All}
-use Rattle.domain_names.specs.Name.{is_at_or_below, is_strictly_below, lowered, same_name}
-use Rattle.domain_names.specs.Order.{before}
+use Rattle.std.proofs.Common.{◌≡◌, ℕ, ◌<◌, Bool, true, false, not, ◌&&◌, ◌||◌, List, length, refl, sym, ap, ◌∙◌, subst, inl, inr, ◌⊎◌, Some, None, slice_get}
+use Rattle.std.proofs.{Common.arith, lemmas.{Bool.{cases_Bool, false≢true, and_parts, and_from, or_right, not-true}, List.Elements.recursion_from_All}}
+use Rattle.std.{proofs.lemmas.Grind.common_steps, specs.List.{find, list_any}}
+use Rattle.domain_names.specs.{Name.{is_at_or_below, is_strictly_below, lowered, same_name}, Order.before, Words.Name}
 use Rattle.domain_base.specs.Types.{ns}
-use Rattle.domain_names.specs.Words.{Name}
-use Rattle.domain_bitmap.specs.Bitmap.{bitmap_octets}
-use Rattle.domain_bitmap.specs.Blocks.{contains_type}
-use Rattle.domain_zone.specs.Covering.{matches, covers, matches_or_covers}
-use Rattle.domain_zone.specs.Enclosers.{exists_over, longer, shared}
+use Rattle.domain_bitmap.specs.{Bitmap.bitmap_octets, Blocks.contains_type}
+use Rattle.domain_zone.specs.{Covering.{matches, covers, matches_or_covers}, Enclosers.{exists_over, longer, shared}}
 use Rattle.domain_zone.specs.Zone.{ZoneRecord, OwnersNeverDescend, has_type, is_zone_cut, occludes, owns, is_occluded, is_unoccluded, unoccluded_owners}
-use Rattle.domain_zone.proofs.NameLemmas.{one_lowered, same_itself, same_is, below_itself, lowered_below}
-use Rattle.domain_zone.proofs.PairLemmas.{In, all_in}
-use Rattle.domain_zone.proofs.OwnerLemmas.{any_in, in_any, below_occluder}
-use Rattle.domain_zone.proofs.FindLemmas.{Stands, any_none, find_none, find_some, in_at, in_map, in_pairs}
-use Rattle.domain_nsec.specs.Chain.{Link, IsChain, is_listed, nsec_lists}
-use Rattle.domain_nsec.specs.Meaning.{IsCycle, MirrorsZone, TellsEmpty, TellsEncloser, CoversBelowOccluders}
+use Rattle.domain_zone.proofs.{NameLemmas.{one_lowered, same_itself, same_is, below_itself, lowered_below}, PairLemmas.{In, all_in}}
+use Rattle.domain_zone.proofs.{OwnerLemmas.{any_in, in_any, below_occluder}, FindLemmas.{Stands, any_none, find_none, find_some, in_at, in_map, in_pairs}}
+use Rattle.domain_nsec.specs.{Chain.{Link, IsChain, is_listed, nsec_lists}, Meaning.{IsCycle, MirrorsZone, TellsEmpty, TellsEncloser, CoversBelowOccluders}}
 use Rattle.domain_nsec.specs.declared.config.GenerateNsecConfig.{GenerateNsecConfig}
-use Rattle.domain_checker.specs.Verdict.{closest_encloser, has_match_or_cover, is_inside}
-use Rattle.domain_checker.specs.Reading.{is_at_cut, is_cover, is_match}
+use Rattle.domain_checker.specs.{Verdict.{closest_encloser, has_match_or_cover, is_inside}, Reading.{is_at_cut, is_cover, is_match}}
 use Rattle.domain_checker.proofs.EncloserLemmas.{closest_is, closest_alike, top_occluder, occluded_same, occludes_same, owner_unoccluded, owner_owns}
-use Rattle.std.proofs.lemmas.Grind.{common_steps}
 
 -- the public laws of chains
 pub record ChainLaws : Type 0 where

@@ -1,8 +1,7 @@
 -- What lists of records say of which each is alike that at the same place of the other.
-use Rattle.std.proofs.Common.{◌≡◌, Bool, ◌||◌, List, [], ◌∷◌, refl, Option, Some, None, arith}
+use Rattle.std.proofs.{Common.{◌≡◌, Bool, ◌||◌, List, [], ◌∷◌, refl, Option, Some, None, arith}, lemmas.Grind.common_steps}
 use Rattle.std.specs.List.{find, list_any, Contains, AllByRecursion}
 use Rattle.domain_checker.specs.Alike.{ArePaired, IsPairedIn}
-use Rattle.std.proofs.lemmas.Grind.{common_steps}
 
 module _ {X : Type 0} (R : X → X → Type 0) where
   -- both are none, or stand so

@@ -1,17 +1,9 @@
 -- The name that two names share has as many labels as they share from the root on.
 use Rattle.std.proofs.Common.{◌≡◌, ◌+◌, ◌≤◌, Bool, true, false, cond, [], ◌∷◌, ◌++◌, map, reverse, length, refl, sym, ap, ◌∙◌, inl, inr, arith, nat_eq}
-use Rattle.std.specs.List.{common_prefix_len}
-use Rattle.std.specs.Cmp.Lexicographic.{pointwise, bytes_decides}
-use Rattle.std.specs.Char.{to_ascii_lowercase}
-use Rattle.std.proofs.lemmas.Bool.{cases_Bool, false≢true}
-use Rattle.std.proofs.lemmas.List.{length-reverse, length-map, reverse-append}
-use Rattle.domain_names.specs.Laws.{from_root-below, below-from_root}
-use Rattle.domain_names.specs.Name.{lowered, is_at_or_below}
-use Rattle.domain_names.specs.Order.{from_root, common_labels}
-use Rattle.domain_names.specs.Words.{Label, Name}
-use Rattle.domain_zone.specs.Enclosers.{shared}
-use Rattle.domain_zone.proofs.NameLemmas.{below_there, below_back}
-use Rattle.std.proofs.lemmas.Grind.{common_steps}
+use Rattle.std.proofs.lemmas.{Bool.{cases_Bool, false≢true}, List.{length-reverse, length-map, reverse-append}, Grind.common_steps}
+use Rattle.std.specs.{List.common_prefix_len, Cmp.Lexicographic.{pointwise, bytes_decides}, Char.to_ascii_lowercase}
+use Rattle.domain_names.specs.{Laws.{from_root-below, below-from_root}, Name.{lowered, is_at_or_below}, Order.{from_root, common_labels}, Words.{Label, Name}}
+use Rattle.domain_zone.{specs.Enclosers.shared, proofs.NameLemmas.{below_there, below_back}}
 
 abbrev same_label : Label → Label → Bool
 same_label = pointwise nat_eq

@@ -1,18 +1,10 @@
 -- Octets that a label spells, compared with others digit by digit.
 use Rattle.std.proofs.Common.{◌≡◌, ◌≢◌, ℕ, ◌+◌, ◌*◌, ◌/◌, ◌%◌, ◌<◌, ◌≤◌, true, false, [], ◌∷◌, length, drop, refl, sym, ap, ◌∙◌, arith, nat_eq, not}
-use Rattle.std.specs.Ordering.{nat_cmp, ordering_index}
-use Rattle.std.specs.Cmp.Lexicographic.{slice_cmp}
-use Rattle.std.specs.declared.cmp.Ordering.{Ordering}
-use Rattle.std.specs.declared.cmp.Ordering.TheVariants.{Less, Equal, Greater}
-use Rattle.std.proofs.lemmas.Bool.{false≢true, true≢false}
-use Rattle.std.proofs.lemmas.Bool.Decides.{nat_tests}
-use Rattle.std.proofs.lemmas.List.{drop_all}
-use Rattle.domain_codecs.specs.Codec.{base32_octets, base32_digits}
-use Rattle.domain_codecs.proofs.Scale.{IsScale, no_bits}
+use Rattle.std.proofs.lemmas.{Bool.{false≢true, true≢false, Decides.nat_tests}, List.drop_all, Grind.common_steps}
+use Rattle.std.specs.{Ordering.{nat_cmp, ordering_index}, Cmp.Lexicographic.slice_cmp, declared.cmp.Ordering.{Ordering, TheVariants.{Less, Equal, Greater}}}
+use Rattle.domain_codecs.{specs.Codec.{base32_octets, base32_digits}, proofs.{Scale.{IsScale, no_bits}, CodecLemmas.{digit_at, widens}}}
 use Rattle.domain_octets.specs.Words.{Octets}
-use Rattle.domain_codecs.proofs.CodecLemmas.{digit_at, widens}
 use Rattle.domain_checker.specs.HashedList.{read_label}
-use Rattle.std.proofs.lemmas.Grind.{common_steps}
 
 pub nothing_left : (xs : Octets) → length xs ≡ 0 → xs ≡ []
 nothing_left [] e = refl

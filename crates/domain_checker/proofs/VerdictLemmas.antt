@@ -1,20 +1,13 @@
 -- What a record of the chain says of a name that it matches or covers is the verdict of the zone.
 use Rattle.std.proofs.Common.{◌≡◌, ℕ, ◌<◌, Bool, true, false, cond, not, ◌&&◌, List, sym, ◌∙◌, nat_eq, Some, slice_get}
 use Rattle.domain_octets.proofs.StdLemmas.{or_false}
-use Rattle.domain_names.specs.Name.{is_at_or_below}
-use Rattle.domain_names.specs.Order.{before}
+use Rattle.domain_names.specs.{Name.is_at_or_below, Order.before, Words.Name}
 use Rattle.domain_base.specs.Types.{ds}
-use Rattle.domain_names.specs.Words.{Name}
-use Rattle.domain_zone.specs.Covering.{matches, covers}
-use Rattle.domain_zone.specs.Zone.{ZoneRecord, is_occluded, unoccluded_owners}
-use Rattle.domain_zone.proofs.PairLemmas.{In}
-use Rattle.domain_zone.proofs.OwnerLemmas.{in_any}
-use Rattle.domain_zone.proofs.FindLemmas.{in_at}
+use Rattle.domain_zone.specs.{Covering.{matches, covers}, Zone.{ZoneRecord, is_occluded, unoccluded_owners}}
+use Rattle.domain_zone.proofs.{PairLemmas.In, OwnerLemmas.in_any, FindLemmas.in_at}
 use Rattle.domain_nsec.specs.Chain.{Link}
 use Rattle.domain_checker.specs.declared.verdict.Verdict.TheVariants.{OutsideZone, BelowDelegation, Has, NoType, EmptyName, NoName}
-use Rattle.domain_checker.specs.Verdict.{owner_verdict, other_verdict, zone_verdict}
-use Rattle.domain_checker.specs.Reading.{match_verdict, cover_verdict}
-use Rattle.domain_checker.proofs.EncloserLemmas.{cut_same}
+use Rattle.domain_checker.{specs.{Verdict.{owner_verdict, other_verdict, zone_verdict}, Reading.{match_verdict, cover_verdict}}, proofs.EncloserLemmas.cut_same}
 use Rattle.domain_checker.proofs.MeantLemmas.{BitmapsAreSets, IgnoresCase, IsMeant, cut_at, ends, matched_high, matched_low, matched_same, type_at}
 use Rattle.domain_checker.proofs.MeantLemmas.{covered_encloser, covered_no_owner, covered_occluded}
 

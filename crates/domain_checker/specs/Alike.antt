@@ -1,7 +1,6 @@
 -- Records as they come: a cache lowers their TTLs, and servers and signers write names in either
 -- case. What the records prove does not depend on that.
-use Rattle.std.specs.Prelude.{◌≡◌, true, List, [], ◌∷◌}
-use Rattle.std.specs.List.{Contains}
+use Rattle.std.specs.{Prelude.{◌≡◌, true, List, [], ◌∷◌}, List.Contains}
 use Rattle.domain_names.specs.Name.{same_name}
 use Rattle.domain_nsec.specs.Chain.{Link}
 use Rattle.domain_nsec3.specs.Chain.{HashedLink}

@@ -1,11 +1,8 @@
 -- What has been found out of a name where NSEC records are handed in one after another.
-use Rattle.std.specs.Prelude.{◌≡◌, ℕ, List, None}
-use Rattle.std.specs.List.{find}
-use Rattle.std.specs.Option.{option_map}
+use Rattle.std.specs.{Prelude.{◌≡◌, ℕ, List, None}, List.find, Option.option_map}
 use Rattle.domain_names.specs.Words.{Name}
 use Rattle.domain_nsec.specs.Chain.{Link}
-use Rattle.domain_checker.specs.Reading.{cover_verdict, is_cover, is_match, match_verdict}
-use Rattle.domain_checker.specs.declared.nsec_check.NsecCheck.{NsecCheck}
+use Rattle.domain_checker.specs.{Reading.{cover_verdict, is_cover, is_match, match_verdict}, declared.nsec_check.NsecCheck.NsecCheck}
 
 -- these records have been handed in for the apex a, the name x and the type t: what the first match
 -- says is known and, with none, what the first cover says

@@ -1,22 +1,14 @@
 -- What NSEC3 records tell of the closest encloser of a name x (RFC 5155, section 8.3); a is the
 -- apex.
-use Rattle.std.specs.Prelude.{ℕ, ◌≡◌, ◌<◌, Bool, true, false, not, ◌&&◌, ◌==◌, List, length, Option, Some, None, Ok, if◌then◌else◌}
-use Rattle.std.specs.Option.{option_map}
+use Rattle.std.specs.{Prelude.{ℕ, ◌≡◌, ◌<◌, Bool, true, false, not, ◌&&◌, ◌==◌, List, length, Option, Some, None, Ok, if◌then◌else◌}, Option.option_map}
 use Rattle.domain_octets.specs.Words.{Octets}
 use Rattle.domain_base.specs.Types.{ds, ns}
 use Rattle.domain_names.specs.Words.{Name}
 use Rattle.domain_bitmap.specs.Blocks.{contains_type, types_of}
-use Rattle.domain_zone.specs.Enclosers.{exists_over}
-use Rattle.domain_zone.specs.Zone.{ZoneRecord, is_zone_cut}
-use Rattle.domain_nsec3.specs.Chain.{HashedLink}
-use Rattle.domain_nsec3.specs.Config.{ChainConfig, hash_name}
-use Rattle.domain_nsec3.specs.Owners.{nsec3_lists, original_owners}
-use Rattle.domain_nsec3.specs.View.{as_hashed_link}
-use Rattle.domain_checker.specs.HashedReading.{is_none, tells_cut, hash_cover_verdict, IsNextHash, IsUnmatched}
-use Rattle.domain_checker.specs.HashedVerdict.{IsFirstMatched}
-use Rattle.domain_checker.specs.HashedView.{HashedRecords, first_cover, first_match}
-use Rattle.domain_checker.specs.declared.encloser.Nsec3Encloser.{Nsec3Encloser}
-use Rattle.domain_checker.specs.declared.verdict.Verdict.{Verdict}
+use Rattle.domain_zone.specs.{Enclosers.exists_over, Zone.{ZoneRecord, is_zone_cut}}
+use Rattle.domain_nsec3.specs.{Chain.HashedLink, Config.{ChainConfig, hash_name}, Owners.{nsec3_lists, original_owners}, View.as_hashed_link}
+use Rattle.domain_checker.specs.{HashedReading.{is_none, tells_cut, hash_cover_verdict, IsNextHash, IsUnmatched}, HashedVerdict.IsFirstMatched}
+use Rattle.domain_checker.specs.{HashedView.{HashedRecords, first_cover, first_match}, declared.{encloser.Nsec3Encloser.Nsec3Encloser, verdict.Verdict.Verdict}}
 use Rattle.domain_checker.specs.declared.verdict.Verdict.TheVariants.{BelowDelegation, Has, NoType, EmptyName, NotProven}
 
 -- how many labels a name has, a record that matches it, and one that covers the name one label

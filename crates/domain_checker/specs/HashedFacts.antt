@@ -1,18 +1,12 @@
 -- What is known of each NSEC3 chain: the laws of chains, of their names and of Base 32, put
 -- together.
 use Rattle.std.specs.Prelude.{◌≡◌, ◌<◌, ℕ, Bool, true, false, List}
-use Rattle.domain_codecs.specs.Base32.{base32_lower}
-use Rattle.domain_codecs.specs.Codec.{IsBase32}
+use Rattle.domain_codecs.specs.{Base32.base32_lower, Codec.IsBase32}
 use Rattle.domain_octets.specs.Words.{AreOctets, Octets}
-use Rattle.domain_names.specs.Name.{is_at_or_below, same_name}
-use Rattle.domain_names.specs.Words.{Name}
-use Rattle.domain_bitmap.specs.Bitmap.{bitmap_octets}
-use Rattle.domain_bitmap.specs.Blocks.{contains_type, types_below, types_of}
-use Rattle.domain_zone.specs.Enclosers.{exists_over}
-use Rattle.domain_zone.specs.Zone.{ZoneRecord, is_zone_cut}
-use Rattle.domain_nsec3.specs.Chain.{HashedLink, IsHashedChain}
-use Rattle.domain_nsec3.specs.Config.{ChainConfig}
-use Rattle.domain_nsec3.specs.Meaning.{CutsEnclose, MirrorsZone, TellsEncloser}
+use Rattle.domain_names.specs.{Name.{is_at_or_below, same_name}, Words.Name}
+use Rattle.domain_bitmap.specs.{Bitmap.bitmap_octets, Blocks.{contains_type, types_below, types_of}}
+use Rattle.domain_zone.specs.{Enclosers.exists_over, Zone.{ZoneRecord, is_zone_cut}}
+use Rattle.domain_nsec3.specs.{Chain.{HashedLink, IsHashedChain}, Config.ChainConfig, Meaning.{CutsEnclose, MirrorsZone, TellsEncloser}}
 use Rattle.domain_nsec3.specs.Owners.{is_chain_name, is_original_owner, nsec3_lists, original_owners}
 
 -- what is known of one chain

@@ -1,15 +1,10 @@
 -- What NSEC3 records say of hashes, whoever sent them (RFC 5155, section 3); a is the apex.
-use Rattle.std.specs.Prelude.{Bool, false, ◌&&◌, ◌==◌, [], ◌∷◌, length, bytes_eq, Option, Some, None, if◌then◌else◌}
-use Rattle.std.specs.List.{list_all}
-use Rattle.domain_codecs.specs.Codec.{is_digit, is_base32_length, base32_octets, base32_digits}
+use Rattle.std.specs.{Prelude.{Bool, false, ◌&&◌, ◌==◌, [], ◌∷◌, length, bytes_eq, Option, Some, None, if◌then◌else◌}, List.list_all}
+use Rattle.domain_codecs.specs.{Codec.{is_digit, is_base32_length, base32_octets, base32_digits}, declared.codec.Codec.TheVariants.Base32Hex}
 use Rattle.domain_octets.specs.Words.{Octets}
-use Rattle.domain_codecs.specs.declared.codec.Codec.TheVariants.{Base32Hex}
-use Rattle.domain_names.specs.Name.{same_name}
-use Rattle.domain_names.specs.Words.{Label, Name}
+use Rattle.domain_names.specs.{Name.same_name, Words.{Label, Name}}
 use Rattle.domain_zone.specs.Covering.{matches, covers}
-use Rattle.domain_nsec3.specs.Chain.{HashedLink}
-use Rattle.domain_nsec3.specs.Config.{Parameters}
-use Rattle.domain_nsec3.specs.Meaning.{octets_before}
+use Rattle.domain_nsec3.specs.{Chain.HashedLink, Config.Parameters, Meaning.octets_before}
 
 -- the same algorithm, iterations and salt
 abbrev pub same_parameters : Parameters → Parameters → Bool

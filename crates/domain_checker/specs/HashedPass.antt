@@ -1,15 +1,9 @@
 -- What one pass over NSEC3 records finds of a hash; a is the apex.
-use Rattle.std.specs.Prelude.{◌≡◌, List, Option, Some, None, Ok}
-use Rattle.std.specs.List.{find}
-use Rattle.std.specs.Option.{option_map}
+use Rattle.std.specs.{Prelude.{◌≡◌, List, Option, Some, None, Ok}, List.find, Option.option_map}
 use Rattle.domain_octets.specs.Words.{Octets}
 use Rattle.domain_names.specs.Words.{Name}
-use Rattle.domain_nsec3.specs.Chain.{HashedLink}
-use Rattle.domain_nsec3.specs.Config.{Parameters}
-use Rattle.domain_nsec3.specs.View.{as_hashed_link}
-use Rattle.domain_checker.specs.HashedList.{is_hash_match, is_hash_cover}
-use Rattle.domain_checker.specs.HashedView.{HashedRecords}
-use Rattle.domain_checker.specs.declared.hashed.Nsec3Found.{Nsec3Found}
+use Rattle.domain_nsec3.specs.{Chain.HashedLink, Config.Parameters, View.as_hashed_link}
+use Rattle.domain_checker.specs.{HashedList.{is_hash_match, is_hash_cover}, HashedView.HashedRecords, declared.hashed.Nsec3Found.Nsec3Found}
 use Rattle.domain_checker.specs.declared.hashed.Nsec3Found.TheVariants.{Match, NoMatch}
 
 -- the match that was found; the cover, which is looked for where there is no match

@@ -1,17 +1,13 @@
 -- What NSEC3 records say by themselves, on the way from a name to the apex (RFC 5155, section 8).
 use Rattle.std.specs.Prelude.{ℕ, ◌≡◌, ◌≢◌, ◌⊎◌, Bool, true, false, not, ◌&&◌, ◌==◌, [], ◌∷◌, length, Option, Some, None, Ok, if◌then◌else◌}
 use Rattle.domain_octets.specs.Words.{Octets}
-use Rattle.domain_names.specs.Name.{is_at_or_below, same_name}
+use Rattle.domain_names.specs.{Name.{is_at_or_below, same_name}, Words.Name}
 use Rattle.domain_base.specs.Types.{ds, ns, Rtypes}
-use Rattle.domain_names.specs.Words.{Name}
 use Rattle.domain_bitmap.specs.Blocks.{contains_type, types_of}
 use Rattle.domain_chain_rdata.specs.OptOut.{is_opt_out}
-use Rattle.domain_nsec3.specs.Chain.{HashedLink}
-use Rattle.domain_nsec3.specs.Config.{Hash, hash_name}
+use Rattle.domain_nsec3.specs.{Chain.HashedLink, Config.{Hash, hash_name}}
 use Rattle.domain_checker.specs.HashedVerdict.{missing_verdict, next_closer, is_matched, IsHashedProved, IsFirstMatched, HasHashedProof}
-use Rattle.domain_checker.specs.HashedView.{HashedRecords, first_cover, first_match}
-use Rattle.domain_checker.specs.Verdict.{IsWithin}
-use Rattle.domain_checker.specs.declared.verdict.Verdict.{Verdict}
+use Rattle.domain_checker.specs.{HashedView.{HashedRecords, first_cover, first_match}, Verdict.IsWithin, declared.verdict.Verdict.Verdict}
 use Rattle.domain_checker.specs.declared.verdict.Verdict.TheVariants.{BelowDelegation, Has, NoType, EmptyName, NotProven}
 
 abbrev pub is_none : Rtypes → Bool

@@ -3,20 +3,14 @@
 use Rattle.std.specs.Prelude.{ℕ, Bool, true, false, not, ◌&&◌, ◌||◌, ◌==◌, ◌+◌, List, ◌≡◌, All, length, Option, Some, None, Ok, Err, if◌then◌else◌}
 use Rattle.std.specs.List.{list_any, Contains}
 use Rattle.domain_octets.specs.Words.{Octets}
-use Rattle.domain_names.specs.Name.{is_at_or_below, is_strictly_below, last_labels, same_name}
+use Rattle.domain_names.specs.{Name.{is_at_or_below, is_strictly_below, last_labels, same_name}, Words.Name}
 use Rattle.domain_base.specs.Types.{ds, ns}
-use Rattle.domain_names.specs.Words.{Name}
 use Rattle.domain_bitmap.specs.Blocks.{contains_type}
 use Rattle.domain_chain_rdata.specs.OptOut.{is_opt_out}
-use Rattle.domain_zone.specs.Enclosers.{exists_over}
-use Rattle.domain_zone.specs.Zone.{ZoneRecord, is_zone_cut}
-use Rattle.domain_nsec3.specs.Chain.{HashedLink, IsHashedChain}
-use Rattle.domain_nsec3.specs.Config.{ChainConfig, HashAnswer, hash_name}
-use Rattle.domain_nsec3.specs.Meaning.{AreAlone}
+use Rattle.domain_zone.specs.{Enclosers.exists_over, Zone.{ZoneRecord, is_zone_cut}}
+use Rattle.domain_nsec3.specs.{Chain.{HashedLink, IsHashedChain}, Config.{ChainConfig, HashAnswer, hash_name}, Meaning.AreAlone}
 use Rattle.domain_nsec3.specs.Owners.{is_original_owner, nsec3_lists, original_owners}
-use Rattle.domain_checker.specs.HashedList.{is_hash_match, is_hash_cover}
-use Rattle.domain_checker.specs.HashedView.{HashedRecords, chain_records, first_match}
-use Rattle.domain_checker.specs.Verdict.{closest_encloser}
+use Rattle.domain_checker.specs.{HashedList.{is_hash_match, is_hash_cover}, HashedView.{HashedRecords, chain_records, first_match}, Verdict.closest_encloser}
 use Rattle.domain_checker.specs.declared.verdict.Verdict.{Verdict}
 use Rattle.domain_checker.specs.declared.verdict.Verdict.TheVariants.{OutsideZone, BelowDelegation, Has, NoType, EmptyName, OptOut, NoName, NotProven}
 

@@ -1,11 +1,8 @@
 -- How NSEC3 records and their parameters are seen.
-use Rattle.std.specs.Prelude.{List, Option}
-use Rattle.std.specs.List.{find}
+use Rattle.std.specs.{Prelude.{List, Option}, List.find}
 use Rattle.domain_octets.specs.Words.{Octets}
 use Rattle.domain_names.specs.Words.{Name}
-use Rattle.domain_nsec3.specs.Chain.{HashedLink}
-use Rattle.domain_nsec3.specs.Config.{ChainConfig, Hash, Parameters}
-use Rattle.domain_nsec3.specs.View.{HasherAnswer, hash_by, hashed_links_of, parameters_of}
+use Rattle.domain_nsec3.specs.{Chain.HashedLink, Config.{ChainConfig, Hash, Parameters}, View.{HasherAnswer, hash_by, hashed_links_of, parameters_of}}
 use Rattle.domain_nsec3.specs.declared.nsec3.Nsec3Records.{Nsec3Records}
 use Rattle.domain_checker.specs.HashedList.{is_hash_match, is_hash_cover}
 

@@ -1,16 +1,11 @@
 -- What NSEC records say by themselves (RFC 4035, section 5.4; RFC 6840, section 4.1).
-use Rattle.std.specs.Prelude.{ℕ, Bool, not, ◌&&◌, ◌==◌, List, Option, Some, None, length, if◌then◌else◌}
-use Rattle.std.specs.List.{find}
+use Rattle.std.specs.{Prelude.{ℕ, Bool, not, ◌&&◌, ◌==◌, List, Option, Some, None, length, if◌then◌else◌}, List.find}
 use Rattle.domain_bitmap.specs.Blocks.{contains_type}
-use Rattle.domain_names.specs.Name.{is_at_or_below, is_strictly_below, same_name}
-use Rattle.domain_names.specs.Order.{before}
+use Rattle.domain_names.specs.{Name.{is_at_or_below, is_strictly_below, same_name}, Order.before, Words.Name}
 use Rattle.domain_base.specs.Types.{ds, ns}
-use Rattle.domain_names.specs.Words.{Name}
-use Rattle.domain_zone.specs.Covering.{matches, covers}
-use Rattle.domain_zone.specs.Enclosers.{longer, shared}
+use Rattle.domain_zone.specs.{Covering.{matches, covers}, Enclosers.{longer, shared}}
 use Rattle.domain_nsec.specs.Chain.{Link}
-use Rattle.domain_checker.specs.Verdict.{is_inside}
-use Rattle.domain_checker.specs.declared.verdict.Verdict.{Verdict}
+use Rattle.domain_checker.specs.{Verdict.is_inside, declared.verdict.Verdict.Verdict}
 use Rattle.domain_checker.specs.declared.verdict.Verdict.TheVariants.{OutsideZone, BelowDelegation, Has, NoType, EmptyName, NoName, NotProven}
 
 -- the owner is a zone cut: the record lists NS, and the owner is not the apex

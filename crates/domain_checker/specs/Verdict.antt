@@ -1,16 +1,11 @@
 -- What a zone with an NSEC chain says of a name and a type, and what a list of records of the chain
 -- proves of that (RFC 4035, section 5.4). The chain is one that keeps what stands below a DNAME.
-use Rattle.std.specs.Prelude.{ℕ, Bool, true, false, not, ◌&&◌, ◌||◌, ◌==◌, List, [], ◌∷◌, ◌≡◌, ◌≤◌, All, length, if◌then◌else◌}
-use Rattle.std.specs.List.{list_any, Contains}
-use Rattle.domain_names.specs.Name.{is_at_or_below, same_name}
-use Rattle.domain_names.specs.Order.{before}
+use Rattle.std.specs.{Prelude.{ℕ, Bool, true, false, not, ◌&&◌, ◌||◌, ◌==◌, List, [], ◌∷◌, ◌≡◌, ◌≤◌, All, length, if◌then◌else◌}, List.{list_any, Contains}}
+use Rattle.domain_names.specs.{Name.{is_at_or_below, same_name}, Order.before, Words.Name}
 use Rattle.domain_base.specs.Types.{ds}
-use Rattle.domain_names.specs.Words.{Name}
-use Rattle.domain_zone.specs.Covering.{matches_or_covers}
-use Rattle.domain_zone.specs.Enclosers.{exists_over, is_empty_nonterminal}
+use Rattle.domain_zone.specs.{Covering.matches_or_covers, Enclosers.{exists_over, is_empty_nonterminal}}
 use Rattle.domain_zone.specs.Zone.{ZoneRecord, OwnersNeverDescend, is_occluded, is_zone_cut, unoccluded_owners}
-use Rattle.domain_nsec.specs.Chain.{IsChain, Link, nsec_lists}
-use Rattle.domain_nsec.specs.declared.config.GenerateNsecConfig.{GenerateNsecConfig}
+use Rattle.domain_nsec.specs.{Chain.{IsChain, Link, nsec_lists}, declared.config.GenerateNsecConfig.GenerateNsecConfig}
 use Rattle.domain_checker.specs.declared.verdict.Verdict.{Verdict}
 use Rattle.domain_checker.specs.declared.verdict.Verdict.TheVariants.{OutsideZone, BelowDelegation, Has, NoType, EmptyName, OptOut, NoName, NotProven}
 

@@ -1,21 +1,19 @@
 //! What holds of verdicts, and of what records say. A caller calls the law in its body.
 ghost use Rattle.std.specs.Prelude.{◌≡◌, ◌≢◌, ◌<◌, ℕ, Bool, All, List, true, false};
-ghost use Rattle.domain_names.specs.Name.{is_at_or_below};
-ghost use Rattle.domain_names.specs.Words.{Name};
+ghost use Rattle.domain_names.specs.{Name.is_at_or_below, Words.Name};
 ghost use Rattle.domain_zone.specs.Enclosers.{exists_over, IsClosestEncloser};
 ghost use Rattle.domain_zone.specs.Zone.{OwnersNeverDescend, ZoneRecord};
 ghost use Rattle.domain_nsec.specs.Chain.{IsChain, Link};
-ghost use Rattle.domain_nsec3.specs.Chain.{HashedLink, IsHashedChain};
-ghost use Rattle.domain_nsec3.specs.Config.{ChainConfig};
-ghost use Rattle.domain_nsec3.specs.Meaning.{AreAlone};
 ghost use Rattle.domain_nsec.specs.declared.config.GenerateNsecConfig.{GenerateNsecConfig};
-ghost use Rattle.domain_checker.specs.Verdict.{closest_encloser, proved_verdict, zone_verdict, IsProved};
+ghost use Rattle.domain_nsec3.specs.{Chain.{HashedLink, IsHashedChain}, Config.ChainConfig};
+ghost use Rattle.domain_nsec3.specs.Meaning.{AreAlone};
+ghost use Rattle.domain_checker.specs.Verdict.{closest_encloser, proved_verdict, zone_verdict};
+ghost use Rattle.domain_checker.specs.Verdict.{IsProved};
 ghost use Rattle.domain_checker.specs.Alike.{ArePaired, IsAlike, IsHashedAlike, IsPairedIn};
 ghost use Rattle.domain_checker.specs.HashedVerdict.{hashed_proved_verdict, hashed_zone_verdict};
 ghost use Rattle.domain_checker.specs.HashedReading.{IsWalked};
 ghost use Rattle.domain_checker.specs.HashedView.{HashedRecords, chain_records, with_links};
-ghost use Rattle.domain_checker.specs.Reading.{reading};
-ghost use Rattle.domain_checker.specs.declared.verdict.Verdict.{Verdict};
+ghost use Rattle.domain_checker.specs.{Reading.reading, declared.verdict.Verdict.Verdict};
 ghost use Rattle.domain_checker.specs.declared.verdict.Verdict.TheVariants.{NotProven};
 
 pub use crate::nsec3_laws::{hashed_chains_are_known, hashes_tell_of_names, walks_are_proved};

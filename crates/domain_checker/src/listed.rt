@@ -1,11 +1,9 @@
 //! What one NSEC record tells, and how a name stands to another.
 ghost use Rattle.std.specs.Prelude.{◌≡◌, length};
-ghost use Rattle.domain_names.specs.Name.{is_strictly_below};
-ghost use Rattle.domain_names.specs.Order.{before};
+ghost use Rattle.domain_names.specs.{Name.is_strictly_below, Order.before};
 ghost use Rattle.domain_zone.specs.Enclosers.{longer, shared};
 ghost use Rattle.domain_nsec.specs.ChainView.{as_link};
-ghost use Rattle.domain_checker.specs.Verdict.{is_inside};
-ghost use Rattle.domain_checker.specs.Reading.{is_at_cut};
+ghost use Rattle.domain_checker.specs.{Verdict.is_inside, Reading.is_at_cut};
 
 use domain_base::{Rtype, ToName};
 use domain_chain_rdata::Nsec;

@@ -1,19 +1,15 @@
 //! What the way from a name to the apex proves. A caller calls the law in its body.
-ghost use Rattle.std.specs.Prelude.{◌≡◌, ◌<◌, ℕ, true, List};
-ghost use Rattle.std.specs.List.{Contains};
+ghost use Rattle.std.specs.{Prelude.{◌≡◌, ◌<◌, ℕ, true, List}, List.Contains};
 ghost use Rattle.domain_octets.specs.Words.{Octets};
-ghost use Rattle.domain_names.specs.Name.{is_at_or_below};
-ghost use Rattle.domain_names.specs.Words.{Name};
+ghost use Rattle.domain_names.specs.{Name.is_at_or_below, Words.Name};
 ghost use Rattle.domain_zone.specs.Zone.{ZoneRecord};
-ghost use Rattle.domain_nsec3.specs.Chain.{HashedLink, IsHashedChain};
-ghost use Rattle.domain_nsec3.specs.Config.{ChainConfig};
+ghost use Rattle.domain_nsec3.specs.{Chain.{HashedLink, IsHashedChain}, Config.ChainConfig};
 ghost use Rattle.domain_nsec3.specs.Meaning.{IsAlone};
 ghost use Rattle.domain_checker.specs.HashedEncloser.{IsDenial, IsOfName};
 ghost use Rattle.domain_checker.specs.HashedFacts.{ChainsAreKnown};
 ghost use Rattle.domain_checker.specs.HashedList.{is_hash_cover, is_hash_match};
 ghost use Rattle.domain_checker.specs.HashedReading.{IsWalked, WalksAreProved};
-ghost use Rattle.domain_checker.specs.HashedView.{HashedRecords};
-ghost use Rattle.domain_checker.specs.declared.verdict.Verdict.{Verdict};
+ghost use Rattle.domain_checker.specs.{HashedView.HashedRecords, declared.verdict.Verdict.Verdict};
 
 use domain_bitmap::laws::built_bitmaps_give_their_types;
 use domain_codecs::laws::{base32_reads_back, base32_tells_apart};

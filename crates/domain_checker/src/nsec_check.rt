@@ -1,11 +1,8 @@
 //! Records of an NSEC chain that are handed in one after another.
 ghost use Rattle.std.specs.Prelude.{◌≡◌, ◌≢◌, ℕ, List, [], ◌∷◌, ◌++◌, true, length};
-ghost use Rattle.domain_names.specs.Name.{is_at_or_below};
-ghost use Rattle.domain_names.specs.Words.{Name};
-ghost use Rattle.domain_nsec.specs.Chain.{Link};
-ghost use Rattle.domain_nsec.specs.ChainView.{as_link};
-ghost use Rattle.domain_checker.specs.HandedIn.{HasRead};
-ghost use Rattle.domain_checker.specs.Verdict.{HasProof, IsProved, IsWithin};
+ghost use Rattle.domain_names.specs.{Name.is_at_or_below, Words.Name};
+ghost use Rattle.domain_nsec.specs.{Chain.Link, ChainView.as_link};
+ghost use Rattle.domain_checker.specs.{HandedIn.HasRead, Verdict.{HasProof, IsProved, IsWithin}};
 ghost use Rattle.domain_checker.specs.Reading.{reading};
 
 use crate::nsec::{cover_verdict, is_cover, is_match, match_verdict};

@@ -1,8 +1,6 @@
 //! Hashes that labels spell in Base 32 hex.
-ghost use Rattle.std.specs.Prelude.{◌≡◌, ◌<◌, unwrap_or, IfSome};
-ghost use Rattle.std.specs.Ordering.{nat_cmp};
-ghost use Rattle.std.specs.Cmp.Lexicographic.{slice_cmp};
-ghost use Rattle.std.specs.List.{list_all};
+ghost use Rattle.std.specs.{Prelude.{◌≡◌, ◌<◌, unwrap_or, IfSome}, Ordering.nat_cmp};
+ghost use Rattle.std.specs.{Cmp.Lexicographic.slice_cmp, List.list_all};
 ghost use Rattle.domain_codecs.specs.Codec.{base32_value, is_digit};
 ghost use Rattle.domain_checker.specs.HashedList.{is_spelling, read_label};
 

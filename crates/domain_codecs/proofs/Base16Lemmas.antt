@@ -1,8 +1,6 @@
 -- texts in Base 16, two digits at a time
-use Rattle.std.proofs.Common.{◌≡◌, ℕ, ◌+◌, ◌*◌, List, [], ◌∷◌, refl, Option, Result, Ok, arith}
-use Rattle.hex.specs.Hex.{decode_pairs, digit_or_error, hex_digit_value, pair_value, ◌>>=◌}
-use Rattle.hex.specs.declared.error.FromHexError.{FromHexError}
-use Rattle.std.proofs.lemmas.Grind.{common_steps}
+use Rattle.std.proofs.{Common.{◌≡◌, ℕ, ◌+◌, ◌*◌, List, [], ◌∷◌, refl, Option, Result, Ok, arith}, lemmas.Grind.common_steps}
+use Rattle.hex.specs.{Hex.{decode_pairs, digit_or_error, hex_digit_value, pair_value, ◌>>=◌}, declared.error.FromHexError.FromHexError}
 
 -- the first octet, which two digits stand for, and the others
 pub record First (a b : ℕ) (others : Result (List ℕ) FromHexError) (octets : List ℕ) : Type 0 where

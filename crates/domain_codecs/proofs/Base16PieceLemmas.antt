@@ -1,9 +1,6 @@
 -- texts in Base 16 that are read 64 digits at a time
-use Rattle.std.proofs.Common.{◌≡◌, ℕ, min, List, length, take, drop, arith}
-use Rattle.domain_codecs.specs.declared.codec.Codec.TheVariants.{Base16}
-use Rattle.domain_codecs.specs.Cut.{Cut}
-use Rattle.domain_codecs.proofs.JoinedLemmas.{ReadPieces, NextPiece, pieces_next}
-use Rattle.std.proofs.lemmas.Grind.{common_steps}
+use Rattle.std.proofs.{Common.{◌≡◌, ℕ, min, List, length, take, drop, arith}, lemmas.Grind.common_steps}
+use Rattle.domain_codecs.{specs.{declared.codec.Codec.TheVariants.Base16, Cut.Cut}, proofs.JoinedLemmas.{ReadPieces, NextPiece, pieces_next}}
 
 -- the first 64 digits, or all of them
 front_of : (left : List ℕ) (count : ℕ) → count ≡ min (length left) 64 → Cut left (take count left) (drop count left)

@@ -1,13 +1,9 @@
 -- digits of five bits, one after another
-use Rattle.std.proofs.Common.{◌≡◌, ℕ, min, zero, suc, ◌+◌, ◌*◌, ◌/◌, ◌%◌, ◌<◌, ◌≤◌, zero-add, Bool, nat_lt, if◌then◌else◌, List, [], ◌∷◌, ◌++◌}
-use Rattle.std.proofs.Common.{length, get_or, map, take, drop, refl, sym, ap, ◌∙◌, arith, lit<}
-use Rattle.std.specs.List.{AllByRecursion as ByRecursion, range_with_len}
-use Rattle.std.specs.Str.{IsAscii}
-use Rattle.std.proofs.lemmas.List.{append-nil, take_all, drop_all, take-map}
-use Rattle.std.proofs.lemmas.List.Elements.{recursion_from_All}
-use Rattle.std.proofs.lemmas.List.FromFn.{get_or-range_with_len}
+use Rattle.std.proofs.Common.{◌≡◌, ℕ, min, zero, suc, ◌+◌, ◌*◌, ◌/◌, ◌%◌, ◌<◌, ◌≤◌, zero-add, Bool, nat_lt, if◌then◌else◌, List, [], ◌∷◌, ◌++◌, length, get_or}
+use Rattle.std.proofs.{Common.{map, take, drop, refl, sym, ap, ◌∙◌, arith, lit<}, lemmas.List.{append-nil, take_all, drop_all, take-map}}
+use Rattle.std.proofs.lemmas.{List.{Elements.recursion_from_All, FromFn.get_or-range_with_len}, Grind.common_steps}
+use Rattle.std.specs.{List.{AllByRecursion as ByRecursion, range_with_len}, Str.IsAscii}
 use Rattle.domain_codecs.specs.Base32.{base32_from, lower_digit, upper_digit, AreDigits}
-use Rattle.std.proofs.lemmas.Grind.{common_steps}
 
 -- eight digits of five octets, step by step: v is what an octet makes of the bits before it, and others follow its digits
 first_of_five : (a : ℕ) (octets digits : List ℕ) → base32_from 8 (a % 8) octets ≡ digits → base32_from 1 0 (a ∷ octets) ≡ (a / 8) ∷ digits

@@ -1,20 +1,13 @@
 -- texts in Base 64, 64 characters at a time
 use Rattle.std.specs.Prelude.{min, ◌-◌, ◌/◌, ◌%◌}
-use Rattle.std.proofs.Common.{◌≡◌, ℕ, zero, suc, ◌+◌, ◌*◌, ◌<◌, ◌≤◌, List, [], ◌∷◌, ◌++◌, length, take, drop, slice_index, length-drop, length-take}
-use Rattle.std.proofs.Common.{refl, sym, ap, subst, ◌∙◌, arith, ◌⊎◌, inl, inr, Option, None, Result, Ok, Err, true}
-use Rattle.std.proofs.lemmas.Bool.{cases_lt}
-use Rattle.std.proofs.lemmas.List.{nil_from_length, take_at, drop_at, take-append-drop, take_all, drop_all, append-nil, append_assoc}
-use Rattle.base64.specs.GeneralPurpose.{decode_of, encode_of, IsBytes}
-use Rattle.base64.specs.Engines.{standard}
-use Rattle.base64.proofs.RoundTrip.{length-encode_symbols}
-use Rattle.base64.specs.Tables.{is_inverse}
-use Rattle.base64.specs.Decode.{IsDecodeTable, decode_outcome, decoded_bytes, decode_group, groups_error, groups_bytes, groups_before_last}
-use Rattle.base64.specs.Decode.{leftover_bytes, lone_error, no_leftover, or_else, scan_bytes, scan_last, symbol_error}
-use Rattle.base64.specs.declared.decode.DecodeError.{DecodeError}
-use Rattle.base64.proofs.Canonical.{IsScanned-scan, decoded_bytes-nil}
-use Rattle.base64.proofs.EngineFacts.{decode_of-encode_of, decode_of_strict, encode_of-append, encode_of-nil}
-use Rattle.base64.proofs.Tables.{IsDecodeTable_from, are_tables_inverse}
-use Rattle.std.proofs.lemmas.Grind.{common_steps}
+use Rattle.std.proofs.Common.{◌≡◌, ℕ, zero, suc, ◌+◌, ◌*◌, ◌<◌, ◌≤◌, List, [], ◌∷◌, ◌++◌, length, take, drop, slice_index, length-drop, length-take, refl, sym}
+use Rattle.std.proofs.{Common.{ap, subst, ◌∙◌, arith, ◌⊎◌, inl, inr, Option, None, Result, Ok, Err, true}, lemmas.Bool.cases_lt}
+use Rattle.std.proofs.lemmas.{List.{nil_from_length, take_at, drop_at, take-append-drop, take_all, drop_all, append-nil, append_assoc}, Grind.common_steps}
+use Rattle.base64.specs.{GeneralPurpose.{decode_of, encode_of, IsBytes}, Engines.standard, Tables.is_inverse}
+use Rattle.base64.specs.Decode.{IsDecodeTable, decode_outcome, decoded_bytes, decode_group, groups_error, groups_bytes, groups_before_last, leftover_bytes}
+use Rattle.base64.specs.{Decode.{lone_error, no_leftover, or_else, scan_bytes, scan_last, symbol_error}, declared.decode.DecodeError.DecodeError}
+use Rattle.base64.proofs.{RoundTrip.length-encode_symbols, Canonical.{IsScanned-scan, decoded_bytes-nil}}
+use Rattle.base64.proofs.{EngineFacts.{decode_of-encode_of, decode_of_strict, encode_of-append, encode_of-nil}, Tables.{IsDecodeTable_from, are_tables_inverse}}
 
 -- ---- what is decoded are octets
 

@@ -1,11 +1,7 @@
 -- the digits of Base 32 are the groups of five bits of their octets
-use Rattle.std.proofs.Common.{◌≡◌, ℕ, ◌+◌, ◌-◌, ◌*◌, ◌/◌, ◌%◌, ◌<◌, All, List, [], ◌∷◌, ◌++◌, length, ap, ◌∙◌, arith}
-use Rattle.std.specs.Prelude.{replicate}
-use Rattle.std.specs.List.{AllByRecursion, flat_map}
-use Rattle.std.proofs.lemmas.List.Elements.{recursion_from_All}
-use Rattle.domain_codecs.specs.Base32.{base32_from}
-use Rattle.domain_codecs.specs.BitGroups.{octet_bits, digit_bits, filled_bits}
-use Rattle.std.proofs.lemmas.Grind.{common_steps}
+use Rattle.std.proofs.{Common.{◌≡◌, ℕ, ◌+◌, ◌-◌, ◌*◌, ◌/◌, ◌%◌, ◌<◌, All, List, [], ◌∷◌, ◌++◌, length, ap, ◌∙◌, arith}, lemmas.List.Elements.recursion_from_All}
+use Rattle.std.{proofs.lemmas.Grind.common_steps, specs.{Prelude.replicate, List.{AllByRecursion, flat_map}}}
+use Rattle.domain_codecs.specs.{Base32.base32_from, BitGroups.{octet_bits, digit_bits, filled_bits}}
 
 -- so many zero bits fill the last group after so many bits
 abbrev fill : ℕ → ℕ → List ℕ

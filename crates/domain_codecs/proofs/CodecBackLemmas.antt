@@ -1,14 +1,8 @@
 -- what octets are written as in Base 16 and Base 64 is read back, and a text is read in one way
-use Rattle.std.proofs.Common.{◌≡◌, ℕ, ◌<◌, List, All, get_or, refl, arith}
-use Rattle.hex.specs.Hex.{encode_lower, encode_upper}
-use Rattle.hex.proofs.HexLemmas.{decode_of-encode_lower, decode_of-encode_upper}
-use Rattle.base64.specs.GeneralPurpose.{encode_of}
-use Rattle.base64.specs.Engines.{standard}
-use Rattle.base64.proofs.EngineFacts.{decode_of-encode_of}
-use Rattle.domain_codecs.specs.Codec.{Decodes}
-use Rattle.domain_codecs.specs.declared.codec.Codec.{Codec}
-use Rattle.domain_codecs.specs.declared.codec.Codec.TheVariants.{Base16, Base64}
-use Rattle.std.proofs.lemmas.Grind.{common_steps}
+use Rattle.std.proofs.{Common.{◌≡◌, ℕ, ◌<◌, List, All, get_or, refl, arith}, lemmas.Grind.common_steps}
+use Rattle.hex.{specs.Hex.{encode_lower, encode_upper}, proofs.HexLemmas.{decode_of-encode_lower, decode_of-encode_upper}}
+use Rattle.base64.{specs.{GeneralPurpose.encode_of, Engines.standard}, proofs.EngineFacts.decode_of-encode_of}
+use Rattle.domain_codecs.specs.{Codec.Decodes, declared.codec.Codec.{Codec, TheVariants.{Base16, Base64}}}
 
 -- what stands past the end is 0
 bytes : (octets : List ℕ) → All (λ octet. octet < 256) octets → (i : ℕ) → get_or octets i 0 < 256

@@ -1,11 +1,9 @@
 -- texts that are decoded
 use Rattle.std.proofs.Common.{◌≡◌, ℕ, ◌+◌, ◌*◌, ◌/◌, ◌%◌, ◌<◌, ◌≤◌, List, [], ◌∷◌, ◌++◌, length, get_or, take, drop, refl, sym, ap, ◌∙◌, arith, lit<}
-use Rattle.std.specs.Prelude.{unwrap_or}
-use Rattle.std.proofs.lemmas.List.{take_more, append-nil, drop_all}
+use Rattle.std.{proofs.lemmas.{List.{take_more, append-nil, drop_all}, Grind.common_steps}, specs.Prelude.unwrap_or}
 use Rattle.hex.specs.Hex.{encode_with}
 use Rattle.domain_codecs.proofs.Scale.{IsScale, no_bits, one_bit, two_bits, three_bits, four_bits, five_bits, six_bits, seven_bits}
 use Rattle.domain_codecs.specs.Codec.{base32_value, base32_octets, base32_digits, IsBase32}
-use Rattle.std.proofs.lemmas.Grind.{common_steps}
 
 -- what a digit of five bits makes of it
 pub record Widens (scale : ℕ) : Type 0 where

@@ -1,29 +1,17 @@
 -- texts that are gone through in pieces of 64 characters, and what each piece stands for
 use Rattle.std.proofs.Common.{◌≡◌, ◌≢◌, ℕ, zero, suc, ◌+◌, ◌*◌, ◌/◌, ◌%◌, ◌<◌, ◌≤◌, true, false, List, [], ◌∷◌, ◌++◌, length, take, drop, get_or, length-append}
-use Rattle.std.proofs.Common.{refl, sym, ap, subst, ◌∙◌, arith, Option, None, Some, Ok, Err}
-use Rattle.std.specs.Prelude.{◌↔◌, Bool, not, is_some, IsTrue, MatchOption}
-use Rattle.std.specs.List.{AllPass}
-use Rattle.std.proofs.Math.ListN.{get_or-append}
-use Rattle.std.proofs.Math.Seq.{get_or-append_seam}
+use Rattle.std.proofs.{Common.{refl, sym, ap, subst, ◌∙◌, arith, Option, None, Some, Ok, Err}, Math.{ListN.get_or-append, Seq.get_or-append_seam}}
 use Rattle.std.proofs.lemmas.List.{take_at, drop_at, append-nil, map-append, length-map, get_or-append-add, take-append-drop}
-use Rattle.base64.specs.GeneralPurpose.{IsBytes}
-use Rattle.base64.specs.Engines.{standard}
+use Rattle.std.specs.{Prelude.{◌↔◌, Bool, not, is_some, IsTrue, MatchOption}, List.AllPass}
+use Rattle.base64.specs.{GeneralPurpose.IsBytes, Engines.standard, declared.decode.DecodeError.DecodeError}
 use Rattle.base64.proofs.EngineFacts.{decode_of-encode_of, encode_of-nil}
-use Rattle.hex.specs.Hex.{decode_of, decode_pairs, pair_value}
-use Rattle.hex.proofs.HexLemmas.{decode_of-even, decode_of-ok}
-use Rattle.hex.proofs.Pairs.{cons_byte, decode_pairs-ok_pair}
-use Rattle.domain_codecs.specs.declared.codec.Codec.{Codec}
-use Rattle.domain_codecs.specs.declared.codec.Codec.TheVariants.{Base16, Base32Hex, Base64}
-use Rattle.domain_codecs.specs.Codec.{Decodes, IsText, BuildFault, IsFirstOther, is_digit, base32_octets, base32_digits, IsBase32}
-use Rattle.domain_codecs.specs.Cut.{Cut}
-use Rattle.domain_octets.specs.Words.{AreOctets}
-use Rattle.domain_codecs.proofs.CodecBackLemmas.{decodes_once}
-use Rattle.domain_octets.proofs.PrefixLemmas.{Searched}
-use Rattle.domain_codecs.proofs.Base16Lemmas.{First, pairs_first}
+use Rattle.hex.{specs.Hex.{decode_of, decode_pairs, pair_value}, proofs.{HexLemmas.{decode_of-even, decode_of-ok}, Pairs.{cons_byte, decode_pairs-ok_pair}}}
+use Rattle.domain_codecs.specs.declared.codec.Codec.{Codec, TheVariants.{Base16, Base32Hex, Base64}}
+use Rattle.domain_codecs.specs.{Codec.{Decodes, IsText, BuildFault, IsFirstOther, is_digit, base32_octets, base32_digits, IsBase32}, Cut.Cut}
+use Rattle.domain_codecs.proofs.{CodecBackLemmas.decodes_once, Base16Lemmas.{First, pairs_first}}
 use Rattle.domain_codecs.proofs.Base64Lemmas.{DecodesTo, split_pieces, nothing_decodes, bytes-drop, Passed, passed_none, passed_more, short_piece}
 use Rattle.domain_codecs.proofs.Base64Lemmas.{decoded_length}
-use Rattle.domain_octets.specs.declared.error.AppendError.{AppendError}
-use Rattle.base64.specs.declared.decode.DecodeError.{DecodeError}
+use Rattle.domain_octets.{specs.{Words.AreOctets, declared.error.AppendError.AppendError}, proofs.PrefixLemmas.Searched}
 use Rattle.base64.specs.GeneralPurpose as base64
 use Rattle.std.proofs.lemmas.Grind.{common_steps}
 

@@ -1,14 +1,9 @@
 -- what octets are written as in Base 32 hex, in either case, is read back
 use Rattle.std.proofs.Common.{◌≡◌, ℕ, ◌+◌, ◌*◌, ◌/◌, ◌%◌, ◌<◌, true, All, not, ◌||◌, List, [], ◌∷◌, map, length, refl, ap, sym, ◌∙◌, arith, lit<, nat_eq, Some}
-use Rattle.std.proofs.lemmas.Bool.Decides.{nat_tests}
-use Rattle.std.proofs.lemmas.List.{length-map}
-use Rattle.std.specs.List.{list_all, AllByRecursion}
-use Rattle.std.proofs.lemmas.List.Sums.{AllPass-from_list_all}
-use Rattle.std.proofs.lemmas.List.Elements.{recursion_from_All, All-from_recursion}
-use Rattle.domain_codecs.specs.declared.codec.Codec.TheVariants.{Base32Hex}
-use Rattle.domain_codecs.specs.Base32.{base32_from, base32_lower, base32_upper, lower_digit, upper_digit}
+use Rattle.std.proofs.lemmas.{Bool.Decides.nat_tests, List.{length-map, Sums.AllPass-from_list_all, Elements.{recursion_from_All, All-from_recursion}}}
+use Rattle.std.{proofs.lemmas.Grind.common_steps, specs.List.{list_all, AllByRecursion}}
+use Rattle.domain_codecs.specs.{declared.codec.Codec.TheVariants.Base32Hex, Base32.{base32_from, base32_lower, base32_upper, lower_digit, upper_digit}}
 use Rattle.domain_codecs.specs.Codec.{base32_value, is_digit, is_base32_length, base32_octets, base32_digits, IsBase32}
-use Rattle.std.proofs.lemmas.Grind.{common_steps}
 
 -- the digits that go on from the bits left over of the last octet, after those that are read, are that octet and those that follow
 pub record Back (xs : List ℕ) : Type 0 where

@@ -1,12 +1,8 @@
 -- room in a builder that is filled part by part
-use Rattle.std.proofs.Common.{◌≡◌, ℕ, ◌+◌, List, ◌++◌, length, arith, Option, Result, Ok, Err}
+use Rattle.std.proofs.{Common.{◌≡◌, ℕ, ◌+◌, List, ◌++◌, length, arith, Option, Result, Ok, Err}, lemmas.Grind.common_steps}
 use Rattle.std.specs.Prelude.{◌↔◌, IsErrOf, IsErrAnd, IfErr, IsNone}
-use Rattle.domain_octets.specs.Limit.{IsOver, HasRoom}
-use Rattle.domain_octets.specs.declared.error.AppendError.{AppendError}
-use Rattle.domain_octets.specs.declared.error.AppendError.TheVariants.{ShortBuf, OutOfMemory}
-use Rattle.domain_codecs.specs.declared.codec.Codec.{Codec}
-use Rattle.domain_codecs.specs.Codec.{Decodes, BuildFault}
-use Rattle.std.proofs.lemmas.Grind.{common_steps}
+use Rattle.domain_octets.specs.{Limit.{IsOver, HasRoom}, declared.error.AppendError.{AppendError, TheVariants.{ShortBuf, OutOfMemory}}}
+use Rattle.domain_codecs.specs.{declared.codec.Codec.Codec, Codec.{Decodes, BuildFault}}
 
 -- what was appended whole had room
 pub room_for_part : {X : Type 0} (limit : Option ℕ) (x : X) (r : Result X AppendError) (built part after : List ℕ) → r ≡ Ok x → after ≡ built ++ part

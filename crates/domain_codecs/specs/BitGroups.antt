@@ -1,6 +1,5 @@
 -- numbers as bits, the one that weighs most first
-use Rattle.std.specs.Prelude.{ℕ, ◌-◌, ◌*◌, ◌/◌, ◌%◌, [], ◌∷◌, ◌++◌, length, replicate}
-use Rattle.std.specs.List.{flat_map}
+use Rattle.std.specs.{Prelude.{ℕ, ◌-◌, ◌*◌, ◌/◌, ◌%◌, [], ◌∷◌, ◌++◌, length, replicate}, List.flat_map}
 use Rattle.domain_octets.specs.Words.{Octets}
 
 -- the eight bits of an octet

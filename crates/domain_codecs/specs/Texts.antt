@@ -1,6 +1,5 @@
 -- what errors say
-use Rattle.std.specs.Prelude.{◌++◌, codes}
-use Rattle.std.specs.Char.{encode_utf8}
+use Rattle.std.specs.{Prelude.{◌++◌, codes}, Char.encode_utf8}
 use Rattle.domain_octets.specs.Words.{Octets}
 use Rattle.domain_codecs.specs.declared.codec.DecodeError.{DecodeError}
 use Rattle.domain_codecs.specs.declared.codec.DecodeError.TheVariants as decode_error

@@ -1,8 +1,6 @@
 //! Base 64 (RFC 4648, section 4).
-ghost use Rattle.std.specs.Prelude.{◌≡◌, IfOk, IfErr, IsErrOf, ◌↔◌, string_bytes};
-ghost use Rattle.std.specs.Fmt.{WritesOnOk};
-ghost use Rattle.base64.specs.GeneralPurpose.{encode_of};
-ghost use Rattle.base64.specs.Engines.{standard};
+ghost use Rattle.std.specs.{Prelude.{◌≡◌, IfOk, IfErr, IsErrOf, ◌↔◌, string_bytes}, Fmt.WritesOnOk};
+ghost use Rattle.base64.specs.{GeneralPurpose.encode_of, Engines.standard};
 ghost use Rattle.domain_codecs.specs.declared.codec.Codec.TheVariants as codec;
 ghost use Rattle.domain_codecs.specs.Codec.{Decodes, DecodeFault, HasNoRoom};
 

@@ -2,8 +2,7 @@
 ghost use Rattle.std.specs.Prelude.{◌≤◌, ◌↔◌, length, map, Ok, IfOk, IfErr, IfSome, IsErrOf};
 ghost use Rattle.std.specs.List.{concat};
 ghost use Rattle.domain_codecs.specs.Codec.{Decodes, IsText, HasNoRoom, BuildFault, DecodeFault};
-ghost use Rattle.domain_octets.specs.Limit.{HasRoom};
-ghost use Rattle.domain_octets.specs.Words.{AreOctets};
+ghost use Rattle.domain_octets.specs.{Limit.HasRoom, Words.AreOctets};
 
 use crate::joined::Joined;
 use crate::judging::{base32_digit, judge};

@@ -1,8 +1,7 @@
 //! Texts that are read one after another, as one text.
-ghost use Rattle.std.specs.Prelude.{◌≡◌, ◌≤◌, ◌%◌, ◌↔◌, ◌∷◌, ◌++◌, [], length, map, take, IsTrue, IfSome, IfNone, MatchOption};
-ghost use Rattle.std.specs.List.{AllPass, concat};
-ghost use Rattle.domain_codecs.specs.Codec.{is_digit, IsFirstOther, IsText};
-ghost use Rattle.domain_codecs.specs.Cut.{Cut};
+ghost use Rattle.std.specs.Prelude.{◌≡◌, ◌≤◌, ◌%◌, ◌↔◌, ◌∷◌, ◌++◌, [], length, map, take, IsTrue};
+ghost use Rattle.std.specs.{Prelude.{IfSome, IfNone, MatchOption}, List.{AllPass, concat}};
+ghost use Rattle.domain_codecs.specs.{Codec.{is_digit, IsFirstOther, IsText}, Cut.Cut};
 ghost use Rattle.domain_octets.specs.Words.{Octets, AreOctets};
 
 use crate::{Codec, judging};

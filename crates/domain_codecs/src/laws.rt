@@ -1,20 +1,14 @@
 //! What holds of octets as text: Base 16, Base 32 with the extended hex alphabet, and Base 64.
 //! A caller calls the law in its body.
-ghost use Rattle.std.specs.Prelude.{◌≡◌, ◌≢◌, ◌<◌, ◌^◌, ℕ, []};
-ghost use Rattle.std.specs.Fmt.{decimal};
-ghost use Rattle.std.specs.List.{flat_map};
-ghost use Rattle.std.specs.Ordering.{nat_cmp};
-ghost use Rattle.std.specs.Cmp.Lexicographic.{slice_cmp};
+ghost use Rattle.std.specs.{Prelude.{◌≡◌, ◌≢◌, ◌<◌, ◌^◌, ℕ, []}, Fmt.decimal, List.flat_map};
+ghost use Rattle.std.specs.{Ordering.nat_cmp, Cmp.Lexicographic.slice_cmp};
 ghost use Rattle.domain_codecs.specs.Base32.{base32_from, base32_lower, base32_upper};
-ghost use Rattle.domain_codecs.specs.Codec.{IsBase32, Decodes};
-ghost use Rattle.domain_codecs.specs.declared.codec.Codec.{Codec};
+ghost use Rattle.domain_codecs.specs.{Codec.{IsBase32, Decodes}, declared.codec.Codec.Codec};
 ghost use Rattle.domain_codecs.specs.declared.codec.Codec.TheVariants as codec;
 ghost use Rattle.hex.specs.Hex.{encode_lower, encode_upper};
-ghost use Rattle.base64.specs.GeneralPurpose.{encode_of};
-ghost use Rattle.base64.specs.Engines.{standard};
+ghost use Rattle.base64.specs.{GeneralPurpose.encode_of, Engines.standard};
 ghost use Rattle.domain_codecs.specs.BitGroups.{digit_bits, filled_bits};
-ghost use Rattle.domain_octets.specs.Line.{IsWord};
-ghost use Rattle.domain_octets.specs.Words.{Octets, AreOctets};
+ghost use Rattle.domain_octets.specs.{Line.IsWord, Words.{Octets, AreOctets}};
 
 /// Texts are in the lexicographic order of their octets, of whatever lengths those are (RFC 4648,
 /// section 7). So the owners of NSEC3 records are in the order of their hashes (RFC 5155,

@@ -1,34 +1,19 @@
 -- Where a search by hash in a chain ends, the record matches or covers the hash, and no other does.
-use Rattle.std.proofs.Common.{◌≡◌, ℕ, zero, suc, ◌-◌, ◌<◌, ◌≤◌, true, false, cond, ◌&&◌, List, [], ◌∷◌, map, length, get_or, slice_get, Some}
-use Rattle.std.proofs.Common.{None, refl, sym, ap, ◌∙◌, arith, inl, inr, ◌⊎◌}
-use Rattle.std.specs.List.{AllByRecursion}
-use Rattle.std.specs.List.Sorted.{IsStrictlySortedBy}
-use Rattle.std.specs.Cmp.{IsStrictWeakOrder}
-use Rattle.std.specs.Cmp.Lexicographic.{nat_list_cmp_total, slice_cmp}
-use Rattle.std.specs.Ordering.{is_eq, is_lt, nat_cmp}
-use Rattle.std.specs.declared.cmp.Ordering.TheVariants.{Less}
-use Rattle.std.proofs.lemmas.List.{length-map}
-use Rattle.std.proofs.lemmas.List.Elements.{recursion_from_All}
-use Rattle.std.proofs.lemmas.List.Sorted.{ranks_by}
-use Rattle.std.proofs.lemmas.Option.{get_or_from_slice_get, slice_get-get_or, slice_get_within}
-use Rattle.domain_codecs.specs.Base32.{base32_lower}
-use Rattle.domain_codecs.specs.Codec.{IsBase32}
-use Rattle.domain_octets.specs.Words.{AreOctets, Octets}
-use Rattle.domain_octets.proofs.StdLemmas.{some_is}
+use Rattle.std.proofs.Common.{◌≡◌, ℕ, zero, suc, ◌-◌, ◌<◌, ◌≤◌, true, false, cond, ◌&&◌, List, [], ◌∷◌, map, length, get_or, slice_get, Some, None, refl, sym}
+use Rattle.std.proofs.{Common.{ap, ◌∙◌, arith, inl, inr, ◌⊎◌}, lemmas.List.{length-map, Elements.recursion_from_All, Sorted.ranks_by}}
+use Rattle.std.proofs.lemmas.{Option.{get_or_from_slice_get, slice_get-get_or, slice_get_within}, Grind.common_steps}
+use Rattle.std.specs.{List.{AllByRecursion, Sorted.IsStrictlySortedBy}, Cmp.{IsStrictWeakOrder, Lexicographic.{nat_list_cmp_total, slice_cmp}}}
+use Rattle.std.specs.{Ordering.{is_eq, is_lt, nat_cmp}, declared.cmp.Ordering.TheVariants.Less}
+use Rattle.domain_codecs.specs.{Base32.base32_lower, Codec.IsBase32}
+use Rattle.domain_octets.{specs.Words.{AreOctets, Octets}, proofs.StdLemmas.some_is}
 use Rattle.domain_names.specs.Words.{Name}
-use Rattle.domain_zone.specs.Covering.{matches, matches_or_covers, pairs}
-use Rattle.domain_zone.specs.Zone.{ZoneRecord}
-use Rattle.domain_zone.proofs.NameLemmas.{same_itself}
-use Rattle.domain_zone.proofs.PairLemmas.{IsAscending, irreflexive, one_matches_or_covers, In, all_in}
-use Rattle.domain_zone.proofs.PlaceLemmas.{IsOnly, one_place}
-use Rattle.domain_zone.proofs.FindLemmas.{in_at}
-use Rattle.domain_nsec3.specs.Chain.{HashedLink, HashedName, IsHashedChain, IsOfChain, cycle, ends, ends_of, hashed_owner}
-use Rattle.domain_nsec3.specs.Config.{ChainConfig, Parameters}
+use Rattle.domain_zone.{specs.{Covering.{matches, matches_or_covers, pairs}, Zone.ZoneRecord}, proofs.NameLemmas.same_itself}
+use Rattle.domain_zone.proofs.{PairLemmas.{IsAscending, irreflexive, one_matches_or_covers, In, all_in}, PlaceLemmas.{IsOnly, one_place}, FindLemmas.in_at}
+use Rattle.domain_nsec3.specs.{Chain.{HashedLink, HashedName, IsHashedChain, IsOfChain, cycle, ends, ends_of, hashed_owner}, Config.{ChainConfig, Parameters}}
 use Rattle.domain_nsec3.specs.Meaning.{IsRecordOf, octets_before}
 use Rattle.domain_checker.specs.HashedList.{hash_in, is_some_with, owner_hash, read_label, same_parameters}
 use Rattle.domain_checker.proofs.HashedListLemmas.{tied_is, hashes_octets, parameters_tie, spelled_back}
 use Rattle.domain_denier.specs.HashedSteps.{IsOfHash, IsSaid, tells_hash}
-use Rattle.std.proofs.lemmas.Grind.{common_steps}
 
 -- ---- lists of hashes that ascend
 

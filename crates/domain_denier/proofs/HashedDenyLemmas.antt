@@ -1,47 +1,27 @@
 -- What is picked of the NSEC3 chain of a zone is what its answer rests on, and no more.
-use Rattle.std.proofs.Common.{◌≡◌, ◌≢◌, ℕ, ◌-◌, ◌<◌, Bool, true, false, cond, not, ◌&&◌, ◌||◌, List, [], ◌∷◌, map, length, Some, None, Option}
-use Rattle.std.proofs.Common.{slice_get, nat_eq, refl, sym, ap, ◌∙◌, inl, inr, ◌⊎◌, arith}
-use Rattle.std.specs.Prelude.{All}
-use Rattle.std.specs.List.{Contains, list_any}
-use Rattle.std.proofs.lemmas.Bool.{cases_Bool, eq-eqb, eqb-true, false≢true, and_parts, and_from, or_cases, or_left, or_right}
-use Rattle.std.proofs.lemmas.List.{length-map}
-use Rattle.std.proofs.lemmas.List.Elements.{All-contains_itself}
-use Rattle.std.proofs.lemmas.Option.{get_or_from_slice_get, slice_get_within}
-use Rattle.domain_octets.specs.Words.{Octets}
-use Rattle.domain_octets.proofs.StdLemmas.{some_is, none_some}
-use Rattle.domain_names.specs.Name.{is_at_or_below, same_name, last_labels}
-use Rattle.domain_names.specs.Words.{Name}
-use Rattle.domain_zone.specs.Enclosers.{IsClosestEncloser, exists_over}
-use Rattle.domain_zone.specs.Zone.{ZoneRecord, is_zone_cut}
-use Rattle.domain_zone.proofs.NameLemmas.{below_itself, below_longer}
-use Rattle.domain_zone.proofs.OwnerLemmas.{in_any}
-use Rattle.domain_nsec3.specs.Chain.{ChainRecords, HashedLink, HashedName, IsHashedChain, cycle, ends, ends_of}
-use Rattle.domain_nsec3.specs.Config.{ChainConfig, Hash, hash_name}
-use Rattle.domain_nsec3.specs.Meaning.{IsAlone, TellsEncloser}
-use Rattle.domain_nsec3.specs.Owners.{is_chain_name, nsec3_lists, original_owners}
+use Rattle.std.proofs.Common.{◌≡◌, ◌≢◌, ℕ, ◌-◌, ◌<◌, Bool, true, false, cond, not, ◌&&◌, ◌||◌, List, [], ◌∷◌, map, length, Some, None, Option, slice_get}
+use Rattle.std.proofs.Common.{nat_eq, refl, sym, ap, ◌∙◌, inl, inr, ◌⊎◌, arith}
+use Rattle.std.proofs.lemmas.{Bool.{cases_Bool, eq-eqb, eqb-true, false≢true, and_parts, and_from, or_cases, or_left, or_right}, List.length-map}
+use Rattle.std.proofs.lemmas.{List.Elements.All-contains_itself, Option.{get_or_from_slice_get, slice_get_within}, Grind.common_steps}
+use Rattle.std.specs.{Prelude.All, List.{Contains, list_any}}
+use Rattle.domain_octets.{specs.Words.Octets, proofs.StdLemmas.{some_is, none_some}}
+use Rattle.domain_names.specs.{Name.{is_at_or_below, same_name, last_labels}, Words.Name}
+use Rattle.domain_zone.specs.{Enclosers.{IsClosestEncloser, exists_over}, Zone.{ZoneRecord, is_zone_cut}}
+use Rattle.domain_zone.proofs.{NameLemmas.{below_itself, below_longer}, OwnerLemmas.in_any, FindLemmas.{any_none, find_none}}
+use Rattle.domain_nsec3.specs.{Chain.{ChainRecords, HashedLink, HashedName, IsHashedChain, cycle, ends, ends_of}, Config.{ChainConfig, Hash, hash_name}}
+use Rattle.domain_nsec3.specs.{Meaning.{IsAlone, TellsEncloser}, Owners.{is_chain_name, nsec3_lists, original_owners}}
 use Rattle.domain_base.specs.Types.{dname}
-use Rattle.domain_zone.proofs.FindLemmas.{any_none, find_none}
-use Rattle.domain_checker.specs.HashedEncloser.{IsOfName}
-use Rattle.domain_checker.specs.HashedList.{is_hash_cover, is_hash_match}
-use Rattle.domain_checker.specs.HashedView.{HashedRecords, chain_records}
-use Rattle.domain_checker.specs.HashedVerdict.{is_covered, is_matched, is_ok_with, next_closer}
-use Rattle.domain_checker.specs.Verdict.{closest_encloser}
-use Rattle.domain_checker.proofs.EncloserLemmas.{apex_from, closest_is, same_count}
-use Rattle.domain_checker.proofs.HashedListLemmas.{hash_same}
-use Rattle.domain_answer.specs.declared.answer.Answer.{Answer}
-use Rattle.domain_answer.specs.declared.answer.Answer.TheVariants.{NoCloserName, NotProven}
+use Rattle.domain_checker.specs.{HashedEncloser.IsOfName, HashedList.{is_hash_cover, is_hash_match}, HashedView.{HashedRecords, chain_records}}
+use Rattle.domain_checker.specs.{HashedVerdict.{is_covered, is_matched, is_ok_with, next_closer}, Verdict.closest_encloser}
+use Rattle.domain_checker.proofs.{EncloserLemmas.{apex_from, closest_is, same_count}, HashedListLemmas.hash_same}
+use Rattle.domain_answer.specs.declared.answer.Answer.{Answer, TheVariants.{NoCloserName, NotProven}}
 use Rattle.domain_answer.specs.HashedProved.{AreAskedAlone, IsHashedAnswered, hashed_proved_answer, needs_wildcard, tells_encloser, tells_wildcard}
-use Rattle.domain_answer.specs.HashedReading.{IsHashedRead}
-use Rattle.domain_answer.specs.HashedZoneAnswer.{HashedLeavesOutBelowDname, hashed_encloser, hashed_zone_answer}
-use Rattle.domain_answer.specs.ZoneAnswer.{is_at_parent, wildcard_below}
-use Rattle.domain_answer.proofs.CountLemmas.{closest_last}
+use Rattle.domain_answer.specs.{HashedReading.IsHashedRead, HashedZoneAnswer.{HashedLeavesOutBelowDname, hashed_encloser, hashed_zone_answer}}
+use Rattle.domain_answer.{specs.ZoneAnswer.{is_at_parent, wildcard_below}, proofs.CountLemmas.closest_last}
 use Rattle.domain_denier.specs.Picked.{at_place}
 use Rattle.domain_denier.specs.HashedPicked.{AreHashedNeeded, IsHashedDenial, IsHashedWhole, TellOfTheirParts, hashed_picked, other_place, picked_without}
-use Rattle.domain_denier.specs.HashedSteps.{IsPickedRead, IsSoleCover, IsSoleMatch, IsSoleWildcard}
-use Rattle.domain_denier.specs.declared.nsec3.Nsec3Denial.{Nsec3Denial}
-use Rattle.domain_denier.proofs.HashSearchLemmas.{cycle_length}
-use Rattle.domain_denier.proofs.SomeLemmas.{in_place, no_match, not_gone, three_contained, three_others}
-use Rattle.std.proofs.lemmas.Grind.{common_steps}
+use Rattle.domain_denier.specs.{HashedSteps.{IsPickedRead, IsSoleCover, IsSoleMatch, IsSoleWildcard}, declared.nsec3.Nsec3Denial.Nsec3Denial}
+use Rattle.domain_denier.proofs.{HashSearchLemmas.cycle_length, SomeLemmas.{in_place, no_match, not_gone, three_contained, three_others}}
 
 -- what the laws say
 pub record DenyLaws : Type 0 where

@@ -1,41 +1,25 @@
 -- What is picked of an NSEC3 chain answers as the whole chain does, and less without one of its records.
 use Rattle.std.proofs.Common.{◌≡◌, ℕ, zero, suc, ◌<◌, Bool, true, false, cond, List, [], ◌∷◌, ◌++◌, length, Some, None, Option, slice_get, nat_eq, refl, sym}
-use Rattle.std.proofs.Common.{ap, ◌∙◌, subst, inl, inr, arith}
-use Rattle.std.specs.Prelude.{Ok}
-use Rattle.std.specs.List.{list_any}
-use Rattle.std.proofs.lemmas.Bool.{cases_Bool, cases_lt, eq-eqb, false≢true}
-use Rattle.domain_octets.specs.Words.{Octets}
-use Rattle.domain_octets.proofs.StdLemmas.{some_is, none_some}
-use Rattle.domain_names.specs.Name.{is_at_or_below, last_labels}
+use Rattle.std.proofs.{Common.{ap, ◌∙◌, subst, inl, inr, arith}, lemmas.{Bool.{cases_Bool, cases_lt, eq-eqb, false≢true}, Grind.common_steps}}
+use Rattle.std.specs.{Prelude.Ok, List.list_any}
+use Rattle.domain_octets.{specs.Words.Octets, proofs.StdLemmas.{some_is, none_some}}
+use Rattle.domain_names.specs.{Name.{is_at_or_below, last_labels}, Words.Name}
 use Rattle.domain_base.specs.Types.{dname}
-use Rattle.domain_names.specs.Words.{Name}
 use Rattle.domain_bitmap.specs.Blocks.{contains_type}
-use Rattle.domain_zone.proofs.NameLemmas.{below_length, below_longer}
-use Rattle.domain_zone.proofs.PairLemmas.{In}
-use Rattle.domain_zone.proofs.OwnerLemmas.{in_any}
-use Rattle.domain_zone.proofs.FindLemmas.{any_none, in_at, in_front}
-use Rattle.domain_nsec3.specs.Chain.{HashedLink}
-use Rattle.domain_nsec3.specs.Config.{hash_name}
-use Rattle.domain_checker.specs.HashedEncloser.{Encloser, IsEncloser, encloser_is_cut, next_cover}
-use Rattle.domain_checker.specs.HashedList.{is_hash_match}
-use Rattle.domain_checker.specs.HashedReading.{IsNextHash, IsUnmatched}
-use Rattle.domain_checker.specs.HashedView.{HashedRecords, first_cover, first_match, with_links}
-use Rattle.domain_checker.specs.HashedVerdict.{is_matched, is_ok_with}
-use Rattle.domain_checker.proofs.HashedWalkLemmas.{some_matched}
-use Rattle.domain_answer.specs.declared.answer.Answer.{Answer}
-use Rattle.domain_answer.specs.declared.answer.Answer.TheVariants.{Referral, Redirected, NoCloserName, NotProven}
+use Rattle.domain_zone.proofs.{NameLemmas.{below_length, below_longer}, PairLemmas.In, OwnerLemmas.in_any, FindLemmas.{any_none, in_at, in_front}}
+use Rattle.domain_nsec3.specs.{Chain.HashedLink, Config.hash_name}
+use Rattle.domain_checker.specs.{HashedEncloser.{Encloser, IsEncloser, encloser_is_cut, next_cover}, HashedList.is_hash_match}
+use Rattle.domain_checker.specs.{HashedReading.{IsNextHash, IsUnmatched}, HashedView.{HashedRecords, first_cover, first_match, with_links}}
+use Rattle.domain_checker.{specs.HashedVerdict.{is_matched, is_ok_with}, proofs.HashedWalkLemmas.some_matched}
+use Rattle.domain_answer.specs.declared.answer.Answer.{Answer, TheVariants.{Referral, Redirected, NoCloserName, NotProven}}
 use Rattle.domain_answer.specs.HashedReading.{IsHashedRead, IsReadOn, IsWildcardRead, encloser_answer, lower_answer, next_answer, own_answer, wildcard_told}
-use Rattle.domain_answer.specs.ZoneAnswer.{wildcard_below}
-use Rattle.domain_answer.proofs.CountLemmas.{last_above, last_count}
-use Rattle.domain_denier.specs.Picked.{at_place}
-use Rattle.domain_denier.specs.HashedPicked.{AreHashedThere, TellsOfName, hashed_picked, other_place, picked_without, without_records}
+use Rattle.domain_answer.{specs.ZoneAnswer.wildcard_below, proofs.CountLemmas.{last_above, last_count}}
+use Rattle.domain_denier.specs.{Picked.at_place, HashedPicked.{AreHashedThere, TellsOfName, hashed_picked, other_place, picked_without, without_records}}
 use Rattle.domain_denier.specs.HashedSteps.{IsCoverAt, IsFirstDenial, IsInside, IsOfHash, IsPickedRead, IsPlaced, IsSoleCover, IsSoleMatch, encloser_with}
-use Rattle.domain_denier.specs.HashedSteps.{link_at, next_role, wildcard_told_by}
-use Rattle.domain_denier.specs.declared.encloser.PlacedEncloser.{PlacedEncloser}
+use Rattle.domain_denier.specs.{HashedSteps.{link_at, next_role, wildcard_told_by}, declared.encloser.PlacedEncloser.PlacedEncloser}
 use Rattle.domain_denier.specs.declared.nsec3.Nsec3Denial.{Nsec3Denial}
 use Rattle.domain_denier.proofs.SomeLemmas.{AreAmong, AreOthers, covered, in_back, in_place, kept_place, matched, no_cover, no_match, not_gone, others_among}
 use Rattle.domain_denier.proofs.SomeLemmas.{three_among, three_others, unmatched}
-use Rattle.std.proofs.lemmas.Grind.{common_steps}
 
 -- a first answer after which the wildcard is not asked for
 plain_on : (R : HashedRecords) (x : Name) (t : ℕ) (first : Answer)

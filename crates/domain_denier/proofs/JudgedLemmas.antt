@@ -1,32 +1,18 @@
 -- What one record, or two of which the first denies a name alone, tell by what they are judged to say.
-use Rattle.std.proofs.Common.{◌≡◌, ◌≢◌, ℕ, ◌<◌, Bool, true, false, cond, not, ◌&&◌, List, [], ◌∷◌, ◌++◌, length, slice_get, get_or, Option, Some, None}
-use Rattle.std.proofs.Common.{refl, sym, ap, ◌∙◌, subst, arith, inl, inr, ◌⊎◌}
-use Rattle.std.specs.List.{find}
-use Rattle.std.proofs.lemmas.Option.{slice_get_cases, slice_get-get_or}
-use Rattle.std.proofs.lemmas.Bool.{cases_Bool, false≢true, and_parts, or_left}
-use Rattle.domain_names.specs.Name.{is_at_or_below, is_strictly_below, same_name, last_labels}
-use Rattle.domain_names.specs.Order.{before}
-use Rattle.domain_names.specs.Words.{Name}
-use Rattle.domain_zone.specs.Covering.{covers, matches, matches_or_covers}
-use Rattle.domain_zone.specs.Enclosers.{longer, shared}
-use Rattle.domain_zone.proofs.NameLemmas.{same_is}
+use Rattle.std.proofs.Common.{◌≡◌, ◌≢◌, ℕ, ◌<◌, Bool, true, false, cond, not, ◌&&◌, List, [], ◌∷◌, ◌++◌, length, slice_get, get_or, Option, Some, None, refl}
+use Rattle.std.proofs.{Common.{sym, ap, ◌∙◌, subst, arith, inl, inr, ◌⊎◌}, lemmas.Option.{slice_get_cases, slice_get-get_or}}
+use Rattle.std.{proofs.lemmas.{Bool.{cases_Bool, false≢true, and_parts, or_left}, Grind.common_steps}, specs.List.find}
+use Rattle.domain_names.specs.{Name.{is_at_or_below, is_strictly_below, same_name, last_labels}, Order.before, Words.Name}
+use Rattle.domain_zone.{specs.{Covering.{covers, matches, matches_or_covers}, Enclosers.{longer, shared}}, proofs.NameLemmas.same_is}
 use Rattle.domain_nsec.specs.Chain.{Link}
-use Rattle.domain_checker.specs.Verdict.{is_inside}
-use Rattle.domain_checker.specs.Reading.{is_at_cut, is_cover, is_match}
-use Rattle.domain_answer.specs.declared.answer.Answer.{Answer}
-use Rattle.domain_answer.specs.declared.answer.Answer.TheVariants.{AtParent, NoCloserName, NoData, OutsideZone}
-use Rattle.domain_answer.specs.declared.answer.NameAnswer.{NameAnswer}
-use Rattle.domain_answer.specs.declared.answer.NameAnswer.TheVariants.{Given}
-use Rattle.domain_answer.specs.NameAnswer.{IsNameAnswer, name_answer}
-use Rattle.domain_answer.specs.Reading.{absent_answer, listed_both, match_answer, owner_answer, reading, tells_occluded, wildcard_answer}
-use Rattle.domain_answer.specs.Reading.{wildcard_both, wildcard_match_answer}
-use Rattle.domain_answer.specs.ZoneAnswer.{is_at_parent, wildcard_below}
+use Rattle.domain_checker.specs.{Verdict.is_inside, Reading.{is_at_cut, is_cover, is_match}}
+use Rattle.domain_answer.specs.declared.answer.{Answer.{Answer, TheVariants.{AtParent, NoCloserName, NoData, OutsideZone}}, NameAnswer.NameAnswer}
+use Rattle.domain_answer.specs.{declared.answer.NameAnswer.TheVariants.Given, NameAnswer.{IsNameAnswer, name_answer}}
+use Rattle.domain_answer.specs.Reading.{absent_answer, listed_both, match_answer, owner_answer, reading, tells_occluded, wildcard_answer, wildcard_both}
+use Rattle.domain_answer.specs.{Reading.wildcard_match_answer, ZoneAnswer.{is_at_parent, wildcard_below}}
 use Rattle.domain_answer.proofs.ToldLemmas.{given_never, match_own, owner_own}
-use Rattle.domain_denier.specs.Judged.{IsOfWildcard, IsSilent, IsTold, Tells}
-use Rattle.domain_denier.specs.declared.judged.OfWildcard.{OfWildcard}
-use Rattle.domain_denier.specs.declared.judged.OfWildcard.TheVariants.{Told, Untold}
+use Rattle.domain_denier.specs.{Judged.{IsOfWildcard, IsSilent, IsTold, Tells}, declared.judged.OfWildcard.{OfWildcard, TheVariants.{Told, Untold}}}
 use Rattle.domain_denier.specs.Picked.{IsOf, at_place, listed_option}
-use Rattle.std.proofs.lemmas.Grind.{common_steps}
 
 -- a record that is not passed over, and matches or covers
 from_match : (a x : Name) (k : Link) → is_match a x k ≡ true → matches_or_covers before k.owner k.next x ≡ true

@@ -1,30 +1,17 @@
 -- What is picked of the chain of a zone is what its answer rests on, and no more.
 use Rattle.std.proofs.Common.{◌≡◌, ◌≢◌, ℕ, zero, suc, ◌<◌, arith, Bool, true, false, cond, not, ◌&&◌, ◌||◌, List, [], ◌∷◌, ◌++◌, length, slice_get, Some, None}
-use Rattle.std.proofs.Common.{sym, ap, ◌∙◌, subst, inl, inr, ◌⊎◌}
-use Rattle.std.specs.Prelude.{All}
-use Rattle.std.specs.List.{Contains}
-use Rattle.std.proofs.lemmas.Bool.{cases_Bool, false≢true, and_parts, or_right, not-true}
-use Rattle.std.proofs.lemmas.List.Elements.{All-nil, All-push}
-use Rattle.domain_names.specs.Name.{is_at_or_below, last_labels}
-use Rattle.domain_names.specs.Order.{before}
-use Rattle.domain_names.specs.Words.{Name}
-use Rattle.domain_zone.specs.Covering.{matches_or_covers}
-use Rattle.domain_zone.specs.Zone.{ZoneRecord, is_occluded, is_unoccluded}
-use Rattle.domain_nsec.specs.Chain.{Link}
-use Rattle.domain_nsec.specs.declared.config.GenerateNsecConfig.{GenerateNsecConfig}
-use Rattle.domain_checker.specs.Verdict.{has_match_or_cover}
-use Rattle.domain_checker.proofs.MeantLemmas.{ChainLaws, IsMeant, apex_exists}
-use Rattle.domain_answer.specs.declared.answer.Answer.{Answer}
-use Rattle.domain_answer.specs.declared.answer.Answer.TheVariants.{NoCloserName, NotProven}
-use Rattle.domain_answer.specs.Proved.{IsAnswered, is_missing, knows_wildcard, proved_answer}
-use Rattle.domain_answer.specs.Reading.{reading}
+use Rattle.std.proofs.{Common.{sym, ap, ◌∙◌, subst, inl, inr, ◌⊎◌}, lemmas.Bool.{cases_Bool, false≢true, and_parts, or_right, not-true}}
+use Rattle.std.{proofs.lemmas.{List.Elements.{All-nil, All-push}, Grind.common_steps}, specs.{Prelude.All, List.Contains}}
+use Rattle.domain_names.specs.{Name.{is_at_or_below, last_labels}, Order.before, Words.Name}
+use Rattle.domain_zone.specs.{Covering.matches_or_covers, Zone.{ZoneRecord, is_occluded, is_unoccluded}}
+use Rattle.domain_nsec.specs.{Chain.Link, declared.config.GenerateNsecConfig.GenerateNsecConfig}
+use Rattle.domain_checker.{specs.Verdict.has_match_or_cover, proofs.MeantLemmas.{ChainLaws, IsMeant, apex_exists}}
+use Rattle.domain_answer.specs.declared.answer.Answer.{Answer, TheVariants.{NoCloserName, NotProven}}
+use Rattle.domain_answer.specs.{Proved.{IsAnswered, is_missing, knows_wildcard, proved_answer}, Reading.reading}
 use Rattle.domain_answer.specs.ZoneAnswer.{encloser, is_at_parent, name_exists, wildcard_below, zone_answer}
-use Rattle.domain_answer.proofs.ChainLemmas.{meant_leaving}
-use Rattle.domain_answer.proofs.CountLemmas.{closest_last}
-use Rattle.domain_answer.proofs.WholeLemmas.{wildcard_low}
+use Rattle.domain_answer.proofs.{ChainLemmas.meant_leaving, CountLemmas.closest_last, WholeLemmas.wildcard_low}
 use Rattle.domain_denier.specs.Picked.{AreNeeded, AreThere, IsDenial, IsFound, IsOf, IsWhole, IsWildcardPicked, at_place, listed_option, picked}
 use Rattle.domain_denier.specs.declared.nsec.NsecDenial.{NsecDenial}
-use Rattle.std.proofs.lemmas.Grind.{common_steps}
 
 -- what lists say is what they prove, and no zone says that there is no closer name
 pub record AnswerLaws : Type 0 where

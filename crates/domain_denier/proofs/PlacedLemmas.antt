@@ -1,26 +1,16 @@
 -- The names from x up to the apex, by the places of the records that match or cover them.
-use Rattle.std.proofs.Common.{◌≡◌, ℕ, ◌<◌, Bool, true, false, not, List, ◌∷◌, length, Some, None, refl, sym, ap, ◌∙◌, arith}
-use Rattle.std.specs.Prelude.{Ok, Err}
-use Rattle.std.proofs.lemmas.Bool.{and_from}
+use Rattle.std.proofs.{Common.{◌≡◌, ℕ, ◌<◌, Bool, true, false, not, List, ◌∷◌, length, Some, None, refl, sym, ap, ◌∙◌, arith}, lemmas.Bool.and_from}
+use Rattle.std.{proofs.lemmas.Grind.common_steps, specs.Prelude.{Ok, Err}}
 use Rattle.domain_octets.specs.Words.{Octets}
-use Rattle.domain_names.specs.Name.{is_at_or_below, is_strictly_below, lowered, same_name, wire_of}
-use Rattle.domain_names.specs.Words.{Label, Name}
-use Rattle.domain_zone.specs.Zone.{ZoneRecord}
-use Rattle.domain_zone.proofs.NameLemmas.{below_itself, below_parent, below_trans, same_itself}
-use Rattle.domain_nsec3.specs.Chain.{ChainRecords, HashedLink}
-use Rattle.domain_nsec3.specs.Config.{ChainConfig, Hash, hash_name}
-use Rattle.domain_checker.specs.HashedReading.{IsUnmatched}
-use Rattle.domain_checker.specs.HashedView.{HashedRecords, first_cover}
-use Rattle.domain_checker.specs.HashedVerdict.{IsFirst}
+use Rattle.domain_names.specs.{Name.{is_at_or_below, is_strictly_below, lowered, same_name, wire_of}, Words.{Label, Name}}
+use Rattle.domain_zone.{specs.Zone.ZoneRecord, proofs.NameLemmas.{below_itself, below_parent, below_trans, same_itself}}
+use Rattle.domain_nsec3.specs.{Chain.{ChainRecords, HashedLink}, Config.{ChainConfig, Hash, hash_name}}
+use Rattle.domain_checker.specs.{HashedReading.IsUnmatched, HashedView.{HashedRecords, first_cover}, HashedVerdict.IsFirst}
 use Rattle.domain_checker.proofs.HashedWalkLemmas.{IsMissed, IsPassed, none_first, none_left, passed_on}
 use Rattle.domain_answer.proofs.CountLemmas.{parent_below}
-use Rattle.domain_denier.specs.HashedPicked.{IsHashedWhole, IsRefusedAbove}
-use Rattle.domain_denier.specs.HashedSteps.{IsFoundHash, IsInside, IsOfHash, IsPlaced}
-use Rattle.domain_denier.specs.declared.hash_search.HashPlace.{HashPlace}
-use Rattle.domain_denier.specs.declared.encloser.PlacedEncloser.{PlacedEncloser}
-use Rattle.domain_denier.proofs.HashedPickLemmas.{all_among}
-use Rattle.domain_denier.proofs.SomeLemmas.{unmatched}
-use Rattle.std.proofs.lemmas.Grind.{common_steps}
+use Rattle.domain_denier.specs.{HashedPicked.{IsHashedWhole, IsRefusedAbove}, HashedSteps.{IsFoundHash, IsInside, IsOfHash, IsPlaced}}
+use Rattle.domain_denier.specs.declared.{hash_search.HashPlace.HashPlace, encloser.PlacedEncloser.PlacedEncloser}
+use Rattle.domain_denier.proofs.{HashedPickLemmas.all_among, SomeLemmas.unmatched}
 
 module _ (R : HashedRecords) (x : Name) where
   -- no record matches the name that is left, and that at the place covers it

@@ -1,22 +1,13 @@
 -- Where a search in a chain ends, the record matches or covers the name.
-use Rattle.std.proofs.Common.{◌≡◌, ℕ, zero, suc, ◌-◌, ◌<◌, ◌≤◌, true, false, List, [], ◌∷◌, map, length, get_or, slice_get, Some}
-use Rattle.std.proofs.Common.{sym, ap, ◌∙◌, subst, arith, inl, inr, ◌⊎◌}
-use Rattle.std.proofs.lemmas.Bool.{cases_lt, and_parts}
-use Rattle.std.proofs.lemmas.Option.{slice_get-get_or}
-use Rattle.domain_names.specs.Name.{is_at_or_below}
-use Rattle.domain_names.specs.Order.{before}
-use Rattle.domain_names.specs.Words.{Name}
-use Rattle.domain_zone.specs.Covering.{matches_or_covers, pairs}
-use Rattle.domain_zone.specs.Zone.{ZoneRecord, unoccluded_owners}
-use Rattle.domain_zone.proofs.NameLemmas.{below_from, before_right, one_lowered}
-use Rattle.domain_zone.proofs.FindLemmas.{in_at}
-use Rattle.domain_nsec.specs.Chain.{Link}
-use Rattle.domain_nsec.specs.declared.config.GenerateNsecConfig.{GenerateNsecConfig}
+use Rattle.std.proofs.Common.{◌≡◌, ℕ, zero, suc, ◌-◌, ◌<◌, ◌≤◌, true, false, List, [], ◌∷◌, map, length, get_or, slice_get, Some, sym, ap, ◌∙◌, subst, arith}
+use Rattle.std.proofs.{Common.{inl, inr, ◌⊎◌}, lemmas.{Bool.{cases_lt, and_parts}, Option.slice_get-get_or, Grind.common_steps}}
+use Rattle.domain_names.specs.{Name.is_at_or_below, Order.before, Words.Name}
+use Rattle.domain_zone.specs.{Covering.{matches_or_covers, pairs}, Zone.{ZoneRecord, unoccluded_owners}}
+use Rattle.domain_zone.proofs.{NameLemmas.{below_from, before_right, one_lowered}, FindLemmas.in_at}
+use Rattle.domain_nsec.specs.{Chain.Link, declared.config.GenerateNsecConfig.GenerateNsecConfig}
 use Rattle.domain_checker.proofs.MeantLemmas.{ChainLaws, inside}
 use Rattle.domain_answer.proofs.ChainLemmas.{meant_leaving}
-use Rattle.domain_denier.specs.Picked.{IsOf, IsWhole}
-use Rattle.domain_denier.specs.Search.{AreEnds, IsAhead, IsBehind}
-use Rattle.std.proofs.lemmas.Grind.{common_steps}
+use Rattle.domain_denier.specs.{Picked.{IsOf, IsWhole}, Search.{AreEnds, IsAhead, IsBehind}}
 
 abbrev pub ends : Link → Name × Name
 ends k = (k.owner, k.next)

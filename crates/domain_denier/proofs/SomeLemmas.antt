@@ -1,21 +1,13 @@
 -- What some of the links of a chain find of a hash, where one of all matches or covers it.
 use Rattle.std.proofs.Common.{◌≡◌, ℕ, Bool, true, false, cond, List, [], ◌∷◌, ◌++◌, Some, None, Option, slice_get, refl, sym, ap, ◌∙◌, subst, inl, inr, ◌⊎◌}
-use Rattle.std.specs.Prelude.{All}
-use Rattle.std.specs.List.{Contains, find}
-use Rattle.std.proofs.lemmas.Bool.{cases_Bool, false≢true, ne_eqb, or_left, or_right}
-use Rattle.std.proofs.lemmas.List.Elements.{All-nil, All-push, All-append}
-use Rattle.std.proofs.lemmas.Option.{slice_get_within, get_or_from_slice_get}
+use Rattle.std.proofs.{Common.arith, lemmas.{Bool.{cases_Bool, false≢true, ne_eqb, or_left, or_right}, List.Elements.{All-nil, All-push, All-append}}}
+use Rattle.std.{proofs.lemmas.{Option.{slice_get_within, get_or_from_slice_get}, Grind.common_steps}, specs.{Prelude.All, List.{Contains, find}}}
 use Rattle.domain_octets.specs.Words.{Octets}
 use Rattle.domain_names.specs.Words.{Name}
 use Rattle.domain_zone.proofs.PairLemmas.{In}
-use Rattle.domain_nsec3.specs.Chain.{HashedLink}
-use Rattle.domain_nsec3.specs.Config.{Parameters}
+use Rattle.domain_nsec3.specs.{Chain.HashedLink, Config.Parameters}
 use Rattle.domain_checker.specs.HashedList.{is_hash_cover, is_hash_match}
-use Rattle.domain_denier.specs.Picked.{at_place, listed_option}
-use Rattle.domain_denier.specs.HashedPicked.{other_place}
-use Rattle.domain_denier.specs.HashedSteps.{IsOfHash, tells_hash}
-use Rattle.std.proofs.Common.{arith}
-use Rattle.std.proofs.lemmas.Grind.{common_steps}
+use Rattle.domain_denier.specs.{Picked.{at_place, listed_option}, HashedPicked.other_place, HashedSteps.{IsOfHash, tells_hash}}
 
 -- ---- finding
 

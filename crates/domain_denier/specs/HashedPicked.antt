@@ -1,20 +1,13 @@
 -- The records of an NSEC3 chain that a server answers a question with (RFC 5155, section 7.2).
-use Rattle.std.specs.Prelude.{ℕ, ◌≡◌, ◌⊎◌, ◌<◌, ◌==◌, ◌++◌, true, List, length, Option, Some, None, Err, slice_get, if◌then◌else◌}
-use Rattle.std.specs.List.{Contains}
-use Rattle.domain_names.specs.Name.{is_at_or_below}
-use Rattle.domain_names.specs.Words.{Name}
+use Rattle.std.specs.{Prelude.{ℕ, ◌≡◌, ◌⊎◌, ◌<◌, ◌==◌, ◌++◌, true, List, length, Option, Some, None, Err, slice_get, if◌then◌else◌}, List.Contains}
+use Rattle.domain_names.specs.{Name.is_at_or_below, Words.Name}
 use Rattle.domain_zone.specs.Zone.{ZoneRecord}
-use Rattle.domain_nsec3.specs.Chain.{ChainRecords, HashedLink, IsHashedChain}
-use Rattle.domain_nsec3.specs.Config.{ChainConfig, Hash, hash_name}
-use Rattle.domain_checker.specs.HashedVerdict.{is_covered, is_matched, next_closer}
-use Rattle.domain_checker.specs.HashedView.{chain_records}
+use Rattle.domain_nsec3.specs.{Chain.{ChainRecords, HashedLink, IsHashedChain}, Config.{ChainConfig, Hash, hash_name}}
+use Rattle.domain_checker.specs.{HashedVerdict.{is_covered, is_matched, next_closer}, HashedView.chain_records}
 use Rattle.domain_answer.specs.HashedProved.{hashed_proved_answer, tells_wildcard}
-use Rattle.domain_answer.specs.HashedZoneAnswer.{HashedLeavesOutBelowDname, hashed_encloser, hashed_zone_answer}
-use Rattle.domain_answer.specs.ZoneAnswer.{wildcard_below}
-use Rattle.domain_answer.specs.declared.answer.Answer.{Answer}
-use Rattle.domain_answer.specs.declared.answer.Answer.TheVariants.{NoCloserName, NotProven}
-use Rattle.domain_denier.specs.Picked.{at_place}
-use Rattle.domain_denier.specs.declared.nsec3.Nsec3Denial.{Nsec3Denial}
+use Rattle.domain_answer.specs.{HashedZoneAnswer.{HashedLeavesOutBelowDname, hashed_encloser, hashed_zone_answer}, ZoneAnswer.wildcard_below}
+use Rattle.domain_answer.specs.declared.answer.Answer.{Answer, TheVariants.{NoCloserName, NotProven}}
+use Rattle.domain_denier.specs.{Picked.at_place, declared.nsec3.Nsec3Denial.Nsec3Denial}
 
 -- the links are the NSEC3 chain of a zone, in which names below a DNAME are left out; they were
 -- made by this hash, and the NSEC3PARAM record stands at the apex and tells its parameters

@@ -1,28 +1,17 @@
 -- How the records of an NSEC3 chain that tell of a name are found; a is the apex.
 use Rattle.std.specs.Prelude.{ℕ, ◌≡◌, ◌<◌, ◌==◌, ◌||◌, Bool, true, false, List, length, Option, Some, None, Ok, slice_get, if◌then◌else◌}
 use Rattle.domain_octets.specs.Words.{Octets}
-use Rattle.domain_names.specs.Name.{is_at_or_below, last_labels}
+use Rattle.domain_names.specs.{Name.{is_at_or_below, last_labels}, Words.Name}
 use Rattle.domain_base.specs.Types.{dname}
-use Rattle.domain_names.specs.Words.{Name}
 use Rattle.domain_bitmap.specs.Blocks.{contains_type}
-use Rattle.domain_zone.specs.Covering.{matches_or_covers}
-use Rattle.domain_zone.specs.Zone.{ZoneRecord}
-use Rattle.domain_nsec3.specs.Chain.{ChainRecords, HashedLink}
-use Rattle.domain_nsec3.specs.Config.{ChainConfig, Hash, Parameters, hash_name}
-use Rattle.domain_nsec3.specs.Meaning.{IsRecordOf, octets_before}
-use Rattle.domain_checker.specs.HashedEncloser.{Encloser, encloser_is_cut}
-use Rattle.domain_checker.specs.HashedList.{is_hash_cover, is_hash_match}
-use Rattle.domain_checker.specs.HashedReading.{IsNextHash, IsUnmatched}
-use Rattle.domain_checker.specs.HashedVerdict.{IsFirst, next_closer}
-use Rattle.domain_checker.specs.HashedView.{HashedRecords, with_links}
-use Rattle.domain_answer.specs.HashedReading.{IsHashedRead, encloser_answer, wildcard_told}
-use Rattle.domain_answer.specs.ZoneAnswer.{wildcard_below}
-use Rattle.domain_answer.specs.declared.answer.Answer.{Answer}
+use Rattle.domain_zone.specs.{Covering.matches_or_covers, Zone.ZoneRecord}
+use Rattle.domain_nsec3.specs.{Chain.{ChainRecords, HashedLink}, Config.{ChainConfig, Hash, Parameters, hash_name}, Meaning.{IsRecordOf, octets_before}}
+use Rattle.domain_checker.specs.{HashedEncloser.{Encloser, encloser_is_cut}, HashedList.{is_hash_cover, is_hash_match}, HashedReading.{IsNextHash, IsUnmatched}}
+use Rattle.domain_checker.specs.{HashedVerdict.{IsFirst, next_closer}, HashedView.{HashedRecords, with_links}}
+use Rattle.domain_answer.specs.{HashedReading.{IsHashedRead, encloser_answer, wildcard_told}, ZoneAnswer.wildcard_below, declared.answer.Answer.Answer}
 use Rattle.domain_answer.specs.declared.answer.Answer.TheVariants.{NoCloserName, NotProven}
-use Rattle.domain_denier.specs.HashedPicked.{IsHashedWhole, TellsOfName, hashed_picked, picked_without}
-use Rattle.domain_denier.specs.declared.encloser.PlacedEncloser.{PlacedEncloser}
-use Rattle.domain_denier.specs.declared.hash_search.HashPlace.{HashPlace}
-use Rattle.domain_denier.specs.declared.nsec3.Nsec3Denial.{Nsec3Denial}
+use Rattle.domain_denier.specs.{HashedPicked.{IsHashedWhole, TellsOfName, hashed_picked, picked_without}, declared.encloser.PlacedEncloser.PlacedEncloser}
+use Rattle.domain_denier.specs.declared.{hash_search.HashPlace.HashPlace, nsec3.Nsec3Denial.Nsec3Denial}
 
 -- the record at a place has the hash v, or v lies between its own and the next one
 pub record IsSaid (a : Name) (links : List HashedLink) (v : Octets) (place : ℕ) : Type 0 where

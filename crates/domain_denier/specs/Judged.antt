@@ -1,16 +1,11 @@
 -- What an answer tells of the records that it comes of.
-use Rattle.std.specs.Prelude.{◌≡◌, ◌≢◌, ⊤, ℕ, IsTrue, List, None}
-use Rattle.std.specs.List.{find}
+use Rattle.std.specs.{Prelude.{◌≡◌, ◌≢◌, ⊤, ℕ, IsTrue, List, None}, List.find}
 use Rattle.domain_names.specs.Words.{Name}
 use Rattle.domain_nsec.specs.Chain.{Link}
 use Rattle.domain_checker.specs.Reading.{is_cover, is_match}
-use Rattle.domain_answer.specs.Reading.{wildcard_answer}
-use Rattle.domain_answer.specs.declared.answer.Answer.{Answer}
-use Rattle.domain_answer.specs.declared.answer.Answer.TheVariants.{AtParent, NoCloserName, NotProven, OutsideZone}
-use Rattle.domain_answer.specs.declared.answer.NameAnswer.{NameAnswer}
-use Rattle.domain_answer.specs.declared.answer.NameAnswer.TheVariants.{Given, Absent}
-use Rattle.domain_denier.specs.declared.judged.OfWildcard.{OfWildcard}
-use Rattle.domain_denier.specs.declared.judged.OfWildcard.TheVariants.{Told, Untold}
+use Rattle.domain_answer.specs.{Reading.wildcard_answer, declared.answer.Answer.{Answer, TheVariants.{AtParent, NoCloserName, NotProven, OutsideZone}}}
+use Rattle.domain_answer.specs.declared.answer.NameAnswer.{NameAnswer, TheVariants.{Given, Absent}}
+use Rattle.domain_denier.specs.declared.judged.OfWildcard.{OfWildcard, TheVariants.{Told, Untold}}
 
 -- one of them matches or covers the name, which is inside the zone
 pub record IsTold (answer : Answer) : Type 0 where

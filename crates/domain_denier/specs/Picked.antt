@@ -1,15 +1,9 @@
 -- The records of an NSEC chain that a server answers a question with (RFC 4035, section 3.1.3).
 use Rattle.std.specs.Prelude.{ℕ, ◌≡◌, ◌≢◌, true, false, List, [], ◌∷◌, ◌++◌, ◌<◌, length, Option, Some, None, slice_get}
-use Rattle.domain_names.specs.Name.{is_at_or_below, last_labels}
-use Rattle.domain_names.specs.Order.{before}
-use Rattle.domain_names.specs.Words.{Name}
-use Rattle.domain_zone.specs.Covering.{matches_or_covers}
-use Rattle.domain_zone.specs.Zone.{OwnersNeverDescend, ZoneRecord}
-use Rattle.domain_nsec.specs.Chain.{IsChain, Link}
-use Rattle.domain_nsec.specs.declared.config.GenerateNsecConfig.{GenerateNsecConfig}
-use Rattle.domain_answer.specs.Proved.{LeavesOutBelowDname}
-use Rattle.domain_answer.specs.Reading.{reading}
-use Rattle.domain_answer.specs.ZoneAnswer.{is_at_parent, wildcard_below, zone_answer}
+use Rattle.domain_names.specs.{Name.{is_at_or_below, last_labels}, Order.before, Words.Name}
+use Rattle.domain_zone.specs.{Covering.matches_or_covers, Zone.{OwnersNeverDescend, ZoneRecord}}
+use Rattle.domain_nsec.specs.{Chain.{IsChain, Link}, declared.config.GenerateNsecConfig.GenerateNsecConfig}
+use Rattle.domain_answer.specs.{Proved.LeavesOutBelowDname, Reading.reading, ZoneAnswer.{is_at_parent, wildcard_below, zone_answer}}
 use Rattle.domain_answer.specs.declared.answer.Answer.TheVariants.{NoCloserName, NotProven}
 use Rattle.domain_denier.specs.declared.nsec.NsecDenial.{NsecDenial}
 

@@ -1,7 +1,6 @@
 -- Between which records of a chain a search for a name may go.
 use Rattle.std.specs.Prelude.{ℕ, ◌≡◌, ◌⊎◌, ◌<◌, ◌≤◌, true, false, List, length, slice_index_or}
-use Rattle.domain_names.specs.Order.{before}
-use Rattle.domain_names.specs.Words.{Name}
+use Rattle.domain_names.specs.{Order.before, Words.Name}
 use Rattle.domain_nsec.specs.Chain.{Link}
 
 -- the owner at the low end is not after x

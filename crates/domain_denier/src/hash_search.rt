@@ -1,9 +1,7 @@
 //! The record of a chain that says something of a hash.
 ghost use Rattle.std.specs.Prelude.{◌≡◌, ◌<◌, ◌⊎◌, ℕ, Ok, Err, List, length, IfOk, IfErr, IsErrOf};
-ghost use Rattle.domain_nsec3.specs.Chain.{IsHashedChain};
-ghost use Rattle.domain_nsec3.specs.Config.{ChainConfig};
-ghost use Rattle.domain_nsec3.specs.Meaning.{octets_before};
-ghost use Rattle.domain_nsec3.specs.View.{hash_by};
+ghost use Rattle.domain_nsec3.specs.{Chain.IsHashedChain, Config.ChainConfig};
+ghost use Rattle.domain_nsec3.specs.{Meaning.octets_before, View.hash_by};
 ghost use Rattle.domain_hasher.specs.declared.error.Nsec3HashError.TheVariants as hash_error;
 ghost use Rattle.domain_zone.specs.Zone.{ZoneRecord};
 ghost use Rattle.domain_denier.specs.HashedSteps.{IsFoundHash, IsOfHash, IsSaid};

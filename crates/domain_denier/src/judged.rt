@@ -1,12 +1,11 @@
 //! What records at places of an NSEC chain say.
 ghost use Rattle.std.specs.Prelude.{◌≡◌, ◌<◌, ◌++◌, Some, length, IfSome, IsTrue};
-ghost use Rattle.domain_answer.specs.NameAnswer.{IsNameAnswer};
-ghost use Rattle.domain_names.specs.Name.{last_labels};
-ghost use Rattle.domain_answer.specs.Reading.{reading};
+ghost use Rattle.domain_answer.specs.{NameAnswer.IsNameAnswer, Reading.reading};
 ghost use Rattle.domain_answer.specs.ZoneAnswer.{wildcard_below};
+ghost use Rattle.domain_answer.specs.declared.answer.Answer.TheVariants.{NoCloserName};
+ghost use Rattle.domain_names.specs.Name.{last_labels};
 ghost use Rattle.domain_denier.specs.Judged.{IsOfWildcard, IsSilent, Tells};
 ghost use Rattle.domain_denier.specs.Picked.{at_place, IsFound, IsOf};
-ghost use Rattle.domain_answer.specs.declared.answer.Answer.TheVariants.{NoCloserName};
 
 use crate::owner_keys::OwnerKeys;
 use crate::search::{place_of, suggested, suggested_wildcard};

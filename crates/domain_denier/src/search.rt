@@ -1,7 +1,6 @@
 //! The record of a chain that says something of a name.
 ghost use Rattle.std.specs.Prelude.{◌<◌, length, IfSome, IsTrue};
-ghost use Rattle.domain_denier.specs.Picked.{IsFound};
-ghost use Rattle.domain_denier.specs.Search.{AreEnds, IsAhead, IsBehind};
+ghost use Rattle.domain_denier.specs.{Picked.IsFound, Search.{AreEnds, IsAhead, IsBehind}};
 
 use crate::owner_keys::OwnerKeys;
 use domain_base::{ParsedName, ToName};

@@ -1,11 +1,8 @@
 -- Elements of lists, of what is mapped and of what passes a filter.
-use Rattle.std.proofs.lemmas.Grind.{common_steps}
-use Rattle.std.proofs.Common.{◌≡◌, ℕ, ◌<◌, zero, suc, Bool, true, List, [], ◌∷◌, length, refl, subst, inl, inr, arith}
-use Rattle.std.specs.Prelude.{Contains, slice_index_or}
-use Rattle.std.specs.List.{list_any}
+use Rattle.std.proofs.{lemmas.Grind.common_steps, Common.{◌≡◌, ℕ, ◌<◌, zero, suc, Bool, true, List, [], ◌∷◌, length, refl, subst, inl, inr, arith}}
+use Rattle.std.specs.{Prelude.{Contains, slice_index_or}, List.list_any}
 use Rattle.domain_records.specs.Order.{HoldsPairwise}
-use Rattle.domain_zone.proofs.OwnerLemmas.{any_in, in_any}
-use Rattle.domain_zone.proofs.PairLemmas.{In, all_in, all_from_in}
+use Rattle.domain_zone.proofs.{OwnerLemmas.{any_in, in_any}, PairLemmas.{In, all_in, all_from_in}}
 
 module _ {X : Type 0} where
   in_place : (xs : List X) (k : ℕ) (x : X) → k < length xs → slice_index_or xs k x ≡ x → In x xs

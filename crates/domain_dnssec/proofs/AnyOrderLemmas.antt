@@ -1,18 +1,13 @@
 -- What sorted records tell of the records that were given.
-use Rattle.std.proofs.Common.{arith, List, ℕ, Option}
-use Rattle.std.proofs.lemmas.Grind.{common_steps}
+use Rattle.std.{proofs.{Common.{arith, List, ℕ, Option}, lemmas.Grind.common_steps}, specs.declared.cmp.Ordering.Ordering}
 use Rattle.domain_record.specs.declared.record.Record.{Record}
-use Rattle.std.specs.declared.cmp.Ordering.{Ordering}
 use Rattle.domain_names.specs.Words.{Name}
-use Rattle.domain_nsec.specs.declared.config.GenerateNsecConfig.{GenerateNsecConfig}
+use Rattle.domain_nsec.specs.{declared.config.GenerateNsecConfig.GenerateNsecConfig, Chain.IsFirstFault}
 use Rattle.domain_nsec3.specs.Config.{ChainConfig}
-use Rattle.domain_dnssec.specs.AnyOrder.{Sorts, HasNoChain, HasNoSortedChain, chain_error_of}
-use Rattle.domain_dnssec.specs.AnyOrderNsec3.{HasNoHashedChain, HasNoSortedHashedChain}
-use Rattle.domain_nsec.specs.Chain.{IsFirstFault}
-use Rattle.domain_records.specs.Order.{IsOneClass}
-use Rattle.domain_records.specs.declared.error.SigningError.{SigningError}
-use Rattle.domain_zone.specs.View.{zone_of}
+use Rattle.domain_dnssec.specs.{AnyOrder.{Sorts, HasNoChain, HasNoSortedChain, chain_error_of}, AnyOrderNsec3.{HasNoHashedChain, HasNoSortedHashedChain}}
 use Rattle.domain_dnssec.specs.declared.chain.ChainError.{ChainError}
+use Rattle.domain_records.specs.{Order.IsOneClass, declared.error.SigningError.SigningError}
+use Rattle.domain_zone.specs.View.{zone_of}
 
 -- a fault of the zone of sorted records of one class is why they have no chain
 module _ {N D : Type 0} (labels : N → Name) (rtype_of : D → ℕ) (minimum_of : D → Option ℕ) (sorted : List (Record N D)) (one : IsOneClass sorted)

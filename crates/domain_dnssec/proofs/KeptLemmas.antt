@@ -1,33 +1,16 @@
 -- What a sorted set keeps of the records that were given: which names own records, and of which types.
 use Rattle.std.proofs.Common.{arith, ◌≡◌, ◌↔◌, ℕ, Bool, true, not, ◌&&◌, ◌||◌, List, [], ◌∷◌, Option, Some, inl, nat_eq, refl, sym, ap, ◌∙◌, subst}
-use Rattle.std.proofs.lemmas.Grind.{common_steps}
-use Rattle.std.specs.Prelude.{filter, Contains}
-use Rattle.std.specs.List.{list_any}
-use Rattle.std.specs.FinMap.{nat_cmp-IsAntisymmetric}
-use Rattle.std.specs.Ordering.{is_eq, ordering_then, nat_cmp}
-use Rattle.std.specs.declared.cmp.Ordering.{Ordering}
-use Rattle.std.specs.declared.cmp.Ordering.TheVariants.{Equal}
-use Rattle.std.proofs.lemmas.List.Folds.{Any-from_list_any, list_any-from_Any}
-use Rattle.domain_names.specs.Laws.{same_name_ties}
-use Rattle.domain_names.specs.Order.{canonical_cmp}
-use Rattle.domain_record.specs.Record.{record_cmp}
-use Rattle.domain_record.specs.declared.record.Record.{Record}
+use Rattle.std.{proofs.lemmas.{Grind.common_steps, List.Folds.{Any-from_list_any, list_any-from_Any}}, specs.{Prelude.{filter, Contains}, List.list_any}}
+use Rattle.std.specs.{FinMap.nat_cmp-IsAntisymmetric, Ordering.{is_eq, ordering_then, nat_cmp}, declared.cmp.Ordering.{Ordering, TheVariants.Equal}}
+use Rattle.domain_names.specs.{Laws.same_name_ties, Order.canonical_cmp, Name.{is_at_or_below, lowered, same_name}, Words.Name}
+use Rattle.domain_record.specs.{Record.record_cmp, declared.record.Record.Record}
 use Rattle.domain_records.specs.Order.{IsOneClass}
-use Rattle.domain_names.specs.Name.{is_at_or_below, lowered, same_name}
-use Rattle.domain_names.specs.Words.{Name}
-use Rattle.domain_zone.specs.Soa.{is_soa, numbers_of, of_only, soa_of}
-use Rattle.domain_base.specs.Types.{ns, dname}
-use Rattle.domain_zone.specs.View.{as_zone_record, zone_of}
-use Rattle.domain_zone.specs.declared.soa.ApexSoa.{ApexSoa}
+use Rattle.domain_zone.specs.{Soa.{is_soa, numbers_of, of_only, soa_of}, View.{as_zone_record, zone_of}, declared.soa.ApexSoa.ApexSoa}
 use Rattle.domain_zone.specs.Zone.{ZoneRecord, clashes, has_clash, has_type, records_of, is_occluded, is_unoccluded, owns}
-use Rattle.domain_zone.proofs.NameLemmas.{one_lowered, lowered_below, same_lowered}
-use Rattle.domain_zone.proofs.OwnerLemmas.{any_filter}
-use Rattle.domain_zone.proofs.PairLemmas.{In}
-use Rattle.domain_zone.proofs.SharedLemmas.{either_way}
-use Rattle.domain_zone.proofs.ZoneLemmas.{any_map}
-use Rattle.domain_zone.proofs.FindLemmas.{in_filter, in_filtered, in_map, from_map}
-use Rattle.domain_dnssec.specs.AnyOrder.{Sorts}
-use Rattle.domain_dnssec.proofs.AmongLemmas.{contains_in, in_contains, any_two, pair_of_two, all_pairs}
+use Rattle.domain_zone.proofs.{NameLemmas.{one_lowered, lowered_below, same_lowered}, OwnerLemmas.any_filter, PairLemmas.In, SharedLemmas.either_way}
+use Rattle.domain_zone.proofs.{ZoneLemmas.any_map, FindLemmas.{in_filter, in_filtered, in_map, from_map}}
+use Rattle.domain_base.specs.Types.{ns, dname}
+use Rattle.domain_dnssec.{specs.AnyOrder.Sorts, proofs.AmongLemmas.{contains_in, in_contains, any_two, pair_of_two, all_pairs}}
 
 then_equal : (x y : Ordering) → ordering_then x y ≡ Equal → (x ≡ Equal) × (y ≡ Equal)
 then_equal x y e = grind (arith, common_steps)

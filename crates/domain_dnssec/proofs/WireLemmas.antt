@@ -1,15 +1,12 @@
 -- Chains as octets, record by record.
-use Rattle.std.proofs.lemmas.Grind.{common_steps}
-use Rattle.std.proofs.Common.{◌≡◌, ℕ, ◌+◌, ◌<◌, ◌≤◌, List, ◌∷◌, ◌++◌, length, take, get_or, arith, length-append, ◌⊎◌}
+use Rattle.std.proofs.{lemmas.Grind.common_steps, Common.{◌≡◌, ℕ, ◌+◌, ◌<◌, ◌≤◌, List, ◌∷◌, ◌++◌, length, take, get_or, arith, length-append, ◌⊎◌}}
 use Rattle.std.specs.List.{flat_map}
 use Rattle.domain_fields.specs.Layout.{octets_of, Values}
 use Rattle.domain_chain_rdata.specs.Rdata.{hash_numbers, nsec3param}
 use Rattle.domain_nsec.specs.Chain.{Link}
 use Rattle.domain_nsec3.specs.Chain.{HashedLink}
 use Rattle.domain_borrowed.specs.Links.{nsec_record, nsec3_record}
-use Rattle.domain_dnssec.specs.Wire.{HasLongNsec, HasLongNsec3}
-use Rattle.domain_dnssec.specs.declared.error.Error.{Error}
-use Rattle.domain_dnssec.specs.declared.error.Error.TheVariants.{LongRecordData, OutOfMemory}
+use Rattle.domain_dnssec.specs.{Wire.{HasLongNsec, HasLongNsec3}, declared.error.Error.{Error, TheVariants.{LongRecordData, OutOfMemory}}}
 
 -- one more item after what stood
 pub onward : {T : Type 0} (octets : T → List ℕ) (old : List ℕ) (items : List T) (i : ℕ) (d : T) → i < length items

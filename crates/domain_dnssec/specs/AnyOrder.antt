@@ -1,18 +1,12 @@
 -- The chain of a zone whose records are given in any order, and when there is none.
-use Rattle.std.specs.Prelude.{◌≢◌, ℕ, List, Option, true}
-use Rattle.std.specs.declared.cmp.Ordering.{Ordering}
-use Rattle.domain_record.specs.Record.{record_cmp}
-use Rattle.domain_record.specs.declared.record.Record.{Record}
-use Rattle.domain_records.specs.Order.{IsOneClass}
-use Rattle.domain_records.specs.SortedSet.{IsUnion}
-use Rattle.domain_records.specs.declared.error.SigningError.{SigningError}
+use Rattle.std.specs.{Prelude.{◌≢◌, ℕ, List, Option, true}, declared.cmp.Ordering.Ordering}
+use Rattle.domain_record.specs.{Record.record_cmp, declared.record.Record.Record}
+use Rattle.domain_records.specs.{Order.IsOneClass, SortedSet.IsUnion, declared.error.SigningError.SigningError}
 use Rattle.domain_records.specs.declared.error.SigningError.TheVariants as signing_error
 use Rattle.domain_names.specs.Words.{Name}
-use Rattle.domain_nsec.specs.Chain.{Link, IsChain, IsFaultless, IsFirstFault}
+use Rattle.domain_nsec.specs.{Chain.{Link, IsChain, IsFaultless, IsFirstFault}, declared.config.GenerateNsecConfig.GenerateNsecConfig}
 use Rattle.domain_zone.specs.View.{zone_of}
-use Rattle.domain_nsec.specs.declared.config.GenerateNsecConfig.{GenerateNsecConfig}
-use Rattle.domain_dnssec.specs.declared.chain.ChainError.{ChainError}
-use Rattle.domain_dnssec.specs.declared.chain.ChainError.TheVariants.{MixedClasses, Sort, Signing, OutOfMemory}
+use Rattle.domain_dnssec.specs.declared.chain.ChainError.{ChainError, TheVariants.{MixedClasses, Sort, Signing, OutOfMemory}}
 
 -- a fault of a zone as the reason why records have no chain
 abbrev pub chain_error_of : SigningError → ChainError

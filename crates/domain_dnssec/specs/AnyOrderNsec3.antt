@@ -1,19 +1,13 @@
 -- The NSEC3 chain of a zone whose records are given in any order, and when there is none.
-use Rattle.std.specs.Prelude.{◌≢◌, ℕ, List, Option}
-use Rattle.std.specs.declared.cmp.Ordering.{Ordering}
+use Rattle.std.specs.{Prelude.{◌≢◌, ℕ, List, Option}, declared.cmp.Ordering.Ordering}
 use Rattle.domain_record.specs.declared.record.Record.{Record}
-use Rattle.domain_records.specs.Order.{IsOneClass}
-use Rattle.domain_records.specs.declared.error.SigningError.{SigningError}
+use Rattle.domain_records.specs.{Order.IsOneClass, declared.error.SigningError.SigningError}
 use Rattle.domain_records.specs.declared.error.SigningError.TheVariants as signing_error
 use Rattle.domain_names.specs.Words.{Name}
-use Rattle.domain_nsec3.specs.Chain.{HashedLink, IsChainParam, IsHashedChain, ParamRecord}
-use Rattle.domain_nsec3.specs.Config.{ChainConfig}
-use Rattle.domain_nsec3.specs.Faults.{IsFirstFault, IsReady}
-use Rattle.domain_zone.specs.View.{zone_of}
+use Rattle.domain_nsec3.specs.{Chain.{HashedLink, IsChainParam, IsHashedChain, ParamRecord}, Config.ChainConfig, Faults.{IsFirstFault, IsReady}}
 use Rattle.domain_nsec3.specs.declared.config.Nsec3ParamTtlMode.{Nsec3ParamTtlMode}
-use Rattle.domain_dnssec.specs.AnyOrder.{AreMixed, Sorts}
-use Rattle.domain_dnssec.specs.declared.chain.ChainError.{ChainError}
-use Rattle.domain_dnssec.specs.declared.chain.ChainError.TheVariants.{MixedClasses, Sort, Signing, OutOfMemory}
+use Rattle.domain_zone.specs.View.{zone_of}
+use Rattle.domain_dnssec.specs.{AnyOrder.{AreMixed, Sorts}, declared.chain.ChainError.{ChainError, TheVariants.{MixedClasses, Sort, Signing, OutOfMemory}}}
 
 module _ {N D : Type 0} (labels : N → Name) (rtype_of : D → ℕ) (minimum_of : D → Option ℕ) where
   -- sorted records are of one class, and these are the chain and the NSEC3PARAM record of their

@@ -1,17 +1,12 @@
 -- What a verdict or an answer tells of the records that were handed in, by the chain that is made
 -- of them.
-use Rattle.std.specs.Prelude.{◌≡◌, ℕ, List, Option}
-use Rattle.std.specs.declared.cmp.Ordering.{Ordering}
+use Rattle.std.specs.{Prelude.{◌≡◌, ℕ, List, Option}, declared.cmp.Ordering.Ordering}
 use Rattle.domain_record.specs.declared.record.Record.{Record}
 use Rattle.domain_names.specs.Words.{Name}
 use Rattle.domain_zone.specs.View.{zone_of}
-use Rattle.domain_nsec.specs.Chain.{Link}
-use Rattle.domain_nsec.specs.declared.config.GenerateNsecConfig.{GenerateNsecConfig}
-use Rattle.domain_checker.specs.Verdict.{proved_verdict, zone_verdict}
-use Rattle.domain_checker.specs.declared.verdict.Verdict.{Verdict}
-use Rattle.domain_answer.specs.Proved.{proved_answer}
-use Rattle.domain_answer.specs.ZoneAnswer.{zone_answer}
-use Rattle.domain_answer.specs.declared.answer.Answer.{Answer}
+use Rattle.domain_nsec.specs.{Chain.Link, declared.config.GenerateNsecConfig.GenerateNsecConfig}
+use Rattle.domain_checker.specs.{Verdict.{proved_verdict, zone_verdict}, declared.verdict.Verdict.Verdict}
+use Rattle.domain_answer.specs.{Proved.proved_answer, ZoneAnswer.zone_answer, declared.answer.Answer.Answer}
 use Rattle.domain_dnssec.specs.AnyOrder.{Sorts}
 
 module _ {N D : Type 0} (labels : N → Name) (rtype_of : D → ℕ) (minimum_of : D → Option ℕ)

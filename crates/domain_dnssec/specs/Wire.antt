@@ -1,11 +1,9 @@
 -- Chains as octets.
-use Rattle.std.specs.Prelude.{◌++◌, ◌<◌, length, List}
-use Rattle.std.specs.List.{Contains, flat_map}
+use Rattle.std.specs.{Prelude.{◌++◌, ◌<◌, length, List}, List.{Contains, flat_map}}
 use Rattle.domain_octets.specs.Words.{Octets}
 use Rattle.domain_nsec.specs.Chain.{Link}
 use Rattle.domain_nsec3.specs.Chain.{ChainRecords, HashedLink}
-use Rattle.domain_borrowed.specs.Links.{nsec_record, nsec3_record, param_record}
-use Rattle.domain_borrowed.specs.Wire.{record_octets}
+use Rattle.domain_borrowed.specs.{Links.{nsec_record, nsec3_record, param_record}, Wire.record_octets}
 
 -- the octets of the records of an NSEC chain, one after another
 abbrev pub nsecs_octets : List Link → Octets

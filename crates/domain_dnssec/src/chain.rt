@@ -1,7 +1,6 @@
 //! Why records have no chain.
 ghost use Rattle.std.specs.Prelude.{◌≡◌, Some};
-ghost use Rattle.domain_dnssec.specs.AnyOrder.{chain_error_of};
-ghost use Rattle.domain_dnssec.specs.ErrorText.{chain_error_text};
+ghost use Rattle.domain_dnssec.specs.{AnyOrder.chain_error_of, ErrorText.chain_error_text};
 ghost use Rattle.domain_dnssec.specs.declared.chain.ChainError.TheVariants as chain_error;
 
 use domain_records::{SigningError, SortError};

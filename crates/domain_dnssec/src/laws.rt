@@ -3,16 +3,14 @@ ghost use Rattle.std.specs.Prelude.{◌≡◌, ◌↔◌, ℕ, ◌<◌, All, Boo
 ghost use Rattle.domain_record.specs.declared.record.Record.{Record};
 ghost use Rattle.domain_names.specs.Words.{Name};
 ghost use Rattle.domain_records.specs.Order.{IsOneClass};
-ghost use Rattle.domain_checker.specs.Verdict.{IsProved};
-ghost use Rattle.domain_checker.specs.declared.verdict.Verdict.{Verdict};
+ghost use Rattle.domain_checker.specs.{Verdict.IsProved, declared.verdict.Verdict.Verdict};
 ghost use Rattle.domain_nsec.specs.Chain.{Link};
 ghost use Rattle.domain_nsec.specs.declared.config.GenerateNsecConfig.{GenerateNsecConfig};
 ghost use Rattle.domain_zone.specs.Soa.{is_soa, numbers_of, soa_of};
-ghost use Rattle.domain_zone.specs.Zone.{OwnersNeverDescend, ZoneRecord, has_clash, has_type, is_unoccluded, owns, records_of};
-ghost use Rattle.domain_zone.specs.declared.soa.ApexSoa.{ApexSoa};
-ghost use Rattle.domain_zone.specs.View.{zone_of};
-ghost use Rattle.domain_answer.specs.Proved.{IsAnswered};
-ghost use Rattle.domain_answer.specs.declared.answer.Answer.{Answer};
+ghost use Rattle.domain_zone.specs.Zone.{OwnersNeverDescend, ZoneRecord, has_clash, has_type};
+ghost use Rattle.domain_zone.specs.Zone.{is_unoccluded, owns, records_of};
+ghost use Rattle.domain_zone.specs.{declared.soa.ApexSoa.ApexSoa, View.zone_of};
+ghost use Rattle.domain_answer.specs.{Proved.IsAnswered, declared.answer.Answer.Answer};
 ghost use Rattle.domain_dnssec.specs.AnyOrder.{IsChainOf, Sorts};
 ghost use Rattle.domain_dnssec.specs.Told.{IsAnswerOf, IsProvedAnswerOf, IsProvedOf, IsSaidOf};
 

@@ -2,13 +2,11 @@
 use Rattle.std.proofs.lemmas.Grind.{common_steps}
 use Rattle.std.proofs.Common.{◌≡◌, ℕ, true, List, [], ◌++◌, length, refl, sym, ap, ◌∙◌, arith, length-append, append_assoc, append-nil}
 use Rattle.std.specs.Cmp.{first_so, second_so}
-use Rattle.domain_names.specs.Fault.{Fault}
-use Rattle.domain_names.proofs.FaultLemmas.{no_name_fault}
+use Rattle.domain_names.{specs.Fault.Fault, proofs.FaultLemmas.no_name_fault}
 use Rattle.domain_fields.specs.Field.{Field, octet, short, long, name, spelled_name, counted, exactly, at_most, rest, Value, field_octets, FieldFits, FieldEnds}
 use Rattle.domain_fields.specs.Field.{FieldFault, cut_octet, cut_short, cut_long, no_name, no_spelled_name, no_count, cut_counted, cut_exactly, too_long}
 use Rattle.domain_fields.specs.Layout.{Layout, one, ◌▸◌, Values, octets_of, Fits, Ends, Begins, ParsesBack, is_delimited, splits, FirstFault, in_field}
-use Rattle.domain_fields.specs.Layout.{in_first, in_later}
-use Rattle.domain_fields.proofs.OrderLemmas.{Same, same_field, same_data}
+use Rattle.domain_fields.{specs.Layout.{in_first, in_later}, proofs.OrderLemmas.{Same, same_field, same_data}}
 
 last_field : (f : Field) (v w : Value f) (r s : List ℕ) → FieldFits f v → FieldFits f w → FieldEnds f r → FieldEnds f s
     → field_octets f v ++ r ≡ field_octets f w ++ s → Same v w r s

@@ -1,15 +1,11 @@
 -- octets have one first fault at most
 use Rattle.std.proofs.lemmas.Grind.{common_steps}
 use Rattle.std.proofs.Common.{◌≡◌, ℕ, zero, suc, ◌+◌, ◌<◌, true, false, List, [], ◌∷◌, ◌++◌, length, drop, refl, sym, subst, ◌∙◌, arith, length-append}
-use Rattle.std.specs.Prelude.{nat_lt, if◌then◌else◌, codes}
-use Rattle.std.specs.Cmp.{first_so, second_so}
-use Rattle.std.proofs.lemmas.List.{drop_at}
-use Rattle.std.proofs.lemmas.Bool.Decides.{nat_tests}
+use Rattle.std.{proofs.lemmas.{List.drop_at, Bool.Decides.nat_tests}, specs.{Prelude.{nat_lt, if◌then◌else◌, codes}, Cmp.{first_so, second_so}}}
 use Rattle.domain_names.specs.Fault.{Fault, ends_early, malformed, NameFault, no_octet, bad_label, long_name, cut_label, past_label}
 use Rattle.domain_fields.specs.Field.{Field, octet, short, long, name, spelled_name, counted, exactly, at_most, rest, FieldFault}
 use Rattle.domain_fields.specs.Layout.{Layout, is_delimited, splits, FirstFault, in_field, in_first, in_later}
-use Rattle.domain_fields.proofs.OrderLemmas.{one_reading}
-use Rattle.domain_fields.proofs.ExactLemmas.{fault_excludes, delimited_splits}
+use Rattle.domain_fields.proofs.{OrderLemmas.one_reading, ExactLemmas.{fault_excludes, delimited_splits}}
 
 -- the fault that a name has, if it has one
 name_fault : ℕ → ℕ → List ℕ → Fault

@@ -1,15 +1,10 @@
 -- grammars of tokens: which of them read tokens in one way at most, and that what they refuse they do not read
-use Rattle.std.proofs.Common.{arith, ◌≡◌, ℕ, List, Option}
-use Rattle.std.proofs.lemmas.Grind.{common_steps}
+use Rattle.std.proofs.{Common.{arith, ◌≡◌, ℕ, List, Option}, lemmas.Grind.common_steps}
 use Rattle.domain_codecs.specs.declared.codec.Codec.{Codec}
 use Rattle.domain_names.specs.TextFault.{ScanFault, IsOfTokens}
-use Rattle.domain_base.specs.Scan.{RefusesToken}
-use Rattle.domain_base.proofs.RefusalLemmas.{token_excludes, token_one_fault}
-use Rattle.domain_fields.specs.Layout.{Layout}
-use Rattle.domain_fields.specs.Scan.{Scans, Refuses}
+use Rattle.domain_base.{specs.Scan.RefusesToken, proofs.RefusalLemmas.{token_excludes, token_one_fault}}
+use Rattle.domain_fields.specs.{Layout.Layout, Scan.{Scans, Refuses}, Sequence.{OneToken, Both, RefusesBoth}, Entry.{Spells, RefusesData}}
 use Rattle.domain_fields.proofs.ScanLemmas.{refused_spells_none, one_first_fault, scans_left, scans_once}
-use Rattle.domain_fields.specs.Sequence.{OneToken, Both, RefusesBoth}
-use Rattle.domain_fields.specs.Entry.{Spells, RefusesData}
 
 -- a grammar that reads tokens in one way at most
 pub record ReadsOnce {V : Type 0} (G : List (List ℕ) → V → List (List ℕ) → Type 0) : Type 0 where

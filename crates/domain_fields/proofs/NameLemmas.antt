@@ -1,12 +1,7 @@
 -- names as fields
-use Rattle.std.proofs.Common.{◌≡◌, ℕ, List, length, take, drop, map, refl}
-use Rattle.std.proofs.lemmas.List.{length-map}
-use Rattle.std.specs.Char.{to_ascii_lowercase}
-use Rattle.std.specs.Ordering.{nat_cmp}
-use Rattle.std.specs.Cmp.Lexicographic.{slice_cmp}
-use Rattle.domain_names.specs.Name.{wire_of, lowered, IsName}
-use Rattle.domain_names.specs.Wire.{labels_of, IsWire}
-use Rattle.domain_names.proofs.CaseLemmas.{lowered_wire}
+use Rattle.std.proofs.{Common.{◌≡◌, ℕ, List, length, take, drop, map, refl}, lemmas.List.length-map}
+use Rattle.std.specs.{Char.to_ascii_lowercase, Ordering.nat_cmp, Cmp.Lexicographic.slice_cmp}
+use Rattle.domain_names.{specs.{Name.{wire_of, lowered, IsName}, Wire.{labels_of, IsWire}}, proofs.CaseLemmas.lowered_wire}
 
 pub name_fits : (octets : List ℕ) → IsWire octets → IsName (labels_of octets)
 name_fits octets wire = wire.valid

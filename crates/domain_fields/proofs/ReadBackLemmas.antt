@@ -1,19 +1,11 @@
 -- what fields are written as is read back
-use Rattle.std.proofs.lemmas.Grind.{common_steps}
-use Rattle.std.proofs.Common.{◌≡◌, ℕ, true, List, [], ◌∷◌, ◌++◌, refl, sym, subst, arith, append_assoc}
-use Rattle.std.specs.List.{AllByRecursion}
-use Rattle.std.proofs.lemmas.List.{append-nil}
-use Rattle.domain_codecs.specs.Codec.{Decodes}
-use Rattle.domain_codecs.specs.declared.codec.Codec.{Codec}
-use Rattle.domain_octets.specs.Line.{IsWord, word_if_any}
-use Rattle.domain_octets.proofs.WordLemmas.{decimal_word}
-use Rattle.std.proofs.lemmas.Bool.{and_parts}
-use Rattle.domain_base.proofs.ReadBackLemmas.{number_back, dotted_name_back, name_word}
-use Rattle.domain_base.specs.Scan.{Grammar}
-use Rattle.domain_fields.specs.Entry.{Spells}
-use Rattle.domain_fields.specs.Field.{Field, octet, short, long, name, spelled_name, counted, exactly, at_most, rest, Value, FieldFits}
-use Rattle.domain_fields.specs.Layout.{Layout, one, ◌▸◌, Values, Fits}
-use Rattle.domain_fields.specs.Printed.{is_printed_field, is_printed, printed_field, printed}
+use Rattle.std.proofs.{lemmas.{Grind.common_steps, List.append-nil}, Common.{◌≡◌, ℕ, true, List, [], ◌∷◌, ◌++◌, refl, sym, subst, arith, append_assoc}}
+use Rattle.std.{proofs.lemmas.Bool.and_parts, specs.List.AllByRecursion}
+use Rattle.domain_codecs.specs.{Codec.Decodes, declared.codec.Codec.Codec}
+use Rattle.domain_octets.{specs.Line.{IsWord, word_if_any}, proofs.WordLemmas.decimal_word}
+use Rattle.domain_base.{proofs.ReadBackLemmas.{number_back, dotted_name_back, name_word}, specs.Scan.Grammar}
+use Rattle.domain_fields.specs.{Entry.Spells, Field.{Field, octet, short, long, name, spelled_name, counted, exactly, at_most, rest, Value, FieldFits}}
+use Rattle.domain_fields.specs.{Layout.{Layout, one, ◌▸◌, Values, Fits}, Printed.{is_printed_field, is_printed, printed_field, printed}}
 use Rattle.domain_fields.specs.Scan.{FieldText, Scans}
 
 field_back : (f : Field) (v : Value f) → is_printed_field f ≡ true → FieldFits f v → FieldText f (printed_field f v) v

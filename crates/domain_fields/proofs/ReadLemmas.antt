@@ -1,6 +1,5 @@
 -- data that are read one after another
-use Rattle.std.proofs.lemmas.Grind.{common_steps}
-use Rattle.std.proofs.Common.{◌≡◌, ℕ, ◌<◌, List, [], ◌∷◌, ◌++◌, length, sym, ap, subst, arith, length-append}
+use Rattle.std.proofs.{lemmas.Grind.common_steps, Common.{◌≡◌, ℕ, ◌<◌, List, [], ◌∷◌, ◌++◌, length, sym, ap, subst, arith, length-append}}
 use Rattle.domain_octets.specs.Place.{Place, Takes}
 use Rattle.domain_names.specs.Fault.{Fault, NameFault, ends_early}
 use Rattle.domain_fields.specs.Field.{octet, short, long, name, spelled_name, counted, exactly, at_most, IsCut, IsLong, cut_octet, cut_short, cut_long, no_name}

@@ -1,15 +1,10 @@
 -- Tokens that are refused spell no values, and tokens spell one list of values at most.
-use Rattle.std.proofs.Common.{arith, ◌≡◌, ℕ, List, [], ◌++◌, sym, ap, subst, ◌∙◌, inl, inr, Some, None, Option, lit≤}
-use Rattle.std.proofs.lemmas.Grind.{common_steps}
-use Rattle.std.specs.Net.Grammar.{IsDotted}
-use Rattle.std.specs.Net.Reader.{read_ipv4}
-use Rattle.std.proofs.NetLemmas.Ipv4.{read_ipv4_complete}
-use Rattle.domain_names.proofs.SpellingLemmas.{one_name}
-use Rattle.domain_names.specs.TextFault.{ScanFault, IsOfTokens}
+use Rattle.std.proofs.{Common.{arith, ◌≡◌, ℕ, List, [], ◌++◌, sym, ap, subst, ◌∙◌, inl, inr, Some, None, Option, lit≤}, lemmas.Grind.common_steps}
+use Rattle.std.{proofs.NetLemmas.Ipv4.read_ipv4_complete, specs.Net.{Grammar.IsDotted, Reader.read_ipv4}}
+use Rattle.domain_names.{proofs.SpellingLemmas.one_name, specs.TextFault.{ScanFault, IsOfTokens}}
 use Rattle.domain_base.proofs.RefusalLemmas.{token_excludes, token_one_fault, name_excludes, name_one_fault}
 use Rattle.domain_fields.specs.Field.{Field, octet, short, long, name, spelled_name, counted, exactly, at_most, rest, Value}
-use Rattle.domain_fields.specs.Layout.{Layout, one, ◌▸◌, Values}
-use Rattle.domain_fields.specs.Scan.{FieldText, FieldTextFault, Scans, Refuses}
+use Rattle.domain_fields.specs.{Layout.{Layout, one, ◌▸◌, Values}, Scan.{FieldText, FieldTextFault, Scans, Refuses}}
 
 field_excludes : (f : Field) (limit : Option ℕ) (fault : ScanFault) (text : List ℕ) (v : Value f)
     → FieldTextFault limit f fault text → FieldText f text v → IsOfTokens limit fault → ⊥

@@ -1,9 +1,7 @@
 -- one part of the octets appended after another
-use Rattle.std.proofs.lemmas.Grind.{common_steps}
-use Rattle.std.proofs.Common.{◌≡◌, ℕ, ◌+◌, List, ◌++◌, length, ap, arith, length-append, Option, Result}
+use Rattle.std.proofs.{lemmas.Grind.common_steps, Common.{◌≡◌, ℕ, ◌+◌, List, ◌++◌, length, ap, arith, length-append, Option, Result}}
 use Rattle.domain_octets.specs.declared.error.AppendError.{AppendError}
-use Rattle.domain_fields.specs.Layout.{Layout, ◌▸◌, Values, octets_of}
-use Rattle.domain_fields.specs.Target.{Appended, Stops, Appends}
+use Rattle.domain_fields.specs.{Layout.{Layout, ◌▸◌, Values, octets_of}, Target.{Appended, Stops, Appends}}
 
 module _ (limit : Option ℕ) (old mid new a b : List ℕ) (first : Appended limit old mid a) where
   counts : length old + length (a ++ b) ≡ length mid + length b

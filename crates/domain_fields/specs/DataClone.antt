@@ -1,8 +1,5 @@
 -- Copies of data are equal under the canonical order.
-use Rattle.std.proofs.Common.{◌≡◌, sym, subst}
-use Rattle.std.specs.declared.cmp.Ordering.TheVariants.{Equal}
-use Rattle.std.specs.Ordering.{on, nat_cmp}
-use Rattle.std.specs.Cmp.{tied_itself}
+use Rattle.std.{proofs.Common.{◌≡◌, sym, subst}, specs.{declared.cmp.Ordering.TheVariants.Equal, Ordering.{on, nat_cmp}, Cmp.tied_itself}}
 use Rattle.std.specs.Cmp.Lexicographic.{slice_cmp, nat_list_cmp_total, on_texts}
 use Rattle.domain_octets.specs.Words.{Octets}
 use Rattle.domain_fields.specs.Layout.{Layout, Values, canonical_of}

@@ -1,13 +1,9 @@
 -- data as tokens: fields, and then octets, which all tokens that are left spell together
-use Rattle.std.specs.Prelude.{◌≡◌, ℕ, [], length, codes, Option}
-use Rattle.std.specs.List.{concat}
-use Rattle.domain_octets.specs.Limit.{HasRoom}
-use Rattle.domain_codecs.specs.Codec.{Decodes}
-use Rattle.domain_codecs.specs.declared.codec.Codec.{Codec}
-use Rattle.domain_octets.specs.Words.{Octets}
-use Rattle.domain_names.specs.TextFault.{ScanFault, illegal}
+use Rattle.std.specs.{Prelude.{◌≡◌, ℕ, [], length, codes, Option}, List.concat}
+use Rattle.domain_octets.specs.{Limit.HasRoom, Words.Octets}
+use Rattle.domain_codecs.specs.{Codec.Decodes, declared.codec.Codec.Codec}
+use Rattle.domain_names.specs.{TextFault.{ScanFault, illegal}, Words.Tokens}
 use Rattle.domain_base.specs.Scan.{Refusal, Grammar, EntryFault, IsEnd}
-use Rattle.domain_names.specs.Words.{Tokens}
 
 -- the tokens spell these fields, in a grammar, and then these octets
 pub record Spells {V : Type 0} (G : Grammar V) (codec : Codec) (tokens : Tokens) (v : V)

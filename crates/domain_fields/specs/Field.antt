@@ -1,10 +1,7 @@
 -- the kinds of fields of data on the wire
-use Rattle.std.specs.Prelude.{◌≡◌, ℕ, ◌<◌, ◌≤◌, ◌^◌, [], ◌∷◌, length, codes}
-use Rattle.std.specs.Int.{w16, w32, to_be_bytes}
+use Rattle.std.specs.{Prelude.{◌≡◌, ℕ, ◌<◌, ◌≤◌, ◌^◌, [], ◌∷◌, length, codes}, Int.{w16, w32, to_be_bytes}}
 use Rattle.domain_octets.specs.Words.{Octets, AreOctets}
-use Rattle.domain_names.specs.Name.{wire_of, lowered, IsName}
-use Rattle.domain_names.specs.Fault.{Fault, ends_early, malformed, NameFault}
-use Rattle.domain_names.specs.Words.{Name}
+use Rattle.domain_names.specs.{Name.{wire_of, lowered, IsName}, Fault.{Fault, ends_early, malformed, NameFault}, Words.Name}
 
 -- octet, short, long: numbers of 8, 16 and 32 bits
 -- name, spelled_name: a name, which the canonical form lowers, or keeps as it is spelled (RFC 4034,

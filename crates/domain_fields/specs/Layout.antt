@@ -1,13 +1,10 @@
 -- data on the wire: fields in their order
-use Rattle.std.specs.Prelude.{◌≡◌, ◌+◌, [], ◌++◌, length, Bool, true, false, ◌&&◌}
-use Rattle.std.specs.declared.cmp.Ordering.{Ordering}
-use Rattle.std.specs.Ordering.{nat_cmp}
+use Rattle.std.specs.{Prelude.{◌≡◌, ◌+◌, [], ◌++◌, length, Bool, true, false, ◌&&◌}, declared.cmp.Ordering.Ordering, Ordering.nat_cmp}
 use Rattle.std.specs.Cmp.Lexicographic.{slice_cmp}
-use Rattle.domain_octets.specs.Place.{Place}
-use Rattle.domain_octets.specs.Words.{Octets}
+use Rattle.domain_octets.specs.{Place.Place, Words.Octets}
 use Rattle.domain_names.specs.Fault.{Fault}
-use Rattle.domain_fields.specs.Field.{Field, octet, short, long, name, spelled_name, counted, exactly}
-use Rattle.domain_fields.specs.Field.{at_most, rest, Value, field_octets, FieldFits, FieldEnds, lower_field, FieldFault}
+use Rattle.domain_fields.specs.Field.{Field, octet, short, long, name, spelled_name, counted, exactly, at_most, rest, Value, field_octets, FieldFits, FieldEnds}
+use Rattle.domain_fields.specs.Field.{lower_field, FieldFault}
 
 infixr 5 ◌▸◌
 pub data Layout : Type 0 where

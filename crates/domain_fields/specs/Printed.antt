@@ -1,9 +1,7 @@
 -- record data as they are written: fields in their order, each as one token
-use Rattle.std.specs.Prelude.{Bool, true, false, [], ◌∷◌, ◌++◌, ◌&&◌}
-use Rattle.std.specs.Fmt.{decimal}
+use Rattle.std.specs.{Prelude.{Bool, true, false, [], ◌∷◌, ◌++◌, ◌&&◌}, Fmt.decimal}
 use Rattle.domain_octets.specs.Characters.{dot}
-use Rattle.domain_names.specs.Text.{name_text}
-use Rattle.domain_names.specs.Words.{Tokens, Token}
+use Rattle.domain_names.specs.{Text.name_text, Words.{Tokens, Token}}
 use Rattle.domain_fields.specs.Field.{Field, octet, short, long, name, spelled_name, counted, exactly, at_most, rest, Value}
 use Rattle.domain_fields.specs.Layout.{Layout, one, ◌▸◌, Values}
 

@@ -1,13 +1,10 @@
 -- record data as tokens: fields in their order, each as one token
-use Rattle.std.specs.Prelude.{◌≡◌, ◌⊎◌, ℕ, codes, length, Option}
-use Rattle.std.specs.Net.Grammar.{IsDotted}
+use Rattle.std.specs.{Prelude.{◌≡◌, ◌⊎◌, ℕ, codes, length, Option}, Net.Grammar.IsDotted}
 use Rattle.domain_octets.specs.Words.{Octets}
-use Rattle.domain_names.specs.Text.{NameText}
-use Rattle.domain_names.specs.TextFault.{ScanFault, illegal, NameTextFault}
+use Rattle.domain_names.specs.{Text.NameText, TextFault.{ScanFault, illegal, NameTextFault}, Words.{Tokens, Token}}
 use Rattle.domain_base.specs.Scan.{TakesToken, RefusesToken, IsNumber, IsNoNumber, Grammar, Refusal}
 use Rattle.domain_fields.specs.Field.{Field, octet, short, long, name, spelled_name, counted, exactly, at_most, rest, Value}
 use Rattle.domain_fields.specs.Layout.{Layout, one, ◌▸◌, Values}
-use Rattle.domain_names.specs.Words.{Tokens, Token}
 
 -- the text of a value; kinds of fields that are not read as one token have none
 abbrev pub FieldText : (f : Field) → Token → Value f → Type 0

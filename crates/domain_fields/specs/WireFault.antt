@@ -1,8 +1,7 @@
 -- what a fault of octets is called
 use Rattle.std.specs.Prelude.{codes}
 use Rattle.domain_names.specs.Fault.{Fault, ends_early, malformed}
-use Rattle.domain_fields.specs.declared.wire_fault.WireFault.{WireFault}
-use Rattle.domain_fields.specs.declared.wire_fault.WireFault.TheVariants.{ShortInput, BadLabel, LongName, LongData}
+use Rattle.domain_fields.specs.declared.wire_fault.WireFault.{WireFault, TheVariants.{ShortInput, BadLabel, LongName, LongData}}
 
 abbrev pub wire_fault_of : WireFault → Fault
 wire_fault_of ShortInput = ends_early

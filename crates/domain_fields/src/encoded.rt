@@ -1,8 +1,7 @@
 //! Octets that are written in a codec.
 ghost use Rattle.std.specs.Prelude.{Some};
 ghost use Rattle.hex.specs.Hex.{encode_lower, encode_upper};
-ghost use Rattle.base64.specs.GeneralPurpose.{encode_of};
-ghost use Rattle.base64.specs.Engines.{standard};
+ghost use Rattle.base64.specs.{GeneralPurpose.encode_of, Engines.standard};
 
 use domain_codecs::{base16, base64_standard};
 use std::fmt;

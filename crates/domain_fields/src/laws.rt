@@ -1,17 +1,14 @@
 //! What holds of all fields, on the wire, in canonical order and as tokens.
 //! A caller calls the law in its body.
-ghost use Rattle.std.specs.Prelude.{◌≡◌, ℕ, ◌++◌, [], Option, true};
-ghost use Rattle.std.specs.List.{AllByRecursion};
+ghost use Rattle.std.specs.{Prelude.{◌≡◌, ℕ, ◌++◌, [], Option, true}, List.AllByRecursion};
 ghost use Rattle.std.specs.Ordering.{ordering_then};
-ghost use Rattle.domain_octets.specs.Line.{IsWord};
-ghost use Rattle.domain_octets.specs.Words.{Octets};
-ghost use Rattle.domain_names.specs.Fault.{Fault};
-ghost use Rattle.domain_names.specs.TextFault.{ScanFault, IsOfTokens};
-ghost use Rattle.domain_fields.specs.Field.{Field};
-ghost use Rattle.domain_fields.specs.Printed.{is_printed, printed};
+ghost use Rattle.domain_octets.specs.{Line.IsWord, Words.Octets};
+ghost use Rattle.domain_names.specs.{Fault.Fault, TextFault.{ScanFault, IsOfTokens}, Words.Tokens};
+ghost use Rattle.domain_fields.specs.{Field.Field, Printed.{is_printed, printed}};
 ghost use Rattle.domain_fields.specs.Scan.{Scans, Refuses};
-ghost use Rattle.domain_fields.specs.Layout.{Layout, one, ◌▸◌, Values, Begins, FirstFault, Fits, Ends, ParsesBack, splits, is_delimited, canonical_order};
-ghost use Rattle.domain_names.specs.Words.{Tokens};
+ghost use Rattle.domain_fields.specs.Layout.{Layout, one, ◌▸◌, Values, Begins, FirstFault, Fits};
+ghost use Rattle.domain_fields.specs.Layout.{Ends, ParsesBack, splits, is_delimited};
+ghost use Rattle.domain_fields.specs.Layout.{canonical_order};
 
 /// Octets begin with data of given fields in one way at most, and in none where they have a fault.
 pub fn reading_is_exact()

@@ -1,7 +1,5 @@
 //! The fields of record data as tokens.
-ghost use Rattle.std.specs.Prelude.{IfOk, IfErr};
-ghost use Rattle.std.specs.Net.Addr.{ipv4_octets};
-ghost use Rattle.std.specs.Net.Grammar.{IsDotted};
+ghost use Rattle.std.specs.{Prelude.{IfOk, IfErr}, Net.{Addr.ipv4_octets, Grammar.IsDotted}};
 ghost use Rattle.domain_names.specs.TextFault.{scan_fault_of};
 ghost use Rattle.domain_fields.specs.Field.{octet, short, long, name, exactly};
 ghost use Rattle.domain_fields.specs.Layout.{Layout, one, ◌▸◌, Values};

@@ -1,6 +1,5 @@
 -- What refusals to hash say.
-use Rattle.std.specs.Prelude.{◌++◌, codes}
-use Rattle.std.specs.Fmt.{decimal}
+use Rattle.std.specs.{Prelude.{◌++◌, codes}, Fmt.decimal}
 use Rattle.domain_octets.specs.Words.{Octets}
 use Rattle.domain_hasher.specs.declared.hasher.HasherError.{HasherError}
 use Rattle.domain_hasher.specs.declared.hasher.HasherError.TheVariants as hasher_error

@@ -1,9 +1,7 @@
 -- the octets of data
 use Rattle.std.proofs.Common.{◌≡◌, ℕ, ◌+◌, ◌≤◌, ◌↔◌, Bool, List, [], length, refl, sym, ap, ◌∙◌, arith, length-append}
-use Rattle.std.specs.Prelude.{bytes_eq, IsTrue}
-use Rattle.std.specs.Cmp.Lexicographic.{bytes_decides}
-use Rattle.domain_fields.specs.Layout.{Values, octets_of, Fits, Ends, Begins, ParsesBack}
-use Rattle.domain_fields.proofs.ExactLemmas.{parses_back, same_values}
+use Rattle.std.specs.{Prelude.{bytes_eq, IsTrue}, Cmp.Lexicographic.bytes_decides}
+use Rattle.domain_fields.{specs.Layout.{Values, octets_of, Fits, Ends, Begins, ParsesBack}, proofs.ExactLemmas.{parses_back, same_values}}
 use Rattle.domain_keys.specs.Data.{numbers_and_octets, DnskeyData, dnskey, dnskey_values, dnskey_octets, DsData, ds, ds_values, ds_octets}
 
 -- four octets stand before the others

@@ -1,6 +1,5 @@
 -- octets weighed one after another
-use Rattle.std.proofs.lemmas.Grind.{common_steps}
-use Rattle.std.proofs.Common.{◌≡◌, ℕ, ◌+◌, ◌*◌, ◌%◌, ◌<◌, List, [], ◌∷◌, ◌++◌, length, arith, get_or, take}
+use Rattle.std.proofs.{lemmas.Grind.common_steps, Common.{◌≡◌, ℕ, ◌+◌, ◌*◌, ◌%◌, ◌<◌, List, [], ◌∷◌, ◌++◌, length, arith, get_or, take}}
 use Rattle.domain_keys.specs.KeyTag.{weighed}
 
 pub weighed-even : (octets : List ℕ) (a : ℕ) → length octets % 2 ≡ 0 → weighed (octets ++ a ∷ []) ≡ weighed octets + 256 * a

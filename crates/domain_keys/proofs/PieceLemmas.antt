@@ -1,17 +1,10 @@
 -- the pieces of keys and of digests, written one after another
-use Rattle.std.proofs.Common.{arith, ◌≡◌, ℕ, List, [], ◌∷◌, ◌++◌}
-use Rattle.std.proofs.lemmas.Grind.{common_steps}
-use Rattle.std.specs.Prelude.{codes}
-use Rattle.std.specs.Fmt.{decimal}
+use Rattle.std.{proofs.{Common.{arith, ◌≡◌, ℕ, List, [], ◌∷◌, ◌++◌}, lemmas.Grind.common_steps}, specs.{Prelude.codes, Fmt.decimal}}
 use Rattle.hex.specs.Hex.{encode_upper}
-use Rattle.base64.specs.GeneralPurpose.{encode_of}
-use Rattle.base64.specs.Engines.{standard}
+use Rattle.base64.specs.{GeneralPurpose.encode_of, Engines.standard}
 use Rattle.domain_octets.specs.Piece.{PieceText, token, comment, opens, closes}
 use Rattle.domain_fields.proofs.PieceLemmas.{piece_before}
-use Rattle.domain_keys.specs.Data.{DnskeyData, DsData}
-use Rattle.domain_keys.specs.Flags.{flags_comment}
-use Rattle.domain_keys.specs.KeyTag.{key_tag_of}
-use Rattle.domain_keys.specs.Pieces.{dnskey_pieces, ds_pieces}
+use Rattle.domain_keys.specs.{Data.{DnskeyData, DsData}, Flags.flags_comment, KeyTag.key_tag_of, Pieces.{dnskey_pieces, ds_pieces}}
 
 pub dnskey_written : (a b c d e f g h i j : List PieceText) (key : DnskeyData) (flags protocol algorithm tag : ℕ) (octets : List ℕ)
     → flags ≡ key.flags → protocol ≡ key.protocol → algorithm ≡ key.algorithm → octets ≡ key.public_key → tag ≡ key_tag_of key

@@ -1,20 +1,11 @@
 -- what keys and digests are written as is read back
-use Rattle.std.proofs.Common.{ap, subst, sym, ◌∙◌, ℕ, ◌<◌, ◌≤◌, All, List, [], ◌∷◌, ◌++◌, length, refl, arith}
-use Rattle.std.proofs.lemmas.Grind.{common_steps}
-use Rattle.std.specs.Prelude.{◌^◌}
-use Rattle.std.specs.Fmt.{decimal}
-use Rattle.domain_codecs.specs.declared.codec.Codec.{Codec}
-use Rattle.domain_codecs.specs.Codec.{Decodes}
-use Rattle.domain_octets.specs.Line.{words_of, word_if_any, HasNoSpace}
-use Rattle.domain_codecs.proofs.CodecBackLemmas.{lower_back, base64_back}
-use Rattle.domain_codecs.proofs.NoSpaceLemmas.{base64_plain, lower_hex_plain}
-use Rattle.domain_octets.proofs.WordLemmas.{one_word, next_word, next_any, decimal_word}
-use Rattle.domain_fields.specs.Entry.{Spells}
-use Rattle.domain_fields.specs.Layout.{Fits}
-use Rattle.domain_fields.specs.Scan.{Scans}
-use Rattle.domain_fields.proofs.ReadBackLemmas.{fields_back, entry_back}
-use Rattle.domain_keys.specs.Data.{DnskeyData, dnskey, dnskey_values, DsData, ds, ds_values}
-use Rattle.domain_keys.specs.Pieces.{dnskey_text, ds_text}
+use Rattle.std.proofs.{Common.{ap, subst, sym, ◌∙◌, ℕ, ◌<◌, ◌≤◌, All, List, [], ◌∷◌, ◌++◌, length, refl, arith}, lemmas.Grind.common_steps}
+use Rattle.std.specs.{Prelude.◌^◌, Fmt.decimal}
+use Rattle.domain_codecs.specs.{declared.codec.Codec.Codec, Codec.Decodes}
+use Rattle.domain_codecs.proofs.{CodecBackLemmas.{lower_back, base64_back}, NoSpaceLemmas.{base64_plain, lower_hex_plain}}
+use Rattle.domain_octets.{specs.Line.{words_of, word_if_any, HasNoSpace}, proofs.WordLemmas.{one_word, next_word, next_any, decimal_word}}
+use Rattle.domain_fields.{specs.{Entry.Spells, Layout.Fits, Scan.Scans}, proofs.ReadBackLemmas.{fields_back, entry_back}}
+use Rattle.domain_keys.specs.{Data.{DnskeyData, dnskey, dnskey_values, DsData, ds, ds_values}, Pieces.{dnskey_text, ds_text}}
 use Rattle.domain_keys.specs.Scan.{three_numbers, DnskeyText, DsText}
 
 -- three numbers, and a text that has no spaces

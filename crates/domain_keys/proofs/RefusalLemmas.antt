@@ -1,12 +1,9 @@
 -- The texts of keys and of digests: tokens spell one at most, and none where they are refused.
-use Rattle.std.proofs.lemmas.Grind.{common_steps}
-use Rattle.std.proofs.Common.{◌≡◌, ℕ, ◌<◌, List, length, arith, Option}
+use Rattle.std.proofs.{lemmas.Grind.common_steps, Common.{◌≡◌, ℕ, ◌<◌, List, length, arith, Option}}
 use Rattle.domain_codecs.specs.declared.codec.Codec.TheVariants.{Base64}
 use Rattle.domain_names.specs.TextFault.{ScanFault, IsOfTokens}
-use Rattle.domain_fields.specs.Scan.{Scans, Refuses}
-use Rattle.domain_fields.proofs.GrammarLemmas.{fields_once, fields_refused, fields_one_fault, entry_refused, entry_refused_once}
-use Rattle.domain_keys.specs.Data.{DnskeyData, DsData}
-use Rattle.domain_keys.specs.Scan.{three_numbers, DnskeyText, RefusesDnskey, DsText, RefusesDs}
+use Rattle.domain_fields.{specs.Scan.{Scans, Refuses}, proofs.GrammarLemmas.{fields_once, fields_refused, fields_one_fault, entry_refused, entry_refused_once}}
+use Rattle.domain_keys.specs.{Data.{DnskeyData, DsData}, Scan.{three_numbers, DnskeyText, RefusesDnskey, DsText, RefusesDs}}
 
 -- over the limit
 abbrev Long : ℕ × (ℕ × ℕ) → List ℕ → Type 0

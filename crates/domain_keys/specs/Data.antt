@@ -1,8 +1,7 @@
 -- the data of keys and of digests of keys, in the order of the wire
 use Rattle.std.specs.Prelude.{ℕ}
 use Rattle.domain_octets.specs.Words.{Octets}
-use Rattle.domain_fields.specs.Field.{octet, short, at_most, rest}
-use Rattle.domain_fields.specs.Layout.{Layout, one, ◌▸◌, Values, octets_of}
+use Rattle.domain_fields.specs.{Field.{octet, short, at_most, rest}, Layout.{Layout, one, ◌▸◌, Values, octets_of}}
 
 -- a number of 16 bits, two of 8 bits, and octets, where the data have at most 65,535
 abbrev pub numbers_and_octets : Layout

@@ -1,14 +1,9 @@
 -- data as text (RFC 4034, sections 2.2 and 5.3), and in the pieces of a zone file
-use Rattle.std.specs.Prelude.{List, [], ◌∷◌, ◌++◌, codes}
-use Rattle.std.specs.Fmt.{decimal}
+use Rattle.std.specs.{Prelude.{List, [], ◌∷◌, ◌++◌, codes}, Fmt.decimal}
 use Rattle.hex.specs.Hex.{encode_lower, encode_upper}
-use Rattle.base64.specs.GeneralPurpose.{encode_of}
-use Rattle.base64.specs.Engines.{standard}
-use Rattle.domain_octets.specs.Piece.{PieceText, token, comment, opens, closes}
-use Rattle.domain_octets.specs.Words.{Octets}
-use Rattle.domain_keys.specs.Data.{DnskeyData, DsData}
-use Rattle.domain_keys.specs.KeyTag.{key_tag_of}
-use Rattle.domain_keys.specs.Flags.{flags_comment}
+use Rattle.base64.specs.{GeneralPurpose.encode_of, Engines.standard}
+use Rattle.domain_octets.specs.{Piece.{PieceText, token, comment, opens, closes}, Words.Octets}
+use Rattle.domain_keys.specs.{Data.{DnskeyData, DsData}, KeyTag.key_tag_of, Flags.flags_comment}
 
 -- flags, protocol, algorithm, and the key in Base 64
 abbrev pub dnskey_text : DnskeyData → Octets

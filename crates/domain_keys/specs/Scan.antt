@@ -4,10 +4,7 @@ use Rattle.std.specs.Prelude.{ℕ, ◌<◌, ◌≤◌, length, Option}
 use Rattle.domain_codecs.specs.declared.codec.Codec.TheVariants.{Base16, Base64}
 use Rattle.domain_base.specs.Scan.{Refusal}
 use Rattle.domain_names.specs.Words.{Tokens}
-use Rattle.domain_fields.specs.Entry.{Spells, RefusesData}
-use Rattle.domain_fields.specs.Field.{octet, short}
-use Rattle.domain_fields.specs.Layout.{Layout, one, ◌▸◌}
-use Rattle.domain_fields.specs.Scan.{Scans, Refuses}
+use Rattle.domain_fields.specs.{Entry.{Spells, RefusesData}, Field.{octet, short}, Layout.{Layout, one, ◌▸◌}, Scan.{Scans, Refuses}}
 use Rattle.domain_keys.specs.Data.{DnskeyData, DsData}
 
 -- a number of 16 bits and two of 8 bits

@@ -3,8 +3,7 @@
 ghost use Rattle.domain_octets.specs.Line.{words_of};
 ghost use Rattle.domain_fields.specs.Layout.{ParsesBack};
 ghost use Rattle.domain_keys.specs.Data.{dnskey, dnskey_values, ds, ds_values};
-ghost use Rattle.domain_keys.specs.Pieces.{dnskey_text, ds_text};
-ghost use Rattle.domain_keys.specs.Scan.{DnskeyText, DsText};
+ghost use Rattle.domain_keys.specs.{Pieces.{dnskey_text, ds_text}, Scan.{DnskeyText, DsText}};
 
 use crate::{Dnskey, Ds};
 use domain_octets::Octets;

@@ -1,19 +1,17 @@
 //! Keys of zones (RFC 4034, section 2).
-ghost use Rattle.std.specs.Prelude.{◌≡◌, ◌≤◌, ◌↔◌, Some, IsTrue, IsOk, IfOk, IfErr, OnErr, length, refl, bytes_eq, IsNone};
-ghost use Rattle.std.specs.List.{flat_map};
-ghost use Rattle.std.specs.Ordering.{on, nat_cmp};
-ghost use Rattle.std.specs.Cmp.{partial_equiv_from_equiv, po};
+ghost use Rattle.std.specs.Prelude.{◌≡◌, ◌≤◌, ◌↔◌, Some, IsTrue, IsOk, IfOk, IfErr, OnErr, length};
+ghost use Rattle.std.specs.{Prelude.{refl, bytes_eq, IsNone}, List.flat_map};
+ghost use Rattle.std.specs.{Ordering.{on, nat_cmp}, Cmp.{partial_equiv_from_equiv, po}};
 ghost use Rattle.std.specs.Cmp.Lexicographic.{slice_cmp, on_texts, on_texts_equal};
 ghost use Rattle.std.specs.Hash as fed;
 ghost use Rattle.domain_octets.specs.Limit.{IsOver};
 ghost use Rattle.domain_names.specs.Fault.{fault_of};
 ghost use Rattle.domain_base.specs.Types as rtypes;
 ghost use Rattle.domain_fields.specs.Layout.{Begins, Fits, FirstFault, GoesOn};
-ghost use Rattle.domain_fields.specs.Laws.{fed_alike, tied_octets};
+ghost use Rattle.domain_fields.specs.{Laws.{fed_alike, tied_octets}, DataClone.copies_tied};
 ghost use Rattle.domain_keys.specs.Data.{dnskey_data, dnskey, dnskey_values, dnskey_octets};
 ghost use Rattle.domain_keys.specs.Flags.{is_revoked, is_secure_entry_point, is_zone_key};
 ghost use Rattle.domain_keys.specs.KeyTag.{key_tag_of};
-ghost use Rattle.domain_fields.specs.DataClone.{copies_tied};
 
 use crate::fields::{KeyFields, MOST};
 use crate::{flags, key_tag};

@@ -1,6 +1,5 @@
 //! Keys as text (RFC 4034, section 2.2).
-ghost use Rattle.std.specs.Prelude.{◌≡◌, ◌++◌, [], Some, codes, IfOk, IfErr, OnOk};
-ghost use Rattle.std.specs.Fmt.{decimal};
+ghost use Rattle.std.specs.{Prelude.{◌≡◌, ◌++◌, [], Some, codes, IfOk, IfErr, OnOk}, Fmt.decimal};
 ghost use Rattle.domain_names.specs.TextFault.{scan_fault_of};
 ghost use Rattle.domain_keys.specs.Scan.{DnskeyText, RefusesDnskey};
 ghost use Rattle.domain_keys.specs.Pieces.{dnskey_text, dnskey_pieces};

@@ -1,8 +1,7 @@
 //! Digests of keys as text (RFC 4034, section 5.3).
 ghost use Rattle.std.specs.Prelude.{◌≡◌, [], Some, IfOk, IfErr, OnOk};
 ghost use Rattle.domain_names.specs.TextFault.{scan_fault_of};
-ghost use Rattle.domain_keys.specs.Scan.{DsText, RefusesDs};
-ghost use Rattle.domain_keys.specs.Pieces.{ds_text, ds_pieces};
+ghost use Rattle.domain_keys.specs.{Scan.{DsText, RefusesDs}, Pieces.{ds_text, ds_pieces}};
 
 use crate::Ds;
 use crate::entry::scan_entry;

@@ -1,8 +1,7 @@
 //! Data that end in octets which all tokens that are left spell together.
 ghost use Rattle.std.specs.Prelude.{◌≡◌, ◌<◌, ◌≤◌, [], length, IfOk, IfErr, OnOk};
 ghost use Rattle.domain_names.specs.TextFault.{scan_fault_of};
-ghost use Rattle.domain_fields.specs.Scan.{Scans, Refuses};
-ghost use Rattle.domain_fields.specs.Entry.{Spells, RefusesData};
+ghost use Rattle.domain_fields.specs.{Scan.{Scans, Refuses}, Entry.{Spells, RefusesData}};
 
 use domain_base::{ScanError, Scanner};
 use domain_codecs::Codec;

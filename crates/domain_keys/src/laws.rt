@@ -1,9 +1,8 @@
 //! What holds of the texts of keys and digests. A caller calls the law in its body.
 ghost use Rattle.std.specs.Prelude.{◌≡◌, ℕ, Option};
-ghost use Rattle.domain_names.specs.TextFault.{ScanFault, IsOfTokens};
+ghost use Rattle.domain_names.specs.{TextFault.{ScanFault, IsOfTokens}, Words.Tokens};
 ghost use Rattle.domain_keys.specs.Data.{DnskeyData, DsData};
 ghost use Rattle.domain_keys.specs.Scan.{DnskeyText, RefusesDnskey, DsText, RefusesDs};
-ghost use Rattle.domain_names.specs.Words.{Tokens};
 
 /// Tokens that are refused, but for want of room or of memory, spell no data, over builders with
 /// any limit.

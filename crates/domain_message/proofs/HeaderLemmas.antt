@@ -1,15 +1,9 @@
 -- the numbers before the data of a record
-use Rattle.std.proofs.Common.{◌≡◌, ℕ, ◌+◌, ◌<◌, ◌≤◌, List, length, drop, arith, ap, sym, subst, ◌∙◌, refl}
-use Rattle.std.proofs.lemmas.List.{length-drop}
-use Rattle.domain_names.specs.Fault.{Fault}
-use Rattle.domain_names.specs.Words.{Name}
+use Rattle.std.proofs.{Common.{◌≡◌, ℕ, ◌+◌, ◌<◌, ◌≤◌, List, length, drop, arith, ap, sym, subst, ◌∙◌, refl}, lemmas.List.length-drop}
+use Rattle.domain_names.specs.{Fault.Fault, Words.Name}
 use Rattle.domain_fields.specs.Field.{short, long, cut_short, cut_long}
-use Rattle.domain_fields.specs.Layout.{one, ◌▸◌, Values, Begins, FirstFault, in_field, in_first, in_later, octets_of}
-use Rattle.domain_fields.proofs.ExactLemmas.{one_reading}
-use Rattle.domain_message.specs.Header.{numbers, HeaderAt}
-use Rattle.domain_message.specs.Name.{NameAt}
-use Rattle.domain_message.specs.Refusal.{HeaderFault, in_owner, cut_numbers}
-use Rattle.domain_message.specs.declared.name.NameFault.{NameFault}
+use Rattle.domain_fields.{specs.Layout.{one, ◌▸◌, Values, Begins, FirstFault, in_field, in_first, in_later, octets_of}, proofs.ExactLemmas.one_reading}
+use Rattle.domain_message.specs.{Header.{numbers, HeaderAt}, Name.NameAt, Refusal.{HeaderFault, in_owner, cut_numbers}, declared.name.NameFault.NameFault}
 use Rattle.domain_message.specs.declared.name.NameFault.TheVariants as name_fault
 use Rattle.domain_message.proofs.OneNameLemmas.{one_name, no_fault}
 

@@ -1,12 +1,8 @@
 -- lines that spell records, and lines that do not
-use Rattle.std.proofs.Common.{ℕ, refl, sym, subst, ◌≡◌, ◌↔◌, IsTrue, false, List, [], ◌∷◌, Result, IfErr}
-use Rattle.std.specs.Prelude.{Bool, Option}
-use Rattle.domain_octets.specs.Line.{words_of}
-use Rattle.domain_octets.specs.Words.{Octets}
+use Rattle.std.{proofs.Common.{ℕ, refl, sym, subst, ◌≡◌, ◌↔◌, IsTrue, false, List, [], ◌∷◌, Result, IfErr}, specs.Prelude.{Bool, Option}}
+use Rattle.domain_octets.specs.{Line.words_of, Words.Octets}
 use Rattle.domain_names.specs.Words.{Name}
-use Rattle.domain_message.specs.Entry.{RefusesEntry, RefusesLine, in_entry, IsNoEntry}
-use Rattle.domain_message.specs.declared.line.LineError.{LineError}
-use Rattle.domain_message.proofs.RecordLemmas.{on_err}
+use Rattle.domain_message.{specs.{Entry.{RefusesEntry, RefusesLine, in_entry, IsNoEntry}, declared.line.LineError.LineError}, proofs.RecordLemmas.on_err}
 
 pub none_left : (tokens : List (List ℕ)) (more : Bool) → IsTrue more ↔ (tokens ≡ [] → ⊥) → more ≡ false → tokens ≡ []
 none_left [] more test off = refl

@@ -1,16 +1,12 @@
 -- names that are read label by label, one run after another
 use Rattle.std.proofs.lemmas.Grind.{common_steps}
 use Rattle.std.proofs.Common.{◌≡◌, ℕ, ◌+◌, ◌-◌, ◌*◌, ◌<◌, ◌≤◌, List, [], ◌∷◌, ◌++◌, length, get_or, take, drop, refl, sym, ap, subst, ◌∙◌, arith, length-append}
-use Rattle.std.specs.Prelude.{All, Option, Some, None}
-use Rattle.std.specs.List.{AllByRecursion}
 use Rattle.std.proofs.lemmas.List.{append-nil, append_assoc, take-append-drop, drop-drop, drop_more, drop_all, length-drop, length-take-le}
-use Rattle.std.proofs.lemmas.List.Elements.{All-take, All-drop}
-use Rattle.domain_names.specs.Name.{wire_of, IsLabel}
-use Rattle.domain_names.specs.Words.{Name}
+use Rattle.std.{proofs.lemmas.List.Elements.{All-take, All-drop}, specs.{Prelude.{All, Option, Some, None}, List.AllByRecursion}}
+use Rattle.domain_names.specs.{Name.{wire_of, IsLabel}, Words.Name}
 use Rattle.domain_message.specs.Name.{labels_octets, pointer_octets, RunAt, LabelsAt, in_full, pointed}
 use Rattle.domain_message.specs.Fault.{EndFault, no_octet, half_pointer, bad_type, not_backward, long_name, cut_label, LabelsFault, here, beyond}
-use Rattle.domain_message.specs.Steps.{LabelsBetween, EndsWith, RunRead, LabelsRead}
-use Rattle.domain_message.specs.declared.name.NameFault.{NameFault}
+use Rattle.domain_message.specs.{Steps.{LabelsBetween, EndsWith, RunRead, LabelsRead}, declared.name.NameFault.NameFault}
 use Rattle.domain_message.specs.declared.name.NameFault.TheVariants as name_fault
 
 -- ---- labels one after another

@@ -1,21 +1,11 @@
 -- a line spells one record at most
-use Rattle.std.proofs.Common.{arith, ◌≡◌, ℕ, List, [], refl, sym, subst, ◌∙◌}
-use Rattle.std.proofs.lemmas.Grind.{common_steps}
-use Rattle.domain_octets.specs.Line.{words_of}
-use Rattle.domain_octets.specs.Words.{Octets}
-use Rattle.domain_base.specs.Numbers.{ClassText, TypeText}
-use Rattle.domain_base.specs.Scan.{TakesToken, IsNumber}
-use Rattle.domain_names.specs.Text.{NameText}
-use Rattle.domain_names.specs.Words.{Name, Token, Tokens}
-use Rattle.domain_base.proofs.NamedLemmas.{one_named}
-use Rattle.domain_names.proofs.SpellingLemmas.{one_name}
+use Rattle.std.proofs.{Common.{arith, ◌≡◌, ℕ, List, [], refl, sym, subst, ◌∙◌}, lemmas.Grind.common_steps}
+use Rattle.domain_octets.specs.{Line.words_of, Words.Octets}
+use Rattle.domain_base.{specs.{Numbers.{ClassText, TypeText}, Scan.{TakesToken, IsNumber}}, proofs.NamedLemmas.one_named}
+use Rattle.domain_names.{specs.{Text.NameText, Words.{Name, Token, Tokens}}, proofs.SpellingLemmas.one_name}
 use Rattle.domain_record.specs.declared.record.Record.{Record}
-use Rattle.domain_rdata.proofs.ScanLemmas.{text_once}
-use Rattle.domain_rdata.specs.Scan.{RdataText}
-use Rattle.domain_rdata.specs.Zone.{rtype_of}
-use Rattle.domain_rdata.specs.declared.zone_record_data.ZoneRecordData.{ZoneRecordData}
-use Rattle.domain_message.specs.Alike.{AreAlike}
-use Rattle.domain_message.specs.Entry.{EntryText, LineText}
+use Rattle.domain_rdata.{proofs.ScanLemmas.text_once, specs.{Scan.RdataText, Zone.rtype_of, declared.zone_record_data.ZoneRecordData.ZoneRecordData}}
+use Rattle.domain_message.specs.{Alike.AreAlike, Entry.{EntryText, LineText}}
 
 -- a token that is taken is told from the tokens
 taken_once : {V : Type 0} (P : Token → V → Type 0) → ((t : Token) (v w : V) → P t v → P t w → v ≡ w) → (v w : V) (old other m n : Tokens)

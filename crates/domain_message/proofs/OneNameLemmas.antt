@@ -1,16 +1,11 @@
 -- at a place of a message stands one name at most, and none where there is a fault
 use Rattle.std.proofs.lemmas.Grind.{common_steps}
 use Rattle.std.proofs.Common.{◌≡◌, ℕ, ◌+◌, ◌/◌, ◌<◌, ◌≤◌, List, [], ◌∷◌, ◌++◌, length, take, drop, refl, sym, ap, subst, ◌∙◌, arith, length-append}
-use Rattle.std.specs.List.{AllByRecursion}
-use Rattle.std.proofs.lemmas.List.{append_assoc, take_at, length-drop}
-use Rattle.domain_names.specs.Name.{wire_of, IsLabel, IsName}
-use Rattle.domain_names.specs.Words.{Name}
-use Rattle.domain_names.proofs.FaultLemmas.{rest_of}
+use Rattle.std.{proofs.lemmas.List.{append_assoc, take_at, length-drop}, specs.List.AllByRecursion}
+use Rattle.domain_names.{specs.{Name.{wire_of, IsLabel, IsName}, Words.Name}, proofs.FaultLemmas.rest_of}
 use Rattle.domain_message.specs.Name.{labels_octets, pointer_octets, RunAt, LabelsAt, in_full, pointed, NameAt}
 use Rattle.domain_message.specs.Fault.{EndFault, no_octet, half_pointer, bad_type, not_backward, long_name, cut_label, LabelsFault, here, beyond}
-use Rattle.domain_message.specs.Steps.{LabelsRead}
-use Rattle.domain_message.specs.declared.name.NameFault.{NameFault}
-use Rattle.domain_message.proofs.NameLemmas.{octets_of_more, wire_is}
+use Rattle.domain_message.{specs.{Steps.LabelsRead, declared.name.NameFault.NameFault}, proofs.NameLemmas.{octets_of_more, wire_is}}
 
 -- no label stands here for which there is room in the name
 abbrev pub Ends : ℕ → List ℕ → Type 0

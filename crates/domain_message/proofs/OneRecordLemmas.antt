@@ -1,19 +1,13 @@
 -- at a place of a message stands one record at most, and none where it is refused
-use Rattle.std.proofs.lemmas.Grind.{common_steps}
-use Rattle.std.proofs.Common.{◌≡◌, ℕ, ◌+◌, List, sym, subst, ◌∙◌, arith}
-use Rattle.std.specs.Prelude.{Option}
+use Rattle.std.{proofs.{lemmas.Grind.common_steps, Common.{◌≡◌, ℕ, ◌+◌, List, sym, subst, ◌∙◌, arith}}, specs.Prelude.Option}
 use Rattle.domain_octets.specs.Words.{Octets}
 use Rattle.domain_names.specs.Words.{Name}
 use Rattle.domain_record.specs.declared.record.Record.{Record}
-use Rattle.domain_rdata.specs.Kind.{Kind}
-use Rattle.domain_rdata.proofs.ScanLemmas.{AreOf, are_of, are_wire}
-use Rattle.domain_rdata.specs.declared.zone_record_data.ZoneRecordData.{ZoneRecordData}
-use Rattle.domain_message.specs.Alike.{AreAlike, IsOfMessage}
-use Rattle.domain_message.specs.Data.{DataAt}
+use Rattle.domain_rdata.{specs.{Kind.Kind, declared.zone_record_data.ZoneRecordData.ZoneRecordData}, proofs.ScanLemmas.{AreOf, are_of, are_wire}}
+use Rattle.domain_message.specs.{Alike.{AreAlike, IsOfMessage}, Data.DataAt}
 use Rattle.domain_message.specs.Record.{IsDataAt, RecordAt, OctetsRefusal, RefusesData, RefusesRecord, in_header, in_data}
 use Rattle.domain_message.specs.declared.error.MessageError.{MessageError}
-use Rattle.domain_message.proofs.HeaderLemmas.{one_header, no_header}
-use Rattle.domain_message.proofs.PartLemmas.{one_parts, no_parts, one_placed}
+use Rattle.domain_message.proofs.{HeaderLemmas.{one_header, no_header}, PartLemmas.{one_parts, no_parts, one_placed}}
 
 same_wire : (message : List ℕ) (rtype rtype' place place' count count' : ℕ) (a b : List ℕ) → rtype ≡ rtype' → place ≡ place'
     → count ≡ count'

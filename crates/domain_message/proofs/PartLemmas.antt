@@ -1,10 +1,6 @@
 -- data stand at a place in one way at most, and in none where they have a fault
-use Rattle.std.proofs.lemmas.Grind.{common_steps}
-use Rattle.std.proofs.Common.{◌≡◌, ℕ, List, [], ◌∷◌, ◌++◌, sym, subst, ◌∙◌, arith, inl, inr}
-use Rattle.std.specs.Prelude.{Option}
-use Rattle.domain_message.specs.Data.{PartAt, PartsAt, PartFault, PartsFault, PlacedAt}
-use Rattle.domain_message.specs.declared.parts.Part.{Part}
-use Rattle.domain_message.specs.declared.name.NameFault.{NameFault}
+use Rattle.std.{proofs.{lemmas.Grind.common_steps, Common.{◌≡◌, ℕ, List, [], ◌∷◌, ◌++◌, sym, subst, ◌∙◌, arith, inl, inr}}, specs.Prelude.Option}
+use Rattle.domain_message.specs.{Data.{PartAt, PartsAt, PartFault, PartsFault, PlacedAt}, declared.{parts.Part.Part, name.NameFault.NameFault}}
 use Rattle.domain_message.proofs.OneNameLemmas.{one_name, no_fault}
 
 one_part : (message : List ℕ) (p : Part) (at : ℕ) (a b : List ℕ) (e f : ℕ) → PartAt message p at a e → PartAt message p at b f

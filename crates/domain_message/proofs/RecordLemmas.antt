@@ -1,13 +1,9 @@
 -- records that are read, and why they are refused
-use Rattle.std.proofs.lemmas.Grind.{common_steps}
-use Rattle.std.proofs.Common.{◌≡◌, ℕ, ◌+◌, ◌-◌, ◌≤◌, List, length, take, drop, arith, Result, IfErr}
+use Rattle.std.proofs.{lemmas.Grind.common_steps, Common.{◌≡◌, ℕ, ◌+◌, ◌-◌, ◌≤◌, List, length, take, drop, arith, Result, IfErr}}
 use Rattle.std.specs.Prelude.{Option, Some, None}
 use Rattle.domain_rdata.specs.Kind.{Kind}
-use Rattle.domain_message.specs.Data.{parts_of, PartsAt, DataAt}
-use Rattle.domain_message.specs.Refusal.{CopyRefusal}
-use Rattle.domain_message.specs.Record.{OctetsRefusal, RefusesData, in_octets}
-use Rattle.domain_message.specs.declared.parts.Part.{Part}
-use Rattle.domain_message.specs.declared.error.MessageError.{MessageError}
+use Rattle.domain_message.specs.{Data.{parts_of, PartsAt, DataAt}, Refusal.CopyRefusal, Record.{OctetsRefusal, RefusesData, in_octets}}
+use Rattle.domain_message.specs.declared.{parts.Part.Part, error.MessageError.MessageError}
 
 pub on_err : {X E : Type 0} {P Q : E → Type 0} → ((e : E) → P e → Q e) → (r : Result X E) → IfErr r P → IfErr r Q
 on_err f r h = grind (arith, common_steps)

@@ -1,21 +1,14 @@
 -- a record that is written without compression stands where it was written
 use Rattle.std.proofs.lemmas.Grind.{common_steps}
 use Rattle.std.proofs.Common.{◌≡◌, ℕ, ◌+◌, ◌<◌, ◌≤◌, ◌^◌, List, [], ◌∷◌, ◌++◌, refl, sym, ap, subst, ◌∙◌, arith, length, length-append, drop}
-use Rattle.std.specs.Int.{w16, to_be_bytes}
-use Rattle.std.proofs.lemmas.List.{append-nil, append_assoc, drop-drop, drop_at, take_at, length-drop}
+use Rattle.std.{proofs.lemmas.List.{append-nil, append_assoc, drop-drop, drop_at, take_at, length-drop}, specs.Int.{w16, to_be_bytes}}
 use Rattle.domain_octets.specs.Words.{Octets}
-use Rattle.domain_names.specs.Name.{wire_of, IsName}
-use Rattle.domain_names.specs.Words.{Name}
+use Rattle.domain_names.specs.{Name.{wire_of, IsName}, Words.Name}
 use Rattle.domain_fields.specs.Layout.{octets_of}
 use Rattle.domain_record.specs.declared.record.Record.{Record}
-use Rattle.domain_rdata.specs.Scan.{AreData}
-use Rattle.domain_rdata.specs.Zone.{rtype_of, wire_octets}
-use Rattle.domain_rdata.specs.declared.zone_record_data.ZoneRecordData.{ZoneRecordData}
+use Rattle.domain_rdata.specs.{Scan.AreData, Zone.{rtype_of, wire_octets}, declared.zone_record_data.ZoneRecordData.ZoneRecordData}
 use Rattle.domain_rdata.specs.declared.zone_record_data.ZoneRecordData.TheVariants.{A, Ns, Soa, Mx, Dnskey, Ds, Rrsig, Nsec, Nsec3, Nsec3param, Unknown}
-use Rattle.domain_message.specs.Data.{PartsAt, DataAt, OctetsAt}
-use Rattle.domain_message.specs.Header.{numbers}
-use Rattle.domain_message.specs.Record.{RecordAt}
-use Rattle.domain_message.specs.Written.{HasExactWire, record_octets}
+use Rattle.domain_message.specs.{Data.{PartsAt, DataAt, OctetsAt}, Header.numbers, Record.RecordAt, Written.{HasExactWire, record_octets}}
 use Rattle.domain_message.specs.declared.parts.Part.TheVariants as part
 use Rattle.domain_message.proofs.OneNameLemmas.{in_full_at}
 

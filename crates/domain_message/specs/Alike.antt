@@ -3,10 +3,8 @@ use Rattle.std.specs.Prelude.{◌≡◌, ◌≢◌}
 use Rattle.domain_octets.specs.Words.{Octets}
 use Rattle.domain_names.specs.Words.{Name}
 use Rattle.domain_record.specs.declared.record.Record.{Record}
-use Rattle.domain_rdata.specs.Zone.{rtype_of, wire_octets}
-use Rattle.domain_rdata.specs.declared.zone_record_data.ZoneRecordData.{ZoneRecordData}
-use Rattle.domain_message.specs.declared.error.MessageError.{MessageError}
-use Rattle.domain_message.specs.declared.error.MessageError.TheVariants.{ShortBuf, OutOfMemory}
+use Rattle.domain_rdata.specs.{Zone.{rtype_of, wire_octets}, declared.zone_record_data.ZoneRecordData.ZoneRecordData}
+use Rattle.domain_message.specs.declared.error.MessageError.{MessageError, TheVariants.{ShortBuf, OutOfMemory}}
 
 -- the same owner, spelled alike, class, TTL, type and octets of data
 pub record AreAlike {O N : Type 0} (octets : O → Octets) (labels : N → Name)

@@ -2,8 +2,7 @@
 use Rattle.std.specs.Prelude.{ℕ, ◌+◌, ◌<◌, ◌≤◌, [], ◌∷◌, ◌++◌, length}
 use Rattle.domain_octets.specs.Words.{Octets}
 use Rattle.domain_names.specs.Words.{Name}
-use Rattle.domain_message.specs.Name.{labels_octets, pointer_octets, RunAt, IsBackward}
-use Rattle.domain_message.specs.declared.name.NameFault.{NameFault}
+use Rattle.domain_message.specs.{Name.{labels_octets, pointer_octets, RunAt, IsBackward}, declared.name.NameFault.NameFault}
 use Rattle.domain_message.specs.declared.name.NameFault.TheVariants as name_fault
 
 -- what is wrong where labels end that stand at a place, when so many octets of the name are read

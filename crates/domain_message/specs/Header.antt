@@ -2,8 +2,7 @@
 use Rattle.std.specs.Prelude.{◌≡◌, ℕ, ◌+◌, drop}
 use Rattle.domain_octets.specs.Words.{Octets}
 use Rattle.domain_names.specs.Words.{Name}
-use Rattle.domain_fields.specs.Field.{short, long}
-use Rattle.domain_fields.specs.Layout.{Layout, one, ◌▸◌, Begins}
+use Rattle.domain_fields.specs.{Field.{short, long}, Layout.{Layout, one, ◌▸◌, Begins}}
 use Rattle.domain_message.specs.Name.{NameAt}
 
 -- the type, the class, the TTL and the length of the data

@@ -1,10 +1,8 @@
 -- names in a message, where an end of a name may stand at an earlier place (RFC 1035,
 -- section 4.1.4)
-use Rattle.std.specs.Prelude.{◌≡◌, ℕ, ◌+◌, ◌/◌, ◌%◌, ◌<◌, [], ◌∷◌, ◌++◌, length, drop}
-use Rattle.std.specs.List.{AllByRecursion}
+use Rattle.std.specs.{Prelude.{◌≡◌, ℕ, ◌+◌, ◌/◌, ◌%◌, ◌<◌, [], ◌∷◌, ◌++◌, length, drop}, List.AllByRecursion}
 use Rattle.domain_octets.specs.Words.{Octets}
-use Rattle.domain_names.specs.Name.{IsLabel, IsName}
-use Rattle.domain_names.specs.Words.{Name}
+use Rattle.domain_names.specs.{Name.{IsLabel, IsName}, Words.Name}
 
 -- the octets of labels, before the root or a pointer
 abbrev pub labels_octets : Name → Octets

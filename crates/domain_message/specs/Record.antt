@@ -1,24 +1,13 @@
 -- records in a message (RFC 1035, section 4.1.3), and why none is read at a place
 use Rattle.std.specs.Prelude.{◌≡◌, ◌⊎◌, ℕ, ◌+◌, ◌<◌, ◌≤◌, List, length, Option, Some}
-use Rattle.domain_octets.specs.Limit.{IsOver}
-use Rattle.domain_octets.specs.Words.{Octets}
+use Rattle.domain_octets.specs.{Limit.IsOver, Words.Octets}
 use Rattle.domain_names.specs.Words.{Name}
 use Rattle.domain_record.specs.declared.record.Record.{Record}
-use Rattle.domain_rdata.specs.Kind.{Kind}
-use Rattle.domain_rdata.specs.Refusal.{AreOfKind, IsPart}
-use Rattle.domain_rdata.specs.Scan.{AreData}
-use Rattle.domain_rdata.specs.Zone.{kind_of}
-use Rattle.domain_rdata.specs.declared.zone_record_data.ZoneRecordData.{ZoneRecordData}
-use Rattle.domain_message.specs.Data.{parts_of, PartsAt, PartsFault, DataAt}
-use Rattle.domain_message.specs.Header.{HeaderAt}
-use Rattle.domain_message.specs.Refusal.{HeaderFault, message_error_of}
-use Rattle.domain_message.specs.declared.parts.Part.{Part}
-use Rattle.domain_message.specs.declared.name.NameFault.{NameFault}
-use Rattle.domain_message.specs.declared.error.MessageError.{MessageError}
-use Rattle.domain_message.specs.declared.error.MessageError.TheVariants.{ShortInput, BadLabelType}
-use Rattle.domain_message.specs.declared.error.MessageError.TheVariants.{ForwardPointer, LongName}
-use Rattle.domain_message.specs.declared.error.MessageError.TheVariants.{DataLength, IllegalData}
-use Rattle.domain_message.specs.declared.error.MessageError.TheVariants.{ShortBuf, OutOfMemory}
+use Rattle.domain_rdata.specs.{Kind.Kind, Refusal.{AreOfKind, IsPart}, Scan.AreData, Zone.kind_of, declared.zone_record_data.ZoneRecordData.ZoneRecordData}
+use Rattle.domain_message.specs.{Data.{parts_of, PartsAt, PartsFault, DataAt}, Header.HeaderAt, Refusal.{HeaderFault, message_error_of}}
+use Rattle.domain_message.specs.declared.{parts.Part.Part, name.NameFault.NameFault, error.MessageError.MessageError}
+use Rattle.domain_message.specs.declared.error.MessageError.TheVariants.{ShortInput, BadLabelType, ForwardPointer, LongName, DataLength, IllegalData, ShortBuf}
+use Rattle.domain_message.specs.declared.error.MessageError.TheVariants.{OutOfMemory}
 
 -- so many octets at a place are these data, and have these octets without compression
 pub record IsDataAt {O N : Type 0} (octets : O → Octets) (labels : N → Name) (message : Octets)

@@ -1,19 +1,13 @@
 -- why no name or no record is read at a place of a message
 use Rattle.std.specs.Prelude.{◌≡◌, ℕ, ◌+◌, ◌<◌, length, Option}
-use Rattle.domain_octets.specs.Limit.{IsOver}
-use Rattle.domain_octets.specs.Words.{Octets}
-use Rattle.domain_octets.specs.declared.error.AppendError.{AppendError}
+use Rattle.domain_octets.specs.{Limit.IsOver, Words.Octets, declared.error.AppendError.AppendError}
 use Rattle.domain_octets.specs.declared.error.AppendError.TheVariants as append_error
 use Rattle.domain_names.specs.Words.{Name}
-use Rattle.domain_message.specs.Name.{NameAt}
-use Rattle.domain_message.specs.Fault.{LabelsFault}
-use Rattle.domain_message.specs.declared.name.NameFault.{NameFault}
+use Rattle.domain_message.specs.{Name.NameAt, Fault.LabelsFault, declared.name.NameFault.NameFault}
 use Rattle.domain_message.specs.declared.name.NameFault.TheVariants as name_fault
 use Rattle.domain_message.specs.declared.error.MessageError.{MessageError}
-use Rattle.domain_message.specs.declared.error.MessageError.TheVariants.{ShortInput, BadLabelType}
-use Rattle.domain_message.specs.declared.error.MessageError.TheVariants.{ForwardPointer, LongName}
-use Rattle.domain_message.specs.declared.error.MessageError.TheVariants.{DataLength, IllegalData}
-use Rattle.domain_message.specs.declared.error.MessageError.TheVariants.{ShortBuf, OutOfMemory}
+use Rattle.domain_message.specs.declared.error.MessageError.TheVariants.{ShortInput, BadLabelType, ForwardPointer, LongName, DataLength, IllegalData, ShortBuf}
+use Rattle.domain_message.specs.declared.error.MessageError.TheVariants.{OutOfMemory}
 
 abbrev pub message_error_of : NameFault → MessageError
 message_error_of name_fault.ShortInput = ShortInput

@@ -1,11 +1,9 @@
 //! What stands before the data of a record in a message.
 ghost use Rattle.std.specs.Prelude.{◌≡◌, ◌+◌, ◌<◌, ◌≤◌, length, IfOk, IfErr};
-ghost use Rattle.domain_names.specs.Name.{wire_of};
-ghost use Rattle.domain_names.specs.Words.{Name};
+ghost use Rattle.domain_names.specs.{Name.wire_of, Words.Name};
 ghost use Rattle.domain_octets.specs.Words.{Octets};
 ghost use Rattle.domain_fields.specs.Layout.{Begins};
-ghost use Rattle.domain_message.specs.Header.{numbers, HeaderAt};
-ghost use Rattle.domain_message.specs.Refusal.{HeaderFault};
+ghost use Rattle.domain_message.specs.{Header.{numbers, HeaderAt}, Refusal.HeaderFault};
 
 use crate::NameFault;
 use crate::name::{NameOctets, name_at};

@@ -1,22 +1,16 @@
 //! What holds of names and records in messages and in lines. A caller calls the law in its body.
 ghost use Rattle.std.specs.Prelude.{IfSome, Option, ◌≡◌, ◌+◌, ◌++◌, ◌<◌, ℕ, length, drop};
 ghost use Rattle.domain_octets.specs.Words.{Octets};
-ghost use Rattle.domain_names.specs.Name.{wire_of, IsName};
-ghost use Rattle.domain_names.specs.Words.{Name};
-ghost use Rattle.domain_record.specs.RecordText.{record_text};
-ghost use Rattle.domain_rdata.specs.Exact.{HasExactText};
-ghost use Rattle.domain_rdata.specs.Zone.{data_text, rtype_of, wire_octets};
+ghost use Rattle.domain_names.specs.{Name.{wire_of, IsName}, Words.Name};
+ghost use Rattle.domain_record.specs.{RecordText.record_text, declared.record.Record.Record};
+ghost use Rattle.domain_rdata.specs.{Exact.HasExactText, Zone.{data_text, rtype_of, wire_octets}};
 ghost use Rattle.domain_rdata.specs.Scan.{AreData};
-ghost use Rattle.domain_message.specs.Written.{HasExactWire, record_octets};
-ghost use Rattle.domain_record.specs.declared.record.Record.{Record};
 ghost use Rattle.domain_rdata.specs.declared.zone_record_data.ZoneRecordData.{ZoneRecordData};
-ghost use Rattle.domain_message.specs.Alike.{AreAlike, IsOfMessage};
-ghost use Rattle.domain_message.specs.Entry.{LineText};
+ghost use Rattle.domain_message.specs.Written.{HasExactWire, record_octets};
+ghost use Rattle.domain_message.specs.{Alike.{AreAlike, IsOfMessage}, Entry.LineText};
 ghost use Rattle.domain_message.specs.Record.{RecordAt, RefusesRecord};
-ghost use Rattle.domain_message.specs.declared.error.MessageError.{MessageError};
-ghost use Rattle.domain_message.specs.Name.{NameAt};
-ghost use Rattle.domain_message.specs.Fault.{LabelsFault};
-ghost use Rattle.domain_message.specs.declared.name.NameFault.{NameFault};
+ghost use Rattle.domain_message.specs.{declared.error.MessageError.MessageError, Name.NameAt};
+ghost use Rattle.domain_message.specs.{Fault.LabelsFault, declared.name.NameFault.NameFault};
 
 use domain_base::ToName;
 use domain_octets::Octets;

@@ -1,9 +1,7 @@
 //! Names in a message, whose ends may stand at earlier places (RFC 1035, section 4.1.4).
 ghost use Rattle.std.specs.Prelude.{◌≡◌, ℕ, ◌+◌, ◌<◌, ◌≤◌, length, drop, IfOk, IfErr};
-ghost use Rattle.domain_names.specs.Name.{wire_of};
-ghost use Rattle.domain_names.specs.Words.{Name};
-ghost use Rattle.domain_message.specs.Name.{NameAt};
-ghost use Rattle.domain_message.specs.Fault.{EndFault, LabelsFault};
+ghost use Rattle.domain_names.specs.{Name.wire_of, Words.Name};
+ghost use Rattle.domain_message.specs.{Name.NameAt, Fault.{EndFault, LabelsFault}};
 ghost use Rattle.domain_message.specs.Refusal.{RefusesName};
 ghost use Rattle.domain_message.specs.Steps.{LabelsBetween, Stops, EndsWith, RunRead, LabelsRead};
 

@@ -2,11 +2,10 @@
 ghost use Rattle.std.specs.Prelude.{◌≡◌, ◌≤◌, ◌<◌, ◌+◌, ℕ, Option, length, IfOk, IfErr};
 ghost use Rattle.domain_octets.specs.Words.{Octets};
 ghost use Rattle.domain_names.specs.TextFault.{scan_fault_of};
-ghost use Rattle.domain_rdata.specs.Kind.{Kind};
-ghost use Rattle.domain_rdata.specs.Refusal.{OctetsFault};
-ghost use Rattle.domain_message.specs.Data.{DataAt};
-ghost use Rattle.domain_message.specs.Refusal.{CopyRefusal};
-ghost use Rattle.domain_message.specs.Record.{IsDataAt, RecordAt, OctetsRefusal, RefusesData, RefusesRecord};
+ghost use Rattle.domain_rdata.specs.{Kind.Kind, Refusal.OctetsFault};
+ghost use Rattle.domain_message.specs.{Data.DataAt, Refusal.CopyRefusal};
+ghost use Rattle.domain_message.specs.Record.{IsDataAt, RecordAt, OctetsRefusal, RefusesData};
+ghost use Rattle.domain_message.specs.Record.{RefusesRecord};
 
 use crate::MessageError;
 use crate::header::header_at;

@@ -1,11 +1,8 @@
 -- the end of a name that decides whether it is at or below another
-use Rattle.std.proofs.Common.{◌≡◌, ℕ, ◌≤◌, ◌<◌, List, [], ◌∷◌, ◌++◌, map, length, drop, sym, ap, ◌∙◌, arith, length-append}
+use Rattle.std.proofs.{Common.{◌≡◌, ℕ, ◌≤◌, ◌<◌, List, [], ◌∷◌, ◌++◌, map, length, drop, sym, ap, ◌∙◌, arith, length-append}, lemmas.List.length-map}
 use Rattle.std.specs.Char.{to_ascii_lowercase}
-use Rattle.std.proofs.lemmas.List.{length-map}
-use Rattle.domain_names.specs.Name.{wire_of, lowered, IsSame, IsAtOrBelow}
-use Rattle.domain_names.specs.Wire.{labels_of, IsWire}
-use Rattle.domain_names.proofs.CaseLemmas.{lowered_size, octets_from_same}
-use Rattle.domain_names.proofs.PartingLemmas.{wire_of-end}
+use Rattle.domain_names.specs.{Name.{wire_of, lowered, IsSame, IsAtOrBelow}, Wire.{labels_of, IsWire}}
+use Rattle.domain_names.proofs.{CaseLemmas.{lowered_size, octets_from_same}, PartingLemmas.wire_of-end}
 
 same_size : (a b : List ℕ) → IsWire a → IsWire b → IsSame (labels_of a) (labels_of b) → length a ≡ length b
 same_size a b a_wire b_wire same =

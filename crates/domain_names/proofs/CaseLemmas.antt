@@ -1,17 +1,10 @@
 -- names with A to Z as a to z, on the wire
 use Rattle.std.proofs.Common.{◌≡◌, ℕ, ◌-◌, ◌<◌, ◌≤◌, List, [], ◌∷◌, ◌++◌, length, map, take, drop, refl, sym, ap, ◌∙◌, arith, length-append}
-use Rattle.std.specs.Char.{to_ascii_lowercase}
-use Rattle.std.specs.List.{AllByRecursion}
-use Rattle.std.proofs.lemmas.List.{length-map, take-append-drop, drop_at, drop-append-le}
-use Rattle.std.proofs.lemmas.List.Elements.{All-map, All-weaker}
-use Rattle.std.proofs.lemmas.Bool.Decides.{nat_tests}
-use Rattle.std.specs.Bool.{Decides}
-use Rattle.std.specs.Cmp.Lexicographic.{pointwise_decides, bytes_decides}
-use Rattle.domain_names.specs.Name.{wire_of, lowered, IsLabel, IsName, IsSame, IsAtOrBelow, is_at_or_below}
-use Rattle.domain_names.specs.Wire.{labels_of, IsWire}
-use Rattle.domain_names.specs.Words.{Name}
-use Rattle.domain_names.proofs.WireLemmas.{labels_of-wire_of}
+use Rattle.std.proofs.lemmas.{List.{length-map, take-append-drop, drop_at, drop-append-le, Elements.{All-map, All-weaker}}, Bool.Decides.nat_tests}
 use Rattle.std.proofs.lemmas.Grind.{common_steps}
+use Rattle.std.specs.{Char.to_ascii_lowercase, List.AllByRecursion, Bool.Decides, Cmp.Lexicographic.{pointwise_decides, bytes_decides}}
+use Rattle.domain_names.specs.{Name.{wire_of, lowered, IsLabel, IsName, IsSame, IsAtOrBelow, is_at_or_below}, Wire.{labels_of, IsWire}, Words.Name}
+use Rattle.domain_names.proofs.WireLemmas.{labels_of-wire_of}
 
 wire_of-lowered : (labels : List (List ℕ)) → AllByRecursion IsLabel labels → wire_of (lowered labels) ≡ map to_ascii_lowercase (wire_of labels)
 wire_of-lowered [] all = refl

@@ -1,17 +1,12 @@
 -- how many labels two names share from the root on: a walk over labels counts since the last two that differ
 use Rattle.std.proofs.lemmas.Grind.{common_steps}
 use Rattle.std.proofs.Common.{◌≡◌, ℕ, ◌+◌, ◌-◌, Bool, true, false, cond, ◌&&◌, List, [], ◌∷◌, ◌++◌, map, length, reverse, take, drop, refl, sym, ap, ◌∙◌, inl}
-use Rattle.std.proofs.Common.{inr, ◌⊎◌, arith, nat_eq, Option, None, Some, rules}
-use Rattle.std.specs.List.{common_prefix_len}
-use Rattle.std.specs.declared.cmp.Ordering.{Ordering}
-use Rattle.std.specs.Cmp.Lexicographic.{pointwise, pointwise_decides, bytes_decides}
-use Rattle.std.specs.Char.{to_ascii_lowercase}
-use Rattle.std.proofs.lemmas.Bool.{cases_Bool, true≢false, and_parts, cases_lt}
+use Rattle.std.proofs.{Common.{inr, ◌⊎◌, arith, nat_eq, Option, None, Some, rules}, lemmas.Bool.{cases_Bool, true≢false, and_parts, cases_lt}}
 use Rattle.std.proofs.lemmas.List.{append-nil, length-drop, length-reverse, length-map, reverse-append, take-append-drop, drop-map}
+use Rattle.std.specs.{List.common_prefix_len, declared.cmp.Ordering.Ordering, Cmp.Lexicographic.{pointwise, pointwise_decides, bytes_decides}}
+use Rattle.std.specs.Char.{to_ascii_lowercase}
 use Rattle.domain_octets.proofs.StdLemmas.{and_true}
-use Rattle.domain_names.specs.Name.{lowered}
-use Rattle.domain_names.specs.Order.{common_labels, from_root}
-use Rattle.domain_names.specs.Parting.{EndsIn, Part, order_below}
+use Rattle.domain_names.specs.{Name.lowered, Order.{common_labels, from_root}, Parting.{EndsIn, Part, order_below}}
 use Rattle.domain_names.proofs.PartingLemmas.{from_root-part, octets_tie}
 
 -- ---- common fronts

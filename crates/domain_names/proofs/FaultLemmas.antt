@@ -1,15 +1,10 @@
 -- octets begin with a name or have a first fault
 use Rattle.std.proofs.Common.{◌≡◌, ℕ, ◌+◌, ◌<◌, ◌≤◌, List, [], ◌∷◌, ◌++◌, length, get_or, take, drop, refl, sym, ap, subst, ◌∙◌, arith, length-append}
-use Rattle.std.specs.Prelude.{codes, All}
-use Rattle.std.specs.List.{AllByRecursion}
 use Rattle.std.proofs.lemmas.List.{append-nil, append_assoc, take-append-drop, drop-drop, drop_at, take_at, drop_more, drop_all, length-drop, length-take-le}
-use Rattle.std.proofs.lemmas.List.Elements.{All-take, All-drop}
-use Rattle.domain_names.specs.Name.{wire_of, IsLabel, IsName}
-use Rattle.domain_names.specs.Wire.{labels_of, IsWire}
+use Rattle.std.{proofs.lemmas.{List.Elements.{All-take, All-drop}, Grind.common_steps}, specs.{Prelude.{codes, All}, List.AllByRecursion}}
+use Rattle.domain_names.specs.{Name.{wire_of, IsLabel, IsName}, Wire.{labels_of, IsWire}}
 use Rattle.domain_names.specs.Fault.{Fault, ends_early, malformed, NameFault, no_octet, bad_label, long_name, cut_label, past_label, WholeNameFault, in_name}
-use Rattle.domain_names.specs.Fault.{trailing}
-use Rattle.domain_names.proofs.WireLemmas.{length-wire_of, IsWire-wire_of}
-use Rattle.std.proofs.lemmas.Grind.{common_steps}
+use Rattle.domain_names.{specs.Fault.trailing, proofs.WireLemmas.{length-wire_of, IsWire-wire_of}}
 
 -- the octets are these labels and the root, after so many octets of the name, and then others
 pub record Reads (used : ℕ) (octets : List ℕ) (labels : List (List ℕ)) (after : List ℕ) : Type 0 where

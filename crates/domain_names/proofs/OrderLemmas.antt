@@ -1,13 +1,9 @@
 -- the canonical order by labels from the leaf
 use Rattle.std.proofs.Common.{◌≡◌, ◌≢◌, ℕ, zero, suc, ◌+◌, ◌-◌, ◌≤◌, List, [], ◌∷◌, ◌++◌, length, drop, map, refl, ◌∙◌, arith, rules}
-use Rattle.std.specs.declared.cmp.Ordering.{Ordering}
-use Rattle.std.specs.declared.cmp.Ordering.TheVariants.{Less, Equal, Greater}
-use Rattle.std.specs.Ordering.{ordering_then, nat_cmp}
-use Rattle.std.specs.Char.{to_ascii_lowercase}
-use Rattle.std.specs.Prelude.{nat_eq, true}
-use Rattle.std.specs.Cmp.Lexicographic.{slice_cmp, pointwise, bytes_decides}
-use Rattle.domain_names.specs.Order.{canonical_cmp}
 use Rattle.std.proofs.lemmas.Grind.{common_steps}
+use Rattle.std.specs.{declared.cmp.Ordering.{Ordering, TheVariants.{Less, Equal, Greater}}, Ordering.{ordering_then, nat_cmp}, Char.to_ascii_lowercase}
+use Rattle.std.specs.{Prelude.{nat_eq, true}, Cmp.Lexicographic.{slice_cmp, pointwise, bytes_decides}}
+use Rattle.domain_names.specs.Order.{canonical_cmp}
 
 -- what comes first decides where it tells apart
 pub decided : (first second both : Ordering) → both ≡ ordering_then first second → first ≢ Equal → first ≡ both

@@ -1,24 +1,12 @@
 -- the labels at which two names part, and what they decide
-use Rattle.std.proofs.Common.{w8, w64, Fits, ◌≡◌, ◌≢◌, ℕ, ◌≤◌, ◌<◌, ◌+◌, ◌-◌, List, [], ◌∷◌, ◌++◌, length, length-append, min, take, drop, get_or, map}
-use Rattle.std.proofs.Common.{refl, sym, ap, subst, ◌∙◌, arith, Option, None, Some, ◌⊎◌, inl, inr}
-use Rattle.std.specs.declared.cmp.Ordering.{Ordering}
-use Rattle.std.specs.declared.cmp.Ordering.TheVariants.{Less, Equal, Greater}
-use Rattle.std.specs.Ordering.{ordering_then, nat_cmp}
-use Rattle.std.specs.Char.{to_ascii_lowercase}
-use Rattle.std.specs.Cmp.{tied_itself, nat_cmp_is}
-use Rattle.std.specs.Cmp.Lexicographic.{slice_cmp, nat_list_cmp_total}
-use Rattle.std.specs.Array.{IsWholeChunk}
-use Rattle.std.specs.Int.{from_le_bytes}
-use Rattle.std.proofs.Math.Seq.{drop-append_seam}
-use Rattle.std.proofs.lemmas.List.{append-nil, append_assoc, drop-append-le, get_or-drop, length-drop, length-take-le, take-append-drop}
-use Rattle.std.proofs.lemmas.Nat.{le_bytes_8}
-use Rattle.domain_names.specs.Name.{wire_of}
-use Rattle.domain_names.specs.Wire.{labels_of, IsWire}
-use Rattle.domain_names.specs.Order.{canonical_cmp, from_root}
-use Rattle.domain_names.specs.Laws.{same_tied}
-use Rattle.domain_names.specs.Parting.{EndAlike, EndsIn, Part, order_below, unless_tied}
-use Rattle.domain_names.proofs.WireLemmas.{wire_is, length-wire}
+use Rattle.std.proofs.Common.{w8, w64, Fits, ◌≡◌, ◌≢◌, ℕ, ◌≤◌, ◌<◌, ◌+◌, ◌-◌, List, [], ◌∷◌, ◌++◌, length, length-append, min, take, drop, get_or, map, refl}
+use Rattle.std.proofs.{Common.{sym, ap, subst, ◌∙◌, arith, Option, None, Some, ◌⊎◌, inl, inr}, Math.Seq.drop-append_seam}
+use Rattle.std.proofs.lemmas.{List.{append-nil, append_assoc, drop-append-le, get_or-drop, length-drop, length-take-le, take-append-drop}, Nat.le_bytes_8}
 use Rattle.std.proofs.lemmas.Grind.{common_steps}
+use Rattle.std.specs.{declared.cmp.Ordering.{Ordering, TheVariants.{Less, Equal, Greater}}, Ordering.{ordering_then, nat_cmp}, Char.to_ascii_lowercase}
+use Rattle.std.specs.{Cmp.{tied_itself, nat_cmp_is, Lexicographic.{slice_cmp, nat_list_cmp_total}}, Array.IsWholeChunk, Int.from_le_bytes}
+use Rattle.domain_names.specs.{Name.wire_of, Wire.{labels_of, IsWire}, Order.{canonical_cmp, from_root}, Laws.same_tied}
+use Rattle.domain_names.{specs.Parting.{EndAlike, EndsIn, Part, order_below, unless_tied}, proofs.WireLemmas.{wire_is, length-wire}}
 
 -- the next label is the one right below the rest
 pub next_end : (name : List (List ℕ)) (below : Option (List ℕ)) (label : List ℕ) (here above : List (List ℕ))

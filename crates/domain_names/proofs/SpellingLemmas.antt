@@ -1,15 +1,11 @@
 -- names spelled by texts
 use Rattle.std.proofs.Common.{◌≡◌, ◌≢◌, ℕ, zero, suc, take, get_or, ◌+◌, ◌<◌, ◌≤◌, List, [], ◌∷◌, ◌++◌, Option, Some, None, length, drop, refl, sym, ap, subst}
 use Rattle.std.proofs.Common.{◌∙◌, ◌-◌, arith, length-append, slice_set, inl, inr, ◌⊎◌, rules}
-use Rattle.std.specs.Prelude.{IsSome, IfSome, IfNone, ◌↔◌}
-use Rattle.std.specs.List.{AllByRecursion}
-use Rattle.std.proofs.lemmas.List.{append-nil, append_assoc, drop-drop, length-drop, take_at, take_more}
-use Rattle.std.proofs.Math.Seq.{set-append_seam}
+use Rattle.std.proofs.{lemmas.{List.{append-nil, append_assoc, drop-drop, length-drop, take_at, take_more}, Grind.common_steps}, Math.Seq.set-append_seam}
+use Rattle.std.specs.{Prelude.{IsSome, IfSome, IfNone, ◌↔◌}, List.AllByRecursion}
 use Rattle.domain_names.specs.Name.{wire_of, IsLabel, IsName}
-use Rattle.domain_names.proofs.WireLemmas.{length-wire_of}
 use Rattle.domain_names.specs.Text.{symbol_at, LabelText, at_end, at_dot, octet, HasNoLabel, HasNoLabelAfter, LabelTexts, last, last_with_dot, dotted, NameText}
-use Rattle.domain_names.specs.Text.{root, of_labels, IsNoName}
-use Rattle.std.proofs.lemmas.Grind.{common_steps}
+use Rattle.domain_names.{specs.Text.{root, of_labels, IsNoName}, proofs.WireLemmas.length-wire_of}
 
 -- a label's text ends where no octet stands
 no_symbol_at_dot : (after : List ℕ) → symbol_at (46 ∷ after) ≡ None

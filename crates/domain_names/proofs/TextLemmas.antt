@@ -1,19 +1,9 @@
 -- the text of an octet in decimal digits, of octets that are written as they are, and of names
-use Rattle.std.proofs.Common.{arith, ℕ, ◌/◌, ◌%◌, ◌<◌, ◌≡◌, ◌∷◌, ◌++◌, ◌-◌, [], suc, List, true, false, refl, sym, ap, ◌∙◌}
-use Rattle.std.proofs.Common.{length, take, drop, slice_set, ◌≤◌, length-append, append_assoc, append-nil}
-use Rattle.std.specs.List.{All, AllByRecursion as ByRecursion, AllPass}
-use Rattle.std.specs.Str.{IsAscii}
-use Rattle.std.proofs.lemmas.Grind.{common_steps}
-use Rattle.std.proofs.lemmas.List.{length-set}
-use Rattle.std.proofs.lemmas.List.Elements.{All-head, All-tail}
-use Rattle.std.proofs.Math.Seq.{set-append_seam}
-use Rattle.std.proofs.lemmas.Str.{IsAscii-append}
-use Rattle.std.proofs.lemmas.Str.Ascii.{IsAscii-nil}
-use Rattle.std.proofs.lemmas.Fmt.{decimal_digit}
-use Rattle.std.specs.Fmt.{decimal}
-use Rattle.std.specs.Char.{is_ascii_graphic}
-use Rattle.domain_names.specs.Name.{wire_of, IsLabel, IsName}
-use Rattle.domain_names.specs.Text.{octet_text, label_text, dotted_text, name_text, is_special, is_ordinary}
+use Rattle.std.proofs.Common.{arith, ℕ, ◌/◌, ◌%◌, ◌<◌, ◌≡◌, ◌∷◌, ◌++◌, ◌-◌, [], suc, List, true, false, refl, sym, ap, ◌∙◌, length, take, drop, slice_set, ◌≤◌}
+use Rattle.std.proofs.{Common.{length-append, append_assoc, append-nil}, lemmas.{Grind.common_steps, List.{length-set, Elements.{All-head, All-tail}}}}
+use Rattle.std.proofs.{Math.Seq.set-append_seam, lemmas.{Str.{IsAscii-append, Ascii.IsAscii-nil}, Fmt.decimal_digit}}
+use Rattle.std.specs.{List.{All, AllByRecursion as ByRecursion, AllPass}, Str.IsAscii, Fmt.decimal, Char.is_ascii_graphic}
+use Rattle.domain_names.specs.{Name.{wire_of, IsLabel, IsName}, Text.{octet_text, label_text, dotted_text, name_text, is_special, is_ordinary}}
 use Rattle.domain_names.specs.Wire.{labels_of, IsWire}
 
 pub octet_text_in_digits : (c : ℕ) → c < 256 → is_special c ≡ false → is_ascii_graphic c ≡ false

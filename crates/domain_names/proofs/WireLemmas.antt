@@ -1,12 +1,7 @@
 -- a name read label by label
 use Rattle.std.proofs.Common.{◌≡◌, ℕ, zero, suc, ◌+◌, ◌*◌, ◌<◌, ◌≤◌, List, [], ◌∷◌, length, get_or, take, drop, refl, sym, ap, subst, ◌∙◌, arith, length-append}
-use Rattle.std.proofs.Common.{add-one, Some}
-use Rattle.std.specs.List.{AllByRecursion}
-use Rattle.std.proofs.lemmas.List.{take_at, drop_at, drop-drop, length-drop}
-use Rattle.domain_names.specs.Name.{wire_of, parent_of, IsLabel, IsName}
-use Rattle.domain_names.specs.Words.{Name}
-use Rattle.domain_names.specs.Wire.{labels_within, labels_of, IsWire}
-use Rattle.std.proofs.lemmas.Grind.{common_steps}
+use Rattle.std.{proofs.{Common.{add-one, Some}, lemmas.{List.{take_at, drop_at, drop-drop, length-drop}, Grind.common_steps}}, specs.List.AllByRecursion}
+use Rattle.domain_names.specs.{Name.{wire_of, parent_of, IsLabel, IsName}, Words.Name, Wire.{labels_within, labels_of, IsWire}}
 
 labels_within-wire_of : (labels : List (List ℕ)) (n : ℕ) → AllByRecursion IsLabel labels → length labels < n → labels_within n (wire_of labels) ≡ labels
 unfolding labels_within

@@ -5,8 +5,7 @@ use Rattle.domain_octets.specs.declared.error.ParseError.TheVariants as parse_er
 use Rattle.domain_octets.specs.Words.{Octets}
 use Rattle.domain_names.specs.declared.error.NameError.{NameError}
 use Rattle.domain_names.specs.declared.error.NameError.TheVariants as name_error
-use Rattle.domain_names.specs.Name.{wire_of, IsName}
-use Rattle.domain_names.specs.Words.{Name, Label}
+use Rattle.domain_names.specs.{Name.{wire_of, IsName}, Words.{Name, Label}}
 
 pub data Fault : Type 0 where
   ends_early : Fault

@@ -1,9 +1,6 @@
 -- names as lists of labels, leaf first, without the root
-use Rattle.std.specs.Prelude.{◌≡◌, ◌<◌, ◌≤◌, ◌-◌, ℕ, drop, [], ◌∷◌, ◌++◌, length, map, Bool, not, ◌&&◌, nat_eq, All, Option, None, Some}
-use Rattle.std.specs.Ordering.{on}
-use Rattle.std.specs.Cmp.Lexicographic.{pointwise}
-use Rattle.std.specs.Char.{to_ascii_lowercase}
-use Rattle.std.specs.List.{AllByRecursion, ends_with}
+use Rattle.std.specs.{Prelude.{◌≡◌, ◌<◌, ◌≤◌, ◌-◌, ℕ, drop, [], ◌∷◌, ◌++◌, length, map, Bool, not, ◌&&◌, nat_eq, All, Option, None, Some}, Ordering.on}
+use Rattle.std.specs.{Cmp.Lexicographic.pointwise, Char.to_ascii_lowercase, List.{AllByRecursion, ends_with}}
 use Rattle.domain_octets.specs.Words.{Octets}
 use Rattle.domain_names.specs.Words.{Label, Name}
 

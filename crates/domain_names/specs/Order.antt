@@ -1,12 +1,7 @@
 -- the canonical order of names (RFC 4034, section 6.1)
-use Rattle.std.specs.Prelude.{◌≡◌, ℕ, Bool, reverse, false, nat_eq}
-use Rattle.std.specs.declared.cmp.Ordering.{Ordering}
-use Rattle.std.specs.Ordering.{nat_cmp, on, is_lt, is_gt}
-use Rattle.std.specs.Cmp.{IsTotalOrder, on_total}
-use Rattle.std.specs.Cmp.Lexicographic.{slice_cmp, pointwise, nat_list_cmp_total, lists_total}
-use Rattle.std.specs.List.{common_prefix_len}
-use Rattle.domain_names.specs.Name.{lowered}
-use Rattle.domain_names.specs.Words.{Name}
+use Rattle.std.specs.{Prelude.{◌≡◌, ℕ, Bool, reverse, false, nat_eq}, declared.cmp.Ordering.Ordering, Ordering.{nat_cmp, on, is_lt, is_gt}}
+use Rattle.std.specs.{Cmp.{IsTotalOrder, on_total, Lexicographic.{slice_cmp, pointwise, nat_list_cmp_total, lists_total}}, List.common_prefix_len}
+use Rattle.domain_names.specs.{Name.lowered, Words.Name}
 
 -- what the order compares: the lowered labels, from the root outwards
 abbrev pub from_root : Name → Name

@@ -1,12 +1,9 @@
 -- names as text (RFC 1035, section 5.1; RFC 4343, section 2.1)
-use Rattle.std.specs.Prelude.{◌≡◌, ℕ, ◌+◌, ◌-◌, ◌*◌, ◌/◌, ◌%◌, ◌<◌, ◌≤◌, ◌⊎◌, ◌==◌, ◌||◌, ◌&&◌}
-use Rattle.std.specs.Prelude.{Bool, not, nat_le, [], ◌∷◌, ◌++◌, length, drop, Option, Some, None, if◌then◌else◌}
-use Rattle.std.specs.Char.{is_ascii_digit, is_ascii_graphic}
-use Rattle.std.specs.List.{flat_map}
+use Rattle.std.specs.Prelude.{◌≡◌, ℕ, ◌+◌, ◌-◌, ◌*◌, ◌/◌, ◌%◌, ◌<◌, ◌≤◌, ◌⊎◌, ◌==◌, ◌||◌, ◌&&◌, Bool, not, nat_le, [], ◌∷◌, ◌++◌, length, drop, Option, Some}
+use Rattle.std.specs.{Prelude.{None, if◌then◌else◌}, Char.{is_ascii_digit, is_ascii_graphic}, List.flat_map}
 use Rattle.domain_octets.specs.Words.{Octets}
 use Rattle.domain_octets.specs.Characters.{space, quote, dollar, left_parenthesis, right_parenthesis, dot, semicolon, at_sign, backslash, tilde, digit_zero}
-use Rattle.domain_names.specs.Name.{IsName}
-use Rattle.domain_names.specs.Words.{Name, Label}
+use Rattle.domain_names.specs.{Name.IsName, Words.{Name, Label}}
 
 -- a character from space to ~
 abbrev pub is_printable : ℕ → Bool

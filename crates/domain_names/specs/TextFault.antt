@@ -1,14 +1,10 @@
 -- why a text is not read as a name, and what errors of reading say
 use Rattle.std.specs.Prelude.{◌≡◌, ℕ, codes, Option, None, IsNone, length}
-use Rattle.domain_octets.specs.Limit.{IsOver}
-use Rattle.domain_octets.specs.declared.error.AppendError.{AppendError}
+use Rattle.domain_octets.specs.{Limit.IsOver, declared.error.AppendError.AppendError}
 use Rattle.domain_octets.specs.declared.error.AppendError.TheVariants as append_error
 use Rattle.domain_octets.specs.Words.{Octets}
-use Rattle.domain_names.specs.declared.error.ScanError.{ScanError}
-use Rattle.domain_names.specs.declared.error.ScanError.TheVariants.{EndOfEntry, Custom, ShortBuf, OutOfMemory}
-use Rattle.domain_names.specs.Name.{wire_of}
-use Rattle.domain_names.specs.Text.{NameText, IsNoName}
-use Rattle.domain_names.specs.Words.{Name}
+use Rattle.domain_names.specs.{declared.error.ScanError.{ScanError, TheVariants.{EndOfEntry, Custom, ShortBuf, OutOfMemory}}, Name.wire_of}
+use Rattle.domain_names.specs.{Text.{NameText, IsNoName}, Words.Name}
 
 -- why a builder did not take the octets of a token
 abbrev pub scan_error_of : AppendError → ScanError

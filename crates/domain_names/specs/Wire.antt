@@ -1,8 +1,7 @@
 -- names read from the wire
 use Rattle.std.specs.Prelude.{◌≡◌, ℕ, zero, suc, ◌==◌, [], ◌∷◌, length, take, drop, if◌then◌else◌}
 use Rattle.domain_octets.specs.Words.{Octets}
-use Rattle.domain_names.specs.Name.{wire_of, IsName}
-use Rattle.domain_names.specs.Words.{Name}
+use Rattle.domain_names.specs.{Name.{wire_of, IsName}, Words.Name}
 
 unfoldable pub labels_within : ℕ → Octets → Name
 labels_within zero octets = []

@@ -1,7 +1,5 @@
 //! The canonical order of values.
-ghost use Rattle.std.specs.Prelude.{◌≡◌};
-ghost use Rattle.std.specs.declared.cmp.Ordering.{Ordering};
-ghost use Rattle.std.specs.Cmp.{IsTotalOrder};
+ghost use Rattle.std.specs.{Prelude.◌≡◌, declared.cmp.Ordering.Ordering, Cmp.IsTotalOrder};
 
 use std::cmp::Ordering;
 

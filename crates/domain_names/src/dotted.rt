@@ -1,8 +1,7 @@
 //! Names as text with their last dot.
 ghost use Rattle.std.specs.Prelude.{◌≡◌, ◌∷◌, ◌++◌, [], Some};
 ghost use Rattle.domain_octets.specs.Characters.{dot};
-ghost use Rattle.domain_names.specs.Text.{name_text};
-ghost use Rattle.domain_names.specs.Wire.{labels_of, IsWire};
+ghost use Rattle.domain_names.specs.{Text.name_text, Wire.{labels_of, IsWire}};
 
 use crate::text;
 use std::fmt;

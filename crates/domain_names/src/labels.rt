@@ -1,6 +1,5 @@
 //! The labels of a name, one after another.
-ghost use Rattle.std.specs.Prelude.{◌≡◌, ◌<◌};
-ghost use Rattle.std.specs.Iterator.{YieldsFirstRef, item_count};
+ghost use Rattle.std.specs.{Prelude.{◌≡◌, ◌<◌}, Iterator.{YieldsFirstRef, item_count}};
 ghost use Rattle.domain_names.specs.Wire.{labels_of, IsWire};
 
 use crate::wire;

@@ -6,10 +6,9 @@ ghost use Rattle.domain_names.specs.Name.{wire_of, lowered, same_name};
 ghost use Rattle.domain_names.specs.Text.{name_text, NameText};
 ghost use Rattle.domain_names.specs.TextFault.{NameTextFault, scan_fault_of};
 ghost use Rattle.domain_names.specs.Order.{canonical_cmp, canonical_cmp_total};
-ghost use Rattle.domain_names.specs.Laws.{same_name_equiv, same_name_ties, same_name_fed, canonical_po};
-ghost use Rattle.domain_names.specs.Fault.{WholeNameFault, fault_of};
-ghost use Rattle.domain_names.specs.Wire.{labels_of, IsWire};
-ghost use Rattle.domain_names.specs.Words.{Name};
+ghost use Rattle.domain_names.specs.Laws.{same_name_equiv, same_name_ties, same_name_fed};
+ghost use Rattle.domain_names.specs.{Laws.canonical_po, Fault.{WholeNameFault, fault_of}};
+ghost use Rattle.domain_names.specs.{Wire.{labels_of, IsWire}, Words.Name};
 
 use crate::{MakeName, ParseError, ScanError, ToName, text, wire};
 use domain_octets::{

@@ -1,7 +1,6 @@
 //! Names in octets that they borrow: those of a message, or of another name.
 ghost use Rattle.std.specs.Prelude.{◌≡◌, ◌∷◌, [], Some, IsOk, IfNone, IfSome, IfOk, IfErr, OnErr};
-ghost use Rattle.domain_names.specs.Text.{name_text};
-ghost use Rattle.domain_names.specs.Name.{wire_of, IsName, parent_of};
+ghost use Rattle.domain_names.specs.{Text.name_text, Name.{wire_of, IsName, parent_of}};
 ghost use Rattle.domain_names.specs.Fault.{NameFault, WholeNameFault, fault_of, name_fault_of};
 ghost use Rattle.domain_names.specs.Wire.{labels_of, IsWire};
 ghost use Rattle.domain_octets.specs.Place.{Takes};

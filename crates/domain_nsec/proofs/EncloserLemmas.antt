@@ -1,27 +1,16 @@
 -- What the record that covers a name tells of it.
 use Rattle.std.proofs.Common.{ℕ, slice_get, Some, ◌≡◌, ◌≤◌, Bool, true, false, cond, not, ◌&&◌, ◌||◌, List, length, ltb, refl, sym, ap, ◌∙◌, subst, inl, inr}
-use Rattle.std.proofs.Common.{◌⊎◌, arith}
-use Rattle.std.specs.List.{list_any}
-use Rattle.std.proofs.lemmas.Bool.{cases_Bool, false≢true, true≢false, and_parts, and_from, or_cases, not-true, ltb-true, ltb-false}
-use Rattle.domain_zone.specs.Covering.{matches, covers, matches_or_covers}
-use Rattle.domain_zone.specs.Enclosers.{IsClosestEncloser, longer, exists_over, is_empty_nonterminal, IsShared}
-use Rattle.domain_names.specs.Name.{is_at_or_below, is_strictly_below, lowered, same_name}
-use Rattle.domain_names.specs.Order.{before}
-use Rattle.domain_names.specs.Words.{Name}
+use Rattle.std.proofs.{Common.{◌⊎◌, arith}, lemmas.Bool.{cases_Bool, false≢true, true≢false, and_parts, and_from, or_cases, not-true, ltb-true, ltb-false}}
+use Rattle.std.{proofs.lemmas.Grind.common_steps, specs.List.list_any}
+use Rattle.domain_zone.specs.{Covering.{matches, covers, matches_or_covers}, Enclosers.{IsClosestEncloser, longer, exists_over, is_empty_nonterminal, IsShared}}
 use Rattle.domain_zone.specs.Zone.{ZoneRecord, OwnersNeverDescend, owns, occludes, is_occluded, is_unoccluded, unoccluded_owners}
 use Rattle.domain_zone.proofs.NameLemmas.{before_order, one_lowered, same_itself, same_is, before_left, before_right, below_itself, below_trans, below_from}
 use Rattle.domain_zone.proofs.NameLemmas.{below_between, below_longer, lowered_below, same_lowered}
-use Rattle.domain_zone.proofs.OwnerLemmas.{any_owner, any_in, in_any, owners_are, below_occluder, occluder_owns}
-use Rattle.domain_zone.proofs.PairLemmas.{In, all_in, le_lt}
-use Rattle.domain_zone.proofs.PlaceLemmas.{one_place}
-use Rattle.domain_zone.proofs.SharedLemmas.{either_way, shared_is}
-use Rattle.domain_zone.proofs.ZoneLemmas.{apart_right}
-use Rattle.domain_zone.proofs.FindLemmas.{in_at}
-use Rattle.domain_nsec.specs.Chain.{Link, IsChain}
-use Rattle.domain_nsec.specs.Meaning.{TellsEmpty, TellsEncloser, IsCoveredBy, CoversBelowOccluders}
-use Rattle.domain_nsec.specs.declared.config.GenerateNsecConfig.{GenerateNsecConfig}
-use Rattle.domain_nsec.proofs.ChainLemmas.{answered_once, owner_gap, link_owner, link_next}
-use Rattle.std.proofs.lemmas.Grind.{common_steps}
+use Rattle.domain_zone.proofs.{OwnerLemmas.{any_owner, any_in, in_any, owners_are, below_occluder, occluder_owns}, PairLemmas.{In, all_in, le_lt}}
+use Rattle.domain_zone.proofs.{PlaceLemmas.one_place, SharedLemmas.{either_way, shared_is}, ZoneLemmas.apart_right, FindLemmas.in_at}
+use Rattle.domain_names.specs.{Name.{is_at_or_below, is_strictly_below, lowered, same_name}, Order.before, Words.Name}
+use Rattle.domain_nsec.specs.{Chain.{Link, IsChain}, Meaning.{TellsEmpty, TellsEncloser, IsCoveredBy, CoversBelowOccluders}}
+use Rattle.domain_nsec.{specs.declared.config.GenerateNsecConfig.GenerateNsecConfig, proofs.ChainLemmas.{answered_once, owner_gap, link_owner, link_next}}
 
 module _ (L : List ZoneRecord) (a : Name) (order : OwnersNeverDescend L) (config : GenerateNsecConfig) (links : List Link)
     (chain : IsChain L a config links) where

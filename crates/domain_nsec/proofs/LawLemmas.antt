@@ -1,11 +1,8 @@
 -- Names that are the same are one name to a chain.
-use Rattle.std.proofs.Common.{◌≡◌, ℕ, Bool, true, not, ◌&&◌, List, ap}
-use Rattle.std.specs.Prelude.{filter}
-use Rattle.domain_names.specs.Name.{lowered, same_name}
-use Rattle.domain_names.specs.Words.{Name}
+use Rattle.std.{proofs.Common.{◌≡◌, ℕ, Bool, true, not, ◌&&◌, List, ap}, specs.Prelude.filter}
+use Rattle.domain_names.specs.{Name.{lowered, same_name}, Words.Name}
 use Rattle.domain_base.specs.Types.{ns}
-use Rattle.domain_zone.specs.Zone.{ZoneRecord, has_type}
-use Rattle.domain_zone.proofs.NameLemmas.{one_lowered, lowered_below, same_lowered}
+use Rattle.domain_zone.{specs.Zone.{ZoneRecord, has_type}, proofs.NameLemmas.{one_lowered, lowered_below, same_lowered}}
 use Rattle.domain_nsec.specs.Chain.{nsec_lists, is_listed}
 
 pub bits_alike : (L : List ZoneRecord) (a : Name) (assume : Bool) (x y : Name) → same_name x y ≡ true → (t : ℕ)

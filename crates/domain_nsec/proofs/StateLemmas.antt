@@ -1,21 +1,13 @@
 -- The state of the generator, and what each way through its body leaves.
 use Rattle.std.proofs.Common.{◌≡◌, ℕ, Bool, List, [], ◌∷◌, ◌++◌, map, Some, true, false, ◌&&◌, ◌||◌, sym, ap, ◌∙◌, append_assoc, arith}
-use Rattle.std.specs.List.{list_any}
-use Rattle.std.proofs.lemmas.List.{map-append}
-use Rattle.std.proofs.lemmas.List.Folds.{list_any-append}
+use Rattle.std.{proofs.lemmas.{List.{map-append, Folds.list_any-append}, Grind.common_steps}, specs.List.list_any}
 use Rattle.domain_bitmap.specs.Bitmap.{bitmap_octets}
-use Rattle.domain_names.specs.Name.{same_name}
-use Rattle.domain_names.specs.Words.{Name}
-use Rattle.domain_zone.specs.Owners.{OwnerRecords, owner_at, owners_with_records}
-use Rattle.domain_zone.specs.Soa.{soa_of}
-use Rattle.domain_zone.specs.Zone.{ZoneRecord, has_clash, has_unequal_ttls, unoccluded_owners}
-use Rattle.domain_zone.specs.declared.soa.ApexSoa.{ApexSoa}
+use Rattle.domain_names.specs.{Name.same_name, Words.Name}
+use Rattle.domain_zone.specs.{Owners.{OwnerRecords, owner_at, owners_with_records}, Soa.soa_of}
+use Rattle.domain_zone.specs.{Zone.{ZoneRecord, has_clash, has_unequal_ttls, unoccluded_owners}, declared.soa.ApexSoa.ApexSoa}
 use Rattle.domain_zone.proofs.GivenLemmas.{name_of, clashes_in, next_is_owner, all_given, even_given, uneven_next}
-use Rattle.domain_nsec.specs.Chain.{links_in, nsec_lists, is_listed, IsChain}
-use Rattle.domain_nsec.specs.declared.config.GenerateNsecConfig.{GenerateNsecConfig}
-use Rattle.domain_nsec.specs.declared.owners.Owners.{Owners}
+use Rattle.domain_nsec.specs.{Chain.{links_in, nsec_lists, is_listed, IsChain}, declared.{config.GenerateNsecConfig.GenerateNsecConfig, owners.Owners.Owners}}
 use Rattle.domain_nsec.proofs.ChainLemmas.{chain_of}
-use Rattle.std.proofs.lemmas.Grind.{common_steps}
 
 -- a zone to sign: its records, its apex and how its chain is made
 pub record ZoneToSign : Type 0 where

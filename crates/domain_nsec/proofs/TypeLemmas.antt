@@ -1,13 +1,9 @@
 -- The types that NSEC records list.
-use Rattle.std.proofs.Common.{◌≡◌, ℕ, ◌<◌, Bool, true, false, ◌&&◌, ◌||◌, List, [], ap, ◌∙◌, nat_eq, arith}
+use Rattle.std.proofs.{Common.{◌≡◌, ℕ, ◌<◌, Bool, true, false, ◌&&◌, ◌||◌, List, [], ap, ◌∙◌, nat_eq, arith}, lemmas.Grind.common_steps}
 use Rattle.domain_octets.proofs.StdLemmas.{or_false}
-use Rattle.domain_bitmap.specs.Bitmap.{bitmap_octets}
-use Rattle.domain_bitmap.specs.Builder.{holds}
-use Rattle.domain_bitmap.proofs.BitmapLemmas.{bitmap_octets-same}
-use Rattle.domain_zone.specs.Zone.{ZoneRecord, lists_type}
-use Rattle.domain_zone.proofs.TypeLemmas.{holds_nothing}
+use Rattle.domain_bitmap.{specs.{Bitmap.bitmap_octets, Builder.holds}, proofs.BitmapLemmas.bitmap_octets-same}
+use Rattle.domain_zone.{specs.Zone.{ZoneRecord, lists_type}, proofs.TypeLemmas.holds_nothing}
 use Rattle.domain_nsec.specs.Chain.{is_listed}
-use Rattle.std.proofs.lemmas.Grind.{common_steps}
 
 pub common_two : (cut : Bool) (v0 v1 v2 : List ℕ) → v0 ≡ [] → ((t : ℕ) → t < 65536 → holds v1 t ≡ (nat_eq t 46 || holds v0 t))
     → ((t : ℕ) → t < 65536 → holds v2 t ≡ (nat_eq t 47 || holds v1 t)) → (t : ℕ) → t < 65536

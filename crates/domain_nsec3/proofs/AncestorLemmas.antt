@@ -1,20 +1,11 @@
 -- The names above a name, and those above the owners of a list, collected one owner after another.
 use Rattle.std.proofs.Common.{◌≡◌, ℕ, ◌+◌, ◌≤◌, ◌<◌, Bool, true, false, cond, ◌||◌, List, [], ◌∷◌, ◌++◌, length, refl, sym, ap, ◌∙◌, arith, inl, inr}
-use Rattle.std.specs.Prelude.{nat_lt}
-use Rattle.std.specs.List.{AllByRecursion, list_any}
-use Rattle.std.proofs.lemmas.Bool.{cases_Bool, false≢true, leb-true, or_cases, or_left, or_right}
-use Rattle.std.proofs.lemmas.Bool.Decides.{nat_tests}
-use Rattle.std.proofs.lemmas.List.{append-nil}
-use Rattle.std.proofs.lemmas.List.Folds.{list_any-append}
-use Rattle.domain_names.specs.Name.{is_at_or_below, is_strictly_below, same_name}
-use Rattle.domain_names.specs.Words.{Name}
-use Rattle.domain_zone.proofs.NameLemmas.{one_lowered, same_itself, below_itself, below_trans, below_longer, strictly_from, below_parent}
-use Rattle.domain_zone.proofs.PairLemmas.{all_in}
-use Rattle.domain_zone.proofs.OwnerLemmas.{any_in}
-use Rattle.domain_zone.proofs.ZoneLemmas.{weaker, all_both}
-use Rattle.domain_nsec3.specs.Ancestors.{above_with_more, HoldsAncestors}
-use Rattle.domain_nsec3.proofs.SharedLemmas.{Shares, at_length, cons_below}
-use Rattle.std.proofs.lemmas.Grind.{common_steps}
+use Rattle.std.proofs.lemmas.{Bool.{cases_Bool, false≢true, leb-true, or_cases, or_left, or_right, Decides.nat_tests}, List.{append-nil, Folds.list_any-append}}
+use Rattle.std.{proofs.lemmas.Grind.common_steps, specs.{Prelude.nat_lt, List.{AllByRecursion, list_any}}}
+use Rattle.domain_names.specs.{Name.{is_at_or_below, is_strictly_below, same_name}, Words.Name}
+use Rattle.domain_zone.proofs.{NameLemmas.{one_lowered, same_itself, below_itself, below_trans, below_longer, strictly_from, below_parent}, PairLemmas.all_in}
+use Rattle.domain_zone.proofs.{OwnerLemmas.any_in, ZoneLemmas.{weaker, all_both}}
+use Rattle.domain_nsec3.{specs.Ancestors.{above_with_more, HoldsAncestors}, proofs.SharedLemmas.{Shares, at_length, cons_below}}
 
 pub less : (m n : ℕ) → m < n → nat_lt m n ≡ true
 less m n h = grind (arith, nat_tests)

@@ -1,23 +1,12 @@
 -- The owners of NSEC3 records ascend in canonical order, as their hashes do.
-use Rattle.std.proofs.Common.{◌≡◌, ℕ, ◌<◌, List, [], ◌∷◌, map, refl, sym, ap, ◌∙◌, subst}
-use Rattle.std.specs.Prelude.{All}
-use Rattle.std.specs.List.{AllByRecursion}
-use Rattle.std.specs.List.Sorted.{IsStrictlySortedBy}
-use Rattle.std.specs.Cmp.Lexicographic.{slice_cmp}
-use Rattle.std.specs.Ordering.{nat_cmp, ordering_then}
+use Rattle.std.proofs.{Common.{◌≡◌, ℕ, ◌<◌, List, [], ◌∷◌, map, refl, sym, ap, ◌∙◌, subst}, lemmas.{Cmp.tied_itself, List.Elements.recursion_from_All}}
+use Rattle.std.specs.{Prelude.All, List.{AllByRecursion, Sorted.IsStrictlySortedBy}, Cmp.Lexicographic.slice_cmp, Ordering.{nat_cmp, ordering_then}}
 use Rattle.std.specs.declared.cmp.Ordering.TheVariants.{Less}
-use Rattle.std.proofs.lemmas.Cmp.{tied_itself}
-use Rattle.std.proofs.lemmas.List.Elements.{recursion_from_All}
 use Rattle.domain_codecs.proofs.OrderLemmas.{lower_keeps}
-use Rattle.domain_names.specs.Order.{canonical_cmp, canonical_cmp_total}
-use Rattle.domain_names.proofs.OrderLemmas.{canonical_cmp-more}
-use Rattle.domain_zone.specs.Covering.{pairs}
-use Rattle.domain_names.specs.Words.{Name}
-use Rattle.domain_zone.specs.Zone.{ZoneRecord}
-use Rattle.domain_nsec3.specs.Chain.{HashedLink, HashedName, IsHashedChain, IsOfChain, cycle, ends, ends_of, hashed_owner}
-use Rattle.domain_nsec3.specs.Config.{ChainConfig}
-use Rattle.domain_nsec3.specs.Meaning.{OwnersAscend}
-use Rattle.domain_nsec3.proofs.TextLemmas.{lower_text}
+use Rattle.domain_names.{specs.{Order.{canonical_cmp, canonical_cmp_total}, Words.Name}, proofs.OrderLemmas.canonical_cmp-more}
+use Rattle.domain_zone.specs.{Covering.pairs, Zone.ZoneRecord}
+use Rattle.domain_nsec3.specs.{Chain.{HashedLink, HashedName, IsHashedChain, IsOfChain, cycle, ends, ends_of, hashed_owner}, Config.ChainConfig}
+use Rattle.domain_nsec3.{specs.Meaning.OwnersAscend, proofs.TextLemmas.lower_text}
 
 before_owner : (a : Name) (u v : List ℕ) → All (λ o. o < 256) u → All (λ o. o < 256) v → slice_cmp nat_cmp u v ≡ Less
     → canonical_cmp (hashed_owner a u) (hashed_owner a v) ≡ Less

@@ -1,41 +1,20 @@
 -- A chain over entries is the chain of the zone where the entries are its names with their types.
 use Rattle.std.proofs.Common.{◌≡◌, ℕ, zero, suc, ◌+◌, ◌<◌, ◌≤◌, true, List, [], ◌∷◌, ◌++◌, map, length, get_or, take, Some, None, Ok, refl, sym, ap, ◌∙◌, subst}
-use Rattle.std.proofs.Common.{arith, inl, inr, add-one}
-use Rattle.std.specs.Prelude.{All, IsPermutation, ◌||◌, slice_get}
-use Rattle.std.specs.List.{AllByRecursion, list_any}
-use Rattle.std.specs.List.Sorted.{IsStrictlySortedBy}
-use Rattle.std.specs.Ordering.{nat_cmp}
+use Rattle.std.proofs.{Common.{arith, inl, inr, add-one}, lemmas.{Bool.cases_lt, List.{get_or_default, get_or-map, length-map, take_more}}}
+use Rattle.std.proofs.lemmas.{Option.slice_get-get_or, List.Elements.{recursion_from_All, All-from_recursion}}
+use Rattle.std.proofs.lemmas.{List.Sorted.{list_any-IsPermutation, IsPermutation-map, All-permutation, length_permutation}, Grind.common_steps}
+use Rattle.std.specs.{Prelude.{All, IsPermutation, ◌||◌, slice_get}, List.{AllByRecursion, list_any, Sorted.IsStrictlySortedBy}, Ordering.nat_cmp}
 use Rattle.std.specs.Cmp.Lexicographic.{slice_cmp}
-use Rattle.std.proofs.lemmas.Bool.{cases_lt}
-use Rattle.std.proofs.lemmas.List.{get_or_default, get_or-map, length-map, take_more}
-use Rattle.std.proofs.lemmas.Option.{slice_get-get_or}
-use Rattle.std.proofs.lemmas.List.Elements.{recursion_from_All, All-from_recursion}
-use Rattle.std.proofs.lemmas.List.Sorted.{list_any-IsPermutation, IsPermutation-map, All-permutation, length_permutation}
 use Rattle.domain_base.specs.Classes.{in_class}
-use Rattle.domain_names.specs.Name.{same_name}
+use Rattle.domain_names.specs.{Name.same_name, Words.Name}
 use Rattle.domain_bitmap.specs.Bitmap.{bitmap_octets}
-use Rattle.domain_zone.specs.Covering.{pairs}
-use Rattle.domain_names.specs.Words.{Name}
-use Rattle.domain_zone.specs.Soa.{chain_ttl, soa_of}
-use Rattle.domain_zone.specs.Zone.{ZoneRecord}
-use Rattle.domain_zone.specs.declared.soa.ApexSoa.{ApexSoa}
-use Rattle.domain_zone.proofs.NameLemmas.{same_itself}
-use Rattle.domain_zone.proofs.OwnerLemmas.{in_any}
-use Rattle.domain_zone.proofs.PairLemmas.{all_from_in}
-use Rattle.domain_zone.proofs.ZoneLemmas.{weaker}
-use Rattle.domain_nsec3.specs.Chain.{HashedLink, HashedName, IsHash, IsHashedChain, IsOfChain, ends, ends_of, hashed_owner}
-use Rattle.domain_nsec3.specs.Config.{ChainConfig, Hash}
-use Rattle.domain_nsec3.specs.Faults.{hash_fault}
-use Rattle.domain_nsec3.specs.Owners.{is_chain_name, nsec3_lists}
+use Rattle.domain_zone.specs.{Covering.pairs, Soa.{chain_ttl, soa_of}, Zone.ZoneRecord, declared.soa.ApexSoa.ApexSoa}
+use Rattle.domain_zone.proofs.{NameLemmas.same_itself, OwnerLemmas.in_any, PairLemmas.all_from_in, ZoneLemmas.weaker}
+use Rattle.domain_nsec3.specs.{Chain.{HashedLink, HashedName, IsHash, IsHashedChain, IsOfChain, ends, ends_of, hashed_owner}, Config.{ChainConfig, Hash}}
+use Rattle.domain_nsec3.specs.{Faults.hash_fault, Owners.{is_chain_name, nsec3_lists}}
 use Rattle.domain_nsec3.specs.Steps.{Common, Entry, HashedEntry, HashedTypes, without_hash, without_name, IsHashed, link_to, links_from, chain_links}
-use Rattle.domain_nsec3.specs.Steps.{IsOrderedChain}
-use Rattle.domain_nsec3.specs.Meaning.{IsRecordOf}
-use Rattle.domain_nsec3.specs.StepView.{as_hashed_types, links_in}
-use Rattle.domain_nsec3.specs.declared.chain.HashedChain.{HashedChain}
-use Rattle.domain_nsec3.specs.declared.hash.Hashed.{Hashed}
-use Rattle.domain_nsec3.proofs.TextLemmas.{sound_some, sound_short}
-use Rattle.domain_nsec3.proofs.FaultLemmas.{names_of}
-use Rattle.std.proofs.lemmas.Grind.{common_steps}
+use Rattle.domain_nsec3.specs.{Steps.IsOrderedChain, Meaning.IsRecordOf, StepView.{as_hashed_types, links_in}, declared.chain.HashedChain.HashedChain}
+use Rattle.domain_nsec3.{specs.declared.hash.Hashed.Hashed, proofs.{TextLemmas.{sound_some, sound_short}, FaultLemmas.names_of}}
 
 -- ---- a list that was hashed, and then put in order
 

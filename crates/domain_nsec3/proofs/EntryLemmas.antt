@@ -1,31 +1,14 @@
 -- Names with their types.
 use Rattle.std.proofs.Common.{◌≡◌, ℕ, zero, suc, ◌≤◌, true, false, List, [], ◌∷◌, ◌++◌, map, length, get_or, refl, sym, ap, ◌∙◌, subst, arith}
-use Rattle.std.specs.Prelude.{All}
-use Rattle.std.specs.List.{AllByRecursion, list_any}
-use Rattle.std.specs.List.Sorted.{IsStrictlySortedBy}
-use Rattle.std.proofs.lemmas.List.Elements.{recursion_from_All, All-from_recursion}
-use Rattle.domain_bitmap.specs.Bitmap.{bitmap_octets}
-use Rattle.domain_bitmap.specs.Builder.{holds}
-use Rattle.domain_bitmap.proofs.BitmapLemmas.{bitmap_octets-same}
-use Rattle.domain_zone.specs.Enclosers.{is_empty_nonterminal}
-use Rattle.domain_names.specs.Name.{same_name}
-use Rattle.domain_names.specs.Order.{canonical_cmp}
-use Rattle.domain_names.specs.Words.{Name}
-use Rattle.domain_zone.specs.Zone.{ZoneRecord}
-use Rattle.domain_zone.proofs.NameLemmas.{same_itself}
-use Rattle.domain_zone.proofs.OwnerLemmas.{in_any}
-use Rattle.domain_zone.proofs.PairLemmas.{all_from_in}
-use Rattle.domain_zone.proofs.ZoneLemmas.{all_both}
-use Rattle.domain_zone.proofs.TypeLemmas.{holds_nothing}
-use Rattle.domain_nsec3.specs.Ancestors.{IsListOf}
-use Rattle.domain_nsec3.specs.Config.{ChainConfig}
-use Rattle.domain_nsec3.specs.Owners.{original_owners, nsec3_lists, is_empty}
-use Rattle.domain_nsec3.specs.Steps.{Entry, entries_of, no_types, without_name, without_types, AreOriginalOwners}
-use Rattle.domain_nsec3.specs.StepView.{as_hashed_entry, as_hashed_types}
-use Rattle.domain_nsec3.specs.declared.hash.Hashed.{Hashed}
-use Rattle.domain_nsec3.proofs.ChainLemmas.{AreChainNames}
-use Rattle.domain_nsec3.proofs.OwnerLemmas.{names_are, empty_are}
-use Rattle.std.proofs.lemmas.Grind.{common_steps}
+use Rattle.std.proofs.lemmas.{List.Elements.{recursion_from_All, All-from_recursion}, Grind.common_steps}
+use Rattle.std.specs.{Prelude.All, List.{AllByRecursion, list_any, Sorted.IsStrictlySortedBy}}
+use Rattle.domain_bitmap.{specs.{Bitmap.bitmap_octets, Builder.holds}, proofs.BitmapLemmas.bitmap_octets-same}
+use Rattle.domain_zone.specs.{Enclosers.is_empty_nonterminal, Zone.ZoneRecord}
+use Rattle.domain_zone.proofs.{NameLemmas.same_itself, OwnerLemmas.in_any, PairLemmas.all_from_in, ZoneLemmas.all_both, TypeLemmas.holds_nothing}
+use Rattle.domain_names.specs.{Name.same_name, Order.canonical_cmp, Words.Name}
+use Rattle.domain_nsec3.specs.{Ancestors.IsListOf, Config.ChainConfig, Owners.{original_owners, nsec3_lists, is_empty}}
+use Rattle.domain_nsec3.specs.{Steps.{Entry, entries_of, no_types, without_name, without_types, AreOriginalOwners}, StepView.{as_hashed_entry, as_hashed_types}}
+use Rattle.domain_nsec3.{specs.declared.hash.Hashed.Hashed, proofs.{ChainLemmas.AreChainNames, OwnerLemmas.{names_are, empty_are}}}
 
 -- ---- names with their types
 

@@ -1,36 +1,21 @@
 -- The faults of hashing: the first name that is refused in the list that is hashed is the first in the order of hashing, and two
 -- neighbours with one hash are two names.
-use Rattle.std.proofs.Common.{◌≡◌, ◌≢◌, ℕ, zero, suc, ◌+◌, ◌<◌, true, false, not, ◌&&◌, ◌||◌, cond, List, [], ◌∷◌, ◌++◌, map, length, get_or, swap}
-use Rattle.std.proofs.Common.{None, Ok, refl, sym, ap, ◌∙◌, subst, inl, inr, ◌⊎◌, arith, IsPermutation}
-use Rattle.std.specs.Prelude.{All}
-use Rattle.std.specs.List.{AllByRecursion, list_any}
-use Rattle.std.specs.List.Sorted.{IsStrictlySortedBy}
-use Rattle.std.specs.Ordering.{is_lt, nat_cmp}
-use Rattle.std.specs.declared.cmp.Ordering.TheVariants.{Less}
-use Rattle.std.specs.Cmp.Lexicographic.{slice_cmp, nat_list_cmp_total}
-use Rattle.std.proofs.lemmas.Bool.{cases_Bool, cases_eq, false≢true, true≢false, or_cases, or_right}
-use Rattle.std.proofs.lemmas.Cmp.{tied_itself}
-use Rattle.std.proofs.lemmas.List.{get_or-map, length-map}
-use Rattle.std.proofs.lemmas.List.Edits.{Swapped, swapped_from_swap, length-swap}
-use Rattle.std.proofs.lemmas.List.Elements.{recursion_from_All}
-use Rattle.std.proofs.lemmas.List.Sorted.{IsPermutation-keeps, IsPermutation-map, list_any-IsPermutation}
-use Rattle.domain_names.specs.Name.{lowered, wire_of, same_name}
-use Rattle.domain_names.specs.Order.{canonical_cmp, before}
+use Rattle.std.proofs.Common.{◌≡◌, ◌≢◌, ℕ, zero, suc, ◌+◌, ◌<◌, true, false, not, ◌&&◌, ◌||◌, cond, List, [], ◌∷◌, ◌++◌, map, length, get_or, swap, None, Ok}
+use Rattle.std.proofs.Common.{refl, sym, ap, ◌∙◌, subst, inl, inr, ◌⊎◌, arith, IsPermutation}
+use Rattle.std.proofs.lemmas.{Bool.{cases_Bool, cases_eq, false≢true, true≢false, or_cases, or_right}, Cmp.tied_itself, List.{get_or-map, length-map}}
+use Rattle.std.proofs.lemmas.List.{Edits.{Swapped, swapped_from_swap, length-swap}, Elements.recursion_from_All}
+use Rattle.std.proofs.lemmas.{List.Sorted.{IsPermutation-keeps, IsPermutation-map, list_any-IsPermutation}, Grind.common_steps}
+use Rattle.std.specs.{Prelude.All, List.{AllByRecursion, list_any, Sorted.IsStrictlySortedBy}, Ordering.{is_lt, nat_cmp}}
+use Rattle.std.specs.{declared.cmp.Ordering.TheVariants.Less, Cmp.Lexicographic.{slice_cmp, nat_list_cmp_total}}
+use Rattle.domain_names.specs.{Name.{lowered, wire_of, same_name}, Order.{canonical_cmp, before}, Words.Name}
 use Rattle.domain_hasher.specs.declared.error.Nsec3HashError.{Nsec3HashError}
 use Rattle.domain_hasher.specs.declared.error.Nsec3HashError.TheVariants.{Hasher, AppendError, OwnerHashError, Nsec3NameTooLong, CollisionDetected, OutOfMemory}
-use Rattle.domain_names.specs.Words.{Name}
-use Rattle.domain_zone.specs.Zone.{ZoneRecord}
-use Rattle.domain_zone.proofs.NameLemmas.{before_order, before_left, one_lowered, same_itself, same_lowered}
-use Rattle.domain_zone.proofs.PairLemmas.{In, all_in}
-use Rattle.domain_zone.proofs.OwnerLemmas.{any_in, in_any}
-use Rattle.domain_zone.proofs.ZoneLemmas.{weaker, all_both, apart_left}
-use Rattle.domain_zone.proofs.FindLemmas.{in_middle}
-use Rattle.domain_nsec3.specs.Chain.{HashedLink, HashedName, IsHashedChain, IsOfChain}
-use Rattle.domain_nsec3.specs.Config.{ChainConfig, Hash, hash_name, hash_of}
+use Rattle.domain_zone.{specs.Zone.ZoneRecord, proofs.{NameLemmas.{before_order, before_left, one_lowered, same_itself, same_lowered}, PairLemmas.{In, all_in}}}
+use Rattle.domain_zone.proofs.{OwnerLemmas.{any_in, in_any}, ZoneLemmas.{weaker, all_both, apart_left}, FindLemmas.in_middle}
+use Rattle.domain_nsec3.specs.{Chain.{HashedLink, HashedName, IsHashedChain, IsOfChain}, Config.{ChainConfig, Hash, hash_name, hash_of}}
 use Rattle.domain_nsec3.specs.Faults.{hash_fault, is_hashed_before, IsFirstHashFault, IsFirstHashingFault, AreAllHashed, HasCollision}
 use Rattle.domain_nsec3.specs.Owners.{is_original_owner, is_chain_name, original_owners}
 use Rattle.domain_nsec3.specs.Steps.{Entry, HashedEntry, without_hash, IsFirstRefused, IsHashed, HasAlikeEntries}
-use Rattle.std.proofs.lemmas.Grind.{common_steps}
 
 -- names that are the same have one hash
 pub hash_same : (hash : Hash) (m n : Name) → same_name m n ≡ true → hash_name hash m ≡ hash_name hash n

@@ -1,26 +1,14 @@
 -- Lists of hashed names: how they are ordered and built.
 use Rattle.std.proofs.Common.{◌≡◌, ℕ, zero, suc, ◌+◌, ◌-◌, ◌<◌, ◌≤◌, true, List, [], ◌∷◌, ◌++◌, map, length, get_or, take, drop, None, refl, sym, ap, ◌∙◌}
-use Rattle.std.proofs.Common.{subst, arith, inl, inr, ◌⊎◌, add-one}
-use Rattle.std.specs.Prelude.{All}
-use Rattle.std.specs.List.{AllByRecursion, dedup, dedup_from}
-use Rattle.std.specs.List.Sorted.{IsStrictlySortedBy, IsSorted, IsSortedByKey}
-use Rattle.std.specs.Ordering.{nat_cmp, eq_by_cmp}
-use Rattle.std.specs.Cmp.{Equal-is}
-use Rattle.std.specs.Cmp.Lexicographic.{slice_cmp, nat_list_cmp_total}
-use Rattle.std.specs.FinMap.{slice_cmp-IsAntisymmetric, nat_cmp-IsAntisymmetric}
-use Rattle.std.proofs.lemmas.Bool.{cases_Bool}
-use Rattle.std.proofs.lemmas.List.{get_or-map, length-map, take-append-drop, drop_more}
-use Rattle.std.proofs.lemmas.List.Elements.{recursion_from_All}
-use Rattle.std.proofs.lemmas.List.Kept.{IsStrictlySortedBy-dedup}
-use Rattle.domain_hasher.specs.declared.error.Nsec3HashError.{Nsec3HashError}
-use Rattle.domain_hasher.specs.declared.error.Nsec3HashError.TheVariants.{OutOfMemory}
+use Rattle.std.proofs.{Common.{subst, arith, inl, inr, ◌⊎◌, add-one}, lemmas.{Bool.cases_Bool, List.{get_or-map, length-map, take-append-drop, drop_more}}}
+use Rattle.std.{proofs.lemmas.{List.{Elements.recursion_from_All, Kept.IsStrictlySortedBy-dedup}, Grind.common_steps}, specs.Prelude.All}
+use Rattle.std.specs.{List.{AllByRecursion, dedup, dedup_from, Sorted.{IsStrictlySortedBy, IsSorted, IsSortedByKey}}, Ordering.{nat_cmp, eq_by_cmp}}
+use Rattle.std.specs.{Cmp.{Equal-is, Lexicographic.{slice_cmp, nat_list_cmp_total}}, FinMap.{slice_cmp-IsAntisymmetric, nat_cmp-IsAntisymmetric}}
+use Rattle.domain_hasher.specs.declared.error.Nsec3HashError.{Nsec3HashError, TheVariants.OutOfMemory}
 use Rattle.domain_names.specs.Words.{Name}
-use Rattle.domain_nsec3.specs.Config.{Hash, hash_name}
-use Rattle.domain_nsec3.specs.Faults.{hash_fault}
+use Rattle.domain_nsec3.specs.{Config.{Hash, hash_name}, Faults.hash_fault}
 use Rattle.domain_nsec3.specs.Steps.{Entry, HashedEntry, without_hash, without_types, IsHashed, IsRefusal, IsFirstRefused, HasAlikeNeighbours}
-use Rattle.domain_nsec3.specs.StepView.{as_hashed_entry}
-use Rattle.domain_nsec3.specs.declared.hash.Hashed.{Hashed}
-use Rattle.std.proofs.lemmas.Grind.{common_steps}
+use Rattle.domain_nsec3.specs.{StepView.as_hashed_entry, declared.hash.Hashed.Hashed}
 
 -- ---- neighbours
 

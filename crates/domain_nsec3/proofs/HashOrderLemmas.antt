@@ -1,15 +1,9 @@
 -- Hashes are in the order of their first octets as one number, where those differ.
 use Rattle.std.proofs.Common.{◌≡◌, ℕ, zero, suc, ◌+◌, ◌*◌, ◌^◌, ◌<◌, ◌≤◌, List, [], ◌∷◌, length, take, sym, ap, ◌∙◌, inl, inr, arith, true}
-use Rattle.std.specs.Int.{w64, from_be_bytes}
-use Rattle.std.specs.Cmp.{nat_cmp_is}
-use Rattle.std.specs.Cmp.Lexicographic.{slice_cmp, nat_list_cmp_total}
-use Rattle.std.specs.Ordering.{nat_cmp, ordering_then, ordering_reverse, is_ne}
-use Rattle.std.specs.declared.cmp.Ordering.TheVariants.{Less, Equal, Greater}
-use Rattle.std.proofs.lemmas.Bool.{cases_order, false≢true}
-use Rattle.std.proofs.lemmas.Nat.{mul-le}
-use Rattle.std.proofs.Math.Nat.{one-le-pow}
+use Rattle.std.proofs.{lemmas.{Bool.{cases_order, false≢true}, Nat.mul-le, Grind.common_steps}, Math.Nat.one-le-pow}
+use Rattle.std.specs.{Int.{w64, from_be_bytes}, Cmp.{nat_cmp_is, Lexicographic.{slice_cmp, nat_list_cmp_total}}}
+use Rattle.std.specs.{Ordering.{nat_cmp, ordering_then, ordering_reverse, is_ne}, declared.cmp.Ordering.TheVariants.{Less, Equal, Greater}}
 use Rattle.domain_octets.specs.Words.{AreOctets}
-use Rattle.std.proofs.lemmas.Grind.{common_steps}
 
 -- the first n numbers of a list as one number in base 256
 abbrev front_number : ℕ → List ℕ → ℕ

@@ -1,25 +1,14 @@
 -- Names above owners that stand in order: they ascend, and none of them is an owner.
 use Rattle.std.proofs.Common.{◌≡◌, ℕ, ◌<◌, ◌≤◌, true, false, not, ◌&&◌, ◌||◌, List, [], ◌∷◌, ◌++◌, length, refl, sym, ap, ◌∙◌, subst, arith, inl, inr}
-use Rattle.std.specs.Prelude.{filter}
-use Rattle.std.specs.List.{AllByRecursion, list_any}
-use Rattle.std.specs.List.Sorted.{IsStrictlySortedBy}
-use Rattle.std.specs.Ordering.{is_lt}
-use Rattle.std.specs.declared.cmp.Ordering.TheVariants.{Less}
-use Rattle.std.proofs.lemmas.Bool.{cases_Bool, false≢true, leb-true, and_parts, and_from, not-true, or_cases}
-use Rattle.domain_names.specs.Order.{canonical_cmp, before, common_labels}
-use Rattle.domain_names.specs.Name.{is_at_or_below, is_strictly_below, lowered, same_name}
-use Rattle.domain_names.specs.Words.{Name}
+use Rattle.std.proofs.lemmas.{Bool.{cases_Bool, false≢true, leb-true, and_parts, and_from, not-true, or_cases}, Grind.common_steps}
+use Rattle.std.specs.{Prelude.filter, List.{AllByRecursion, list_any, Sorted.IsStrictlySortedBy}, Ordering.is_lt, declared.cmp.Ordering.TheVariants.Less}
+use Rattle.domain_names.specs.{Order.{canonical_cmp, before, common_labels}, Name.{is_at_or_below, is_strictly_below, lowered, same_name}, Words.Name}
 use Rattle.domain_records.proofs.Lookups.{is_less}
 use Rattle.domain_zone.specs.Enclosers.{is_empty_nonterminal}
 use Rattle.domain_zone.proofs.NameLemmas.{before_order, below_between, below_from, one_lowered, same_lowered, strictly_from}
-use Rattle.domain_zone.proofs.OwnerLemmas.{any_filter, any_in, in_any, any_weaker}
-use Rattle.domain_zone.proofs.PairLemmas.{IsAscending, lt_trans}
-use Rattle.domain_zone.proofs.SharedLemmas.{either_way}
+use Rattle.domain_zone.proofs.{OwnerLemmas.{any_filter, any_in, in_any, any_weaker}, PairLemmas.{IsAscending, lt_trans}, SharedLemmas.either_way}
 use Rattle.domain_zone.proofs.ZoneLemmas.{weaker, all_both, filter_whole, apart_left, apart_right, after_or}
-use Rattle.domain_nsec3.specs.Ancestors.{above_with_more, HoldsAncestors, IsListOf}
-use Rattle.domain_nsec3.proofs.AncestorLemmas.{IsAbove, are_above}
-use Rattle.domain_nsec3.proofs.SharedLemmas.{common_shares}
-use Rattle.std.proofs.lemmas.Grind.{common_steps}
+use Rattle.domain_nsec3.{specs.Ancestors.{above_with_more, HoldsAncestors, IsListOf}, proofs.{AncestorLemmas.{IsAbove, are_above}, SharedLemmas.common_shares}}
 
 -- ---- ascending lists of names
 

@@ -1,47 +1,28 @@
 -- What the records of an NSEC3 chain say of every name, from the chain alone.
 use Rattle.std.proofs.Common.{length, ◌≤◌, arith, ◌≡◌, ℕ, zero, suc, Bool, true, false, cond, not, ◌&&◌, ◌||◌, List, [], ◌∷◌, map, Some, Ok, refl, sym, ap, ◌∙◌}
-use Rattle.std.proofs.Common.{subst, inl, inr, ◌⊎◌}
-use Rattle.std.specs.Prelude.{filter, slice_get}
-use Rattle.std.specs.List.{AllByRecursion, list_any}
-use Rattle.std.specs.List.Sorted.{IsStrictlySortedBy}
-use Rattle.std.specs.Cmp.{IsStrictWeakOrder}
-use Rattle.std.specs.Cmp.Lexicographic.{slice_cmp, nat_list_cmp_total}
-use Rattle.std.specs.FinMap.{slice_cmp-IsAntisymmetric, nat_cmp-IsAntisymmetric}
-use Rattle.std.specs.Ordering.{nat_cmp, is_lt, ordering_reverse}
-use Rattle.std.specs.declared.cmp.Ordering.{Ordering}
-use Rattle.std.specs.declared.cmp.Ordering.TheVariants.{Less, Equal, Greater}
-use Rattle.std.proofs.lemmas.Bool.{cases_Bool, cases_lt, false≢true, true≢false, and_parts, and_from, or_cases, or_left}
-use Rattle.std.proofs.lemmas.List.Elements.{recursion_from_All}
-use Rattle.std.proofs.lemmas.List.Sorted.{ranks_by}
-use Rattle.domain_codecs.specs.Base32.{base32_lower}
-use Rattle.domain_codecs.proofs.OrderLemmas.{lower_apart}
+use Rattle.std.proofs.{Common.{subst, inl, inr, ◌⊎◌}, lemmas.Bool.{cases_Bool, cases_lt, false≢true, true≢false, and_parts, and_from, or_cases, or_left}}
+use Rattle.std.proofs.lemmas.{List.{Elements.recursion_from_All, Sorted.ranks_by}, Grind.common_steps}
+use Rattle.std.specs.{Prelude.{filter, slice_get}, List.{AllByRecursion, list_any, Sorted.IsStrictlySortedBy}, Cmp.IsStrictWeakOrder}
+use Rattle.std.specs.{Cmp.Lexicographic.{slice_cmp, nat_list_cmp_total}, FinMap.{slice_cmp-IsAntisymmetric, nat_cmp-IsAntisymmetric}}
+use Rattle.std.specs.{Ordering.{nat_cmp, is_lt, ordering_reverse}, declared.cmp.Ordering.{Ordering, TheVariants.{Less, Equal, Greater}}}
+use Rattle.domain_codecs.{specs.Base32.base32_lower, proofs.OrderLemmas.lower_apart}
 use Rattle.domain_octets.proofs.StdLemmas.{and_false, some_is}
-use Rattle.domain_bitmap.specs.Bitmap.{bitmap_octets}
-use Rattle.domain_bitmap.proofs.BitmapLemmas.{bitmap_octets-same}
+use Rattle.domain_bitmap.{specs.Bitmap.bitmap_octets, proofs.BitmapLemmas.bitmap_octets-same}
 use Rattle.domain_chain_rdata.specs.OptOut.{is_opt_out}
-use Rattle.domain_zone.specs.Covering.{matches, covers, matches_or_covers, pairs}
-use Rattle.domain_zone.specs.Enclosers.{IsClosestEncloser, exists_over}
-use Rattle.domain_names.specs.Name.{is_at_or_below, is_strictly_below, lowered, same_name}
-use Rattle.domain_names.specs.Words.{Name}
-use Rattle.domain_base.specs.Types.{ns, ds}
+use Rattle.domain_zone.specs.{Covering.{matches, covers, matches_or_covers, pairs}, Enclosers.{IsClosestEncloser, exists_over}}
 use Rattle.domain_zone.specs.Zone.{ZoneRecord, records_of, owns, has_type, is_zone_cut, is_unoccluded, unoccluded_owners}
 use Rattle.domain_zone.proofs.NameLemmas.{one_lowered, same_itself, below_itself, below_trans, below_length, below_longer, below_parent, lowered_below}
-use Rattle.domain_zone.proofs.NameLemmas.{same_lowered}
-use Rattle.domain_zone.proofs.OwnerLemmas.{any_filter, any_in, any_owner, apex_unoccluded, typed_owns}
-use Rattle.domain_zone.proofs.PairLemmas.{In, all_in, IsAscending, IsApart, gap, next_is, irreflexive, one_matches_or_covers}
-use Rattle.domain_zone.proofs.PlaceLemmas.{IsOnly, one_place}
-use Rattle.domain_zone.proofs.SharedLemmas.{either_way}
-use Rattle.domain_zone.proofs.SoaLemmas.{soa_owned}
-use Rattle.domain_zone.proofs.FindLemmas.{in_at, in_map}
+use Rattle.domain_zone.proofs.{NameLemmas.same_lowered, OwnerLemmas.{any_filter, any_in, any_owner, apex_unoccluded, typed_owns}}
+use Rattle.domain_zone.proofs.{PairLemmas.{In, all_in, IsAscending, IsApart, gap, next_is, irreflexive, one_matches_or_covers}, PlaceLemmas.{IsOnly, one_place}}
+use Rattle.domain_zone.proofs.{SharedLemmas.either_way, SoaLemmas.soa_owned, FindLemmas.{in_at, in_map}}
+use Rattle.domain_names.specs.{Name.{is_at_or_below, is_strictly_below, lowered, same_name}, Words.Name}
+use Rattle.domain_base.specs.Types.{ns, ds}
 use Rattle.domain_nsec3.specs.Chain.{HashedLink, HashedName, IsHashedChain, IsOfChain, cycle, ends, ends_of, hashed_owner}
 use Rattle.domain_nsec3.specs.Config.{ChainConfig, HashAnswer, excludes, hash_of}
 use Rattle.domain_nsec3.specs.Meaning.{octets_before, IsAlone, AreAlone, IsRecordOf, IsMatchedOrCoveredOnce, MirrorsZone, TellsEncloserOf, TellsEncloser}
 use Rattle.domain_nsec3.specs.Meaning.{CoversExcluded}
 use Rattle.domain_nsec3.specs.Owners.{original_owners, is_original_owner, is_excluded, is_unsigned_cut, is_empty, is_chain_name, is_listed, nsec3_lists}
-use Rattle.domain_nsec3.proofs.FaultLemmas.{hash_same}
-use Rattle.domain_nsec3.proofs.OwnerLemmas.{existing_are, runs_to_encloser}
-use Rattle.domain_nsec3.proofs.SharedLemmas.{at_length}
-use Rattle.std.proofs.lemmas.Grind.{common_steps}
+use Rattle.domain_nsec3.proofs.{FaultLemmas.hash_same, OwnerLemmas.{existing_are, runs_to_encloser}, SharedLemmas.at_length}
 
 -- ---- the order of hashes
 

@@ -1,34 +1,21 @@
 -- What hashing the names of a chain comes to: the chain of the zone, or its first fault.
 use Rattle.std.proofs.Common.{◌≡◌, Bool, true, false, not, ◌&&◌, List, ◌∷◌, map, refl, sym, ap, ◌∙◌, subst, inl, inr, ◌⊎◌, Some, arith}
-use Rattle.std.specs.Prelude.{All, IsPermutation, filter}
-use Rattle.std.specs.List.{AllByRecursion}
-use Rattle.std.specs.List.Sorted.{IsStrictlySortedBy}
-use Rattle.std.proofs.lemmas.Bool.{and_parts, and_from, not-true}
+use Rattle.std.proofs.lemmas.{Bool.{and_parts, and_from, not-true}, Grind.common_steps}
+use Rattle.std.specs.{Prelude.{All, IsPermutation, filter}, List.{AllByRecursion, Sorted.IsStrictlySortedBy}}
 use Rattle.domain_octets.proofs.StdLemmas.{and_false}
-use Rattle.domain_names.specs.Order.{canonical_cmp}
-use Rattle.domain_hasher.specs.declared.error.Nsec3HashError.{Nsec3HashError}
-use Rattle.domain_hasher.specs.declared.error.Nsec3HashError.TheVariants.{OutOfMemory}
-use Rattle.domain_zone.specs.Enclosers.{is_empty_nonterminal}
-use Rattle.domain_names.specs.Name.{is_at_or_below, lowered, same_name}
-use Rattle.domain_names.specs.Words.{Name}
-use Rattle.domain_zone.specs.Soa.{chain_ttl, soa_of}
-use Rattle.domain_base.specs.Types.{ns, ds}
-use Rattle.domain_zone.specs.Zone.{ZoneRecord, OwnersNeverDescend, records_of, owns, has_type, unoccluded_owners}
-use Rattle.domain_zone.specs.declared.soa.ApexSoa.{ApexSoa}
+use Rattle.domain_names.specs.{Order.canonical_cmp, Name.{is_at_or_below, lowered, same_name}, Words.Name}
+use Rattle.domain_hasher.specs.declared.error.Nsec3HashError.{Nsec3HashError, TheVariants.OutOfMemory}
+use Rattle.domain_zone.specs.{Enclosers.is_empty_nonterminal, Soa.{chain_ttl, soa_of}}
+use Rattle.domain_zone.specs.{Zone.{ZoneRecord, OwnersNeverDescend, records_of, owns, has_type, unoccluded_owners}, declared.soa.ApexSoa.ApexSoa}
 use Rattle.domain_zone.proofs.NameLemmas.{same_itself, below_itself, lowered_below, same_lowered}
 use Rattle.domain_zone.proofs.OwnerLemmas.{any_filter, any_owner, apex_unoccluded, ascending_filter, in_any, owners_are, owners_ascend}
-use Rattle.domain_zone.proofs.PairLemmas.{all_from_in}
-use Rattle.domain_zone.proofs.ZoneLemmas.{all_filter}
-use Rattle.domain_nsec3.specs.Chain.{HashedLink, IsHashedChain}
-use Rattle.domain_nsec3.specs.Config.{ChainConfig, excludes}
-use Rattle.domain_nsec3.specs.Faults.{AreAllHashed, IsFirstHashingFault}
+use Rattle.domain_zone.proofs.{PairLemmas.all_from_in, ZoneLemmas.all_filter}
+use Rattle.domain_base.specs.Types.{ns, ds}
+use Rattle.domain_nsec3.specs.{Chain.{HashedLink, IsHashedChain}, Config.{ChainConfig, excludes}, Faults.{AreAllHashed, IsFirstHashingFault}}
 use Rattle.domain_nsec3.specs.Owners.{original_owners, is_original_owner, is_excluded}
 use Rattle.domain_nsec3.specs.Steps.{Common, Entry, HashedEntry, without_hash, AreOriginalOwners, IsHashed, IsHashingFault, IsOrderedChain}
-use Rattle.domain_nsec3.proofs.ChainLemmas.{chain_of_zone}
-use Rattle.domain_nsec3.proofs.EntryLemmas.{AreJoined, are_chain_names, names_joined}
-use Rattle.domain_nsec3.proofs.FaultLemmas.{Pairwise, hashed_in_order, first_fault, hashing_fault, all_hashed, collides}
-use Rattle.domain_nsec3.proofs.ListLemmas.{sorted}
-use Rattle.std.proofs.lemmas.Grind.{common_steps}
+use Rattle.domain_nsec3.proofs.{ChainLemmas.chain_of_zone, EntryLemmas.{AreJoined, are_chain_names, names_joined}}
+use Rattle.domain_nsec3.proofs.{FaultLemmas.{Pairwise, hashed_in_order, first_fault, hashing_fault, all_hashed, collides}, ListLemmas.sorted}
 
 -- ---- the owners of a zone in order
 

@@ -1,22 +1,16 @@
 -- The names of the chain are those that exist over its owners; what that says of closest enclosers and of zone cuts.
 use Rattle.std.proofs.Common.{◌≡◌, Bool, true, false, not, ◌&&◌, List, ◌++◌, length, refl, sym, ap, ◌∙◌, inl, inr, arith}
-use Rattle.std.specs.Prelude.{filter}
-use Rattle.std.specs.List.{list_any}
-use Rattle.std.proofs.lemmas.Bool.{cases_Bool, false≢true, and_parts, and_from, or_cases, or_right, or_left, not-true, cases_lt}
+use Rattle.std.proofs.lemmas.{Bool.{cases_Bool, false≢true, and_parts, and_from, or_cases, or_right, or_left, not-true, cases_lt}, Grind.common_steps}
+use Rattle.std.specs.{Prelude.filter, List.list_any}
 use Rattle.domain_octets.proofs.StdLemmas.{and_false}
-use Rattle.domain_names.specs.Name.{is_at_or_below, is_strictly_below, lowered, same_name}
-use Rattle.domain_names.specs.Words.{Name}
+use Rattle.domain_names.specs.{Name.{is_at_or_below, is_strictly_below, lowered, same_name}, Words.Name}
 use Rattle.domain_base.specs.Types.{ns, ds, dname}
 use Rattle.domain_zone.specs.Zone.{ZoneRecord, records_of, owns, has_type, is_zone_cut, occludes, is_occluded, unoccluded_owners}
-use Rattle.domain_zone.specs.Enclosers.{exists_over, is_empty_nonterminal, IsClosestEncloser}
-use Rattle.domain_zone.proofs.PairLemmas.{In, all_in}
+use Rattle.domain_zone.{specs.Enclosers.{exists_over, is_empty_nonterminal, IsClosestEncloser}, proofs.PairLemmas.{In, all_in}}
 use Rattle.domain_zone.proofs.NameLemmas.{one_lowered, same_itself, below_itself, below_trans, below_longer, below_length, lowered_below, same_lowered}
-use Rattle.domain_zone.proofs.OwnerLemmas.{any_owner, any_in, in_any, owners_are, any_weaker, any_filter, below_occluder}
-use Rattle.domain_zone.proofs.SharedLemmas.{either_way}
-use Rattle.domain_nsec3.specs.Config.{ChainConfig, excludes}
-use Rattle.domain_nsec3.specs.Owners.{is_excluded, is_original_owner, original_owners, is_chain_name, is_empty}
+use Rattle.domain_zone.proofs.{OwnerLemmas.{any_owner, any_in, in_any, owners_are, any_weaker, any_filter, below_occluder}, SharedLemmas.either_way}
+use Rattle.domain_nsec3.specs.{Config.{ChainConfig, excludes}, Owners.{is_excluded, is_original_owner, original_owners, is_chain_name, is_empty}}
 use Rattle.domain_nsec3.specs.Meaning.{CutsEnclose}
-use Rattle.std.proofs.lemmas.Grind.{common_steps}
 
 strictly_down : (x m c : Name) → is_at_or_below m x ≡ true → is_strictly_below x c ≡ true → is_strictly_below m c ≡ true
 strictly_down x m c p s = grind (arith, common_steps, below_trans)

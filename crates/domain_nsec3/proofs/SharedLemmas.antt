@@ -1,17 +1,9 @@
 -- How many labels two names share: the names above one that are above the other too are those with at most as many.
 use Rattle.std.proofs.Common.{◌≡◌, ℕ, ◌+◌, ◌≤◌, Bool, true, false, cond, ◌&&◌, [], ◌∷◌, ◌++◌, length, reverse, refl, sym, ap, ◌∙◌, arith, inl, inr, nat_eq}
-use Rattle.std.specs.Prelude.{nat_le}
-use Rattle.std.specs.Cmp.Lexicographic.{pointwise, bytes_decides}
-use Rattle.std.specs.List.{common_prefix_len}
-use Rattle.std.proofs.lemmas.Bool.{cases_Bool, false≢true, true≢false, and_parts}
-use Rattle.std.proofs.lemmas.Bool.Decides.{nat_tests}
-use Rattle.domain_names.specs.Laws.{from_root-below, below-from_root}
-use Rattle.domain_names.specs.Name.{is_at_or_below, lowered}
-use Rattle.domain_names.specs.Order.{common_labels, from_root}
-use Rattle.domain_names.specs.Words.{Label, Name}
-use Rattle.domain_zone.proofs.NameLemmas.{one_lowered, below_back, below_there, below_parent, same_length}
-use Rattle.domain_zone.proofs.SharedLemmas.{either_way}
-use Rattle.std.proofs.lemmas.Grind.{common_steps}
+use Rattle.std.proofs.lemmas.{Bool.{cases_Bool, false≢true, true≢false, and_parts, Decides.nat_tests}, Grind.common_steps}
+use Rattle.std.specs.{Prelude.nat_le, Cmp.Lexicographic.{pointwise, bytes_decides}, List.common_prefix_len}
+use Rattle.domain_names.specs.{Laws.{from_root-below, below-from_root}, Name.{is_at_or_below, lowered}, Order.{common_labels, from_root}, Words.{Label, Name}}
+use Rattle.domain_zone.proofs.{NameLemmas.{one_lowered, below_back, below_there, below_parent, same_length}, SharedLemmas.either_way}
 
 -- a name at or below one with no fewer labels is that one
 pub at_length : (x e : Name) → is_at_or_below x e ≡ true → length x ≤ length e → lowered x ≡ lowered e

@@ -1,29 +1,15 @@
 -- The state of the walk over the owners, and what it has gathered.
 use Rattle.std.proofs.Common.{◌≡◌, ℕ, Bool, true, false, cond, not, ◌&&◌, ◌||◌, List, [], ◌∷◌, ◌++◌, length, map, refl, sym, ap, ◌∙◌, subst, append_assoc}
-use Rattle.std.specs.Prelude.{All, filter}
-use Rattle.std.specs.List.{AllByRecursion, list_any}
-use Rattle.std.proofs.lemmas.List.{length-map, map-append, append-nil}
-use Rattle.std.proofs.lemmas.List.Elements.{All-from_recursion, filter-append}
-use Rattle.std.proofs.lemmas.List.Folds.{list_any-append}
-use Rattle.std.proofs.lemmas.Bool.{or_right}
-use Rattle.domain_bitmap.specs.Bitmap.{bitmap_octets}
-use Rattle.domain_bitmap.proofs.BitmapLemmas.{bitmap_octets-same}
-use Rattle.domain_names.specs.Name.{same_name}
-use Rattle.domain_names.specs.Words.{Name}
+use Rattle.std.proofs.{Common.arith, lemmas.List.{length-map, map-append, append-nil, Elements.{All-from_recursion, filter-append}, Folds.list_any-append}}
+use Rattle.std.{proofs.lemmas.{Bool.or_right, Grind.common_steps}, specs.{Prelude.{All, filter}, List.{AllByRecursion, list_any}}}
+use Rattle.domain_bitmap.{specs.Bitmap.bitmap_octets, proofs.BitmapLemmas.bitmap_octets-same}
+use Rattle.domain_names.specs.{Name.same_name, Words.Name}
 use Rattle.domain_zone.specs.Owners.{OwnerRecords, owner_at, owners_with_records}
-use Rattle.domain_base.specs.Types.{ds}
 use Rattle.domain_zone.specs.Zone.{ZoneRecord, has_clash, has_type, has_unequal_ttls, owns, is_unoccluded, unoccluded_owners}
-use Rattle.domain_zone.proofs.GivenLemmas.{name_of, clashes_in, next_is_owner}
-use Rattle.domain_zone.proofs.OwnerLemmas.{owners_are}
-use Rattle.domain_zone.proofs.ZoneLemmas.{all_front}
-use Rattle.domain_nsec3.specs.Config.{ChainConfig, excludes}
-use Rattle.domain_nsec3.specs.Owners.{original_owners, is_excluded, is_unsigned_cut, is_listed, nsec3_lists}
-use Rattle.domain_nsec3.specs.Steps.{AreOriginalOwners, entries_of}
-use Rattle.domain_nsec3.specs.StepView.{as_entries}
-use Rattle.domain_nsec3.specs.declared.owners.Owners.{Owners}
-use Rattle.domain_nsec3.proofs.EntryLemmas.{entries_names}
-use Rattle.std.proofs.Common.{arith}
-use Rattle.std.proofs.lemmas.Grind.{common_steps}
+use Rattle.domain_zone.proofs.{GivenLemmas.{name_of, clashes_in, next_is_owner}, OwnerLemmas.owners_are, ZoneLemmas.all_front}
+use Rattle.domain_base.specs.Types.{ds}
+use Rattle.domain_nsec3.specs.{Config.{ChainConfig, excludes}, Owners.{original_owners, is_excluded, is_unsigned_cut, is_listed, nsec3_lists}}
+use Rattle.domain_nsec3.{specs.{Steps.{AreOriginalOwners, entries_of}, StepView.as_entries, declared.owners.Owners.Owners}, proofs.EntryLemmas.entries_names}
 
 -- a zone to sign: its records, its apex and how its chain is made
 pub record ZoneToSign : Type 0 where

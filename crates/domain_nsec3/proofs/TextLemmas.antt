@@ -1,26 +1,12 @@
 -- The text of a hash as a label.
-use Rattle.std.proofs.Common.{◌≡◌, ℕ, ◌+◌, ◌*◌, ◌/◌, ◌<◌, ◌≤◌, List, [], ◌∷◌, ◌++◌, map, length, refl, sym, ap, ◌∙◌, subst, arith}
-use Rattle.std.proofs.Common.{get_or, set, take, Fits, w8, zero, suc}
-use Rattle.std.specs.Prelude.{All, None, Ok, nat_lt, ◌==◌, true, false, if◌then◌else◌}
-use Rattle.std.specs.Char.{to_ascii_lowercase}
-use Rattle.std.specs.List.{AllByRecursion}
-use Rattle.std.proofs.lemmas.Bool.Decides.{nat_tests}
-use Rattle.std.proofs.lemmas.List.Elements.{recursion_from_All}
-use Rattle.std.proofs.lemmas.List.{length-map}
-use Rattle.domain_codecs.specs.Base32.{base32_from, base32_lower, lower_digit}
-use Rattle.domain_codecs.proofs.Base32Lemmas.{many_digits}
+use Rattle.std.proofs.Common.{◌≡◌, ℕ, ◌+◌, ◌*◌, ◌/◌, ◌<◌, ◌≤◌, List, [], ◌∷◌, ◌++◌, map, length, refl, sym, ap, ◌∙◌, subst, arith, get_or, set, take, Fits, w8}
+use Rattle.std.proofs.{Common.{zero, suc}, lemmas.{Bool.Decides.nat_tests, List.{Elements.recursion_from_All, length-map}, Grind.common_steps}}
+use Rattle.std.specs.{Prelude.{All, None, Ok, nat_lt, ◌==◌, true, false, if◌then◌else◌}, Char.to_ascii_lowercase, List.AllByRecursion, Str.IsAscii}
+use Rattle.domain_codecs.{specs.Base32.{base32_from, base32_lower, lower_digit}, proofs.{Base32Lemmas.many_digits, ReadBackLemmas.are_small}}
 use Rattle.domain_octets.proofs.OctetLemmas.{octets_from_type}
-use Rattle.domain_codecs.proofs.ReadBackLemmas.{are_small}
-use Rattle.domain_names.specs.Name.{wire_of, IsName}
-use Rattle.domain_names.specs.Text.{label_text, name_text}
-use Rattle.domain_names.specs.Wire.{labels_of, IsWire}
-use Rattle.domain_names.proofs.TextLemmas.{ordinary_octet}
-use Rattle.std.specs.Str.{IsAscii}
-use Rattle.domain_names.proofs.WireLemmas.{IsWire-wire_of, labels_of-wire_of, wire_is}
-use Rattle.domain_names.specs.Words.{Name}
-use Rattle.domain_nsec3.specs.Chain.{hashed_owner}
-use Rattle.domain_nsec3.specs.Faults.{hash_fault}
-use Rattle.std.proofs.lemmas.Grind.{common_steps}
+use Rattle.domain_names.specs.{Name.{wire_of, IsName}, Text.{label_text, name_text}, Wire.{labels_of, IsWire}, Words.Name}
+use Rattle.domain_names.proofs.{TextLemmas.ordinary_octet, WireLemmas.{IsWire-wire_of, labels_of-wire_of, wire_is}}
+use Rattle.domain_nsec3.specs.{Chain.hashed_owner, Faults.hash_fault}
 
 -- how many digits a hash has
 pub text_length : (h : List ℕ) → length (base32_lower h) ≡ (8 * length h + 4) / 5

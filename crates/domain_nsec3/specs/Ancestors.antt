@@ -1,10 +1,6 @@
 -- The names above a name, and lists of names in canonical order.
-use Rattle.std.specs.Prelude.{◌≡◌, ℕ, Bool, true, ◌||◌, List, [], ◌∷◌, ◌++◌, length, nat_lt, if◌then◌else◌}
-use Rattle.std.specs.List.{list_any}
-use Rattle.std.specs.List.Sorted.{IsStrictlySortedBy}
-use Rattle.domain_names.specs.Order.{canonical_cmp}
-use Rattle.domain_names.specs.Name.{is_at_or_below, is_strictly_below, same_name}
-use Rattle.domain_names.specs.Words.{Name}
+use Rattle.std.specs.{Prelude.{◌≡◌, ℕ, Bool, true, ◌||◌, List, [], ◌∷◌, ◌++◌, length, nat_lt, if◌then◌else◌}, List.{list_any, Sorted.IsStrictlySortedBy}}
+use Rattle.domain_names.specs.{Order.canonical_cmp, Name.{is_at_or_below, is_strictly_below, same_name}, Words.Name}
 
 -- those with more than so many labels, the shortest first
 abbrev pub above_with_more : ℕ → Name → List Name

@@ -1,23 +1,14 @@
 -- The NSEC3 chain of a zone (RFC 5155, section 7.1).
-use Rattle.std.specs.Prelude.{ℕ, true, List, [], ◌∷◌, map, length, Some, Ok, ◌≡◌, ◌<◌, All}
-use Rattle.std.specs.List.{list_any}
-use Rattle.std.specs.List.Sorted.{IsStrictlySortedBy}
-use Rattle.std.specs.Ordering.{nat_cmp}
+use Rattle.std.specs.{Prelude.{ℕ, true, List, [], ◌∷◌, map, length, Some, Ok, ◌≡◌, ◌<◌, All}, List.{list_any, Sorted.IsStrictlySortedBy}, Ordering.nat_cmp}
 use Rattle.std.specs.Cmp.Lexicographic.{slice_cmp}
 use Rattle.domain_octets.specs.Words.{Octets}
 use Rattle.domain_base.specs.Classes.{in_class}
 use Rattle.domain_codecs.specs.Base32.{base32_lower}
 use Rattle.domain_bitmap.specs.Bitmap.{bitmap_octets}
-use Rattle.domain_zone.specs.Covering.{pairs}
-use Rattle.domain_names.specs.Name.{same_name}
-use Rattle.domain_names.specs.Words.{Name}
-use Rattle.domain_zone.specs.Soa.{chain_ttl, soa_of}
-use Rattle.domain_zone.specs.Zone.{ZoneRecord}
-use Rattle.domain_zone.specs.declared.soa.ApexSoa.{ApexSoa}
-use Rattle.domain_nsec3.specs.Config.{ChainConfig, Parameters, hash_of}
-use Rattle.domain_nsec3.specs.Owners.{is_chain_name, nsec3_lists}
-use Rattle.domain_nsec3.specs.declared.config.Nsec3ParamTtlMode.{Nsec3ParamTtlMode}
-use Rattle.domain_nsec3.specs.declared.config.Nsec3ParamTtlMode.TheVariants.{Fixed, Soa, SoaMinimum}
+use Rattle.domain_zone.specs.{Covering.pairs, Soa.{chain_ttl, soa_of}, Zone.ZoneRecord, declared.soa.ApexSoa.ApexSoa}
+use Rattle.domain_names.specs.{Name.same_name, Words.Name}
+use Rattle.domain_nsec3.specs.{Config.{ChainConfig, Parameters, hash_of}, Owners.{is_chain_name, nsec3_lists}}
+use Rattle.domain_nsec3.specs.declared.config.Nsec3ParamTtlMode.{Nsec3ParamTtlMode, TheVariants.{Fixed, Soa, SoaMinimum}}
 
 -- an NSEC3 record as a link of a chain; its bits are the octets of its type bitmap
 pub record HashedLink : Type 0 where

@@ -1,9 +1,8 @@
 -- How an NSEC3 chain is made, as its definitions see it.
 use Rattle.std.specs.Prelude.{ℕ, Bool, ◌&&◌, Result}
 use Rattle.domain_octets.specs.Words.{Octets}
-use Rattle.domain_names.specs.Name.{wire_of, lowered}
+use Rattle.domain_names.specs.{Name.{wire_of, lowered}, Words.Name}
 use Rattle.domain_chain_rdata.specs.OptOut.{is_opt_out}
-use Rattle.domain_names.specs.Words.{Name}
 
 -- what is answered for a name: the octets of its hash, or the number of a refusal
 abbrev pub HashAnswer : Type 0

@@ -6,13 +6,9 @@ use Rattle.domain_records.specs.declared.error.SigningError.TheVariants.{EmptyRe
 use Rattle.domain_records.specs.declared.error.SigningError.TheVariants.{Nsec3HashingError, OutOfMemory}
 use Rattle.domain_hasher.specs.declared.error.Nsec3HashError.{Nsec3HashError}
 use Rattle.domain_hasher.specs.declared.error.Nsec3HashError.TheVariants as hash_error
-use Rattle.domain_names.specs.Order.{before}
-use Rattle.domain_names.specs.Words.{Name}
-use Rattle.domain_zone.specs.Soa.{soa_of}
-use Rattle.domain_zone.specs.Zone.{ZoneRecord, has_unequal_ttls}
-use Rattle.domain_nsec3.specs.Chain.{hashed_owner}
-use Rattle.domain_nsec3.specs.Config.{ChainConfig, HashAnswer, hash_of}
-use Rattle.domain_nsec3.specs.Owners.{is_chain_name, is_original_owner, original_owners}
+use Rattle.domain_names.specs.{Order.before, Words.Name}
+use Rattle.domain_zone.specs.{Soa.soa_of, Zone.{ZoneRecord, has_unequal_ttls}}
+use Rattle.domain_nsec3.specs.{Chain.hashed_owner, Config.{ChainConfig, HashAnswer, hash_of}, Owners.{is_chain_name, is_original_owner, original_owners}}
 
 -- why a hash is of no use: it is refused, else has no octets or over 39, else the owner of its
 -- record is longer than a name may be

@@ -1,20 +1,13 @@
 -- What the NSEC3 chain of a zone says of names, also of those that no record holds (RFC 5155,
 -- sections 7.2 and 8).
-use Rattle.std.specs.Prelude.{ℕ, Bool, true, false, List, map, Some, Ok, ◌≡◌, slice_get, ◌+◌, ◌<◌, length, All}
-use Rattle.std.specs.List.Sorted.{IsStrictlySortedBy}
-use Rattle.std.specs.Ordering.{nat_cmp, is_lt}
-use Rattle.std.specs.Cmp.Lexicographic.{slice_cmp}
+use Rattle.std.specs.{Prelude.{ℕ, Bool, true, false, List, map, Some, Ok, ◌≡◌, slice_get, ◌+◌, ◌<◌, length, All}, List.Sorted.IsStrictlySortedBy}
+use Rattle.std.specs.{Ordering.{nat_cmp, is_lt}, Cmp.Lexicographic.slice_cmp}
 use Rattle.domain_octets.specs.Words.{Octets}
-use Rattle.domain_names.specs.Order.{canonical_cmp}
+use Rattle.domain_names.specs.{Order.canonical_cmp, Name.{is_at_or_below, is_strictly_below, same_name}, Words.Name}
 use Rattle.domain_bitmap.specs.Bitmap.{bitmap_octets}
 use Rattle.domain_chain_rdata.specs.OptOut.{is_opt_out}
-use Rattle.domain_zone.specs.Covering.{matches, covers, matches_or_covers}
-use Rattle.domain_zone.specs.Enclosers.{IsClosestEncloser}
-use Rattle.domain_names.specs.Name.{is_at_or_below, is_strictly_below, same_name}
-use Rattle.domain_names.specs.Words.{Name}
-use Rattle.domain_zone.specs.Zone.{ZoneRecord, is_zone_cut, is_unoccluded}
-use Rattle.domain_nsec3.specs.Chain.{HashedLink, hashed_owner}
-use Rattle.domain_nsec3.specs.Config.{ChainConfig, hash_of}
+use Rattle.domain_zone.specs.{Covering.{matches, covers, matches_or_covers}, Enclosers.IsClosestEncloser, Zone.{ZoneRecord, is_zone_cut, is_unoccluded}}
+use Rattle.domain_nsec3.specs.{Chain.{HashedLink, hashed_owner}, Config.{ChainConfig, hash_of}}
 use Rattle.domain_nsec3.specs.Owners.{original_owners, is_original_owner, is_chain_name, nsec3_lists}
 
 -- the order of hashes: octet by octet, and what is absent comes first

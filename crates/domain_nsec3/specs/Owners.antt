@@ -1,9 +1,7 @@
 -- The names of a zone that its NSEC3 chain holds, and the types that it lists for them (RFC 5155,
 -- section 7.1). Each definition filters the whole list L of records; a is the apex.
-use Rattle.std.specs.Prelude.{ℕ, Bool, not, ◌&&◌, ◌||◌, ◌==◌, List, filter}
-use Rattle.std.specs.List.{list_any}
-use Rattle.domain_names.specs.Name.{is_at_or_below, is_strictly_below, same_name}
-use Rattle.domain_names.specs.Words.{Name}
+use Rattle.std.specs.{Prelude.{ℕ, Bool, not, ◌&&◌, ◌||◌, ◌==◌, List, filter}, List.list_any}
+use Rattle.domain_names.specs.{Name.{is_at_or_below, is_strictly_below, same_name}, Words.Name}
 use Rattle.domain_base.specs.Types.{ds, rrsig, dnskey, nsec3param}
 use Rattle.domain_zone.specs.Zone.{ZoneRecord, records_of, owns, has_type, is_zone_cut, lists_type, unoccluded_owners}
 use Rattle.domain_nsec3.specs.Config.{ChainConfig, excludes}

@@ -3,13 +3,9 @@ use Rattle.domain_chain_rdata.specs.declared.nsec3param.Nsec3param.{Nsec3param}
 use Rattle.std.specs.Prelude.{◌≡◌, ℕ, List, None, Ok, [], map, slice_index_or, All}
 use Rattle.domain_octets.specs.Words.{Octets}
 use Rattle.domain_names.specs.Words.{Name}
-use Rattle.domain_nsec3.specs.Chain.{HashedLink}
-use Rattle.domain_nsec3.specs.Faults.{hash_fault}
-use Rattle.domain_nsec3.specs.Steps.{Common, Entry, HashedEntry, HashedTypes, chain_links, entries_of, no_types, without_types}
-use Rattle.domain_nsec3.specs.View.{parameters_of}
-use Rattle.domain_nsec3.specs.declared.chain.HashedChain.{HashedChain}
-use Rattle.domain_nsec3.specs.declared.hash.Hashed.{Hashed}
-use Rattle.domain_nsec3.specs.declared.owners.Owners.{Owners}
+use Rattle.domain_nsec3.specs.{Chain.HashedLink, Faults.hash_fault}
+use Rattle.domain_nsec3.specs.{Steps.{Common, Entry, HashedEntry, HashedTypes, chain_links, entries_of, no_types, without_types}, View.parameters_of}
+use Rattle.domain_nsec3.specs.declared.{chain.HashedChain.HashedChain, hash.Hashed.Hashed, owners.Owners.Owners}
 
 abbrev pub as_entries : Owners → List Entry
 as_entries owners = entries_of owners.names.items owners.types

@@ -1,19 +1,13 @@
 -- The steps of the generator: names with their types, their hashes, and the links that these make.
 use Rattle.std.specs.Prelude.{◌≡◌, ℕ, ◌+◌, ◌<◌, false, List, [], ◌∷◌, ◌++◌, map, length, None, Some, Ok, ◌⊎◌, slice_index_or, All, IsPermutation}
-use Rattle.std.specs.List.{AllByRecursion}
-use Rattle.std.specs.List.Sorted.{IsStrictlySortedBy}
-use Rattle.std.specs.Ordering.{nat_cmp}
-use Rattle.std.specs.Cmp.Lexicographic.{slice_cmp}
+use Rattle.std.specs.{List.{AllByRecursion, Sorted.IsStrictlySortedBy}, Ordering.nat_cmp, Cmp.Lexicographic.slice_cmp}
 use Rattle.domain_octets.specs.Words.{Octets}
 use Rattle.domain_base.specs.Classes.{in_class}
 use Rattle.domain_bitmap.specs.Bitmap.{bitmap_octets}
-use Rattle.domain_hasher.specs.declared.error.Nsec3HashError.{Nsec3HashError}
-use Rattle.domain_hasher.specs.declared.error.Nsec3HashError.TheVariants.{OutOfMemory, CollisionDetected}
+use Rattle.domain_hasher.specs.declared.error.Nsec3HashError.{Nsec3HashError, TheVariants.{OutOfMemory, CollisionDetected}}
 use Rattle.domain_names.specs.Words.{Name}
 use Rattle.domain_zone.specs.Zone.{ZoneRecord}
-use Rattle.domain_nsec3.specs.Chain.{HashedLink, hashed_owner}
-use Rattle.domain_nsec3.specs.Config.{ChainConfig, Hash, HashAnswer, Parameters, hash_name}
-use Rattle.domain_nsec3.specs.Faults.{hash_fault}
+use Rattle.domain_nsec3.specs.{Chain.{HashedLink, hashed_owner}, Config.{ChainConfig, Hash, HashAnswer, Parameters, hash_name}, Faults.hash_fault}
 use Rattle.domain_nsec3.specs.Owners.{original_owners, nsec3_lists}
 
 -- a name of a chain with its types

@@ -1,10 +1,8 @@
 -- NSEC3 records as text.
-use Rattle.std.specs.Prelude.{◌++◌, codes}
-use Rattle.std.specs.Fmt.{decimal}
+use Rattle.std.specs.{Prelude.{◌++◌, codes}, Fmt.decimal}
 use Rattle.domain_octets.specs.Words.{Octets}
-use Rattle.domain_base.specs.Numbers.{class_text, type_text}
+use Rattle.domain_base.specs.{Numbers.{class_text, type_text}, Types.nsec3}
 use Rattle.domain_names.specs.Text.{name_text}
-use Rattle.domain_base.specs.Types.{nsec3}
 use Rattle.domain_chain_rdata.specs.Nsec3Text.{nsec3_text}
 use Rattle.domain_nsec3.specs.Chain.{HashedLink}
 

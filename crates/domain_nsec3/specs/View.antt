@@ -2,11 +2,9 @@
 use Rattle.std.specs.Prelude.{ℕ, List, map}
 use Rattle.domain_octets.specs.Words.{Octets}
 use Rattle.domain_record.specs.declared.record.Record.{Record}
-use Rattle.domain_chain_rdata.specs.declared.nsec3.Nsec3.{Nsec3}
-use Rattle.domain_chain_rdata.specs.declared.nsec3param.Nsec3param.{Nsec3param}
+use Rattle.domain_chain_rdata.specs.declared.{nsec3.Nsec3.Nsec3, nsec3param.Nsec3param.Nsec3param}
 use Rattle.domain_names.specs.Words.{Name}
-use Rattle.domain_nsec3.specs.Chain.{HashedLink, ParamRecord}
-use Rattle.domain_nsec3.specs.Config.{ChainConfig, Hash, HashAnswer, Parameters}
+use Rattle.domain_nsec3.specs.{Chain.{HashedLink, ParamRecord}, Config.{ChainConfig, Hash, HashAnswer, Parameters}}
 use Rattle.domain_nsec3.specs.declared.config.GenerateNsec3Config.{GenerateNsec3Config}
 
 -- what a hasher answers for octets, an algorithm, iterations and a salt

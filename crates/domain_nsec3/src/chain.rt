@@ -1,11 +1,9 @@
 //! A chain before its records are made.
-ghost use Rattle.std.specs.Prelude.{◌≡◌, ◌+◌, ◌<◌, ◌≤◌, ◌⊎◌, List, Some, true, false, length, map, slice_index_or, All, IfOk, IfErr, OnOk, OnErr, IsPermutation};
-ghost use Rattle.std.specs.List.{list_any};
-ghost use Rattle.std.specs.List.Sorted.{IsSortedByKey, IsStrictlySortedBy};
-ghost use Rattle.std.specs.Ordering.{nat_cmp};
-ghost use Rattle.std.specs.Cmp.Lexicographic.{slice_cmp};
-ghost use Rattle.domain_names.specs.Name.{is_at_or_below, same_name};
-ghost use Rattle.domain_names.specs.Order.{canonical_cmp};
+ghost use Rattle.std.specs.Prelude.{◌≡◌, ◌+◌, ◌<◌, ◌≤◌, ◌⊎◌, List, Some, true, false, length, map};
+ghost use Rattle.std.specs.Prelude.{slice_index_or, All, IfOk, IfErr, OnOk, OnErr, IsPermutation};
+ghost use Rattle.std.specs.List.{list_any, Sorted.{IsSortedByKey, IsStrictlySortedBy}};
+ghost use Rattle.std.specs.{Ordering.nat_cmp, Cmp.Lexicographic.slice_cmp};
+ghost use Rattle.domain_names.specs.{Name.{is_at_or_below, same_name}, Order.canonical_cmp};
 ghost use Rattle.domain_records.specs.Order.{IsInOrder};
 ghost use Rattle.domain_hasher.specs.declared.error.Nsec3HashError.TheVariants as hash_error;
 ghost use Rattle.domain_zone.specs.Soa.{chain_ttl, soa_of};

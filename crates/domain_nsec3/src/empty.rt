@@ -1,10 +1,8 @@
 //! The empty non-terminals over the owners of a chain.
-ghost use Rattle.std.specs.Prelude.{◌≡◌, ◌++◌, true, length, All, IfOk, OnOk};
-ghost use Rattle.std.specs.List.{list_any};
+ghost use Rattle.std.specs.{Prelude.{◌≡◌, ◌++◌, true, length, All, IfOk, OnOk}, List.list_any};
 ghost use Rattle.std.specs.List.Sorted.{IsStrictlySortedBy};
-ghost use Rattle.domain_names.specs.Order.{canonical_cmp};
+ghost use Rattle.domain_names.specs.{Order.canonical_cmp, Name.{is_at_or_below, same_name}};
 ghost use Rattle.domain_zone.specs.Enclosers.{is_empty_nonterminal};
-ghost use Rattle.domain_names.specs.Name.{is_at_or_below, same_name};
 ghost use Rattle.domain_nsec3.specs.Ancestors.{above_with_more, IsListOf};
 
 use domain_base::{ParsedName, ToName};

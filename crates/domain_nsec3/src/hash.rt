@@ -2,13 +2,10 @@
 ghost use Rattle.std.specs.Prelude.{◌≡◌, ◌+◌, ◌<◌, ◌≤◌, ◌++◌, ◌∷◌, ◌⊎◌, [], List, Ok, Some, None, length, map, take, All, IfOk, IfErr, IsErrOf, OnOk, vec_capacity, vec_len};
 ghost use Rattle.domain_octets.specs.Words.{Octets};
 ghost use Rattle.domain_hasher.specs.declared.error.Nsec3HashError.TheVariants as hash_error;
-ghost use Rattle.domain_names.specs.Wire.{labels_of, IsWire};
-ghost use Rattle.domain_names.specs.Words.{Name};
-ghost use Rattle.domain_nsec3.specs.Chain.{hashed_owner};
-ghost use Rattle.domain_nsec3.specs.Config.{hash_name};
-ghost use Rattle.domain_nsec3.specs.Faults.{hash_fault};
-ghost use Rattle.domain_nsec3.specs.Steps.{Entry, without_hash, IsHashed, IsRefusal, IsFirstRefused};
-ghost use Rattle.domain_nsec3.specs.StepView.{as_hashed_entry};
+ghost use Rattle.domain_names.specs.{Wire.{labels_of, IsWire}, Words.Name};
+ghost use Rattle.domain_nsec3.specs.{Chain.hashed_owner, Config.hash_name, Faults.hash_fault};
+ghost use Rattle.domain_nsec3.specs.Steps.{Entry, without_hash, IsHashed, IsRefusal};
+ghost use Rattle.domain_nsec3.specs.{Steps.IsFirstRefused, StepView.as_hashed_entry};
 ghost use Rattle.domain_nsec3.specs.View.{hash_by, parameters_of};
 
 use crate::hash_text::{MAX_TEXT, write_hash};

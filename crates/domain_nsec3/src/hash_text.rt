@@ -1,6 +1,5 @@
 //! The text of a hash, written without memory.
-ghost use Rattle.std.specs.Prelude.{◌≡◌, ◌+◌, ◌≤◌, length};
-ghost use Rattle.std.specs.Fmt.{WritesOnOk};
+ghost use Rattle.std.specs.{Prelude.{◌≡◌, ◌+◌, ◌≤◌, length}, Fmt.WritesOnOk};
 ghost use Rattle.domain_codecs.specs.Base32.{base32_lower};
 
 use domain_codecs::base32::Digits;

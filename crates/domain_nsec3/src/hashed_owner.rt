@@ -2,8 +2,7 @@
 ghost use Rattle.std.specs.Prelude.{◌≡◌, ◌++◌, ◌∷◌, [], Ok, None, Some, IfOk};
 ghost use Rattle.domain_octets.specs.Characters.{dot};
 ghost use Rattle.domain_names.specs.Text.{name_text};
-ghost use Rattle.domain_nsec3.specs.Chain.{hashed_owner};
-ghost use Rattle.domain_nsec3.specs.Faults.{hash_fault};
+ghost use Rattle.domain_nsec3.specs.{Chain.hashed_owner, Faults.hash_fault};
 
 use crate::hash::make_owner;
 use crate::hash_text::display_hash;

@@ -1,8 +1,6 @@
 //! Hashes of names, each in place.
-ghost use Rattle.std.specs.Prelude.{◌≡◌, ◌≤◌, length, take};
-ghost use Rattle.std.specs.Int.{w64, from_be_bytes};
-ghost use Rattle.std.specs.Ordering.{nat_cmp};
-ghost use Rattle.std.specs.Cmp.Lexicographic.{slice_cmp};
+ghost use Rattle.std.specs.{Prelude.{◌≡◌, ◌≤◌, length, take}, Int.{w64, from_be_bytes}};
+ghost use Rattle.std.specs.{Ordering.nat_cmp, Cmp.Lexicographic.slice_cmp};
 ghost use Rattle.domain_octets.specs.Words.{AreOctets};
 
 use std::cmp::Ordering;

@@ -1,7 +1,6 @@
 //! The types that NSEC3 records list.
 ghost use Rattle.std.specs.Prelude.{◌≡◌, ◌||◌, ◌&&◌, ◌==◌, ◌∷◌, ◌++◌, ℕ, [], ◌<◌, IfOk, OnOk};
-ghost use Rattle.domain_bitmap.specs.Bitmap.{bitmap_octets};
-ghost use Rattle.domain_bitmap.specs.Builder.{holds};
+ghost use Rattle.domain_bitmap.specs.{Bitmap.bitmap_octets, Builder.holds};
 ghost use Rattle.domain_nsec3.specs.Owners.{is_listed};
 ghost use Rattle.domain_zone.specs.View.{zone_of};
 

@@ -1,7 +1,5 @@
 -- octets in slices
-use Rattle.std.proofs.Common.{ℕ, ◌<◌, List, get_or, Fits, w8, arith}
-use Rattle.std.specs.Prelude.{All}
-use Rattle.std.proofs.lemmas.List.Elements.{All-from_get_or}
+use Rattle.std.{proofs.{Common.{ℕ, ◌<◌, List, get_or, Fits, w8, arith}, lemmas.List.Elements.All-from_get_or}, specs.Prelude.All}
 
 -- what a slice holds are octets
 pub octets_from_type : (xs : List ℕ) → ((i : ℕ) → Fits w8 (get_or xs i 0)) → All (λ octet. octet < 256) xs

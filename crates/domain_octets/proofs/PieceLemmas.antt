@@ -1,9 +1,7 @@
 -- tokens that are put into one line
 use Rattle.std.proofs.Common.{◌≡◌, ◌≢◌, ℕ, ◌+◌, List, [], ◌∷◌, ◌++◌, Bool, true, false, take, map, String, Global, refl, sym, ap, ◌∙◌}
-use Rattle.std.specs.List.{join_with_byte}
-use Rattle.std.proofs.lemmas.List.{append_assoc, map-append}
-use Rattle.domain_octets.specs.declared.pieces.Piece.{Piece}
-use Rattle.domain_octets.specs.declared.pieces.Piece.TheVariants.{Token, Comment, Open, Close}
+use Rattle.std.{proofs.lemmas.List.{append_assoc, map-append}, specs.List.join_with_byte}
+use Rattle.domain_octets.specs.declared.pieces.Piece.{Piece, TheVariants.{Token, Comment, Open, Close}}
 use Rattle.domain_octets.specs.Piece.{PieceText, token, comment, opens, closes, piece_text, tokens_of, line_with}
 
 -- a line of these tokens; it is the first flag that tells whether there are none yet

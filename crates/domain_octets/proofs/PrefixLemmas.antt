@@ -1,8 +1,6 @@
 -- texts whose first octets are all of one set
-use Rattle.std.proofs.Common.{◌≡◌, ℕ, Bool, true, List, [], ◌∷◌, ◌++◌, take, drop, sym, ap, ◌∙◌}
-use Rattle.std.specs.List.{AllPass}
-use Rattle.std.proofs.lemmas.List.{append_assoc, take-append-drop}
-use Rattle.std.proofs.lemmas.List.Elements.{All-append, All-cons, All-nil}
+use Rattle.std.proofs.{Common.{◌≡◌, ℕ, Bool, true, List, [], ◌∷◌, ◌++◌, take, drop, sym, ap, ◌∙◌}, lemmas.List.{append_assoc, take-append-drop}}
+use Rattle.std.{proofs.lemmas.List.Elements.{All-append, All-cons, All-nil}, specs.List.AllPass}
 
 -- these octets are left of the text, and those before them are of the set
 pub record Searched (has : ℕ → Bool) (text left : List ℕ) : Type 0 where

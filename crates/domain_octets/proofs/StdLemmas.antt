@@ -1,7 +1,6 @@
 -- tests, options and results, where std has no such law
 use Rattle.std.proofs.Common.{◌≡◌, Bool, true, false, refl, subst, sym, Option, Some, None, Result, Ok, Err, IfErr}
-use Rattle.std.specs.Prelude.{◌||◌, ◌&&◌, IsErrAnd, OnOk}
-use Rattle.std.specs.Option.{option_or}
+use Rattle.std.specs.{Prelude.{◌||◌, ◌&&◌, IsErrAnd, OnOk}, Option.option_or}
 
 pub or_false : (b : Bool) → (b || false) ≡ b
 or_false true = refl

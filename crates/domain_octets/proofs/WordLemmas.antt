@@ -1,14 +1,7 @@
 -- the words of a text
-use Rattle.std.proofs.Common.{◌≡◌, ◌≢◌, ℕ, ◌<◌, false, List, [], ◌∷◌, ◌++◌, length, refl, ap, sym, ◌∙◌, arith, inl, inr}
-use Rattle.std.specs.Prelude.{◌^◌, ◌==◌}
-use Rattle.std.specs.List.{AllByRecursion, join_with_byte}
-use Rattle.std.specs.Fmt.{decimal}
-use Rattle.std.specs.Char.{digit_value}
-use Rattle.std.specs.Str.Parse.{AllDigits}
-use Rattle.std.proofs.lemmas.Fmt.{decimal_is_IsNumeral}
-use Rattle.std.proofs.lemmas.List.{append_assoc, append-nil}
-use Rattle.std.proofs.lemmas.Bool.{cases_Bool}
-use Rattle.std.proofs.lemmas.Bool.Decides.{nat_tests}
+use Rattle.std.proofs.{Common.{◌≡◌, ◌≢◌, ℕ, ◌<◌, false, List, [], ◌∷◌, ◌++◌, length, refl, ap, sym, ◌∙◌, arith, inl, inr}, lemmas.Fmt.decimal_is_IsNumeral}
+use Rattle.std.proofs.lemmas.{List.{append_assoc, append-nil}, Bool.{cases_Bool, Decides.nat_tests}}
+use Rattle.std.specs.{Prelude.{◌^◌, ◌==◌}, List.{AllByRecursion, join_with_byte}, Fmt.decimal, Char.digit_value, Str.Parse.AllDigits}
 use Rattle.domain_octets.specs.Line.{word_if_any, words_after, words_of, HasNoSpace, IsWord}
 
 -- a word that has begun goes on

@@ -1,8 +1,6 @@
 -- the words of a text, as a reader of zone files takes them as tokens (RFC 1035, section 5.1)
-use Rattle.std.specs.Prelude.{◌≡◌, ◌≢◌, ◌==◌, false, List, [], ◌∷◌, ◌++◌, if◌then◌else◌}
-use Rattle.std.specs.List.{AllByRecursion}
-use Rattle.domain_octets.specs.Words.{Octets}
-use Rattle.domain_octets.specs.Characters.{space}
+use Rattle.std.specs.{Prelude.{◌≡◌, ◌≢◌, ◌==◌, false, List, [], ◌∷◌, ◌++◌, if◌then◌else◌}, List.AllByRecursion}
+use Rattle.domain_octets.specs.{Words.Octets, Characters.space}
 
 -- a word, where any of its characters has come
 abbrev pub word_if_any : Octets → List Octets

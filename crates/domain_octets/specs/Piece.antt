@@ -1,10 +1,6 @@
 -- the pieces of a zone file's text
-use Rattle.std.specs.Prelude.{Bool, true, false, List, [], ◌∷◌, ◌++◌, string_bytes}
-use Rattle.std.specs.List.{join_with_byte}
-use Rattle.domain_octets.specs.declared.pieces.Piece.{Piece}
-use Rattle.domain_octets.specs.declared.pieces.Piece.TheVariants.{Token, Comment, Open, Close}
-use Rattle.domain_octets.specs.Words.{Octets}
-use Rattle.domain_octets.specs.Characters.{space}
+use Rattle.std.specs.{Prelude.{Bool, true, false, List, [], ◌∷◌, ◌++◌, string_bytes}, List.join_with_byte}
+use Rattle.domain_octets.specs.{declared.pieces.Piece.{Piece, TheVariants.{Token, Comment, Open, Close}}, Words.Octets, Characters.space}
 
 -- a token, a comment, or the beginning or end of a block in which lines may break
 pub data PieceText : Type 0 where

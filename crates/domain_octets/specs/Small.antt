@@ -1,8 +1,6 @@
 -- octets of which the few lie in the value itself
 use Rattle.std.specs.Prelude.{ℕ, ◌<◌, ◌≤◌, length, take}
-use Rattle.domain_octets.specs.Words.{Octets}
-use Rattle.domain_octets.specs.declared.small.Held.{Held}
-use Rattle.domain_octets.specs.declared.small.Held.TheVariants.{Inside, Outside}
+use Rattle.domain_octets.specs.{Words.Octets, declared.small.Held.{Held, TheVariants.{Inside, Outside}}}
 
 -- how many octets lie in the value itself at most
 abbrev pub room_inside : ℕ

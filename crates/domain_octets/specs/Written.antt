@@ -1,7 +1,5 @@
 -- octets that were written over others
-use Rattle.std.specs.Prelude.{◌≡◌, ℕ, ◌++◌, ◌∷◌, [], length, take, drop}
-use Rattle.std.specs.List.{refill}
-use Rattle.std.proofs.Common.{refl, ap, ◌∙◌}
+use Rattle.std.{specs.{Prelude.{◌≡◌, ℕ, ◌++◌, ◌∷◌, [], length, take, drop}, List.refill}, proofs.Common.{refl, ap, ◌∙◌}}
 use Rattle.domain_octets.specs.Words.{Octets}
 
 front : (xs rest : Octets) → take (length xs) (xs ++ rest) ≡ xs

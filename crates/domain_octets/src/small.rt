@@ -1,7 +1,6 @@
 //! Octets that lie in the value itself where they are few.
 ghost use Rattle.std.specs.Prelude.{◌≡◌, ◌≤◌, None, [], length, IsOk, IfOk};
-ghost use Rattle.domain_octets.specs.Small.{room_inside};
-ghost use Rattle.domain_octets.specs.Words.{Octets};
+ghost use Rattle.domain_octets.specs.{Small.room_inside, Words.Octets};
 
 use crate::{
     AppendError, CopyOctets, EmptyOctets, FromBuilder, Octets, OutOfMemory, SmallBuilder, TryClone,

@@ -1,10 +1,7 @@
 //! The builder of octets that lie in the value itself where they are few.
-ghost use Rattle.std.specs.Prelude.{◌≡◌, ◌≤◌, ◌+◌, ◌++◌, None, refl, length, IfOk, IsErrOf, IsOk, OnErr, OnOk};
-ghost use Rattle.std.specs.List.{refill};
-ghost use Rattle.std.proofs.Common.{sym};
-ghost use Rattle.domain_octets.specs.Small.{room_inside};
-ghost use Rattle.domain_octets.specs.Written.{refilled};
-ghost use Rattle.domain_octets.specs.Words.{Octets};
+ghost use Rattle.std.specs.Prelude.{◌≡◌, ◌≤◌, ◌+◌, ◌++◌, None, refl, length, IfOk, IsErrOf, IsOk};
+ghost use Rattle.std.{specs.{Prelude.{OnErr, OnOk}, List.refill}, proofs.Common.sym};
+ghost use Rattle.domain_octets.specs.{Small.room_inside, Written.refilled, Words.Octets};
 
 use crate::small::INSIDE;
 use crate::{

@@ -1,14 +1,11 @@
 -- generic text that is refused
-use Rattle.std.proofs.Common.{arith, ◌≡◌, ◌≢◌, ℕ, List, [], ◌∷◌, length, refl, sym, ap, subst, ◌∙◌, codes, ◌⊎◌, inl, inr, Option}
-use Rattle.std.proofs.lemmas.Grind.{common_steps}
+use Rattle.std.proofs.{Common.{arith, ◌≡◌, ◌≢◌, ℕ, List, [], ◌∷◌, length, refl, sym, ap, subst, ◌∙◌, codes, ◌⊎◌, inl, inr, Option}, lemmas.Grind.common_steps}
 use Rattle.std.specs.List.{concat}
 use Rattle.domain_octets.specs.Limit.{HasRoom}
-use Rattle.domain_codecs.specs.Codec.{Decodes}
-use Rattle.domain_codecs.specs.declared.codec.Codec.TheVariants.{Base16}
+use Rattle.domain_codecs.specs.{Codec.Decodes, declared.codec.Codec.TheVariants.Base16}
 use Rattle.domain_names.specs.TextFault.{ScanFault, illegal, IsOfTokens}
 use Rattle.domain_base.specs.Scan.{IsNumber, IsNoNumber, TakesToken, RefusesToken, EntryFault, IsEnd}
-use Rattle.domain_fields.specs.Entry.{Spells, RefusesEntry}
-use Rattle.domain_fields.specs.Sequence.{OneToken, Both, RefusesBoth}
+use Rattle.domain_fields.specs.{Entry.{Spells, RefusesEntry}, Sequence.{OneToken, Both, RefusesBoth}}
 use Rattle.domain_plain.specs.Generic.{GenericText, GenericFault, IsNoMark, generic_mark, no_mark, no_count, no_data, other_count}
 
 after_mark : (old between : List (List ℕ)) → TakesToken (λ text. text ≡ generic_mark) old between → old ≡ generic_mark ∷ between

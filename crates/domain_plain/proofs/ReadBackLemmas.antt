@@ -1,26 +1,15 @@
 -- what data are written as is read back
 use Rattle.std.proofs.lemmas.Grind.{common_steps}
 use Rattle.std.proofs.Common.{◌≡◌, ◌≢◌, ℕ, ◌<◌, ◌≤◌, false, All, List, [], ◌∷◌, ◌++◌, length, refl, sym, ap, subst, ◌∙◌, arith, append_assoc}
-use Rattle.std.specs.Prelude.{◌^◌, ◌==◌, slice_index}
-use Rattle.std.specs.Fmt.{decimal}
-use Rattle.std.specs.Net.Text.{ipv4_text, dotted_text}
-use Rattle.std.proofs.lemmas.Bool.Decides.{nat_tests}
-use Rattle.std.proofs.lemmas.List.{append-nil}
+use Rattle.std.proofs.lemmas.{Bool.Decides.nat_tests, List.append-nil}
+use Rattle.std.specs.{Prelude.{◌^◌, ◌==◌, slice_index}, Fmt.decimal, Net.Text.{ipv4_text, dotted_text}}
 use Rattle.hex.specs.Hex.{encode_upper, encode_with}
-use Rattle.domain_codecs.specs.Codec.{Decodes}
-use Rattle.domain_codecs.specs.declared.codec.Codec.TheVariants.{Base16}
-use Rattle.domain_octets.specs.Line.{words_of, IsWord}
-use Rattle.domain_codecs.proofs.CodecBackLemmas.{upper_back}
-use Rattle.domain_codecs.proofs.NoSpaceLemmas.{upper_hex_word}
-use Rattle.domain_octets.proofs.WordLemmas.{one_word, first_word, next_word, decimal_word}
-use Rattle.domain_names.specs.Name.{IsName}
-use Rattle.domain_names.specs.Text.{name_text}
+use Rattle.domain_codecs.{specs.{Codec.Decodes, declared.codec.Codec.TheVariants.Base16}, proofs.{CodecBackLemmas.upper_back, NoSpaceLemmas.upper_hex_word}}
+use Rattle.domain_octets.{specs.Line.{words_of, IsWord}, proofs.WordLemmas.{one_word, first_word, next_word, decimal_word}}
+use Rattle.domain_names.specs.{Name.IsName, Text.name_text}
 use Rattle.domain_base.proofs.ReadBackLemmas.{number_back, name_word}
-use Rattle.domain_fields.specs.Scan.{Scans}
-use Rattle.domain_fields.proofs.NameLemmas.{name_fits}
-use Rattle.domain_fields.proofs.ReadBackLemmas.{fields_alone}
-use Rattle.domain_plain.specs.Generic.{GenericText, generic_text, generic_mark}
-use Rattle.domain_plain.specs.Plain.{a, ns, soa, mx}
+use Rattle.domain_fields.{specs.Scan.Scans, proofs.{NameLemmas.name_fits, ReadBackLemmas.fields_alone}}
+use Rattle.domain_plain.specs.{Generic.{GenericText, generic_text, generic_mark}, Plain.{a, ns, soa, mx}}
 
 some_after : (front text : List ℕ) → text ≢ [] → front ++ text ≢ []
 some_after [] text some = some

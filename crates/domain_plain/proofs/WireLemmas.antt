@@ -1,8 +1,7 @@
 -- what was composed parses back
 use Rattle.std.proofs.Common.{ℕ, ◌≡◌, ◌≤◌, List, [], length, length-append, refl, arith}
 use Rattle.domain_octets.specs.Words.{AreOctets}
-use Rattle.domain_fields.specs.Layout.{Values, Begins, ParsesBack, octets_of}
-use Rattle.domain_fields.proofs.ExactLemmas.{parses_back}
+use Rattle.domain_fields.{specs.Layout.{Values, Begins, ParsesBack, octets_of}, proofs.ExactLemmas.parses_back}
 use Rattle.domain_plain.specs.Plain.{a, unknown}
 
 pub address_back : (octets : List ℕ) → AreOctets octets → length octets ≡ 4 → ParsesBack a octets

@@ -1,16 +1,10 @@
 -- data of any type as text (RFC 3597, section 5)
-use Rattle.std.specs.Prelude.{◌≡◌, ◌≢◌, ℕ, ◌==◌, [], ◌∷◌, ◌++◌, length, codes, Option, if◌then◌else◌}
-use Rattle.std.specs.Fmt.{decimal}
-use Rattle.std.specs.List.{concat}
+use Rattle.std.specs.{Prelude.{◌≡◌, ◌≢◌, ℕ, ◌==◌, [], ◌∷◌, ◌++◌, length, codes, Option, if◌then◌else◌}, Fmt.decimal, List.concat}
 use Rattle.hex.specs.Hex.{encode_upper}
-use Rattle.domain_octets.specs.Limit.{HasRoom}
-use Rattle.domain_codecs.specs.Codec.{Decodes}
-use Rattle.domain_codecs.specs.declared.codec.Codec.TheVariants.{Base16}
-use Rattle.domain_octets.specs.Words.{Octets}
-use Rattle.domain_octets.specs.Characters.{space}
-use Rattle.domain_names.specs.TextFault.{ScanFault, illegal}
+use Rattle.domain_octets.specs.{Limit.HasRoom, Words.Octets, Characters.space}
+use Rattle.domain_codecs.specs.{Codec.Decodes, declared.codec.Codec.TheVariants.Base16}
+use Rattle.domain_names.specs.{TextFault.{ScanFault, illegal}, Words.{Tokens, Token}}
 use Rattle.domain_base.specs.Scan.{IsNumber, IsNoNumber, RefusesToken, EntryFault, IsEnd}
-use Rattle.domain_names.specs.Words.{Tokens, Token}
 
 -- what generic text begins with
 abbrev pub generic_mark : Token

@@ -1,13 +1,8 @@
 -- the fields of plain data, in the order of the wire
 use Rattle.std.specs.Net.Addr.{ipv4_octets}
 use Rattle.domain_octets.specs.Words.{Octets}
-use Rattle.domain_fields.specs.Field.{short, long, name, exactly, at_most, rest}
-use Rattle.domain_fields.specs.Layout.{Layout, one, ◌▸◌, Values}
-use Rattle.domain_plain.specs.declared.a.A.{A}
-use Rattle.domain_plain.specs.declared.ns.Ns.{Ns}
-use Rattle.domain_plain.specs.declared.soa.Soa.{Soa}
-use Rattle.domain_plain.specs.declared.mx.Mx.{Mx}
-use Rattle.domain_plain.specs.Unknown.{UnknownData}
+use Rattle.domain_fields.specs.{Field.{short, long, name, exactly, at_most, rest}, Layout.{Layout, one, ◌▸◌, Values}}
+use Rattle.domain_plain.specs.{declared.{a.A.A, ns.Ns.Ns, soa.Soa.Soa, mx.Mx.Mx}, Unknown.UnknownData}
 use Rattle.domain_names.specs.Words.{Name}
 
 -- the address (RFC 1035, section 3.4.1)

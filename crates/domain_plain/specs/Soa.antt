@@ -1,11 +1,8 @@
 -- SOA data over other names, and as text
-use Rattle.std.specs.Prelude.{◌≡◌, [], ◌∷◌, ◌++◌, Option, Some}
-use Rattle.std.specs.Fmt.{decimal, ◌++?◌}
-use Rattle.domain_octets.specs.Words.{Octets}
-use Rattle.domain_octets.specs.Characters.{space, dot}
-use Rattle.domain_names.specs.Text.{name_text}
+use Rattle.std.specs.{Prelude.{◌≡◌, [], ◌∷◌, ◌++◌, Option, Some}, Fmt.{decimal, ◌++?◌}}
+use Rattle.domain_octets.specs.{Words.Octets, Characters.{space, dot}}
+use Rattle.domain_names.specs.{Text.name_text, Words.Name}
 use Rattle.domain_plain.specs.declared.soa.Soa.{Soa}
-use Rattle.domain_names.specs.Words.{Name}
 
 -- each name stands for the other one, and the numbers are the same
 pub record IsSoaWith {M N : Type 0} (is_same : M → N → Type 0) (source : Soa M)

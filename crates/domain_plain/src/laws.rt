@@ -1,18 +1,13 @@
 //! What holds of data of the types of this crate. A caller calls the law in its body.
 ghost use Rattle.std.specs.Prelude.{◌≡◌, ℕ, ◌<◌, ◌≤◌, ◌++◌, [], Option, IfSome, length, codes};
-ghost use Rattle.std.specs.Fmt.{decimal};
-ghost use Rattle.std.specs.Net.Addr.{ipv4_octets};
-ghost use Rattle.std.specs.Net.Text.{ipv4_text};
-ghost use Rattle.domain_octets.specs.Line.{words_of};
-ghost use Rattle.domain_octets.specs.Words.{Octets, AreOctets};
-ghost use Rattle.domain_names.specs.TextFault.{ScanFault, IsOfTokens};
-ghost use Rattle.domain_names.specs.Text.{name_text};
-ghost use Rattle.domain_fields.specs.Layout.{ParsesBack};
-ghost use Rattle.domain_fields.specs.Scan.{Scans};
-ghost use Rattle.domain_plain.specs.Generic.{GenericText, GenericFault, generic_text};
-ghost use Rattle.domain_plain.specs.Plain.{a, a_values, ns, ns_values, soa, soa_values, mx, mx_values, unknown, unknown_values};
-ghost use Rattle.domain_plain.specs.Soa.{soa_text};
+ghost use Rattle.std.specs.{Fmt.decimal, Net.{Addr.ipv4_octets, Text.ipv4_text}};
+ghost use Rattle.domain_octets.specs.{Line.words_of, Words.{Octets, AreOctets}};
+ghost use Rattle.domain_names.specs.{TextFault.{ScanFault, IsOfTokens}, Text.name_text};
 ghost use Rattle.domain_names.specs.Words.{Tokens};
+ghost use Rattle.domain_fields.specs.{Layout.ParsesBack, Scan.Scans};
+ghost use Rattle.domain_plain.specs.Generic.{GenericText, GenericFault, generic_text};
+ghost use Rattle.domain_plain.specs.Plain.{a, a_values, ns, ns_values, soa, soa_values, mx};
+ghost use Rattle.domain_plain.specs.{Plain.{mx_values, unknown, unknown_values}, Soa.soa_text};
 
 use crate::{A, Mx, Ns, Soa, UnknownRecordData};
 use domain_base::ToName;

@@ -1,14 +1,13 @@
 //! Data of types that are not known.
-ghost use Rattle.std.specs.Prelude.{◌≡◌, ◌≤◌, ◌↔◌, length, IsOk, IsNone, IfOk, IfErr, OnOk, OnErr, []};
-ghost use Rattle.domain_octets.specs.Limit.{IsOver};
-ghost use Rattle.std.specs.Ordering.{on, nat_cmp};
+ghost use Rattle.std.specs.Prelude.{◌≡◌, ◌≤◌, ◌↔◌, length, IsOk, IsNone, IfOk, IfErr, OnOk, OnErr};
+ghost use Rattle.std.specs.{Prelude.[], Ordering.{on, nat_cmp}};
 ghost use Rattle.std.specs.Cmp.Lexicographic.{slice_cmp, on_texts};
-ghost use Rattle.domain_names.specs.Fault.{fault_of};
-ghost use Rattle.domain_names.specs.TextFault.{scan_fault_of};
+ghost use Rattle.domain_octets.specs.Limit.{IsOver};
+ghost use Rattle.domain_names.specs.{Fault.fault_of, TextFault.scan_fault_of};
 ghost use Rattle.domain_plain.specs.Generic.{GenericText, GenericFault};
+ghost use Rattle.domain_plain.specs.Plain.{unknown, unknown_values};
 ghost use Rattle.domain_fields.specs.Layout.{Begins, FirstFault, GoesOn, octets_of, canonical_of};
 ghost use Rattle.domain_fields.specs.DataClone.{same_values_tie};
-ghost use Rattle.domain_plain.specs.Plain.{unknown, unknown_values};
 
 use crate::generic::GenericMark;
 use domain_base::{CanonicalOrd, FromToken, Rtype, ScanError, Scanner};

@@ -1,15 +1,11 @@
 -- What octets of the generic form are: data of a type in one way at most, and none where they have a fault or more follows.
-use Rattle.std.proofs.lemmas.Grind.{common_steps}
-use Rattle.std.proofs.Common.{◌≡◌, ℕ, ◌<◌, List, [], length, codes, Option, Some, arith, true, false, refl, ap, subst}
-use Rattle.domain_names.specs.Fault.{Fault}
-use Rattle.domain_names.specs.TextFault.{ScanFault, illegal}
+use Rattle.std.proofs.{lemmas.Grind.common_steps, Common.{◌≡◌, ℕ, ◌<◌, List, [], length, codes, Option, Some, arith, true, false, refl, ap, subst}}
+use Rattle.domain_names.specs.{Fault.Fault, TextFault.{ScanFault, illegal}}
 use Rattle.domain_bitmap.specs.Fault as bitmap
 use Rattle.domain_bitmap.proofs.FaultLemmas.{no_fault}
-use Rattle.domain_fields.specs.Field.{spelled_name, rest}
-use Rattle.domain_fields.specs.Layout.{Layout, one, Values, Begins, FirstFault, in_first, splits, octets_of}
+use Rattle.domain_fields.specs.{Field.{spelled_name, rest}, Layout.{Layout, one, Values, Begins, FirstFault, in_first, splits, octets_of}}
 use Rattle.domain_fields.proofs.ExactLemmas.{one_reading, fault_excludes}
-use Rattle.domain_chain_rdata.specs.NsecWire.{BeginsNsec, NsecFault, in_name, in_types}
-use Rattle.domain_chain_rdata.specs.Nsec3Wire.{BeginsNsec3, Nsec3Fault, in_fields, in_types as in_bitmap}
+use Rattle.domain_chain_rdata.specs.{NsecWire.{BeginsNsec, NsecFault, in_name, in_types}, Nsec3Wire.{BeginsNsec3, Nsec3Fault, in_fields, in_types as in_bitmap}}
 use Rattle.domain_chain_rdata.specs.Rdata.{nsec, hash_fields, nsec3}
 use Rattle.domain_rdata.specs.Kind.{Kind, next_by_name, next_by_hash}
 use Rattle.domain_rdata.specs.Refusal.{AreOfKind, IsPart, of_key, of_digest, of_signature, types_by_name, salt_by_hash, next_hash, types_by_hash, salt}

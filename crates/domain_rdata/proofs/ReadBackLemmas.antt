@@ -2,30 +2,15 @@
 use Rattle.std.proofs.lemmas.Grind.{common_steps}
 use Rattle.std.proofs.Common.{◌≡◌, ℕ, ◌<◌, All, List, [], ◌∷◌, ◌++◌, length, refl, sym, ap, subst, ◌∙◌, arith, append_assoc, length-append}
 use Rattle.std.specs.Prelude.{IfSome, slice_index}
-use Rattle.domain_octets.specs.Line.{words_of}
-use Rattle.domain_octets.proofs.WordLemmas.{one_word, first_word}
+use Rattle.domain_octets.{specs.Line.words_of, proofs.WordLemmas.{one_word, first_word}}
 use Rattle.domain_base.specs.Types as rtypes
-use Rattle.domain_names.specs.Name.{IsName}
-use Rattle.domain_base.specs.Named.{by_name, by_number}
-use Rattle.domain_base.specs.Numbers.{TypeText}
-use Rattle.domain_base.specs.Scan.{IsNumber, TakesToken}
-use Rattle.domain_names.specs.Text.{name_text}
-use Rattle.domain_base.proofs.ReadBackLemmas.{name_word}
-use Rattle.domain_names.proofs.SpellingLemmas.{name_is_valid}
-use Rattle.domain_fields.specs.Layout.{octets_of}
-use Rattle.domain_fields.specs.Scan.{Scans}
-use Rattle.domain_plain.specs.Generic.{generic_mark, generic_text}
-use Rattle.domain_plain.specs.Plain.{ns, soa, soa_values}
-use Rattle.domain_plain.specs.Soa.{soa_text}
-use Rattle.domain_plain.specs.declared.ns.Ns.{Ns as NsData}
-use Rattle.domain_plain.specs.declared.soa.Soa.{Soa as SoaData}
-use Rattle.domain_plain.specs.Unknown.{UnknownData}
-use Rattle.domain_plain.proofs.ReadBackLemmas.{generic_back}
-use Rattle.domain_rrsig.specs.Data.{RrsigData}
-use Rattle.domain_rrsig.specs.Scan.{RrsigText}
-use Rattle.domain_rdata.specs.Exact.{HasExactOctets, HasExactText}
-use Rattle.domain_rdata.specs.Scan.{AreData, IsGeneric, RdataText, own, generic}
-use Rattle.domain_rdata.specs.Zone.{wire_octets}
+use Rattle.domain_names.{specs.{Name.IsName, Text.name_text}, proofs.SpellingLemmas.name_is_valid}
+use Rattle.domain_base.{specs.{Named.{by_name, by_number}, Numbers.TypeText, Scan.{IsNumber, TakesToken}}, proofs.ReadBackLemmas.name_word}
+use Rattle.domain_fields.specs.{Layout.octets_of, Scan.Scans}
+use Rattle.domain_plain.specs.{Generic.{generic_mark, generic_text}, Plain.{ns, soa, soa_values}, Soa.soa_text, declared.ns.Ns.Ns as NsData}
+use Rattle.domain_plain.{specs.{declared.soa.Soa.Soa as SoaData, Unknown.UnknownData}, proofs.ReadBackLemmas.generic_back}
+use Rattle.domain_rrsig.specs.{Data.RrsigData, Scan.RrsigText}
+use Rattle.domain_rdata.specs.{Exact.{HasExactOctets, HasExactText}, Scan.{AreData, IsGeneric, RdataText, own, generic}, Zone.wire_octets}
 use Rattle.domain_rdata.specs.declared.zone_record_data.ZoneRecordData.TheVariants.{Ns, Soa, Unknown}
 
 -- ---- texts that are not the mark

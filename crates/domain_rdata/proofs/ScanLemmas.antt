@@ -1,18 +1,11 @@
 -- Tokens that are refused as the data of a type spell no data of that type, and tokens spell data of a type in one way at most.
-use Rattle.std.proofs.Common.{arith, ◌≡◌, ℕ, List, [], ◌∷◌, refl, sym, ap, ◌∙◌, subst, Option, Some, None}
-use Rattle.std.proofs.lemmas.Grind.{common_steps}
-use Rattle.std.proofs.lemmas.List.{append-nil}
+use Rattle.std.proofs.{Common.{arith, ◌≡◌, ℕ, List, [], ◌∷◌, refl, sym, ap, ◌∙◌, subst, Option, Some, None}, lemmas.{Grind.common_steps, List.append-nil}}
 use Rattle.std.specs.Prelude.{Result, Ok, Err, IfOk, IfErr}
-use Rattle.domain_names.specs.declared.error.ScanError.{ScanError}
-use Rattle.domain_names.specs.TextFault.{ScanFault, IsOfTokens, scan_fault_of}
-use Rattle.domain_plain.specs.Generic.{GenericText, GenericFault}
-use Rattle.domain_fields.specs.Layout.{Values, octets_of}
-use Rattle.domain_plain.proofs.GenericLemmas.{refused_is_no_text}
-use Rattle.domain_fields.proofs.ScanLemmas.{refused_spells_none, scans_left, scans_once}
-use Rattle.domain_keys.specs.Data.{dnskey_values, ds_values}
-use Rattle.domain_keys.proofs.RefusalLemmas.{dnskey_once, ds_once, refused_dnskey, refused_ds}
-use Rattle.domain_rrsig.specs.Data.{rrsig_values}
-use Rattle.domain_rrsig.proofs.RefusalLemmas.{rrsig_once, refused_rrsig}
+use Rattle.domain_names.specs.{declared.error.ScanError.ScanError, TextFault.{ScanFault, IsOfTokens, scan_fault_of}}
+use Rattle.domain_plain.{specs.Generic.{GenericText, GenericFault}, proofs.GenericLemmas.refused_is_no_text}
+use Rattle.domain_fields.{specs.Layout.{Values, octets_of}, proofs.ScanLemmas.{refused_spells_none, scans_left, scans_once}}
+use Rattle.domain_keys.{specs.Data.{dnskey_values, ds_values}, proofs.RefusalLemmas.{dnskey_once, ds_once, refused_dnskey, refused_ds}}
+use Rattle.domain_rrsig.{specs.Data.rrsig_values, proofs.RefusalLemmas.{rrsig_once, refused_rrsig}}
 use Rattle.domain_chain_rdata.proofs.TextLemmas.{nsec_refused, nsec_name_once, nsec_types_once}
 use Rattle.domain_chain_rdata.proofs.Nsec3TextLemmas.{params_once, params_refused, nsec3_once, nsec3_refused}
 use Rattle.domain_rdata.specs.Kind.{Kind, plain, key, digest, signature, next_by_name, next_by_hash, params, layout_of, AreFields, FieldsText, dnskey_of, ds_of}

@@ -2,9 +2,7 @@
 use Rattle.std.specs.Prelude.{◌≡◌, ◌≢◌, ◌≤◌, None, [], length}
 use Rattle.domain_octets.specs.Words.{Octets}
 use Rattle.domain_bitmap.specs.Blocks.{IsShortest}
-use Rattle.domain_rdata.specs.Zone.{kind_of}
-use Rattle.domain_rdata.specs.declared.zone_record_data.ZoneRecordData.{ZoneRecordData}
-use Rattle.domain_rdata.specs.declared.zone_record_data.ZoneRecordData.TheVariants.{Nsec, Nsec3, Unknown}
+use Rattle.domain_rdata.specs.{Zone.kind_of, declared.zone_record_data.ZoneRecordData.{ZoneRecordData, TheVariants.{Nsec, Nsec3, Unknown}}}
 
 -- a bitmap is in its shortest form, a hash has an octet, and octets are of a type that has no other
 -- form and fit into a record

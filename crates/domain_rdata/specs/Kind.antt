@@ -2,17 +2,10 @@
 use Rattle.std.specs.Prelude.{◌≡◌, []}
 use Rattle.domain_octets.specs.Words.{Octets}
 use Rattle.domain_base.specs.Scan.{Grammar}
-use Rattle.domain_fields.specs.Layout.{Layout, Values, Begins}
-use Rattle.domain_fields.specs.Scan.{Scans}
-use Rattle.domain_keys.specs.Data.{DnskeyData, dnskey, dnskey_data, DsData, ds, ds_data}
-use Rattle.domain_keys.specs.Scan.{DnskeyText, DsText}
-use Rattle.domain_rrsig.specs.Data.{RrsigData, rrsig, rrsig_data, of_numbers}
-use Rattle.domain_rrsig.specs.Scan.{RrsigText}
-use Rattle.domain_chain_rdata.specs.NsecText.{NsecText}
-use Rattle.domain_chain_rdata.specs.NsecWire.{BeginsNsec}
-use Rattle.domain_chain_rdata.specs.Nsec3Text.{Nsec3Text}
-use Rattle.domain_chain_rdata.specs.Nsec3Wire.{BeginsNsec3}
-use Rattle.domain_chain_rdata.specs.Nsec3paramText.{Nsec3paramText}
+use Rattle.domain_fields.specs.{Layout.{Layout, Values, Begins}, Scan.Scans}
+use Rattle.domain_keys.specs.{Data.{DnskeyData, dnskey, dnskey_data, DsData, ds, ds_data}, Scan.{DnskeyText, DsText}}
+use Rattle.domain_rrsig.specs.{Data.{RrsigData, rrsig, rrsig_data, of_numbers}, Scan.RrsigText}
+use Rattle.domain_chain_rdata.specs.{NsecText.NsecText, NsecWire.BeginsNsec, Nsec3Text.Nsec3Text, Nsec3Wire.BeginsNsec3, Nsec3paramText.Nsec3paramText}
 use Rattle.domain_chain_rdata.specs.Rdata.{nsec, nsec3, nsec3param}
 
 -- of fields of one token each, or in a way of their own

@@ -1,29 +1,18 @@
 -- why record data are refused, in the text form of their type or in the generic form (RFC 1035,
 -- section 5.1, and RFC 3597, section 5)
 use Rattle.std.specs.Prelude.{◌≡◌, ◌⊎◌, ℕ, ◌<◌, [], length, codes, Option, Some, None, IsNone}
-use Rattle.domain_octets.specs.Limit.{IsOver}
-use Rattle.domain_octets.specs.Words.{Octets}
-use Rattle.domain_names.specs.Fault.{Fault}
-use Rattle.domain_names.specs.TextFault.{ScanFault, entry_ends, illegal, no_room, no_memory}
+use Rattle.domain_octets.specs.{Limit.IsOver, Words.Octets}
+use Rattle.domain_names.specs.{Fault.Fault, TextFault.{ScanFault, entry_ends, illegal, no_room, no_memory}, Words.Tokens}
 use Rattle.domain_base.specs.Scan.{Refusal}
 use Rattle.domain_plain.specs.Generic.{GenericText, GenericFault}
-use Rattle.domain_fields.specs.Field.{octet, short, long, name, spelled_name, counted, exactly, at_most, rest}
-use Rattle.domain_fields.specs.Layout.{Layout, one, ◌▸◌, Values, Begins}
+use Rattle.domain_fields.specs.{Field.{octet, short, long, name, spelled_name, counted, exactly, at_most, rest}, Layout.{Layout, one, ◌▸◌, Values, Begins}}
 use Rattle.domain_fields.specs.Scan.{Refuses}
-use Rattle.domain_keys.specs.Data.{dnskey, ds}
-use Rattle.domain_rrsig.specs.Data.{rrsig}
-use Rattle.domain_keys.specs.Scan.{RefusesDnskey, RefusesDs}
-use Rattle.domain_rrsig.specs.Scan.{RefusesRrsig}
-use Rattle.domain_chain_rdata.specs.NsecText.{RefusesNsec}
-use Rattle.domain_chain_rdata.specs.NsecWire.{BeginsNsec}
-use Rattle.domain_chain_rdata.specs.Nsec3Text.{RefusesNsec3}
-use Rattle.domain_chain_rdata.specs.Nsec3Wire.{BeginsNsec3}
-use Rattle.domain_chain_rdata.specs.Nsec3paramText.{RefusesNsec3param}
+use Rattle.domain_keys.specs.{Data.{dnskey, ds}, Scan.{RefusesDnskey, RefusesDs}}
+use Rattle.domain_rrsig.specs.{Data.rrsig, Scan.RefusesRrsig}
+use Rattle.domain_chain_rdata.specs.{NsecText.RefusesNsec, NsecWire.BeginsNsec, Nsec3Text.RefusesNsec3, Nsec3Wire.BeginsNsec3, Nsec3paramText.RefusesNsec3param}
 use Rattle.domain_chain_rdata.specs.Rdata.{nsec, nsec3, nsec3param}
-use Rattle.domain_rdata.specs.Kind.{Kind, plain, key, digest, signature, next_by_name, next_by_hash, params, layout_of, AreFields}
-use Rattle.domain_rdata.specs.Scan.{IsGeneric}
+use Rattle.domain_rdata.specs.{Kind.{Kind, plain, key, digest, signature, next_by_name, next_by_hash, params, layout_of, AreFields}, Scan.IsGeneric}
 use Rattle.domain_rdata.specs.Zone.{kind_of}
-use Rattle.domain_names.specs.Words.{Tokens}
 
 -- the first field of that form that is refused, where octets have this limit, and the tokens that
 -- are left then

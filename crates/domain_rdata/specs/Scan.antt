@@ -3,8 +3,7 @@ use Rattle.std.specs.Prelude.{◌≡◌, ℕ, None, [], ◌∷◌}
 use Rattle.domain_octets.specs.Words.{Octets}
 use Rattle.domain_names.specs.Words.{Tokens, Name}
 use Rattle.domain_plain.specs.Generic.{GenericText, generic_mark}
-use Rattle.domain_rdata.specs.Kind.{AreFields, FieldsText}
-use Rattle.domain_rdata.specs.Zone.{kind_of, rtype_of, Content, fields, mere, content_of}
+use Rattle.domain_rdata.specs.{Kind.{AreFields, FieldsText}, Zone.{kind_of, rtype_of, Content, fields, mere, content_of}}
 use Rattle.domain_rdata.specs.declared.zone_record_data.ZoneRecordData.{ZoneRecordData}
 
 -- the tokens begin with the content in the text form of its kind, and these are left

@@ -1,41 +1,22 @@
 -- data of all types as one type: the tables that have a row for each type, and what follows of them
-use Rattle.std.specs.Prelude.{◌≡◌, ℕ, ◌==◌, ◌++◌, Option, Some, None, codes, refl, if◌then◌else◌}
-use Rattle.std.specs.declared.cmp.Ordering.{Ordering}
-use Rattle.std.specs.Fmt.{decimal}
-use Rattle.std.specs.Net.Addr.{ipv4_octets}
-use Rattle.std.specs.Net.Text.{ipv4_text}
-use Rattle.std.specs.Ordering.{nat_cmp, on, then_cmp}
-use Rattle.std.specs.Cmp.{IsTotalOrder, on_total, then_total, nat_cmp_total}
+use Rattle.std.specs.{Prelude.{◌≡◌, ℕ, ◌==◌, ◌++◌, Option, Some, None, codes, refl, if◌then◌else◌}, declared.cmp.Ordering.Ordering, Fmt.decimal}
+use Rattle.std.specs.{Net.{Addr.ipv4_octets, Text.ipv4_text}, Ordering.{nat_cmp, on, then_cmp}, Cmp.{IsTotalOrder, on_total, then_total, nat_cmp_total}}
 use Rattle.std.specs.Cmp.Lexicographic.{slice_cmp, on_texts}
 use Rattle.domain_octets.specs.Words.{Octets}
 use Rattle.domain_names.specs.Text.{name_text}
 use Rattle.domain_base.specs.Types as rtypes
 use Rattle.domain_names.specs.Words.{Name}
-use Rattle.domain_bitmap.specs.Blocks.{types_of}
-use Rattle.domain_bitmap.specs.Text.{types_text}
+use Rattle.domain_bitmap.specs.{Blocks.types_of, Text.types_text}
 use Rattle.domain_fields.specs.Layout.{Values, octets_of, canonical_of}
-use Rattle.domain_plain.specs.Generic.{generic_text}
-use Rattle.domain_plain.specs.Plain.{a, a_values, ns, ns_values, soa, soa_values, mx, mx_values}
-use Rattle.domain_plain.specs.Plain.{unknown}
-use Rattle.domain_plain.specs.Soa.{soa_text}
-use Rattle.domain_keys.specs.Data.{dnskey_values, ds_values}
-use Rattle.domain_keys.specs.Pieces.{dnskey_text, ds_text}
-use Rattle.domain_rrsig.specs.Data.{rrsig_values}
-use Rattle.domain_rrsig.specs.Pieces.{rrsig_text}
-use Rattle.domain_chain_rdata.specs.Nsec3Text.{nsec3_text}
-use Rattle.domain_chain_rdata.specs.Nsec3paramText.{nsec3param_text}
-use Rattle.domain_chain_rdata.specs.Rdata.{nsec_values, nsec3_values, nsec3param_values}
-use Rattle.domain_rdata.specs.Kind.{Kind, plain, key, digest, signature, next_by_name, next_by_hash}
-use Rattle.domain_rdata.specs.Kind.{params, layout_of}
+use Rattle.domain_plain.specs.{Generic.generic_text, Plain.{a, a_values, ns, ns_values, soa, soa_values, mx, mx_values, unknown}, Soa.soa_text}
+use Rattle.domain_keys.specs.{Data.{dnskey_values, ds_values}, Pieces.{dnskey_text, ds_text}}
+use Rattle.domain_rrsig.specs.{Data.rrsig_values, Pieces.rrsig_text}
+use Rattle.domain_chain_rdata.specs.{Nsec3Text.nsec3_text, Nsec3paramText.nsec3param_text, Rdata.{nsec_values, nsec3_values, nsec3param_values}}
+use Rattle.domain_rdata.specs.Kind.{Kind, plain, key, digest, signature, next_by_name, next_by_hash, params, layout_of}
 use Rattle.domain_rdata.specs.declared.zone_record_data.OwnType.{OwnType}
 use Rattle.domain_rdata.specs.declared.zone_record_data.OwnType.TheVariants as own_type
 use Rattle.domain_rdata.specs.declared.zone_record_data.ZoneRecordData.{ZoneRecordData}
-use Rattle.domain_rdata.specs.declared.zone_record_data.ZoneRecordData.TheVariants.{A, Ns, Soa, Mx}
-use Rattle.domain_rdata.specs.declared.zone_record_data.ZoneRecordData.TheVariants.{Dnskey, Ds}
-use Rattle.domain_rdata.specs.declared.zone_record_data.ZoneRecordData.TheVariants.{Rrsig, Nsec}
-use Rattle.domain_rdata.specs.declared.zone_record_data.ZoneRecordData.TheVariants.{Nsec3}
-use Rattle.domain_rdata.specs.declared.zone_record_data.ZoneRecordData.TheVariants.{Nsec3param}
-use Rattle.domain_rdata.specs.declared.zone_record_data.ZoneRecordData.TheVariants.{Unknown}
+use Rattle.domain_rdata.specs.declared.zone_record_data.ZoneRecordData.TheVariants.{A, Ns, Soa, Mx, Dnskey, Ds, Rrsig, Nsec, Nsec3, Nsec3param, Unknown}
 
 -- the types that have data of their own, with a text form, and of what kind these are; those of all
 -- others are mere octets

@@ -1,10 +1,6 @@
 -- data of all types copied
-use Rattle.std.specs.Prelude.{◌≡◌}
+use Rattle.std.specs.{Prelude.◌≡◌, declared.cmp.Ordering.TheVariants.Equal, Ordering.{nat_cmp, ordering_then}, Cmp.{tied_itself, Lexicographic.slice_cmp}}
 use Rattle.std.proofs.Common.{◌∙◌}
-use Rattle.std.specs.declared.cmp.Ordering.TheVariants.{Equal}
-use Rattle.std.specs.Ordering.{nat_cmp, ordering_then}
-use Rattle.std.specs.Cmp.{tied_itself}
-use Rattle.std.specs.Cmp.Lexicographic.{slice_cmp}
 use Rattle.domain_octets.specs.Words.{Octets}
 use Rattle.domain_names.specs.Words.{Name}
 use Rattle.domain_rdata.specs.Zone.{rtype_of, content_of, content_canonical, data_cmp, data_cmp_total}

@@ -1,7 +1,6 @@
 //! Data of all types as one type: the variants, the types that have one, and what is done with the
 //! data whatever their type.
-ghost use Rattle.std.specs.Prelude.{◌≡◌, None, IfNone, IfOk, IfSome};
-ghost use Rattle.std.specs.Ordering.{nat_cmp};
+ghost use Rattle.std.specs.{Prelude.{◌≡◌, None, IfNone, IfOk, IfSome}, Ordering.nat_cmp};
 ghost use Rattle.std.specs.Cmp.Lexicographic.{slice_cmp};
 ghost use Rattle.domain_rdata.specs.Zone.{kind_of, number_of};
 ghost use Rattle.domain_rdata.specs.ZoneClone.{IsZoneClone, same_rtype, zone_copies_tie};

@@ -1,11 +1,9 @@
 //! Data of all types from tokens.
 ghost use Rattle.std.specs.Prelude.{◌↔◌, IsTrue, IfOk, IfErr};
-ghost use Rattle.domain_names.specs.TextFault.{IsOfTokens, scan_fault_of};
-ghost use Rattle.domain_rdata.specs.Zone.{data_text};
-ghost use Rattle.domain_rdata.specs.Refusal.{RefusesOwn, RefusesRdata};
+ghost use Rattle.domain_names.specs.{TextFault.{IsOfTokens, scan_fault_of}, Words.Tokens};
+ghost use Rattle.domain_rdata.specs.{Zone.data_text, Refusal.{RefusesOwn, RefusesRdata}};
 ghost use Rattle.domain_rdata.specs.Scan.{RdataText, OwnText, IsGeneric};
 ghost use Rattle.domain_rdata.specs.declared.zone_record_data.ZoneRecordData.{ZoneRecordData};
-ghost use Rattle.domain_names.specs.Words.{Tokens};
 
 use crate::ZoneRecordData;
 use crate::zone_record_data::{OwnType, made_of_type, own_type, with_data};

@@ -1,9 +1,6 @@
 -- records as text
-use Rattle.std.proofs.Common.{◌≡◌, ℕ, [], ◌∷◌, refl, ap, append_assoc}
-use Rattle.std.specs.Prelude.{Option, Some, None}
-use Rattle.std.specs.Fmt.{◌++?◌}
-use Rattle.domain_octets.specs.Words.{Octets}
-use Rattle.domain_octets.specs.Characters.{space}
+use Rattle.std.{proofs.Common.{◌≡◌, ℕ, [], ◌∷◌, refl, ap, append_assoc}, specs.{Prelude.{Option, Some, None}, Fmt.◌++?◌}}
+use Rattle.domain_octets.specs.{Words.Octets, Characters.space}
 use Rattle.domain_base.specs.Numbers.{class_text}
 use Rattle.domain_record.specs.RecordText.{spaced_class}
 

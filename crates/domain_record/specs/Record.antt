@@ -1,14 +1,9 @@
 -- the canonical order and the equality of records
-use Rattle.std.specs.Prelude.{ℕ, Bool, nat_eq}
-use Rattle.std.specs.declared.cmp.Ordering.{Ordering}
-use Rattle.std.specs.Ordering.{nat_cmp, on, then_cmp, eq_of_both}
-use Rattle.std.specs.Cmp.{IsTotalOrder, on_total, then_total, nat_cmp_total, IsPartialEquivalence, IsEquivalence}
-use Rattle.std.specs.Cmp.{on_per, and_per, on_equiv, and_equiv, nat_eq_equiv, partial_equiv_from_equiv}
-use Rattle.domain_names.specs.Name.{same_name}
-use Rattle.domain_names.specs.Laws.{same_name_equiv}
-use Rattle.domain_names.specs.Order.{canonical_cmp, canonical_cmp_total}
+use Rattle.std.specs.{Prelude.{ℕ, Bool, nat_eq}, declared.cmp.Ordering.Ordering, Ordering.{nat_cmp, on, then_cmp, eq_of_both}}
+use Rattle.std.specs.Cmp.{IsTotalOrder, on_total, then_total, nat_cmp_total, IsPartialEquivalence, IsEquivalence, on_per, and_per, on_equiv, and_equiv}
+use Rattle.std.specs.Cmp.{nat_eq_equiv, partial_equiv_from_equiv}
+use Rattle.domain_names.specs.{Name.same_name, Laws.same_name_equiv, Order.{canonical_cmp, canonical_cmp_total}, Words.Name}
 use Rattle.domain_record.specs.declared.record.Record.{Record}
-use Rattle.domain_names.specs.Words.{Name}
 
 -- by class, then owner in the order of names, then type, then the canonical order of the data
 -- (RFC 4034, section 6)

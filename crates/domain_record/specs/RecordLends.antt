@@ -1,7 +1,6 @@
 -- What a record ends as, where a `&mut` to its data is returned.
 use Rattle.std.specs.Borrow.{Lends, Fml, RattleType, MutBor}
-use Rattle.domain_record.specs.contracts.record.Record.{the_row}
-use Rattle.domain_record.specs.declared.record.Record.{Record}
+use Rattle.domain_record.specs.{contracts.record.Record.the_row, declared.record.Record.Record}
 
 -- once the borrow r ends, the record has the data last written through r, and its other fields are
 -- as they were

@@ -1,12 +1,9 @@
 -- Records as text.
-use Rattle.std.specs.Prelude.{ℕ, [], ◌∷◌, ◌++◌, Option, Some}
-use Rattle.std.specs.Fmt.{decimal, ◌++?◌}
-use Rattle.domain_octets.specs.Words.{Octets}
-use Rattle.domain_octets.specs.Characters.{space, dot}
-use Rattle.domain_names.specs.Text.{name_text}
+use Rattle.std.specs.{Prelude.{ℕ, [], ◌∷◌, ◌++◌, Option, Some}, Fmt.{decimal, ◌++?◌}}
+use Rattle.domain_octets.specs.{Words.Octets, Characters.{space, dot}}
+use Rattle.domain_names.specs.{Text.name_text, Words.Name}
 use Rattle.domain_base.specs.Numbers.{class_text, type_text}
 use Rattle.domain_record.specs.declared.record.Record.{Record}
-use Rattle.domain_names.specs.Words.{Name}
 
 -- a class with a space before and after it
 abbrev pub spaced_class : ℕ → Octets

@@ -1,8 +1,6 @@
 //! Records.
-ghost use Rattle.std.specs.Prelude.{◌≡◌, ◌⊎◌, Some};
-ghost use Rattle.domain_record.specs.RecordClone.{IsRecordClone};
-ghost use Rattle.std.specs.Borrow.{sem};
-ghost use Rattle.domain_record.specs.RecordLends.{LendsData};
+ghost use Rattle.std.specs.{Prelude.{◌≡◌, ◌⊎◌, Some}, Borrow.sem};
+ghost use Rattle.domain_record.specs.{RecordClone.IsRecordClone, RecordLends.LendsData};
 
 use crate::{RecordData, both};
 use domain_base::{CanonicalOrd, Class, Rtype, ToName, Ttl};

@@ -1,6 +1,5 @@
 //! Copies of records.
-ghost use Rattle.std.specs.Prelude.{◌≡◌, IfOk};
-ghost use Rattle.std.specs.declared.cmp.Ordering.TheVariants.{Equal};
+ghost use Rattle.std.specs.{Prelude.{◌≡◌, IfOk}, declared.cmp.Ordering.TheVariants.Equal};
 ghost use Rattle.domain_record.specs.RecordClone.{IsRecordClone};
 
 use crate::{Record, RecordData};

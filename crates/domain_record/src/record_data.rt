@@ -1,11 +1,10 @@
 //! Data of records.
-ghost use Rattle.std.specs.Prelude.{◌≡◌, ◌≤◌, ◌↔◌, ℕ, Option, Some, length, IsTrue, IfOk, IfErr, OnErr, IfNone, MatchOption, codes};
-ghost use Rattle.std.specs.Ordering.{nat_cmp};
+ghost use Rattle.std.specs.Prelude.{◌≡◌, ◌≤◌, ◌↔◌, ℕ, Option, Some, length, IsTrue, IfOk, IfErr};
+ghost use Rattle.std.specs.{Prelude.{OnErr, IfNone, MatchOption, codes}, Ordering.nat_cmp};
 ghost use Rattle.std.specs.Cmp.Lexicographic.{slice_cmp};
 ghost use Rattle.domain_octets.specs.Words.{Octets};
 ghost use Rattle.domain_names.specs.Fault.{Fault, fault_of};
-ghost use Rattle.domain_fields.specs.Layout.{GoesOn};
-ghost use Rattle.domain_fields.specs.Target.{Appends};
+ghost use Rattle.domain_fields.specs.{Layout.GoesOn, Target.Appends};
 
 use domain_base::{Rtype, Ttl};
 use domain_octets::{AppendError, OctetsBuilder, ParseError, Parser};

@@ -1,13 +1,9 @@
 -- Items that are put into the order of their places, one rank after another.
-use Rattle.std.proofs.Common.{below_more, ◌≡◌, ◌∙◌, ℕ, ◌+◌, ◌<◌, List, length, get_or, refl, sym, ap, inl, inr, arith}
-use Rattle.std.specs.List.{swap}
-use Rattle.std.specs.List.Sorted.{IsPermutation}
-use Rattle.std.proofs.lemmas.Bool.{cases_eq}
-use Rattle.std.proofs.lemmas.List.Edits.{length-swap, swapped_from_swap}
-use Rattle.std.proofs.lemmas.List.Elements.{All-get_or, All-from_get_or}
-use Rattle.std.proofs.lemmas.List.Sorted.{IsPermutation-swap, IsPermutation-trans, All-permutation}
+use Rattle.std.proofs.{Common.{below_more, ◌≡◌, ◌∙◌, ℕ, ◌+◌, ◌<◌, List, length, get_or, refl, sym, ap, inl, inr, arith}, lemmas.Bool.cases_eq}
+use Rattle.std.proofs.lemmas.List.{Edits.{length-swap, swapped_from_swap}, Elements.{All-get_or, All-from_get_or}}
+use Rattle.std.proofs.lemmas.{List.Sorted.{IsPermutation-swap, IsPermutation-trans, All-permutation}, Grind.common_steps}
+use Rattle.std.specs.List.{swap, Sorted.IsPermutation}
 use Rattle.domain_records.specs.Places.{AreRanks}
-use Rattle.std.proofs.lemmas.Grind.{common_steps}
 
 -- the ranks before i are taken by their items; what goes to rank p now stands at s p, and t has the
 -- ranks of these places

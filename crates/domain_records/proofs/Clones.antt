@@ -1,15 +1,9 @@
 -- A list whose elements are equal, place by place, to those of a sorted list is sorted too.
 use Rattle.std.proofs.Common.{◌≡◌, ℕ, List, [], ◌∷◌, ◌++◌, refl, sym, ◌∙◌, ap}
-use Rattle.std.specs.List.{AllByRecursion, AllZip}
-use Rattle.std.specs.List.Sorted.{IsStrictlySortedBy}
-use Rattle.std.specs.Cmp.{IsTotalOrder, alike_right, tied_itself, nat_cmp_total}
-use Rattle.std.specs.Ordering.{ordering_then, nat_cmp}
-use Rattle.std.specs.declared.cmp.Ordering.{Ordering}
-use Rattle.std.specs.declared.cmp.Ordering.TheVariants.{Less, Equal}
+use Rattle.std.specs.{List.{AllByRecursion, AllZip, Sorted.IsStrictlySortedBy}, Cmp.{IsTotalOrder, alike_right, tied_itself, nat_cmp_total}}
+use Rattle.std.specs.{Ordering.{ordering_then, nat_cmp}, declared.cmp.Ordering.{Ordering, TheVariants.{Less, Equal}}}
 use Rattle.domain_names.specs.Order.{canonical_cmp, canonical_cmp_total}
-use Rattle.domain_record.specs.declared.record.Record.{Record}
-use Rattle.domain_record.specs.Record.{record_cmp}
-use Rattle.domain_record.specs.RecordClone.{IsRecordClone}
+use Rattle.domain_record.specs.{declared.record.Record.Record, Record.record_cmp, RecordClone.IsRecordClone}
 
 module _ {X : Type 0} {R : X → X → Ordering} (o : IsTotalOrder R) (P : X → X → Type 0) (tied : (x y : X) → P x y → R x y ≡ Equal) where
   less_too : (x y x' y' : X) → P x x' → P y y' → R x y ≡ Less → R x' y' ≡ Less

@@ -1,9 +1,6 @@
 -- The first element of a list, and of what is left of it.
-use Rattle.std.proofs.lemmas.Grind.{common_steps}
-use Rattle.std.proofs.Common.{◌≡◌, ℕ, ◌<◌, ◌≤◌, List, [], ◌∷◌, length, get_or, take, drop, slice_get, Some, sym, arith}
-use Rattle.std.proofs.lemmas.List.{take-append-drop, get_or-take, length-take-le}
-use Rattle.std.proofs.lemmas.List.Elements.{recursion_from_All}
-use Rattle.std.proofs.lemmas.Option.{get_or_from_slice_get}
+use Rattle.std.proofs.{lemmas.Grind.common_steps, Common.{◌≡◌, ℕ, ◌<◌, ◌≤◌, List, [], ◌∷◌, length, get_or, take, drop, slice_get, Some, sym, arith}}
+use Rattle.std.proofs.lemmas.{List.{take-append-drop, get_or-take, length-take-le, Elements.recursion_from_All}, Option.get_or_from_slice_get}
 use Rattle.domain_records.specs.Groups.{HasFirst, IfFirst, SkipsTo}
 
 module _ {X : Type 0} where

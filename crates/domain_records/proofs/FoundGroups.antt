@@ -1,17 +1,11 @@
 -- The first group that begins with an element of some kind.
 use Rattle.std.proofs.Common.{◌≡◌, ℕ, zero, suc, Bool, true, false, cond, ◌&&◌, eqb, List, [], ◌∷◌, find, Option, Some, None, Result, refl, ◌∙◌, ap, arith}
-use Rattle.std.specs.Option.{option_transpose}
-use Rattle.std.proofs.lemmas.Bool.{eqb-true, and_parts}
-use Rattle.domain_names.specs.Name.{same_name}
-use Rattle.domain_names.specs.Laws.{same_name_equiv}
+use Rattle.std.{proofs.lemmas.{Bool.{eqb-true, and_parts}, Grind.common_steps}, specs.Option.option_transpose}
+use Rattle.domain_names.specs.{Name.same_name, Laws.same_name_equiv}
 use Rattle.domain_record.specs.declared.record.Record.{Record}
-use Rattle.domain_records.specs.declared.error.SigningError.{SigningError}
-use Rattle.domain_records.specs.Groups.{same_owner, same_type, same_rrset}
-use Rattle.domain_records.specs.Lookup.{IsFirstPlace, matches, is_asked}
-use Rattle.domain_records.specs.Rrsets.{TakesRrset, IsFound, IsRrsetOf, begins_with, first_group, group_at}
-use Rattle.domain_records.specs.Runs.{runs, add_to}
+use Rattle.domain_records.specs.{declared.error.SigningError.SigningError, Groups.{same_owner, same_type, same_rrset}, Lookup.{IsFirstPlace, matches, is_asked}}
+use Rattle.domain_records.specs.{Rrsets.{TakesRrset, IsFound, IsRrsetOf, begins_with, first_group, group_at}, Runs.{runs, add_to}}
 use Rattle.domain_records.proofs.Runs.{begins, runs_nil}
-use Rattle.std.proofs.lemmas.Grind.{common_steps}
 
 module _ {X : Type 0} (same : X → X → Bool) (p : X → Bool) (alike : (x y : X) → same x y ≡ true → p x ≡ p y) where
   passed_step : (x y : X) (ys : List X) (gs : List (List X)) (b : Bool) → same x y ≡ b → p x ≡ false

@@ -1,21 +1,13 @@
 -- Where records of an owner stand in canonical order.
 use Rattle.std.proofs.Common.{◌≡◌, ℕ, ◌<◌, ◌≤◌, true, false, List, length, get_or, Option, Some, None, refl, sym, ◌∙◌, ap, ⊎_elim, arith, leb}
-use Rattle.std.specs.Cmp.{IsTotalOrder, tied_itself, alike_right, ranks, nat_cmp_total, on_total, then_total, Equal-is}
-use Rattle.std.specs.List.Sorted.{IsStrictlySortedBy, IsPartitionedBy}
-use Rattle.std.specs.Ordering.{ordering_then, nat_cmp, is_gt, is_lt, is_eq, MatchOrdering}
-use Rattle.std.specs.declared.cmp.Ordering.{Ordering}
-use Rattle.std.specs.declared.cmp.Ordering.TheVariants.{Less, Equal}
-use Rattle.std.proofs.lemmas.Map.Keys.{Less-from_sorted}
-use Rattle.std.proofs.lemmas.Bool.{leb-true, le-leb, cases_lt, and_parts, false_from_ne_true}
-use Rattle.std.proofs.lemmas.List.{get_or_default}
-use Rattle.domain_names.specs.Name.{same_name}
-use Rattle.domain_names.specs.Order.{canonical_cmp, canonical_cmp_total}
-use Rattle.domain_names.specs.Laws.{same_name_ties}
-use Rattle.domain_record.specs.declared.record.Record.{Record}
-use Rattle.domain_record.specs.Record.{record_cmp}
+use Rattle.std.proofs.lemmas.{Map.Keys.Less-from_sorted, Bool.{leb-true, le-leb, cases_lt, and_parts, false_from_ne_true}, List.get_or_default}
+use Rattle.std.{proofs.lemmas.Grind.common_steps, specs.Cmp.{IsTotalOrder, tied_itself, alike_right, ranks, nat_cmp_total, on_total, then_total, Equal-is}}
+use Rattle.std.specs.{List.Sorted.{IsStrictlySortedBy, IsPartitionedBy}, Ordering.{ordering_then, nat_cmp, is_gt, is_lt, is_eq, MatchOrdering}}
+use Rattle.std.specs.declared.cmp.Ordering.{Ordering, TheVariants.{Less, Equal}}
+use Rattle.domain_names.specs.{Name.same_name, Order.{canonical_cmp, canonical_cmp_total}, Laws.same_name_ties}
+use Rattle.domain_record.specs.{declared.record.Record.Record, Record.record_cmp}
 use Rattle.domain_records.specs.Lookup.{Key, key_cmp, key_of, wanted_key, where_asked, number_asked, is_asked, is_before, matches, HasAt, IsParted}
 use Rattle.domain_records.specs.Lookup.{IsFirstPlace}
-use Rattle.std.proofs.lemmas.Grind.{common_steps}
 
 pub key_cmp_total : IsTotalOrder key_cmp
 key_cmp_total = then_total (on_total (λ k. k.class) nat_cmp_total)

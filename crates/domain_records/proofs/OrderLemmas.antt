@@ -1,20 +1,11 @@
 -- Records in order: from neighbours to all pairs, and from the canonical order.
 use Rattle.std.proofs.lemmas.Grind.{common_steps}
 use Rattle.std.proofs.Common.{◌≡◌, ℕ, ◌+◌, ◌<◌, ◌≤◌, zero, suc, add-one, Bool, true, false, List, [], ◌∷◌, length, get_or, refl, sym, ◌∙◌, ap, arith}
-use Rattle.std.specs.List.{AllByRecursion}
-use Rattle.std.specs.List.Sorted.{IsStrictlySortedBy}
-use Rattle.std.specs.Cmp.{IsTotalOrder, upto, tied_itself, ranks, nat_cmp_total}
-use Rattle.std.specs.Ordering.{ordering_then, nat_cmp, is_gt, is_le, MatchOrdering}
-use Rattle.std.specs.declared.cmp.Ordering.{Ordering}
-use Rattle.std.specs.declared.cmp.Ordering.TheVariants.{Less, Equal, Greater}
-use Rattle.domain_names.specs.Name.{IsSame}
-use Rattle.domain_names.specs.Order.{canonical_cmp, canonical_cmp_total}
-use Rattle.domain_names.specs.Laws.{same_tied, tied_same}
-use Rattle.domain_record.specs.declared.record.Record.{Record}
-use Rattle.domain_record.specs.Record.{record_cmp}
-use Rattle.domain_records.specs.Groups.{may_follow}
-use Rattle.domain_records.specs.Runs.{HoldsOfNeighbours}
-use Rattle.domain_records.specs.Order.{HoldsPairwise, IsOneClass, MayFollow, IsInOrder}
+use Rattle.std.specs.{List.{AllByRecursion, Sorted.IsStrictlySortedBy}, Cmp.{IsTotalOrder, upto, tied_itself, ranks, nat_cmp_total}}
+use Rattle.std.specs.{Ordering.{ordering_then, nat_cmp, is_gt, is_le, MatchOrdering}, declared.cmp.Ordering.{Ordering, TheVariants.{Less, Equal, Greater}}}
+use Rattle.domain_names.specs.{Name.IsSame, Order.{canonical_cmp, canonical_cmp_total}, Laws.{same_tied, tied_same}}
+use Rattle.domain_record.specs.{declared.record.Record.Record, Record.record_cmp}
+use Rattle.domain_records.specs.{Groups.may_follow, Runs.HoldsOfNeighbours, Order.{HoldsPairwise, IsOneClass, MayFollow, IsInOrder}}
 
 module _ {X : Type 0} (P : X → X → Type 0) where
   each_after : ((x y z : X) → P x y → P y z → P x z) → (x y : X) (ys : List X) → P x y → AllByRecursion (P y) ys → AllByRecursion (P x) ys

@@ -1,21 +1,12 @@
 -- A list in the order of places that ascend is sorted, and of equals the earliest comes first.
 use Rattle.std.proofs.lemmas.Grind.{common_steps}
 use Rattle.std.proofs.Common.{◌≡◌, ◌∙◌, ℕ, ◌+◌, ◌<◌, ◌≤◌, Some, Bool, true, false, List, length, get_or, sym, ap, subst, arith, is_lt, inl, inr}
-use Rattle.std.specs.Cmp.{IsTotalOrder, then_total, on_total, nat_cmp_total, alike_right, tied_back, Equal-is, ranks}
-use Rattle.std.specs.List.{position_or_len, find, slice_get}
-use Rattle.std.specs.List.Sorted.{IsPermutation}
-use Rattle.std.specs.Ordering.{is_eq, ordering_then, ordering_reverse, MatchOrdering}
-use Rattle.std.specs.declared.cmp.Ordering.{Ordering}
+use Rattle.std.proofs.lemmas.{Bool.{cases_Bool, cases_order}, List.{Folds.find_at, Sums.{position_or_len_is, fails_before_first, passes_at_first}}}
+use Rattle.std.proofs.lemmas.{Option.{slice_get-get_or, slice_get_past}, List.get_or_default, Map.Keys.{Less-from_sorted, sorted_from_all_adjacent}}
+use Rattle.std.specs.{Cmp.{IsTotalOrder, then_total, on_total, nat_cmp_total, alike_right, tied_back, Equal-is, ranks}, List.{position_or_len, find, slice_get}}
+use Rattle.std.specs.{List.Sorted.IsPermutation, Ordering.{is_eq, ordering_then, ordering_reverse, MatchOrdering}, declared.cmp.Ordering.Ordering}
 use Rattle.std.specs.declared.cmp.Ordering.TheVariants.{Less, Equal}
-use Rattle.std.proofs.lemmas.Bool.{cases_Bool, cases_order}
-use Rattle.std.proofs.lemmas.List.Folds.{find_at}
-use Rattle.std.proofs.lemmas.List.Sums.{position_or_len_is, fails_before_first, passes_at_first}
-use Rattle.std.proofs.lemmas.Option.{slice_get-get_or, slice_get_past}
-use Rattle.std.proofs.lemmas.List.{get_or_default}
-use Rattle.std.proofs.lemmas.Map.Keys.{Less-from_sorted, sorted_from_all_adjacent}
-use Rattle.domain_records.specs.declared.owner_runs.Run.{Run}
-use Rattle.domain_records.specs.OwnerOrder.{compared_runs}
-use Rattle.domain_records.specs.Places.{AreInOrder, IsArranged, compared_places}
+use Rattle.domain_records.specs.{declared.owner_runs.Run.Run, OwnerOrder.compared_runs, Places.{AreInOrder, IsArranged, compared_places}}
 use Rattle.domain_records.specs.SortedSet.{IsSortOf, first_equal}
 
 pub places_total : {X : Type 0} {R : X → X → Ordering} → IsTotalOrder R → (xs : List X) (d : X) → IsTotalOrder (compared_places R xs d)

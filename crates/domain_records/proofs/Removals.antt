@@ -1,10 +1,8 @@
 -- What is left without the elements that pass a test.
 use Rattle.std.proofs.lemmas.Grind.{common_steps}
 use Rattle.std.proofs.Common.{◌≡◌, ℕ, zero, suc, Bool, true, false, not, cond, ◌||◌, List, [], ◌∷◌, Option, Some, None, refl, ◌∙◌, ap, arith}
-use Rattle.std.specs.Option.{is_some}
-use Rattle.std.specs.List.{filter, list_any, remove}
-use Rattle.domain_records.specs.Edits.{without_first}
-use Rattle.domain_records.specs.Lookup.{IsFirstPlace}
+use Rattle.std.specs.{Option.is_some, List.{filter, list_any, remove}}
+use Rattle.domain_records.specs.{Edits.without_first, Lookup.IsFirstPlace}
 
 module _ {X : Type 0} (p : X → Bool) where
   pub all_kept : (xs : List X) → IsFirstPlace p xs None → filter (λ x. not (p x)) xs ≡ xs

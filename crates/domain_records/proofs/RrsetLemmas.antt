@@ -1,10 +1,7 @@
 -- What `Rrset::new` says of a group.
-use Rattle.std.proofs.lemmas.Grind.{common_steps}
-use Rattle.std.proofs.Common.{◌≡◌, ℕ, ◌<◌, List, length, Result, IfOk, IfErr, arith}
+use Rattle.std.proofs.{lemmas.Grind.common_steps, Common.{◌≡◌, ℕ, ◌<◌, List, length, Result, IfOk, IfErr, arith}}
 use Rattle.domain_record.specs.declared.record.Record.{Record}
-use Rattle.domain_records.specs.declared.error.SigningError.{SigningError}
-use Rattle.domain_records.specs.declared.error.SigningError.TheVariants.{MultipleTtlValues}
-use Rattle.domain_records.specs.Rrsets.{HasOneTtl, IsRrset, IsRrsetOf, IsNoRrset}
+use Rattle.domain_records.specs.{declared.error.SigningError.{SigningError, TheVariants.MultipleTtlValues}, Rrsets.{HasOneTtl, IsRrset, IsRrsetOf, IsNoRrset}}
 
 module _ {N D : Type 0} (rtype : D → ℕ) (group : List (Record N D)) (some : 0 < length group) where
   refusal : (e : SigningError) → IsNoRrset rtype group e → (e ≡ MultipleTtlValues) × ¬ (HasOneTtl rtype group)

@@ -1,9 +1,7 @@
 -- The maximal runs of a list.
 use Rattle.std.proofs.Common.{◌≡◌, ℕ, ◌+◌, ◌<◌, ◌≤◌, eqb, IsTrue, zero, suc, Bool, true, false, cond, List, [], ◌∷◌, length, get_or, take, drop, refl, sym, ◌∙◌}
-use Rattle.std.proofs.Common.{ap, arith, add-one}
-use Rattle.std.proofs.lemmas.Bool.{eq-eqb}
+use Rattle.std.proofs.{Common.{ap, arith, add-one}, lemmas.{Bool.eq-eqb, Grind.common_steps}}
 use Rattle.domain_records.specs.Runs.{AreGroups, Apart, add_to, runs, IsFirstRun, HoldsOfNeighbours}
-use Rattle.std.proofs.lemmas.Grind.{common_steps}
 
 module _ {X : Type 0} (same : X → X → Bool) where
   -- the first run of some elements begins with the first of them

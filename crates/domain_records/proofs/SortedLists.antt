@@ -1,21 +1,15 @@
 -- Sorted sets as lists: where an element stands or goes, and what a sort and a dedup leave.
-use Rattle.std.proofs.Common.{◌≡◌, ℕ, ◌+◌, ◌<◌, suc, Bool, false, cond, not, ◌&&◌, List, [], ◌∷◌, ◌++◌, length, get_or, take, drop, Option, Some}
-use Rattle.std.proofs.Common.{None, Result, Ok, Err, IfOk, IfErr, refl, sym, ◌∙◌, ap, subst, arith, is_lt}
+use Rattle.std.proofs.Common.{◌≡◌, ℕ, ◌+◌, ◌<◌, suc, Bool, false, cond, not, ◌&&◌, List, [], ◌∷◌, ◌++◌, length, get_or, take, drop, Option, Some, None, Result}
+use Rattle.std.proofs.{Common.{Ok, Err, IfOk, IfErr, refl, sym, ◌∙◌, ap, subst, arith, is_lt}, lemmas.Map.Keys.Less-from_sorted}
+use Rattle.std.proofs.lemmas.List.Sorted.{searchable_from_sorted, IsPermutation-insert, Contains-permutation, All-permutation}
+use Rattle.std.proofs.lemmas.List.{Kept.{IsStrictlySortedBy-dedup, Any-dedup}, Filters.All-dedup}
+use Rattle.std.proofs.{lemmas.List.{take-append-drop, get_or-take, get_or-drop, get_or_default, length-take-le, length-drop}, Math.Seq.drop-cons}
+use Rattle.std.proofs.lemmas.{List.Elements.{All-contains_itself, filter_agree, recursion_from_All}, Grind.common_steps}
 use Rattle.std.specs.List.{AllByRecursion, Contains, dedup, dedup_from, filter, find, insert, remove}
 use Rattle.std.specs.List.Sorted.{IsStrictlySortedBy, IsSorted, IsStable, IsPermutation, ties, IsSearchInRange, IsBinarySearchResult, IsNonDecreasingBy}
-use Rattle.std.specs.Cmp.{IsTotalOrder, IsEquivalence, eq_by_cmp_equiv, tied_back, Equal-is}
-use Rattle.std.specs.Ordering.{eq_by_cmp, is_eq, ordering_index, ordering_reverse}
-use Rattle.std.specs.declared.cmp.Ordering.{Ordering}
-use Rattle.std.specs.declared.cmp.Ordering.TheVariants.{Less, Greater}
-use Rattle.std.proofs.lemmas.Map.Keys.{Less-from_sorted}
-use Rattle.std.proofs.lemmas.List.Sorted.{searchable_from_sorted, IsPermutation-insert, Contains-permutation, All-permutation}
-use Rattle.std.proofs.lemmas.List.Kept.{IsStrictlySortedBy-dedup, Any-dedup}
-use Rattle.std.proofs.lemmas.List.Filters.{All-dedup}
-use Rattle.std.proofs.lemmas.List.{take-append-drop, get_or-take, get_or-drop, get_or_default, length-take-le, length-drop}
-use Rattle.std.proofs.Math.Seq.{drop-cons}
-use Rattle.std.proofs.lemmas.List.Elements.{All-contains_itself, filter_agree, recursion_from_All}
+use Rattle.std.specs.{Cmp.{IsTotalOrder, IsEquivalence, eq_by_cmp_equiv, tied_back, Equal-is}, Ordering.{eq_by_cmp, is_eq, ordering_index, ordering_reverse}}
+use Rattle.std.specs.declared.cmp.Ordering.{Ordering, TheVariants.{Less, Greater}}
 use Rattle.domain_records.specs.SortedSet.{IsAt, IsGapFor, Holds, IsSortedSetOf, IsSortOf, IsUnion, KeepsEarliest, Adds}
-use Rattle.std.proofs.lemmas.Grind.{common_steps}
 
 module _ {X : Type 0} where
   -- the first that passes is the first of those that pass

@@ -1,12 +1,7 @@
 -- One text after another.
-use Rattle.std.proofs.Common.{◌≡◌, ℕ, ◌+◌, ◌<◌, length, get_or, drop, subst, Result, Bool, true, false, not, List, [], ◌∷◌, ◌++◌, Option, Some}
-use Rattle.std.proofs.Common.{refl, sym, ◌∙◌, ap, append-nil, arith}
-use Rattle.std.specs.Bool.{beq}
-use Rattle.std.specs.List.{FoldsTo, filter}
-use Rattle.std.specs.Fmt.{WritesInCalls, WritesText, ◌++?◌}
-use Rattle.std.proofs.lemmas.List.Folds.{concat-append}
-use Rattle.std.specs.Fn.{Shared}
-use Rattle.std.specs.declared.fmt.Error.{Error}
+use Rattle.std.proofs.Common.{◌≡◌, ℕ, ◌+◌, ◌<◌, length, get_or, drop, subst, Result, Bool, true, false, not, List, [], ◌∷◌, ◌++◌, Option, Some, refl, sym, ◌∙◌}
+use Rattle.std.proofs.{Common.{ap, append-nil, arith}, lemmas.List.Folds.concat-append}
+use Rattle.std.specs.{Bool.beq, List.{FoldsTo, filter}, Fmt.{WritesInCalls, WritesText, ◌++?◌}, Fn.Shared, declared.fmt.Error.Error}
 use Rattle.domain_records.specs.Text.{texts, WritesWithComments}
 use denote.Ref.{Bor, MutBor}
 use Rattle.std.proofs.lemmas.Grind.{common_steps}

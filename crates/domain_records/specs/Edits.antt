@@ -1,12 +1,8 @@
 -- What the calls of sorted records add, remove and change.
 use Rattle.std.specs.Prelude.{◌≡◌, ℕ, ◌<◌, Bool, true, false, List, [], ◌∷◌, length, Option, Some, None, slice_index_or, remove, ◌⊎◌, if◌then◌else◌}
-use Rattle.std.specs.Fn.{Shared, FnReturnsAt}
-use Rattle.std.specs.Iterator.{Drains}
-use Rattle.std.specs.declared.cmp.Ordering.{Ordering}
+use Rattle.std.specs.{Fn.{Shared, FnReturnsAt}, Iterator.Drains, declared.cmp.Ordering.Ordering}
 use Rattle.domain_record.specs.declared.record.Record.{Record}
-use Rattle.domain_records.specs.declared.error.InsertError.{InsertError}
-use Rattle.domain_records.specs.declared.error.InsertError.TheVariants.{Present, OutOfMemory}
-use Rattle.domain_records.specs.SortedSet.{Holds, Adds}
+use Rattle.domain_records.specs.{declared.error.InsertError.{InsertError, TheVariants.{Present, OutOfMemory}}, SortedSet.{Holds, Adds}}
 use denote.Ref.{Bor}
 
 -- what `into_iter` made of more gave xs, and then ended

@@ -1,11 +1,7 @@
 -- Records of one owner, and of one owner and type.
-use Rattle.std.specs.Prelude.{◌≡◌, ℕ, Bool, ◌==◌, ◌&&◌, List, [], ◌∷◌, ◌++◌, Any}
-use Rattle.std.specs.List.{AllByRecursion}
-use Rattle.std.specs.Ordering.{is_le, nat_cmp, on, then_cmp}
-use Rattle.domain_names.specs.Order.{canonical_cmp}
-use Rattle.domain_names.specs.Name.{same_name, IsSame}
+use Rattle.std.specs.{Prelude.{◌≡◌, ℕ, Bool, ◌==◌, ◌&&◌, List, [], ◌∷◌, ◌++◌, Any}, List.AllByRecursion, Ordering.{is_le, nat_cmp, on, then_cmp}}
+use Rattle.domain_names.specs.{Order.canonical_cmp, Name.{same_name, IsSame}, Words.Name}
 use Rattle.domain_record.specs.declared.record.Record.{Record}
-use Rattle.domain_names.specs.Words.{Name}
 use Rattle.domain_base.specs.Types.{ns}
 
 -- the owners agree but for the case of letters

@@ -1,12 +1,8 @@
 -- How records are looked up by owner, class and type.
 use Rattle.std.specs.Prelude.{◌≡◌, ℕ, ◌<◌, Bool, true, false, ◌==◌, ◌&&◌, List, length, Option, Some, None, slice_index_or}
-use Rattle.std.specs.Ordering.{nat_cmp, is_lt, on, then_cmp}
-use Rattle.std.specs.List.Sorted.{IsPartitionPoint}
-use Rattle.std.specs.declared.cmp.Ordering.{Ordering}
-use Rattle.domain_names.specs.Name.{same_name}
-use Rattle.domain_names.specs.Order.{canonical_cmp}
+use Rattle.std.specs.{Ordering.{nat_cmp, is_lt, on, then_cmp}, List.Sorted.IsPartitionPoint, declared.cmp.Ordering.Ordering}
+use Rattle.domain_names.specs.{Name.same_name, Order.canonical_cmp, Words.Name}
 use Rattle.domain_record.specs.declared.record.Record.{Record}
-use Rattle.domain_names.specs.Words.{Name}
 
 -- nothing is asked, or this number
 abbrev pub is_asked : Option ℕ → ℕ → Bool

@@ -1,10 +1,7 @@
 -- Records of one class, in order of owner and type.
-use Rattle.std.specs.Prelude.{◌≡◌, ℕ, ◌≤◌, List, [], ◌∷◌}
-use Rattle.std.specs.List.{AllByRecursion}
-use Rattle.domain_names.specs.Name.{IsSame}
-use Rattle.domain_names.specs.Order.{IsUpTo}
+use Rattle.std.specs.{Prelude.{◌≡◌, ℕ, ◌≤◌, List, [], ◌∷◌}, List.AllByRecursion}
+use Rattle.domain_names.specs.{Name.IsSame, Order.IsUpTo, Words.Name}
 use Rattle.domain_record.specs.declared.record.Record.{Record}
-use Rattle.domain_names.specs.Words.{Name}
 
 -- P holds of each element and each one after it
 abbrev pub HoldsPairwise : {X : Type 0} → (X → X → Type 0) → List X → Type 0

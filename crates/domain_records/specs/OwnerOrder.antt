@@ -1,9 +1,6 @@
 -- The canonical order of records in two parts, and the order of runs.
-use Rattle.std.specs.Prelude.{ℕ, List, slice_index_or}
-use Rattle.std.specs.declared.cmp.Ordering.{Ordering}
-use Rattle.std.specs.Ordering.{nat_cmp, on, then_cmp}
-use Rattle.domain_names.specs.Order.{canonical_cmp}
-use Rattle.domain_names.specs.Words.{Name}
+use Rattle.std.specs.{Prelude.{ℕ, List, slice_index_or}, declared.cmp.Ordering.Ordering, Ordering.{nat_cmp, on, then_cmp}}
+use Rattle.domain_names.specs.{Order.canonical_cmp, Words.Name}
 use Rattle.domain_record.specs.declared.record.Record.{Record}
 use Rattle.domain_records.specs.declared.owner_runs.Run.{Run}
 

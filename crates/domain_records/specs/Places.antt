@@ -1,9 +1,6 @@
 -- The elements of a list, put into another order by their places.
-use Rattle.std.specs.Prelude.{◌≡◌, ℕ, ◌<◌, List, length, slice_index, slice_index_or}
-use Rattle.std.specs.List.{AllAdjacentBelow}
-use Rattle.std.specs.Ordering.{nat_cmp, on, then_cmp}
-use Rattle.std.specs.declared.cmp.Ordering.{Ordering}
-use Rattle.std.specs.declared.cmp.Ordering.TheVariants.{Less}
+use Rattle.std.specs.{Prelude.{◌≡◌, ℕ, ◌<◌, List, length, slice_index, slice_index_or}, List.AllAdjacentBelow, Ordering.{nat_cmp, on, then_cmp}}
+use Rattle.std.specs.declared.cmp.Ordering.{Ordering, TheVariants.Less}
 
 -- the rank of a place is where it stands in the list of places
 pub record AreRanks (places ranks : List ℕ) : Type 0 where

@@ -3,11 +3,8 @@ use Rattle.std.specs.Prelude.{◌≡◌, ◌≢◌, ℕ, ◌<◌, Bool, false, L
 use Rattle.domain_base.specs.Types.{rrsig}
 use Rattle.domain_record.specs.declared.record.Record.{Record}
 use Rattle.domain_records.specs.declared.error.SigningError.{SigningError}
-use Rattle.domain_records.specs.declared.error.SigningError.TheVariants.{EmptyRecordSlice, MultipleTtlValues}
-use Rattle.domain_records.specs.declared.error.SigningError.TheVariants.{SoaRecordCouldNotBeDetermined, Nsec3HashingError, OutOfMemory}
-use Rattle.domain_records.specs.Groups.{IfFirst}
-use Rattle.domain_records.specs.Order.{HoldsPairwise}
-use Rattle.domain_records.specs.Runs.{runs}
+use Rattle.domain_records.specs.declared.error.SigningError.TheVariants.{EmptyRecordSlice, MultipleTtlValues, SoaRecordCouldNotBeDetermined, Nsec3HashingError}
+use Rattle.domain_records.specs.{declared.error.SigningError.TheVariants.OutOfMemory, Groups.IfFirst, Order.HoldsPairwise, Runs.runs}
 
 -- no two differ in TTL, unless the type of the first is RRSIG: records of that type are grouped,
 -- but no RRset (RFC 4034, section 3)

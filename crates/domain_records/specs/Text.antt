@@ -1,10 +1,7 @@
 -- Records as text.
-use Rattle.std.specs.Prelude.{◌≡◌, ℕ, Bool, not, ◌==◌, List, [], ◌∷◌, ◌++◌, filter, Option, Some, Result, Ok}
-use Rattle.std.specs.Fmt.{WritesText, ◌++?◌}
-use Rattle.std.specs.Fn.{Shared}
+use Rattle.std.specs.{Prelude.{◌≡◌, ℕ, Bool, not, ◌==◌, List, [], ◌∷◌, ◌++◌, filter, Option, Some, Result, Ok}, Fmt.{WritesText, ◌++?◌}, Fn.Shared}
 use Rattle.std.specs.declared.fmt.Error.{Error}
-use Rattle.domain_octets.specs.Words.{Octets}
-use Rattle.domain_octets.specs.Characters.{line_feed}
+use Rattle.domain_octets.specs.{Words.Octets, Characters.line_feed}
 use Rattle.domain_base.specs.Types.{soa}
 use Rattle.domain_record.specs.declared.record.Record.{Record}
 use denote.Ref.{Bor, MutBor}

@@ -1,11 +1,8 @@
 //! What holds of groups and of sorted records. A caller calls the law in its body.
-ghost use Rattle.std.specs.Prelude.{List};
-ghost use Rattle.domain_record.specs.declared.record.Record.{Record};
-ghost use Rattle.std.specs.List.Sorted.{IsStrictlySortedBy};
-ghost use Rattle.domain_record.specs.Record.{record_cmp};
+ghost use Rattle.std.specs.{Prelude.List, List.Sorted.IsStrictlySortedBy};
+ghost use Rattle.domain_record.specs.{declared.record.Record.Record, Record.record_cmp};
 ghost use Rattle.domain_records.specs.Groups.{same_owner, same_type, same_rrset};
-ghost use Rattle.domain_records.specs.Order.{IsOneClass, IsInOrder};
-ghost use Rattle.domain_records.specs.Runs.{AreGroups, runs};
+ghost use Rattle.domain_records.specs.{Order.{IsOneClass, IsInOrder}, Runs.{AreGroups, runs}};
 
 use domain_base::{CanonicalOrd, ToName};
 use domain_record::RecordData;

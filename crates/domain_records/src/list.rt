@@ -1,10 +1,7 @@
 //! Lists as sorted sets.
-ghost use Rattle.std.specs.Prelude.{◌≡◌, ◌++◌, List, IfOk, IfErr, OnOk, OnErr};
-ghost use Rattle.std.specs.List.{AllZip};
-ghost use Rattle.std.specs.List.Sorted.{IsStrictlySortedBy};
-ghost use Rattle.std.specs.Iterator.{IsFiniteIterable};
-ghost use Rattle.domain_records.specs.Edits.{Gives, IsFirstMatch};
-ghost use Rattle.domain_records.specs.SortedSet.{IsAt, IsGapFor};
+ghost use Rattle.std.specs.{Prelude.{◌≡◌, ◌++◌, List, IfOk, IfErr, OnOk, OnErr}, List.AllZip};
+ghost use Rattle.std.specs.{List.Sorted.IsStrictlySortedBy, Iterator.IsFiniteIterable};
+ghost use Rattle.domain_records.specs.{Edits.{Gives, IsFirstMatch}, SortedSet.{IsAt, IsGapFor}};
 
 use domain_base::CanonicalOrd;
 use domain_octets::{OutOfMemory, TryClone};

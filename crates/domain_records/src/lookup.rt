@@ -1,10 +1,9 @@
 //! Looking up records by owner, class and type.
-ghost use Rattle.std.specs.Prelude.{◌≡◌, ◌≤◌, ◌↔◌, ◌==◌, nat_le, length, IsTrue};
-ghost use Rattle.std.specs.Option.{ForSome};
+ghost use Rattle.std.specs.{Prelude.{◌≡◌, ◌≤◌, ◌↔◌, ◌==◌, nat_le, length, IsTrue}, Option.ForSome};
 ghost use Rattle.std.specs.List.Sorted.{IsStrictlySortedBy};
 ghost use Rattle.domain_record.specs.Record.{record_cmp};
-ghost use Rattle.domain_records.specs.Lookup.{matches, HasAt, IsFirstPlace, IsParted, is_before, key_of, wanted_key, key_cmp};
-ghost use Rattle.domain_records.specs.Groups.{same_rrset};
+ghost use Rattle.domain_records.specs.Lookup.{matches, HasAt, IsFirstPlace, IsParted, is_before};
+ghost use Rattle.domain_records.specs.{Lookup.{key_of, wanted_key, key_cmp}, Groups.same_rrset};
 ghost use Rattle.domain_records.specs.Rrsets.{IsFound, group_at};
 
 use crate::error::SigningError;

@@ -4,8 +4,7 @@ ghost use Rattle.std.specs.Iterator.{item_count};
 ghost use Rattle.domain_names.specs.Name.{IsAtOrBelow};
 ghost use Rattle.domain_records.specs.Slices.{items_of};
 ghost use Rattle.domain_records.specs.Groups.{same_owner, HasFirst, SkipsTo, IsZoneCut};
-ghost use Rattle.domain_records.specs.Order.{IsOneClass, IsInOrder};
-ghost use Rattle.domain_records.specs.Runs.{TakesRun};
+ghost use Rattle.domain_records.specs.{Order.{IsOneClass, IsInOrder}, Runs.TakesRun};
 
 use crate::group::{ByClass, ByOwner, InOrder, first_run, is_one_run};
 use crate::rrset::OwnerRrsIter;

@@ -1,6 +1,5 @@
 //! Records compared by owner, and by the rest.
-ghost use Rattle.std.specs.Prelude.{◌≡◌, slice_index_or};
-ghost use Rattle.std.specs.Ordering.{is_eq};
+ghost use Rattle.std.specs.{Prelude.{◌≡◌, slice_index_or}, Ordering.is_eq};
 ghost use Rattle.domain_record.specs.Record.{record_cmp};
 ghost use Rattle.domain_records.specs.OwnerOrder.{owner_cmp, rest_cmp};
 

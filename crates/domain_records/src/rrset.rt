@@ -1,8 +1,7 @@
 //! Records of one owner and one type.
 ghost use Rattle.std.specs.Prelude.{◌≡◌, ◌<◌, IsTrue, IfOk, IfErr, ◌↔◌, length, map};
 ghost use Rattle.std.specs.Iterator.{item_count};
-ghost use Rattle.domain_records.specs.Slices.{items_of};
-ghost use Rattle.domain_records.specs.Groups.{HasFirst, same_rrset, same_type};
+ghost use Rattle.domain_records.specs.{Slices.items_of, Groups.{HasFirst, same_rrset, same_type}};
 ghost use Rattle.domain_records.specs.Rrsets.{HasOneTtl, IsRrset, IsNoRrset, TakesRrset};
 
 use crate::error::SigningError;

@@ -1,21 +1,16 @@
 //! Sorted records.
-ghost use Rattle.std.specs.Prelude.{◌≡◌, ◌↔◌, ◌==◌, ◌++◌, ℕ, [], List, length, not, filter, find, Option, IsTrue, IfOk, IfErr, OnOk, OnErr, IsErrOf};
-ghost use Rattle.std.specs.List.{AllZip, list_any};
-ghost use Rattle.std.specs.Fmt.{WritesText};
+ghost use Rattle.std.specs.Prelude.{◌≡◌, ◌↔◌, ◌==◌, ◌++◌, ℕ, [], List, length, not, filter, find};
+ghost use Rattle.std.specs.Prelude.{Option, IsTrue, IfOk, IfErr, OnOk, OnErr, IsErrOf};
+ghost use Rattle.std.specs.{List.{AllZip, list_any}, Fmt.WritesText, Slice.Iter.iter_rest};
+ghost use Rattle.std.specs.{Iterator.IsFiniteIterable, List.Sorted.IsStrictlySortedBy};
 ghost use Rattle.domain_records.specs.Text.{texts, soa_first, WritesWithComments};
-ghost use Rattle.std.specs.Slice.Iter.{iter_rest};
-ghost use Rattle.std.specs.Iterator.{IsFiniteIterable};
-ghost use Rattle.std.specs.List.Sorted.{IsStrictlySortedBy};
-ghost use Rattle.domain_base.specs.Types.{soa};
-ghost use Rattle.domain_record.specs.Record.{record_cmp};
-ghost use Rattle.domain_record.specs.RecordClone.{IsRecordClone};
 ghost use Rattle.domain_records.specs.Edits.{Gives, refused, without_first, IsFirstMatch, Updates};
-ghost use Rattle.domain_records.specs.Lookup.{matches};
-ghost use Rattle.domain_records.specs.Groups.{same_rrset};
-ghost use Rattle.domain_records.specs.Rrsets.{IsFound, begins_with};
-ghost use Rattle.domain_records.specs.Runs.{runs};
+ghost use Rattle.domain_records.specs.{Lookup.matches, Groups.same_rrset};
+ghost use Rattle.domain_records.specs.{Rrsets.{IsFound, begins_with}, Runs.runs};
 ghost use Rattle.domain_records.specs.Order.{IsOneClass, IsInOrder};
 ghost use Rattle.domain_records.specs.SortedSet.{IsUnion, Adds, Holds};
+ghost use Rattle.domain_base.specs.Types.{soa};
+ghost use Rattle.domain_record.specs.{Record.record_cmp, RecordClone.IsRecordClone};
 
 use crate::error::{InsertError, SigningError, SortError};
 use crate::list::{append, clone_all, first_match, search};

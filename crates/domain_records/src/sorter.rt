@@ -1,7 +1,6 @@
 //! What sorts.
 ghost use Rattle.std.specs.Prelude.{◌≡◌, Bool, true, false, IsTrue, OnOk, OnErr};
-ghost use Rattle.std.specs.declared.cmp.Ordering.{Ordering};
-ghost use Rattle.std.specs.Cmp.{IsTotalOrder};
+ghost use Rattle.std.specs.{declared.cmp.Ordering.Ordering, Cmp.IsTotalOrder};
 ghost use Rattle.std.specs.List.Sorted.{IsPermutation, IsSorted, IsStable};
 ghost use Rattle.domain_records.specs.Sort.{AnswersBy};
 

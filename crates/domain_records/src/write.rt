@@ -1,7 +1,5 @@
 //! A list as text, the elements of one kind first.
-ghost use Rattle.std.specs.Prelude.{◌≡◌, ◌∷◌, [], Bool, filter, OnOk};
-ghost use Rattle.std.specs.Bool.{beq};
-ghost use Rattle.std.specs.Fmt.{WritesText};
+ghost use Rattle.std.specs.{Prelude.{◌≡◌, ◌∷◌, [], Bool, filter, OnOk}, Bool.beq, Fmt.WritesText};
 ghost use Rattle.domain_records.specs.Text.{texts, is_soa, WritesLine, WritesWithComments};
 
 use domain_base::Rtype;

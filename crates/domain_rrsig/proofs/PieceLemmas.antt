@@ -1,16 +1,11 @@
 -- the pieces of signatures, written one after another
-use Rattle.std.proofs.Common.{arith, ◌≡◌, ℕ, List, [], ◌∷◌, ◌++◌}
-use Rattle.std.proofs.lemmas.Grind.{common_steps}
-use Rattle.std.specs.Prelude.{codes}
-use Rattle.std.specs.Fmt.{decimal}
-use Rattle.base64.specs.GeneralPurpose.{encode_of}
-use Rattle.base64.specs.Engines.{standard}
+use Rattle.std.{proofs.{Common.{arith, ◌≡◌, ℕ, List, [], ◌∷◌, ◌++◌}, lemmas.Grind.common_steps}, specs.{Prelude.codes, Fmt.decimal}}
+use Rattle.base64.specs.{GeneralPurpose.encode_of, Engines.standard}
 use Rattle.domain_octets.specs.Piece.{PieceText, token, comment, opens, closes}
 use Rattle.domain_base.specs.Numbers.{type_text}
 use Rattle.domain_names.specs.Text.{name_text}
 use Rattle.domain_fields.proofs.PieceLemmas.{piece_before, pieces_before}
-use Rattle.domain_rrsig.specs.Data.{ProtoRrsigData, RrsigData}
-use Rattle.domain_rrsig.specs.Pieces.{signed_number_pieces, signer_pieces, rrsig_pieces}
+use Rattle.domain_rrsig.specs.{Data.{ProtoRrsigData, RrsigData}, Pieces.{signed_number_pieces, signer_pieces, rrsig_pieces}}
 
 pub numbers_written : (a b c d e f g : List PieceText) (fields : ProtoRrsigData) (type_covered algorithm labels ttl : ℕ)
     → type_covered ≡ fields.type_covered → algorithm ≡ fields.algorithm → labels ≡ fields.labels → ttl ≡ fields.original_ttl

@@ -1,27 +1,13 @@
 -- what times and signatures are written as is read back
-use Rattle.std.proofs.lemmas.Grind.{common_steps}
-use Rattle.std.proofs.Common.{◌≡◌, ℕ, ◌<◌, ◌≤◌, All, List, [], ◌∷◌, ◌++◌, length, refl, sym, ap, subst, ◌∙◌, arith}
-use Rattle.std.specs.Prelude.{◌^◌}
-use Rattle.std.specs.Fmt.{decimal}
-use Rattle.std.specs.Str.Parse.{without_leading_plus}
-use Rattle.std.proofs.lemmas.Fmt.{decimal_is_IsNumeral, length-decimal-le}
-use Rattle.base64.specs.GeneralPurpose.{encode_of}
-use Rattle.base64.specs.Engines.{standard}
-use Rattle.domain_codecs.specs.declared.codec.Codec.TheVariants.{Base64}
-use Rattle.domain_octets.specs.Line.{words_of, word_if_any}
-use Rattle.domain_codecs.proofs.CodecBackLemmas.{base64_back}
-use Rattle.domain_codecs.proofs.NoSpaceLemmas.{base64_plain}
-use Rattle.domain_octets.proofs.WordLemmas.{one_word, next_word, next_any, two_lines, decimal_word}
-use Rattle.domain_base.specs.Numbers.{type_text}
-use Rattle.domain_base.specs.Scan.{IsNumber}
-use Rattle.domain_base.proofs.ReadBackLemmas.{type_back, type_word, name_word}
-use Rattle.domain_fields.specs.Entry.{Spells}
-use Rattle.domain_fields.specs.Field.{octet, short, long, name}
-use Rattle.domain_fields.specs.Layout.{one, ◌▸◌, Fits}
-use Rattle.domain_fields.proofs.ReadBackLemmas.{fields_back, entry_back}
+use Rattle.std.proofs.{lemmas.Grind.common_steps, Common.{◌≡◌, ℕ, ◌<◌, ◌≤◌, All, List, [], ◌∷◌, ◌++◌, length, refl, sym, ap, subst, ◌∙◌, arith}}
+use Rattle.std.{proofs.lemmas.Fmt.{decimal_is_IsNumeral, length-decimal-le}, specs.{Prelude.◌^◌, Fmt.decimal, Str.Parse.without_leading_plus}}
+use Rattle.base64.specs.{GeneralPurpose.encode_of, Engines.standard}
+use Rattle.domain_codecs.{specs.declared.codec.Codec.TheVariants.Base64, proofs.{CodecBackLemmas.base64_back, NoSpaceLemmas.base64_plain}}
+use Rattle.domain_octets.{specs.Line.{words_of, word_if_any}, proofs.WordLemmas.{one_word, next_word, next_any, two_lines, decimal_word}}
+use Rattle.domain_base.{specs.{Numbers.type_text, Scan.IsNumber}, proofs.ReadBackLemmas.{type_back, type_word, name_word}}
+use Rattle.domain_fields.{specs.{Entry.Spells, Field.{octet, short, long, name}, Layout.{one, ◌▸◌, Fits}}, proofs.ReadBackLemmas.{fields_back, entry_back}}
 use Rattle.domain_rrsig.specs.Data.{ProtoRrsigData, proto_rrsig, proto_rrsig_values, RrsigData, rrsig, rrsig_values, rrsig_octets}
-use Rattle.domain_rrsig.specs.Pieces.{signed_numbers_text, signed_times_text, dotted, rrsig_text}
-use Rattle.domain_rrsig.specs.Scan.{RrsigText, rrsig_fields_text}
+use Rattle.domain_rrsig.specs.{Pieces.{signed_numbers_text, signed_times_text, dotted, rrsig_text}, Scan.{RrsigText, rrsig_fields_text}}
 use Rattle.domain_rrsig.specs.Time.{TimeText, TimeToken}
 
 -- ---- times

@@ -1,20 +1,13 @@
 -- The texts of signatures: tokens spell one at most, and none where they are refused.
 use Rattle.std.proofs.Common.{◌≡◌, ℕ, ◌+◌, ◌<◌, List, length, sym, ◌∙◌, arith, Option}
 use Rattle.domain_codecs.specs.declared.codec.Codec.TheVariants.{Base64}
-use Rattle.domain_names.specs.Name.{wire_of}
-use Rattle.domain_base.specs.Numbers.{TypeText, IsNoType}
-use Rattle.domain_names.specs.TextFault.{ScanFault, IsOfTokens}
-use Rattle.domain_base.specs.Scan.{RefusesToken}
-use Rattle.domain_base.proofs.NamedLemmas.{one_named}
-use Rattle.domain_fields.specs.Field.{octet, short, long, name}
-use Rattle.domain_fields.specs.Layout.{Layout, one, ◌▸◌}
-use Rattle.domain_fields.specs.Scan.{Scans, Refuses}
-use Rattle.domain_fields.specs.Sequence.{OneToken, Both, RefusesBoth}
+use Rattle.domain_names.specs.{Name.wire_of, TextFault.{ScanFault, IsOfTokens}}
+use Rattle.domain_base.{specs.{Numbers.{TypeText, IsNoType}, Scan.RefusesToken}, proofs.NamedLemmas.one_named}
+use Rattle.domain_fields.specs.{Field.{octet, short, long, name}, Layout.{Layout, one, ◌▸◌}, Scan.{Scans, Refuses}, Sequence.{OneToken, Both, RefusesBoth}}
 use Rattle.domain_fields.proofs.GrammarLemmas.{ReadsOnce, Excludes, OneFault, fields_once, fields_refused, fields_one_fault, one_token, token_refused}
 use Rattle.domain_fields.proofs.GrammarLemmas.{token_once_refused, both_once, both_refused, both_one_fault, same_fields, same_octets, entry_refused}
 use Rattle.domain_fields.proofs.GrammarLemmas.{entry_refused_once}
-use Rattle.domain_rrsig.specs.Data.{proto_rrsig_data, RrsigData}
-use Rattle.domain_rrsig.specs.Time.{TimeToken, IsNoTime}
+use Rattle.domain_rrsig.specs.{Data.{proto_rrsig_data, RrsigData}, Time.{TimeToken, IsNoTime}}
 use Rattle.domain_rrsig.specs.Scan.{numbers_text, RefusesNumbers, times_text, RefusesTimes, rrsig_fields_text, RefusesRrsigFields, RrsigText, RefusesRrsig}
 use Rattle.domain_rrsig.proofs.ScanLemmas.{length_of_rrsig}
 

@@ -1,11 +1,8 @@
 -- signatures that are the same, and how they are read
 use Rattle.std.proofs.Common.{◌≡◌, ◌≤◌, ◌↔◌, ℕ, Bool, List, [], ◌++◌, length, refl, sym, ap, ◌∙◌, arith, length-append}
-use Rattle.std.specs.Prelude.{bytes_eq, IsTrue}
-use Rattle.std.specs.Cmp.Lexicographic.{bytes_decides}
-use Rattle.domain_names.specs.Name.{lowered}
-use Rattle.domain_names.proofs.CaseLemmas.{IsName-lowered}
-use Rattle.domain_fields.specs.Field.{name, rest}
-use Rattle.domain_fields.specs.Layout.{Layout, one, ◌▸◌, Values, octets_of, Fits, Begins, ParsesBack}
+use Rattle.std.specs.{Prelude.{bytes_eq, IsTrue}, Cmp.Lexicographic.bytes_decides}
+use Rattle.domain_names.{specs.Name.lowered, proofs.CaseLemmas.IsName-lowered}
+use Rattle.domain_fields.specs.{Field.{name, rest}, Layout.{Layout, one, ◌▸◌, Values, octets_of, Fits, Begins, ParsesBack}}
 use Rattle.domain_fields.proofs.ExactLemmas.{parses_back, same_values}
 use Rattle.domain_rrsig.specs.Data.{ProtoRrsigData, proto_rrsig, proto_rrsig_values, RrsigData, rrsig, rrsig_values, rrsig_octets, rrsig_canonical}
 use Rattle.domain_rrsig.specs.Data.{rrsig_numbers, rrsig_numbers_values, IsSameRrsig}

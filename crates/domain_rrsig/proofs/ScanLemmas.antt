@@ -1,18 +1,12 @@
 -- the fields of signatures as tokens
-use Rattle.std.proofs.Common.{◌≡◌, ℕ, ◌+◌, ◌≤◌, List, [], length, inr, arith, length-append, codes, Option, sym, subst}
-use Rattle.std.specs.List.{concat}
+use Rattle.std.{proofs.Common.{◌≡◌, ℕ, ◌+◌, ◌≤◌, List, [], length, inr, arith, length-append, codes, Option, sym, subst}, specs.List.concat}
 use Rattle.domain_octets.specs.Limit.{HasRoom}
-use Rattle.domain_codecs.specs.Codec.{Decodes}
-use Rattle.domain_codecs.specs.declared.codec.Codec.TheVariants.{Base64}
-use Rattle.domain_names.specs.Name.{wire_of}
-use Rattle.domain_names.specs.TextFault.{ScanFault, illegal}
+use Rattle.domain_codecs.specs.{Codec.Decodes, declared.codec.Codec.TheVariants.Base64}
+use Rattle.domain_names.specs.{Name.wire_of, TextFault.{ScanFault, illegal}}
 use Rattle.domain_base.specs.Scan.{EntryFault, IsEnd}
-use Rattle.domain_fields.specs.Field.{short, name}
-use Rattle.domain_fields.specs.Layout.{one, ◌▸◌, octets_of}
-use Rattle.domain_fields.specs.Scan.{Scans, Refuses}
+use Rattle.domain_fields.specs.{Field.{short, name}, Layout.{one, ◌▸◌, octets_of}, Scan.{Scans, Refuses}, Entry.{in_entry, too_long}}
 use Rattle.domain_rrsig.specs.Data.{ProtoRrsigData, proto_rrsig_data, RrsigData, rrsig_data, rrsig_octets}
 use Rattle.domain_rrsig.specs.Scan.{numbers_text, times_text, rrsig_fields_text, RefusesRrsigFields, RefusesRrsig}
-use Rattle.domain_fields.specs.Entry.{in_entry, too_long}
 
 module _ (old first second new : List (List ℕ)) (numbers : ℕ × (ℕ × (ℕ × ℕ))) (times : ℕ × ℕ)
     (start : numbers_text old numbers first) (middle : times_text first times second) where

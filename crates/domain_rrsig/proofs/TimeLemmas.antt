@@ -1,6 +1,5 @@
 -- times that a stamp stands for
-use Rattle.std.proofs.lemmas.Grind.{common_steps}
-use Rattle.std.proofs.Common.{◌≡◌, ℕ, ◌+◌, ◌-◌, ◌%◌, ◌<◌, ◌≤◌, ◌↔◌, Option, None, Some, IsNone, IfSome, sym, subst, arith}
+use Rattle.std.proofs.{lemmas.Grind.common_steps, Common.{◌≡◌, ℕ, ◌+◌, ◌-◌, ◌%◌, ◌<◌, ◌≤◌, ◌↔◌, Option, None, Some, IsNone, IfSome, sym, subst, arith}}
 use Rattle.std.specs.Option.{SomeIff}
 use Rattle.domain_rrsig.specs.Time.{IsNear, TimeAt, nearest}
 

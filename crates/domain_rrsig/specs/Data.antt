@@ -1,10 +1,8 @@
 -- the data of signatures, in the order of the wire
 use Rattle.std.specs.Prelude.{◌≡◌, ℕ}
 use Rattle.domain_octets.specs.Words.{Octets}
-use Rattle.domain_names.specs.Name.{IsSame}
-use Rattle.domain_names.specs.Words.{Name}
-use Rattle.domain_fields.specs.Field.{octet, short, long, name, at_most, rest}
-use Rattle.domain_fields.specs.Layout.{Layout, one, ◌▸◌, Values, octets_of, canonical_of}
+use Rattle.domain_names.specs.{Name.IsSame, Words.Name}
+use Rattle.domain_fields.specs.{Field.{octet, short, long, name, at_most, rest}, Layout.{Layout, one, ◌▸◌, Values, octets_of, canonical_of}}
 
 -- what is signed of a signature's data (RFC 4034, section 3.1.8.1): all fields but the signature
 pub record ProtoRrsigData : Type 0 where

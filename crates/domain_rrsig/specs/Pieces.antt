@@ -1,14 +1,10 @@
 -- signatures as text (RFC 4034, section 3.2), and in the pieces of a zone file
-use Rattle.std.specs.Prelude.{List, [], ◌∷◌, ◌++◌, codes}
-use Rattle.std.specs.Fmt.{decimal}
-use Rattle.base64.specs.GeneralPurpose.{encode_of}
-use Rattle.base64.specs.Engines.{standard}
-use Rattle.domain_octets.specs.Piece.{PieceText, token, comment, opens, closes}
-use Rattle.domain_octets.specs.Words.{Octets}
+use Rattle.std.specs.{Prelude.{List, [], ◌∷◌, ◌++◌, codes}, Fmt.decimal}
+use Rattle.base64.specs.{GeneralPurpose.encode_of, Engines.standard}
+use Rattle.domain_octets.specs.{Piece.{PieceText, token, comment, opens, closes}, Words.Octets}
 use Rattle.domain_base.specs.Numbers.{type_text}
-use Rattle.domain_names.specs.Text.{name_text}
+use Rattle.domain_names.specs.{Text.name_text, Words.Name}
 use Rattle.domain_rrsig.specs.Data.{ProtoRrsigData, RrsigData}
-use Rattle.domain_names.specs.Words.{Name}
 
 -- the numbers up to the TTL, with single spaces
 unfoldable pub signed_numbers_text : ProtoRrsigData → Octets

@@ -2,17 +2,11 @@
 -- left spell together
 use Rattle.std.specs.Prelude.{ℕ, ◌+◌, ◌<◌, ◌≤◌, length, Option}
 use Rattle.domain_codecs.specs.declared.codec.Codec.TheVariants.{Base64}
-use Rattle.domain_base.specs.Scan.{Refusal, Grammar, RefusesToken}
-use Rattle.domain_names.specs.Name.{wire_of}
-use Rattle.domain_base.specs.Numbers.{TypeText, IsNoType}
-use Rattle.domain_names.specs.Words.{Tokens, Name}
-use Rattle.domain_fields.specs.Entry.{Spells, RefusesData}
-use Rattle.domain_fields.specs.Field.{octet, short, long, name}
-use Rattle.domain_fields.specs.Layout.{one, ◌▸◌}
-use Rattle.domain_fields.specs.Scan.{Scans, Refuses}
+use Rattle.domain_base.specs.{Scan.{Refusal, Grammar, RefusesToken}, Numbers.{TypeText, IsNoType}}
+use Rattle.domain_names.specs.{Name.wire_of, Words.{Tokens, Name}}
+use Rattle.domain_fields.specs.{Entry.{Spells, RefusesData}, Field.{octet, short, long, name}, Layout.{one, ◌▸◌}, Scan.{Scans, Refuses}}
 use Rattle.domain_fields.specs.Sequence.{OneToken, Both, RefusesBoth}
-use Rattle.domain_rrsig.specs.Data.{RrsigData, rrsig_octets}
-use Rattle.domain_rrsig.specs.Time.{TimeToken, IsNoTime}
+use Rattle.domain_rrsig.specs.{Data.{RrsigData, rrsig_octets}, Time.{TimeToken, IsNoTime}}
 
 -- the type covered, algorithm, labels and the TTL
 abbrev pub numbers_text : Grammar (ℕ × (ℕ × (ℕ × ℕ)))

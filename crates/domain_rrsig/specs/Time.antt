@@ -1,10 +1,8 @@
 -- times of signatures: seconds since 1970 modulo 2^32 (RFC 4034, section 3.1.5)
-use Rattle.std.specs.Prelude.{◌≡◌, ◌≢◌, ℕ, ◌+◌, ◌%◌, ◌<◌, ◌≤◌, ◌^◌, length, codes, Result, MatchResult}
-use Rattle.std.specs.Str.Parse.{without_leading_plus}
+use Rattle.std.specs.{Prelude.{◌≡◌, ◌≢◌, ℕ, ◌+◌, ◌%◌, ◌<◌, ◌≤◌, ◌^◌, length, codes, Result, MatchResult}, Str.Parse.without_leading_plus}
 use Rattle.domain_octets.specs.Words.{Octets}
-use Rattle.domain_names.specs.TextFault.{ScanFault, illegal}
+use Rattle.domain_names.specs.{TextFault.{ScanFault, illegal}, Words.Token}
 use Rattle.domain_base.specs.Scan.{IsNumber}
-use Rattle.domain_names.specs.Words.{Token}
 
 -- a time that the stamp stands for, less than half of the circle from the reference, or half of it
 -- before

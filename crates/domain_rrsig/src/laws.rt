@@ -1,15 +1,11 @@
 //! What holds of the octets and the texts of signatures (RFC 4034, section 3).
 //! A caller calls the law in its body.
-ghost use Rattle.std.specs.Prelude.{◌≡◌, ◌<◌, ◌^◌, ℕ, Option};
-ghost use Rattle.std.specs.Fmt.{decimal};
+ghost use Rattle.std.specs.{Prelude.{◌≡◌, ◌<◌, ◌^◌, ℕ, Option}, Fmt.decimal};
 ghost use Rattle.domain_octets.specs.Line.{words_of};
-ghost use Rattle.domain_names.specs.TextFault.{ScanFault, IsOfTokens};
-ghost use Rattle.domain_names.specs.Words.{Tokens};
+ghost use Rattle.domain_names.specs.{TextFault.{ScanFault, IsOfTokens}, Words.Tokens};
 ghost use Rattle.domain_fields.specs.Layout.{ParsesBack};
-ghost use Rattle.domain_rrsig.specs.Data.{RrsigData, rrsig, rrsig_values};
-ghost use Rattle.domain_rrsig.specs.Pieces.{rrsig_text};
-ghost use Rattle.domain_rrsig.specs.Scan.{RrsigText, RefusesRrsig};
-ghost use Rattle.domain_rrsig.specs.Time.{TimeText, TimeToken};
+ghost use Rattle.domain_rrsig.specs.{Data.{RrsigData, rrsig, rrsig_values}, Pieces.rrsig_text};
+ghost use Rattle.domain_rrsig.specs.{Scan.{RrsigText, RefusesRrsig}, Time.{TimeText, TimeToken}};
 
 use crate::Rrsig;
 use domain_base::ToName;

@@ -1,7 +1,6 @@
 //! Signatures (RFC 4034, section 3).
-ghost use Rattle.std.specs.Prelude.{◌≡◌, ◌≤◌, ◌↔◌, Some, IsTrue, IsOk, IfOk, IfErr, OnErr, length, refl, bytes_eq};
-ghost use Rattle.std.specs.List.{flat_map};
-ghost use Rattle.std.specs.Ordering.{on, nat_cmp};
+ghost use Rattle.std.specs.Prelude.{◌≡◌, ◌≤◌, ◌↔◌, Some, IsTrue, IsOk, IfOk, IfErr, OnErr, length};
+ghost use Rattle.std.specs.{Prelude.{refl, bytes_eq}, List.flat_map, Ordering.{on, nat_cmp}};
 ghost use Rattle.std.specs.Cmp.{partial_equiv_from_equiv, po};
 ghost use Rattle.std.specs.Cmp.Lexicographic.{slice_cmp, on_texts, on_texts_equal};
 ghost use Rattle.std.specs.Hash as fed;

@@ -1,15 +1,11 @@
 //! Times of signatures (RFC 4034, section 3.1.5).
-ghost use Rattle.std.specs.Prelude.{◌≡◌, ◌≤◌, ◌<◌, ◌+◌, ◌^◌, ◌++◌, ◌∷◌, [], ◌↔◌, ℕ, length, codes, Some, IfSome, IsNone, IsErr, IfOk, IfErr, OnOk, OnErr, IsErrOf};
-ghost use Rattle.std.specs.Fmt.{decimal};
-ghost use Rattle.std.specs.Int.{w32, to_be_bytes};
-ghost use Rattle.std.specs.Ordering.{nat_cmp};
+ghost use Rattle.std.specs.Prelude.{◌≡◌, ◌≤◌, ◌<◌, ◌+◌, ◌^◌, ◌++◌, ◌∷◌, [], ◌↔◌, ℕ, length, codes};
+ghost use Rattle.std.specs.Prelude.{Some, IfSome, IsNone, IsErr, IfOk, IfErr, OnOk, OnErr, IsErrOf};
+ghost use Rattle.std.specs.{Fmt.decimal, Int.{w32, to_be_bytes}, Ordering.nat_cmp};
 ghost use Rattle.std.specs.Cmp.{nat_cmp_total};
-ghost use Rattle.domain_octets.specs.Limit.{IsOver};
-ghost use Rattle.domain_octets.specs.Piece.{token};
-ghost use Rattle.domain_octets.specs.Place.{Takes};
+ghost use Rattle.domain_octets.specs.{Limit.IsOver, Piece.token, Place.Takes};
 ghost use Rattle.domain_names.specs.TextFault.{scan_fault_of};
-ghost use Rattle.domain_base.specs.Scan.{RefusesToken, TakesToken};
-ghost use Rattle.domain_base.specs.Serial.{serial_cmp};
+ghost use Rattle.domain_base.specs.{Scan.{RefusesToken, TakesToken}, Serial.serial_cmp};
 ghost use Rattle.domain_rrsig.specs.Time.{IsNear, TimeAt, TimeToken, IsNoTime, ReadsTime};
 
 use domain_base::{CanonicalOrd, FromToken, ParseError, ScanError, Scanner, Serial};

@@ -1,14 +1,8 @@
 -- Elements of lists: which pass a test, the first that does, and where they stand.
 use Rattle.std.proofs.Common.{◌≡◌, ℕ, Bool, true, false, cond, ◌||◌, List, [], ◌∷◌, ◌++◌, map, Some, None, refl, sym, ap, ◌∙◌, inl, inr, ◌⊎◌, zero, suc}
-use Rattle.std.proofs.Common.{slice_get, arith}
-use Rattle.std.specs.Prelude.{All, filter}
-use Rattle.std.specs.List.{find, list_any, Contains}
-use Rattle.std.proofs.lemmas.Bool.{cases_Bool, false≢true}
-use Rattle.std.proofs.lemmas.List.Elements.{recursion_from_All}
-use Rattle.std.proofs.lemmas.Option.{slice_get-get_or}
-use Rattle.domain_zone.specs.Covering.{pairs}
-use Rattle.domain_zone.proofs.PairLemmas.{In, all_in}
-use Rattle.std.proofs.lemmas.Grind.{common_steps}
+use Rattle.std.proofs.{Common.{slice_get, arith}, lemmas.{Bool.{cases_Bool, false≢true}, List.Elements.recursion_from_All, Option.slice_get-get_or}}
+use Rattle.std.{proofs.lemmas.Grind.common_steps, specs.{Prelude.{All, filter}, List.{find, list_any, Contains}}}
+use Rattle.domain_zone.{specs.Covering.pairs, proofs.PairLemmas.{In, all_in}}
 
 -- ---- elements
 

@@ -1,27 +1,14 @@
 -- Groups of records, as the walk sees them.
 use Rattle.std.proofs.Common.{◌≡◌, ℕ, Bool, true, false, not, ◌&&◌, ◌↔◌, IsTrue, List, [], ◌∷◌, ◌++◌, map, refl, sym, ap, ◌∙◌, subst, inl, inr, nat_eq, Option}
-use Rattle.std.specs.Prelude.{if◌then◌else◌}
-use Rattle.std.specs.declared.cmp.Ordering.{Ordering}
-use Rattle.std.specs.declared.cmp.Ordering.TheVariants.{Less, Equal, Greater}
-use Rattle.std.specs.Ordering.{is_lt, is_gt, ordering_reverse}
+use Rattle.std.proofs.{Common.arith, lemmas.{Bool.{cases_Bool, false≢true, and_parts, not-true, eqb-true}, List.map-append}}
+use Rattle.std.proofs.lemmas.{List.Folds.{Any-from_list_any, list_any-from_Any}, Grind.common_steps}
+use Rattle.std.specs.{Prelude.if◌then◌else◌, declared.cmp.Ordering.{Ordering, TheVariants.{Less, Equal, Greater}}, Ordering.{is_lt, is_gt, ordering_reverse}}
 use Rattle.std.specs.List.{list_any, AllByRecursion}
-use Rattle.std.proofs.lemmas.Bool.{cases_Bool, false≢true, and_parts, not-true, eqb-true}
-use Rattle.std.proofs.lemmas.List.{map-append}
-use Rattle.std.proofs.lemmas.List.Folds.{Any-from_list_any, list_any-from_Any}
-use Rattle.domain_names.specs.Name.{IsSame, lowered, same_name}
-use Rattle.domain_names.specs.Laws.{same_name_same}
-use Rattle.domain_names.specs.Order.{canonical_cmp, canonical_cmp_total, before}
+use Rattle.domain_names.specs.{Name.{IsSame, lowered, same_name}, Laws.same_name_same, Order.{canonical_cmp, canonical_cmp_total, before}, Words.Name}
 use Rattle.domain_record.specs.declared.record.Record.{Record}
-use Rattle.domain_records.specs.Runs.{runs, add_to}
-use Rattle.domain_records.specs.Groups.{same_owner, HasFirst, IsZoneCut}
-use Rattle.domain_records.specs.Order.{MayFollow, IsInOrder}
-use Rattle.domain_names.specs.Words.{Name}
-use Rattle.domain_zone.specs.Zone.{ZoneRecord, OwnersNeverDescend, has_type}
-use Rattle.domain_zone.specs.View.{as_zone_record}
-use Rattle.domain_zone.proofs.NameLemmas.{one_lowered, same_itself}
-use Rattle.domain_zone.proofs.ZoneLemmas.{any_map, BeginsElsewhere, IsFront}
-use Rattle.std.proofs.Common.{arith}
-use Rattle.std.proofs.lemmas.Grind.{common_steps}
+use Rattle.domain_records.specs.{Runs.{runs, add_to}, Groups.{same_owner, HasFirst, IsZoneCut}, Order.{MayFollow, IsInOrder}}
+use Rattle.domain_zone.specs.{Zone.{ZoneRecord, OwnersNeverDescend, has_type}, View.as_zone_record}
+use Rattle.domain_zone.proofs.{NameLemmas.{one_lowered, same_itself}, ZoneLemmas.{any_map, BeginsElsewhere, IsFront}}
 
 -- ---- runs
 

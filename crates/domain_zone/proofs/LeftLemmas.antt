@@ -1,22 +1,14 @@
 -- What an iterator over the owners that are not occluded has left to give.
 use Rattle.std.proofs.Common.{◌≡◌, Bool, true, false, cond, not, ◌&&◌, ◌||◌, List, [], ◌∷◌, ◌++◌, map, refl, sym, ap, ◌∙◌, subst, inl, inr, Option, Some, None}
-use Rattle.std.proofs.Common.{append_assoc, ℕ, arith}
-use Rattle.std.proofs.lemmas.Bool.{cases_Bool}
+use Rattle.std.proofs.{Common.{append_assoc, ℕ, arith}, lemmas.{Bool.cases_Bool, Grind.common_steps}}
 use Rattle.domain_record.specs.declared.record.Record.{Record}
-use Rattle.domain_records.specs.Groups.{same_owner, HasFirst}
-use Rattle.domain_records.specs.Order.{IsInOrder}
-use Rattle.domain_records.specs.Runs.{runs}
-use Rattle.domain_names.specs.Name.{is_at_or_below, same_name}
-use Rattle.domain_names.specs.Words.{Name}
-use Rattle.domain_zone.specs.Owners.{owner_at, owners_with_records}
-use Rattle.domain_base.specs.Types.{ns, dname}
-use Rattle.domain_zone.specs.View.{as_zone_record}
+use Rattle.domain_records.specs.{Groups.{same_owner, HasFirst}, Order.IsInOrder, Runs.runs}
+use Rattle.domain_names.specs.{Name.{is_at_or_below, same_name}, Words.Name}
+use Rattle.domain_zone.specs.{Owners.{owner_at, owners_with_records}, View.as_zone_record}
 use Rattle.domain_zone.specs.Walk.{is_under, is_passed_over, is_cut_group, occluder_from, left_owners}
-use Rattle.domain_zone.specs.Zone.{ZoneRecord, has_type, records_of, is_zone_cut, occludes}
-use Rattle.domain_zone.proofs.GroupLemmas.{front_group, owners_in_order}
-use Rattle.domain_zone.proofs.WalkLemmas.{IsWalked, walk_start, walk_outside, walk_under, walk_onto, next_records}
-use Rattle.domain_zone.proofs.ZoneLemmas.{IsFront}
-use Rattle.std.proofs.lemmas.Grind.{common_steps}
+use Rattle.domain_zone.{specs.Zone.{ZoneRecord, has_type, records_of, is_zone_cut, occludes}, proofs.GroupLemmas.{front_group, owners_in_order}}
+use Rattle.domain_zone.proofs.{WalkLemmas.{IsWalked, walk_start, walk_outside, walk_under, walk_onto, next_records}, ZoneLemmas.IsFront}
+use Rattle.domain_base.specs.Types.{ns, dname}
 
 -- ---- one group
 

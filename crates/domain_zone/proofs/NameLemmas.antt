@@ -1,22 +1,13 @@
 -- All that the chains need of names: the order is strict and weak, what is below a name is an interval from it on, and below is a partial order.
-use Rattle.std.proofs.Common.{◌≡◌, Bool, true, false, not, ◌||◌, [], ◌∷◌, map, length, refl, sym, ap, ◌∙◌, ◌<◌, ◌≤◌, arith, nat_eq}
-use Rattle.std.specs.declared.cmp.Ordering.{Ordering}
-use Rattle.std.specs.declared.cmp.Ordering.TheVariants.{Less, Equal, Greater}
-use Rattle.std.specs.Char.{to_ascii_lowercase}
-use Rattle.std.specs.Ordering.{is_lt, is_eq, is_gt, ordering_reverse}
-use Rattle.std.specs.Cmp.{IsStrictWeakOrder}
-use Rattle.std.specs.Cmp.Lexicographic.{pointwise}
-use Rattle.std.specs.List.{ends_with}
-use Rattle.std.proofs.lemmas.List.{append-nil}
-use Rattle.std.proofs.lemmas.List.Sorted.{ranks_by}
-use Rattle.std.proofs.lemmas.Bool.{true≢false}
+use Rattle.std.proofs.{Common.{◌≡◌, Bool, true, false, not, ◌||◌, [], ◌∷◌, map, length, refl, sym, ap, ◌∙◌, ◌<◌, ◌≤◌, arith, nat_eq}, lemmas.List.append-nil}
+use Rattle.std.proofs.lemmas.{List.Sorted.ranks_by, Bool.true≢false, Grind.common_steps}
+use Rattle.std.specs.{declared.cmp.Ordering.{Ordering, TheVariants.{Less, Equal, Greater}}, Char.to_ascii_lowercase}
+use Rattle.std.specs.{Ordering.{is_lt, is_eq, is_gt, ordering_reverse}, Cmp.{IsStrictWeakOrder, Lexicographic.pointwise}, List.ends_with}
 use Rattle.domain_names.specs.Laws.{ancestor_first, between_names, same_name_same, same_name_ties, same_tied}
 use Rattle.domain_names.specs.Name.{lowered, IsAtOrBelow, same_name, is_at_or_below, is_strictly_below}
-use Rattle.domain_names.specs.Order.{canonical_cmp, canonical_cmp_total, before, IsUpTo}
-use Rattle.domain_names.specs.Words.{Label, Name}
+use Rattle.domain_names.specs.{Order.{canonical_cmp, canonical_cmp_total, before, IsUpTo}, Words.{Label, Name}}
 use Rattle.domain_names.proofs.CaseLemmas.{at_or_below_test, one_line}
 use Rattle.domain_zone.specs.Covering.{matches}
-use Rattle.std.proofs.lemmas.Grind.{common_steps}
 
 -- the tests on names are tests on their lowered labels
 abbrev pub same_lowered : Name → Name → Bool

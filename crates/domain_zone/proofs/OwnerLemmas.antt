@@ -1,18 +1,13 @@
 -- The unoccluded owners of a list in order: they ascend, begin with the apex, and are the names that own records and are not occluded.
 use Rattle.std.proofs.Common.{◌≡◌, ℕ, Bool, true, false, cond, not, ◌&&◌, ◌||◌, List, [], ◌∷◌, map, refl, sym, ap, ◌∙◌, inl, inr, arith}
-use Rattle.std.specs.Prelude.{filter}
-use Rattle.std.specs.List.{AllByRecursion, list_any}
-use Rattle.std.proofs.lemmas.Bool.{cases_Bool, false≢true, true≢false, and_parts, or_cases, or_right, and_from, not-true}
-use Rattle.domain_names.specs.Name.{is_at_or_below, is_strictly_below, lowered, same_name}
-use Rattle.domain_names.specs.Order.{before}
-use Rattle.domain_names.specs.Words.{Name}
+use Rattle.std.proofs.lemmas.{Bool.{cases_Bool, false≢true, true≢false, and_parts, or_cases, or_right, and_from, not-true}, Grind.common_steps}
+use Rattle.std.specs.{Prelude.filter, List.{AllByRecursion, list_any}}
+use Rattle.domain_names.specs.{Name.{is_at_or_below, is_strictly_below, lowered, same_name}, Order.before, Words.Name}
 use Rattle.domain_base.specs.Types.{ns, dname}
 use Rattle.domain_zone.specs.Zone.{ZoneRecord, OwnersNeverDescend, records_of, owns, has_type, occludes, is_occluded, is_unoccluded, distinct}
 use Rattle.domain_zone.specs.Zone.{unoccluded_owners}
-use Rattle.domain_zone.proofs.PairLemmas.{IsAscending, In}
-use Rattle.domain_zone.proofs.NameLemmas.{one_lowered, same_itself, below_itself, below_from, lowered_below, same_lowered}
+use Rattle.domain_zone.proofs.{PairLemmas.{IsAscending, In}, NameLemmas.{one_lowered, same_itself, below_itself, below_from, lowered_below, same_lowered}}
 use Rattle.domain_zone.proofs.ZoneLemmas.{all_filter, all_distinct, any_none, any_map, same_back, after_or, not_strictly}
-use Rattle.std.proofs.lemmas.Grind.{common_steps}
 
 module _ {X : Type 0} where
   pub any_weaker : (p q : X → Bool) → ((x : X) → p x ≡ true → q x ≡ true) → (xs : List X) → list_any p xs ≡ true → list_any q xs ≡ true

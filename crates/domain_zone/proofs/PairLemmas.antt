@@ -1,13 +1,9 @@
 -- A list that ascends in a strict order, and the pairs of it: exactly one pair matches or covers each value, and nothing of the list lies in a gap.
 use Rattle.std.proofs.Common.{◌≡◌, ℕ, ◌+◌, Bool, true, false, cond, not, ◌&&◌, ◌||◌, List, [], ◌∷◌, refl, ap, ◌∙◌, subst, inl, inr, ◌⊎◌, arith}
-use Rattle.std.specs.Prelude.{count_by}
-use Rattle.std.specs.List.{AllByRecursion}
-use Rattle.std.specs.Cmp.{IsStrictWeakOrder}
-use Rattle.std.proofs.lemmas.Bool.{cases_Bool}
-use Rattle.std.proofs.lemmas.List.Sums.{sum_by-cons}
+use Rattle.std.proofs.lemmas.{Bool.cases_Bool, List.Sums.sum_by-cons, Grind.common_steps}
+use Rattle.std.specs.{Prelude.count_by, List.AllByRecursion, Cmp.IsStrictWeakOrder}
 use Rattle.domain_octets.proofs.StdLemmas.{or_true}
 use Rattle.domain_zone.specs.Covering.{matches_or_covers, pairs}
-use Rattle.std.proofs.lemmas.Grind.{common_steps}
 
 module _ {X : Type 0} where
   -- an element

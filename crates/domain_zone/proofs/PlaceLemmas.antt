@@ -1,9 +1,6 @@
 -- Of a list with exactly one element that passes a test, the place of that element.
-use Rattle.std.proofs.Common.{◌≡◌, ℕ, ◌+◌, Bool, true, false, cond, List, [], ◌∷◌, refl, ap, ◌∙◌, inl, inr, Some, suc, zero, arith}
-use Rattle.std.specs.Prelude.{count_by, slice_get}
-use Rattle.std.proofs.lemmas.Bool.{cases_Bool}
-use Rattle.std.proofs.lemmas.List.Sums.{sum_by-cons}
-use Rattle.std.proofs.lemmas.Grind.{common_steps}
+use Rattle.std.proofs.{Common.{◌≡◌, ℕ, ◌+◌, Bool, true, false, cond, List, [], ◌∷◌, refl, ap, ◌∙◌, inl, inr, Some, suc, zero, arith}, lemmas.Bool.cases_Bool}
+use Rattle.std.{proofs.lemmas.{List.Sums.sum_by-cons, Grind.common_steps}, specs.Prelude.{count_by, slice_get}}
 
 module _ {X : Type 0} where
   pub count_cons : (p : X → Bool) (x : X) (xs : List X) → count_by p (x ∷ xs) ≡ cond (p x) 1 0 + count_by p xs

@@ -1,11 +1,8 @@
 -- The longest name that two names are at or below.
-use Rattle.std.proofs.lemmas.Grind.{common_steps}
-use Rattle.std.proofs.Common.{◌≡◌, ◌≤◌, Bool, true, false, cond, [], ◌∷◌, length, refl, sym, ◌∙◌, inl, inr, arith}
+use Rattle.std.proofs.{lemmas.Grind.common_steps, Common.{◌≡◌, ◌≤◌, Bool, true, false, cond, [], ◌∷◌, length, refl, sym, ◌∙◌, inl, inr, arith}}
 use Rattle.std.proofs.lemmas.Bool.{false≢true, cases_lt}
-use Rattle.domain_zone.specs.Enclosers.{IsShared, shared}
-use Rattle.domain_names.specs.Name.{is_at_or_below}
-use Rattle.domain_names.specs.Words.{Name}
-use Rattle.domain_zone.proofs.NameLemmas.{below_itself, below_trans, below_longer, below_length, below_parent, below_root}
+use Rattle.domain_zone.{specs.Enclosers.{IsShared, shared}, proofs.NameLemmas.{below_itself, below_trans, below_longer, below_length, below_parent, below_root}}
+use Rattle.domain_names.specs.{Name.is_at_or_below, Words.Name}
 
 pub either_way : (s t : Bool) → (s ≡ true → t ≡ true) → (t ≡ true → s ≡ true) → s ≡ t
 either_way s t f g = grind (arith, common_steps)

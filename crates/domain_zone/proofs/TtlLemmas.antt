@@ -1,14 +1,11 @@
 -- Where types never descend, two records of one type differ in TTL exactly where two neighbours do.
 use Rattle.std.proofs.Common.{◌≡◌, ◌≤◌, ℕ, Bool, true, false, ◌||◌, List, [], ◌∷◌, map, refl, sym, ap, ◌∙◌, inl, inr, arith, nat_eq, Option}
+use Rattle.std.proofs.lemmas.{Bool.{cases_Bool, false≢true, or_parts, or_cases, eqb-false, or_right}, Grind.common_steps}
 use Rattle.std.specs.List.{list_any, AllByRecursion}
-use Rattle.std.proofs.lemmas.Bool.{cases_Bool, false≢true, or_parts, or_cases, eqb-false, or_right}
 use Rattle.domain_record.specs.declared.record.Record.{Record}
 use Rattle.domain_records.specs.Order.{HoldsPairwise}
 use Rattle.domain_names.specs.Words.{Name}
-use Rattle.domain_zone.specs.View.{as_zone_record}
-use Rattle.domain_zone.specs.Zone.{ZoneRecord, clashes, has_clash}
-use Rattle.domain_zone.proofs.ZoneLemmas.{any_none, weaker}
-use Rattle.std.proofs.lemmas.Grind.{common_steps}
+use Rattle.domain_zone.{specs.{View.as_zone_record, Zone.{ZoneRecord, clashes, has_clash}}, proofs.ZoneLemmas.{any_none, weaker}}
 
 -- two neighbours clash
 abbrev pub has_neighbour_clash : List ZoneRecord → Bool

@@ -1,8 +1,7 @@
 -- The types that a walk over the records of an owner has gathered.
-use Rattle.std.proofs.Common.{◌≡◌, ℕ, ◌<◌, Bool, true, false, ◌&&◌, ◌||◌, List, [], ◌∷◌, ◌++◌, ap, nat_eq, append_assoc, arith}
+use Rattle.std.proofs.{Common.{◌≡◌, ℕ, ◌<◌, Bool, true, false, ◌&&◌, ◌||◌, List, [], ◌∷◌, ◌++◌, ap, nat_eq, append_assoc, arith}, lemmas.Grind.common_steps}
 use Rattle.domain_bitmap.specs.Builder.{holds}
 use Rattle.domain_zone.specs.Zone.{ZoneRecord, lists_type, may_list}
-use Rattle.std.proofs.lemmas.Grind.{common_steps}
 
 -- a builder without octets holds nothing
 pub holds_nothing : (value : List ℕ) → value ≡ [] → (t : ℕ) → holds value t ≡ false

@@ -1,24 +1,16 @@
 -- What the walk knows before each group, and one step of it.
 use Rattle.std.proofs.Common.{◌≡◌, ℕ, Bool, true, false, cond, not, ◌&&◌, ◌||◌, List, [], ◌∷◌, ◌++◌, map, refl, sym, ap, ◌∙◌, subst, inl, inr, Option, Some}
-use Rattle.std.proofs.Common.{None, append_assoc, arith}
-use Rattle.std.proofs.lemmas.List.{append-nil}
-use Rattle.std.specs.Prelude.{filter}
-use Rattle.std.specs.List.{AllByRecursion, list_any}
-use Rattle.std.proofs.lemmas.Bool.{cases_Bool, false≢true, true≢false, and_right}
-use Rattle.std.proofs.lemmas.List.Elements.{filter-append}
-use Rattle.std.proofs.lemmas.List.Folds.{list_any-append}
+use Rattle.std.proofs.{Common.{None, append_assoc, arith}, lemmas.{List.append-nil, Bool.{cases_Bool, false≢true, true≢false, and_right}}}
+use Rattle.std.proofs.lemmas.{List.{Elements.filter-append, Folds.list_any-append}, Grind.common_steps}
+use Rattle.std.specs.{Prelude.filter, List.{AllByRecursion, list_any}}
 use Rattle.domain_octets.proofs.StdLemmas.{or_false}
-use Rattle.domain_names.specs.Name.{is_at_or_below, is_strictly_below, lowered, same_name}
-use Rattle.domain_names.specs.Order.{before}
-use Rattle.domain_names.specs.Words.{Name}
+use Rattle.domain_names.specs.{Name.{is_at_or_below, is_strictly_below, lowered, same_name}, Order.before, Words.Name}
 use Rattle.domain_base.specs.Types.{ns, dname}
-use Rattle.domain_zone.specs.Walk.{is_under}
-use Rattle.domain_zone.specs.Zone.{ZoneRecord, OwnersNeverDescend, records_of, has_type, occludes, is_occluded, is_unoccluded, distinct}
+use Rattle.domain_zone.specs.{Walk.is_under, Zone.{ZoneRecord, OwnersNeverDescend, records_of, has_type, occludes, is_occluded, is_unoccluded, distinct}}
 use Rattle.domain_zone.proofs.NameLemmas.{before_left, before_order, one_lowered, below_itself, below_trans, below_from, below_between, lowered_below}
 use Rattle.domain_zone.proofs.NameLemmas.{same_lowered}
 use Rattle.domain_zone.proofs.ZoneLemmas.{weaker, all_both, all_front, any_none, BeginsElsewhere, IsGroup, AreAt, AllBefore, AllAfter, records_at}
 use Rattle.domain_zone.proofs.ZoneLemmas.{distinct_more, after_or, not_strictly, strictly_after}
-use Rattle.std.proofs.lemmas.Grind.{common_steps}
 
 abbrev pub IsSince : Option Name → Name → Type 0
 IsSince None y = Unit {0}

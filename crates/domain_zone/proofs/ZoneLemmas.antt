@@ -1,16 +1,9 @@
 -- One step of the walk: the records of one name come after those passed, and before the rest.
-use Rattle.std.proofs.Common.{◌≡◌, Bool, true, false, cond, not, ◌&&◌, ◌||◌, List, [], ◌∷◌, ◌++◌, map, refl, sym, ap, ◌∙◌, arith}
-use Rattle.std.proofs.lemmas.List.{append-nil}
-use Rattle.std.specs.Prelude.{filter}
-use Rattle.std.specs.List.{AllByRecursion, list_any}
-use Rattle.std.proofs.lemmas.List.Elements.{filter-append}
+use Rattle.std.proofs.{Common.{◌≡◌, Bool, true, false, cond, not, ◌&&◌, ◌||◌, List, [], ◌∷◌, ◌++◌, map, refl, sym, ap, ◌∙◌, arith}, lemmas.List.append-nil}
+use Rattle.std.{proofs.lemmas.{List.Elements.filter-append, Grind.common_steps}, specs.{Prelude.filter, List.{AllByRecursion, list_any}}}
 use Rattle.domain_octets.proofs.StdLemmas.{and_true}
-use Rattle.domain_names.specs.Name.{is_at_or_below, is_strictly_below, lowered, same_name}
-use Rattle.domain_names.specs.Order.{before}
-use Rattle.domain_names.specs.Words.{Name}
-use Rattle.domain_zone.specs.Zone.{ZoneRecord, records_of, distinct}
-use Rattle.domain_zone.proofs.NameLemmas.{before_order, one_lowered, same_itself, same_is, below_from}
-use Rattle.std.proofs.lemmas.Grind.{common_steps}
+use Rattle.domain_names.specs.{Name.{is_at_or_below, is_strictly_below, lowered, same_name}, Order.before, Words.Name}
+use Rattle.domain_zone.{specs.Zone.{ZoneRecord, records_of, distinct}, proofs.NameLemmas.{before_order, one_lowered, same_itself, same_is, below_from}}
 
 module _ {X : Type 0} where
   pub filter_none : (p : X → Bool) (xs : List X) → AllByRecursion (λ x. p x ≡ false) xs → filter p xs ≡ []

@@ -1,8 +1,7 @@
 -- What a pair of an owner and a next value in a strict order says of other values (RFC 4034,
 -- section 4.1.1; RFC 5155, section 1.3). NSEC takes the canonical order of names, NSEC3 the order
 -- of the octets of hashes.
-use Rattle.std.specs.Prelude.{Bool, not, ◌&&◌, ◌||◌, cond, List, [], ◌∷◌, ◌++◌, drop}
-use Rattle.std.specs.List.{zip}
+use Rattle.std.specs.{Prelude.{Bool, not, ◌&&◌, ◌||◌, cond, List, [], ◌∷◌, ◌++◌, drop}, List.zip}
 
 module _ {X : Type 0} where
   -- the owner is x

@@ -1,9 +1,7 @@
 -- How the items of an iterator over owners are seen.
 use Rattle.std.specs.Prelude.{ℕ, Option}
 use Rattle.domain_names.specs.Words.{Name}
-use Rattle.domain_zone.specs.Owners.{OwnerRecords}
-use Rattle.domain_zone.specs.View.{zone_of}
-use Rattle.domain_zone.specs.declared.owners.UnoccludedOwner.{UnoccludedOwner}
+use Rattle.domain_zone.specs.{Owners.OwnerRecords, View.zone_of, declared.owners.UnoccludedOwner.UnoccludedOwner}
 
 abbrev pub as_owner_records : {N D : Type 0} → (N → Name) → (D → ℕ) → (D → Option ℕ)
     → UnoccludedOwner N D → OwnerRecords

@@ -1,10 +1,8 @@
 -- The SOA record of a zone, and what it gives to a chain.
 use Rattle.std.specs.Prelude.{ℕ, Bool, ◌&&◌, ◌==◌, List, [], ◌∷◌, filter, Option, Some, None, min}
-use Rattle.domain_names.specs.Name.{same_name}
-use Rattle.domain_names.specs.Words.{Name}
+use Rattle.domain_names.specs.{Name.same_name, Words.Name}
 use Rattle.domain_base.specs.Types.{soa}
-use Rattle.domain_zone.specs.Zone.{ZoneRecord}
-use Rattle.domain_zone.specs.declared.soa.ApexSoa.{ApexSoa}
+use Rattle.domain_zone.specs.{Zone.ZoneRecord, declared.soa.ApexSoa.ApexSoa}
 
 -- what a record of type SOA gives; None where its data tell no MINIMUM
 abbrev pub numbers_of : ZoneRecord → Option ℕ → Option ApexSoa

@@ -1,11 +1,9 @@
 -- How the state of an iterator over the owners that are not occluded is seen: as the owners that it
 -- has left to give. `UnoccludedOwners::new` says which these are, by the definitions of `Owners`.
 use Rattle.std.specs.Prelude.{Bool, false, not, ◌&&◌, ◌||◌, List, [], ◌∷◌, Option, Some, None, if◌then◌else◌}
-use Rattle.domain_names.specs.Name.{is_at_or_below, same_name}
-use Rattle.domain_names.specs.Words.{Name}
-use Rattle.domain_zone.specs.Owners.{OwnerRecords}
+use Rattle.domain_names.specs.{Name.{is_at_or_below, same_name}, Words.Name}
+use Rattle.domain_zone.specs.{Owners.OwnerRecords, Zone.{ZoneRecord, has_type}}
 use Rattle.domain_base.specs.Types.{ns, dname}
-use Rattle.domain_zone.specs.Zone.{ZoneRecord, has_type}
 
 -- the last name that occludes is at or above n
 abbrev pub is_under : Option Name → Name → Bool

@@ -1,11 +1,8 @@
 -- What the records of a zone say: zone cuts, occluders, occluded names, owners and their types.
 -- Each definition filters the whole list L of records; a is the apex.
-use Rattle.std.specs.Prelude.{ℕ, Bool, false, not, ◌&&◌, ◌||◌, ◌==◌, List, [], ◌∷◌, map, filter, Option, ◌≡◌}
-use Rattle.std.specs.List.{list_any, AllByRecursion}
+use Rattle.std.specs.{Prelude.{ℕ, Bool, false, not, ◌&&◌, ◌||◌, ◌==◌, List, [], ◌∷◌, map, filter, Option, ◌≡◌}, List.{list_any, AllByRecursion}}
 use Rattle.domain_base.specs.Types.{ns, ds, dname, rrsig}
-use Rattle.domain_names.specs.Name.{is_at_or_below, is_strictly_below, same_name}
-use Rattle.domain_names.specs.Order.{before}
-use Rattle.domain_names.specs.Words.{Name}
+use Rattle.domain_names.specs.{Name.{is_at_or_below, is_strictly_below, same_name}, Order.before, Words.Name}
 
 -- a record as a chain sees it: without its data, but for the MINIMUM field of an SOA
 pub record ZoneRecord : Type 0 where

@@ -1,10 +1,7 @@
 //! The owners of a zone that are not occluded.
-ghost use Rattle.std.specs.Prelude.{◌≡◌, ◌&&◌, map, not};
-ghost use Rattle.std.specs.Option.{option_map};
+ghost use Rattle.std.specs.{Prelude.{◌≡◌, ◌&&◌, map, not}, Option.option_map};
 ghost use Rattle.domain_base.specs.Types.{ds};
-ghost use Rattle.domain_zone.specs.View.{zone_of};
-ghost use Rattle.domain_zone.specs.Walk.{is_passed_over};
-ghost use Rattle.domain_zone.specs.Zone.{has_type};
+ghost use Rattle.domain_zone.specs.{View.zone_of, Walk.is_passed_over, Zone.has_type};
 
 use domain_base::{Rtype, ToName};
 use domain_record::{Record, ZoneData};

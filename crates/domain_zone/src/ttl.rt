@@ -1,8 +1,7 @@
 //! Unequal TTLs.
 ghost use Rattle.std.specs.Prelude.{◌≡◌, ◌≤◌};
 ghost use Rattle.domain_records.specs.Order.{HoldsPairwise};
-ghost use Rattle.domain_zone.specs.View.{as_zone_record, zone_of};
-ghost use Rattle.domain_zone.specs.Zone.{clashes, has_clash};
+ghost use Rattle.domain_zone.specs.{View.{as_zone_record, zone_of}, Zone.{clashes, has_clash}};
 
 use domain_base::{Rtype, ToName};
 use domain_record::{Record, ZoneData};

@@ -1,8 +1,7 @@
 //! The types of an owner, gathered into a set.
 ghost use Rattle.std.specs.Prelude.{◌≡◌, ◌||◌, ◌==◌, ℕ, ◌<◌, OnOk};
 ghost use Rattle.domain_bitmap.specs.Builder.{holds};
-ghost use Rattle.domain_zone.specs.View.{zone_of};
-ghost use Rattle.domain_zone.specs.Zone.{may_list, lists_type};
+ghost use Rattle.domain_zone.specs.{View.zone_of, Zone.{may_list, lists_type}};
 
 use domain_base::{Rtype, ToName};
 use domain_bitmap::RtypeBitmapBuilder;

@@ -1,8 +1,7 @@
 -- The options of a command.
 use Rattle.std.proofs.Common.{◌<◌, ℕ, [], ◌∷◌, length, arith}
 use Rattle.domain_names.specs.Words.{Tokens}
-use Rattle.judge_program.specs.declared.shown.Shown.{Shown}
-use Rattle.judge_program.specs.Command.{LimitText, ShownText}
+use Rattle.judge_program.specs.{declared.shown.Shown.Shown, Command.{LimitText, ShownText}}
 
 -- fewer than two options ask for no limit
 pub no_limit : (words : Tokens) (limit : ℕ) (shown : Shown) → length words < 2 → LimitText words limit shown

@@ -1,23 +1,14 @@
 -- The text of what NSEC3 records answer, and why there is none.
-use Rattle.std.proofs.Common.{arith, ◌≡◌, ◌⊎◌, List, [], ◌∷◌, ◌++◌, refl}
-use Rattle.std.proofs.lemmas.Grind.{common_steps}
+use Rattle.std.proofs.{Common.{arith, ◌≡◌, ◌⊎◌, List, [], ◌∷◌, ◌++◌, refl}, lemmas.Grind.common_steps}
 use Rattle.domain_octets.specs.Words.{Octets}
-use Rattle.domain_nsec3.specs.Chain.{HashedLink, ParamRecord}
-use Rattle.domain_nsec3.specs.View.{HasherAnswer}
+use Rattle.domain_nsec3.specs.{Chain.{HashedLink, ParamRecord}, View.HasherAnswer}
 use Rattle.domain_borrowed.specs.Data.{RawRecord}
 use Rattle.domain_checker.specs.HashedView.{links_with}
 use Rattle.domain_answer.specs.declared.answer.Answer.{Answer}
-use Rattle.denial_program.specs.Check.{AreNsec3s, AreParams}
-use Rattle.denial_program.specs.declared.command.Question.{Question}
-use Rattle.denial_program.specs.declared.fault.DenialFault.{DenialFault}
+use Rattle.denial_program.specs.{Check.{AreNsec3s, AreParams}, declared.{command.Question.Question, fault.DenialFault.DenialFault}}
 use Rattle.denial_program.specs.declared.fault.DenialFault.TheVariants.{Write, OutOfMemory}
-use Rattle.judge_program.specs.Judged.{IsAnswerAsked, IsNotNsec3Judged}
-use Rattle.judge_program.specs.Run.{IsNsec3Text, IsUnwritten}
-use Rattle.judge_program.specs.Text.{first_line}
-use Rattle.judge_program.specs.declared.command.Nsec3Options.{Nsec3Options}
-use Rattle.judge_program.specs.declared.shown.Shown.{Shown}
-use Rattle.judge_program.specs.Records.{IsNsec3Below}
-use Rattle.judge_program.specs.Why.{rests_on_records}
+use Rattle.judge_program.specs.{Judged.{IsAnswerAsked, IsNotNsec3Judged}, Run.{IsNsec3Text, IsUnwritten}, Text.first_line}
+use Rattle.judge_program.specs.{declared.{command.Nsec3Options.Nsec3Options, shown.Shown.Shown}, Records.IsNsec3Below, Why.rests_on_records}
 
 pub nsec3_text_is : (hashes : HasherAnswer) (given : List RawRecord) (q : Question) (asked : Nsec3Options) (shown : Shown) (param : ParamRecord)
     (links : List HashedLink) (answer : Answer) (below : Octets) → AreParams q.apex given (param ∷ []) → AreNsec3s given links

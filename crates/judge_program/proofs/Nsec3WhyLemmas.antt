@@ -1,20 +1,13 @@
 -- The lines on NSEC3 records, as they are printed and written.
-use Rattle.std.proofs.lemmas.Grind.{common_steps}
-use Rattle.std.proofs.Common.{◌≡◌, ℕ, ◌+◌, ◌<◌, true, false, [], ◌++◌, codes, length, min, drop, ap, arith, Option, Some, None}
+use Rattle.std.proofs.{lemmas.Grind.common_steps, Common.{◌≡◌, ℕ, ◌+◌, ◌<◌, true, false, [], ◌++◌, codes, length, min, drop, ap, arith, Option, Some, None}}
 use Rattle.std.specs.Io.KnownBytes.{Appends}
 use Rattle.domain_octets.specs.Words.{Octets}
-use Rattle.domain_names.specs.Words.{Name}
-use Rattle.domain_names.specs.Name.{lowered, wire_of, last_labels}
-use Rattle.domain_nsec3.specs.Chain.{HashedLink}
-use Rattle.domain_checker.specs.HashedView.{HashedRecords}
-use Rattle.domain_nsec3.specs.Text.{link_text}
-use Rattle.domain_checker.specs.HashedEncloser.{Encloser}
-use Rattle.domain_checker.specs.HashedPass.{IsLookedUp}
-use Rattle.domain_answer.specs.ZoneAnswer.{wildcard_below}
-use Rattle.domain_answer.specs.declared.answer.Answer.{Answer}
+use Rattle.domain_names.specs.{Words.Name, Name.{lowered, wire_of, last_labels}}
+use Rattle.domain_nsec3.specs.{Chain.HashedLink, Text.link_text}
+use Rattle.domain_checker.specs.{HashedView.HashedRecords, HashedEncloser.Encloser, HashedPass.IsLookedUp}
+use Rattle.domain_answer.specs.{ZoneAnswer.wildcard_below, declared.answer.Answer.Answer}
 use Rattle.denial_program.proofs.RunLemmas.{nsec3_printed}
-use Rattle.judge_program.specs.Why.{encloser_role, encloser_told, needs_next_closer, nsec3_shown, nsec3_wildcard_told, role_text}
-use Rattle.judge_program.specs.declared.role.Role.{Role}
+use Rattle.judge_program.specs.{Why.{encloser_role, encloser_told, needs_next_closer, nsec3_shown, nsec3_wildcard_told, role_text}, declared.role.Role.Role}
 use Rattle.judge_program.specs.declared.role.Role.TheVariants.{NextCloser, Wildcard}
 
 -- the next closer name of a name has no more labels than it

@@ -1,23 +1,14 @@
 -- The records that a server answers with, as they are found and written.
-use Rattle.std.proofs.Common.{arith, ◌≡◌, ℕ, Bool, false, List, [], ◌++◌, codes, Option, Some, None}
-use Rattle.std.proofs.lemmas.Grind.{common_steps}
-use Rattle.std.proofs.lemmas.Bool.{cond-false}
-use Rattle.std.specs.Fmt.{decimal}
-use Rattle.std.specs.Option.{is_some, option_map}
+use Rattle.std.proofs.{Common.{arith, ◌≡◌, ℕ, Bool, false, List, [], ◌++◌, codes, Option, Some, None}, lemmas.{Grind.common_steps, Bool.cond-false}}
+use Rattle.std.specs.{Fmt.decimal, Option.{is_some, option_map}}
 use Rattle.domain_octets.specs.Words.{Octets}
-use Rattle.domain_names.specs.Name.{lowered, wire_of}
-use Rattle.domain_base.specs.Numbers.{class_text, type_text}
-use Rattle.domain_names.specs.Text.{name_text}
-use Rattle.domain_base.specs.Types.{nsec3param}
-use Rattle.domain_names.specs.Words.{Name}
+use Rattle.domain_names.specs.{Name.{lowered, wire_of}, Text.name_text, Words.Name}
+use Rattle.domain_base.specs.{Numbers.{class_text, type_text}, Types.nsec3param}
 use Rattle.domain_chain_rdata.specs.Nsec3paramText.{nsec3param_text}
-use Rattle.domain_nsec3.specs.Chain.{HashedLink, ParamRecord}
-use Rattle.domain_nsec3.specs.Config.{hash_name}
-use Rattle.domain_checker.specs.HashedView.{HashedRecords}
-use Rattle.domain_checker.specs.HashedPass.{IsLookedUp}
+use Rattle.domain_nsec3.specs.{Chain.{HashedLink, ParamRecord}, Config.hash_name}
+use Rattle.domain_checker.specs.{HashedView.HashedRecords, HashedPass.IsLookedUp}
 use Rattle.domain_answer.specs.Expansion.{closer_name}
-use Rattle.denial_program.specs.Text.{nsec3param_line}
-use Rattle.denial_program.proofs.RunLemmas.{parts_of_line}
+use Rattle.denial_program.{specs.Text.nsec3param_line, proofs.RunLemmas.parts_of_line}
 use Rattle.judge_program.specs.Records.{first_of, hash_found, is_told, line_once}
 
 -- a record that was not told yet

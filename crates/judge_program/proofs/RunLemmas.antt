@@ -1,21 +1,12 @@
 -- What a run answers.
-use Rattle.std.proofs.Common.{arith, ◌≡◌, ◌⊎◌, List, ◌++◌, refl, subst, Result, IfErr, IsErrOf}
-use Rattle.std.proofs.lemmas.Grind.{common_steps}
+use Rattle.std.proofs.{Common.{arith, ◌≡◌, ◌⊎◌, List, ◌++◌, refl, subst, Result, IfErr, IsErrOf}, lemmas.Grind.common_steps}
 use Rattle.domain_octets.specs.Words.{Octets}
 use Rattle.domain_nsec3.specs.View.{HasherAnswer}
 use Rattle.domain_borrowed.specs.Data.{RawRecord}
 use Rattle.domain_nsec.specs.Chain.{Link}
-use Rattle.domain_answer.specs.Proved.{IsAnswered, RestsOn}
-use Rattle.domain_answer.specs.Reading.{reading}
-use Rattle.domain_answer.specs.declared.answer.Answer.{Answer}
-use Rattle.denial_program.specs.Check.{AreNsecs}
-use Rattle.denial_program.specs.declared.command.Question.{Question}
-use Rattle.denial_program.specs.declared.fault.DenialFault.{DenialFault}
-use Rattle.denial_program.specs.declared.fault.DenialFault.TheVariants.{Write, OutOfMemory}
-use Rattle.judge_program.specs.Run.{HasNoText, IsNsecText, IsText, IsUnwritten}
-use Rattle.judge_program.specs.Records.{nsec_below}
-use Rattle.judge_program.specs.Text.{first_line}
-use Rattle.judge_program.specs.declared.shown.Shown.{Shown}
+use Rattle.domain_answer.specs.{Proved.{IsAnswered, RestsOn}, Reading.reading, declared.answer.Answer.Answer}
+use Rattle.denial_program.specs.{Check.AreNsecs, declared.{command.Question.Question, fault.DenialFault.{DenialFault, TheVariants.{Write, OutOfMemory}}}}
+use Rattle.judge_program.specs.{Run.{HasNoText, IsNsecText, IsText, IsUnwritten}, Records.nsec_below, Text.first_line, declared.shown.Shown.Shown}
 use Rattle.judge_program.specs.declared.command.ChainKind.{ChainKind}
 
 -- where writing failed there was an answer

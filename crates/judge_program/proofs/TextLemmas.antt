@@ -1,8 +1,7 @@
 -- The text of a wildcard, and of what is told of one.
 use Rattle.std.proofs.Common.{◌≡◌, [], ◌∷◌, ◌++◌, codes, refl, append_assoc}
 use Rattle.domain_octets.specs.Words.{Octets}
-use Rattle.domain_names.specs.Text.{name_text, octet_text}
-use Rattle.domain_names.specs.Words.{Name}
+use Rattle.domain_names.specs.{Text.{name_text, octet_text}, Words.Name}
 use Rattle.domain_answer.specs.ZoneAnswer.{wildcard_below}
 use Rattle.judge_program.specs.Text.{full_text}
 

@@ -1,14 +1,10 @@
 -- Lines on records as they are printed.
-use Rattle.std.proofs.Common.{arith, ◌≡◌, ◌<◌, ℕ, true, List, ◌++◌, length, Some, append_assoc}
-use Rattle.std.proofs.lemmas.Grind.{common_steps}
+use Rattle.std.proofs.{Common.{arith, ◌≡◌, ◌<◌, ℕ, true, List, ◌++◌, length, Some, append_assoc}, lemmas.Grind.common_steps}
 use Rattle.domain_octets.specs.Words.{Octets}
-use Rattle.domain_names.specs.Words.{Name}
+use Rattle.domain_names.specs.{Words.Name, Name.last_labels}
 use Rattle.domain_nsec.specs.Chain.{Link}
-use Rattle.domain_names.specs.Name.{last_labels}
-use Rattle.domain_answer.specs.ZoneAnswer.{wildcard_below}
-use Rattle.domain_answer.specs.declared.answer.Answer.{Answer}
-use Rattle.judge_program.specs.Why.{nsec_told, nsec_why, rests_on_records, wildcard_count}
-use Rattle.judge_program.specs.declared.role.Role.TheVariants.{Asked, Wildcard}
+use Rattle.domain_answer.specs.{ZoneAnswer.wildcard_below, declared.answer.Answer.Answer}
+use Rattle.judge_program.specs.{Why.{nsec_told, nsec_why, rests_on_records, wildcard_count}, declared.role.Role.TheVariants.{Asked, Wildcard}}
 
 -- the parts of a line in the grouping in which they are written
 pub shown_parts : (how role sep line end : Octets) → how ++ (role ++ (sep ++ (line ++ end))) ≡ how ++ role ++ sep ++ line ++ end

@@ -3,10 +3,7 @@ use Rattle.std.specs.Prelude.{◌≡◌, ◌⊎◌, ℕ, [], ◌∷◌, codes, O
 use Rattle.domain_base.specs.Scan.{IsNumber}
 use Rattle.domain_names.specs.Words.{Token, Tokens}
 use Rattle.denial_program.specs.Command.{SpellQuestion}
-use Rattle.judge_program.specs.declared.command.ChainKind.{ChainKind}
-use Rattle.judge_program.specs.declared.command.ChainKind.TheVariants.{Nsec, Nsec3}
-use Rattle.judge_program.specs.declared.command.Command.{Command}
-use Rattle.judge_program.specs.declared.shown.Shown.{Shown}
+use Rattle.judge_program.specs.declared.{command.{ChainKind.{ChainKind, TheVariants.{Nsec, Nsec3}}, Command.Command}, shown.Shown.Shown}
 use Rattle.judge_program.specs.declared.shown.Shown.TheVariants.{Answer, Why, Records}
 
 -- the limit of iterations where none is asked for

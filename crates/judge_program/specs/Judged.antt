@@ -1,33 +1,19 @@
 -- What the records of a chain that were read answer to a question.
-use Rattle.std.specs.Prelude.{◌≡◌, ◌⊎◌, ◌<◌, ◌≤◌, ℕ, true, false, List, [], ◌∷◌, Option, Some, None}
-use Rattle.std.specs.Prelude.{Err}
+use Rattle.std.specs.Prelude.{◌≡◌, ◌⊎◌, ◌<◌, ◌≤◌, ℕ, true, false, List, [], ◌∷◌, Option, Some, None, Err}
 use Rattle.domain_names.specs.Name.{is_at_or_below}
 use Rattle.domain_hasher.specs.declared.error.Nsec3HashError.TheVariants.{Hasher}
-use Rattle.domain_records.specs.declared.error.SigningError.{SigningError}
-use Rattle.domain_records.specs.declared.error.SigningError.TheVariants.{Nsec3HashingError}
+use Rattle.domain_records.specs.declared.error.SigningError.{SigningError, TheVariants.Nsec3HashingError}
 use Rattle.domain_nsec.specs.Chain.{Link}
-use Rattle.domain_nsec3.specs.Chain.{HashedLink, ParamRecord}
-use Rattle.domain_nsec3.specs.Config.{hash_name}
+use Rattle.domain_nsec3.specs.{Chain.{HashedLink, ParamRecord}, Config.hash_name, View.HasherAnswer}
 use Rattle.domain_checker.specs.HashedView.{HashedRecords, links_with}
-use Rattle.domain_nsec3.specs.View.{HasherAnswer}
 use Rattle.domain_borrowed.specs.Data.{RawRecord}
-use Rattle.domain_answer.specs.Expansion.{closer_name, is_expanded, ExpansionRestsOn}
-use Rattle.domain_answer.specs.Expansion.{IsExpansionAnswered, IsExpansionRead}
-use Rattle.domain_answer.specs.HashedProved.{HashedRestsOn, IsHashedAnswered}
-use Rattle.domain_answer.specs.HashedReading.{IsFirstOfRefusals, IsHashedRead}
-use Rattle.domain_answer.specs.Proved.{needs_no_records, IsAnswered, RestsOn}
-use Rattle.domain_answer.specs.Reading.{reading}
-use Rattle.domain_answer.specs.ZoneAnswer.{is_at_parent}
-use Rattle.domain_answer.specs.declared.answer.Answer.{Answer}
-use Rattle.domain_answer.specs.declared.answer.Answer.TheVariants.{OutsideZone, AtParent}
-use Rattle.domain_answer.specs.declared.answer.Answer.TheVariants.{TooManyIterations, NotProven}
-use Rattle.denial_program.specs.Check.{AreNsecs, AreNsec3s, AreParams, HasNoParam, IsRefusedBy}
-use Rattle.denial_program.specs.declared.command.Question.{Question}
+use Rattle.domain_answer.specs.Expansion.{closer_name, is_expanded, ExpansionRestsOn, IsExpansionAnswered, IsExpansionRead}
+use Rattle.domain_answer.specs.{HashedProved.{HashedRestsOn, IsHashedAnswered}, HashedReading.{IsFirstOfRefusals, IsHashedRead}}
+use Rattle.domain_answer.specs.{Proved.{needs_no_records, IsAnswered, RestsOn}, Reading.reading, ZoneAnswer.is_at_parent, declared.answer.Answer.Answer}
+use Rattle.domain_answer.specs.declared.answer.Answer.TheVariants.{OutsideZone, AtParent, TooManyIterations, NotProven}
+use Rattle.denial_program.specs.{Check.{AreNsecs, AreNsec3s, AreParams, HasNoParam, IsRefusedBy}, declared.command.Question.Question}
 use Rattle.denial_program.specs.declared.fault.DenialFault.{DenialFault}
-use Rattle.denial_program.specs.declared.fault.DenialFault.TheVariants.{Usage, Read, Line}
-use Rattle.denial_program.specs.declared.fault.DenialFault.TheVariants.{Unprepared, MixedClasses}
-use Rattle.denial_program.specs.declared.fault.DenialFault.TheVariants.{Signing, Param, Write}
-use Rattle.denial_program.specs.declared.fault.DenialFault.TheVariants.{OutOfMemory}
+use Rattle.denial_program.specs.declared.fault.DenialFault.TheVariants.{Usage, Read, Line, Unprepared, MixedClasses, Signing, Param, Write, OutOfMemory}
 use Rattle.judge_program.specs.declared.command.Nsec3Options.{Nsec3Options}
 
 -- the answer is what the NSEC records prove of any zone of whose chain they are; from any records,

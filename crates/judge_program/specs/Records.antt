@@ -1,35 +1,22 @@
 -- The records that a server answers with, as they are printed; a is the apex, x the name.
-use Rattle.std.specs.Prelude.{◌≡◌, ℕ, ◌==◌, ◌&&◌, ◌||◌, Bool, true, false, List, [], ◌++◌}
-use Rattle.std.specs.Prelude.{codes, length, nat_lt, bytes_eq, Option, Some, None, Result}
-use Rattle.std.specs.Prelude.{Ok, Err, if◌then◌else◌}
-use Rattle.std.specs.List.{find, list_any}
-use Rattle.std.specs.Option.{is_some, option_map, option_to_list}
+use Rattle.std.specs.Prelude.{◌≡◌, ℕ, ◌==◌, ◌&&◌, ◌||◌, Bool, true, false, List, [], ◌++◌, codes, length, nat_lt, bytes_eq, Option, Some, None, Result, Ok, Err}
+use Rattle.std.specs.{Prelude.if◌then◌else◌, List.{find, list_any}, Option.{is_some, option_map, option_to_list}}
 use Rattle.domain_octets.specs.Words.{Octets}
-use Rattle.domain_names.specs.Name.{same_name, last_labels}
+use Rattle.domain_names.specs.{Name.{same_name, last_labels}, Words.Name}
 use Rattle.domain_base.specs.Types.{ds}
-use Rattle.domain_names.specs.Words.{Name}
 use Rattle.domain_bitmap.specs.Blocks.{contains_type}
 use Rattle.domain_fields.specs.Layout.{octets_of}
 use Rattle.domain_chain_rdata.specs.Rdata.{nsec3 as nsec3_fields}
 use Rattle.domain_nsec.specs.Chain.{Link}
-use Rattle.domain_nsec3.specs.Chain.{HashedLink, ParamRecord}
-use Rattle.domain_nsec3.specs.Config.{hash_name}
-use Rattle.domain_checker.specs.HashedEncloser.{Encloser, IsFoundEncloser, encloser_of}
-use Rattle.domain_checker.specs.HashedView.{HashedRecords, first_cover, first_match}
-use Rattle.domain_checker.specs.HashedPass.{found_cover, found_match}
-use Rattle.domain_checker.specs.Reading.{is_cover, is_match}
-use Rattle.domain_checker.specs.declared.hashed.Nsec3Found.{Nsec3Found}
-use Rattle.domain_answer.specs.Expansion.{closer_name}
-use Rattle.domain_answer.specs.ZoneAnswer.{wildcard_below}
-use Rattle.domain_answer.specs.declared.answer.Answer.{Answer}
+use Rattle.domain_nsec3.specs.{Chain.{HashedLink, ParamRecord}, Config.hash_name}
+use Rattle.domain_checker.specs.{HashedEncloser.{Encloser, IsFoundEncloser, encloser_of}, HashedView.{HashedRecords, first_cover, first_match}}
+use Rattle.domain_checker.specs.{HashedPass.{found_cover, found_match}, Reading.{is_cover, is_match}, declared.hashed.Nsec3Found.Nsec3Found}
+use Rattle.domain_answer.specs.{Expansion.closer_name, ZoneAnswer.wildcard_below, declared.answer.Answer.Answer}
 use Rattle.domain_answer.specs.declared.answer.Answer.TheVariants as answers
 use Rattle.denial_program.specs.Text.{link_values, nsec_line, nsec3_line, nsec3param_line}
-use Rattle.judge_program.specs.Why.{closer_found_text, closer_told, nsec_why, nsec3_why_text, wildcard_count, IsNsec3Why}
-use Rattle.judge_program.specs.declared.needs.Needs.{Needs}
+use Rattle.judge_program.specs.{Why.{closer_found_text, closer_told, nsec_why, nsec3_why_text, wildcard_count, IsNsec3Why}, declared.needs.Needs.Needs}
 use Rattle.judge_program.specs.declared.needs.Needs.TheVariants as needs
-use Rattle.judge_program.specs.declared.nsec3_below.Nsec3Below.{Nsec3Below}
-use Rattle.judge_program.specs.declared.nsec3_below.Nsec3Below.TheVariants.{Nothing, Whole, Closer}
-use Rattle.judge_program.specs.declared.nsec3_why.Nsec3Why.{Nsec3Why}
+use Rattle.judge_program.specs.declared.{nsec3_below.Nsec3Below.{Nsec3Below, TheVariants.{Nothing, Whole, Closer}}, nsec3_why.Nsec3Why.Nsec3Why}
 use Rattle.judge_program.specs.declared.shown.Shown.{Shown}
 use Rattle.judge_program.specs.declared.shown.Shown.TheVariants as shows
 

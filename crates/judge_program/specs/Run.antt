@@ -1,29 +1,16 @@
 -- What a run answers to its words and lines, and when each of its faults comes.
-use Rattle.std.specs.Prelude.{◌≡◌, ◌⊎◌, List, ◌++◌, Option}
-use Rattle.std.specs.Io.KnownBytes.{Appends}
+use Rattle.std.specs.{Prelude.{◌≡◌, ◌⊎◌, List, ◌++◌, Option}, Io.KnownBytes.Appends}
 use Rattle.domain_octets.specs.Words.{Octets}
 use Rattle.domain_names.specs.Words.{Tokens}
 use Rattle.domain_nsec3.specs.View.{HasherAnswer}
 use Rattle.domain_borrowed.specs.Data.{RawRecord}
 use Rattle.domain_answer.specs.declared.answer.Answer.{Answer}
 use Rattle.domain_checker.specs.HashedView.{links_with}
-use Rattle.denial_program.specs.Listing.{Give}
-use Rattle.denial_program.specs.declared.command.Question.{Question}
-use Rattle.denial_program.specs.declared.fault.DenialFault.{DenialFault}
-use Rattle.denial_program.specs.declared.fault.DenialFault.TheVariants.{Usage, Read, Line}
-use Rattle.denial_program.specs.declared.fault.DenialFault.TheVariants.{Unprepared, MixedClasses}
-use Rattle.denial_program.specs.declared.fault.DenialFault.TheVariants.{Signing, Param, Write}
-use Rattle.denial_program.specs.declared.fault.DenialFault.TheVariants.{OutOfMemory}
-use Rattle.judge_program.specs.Command.{Asks, IsCommand, IsNoCommand}
-use Rattle.judge_program.specs.Judged.{IsNotNsec3Judged, IsNsec3Judged, IsNsecJudged}
-use Rattle.judge_program.specs.Records.{nsec_below, IsNsec3Below}
-use Rattle.judge_program.specs.Text.{first_line}
-use Rattle.judge_program.specs.Why.{rests_on_records}
-use Rattle.judge_program.specs.declared.command.ChainKind.{ChainKind}
-use Rattle.judge_program.specs.declared.command.ChainKind.TheVariants.{Nsec, Nsec3}
-use Rattle.judge_program.specs.declared.command.Command.{Command}
-use Rattle.judge_program.specs.declared.command.Nsec3Options.{Nsec3Options}
-use Rattle.judge_program.specs.declared.shown.Shown.{Shown}
+use Rattle.denial_program.specs.{Listing.Give, declared.{command.Question.Question, fault.DenialFault.DenialFault}}
+use Rattle.denial_program.specs.declared.fault.DenialFault.TheVariants.{Usage, Read, Line, Unprepared, MixedClasses, Signing, Param, Write, OutOfMemory}
+use Rattle.judge_program.specs.{Command.{Asks, IsCommand, IsNoCommand}, Judged.{IsNotNsec3Judged, IsNsec3Judged, IsNsecJudged}}
+use Rattle.judge_program.specs.{Records.{nsec_below, IsNsec3Below}, Text.first_line, Why.rests_on_records, declared.command.ChainKind.ChainKind}
+use Rattle.judge_program.specs.declared.{command.{ChainKind.TheVariants.{Nsec, Nsec3}, Command.Command, Nsec3Options.Nsec3Options}, shown.Shown.Shown}
 
 -- the text is that of what the NSEC records answer to the question, on one line, and below it,
 -- where they are asked for, of the records that it rests on, or of those that a server answers with

@@ -1,29 +1,17 @@
 -- The records that an answer rests on, as they are printed below it; a is the apex, x the name.
-use Rattle.std.specs.Prelude.{◌≡◌, ℕ, ◌+◌, ◌==◌, Bool, true, false, List, [], ◌++◌}
-use Rattle.std.specs.Prelude.{codes, length, nat_lt, Option, Some, None, Result}
-use Rattle.std.specs.Prelude.{Ok, Err, if◌then◌else◌}
-use Rattle.std.specs.List.{find}
-use Rattle.std.specs.Option.{option_map}
+use Rattle.std.specs.Prelude.{◌≡◌, ℕ, ◌+◌, ◌==◌, Bool, true, false, List, [], ◌++◌, codes, length, nat_lt, Option, Some, None, Result, Ok, Err, if◌then◌else◌}
+use Rattle.std.specs.{List.find, Option.option_map}
 use Rattle.domain_octets.specs.Words.{Octets}
-use Rattle.domain_names.specs.Words.{Name}
+use Rattle.domain_names.specs.{Words.Name, Name.last_labels}
 use Rattle.domain_nsec.specs.Chain.{Link}
-use Rattle.domain_nsec3.specs.Chain.{HashedLink}
-use Rattle.domain_nsec3.specs.Config.{hash_name}
-use Rattle.domain_checker.specs.HashedEncloser.{Encloser, IsFoundEncloser, encloser_of}
-use Rattle.domain_checker.specs.HashedView.{HashedRecords, first_cover, first_match}
-use Rattle.domain_checker.specs.HashedPass.{found_cover, found_match}
-use Rattle.domain_checker.specs.HashedVerdict.{IsFirstRefusal}
-use Rattle.domain_checker.specs.Reading.{is_cover, is_match}
+use Rattle.domain_nsec3.specs.{Chain.HashedLink, Config.hash_name}
+use Rattle.domain_checker.specs.{HashedEncloser.{Encloser, IsFoundEncloser, encloser_of}, HashedView.{HashedRecords, first_cover, first_match}}
+use Rattle.domain_checker.specs.{HashedPass.{found_cover, found_match}, HashedVerdict.IsFirstRefusal, Reading.{is_cover, is_match}}
 use Rattle.domain_checker.specs.declared.hashed.Nsec3Found.{Nsec3Found}
-use Rattle.domain_answer.specs.Expansion.{closer_name}
-use Rattle.domain_names.specs.Name.{last_labels}
-use Rattle.domain_answer.specs.ZoneAnswer.{wildcard_below}
-use Rattle.domain_answer.specs.declared.answer.Answer.{Answer}
+use Rattle.domain_answer.specs.{Expansion.closer_name, ZoneAnswer.wildcard_below, declared.answer.Answer.Answer}
 use Rattle.domain_answer.specs.declared.answer.Answer.TheVariants as answers
 use Rattle.denial_program.specs.Text.{nsec_line, nsec3_line}
-use Rattle.judge_program.specs.Text.{full_text}
-use Rattle.judge_program.specs.declared.nsec3_why.Nsec3Why.{Nsec3Why}
-use Rattle.judge_program.specs.declared.role.Role.{Role}
+use Rattle.judge_program.specs.{Text.full_text, declared.{nsec3_why.Nsec3Why.Nsec3Why, role.Role.Role}}
 use Rattle.judge_program.specs.declared.role.Role.TheVariants.{Asked, Encloser as ClosestEncloser, NextCloser, Wildcard}
 
 -- the name that a record tells of

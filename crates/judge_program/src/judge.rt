@@ -1,16 +1,15 @@
 //! What records of a chain that were read answer to a question.
-ghost use Rattle.std.specs.Prelude.{◌≡◌, ◌++◌, IfErr, IfOk, OnOk};
-ghost use Rattle.std.specs.Io.KnownBytes.{Appends};
+ghost use Rattle.std.specs.{Prelude.{◌≡◌, ◌++◌, IfErr, IfOk, OnOk}, Io.KnownBytes.Appends};
 ghost use Rattle.domain_nsec.specs.ChainView.{links_of};
 ghost use Rattle.domain_nsec3.specs.View.{as_param_record};
 ghost use Rattle.domain_checker.specs.HashedView.{hashed_records};
 ghost use Rattle.domain_answer.specs.HashedReading.{IsFirstOfRefusals};
-ghost use Rattle.denial_program.specs.Check.{AreNsecs};
-ghost use Rattle.denial_program.specs.Fault.{IsBeforeOutput};
+ghost use Rattle.denial_program.specs.{Check.AreNsecs, Fault.IsBeforeOutput};
 ghost use Rattle.denial_program.specs.declared.fault.DenialFault.TheVariants.{OutOfMemory as Memory};
-ghost use Rattle.judge_program.specs.Judged.{IsAnswerAsked, IsNotNsec3Judged, IsNsec3Answer, IsRefusalAsked, IsRefusedWith};
-ghost use Rattle.judge_program.specs.Run.{HasNoText, IsNsecText, IsNsec3Text, IsText, IsUnwritten, IsWritten};
-ghost use Rattle.judge_program.specs.Records.{below_text, nsec_below};
+ghost use Rattle.judge_program.specs.Judged.{IsAnswerAsked, IsNotNsec3Judged, IsNsec3Answer};
+ghost use Rattle.judge_program.specs.Judged.{IsRefusalAsked, IsRefusedWith};
+ghost use Rattle.judge_program.specs.Run.{HasNoText, IsNsecText, IsNsec3Text, IsText, IsUnwritten};
+ghost use Rattle.judge_program.specs.{Run.IsWritten, Records.{below_text, nsec_below}};
 ghost use Rattle.judge_program.specs.Text.{first_line};
 
 use crate::command::{ChainKind, Command, Nsec3Options};

@@ -1,10 +1,9 @@
 //! The run of the program, over any reader and any writer.
-ghost use Rattle.std.specs.Prelude.{◌≡◌, ℕ, IfErr, MatchResult, OnOk, IsErrOf, IfSome, map, string_bytes};
-ghost use Rattle.std.specs.Str.Lines.{lines};
-ghost use Rattle.std.specs.Io.KnownBytes.{Appends};
+ghost use Rattle.std.specs.Prelude.{◌≡◌, ℕ, IfErr, MatchResult, OnOk, IsErrOf, IfSome, map};
+ghost use Rattle.std.specs.{Prelude.string_bytes, Str.Lines.lines, Io.KnownBytes.Appends};
 ghost use Rattle.domain_octets.specs.Words.{Octets};
-ghost use Rattle.denial_program.specs.Fault.{IsAfterInput, IsBeforeOutput, IsOfRecords, IsReadToEnd};
-ghost use Rattle.denial_program.specs.Listing.{IsFirstBad};
+ghost use Rattle.denial_program.specs.Fault.{IsAfterInput, IsBeforeOutput, IsOfRecords};
+ghost use Rattle.denial_program.specs.{Fault.IsReadToEnd, Listing.IsFirstBad};
 ghost use Rattle.judge_program.specs.Command.{IsCommand};
 ghost use Rattle.judge_program.specs.Run.{GivesNoJudgement, Judges, TellsUsage};
 

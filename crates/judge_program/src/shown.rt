@@ -1,6 +1,5 @@
 //! What is printed of an answer.
-ghost use Rattle.std.specs.Prelude.{OnOk};
-ghost use Rattle.std.specs.Io.KnownBytes.{Appends};
+ghost use Rattle.std.specs.{Prelude.OnOk, Io.KnownBytes.Appends};
 ghost use Rattle.judge_program.specs.Text.{first_line};
 
 use crate::answer_text::AnswerText;

@@ -1,9 +1,7 @@
 -- The first line of those that are told.
-use Rattle.std.proofs.lemmas.Grind.{common_steps}
-use Rattle.std.proofs.Common.{◌≡◌, ℕ, ◌+◌, List, [], ◌∷◌, arith, inl, inr}
+use Rattle.std.proofs.{lemmas.Grind.common_steps, Common.{◌≡◌, ℕ, ◌+◌, List, [], ◌∷◌, arith, inl, inr}}
 use Rattle.domain_borrowed.specs.Data.{RawRecord}
-use Rattle.denial_program.specs.Listing.{Give, IsFirstBad}
-use Rattle.denial_program.proofs.ReadingLemmas.{first_bad_here, first_bad_later}
+use Rattle.denial_program.{specs.Listing.{Give, IsFirstBad}, proofs.ReadingLemmas.{first_bad_here, first_bad_later}}
 use Rattle.lint_program.specs.Lines.{AreLinted}
 
 -- the lowest bad line, where the first line has the number n

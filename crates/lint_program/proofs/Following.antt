@@ -1,16 +1,10 @@
 -- How far a reader has come, where it tells its octets.
 use Rattle.std.proofs.lemmas.Grind.{common_steps}
 use Rattle.std.proofs.Common.{◌≡◌, ℕ, ◌+◌, ◌<◌, List, [], ◌∷◌, ◌++◌, length, refl, ap, sym, ◌∙◌, subst, arith, Some, None, IfSome, Option, append-nil}
-use Rattle.std.proofs.Common.{length-append}
-use Rattle.std.specs.Str.Lines.{lines}
-use Rattle.std.specs.Io.BufRead.{take_through, drop_through, DropsThrough}
-use Rattle.std.specs.Io.KnownBytes.{IsAtEnd}
+use Rattle.std.{proofs.Common.length-append, specs.{Str.Lines.lines, Io.{BufRead.{take_through, drop_through, DropsThrough}, KnownBytes.IsAtEnd}}}
 use Rattle.domain_borrowed.specs.Data.{RawRecord}
-use Rattle.denial_program.specs.Listing.{IsBad, IsFirstBad, IsLineRecord}
-use Rattle.denial_program.specs.Words.{words, IsSkipped}
+use Rattle.denial_program.{specs.{Listing.{IsBad, IsFirstBad, IsLineRecord}, Words.{words, IsSkipped}}, proofs.{LineSteps.line_once, ReadingLemmas.taken_some}}
 use Rattle.lint_program.specs.Lines.{AreLinted}
-use Rattle.denial_program.proofs.LineSteps.{line_once}
-use Rattle.denial_program.proofs.ReadingLemmas.{taken_some}
 
 -- ---- one line
 

@@ -1,12 +1,9 @@
 -- What is told is deserved, and what is deserved is told.
-use Rattle.std.proofs.lemmas.Grind.{common_steps}
-use Rattle.std.proofs.Common.{◌≡◌, ◌⊎◌, ℕ, List, [], ◌∷◌, ◌++◌, refl, ap, arith, inl, inr, length, length-append}
+use Rattle.std.proofs.{lemmas.Grind.common_steps, Common.{◌≡◌, ◌⊎◌, ℕ, List, [], ◌∷◌, ◌++◌, refl, ap, arith, inl, inr, length, length-append}}
 use Rattle.std.specs.List.{AllByRecursion}
 use Rattle.domain_names.specs.Words.{Name}
 use Rattle.domain_borrowed.specs.Data.{RawRecord}
-use Rattle.lint_program.specs.Notes.{earlier, look_of, Deserves, Found, HasMark, IsDeserved, IsToldOf, Mark}
-use Rattle.lint_program.specs.Notes.Found.{more, nothing}
-use Rattle.lint_program.specs.declared.looks.Look.{Look}
+use Rattle.lint_program.specs.{Notes.{earlier, look_of, Deserves, Found, HasMark, IsDeserved, IsToldOf, Mark, Found.{more, nothing}}, declared.looks.Look.Look}
 use Rattle.lint_program.specs.declared.looks.Reason.{Reason}
 
 -- ---- lists

@@ -1,25 +1,12 @@
 -- The first record of each group, as records are taken in one by one.
-use Rattle.std.proofs.Common.{arith, Some, None, Option, option_map}
-use Rattle.std.proofs.lemmas.Grind.{common_steps}
-use Rattle.std.proofs.Common.{◌≡◌, ℕ, Bool, true, false, cond, ◌&&◌, ◌==◌, ◌+◌, ◌<◌, List, [], ◌∷◌, ◌++◌, refl, ap, sym, ◌∙◌, get_or, length, map, subst, take}
-use Rattle.std.specs.Ordering.{is_eq, nat_cmp, ordering_then}
-use Rattle.std.specs.Cmp.{nat_eq_equiv, unsigned_tied}
-use Rattle.std.specs.List.{find}
-use Rattle.std.specs.Option.{option_or}
-use Rattle.std.proofs.lemmas.List.{take_more}
-use Rattle.std.proofs.lemmas.List.Folds.{find-append}
-use Rattle.std.specs.declared.cmp.Ordering.{Ordering}
+use Rattle.std.proofs.Common.{arith, Some, None, Option, option_map, ◌≡◌, ℕ, Bool, true, false, cond, ◌&&◌, ◌==◌, ◌+◌, ◌<◌, List, [], ◌∷◌, ◌++◌, refl, ap, sym}
+use Rattle.std.proofs.{Common.{◌∙◌, get_or, length, map, subst, take}, lemmas.{Grind.common_steps, List.{take_more, Folds.find-append}, Bool.and_parts}}
+use Rattle.std.specs.{Ordering.{is_eq, nat_cmp, ordering_then}, Cmp.{nat_eq_equiv, unsigned_tied}, List.find, Option.option_or, declared.cmp.Ordering.Ordering}
 use Rattle.domain_octets.proofs.StdLemmas.{or_none}
-use Rattle.std.proofs.lemmas.Bool.{and_parts}
-use Rattle.domain_names.specs.Laws.{same_name_equiv, same_name_ties}
-use Rattle.domain_names.specs.Name.{same_name}
-use Rattle.domain_names.specs.Words.{Name}
+use Rattle.domain_names.specs.{Laws.{same_name_equiv, same_name_ties}, Name.same_name, Words.Name}
 use Rattle.domain_borrowed.specs.Data.{RawRecord}
-use Rattle.lint_program.specs.Firsts.{group_cmp}
-use Rattle.lint_program.specs.Notes.{earlier, first_in, group_of, is_group, AreNoted, Found, Group, IsToldOf, Mark}
-use Rattle.lint_program.specs.Notes.Found.{more}
-use Rattle.lint_program.specs.declared.looks.Look.{Look}
-use Rattle.lint_program.specs.declared.reading.Place.{Place}
+use Rattle.lint_program.specs.{Firsts.group_cmp, Notes.{earlier, first_in, group_of, is_group, AreNoted, Found, Group, IsToldOf, Mark, Found.more}}
+use Rattle.lint_program.specs.declared.{looks.Look.Look, reading.Place.Place}
 
 -- ---- groups
 

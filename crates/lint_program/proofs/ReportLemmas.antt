@@ -1,9 +1,7 @@
 -- The lines of a report, one after another.
-use Rattle.std.proofs.Common.{arith, ◌≡◌, ℕ, Bool, List, [], ◌∷◌, ◌++◌, refl, ap, sym, ◌∙◌, append-nil, append_assoc}
-use Rattle.std.proofs.lemmas.Grind.{common_steps}
+use Rattle.std.proofs.{Common.{arith, ◌≡◌, ℕ, Bool, List, [], ◌∷◌, ◌++◌, refl, ap, sym, ◌∙◌, append-nil, append_assoc}, lemmas.Grind.common_steps}
 use Rattle.domain_octets.specs.Words.{Octets}
-use Rattle.lint_program.specs.Notes.{Mark}
-use Rattle.lint_program.specs.Report.{AreFaults, AreNotes, IsFault, IsNote}
+use Rattle.lint_program.specs.{Notes.Mark, Report.{AreFaults, AreNotes, IsFault, IsNote}}
 
 -- one more line
 pub faults_more : (ns : List ℕ) (n : ℕ) (text line : Octets) → AreFaults ns text → IsFault n line → AreFaults (ns ++ n ∷ []) (text ++ line)

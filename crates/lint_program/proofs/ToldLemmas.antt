@@ -1,6 +1,5 @@
 -- What is told with parameters and without.
-use Rattle.std.proofs.Common.{arith, ◌≡◌, ◌⊎◌, ℕ, List, ◌++◌, refl, Option, Some, None}
-use Rattle.std.proofs.lemmas.Grind.{common_steps}
+use Rattle.std.proofs.{Common.{arith, ◌≡◌, ◌⊎◌, ℕ, List, ◌++◌, refl, Option, Some, None}, lemmas.Grind.common_steps}
 use Rattle.domain_octets.specs.Words.{Octets}
 use Rattle.domain_names.specs.Words.{Name, Tokens}
 use Rattle.domain_borrowed.specs.Data.{RawRecord}
@@ -8,16 +7,10 @@ use Rattle.domain_nsec3.specs.View.{HasherAnswer}
 use Rattle.domain_hasher.specs.declared.error.Nsec3HashError.TheVariants as hash_error
 use Rattle.domain_records.specs.declared.error.SigningError.{SigningError}
 use Rattle.domain_records.specs.declared.error.SigningError.TheVariants as signing_error
-use Rattle.denial_program.specs.Command.{Params}
-use Rattle.denial_program.specs.declared.fault.DenialFault.{DenialFault}
-use Rattle.denial_program.specs.declared.fault.DenialFault.TheVariants.{OutOfMemory as Memory, Signing}
+use Rattle.denial_program.specs.{Command.Params, declared.fault.DenialFault.{DenialFault, TheVariants.{OutOfMemory as Memory, Signing}}}
 use Rattle.domain_alike.specs.Alike.{Pair}
-use Rattle.lint_program.specs.Alike.{alike_text, AreTold, IsRefusalBy}
-use Rattle.lint_program.specs.Command.{Asks, IsHashedCommand}
-use Rattle.lint_program.specs.HashedReport.{outcome_with, IsRefused, IsTold}
-use Rattle.lint_program.specs.Lines.{AreLinted}
-use Rattle.lint_program.specs.Report.{IsReport}
-use Rattle.lint_program.specs.declared.outcome.Outcome.{Outcome}
+use Rattle.lint_program.specs.{Alike.{alike_text, AreTold, IsRefusalBy}, Command.{Asks, IsHashedCommand}, HashedReport.{outcome_with, IsRefused, IsTold}}
+use Rattle.lint_program.specs.{Lines.AreLinted, Report.IsReport, declared.outcome.Outcome.Outcome}
 
 pub told_of : (answers : HasherAnswer) (lines : List Octets) (apex : Name) (o : Option Params) (plain outcome : Outcome) (front : Octets)
     (pairs : List Pair) (report : IsReport lines apex plain front) → AreTold answers report.records apex o pairs

@@ -1,16 +1,13 @@
 -- Names of an NSEC3 chain that hash alike, as they are told of the records of an input.
 use Rattle.std.specs.Prelude.{◌≡◌, ◌⊎◌, ℕ, List, [], ◌++◌, Option, Some, None, codes}
 use Rattle.domain_octets.specs.Words.{Octets}
-use Rattle.domain_names.specs.Text.{name_text}
-use Rattle.domain_names.specs.Words.{Name}
+use Rattle.domain_names.specs.{Text.name_text, Words.Name}
 use Rattle.domain_alike.specs.Alike.{AreAlike, IsFirstRefusal, Pair}
 use Rattle.domain_dnssec.specs.AnyOrder.{AreMixed}
 use Rattle.domain_borrowed.specs.Data.{RawRecord, zone_of_raw}
 use Rattle.domain_nsec3.specs.View.{HasherAnswer}
 use Rattle.domain_records.specs.Order.{IsOneClass}
-use Rattle.denial_program.specs.Answer.{usual_nsec3_config, Sorts}
-use Rattle.denial_program.specs.Command.{Params}
-use Rattle.denial_program.specs.Text.{lines_of}
+use Rattle.denial_program.specs.{Answer.{usual_nsec3_config, Sorts}, Command.Params, Text.lines_of}
 
 -- those of the given records, in the chain that `denial nsec3` would make of them with these
 -- parameters

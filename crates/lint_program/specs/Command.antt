@@ -1,13 +1,8 @@
 -- What the words after the program's name ask for, and which faults there are.
 use Rattle.std.specs.Prelude.{◌≡◌, ◌∷◌, [], Option, Some, None}
-use Rattle.domain_names.specs.Text.{NameText}
-use Rattle.domain_names.specs.Words.{Name, Token, Tokens}
-use Rattle.denial_program.specs.Command.{Params, Spell}
-use Rattle.denial_program.specs.declared.fault.DenialFault.{DenialFault}
-use Rattle.denial_program.specs.declared.fault.DenialFault.TheVariants.{Usage, Read, Line}
-use Rattle.denial_program.specs.declared.fault.DenialFault.TheVariants.{Unprepared, MixedClasses}
-use Rattle.denial_program.specs.declared.fault.DenialFault.TheVariants.{Signing, Param, Write}
-use Rattle.denial_program.specs.declared.fault.DenialFault.TheVariants.{OutOfMemory}
+use Rattle.domain_names.specs.{Text.NameText, Words.{Name, Token, Tokens}}
+use Rattle.denial_program.specs.{Command.{Params, Spell}, declared.fault.DenialFault.DenialFault}
+use Rattle.denial_program.specs.declared.fault.DenialFault.TheVariants.{Usage, Read, Line, Unprepared, MixedClasses, Signing, Param, Write, OutOfMemory}
 
 -- the words are one, which spells the apex
 pub record AsksPlainly (words : Tokens) (apex : Name) : Type 0 where

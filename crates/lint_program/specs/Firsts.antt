@@ -1,14 +1,10 @@
 -- The first record of each group, by a map.
 use Rattle.std.specs.Prelude.{◌≡◌, List, option_map}
 use Rattle.std.specs.BTreeMap as tree
-use Rattle.std.specs.Ordering.{nat_cmp, ordering_then}
-use Rattle.std.specs.declared.cmp.Ordering.{Ordering}
-use Rattle.domain_names.specs.Order.{canonical_cmp}
-use Rattle.domain_names.specs.Words.{Name}
+use Rattle.std.specs.{Ordering.{nat_cmp, ordering_then}, declared.cmp.Ordering.Ordering}
+use Rattle.domain_names.specs.{Order.canonical_cmp, Words.Name}
 use Rattle.domain_borrowed.specs.Data.{RawRecord}
-use Rattle.lint_program.specs.Notes.{first_in, Group}
-use Rattle.lint_program.specs.declared.firsts.Firsts.{Firsts}
-use Rattle.lint_program.specs.declared.looks.Look.{Look}
+use Rattle.lint_program.specs.{Notes.{first_in, Group}, declared.{firsts.Firsts.Firsts, looks.Look.Look}}
 
 -- the order of groups in the map
 abbrev pub group_cmp : Group → Group → Ordering

@@ -9,12 +9,8 @@ use Rattle.domain_hasher.specs.declared.error.Nsec3HashError.TheVariants as hash
 use Rattle.domain_records.specs.declared.error.SigningError.{SigningError}
 use Rattle.domain_records.specs.declared.error.SigningError.TheVariants as signing_error
 use Rattle.denial_program.specs.Command.{Params}
-use Rattle.lint_program.specs.Alike.{alike_text, AreToldAlike, IsRefusalIn}
-use Rattle.lint_program.specs.Command.{AsksHashed}
-use Rattle.lint_program.specs.Lines.{AreLinted}
-use Rattle.lint_program.specs.Report.{IsReport}
-use Rattle.lint_program.specs.declared.outcome.Outcome.{Outcome}
-use Rattle.lint_program.specs.declared.outcome.Outcome.TheVariants.{Faulty}
+use Rattle.lint_program.specs.{Alike.{alike_text, AreToldAlike, IsRefusalIn}, Command.AsksHashed, Lines.AreLinted, Report.IsReport}
+use Rattle.lint_program.specs.declared.outcome.Outcome.{Outcome, TheVariants.Faulty}
 
 -- the outcome, where it would be this one without these pairs: each is a fault
 abbrev pub outcome_with : List Pair → Outcome → Outcome

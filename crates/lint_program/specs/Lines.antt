@@ -2,10 +2,8 @@
 use Rattle.std.specs.Prelude.{◌≡◌, ◌⊎◌, ℕ, ◌+◌, List, [], ◌∷◌}
 use Rattle.domain_octets.specs.Words.{Octets}
 use Rattle.domain_borrowed.specs.Data.{RawRecord}
-use Rattle.denial_program.specs.Listing.{IsBad, IsLineRecord}
-use Rattle.denial_program.specs.Words.{words, IsSkipped}
-use Rattle.lint_program.specs.declared.reading.Line.{Line}
-use Rattle.lint_program.specs.declared.reading.Line.TheVariants.{Nothing, Record, Bad}
+use Rattle.denial_program.specs.{Listing.{IsBad, IsLineRecord}, Words.{words, IsSkipped}}
+use Rattle.lint_program.specs.declared.reading.Line.{Line, TheVariants.{Nothing, Record, Bad}}
 
 -- each of these lines, of which the first has the number n, is skipped, spells a record, or is bad:
 -- these are the numbers of all that are bad, and the records of all others with their numbers, in

@@ -2,9 +2,7 @@
 use Rattle.std.specs.Prelude.{[], codes}
 use Rattle.domain_octets.specs.Words.{Octets}
 use Rattle.lint_program.specs.declared.looks.Reason.{Reason}
-use Rattle.lint_program.specs.declared.looks.Reason.TheVariants.{NoSoa, SecondSoa, StraySoa}
-use Rattle.lint_program.specs.declared.looks.Reason.TheVariants.{OtherClass, OtherTtl, Outside}
-use Rattle.lint_program.specs.declared.looks.Reason.TheVariants.{BesideAlias, OddData, Parameters}
+use Rattle.lint_program.specs.declared.looks.Reason.TheVariants.{NoSoa, SecondSoa, StraySoa, OtherClass, OtherTtl, Outside, BesideAlias, OddData, Parameters}
 
 abbrev pub opening : Reason → Octets
 opening NoSoa = codes "the apex "

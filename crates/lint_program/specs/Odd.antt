@@ -1,11 +1,9 @@
 -- Octets that are data of their type, of the types whose data are not read.
-use Rattle.std.specs.Prelude.{◌≡◌, ℕ, ◌-◌, ◌<◌, ◌==◌, Bool, not, ◌||◌, drop, length, nat_lt, slice_index, if◌then◌else◌}
-use Rattle.std.specs.List.{fold}
+use Rattle.std.specs.{Prelude.{◌≡◌, ℕ, ◌-◌, ◌<◌, ◌==◌, Bool, not, ◌||◌, drop, length, nat_lt, slice_index, if◌then◌else◌}, List.fold}
 use Rattle.domain_octets.specs.Words.{Octets}
 use Rattle.domain_base.specs.Types as rtypes
 use Rattle.domain_names.specs.Wire.{IsWire}
-use Rattle.lint_program.specs.declared.odd.Shape.{Shape}
-use Rattle.lint_program.specs.declared.odd.Shape.TheVariants.{OneName, Texts, LongAddress, Service, Certificate, Issuers, Whatever}
+use Rattle.lint_program.specs.declared.odd.Shape.{Shape, TheVariants.{OneName, Texts, LongAddress, Service, Certificate, Issuers, Whatever}}
 
 -- what data of a type are: of CNAME, PTR and DNAME (RFC 1035, sections 3.3.1 and 3.3.12; RFC 6672);
 -- TXT and SPF (RFC 1035, section 3.3.14; RFC 7208); AAAA (RFC 3596); SRV (RFC 2782); TLSA (RFC

@@ -1,7 +1,6 @@
 -- Outcomes by the exit status of the program.
 use Rattle.std.specs.Prelude.{ℕ, Bool, true, false}
-use Rattle.lint_program.specs.declared.outcome.Outcome.{Outcome}
-use Rattle.lint_program.specs.declared.outcome.Outcome.TheVariants.{Clean, Warned, Faulty}
+use Rattle.lint_program.specs.declared.outcome.Outcome.{Outcome, TheVariants.{Clean, Warned, Faulty}}
 
 abbrev pub exit_status : Outcome → ℕ
 exit_status Clean = 0

@@ -1,21 +1,12 @@
 -- What is told of an input.
-use Rattle.std.specs.Prelude.{◌≡◌, ◌≢◌, ◌⊎◌, ℕ, ◌≤◌, ◌==◌, Bool, true, false, ◌&&◌, List, [], ◌∷◌}
-use Rattle.std.specs.Prelude.{◌++◌, All, codes, length, Option, Some, None, if◌then◌else◌}
+use Rattle.std.specs.Prelude.{◌≡◌, ◌≢◌, ◌⊎◌, ℕ, ◌≤◌, ◌==◌, Bool, true, false, ◌&&◌, List, [], ◌∷◌, ◌++◌, All, codes, length, Option, Some, None, if◌then◌else◌}
 use Rattle.std.specs.Fmt.{decimal}
-use Rattle.domain_octets.specs.Words.{Octets}
-use Rattle.domain_octets.specs.Characters.{space, tilde}
+use Rattle.domain_octets.specs.{Words.Octets, Characters.{space, tilde}}
 use Rattle.domain_names.specs.Words.{Name}
 use Rattle.domain_borrowed.specs.Data.{RawRecord}
-use Rattle.denial_program.specs.Answer.{HasNoNsecs, IsNsecs}
-use Rattle.denial_program.specs.Fault.{IsOfRecords}
-use Rattle.denial_program.specs.declared.answer.Reply.{Reply}
-use Rattle.denial_program.specs.declared.fault.DenialFault.{DenialFault}
-use Rattle.lint_program.specs.Lines.{AreLinted}
-use Rattle.lint_program.specs.NoteText.{closing, opening}
-use Rattle.lint_program.specs.Notes.{fails, AreNoted, Mark}
-use Rattle.lint_program.specs.Outcomes.{is_faulty}
-use Rattle.lint_program.specs.declared.outcome.Outcome.{Outcome}
-use Rattle.lint_program.specs.declared.outcome.Outcome.TheVariants.{Clean, Warned, Faulty}
+use Rattle.denial_program.specs.{Answer.{HasNoNsecs, IsNsecs}, Fault.IsOfRecords, declared.{answer.Reply.Reply, fault.DenialFault.DenialFault}}
+use Rattle.lint_program.specs.{Lines.AreLinted, NoteText.{closing, opening}, Notes.{fails, AreNoted, Mark}, Outcomes.is_faulty}
+use Rattle.lint_program.specs.declared.outcome.Outcome.{Outcome, TheVariants.{Clean, Warned, Faulty}}
 
 -- the octet is printed, and no end of a line
 abbrev pub IsPrinted : ℕ → Type 0

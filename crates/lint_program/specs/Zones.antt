@@ -4,8 +4,7 @@ use Rattle.domain_dnssec.specs.AnyOrder.{AreMixed}
 use Rattle.domain_borrowed.specs.Data.{RawRecord}
 use Rattle.domain_records.specs.Order.{IsInOrder, IsOneClass}
 use Rattle.denial_program.specs.Answer.{Sorts}
-use Rattle.lint_program.specs.declared.zone.Zone.{Zone}
-use Rattle.lint_program.specs.declared.zone.Zone.TheVariants.{Mixed, Sorted}
+use Rattle.lint_program.specs.declared.zone.Zone.{Zone, TheVariants.{Mixed, Sorted}}
 
 -- sorted records of one class
 pub record AreSorted (sorted : List RawRecord) : Type 0 where

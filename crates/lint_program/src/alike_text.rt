@@ -1,10 +1,8 @@
 //! How names that hash alike are told.
-ghost use Rattle.std.specs.Prelude.{◌≡◌, ◌⊎◌, IfErr, OnOk, map};
-ghost use Rattle.std.specs.Io.KnownBytes.{Appends};
+ghost use Rattle.std.specs.{Prelude.{◌≡◌, ◌⊎◌, IfErr, OnOk, map}, Io.KnownBytes.Appends};
 ghost use Rattle.denial_program.specs.declared.fault.DenialFault.TheVariants.{OutOfMemory as Memory};
 ghost use Rattle.domain_alike.specs.Alike.{pair_of};
-ghost use Rattle.lint_program.specs.Alike.{alike_text};
-ghost use Rattle.lint_program.specs.HashedReport.{outcome_with};
+ghost use Rattle.lint_program.specs.{Alike.alike_text, HashedReport.outcome_with};
 
 use crate::outcome::Outcome;
 use denial_program::{DenialFault, fault_of};

@@ -2,8 +2,7 @@
 ghost use Rattle.std.specs.Prelude.{◌≡◌, List, [], ◌∷◌, ◌++◌, OnOk, option_map};
 ghost use Rattle.domain_names.specs.Words.{Name};
 ghost use Rattle.domain_borrowed.specs.Data.{RawRecord};
-ghost use Rattle.lint_program.specs.Firsts.{AreFirsts};
-ghost use Rattle.lint_program.specs.Notes.{group_of, first_in};
+ghost use Rattle.lint_program.specs.{Firsts.AreFirsts, Notes.{group_of, first_in}};
 ghost use Rattle.lint_program.specs.declared.looks.Look.{Look};
 
 use crate::looks::{Earlier, Group};

@@ -1,15 +1,13 @@
 //! What the lines that a report tells are to `denial`, and what its notes are to the records. A
 //! caller calls a law in its body.
-ghost use Rattle.std.specs.Prelude.{◌≡◌, ℕ, List, [], ◌∷◌, ◌++◌, length};
-ghost use Rattle.std.specs.List.{AllByRecursion};
+ghost use Rattle.std.specs.{Prelude.{◌≡◌, ℕ, List, [], ◌∷◌, ◌++◌, length}, List.AllByRecursion};
 ghost use Rattle.domain_octets.specs.Words.{Octets};
 ghost use Rattle.domain_names.specs.Words.{Name};
 ghost use Rattle.domain_borrowed.specs.Data.{RawRecord};
 ghost use Rattle.denial_program.specs.Listing.{Give, IsFirstBad};
 ghost use Rattle.lint_program.specs.Lines.{AreLinted};
-ghost use Rattle.lint_program.specs.Notes.{earlier, look_of, Deserves, Found, HasMark, IsDeserved, Mark};
-ghost use Rattle.lint_program.specs.declared.looks.Look.{Look};
-ghost use Rattle.lint_program.specs.declared.looks.Reason.{Reason};
+ghost use Rattle.lint_program.specs.Notes.{earlier, look_of, Deserves, Found, HasMark, IsDeserved};
+ghost use Rattle.lint_program.specs.{Notes.Mark, declared.looks.{Look.Look, Reason.Reason}};
 
 /// Where a report tells a line, the first that it tells is the line for which `run_denial` and
 /// `run_judge` refuse the input; and where it tells none, they read records from it.

@@ -1,9 +1,7 @@
 //! Names in the canonical order, for a map's keys.
-ghost use Rattle.std.specs.Prelude.{◌≡◌, Some, refl};
-ghost use Rattle.std.specs.Cmp.{partial_equiv_from_equiv};
+ghost use Rattle.std.specs.{Prelude.{◌≡◌, Some, refl}, Cmp.partial_equiv_from_equiv};
 ghost use Rattle.domain_names.specs.Laws.{canonical_po, same_name_equiv, same_name_ties};
-ghost use Rattle.domain_names.specs.Name.{same_name};
-ghost use Rattle.domain_names.specs.Order.{canonical_cmp, canonical_cmp_total};
+ghost use Rattle.domain_names.specs.{Name.same_name, Order.{canonical_cmp, canonical_cmp_total}};
 
 use domain_base::{ParsedName, ToName};
 use std::cmp::Ordering;

@@ -1,21 +1,18 @@
 //! The run of the program, over any reader and any writer.
-ghost use Rattle.std.specs.Prelude.{◌≡◌, ◌⊎◌, ◌++◌, List, Option, IfErr, IfOk, IsErrOf, MatchResult, OnOk, IfSome, map, string_bytes};
-ghost use Rattle.std.specs.Str.Lines.{lines};
-ghost use Rattle.std.specs.Io.KnownBytes.{Appends};
+ghost use Rattle.std.specs.Prelude.{◌≡◌, ◌⊎◌, ◌++◌, List, Option, IfErr, IfOk, IsErrOf};
+ghost use Rattle.std.specs.Prelude.{MatchResult, OnOk, IfSome, map, string_bytes};
+ghost use Rattle.std.specs.{Str.Lines.lines, Io.KnownBytes.Appends};
 ghost use Rattle.domain_octets.specs.Words.{Octets};
 ghost use Rattle.denial_program.specs.Fault.{IsBeforeOutput, IsReadToEnd};
 ghost use Rattle.denial_program.specs.declared.fault.DenialFault.TheVariants.{OutOfMemory as Memory};
+ghost use Rattle.denial_program.specs.Command.{Params};
 ghost use Rattle.domain_names.specs.Words.{Name};
 ghost use Rattle.domain_borrowed.specs.Data.{RawRecord};
 ghost use Rattle.domain_records.specs.declared.error.SigningError.{SigningError};
-ghost use Rattle.denial_program.specs.Command.{Params};
 ghost use Rattle.domain_alike.specs.Alike.{pair_of};
-ghost use Rattle.lint_program.specs.Alike.{alike_text};
-ghost use Rattle.lint_program.specs.Command.{Asks, IsCommand, IsRunFault};
-ghost use Rattle.lint_program.specs.HashedReport.{IsRefused, IsTold};
-ghost use Rattle.lint_program.specs.Notes.{mark_of};
-ghost use Rattle.lint_program.specs.Outcomes.{is_faulty};
-ghost use Rattle.lint_program.specs.Report.{AreFaults, AreNotes, IsOutcome};
+ghost use Rattle.lint_program.specs.{Alike.alike_text, Command.{Asks, IsCommand, IsRunFault}};
+ghost use Rattle.lint_program.specs.{HashedReport.{IsRefused, IsTold}, Notes.mark_of};
+ghost use Rattle.lint_program.specs.{Outcomes.is_faulty, Report.{AreFaults, AreNotes, IsOutcome}};
 ghost use Rattle.lint_program.specs.Zones.{IsUsable, IsZone};
 
 use crate::alike::alike_of;

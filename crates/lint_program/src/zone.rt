@@ -4,8 +4,7 @@ ghost use Rattle.domain_borrowed.specs.Data.{RawRecord};
 ghost use Rattle.domain_records.specs.Order.{IsInOrder, IsOneClass};
 ghost use Rattle.denial_program.specs.Answer.{Sorts};
 ghost use Rattle.denial_program.specs.declared.fault.DenialFault.TheVariants.{OutOfMemory as Memory};
-ghost use Rattle.lint_program.specs.Report.{IfRefused};
-ghost use Rattle.lint_program.specs.Zones.{IsUsable, IsZone};
+ghost use Rattle.lint_program.specs.{Report.IfRefused, Zones.{IsUsable, IsZone}};
 
 use denial_program::{DenialFault, nsecs_of, sort_zone};
 use domain_base::ParsedName;

@@ -1,6 +1,5 @@
 -- What a hasher answers that looks names up in a table.
-use Rattle.std.specs.Prelude.{ℕ, List, [], ◌∷◌, nat_eq, Result, Ok, Err, if◌then◌else◌}
-use Rattle.std.specs.Cmp.Lexicographic.{pointwise}
+use Rattle.std.specs.{Prelude.{ℕ, List, [], ◌∷◌, nat_eq, Result, Ok, Err, if◌then◌else◌}, Cmp.Lexicographic.pointwise}
 use Rattle.domain_octets.specs.Words.{Octets}
 use Rattle.worked_values.specs.declared.chains.hashers.Row.{Row}
 

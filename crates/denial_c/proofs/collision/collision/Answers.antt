@@ -1,13 +1,9 @@
 use Rattle.std.proofs.Common.{List, Option, Some, option_map, subst}
-use Rattle.domain_alike.specs.Alike.{pair_of, IsFirstPair}
-use Rattle.domain_alike.specs.declared.alike.Alike.{Alike}
+use Rattle.domain_alike.specs.{Alike.{pair_of, IsFirstPair}, declared.alike.Alike.Alike}
 use Rattle.domain_borrowed.specs.Data.{RawRecord, zone_of_raw}
-use Rattle.domain_nsec3.specs.Config.{ChainConfig}
-use Rattle.domain_nsec3.specs.View.{config_of}
+use Rattle.domain_nsec3.specs.{Config.ChainConfig, View.config_of}
 use Rattle.domain_sha1.specs.Iterated.{sha1_answer}
-use Rattle.denial_c.specs.Chains.{hashed_config}
-use Rattle.denial_c.proofs.ChainLemmas.{is_sorted}
-use Rattle.denial_c.proofs.CollisionLemmas.{first_pair_of}
+use Rattle.denial_c.{specs.Chains.hashed_config, proofs.{ChainLemmas.is_sorted, CollisionLemmas.first_pair_of}}
 use Rattle.denial_c.proofs.collision.collision.Goals as goal
 
 pub returns : goal.returns

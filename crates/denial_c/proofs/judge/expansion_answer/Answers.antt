@@ -1,15 +1,10 @@
-use Rattle.std.proofs.Common.{arith, ◌≡◌, true, false, ap, Err, refl, sym, subst}
-use Rattle.std.proofs.lemmas.Grind.{common_steps}
-use Rattle.std.proofs.lemmas.Result.{err_from_is_err_and}
+use Rattle.std.proofs.{Common.{arith, ◌≡◌, true, false, ap, Err, refl, sym, subst}, lemmas.{Grind.common_steps, Result.err_from_is_err_and}}
 use Rattle.domain_answer.specs.Expansion.{closer_name, is_expanded, ExpansionRestsOn, IsExpansionAnswered, IsExpansionRead}
 use Rattle.domain_answer.specs.declared.answer.Answer.TheVariants.{OutsideZone, NotProven, TooManyIterations}
 use Rattle.domain_names.specs.Name.{is_at_or_below}
 use Rattle.domain_nsec3.specs.Config.{hash_name}
-use Rattle.denial_c.specs.Judged.{IsExpansionRefused}
-use Rattle.denial_c.specs.Question.{as_question}
-use Rattle.denial_c.specs.Result.{sha1_records, source_of}
-use Rattle.denial_c.proofs.JudgeLemmas.{allowed, expanded}
-use Rattle.denial_c.proofs.Nsec3Lemmas.{hash_fault}
+use Rattle.denial_c.specs.{Judged.IsExpansionRefused, Question.as_question, Result.{sha1_records, source_of}}
+use Rattle.denial_c.proofs.{JudgeLemmas.{allowed, expanded}, Nsec3Lemmas.hash_fault}
 use Rattle.denial_c.proofs.judge.expansion_answer.Goals as goal
 
 pub returns-in_err-apex : goal.returns-in_err-apex

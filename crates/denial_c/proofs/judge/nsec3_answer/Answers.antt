@@ -1,17 +1,9 @@
-use Rattle.std.proofs.Common.{arith, ◌≡◌, true, false, ap, Err, refl, sym, subst}
-use Rattle.std.proofs.lemmas.Grind.{common_steps}
-use Rattle.std.proofs.lemmas.Result.{err_from_is_err_and}
-use Rattle.domain_answer.specs.HashedProved.{IsHashedAnswered}
-use Rattle.domain_answer.specs.HashedReading.{IsFirstOfRefusals, IsHashedRead}
-use Rattle.domain_answer.specs.Proved.{needs_no_records}
-use Rattle.domain_answer.specs.ZoneAnswer.{is_at_parent}
-use Rattle.domain_answer.specs.declared.answer.Answer.TheVariants.{OutsideZone, AtParent, TooManyIterations}
+use Rattle.std.proofs.{Common.{arith, ◌≡◌, true, false, ap, Err, refl, sym, subst}, lemmas.{Grind.common_steps, Result.err_from_is_err_and}}
+use Rattle.domain_answer.specs.{HashedProved.IsHashedAnswered, HashedReading.{IsFirstOfRefusals, IsHashedRead}, Proved.needs_no_records}
+use Rattle.domain_answer.specs.{ZoneAnswer.is_at_parent, declared.answer.Answer.TheVariants.{OutsideZone, AtParent, TooManyIterations}}
 use Rattle.domain_names.specs.Name.{is_at_or_below}
-use Rattle.denial_c.specs.Judged.{IsAnswerRefused}
-use Rattle.denial_c.specs.Question.{as_question}
-use Rattle.denial_c.specs.Result.{sha1_records, source_of}
-use Rattle.denial_c.proofs.JudgeLemmas.{allowed, needed}
-use Rattle.denial_c.proofs.Nsec3Lemmas.{hash_fault}
+use Rattle.denial_c.specs.{Judged.IsAnswerRefused, Question.as_question, Result.{sha1_records, source_of}}
+use Rattle.denial_c.proofs.{JudgeLemmas.{allowed, needed}, Nsec3Lemmas.hash_fault}
 use Rattle.denial_c.proofs.judge.nsec3_answer.Goals as goal
 
 pub returns-in_err-apex : goal.returns-in_err-apex

@@ -1,11 +1,7 @@
-use Rattle.std.proofs.Common.{◌≡◌, sym, subst}
-use Rattle.std.proofs.lemmas.Result.{err_from_is_err_and}
-use Rattle.domain_answer.specs.Proved.{IsAnswered}
-use Rattle.domain_answer.specs.Reading.{reading}
+use Rattle.std.proofs.{Common.{◌≡◌, sym, subst}, lemmas.Result.err_from_is_err_and}
+use Rattle.domain_answer.specs.{Proved.IsAnswered, Reading.reading}
 use Rattle.domain_nsec.specs.ChainView.{links_of}
-use Rattle.denial_c.specs.Among.{AreNsecs}
-use Rattle.denial_c.specs.Judged.{IsNsecsFault}
-use Rattle.denial_c.proofs.JudgeLemmas.{nsecs_fault}
+use Rattle.denial_c.{specs.{Among.AreNsecs, Judged.IsNsecsFault}, proofs.JudgeLemmas.nsecs_fault}
 use Rattle.denial_c.proofs.judge.nsec_answer.Goals as goal
 
 pub returns-in_err-nsecs : goal.returns-in_err-nsecs

@@ -1,8 +1,6 @@
-use Rattle.std.proofs.lemmas.Grind.{common_steps}
-use Rattle.std.proofs.Common.{ap, length, sym, ◌∙◌, arith}
-use Rattle.domain_borrowed.specs.Links.{nsec_record, IsNsec}
+use Rattle.std.proofs.{lemmas.Grind.common_steps, Common.{ap, length, sym, ◌∙◌, arith}}
+use Rattle.domain_borrowed.{specs.Links.{nsec_record, IsNsec}, proofs.WireLemmas.shorter}
 use Rattle.denial_c.proofs.AmongLemmas.{passed, refused, refused_data, taken}
-use Rattle.domain_borrowed.proofs.WireLemmas.{shorter}
 use Rattle.denial_c.proofs.judge.nsecs_among.Goals as goal
 
 pub returns-in_default-clause-err : goal.returns-in_default-clause-err

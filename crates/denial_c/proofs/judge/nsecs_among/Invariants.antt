@@ -2,8 +2,7 @@ use Rattle.std.proofs.Common.{length}
 use Rattle.domain_base.specs.Types as rtypes
 use Rattle.domain_nsec.specs.ChainView.{links_of}
 use Rattle.domain_borrowed.specs.Links.{nsec_record, IsNsec}
-use Rattle.denial_c.specs.Among.{is_of}
-use Rattle.denial_c.proofs.AmongLemmas.{IsRead}
+use Rattle.denial_c.{specs.Among.is_of, proofs.AmongLemmas.IsRead}
 use Rattle.denial_c.proofs.judge.nsecs_among.Given as goal
 
 abbrev pub invariant-records : goal.invariant-records

@@ -1,9 +1,6 @@
-use Rattle.std.proofs.lemmas.Grind.{common_steps}
-use Rattle.std.proofs.Common.{ap, length, refl, sym, ◌∙◌, arith}
-use Rattle.domain_borrowed.specs.Links.{nsec_record, IsNsec}
-use Rattle.denial_c.proofs.AmongLemmas.{refused, refused_data}
-use Rattle.denial_c.proofs.NsecLemmas.{handing_one, handing_other}
-use Rattle.domain_borrowed.proofs.WireLemmas.{shorter}
+use Rattle.std.proofs.{lemmas.Grind.common_steps, Common.{ap, length, refl, sym, ◌∙◌, arith}}
+use Rattle.domain_borrowed.{specs.Links.{nsec_record, IsNsec}, proofs.WireLemmas.shorter}
+use Rattle.denial_c.proofs.{AmongLemmas.{refused, refused_data}, NsecLemmas.{handing_one, handing_other}}
 use Rattle.denial_c.proofs.nsec.hand_in.Goals as goal
 
 pub returns-in_default-clause-err : goal.returns-in_default-clause-err

@@ -1,8 +1,6 @@
-use Rattle.std.proofs.Common.{[], Err, sym, subst}
-use Rattle.std.proofs.lemmas.Result.{err_from_is_err_and}
+use Rattle.std.proofs.{Common.{[], Err, sym, subst}, lemmas.Result.err_from_is_err_and}
 use Rattle.domain_checker.specs.HandedIn.{HasRead}
-use Rattle.denial_c.specs.Among.{AreNsecs}
-use Rattle.denial_c.specs.Result.{IsNsecResult}
+use Rattle.denial_c.specs.{Among.AreNsecs, Result.IsNsecResult}
 use Rattle.denial_c.proofs.nsec.nsec_verdict.Goals as goal
 
 pub returns : goal.returns

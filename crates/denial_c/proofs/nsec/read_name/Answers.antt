@@ -1,8 +1,5 @@
-use Rattle.std.proofs.Common.{arith, ◌≡◌, ℕ, List, [], ◌++◌, sym, ◌∙◌, append-nil}
-use Rattle.std.proofs.lemmas.Grind.{common_steps}
-use Rattle.domain_names.specs.Fault.{Fault, NameFault, WholeNameFault, in_name, trailing}
-use Rattle.domain_names.specs.Name.{wire_of, IsName}
-use Rattle.domain_names.specs.Words.{Name}
+use Rattle.std.proofs.{Common.{arith, ◌≡◌, ℕ, List, [], ◌++◌, sym, ◌∙◌, append-nil}, lemmas.Grind.common_steps}
+use Rattle.domain_names.specs.{Fault.{Fault, NameFault, WholeNameFault, in_name, trailing}, Name.{wire_of, IsName}, Words.Name}
 use Rattle.denial_c.specs.Result.{Spells}
 use Rattle.denial_c.proofs.nsec.read_name.Goals as goal
 

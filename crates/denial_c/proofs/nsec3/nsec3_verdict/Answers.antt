@@ -1,11 +1,6 @@
-use Rattle.std.proofs.Common.{arith, ap, Err, subst}
-use Rattle.std.proofs.lemmas.Grind.{common_steps}
-use Rattle.std.proofs.lemmas.Result.{err_from_is_err_and}
-use Rattle.domain_checker.specs.HashedReading.{IsWalked}
-use Rattle.domain_checker.specs.HashedVerdict.{IsHashedProved}
-use Rattle.denial_c.specs.Question.{as_question}
-use Rattle.denial_c.specs.Result.{sha1_records, source_of, IsRefused}
-use Rattle.denial_c.proofs.Nsec3Lemmas.{hash_fault}
+use Rattle.std.proofs.{Common.{arith, ap, Err, subst}, lemmas.{Grind.common_steps, Result.err_from_is_err_and}}
+use Rattle.domain_checker.specs.{HashedReading.IsWalked, HashedVerdict.IsHashedProved}
+use Rattle.denial_c.{specs.{Question.as_question, Result.{sha1_records, source_of, IsRefused}}, proofs.Nsec3Lemmas.hash_fault}
 use Rattle.denial_c.proofs.nsec3.nsec3_verdict.Goals as goal
 
 pub returns-in_err-apex : goal.returns-in_err-apex

@@ -1,8 +1,6 @@
-use Rattle.std.proofs.lemmas.Grind.{common_steps}
-use Rattle.std.proofs.Common.{ap, length, sym, ◌∙◌, arith}
-use Rattle.domain_borrowed.specs.Links.{nsec3_record, IsNsec3}
+use Rattle.std.proofs.{lemmas.Grind.common_steps, Common.{ap, length, sym, ◌∙◌, arith}}
+use Rattle.domain_borrowed.{specs.Links.{nsec3_record, IsNsec3}, proofs.WireLemmas.shorter}
 use Rattle.denial_c.proofs.AmongLemmas.{passed, refused, refused_data, taken}
-use Rattle.domain_borrowed.proofs.WireLemmas.{shorter}
 use Rattle.denial_c.proofs.nsec3.nsec3s_among.Goals as goal
 
 pub returns-in_default-clause-err : goal.returns-in_default-clause-err

@@ -1,11 +1,8 @@
-use Rattle.std.proofs.Common.{◌≡◌, ◌&&◌, ap, length, sym, ◌∙◌, subst, map, arith}
-use Rattle.std.proofs.lemmas.List.{map-append}
+use Rattle.std.proofs.{Common.{◌≡◌, ◌&&◌, ap, length, sym, ◌∙◌, subst, map, arith}, lemmas.List.map-append}
 use Rattle.domain_names.specs.Name.{same_name}
 use Rattle.domain_nsec3.specs.View.{as_param_record}
-use Rattle.domain_borrowed.specs.Links.{param_record, IsParam}
-use Rattle.denial_c.specs.Among.{is_param}
-use Rattle.denial_c.proofs.AmongLemmas.{IsRead, passed, refused, refused_data, taken}
-use Rattle.domain_borrowed.proofs.WireLemmas.{shorter}
+use Rattle.domain_borrowed.{specs.Links.{param_record, IsParam}, proofs.WireLemmas.shorter}
+use Rattle.denial_c.{specs.Among.is_param, proofs.AmongLemmas.{IsRead, passed, refused, refused_data, taken}}
 use Rattle.denial_c.proofs.nsec3.params_among.Goals as goal
 use Rattle.denial_c.proofs.nsec3.params_among.Goals.{After-name_eq}
 

@@ -3,8 +3,7 @@ use Rattle.domain_names.specs.Name.{same_name}
 use Rattle.domain_base.specs.Types as rtypes
 use Rattle.domain_nsec3.specs.View.{as_param_record}
 use Rattle.domain_borrowed.specs.Links.{param_record, IsParam}
-use Rattle.denial_c.specs.Among.{is_of}
-use Rattle.denial_c.proofs.AmongLemmas.{IsRead}
+use Rattle.denial_c.{specs.Among.is_of, proofs.AmongLemmas.IsRead}
 use Rattle.denial_c.proofs.nsec3.params_among.Given as goal
 
 abbrev pub invariant-records : goal.invariant-records

@@ -1,11 +1,7 @@
-use Rattle.std.proofs.Common.{◌≡◌, ◌<◌, List, length, refl, subst, IfErr, IfOk}
-use Rattle.std.proofs.lemmas.Result.{err_from_is_err_and}
+use Rattle.std.proofs.{Common.{◌≡◌, ◌<◌, List, length, refl, subst, IfErr, IfOk}, lemmas.Result.err_from_is_err_and}
 use Rattle.domain_borrowed.specs.Data.{RawRecord, zone_of_raw}
-use Rattle.domain_nsec3.specs.Chain.{IsChainParam, IsHashedChain}
-use Rattle.domain_nsec3.specs.Config.{ChainConfig}
-use Rattle.domain_nsec3.specs.declared.config.Nsec3ParamTtlMode.TheVariants.{Soa}
-use Rattle.denial_c.specs.Chains.{hashed_config, nsec3_asking, IsSortedNsec3Fault, IsWritten}
-use Rattle.denial_c.specs.declared.chain_fault.ChainFault.TheVariants.{ShortBuffer}
+use Rattle.domain_nsec3.specs.{Chain.{IsChainParam, IsHashedChain}, Config.ChainConfig, declared.config.Nsec3ParamTtlMode.TheVariants.Soa}
+use Rattle.denial_c.specs.{Chains.{hashed_config, nsec3_asking, IsSortedNsec3Fault, IsWritten}, declared.chain_fault.ChainFault.TheVariants.ShortBuffer}
 use Rattle.denial_c.proofs.ChainLemmas.{chain_result, is_sorted, nsec3_fault, nsec3_made}
 use Rattle.denial_c.proofs.nsec3_chain.nsec3_chain.Goals as goal
 

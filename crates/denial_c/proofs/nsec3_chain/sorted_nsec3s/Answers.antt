@@ -1,12 +1,9 @@
-use Rattle.std.proofs.Common.{arith, ◌≡◌, List, refl, subst}
-use Rattle.std.proofs.lemmas.Grind.{common_steps}
+use Rattle.std.proofs.{Common.{arith, ◌≡◌, List, refl, subst}, lemmas.Grind.common_steps}
 use Rattle.domain_borrowed.specs.Data.{RawRecord, zone_of_raw}
-use Rattle.domain_nsec3.specs.Faults.{IsFirstFault}
-use Rattle.domain_nsec3.specs.View.{config_of}
+use Rattle.domain_nsec3.specs.{Faults.IsFirstFault, View.config_of}
 use Rattle.domain_records.specs.declared.error.SigningError.TheVariants as signing_error
 use Rattle.domain_sha1.specs.Iterated.{sha1_answer}
-use Rattle.denial_c.specs.Chains.{hashing_fault, IsSortedNsec3Fault}
-use Rattle.denial_c.proofs.HashLemmas.{hashing_faulty}
+use Rattle.denial_c.{specs.Chains.{hashing_fault, IsSortedNsec3Fault}, proofs.HashLemmas.hashing_faulty}
 use Rattle.denial_c.proofs.nsec3_chain.sorted_nsec3s.Goals as goal
 
 pub uneven_at-offset-requires-clause-uneven : goal.uneven_at-offset-requires-clause-uneven

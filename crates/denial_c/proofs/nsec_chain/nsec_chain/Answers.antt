@@ -1,9 +1,7 @@
-use Rattle.std.proofs.Common.{◌≡◌, ◌<◌, List, length, refl, subst, IfErr, IfOk}
-use Rattle.std.proofs.lemmas.Result.{err_from_is_err_and}
+use Rattle.std.proofs.{Common.{◌≡◌, ◌<◌, List, length, refl, subst, IfErr, IfOk}, lemmas.Result.err_from_is_err_and}
 use Rattle.domain_borrowed.specs.Data.{RawRecord, zone_of_raw}
 use Rattle.domain_nsec.specs.Chain.{IsChain}
-use Rattle.denial_c.specs.Chains.{nsec_asking, IsSortedNsecFault, IsWritten}
-use Rattle.denial_c.specs.declared.chain_fault.ChainFault.TheVariants.{ShortBuffer}
+use Rattle.denial_c.specs.{Chains.{nsec_asking, IsSortedNsecFault, IsWritten}, declared.chain_fault.ChainFault.TheVariants.ShortBuffer}
 use Rattle.denial_c.proofs.ChainLemmas.{chain_result, is_sorted, nsec_fault, nsec_made}
 use Rattle.denial_c.proofs.nsec_chain.nsec_chain.Goals as goal
 

@@ -1,9 +1,7 @@
-use Rattle.std.proofs.Common.{arith, subst, sym, ◌∙◌}
-use Rattle.std.proofs.lemmas.Grind.{common_steps}
+use Rattle.std.proofs.{Common.{arith, subst, sym, ◌∙◌}, lemmas.Grind.common_steps}
 use Rattle.domain_borrowed.specs.Data.{minimum_of, zone_of_raw}
 use Rattle.domain_zone.proofs.TtlLemmas.{neighbours_tell, seen_never_descend}
-use Rattle.denial_c.specs.Uneven.{IsFirstClash}
-use Rattle.denial_c.proofs.UnevenLemmas.{IsBetween, between_clash, between_next}
+use Rattle.denial_c.{specs.Uneven.IsFirstClash, proofs.UnevenLemmas.{IsBetween, between_clash, between_next}}
 use Rattle.denial_c.proofs.uneven.clashing_type.Goals as goal
 
 pub returns-then-clash-clause-some : goal.returns-then-clash-clause-some

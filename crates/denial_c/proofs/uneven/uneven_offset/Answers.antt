@@ -1,9 +1,7 @@
-use Rattle.std.proofs.lemmas.Grind.{common_steps}
-use Rattle.std.proofs.Common.{◌-◌, ap, arith, length, sym, ◌∙◌}
+use Rattle.std.proofs.{lemmas.Grind.common_steps, Common.{◌-◌, ap, arith, length, sym, ◌∙◌}}
 use Rattle.domain_borrowed.proofs.WireLemmas.{shorter}
 use Rattle.denial_c.specs.Uneven.{is_other}
-use Rattle.denial_c.proofs.GivenLemmas.{no_octets}
-use Rattle.denial_c.proofs.UnevenLemmas.{scanned_all, scanned_found, scanned_next, scanned_other, scanned_same}
+use Rattle.denial_c.proofs.{GivenLemmas.no_octets, UnevenLemmas.{scanned_all, scanned_found, scanned_next, scanned_other, scanned_same}}
 use Rattle.denial_c.proofs.uneven.uneven_offset.Goals as goal
 
 pub unreachable-requires : goal.unreachable-requires

@@ -1,12 +1,7 @@
-use Rattle.std.proofs.Common.{arith, ap, map, subst, sym, ◌∙◌}
-use Rattle.std.proofs.lemmas.Grind.{common_steps}
+use Rattle.std.proofs.{Common.{arith, ap, map, subst, sym, ◌∙◌}, lemmas.Grind.common_steps}
 use Rattle.domain_borrowed.specs.Data.{minimum_of, zone_of_raw}
-use Rattle.domain_zone.specs.View.{as_zone_record}
-use Rattle.domain_zone.specs.Zone.{has_clash, records_of}
-use Rattle.domain_zone.proofs.GivenLemmas.{raw_types, types_at}
-use Rattle.domain_zone.proofs.TtlLemmas.{NeverDescend}
-use Rattle.denial_c.specs.Uneven.{IsFirstClash}
-use Rattle.denial_c.proofs.UnevenLemmas.{walked_all, walked_clash, walked_even, walked_first, walked_known, walked_past}
+use Rattle.domain_zone.{specs.{View.as_zone_record, Zone.{has_clash, records_of}}, proofs.{GivenLemmas.{raw_types, types_at}, TtlLemmas.NeverDescend}}
+use Rattle.denial_c.{specs.Uneven.IsFirstClash, proofs.UnevenLemmas.{walked_all, walked_clash, walked_even, walked_first, walked_known, walked_past}}
 use Rattle.denial_c.proofs.uneven.uneven_set.Goals as goal
 
 pub owners-preserved-then-excludes-is_unsigned_cut : goal.owners-preserved-then-excludes-is_unsigned_cut

@@ -1,5 +1,4 @@
-use Rattle.std.proofs.lemmas.Grind.{common_steps}
-use Rattle.std.proofs.Common.{ap, arith, length}
+use Rattle.std.proofs.{lemmas.Grind.common_steps, Common.{ap, arith, length}}
 use Rattle.domain_borrowed.proofs.WireLemmas.{shorter}
 use Rattle.denial_c.proofs.GivenLemmas.{half_all, half_more, half_next, no_octets}
 use Rattle.denial_c.proofs.zone.read_records.Goals as goal

@@ -1,10 +1,7 @@
-use Rattle.std.proofs.Common.{arith, List, sym, subst}
-use Rattle.std.proofs.lemmas.Grind.{common_steps}
+use Rattle.std.proofs.{Common.{arith, List, sym, subst}, lemmas.Grind.common_steps}
 use Rattle.domain_borrowed.specs.Data.{RawRecord, data_cmp}
-use Rattle.domain_records.specs.Order.{IsInOrder}
-use Rattle.domain_records.proofs.OrderLemmas.{in_order_from_sorted}
-use Rattle.denial_c.specs.Chains.{Sorts}
-use Rattle.denial_c.proofs.ChainLemmas.{sorted_one_class}
+use Rattle.domain_records.{specs.Order.IsInOrder, proofs.OrderLemmas.in_order_from_sorted}
+use Rattle.denial_c.{specs.Chains.Sorts, proofs.ChainLemmas.sorted_one_class}
 use Rattle.denial_c.proofs.zone.sort_records.Goals as goal
 
 pub returns-clause-sorts : goal.returns-clause-sorts

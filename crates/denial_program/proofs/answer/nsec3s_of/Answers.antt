@@ -1,15 +1,9 @@
-use Rattle.std.proofs.Common.{arith, List, refl, rules, subst}
-use Rattle.std.proofs.lemmas.Grind.{common_steps}
+use Rattle.std.proofs.{Common.{arith, List, refl, rules, subst}, lemmas.Grind.common_steps}
 use Rattle.domain_zone.specs.Zone.{ZoneRecord}
-use Rattle.domain_nsec3.specs.Chain.{IsChainParam, IsHashedChain}
-use Rattle.domain_nsec3.specs.Config.{ChainConfig}
-use Rattle.domain_nsec3.specs.Faults.{IsFirstFault, IsReady}
-use Rattle.domain_nsec3.specs.View.{config_of}
+use Rattle.domain_nsec3.specs.{Chain.{IsChainParam, IsHashedChain}, Config.ChainConfig, Faults.{IsFirstFault, IsReady}, View.config_of}
 use Rattle.domain_dnssec.specs.declared.chain.ChainError.TheVariants.{OutOfMemory, Signing}
 use Rattle.domain_borrowed.specs.Data.{zone_of_raw}
-use Rattle.denial_program.specs.Answer.{usual_nsec3_config}
-use Rattle.denial_program.proofs.answer.nsec3s_of.Given.{Over}
-use Rattle.denial_program.proofs.answer.nsec3s_of.Goals.{After-new_from_owned, In-Err-OutOfMemory}
+use Rattle.denial_program.{specs.Answer.usual_nsec3_config, proofs.answer.nsec3s_of.{Given.Over, Goals.{After-new_from_owned, In-Err-OutOfMemory}}}
 use Rattle.denial_program.proofs.answer.nsec3s_of.Goals as goal
 
 -- what holds of the zone and the configuration that were handed on holds of the sorted records and the usual configuration

@@ -1,5 +1,4 @@
-use Rattle.std.proofs.Common.{arith, List, refl, rules, subst}
-use Rattle.std.proofs.lemmas.Grind.{common_steps}
+use Rattle.std.proofs.{Common.{arith, List, refl, rules, subst}, lemmas.Grind.common_steps}
 use Rattle.domain_nsec.specs.Chain.{usual_config, IsChain, IsFaultless, IsFirstFault}
 use Rattle.domain_dnssec.specs.declared.chain.ChainError.TheVariants.{Signing}
 use Rattle.domain_borrowed.specs.Data.{RawRecord, zone_of_raw}

@@ -1,7 +1,5 @@
-use Rattle.std.proofs.Common.{◌++◌, codes, sym, ap, ◌∙◌, subst, arith}
-use Rattle.std.specs.Io.KnownBytes.{Appends}
-use Rattle.denial_program.specs.Text.{nsec3_line}
-use Rattle.denial_program.proofs.RunLemmas.{appends_more, lines_more, nsec3_printed}
+use Rattle.std.{proofs.Common.{◌++◌, codes, sym, ap, ◌∙◌, subst, arith}, specs.Io.KnownBytes.Appends}
+use Rattle.denial_program.{specs.Text.nsec3_line, proofs.RunLemmas.{appends_more, lines_more, nsec3_printed}}
 use Rattle.denial_program.proofs.answer.write_chain.Goals as goal
 
 pub loop-place-preserved : goal.loop-place-preserved

@@ -1,5 +1,4 @@
-use Rattle.std.proofs.Common.{take}
-use Rattle.std.specs.Io.KnownBytes.{Appends}
+use Rattle.std.{proofs.Common.take, specs.Io.KnownBytes.Appends}
 use Rattle.denial_program.specs.Text.{lines_of, nsec3_line}
 use Rattle.denial_program.proofs.answer.write_chain.Given as goal
 

@@ -1,8 +1,6 @@
-use Rattle.std.proofs.Common.{◌++◌, codes, sym, ap, ◌∙◌, subst, arith}
-use Rattle.std.specs.Io.KnownBytes.{Appends}
+use Rattle.std.{proofs.Common.{◌++◌, codes, sym, ap, ◌∙◌, subst, arith}, specs.Io.KnownBytes.Appends}
 use Rattle.domain_nsec.specs.ChainView.{as_link}
-use Rattle.denial_program.specs.Text.{nsec_line}
-use Rattle.denial_program.proofs.RunLemmas.{appends_more, lines_more, nsec_printed}
+use Rattle.denial_program.{specs.Text.nsec_line, proofs.RunLemmas.{appends_more, lines_more, nsec_printed}}
 use Rattle.denial_program.proofs.answer.write_nsecs.Goals as goal
 
 pub loop-place-preserved : goal.loop-place-preserved

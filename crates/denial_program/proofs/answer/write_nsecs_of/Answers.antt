@@ -1,10 +1,8 @@
-use Rattle.std.proofs.Common.{arith, ◌≡◌, ◌∙◌, List, sym, subst}
-use Rattle.std.proofs.lemmas.Grind.{common_steps}
+use Rattle.std.proofs.{Common.{arith, ◌≡◌, ◌∙◌, List, sym, subst}, lemmas.Grind.common_steps}
 use Rattle.domain_nsec.specs.Chain.{usual_config, IsFaultless}
 use Rattle.domain_borrowed.specs.Data.{RawRecord, zone_of_raw}
 use Rattle.domain_records.specs.Order.{IsOneClass}
-use Rattle.denial_program.specs.Answer.{IsNsecs, Sorts}
-use Rattle.denial_program.proofs.AnswerLemmas.{nsecs_unready, nsecs_unwritten, on_ok, uncompacted}
+use Rattle.denial_program.{specs.Answer.{IsNsecs, Sorts}, proofs.AnswerLemmas.{nsecs_unready, nsecs_unwritten, on_ok, uncompacted}}
 use Rattle.denial_program.proofs.answer.write_nsecs_of.Goals as goal
 
 pub returns-in_err-answer-clause-err : goal.returns-in_err-answer-clause-err

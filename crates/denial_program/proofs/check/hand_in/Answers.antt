@@ -1,5 +1,4 @@
-use Rattle.std.proofs.lemmas.Grind.{common_steps}
-use Rattle.std.proofs.Common.{arith}
+use Rattle.std.proofs.{lemmas.Grind.common_steps, Common.arith}
 use Rattle.denial_program.proofs.AmongLemmas.{goes_end, handing_one}
 use Rattle.denial_program.proofs.check.hand_in.Goals as goal
 

@@ -1,7 +1,6 @@
 use Rattle.std.proofs.Common.{◌≡◌, refl, sym, subst, IfOk, Err}
 use Rattle.domain_nsec3.specs.View.{as_param_record, hashed_links_of}
-use Rattle.domain_checker.specs.HashedView.{links_with}
-use Rattle.domain_checker.specs.declared.verdict.Verdict.TheVariants.{OutsideZone}
+use Rattle.domain_checker.specs.{HashedView.links_with, declared.verdict.Verdict.TheVariants.OutsideZone}
 use Rattle.domain_records.specs.declared.error.SigningError.TheVariants.{Nsec3HashingError}
 use Rattle.denial_program.proofs.CheckLemmas.{hasher_refused}
 use Rattle.denial_program.proofs.check.nsec3_reply.Goals as goal

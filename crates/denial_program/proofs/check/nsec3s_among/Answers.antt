@@ -1,8 +1,6 @@
-use Rattle.std.proofs.Common.{arith, [], ◌∷◌, ap, sym, ◌∙◌, subst}
-use Rattle.std.proofs.lemmas.List.{map-append}
+use Rattle.std.proofs.{Common.{arith, [], ◌∷◌, ap, sym, ◌∙◌, subst}, lemmas.List.map-append}
 use Rattle.domain_nsec3.specs.View.{as_hashed_link, hashed_links_of}
-use Rattle.denial_program.specs.Check.{IsNsec3Of}
-use Rattle.denial_program.proofs.AmongLemmas.{ended, goes_end, goes_kept, Goes}
+use Rattle.denial_program.{specs.Check.IsNsec3Of, proofs.AmongLemmas.{ended, goes_end, goes_kept, Goes}}
 use Rattle.denial_program.proofs.check.nsec3s_among.Goals as goal
 
 pub left-preserved-in-Continue-1 : goal.left-preserved-in-Continue-1

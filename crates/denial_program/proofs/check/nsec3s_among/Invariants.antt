@@ -1,7 +1,6 @@
 use Rattle.std.proofs.Common.{length}
 use Rattle.domain_nsec3.specs.View.{hashed_links_of}
-use Rattle.denial_program.specs.Check.{IsNsec3Of}
-use Rattle.denial_program.proofs.AmongLemmas.{Goes}
+use Rattle.denial_program.{specs.Check.IsNsec3Of, proofs.AmongLemmas.Goes}
 use Rattle.denial_program.proofs.check.nsec3s_among.Given as goal
 
 abbrev pub invariant-left : goal.invariant-left

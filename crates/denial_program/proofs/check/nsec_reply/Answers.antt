@@ -1,6 +1,5 @@
 use Rattle.std.proofs.Common.{◌≡◌, [], refl, ◌∙◌}
-use Rattle.domain_checker.specs.HandedIn.{HasRead}
-use Rattle.domain_checker.specs.Reading.{reading}
+use Rattle.domain_checker.specs.{HandedIn.HasRead, Reading.reading}
 use Rattle.denial_program.proofs.CheckLemmas.{reading_outside}
 use Rattle.denial_program.proofs.check.nsec_reply.Goals as goal
 

@@ -1,11 +1,8 @@
-use Rattle.std.proofs.Common.{◌≡◌, ◌+◌, ◌∷◌, ap, arith, drop, map, sym, ◌∙◌, subst}
-use Rattle.std.proofs.lemmas.List.{drop_all, drop_more, map-append}
-use Rattle.std.proofs.lemmas.Bool.{false≢true}
+use Rattle.std.proofs.{Common.{◌≡◌, ◌+◌, ◌∷◌, ap, arith, drop, map, sym, ◌∙◌, subst}, lemmas.{List.{drop_all, drop_more, map-append}, Bool.false≢true}}
 use Rattle.domain_names.specs.Name.{same_name}
 use Rattle.domain_nsec3.specs.View.{as_param_record}
 use Rattle.domain_borrowed.specs.Data.{RawRecord}
-use Rattle.denial_program.specs.Check.{IsParamOf}
-use Rattle.denial_program.proofs.AmongLemmas.{cloned, goes_end, goes_kept, goes_past, Goes}
+use Rattle.denial_program.{specs.Check.IsParamOf, proofs.AmongLemmas.{cloned, goes_end, goes_kept, goes_past, Goes}}
 use Rattle.denial_program.proofs.check.params_at.Goals as goal
 use Rattle.denial_program.proofs.check.params_at.Goals.{then-name_eq+in_ok-push, else-name_eq}
 

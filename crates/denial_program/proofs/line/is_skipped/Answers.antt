@@ -1,5 +1,4 @@
-use Rattle.std.proofs.Common.{arith, refl}
-use Rattle.std.proofs.lemmas.Grind.{common_steps}
+use Rattle.std.proofs.{Common.{arith, refl}, lemmas.Grind.common_steps}
 use Rattle.denial_program.proofs.WordLemmas.{nothing_begins}
 use Rattle.denial_program.proofs.line.is_skipped.Goals as goal
 

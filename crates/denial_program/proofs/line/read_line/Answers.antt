@@ -1,7 +1,5 @@
-use Rattle.std.proofs.Common.{arith, ◌≡◌, map, ap, ◌∙◌}
-use Rattle.std.proofs.lemmas.Grind.{common_steps}
-use Rattle.denial_program.specs.Words.{words}
-use Rattle.denial_program.proofs.WordLemmas.{is_bad}
+use Rattle.std.proofs.{Common.{arith, ◌≡◌, map, ap, ◌∙◌}, lemmas.Grind.common_steps}
+use Rattle.denial_program.{specs.Words.words, proofs.WordLemmas.is_bad}
 use Rattle.denial_program.proofs.line.read_line.Goals as goal
 
 pub returns : goal.returns

@@ -1,6 +1,4 @@
-use Rattle.std.proofs.Common.{arith, []}
-use Rattle.std.proofs.lemmas.Grind.{common_steps}
-use Rattle.std.proofs.lemmas.Result.{err_from_is_err_and}
+use Rattle.std.proofs.{Common.{arith, []}, lemmas.{Grind.common_steps, Result.err_from_is_err_and}}
 use Rattle.denial_program.proofs.LineLemmas.{line_text, none_left, no_owner, no_ttl, no_class, no_type, no_data, no_more, spells_none, known_if_bad}
 use Rattle.denial_program.proofs.line.scan_record.Goals as goal
 

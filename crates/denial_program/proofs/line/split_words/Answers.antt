@@ -1,6 +1,4 @@
-use Rattle.std.proofs.lemmas.Grind.{common_steps}
-use Rattle.std.proofs.Common.{refl, arith}
-use Rattle.std.proofs.lemmas.List.{take_rest}
+use Rattle.std.proofs.{lemmas.{Grind.common_steps, List.take_rest}, Common.{refl, arith}}
 use Rattle.denial_program.proofs.WordLemmas.{split_ends, split_goes_on, split_rough}
 use Rattle.denial_program.proofs.line.split_words.Goals as goal
 

@@ -1,10 +1,7 @@
-use Rattle.std.proofs.Common.{arith, List, refl, ◌∙◌, sym, subst}
-use Rattle.std.proofs.lemmas.Grind.{common_steps}
+use Rattle.std.proofs.{Common.{arith, List, refl, ◌∙◌, sym, subst}, lemmas.Grind.common_steps}
 use Rattle.domain_borrowed.specs.Data.{RawRecord, data_cmp}
-use Rattle.domain_records.specs.Order.{IsInOrder, IsOneClass}
-use Rattle.domain_records.proofs.OrderLemmas.{in_order_from_sorted}
-use Rattle.denial_program.specs.Answer.{Sorts}
-use Rattle.denial_program.proofs.AnswerLemmas.{sorted_one_class}
+use Rattle.domain_records.{specs.Order.{IsInOrder, IsOneClass}, proofs.OrderLemmas.in_order_from_sorted}
+use Rattle.denial_program.{specs.Answer.Sorts, proofs.AnswerLemmas.sorted_one_class}
 use Rattle.denial_program.proofs.prepare.sort_zone.Goals as goal
 
 pub returns-clause-sorts : goal.returns-clause-sorts

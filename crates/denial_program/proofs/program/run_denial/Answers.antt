@@ -1,12 +1,6 @@
-use Rattle.std.proofs.Common.{arith, map, string_bytes}
-use Rattle.std.proofs.lemmas.Grind.{common_steps}
-use Rattle.std.specs.Str.Lines.{lines}
-use Rattle.std.specs.Io.KnownBytes.{Appends}
-use Rattle.denial_program.specs.Answer.{Answers}
-use Rattle.denial_program.specs.Text.{answer_text}
-use Rattle.denial_program.specs.declared.answer.Reply.{Reply}
-use Rattle.denial_program.proofs.AnswerLemmas.{answer_unwritten, on_ok}
-use Rattle.denial_program.proofs.LineReading.{known_so}
+use Rattle.std.{proofs.{Common.{arith, map, string_bytes}, lemmas.Grind.common_steps}, specs.{Str.Lines.lines, Io.KnownBytes.Appends}}
+use Rattle.denial_program.specs.{Answer.Answers, Text.answer_text, declared.answer.Reply.Reply}
+use Rattle.denial_program.proofs.{AnswerLemmas.{answer_unwritten, on_ok}, LineReading.known_so}
 use Rattle.denial_program.proofs.program.run_denial.Goals as goal
 
 pub returns-clause-ok : goal.returns-clause-ok

@@ -1,8 +1,5 @@
-use Rattle.std.proofs.lemmas.Grind.{common_steps}
-use Rattle.std.proofs.Common.{◌≡◌, ◌+◌, ◌<◌, [], ◌∷◌, arith, length, subst, ◌++◌, IfSome}
-use Rattle.std.specs.Str.Lines.{lines}
-use Rattle.denial_program.specs.Listing.{IsFirstBad}
-use Rattle.denial_program.specs.Said.{Says}
+use Rattle.std.{proofs.{lemmas.Grind.common_steps, Common.{◌≡◌, ◌+◌, ◌<◌, [], ◌∷◌, arith, length, subst, ◌++◌, IfSome}}, specs.Str.Lines.lines}
+use Rattle.denial_program.specs.{Listing.IsFirstBad, Said.Says}
 use Rattle.denial_program.proofs.ReadingLemmas.{follows_end, follows_next, follows_skip, follows_record, follows_bad, Follows}
 use Rattle.denial_program.proofs.reading.read_lines.Goals as goal
 use Rattle.denial_program.proofs.reading.read_lines.Goals.{in-Nothing, in-Record+in_ok-push-in-Record}

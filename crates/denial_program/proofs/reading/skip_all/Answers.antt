@@ -1,5 +1,4 @@
-use Rattle.std.proofs.Common.{arith}
-use Rattle.std.proofs.lemmas.Grind.{common_steps}
+use Rattle.std.proofs.{Common.arith, lemmas.Grind.common_steps}
 use Rattle.denial_program.proofs.ReadingLemmas.{known_start}
 use Rattle.denial_program.proofs.reading.skip_all.Goals as goal
 

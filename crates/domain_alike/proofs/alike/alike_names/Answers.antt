@@ -3,9 +3,7 @@ use Rattle.domain_octets.proofs.StdLemmas.{if_err_of}
 use Rattle.domain_names.specs.Words.{Name}
 use Rattle.domain_nsec3.specs.View.{config_of}
 use Rattle.domain_borrowed.specs.Data.{zone_of_raw}
-use Rattle.domain_alike.specs.Alike.{pair_of, IsFirstRefusal}
-use Rattle.domain_alike.specs.AlikeSteps.{IsRefusedAmong, Met}
-use Rattle.domain_alike.proofs.AlikeLemmas.{alike_are, first_refusal, IsRefusedBy}
+use Rattle.domain_alike.{specs.{Alike.{pair_of, IsFirstRefusal}, AlikeSteps.{IsRefusedAmong, Met}}, proofs.AlikeLemmas.{alike_are, first_refusal, IsRefusedBy}}
 use Rattle.domain_alike.proofs.alike.alike_names.Goals as goal
 
 pub returns-clause-ok : goal.returns-clause-ok

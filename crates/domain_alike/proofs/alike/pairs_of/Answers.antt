@@ -1,10 +1,7 @@
-use Rattle.std.proofs.Common.{◌≡◌, ◌∙◌, ◌+◌, ◌++◌, ◌∷◌, [], ap, inl, inr, map, subst, sym, take}
-use Rattle.std.proofs.lemmas.List.{take_more}
+use Rattle.std.proofs.{Common.{◌≡◌, ◌∙◌, ◌+◌, ◌++◌, ◌∷◌, [], ap, inl, inr, map, subst, sym, take}, lemmas.List.take_more}
 use Rattle.domain_octets.proofs.StdLemmas.{if_err_of}
 use Rattle.domain_nsec3.specs.View.{hash_by, parameters_of}
-use Rattle.domain_alike.specs.Alike.{pair_of}
-use Rattle.domain_alike.specs.AlikeSteps.{first_with, pair_with, AreFirstNames, IsRefusedAmong, Met}
-use Rattle.domain_alike.specs.AlikeSteps.Met.{more, nothing}
+use Rattle.domain_alike.specs.{Alike.pair_of, AlikeSteps.{first_with, pair_with, AreFirstNames, IsRefusedAmong, Met, Met.{more, nothing}}}
 use Rattle.domain_alike.proofs.AlikeLemmas.{refused_at, IsRefusedBy}
 use Rattle.domain_alike.proofs.alike.pairs_of.Goals as goal
 

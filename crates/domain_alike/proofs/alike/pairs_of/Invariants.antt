@@ -1,7 +1,6 @@
 use Rattle.std.proofs.Common.{map, take}
 use Rattle.domain_nsec3.specs.View.{hash_by, parameters_of}
-use Rattle.domain_alike.specs.Alike.{pair_of}
-use Rattle.domain_alike.specs.AlikeSteps.{AreFirstNames, Met}
+use Rattle.domain_alike.specs.{Alike.pair_of, AlikeSteps.{AreFirstNames, Met}}
 use Rattle.domain_alike.proofs.alike.pairs_of.Given as goal
 
 -- the pairs of the names so far are told, and the first name of each hash is known

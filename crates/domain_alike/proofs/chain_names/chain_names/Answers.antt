@@ -2,8 +2,7 @@ use Rattle.std.proofs.Common.{◌≡◌, ◌∙◌, arith}
 use Rattle.domain_borrowed.specs.Data.{zone_of_raw}
 use Rattle.domain_zone.proofs.GroupLemmas.{owners_in_order}
 use Rattle.domain_alike.specs.Covered.{covered_names}
-use Rattle.domain_alike.proofs.GatherLemmas.{covered_below, covered_sorted, listed_names}
-use Rattle.domain_alike.proofs.chain_names.chain_names.Goals.{After-deref}
+use Rattle.domain_alike.proofs.{GatherLemmas.{covered_below, covered_sorted, listed_names}, chain_names.chain_names.Goals.After-deref}
 use Rattle.domain_alike.proofs.chain_names.chain_names.Goals as goal
 use Rattle.std.proofs.lemmas.Grind.{common_steps}
 

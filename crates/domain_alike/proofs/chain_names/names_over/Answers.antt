@@ -1,9 +1,7 @@
-use Rattle.std.proofs.Common.{◌≡◌, ◌∙◌, ◌+◌, ◌++◌, ◌∷◌, [], ap, arith, drop, subst, sym, take}
-use Rattle.std.proofs.lemmas.Bool.Decides.{nat_tests}
+use Rattle.std.proofs.{Common.{◌≡◌, ◌∙◌, ◌+◌, ◌++◌, ◌∷◌, [], ap, arith, drop, subst, sym, take}, lemmas.Bool.Decides.nat_tests}
 use Rattle.std.proofs.lemmas.List.{take_more, take_all, drop_more, drop_all}
 use Rattle.domain_nsec3.proofs.SharedLemmas.{common_shares}
-use Rattle.domain_alike.specs.AlikeSteps.{up_with_more}
-use Rattle.domain_alike.proofs.GatherLemmas.{gathered_end, gathered_more, gathered_start, IsGathered}
+use Rattle.domain_alike.{specs.AlikeSteps.up_with_more, proofs.GatherLemmas.{gathered_end, gathered_more, gathered_start, IsGathered}}
 use Rattle.domain_alike.proofs.chain_names.names_over.Goals as goal
 use Rattle.std.proofs.lemmas.Grind.{common_steps}
 

@@ -1,12 +1,8 @@
 use Rattle.std.proofs.Common.{◌≡◌, ◌+◌, true, false, not, map, drop, sym, ap, ◌∙◌, subst, arith}
-use Rattle.std.specs.List.{find}
-use Rattle.std.specs.Option.{is_some, option_map, option_or}
-use Rattle.std.specs.Prelude.{IfSome}
+use Rattle.std.specs.{List.find, Option.{is_some, option_map, option_or}, Prelude.IfSome}
 use Rattle.domain_nsec.specs.ChainView.{as_link}
-use Rattle.domain_checker.specs.Reading.{is_cover, is_match}
-use Rattle.domain_checker.proofs.FirstLemmas.{found_later, met_here, met_later, met_before}
-use Rattle.domain_answer.specs.Found.{IsSharing, cover_link}
-use Rattle.domain_answer.proofs.FoundLemmas.{met_now}
+use Rattle.domain_checker.{specs.Reading.{is_cover, is_match}, proofs.FirstLemmas.{found_later, met_here, met_later, met_before}}
+use Rattle.domain_answer.{specs.Found.{IsSharing, cover_link}, proofs.FoundLemmas.met_now}
 use Rattle.domain_answer.proofs.found.find_nsec.Goals as goal
 use Rattle.domain_answer.proofs.found.find_nsec.Goals.{then-is_none, else-is_none}
 use Rattle.std.proofs.lemmas.Grind.{common_steps}

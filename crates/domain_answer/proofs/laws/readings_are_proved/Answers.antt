@@ -1,5 +1,4 @@
-use Rattle.domain_answer.proofs.AnswerLemmas.{reading_proved}
-use Rattle.domain_answer.proofs.ProofLemmas.{reading_counts, reading_rests}
+use Rattle.domain_answer.proofs.{AnswerLemmas.reading_proved, ProofLemmas.{reading_counts, reading_rests}}
 use Rattle.domain_answer.proofs.laws.readings_are_proved.Goals as goal
 
 pub returns-clause-zone : goal.returns-clause-zone

@@ -1,8 +1,5 @@
-use Rattle.std.proofs.Common.{◌∙◌, sym}
-use Rattle.std.proofs.lemmas.List.Elements.{All-from_recursion, recursion_from_All}
-use Rattle.std.specs.List.{Contains}
-use Rattle.domain_checker.specs.Alike.{IsAlike, IsPairedIn}
-use Rattle.domain_checker.proofs.PairedLemmas.{paired_with_some}
+use Rattle.std.{proofs.{Common.{◌∙◌, sym}, lemmas.List.Elements.{All-from_recursion, recursion_from_All}}, specs.List.Contains}
+use Rattle.domain_checker.{specs.Alike.{IsAlike, IsPairedIn}, proofs.PairedLemmas.paired_with_some}
 use Rattle.domain_answer.proofs.AlikeLemmas.{proved_alike, reading_alike}
 use Rattle.domain_answer.proofs.laws.readings_ignore_case_and_ttl.Goals as goal
 

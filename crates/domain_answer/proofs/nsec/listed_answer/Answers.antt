@@ -1,11 +1,7 @@
 use Rattle.std.proofs.Common.{List, subst, arith}
 use Rattle.domain_names.specs.Words.{Name}
-use Rattle.domain_nsec.specs.Chain.{Link}
-use Rattle.domain_nsec.specs.ChainView.{links_of}
-use Rattle.domain_answer.specs.NameAnswer.{IsNameAnswer}
-use Rattle.domain_answer.specs.Reading.{listed_both}
-use Rattle.domain_answer.proofs.FoundLemmas.{cover_reads, found_covers}
-use Rattle.domain_answer.proofs.nsec.listed_answer.Given.{Over}
+use Rattle.domain_nsec.specs.{Chain.Link, ChainView.links_of}
+use Rattle.domain_answer.{specs.{NameAnswer.IsNameAnswer, Reading.listed_both}, proofs.{FoundLemmas.{cover_reads, found_covers}, nsec.listed_answer.Given.Over}}
 use Rattle.domain_answer.proofs.nsec.listed_answer.Goals as goal
 use Rattle.domain_answer.proofs.nsec.listed_answer.Goals.{After-find_nsec}
 use Rattle.std.proofs.lemmas.Grind.{common_steps}

@@ -1,9 +1,5 @@
-use Rattle.std.proofs.Common.{◌∙◌, refl, sym}
-use Rattle.std.proofs.lemmas.List.Elements.{All-from_recursion, recursion_from_All}
-use Rattle.std.specs.List.{Contains}
-use Rattle.domain_checker.specs.Alike.{IsHashedAlike, IsPairedIn}
-use Rattle.domain_checker.specs.HashedView.{chain_records}
-use Rattle.domain_checker.proofs.PairedLemmas.{paired_with_some}
+use Rattle.std.{proofs.{Common.{◌∙◌, refl, sym}, lemmas.List.Elements.{All-from_recursion, recursion_from_All}}, specs.List.Contains}
+use Rattle.domain_checker.{specs.{Alike.{IsHashedAlike, IsPairedIn}, HashedView.chain_records}, proofs.PairedLemmas.paired_with_some}
 use Rattle.domain_answer.proofs.HashedAlikeLemmas.{expansion_alike, proved_expansion_alike}
 use Rattle.domain_answer.proofs.nsec3_laws.expansions_ignore_case_and_ttl.Goals as goal
 

@@ -1,5 +1,4 @@
-use Rattle.domain_answer.proofs.HashedAnswerLemmas.{read_proved}
-use Rattle.domain_answer.proofs.HashedProofLemmas.{read_counts, read_rests}
+use Rattle.domain_answer.proofs.{HashedAnswerLemmas.read_proved, HashedProofLemmas.{read_counts, read_rests}}
 use Rattle.domain_answer.proofs.nsec3_laws.hashed_readings_are_proved.Goals as goal
 
 pub returns-clause-zone : goal.returns-clause-zone

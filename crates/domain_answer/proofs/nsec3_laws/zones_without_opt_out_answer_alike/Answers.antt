@@ -1,5 +1,4 @@
-use Rattle.std.proofs.Common.{arith}
-use Rattle.std.proofs.lemmas.Grind.{common_steps}
+use Rattle.std.proofs.{Common.arith, lemmas.Grind.common_steps}
 use Rattle.domain_zone.proofs.NameLemmas.{below_itself}
 use Rattle.domain_answer.proofs.HashedZoneLemmas.{apex_of_chain, zone_alike}
 use Rattle.domain_answer.proofs.nsec3_laws.zones_without_opt_out_answer_alike.Goals as goal

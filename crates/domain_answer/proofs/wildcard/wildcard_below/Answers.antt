@@ -1,7 +1,6 @@
 use Rattle.std.proofs.Common.{sym, subst, ap, ◌∙◌, arith}
 use Rattle.domain_names.specs.Wire.{labels_of, IsWire}
-use Rattle.domain_answer.proofs.WildcardLemmas.{IsWildcardWire, wildcard_wire}
-use Rattle.domain_answer.proofs.wildcard.wildcard_below.Given.{Over}
+use Rattle.domain_answer.proofs.{WildcardLemmas.{IsWildcardWire, wildcard_wire}, wildcard.wildcard_below.Given.Over}
 use Rattle.domain_answer.proofs.wildcard.wildcard_below.Goals as goal
 use Rattle.domain_answer.proofs.wildcard.wildcard_below.Goals.{After-as_wire}
 use Rattle.std.proofs.lemmas.Grind.{common_steps}

@@ -1,5 +1,4 @@
-use Rattle.std.proofs.Common.{arith}
-use Rattle.std.proofs.lemmas.List.{places, same_lists}
+use Rattle.std.proofs.{Common.arith, lemmas.List.{places, same_lists}}
 use Rattle.domain_answer.proofs.wildcard.write_wildcard.Goals as goal
 
 pub returns : goal.returns

@@ -1,7 +1,5 @@
-use Rattle.std.proofs.Common.{arith, sym}
-use Rattle.std.proofs.lemmas.Grind.{common_steps}
-use Rattle.domain_base.specs.Named.{by_name}
-use Rattle.domain_base.proofs.NamedLemmas.{no_number, number_some, number_none}
+use Rattle.std.proofs.{Common.{arith, sym}, lemmas.Grind.common_steps}
+use Rattle.domain_base.{specs.Named.by_name, proofs.NamedLemmas.{no_number, number_some, number_none}}
 use Rattle.domain_base.proofs.named.read_number.Goals as goal
 
 pub returns-in-Some-clause-some : goal.returns-in-Some-clause-some

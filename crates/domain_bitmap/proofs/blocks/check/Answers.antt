@@ -1,5 +1,4 @@
-use Rattle.std.proofs.Common.{arith}
-use Rattle.std.proofs.lemmas.Grind.{common_steps}
+use Rattle.std.proofs.{Common.arith, lemmas.Grind.common_steps}
 use Rattle.domain_bitmap.proofs.FaultLemmas.{reading_starts, reading_goes, fault_no_length, fault_bad_length, fault_cut_block, nothing_left}
 use Rattle.domain_bitmap.proofs.blocks.check.Goals as goal
 

@@ -1,5 +1,4 @@
-use Rattle.std.proofs.lemmas.Grind.{common_steps}
-use Rattle.std.proofs.Common.{arith}
+use Rattle.std.proofs.{lemmas.Grind.common_steps, Common.arith}
 use Rattle.domain_bitmap.proofs.BitLemmas.{bit_of-shr, bit_of-zero}
 use Rattle.domain_bitmap.proofs.blocks.first_bit.Goals as goal
 

@@ -1,6 +1,5 @@
 use Rattle.std.proofs.Common.{sym, subst}
-use Rattle.domain_bitmap.specs.Blocks.{IsShortest, contains_type}
-use Rattle.domain_bitmap.proofs.SpellingLemmas.{IsShortest-bitmap_octets, built_from_shortest}
+use Rattle.domain_bitmap.{specs.Blocks.{IsShortest, contains_type}, proofs.SpellingLemmas.{IsShortest-bitmap_octets, built_from_shortest}}
 use Rattle.domain_bitmap.proofs.laws.built_bitmaps_are_shortest.Goals as goal
 
 pub returns : goal.returns

@@ -1,7 +1,5 @@
-use Rattle.std.proofs.Common.{◌≡◌, ◌-◌, length, take, drop, ap, ◌∙◌, arith}
-use Rattle.std.proofs.lemmas.Grind.{common_steps}
-use Rattle.domain_bitmap.specs.Bitmap.{block_with}
-use Rattle.domain_bitmap.proofs.PackLemmas.{one_block}
+use Rattle.std.proofs.{Common.{◌≡◌, ◌-◌, length, take, drop, ap, ◌∙◌, arith}, lemmas.Grind.common_steps}
+use Rattle.domain_bitmap.{specs.Bitmap.block_with, proofs.PackLemmas.one_block}
 use Rattle.domain_bitmap.proofs.pack.only_len.Goals as goal
 
 pub returns-clause-types : goal.returns-clause-types

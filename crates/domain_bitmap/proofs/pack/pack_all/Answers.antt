@@ -1,9 +1,6 @@
 use Rattle.std.proofs.Common.{◌≡◌, ℕ, ◌+◌, ◌-◌, ◌*◌, ◌/◌, ◌<◌, true, false, take, drop, get_or, sym, ap, ◌∙◌, ◌%◌, arith, rules}
-use Rattle.domain_bitmap.specs.Builder.{holds, has_window}
-use Rattle.domain_bitmap.proofs.PackLemmas.{room_for, table_window, holds-absent, tally-more, tally-less}
-use Rattle.domain_bitmap.proofs.SlotLemmas.{zeros_at, same_at}
-use Rattle.domain_bitmap.specs.Bits.{bit_of}
-use Rattle.domain_bitmap.proofs.BitmapLemmas.{written_more, skipped_more, all_written}
+use Rattle.domain_bitmap.{specs.{Builder.{holds, has_window}, Bits.bit_of}, proofs.PackLemmas.{room_for, table_window, holds-absent, tally-more, tally-less}}
+use Rattle.domain_bitmap.proofs.{SlotLemmas.{zeros_at, same_at}, BitmapLemmas.{written_more, skipped_more, all_written}}
 use Rattle.domain_bitmap.proofs.pack.pack_all.Goals as goal
 use Rattle.domain_bitmap.proofs.pack.pack_all.Goals.{then-present-window, else-present-window}
 use Rattle.std.proofs.lemmas.Grind.{common_steps}

@@ -1,8 +1,5 @@
-use Rattle.std.proofs.Common.{◌≡◌, ◌*◌, ◌≤◌, length, take, flat_map}
-use Rattle.std.specs.List.{range_with_len}
-use Rattle.domain_bitmap.specs.Bitmap.{window_block}
-use Rattle.domain_bitmap.specs.Builder.{holds, has_window}
-use Rattle.domain_bitmap.proofs.PackLemmas.{tally}
+use Rattle.std.{proofs.Common.{◌≡◌, ◌*◌, ◌≤◌, length, take, flat_map}, specs.List.range_with_len}
+use Rattle.domain_bitmap.{specs.{Bitmap.window_block, Builder.{holds, has_window}}, proofs.PackLemmas.tally}
 use Rattle.domain_bitmap.proofs.pack.pack_all.Given as goal
 
 abbrev pub invariant-loop-window : goal.invariant-loop-window

@@ -1,7 +1,6 @@
 use Rattle.std.proofs.Common.{◌≡◌, ◌≢◌, ◌+◌, ◌≤◌, ◌∷◌, [], ◌++◌, length, take, sym, ap, ◌∙◌, refl, arith, append_assoc, length-append, length-drop}
 use Rattle.std.proofs.lemmas.List.{length-take}
-use Rattle.domain_bitmap.specs.Bitmap.{block_with, trimmed}
-use Rattle.domain_bitmap.proofs.PackLemmas.{front-written, block_with-some}
+use Rattle.domain_bitmap.{specs.Bitmap.{block_with, trimmed}, proofs.PackLemmas.{front-written, block_with-some}}
 use Rattle.domain_bitmap.proofs.pack.write_block.Goals as goal
 
 pub returns-clause-written : goal.returns-clause-written

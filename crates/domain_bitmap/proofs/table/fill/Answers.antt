@@ -1,7 +1,5 @@
 use Rattle.std.proofs.Common.{rules, arith}
-use Rattle.domain_bitmap.specs.Builder.{holds, has_window}
-use Rattle.domain_bitmap.proofs.BitLemmas.{bit_of-zero}
-use Rattle.domain_bitmap.proofs.PackLemmas.{types_more, windows_more}
+use Rattle.domain_bitmap.{specs.Builder.{holds, has_window}, proofs.{BitLemmas.bit_of-zero, PackLemmas.{types_more, windows_more}}}
 use Rattle.domain_bitmap.proofs.table.fill.Goals as goal
 use Rattle.std.proofs.lemmas.Grind.{common_steps}
 

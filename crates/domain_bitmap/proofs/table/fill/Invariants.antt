@@ -1,7 +1,5 @@
-use Rattle.std.proofs.Common.{◌≡◌, ℕ, ◌/◌, ◌%◌, ◌<◌, false, length, get_or}
-use Rattle.std.specs.List.{list_any, range_with_len}
-use Rattle.domain_bitmap.specs.Bits.{bit_of}
-use Rattle.domain_bitmap.specs.Builder.{block_holds, is_of_window}
+use Rattle.std.{proofs.Common.{◌≡◌, ℕ, ◌/◌, ◌%◌, ◌<◌, false, length, get_or}, specs.List.{list_any, range_with_len}}
+use Rattle.domain_bitmap.specs.{Bits.bit_of, Builder.{block_holds, is_of_window}}
 use Rattle.domain_bitmap.proofs.table.fill.Given as goal
 
 abbrev pub invariant-loop-j : goal.invariant-loop-j

@@ -1,8 +1,7 @@
 use Rattle.std.proofs.Common.{◌∙◌, ap, sym, subst}
 use Rattle.domain_names.specs.Fault.{fault_of}
 use Rattle.domain_chain_rdata.specs.NsecWire.{NsecFault}
-use Rattle.domain_borrowed.specs.Data.{RawRecord}
-use Rattle.domain_borrowed.proofs.DataLemmas.{no_nsec}
+use Rattle.domain_borrowed.{specs.Data.RawRecord, proofs.DataLemmas.no_nsec}
 use Rattle.domain_borrowed.proofs.record.into_nsec.Goals as goal
 
 pub returns-in-Err-clause-none : goal.returns-in-Err-clause-none

@@ -1,5 +1,4 @@
-use Rattle.std.proofs.Common.{arith, ◌<◌, length, refl, subst}
-use Rattle.std.proofs.lemmas.Grind.{common_steps}
+use Rattle.std.proofs.{Common.{arith, ◌<◌, length, refl, subst}, lemmas.Grind.common_steps}
 use Rattle.domain_borrowed.proofs.WireLemmas.{faulty_header, cut_data}
 use Rattle.domain_borrowed.proofs.wire.read_record.Goals as goal
 

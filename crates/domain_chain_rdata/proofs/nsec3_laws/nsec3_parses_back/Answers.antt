@@ -1,7 +1,6 @@
 use Rattle.std.proofs.Common.{subst}
 use Rattle.domain_bitmap.specs.Blocks.{IsBitmap}
-use Rattle.domain_chain_rdata.proofs.Nsec3Lemmas.{nsec3_back}
-use Rattle.domain_chain_rdata.specs.Rdata.{nsec3_values}
+use Rattle.domain_chain_rdata.{proofs.Nsec3Lemmas.nsec3_back, specs.Rdata.nsec3_values}
 use Rattle.domain_chain_rdata.proofs.nsec3_laws.nsec3_parses_back.Goals as goal
 
 pub returns : goal.returns

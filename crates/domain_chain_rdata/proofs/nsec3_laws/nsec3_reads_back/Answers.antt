@@ -1,8 +1,6 @@
-use Rattle.std.proofs.Common.{◌<◌, subst, rules}
-use Rattle.std.specs.List.{All}
+use Rattle.std.{proofs.Common.{◌<◌, subst, rules}, specs.List.All}
 use Rattle.domain_bitmap.specs.Blocks.{IsBitmap}
-use Rattle.domain_chain_rdata.proofs.ReadBackLemmas.{nsec3_text_back, nsec3_text_same}
-use Rattle.domain_chain_rdata.specs.Rdata.{nsec3_values}
+use Rattle.domain_chain_rdata.{proofs.ReadBackLemmas.{nsec3_text_back, nsec3_text_same}, specs.Rdata.nsec3_values}
 use Rattle.domain_chain_rdata.proofs.nsec3_laws.nsec3_reads_back.Goals as goal
 
 pub returns : goal.returns

@@ -1,7 +1,6 @@
 use Rattle.std.proofs.Common.{◌∙◌, sym, ap, arith}
 use Rattle.domain_names.specs.Name.{lowered, wire_of}
-use Rattle.domain_checker.specs.HashedView.{hashed_records}
-use Rattle.domain_checker.proofs.HashedEncloserLemmas.{outside_unmatched}
+use Rattle.domain_checker.{specs.HashedView.hashed_records, proofs.HashedEncloserLemmas.outside_unmatched}
 use Rattle.domain_checker.proofs.encloser.find_nsec3_encloser.Goals as goal
 use Rattle.std.proofs.lemmas.Grind.{common_steps}
 

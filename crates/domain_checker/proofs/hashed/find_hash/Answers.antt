@@ -1,14 +1,10 @@
 use Rattle.std.proofs.Common.{◌≡◌, ◌+◌, Bool, true, false, not, Option, map, drop, sym, ap, ◌∙◌, arith}
-use Rattle.std.specs.List.{find}
-use Rattle.std.specs.Option.{is_some, option_map, option_or}
+use Rattle.std.specs.{List.find, Option.{is_some, option_map, option_or}}
 use Rattle.domain_octets.specs.Words.{Octets}
 use Rattle.domain_zone.specs.Covering.{covers, matches}
-use Rattle.domain_nsec3.specs.Meaning.{octets_before}
-use Rattle.domain_nsec3.specs.Chain.{HashedLink}
-use Rattle.domain_nsec3.specs.View.{as_hashed_link, parameters_of}
+use Rattle.domain_nsec3.specs.{Meaning.octets_before, Chain.HashedLink, View.{as_hashed_link, parameters_of}}
 use Rattle.domain_checker.specs.HashedList.{is_hash_match, is_some_with, read_label, is_hash_cover}
-use Rattle.domain_checker.proofs.FirstLemmas.{found_later, met_here, met_later, met_before}
-use Rattle.domain_checker.proofs.hashed.find_hash.Given.{Over}
+use Rattle.domain_checker.proofs.{FirstLemmas.{found_later, met_here, met_later, met_before}, hashed.find_hash.Given.Over}
 use Rattle.domain_checker.proofs.hashed.find_hash.Goals as goal
 use Rattle.domain_checker.proofs.hashed.find_hash.Goals.{Start, then-is_none+then-is_cover, else-is_none, else-is_none-via-then-is_none+else-is_cover}
 use Rattle.domain_checker.proofs.hashed.find_hash.Goals.{else-is_none-via-else-is_none}

@@ -1,10 +1,6 @@
-use Rattle.std.proofs.Common.{◌∙◌, refl, sym}
-use Rattle.std.proofs.lemmas.List.Elements.{All-from_recursion, recursion_from_All}
-use Rattle.std.specs.List.{Contains}
-use Rattle.domain_checker.specs.Alike.{IsHashedAlike}
-use Rattle.domain_checker.specs.HashedView.{chain_records}
-use Rattle.domain_checker.proofs.HashedAlikeLemmas.{proved_alike, walked_alike}
-use Rattle.domain_checker.proofs.PairedLemmas.{paired_with_some}
+use Rattle.std.{proofs.{Common.{◌∙◌, refl, sym}, lemmas.List.Elements.{All-from_recursion, recursion_from_All}}, specs.List.Contains}
+use Rattle.domain_checker.specs.{Alike.IsHashedAlike, HashedView.chain_records}
+use Rattle.domain_checker.proofs.{HashedAlikeLemmas.{proved_alike, walked_alike}, PairedLemmas.paired_with_some}
 use Rattle.domain_checker.proofs.laws.walks_ignore_case_and_ttl.Goals as goal
 
 pub returns-clause-alike : goal.returns-clause-alike

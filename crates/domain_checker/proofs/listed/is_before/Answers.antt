@@ -1,5 +1,4 @@
-use Rattle.std.proofs.Common.{ap, ◌∙◌}
-use Rattle.std.specs.Ordering.{is_lt}
+use Rattle.std.{proofs.Common.{ap, ◌∙◌}, specs.Ordering.is_lt}
 use Rattle.domain_checker.proofs.listed.is_before.Goals as goal
 
 pub returns : goal.returns

@@ -1,5 +1,4 @@
-use Rattle.std.proofs.Common.{subst, arith}
-use Rattle.std.proofs.lemmas.List.{take_all}
+use Rattle.std.proofs.{Common.{subst, arith}, lemmas.List.take_all}
 use Rattle.domain_nsec.specs.ChainView.{links_of}
 use Rattle.domain_checker.specs.HandedIn.{HasRead}
 use Rattle.domain_checker.proofs.nsec.check_nsec.Goals as goal

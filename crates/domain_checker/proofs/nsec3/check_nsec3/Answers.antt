@@ -1,11 +1,7 @@
-use Rattle.std.proofs.Common.{◌≡◌, ◌<◌, ◌∙◌, true, sym, ap, subst}
-use Rattle.std.specs.Option.{option_map}
+use Rattle.std.{proofs.Common.{◌≡◌, ◌<◌, ◌∙◌, true, sym, ap, subst}, specs.Option.option_map}
 use Rattle.domain_names.specs.Name.{is_at_or_below}
-use Rattle.domain_checker.specs.HashedEncloser.{found_verdict, encloser_of}
-use Rattle.domain_checker.specs.HashedReading.{IsWalked, WalksAreProved}
-use Rattle.domain_checker.specs.HashedView.{hashed_records}
-use Rattle.domain_checker.proofs.HashedEncloserLemmas.{found_walked}
-use Rattle.domain_checker.proofs.nsec3.check_nsec3.Given.{Over}
+use Rattle.domain_checker.specs.{HashedEncloser.{found_verdict, encloser_of}, HashedReading.{IsWalked, WalksAreProved}, HashedView.hashed_records}
+use Rattle.domain_checker.proofs.{HashedEncloserLemmas.found_walked, nsec3.check_nsec3.Given.Over}
 use Rattle.domain_checker.proofs.nsec3.check_nsec3.Goals as goal
 use Rattle.domain_checker.proofs.nsec3.check_nsec3.Goals.{After-found_verdict}
 

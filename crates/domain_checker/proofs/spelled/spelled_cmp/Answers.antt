@@ -1,8 +1,7 @@
-use Rattle.std.proofs.Common.{◌≡◌, ◌<◌, ◌*◌, ◌+◌, ◌/◌, ◌∙◌, sym, arith}
-use Rattle.std.specs.Ordering.{nat_cmp}
+use Rattle.std.{proofs.Common.{◌≡◌, ◌<◌, ◌*◌, ◌+◌, ◌/◌, ◌∙◌, sym, arith}, specs.Ordering.nat_cmp}
 use Rattle.domain_codecs.proofs.CodecLemmas.{digit_at}
-use Rattle.domain_checker.proofs.SpelledLemmas.{ends_alike, ends_before, equal_by, apart_by, compared_first, compared_narrow, compared_wide}
-use Rattle.domain_checker.proofs.SpelledLemmas.{compared_none, compared_apart, compared_end}
+use Rattle.domain_checker.proofs.SpelledLemmas.{ends_alike, ends_before, equal_by, apart_by, compared_first, compared_narrow, compared_wide, compared_none}
+use Rattle.domain_checker.proofs.SpelledLemmas.{compared_apart, compared_end}
 use Rattle.domain_checker.proofs.spelled.spelled_cmp.Goals as goal
 use Rattle.domain_checker.proofs.spelled.spelled_cmp.Goals.{After-digit_or_zero, then-wider-lt256, else-wider-lt256+in-Some+else-ne}
 use Rattle.std.proofs.lemmas.Grind.{common_steps}

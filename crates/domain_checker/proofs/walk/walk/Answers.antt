@@ -1,13 +1,10 @@
-use Rattle.std.proofs.Common.{◌≡◌, ◌∙◌, sym, ap, subst, inl, inr, None, arith}
-use Rattle.std.specs.Option.{option_map}
-use Rattle.std.proofs.lemmas.Result.{err_from_is_err_and}
+use Rattle.std.{proofs.{Common.{◌≡◌, ◌∙◌, sym, ap, subst, inl, inr, None, arith}, lemmas.Result.err_from_is_err_and}, specs.Option.option_map}
 use Rattle.domain_names.specs.Name.{lowered, wire_of}
 use Rattle.domain_zone.proofs.NameLemmas.{below_itself}
 use Rattle.domain_nsec3.specs.View.{as_hashed_link}
 use Rattle.domain_checker.specs.HashedView.{HashedRecords, hashed_records}
 use Rattle.domain_checker.proofs.HashedWalkLemmas.{IsMissed, IsPassed, missed_here, none_first, none_left, passed_on, encloser_above, encloser_here}
-use Rattle.domain_checker.proofs.HashedWalkLemmas.{refused_here, wire_above}
-use Rattle.domain_checker.proofs.walk.walk.Given.{Over}
+use Rattle.domain_checker.proofs.{HashedWalkLemmas.{refused_here, wire_above}, walk.walk.Given.Over}
 use Rattle.domain_checker.proofs.walk.walk.Goals as goal
 use Rattle.domain_checker.proofs.walk.walk.Goals.{Start, After-skip-octets}
 use Rattle.std.proofs.lemmas.Grind.{common_steps}

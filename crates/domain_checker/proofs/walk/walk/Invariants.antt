@@ -1,9 +1,7 @@
-use Rattle.std.proofs.Common.{◌≡◌, length}
-use Rattle.std.specs.Option.{option_map}
+use Rattle.std.{proofs.Common.{◌≡◌, length}, specs.Option.option_map}
 use Rattle.domain_names.specs.Name.{lowered, wire_of}
 use Rattle.domain_nsec3.specs.View.{as_hashed_link}
-use Rattle.domain_checker.specs.HashedView.{hashed_records}
-use Rattle.domain_checker.proofs.HashedWalkLemmas.{IsMissed}
+use Rattle.domain_checker.{specs.HashedView.hashed_records, proofs.HashedWalkLemmas.IsMissed}
 use Rattle.domain_checker.proofs.walk.walk.Given as goal
 
 -- no record matches the name that is left, and the cover is the first of its hash

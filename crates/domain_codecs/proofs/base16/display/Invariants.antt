@@ -1,5 +1,4 @@
-use Rattle.std.proofs.Common.{take}
-use Rattle.std.specs.Fmt.{HasWritten, IsPlainFormatter}
+use Rattle.std.{proofs.Common.take, specs.Fmt.{HasWritten, IsPlainFormatter}}
 use Rattle.hex.specs.Hex.{encode_upper}
 use Rattle.domain_codecs.proofs.base16.display.Given as goal
 

@@ -1,6 +1,4 @@
-use Rattle.std.proofs.Common.{◌++◌, map, refl, sym, ap, ◌∙◌, append_assoc}
-use Rattle.std.proofs.Output.{has_written_append}
-use Rattle.std.proofs.lemmas.List.{map-append}
+use Rattle.std.proofs.{Common.{◌++◌, map, refl, sym, ap, ◌∙◌, append_assoc}, Output.has_written_append, lemmas.List.map-append}
 use Rattle.domain_codecs.specs.Base32.{upper_digit}
 use Rattle.domain_codecs.proofs.base32.display.Goals as goal
 

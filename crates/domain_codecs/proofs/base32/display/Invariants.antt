@@ -1,5 +1,4 @@
-use Rattle.std.proofs.Common.{◌≡◌, ◌++◌, ℕ, List, map, length}
-use Rattle.std.specs.Fmt.{HasWritten, IsPlainFormatter}
+use Rattle.std.{proofs.Common.{◌≡◌, ◌++◌, ℕ, List, map, length}, specs.Fmt.{HasWritten, IsPlainFormatter}}
 use Rattle.domain_codecs.specs.Base32.{upper_digit, base32_upper}
 use Rattle.domain_codecs.proofs.base32.display.Given as goal
 

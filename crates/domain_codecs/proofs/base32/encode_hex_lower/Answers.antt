@@ -1,7 +1,5 @@
-use Rattle.std.proofs.Common.{◌++◌, ◌∙◌, map, ap, sym, append_assoc}
-use Rattle.std.proofs.lemmas.List.{map-append}
-use Rattle.domain_codecs.specs.Base32.{lower_digit}
-use Rattle.domain_codecs.proofs.Base32Lemmas.{lower_digits}
+use Rattle.std.proofs.{Common.{◌++◌, ◌∙◌, map, ap, sym, append_assoc}, lemmas.List.map-append}
+use Rattle.domain_codecs.{specs.Base32.lower_digit, proofs.Base32Lemmas.lower_digits}
 use Rattle.domain_codecs.proofs.base32.encode_hex_lower.Goals as goal
 
 pub loop-part-preserved : goal.loop-part-preserved

@@ -1,5 +1,4 @@
-use Rattle.std.proofs.Common.{arith}
-use Rattle.std.proofs.lemmas.List.{places, same_lists}
+use Rattle.std.proofs.{Common.arith, lemmas.List.{places, same_lists}}
 use Rattle.domain_codecs.proofs.base32.put_eight.Goals as goal
 
 pub returns-clause-front : goal.returns-clause-front

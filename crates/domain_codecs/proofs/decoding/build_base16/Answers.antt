@@ -1,12 +1,6 @@
-use Rattle.std.proofs.Common.{arith, ◌≡◌, ◌++◌, drop, sym, ◌∙◌, Ok}
-use Rattle.std.proofs.lemmas.Grind.{common_steps}
-use Rattle.std.proofs.lemmas.Bool.{eqb-true}
-use Rattle.std.proofs.lemmas.List.{nil_from_length}
-use Rattle.domain_codecs.specs.declared.codec.Codec.TheVariants.{Base16}
-use Rattle.domain_codecs.proofs.JoinedLemmas.{ReadPieces, pieces_end}
-use Rattle.domain_codecs.proofs.Base16PieceLemmas.{next_front}
-use Rattle.domain_codecs.proofs.decoding.build_base16.Given.{Over}
-use Rattle.domain_codecs.proofs.decoding.build_base16.Goals.{After-decode_to_slice}
+use Rattle.std.proofs.{Common.{arith, ◌≡◌, ◌++◌, drop, sym, ◌∙◌, Ok}, lemmas.{Grind.common_steps, Bool.eqb-true, List.nil_from_length}}
+use Rattle.domain_codecs.{specs.declared.codec.Codec.TheVariants.Base16, proofs.{JoinedLemmas.{ReadPieces, pieces_end}, Base16PieceLemmas.next_front}}
+use Rattle.domain_codecs.proofs.decoding.build_base16.{Given.Over, Goals.After-decode_to_slice}
 use Rattle.domain_codecs.proofs.decoding.build_base16.Goals as goal
 
 -- the octets of the piece are decoded, and follow those that were built

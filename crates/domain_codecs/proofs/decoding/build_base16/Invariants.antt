@@ -1,7 +1,6 @@
 use Rattle.std.proofs.Common.{length}
 use Rattle.domain_octets.specs.Limit.{HasRoom}
-use Rattle.domain_codecs.specs.declared.codec.Codec.TheVariants.{Base16}
-use Rattle.domain_codecs.proofs.JoinedLemmas.{ReadPieces}
+use Rattle.domain_codecs.{specs.declared.codec.Codec.TheVariants.Base16, proofs.JoinedLemmas.ReadPieces}
 use Rattle.domain_codecs.proofs.decoding.build_base16.Given as goal
 
 abbrev pub invariant-loop-left : goal.invariant-loop-left

@@ -1,10 +1,8 @@
 use Rattle.std.proofs.Common.{ℕ, List, ◌<◌, ◌*◌, ◌+◌, ◌/◌, ◌%◌, arith, drop}
-use Rattle.domain_codecs.specs.Codec.{base32_octets, base32_digits}
-use Rattle.domain_codecs.specs.declared.codec.Codec.TheVariants.{Base32Hex}
+use Rattle.domain_codecs.specs.{Codec.{base32_octets, base32_digits}, declared.codec.Codec.TheVariants.Base32Hex}
 use Rattle.domain_codecs.proofs.RoomLemmas.{build_stops, room_for_part, handed_on}
 use Rattle.domain_codecs.proofs.CodecLemmas.{digits_begin, digits_narrow, digits_wide, digits_stand, digits_all, digit_at, widens}
-use Rattle.domain_codecs.proofs.decoding.build_base32.Given.{Over}
-use Rattle.domain_codecs.proofs.decoding.build_base32.Goals.{After-base32_digit, then-wider-lt256, else-wider-lt256+in_ok-append_slice}
+use Rattle.domain_codecs.proofs.decoding.build_base32.{Given.Over, Goals.{After-base32_digit, then-wider-lt256, else-wider-lt256+in_ok-append_slice}}
 use Rattle.domain_codecs.proofs.decoding.build_base32.Goals as goal
 use Rattle.std.proofs.lemmas.Grind.{common_steps}
 

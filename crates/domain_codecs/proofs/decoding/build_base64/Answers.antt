@@ -1,12 +1,6 @@
-use Rattle.std.proofs.Common.{arith, ◌++◌, take, drop, sym, ◌∙◌}
-use Rattle.std.proofs.lemmas.Grind.{common_steps}
-use Rattle.std.proofs.lemmas.Bool.{eqb-true}
-use Rattle.std.proofs.lemmas.List.{nil_from_length}
-use Rattle.domain_codecs.specs.declared.codec.Codec.TheVariants.{Base64}
-use Rattle.domain_codecs.proofs.RoomLemmas.{build_stops, handed_on}
-use Rattle.domain_codecs.proofs.Base64Lemmas.{Read, next_piece, read_all}
-use Rattle.domain_codecs.proofs.decoding.build_base64.Given.{Over}
-use Rattle.domain_codecs.proofs.decoding.build_base64.Goals.{In-Ok}
+use Rattle.std.proofs.{Common.{arith, ◌++◌, take, drop, sym, ◌∙◌}, lemmas.{Grind.common_steps, Bool.eqb-true, List.nil_from_length}}
+use Rattle.domain_codecs.{specs.declared.codec.Codec.TheVariants.Base64, proofs.RoomLemmas.{build_stops, handed_on}}
+use Rattle.domain_codecs.proofs.{Base64Lemmas.{Read, next_piece, read_all}, decoding.build_base64.{Given.Over, Goals.In-Ok}}
 use Rattle.domain_codecs.proofs.decoding.build_base64.Goals as goal
 
 pub unreachable-requires : goal.unreachable-requires

@@ -1,10 +1,6 @@
-use Rattle.std.proofs.Common.{◌++◌, map, arith}
-use Rattle.std.specs.List.{concat}
-use Rattle.domain_codecs.proofs.RoomLemmas.{build_stops, handed_on}
-use Rattle.domain_codecs.proofs.JoinedLemmas.{ReadPieces, pieces_next, pieces_end}
-use Rattle.domain_codecs.proofs.CodecBackLemmas.{decodes_once}
-use Rattle.domain_codecs.proofs.decoding.build_joined.Given.{Over}
-use Rattle.domain_codecs.proofs.decoding.build_joined.Goals.{After-as_slice}
+use Rattle.std.{proofs.Common.{◌++◌, map, arith}, specs.List.concat}
+use Rattle.domain_codecs.proofs.{RoomLemmas.{build_stops, handed_on}, JoinedLemmas.{ReadPieces, pieces_next, pieces_end}, CodecBackLemmas.decodes_once}
+use Rattle.domain_codecs.proofs.decoding.build_joined.{Given.Over, Goals.After-as_slice}
 use Rattle.domain_codecs.proofs.decoding.build_joined.Goals as goal
 use Rattle.std.proofs.lemmas.Grind.{common_steps}
 

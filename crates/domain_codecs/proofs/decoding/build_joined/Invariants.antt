@@ -1,5 +1,4 @@
-use Rattle.std.proofs.Common.{length, map}
-use Rattle.std.specs.List.{concat}
+use Rattle.std.{proofs.Common.{length, map}, specs.List.concat}
 use Rattle.domain_octets.specs.Limit.{HasRoom}
 use Rattle.domain_codecs.proofs.JoinedLemmas.{ReadPieces}
 use Rattle.domain_codecs.proofs.decoding.build_joined.Given as goal

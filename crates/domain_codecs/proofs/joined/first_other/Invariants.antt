@@ -1,5 +1,4 @@
-use Rattle.std.proofs.Common.{length, map}
-use Rattle.std.specs.List.{concat}
+use Rattle.std.{proofs.Common.{length, map}, specs.List.concat}
 use Rattle.domain_codecs.specs.Codec.{is_digit}
 use Rattle.domain_octets.proofs.PrefixLemmas.{Searched}
 use Rattle.domain_codecs.proofs.joined.first_other.Given as goal

@@ -1,5 +1,4 @@
-use Rattle.std.proofs.Common.{◌≡◌, length, take, map, arith, length-take}
-use Rattle.std.specs.List.{concat}
+use Rattle.std.{proofs.Common.{◌≡◌, length, take, map, arith, length-take}, specs.List.concat}
 use Rattle.domain_codecs.proofs.JoinedLemmas.{passed_begin, no_group, refused_piece, short_decides, full_goes_on, full_is_some}
 use Rattle.domain_codecs.proofs.joined.is_base64.Goals.{Else-full-lt48}
 use Rattle.domain_codecs.proofs.joined.is_base64.Goals as goal

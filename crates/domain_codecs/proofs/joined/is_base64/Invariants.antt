@@ -1,5 +1,4 @@
-use Rattle.std.proofs.Common.{length, map}
-use Rattle.std.specs.List.{concat}
+use Rattle.std.{proofs.Common.{length, map}, specs.List.concat}
 use Rattle.domain_codecs.proofs.Base64Lemmas.{Passed}
 use Rattle.domain_codecs.proofs.joined.is_base64.Given as goal
 

@@ -1,11 +1,8 @@
-use Rattle.std.proofs.Common.{◌≡◌, ◌<◌, false, true, length, refl, sym, ap, subst, ◌∙◌, inl, inr, arith}
-use Rattle.std.proofs.lemmas.Result.{err_from_is_err_and}
+use Rattle.std.proofs.{Common.{◌≡◌, ◌<◌, false, true, length, refl, sym, ap, subst, ◌∙◌, inl, inr, arith}, lemmas.Result.err_from_is_err_and}
 use Rattle.domain_names.specs.Name.{lowered, same_name, wire_of}
-use Rattle.domain_checker.proofs.HashedWalkLemmas.{wire_above}
-use Rattle.domain_checker.specs.HashedView.{links_with}
+use Rattle.domain_checker.{proofs.HashedWalkLemmas.wire_above, specs.HashedView.links_with}
 use Rattle.domain_denier.proofs.PlacedLemmas.{IsAncestor, IsMissedAt, ancestor_above, ancestor_itself, hash_known, inside_at, missed_above, missed_here}
-use Rattle.domain_denier.proofs.PlacedLemmas.{none_placed, of_found, placed_above, placed_here, refused_at}
-use Rattle.domain_denier.proofs.encloser.find_encloser.Given.{Over}
+use Rattle.domain_denier.proofs.{PlacedLemmas.{none_placed, of_found, placed_above, placed_here, refused_at}, encloser.find_encloser.Given.Over}
 use Rattle.domain_denier.proofs.encloser.find_encloser.Goals as goal
 use Rattle.domain_denier.proofs.encloser.find_encloser.Goals.{After-skip-octets}
 use Rattle.std.proofs.lemmas.Grind.{common_steps}

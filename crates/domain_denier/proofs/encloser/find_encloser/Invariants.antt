@@ -1,11 +1,9 @@
 use Rattle.std.proofs.Common.{◌≡◌, ◌<◌, List, length}
 use Rattle.domain_names.specs.Name.{lowered, wire_of}
 use Rattle.domain_zone.specs.Zone.{ZoneRecord}
-use Rattle.domain_nsec3.specs.Config.{ChainConfig}
-use Rattle.domain_nsec3.specs.View.{hash_by}
+use Rattle.domain_nsec3.specs.{Config.ChainConfig, View.hash_by}
 use Rattle.domain_checker.specs.HashedView.{links_with}
-use Rattle.domain_denier.specs.HashedPicked.{IsHashedWhole}
-use Rattle.domain_denier.proofs.PlacedLemmas.{IsAncestor, IsMissedAt}
+use Rattle.domain_denier.{specs.HashedPicked.IsHashedWhole, proofs.PlacedLemmas.{IsAncestor, IsMissedAt}}
 use Rattle.domain_denier.proofs.encloser.find_encloser.Given as goal
 
 -- in the chain of a zone no record matches the name that is left, and the one at the place covers it

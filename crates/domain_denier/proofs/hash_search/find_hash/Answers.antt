@@ -1,7 +1,5 @@
-use Rattle.std.proofs.Common.{sym, ap, subst, ◌∙◌}
-use Rattle.std.specs.Ordering.{is_eq}
-use Rattle.domain_denier.specs.HashedSteps.{IsOfHash}
-use Rattle.domain_denier.proofs.HashSearchLemmas.{of_hash}
+use Rattle.std.{proofs.Common.{sym, ap, subst, ◌∙◌}, specs.Ordering.is_eq}
+use Rattle.domain_denier.{specs.HashedSteps.IsOfHash, proofs.HashSearchLemmas.of_hash}
 use Rattle.domain_denier.proofs.hash_search.find_hash.Goals as goal
 
 pub returns-clause-of_hash : goal.returns-clause-of_hash

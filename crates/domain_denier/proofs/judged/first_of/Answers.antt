@@ -1,5 +1,4 @@
-use Rattle.domain_denier.proofs.JudgedLemmas.{one_at, told_whole}
-use Rattle.domain_denier.specs.Picked.{at_place}
+use Rattle.domain_denier.{proofs.JudgedLemmas.{one_at, told_whole}, specs.Picked.at_place}
 use Rattle.domain_denier.proofs.judged.first_of.Goals as goal
 use Rattle.std.proofs.Common.{Some}
 

@@ -1,12 +1,8 @@
-use Rattle.std.proofs.Common.{◌≡◌, ℕ, true, false, [], ◌∷◌, refl, sym, ap, ◌∙◌, subst}
-use Rattle.std.specs.Prelude.{IsTrue}
-use Rattle.std.proofs.lemmas.Bool.{false≢true}
+use Rattle.std.{proofs.{Common.{◌≡◌, ℕ, true, false, [], ◌∷◌, refl, sym, ap, ◌∙◌, subst}, lemmas.Bool.false≢true}, specs.Prelude.IsTrue}
 use Rattle.domain_nsec.specs.ChainView.{as_link}
-use Rattle.domain_answer.specs.Found.{IsFound, found_cover, found_match}
-use Rattle.domain_answer.specs.Reading.{wildcard_answer, wildcard_both}
+use Rattle.domain_answer.specs.{Found.{IsFound, found_cover, found_match}, Reading.{wildcard_answer, wildcard_both}}
 use Rattle.domain_answer.specs.declared.answer.Answer.TheVariants.{NoCloserName}
-use Rattle.domain_denier.specs.Judged.{IsSilent}
-use Rattle.domain_denier.proofs.JudgedLemmas.{placed}
+use Rattle.domain_denier.{specs.Judged.IsSilent, proofs.JudgedLemmas.placed}
 use Rattle.domain_denier.proofs.judged.of_wildcard.Goals as goal
 
 pub returns-in-Neither : goal.returns-in-Neither

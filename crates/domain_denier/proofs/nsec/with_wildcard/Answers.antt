@@ -1,12 +1,8 @@
 use Rattle.std.proofs.Common.{◌≡◌, ◌<◌, true, subst, Some, arith}
 use Rattle.domain_checker.proofs.MeantLemmas.{ChainLaws}
-use Rattle.domain_answer.specs.Reading.{reading}
-use Rattle.domain_answer.specs.declared.answer.Answer.TheVariants.{NoCloserName}
-use Rattle.domain_denier.specs.Judged.{IsSilent}
-use Rattle.domain_denier.specs.Picked.{at_place}
-use Rattle.domain_denier.proofs.JudgedLemmas.{told_of, untold_of}
-use Rattle.domain_denier.proofs.PickLemmas.{AnswerLaws, denied_by_both, denied_by_one}
-use Rattle.domain_denier.proofs.nsec.with_wildcard.Given.{Over}
+use Rattle.domain_answer.specs.{Reading.reading, declared.answer.Answer.TheVariants.NoCloserName}
+use Rattle.domain_denier.specs.{Judged.IsSilent, Picked.at_place}
+use Rattle.domain_denier.proofs.{JudgedLemmas.{told_of, untold_of}, PickLemmas.{AnswerLaws, denied_by_both, denied_by_one}, nsec.with_wildcard.Given.Over}
 use Rattle.domain_denier.proofs.nsec.with_wildcard.Goals as goal
 use Rattle.domain_denier.proofs.nsec.with_wildcard.Goals.{After-of_wildcard, In-Untold}
 use Rattle.std.proofs.lemmas.Grind.{common_steps}

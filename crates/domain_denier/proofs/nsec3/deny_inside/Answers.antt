@@ -1,7 +1,6 @@
 use Rattle.std.proofs.Common.{sym, subst}
 use Rattle.domain_checker.specs.HashedView.{links_with}
-use Rattle.domain_denier.specs.HashedSteps.{IsFoundPlaced, IsPickedRead}
-use Rattle.domain_denier.proofs.HashedPickLemmas.{none_read}
+use Rattle.domain_denier.{specs.HashedSteps.{IsFoundPlaced, IsPickedRead}, proofs.HashedPickLemmas.none_read}
 use Rattle.domain_denier.proofs.nsec3.deny_inside.Goals as goal
 
 pub returns-in_default-clause-read : goal.returns-in_default-clause-read

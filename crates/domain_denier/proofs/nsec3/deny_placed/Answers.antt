@@ -1,10 +1,8 @@
-use Rattle.std.proofs.Common.{◌≡◌, ℕ, length, slice_get, Some, sym, subst, ◌∙◌, inl, inr, arith}
-use Rattle.std.proofs.lemmas.Result.{err_from_is_err_and}
+use Rattle.std.proofs.{Common.{◌≡◌, ℕ, length, slice_get, Some, sym, subst, ◌∙◌, inl, inr, arith}, lemmas.Result.err_from_is_err_and}
 use Rattle.domain_names.specs.Name.{last_labels}
 use Rattle.domain_nsec3.specs.Chain.{HashedLink}
 use Rattle.domain_answer.specs.declared.answer.Answer.TheVariants.{NoCloserName}
-use Rattle.domain_denier.specs.HashedPicked.{TellsOfName}
-use Rattle.domain_denier.specs.HashedSteps.{IsFirstDenial, IsOfHash}
+use Rattle.domain_denier.specs.{HashedPicked.TellsOfName, HashedSteps.{IsFirstDenial, IsOfHash}}
 use Rattle.domain_denier.proofs.HashedPickLemmas.{IsAskedBelow, asked_below, first_there, name_there, plain_read, record_there, wildcard_read}
 use Rattle.domain_denier.proofs.nsec3.deny_placed.Given.{Over}
 use Rattle.domain_denier.proofs.nsec3.deny_placed.Goals as goal

@@ -1,7 +1,6 @@
-use Rattle.std.proofs.Common.{◌∙◌, subst}
+use Rattle.std.proofs.{Common.{◌∙◌, subst}, lemmas.List.Elements.All-contains_itself}
 use Rattle.domain_answer.specs.Proved.{IsAnswered}
 use Rattle.domain_zone.specs.View.{zone_of}
-use Rattle.std.proofs.lemmas.List.Elements.{All-contains_itself}
 use Rattle.domain_dnssec.proofs.laws.answers_tell_of_records.Goals as goal
 
 pub returns-clause-some : goal.returns-clause-some

@@ -1,6 +1,5 @@
-use Rattle.std.proofs.Common.{◌∙◌, subst}
+use Rattle.std.proofs.{Common.{◌∙◌, subst}, lemmas.List.Elements.All-contains_itself}
 use Rattle.domain_checker.specs.Verdict.{IsProved}
-use Rattle.std.proofs.lemmas.List.Elements.{All-contains_itself}
 use Rattle.domain_dnssec.proofs.laws.verdicts_tell_of_records.Goals as goal
 
 pub returns-clause-some : goal.returns-clause-some

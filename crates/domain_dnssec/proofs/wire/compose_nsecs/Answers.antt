@@ -1,9 +1,6 @@
-use Rattle.std.proofs.Common.{◌++◌, ◌∙◌, arith}
-use Rattle.std.proofs.lemmas.Result.{err_from_is_err_and}
-use Rattle.domain_borrowed.specs.Links.{nsec_record}
-use Rattle.domain_borrowed.specs.Wire.{record_octets}
-use Rattle.domain_nsec.specs.Chain.{Link}
-use Rattle.domain_nsec.specs.ChainView.{as_link}
+use Rattle.std.proofs.{Common.{◌++◌, ◌∙◌, arith}, lemmas.Result.err_from_is_err_and}
+use Rattle.domain_borrowed.specs.{Links.nsec_record, Wire.record_octets}
+use Rattle.domain_nsec.specs.{Chain.Link, ChainView.as_link}
 use Rattle.domain_dnssec.proofs.WireLemmas.{long_nsec, onward}
 use Rattle.domain_dnssec.proofs.wire.compose_nsecs.Goals as goal
 

@@ -1,9 +1,5 @@
-use Rattle.std.proofs.Common.{◌≡◌, refl, rules}
-use Rattle.std.specs.Char.{to_ascii_lowercase}
-use Rattle.std.specs.Ordering.{nat_cmp}
-use Rattle.std.proofs.lemmas.Iterator.{YieldsList-from_slice, YieldsList-from_map}
-use Rattle.std.proofs.lemmas.Iterator.Consumers.{YieldsList-from_copied}
-use Rattle.std.proofs.lemmas.Iterator.Search.{cmp_from_yields_List}
+use Rattle.std.proofs.{Common.{◌≡◌, refl, rules}, lemmas.Iterator.{YieldsList-from_slice, YieldsList-from_map, Consumers.YieldsList-from_copied}}
+use Rattle.std.{proofs.lemmas.Iterator.Search.cmp_from_yields_List, specs.{Char.to_ascii_lowercase, Ordering.nat_cmp}}
 use Rattle.domain_fields.proofs.fields.lowered_with_octets_cmp.Goals as goal
 
 pub returns : goal.returns

@@ -1,5 +1,4 @@
-use Rattle.std.proofs.Common.{◌<◌, length, arith}
-use Rattle.std.proofs.lemmas.Grind.{common_steps}
+use Rattle.std.proofs.{Common.{◌<◌, length, arith}, lemmas.Grind.common_steps}
 use Rattle.domain_keys.proofs.KeyTagLemmas.{weighed_step}
 use Rattle.domain_keys.proofs.key_tag.weighed.Goals as goal
 

@@ -1,6 +1,4 @@
-use Rattle.std.proofs.Common.{subst, length, ◌<◌, ◌∙◌}
-use Rattle.std.proofs.lemmas.List.{take_rest}
-use Rattle.std.proofs.lemmas.Result.{err_from_is_err_and}
+use Rattle.std.proofs.{Common.{subst, length, ◌<◌, ◌∙◌}, lemmas.{List.take_rest, Result.err_from_is_err_and}}
 use Rattle.domain_message.proofs.HeaderLemmas.{cut_behind}
 use Rattle.domain_message.proofs.header.header_at.Goals as goal
 

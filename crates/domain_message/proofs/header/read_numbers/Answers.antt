@@ -1,8 +1,6 @@
-use Rattle.std.proofs.Common.{arith, subst, ap}
-use Rattle.std.proofs.lemmas.Grind.{common_steps}
+use Rattle.std.proofs.{Common.{arith, subst, ap}, lemmas.Grind.common_steps}
 use Rattle.domain_fields.specs.Layout.{Begins}
-use Rattle.domain_message.specs.Header.{numbers}
-use Rattle.domain_message.proofs.HeaderLemmas.{begins_count, numbers_cut}
+use Rattle.domain_message.{specs.Header.numbers, proofs.HeaderLemmas.{begins_count, numbers_cut}}
 use Rattle.domain_message.proofs.header.read_numbers.Goals as goal
 
 pub returns-in-Ok-clause-ok : goal.returns-in-Ok-clause-ok

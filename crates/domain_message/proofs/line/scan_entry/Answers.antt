@@ -1,8 +1,5 @@
-use Rattle.std.proofs.Common.{arith, refl, sym, subst}
-use Rattle.std.proofs.lemmas.Grind.{common_steps}
-use Rattle.std.proofs.lemmas.Result.{err_from_is_err_and}
-use Rattle.domain_message.specs.Entry.{RefusesHead, in_head, in_data, behind_data}
-use Rattle.domain_message.proofs.LineLemmas.{none_left}
+use Rattle.std.proofs.{Common.{arith, refl, sym, subst}, lemmas.{Grind.common_steps, Result.err_from_is_err_and}}
+use Rattle.domain_message.{specs.Entry.{RefusesHead, in_head, in_data, behind_data}, proofs.LineLemmas.none_left}
 use Rattle.domain_message.proofs.line.scan_entry.Goals as goal
 
 pub returns-in_err-head-clause-err : goal.returns-in_err-head-clause-err

@@ -1,8 +1,6 @@
-use Rattle.std.proofs.Common.{◌≡◌, ◌<◌, length, get_or, arith}
-use Rattle.std.proofs.lemmas.Grind.{common_steps}
+use Rattle.std.proofs.{Common.{◌≡◌, ◌<◌, length, get_or, arith}, lemmas.Grind.common_steps}
 use Rattle.domain_octets.proofs.OctetLemmas.{octets_from_type}
-use Rattle.domain_message.proofs.NameLemmas.{end_fault, type_fault, length_fault, cut_fault, between_more}
-use Rattle.domain_message.proofs.name.labels_end.Goals.{In-Some}
+use Rattle.domain_message.proofs.{NameLemmas.{end_fault, type_fault, length_fault, cut_fault, between_more}, name.labels_end.Goals.In-Some}
 use Rattle.domain_message.proofs.name.labels_end.Goals as goal
 
 pub returns-in_default-clause-err : goal.returns-in_default-clause-err

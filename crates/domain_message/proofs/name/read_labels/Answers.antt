@@ -1,5 +1,4 @@
-use Rattle.std.proofs.Common.{arith}
-use Rattle.std.proofs.lemmas.Grind.{common_steps}
+use Rattle.std.proofs.{Common.arith, lemmas.Grind.common_steps}
 use Rattle.domain_message.proofs.NameLemmas.{under_way_first, under_way_next, all_read}
 use Rattle.domain_message.proofs.name.read_labels.Goals as goal
 

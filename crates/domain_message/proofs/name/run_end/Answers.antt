@@ -1,7 +1,5 @@
-use Rattle.std.proofs.Common.{◌≡◌, ℕ, ◌+◌, get_or, Fits, w8, arith}
-use Rattle.std.proofs.lemmas.Grind.{common_steps}
-use Rattle.domain_message.proofs.NameLemmas.{Pointer, half_fault, forward_fault, ends_pointer}
-use Rattle.domain_message.proofs.name.run_end.Goals.{After-from-2}
+use Rattle.std.proofs.{Common.{◌≡◌, ℕ, ◌+◌, get_or, Fits, w8, arith}, lemmas.Grind.common_steps}
+use Rattle.domain_message.proofs.{NameLemmas.{Pointer, half_fault, forward_fault, ends_pointer}, name.run_end.Goals.After-from-2}
 use Rattle.domain_message.proofs.name.run_end.Goals as goal
 
 pub returns-in_default-clause-err : goal.returns-in_default-clause-err

@@ -1,7 +1,5 @@
-use Rattle.std.proofs.Common.{refl, ◌∙◌, ◌≡◌, ◌+◌, arith, ap, ◌++◌}
-use Rattle.std.proofs.lemmas.Result.{err_from_is_err_and}
-use Rattle.domain_message.specs.Record.{in_part, other_end}
-use Rattle.domain_message.proofs.RecordLemmas.{copy_refused, placed_plain, placed_parts}
+use Rattle.std.proofs.{Common.{refl, ◌∙◌, ◌≡◌, ◌+◌, arith, ap, ◌++◌}, lemmas.Result.err_from_is_err_and}
+use Rattle.domain_message.{specs.Record.{in_part, other_end}, proofs.RecordLemmas.{copy_refused, placed_plain, placed_parts}}
 use Rattle.domain_message.proofs.record.octets_at.Goals as goal
 
 pub returns-in_default-clause-err : goal.returns-in_default-clause-err

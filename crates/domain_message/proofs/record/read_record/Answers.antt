@@ -1,6 +1,4 @@
-use Rattle.std.proofs.Common.{arith, sym, subst}
-use Rattle.std.proofs.lemmas.Grind.{common_steps}
-use Rattle.std.proofs.lemmas.Result.{err_from_is_err_and}
+use Rattle.std.proofs.{Common.{arith, sym, subst}, lemmas.{Grind.common_steps, Result.err_from_is_err_and}}
 use Rattle.domain_names.proofs.WireLemmas.{IsWire-wire_of, labels_of-wire_of}
 use Rattle.domain_rdata.specs.Zone.{kind_of}
 use Rattle.domain_message.specs.Record.{in_header, in_data, in_octets, RefusesData, OctetsRefusal}

@@ -1,5 +1,4 @@
-use Rattle.std.proofs.lemmas.Grind.{common_steps}
-use Rattle.std.proofs.Common.{arith}
+use Rattle.std.proofs.{lemmas.Grind.common_steps, Common.arith}
 use Rattle.domain_message.proofs.WordLemmas.{word_found, word_missing, last_found, last_missing}
 use Rattle.domain_message.proofs.words.words_of.Goals as goal
 

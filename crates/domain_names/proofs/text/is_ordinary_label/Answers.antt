@@ -1,8 +1,5 @@
-use Rattle.std.proofs.Common.{◌≡◌, length, arith, take_all, subst}
-use Rattle.std.proofs.lemmas.Bool.{eqb-true}
-use Rattle.std.specs.List.{AllPass}
-use Rattle.domain_names.specs.Text.{is_ordinary}
-use Rattle.domain_names.proofs.TextLemmas.{ordinary_text}
+use Rattle.std.{proofs.{Common.{◌≡◌, length, arith, take_all, subst}, lemmas.Bool.eqb-true}, specs.List.AllPass}
+use Rattle.domain_names.{specs.Text.is_ordinary, proofs.TextLemmas.ordinary_text}
 use Rattle.domain_names.proofs.text.is_ordinary_label.Goals as goal
 
 pub returns : goal.returns

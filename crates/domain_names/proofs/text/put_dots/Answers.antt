@@ -1,7 +1,6 @@
 use Rattle.domain_names.proofs.TextLemmas.{dotted_more, dotted_ends}
 use Rattle.domain_names.proofs.text.put_dots.Goals as goal
-use Rattle.std.proofs.Common.{arith}
-use Rattle.std.proofs.lemmas.Grind.{common_steps}
+use Rattle.std.proofs.{Common.arith, lemmas.Grind.common_steps}
 
 pub loop-label-preserved : goal.loop-label-preserved
 loop-label-preserved c = grind (arith, common_steps, dotted_more)

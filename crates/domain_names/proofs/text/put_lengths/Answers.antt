@@ -1,5 +1,4 @@
-use Rattle.std.proofs.Common.{◌≡◌, ◌≢◌, [], ◌∷◌, length, drop, ap, arith}
-use Rattle.std.proofs.lemmas.List.{take_rest, drop_more, length-drop}
+use Rattle.std.proofs.{Common.{◌≡◌, ◌≢◌, [], ◌∷◌, length, drop, ap, arith}, lemmas.List.{take_rest, drop_more, length-drop}}
 use Rattle.domain_names.proofs.SpellingLemmas.{dot_after, measuring_begins, measuring_goes, measuring_ends}
 use Rattle.domain_names.proofs.text.put_lengths.Goals as goal
 

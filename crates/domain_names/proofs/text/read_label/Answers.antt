@@ -1,5 +1,4 @@
-use Rattle.std.proofs.Common.{arith}
-use Rattle.std.proofs.lemmas.Grind.{common_steps}
+use Rattle.std.proofs.{Common.arith, lemmas.Grind.common_steps}
 use Rattle.domain_names.proofs.SpellingLemmas.{spelling_goes, spelling_ends, spelling_dots, no_label_by_length}
 use Rattle.domain_names.proofs.text.read_label.Goals as goal
 

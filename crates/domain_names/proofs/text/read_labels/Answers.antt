@@ -1,7 +1,4 @@
-use Rattle.std.proofs.Common.{◌≡◌, ◌≢◌, [], ◌∷◌, length, drop, ap, arith}
-use Rattle.std.proofs.lemmas.List.{take_rest, drop_more}
-use Rattle.std.proofs.lemmas.Grind.{common_steps}
-use Rattle.std.proofs.lemmas.Bool.Decides.{nat_tests}
+use Rattle.std.proofs.{Common.{◌≡◌, ◌≢◌, [], ◌∷◌, length, drop, ap, arith}, lemmas.{List.{take_rest, drop_more}, Grind.common_steps, Bool.Decides.nat_tests}}
 use Rattle.domain_names.proofs.SpellingLemmas.{naming_goes, naming_ends, no_label_after_left, after_label, dot_after}
 use Rattle.domain_names.proofs.text.read_labels.Goals as goal
 

@@ -1,7 +1,4 @@
-use Rattle.std.proofs.Common.{◌≡◌, ◌<◌, ◌∙◌, length, take, ap, sym, arith}
-use Rattle.std.specs.Prelude.{IsSome}
-use Rattle.std.specs.List.{refill}
-use Rattle.std.proofs.lemmas.List.{length-take-le}
+use Rattle.std.{proofs.{Common.{◌≡◌, ◌<◌, ◌∙◌, length, take, ap, sym, arith}, lemmas.List.length-take-le}, specs.{Prelude.IsSome, List.refill}}
 use Rattle.domain_octets.specs.Written.{refilled}
 use Rattle.domain_names.proofs.SpellingLemmas.{named_fits}
 use Rattle.domain_names.proofs.text.read_plain_name.Goals as goal

@@ -1,6 +1,4 @@
-use Rattle.std.proofs.Common.{subst, sym}
-use Rattle.std.specs.Str.{IsAscii}
-use Rattle.std.proofs.lemmas.Str.{IsAscii-take, IsAscii-drop}
+use Rattle.std.{proofs.{Common.{subst, sym}, lemmas.Str.{IsAscii-take, IsAscii-drop}}, specs.Str.IsAscii}
 use Rattle.domain_names.proofs.TextLemmas.{dotted_ascii}
 use Rattle.domain_names.proofs.text.write_dotted.Goals as goal
 

@@ -1,5 +1,4 @@
-use Rattle.std.proofs.Common.{take}
-use Rattle.std.specs.Fmt.{HasWritten, IsPlainFormatter}
+use Rattle.std.{proofs.Common.take, specs.Fmt.{HasWritten, IsPlainFormatter}}
 use Rattle.domain_names.specs.Text.{label_text}
 use Rattle.domain_names.proofs.text.write_label.Given as goal
 

@@ -1,8 +1,5 @@
-use Rattle.std.proofs.Common.{◌++◌, ◌∷◌, refl, sym, ap, ◌∙◌}
-use Rattle.std.proofs.Output.{has_written_append}
-use Rattle.std.proofs.lemmas.List.{append_assoc}
-use Rattle.domain_names.specs.Wire.{labels_of}
-use Rattle.domain_names.specs.Text.{dotted_text, label_text}
+use Rattle.std.proofs.{Common.{◌++◌, ◌∷◌, refl, sym, ap, ◌∙◌}, Output.has_written_append, lemmas.List.append_assoc}
+use Rattle.domain_names.specs.{Wire.labels_of, Text.{dotted_text, label_text}}
 use Rattle.domain_names.proofs.text.write_labels.Goals as goal
 
 pub loop-label-preserved : goal.loop-label-preserved

@@ -1,7 +1,5 @@
-use Rattle.std.proofs.Common.{◌≡◌, List, ℕ, ◌++◌, length}
-use Rattle.std.specs.Fmt.{HasWritten, IsPlainFormatter}
-use Rattle.domain_names.specs.Text.{name_text, dotted_text}
-use Rattle.domain_names.specs.Wire.{labels_of, IsWire}
+use Rattle.std.{proofs.Common.{◌≡◌, List, ℕ, ◌++◌, length}, specs.Fmt.{HasWritten, IsPlainFormatter}}
+use Rattle.domain_names.specs.{Text.{name_text, dotted_text}, Wire.{labels_of, IsWire}}
 use Rattle.domain_names.proofs.text.write_labels.Given as goal
 
 -- what is written and the rest are the name

@@ -1,7 +1,5 @@
-use Rattle.std.proofs.Common.{subst, sym}
-use Rattle.std.specs.Str.{IsAscii}
-use Rattle.domain_names.specs.Wire.{labels_of}
-use Rattle.domain_names.proofs.TextLemmas.{between_dots, name_text_ascii}
+use Rattle.std.{proofs.Common.{subst, sym}, specs.Str.IsAscii}
+use Rattle.domain_names.{specs.Wire.labels_of, proofs.TextLemmas.{between_dots, name_text_ascii}}
 use Rattle.domain_names.proofs.text.write_name.Goals as goal
 
 pub ascii_text-requires : goal.ascii_text-requires

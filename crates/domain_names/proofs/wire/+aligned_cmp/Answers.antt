@@ -1,7 +1,5 @@
-use Rattle.std.proofs.Common.{arith, inl}
-use Rattle.std.proofs.lemmas.Grind.{common_steps}
-use Rattle.domain_names.proofs.OrderLemmas.{step}
-use Rattle.domain_names.proofs.PartingLemmas.{roots_tie}
+use Rattle.std.proofs.{Common.{arith, inl}, lemmas.Grind.common_steps}
+use Rattle.domain_names.proofs.{OrderLemmas.step, PartingLemmas.roots_tie}
 use Rattle.domain_names.proofs.wire.+aligned_cmp.Goals as goal
 
 pub returns-in_default-2 : goal.returns-in_default-2

@@ -1,6 +1,5 @@
 use Rattle.std.proofs.Common.{ap, length, arith}
-use Rattle.domain_names.specs.Fault.{fault_of, name_fault_of}
-use Rattle.domain_names.proofs.FaultLemmas.{trailing_fault, in_name_by}
+use Rattle.domain_names.{specs.Fault.{fault_of, name_fault_of}, proofs.FaultLemmas.{trailing_fault, in_name_by}}
 use Rattle.domain_names.proofs.wire.check.Goals as goal
 
 pub returns-in-Ok-clause-err : goal.returns-in-Ok-clause-err

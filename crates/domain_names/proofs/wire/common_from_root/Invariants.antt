@@ -1,7 +1,5 @@
 use Rattle.std.proofs.Common.{◌≡◌, ◌+◌, ◌≤◌, length}
-use Rattle.domain_names.specs.Name.{lowered}
-use Rattle.domain_names.specs.Wire.{labels_of, IsWire}
-use Rattle.domain_names.proofs.CommonLemmas.{tail_run, same_label}
+use Rattle.domain_names.{specs.{Name.lowered, Wire.{labels_of, IsWire}}, proofs.CommonLemmas.{tail_run, same_label}}
 use Rattle.domain_names.proofs.wire.common_from_root.Given as goal
 
 abbrev pub invariant-labels : goal.invariant-labels

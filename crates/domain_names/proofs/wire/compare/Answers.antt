@@ -1,7 +1,5 @@
-use Rattle.std.proofs.Common.{arith, ◌∙◌, sym}
-use Rattle.std.proofs.lemmas.Grind.{common_steps}
-use Rattle.domain_names.proofs.CommonLemmas.{parted_share}
-use Rattle.domain_names.proofs.PartingLemmas.{decided_below}
+use Rattle.std.proofs.{Common.{arith, ◌∙◌, sym}, lemmas.Grind.common_steps}
+use Rattle.domain_names.proofs.{CommonLemmas.parted_share, PartingLemmas.decided_below}
 use Rattle.domain_names.proofs.wire.compare.Goals as goal
 
 pub returns-in-Some-clause-order : goal.returns-in-Some-clause-order

@@ -1,5 +1,4 @@
-use Rattle.std.proofs.Common.{arith}
-use Rattle.std.proofs.lemmas.Grind.{common_steps}
+use Rattle.std.proofs.{Common.arith, lemmas.Grind.common_steps}
 use Rattle.domain_names.proofs.PartingLemmas.{next_end}
 use Rattle.domain_names.proofs.wire.end_within.Goals as goal
 

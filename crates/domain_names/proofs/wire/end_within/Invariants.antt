@@ -1,6 +1,5 @@
 use Rattle.std.proofs.Common.{length, option_map}
-use Rattle.domain_names.specs.Parting.{EndsIn}
-use Rattle.domain_names.specs.Wire.{labels_of, IsWire}
+use Rattle.domain_names.specs.{Parting.EndsIn, Wire.{labels_of, IsWire}}
 use Rattle.domain_names.proofs.wire.end_within.Given as goal
 
 abbrev pub invariant-loop-end : goal.invariant-loop-end

@@ -1,6 +1,5 @@
 use Rattle.std.proofs.Common.{rules}
-use Rattle.domain_names.specs.Parting.{EndAlike}
-use Rattle.domain_names.proofs.PartingLemmas.{alike_onward}
+use Rattle.domain_names.{specs.Parting.EndAlike, proofs.PartingLemmas.alike_onward}
 use Rattle.domain_names.proofs.wire.equal_eights.Goals as goal
 
 pub loop-a_front-preserved : goal.loop-a_front-preserved

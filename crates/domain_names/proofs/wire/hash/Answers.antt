@@ -1,7 +1,4 @@
-use Rattle.std.proofs.Common.{arith}
-use Rattle.std.specs.Char.{to_ascii_lowercase}
-use Rattle.std.proofs.lemmas.List.{length-map}
-use Rattle.std.proofs.lemmas.Grind.{common_steps}
+use Rattle.std.{proofs.{Common.arith, lemmas.{List.length-map, Grind.common_steps}}, specs.Char.to_ascii_lowercase}
 use Rattle.domain_names.proofs.CaseLemmas.{lowered_wire}
 use Rattle.domain_names.proofs.wire.hash.Goals as goal
 

@@ -1,7 +1,5 @@
 use Rattle.std.proofs.Common.{arith, rules}
-use Rattle.domain_names.proofs.BelowLemmas.{above_is_below, label_is_below, same_is_below}
-use Rattle.domain_names.proofs.CaseLemmas.{at_or_below_test}
-use Rattle.domain_names.proofs.WireLemmas.{length-wire}
+use Rattle.domain_names.proofs.{BelowLemmas.{above_is_below, label_is_below, same_is_below}, CaseLemmas.at_or_below_test, WireLemmas.length-wire}
 use Rattle.domain_names.proofs.wire.is_at_or_below.Goals as goal
 use Rattle.std.proofs.lemmas.Grind.{common_steps}
 

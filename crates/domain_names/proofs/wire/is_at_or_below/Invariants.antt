@@ -1,6 +1,5 @@
 use Rattle.std.proofs.Common.{length}
-use Rattle.domain_names.specs.Name.{IsAtOrBelow}
-use Rattle.domain_names.specs.Wire.{labels_of, IsWire}
+use Rattle.domain_names.specs.{Name.IsAtOrBelow, Wire.{labels_of, IsWire}}
 use Rattle.domain_names.proofs.wire.is_at_or_below.Given as goal
 
 abbrev pub invariant-loop-end : goal.invariant-loop-end

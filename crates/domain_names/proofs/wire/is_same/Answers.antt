@@ -1,10 +1,6 @@
-use Rattle.std.proofs.Common.{◌≡◌, true, sym, ap, ◌∙◌}
-use Rattle.domain_names.specs.Name.{IsSame, lowered}
-use Rattle.domain_names.specs.Wire.{labels_of}
-use Rattle.domain_names.proofs.OrderLemmas.{same_octets}
-use Rattle.domain_names.proofs.CaseLemmas.{same_from_octets, octets_from_same}
-use Rattle.std.proofs.lemmas.Bool.Decides.{same_from_decides}
-use Rattle.domain_names.specs.Laws.{same_name_same}
+use Rattle.std.proofs.{Common.{◌≡◌, true, sym, ap, ◌∙◌}, lemmas.Bool.Decides.same_from_decides}
+use Rattle.domain_names.specs.{Name.{IsSame, lowered}, Wire.labels_of, Laws.same_name_same}
+use Rattle.domain_names.proofs.{OrderLemmas.same_octets, CaseLemmas.{same_from_octets, octets_from_same}}
 use Rattle.domain_names.proofs.wire.is_same.Goals as goal
 
 pub returns-then-eq : goal.returns-then-eq

@@ -1,6 +1,5 @@
 use Rattle.std.proofs.Common.{arith, rules}
-use Rattle.domain_names.proofs.PartingLemmas.{next_end, part_at}
-use Rattle.domain_names.proofs.WireLemmas.{length-wire}
+use Rattle.domain_names.proofs.{PartingLemmas.{next_end, part_at}, WireLemmas.length-wire}
 use Rattle.domain_names.proofs.wire.part.Goals as goal
 use Rattle.std.proofs.lemmas.Grind.{common_steps}
 

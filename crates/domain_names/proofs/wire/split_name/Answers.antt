@@ -1,8 +1,6 @@
-use Rattle.std.proofs.Common.{◌≡◌, ◌<◌, length, get_or, arith}
-use Rattle.std.proofs.lemmas.Grind.{common_steps}
+use Rattle.std.proofs.{Common.{◌≡◌, ◌<◌, length, get_or, arith}, lemmas.Grind.common_steps}
 use Rattle.domain_octets.proofs.OctetLemmas.{octets_from_type}
-use Rattle.domain_names.proofs.FaultLemmas.{reading_goes, label_fault, length_fault, cut_fault}
-use Rattle.domain_names.proofs.wire.split_name.Goals.{In-Some}
+use Rattle.domain_names.proofs.{FaultLemmas.{reading_goes, label_fault, length_fault, cut_fault}, wire.split_name.Goals.In-Some}
 use Rattle.domain_names.proofs.wire.split_name.Goals as goal
 
 -- the octet that was read stands at the place

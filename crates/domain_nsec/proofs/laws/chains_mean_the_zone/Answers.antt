@@ -1,5 +1,4 @@
-use Rattle.domain_nsec.proofs.ChainLemmas.{chain_cycle, mirrors_zone}
-use Rattle.domain_nsec.proofs.EncloserLemmas.{tells_empty, tells_encloser, covers_below_occluders}
+use Rattle.domain_nsec.proofs.{ChainLemmas.{chain_cycle, mirrors_zone}, EncloserLemmas.{tells_empty, tells_encloser, covers_below_occluders}}
 use Rattle.domain_nsec.proofs.laws.chains_mean_the_zone.Goals as goal
 
 pub returns-clause-cycle : goal.returns-clause-cycle

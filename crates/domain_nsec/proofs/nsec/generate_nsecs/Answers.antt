@@ -1,13 +1,8 @@
-use Rattle.domain_zone.specs.View.{zone_of}
-use Rattle.domain_zone.proofs.GroupLemmas.{owners_in_order}
-use Rattle.domain_nsec.specs.Chain.{IsChain}
-use Rattle.domain_nsec.specs.ChainView.{links_of}
-use Rattle.domain_nsec.proofs.ChainLemmas.{chain_cycle, mirrors_zone}
-use Rattle.domain_nsec.proofs.EncloserLemmas.{tells_empty, tells_encloser, covers_below_occluders}
-use Rattle.domain_nsec.proofs.nsec.generate_nsecs.Given.{Over}
+use Rattle.domain_zone.{specs.View.zone_of, proofs.GroupLemmas.owners_in_order}
+use Rattle.domain_nsec.{specs.{Chain.IsChain, ChainView.links_of}, proofs.ChainLemmas.{chain_cycle, mirrors_zone}}
+use Rattle.domain_nsec.proofs.{EncloserLemmas.{tells_empty, tells_encloser, covers_below_occluders}, nsec.generate_nsecs.Given.Over}
 use Rattle.domain_nsec.proofs.nsec.generate_nsecs.Goals as goal
-use Rattle.std.proofs.Common.{arith}
-use Rattle.std.proofs.lemmas.Grind.{common_steps}
+use Rattle.std.proofs.{Common.arith, lemmas.Grind.common_steps}
 
 -- the links of the records are the chain
 chain_made : (g : Over) (c : goal.After-drop-chain-inside-4 g)

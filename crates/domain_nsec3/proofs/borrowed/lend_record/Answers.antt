@@ -1,6 +1,5 @@
 use Rattle.std.proofs.Common.{◌≡◌, ◌+◌, ◌<◌, ◌≤◌, List, length, get_or, ◌∙◌, subst}
-use Rattle.domain_nsec3.specs.declared.hash.Hashed.{Hashed}
-use Rattle.domain_nsec3.proofs.ChainLemmas.{link_is}
+use Rattle.domain_nsec3.{specs.declared.hash.Hashed.Hashed, proofs.ChainLemmas.link_is}
 use Rattle.domain_nsec3.proofs.borrowed.lend_record.Goals as goal
 
 pub returns : goal.returns

@@ -1,10 +1,6 @@
-use Rattle.std.proofs.Common.{◌≡◌, [], refl, sym, ◌∙◌}
-use Rattle.std.proofs.lemmas.List.{get_or_past}
-use Rattle.domain_bitmap.specs.Bitmap.{bitmap_octets}
-use Rattle.domain_bitmap.specs.Builder.{holds}
-use Rattle.domain_bitmap.proofs.PackLemmas.{holds_nothing}
-use Rattle.domain_nsec3.specs.Steps.{no_types}
-use Rattle.domain_nsec3.proofs.EntryLemmas.{none_made}
+use Rattle.std.proofs.{Common.{◌≡◌, [], refl, sym, ◌∙◌}, lemmas.List.get_or_past}
+use Rattle.domain_bitmap.{specs.{Bitmap.bitmap_octets, Builder.holds}, proofs.PackLemmas.holds_nothing}
+use Rattle.domain_nsec3.{specs.Steps.no_types, proofs.EntryLemmas.none_made}
 use Rattle.domain_nsec3.proofs.borrowed.lend_types.Goals as goal
 
 -- a bitmap without types has no octets

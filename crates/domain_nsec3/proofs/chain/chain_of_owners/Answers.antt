@@ -1,12 +1,7 @@
-use Rattle.std.proofs.Common.{refl, arith}
-use Rattle.std.proofs.lemmas.Result.{err_from_is_err_and}
+use Rattle.std.proofs.{Common.{refl, arith}, lemmas.Result.err_from_is_err_and}
 use Rattle.domain_zone.specs.Soa.{chain_ttl}
-use Rattle.domain_nsec3.specs.Steps.{entries_of}
-use Rattle.domain_nsec3.specs.StepView.{as_entries, common_of}
-use Rattle.domain_nsec3.proofs.EntryLemmas.{AreJoined, entries_names, entries_more}
-use Rattle.domain_nsec3.proofs.OutcomeLemmas.{outcome_chain, outcome_hashed, outcome_fault}
-use Rattle.domain_nsec3.proofs.chain.chain_of_owners.Given.{Over}
-use Rattle.domain_nsec3.proofs.chain.chain_of_owners.Goals.{In_ok-append}
+use Rattle.domain_nsec3.{specs.{Steps.entries_of, StepView.{as_entries, common_of}}, proofs.EntryLemmas.{AreJoined, entries_names, entries_more}}
+use Rattle.domain_nsec3.proofs.{OutcomeLemmas.{outcome_chain, outcome_hashed, outcome_fault}, chain.chain_of_owners.{Given.Over, Goals.In_ok-append}}
 use Rattle.domain_nsec3.proofs.chain.chain_of_owners.Goals as goal
 use Rattle.std.proofs.lemmas.Grind.{common_steps}
 

@@ -1,22 +1,10 @@
-use Rattle.std.proofs.Common.{◌≡◌, true, sym, ap, ◌∙◌, subst, arith}
-use Rattle.std.specs.Prelude.{All}
-use Rattle.std.proofs.lemmas.Result.{err_from_is_err_and}
-use Rattle.std.specs.List.{list_any}
-use Rattle.std.specs.List.Sorted.{IsStrictlySortedBy}
-use Rattle.domain_names.specs.Order.{canonical_cmp}
-use Rattle.domain_names.specs.Name.{is_at_or_below, same_name}
-use Rattle.domain_zone.specs.View.{zone_of}
-use Rattle.domain_zone.proofs.GroupLemmas.{owners_in_order}
-use Rattle.domain_zone.proofs.SoaLemmas.{soa_owned}
-use Rattle.domain_nsec3.specs.Faults.{IsReady}
-use Rattle.domain_nsec3.specs.Owners.{original_owners}
-use Rattle.domain_nsec3.specs.View.{config_of}
-use Rattle.domain_nsec3.proofs.EntryLemmas.{entries_names}
-use Rattle.domain_nsec3.proofs.FaultLemmas.{apart_hashes}
-use Rattle.domain_nsec3.proofs.OutcomeLemmas.{original_ascend, original_below, apex_original}
-use Rattle.domain_nsec3.proofs.StateLemmas.{ZoneToSign}
-use Rattle.domain_nsec3.proofs.chain.chain_of_zone.Given.{Over}
-use Rattle.domain_nsec3.proofs.chain.chain_of_zone.Goals.{In_ok-owners}
+use Rattle.std.proofs.{Common.{◌≡◌, true, sym, ap, ◌∙◌, subst, arith}, lemmas.Result.err_from_is_err_and}
+use Rattle.std.specs.{Prelude.All, List.{list_any, Sorted.IsStrictlySortedBy}}
+use Rattle.domain_names.specs.{Order.canonical_cmp, Name.{is_at_or_below, same_name}}
+use Rattle.domain_zone.{specs.View.zone_of, proofs.{GroupLemmas.owners_in_order, SoaLemmas.soa_owned}}
+use Rattle.domain_nsec3.specs.{Faults.IsReady, Owners.original_owners, View.config_of}
+use Rattle.domain_nsec3.proofs.{EntryLemmas.entries_names, FaultLemmas.apart_hashes, OutcomeLemmas.{original_ascend, original_below, apex_original}}
+use Rattle.domain_nsec3.proofs.{StateLemmas.ZoneToSign, chain.chain_of_zone.{Given.Over, Goals.In_ok-owners}}
 use Rattle.domain_nsec3.proofs.chain.chain_of_zone.Goals as goal
 use Rattle.std.proofs.lemmas.Grind.{common_steps}
 

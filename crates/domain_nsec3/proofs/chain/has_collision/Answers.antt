@@ -1,6 +1,4 @@
-use Rattle.std.proofs.Common.{sym, ap, ◌∙◌, arith}
-use Rattle.std.proofs.lemmas.Bool.{false≢true}
-use Rattle.std.specs.Cmp.Lexicographic.{bytes_decides}
+use Rattle.std.{proofs.{Common.{sym, ap, ◌∙◌, arith}, lemmas.Bool.false≢true}, specs.Cmp.Lexicographic.bytes_decides}
 use Rattle.domain_names.proofs.OrderLemmas.{same_octets}
 use Rattle.domain_nsec3.proofs.HashLemmas.{alike_at, apart_more, apart_end}
 use Rattle.domain_nsec3.proofs.chain.has_collision.Goals as goal

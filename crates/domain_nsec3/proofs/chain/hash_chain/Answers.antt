@@ -1,20 +1,10 @@
-use Rattle.std.proofs.Common.{◌≡◌, None, Ok, map, length, sym, ap, ◌∙◌, subst, arith, inr}
-use Rattle.std.specs.Prelude.{All}
-use Rattle.std.specs.List.Sorted.{IsStrictlySortedBy}
-use Rattle.std.specs.Ordering.{nat_cmp}
-use Rattle.std.specs.Cmp.Lexicographic.{slice_cmp}
-use Rattle.std.proofs.lemmas.List.{length-map}
-use Rattle.std.proofs.lemmas.Result.{err_from_is_err_and}
+use Rattle.std.proofs.{Common.{◌≡◌, None, Ok, map, length, sym, ap, ◌∙◌, subst, arith, inr}, lemmas.{List.length-map, Result.err_from_is_err_and}}
+use Rattle.std.specs.{Prelude.All, List.Sorted.IsStrictlySortedBy, Ordering.nat_cmp, Cmp.Lexicographic.slice_cmp}
 use Rattle.domain_names.specs.Words.{Name}
-use Rattle.domain_nsec3.specs.Steps.{Entry, HashedEntry, HasAlikeNeighbours, chain_links, entries_of}
-use Rattle.domain_nsec3.specs.Faults.{hash_fault}
-use Rattle.domain_nsec3.specs.StepView.{as_hashed_types, as_hashed_entry}
-use Rattle.domain_nsec3.specs.View.{hash_by, parameters_of}
-use Rattle.domain_nsec3.specs.declared.hash.Hashed.{Hashed}
-use Rattle.domain_nsec3.proofs.ChainLemmas.{AreHashesOf, moved_hashes, sound_hashes, hashes_of, ordered_chain}
-use Rattle.domain_nsec3.proofs.EntryLemmas.{entries_names, types_told}
-use Rattle.domain_nsec3.proofs.chain.hash_chain.Given.{Over}
-use Rattle.domain_nsec3.proofs.chain.hash_chain.Goals.{In_ok-sort_by_hash}
+use Rattle.domain_nsec3.specs.{Steps.{Entry, HashedEntry, HasAlikeNeighbours, chain_links, entries_of}, Faults.hash_fault}
+use Rattle.domain_nsec3.specs.{StepView.{as_hashed_types, as_hashed_entry}, View.{hash_by, parameters_of}, declared.hash.Hashed.Hashed}
+use Rattle.domain_nsec3.proofs.{ChainLemmas.{AreHashesOf, moved_hashes, sound_hashes, hashes_of, ordered_chain}, EntryLemmas.{entries_names, types_told}}
+use Rattle.domain_nsec3.proofs.chain.hash_chain.{Given.Over, Goals.In_ok-sort_by_hash}
 use Rattle.domain_nsec3.proofs.chain.hash_chain.Goals as goal
 use Rattle.std.proofs.lemmas.Grind.{common_steps}
 

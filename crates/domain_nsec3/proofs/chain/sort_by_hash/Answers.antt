@@ -1,9 +1,5 @@
-use Rattle.std.proofs.Common.{rules}
-use Rattle.std.specs.Ordering.{nat_cmp, on}
-use Rattle.std.specs.Cmp.{on_total}
-use Rattle.std.specs.Cmp.Lexicographic.{slice_cmp, nat_list_cmp_total}
-use Rattle.std.proofs.lemmas.Result.{on_ok_weaker}
-use Rattle.std.proofs.lemmas.List.Sorted.{answers_always}
+use Rattle.std.proofs.{Common.rules, lemmas.{Result.on_ok_weaker, List.Sorted.answers_always}}
+use Rattle.std.specs.{Ordering.{nat_cmp, on}, Cmp.{on_total, Lexicographic.{slice_cmp, nat_list_cmp_total}}}
 use Rattle.domain_nsec3.proofs.chain.sort_by_hash.Goals as goal
 
 pub sort_by-requires-clause-order : goal.sort_by-requires-clause-order

@@ -1,10 +1,8 @@
 use Rattle.std.proofs.Common.{◌≡◌, true, ◌++◌, ◌+◌, take, drop, ◌∷◌, [], refl, sym, ◌∙◌, ap, subst}
 use Rattle.std.proofs.lemmas.List.{append-nil, take_more, take_all, drop_more, drop_all}
 use Rattle.domain_names.specs.Name.{is_at_or_below}
-use Rattle.domain_nsec3.specs.Ancestors.{HoldsAncestors}
-use Rattle.domain_nsec3.proofs.AncestorLemmas.{holds_none, holds_more, known_apex, known_owner}
-use Rattle.domain_nsec3.proofs.ListLemmas.{gathered, gathered_step, listed}
-use Rattle.domain_nsec3.proofs.SharedLemmas.{common_shares}
+use Rattle.domain_nsec3.{specs.Ancestors.HoldsAncestors, proofs.AncestorLemmas.{holds_none, holds_more, known_apex, known_owner}}
+use Rattle.domain_nsec3.proofs.{ListLemmas.{gathered, gathered_step, listed}, SharedLemmas.common_shares}
 use Rattle.domain_nsec3.proofs.empty.empty_nonterminals.Goals as goal
 
 pub loop-owner-init : goal.loop-owner-init

@@ -1,7 +1,5 @@
 use Rattle.std.proofs.Common.{◌≡◌, ◌++◌, drop, take}
-use Rattle.domain_nsec3.specs.Ancestors.{HoldsAncestors}
-use Rattle.domain_nsec3.proofs.AncestorLemmas.{IsKnown}
-use Rattle.domain_nsec3.proofs.ListLemmas.{gathered}
+use Rattle.domain_nsec3.{specs.Ancestors.HoldsAncestors, proofs.{AncestorLemmas.IsKnown, ListLemmas.gathered}}
 use Rattle.domain_nsec3.proofs.empty.empty_nonterminals.Given as goal
 
 abbrev pub invariant-loop-owner : goal.invariant-loop-owner

@@ -1,9 +1,7 @@
 use Rattle.std.proofs.lemmas.Result.{err_from_is_err_and}
-use Rattle.domain_nsec3.specs.View.{hash_by, parameters_of}
-use Rattle.domain_nsec3.proofs.HashLemmas.{first_refused}
+use Rattle.domain_nsec3.{specs.View.{hash_by, parameters_of}, proofs.HashLemmas.first_refused}
 use Rattle.domain_nsec3.proofs.hash.hash_into.Goals as goal
-use Rattle.std.proofs.Common.{arith}
-use Rattle.std.proofs.lemmas.Grind.{common_steps}
+use Rattle.std.proofs.{Common.arith, lemmas.Grind.common_steps}
 
 pub loop-place-preserved : goal.loop-place-preserved
 loop-place-preserved g c = grind (arith, common_steps)

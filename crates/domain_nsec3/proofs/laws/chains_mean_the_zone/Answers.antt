@@ -1,5 +1,4 @@
-use Rattle.domain_nsec3.proofs.AscentLemmas.{owners_ascend}
-use Rattle.domain_nsec3.proofs.MeaningLemmas.{mirrors_zone, tells_encloser, covers_excluded}
+use Rattle.domain_nsec3.proofs.{AscentLemmas.owners_ascend, MeaningLemmas.{mirrors_zone, tells_encloser, covers_excluded}}
 use Rattle.domain_nsec3.proofs.laws.chains_mean_the_zone.Goals as goal
 
 pub returns-clause-ascent : goal.returns-clause-ascent

@@ -1,5 +1,4 @@
-use Rattle.std.proofs.Common.{◌<◌, arith}
-use Rattle.std.proofs.lemmas.List.Elements.{All-from_get_or}
+use Rattle.std.proofs.{Common.{◌<◌, arith}, lemmas.List.Elements.All-from_get_or}
 use Rattle.domain_nsec3.proofs.name_hash.front.Goals as goal
 
 pub returns-clause-octets : goal.returns-clause-octets

@@ -1,8 +1,5 @@
-use Rattle.std.proofs.Common.{arith}
-use Rattle.std.proofs.lemmas.Grind.{common_steps}
-use Rattle.domain_nsec3.proofs.AscentLemmas.{owners_ascend}
-use Rattle.domain_nsec3.proofs.MeaningLemmas.{mirrors_zone, tells_encloser, covers_excluded}
-use Rattle.domain_nsec3.proofs.OwnerLemmas.{cut_encloses}
+use Rattle.std.proofs.{Common.arith, lemmas.Grind.common_steps}
+use Rattle.domain_nsec3.proofs.{AscentLemmas.owners_ascend, MeaningLemmas.{mirrors_zone, tells_encloser, covers_excluded}, OwnerLemmas.cut_encloses}
 use Rattle.domain_nsec3.proofs.nsec3.generate_nsec3s.Goals as goal
 
 pub returns-clause-chain : goal.returns-clause-chain

@@ -1,13 +1,8 @@
 use Rattle.std.proofs.Common.{◌≡◌, ◌∙◌, ◌&&◌, not, sym, ap, map, subst, Err, arith}
-use Rattle.domain_zone.specs.OwnerView.{as_owner_records}
-use Rattle.domain_zone.specs.View.{as_zone_record, zone_of}
-use Rattle.domain_zone.specs.Zone.{has_clash}
-use Rattle.domain_zone.proofs.GivenLemmas.{raw_types, types_at}
-use Rattle.domain_zone.proofs.TtlLemmas.{NeverDescend}
-use Rattle.domain_nsec3.specs.View.{HasherAnswer, config_of}
-use Rattle.domain_nsec3.proofs.StateLemmas.{stays, paired, at_known, at_excluded, at_owner, at_fault, at_end, even_end}
-use Rattle.domain_nsec3.proofs.owners.list_owners.Given.{Over}
-use Rattle.domain_nsec3.proofs.owners.list_owners.Goals.{After-is_unsigned_cut-is_unsigned_cut, After-has_unequal_ttls}
+use Rattle.domain_zone.specs.{OwnerView.as_owner_records, View.{as_zone_record, zone_of}, Zone.has_clash}
+use Rattle.domain_zone.proofs.{GivenLemmas.{raw_types, types_at}, TtlLemmas.NeverDescend}
+use Rattle.domain_nsec3.{specs.View.{HasherAnswer, config_of}, proofs.StateLemmas.{stays, paired, at_known, at_excluded, at_owner, at_fault, at_end, even_end}}
+use Rattle.domain_nsec3.proofs.owners.list_owners.{Given.Over, Goals.{After-is_unsigned_cut-is_unsigned_cut, After-has_unequal_ttls}}
 use Rattle.domain_nsec3.proofs.owners.list_owners.Goals as goal
 use Rattle.std.proofs.lemmas.Grind.{common_steps}
 

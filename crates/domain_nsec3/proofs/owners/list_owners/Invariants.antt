@@ -1,7 +1,6 @@
 use Rattle.std.proofs.Common.{length}
 use Rattle.domain_zone.specs.View.{zone_of}
-use Rattle.domain_nsec3.specs.View.{HasherAnswer, config_of}
-use Rattle.domain_nsec3.proofs.StateLemmas.{IsAt}
+use Rattle.domain_nsec3.{specs.View.{HasherAnswer, config_of}, proofs.StateLemmas.IsAt}
 use Rattle.domain_nsec3.proofs.owners.list_owners.Given as goal
 
 abbrev pub invariant-owners : goal.invariant-owners

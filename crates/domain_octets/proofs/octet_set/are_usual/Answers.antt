@@ -1,7 +1,4 @@
-use Rattle.std.proofs.Common.{◌≡◌, true, subst, take_all, arith}
-use Rattle.std.specs.List.{AllPass}
-use Rattle.std.proofs.lemmas.Bool.{and_parts}
-use Rattle.std.proofs.lemmas.List.Elements.{All-more}
+use Rattle.std.{proofs.{Common.{◌≡◌, true, subst, take_all, arith}, lemmas.{Bool.and_parts, List.Elements.All-more}}, specs.List.AllPass}
 use Rattle.domain_octets.proofs.octet_set.are_usual.Goals as goal
 
 pub loop-octet-preserved : goal.loop-octet-preserved

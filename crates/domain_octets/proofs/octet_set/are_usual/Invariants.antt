@@ -1,5 +1,4 @@
-use Rattle.std.proofs.Common.{IsTrue, take}
-use Rattle.std.specs.List.{AllPass}
+use Rattle.std.{proofs.Common.{IsTrue, take}, specs.List.AllPass}
 use Rattle.domain_octets.proofs.octet_set.are_usual.Given as goal
 
 abbrev pub invariant-loop-octet : goal.invariant-loop-octet

@@ -1,5 +1,4 @@
-use Rattle.std.proofs.Common.{rules}
-use Rattle.std.specs.List.{AllPass}
+use Rattle.std.{proofs.Common.rules, specs.List.AllPass}
 use Rattle.domain_octets.proofs.PrefixLemmas.{searched_eight}
 use Rattle.domain_octets.proofs.octet_set.eights_len.Goals as goal
 

@@ -1,5 +1,4 @@
-use Rattle.std.proofs.Common.{◌≡◌, true, get_or, rules}
-use Rattle.std.proofs.lemmas.List.Elements.{All-more}
+use Rattle.std.proofs.{Common.{◌≡◌, true, get_or, rules}, lemmas.List.Elements.All-more}
 use Rattle.domain_octets.proofs.octet_set.prefix_len.Goals as goal
 
 pub loop-i-preserved : goal.loop-i-preserved

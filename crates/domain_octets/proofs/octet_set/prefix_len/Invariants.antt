@@ -1,5 +1,4 @@
-use Rattle.std.proofs.Common.{take}
-use Rattle.std.specs.List.{AllPass}
+use Rattle.std.{proofs.Common.take, specs.List.AllPass}
 use Rattle.domain_octets.proofs.octet_set.prefix_len.Given as goal
 
 abbrev pub invariant-loop-i : goal.invariant-loop-i

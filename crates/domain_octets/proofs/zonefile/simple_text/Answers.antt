@@ -1,8 +1,5 @@
-use Rattle.std.proofs.Common.{◌≡◌, ◌+◌, ◌++◌, ◌∷◌, [], map, take, sym, ap, ◌∙◌, string_bytes}
-use Rattle.std.proofs.lemmas.List.{take_more, append-nil}
-use Rattle.domain_octets.specs.declared.pieces.Piece.{Piece}
-use Rattle.domain_octets.specs.Piece.{piece_text, tokens_of}
-use Rattle.domain_octets.proofs.PieceLemmas.{tokens_more, tokens_none, line_more}
+use Rattle.std.proofs.{Common.{◌≡◌, ◌+◌, ◌++◌, ◌∷◌, [], map, take, sym, ap, ◌∙◌, string_bytes}, lemmas.List.{take_more, append-nil}}
+use Rattle.domain_octets.{specs.{declared.pieces.Piece.Piece, Piece.{piece_text, tokens_of}}, proofs.PieceLemmas.{tokens_more, tokens_none, line_more}}
 use Rattle.domain_octets.proofs.zonefile.simple_text.Goals as goal
 use Rattle.domain_octets.proofs.zonefile.simple_text.Goals.{in-Token+in_ok-push_token, in_default}
 

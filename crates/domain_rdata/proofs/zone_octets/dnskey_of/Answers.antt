@@ -1,10 +1,6 @@
-use Rattle.std.proofs.Common.{refl, arith}
-use Rattle.std.proofs.lemmas.Grind.{common_steps}
-use Rattle.std.proofs.lemmas.Result.{err_from_is_err_and}
+use Rattle.std.proofs.{Common.{refl, arith}, lemmas.{Grind.common_steps, Result.err_from_is_err_and}}
 use Rattle.domain_keys.specs.Data.{dnskey, dnskey_values}
-use Rattle.domain_rdata.specs.Kind.{key}
-use Rattle.domain_rdata.specs.Refusal.{of_key}
-use Rattle.domain_rdata.proofs.OctetsLemmas.{not_fields, not_copied}
+use Rattle.domain_rdata.{specs.{Kind.key, Refusal.of_key}, proofs.OctetsLemmas.{not_fields, not_copied}}
 use Rattle.domain_rdata.proofs.zone_octets.dnskey_of.Goals as goal
 
 pub returns-in_err-data-clause-err : goal.returns-in_err-data-clause-err

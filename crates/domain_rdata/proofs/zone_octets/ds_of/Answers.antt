@@ -1,10 +1,6 @@
-use Rattle.std.proofs.Common.{refl, arith}
-use Rattle.std.proofs.lemmas.Grind.{common_steps}
-use Rattle.std.proofs.lemmas.Result.{err_from_is_err_and}
+use Rattle.std.proofs.{Common.{refl, arith}, lemmas.{Grind.common_steps, Result.err_from_is_err_and}}
 use Rattle.domain_keys.specs.Data.{ds, ds_values}
-use Rattle.domain_rdata.specs.Kind.{digest}
-use Rattle.domain_rdata.specs.Refusal.{of_digest}
-use Rattle.domain_rdata.proofs.OctetsLemmas.{not_fields, not_copied}
+use Rattle.domain_rdata.{specs.{Kind.digest, Refusal.of_digest}, proofs.OctetsLemmas.{not_fields, not_copied}}
 use Rattle.domain_rdata.proofs.zone_octets.ds_of.Goals as goal
 
 pub returns-in_err-data-clause-err : goal.returns-in_err-data-clause-err

@@ -1,9 +1,6 @@
-use Rattle.std.proofs.Common.{arith}
-use Rattle.std.proofs.lemmas.Grind.{common_steps}
-use Rattle.std.proofs.lemmas.Result.{err_from_is_err_and}
+use Rattle.std.proofs.{Common.arith, lemmas.{Grind.common_steps, Result.err_from_is_err_and}}
 use Rattle.domain_chain_rdata.specs.Rdata.{nsec3_values}
-use Rattle.domain_rdata.specs.Refusal.{salt_by_hash, next_hash, types_by_hash}
-use Rattle.domain_rdata.proofs.OctetsLemmas.{not_nsec3, not_copied}
+use Rattle.domain_rdata.{specs.Refusal.{salt_by_hash, next_hash, types_by_hash}, proofs.OctetsLemmas.{not_nsec3, not_copied}}
 use Rattle.domain_rdata.proofs.zone_octets.nsec3_of.Goals as goal
 
 pub returns-in_err-data-clause-err : goal.returns-in_err-data-clause-err

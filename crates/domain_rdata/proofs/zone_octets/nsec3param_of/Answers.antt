@@ -1,10 +1,6 @@
-use Rattle.std.proofs.Common.{refl, arith}
-use Rattle.std.proofs.lemmas.Grind.{common_steps}
-use Rattle.std.proofs.lemmas.Result.{err_from_is_err_and}
+use Rattle.std.proofs.{Common.{refl, arith}, lemmas.{Grind.common_steps, Result.err_from_is_err_and}}
 use Rattle.domain_chain_rdata.specs.Rdata.{nsec3param, nsec3param_values}
-use Rattle.domain_rdata.specs.Kind.{params}
-use Rattle.domain_rdata.specs.Refusal.{salt}
-use Rattle.domain_rdata.proofs.OctetsLemmas.{not_fields, not_copied}
+use Rattle.domain_rdata.{specs.{Kind.params, Refusal.salt}, proofs.OctetsLemmas.{not_fields, not_copied}}
 use Rattle.domain_rdata.proofs.zone_octets.nsec3param_of.Goals as goal
 
 pub returns-in_err-data-clause-err : goal.returns-in_err-data-clause-err

@@ -1,9 +1,6 @@
-use Rattle.std.proofs.Common.{ℕ, List, arith}
-use Rattle.std.proofs.lemmas.Grind.{common_steps}
-use Rattle.std.proofs.lemmas.Result.{err_from_is_err_and}
+use Rattle.std.proofs.{Common.{ℕ, List, arith}, lemmas.{Grind.common_steps, Result.err_from_is_err_and}}
 use Rattle.domain_chain_rdata.specs.Rdata.{nsec_values}
-use Rattle.domain_rdata.specs.Refusal.{types_by_name}
-use Rattle.domain_rdata.proofs.OctetsLemmas.{not_nsec, not_copied}
+use Rattle.domain_rdata.{specs.Refusal.types_by_name, proofs.OctetsLemmas.{not_nsec, not_copied}}
 use Rattle.domain_rdata.proofs.zone_octets.nsec_of.Goals as goal
 
 pub returns-in_err-data-clause-err : goal.returns-in_err-data-clause-err

@@ -1,8 +1,6 @@
-use Rattle.std.proofs.Common.{None, refl}
-use Rattle.std.proofs.lemmas.Result.{err_from_is_err_and}
+use Rattle.std.proofs.{Common.{None, refl}, lemmas.Result.err_from_is_err_and}
 use Rattle.domain_plain.specs.Plain.{soa}
-use Rattle.domain_rdata.specs.Kind.{plain}
-use Rattle.domain_rdata.proofs.OctetsLemmas.{not_fields}
+use Rattle.domain_rdata.{specs.Kind.plain, proofs.OctetsLemmas.not_fields}
 use Rattle.domain_rdata.proofs.zone_octets.soa_of.Goals as goal
 
 pub returns-in_err-data-clause-err : goal.returns-in_err-data-clause-err

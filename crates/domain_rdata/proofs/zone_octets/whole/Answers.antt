@@ -1,5 +1,4 @@
-use Rattle.std.proofs.Common.{◌<◌, length, subst, arith, rules}
-use Rattle.std.proofs.lemmas.Grind.{common_steps}
+use Rattle.std.proofs.{Common.{◌<◌, length, subst, arith, rules}, lemmas.Grind.common_steps}
 use Rattle.domain_names.specs.Fault.{fault_of}
 use Rattle.domain_rdata.specs.Refusal.{at_fault, goes_on}
 use Rattle.domain_rdata.proofs.zone_octets.whole.Goals as goal

@@ -1,5 +1,4 @@
-use Rattle.std.proofs.Common.{arith}
-use Rattle.std.proofs.lemmas.Grind.{common_steps}
+use Rattle.std.proofs.{Common.arith, lemmas.Grind.common_steps}
 use Rattle.domain_records.proofs.Runs.{run_is_whole}
 use Rattle.domain_records.proofs.group.is_one_run.Goals as goal
 

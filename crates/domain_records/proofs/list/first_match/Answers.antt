@@ -1,5 +1,4 @@
-use Rattle.std.proofs.Common.{arith}
-use Rattle.std.proofs.lemmas.Grind.{common_steps}
+use Rattle.std.proofs.{Common.arith, lemmas.Grind.common_steps}
 use Rattle.domain_records.proofs.Matches.{answered, seen_more}
 use Rattle.domain_records.proofs.list.first_match.Goals as goal
 

@@ -1,5 +1,4 @@
-use Rattle.std.proofs.Common.{ℕ, ◌<◌, get_or, false}
-use Rattle.std.specs.Fn.{FnReturnsAt}
+use Rattle.std.{proofs.Common.{ℕ, ◌<◌, get_or, false}, specs.Fn.FnReturnsAt}
 use Rattle.domain_records.proofs.list.first_match.Given as goal
 
 abbrev pub invariant-loop-i : goal.invariant-loop-i

@@ -1,5 +1,4 @@
-use Rattle.std.proofs.Common.{rules}
-use Rattle.std.proofs.lemmas.Fn.{always_returns_same}
+use Rattle.std.proofs.{Common.rules, lemmas.Fn.always_returns_same}
 use Rattle.domain_records.proofs.SortedLists.{searched}
 use Rattle.domain_records.proofs.list.search.Goals as goal
 

@@ -1,6 +1,4 @@
-use Rattle.std.proofs.Common.{◌≡◌, get_or, sym, ◌∙◌, ap, arith}
-use Rattle.std.proofs.lemmas.Bool.{false≢true}
-use Rattle.std.proofs.lemmas.List.{get_or_default}
+use Rattle.std.proofs.{Common.{◌≡◌, get_or, sym, ◌∙◌, ap, arith}, lemmas.{Bool.false≢true, List.get_or_default}}
 use Rattle.domain_record.specs.declared.record.Record.{Record}
 use Rattle.domain_records.proofs.Lookups.{found, passed}
 use Rattle.domain_records.proofs.lookup.first_place.Goals as goal

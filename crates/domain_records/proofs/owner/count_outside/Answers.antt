@@ -1,8 +1,7 @@
 use Rattle.std.proofs.Common.{arith}
 use Rattle.domain_names.specs.Name.{IsAtOrBelow}
 use Rattle.domain_record.specs.declared.record.Record.{Record}
-use Rattle.domain_records.specs.Slices.{items_of}
-use Rattle.domain_records.proofs.Firsts.{skips_to, if_first_at}
+use Rattle.domain_records.{specs.Slices.items_of, proofs.Firsts.{skips_to, if_first_at}}
 use Rattle.domain_records.proofs.owner.count_outside.Goals as goal
 use Rattle.std.proofs.lemmas.Grind.{common_steps}
 

@@ -1,6 +1,4 @@
-use Rattle.std.proofs.Common.{refl, sym, ◌∙◌, arith}
-use Rattle.std.proofs.lemmas.Bool.{eqb-true}
-use Rattle.std.proofs.lemmas.Option.{get_or_from_slice_get, slice_get_within}
+use Rattle.std.proofs.{Common.{refl, sym, ◌∙◌, arith}, lemmas.{Bool.eqb-true, Option.{get_or_from_slice_get, slice_get_within}}}
 use Rattle.domain_records.specs.Slices.{items_of}
 use Rattle.domain_records.proofs.owner.has_type.Goals as goal
 use Rattle.std.proofs.lemmas.Grind.{common_steps}

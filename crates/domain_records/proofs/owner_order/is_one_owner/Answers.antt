@@ -1,9 +1,5 @@
-use Rattle.std.proofs.Common.{◌≡◌, ◌∙◌, ◌==◌, true}
-use Rattle.std.specs.Cmp.{both_tied, unsigned_ties}
-use Rattle.std.specs.Ordering.{nat_cmp}
-use Rattle.domain_names.specs.Name.{same_name}
-use Rattle.domain_names.specs.Laws.{same_name_ties}
-use Rattle.domain_names.specs.Order.{canonical_cmp}
+use Rattle.std.{proofs.Common.{◌≡◌, ◌∙◌, ◌==◌, true}, specs.{Cmp.{both_tied, unsigned_ties}, Ordering.nat_cmp}}
+use Rattle.domain_names.specs.{Name.same_name, Laws.same_name_ties, Order.canonical_cmp}
 use Rattle.domain_records.proofs.owner_order.is_one_owner.Goals as goal
 
 pub returns-then-eq : goal.returns-then-eq

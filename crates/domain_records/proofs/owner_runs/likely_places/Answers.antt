@@ -1,8 +1,6 @@
-use Rattle.std.proofs.Common.{rules}
-use Rattle.std.proofs.lemmas.Fn.{always_returns_same}
+use Rattle.std.proofs.{Common.rules, lemmas.Fn.always_returns_same}
 use Rattle.domain_record.specs.Record.{record_cmp, record_cmp_total}
-use Rattle.domain_records.specs.OwnerOrder.{compared_runs}
-use Rattle.domain_records.proofs.Placing.{runs_total}
+use Rattle.domain_records.{specs.OwnerOrder.compared_runs, proofs.Placing.runs_total}
 use Rattle.domain_records.proofs.owner_runs.likely_places.Goals as goal
 
 pub sort_by-requires-clause-order : goal.sort_by-requires-clause-order

@@ -1,9 +1,6 @@
-use Rattle.std.proofs.Common.{◌≡◌, ◌≢◌, sym, ◌∙◌}
-use Rattle.std.proofs.lemmas.Bool.{eqb-true, eq-eqb, eqb-false}
+use Rattle.std.proofs.{Common.{◌≡◌, ◌≢◌, sym, ◌∙◌}, lemmas.Bool.{eqb-true, eq-eqb, eqb-false}}
 use Rattle.domain_record.specs.declared.record.Record.{Record}
-use Rattle.domain_records.specs.Groups.{same_ttl}
-use Rattle.domain_records.proofs.Firsts.{if_first_at}
-use Rattle.domain_records.proofs.OrderLemmas.{pairs_of_run, run_of_pairs}
+use Rattle.domain_records.{specs.Groups.same_ttl, proofs.{Firsts.if_first_at, OrderLemmas.{pairs_of_run, run_of_pairs}}}
 use Rattle.domain_records.proofs.rrset.has_one_ttl.Goals as goal
 
 pub returns-else-eq : goal.returns-else-eq

@@ -1,8 +1,5 @@
-use Rattle.std.proofs.Common.{sym, ◌<◌, length}
-use Rattle.std.proofs.lemmas.List.{take-append-drop, length-take-le}
-use Rattle.domain_records.specs.Slices.{items_of}
-use Rattle.domain_records.proofs.Runs.{runs-first}
-use Rattle.domain_records.proofs.RrsetLemmas.{set_or_refusal}
+use Rattle.std.proofs.{Common.{sym, ◌<◌, length}, lemmas.List.{take-append-drop, length-take-le}}
+use Rattle.domain_records.{specs.Slices.items_of, proofs.{Runs.runs-first, RrsetLemmas.set_or_refusal}}
 use Rattle.domain_records.proofs.rrset.take_rrset.Goals as goal
 
 pub returns : goal.returns

@@ -1,5 +1,4 @@
-use Rattle.std.proofs.Common.{sym, Bor}
-use Rattle.std.proofs.lemmas.List.{take-map}
+use Rattle.std.proofs.{Common.{sym, Bor}, lemmas.List.take-map}
 use Rattle.domain_records.proofs.slice.refs_front.Goals as goal
 
 pub returns : goal.returns

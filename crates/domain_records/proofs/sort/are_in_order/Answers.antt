@@ -1,9 +1,5 @@
-use Rattle.std.proofs.Common.{arith, ◌≡◌, Bool, true, List, length, rules, is_lt, IsTrue, refl}
-use Rattle.std.proofs.lemmas.Grind.{common_steps}
-use Rattle.std.specs.List.{AllAdjacentBelow, IsAllAdjacentAnswer}
-use Rattle.std.specs.declared.cmp.Ordering.{Ordering}
-use Rattle.std.specs.declared.cmp.Ordering.TheVariants.{Less}
-use Rattle.std.proofs.lemmas.Fn.{always_returns_same}
+use Rattle.std.proofs.{Common.{arith, ◌≡◌, Bool, true, List, length, rules, is_lt, IsTrue, refl}, lemmas.{Grind.common_steps, Fn.always_returns_same}}
+use Rattle.std.specs.{List.{AllAdjacentBelow, IsAllAdjacentAnswer}, declared.cmp.Ordering.{Ordering, TheVariants.Less}}
 use Rattle.domain_record.specs.Record.{record_cmp}
 use Rattle.domain_records.specs.Places.{compared_places}
 use Rattle.domain_records.proofs.sort.are_in_order.Goals as goal

@@ -1,9 +1,6 @@
-use Rattle.std.proofs.Common.{◌≡◌, ◌∙◌, length, refl, arith}
-use Rattle.std.specs.List.Sorted.{IsPermutation}
-use Rattle.std.proofs.lemmas.List.{take_at}
+use Rattle.std.{proofs.{Common.{◌≡◌, ◌∙◌, length, refl, arith}, lemmas.List.take_at}, specs.List.Sorted.IsPermutation}
 use Rattle.domain_record.specs.Record.{record_cmp, record_cmp_total}
-use Rattle.domain_records.specs.Places.{AreInOrder, IsArranged}
-use Rattle.domain_records.proofs.Placing.{arranged_sort}
+use Rattle.domain_records.{specs.Places.{AreInOrder, IsArranged}, proofs.Placing.arranged_sort}
 use Rattle.domain_records.proofs.sort.sort.Goals as goal
 use Rattle.std.proofs.lemmas.Grind.{common_steps}
 

@@ -1,6 +1,4 @@
-use Rattle.std.proofs.Common.{rules}
-use Rattle.std.proofs.lemmas.Fn.{always_returns_same}
-use Rattle.std.proofs.lemmas.Result.{on_ok_weaker}
+use Rattle.std.proofs.{Common.rules, lemmas.{Fn.always_returns_same, Result.on_ok_weaker}}
 use Rattle.domain_records.proofs.SortedLists.{stable_earliest}
 use Rattle.domain_records.proofs.sort.sort_whole.Goals as goal
 

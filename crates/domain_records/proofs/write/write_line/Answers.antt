@@ -1,5 +1,4 @@
-use Rattle.std.proofs.Common.{refl, [], ◌∷◌}
-use Rattle.std.proofs.lemmas.Result.{on_ok_weaker}
+use Rattle.std.proofs.{Common.{refl, [], ◌∷◌}, lemmas.Result.on_ok_weaker}
 use lib.Utf8.{encode}
 use Rattle.domain_records.proofs.Texts.{one_call}
 use Rattle.domain_records.proofs.write.write_line.Goals as goal

@@ -1,6 +1,4 @@
-use Rattle.std.proofs.Common.{filter, drop}
-use Rattle.std.specs.Bool.{beq}
-use Rattle.std.specs.Fmt.{WritesText}
+use Rattle.std.{proofs.Common.{filter, drop}, specs.{Bool.beq, Fmt.WritesText}}
 use Rattle.domain_records.specs.Text.{texts}
 use Rattle.domain_records.proofs.write.write_part.Given as goal
 

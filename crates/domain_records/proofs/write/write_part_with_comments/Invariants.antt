@@ -1,5 +1,4 @@
-use Rattle.std.proofs.Common.{filter, drop}
-use Rattle.std.specs.Bool.{beq}
+use Rattle.std.{proofs.Common.{filter, drop}, specs.Bool.beq}
 use Rattle.domain_records.specs.Text.{WritesWithComments}
 use Rattle.domain_records.proofs.write.write_part_with_comments.Given as goal
 

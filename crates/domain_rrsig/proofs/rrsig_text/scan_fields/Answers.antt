@@ -1,6 +1,5 @@
 use Rattle.std.proofs.Common.{◌∙◌}
-use Rattle.domain_rrsig.specs.Data.{proto_rrsig_data}
-use Rattle.domain_rrsig.proofs.ScanLemmas.{read_fields, refused_signer}
+use Rattle.domain_rrsig.{specs.Data.proto_rrsig_data, proofs.ScanLemmas.{read_fields, refused_signer}}
 use Rattle.domain_rrsig.proofs.rrsig_text.scan_fields.Goals as goal
 
 pub returns-in-Err-scan-clause-err : goal.returns-in-Err-scan-clause-err

@@ -1,7 +1,5 @@
-use Rattle.std.proofs.Common.{map, length}
-use Rattle.std.specs.Option.{option_map}
-use Rattle.domain_zone.specs.View.{as_zone_record}
-use Rattle.domain_zone.proofs.SoaLemmas.{IsScanned}
+use Rattle.std.{proofs.Common.{map, length}, specs.Option.option_map}
+use Rattle.domain_zone.{specs.View.as_zone_record, proofs.SoaLemmas.IsScanned}
 use Rattle.domain_zone.proofs.soa.find_soa.Given as goal
 
 abbrev pub invariant-records : goal.invariant-records

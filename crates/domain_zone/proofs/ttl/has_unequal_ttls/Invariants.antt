@@ -1,6 +1,5 @@
 use Rattle.std.proofs.Common.{◌≡◌, ◌∷◌, map, length}
-use Rattle.domain_zone.proofs.TtlLemmas.{has_neighbour_clash}
-use Rattle.domain_zone.specs.View.{as_zone_record}
+use Rattle.domain_zone.{proofs.TtlLemmas.has_neighbour_clash, specs.View.as_zone_record}
 use Rattle.domain_zone.proofs.ttl.has_unequal_ttls.Given as goal
 
 abbrev pub invariant-neighbours : goal.invariant-neighbours

@@ -1,6 +1,5 @@
 use Rattle.std.proofs.Common.{map, length}
-use Rattle.domain_zone.specs.View.{as_zone_record}
-use Rattle.domain_zone.proofs.TypeLemmas.{Lists}
+use Rattle.domain_zone.{specs.View.as_zone_record, proofs.TypeLemmas.Lists}
 use Rattle.domain_zone.proofs.types.add_types.Given as goal
 
 abbrev pub invariant-records : goal.invariant-records

@@ -1,5 +1,4 @@
-use Rattle.std.proofs.lemmas.Grind.{common_steps}
-use Rattle.std.proofs.Common.{arith}
+use Rattle.std.proofs.{lemmas.Grind.common_steps, Common.arith}
 use Rattle.denial_program.proofs.CommandLemmas.{same_text}
 use Rattle.judge_program.proofs.CommandLemmas.{no_limit}
 use Rattle.judge_program.proofs.command.limit_of.Goals as goal

@@ -1,8 +1,6 @@
-use Rattle.std.proofs.Common.{[], ◌∷◌, ap, sym, subst, map, arith, IfNone}
-use Rattle.std.specs.Prelude.{string_bytes}
+use Rattle.std.{proofs.Common.{[], ◌∷◌, ap, sym, subst, map, arith, IfNone}, specs.Prelude.string_bytes}
 use Rattle.denial_program.proofs.CommandLemmas.{one_item}
-use Rattle.judge_program.specs.Command.{ShownText}
-use Rattle.judge_program.specs.declared.shown.Shown.{Shown}
+use Rattle.judge_program.specs.{Command.ShownText, declared.shown.Shown.Shown}
 use Rattle.judge_program.proofs.command.shown_of.Goals as goal
 
 pub returns-in-len1-clause-none : goal.returns-in-len1-clause-none

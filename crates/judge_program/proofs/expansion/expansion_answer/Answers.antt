@@ -1,5 +1,4 @@
-use Rattle.std.proofs.Common.{arith, ◌≡◌, refl, sym, subst, IfOk}
-use Rattle.std.proofs.lemmas.Grind.{common_steps}
+use Rattle.std.proofs.{Common.{arith, ◌≡◌, refl, sym, subst, IfOk}, lemmas.Grind.common_steps}
 use Rattle.domain_answer.specs.declared.answer.Answer.TheVariants.{OutsideZone, NotProven, TooManyIterations}
 use Rattle.judge_program.proofs.expansion.expansion_answer.Goals as goal
 

@@ -1,8 +1,6 @@
 use Rattle.std.proofs.Common.{◌++◌}
 use Rattle.domain_nsec3.specs.View.{as_param_record}
-use Rattle.judge_program.specs.Records.{below_text}
-use Rattle.judge_program.specs.Text.{first_line}
-use Rattle.judge_program.proofs.Nsec3RunLemmas.{nsec3_text_is, nsec3_unwritten}
+use Rattle.judge_program.{specs.{Records.below_text, Text.first_line}, proofs.Nsec3RunLemmas.{nsec3_text_is, nsec3_unwritten}}
 use Rattle.judge_program.proofs.judge.judge_nsec3s.Goals as goal
 
 pub returns-in-Ok-clause-ok : goal.returns-in-Ok-clause-ok

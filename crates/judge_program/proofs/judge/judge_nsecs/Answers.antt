@@ -1,7 +1,6 @@
 use Rattle.std.proofs.Common.{◌≡◌, ap, refl, sym, ◌∙◌, subst}
 use Rattle.domain_nsec.specs.ChainView.{links_of}
-use Rattle.denial_program.specs.Check.{AreNsecs}
-use Rattle.denial_program.specs.declared.fault.DenialFault.TheVariants.{OutOfMemory}
+use Rattle.denial_program.specs.{Check.AreNsecs, declared.fault.DenialFault.TheVariants.OutOfMemory}
 use Rattle.judge_program.proofs.RunLemmas.{nsec_text, unwritten}
 use Rattle.judge_program.proofs.judge.judge_nsecs.Goals as goal
 

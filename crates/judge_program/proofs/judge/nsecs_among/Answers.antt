@@ -1,8 +1,6 @@
-use Rattle.std.proofs.Common.{arith, [], ◌∷◌, ap, sym, ◌∙◌, subst}
-use Rattle.std.proofs.lemmas.List.{map-append}
+use Rattle.std.proofs.{Common.{arith, [], ◌∷◌, ap, sym, ◌∙◌, subst}, lemmas.List.map-append}
 use Rattle.domain_nsec.specs.ChainView.{as_link, links_of}
-use Rattle.denial_program.specs.Check.{IsNsecOf}
-use Rattle.denial_program.proofs.AmongLemmas.{ended, goes_end, goes_kept, Goes}
+use Rattle.denial_program.{specs.Check.IsNsecOf, proofs.AmongLemmas.{ended, goes_end, goes_kept, Goes}}
 use Rattle.judge_program.proofs.judge.nsecs_among.Goals as goal
 
 pub left-preserved-in-Continue-1 : goal.left-preserved-in-Continue-1

@@ -1,7 +1,6 @@
 use Rattle.std.proofs.Common.{length}
 use Rattle.domain_nsec.specs.ChainView.{links_of}
-use Rattle.denial_program.specs.Check.{IsNsecOf}
-use Rattle.denial_program.proofs.AmongLemmas.{Goes}
+use Rattle.denial_program.{specs.Check.IsNsecOf, proofs.AmongLemmas.Goes}
 use Rattle.judge_program.proofs.judge.nsecs_among.Given as goal
 
 abbrev pub invariant-left : goal.invariant-left

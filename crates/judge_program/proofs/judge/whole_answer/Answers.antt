@@ -2,8 +2,7 @@ use Rattle.std.proofs.Common.{◌≡◌, refl, sym, subst, IfOk, Err, inr}
 use Rattle.domain_answer.specs.declared.answer.Answer.TheVariants.{OutsideZone, AtParent, TooManyIterations}
 use Rattle.domain_checker.specs.HashedView.{hashed_records}
 use Rattle.domain_records.specs.declared.error.SigningError.TheVariants.{Nsec3HashingError}
-use Rattle.denial_program.specs.declared.fault.DenialFault.TheVariants.{Signing}
-use Rattle.denial_program.proofs.CheckLemmas.{hasher_refused}
+use Rattle.denial_program.{specs.declared.fault.DenialFault.TheVariants.Signing, proofs.CheckLemmas.hasher_refused}
 use Rattle.judge_program.proofs.judge.whole_answer.Goals as goal
 
 pub returns-in-Ok-clause-ok : goal.returns-in-Ok-clause-ok

@@ -1,14 +1,8 @@
-use Rattle.std.proofs.Common.{◌≡◌, ◌++◌, ◌||◌, false, ap, sym, ◌∙◌, subst, OnOk}
-use Rattle.std.proofs.lemmas.List.Folds.{list_any-append}
-use Rattle.std.specs.List.{list_any}
-use Rattle.std.specs.Option.{option_map, option_to_list}
-use Rattle.std.specs.Io.KnownBytes.{Appends}
+use Rattle.std.proofs.{Common.{◌≡◌, ◌++◌, ◌||◌, false, ap, sym, ◌∙◌, subst, OnOk}, lemmas.List.Folds.list_any-append}
+use Rattle.std.specs.{List.list_any, Option.{option_map, option_to_list}, Io.KnownBytes.Appends}
 use Rattle.domain_nsec3.specs.View.{as_hashed_link}
-use Rattle.denial_program.specs.Text.{nsec3_line}
-use Rattle.denial_program.proofs.AnswerLemmas.{on_ok}
-use Rattle.denial_program.proofs.RunLemmas.{nsec3_printed}
-use Rattle.judge_program.specs.Records.{is_told, nsec3_once, same_hashed_link}
-use Rattle.judge_program.proofs.RecordsLemmas.{new_once}
+use Rattle.denial_program.{specs.Text.nsec3_line, proofs.{AnswerLemmas.on_ok, RunLemmas.nsec3_printed}}
+use Rattle.judge_program.{specs.Records.{is_told, nsec3_once, same_hashed_link}, proofs.RecordsLemmas.new_once}
 use Rattle.judge_program.proofs.nsec3_records.write_once.Goals as goal
 
 pub returns : goal.returns

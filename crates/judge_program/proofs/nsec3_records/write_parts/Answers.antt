@@ -1,13 +1,8 @@
-use Rattle.std.proofs.Common.{◌≡◌, ◌++◌, ◌||◌, if◌then◌else◌, [], true, ap, sym, ◌∙◌, subst, codes}
-use Rattle.std.proofs.lemmas.Bool.{cond-true}
-use Rattle.std.specs.Option.{is_some, option_map, option_to_list}
-use Rattle.std.specs.Io.KnownBytes.{Appends}
+use Rattle.std.proofs.{Common.{◌≡◌, ◌++◌, ◌||◌, if◌then◌else◌, [], true, ap, sym, ◌∙◌, subst, codes}, lemmas.Bool.cond-true}
+use Rattle.std.specs.{Option.{is_some, option_map, option_to_list}, Io.KnownBytes.Appends}
 use Rattle.domain_nsec3.specs.View.{as_hashed_link, as_param_record}
-use Rattle.denial_program.specs.Text.{nsec3param_line}
-use Rattle.denial_program.proofs.AnswerLemmas.{on_ok}
-use Rattle.denial_program.proofs.RunLemmas.{appends_more}
-use Rattle.judge_program.specs.Records.{nsec3_once}
-use Rattle.judge_program.proofs.RecordsLemmas.{is_some_mapped, param_line_printed}
+use Rattle.denial_program.{specs.Text.nsec3param_line, proofs.{AnswerLemmas.on_ok, RunLemmas.appends_more}}
+use Rattle.judge_program.{specs.Records.nsec3_once, proofs.RecordsLemmas.{is_some_mapped, param_line_printed}}
 use Rattle.judge_program.proofs.nsec3_records.write_parts.Goals as goal
 
 pub returns-then-is_some : goal.returns-then-is_some

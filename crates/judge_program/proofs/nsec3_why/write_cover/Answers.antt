@@ -1,12 +1,7 @@
-use Rattle.std.proofs.Common.{◌++◌, codes, ap, sym, ◌∙◌, subst, OnOk, None}
-use Rattle.std.specs.Io.KnownBytes.{Appends}
-use Rattle.std.specs.Option.{option_map}
+use Rattle.std.{proofs.Common.{◌++◌, codes, ap, sym, ◌∙◌, subst, OnOk, None}, specs.{Io.KnownBytes.Appends, Option.option_map}}
 use Rattle.domain_nsec3.specs.View.{as_hashed_link}
-use Rattle.denial_program.specs.Text.{nsec3_line}
-use Rattle.denial_program.proofs.AnswerLemmas.{on_ok}
-use Rattle.denial_program.proofs.RunLemmas.{nsec3_printed}
-use Rattle.judge_program.specs.Why.{nsec3_shown, role_text}
-use Rattle.judge_program.proofs.WhyLemmas.{shown_parts}
+use Rattle.denial_program.{specs.Text.nsec3_line, proofs.{AnswerLemmas.on_ok, RunLemmas.nsec3_printed}}
+use Rattle.judge_program.{specs.Why.{nsec3_shown, role_text}, proofs.WhyLemmas.shown_parts}
 use Rattle.judge_program.proofs.nsec3_why.write_cover.Goals as goal
 
 pub returns-in-Some : goal.returns-in-Some

@@ -1,12 +1,8 @@
-use Rattle.std.proofs.Common.{◌+◌, min, ap, sym, ◌∙◌, subst, None, Some, OnOk}
-use Rattle.std.specs.Io.KnownBytes.{Appends}
-use Rattle.std.specs.Option.{option_map}
+use Rattle.std.{proofs.Common.{◌+◌, min, ap, sym, ◌∙◌, subst, None, Some, OnOk}, specs.{Io.KnownBytes.Appends, Option.option_map}}
 use Rattle.domain_checker.specs.HashedEncloser.{encloser_of}
 use Rattle.domain_names.specs.Name.{last_labels}
-use Rattle.denial_program.proofs.AnswerLemmas.{on_ok}
-use Rattle.denial_program.proofs.RunLemmas.{appends_more}
-use Rattle.judge_program.specs.Why.{encloser_role, encloser_told, nsec3_shown}
-use Rattle.judge_program.specs.declared.role.Role.TheVariants.{NextCloser}
+use Rattle.denial_program.proofs.{AnswerLemmas.on_ok, RunLemmas.appends_more}
+use Rattle.judge_program.specs.{Why.{encloser_role, encloser_told, nsec3_shown}, declared.role.Role.TheVariants.NextCloser}
 use Rattle.judge_program.proofs.Nsec3WhyLemmas.{closer_labels, match_line, told_alone, told_both}
 use Rattle.judge_program.proofs.nsec3_why.write_encloser.Goals as goal
 

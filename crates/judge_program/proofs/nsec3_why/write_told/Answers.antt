@@ -1,12 +1,8 @@
-use Rattle.std.proofs.Common.{◌++◌, codes, ap, sym, ◌∙◌, subst, OnOk}
-use Rattle.std.specs.Io.KnownBytes.{Appends}
+use Rattle.std.{proofs.Common.{◌++◌, codes, ap, sym, ◌∙◌, subst, OnOk}, specs.Io.KnownBytes.Appends}
 use Rattle.domain_nsec3.specs.View.{as_hashed_link}
 use Rattle.domain_checker.specs.HashedPass.{found_cover, found_match}
-use Rattle.denial_program.specs.Text.{nsec3_line}
-use Rattle.denial_program.proofs.AnswerLemmas.{on_ok}
-use Rattle.denial_program.proofs.RunLemmas.{nsec3_printed}
-use Rattle.judge_program.specs.Why.{nsec3_shown, role_text}
-use Rattle.judge_program.proofs.WhyLemmas.{shown_parts}
+use Rattle.denial_program.{specs.Text.nsec3_line, proofs.{AnswerLemmas.on_ok, RunLemmas.nsec3_printed}}
+use Rattle.judge_program.{specs.Why.{nsec3_shown, role_text}, proofs.WhyLemmas.shown_parts}
 use Rattle.judge_program.proofs.nsec3_why.write_told.Goals as goal
 
 pub returns-in-Match : goal.returns-in-Match

@@ -1,11 +1,7 @@
-use Rattle.std.proofs.Common.{map, string_bytes}
-use Rattle.std.specs.Str.Lines.{lines}
-use Rattle.std.specs.Io.KnownBytes.{Appends}
+use Rattle.std.{proofs.Common.{map, string_bytes}, specs.{Str.Lines.lines, Io.KnownBytes.Appends}}
 use Rattle.domain_octets.specs.Words.{Octets}
-use Rattle.denial_program.proofs.AnswerLemmas.{on_ok}
-use Rattle.denial_program.proofs.LineReading.{known_so}
-use Rattle.judge_program.specs.Run.{Judges}
-use Rattle.judge_program.proofs.RunLemmas.{text_unwritten}
+use Rattle.denial_program.proofs.{AnswerLemmas.on_ok, LineReading.known_so}
+use Rattle.judge_program.{specs.Run.Judges, proofs.RunLemmas.text_unwritten}
 use Rattle.judge_program.proofs.program.run_judge.Goals as goal
 
 pub returns-clause-ok : goal.returns-clause-ok

@@ -1,5 +1,4 @@
-use Rattle.std.proofs.Common.{arith}
-use Rattle.std.proofs.lemmas.Grind.{common_steps}
+use Rattle.std.proofs.{Common.arith, lemmas.Grind.common_steps}
 use Rattle.denial_program.proofs.RunLemmas.{nsec_printed}
 use Rattle.judge_program.proofs.why.write_found.Goals as goal
 

@@ -1,12 +1,10 @@
-use Rattle.std.proofs.Common.{arith, List, inr}
-use Rattle.std.proofs.lemmas.Grind.{common_steps}
+use Rattle.std.proofs.{Common.{arith, List, inr}, lemmas.Grind.common_steps}
 use Rattle.domain_alike.specs.Alike.{AreAlike, Pair}
 use Rattle.domain_names.specs.Words.{Name}
 use Rattle.domain_borrowed.specs.Data.{RawRecord, zone_of_raw}
 use Rattle.domain_nsec3.specs.View.{HasherAnswer}
 use Rattle.domain_records.specs.Order.{IsOneClass}
-use Rattle.denial_program.specs.Answer.{usual_nsec3_config, Sorts}
-use Rattle.denial_program.specs.Command.{Params}
+use Rattle.denial_program.specs.{Answer.{usual_nsec3_config, Sorts}, Command.Params}
 use Rattle.lint_program.specs.Alike.{AreToldAlike}
 use Rattle.lint_program.proofs.alike.alike_of.Goals as goal
 

@@ -1,5 +1,4 @@
-use Rattle.std.proofs.Common.{map, take}
-use Rattle.std.specs.Io.KnownBytes.{Appends}
+use Rattle.std.{proofs.Common.{map, take}, specs.Io.KnownBytes.Appends}
 use Rattle.domain_alike.specs.Alike.{pair_of}
 use Rattle.lint_program.specs.Alike.{alike_text}
 use Rattle.lint_program.proofs.alike_text.write_pairs.Given as goal

@@ -1,5 +1,4 @@
-use Rattle.std.proofs.Common.{◌≡◌, false, take}
-use Rattle.std.specs.List.{list_any}
+use Rattle.std.{proofs.Common.{◌≡◌, false, take}, specs.List.list_any}
 use Rattle.lint_program.specs.Notes.{is_apex_soa}
 use Rattle.lint_program.proofs.notes.has_soa.Given as goal
 

@@ -1,9 +1,6 @@
 use Rattle.std.proofs.Common.{◌≡◌, ◌∙◌, ◌+◌, ◌<◌, ◌∷◌, ◌++◌, [], ap, append-nil, append_assoc, arith, false, get_or, length, map, subst, sym, take}
 use Rattle.std.proofs.lemmas.List.{take_more}
-use Rattle.lint_program.specs.Firsts.{AreFirsts}
-use Rattle.lint_program.specs.Notes.{earlier, first_in, mark_of, IsToldOf}
-use Rattle.lint_program.specs.Notes.Found.{nothing}
-use Rattle.lint_program.specs.declared.reading.Place.{Place}
+use Rattle.lint_program.specs.{Firsts.AreFirsts, Notes.{earlier, first_in, mark_of, IsToldOf, Found.nothing}, declared.reading.Place.Place}
 use Rattle.lint_program.proofs.NoteLemmas.{found_more}
 use Rattle.lint_program.proofs.notes.note_each.Goals as goal
 

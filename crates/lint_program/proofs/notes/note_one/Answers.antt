@@ -1,5 +1,4 @@
-use Rattle.std.proofs.Common.{◌∙◌, ap, inl, map, refl, subst}
-use Rattle.std.proofs.lemmas.List.{map-append}
+use Rattle.std.proofs.{Common.{◌∙◌, ap, inl, map, refl, subst}, lemmas.List.map-append}
 use Rattle.lint_program.specs.Notes.{mark_of, Deserves}
 use Rattle.lint_program.proofs.notes.note_one.Goals as goal
 

@@ -1,6 +1,4 @@
-use Rattle.std.proofs.lemmas.Grind.{common_steps}
-use Rattle.std.proofs.Common.{◌≡◌, ℕ, ◌+◌, ◌-◌, ◌<◌, ◌==◌, List, arith, cond, get_or, length, take}
-use Rattle.std.proofs.lemmas.List.Sums.{fold_more}
+use Rattle.std.proofs.{lemmas.{Grind.common_steps, List.Sums.fold_more}, Common.{◌≡◌, ℕ, ◌+◌, ◌-◌, ◌<◌, ◌==◌, List, arith, cond, get_or, length, take}}
 use Rattle.lint_program.specs.Odd.{to_come}
 use Rattle.lint_program.proofs.odd.are_texts.Goals as goal
 

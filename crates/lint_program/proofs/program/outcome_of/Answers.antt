@@ -1,5 +1,4 @@
-use Rattle.std.proofs.Common.{◌≡◌, ◌<◌, List, [], ◌∷◌, arith, inr, length, map, refl, subst}
-use Rattle.std.proofs.lemmas.Bool.Decides.{nat_tests}
+use Rattle.std.proofs.{Common.{◌≡◌, ◌<◌, List, [], ◌∷◌, arith, inr, length, map, refl, subst}, lemmas.Bool.Decides.nat_tests}
 use Rattle.lint_program.specs.Report.{IfRefused}
 use Rattle.lint_program.proofs.program.outcome_of.Goals as goal
 

@@ -1,28 +1,16 @@
 use Rattle.std.proofs.lemmas.Grind.{common_steps}
-use Rattle.std.proofs.Common.{◌≡◌, ◌∙◌, ◌++◌, ◌==◌, ap, arith, inl, inr, length, map, refl, string_bytes, subst, sym, vec_len, IsErrAnd, IsErrOf}
-use Rattle.std.proofs.Common.{MatchResult, Option, Result}
-use Rattle.std.proofs.lemmas.List.{length-map}
-use Rattle.std.specs.Str.Lines.{lines}
-use Rattle.std.specs.Io.KnownBytes.{Appends}
+use Rattle.std.proofs.Common.{◌≡◌, ◌∙◌, ◌++◌, ◌==◌, ap, arith, inl, inr, length, map, refl, string_bytes, subst, sym, vec_len, IsErrAnd, IsErrOf, MatchResult}
+use Rattle.std.{proofs.{Common.{Option, Result}, lemmas.List.length-map}, specs.{Str.Lines.lines, Io.KnownBytes.Appends}}
 use Rattle.domain_names.specs.Words.{Name}
 use Rattle.domain_octets.specs.Words.{Octets}
 use Rattle.domain_hasher.specs.declared.error.Nsec3HashError.TheVariants as hash_error
 use Rattle.domain_records.specs.declared.error.SigningError.TheVariants as signing_error
-use Rattle.denial_program.specs.Command.{Params}
-use Rattle.denial_program.specs.declared.fault.DenialFault.{DenialFault}
-use Rattle.denial_program.specs.declared.fault.DenialFault.TheVariants.{OutOfMemory as Memory, Signing}
+use Rattle.denial_program.specs.{Command.Params, declared.fault.DenialFault.{DenialFault, TheVariants.{OutOfMemory as Memory, Signing}}}
 use Rattle.denial_program.proofs.LineReading.{known_so}
 use Rattle.domain_alike.specs.Alike.{pair_of}
-use Rattle.lint_program.specs.Alike.{alike_text, AreTold, IsRefusalBy}
-use Rattle.lint_program.specs.Command.{Asks, IsRunFault}
-use Rattle.lint_program.specs.HashedReport.{outcome_with, IsTold}
-use Rattle.lint_program.specs.Notes.{mark_of}
-use Rattle.lint_program.specs.Outcomes.{is_faulty}
-use Rattle.lint_program.specs.Report.{AreFaults, AreNotes, IsOutcome, IsReport}
-use Rattle.lint_program.specs.declared.reading.BadLine.{BadLine}
-use Rattle.lint_program.specs.declared.reading.Place.{Place}
-use Rattle.lint_program.proofs.NoteLemmas.{noted_of}
-use Rattle.lint_program.proofs.ToldLemmas.{hashed_command, refused_of, told_of}
+use Rattle.lint_program.specs.{Alike.{alike_text, AreTold, IsRefusalBy}, Command.{Asks, IsRunFault}, HashedReport.{outcome_with, IsTold}, Notes.mark_of}
+use Rattle.lint_program.specs.{Outcomes.is_faulty, Report.{AreFaults, AreNotes, IsOutcome, IsReport}, declared.reading.{BadLine.BadLine, Place.Place}}
+use Rattle.lint_program.proofs.{NoteLemmas.noted_of, ToldLemmas.{hashed_command, refused_of, told_of}}
 use Rattle.lint_program.proofs.program.run_lint.Goals as goal
 
 -- what holds of an error that is handed on

@@ -1,5 +1,4 @@
-use Rattle.std.proofs.Common.{ap, subst, Err}
-use Rattle.std.specs.Str.Lines.{lines}
+use Rattle.std.{proofs.Common.{ap, subst, Err}, specs.Str.Lines.lines}
 use Rattle.denial_program.specs.Listing.{IsFirstBad}
 use Rattle.lint_program.proofs.Following.{only_bad}
 use Rattle.lint_program.proofs.reading.read_line.Goals as goal

@@ -1,10 +1,6 @@
-use Rattle.std.proofs.lemmas.Grind.{common_steps}
-use Rattle.std.proofs.Common.{◌≡◌, ◌∙◌, ◌<◌, ◌∷◌, [], List, ℕ, ap, arith, length, map, subst, sym}
-use Rattle.std.proofs.lemmas.List.{map-append}
+use Rattle.std.proofs.{lemmas.{Grind.common_steps, List.map-append}, Common.{◌≡◌, ◌∙◌, ◌<◌, ◌∷◌, [], List, ℕ, ap, arith, length, map, subst, sym}}
 use Rattle.std.specs.Str.Lines.{lines}
-use Rattle.lint_program.specs.Lines.{Reads}
-use Rattle.lint_program.specs.declared.reading.BadLine.{BadLine}
-use Rattle.lint_program.specs.declared.reading.Place.{Place}
+use Rattle.lint_program.specs.{Lines.Reads, declared.reading.{BadLine.BadLine, Place.Place}}
 use Rattle.lint_program.proofs.Following.{follows_bad, follows_end, follows_next, follows_nothing, follows_record, paired_more}
 use Rattle.lint_program.proofs.reading.read_lines.Goals as goal
 use Rattle.lint_program.proofs.reading.read_lines.Goals.{in-Nothing, in-Record+in_ok-push-in-Record+in_ok-push-in-Record-2}

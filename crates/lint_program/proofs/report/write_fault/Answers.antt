@@ -1,5 +1,4 @@
-use Rattle.std.proofs.Common.{codes}
-use Rattle.std.specs.Fmt.{decimal}
+use Rattle.std.{proofs.Common.codes, specs.Fmt.decimal}
 use Rattle.denial_program.proofs.RunLemmas.{appends_more}
 use Rattle.lint_program.proofs.ReportLemmas.{fault_grouped}
 use Rattle.lint_program.proofs.report.write_fault.Goals as goal

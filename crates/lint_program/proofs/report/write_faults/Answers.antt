@@ -1,9 +1,6 @@
-use Rattle.std.proofs.Common.{◌++◌, ap, map, sym, subst, take, ◌∙◌}
-use Rattle.std.proofs.lemmas.List.{map-append, take_more}
+use Rattle.std.proofs.{Common.{◌++◌, ap, map, sym, subst, take, ◌∙◌}, lemmas.List.{map-append, take_more}}
 use Rattle.denial_program.proofs.RunLemmas.{appends_more}
-use Rattle.lint_program.specs.Report.{AreFaults}
-use Rattle.lint_program.specs.declared.reading.BadLine.{BadLine}
-use Rattle.lint_program.proofs.ReportLemmas.{faults_more}
+use Rattle.lint_program.{specs.{Report.AreFaults, declared.reading.BadLine.BadLine}, proofs.ReportLemmas.faults_more}
 use Rattle.lint_program.proofs.report.write_faults.Goals as goal
 
 pub loop-line-preserved : goal.loop-line-preserved

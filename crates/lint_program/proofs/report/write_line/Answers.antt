@@ -1,7 +1,6 @@
 use Rattle.std.proofs.Common.{◌++◌, codes}
 use Rattle.denial_program.proofs.RunLemmas.{appends_more}
-use Rattle.lint_program.specs.Report.{place_text}
-use Rattle.lint_program.proofs.ReportLemmas.{note_grouped}
+use Rattle.lint_program.{specs.Report.place_text, proofs.ReportLemmas.note_grouped}
 use Rattle.lint_program.proofs.report.write_line.Goals as goal
 
 pub returns : goal.returns

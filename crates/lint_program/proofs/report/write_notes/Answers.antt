@@ -1,9 +1,6 @@
-use Rattle.std.proofs.Common.{◌∙◌, ◌∷◌, ◌++◌, [], ap, map, subst, sym, take}
-use Rattle.std.proofs.lemmas.List.{map-append, take_more}
+use Rattle.std.proofs.{Common.{◌∙◌, ◌∷◌, ◌++◌, [], ap, map, subst, sym, take}, lemmas.List.{map-append, take_more}}
 use Rattle.denial_program.proofs.RunLemmas.{appends_more}
-use Rattle.lint_program.specs.Notes.{mark_of}
-use Rattle.lint_program.specs.Report.{AreNotes}
-use Rattle.lint_program.proofs.ReportLemmas.{notes_more}
+use Rattle.lint_program.{specs.{Notes.mark_of, Report.AreNotes}, proofs.ReportLemmas.notes_more}
 use Rattle.lint_program.proofs.report.write_notes.Goals as goal
 
 pub loop-note-preserved : goal.loop-note-preserved

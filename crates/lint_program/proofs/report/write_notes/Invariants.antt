@@ -1,8 +1,6 @@
-use Rattle.std.proofs.Common.{map, take}
-use Rattle.std.specs.Io.KnownBytes.{Appends}
+use Rattle.std.{proofs.Common.{map, take}, specs.Io.KnownBytes.Appends}
 use Rattle.domain_octets.specs.Words.{Octets}
-use Rattle.lint_program.specs.Notes.{mark_of}
-use Rattle.lint_program.specs.Report.{AreNotes}
+use Rattle.lint_program.specs.{Notes.mark_of, Report.AreNotes}
 use Rattle.lint_program.proofs.report.write_notes.Given as goal
 
 -- the notes so far were told

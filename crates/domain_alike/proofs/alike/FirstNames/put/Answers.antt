@@ -1,7 +1,6 @@
 use Rattle.std.proofs.Common.{◌∙◌, cond, Some, sym}
 use Rattle.std.specs.BTreeMap as tree
-use Rattle.std.specs.Cmp.Lexicographic.{slice_cmp}
-use Rattle.std.specs.Ordering.{is_eq, nat_cmp}
+use Rattle.std.specs.{Cmp.Lexicographic.slice_cmp, Ordering.{is_eq, nat_cmp}}
 use Rattle.domain_alike.proofs.AlikeLemmas.{kept_name, new_name, none_of, some_of}
 use Rattle.domain_alike.proofs.alike.FirstNames.put.Goals as goal
 

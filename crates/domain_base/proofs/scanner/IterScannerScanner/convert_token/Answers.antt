@@ -1,5 +1,4 @@
-use Rattle.std.proofs.Common.{arith}
-use Rattle.std.proofs.lemmas.Grind.{common_steps}
+use Rattle.std.proofs.{Common.arith, lemmas.Grind.common_steps}
 use Rattle.domain_base.proofs.ScanLemmas.{no_token, refused_token}
 use Rattle.domain_base.proofs.scanner.IterScannerScanner.convert_token.Goals as goal
 

@@ -1,6 +1,5 @@
 use Rattle.std.proofs.Common.{sym, ◌∙◌, subst}
-use Rattle.domain_bitmap.specs.Blocks.{IsBitmap}
-use Rattle.domain_bitmap.proofs.BitmapLemmas.{IsBitmap-bitmap_octets}
+use Rattle.domain_bitmap.{specs.Blocks.IsBitmap, proofs.BitmapLemmas.IsBitmap-bitmap_octets}
 use Rattle.domain_bitmap.proofs.builder.RtypeBitmapBuilder.finalize.Goals as goal
 
 pub over-requires : goal.over-requires

@@ -1,5 +1,4 @@
-use Rattle.std.proofs.Common.{arith}
-use Rattle.std.proofs.lemmas.Grind.{common_steps}
+use Rattle.std.proofs.{Common.arith, lemmas.Grind.common_steps}
 use Rattle.domain_names.specs.TextFault.{scan_fault_of}
 use Rattle.domain_bitmap.proofs.SaltLemmas.{no_token, took_dash, refused_dash, digits_ok, digits_err}
 use Rattle.domain_bitmap.proofs.hash_scan.Nsec3Salt+O.scan.Goals as goal

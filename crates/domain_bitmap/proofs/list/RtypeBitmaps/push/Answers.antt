@@ -1,5 +1,4 @@
-use Rattle.std.proofs.Common.{arith}
-use Rattle.std.proofs.lemmas.Grind.{common_steps}
+use Rattle.std.proofs.{Common.arith, lemmas.Grind.common_steps}
 use Rattle.domain_bitmap.proofs.ListLemmas.{AreBitmaps-push}
 use Rattle.domain_bitmap.proofs.list.RtypeBitmaps.push.Goals as goal
 

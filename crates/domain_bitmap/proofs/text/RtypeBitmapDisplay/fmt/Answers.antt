@@ -1,6 +1,4 @@
-use Rattle.std.proofs.Common.{◌++◌, ◌∷◌, [], refl, sym, ap, ◌∙◌, arith}
-use Rattle.std.proofs.Output.{has_written_append, writes_in_calls_nil}
-use Rattle.std.proofs.lemmas.List.{append_assoc}
+use Rattle.std.proofs.{Common.{◌++◌, ◌∷◌, [], refl, sym, ap, ◌∙◌, arith}, Output.{has_written_append, writes_in_calls_nil}, lemmas.List.append_assoc}
 use Rattle.domain_base.specs.Numbers.{type_text}
 use Rattle.domain_bitmap.specs.Text.{types_text, spaced_types}
 use Rattle.domain_bitmap.proofs.text.RtypeBitmapDisplay.fmt.Goals as goal

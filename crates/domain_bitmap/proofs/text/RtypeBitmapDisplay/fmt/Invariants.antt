@@ -1,7 +1,5 @@
-use Rattle.std.proofs.Common.{◌≡◌, List, ℕ, ◌++◌}
-use Rattle.std.specs.Fmt.{HasWritten, IsPlainFormatter}
-use Rattle.domain_bitmap.specs.Blocks.{types_of}
-use Rattle.domain_bitmap.specs.Text.{types_text, spaced_types}
+use Rattle.std.{proofs.Common.{◌≡◌, List, ℕ, ◌++◌}, specs.Fmt.{HasWritten, IsPlainFormatter}}
+use Rattle.domain_bitmap.specs.{Blocks.types_of, Text.{types_text, spaced_types}}
 use Rattle.domain_bitmap.proofs.text.RtypeBitmapDisplay.fmt.Given as goal
 
 -- what is written and the types that are left are the text

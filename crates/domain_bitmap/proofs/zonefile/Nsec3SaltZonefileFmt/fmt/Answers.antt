@@ -1,6 +1,5 @@
 use Rattle.domain_bitmap.proofs.zonefile.Nsec3SaltZonefileFmt.fmt.Goals as goal
-use Rattle.std.proofs.Common.{arith}
-use Rattle.std.proofs.lemmas.Grind.{common_steps}
+use Rattle.std.proofs.{Common.arith, lemmas.Grind.common_steps}
 
 pub returns : goal.returns
 returns g c = grind (arith, common_steps)

@@ -1,6 +1,5 @@
 use Rattle.std.proofs.Common.{◌≡◌, ◌++◌}
-use Rattle.domain_bitmap.specs.Blocks.{types_of}
-use Rattle.domain_bitmap.specs.Pieces.{type_pieces}
+use Rattle.domain_bitmap.specs.{Blocks.types_of, Pieces.type_pieces}
 use Rattle.domain_bitmap.proofs.zonefile.RtypeBitmapZonefileFmt.fmt.Given as goal
 
 -- what is written and the types that are left are the pieces

@@ -1,10 +1,6 @@
-use Rattle.std.proofs.Common.{◌≡◌, ap, ◌∙◌, rules}
-use Rattle.std.specs.Ordering.{is_eq, nat_cmp}
-use Rattle.std.specs.Cmp.Lexicographic.{slice_cmp}
-use Rattle.std.specs.Prelude.{bytes_eq}
-use Rattle.std.proofs.lemmas.Map.Text.{is_eq-slice_cmp}
-use Rattle.domain_chain_rdata.specs.Rdata.{nsec3_values, nsec3_octets}
-use Rattle.domain_chain_rdata.proofs.Nsec3Lemmas.{same_nsec3}
+use Rattle.std.proofs.{Common.{◌≡◌, ap, ◌∙◌, rules}, lemmas.Map.Text.is_eq-slice_cmp}
+use Rattle.std.specs.{Ordering.{is_eq, nat_cmp}, Cmp.Lexicographic.slice_cmp, Prelude.bytes_eq}
+use Rattle.domain_chain_rdata.{specs.Rdata.{nsec3_values, nsec3_octets}, proofs.Nsec3Lemmas.same_nsec3}
 use Rattle.domain_chain_rdata.proofs.nsec3.Nsec3.eq_to.Goals as goal
 
 ordered : (g : _) (c : goal.After-is_eq g) → c.order.result ≡ slice_cmp nat_cmp (nsec3_octets c.args.self.now) (nsec3_octets c.args.other.now)

@@ -1,9 +1,7 @@
 use Rattle.std.proofs.Common.{refl, sym, subst}
 use Rattle.domain_octets.specs.Words.{AreOctets}
-use Rattle.domain_chain_rdata.specs.Nsec3Wire.{BeginsNsec3}
+use Rattle.domain_chain_rdata.{specs.{Nsec3Wire.BeginsNsec3, Rdata.{hash_fields, nsec3param_values}}, proofs.Nsec3Lemmas.{fields_then_types, fields_then_fault}}
 use Rattle.domain_fields.specs.Layout.{Values}
-use Rattle.domain_chain_rdata.specs.Rdata.{hash_fields, nsec3param_values}
-use Rattle.domain_chain_rdata.proofs.Nsec3Lemmas.{fields_then_types, fields_then_fault}
 use Rattle.domain_chain_rdata.proofs.nsec3_wire.Nsec3+ref+slice+u8.parse.Goals as goal
 
 pub returns-in-Ok-parse-clause-ok : goal.returns-in-Ok-parse-clause-ok

@@ -1,5 +1,4 @@
-use Rattle.std.proofs.Common.{arith, refl, subst}
-use Rattle.std.proofs.lemmas.Grind.{common_steps}
+use Rattle.std.proofs.{Common.{arith, refl, subst}, lemmas.Grind.common_steps}
 use Rattle.domain_octets.specs.Words.{AreOctets}
 use Rattle.domain_chain_rdata.proofs.NsecLemmas.{name_then_types, name_then_fault}
 use Rattle.domain_chain_rdata.proofs.nsec_wire.Nsec+ref+slice+u8+ParsedName.parse.Goals as goal

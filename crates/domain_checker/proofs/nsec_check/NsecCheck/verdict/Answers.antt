@@ -1,15 +1,9 @@
-use Rattle.std.proofs.Common.{◌≡◌, ◌≢◌, ◌<◌, ℕ, List, true, sym, ap, ◌∙◌, subst, cond, length, arith}
-use Rattle.std.specs.Option.{unwrap_or}
-use Rattle.domain_names.specs.Name.{is_at_or_below}
-use Rattle.domain_names.specs.Words.{Name}
+use Rattle.std.{proofs.Common.{◌≡◌, ◌≢◌, ◌<◌, ℕ, List, true, sym, ap, ◌∙◌, subst, cond, length, arith}, specs.Option.unwrap_or}
+use Rattle.domain_names.specs.{Name.is_at_or_below, Words.Name}
 use Rattle.domain_nsec.specs.Chain.{Link}
-use Rattle.domain_checker.specs.HandedIn.{HasRead}
-use Rattle.domain_checker.specs.declared.nsec_check.NsecCheck.{NsecCheck}
-use Rattle.domain_checker.specs.declared.verdict.Verdict.TheVariants.{NotProven, OutsideZone}
-use Rattle.domain_checker.specs.Verdict.{IsProved, IsWithin}
-use Rattle.domain_checker.specs.Reading.{list_verdict, reading}
-use Rattle.domain_checker.proofs.HandedInLemmas.{handed_in}
-use Rattle.domain_checker.proofs.ListLemmas.{has_proof, list_within}
+use Rattle.domain_checker.specs.{HandedIn.HasRead, declared.{nsec_check.NsecCheck.NsecCheck, verdict.Verdict.TheVariants.{NotProven, OutsideZone}}}
+use Rattle.domain_checker.specs.{Verdict.{IsProved, IsWithin}, Reading.{list_verdict, reading}}
+use Rattle.domain_checker.proofs.{HandedInLemmas.handed_in, ListLemmas.{has_proof, list_within}}
 use Rattle.domain_checker.proofs.nsec_check.NsecCheck.verdict.Goals as goal
 use Rattle.std.proofs.lemmas.Grind.{common_steps}
 

@@ -1,6 +1,4 @@
-use Rattle.std.proofs.Common.{◌∙◌, sym, subst}
-use Rattle.std.specs.Str.{IsAscii}
-use Rattle.std.proofs.lemmas.Str.{IsUtf8-from_ascii}
+use Rattle.std.{proofs.{Common.{◌∙◌, sym, subst}, lemmas.Str.IsUtf8-from_ascii}, specs.Str.IsAscii}
 use Rattle.domain_codecs.proofs.Base32Lemmas.{upper_are_ascii, upper_digits}
 use Rattle.domain_codecs.proofs.base32.Digits.next_upper.Goals as goal
 

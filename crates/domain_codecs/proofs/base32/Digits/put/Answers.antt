@@ -1,6 +1,4 @@
-use Rattle.std.proofs.Common.{◌≤◌, ◌<◌, ◌++◌, ◌∙◌, append_assoc, map, slice_index, take, ap, sym, arith}
-use Rattle.std.proofs.lemmas.List.{map-append}
-use Rattle.std.proofs.lemmas.List.Elements.{All-append}
+use Rattle.std.proofs.{Common.{◌≤◌, ◌<◌, ◌++◌, ◌∙◌, append_assoc, map, slice_index, take, ap, sym, arith}, lemmas.List.{map-append, Elements.All-append}}
 use Rattle.domain_codecs.specs.Base32.{base32_from}
 use Rattle.domain_codecs.proofs.base32.Digits.put.Goals as goal
 

@@ -1,5 +1,4 @@
-use Rattle.std.proofs.Common.{◌≡◌, ◌++◌, length, map}
-use Rattle.std.specs.List.{concat}
+use Rattle.std.{proofs.Common.{◌≡◌, ◌++◌, length, map}, specs.List.concat}
 use Rattle.domain_codecs.proofs.joined.Joined.next.Given as goal
 
 abbrev pub invariant-loop-self : goal.invariant-loop-self

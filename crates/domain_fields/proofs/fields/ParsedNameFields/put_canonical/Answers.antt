@@ -1,5 +1,4 @@
-use Rattle.std.proofs.Common.{arith}
-use Rattle.std.proofs.lemmas.Grind.{common_steps}
+use Rattle.std.proofs.{Common.arith, lemmas.Grind.common_steps}
 use Rattle.domain_names.proofs.CaseLemmas.{lowered_size}
 use Rattle.domain_fields.specs.Layout.{octets_of}
 use Rattle.domain_fields.proofs.fields.ParsedNameFields.put_canonical.Goals as goal

@@ -1,5 +1,4 @@
-use Rattle.std.proofs.Common.{arith}
-use Rattle.std.proofs.lemmas.Grind.{common_steps}
+use Rattle.std.proofs.{Common.arith, lemmas.Grind.common_steps}
 use Rattle.domain_fields.proofs.TargetLemmas.{stops_both}
 use Rattle.domain_fields.proofs.fields.Tuple2Fields.put_canonical.Goals as goal
 

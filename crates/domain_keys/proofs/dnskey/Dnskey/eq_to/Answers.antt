@@ -1,10 +1,6 @@
-use Rattle.std.proofs.Common.{◌≡◌, ap, ◌∙◌, rules}
-use Rattle.std.specs.Ordering.{is_eq, nat_cmp}
-use Rattle.std.specs.Cmp.Lexicographic.{slice_cmp}
-use Rattle.std.specs.Prelude.{bytes_eq}
-use Rattle.std.proofs.lemmas.Map.Text.{is_eq-slice_cmp}
-use Rattle.domain_keys.specs.Data.{dnskey_octets}
-use Rattle.domain_keys.proofs.DataLemmas.{same_dnskey}
+use Rattle.std.proofs.{Common.{◌≡◌, ap, ◌∙◌, rules}, lemmas.Map.Text.is_eq-slice_cmp}
+use Rattle.std.specs.{Ordering.{is_eq, nat_cmp}, Cmp.Lexicographic.slice_cmp, Prelude.bytes_eq}
+use Rattle.domain_keys.{specs.Data.dnskey_octets, proofs.DataLemmas.same_dnskey}
 use Rattle.domain_keys.proofs.dnskey.Dnskey.eq_to.Goals as goal
 
 ordered : (g : _) (c : goal.After-is_eq g) → c.order.result ≡ slice_cmp nat_cmp (dnskey_octets c.args.self.now) (dnskey_octets c.args.other.now)

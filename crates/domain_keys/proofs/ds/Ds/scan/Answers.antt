@@ -1,5 +1,4 @@
-use Rattle.std.proofs.lemmas.Grind.{common_steps}
-use Rattle.std.proofs.Common.{arith}
+use Rattle.std.proofs.{lemmas.Grind.common_steps, Common.arith}
 use Rattle.domain_keys.proofs.DataLemmas.{length_of_octets}
 use Rattle.domain_keys.proofs.ds.Ds.scan.Goals as goal
 

@@ -1,5 +1,4 @@
-use Rattle.std.proofs.Common.{arith}
-use Rattle.std.proofs.lemmas.Grind.{common_steps}
+use Rattle.std.proofs.{Common.arith, lemmas.Grind.common_steps}
 use Rattle.domain_keys.proofs.PieceLemmas.{ds_written}
 use Rattle.domain_keys.proofs.ds_text.DsZonefileFmt.fmt.Goals as goal
 

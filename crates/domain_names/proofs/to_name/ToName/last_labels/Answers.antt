@@ -1,5 +1,4 @@
-use Rattle.std.proofs.Common.{arith}
-use Rattle.std.proofs.lemmas.Grind.{common_steps}
+use Rattle.std.proofs.{Common.arith, lemmas.Grind.common_steps}
 use Rattle.domain_names.proofs.WireLemmas.{parent_dropped}
 use Rattle.domain_names.proofs.to_name.ToName.last_labels.Goals as goal
 

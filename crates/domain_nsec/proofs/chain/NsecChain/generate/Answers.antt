@@ -1,11 +1,6 @@
 use Rattle.std.proofs.Common.{◌≡◌, ◌∙◌, sym, ap, map, subst, Some, arith}
-use Rattle.domain_zone.specs.Soa.{soa_of}
-use Rattle.domain_zone.specs.View.{as_zone_record, zone_of}
-use Rattle.domain_zone.specs.Zone.{has_clash}
-use Rattle.domain_zone.proofs.GivenLemmas.{raw_types, types_at}
-use Rattle.domain_zone.proofs.TtlLemmas.{NeverDescend}
-use Rattle.domain_nsec.proofs.StateLemmas.{at_start, at_known, at_owner, at_fault, at_end, even_end}
-use Rattle.domain_nsec.proofs.chain.NsecChain.generate.Given.{Over}
+use Rattle.domain_zone.{specs.{Soa.soa_of, View.{as_zone_record, zone_of}, Zone.has_clash}, proofs.{GivenLemmas.{raw_types, types_at}, TtlLemmas.NeverDescend}}
+use Rattle.domain_nsec.proofs.{StateLemmas.{at_start, at_known, at_owner, at_fault, at_end, even_end}, chain.NsecChain.generate.Given.Over}
 use Rattle.domain_nsec.proofs.chain.NsecChain.generate.Goals.{In-Some, After-has_unequal_ttls}
 use Rattle.domain_nsec.proofs.chain.NsecChain.generate.Goals as goal
 use Rattle.std.proofs.lemmas.Grind.{common_steps}

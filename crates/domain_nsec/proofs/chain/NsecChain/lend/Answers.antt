@@ -1,6 +1,5 @@
 use Rattle.std.proofs.Common.{◌+◌, [], get_or, ap, ◌∙◌, arith}
-use Rattle.domain_nsec.specs.ChainView.{as_link}
-use Rattle.domain_nsec.proofs.ChainLemmas.{links_counted, link_borrowed}
+use Rattle.domain_nsec.{specs.ChainView.as_link, proofs.ChainLemmas.{links_counted, link_borrowed}}
 use Rattle.domain_nsec.proofs.chain.NsecChain.lend.Goals as goal
 use Rattle.std.proofs.lemmas.Grind.{common_steps}
 

@@ -1,5 +1,4 @@
-use Rattle.std.proofs.Common.{length, ap, arith}
-use Rattle.std.proofs.lemmas.Result.{err_from_is_err_and}
+use Rattle.std.proofs.{Common.{length, ap, arith}, lemmas.Result.err_from_is_err_and}
 use Rattle.domain_plain.proofs.GenericLemmas.{count_refused, data_refused, count_differs}
 use Rattle.domain_plain.proofs.unknown.UnknownRecordData.scan.Goals as goal
 

@@ -1,5 +1,4 @@
-use Rattle.std.proofs.Common.{arith}
-use Rattle.std.proofs.lemmas.Grind.{common_steps}
+use Rattle.std.proofs.{Common.arith, lemmas.Grind.common_steps}
 use Rattle.domain_rdata.proofs.zone_record_data.ZoneRecordData.same_type_cmp.Goals as goal
 
 pub returns-in-Rrsig-Rrsig : goal.returns-in-Rrsig-Rrsig

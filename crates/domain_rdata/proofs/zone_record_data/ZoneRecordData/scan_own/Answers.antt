@@ -1,9 +1,6 @@
-use Rattle.std.proofs.Common.{ap, ◌∙◌}
-use Rattle.std.proofs.lemmas.Result.{err_from_is_err_and}
+use Rattle.std.proofs.{Common.{ap, ◌∙◌}, lemmas.Result.err_from_is_err_and}
 use Rattle.domain_plain.specs.Plain.{a, ns, soa, mx}
-use Rattle.domain_rdata.specs.Kind.{plain, key, digest, signature, next_by_name, next_by_hash, params}
-use Rattle.domain_rdata.specs.Zone.{kind_of, number_of}
-use Rattle.domain_rdata.specs.Refusal.{at_field}
+use Rattle.domain_rdata.specs.{Kind.{plain, key, digest, signature, next_by_name, next_by_hash, params}, Zone.{kind_of, number_of}, Refusal.at_field}
 use Rattle.domain_rdata.proofs.zone_record_data.ZoneRecordData.scan_own.Goals as goal
 
 pub returns-in_err-scan-in-Some-A-clause-err : goal.returns-in_err-scan-in-Some-A-clause-err

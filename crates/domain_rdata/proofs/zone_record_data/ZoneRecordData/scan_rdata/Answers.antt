@@ -1,7 +1,5 @@
-use Rattle.std.proofs.Common.{arith}
-use Rattle.std.proofs.lemmas.Grind.{common_steps}
-use Rattle.domain_rdata.specs.Refusal.{in_generic}
-use Rattle.domain_rdata.proofs.ScanLemmas.{generic_ok, own_err, octets_err, none_spelled, refused_none}
+use Rattle.std.proofs.{Common.arith, lemmas.Grind.common_steps}
+use Rattle.domain_rdata.{specs.Refusal.in_generic, proofs.ScanLemmas.{generic_ok, own_err, octets_err, none_spelled, refused_none}}
 use Rattle.domain_rdata.proofs.zone_record_data.ZoneRecordData.scan_rdata.Goals as goal
 
 pub returns-then-not-is_generic-clause-err : goal.returns-then-not-is_generic-clause-err

@@ -1,5 +1,4 @@
-use Rattle.std.proofs.Common.{◌≡◌, sym, ◌∙◌}
-use Rattle.std.proofs.lemmas.Bool.{false≢true}
+use Rattle.std.proofs.{Common.{◌≡◌, sym, ◌∙◌}, lemmas.Bool.false≢true}
 use Rattle.domain_names.specs.Name.{IsSame}
 use Rattle.domain_record.specs.declared.record.Record.{Record}
 use Rattle.domain_records.proofs.Firsts.{has_first_weaker}

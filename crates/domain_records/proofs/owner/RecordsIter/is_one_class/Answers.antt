@@ -1,8 +1,6 @@
-use Rattle.std.proofs.Common.{◌≡◌, ◌∙◌}
-use Rattle.std.proofs.lemmas.Bool.{eqb-true, eq-eqb}
+use Rattle.std.proofs.{Common.{◌≡◌, ◌∙◌}, lemmas.Bool.{eqb-true, eq-eqb}}
 use Rattle.domain_record.specs.declared.record.Record.{Record}
-use Rattle.domain_records.specs.Groups.{same_class}
-use Rattle.domain_records.proofs.OrderLemmas.{pairs_of_run, run_of_pairs}
+use Rattle.domain_records.{specs.Groups.same_class, proofs.OrderLemmas.{pairs_of_run, run_of_pairs}}
 use Rattle.domain_records.proofs.owner.RecordsIter.is_one_class.Goals as goal
 
 pub returns : goal.returns

@@ -1,8 +1,6 @@
-use Rattle.std.proofs.Common.{refl, arith}
-use Rattle.std.specs.Cmp.{IsTotalOrder}
+use Rattle.std.{proofs.Common.{refl, arith}, specs.Cmp.IsTotalOrder}
 use Rattle.domain_record.specs.Record.{record_cmp, record_cmp_total}
-use Rattle.domain_records.proofs.SortedLists.{sorted_insert, holds_at}
-use Rattle.domain_records.proofs.sorted.SortedRecords.insert.Given.{Over}
+use Rattle.domain_records.proofs.{SortedLists.{sorted_insert, holds_at}, sorted.SortedRecords.insert.Given.Over}
 use Rattle.domain_records.proofs.sorted.SortedRecords.insert.Goals as goal
 use Rattle.std.proofs.lemmas.Grind.{common_steps}
 

@@ -1,9 +1,6 @@
-use Rattle.std.proofs.Common.{sym, not, rules, arith}
-use Rattle.std.proofs.lemmas.Fn.{filter_same}
-use Rattle.std.proofs.lemmas.List.Kept.{IsStrictlySortedBy-filter}
+use Rattle.std.proofs.{Common.{sym, not, rules, arith}, lemmas.{Fn.filter_same, List.Kept.IsStrictlySortedBy-filter}}
 use Rattle.domain_record.specs.declared.record.Record.{Record}
-use Rattle.domain_records.specs.Lookup.{matches}
-use Rattle.domain_records.proofs.Removals.{all_kept, none_any, no_place, some_any}
+use Rattle.domain_records.{specs.Lookup.matches, proofs.Removals.{all_kept, none_any, no_place, some_any}}
 use Rattle.domain_records.proofs.sorted.SortedRecords.remove_all_by_name_class_rtype.Goals as goal
 use Rattle.std.proofs.lemmas.Grind.{common_steps}
 

@@ -1,9 +1,6 @@
-use Rattle.std.proofs.Common.{refl, Some, None, inl, inr, arith}
-use Rattle.std.specs.Result.{IsOk}
-use Rattle.std.specs.Cmp.{IsTotalOrder}
+use Rattle.std.{proofs.Common.{refl, Some, None, inl, inr, arith}, specs.{Result.IsOk, Cmp.IsTotalOrder}}
 use Rattle.domain_record.specs.Record.{record_cmp, record_cmp_total}
-use Rattle.domain_records.proofs.SortedLists.{sorted_remove, sorted_insert, holds_at, none_in_gap, read_is}
-use Rattle.domain_records.proofs.sorted.SortedRecords.update_data.Given.{Over}
+use Rattle.domain_records.proofs.{SortedLists.{sorted_remove, sorted_insert, holds_at, none_in_gap, read_is}, sorted.SortedRecords.update_data.Given.Over}
 use Rattle.domain_records.proofs.sorted.SortedRecords.update_data.Goals as goal
 use Rattle.std.proofs.lemmas.Grind.{common_steps}
 

@@ -1,6 +1,5 @@
 use Rattle.std.proofs.lemmas.Result.{on_ok_weaker}
-use Rattle.domain_records.specs.Text.{is_soa}
-use Rattle.domain_records.proofs.Texts.{text_of_both}
+use Rattle.domain_records.{specs.Text.is_soa, proofs.Texts.text_of_both}
 use Rattle.domain_records.proofs.sorted.SortedRecords.write.Goals as goal
 
 pub returns : goal.returns

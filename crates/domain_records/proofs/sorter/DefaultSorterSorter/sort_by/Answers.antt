@@ -1,12 +1,7 @@
 -- std's sort orders by the one order that the closure answers by
-use Rattle.std.proofs.Common.{arith, is_lt, OnOk, Ordering, rules}
-use Rattle.std.proofs.lemmas.Grind.{common_steps}
-use Rattle.std.specs.Cmp.{IsTotalOrder}
-use Rattle.std.specs.List.Sorted.{IsSorted}
-use Rattle.std.proofs.lemmas.Result.{on_ok_weaker}
-use Rattle.std.proofs.lemmas.List.Sorted.{ranks_by}
-use Rattle.domain_records.specs.Sort.{AnswersBy}
-use Rattle.domain_records.proofs.Sorting.{ComparesAs-from_order}
+use Rattle.std.proofs.{Common.{arith, is_lt, OnOk, Ordering, rules}, lemmas.{Grind.common_steps, Result.on_ok_weaker, List.Sorted.ranks_by}}
+use Rattle.std.specs.{Cmp.IsTotalOrder, List.Sorted.IsSorted}
+use Rattle.domain_records.{specs.Sort.AnswersBy, proofs.Sorting.ComparesAs-from_order}
 use Rattle.domain_records.proofs.sorter.DefaultSorterSorter.sort_by.Goals as goal
 
 pub returns-clause-sorted : goal.returns-clause-sorted

@@ -1,10 +1,6 @@
-use Rattle.std.proofs.Common.{◌≡◌, ap, ◌∙◌, rules}
-use Rattle.std.specs.Ordering.{is_eq, nat_cmp}
-use Rattle.std.specs.Cmp.Lexicographic.{slice_cmp}
-use Rattle.std.specs.Prelude.{bytes_eq}
-use Rattle.std.proofs.lemmas.Map.Text.{is_eq-slice_cmp}
-use Rattle.domain_rrsig.specs.Data.{rrsig_canonical}
-use Rattle.domain_rrsig.proofs.RrsigLemmas.{same_rrsig}
+use Rattle.std.proofs.{Common.{◌≡◌, ap, ◌∙◌, rules}, lemmas.Map.Text.is_eq-slice_cmp}
+use Rattle.std.specs.{Ordering.{is_eq, nat_cmp}, Cmp.Lexicographic.slice_cmp, Prelude.bytes_eq}
+use Rattle.domain_rrsig.{specs.Data.rrsig_canonical, proofs.RrsigLemmas.same_rrsig}
 use Rattle.domain_rrsig.proofs.rrsig.Rrsig.eq_to.Goals as goal
 
 ordered : (g : _) (c : goal.After-is_eq g) → c.order.result ≡ slice_cmp nat_cmp (rrsig_canonical c.args.self.now) (rrsig_canonical c.args.other.now)

@@ -1,7 +1,5 @@
-use Rattle.std.proofs.lemmas.Grind.{common_steps}
-use Rattle.std.proofs.Common.{◌∙◌, arith, sym, subst}
-use Rattle.domain_rrsig.specs.Time.{IsNear, TimeAt, nearest, before_1970}
-use Rattle.domain_rrsig.proofs.TimeLemmas.{near_before, none_near, time_after, none_after}
+use Rattle.std.proofs.{lemmas.Grind.common_steps, Common.{◌∙◌, arith, sym, subst}}
+use Rattle.domain_rrsig.{specs.Time.{IsNear, TimeAt, nearest, before_1970}, proofs.TimeLemmas.{near_before, none_near, time_after, none_after}}
 use Rattle.domain_rrsig.proofs.timestamp.Timestamp.to_system_time.Goals as goal
 
 pub returns-then-ahead-lt2147483648-clause-time : goal.returns-then-ahead-lt2147483648-clause-time

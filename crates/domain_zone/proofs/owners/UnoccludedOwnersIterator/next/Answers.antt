@@ -1,14 +1,9 @@
-use Rattle.std.proofs.lemmas.Grind.{common_steps}
-use Rattle.std.proofs.Common.{◌≡◌, Bool, ◌&&◌, ◌||◌, ◌∷◌, Option, Some, None, cond, map, sym, ap, ◌∙◌, arith}
+use Rattle.std.proofs.{lemmas.Grind.common_steps, Common.{◌≡◌, Bool, ◌&&◌, ◌||◌, ◌∷◌, Option, Some, None, cond, map, sym, ap, ◌∙◌, arith}}
 use Rattle.std.specs.Option.{option_map}
-use Rattle.domain_records.specs.Groups.{same_owner}
-use Rattle.domain_records.specs.Runs.{runs}
+use Rattle.domain_records.specs.{Groups.same_owner, Runs.runs}
 use Rattle.domain_names.specs.Words.{Name}
-use Rattle.domain_zone.specs.View.{as_zone_record}
-use Rattle.domain_zone.specs.Walk.{left_owners}
-use Rattle.domain_zone.specs.Zone.{has_type}
-use Rattle.domain_zone.proofs.GroupLemmas.{cut_test}
-use Rattle.domain_zone.proofs.LeftLemmas.{left_given, left_none, occluder_after}
+use Rattle.domain_zone.specs.{View.as_zone_record, Walk.left_owners, Zone.has_type}
+use Rattle.domain_zone.proofs.{GroupLemmas.cut_test, LeftLemmas.{left_given, left_none, occluder_after}}
 use Rattle.domain_zone.proofs.owners.UnoccludedOwnersIterator.next.Goals as goal
 use Rattle.domain_zone.proofs.owners.UnoccludedOwnersIterator.next.Goals.{then-is_zone_cut-self, else-is_zone_cut-self}
 

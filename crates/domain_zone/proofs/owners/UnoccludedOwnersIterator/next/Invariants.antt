@@ -1,9 +1,6 @@
-use Rattle.std.proofs.Common.{◌≡◌, map, length}
-use Rattle.std.specs.Option.{option_map}
-use Rattle.domain_records.specs.Groups.{same_owner}
-use Rattle.domain_records.specs.Runs.{runs}
-use Rattle.domain_zone.specs.View.{as_zone_record}
-use Rattle.domain_zone.specs.Walk.{left_owners}
+use Rattle.std.{proofs.Common.{◌≡◌, map, length}, specs.Option.option_map}
+use Rattle.domain_records.specs.{Groups.same_owner, Runs.runs}
+use Rattle.domain_zone.specs.{View.as_zone_record, Walk.left_owners}
 use Rattle.domain_zone.proofs.owners.UnoccludedOwnersIterator.next.Given as goal
 
 abbrev pub invariant-groups : goal.invariant-groups

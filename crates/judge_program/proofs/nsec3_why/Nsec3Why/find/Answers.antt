@@ -1,8 +1,7 @@
 use Rattle.std.proofs.Common.{Err, inr}
 use Rattle.domain_checker.specs.HashedView.{hashed_records}
 use Rattle.domain_records.specs.declared.error.SigningError.TheVariants.{Nsec3HashingError}
-use Rattle.denial_program.specs.declared.fault.DenialFault.TheVariants.{Signing}
-use Rattle.denial_program.proofs.CheckLemmas.{hasher_refused}
+use Rattle.denial_program.{specs.declared.fault.DenialFault.TheVariants.Signing, proofs.CheckLemmas.hasher_refused}
 use Rattle.judge_program.proofs.nsec3_why.Nsec3Why.find.Goals as goal
 
 pub returns-in_default : goal.returns-in_default

@@ -1,9 +1,7 @@
 use Rattle.std.proofs.Common.{◌∙◌, Some, ap, cond, option_map, sym}
 use Rattle.std.specs.BTreeMap as tree
-use Rattle.lint_program.specs.Firsts.{group_cmp}
-use Rattle.lint_program.specs.declared.looks.Earlier.{Earlier}
+use Rattle.lint_program.{specs.{Firsts.group_cmp, declared.looks.Earlier.Earlier}, proofs.NoteLemmas.{group_tied, kept_first, mapped, new_first}}
 use Rattle.domain_alike.proofs.AlikeLemmas.{none_of, some_of}
-use Rattle.lint_program.proofs.NoteLemmas.{group_tied, kept_first, mapped, new_first}
 use Rattle.lint_program.proofs.firsts.Firsts.put.Goals as goal
 
 pub returns-then-is_some : goal.returns-then-is_some
