@@ -20,16 +20,11 @@ chain_fault_number OutOfMemory = 21
 
 -- the offset where a fault stands, or how many octets there is no room for; 0 where it has neither
 abbrev pub fault_count : ChainFault → ℕ
-fault_count Apex = 0
 fault_count (Records offset) = offset
 fault_count (Class offset) = offset
-fault_count Soa = 0
 fault_count (Ttls offset) = offset
 fault_count (ShortBuffer count) = count
-fault_count LongSalt = 0
-fault_count LongOwner = 0
-fault_count Collision = 0
-fault_count OutOfMemory = 0
+fault_count _ = 0
 
 -- a chain was written
 abbrev pub chain_made : ℕ

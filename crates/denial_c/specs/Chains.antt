@@ -33,17 +33,11 @@ pub record AreZone (apex : Octets) (class : ℕ) (records : Octets) (a : Name)
 
 -- why the octets are no records of the class; want of memory says that they are
 abbrev pub IsGivenFault : ℕ → Octets → ChainFault → Type 0
-IsGivenFault class octets fault.Apex = ⊥
 IsGivenFault class octets (fault.Records offset) = HasNoRecordAt class octets offset
 IsGivenFault class octets (fault.Class offset) = HasOtherClassAt class octets offset
-IsGivenFault class octets fault.Soa = ⊥
-IsGivenFault class octets (fault.Ttls offset) = ⊥
-IsGivenFault class octets fault.LongSalt = ⊥
-IsGivenFault class octets fault.LongOwner = ⊥
-IsGivenFault class octets fault.Collision = ⊥
-IsGivenFault class octets (fault.ShortBuffer count) = ⊥
 IsGivenFault class octets fault.OutOfMemory =
     (given : List RawRecord) × AreGiven class octets given
+IsGivenFault class octets _ = ⊥
 
 -- the record at the offset is the first of its owner and type that has another TTL; the owner is
 -- the first of these names of the sorted records that has unequal TTLs, and the type the least of
@@ -92,9 +86,6 @@ pub record HasZoneFault (apex : Octets) (class : ℕ) (config : GenerateNsecConf
 -- fault
 abbrev pub IsSortedNsecFault : ℕ → Octets → List RawRecord → Name → GenerateNsecConfig → ChainFault
     → Type 0
-IsSortedNsecFault class octets sorted a config fault.Apex = ⊥
-IsSortedNsecFault class octets sorted a config (fault.Records offset) = ⊥
-IsSortedNsecFault class octets sorted a config (fault.Class offset) = ⊥
 IsSortedNsecFault class octets sorted a config fault.Soa =
     IsFirstFault (zone_of_raw sorted) a config
     signing_error.SoaRecordCouldNotBeDetermined
@@ -102,12 +93,9 @@ IsSortedNsecFault class octets sorted a config (fault.Ttls offset) =
     IsFirstFault (zone_of_raw sorted) a config
     signing_error.MultipleTtlValues
     × IsSortedUnevenAt (covered_names false config.occlude_below_dname) class octets sorted a offset
-IsSortedNsecFault class octets sorted a config fault.LongSalt = ⊥
-IsSortedNsecFault class octets sorted a config fault.LongOwner = ⊥
-IsSortedNsecFault class octets sorted a config fault.Collision = ⊥
-IsSortedNsecFault class octets sorted a config (fault.ShortBuffer count) = ⊥
 IsSortedNsecFault class octets sorted a config fault.OutOfMemory =
     IsFaultless (zone_of_raw sorted) a config
+IsSortedNsecFault class octets sorted a config _ = ⊥
 
 -- ---- NSEC3
 
@@ -163,9 +151,6 @@ hashing_fault hash_error.OutOfMemory = fault.LongOwner
 -- fault but, where it has one, of hashing
 abbrev pub IsSortedNsec3Fault : ℕ → Octets → List RawRecord → Name → ChainConfig → ChainFault
     → Type 0
-IsSortedNsec3Fault class octets sorted a config fault.Apex = ⊥
-IsSortedNsec3Fault class octets sorted a config (fault.Records offset) = ⊥
-IsSortedNsec3Fault class octets sorted a config (fault.Class offset) = ⊥
 IsSortedNsec3Fault class octets sorted a config fault.Soa =
     IsFirstHashedFault (zone_of_raw sorted) a config
     signing_error.SoaRecordCouldNotBeDetermined
@@ -174,16 +159,15 @@ IsSortedNsec3Fault class octets sorted a config (fault.Ttls offset) =
     signing_error.MultipleTtlValues
     × IsSortedUnevenAt (covered_names (excludes config) config.occlude_below_dname) class octets
     sorted a offset
-IsSortedNsec3Fault class octets sorted a config fault.LongSalt = ⊥
 IsSortedNsec3Fault class octets sorted a config fault.LongOwner =
     IsFirstHashedFault (zone_of_raw sorted) a config
     (signing_error.Nsec3HashingError hash_error.Nsec3NameTooLong)
 IsSortedNsec3Fault class octets sorted a config fault.Collision =
     IsFirstHashedFault (zone_of_raw sorted) a config
     (signing_error.Nsec3HashingError hash_error.CollisionDetected)
-IsSortedNsec3Fault class octets sorted a config (fault.ShortBuffer count) = ⊥
 IsSortedNsec3Fault class octets sorted a config fault.OutOfMemory =
     IsReady (zone_of_raw sorted) a config
+IsSortedNsec3Fault class octets sorted a config _ = ⊥
 
 -- ---- what is left in the buffer
 

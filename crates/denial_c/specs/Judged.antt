@@ -29,12 +29,9 @@ pub record HasNsecAnswer (apex name : Octets) (t class : ℕ) (records : Octets)
 
 -- why there are no NSEC records
 abbrev pub IsNsecsFault : ℕ → Octets → Fault → Type 0
-IsNsecsFault class records fault.Apex = ⊥
-IsNsecsFault class records fault.Name = ⊥
 IsNsecsFault class records fault.Records = HasNoNsecs class records
-IsNsecsFault class records fault.Param = ⊥
-IsNsecsFault class records fault.Hasher = ⊥
 IsNsecsFault class records fault.OutOfMemory = Unit {0}
+IsNsecsFault class records _ = ⊥
 
 -- of faults the first that stands is told, but for want of memory, which may come before others
 abbrev pub IsNsecAnswer : Octets → Octets → ℕ → ℕ → Octets → Result Answer Fault → Type 0

@@ -49,34 +49,22 @@ number_of number (Err fault) = fault_number fault
 
 -- how many labels the closest encloser has; 0 where the verdict has none
 abbrev pub verdict_labels : Verdict → ℕ
-verdict_labels NotProven = 0
-verdict_labels OutsideZone = 0
-verdict_labels BelowDelegation = 0
-verdict_labels Has = 0
-verdict_labels NoType = 0
-verdict_labels EmptyName = 0
 verdict_labels (OptOut count) = count
 verdict_labels (NoName count) = count
+verdict_labels _ = 0
 
 -- how many labels the zone cut, the owner of the DNAME record or the closest encloser has; 0 where
 -- the answer has none
 abbrev pub answer_labels : Answer → ℕ
-answer_labels answers.NotProven = 0
-answer_labels answers.OutsideZone = 0
-answer_labels answers.AtParent = 0
 answer_labels (answers.Referral count) = count
 answer_labels (answers.Redirected count) = count
-answer_labels answers.Has = 0
-answer_labels answers.NoDs = 0
-answer_labels answers.Alias = 0
-answer_labels answers.NoData = 0
 answer_labels (answers.Wildcard count) = count
 answer_labels (answers.WildcardAlias count) = count
 answer_labels (answers.WildcardNoData count) = count
 answer_labels (answers.NameError count) = count
 answer_labels (answers.MayBeUnsigned count) = count
 answer_labels (answers.NoCloserName count) = count
-answer_labels answers.TooManyIterations = 0
+answer_labels _ = 0
 
 -- a fault has none
 abbrev pub labels_of : {V : Type 0} → (V → ℕ) → Result V Fault → ℕ

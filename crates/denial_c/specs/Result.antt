@@ -57,9 +57,7 @@ IsNsecFault apex name class records fault.Apex = IsSpelled apex → ⊥
 IsNsecFault apex name class records fault.Name = IsSpelled apex × (IsSpelled name → ⊥)
 IsNsecFault apex name class records fault.Records =
     IsSpelled apex × IsSpelled name × HasNoNsecs class records
-IsNsecFault apex name class records fault.Param = ⊥
-IsNsecFault apex name class records fault.Hasher = ⊥
-IsNsecFault apex name class records fault.OutOfMemory = ⊥
+IsNsecFault apex name class records _ = ⊥
 
 abbrev pub IsNsecResult : Octets → Octets → ℕ → ℕ → Octets → Result Verdict Fault → Type 0
 IsNsecResult apex name t class records (Ok verdict) =
@@ -126,32 +124,25 @@ pub record HasNoParam (a : Name) (class : ℕ) (records : Octets) : Type 0 where
 
 -- why there are no NSEC3 records
 abbrev pub IsNsec3sFault : ℕ → Octets → Fault → Type 0
-IsNsec3sFault class records fault.Apex = ⊥
-IsNsec3sFault class records fault.Name = ⊥
 IsNsec3sFault class records fault.Records = HasNoNsec3s class records
-IsNsec3sFault class records fault.Param = ⊥
-IsNsec3sFault class records fault.Hasher = ⊥
 IsNsec3sFault class records fault.OutOfMemory = Unit {0}
+IsNsec3sFault class records _ = ⊥
 
 -- why there is no NSEC3PARAM record
 abbrev pub IsParamFault : Name → ℕ → Octets → Fault → Type 0
-IsParamFault a class records fault.Apex = ⊥
-IsParamFault a class records fault.Name = ⊥
 IsParamFault a class records fault.Records = HasNoParams a class records
 IsParamFault a class records fault.Param = HasNoParam a class records
-IsParamFault a class records fault.Hasher = ⊥
 IsParamFault a class records fault.OutOfMemory = Unit {0}
+IsParamFault a class records _ = ⊥
 
 -- why not both are there
 abbrev pub IsChainFault : ℕ → Octets → Name → Fault → Type 0
-IsChainFault class records a fault.Apex = ⊥
-IsChainFault class records a fault.Name = ⊥
 IsChainFault class records a fault.Records =
     HasNoNsec3s class records ⊎ HasNoParams a class records
 IsChainFault class records a fault.Param =
     (links : List HashedLink) × AreNsec3s class records links × HasNoParam a class records
-IsChainFault class records a fault.Hasher = ⊥
 IsChainFault class records a fault.OutOfMemory = Unit {0}
+IsChainFault class records a _ = ⊥
 
 -- the NSEC3 records of a class, and the one NSEC3PARAM record of the apex
 pub record AreWithParam (class : ℕ) (records : Octets) (a : Name) (links : List HashedLink)

@@ -13,7 +13,7 @@ use Rattle.domain_checker.specs.declared.verdict.Verdict.TheVariants as verdicts
 use Rattle.denial_program.specs.declared.answer.Reply.{Reply}
 use Rattle.denial_program.specs.declared.answer.Reply.TheVariants as answers
 use Rattle.denial_program.specs.declared.{command.Question.Question, fault.DenialFault.DenialFault}
-use Rattle.denial_program.specs.declared.fault.DenialFault.TheVariants.{Usage, Read, Line, Unprepared, MixedClasses, Signing, Param, Write, OutOfMemory}
+use Rattle.denial_program.specs.declared.fault.DenialFault.TheVariants.{Signing, Param, OutOfMemory}
 
 -- what records give, in their order: one thing each that is such, and none those that are not
 abbrev pub AreAmong : {K : Type 0} → (RawRecord → K → Type 0) → List RawRecord → List K → Type 0
@@ -105,15 +105,10 @@ IsRefused hashes given q = IsRefusedBy (λ R. IsFirstRefusal R q.name) hashes gi
 
 -- why there is none: the apex has no NSEC3PARAM record, or more than one; or the hasher refuses
 abbrev pub HasNoNsec3Verdict : HasherAnswer → List RawRecord → Question → DenialFault → Type 0
-HasNoNsec3Verdict hashes given q Usage = ⊥
-HasNoNsec3Verdict hashes given q Read = ⊥
-HasNoNsec3Verdict hashes given q (Line n) = ⊥
-HasNoNsec3Verdict hashes given q (Unprepared e) = ⊥
-HasNoNsec3Verdict hashes given q MixedClasses = ⊥
 HasNoNsec3Verdict hashes given q (Signing e) = IsRefused hashes given q e
 HasNoNsec3Verdict hashes given q Param = HasNoParam q.apex given
-HasNoNsec3Verdict hashes given q Write = ⊥
 HasNoNsec3Verdict hashes given q OutOfMemory = Unit {0}
+HasNoNsec3Verdict hashes given q _ = ⊥
 
 -- the closest encloser that a count of labels tells, with its last dot
 abbrev pub encloser_text : Name → ℕ → Octets

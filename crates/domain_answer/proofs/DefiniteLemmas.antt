@@ -1,29 +1,17 @@
 -- A choice between answers that a zone gives is one of them.
 use Rattle.std.proofs.{Common.{◌≡◌, ◌≢◌, ℕ, Bool, true, false, cond, sym, ap, ◌∙◌, arith}, lemmas.{Bool.true≢false, Grind.common_steps}}
 use Rattle.domain_answer.specs.declared.answer.Answer.{Answer}
-use Rattle.domain_answer.specs.declared.answer.Answer.TheVariants.{OutsideZone, AtParent, Referral, Redirected, Has, NoDs, Alias, NoData, Wildcard, NotProven}
-use Rattle.domain_answer.specs.declared.answer.Answer.TheVariants.{WildcardAlias, WildcardNoData, NameError, MayBeUnsigned, NoCloserName, TooManyIterations}
+use Rattle.domain_answer.specs.declared.answer.Answer.TheVariants.{Referral, Has, NoDs, Alias, NoData, Wildcard, NotProven}
+use Rattle.domain_answer.specs.declared.answer.Answer.TheVariants.{WildcardAlias, WildcardNoData, NameError, NoCloserName, TooManyIterations}
 
 pub either : (b : Bool) (v : Answer) → cond b v v ≡ v
 either b v = grind (arith, common_steps)
 
 unfoldable pub is_of_zone : Answer → Bool
-is_of_zone OutsideZone = true
-is_of_zone AtParent = true
-is_of_zone (Referral n) = true
-is_of_zone (Redirected n) = true
-is_of_zone Has = true
-is_of_zone NoDs = true
-is_of_zone Alias = true
-is_of_zone NoData = true
-is_of_zone (Wildcard n) = true
-is_of_zone (WildcardAlias n) = true
-is_of_zone (WildcardNoData n) = true
-is_of_zone (NameError n) = true
-is_of_zone (MayBeUnsigned n) = true
 is_of_zone (NoCloserName n) = false
 is_of_zone TooManyIterations = false
 is_of_zone NotProven = false
+is_of_zone _ = true
 
 pub choose : (b : Bool) (v w : Answer) → is_of_zone v ≡ true → is_of_zone w ≡ true → is_of_zone (cond b v w) ≡ true
 choose b v w e f = grind (arith, common_steps)

@@ -5,7 +5,7 @@ use Rattle.domain_zone.specs.Zone.{ZoneRecord, OwnersNeverDescend, is_unoccluded
 use Rattle.domain_nsec.specs.{Chain.{IsChain, Link}, declared.config.GenerateNsecConfig.GenerateNsecConfig}
 use Rattle.domain_checker.specs.Verdict.{has_match_or_cover, HasProof}
 use Rattle.domain_answer.specs.{ZoneAnswer.{encloser, is_at_parent, name_exists, wildcard_below, zone_answer}, declared.answer.Answer.Answer}
-use Rattle.domain_answer.specs.declared.answer.Answer.TheVariants.{OutsideZone, AtParent, Referral, Redirected, Has, NoDs, Alias, NoData, Wildcard}
+use Rattle.domain_answer.specs.declared.answer.Answer.TheVariants.{OutsideZone, AtParent, Referral, Redirected, Wildcard}
 use Rattle.domain_answer.specs.declared.answer.Answer.TheVariants.{WildcardAlias, WildcardNoData, NameError, MayBeUnsigned, NoCloserName, TooManyIterations}
 use Rattle.domain_answer.specs.declared.answer.Answer.TheVariants.{NotProven}
 
@@ -55,36 +55,23 @@ HasBothProofs listed a x n =
 abbrev pub RestsOn : List Link → Name → Name → Answer → Type 0
 RestsOn listed a x OutsideZone = Unit {0}
 RestsOn listed a x AtParent = Unit {0}
-RestsOn listed a x (Referral n) = HasProof listed a x
-RestsOn listed a x (Redirected n) = HasProof listed a x
-RestsOn listed a x Has = HasProof listed a x
-RestsOn listed a x NoDs = HasProof listed a x
-RestsOn listed a x Alias = HasProof listed a x
-RestsOn listed a x NoData = HasProof listed a x
 RestsOn listed a x (Wildcard n) = HasBothProofs listed a x n
 RestsOn listed a x (WildcardAlias n) = HasBothProofs listed a x n
 RestsOn listed a x (WildcardNoData n) = HasBothProofs listed a x n
 RestsOn listed a x (NameError n) = HasBothProofs listed a x n
 RestsOn listed a x (MayBeUnsigned n) = ⊥
-RestsOn listed a x (NoCloserName n) = HasProof listed a x
 RestsOn listed a x TooManyIterations = ⊥
 RestsOn listed a x NotProven = Unit {0}
+RestsOn listed a x _ = HasProof listed a x
 
 -- what an answer counts are labels of a name that has n; a closest encloser has fewer
 abbrev pub CountsWithin : ℕ → Answer → Type 0
-CountsWithin n OutsideZone = Unit {0}
-CountsWithin n AtParent = Unit {0}
 CountsWithin n (Referral count) = count ≤ n
 CountsWithin n (Redirected count) = count ≤ n
-CountsWithin n Has = Unit {0}
-CountsWithin n NoDs = Unit {0}
-CountsWithin n Alias = Unit {0}
-CountsWithin n NoData = Unit {0}
 CountsWithin n (Wildcard count) = count < n
 CountsWithin n (WildcardAlias count) = count < n
 CountsWithin n (WildcardNoData count) = count < n
 CountsWithin n (NameError count) = count < n
 CountsWithin n (MayBeUnsigned count) = count < n
 CountsWithin n (NoCloserName count) = count < n
-CountsWithin n TooManyIterations = Unit {0}
-CountsWithin n NotProven = Unit {0}
+CountsWithin n _ = Unit {0}

@@ -70,11 +70,6 @@ HasProof listed a x =
 
 -- a closest encloser has n labels at most
 abbrev pub IsWithin : ℕ → Verdict → Type 0
-IsWithin n OutsideZone = Unit {0}
-IsWithin n BelowDelegation = Unit {0}
-IsWithin n Has = Unit {0}
-IsWithin n NoType = Unit {0}
-IsWithin n EmptyName = Unit {0}
 IsWithin n (OptOut count) = count ≤ n
 IsWithin n (NoName count) = count ≤ n
-IsWithin n NotProven = Unit {0}
+IsWithin n _ = Unit {0}

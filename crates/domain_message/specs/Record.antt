@@ -6,7 +6,7 @@ use Rattle.domain_record.specs.declared.record.Record.{Record}
 use Rattle.domain_rdata.specs.{Kind.Kind, Refusal.{AreOfKind, IsPart}, Scan.AreData, Zone.kind_of, declared.zone_record_data.ZoneRecordData.ZoneRecordData}
 use Rattle.domain_message.specs.{Data.{parts_of, PartsAt, PartsFault, DataAt}, Header.HeaderAt, Refusal.{HeaderFault, message_error_of}}
 use Rattle.domain_message.specs.declared.{parts.Part.Part, name.NameFault.NameFault, error.MessageError.MessageError}
-use Rattle.domain_message.specs.declared.error.MessageError.TheVariants.{ShortInput, BadLabelType, ForwardPointer, LongName, DataLength, IllegalData, ShortBuf}
+use Rattle.domain_message.specs.declared.error.MessageError.TheVariants.{ShortInput, DataLength, IllegalData, ShortBuf}
 use Rattle.domain_message.specs.declared.error.MessageError.TheVariants.{OutOfMemory}
 
 -- so many octets at a place are these data, and have these octets without compression
@@ -30,11 +30,6 @@ pub record RecordAt {O N : Type 0} (octets : O → Octets) (labels : N → Name)
 -- why octets are not turned into data of a type of this kind: they are no such data, or they or a
 -- part of them have no room or no memory
 abbrev pub OctetsRefusal : Option ℕ → Option Kind → Octets → MessageError → Type 0
-OctetsRefusal limit known wire ShortInput = ⊥
-OctetsRefusal limit known wire BadLabelType = ⊥
-OctetsRefusal limit known wire ForwardPointer = ⊥
-OctetsRefusal limit known wire LongName = ⊥
-OctetsRefusal limit known wire DataLength = ⊥
 OctetsRefusal limit known wire IllegalData =
     (kind : Kind) × (known ≡ Some kind) × (AreOfKind kind wire → ⊥)
 OctetsRefusal limit known wire ShortBuf =
@@ -42,6 +37,7 @@ OctetsRefusal limit known wire ShortBuf =
     ⊎ ((kind : Kind) × (part : Octets) × (known ≡ Some kind) × IsPart wire kind part
     × IsOver limit (length part))
 OctetsRefusal limit known wire OutOfMemory = Unit {0}
+OctetsRefusal limit known wire _ = ⊥
 
 -- why no data of a type are read at a place, of so many octets: the message ends within them; a
 -- part of the data of a type whose names may be compressed has a fault; the parts end elsewhere;

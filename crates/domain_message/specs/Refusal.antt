@@ -6,7 +6,7 @@ use Rattle.domain_names.specs.Words.{Name}
 use Rattle.domain_message.specs.{Name.NameAt, Fault.LabelsFault, declared.name.NameFault.NameFault}
 use Rattle.domain_message.specs.declared.name.NameFault.TheVariants as name_fault
 use Rattle.domain_message.specs.declared.error.MessageError.{MessageError}
-use Rattle.domain_message.specs.declared.error.MessageError.TheVariants.{ShortInput, BadLabelType, ForwardPointer, LongName, DataLength, IllegalData, ShortBuf}
+use Rattle.domain_message.specs.declared.error.MessageError.TheVariants.{ShortInput, BadLabelType, ForwardPointer, LongName, ShortBuf}
 use Rattle.domain_message.specs.declared.error.MessageError.TheVariants.{OutOfMemory}
 
 abbrev pub message_error_of : NameFault → MessageError
@@ -26,10 +26,8 @@ RefusesName message at ShortInput = LabelsFault message at 0 name_fault.ShortInp
 RefusesName message at BadLabelType = LabelsFault message at 0 name_fault.BadLabelType
 RefusesName message at ForwardPointer = LabelsFault message at 0 name_fault.ForwardPointer
 RefusesName message at LongName = LabelsFault message at 0 name_fault.LongName
-RefusesName message at DataLength = ⊥
-RefusesName message at IllegalData = ⊥
-RefusesName message at ShortBuf = ⊥
 RefusesName message at OutOfMemory = (name : Name) × (end : ℕ) × NameAt message at name end
+RefusesName message at _ = ⊥
 
 -- the first fault of the owner, or the message ends within the numbers behind it
 pub data HeaderFault (message : Octets) (at : ℕ) (fault : NameFault) : Type 0 where
@@ -40,11 +38,6 @@ pub data HeaderFault (message : Octets) (at : ℕ) (fault : NameFault) : Type 0 
 
 -- why octets are not copied into octets that have this limit
 abbrev pub CopyRefusal : Option ℕ → Octets → MessageError → Type 0
-CopyRefusal limit octets ShortInput = ⊥
-CopyRefusal limit octets BadLabelType = ⊥
-CopyRefusal limit octets ForwardPointer = ⊥
-CopyRefusal limit octets LongName = ⊥
-CopyRefusal limit octets DataLength = ⊥
-CopyRefusal limit octets IllegalData = ⊥
 CopyRefusal limit octets ShortBuf = IsOver limit (length octets)
 CopyRefusal limit octets OutOfMemory = Unit {0}
+CopyRefusal limit octets _ = ⊥

@@ -43,15 +43,8 @@ less_front (suc n) (d ∷ ds) (e ∷ es) long long' octets octets' lt = elim (ca
 ]
 
 front_is : (ds : List ℕ) → 8 ≤ length ds → from_be_bytes w64 (take 8 ds) ≡ front_number 8 ds
-front_is [] long = absurd (omega arith)
-front_is (a ∷ []) long = absurd (omega arith)
-front_is (a ∷ b ∷ []) long = absurd (omega arith)
-front_is (a ∷ b ∷ c ∷ []) long = absurd (omega arith)
-front_is (a ∷ b ∷ c ∷ d ∷ []) long = absurd (omega arith)
-front_is (a ∷ b ∷ c ∷ d ∷ e ∷ []) long = absurd (omega arith)
-front_is (a ∷ b ∷ c ∷ d ∷ e ∷ f ∷ []) long = absurd (omega arith)
-front_is (a ∷ b ∷ c ∷ d ∷ e ∷ f ∷ g ∷ []) long = absurd (omega arith)
 front_is (a ∷ b ∷ c ∷ d ∷ e ∷ f ∷ g ∷ h ∷ ds) long = omega arith
+front_is _ long = absurd (omega arith)
 
 -- the numbers of the first eight octets, where they differ, are in the order of the lists
 pub by_front : (ds es : List ℕ) (m n : ℕ) → 8 ≤ length ds → 8 ≤ length es

@@ -25,12 +25,8 @@ four_back w x y z w_small x_small y_small z_small = grind (arith, common_steps, 
 
 pub a_back : (octets : List ℕ) → length octets ≡ 4 → slice_index octets 0 < 256 → slice_index octets 1 < 256
     → slice_index octets 2 < 256 → slice_index octets 3 < 256 → Scans a (words_of (ipv4_text octets)) octets []
-a_back [] four w_small x_small y_small z_small = absurd (omega (arith, four))
-a_back (w ∷ []) four w_small x_small y_small z_small = absurd (omega (arith, four))
-a_back (w ∷ x ∷ []) four w_small x_small y_small z_small = absurd (omega (arith, four))
-a_back (w ∷ x ∷ y ∷ []) four w_small x_small y_small z_small = absurd (omega (arith, four))
 a_back (w ∷ x ∷ y ∷ z ∷ []) four w_small x_small y_small z_small = four_back w x y z w_small x_small y_small z_small
-a_back (w ∷ x ∷ y ∷ z ∷ v ∷ more) four w_small x_small y_small z_small = absurd (omega (arith, four))
+a_back _ four w_small x_small y_small z_small = absurd (omega (arith, four))
 
 -- ---- names and numbers
 

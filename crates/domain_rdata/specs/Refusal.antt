@@ -5,7 +5,7 @@ use Rattle.domain_octets.specs.{Limit.IsOver, Words.Octets}
 use Rattle.domain_names.specs.{Fault.Fault, TextFault.{ScanFault, entry_ends, illegal, no_room, no_memory}, Words.Tokens}
 use Rattle.domain_base.specs.Scan.{Refusal}
 use Rattle.domain_plain.specs.Generic.{GenericText, GenericFault}
-use Rattle.domain_fields.specs.{Field.{octet, short, long, name, spelled_name, counted, exactly, at_most, rest}, Layout.{Layout, one, ◌▸◌, Values, Begins}}
+use Rattle.domain_fields.specs.{Field.{name, spelled_name}, Layout.{Layout, one, ◌▸◌, Values, Begins}}
 use Rattle.domain_fields.specs.Scan.{Refuses}
 use Rattle.domain_keys.specs.{Data.{dnskey, ds}, Scan.{RefusesDnskey, RefusesDs}}
 use Rattle.domain_rrsig.specs.{Data.rrsig, Scan.RefusesRrsig}
@@ -65,16 +65,10 @@ pub data IsNotWhole {D : Type 0} (begins : Octets → D → Octets → Type 0)
 
 -- there is a name among the fields
 abbrev pub HasName : Layout → Type 0
-HasName (one octet) = ⊥
-HasName (one short) = ⊥
-HasName (one long) = ⊥
 HasName (one name) = Unit {0}
 HasName (one spelled_name) = Unit {0}
-HasName (one counted) = ⊥
-HasName (one (exactly count)) = ⊥
-HasName (one (at_most n)) = ⊥
-HasName (one rest) = ⊥
 HasName (a ▸ b) = HasName a ⊎ HasName b
+HasName _ = ⊥
 
 -- memory is taken to make data of a kind of octets: for a name, and for parts that have no limit
 abbrev pub TakesMemory : Option ℕ → Kind → Type 0

@@ -106,17 +106,8 @@ IsOfKind known (mere o) = Unit {0}
 
 pub of_kind : {O N : Type 0} (octets : O → Octets) (labels : N → Name) (d : ZoneRecordData O N)
     → IsOfKind (kind_of (rtype_of d)) (content_of octets labels d)
-of_kind octets labels (A d) = refl
-of_kind octets labels (Ns d) = refl
-of_kind octets labels (Soa d) = refl
-of_kind octets labels (Mx d) = refl
-of_kind octets labels (Dnskey d) = refl
-of_kind octets labels (Ds d) = refl
-of_kind octets labels (Rrsig d) = refl
-of_kind octets labels (Nsec d) = refl
-of_kind octets labels (Nsec3 d) = refl
-of_kind octets labels (Nsec3param d) = refl
 of_kind octets labels (Unknown d) = tt
+of_kind octets labels _ = refl
 
 -- the MINIMUM field of an SOA
 abbrev pub minimum_of : {O N : Type 0} → ZoneRecordData O N → Option ℕ

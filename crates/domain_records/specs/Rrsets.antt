@@ -3,8 +3,8 @@ use Rattle.std.specs.Prelude.{◌≡◌, ◌≢◌, ℕ, ◌<◌, Bool, false, L
 use Rattle.domain_base.specs.Types.{rrsig}
 use Rattle.domain_record.specs.declared.record.Record.{Record}
 use Rattle.domain_records.specs.declared.error.SigningError.{SigningError}
-use Rattle.domain_records.specs.declared.error.SigningError.TheVariants.{EmptyRecordSlice, MultipleTtlValues, SoaRecordCouldNotBeDetermined, Nsec3HashingError}
-use Rattle.domain_records.specs.{declared.error.SigningError.TheVariants.OutOfMemory, Groups.IfFirst, Order.HoldsPairwise, Runs.runs}
+use Rattle.domain_records.specs.declared.error.SigningError.TheVariants.{EmptyRecordSlice, MultipleTtlValues}
+use Rattle.domain_records.specs.{Groups.IfFirst, Order.HoldsPairwise, Runs.runs}
 
 -- no two differ in TTL, unless the type of the first is RRSIG: records of that type are grouped,
 -- but no RRset (RFC 4034, section 3)
@@ -21,9 +21,7 @@ pub record IsRrset {N D : Type 0} (rtype : D → ℕ) (records : List (Record N 
 abbrev pub IsNoRrset : {N D : Type 0} → (D → ℕ) → List (Record N D) → SigningError → Type 0
 IsNoRrset rtype records EmptyRecordSlice = records ≡ []
 IsNoRrset rtype records MultipleTtlValues = (0 < length records) × ¬ (HasOneTtl rtype records)
-IsNoRrset rtype records SoaRecordCouldNotBeDetermined = ⊥
-IsNoRrset rtype records (Nsec3HashingError e) = ⊥
-IsNoRrset rtype records OutOfMemory = ⊥
+IsNoRrset rtype records _ = ⊥
 
 -- the group as an RRset, or its refusal, exactly by its own TTLs
 abbrev pub IsRrsetOf : {N D : Type 0} → (D → ℕ) → List (Record N D)

@@ -13,7 +13,7 @@ use Rattle.domain_answer.specs.{Proved.{needs_no_records, IsAnswered, RestsOn}, 
 use Rattle.domain_answer.specs.declared.answer.Answer.TheVariants.{OutsideZone, AtParent, TooManyIterations, NotProven}
 use Rattle.denial_program.specs.{Check.{AreNsecs, AreNsec3s, AreParams, HasNoParam, IsRefusedBy}, declared.command.Question.Question}
 use Rattle.denial_program.specs.declared.fault.DenialFault.{DenialFault}
-use Rattle.denial_program.specs.declared.fault.DenialFault.TheVariants.{Usage, Read, Line, Unprepared, MixedClasses, Signing, Param, Write, OutOfMemory}
+use Rattle.denial_program.specs.declared.fault.DenialFault.TheVariants.{Signing, Param, OutOfMemory}
 use Rattle.judge_program.specs.declared.command.Nsec3Options.{Nsec3Options}
 
 -- the answer is what the NSEC records prove of any zone of whose chain they are; from any records,
@@ -96,12 +96,7 @@ IsRefusedWith is_first fault = (fault ≡ OutOfMemory)
 -- refuses
 abbrev pub IsNotNsec3Judged : HasherAnswer → List RawRecord → Question → Nsec3Options → DenialFault
     → Type 0
-IsNotNsec3Judged hashes given q asked Usage = ⊥
-IsNotNsec3Judged hashes given q asked Read = ⊥
-IsNotNsec3Judged hashes given q asked (Line n) = ⊥
-IsNotNsec3Judged hashes given q asked (Unprepared e) = ⊥
-IsNotNsec3Judged hashes given q asked MixedClasses = ⊥
 IsNotNsec3Judged hashes given q asked (Signing e) = IsJudgeRefused hashes given q asked e
 IsNotNsec3Judged hashes given q asked Param = HasNoParam q.apex given
-IsNotNsec3Judged hashes given q asked Write = ⊥
 IsNotNsec3Judged hashes given q asked OutOfMemory = Unit {0}
+IsNotNsec3Judged hashes given q asked _ = ⊥

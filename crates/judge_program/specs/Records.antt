@@ -22,13 +22,8 @@ use Rattle.judge_program.specs.declared.shown.Shown.TheVariants as shows
 
 -- which records a response needs of the name (RFC 4035, section 3.1.3; RFC 5155, section 7.2)
 abbrev pub needs_of : Answer → Needs
-needs_of answers.OutsideZone = needs.Nothing
-needs_of answers.AtParent = needs.Nothing
 needs_of (answers.Referral n) = needs.Cut
-needs_of (answers.Redirected n) = needs.Nothing
-needs_of answers.Has = needs.Nothing
 needs_of answers.NoDs = needs.Own
-needs_of answers.Alias = needs.Nothing
 needs_of answers.NoData = needs.Own
 needs_of (answers.Wildcard n) = needs.Closer
 needs_of (answers.WildcardAlias n) = needs.Closer
@@ -36,27 +31,13 @@ needs_of (answers.WildcardNoData n) = needs.Both
 needs_of (answers.NameError n) = needs.Both
 needs_of (answers.MayBeUnsigned n) = needs.Both
 needs_of (answers.NoCloserName n) = needs.Both
-needs_of answers.TooManyIterations = needs.Nothing
-needs_of answers.NotProven = needs.Nothing
+needs_of _ = needs.Nothing
 
 -- whether it needs that of the wildcard too
 abbrev pub needs_wildcard : Answer → Bool
-needs_wildcard answers.OutsideZone = false
-needs_wildcard answers.AtParent = false
-needs_wildcard (answers.Referral n) = false
-needs_wildcard (answers.Redirected n) = false
-needs_wildcard answers.Has = false
-needs_wildcard answers.NoDs = false
-needs_wildcard answers.Alias = false
-needs_wildcard answers.NoData = false
-needs_wildcard (answers.Wildcard n) = false
-needs_wildcard (answers.WildcardAlias n) = false
 needs_wildcard (answers.WildcardNoData n) = true
 needs_wildcard (answers.NameError n) = true
-needs_wildcard (answers.MayBeUnsigned n) = false
-needs_wildcard (answers.NoCloserName n) = false
-needs_wildcard answers.TooManyIterations = false
-needs_wildcard answers.NotProven = false
+needs_wildcard _ = false
 
 -- the first match or, where there is none, the first cover
 abbrev pub first_of : {K : Type 0} → Option K → Option K → Option K
@@ -102,9 +83,7 @@ nsec_wildcard_found a listed x (Some n) =
 abbrev pub name_part : Needs → Option Link → Option Link
 name_part needs.Nothing found = None
 name_part needs.Cut found = unsigned_cut (λ k. k.bits) found
-name_part needs.Own found = found
-name_part needs.Closer found = found
-name_part needs.Both found = found
+name_part _ found = found
 
 -- the lines of these records, each once
 abbrev pub nsec_records : Name → List Link → Name → Answer → Octets
@@ -152,11 +131,9 @@ encloser_part needs.Closer found = None
 encloser_part needs.Both found = found
 
 abbrev pub closer_part : Needs → Option HashedLink → Option HashedLink
-closer_part needs.Nothing found = None
-closer_part needs.Cut found = None
-closer_part needs.Own found = None
 closer_part needs.Closer found = found
 closer_part needs.Both found = found
+closer_part _ found = None
 
 abbrev pub wildcard_part : Answer → Option HashedLink → Option HashedLink
 wildcard_part answer found = if needs_wildcard answer then found else None

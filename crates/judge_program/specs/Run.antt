@@ -7,7 +7,7 @@ use Rattle.domain_borrowed.specs.Data.{RawRecord}
 use Rattle.domain_answer.specs.declared.answer.Answer.{Answer}
 use Rattle.domain_checker.specs.HashedView.{links_with}
 use Rattle.denial_program.specs.{Listing.Give, declared.{command.Question.Question, fault.DenialFault.DenialFault}}
-use Rattle.denial_program.specs.declared.fault.DenialFault.TheVariants.{Usage, Read, Line, Unprepared, MixedClasses, Signing, Param, Write, OutOfMemory}
+use Rattle.denial_program.specs.declared.fault.DenialFault.TheVariants.{Usage, Unprepared, Write, OutOfMemory}
 use Rattle.judge_program.specs.{Command.{Asks, IsCommand, IsNoCommand}, Judged.{IsNotNsec3Judged, IsNsec3Judged, IsNsecJudged}}
 use Rattle.judge_program.specs.{Records.{nsec_below, IsNsec3Below}, Text.first_line, Why.rests_on_records, declared.command.ChainKind.ChainKind}
 use Rattle.judge_program.specs.declared.{command.{ChainKind.TheVariants.{Nsec, Nsec3}, Command.Command, Nsec3Options.Nsec3Options}, shown.Shown.Shown}
@@ -76,11 +76,6 @@ pub record GivesNoJudgement (hashes : HasherAnswer) (words : Tokens) (lines : Li
 -- one
 abbrev pub TellsUsage : Tokens → DenialFault → Type 0
 TellsUsage words Usage = IsNoCommand words
-TellsUsage words Read = IsCommand words
-TellsUsage words (Line n) = IsCommand words
 TellsUsage words (Unprepared e) = Unit {0}
-TellsUsage words MixedClasses = IsCommand words
-TellsUsage words (Signing e) = IsCommand words
-TellsUsage words Param = IsCommand words
-TellsUsage words Write = IsCommand words
 TellsUsage words OutOfMemory = Unit {0}
+TellsUsage words _ = IsCommand words

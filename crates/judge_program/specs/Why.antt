@@ -25,40 +25,19 @@ role_text (Wildcard above) = codes "the wildcard " ++ full_text (wildcard_below 
 abbrev pub rests_on_records : Answer → Bool
 rests_on_records answers.OutsideZone = false
 rests_on_records answers.AtParent = false
-rests_on_records (answers.Referral n) = true
-rests_on_records (answers.Redirected n) = true
-rests_on_records answers.Has = true
-rests_on_records answers.NoDs = true
-rests_on_records answers.Alias = true
-rests_on_records answers.NoData = true
-rests_on_records (answers.Wildcard n) = true
-rests_on_records (answers.WildcardAlias n) = true
-rests_on_records (answers.WildcardNoData n) = true
-rests_on_records (answers.NameError n) = true
-rests_on_records (answers.MayBeUnsigned n) = true
-rests_on_records (answers.NoCloserName n) = true
 rests_on_records answers.TooManyIterations = false
 rests_on_records answers.NotProven = false
+rests_on_records _ = true
 
 -- an answer for which the wildcard below the closest encloser was asked for, which has so many
 -- labels
 abbrev pub wildcard_count : Answer → Option ℕ
-wildcard_count answers.OutsideZone = None
-wildcard_count answers.AtParent = None
-wildcard_count (answers.Referral n) = None
-wildcard_count (answers.Redirected n) = None
-wildcard_count answers.Has = None
-wildcard_count answers.NoDs = None
-wildcard_count answers.Alias = None
-wildcard_count answers.NoData = None
 wildcard_count (answers.Wildcard n) = Some n
 wildcard_count (answers.WildcardAlias n) = Some n
 wildcard_count (answers.WildcardNoData n) = Some n
 wildcard_count (answers.NameError n) = Some n
-wildcard_count (answers.MayBeUnsigned n) = None
 wildcard_count (answers.NoCloserName n) = Some n
-wildcard_count answers.TooManyIterations = None
-wildcard_count answers.NotProven = None
+wildcard_count _ = None
 
 -- a line that says how a record tells of a name
 abbrev pub shown_line : Octets → Role → Octets → Octets
@@ -99,22 +78,13 @@ nsec3_shown role None None = []
 
 -- an answer that rests on a cover of the next closer name
 abbrev pub needs_next_closer : Answer → Bool
-needs_next_closer answers.OutsideZone = false
-needs_next_closer answers.AtParent = false
-needs_next_closer (answers.Referral n) = false
-needs_next_closer (answers.Redirected n) = false
-needs_next_closer answers.Has = false
-needs_next_closer answers.NoDs = false
-needs_next_closer answers.Alias = false
-needs_next_closer answers.NoData = false
 needs_next_closer (answers.Wildcard n) = true
 needs_next_closer (answers.WildcardAlias n) = true
 needs_next_closer (answers.WildcardNoData n) = true
 needs_next_closer (answers.NameError n) = true
 needs_next_closer (answers.MayBeUnsigned n) = true
 needs_next_closer (answers.NoCloserName n) = true
-needs_next_closer answers.TooManyIterations = false
-needs_next_closer answers.NotProven = false
+needs_next_closer _ = false
 
 -- the name that is matched: x itself, or its closest encloser, which has n labels
 abbrev pub encloser_role : Name → ℕ → Role

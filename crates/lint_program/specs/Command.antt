@@ -2,7 +2,7 @@
 use Rattle.std.specs.Prelude.{◌≡◌, ◌∷◌, [], Option, Some, None}
 use Rattle.domain_names.specs.{Text.NameText, Words.{Name, Token, Tokens}}
 use Rattle.denial_program.specs.{Command.{Params, Spell}, declared.fault.DenialFault.DenialFault}
-use Rattle.denial_program.specs.declared.fault.DenialFault.TheVariants.{Usage, Read, Line, Unprepared, MixedClasses, Signing, Param, Write, OutOfMemory}
+use Rattle.denial_program.specs.declared.fault.DenialFault.TheVariants.{Usage, Read, Signing, Write, OutOfMemory}
 
 -- the words are one, which spells the apex
 pub record AsksPlainly (words : Tokens) (apex : Name) : Type 0 where
@@ -40,10 +40,7 @@ IsHashedCommand words = (apex : Name) × (p : Params) × AsksHashed words apex p
 abbrev pub IsRunFault : Tokens → DenialFault → Type 0
 IsRunFault words Usage = IsNoCommand words
 IsRunFault words Read = IsCommand words
-IsRunFault words (Line n) = ⊥
-IsRunFault words (Unprepared e) = ⊥
-IsRunFault words MixedClasses = ⊥
 IsRunFault words (Signing e) = IsHashedCommand words
-IsRunFault words Param = ⊥
 IsRunFault words Write = IsCommand words
 IsRunFault words OutOfMemory = Unit {0}
+IsRunFault words _ = ⊥

@@ -7,21 +7,17 @@ use Rattle.lint_program.specs.declared.looks.Reason.TheVariants.{NoSoa, SecondSo
 abbrev pub opening : Reason → Octets
 opening NoSoa = codes "the apex "
 opening SecondSoa = codes "the apex owns the SOA record of line "
-opening StraySoa = []
 opening OtherClass = codes "the class is "
 opening OtherTtl = codes "the TTL is "
-opening Outside = []
-opening BesideAlias = []
 opening OddData = codes "the octets are no data of "
 opening Parameters = codes "NSEC3PARAM with further iterations or a salt: "
+opening _ = []
 
 abbrev pub closing : Reason → Octets
 closing NoSoa = codes " owns no SOA record"
 closing SecondSoa = codes " already"
 closing StraySoa = codes " owns an SOA record, and is not the apex"
-closing OtherClass = []
-closing OtherTtl = []
 closing Outside = codes ": the record is passed over"
 closing BesideAlias = codes ", with the same owner: one of them is CNAME, which stands alone"
-closing OddData = []
 closing Parameters = codes " wants 0 and none"
+closing _ = []

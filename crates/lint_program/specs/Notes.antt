@@ -34,13 +34,9 @@ look_of Parameters = look.Data
 abbrev pub fails : Reason → Bool
 fails NoSoa = true
 fails SecondSoa = true
-fails StraySoa = false
 fails OtherClass = true
 fails OtherTtl = true
-fails Outside = false
-fails BesideAlias = false
-fails OddData = false
-fails Parameters = false
+fails _ = false
 
 -- an SOA record of the apex
 abbrev pub is_apex_soa : Name → RawRecord → Bool
