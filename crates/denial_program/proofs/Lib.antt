@@ -8,3 +8,5 @@ pub mod CommandLemmas
 pub mod AnswerLemmas
 pub mod CheckLemmas
 pub mod AmongLemmas
+pub mod SpelledLemmas
+pub mod LinkLineLemmas

@@ -7,3 +7,4 @@ pub mod Text
 pub mod Answer
 pub mod Command
 pub mod Check
+pub mod Spelled

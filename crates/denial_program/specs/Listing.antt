@@ -10,13 +10,16 @@ pub record IsLineRecord (line : Octets) (r : RawRecord) : Type 0 where
   pub plain : ArePlain (words line)
   pub spelled : LineText (words line) r
 
--- the records that the lines give, in order: one for each line that is not skipped
+-- the lines give these, in order: one for each line that is not skipped, of which it is true
+abbrev pub AreGiven : {R : Type 0} → (Octets → R → Type 0) → List Octets → List R → Type 0
+AreGiven is_of [] given = given ≡ []
+AreGiven {R} is_of (line ∷ more) given =
+    (IsSkipped (words line) × AreGiven is_of more given)
+    ⊎ ((r : R) × (others : List R) × (given ≡ r ∷ others) × is_of line r × AreGiven is_of more others)
+
+-- the records that the lines give
 abbrev pub Give : List Octets → List RawRecord → Type 0
-Give [] records = records ≡ []
-Give (line ∷ more) records =
-    (IsSkipped (words line) × Give more records)
-    ⊎ ((r : RawRecord) × (others : List RawRecord) × (records ≡ r ∷ others) × IsLineRecord line r
-    × Give more others)
+Give = AreGiven IsLineRecord
 
 -- the line is skipped, or spells a record
 abbrev pub IsGood : Octets → Type 0

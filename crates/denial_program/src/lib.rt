@@ -12,6 +12,7 @@ mod check;
 mod command;
 mod fault;
 mod last_owner;
+pub mod laws;
 mod line;
 mod prepare;
 mod process;

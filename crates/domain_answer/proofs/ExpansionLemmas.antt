@@ -1,5 +1,5 @@
 -- What NSEC3 records answer of a name whose records were expanded from a wildcard is what they prove of the zone.
-use Rattle.std.proofs.Common.{◌≡◌, ℕ, ◌+◌, ◌≤◌, ◌<◌, Bool, true, false, cond, not, List, All, length, refl, sym, ap, ◌∙◌, subst, inl, inr, Option, Some, None}
+use Rattle.std.proofs.Common.{◌≡◌, ℕ, ◌+◌, ◌≤◌, ◌<◌, true, false, cond, not, List, All, length, refl, sym, ap, ◌∙◌, subst, inl, inr, Option, Some, None}
 use Rattle.std.proofs.{Common.arith, lemmas.{Bool.{and_parts, and_from, cases_lt, false≢true}, List.Elements.recursion_from_All, Grind.common_steps}}
 use Rattle.std.specs.{Prelude.Ok, List.{find, list_any, Contains}}
 use Rattle.domain_octets.specs.Words.{Octets}
@@ -15,10 +15,7 @@ use Rattle.domain_checker.proofs.{HashedVerdictLemmas.as_chain, EncloserLemmas.c
 use Rattle.domain_answer.specs.declared.answer.Answer.{Answer, TheVariants.{MayBeUnsigned, NoCloserName, NotProven}}
 use Rattle.domain_answer.specs.Expansion.{ExpansionRestsOn, IsExpansionAnswered, IsExpansionRead, closer_name, closer_told, is_expanded, proved_expansion}
 use Rattle.domain_answer.specs.{HashedReading.next_answer, HashedZoneAnswer.{hashed_encloser, hashed_exists}, Proved.CountsWithin}
-use Rattle.domain_answer.{specs.ZoneAnswer.{asterisk, wildcard_below}, proofs.CountLemmas.{closest_last, last_above, last_count}}
-
-chosen : (P : Answer → Type 0) (b : Bool) (v w : Answer) → P v → P w → P (cond b v w)
-chosen P b v w h k = grind (arith, common_steps)
+use Rattle.domain_answer.{specs.ZoneAnswer.{asterisk, wildcard_below}, proofs.{CountLemmas.{closest_last, last_above, last_count}, ProofLemmas.choose}}
 
 -- what such a name is known of
 record IsLonger (a x : Name) (n : ℕ) : Type 0 where
@@ -172,7 +169,7 @@ module _ (R : HashedRecords) (x : Name) (n : ℕ) (answer : Answer) (read : IsEx
           let i = find_some (is_hash_cover R.apex R.parameters read.value) R.links k f in
           let c = covered (ap (is_ok_with (λ v. list_any (is_hash_cover R.apex R.parameters v) R.links)) read.known
           ∙ in_any (is_hash_cover R.apex R.parameters read.value) R.links k i.0 i.1) in
-          chosen P (is_opt_out k.flags) (MayBeUnsigned n) (NoCloserName n) c.0 c.1
+          choose P (is_opt_out k.flags) (MayBeUnsigned n) (NoCloserName n) c.0 c.1
 
       by_match : (o : Option HashedLink) → P (closer_told n o (first_cover R read.value))
       by_match None = by_cover (first_cover R read.value) refl

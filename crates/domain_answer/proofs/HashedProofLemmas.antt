@@ -18,10 +18,7 @@ use Rattle.domain_answer.specs.declared.answer.Answer.TheVariants.{NameError, Ma
 use Rattle.domain_answer.specs.HashedProved.{HasCloserProof, HasEncloserProof, HashedRestsOn}
 use Rattle.domain_answer.specs.HashedReading.{IsHashedRead, IsReadOn, IsWildcardRead, encloser_answer, found_answer, lower_answer, next_answer, own_answer}
 use Rattle.domain_answer.specs.{HashedReading.wildcard_told, Proved.CountsWithin, ZoneAnswer.wildcard_below}
-use Rattle.domain_answer.proofs.HashedAnswerLemmas.{own_never, read_plain}
-
-chosen : (P : Answer → Type 0) (b : Bool) (v w : Answer) → P v → P w → P (cond b v w)
-chosen P b v w h k = grind (arith, common_steps)
+use Rattle.domain_answer.proofs.{HashedAnswerLemmas.{own_never, read_plain}, ProofLemmas.choose}
 
 -- ---- what an answer may be
 
@@ -61,9 +58,9 @@ module _ (P : Answer → Type 0) (R : HashedRecords) (x : Name) (t : ℕ) (answe
           let f = find_some (is_hash_match R.apex R.parameters r.value) R.links k g in
           let w = allows.wildcard s c (ap (is_ok_with (λ v. list_any (is_hash_match R.apex R.parameters v) R.links)) r.known
           ∙ in_any (is_hash_match R.apex R.parameters r.value) R.links k f.0 f.1) in
-          chosen P (contains_type k.bits t || contains_type k.bits ns) (Wildcard e.count)
+          choose P (contains_type k.bits t || contains_type k.bits ns) (Wildcard e.count)
           (cond (contains_type k.bits cname) (WildcardAlias e.count) (WildcardNoData e.count)) w.0
-          (chosen P (contains_type k.bits cname) (WildcardAlias e.count) (WildcardNoData e.count) w.1 w.2)
+          (choose P (contains_type k.bits cname) (WildcardAlias e.count) (WildcardNoData e.count) w.1 w.2)
 
   allowed : IsReadOn R x t (encloser_answer R.apex e (length x) t) answer → P answer
   allowed ends = by is.next is.closes is.covers

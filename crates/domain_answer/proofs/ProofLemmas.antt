@@ -13,7 +13,8 @@ use Rattle.domain_answer.specs.Proved.{CountsWithin, HasBothProofs, RestsOn}
 use Rattle.domain_answer.specs.Reading.{absent_answer, cover_answer, listed_answer, listed_both, match_answer, reading, tells_occluded, wildcard_both}
 use Rattle.domain_answer.{specs.ZoneAnswer.wildcard_below, proofs.CountLemmas.encloser_less}
 
-choose : (P : Answer → Type 0) (b : Bool) (v w : Answer) → P v → P w → P (cond b v w)
+-- what both answers have, the one that is chosen has
+pub choose : (P : Answer → Type 0) (b : Bool) (v w : Answer) → P v → P w → P (cond b v w)
 choose P b v w p q = grind (arith, common_steps)
 
 module _ (a : Name) (listed : List Link) where

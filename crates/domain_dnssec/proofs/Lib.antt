@@ -1,4 +1,6 @@
 pub mod AmongLemmas
 pub mod AnyOrderLemmas
 pub mod KeptLemmas
+pub mod MappedLemmas
+pub mod RawLemmas
 pub mod WireLemmas

@@ -2,6 +2,7 @@ pub mod AnyOrder
 pub mod AnyOrderNsec3
 pub mod Told
 pub mod ZoneRecords
+pub mod RawRecords
 pub mod Error
 pub mod ErrorText
 pub mod Hashed

@@ -1,5 +1,5 @@
 //! What callers may take from names, chains and sorting. A caller calls the law in its body.
-ghost use Rattle.std.specs.Prelude.{◌≡◌, ◌↔◌, ℕ, ◌<◌, All, Bool, false, true, Contains, List, Some};
+ghost use Rattle.std.specs.Prelude.{◌≡◌, ◌↔◌, ℕ, ◌<◌, All, Bool, false, true, Contains, List, Some, map};
 ghost use Rattle.domain_record.specs.declared.record.Record.{Record};
 ghost use Rattle.domain_names.specs.Words.{Name};
 ghost use Rattle.domain_records.specs.Order.{IsOneClass};
@@ -11,7 +11,9 @@ ghost use Rattle.domain_zone.specs.Zone.{OwnersNeverDescend, ZoneRecord, has_cla
 ghost use Rattle.domain_zone.specs.Zone.{is_unoccluded, owns, records_of};
 ghost use Rattle.domain_zone.specs.{declared.soa.ApexSoa.ApexSoa, View.zone_of};
 ghost use Rattle.domain_answer.specs.{Proved.IsAnswered, declared.answer.Answer.Answer};
+ghost use Rattle.domain_rdata.specs.declared.zone_record_data.ZoneRecordData.{ZoneRecordData};
 ghost use Rattle.domain_dnssec.specs.AnyOrder.{IsChainOf, Sorts};
+ghost use Rattle.domain_dnssec.specs.RawRecords.{raw_record, HaveOneChain, TellMinima};
 ghost use Rattle.domain_dnssec.specs.Told.{IsAnswerOf, IsProvedAnswerOf, IsProvedOf, IsSaidOf};
 
 use domain_answer::laws as answers;
@@ -20,6 +22,7 @@ use domain_base::{CanonicalOrd, ToName};
 pub use domain_bitmap::laws::built_bitmaps_give_their_types;
 use domain_checker::laws::whole_chains_prove_all;
 pub use domain_nsec::laws::{chains_mean_the_zone, types_ignore_case};
+use domain_octets::Octets;
 use domain_record::ZoneData;
 use domain_records::laws::sorted_records_are_in_order;
 pub use domain_zone::laws::{covering_ignores_case, owners_never_descend};
@@ -118,3 +121,12 @@ pub fn answers_tell_of_records<N: ToName, D: ZoneData + CanonicalOrd>()
     answers::whole_chains_prove_all();
     answers::chains_leave_out_names_below_dname();
 }
+
+/// Records whose data are octets in canonical form (RFC 4034, section 6.2), as `BorrowedRecord`
+/// has them, have the chain that the records have whose data these are, and where they have none,
+/// these have none, for the same reason. So a chain that was made of octets is one of the data that
+/// were composed.
+pub fn octets_have_the_chain_of_their_data<O: Octets, N: ToName>()
+    ensures { (given : List (Record N (ZoneRecordData O N))) → TellMinima given
+        → HaveOneChain O.octets N.labels (map (raw_record O.octets N.labels) given) given }
+{}
