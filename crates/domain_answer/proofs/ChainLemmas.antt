@@ -1,11 +1,10 @@
 -- What a record of a chain that leaves out the names below a DNAME tells of the zone.
 use Rattle.std.proofs.lemmas.Grind.{common_steps}
-use Rattle.std.proofs.Common.{◌≡◌, ℕ, ◌<◌, Bool, true, false, cond, not, ◌&&◌, ◌||◌, List, [], ◌∷◌, refl, sym, ap, ◌∙◌, Some, slice_get, arith}
-use Rattle.std.{proofs.lemmas.Bool.{or_parts, and_from}, specs.{Prelude.filter, List.list_any}}
-use Rattle.domain_octets.proofs.StdLemmas.{and_false}
+use Rattle.std.proofs.Common.{◌≡◌, ℕ, ◌<◌, Bool, true, false, not, ◌&&◌, ◌||◌, List, [], ◌∷◌, refl, sym, ap, ◌∙◌, Some, slice_get, arith}
+use Rattle.std.{proofs.lemmas.Bool.{and_from, false_from_ne_true, false≢true, or_parts}, specs.{List.list_any}}
 use Rattle.domain_bitmap.specs.Blocks.{contains_type}
 use Rattle.domain_names.specs.{Name.{is_at_or_below, is_strictly_below, lowered, same_name}, Order.before, Words.Name}
-use Rattle.domain_base.specs.Types.{dname, ns, soa}
+use Rattle.domain_base.specs.Types.{dname, soa}
 use Rattle.domain_zone.specs.Covering.{matches, covers, pairs}
 use Rattle.domain_zone.specs.Zone.{ZoneRecord, OwnersNeverDescend, has_type, is_occluded, is_zone_cut, occludes, owns, records_of, unoccluded_owners}
 use Rattle.domain_zone.proofs.{NameLemmas.{one_lowered, below_itself, lowered_below}, PairLemmas.In, OwnerLemmas.in_any, FindLemmas.in_at}
@@ -14,7 +13,7 @@ use Rattle.domain_checker.{specs.Reading.is_at_cut, proofs.EncloserLemmas.{cut_s
 use Rattle.domain_checker.proofs.MeantLemmas.{BitmapsAreSets, ChainLaws, IgnoresCase, IsMeant, cut_at, ends, meant_by, owner_low, type_at, covered_no_owner}
 use Rattle.domain_checker.proofs.MeantLemmas.{covered_occluded, matched_low, matched_same}
 use Rattle.domain_answer.specs.{TypesAnswer.is_of_child, Proved.LeavesOutBelowDname, Reading.{tells_occluded, tells_occluder}}
-use Rattle.domain_answer.specs.ZoneAnswer.{name_exists, owns_type}
+use Rattle.domain_answer.{specs.ZoneAnswer.{name_exists, owns_type}, proofs.OccluderLemmas.cut_owns}
 
 -- a chain that leaves out what stands below a DNAME
 pub meant_leaving : ChainLaws → (L : List ZoneRecord) (a : Name) (config : GenerateNsecConfig) (links : List Link)
@@ -52,18 +51,9 @@ strictly_any (n ∷ names) x e =
     let p = or_parts (same_name n x) (list_any (λ n. same_name n x) names) e in
     λ j. and_not (is_at_or_below n x) (same_name n x) p.0 j || strictly_any names x p.1 j
 
-none_filtered : {X : Type 0} (p : X → Bool) (xs : List X) → list_any p xs ≡ false → filter p xs ≡ []
-none_filtered p [] e = refl
-none_filtered p (x ∷ xs) e =
-    let q = or_parts (p x) (list_any p xs) e in
-    (λ j. cond (q.0 j) (x ∷ filter p xs) (filter p xs)) ∙ none_filtered p xs q.1
-
--- what owns nothing is no zone cut, and owns no type
+-- what owns nothing is no zone cut
 pub no_cut : (L : List ZoneRecord) (a x : Name) → owns L x ≡ false → is_zone_cut L a x ≡ false
-no_cut L a x e = (λ j. is_strictly_below x a && has_type (none_filtered (λ r. same_name r.owner x) L e j) ns) ∙ and_false (is_strictly_below x a)
-
-pub no_type : (L : List ZoneRecord) (a : Name) (assume : Bool) (x : Name) (t : ℕ) → owns L x ≡ false → owns_type L a assume x t ≡ false
-no_type L a assume x t e = λ j. e j && nsec_lists L a assume x t
+no_cut L a x e = false_from_ne_true (is_zone_cut L a x) (λ c. false≢true (sym e ∙ cut_owns L a x c))
 
 module _ (L : List ZoneRecord) (a : Name) (assume : Bool) (links : List Link) (meant : IsMeant true L a assume links)
     (alike : IgnoresCase L a assume) (sets : BitmapsAreSets) where

@@ -1,6 +1,6 @@
 -- How many labels names have: the last ones, and those that names share.
-use Rattle.std.proofs.Common.{◌≡◌, ℕ, ◌≤◌, ◌<◌, ◌-◌, suc, Bool, true, false, cond, not, ◌&&◌, ◌||◌, List, [], ◌∷◌, drop, length, refl, sym, ap, ◌∙◌, inl, inr}
-use Rattle.std.proofs.{Common.arith, lemmas.{Bool.{cases_Bool, false≢true, and_parts}, Grind.common_steps}}
+use Rattle.std.proofs.Common.{◌≡◌, ℕ, ◌≤◌, ◌<◌, ◌-◌, suc, Bool, true, false, cond, not, ◌&&◌, ◌||◌, List, [], ◌∷◌, drop, length, refl, sym, ap, ◌∙◌}
+use Rattle.std.proofs.{Common.arith, lemmas.{Bool.{and_parts, false_from_ne_true, false≢true}, Grind.common_steps}}
 use Rattle.domain_names.specs.{Name.{is_at_or_below, is_strictly_below, lowered, same_name, last_labels}, Order.before, Words.{Label, Name}}
 use Rattle.domain_zone.specs.{Covering.{covers, matches}, Enclosers.{longer, shared}}
 use Rattle.domain_zone.proofs.NameLemmas.{before_right, before_order, below_between, below_from, below_itself, below_longer, below_parent, below_root}
@@ -58,6 +58,10 @@ longer_less n e f p q = grind (arith, common_steps)
 pub covers_parts : (m oo ox xn : Bool) → (not m && cond oo (ox && xn) (ox || xn)) ≡ true → (cond oo (ox && xn) (ox || xn)) ≡ true
 covers_parts m oo ox xn h = (and_parts (not m) (cond oo (ox && xn) (ox || xn)) h).1
 
+-- a name that is not after the owner is before the next name, which is not after the owner either
+after_owner : (oo ox xn : Bool) → ox ≡ false → cond oo (ox && xn) (ox || xn) ≡ true → (oo ≡ false) × (xn ≡ true)
+after_owner oo ox xn e between = grind (arith, common_steps)
+
 module _ (o n x : Name) (c : covers before o n x ≡ true) where
   between : cond (before o n) (before o x && before x n) (before o x || before x n) ≡ true
   between = covers_parts (matches before o x) (before o n) (before o x) (before x n) c
@@ -72,20 +76,9 @@ module _ (o n x : Name) (c : covers before o n x ≡ true) where
 
   -- then the owner isn't either
   owner_apart : is_strictly_below n x ≡ false → is_at_or_below o x ≡ false
-  owner_apart s =
-      elim (cases_Bool (is_at_or_below o x)) [
-        | inl e ↦
-            let behind : before o x ≡ false = below_from o x e in
-            let ahead = after_owner (before o n) refl behind in
-            absurd (false≢true (sym (next_apart s) ∙ below_between o x n e ahead.1 ahead.0))
-        | inr e ↦ e
-      ]
-    where
-      after_owner : (b : Bool) → before o n ≡ b → before o x ≡ false → (before o n ≡ false) × (before n x ≡ false)
-      after_owner true e f = absurd (false≢true (sym (λ i. cond (e i) (f i && before x n) (f i || before x n)) ∙ between))
-      after_owner false e f =
-          let ahead : before x n ≡ true = sym (λ i. cond (e i) (f i && before x n) (f i || before x n)) ∙ between in
-          (e, before_order.one_way x n ahead)
+  owner_apart s = false_from_ne_true (is_at_or_below o x) (λ e.
+      let ahead = after_owner (before o n) (before o x) (before x n) (below_from o x e) between in
+      false≢true (sym (next_apart s) ∙ below_between o x n e (before_order.one_way x n ahead.1) ahead.0))
 
   -- so the closest encloser has fewer labels
   pub encloser_less : is_strictly_below n x ≡ false → length (longer (shared x o) (shared x n)) < length x

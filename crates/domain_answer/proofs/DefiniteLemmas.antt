@@ -1,11 +1,13 @@
--- A choice between answers that a zone gives is one of them.
-use Rattle.std.proofs.{Common.{◌≡◌, ◌≢◌, ℕ, Bool, true, false, cond, sym, ap, ◌∙◌, arith}, lemmas.{Bool.true≢false, Grind.common_steps}}
+-- What a list proves that tells all, and answers that a zone gives: a choice between them is one of them.
+use Rattle.std.proofs.{Common.{◌≡◌, ◌≢◌, ℕ, Bool, true, false, cond, not, ◌||◌, sym, ap, ◌∙◌, arith}, lemmas.{Bool.true≢false, Grind.common_steps}}
 use Rattle.domain_answer.specs.declared.answer.Answer.{Answer}
 use Rattle.domain_answer.specs.declared.answer.Answer.TheVariants.{Referral, Has, NoDs, Alias, NoData, Wildcard, NotProven}
 use Rattle.domain_answer.specs.declared.answer.Answer.TheVariants.{WildcardAlias, WildcardNoData, NameError, NoCloserName, TooManyIterations}
 
-pub either : (b : Bool) (v : Answer) → cond b v v ≡ v
-either b v = grind (arith, common_steps)
+-- where all is told that is needed, the answer v is proved
+pub all_told : (low parent told lacks : Bool) (v less : Answer) → (low ≡ true → told ≡ true) → (low ≡ true → lacks ≡ false)
+    → cond (not low || parent) v (cond (not told) NotProven (cond lacks less v)) ≡ v
+all_told low parent told lacks v less f g = grind (arith, common_steps)
 
 unfoldable pub is_of_zone : Answer → Bool
 is_of_zone (NoCloserName n) = false

@@ -3,6 +3,7 @@ pub mod ToldLemmas
 pub mod DefiniteLemmas
 pub mod CountLemmas
 pub mod WildcardLemmas
+pub mod EncloserLemmas
 pub mod OccluderLemmas
 pub mod ChainLemmas
 pub mod AnswerLemmas
@@ -10,6 +11,7 @@ pub mod ProofLemmas
 pub mod AlikeLemmas
 pub mod WholeLemmas
 pub mod KindLemmas
+pub mod HashedWayLemmas
 pub mod HashedAnswerLemmas
 pub mod HashedProofLemmas
 pub mod HashedAlikeLemmas

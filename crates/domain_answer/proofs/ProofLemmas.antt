@@ -1,5 +1,5 @@
 -- Of any records at all: those that an answer rests on are there, and what it counts is within the name.
-use Rattle.std.proofs.Common.{◌≡◌, ◌<◌, arith, ℕ, Bool, true, false, cond, ◌||◌, List, length, refl, Option, Some, None}
+use Rattle.std.proofs.Common.{◌≡◌, ◌<◌, ◌⊎◌, arith, ℕ, Bool, true, false, cond, ◌||◌, List, length, refl, inl, inr, Option, Some, None}
 use Rattle.std.{proofs.lemmas.{Bool.{and_parts, or_left, or_right}, Grind.common_steps}, specs.List.find}
 use Rattle.domain_bitmap.specs.Blocks.{contains_type}
 use Rattle.domain_names.specs.{Name.{is_strictly_below, last_labels}, Order.before, Words.Name}
@@ -16,6 +16,20 @@ use Rattle.domain_answer.{specs.ZoneAnswer.wildcard_below, proofs.CountLemmas.en
 -- what both answers have, the one that is chosen has
 pub choose : (P : Answer → Type 0) (b : Bool) (v w : Answer) → P v → P w → P (cond b v w)
 choose P b v w p q = grind (arith, common_steps)
+
+-- P holds of what is said of a wildcard, where it holds of all that its record may say, and of what is said without one
+wildcard_has : (P : Answer → Type 0) (a : Name) (n : ℕ) (w : Name) (t : ℕ) (m c : Option Link) → P (NoCloserName n)
+    → ((k : Link) → (m ≡ Some k) ⊎ (c ≡ Some k) → P (Wildcard n) × P (WildcardAlias n) × P (WildcardNoData n) × P (NameError n))
+    → P (wildcard_both a n w t m c)
+wildcard_has P a n w t None None none some = none
+wildcard_has P a n w t None (Some k) none some =
+    let p = some k (inr refl) in
+    choose P (tells_occluded a k w) (NoCloserName n) (cond (is_strictly_below k.next w) (WildcardNoData n) (NameError n)) none
+    (choose P (is_strictly_below k.next w) (WildcardNoData n) (NameError n) p.2 p.3)
+wildcard_has P a n w t (Some k) c none some =
+    let p = some k (inl refl) in
+    choose P (contains_type k.bits t || is_at_cut a k) (Wildcard n) (cond (contains_type k.bits cname) (WildcardAlias n) (WildcardNoData n)) p.0
+    (choose P (contains_type k.bits cname) (WildcardAlias n) (WildcardNoData n) p.1 p.2)
 
 module _ (a : Name) (listed : List Link) where
   told : (y : Name) (k : Link) → In k listed → is_inside a k ≡ true → matches_or_covers before k.owner k.next y ≡ true → HasProof listed a y
@@ -38,21 +52,11 @@ module _ (a : Name) (listed : List Link) where
     Rests = RestsOn listed a x
 
     absent_rests : (n : ℕ) → HasProof listed a x → Rests (absent_answer a listed n x t)
-    absent_rests n h = by (find (is_match a w) listed) (find (is_cover a w) listed) refl refl
-      where
-        w : Name
-        w = wildcard_below (last_labels n x)
-
-        by : (o p : Option Link) → find (is_match a w) listed ≡ o → find (is_cover a w) listed ≡ p → Rests (wildcard_both a n w t o p)
-        by None None e f = h
-        by None (Some k) e f =
-            let both : HasBothProofs listed a x n = (h, by_cover w k f) in
-            choose Rests (tells_occluded a k w) (NoCloserName n) (cond (is_strictly_below k.next w) (WildcardNoData n) (NameError n)) h
-            (choose Rests (is_strictly_below k.next w) (WildcardNoData n) (NameError n) both both)
-        by (Some k) p e f =
-            let both : HasBothProofs listed a x n = (h, by_match w k e) in
-            choose Rests (contains_type k.bits t || is_at_cut a k) (Wildcard n) (cond (contains_type k.bits cname) (WildcardAlias n) (WildcardNoData n)) both
-            (choose Rests (contains_type k.bits cname) (WildcardAlias n) (WildcardNoData n) both both)
+    absent_rests n h =
+        let w = wildcard_below (last_labels n x) in
+        wildcard_has Rests a n w t (find (is_match a w) listed) (find (is_cover a w) listed) h (λ k o.
+        let both : HasBothProofs listed a x n = (h, elim o [ inl e ↦ by_match w k e | inr e ↦ by_cover w k e ]) in
+        (both, both, both, both))
 
     match_rests : (k : Link) → HasProof listed a x → Rests (match_answer a k t)
     match_rests k h = grind (arith, common_steps)
@@ -80,19 +84,9 @@ module _ (a : Name) (listed : List Link) where
     choose_by b v w p q = grind (arith, common_steps)
 
     absent_counts : (n : ℕ) → n < length x → Counts (absent_answer a listed n x t)
-    absent_counts n h = by (find (is_match a w) listed) (find (is_cover a w) listed)
-      where
-        w : Name
-        w = wildcard_below (last_labels n x)
-
-        by : (o p : Option Link) → Counts (wildcard_both a n w t o p)
-        by None None = h
-        by None (Some k) =
-            choose Counts (tells_occluded a k w) (NoCloserName n) (cond (is_strictly_below k.next w) (WildcardNoData n) (NameError n)) h
-            (choose Counts (is_strictly_below k.next w) (WildcardNoData n) (NameError n) h h)
-        by (Some k) p =
-            choose Counts (contains_type k.bits t || is_at_cut a k) (Wildcard n) (cond (contains_type k.bits cname) (WildcardAlias n) (WildcardNoData n)) h
-            (choose Counts (contains_type k.bits cname) (WildcardAlias n) (WildcardNoData n) h h)
+    absent_counts n h =
+        let w = wildcard_below (last_labels n x) in
+        wildcard_has Counts a n w t (find (is_match a w) listed) (find (is_cover a w) listed) h (λ k o. (h, h, h, h))
 
     match_counts : (k : Link) → matches before k.owner x ≡ true → Counts (match_answer a k t)
     match_counts k m = grind (arith, common_steps, same_count, same_is)

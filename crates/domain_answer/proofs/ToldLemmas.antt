@@ -1,5 +1,5 @@
 -- What records tell of a name by themselves, and what is left to a wildcard.
-use Rattle.std.{proofs.Common.{◌≡◌, ◌≢◌, ℕ, ◌<◌, Bool, cond, List, length, Option, arith}, specs.List.find}
+use Rattle.std.{proofs.Common.{◌≡◌, ◌≢◌, ℕ, ◌<◌, List, length, Option, arith}, specs.List.find}
 use Rattle.domain_names.specs.Words.{Name}
 use Rattle.domain_nsec.specs.Chain.{Link}
 use Rattle.domain_checker.specs.Reading.{is_cover, is_match}
@@ -10,9 +10,6 @@ use Rattle.domain_answer.specs.Reading.{absent_answer, match_answer, owner_answe
 use Rattle.std.proofs.lemmas.Grind.{common_steps}
 
 -- ---- what a record says of its owner, or of what is below it, rests on no wildcard
-
-abbrev chosen : ℕ → Bool → Bool → Bool → Bool → Bool → Answer
-chosen n b d h c l = cond b answer.NotProven (cond d (answer.Referral n) (cond h answer.Has (cond c answer.NoDs (cond l answer.Alias answer.NoData))))
 
 pub match_own : (a : Name) (k : Link) (t : ℕ) → name_answer (match_answer a k t) ≡ Given (match_answer a k t)
 match_own a k t = grind (arith, common_steps)

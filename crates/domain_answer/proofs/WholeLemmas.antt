@@ -1,50 +1,33 @@
 -- The whole chain proves all that the zone says; and which chains leave out the names below a DNAME.
 use Rattle.std.proofs.Common.{◌≡◌, ◌≢◌, ℕ, Bool, true, false, cond, not, ◌&&◌, ◌||◌, List, [], ◌∷◌, map, length, refl, sym, ap, ◌∙◌, inl, inr, Option, arith}
-use Rattle.std.proofs.lemmas.{Bool.{cases_Bool, and_parts}, List.Elements.recursion_from_All, Grind.common_steps}
+use Rattle.std.proofs.lemmas.{Bool.and_right, List.Elements.recursion_from_All, Grind.common_steps}
 use Rattle.std.specs.{Prelude.{All, filter}, List.list_any}
 use Rattle.domain_octets.proofs.StdLemmas.{and_false}
 use Rattle.domain_names.specs.{Name.{is_at_or_below, is_strictly_below}, Words.Name}
 use Rattle.domain_base.specs.Types.{dname}
 use Rattle.domain_zone.specs.Zone.{ZoneRecord, OwnersNeverDescend, distinct, has_type, is_occluded, is_unoccluded, is_zone_cut, occludes, records_of}
 use Rattle.domain_zone.specs.Zone.{unoccluded_owners}
-use Rattle.domain_zone.proofs.{NameLemmas.{below_parent, below_trans}, PairLemmas.{In, all_in}, OwnerLemmas.in_any, FindLemmas.{any_none, from_map, in_filter}}
+use Rattle.domain_zone.proofs.{PairLemmas.{In, all_in}, OwnerLemmas.in_any, FindLemmas.{any_none, from_map, in_filter}}
 use Rattle.domain_nsec.specs.{Chain.{IsChain, Link}, declared.config.GenerateNsecConfig.GenerateNsecConfig}
 use Rattle.domain_checker.{specs.Verdict.has_match_or_cover, proofs.{EncloserLemmas.{closest_is, in_distinct}, MeantLemmas.{ChainLaws, apex_exists, some_link}}}
-use Rattle.domain_answer.specs.declared.answer.Answer.{Answer, TheVariants.{NoCloserName, NotProven}}
+use Rattle.domain_answer.specs.declared.answer.Answer.{TheVariants.{NoCloserName, NotProven}}
 use Rattle.domain_answer.specs.Proved.{LeavesOutBelowDname, is_missing, knows_wildcard, proved_answer}
-use Rattle.domain_answer.specs.ZoneAnswer.{asterisk, encloser, inside_answer, is_at_parent, name_exists, wildcard_below, zone_answer}
-use Rattle.domain_answer.proofs.{ChainLemmas.meant_leaving, DefiniteLemmas.{choose, either, is_of_zone, of_zone_knows, of_zone_proves}}
-
-pub wildcard_low : (L : List ZoneRecord) (a : Name) (x : Name) → name_exists L a a ≡ true → is_at_or_below x a ≡ true
-    → is_at_or_below (wildcard_below (encloser L a x)) a ≡ true
-wildcard_low L a x apex low =
-    let above = encloser L a x in
-    let closest = closest_is (unoccluded_owners true L a) a x apex low in
-    below_trans (wildcard_below above) above a (below_parent asterisk above)
-    (and_parts (is_at_or_below above a) (list_any (λ n. is_at_or_below n above) (unoccluded_owners true L a)) closest.found).0
+use Rattle.domain_answer.specs.ZoneAnswer.{encloser, inside_answer, is_at_parent, wildcard_below, zone_answer}
+use Rattle.domain_answer.proofs.{ChainLemmas.meant_leaving, EncloserLemmas.wildcard_low}
+use Rattle.domain_answer.proofs.DefiniteLemmas.{all_told, choose, is_of_zone, of_zone_knows, of_zone_proves}
 
 pub whole_proves : ChainLaws → (L : List ZoneRecord) (a : Name) (config : GenerateNsecConfig) (links : List Link) (x : Name)
     (t : ℕ) → LeavesOutBelowDname L a config → OwnersNeverDescend L → IsChain L a config links
     → proved_answer L a config.assume_dnskeys_will_be_added links x t ≡ zone_answer L a config.assume_dnskeys_will_be_added x t
 whole_proves laws L a config links x t leaves order chain =
-    elim (cases_Bool (is_at_or_below x a)) [
-      | inl e ↦
-          let meant = meant_leaving laws L a config links leaves order chain in
-          let said = some_link true L a assume links meant x e in
-          let wild = some_link true L a assume links meant (wildcard_below (encloser L a x)) (wildcard_low L a x (apex_exists true L a assume links meant) e) in
-          (λ i. cond (not (e i) || is_at_parent a x t) zone (cond (not (said i)) NotProven
-          (cond (is_missing L a x && not (wild i)) (NoCloserName (length (encloser L a x))) zone)))
-          ∙ (λ i. cond (is_at_parent a x t) zone (cond (and_false (is_missing L a x) i) (NoCloserName (length (encloser L a x))) zone))
-          ∙ either (is_at_parent a x t) zone
-      | inr e ↦ (λ i. cond (not (e i) || is_at_parent a x t) zone (cond (not (has_match_or_cover links x)) NotProven
-          (cond (is_missing L a x && not (knows_wildcard L a links x)) (NoCloserName (length (encloser L a x))) zone)))
-    ]
-  where
-    assume : Bool
-    assume = config.assume_dnskeys_will_be_added
-
-    zone : Answer
-    zone = zone_answer L a config.assume_dnskeys_will_be_added x t
+    let assume = config.assume_dnskeys_will_be_added in
+    let en = encloser L a x in
+    let meant = meant_leaving laws L a config links leaves order chain in
+    all_told (is_at_or_below x a) (is_at_parent a x t) (has_match_or_cover links x) (is_missing L a x && not (knows_wildcard L a links x))
+    (zone_answer L a assume x t) (NoCloserName (length en)) (some_link true L a assume links meant x) (λ low.
+    let closest = closest_is (unoccluded_owners true L a) a x (apex_exists true L a assume links meant) low in
+    let wild = some_link true L a assume links meant (wildcard_below en) (wildcard_low (unoccluded_owners true L a) a x en closest) in
+    and_right (is_missing L a x) (not (knows_wildcard L a links x)) (ap not wild))
 
 -- ---- a zone says something of each name
 

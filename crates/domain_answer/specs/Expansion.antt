@@ -10,9 +10,7 @@ use Rattle.domain_zone.specs.Zone.{ZoneRecord}
 use Rattle.domain_nsec3.specs.{Chain.{HashedLink, IsHashedChain}, Config.{ChainConfig, hash_name}, Meaning.IsAlone}
 use Rattle.domain_checker.specs.{HashedVerdict.is_covered, HashedView.{HashedRecords, chain_records, first_cover, first_match}}
 use Rattle.domain_answer.specs.{HashedReading.next_answer, HashedZoneAnswer.hashed_exists, declared.answer.Answer.Answer}
-use Rattle.domain_answer.specs.declared.answer.Answer.TheVariants.{OutsideZone, AtParent, Referral, Redirected, Has, NoDs, Alias, NoData, Wildcard}
-use Rattle.domain_answer.specs.declared.answer.Answer.TheVariants.{WildcardAlias, WildcardNoData, NameError, MayBeUnsigned, NoCloserName, TooManyIterations}
-use Rattle.domain_answer.specs.declared.answer.Answer.TheVariants.{NotProven}
+use Rattle.domain_answer.specs.declared.answer.Answer.TheVariants.{OutsideZone, MayBeUnsigned, NoCloserName, TooManyIterations, NotProven}
 
 -- x is longer than its last n labels, and these are a name at or below the apex
 abbrev pub is_expanded : Name → Name → ℕ → Bool
@@ -63,18 +61,8 @@ HasCoveredCloser R x n count = (count ≡ n) × (is_covered R (closer_name n x) 
 -- the records that an answer rests on are there, whatever else the list has
 abbrev pub ExpansionRestsOn : HashedRecords → Name → ℕ → Answer → Type 0
 ExpansionRestsOn R x n OutsideZone = is_at_or_below x R.apex ≡ false
-ExpansionRestsOn R x n AtParent = ⊥
-ExpansionRestsOn R x n (Referral count) = ⊥
-ExpansionRestsOn R x n (Redirected count) = ⊥
-ExpansionRestsOn R x n Has = ⊥
-ExpansionRestsOn R x n NoDs = ⊥
-ExpansionRestsOn R x n Alias = ⊥
-ExpansionRestsOn R x n NoData = ⊥
-ExpansionRestsOn R x n (Wildcard count) = ⊥
-ExpansionRestsOn R x n (WildcardAlias count) = ⊥
-ExpansionRestsOn R x n (WildcardNoData count) = ⊥
-ExpansionRestsOn R x n (NameError count) = ⊥
 ExpansionRestsOn R x n (MayBeUnsigned count) = HasCoveredCloser R x n count
 ExpansionRestsOn R x n (NoCloserName count) = HasCoveredCloser R x n count
 ExpansionRestsOn R x n TooManyIterations = Unit {0}
 ExpansionRestsOn R x n NotProven = Unit {0}
+ExpansionRestsOn R x n _ = ⊥

@@ -10,7 +10,7 @@ use Rattle.domain_checker.specs.HashedView.{HashedRecords, chain_records}
 use Rattle.domain_checker.specs.HashedVerdict.{is_below_chain_cut, is_covered, is_matched, next_closer, IsFirstMatched}
 use Rattle.domain_answer.specs.{HashedZoneAnswer.{hashed_encloser, hashed_exists, hashed_zone_answer, HashedLeavesOutBelowDname}, Proved.needs_no_records}
 use Rattle.domain_answer.specs.{ZoneAnswer.wildcard_below, declared.answer.Answer.Answer}
-use Rattle.domain_answer.specs.declared.answer.Answer.TheVariants.{OutsideZone, AtParent, Referral, Redirected, Has, NoDs, Alias, NoData, Wildcard}
+use Rattle.domain_answer.specs.declared.answer.Answer.TheVariants.{OutsideZone, AtParent, Referral, Redirected, Wildcard}
 use Rattle.domain_answer.specs.declared.answer.Answer.TheVariants.{WildcardAlias, WildcardNoData, NameError, MayBeUnsigned, NoCloserName, TooManyIterations}
 use Rattle.domain_answer.specs.declared.answer.Answer.TheVariants.{NotProven}
 
@@ -96,10 +96,6 @@ HashedRestsOn R x OutsideZone = Unit {0}
 HashedRestsOn R x AtParent = Unit {0}
 HashedRestsOn R x (Referral n) = HasEncloserProof R x n
 HashedRestsOn R x (Redirected n) = HasEncloserProof R x n
-HashedRestsOn R x Has = is_matched R x ≡ true
-HashedRestsOn R x NoDs = is_matched R x ≡ true
-HashedRestsOn R x Alias = is_matched R x ≡ true
-HashedRestsOn R x NoData = is_matched R x ≡ true
 HashedRestsOn R x (Wildcard n) = HasWildcardProof R x n
 HashedRestsOn R x (WildcardAlias n) = HasWildcardProof R x n
 HashedRestsOn R x (WildcardNoData n) = HasWildcardProof R x n
@@ -108,3 +104,4 @@ HashedRestsOn R x (MayBeUnsigned n) = HasCloserProof R x n
 HashedRestsOn R x (NoCloserName n) = HasCloserProof R x n
 HashedRestsOn R x TooManyIterations = Unit {0}
 HashedRestsOn R x NotProven = Unit {0}
+HashedRestsOn R x _ = is_matched R x ≡ true

@@ -6,8 +6,7 @@ use Rattle.domain_base.specs.Types.{cname, dname, ds}
 use Rattle.domain_zone.specs.Zone.{ZoneRecord, has_type, is_unoccluded, is_zone_cut, records_of}
 use Rattle.domain_answer.specs.{Proved.is_missing, ZoneAnswer.{encloser, is_at_parent, name_exists, owns_type, wildcard_below}, declared.answer.Answer.Answer}
 use Rattle.domain_answer.specs.declared.answer.Answer.TheVariants.{OutsideZone, AtParent, Referral, Redirected, Has, NoDs, Alias, NoData, Wildcard}
-use Rattle.domain_answer.specs.declared.answer.Answer.TheVariants.{WildcardAlias, WildcardNoData, NameError, MayBeUnsigned, NoCloserName, TooManyIterations}
-use Rattle.domain_answer.specs.declared.answer.Answer.TheVariants.{NotProven}
+use Rattle.domain_answer.specs.declared.answer.Answer.TheVariants.{WildcardAlias, WildcardNoData, NameError}
 
 -- a zone cut o of n labels that is not occluded: x is strictly below it, or is it and the type is
 -- not DS
@@ -73,7 +72,4 @@ IsSo L a assume x t (WildcardNoData n) =
     × (owns_type L a assume (wildcard_of L a x) cname ≡ false)
 IsSo L a assume x t (NameError n) =
     IsAbsent L a x t n × (name_exists L a (wildcard_of L a x) ≡ false)
-IsSo L a assume x t (MayBeUnsigned n) = ⊥
-IsSo L a assume x t (NoCloserName n) = ⊥
-IsSo L a assume x t TooManyIterations = ⊥
-IsSo L a assume x t NotProven = ⊥
+IsSo L a assume x t _ = ⊥

@@ -1,19 +1,19 @@
 -- Where a search by hash in a chain ends, the record matches or covers the hash, and no other does.
 use Rattle.std.proofs.Common.{◌≡◌, ℕ, zero, suc, ◌-◌, ◌<◌, ◌≤◌, true, false, cond, ◌&&◌, List, [], ◌∷◌, map, length, get_or, slice_get, Some, None, refl, sym}
-use Rattle.std.proofs.{Common.{ap, ◌∙◌, arith, inl, inr, ◌⊎◌}, lemmas.List.{length-map, Elements.recursion_from_All, Sorted.ranks_by}}
+use Rattle.std.proofs.{Common.{ap, ◌∙◌, arith, inl, inr, ◌⊎◌}, lemmas.List.{get_or_past, length-map, Elements.recursion_from_All, Sorted.ranks_by}}
 use Rattle.std.proofs.lemmas.{Option.{get_or_from_slice_get, slice_get-get_or, slice_get_within}, Grind.common_steps}
 use Rattle.std.specs.{List.{AllByRecursion, Sorted.IsStrictlySortedBy}, Cmp.{IsStrictWeakOrder, Lexicographic.{nat_list_cmp_total, slice_cmp}}}
 use Rattle.std.specs.{Ordering.{is_eq, is_lt, nat_cmp}, declared.cmp.Ordering.TheVariants.Less}
 use Rattle.domain_codecs.specs.{Base32.base32_lower, Codec.IsBase32}
 use Rattle.domain_octets.{specs.Words.{AreOctets, Octets}, proofs.StdLemmas.some_is}
 use Rattle.domain_names.specs.Words.{Name}
-use Rattle.domain_zone.{specs.{Covering.{matches, matches_or_covers, pairs}, Zone.ZoneRecord}, proofs.NameLemmas.same_itself}
+use Rattle.domain_zone.{specs.{Covering.{matches, matches_or_covers}, Zone.ZoneRecord}, proofs.NameLemmas.same_itself}
 use Rattle.domain_zone.proofs.{PairLemmas.{IsAscending, irreflexive, one_matches_or_covers, In, all_in}, PlaceLemmas.{IsOnly, one_place}, FindLemmas.in_at}
-use Rattle.domain_nsec3.specs.{Chain.{HashedLink, HashedName, IsHashedChain, IsOfChain, cycle, ends, ends_of, hashed_owner}, Config.{ChainConfig, Parameters}}
+use Rattle.domain_nsec3.specs.{Chain.{HashedLink, HashedName, IsHashedChain, IsOfChain, cycle, ends, ends_of}, Config.{ChainConfig, Parameters}}
 use Rattle.domain_nsec3.specs.Meaning.{IsRecordOf, octets_before}
 use Rattle.domain_checker.specs.HashedList.{hash_in, is_some_with, owner_hash, read_label, same_parameters}
 use Rattle.domain_checker.proofs.HashedListLemmas.{tied_is, hashes_octets, parameters_tie, spelled_back}
-use Rattle.domain_denier.specs.HashedSteps.{IsOfHash, IsSaid, tells_hash}
+use Rattle.domain_denier.{specs.HashedSteps.{IsOfHash, IsSaid, tells_hash}, proofs.NeighbourLemmas.{mapped_at, pair_is, pairs_length}}
 
 -- ---- lists of hashes that ascend
 
@@ -52,36 +52,14 @@ first_low (u ∷ us) up (suc i) h d e = grind (arith, common_steps, all_in, (all
 
 -- ---- the pairs of the cycle, by their places
 
-pair_is : (ks : List Octets) (f : Octets) (i : ℕ) (p : Octets × Octets) → slice_get (pairs ks f) i ≡ Some p
-    → (slice_get ks i ≡ Some p.0) × (p.1 ≡ get_or ks (suc i) f)
-pair_is [] f i p e = absurd (cc)
-pair_is (k ∷ []) f zero p e = let is : (k, f) ≡ p = cc in (ap (λ (q : Octets × Octets). Some q.0) is, ap (λ q. q.1) (sym is))
-pair_is (k ∷ []) f (suc i) p e = absurd (cc)
-pair_is (k ∷ m ∷ ks) f zero p e = let is : (k, m) ≡ p = cc in (ap (λ (q : Octets × Octets). Some q.0) is, ap (λ q. q.1) (sym is))
-pair_is (k ∷ m ∷ ks) f (suc i) p e = pair_is (m ∷ ks) f i p e
-
 cycle_is : (ks : List Octets) (i : ℕ) (p : Octets × Octets) (d : Octets) → slice_get (cycle ks) i ≡ Some p
     → (slice_get ks i ≡ Some p.0) × (p.1 ≡ get_or ks (suc i) (get_or ks 0 d))
 cycle_is [] i p d e = absurd (cc)
 cycle_is (u ∷ us) i p d e = pair_is (u ∷ us) u i p e
 
-pairs_length : (ks : List Octets) (f : Octets) → length (pairs ks f) ≡ length ks
-pairs_length [] f = refl
-pairs_length (k ∷ []) f = refl
-pairs_length (k ∷ m ∷ ks) f = ap suc (pairs_length (m ∷ ks) f)
-
 pub cycle_length : (ks : List Octets) → length (cycle ks) ≡ length ks
 cycle_length [] = refl
 cycle_length (u ∷ us) = pairs_length (u ∷ us) u
-
-paired_at : (a : Name) (links : List HashedLink) (ps : List (Octets × Octets)) → map ends links ≡ map (ends_of a) ps → (i : ℕ) (k : HashedLink)
-    → slice_get links i ≡ Some k → (p : Octets × Octets) × (slice_get ps i ≡ Some p) × (k.owner ≡ hashed_owner a p.0) × (k.next ≡ p.1)
-paired_at a [] ps e i k g = absurd (cc)
-paired_at a (l ∷ links) [] e i k g = absurd (cc)
-paired_at a (l ∷ links) (p ∷ ps) e zero k g = grind (arith, common_steps)
-paired_at a (l ∷ links) (p ∷ ps) e (suc i) k g =
-    let rest : map ends links ≡ map (ends_of a) ps = cc in
-    paired_at a links ps rest i k g
 
 -- the record of an owner with a next hash matches or covers v
 said : (o n v : Octets) → ((octets_before v o ≡ false) × ((octets_before v n ≡ true) ⊎ (octets_before o n ≡ false)))
@@ -104,11 +82,6 @@ pub record IsAfter (a : Name) (links : List HashedLink) (v : Octets) (place : �
 -- the end of what is left to search
 abbrev pub IsAhead : Name → List HashedLink → Octets → ℕ → Type 0
 IsAhead a links v place = (place ≡ length links) ⊎ IsAfter a links v place
-
-past : (ks : List Octets) (n : ℕ) (d : Octets) → length ks ≤ n → get_or ks n d ≡ d
-past [] n d e = refl
-past (k ∷ ks) zero d e = absurd (omega (arith, e))
-past (k ∷ ks) (suc n) d e = past ks n d (omega (arith, e))
 
 head_is : (x y : Octets) (xs ys : List Octets) → x ∷ xs ≡ y ∷ ys → x ≡ y
 head_is x y xs ys e = cc
@@ -135,20 +108,20 @@ module _ (apart : TellsApart) (L : List ZoneRecord) (a : Name) (config : ChainCo
   -- the record at a place
   record_at : (i : ℕ) (k : HashedLink) → slice_get links i ≡ Some k → (h : Octets) × IsRecordOf a links i k h
   record_at i k e =
-      let p = paired_at a links (cycle hashes) chain.linked i k e in
+      let p = mapped_at ends (ends_of a) links (cycle hashes) chain.linked i k e in
       let q = cycle_is hashes i p.0 [] p.1 in
-      (p.0.0, record { there = e; spelled = p.2; octets = all_octets i p.0.0 q.0 })
+      (p.0.0, record { there = e; spelled = ap (λ (q : Name × Octets). q.0) p.2; octets = all_octets i p.0.0 q.0 })
 
   -- what is known of one
   cycled : (i : ℕ) (k : HashedLink) (h : Octets) → IsRecordOf a links i k h
       → (slice_get (cycle (map (λ (n : HashedName). n.hash) chain.names)) i ≡ Some (h, k.next))
       × (slice_get (map (λ (n : HashedName). n.hash) chain.names) i ≡ Some h)
   cycled i k h r =
-      let p = paired_at a links (cycle hashes) chain.linked i k r.there in
+      let p = mapped_at ends (ends_of a) links (cycle hashes) chain.linked i k r.there in
       let q = cycle_is hashes i p.0 [] p.1 in
-      let owner : base32_lower p.0.0 ∷ a ≡ base32_lower h ∷ a = sym p.2 ∙ r.spelled in
+      let owner : base32_lower p.0.0 ∷ a ≡ base32_lower h ∷ a = sym (ap (λ (q : Name × Octets). q.0) p.2) ∙ r.spelled in
       let same : p.0.0 ≡ h = apart p.0.0 h (all_octets i p.0.0 q.0) r.octets (head_is (base32_lower p.0.0) (base32_lower h) a a owner) in
-      (p.1 ∙ (λ j. Some (same j, sym p.3 j)), q.0 ∙ ap Some same)
+      (p.1 ∙ (λ j. Some (same j, (sym p.2 j).1)), q.0 ∙ ap Some same)
 
   next_is : (i : ℕ) (k : HashedLink) (h : Octets) → IsRecordOf a links i k h → k.next ≡ get_or (map (λ (n : HashedName). n.hash) chain.names)
       (suc i) (get_or (map (λ (n : HashedName). n.hash) chain.names) 0 [])
@@ -157,7 +130,7 @@ module _ (apart : TellsApart) (L : List ZoneRecord) (a : Name) (config : ChainCo
   -- the record of the last hash leads to the first
   last_next : (i : ℕ) (k : HashedLink) (h : Octets) → IsRecordOf a links i k h → suc i ≡ length links → octets_before h k.next ≡ false
   last_next i k h r last =
-      ap (octets_before h) (next_is i k h r ∙ past hashes (suc i) (get_or hashes 0 []) (omega (arith, many, last)))
+      ap (octets_before h) (next_is i k h r ∙ get_or_past hashes (suc i) (get_or hashes 0 []) (omega (arith, many, last)))
       ∙ first_low hashes chain.ascend i h [] (cycled i k h r).1
 
   module _ (v : Octets) where
@@ -168,7 +141,7 @@ module _ (apart : TellsApart) (L : List ZoneRecord) (a : Name) (config : ChainCo
         let there : slice_get links i ≡ Some k = slice_get-get_or links i first.link (omega (arith, last)) in
         let r = record_at i k there in
         let next : k.next ≡ first.hash = next_is i k r.0 r.1
-        ∙ past hashes (suc i) (get_or hashes 0 []) (omega (arith, many, last))
+        ∙ get_or_past hashes (suc i) (get_or hashes 0 []) (omega (arith, many, last))
         ∙ get_or_from_slice_get hashes 0 first.hash [] (cycled 0 first.link first.hash first.is).1 in
         record {
           link = k;

@@ -1,27 +1,29 @@
 -- What is picked of the NSEC3 chain of a zone is what its answer rests on, and no more.
-use Rattle.std.proofs.Common.{◌≡◌, ◌≢◌, ℕ, ◌-◌, ◌<◌, Bool, true, false, cond, not, ◌&&◌, ◌||◌, List, [], ◌∷◌, map, length, Some, None, Option, slice_get}
-use Rattle.std.proofs.Common.{nat_eq, refl, sym, ap, ◌∙◌, inl, inr, ◌⊎◌, arith}
-use Rattle.std.proofs.lemmas.{Bool.{cases_Bool, eq-eqb, eqb-true, false≢true, and_parts, and_from, or_cases, or_left, or_right}, List.length-map}
-use Rattle.std.proofs.lemmas.{List.Elements.All-contains_itself, Option.{get_or_from_slice_get, slice_get_within}, Grind.common_steps}
-use Rattle.std.specs.{Prelude.All, List.{Contains, list_any}}
+use Rattle.std.proofs.Common.{◌≡◌, ◌≢◌, ℕ, ◌<◌, Bool, true, false, cond, not, ◌&&◌, ◌||◌, List, [], ◌∷◌, map, length, Some, None, Option, slice_get}
+use Rattle.std.proofs.Common.{refl, sym, ap, ◌∙◌, inl, inr, ◌⊎◌, arith}
+use Rattle.std.proofs.lemmas.{Bool.{and_parts, cases_eq, false≢true, or_cases, or_left, or_right, true_from_ne_false}, List.length-map}
+use Rattle.std.proofs.lemmas.Grind.{common_steps}
+use Rattle.std.specs.{List.{Contains, list_any}}
 use Rattle.domain_octets.{specs.Words.Octets, proofs.StdLemmas.{some_is, none_some}}
 use Rattle.domain_names.specs.{Name.{is_at_or_below, same_name, last_labels}, Words.Name}
 use Rattle.domain_zone.specs.{Enclosers.{IsClosestEncloser, exists_over}, Zone.{ZoneRecord, is_zone_cut}}
-use Rattle.domain_zone.proofs.{NameLemmas.{below_itself, below_longer}, OwnerLemmas.in_any, FindLemmas.{any_none, find_none}}
+use Rattle.domain_zone.proofs.{NameLemmas.{below_itself, below_longer}, OwnerLemmas.in_any}
 use Rattle.domain_nsec3.specs.{Chain.{ChainRecords, HashedLink, HashedName, IsHashedChain, cycle, ends, ends_of}, Config.{ChainConfig, Hash, hash_name}}
 use Rattle.domain_nsec3.specs.{Meaning.{IsAlone, TellsEncloser}, Owners.{is_chain_name, nsec3_lists, original_owners}}
 use Rattle.domain_base.specs.Types.{dname}
 use Rattle.domain_checker.specs.{HashedEncloser.IsOfName, HashedList.{is_hash_cover, is_hash_match}, HashedView.{HashedRecords, chain_records}}
-use Rattle.domain_checker.specs.{HashedVerdict.{is_covered, is_matched, is_ok_with, next_closer}, Verdict.closest_encloser}
+use Rattle.domain_checker.specs.{HashedVerdict.{is_covered, is_matched, next_closer}, Verdict.closest_encloser}
 use Rattle.domain_checker.proofs.{EncloserLemmas.{apex_from, closest_is, same_count}, HashedListLemmas.hash_same}
 use Rattle.domain_answer.specs.declared.answer.Answer.{Answer, TheVariants.{NoCloserName, NotProven}}
 use Rattle.domain_answer.specs.HashedProved.{AreAskedAlone, IsHashedAnswered, hashed_proved_answer, needs_wildcard, tells_encloser, tells_wildcard}
 use Rattle.domain_answer.specs.{HashedReading.IsHashedRead, HashedZoneAnswer.{HashedLeavesOutBelowDname, hashed_encloser, hashed_zone_answer}}
-use Rattle.domain_answer.{specs.ZoneAnswer.{is_at_parent, wildcard_below}, proofs.CountLemmas.closest_last}
+use Rattle.domain_answer.{specs.ZoneAnswer.{is_at_parent, wildcard_below}, proofs.{CountLemmas.closest_last, HashedWayLemmas.unheard}}
+use Rattle.domain_answer.proofs.EncloserLemmas.{exists_low, strictly_other}
 use Rattle.domain_denier.specs.Picked.{at_place}
-use Rattle.domain_denier.specs.HashedPicked.{AreHashedNeeded, IsHashedDenial, IsHashedWhole, TellOfTheirParts, hashed_picked, other_place, picked_without}
+use Rattle.domain_denier.specs.HashedPicked.{AreHashedNeeded, IsHashedDenial, IsHashedWhole, TellOfTheirParts, hashed_picked, picked_without}
 use Rattle.domain_denier.specs.{HashedSteps.{IsPickedRead, IsSoleCover, IsSoleMatch, IsSoleWildcard}, declared.nsec3.Nsec3Denial.Nsec3Denial}
-use Rattle.domain_denier.proofs.{HashSearchLemmas.cycle_length, SomeLemmas.{in_place, no_match, not_gone, three_contained, three_others}}
+use Rattle.domain_denier.proofs.{HashSearchLemmas.cycle_length, SomeLemmas.{AreAmong, all_among, among_contained, contained, in_place}}
+use Rattle.domain_denier.proofs.SomeLemmas.{no_match, others_among, picked_among, without_others}
 
 -- what the laws say
 pub record DenyLaws : Type 0 where
@@ -44,7 +46,7 @@ pub some_links : (L : List ZoneRecord) (a : Name) (config : ChainConfig) (links 
 some_links L a config links chain tells exist none =
     let hashes = map (λ (n : HashedName). n.hash) chain.names in
     let e = tells.encloser a (below_itself a) in
-    let low = (and_parts (is_at_or_below e.0 a) (list_any (λ n. is_at_or_below n e.0) (original_owners L a config)) e.1.found).0 in
+    let low = exists_low (original_owners L a config) a e.0 e.1.found in
     let count : length links ≡ length chain.names = sym (length-map links ends) ∙ ap length chain.linked
     ∙ length-map (cycle hashes) (ends_of a) ∙ cycle_length hashes ∙ length-map chain.names (λ (n : HashedName). n.hash) in
     by e.0 chain.names (chain.complete e.0 (sym (exist e.0 low) ∙ e.1.found)) (sym count ∙ ap length none)
@@ -52,6 +54,12 @@ some_links L a config links chain tells exist none =
     by : (y : Name) (names : List HashedName) → list_any (λ n. same_name n.name y) names ≡ true → length names ≡ 0 → ⊥
     by y [] h l = false≢true h
     by y (n ∷ names) h l = absurd (omega (arith, l))
+
+-- where no more is said than that there is no such name, so much is proved
+less_by : (tells lacks : Bool) (n m : ℕ) (v : Answer) → ((k : ℕ) → v ≢ NoCloserName k)
+    → NoCloserName n ≡ cond (not tells) NotProven (cond lacks (NoCloserName m) v)
+    → cond (not tells) NotProven (cond lacks (NoCloserName m) v) ≡ NoCloserName m
+less_by tells lacks n m v closer e = grind (arith, common_steps)
 
 module _ (laws : DenyLaws) (L : List ZoneRecord) (a : Name) (config : ChainConfig) (links : List HashedLink)
     (leaves : HashedLeavesOutBelowDname L a config) (chain : IsHashedChain L a config links) (x : Name) (t : ℕ) (small : t < 65536)
@@ -66,18 +74,19 @@ module _ (laws : DenyLaws) (L : List ZoneRecord) (a : Name) (config : ChainConfi
   owners = original_owners L a config
 
   -- what some links prove is what they say
-  proved_is : (listed : List HashedLink) → All (Contains links) listed → (answer : Answer)
+  proved_is : (listed : List HashedLink) → AreAmong links listed → (answer : Answer)
       → IsHashedRead (chain_records a config listed) x t answer → answer ≡ hashed_proved_answer L a config listed x t
   proved_is listed among answer read =
-      laws.readings (chain_records a config listed) x t answer small low parent read L config links refl refl leaves chain asked among
+      laws.readings (chain_records a config listed) x t answer small low parent read L config links refl refl leaves chain asked
+      (among_contained links listed among)
 
   zone_is : (d : Nsec3Denial) → IsPickedRead (chain_records a config links) x t d → d.answer ≡ hashed_zone_answer L a config x t
-  zone_is d read = proved_is links (All-contains_itself links) d.answer read.whole ∙ laws.whole L a config links x t leaves chain asked
+  zone_is d read = proved_is links (all_among links) d.answer read.whole ∙ laws.whole L a config links x t leaves chain asked
 
   picked_proves : (d : Nsec3Denial) → IsPickedRead (chain_records a config links) x t d
       → hashed_proved_answer L a config (hashed_picked links d) x t ≡ hashed_zone_answer L a config x t
   picked_proves d read =
-      sym (proved_is (hashed_picked links d) (three_contained links d.of_encloser d.of_next_closer d.of_wildcard) d.answer read.picked)
+      sym (proved_is (hashed_picked links d) (picked_among links d) d.answer read.picked)
       ∙ zone_is d read
 
   -- ---- without the record of the closest encloser
@@ -95,11 +104,8 @@ module _ (laws : DenyLaws) (L : List ZoneRecord) (a : Name) (config : ChainConfi
   untold listed e = inside_proved listed ∙ (λ i. cond (not (e i)) NotProven (rest listed))
 
   whole_tells : tells_encloser L a config links x ≡ true
-  whole_tells =
-      elim (cases_Bool (tells_encloser L a config links x)) [
-        | inl e ↦ e
-        | inr e ↦ absurd (laws.definite L a config x t (sym (laws.whole L a config links x t leaves chain asked) ∙ untold links e))
-      ]
+  whole_tells = true_from_ne_false (tells_encloser L a config links x) (λ e.
+      laws.definite L a config x t (sym (laws.whole L a config links x t leaves chain asked) ∙ untold links e))
 
   abbrev closes : List HashedLink → Bool
   closes listed =
@@ -110,18 +116,12 @@ module _ (laws : DenyLaws) (L : List ZoneRecord) (a : Name) (config : ChainConfi
   encloser_matched = (and_parts (is_matched (chain_records a config links) en) (closes links) whole_tells).0
 
   module _ (place : ℕ) (sole : IsSoleMatch (chain_records a config links) x place) where
-    contained : Contains links sole.of.link
-    contained = (
-      place,
-      slice_get_within links place sole.of.link sole.of.there,
-      get_or_from_slice_get links place sole.of.link sole.of.link sole.of.there,
-    )
-
     alone : IsAlone L a config sole.name sole.value
     alone = grind (arith, common_steps)
 
     exists : exists_over (original_owners L a config) a sole.name ≡ true
-    exists = (laws.matches L a config links chain sole.name sole.value sole.within alone sole.of.link contained sole.of.matched).exists
+    exists = (laws.matches L a config links chain sole.name sole.value sole.within alone sole.of.link (contained links place sole.of.link sole.of.there)
+        sole.of.matched).exists
 
     closest : IsClosestEncloser (original_owners L a config) a x (closest_encloser (original_owners L a config) a x)
     closest = closest_is (original_owners L a config) a x (apex_from (original_owners L a config) a sole.name exists) low
@@ -130,23 +130,15 @@ module _ (laws : DenyLaws) (L : List ZoneRecord) (a : Name) (config : ChainConfi
     is_first : same_name (hashed_encloser L a config x) sole.name ≡ true
     is_first =
         let down = below_longer x en sole.name closest.above sole.above (closest.longest sole.name exists sole.above) in
-        elim (cases_Bool (same_name en sole.name)) [
-          | inl s ↦ s
-          | inr s ↦
-              let under = and_from (is_at_or_below en sole.name) (not (same_name en sole.name)) down (ap not s) in
-              absurd (false≢true (sym (sole.first en closest.above under).2 ∙ encloser_matched))
-        ]
+        true_from_ne_false (same_name en sole.name) (λ s.
+        false≢true (sym (sole.first en closest.above (strictly_other en sole.name down s)).2 ∙ encloser_matched))
 
     unmatched_without : (d : Nsec3Denial)
         → is_matched (chain_records a config (picked_without links place d)) (hashed_encloser L a config x) ≡ false
     unmatched_without d =
-        let listed = picked_without links place d in
-        let others = three_others links (other_place place d.of_encloser) (other_place place d.of_next_closer) (other_place place d.of_wildcard) place
-        (not_gone place d.of_encloser) (not_gone place d.of_next_closer) (not_gone place d.of_wildcard) in
-        ap (is_ok_with (λ v. list_any (is_hash_match a config.parameters v) listed)) (hash_same config.hash en sole.name is_first ∙ sole.known)
-        ∙ any_none (is_hash_match a config.parameters sole.value) listed
-        (find_none (is_hash_match a config.parameters sole.value) listed
-        (no_match links a config.parameters sole.value place true sole.of listed others))
+        unheard config.hash (is_hash_match a config.parameters) (picked_without links place d) en sole.value
+        (hash_same config.hash en sole.name is_first ∙ sole.known)
+        (no_match links a config.parameters sole.value place true sole.of (picked_without links place d) (without_others links d place))
 
     without_encloser : (d : Nsec3Denial) → hashed_proved_answer L a config (picked_without links place d) x t ≡ NotProven
     without_encloser d =
@@ -154,8 +146,8 @@ module _ (laws : DenyLaws) (L : List ZoneRecord) (a : Name) (config : ChainConfi
 
   -- ---- each is needed
 
-  without_contained : (place : ℕ) (d : Nsec3Denial) → All (Contains links) (picked_without links place d)
-  without_contained place d = grind (arith, common_steps, three_contained)
+  without_among : (place : ℕ) (d : Nsec3Denial) → AreAmong links (picked_without links place d)
+  without_among place d = others_among links place (picked_without links place d) (without_others links d place)
 
   needed_is : (d : Nsec3Denial) → IsPickedRead (chain_records a config links) x t d → AreHashedNeeded L a config links x t d
   needed_is d read = record {
@@ -163,34 +155,21 @@ module _ (laws : DenyLaws) (L : List ZoneRecord) (a : Name) (config : ChainConfi
       | inl e ↦ without_encloser place (read.matched place e) d
       | inr e ↦ elim (is_place d.of_encloser place) [
         | inl f ↦ without_encloser place (read.matched place f) d
-        | inr f ↦ sym (proved_is (picked_without links place d) (without_contained place d) NotProven (read.next_closer place e f))
+        | inr f ↦ sym (proved_is (picked_without links place d) (without_among place d) NotProven (read.next_closer place e f))
       ]
     ];
     wildcard = λ place e apart.
         let listed = picked_without links place d in
         let r = read.wildcard place e apart in
-        let says = proved_is listed (without_contained place d) (NoCloserName r.0) r.1 in
+        let says = proved_is listed (without_among place d) (NoCloserName r.0) r.1 in
         inside_proved listed
-        ∙ by (tells_encloser L a config listed x) (needs_wildcard L a config x && not (tells_wildcard L a config listed x)) r.0
-        (says ∙ inside_proved listed);
+        ∙ less_by (tells_encloser L a config listed x) (needs_wildcard L a config x && not (tells_wildcard L a config listed x)) r.0 (length en) zone
+        (laws.closer L a config x t) (says ∙ inside_proved listed);
   }
     where
       is_place : (o : Option ℕ) (place : ℕ) → (o ≡ Some place) ⊎ (o ≡ Some place → ⊥)
       is_place None place = inr (λ e. none_some place e)
-      is_place (Some q) place =
-          elim (cases_Bool (nat_eq q place)) [
-            | inl h ↦ inl (ap Some (eqb-true q place h))
-            | inr h ↦ inr (λ e. false≢true (sym h ∙ eq-eqb q place (some_is q place e)))
-          ]
-
-      by : (tells needs : Bool) (n : ℕ)
-          → NoCloserName n
-          ≡ cond (not tells) NotProven (cond needs (NoCloserName (length (hashed_encloser L a config x))) (hashed_zone_answer L a config x t))
-          → cond (not tells) NotProven (cond needs (NoCloserName (length (hashed_encloser L a config x))) (hashed_zone_answer L a config x t))
-          ≡ NoCloserName (length (hashed_encloser L a config x))
-      by false needs n e = absurd (cc)
-      by true true n e = refl
-      by true false n e = absurd (laws.closer L a config x t n (sym e))
+      is_place (Some q) place = elim (cases_eq q place) [ inl h ↦ inl (ap Some h) | inr h ↦ inr (λ e. h (some_is q place e)) ]
 
   -- ---- each tells of its part
 
@@ -214,14 +193,11 @@ module _ (laws : DenyLaws) (L : List ZoneRecord) (a : Name) (config : ChainConfi
       let count = same_count en told.sole.name (is_first told.encloser told.sole) in
       let is : en ≡ last_labels (length told.sole.name) x = sym (closest_last owners a x) ∙ ap (λ n. last_labels n x) count in
       let known = ap (λ n. hash_name config.hash (wildcard_below n)) is ∙ told.known in
-      let link = told.of.link in
-      elim (or_cases (is_hash_match a config.parameters told.value link) (is_hash_cover a config.parameters told.value link) told.of.says) [
+      elim (or_cases (is_hash_match a config.parameters told.value told.of.link) (is_hash_cover a config.parameters told.value told.of.link) told.of.says) [
         | inl e ↦ or_left (is_matched (chain_records a config listed) w) (is_covered (chain_records a config listed) w)
-            (ap (is_ok_with (λ v. list_any (is_hash_match a config.parameters v) listed)) known
-            ∙ one_any (is_hash_match a config.parameters told.value) place told.of.link told.of.there e)
+            (rw known (one_any (is_hash_match a config.parameters told.value) place told.of.link told.of.there e))
         | inr e ↦ or_right (is_matched (chain_records a config listed) w) (is_covered (chain_records a config listed) w)
-            (ap (is_ok_with (λ v. list_any (is_hash_cover a config.parameters v) listed)) known
-            ∙ one_any (is_hash_cover a config.parameters told.value) place told.of.link told.of.there e)
+            (rw known (one_any (is_hash_cover a config.parameters told.value) place told.of.link told.of.there e))
       ]
 
   parts_are : (d : Nsec3Denial) → IsPickedRead (chain_records a config links) x t d → TellOfTheirParts L a config links x d

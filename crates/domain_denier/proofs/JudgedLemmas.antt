@@ -1,25 +1,25 @@
 -- What one record, or two of which the first denies a name alone, tell by what they are judged to say.
 use Rattle.std.proofs.Common.{◌≡◌, ◌≢◌, ℕ, ◌<◌, Bool, true, false, cond, not, ◌&&◌, List, [], ◌∷◌, ◌++◌, length, slice_get, get_or, Option, Some, None, refl}
-use Rattle.std.proofs.{Common.{sym, ap, ◌∙◌, subst, arith, inl, inr, ◌⊎◌}, lemmas.Option.{slice_get_cases, slice_get-get_or}}
-use Rattle.std.{proofs.lemmas.{Bool.{cases_Bool, false≢true, and_parts, or_left}, Grind.common_steps}, specs.List.find}
+use Rattle.std.proofs.{Common.{sym, ap, ◌∙◌, subst, arith, inl, inr}, lemmas.Option.{slice_get_cases, slice_get-get_or}}
+use Rattle.std.{proofs.lemmas.{Bool.{and_left, cases_Bool, false≢true, or_parts, true_from_ne_false}, Grind.common_steps}, specs.List.find}
 use Rattle.domain_names.specs.{Name.{is_at_or_below, is_strictly_below, same_name, last_labels}, Order.before, Words.Name}
-use Rattle.domain_zone.{specs.{Covering.{covers, matches, matches_or_covers}, Enclosers.{longer, shared}}, proofs.NameLemmas.same_is}
+use Rattle.domain_zone.{specs.{Covering.{covers, matches, matches_or_covers}, Enclosers.{longer, shared}}, proofs.{NameLemmas.same_is, FindLemmas.find_none}}
 use Rattle.domain_nsec.specs.Chain.{Link}
 use Rattle.domain_checker.specs.{Verdict.is_inside, Reading.{is_at_cut, is_cover, is_match}}
 use Rattle.domain_answer.specs.declared.answer.{Answer.{Answer, TheVariants.{AtParent, NoCloserName, NoData, OutsideZone}}, NameAnswer.NameAnswer}
 use Rattle.domain_answer.specs.{declared.answer.NameAnswer.TheVariants.Given, NameAnswer.{IsNameAnswer, name_answer}}
-use Rattle.domain_answer.specs.Reading.{absent_answer, listed_both, match_answer, owner_answer, reading, tells_occluded, wildcard_answer, wildcard_both}
+use Rattle.domain_answer.specs.Reading.{absent_answer, cover_answer, listed_both, match_answer, owner_answer, reading, tells_occluded}
+use Rattle.domain_answer.specs.Reading.{wildcard_answer, wildcard_both}
 use Rattle.domain_answer.specs.{Reading.wildcard_match_answer, ZoneAnswer.{is_at_parent, wildcard_below}}
 use Rattle.domain_answer.proofs.ToldLemmas.{given_never, match_own, owner_own}
 use Rattle.domain_denier.specs.{Judged.{IsOfWildcard, IsSilent, IsTold, Tells}, declared.judged.OfWildcard.{OfWildcard, TheVariants.{Told, Untold}}}
 use Rattle.domain_denier.specs.Picked.{IsOf, at_place, listed_option}
 
--- a record that is not passed over, and matches or covers
-from_match : (a x : Name) (k : Link) → is_match a x k ≡ true → matches_or_covers before k.owner k.next x ≡ true
-from_match a x k e = or_left (matches before k.owner x) (covers before k.owner k.next x) (and_parts (matches before k.owner x) (is_inside a k) e).0
-
-from_cover : (a x : Name) (k : Link) → is_cover a x k ≡ true → matches_or_covers before k.owner k.next x ≡ true
-from_cover a x k e = grind (arith, common_steps)
+-- a record that neither matches nor covers is found by neither test
+silent_tests : (a x : Name) (k : Link) → matches_or_covers before k.owner k.next x ≡ false → (is_match a x k ≡ false) × (is_cover a x k ≡ false)
+silent_tests a x k e =
+    let p = or_parts (matches before k.owner x) (covers before k.owner k.next x) e in
+    (and_left (matches before k.owner x) (is_inside a k) p.0, and_left (covers before k.owner k.next x) (is_inside a k) p.1)
 
 -- a record whose owner is another name does not match
 pub unmatched : (a x : Name) (k : Link) → same_name k.owner x ≡ false → is_match a x k ≡ false
@@ -41,22 +41,17 @@ told_whole a listed x t whole told is tells = grind (arith, common_steps)
 
 -- ---- only of a name outside the zone is it said that it is
 
+cover_inside : (o c s : Bool) (n : ℕ) (v : Answer) → v ≢ OutsideZone
+    → cond o (cond c (Answer.Referral n) (Answer.Redirected n)) (cond s NoData v) ≢ OutsideZone
+cover_inside o c s n v f e = grind (arith, common_steps)
+
 -- what is given for it would be no wildcard's, nor a record's
 listed_inside : (a : Name) (listed : List Link) (x : Name) (t : ℕ) (m c : Option Link) → listed_both a listed x t m c ≢ OutsideZone
 listed_inside a listed x t (Some k) c e = grind (arith, common_steps)
 listed_inside a listed x t None (Some k) e =
-    never (tells_occluded a k x) (is_at_cut a k) (is_strictly_below k.next x) e
-  where
-    n : ℕ
-    n = length (longer (shared x k.owner) (shared x k.next))
-
-    never : (o c s : Bool)
-        → cond o (cond c (Answer.Referral (length k.owner)) (Answer.Redirected (length k.owner))) (cond s NoData (absent_answer a listed n x t))
-        ≡ OutsideZone → ⊥
-    never true true s e = absurd (cc)
-    never true false s e = absurd (cc)
-    never false c true e = absurd (cc)
-    never false c false e = (told_wildcard a (wildcard_below (last_labels n x)) n t listed).inside e
+    let n = length (longer (shared x k.owner) (shared x k.next)) in
+    cover_inside (tells_occluded a k x) (is_at_cut a k) (is_strictly_below k.next x) (length k.owner) (absent_answer a listed n x t)
+    (told_wildcard a (wildcard_below (last_labels n x)) n t listed).inside e
 listed_inside a listed x t None None e = absurd (cc)
 
 pub outside_only : (a : Name) (listed : List Link) (x : Name) (t : ℕ) → reading a listed x t ≡ OutsideZone → is_at_or_below x a ≡ false
@@ -82,21 +77,15 @@ module _ (a x : Name) (t : ℕ) (k : Link) where
   chosen u p m c =
       cond (not u) OutsideZone (cond p AtParent (listed_both a (k ∷ []) x t (cond m (Some k) None) (cond c (Some k) None)))
 
-  pub told_by_one : IsTold (reading a (k ∷ []) x t) → matches_or_covers before k.owner k.next x ≡ true
-  told_by_one told = go (is_at_or_below x a) (is_at_parent a x t) (cases_Bool (is_match a x k)) (cases_Bool (is_cover a x k)) told
-    where
-      silent : (u p m c : Bool) → m ≡ false → c ≡ false → IsTold (chosen u p m c) → ⊥
-      silent u p true c e f told = false≢true (sym e)
-      silent u p false true e f told = false≢true (sym f)
-      silent false p false false e f told = told.inside refl
-      silent true true false false e f told = told.here refl
-      silent true false false false e f told = told.proven refl
+  unproven : (u p : Bool) → IsTold (chosen u p false false) → ⊥
+  unproven false p told = told.inside refl
+  unproven true true told = told.here refl
+  unproven true false told = told.proven refl
 
-      go : (u p : Bool) → (is_match a x k ≡ true) ⊎ (is_match a x k ≡ false) → (is_cover a x k ≡ true) ⊎ (is_cover a x k ≡ false)
-          → IsTold (chosen u p (is_match a x k) (is_cover a x k)) → matches_or_covers before k.owner k.next x ≡ true
-      go u p (inl e) c told = from_match a x k e
-      go u p (inr e) (inl f) told = from_cover a x k f
-      go u p (inr e) (inr f) told = absurd (silent u p (is_match a x k) (is_cover a x k) e f told)
+  pub told_by_one : IsTold (reading a (k ∷ []) x t) → matches_or_covers before k.owner k.next x ≡ true
+  told_by_one told = true_from_ne_false (matches_or_covers before k.owner k.next x) (λ e.
+      let tests = silent_tests a x k e in
+      unproven (is_at_or_below x a) (is_at_parent a x t) (rw (tests.0, tests.1) at told))
 
   -- ---- a record that denies the name alone
 
@@ -118,21 +107,27 @@ module _ (a x : Name) (t : ℕ) (k : Link) where
   wildcard_match_never : (n m : ℕ) → wildcard_match_answer a n k t ≡ NoCloserName m → ⊥
   wildcard_match_never n m e = grind (arith, common_steps)
 
-  -- what is said of the wildcard, by whether the record matches or covers it
-  abbrev said : ℕ → Bool → Bool → Answer
-  said n m c = wildcard_both a n (w_of n) t (cond m (Some k) None) (cond c (Some k) None)
+  -- what leaves no more to ask than the wildcard, by the tests of the name
+  chosen_parts : (u p m c : Bool) (n : ℕ) → chosen u p m c ≡ NoCloserName n
+      → (u ≡ true) × (p ≡ false) × (m ≡ false) × (c ≡ true) × (cover_answer a (k ∷ []) k x t ≡ NoCloserName n)
+  chosen_parts false p m c n e = absurd (cc)
+  chosen_parts true true m c n e = absurd (cc)
+  chosen_parts true false true c n e = absurd (match_never a k t n e)
+  chosen_parts true false false false n e = absurd (cc)
+  chosen_parts true false false true n e = (refl, refl, refl, refl, e)
 
-  record Silent (n m : ℕ) : Type 0 where
-    same : n ≡ m
-    unmatching : is_match a (w_of n) k ≡ false
-    occluded : is_cover a (w_of n) k ≡ true → tells_occluded a k (w_of n) ≡ true
+  cover_parts : (o s : Bool) (absent : Answer) (n : ℕ) → cond o (owner_answer a k) (cond s NoData absent) ≡ NoCloserName n
+      → (o ≡ false) × (s ≡ false) × (absent ≡ NoCloserName n)
+  cover_parts true s absent n e = absurd (owner_never a k n e)
+  cover_parts false true absent n e = absurd (cc)
+  cover_parts false false absent n e = (refl, refl, e)
 
-  silent_by : (n m : ℕ) (mb cb : Bool) → is_match a (w_of n) k ≡ mb → is_cover a (w_of n) k ≡ cb → said n mb cb ≡ NoCloserName m → Silent n m
-  silent_by n m true cb f g e = absurd (wildcard_match_never n m e)
-  silent_by n m false false f g e = grind (arith, common_steps)
-  silent_by n m false true f g e =
-      let by = covered (tells_occluded a k (w_of n)) (is_strictly_below k.next (w_of n)) e in
-      record { same = by.0; unmatching = f; occluded = λ h. by.1 }
+  -- and by those of the wildcard, which the record may cover where it says nothing
+  silent_parts : (n m : ℕ) (mb cb : Bool) → wildcard_both a n (w_of n) t (cond mb (Some k) None) (cond cb (Some k) None) ≡ NoCloserName m
+      → (n ≡ m) × (mb ≡ false) × (cb ≡ true → tells_occluded a k (w_of n) ≡ true)
+  silent_parts n m true cb e = absurd (wildcard_match_never n m e)
+  silent_parts n m false false e = ((cc), refl, λ f. absurd (false≢true f))
+  silent_parts n m false true e = let by = covered (tells_occluded a k (w_of n)) (is_strictly_below k.next (w_of n)) e in (by.0, refl, λ f. by.1)
     where
       covered : (o s : Bool) → cond o (NoCloserName n) (cond s (Answer.WildcardNoData n) (Answer.NameError n)) ≡ NoCloserName m
           → (n ≡ m) × (o ≡ true)
@@ -141,37 +136,22 @@ module _ (a x : Name) (t : ℕ) (k : Link) where
       covered false false e = absurd (cc)
 
   pub denies : (n : ℕ) → reading a (k ∷ []) x t ≡ NoCloserName n → Denies n
-  denies n e = go (is_at_or_below x a) (is_at_parent a x t) (is_match a x k) (is_cover a x k) refl refl refl refl e
-    where
-      cover_by : (o s : Bool) → tells_occluded a k x ≡ o → is_strictly_below k.next x ≡ s
-          → cond o (owner_answer a k) (cond s NoData (absent_answer a (k ∷ []) (length (longer (shared x k.owner) (shared x k.next))) x t)) ≡ NoCloserName n
-          → (tells_occluded a k x ≡ false) × (is_strictly_below k.next x ≡ false)
-          × (absent_answer a (k ∷ []) (length (longer (shared x k.owner) (shared x k.next))) x t ≡ NoCloserName n)
-      cover_by true s f g e = absurd (owner_never a k n e)
-      cover_by false true f g e = absurd (cc)
-      cover_by false false f g e = (f, g, e)
-
-      go : (u p m c : Bool) → is_at_or_below x a ≡ u → is_at_parent a x t ≡ p → is_match a x k ≡ m → is_cover a x k ≡ c
-          → chosen u p m c ≡ NoCloserName n → Denies n
-      go false p m c f g h i e = absurd (cc)
-      go true true m c f g h i e = absurd (cc)
-      go true false true c f g h i e = absurd (match_never a k t n e)
-      go true false false false f g h i e = absurd (cc)
-      go true false false true f g h i e =
-          let by = cover_by (tells_occluded a k x) (is_strictly_below k.next x) refl refl e in
-          let N = length (longer (shared x k.owner) (shared x k.next)) in
-          let s = silent_by N n (is_match a (w_of N) k) (is_cover a (w_of N) k) refl refl by.2 in
-          record {
-            under = f;
-            parent = g;
-            unmatching = h;
-            covering = i;
-            free = by.0;
-            no_end = by.1;
-            counts = s.same;
-            silent = subst (λ m. is_match a (w_of m) k ≡ false) s.same s.unmatching;
-            occluded = subst (λ m. is_cover a (w_of m) k ≡ true → tells_occluded a k (w_of m) ≡ true) s.same s.occluded;
-          }
+  denies n e =
+      let N = length (longer (shared x k.owner) (shared x k.next)) in
+      let q = chosen_parts (is_at_or_below x a) (is_at_parent a x t) (is_match a x k) (is_cover a x k) n e in
+      let c = cover_parts (tells_occluded a k x) (is_strictly_below k.next x) (absent_answer a (k ∷ []) N x t) n q.4 in
+      let s = silent_parts N n (is_match a (w_of N) k) (is_cover a (w_of N) k) c.2 in
+      record {
+        under = q.0;
+        parent = q.1;
+        unmatching = q.2;
+        covering = q.3;
+        free = c.0;
+        no_end = c.1;
+        counts = s.0;
+        silent = rw s.0 at s.1;
+        occluded = rw s.0 at s.2;
+      }
 
   -- ---- with another record
 
@@ -183,21 +163,12 @@ module _ (a x : Name) (t : ℕ) (k : Link) where
     -- and where they say something of that, the other record does
     pub second_tells : ((m : ℕ) → wildcard_answer a (k ∷ l ∷ []) n (w_of n) t ≢ NoCloserName m)
         → matches_or_covers before l.owner l.next (w_of n) ≡ true
-    second_tells some =
-        go (cases_Bool (is_match a (w_of n) l)) (cases_Bool (is_cover a (w_of n) l)) (cases_Bool (is_cover a (w_of n) k))
-      where
-        go : (is_match a (w_of n) l ≡ true) ⊎ (is_match a (w_of n) l ≡ false) → (is_cover a (w_of n) l ≡ true) ⊎ (is_cover a (w_of n) l ≡ false)
-            → (is_cover a (w_of n) k ≡ true) ⊎ (is_cover a (w_of n) k ≡ false) → matches_or_covers before l.owner l.next (w_of n) ≡ true
-        go (inl e) f g = from_match a (w_of n) l e
-        go (inr e) (inl f) g = from_cover a (w_of n) l f
-        go (inr e) (inr f) (inl g) = absurd (some n (
-            (λ i. wildcard_both a n (w_of n) t (cond (d.silent i) (Some k) (cond (e i) (Some l) None))
-            (cond (g i) (Some k) (cond (f i) (Some l) None)))
-            ∙ (λ i. cond (d.occluded g i) (NoCloserName n) (cond (is_strictly_below k.next (w_of n)) (Answer.WildcardNoData n) (Answer.NameError n)))
-            ))
-        go (inr e) (inr f) (inr g) = absurd (some n
-            (λ i. wildcard_both a n (w_of n) t (cond (d.silent i) (Some k) (cond (e i) (Some l) None))
-            (cond (g i) (Some k) (cond (f i) (Some l) None))))
+    second_tells some = true_from_ne_false (matches_or_covers before l.owner l.next (w_of n)) (λ e.
+        let tests = silent_tests a (w_of n) l e in
+        some n (elim (cases_Bool (is_cover a (w_of n) k)) [
+          | inl g ↦ rw (d.silent, tests.0, g, d.occluded g)
+          | inr g ↦ rw (d.silent, tests.0, g, tests.1)
+        ]))
 
 -- ---- records at places of a chain
 
@@ -237,15 +208,11 @@ module _ (links : List Link) (a x : Name) (t : ℕ) where
       denied : Denies a x t k n
       denied = denies a x t k n (sym (λ i. reading a (at_p i) x t) ∙ says)
 
-      apart_by : (b : Bool) → cond b (Some k) None ≡ None → b ≡ false
-      apart_by true e = absurd (cc)
-      apart_by false e = refl
-
       unmatching : is_match a w k ≡ false
-      unmatching = apart_by (is_match a w k) (sym (ap (find (is_match a w)) at_p) ∙ silent.matching)
+      unmatching = find_none (is_match a w) (k ∷ []) (sym (ap (find (is_match a w)) at_p) ∙ silent.matching) k (inl refl)
 
       uncovering : is_cover a w k ≡ false
-      uncovering = apart_by (is_cover a w k) (sym (ap (find (is_cover a w)) at_p) ∙ silent.covering)
+      uncovering = find_none (is_cover a w) (k ∷ []) (sym (ap (find (is_cover a w)) at_p) ∙ silent.covering) k (inl refl)
 
       second_alone : wildcard_answer a (l ∷ []) n w t ≡ wildcard_answer a (k ∷ l ∷ []) n w t
       second_alone = sym (λ i. wildcard_both a n w t (cond (unmatching i) (Some k) (find (is_match a w) (l ∷ [])))

@@ -1,17 +1,17 @@
 -- What is picked of the chain of a zone is what its answer rests on, and no more.
-use Rattle.std.proofs.Common.{◌≡◌, ◌≢◌, ℕ, zero, suc, ◌<◌, arith, Bool, true, false, cond, not, ◌&&◌, ◌||◌, List, [], ◌∷◌, ◌++◌, length, slice_get, Some, None}
-use Rattle.std.proofs.{Common.{sym, ap, ◌∙◌, subst, inl, inr, ◌⊎◌}, lemmas.Bool.{cases_Bool, false≢true, and_parts, or_right, not-true}}
+use Rattle.std.proofs.Common.{◌≡◌, ◌≢◌, ℕ, ◌<◌, arith, Bool, true, false, cond, not, ◌&&◌, ◌||◌, List, [], ◌∷◌, ◌++◌, length, slice_get, Some, None}
+use Rattle.std.proofs.{Common.{sym, ap, ◌∙◌, subst, inl, inr, ◌⊎◌}, lemmas.Bool.{and_parts, false_from_ne_true, false≢true, or_right}}
 use Rattle.std.{proofs.lemmas.{List.Elements.{All-nil, All-push}, Grind.common_steps}, specs.{Prelude.All, List.Contains}}
 use Rattle.domain_names.specs.{Name.{is_at_or_below, last_labels}, Order.before, Words.Name}
-use Rattle.domain_zone.specs.{Covering.matches_or_covers, Zone.{ZoneRecord, is_occluded, is_unoccluded}}
+use Rattle.domain_zone.specs.{Covering.matches_or_covers, Zone.{ZoneRecord, is_unoccluded, unoccluded_owners}}
 use Rattle.domain_nsec.specs.{Chain.Link, declared.config.GenerateNsecConfig.GenerateNsecConfig}
-use Rattle.domain_checker.{specs.Verdict.has_match_or_cover, proofs.MeantLemmas.{ChainLaws, IsMeant, apex_exists}}
+use Rattle.domain_checker.{specs.Verdict.has_match_or_cover, proofs.{EncloserLemmas.closest_is, MeantLemmas.{ChainLaws, IsMeant, apex_exists}}}
 use Rattle.domain_answer.specs.declared.answer.Answer.{Answer, TheVariants.{NoCloserName, NotProven}}
 use Rattle.domain_answer.specs.{Proved.{IsAnswered, is_missing, knows_wildcard, proved_answer}, Reading.reading}
 use Rattle.domain_answer.specs.ZoneAnswer.{encloser, is_at_parent, name_exists, wildcard_below, zone_answer}
-use Rattle.domain_answer.proofs.{ChainLemmas.meant_leaving, CountLemmas.closest_last, WholeLemmas.wildcard_low}
+use Rattle.domain_answer.proofs.{ChainLemmas.meant_leaving, CountLemmas.closest_last, EncloserLemmas.wildcard_low, OccluderLemmas.free_parts}
 use Rattle.domain_denier.specs.Picked.{AreNeeded, AreThere, IsDenial, IsFound, IsOf, IsWhole, IsWildcardPicked, at_place, listed_option, picked}
-use Rattle.domain_denier.specs.declared.nsec.NsecDenial.{NsecDenial}
+use Rattle.domain_denier.{specs.declared.nsec.NsecDenial.NsecDenial, proofs.SomeLemmas.contained}
 
 -- what lists say is what they prove, and no zone says that there is no closer name
 pub record AnswerLaws : Type 0 where
@@ -24,21 +24,10 @@ one_there links place k e = ap listed_option e
 pub none_first : (links : List Link) (k : Link) (more : List Link) → links ≡ [] → links ≡ k ∷ more → ⊥
 none_first links k more none are = grind (arith, common_steps)
 
-pub one_place : (p q n : ℕ) → Some p ≡ Some q → p < n → q < n
-one_place p q n e l = grind (arith, common_steps)
-
-pub no_place : (p : ℕ) → None ≡ Some p → ⊥
-no_place p e = absurd (cc)
-
 -- outside of the zone no records are needed
 pub nothing_outside : (L : List ZoneRecord) (a : Name) (assume : Bool) (x : Name) (t : ℕ) → is_at_or_below x a ≡ false
     → reading a [] x t ≡ zone_answer L a assume x t
 nothing_outside L a assume x t e = grind (arith, common_steps)
-
-contained : (links : List Link) (place : ℕ) (k : Link) → slice_get links place ≡ Some k → Contains links k
-contained [] place k e = absurd (cc)
-contained (l ∷ ls) zero k e = (0, omega arith, cc)
-contained (l ∷ ls) (suc place) k e = let r = contained ls place k e in (suc r.0, omega (arith, r.1), r.2)
 
 module _ (laws : ChainLaws) (answers : AnswerLaws) (links : List Link) (L : List ZoneRecord) (a : Name)
     (config : GenerateNsecConfig) (whole : IsWhole L a config links) (x : Name) (t : ℕ) (small : t < 65536)
@@ -103,8 +92,10 @@ module _ (laws : ChainLaws) (answers : AnswerLaws) (links : List Link) (L : List
       wildcard_is = grind (arith, common_steps, only_half, closest_last)
 
       pub wildcard_under : is_at_or_below (wildcard_below (last_labels count x)) a ≡ true
-      wildcard_under = ap (λ w. is_at_or_below w a) wildcard_is
-          ∙ wildcard_low L a x (apex_exists true L a config.assume_dnskeys_will_be_added links meant) under
+      wildcard_under =
+          let owners = unoccluded_owners true L a in
+          let apex = apex_exists true L a config.assume_dnskeys_will_be_added links meant in
+          ap (λ w. is_at_or_below w a) wildcard_is ∙ wildcard_low owners a x (encloser L a x) (closest_is owners a x apex under)
 
       module _ (q : ℕ) (of_w : IsOf links q (wildcard_below (last_labels count x))) where
         there_w : at_place links (Some q) ≡ of_w.link ∷ []
@@ -121,38 +112,24 @@ module _ (laws : ChainLaws) (answers : AnswerLaws) (links : List Link) (L : List
             or_right (matches_or_covers before of.link.owner of.link.next (wildcard_below (encloser L a x)))
             (has_match_or_cover (of_w.link ∷ []) (wildcard_below (encloser L a x)))
             (first_has (wildcard_below (encloser L a x)) of_w.link [] says_w) in
-            (λ i. reading a (all i) x t)
-            ∙ elim (half (of.link ∷ of_w.link ∷ []) among (first_has x of.link (of_w.link ∷ []) of.says)) [
+            rw all (elim (half (of.link ∷ of_w.link ∷ []) among (first_has x of.link (of_w.link ∷ []) of.says)) [
               | inl e ↦ e
               | inr h ↦ absurd (false≢true (sym h.unknown ∙ knows))
-            ]
+            ])
 
         -- the record of the wildcard alone says nothing of x: it is not that of x, which would know the wildcard
         other : matches_or_covers before of_w.link.owner of_w.link.next x ≡ false
-        other = elim (cases_Bool (matches_or_covers before of_w.link.owner of_w.link.next x)) [
-          | inr e ↦ e
-          | inl e ↦
-              let free : is_occluded true L a x ≡ false = unoccluded only_half.missing in
-              let once = meant.denial.each x under free in
-              let same : p ≡ q = once.only p of.link of.there of.says ∙ sym (once.only q of_w.link of_w.there e) in
-              let knows : knows_wildcard L a (at_place links (Some p)) x ≡ true =
-              (λ i. knows_wildcard L a (at_place links (Some (same i))) x) ∙ (λ i. knows_wildcard L a (there_w i) x)
-              ∙ first_has (wildcard_below (encloser L a x)) of_w.link [] says_w in
-              absurd (false≢true (sym only_half.unknown ∙ knows))
-        ]
-          where
-            unoccluded : is_missing L a x ≡ true → is_occluded true L a x ≡ false
-            unoccluded e =
-                let parts = and_parts (is_unoccluded true L a x) (not (name_exists L a x)) e in
-                not-true (is_occluded true L a x) (and_parts (is_at_or_below x a) (not (is_occluded true L a x)) parts.0).1
+        other = false_from_ne_true (matches_or_covers before of_w.link.owner of_w.link.next x) (λ e.
+            let free = (and_parts (is_unoccluded true L a x) (not (name_exists L a x)) only_half.missing).0 in
+            let once = meant.denial.each x under (free_parts L a x free).1 in
+            let same : p ≡ q = once.only p of.link of.there of.says ∙ sym (once.only q of_w.link of_w.there e) in
+            false≢true (sym only_half.unknown ∙ (λ i. knows_wildcard L a (at_place links (Some (same i))) x) ∙ (λ i. knows_wildcard L a (there_w i) x)
+            ∙ first_has (wildcard_below (encloser L a x)) of_w.link [] says_w))
 
         pub wildcard_alone : is_at_parent a x t ≡ false → reading a (at_place links (Some q)) x t ≡ NotProven
         wildcard_alone parent =
             let among = one_among of_w.link (contained links q of_w.link of_w.there) in
-            (λ i. reading a (there_w i) x t) ∙ proved (of_w.link ∷ []) among
-            ∙ (λ i. cond (not (under i) || is_at_parent a x t) zone (cond (not (other i || false)) NotProven
-            (cond (is_missing L a x && not (knows_wildcard L a (of_w.link ∷ []) x)) (NoCloserName (length (encloser L a x))) zone)))
-            ∙ (λ i. cond (parent i) zone NotProven)
+            (λ i. reading a (there_w i) x t) ∙ proved (of_w.link ∷ []) among ∙ rw (under, parent, other)
 
       -- what is picked where the first record denies the name alone
       module _ (d : NsecDenial) (name : d.of_name ≡ Some p) (wildcard : IsWildcardPicked links x count d) where

@@ -10,7 +10,7 @@ use Rattle.domain_checker.proofs.HashedWalkLemmas.{IsMissed, IsPassed, none_firs
 use Rattle.domain_answer.proofs.CountLemmas.{parent_below}
 use Rattle.domain_denier.specs.{HashedPicked.{IsHashedWhole, IsRefusedAbove}, HashedSteps.{IsFoundHash, IsInside, IsOfHash, IsPlaced}}
 use Rattle.domain_denier.specs.declared.{hash_search.HashPlace.HashPlace, encloser.PlacedEncloser.PlacedEncloser}
-use Rattle.domain_denier.proofs.{HashedPickLemmas.all_among, SomeLemmas.unmatched}
+use Rattle.domain_denier.proofs.SomeLemmas.{all_among, unmatched}
 
 module _ (R : HashedRecords) (x : Name) where
   -- no record matches the name that is left, and that at the place covers it

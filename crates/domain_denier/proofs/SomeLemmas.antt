@@ -1,31 +1,31 @@
 -- What some of the links of a chain find of a hash, where one of all matches or covers it.
 use Rattle.std.proofs.Common.{◌≡◌, ℕ, Bool, true, false, cond, List, [], ◌∷◌, ◌++◌, Some, None, Option, slice_get, refl, sym, ap, ◌∙◌, subst, inl, inr, ◌⊎◌}
-use Rattle.std.proofs.{Common.arith, lemmas.{Bool.{cases_Bool, false≢true, ne_eqb, or_left, or_right}, List.Elements.{All-nil, All-push, All-append}}}
+use Rattle.std.proofs.{Common.arith, lemmas.{Bool.{false≢true, ne_eqb, or_left, or_right}, List.Elements.All-from_recursion}}
 use Rattle.std.{proofs.lemmas.{Option.{slice_get_within, get_or_from_slice_get}, Grind.common_steps}, specs.{Prelude.All, List.{Contains, find}}}
 use Rattle.domain_octets.specs.Words.{Octets}
 use Rattle.domain_names.specs.Words.{Name}
-use Rattle.domain_zone.proofs.PairLemmas.{In}
+use Rattle.domain_zone.proofs.{PairLemmas.{In, all_from_in}, FindLemmas.{find_none, find_some, in_front, stands_in}}
 use Rattle.domain_nsec3.specs.{Chain.HashedLink, Config.Parameters}
 use Rattle.domain_checker.specs.HashedList.{is_hash_cover, is_hash_match}
-use Rattle.domain_denier.specs.{Picked.{at_place, listed_option}, HashedPicked.other_place, HashedSteps.{IsOfHash, tells_hash}}
+use Rattle.domain_denier.specs.{Picked.{at_place, listed_option}, HashedPicked.{IsPicked, hashed_picked, other_place, picked_without}}
+use Rattle.domain_denier.specs.{HashedSteps.{IsOfHash, tells_hash}, declared.nsec3.Nsec3Denial.Nsec3Denial}
 
 -- ---- finding
 
-module _ {X : Type 0} (f : X → Bool) where
-  pub none_found : (xs : List X) → ((x : X) → In x xs → f x ≡ true → ⊥) → find f xs ≡ None
-  none_found [] g = refl
-  none_found (x ∷ xs) g = grind (arith, common_steps, (none_found xs (λ y i. g y (inr i))))
+module _ {X : Type 0} (f : X → Bool) (xs : List X) where
+  none_found : ((x : X) → In x xs → f x ≡ true → ⊥) → find f xs ≡ None
+  none_found g = by (find f xs) refl
+    where
+      by : (o : Option X) → find f xs ≡ o → find f xs ≡ None
+      by None e = e
+      by (Some x) e = let r = find_some f xs x e in absurd (g x r.0 r.1)
 
-  pub sole_found : (xs : List X) (x : X) → In x xs → f x ≡ true → ((y : X) → In y xs → f y ≡ true → y ≡ x) → find f xs ≡ Some x
-  sole_found [] x i e g = absurd i
-  sole_found (y ∷ xs) x i e g =
-      elim (cases_Bool (f y)) [
-        | inl h ↦ (λ j. cond (h j) (Some y) (find f xs)) ∙ ap Some (g y (inl refl) h)
-        | inr h ↦ elim i [
-          | inl same ↦ absurd (false≢true (sym h ∙ ap f same ∙ e))
-          | inr k ↦ (λ j. cond (h j) (Some y) (find f xs)) ∙ sole_found xs x k e (λ z m. g z (inr m))
-        ]
-      ]
+  sole_found : (x : X) → In x xs → f x ≡ true → ((y : X) → In y xs → f y ≡ true → y ≡ x) → find f xs ≡ Some x
+  sole_found x i h g = by (find f xs) refl
+    where
+      by : (o : Option X) → find f xs ≡ o → find f xs ≡ Some x
+      by None e = absurd (false≢true (sym (find_none f xs e x i) ∙ h))
+      by (Some y) e = let r = find_some f xs y e in e ∙ ap Some (g y r.0 r.1)
 
 -- ---- some of the links
 
@@ -37,6 +37,17 @@ AreOthers links gone listed =
 -- each stands among all
 abbrev pub AreAmong : List HashedLink → List HashedLink → Type 0
 AreAmong links listed = (k : HashedLink) → In k listed → (j : ℕ) × (slice_get links j ≡ Some k)
+
+-- all do
+pub all_among : (links : List HashedLink) → AreAmong links links
+all_among links = λ k i. let s = stands_in links k i in (s.place, s.there)
+
+pub contained : {X : Type 0} (links : List X) (place : ℕ) (k : X) → slice_get links place ≡ Some k → Contains links k
+contained links place k e = (place, slice_get_within links place k e, get_or_from_slice_get links place k k e)
+
+pub among_contained : (links listed : List HashedLink) → AreAmong links listed → All (Contains links) listed
+among_contained links listed among =
+    All-from_recursion (Contains links) listed (all_from_in (Contains links) listed (λ k i. let m = among k i in contained links m.0 k m.1))
 
 pub others_among : (links : List HashedLink) (gone : ℕ) (listed : List HashedLink) → AreOthers links gone listed → AreAmong links listed
 others_among links gone listed others = λ k i. let o = others k i in (o.0, o.1)
@@ -74,7 +85,7 @@ module _ (links : List HashedLink) (a : Name) (p : Parameters) (v : Octets) (pla
 
 -- ---- the links at places
 
-pub in_back : {X : Type 0} (xs ys : List X) (x : X) → In x ys → In x (xs ++ ys)
+in_back : {X : Type 0} (xs ys : List X) (x : X) → In x ys → In x (xs ++ ys)
 in_back [] ys x i = i
 in_back (y ∷ xs) ys x i = inr (in_back xs ys x i)
 
@@ -87,40 +98,53 @@ from_other : (gone : ℕ) (o : Option ℕ) (place : ℕ) → other_place gone o 
 from_other gone o place e = grind (arith, common_steps)
 
 -- another place is kept
-pub kept_place : (gone : ℕ) (o : Option ℕ) (place : ℕ) → o ≡ Some place → (place ≡ gone → ⊥) → other_place gone o ≡ Some place
+kept_place : (gone : ℕ) (o : Option ℕ) (place : ℕ) → o ≡ Some place → (place ≡ gone → ⊥) → other_place gone o ≡ Some place
 kept_place gone o place e other = ap (other_place gone) e ∙ (λ i. cond (ne_eqb place gone other i) None (Some place))
 
-contained : (links : List HashedLink) (place : ℕ) (k : HashedLink) → slice_get links place ≡ Some k → Contains links k
-contained links place k e = (place, slice_get_within links place k e, get_or_from_slice_get links place k k e)
-
-place_contained : (links : List HashedLink) (o : Option ℕ) → All (Contains links) (at_place links o)
-place_contained links None = All-nil (Contains links)
-place_contained links (Some place) = by (slice_get links place) refl
-  where
-    by : (q : Option HashedLink) → slice_get links place ≡ q → All (Contains links) (listed_option q)
-    by None e = All-nil (Contains links)
-    by (Some k) e = All-push (Contains links) [] k (All-nil (Contains links)) (contained links place k e)
+-- of the others none is at the place
+not_gone : (gone : ℕ) (o : Option ℕ) → other_place gone o ≡ Some gone → ⊥
+not_gone gone o e = (from_other gone o gone e).1 refl
 
 module _ (links : List HashedLink) (o q r : Option ℕ) where
-  abbrev pub three : List HashedLink
-  three = at_place links o ++ (at_place links q ++ at_place links r)
-
-  pub three_contained : All (Contains links) (at_place links o ++ (at_place links q ++ at_place links r))
-  three_contained =
-      All-append (Contains links) (at_place links o) (at_place links q ++ at_place links r) (place_contained links o)
-      (All-append (Contains links) (at_place links q) (at_place links r) (place_contained links q) (place_contained links r))
-
   from_three : (k : HashedLink) → In k (at_place links o ++ (at_place links q ++ at_place links r))
       → (place : ℕ) × ((o ≡ Some place) ⊎ ((q ≡ Some place) ⊎ (r ≡ Some place))) × (slice_get links place ≡ Some k)
   from_three k i = grind (arith, common_steps)
 
-  pub three_among : AreAmong links (at_place links o ++ (at_place links q ++ at_place links r))
-  three_among = λ k i. let f = from_three k i in (f.0, f.2)
+  into_three : (place : ℕ) (k : HashedLink) → slice_get links place ≡ Some k → ((o ≡ Some place) ⊎ (q ≡ Some place)) ⊎ (r ≡ Some place)
+      → In k (at_place links o ++ (at_place links q ++ at_place links r))
+  into_three place k there (inl (inl e)) = in_front (at_place links o) (at_place links q ++ at_place links r) k (in_place links o place k e there)
+  into_three place k there (inl (inr e)) =
+      in_back (at_place links o) (at_place links q ++ at_place links r) k
+      (in_front (at_place links q) (at_place links r) k (in_place links q place k e there))
+  into_three place k there (inr e) =
+      in_back (at_place links o) (at_place links q ++ at_place links r) k
+      (in_back (at_place links q) (at_place links r) k (in_place links r place k e there))
 
-  pub three_others : (gone : ℕ) → (o ≡ Some gone → ⊥) → (q ≡ Some gone → ⊥) → (r ≡ Some gone → ⊥)
+  three_others : (gone : ℕ) → (o ≡ Some gone → ⊥) → (q ≡ Some gone → ⊥) → (r ≡ Some gone → ⊥)
       → AreOthers links gone (at_place links o ++ (at_place links q ++ at_place links r))
   three_others gone g h m = grind (arith, common_steps)
 
--- of the others none is at the place
-pub not_gone : (gone : ℕ) (o : Option ℕ) → other_place gone o ≡ Some gone → ⊥
-not_gone gone o e = (from_other gone o gone e).1 refl
+-- ---- the links that were picked
+
+module _ (links : List HashedLink) (d : Nsec3Denial) where
+  pub picked_among : AreAmong links (hashed_picked links d)
+  picked_among = λ k i. let f = from_three links d.of_encloser d.of_next_closer d.of_wildcard k i in (f.0, f.2)
+
+  pub in_picked : (place : ℕ) (k : HashedLink) → slice_get links place ≡ Some k → IsPicked d place → In k (hashed_picked links d)
+  in_picked place k there is = into_three links d.of_encloser d.of_next_closer d.of_wildcard place k there is
+
+  -- but for the one at a place
+  module _ (gone : ℕ) where
+    pub without_others : AreOthers links gone (picked_without links gone d)
+    without_others =
+        three_others links (other_place gone d.of_encloser) (other_place gone d.of_next_closer) (other_place gone d.of_wildcard) gone
+        (not_gone gone d.of_encloser) (not_gone gone d.of_next_closer) (not_gone gone d.of_wildcard)
+
+    pub in_without : (place : ℕ) (k : HashedLink) → slice_get links place ≡ Some k → IsPicked d place → (place ≡ gone → ⊥)
+        → In k (picked_without links gone d)
+    in_without place k there is other =
+        into_three links (other_place gone d.of_encloser) (other_place gone d.of_next_closer) (other_place gone d.of_wildcard) place k there (elim is [
+          | inl (inl e) ↦ inl (inl (kept_place gone d.of_encloser place e other))
+          | inl (inr e) ↦ inl (inr (kept_place gone d.of_next_closer place e other))
+          | inr e ↦ inr (kept_place gone d.of_wildcard place e other)
+        ])

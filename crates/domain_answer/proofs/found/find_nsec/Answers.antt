@@ -1,4 +1,4 @@
-use Rattle.std.proofs.Common.{◌≡◌, ◌+◌, true, false, not, map, drop, sym, ap, ◌∙◌, subst, arith}
+use Rattle.std.proofs.Common.{◌≡◌, ◌+◌, false, not, map, drop, sym, ap, ◌∙◌, subst, arith}
 use Rattle.std.specs.{List.find, Option.{is_some, option_map, option_or}, Prelude.IfSome}
 use Rattle.domain_nsec.specs.ChainView.{as_link}
 use Rattle.domain_checker.{specs.Reading.{is_cover, is_match}, proofs.FirstLemmas.{found_later, met_here, met_later, met_before}}

@@ -47,14 +47,7 @@ with_wildcard-requires-clause-counts g c = (c.first_of-place.ensures.exact.absen
 
 pub returns-in-Given : goal.returns-in-Given
 returns-in-Given g c =
-    let laws = c.chains_mean_the_zone.ensures in
-    let chain_laws : ChainLaws = record {
-      cycle = laws.cycle;
-      denial = laws.denial;
-      nonterminals = laws.nonterminals;
-      enclosers = laws.enclosers;
-      occluded = laws.occluded;
-    } in
+    let chain_laws : ChainLaws = grind (arith, common_steps) in
     let answer_laws : AnswerLaws = record { zone = c.readings_are_proved.ensures.zone; closer = c.whole_chains_prove_all.ensures.closer } in
     let a = g.A.ToName.labels c.args.apex.now in
     let x = g.M.ToName.labels c.args.name.now in

@@ -7,17 +7,13 @@ use Rattle.domain_denier.proofs.nsec3.deny_nsec3.Goals as goal
 
 pub returns-then-is_empty-clause-denial : goal.returns-then-is_empty-clause-denial
 returns-then-is_empty-clause-denial g c L config whole asked =
-    let a = c.args.chain.now.param.owner in
-    let links = c.args.chain.now.links in
-    absurd (some_links L a config links whole.is (c.chains_mean_the_zone.ensures.enclosers L a config links whole.is)
-    (c.names_exist.ensures.existing L a config) (c.is_empty.ensures.0 c.if-is_empty.true))
+    absurd (some_links L _ config _ whole.is (c.chains_mean_the_zone.ensures.enclosers L _ config _ whole.is)
+    (c.names_exist.ensures.existing L _ config) (c.is_empty.ensures.0 c.if-is_empty.true))
 
 pub returns-then-is_empty-clause-exact : goal.returns-then-is_empty-clause-exact
 returns-then-is_empty-clause-exact g c records L config whole =
-    let a = c.args.chain.now.param.owner in
-    let links = c.args.chain.now.links in
-    absurd (some_links L a config links whole.is (c.chains_mean_the_zone.ensures.enclosers L a config links whole.is)
-    (c.names_exist.ensures.existing L a config) (c.is_empty.ensures.0 c.if-is_empty.true))
+    absurd (some_links L _ config _ whole.is (c.chains_mean_the_zone.ensures.enclosers L _ config _ whole.is)
+    (c.names_exist.ensures.existing L _ config) (c.is_empty.ensures.0 c.if-is_empty.true))
 
 pub returns-clause-denial : goal.returns-clause-denial
 returns-clause-denial g c L config whole asked =

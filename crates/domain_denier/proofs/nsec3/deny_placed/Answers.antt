@@ -27,7 +27,7 @@ returns-in_default g c =
     record {
       there = first_there c.args.chain.now.links c.args.apex.now _ c.args.encloser c.requires.inside k.0 _ c.args.rtype d (first g here k.0 k.1);
       read = λ L config whole placed.
-          plain_read _ _ c.args.encloser placed c.args.rtype d (first g here placed.of.link placed.of.there) c.in_default.not-NoCloserName;
+          plain_read _ _ c.args.encloser c.args.rtype placed d (first g here placed.of.link placed.of.there) c.in_default.not-NoCloserName;
       err = tt;
       memory = λ e. absurd (cc);
     }
@@ -66,7 +66,7 @@ returns-clause-read g c L config whole placed =
     let w = c.in_ok-with_wildcard.ensures.wildcard in
     let p = c.args.chain.now.param.parameters in
     let of = subst (λ o. IsOfHash o p c.args.chain.now.links w.value w.place w.is_match) (sym c.requires.apex) (w.of L config whole) in
-    wildcard_read _ _ c.args.encloser placed c.args.rtype d said c.in-NoCloserName.count c.in-NoCloserName.is c.in_ok-with_wildcard.field-0
+    wildcard_read _ _ c.args.encloser c.args.rtype placed d said c.in-NoCloserName.count c.in-NoCloserName.is c.in_ok-with_wildcard.field-0
     c.in_ok-with_wildcard.ensures.first.0 c.in_ok-with_wildcard.ensures.first.1 w.place w.role w.value w.known w.is_match of (w.answer of.link of.there)
 
 pub returns-in_err-with_wildcard-clause-err : goal.returns-in_err-with_wildcard-clause-err

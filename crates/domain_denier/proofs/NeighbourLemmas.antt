@@ -1,0 +1,29 @@
+-- The pairs of neighbours of a list, and what lists map to, by their places.
+use Rattle.std.proofs.Common.{◌≡◌, ℕ, zero, suc, List, [], ◌∷◌, map, length, get_or, slice_get, Option, Some, None, refl, sym, ap, ◌∙◌}
+use Rattle.std.{proofs.lemmas.Option.slice_get-map, specs.Option.option_map}
+use Rattle.domain_octets.proofs.StdLemmas.{some_is}
+use Rattle.domain_zone.specs.Covering.{pairs}
+
+module _ {X : Type 0} where
+  pub pair_is : (ks : List X) (f : X) (i : ℕ) (p : X × X) → slice_get (pairs ks f) i ≡ Some p
+      → (slice_get ks i ≡ Some p.0) × (p.1 ≡ get_or ks (suc i) f)
+  pair_is [] f i p e = absurd (cc)
+  pair_is (k ∷ []) f zero p e = let is = some_is (k, f) p e in (ap (λ (q : X × X). Some q.0) is, ap (λ q. q.1) (sym is))
+  pair_is (k ∷ []) f (suc i) p e = absurd (cc)
+  pair_is (k ∷ m ∷ ks) f zero p e = let is = some_is (k, m) p e in (ap (λ (q : X × X). Some q.0) is, ap (λ q. q.1) (sym is))
+  pair_is (k ∷ m ∷ ks) f (suc i) p e = pair_is (m ∷ ks) f i p e
+
+  pub pairs_length : (ks : List X) (f : X) → length (pairs ks f) ≡ length ks
+  pairs_length [] f = refl
+  pairs_length (k ∷ []) f = refl
+  pairs_length (k ∷ m ∷ ks) f = ap suc (pairs_length (m ∷ ks) f)
+
+-- where two lists map to the same, so do their elements at each place
+pub mapped_at : {X Y Z : Type 0} (g : X → Z) (h : Y → Z) (xs : List X) (ys : List Y) → map g xs ≡ map h ys → (i : ℕ) (x : X) → slice_get xs i ≡ Some x
+    → (y : Y) × (slice_get ys i ≡ Some y) × (g x ≡ h y)
+mapped_at {Y = Y} g h xs ys e i x there =
+    by (slice_get ys i) refl (sym (slice_get-map h ys i) ∙ ap (λ zs. slice_get zs i) (sym e) ∙ slice_get-map g xs i ∙ ap (option_map g) there)
+  where
+    by : (o : Option Y) → slice_get ys i ≡ o → option_map h o ≡ Some (g x) → (y : Y) × (slice_get ys i ≡ Some y) × (g x ≡ h y)
+    by None f m = absurd (cc)
+    by (Some y) f m = (y, f, sym (some_is (h y) (g x) m))
