@@ -94,20 +94,16 @@ expansion_proved tells R x n answer e read = λ L config links value hash parame
 -- ---- of any records
 
 module _ (R : HashedRecords) (x : Name) (n : ℕ) (answer : Answer) (read : IsExpansionRead R x n answer) where
-  -- where P holds of what may be answered it holds of the answer
-  allowed : (P : Answer → Type 0) → P NotProven
-      → (is_covered R (closer_name n x) ≡ true → P (MayBeUnsigned n) × P (NoCloserName n)) → P answer
-  allowed P none covered = subst P (sym read.says) (by (first_match R read.value) (first_cover R read.value) refl)
-    where
-      by : (m c : Option HashedLink) → first_cover R read.value ≡ c → P (closer_told n m c)
-      by (Some k) c f = none
-      by None None f = none
-      by None (Some k) f =
-          let c = covered (heard R.hash (is_hash_cover R.apex R.parameters) R.links (closer_name n x) read.value read.known k f).2 in
-          choose P (is_opt_out k.flags) (MayBeUnsigned n) (NoCloserName n) c.0 c.1
-
   pub expansion_rests : ExpansionRestsOn R x n answer
-  expansion_rests = allowed (ExpansionRestsOn R x n) tt (λ c. ((refl, c), (refl, c)))
+  expansion_rests = by (first_match R read.value) (first_cover R read.value) refl read.says
+    where
+      by : (m c : Option HashedLink) → first_cover R read.value ≡ c → answer ≡ closer_told n m c → ExpansionRestsOn R x n answer
+      by (Some k) c f says = subst (ExpansionRestsOn R x n) (sym says) tt
+      by None None f says = subst (ExpansionRestsOn R x n) (sym says) tt
+      by None (Some k) f says =
+          let c = (heard R.hash (is_hash_cover R.apex R.parameters) R.links (closer_name n x) read.value read.known k f).2 in
+          subst (ExpansionRestsOn R x n) (sym says)
+          (choose (ExpansionRestsOn R x n) (is_opt_out k.flags) (MayBeUnsigned n) (NoCloserName n) (refl, c) (refl, c))
 
   pub expansion_counts : is_expanded R.apex x n ≡ true → CountsWithin (length x) answer
   expansion_counts e = grind (arith, common_steps)

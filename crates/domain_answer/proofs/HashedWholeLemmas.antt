@@ -99,9 +99,6 @@ module _ (verdicts : ProvesVerdicts) (L : List ZoneRecord) (a : Name) (config : 
             | inr s ↦ asked.ancestors d (below_trans x en d encloser.above (parent_below asterisk en d (strictly_other w d up s))) inside
           ]
 
-      abbrev told_by : Name → Bool
-      told_by e = matched e && ((same_name e w || is_zone_cut L a e) || covered (next_closer w e))
-
       w_proved : proves L a config links (wildcard_below (hashed_encloser L a config x)) ≡ true
       w_proved = whole_tells w (wildcard_low owners a x en encloser) w_alone
 
@@ -109,16 +106,12 @@ module _ (verdicts : ProvesVerdicts) (L : List ZoneRecord) (a : Name) (config : 
       w_told =
           elim (cases_Bool (exists_over owners a w)) [
             | inl e ↦
-                let itself : closest_encloser owners a w ≡ w = λ i. cond (e i) w (closest_encloser owners a en) in
                 or_left (matched w) (covered w)
-                (and_parts (matched w) ((same_name w w || is_zone_cut L a w) || covered (next_closer w w)) (sym (ap told_by itself) ∙ w_proved)).0
+                (and_parts (matched w) ((same_name w w || is_zone_cut L a w) || covered (next_closer w w)) (rw e at w_proved)).0
             | inr e ↦
-                let above : closest_encloser owners a w ≡ en = (λ i. cond (e i) w (closest_encloser owners a en)) ∙ closest_again owners a x in
-                let closes = (and_parts (matched en) ((same_name en w || is_zone_cut L a en) || covered (next_closer w en))
-                (sym (ap told_by above) ∙ w_proved)).1 in
                 let other = false_from_ne_true (same_name en w) (λ s. let n = same_count en w s in omega arith) in
-                let next = sym (λ i. (other i || en_uncut i) || covered (next_closer w en)) ∙ closes in
-                or_right (matched w) (covered w) (ap covered (sym (next_child asterisk en)) ∙ next)
+                or_right (matched w) (covered w)
+                (and_parts (matched en) (covered w) (rw (e, closest_again owners a x, other, en_uncut, next_child asterisk en) at w_proved)).1
           ]
 
     -- what is needed is told

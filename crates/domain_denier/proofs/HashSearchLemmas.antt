@@ -92,15 +92,18 @@ TellsApart = (u v : Octets) → AreOctets u → AreOctets v → base32_lower u �
 abbrev pub ReadsBack : Type 0
 ReadsBack = (octets : Octets) → AreOctets octets → IsBase32 (base32_lower octets) octets
 
+abbrev hashes_of : List HashedName → List Octets
+hashes_of names = map (λ n. n.hash) names
+
 module _ (apart : TellsApart) (L : List ZoneRecord) (a : Name) (config : ChainConfig) (links : List HashedLink)
     (chain : IsHashedChain L a config links) where
   abbrev hashes : List Octets
-  hashes = map (λ (n : HashedName). n.hash) chain.names
+  hashes = hashes_of chain.names
 
-  many : length links ≡ length (map (λ (n : HashedName). n.hash) chain.names)
+  many : length links ≡ length (hashes_of chain.names)
   many = sym (length-map links ends) ∙ ap length chain.linked ∙ length-map (cycle hashes) (ends_of a) ∙ cycle_length hashes
 
-  all_octets : (i : ℕ) (h : Octets) → slice_get (map (λ (n : HashedName). n.hash) chain.names) i ≡ Some h → AreOctets h
+  all_octets : (i : ℕ) (h : Octets) → slice_get (hashes_of chain.names) i ≡ Some h → AreOctets h
   all_octets i h e =
       all_in AreOctets hashes h (hashes_octets L a config chain.names (recursion_from_All (IsOfChain L a config) chain.names chain.sound))
       (in_at hashes i h e)
@@ -114,8 +117,7 @@ module _ (apart : TellsApart) (L : List ZoneRecord) (a : Name) (config : ChainCo
 
   -- what is known of one
   cycled : (i : ℕ) (k : HashedLink) (h : Octets) → IsRecordOf a links i k h
-      → (slice_get (cycle (map (λ (n : HashedName). n.hash) chain.names)) i ≡ Some (h, k.next))
-      × (slice_get (map (λ (n : HashedName). n.hash) chain.names) i ≡ Some h)
+      → (slice_get (cycle (hashes_of chain.names)) i ≡ Some (h, k.next)) × (slice_get (hashes_of chain.names) i ≡ Some h)
   cycled i k h r =
       let p = mapped_at ends (ends_of a) links (cycle hashes) chain.linked i k r.there in
       let q = cycle_is hashes i p.0 [] p.1 in
@@ -123,8 +125,8 @@ module _ (apart : TellsApart) (L : List ZoneRecord) (a : Name) (config : ChainCo
       let same : p.0.0 ≡ h = apart p.0.0 h (all_octets i p.0.0 q.0) r.octets (head_is (base32_lower p.0.0) (base32_lower h) a a owner) in
       (p.1 ∙ (λ j. Some (same j, (sym p.2 j).1)), q.0 ∙ ap Some same)
 
-  next_is : (i : ℕ) (k : HashedLink) (h : Octets) → IsRecordOf a links i k h → k.next ≡ get_or (map (λ (n : HashedName). n.hash) chain.names)
-      (suc i) (get_or (map (λ (n : HashedName). n.hash) chain.names) 0 [])
+  next_is : (i : ℕ) (k : HashedLink) (h : Octets) → IsRecordOf a links i k h
+      → k.next ≡ get_or (hashes_of chain.names) (suc i) (get_or (hashes_of chain.names) 0 [])
   next_is i k h r = (cycle_is hashes i (h, k.next) [] (cycled i k h r).0).1
 
   -- the record of the last hash leads to the first

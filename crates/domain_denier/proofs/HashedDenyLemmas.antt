@@ -61,9 +61,16 @@ less_by : (tells lacks : Bool) (n m : ℕ) (v : Answer) → ((k : ℕ) → v ≢
     → cond (not tells) NotProven (cond lacks (NoCloserName m) v) ≡ NoCloserName m
 less_by tells lacks n m v closer e = grind (arith, common_steps)
 
-module _ (laws : DenyLaws) (L : List ZoneRecord) (a : Name) (config : ChainConfig) (links : List HashedLink)
-    (leaves : HashedLeavesOutBelowDname L a config) (chain : IsHashedChain L a config links) (x : Name) (t : ℕ) (small : t < 65536)
-    (low : is_at_or_below x a ≡ true) (parent : is_at_parent a x t ≡ false) (asked : AreAskedAlone L a config x) where
+module _ (L : List ZoneRecord) (config : ChainConfig) (chain : ChainRecords) (x : Name) (t : ℕ) where
+  abbrev a : Name
+  a = chain.param.owner
+
+  abbrev links : List HashedLink
+  links = chain.links
+
+  abbrev R : HashedRecords
+  R = chain_records a config links
+
   abbrev zone : Answer
   zone = hashed_zone_answer L a config x t
 
@@ -73,151 +80,138 @@ module _ (laws : DenyLaws) (L : List ZoneRecord) (a : Name) (config : ChainConfi
   abbrev owners : List Name
   owners = original_owners L a config
 
-  -- what some links prove is what they say
-  proved_is : (listed : List HashedLink) → AreAmong links listed → (answer : Answer)
-      → IsHashedRead (chain_records a config listed) x t answer → answer ≡ hashed_proved_answer L a config listed x t
-  proved_is listed among answer read =
-      laws.readings (chain_records a config listed) x t answer small low parent read L config links refl refl leaves chain asked
-      (among_contained links listed among)
-
-  zone_is : (d : Nsec3Denial) → IsPickedRead (chain_records a config links) x t d → d.answer ≡ hashed_zone_answer L a config x t
-  zone_is d read = proved_is links (all_among links) d.answer read.whole ∙ laws.whole L a config links x t leaves chain asked
-
-  picked_proves : (d : Nsec3Denial) → IsPickedRead (chain_records a config links) x t d
-      → hashed_proved_answer L a config (hashed_picked links d) x t ≡ hashed_zone_answer L a config x t
-  picked_proves d read =
-      sym (proved_is (hashed_picked links d) (picked_among links d) d.answer read.picked)
-      ∙ zone_is d read
-
-  -- ---- without the record of the closest encloser
-
+  -- what links prove that tell of the closest encloser
   abbrev rest : List HashedLink → Answer
-  rest listed =
-      cond (needs_wildcard L a config x && not (tells_wildcard L a config listed x)) (NoCloserName (length (hashed_encloser L a config x)))
-      (hashed_zone_answer L a config x t)
-
-  inside_proved : (listed : List HashedLink)
-      → hashed_proved_answer L a config listed x t ≡ cond (not (tells_encloser L a config listed x)) NotProven (rest listed)
-  inside_proved listed = λ i. cond (not (low i) || parent i) zone (cond (not (tells_encloser L a config listed x)) NotProven (rest listed))
-
-  untold : (listed : List HashedLink) → tells_encloser L a config listed x ≡ false → hashed_proved_answer L a config listed x t ≡ NotProven
-  untold listed e = inside_proved listed ∙ (λ i. cond (not (e i)) NotProven (rest listed))
-
-  whole_tells : tells_encloser L a config links x ≡ true
-  whole_tells = true_from_ne_false (tells_encloser L a config links x) (λ e.
-      laws.definite L a config x t (sym (laws.whole L a config links x t leaves chain asked) ∙ untold links e))
+  rest listed = cond (needs_wildcard L a config x && not (tells_wildcard L a config listed x)) (NoCloserName (length en)) zone
 
   abbrev closes : List HashedLink → Bool
   closes listed =
-      (same_name en x || is_zone_cut L a en || nsec3_lists L a config en dname)
-      || is_covered (chain_records a config listed) (next_closer x en)
+      (same_name en x || is_zone_cut L a en || nsec3_lists L a config en dname) || is_covered (chain_records a config listed) (next_closer x en)
 
-  encloser_matched : is_matched (chain_records a config links) (hashed_encloser L a config x) ≡ true
-  encloser_matched = (and_parts (is_matched (chain_records a config links) en) (closes links) whole_tells).0
+  module _ (laws : DenyLaws) (leaves : HashedLeavesOutBelowDname L a config) (is : IsHashedChain L a config links) (small : t < 65536)
+      (low : is_at_or_below x a ≡ true) (parent : is_at_parent a x t ≡ false) (asked : AreAskedAlone L a config x) where
+    -- what some links prove is what they say
+    proved_is : (listed : List HashedLink) → AreAmong links listed → (answer : Answer)
+        → IsHashedRead (chain_records a config listed) x t answer → answer ≡ hashed_proved_answer L a config listed x t
+    proved_is listed among answer read =
+        laws.readings (chain_records a config listed) x t answer small low parent read L config links refl refl leaves is asked
+        (among_contained links listed among)
 
-  module _ (place : ℕ) (sole : IsSoleMatch (chain_records a config links) x place) where
-    alone : IsAlone L a config sole.name sole.value
-    alone = grind (arith, common_steps)
+    zone_is : (d : Nsec3Denial) → IsPickedRead R x t d → d.answer ≡ zone
+    zone_is d read = proved_is links (all_among links) d.answer read.whole ∙ laws.whole L a config links x t leaves is asked
 
-    exists : exists_over (original_owners L a config) a sole.name ≡ true
-    exists = (laws.matches L a config links chain sole.name sole.value sole.within alone sole.of.link (contained links place sole.of.link sole.of.there)
-        sole.of.matched).exists
+    picked_proves : (d : Nsec3Denial) → IsPickedRead R x t d → hashed_proved_answer L a config (hashed_picked links d) x t ≡ zone
+    picked_proves d read = sym (proved_is (hashed_picked links d) (picked_among links d) d.answer read.picked) ∙ zone_is d read
 
-    closest : IsClosestEncloser (original_owners L a config) a x (closest_encloser (original_owners L a config) a x)
-    closest = closest_is (original_owners L a config) a x (apex_from (original_owners L a config) a sole.name exists) low
+    -- ---- without the record of the closest encloser
 
-    -- it is the name that is matched first
-    is_first : same_name (hashed_encloser L a config x) sole.name ≡ true
-    is_first =
-        let down = below_longer x en sole.name closest.above sole.above (closest.longest sole.name exists sole.above) in
-        true_from_ne_false (same_name en sole.name) (λ s.
-        false≢true (sym (sole.first en closest.above (strictly_other en sole.name down s)).2 ∙ encloser_matched))
+    inside_proved : (listed : List HashedLink)
+        → hashed_proved_answer L a config listed x t ≡ cond (not (tells_encloser L a config listed x)) NotProven (rest listed)
+    inside_proved listed = λ i. cond (not (low i) || parent i) zone (cond (not (tells_encloser L a config listed x)) NotProven (rest listed))
 
-    unmatched_without : (d : Nsec3Denial)
-        → is_matched (chain_records a config (picked_without links place d)) (hashed_encloser L a config x) ≡ false
-    unmatched_without d =
-        unheard config.hash (is_hash_match a config.parameters) (picked_without links place d) en sole.value
-        (hash_same config.hash en sole.name is_first ∙ sole.known)
-        (no_match links a config.parameters sole.value place true sole.of (picked_without links place d) (without_others links d place))
+    untold : (listed : List HashedLink) → tells_encloser L a config listed x ≡ false → hashed_proved_answer L a config listed x t ≡ NotProven
+    untold listed e = inside_proved listed ∙ (λ i. cond (not (e i)) NotProven (rest listed))
 
-    without_encloser : (d : Nsec3Denial) → hashed_proved_answer L a config (picked_without links place d) x t ≡ NotProven
-    without_encloser d =
-        untold (picked_without links place d) (λ i. unmatched_without d i && closes (picked_without links place d))
+    whole_tells : tells_encloser L a config links x ≡ true
+    whole_tells = true_from_ne_false (tells_encloser L a config links x) (λ e.
+        laws.definite L a config x t (sym (laws.whole L a config links x t leaves is asked) ∙ untold links e))
 
-  -- ---- each is needed
+    encloser_matched : is_matched R en ≡ true
+    encloser_matched = (and_parts (is_matched R en) (closes links) whole_tells).0
 
-  without_among : (place : ℕ) (d : Nsec3Denial) → AreAmong links (picked_without links place d)
-  without_among place d = others_among links place (picked_without links place d) (without_others links d place)
+    module _ (place : ℕ) (sole : IsSoleMatch R x place) where
+      alone : IsAlone L a config sole.name sole.value
+      alone = grind (arith, common_steps)
 
-  needed_is : (d : Nsec3Denial) → IsPickedRead (chain_records a config links) x t d → AreHashedNeeded L a config links x t d
-  needed_is d read = record {
-    name = λ place tells. elim tells [
-      | inl e ↦ without_encloser place (read.matched place e) d
-      | inr e ↦ elim (is_place d.of_encloser place) [
-        | inl f ↦ without_encloser place (read.matched place f) d
-        | inr f ↦ sym (proved_is (picked_without links place d) (without_among place d) NotProven (read.next_closer place e f))
-      ]
-    ];
-    wildcard = λ place e apart.
-        let listed = picked_without links place d in
-        let r = read.wildcard place e apart in
-        let says = proved_is listed (without_among place d) (NoCloserName r.0) r.1 in
-        inside_proved listed
-        ∙ less_by (tells_encloser L a config listed x) (needs_wildcard L a config x && not (tells_wildcard L a config listed x)) r.0 (length en) zone
-        (laws.closer L a config x t) (says ∙ inside_proved listed);
-  }
-    where
-      is_place : (o : Option ℕ) (place : ℕ) → (o ≡ Some place) ⊎ (o ≡ Some place → ⊥)
-      is_place None place = inr (λ e. none_some place e)
-      is_place (Some q) place = elim (cases_eq q place) [ inl h ↦ inl (ap Some h) | inr h ↦ inr (λ e. h (some_is q place e)) ]
+      exists : exists_over owners a sole.name ≡ true
+      exists = (laws.matches L a config links is sole.name sole.value sole.within alone sole.of.link (contained links place sole.of.link sole.of.there)
+          sole.of.matched).exists
 
-  -- ---- each tells of its part
+      closest : IsClosestEncloser owners a x en
+      closest = closest_is owners a x (apex_from owners a sole.name exists) low
 
-  one_any : (test : HashedLink → Bool) (place : ℕ) (k : HashedLink) → slice_get links place ≡ Some k → test k ≡ true
-      → list_any test (at_place links (Some place)) ≡ true
-  one_any test place k there e = in_any test (at_place links (Some place)) k (in_place links (Some place) place k refl there) e
+      -- it is the name that is matched first
+      is_first : same_name en sole.name ≡ true
+      is_first =
+          let down = below_longer x en sole.name closest.above sole.above (closest.longest sole.name exists sole.above) in
+          true_from_ne_false (same_name en sole.name) (λ s.
+          false≢true (sym (sole.first en closest.above (strictly_other en sole.name down s)).2 ∙ encloser_matched))
 
-  encloser_told : (place : ℕ) → IsSoleMatch (chain_records a config links) x place
-      → is_matched (chain_records a config (at_place links (Some place))) (hashed_encloser L a config x) ≡ true
-  encloser_told place sole = grind (arith, common_steps, (hash_same config.hash en sole.name (is_first place sole)))
+      unmatched_without : (d : Nsec3Denial) → is_matched (chain_records a config (picked_without links place d)) en ≡ false
+      unmatched_without d =
+          unheard config.hash (is_hash_match a config.parameters) (picked_without links place d) en sole.value
+          (hash_same config.hash en sole.name is_first ∙ sole.known)
+          (no_match links a config.parameters sole.value place true sole.of (picked_without links place d) (without_others links d place))
 
-  closer_told : (place : ℕ) → IsSoleCover (chain_records a config links) x place
-      → is_covered (chain_records a config (at_place links (Some place))) (next_closer x (hashed_encloser L a config x)) ≡ true
-  closer_told place cover = grind (arith, common_steps, (same_count en cover.sole.name (is_first cover.encloser cover.sole)))
+      without_encloser : (d : Nsec3Denial) → hashed_proved_answer L a config (picked_without links place d) x t ≡ NotProven
+      without_encloser d = untold (picked_without links place d) (λ i. unmatched_without d i && closes (picked_without links place d))
 
-  wildcard_told : (place : ℕ) → IsSoleWildcard (chain_records a config links) x place
-      → tells_wildcard L a config (at_place links (Some place)) x ≡ true
-  wildcard_told place told =
-      let listed = at_place links (Some place) in
-      let w = wildcard_below en in
-      let count = same_count en told.sole.name (is_first told.encloser told.sole) in
-      let is : en ≡ last_labels (length told.sole.name) x = sym (closest_last owners a x) ∙ ap (λ n. last_labels n x) count in
-      let known = ap (λ n. hash_name config.hash (wildcard_below n)) is ∙ told.known in
-      elim (or_cases (is_hash_match a config.parameters told.value told.of.link) (is_hash_cover a config.parameters told.value told.of.link) told.of.says) [
-        | inl e ↦ or_left (is_matched (chain_records a config listed) w) (is_covered (chain_records a config listed) w)
-            (rw known (one_any (is_hash_match a config.parameters told.value) place told.of.link told.of.there e))
-        | inr e ↦ or_right (is_matched (chain_records a config listed) w) (is_covered (chain_records a config listed) w)
-            (rw known (one_any (is_hash_cover a config.parameters told.value) place told.of.link told.of.there e))
-      ]
+    -- ---- each is needed
 
-  parts_are : (d : Nsec3Denial) → IsPickedRead (chain_records a config links) x t d → TellOfTheirParts L a config links x d
-  parts_are d read = record {
-    encloser = λ place e. encloser_told place (read.matched place e);
-    next_closer = λ place e. closer_told place (read.covered place e);
-    wildcard = λ place e. wildcard_told place (read.told place e);
-  }
+    without_among : (place : ℕ) (d : Nsec3Denial) → AreAmong links (picked_without links place d)
+    without_among place d = others_among links place (picked_without links place d) (without_others links d place)
 
--- what is picked inside the zone
-pub denial_is : DenyLaws → (L : List ZoneRecord) (config : ChainConfig) (chain : ChainRecords)
-    → HashedLeavesOutBelowDname L chain.param.owner config → IsHashedChain L chain.param.owner config chain.links → (x : Name) (t : ℕ) → t < 65536
-    → is_at_or_below x chain.param.owner ≡ true → is_at_parent chain.param.owner x t ≡ false → AreAskedAlone L chain.param.owner config x
-    → (d : Nsec3Denial) → IsPickedRead (chain_records chain.param.owner config chain.links) x t d → IsHashedDenial L config chain x t d
-denial_is laws L config chain leaves is x t small low parent asked d read = record {
-  zone = zone_is laws L chain.param.owner config chain.links leaves is x t small low parent asked d read;
-  proved = picked_proves laws L chain.param.owner config chain.links leaves is x t small low parent asked d read;
-  parts = parts_are laws L chain.param.owner config chain.links leaves is x t small low parent asked d read;
-  needed = needed_is laws L chain.param.owner config chain.links leaves is x t small low parent asked d read;
-}
+    needed_is : (d : Nsec3Denial) → IsPickedRead R x t d → AreHashedNeeded L a config links x t d
+    needed_is d read = record {
+      name = λ place tells. elim tells [
+        | inl e ↦ without_encloser place (read.matched place e) d
+        | inr e ↦ elim (is_place d.of_encloser place) [
+          | inl f ↦ without_encloser place (read.matched place f) d
+          | inr f ↦ sym (proved_is (picked_without links place d) (without_among place d) NotProven (read.next_closer place e f))
+        ]
+      ];
+      wildcard = λ place e apart.
+          let listed = picked_without links place d in
+          let r = read.wildcard place e apart in
+          let says = proved_is listed (without_among place d) (NoCloserName r.0) r.1 in
+          inside_proved listed
+          ∙ less_by (tells_encloser L a config listed x) (needs_wildcard L a config x && not (tells_wildcard L a config listed x)) r.0 (length en) zone
+          (laws.closer L a config x t) (says ∙ inside_proved listed);
+    }
+      where
+        is_place : (o : Option ℕ) (place : ℕ) → (o ≡ Some place) ⊎ (o ≡ Some place → ⊥)
+        is_place None place = inr (λ e. none_some place e)
+        is_place (Some q) place = elim (cases_eq q place) [ inl h ↦ inl (ap Some h) | inr h ↦ inr (λ e. h (some_is q place e)) ]
+
+    -- ---- each tells of its part
+
+    one_any : (test : HashedLink → Bool) (place : ℕ) (k : HashedLink) → slice_get links place ≡ Some k → test k ≡ true
+        → list_any test (at_place links (Some place)) ≡ true
+    one_any test place k there e = in_any test (at_place links (Some place)) k (in_place links (Some place) place k refl there) e
+
+    encloser_told : (place : ℕ) → IsSoleMatch R x place → is_matched (chain_records a config (at_place links (Some place))) en ≡ true
+    encloser_told place sole = grind (arith, common_steps, (hash_same config.hash en sole.name (is_first place sole)))
+
+    closer_told : (place : ℕ) → IsSoleCover R x place → is_covered (chain_records a config (at_place links (Some place))) (next_closer x en) ≡ true
+    closer_told place cover = grind (arith, common_steps, (same_count en cover.sole.name (is_first cover.encloser cover.sole)))
+
+    wildcard_told : (place : ℕ) → IsSoleWildcard R x place → tells_wildcard L a config (at_place links (Some place)) x ≡ true
+    wildcard_told place told =
+        let listed = at_place links (Some place) in
+        let w = wildcard_below en in
+        let count = same_count en told.sole.name (is_first told.encloser told.sole) in
+        let named : en ≡ last_labels (length told.sole.name) x = sym (closest_last owners a x) ∙ ap (λ n. last_labels n x) count in
+        let known = ap (λ n. hash_name config.hash (wildcard_below n)) named ∙ told.known in
+        elim (or_cases (is_hash_match a config.parameters told.value told.of.link) (is_hash_cover a config.parameters told.value told.of.link) told.of.says) [
+          | inl e ↦ or_left (is_matched (chain_records a config listed) w) (is_covered (chain_records a config listed) w)
+              (rw known (one_any (is_hash_match a config.parameters told.value) place told.of.link told.of.there e))
+          | inr e ↦ or_right (is_matched (chain_records a config listed) w) (is_covered (chain_records a config listed) w)
+              (rw known (one_any (is_hash_cover a config.parameters told.value) place told.of.link told.of.there e))
+        ]
+
+    -- ---- what is picked
+
+    pub denial_is : (d : Nsec3Denial) → IsPickedRead R x t d → IsHashedDenial L config chain x t d
+    denial_is d read = record {
+      zone = zone_is d read;
+      proved = picked_proves d read;
+      parts = record {
+        encloser = λ place e. encloser_told place (read.matched place e);
+        next_closer = λ place e. closer_told place (read.covered place e);
+        wildcard = λ place e. wildcard_told place (read.told place e);
+      };
+      needed = needed_is d read;
+    }
 
 -- what is read with the hash and the parameters of the chain
 pub read_by : (L : List ZoneRecord) (config : ChainConfig) (hash : Hash) (chain : ChainRecords) → IsHashedWhole L config hash chain

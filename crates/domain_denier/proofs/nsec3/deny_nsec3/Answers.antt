@@ -38,4 +38,4 @@ returns-clause-denial g c L config whole asked =
     } in
     let read =
     read_by L config hash chain whole c.owner-apex.result.now apex x t c.in_ok-deny_inside.field-0 (c.in_ok-deny_inside.ensures.read L config whole) in
-    denial_is laws L config chain whole.leaves_out whole.is x t small low parent asked c.in_ok-deny_inside.field-0 read
+    denial_is L config chain x t laws whole.leaves_out whole.is small low parent asked c.in_ok-deny_inside.field-0 read
