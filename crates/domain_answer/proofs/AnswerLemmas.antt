@@ -6,7 +6,7 @@ use Rattle.domain_names.specs.{Name.{is_at_or_below, is_strictly_below}, Order.b
 use Rattle.domain_base.specs.Types.{cname, ds}
 use Rattle.domain_zone.specs.{Covering.{matches, covers}, Enclosers.{IsClosestEncloser}}
 use Rattle.domain_zone.specs.Zone.{ZoneRecord, is_occluded, is_unoccluded, owns, unoccluded_owners}
-use Rattle.domain_zone.proofs.{NameLemmas.{one_lowered, same_itself}, PairLemmas.In, OwnerLemmas.below_occluder, FindLemmas.{Stands, stands_all}}
+use Rattle.domain_zone.proofs.{PairLemmas.In, OwnerLemmas.below_occluder, FindLemmas.{Stands, stands_all}}
 use Rattle.domain_nsec.specs.Chain.{Link}
 use Rattle.domain_checker.specs.{Reading.{is_cover, is_match}, Verdict.has_match_or_cover}
 use Rattle.domain_checker.proofs.EncloserLemmas.{closest_is, cut_same, top_occluder, same_count, strictly_trans}
@@ -21,7 +21,7 @@ use Rattle.domain_answer.specs.ZoneAnswer.{asterisk, encloser, existing_answer, 
 use Rattle.domain_answer.specs.ZoneAnswer.{wildcard_below}
 use Rattle.domain_answer.proofs.ChainLemmas.{child_at, covered_cut, covered_exists, covered_told, matched_cut, matched_exists, matched_type, meant_leaving}
 use Rattle.domain_answer.proofs.{ChainLemmas.no_cut, CountLemmas.{closest_last, parent_below}, EncloserLemmas.{strictly_enclosed, wildcard_low}}
-use Rattle.domain_answer.proofs.OccluderLemmas.{free_parts, highest_is, none_above}
+use Rattle.domain_answer.proofs.{KindLemmas.highest_of, OccluderLemmas.none_above}
 
 turned : (b : Bool) (u v : Answer) → cond b u v ≡ cond (not b) v u
 turned b u v = grind (arith, common_steps)
@@ -114,15 +114,13 @@ module _ (L : List ZoneRecord) (a : Name) (assume : Bool) (links : List Link) (m
 
       of_occluded : is_occluded true L a x ≡ true → cover_answer a listed k x t ≡ known
       of_occluded e =
-          let top = top_occluder true L a x e in
-          let highest = highest_is L a x top.0.name top.0.over (free_parts L a top.0.name top.1).1 top.0.under in
-          let owner = covered_under true L a assume links meant k place stands x low c top.0.name top.0.over top.1 top.0.under in
-          let one = same_itself highest.0 k.owner (one_lowered highest.0 top.0.name highest.2 ∙ sym (one_lowered k.owner top.0.name owner)) in
-          let labels = same_count highest.0 k.owner one in
-          let cut = cut_same L a highest.0 k.owner one ∙ sym (covered_cut L a assume links meant alike sets k place stands x low c) in
+          let h = highest_of L a x e in
+          let owner = covered_under true L a assume links meant k place stands x low c h.0 h.2.over h.2.free h.2.under in
+          let labels = same_count k.owner h.0 owner in
+          let cut = covered_cut L a assume links meant alike sets k place stands x low c ∙ cut_same L a k.owner h.0 owner in
           let free = and_right (is_at_or_below x a) (not (is_occluded true L a x)) (ap not e) in
-          rw (and_left (is_unoccluded true L a x) (not (name_exists L a x)) free, highest.1, told ∙ e)
-          (sym (λ j. cond (cut j) (Referral (labels j)) (Redirected (labels j))))
+          rw (and_left (is_unoccluded true L a x) (not (name_exists L a x)) free, h.1, told ∙ e)
+          (λ j. cond (cut j) (Referral (labels j)) (Redirected (labels j)))
 
       -- of a name that isn't occluded the next name tells whether it exists
       of_empty : is_occluded true L a x ≡ false → name_exists L a x ≡ true → cover_answer a listed k x t ≡ known

@@ -54,17 +54,14 @@ shared_less (l ∷ x) y e = grind (arith, common_steps, shared_within)
 longer_less : (n : ℕ) (e f : Name) → length e < n → length f < n → length (longer e f) < n
 longer_less n e f p q = grind (arith, common_steps)
 
--- what a cover says, by what comes before what
-pub covers_parts : (m oo ox xn : Bool) → (not m && cond oo (ox && xn) (ox || xn)) ≡ true → (cond oo (ox && xn) (ox || xn)) ≡ true
-covers_parts m oo ox xn h = (and_parts (not m) (cond oo (ox && xn) (ox || xn)) h).1
-
 -- a name that is not after the owner is before the next name, which is not after the owner either
 after_owner : (oo ox xn : Bool) → ox ≡ false → cond oo (ox && xn) (ox || xn) ≡ true → (oo ≡ false) × (xn ≡ true)
 after_owner oo ox xn e between = grind (arith, common_steps)
 
 module _ (o n x : Name) (c : covers before o n x ≡ true) where
+  -- what a cover says, by what comes before what
   between : cond (before o n) (before o x && before x n) (before o x || before x n) ≡ true
-  between = covers_parts (matches before o x) (before o n) (before o x) (before x n) c
+  between = (and_parts (not (matches before o x)) (cond (before o n) (before o x && before x n) (before o x || before x n)) c).1
 
   -- the next name is not the one that is covered
   other_next : same_name n x ≡ false

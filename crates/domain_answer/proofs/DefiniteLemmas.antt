@@ -31,14 +31,6 @@ unfolding is_of_zone
 wildcard_says n none has alias = grind (arith, common_steps)
 
 -- records give more answers
-pub of_zone_proves : (v : Answer) → is_of_zone v ≡ true → v ≢ NotProven
+pub of_zone_other : (v : Answer) → is_of_zone v ≡ true → (v ≢ NotProven) × ((n : ℕ) → v ≢ NoCloserName n) × (v ≢ TooManyIterations)
 unfolding is_of_zone
-of_zone_proves v e f = true≢false (sym e ∙ ap is_of_zone f)
-
-pub of_zone_knows : (v : Answer) → is_of_zone v ≡ true → (n : ℕ) → v ≢ NoCloserName n
-unfolding is_of_zone
-of_zone_knows v e n f = true≢false (sym e ∙ ap is_of_zone f)
-
-pub of_zone_limits : (v : Answer) → is_of_zone v ≡ true → v ≢ TooManyIterations
-unfolding is_of_zone
-of_zone_limits v e f = true≢false (sym e ∙ ap is_of_zone f)
+of_zone_other v e = (λ f. true≢false (sym e ∙ ap is_of_zone f), λ n f. true≢false (sym e ∙ ap is_of_zone f), λ f. true≢false (sym e ∙ ap is_of_zone f))

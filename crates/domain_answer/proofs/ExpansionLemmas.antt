@@ -8,9 +8,9 @@ use Rattle.domain_chain_rdata.specs.OptOut.{is_opt_out}
 use Rattle.domain_zone.{specs.Zone.ZoneRecord, proofs.{NameLemmas.{below_longer, below_parent}, PairLemmas.{In, all_in}}}
 use Rattle.domain_nsec3.specs.{Chain.{HashedLink, IsHashedChain}, Config.ChainConfig, Meaning.IsAlone, Owners.original_owners}
 use Rattle.domain_checker.specs.{HashedEncloser.{IsDenial, IsOfName}, HashedList.{is_hash_cover, is_hash_match}}
-use Rattle.domain_checker.specs.{HashedView.{HashedRecords, chain_records, first_cover, first_match}, HashedVerdict.is_covered}
+use Rattle.domain_checker.specs.{HashedView.{HashedRecords, chain_records, first_cover, first_match}}
 use Rattle.domain_checker.proofs.{HashedVerdictLemmas.as_chain, EncloserLemmas.{apex_from, closest_is}}
-use Rattle.domain_answer.specs.declared.answer.Answer.{Answer, TheVariants.{MayBeUnsigned, NoCloserName, NotProven}}
+use Rattle.domain_answer.specs.declared.answer.Answer.{Answer, TheVariants.{MayBeUnsigned, NoCloserName}}
 use Rattle.domain_answer.specs.Expansion.{ExpansionRestsOn, IsExpansionAnswered, IsExpansionRead, closer_name, closer_told, is_expanded, proved_expansion}
 use Rattle.domain_answer.specs.{HashedZoneAnswer.{hashed_encloser, hashed_exists}, Proved.CountsWithin}
 use Rattle.domain_answer.{specs.ZoneAnswer.{asterisk, wildcard_below}, proofs.{CountLemmas.{closest_last, last_above, last_count}, EncloserLemmas.exists_above}}

@@ -14,22 +14,17 @@ match_is_same x y = sym (same_is x y)
 
 -- ---- whether a name is covered, by its orders to the owner and to the next name
 
+reversed : (r : Ordering) → (is_eq (ordering_reverse r) ≡ is_eq r) × (is_lt (ordering_reverse r) ≡ is_gt r)
+reversed Less = (refl, refl)
+reversed Equal = (refl, refl)
+reversed Greater = (refl, refl)
+
 module _ (o n x : Name) where
   tie_is : matches before o x ≡ is_eq (canonical_cmp x o)
-  tie_is = match_is_tie o x ∙ ap is_eq (canonical_cmp_total.antisymm o x) ∙ reads (canonical_cmp x o)
-    where
-      reads : (r : Ordering) → is_eq (ordering_reverse r) ≡ is_eq r
-      reads Less = refl
-      reads Equal = refl
-      reads Greater = refl
+  tie_is = match_is_tie o x ∙ ap is_eq (canonical_cmp_total.antisymm o x) ∙ (reversed (canonical_cmp x o)).0
 
   after_is : before o x ≡ is_gt (canonical_cmp x o)
-  after_is = ap is_lt (canonical_cmp_total.antisymm o x) ∙ reads (canonical_cmp x o)
-    where
-      reads : (r : Ordering) → is_lt (ordering_reverse r) ≡ is_gt r
-      reads Less = refl
-      reads Equal = refl
-      reads Greater = refl
+  after_is = ap is_lt (canonical_cmp_total.antisymm o x) ∙ (reversed (canonical_cmp x o)).1
 
   abbrev pub covered_by : Bool → Bool → Bool → Bool → Bool
   covered_by tie after next behind = not tie && cond behind (after && next) (after || next)

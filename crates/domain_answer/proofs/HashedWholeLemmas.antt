@@ -19,7 +19,7 @@ use Rattle.domain_answer.specs.{Expansion.{closer_name, is_expanded, missing_clo
 use Rattle.domain_answer.specs.HashedProved.{AreAskedAlone, hashed_proved_answer, needs_wildcard, tells_encloser, tells_wildcard}
 use Rattle.domain_answer.specs.HashedZoneAnswer.{HashedLeavesOutBelowDname, hashed_encloser, hashed_exists, hashed_missing_answer, hashed_zone_answer}
 use Rattle.domain_answer.{specs.ZoneAnswer.{asterisk, is_at_parent, wildcard_below}, proofs.CountLemmas.parent_below}
-use Rattle.domain_answer.proofs.DefiniteLemmas.{all_told, choose, existing_says, is_of_zone, of_zone_knows, of_zone_limits, of_zone_proves, wildcard_says}
+use Rattle.domain_answer.proofs.DefiniteLemmas.{all_told, choose, existing_says, is_of_zone, of_zone_other, wildcard_says}
 use Rattle.domain_answer.proofs.EncloserLemmas.{exists_low, strictly_enclosed, strictly_other, wildcard_low}
 use Rattle.domain_answer.proofs.{ExpansionLemmas.closer_low, HashedAnswerLemmas.{cut_original, encloser_is}}
 
@@ -168,10 +168,10 @@ module _ (L : List ZoneRecord) (a : Name) (config : ChainConfig) (x : Name) (t :
   zone_says = grind (arith, common_steps, choose, existing_says, missing_says)
 
   pub zone_proves : hashed_zone_answer L a config x t ≢ NotProven
-  zone_proves = of_zone_proves (hashed_zone_answer L a config x t) zone_says
+  zone_proves = (of_zone_other (hashed_zone_answer L a config x t) zone_says).0
 
   pub zone_knows : (n : ℕ) → hashed_zone_answer L a config x t ≢ NoCloserName n
-  zone_knows = of_zone_knows (hashed_zone_answer L a config x t) zone_says
+  zone_knows = (of_zone_other (hashed_zone_answer L a config x t) zone_says).1
 
   pub zone_limits : hashed_zone_answer L a config x t ≢ TooManyIterations
-  zone_limits = of_zone_limits (hashed_zone_answer L a config x t) zone_says
+  zone_limits = (of_zone_other (hashed_zone_answer L a config x t) zone_says).2

@@ -203,11 +203,8 @@ module _ (L : List ZoneRecord) (a : Name) (config : ChainConfig) (x : Name) (t :
         gone : name_exists L a x ≡ false
         gone = false_from_ne_true (name_exists L a x) (λ e. none_below L a owners free_owner d x highest.over e highest.under)
 
-        has_dname : has_type (records_of L d) dname ≡ true
-        has_dname = grind (arith, common_steps, and_parts)
-
         listed : nsec3_lists L a config d dname ≡ true
-        listed = grind (arith, common_steps, d_owns, has_dname)
+        listed = let has : has_type (records_of L d) dname ≡ true = grind (arith, common_steps, and_parts) in grind (arith, common_steps, d_owns)
 
         at_dname : hashed_inside_answer L a config x t ≡ occluded_answer L a d
         at_dname = inside_is ∙ rw (cut_free no_cut_of, gone, alike en d en_same dname ∙ listed, c) (ap Redirected labels)

@@ -8,7 +8,7 @@ use Rattle.domain_zone.specs.Covering.{matches, covers, matches_or_covers}
 use Rattle.domain_zone.proofs.{NameLemmas.{below_length, same_is}, PairLemmas.In, OwnerLemmas.in_any, FindLemmas.find_some}
 use Rattle.domain_nsec.specs.Chain.{Link}
 use Rattle.domain_checker.{specs.{Reading.{is_at_cut, is_cover, is_match}, Verdict.{HasProof, is_inside}}, proofs.EncloserLemmas.same_count}
-use Rattle.domain_answer.specs.declared.answer.Answer.{Answer, TheVariants.{Wildcard, WildcardAlias, WildcardNoData, NameError, NoCloserName}}
+use Rattle.domain_answer.specs.declared.answer.Answer.{Answer, TheVariants.{Wildcard, WildcardAlias, WildcardNoData, NameError, NoCloserName, NotProven}}
 use Rattle.domain_answer.specs.Proved.{CountsWithin, HasBothProofs, RestsOn}
 use Rattle.domain_answer.specs.Reading.{absent_answer, cover_answer, listed_answer, listed_both, match_answer, reading, tells_occluded, wildcard_both}
 use Rattle.domain_answer.{specs.ZoneAnswer.wildcard_below, proofs.CountLemmas.encloser_less}
@@ -18,7 +18,7 @@ pub choose : (P : Answer → Type 0) (b : Bool) (v w : Answer) → P v → P w �
 choose P b v w p q = grind (arith, common_steps)
 
 -- P holds of what is said of a wildcard, where it holds of all that its record may say, and of what is said without one
-wildcard_has : (P : Answer → Type 0) (a : Name) (n : ℕ) (w : Name) (t : ℕ) (m c : Option Link) → P (NoCloserName n)
+pub wildcard_has : (P : Answer → Type 0) (a : Name) (n : ℕ) (w : Name) (t : ℕ) (m c : Option Link) → P (NoCloserName n)
     → ((k : Link) → (m ≡ Some k) ⊎ (c ≡ Some k) → P (Wildcard n) × P (WildcardAlias n) × P (WildcardNoData n) × P (NameError n))
     → P (wildcard_both a n w t m c)
 wildcard_has P a n w t None None none some = none
@@ -48,6 +48,16 @@ module _ (a : Name) (listed : List Link) where
       told y k r.0 p.1 (or_right (matches before k.owner y) (covers before k.owner k.next y) p.0)
 
   module _ (x : Name) (t : ℕ) where
+    -- P holds of what the list says, where it holds of what its first match and its first cover do
+    listed_has : (P : Answer → Type 0) → P NotProven → ((k : Link) → find (is_match a x) listed ≡ Some k → P (match_answer a k t))
+        → ((k : Link) → find (is_cover a x) listed ≡ Some k → P (cover_answer a listed k x t)) → P (listed_answer a listed x t)
+    listed_has P none match cover = by (find (is_match a x) listed) (find (is_cover a x) listed) refl refl
+      where
+        by : (o p : Option Link) → find (is_match a x) listed ≡ o → find (is_cover a x) listed ≡ p → P (listed_both a listed x t o p)
+        by None None e f = none
+        by None (Some k) e f = cover k f
+        by (Some k) p e f = match k e
+
     abbrev Rests : Answer → Type 0
     Rests = RestsOn listed a x
 
@@ -65,12 +75,7 @@ module _ (a : Name) (listed : List Link) where
     cover_rests k h = grind (arith, common_steps, absent_rests)
 
     list_rests : Rests (listed_answer a listed x t)
-    list_rests = by (find (is_match a x) listed) (find (is_cover a x) listed) refl refl
-      where
-        by : (o p : Option Link) → find (is_match a x) listed ≡ o → find (is_cover a x) listed ≡ p → Rests (listed_both a listed x t o p)
-        by None None e f = tt
-        by None (Some k) e f = cover_rests k (by_cover x k f)
-        by (Some k) p e f = match_rests k (by_match x k e)
+    list_rests = listed_has Rests tt (λ k e. match_rests k (by_match x k e)) (λ k e. cover_rests k (by_cover x k e))
 
     pub reading_rests : Rests (reading a listed x t)
     reading_rests = grind (arith, common_steps, list_rests)
@@ -95,14 +100,9 @@ module _ (a : Name) (listed : List Link) where
     cover_counts k c = grind (arith, common_steps, choose_by, below_length, and_parts, choose, absent_counts, encloser_less)
 
     list_counts : Counts (listed_answer a listed x t)
-    list_counts = by (find (is_match a x) listed) (find (is_cover a x) listed) refl refl
-      where
-        by : (o p : Option Link) → find (is_match a x) listed ≡ o → find (is_cover a x) listed ≡ p → Counts (listed_both a listed x t o p)
-        by None None e f = tt
-        by None (Some k) e f =
-            cover_counts k (and_parts (covers before k.owner k.next x) (is_inside a k) (find_some (is_cover a x) listed k f).1).0
-        by (Some k) p e f =
-            match_counts k (and_parts (matches before k.owner x) (is_inside a k) (find_some (is_match a x) listed k e).1).0
+    list_counts =
+        listed_has Counts tt (λ k e. match_counts k (and_parts (matches before k.owner x) (is_inside a k) (find_some (is_match a x) listed k e).1).0)
+        (λ k e. cover_counts k (and_parts (covers before k.owner k.next x) (is_inside a k) (find_some (is_cover a x) listed k e).1).0)
 
     pub reading_counts : Counts (reading a listed x t)
     reading_counts = grind (arith, common_steps, list_counts)

@@ -1,12 +1,13 @@
 -- What records tell of a name by themselves, and what is left to a wildcard.
-use Rattle.std.{proofs.Common.{◌≡◌, ◌≢◌, ℕ, ◌<◌, List, length, Option, arith}, specs.List.find}
+use Rattle.std.{proofs.Common.{◌≡◌, ◌≢◌, ℕ, ◌<◌, List, length, refl, arith}, specs.List.find}
 use Rattle.domain_names.specs.Words.{Name}
 use Rattle.domain_nsec.specs.Chain.{Link}
 use Rattle.domain_checker.specs.Reading.{is_cover, is_match}
 use Rattle.domain_answer.specs.declared.answer.Answer.{Answer}
 use Rattle.domain_answer.specs.declared.answer.Answer.TheVariants as answer
 use Rattle.domain_answer.specs.{declared.answer.NameAnswer.TheVariants.{Given, Absent}, NameAnswer.{IsNameAnswer, name_answer}}
-use Rattle.domain_answer.specs.Reading.{absent_answer, match_answer, owner_answer, wildcard_answer, wildcard_both, wildcard_cover_answer, wildcard_match_answer}
+use Rattle.domain_answer.specs.Reading.{absent_answer, match_answer, owner_answer, wildcard_answer}
+use Rattle.domain_answer.proofs.ProofLemmas.{wildcard_has}
 use Rattle.std.proofs.lemmas.Grind.{common_steps}
 
 -- ---- what a record says of its owner, or of what is below it, rests on no wildcard
@@ -19,18 +20,9 @@ owner_own a k = grind (arith, common_steps)
 
 -- ---- what is said of a wildcard does
 
-module _ (a w : Name) (n t : ℕ) where
-  of_match : (k : Link) → name_answer (wildcard_match_answer a n k t) ≡ Absent n
-  of_match k = grind (arith, common_steps)
-
-  of_cover : (k : Link) → name_answer (wildcard_cover_answer a n k w) ≡ Absent n
-  of_cover k = grind (arith, common_steps)
-
-  of_both : (m c : Option Link) → name_answer (wildcard_both a n w t m c) ≡ Absent n
-  of_both m c = grind (arith, common_steps, of_cover)
-
 pub wildcard_own : (a : Name) (listed : List Link) (n : ℕ) (w : Name) (t : ℕ) → name_answer (wildcard_answer a listed n w t) ≡ Absent n
-wildcard_own a listed n w t = of_both a w n t (find (is_match a w) listed) (find (is_cover a w) listed)
+wildcard_own a listed n w t =
+    wildcard_has (λ v. name_answer v ≡ Absent n) a n w t (find (is_match a w) listed) (find (is_cover a w) listed) refl (λ k o. (refl, refl, refl, refl))
 
 -- ---- the two forms
 

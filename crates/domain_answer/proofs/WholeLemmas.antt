@@ -14,7 +14,7 @@ use Rattle.domain_answer.specs.declared.answer.Answer.{TheVariants.{NoCloserName
 use Rattle.domain_answer.specs.Proved.{LeavesOutBelowDname, is_missing, knows_wildcard, proved_answer}
 use Rattle.domain_answer.specs.ZoneAnswer.{encloser, inside_answer, is_at_parent, wildcard_below, zone_answer}
 use Rattle.domain_answer.proofs.{ChainLemmas.meant_leaving, EncloserLemmas.wildcard_low}
-use Rattle.domain_answer.proofs.DefiniteLemmas.{all_told, choose, is_of_zone, of_zone_knows, of_zone_proves}
+use Rattle.domain_answer.proofs.DefiniteLemmas.{all_told, choose, is_of_zone, of_zone_other}
 
 pub whole_proves : ChainLaws → (L : List ZoneRecord) (a : Name) (config : GenerateNsecConfig) (links : List Link) (x : Name)
     (t : ℕ) → LeavesOutBelowDname L a config → OwnersNeverDescend L → IsChain L a config links
@@ -41,10 +41,10 @@ module _ (L : List ZoneRecord) (a : Name) (assume : Bool) (x : Name) (t : ℕ) w
   zone_says = grind (arith, common_steps, choose, inside_says)
 
   pub zone_proves : zone_answer L a assume x t ≢ NotProven
-  zone_proves = of_zone_proves (zone_answer L a assume x t) zone_says
+  zone_proves = (of_zone_other (zone_answer L a assume x t) zone_says).0
 
   pub zone_knows : (n : ℕ) → zone_answer L a assume x t ≢ NoCloserName n
-  zone_knows = of_zone_knows (zone_answer L a assume x t) zone_says
+  zone_knows = (of_zone_other (zone_answer L a assume x t) zone_says).1
 
 -- ---- chains that leave out the names below a DNAME
 

@@ -62,24 +62,24 @@ module _ (R : HashedRecords) (x : Name) (f : PlacedEncloser) (t : ℕ) where
 
   module _ (placed : IsPlaced R x f) where
     abbrev k : HashedLink
-    k = placed.of.link
+    k = placed.sole.of.link
 
     -- some of the links, with the record of the encloser, tell it too
-    module _ (listed : List HashedLink) (among : AreAmong R.links listed) (has : In placed.of.link listed) where
-      encloser_in : IsEncloser (with_links R listed) x (seen placed.of.link placed.next listed)
+    module _ (listed : List HashedLink) (among : AreAmong R.links listed) (has : In placed.sole.of.link listed) where
+      encloser_in : IsEncloser (with_links R listed) x (seen placed.sole.of.link placed.next listed)
       encloser_in =
-          let found = matched R.links R.apex R.parameters placed.value f.place true placed.of listed among has refl in
+          let found = matched R.links R.apex R.parameters placed.sole.value f.place true placed.sole.of listed among has refl in
           record {
-            name = placed.name;
+            name = placed.sole.name;
             counts = placed.counts;
             first = record {
-              above = placed.above;
-              within = placed.within;
-              found = some_matched (with_links R listed) placed.name placed.value placed.of.link placed.known found;
-              first = λ y up down. let r = placed.first y up down in (r.0, r.1, unmatched_among R listed among y r.0 r.1 r.2);
+              above = placed.sole.above;
+              within = placed.sole.within;
+              found = some_matched (with_links R listed) placed.sole.name placed.sole.value placed.sole.of.link placed.sole.known found;
+              first = λ y up down. let r = placed.sole.first y up down in (r.0, r.1, unmatched_among R listed among y r.0 r.1 r.2);
             };
-            value = placed.value;
-            known = placed.known;
+            value = placed.sole.value;
+            known = placed.sole.known;
             found = found;
             next = placed.next;
             closes = placed.closes;
@@ -87,24 +87,24 @@ module _ (R : HashedRecords) (x : Name) (f : PlacedEncloser) (t : ℕ) where
           }
 
       -- a first answer, and what is read on
-      read_of : (first answer : Answer) → encloser_answer R.apex (seen placed.of.link placed.next listed) (length x) t ≡ first
+      read_of : (first answer : Answer) → encloser_answer R.apex (seen placed.sole.of.link placed.next listed) (length x) t ≡ first
           → IsReadOn (with_links R listed) x t first answer → IsHashedRead (with_links R listed) x t answer
       read_of first answer e on = record {
-        found = Some (seen placed.of.link placed.next listed);
+        found = Some (seen placed.sole.of.link placed.next listed);
         is = encloser_in;
         ends = subst (λ g. IsReadOn (with_links R listed) x t g answer) (sym e) on;
       }
 
       -- the cover is found where the answer rests on it
-      first_is : Keeps (next_role R.apex (whole placed.of.link) (length x) f.cover) listed
-          → encloser_answer R.apex (seen placed.of.link placed.next listed) (length x) t ≡ encloser_answer R.apex (whole placed.of.link) (length x) t
+      first_is : Keeps (next_role R.apex (whole placed.sole.of.link) (length x) f.cover) listed
+          → encloser_answer R.apex (seen placed.sole.of.link placed.next listed) (length x) t ≡ encloser_answer R.apex (whole placed.sole.of.link) (length x) t
       first_is covers =
           closer_by (nat_eq f.count (length x)) (encloser_is_cut R.apex (whole k)) (contains_type k.bits dname) (own_answer R.apex (whole k) t)
           (Referral f.count) (Redirected f.count) (next_answer f.count (next_cover (with_links R listed) placed.next))
           (next_answer f.count (link_at R.links f.cover))
           (λ n c h. ap (next_answer f.count) (same_cover (λ i. cond (n i) None (cond (c i) None (cond (h i) None f.cover))) placed.next refl placed.cover))
         where
-          same_cover : next_role R.apex (whole placed.of.link) (length x) f.cover ≡ f.cover
+          same_cover : next_role R.apex (whole placed.sole.of.link) (length x) f.cover ≡ f.cover
               → (next : Option Octets) → placed.next ≡ next → IsCoverAt R next f.cover
               → next_cover (with_links R listed) placed.next ≡ link_at R.links f.cover
           same_cover role None e none = ap (next_cover (with_links R listed)) e ∙ sym (ap (link_at R.links) none)
@@ -114,21 +114,21 @@ module _ (R : HashedRecords) (x : Name) (f : PlacedEncloser) (t : ℕ) where
               ∙ sym (ap (link_at R.links) at.1 ∙ at.2.there)
 
     -- what is picked first
-    module _ (d : Nsec3Denial) (first : IsFirstDenial R.apex R.links placed.of.link f (length x) t d) where
+    module _ (d : Nsec3Denial) (first : IsFirstDenial R.apex R.links placed.sole.of.link f (length x) t d) where
       -- the answer where the wildcard is not asked for
-      read_plain : (listed : List HashedLink) → AreAmong R.links listed → In placed.of.link listed → Keeps d.of_next_closer listed
+      read_plain : (listed : List HashedLink) → AreAmong R.links listed → In placed.sole.of.link listed → Keeps d.of_next_closer listed
           → ((n : ℕ) → d.answer ≡ NoCloserName n → ⊥) → IsHashedRead (with_links R listed) x t d.answer
       read_plain listed among has covers other = grind (arith, common_steps, read_of, first_is, plain_on)
 
       -- the parts of the answer rest on the next closer name
       rests_below : (q : ℕ) → d.of_next_closer ≡ Some q → (nat_eq f.count (length x) ≡ false)
-          × (encloser_is_cut R.apex (whole placed.of.link) ≡ false)
-          × (contains_type placed.of.link.bits dname ≡ false) × (f.cover ≡ Some q)
+          × (encloser_is_cut R.apex (whole placed.sole.of.link) ≡ false)
+          × (contains_type placed.sole.of.link.bits dname ≡ false) × (f.cover ≡ Some q)
       rests_below q e =
           role_by (nat_eq f.count (length x)) (encloser_is_cut R.apex (whole k)) (contains_type k.bits dname) f.cover q (sym first.next_closer ∙ e)
 
       -- without the cover nothing is said
-      read_closer : (q : ℕ) → d.of_next_closer ≡ Some q → (listed : List HashedLink) → AreOthers R.links q listed → In placed.of.link listed
+      read_closer : (q : ℕ) → d.of_next_closer ≡ Some q → (listed : List HashedLink) → AreOthers R.links q listed → In placed.sole.of.link listed
           → IsHashedRead (with_links R listed) x t NotProven
       read_closer q e listed others has =
           let b = rests_below q e in
@@ -141,30 +141,19 @@ module _ (R : HashedRecords) (x : Name) (f : PlacedEncloser) (t : ℕ) where
               ap (next_cover (with_links R listed)) g
               ∙ no_cover R.links R.apex R.parameters w at.0 false at.2 listed (subst (λ m. AreOthers R.links m listed) (sym same) others)
 
-      abbrev sole_here : IsSoleMatch R x f.place
-      sole_here = record {
-        name = placed.name;
-        above = placed.above;
-        within = placed.within;
-        first = placed.first;
-        value = placed.value;
-        known = placed.known;
-        of = placed.of;
-      }
-
       sole : (place : ℕ) → d.of_encloser ≡ Some place → IsSoleMatch R x place
-      sole place e = grind (arith, common_steps)
+      sole place e = subst (IsSoleMatch R x) (some_is f.place place (sym first.encloser ∙ e)) placed.sole
 
       sole_cover : (place : ℕ) → d.of_next_closer ≡ Some place → IsSoleCover R x place
       sole_cover place e = by placed.next placed.closes placed.cover
         where
-          by : (next : Option Octets) → IsNextHash R.hash x placed.name next → IsCoverAt R next f.cover → IsSoleCover R x place
+          by : (next : Option Octets) → IsNextHash R.hash x placed.sole.name next → IsCoverAt R next f.cover → IsSoleCover R x place
           by None n none = absurd (none_some place (sym none ∙ (rests_below place e).3))
           by (Some w) n at =
               let same : at.0 ≡ place = some_is at.0 place (sym at.1 ∙ (rests_below place e).3) in
               record {
                 encloser = f.place;
-                sole = sole_here;
+                sole = placed.sole;
                 value = w;
                 known = n.1;
                 of = subst (λ m. IsOfHash R.apex R.parameters R.links w m false) same at.2;
@@ -176,14 +165,14 @@ module _ (R : HashedRecords) (x : Name) (f : PlacedEncloser) (t : ℕ) where
           → IsHashedRead (with_links R (picked_without R.links place e)) x t NotProven
       without_closer e role from place is apart =
           read_closer place (from place is) (picked_without R.links place e) (without_others R.links e place)
-          (in_without R.links e place f.place k placed.of.there (inl (inl role)) (λ same. apart (role ∙ ap Some same)))
+          (in_without R.links e place f.place k placed.sole.of.there (inl (inl role)) (λ same. apart (role ∙ ap Some same)))
 
       -- ---- one that the wildcard is not asked for
 
       pub plain_read : ((n : ℕ) → d.answer ≡ NoCloserName n → ⊥) → IsPickedRead R x t d
       plain_read other = record {
-        whole = read_plain R.links (all_among R.links) (in_at R.links f.place k placed.of.there) (λ q e m g. in_at R.links q m g) other;
-        picked = read_plain (hashed_picked R.links d) (picked_among R.links d) (in_picked R.links d f.place k placed.of.there (inl (inl first.encloser)))
+        whole = read_plain R.links (all_among R.links) (in_at R.links f.place k placed.sole.of.there) (λ q e m g. in_at R.links q m g) other;
+        picked = read_plain (hashed_picked R.links d) (picked_among R.links d) (in_picked R.links d f.place k placed.sole.of.there (inl (inl first.encloser)))
             (λ q e m g. in_picked R.links d q m g (inl (inr e))) other;
         matched = sole;
         covered = sole_cover;
@@ -201,11 +190,11 @@ module _ (R : HashedRecords) (x : Name) (f : PlacedEncloser) (t : ℕ) where
         encloser_is : e.of_encloser ≡ Some f.place
         encloser_is = encloser ∙ first.encloser
 
-        counted : n ≡ length placed.name
+        counted : n ≡ length placed.sole.name
         counted = (closer_counts R.apex (whole k) (length x) t n (sym first.answer ∙ closer)).0 ∙ placed.counts
 
         -- what is read of some of the links, by what they say of the wildcard
-        read_wild : (listed : List HashedLink) → AreAmong R.links listed → In placed.of.link listed → Keeps d.of_next_closer listed → (answer : Answer)
+        read_wild : (listed : List HashedLink) → AreAmong R.links listed → In placed.sole.of.link listed → Keeps d.of_next_closer listed → (answer : Answer)
             → IsWildcardRead (with_links R listed) x t n answer → IsHashedRead (with_links R listed) x t answer
         read_wild listed among has covers answer on =
             read_of listed among has (NoCloserName n) answer
@@ -234,16 +223,16 @@ module _ (R : HashedRecords) (x : Name) (f : PlacedEncloser) (t : ℕ) where
 
         pub wildcard_read : IsPickedRead R x t e
         wildcard_read = record {
-          whole = read_wild R.links (all_among R.links) (in_at R.links f.place k placed.of.there) (λ q g l h. in_at R.links q l h) e.answer
+          whole = read_wild R.links (all_among R.links) (in_at R.links f.place k placed.sole.of.there) (λ q g l h. in_at R.links q l h) e.answer
               (wild_in R.links (all_among R.links) (in_at R.links place of.link of.there));
-          picked = read_wild (hashed_picked R.links e) (picked_among R.links e) (in_picked R.links e f.place k placed.of.there (inl (inl encloser_is)))
+          picked = read_wild (hashed_picked R.links e) (picked_among R.links e) (in_picked R.links e f.place k placed.sole.of.there (inl (inl encloser_is)))
               (λ j g l h. in_picked R.links e j l h (inl (inr (next_closer ∙ g)))) e.answer
               (wild_in (hashed_picked R.links e) (picked_among R.links e) (in_picked R.links e place of.link of.there (inr role)));
           matched = λ j g. sole j (sym encloser ∙ g);
           covered = λ j g. sole_cover j (sym next_closer ∙ g);
           told = λ j g. record {
             encloser = f.place;
-            sole = sole_here;
+            sole = placed.sole;
             value = value;
             known = ap (λ i. hash_name R.hash (wildcard_below (last_labels i x))) (sym counted) ∙ known;
             is_match = m;
@@ -255,7 +244,7 @@ module _ (R : HashedRecords) (x : Name) (f : PlacedEncloser) (t : ℕ) where
               let others = without_others R.links e j in (
                 n,
                 read_wild listed (others_among R.links j listed others)
-                    (in_without R.links e j f.place k placed.of.there (inl (inl encloser_is)) (λ s. apart (inl (encloser_is ∙ ap Some s))))
+                    (in_without R.links e j f.place k placed.sole.of.there (inl (inl encloser_is)) (λ s. apart (inl (encloser_is ∙ ap Some s))))
                     (λ i h l u. in_without R.links e j i l u (inl (inr (next_closer ∙ h))) (λ s. apart (inr (next_closer ∙ h ∙ ap Some s))))
                     (NoCloserName n)
                     (wild_gone listed (subst (λ s. AreOthers R.links s listed) (sym (some_is place j (sym role ∙ g))) others)),

@@ -41,7 +41,13 @@ module _ (R : HashedRecords) (x : Name) where
   -- or matched
   pub placed_here : is_at_or_below x R.apex ≡ true → (v : Octets) → hash_name R.hash x ≡ Ok v → (f : PlacedEncloser)
       → IsOfHash R.apex R.parameters R.links v f.place true → f.count ≡ length x → f.cover ≡ None → IsPlaced R x f
-  placed_here low v known f of counts none = grind (arith, common_steps, none_first, same_itself, (below_itself x), (none_first R x), (same_itself x x refl))
+  placed_here low v known f of counts none = record {
+    sole = record { name = x; above = below_itself x; within = low; first = none_first R x; value = v; known = known; of = of };
+    counts = counts;
+    next = None;
+    closes = same_itself x x refl;
+    cover = none;
+  }
 
   module _ (left : Name) (cover : ℕ) (m : IsMissedAt left cover) where
     -- where the apex is covered too, none is matched
@@ -59,14 +65,8 @@ module _ (R : HashedRecords) (x : Name) where
       pub placed_above : (f : PlacedEncloser) → IsOfHash R.apex R.parameters R.links v f.place true → f.count ≡ length next → f.cover ≡ Some cover
           → IsPlaced R x f
       placed_above f of counts is = record {
-        name = next;
+        sole = record { name = next; above = passed.above; within = passed.within; first = passed.first; value = v; known = known; of = of };
         counts = counts;
-        above = passed.above;
-        within = passed.within;
-        first = passed.first;
-        value = v;
-        known = known;
-        of = of;
         next = Some m.value;
         closes = passed.closes;
         cover = (cover, is, m.of);

@@ -53,19 +53,24 @@ IsCoverAt R None cover = cover ≡ None
 IsCoverAt R (Some v) cover =
     (place : ℕ) × (cover ≡ Some place) × IsOfHash R.apex R.parameters R.links v place false
 
--- of x and its ancestors at or below the apex the first that is matched has so many labels, and
--- these are the records of it and of the next closer name
-pub record IsPlaced (R : HashedRecords) (x : Name) (f : PlacedEncloser) : Type 0 where
+-- the record at this place is the only one of the links that matches the closest encloser, the first
+-- of x and its ancestors at or below the apex that is matched
+pub record IsSoleMatch (R : HashedRecords) (x : Name) (place : ℕ) : Type 0 where
   pub name : Name
-  pub counts : f.count ≡ length name
   pub above : is_at_or_below x name ≡ true
   pub within : is_at_or_below name R.apex ≡ true
   pub first : IsFirst R x name
   pub value : Octets
   pub known : hash_name R.hash name ≡ Ok value
-  pub of : IsOfHash R.apex R.parameters R.links value f.place true
+  pub of : IsOfHash R.apex R.parameters R.links value place true
+
+-- so is that at the place of an encloser, which has as many labels, and the cover is that of the next
+-- closer name
+pub record IsPlaced (R : HashedRecords) (x : Name) (f : PlacedEncloser) : Type 0 where
+  pub sole : IsSoleMatch R x f.place
+  pub counts : f.count ≡ length sole.name
   pub next : Option Octets
-  pub closes : IsNextHash R.hash x name next
+  pub closes : IsNextHash R.hash x sole.name next
   pub cover : IsCoverAt R next f.cover
 
 -- it is an ancestor of x at or below the apex, and the places are places of the chain
@@ -144,17 +149,7 @@ pub record IsWildcardPlaced (hash : Hash) (chain : ChainRecords) (x : Name) (t n
   pub of : (L : List ZoneRecord) (config : ChainConfig) → IsHashedWhole L config hash chain
       → IsOfHash chain.param.owner chain.param.parameters chain.links value place is_match
 
--- the record at this place is the only one of the links that matches the closest encloser
-pub record IsSoleMatch (R : HashedRecords) (x : Name) (place : ℕ) : Type 0 where
-  pub name : Name
-  pub above : is_at_or_below x name ≡ true
-  pub within : is_at_or_below name R.apex ≡ true
-  pub first : IsFirst R x name
-  pub value : Octets
-  pub known : hash_name R.hash name ≡ Ok value
-  pub of : IsOfHash R.apex R.parameters R.links value place true
-
--- and that at this place the only one that covers the next closer name
+-- the record at this place is the only one that covers the next closer name
 pub record IsSoleCover (R : HashedRecords) (x : Name) (place : ℕ) : Type 0 where
   pub encloser : ℕ
   pub sole : IsSoleMatch R x encloser

@@ -27,7 +27,7 @@ returns-in_default g c =
     record {
       there = first_there c.args.chain.now.links c.args.apex.now _ c.args.encloser c.requires.inside k.0 _ c.args.rtype d (first g here k.0 k.1);
       read = λ L config whole placed.
-          plain_read _ _ c.args.encloser c.args.rtype placed d (first g here placed.of.link placed.of.there) c.in_default.not-NoCloserName;
+          plain_read _ _ c.args.encloser c.args.rtype placed d (first g here placed.sole.of.link placed.sole.of.there) c.in_default.not-NoCloserName;
       err = tt;
       memory = λ e. absurd (cc);
     }
@@ -62,7 +62,7 @@ returns-clause-there g c place (inr e) = grind (arith, common_steps)
 pub returns-clause-read : goal.returns-clause-read
 returns-clause-read g c L config whole placed =
     let d = c.first_denial-first.result in
-    let said = first g (goal.at.returns-clause-read g c).After-first_denial-first placed.of.link placed.of.there in
+    let said = first g (goal.at.returns-clause-read g c).After-first_denial-first placed.sole.of.link placed.sole.of.there in
     let w = c.in_ok-with_wildcard.ensures.wildcard in
     let p = c.args.chain.now.param.parameters in
     let of = subst (λ o. IsOfHash o p c.args.chain.now.links w.value w.place w.is_match) (sym c.requires.apex) (w.of L config whole) in
