@@ -26,7 +26,7 @@ longer : (a x : Name) (n : ℕ) → is_expanded a x n ≡ true → IsLonger a x 
 longer a x n e = grind (arith, common_steps)
 
 -- its last labels, so many and more, are a name at or below the apex
-last_low : (a x : Name) (m : ℕ) → is_at_or_below x a ≡ true → length a ≤ m → m ≤ length x → is_at_or_below (last_labels m x) a ≡ true
+pub last_low : (a x : Name) (m : ℕ) → is_at_or_below x a ≡ true → length a ≤ m → m ≤ length x → is_at_or_below (last_labels m x) a ≡ true
 last_low a x m low many few = let count = last_count x m few in below_longer x (last_labels m x) a (last_above x m) low (omega arith)
 
 pub closer_low : (a x : Name) (n : ℕ) → is_expanded a x n ≡ true → is_at_or_below (closer_name n x) a ≡ true

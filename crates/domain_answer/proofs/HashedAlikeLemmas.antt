@@ -55,15 +55,15 @@ module _ (R : HashedRecords) (ls : List HashedLink) (alike : ArePaired IsHashedA
     read_on : (first answer : Answer) → IsReadOn R x t first answer → IsReadOn S x t first answer
     read_on first answer r = grind (arith, common_steps, wildcard_alike, matching, covering)
 
-    read_found : (answer : Answer) (found : Option Encloser) → IsFoundEncloser R x found
+    pub read_alike : (answer : Answer) (found : Option Encloser) → IsFoundEncloser R x found
         → IsReadOn R x t (found_answer R.apex found (length x) t) answer → IsHashedRead S x t answer
-    read_found answer None is ends =
+    read_alike answer None is ends =
         record {
           found = None;
           is = λ y up low. let f = is y up low in (f.0, f.1, sym (matched_alike R ls alike y) ∙ f.2);
           ends = ends;
         }
-    read_found answer (Some e) is ends =
+    read_alike answer (Some e) is ends =
         let other = found_alike R ls alike is.value e.link is.found in
         let cover = next_cover S is.next in
         let same = encloser_answer_alike R.apex (length x) t e.count e.link other.0 other.1 e.cover cover
@@ -88,9 +88,6 @@ module _ (R : HashedRecords) (ls : List HashedLink) (alike : ArePaired IsHashedA
           };
           ends = subst (λ f. IsReadOn S x t f answer) same (read_on (encloser_answer R.apex e (length x) t) answer ends);
         }
-
-    pub read_alike : (answer : Answer) → IsHashedRead R x t answer → IsHashedRead S x t answer
-    read_alike answer read = read_found answer read.found read.is read.ends
 
 module _ (L : List ZoneRecord) (a : Name) (config : ChainConfig) (x : Name) (t : ℕ) (ks ls : List HashedLink)
     (alike : ArePaired IsHashedAlike ks ls) where

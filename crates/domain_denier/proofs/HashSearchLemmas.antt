@@ -1,6 +1,6 @@
 -- Where a search by hash in a chain ends, the record matches or covers the hash, and no other does.
-use Rattle.std.proofs.Common.{◌≡◌, ℕ, zero, suc, ◌-◌, ◌<◌, ◌≤◌, true, false, cond, ◌&&◌, List, [], ◌∷◌, map, length, get_or, slice_get, Some, None, refl, sym}
-use Rattle.std.proofs.{Common.{ap, ◌∙◌, arith, inl, inr, ◌⊎◌}, lemmas.List.{get_or_past, length-map, Elements.recursion_from_All, Sorted.ranks_by}}
+use Rattle.std.proofs.Common.{◌≡◌, ℕ, zero, suc, ◌-◌, ◌<◌, ◌≤◌, Bool, true, false, cond, ◌&&◌, List, [], ◌∷◌, map, length, get_or, slice_get, Some, None}
+use Rattle.std.proofs.{Common.{refl, sym, ap, ◌∙◌, arith, inl, inr, ◌⊎◌}, lemmas.List.{get_or_past, length-map, Elements.recursion_from_All, Sorted.ranks_by}}
 use Rattle.std.proofs.lemmas.{Option.{get_or_from_slice_get, slice_get-get_or, slice_get_within}, Grind.common_steps}
 use Rattle.std.specs.{List.{AllByRecursion, Sorted.IsStrictlySortedBy}, Cmp.{IsStrictWeakOrder, Lexicographic.{nat_list_cmp_total, slice_cmp}}}
 use Rattle.std.specs.{Ordering.{is_eq, is_lt, nat_cmp}, declared.cmp.Ordering.TheVariants.Less}
@@ -66,22 +66,16 @@ said : (o n v : Octets) → ((octets_before v o ≡ false) × ((octets_before v 
     ⊎ ((octets_before v n ≡ true) × (octets_before o n ≡ false)) → matches_or_covers octets_before o n v ≡ true
 said o n v h = grind (arith, common_steps)
 
--- the octets of an owner that is before v, or after it
-pub record IsBehind (a : Name) (links : List HashedLink) (v : Octets) (place : ℕ) : Type 0 where
+-- the record at a place, and whether v is before its hash
+pub record IsOrdered (a : Name) (links : List HashedLink) (v : Octets) (place : ℕ) (is_before : Bool) : Type 0 where
   pub link : HashedLink
   pub hash : Octets
   pub is : IsRecordOf a links place link hash
-  pub behind : octets_before v hash ≡ false
-
-pub record IsAfter (a : Name) (links : List HashedLink) (v : Octets) (place : ℕ) : Type 0 where
-  pub link : HashedLink
-  pub hash : Octets
-  pub is : IsRecordOf a links place link hash
-  pub after : octets_before v hash ≡ true
+  pub order : octets_before v hash ≡ is_before
 
 -- the end of what is left to search
 abbrev pub IsAhead : Name → List HashedLink → Octets → ℕ → Type 0
-IsAhead a links v place = (place ≡ length links) ⊎ IsAfter a links v place
+IsAhead a links v place = (place ≡ length links) ⊎ IsOrdered a links v place true
 
 head_is : (x y : Octets) (xs ys : List Octets) → x ∷ xs ≡ y ∷ ys → x ≡ y
 head_is x y xs ys e = cc
@@ -137,7 +131,7 @@ module _ (apart : TellsApart) (L : List ZoneRecord) (a : Name) (config : ChainCo
 
   module _ (v : Octets) where
     -- before the first record it is the last that covers
-    pub wrapped : (i : ℕ) → suc i ≡ length links → IsAfter a links v 0 → IsSaid a links v i
+    pub wrapped : (i : ℕ) → suc i ≡ length links → IsOrdered a links v 0 true → IsSaid a links v i
     wrapped i last first =
         let k = get_or links i first.link in
         let there : slice_get links i ≡ Some k = slice_get-get_or links i first.link (omega (arith, last)) in
@@ -149,11 +143,11 @@ module _ (apart : TellsApart) (L : List ZoneRecord) (a : Name) (config : ChainCo
           link = k;
           hash = r.0;
           is = r.1;
-          says = said r.0 k.next v (inr (ap (octets_before v) next ∙ first.after, last_next i k r.0 r.1 last));
+          says = said r.0 k.next v (inr (ap (octets_before v) next ∙ first.order, last_next i k r.0 r.1 last));
         }
 
     -- else the last whose hash is not after it
-    pub searched : (low high : ℕ) → low < high → high ≤ length links → high - low ≤ 1 → IsBehind a links v low
+    pub searched : (low high : ℕ) → low < high → high ≤ length links → high - low ≤ 1 → IsOrdered a links v low false
         → IsAhead a links v high → IsSaid a links v low
     searched low high within end near behind ahead =
         let high_is : high ≡ suc low = omega (arith, within, near) in
@@ -162,14 +156,14 @@ module _ (apart : TellsApart) (L : List ZoneRecord) (a : Name) (config : ChainCo
           hash = behind.hash;
           is = behind.is;
           says = said behind.hash behind.link.next v (inl (
-            behind.behind,
+            behind.order,
             elim ahead [
               | inl e ↦ inr (last_next low behind.link behind.hash behind.is (omega (arith, high_is, e)))
               | inr f ↦ inl (
                   ap (octets_before v) (next_is low behind.link behind.hash behind.is
                   ∙ get_or_from_slice_get hashes (suc low) f.hash (get_or hashes 0 [])
                   (sym (ap (slice_get hashes) high_is) ∙ (cycled high f.link f.hash f.is).1))
-                  ∙ f.after
+                  ∙ f.order
                   )
             ],
           ));

@@ -12,7 +12,7 @@ use Rattle.domain_nsec3.specs.{Chain.{ChainRecords, HashedLink, HashedName, IsHa
 use Rattle.domain_nsec3.specs.{Meaning.{IsAlone, TellsEncloser}, Owners.{is_chain_name, nsec3_lists, original_owners}}
 use Rattle.domain_base.specs.Types.{dname}
 use Rattle.domain_checker.specs.{HashedEncloser.IsOfName, HashedList.{is_hash_cover, is_hash_match}, HashedView.{HashedRecords, chain_records}}
-use Rattle.domain_checker.specs.{HashedVerdict.{is_covered, is_matched, next_closer}, Verdict.closest_encloser}
+use Rattle.domain_checker.specs.{HashedVerdict.{is_covered, is_matched, next_closer}}
 use Rattle.domain_checker.proofs.{EncloserLemmas.{apex_from, closest_is, same_count}, HashedListLemmas.hash_same}
 use Rattle.domain_answer.specs.declared.answer.Answer.{Answer, TheVariants.{NoCloserName, NotProven}}
 use Rattle.domain_answer.specs.HashedProved.{AreAskedAlone, IsHashedAnswered, hashed_proved_answer, needs_wildcard, tells_encloser, tells_wildcard}
@@ -20,7 +20,7 @@ use Rattle.domain_answer.specs.{HashedReading.IsHashedRead, HashedZoneAnswer.{Ha
 use Rattle.domain_answer.{specs.ZoneAnswer.{is_at_parent, wildcard_below}, proofs.{CountLemmas.closest_last, HashedWayLemmas.unheard}}
 use Rattle.domain_answer.proofs.EncloserLemmas.{exists_low, strictly_other}
 use Rattle.domain_denier.specs.Picked.{at_place}
-use Rattle.domain_denier.specs.HashedPicked.{AreHashedNeeded, IsHashedDenial, IsHashedWhole, TellOfTheirParts, hashed_picked, picked_without}
+use Rattle.domain_denier.specs.HashedPicked.{AreHashedNeeded, IsHashedDenial, IsHashedWhole, hashed_picked, picked_without}
 use Rattle.domain_denier.specs.{HashedSteps.{IsPickedRead, IsSoleCover, IsSoleMatch, IsSoleWildcard}, declared.nsec3.Nsec3Denial.Nsec3Denial}
 use Rattle.domain_denier.proofs.{HashSearchLemmas.cycle_length, SomeLemmas.{AreAmong, all_among, among_contained, contained, in_place}}
 use Rattle.domain_denier.proofs.SomeLemmas.{no_match, others_among, picked_among, without_others}
@@ -97,12 +97,6 @@ module _ (L : List ZoneRecord) (config : ChainConfig) (chain : ChainRecords) (x 
         laws.readings (chain_records a config listed) x t answer small low parent read L config links refl refl leaves is asked
         (among_contained links listed among)
 
-    zone_is : (d : Nsec3Denial) → IsPickedRead R x t d → d.answer ≡ zone
-    zone_is d read = proved_is links (all_among links) d.answer read.whole ∙ laws.whole L a config links x t leaves is asked
-
-    picked_proves : (d : Nsec3Denial) → IsPickedRead R x t d → hashed_proved_answer L a config (hashed_picked links d) x t ≡ zone
-    picked_proves d read = sym (proved_is (hashed_picked links d) (picked_among links d) d.answer read.picked) ∙ zone_is d read
-
     -- ---- without the record of the closest encloser
 
     inside_proved : (listed : List HashedLink)
@@ -120,11 +114,10 @@ module _ (L : List ZoneRecord) (config : ChainConfig) (chain : ChainRecords) (x 
     encloser_matched = (and_parts (is_matched R en) (closes links) whole_tells).0
 
     module _ (place : ℕ) (sole : IsSoleMatch R x place) where
-      alone : IsAlone L a config sole.name sole.value
-      alone = grind (arith, common_steps)
-
       exists : exists_over owners a sole.name ≡ true
-      exists = (laws.matches L a config links is sole.name sole.value sole.within alone sole.of.link (contained links place sole.of.link sole.of.there)
+      exists =
+          let alone : IsAlone L a config sole.name sole.value = grind (arith, common_steps) in
+          (laws.matches L a config links is sole.name sole.value sole.within alone sole.of.link (contained links place sole.of.link sole.of.there)
           sole.of.matched).exists
 
       closest : IsClosestEncloser owners a x en
@@ -137,14 +130,13 @@ module _ (L : List ZoneRecord) (config : ChainConfig) (chain : ChainRecords) (x 
           true_from_ne_false (same_name en sole.name) (λ s.
           false≢true (sym (sole.first en closest.above (strictly_other en sole.name down s)).2 ∙ encloser_matched))
 
-      unmatched_without : (d : Nsec3Denial) → is_matched (chain_records a config (picked_without links place d)) en ≡ false
-      unmatched_without d =
-          unheard config.hash (is_hash_match a config.parameters) (picked_without links place d) en sole.value
-          (hash_same config.hash en sole.name is_first ∙ sole.known)
-          (no_match links a config.parameters sole.value place true sole.of (picked_without links place d) (without_others links d place))
-
       without_encloser : (d : Nsec3Denial) → hashed_proved_answer L a config (picked_without links place d) x t ≡ NotProven
-      without_encloser d = untold (picked_without links place d) (λ i. unmatched_without d i && closes (picked_without links place d))
+      without_encloser d =
+          let listed = picked_without links place d in
+          let unmatched = unheard config.hash (is_hash_match a config.parameters) listed en sole.value
+          (hash_same config.hash en sole.name is_first ∙ sole.known)
+          (no_match links a config.parameters sole.value place true sole.of listed (without_others links d place)) in
+          untold listed (λ i. unmatched i && closes listed)
 
     -- ---- each is needed
 
@@ -202,16 +194,18 @@ module _ (L : List ZoneRecord) (config : ChainConfig) (chain : ChainRecords) (x 
     -- ---- what is picked
 
     pub denial_is : (d : Nsec3Denial) → IsPickedRead R x t d → IsHashedDenial L config chain x t d
-    denial_is d read = record {
-      zone = zone_is d read;
-      proved = picked_proves d read;
-      parts = record {
-        encloser = λ place e. encloser_told place (read.matched place e);
-        next_closer = λ place e. closer_told place (read.covered place e);
-        wildcard = λ place e. wildcard_told place (read.told place e);
-      };
-      needed = needed_is d read;
-    }
+    denial_is d read =
+        let says : d.answer ≡ zone = proved_is links (all_among links) d.answer read.whole ∙ laws.whole L a config links x t leaves is asked in
+        record {
+          zone = says;
+          proved = sym (proved_is (hashed_picked links d) (picked_among links d) d.answer read.picked) ∙ says;
+          parts = record {
+            encloser = λ place e. encloser_told place (read.matched place e);
+            next_closer = λ place e. closer_told place (read.covered place e);
+            wildcard = λ place e. wildcard_told place (read.told place e);
+          };
+          needed = needed_is d read;
+        }
 
 -- what is read with the hash and the parameters of the chain
 pub read_by : (L : List ZoneRecord) (config : ChainConfig) (hash : Hash) (chain : ChainRecords) → IsHashedWhole L config hash chain

@@ -7,14 +7,14 @@ use Rattle.domain_octets.{specs.Words.Octets, proofs.StdLemmas.{some_is, none_so
 use Rattle.domain_names.specs.{Name.{is_at_or_below, last_labels}, Words.Name}
 use Rattle.domain_base.specs.Types.{dname}
 use Rattle.domain_bitmap.specs.Blocks.{contains_type}
-use Rattle.domain_zone.proofs.{NameLemmas.{below_length, below_longer}, PairLemmas.In, OwnerLemmas.in_any, FindLemmas.{any_none, in_at}}
+use Rattle.domain_zone.proofs.{NameLemmas.{below_length}, PairLemmas.In, OwnerLemmas.in_any, FindLemmas.{any_none, in_at}}
 use Rattle.domain_nsec3.specs.{Chain.HashedLink, Config.hash_name}
 use Rattle.domain_checker.specs.{HashedEncloser.{Encloser, IsEncloser, encloser_is_cut, next_cover}, HashedList.is_hash_match}
 use Rattle.domain_checker.specs.{HashedReading.{IsNextHash, IsUnmatched}, HashedView.{HashedRecords, first_cover, first_match, with_links}}
 use Rattle.domain_checker.{specs.HashedVerdict.{is_matched, is_ok_with}, proofs.HashedWalkLemmas.some_matched}
 use Rattle.domain_answer.specs.declared.answer.Answer.{Answer, TheVariants.{Referral, Redirected, NoCloserName, NotProven}}
 use Rattle.domain_answer.specs.HashedReading.{IsHashedRead, IsReadOn, IsWildcardRead, encloser_answer, next_answer, own_answer, wildcard_told}
-use Rattle.domain_answer.{specs.ZoneAnswer.wildcard_below, proofs.{CountLemmas.{last_above, last_count}, HashedWayLemmas.closer_counts}}
+use Rattle.domain_answer.{specs.ZoneAnswer.wildcard_below, proofs.{CountLemmas.last_above, ExpansionLemmas.last_low, HashedWayLemmas.closer_counts}}
 use Rattle.domain_denier.specs.HashedPicked.{AreHashedThere, TellsOfName, hashed_picked, picked_without, without_records}
 use Rattle.domain_denier.specs.HashedSteps.{IsCoverAt, IsFirstDenial, IsInside, IsOfHash, IsPickedRead, IsPlaced, IsSoleCover, IsSoleMatch, encloser_with}
 use Rattle.domain_denier.specs.{HashedSteps.{link_at, next_role, wildcard_told_by}, declared.encloser.PlacedEncloser.PlacedEncloser}
@@ -285,11 +285,10 @@ asked_below links a x f low inside k t n e =
     let long = below_length inside.name a inside.within in
     let other = eqb-false f.count (length x) c.1 in
     let less : n < length x = omega (arith, c.0, inside.counts, short, other) in
-    let counted = last_count x n (omega (arith, less)) in
     record {
       less = less;
       above = last_above x n;
-      within = below_longer x (last_labels n x) a (last_above x n) low (omega (arith, counted, c.0, inside.counts, long));
+      within = last_low a x n low (omega (arith, c.0, inside.counts, long)) (omega (arith, less));
     }
 
 pub record_there : (links : List HashedLink) (place : ℕ) → place < length links → (k : HashedLink) × (slice_get links place ≡ Some k)

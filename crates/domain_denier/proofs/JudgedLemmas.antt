@@ -1,6 +1,6 @@
 -- What one record, or two of which the first denies a name alone, tell by what they are judged to say.
 use Rattle.std.proofs.Common.{◌≡◌, ◌≢◌, ℕ, ◌<◌, Bool, true, false, cond, not, ◌&&◌, List, [], ◌∷◌, ◌++◌, length, slice_get, get_or, Option, Some, None, refl}
-use Rattle.std.proofs.{Common.{sym, ap, ◌∙◌, subst, arith, inl, inr}, lemmas.Option.{slice_get_cases, slice_get-get_or}}
+use Rattle.std.proofs.{Common.{sym, ap, ◌∙◌, subst, arith, inl, inr}, lemmas.Option.{slice_get_cases, slice_get_read}}
 use Rattle.std.{proofs.lemmas.{Bool.{and_left, cases_Bool, false≢true, or_parts, true_from_ne_false}, Grind.common_steps}, specs.List.find}
 use Rattle.domain_names.specs.{Name.{is_at_or_below, is_strictly_below, same_name, last_labels}, Order.before, Words.Name}
 use Rattle.domain_zone.{specs.{Covering.{covers, matches, matches_or_covers}, Enclosers.{longer, shared}}, proofs.{NameLemmas.same_is, FindLemmas.find_none}}
@@ -64,13 +64,6 @@ said_inside a listed x t told is some = grind (arith, common_steps)
 
 -- ---- one record
 
--- what a record says of its owner, or of what is below it, is no denial
-match_never : (a : Name) (k : Link) (t n : ℕ) → match_answer a k t ≢ NoCloserName n
-match_never a k t n = given_never (match_answer a k t) (match_answer a k t) (sym (match_own a k t)) n
-
-owner_never : (a : Name) (k : Link) (n : ℕ) → owner_answer a k ≢ NoCloserName n
-owner_never a k n = given_never (owner_answer a k) (owner_answer a k) (sym (owner_own a k)) n
-
 module _ (a x : Name) (t : ℕ) (k : Link) where
   -- by whether the name is inside, the type the parent's, and the record matches or covers
   abbrev chosen : Bool → Bool → Bool → Bool → Answer
@@ -112,13 +105,13 @@ module _ (a x : Name) (t : ℕ) (k : Link) where
       → (u ≡ true) × (p ≡ false) × (m ≡ false) × (c ≡ true) × (cover_answer a (k ∷ []) k x t ≡ NoCloserName n)
   chosen_parts false p m c n e = absurd (cc)
   chosen_parts true true m c n e = absurd (cc)
-  chosen_parts true false true c n e = absurd (match_never a k t n e)
+  chosen_parts true false true c n e = absurd (given_never (match_answer a k t) (match_answer a k t) (sym (match_own a k t)) n e)
   chosen_parts true false false false n e = absurd (cc)
   chosen_parts true false false true n e = (refl, refl, refl, refl, e)
 
   cover_parts : (o s : Bool) (absent : Answer) (n : ℕ) → cond o (owner_answer a k) (cond s NoData absent) ≡ NoCloserName n
       → (o ≡ false) × (s ≡ false) × (absent ≡ NoCloserName n)
-  cover_parts true s absent n e = absurd (owner_never a k n e)
+  cover_parts true s absent n e = absurd (given_never (owner_answer a k) (owner_answer a k) (sym (owner_own a k)) n e)
   cover_parts false true absent n e = absurd (cc)
   cover_parts false false absent n e = (refl, refl, e)
 
@@ -172,11 +165,8 @@ module _ (a x : Name) (t : ℕ) (k : Link) where
 
 -- ---- records at places of a chain
 
-there : (links : List Link) (p : ℕ) (k : Link) → p < length links → k ≡ get_or links p k → slice_get links p ≡ Some k
-there links p k inside is = slice_get-get_or links p k inside ∙ ap Some (sym is)
-
 pub placed : (links : List Link) (p : ℕ) (k : Link) → p < length links → k ≡ get_or links p k → at_place links (Some p) ≡ k ∷ []
-placed links p k inside is = ap listed_option (there links p k inside is)
+placed links p k inside is = ap listed_option (slice_get_read links (length links) p k refl inside is)
 
 module _ (links : List Link) (a x : Name) (t : ℕ) where
   pub one_at : (p : ℕ) → p < length links → IsTold (reading a (at_place links (Some p)) x t) → IsOf links p x
@@ -195,7 +185,7 @@ module _ (links : List Link) (a x : Name) (t : ℕ) where
       (w_is : w ≡ wildcard_below (last_labels n x)) (silent : IsSilent a (at_place links (Some p)) w)
       (some : (m : ℕ) → wildcard_answer a (l ∷ []) n w t ≢ NoCloserName m) where
     at_q : at_place links (Some q) ≡ l ∷ []
-    at_q = ap listed_option (there links q l in_q l_is)
+    at_q = ap listed_option (slice_get_read links (length links) q l refl in_q l_is)
 
     pub record IsBoth : Type 0 where
       pub reads : wildcard_answer a (l ∷ []) n w t ≡ reading a (at_place links (Some p) ++ at_place links (Some q)) x t
@@ -224,7 +214,7 @@ module _ (links : List Link) (a x : Name) (t : ℕ) where
             ∙ sym (λ i. reading a (at_p i ++ at_q i) x t);
         tells = record {
           link = l;
-          there = there links q l in_q l_is;
+          there = slice_get_read links (length links) q l refl in_q l_is;
           says = subst (λ v. matches_or_covers before l.owner l.next v ≡ true) (sym w_is)
               (second_tells a x t k n denied l (unmatched a x l apart)
               (subst (λ v. (m : ℕ) → wildcard_answer a (k ∷ l ∷ []) n v t ≢ NoCloserName m) w_is (λ m e. some m (second_alone ∙ e))));
@@ -247,13 +237,11 @@ module _ (a : Name) (listed : List Link) (n : ℕ) (w v : Name) (t : ℕ) (whole
   said_of : whole ≡ wildcard_answer a listed n w t
   said_of = absent ∙ sym (ap (λ y. wildcard_answer a listed n y t) w_is)
 
-  untold_denies : (m : ℕ) × (wildcard_answer a listed n w t ≡ NoCloserName m) → whole ≡ NoCloserName n
-  untold_denies said = said_of ∙ count_kept a listed n said.0 w t said.1
-
   -- what is told of the wildcard is the whole answer, and else the name is denied alone
   module _ (o : OfWildcard) (says : IsOfWildcard a listed n w t o) where
     pub told_of : (answer : Answer) → o ≡ Told answer → (whole ≡ answer) × ((m : ℕ) → answer ≢ NoCloserName m)
     told_of answer e = let said = subst (IsOfWildcard a listed n w t) e says in (said_of ∙ sym said.0, said.1)
 
     pub untold_of : (is_silent : Bool) → o ≡ Untold is_silent → (whole ≡ NoCloserName n) × (is_silent ≡ true → IsSilent a listed w)
-    untold_of is_silent e = let said = subst (IsOfWildcard a listed n w t) e says in (untold_denies said.0, said.1)
+    untold_of is_silent e =
+        let said = subst (IsOfWildcard a listed n w t) e says in (said_of ∙ count_kept a listed n said.0.0 w t said.0.1, said.1)

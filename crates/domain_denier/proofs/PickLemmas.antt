@@ -1,5 +1,5 @@
 -- What is picked of the chain of a zone is what its answer rests on, and no more.
-use Rattle.std.proofs.Common.{◌≡◌, ◌≢◌, ℕ, ◌<◌, arith, Bool, true, false, cond, not, ◌&&◌, ◌||◌, List, [], ◌∷◌, ◌++◌, length, slice_get, Some, None}
+use Rattle.std.proofs.Common.{◌≡◌, ◌≢◌, ℕ, ◌<◌, arith, Bool, true, false, cond, not, ◌&&◌, ◌||◌, List, [], ◌∷◌, ◌++◌, length, Some, None}
 use Rattle.std.proofs.{Common.{sym, ap, ◌∙◌, subst, inl, inr, ◌⊎◌}, lemmas.Bool.{and_parts, false_from_ne_true, false≢true, or_right}}
 use Rattle.std.{proofs.lemmas.{List.Elements.{All-nil, All-push}, Grind.common_steps}, specs.{Prelude.All, List.Contains}}
 use Rattle.domain_names.specs.{Name.{is_at_or_below, last_labels}, Order.before, Words.Name}
@@ -17,9 +17,6 @@ use Rattle.domain_denier.{specs.declared.nsec.NsecDenial.NsecDenial, proofs.Some
 pub record AnswerLaws : Type 0 where
   pub zone : (listed : List Link) (a x : Name) (t : ℕ) → t < 65536 → IsAnswered listed a x t (reading a listed x t)
   pub closer : (L : List ZoneRecord) (a : Name) (assume : Bool) (x : Name) (t n : ℕ) → zone_answer L a assume x t ≢ NoCloserName n
-
-one_there : (links : List Link) (place : ℕ) (k : Link) → slice_get links place ≡ Some k → at_place links (Some place) ≡ k ∷ []
-one_there links place k e = ap listed_option e
 
 pub none_first : (links : List Link) (k : Link) (more : List Link) → links ≡ [] → links ≡ k ∷ more → ⊥
 none_first links k more none are = grind (arith, common_steps)
@@ -72,7 +69,7 @@ module _ (laws : ChainLaws) (answers : AnswerLaws) (links : List Link) (L : List
 
   module _ (p : ℕ) (of : IsOf links p x) where
     here : at_place links (Some p) ≡ of.link ∷ []
-    here = one_there links p of.link of.there
+    here = ap listed_option of.there
 
     half_here : (reading a (at_place links (Some p)) x t ≡ zone) ⊎ IsHalf (at_place links (Some p))
     half_here = subst (λ ls. (reading a ls x t ≡ zone) ⊎ IsHalf ls) (sym here)
@@ -99,7 +96,7 @@ module _ (laws : ChainLaws) (answers : AnswerLaws) (links : List Link) (L : List
 
       module _ (q : ℕ) (of_w : IsOf links q (wildcard_below (last_labels count x))) where
         there_w : at_place links (Some q) ≡ of_w.link ∷ []
-        there_w = one_there links q of_w.link of_w.there
+        there_w = ap listed_option of_w.there
 
         says_w : matches_or_covers before of_w.link.owner of_w.link.next (wildcard_below (encloser L a x)) ≡ true
         says_w = (λ i. matches_or_covers before of_w.link.owner of_w.link.next (sym wildcard_is i)) ∙ of_w.says

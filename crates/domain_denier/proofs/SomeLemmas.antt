@@ -112,13 +112,7 @@ module _ (links : List HashedLink) (o q r : Option ℕ) where
 
   into_three : (place : ℕ) (k : HashedLink) → slice_get links place ≡ Some k → ((o ≡ Some place) ⊎ (q ≡ Some place)) ⊎ (r ≡ Some place)
       → In k (at_place links o ++ (at_place links q ++ at_place links r))
-  into_three place k there (inl (inl e)) = in_front (at_place links o) (at_place links q ++ at_place links r) k (in_place links o place k e there)
-  into_three place k there (inl (inr e)) =
-      in_back (at_place links o) (at_place links q ++ at_place links r) k
-      (in_front (at_place links q) (at_place links r) k (in_place links q place k e there))
-  into_three place k there (inr e) =
-      in_back (at_place links o) (at_place links q ++ at_place links r) k
-      (in_back (at_place links q) (at_place links r) k (in_place links r place k e there))
+  into_three place k there is = grind (arith, common_steps, in_front, in_back, in_place)
 
   three_others : (gone : ℕ) → (o ≡ Some gone → ⊥) → (q ≡ Some gone → ⊥) → (r ≡ Some gone → ⊥)
       → AreOthers links gone (at_place links o ++ (at_place links q ++ at_place links r))
@@ -142,9 +136,4 @@ module _ (links : List HashedLink) (d : Nsec3Denial) where
 
     pub in_without : (place : ℕ) (k : HashedLink) → slice_get links place ≡ Some k → IsPicked d place → (place ≡ gone → ⊥)
         → In k (picked_without links gone d)
-    in_without place k there is other =
-        into_three links (other_place gone d.of_encloser) (other_place gone d.of_next_closer) (other_place gone d.of_wildcard) place k there (elim is [
-          | inl (inl e) ↦ inl (inl (kept_place gone d.of_encloser place e other))
-          | inl (inr e) ↦ inl (inr (kept_place gone d.of_next_closer place e other))
-          | inr e ↦ inr (kept_place gone d.of_wildcard place e other)
-        ])
+    in_without place k there is other = grind (arith, common_steps, into_three, kept_place)

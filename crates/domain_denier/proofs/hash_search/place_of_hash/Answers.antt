@@ -9,7 +9,7 @@ returns-then-is_before-clause-of_hash g c L config chain =
     let after : octets_before c.args.hash.now c.in-Some.first.now ≡ true = sym c.is_before.ensures ∙ c.if-is_before.true in
     wrapped c.base32_tells_apart.ensures.lower L c.args.chain.now.param.owner config c.args.chain.now.links chain c.args.hash.now
     (c.len.result - 1) (omega (arith, c.len.ensures, c.requires.some))
-    (record { link = first.0; hash = c.in-Some.first.now; is = first.1; after = after })
+    (record { link = first.0; hash = c.in-Some.first.now; is = first.1; order = after })
 
 pub returns-clause-of_hash : goal.returns-clause-of_hash
 returns-clause-of_hash g c L config chain =

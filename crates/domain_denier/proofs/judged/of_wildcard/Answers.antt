@@ -1,7 +1,6 @@
-use Rattle.std.{proofs.{Common.{◌≡◌, ℕ, true, false, [], ◌∷◌, refl, sym, ap, ◌∙◌, subst}, lemmas.Bool.false≢true}, specs.Prelude.IsTrue}
+use Rattle.std.{proofs.{Common.{[], ◌∷◌, refl, sym, ◌∙◌, subst}, lemmas.Bool.false≢true}}
 use Rattle.domain_nsec.specs.ChainView.{as_link}
-use Rattle.domain_answer.specs.{Found.{IsFound, found_cover, found_match}, Reading.{wildcard_answer, wildcard_both}}
-use Rattle.domain_answer.specs.declared.answer.Answer.TheVariants.{NoCloserName}
+use Rattle.domain_answer.specs.{Found.{IsFound, found_cover, found_match}, Reading.{wildcard_both}}
 use Rattle.domain_denier.{specs.Judged.IsSilent, proofs.JudgedLemmas.placed}
 use Rattle.domain_denier.proofs.judged.of_wildcard.Goals as goal
 
@@ -15,25 +14,15 @@ returns-in-Neither g c =
     let found = subst (λ f. IsFound a (l ∷ []) w (found_match (λ m. m) f) (found_cover (λ m. m) f)) c.in-Neither.is c.find_nsec.ensures.found in
     let silent : IsSilent (g.A.ToName.labels c.args.apex.now) (as_link (λ m. m) c.in-Some.listed ∷ []) c.args.wildcard.now
     = record { matching = sym found.matching; covering = sym (found.covering refl) } in
-    subst (λ ls. ((m : ℕ) × (wildcard_answer a ls n w t ≡ NoCloserName m)) × (IsTrue true → IsSilent a ls w))
-    (sym (placed c.args.chain.now c.args.place l c.requires (c.in-Some.ensures.some l)))
+    rw (placed c.args.chain.now c.args.place l c.requires (c.in-Some.ensures.some l))
     ((n, λ i. wildcard_both a n w t (silent.matching i) (silent.covering i)), λ e. silent)
 
 pub returns-in-NoCloserName : goal.returns-in-NoCloserName
 returns-in-NoCloserName g c =
-    let a = g.A.ToName.labels c.args.apex.now in
-    let w = c.args.wildcard.now in
-    let l = as_link (λ m. m) c.in-Some.listed in
-    subst (λ ls. ((m : ℕ) × (wildcard_answer a ls c.args.count w c.args.rtype ≡ NoCloserName m)) × (IsTrue false → IsSilent a ls w))
-    (sym (placed c.args.chain.now c.args.place l c.requires (c.in-Some.ensures.some l)))
+    rw (placed c.args.chain.now c.args.place _ c.requires (c.in-Some.ensures.some (as_link (λ m. m) c.in-Some.listed)))
     ((c.in-NoCloserName.field-0, sym c.judge_wildcard.ensures ∙ c.in-NoCloserName.is), λ e. absurd (false≢true e))
 
 pub returns-in_default-judge_wildcard : goal.returns-in_default-judge_wildcard
 returns-in_default-judge_wildcard g c =
-    let a = g.A.ToName.labels c.args.apex.now in
-    let l = as_link (λ m. m) c.in-Some.listed in (
-      c.judge_wildcard.ensures
-          ∙ ap (λ ls. wildcard_answer a ls c.args.count c.args.wildcard.now c.args.rtype)
-          (sym (placed c.args.chain.now c.args.place l c.requires (c.in-Some.ensures.some l))),
-      c.in_default-judge_wildcard.not-NoCloserName,
-    )
+    rw (placed c.args.chain.now c.args.place _ c.requires (c.in-Some.ensures.some (as_link (λ m. m) c.in-Some.listed)))
+    (c.judge_wildcard.ensures, c.in_default-judge_wildcard.not-NoCloserName)

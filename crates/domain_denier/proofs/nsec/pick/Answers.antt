@@ -9,7 +9,6 @@ use Rattle.std.proofs.lemmas.Grind.{common_steps}
 pub returns-then-is_empty : goal.returns-then-is_empty
 returns-then-is_empty g c =
     let a = g.A.ToName.labels c.args.apex.now in
-    let x = g.M.ToName.labels c.args.name.now in
     record {
       zone = λ L config whole.
           let cycle = c.chains_mean_the_zone.ensures.cycle L a config c.args.chain.now whole.order whole.chain in
