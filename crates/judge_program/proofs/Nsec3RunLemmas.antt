@@ -8,19 +8,19 @@ use Rattle.domain_answer.specs.declared.answer.Answer.{Answer}
 use Rattle.denial_program.specs.{Check.{AreNsec3s, AreParams}, declared.{command.Question.Question, fault.DenialFault.DenialFault}}
 use Rattle.denial_program.specs.declared.fault.DenialFault.TheVariants.{Write, OutOfMemory}
 use Rattle.judge_program.specs.{Judged.{IsAnswerAsked, IsNotNsec3Judged}, Run.{IsNsec3Text, IsUnwritten}, Text.first_line}
-use Rattle.judge_program.specs.{declared.{command.Nsec3Options.Nsec3Options, shown.Shown.Shown}, Records.IsNsec3Below, Why.rests_on_records}
+use Rattle.judge_program.specs.{declared.{command.Nsec3Options.Nsec3Options, shown.Shown.Shown}, Needs.rests_on_records, Told.{below_text, AreNsec3Told, Tellings}}
 
 pub nsec3_text_is : (hashes : HasherAnswer) (given : List RawRecord) (q : Question) (asked : Nsec3Options) (shown : Shown) (param : ParamRecord)
-    (links : List HashedLink) (answer : Answer) (below : Octets) → AreParams q.apex given (param ∷ []) → AreNsec3s given links
+    (links : List HashedLink) (answer : Answer) (told : Tellings) → AreParams q.apex given (param ∷ []) → AreNsec3s given links
     → IsAnswerAsked asked.labels (links_with q.apex param.parameters hashes links) q asked.limit answer
-    → IsNsec3Below (rests_on_records answer) shown asked.labels param (links_with q.apex param.parameters hashes links) q.name answer below
-    → IsNsec3Text hashes given q asked shown (first_line shown q.name answer ++ below)
-nsec3_text_is hashes given q asked shown param links answer below single are is follows =
+    → AreNsec3Told (rests_on_records answer) shown asked.labels param (links_with q.apex param.parameters hashes links) q.name answer told
+    → IsNsec3Text hashes given q asked shown (first_line shown q.name answer ++ below_text shown answer told)
+nsec3_text_is hashes given q asked shown param links answer told single are is follows =
     record {
       answer = answer;
       judged = record { param = param; single = single; links = links; are = are; is = is };
-      below = below;
-      follows = follows;
+      told = told;
+      are = follows;
       is = refl;
     }
 

@@ -1,6 +1,7 @@
 pub mod Command
 pub mod Judged
 pub mod Text
-pub mod Why
-pub mod Records
+pub mod Needs
+pub mod Told
+pub mod Inquiry
 pub mod Run

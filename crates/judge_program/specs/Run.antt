@@ -9,7 +9,7 @@ use Rattle.domain_checker.specs.HashedView.{links_with}
 use Rattle.denial_program.specs.{Listing.Give, declared.{command.Question.Question, fault.DenialFault.DenialFault}}
 use Rattle.denial_program.specs.declared.fault.DenialFault.TheVariants.{Usage, Unprepared, Write, OutOfMemory}
 use Rattle.judge_program.specs.{Command.{Asks, IsCommand, IsNoCommand}, Judged.{IsNotNsec3Judged, IsNsec3Judged, IsNsecJudged}}
-use Rattle.judge_program.specs.{Records.{nsec_below, IsNsec3Below}, Text.first_line, Why.rests_on_records, declared.command.ChainKind.ChainKind}
+use Rattle.judge_program.specs.{Needs.rests_on_records, Told.{below_text, nsec_tellings, AreNsec3Told, Tellings}, Text.first_line, declared.command.ChainKind.ChainKind}
 use Rattle.judge_program.specs.declared.{command.{ChainKind.TheVariants.{Nsec, Nsec3}, Command.Command, Nsec3Options.Nsec3Options}, shown.Shown.Shown}
 
 -- the text is that of what the NSEC records answer to the question, on one line, and below it,
@@ -19,17 +19,17 @@ pub record IsNsecText (given : List RawRecord) (q : Question) (shown : Shown) (t
   pub answer : Answer
   pub judged : IsNsecJudged given q answer
   pub is : text ≡ first_line shown q.name answer
-      ++ nsec_below shown q.apex judged.links q.name answer
+      ++ below_text shown answer (nsec_tellings q.apex judged.links q.name answer)
 
 -- of what the NSEC3 records answer
 pub record IsNsec3Text (hashes : HasherAnswer) (given : List RawRecord) (q : Question)
     (asked : Nsec3Options) (shown : Shown) (text : Octets) : Type 0 where
   pub answer : Answer
   pub judged : IsNsec3Judged hashes given q asked answer
-  pub below : Octets
-  pub follows : IsNsec3Below (rests_on_records answer) shown asked.labels judged.param
-      (links_with q.apex judged.param.parameters hashes judged.links) q.name answer below
-  pub is : text ≡ first_line shown q.name answer ++ below
+  pub told : Tellings
+  pub are : AreNsec3Told (rests_on_records answer) shown asked.labels judged.param
+      (links_with q.apex judged.param.parameters hashes judged.links) q.name answer told
+  pub is : text ≡ first_line shown q.name answer ++ below_text shown answer told
 
 -- of what records of this kind of chain answer
 abbrev pub IsText : HasherAnswer → ChainKind → List RawRecord → Question → Shown → Octets

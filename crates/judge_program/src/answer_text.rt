@@ -8,6 +8,7 @@ use denial_program::ZoneName;
 use domain_answer::Answer;
 use domain_base::{ParsedName, ToName};
 use std::fmt;
+use std::fmt::Display;
 
 /// The wildcard right below a name, with its last dot.
 #[derive(Clone, Copy)]
@@ -58,28 +59,15 @@ impl fmt::Display for MissingText<'_> {
 /// An answer about a name, as it is printed.
 #[derive(Clone, Copy)]
 pub struct AnswerText<'a> {
-    name: &'a ZoneName,
-    answer: Answer,
+    /// The name.
+    pub name: &'a ZoneName,
+    /// The answer.
+    pub answer: Answer,
 }
 
 impl<'a> AnswerText<'a> {
-    /// An answer about a name.
-    pub fn new(name: &'a ZoneName, answer: Answer) -> Self
-        ensures name { result.name.now ≡ name.now }
-        ensures answer { result.answer ≡ answer }
-    {
-        AnswerText { name, answer }
-    }
-
-    /// The last labels of the name, so many.
-    fn last(&self, count: usize) -> ParsedName<'a>
-        ensures { result ≡ last_labels count self.now.name.now }
-    {
-        self.name.last_labels(count)
-    }
-
     /// What is told of the name, which does not exist; its closest encloser has so many labels.
-    fn missing(&self, kind: &'static str, count: usize, told: &'static str) -> MissingText<'a>
+    fn told(&self, kind: &'static str, count: usize, told: &'static str) -> MissingText<'a>
         ensures kind { result.kind.now ≡ kind.now }
         ensures encloser { result.encloser ≡ last_labels count self.now.name.now }
         ensures told { result.told.now ≡ told.now }
@@ -100,42 +88,28 @@ impl fmt::Display for AnswerText<'_> {
         match self.answer {
             Answer::OutsideZone => f.write_str("outside the zone"),
             Answer::AtParent => f.write_str("at the parent: DS of the apex"),
-            Answer::Referral(n) => write!(f, "referral: zone cut {}.", self.last(n)),
-            Answer::Redirected(n) => write!(f, "redirected: DNAME at {}.", self.last(n)),
+            Answer::Referral(n) => write!(f, "referral: zone cut {}.", name.last_labels(n)),
+            Answer::Redirected(n) => write!(f, "redirected: DNAME at {}.", name.last_labels(n)),
             Answer::Has => f.write_str("data exists"),
             Answer::NoDs => write!(f, "no DS: unsigned delegation at {name}."),
             Answer::Alias => write!(f, "alias: CNAME at {name}."),
             Answer::NoData => f.write_str("no data"),
-            Answer::Wildcard(n) => write!(f, "{}", self.missing("wildcard", n, "answers")),
-            Answer::WildcardAlias(n) => {
-                write!(
-                    f,
-                    "{}",
-                    self.missing("wildcard alias", n, "owns a CNAME record")
-                )
-            }
-            Answer::WildcardNoData(n) => {
-                write!(
-                    f,
-                    "{}",
-                    self.missing("wildcard no data", n, "has no such type")
-                )
-            }
-            Answer::NameError(n) => write!(
-                f,
-                "{}",
-                self.missing("name error", n, "does not exist")
-            ),
+            Answer::Wildcard(n) => self.told("wildcard", n, "answers").fmt(f),
+            Answer::WildcardAlias(n) => self
+                .told("wildcard alias", n, "owns a CNAME record")
+                .fmt(f),
+            Answer::WildcardNoData(n) => self
+                .told("wildcard no data", n, "has no such type")
+                .fmt(f),
+            Answer::NameError(n) => self.told("name error", n, "does not exist").fmt(f),
             Answer::MayBeUnsigned(n) => {
                 write!(
                     f,
                     "may be unsigned: opt-out; closest encloser {}.",
-                    self.last(n)
+                    name.last_labels(n)
                 )
             }
-            Answer::NoCloserName(n) => {
-                write!(f, "{}", self.missing("no closer name", n, "is not shown"))
-            }
+            Answer::NoCloserName(n) => self.told("no closer name", n, "is not shown").fmt(f),
             Answer::TooManyIterations => f.write_str("too many iterations"),
             Answer::NotProven => f.write_str("not proven"),
         }

@@ -1,6 +1,5 @@
 //! What the words after the program's name ask for.
 ghost use Rattle.std.specs.Prelude.{◌≡◌, ◌⊎◌, ◌∷◌, [], ℕ, None, IfErr, IfNone, IfOk, IfSome, map, string_bytes};
-ghost use Rattle.domain_base.specs.Scan.{IsNumber};
 ghost use Rattle.denial_program.specs.declared.fault.DenialFault.TheVariants.{OutOfMemory};
 ghost use Rattle.judge_program.specs.Command.{Asks, IsNoCommand, KindText, LabelsText, LimitText, ShownText};
 ghost use Rattle.judge_program.specs.declared.command.ChainKind.{ChainKind};
@@ -46,28 +45,6 @@ pub struct Command {
     pub shown: Shown,
 }
 
-/// A number of iterations that a word spells (RFC 5155, section 4.3).
-fn iterations_of(word: &str) -> Option<u16>
-    ensures some { IfSome result (IsNumber 16 word.now) }
-    ensures none { IfNone result ((n : ℕ) → IsNumber 16 word.now n → ⊥) }
-{
-    match u16::from_token(word) {
-        Ok(number) => Some(number),
-        Err(_) => None,
-    }
-}
-
-/// A number of labels that a word spells, of 8 bits (RFC 4034, section 3.1.3).
-fn labels_of(word: &str) -> Option<u8>
-    ensures some { IfSome result (IsNumber 8 word.now) }
-    ensures none { IfNone result ((n : ℕ) → IsNumber 8 word.now n → ⊥) }
-{
-    match u8::from_token(word) {
-        Ok(number) => Some(number),
-        Err(_) => None,
-    }
-}
-
 /// What the option asks to be printed.
 fn shown_by(option: &str) -> Option<Shown>
     ensures some { IfSome result (ShownText (option.now ∷ [])) }
@@ -105,7 +82,8 @@ fn limit_of(options: &[String]) -> Option<(u16, Shown)>
     if option.as_str() != "--limit" {
         return None;
     }
-    let limit = iterations_of(number.as_str())?;
+    // RFC 5155, section 4.3.
+    let limit = u16::from_token(number.as_str()).ok()?;
     Some((limit, shown_of(more)?))
 }
 
@@ -134,7 +112,8 @@ fn nsec3_options_of(options: &[String]) -> Option<(Nsec3Options, Shown)>
     if option.as_str() != "--labels" {
         return Some(without_labels(limit_of(options)?));
     }
-    let labels = labels_of(number.as_str())?;
+    // RFC 4034, section 3.1.3.
+    let labels = u8::from_token(number.as_str()).ok()?;
     let (limit, shown) = limit_of(more)?;
     let labels = Some(labels);
     Some((Nsec3Options { labels, limit }, shown))

@@ -1,31 +1,21 @@
 //! What records of a chain that were read answer to a question.
-ghost use Rattle.std.specs.{Prelude.{◌≡◌, ◌++◌, IfErr, IfOk, OnOk}, Io.KnownBytes.Appends};
+ghost use Rattle.std.specs.{Prelude.{◌≡◌, ◌⊎◌, ◌++◌, IfErr, IfOk, OnOk}, Io.KnownBytes.Appends};
 ghost use Rattle.domain_nsec.specs.ChainView.{links_of};
-ghost use Rattle.domain_nsec3.specs.View.{as_param_record};
-ghost use Rattle.domain_checker.specs.HashedView.{hashed_records};
-ghost use Rattle.domain_answer.specs.HashedReading.{IsFirstOfRefusals};
 ghost use Rattle.denial_program.specs.{Check.AreNsecs, Fault.IsBeforeOutput};
 ghost use Rattle.denial_program.specs.declared.fault.DenialFault.TheVariants.{OutOfMemory as Memory};
-ghost use Rattle.judge_program.specs.Judged.{IsAnswerAsked, IsNotNsec3Judged, IsNsec3Answer};
-ghost use Rattle.judge_program.specs.Judged.{IsRefusalAsked, IsRefusedWith};
-ghost use Rattle.judge_program.specs.Run.{HasNoText, IsNsecText, IsNsec3Text, IsText, IsUnwritten};
-ghost use Rattle.judge_program.specs.{Run.IsWritten, Records.{below_text, nsec_below}};
-ghost use Rattle.judge_program.specs.Text.{first_line};
+ghost use Rattle.judge_program.specs.{Judged.IsNotNsec3Judged, Text.first_line, Told.{below_text, tellings_of}};
+ghost use Rattle.judge_program.specs.Run.{HasNoText, IsNsecText, IsNsec3Text, IsText, IsUnwritten, IsWritten};
 
 use crate::command::{ChainKind, Command, Nsec3Options};
-use crate::expansion::expansion_answer;
-use crate::nsec3_below::Nsec3Below;
-use crate::nsec3_why::Nsec3s;
-use crate::records::write_nsec_records;
+use crate::nsec_told::nsec_parts;
+use crate::nsec3_told::Inquiry;
 use crate::shown::{Shown, write_first};
-use crate::why::write_nsec_why;
+use crate::told::Parts;
 use denial_program::{DenialFault, Question, ZoneName, chain_of, fault_of};
-use domain_answer::{Answer, judge_nsec, judge_nsec3};
-use domain_borrowed::{BorrowedRecord, ReadNsec, ReadNsec3param, into_nsec};
+use domain_answer::{Answer, judge_nsec};
+use domain_borrowed::{BorrowedRecord, ReadNsec, into_nsec};
 use domain_dnssec::Nsec3Hasher;
-use domain_hasher::Nsec3HashError;
 use domain_octets::OutOfMemory;
-use domain_records::SigningError;
 use std::alloc::Global;
 use std::io;
 use std::io::Write;
@@ -48,40 +38,20 @@ fn nsecs_among<'a>(
     Ok(nsecs)
 }
 
-/// Writes what follows the line of an answer of NSEC records, as it is asked for.
-fn write_nsec_below<W: Write>(
-    question: &Question,
-    shown: Shown,
-    nsecs: &[ReadNsec<'_>],
+/// Writes an answer about a name, and what is asked for below it. Hands all on to the device.
+#[tactic(auto, using(denial_program::proofs::RunLemmas::appends_more))]
+fn write_answer<W: Write>(
+    name: &ZoneName,
     answer: Answer,
+    shown: Shown,
+    parts: &Parts<'_, '_>,
     output: &mut W,
 ) -> io::Result<()>
     ensures { OnOk result (Appends (W.contents output.old) (W.contents output.new)
-        (nsec_below shown question.now.apex (links_of (λ n. n) nsecs.now) question.now.name
-        answer)) }
+        (first_line shown name.now answer ++ below_text shown answer (tellings_of parts.now))) }
 {
-    match shown {
-        Shown::Answer => Ok(()),
-        Shown::Why => write_nsec_why(question, nsecs, answer, output),
-        Shown::Records => write_nsec_records(question, nsecs, answer, output),
-    }
-}
-
-/// Writes what NSEC records answer to a question, and what is asked for below it. Hands all on to
-/// the device.
-fn write_nsec<W: Write>(
-    question: &Question,
-    shown: Shown,
-    nsecs: &[ReadNsec<'_>],
-    answer: Answer,
-    output: &mut W,
-) -> io::Result<()>
-    ensures { OnOk result (Appends (W.contents output.old) (W.contents output.new)
-        (first_line shown question.now.name answer ++ nsec_below shown question.now.apex
-        (links_of (λ n. n) nsecs.now) question.now.name answer)) }
-{
-    write_first(&question.name, answer, shown, output)?;
-    write_nsec_below(question, shown, nsecs, answer, output)?;
+    write_first(name, answer, shown, output)?;
+    parts.write(shown, answer, output)?;
     output.flush()
 }
 
@@ -101,77 +71,11 @@ fn judge_nsecs<'a, W: Write>(
 {
     let nsecs = nsecs_among(alloc, records)?;
     let answer = judge_nsec(&question.apex, &nsecs, &question.name, question.rtype);
-    match write_nsec(question, shown, &nsecs, answer, output) {
+    let parts = nsec_parts(question, &nsecs, answer);
+    match write_answer(&question.name, answer, shown, &parts, output) {
         Ok(()) => Ok(()),
         Err(e) => Err(fault_of(&e, DenialFault::Write)),
     }
-}
-
-/// What NSEC3 records answer to a question, where no labels are told.
-fn whole_answer<H: Nsec3Hasher>(
-    alloc: Global,
-    question: &Question,
-    limit: u16,
-    chain: &Nsec3s<'_>,
-    hasher: &H,
-) -> Result<Answer, DenialFault>
-    ensures ok { IfOk result (IsNsec3Answer
-        (hashed_records question.now.apex (λ n. n) (H.answer hasher.now) chain.now)
-        question.now limit) }
-    ensures err { IfErr result (IsRefusedWith (IsFirstOfRefusals
-        (hashed_records question.now.apex (λ n. n) (H.answer hasher.now) chain.now)
-        question.now.name question.now.rtype)) }
-{
-    let Question { apex, name, rtype } = question;
-    match judge_nsec3(alloc, apex, chain, name, *rtype, limit, hasher) {
-        Ok(answer) => Ok(answer),
-        Err(error) => match error {
-            Nsec3HashError::OutOfMemory => Err(DenialFault::OutOfMemory),
-            _ => Err(DenialFault::Signing(SigningError::Nsec3HashingError(error))),
-        },
-    }
-}
-
-/// What NSEC3 records answer to a question.
-fn nsec3_answer<H: Nsec3Hasher>(
-    alloc: Global,
-    question: &Question,
-    asked: Nsec3Options,
-    chain: &Nsec3s<'_>,
-    hasher: &H,
-) -> Result<Answer, DenialFault>
-    ensures ok { IfOk result (IsAnswerAsked asked.labels
-        (hashed_records question.now.apex (λ n. n) (H.answer hasher.now) chain.now) question.now
-        asked.limit) }
-    ensures err { IfErr result (IsRefusedWith (IsRefusalAsked asked.labels
-        (hashed_records question.now.apex (λ n. n) (H.answer hasher.now) chain.now) question.now
-        asked.limit)) }
-{
-    let Nsec3Options { labels, limit } = asked;
-    match labels {
-        Some(labels) => expansion_answer(alloc, question, labels, limit, chain, hasher),
-        None => whole_answer(alloc, question, limit, chain, hasher),
-    }
-}
-
-/// Writes what NSEC3 records answer to a question, and what is asked for below it. Hands all on to
-/// the device.
-#[tactic(auto, using(denial_program::proofs::RunLemmas::appends_more))]
-fn write_nsec3<W: Write>(
-    name: &ZoneName,
-    answer: Answer,
-    shown: Shown,
-    below: Nsec3Below<'_, '_>,
-    param: &ReadNsec3param<'_>,
-    output: &mut W,
-) -> io::Result<()>
-    ensures { OnOk result (Appends (W.contents output.old) (W.contents output.new)
-        (first_line shown name.now answer ++ below_text shown name.now
-        (as_param_record (λ n. n) param.now) answer below.entry)) }
-{
-    write_first(name, answer, shown, output)?;
-    below.write(shown, name, answer, param, output)?;
-    output.flush()
 }
 
 /// Writes what the NSEC3 records among these answer.
@@ -193,17 +97,15 @@ fn judge_nsec3s<'a, W: Write, H: Nsec3Hasher>(
     ensures untouched { IfErr result (λ e. IsBeforeOutput e → output.new ≡ output.old) }
 {
     let chain = chain_of(alloc, &question.apex, records)?;
-    let answer = nsec3_answer(alloc, question, asked, &chain, hasher)?;
-    let labels = asked.labels;
-    let below = Nsec3Below::find(alloc, question, labels, shown, &chain, answer, hasher)?;
-    match write_nsec3(
-        &question.name,
-        answer,
-        shown,
-        below,
-        &chain.nsec3param,
-        output,
-    ) {
+    let inquiry = Inquiry {
+        alloc,
+        question,
+        chain: &chain,
+        hasher,
+    };
+    let answer = inquiry.answer(asked)?;
+    let parts = inquiry.parts(asked.labels, shown, answer)?;
+    match write_answer(&question.name, answer, shown, &parts, output) {
         Ok(()) => Ok(()),
         Err(e) => Err(fault_of(&e, DenialFault::Write)),
     }

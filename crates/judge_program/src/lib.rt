@@ -9,18 +9,15 @@
 
 mod answer_text;
 mod command;
-mod expansion;
 mod fault;
 mod judge;
 mod needs;
-mod nsec3_below;
-mod nsec3_records;
-mod nsec3_why;
+mod nsec3_told;
+mod nsec_told;
 mod program;
-mod records;
 mod role;
 mod shown;
-mod why;
+mod told;
 
 pub use fault::JudgeFault;
 pub use program::run_judge;

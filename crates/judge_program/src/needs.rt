@@ -1,8 +1,43 @@
-//! Which records a server answers with.
+//! Which records an answer rests on, and which of them a server answers with.
 ghost use Rattle.std.specs.Prelude.{◌≡◌};
-ghost use Rattle.judge_program.specs.Records.{needs_of, needs_wildcard};
+ghost use Rattle.judge_program.specs.Needs.{needs_next_closer, needs_of, needs_wildcard, rests_on_records, wildcard_count};
 
 use domain_answer::Answer;
+
+/// Whether an answer rests on records.
+pub fn rests_on_records(answer: Answer) -> bool
+    ensures { result ≡ rests_on_records answer }
+{
+    match answer {
+        Answer::OutsideZone | Answer::AtParent | Answer::TooManyIterations | Answer::NotProven =>
+            false,
+        _ => true,
+    }
+}
+
+/// How many labels the closest encloser has, where the wildcard below it was asked for.
+pub fn wildcard_count(answer: Answer) -> Option<usize>
+    ensures { result ≡ wildcard_count answer }
+{
+    match answer {
+        Answer::Wildcard(count) => Some(count),
+        Answer::WildcardAlias(count) => Some(count),
+        Answer::WildcardNoData(count) => Some(count),
+        Answer::NameError(count) => Some(count),
+        Answer::NoCloserName(count) => Some(count),
+        _ => None,
+    }
+}
+
+/// Whether an answer rests on a cover of the next closer name.
+pub fn needs_next_closer(answer: Answer) -> bool
+    ensures { result ≡ needs_next_closer answer }
+{
+    match answer {
+        Answer::MayBeUnsigned(_) => true,
+        _ => wildcard_count(answer).is_some(),
+    }
+}
 
 /// Which records of a chain a response needs for a name (RFC 4035, section 3.1.3; RFC 5155, section
 /// 7.2). Beside them it may need that of the wildcard.

@@ -1,6 +1,6 @@
 //! The names that records tell of.
 ghost use Rattle.std.specs.Prelude.{Some};
-ghost use Rattle.judge_program.specs.Why.{role_text};
+ghost use Rattle.judge_program.specs.Told.{role_text};
 
 use crate::answer_text::WildcardText;
 use domain_base::ParsedName;

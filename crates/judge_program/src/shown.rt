@@ -29,7 +29,7 @@ pub fn write_first<W: Write>(
     ensures { OnOk result (Appends (W.contents output.old) (W.contents output.new)
         (first_line shown name.now answer)) }
 {
-    let text = AnswerText::new(name, answer);
+    let text = AnswerText { name, answer };
     match shown {
         Shown::Answer => writeln!(output, "{text}"),
         Shown::Why => writeln!(output, "{text}"),

@@ -1,6 +1,6 @@
-use Rattle.std.proofs.{Common.{arith, ◌≡◌, refl, sym, subst, IfOk}, lemmas.Grind.common_steps}
+use Rattle.std.proofs.Common.{◌≡◌, refl, sym, subst, IfOk}
 use Rattle.domain_answer.specs.declared.answer.Answer.TheVariants.{OutsideZone, NotProven, TooManyIterations}
-use Rattle.judge_program.proofs.expansion.expansion_answer.Goals as goal
+use Rattle.judge_program.proofs.nsec3_told.Inquiry.expansion_answer.Goals as goal
 
 pub returns-in-Ok-clause-ok : goal.returns-in-Ok-clause-ok
 returns-in-Ok-clause-ok g c =
@@ -12,6 +12,3 @@ returns-in-Ok-clause-ok g c =
       exact = c.in-Ok.ensures.exact;
       proof = c.in-Ok.ensures.proof;
     }
-
-pub returns-in_default : goal.returns-in_default
-returns-in_default g c = grind (arith, common_steps)

@@ -1,0 +1,231 @@
+-- The records that an answer rests on, and those that a server answers with; a is the apex, x the
+-- name.
+use Rattle.std.specs.Prelude.{◌≡◌, ℕ, ◌+◌, ◌==◌, Bool, true, false, not, ◌&&◌, ◌||◌, List, [], ◌++◌, codes, length, nat_lt, bytes_eq, Option, Some, None, Result, Ok, Err, if◌then◌else◌}
+use Rattle.std.specs.{List.{find, list_any}, Option.{is_some, option_map, option_to_list}}
+use Rattle.domain_octets.specs.Words.{Octets}
+use Rattle.domain_names.specs.{Words.Name, Name.{same_name, last_labels}}
+use Rattle.domain_base.specs.Types.{ds}
+use Rattle.domain_bitmap.specs.Blocks.{contains_type}
+use Rattle.domain_fields.specs.Layout.{octets_of}
+use Rattle.domain_chain_rdata.specs.Rdata.{nsec3 as nsec3_fields}
+use Rattle.domain_nsec.specs.{Chain.Link, ChainView.as_link}
+use Rattle.domain_nsec3.specs.{Chain.{HashedLink, ParamRecord}, Config.hash_name, View.{as_hashed_link, as_param_record}}
+use Rattle.domain_checker.specs.{HashedEncloser.{Encloser, IsFoundEncloser}, HashedView.{HashedRecords, first_cover, first_match}}
+use Rattle.domain_checker.specs.{HashedVerdict.IsFirstRefusal, Reading.{is_cover, is_match}}
+use Rattle.domain_answer.specs.{Expansion.closer_name, ZoneAnswer.wildcard_below, declared.answer.Answer.Answer}
+use Rattle.denial_program.specs.Text.{link_values, nsec_line, nsec3_line, nsec3param_line}
+use Rattle.judge_program.specs.{Needs.{needs_next_closer, needs_of, needs_wildcard, rests_on_records, wildcard_count}, Text.full_text}
+use Rattle.judge_program.specs.declared.{told.{Listed.Listed, Part.Part, Parts.Parts}, needs.Needs.Needs, role.Role.Role, shown.Shown.Shown}
+use Rattle.judge_program.specs.declared.told.Listed.TheVariants.{Nsec, Nsec3}
+use Rattle.judge_program.specs.declared.needs.Needs.TheVariants as needs
+use Rattle.judge_program.specs.declared.role.Role.TheVariants.{Asked, Encloser as ClosestEncloser, NextCloser, Wildcard}
+use Rattle.judge_program.specs.declared.shown.Shown.TheVariants as shows
+
+-- the name that a record tells of
+abbrev pub role_text : Role → Octets
+role_text Asked = codes "the name"
+role_text (ClosestEncloser name) = codes "the closest encloser " ++ full_text name
+role_text (NextCloser name) = codes "the next closer name " ++ full_text name
+role_text (Wildcard above) = codes "the wildcard " ++ full_text (wildcard_below above)
+
+-- ---- records
+
+-- a record of a chain
+pub data AnyLink : Type 0 where
+  plain : Link → AnyLink
+  hashed : HashedLink → AnyLink
+
+abbrev pub any_of : Listed → AnyLink
+any_of (Nsec k) = plain (as_link (λ n. n) k.now)
+any_of (Nsec3 k) = hashed (as_hashed_link (λ n. n) k.now)
+
+abbrev pub line_of : AnyLink → Octets
+line_of (plain k) = nsec_line k
+line_of (hashed k) = nsec3_line k
+
+abbrev pub bits_of : AnyLink → Octets
+bits_of (plain k) = k.bits
+bits_of (hashed k) = k.bits
+
+-- the same owner, class and data; TTLs are not compared
+abbrev pub is_same : AnyLink → AnyLink → Bool
+is_same (plain k) (plain l) =
+    same_name k.owner l.owner && (k.class == l.class)
+    && (same_name k.next l.next && bytes_eq k.bits l.bits)
+is_same (hashed k) (hashed l) =
+    same_name k.owner l.owner && (k.class == l.class)
+    && bytes_eq (octets_of nsec3_fields (link_values k)) (octets_of nsec3_fields (link_values l))
+is_same _ _ = false
+
+-- a record that tells of a name, which it matches or else covers
+pub record Telling : Type 0 where
+  pub role : Role
+  pub matches : Bool
+  pub link : AnyLink
+
+abbrev pub telling_of : Part → Telling
+telling_of p = record { role = p.role; matches = p.matches; link = any_of p.listed }
+
+-- the first match or, where there is none, the first cover
+abbrev pub finding : {K : Type 0} → (K → AnyLink) → Role → Option K → Option K → Option Telling
+finding any role (Some k) covering = Some (record { role = role; matches = true; link = any k })
+finding any role None (Some k) = Some (record { role = role; matches = false; link = any k })
+finding any role None None = None
+
+-- what NSEC records tell of a name, and NSEC3 records of one with this hash; of one whose hash is
+-- refused nothing is told
+abbrev pub nsec_told : Name → List Link → Role → Name → Option Telling
+nsec_told a listed role x =
+    finding plain role (find (is_match a x) listed) (find (is_cover a x) listed)
+
+abbrev pub hash_told : HashedRecords → Role → Result Octets ℕ → Option Telling
+hash_told R role (Ok v) = finding hashed role (first_match R v) (first_cover R v)
+hash_told R role (Err n) = None
+
+abbrev pub nsec3_told : HashedRecords → Role → Name → Option Telling
+nsec3_told R role x = hash_told R role (hash_name R.hash x)
+
+-- the wildcard below the last n labels of x, which has more of them
+abbrev pub wildcard_asked : Name → Option ℕ → Option (Role × Name)
+wildcard_asked x None = None
+wildcard_asked x (Some n) =
+    if nat_lt n (length x)
+    then Some (Wildcard (last_labels n x), wildcard_below (last_labels n x)) else None
+
+abbrev pub told_where : (Role → Name → Option Telling) → Option (Role × Name) → Option Telling
+told_where told None = None
+told_where told (Some (role, name)) = told role name
+
+-- what is told of the name or its closest encloser, of the next closer name, and of the wildcard
+pub record Tellings : Type 0 where
+  pub matched : Option Telling
+  pub closer : Option Telling
+  pub wildcard : Option Telling
+  pub param : Option ParamRecord
+
+abbrev pub tellings_of : Parts → Tellings
+tellings_of p =
+    record {
+      matched = option_map telling_of p.matched;
+      closer = option_map telling_of p.closer;
+      wildcard = option_map telling_of p.wildcard;
+      param = option_map (λ k. as_param_record (λ n. n) k.now) p.param;
+    }
+
+abbrev pub no_tellings : Tellings
+no_tellings = record { matched = None; closer = None; wildcard = None; param = None }
+
+-- of NSEC records
+abbrev pub nsec_tellings : Name → List Link → Name → Answer → Tellings
+nsec_tellings a listed x answer =
+    if rests_on_records answer
+    then record {
+      matched = nsec_told a listed Asked x;
+      closer = None;
+      wildcard = told_where (nsec_told a listed) (wildcard_asked x (wildcard_count answer));
+      param = None;
+    }
+    else no_tellings
+
+-- the name that is matched: x itself, or its closest encloser, which has n labels
+abbrev pub encloser_role : Name → ℕ → Role
+encloser_role x n = if n == length x then Asked else ClosestEncloser (last_labels n x)
+
+abbrev pub encloser_told : Name → Option Encloser → Option Telling
+encloser_told x None = None
+encloser_told x (Some e) =
+    Some (record { role = encloser_role x e.count; matches = true; link = hashed e.link })
+
+-- the next closer name, where the answer needs it
+abbrev pub closer_told : Name → Answer → Option Encloser → Option Telling
+closer_told x answer None = None
+closer_told x answer (Some e) =
+    if needs_next_closer answer
+    then finding hashed (NextCloser (last_labels (e.count + 1) x)) None e.cover else None
+
+-- of NSEC3 records, where this was found of x and its ancestors; and, where the signatures of data
+-- tell so many labels, of the next closer name alone, which is one label longer
+abbrev pub nsec3_tellings : ParamRecord → HashedRecords → Name → Answer → Option Encloser → Tellings
+nsec3_tellings param R x answer found =
+    record {
+      matched = encloser_told x found;
+      closer = closer_told x answer found;
+      wildcard = told_where (nsec3_told R) (wildcard_asked x (wildcard_count answer));
+      param = Some param;
+    }
+
+abbrev pub expansion_tellings : ParamRecord → HashedRecords → Name → ℕ → Tellings
+expansion_tellings param R x n =
+    record {
+      matched = None;
+      closer = nsec3_told R (NextCloser (closer_name n x)) (closer_name n x);
+      wildcard = None;
+      param = Some param;
+    }
+
+abbrev pub AreWhole : ParamRecord → HashedRecords → Name → Answer → Tellings → Type 0
+AreWhole param R x answer told =
+    (found : Option Encloser) × IsFoundEncloser R x found
+    × (told ≡ nsec3_tellings param R x answer found)
+
+-- what is told where this is to be shown: nothing where the answer rests on no records
+abbrev pub AreNsec3Told : Bool → Shown → Option ℕ → ParamRecord → HashedRecords → Name → Answer
+    → Tellings → Type 0
+AreNsec3Told false shown labels param R x answer told = told ≡ no_tellings
+AreNsec3Told true shows.Answer labels param R x answer told = told ≡ no_tellings
+AreNsec3Told true shown None param R x answer told = AreWhole param R x answer told
+AreNsec3Told true shown (Some n) param R x answer told = told ≡ expansion_tellings param R x n
+
+-- ---- lines
+
+-- how a record tells of a name
+abbrev pub told_line : Option Telling → Octets
+told_line None = []
+told_line (Some t) =
+    (if t.matches then codes "matches " else codes "covers ")
+    ++ role_text t.role ++ codes ": " ++ line_of t.link ++ codes "\n"
+
+-- a response needs this record of the name or its closest encloser: of a zone cut unless it lists
+-- DS (RFC 4035, section 3.1.4.1; RFC 5155, section 7.2.7)
+abbrev pub is_needed : Needs → AnyLink → Bool
+is_needed needs.Nothing k = false
+is_needed needs.Cut k = not (contains_type (bits_of k) ds)
+is_needed needs.Closer (hashed k) = false
+is_needed _ k = true
+
+abbrev pub matched_part : Needs → Option Telling → Option AnyLink
+matched_part which None = None
+matched_part which (Some t) = if is_needed which t.link then Some t.link else None
+
+abbrev pub listed_of : Bool → Option Telling → Option AnyLink
+listed_of is_needed found = if is_needed then option_map (λ t. t.link) found else None
+
+-- the line of a record, if there is one, unless it is the same as one of those before it
+abbrev pub line_once : List AnyLink → Option AnyLink → Octets
+line_once before None = []
+line_once before (Some k) = if list_any (is_same k) before then [] else line_of k ++ codes "\n"
+
+abbrev pub param_line : Option ParamRecord → Octets
+param_line None = []
+param_line (Some param) = nsec3param_line param ++ codes "\n"
+
+-- the lines of these records, each once, and of the NSEC3PARAM record, where there are any
+abbrev pub records_text : Option ParamRecord → Option AnyLink → Option AnyLink → Option AnyLink
+    → Octets
+records_text param m c w =
+    line_once [] m ++ line_once (option_to_list m) c
+    ++ line_once (option_to_list m ++ option_to_list c) w
+    ++ (if is_some m || is_some c || is_some w then param_line param else [])
+
+-- what follows the line of an answer
+abbrev pub below_text : Shown → Answer → Tellings → Octets
+below_text shows.Answer answer t = []
+below_text shows.Why answer t = told_line t.matched ++ told_line t.closer ++ told_line t.wildcard
+below_text shows.Records answer t =
+    records_text t.param (matched_part (needs_of answer) t.matched) (listed_of true t.closer)
+    (listed_of (needs_wildcard answer) t.wildcard)
+
+-- a name is refused on the way to the closest encloser; none where there are labels
+abbrev pub IsRefusalBelow : Option ℕ → HashedRecords → Name → ℕ → Type 0
+IsRefusalBelow None R x reason = IsFirstRefusal R x reason
+IsRefusalBelow (Some n) R x reason = ⊥

@@ -1,0 +1,288 @@
+//! What NSEC3 records answer to a question, and what they tell of the names that this rests on.
+ghost use Rattle.std.specs.Prelude.{◌≡◌, ℕ, None, IfErr, IfOk};
+ghost use Rattle.std.specs.Option.{option_map};
+ghost use Rattle.domain_nsec3.specs.View.{as_hashed_link, as_param_record};
+ghost use Rattle.domain_hasher.specs.declared.error.Nsec3HashError.TheVariants as hash_error;
+ghost use Rattle.domain_checker.specs.HashedEncloser.{encloser_of};
+ghost use Rattle.domain_checker.specs.HashedVerdict.{IsFirstRefusal};
+ghost use Rattle.domain_answer.specs.HashedReading.{IsFirstOfRefusals};
+ghost use Rattle.denial_program.specs.declared.fault.DenialFault.TheVariants.{OutOfMemory as Memory, Signing};
+ghost use Rattle.domain_records.specs.declared.error.SigningError.TheVariants as signing_error;
+ghost use Rattle.judge_program.specs.Inquiry.{records_of};
+ghost use Rattle.judge_program.specs.Judged.{IsAnswerAsked, IsCloserRefusal, IsExpansionAnswer, IsNsec3Answer, IsRefusalAsked, IsRefusedWith};
+ghost use Rattle.judge_program.specs.Needs.{rests_on_records, wildcard_count};
+ghost use Rattle.judge_program.specs.Told.{closer_told, encloser_role, encloser_told, expansion_tellings, finding, nsec3_told, telling_of, tellings_of, told_where, wildcard_asked, AnyLink.hashed, AreNsec3Told, AreWhole, IsRefusalBelow};
+
+use crate::command::Nsec3Options;
+use crate::needs::{needs_next_closer, rests_on_records};
+use crate::nsec_told::wildcard_asked;
+use crate::role::Role;
+use crate::shown::Shown;
+use crate::told::{Listed, Part, Parts};
+use denial_program::{DenialFault, Question, ZoneName};
+use domain_answer::{Answer, judge_nsec3, judge_nsec3_expansion};
+use domain_base::{MAX_NAME, ParsedName, ToName};
+use domain_borrowed::ReadNsec3;
+use domain_checker::{Nsec3Encloser, Nsec3Found, find_nsec3, find_nsec3_encloser};
+use domain_dnssec::{Nsec3Hasher, Nsec3Records};
+use domain_hasher::Nsec3HashError;
+use domain_records::SigningError;
+use std::alloc::Global;
+
+/// What they tell of the closest encloser of a name.
+type Encloser<'r, 'a> = Nsec3Encloser<'r, &'a [u8], ParsedName<'a>>;
+
+/// NSEC3 records, what they are asked, and the hasher.
+#[derive(Clone, Copy)]
+pub struct Inquiry<'r, 'a, H: Nsec3Hasher> {
+    /// The allocator.
+    pub alloc: Global,
+    /// The question.
+    pub question: &'r Question,
+    /// The records, with that of their parameters.
+    pub chain: &'r Nsec3Records<ParsedName<'a>, &'a [u8]>,
+    /// The hasher.
+    pub hasher: &'r H,
+}
+
+/// The fault that an error of a hash is.
+fn refused(error: Nsec3HashError) -> DenialFault
+    ensures memory { error ≡ hash_error.OutOfMemory → result ≡ Memory }
+    ensures hasher { (n : ℕ) → error ≡ hash_error.Hasher n
+        → result ≡ Signing (signing_error.Nsec3HashingError (hash_error.Hasher n)) }
+{
+    match error {
+        Nsec3HashError::OutOfMemory => DenialFault::OutOfMemory,
+        _ => DenialFault::Signing(SigningError::Nsec3HashingError(error)),
+    }
+}
+
+/// A record that covers a name, if one does.
+fn cover_part<'r, 'a>(role: Role<'r>, cover: Option<&'r ReadNsec3<'a>>) -> Option<Part<'r, 'a>>
+    ensures { option_map telling_of result ≡ finding hashed role.entry None
+        (option_map (λ k. as_hashed_link (λ n. n) k.now) cover.entry) }
+{
+    let nsec3 = cover?;
+    Some(Part {
+        role,
+        matches: false,
+        listed: Listed::Nsec3(nsec3),
+    })
+}
+
+/// The name that is matched: the one that was asked for, or its closest encloser, which has so many
+/// labels.
+fn encloser_role(name: &ZoneName, count: usize) -> Role<'_>
+    ensures { result ≡ encloser_role name.now count }
+{
+    if count == name.count_labels() {
+        return Role::Asked;
+    }
+    Role::Encloser(name.last_labels(count))
+}
+
+/// What was found of the closest encloser of a name.
+fn encloser_part<'r, 'a>(
+    name: &'r ZoneName,
+    found: &Option<Encloser<'r, 'a>>,
+) -> Option<Part<'r, 'a>>
+    ensures { option_map telling_of result
+        ≡ encloser_told name.now (option_map (encloser_of (λ n. n)) found.now) }
+{
+    let Some(encloser) = found else {
+        return None;
+    };
+    Some(Part {
+        role: encloser_role(name, encloser.count),
+        matches: true,
+        listed: Listed::Nsec3(encloser.matching),
+    })
+}
+
+/// What was found of the next closer name, where the answer rests on that.
+fn closer_part<'r, 'a>(
+    name: &'r ZoneName,
+    answer: Answer,
+    found: &Option<Encloser<'r, 'a>>,
+) -> Option<Part<'r, 'a>>
+    ensures { option_map telling_of result
+        ≡ closer_told name.now answer (option_map (encloser_of (λ n. n)) found.now) }
+{
+    let Some(encloser) = found else {
+        return None;
+    };
+    if !needs_next_closer(answer) {
+        return None;
+    }
+    let labels = encloser.count.min(name.count_labels()) + 1;
+    cover_part(Role::NextCloser(name.last_labels(labels)), encloser.cover)
+}
+
+impl<'r, 'a, H: Nsec3Hasher> Inquiry<'r, 'a, H> {
+    /// The answer, where no labels are told.
+    fn whole_answer(&self, limit: u16) -> Result<Answer, DenialFault>
+        ensures ok { IfOk result
+            (IsNsec3Answer (records_of H.answer self.now) self.now.question.now limit) }
+        ensures err { IfErr result (IsRefusedWith (IsFirstOfRefusals
+            (records_of H.answer self.now) self.now.question.now.name
+            self.now.question.now.rtype)) }
+    {
+        let (alloc, chain, hasher) = (self.alloc, self.chain, self.hasher);
+        let Question { apex, name, rtype } = self.question;
+        match judge_nsec3(alloc, apex, chain, name, *rtype, limit, hasher) {
+            Ok(answer) => Ok(answer),
+            Err(error) => Err(refused(error)),
+        }
+    }
+
+    /// The answer about a name whose records were expanded from a wildcard, as the labels tell that
+    /// their signatures have.
+    fn expansion_answer(&self, labels: u8, limit: u16) -> Result<Answer, DenialFault>
+        ensures ok { IfOk result
+            (IsExpansionAnswer (records_of H.answer self.now) self.now.question.now labels limit) }
+        ensures err { IfErr result (IsRefusedWith
+            (IsCloserRefusal (records_of H.answer self.now) self.now.question.now labels limit)) }
+    {
+        let (alloc, chain, hasher) = (self.alloc, self.chain, self.hasher);
+        let Question { apex, name, .. } = self.question;
+        match judge_nsec3_expansion(alloc, apex, chain, name, labels as usize, limit, hasher) {
+            Ok(answer) => Ok(answer),
+            Err(error) => Err(refused(error)),
+        }
+    }
+
+    /// The answer.
+    ///
+    /// # Errors
+    ///
+    /// `Signing` where the hasher refuses a name that is asked for, with labels the next closer
+    /// name, which has one label more; and `OutOfMemory`.
+    pub fn answer(&self, asked: Nsec3Options) -> Result<Answer, DenialFault>
+        ensures ok { IfOk result (IsAnswerAsked asked.labels (records_of H.answer self.now)
+            self.now.question.now asked.limit) }
+        ensures err { IfErr result (IsRefusedWith (IsRefusalAsked asked.labels
+            (records_of H.answer self.now) self.now.question.now asked.limit)) }
+    {
+        match asked.labels {
+            Some(labels) => self.expansion_answer(labels, asked.limit),
+            None => self.whole_answer(asked.limit),
+        }
+    }
+
+    /// What the records tell of a name. Of one whose hash is refused nothing is told.
+    fn find_told(
+        &self,
+        role: Role<'r>,
+        name: &ParsedName<'_>,
+    ) -> Result<Option<Part<'r, 'a>>, DenialFault>
+        ensures ok { IfOk result (λ part. option_map telling_of part
+            ≡ nsec3_told (records_of H.answer self.now) role.entry name.now) }
+        ensures err { IfErr result (λ e. e ≡ Memory) }
+    {
+        match find_nsec3(
+            self.alloc,
+            &self.question.apex,
+            self.chain,
+            name,
+            self.hasher,
+        ) {
+            Ok(Nsec3Found::Match(nsec3)) => Ok(Some(Part {
+                role,
+                matches: true,
+                listed: Listed::Nsec3(nsec3),
+            })),
+            Ok(Nsec3Found::NoMatch(cover)) => Ok(cover_part(role, cover)),
+            Err(error) => match error {
+                Nsec3HashError::OutOfMemory => Err(DenialFault::OutOfMemory),
+                _ => Ok(None),
+            },
+        }
+    }
+
+    /// What they tell of the wildcard that an answer asked for.
+    fn find_wildcard(&self, answer: Answer) -> Result<Option<Part<'r, 'a>>, DenialFault>
+        ensures ok { IfOk result (λ part. option_map telling_of part
+            ≡ told_where (nsec3_told (records_of H.answer self.now))
+            (wildcard_asked self.now.question.now.name (wildcard_count answer))) }
+        ensures err { IfErr result (λ e. e ≡ Memory) }
+    {
+        let mut buffer = [0; MAX_NAME];
+        match wildcard_asked(&mut buffer, &self.question.name, answer) {
+            Some((role, name)) => self.find_told(role, &name),
+            None => Ok(None),
+        }
+    }
+
+    /// What they tell of the names that a whole answer rests on.
+    fn find_whole(&self, answer: Answer) -> Result<Parts<'r, 'a>, DenialFault>
+        ensures ok { IfOk result (λ parts. AreWhole
+            (as_param_record (λ n. n) self.now.chain.now.nsec3param) (records_of H.answer self.now)
+            self.now.question.now.name answer (tellings_of parts)) }
+        ensures err { IfErr result (IsRefusedWith
+            (IsFirstRefusal (records_of H.answer self.now) self.now.question.now.name)) }
+    {
+        let Question { apex, name, .. } = self.question;
+        let found = match find_nsec3_encloser(self.alloc, apex, self.chain, name, self.hasher) {
+            Ok(found) => found,
+            Err(error) => return Err(refused(error)),
+        };
+        let wildcard = self.find_wildcard(answer)?;
+        Ok(Parts {
+            matched: encloser_part(name, &found),
+            closer: closer_part(name, answer, &found),
+            wildcard,
+            param: Some(&self.chain.nsec3param),
+        })
+    }
+
+    /// What they tell of the next closer name, one label longer than so many.
+    fn find_closer(&self, labels: u8) -> Result<Parts<'r, 'a>, DenialFault>
+        ensures ok { IfOk result (λ parts. tellings_of parts ≡ expansion_tellings
+            (as_param_record (λ n. n) self.now.chain.now.nsec3param) (records_of H.answer self.now)
+            self.now.question.now.name labels) }
+        ensures err { IfErr result (λ e. e ≡ Memory) }
+    {
+        let name = &self.question.name;
+        let count = labels as usize + 1;
+        let role = Role::NextCloser(name.last_labels(count));
+        let closer = self.find_told(role, &name.last_labels(count))?;
+        Ok(Parts {
+            matched: None,
+            closer,
+            wildcard: None,
+            param: Some(&self.chain.nsec3param),
+        })
+    }
+
+    /// What they tell of the names that an answer rests on, where that is asked for.
+    ///
+    /// # Errors
+    ///
+    /// `Signing` where the hasher refuses the name, or one on the way to its closest encloser; and
+    /// `OutOfMemory`.
+    pub fn parts(
+        &self,
+        labels: Option<u8>,
+        shown: Shown,
+        answer: Answer,
+    ) -> Result<Parts<'r, 'a>, DenialFault>
+        ensures ok { IfOk result (λ parts. AreNsec3Told (rests_on_records answer) shown labels
+            (as_param_record (λ n. n) self.now.chain.now.nsec3param) (records_of H.answer self.now)
+            self.now.question.now.name answer (tellings_of parts)) }
+        ensures err { IfErr result (IsRefusedWith (IsRefusalBelow labels
+            (records_of H.answer self.now) self.now.question.now.name)) }
+    {
+        if shown == Shown::Answer || !rests_on_records(answer) {
+            return Ok(Parts {
+                matched: None,
+                closer: None,
+                wildcard: None,
+                param: None,
+            });
+        }
+        match labels {
+            Some(labels) => Ok(self.find_closer(labels)?),
+            None => Ok(self.find_whole(answer)?),
+        }
+    }
+}

@@ -1,0 +1,193 @@
+//! The records that an answer rests on, and those that a server answers with, as they are printed.
+ghost use Rattle.std.specs.Prelude.{◌≡◌, ◌++◌, Some, OnOk};
+ghost use Rattle.std.specs.{List.list_any, Option.{option_map, option_to_list}};
+ghost use Rattle.std.specs.Io.KnownBytes.{Appends};
+ghost use Rattle.domain_nsec3.specs.View.{as_param_record};
+ghost use Rattle.judge_program.specs.Told.{any_of, below_text, is_needed, is_same, line_of, line_once, listed_of, matched_part, records_text, telling_of, tellings_of, told_line};
+
+use crate::needs::{Needs, needs_of, needs_wildcard};
+use crate::role::Role;
+use crate::shown::Shown;
+use domain_answer::Answer;
+use domain_base::Rtype;
+use domain_borrowed::{ReadNsec, ReadNsec3, ReadNsec3param};
+use std::io::Write;
+use std::{fmt, io};
+
+/// A record of a chain.
+#[derive(Clone, Copy)]
+pub enum Listed<'r, 'a> {
+    /// An NSEC record.
+    Nsec(&'r ReadNsec<'a>),
+    /// An NSEC3 record.
+    Nsec3(&'r ReadNsec3<'a>),
+}
+
+impl fmt::Display for Listed<'_, '_> {
+    ghost output = { λ k. Some (line_of (any_of k)) };
+
+    fn fmt<W: fmt::Write>(&self, f: &mut fmt::Formatter<W>) -> fmt::Result {
+        match self {
+            Listed::Nsec(nsec) => write!(f, "{nsec}"),
+            Listed::Nsec3(nsec3) => write!(f, "{nsec3}"),
+        }
+    }
+}
+
+/// A record that tells of a name.
+#[derive(Drop)]
+pub struct Part<'r, 'a> {
+    /// The name.
+    pub role: Role<'r>,
+    /// Whether it matches the name, and does not cover it.
+    pub matches: bool,
+    /// The record.
+    pub listed: Listed<'r, 'a>,
+}
+
+/// What records tell of the names that an answer rests on.
+#[derive(Drop)]
+pub struct Parts<'r, 'a> {
+    /// Of the name or, with NSEC3, of its closest encloser.
+    pub matched: Option<Part<'r, 'a>>,
+    /// Of the next closer name, with NSEC3.
+    pub closer: Option<Part<'r, 'a>>,
+    /// Of the wildcard, where it was asked for.
+    pub wildcard: Option<Part<'r, 'a>>,
+    /// The record of the parameters, with NSEC3.
+    pub param: Option<&'r ReadNsec3param<'a>>,
+}
+
+/// Writes a line on a record that tells of a name, if one does.
+fn write_told<W: Write>(part: &Option<Part<'_, '_>>, output: &mut W) -> io::Result<()>
+    ensures { OnOk result (Appends (W.contents output.old) (W.contents output.new)
+        (told_line (option_map telling_of part.now))) }
+{
+    let Some(part) = part else {
+        return Ok(());
+    };
+    let Part {
+        role,
+        matches,
+        listed,
+    } = part;
+    if *matches {
+        return writeln!(output, "matches {role}: {listed}");
+    }
+    writeln!(output, "covers {role}: {listed}")
+}
+
+/// Whether a response needs this record of the name or its closest encloser.
+fn is_needed(needs: Needs, listed: Listed<'_, '_>) -> bool
+    ensures { result ≡ is_needed needs (any_of listed.entry) }
+{
+    match (needs, listed) {
+        (Needs::Nothing, _) => false,
+        (Needs::Cut, Listed::Nsec(nsec)) => !nsec.data().types().contains(Rtype::DS),
+        (Needs::Cut, Listed::Nsec3(nsec3)) => !nsec3.data().types().contains(Rtype::DS),
+        (Needs::Closer, Listed::Nsec3(_)) => false,
+        _ => true,
+    }
+}
+
+/// The record of the name or its closest encloser, where the response needs it.
+fn matched_part<'r, 'a>(needs: Needs, found: &Option<Part<'r, 'a>>) -> Option<Listed<'r, 'a>>
+    ensures { option_map any_of result ≡ matched_part needs (option_map telling_of found.now) }
+{
+    match found {
+        Some(part) if is_needed(needs, part.listed) => Some(part.listed),
+        _ => None,
+    }
+}
+
+/// The record that tells of a name, where it is needed.
+fn listed_of<'r, 'a>(is_needed: bool, found: &Option<Part<'r, 'a>>) -> Option<Listed<'r, 'a>>
+    ensures { option_map any_of result ≡ listed_of is_needed (option_map telling_of found.now) }
+{
+    match found {
+        Some(part) if is_needed => Some(part.listed),
+        _ => None,
+    }
+}
+
+/// Whether the record is the same as another.
+fn is_told(listed: Listed<'_, '_>, other: Option<Listed<'_, '_>>) -> bool
+    ensures { result
+        ≡ list_any (is_same (any_of listed.entry)) (option_to_list (option_map any_of other.entry)) }
+{
+    match (listed, other) {
+        (Listed::Nsec(nsec), Some(Listed::Nsec(other))) => nsec == other,
+        (Listed::Nsec3(nsec3), Some(Listed::Nsec3(other))) => nsec3 == other,
+        _ => false,
+    }
+}
+
+/// Writes the line of a record, if there is one and it is not the same as one of two before it.
+fn write_once<W: Write>(
+    first: Option<Listed<'_, '_>>,
+    second: Option<Listed<'_, '_>>,
+    found: Option<Listed<'_, '_>>,
+    output: &mut W,
+) -> io::Result<()>
+    ensures { OnOk result (Appends (W.contents output.old) (W.contents output.new)
+        (line_once (option_to_list (option_map any_of first.entry)
+        ++ option_to_list (option_map any_of second.entry)) (option_map any_of found.entry))) }
+{
+    let Some(listed) = found else {
+        return Ok(());
+    };
+    if is_told(listed, first) | is_told(listed, second) {
+        return Ok(());
+    }
+    writeln!(output, "{listed}")
+}
+
+/// Writes the lines of three records, each once, and then that of the NSEC3PARAM record, if there
+/// are any.
+fn write_records<W: Write>(
+    matched: Option<Listed<'_, '_>>,
+    closer: Option<Listed<'_, '_>>,
+    wildcard: Option<Listed<'_, '_>>,
+    param: Option<&ReadNsec3param<'_>>,
+    output: &mut W,
+) -> io::Result<()>
+    ensures { OnOk result (Appends (W.contents output.old) (W.contents output.new)
+        (records_text (option_map (λ k. as_param_record (λ n. n) k.now) param.entry)
+        (option_map any_of matched.entry) (option_map any_of closer.entry)
+        (option_map any_of wildcard.entry))) }
+{
+    write_once(None, None, matched, output)?;
+    write_once(None, matched, closer, output)?;
+    write_once(matched, closer, wildcard, output)?;
+    let Some(param) = param else {
+        return Ok(());
+    };
+    if matched.is_some() | closer.is_some() | wildcard.is_some() {
+        return writeln!(output, "{param}");
+    }
+    Ok(())
+}
+
+impl Parts<'_, '_> {
+    /// Writes what is asked for below an answer: the records that it rests on, one a line, with
+    /// what each tells; or those that a server answers with, one a line.
+    pub fn write<W: Write>(&self, shown: Shown, answer: Answer, output: &mut W) -> io::Result<()>
+        ensures { OnOk result (Appends (W.contents output.old) (W.contents output.new)
+            (below_text shown answer (tellings_of self.now))) }
+    {
+        match shown {
+            Shown::Answer => Ok(()),
+            Shown::Why => {
+                write_told(&self.matched, output)?;
+                write_told(&self.closer, output)?;
+                write_told(&self.wildcard, output)
+            }
+            Shown::Records => {
+                let matched = matched_part(needs_of(answer), &self.matched);
+                let closer = listed_of(true, &self.closer);
+                let wildcard = listed_of(needs_wildcard(answer), &self.wildcard);
+                write_records(matched, closer, wildcard, self.param, output)
+            }
+        }
+    }
+}
