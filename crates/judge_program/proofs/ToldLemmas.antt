@@ -1,31 +1,15 @@
--- What records tell of names, as it is found and written.
-use Rattle.std.proofs.{Common.{arith, ◌≡◌, ◌⊎◌, ℕ, ◌+◌, Bool, ◌||◌, List, [], ◌++◌, codes, length, min, drop, ap, sym, ◌∙◌, Option, Some, None, if◌then◌else◌}, lemmas.{Grind.common_steps, List.Folds.list_any-append}}
+-- What records tell of names, as it is written; the errors of hashes.
+use Rattle.std.proofs.{Common.{arith, ◌≡◌, ◌⊎◌, ℕ, Bool, ◌||◌, List, [], ◌++◌, codes, ap, sym, ◌∙◌, Option, Some, None, if◌then◌else◌}, lemmas.{Grind.common_steps, List.Folds.list_any-append}}
 use Rattle.std.specs.{Fmt.decimal, Io.KnownBytes.Appends, List.list_any, Option.{is_some, option_map}}
 use Rattle.domain_octets.specs.Words.{Octets}
-use Rattle.domain_names.specs.{Name.{last_labels, lowered, wire_of}, Text.name_text, Words.Name}
+use Rattle.domain_names.specs.Text.{name_text}
 use Rattle.domain_base.specs.{Numbers.{class_text, type_text}, Types.nsec3param}
 use Rattle.domain_chain_rdata.specs.Nsec3paramText.{nsec3param_text}
-use Rattle.domain_nsec.specs.Chain.{Link}
-use Rattle.domain_nsec3.specs.Chain.{HashedLink, ParamRecord}
+use Rattle.domain_nsec3.specs.Chain.{ParamRecord}
 use Rattle.domain_hasher.specs.declared.error.Nsec3HashError.{Nsec3HashError, TheVariants.{Hasher, OutOfMemory}}
 use Rattle.domain_records.specs.declared.error.SigningError.TheVariants.{Nsec3HashingError}
-use Rattle.domain_checker.specs.{HashedView.HashedRecords, HashedPass.IsLookedUp}
-use Rattle.domain_answer.specs.Found.{IsFound}
 use Rattle.denial_program.{specs.{Text.nsec3param_line, declared.fault.DenialFault.{DenialFault, TheVariants.{OutOfMemory as Memory, Signing}}}, proofs.RunLemmas.{appends_more, parts_of_line}}
-use Rattle.judge_program.specs.{Judged.IsRefusedWith, Told.{finding, is_same, line_of, line_once, nsec_told, nsec3_told, param_line, AnyLink, AnyLink.{hashed, plain}}, declared.role.Role.Role}
-
--- what one pass found: a cover counts where there is no match
-pub nsec_found : (a : Name) (listed : List Link) (role : Role) (x : Name) (matched covered : Option Link) → IsFound a listed x matched covered
-    → finding plain role matched covered ≡ nsec_told a listed role x
-nsec_found a listed role x matched covered found = grind (arith, common_steps)
-
-pub nsec3_found : (R : HashedRecords) (role : Role) (x : Name) (matched covered : Option HashedLink) → IsLookedUp R (wire_of (lowered x)) matched covered
-    → finding hashed role matched covered ≡ nsec3_told R role x
-nsec3_found R role x matched covered found = grind (arith, common_steps)
-
--- the next closer name of a name has no more labels than it
-pub closer_labels : (n : ℕ) (x : Name) → last_labels (min n (length x) + 1) x ≡ last_labels (n + 1) x
-closer_labels n x = ap (λ k. drop k x) (omega arith)
+use Rattle.judge_program.specs.{Judged.IsRefusedWith, Told.{is_same, line_of, line_once, param_line, AnyLink}}
 
 -- an error of a hash as a fault
 pub refused_with : {P : ℕ → Type 0} (e : Nsec3HashError) (f : DenialFault) → (e ≡ OutOfMemory → f ≡ Memory)

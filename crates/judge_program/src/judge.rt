@@ -1,5 +1,5 @@
 //! What records of a chain that were read answer to a question.
-ghost use Rattle.std.specs.{Prelude.{◌≡◌, ◌⊎◌, ◌++◌, IfErr, IfOk, OnOk}, Io.KnownBytes.Appends};
+ghost use Rattle.std.specs.{Prelude.{◌≡◌, ◌++◌, IfErr, IfOk, OnOk}, Io.KnownBytes.Appends};
 ghost use Rattle.domain_nsec.specs.ChainView.{links_of};
 ghost use Rattle.denial_program.specs.{Check.AreNsecs, Fault.IsBeforeOutput};
 ghost use Rattle.denial_program.specs.declared.fault.DenialFault.TheVariants.{OutOfMemory as Memory};

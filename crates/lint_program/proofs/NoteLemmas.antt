@@ -5,7 +5,7 @@ use Rattle.std.specs.{Ordering.{is_eq, nat_cmp, ordering_then}, Cmp.{nat_eq_equi
 use Rattle.domain_octets.proofs.StdLemmas.{or_none}
 use Rattle.domain_names.specs.{Laws.{same_name_equiv, same_name_ties}, Name.same_name, Words.Name}
 use Rattle.domain_borrowed.specs.Data.{RawRecord}
-use Rattle.lint_program.specs.{Firsts.group_cmp, Notes.{earlier, first_in, group_of, is_group, AreNoted, Found, Group, IsToldOf, Mark, Found.more}}
+use Rattle.lint_program.specs.{Firsts.group_cmp, Notes.{earlier, first_in, group_of, is_group, Found, Group, IsToldOf, Mark, Found.more}}
 use Rattle.lint_program.specs.declared.{looks.Look.Look, reading.Place.Place}
 
 -- ---- groups
@@ -81,8 +81,3 @@ found_more l a records places i r d marks last within is paired found told =
     (sym (take_more records i r within ∙ ap (λ x. take i records ++ x ∷ []) (sym is)))
     (subst (λ ns. Found l a (take i records ++ r ∷ []) ns (marks ++ last)) (sym (numbers_more places i d paired))
     (more l a (take i records) (map (λ (p : Place). p.number) (take i places)) marks r (get_or places i d).number last found told))
-
--- what is noted of these is noted of what they are
-pub noted_of : (w v : Bool) (a b : Name) (rs ss : List RawRecord) (ns ms : List ℕ) (marks : List Mark)
-    → w ≡ v → a ≡ b → rs ≡ ss → ns ≡ ms → AreNoted w a rs ns marks → AreNoted v b ss ms marks
-noted_of w v a b rs ss ns ms marks whole apex records numbers noted = grind (arith, common_steps)

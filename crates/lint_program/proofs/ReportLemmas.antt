@@ -1,26 +1,38 @@
 -- The lines of a report, one after another.
-use Rattle.std.proofs.{Common.{arith, ◌≡◌, ℕ, Bool, List, [], ◌∷◌, ◌++◌, refl, ap, sym, ◌∙◌, append-nil, append_assoc}, lemmas.Grind.common_steps}
+use Rattle.std.proofs.{Common.{arith, ◌≡◌, ℕ, ◌+◌, List, [], ◌∷◌, ◌++◌, Option, refl, ap, map, sym, ◌∙◌, subst, take, append-nil, append_assoc}, lemmas.{Grind.common_steps, List.map-append}}
+use Rattle.std.specs.Io.KnownBytes.{Appends}
 use Rattle.domain_octets.specs.Words.{Octets}
-use Rattle.lint_program.specs.{Notes.Mark, Report.{AreFaults, AreNotes, IsFault, IsNote}}
+use Rattle.denial_program.proofs.RunLemmas.{appends_more}
+use Rattle.lint_program.specs.Report.{AreEach}
 
--- one more line
-pub faults_more : (ns : List ℕ) (n : ℕ) (text line : Octets) → AreFaults ns text → IsFault n line → AreFaults (ns ++ n ∷ []) (text ++ line)
-faults_more [] n text line h is = (line, [], ap (λ t. t ++ line) h ∙ sym (append-nil line), is, refl)
-faults_more (m ∷ ns) n text line h is = grind (arith, common_steps, (faults_more ns n h.1 line h.4 is))
+module _ {A : Type 0} (is_such : A → Octets → Type 0) where
+  -- one more line
+  each_more : (xs : List A) (x : A) (text line : Octets) → AreEach is_such xs text → is_such x line → AreEach is_such (xs ++ x ∷ []) (text ++ line)
+  each_more [] x text line h is = (line, [], ap (λ t. t ++ line) h ∙ sym (append-nil line), is, refl)
+  each_more (m ∷ xs) x text line h is = grind (arith, common_steps, (append_assoc h.0 h.1 line), (each_more xs x h.1 line h.4 is))
 
--- the parts of a line in the grouping in which they are written
-pub fault_grouped : (line number between word colon told end : Octets)
-    → ((line ++ (number ++ (between ++ (word ++ colon)))) ++ told) ++ end
-    ≡ line ++ number ++ between ++ word ++ colon ++ told ++ end
-fault_grouped line number between word colon told end = simp append_assoc
+  -- which is written behind those before it
+  pub told_more : {T : Type 0} (f : T → A) (items : List T) (i : ℕ) (item : T) (a b c : Option Octets) → take (i + 1) items ≡ take i items ++ item ∷ []
+      → (text : Octets) × AreEach is_such (map f (take i items)) text × Appends a b text
+      → (line : Octets) × is_such (f item) line × Appends b c line
+      → (text : Octets) × AreEach is_such (map f (take (i + 1) items)) text × Appends a c text
+  told_more f items i item a b c more so_far told = (
+    so_far.0 ++ told.0,
+    subst (λ xs. AreEach is_such xs (so_far.0 ++ told.0)) (sym (ap (map f) more ∙ map-append f (take i items) (item ∷ [])))
+        (each_more (map f (take i items)) (f item) so_far.0 told.0 so_far.1 told.1),
+    appends_more a b c so_far.0 told.0 so_far.2 told.2,
+  )
 
--- one more note
-pub notes_more : (refused : Bool) (marks : List Mark) (mark : Mark) (text line : Octets) → AreNotes refused marks text → IsNote refused mark line
-    → AreNotes refused (marks ++ mark ∷ []) (text ++ line)
-notes_more refused [] mark text line h is = (line, [], ap (λ t. t ++ line) h ∙ sym (append-nil line), is, refl)
-notes_more refused (m ∷ marks) mark text line h is = grind (arith, common_steps, (append_assoc h.0 h.1 line), (notes_more refused marks mark h.1 line h.4 is))
+-- the parts of a note in the grouping in which they are written, of a line of the input and of none
+pub placed_parts : (kind line number colon opening told closing end k o c p : Octets) → kind ≡ k → opening ≡ o → closing ≡ c → p ≡ line ++ number ++ colon
+    → kind ++ (line ++ (number ++ (colon ++ (opening ++ (told ++ (closing ++ end)))))) ≡ k ++ p ++ o ++ told ++ c ++ end
+placed_parts kind line number colon opening told closing end k o c p is_kind is_opening is_closing is = grind (arith, common_steps)
 
--- the parts of a note in the grouping in which they are written
-pub note_grouped : (kind place opening told closing end k o c : Octets) → kind ≡ k → opening ≡ o → closing ≡ c
-    → ((((kind ++ place) ++ opening) ++ told) ++ closing) ++ end ≡ k ++ place ++ o ++ told ++ c ++ end
-note_grouped kind place opening told closing end k o c is_kind is_opening is_closing = grind (arith, common_steps)
+pub whole_parts : (kind opening told closing end k o c p : Octets) → kind ≡ k → opening ≡ o → closing ≡ c → p ≡ []
+    → kind ++ (opening ++ (told ++ (closing ++ end))) ≡ k ++ p ++ o ++ told ++ c ++ end
+whole_parts kind opening told closing end k o c p is_kind is_opening is_closing is = grind (arith, common_steps)
+
+-- those of what is told of a bad line
+pub fault_parts : (line number between word colon told end : Octets)
+    → line ++ (number ++ (between ++ (word ++ (colon ++ (told ++ end))))) ≡ line ++ number ++ between ++ word ++ colon ++ told ++ end
+fault_parts line number between word colon told end = simp append_assoc

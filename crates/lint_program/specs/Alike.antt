@@ -1,5 +1,5 @@
 -- Names of an NSEC3 chain that hash alike, as they are told of the records of an input.
-use Rattle.std.specs.Prelude.{◌≡◌, ◌⊎◌, ℕ, List, [], ◌++◌, Option, Some, None, codes}
+use Rattle.std.specs.Prelude.{◌≡◌, ◌⊎◌, ℕ, List, [], ◌∷◌, ◌++◌, Option, Some, None, codes}
 use Rattle.domain_octets.specs.Words.{Octets}
 use Rattle.domain_names.specs.{Text.name_text, Words.Name}
 use Rattle.domain_alike.specs.Alike.{AreAlike, IsFirstRefusal, Pair}
@@ -8,6 +8,7 @@ use Rattle.domain_borrowed.specs.Data.{RawRecord, zone_of_raw}
 use Rattle.domain_nsec3.specs.View.{HasherAnswer}
 use Rattle.domain_records.specs.Order.{IsOneClass}
 use Rattle.denial_program.specs.{Answer.{usual_nsec3_config, Sorts}, Command.Params, Text.lines_of}
+use Rattle.lint_program.specs.declared.outcome.Outcome.{Outcome, TheVariants.Faulty}
 
 -- those of the given records, in the chain that `denial nsec3` would make of them with these
 -- parameters
@@ -19,11 +20,6 @@ pub record AreAlikeIn (answers : HasherAnswer) (given : List RawRecord) (apex : 
   pub alike : AreAlike (zone_of_raw sorted) apex
       (usual_nsec3_config answers p) pairs
 
--- these are told of records; nothing where they are of more than one class
-abbrev pub AreToldAlike : HasherAnswer → List RawRecord → Name → Params → List Pair → Type 0
-AreToldAlike answers given apex p pairs =
-    (AreMixed given × (pairs ≡ [])) ⊎ AreAlikeIn answers given apex p pairs
-
 -- the hasher refuses the hash of a name of that chain, and of none before it
 pub record IsRefusalIn (answers : HasherAnswer) (given : List RawRecord) (apex : Name) (p : Params)
     (number : ℕ) : Type 0 where
@@ -33,11 +29,13 @@ pub record IsRefusalIn (answers : HasherAnswer) (given : List RawRecord) (apex :
   pub refusal : IsFirstRefusal (zone_of_raw sorted) apex
       (usual_nsec3_config answers p) number
 
--- without parameters nothing is told, and nothing refused
+-- these are told of records: nothing without parameters, nor where they are of more than one class
 abbrev pub AreTold : HasherAnswer → List RawRecord → Name → Option Params → List Pair → Type 0
 AreTold answers given apex None pairs = pairs ≡ []
-AreTold answers given apex (Some p) pairs = AreToldAlike answers given apex p pairs
+AreTold answers given apex (Some p) pairs =
+    (AreMixed given × (pairs ≡ [])) ⊎ AreAlikeIn answers given apex p pairs
 
+-- without parameters nothing is refused
 abbrev pub IsRefusalBy : HasherAnswer → List RawRecord → Name → Option Params → ℕ → Type 0
 IsRefusalBy answers given apex None number = ⊥
 IsRefusalBy answers given apex (Some p) number = IsRefusalIn answers given apex p number
@@ -50,3 +48,8 @@ alike_line p =
 
 abbrev pub alike_text : List Pair → Octets
 alike_text = lines_of alike_line
+
+-- the outcome, where it would be this one without these pairs: each is a fault
+abbrev pub outcome_with : List Pair → Outcome → Outcome
+outcome_with [] plain = plain
+outcome_with (p ∷ more) plain = Faulty

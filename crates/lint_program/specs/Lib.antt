@@ -6,6 +6,5 @@ pub mod NoteText
 pub mod Firsts
 pub mod Zones
 pub mod Alike
-pub mod Report
 pub mod Command
-pub mod HashedReport
+pub mod Report

@@ -2,10 +2,14 @@
 use Rattle.std.specs.Prelude.{◌≡◌, ◌≢◌, ◌⊎◌, ℕ, ◌≤◌, ◌==◌, Bool, true, false, ◌&&◌, List, [], ◌∷◌, ◌++◌, All, codes, length, Option, Some, None, if◌then◌else◌}
 use Rattle.std.specs.Fmt.{decimal}
 use Rattle.domain_octets.specs.{Words.Octets, Characters.{space, tilde}}
-use Rattle.domain_names.specs.Words.{Name}
+use Rattle.domain_names.specs.Words.{Name, Tokens}
+use Rattle.domain_alike.specs.Alike.{Pair}
 use Rattle.domain_borrowed.specs.Data.{RawRecord}
-use Rattle.denial_program.specs.{Answer.{HasNoNsecs, IsNsecs}, Fault.IsOfRecords, declared.{answer.Reply.Reply, fault.DenialFault.DenialFault}}
-use Rattle.lint_program.specs.{Lines.AreLinted, NoteText.{closing, opening}, Notes.{fails, AreNoted, Mark}, Outcomes.is_faulty}
+use Rattle.domain_nsec3.specs.View.{HasherAnswer}
+use Rattle.domain_hasher.specs.declared.error.Nsec3HashError.TheVariants.{Hasher}
+use Rattle.domain_records.specs.declared.error.SigningError.{SigningError, TheVariants.Nsec3HashingError}
+use Rattle.denial_program.specs.{Answer.{HasNoNsecs, IsNsecs}, Command.Params, Fault.IsOfRecords, declared.{answer.Reply.Reply, fault.DenialFault.DenialFault}}
+use Rattle.lint_program.specs.{Alike.{alike_text, outcome_with, AreTold, IsRefusalBy}, Command.Asks, Lines.AreLinted, NoteText.{closing, opening}, Notes.{fails, AreNoted, Mark}, Outcomes.is_faulty}
 use Rattle.lint_program.specs.declared.outcome.Outcome.{Outcome, TheVariants.{Clean, Warned, Faulty}}
 
 -- the octet is printed, and no end of a line
@@ -21,12 +25,16 @@ pub record IsFault (number : ℕ) (text : Octets) : Type 0 where
   pub is : text ≡ codes "line " ++ decimal number ++ codes ", word " ++ decimal word ++ codes ": "
       ++ told ++ codes "\n"
 
--- a line of the report for each of these numbers, in their order
+-- for each of these a text that is such, one after another
+abbrev pub AreEach : {A : Type 0} → (A → Octets → Type 0) → List A → Octets → Type 0
+AreEach is_such [] text = text ≡ []
+AreEach is_such (x ∷ more) text =
+    (first : Octets) × (rest : Octets) × (text ≡ first ++ rest) × is_such x first
+    × AreEach is_such more rest
+
+-- a line of the report for each of these numbers
 abbrev pub AreFaults : List ℕ → Octets → Type 0
-AreFaults [] text = text ≡ []
-AreFaults (n ∷ more) text =
-    (first : Octets) × (rest : Octets) × (text ≡ first ++ rest) × IsFault n first
-    × AreFaults more rest
+AreFaults = AreEach IsFault
 
 -- how a line of the report begins that is of no bad line
 abbrev pub kind_of : Bool → Octets
@@ -49,12 +57,9 @@ pub record IsLine (is_fault : Bool) (mark : Mark) (text : Octets) : Type 0 where
 abbrev pub IsNote : Bool → Mark → Octets → Type 0
 IsNote are_refused mark text = IsLine (fails mark.reason && are_refused) mark text
 
--- a line for each of these marks, in their order
+-- a line for each of these marks
 abbrev pub AreNotes : Bool → List Mark → Octets → Type 0
-AreNotes are_refused [] text = text ≡ []
-AreNotes are_refused (mark ∷ more) text =
-    (first : Octets) × (rest : Octets) × (text ≡ first ++ rest) × IsNote are_refused mark first
-    × AreNotes are_refused more rest
+AreNotes are_refused = AreEach (IsNote are_refused)
 
 -- the records have no NSEC chain, for which `denial` refuses them
 abbrev pub AreRefused : List RawRecord → Name → Type 0
@@ -76,19 +81,38 @@ IsOutcome bad records apex marks Clean = (bad ≡ []) × HaveChain records apex 
 IsOutcome bad records apex marks Warned = (bad ≡ []) × HaveChain records apex × (marks ≢ [])
 IsOutcome bad records apex marks Faulty = (bad ≢ []) ⊎ AreRefused records apex
 
--- the report on these lines: each line that is bad, and no other, is told by its number; and then
--- what the records of the others deserve to be told for, and nothing else
-pub record IsReport (lines : List Octets) (apex : Name) (outcome : Outcome) (text : Octets)
-    : Type 0 where
+-- the report on these lines: each line that is bad, and no other, is told by its number; then what
+-- the records of the others deserve to be told for, and nothing else; and with parameters each pair
+-- of names that hash alike with these
+pub record IsTold (answers : HasherAnswer) (lines : List Octets) (apex : Name) (p : Option Params)
+    (outcome : Outcome) (text : Octets) : Type 0 where
   pub bad : List ℕ
   pub numbers : List ℕ
   pub records : List RawRecord
   pub marks : List Mark
+  pub pairs : List Pair
   pub faults : Octets
   pub notes : Octets
+  pub plain : Outcome
   pub are : AreLinted 1 lines bad numbers records
   pub told : AreFaults bad faults
   pub deserved : AreNoted (length bad == 0) apex records numbers marks
-  pub noted : AreNotes (is_faulty outcome) marks notes
-  pub is : text ≡ faults ++ notes
-  pub tells : IsOutcome bad records apex marks outcome
+  pub noted : AreNotes (is_faulty plain) marks notes
+  pub alike : AreTold answers records apex p pairs
+  pub is : text ≡ (faults ++ notes) ++ alike_text pairs
+  pub known : IsOutcome bad records apex marks plain
+  pub tells : outcome ≡ outcome_with pairs plain
+
+-- the words ask for parameters, with which the hasher refuses a name of the records
+pub record IsRefused (answers : HasherAnswer) (words : Tokens) (lines : List Octets)
+    (error : SigningError) : Type 0 where
+  pub apex : Name
+  pub p : Option Params
+  pub asks : Asks words apex p
+  pub bad : List ℕ
+  pub numbers : List ℕ
+  pub records : List RawRecord
+  pub are : AreLinted 1 lines bad numbers records
+  pub number : ℕ
+  pub is : error ≡ Nsec3HashingError (Hasher number)
+  pub refusal : IsRefusalBy answers records apex p number

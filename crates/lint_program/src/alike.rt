@@ -1,54 +1,21 @@
 //! Which names of a zone hash alike.
 ghost use Rattle.std.specs.Prelude.{◌≡◌, ◌⊎◌, ℕ, List, IfErr, IfOk, map};
-ghost use Rattle.domain_alike.specs.Alike.{pair_of, AreAlike, IsFirstRefusal};
-ghost use Rattle.domain_borrowed.specs.Data.{RawRecord, zone_of_raw};
-ghost use Rattle.domain_records.specs.Order.{IsInOrder};
+ghost use Rattle.domain_alike.specs.Alike.{pair_of};
+ghost use Rattle.domain_borrowed.specs.Data.{RawRecord};
 ghost use Rattle.domain_hasher.specs.declared.error.Nsec3HashError.TheVariants as hash_error;
 ghost use Rattle.domain_records.specs.declared.error.SigningError.TheVariants as signing_error;
-ghost use Rattle.denial_program.specs.Answer.{usual_nsec3_config};
 ghost use Rattle.denial_program.specs.declared.fault.DenialFault.TheVariants.{OutOfMemory as Memory, Signing};
-ghost use Rattle.lint_program.specs.Alike.{AreTold, IsRefusalBy};
-ghost use Rattle.lint_program.specs.Zones.{IsUsable, IsZone};
+ghost use Rattle.lint_program.specs.{Alike.{outcome_with, AreTold, IsRefusalBy}, Zones.{IsUsable, IsZone}};
 
+use crate::outcome::Outcome;
 use crate::zone::Zone;
 use denial_program::{DenialFault, Nsec3Params, ZoneOctets};
 use domain_alike::{Alike, alike_names};
 use domain_base::ParsedName;
-use domain_borrowed::BorrowedRecord;
 use domain_dnssec::{
     GenerateNsec3Config, InPlaceSorter, Nsec3HashError, Nsec3Hasher, SigningError,
 };
 use std::alloc::Global;
-
-/// Of the names of the NSEC3 chain that sorted records have with these parameters, each that has
-/// the hash of one before it, with the first that has it.
-///
-/// # Errors
-///
-/// Those of [`alike_of`].
-fn alike_in<'a, H: Nsec3Hasher>(
-    alloc: Global,
-    apex: &ParsedName<'a>,
-    sorted: &[BorrowedRecord<'a>],
-    parameters: Nsec3Params,
-    hasher: &H,
-) -> Result<Vec<Alike<'a>>, DenialFault>
-    requires { IsInOrder (λ n. n) (λ d. d.rtype) sorted.now }
-    ensures ok { IfOk result (λ pairs. AreAlike (zone_of_raw sorted.now) apex.now
-        (usual_nsec3_config (H.answer hasher.now) parameters) (map pair_of pairs.items)) }
-    ensures err { IfErr result (λ e. (e ≡ Memory) ⊎ ((n : ℕ) × (e ≡ Signing
-        (signing_error.Nsec3HashingError (hash_error.Hasher n))) × IsFirstRefusal (zone_of_raw
-        sorted.now) apex.now (usual_nsec3_config (H.answer hasher.now) parameters) n)) }
-{
-    let config: GenerateNsec3Config<ZoneOctets, InPlaceSorter> = GenerateNsec3Config::new(
-        parameters,
-    );
-    match alike_names(alloc, apex, sorted, &config, hasher) {
-        Ok(pairs) => Ok(pairs),
-        Err(Nsec3HashError::OutOfMemory) => Err(DenialFault::OutOfMemory),
-        Err(error) => Err(DenialFault::Signing(SigningError::Nsec3HashingError(error))),
-    }
-}
 
 /// Of the names of the NSEC3 chain that `denial nsec3` would make of a zone with these parameters,
 /// each that has the hash of one before it in canonical order, with the first that has it. None are
@@ -78,11 +45,25 @@ pub fn alike_of<'a, H: Nsec3Hasher>(
     let Some(parameters) = parameters else {
         return Ok(Vec::new(alloc));
     };
-    match zone {
-        Zone::Mixed => Ok(Vec::new(alloc)),
-        Zone::Sorted(sorted) => {
-            let pairs = alike_in(alloc, apex, sorted, parameters, hasher)?;
-            Ok(pairs)
-        }
+    let Zone::Sorted(sorted) = zone else {
+        return Ok(Vec::new(alloc));
+    };
+    let config: GenerateNsec3Config<ZoneOctets, InPlaceSorter> = GenerateNsec3Config::new(
+        parameters,
+    );
+    match alike_names(alloc, apex, sorted, &config, hasher) {
+        Ok(pairs) => Ok(pairs),
+        Err(Nsec3HashError::OutOfMemory) => Err(DenialFault::OutOfMemory),
+        Err(error) => Err(DenialFault::Signing(SigningError::Nsec3HashingError(error))),
+    }
+}
+
+/// The outcome, where it would be this one without these pairs: each of them is a fault.
+pub fn outcome_with(pairs: &[Alike<'_>], plain: Outcome) -> Outcome
+    ensures { result ≡ outcome_with (map pair_of pairs.now) plain }
+{
+    match pairs {
+        [] => plain,
+        [_, ..] => Outcome::Faulty,
     }
 }

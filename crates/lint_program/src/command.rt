@@ -1,19 +1,37 @@
 //! What the words after the program's name ask for.
 ghost use Rattle.std.specs.Prelude.{◌≡◌, ◌⊎◌, [], IfErr, IfOk, map, string_bytes};
+ghost use Rattle.domain_names.specs.Text.{IsNoName, NameText};
 ghost use Rattle.denial_program.specs.Command.{Params, Spell};
 ghost use Rattle.denial_program.specs.declared.fault.DenialFault.TheVariants.{OutOfMemory};
 ghost use Rattle.lint_program.specs.Command.{Asks, IsNoCommand};
 
-use denial_program::{DenialFault, Nsec3Params, ZoneName, name_of, parameters_of};
+use bumpalo::Bump;
+use denial_program::{DenialFault, Nsec3Params, name_of, parameters_of};
+use domain_base::{ParsedName, ToName};
 use std::alloc::Global;
 
 /// What the words ask for.
 #[derive(Drop)]
-pub struct Asked {
+pub struct Asked<'a> {
     /// The apex of the zone.
-    pub apex: ZoneName,
+    pub apex: ParsedName<'a>,
     /// The parameters of an NSEC3 chain, where they are given.
     pub parameters: Option<Nsec3Params>,
+}
+
+/// The name that a word spells, in the arena.
+fn stored_name<'a>(
+    alloc: Global,
+    arena: &'a Bump,
+    word: &str,
+) -> Result<ParsedName<'a>, DenialFault>
+    ensures ok { IfOk result (NameText word.now) }
+    ensures err { IfErr result (λ e.
+        ((e ≡ DenialFault.Usage) × IsNoName word.now) ⊎ (e ≡ OutOfMemory)) }
+{
+    let name = name_of(alloc, word)?;
+    let wire = arena.try_alloc_slice_copy(name.as_wire())?;
+    Ok(ParsedName::over(wire))
 }
 
 /// The parameters that two words spell, without opt-out.
@@ -27,12 +45,16 @@ fn hashed_by(alloc: Global, iterations: &str, salt: &str) -> Result<Nsec3Params,
 }
 
 /// What the words ask for: an apex, and after it the iterations and the salt of an NSEC3 chain or
-/// nothing.
+/// nothing. The apex lies in the arena.
 ///
 /// # Errors
 ///
 /// `Usage` exactly where they ask for nothing such, and `OutOfMemory`.
-pub fn asked_of(alloc: Global, words: &[String]) -> Result<Asked, DenialFault>
+pub fn asked_of<'a>(
+    alloc: Global,
+    arena: &'a Bump,
+    words: &[String],
+) -> Result<Asked<'a>, DenialFault>
     ensures ok { IfOk result (λ asked.
         Asks (map string_bytes words.now) asked.apex asked.parameters) }
     ensures err { IfErr result (λ e.
@@ -41,14 +63,14 @@ pub fn asked_of(alloc: Global, words: &[String]) -> Result<Asked, DenialFault>
 {
     match words {
         [apex] => {
-            let apex = name_of(alloc, apex.as_str())?;
+            let apex = stored_name(alloc, arena, apex.as_str())?;
             Ok(Asked {
                 apex,
                 parameters: None,
             })
         }
         [apex, iterations, salt] => {
-            let apex = name_of(alloc, apex.as_str())?;
+            let apex = stored_name(alloc, arena, apex.as_str())?;
             let parameters = hashed_by(alloc, iterations.as_str(), salt.as_str())?;
             Ok(Asked {
                 apex,

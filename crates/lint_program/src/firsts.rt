@@ -16,16 +16,6 @@ pub struct Firsts<'z, 'a> {
     map: BTreeMap<Group<'z>, Earlier<'z, 'a>>,
 }
 
-/// The record that came earlier.
-pub fn borrowed_of<'z, 'a>(first: Option<&Earlier<'z, 'a>>) -> Option<&'z BorrowedRecord<'a>>
-    ensures { option_map (λ f. f.now) result ≡ option_map (λ e. e.now.borrowed.now) first.entry }
-{
-    match first {
-        Some(earlier) => Some(earlier.borrowed),
-        None => None,
-    }
-}
-
 impl<'z, 'a> Firsts<'z, 'a> {
     /// None.
     pub fn new(alloc: Global) -> Self

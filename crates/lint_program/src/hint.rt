@@ -1,65 +1,96 @@
-//! What is told of one word, by what was to stand in its place.
+//! What is wrong in a word, by what was to stand in its place.
 
-use crate::data_hint::{missing_data, told_of_field, told_of_generic};
-use crate::generic::generic_form;
-use crate::name_trouble::name_trouble;
-use crate::refusal::Refusal;
-use crate::seconds::seconds_of;
-use crate::wanted::{Part, fields_of};
-use crate::words::quoted;
 use domain_base::{Class, FromToken, Rtype, Ttl};
 use std::alloc::{AllocError, Global};
 
-/// Of an owner.
-pub fn told_of_owner(alloc: Global, word: &str) -> Result<String, AllocError> {
-    let said = quoted(alloc, word.as_bytes())?;
-    let trouble = name_trouble(word);
-    format!(in alloc; "{said} is no name: {trouble}")
+/// How many octets of a word are quoted.
+const MOST_QUOTED: usize = 60;
+
+/// A word as it is quoted: each octet that is no character of ASCII as a backslash and its number,
+/// and of a long word the beginning.
+pub fn quoted(alloc: Global, word: &[u8]) -> Result<String, AllocError> {
+    let mut text = format!(in alloc; "'")?;
+    for octet in word.iter().take(MOST_QUOTED) {
+        if *octet > b' ' && *octet <= b'~' {
+            text.push(char::from(*octet))?;
+        } else {
+            text.push_str(format!(in alloc; "\\{octet:03}")?.as_str())?;
+        }
+    }
+    text.push_str(if word.len() > MOST_QUOTED { "..'" } else { "'" })?;
+    Ok(text)
 }
 
-/// Whether all characters are digits.
-fn is_number(word: &str) -> bool {
+/// What is wrong in a word that no record has, wherever it stands.
+pub fn strange_trouble(word: &str) -> Option<&'static str> {
+    const BRACKET: &str =
+        "has a bracket, and none is read here: write the record on one line, as denial-zone does";
+    match word.as_bytes() {
+        [b'(' | b')', ..] => Some(BRACKET),
+        [.., before, b'(' | b')'] if *before != b'\\' => Some(BRACKET),
+        [b';', ..] => Some("begins a comment: it stands on a line of its own"),
+        _ => None,
+    }
+}
+
+/// How many seconds a unit of a TTL has, as zone files have them and records here do not.
+fn seconds_of_unit(unit: u8) -> Option<u64> {
+    match unit.to_ascii_lowercase() {
+        b's' => Some(1),
+        b'm' => Some(60),
+        b'h' => Some(3600),
+        b'd' => Some(86400),
+        b'w' => Some(604_800),
+        _ => None,
+    }
+}
+
+/// The seconds that a TTL with units has, as 1h30m. None where the word is no such TTL.
+fn seconds_of(word: &str) -> Option<u64> {
+    let mut all: u64 = 0;
+    let mut number: Option<u64> = None;
     for octet in word.as_bytes() {
-        if !octet.is_ascii_digit() {
-            return false;
+        if octet.is_ascii_digit() {
+            let digit = u64::from(octet.saturating_sub(b'0'));
+            number = Some(number.unwrap_or(0).saturating_mul(10).saturating_add(digit));
+        } else {
+            all = all.saturating_add(number?.saturating_mul(seconds_of_unit(*octet)?));
+            number = None;
         }
     }
-    true
+    if number.is_some() || all > u64::from(u32::MAX) {
+        return None;
+    }
+    Some(all)
 }
 
-/// Of a TTL, which is the second of the words.
-pub fn told_of_ttl(alloc: Global, words: &[&str], word: &str) -> Result<String, AllocError> {
-    let said = quoted(alloc, word.as_bytes())?;
+/// What is wrong in a TTL; the word behind it is `next`.
+pub fn ttl_trouble(alloc: Global, word: &str, next: &str) -> Result<String, AllocError> {
     if let Some(seconds) = seconds_of(word) {
-        return format!(in alloc; "{said} is no TTL: write {seconds}, the seconds");
+        return format!(in alloc; "write {seconds}, the seconds");
     }
-    if is_number(word) {
-        return format!(in alloc; "{said} is no TTL: it is at most 4294967295 seconds");
+    let is_class = Class::from_token(word).is_ok();
+    if is_class && Ttl::from_token(next).is_ok() {
+        return format!(in alloc; "write {next} before it, and not behind it");
     }
-    if Class::from_token(word).is_ok() {
-        if let Some(next) = words.get(2) {
-            if Ttl::from_token(next).is_ok() {
-                return format!(in alloc;
-                    "{said} is no TTL: write {next} before it, and not \
-                     behind it"
-                );
-            }
-        }
-        return format!(in alloc; "{said} is no TTL: that is missing before it");
-    }
-    if Rtype::from_token(word).is_ok() {
-        return format!(in alloc; "{said} is no TTL: that and the class are missing before it");
-    }
-    format!(in alloc; "{said} is no TTL: a number of seconds from 0 to 4294967295")
+    let trouble = if word.as_bytes().iter().all(|octet| octet.is_ascii_digit()) {
+        "it is at most 4294967295 seconds"
+    } else if is_class {
+        "that is missing before it"
+    } else if Rtype::from_token(word).is_ok() {
+        "that and the class are missing before it"
+    } else {
+        "a number of seconds from 0 to 4294967295"
+    };
+    format!(in alloc; "{trouble}")
 }
 
-/// Of a class.
-pub fn told_of_class(alloc: Global, word: &str) -> Result<String, AllocError> {
-    let said = quoted(alloc, word.as_bytes())?;
+/// What is wrong in a class.
+pub fn class_trouble(word: &str) -> &'static str {
     if Rtype::from_token(word).is_ok() {
-        return format!(in alloc; "{said} is no class: that is missing before it, as IN");
+        return "that is missing before it, as IN";
     }
-    format!(in alloc; "{said} is no class: IN, CH, HS, or CLASS and its number")
+    "IN, CH, HS, or CLASS and its number"
 }
 
 /// The numbers of some types that have no name here.
@@ -83,71 +114,15 @@ const OTHER_TYPES: [(&str, u16); 17] = [
     ("URI", 256),
 ];
 
-/// The number of a type that has no name here.
-fn number_of_type(word: &str) -> Option<u16> {
+/// What is wrong in a type.
+pub fn type_trouble(alloc: Global, word: &str) -> Result<String, AllocError> {
     for (name, number) in OTHER_TYPES {
         if word.eq_ignore_ascii_case(name) {
-            return Some(number);
+            return format!(in alloc;
+                "is no name of a type here: write TYPE{number}, and its data in the generic form, \
+                 \\# COUNT HEX (RFC 3597), as denial-zone does"
+            );
         }
     }
-    None
-}
-
-/// Of a type.
-pub fn told_of_type(alloc: Global, word: &str) -> Result<String, AllocError> {
-    let said = quoted(alloc, word.as_bytes())?;
-    if let Some(number) = number_of_type(word) {
-        return format!(in alloc;
-            "{said} is no name of a type here: write TYPE{number}, and its \
-             data in the generic form, \\# COUNT HEX (RFC 3597), as denial-zone does"
-        );
-    }
-    format!(in alloc; "{said} is no type: as A, or TYPE and its number")
-}
-
-/// Of data of a type, where this word of the line can't be read.
-pub fn told_of_data(
-    alloc: Global,
-    rtype: Rtype,
-    words: &[&str],
-    number: usize,
-) -> Result<String, AllocError> {
-    let data = words.get(4..).unwrap_or(&[]);
-    if data.first() == Some(&"\\#") {
-        return told_of_generic(alloc, rtype, data);
-    }
-    if !fields_of(rtype).is_empty() {
-        return told_of_field(alloc, rtype, data, number.saturating_sub(5));
-    }
-    if let Some(form) = generic_form(alloc, rtype, data)? {
-        return format!(in alloc; "data of {rtype} have no text of their own here: write {form}");
-    }
-    format!(in alloc;
-        "data of {rtype} have no text of their own here: write them in the generic \
-         form, \\# COUNT HEX (RFC 3597), as denial-zone does"
-    )
-}
-
-/// Of a word behind data that are whole.
-pub fn told_of_more(alloc: Global, rtype: Rtype, word: &str) -> Result<String, AllocError> {
-    let said = quoted(alloc, word.as_bytes())?;
-    format!(in alloc; "{said} is one word too many: data of {rtype} end before it")
-}
-
-/// Of a word that is missing at the end of the line.
-pub fn told_of_missing(
-    alloc: Global,
-    words: &[&str],
-    refusal: Refusal,
-) -> Result<String, AllocError> {
-    match refusal.part {
-        Part::Owner => format!(in alloc; "the owner is missing"),
-        Part::Ttl => format!(in alloc; "the line ends here: TTL, class, type and data are missing"),
-        Part::Class => format!(in alloc; "the line ends here: class, type and data are missing"),
-        Part::Type => format!(in alloc; "the line ends here: type and data are missing"),
-        Part::Data | Part::Nothing => {
-            let data = words.get(4..).unwrap_or(&[]);
-            missing_data(alloc, Rtype::from_int(refusal.rtype), data)
-        }
-    }
+    format!(in alloc; "is no type: as A, or TYPE and its number")
 }

@@ -12,7 +12,6 @@
 #![tactic(auto)]
 
 mod alike;
-mod alike_text;
 mod command;
 mod data_hint;
 mod explain;
@@ -32,9 +31,7 @@ mod program;
 mod reading;
 mod refusal;
 mod report;
-mod seconds;
 mod wanted;
-mod words;
 mod zone;
 
 pub use fault::LintFault;

@@ -118,14 +118,14 @@ pub fn group_of<'z>(
 pub fn reason_of(
     look: Look,
     apex: &ParsedName<'_>,
-    first: Option<&BorrowedRecord<'_>>,
+    first: Option<&Earlier<'_, '_>>,
     borrowed: &BorrowedRecord<'_>,
 ) -> Option<Reason>
     ensures look { IfSome result (λ reason. look_of reason ≡ look) }
-    ensures some { IfSome result (λ reason.
-        Deserves reason apex.now (option_map (λ f. f.now) first.entry) borrowed.now) }
-    ensures none { IfNone result
-        (FindsNothing look apex.now (option_map (λ f. f.now) first.entry) borrowed.now) }
+    ensures some { IfSome result (λ reason. Deserves reason apex.now
+        (option_map (λ e. e.now.borrowed.now) first.entry) borrowed.now) }
+    ensures none { IfNone result (FindsNothing look apex.now
+        (option_map (λ e. e.now.borrowed.now) first.entry) borrowed.now) }
 {
     let rtype = borrowed.rtype();
     match look {
@@ -140,14 +140,14 @@ pub fn reason_of(
             Some(Reason::SecondSoa)
         }
         Look::Classes => {
-            if borrowed.class() == first?.class() {
+            if borrowed.class() == first?.borrowed.class() {
                 return None;
             }
             Some(Reason::OtherClass)
         }
         // RFC 2181, section 5.2; RRSIG records have the TTLs of what they sign.
         Look::Ttls => {
-            if rtype == Rtype::RRSIG || borrowed.ttl() == first?.ttl() {
+            if rtype == Rtype::RRSIG || borrowed.ttl() == first?.borrowed.ttl() {
                 return None;
             }
             Some(Reason::OtherTtl)
@@ -160,7 +160,7 @@ pub fn reason_of(
         }
         // RFC 1034, section 3.6.2.
         Look::Aliases => {
-            let first = first?;
+            let first = first?.borrowed;
             if stands_beside_alias(rtype) {
                 return None;
             }

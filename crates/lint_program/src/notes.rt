@@ -1,14 +1,14 @@
 //! What is told of records that were read: what makes a zone of them that has no chain, and what is
 //! no fault but is seldom meant. Nothing here decides whether there is a chain.
-ghost use Rattle.std.specs.Prelude.{◌≡◌, ◌++◌, List, OnOk, IfOk, length, map, option_map};
+ghost use Rattle.std.specs.Prelude.{◌≡◌, ◌==◌, ◌++◌, List, OnOk, IfOk, length, map, option_map};
 ghost use Rattle.std.specs.List.{list_any};
 ghost use Rattle.lint_program.specs.Notes.{is_apex_soa, mark_of, missing_soa, AreNoted, Found, IsToldOf, Mark};
 
-use crate::firsts::{Firsts, borrowed_of};
+use crate::firsts::Firsts;
 use crate::looks::{Earlier, Look, Reason, group_of, is_apex_soa, reason_of};
-use crate::note_text::{no_soa_text, text_of};
-use crate::reading::Place;
-use domain_base::ParsedName;
+use crate::note_text::text_of;
+use crate::reading::{Lines, Place};
+use domain_base::{ParsedName, ToName};
 use domain_borrowed::BorrowedRecord;
 use std::alloc::{AllocError, Global};
 
@@ -38,7 +38,7 @@ fn note_one(
         place.number more
         × (map mark_of notes.new.items ≡ map mark_of notes.old.items ++ more)) }
 {
-    let Some(reason) = reason_of(look, apex, borrowed_of(first), borrowed) else {
+    let Some(reason) = reason_of(look, apex, first, borrowed) else {
         return Ok(());
     };
     let text = text_of(alloc, apex, reason, first, borrowed, place)?;
@@ -55,18 +55,16 @@ fn note_each<'z, 'a>(
     alloc: Global,
     look: Look,
     apex: &'z ParsedName<'a>,
-    records: &'z [BorrowedRecord<'a>],
-    places: &[Place],
+    lines: &'z Lines<'a>,
     notes: &mut Vec<Note>,
 ) -> Result<(), AllocError>
-    requires { length places.now ≡ length records.now }
     ensures { OnOk result ((more : List Mark)
-        × Found look apex.now records.now (map (λ p. p.number) places.now) more
-        × (map mark_of notes.new.items ≡ map mark_of notes.old.items ++ more)) }
+        × Found look apex.now lines.now.records.items (map (λ p. p.number) lines.now.places.items)
+        more × (map mark_of notes.new.items ≡ map mark_of notes.old.items ++ more)) }
 {
     let mut firsts = Firsts::new(alloc);
-    for (i, borrowed) in records.iter().enumerate() {
-        let place = places[i];
+    for (i, borrowed) in lines.records.iter().enumerate() {
+        let place = lines.places[i];
         let group = group_of(look, apex, borrowed);
         let first = firsts.get(&group);
         note_one(alloc, look, apex, first, borrowed, place, notes)?;
@@ -79,12 +77,7 @@ fn note_each<'z, 'a>(
 fn has_soa(apex: &ParsedName<'_>, records: &[BorrowedRecord<'_>]) -> bool
     ensures { result ≡ list_any (is_apex_soa apex.now) records.now }
 {
-    for borrowed in records {
-        if is_apex_soa(apex, borrowed) {
-            return true;
-        }
-    }
-    false
+    records.iter().any(|borrowed| is_apex_soa(apex, borrowed))
 }
 
 /// Tells that the apex owns no SOA record, where it owns none and no line was bad.
@@ -101,7 +94,8 @@ fn note_no_soa(
     if !are_whole || has_soa(apex, records) {
         return Ok(());
     }
-    let text = no_soa_text(alloc, apex)?;
+    let apex = apex.fmt_with_dot();
+    let text = format!(in alloc; "{apex}")?;
     notes.push(Note {
         reason: Reason::NoSoa,
         place: None,
@@ -114,21 +108,25 @@ fn note_no_soa(
 pub fn notes_of(
     alloc: Global,
     apex: &ParsedName<'_>,
-    records: &[BorrowedRecord<'_>],
-    places: &[Place],
-    are_whole: bool,
+    lines: &Lines<'_>,
 ) -> Result<Vec<Note>, AllocError>
-    requires { length places.now ≡ length records.now }
-    ensures { IfOk result (λ notes. AreNoted are_whole apex.now records.now
-        (map (λ p. p.number) places.now) (map mark_of notes.items)) }
+    ensures { IfOk result (λ notes. AreNoted (length lines.now.bad.items == 0) apex.now
+        lines.now.records.items (map (λ p. p.number) lines.now.places.items)
+        (map mark_of notes.items)) }
 {
     let mut notes = Vec::new(alloc);
-    note_each(alloc, Look::Soas, apex, records, places, &mut notes)?;
-    note_no_soa(alloc, apex, records, are_whole, &mut notes)?;
-    note_each(alloc, Look::Classes, apex, records, places, &mut notes)?;
-    note_each(alloc, Look::Ttls, apex, records, places, &mut notes)?;
-    note_each(alloc, Look::Outside, apex, records, places, &mut notes)?;
-    note_each(alloc, Look::Aliases, apex, records, places, &mut notes)?;
-    note_each(alloc, Look::Data, apex, records, places, &mut notes)?;
+    note_each(alloc, Look::Soas, apex, lines, &mut notes)?;
+    note_no_soa(
+        alloc,
+        apex,
+        &lines.records,
+        lines.bad.is_empty(),
+        &mut notes,
+    )?;
+    note_each(alloc, Look::Classes, apex, lines, &mut notes)?;
+    note_each(alloc, Look::Ttls, apex, lines, &mut notes)?;
+    note_each(alloc, Look::Outside, apex, lines, &mut notes)?;
+    note_each(alloc, Look::Aliases, apex, lines, &mut notes)?;
+    note_each(alloc, Look::Data, apex, lines, &mut notes)?;
     Ok(notes)
 }

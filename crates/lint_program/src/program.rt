@@ -1,44 +1,30 @@
 //! The run of the program, over any reader and any writer.
-ghost use Rattle.std.specs.Prelude.{◌≡◌, ◌⊎◌, ◌++◌, List, Option, IfErr, IfOk, IsErrOf};
+ghost use Rattle.std.specs.Prelude.{◌≡◌, List, Option, IfErr, IfOk, IsErrOf};
 ghost use Rattle.std.specs.Prelude.{MatchResult, OnOk, IfSome, map, string_bytes};
 ghost use Rattle.std.specs.{Str.Lines.lines, Io.KnownBytes.Appends};
 ghost use Rattle.domain_octets.specs.Words.{Octets};
-ghost use Rattle.denial_program.specs.Fault.{IsBeforeOutput, IsReadToEnd};
-ghost use Rattle.denial_program.specs.declared.fault.DenialFault.TheVariants.{OutOfMemory as Memory};
-ghost use Rattle.denial_program.specs.Command.{Params};
 ghost use Rattle.domain_names.specs.Words.{Name};
 ghost use Rattle.domain_borrowed.specs.Data.{RawRecord};
 ghost use Rattle.domain_records.specs.declared.error.SigningError.{SigningError};
-ghost use Rattle.domain_alike.specs.Alike.{pair_of};
-ghost use Rattle.lint_program.specs.{Alike.alike_text, Command.{Asks, IsCommand, IsRunFault}};
-ghost use Rattle.lint_program.specs.{HashedReport.{IsRefused, IsTold}, Notes.mark_of};
-ghost use Rattle.lint_program.specs.{Outcomes.is_faulty, Report.{AreFaults, AreNotes, IsOutcome}};
+ghost use Rattle.denial_program.specs.{Command.Params, Fault.{IsBeforeOutput, IsReadToEnd}};
+ghost use Rattle.denial_program.specs.declared.fault.DenialFault.TheVariants.{OutOfMemory as Memory};
+ghost use Rattle.lint_program.specs.Command.{Asks, IsCommand, IsRunFault};
+ghost use Rattle.lint_program.specs.{Notes.mark_of, Report.{IsOutcome, IsRefused, IsTold}};
 ghost use Rattle.lint_program.specs.Zones.{IsUsable, IsZone};
 
-use crate::alike::alike_of;
-use crate::alike_text::{outcome_with, write_alike};
+use crate::alike::{alike_of, outcome_with};
 use crate::command::{Asked, asked_of};
 use crate::notes::{Note, notes_of};
 use crate::outcome::Outcome;
 use crate::reading::{BadLine, Lines, read_lines};
-use crate::report::{finish, write_faults, write_notes};
+use crate::report::write_report;
 use crate::zone::{Zone, are_refused, zone_of};
 use bumpalo::Bump;
-use denial_program::{DenialFault, ZoneName};
-use domain_alike::Alike;
-use domain_base::{ParsedName, ToName};
+use denial_program::{DenialFault, fault_of};
+use domain_base::ParsedName;
 use domain_dnssec::Nsec3Hasher;
 use std::alloc::Global;
 use std::io::{BufRead, Write};
-
-/// A copy of the apex in the arena.
-fn store_apex<'a>(arena: &'a Bump, apex: &ZoneName) -> Result<ParsedName<'a>, DenialFault>
-    ensures ok { IfOk result (λ copy. copy ≡ apex.now) }
-    ensures err { IfErr result (λ e. e ≡ Memory) }
-{
-    let wire = arena.try_alloc_slice_copy(apex.as_wire())?;
-    Ok(ParsedName::over(wire))
-}
 
 /// What was found but for names that hash alike, where these lines are bad and this is told of the
 /// records of the others.
@@ -64,30 +50,6 @@ fn outcome_of<'a>(
         return Ok(Outcome::Warned);
     }
     Ok(Outcome::Clean)
-}
-
-/// Writes what is told, and hands it on to the device; the outcome is that without names that hash
-/// alike.
-fn write_report<W: Write>(
-    alloc: Global,
-    bad: &[BadLine<'_>],
-    notes: &[Note],
-    outcome: Outcome,
-    alike: &[Alike<'_>],
-    output: &mut W,
-) -> Result<(), DenialFault>
-    ensures ok { OnOk result ((faults : Octets) × (noted : Octets)
-        × AreFaults (map (λ b. b.number) bad.now) faults
-        × AreNotes (is_faulty outcome) (map mark_of notes.now) noted
-        × Appends (W.contents output.old) (W.contents output.new)
-        ((faults ++ noted) ++ alike_text (map pair_of alike.now))) }
-    ensures err { IfErr result (λ e. (e ≡ DenialFault.Write) ⊎ (e ≡ Memory)) }
-{
-    write_faults(alloc, bad, output)?;
-    write_notes(alloc, notes, outcome.is_faulty(), output)?;
-    write_alike(alike, output)?;
-    finish(output)?;
-    Ok(())
 }
 
 /// Does what the words ask for: reads the records of the zone at the apex, one a line, and writes
@@ -132,21 +94,16 @@ pub fn run_lint<R: BufRead, W: Write, H: Nsec3Hasher>(
 
     ensures untouched { IfErr result (λ e. IsBeforeOutput e → output.new ≡ output.old) }
 {
-    let Asked {
-        apex: spelled,
-        parameters,
-    } = asked_of(alloc, words)?;
     let arena = Bump::new(alloc);
-    let apex = store_apex(&arena, &spelled)?;
-    let Lines {
-        bad,
-        records,
-        places,
-    } = read_lines(alloc, &arena, input)?;
-    let notes = notes_of(alloc, &apex, &records, &places, bad.is_empty())?;
+    let Asked { apex, parameters } = asked_of(alloc, &arena, words)?;
+    let lines = read_lines(alloc, &arena, input)?;
+    let notes = notes_of(alloc, &apex, &lines)?;
+    let Lines { bad, records, .. } = lines;
     let zone = zone_of(records)?;
     let outcome = outcome_of(alloc, &apex, &zone, &bad, &notes)?;
     let alike = alike_of(alloc, &apex, &zone, parameters, hasher)?;
-    write_report(alloc, &bad, &notes, outcome, &alike, output)?;
-    Ok(outcome_with(&alike, outcome))
+    match write_report(alloc, &bad, &notes, outcome, &alike, output) {
+        Ok(()) => Ok(outcome_with(&alike, outcome)),
+        Err(e) => Err(fault_of(&e, DenialFault::Write)),
+    }
 }

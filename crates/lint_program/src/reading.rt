@@ -39,6 +39,8 @@ pub struct Lines<'a> {
     pub records: Vec<BorrowedRecord<'a>>,
     /// Where each of these stands.
     pub places: Vec<Place>,
+
+    ghost paired: { length places.items ≡ length records.items },
 }
 
 /// What a line says.
@@ -100,7 +102,6 @@ pub fn read_lines<'a, R: BufRead>(
     ensures ok { IfOk result (λ read. IfSome (R.remaining input.old) (λ all.
         AreLinted 1 (lines all) (map (λ b. b.number) read.bad.items)
         (map (λ p. p.number) read.places.items) read.records.items)) }
-    ensures paired { IfOk result (λ read. length read.places.items ≡ length read.records.items) }
     ensures end { OnOk result (IsReadToEnd (R.remaining input.old) (R.remaining input.new)) }
     ensures err { IfErr result (λ e. (e ≡ DenialFault.Read) ⊎ (e ≡ OutOfMemory)) }
 {

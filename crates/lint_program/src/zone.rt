@@ -1,8 +1,6 @@
 //! Whether records have a chain.
 ghost use Rattle.std.specs.Prelude.{◌≡◌, List, IfErr, IfOk};
 ghost use Rattle.domain_borrowed.specs.Data.{RawRecord};
-ghost use Rattle.domain_records.specs.Order.{IsInOrder, IsOneClass};
-ghost use Rattle.denial_program.specs.Answer.{Sorts};
 ghost use Rattle.denial_program.specs.declared.fault.DenialFault.TheVariants.{OutOfMemory as Memory};
 ghost use Rattle.lint_program.specs.{Report.IfRefused, Zones.{IsUsable, IsZone}};
 
@@ -37,29 +35,6 @@ pub fn zone_of<'a>(records: Vec<BorrowedRecord<'a>>) -> Result<Zone<'a>, DenialF
     }
 }
 
-/// Whether sorted records have no NSEC chain.
-///
-/// # Errors
-///
-/// `OutOfMemory`.
-fn has_no_chain<'a>(
-    alloc: Global,
-    apex: &ParsedName<'a>,
-    sorted: &[BorrowedRecord<'a>],
-) -> Result<bool, DenialFault>
-    requires one_class { IsOneClass sorted.now }
-    requires in_order { IsInOrder (λ n. n) (λ d. d.rtype) sorted.now }
-    ensures ok { IfOk result (λ is_none. (given : List RawRecord) → Sorts given sorted.now
-        → IfRefused is_none given apex.now) }
-    ensures err { IfErr result (λ e. e ≡ Memory) }
-{
-    match nsecs_of(alloc, apex, sorted) {
-        Ok(_answer) => Ok(false),
-        Err(DenialFault::Signing(_error)) => Ok(true),
-        Err(_fault) => Err(DenialFault::OutOfMemory),
-    }
-}
-
 /// Whether records have no NSEC chain, so that `denial nsec` refuses them.
 ///
 /// # Errors
@@ -77,6 +52,10 @@ pub fn are_refused<'a>(
 {
     match zone {
         Zone::Mixed => Ok(true),
-        Zone::Sorted(sorted) => has_no_chain(alloc, apex, sorted),
+        Zone::Sorted(sorted) => match nsecs_of(alloc, apex, sorted) {
+            Ok(_answer) => Ok(false),
+            Err(DenialFault::Signing(_error)) => Ok(true),
+            Err(_fault) => Err(DenialFault::OutOfMemory),
+        },
     }
 }
