@@ -8,7 +8,8 @@ use Rattle.domain_answer.specs.declared.answer.Answer.{Answer}
 use Rattle.denial_program.specs.{Check.{AreNsec3s, AreParams}, declared.{command.Question.Question, fault.DenialFault.DenialFault}}
 use Rattle.denial_program.specs.declared.fault.DenialFault.TheVariants.{Write, OutOfMemory}
 use Rattle.judge_program.specs.{Judged.{IsAnswerAsked, IsNotNsec3Judged}, Run.{IsNsec3Text, IsUnwritten}, Text.first_line}
-use Rattle.judge_program.specs.{declared.{command.Nsec3Options.Nsec3Options, shown.Shown.Shown}, Needs.rests_on_records, Told.{below_text, AreNsec3Told, Tellings}}
+use Rattle.judge_program.specs.{declared.{command.Nsec3Options.Nsec3Options, shown.Shown.Shown}, Needs.rests_on_records}
+use Rattle.judge_program.specs.Told.{below_text, AreNsec3Told, Tellings}
 
 pub nsec3_text_is : (hashes : HasherAnswer) (given : List RawRecord) (q : Question) (asked : Nsec3Options) (shown : Shown) (param : ParamRecord)
     (links : List HashedLink) (answer : Answer) (told : Tellings) → AreParams q.apex given (param ∷ []) → AreNsec3s given links

@@ -6,7 +6,8 @@ use Rattle.domain_borrowed.specs.Data.{RawRecord}
 use Rattle.domain_nsec.specs.Chain.{Link}
 use Rattle.domain_answer.specs.{Proved.{IsAnswered, RestsOn}, Reading.reading, declared.answer.Answer.Answer}
 use Rattle.denial_program.specs.{Check.AreNsecs, declared.{command.Question.Question, fault.DenialFault.{DenialFault, TheVariants.{Write, OutOfMemory}}}}
-use Rattle.judge_program.specs.{Run.{HasNoText, IsNsecText, IsText, IsUnwritten}, Text.first_line, Told.{below_text, nsec_tellings, Tellings}, declared.shown.Shown.Shown}
+use Rattle.judge_program.specs.{Run.{HasNoText, IsNsecText, IsText, IsUnwritten}, Text.first_line, Told.{below_text, nsec_tellings, Tellings}}
+use Rattle.judge_program.specs.declared.shown.Shown.{Shown}
 use Rattle.judge_program.specs.declared.command.ChainKind.{ChainKind}
 
 -- where writing failed there was an answer

@@ -1,5 +1,6 @@
 -- What records tell of names, as it is written; the errors of hashes.
-use Rattle.std.proofs.{Common.{arith, ◌≡◌, ◌⊎◌, ℕ, Bool, ◌||◌, List, [], ◌++◌, codes, ap, sym, ◌∙◌, Option, Some, None, if◌then◌else◌}, lemmas.{Grind.common_steps, List.Folds.list_any-append}}
+use Rattle.std.proofs.Common.{arith, ◌≡◌, ◌⊎◌, ℕ, Bool, ◌||◌, List, [], ◌++◌, codes, ap, sym, ◌∙◌, Option, Some, None, if◌then◌else◌}
+use Rattle.std.proofs.lemmas.{Grind.common_steps, List.Folds.list_any-append}
 use Rattle.std.specs.{Fmt.decimal, Io.KnownBytes.Appends, List.list_any, Option.{is_some, option_map}}
 use Rattle.domain_octets.specs.Words.{Octets}
 use Rattle.domain_names.specs.Text.{name_text}
@@ -8,7 +9,8 @@ use Rattle.domain_chain_rdata.specs.Nsec3paramText.{nsec3param_text}
 use Rattle.domain_nsec3.specs.Chain.{ParamRecord}
 use Rattle.domain_hasher.specs.declared.error.Nsec3HashError.{Nsec3HashError, TheVariants.{Hasher, OutOfMemory}}
 use Rattle.domain_records.specs.declared.error.SigningError.TheVariants.{Nsec3HashingError}
-use Rattle.denial_program.{specs.{Text.nsec3param_line, declared.fault.DenialFault.{DenialFault, TheVariants.{OutOfMemory as Memory, Signing}}}, proofs.RunLemmas.{appends_more, parts_of_line}}
+use Rattle.denial_program.specs.{Text.nsec3param_line, declared.fault.DenialFault.{DenialFault, TheVariants.{OutOfMemory as Memory, Signing}}}
+use Rattle.denial_program.proofs.RunLemmas.{appends_more, parts_of_line}
 use Rattle.judge_program.specs.{Judged.IsRefusedWith, Told.{is_same, line_of, line_once, param_line, AnyLink}}
 
 -- an error of a hash as a fault

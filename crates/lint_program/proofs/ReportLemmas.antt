@@ -1,5 +1,6 @@
 -- The lines of a report, one after another.
-use Rattle.std.proofs.{Common.{arith, ◌≡◌, ℕ, ◌+◌, List, [], ◌∷◌, ◌++◌, Option, refl, ap, map, sym, ◌∙◌, subst, take, append-nil, append_assoc}, lemmas.{Grind.common_steps, List.map-append}}
+use Rattle.std.proofs.Common.{arith, ◌≡◌, ℕ, ◌+◌, List, [], ◌∷◌, ◌++◌, Option, refl, ap, map, sym, ◌∙◌, subst, take, append-nil, append_assoc}
+use Rattle.std.proofs.lemmas.{Grind.common_steps, List.map-append}
 use Rattle.std.specs.Io.KnownBytes.{Appends}
 use Rattle.domain_octets.specs.Words.{Octets}
 use Rattle.denial_program.proofs.RunLemmas.{appends_more}

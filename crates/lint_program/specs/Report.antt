@@ -9,7 +9,8 @@ use Rattle.domain_nsec3.specs.View.{HasherAnswer}
 use Rattle.domain_hasher.specs.declared.error.Nsec3HashError.TheVariants.{Hasher}
 use Rattle.domain_records.specs.declared.error.SigningError.{SigningError, TheVariants.Nsec3HashingError}
 use Rattle.denial_program.specs.{Answer.{HasNoNsecs, IsNsecs}, Command.Params, Fault.IsOfRecords, declared.{answer.Reply.Reply, fault.DenialFault.DenialFault}}
-use Rattle.lint_program.specs.{Alike.{alike_text, outcome_with, AreTold, IsRefusalBy}, Command.Asks, Lines.AreLinted, NoteText.{closing, opening}, Notes.{fails, AreNoted, Mark}, Outcomes.is_faulty}
+use Rattle.lint_program.specs.{Alike.{alike_text, outcome_with, AreTold, IsRefusalBy}, Command.Asks, Lines.AreLinted, NoteText.{closing, opening}}
+use Rattle.lint_program.specs.{Notes.{fails, AreNoted, Mark}, Outcomes.is_faulty}
 use Rattle.lint_program.specs.declared.outcome.Outcome.{Outcome, TheVariants.{Clean, Warned, Faulty}}
 
 -- the octet is printed, and no end of a line

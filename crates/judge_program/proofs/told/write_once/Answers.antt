@@ -18,5 +18,6 @@ returns g c =
     let old = g.W.Write.contents c.args.output.now in
     let new = g.W.Write.contents c.writeln.new.self in
     subst (λ f. OnOk c.writeln.result (Appends old new (line_once (first ++ second) (option_map any_of f)))) (sym c.in-Some.is)
-    (on_ok (subst (Appends old new) (sym (once first second (any_of c.in-Some.listed) _ _ false c.is_told.ensures c.is_told-2.ensures c.if-is_told.false))) c.writeln.result
-    c.writeln.ensures.bytes)
+    (on_ok (subst (Appends old new)
+    (sym (once first second (any_of c.in-Some.listed) _ _ false c.is_told.ensures c.is_told-2.ensures c.if-is_told.false)))
+    c.writeln.result c.writeln.ensures.bytes)
