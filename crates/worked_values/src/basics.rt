@@ -6,5 +6,4 @@ pub mod hashes;
 pub mod names;
 pub mod numbers;
 pub mod octets;
-pub mod scanned;
 mod times;

@@ -2,36 +2,46 @@
 //! what the library makes of it.
 #![tactic(auto)]
 
+/// The value of a result, or a return with its error: what `?` does, for values to which the prover
+/// does not follow it.
+macro_rules! given {
+    ($made:expr) => {
+        match $made {
+            Ok(value) => value,
+            Err(error) => return Err(error),
+        }
+    };
+}
+
 mod basics;
 mod chains;
 mod data;
 mod lines;
 mod zones;
 
-use basics::{bitmaps, codecs, constants, hashes, names, numbers, octets, scanned};
+use basics::{bitmaps, codecs, constants, hashes, names, numbers, octets};
 use chains::{nsec, nsec3};
 use domain_base::ScanError;
-use lines::{Answers, input};
-use std::alloc::Global;
+use lines::{Answered, Answers, input};
 use std::io;
 
 /// Answers one vector: its subject, its form, and the words after these.
-fn answer(alloc: Global, words: &[&str], answers: &mut Answers) -> Result<(), ScanError> {
+fn answer(words: &[&str], answers: &mut Answers) -> Answered {
     let (subject, form) = (input::word(words, 0), input::word(words, 1));
     let words = words.get(2..).unwrap_or_default();
     match subject {
-        "octets" => octets::answer(alloc, form, words, answers),
-        "codec" => codecs::answer(alloc, form, words, answers),
+        "octets" => octets::answer(form, words, answers),
+        "codec" => codecs::answer(form, words, answers),
         "constant" => constants::answer(form, answers),
-        "name" => names::answer(alloc, form, words, answers),
-        "number" => numbers::answer(alloc, form, words, answers),
-        "scan" => scanned::answer(form, words, answers),
-        "bitmap" => bitmaps::answer(alloc, form, words, answers),
-        "counted" => hashes::answer(alloc, form, words, answers),
-        "data" => data::answer(alloc, form, words, answers),
-        "records" => zones::answer(alloc, form, words, answers),
-        "nsec" => nsec::answer(alloc, form, words, answers),
-        "nsec3" => nsec3::answer(alloc, form, words, answers),
+        "name" => names::answer(form, words, answers),
+        "number" => numbers::answer(form, words, answers),
+        "scan" => numbers::scanned(form, words, answers),
+        "bitmap" => bitmaps::answer(form, words, answers),
+        "counted" => hashes::answer(form, words, answers),
+        "data" => data::answer(form, words, answers),
+        "records" => zones::answer(form, words, answers),
+        "nsec" => nsec::answer(form, words, answers),
+        "nsec3" => nsec3::answer(form, words, answers),
         _ => Err(ScanError::Custom("no such vector")),
     }
 }

@@ -1,16 +1,18 @@
 //! Numbers, types, classes and algorithms as tokens.
-use crate::basics::codecs::codec_of;
+use crate::basics::codecs::split_codec;
 use crate::basics::times;
 use crate::lines::input::Tokens;
-use crate::lines::{Answers, input};
+use crate::lines::{Answered, Answers, input};
 use domain_base::{
-    Class, DigestAlgorithm, FromToken, IterScanner, Nsec3HashAlgorithm, Rtype, ScanError, Scanner,
+    Class, DigestAlgorithm, FromToken, IterScanner, Nsec3HashAlgorithm, Rtype, Scanner,
     SecurityAlgorithm, Ttl,
 };
-use domain_codecs::Codec;
 use domain_octets::ArrayBuilder;
-use std::alloc::Global;
+use domain_rrsig::Timestamp;
 use std::fmt::Display;
+
+/// Tokens whose octets have room for two.
+type Two<'a> = IterScanner<'a, ArrayBuilder<2>>;
 
 /// The value that the first token spells.
 fn scan<F: FromToken + Display + Drop>(tokens: &[&str], answers: &mut Answers) {
@@ -19,77 +21,55 @@ fn scan<F: FromToken + Display + Drop>(tokens: &[&str], answers: &mut Answers) {
     answers.debug("next", &scanner.first_token());
 }
 
-/// The number of a type that is named, or the name of one that is numbered.
-fn one_type(word: &str, answers: &mut Answers) {
-    if let Ok(number) = word.parse::<u16>() {
-        return answers.show(word, &Rtype::from_int(number));
+/// The number of each type that is named, and the name of each that is numbered.
+fn types(words: &[&str], answers: &mut Answers) -> Answered {
+    for word in words {
+        match word.parse::<u16>() {
+            Ok(number) => answers.show(word, &Rtype::from_int(number)),
+            Err(_) => answers.show(word, &given!(Rtype::from_token(word)).to_int()),
+        }
     }
-    match <Rtype as FromToken>::from_token(word) {
-        Ok(rtype) => answers.show(word, &rtype.to_int()),
-        Err(error) => answers.refused(&error),
-    }
+    Ok(())
 }
 
-/// The number of a class that is named, or the name of one that is numbered.
-fn one_class(word: &str, answers: &mut Answers) {
-    if let Ok(number) = word.parse::<u16>() {
-        return answers.show(word, &Class::from_int(number));
+/// The number of each class that is named, and the name of each that is numbered.
+fn classes(words: &[&str], answers: &mut Answers) -> Answered {
+    for word in words {
+        match word.parse::<u16>() {
+            Ok(number) => answers.show(word, &Class::from_int(number)),
+            Err(_) => answers.show(word, &given!(Class::from_token(word)).to_int()),
+        }
     }
-    match <Class as FromToken>::from_token(word) {
-        Ok(class) => answers.show(word, &class.to_int()),
-        Err(error) => answers.refused(&error),
-    }
+    Ok(())
 }
 
-/// The octets that the next token, or all of them, stand for, and why they stand for no two.
-fn convert(alloc: Global, codec: Codec, tokens: &[&str], answers: &mut Answers) {
+/// The octets that one token, or all, stand for in an alphabet, and why they stand for no two.
+fn convert(words: &[&str], answers: &mut Answers) {
+    let (alloc, (_, codec)) = (answers.alloc, split_codec(input::word(words, 0)));
+    let tokens = words.get(1..).unwrap_or_default();
     let mut scanner = Tokens::new(tokens);
     answers.debug("token", &scanner.convert_token(alloc, codec));
     answers.debug("next", &scanner.first_token());
-    let mut scanner = Tokens::new(tokens);
-    answers.debug("entry", &scanner.convert_entry(alloc, codec));
-    let mut scanner = IterScanner::<ArrayBuilder<2>>::new(tokens);
-    answers.fault(
-        "token into ArrayBuilder<2>",
-        scanner.convert_token(alloc, codec),
-    );
-    let mut scanner = IterScanner::<ArrayBuilder<2>>::new(tokens);
-    answers.fault(
-        "entry into ArrayBuilder<2>",
-        scanner.convert_entry(alloc, codec),
-    );
+    answers.debug("entry", &Tokens::new(tokens).convert_entry(alloc, codec));
+    let token = Two::new(tokens).convert_token(alloc, codec);
+    answers.fault("token into ArrayBuilder<2>", token);
+    let entry = Two::new(tokens).convert_entry(alloc, codec);
+    answers.fault("entry into ArrayBuilder<2>", entry);
 }
 
-/// How many characters the first token has, by a function that is handed it.
-fn measure(tokens: &[&str], answers: &mut Answers) {
-    let mut scanner = Tokens::new(tokens);
-    answers.debug("continues", &scanner.continues());
-    answers.debug("length", &scanner.scan_ascii_str(|token| token.len()));
-    answers.debug("continues", &scanner.continues());
-}
-
-/// Answers a vector on numbers: each of some types or classes, tokens as octets, one value that is
-/// a token, or a serial number or a time.
-pub fn answer(
-    alloc: Global,
-    form: &str,
-    words: &[&str],
-    answers: &mut Answers,
-) -> Result<(), ScanError> {
-    let (first, rest) = (input::word(words, 0), words.get(1..).unwrap_or_default());
+/// Answers a vector on numbers: each of some types or classes, tokens as octets, how many
+/// characters the first token has, one value that is a token, or a serial number or a time.
+pub fn answer(form: &str, words: &[&str], answers: &mut Answers) -> Answered {
     match form {
-        "types" => {
-            for word in words {
-                one_type(word, answers);
-            }
+        "types" => return types(words, answers),
+        "classes" => return classes(words, answers),
+        "convert" => convert(words, answers),
+        "measure" => {
+            let mut scanner = Tokens::new(words);
+            answers.debug("continues", &scanner.continues());
+            answers.debug("length", &scanner.scan_ascii_str(str::len));
+            answers.debug("continues", &scanner.continues());
         }
-        "classes" => {
-            for word in words {
-                one_class(word, answers);
-            }
-        }
-        "convert" => convert(alloc, codec_of(first), rest, answers),
-        "measure" => measure(words, answers),
         "u8" => scan::<u8>(words, answers),
         "u16" => scan::<u16>(words, answers),
         "u32" => scan::<u32>(words, answers),
@@ -99,7 +79,24 @@ pub fn answer(
         "algorithm" => scan::<SecurityAlgorithm>(words, answers),
         "digest" => scan::<DigestAlgorithm>(words, answers),
         "hash" => scan::<Nsec3HashAlgorithm>(words, answers),
-        _ => times::answer(alloc, form, words, answers),
+        _ => return times::answer(form, words, answers),
     }
+    Ok(())
+}
+
+/// Answers a vector on a value that one token spells, by its own `scan`.
+pub fn scanned(form: &str, tokens: &[&str], answers: &mut Answers) -> Answered {
+    let mut scanner = Tokens::new(tokens);
+    let label = "value";
+    match form {
+        "type" => answers.show_or_refused(label, &Rtype::scan(&mut scanner)),
+        "class" => answers.show_or_refused(label, &Class::scan(&mut scanner)),
+        "ttl" => answers.show_or_refused(label, &Ttl::scan(&mut scanner)),
+        "time" => answers.show_or_refused(label, &Timestamp::scan(&mut scanner)),
+        "key-algorithm" => answers.show_or_refused(label, &SecurityAlgorithm::scan(&mut scanner)),
+        "digest-algorithm" => answers.show_or_refused(label, &DigestAlgorithm::scan(&mut scanner)),
+        _ => answers.show_or_refused(label, &Nsec3HashAlgorithm::scan(&mut scanner)),
+    }
+    answers.debug("continues", &scanner.continues());
     Ok(())
 }

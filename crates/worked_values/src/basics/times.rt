@@ -1,29 +1,24 @@
 //! Serial numbers, and times of signatures (RFC 1982; RFC 4034, section 3).
 use crate::lines::input::Tokens;
-use crate::lines::{Answers, input};
+use crate::lines::{Answered, Answers, input};
 use domain_base::{CanonicalOrd, FromToken, Serial};
 use domain_octets::{DisplayKind, Parser, ZonefileFmt};
 use domain_rrsig::{IllegalSignatureTime, Timestamp};
-use std::alloc::Global;
-use std::fmt;
-use std::fmt::{Display, Write};
+use std::fmt::Write;
 use std::str::FromStr;
 
 /// The serial number that a text spells, as text and as octets.
-fn serial(alloc: Global, text: &str, answers: &mut Answers) {
-    match Serial::from_str(text) {
-        Ok(serial) => {
-            answers.show("text", &serial);
-            let mut octets = Vec::new(alloc);
-            answers.debug("composed", &serial.compose(&mut octets));
-            answers.octets("octets", &octets);
-            match Serial::parse(&mut Parser::new(octets.as_slice())) {
-                Ok(parsed) => answers.show("parsed", &parsed.into_int()),
-                Err(error) => answers.refused(&error),
-            }
-        }
+fn serial(text: &str, answers: &mut Answers) -> Answered {
+    let serial = given!(Serial::from_str(text));
+    answers.show("text", &serial);
+    let mut octets = Vec::new(answers.alloc);
+    answers.debug("composed", &serial.compose(&mut octets));
+    answers.octets("octets", &octets);
+    match Serial::parse(&mut Parser::new(octets.as_slice())) {
+        Ok(parsed) => answers.show("parsed", &parsed.into_int()),
         Err(error) => answers.refused(&error),
     }
+    Ok(())
 }
 
 /// How two serial numbers, or times, compare.
@@ -40,9 +35,9 @@ fn serials(a: &str, b: &str, answers: &mut Answers) {
 }
 
 /// The time that a text spells, and that it spells as a token.
-fn time(alloc: Global, text: &str, answers: &mut Answers) {
+fn time(text: &str, answers: &mut Answers) {
     match text.parse::<Timestamp>() {
-        Ok(stamp) => show_time(alloc, stamp, answers),
+        Ok(stamp) => show_time(stamp, answers),
         Err(IllegalSignatureTime) => answers.show("refused", &IllegalSignatureTime),
     }
     let scanned = <Timestamp as FromToken>::scan(&mut Tokens::new(&[text]));
@@ -50,33 +45,19 @@ fn time(alloc: Global, text: &str, answers: &mut Answers) {
 }
 
 /// A time in each of its forms.
-fn show_time(alloc: Global, stamp: Timestamp, answers: &mut Answers) {
+fn show_time(stamp: Timestamp, answers: &mut Answers) {
     answers.debug("read", &stamp);
-    let text = stamp.display_zonefile(alloc, DisplayKind::Simple);
+    let text = stamp.display_zonefile(answers.alloc, DisplayKind::Simple);
     answers.debug("zone file", &text);
-    let mut octets = Vec::new(alloc);
+    let mut octets = Vec::new(answers.alloc);
     answers.debug("composed", &stamp.compose(&mut octets));
     answers.octets("octets", &octets);
     let mut parser = Parser::new(octets.as_slice());
-    parse(&mut parser, answers);
-    parse(&mut parser, answers);
-}
-
-/// The time that octets begin with.
-fn parse(parser: &mut Parser<'_>, answers: &mut Answers) {
-    match Timestamp::parse(parser) {
-        Ok(parsed) => answers.show("parsed", &parsed.into_int()),
-        Err(error) => answers.refused(&error),
-    }
-}
-
-/// A number that prints in Base 16.
-#[derive(Drop)]
-struct Base16(u64);
-
-impl Display for Base16 {
-    fn fmt<W: fmt::Write>(&self, f: &mut fmt::Formatter<W>) -> fmt::Result {
-        write!(f, "{:x}", self.0)
+    for _ in 0..2 {
+        match Timestamp::parse(&mut parser) {
+            Ok(parsed) => answers.show("parsed", &parsed.into_int()),
+            Err(error) => answers.refused(&error),
+        }
     }
 }
 
@@ -88,18 +69,19 @@ fn near(stamp: &str, reference: &str, answers: &mut Answers) {
         return answers.echo("  no numbers");
     };
     match Timestamp::from(stamp).to_system_time(reference) {
-        Some(time) => answers.show("time", &Base16(time)),
+        Some(time) => answers.show_or_refused("time", &format!(in answers.alloc; "{time:x}")),
         None => answers.show("time", &"none"),
     }
 }
 
 /// Answers a vector on serial numbers and times.
-pub fn answer(alloc: Global, form: &str, words: &[&str], answers: &mut Answers) {
+pub fn answer(form: &str, words: &[&str], answers: &mut Answers) -> Answered {
     let (first, second) = (input::word(words, 0), input::word(words, 1));
     match form {
-        "serial" => serial(alloc, first, answers),
+        "serial" => return serial(first, answers),
         "serials" => serials(first, second, answers),
-        "time" => time(alloc, first, answers),
+        "time" => time(first, answers),
         _ => near(first, second, answers),
     }
+    Ok(())
 }

@@ -5,7 +5,7 @@ ghost use Rattle.worked_values.specs.Table.{table_answer};
 use crate::lines::{OwnName, input};
 use domain_base::{Nsec3HashAlgorithm, ScanError, ToName};
 use domain_dnssec::{HasherError, Nsec3Hasher};
-use std::alloc::{AllocError, Global};
+use std::alloc::Global;
 
 /// A name in the octets of its wire form in lower case, and its hash, for which there may be no
 /// memory.
@@ -23,20 +23,8 @@ pub struct TableHasher {
     rows: Vec<Row>,
 }
 
-/// A copy of octets.
-fn copied(alloc: Global, octets: &[u8]) -> Result<Vec<u8>, HasherError>
-    ensures ok { IfOk result (λ copy. copy.items ≡ octets.now) }
-    ensures refused { (n : ℕ) → IsErrOf result (HasherError.Refused n) → ⊥ }
-{
-    let mut copy = Vec::new(alloc);
-    match copy.extend_from_slice(octets) {
-        Ok(()) => Ok(copy),
-        Err(AllocError) => Err(HasherError::OutOfMemory),
-    }
-}
-
 /// What the rows of a table answer.
-fn look_up(alloc: Global, rows: &[Row], name: &[u8]) -> Result<Vec<u8>, HasherError>
+fn look_up(rows: &[Row], name: &[u8]) -> Result<Vec<u8>, HasherError>
     ensures ok { IfOk result (λ hash. table_answer rows.now name.now ≡ Ok hash.items) }
     ensures refused { (n : ℕ) → IsErrOf result (HasherError.Refused n)
         → table_answer rows.now name.now ≡ Err n }
@@ -48,9 +36,9 @@ fn look_up(alloc: Global, rows: &[Row], name: &[u8]) -> Result<Vec<u8>, HasherEr
         if !row.has_memory {
             return Err(HasherError::OutOfMemory);
         }
-        return copied(alloc, row.hash.as_slice());
+        return Ok(row.hash.clone()?);
     }
-    look_up(alloc, later, name)
+    look_up(later, name)
 }
 
 impl Nsec3Hasher for TableHasher {
@@ -67,22 +55,21 @@ impl Nsec3Hasher for TableHasher {
         iterations: u16,
         salt: &[u8],
     ) -> Result<Vec<u8>, HasherError> {
-        look_up(alloc, self.rows.as_slice(), name)
+        look_up(self.rows.as_slice(), name)
     }
 }
 
 /// The row that a word spells: a name, and after `=` the octets of its hash in Base 16, or `memory`
 /// where there is none for them.
 fn make_row(alloc: Global, word: &str) -> Result<Row, ScanError> {
-    let (name, digits) = word.split_once('=').unwrap_or((word, "-"));
-    let name = OwnName::from_str(alloc, name)?;
-    let mut lowered = Vec::new(alloc);
-    name.compose_canonical(&mut lowered)?;
+    let (text, digits) = word.split_once('=').unwrap_or((word, "-"));
+    let mut name = Vec::new(alloc);
+    OwnName::from_str(alloc, text)?.compose_canonical(&mut name)?;
     let has_memory = digits != "memory";
-    let digits = if has_memory { digits } else { "-" };
+    let hash = input::octets(alloc, &[if has_memory { digits } else { "-" }])?;
     Ok(Row {
-        name: lowered,
-        hash: input::octets(alloc, &[digits])?,
+        name,
+        hash,
         has_memory,
     })
 }

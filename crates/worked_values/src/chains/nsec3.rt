@@ -1,55 +1,230 @@
-//! NSEC3 chains of small zones (RFC 5155, section 7.1).
+//! NSEC3 chains of small zones (RFC 5155, section 7.1), what their records prove and answer as a
+//! whole (RFC 5155, section 8), and which of them a server answers with (RFC 5155, section 7.2).
 use crate::chains::hashers::table;
-use crate::chains::{denials, verdicts};
-use crate::lines::records::{Zone, list, records, zone};
-use crate::lines::{Answers, OwnName, input};
+use crate::lines::input::{Tokens, is_slash, question};
+use crate::lines::records::{Typed, records, typed, zone};
+use crate::lines::{Answered, Answers, OwnName, input};
 use crate::zones::RefusingSorter;
-use domain_base::{Nsec3HashAlgorithm, ScanError, Ttl};
+use domain_answer::{judge_nsec3, judge_nsec3_expansion};
+use domain_base::{Class, Nsec3HashAlgorithm, ScanError, Ttl};
 use domain_dnssec::{
     ChainError, DefaultSorter, GenerateNsec3Config, Nsec3Chain, Nsec3Hasher, Nsec3ParamTtlMode,
-    Nsec3Records, generate_nsec3s, generate_nsec3s_of_records, mk_hashed_nsec3_owner_name,
+    Nsec3Records, check_nsec3, deny_nsec3, generate_nsec3s, generate_nsec3s_of_records,
+    mk_hashed_nsec3_owner_name,
 };
-use domain_rdata::{Nsec3Salt, Nsec3param};
+use domain_rdata::{Nsec3, Nsec3Salt, Nsec3param, ZoneRecordData};
+use domain_record::Record;
 use domain_sha1::Sha1Hasher;
 use std::alloc::Global;
-use std::fmt::Debug;
 
-/// A salt.
-type Salt = Nsec3Salt<Vec<u8>>;
+/// NSEC3 records.
+type Nsec3s = Vec<Typed<Nsec3<Vec<u8>>>>;
+
+/// A chain with its NSEC3PARAM record.
+type Made = Nsec3Records<OwnName, Vec<u8>>;
+
+/// A chain that lends its records.
+type Chain<'a> = Nsec3Chain<'a, Vec<u8>>;
 
 /// How the chains here are made.
 type Config = GenerateNsec3Config<Vec<u8>, DefaultSorter>;
 
-/// A chain with its NSEC3PARAM record, each record on a line, or why there is none.
-fn show<E: Debug + Drop>(made: Result<Nsec3Records<OwnName, Vec<u8>>, E>, answers: &mut Answers) {
+/// How the same are made by a sorter without memory.
+type RefusingConfig = GenerateNsec3Config<Vec<u8>, RefusingSorter>;
+
+/// The greatest number of iterations that answers are asked for with.
+const MOST_ITERATIONS: u16 = 12;
+
+/// A chain, each record on a line, or why there is none.
+fn show(made: Result<Made, ChainError>, answers: &mut Answers) {
     match made {
         Ok(made) => {
-            list(made.nsec3s.as_slice(), answers);
+            answers.records(made.nsec3s.as_slice());
             answers.show("record", &made.nsec3param);
         }
         Err(error) => answers.refused(&error),
     }
 }
 
-/// The salt that a word spells; without a word there is none.
-fn salt(alloc: Global, word: &str) -> Result<Salt, ScanError> {
-    let text = if word.is_empty() { "-" } else { word };
-    match Salt::from_str(alloc, text) {
-        Ok(salt) => Ok(salt),
-        Err(_) => Err(ScanError::Custom("no salt")),
+/// The records of a chain as it lends them, each on a line, none past the last one.
+fn lend(chain: &Chain<'_>, answers: &mut Answers) {
+    for place in 0..chain.len() {
+        if let Some(nsec3) = chain.lend(place) {
+            answers.show("record", &nsec3);
+        }
+    }
+    if chain.lend(chain.len()).is_none() {
+        answers.echo("  no further record");
+    }
+    answers.show("record", chain.nsec3param());
+}
+
+/// Adds the owner of the record at a place of a chain, where one is given.
+fn add_owner(label: &str, chain: &Chain<'_>, place: Option<usize>, answers: &mut Answers) {
+    if let Some(listed) = chain.lend(place.unwrap_or(chain.len())) {
+        answers.show(label, listed.owner());
     }
 }
 
-/// What a form asks of the generator.
-fn config(form: &str, iterations: u16, salt: Salt) -> Config {
+/// The NSEC3 records that words spell.
+fn nsec3s(alloc: Global, words: &[&str]) -> Result<Nsec3s, ScanError> {
+    let mut nsec3s = Vec::new(alloc);
+    for record in &records(alloc, words)? {
+        if let ZoneRecordData::Nsec3(data) = record.data() {
+            nsec3s.push(typed(record, data)?)?;
+        }
+    }
+    Ok(nsec3s)
+}
+
+/// What the chain of a zone is made by.
+#[derive(Drop)]
+struct Hashing<'a, H> {
+    apex: &'a OwnName,
+    config: &'a Config,
+    hasher: &'a H,
+}
+
+impl<H: Nsec3Hasher> Hashing<'_, H> {
+    /// The owner of the NSEC3 record of a name, or why there is none.
+    fn owner(&self, word: &str, answers: &mut Answers) -> Answered {
+        let name = OwnName::from_str(answers.alloc, word)?;
+        let params = &self.config.params;
+        let owner = mk_hashed_nsec3_owner_name(
+            answers.alloc,
+            &name,
+            params.hash_algorithm(),
+            params.iterations(),
+            params.salt(),
+            self.apex,
+            self.hasher,
+        );
+        answers.show_or_refused("owner", &owner);
+        Ok(())
+    }
+
+    /// The chain of records in any order, or why they have none.
+    fn of_any_order(&self, words: &[&str], answers: &mut Answers) -> Answered {
+        let (alloc, config, hasher) = (answers.alloc, self.config, self.hasher);
+        let given = records(alloc, words)?;
+        let made = generate_nsec3s_of_records(alloc, self.apex, given, config, hasher);
+        show(made, answers);
+        Ok(())
+    }
+
+    /// The chain of sorted records, made all at once, or why there is none; by a sorter that has no
+    /// memory, where the form asks for it.
+    fn made(&self, form: &str, words: &[&str], answers: &mut Answers) -> Answered {
+        let (alloc, apex, hasher) = (answers.alloc, self.apex, self.hasher);
+        let zone = zone(alloc, words)?;
+        let groups = zone.owner_rrs();
+        if !groups.is_one_class() {
+            answers.refused(&ChainError::MixedClasses);
+            return Ok(());
+        }
+        let made = if form == "unsorted" {
+            generate_nsec3s(alloc, apex, groups, &RefusingConfig::default(alloc), hasher)
+        } else {
+            generate_nsec3s(alloc, apex, groups, self.config, hasher)
+        };
+        show(made.map_err(ChainError::from), answers);
+        Ok(())
+    }
+
+    /// What is picked of a chain to answer each name and type with.
+    fn deny(&self, chain: &Chain<'_>, asked: &[&str], answers: &mut Answers) -> Answered {
+        for words in asked.split(is_slash) {
+            let (name, rtype) = question(answers.alloc, words)?;
+            match deny_nsec3(answers.alloc, chain, &name, rtype, self.hasher) {
+                Ok(denial) => {
+                    answers.debug("answer", &denial.answer);
+                    add_owner("closest encloser", chain, denial.of_encloser, answers);
+                    add_owner("next closer name", chain, denial.of_next_closer, answers);
+                    add_owner("wildcard", chain, denial.of_wildcard, answers);
+                }
+                Err(error) => answers.refused(&error),
+            }
+        }
+        Ok(())
+    }
+
+    /// The records that a chain lends: all, or those that answer questions; or why there is none.
+    fn lent(&self, form: &str, words: &[&str], answers: &mut Answers) -> Answered {
+        let (listed, asked) = input::halves(words, ":");
+        let zone = zone(answers.alloc, listed)?;
+        let groups = zone.owner_rrs();
+        if !groups.is_one_class() {
+            answers.refused(&ChainError::MixedClasses);
+            return Ok(());
+        }
+        match Nsec3Chain::generate(answers.alloc, self.apex, groups, self.config, self.hasher) {
+            Ok(chain) if form == "borrowed" => lend(&chain, answers),
+            Ok(chain) => return self.deny(&chain, asked, answers),
+            Err(error) => answers.refused(&ChainError::from(error)),
+        }
+        Ok(())
+    }
+
+    /// What records prove of a name and a type, or what they answer as a whole; or what they answer
+    /// of a name whose records were expanded from a wildcard, with the labels that their signatures
+    /// tell in place of a type.
+    fn ask(&self, form: &str, chain: &Made, words: &[&str], answers: &mut Answers) -> Answered {
+        let (alloc, apex, hasher, most) = (answers.alloc, self.apex, self.hasher, MOST_ITERATIONS);
+        if form == "expanded" {
+            let name = OwnName::from_str(alloc, input::word(words, 0))?;
+            let labels = input::word(words, 1).parse::<usize>().unwrap_or(0);
+            let answer = judge_nsec3_expansion(alloc, apex, chain, &name, labels, most, hasher);
+            answers.debug_or_refused("answer", &answer);
+            return Ok(());
+        }
+        let (name, rtype) = question(alloc, words)?;
+        if form == "verdict" {
+            let verdict = check_nsec3(alloc, apex, chain, &name, rtype, hasher);
+            answers.debug_or_refused("verdict", &verdict);
+        } else {
+            let answer = judge_nsec3(alloc, apex, chain, &name, rtype, most, hasher);
+            answers.debug_or_refused("answer", &answer);
+        }
+        Ok(())
+    }
+
+    /// What records prove, or what they answer as a whole, of each name.
+    fn judge(&self, form: &str, words: &[&str], answers: &mut Answers) -> Answered {
+        let (listed, asked) = input::halves(words, ":");
+        let nsec3s = nsec3s(answers.alloc, listed)?;
+        let (owner, params) = (self.apex.clone()?, self.config.params.clone()?);
+        let param = Record::new(owner, Class::IN, Ttl::from_secs(0), params);
+        let chain = Nsec3Records::new(nsec3s, param);
+        for words in asked.split(is_slash) {
+            self.ask(form, &chain, words, answers)?;
+        }
+        Ok(())
+    }
+
+    /// Answers a vector.
+    fn answer(&self, form: &str, words: &[&str], answers: &mut Answers) -> Answered {
+        match form {
+            "owner" => self.owner(input::word(words, 0), answers),
+            "any" => self.of_any_order(words, answers),
+            "borrowed" | "deny" | "denyout" => self.lent(form, words, answers),
+            "verdict" | "judge" | "expanded" => self.judge(form, words, answers),
+            _ => self.made(form, words, answers),
+        }
+    }
+}
+
+/// What a form asks of the generator, with a salt that a word spells.
+fn config(alloc: Global, form: &str, iterations: u16, salt: &str) -> Result<Config, ScanError> {
+    let salt = Nsec3Salt::scan(alloc, &mut Tokens::new(&[salt]))?;
     let params = Nsec3param::new(Nsec3HashAlgorithm::SHA1, 0, iterations, salt);
     let config = Config::new(params);
     if form == "dnskey" {
-        return config;
+        return Ok(config);
     }
     let config = config.without_assuming_dnskeys_will_be_added();
-    match form {
+    Ok(match form {
         "out" => config.with_opt_out(),
+        "denyout" => config.clone()?.with_opt_out(),
         "kept" => config
             .with_opt_out()
             .without_opt_out_excluding_owner_names_of_unsigned_delegations(),
@@ -57,158 +232,32 @@ fn config(form: &str, iterations: u16, salt: Salt) -> Config {
         "fixed" => config.with_ttl_mode(Nsec3ParamTtlMode::fixed(Ttl::from_secs(60))),
         "minimum" => config.with_ttl_mode(Nsec3ParamTtlMode::soa_minimum()),
         _ => config,
-    }
-}
-
-/// The owner of the NSEC3 record of a name, or why there is none.
-fn owner<H: Nsec3Hasher>(
-    alloc: Global,
-    apex: &OwnName,
-    config: &Config,
-    hasher: &H,
-    word: &str,
-    answers: &mut Answers,
-) -> Result<(), ScanError> {
-    let name = OwnName::from_str(alloc, word)?;
-    let params = &config.params;
-    let (algorithm, iterations) = (params.hash_algorithm(), params.iterations());
-    match mk_hashed_nsec3_owner_name(
-        alloc,
-        &name,
-        algorithm,
-        iterations,
-        params.salt(),
-        apex,
-        hasher,
-    ) {
-        Ok(owner) => answers.show("owner", &owner),
-        Err(error) => answers.refused(&error),
-    }
-    Ok(())
-}
-
-/// The records of the chain of sorted records as it lends them, and its NSEC3PARAM record, each on
-/// a line.
-fn borrowed<H: Nsec3Hasher>(
-    alloc: Global,
-    apex: &OwnName,
-    config: &Config,
-    hasher: &H,
-    zone: &Zone,
-    answers: &mut Answers,
-) {
-    let groups = zone.owner_rrs();
-    if !groups.is_one_class() {
-        return answers.refused(&ChainError::MixedClasses);
-    }
-    match Nsec3Chain::generate(alloc, apex, groups, config, hasher) {
-        Ok(chain) => {
-            for place in 0..chain.len() {
-                if let Some(nsec3) = chain.lend(place) {
-                    answers.show("record", &nsec3);
-                }
-            }
-            if chain.lend(chain.len()).is_none() {
-                answers.echo("  no further record");
-            }
-            answers.show("record", chain.nsec3param());
-        }
-        Err(error) => answers.refused(&ChainError::from(error)),
-    }
-}
-
-/// The chain of sorted records, made all at once, or why there is none.
-fn made<H: Nsec3Hasher>(
-    alloc: Global,
-    apex: &OwnName,
-    config: &Config,
-    hasher: &H,
-    zone: &Zone,
-    answers: &mut Answers,
-) {
-    let groups = zone.owner_rrs();
-    if !groups.is_one_class() {
-        return answers.refused(&ChainError::MixedClasses);
-    }
-    match generate_nsec3s(alloc, apex, groups, config, hasher) {
-        Ok(made) => show::<ChainError>(Ok(made), answers),
-        Err(error) => answers.refused(&ChainError::from(error)),
-    }
-}
-
-/// What there is instead of a chain where the sorter of the hashes has no memory.
-fn without_sorting<H: Nsec3Hasher>(
-    alloc: Global,
-    apex: &OwnName,
-    hasher: &H,
-    zone: &Zone,
-    answers: &mut Answers,
-) {
-    let config: GenerateNsec3Config<Vec<u8>, RefusingSorter> = GenerateNsec3Config::default(alloc);
-    let groups = zone.owner_rrs();
-    if !groups.is_one_class() {
-        return answers.echo("  more than one class");
-    }
-    show(
-        generate_nsec3s(alloc, apex, groups, &config, hasher),
-        answers,
-    );
-}
-
-/// Answers a vector with a hasher.
-fn with_hasher<H: Nsec3Hasher>(
-    alloc: Global,
-    form: &str,
-    apex: &OwnName,
-    config: &Config,
-    hasher: &H,
-    words: &[&str],
-    answers: &mut Answers,
-) -> Result<(), ScanError> {
-    match form {
-        "owner" => owner(alloc, apex, config, hasher, input::word(words, 0), answers)?,
-        "any" => {
-            let given = records(alloc, words)?;
-            show(
-                generate_nsec3s_of_records(alloc, apex, given, config, hasher),
-                answers,
-            );
-        }
-        "borrowed" => borrowed(alloc, apex, config, hasher, &zone(alloc, words)?, answers),
-        "verdict" => verdicts::by_hash(alloc, apex, &config.params, hasher, words, answers)?,
-        "judge" => {
-            verdicts::judged_by_hash(alloc, apex, &config.params, hasher, words, answers)?;
-        }
-        "expanded" => {
-            verdicts::expanded_by_hash(alloc, apex, &config.params, hasher, words, answers)?;
-        }
-        "deny" => denials::by_hash(alloc, apex, config, hasher, words, answers)?,
-        "denyout" => {
-            let config = config.clone()?.with_opt_out();
-            denials::by_hash(alloc, apex, &config, hasher, words, answers)?;
-        }
-        "unsorted" => without_sorting(alloc, apex, hasher, &zone(alloc, words)?, answers),
-        _ => made(alloc, apex, config, hasher, &zone(alloc, words)?, answers),
-    }
-    Ok(())
+    })
 }
 
 /// Answers a vector on chains by hashes: a form, the apex, a table of names and hashes, or `sha1`
-/// with a number of iterations and a salt, and after a colon the records or the name.
-pub fn answer(
-    alloc: Global,
-    form: &str,
-    words: &[&str],
-    answers: &mut Answers,
-) -> Result<(), ScanError> {
-    let apex = OwnName::from_str(alloc, input::word(words, 0))?;
+/// with a number of iterations and a salt, after a colon the records or the name, and after another
+/// what is asked of them.
+pub fn answer(form: &str, words: &[&str], answers: &mut Answers) -> Answered {
+    let apex = &OwnName::from_str(answers.alloc, input::word(words, 0))?;
     let (hashing, given) = input::halves(words.get(1..).unwrap_or_default(), ":");
     if input::word(hashing, 0) == "sha1" {
         let iterations = input::word(hashing, 1).parse::<u16>().unwrap_or(0);
-        let config = config(form, iterations, salt(alloc, input::word(hashing, 2))?);
-        return with_hasher(alloc, form, &apex, &config, &Sha1Hasher, given, answers);
+        let config = &config(answers.alloc, form, iterations, input::word(hashing, 2))?;
+        let hasher = &Sha1Hasher;
+        return Hashing {
+            apex,
+            config,
+            hasher,
+        }
+        .answer(form, given, answers);
     }
-    let hasher = table(alloc, hashing)?;
-    let config = config(form, 0, salt(alloc, "-")?);
-    with_hasher(alloc, form, &apex, &config, &hasher, given, answers)
+    let hasher = &table(answers.alloc, hashing)?;
+    let config = &config(answers.alloc, form, 0, "-")?;
+    Hashing {
+        apex,
+        config,
+        hasher,
+    }
+    .answer(form, given, answers)
 }

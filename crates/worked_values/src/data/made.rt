@@ -1,12 +1,18 @@
 //! Data by its fields: each field, and data made anew of all of them.
 use crate::lines::records::Data;
-use crate::lines::{Answers, OwnName};
+use crate::lines::{Answered, Answers, OwnName};
 use domain_keys::{Dnskey, Ds};
-use domain_octets::{OutOfMemory, TryClone};
+use domain_octets::TryClone;
 use domain_plain::{A, Mx, Ns, Soa};
 use domain_rdata::{Nsec, Nsec3, Nsec3param, OwnerHash, RtypeBitmap, ZoneRecordData};
 use domain_rrsig::Rrsig;
-use std::alloc::Global;
+
+/// Answers with fields of data, each with its label.
+macro_rules! fields {
+    ($answers:ident, $data:ident, $($label:literal: $field:ident),*) => {{
+        $($answers.show($label, &$data.$field());)*
+    }};
+}
 
 /// The fields of a key.
 fn key(data: &Dnskey<Vec<u8>>, answers: &mut Answers) {
@@ -16,10 +22,7 @@ fn key(data: &Dnskey<Vec<u8>>, answers: &mut Answers) {
     answers.show("protocol", &protocol);
     answers.show("algorithm", &algorithm);
     answers.octets("public key", &octets);
-    match Dnskey::new(flags, protocol, algorithm, octets) {
-        Ok(made) => answers.show("new", &made),
-        Err(error) => answers.refused(&error),
-    }
+    answers.show_or_refused("new", &Dnskey::new(flags, protocol, algorithm, octets));
 }
 
 /// The fields of a digest.
@@ -30,87 +33,62 @@ fn digest(data: &Ds<Vec<u8>>, answers: &mut Answers) {
     answers.show("algorithm", &algorithm);
     answers.show("digest type", &digest_type);
     answers.octets("digest", &octets);
-    match Ds::new(tag, algorithm, digest_type, octets) {
-        Ok(made) => answers.show("new", &made),
-        Err(error) => answers.refused(&error),
-    }
-}
-
-/// The fields of a signature.
-fn signature(data: &Rrsig<Vec<u8>, OwnName>, answers: &mut Answers) {
-    answers.show("type covered", &data.type_covered());
-    answers.show("algorithm", &data.algorithm());
-    answers.show("labels", &data.labels());
-    answers.show("original TTL", &data.original_ttl());
-    answers.show("expiration", &data.expiration());
-    answers.show("inception", &data.inception());
-    answers.show("key tag", &data.key_tag());
-    answers.show("signer", data.signer_name());
-    answers.octets("signature", data.signature());
+    answers.show_or_refused("new", &Ds::new(tag, algorithm, digest_type, octets));
 }
 
 /// The fields of data with a next hash.
-fn hashed(alloc: Global, data: &Nsec3<Vec<u8>>, answers: &mut Answers) -> Result<(), OutOfMemory> {
-    answers.show("algorithm", &data.hash_algorithm());
-    answers.show("flags", &data.flags());
-    answers.show("iterations", &data.iterations());
-    answers.show("salt", data.salt());
-    answers.show("next hash", data.next_owner());
-    answers.show("types", data.types());
-    changed(alloc, data.try_clone()?, answers);
+fn hashed(data: &Nsec3<Vec<u8>>, answers: &mut Answers) -> Answered {
+    fields!(answers, data, "algorithm": hash_algorithm, "flags": flags, "iterations": iterations);
+    fields!(answers, data, "salt": salt, "next hash": next_owner, "types": types);
+    changed(data.clone()?, answers);
     Ok(())
 }
 
 /// Data with another next hash, and then without types.
-fn changed(alloc: Global, mut data: Nsec3<Vec<u8>>, answers: &mut Answers) {
-    match OwnerHash::from_str(alloc, "CPNMUOG0") {
+fn changed(mut data: Nsec3<Vec<u8>>, answers: &mut Answers) {
+    match OwnerHash::from_str(answers.alloc, "CPNMUOG0") {
         Ok(hash) => data.set_next_owner(hash),
         Err(error) => answers.refused(&error),
     }
     answers.show("with another hash", &data);
-    match RtypeBitmap::from_octets(Vec::new(alloc)) {
+    match RtypeBitmap::from_octets(Vec::new(answers.alloc)) {
         Ok(none) => data.set_types(none),
         Err(error) => answers.refused(&error),
     }
     answers.show("without types", &data);
 }
 
-/// The fields of the start of a zone.
-fn start(data: &Soa<OwnName>, answers: &mut Answers) {
-    answers.show("primary", data.mname());
-    answers.show("mailbox", data.rname());
-    answers.show("serial", &data.serial());
-    answers.show("refresh", &data.refresh());
-    answers.show("retry", &data.retry());
-    answers.show("expire", &data.expire());
-    answers.show("minimum", &data.minimum());
-}
-
 /// The fields of data.
-pub fn show(alloc: Global, data: &Data, answers: &mut Answers) -> Result<(), OutOfMemory> {
+pub fn show(data: &Data, answers: &mut Answers) -> Answered {
     match data {
-        ZoneRecordData::A(data) => answers.show("address", &data.addr()),
-        ZoneRecordData::Ns(data) => answers.show("server", data.nsdname()),
-        ZoneRecordData::Soa(data) => start(data, answers),
+        ZoneRecordData::A(data) => fields!(answers, data, "address": addr),
+        ZoneRecordData::Ns(data) => fields!(answers, data, "server": nsdname),
+        ZoneRecordData::Soa(data) => fields!(
+            answers, data, "primary": mname, "mailbox": rname, "serial": serial, "refresh": refresh,
+            "retry": retry, "expire": expire, "minimum": minimum
+        ),
         ZoneRecordData::Mx(data) => {
-            answers.show("preference", &data.preference());
-            answers.show("exchange", data.exchange());
+            fields!(answers, data, "preference": preference, "exchange": exchange);
         }
         ZoneRecordData::Dnskey(data) => key(data, answers),
         ZoneRecordData::Ds(data) => digest(data, answers),
-        ZoneRecordData::Rrsig(data) => signature(data, answers),
+        ZoneRecordData::Rrsig(data) => {
+            fields!(
+                answers, data, "type covered": type_covered, "algorithm": algorithm,
+                "labels": labels, "original TTL": original_ttl, "expiration": expiration,
+                "inception": inception, "key tag": key_tag, "signer": signer_name
+            );
+            answers.octets("signature", data.signature());
+        }
         ZoneRecordData::Nsec(data) => {
-            answers.show("next name", data.next_name());
-            answers.show("types", data.types());
+            fields!(answers, data, "next name": next_name, "types": types);
             answers.octets("their octets", data.types().as_octets());
         }
-        ZoneRecordData::Nsec3(data) => hashed(alloc, data, answers)?,
-        ZoneRecordData::Nsec3param(data) => {
-            answers.show("algorithm", &data.hash_algorithm());
-            answers.show("flags", &data.flags());
-            answers.show("iterations", &data.iterations());
-            answers.show("salt", data.salt());
-        }
+        ZoneRecordData::Nsec3(data) => return hashed(data, answers),
+        ZoneRecordData::Nsec3param(data) => fields!(
+            answers, data, "algorithm": hash_algorithm, "flags": flags, "iterations": iterations,
+            "salt": salt
+        ),
         ZoneRecordData::Unknown(data) => answers.octets("octets", data.data()),
     }
     Ok(())

@@ -1,5 +1,6 @@
 //! The words of a vector, and what they stand for.
-use domain_base::{FromToken, IterScanner, ScanError};
+use crate::lines::OwnName;
+use domain_base::{FromToken, IterScanner, Rtype, ScanError, Scanner};
 use domain_codecs::Codec;
 use std::alloc::{AllocError, Global};
 
@@ -11,9 +12,7 @@ pub fn expanded(alloc: Global, word: &str) -> Result<String, AllocError> {
     if word == "''" {
         return Ok(String::new(alloc));
     }
-    let Some((repeated, count)) = word.split_once('{') else {
-        return String::from_str(alloc, word);
-    };
+    let (repeated, count) = word.split_once('{').unwrap_or((word, "1"));
     match count.trim_end_matches('}').parse::<usize>() {
         Ok(count) if count <= 70_000 => repeated.repeat(alloc, count),
         _ => String::from_str(alloc, word),
@@ -22,14 +21,15 @@ pub fn expanded(alloc: Global, word: &str) -> Result<String, AllocError> {
 
 /// The octets that words spell together in Base 16; `-` spells none.
 pub fn octets(alloc: Global, words: &[&str]) -> Result<Vec<u8>, ScanError> {
-    let mut digits = String::new(alloc);
-    for word in words {
-        if *word != "-" {
-            digits.push_str(word)?;
-        }
+    match words {
+        ["-"] => Ok(Vec::new(alloc)),
+        _ => Tokens::new(words).convert_entry(alloc, Codec::Base16),
     }
-    let octets = Codec::Base16.decode::<Vec<u8>>(alloc, digits.as_str());
-    octets.ok().ok_or(ScanError::Custom("no octets"))
+}
+
+/// Whether a word stands between two parts.
+pub fn is_slash(word: &&str) -> bool {
+    *word == "/"
 }
 
 /// The words before the first that is a mark, and all after it.
@@ -40,31 +40,23 @@ pub fn halves<'a, 'b>(words: &'a [&'b str], mark: &str) -> (&'a [&'b str], &'a [
     }
 }
 
-/// The octets of two parts.
-#[derive(Drop)]
-pub struct Parts {
-    /// The octets before the `/`.
-    pub first: Vec<u8>,
-    /// The octets after the `/`.
-    pub second: Vec<u8>,
-}
-
 /// The octets that the words before the first `/`, and those after it, spell.
-pub fn two_parts(alloc: Global, words: &[&str]) -> Result<Parts, ScanError> {
+pub fn two_parts(alloc: Global, words: &[&str]) -> Result<(Vec<u8>, Vec<u8>), ScanError> {
     let (front, back) = halves(words, "/");
     let first = octets(alloc, front)?;
-    let second = octets(alloc, back)?;
-    Ok(Parts { first, second })
+    Ok((first, octets(alloc, back)?))
 }
 
-/// The value that a word spells as a token.
+/// The name and the type that two words spell.
+pub fn question(alloc: Global, words: &[&str]) -> Result<(OwnName, Rtype), ScanError> {
+    let mut scanner = Tokens::new(words);
+    let name = scanner.scan_name(alloc)?;
+    Ok((name, given!(Rtype::scan(&mut scanner))))
+}
+
+/// The value that a word spells, if it spells one.
 pub fn value<F: FromToken + Drop>(word: &str) -> Option<F> {
     F::from_token(word).ok()
-}
-
-/// The value that the next token spells.
-pub fn next<F: FromToken + Drop>(scanner: &mut Tokens<'_>) -> Option<F> {
-    F::scan(scanner).ok()
 }
 
 /// The word that stands at a place, or the empty word.

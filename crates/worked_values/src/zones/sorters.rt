@@ -1,12 +1,10 @@
 //! Sorted sets by each sorter, and by one without memory.
 ghost use Rattle.std.specs.Prelude.{false};
 
-use crate::lines::records::{Data, OwnedRecord, list, record, records};
-use crate::lines::{Answers, OwnName, input};
-use domain_base::ScanError;
+use crate::lines::records::{Data, record, records};
+use crate::lines::{Answered, Answers, OwnName, input};
 use domain_octets::OutOfMemory;
 use domain_records::{DefaultSorter, InPlaceSorter, SortedRecords, Sorter};
-use std::alloc::Global;
 use std::cmp::Ordering;
 
 /// Never has the memory to sort.
@@ -23,52 +21,33 @@ impl Sorter for RefusingSorter {
     }
 }
 
-/// A sorted set of one record.
-fn started<S: Sorter>(
-    alloc: Global,
-    first: OwnedRecord,
-    answers: &mut Answers,
-) -> SortedRecords<OwnName, Data, S> {
-    let mut zone = SortedRecords::new(alloc);
+/// A sorted set of the first record that words spell, into which the others are put at once; or all
+/// of them, which are then counted.
+fn extended<S: Sorter>(form: &str, words: &[&str], answers: &mut Answers) -> Answered {
+    let (first, rest) = input::halves(words, "/");
+    let takes_all = form == "extend";
+    let first = record(answers.alloc, first)?;
+    let more = if takes_all {
+        records(answers.alloc, words)?
+    } else {
+        records(answers.alloc, rest)?
+    };
+    let mut zone: SortedRecords<OwnName, Data, S> = SortedRecords::new(answers.alloc);
     answers.show("first", &zone.insert(first).is_ok());
-    zone
-}
-
-/// The sorted set of the record that words spell, into which all records that further words spell
-/// are put at once.
-fn extended<S: Sorter>(
-    alloc: Global,
-    first: &[&str],
-    more: &[&str],
-    answers: &mut Answers,
-) -> Result<SortedRecords<OwnName, Data, S>, ScanError> {
-    let more = records(alloc, more)?;
-    let mut zone: SortedRecords<OwnName, Data, S> = started(alloc, record(alloc, first)?, answers);
     answers.debug("extended", &zone.extend(more));
-    list(zone.as_slice(), answers);
-    Ok(zone)
+    answers.records(zone.as_slice());
+    if takes_all {
+        answers.show("left", &zone.into_inner().len());
+    }
+    Ok(())
 }
 
 /// Answers a vector on a sorted set of the first record and then the others, by the usual sorter of
 /// all of them, by one that takes no memory, or by one that refuses.
-pub fn answer(
-    alloc: Global,
-    form: &str,
-    words: &[&str],
-    answers: &mut Answers,
-) -> Result<(), ScanError> {
-    let (first, rest) = input::halves(words, "/");
+pub fn answer(form: &str, words: &[&str], answers: &mut Answers) -> Answered {
     match form {
-        "extend" => {
-            let zone = extended::<DefaultSorter>(alloc, first, words, answers)?;
-            answers.show("left", &zone.into_inner().len());
-        }
-        "in-place" => {
-            let _zone = extended::<InPlaceSorter>(alloc, first, rest, answers)?;
-        }
-        _ => {
-            let _zone = extended::<RefusingSorter>(alloc, first, rest, answers)?;
-        }
+        "extend" => extended::<DefaultSorter>(form, words, answers),
+        "in-place" => extended::<InPlaceSorter>(form, words, answers),
+        _ => extended::<RefusingSorter>(form, words, answers),
     }
-    Ok(())
 }
