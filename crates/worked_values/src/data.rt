@@ -67,8 +67,7 @@ fn size(data: &Data, answers: &mut Answers) -> Answered {
     Ok(())
 }
 
-/// What is written of data where there is room for as many octets as the first word says: whether
-/// it is a beginning of the whole, and all of it.
+/// What is written of data where there is room for so many octets: a beginning, or all of it.
 fn room(words: &[&str], answers: &mut Answers) -> Answered {
     let count = input::word(words, 0).parse::<usize>().unwrap_or(0);
     let data = data(answers.alloc, words.get(1..).unwrap_or_default())?;

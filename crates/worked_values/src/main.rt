@@ -1,9 +1,7 @@
-//! Worked values of the whole library: each line of the input is a vector, and each is answered by
-//! what the library makes of it.
+//! Worked values: each line of the input is a vector, answered by what the library makes of it.
 #![tactic(auto)]
 
-/// The value of a result, or a return with its error: what `?` does, for values to which the prover
-/// does not follow it.
+/// The value of a result, or a return with its error: `?` for values that have no proof with that.
 macro_rules! given {
     ($made:expr) => {
         match $made {

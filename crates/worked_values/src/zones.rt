@@ -37,8 +37,7 @@ fn is_marked(record: &OwnedRecord) -> bool {
     record.ttl() == Ttl::from_secs(61)
 }
 
-/// Changes a sorted set: the first marked record gets other data, or records are removed, the first
-/// or all of an owner, a class and a type.
+/// Gives the marked record other data, or removes the first or all of an owner, class and type.
 fn change(form: &str, asked: &[&str], zone: &mut Zone, answers: &mut Answers) -> Answered {
     if form == "update" {
         zone.update_data(is_marked, data(answers.alloc, asked)?);

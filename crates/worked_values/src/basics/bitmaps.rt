@@ -54,8 +54,7 @@ where
     builder
 }
 
-/// The octets of the bitmap of the first type of each window, added from the last window to the
-/// first, and how long its text is.
+/// The bitmap of the first type of each window, added from the last window to the first.
 fn windows(answers: &mut Answers) -> Answered {
     let mut builder = RtypeBitmapBuilder::new_vec(answers.alloc);
     for window in 0..256u16 {

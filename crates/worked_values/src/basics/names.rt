@@ -94,8 +94,7 @@ fn held(name: &OwnName, answers: &mut Answers) -> Answered {
     Ok(())
 }
 
-/// What is written of a name in canonical form where there is room for eleven octets, some of them
-/// taken, which stand after a `/`.
+/// What is written of a name in canonical form where some of eleven octets are taken.
 fn room(name: &OwnName, words: &[&str], answers: &mut Answers) -> Answered {
     let mut target = ArrayBuilder::<11>::empty(answers.alloc);
     let (text, digits) = (input::word(words, 0), words.get(2..).unwrap_or_default());

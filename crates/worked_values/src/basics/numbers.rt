@@ -57,8 +57,7 @@ fn convert(words: &[&str], answers: &mut Answers) {
     answers.fault("entry into ArrayBuilder<2>", entry);
 }
 
-/// Answers a vector on numbers: each of some types or classes, tokens as octets, how many
-/// characters the first token has, one value that is a token, or a serial number or a time.
+/// Answers a vector on values of tokens, on tokens as octets, or on serial numbers and times.
 pub fn answer(form: &str, words: &[&str], answers: &mut Answers) -> Answered {
     match form {
         "types" => return types(words, answers),

@@ -73,8 +73,7 @@ fn parse(octets: &[u8], answers: &mut Answers) {
     answers.show("text", &ParseError::Form("why"));
 }
 
-/// Answers a vector on octets: two parts joined or written over by each kind of builder, octets in
-/// each kind of holder, octets that are read, or octets of no length.
+/// Answers a vector on octets: joined or written over by each builder, held, read, or none.
 pub fn answer(form: &str, words: &[&str], answers: &mut Answers) -> Answered {
     let alloc = answers.alloc;
     let (first, second) = input::two_parts(alloc, words)?;

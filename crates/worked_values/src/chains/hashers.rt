@@ -7,8 +7,7 @@ use domain_base::{Nsec3HashAlgorithm, ScanError, ToName};
 use domain_dnssec::{HasherError, Nsec3Hasher};
 use std::alloc::Global;
 
-/// A name in the octets of its wire form in lower case, and its hash, for which there may be no
-/// memory.
+/// A name on the wire in lower case, and its hash, for which there may be no memory.
 #[derive(Drop)]
 pub struct Row {
     name: Vec<u8>,

@@ -29,9 +29,6 @@ type Chain<'a> = Nsec3Chain<'a, Vec<u8>>;
 /// How the chains here are made.
 type Config = GenerateNsec3Config<Vec<u8>, DefaultSorter>;
 
-/// How the same are made by a sorter without memory.
-type RefusingConfig = GenerateNsec3Config<Vec<u8>, RefusingSorter>;
-
 /// The greatest number of iterations that answers are asked for with.
 const MOST_ITERATIONS: u16 = 12;
 
@@ -112,8 +109,7 @@ impl<H: Nsec3Hasher> Hashing<'_, H> {
         Ok(())
     }
 
-    /// The chain of sorted records, made all at once, or why there is none; by a sorter that has no
-    /// memory, where the form asks for it.
+    /// The chain of sorted records, made all at once by a sorter with memory or without.
     fn made(&self, form: &str, words: &[&str], answers: &mut Answers) -> Answered {
         let (alloc, apex, hasher) = (answers.alloc, self.apex, self.hasher);
         let zone = zone(alloc, words)?;
@@ -123,7 +119,8 @@ impl<H: Nsec3Hasher> Hashing<'_, H> {
             return Ok(());
         }
         let made = if form == "unsorted" {
-            generate_nsec3s(alloc, apex, groups, &RefusingConfig::default(alloc), hasher)
+            let config = GenerateNsec3Config::<Vec<u8>, RefusingSorter>::default(alloc);
+            generate_nsec3s(alloc, apex, groups, &config, hasher)
         } else {
             generate_nsec3s(alloc, apex, groups, self.config, hasher)
         };
@@ -165,9 +162,8 @@ impl<H: Nsec3Hasher> Hashing<'_, H> {
         Ok(())
     }
 
-    /// What records prove of a name and a type, or what they answer as a whole; or what they answer
-    /// of a name whose records were expanded from a wildcard, with the labels that their signatures
-    /// tell in place of a type.
+    /// What records prove of a name and a type, or answer as a whole; or what they answer of a name
+    /// that was expanded from a wildcard, with the labels that signatures tell in place of a type.
     fn ask(&self, form: &str, chain: &Made, words: &[&str], answers: &mut Answers) -> Answered {
         let (alloc, apex, hasher, most) = (answers.alloc, self.apex, self.hasher, MOST_ITERATIONS);
         if form == "expanded" {
@@ -236,8 +232,7 @@ fn config(alloc: Global, form: &str, iterations: u16, salt: &str) -> Result<Conf
 }
 
 /// Answers a vector on chains by hashes: a form, the apex, a table of names and hashes, or `sha1`
-/// with a number of iterations and a salt, after a colon the records or the name, and after another
-/// what is asked of them.
+/// with iterations and a salt, after a colon the records or the name, and after another questions.
 pub fn answer(form: &str, words: &[&str], answers: &mut Answers) -> Answered {
     let apex = &OwnName::from_str(answers.alloc, input::word(words, 0))?;
     let (hashing, given) = input::halves(words.get(1..).unwrap_or_default(), ":");

@@ -18,9 +18,7 @@ macro_rules! fields {
 fn key(data: &Dnskey<Vec<u8>>, answers: &mut Answers) {
     let (flags, protocol, algorithm) = (data.flags(), data.protocol(), data.algorithm());
     let octets = data.public_key().as_slice();
-    answers.show("flags", &flags);
-    answers.show("protocol", &protocol);
-    answers.show("algorithm", &algorithm);
+    fields!(answers, data, "flags": flags, "protocol": protocol, "algorithm": algorithm);
     answers.octets("public key", &octets);
     answers.show_or_refused("new", &Dnskey::new(flags, protocol, algorithm, octets));
 }
@@ -29,9 +27,7 @@ fn key(data: &Dnskey<Vec<u8>>, answers: &mut Answers) {
 fn digest(data: &Ds<Vec<u8>>, answers: &mut Answers) {
     let (tag, algorithm, digest_type) = (data.key_tag(), data.algorithm(), data.digest_type());
     let octets = data.digest().as_slice();
-    answers.show("key tag", &tag);
-    answers.show("algorithm", &algorithm);
-    answers.show("digest type", &digest_type);
+    fields!(answers, data, "key tag": key_tag, "algorithm": algorithm, "digest type": digest_type);
     answers.octets("digest", &octets);
     answers.show_or_refused("new", &Ds::new(tag, algorithm, digest_type, octets));
 }

@@ -93,8 +93,7 @@ fn references(zone: &Zone, answers: &mut Answers) -> Answered {
 
 /// Records as one set, and what it gives as a copy, one by one, and as what it was made of.
 pub fn set(words: &[&str], answers: &mut Answers) -> Answered {
-    let records = records(answers.alloc, words)?;
-    let records = records.as_slice();
+    let records = &records(answers.alloc, words)?;
     show("owned", Rrset::new_from_owned(records).map(Some), answers);
     if let Ok(set) = Rrset::new(SliceRefsOrOwned::new_from_owned(records)) {
         answers.show("owner", set.clone().owner());

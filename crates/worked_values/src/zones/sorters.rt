@@ -21,29 +21,23 @@ impl Sorter for RefusingSorter {
     }
 }
 
-/// A sorted set of the first record that words spell, into which the others are put at once; or all
-/// of them, which are then counted.
+/// A sorted set of the first record that words spell, into which all of them are put at once; by
+/// the usual sorter these are then counted.
 fn extended<S: Sorter>(form: &str, words: &[&str], answers: &mut Answers) -> Answered {
-    let (first, rest) = input::halves(words, "/");
-    let takes_all = form == "extend";
+    let (first, _) = input::halves(words, "/");
     let first = record(answers.alloc, first)?;
-    let more = if takes_all {
-        records(answers.alloc, words)?
-    } else {
-        records(answers.alloc, rest)?
-    };
+    let more = records(answers.alloc, words)?;
     let mut zone: SortedRecords<OwnName, Data, S> = SortedRecords::new(answers.alloc);
     answers.show("first", &zone.insert(first).is_ok());
     answers.debug("extended", &zone.extend(more));
     answers.records(zone.as_slice());
-    if takes_all {
+    if form == "extend" {
         answers.show("left", &zone.into_inner().len());
     }
     Ok(())
 }
 
-/// Answers a vector on a sorted set of the first record and then the others, by the usual sorter of
-/// all of them, by one that takes no memory, or by one that refuses.
+/// Answers a vector on a sorted set by the usual sorter, by one in place, or by one that refuses.
 pub fn answer(form: &str, words: &[&str], answers: &mut Answers) -> Answered {
     match form {
         "extend" => extended::<DefaultSorter>(form, words, answers),
