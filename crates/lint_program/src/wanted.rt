@@ -28,6 +28,7 @@ pub const NAME: &str = "labels of at most 63 octets with dots between them";
 /// How octets are written that may be several words.
 pub const BASE64: &str = "Base 64";
 
+/// The same of octets whose text has two digits for each.
 pub const BASE16: &str = "Base 16, two digits an octet";
 
 /// How other fields are written.

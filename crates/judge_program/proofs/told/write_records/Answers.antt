@@ -1,4 +1,4 @@
-use Rattle.std.proofs.{Common.{◌≡◌, ◌++◌, ◌||◌, [], true, Some, ap, sym, ◌∙◌, subst, codes, OnOk}, lemmas.Bool.cond-true}
+use Rattle.std.proofs.{Common.{◌≡◌, ◌++◌, ◌||◌, [], true, ap, sym, ◌∙◌, subst, codes, OnOk}, lemmas.Bool.cond-true}
 use Rattle.std.specs.{Option.{is_some, option_map}, Io.KnownBytes.Appends}
 use Rattle.domain_nsec3.specs.View.{as_param_record}
 use Rattle.denial_program.{specs.Text.nsec3param_line, proofs.AnswerLemmas.on_ok}

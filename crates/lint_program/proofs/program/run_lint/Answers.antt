@@ -1,5 +1,5 @@
 use Rattle.std.proofs.lemmas.{Grind.common_steps, List.length-map}
-use Rattle.std.proofs.Common.{◌≡◌, ◌∙◌, ◌++◌, ◌==◌, ap, arith, inl, inr, length, map, refl, string_bytes, subst, sym, IsErrAnd, IsErrOf, MatchResult}
+use Rattle.std.proofs.Common.{◌≡◌, ◌∙◌, ◌++◌, ◌==◌, ap, arith, inl, inr, map, refl, string_bytes, subst, sym, IsErrAnd, IsErrOf, MatchResult}
 use Rattle.std.proofs.Common.{Option, Result}
 use Rattle.std.specs.{Str.Lines.lines, Io.KnownBytes.Appends}
 use Rattle.domain_names.specs.Words.{Name}
