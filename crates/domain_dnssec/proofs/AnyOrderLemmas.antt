@@ -4,26 +4,24 @@ use Rattle.domain_record.specs.declared.record.Record.{Record}
 use Rattle.domain_names.specs.Words.{Name}
 use Rattle.domain_nsec.specs.{declared.config.GenerateNsecConfig.GenerateNsecConfig, Chain.IsFirstFault}
 use Rattle.domain_nsec3.specs.Config.{ChainConfig}
-use Rattle.domain_dnssec.specs.{AnyOrder.{Sorts, HasNoChain, HasNoSortedChain, chain_error_of}, AnyOrderNsec3.{HasNoHashedChain, HasNoSortedHashedChain}}
+use Rattle.domain_dnssec.specs.{AnyOrder.{Sorts, HasNoChain, ZoneHasNoChain, chain_error_of}, AnyOrderNsec3.{HasNoHashedChain, ZoneHasNoHashedChain}}
 use Rattle.domain_dnssec.specs.declared.chain.ChainError.{ChainError}
 use Rattle.domain_records.specs.{Order.IsOneClass, declared.error.SigningError.SigningError}
-use Rattle.domain_zone.specs.View.{zone_of}
+use Rattle.domain_zone.specs.{View.zone_of, Zone.ZoneRecord}
 
--- a fault of the zone of sorted records of one class is why they have no chain
-module _ {N D : Type 0} (labels : N → Name) (rtype_of : D → ℕ) (minimum_of : D → Option ℕ) (sorted : List (Record N D)) (one : IsOneClass sorted)
-    (apex : Name) where
-  pub no_sorted_chain : (config : GenerateNsecConfig) (e : SigningError) → IsFirstFault (zone_of labels rtype_of minimum_of sorted) apex config e
-      → HasNoSortedChain labels rtype_of minimum_of sorted apex config (chain_error_of e)
-  no_sorted_chain config e h = grind (arith, common_steps)
+-- a fault of the zone is why it has no chain
+pub no_chain_of_zone : (L : List ZoneRecord) (apex : Name) (config : GenerateNsecConfig) (e : SigningError) → IsFirstFault L apex config e
+    → ZoneHasNoChain L apex config (chain_error_of e)
+no_chain_of_zone L apex config e h = grind (arith, common_steps)
 
+-- where the zone of the sorted set has none, the given records have none
 module _ {N D : Type 0} (labels : N → Name) (rtype_of : D → ℕ) (minimum_of : D → Option ℕ) (data_cmp : D → D → Ordering)
-    (given : List (Record N D)) (apex : Name) where
-  -- nor has it where the sorted set has none
-  module _ (sorted : List (Record N D)) (sorts : Sorts labels rtype_of data_cmp given sorted) (one : IsOneClass sorted) where
-    pub no_chain : (config : GenerateNsecConfig) (e : ChainError) → HasNoSortedChain labels rtype_of minimum_of sorted apex config e
-        → HasNoChain labels rtype_of minimum_of data_cmp given apex config e
-    no_chain config e h = grind (arith, common_steps)
+    (given : List (Record N D)) (apex : Name) (sorted : List (Record N D)) (sorts : Sorts labels rtype_of data_cmp given sorted)
+    (one : IsOneClass sorted) where
+  pub no_chain : (config : GenerateNsecConfig) (e : ChainError) → ZoneHasNoChain (zone_of labels rtype_of minimum_of sorted) apex config e
+      → HasNoChain labels rtype_of minimum_of data_cmp given apex config e
+  no_chain config e h = grind (arith, common_steps)
 
-    pub no_hashed_chain : (config : ChainConfig) (e : ChainError) → HasNoSortedHashedChain labels rtype_of minimum_of sorted apex config e
-        → HasNoHashedChain labels rtype_of minimum_of data_cmp given apex config e
-    no_hashed_chain config e h = grind (arith, common_steps)
+  pub no_hashed_chain : (config : ChainConfig) (e : ChainError) → ZoneHasNoHashedChain (zone_of labels rtype_of minimum_of sorted) apex config e
+      → HasNoHashedChain labels rtype_of minimum_of data_cmp given apex config e
+  no_hashed_chain config e h = grind (arith, common_steps)

@@ -32,9 +32,14 @@ module _ {N D : Type 0} (labels : N → Name) (rtype_of : D → ℕ) (minimum_of
       )
 
   module _ (given sorted : List (Record N D)) (s : Sorts labels rtype_of data_cmp given sorted) where
+    abbrev zone : List ZoneRecord
+    zone = zone_of labels rtype_of minimum_of sorted
+
+    abbrev whole : List ZoneRecord
+    whole = zone_of labels rtype_of minimum_of given
+
     -- a test of the owner and the type
-    any_kept : (p : Name → ℕ → Bool) → list_any (λ r. p (lowered r.owner) r.rtype) (zone_of labels rtype_of minimum_of sorted)
-        ≡ list_any (λ r. p (lowered r.owner) r.rtype) (zone_of labels rtype_of minimum_of given)
+    any_kept : (p : Name → ℕ → Bool) → list_any (λ r. p (lowered r.owner) r.rtype) zone ≡ list_any (λ r. p (lowered r.owner) r.rtype) whole
     any_kept p =
         any_map (λ r. p (lowered r.owner) r.rtype) (as_zone_record labels rtype_of minimum_of) sorted
         ∙ either_way (list_any q sorted) (list_any q given) there back
@@ -56,37 +61,31 @@ module _ {N D : Type 0} (labels : N → Name) (rtype_of : D → ℕ) (minimum_of
             let t = tied c.1 f.1 c.4 in
             list_any-from_Any q sorted (c.0, c.1, c.2, c.3, (λ i. p (t.0 i) (t.1 i)) ∙ f.4)
 
-    types_kept : (k : Name) (t : ℕ) → has_type (filter (λ r. same_lowered (lowered r.owner) k)
-        (zone_of labels rtype_of minimum_of sorted)) t ≡ has_type
-        (filter (λ r. same_lowered (lowered r.owner) k) (zone_of labels rtype_of minimum_of given)) t
+    types_kept : (k : Name) (t : ℕ) → has_type (filter (λ r. same_lowered (lowered r.owner) k) zone) t
+        ≡ has_type (filter (λ r. same_lowered (lowered r.owner) k) whole) t
     types_kept k t =
-        any_filter (λ r. nat_eq r.rtype t) (λ r. same_lowered (lowered r.owner) k) (zone_of labels rtype_of minimum_of sorted)
+        any_filter (λ r. nat_eq r.rtype t) (λ r. same_lowered (lowered r.owner) k) zone
         ∙ any_kept (λ m u. same_lowered m k && nat_eq u t)
-        ∙ sym (any_filter (λ r. nat_eq r.rtype t) (λ r. same_lowered (lowered r.owner) k) (zone_of labels rtype_of minimum_of given))
+        ∙ sym (any_filter (λ r. nat_eq r.rtype t) (λ r. same_lowered (lowered r.owner) k) whole)
 
-    pub type_kept : (n : Name) (t : ℕ) → has_type (records_of (zone_of labels rtype_of minimum_of sorted) n) t
-        ≡ has_type (records_of (zone_of labels rtype_of minimum_of given) n) t
+    pub type_kept : (n : Name) (t : ℕ) → has_type (records_of zone n) t ≡ has_type (records_of whole n) t
     type_kept n t = types_kept (lowered n) t
 
-    pub owner_kept : (n : Name) → owns (zone_of labels rtype_of minimum_of sorted) n ≡ owns (zone_of labels rtype_of minimum_of given) n
+    pub owner_kept : (n : Name) → owns zone n ≡ owns whole n
     owner_kept n = any_kept (λ m u. same_lowered m (lowered n))
 
-    occluded_kept : (d : Bool) (a n : Name) → is_occluded d (zone_of labels rtype_of minimum_of sorted) a n
-        ≡ is_occluded d (zone_of labels rtype_of minimum_of given) a n
+    occluded_kept : (d : Bool) (a n : Name) → is_occluded d zone a n ≡ is_occluded d whole a n
     occluded_kept d a n =
         any_kept (λ k u. ((lowered_below k (lowered a) && not (same_lowered k (lowered a))
-        && has_type (filter (λ r. same_lowered (lowered r.owner) k) (zone_of labels rtype_of minimum_of sorted)) ns)
-        || (d && lowered_below k (lowered a) && has_type (filter (λ r. same_lowered (lowered r.owner) k)
-        (zone_of labels rtype_of minimum_of sorted)) dname))
+        && has_type (filter (λ r. same_lowered (lowered r.owner) k) zone) ns)
+        || (d && lowered_below k (lowered a) && has_type (filter (λ r. same_lowered (lowered r.owner) k) zone) dname))
         && (lowered_below (lowered n) k && not (same_lowered (lowered n) k)))
         ∙ (λ i. list_any (λ r. ((lowered_below (lowered r.owner) (lowered a) && not (same_lowered (lowered r.owner) (lowered a))
         && types_kept (lowered r.owner) ns i)
         || (d && lowered_below (lowered r.owner) (lowered a) && types_kept (lowered r.owner) dname i))
-        && (lowered_below (lowered n) (lowered r.owner) && not (same_lowered (lowered n) (lowered r.owner))))
-        (zone_of labels rtype_of minimum_of given))
+        && (lowered_below (lowered n) (lowered r.owner) && not (same_lowered (lowered n) (lowered r.owner)))) whole)
 
-    pub unoccluded_kept : (d : Bool) (a n : Name) → is_unoccluded d (zone_of labels rtype_of minimum_of sorted) a n
-        ≡ is_unoccluded d (zone_of labels rtype_of minimum_of given) a n
+    pub unoccluded_kept : (d : Bool) (a n : Name) → is_unoccluded d zone a n ≡ is_unoccluded d whole a n
     unoccluded_kept d a n = λ i. is_at_or_below n a && not (occluded_kept d a n i)
 
     -- ---- records of the set are records of the list
@@ -96,28 +95,27 @@ module _ {N D : Type 0} (labels : N → Name) (rtype_of : D → ℕ) (minimum_of
         let c = in_contains sorted r i in
         contains_in given r (subst (Contains given) c.2 (s.set.among c.0 r c.1))
 
-    zone_record_among : (z : ZoneRecord) → In z (zone_of labels rtype_of minimum_of sorted) → In z (zone_of labels rtype_of minimum_of given)
+    zone_record_among : (z : ZoneRecord) → In z zone → In z whole
     zone_record_among z i =
         let m = from_map (as_zone_record labels rtype_of minimum_of) sorted z i in
-        subst (λ y. In y (zone_of labels rtype_of minimum_of given)) m.2 (in_map (as_zone_record labels rtype_of minimum_of) given m.0 (record_among m.0 m.1))
+        subst (λ y. In y whole) m.2 (in_map (as_zone_record labels rtype_of minimum_of) given m.0 (record_among m.0 m.1))
 
-    pub clash_among : (n : Name) → has_clash (records_of (zone_of labels rtype_of minimum_of sorted) n) ≡ true
-        → has_clash (records_of (zone_of labels rtype_of minimum_of given) n) ≡ true
+    pub clash_among : (n : Name) → has_clash (records_of zone n) ≡ true → has_clash (records_of whole n) ≡ true
     clash_among n h =
-        any_two clashes (records_of (zone_of labels rtype_of minimum_of sorted) n) (records_of (zone_of labels rtype_of minimum_of given) n)
-        (λ z i. let f = in_filter (λ r. same_name r.owner n) (zone_of labels rtype_of minimum_of sorted) z i in in_filtered
-        (λ r. same_name r.owner n) (zone_of labels rtype_of minimum_of given) z (zone_record_among z f.0) f.1) h
+        any_two clashes (records_of zone n) (records_of whole n)
+        (λ z i. let f = in_filter (λ r. same_name r.owner n) zone z i in in_filtered
+        (λ r. same_name r.owner n) whole z (zone_record_among z f.0) f.1) h
 
-    pub soa_among : (a : Name) (numbers : ApexSoa) → soa_of (zone_of labels rtype_of minimum_of sorted) a ≡ Some numbers
-        → (r : ZoneRecord) × Contains (zone_of labels rtype_of minimum_of given) r × (is_soa a r ≡ true) × (numbers_of r r.minimum ≡ Some numbers)
-    soa_among a numbers e = by (filter (is_soa a) (zone_of labels rtype_of minimum_of sorted)) refl e
+    pub soa_among : (a : Name) (numbers : ApexSoa) → soa_of zone a ≡ Some numbers
+        → (r : ZoneRecord) × Contains whole r × (is_soa a r ≡ true) × (numbers_of r r.minimum ≡ Some numbers)
+    soa_among a numbers e = by (filter (is_soa a) zone) refl e
       where
-        by : (rs : List ZoneRecord) → filter (is_soa a) (zone_of labels rtype_of minimum_of sorted) ≡ rs → of_only rs ≡ Some numbers
-            → (r : ZoneRecord) × Contains (zone_of labels rtype_of minimum_of given) r × (is_soa a r ≡ true) × (numbers_of r r.minimum ≡ Some numbers)
+        by : (rs : List ZoneRecord) → filter (is_soa a) zone ≡ rs → of_only rs ≡ Some numbers
+            → (r : ZoneRecord) × Contains whole r × (is_soa a r ≡ true) × (numbers_of r r.minimum ≡ Some numbers)
         by [] f h = absurd (cc)
         by (r ∷ []) f h =
-            let i = in_filter (is_soa a) (zone_of labels rtype_of minimum_of sorted) r (subst (In r) (sym f) (inl refl)) in
-            (r, in_contains (zone_of labels rtype_of minimum_of given) r (zone_record_among r i.0), i.1, h)
+            let i = in_filter (is_soa a) zone r (subst (In r) (sym f) (inl refl)) in
+            (r, in_contains whole r (zone_record_among r i.0), i.1, h)
         by (r ∷ t ∷ rs) f h = absurd (cc)
 
     -- ---- classes

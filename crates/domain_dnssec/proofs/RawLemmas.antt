@@ -1,22 +1,19 @@
 -- Records whose data are octets in canonical form say what the records say whose data these are.
-use Rattle.std.proofs.{Common.{◌≡◌, List, [], ◌∷◌, map, refl, sym, ap, ◌∙◌, subst, arith}, lemmas.{Grind.common_steps, List.Elements.recursion_from_All}}
+use Rattle.std.proofs.{Common.{◌≡◌, ℕ, List, [], ◌∷◌, map, refl, sym, ap, ◌∙◌, subst, arith}, lemmas.{Grind.common_steps, List.Elements.recursion_from_All}}
 use Rattle.std.specs.{Prelude.Contains, List.AllByRecursion}
 use Rattle.domain_octets.specs.Words.{Octets}
 use Rattle.domain_names.specs.Words.{Name}
 use Rattle.domain_record.specs.{Record.{record_cmp, record_cmp_total}, declared.record.Record.Record}
-use Rattle.domain_rdata.specs.Zone.{minimum_of, rtype_of}
+use Rattle.domain_rdata.specs.Zone.{data_cmp, minimum_of, rtype_of}
 use Rattle.domain_rdata.specs.declared.zone_record_data.ZoneRecordData.{ZoneRecordData, TheVariants.{Soa, Unknown}}
 use Rattle.domain_records.specs.Order.{IsOneClass}
-use Rattle.domain_zone.{specs.View.zone_of, proofs.PairLemmas.{all_in, all_from_in}}
-use Rattle.domain_nsec.specs.{Chain.{Link, IsChain, IsFaultless, IsFirstFault}, declared.config.GenerateNsecConfig.GenerateNsecConfig}
-use Rattle.domain_nsec3.specs.{Chain.{HashedLink, ParamRecord, IsHashedChain, IsChainParam}, Config.ChainConfig}
-use Rattle.domain_nsec3.specs.{Faults.{IsReady, IsFirstFault as IsFirstHashedFault}, declared.config.Nsec3ParamTtlMode.Nsec3ParamTtlMode}
+use Rattle.domain_zone.{specs.{View.zone_of, Zone.ZoneRecord}, proofs.PairLemmas.{all_in, all_from_in}}
 use Rattle.domain_borrowed.specs.Data.{RawRecord, zone_of_raw, data_cmp as raw_cmp, data_cmp_total as raw_cmp_total, minimum_of as raw_minimum}
 use Rattle.domain_borrowed.proofs.MinimumLemmas.{minimum_last}
 use Rattle.domain_dnssec.specs.{RawRecords.{HaveOneChain, TellMinima, TellsMinimum, raw_data, raw_record}}
+use Rattle.domain_nsec.specs.Chain.{IsChain}
+use Rattle.domain_dnssec.specs.{AnyOrder.{HasNone, OfZone, ZoneHasNoChain}, AnyOrderNsec3.{IsWholeHashedChain, ZoneHasNoHashedChain}}
 use Rattle.domain_dnssec.specs.declared.chain.ChainError.{ChainError, TheVariants.{MixedClasses, Sort, Signing, OutOfMemory}}
-use Rattle.domain_dnssec.specs.RawRecords as raw
-use Rattle.domain_dnssec.specs.ZoneRecords as zone
 use Rattle.domain_dnssec.proofs.{AmongLemmas.contains_in, MappedLemmas.sets_back}
 
 module _ {O N : Type 0} (octets : O → Octets) (labels : N → Name) where
@@ -39,117 +36,45 @@ module _ {O N : Type 0} (octets : O → Octets) (labels : N → Name) where
     minimum = minimum_same r.«data» tell.0 i;
   } ∷ zone_same rs tell.1 i
 
-  all_seen : (class : Record N (ZoneRecordData O N)) (rs : List (Record N (ZoneRecordData O N)))
-      → AllByRecursion (λ s. class.class ≡ s.class) (map see rs) → AllByRecursion (λ s. class.class ≡ s.class) rs
-  all_seen r [] h = tt
-  all_seen r (s ∷ rs) h = (h.0, all_seen r rs h.1)
+  all_seen : (class : ℕ) (rs : List (Record N (ZoneRecordData O N)))
+      → AllByRecursion (λ s. class ≡ s.class) (map see rs) ≡ AllByRecursion (λ s. class ≡ s.class) rs
+  all_seen class [] = refl
+  all_seen class (r ∷ rs) = λ i. (class ≡ r.class) × all_seen class rs i
 
-  seen_all : (class : Record N (ZoneRecordData O N)) (rs : List (Record N (ZoneRecordData O N)))
-      → AllByRecursion (λ s. class.class ≡ s.class) rs → AllByRecursion (λ s. class.class ≡ s.class) (map see rs)
-  seen_all r [] h = tt
-  seen_all r (s ∷ rs) h = (h.0, seen_all r rs h.1)
-
-  one_class : (rs : List (Record N (ZoneRecordData O N))) → IsOneClass (map see rs) → IsOneClass rs
-  one_class [] h = tt
-  one_class (r ∷ rs) h = (all_seen r rs h.0, one_class rs h.1)
-
-  class_seen : (rs : List (Record N (ZoneRecordData O N))) → IsOneClass rs → IsOneClass (map see rs)
-  class_seen [] h = tt
-  class_seen (r ∷ rs) h = (seen_all r rs h.0, class_seen rs h.1)
-
-  -- the sorted set of records, where that of their octets is known
-  record SameSet (given : List (Record N (ZoneRecordData O N))) (sorted : List RawRecord) : Type 0 where
-    back : List (Record N (ZoneRecordData O N))
-    sorts : zone.Sorts octets labels given back
-    same : zone_of_raw sorted ≡ zone_of labels rtype_of minimum_of back
-    alike : IsOneClass sorted → IsOneClass back
+  classes_seen : (rs : List (Record N (ZoneRecordData O N))) → IsOneClass (map see rs) ≡ IsOneClass rs
+  classes_seen [] = refl
+  classes_seen (r ∷ rs) = λ i. all_seen r.class rs i × classes_seen rs i
 
   module _ (given : List (Record N (ZoneRecordData O N))) (tell : TellMinima given) where
-    same_set : (sorted : List RawRecord) → raw.Sorts (map see given) sorted → SameSet given sorted
-    same_set sorted u =
-        let s = sets_back see (record_cmp (λ n. n) (λ d. d.rtype) raw_cmp) (record_cmp_total (λ n. n) (λ d. d.rtype) raw_cmp raw_cmp_total) given sorted u in
+    of_zone : (is : List ZoneRecord → Type 0) → OfZone (λ n. n) (λ d. d.rtype) raw_minimum raw_cmp (map see given) is
+        → OfZone labels rtype_of minimum_of (data_cmp octets labels) given is
+    of_zone is u =
+        let s = sets_back see (record_cmp (λ n. n) (λ d. d.rtype) raw_cmp) (record_cmp_total (λ n. n) (λ d. d.rtype) raw_cmp raw_cmp_total) given
+        u.sorted u.sorts in
         let among : AllByRecursion (Contains given) s.0 = recursion_from_All (Contains given) s.0 s.1.set.among in
         let told : AllByRecursion (λ r. TellsMinimum r.«data») s.0 = all_from_in (λ r. TellsMinimum r.«data») s.0 (λ r i.
         all_in (λ q. TellsMinimum q.«data») given r (recursion_from_All (λ q. TellsMinimum q.«data») given tell)
         (contains_in given r (all_in (Contains given) s.0 r among i))) in
         record {
-          back = s.0;
+          sorted = s.0;
           sorts = s.1;
-          same = ap zone_of_raw (sym s.2) ∙ zone_same s.0 told;
-          alike = λ h. one_class s.0 (subst IsOneClass (sym s.2) h);
+          one_class = subst (λ (T : Type 0). T) (classes_seen s.0) (subst IsOneClass (sym s.2) u.one_class);
+          zone = subst is (ap zone_of_raw (sym s.2) ∙ zone_same s.0 told) u.zone;
         }
 
-    module _ (apex : Name) where
-      chain_of_data : (config : GenerateNsecConfig) (links : List Link) → raw.IsChainOf (map see given) apex config links
-          → zone.IsChainOf octets labels given apex config links
-      chain_of_data config links c =
-          let s = same_set c.sorted c.sorts in record {
-            sorted = s.back;
-            sorts = s.sorts;
-            chain = record { one_class = s.alike c.chain.one_class; chain = subst (λ z. IsChain z apex config links) s.same c.chain.chain };
-          }
-
-      no_chain_of_data : (config : GenerateNsecConfig) (error : ChainError) → raw.HasNoChain (map see given) apex config error
-          → zone.HasNoChain octets labels given apex config error
-      no_chain_of_data config MixedClasses h = λ one. h (class_seen given one)
-      no_chain_of_data config (Sort e) h = one_class given h
-      no_chain_of_data config (Signing e) h =
-          let s = same_set h.sorted h.sorts in record {
-            sorted = s.back;
-            sorts = s.sorts;
-            fault = record {
-              one_class = s.alike h.fault.one_class;
-              fault = subst (λ z. IsFirstFault z apex config e) s.same h.fault.fault;
-              told = h.fault.told;
-            };
-          }
-      no_chain_of_data config OutOfMemory h =
-          let s = same_set h.sorted h.sorts in record {
-            sorted = s.back;
-            sorts = s.sorts;
-            one_class = s.alike h.one_class;
-            faultless = subst (λ z. IsFaultless z apex config) s.same h.faultless;
-          }
-
-      hashed_chain_of_data : (config : ChainConfig) (mode : Nsec3ParamTtlMode) (links : List HashedLink) (param : ParamRecord)
-          → raw.IsHashedChainOf (map see given) apex config mode links param → zone.IsHashedChainOf octets labels given apex config mode links param
-      hashed_chain_of_data config mode links param c =
-          let s = same_set c.sorted c.sorts in record {
-            sorted = s.back;
-            sorts = s.sorts;
-            chain = record {
-              one_class = s.alike c.chain.one_class;
-              chain = subst (λ z. IsHashedChain z apex config links) s.same c.chain.chain;
-              told = subst (λ z. IsChainParam z apex config mode param) s.same c.chain.told;
-            };
-          }
-
-      no_hashed_chain_of_data : (config : ChainConfig) (error : ChainError) → raw.HasNoHashedChain (map see given) apex config error
-          → zone.HasNoHashedChain octets labels given apex config error
-      no_hashed_chain_of_data config MixedClasses h = λ one. h (class_seen given one)
-      no_hashed_chain_of_data config (Sort e) h = one_class given h
-      no_hashed_chain_of_data config (Signing e) h =
-          let s = same_set h.sorted h.sorts in record {
-            sorted = s.back;
-            sorts = s.sorts;
-            fault = record {
-              one_class = s.alike h.fault.one_class;
-              fault = subst (λ z. IsFirstHashedFault z apex config e) s.same h.fault.fault;
-              told = h.fault.told;
-            };
-          }
-      no_hashed_chain_of_data config OutOfMemory h =
-          let s = same_set h.sorted h.sorts in record {
-            sorted = s.back;
-            sorts = s.sorts;
-            one_class = s.alike h.one_class;
-            ready = subst (λ z. IsReady z apex config) s.same h.ready;
-          }
+    -- why they have no chain, where these are the reasons why their zone has none
+    has_none : (none : List ZoneRecord → ChainError → Type 0) (e : ChainError)
+        → HasNone (λ n. n) (λ d. d.rtype) raw_minimum raw_cmp (map see given) none e
+        → HasNone labels rtype_of minimum_of (data_cmp octets labels) given none e
+    has_none none MixedClasses h = λ one. h (subst (λ (T : Type 0). T) (sym (classes_seen given)) one)
+    has_none none (Sort e) h = subst (λ (T : Type 0). T) (classes_seen given) h
+    has_none none (Signing e) h = of_zone (λ L. none L (Signing e)) h
+    has_none none OutOfMemory h = of_zone (λ L. none L OutOfMemory) h
 
     pub one_chain : HaveOneChain octets labels (map see given) given
     one_chain = record {
-      nsecs = chain_of_data;
-      no_nsecs = no_chain_of_data;
-      nsec3s = hashed_chain_of_data;
-      no_nsec3s = no_hashed_chain_of_data;
+      nsecs = λ apex config links. of_zone (λ L. IsChain L apex config links);
+      no_nsecs = λ apex config. has_none (λ L. ZoneHasNoChain L apex config);
+      nsec3s = λ apex config mode links param. of_zone (λ L. IsWholeHashedChain L apex config mode links param);
+      no_nsec3s = λ apex config. has_none (λ L. ZoneHasNoHashedChain L apex config);
     }

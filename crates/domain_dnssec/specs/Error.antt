@@ -45,26 +45,12 @@ of_append append_error.ShortBuf = variant.ShortBuf
 of_append append_error.OutOfMemory = variant.OutOfMemory
 
 abbrev pub of_signing : SigningError → Error
-of_signing signing_error.EmptyRecordSlice = variant.Signing signing_error.EmptyRecordSlice
-of_signing signing_error.MultipleTtlValues = variant.Signing signing_error.MultipleTtlValues
-of_signing signing_error.SoaRecordCouldNotBeDetermined =
-    variant.Signing signing_error.SoaRecordCouldNotBeDetermined
-of_signing (signing_error.Nsec3HashingError error) =
-    variant.Signing (signing_error.Nsec3HashingError error)
 of_signing signing_error.OutOfMemory = variant.OutOfMemory
+of_signing error = variant.Signing error
 
 abbrev pub of_hashing : Nsec3HashError → Error
-of_hashing (hash_error.Hasher n) =
-    variant.Signing (signing_error.Nsec3HashingError (hash_error.Hasher n))
-of_hashing hash_error.AppendError =
-    variant.Signing (signing_error.Nsec3HashingError hash_error.AppendError)
-of_hashing hash_error.OwnerHashError =
-    variant.Signing (signing_error.Nsec3HashingError hash_error.OwnerHashError)
-of_hashing hash_error.Nsec3NameTooLong =
-    variant.Signing (signing_error.Nsec3HashingError hash_error.Nsec3NameTooLong)
-of_hashing hash_error.CollisionDetected =
-    variant.Signing (signing_error.Nsec3HashingError hash_error.CollisionDetected)
 of_hashing hash_error.OutOfMemory = variant.OutOfMemory
+of_hashing error = variant.Signing (signing_error.Nsec3HashingError error)
 
 abbrev pub of_chain : ChainError → Error
 of_chain chain_error.MixedClasses = variant.MixedClasses

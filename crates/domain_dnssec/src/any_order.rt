@@ -1,8 +1,9 @@
 //! Chains of records that are sorted first.
 ghost use Rattle.std.specs.Prelude.{IfErr, IfOk};
 ghost use Rattle.domain_records.specs.Order.{IsOneClass};
-ghost use Rattle.domain_nsec.specs.ChainView.{links_of};
-ghost use Rattle.domain_dnssec.specs.AnyOrder.{HasNoChain, HasNoSet, HasNoSortedChain, IsChainOf, IsSortedChain, Sorts};
+ghost use Rattle.domain_zone.specs.View.{zone_of};
+ghost use Rattle.domain_nsec.specs.{Chain.IsChain, ChainView.links_of};
+ghost use Rattle.domain_dnssec.specs.AnyOrder.{HasNoChain, HasNoSet, IsChainOf, Sorts, ZoneHasNoChain};
 
 use crate::chain::ChainError;
 use crate::laws::sorting_keeps_classes_and_records;
@@ -42,7 +43,7 @@ where
 /// # Errors
 ///
 /// `Signing` with the first fault of the zone; and `OutOfMemory`, only where it has none.
-#[tactic(auto, using(crate::proofs::AnyOrderLemmas::no_sorted_chain))]
+#[tactic(auto, using(crate::proofs::AnyOrderLemmas::no_chain_of_zone))]
 fn nsecs_of_sorted<O, N: MakeName, D: ZoneData + CanonicalOrd>(
     alloc: Global,
     apex: &N,
@@ -55,9 +56,9 @@ where
     O: FromBuilder + Drop,
     O::Builder: GrowingBuilder + EmptyBuilder + Truncate + FreezeBuilder<Frozen = O> + Drop,
     requires { IsOneClass sorted.now }
-    ensures ok { IfOk result (λ nsecs. IsSortedChain N.labels D.rtype D.minimum sorted.now
+    ensures ok { IfOk result (λ nsecs. IsChain (zone_of N.labels D.rtype D.minimum sorted.now)
         (N.labels apex.now) config.now (links_of N.labels nsecs.items)) }
-    ensures err { IfErr result (HasNoSortedChain N.labels D.rtype D.minimum sorted.now
+    ensures err { IfErr result (ZoneHasNoChain (zone_of N.labels D.rtype D.minimum sorted.now)
         (N.labels apex.now) config.now) }
 {
     Ok(generate_nsecs(alloc, apex, sorted.owner_rrs(), config)?)

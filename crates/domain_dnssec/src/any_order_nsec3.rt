@@ -1,8 +1,9 @@
 //! NSEC3 chains of records that are sorted first.
 ghost use Rattle.std.specs.Prelude.{IfErr, IfOk};
 ghost use Rattle.domain_records.specs.Order.{IsOneClass};
+ghost use Rattle.domain_zone.specs.View.{zone_of};
 ghost use Rattle.domain_nsec3.specs.View.{as_param_record, config_of, hashed_links_of};
-ghost use Rattle.domain_dnssec.specs.AnyOrderNsec3.{HasNoHashedChain, HasNoSortedHashedChain, IsHashedChainOf, IsSortedHashedChain};
+ghost use Rattle.domain_dnssec.specs.AnyOrderNsec3.{HasNoHashedChain, IsHashedChainOf, IsWholeHashedChain, ZoneHasNoHashedChain};
 
 use crate::any_order::sort_one_class;
 use crate::chain::ChainError;
@@ -33,11 +34,11 @@ where
     O: FromBuilder + Drop,
     O::Builder: GrowingBuilder + EmptyBuilder + Truncate + FreezeBuilder<Frozen = O> + Drop,
     requires { IsOneClass sorted.now }
-    ensures ok { IfOk result (λ made. IsSortedHashedChain N.labels D.rtype D.minimum sorted.now
-        (N.labels apex.now) (config_of (H.answer hasher.now) config.now)
+    ensures ok { IfOk result (λ made. IsWholeHashedChain (zone_of N.labels D.rtype D.minimum
+        sorted.now) (N.labels apex.now) (config_of (H.answer hasher.now) config.now)
         config.now.nsec3param_ttl_mode (hashed_links_of N.labels made.nsec3s.items)
         (as_param_record N.labels made.nsec3param)) }
-    ensures err { IfErr result (HasNoSortedHashedChain N.labels D.rtype D.minimum sorted.now
+    ensures err { IfErr result (ZoneHasNoHashedChain (zone_of N.labels D.rtype D.minimum sorted.now)
         (N.labels apex.now) (config_of (H.answer hasher.now) config.now)) }
 {
     Ok(generate_nsec3s(alloc, apex, sorted.owner_rrs(), config, hasher)?)

@@ -5,21 +5,23 @@ use Rattle.domain_dnssec.proofs.laws.answers_tell_of_records.Goals as goal
 
 pub returns-clause-some : goal.returns-clause-some
 returns-clause-some g c = λ given apex config links listed x t answer leaves chain among proved.
-    let order = c.sorted_owners_never_descend.ensures given chain.sorted chain.sorts chain.chain.one_class in
+    let order = c.sorted_owners_never_descend.ensures given chain.sorted chain.sorts chain.one_class in
     record {
       sorted = chain.sorted;
       sorts = chain.sorts;
-      is = proved _ config links (c.chains_leave_out_names_below_dname.ensures.chosen _ apex config leaves) order chain.chain.chain among;
+      one_class = chain.one_class;
+      zone = proved _ config links (c.chains_leave_out_names_below_dname.ensures.chosen _ apex config leaves) order chain.zone among;
     }
 
 pub returns-clause-all : goal.returns-clause-all
 returns-clause-all g c = λ given apex config links listed x t answer leaves chain same proved.
-    let order = c.sorted_owners_never_descend.ensures given chain.sorted chain.sorts chain.chain.one_class in
+    let order = c.sorted_owners_never_descend.ensures given chain.sorted chain.sorts chain.one_class in
     let out = c.chains_leave_out_names_below_dname.ensures.chosen
     (zone_of g.N.ToName.labels g.D.RecordData.rtype g.D.ZoneData.minimum chain.sorted) apex config leaves in
     record {
       sorted = chain.sorted;
       sorts = chain.sorts;
-      is = subst (λ ls. IsAnswered ls apex x t answer) same proved _ config links out order chain.chain.chain (All-contains_itself links)
-          ∙ c.whole_chains_prove_all.ensures.zone _ apex config links x t out order chain.chain.chain;
+      one_class = chain.one_class;
+      zone = subst (λ ls. IsAnswered ls apex x t answer) same proved _ config links out order chain.zone (All-contains_itself links)
+          ∙ c.whole_chains_prove_all.ensures.zone _ apex config links x t out order chain.zone;
     }
