@@ -1,162 +1,102 @@
--- A chain over entries is the chain of the zone where the entries are its names with their types.
-use Rattle.std.proofs.Common.{◌≡◌, ℕ, zero, suc, ◌+◌, ◌<◌, ◌≤◌, true, List, [], ◌∷◌, ◌++◌, map, length, get_or, take, Some, None, Ok, refl, sym, ap, ◌∙◌, subst}
-use Rattle.std.proofs.{Common.{arith, inl, inr, add-one}, lemmas.{Bool.cases_lt, List.{get_or_default, get_or-map, length-map, take_more}}}
-use Rattle.std.proofs.lemmas.{Option.slice_get-get_or, List.Elements.{recursion_from_All, All-from_recursion}}
-use Rattle.std.proofs.lemmas.{List.Sorted.{list_any-IsPermutation, IsPermutation-map, All-permutation, length_permutation}, Grind.common_steps}
-use Rattle.std.specs.{Prelude.{All, IsPermutation, ◌||◌, slice_get}, List.{AllByRecursion, list_any, Sorted.IsStrictlySortedBy}, Ordering.nat_cmp}
-use Rattle.std.specs.Cmp.Lexicographic.{slice_cmp}
+-- Hashes in order, each linked with the next one, are the chain of the zone where they are those of the names of its chain.
+use Rattle.std.proofs.Common.{◌≡◌, ℕ, ◌+◌, ◌<◌, ◌≤◌, true, List, [], ◌∷◌, ◌++◌, map, length, get_or, take, Some, Ok, refl, sym, ap, ◌∙◌, subst}
+use Rattle.std.proofs.Common.{arith, inl, inr, add-one}
+use Rattle.std.proofs.lemmas.{Bool.cases_lt, List.{get_or-map, get_or_append_left, get_or_push, length-map, length_push, take_more}}
+use Rattle.std.proofs.lemmas.{Map.Keys.{apart_from_distinct, IsDistinct-IsPermutation}, Option.slice_get-get_or, Simd.map-map}
+use Rattle.std.proofs.lemmas.Slice.Zip.{firsts-zip, get_or-zip, length-zip}
+use Rattle.std.proofs.lemmas.{List.{Elements.{recursion_from_All, All-map, All-weaker}, Folds.list_any_at, Sorted.list_any-IsPermutation}, Grind.common_steps}
+use Rattle.std.specs.{Prelude.All, List.{AllByRecursion, IsDistinct, list_any, Sorted.IsStrictlySortedBy}, Ordering.nat_cmp, Cmp.Lexicographic.slice_cmp}
 use Rattle.domain_base.specs.Classes.{in_class}
 use Rattle.domain_names.specs.{Name.same_name, Words.Name}
+use Rattle.domain_octets.specs.Words.{Octets}
 use Rattle.domain_bitmap.specs.Bitmap.{bitmap_octets}
 use Rattle.domain_zone.specs.{Covering.pairs, Soa.{chain_ttl, soa_of}, Zone.ZoneRecord, declared.soa.ApexSoa.ApexSoa}
-use Rattle.domain_zone.proofs.{NameLemmas.same_itself, OwnerLemmas.in_any, PairLemmas.all_from_in, ZoneLemmas.weaker}
-use Rattle.domain_nsec3.specs.{Chain.{HashedLink, HashedName, IsHash, IsHashedChain, IsOfChain, ends, ends_of, hashed_owner}, Config.{ChainConfig, Hash}}
-use Rattle.domain_nsec3.specs.{Faults.hash_fault, Owners.{is_chain_name, nsec3_lists}}
-use Rattle.domain_nsec3.specs.Steps.{Common, Entry, HashedEntry, HashedTypes, without_hash, without_name, IsHashed, link_to, links_from, chain_links}
-use Rattle.domain_nsec3.specs.{Steps.IsOrderedChain, Meaning.IsRecordOf, StepView.{as_hashed_types, links_in}, declared.chain.HashedChain.HashedChain}
-use Rattle.domain_nsec3.{specs.declared.hash.Hashed.Hashed, proofs.{TextLemmas.{sound_some, sound_short}, FaultLemmas.names_of}}
+use Rattle.domain_zone.proofs.{NameLemmas.same_itself, OwnerLemmas.any_in, PairLemmas.{all_in}, SharedLemmas.either_way, ZoneLemmas.{any_map, same_back}}
+use Rattle.domain_nsec3.specs.{Chain.{HashedLink, HashedName, IsHashedChain, IsOfChain, cycle, ends, ends_of, hashed_owner}, Config.ChainConfig}
+use Rattle.domain_nsec3.specs.{Faults.{AreAllHashed, HasCollision, hash_fault}, Meaning.IsRecordOf, Owners.{is_chain_name, nsec3_lists}}
+use Rattle.domain_nsec3.specs.Steps.{AreHashesOf, AreOrderedHashes, Common, HasAlikeNeighbours, IsHashOf, link_to, links_in, name_at, no_types}
+use Rattle.domain_nsec3.specs.declared.{chain.HashedChain.HashedChain, hash.Hashed.Hashed}
+use Rattle.domain_nsec3.proofs.{TextLemmas.{sound_some, sound_short}, FaultLemmas.hash_same}
 
--- ---- a list that was hashed, and then put in order
+-- ---- each with the one after it
 
--- these are the entries with their hashes, in any order
-pub record AreHashesOf (a : Name) (hash : Hash) (entries : List Entry) (es : List HashedEntry) : Type 0 where
-  pub moved : IsPermutation entries (map without_hash es)
-  pub hashed : All (IsHashed a hash) es
+module _ {X : Type 0} where
+  pub cycle_length : (xs : List X) → length (cycle xs) ≡ length xs
+  cycle_length [] = refl
+  cycle_length (x ∷ xs) = omega (arith, length-zip (x ∷ xs) (xs ++ x ∷ []), length_push xs x)
 
-pub moved_hashes : {X : Type 0} (see : X → HashedEntry) {a : Name} {hash : Hash} {entries : List Entry} {items ordered : List X}
-    → IsPermutation items ordered → map without_hash (map see items) ≡ entries → All (IsHashed a hash) (map see items)
-    → AreHashesOf a hash entries (map see ordered)
-moved_hashes see {a = a} {hash = hash} {items = items} {ordered = ordered} moved same ok =
-    let seen = IsPermutation-map see items ordered moved in
-    record {
-      moved = subst (λ (es : List Entry). IsPermutation es (map without_hash (map see ordered))) same
-          (IsPermutation-map without_hash _ _ seen);
-      hashed = All-permutation (IsHashed a hash) _ _ seen ok;
-    }
+  pub cycle_owners : (xs : List X) → map (λ (p : X × X). p.0) (cycle xs) ≡ xs
+  cycle_owners [] = refl
+  cycle_owners (x ∷ xs) = firsts-zip (x ∷ xs) (xs ++ x ∷ []) (omega (arith, length_push xs x))
 
-pub sound_hashes : {X : Type 0} (see : X → HashedEntry) {a : Name} {hash : Hash} (xs : List X)
-    → All (IsHashed a hash) (map see xs) → All (λ x. hash_fault a (Ok (see x).hash) ≡ None) xs
-sound_hashes {X = X} see {a = a} {hash = hash} xs h =
-    All-from_recursion (λ x. hash_fault a (Ok (see x).hash) ≡ None) xs (each xs (recursion_from_All (IsHashed a hash) (map see xs) h))
-  where
-    each : (xs : List X) → AllByRecursion (IsHashed a hash) (map see xs) → AllByRecursion (λ x. hash_fault a (Ok (see x).hash) ≡ None) xs
-    each [] h = tt
-    each (x ∷ xs) h = (ap (hash_fault a) (sym h.0.known) ∙ h.0.sound, each xs h.1)
+  cycle_at : (x : X) (xs : List X) (i : ℕ) (d : X × X) → i < length (x ∷ xs)
+      → get_or (cycle (x ∷ xs)) i d ≡ (get_or (x ∷ xs) i d.0, get_or (xs ++ x ∷ []) i d.1)
+  cycle_at x xs i d within = get_or-zip (x ∷ xs) (xs ++ x ∷ []) i d within (omega (arith, within, length_push xs x))
 
-pub hashes_of : {X : Type 0} (see : X → HashedEntry) (xs : List X) → map (λ x. (see x).hash) xs ≡ map (λ e. e.hash) (map see xs)
-hashes_of see [] = refl
-hashes_of see (x ∷ xs) = ap (λ l. (see x).hash ∷ l) (hashes_of see xs)
+  pub first_at : (xs : List X) (i : ℕ) (d : X × X) → i < length xs → (get_or (cycle xs) i d).0 ≡ get_or xs i d.0
+  first_at [] i d within = absurd (omega arith)
+  first_at (x ∷ xs) i d within = ap (λ p. p.0) (cycle_at x xs i d within)
 
-pub ordered_chain : {a : Name} {hash : Hash} {p : Common} {entries : List Entry} (es : List HashedEntry) {links : List HashedLink}
-    → 0 < length entries → AreHashesOf a hash entries es → IsStrictlySortedBy (slice_cmp nat_cmp) (map (λ e. e.hash) es)
-    → links ≡ chain_links a p (map without_name es) → IsOrderedChain a hash p entries links
-ordered_chain {entries = entries} [] some h ascend are = absurd (omega (arith, length_permutation entries [] h.moved))
-ordered_chain (first ∷ later) some h ascend are = grind (arith, common_steps)
-
-module _ (a : Name) (p : Common) where
-  ends_from : (e : HashedEntry) (es : List HashedEntry) (first : List ℕ)
-      → map ends (links_from a p (map without_name (e ∷ es)) first)
-      ≡ map (ends_of a) (pairs (e.hash ∷ map (λ f. f.hash) es) first)
-  ends_from e [] first = refl
-  ends_from e (f ∷ es) first = ap (λ l. (hashed_owner a e.hash, f.hash) ∷ l) (ends_from f es first)
-
-  bits_from : (es : List HashedEntry) (first : List ℕ) → map (λ k. k.bits) (links_from a p (map without_name es) first) ≡ map (λ e. e.bits) es
-  bits_from [] first = refl
-  bits_from (e ∷ []) first = refl
-  bits_from (e ∷ f ∷ es) first = ap (λ l. e.bits ∷ l) (bits_from (f ∷ es) first)
-
-  numbers_from : (es : List HashedTypes) (first : List ℕ) → AllByRecursion (λ k. (k.class ≡ in_class) × (k.ttl ≡ p.ttl)) (links_from a p es first)
-  numbers_from [] first = tt
-  numbers_from (e ∷ []) first = ((refl, refl), tt)
-  numbers_from (e ∷ f ∷ es) first = ((refl, refl), numbers_from (f ∷ es) first)
-
-  told_from : (es : List HashedTypes) (first : List ℕ) → AllByRecursion (λ k. (k.parameters ≡ p.parameters) × (k.flags ≡ p.flags)) (links_from a p es first)
-  told_from [] first = tt
-  told_from (e ∷ []) first = ((refl, refl), tt)
-  told_from (e ∷ f ∷ es) first = ((refl, refl), told_from (f ∷ es) first)
-
-  -- the link at a place
-  front_at : (es : List HashedTypes) (first : List ℕ) (i : ℕ) (d : HashedLink) (e : HashedTypes) → suc i < length es
-      → get_or (links_from a p es first) i d ≡ link_to a p (get_or es i e) (get_or es (suc i) e).hash
-  front_at [] first i d e l = absurd (omega arith)
-  front_at (x ∷ []) first i d e l = absurd (omega arith)
-  front_at (x ∷ y ∷ es) first zero d e l = refl
-  front_at (x ∷ y ∷ es) first (suc i) d e l = front_at (y ∷ es) first i d e (omega arith)
-
-  end_at : (es : List HashedTypes) (first : List ℕ) (i : ℕ) (d : HashedLink) (e : HashedTypes) → suc i ≡ length es
-      → get_or (links_from a p es first) i d ≡ link_to a p (get_or es i e) first
-  end_at [] first i d e l = absurd (omega arith)
-  end_at (x ∷ []) first zero d e l = refl
-  end_at (x ∷ []) first (suc i) d e l = absurd (omega arith)
-  end_at (x ∷ y ∷ es) first zero d e l = absurd (omega arith)
-  end_at (x ∷ y ∷ es) first (suc i) d e l = end_at (y ∷ es) first i d e (omega arith)
-
-  pub link_before : (es : List HashedTypes) (i : ℕ) (d : HashedLink) (e : HashedTypes) → i + 1 < length es
-      → get_or (chain_links a p es) i d ≡ link_to a p (get_or es i e) (get_or es (i + 1) e).hash
-  link_before [] i d e l = absurd (omega arith)
-  link_before (x ∷ es) i d e l = rw add-one (front_at (x ∷ es) x.hash i d e (omega arith))
-
-  pub link_last : (es : List HashedTypes) (i : ℕ) (d : HashedLink) (e : HashedTypes) → i < length es → length es ≤ i + 1
-      → get_or (chain_links a p es) i d ≡ link_to a p (get_or es i e) (get_or es 0 e).hash
-  link_last [] i d e l m = absurd (omega arith)
-  link_last (x ∷ es) i d e l m = end_at (x ∷ es) x.hash i d e (omega arith)
-
-  links_length : (es : List HashedTypes) (first : List ℕ) → length (links_from a p es first) ≡ length es
-  links_length [] first = refl
-  links_length (e ∷ []) first = refl
-  links_length (e ∷ f ∷ es) first = ap suc (links_length (f ∷ es) first)
-
-  pub chain_length : (es : List HashedTypes) → length (chain_links a p es) ≡ length es
-  chain_length [] = refl
-  chain_length (e ∷ es) = links_length (e ∷ es) e.hash
-
-  -- what stands at a place, with the hash after it
-  pub link_is : {X : Type 0} (see : X → HashedTypes) (hs : List X) (item : X) (next : List ℕ) (i : ℕ) (d : HashedLink) → i < length hs → item ≡ get_or hs i item
-      → (i + 1 < length hs → (x : X) → next ≡ (see (get_or hs (i + 1) x)).hash) → (length hs ≤ i + 1 → (x : X) → next ≡ (see (get_or hs 0 x)).hash)
-      → link_to a p (see item) next ≡ get_or (chain_links a p (map see hs)) i d
-  link_is see hs item next i d within is later first =
-      let whole = length-map hs see in
-      let here : see item ≡ get_or (map see hs) i (see item) = ap see is ∙ sym (get_or-map see hs i item (see item) within) in
-      elim (cases_lt _ _) [
-        | inl l ↦
-            let after : next ≡ (get_or (map see hs) (i + 1) (see item)).hash = later l item
-            ∙ ap (λ t. t.hash) (sym (get_or-map see hs _ item (see item) l)) in
-            (λ j. link_to a p (here j) (after j)) ∙ sym (link_before _ i d (see item) (omega arith))
-        | inr l ↦
-            let after : next ≡ (get_or (map see hs) 0 (see item)).hash = first l item
-            ∙ ap (λ t. t.hash) (sym (get_or-map see hs 0 item (see item) (omega arith))) in
-            (λ j. link_to a p (here j) (after j)) ∙ sym (link_last _ i d (see item) (omega arith) (omega arith))
+  -- the one after it, or the first after the last
+  pub next_at : {Y : Type 0} (f : X → Y) (next : Y) (xs : List X) (i : ℕ) (d : X × X) → i < length xs
+      → (i + 1 < length xs → (e : X) → next ≡ f (get_or xs (i + 1) e)) → (length xs ≤ i + 1 → (e : X) → next ≡ f (get_or xs 0 e))
+      → next ≡ f (get_or (cycle xs) i d).1
+  next_at f next [] i d within later first = absurd (omega arith)
+  next_at f next (x ∷ xs) i d within later first =
+      let at = ap (λ p. f p.1) (sym (cycle_at x xs i d within)) in
+      elim (cases_lt (i + 1) (length (x ∷ xs))) [
+        | inl l ↦ later l d.1 ∙ ap f (after l) ∙ at
+        | inr l ↦ first l d.1 ∙ ap f (sym (get_or_push xs x d.1 i (omega (arith, l, within)))) ∙ at
       ]
+    where
+      after : i + 1 < length (x ∷ xs) → get_or (x ∷ xs) (i + 1) d.1 ≡ get_or (xs ++ x ∷ []) i d.1
+      after l = rw add-one (sym (get_or_append_left xs (x ∷ []) d.1 i (omega (arith, l))))
 
--- a link for each hash
-pub links_counted : (a : Name) (chain : HashedChain) (p : Common) → length (links_in a chain p) ≡ length chain.hashed.items
-links_counted a chain p = chain_length a p (map (as_hashed_types chain.types) chain.hashed.items) ∙ length-map chain.hashed.items (as_hashed_types chain.types)
-
--- the record at a place has the hash at that place
-pub hash_there : (a : Name) (chain : HashedChain) (p : Common) (i : ℕ) (h : Hashed) → i < length chain.hashed.items
-    → h ≡ get_or chain.hashed.items i h → All (λ octet. octet < 256) h.hash
-    → (k : HashedLink) × IsRecordOf a (links_in a chain p) i k h.hash
-hash_there a chain p i h within is octets =
-    (get_or links i (link_to a p (see h) []), record { there = there; spelled = spelled; octets = octets })
+cycle_map : {X Y : Type 0} (f : X → Y) (xs : List X) → cycle (map f xs) ≡ map (λ (q : X × X). (f q.0, f q.1)) (cycle xs)
+cycle_map f [] = refl
+cycle_map {X = X} f (x ∷ xs) = by x xs x
   where
-    see : Hashed → HashedTypes
-    see = as_hashed_types chain.types
+    by : (w : X) (ws : List X) (u : X) → pairs (map f (w ∷ ws)) (f u) ≡ map (λ (q : X × X). (f q.0, f q.1)) (pairs (w ∷ ws) u)
+    by w [] u = refl
+    by w (v ∷ ws) u = ap (λ t. (f w, f v) ∷ t) (by v ws u)
 
-    links : List HashedLink
-    links = links_in a chain p
+pub map_same : {X Y : Type 0} (f g : X → Y) (xs : List X) → AllByRecursion (λ x. f x ≡ g x) xs → map f xs ≡ map g xs
+map_same f g [] h = refl
+map_same f g (x ∷ xs) h = λ i. h.0 i ∷ map_same f g xs h.1 i
 
-    there : slice_get links i ≡ Some (get_or links i (link_to a p (see h) []))
-    there = let counted = links_counted a chain p in slice_get-get_or links i (link_to a p (see h) []) (omega arith)
+-- ---- the links of a chain
 
-    -- the hash after it, whichever that is
-    spelled : (get_or links i (link_to a p (see h) [])).owner ≡ hashed_owner a h.hash
-    spelled = elim (cases_lt (i + 1) (length chain.hashed.items)) [
-      | inl l ↦ sym (ap (λ k. k.owner) (link_is a p see chain.hashed.items h (get_or chain.hashed.items (i + 1) h).hash i
-          (link_to a p (see h) []) within is (λ m x. ap (λ t. t.hash) (get_or_default chain.hashed.items (i + 1) h x m)) (λ m. absurd (omega (arith, l, m)))))
-      | inr l ↦ sym (ap (λ k. k.owner) (link_is a p see chain.hashed.items h (get_or chain.hashed.items 0 h).hash i
-          (link_to a p (see h) []) within is (λ m. absurd (omega (arith, l, m)))
-          (λ m x. ap (λ t. t.hash) (get_or_default chain.hashed.items 0 h x (omega (arith, within))))))
-    ]
+module _ (a : Name) (chain : HashedChain) (p : Common) where
+  -- what stands at a place, with the hash after it
+  pub link_is : (item : Hashed) (next : Octets) (i : ℕ) (d : HashedLink) → i < length chain.hashed.items → item ≡ get_or chain.hashed.items i item
+      → (i + 1 < length chain.hashed.items → (h : Hashed) → next ≡ (get_or chain.hashed.items (i + 1) h).hash)
+      → (length chain.hashed.items ≤ i + 1 → (h : Hashed) → next ≡ (get_or chain.hashed.items 0 h).hash)
+      → link_to a p chain.types item next ≡ get_or (links_in a chain p) i d
+  link_is item next i d within is later first =
+      (λ j. link_to a p chain.types ((is ∙ sym (first_at chain.hashed.items i (item, item) within)) j)
+      (next_at (λ (h : Hashed). h.hash) next chain.hashed.items i (item, item) within later first j))
+      ∙ sym (get_or-map (λ (q : Hashed × Hashed). link_to a p chain.types q.0 q.1.hash) (cycle chain.hashed.items) i (item, item) d
+      (omega (arith, within, cycle_length chain.hashed.items)))
+
+  pub links_counted : length (links_in a chain p) ≡ length chain.hashed.items
+  links_counted =
+      length-map (cycle chain.hashed.items) (λ (q : Hashed × Hashed). link_to a p chain.types q.0 q.1.hash) ∙ cycle_length chain.hashed.items
+
+  -- the record at a place has the hash at that place
+  pub hash_there : (i : ℕ) (h : Hashed) → i < length chain.hashed.items → h ≡ get_or chain.hashed.items i h → All (λ octet. octet < 256) h.hash
+      → (k : HashedLink) × IsRecordOf a (links_in a chain p) i k h.hash
+  hash_there i h within is octets =
+      let d = link_to a p chain.types h h.hash in (
+        get_or (links_in a chain p) i (link_to a p chain.types h h.hash),
+        record {
+          there = slice_get-get_or (links_in a chain p) i d (omega (arith, within, links_counted));
+          spelled =
+              ap (λ k. k.owner) (get_or-map (λ (q : Hashed × Hashed). link_to a p chain.types q.0 q.1.hash) (cycle chain.hashed.items) i (h, h) d
+              (omega (arith, within, cycle_length chain.hashed.items)))
+              ∙ ap (λ (g : Hashed). hashed_owner a g.hash) (first_at chain.hashed.items i (h, h) within ∙ sym is);
+          octets = octets;
+        },
+      )
 
 -- one more record is made
 pub one_made : {X : Type 0} (see : X → HashedLink) (old new : List X) (item : X) (i : ℕ) (links : List HashedLink)
@@ -164,88 +104,87 @@ pub one_made : {X : Type 0} (see : X → HashedLink) (old new : List X) (item : 
     → map see new ≡ take (i + 1) links
 one_made see old new item i links within pushed is h = grind (arith, common_steps, (take_more links i (see item) within))
 
--- the names with their hashes
-abbrev named : HashedEntry → HashedName
-named e = record { name = e.name; hash = e.hash }
+-- ---- the hashes of the names of a chain
 
-bits_of : (b : Name → List ℕ) (es : List HashedEntry) → AllByRecursion (λ n. n.bits ≡ b n.name) (map without_hash es)
-    → map (λ e. e.bits) es ≡ map (λ n. b n.name) (map named es)
-bits_of b [] h = refl
-bits_of b (e ∷ es) h = λ i. h.0 i ∷ bits_of b es h.1 i
+module _ (L : List ZoneRecord) (a : Name) (config : ChainConfig) (names : List Name)
+    (are : (x : Name) → list_any (λ n. same_name n x) names ≡ is_chain_name L a config x) where
+  pub in_chain : (i : ℕ) → i < length names → is_chain_name L a config (get_or names i []) ≡ true
+  in_chain i within =
+      sym (are (get_or names i [])) ∙ list_any_at (λ n. same_name n (get_or names i [])) names i [] within
+      (same_itself (get_or names i []) (get_or names i []) refl)
 
-hashes_named : (es : List HashedEntry) → map (λ n. n.hash) (map named es) ≡ map (λ e. e.hash) es
-hashes_named [] = refl
-hashes_named (e ∷ es) = ap (λ l. e.hash ∷ l) (hashes_named es)
+  module _ (hashed : List Hashed) (hashes : AreHashesOf a config.hash names hashed) where
+    of_name : (x : Name) → is_chain_name L a config x ≡ true → list_any (λ h. same_name (name_at names h) x) hashed ≡ true
+    of_name x c =
+        sym (any_map (λ n. same_name n x) (name_at names) hashed)
+        ∙ sym (list_any-IsPermutation (λ n. same_name n x) names (map (name_at names) hashed) hashes.moved) ∙ are x ∙ c
 
-any_named : (x : Name) (es : List HashedEntry) → list_any (λ n. same_name n.name x) (map named es) ≡ list_any (λ n. same_name n x) (map (λ e. e.name) es)
-any_named x [] = refl
-any_named x (e ∷ es) = ap (λ b. same_name e.name x || b) (any_named x es)
+    pub all_hashed : AreAllHashed L a config
+    all_hashed x c =
+        let h = any_in (λ h. same_name (name_at names h) x) hashed (of_name x c) in
+        let e = all_in (IsHashOf a config.hash names) hashed h.0 (recursion_from_All (IsHashOf a config.hash names) hashed hashes.each) h.1 in
+        ap (hash_fault a) (sym (hash_same config.hash (name_at names h.0) x h.2) ∙ e.is.known) ∙ e.is.sound
 
--- octets of use are a hash
-sound_hash : (a : Name) (h : List ℕ) → hash_fault a (Ok h) ≡ None → All (λ o. o < 256) h → IsHash h
-sound_hash a h e octets = (sound_some a h e, (let short = sound_short a h e in omega arith), octets)
-
-module _ (L : List ZoneRecord) (a : Name) (config : ChainConfig) (entries : List Entry) where
-  -- the entries are the names of the chain, with their types
-  pub record AreChainNames : Type 0 where
-    pub names : (x : Name) → list_any (λ n. same_name n x) (map (λ n. n.name) entries) ≡ is_chain_name L a config x
-    pub bits : All (λ n. n.bits ≡ bitmap_octets (nsec3_lists L a config n.name)) entries
-
-  module _ (entry : AreChainNames) (es : List HashedEntry) (moved : IsPermutation entries (map without_hash es))
-      (hashed : All (IsHashed a config.hash) es) where
-    any_name : (x : Name) → list_any (λ n. same_name n x) (map (λ e. e.name) es) ≡ is_chain_name L a config x
-    any_name x = grind (arith, common_steps, list_any-IsPermutation, IsPermutation-map, (names_of es))
-
-    pub all_complete : (x : Name) → is_chain_name L a config x ≡ true → list_any (λ n. same_name n.name x) (map named es) ≡ true
-    all_complete x h = any_named x es ∙ any_name x ∙ h
-
-    all_sound : AllByRecursion (IsOfChain L a config) (map named es)
-    all_sound = each es (all_from_in (λ n. is_chain_name L a config n ≡ true) (map (λ e. e.name) es) (λ x i. sym (any_name x)
-        ∙ in_any (λ n. same_name n x) (map (λ e. e.name) es) x i (same_itself x x refl)))
-        (recursion_from_All (IsHashed a config.hash) es hashed)
+    -- two neighbours with one hash are two names
+    pub collides : IsDistinct same_name names → HasAlikeNeighbours hashed → HasCollision L a config
+    collides distinct n =
+        let one = of_hash n.place n.one (omega (arith, n.inside)) n.first in
+        let other = of_hash (n.place + 1) n.other n.inside n.second in
+        record {
+          x = name_at names n.one;
+          y = name_at names n.other;
+          first = in_chain n.one.place one.inside;
+          second = in_chain n.other.place other.inside;
+          apart =
+              (λ i. same_name (name_is n.place n.one (omega (arith, n.inside)) n.first i) (name_is (n.place + 1) n.other n.inside n.second i))
+              ∙ apart_from_distinct same_name (map (name_at names) hashed) n.place (n.place + 1) []
+              (IsDistinct-IsPermutation same_name flips names (map (name_at names) hashed) hashes.moved distinct) (omega arith)
+              (omega (arith, n.inside, length-map hashed (name_at names)));
+          alike = one.is.known ∙ ap Ok n.alike ∙ sym other.is.known;
+        }
       where
-        each : (fs : List HashedEntry) → AllByRecursion (λ n. is_chain_name L a config n ≡ true) (map (λ e. e.name) fs)
-            → AllByRecursion (IsHashed a config.hash) fs → AllByRecursion (IsOfChain L a config) (map named fs)
-        each [] c h = tt
-        each (f ∷ fs) c h = (
-          record { in_chain = c.0; hashed = h.0.known; sound = sound_hash a f.hash (ap (hash_fault a) (sym h.0.known) ∙ h.0.sound) h.0.octets },
-          each fs c.1 h.1,
-        )
+        flips : (x y : Name) → same_name x y ≡ same_name y x
+        flips x y = either_way (same_name x y) (same_name y x) (same_back x y) (same_back y x)
 
-  -- what the chain has in common is that of the zone
-  pub record IsCommon (p : Common) : Type 0 where
-    pub numbers : ApexSoa
-    pub soa : soa_of L a ≡ Some numbers
-    pub ttl : p.ttl ≡ chain_ttl numbers
-    pub parameters : p.parameters ≡ config.parameters
-    pub flags : p.flags ≡ config.flags
+        of_hash : (i : ℕ) (h : Hashed) → i < length hashed → h ≡ get_or hashed i h → IsHashOf a config.hash names h
+        of_hash i h within is = subst (IsHashOf a config.hash names) (sym is) (hashes.each i h within)
 
-  pub chain_of_zone : {p : Common} {links : List HashedLink} → IsCommon p → AreChainNames → IsOrderedChain a config.hash p entries links
-      → IsHashedChain L a config links
-  chain_of_zone {p = p} common entry c =
-      let listed : AllByRecursion (λ n. n.bits ≡ bitmap_octets (nsec3_lists L a config n.name)) (map without_hash (c.first ∷ c.later)) =
-      recursion_from_All (λ n. n.bits ≡ bitmap_octets (nsec3_lists L a config n.name)) (map without_hash (c.first ∷ c.later))
-      (All-permutation (λ n. n.bits ≡ bitmap_octets (nsec3_lists L a config n.name)) entries
-      (map without_hash (c.first ∷ c.later)) c.moved entry.bits) in
-      record {
-        numbers = common.numbers;
-        soa = common.soa;
-        names = map named (c.first ∷ c.later);
-        sound = All-from_recursion (IsOfChain L a config) (map named (c.first ∷ c.later)) (all_sound entry (c.first ∷ c.later) c.moved c.hashed);
-        complete = all_complete entry (c.first ∷ c.later) c.moved c.hashed;
-        ascend = subst (IsStrictlySortedBy (slice_cmp nat_cmp)) (sym (hashes_named (c.first ∷ c.later))) c.ascend;
-        linked = ap (map ends) c.are ∙ ends_from a p c.first c.later c.first.hash
-            ∙ ap (λ hs. map (ends_of a) (pairs (c.first.hash ∷ hs) c.first.hash)) (sym (hashes_named c.later));
-        bits = ap (map (λ k. k.bits)) c.are ∙ bits_from a p (c.first ∷ c.later) c.first.hash
-            ∙ bits_of (λ n. bitmap_octets (nsec3_lists L a config n)) (c.first ∷ c.later) listed;
-        numbered = subst (All (λ k. (k.class ≡ in_class) × (k.ttl ≡ chain_ttl common.numbers))) (sym c.are)
-            (All-from_recursion (λ k. (k.class ≡ in_class) × (k.ttl ≡ chain_ttl common.numbers)) (chain_links a p (map without_name (c.first ∷ c.later)))
-            (weaker (λ k. (k.class ≡ in_class) × (k.ttl ≡ p.ttl)) (λ k. (k.class ≡ in_class) × (k.ttl ≡ chain_ttl common.numbers))
-            (λ k n. (n.0, n.1 ∙ common.ttl)) (chain_links a p (map without_name (c.first ∷ c.later)))
-            (numbers_from a p (map without_name (c.first ∷ c.later)) c.first.hash)));
-        told = subst (All (λ k. (k.parameters ≡ config.parameters) × (k.flags ≡ config.flags))) (sym c.are)
-            (All-from_recursion (λ k. (k.parameters ≡ config.parameters) × (k.flags ≡ config.flags)) (chain_links a p (map without_name (c.first ∷ c.later)))
-            (weaker (λ k. (k.parameters ≡ p.parameters) × (k.flags ≡ p.flags)) _ (λ k n. (n.0 ∙ common.parameters, n.1 ∙ common.flags))
-            (chain_links a p (map without_name (c.first ∷ c.later)))
-            (told_from a p (map without_name (c.first ∷ c.later)) c.first.hash)));
-      }
+        name_is : (i : ℕ) (h : Hashed) → i < length hashed → h ≡ get_or hashed i h → name_at names h ≡ get_or (map (name_at names) hashed) i []
+        name_is i h within is = ap (name_at names) is ∙ sym (get_or-map (name_at names) hashed i h [] within)
+
+  -- each linked with the next one, with the types of its name
+  pub chain_of_zone : (chain : HashedChain) (p : Common) (numbers : ApexSoa)
+      → ((i : ℕ) → i < length names → get_or chain.types i no_types ≡ bitmap_octets (nsec3_lists L a config (get_or names i [])))
+      → soa_of L a ≡ Some numbers → p.ttl ≡ chain_ttl numbers → p.parameters ≡ config.parameters → p.flags ≡ config.flags
+      → AreOrderedHashes a config.hash names chain.hashed.items → IsHashedChain L a config (links_in a chain p)
+  chain_of_zone chain p numbers listed soa ttl parameters flags o = record {
+    numbers = numbers;
+    soa = soa;
+    names = map named hs;
+    sound = All-map (IsOfChain L a config) named hs (All-weaker (IsHashOf a config.hash names) (λ h. IsOfChain L a config (named h)) (λ h e. record {
+      in_chain = in_chain h.place e.inside;
+      hashed = e.is.known;
+      sound = (sound_some a h.hash e.is.sound, (let short = sound_short a h.hash e.is.sound in omega arith), e.is.octets);
+    }) hs o.hashes.each);
+    complete = λ x c. any_map (λ n. same_name n.name x) named hs ∙ of_name hs o.hashes x c;
+    ascend = subst (IsStrictlySortedBy (slice_cmp nat_cmp)) (sym (map-map (λ n. n.hash) named hs)) o.ascend;
+    linked = map-map ends link (cycle hs) ∙ sym (map-map (ends_of a) (λ (q : Hashed × Hashed). (q.0.hash, q.1.hash)) (cycle hs))
+        ∙ ap (map (ends_of a)) (sym (cycle_map (λ (h : Hashed). h.hash) hs) ∙ ap cycle (sym (map-map (λ n. n.hash) named hs)));
+    bits = map-map (λ k. k.bits) link (cycle hs)
+        ∙ sym (map-map (λ (h : Hashed). get_or chain.types h.place no_types) (λ (q : Hashed × Hashed). q.0) (cycle hs))
+        ∙ ap (map (λ (h : Hashed). get_or chain.types h.place no_types)) (cycle_owners hs)
+        ∙ map_same (λ (h : Hashed). get_or chain.types h.place no_types) (λ h. bitmap_octets (nsec3_lists L a config (name_at names h))) hs
+        (recursion_from_All _ hs (All-weaker (IsHashOf a config.hash names) _ (λ h e. listed h.place e.inside) hs o.hashes.each))
+        ∙ sym (map-map (λ n. bitmap_octets (nsec3_lists L a config n.name)) named hs);
+    numbered = All-map (λ k. (k.class ≡ in_class) × (k.ttl ≡ chain_ttl numbers)) link (cycle hs) (λ k d l. (refl, ttl));
+    told = All-map (λ k. (k.parameters ≡ config.parameters) × (k.flags ≡ config.flags)) link (cycle hs) (λ k d l. (parameters, flags));
+  }
+    where
+      hs : List Hashed
+      hs = chain.hashed.items
+
+      named : Hashed → HashedName
+      named h = record { name = name_at names h; hash = h.hash }
+
+      link : Hashed × Hashed → HashedLink
+      link q = link_to a p chain.types q.0 q.1.hash

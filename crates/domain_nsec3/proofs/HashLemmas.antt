@@ -1,109 +1,112 @@
 -- Lists of hashed names: how they are ordered and built.
-use Rattle.std.proofs.Common.{◌≡◌, ℕ, zero, suc, ◌+◌, ◌-◌, ◌<◌, ◌≤◌, true, List, [], ◌∷◌, ◌++◌, map, length, get_or, take, drop, None, refl, sym, ap, ◌∙◌}
-use Rattle.std.proofs.{Common.{subst, arith, inl, inr, ◌⊎◌, add-one}, lemmas.{Bool.cases_Bool, List.{get_or-map, length-map, take-append-drop, drop_more}}}
-use Rattle.std.{proofs.lemmas.{List.{Elements.recursion_from_All, Kept.IsStrictlySortedBy-dedup}, Grind.common_steps}, specs.Prelude.All}
-use Rattle.std.specs.{List.{AllByRecursion, dedup, dedup_from, Sorted.{IsStrictlySortedBy, IsSorted, IsSortedByKey}}, Ordering.{nat_cmp, eq_by_cmp}}
-use Rattle.std.specs.{Cmp.{Equal-is, Lexicographic.{slice_cmp, nat_list_cmp_total}}, FinMap.{slice_cmp-IsAntisymmetric, nat_cmp-IsAntisymmetric}}
+use Rattle.std.proofs.Common.{◌≡◌, ℕ, ◌+◌, ◌-◌, ◌<◌, ◌≤◌, false, List, [], ◌∷◌, ◌++◌, map, length, get_or, take, None, refl, sym, ap, ◌∙◌}
+use Rattle.std.proofs.Common.{subst, arith, inl, inr, ◌⊎◌, IsPermutation}
+use Rattle.std.proofs.lemmas.{Bool.{cases_lt, true≢false}, List.{get_or-map, get_or_read, length-map, map_push, take_all, take_more}}
+use Rattle.std.proofs.lemmas.Map.Keys.{sorted_from_all_adjacent}
+use Rattle.std.proofs.lemmas.List.Elements.{All-map, All-push, All-weaker}
+use Rattle.std.proofs.lemmas.List.Sorted.{All-permutation, IsPermutation-map, IsPermutation-refl, IsPermutation-trans}
+use Rattle.std.specs.{Prelude.All, List.Sorted.{IsSortedByKey, IsStrictlySortedBy}, Cmp.Lexicographic.{slice_cmp, nat_list_cmp_total}}
+use Rattle.std.specs.FinMap.{slice_cmp-IsAntisymmetric, nat_cmp-IsAntisymmetric}
+use Rattle.std.specs.{Ordering.{nat_cmp, is_lt, ordering_reverse}, declared.cmp.Ordering.{Ordering, TheVariants.{Less, Equal, Greater}}}
 use Rattle.domain_hasher.specs.declared.error.Nsec3HashError.{Nsec3HashError, TheVariants.OutOfMemory}
 use Rattle.domain_names.specs.Words.{Name}
-use Rattle.domain_nsec3.specs.{Config.{Hash, hash_name}, Faults.hash_fault}
-use Rattle.domain_nsec3.specs.Steps.{Entry, HashedEntry, without_hash, without_types, IsHashed, IsRefusal, IsFirstRefused, HasAlikeNeighbours}
-use Rattle.domain_nsec3.specs.{StepView.as_hashed_entry, declared.hash.Hashed.Hashed}
+use Rattle.domain_octets.specs.Words.{Octets}
+use Rattle.domain_nsec3.specs.{Config.{Hash, hash_name}, Faults.hash_fault, declared.hash.Hashed.Hashed}
+use Rattle.domain_nsec3.specs.Steps.{IsHashed, IsHashOf, AreHashesOf, HasAlikeNeighbours, IsRefusal, IsFirstRefused, name_at}
 
--- ---- neighbours
-
-abbrev pub AreApart : List (List ℕ) → ℕ → Type 0
-AreApart hs n = (k : ℕ) (d : List ℕ) → k + 1 < n → get_or hs k d ≡ get_or hs (k + 1) d → ⊥
-
-ties_are : (x y : List ℕ) → eq_by_cmp (slice_cmp nat_cmp) y x ≡ true → x ≡ y
-ties_are x y e = sym (slice_cmp-IsAntisymmetric nat_cmp-IsAntisymmetric y x ((Equal-is (slice_cmp nat_cmp y x)).0 e))
-
-get_next : (x : List ℕ) (l : List (List ℕ)) (k : ℕ) (d : List ℕ) → get_or (x ∷ l) (k + 1) d ≡ get_or l k d
-get_next x l k d = rw add-one
-
-dedup_apart : (x : List ℕ) (xs : List (List ℕ)) → AreApart (x ∷ xs) (length (x ∷ xs)) → dedup_from (eq_by_cmp (slice_cmp nat_cmp)) x xs ≡ x ∷ xs
-dedup_apart x [] h = refl
-dedup_apart x (y ∷ xs) h =
-    elim (cases_Bool _) [
-      | inl e ↦ absurd (h 0 [] (omega arith) (ties_are x y e))
-      | inr e ↦ rw e (ap (λ zs. x ∷ zs) (dedup_apart y xs (λ k d l same.
-          h (k + 1) d (omega arith) (get_next x (y ∷ xs) k d ∙ same ∙ sym (get_next x (y ∷ xs) (k + 1) d)))))
-    ]
-
-pub strictly_apart : (xs : List (List ℕ)) → IsSorted (slice_cmp nat_cmp) xs → AreApart xs (length xs) → IsStrictlySortedBy (slice_cmp nat_cmp) xs
-strictly_apart xs s h = subst (IsStrictlySortedBy (slice_cmp nat_cmp)) (none xs h) (IsStrictlySortedBy-dedup nat_list_cmp_total (λ x y. refl) xs s)
+-- octets that differ and do not descend ascend
+pub less_apart : (u v : Octets) → is_lt (slice_cmp nat_cmp v u) ≡ false → (u ≡ v → ⊥) → slice_cmp nat_cmp u v ≡ Less
+less_apart u v up apart = by (slice_cmp nat_cmp u v) refl (nat_list_cmp_total.antisymm v u)
   where
-    none : (xs : List (List ℕ)) → AreApart xs (length xs) → dedup (eq_by_cmp (slice_cmp nat_cmp)) xs ≡ xs
-    none [] h = refl
-    none (x ∷ xs) h = dedup_apart x xs h
+    by : (r : Ordering) → slice_cmp nat_cmp u v ≡ r → slice_cmp nat_cmp v u ≡ ordering_reverse r → r ≡ Less
+    by Less e f = refl
+    by Equal e f = absurd (apart (slice_cmp-IsAntisymmetric nat_cmp-IsAntisymmetric u v e))
+    by Greater e f = absurd (true≢false (sym (ap is_lt f) ∙ up))
 
-module _ {X : Type 0} (f : X → List ℕ) where
-  pub sorted_keys : (xs : List X) → IsSortedByKey f (slice_cmp nat_cmp) xs → IsSorted (slice_cmp nat_cmp) (map f xs)
-  sorted_keys [] s k d low high = absurd (omega arith)
-  sorted_keys (x ∷ xs) s k d low high =
-      let l : k + 1 < length (x ∷ xs) = omega (arith, high, length-map xs f) in
-      rw (get_or-map f (x ∷ xs) (k + 1) x d l, get_or-map f (x ∷ xs) k x d (omega arith)) (s k x (omega arith) l)
+-- the hashes up to a place ascend
+abbrev pub Ascend : List Hashed → ℕ → Type 0
+Ascend hashed n = (k : ℕ) (d : Hashed) → k + 1 < n → slice_cmp nat_cmp (get_or hashed k d).hash (get_or hashed (k + 1) d).hash ≡ Less
 
-  hash_at : (xs : List X) (i : ℕ) (x : X) (d : List ℕ) → i < length xs → x ≡ get_or xs i x → get_or (map f xs) i d ≡ f x
-  hash_at xs i x d l is = get_or-map f xs i x d l ∙ ap f (sym is)
+module _ (hashed : List Hashed) (i : ℕ) (x y : Hashed) (some : 0 < i) (within : i < length hashed) (x_is : x ≡ get_or hashed (i - 1) x)
+    (y_is : y ≡ get_or hashed i y) where
+  pub alike_at : x.hash ≡ y.hash → HasAlikeNeighbours hashed
+  alike_at same =
+      let here : i - 1 + 1 ≡ i = omega arith in
+      record {
+        place = i - 1;
+        inside = omega arith;
+        one = x;
+        other = y;
+        first = x_is;
+        second = y_is ∙ ap (λ j. get_or hashed j y) (sym here);
+        alike = same;
+      }
 
-  pub apart_more : (xs : List X) (i : ℕ) (x y : X) → 0 < i → i < length xs → x ≡ get_or xs (i - 1) x → y ≡ get_or xs i y
-      → (f x ≡ f y → ⊥) → AreApart (map f xs) i → AreApart (map f xs) (i + 1)
-  apart_more xs i x y some l x_is y_is other h k d m same = grind (arith, common_steps, hash_at)
+  pub ascend_more : IsSortedByKey (λ h. h.hash) (slice_cmp nat_cmp) hashed → (x.hash ≡ y.hash → ⊥) → Ascend hashed i → Ascend hashed (i + 1)
+  ascend_more sorted other up k d l = elim (cases_lt (k + 1) i) [
+    | inl m ↦ up k d m
+    | inr m ↦
+        let before : i - 1 ≡ k = omega (arith, l, m) in
+        let here : i ≡ k + 1 = omega (arith, l, m) in
+        let x_at = get_or_read hashed (i - 1) x (omega arith) x_is d ∙ ap (λ j. get_or hashed j d) before in
+        let y_at = get_or_read hashed i y within y_is d ∙ ap (λ j. get_or hashed j d) here in
+        less_apart (get_or hashed k d).hash (get_or hashed (k + 1) d).hash (sorted k d (omega arith) (omega (arith, l)))
+        (λ e. other (ap (λ h. h.hash) x_at ∙ e ∙ ap (λ h. h.hash) (sym y_at)))
+  ]
 
-  pub alike_at : (xs : List X) (i : ℕ) (x y : X) → 0 < i → i < length xs → x ≡ get_or xs (i - 1) x → y ≡ get_or xs i y → f x ≡ f y
-      → HasAlikeNeighbours (map f xs)
-  alike_at xs i x y some l x_is y_is same = record {
-    place = i - 1;
-    inside = omega (arith, l, length-map xs f);
-    alike = λ d. let here : i - 1 + 1 ≡ i = omega arith in hash_at xs _ x d (omega arith) x_is ∙ same
-        ∙ sym (hash_at xs i y d l y_is) ∙ ap (λ j. get_or (map f xs) j d) (sym here);
-  }
-
-  pub apart_end : (xs : List X) (i : ℕ) → length xs ≤ i → IsSortedByKey f (slice_cmp nat_cmp) xs → AreApart (map f xs) i
-      → IsStrictlySortedBy (slice_cmp nat_cmp) (map f xs)
-  apart_end xs i l s h = strictly_apart (map f xs) (sorted_keys xs s) (λ k d m. h k d (omega (arith, m, length-map xs f)))
-
--- ---- one more name is hashed
+pub keys_ascend : (hashed : List Hashed) (n : ℕ) → length hashed ≤ n → Ascend hashed n
+    → IsStrictlySortedBy (slice_cmp nat_cmp) (map (λ h. h.hash) hashed)
+keys_ascend hashed n past up =
+    sorted_from_all_adjacent nat_list_cmp_total (map (λ (h : Hashed). h.hash) hashed) [] (by hashed (λ k d l. up k d (omega (arith, l, past))))
+  where
+    by : (hs : List Hashed) → Ascend hs (length hs) → (k : ℕ) → k + 1 < length (map (λ h. h.hash) hs)
+        → slice_cmp nat_cmp (get_or (map (λ h. h.hash) hs) k []) (get_or (map (λ h. h.hash) hs) (k + 1) []) ≡ Less
+    by [] up k l = absurd (omega arith)
+    by (h ∷ hs) up k l =
+        let m : k + 1 < length (h ∷ hs) = omega (arith, l, length-map (h ∷ hs) (λ (g : Hashed). g.hash)) in
+        (λ i. slice_cmp nat_cmp (get_or-map (λ (g : Hashed). g.hash) (h ∷ hs) k h [] (omega (arith, m)) i)
+        (get_or-map (λ (g : Hashed). g.hash) (h ∷ hs) (k + 1) h [] m i)) ∙ up k h m
 
 module _ (a : Name) (hash : Hash) (names : List Name) where
   -- the names up to a place are hashed, each with its place
-  abbrev pub AreHashed : ℕ → List Hashed → Type 0
-  AreHashed n hashed = (entries : List Entry) → map (λ e. e.name) entries ≡ names
-      → (map without_hash (map (as_hashed_entry entries) hashed) ≡ take n entries)
-      × All (IsHashed a hash) (map (as_hashed_entry entries) hashed)
+  pub record AreHashed (n : ℕ) (hashed : List Hashed) : Type 0 where
+    pub named : map (name_at names) hashed ≡ take n names
+    pub each : All (IsHashOf a hash names) hashed
+
+  pub one_hashed : (n : ℕ) (hashed new : List Hashed) (x : Name) (h : Hashed) → n < length names → x ≡ get_or names n x → h.place ≡ n
+      → IsHashed a hash x h.hash → new ≡ hashed ++ h ∷ [] → AreHashed n hashed → AreHashed (n + 1) new
+  one_hashed n hashed new x h within there placed is pushed so_far =
+      let at : name_at names h ≡ get_or names n [] = ap (λ k. get_or names k []) placed in
+      subst (AreHashed (n + 1)) (sym pushed) (record {
+        named = map_push (name_at names) hashed h ∙ (λ i. so_far.named i ++ at i ∷ []) ∙ sym (take_more names n [] within);
+        each = All-push (IsHashOf a hash names) hashed h so_far.each (record {
+          inside = subst (λ k. k < length names) (sym placed) within;
+          is = subst (λ y. IsHashed a hash y h.hash) (get_or_read names n x within there [] ∙ sym at) is;
+        });
+      })
+
+  pub all_hashed : (n : ℕ) (hashed : List Hashed) → length names ≤ n → AreHashed n hashed → AreHashesOf a hash names hashed
+  all_hashed n hashed past h = record {
+    moved = subst (IsPermutation names) (sym (h.named ∙ take_all n names past)) (IsPermutation-refl names);
+    each = h.each;
+  }
+
+  pub moved_hashes : (hashed ordered : List Hashed) → IsPermutation hashed ordered → AreHashesOf a hash names hashed → AreHashesOf a hash names ordered
+  moved_hashes hashed ordered moved h = record {
+    moved = IsPermutation-trans names (map (name_at names) hashed) (map (name_at names) ordered) h.moved
+        (IsPermutation-map (name_at names) hashed ordered moved);
+    each = All-permutation (IsHashOf a hash names) hashed ordered moved h.each;
+  }
 
   -- the first name that is refused, after those that were hashed
   pub first_refused : (n : ℕ) (hashed : List Hashed) (x : Name) (e : Nsec3HashError) → n < length names → x ≡ get_or names n x
       → AreHashed n hashed → IsRefusal a (hash_name hash x) e → (e ≡ OutOfMemory) ⊎ IsFirstRefused a hash names e
-  first_refused n hashed x e within x_is h (inl m) = inl m
-  first_refused n hashed x e within x_is h (inr f) =
-      let entries = map without_types names in
-      let told = h (map without_types names) (named names) in
-      inr (record {
-        before = map (λ n. n.name) (take n (map without_types names));
-        name = x;
-        after = drop (n + 1) names;
-        joined =
-            sym (take-append-drop n names)
-            ∙ (λ i. sym (taken n names) i ++ drop n names)
-            ∙ ap (λ l. map (λ n. n.name) (take n (map without_types names)) ++ l) (drop_more names n x within ∙ ap (λ m. m ∷ drop (n + 1) names) (sym x_is));
-        sound = subst (λ (b : List Entry). AllByRecursion (λ n. hash_fault a (hash_name hash n) ≡ None) (map (λ n. n.name) b))
-            told.0 (each (map (as_hashed_entry (map without_types names)) hashed)
-            (recursion_from_All (IsHashed a hash) (map (as_hashed_entry (map without_types names)) hashed) told.1));
-        fault = f;
-      })
-    where
-      named : (ns : List Name) → map (λ e. e.name) (map without_types ns) ≡ ns
-      named [] = refl
-      named (n ∷ ns) = ap (λ l. n ∷ l) (named ns)
-
-      taken : (i : ℕ) (ns : List Name) → map (λ e. e.name) (take i (map without_types ns)) ≡ take i ns
-      taken zero ns = refl
-      taken (suc i) [] = refl
-      taken (suc i) (n ∷ ns) = ap (λ l. n ∷ l) (taken i ns)
-
-      each : (es : List HashedEntry) → AllByRecursion (IsHashed a hash) es
-          → AllByRecursion (λ n. hash_fault a (hash_name hash n) ≡ None) (map (λ n. n.name) (map without_hash es))
-      each [] all = tt
-      each (f ∷ es) all = (all.0.sound, each es all.1)
+  first_refused n hashed x e within there h (inl m) = inl m
+  first_refused n hashed x e within there h (inr f) = inr (record {
+    place = n;
+    inside = within;
+    sound = subst (All (λ y. hash_fault a (hash_name hash y) ≡ None)) h.named (All-map (λ y. hash_fault a (hash_name hash y) ≡ None) (name_at names) hashed
+        (All-weaker (IsHashOf a hash names) (λ g. hash_fault a (hash_name hash (name_at names g)) ≡ None)
+        (λ g k. ap (hash_fault a) k.is.known ∙ k.is.sound) hashed h.each));
+    fault = ap (λ y. hash_fault a (hash_name hash y)) (sym (get_or_read names n x within there [])) ∙ f;
+  })

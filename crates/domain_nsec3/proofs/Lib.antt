@@ -8,7 +8,6 @@ pub mod StateLemmas
 pub mod HashLemmas
 pub mod HashOrderLemmas
 pub mod ChainLemmas
-pub mod EntryLemmas
 pub mod FaultLemmas
 pub mod OutcomeLemmas
 pub mod MeaningLemmas

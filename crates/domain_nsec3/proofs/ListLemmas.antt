@@ -1,14 +1,18 @@
 -- Names above owners that stand in order: they ascend, and none of them is an owner.
-use Rattle.std.proofs.Common.{◌≡◌, ℕ, ◌<◌, ◌≤◌, true, false, not, ◌&&◌, ◌||◌, List, [], ◌∷◌, ◌++◌, length, refl, sym, ap, ◌∙◌, subst, arith, inl, inr}
-use Rattle.std.proofs.lemmas.{Bool.{cases_Bool, false≢true, leb-true, and_parts, and_from, not-true, or_cases}, Grind.common_steps}
-use Rattle.std.specs.{Prelude.filter, List.{AllByRecursion, list_any, Sorted.IsStrictlySortedBy}, Ordering.is_lt, declared.cmp.Ordering.TheVariants.Less}
+use Rattle.std.proofs.Common.{◌≡◌, ℕ, ◌<◌, ◌≤◌, Bool, true, false, not, ◌&&◌, ◌||◌, List, [], ◌∷◌, ◌++◌, length, refl, sym, ap, ◌∙◌, arith, inl, inr}
+use Rattle.std.proofs.lemmas.Bool.{cases_Bool, cases_lt, false≢true, leb-true, and_parts, not-true, or_cases, or_left, or_right, Decides.nat_tests}
+use Rattle.std.proofs.lemmas.{List.Folds.list_any-append, Grind.common_steps}
+use Rattle.std.specs.{Prelude.nat_le, List.{AllByRecursion, list_any, Sorted.IsStrictlySortedBy}}
+use Rattle.std.specs.{Ordering.is_lt, declared.cmp.Ordering.TheVariants.Less}
 use Rattle.domain_names.specs.{Order.{canonical_cmp, before, common_labels}, Name.{is_at_or_below, is_strictly_below, lowered, same_name}, Words.Name}
 use Rattle.domain_records.proofs.Lookups.{is_less}
 use Rattle.domain_zone.specs.Enclosers.{is_empty_nonterminal}
-use Rattle.domain_zone.proofs.NameLemmas.{before_order, below_between, below_from, one_lowered, same_lowered, strictly_from}
-use Rattle.domain_zone.proofs.{OwnerLemmas.{any_filter, any_in, in_any, any_weaker}, PairLemmas.{IsAscending, lt_trans}, SharedLemmas.either_way}
-use Rattle.domain_zone.proofs.ZoneLemmas.{weaker, all_both, filter_whole, apart_left, apart_right, after_or}
-use Rattle.domain_nsec3.{specs.Ancestors.{above_with_more, HoldsAncestors, IsListOf}, proofs.{AncestorLemmas.{IsAbove, are_above}, SharedLemmas.common_shares}}
+use Rattle.domain_zone.proofs.NameLemmas.{before_order, below_between, below_from, below_itself, below_longer, lowered_below, one_lowered, same_both}
+use Rattle.domain_zone.proofs.{NameLemmas.{same_itself, same_lowered, strictly_from}, OwnerLemmas.{any_in, any_weaker}}
+use Rattle.domain_zone.proofs.PairLemmas.{IsAscending, all_in, lt_trans}
+use Rattle.domain_zone.proofs.{SharedLemmas.either_way, ZoneLemmas.{weaker, all_both, apart_left, apart_right, after_or}}
+use Rattle.domain_nsec3.specs.Ancestors.{above_with_more, IsListOf}
+use Rattle.domain_nsec3.proofs.{AncestorLemmas.{IsAbove, are_above, has_each}, SharedLemmas.{at_length, common_shares}}
 
 -- ---- ascending lists of names
 
@@ -22,12 +26,16 @@ unfolding IsStrictlySortedBy
 ascending [] h = tt
 ascending (k ∷ ks) h = (weaker (λ y. canonical_cmp k y ≡ Less) (λ y. before k y ≡ true) (λ y e. ap is_lt e) ks h.0, ascending ks h.1)
 
+pub ascends_both : (lt : Name → Name → Bool) (xs ys : List Name) → IsAscending lt xs → IsAscending lt ys
+    → AllByRecursion (λ x. AllByRecursion (λ y. lt x y ≡ true) ys) xs → IsAscending lt (xs ++ ys)
+ascends_both lt [] ys h k across = k
+ascends_both lt (x ∷ xs) ys h k across = (all_both (λ y. lt x y ≡ true) xs ys h.0 across.0, ascends_both lt xs ys h.1 k across.1)
+
 pub ascending_both : (xs ys : List Name) → IsAscending before xs → IsAscending before ys
     → AllByRecursion (λ x. AllByRecursion (λ y. before x y ≡ true) ys) xs → IsAscending before (xs ++ ys)
-ascending_both [] ys h k across = k
-ascending_both (x ∷ xs) ys h k across = (all_both (λ y. before x y ≡ true) xs ys h.0 across.0, ascending_both xs ys h.1 k across.1)
+ascending_both = ascends_both before
 
-both : (P Q : Name → Type 0) (xs : List Name) → AllByRecursion P xs → AllByRecursion Q xs → AllByRecursion (λ x. P x × Q x) xs
+pub both : (P Q : Name → Type 0) (xs : List Name) → AllByRecursion P xs → AllByRecursion Q xs → AllByRecursion (λ x. P x × Q x) xs
 both P Q [] p q = tt
 both P Q (x ∷ xs) p q = ((p.0, q.0), both P Q xs p.1 q.1)
 
@@ -87,51 +95,66 @@ gathered_apart p (o ∷ os) h =
     all_both _ _ _ (weaker _ _ (λ m e. (λ i. apart_right m o e i || none_same o m os e h.0 i)) _ (above_before _ o))
     (weaker _ _ (λ m e. (λ i. apart_left o m e.0 i || e.1 i)) _ (both _ _ _ (gathered_after o os h) (gathered_apart o os h.1)))
 
--- the names above the owners, without the owners
-module _ (a : Name) (owners names : List Name) (h : HoldsAncestors a owners names) (apex : list_any (λ n. same_name n a) owners ≡ true) where
-  left_are : (x : Name) → list_any (λ n. same_name n x) (filter (λ n. not (list_any (λ m. same_name m n) owners)) names) ≡ is_empty_nonterminal owners a x
-  left_are x =
-      any_filter (λ n. same_name n x) _ names
-      ∙ either_way _ (is_empty_nonterminal owners a x)
-      (λ e.
-      let m = any_in _ names e in
-      let p = and_parts _ (same_name m.0 x) m.2 in
-      let k = one_lowered m.0 x p.1 in
-      let there : list_any (λ n. same_name n x) names ≡ true = in_any (λ n. same_name n x) names m.0 m.1 p.1 in
-      and_from _ _
-      (and_from (is_at_or_below x a) _
-      (and_parts (is_at_or_below x a) (not (same_name x a)) (h.below x there)).0
-      (ap (λ q. not (list_any (λ n. same_lowered (lowered n) q) owners)) (sym k) ∙ p.0))
-      (h.above x there))
-      (λ e.
-      let p = and_parts _ _ e in
-      let q = and_parts (is_at_or_below x a) _ p.0 in
-      let none = not-true _ q.1 in
-      let below : (is_at_or_below x a && not (same_name x a))
-      ≡ true = and_from (is_at_or_below x a) (not (same_name x a)) q.0 (elim (cases_Bool (same_name x a)) [
-        | inl t ↦ absurd (false≢true (sym none ∙ ap (λ k. list_any (λ n. same_lowered (lowered n) k) owners) (one_lowered x a t) ∙ apex))
-        | inr t ↦ ap not t
-      ]) in
-      elim (or_cases _ _
-      (h.each x below (any_weaker (λ n. is_strictly_below n x) (λ n. is_at_or_below n x)
-      (λ n t. (and_parts (is_at_or_below n x) (not (same_name n x)) t).0) owners p.1))) [
-        | inl t ↦ absurd (false≢true (sym none ∙ t))
-        | inr t ↦
-            let m = any_in (λ n. same_name n x) names t in
-            in_any _ names m.0 m.1
-            (and_from _ (same_name m.0 x)
-            (ap (λ k. not (list_any (λ n. same_lowered (lowered n) k) owners)) (one_lowered m.0 x m.2) ∙ q.1) m.2)
-      ])
+-- each name above an owner is one of them or is gathered, unless it is above the name before the owners
+gathered_each : (p : Name) (os : List Name) (x : Name) → is_at_or_below p x ≡ false → list_any (λ n. is_at_or_below n x) os ≡ true
+    → (list_any (λ n. same_name n x) os || list_any (λ n. same_name n x) (gathered p os)) ≡ true
+gathered_each p [] x out h = absurd (false≢true h)
+gathered_each p (o ∷ os) x out h =
+    let S : List Name → Bool = list_any (λ n. same_name n x) in
+    let above : List Name = above_with_more (common_labels o p) o in
+    (λ i. (same_name o x || S os) || list_any-append (λ n. same_name n x) above (gathered o os) i) ∙ elim (cases_Bool (is_at_or_below o x)) [
+      | inl u ↦
+          let many : nat_le (length x) (common_labels o p) ≡ false = sym (common_shares o p (common_labels o p) refl x u) ∙ out in
+          elim (cases_lt (length x) (length o)) [
+            | inl w ↦ or_right (same_name o x || S os) (S above || S (gathered o os))
+                (or_left (S above) (S (gathered o os)) (has_each (common_labels o p) o x u (grind (arith, nat_tests)) w))
+            | inr w ↦ or_left (same_name o x || S os) (S above || S (gathered o os)) (or_left (same_name o x) (S os) (same_itself o x (at_length o x u w)))
+          ]
+      | inr v ↦ elim (or_cases (S os) (S (gathered o os)) (gathered_each o os x v (sym (ap (λ b. b || list_any (λ n. is_at_or_below n x) os) v) ∙ h))) [
+        | inl e ↦ or_left (same_name o x || S os) (S above || S (gathered o os)) (or_right (same_name o x) (S os) e)
+        | inr e ↦ or_right (same_name o x || S os) (S above || S (gathered o os)) (or_right (S above) (S (gathered o os)) e)
+      ]
+    ]
 
-  pub listed : names ≡ gathered a owners → IsStrictlySortedBy canonical_cmp owners → IsListOf (is_empty_nonterminal owners a) names
-  listed are up =
-      let up_owners = ascending owners up in
-      let whole : filter (λ n. not (list_any (λ m. same_name m n) owners)) names ≡ names =
-      filter_whole _ names
-      (subst (AllByRecursion (λ n. not (list_any (λ m. same_name m n) owners) ≡ true)) (sym are)
-      (weaker _ _
-      (λ n e. ap not e) _ (gathered_apart a owners up_owners))) in
-      record {
-        ascend = subst (IsStrictlySortedBy canonical_cmp) (sym are) (sorted _ (gathered_ascend a owners up_owners));
-        exactly = λ x. ap (list_any (λ n. same_name n x)) (sym whole) ∙ left_are x;
-      }
+-- what is gathered is strictly below an apex of all, and above an owner
+gathered_are : (a p : Name) (os : List Name) → is_at_or_below p a ≡ true → AllByRecursion (λ n. is_at_or_below n a ≡ true) os
+    → AllByRecursion (λ m. (is_strictly_below m a ≡ true) × (list_any (λ n. is_strictly_below n m) os ≡ true)) (gathered p os)
+gathered_are a p [] low all = tt
+gathered_are a p (o ∷ os) low all =
+    let short : length a ≤ common_labels o p = leb-true _ _ (sym (common_shares o p (common_labels o p) refl a all.0) ∙ low) in
+    all_both _ (above_with_more (common_labels o p) o) (gathered o os)
+    (weaker (IsAbove (common_labels o p) o) _ (λ m h. (
+      strictly_from m a (below_longer o m a h.0 all.0 (omega (arith, short, h.2))) (omega (arith, short, h.2)),
+      or_left (is_strictly_below o m) _ (strictly_from o m h.0 h.1),
+    )) _ (are_above (common_labels o p) o))
+    (weaker _ _ (λ m h. (h.0, or_right (is_strictly_below o m) _ h.1)) _ (gathered_are a o os all.0 all.1))
+
+-- so they are the empty non-terminals
+pub listed : (a : Name) (owners : List Name) → IsStrictlySortedBy canonical_cmp owners → AllByRecursion (λ n. is_at_or_below n a ≡ true) owners
+    → list_any (λ n. same_name n a) owners ≡ true → IsListOf (is_empty_nonterminal owners a) (gathered a owners)
+listed a owners up low apex = record {
+  ascend = sorted (gathered a owners) (gathered_ascend a owners (ascending owners up));
+  exactly = λ x. either_way _ (is_empty_nonterminal owners a x) (there x) (back x);
+}
+  where
+    there : (x : Name) → list_any (λ n. same_name n x) (gathered a owners) ≡ true → is_empty_nonterminal owners a x ≡ true
+    there x e =
+        let m = any_in (λ n. same_name n x) (gathered a owners) e in
+        let g = all_in _ (gathered a owners) m.0 (gathered_are a a owners (below_itself a) low) m.1 in
+        let none = all_in _ (gathered a owners) m.0 (gathered_apart a owners (ascending owners up)) m.1 in
+        ap (λ k. (lowered_below k (lowered a) && not (list_any (λ n. same_lowered (lowered n) k) owners))
+        && list_any (λ n. lowered_below (lowered n) k && not (same_lowered (lowered n) k)) owners) (sym (one_lowered m.0 x m.2))
+        ∙ (λ i. ((and_parts (is_at_or_below m.0 a) _ g.0).0 i && not (none i)) && g.1 i)
+
+    back : (x : Name) → is_empty_nonterminal owners a x ≡ true → list_any (λ n. same_name n x) (gathered a owners) ≡ true
+    back x e =
+        let p = and_parts _ _ e in
+        let q = and_parts (is_at_or_below x a) _ p.0 in
+        let none = not-true (list_any (λ n. same_name n x) owners) q.1 in
+        let out : is_at_or_below a x ≡ false = elim (cases_Bool (is_at_or_below a x)) [
+          | inl t ↦ absurd (false≢true (sym none ∙ ap (λ k. list_any (λ n. same_lowered (lowered n) k) owners)
+              (one_lowered x a (same_both x a q.0 t)) ∙ apex))
+          | inr t ↦ t
+        ] in
+        ap (λ b. b || list_any (λ n. same_name n x) (gathered a owners)) (sym none) ∙ gathered_each a owners x out
+        (any_weaker (λ n. is_strictly_below n x) (λ n. is_at_or_below n x) (λ n t. (and_parts (is_at_or_below n x) _ t).0) owners p.1)

@@ -1,90 +1,99 @@
 -- What hashing the names of a chain comes to: the chain of the zone, or its first fault.
-use Rattle.std.proofs.Common.{◌≡◌, Bool, true, false, not, ◌&&◌, List, ◌∷◌, map, refl, sym, ap, ◌∙◌, subst, inl, inr, ◌⊎◌, Some, arith}
-use Rattle.std.proofs.lemmas.{Bool.{and_parts, and_from, not-true}, Grind.common_steps}
-use Rattle.std.specs.{Prelude.{All, IsPermutation, filter}, List.{AllByRecursion, Sorted.IsStrictlySortedBy}}
-use Rattle.domain_octets.proofs.StdLemmas.{and_false}
-use Rattle.domain_names.specs.{Order.canonical_cmp, Name.{is_at_or_below, lowered, same_name}, Words.Name}
+use Rattle.std.proofs.Common.{◌≡◌, ℕ, ◌-◌, ◌<◌, true, false, List, [], ◌++◌, map, length, get_or, refl, sym, ap, ◌∙◌, subst, inl, inr, ◌⊎◌, Some, arith}
+use Rattle.std.proofs.lemmas.Bool.{and_parts, cases_lt, not-true}
+use Rattle.std.proofs.lemmas.{List.{get_or-map, get_or_append_left, get_or-append_right, get_or_past, length-append, length-map}, Grind.common_steps}
+use Rattle.std.proofs.lemmas.List.Elements.{All-from_recursion, All-get_or}
+use Rattle.std.specs.{Prelude.{All}, List.{AllByRecursion, list_any, Sorted.IsStrictlySortedBy}}
+use Rattle.domain_names.specs.{Order.{before, canonical_cmp}, Name.{is_at_or_below, same_name}, Words.Name}
 use Rattle.domain_hasher.specs.declared.error.Nsec3HashError.{Nsec3HashError, TheVariants.OutOfMemory}
+use Rattle.domain_bitmap.specs.Bitmap.{bitmap_octets}
 use Rattle.domain_zone.specs.{Enclosers.is_empty_nonterminal, Soa.{chain_ttl, soa_of}}
-use Rattle.domain_zone.specs.{Zone.{ZoneRecord, OwnersNeverDescend, records_of, owns, has_type, unoccluded_owners}, declared.soa.ApexSoa.ApexSoa}
-use Rattle.domain_zone.proofs.NameLemmas.{same_itself, below_itself, lowered_below, same_lowered}
-use Rattle.domain_zone.proofs.OwnerLemmas.{any_filter, any_owner, apex_unoccluded, ascending_filter, in_any, owners_are, owners_ascend}
-use Rattle.domain_zone.proofs.{PairLemmas.all_from_in, ZoneLemmas.all_filter}
-use Rattle.domain_base.specs.Types.{ns, ds}
-use Rattle.domain_nsec3.specs.{Chain.{HashedLink, IsHashedChain}, Config.{ChainConfig, excludes}, Faults.{AreAllHashed, IsFirstHashingFault}}
-use Rattle.domain_nsec3.specs.Owners.{original_owners, is_original_owner, is_excluded}
-use Rattle.domain_nsec3.specs.Steps.{Common, Entry, HashedEntry, without_hash, AreOriginalOwners, IsHashed, IsHashingFault, IsOrderedChain}
-use Rattle.domain_nsec3.proofs.{ChainLemmas.chain_of_zone, EntryLemmas.{AreJoined, are_chain_names, names_joined}}
-use Rattle.domain_nsec3.proofs.{FaultLemmas.{Pairwise, hashed_in_order, first_fault, hashing_fault, all_hashed, collides}, ListLemmas.sorted}
+use Rattle.domain_zone.specs.{Zone.{ZoneRecord, OwnersNeverDescend}, declared.soa.ApexSoa.ApexSoa}
+use Rattle.domain_zone.proofs.NameLemmas.{same_itself}
+use Rattle.domain_zone.proofs.OwnerLemmas.{ascending_filter, in_any, owners_are, owners_ascend}
+use Rattle.domain_zone.proofs.{PairLemmas.{IsAscending, all_from_in}, ZoneLemmas.{all_filter, weaker}}
+use Rattle.domain_nsec3.specs.{Chain.IsHashedChain, Config.ChainConfig, Faults.{AreAllHashed, IsFirstHashingFault, is_hashed_before}}
+use Rattle.domain_nsec3.specs.{Owners.{original_owners, is_original_owner, is_chain_name, is_empty, nsec3_lists}, Steps.{AreOrderedHashes, AreOriginalOwners}}
+use Rattle.domain_nsec3.specs.Steps.{AreWithEmpty, Common, IsHashingFault, links_in, no_types}
+use Rattle.domain_nsec3.specs.declared.{chain.HashedChain.HashedChain, hash.Hashed.Hashed, owners.Owners.Owners}
+use Rattle.domain_nsec3.proofs.{ChainLemmas.{all_hashed, chain_of_zone, collides}, FaultLemmas.{all_apart, first_fault, hashed_in_order, hashing_fault}}
+use Rattle.domain_nsec3.proofs.{ListLemmas.{ascending, sorted}, OwnerLemmas.{empty_are, is_own, names_are}}
 
 -- ---- the owners of a zone in order
 
 module _ (L : List ZoneRecord) (a : Name) (config : ChainConfig) where
+  originals_ascend : OwnersNeverDescend L → IsAscending before (original_owners L a config)
+  originals_ascend order = grind (arith, common_steps, ascending_filter, owners_ascend)
+
   pub original_ascend : OwnersNeverDescend L → IsStrictlySortedBy canonical_cmp (original_owners L a config)
-  original_ascend order = grind (arith, common_steps, sorted, ascending_filter, owners_ascend)
+  original_ascend order = sorted (original_owners L a config) (originals_ascend order)
 
   pub original_below : All (λ n. is_at_or_below n a ≡ true) (original_owners L a config)
   original_below = grind (arith, common_steps, all_filter, owners_are)
 
-  -- the apex is one where it owns records
-  pub apex_original : owns L a ≡ true → is_original_owner L a config a ≡ true
-  apex_original o =
-      let at : Name → Bool = λ k. not (excludes config && ((lowered_below k (lowered a) && not (same_lowered k (lowered a))
-      && has_type (filter (λ r. same_lowered (lowered r.owner) k) L) ns)
-      && not (has_type (filter (λ r. same_lowered (lowered r.owner) k) L) ds))) && same_lowered k (lowered a) in
-      any_filter (λ n. same_name n a) (λ n. not (is_excluded L a config n)) (unoccluded_owners config.occlude_below_dname L a)
-      ∙ any_owner config.occlude_below_dname L a a at o (apex_unoccluded config.occlude_below_dname L a) (and_from _ _
-      (ap not ((λ i. excludes config && (((below_itself a i && not (same_itself a a refl i)) && has_type (records_of L a) ns)
-      && not (has_type (records_of L a) ds))) ∙ and_false _)) (same_itself a a refl))
-
 -- ---- what hashing comes to
 
-module _ {L : List ZoneRecord} {a : Name} {config : ChainConfig} {owners entries : List Entry} (os : AreOriginalOwners L a config owners)
-    (joined : AreJoined a owners entries) where
-  pub outcome_chain : (p : Common) {numbers : ApexSoa} {links : List HashedLink} → soa_of L a ≡ Some numbers → p.ttl ≡ chain_ttl numbers
-      → p.parameters ≡ config.parameters → p.flags ≡ config.flags → IsOrderedChain a config.hash p entries links
-      → IsHashedChain L a config links
-  outcome_chain p {numbers = numbers} soa ttl parameters flags c =
-      chain_of_zone L a config entries (record {
-        numbers = numbers;
-        soa = soa;
-        ttl = ttl;
-        parameters = parameters;
-        flags = flags;
-      }) (are_chain_names os joined) c
+module _ (L : List ZoneRecord) (a : Name) (config : ChainConfig) (order : OwnersNeverDescend L) (owners : Owners)
+    (os : AreOriginalOwners L a config owners) (names : List Name) (joined : AreWithEmpty a owners.names.items names) where
+  -- which names are empty
+  is_listed : (x : Name) → list_any (λ n. same_name n x) joined.empty ≡ is_empty_nonterminal (original_owners L a config) a x
+  is_listed x = joined.listed.exactly x ∙ ap (λ l. is_empty_nonterminal l a x) os.names
 
-  up_owners : IsStrictlySortedBy canonical_cmp (original_owners L a config)
-  up_owners = subst (IsStrictlySortedBy canonical_cmp) os.names joined.ascend
+  joined_are : names ≡ original_owners L a config ++ joined.empty
+  joined_are = joined.are ∙ ap (λ l. l ++ joined.empty) os.names
 
-  own : AllByRecursion (λ n. is_original_owner L a config n ≡ true) (original_owners L a config)
-  own = all_from_in _ _ (λ x i. in_any _ _ x i (same_itself x x refl))
+  are : (x : Name) → list_any (λ n. same_name n x) names ≡ is_chain_name L a config x
+  are x = ap (list_any (λ n. same_name n x)) joined_are ∙ names_are L a config joined.empty is_listed x
 
-  not_own : AllByRecursion (λ n. is_original_owner L a config n ≡ false) joined.empty
-  not_own =
-      all_from_in _ _ (λ x i. let e : is_empty_nonterminal (original_owners L a config) a x
-      ≡ true = ap (λ l. is_empty_nonterminal l a x) (sym os.names) ∙ sym (joined.listed.exactly x)
-      ∙ in_any _ _ x i (same_itself x x refl) in
-      let q = and_parts _ _ e in
-      not-true _ (and_parts _ _ q.0).1)
+  all_empty : AllByRecursion (λ n. is_empty_nonterminal (original_owners L a config) a n ≡ true) joined.empty
+  all_empty = all_from_in _ joined.empty (λ x i. sym (is_listed x) ∙ in_any (λ n. same_name n x) joined.empty x i (same_itself x x refl))
 
-  every_hashed : (es : List HashedEntry) → IsPermutation entries (map without_hash es) → All (IsHashed a config.hash) es
-      → AreAllHashed L a config
-  every_hashed =
-      all_hashed L a config _ _ up_owners joined.listed.ascend own not_own entries
-      (names_joined os joined) (are_chain_names os joined).names
+  in_order : IsAscending (is_hashed_before L a config) names
+  in_order =
+      subst (IsAscending (is_hashed_before L a config)) (sym joined_are)
+      (hashed_in_order L a config (original_owners L a config) joined.empty (originals_ascend L a config order)
+      (ascending joined.empty joined.listed.ascend)
+      (all_from_in (λ n. is_original_owner L a config n ≡ true) (original_owners L a config) (is_own L a config))
+      (weaker (λ n. is_empty_nonterminal (original_owners L a config) a n ≡ true) (λ n. is_original_owner L a config n ≡ false)
+      (λ n e. not-true (is_original_owner L a config n) (and_parts (is_at_or_below n a) _ (and_parts _ _ e).0).1) joined.empty all_empty))
 
-  pub outcome_hashed : {p : Common} {links : List HashedLink} → IsOrderedChain a config.hash p entries links → AreAllHashed L a config
-  outcome_hashed c = every_hashed (c.first ∷ c.later) c.moved c.hashed
+  -- the types at a place are those of its name
+  unowned : (x : Name) → is_empty L a config x ≡ true → no_types ≡ bitmap_octets (nsec3_lists L a config x)
+  unowned x e = grind (arith, common_steps)
 
-  pub outcome_fault : (e : Nsec3HashError) → IsHashingFault a config.hash entries e → (e ≡ OutOfMemory) ⊎ IsFirstHashingFault L a config e
+  typed : (i : ℕ) → i < length names → get_or owners.types i no_types ≡ bitmap_octets (nsec3_lists L a config (get_or names i []))
+  typed i within =
+      ap (λ ts. get_or ts i no_types) os.types ∙ elim (cases_lt i (length (original_owners L a config))) [
+        | inl l ↦ get_or-map told (original_owners L a config) i [] no_types l
+            ∙ ap told (sym (ap (λ l. get_or l i []) joined_are ∙ get_or_append_left (original_owners L a config) joined.empty [] i l))
+        | inr m ↦
+            let k = i - length (original_owners L a config) in
+            let inside : k < length joined.empty = omega (arith, within, ap length joined_are, length-append (original_owners L a config) joined.empty, m) in
+            get_or_past (map told (original_owners L a config)) i no_types (omega (arith, m, length-map (original_owners L a config) told))
+            ∙ unowned (get_or joined.empty k []) (sym (empty_are L a config (get_or joined.empty k []))
+            ∙ All-get_or (λ n. is_empty_nonterminal (original_owners L a config) a n ≡ true) joined.empty k [] inside
+            (All-from_recursion (λ n. is_empty_nonterminal (original_owners L a config) a n ≡ true) joined.empty all_empty))
+            ∙ ap told (sym (ap (λ l. get_or l i []) joined_are
+            ∙ get_or-append_right (original_owners L a config) joined.empty (length (original_owners L a config)) i [] refl m))
+      ]
+    where
+      told : Name → List ℕ
+      told n = bitmap_octets (nsec3_lists L a config n)
+
+  pub outcome_chain : (chain : HashedChain) (p : Common) (numbers : ApexSoa) → soa_of L a ≡ Some numbers → p.ttl ≡ chain_ttl numbers
+      → p.parameters ≡ config.parameters → p.flags ≡ config.flags → chain.types ≡ owners.types
+      → AreOrderedHashes a config.hash names chain.hashed.items → IsHashedChain L a config (links_in a chain p)
+  outcome_chain chain p numbers soa ttl parameters flags same =
+      chain_of_zone L a config names are chain p numbers (λ i l. ap (λ ts. get_or ts i no_types) same ∙ typed i l) soa ttl parameters flags
+
+  pub outcome_hashed : (hashed : List Hashed) → AreOrderedHashes a config.hash names hashed → AreAllHashed L a config
+  outcome_hashed hashed o = all_hashed L a config names are hashed o.hashes
+
+  pub outcome_fault : (e : Nsec3HashError) → IsHashingFault a config.hash names e → (e ≡ OutOfMemory) ⊎ IsFirstHashingFault L a config e
   outcome_fault e (inl m) = inl m
-  outcome_fault e (inr (inl r)) =
-      inr (hashing_fault L a config e (first_fault L a config _ e (are_chain_names os joined).names
-      (subst (Pairwise _) (sym (names_joined os joined)) (hashed_in_order L a config _ _ up_owners joined.listed.ascend own not_own)) r))
+  outcome_fault e (inr (inl r)) = inr (hashing_fault L a config e (first_fault L a config names e are in_order r))
   outcome_fault e (inr (inr k)) =
-      inr (subst (IsFirstHashingFault L a config) (sym k.0)
-      ((
-        every_hashed k.1.ordered k.1.moved k.1.hashed,
-        collides L a config (original_owners L a config) joined.empty up_owners joined.listed.ascend own not_own entries
-            (names_joined os joined) (are_chain_names os joined).names k.1,
+      inr (subst (IsFirstHashingFault L a config) (sym k.0) ((
+        all_hashed L a config names are k.1.ordered k.1.hashes,
+        collides L a config names are k.1.ordered k.1.hashes (all_apart L a config names in_order) k.1.alike,
       )))

@@ -43,7 +43,7 @@ pub record IsOfChain (L : List ZoneRecord) (a : Name) (config : ChainConfig) (n 
   pub sound : IsHash n.hash
 
 -- each with the one after it, the last one with the first
-abbrev pub cycle : List Octets → List (Octets × Octets)
+abbrev pub cycle : {X : Type 0} → List X → List (X × X)
 cycle [] = []
 cycle (u ∷ us) = pairs (u ∷ us) u
 

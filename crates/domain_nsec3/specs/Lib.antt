@@ -7,7 +7,6 @@ pub mod View
 pub mod Text
 pub mod Ancestors
 pub mod Steps
-pub mod StepView
 pub use Rattle.domain_zone.specs.Covering
 pub use Rattle.domain_zone.specs.Zone
 pub use Rattle.domain_zone.specs.Soa

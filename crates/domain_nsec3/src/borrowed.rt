@@ -2,8 +2,7 @@
 ghost use Rattle.std.specs.Prelude.{◌≡◌, ◌<◌, ◌≤◌, Ok, None, Some, length, slice_index_or};
 ghost use Rattle.domain_base.specs.Classes.{in_class};
 ghost use Rattle.domain_nsec3.specs.{Chain.HashedLink, Faults.hash_fault};
-ghost use Rattle.domain_nsec3.specs.Steps.{link_to, no_types};
-ghost use Rattle.domain_nsec3.specs.StepView.{as_hashed_types, common_of, links_in, AreUsable};
+ghost use Rattle.domain_nsec3.specs.Steps.{common_of, link_to, links_in, no_types, AreUsable};
 ghost use Rattle.domain_nsec3.specs.{Text.link_text, View.link_with};
 
 use crate::HashedOwner;
@@ -93,7 +92,7 @@ fn lend_link<'a, O: Octets>(
     requires sound { hash_fault nsec3param.now.owner (Ok hashed.now.hash) ≡ None }
     requires short { length next.now ≤ 39 }
     ensures { result ≡ link_to nsec3param.now.owner (common_of nsec3param.now.«data» ttl)
-        (as_hashed_types types.now hashed.now) next.now }
+        types.now hashed.now next.now }
 {
     let owner = HashedOwner::new(nsec3param.owner().as_parsed(), hashed.hash.as_slice());
     let params = nsec3param.data();

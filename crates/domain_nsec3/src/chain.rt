@@ -1,19 +1,16 @@
 //! A chain before its records are made.
-ghost use Rattle.std.specs.Prelude.{◌≡◌, ◌+◌, ◌<◌, ◌≤◌, ◌⊎◌, List, Some, true, false, length, map};
+ghost use Rattle.std.specs.Prelude.{◌≡◌, ◌+◌, ◌<◌, ◌≤◌, Some, true, false, length, map};
 ghost use Rattle.std.specs.Prelude.{slice_index_or, All, IfOk, IfErr, OnOk, OnErr, IsPermutation};
 ghost use Rattle.std.specs.List.{list_any, Sorted.{IsSortedByKey, IsStrictlySortedBy}};
 ghost use Rattle.std.specs.{Ordering.nat_cmp, Cmp.Lexicographic.slice_cmp};
 ghost use Rattle.domain_names.specs.{Name.{is_at_or_below, same_name}, Order.canonical_cmp};
 ghost use Rattle.domain_records.specs.Order.{IsInOrder};
-ghost use Rattle.domain_hasher.specs.declared.error.Nsec3HashError.TheVariants as hash_error;
 ghost use Rattle.domain_zone.specs.Soa.{chain_ttl, soa_of};
 ghost use Rattle.domain_zone.specs.View.{zone_of};
-ghost use Rattle.domain_zone.specs.Zone.{ZoneRecord};
-ghost use Rattle.domain_zone.specs.declared.soa.ApexSoa.{ApexSoa};
 ghost use Rattle.domain_nsec3.specs.Chain.{IsHashedChain};
-ghost use Rattle.domain_nsec3.specs.Faults.{AreAllHashed, IsFaultless, IsFirstFault, IsFirstHashingFault};
-ghost use Rattle.domain_nsec3.specs.Steps.{AreOriginalOwners, Common, HasAlikeNeighbours, IsHashingFault, IsOrderedChain, entries_of};
-ghost use Rattle.domain_nsec3.specs.StepView.{as_entries, common_of, links_in, AreUsable};
+ghost use Rattle.domain_nsec3.specs.Faults.{IsFaultless, IsFirstFault};
+ghost use Rattle.domain_nsec3.specs.Steps.{AreOrderedHashes, AreUsable, AreWithEmpty, HasAlikeNeighbours, IsHashingFault};
+ghost use Rattle.domain_nsec3.specs.Steps.{common_of, links_in};
 ghost use Rattle.domain_nsec3.specs.View.{config_of, hash_by, parameters_of};
 ghost use Rattle.domain_nsec3.specs.declared.hash.Hashed.{Hashed};
 
@@ -54,8 +51,7 @@ pub(crate) fn has_collision(hashed: &[Hashed]) -> bool
     requires { IsSortedByKey (λ h. h.hash) (slice_cmp nat_cmp) hashed.now }
     ensures apart { result ≡ false
         → IsStrictlySortedBy (slice_cmp nat_cmp) (map (λ h. h.hash) hashed.now) }
-    ensures alike { result ≡ true
-        → HasAlikeNeighbours (map (λ h. h.hash) hashed.now) }
+    ensures alike { result ≡ true → HasAlikeNeighbours hashed.now }
 {
     for i in 1..hashed.len() {
         if hashed[i - 1].hash.as_slice() == hashed[i].hash.as_slice() {
@@ -79,93 +75,47 @@ pub(crate) fn hash_after(hashed: &[Hashed], at: usize) -> &[u8]
     hashed[0].hash.as_slice()
 }
 
-/// The chain of these hashes, where no two of them are alike. Takes no memory.
-fn without_collision(
-    hashed: Vec<Hashed>,
+/// A chain over these names, of which the first own records and have these types: each is hashed,
+/// in the order of the list, and then they are put in the order of their hashes.
+fn hash_chain<S: Sorter, H: Nsec3Hasher, O: Octets>(
+    alloc: Global,
+    hasher: &H,
+    params: &Nsec3param<O>,
+    apex: &ParsedName<'_>,
+    names: Vec<ParsedName<'_>>,
     types: RtypeBitmaps,
 ) -> Result<HashedChain, Nsec3HashError>
-    requires { IsSortedByKey (λ h. h.hash) (slice_cmp nat_cmp) hashed.items }
-    ensures ok { IfOk result (λ chain. (chain.hashed.items ≡ hashed.items)
-        × (chain.types ≡ types)) }
-    ensures apart { OnOk result
-        (IsStrictlySortedBy (slice_cmp nat_cmp) (map (λ h. h.hash) hashed.items)) }
-    ensures err { IfErr result (λ e. (e ≡ hash_error.CollisionDetected)
-        × HasAlikeNeighbours (map (λ h. h.hash) hashed.items)) }
+    ensures chain { IfOk result (λ chain. AreOrderedHashes apex.now
+        (hash_by (H.answer hasher.now) (parameters_of params.now)) names.entry.items
+        chain.hashed.items) }
+    ensures types { IfOk result (λ chain. chain.types ≡ types) }
+    ensures fault { IfErr result (IsHashingFault apex.now
+        (hash_by (H.answer hasher.now) (parameters_of params.now)) names.entry.items) }
 {
+    let mut hashed = hash_names(alloc, hasher, params, apex, names.as_slice())?;
+    drop(names);
+    sort_by_hash::<S>(&mut hashed)?;
     if has_collision(hashed.as_slice()) {
         return Err(Nsec3HashError::CollisionDetected);
     }
     Ok(HashedChain { hashed, types })
 }
 
-/// A chain over these names, of which the first own records and have these types: each is hashed,
-/// in the order of the list, and then they are put in the order of their hashes.
-fn hash_chain<S: Sorter, H: Nsec3Hasher, O: Octets, N: ToName>(
+/// The names of a chain: these owners, which stand in canonical order from the apex on, and then
+/// their empty non-terminals.
+fn with_empty<'a>(
     alloc: Global,
-    hasher: &H,
-    params: &Nsec3param<O>,
-    apex: &N,
-    names: Vec<ParsedName<'_>>,
-    types: RtypeBitmaps,
-) -> Result<HashedChain, Nsec3HashError>
-    requires some { 0 < length names.items }
-    requires within { length types ≤ length names.items }
-    ensures chain { IfOk result (λ chain. (p : Common) → IsOrderedChain (N.labels apex.now)
-        (hash_by (H.answer hasher.now) (parameters_of params.now)) p
-        (entries_of names.entry.items types) (links_in (N.labels apex.now) chain p)) }
-    ensures sound { IfOk result (λ chain. AreUsable (N.labels apex.now) chain) }
-    ensures fault { IfErr result (IsHashingFault (N.labels apex.now)
-        (hash_by (H.answer hasher.now) (parameters_of params.now))
-        (entries_of names.entry.items types)) }
+    apex: &ParsedName<'a>,
+    mut names: Vec<ParsedName<'a>>,
+) -> Result<Vec<ParsedName<'a>>, OutOfMemory>
+    requires ascend { IsStrictlySortedBy canonical_cmp names.items }
+    requires in_zone { All (λ n. is_at_or_below n apex.now ≡ true) names.items }
+    requires begins { list_any (λ n. same_name n apex.now) names.items ≡ true }
+    ensures { IfOk result (λ all. AreWithEmpty apex.now names.entry.items all.items) }
 {
-    let above = apex.as_parsed();
-    let mut hashed = hash_names(alloc, hasher, params, &above, names.as_slice())?;
-    drop(names);
-    sort_by_hash::<S>(&mut hashed)?;
-    Ok(without_collision(hashed, types)?)
-}
-
-/// The chain over these owners, which stand in canonical order from the apex on, with their types:
-/// their empty non-terminals are added, all are hashed and put in order.
-fn chain_of_owners<'a, S: Sorter, H: Nsec3Hasher, O: Octets, N: ToName>(
-    alloc: Global,
-    config: &GenerateNsec3Config<O, S>,
-    hasher: &H,
-    apex: &'a N,
-    owners: Owners<'a>,
-) -> Result<HashedChain, Nsec3HashError>
-    requires paired { length owners.names.items ≡ length owners.types }
-    requires ascend { IsStrictlySortedBy canonical_cmp owners.names.items }
-    requires in_zone { All (λ n. is_at_or_below n (N.labels apex.now) ≡ true) owners.names.items }
-    requires begins { list_any (λ n. same_name n (N.labels apex.now)) owners.names.items ≡ true }
-    ensures chain { IfOk result (λ chain. (L : List ZoneRecord) (soa : ApexSoa)
-        → soa_of L (N.labels apex.now) ≡ Some soa
-        → AreOriginalOwners L (N.labels apex.now) (config_of (H.answer hasher.now) config.now)
-        (as_entries owners.entry)
-        → IsHashedChain L (N.labels apex.now) (config_of (H.answer hasher.now) config.now)
-        (links_in (N.labels apex.now) chain (common_of config.now.params (chain_ttl soa)))) }
-    ensures sound { IfOk result (λ chain. AreUsable (N.labels apex.now) chain) }
-    ensures hashed { OnOk result ((L : List ZoneRecord)
-        → AreOriginalOwners L (N.labels apex.now) (config_of (H.answer hasher.now) config.now)
-        (as_entries owners.entry)
-        → AreAllHashed L (N.labels apex.now) (config_of (H.answer hasher.now) config.now)) }
-    ensures fault { IfErr result (λ e. (L : List ZoneRecord)
-        → AreOriginalOwners L (N.labels apex.now) (config_of (H.answer hasher.now) config.now)
-        (as_entries owners.entry)
-        → ((e ≡ hash_error.OutOfMemory)
-        ⊎ IsFirstHashingFault L (N.labels apex.now)
-        (config_of (H.answer hasher.now) config.now) e)) }
-{
-    let Owners {
-        mut names,
-        types,
-        ..
-    } = owners;
-    let above = apex.as_parsed();
-    let mut empty = empty_nonterminals(alloc, &above, names.as_slice())?;
+    let mut empty = empty_nonterminals(alloc, apex, names.as_slice())?;
     names.append(&mut empty)?;
-    drop(empty);
-    Ok(hash_chain::<S, H, O, N>(alloc, hasher, &config.params, apex, names, types)?)
+    Ok(names)
 }
 
 /// The chain of a zone whose SOA record is known.
@@ -191,5 +141,8 @@ pub(crate) fn chain_of_zone<S: Sorter, H: Nsec3Hasher, O: Octets, N: ToName, D: 
         (N.labels apex.now) (config_of (H.answer hasher.now) config.now)) }
 {
     let owners = list_owners(alloc, apex, records, config)?;
-    Ok(chain_of_owners(alloc, config, hasher, apex, owners)?)
+    let Owners { names, types, .. } = owners;
+    let apex = apex.as_parsed();
+    let names = with_empty(alloc, &apex, names)?;
+    Ok(hash_chain::<S, H, O>(alloc, hasher, &config.params, &apex, names, types)?)
 }

@@ -1,11 +1,10 @@
 //! The hashes of names, and the owners of their records.
-ghost use Rattle.std.specs.Prelude.{◌≡◌, ◌+◌, ◌<◌, ◌≤◌, ◌++◌, ◌∷◌, ◌⊎◌, [], List, Ok, Some, None, length, map, take, All, IfOk, IfErr, IsErrOf, OnOk, vec_capacity, vec_len};
+ghost use Rattle.std.specs.Prelude.{◌≡◌, ◌+◌, ◌<◌, ◌≤◌, ◌++◌, ◌∷◌, ◌⊎◌, [], Ok, Some, None, length, take, All, IfOk, IfErr, IsErrOf, OnOk, vec_capacity, vec_len};
 ghost use Rattle.domain_octets.specs.Words.{Octets};
 ghost use Rattle.domain_hasher.specs.declared.error.Nsec3HashError.TheVariants as hash_error;
 ghost use Rattle.domain_names.specs.{Wire.{labels_of, IsWire}, Words.Name};
 ghost use Rattle.domain_nsec3.specs.{Chain.hashed_owner, Config.hash_name, Faults.hash_fault};
-ghost use Rattle.domain_nsec3.specs.Steps.{Entry, without_hash, IsHashed, IsRefusal};
-ghost use Rattle.domain_nsec3.specs.{Steps.IsFirstRefused, StepView.as_hashed_entry};
+ghost use Rattle.domain_nsec3.specs.Steps.{AreHashesOf, IsFirstRefused, IsHashed, IsRefusal};
 ghost use Rattle.domain_nsec3.specs.View.{hash_by, parameters_of};
 
 use crate::hash_text::{MAX_TEXT, write_hash};
@@ -75,12 +74,9 @@ fn hash_checked<H: Nsec3Hasher>(
     apex: &ParsedName<'_>,
     name: &ParsedName<'_>,
 ) -> Result<Vec<u8>, Nsec3HashError>
-    ensures known { IfOk result (λ hash.
-        hash_name (hash_by (H.answer hasher.now)
+    ensures ok { IfOk result (λ hash. IsHashed apex.now (hash_by (H.answer hasher.now)
         (record { algorithm = algorithm; iterations = iterations; salt = salt.now })) name.now
-        ≡ Ok hash.items) }
-    ensures sound { IfOk result (λ hash. hash_fault apex.now (Ok hash.items) ≡ None) }
-    ensures octets { IfOk result (λ hash. All (λ octet. octet < 256) hash.items) }
+        hash.items) }
     ensures err { IfErr result (IsRefusal apex.now
         (hash_name (hash_by (H.answer hasher.now)
         (record { algorithm = algorithm; iterations = iterations; salt = salt.now })) name.now)) }
@@ -207,8 +203,7 @@ fn hash_at<H: Nsec3Hasher, O: Octets>(
 ) -> Result<Hashed, Nsec3HashError>
     ensures place { IfOk result (λ hashed. hashed.place ≡ place) }
     ensures ok { IfOk result (λ hashed. IsHashed apex.now
-        (hash_by (H.answer hasher.now) (parameters_of params.now))
-        (record { name = name.now; hash = hashed.hash; bits = [] })) }
+        (hash_by (H.answer hasher.now) (parameters_of params.now)) name.now hashed.hash) }
     ensures err { IfErr result (IsRefusal apex.now
         (hash_name (hash_by (H.answer hasher.now) (parameters_of params.now)) name.now)) }
     ensures memory { IsErrOf result hash_error.OutOfMemory → H.takes_memory hasher.now }
@@ -236,13 +231,8 @@ fn hash_into<H: Nsec3Hasher, O: Octets>(
     requires empty { hashed.items ≡ [] }
     requires none { vec_len hashed ≡ 0 }
     requires room { length names.now ≤ vec_capacity hashed }
-    ensures same { IfOk result (λ hashed. (entries : List Entry)
-        → map (λ n. n.name) entries ≡ names.now
-        → map without_hash (map (as_hashed_entry entries) hashed.items) ≡ entries) }
-    ensures ok { IfOk result (λ hashed. (entries : List Entry)
-        → map (λ n. n.name) entries ≡ names.now → All
-        (IsHashed apex.now (hash_by (H.answer hasher.now) (parameters_of params.now)))
-        (map (as_hashed_entry entries) hashed.items)) }
+    ensures ok { IfOk result (λ hashed. AreHashesOf apex.now
+        (hash_by (H.answer hasher.now) (parameters_of params.now)) names.now hashed.items) }
     ensures err { IfErr result (λ e. (e ≡ hash_error.OutOfMemory)
         ⊎ IsFirstRefused apex.now (hash_by (H.answer hasher.now) (parameters_of params.now))
         names.now e) }
@@ -264,13 +254,8 @@ pub(crate) fn hash_names<H: Nsec3Hasher, O: Octets>(
     apex: &ParsedName<'_>,
     names: &[ParsedName<'_>],
 ) -> Result<Vec<Hashed>, Nsec3HashError>
-    ensures same { IfOk result (λ hashed. (entries : List Entry)
-        → map (λ n. n.name) entries ≡ names.now
-        → map without_hash (map (as_hashed_entry entries) hashed.items) ≡ entries) }
-    ensures ok { IfOk result (λ hashed. (entries : List Entry)
-        → map (λ n. n.name) entries ≡ names.now → All
-        (IsHashed apex.now (hash_by (H.answer hasher.now) (parameters_of params.now)))
-        (map (as_hashed_entry entries) hashed.items)) }
+    ensures ok { IfOk result (λ hashed. AreHashesOf apex.now
+        (hash_by (H.answer hasher.now) (parameters_of params.now)) names.now hashed.items) }
     ensures err { IfErr result (λ e. (e ≡ hash_error.OutOfMemory)
         ⊎ IsFirstRefused apex.now (hash_by (H.answer hasher.now) (parameters_of params.now))
         names.now e) }

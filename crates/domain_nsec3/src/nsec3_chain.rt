@@ -6,7 +6,7 @@ ghost use Rattle.domain_zone.specs.View.{zone_of};
 ghost use Rattle.domain_nsec3.specs.Chain.{HashedLink, IsChainParam, IsHashedChain, param_ttl};
 ghost use Rattle.domain_nsec3.specs.Faults.{IsFaultless, IsFirstFault};
 ghost use Rattle.domain_nsec3.specs.Meaning.{IsRecordOf};
-ghost use Rattle.domain_nsec3.specs.StepView.{common_of, links_in, AreUsable};
+ghost use Rattle.domain_nsec3.specs.Steps.{common_of, links_in, AreUsable};
 ghost use Rattle.domain_nsec3.specs.View.{as_param_record, config_of, hashed_links_of, parameters_of};
 
 use crate::GenerateNsec3Config;
@@ -37,7 +37,7 @@ pub struct Nsec3Chain<'a, O: Octets> {
 
 impl<'a, O: Octets> Model for Nsec3Chain<'a, O> {
     ghost use Rattle.domain_nsec3.specs.Chain.{ChainRecords};
-    ghost use Rattle.domain_nsec3.specs.StepView.{common_of, links_in, AreUsable};
+    ghost use Rattle.domain_nsec3.specs.Steps.{common_of, links_in, AreUsable};
     ghost use Rattle.domain_nsec3.specs.View.{as_param_record};
 
     ghost Value = { ChainRecords };

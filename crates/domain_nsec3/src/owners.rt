@@ -1,11 +1,11 @@
 //! The owners of a zone that its NSEC3 chain holds.
-ghost use Rattle.std.specs.Prelude.{◌≡◌, ◌≢◌, ◌∷◌, ◌++◌, [], false, length, None, IfOk, IfErr};
+ghost use Rattle.std.specs.Prelude.{◌≡◌, ◌≢◌, ◌∷◌, ◌++◌, [], false, None, IfOk, IfErr};
 ghost use Rattle.std.specs.Prelude.{OnOk};
 ghost use Rattle.domain_records.specs.Order.{IsInOrder};
 ghost use Rattle.domain_bitmap.specs.Bitmap.{bitmap_octets};
 ghost use Rattle.domain_zone.specs.{Soa.soa_of, Zone.has_unequal_ttls, View.zone_of};
 ghost use Rattle.domain_nsec3.specs.{Faults.IsFirstFault, Owners.{is_listed, original_owners}};
-ghost use Rattle.domain_nsec3.specs.{Steps.AreOriginalOwners, StepView.as_entries};
+ghost use Rattle.domain_nsec3.specs.Steps.{AreOriginalOwners};
 ghost use Rattle.domain_nsec3.specs.View.{HasherAnswer, config_of};
 
 use crate::GenerateNsec3Config;
@@ -89,9 +89,7 @@ pub(crate) fn list_owners<'a, S, O: Octets, N: ToName, D: ZoneData>(
     requires { IsInOrder N.labels D.rtype records }
     ensures owners { IfOk result (λ owners. (answer : HasherAnswer) → AreOriginalOwners
         (zone_of N.labels D.rtype D.minimum records.entry) (N.labels apex.now)
-        (config_of answer config.now) (as_entries owners)) }
-    ensures paired { IfOk result (λ owners.
-        length owners.names.items ≡ length owners.types) }
+        (config_of answer config.now) owners) }
     ensures even { OnOk result ((answer : HasherAnswer) → has_unequal_ttls
         (zone_of N.labels D.rtype D.minimum records.entry)
         (original_owners (zone_of N.labels D.rtype D.minimum records.entry) (N.labels apex.now)

@@ -1,7 +1,7 @@
 use Rattle.std.proofs.Common.{◌≡◌, ◌∙◌, ◌&&◌, not, sym, ap, map, subst, Err, arith}
 use Rattle.domain_zone.specs.{OwnerView.as_owner_records, View.{as_zone_record, zone_of}, Zone.has_clash}
 use Rattle.domain_zone.proofs.{GivenLemmas.{raw_types, types_at}, TtlLemmas.NeverDescend}
-use Rattle.domain_nsec3.{specs.View.{HasherAnswer, config_of}, proofs.StateLemmas.{stays, paired, at_known, at_excluded, at_owner, at_fault, at_end, even_end}}
+use Rattle.domain_nsec3.{specs.View.{HasherAnswer, config_of}, proofs.StateLemmas.{stays, at_known, at_excluded, at_owner, at_fault, at_end, even_end}}
 use Rattle.domain_nsec3.proofs.owners.list_owners.{Given.Over, Goals.{After-is_unsigned_cut-is_unsigned_cut, After-has_unequal_ttls}}
 use Rattle.domain_nsec3.proofs.owners.list_owners.Goals as goal
 use Rattle.std.proofs.lemmas.Grind.{common_steps}
@@ -67,9 +67,6 @@ returns-then-owners-clause-fault g c = λ soa answer. record {
 
 pub returns-clause-owners : goal.returns-clause-owners
 returns-clause-owners g c = λ answer. at_end (c.owners.invariant answer) c.in_default.ensures.steps.0 c.if-owners.false
-
-pub returns-clause-paired : goal.returns-clause-paired
-returns-clause-paired g c = paired (c.owners.invariant refuses) c.if-owners.false
 
 pub returns-clause-even : goal.returns-clause-even
 returns-clause-even g c = λ answer. even_end (c.owners.invariant answer) c.in_default.ensures.steps.0

@@ -1,5 +1,5 @@
 use Rattle.std.proofs.Common.{sym, ap, subst, arith}
-use Rattle.domain_nsec3.specs.StepView.{AreUsable}
+use Rattle.domain_nsec3.specs.Steps.{AreUsable}
 use Rattle.domain_nsec3.proofs.nsec3_chain.Nsec3Chain.generate.Goals as goal
 use Rattle.std.proofs.lemmas.Grind.{common_steps}
 

@@ -1,5 +1,5 @@
 use Rattle.std.{proofs.Common.{List, ℕ, ◌<◌, length, ap, arith, sym, subst, ◌∙◌}, specs.Prelude.All}
-use Rattle.domain_nsec3.specs.{Chain.{ChainRecords, HashedLink}, Meaning.IsRecordOf, StepView.{common_of, links_in}}
+use Rattle.domain_nsec3.specs.{Chain.{ChainRecords, HashedLink}, Meaning.IsRecordOf, Steps.{common_of, links_in}}
 use Rattle.domain_nsec3.proofs.ChainLemmas.{links_counted, hash_there}
 use Rattle.domain_nsec3.proofs.nsec3_chain.Nsec3Chain.hash_at.Goals as goal
 use Rattle.std.proofs.lemmas.Grind.{common_steps}
