@@ -1,12 +1,12 @@
 -- The owners of NSEC3 records ascend in canonical order, as their hashes do.
-use Rattle.std.proofs.{Common.{◌≡◌, ℕ, ◌<◌, List, [], ◌∷◌, map, refl, sym, ap, ◌∙◌, subst}, lemmas.{Cmp.tied_itself, List.Elements.recursion_from_All}}
+use Rattle.std.proofs.{Common.{◌≡◌, ℕ, ◌<◌, List, [], ◌∷◌, map, refl, sym, ap, ◌∙◌, subst}, lemmas.{Cmp.tied_itself, List.Elements.recursion_from_All, Simd.map-map}}
 use Rattle.std.specs.{Prelude.All, List.{AllByRecursion, Sorted.IsStrictlySortedBy}, Cmp.Lexicographic.slice_cmp, Ordering.{nat_cmp, ordering_then}}
 use Rattle.std.specs.declared.cmp.Ordering.TheVariants.{Less}
 use Rattle.domain_codecs.proofs.OrderLemmas.{lower_keeps}
 use Rattle.domain_names.{specs.{Order.{canonical_cmp, canonical_cmp_total}, Words.Name}, proofs.OrderLemmas.canonical_cmp-more}
-use Rattle.domain_zone.specs.{Covering.pairs, Zone.ZoneRecord}
+use Rattle.domain_zone.specs.Zone.{ZoneRecord}
 use Rattle.domain_nsec3.specs.{Chain.{HashedLink, HashedName, IsHashedChain, IsOfChain, cycle, ends, ends_of, hashed_owner}, Config.ChainConfig}
-use Rattle.domain_nsec3.{specs.Meaning.OwnersAscend, proofs.TextLemmas.lower_text}
+use Rattle.domain_nsec3.{specs.Meaning.OwnersAscend, proofs.{ChainLemmas.cycle_owners, TextLemmas.lower_text}}
 
 before_owner : (a : Name) (u v : List ℕ) → All (λ o. o < 256) u → All (λ o. o < 256) v → slice_cmp nat_cmp u v ≡ Less
     → canonical_cmp (hashed_owner a u) (hashed_owner a v) ≡ Less
@@ -29,20 +29,10 @@ ascending a (u ∷ us) h up = (each us h.1 up.0, ascending a us h.1 up.1)
 
 owners_of_cycle : (a : Name) (links : List HashedLink) (us : List (List ℕ)) → map ends links ≡ map (ends_of a) (cycle us)
     → map (λ k. k.owner) links ≡ map (hashed_owner a) us
-owners_of_cycle a links us e = first links ∙ ap (map (λ (p : Name × List ℕ). p.0)) e ∙ cycled us
-  where
-    first : (ls : List HashedLink) → map (λ k. k.owner) ls ≡ map (λ (p : Name × List ℕ). p.0) (map ends ls)
-    first [] = refl
-    first (l ∷ ls) = ap (λ t. l.owner ∷ t) (first ls)
-
-    paired : (w : List ℕ) (ws : List (List ℕ)) (f : List ℕ)
-        → map (λ (p : Name × List ℕ). p.0) (map (ends_of a) (pairs (w ∷ ws) f)) ≡ map (hashed_owner a) (w ∷ ws)
-    paired w [] f = refl
-    paired w (x ∷ ws) f = ap (λ t. hashed_owner a w ∷ t) (paired x ws f)
-
-    cycled : (vs : List (List ℕ)) → map (λ (p : Name × List ℕ). p.0) (map (ends_of a) (cycle vs)) ≡ map (hashed_owner a) vs
-    cycled [] = refl
-    cycled (v ∷ vs) = paired v vs v
+owners_of_cycle a links us e =
+    sym (map-map (λ (p : Name × List ℕ). p.0) ends links) ∙ ap (map (λ (p : Name × List ℕ). p.0)) e
+    ∙ map-map (λ (p : Name × List ℕ). p.0) (ends_of a) (cycle us) ∙ sym (map-map (hashed_owner a) (λ (q : List ℕ × List ℕ). q.0) (cycle us))
+    ∙ ap (map (hashed_owner a)) (cycle_owners us)
 
 pub owners_ascend : (L : List ZoneRecord) (a : Name) (config : ChainConfig) (links : List HashedLink) → IsHashedChain L a config links → OwnersAscend links
 owners_ascend L a config links chain =

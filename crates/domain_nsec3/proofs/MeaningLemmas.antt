@@ -1,28 +1,27 @@
 -- What the records of an NSEC3 chain say of every name, from the chain alone.
-use Rattle.std.proofs.Common.{length, ◌≤◌, arith, ◌≡◌, ℕ, zero, suc, Bool, true, false, cond, not, ◌&&◌, ◌||◌, List, [], ◌∷◌, map, Some, Ok, refl, sym, ap, ◌∙◌}
-use Rattle.std.proofs.{Common.{subst, inl, inr, ◌⊎◌}, lemmas.Bool.{cases_Bool, cases_lt, false≢true, true≢false, and_parts, and_from, or_cases, or_left}}
+use Rattle.std.proofs.Common.{length, ◌≤◌, arith, ◌≡◌, ℕ, zero, suc, Bool, true, false, not, ◌&&◌, ◌||◌, List, [], ◌∷◌, map, Some, Ok, refl, sym, ap, ◌∙◌}
+use Rattle.std.proofs.{Common.{subst, inl, inr, ◌⊎◌}, lemmas.Bool.{cases_Bool, cases_lt, false≢true, true≢false, and_parts, or_cases, or_left}}
 use Rattle.std.proofs.lemmas.{List.{Elements.recursion_from_All, Sorted.ranks_by}, Grind.common_steps}
 use Rattle.std.specs.{Prelude.{filter, slice_get}, List.{AllByRecursion, list_any, Sorted.IsStrictlySortedBy}, Cmp.IsStrictWeakOrder}
 use Rattle.std.specs.{Cmp.Lexicographic.{slice_cmp, nat_list_cmp_total}, FinMap.{slice_cmp-IsAntisymmetric, nat_cmp-IsAntisymmetric}}
 use Rattle.std.specs.{Ordering.{nat_cmp, is_lt, ordering_reverse}, declared.cmp.Ordering.{Ordering, TheVariants.{Less, Equal, Greater}}}
 use Rattle.domain_codecs.{specs.Base32.base32_lower, proofs.OrderLemmas.lower_apart}
-use Rattle.domain_octets.proofs.StdLemmas.{and_false, some_is}
+use Rattle.domain_octets.proofs.StdLemmas.{some_is}
 use Rattle.domain_bitmap.{specs.Bitmap.bitmap_octets, proofs.BitmapLemmas.bitmap_octets-same}
-use Rattle.domain_chain_rdata.specs.OptOut.{is_opt_out}
 use Rattle.domain_zone.specs.{Covering.{matches, covers, matches_or_covers, pairs}, Enclosers.{IsClosestEncloser, exists_over}}
-use Rattle.domain_zone.specs.Zone.{ZoneRecord, records_of, owns, has_type, is_zone_cut, is_unoccluded, unoccluded_owners}
-use Rattle.domain_zone.proofs.NameLemmas.{one_lowered, same_itself, below_itself, below_trans, below_length, below_longer, below_parent, lowered_below}
-use Rattle.domain_zone.proofs.{NameLemmas.same_lowered, OwnerLemmas.{any_filter, any_in, any_owner, apex_unoccluded, typed_owns}}
-use Rattle.domain_zone.proofs.{PairLemmas.{In, all_in, IsAscending, IsApart, gap, next_is, irreflexive, one_matches_or_covers}, PlaceLemmas.{IsOnly, one_place}}
-use Rattle.domain_zone.proofs.{SharedLemmas.either_way, SoaLemmas.soa_owned, FindLemmas.{in_at, in_map}}
-use Rattle.domain_names.specs.{Name.{is_at_or_below, is_strictly_below, lowered, same_name}, Words.Name}
+use Rattle.domain_zone.specs.Zone.{ZoneRecord, owns, has_type}
+use Rattle.domain_zone.proofs.NameLemmas.{one_lowered, below_itself, below_trans, below_length, below_longer, below_parent, lowered_below, same_lowered}
+use Rattle.domain_zone.proofs.{OwnerLemmas.any_in, PairLemmas.{In, all_in, IsAscending, irreflexive, one_matches_or_covers}, PlaceLemmas.{IsOnly, one_place}}
+use Rattle.domain_zone.proofs.{SharedLemmas.either_way, SoaLemmas.soa_owned, FindLemmas.{from_map, in_at, in_map, stands_in}, ZoneLemmas.weaker}
+use Rattle.domain_names.specs.{Name.{is_at_or_below, lowered, same_name}, Words.Name}
 use Rattle.domain_base.specs.Types.{ns, ds}
 use Rattle.domain_nsec3.specs.Chain.{HashedLink, HashedName, IsHashedChain, IsOfChain, cycle, ends, ends_of, hashed_owner}
-use Rattle.domain_nsec3.specs.Config.{ChainConfig, HashAnswer, excludes, hash_of}
+use Rattle.domain_nsec3.specs.Config.{ChainConfig, HashAnswer, hash_of}
 use Rattle.domain_nsec3.specs.Meaning.{octets_before, IsAlone, AreAlone, IsRecordOf, IsMatchedOrCoveredOnce, MirrorsZone, TellsEncloserOf, TellsEncloser}
 use Rattle.domain_nsec3.specs.Meaning.{CoversExcluded}
-use Rattle.domain_nsec3.specs.Owners.{original_owners, is_original_owner, is_excluded, is_unsigned_cut, is_empty, is_chain_name, is_listed, nsec3_lists}
-use Rattle.domain_nsec3.proofs.{FaultLemmas.hash_same, OwnerLemmas.{existing_are, runs_to_encloser}, SharedLemmas.at_length}
+use Rattle.domain_nsec3.specs.Owners.{original_owners, is_empty, is_chain_name, is_listed, nsec3_lists}
+use Rattle.domain_nsec3.proofs.{ChainLemmas.cycle_owners, FaultLemmas.hash_same, SharedLemmas.at_length}
+use Rattle.domain_nsec3.proofs.OwnerLemmas.{apex_original, existing_are, out_flag, runs_to_encloser}
 
 -- ---- the order of hashes
 
@@ -40,50 +39,13 @@ tied_octets u v m = slice_cmp-IsAntisymmetric nat_cmp-IsAntisymmetric u v
     by Greater s e m = absurd (false≢true (sym (ap (λ t. not (is_lt t)) e) ∙ m))
 
 -- octets match themselves
-tied_itself : (u v : List ℕ) → u ≡ v → matches octets_before u v ≡ true
-tied_itself u v e = ap (matches octets_before u) (sym e) ∙ (λ i. not (irreflexive octets_order u i || irreflexive octets_order u i))
-
-all_before : (u : List ℕ) (us : List (List ℕ)) → AllByRecursion (λ v. slice_cmp nat_cmp u v ≡ Less) us → AllByRecursion (λ v. octets_before u v ≡ true) us
-all_before u [] h = tt
-all_before u (v ∷ us) h = (ap is_lt h.0, all_before u us h.1)
+matches_itself : (u v : List ℕ) → u ≡ v → matches octets_before u v ≡ true
+matches_itself u v e = ap (matches octets_before u) (sym e) ∙ (λ i. not (irreflexive octets_order u i || irreflexive octets_order u i))
 
 ascends : (us : List (List ℕ)) → IsStrictlySortedBy (slice_cmp nat_cmp) us → IsAscending octets_before us
 unfolding IsStrictlySortedBy
 ascends [] h = tt
-ascends (u ∷ us) h = (all_before u us h.0, ascends us h.1)
-
-all_after : (us : List (List ℕ)) (u : List ℕ) → AllByRecursion (λ v. octets_before u v ≡ true) us → AllByRecursion (λ v. octets_before v u ≡ false) us
-all_after [] u h = tt
-all_after (v ∷ us) u h = (octets_order.one_way u v h.0, all_after us u h.1)
-
--- a hash of the list lies in no gap of the cycle
-no_gap : (us : List (List ℕ)) → IsStrictlySortedBy (slice_cmp nat_cmp) us → (p : List ℕ × List ℕ) → In p (cycle us) → (v : List ℕ)
-    → In v us → covers octets_before p.0 p.1 v ≡ true → ⊥
-no_gap [] up p i v j c = i
-no_gap (u ∷ us) up p i v j c =
-    let parts = and_parts (not (matches octets_before p.0 v))
-    (cond (octets_before p.0 p.1) (octets_before p.0 v && octets_before v p.1) (octets_before p.0 v || octets_before v p.1))
-    c in
-    by (octets_before p.0 p.1) refl parts.1 (gap octets_order u us u p v (ascends (u ∷ us) up) i j) (next_is octets_order u us u p (ascends (u ∷ us) up) i)
-  where
-    first_low : octets_before v u ≡ false
-    first_low = elim j [
-      | inl e ↦ ap (λ w. octets_before w u) (sym e) ∙ irreflexive octets_order u
-      | inr k ↦ octets_order.one_way u v (all_in (λ w. octets_before u w ≡ true) us v (ascends (u ∷ us) up).0 k)
-    ]
-
-    by : (b : Bool) → octets_before p.0 p.1 ≡ b → cond b (octets_before p.0 v && octets_before v p.1) (octets_before p.0 v
-        || octets_before v p.1) ≡ true → IsApart {lt = octets_before} octets_order v p
-        → ((octets_before p.0 p.1 ≡ true) × In p.1 (u ∷ us)) ⊎ (u ≡ p.1) → ⊥
-    by true e h (inl f) n = false≢true (sym f ∙ (and_parts (octets_before p.0 v) (octets_before v p.1) h).0)
-    by true e h (inr f) n = false≢true (sym f.1 ∙ (and_parts (octets_before p.0 v) (octets_before v p.1) h).1)
-    by false e h (inr f) n = true≢false (sym f.0 ∙ e)
-    by false e h (inl f) (inl n) = true≢false (sym n.0 ∙ e)
-    by false e h (inl f) (inr n) =
-        elim (or_cases (octets_before p.0 v) (octets_before v p.1) h) [
-          | inl g ↦ false≢true (sym f ∙ g)
-          | inr g ↦ false≢true (sym first_low ∙ ap (octets_before v) n ∙ g)
-        ]
+ascends (u ∷ us) h = (weaker (λ v. slice_cmp nat_cmp u v ≡ Less) (λ v. octets_before u v ≡ true) (λ v e. ap is_lt e) us h.0, ascends us h.1)
 
 -- exactly one pair of the cycle matches or covers any octets
 one_pair : (u : List ℕ) (us : List (List ℕ)) → IsStrictlySortedBy (slice_cmp nat_cmp) (u ∷ us) → (v : List ℕ)
@@ -91,15 +53,10 @@ one_pair : (u : List ℕ) (us : List (List ℕ)) → IsStrictlySortedBy (slice_c
 one_pair u us up v =
     let rise = ascends _ up in
     one_place _ _
-    (one_matches_or_covers octets_order u us u v rise (irreflexive octets_order u, all_after us u rise.0) (irreflexive octets_order u))
-
-cycle_owners : (us : List (List ℕ)) → map (λ (p : List ℕ × List ℕ). p.0) (cycle us) ≡ us
-cycle_owners [] = refl
-cycle_owners (u ∷ us) = by u us u
-  where
-    by : (w : List ℕ) (ws : List (List ℕ)) (f : List ℕ) → map (λ (p : List ℕ × List ℕ). p.0) (pairs (w ∷ ws) f) ≡ w ∷ ws
-    by w [] f = refl
-    by w (x ∷ ws) f = ap (λ t. w ∷ t) (by x ws f)
+    (one_matches_or_covers octets_order u us u v rise (
+      irreflexive octets_order u,
+      weaker (λ w. octets_before u w ≡ true) (λ w. octets_before w u ≡ false) (octets_order.one_way u) us rise.0,
+    ) (irreflexive octets_order u))
 
 head_is : {X : Type 0} {x y : X} {xs ys : List X} → x ∷ xs ≡ y ∷ ys → x ≡ y
 head_is e = cc
@@ -193,15 +150,7 @@ module _ (L : List ZoneRecord) (a : Name) (config : ChainConfig) where
 
   -- the apex is a name of the chain where it owns records
   apex_named : owns L a ≡ true → is_chain_name L a config a ≡ true
-  apex_named o =
-      let at : Name → Bool = λ k. not (excludes config && ((lowered_below k (lowered a) && not (same_lowered k (lowered a))
-      && has_type (filter (λ r. same_lowered (lowered r.owner) k) L) ns)
-      && not (has_type (filter (λ r. same_lowered (lowered r.owner) k) L) ds))) && same_lowered k (lowered a) in
-      or_left _ (is_empty L a config a)
-      (any_filter (λ n. same_name n a) (λ n. not (is_excluded L a config n)) (unoccluded_owners config.occlude_below_dname L a)
-      ∙ any_owner config.occlude_below_dname L a a at o (apex_unoccluded config.occlude_below_dname L a) (and_from _ _
-      (ap not ((λ i. excludes config && (((below_itself a i && not (same_itself a a refl i)) && has_type (records_of L a) ns)
-      && not (has_type (records_of L a) ds))) ∙ and_false _)) (same_itself a a refl)))
+  apex_named o = or_left _ (is_empty L a config a) (apex_original L a config o)
 
   module _ (links : List HashedLink) (chain : IsHashedChain L a config links) where
     name_sound : (n : HashedName) → In n chain.names → IsOfChain L a config n
@@ -255,14 +204,13 @@ module _ (L : List ZoneRecord) (a : Name) (config : ChainConfig) where
         let matched : matches octets_before p.name.hash v ≡ is_chain_name L a config x =
         either_way (matches octets_before p.name.hash v) (is_chain_name L a config x)
         (λ m. sym (chain_same p.name.name x (matched_name x v alone l.0 one.place l.1 m)) ∙ (name_sound p.name p.there).in_chain)
-        (λ c. elim (or_cases (matches octets_before p.name.hash v) (covers octets_before p.name.hash l.0.next v) says) [
-          | inl m ↦ m
-          | inr k ↦ absurd (no_gap (map (λ n. n.hash) chain.names) chain.ascend (
-            p.name.hash,
-            l.0.next,
-          ) (in_at (cycle (map (λ n. n.hash) chain.names)) one.place (p.name.hash, l.0.next) p.pair) v
-              (among x v alone.known c) k)
-        ]) in
+        (λ c.
+        let hashes : List (List ℕ) = map (λ n. n.hash) chain.names in
+        let q = from_map (λ (r : List ℕ × List ℕ). r.0) (cycle hashes) v (subst (In v) (sym (cycle_owners hashes)) (among x v alone.known c)) in
+        let s = stands_in (cycle hashes) q.0 q.1 in
+        let at = one.only s.place q.0 s.there (or_left (matches octets_before q.0.0 v) _ (matches_itself q.0.0 v q.2)) in
+        let same : q.0 ≡ (p.name.hash, l.0.next) = some_is q.0 (p.name.hash, l.0.next) (sym s.there ∙ ap (slice_get (cycle hashes)) at ∙ p.pair) in
+        matches_itself p.name.hash v (sym (ap (λ r. r.0) same) ∙ q.2)) in
         record {
           place = one.place;
           link = l.0;
@@ -336,26 +284,8 @@ module _ (L : List ZoneRecord) (a : Name) (config : ChainConfig) where
       each = λ x e low alone c. told_of x e alone c;
     }
 
-    -- a zone cut that is no owner of the chain is left out
-    out_flag : (c : Name) → is_zone_cut L a c ≡ true → is_unoccluded config.occlude_below_dname L a c ≡ true
-        → is_original_owner L a config c ≡ false → is_opt_out config.flags ≡ true
-    out_flag c cut high out =
-        elim (cases_Bool (is_opt_out config.flags)) [
-          | inl e ↦ e
-          | inr e ↦
-              let at : Name → Bool = λ k. not (excludes config
-              && ((lowered_below k (lowered a) && not (same_lowered k (lowered a))
-              && has_type (filter (λ r. same_lowered (lowered r.owner) k) L) ns)
-              && not (has_type (filter (λ r. same_lowered (lowered r.owner) k) L) ds))) && same_lowered k (lowered c) in
-              absurd (false≢true (sym out
-              ∙ (any_filter (λ n. same_name n c) (λ n. not (is_excluded L a config n)) (unoccluded_owners config.occlude_below_dname L a)
-              ∙ any_owner config.occlude_below_dname L a c at (typed_owns L c ns (and_parts (is_strictly_below c a) (has_type (records_of L c) ns) cut).1) high
-              (and_from (not (is_excluded L a config c)) (same_name c c)
-              (λ i. not ((e i && config.exclude_unsigned) && is_unsigned_cut L a c)) (same_itself c c refl)))))
-        ]
-
     pub covers_excluded : CoversExcluded L a config links
     covers_excluded = record {
-      flag = out_flag;
+      flag = out_flag L a config;
       each = λ c e d cut high out alone k n. (told_of c e alone k).next d n;
     }
