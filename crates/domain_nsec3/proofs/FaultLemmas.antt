@@ -10,7 +10,7 @@ use Rattle.domain_names.specs.{Name.{lowered, wire_of, same_name}, Order.before,
 use Rattle.domain_hasher.specs.declared.error.Nsec3HashError.{Nsec3HashError}
 use Rattle.domain_zone.specs.Zone.{ZoneRecord}
 use Rattle.domain_zone.proofs.{NameLemmas.{before_order, before_left, one_lowered, same_itself, same_lowered}, PairLemmas.{In, IsAscending, all_in}}
-use Rattle.domain_zone.proofs.{OwnerLemmas.any_in, ZoneLemmas.{weaker}}
+use Rattle.domain_zone.proofs.{FindLemmas.in_map, OwnerLemmas.any_in, ZoneLemmas.{weaker}}
 use Rattle.domain_nsec3.specs.{Chain.{HashedLink, HashedName, IsHashedChain, IsOfChain}, Config.{ChainConfig, Hash, hash_name}}
 use Rattle.domain_nsec3.specs.Faults.{hash_fault, is_hashed_before, IsFirstHashFault, IsFirstHashingFault, HasCollision}
 use Rattle.domain_nsec3.specs.{Owners.{is_original_owner, is_chain_name, original_owners}, Steps.IsFirstRefused}
@@ -105,9 +105,9 @@ module _ (L : List ZoneRecord) (a : Name) (config : ChainConfig) (links : List H
   -- a hash comes before all later ones
   never : (k n : HashedName) (ns : List HashedName) → AllByRecursion (λ h. slice_cmp nat_cmp k.hash h ≡ Less)
       (map (λ n. n.hash) ns) → In n ns → k.hash ≡ n.hash → ⊥
-  never k n [] h i e = i
-  never k n (m ∷ ns) h (inl f) e = grind (arith, common_steps, (tied_itself nat_list_cmp_total k.hash))
-  never k n (m ∷ ns) h (inr i) e = never k n ns h.1 i e
+  never k n ns h i e =
+      let less = all_in (λ h. slice_cmp nat_cmp k.hash h ≡ Less) (map (λ n. n.hash) ns) n.hash h (in_map (λ (n : HashedName). n.hash) ns n i) in
+      grind (arith, common_steps, (tied_itself nat_list_cmp_total k.hash))
 
   one_place : (ns : List HashedName) → IsStrictlySortedBy (slice_cmp nat_cmp) (map (λ n. n.hash) ns) → (m n : HashedName)
       → In m ns → In n ns → m.hash ≡ n.hash → m ≡ n

@@ -1,7 +1,7 @@
 -- The text of a hash as a label.
 use Rattle.std.proofs.Common.{◌≡◌, ℕ, ◌+◌, ◌*◌, ◌/◌, ◌<◌, ◌≤◌, List, [], ◌∷◌, ◌++◌, map, length, refl, sym, ap, ◌∙◌, subst, arith, get_or, set, take, Fits, w8}
-use Rattle.std.proofs.{Common.{zero, suc}, lemmas.{Bool.Decides.nat_tests, List.{Elements.recursion_from_All, length-map}, Grind.common_steps}}
-use Rattle.std.specs.{Prelude.{All, None, Ok, nat_lt, ◌==◌, true, false, if◌then◌else◌}, Char.to_ascii_lowercase, List.AllByRecursion, Str.IsAscii}
+use Rattle.std.proofs.{Common.{inl, inr}, lemmas.{Bool.cases_lt, List.{Elements.{All-map, All-weaker, recursion_from_All}, Folds.map_fixed, get_or_past, length-map}, Grind.common_steps}}
+use Rattle.std.specs.{Prelude.{All, None, Ok, nat_lt, true, false, if◌then◌else◌}, Char.to_ascii_lowercase, List.AllByRecursion, Str.IsAscii}
 use Rattle.domain_codecs.{specs.Base32.{base32_from, base32_lower, lower_digit}, proofs.{Base32Lemmas.many_digits, ReadBackLemmas.are_small}}
 use Rattle.domain_octets.proofs.OctetLemmas.{octets_from_type}
 use Rattle.domain_names.specs.{Name.{wire_of, IsName}, Text.{label_text, name_text}, Wire.{labels_of, IsWire}, Words.Name}
@@ -15,29 +15,28 @@ text_length h = length-map (base32_from 1 0 h) lower_digit ∙ many_digits h
 abbrev AreOctets : List ℕ → Type 0
 AreOctets h = All (λ o. o < 256) h
 
-small : (h : List ℕ) → AreOctets h → AllByRecursion (λ d. d < 32) (base32_from 1 0 h)
-small h all = recursion_from_All (λ d. d < 32) (base32_from 1 0 h) (are_small h all)
+-- what holds of each digit
+each_digit : (P : ℕ → Type 0) → ((d : ℕ) → d < 32 → P (lower_digit d)) → (h : List ℕ) → AreOctets h → All P (base32_lower h)
+each_digit P f h all =
+    All-map P lower_digit (base32_from 1 0 h) (All-weaker (λ d. d < 32) (λ d. P (lower_digit d)) f (base32_from 1 0 h) (are_small h all))
 
-digit_small : (d : ℕ) → d < 32 → lower_digit d < 256
-digit_small d b = elim (nat_lt d 10) as (λ t. (if t then 48 + d else 87 + d) < 256) [ true ↦ omega arith | false ↦ omega arith ]
+digit_ascii : (d : ℕ) → d < 32 → lower_digit d < 128
+digit_ascii d b = elim (nat_lt d 10) as (λ t. (if t then 48 + d else 87 + d) < 128) [ true ↦ omega arith | false ↦ omega arith ]
 
--- the digits are in lower case
+pub ascii_text : (h : List ℕ) → AreOctets h → IsAscii (base32_lower h)
+ascii_text h all i = elim (cases_lt i (length (base32_lower h))) [
+  | inl l ↦ each_digit (λ o. o < 128) digit_ascii h all i 0 l
+  | inr m ↦ omega (arith, get_or_past (base32_lower h) i 0 m)
+]
+
+pub text_octets : (h : List ℕ) → AreOctets h → All (λ o. o < 256) (base32_lower h)
+text_octets = each_digit (λ o. o < 256) (λ d b. let small = digit_ascii d b in omega arith)
+
 digit_lower : (d : ℕ) → d < 32 → to_ascii_lowercase (lower_digit d) ≡ lower_digit d
 digit_lower d b = grind (arith, common_steps)
 
-digits_lower : (ds : List ℕ) → AllByRecursion (λ d. d < 32) ds → map to_ascii_lowercase (map lower_digit ds) ≡ map lower_digit ds
-digits_lower [] all = refl
-digits_lower (d ∷ ds) all = λ i. digit_lower d all.0 i ∷ digits_lower ds all.1 i
-
-digits_small : (ds : List ℕ) → AllByRecursion (λ d. d < 32) ds → AllByRecursion (λ o. o < 256) (map lower_digit ds)
-digits_small [] all = tt
-digits_small (d ∷ ds) all = (digit_small d all.0, digits_small ds all.1)
-
-pub text_octets : (h : List ℕ) → AreOctets h → All (λ o. o < 256) (base32_lower h)
-text_octets h all = grind (arith, common_steps, digits_small, small)
-
 pub lower_text : (h : List ℕ) → AreOctets h → map to_ascii_lowercase (base32_lower h) ≡ base32_lower h
-lower_text h all = digits_lower (base32_from 1 0 h) (small h all)
+lower_text h all = map_fixed to_ascii_lowercase (base32_lower h) (each_digit (λ o. to_ascii_lowercase o ≡ o) digit_lower h all)
 
 -- ---- the text of a hash within that of a name
 
@@ -46,18 +45,7 @@ digits_text [] all = refl
 digits_text (d ∷ ds) all = grind (arith, common_steps, ordinary_octet, (digits_text ds all.1))
 
 hash_text : (h : List ℕ) → AreOctets h → label_text (base32_lower h) ≡ base32_lower h
-hash_text h all = digits_text (base32_from 1 0 h) (small h all)
-
-digit_ascii : (d : ℕ) → d < 32 → lower_digit d < 128
-digit_ascii d b = elim (nat_lt d 10) as (λ t. (if t then 48 + d else 87 + d) < 128) [ true ↦ omega arith | false ↦ omega arith ]
-
-digits_ascii : (ds : List ℕ) → AllByRecursion (λ d. d < 32) ds → (i : ℕ) → get_or (map lower_digit ds) i 0 < 128
-digits_ascii [] all i = omega arith
-digits_ascii (d ∷ ds) all zero = digit_ascii d all.0
-digits_ascii (d ∷ ds) all (suc i) = digits_ascii ds all.1 i
-
-pub ascii_text : (h : List ℕ) → AreOctets h → IsAscii (base32_lower h)
-ascii_text h all = digits_ascii (base32_from 1 0 h) (small h all)
+hash_text h all = digits_text (base32_from 1 0 h) (recursion_from_All (λ d. d < 32) (base32_from 1 0 h) (are_small h all))
 
 -- the text of the owner of a record, with its last dot: right below the root, and elsewhere
 pub owner_at_root : (a : Name) (h : List ℕ) → AreOctets h → a ≡ [] → base32_lower h ++ 46 ∷ [] ≡ name_text (hashed_owner a h) ++ 46 ∷ []
@@ -73,12 +61,6 @@ owner_below (l ∷ ls) h all some = grind (arith, common_steps, hash_text)
 pub owner_length : (a : Name) (h above : List ℕ) → IsWire above → labels_of above ≡ a
     → length (wire_of (hashed_owner a h)) ≡ (8 * length h + 4) / 5 + 1 + length above
 owner_length a h above w l = grind (arith, common_steps, text_length)
-
-is_none : (n : ℕ) → n ≡ 0 → (n == 0) ≡ true
-is_none n h = grind (arith, nat_tests)
-
-is_some : (n : ℕ) → 0 < n → (n == 0) ≡ false
-is_some n h = grind (arith, nat_tests)
 
 module _ (a : Name) (h : List ℕ) where
   pub sound_some : hash_fault a (Ok h) ≡ None → 0 < length h
