@@ -46,38 +46,12 @@ from_top x e =
     (λ h. let below = below_there x e h in ap (λ k. begins k (from_root e)) (from_root-below x e below) ∙ begins_front (from_root e) (reverse below.front))
     (λ h. let r = begins_rest _ _ h in below_back x e (below-from_root x e r.0 r.1))
 
-le_more : (m n : ℕ) → nat_le (1 + m) (1 + n) ≡ nat_le m n
-le_more m n = elim (cases_Bool (nat_le m n)) [ inl e ↦ grind (arith, nat_tests) | inr e ↦ grind (arith, nat_tests) ]
-
-le_none : (m : ℕ) → nat_le (1 + m) 0 ≡ false
-le_none m = grind (arith, nat_tests)
-
-more_labels : (p : Label) (m : Name) → length (p ∷ m) ≡ 1 + length m
-more_labels p m = omega arith
-
 top_shares : (k l m : Name) → begins k m ≡ true → begins l m ≡ nat_le (length m) (common_prefix_len (pointwise nat_eq) k l)
 unfolding begins
 top_shares k l [] h = grind (arith, common_steps)
 top_shares [] l (p ∷ m) h = absurd (false≢true h)
-top_shares (n ∷ k) [] (p ∷ m) h = sym (ap (λ j. nat_le j 0) (more_labels p m) ∙ le_none (length m))
-top_shares (n ∷ k) (q ∷ l) (p ∷ m) h =
-    let g = and_parts _ (begins k m) h in
-    let is : n ≡ p = (bytes_decides n p).0 g.0 in
-    elim (cases_Bool _) [
-      | inl e ↦
-          let other : q ≡ p = sym ((bytes_decides n q).0 e) ∙ is in
-          (λ i. pointwise nat_eq (other i) p && begins l m) ∙ (λ i. alike p i && begins l m) ∙ top_shares k l m g.1
-          ∙ sym (le_more _ _)
-          ∙ sym (λ i. nat_le (more_labels p m i) (cond (e i) (1 + common_prefix_len (pointwise nat_eq) k l) 0))
-      | inr e ↦
-          let apart : pointwise nat_eq q p ≡ false = elim (cases_Bool _) [
-            | inl f ↦ absurd (true≢false (sym ((bytes_decides n q).1 (is ∙ sym ((bytes_decides q p).0 f))) ∙ e))
-            | inr f ↦ f
-          ] in
-          (λ i. apart i && begins l m)
-          ∙ sym (le_none _)
-          ∙ sym (λ i. nat_le (more_labels p m i) (cond (e i) (1 + common_prefix_len (pointwise nat_eq) k l) 0))
-    ]
+top_shares (n ∷ k) [] (p ∷ m) h = grind (arith, nat_tests)
+top_shares (n ∷ k) (q ∷ l) (p ∷ m) h = grind (arith, common_steps, nat_tests, bytes_decides, (top_shares k l m (and_parts (pointwise nat_eq n p) (begins k m) h).1))
 
 pub common_shares : (x y : Name) (n : ℕ) → n ≡ common_labels x y → Shares x y n
 common_shares x y n is e h = grind (arith, common_steps, from_top, top_shares)
