@@ -1,6 +1,6 @@
 -- The names above a name.
-use Rattle.std.proofs.Common.{◌≡◌, ℕ, ◌+◌, ◌≤◌, ◌<◌, true, false, cond, ◌||◌, List, [], ◌∷◌, ◌++◌, length, refl, sym, ap, ◌∙◌, arith, inl, inr}
-use Rattle.std.proofs.lemmas.{Bool.{cases_Bool, leb-true, or_left, or_right, Decides.nat_tests}, List.{append-nil, Folds.list_any-append}}
+use Rattle.std.proofs.Common.{◌≡◌, ℕ, ◌+◌, ◌≤◌, ◌<◌, true, false, cond, List, [], ◌∷◌, ◌++◌, length, refl, sym, ap, ◌∙◌, arith}
+use Rattle.std.proofs.lemmas.{Bool.{Decides.nat_tests}, List.{append-nil}, Grind.common_steps}
 use Rattle.std.specs.{Prelude.nat_lt, List.{AllByRecursion, list_any}}
 use Rattle.domain_names.specs.{Name.{is_at_or_below, same_name}, Words.Name}
 use Rattle.domain_zone.proofs.{NameLemmas.{same_itself, below_trans, below_parent}, ZoneLemmas.{weaker, all_both}}
@@ -39,17 +39,7 @@ are_above n (label ∷ x) =
 pub has_each : (n : ℕ) (o x : Name) → is_at_or_below o x ≡ true → n < length x → length x < length o
     → list_any (λ m. same_name m x) (above_with_more n o) ≡ true
 has_each n [] x h more fewer = absurd (omega arith)
-has_each n (label ∷ o) x h more fewer =
-    let up : length x ≤ length o = omega arith in
-    let above : is_at_or_below o x ≡ true = sym (cons_below label o x up) ∙ h in
-    let there : list_any (λ m. same_name m x) (above_with_more n o ++ o ∷ [])
-    ≡ true = list_any-append (λ m. same_name m x) (above_with_more n o) (o ∷ [])
-    ∙ elim (cases_Bool _) [
-      | inl l ↦ or_right (list_any (λ m. same_name m x) (above_with_more n o)) _
-          (or_left _ false (same_itself o x (at_length o x above (leb-true _ _ l))))
-      | inr l ↦ or_left _ (same_name o x || false) (has_each n o x above more (grind (arith, nat_tests)))
-    ] in
-    rw (less n (length o) (omega arith)) there
+has_each n (label ∷ o) x h more fewer = grind (arith, common_steps, nat_tests, cons_below, same_itself, at_length, (has_each n o x))
 
 -- with nothing to add
 pub more_end : (n : ℕ) (x : Name) (names : List Name) → length x ≤ n + 1 → names ≡ names ++ above_with_more n x

@@ -73,10 +73,9 @@ module _ (a : Name) (chain : HashedChain) (p : Common) where
       → (length chain.hashed.items ≤ i + 1 → (h : Hashed) → next ≡ (get_or chain.hashed.items 0 h).hash)
       → link_to a p chain.types item next ≡ get_or (links_in a chain p) i d
   link_is item next i d within is later first =
-      (λ j. link_to a p chain.types ((is ∙ sym (first_at chain.hashed.items i (item, item) within)) j)
-      (next_at (λ (h : Hashed). h.hash) next chain.hashed.items i (item, item) within later first j))
-      ∙ sym (get_or-map (λ (q : Hashed × Hashed). link_to a p chain.types q.0 q.1.hash) (cycle chain.hashed.items) i (item, item) d
-      (omega (arith, within, cycle_length chain.hashed.items)))
+      let here = first_at chain.hashed.items i (item, item) within in
+      let after = next_at (λ (h : Hashed). h.hash) next chain.hashed.items i (item, item) within later first in
+      grind (arith, common_steps, cycle_length)
 
   pub links_counted : length (links_in a chain p) ≡ length chain.hashed.items
   links_counted =

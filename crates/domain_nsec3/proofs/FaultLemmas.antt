@@ -106,8 +106,7 @@ module _ (L : List ZoneRecord) (a : Name) (config : ChainConfig) (links : List H
   never : (k n : HashedName) (ns : List HashedName) → AllByRecursion (λ h. slice_cmp nat_cmp k.hash h ≡ Less)
       (map (λ n. n.hash) ns) → In n ns → k.hash ≡ n.hash → ⊥
   never k n ns h i e =
-      let less = all_in (λ h. slice_cmp nat_cmp k.hash h ≡ Less) (map (λ n. n.hash) ns) n.hash h (in_map (λ (n : HashedName). n.hash) ns n i) in
-      grind (arith, common_steps, (tied_itself nat_list_cmp_total k.hash))
+      grind (arith, common_steps, all_in, in_map, (tied_itself nat_list_cmp_total k.hash))
 
   one_place : (ns : List HashedName) → IsStrictlySortedBy (slice_cmp nat_cmp) (map (λ n. n.hash) ns) → (m n : HashedName)
       → In m ns → In n ns → m.hash ≡ n.hash → m ≡ n

@@ -1,13 +1,14 @@
 -- Lists of hashed names: how they are ordered and built.
 use Rattle.std.proofs.Common.{◌≡◌, ℕ, ◌+◌, ◌-◌, ◌<◌, ◌≤◌, false, List, [], ◌∷◌, ◌++◌, map, length, get_or, take, None, refl, sym, ap, ◌∙◌}
 use Rattle.std.proofs.Common.{subst, arith, inl, inr, ◌⊎◌, IsPermutation}
-use Rattle.std.proofs.lemmas.{Bool.{cases_lt, true≢false}, List.{get_or-map, get_or_read, length-map, map_push, take_all, take_more}}
+use Rattle.std.proofs.lemmas.{Bool.{true≢false}, List.{get_or-map, get_or_read, length-map, map_push, take_more}}
 use Rattle.std.proofs.lemmas.Map.Keys.{sorted_from_all_adjacent}
 use Rattle.std.proofs.lemmas.List.Elements.{All-map, All-push, All-weaker}
 use Rattle.std.proofs.lemmas.List.Sorted.{All-permutation, IsPermutation-map, IsPermutation-refl, IsPermutation-trans}
 use Rattle.std.specs.{Prelude.All, List.Sorted.{IsSortedByKey, IsStrictlySortedBy}, Cmp.Lexicographic.{slice_cmp, nat_list_cmp_total}}
 use Rattle.std.specs.FinMap.{slice_cmp-IsAntisymmetric, nat_cmp-IsAntisymmetric}
 use Rattle.std.specs.{Ordering.{nat_cmp, is_lt, ordering_reverse}, declared.cmp.Ordering.{Ordering, TheVariants.{Less, Equal, Greater}}}
+use Rattle.std.proofs.lemmas.Grind.{common_steps}
 use Rattle.domain_hasher.specs.declared.error.Nsec3HashError.{Nsec3HashError, TheVariants.OutOfMemory}
 use Rattle.domain_names.specs.Words.{Name}
 use Rattle.domain_octets.specs.Words.{Octets}
@@ -43,16 +44,10 @@ module _ (hashed : List Hashed) (i : ℕ) (x y : Hashed) (some : 0 < i) (within 
       }
 
   pub ascend_more : IsSortedByKey (λ h. h.hash) (slice_cmp nat_cmp) hashed → (x.hash ≡ y.hash → ⊥) → Ascend hashed i → Ascend hashed (i + 1)
-  ascend_more sorted other up k d l = elim (cases_lt (k + 1) i) [
-    | inl m ↦ up k d m
-    | inr m ↦
-        let before : i - 1 ≡ k = omega (arith, l, m) in
-        let here : i ≡ k + 1 = omega (arith, l, m) in
-        let x_at = get_or_read hashed (i - 1) x (omega arith) x_is d ∙ ap (λ j. get_or hashed j d) before in
-        let y_at = get_or_read hashed i y within y_is d ∙ ap (λ j. get_or hashed j d) here in
-        less_apart (get_or hashed k d).hash (get_or hashed (k + 1) d).hash (sorted k d (omega arith) (omega (arith, l)))
-        (λ e. other (ap (λ h. h.hash) x_at ∙ e ∙ ap (λ h. h.hash) (sym y_at)))
-  ]
+  ascend_more sorted other up k d l =
+      let x_at = get_or_read hashed (i - 1) x (omega arith) x_is d in
+      let y_at = get_or_read hashed i y within y_is d in
+      grind (arith, common_steps, less_apart, (up k d), (sorted k d))
 
 pub keys_ascend : (hashed : List Hashed) (n : ℕ) → length hashed ≤ n → Ascend hashed n
     → IsStrictlySortedBy (slice_cmp nat_cmp) (map (λ h. h.hash) hashed)
@@ -76,20 +71,12 @@ module _ (a : Name) (hash : Hash) (names : List Name) where
   pub one_hashed : (n : ℕ) (hashed new : List Hashed) (x : Name) (h : Hashed) → n < length names → x ≡ get_or names n x → h.place ≡ n
       → IsHashed a hash x h.hash → new ≡ hashed ++ h ∷ [] → AreHashed n hashed → AreHashed (n + 1) new
   one_hashed n hashed new x h within there placed is pushed so_far =
-      let at : name_at names h ≡ get_or names n [] = ap (λ k. get_or names k []) placed in
-      subst (AreHashed (n + 1)) (sym pushed) (record {
-        named = map_push (name_at names) hashed h ∙ (λ i. so_far.named i ++ at i ∷ []) ∙ sym (take_more names n [] within);
-        each = All-push (IsHashOf a hash names) hashed h so_far.each (record {
-          inside = subst (λ k. k < length names) (sym placed) within;
-          is = subst (λ y. IsHashed a hash y h.hash) (get_or_read names n x within there [] ∙ sym at) is;
-        });
-      })
+      let next = take_more names n [] within in
+      let read = get_or_read names n x within there [] in
+      grind (arith, common_steps, map_push, All-push)
 
   pub all_hashed : (n : ℕ) (hashed : List Hashed) → length names ≤ n → AreHashed n hashed → AreHashesOf a hash names hashed
-  all_hashed n hashed past h = record {
-    moved = subst (IsPermutation names) (sym (h.named ∙ take_all n names past)) (IsPermutation-refl names);
-    each = h.each;
-  }
+  all_hashed n hashed past h = grind (arith, common_steps, IsPermutation-refl)
 
   pub moved_hashes : (hashed ordered : List Hashed) → IsPermutation hashed ordered → AreHashesOf a hash names hashed → AreHashesOf a hash names ordered
   moved_hashes hashed ordered moved h = record {

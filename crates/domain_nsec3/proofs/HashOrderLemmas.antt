@@ -1,8 +1,8 @@
 -- Hashes are in the order of their first octets as one number, where those differ.
 use Rattle.std.proofs.Common.{◌≡◌, ℕ, zero, suc, ◌+◌, ◌*◌, ◌^◌, ◌<◌, ◌≤◌, List, [], ◌∷◌, length, take, sym, ap, ◌∙◌, inl, inr, arith, true}
-use Rattle.std.proofs.{lemmas.{Bool.{cases_order, false≢true}, Nat.mul-le, Grind.common_steps}, Math.Nat.one-le-pow}
+use Rattle.std.proofs.{lemmas.{Bool.{cases_order}, Nat.mul-le, Grind.common_steps}, Math.Nat.one-le-pow}
 use Rattle.std.specs.{Int.{w64, from_be_bytes}, Cmp.{nat_cmp_is, Lexicographic.{slice_cmp, nat_list_cmp_total}}}
-use Rattle.std.specs.{Ordering.{nat_cmp, ordering_then, ordering_reverse, is_ne}, declared.cmp.Ordering.TheVariants.{Less, Equal, Greater}}
+use Rattle.std.specs.{Ordering.{nat_cmp, ordering_then, is_ne}, declared.cmp.Ordering.TheVariants.{Less, Equal}}
 use Rattle.domain_octets.specs.Words.{AreOctets}
 
 -- the first n numbers of a list as one number in base 256
@@ -51,15 +51,5 @@ pub by_front : (ds es : List ℕ) (m n : ℕ) → 8 ≤ length ds → 8 ≤ leng
     → AreOctets ds → AreOctets es → m ≡ from_be_bytes w64 (take 8 ds) → n ≡ from_be_bytes w64 (take 8 es)
     → is_ne (nat_cmp m n) ≡ true → nat_cmp m n ≡ slice_cmp nat_cmp ds es
 by_front ds es m n long long' octets octets' m_is n_is differ =
-    let m_number = m_is ∙ front_is ds long in
-    let n_number = n_is ∙ front_is es long' in
-    elim (cases_order m n) [
-      | inl same ↦ absurd (false≢true (ap is_ne (nat_cmp_is m n Equal same) ∙ differ))
-      | inr w ↦ elim w [
-        | inl less ↦ sym (nat_cmp_is m n Less less)
-            ∙ sym (less_front 8 ds es long long' octets octets' (omega (arith, less, m_number, n_number)))
-        | inr more ↦ sym (nat_cmp_is m n Greater more)
-            ∙ sym (nat_list_cmp_total.antisymm ds es ∙ ap ordering_reverse
-            (less_front 8 es ds long' long octets' octets (omega (arith, more, m_number, n_number))))
-      ]
-    ]
+    let swapped = nat_list_cmp_total.antisymm ds es in
+    grind (arith, common_steps, nat_cmp_is, front_is, (less_front 8 ds es long long' octets octets'), (less_front 8 es ds long' long octets' octets))

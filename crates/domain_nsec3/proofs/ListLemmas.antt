@@ -1,8 +1,8 @@
 -- Names above owners that stand in order: they ascend, and none of them is an owner.
 use Rattle.std.proofs.Common.{◌≡◌, ℕ, ◌<◌, ◌≤◌, Bool, true, false, not, ◌&&◌, ◌||◌, List, [], ◌∷◌, ◌++◌, length, refl, sym, ap, ◌∙◌, arith, inl, inr}
-use Rattle.std.proofs.lemmas.Bool.{cases_Bool, cases_lt, false≢true, leb-true, and_parts, not-true, or_cases, or_left, or_right, Decides.nat_tests}
-use Rattle.std.proofs.lemmas.{List.Folds.list_any-append, Grind.common_steps}
-use Rattle.std.specs.{Prelude.nat_le, List.{AllByRecursion, list_any, Sorted.IsStrictlySortedBy}}
+use Rattle.std.proofs.lemmas.Bool.{cases_Bool, false≢true, leb-true, and_parts, not-true, or_left, or_right, Decides.nat_tests}
+use Rattle.std.proofs.lemmas.{Grind.common_steps}
+use Rattle.std.specs.{List.{AllByRecursion, list_any, Sorted.IsStrictlySortedBy}}
 use Rattle.std.specs.{Ordering.is_lt, declared.cmp.Ordering.TheVariants.Less}
 use Rattle.domain_names.specs.{Order.{canonical_cmp, before, common_labels}, Name.{is_at_or_below, is_strictly_below, lowered, same_name}, Words.Name}
 use Rattle.domain_records.proofs.Lookups.{is_less}
@@ -100,21 +100,7 @@ gathered_each : (p : Name) (os : List Name) (x : Name) → is_at_or_below p x �
     → (list_any (λ n. same_name n x) os || list_any (λ n. same_name n x) (gathered p os)) ≡ true
 gathered_each p [] x out h = absurd (false≢true h)
 gathered_each p (o ∷ os) x out h =
-    let S : List Name → Bool = list_any (λ n. same_name n x) in
-    let above : List Name = above_with_more (common_labels o p) o in
-    (λ i. (same_name o x || S os) || list_any-append (λ n. same_name n x) above (gathered o os) i) ∙ elim (cases_Bool (is_at_or_below o x)) [
-      | inl u ↦
-          let many : nat_le (length x) (common_labels o p) ≡ false = sym (common_shares o p (common_labels o p) refl x u) ∙ out in
-          elim (cases_lt (length x) (length o)) [
-            | inl w ↦ or_right (same_name o x || S os) (S above || S (gathered o os))
-                (or_left (S above) (S (gathered o os)) (has_each (common_labels o p) o x u (grind (arith, nat_tests)) w))
-            | inr w ↦ or_left (same_name o x || S os) (S above || S (gathered o os)) (or_left (same_name o x) (S os) (same_itself o x (at_length o x u w)))
-          ]
-      | inr v ↦ elim (or_cases (S os) (S (gathered o os)) (gathered_each o os x v (sym (ap (λ b. b || list_any (λ n. is_at_or_below n x) os) v) ∙ h))) [
-        | inl e ↦ or_left (same_name o x || S os) (S above || S (gathered o os)) (or_right (same_name o x) (S os) e)
-        | inr e ↦ or_right (same_name o x || S os) (S above || S (gathered o os)) (or_right (S above) (S (gathered o os)) e)
-      ]
-    ]
+    grind (arith, common_steps, nat_tests, has_each, at_length, same_itself, (common_shares o p (common_labels o p) refl x), (gathered_each o os x))
 
 -- what is gathered is strictly below an apex of all, and above an owner
 gathered_are : (a p : Name) (os : List Name) → is_at_or_below p a ≡ true → AllByRecursion (λ n. is_at_or_below n a ≡ true) os

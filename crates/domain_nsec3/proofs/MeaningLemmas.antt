@@ -1,14 +1,14 @@
 -- What the records of an NSEC3 chain say of every name, from the chain alone.
-use Rattle.std.proofs.Common.{length, ◌≤◌, arith, ◌≡◌, ℕ, zero, suc, Bool, true, false, not, ◌&&◌, ◌||◌, List, [], ◌∷◌, map, Some, Ok, refl, sym, ap, ◌∙◌}
-use Rattle.std.proofs.{Common.{subst, inl, inr, ◌⊎◌}, lemmas.Bool.{cases_Bool, cases_lt, false≢true, true≢false, and_parts, or_cases, or_left}}
+use Rattle.std.proofs.Common.{length, ◌≤◌, arith, ◌≡◌, ℕ, zero, suc, true, false, not, ◌&&◌, ◌||◌, List, [], ◌∷◌, map, Some, Ok, refl, sym, ap, ◌∙◌}
+use Rattle.std.proofs.{Common.{subst, inl, inr}, lemmas.Bool.{cases_Bool, cases_lt, false≢true, true≢false, and_parts, or_cases, or_left}}
 use Rattle.std.proofs.lemmas.{List.{Elements.recursion_from_All, Sorted.ranks_by}, Grind.common_steps}
-use Rattle.std.specs.{Prelude.{filter, slice_get}, List.{AllByRecursion, list_any, Sorted.IsStrictlySortedBy}, Cmp.IsStrictWeakOrder}
+use Rattle.std.specs.{Prelude.{filter, slice_get}, List.{list_any, Sorted.IsStrictlySortedBy}, Cmp.IsStrictWeakOrder}
 use Rattle.std.specs.{Cmp.Lexicographic.{slice_cmp, nat_list_cmp_total}, FinMap.{slice_cmp-IsAntisymmetric, nat_cmp-IsAntisymmetric}}
-use Rattle.std.specs.{Ordering.{nat_cmp, is_lt, ordering_reverse}, declared.cmp.Ordering.{Ordering, TheVariants.{Less, Equal, Greater}}}
+use Rattle.std.specs.{Ordering.{nat_cmp, is_lt}, declared.cmp.Ordering.{TheVariants.{Less}}}
 use Rattle.domain_codecs.{specs.Base32.base32_lower, proofs.OrderLemmas.lower_apart}
 use Rattle.domain_octets.proofs.StdLemmas.{some_is}
 use Rattle.domain_bitmap.{specs.Bitmap.bitmap_octets, proofs.BitmapLemmas.bitmap_octets-same}
-use Rattle.domain_zone.specs.{Covering.{matches, covers, matches_or_covers, pairs}, Enclosers.{IsClosestEncloser, exists_over}}
+use Rattle.domain_zone.specs.{Covering.{matches, covers, matches_or_covers}, Enclosers.{IsClosestEncloser, exists_over}}
 use Rattle.domain_zone.specs.Zone.{ZoneRecord, owns, has_type}
 use Rattle.domain_zone.proofs.NameLemmas.{one_lowered, below_itself, below_trans, below_length, below_longer, below_parent, lowered_below, same_lowered}
 use Rattle.domain_zone.proofs.{OwnerLemmas.any_in, PairLemmas.{In, all_in, IsAscending, irreflexive, one_matches_or_covers}, PlaceLemmas.{IsOnly, one_place}}
@@ -30,13 +30,7 @@ octets_order = ranks_by nat_list_cmp_total (λ v. v)
 
 -- octets that the order can't tell apart are the same
 tied_octets : (u v : List ℕ) → matches octets_before u v ≡ true → u ≡ v
-tied_octets u v m = slice_cmp-IsAntisymmetric nat_cmp-IsAntisymmetric u v
-    (by (slice_cmp nat_cmp u v) (slice_cmp nat_cmp v u) (nat_list_cmp_total.antisymm v u) m)
-  where
-    by : (r s : Ordering) → s ≡ ordering_reverse r → not (is_lt r || is_lt s) ≡ true → r ≡ Equal
-    by Less s e m = absurd (false≢true m)
-    by Equal s e m = refl
-    by Greater s e m = absurd (false≢true (sym (ap (λ t. not (is_lt t)) e) ∙ m))
+tied_octets u v m = grind (arith, common_steps, slice_cmp-IsAntisymmetric, nat_cmp-IsAntisymmetric, (nat_list_cmp_total.antisymm v u))
 
 -- octets match themselves
 matches_itself : (u v : List ℕ) → u ≡ v → matches octets_before u v ≡ true

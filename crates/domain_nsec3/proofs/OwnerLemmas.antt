@@ -1,10 +1,10 @@
 -- The names of the chain are those that exist over its owners; what that says of closest enclosers and of zone cuts.
 use Rattle.std.proofs.Common.{◌≡◌, ℕ, Bool, true, false, not, ◌&&◌, ◌||◌, List, [], ◌∷◌, ◌++◌, length, refl, sym, ap, ◌∙◌, inl, inr, arith}
-use Rattle.std.proofs.lemmas.{Bool.{cases_Bool, false≢true, true≢false, and_parts, and_from, or_left, not-true, cases_lt}, Grind.common_steps}
+use Rattle.std.proofs.lemmas.{Bool.{cases_Bool, false≢true, and_parts, and_from, or_left, cases_lt}, Grind.common_steps}
 use Rattle.std.specs.{Prelude.filter, List.list_any}
-use Rattle.domain_octets.proofs.StdLemmas.{and_false, and_true}
+use Rattle.domain_octets.proofs.StdLemmas.{and_false}
 use Rattle.domain_names.specs.{Name.{is_at_or_below, is_strictly_below, lowered, same_name}, Words.Name}
-use Rattle.domain_base.specs.Types.{ns, ds, dname}
+use Rattle.domain_base.specs.Types.{ns, ds}
 use Rattle.domain_chain_rdata.specs.OptOut.{is_opt_out}
 use Rattle.domain_zone.specs.Zone.{ZoneRecord, records_of, owns, has_type, is_zone_cut, occludes, is_occluded, is_unoccluded, unoccluded_owners}
 use Rattle.domain_zone.{specs.Enclosers.{exists_over, is_empty_nonterminal, IsClosestEncloser}, proofs.PairLemmas.{In, all_in}}
@@ -19,20 +19,12 @@ strictly_down x m c p s = grind (arith, common_steps, below_trans)
 
 -- at or below a name is that name, or strictly below it
 same_or_below : (n x : Name) → is_at_or_below n x ≡ (same_name n x || is_strictly_below n x)
-same_or_below n x = elim (cases_Bool (same_name n x)) [
-  | inl t ↦ ap (λ k. lowered_below k (lowered x)) (one_lowered n x t) ∙ below_itself x ∙ sym (λ i. t i || is_strictly_below n x)
-  | inr t ↦ sym ((λ i. t i || (is_at_or_below n x && not (t i))) ∙ and_true (is_at_or_below n x))
-]
+same_or_below n x = grind (arith, common_steps, one_lowered, below_itself)
 
 any_at_or_below : (x : Name) (ks : List Name)
     → list_any (λ n. is_at_or_below n x) ks ≡ (list_any (λ n. same_name n x) ks || list_any (λ n. is_strictly_below n x) ks)
 any_at_or_below x [] = refl
-any_at_or_below x (k ∷ ks) =
-    (λ i. same_or_below k x i || any_at_or_below x ks i)
-    ∙ swapped (same_name k x) (is_strictly_below k x) (list_any (λ n. same_name n x) ks) (list_any (λ n. is_strictly_below n x) ks)
-  where
-    swapped : (p q r s : Bool) → ((p || q) || (r || s)) ≡ ((p || r) || (q || s))
-    swapped p q r s = grind (arith, common_steps)
+any_at_or_below x (k ∷ ks) = grind (arith, common_steps, same_or_below, (any_at_or_below x ks))
 
 -- of the tests of a name: an owner of the chain, one is strictly below it, it owns records, it is at or below the apex
 exists_alike : (o b w l : Bool) → l ≡ true → (w ≡ true → b ≡ true → o ≡ true) → (l && (o || b)) ≡ (o || ((l && not w) && b))
@@ -66,29 +58,18 @@ module _ (L : List ZoneRecord) (a : Name) (config : ChainConfig) where
 
   -- the apex is one where it owns records
   pub apex_original : owns L a ≡ true → is_original_owner L a config a ≡ true
-  apex_original o =
-      original_is a
-      ∙ (λ i. (o i && apex_unoccluded config.occlude_below_dname L a i) && not (excludes config && (((below_itself a i
-      && not (same_itself a a refl i)) && has_type (records_of L a) ns) && not (has_type (records_of L a) ds))))
-      ∙ ap not (and_false (excludes config))
+  apex_original o = grind (arith, common_steps, original_is, apex_unoccluded, same_itself)
 
   -- a zone cut that is no owner of the chain is left out
   pub out_flag : (c : Name) → is_zone_cut L a c ≡ true → is_unoccluded config.occlude_below_dname L a c ≡ true
       → is_original_owner L a config c ≡ false → is_opt_out config.flags ≡ true
-  out_flag c cut high out =
-      let own = typed_owns L c ns (and_parts (is_strictly_below c a) (has_type (records_of L c) ns) cut).1 in
-      elim (cases_Bool (is_excluded L a config c)) [
-        | inl e ↦ (and_parts (is_opt_out config.flags) config.exclude_unsigned (and_parts (excludes config) _ e).0).0
-        | inr e ↦ absurd (true≢false (sym (λ i. (own i && high i) && not (e i)) ∙ sym (original_is c) ∙ out))
-      ]
+  out_flag c cut high out = grind (arith, common_steps, original_is, typed_owns)
 
   cut_occludes : (c : Name) → is_zone_cut L a c ≡ true → occludes config.occlude_below_dname L a c ≡ true
-  cut_occludes c cut = or_left (is_zone_cut L a c) (config.occlude_below_dname && is_at_or_below c a && has_type (records_of L c) dname) cut
+  cut_occludes c cut = grind (arith, common_steps)
 
   owner_unoccluded : (m : Name) → is_original_owner L a config m ≡ true → is_occluded config.occlude_below_dname L a m ≡ false
-  owner_unoccluded m h =
-      let p = and_parts (owns L m && is_unoccluded config.occlude_below_dname L a m) _ (sym (original_is m) ∙ h) in
-      not-true _ (and_parts (is_at_or_below m a) _ (and_parts (owns L m) _ p.0).1).1
+  owner_unoccluded m h = grind (arith, common_steps, original_is)
 
   -- an owner of the chain is an original owner
   pub is_own : (m : Name) → In m (original_owners L a config) → is_original_owner L a config m ≡ true
@@ -100,10 +81,9 @@ module _ (L : List ZoneRecord) (a : Name) (config : ChainConfig) where
   owner_above x low o h =
       let m = any_in (λ n. is_strictly_below n x) (original_owners L a config) h in
       let high = owner_unoccluded m.0 (is_own m.0 m.1) in
-      let down = (and_parts (is_at_or_below m.0 x) (not (same_name m.0 x)) m.2).0 in
       let x_high : is_occluded config.occlude_below_dname L a x ≡ false = elim (cases_Bool _) [
         | inl e ↦ absurd (false≢true (sym high ∙ any_weaker _ _
-            (λ r t. let q = and_parts _ _ t in and_from _ _ q.0 (strictly_down x m.0 _ down q.1)) L e))
+            (λ r t. let q = and_parts _ _ t in and_from _ _ q.0 (strictly_down x m.0 _ (and_parts (is_at_or_below m.0 x) _ m.2).0 q.1)) L e))
         | inr e ↦ e
       ] in
       let no_cut : is_zone_cut L a x ≡ false = elim (cases_Bool _) [

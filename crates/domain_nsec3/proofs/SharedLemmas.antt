@@ -1,6 +1,6 @@
 -- How many labels two names share: the names above one that are above the other too are those with at most as many.
-use Rattle.std.proofs.Common.{◌≡◌, ℕ, ◌+◌, ◌≤◌, Bool, true, false, cond, ◌&&◌, [], ◌∷◌, ◌++◌, length, reverse, refl, sym, ap, ◌∙◌, arith, inl, inr, nat_eq}
-use Rattle.std.proofs.lemmas.{Bool.{cases_Bool, false≢true, true≢false, and_parts, Decides.nat_tests}, Grind.common_steps}
+use Rattle.std.proofs.Common.{◌≡◌, ℕ, ◌≤◌, Bool, true, false, ◌&&◌, [], ◌∷◌, ◌++◌, length, reverse, refl, ap, ◌∙◌, arith, nat_eq}
+use Rattle.std.proofs.lemmas.{Bool.{false≢true, and_parts, Decides.nat_tests}, Grind.common_steps}
 use Rattle.std.specs.{Prelude.nat_le, Cmp.Lexicographic.{pointwise, bytes_decides}, List.common_prefix_len}
 use Rattle.domain_names.specs.{Laws.{from_root-below, below-from_root}, Name.{is_at_or_below, lowered}, Order.{common_labels, from_root}, Words.{Label, Name}}
 use Rattle.domain_zone.proofs.{NameLemmas.{one_lowered, below_back, below_there, below_parent, same_length}, SharedLemmas.either_way}
@@ -51,7 +51,8 @@ unfolding begins
 top_shares k l [] h = grind (arith, common_steps)
 top_shares [] l (p ∷ m) h = absurd (false≢true h)
 top_shares (n ∷ k) [] (p ∷ m) h = grind (arith, nat_tests)
-top_shares (n ∷ k) (q ∷ l) (p ∷ m) h = grind (arith, common_steps, nat_tests, bytes_decides, (top_shares k l m (and_parts (pointwise nat_eq n p) (begins k m) h).1))
+top_shares (n ∷ k) (q ∷ l) (p ∷ m) h =
+    grind (arith, common_steps, nat_tests, bytes_decides, (top_shares k l m (and_parts (pointwise nat_eq n p) (begins k m) h).1))
 
 pub common_shares : (x y : Name) (n : ℕ) → n ≡ common_labels x y → Shares x y n
 common_shares x y n is e h = grind (arith, common_steps, from_top, top_shares)
