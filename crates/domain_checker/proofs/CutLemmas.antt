@@ -30,8 +30,7 @@ module _ (L : List ZoneRecord) (a : Name) (config : ChainConfig) where
         omega arith
 
     pub not_below : (y : Name) → exists_over (original_owners L a config) a y ≡ true → is_below_chain_cut L a config y ≡ false
-    not_below y there =
-        elim (cases_Bool (is_below_chain_cut L a config y)) [
-          | inl f ↦ let c = cut_above y f in absurd (cut_apart c.cut y c.is_cut c.original there c.under)
-          | inr f ↦ f
-        ]
+    not_below y there = elim (cases_Bool (is_below_chain_cut L a config y)) [
+      | inl f ↦ let c = cut_above y f in absurd (cut_apart c.cut y c.is_cut c.original there c.under)
+      | inr f ↦ f
+    ]

@@ -1,12 +1,12 @@
 -- What NSEC3 records say does not depend on TTLs, classes and the case of letters.
-use Rattle.std.proofs.Common.{◌≡◌, ℕ, cond, not, ◌&&◌, ◌||◌, List, [], ◌∷◌, map, refl, sym, ap, ◌∙◌, subst, inl, inr, Option, Some, None, arith}
+use Rattle.std.proofs.Common.{◌≡◌, ℕ, cond, not, ◌&&◌, ◌||◌, List, [], ◌∷◌, map, refl, sym, ap, ◌∙◌, inl, inr, Option, Some, None, arith}
 use Rattle.std.{proofs.lemmas.{List.length-map, Grind.common_steps}, specs.{Prelude.{is_some, unwrap_or}, Char.to_ascii_lowercase, List.list_all}}
 use Rattle.domain_codecs.specs.{Codec.{base32_digits, base32_octets, base32_value, is_base32_length, is_digit}, declared.codec.Codec.TheVariants.Base32Hex}
 use Rattle.domain_octets.specs.Words.{Octets}
 use Rattle.domain_names.specs.{Name.{is_at_or_below, lowered, same_name}, Words.{Label, Name}}
 use Rattle.domain_base.specs.Types.{ns}
 use Rattle.domain_bitmap.specs.Blocks.{contains_type}
-use Rattle.domain_zone.{specs.{Covering.{covers, matches}, Zone.{ZoneRecord, is_zone_cut}}, proofs.NameLemmas.{one_lowered, same_lowered}}
+use Rattle.domain_zone.{specs.{Covering.{covers, matches}, Zone.{ZoneRecord, is_zone_cut}}, proofs.NameLemmas.{one_lowered}}
 use Rattle.domain_nsec3.specs.{Chain.HashedLink, Config.{ChainConfig, Parameters}, Meaning.octets_before, Owners.original_owners}
 use Rattle.domain_checker.specs.Alike.{ArePaired, IsHashedAlike}
 use Rattle.domain_checker.specs.HashedList.{hash_in, is_hash_cover, is_hash_match, is_some_with, is_spelling, owner_hash, read_label, same_parameters}
@@ -41,12 +41,7 @@ hash_in_alike : (a o q : Name) → lowered o ≡ lowered q → hash_in a o ≡ h
 hash_in_alike a [] [] e = refl
 hash_in_alike a [] (m ∷ q) e = absurd (cc)
 hash_in_alike a (l ∷ o) [] e = absurd (cc)
-hash_in_alike a (l ∷ o) (m ∷ q) e =
-    let label : map to_ascii_lowercase l ≡ map to_ascii_lowercase m = cc in
-    let above : lowered o ≡ lowered q = cc in
-    let spelling : is_spelling l ≡ is_spelling m = sym (spelling_lower l) ∙ ap is_spelling label ∙ spelling_lower m in
-    let read : read_label l ≡ read_label m = sym (read_lower l) ∙ ap read_label label ∙ read_lower m in
-    λ i. cond (same_lowered (above i) (lowered a) && spelling i) (Some (read i)) None
+hash_in_alike a (l ∷ o) (m ∷ q) e = grind (arith, common_steps, (spelling_lower l), (spelling_lower m), (read_lower l), (read_lower m))
 
 -- ---- one record
 
@@ -88,13 +83,7 @@ module _ (R : HashedRecords) (ls : List HashedLink) (alike : ArePaired IsHashedA
   -- the first match in the one list, and in the other
   pub found_alike : (v : Octets) (k : HashedLink) → first_match R v ≡ Some k
       → (l : HashedLink) × IsHashedAlike k l × (first_match S v ≡ Some l)
-  found_alike v k e =
-      by (first_match S v) refl (subst (λ o. OptionsPaired IsHashedAlike o (first_match S v)) e (matching v))
-    where
-      by : (o : Option HashedLink) → first_match S v ≡ o → OptionsPaired IsHashedAlike (Some k) (first_match S v)
-          → (l : HashedLink) × IsHashedAlike k l × (first_match S v ≡ Some l)
-      by None f h = absurd (subst (OptionsPaired IsHashedAlike (Some k)) f h)
-      by (Some l) f h = (l, subst (OptionsPaired IsHashedAlike (Some k)) f h, f)
+  found_alike v k e = grind (arith, common_steps, (matching v))
 
   cover_says_alike : (count : ℕ) (m n : Option HashedLink) → OptionsPaired IsHashedAlike m n → hash_cover_verdict count m ≡ hash_cover_verdict count n
   cover_says_alike count m n h = grind (arith, common_steps)

@@ -1,17 +1,16 @@
 -- What the closest encloser tells of a name is what the way from the name to the apex gives.
-use Rattle.std.proofs.Common.{◌≡◌, ℕ, true, false, cond, not, ◌&&◌, List, length, sym, ap, ◌∙◌, inl, inr, nat_eq, Option, Some, None, arith}
+use Rattle.std.proofs.Common.{◌≡◌, ℕ, true, false, not, ◌&&◌, List, length, sym, ap, ◌∙◌, inl, inr, nat_eq, Option, Some, None, arith}
 use Rattle.std.{proofs.lemmas.{Bool.{cases_Bool, false≢true}, Grind.common_steps}, specs.List.Contains}
 use Rattle.domain_octets.specs.Words.{Octets}
 use Rattle.domain_names.specs.{Name.{is_at_or_below, same_name}, Words.Name}
-use Rattle.domain_base.specs.Types.{ds, ns}
-use Rattle.domain_bitmap.specs.Blocks.{contains_type, types_of}
+use Rattle.domain_base.specs.Types.{ns}
+use Rattle.domain_bitmap.specs.Blocks.{contains_type}
 use Rattle.domain_zone.{specs.Zone.{ZoneRecord, has_type, records_of}, proofs.{NameLemmas.{below_trans, same_length}, FindLemmas.{in_at, stands_from}}}
 use Rattle.domain_nsec3.specs.{Chain.HashedLink, Config.ChainConfig, Meaning.IsAlone, Owners.nsec3_lists}
 use Rattle.domain_checker.specs.{HashedFacts.ChainFacts, HashedList.{is_hash_cover, is_hash_match}, HashedView.HashedRecords}
 use Rattle.domain_checker.specs.HashedEncloser.{Encloser, IsDenial, IsEncloser, IsFoundEncloser, IsOfName, encloser_is_cut, encloser_verdict, found_verdict}
-use Rattle.domain_checker.specs.HashedEncloser.{lower_verdict, next_cover, own_verdict}
-use Rattle.domain_checker.specs.HashedReading.{IsNextHash, IsTold, IsUnmatched, IsWalked, hash_cover_verdict, is_none, tells_cut, told_verdict}
-use Rattle.domain_checker.specs.declared.verdict.Verdict.TheVariants.{BelowDelegation, Has, NoType, EmptyName}
+use Rattle.domain_checker.specs.HashedEncloser.{next_cover}
+use Rattle.domain_checker.specs.HashedReading.{IsNextHash, IsTold, IsUnmatched, IsWalked, tells_cut, told_verdict}
 use Rattle.domain_checker.proofs.{HashedListLemmas.{covered_never, matched_once, told_at}, HashedVerdictLemmas.ns_listed}
 
 module _ (R : HashedRecords) (x : Name) (e : Encloser)
@@ -40,13 +39,8 @@ module _ (R : HashedRecords) (x : Name) (e : Encloser)
     where
       by : (next : Option Octets) → IsNextHash R.hash x is.name next → e.cover ≡ next_cover R next
           → encloser_verdict R.apex e (length x) t ≡ told_verdict R is.name e.link t next
-      by None s c =
-          (λ i. cond ((itself_counted ∙ s) i) (own_verdict R.apex e t) (lower_verdict R.apex e))
-          ∙ (λ i. cond (contains_type e.link.bits t) Has (cond (cut_counted i && not (nat_eq t ds)) BelowDelegation
-          (cond (is_none (types_of e.link.bits)) EmptyName NoType)))
-      by (Some v) s c =
-          (λ i. cond ((itself_counted ∙ s.0) i) (own_verdict R.apex e t) (lower_verdict R.apex e))
-          ∙ (λ i. cond (cut_counted i) BelowDelegation (hash_cover_verdict (is.counts i) (c i)))
+      by None s c = grind (arith, common_steps, itself_counted, cut_counted)
+      by (Some v) s c = grind (arith, common_steps, itself_counted, cut_counted)
 
 -- what is found gives what the way gives
 pub found_walked : (R : HashedRecords) (x : Name) (t : ℕ) (o : Option Encloser)

@@ -1,6 +1,6 @@
 -- What a record of an NSEC3 chain says of the hash of a name that no other name of the chain has.
-use Rattle.std.proofs.Common.{◌≡◌, ℕ, Bool, zero, suc, true, cond, not, ◌&&◌, ◌||◌, List, [], ◌∷◌, map, refl, sym, ap, ◌∙◌, inr, eq-eqb, Some, slice_get, arith}
-use Rattle.std.proofs.lemmas.{Bool.{false≢true, and_parts, not-true, or_left, or_right}, List.{Elements.recursion_from_All, Sums.list_all-from_AllPass}}
+use Rattle.std.proofs.Common.{◌≡◌, ℕ, Bool, zero, suc, true, not, ◌&&◌, ◌||◌, List, [], ◌∷◌, map, refl, sym, ap, ◌∙◌, inr, eq-eqb, Some, slice_get, arith}
+use Rattle.std.proofs.lemmas.{Bool.{or_left, or_right}, List.{Elements.recursion_from_All, Sums.list_all-from_AllPass}}
 use Rattle.std.{proofs.lemmas.Grind.common_steps, specs.{List.AllByRecursion, Cmp.Lexicographic.{nat_list_cmp_total, slice_cmp, bytes_decides}}}
 use Rattle.std.specs.{Ordering.{nat_cmp, is_lt, is_eq, ordering_reverse}, declared.cmp.Ordering.{Ordering, TheVariants.{Less, Equal, Greater}}}
 use Rattle.domain_codecs.specs.{Base32.base32_lower, Codec.IsBase32}
@@ -122,7 +122,4 @@ module _ (L : List ZoneRecord) (a : Name) (config : ChainConfig) (links : List H
         let c : covers octets_before (record_at k s).0 k.next v ≡ true = sym (says (λ u. covers octets_before u k.next v) k i s) ∙ h in
         let is = record_is k s (or_right (matches octets_before (record_at k s).0 v) (covers octets_before (record_at k s).0 k.next v) c) in
         let m : matches octets_before (record_at k s).0 v ≡ true = ap (λ u. matches octets_before u v) is.1 ∙ one.matched ∙ known in
-        false≢true (sym (not-true (matches octets_before (record_at k s).0 v)
-        (and_parts (not (matches octets_before (record_at k s).0 v))
-        (cond (octets_before (record_at k s).0 k.next) (octets_before (record_at k s).0 v && octets_before v k.next)
-        (octets_before (record_at k s).0 v || octets_before v k.next)) c).0) ∙ m)
+        grind (arith, common_steps)

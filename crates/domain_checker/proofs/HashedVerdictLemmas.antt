@@ -1,12 +1,14 @@
 -- What a list of records of an NSEC3 chain says is what it proves.
-use Rattle.std.proofs.Common.{◌≡◌, ◌≢◌, ℕ, ◌-◌, ◌≤◌, ◌<◌, Bool, true, false, cond, not, ◌&&◌, ◌||◌, List, [], ◌∷◌, All, length, refl, sym, ap, ◌∙◌, subst, inl}
-use Rattle.std.proofs.Common.{inr, ◌⊎◌, nat_eq, Option, Some, None, arith}
-use Rattle.std.proofs.lemmas.Bool.{cases_Bool, cases_lt, false≢true, and_parts, and_from, and_right, or_left, or_right}
+use Rattle.std.proofs.Common.{rules}
+use Rattle.domain_octets.proofs.StdLemmas.{and_false, or_true}
+use Rattle.std.proofs.Common.{◌≡◌, ◌≢◌, ℕ, ◌≤◌, ◌<◌, Bool, true, false, cond, not, ◌&&◌, ◌||◌, List, [], ◌∷◌, All, length, refl, sym, ap, ◌∙◌, subst, inl}
+use Rattle.std.proofs.Common.{inr, ◌⊎◌, Option, Some, None, arith}
+use Rattle.std.proofs.lemmas.Bool.{cases_Bool, cases_lt, false≢true, and_parts, and_from, or_left, or_right}
 use Rattle.std.proofs.lemmas.{List.FromFn.{get_or-range_with_len, length-range_with_len}, Option.slice_get-get_or, Grind.common_steps}
 use Rattle.std.specs.{Prelude.{Ok, filter}, List.{find, list_any, Contains, range_with_len}}
 use Rattle.domain_octets.specs.Words.{Octets}
 use Rattle.domain_names.specs.{Name.{is_at_or_below, is_strictly_below, same_name}, Words.Name}
-use Rattle.domain_base.specs.Types.{ds, ns, rrsig}
+use Rattle.domain_base.specs.Types.{ns, rrsig}
 use Rattle.domain_bitmap.specs.{Bitmap.bitmap_octets, Blocks.{contains_type, types_of, types_below}}
 use Rattle.domain_chain_rdata.specs.OptOut.{is_opt_out}
 use Rattle.domain_zone.specs.{Enclosers.{exists_over, IsClosestEncloser}, Zone.{ZoneRecord, has_type, is_zone_cut, owns, records_of}}
@@ -21,7 +23,7 @@ use Rattle.domain_checker.specs.HashedView.{HashedRecords, chain_records, first_
 use Rattle.domain_checker.specs.HashedVerdict.{is_below_chain_cut, original_verdict, missing_verdict, hashed_zone_verdict, next_closer, is_ok_with, is_matched}
 use Rattle.domain_checker.specs.HashedVerdict.{is_covered, proves, hashed_proved_verdict, IsHashedProved, IsFirstMatched, lists_ns, is_told_cut, HasHashedProof}
 use Rattle.domain_checker.specs.{Verdict.{closest_encloser, IsWithin}, declared.verdict.Verdict.Verdict}
-use Rattle.domain_checker.specs.declared.verdict.Verdict.TheVariants.{OutsideZone, BelowDelegation, Has, NoType, EmptyName, OptOut, NoName, NotProven}
+use Rattle.domain_checker.specs.declared.verdict.Verdict.TheVariants.{BelowDelegation, EmptyName, NotProven}
 use Rattle.domain_checker.proofs.{CutLemmas.{below_cut, cut_above, cut_apart, not_below}, DefiniteLemmas.{choose, definite_proven, is_definite}}
 use Rattle.domain_checker.proofs.EncloserLemmas.{apex_from, closest_is, cut_same, exists_same, owner_owns}
 use Rattle.domain_checker.proofs.{HashedListLemmas.{covered_in, covered_never, matched_in, matched_once, told_at}, HashedWalkLemmas.closer_is}
@@ -39,11 +41,7 @@ nil_none types gives f = ap is_none gives ∙ each (range_with_len 0 65536)
 
 filter_some : (p : ℕ → Bool) (ts : List ℕ) → list_any p ts ≡ true → is_none (filter p ts) ≡ false
 filter_some p [] h = absurd (false≢true h)
-filter_some p (t ∷ ts) h =
-    elim (p t) as (λ b. (b || list_any p ts) ≡ true → is_none (cond b (t ∷ filter p ts) (filter p ts)) ≡ false) [
-      | true ↦ λ k. refl
-      | false ↦ λ k. filter_some p ts k
-    ] h
+filter_some p (t ∷ ts) h = grind (arith, common_steps, (filter_some p ts))
 
 in_range : (n t : ℕ) → t < n → In t (range_with_len 0 n)
 in_range n t l =
@@ -104,16 +102,15 @@ module _ (L : List ZoneRecord) (a : Name) (config : ChainConfig) (links : List H
   whole_proves has =
       let tells = facts.tells.each x en low free closest in
       let in_zone = (and_parts (is_at_or_below en a) (list_any (λ n. is_at_or_below n en) owners) closest.found).0 in
-      and_from (matched en) ((same_name en x || is_zone_cut L a en) || covered (next_closer x en))
-      (matched_in L a config links facts listed has en (tells.runs en closest.above in_zone (below_itself en)))
-      (elim (cases_Bool (same_name en x)) [
-        | inl s ↦ or_left (same_name en x || is_zone_cut L a en) (covered (next_closer x en)) (or_left (same_name en x) (is_zone_cut L a en) s)
+      let told = matched_in L a config links facts listed has en (tells.runs en closest.above in_zone (below_itself en)) in
+      elim (cases_Bool (same_name en x)) [
+        | inl s ↦ rw (told, s) refl
         | inr s ↦
             let closer = closer_is x en closest.above (shorter_encloser s) in
-            or_right (same_name en x || is_zone_cut L a en) (covered (next_closer x en))
-            (covered_in L a config links facts listed has (next_closer x en)
-            (tells.next (next_closer x en) (record { above = closer.above; below = closer.below; longer = closer.long })))
-      ])
+            let gap = covered_in L a config links facts listed has (next_closer x en)
+            (tells.next (next_closer x en) (record { above = closer.above; below = closer.below; longer = closer.long })) in
+            rw (told, gap, or_true (same_name en x || is_zone_cut L a en)) refl
+      ]
     where
       shorter_encloser : same_name en x ≡ false → length en < length x
       shorter_encloser s = elim (cases_lt (length en) (length x)) [
@@ -167,11 +164,7 @@ module _ (L : List ZoneRecord) (a : Name) (config : ChainConfig) (links : List H
 
     -- a zone cut that is matched is an original owner name
     cut_original : is_zone_cut L a d ≡ true → is_original_owner L a config d ≡ true
-    cut_original c =
-        elim (cases_Bool (is_original_owner L a config d)) [
-          | inl h ↦ h
-          | inr h ↦ absurd (false≢true (sym (facts.left_out d c h) ∙ told.0))
-        ]
+    cut_original c = elim (cases_Bool (is_original_owner L a config d)) [ inl h ↦ h | inr h ↦ absurd (false≢true (sym (facts.left_out d c h) ∙ told.0)) ]
 
     -- ---- where d is the closest encloser
 
@@ -198,21 +191,19 @@ module _ (L : List ZoneRecord) (a : Name) (config : ChainConfig) (links : List H
       at_name : same_name d x ≡ true → hash_match_verdict a d k t ≡ hashed_proved_verdict L a config listed x t
       at_name s =
           let there : exists_over owners a x ≡ true = sym (exists_same owners a d x s) ∙ exists in
-          proved (hash_match_verdict a d k t) (λ j. (s j || is_zone_cut L a d) || covered (next_closer x d))
+          proved (hash_match_verdict a d k t) (rw s refl)
           (inside (hash_match_verdict a d k t) (not_below L a config facts.cuts x there)
           (elim (cases_Bool (is_original_owner L a config x)) [
-            | inl h ↦
-                (λ j. cond ((type_at t bound ∙ facts.alike d x s t) j) Has
-                (cond ((told_cut ∙ cut_same L a d x s) j && not (nat_eq t ds)) BelowDelegation
-                (cond (typed (some_listed L a config x (original_owns L a config x h)) j) EmptyName NoType)))
-                ∙ sym (λ j. cond (h j) (original_verdict L a config x t)
-                (cond (exists_over owners a x) EmptyName (missing_verdict (is_opt_out config.flags) (length en))))
+            | inl h ↦ rw (
+              h,
+              type_at t bound ∙ facts.alike d x s t,
+              told_cut ∙ cut_same L a d x s,
+              typed (some_listed L a config x (original_owns L a config x h)),
+            ) refl
             | inr h ↦
                 let no_bit : (u : ℕ) → nsec3_lists L a config d u ≡ false = λ u. facts.alike d x s u
                 ∙ empty_lists L a config x (sym (facts.exist x low) ∙ there) h u in
-                let no_cut : tells_cut a d k ≡ false = and_right (not (same_name d a)) (contains_type k.bits ns) (type_at ns (omega arith) ∙ no_bit ns) in
-                (λ j. cond ((type_at t bound ∙ no_bit t) j) Has (cond (no_cut j && not (nat_eq t ds)) BelowDelegation (cond (empty no_bit j) EmptyName NoType)))
-                ∙ sym (λ j. cond (h j) (original_verdict L a config x t) (cond (there j) EmptyName (missing_verdict (is_opt_out config.flags) (length en))))
+                rw (h, there, type_at t bound ∙ no_bit t, type_at ns (omega arith) ∙ no_bit ns, and_false (not (same_name d a)), empty no_bit) refl
           ]))
         where
           typed : (nsec3_lists L a config x rrsig ≡ true) ⊎ (nsec3_lists L a config x ns ≡ true) → is_none (types_of k.bits) ≡ false
@@ -232,11 +223,8 @@ module _ (L : List ZoneRecord) (a : Name) (config : ChainConfig) (links : List H
       -- a zone cut above
       at_cut : same_name d x ≡ false → is_zone_cut L a d ≡ true → BelowDelegation ≡ hashed_proved_verdict L a config listed x t
       at_cut s c =
-          let under = strictly_from x d first.above (longer s) in
-          proved BelowDelegation (or_left (same_name d x || is_zone_cut L a d) (covered (next_closer x d)) (or_right (same_name d x) (is_zone_cut L a d) c))
-          (sym (λ j. cond (not (low j)) OutsideZone (cond (below_cut L a config d x c (cut_original c) under j) BelowDelegation
-          (cond (is_original_owner L a config x) (original_verdict L a config x t)
-          (cond (exists_over owners a x) EmptyName (missing_verdict (is_opt_out config.flags) (length en)))))))
+          let below = below_cut L a config d x c (cut_original c) (strictly_from x d first.above (longer s)) in
+          proved BelowDelegation (rw (s, c) refl) (rw (low, below) refl)
 
       -- no zone cut, and a cover or none
       at_gap : same_name d x ≡ false → is_zone_cut L a d ≡ false → (w : Octets) → hash_name config.hash (next_closer x d) ≡ Ok w
@@ -248,11 +236,10 @@ module _ (L : List ZoneRecord) (a : Name) (config : ChainConfig) (links : List H
           covered_is = ap (is_ok_with (λ v. list_any (is_hash_cover a config.parameters v) listed)) asked
 
           not_there : exists_over (original_owners L a config) a x ≡ false
-          not_there =
-              elim (cases_Bool (exists_over owners a x)) [
-                | inl h ↦ let l = closest.longest x h (below_itself x) in absurd (omega (arith, l, level, longer s))
-                | inr h ↦ h
-              ]
+          not_there = elim (cases_Bool (exists_over owners a x)) [
+            | inl h ↦ absurd (omega (arith, closest.longest x h (below_itself x), level, longer s))
+            | inr h ↦ h
+          ]
 
           not_original : is_original_owner L a config x ≡ false
           not_original =
@@ -283,29 +270,19 @@ module _ (L : List ZoneRecord) (a : Name) (config : ChainConfig) (links : List H
               ≡ hashed_proved_verdict L a config listed x t
           by None f =
               let none = any_none (is_hash_cover a config.parameters w) listed (find_none (is_hash_cover a config.parameters w) listed f) in
-              ap (hash_cover_verdict (length d)) f
-              ∙ sym (λ j. cond (not (low j) || (proves_is ∙ (λ i. (s i || c i) || (covered_is ∙ none) i)) j) (hashed_zone_verdict L a config x t) NotProven)
+              rw (f, low, proves_is, s, c, covered_is ∙ none) refl
           by (Some r) f =
               let g = find_some (is_hash_cover a config.parameters w) listed r f in
               let some = in_any (is_hash_cover a config.parameters w) listed r g.0 g.1 in
               let long : length d ≡ length en = omega (arith, shorter, level) in
-              ap (hash_cover_verdict (length d)) f
-              ∙ (λ j. missing_verdict (ap is_opt_out (told_at L a config links facts r (within_links r g.0)).1 j) (long j))
-              ∙ proved (missing_verdict (is_opt_out config.flags) (length en))
-              (or_right (same_name d x || is_zone_cut L a d) (covered (next_closer x d)) (covered_is ∙ some))
-              (inside (missing_verdict (is_opt_out config.flags) (length en)) no_cut_above
-              (sym (λ j. cond (not_original j) (original_verdict L a config x t)
-              (cond (not_there j) EmptyName (missing_verdict (is_opt_out config.flags) (length en))))))
+              rw (f, (told_at L a config links facts r (within_links r g.0)).1, long) (proved (missing_verdict (is_opt_out config.flags) (length en))
+              (rw (covered_is ∙ some, or_true (same_name d x || is_zone_cut L a d)) refl)
+              (inside (missing_verdict (is_opt_out config.flags) (length en)) no_cut_above (rw (not_original, not_there) refl)))
 
       at_level : (next : Option Octets) → IsNextHash config.hash x d next
           → told_verdict (chain_records a config listed) d k t next ≡ hashed_proved_verdict L a config listed x t
       at_level None s = at_name s
-      at_level (Some w) n =
-          (λ j. cond (told_cut j) BelowDelegation (hash_cover_verdict (length d) (find (is_hash_cover a config.parameters w) listed)))
-          ∙ elim (cases_Bool (is_zone_cut L a d)) [
-            | inl c ↦ (λ j. cond (c j) BelowDelegation (hash_cover_verdict (length d) (find (is_hash_cover a config.parameters w) listed))) ∙ at_cut n.0 c
-            | inr c ↦ (λ j. cond (c j) BelowDelegation (hash_cover_verdict (length d) (find (is_hash_cover a config.parameters w) listed))) ∙ at_gap n.0 c w n.1
-          ]
+      at_level (Some w) n = rw told_cut (elim (cases_Bool (is_zone_cut L a d)) [ inl c ↦ rw c (at_cut n.0 c) | inr c ↦ rw c (at_gap n.0 c w n.1) ])
 
     -- ---- where the record of the closest encloser is not in the list
 
@@ -340,9 +317,7 @@ module _ (L : List ZoneRecord) (a : Name) (config : ChainConfig) (links : List H
       at_higher : (next : Option Octets) → IsNextHash config.hash x d next
           → told_verdict (chain_records a config listed) d k t next ≡ hashed_proved_verdict L a config listed x t
       at_higher None s = grind (arith, common_steps, closest)
-      at_higher (Some w) n =
-          (λ j. cond (no_cut j) BelowDelegation (hash_cover_verdict (length d) (no_cover w n.1 j)))
-          ∙ untold t (first.first en closest.above strictly).2
+      at_higher (Some w) n = rw (no_cut, no_cover w n.1) (untold t (first.first en closest.above strictly).2)
 
     pub told_proved : (t : ℕ) → t < 65536 → (next : Option Octets) → IsNextHash config.hash x d next
         → told_verdict (chain_records a config listed) d k t next ≡ hashed_proved_verdict L a config listed x t
@@ -420,36 +395,12 @@ pub whole_chain_proves : ChainsAreKnown → (L : List ZoneRecord) (a : Name) (co
     (x : Name) (t : ℕ) → IsHashedChain L a config links → AreAlone L a config x
     → hashed_proved_verdict L a config links x t ≡ hashed_zone_verdict L a config x t
 whole_chain_proves knows L a config links x t chain free =
-    elim (cases_Bool _) [
-      | inl e ↦
-          let whole = whole_proves L a config links (knows L a config links chain) links (stands_in links) x e free (λ k i. i) in
-          (λ i. cond (not (e i) || whole i) (hashed_zone_verdict L a config x t) NotProven)
-      | inr e ↦ (λ i. cond (not (e i) || proves L a config links x) (hashed_zone_verdict L a config x t) NotProven)
+    elim (cases_Bool (is_at_or_below x a)) [
+      | inl e ↦ rw (e, whole_proves L a config links (knows L a config links chain) links (stands_in links) x e free (λ k i. i)) refl
+      | inr e ↦ rw e refl
     ]
 
 -- a zone has a verdict on every name and type
 pub hashed_zone_says : (L : List ZoneRecord) (a : Name) (config : ChainConfig) (x : Name) (t : ℕ) → hashed_zone_verdict L a config x t ≢ NotProven
 unfolding is_definite
-hashed_zone_says L a config x t = definite_proven (hashed_zone_verdict L a config x t) says
-  where
-    cut : Verdict
-    cut = cond (is_zone_cut L a x && not (nat_eq t ds)) BelowDelegation NoType
-
-    missing : Verdict
-    missing = missing_verdict (is_opt_out config.flags) (length (closest_encloser (original_owners L a config) a x))
-
-    other : Verdict
-    other = cond (exists_over (original_owners L a config) a x) EmptyName missing
-
-    inner : Verdict
-    inner = cond (is_original_owner L a config x) (original_verdict L a config x t) other
-
-    says : is_definite (hashed_zone_verdict L a config x t) ≡ true
-    says =
-        choose (not (is_at_or_below x a)) OutsideZone (cond (is_below_chain_cut L a config x) BelowDelegation inner) refl
-        (choose (is_below_chain_cut L a config x) BelowDelegation inner refl
-        (choose (is_original_owner L a config x) (original_verdict L a config x t) other
-        (choose (nsec3_lists L a config x t) Has cut refl (choose (is_zone_cut L a x && not (nat_eq t ds)) BelowDelegation NoType refl refl))
-        (choose (exists_over (original_owners L a config) a x) EmptyName missing refl
-        (choose (is_opt_out config.flags) (OptOut (length (closest_encloser (original_owners L a config) a x)))
-        (NoName (length (closest_encloser (original_owners L a config) a x))) refl refl))))
+hashed_zone_says L a config x t = definite_proven (hashed_zone_verdict L a config x t) (search (rules, choose))

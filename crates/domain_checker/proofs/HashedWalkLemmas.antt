@@ -1,6 +1,6 @@
 -- The names from x up to the apex: which of them are passed, and the hash of the next closer name.
 use Rattle.std.proofs.Common.{◌≡◌, ℕ, ◌+◌, ◌-◌, ◌≤◌, ◌<◌, zero, suc, true, false, not, [], ◌∷◌, length, drop, sym, ap, ◌∙◌, inl, inr, Option, Some, None, arith}
-use Rattle.std.proofs.lemmas.{Bool.{cases_Bool, cases_lt, false≢true, and_from}, List.length-drop, Grind.common_steps}
+use Rattle.std.proofs.lemmas.{Bool.{cases_Bool, and_from}, List.length-drop, Grind.common_steps}
 use Rattle.std.specs.{Prelude.{Ok, Err}, List.list_any}
 use Rattle.domain_octets.specs.Words.{Octets}
 use Rattle.domain_names.specs.{Name.{is_at_or_below, is_strictly_below, lowered, same_name, wire_of}, Words.{Label, Name}}
@@ -46,10 +46,7 @@ module _ (R : HashedRecords) where
 
   pub some_matched : (d : Name) (v : Octets) (k : HashedLink) → hash_name R.hash d ≡ Ok v
       → first_match R v ≡ Some k → is_matched R d ≡ true
-  some_matched d v k known found =
-      let f = find_some (is_hash_match R.apex R.parameters v) R.links k found in
-      ap (is_ok_with (λ v. list_any (is_hash_match R.apex R.parameters v) R.links)) known
-      ∙ in_any (is_hash_match R.apex R.parameters v) R.links k f.0 f.1
+  some_matched d v k known found = grind (arith, common_steps, in_any, (find_some (is_hash_match R.apex R.parameters v) R.links k found))
 
   pub matched_same : (m n : Name) → same_name m n ≡ true → is_matched R m ≡ is_matched R n
   matched_same m n s = ap (is_ok_with (λ v. list_any (is_hash_match R.apex R.parameters v) R.links)) (hash_same R.hash m n s)
@@ -87,20 +84,14 @@ module _ (R : HashedRecords) where
           let count : length left ≡ length next + 1 = ap length e ∙ omega arith in
           let up : is_at_or_below x next ≡ true = below_trans x left next missed.above parent in
           let long : length left ≤ length x = below_length x left missed.above in
-          let short : length R.apex ≤ length next = elim (cases_lt (length next) (length R.apex)) [
-            | inl h ↦ absurd (false≢true (sym other ∙ same_length left R.apex missed.within (omega arith)))
-            | inr h ↦ h
-          ] in
+          let short : length R.apex ≤ length next = grind (arith, common_steps, (same_length left R.apex missed.within)) in
           let closer = closer_is x next up (omega arith) in
           record {
             above = up;
             within = below_longer left next R.apex parent missed.within short;
             first = λ y g h. on y g h count parent;
             closes = (
-              elim (cases_Bool (same_name next x)) [
-                | inl s ↦ let n = same_count next x s in absurd (omega arith)
-                | inr s ↦ s
-              ],
+              grind (arith, common_steps, (same_count next x)),
               hash_same R.hash (next_closer x next) left (same_length (next_closer x next) left
                   (below_longer x (next_closer x next) left closer.above missed.above (omega (arith, closer.long)))
                   (omega (arith, closer.long))) ∙ missed.known,

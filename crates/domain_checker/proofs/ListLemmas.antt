@@ -1,15 +1,14 @@
 -- What a list of records of the chain says by itself is what it proves.
-use Rattle.std.proofs.Common.{◌≡◌, ◌≢◌, ℕ, ◌<◌, Bool, true, false, cond, not, ◌&&◌, ◌||◌, nat_eq, List, length, refl, sym, ◌∙◌, subst, inl, inr, Option, Some}
-use Rattle.std.proofs.{Common.{None, arith}, lemmas.{Bool.{cases_Bool, and_parts, and_from, or_left, or_right}, Grind.common_steps}}
-use Rattle.std.specs.List.{find, list_any}
-use Rattle.domain_names.specs.{Name.{is_at_or_below, same_name}, Order.before, Words.Name}
-use Rattle.domain_base.specs.Types.{ds}
-use Rattle.domain_zone.specs.{Covering.{matches, covers, matches_or_covers}, Enclosers.is_empty_nonterminal}
-use Rattle.domain_zone.specs.Zone.{ZoneRecord, OwnersNeverDescend, is_occluded, is_zone_cut, unoccluded_owners}
+use Rattle.std.proofs.Common.{rules}
+use Rattle.std.proofs.Common.{◌≡◌, ◌≢◌, ℕ, ◌<◌, Bool, true, false, cond, not, ◌||◌, List, length, refl, sym, ◌∙◌, subst, inl, inr, Option, Some}
+use Rattle.std.proofs.{Common.{None, arith}, lemmas.{Bool.{cases_Bool}, Grind.common_steps}}
+use Rattle.std.specs.List.{find}
+use Rattle.domain_names.specs.{Name.{is_at_or_below}, Words.Name}
+use Rattle.domain_zone.specs.Zone.{ZoneRecord, OwnersNeverDescend}
 use Rattle.domain_zone.proofs.{PairLemmas.In, OwnerLemmas.in_any, FindLemmas.{find_some, Stands, stands_all}}
-use Rattle.domain_nsec.specs.{Chain.{Link, IsChain, nsec_lists}, declared.config.GenerateNsecConfig.GenerateNsecConfig}
-use Rattle.domain_checker.specs.declared.verdict.Verdict.{Verdict, TheVariants.{OutsideZone, BelowDelegation, Has, NoType, EmptyName, NoName, NotProven}}
-use Rattle.domain_checker.specs.Verdict.{closest_encloser, owner_verdict, other_verdict, zone_verdict, has_match_or_cover, proved_verdict, IsProved, is_inside}
+use Rattle.domain_nsec.specs.{Chain.{Link, IsChain}, declared.config.GenerateNsecConfig.GenerateNsecConfig}
+use Rattle.domain_checker.specs.declared.verdict.Verdict.{Verdict, TheVariants.{OutsideZone, NotProven}}
+use Rattle.domain_checker.specs.Verdict.{zone_verdict, has_match_or_cover, proved_verdict, IsProved}
 use Rattle.domain_checker.specs.Verdict.{HasProof, IsWithin}
 use Rattle.domain_checker.specs.Reading.{is_match, is_cover, verdict_of_both, verdict_of_cover, match_verdict, cover_verdict, list_verdict, reading}
 use Rattle.domain_checker.proofs.DefiniteLemmas.{choose, definite_proven, is_definite}
@@ -54,18 +53,12 @@ module _ (L : List ZoneRecord) (a : Name) (assume : Bool) (links : List Link) (m
 pub reading_proved : ChainLaws → ((L : List ZoneRecord) (a : Name) (assume : Bool) → IgnoresCase L a assume) → BitmapsAreSets
     → (listed : List Link) (a x : Name) (t : ℕ) → t < 65536 → IsProved listed a x t (reading a listed x t)
 reading_proved laws alike sets listed a x t b L config links keeps order chain among =
-    by (is_at_or_below x a) refl
-  where
-    assume : Bool
-    assume = config.assume_dnskeys_will_be_added
-
-    by : (low : Bool) → is_at_or_below x a ≡ low → cond low (list_verdict a listed x t) OutsideZone ≡ proved_verdict L a assume listed x t
-    by true e = list_proved L a assume links (meant_keeping laws L a config links keeps order chain) (alike L a assume) sets listed
-        (stands_all links listed among) x e t b
-    by false e = sym (outside (is_at_or_below x a) (has_match_or_cover listed x) _ e)
-      where
-        outside : (low s : Bool) (v : Verdict) → low ≡ false → cond (not low || s) (cond (not low) OutsideZone v) NotProven ≡ OutsideZone
-        outside low s v f = λ i. cond (not (f i) || s) (cond (not (f i)) OutsideZone v) NotProven
+    let meant = meant_keeping laws L a config links keeps order chain in
+    elim (cases_Bool (is_at_or_below x a)) [
+      | inl e ↦ (λ i. cond (e i) (list_verdict a listed x t) OutsideZone) ∙ list_proved L a config.assume_dnskeys_will_be_added links meant
+          (alike L a config.assume_dnskeys_will_be_added) sets listed (stands_all links listed among) x e t b
+      | inr e ↦ rw e refl
+    ]
 
 -- ---- any list
 
@@ -73,20 +66,10 @@ reading_proved laws alike sets listed a x t b L config links keeps order chain a
 pub has_proof : (a : Name) (listed : List Link) (x : Name) (t : ℕ) → list_verdict a listed x t ≢ NotProven → HasProof listed a x
 has_proof a listed x t n = by (find (is_match a x) listed) (find (is_cover a x) listed) refl refl n
   where
-    told : (k : Link) → In k listed → is_inside a k ≡ true → matches_or_covers before k.owner k.next x ≡ true → HasProof listed a x
-    told k i e f = in_any (λ k. is_inside a k && matches_or_covers before k.owner k.next x) listed k i
-        (and_from (is_inside a k) (matches_or_covers before k.owner k.next x) e f)
-
     by : (o p : Option Link) → find (is_match a x) listed ≡ o → find (is_cover a x) listed ≡ p → verdict_of_both a x t o p ≢ NotProven → HasProof listed a x
     by None None e f n = absurd (n refl)
-    by None (Some k) e f n =
-        let r = find_some (is_cover a x) listed k f in
-        let p = and_parts (covers before k.owner k.next x) (is_inside a k) r.1 in
-        told k r.0 p.1 (or_right (matches before k.owner x) (covers before k.owner k.next x) p.0)
-    by (Some k) p e f n =
-        let r = find_some (is_match a x) listed k e in
-        let p = and_parts (matches before k.owner x) (is_inside a k) r.1 in
-        told k r.0 p.1 (or_left (matches before k.owner x) (covers before k.owner k.next x) p.0)
+    by None (Some k) e f n = grind (arith, common_steps, in_any, (find_some (is_cover a x) listed k f))
+    by (Some k) p e f n = grind (arith, common_steps, in_any, (find_some (is_match a x) listed k e))
 
 -- ---- how many labels a closest encloser has
 
@@ -110,36 +93,9 @@ pub whole_proves : ChainLaws → (L : List ZoneRecord) (a : Name) (config : Gene
     (t : ℕ) → config.occlude_below_dname ≡ false → OwnersNeverDescend L → IsChain L a config links
     → proved_verdict L a config.assume_dnskeys_will_be_added links x t ≡ zone_verdict L a config.assume_dnskeys_will_be_added x t
 whole_proves laws L a config links x t keeps order chain =
-    elim (cases_Bool (is_at_or_below x a)) [
-      | inl e ↦ (λ i. cond (not (e i) || some_link false L a assume links (meant_keeping laws L a config links keeps order chain) x e i)
-          (zone_verdict L a assume x t) NotProven)
-      | inr e ↦ (λ i. cond (not (e i) || has_match_or_cover links x) (zone_verdict L a assume x t) NotProven)
-    ]
-  where
-    assume : Bool
-    assume = config.assume_dnskeys_will_be_added
+    grind (arith, common_steps, (some_link false L a config.assume_dnskeys_will_be_added links (meant_keeping laws L a config links keeps order chain) x))
 
 -- a zone has a verdict on every name and type
 pub zone_says : (L : List ZoneRecord) (a : Name) (assume : Bool) (x : Name) (t : ℕ) → zone_verdict L a assume x t ≢ NotProven
 unfolding is_definite
-zone_says L a assume x t = definite_proven (zone_verdict L a assume x t) says
-  where
-    cut : Verdict
-    cut = cond (is_zone_cut L a x && not (nat_eq t ds)) BelowDelegation NoType
-
-    owner : is_definite (owner_verdict L a assume x t) ≡ true
-    owner = choose (nsec_lists L a assume x t) Has cut refl (choose (is_zone_cut L a x && not (nat_eq t ds)) BelowDelegation NoType refl refl)
-
-    other : is_definite (other_verdict (unoccluded_owners false L a) a x) ≡ true
-    other = choose (is_empty_nonterminal (unoccluded_owners false L a) a x) EmptyName
-        (NoName (length (closest_encloser (unoccluded_owners false L a) a x))) refl refl
-
-    inner : Verdict
-    inner = cond (list_any (λ n. same_name n x) (unoccluded_owners false L a)) (owner_verdict L a assume x t) (other_verdict (unoccluded_owners false L a) a x)
-
-    says : is_definite (zone_verdict L a assume x t) ≡ true
-    says =
-        choose (not (is_at_or_below x a)) OutsideZone (cond (is_occluded false L a x) BelowDelegation inner) refl
-        (choose (is_occluded false L a x) BelowDelegation inner refl
-        (choose (list_any (λ n. same_name n x) (unoccluded_owners false L a)) (owner_verdict L a assume x t)
-        (other_verdict (unoccluded_owners false L a) a x) owner other))
+zone_says L a assume x t = definite_proven (zone_verdict L a assume x t) (search (rules, choose))

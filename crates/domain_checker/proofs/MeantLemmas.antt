@@ -1,5 +1,5 @@
 -- What the laws of chains say of the records of one, whether it keeps what stands below a DNAME or not.
-use Rattle.std.proofs.Common.{◌≡◌, ℕ, ◌<◌, Bool, true, false, not, ◌&&◌, ◌||◌, List, length, refl, sym, ap, ◌∙◌, subst, inl, inr, ◌⊎◌, Some, None, slice_get}
+use Rattle.std.proofs.Common.{◌≡◌, ℕ, ◌<◌, Bool, true, false, not, ◌&&◌, List, length, sym, ap, ◌∙◌, subst, inl, inr, ◌⊎◌, Some, None, slice_get}
 use Rattle.std.proofs.{Common.arith, lemmas.{Bool.{cases_Bool, false≢true, and_parts, and_from, or_right, not-true}, List.Elements.recursion_from_All}}
 use Rattle.std.{proofs.lemmas.Grind.common_steps, specs.List.{find, list_any}}
 use Rattle.domain_names.specs.{Name.{is_at_or_below, is_strictly_below, lowered, same_name}, Order.before, Words.Name}
@@ -165,16 +165,10 @@ module _ (below_dname : Bool) (L : List ZoneRecord) (a : Name) (assume : Bool) (
               (is ∙ occludes_same below_dname L a k.owner top.0.name s ∙ top.0.over)
               ∙ sym e
           | inr e ↦
-              elim (cases_Bool (is_at_or_below x k.owner && told)) [
-                | inl f ↦
-                    let p = and_parts (is_at_or_below x k.owner) told f in
-                    let strictly = and_from (is_at_or_below x k.owner) (not (same_name x k.owner)) p.0 (elim (cases_Bool (same_name x k.owner)) [
-                      | inl s ↦ absurd (false≢true (sym other ∙ sym (same_is k.owner x) ∙ same_itself k.owner x (sym (one_lowered x k.owner s))))
-                      | inr s ↦ ap not s
-                    ]) in
-                    absurd (false≢true (sym e ∙ below_occluder below_dname L a k.owner x (sym is ∙ p.1) strictly))
-                | inr f ↦ f ∙ sym e
-              ]
+              let apart : same_name x k.owner ≡ false =
+              grind (arith, common_steps, other, (same_is k.owner x), (same_itself k.owner x), (one_lowered x k.owner)) in
+              let below = below_occluder below_dname L a k.owner x in
+              grind (arith, common_steps)
         ]
 
     -- the closest encloser has as many labels as the longer of the names that x shares with the record's
@@ -202,12 +196,8 @@ module _ (below_dname : Bool) (L : List ZoneRecord) (a : Name) (assume : Bool) (
   cover_of k e = grind (arith, common_steps, heard, (find_some (is_cover a y) listed k e))
 
   pub silent : find (is_match a y) listed ≡ None → find (is_cover a y) listed ≡ None → has_match_or_cover listed y ≡ false
-  silent e f =
-      any_none (λ k. matches_or_covers before k.owner k.next y) listed (λ k i.
+  silent e f = any_none (λ k. matches_or_covers before k.owner k.next y) listed (λ k i.
       let within = inside below_dname L a assume links meant k (in_links k i) in
-      (λ j. (sym (with_true (matches before k.owner y) (is_inside a k) within) ∙ find_none (is_match a y) listed e k i) j
-      || (sym (with_true (covers before k.owner k.next y) (is_inside a k) within) ∙ find_none (is_cover a y) listed f k i) j))
-    where
-      with_true : (p q : Bool) → q ≡ true → (p && q) ≡ p
-      with_true true q e = e
-      with_true false q e = refl
+      let no_match = find_none (is_match a y) listed e k i in
+      let no_cover = find_none (is_cover a y) listed f k i in
+      grind (arith, common_steps))

@@ -1,4 +1,4 @@
-use Rattle.std.proofs.Common.{◌≡◌, ◌+◌, Bool, true, false, not, Option, map, drop, sym, ap, ◌∙◌, arith}
+use Rattle.std.proofs.Common.{◌≡◌, ◌+◌, Bool, false, not, Option, map, drop, sym, ap, ◌∙◌, arith}
 use Rattle.std.specs.{List.find, Option.{is_some, option_map, option_or}}
 use Rattle.domain_octets.specs.Words.{Octets}
 use Rattle.domain_zone.specs.Covering.{covers, matches}
