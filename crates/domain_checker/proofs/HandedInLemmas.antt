@@ -1,5 +1,5 @@
 -- The first element that passes a test, looked for in a list to which one element is added.
-use Rattle.std.proofs.{Common.{◌≡◌, ℕ, Bool, true, false, cond, List, [], ◌∷◌, ◌++◌, Option, Some, None, refl, sym, ap, ◌∙◌, arith}, lemmas.Bool.false≢true}
+use Rattle.std.proofs.{Common.{◌≡◌, ℕ, Bool, true, false, cond, List, [], ◌∷◌, ◌++◌, Option, Some, None, refl, sym, ap, ◌∙◌, arith}}
 use Rattle.std.{proofs.lemmas.{List.Folds.find-append, Grind.common_steps}, specs.{List.find, Option.{is_some, option_map, option_or, unwrap_or}}}
 use Rattle.domain_octets.proofs.StdLemmas.{or_none}
 use Rattle.domain_names.specs.Words.{Name}
@@ -14,21 +14,15 @@ module _ {X V : Type 0} (p : X → Bool) (f : X → V) (xs : List X) (x : X) whe
   -- it stays the first that was found
   pub found_stays : (found : Option V) → found ≡ option_map f (find p xs) → is_some found ≡ true → found ≡ option_map f (find p (xs ++ x ∷ []))
   found_stays found so some =
-      so ∙ by (find p xs) (ap is_some (sym so) ∙ some) (cond (p x) (Some x) None) ∙ sym (ap (option_map f) (found_with (p x) refl))
-    where
-      by : (o : Option X) → is_some (option_map f o) ≡ true → (q : Option X) → option_map f o ≡ option_map f (option_or o q)
-      by None e q = absurd (false≢true e)
-      by (Some y) e q = refl
+      let with = found_with (p x) refl in
+      grind (arith, common_steps)
 
   -- the last is the first
   pub found_last : (found : Option V) → found ≡ option_map f (find p xs) → is_some found ≡ false → p x ≡ true
       → Some (f x) ≡ option_map f (find p (xs ++ x ∷ []))
   found_last found so none e =
-      by (find p xs) (ap is_some (sym so) ∙ none) ∙ sym (ap (option_map f) (found_with true e))
-    where
-      by : (o : Option X) → is_some (option_map f o) ≡ false → Some (f x) ≡ option_map f (option_or o (Some x))
-      by None n = refl
-      by (Some y) n = absurd (false≢true (sym n))
+      let with = found_with true e in
+      grind (arith, common_steps)
 
   -- the last passes no test
   pub found_before : (found : Option V) → found ≡ option_map f (find p xs) → p x ≡ false → found ≡ option_map f (find p (xs ++ x ∷ []))

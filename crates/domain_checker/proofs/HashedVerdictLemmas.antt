@@ -1,4 +1,5 @@
 -- What a list of records of an NSEC3 chain says is what it proves.
+use Rattle.std.proofs.lemmas.Bool.{or_parts}
 use Rattle.std.proofs.Common.{rules}
 use Rattle.domain_octets.proofs.StdLemmas.{and_false, or_true}
 use Rattle.std.proofs.Common.{◌≡◌, ◌≢◌, ℕ, ◌≤◌, ◌<◌, Bool, true, false, cond, not, ◌&&◌, ◌||◌, List, [], ◌∷◌, All, length, refl, sym, ap, ◌∙◌, subst, inl}
@@ -30,18 +31,15 @@ use Rattle.domain_checker.proofs.{HashedListLemmas.{covered_in, covered_never, m
 
 -- ---- a bitmap without types
 
+none_kept : (p : ℕ → Bool) (ts : List ℕ) → is_none (filter p ts) ≡ not (list_any p ts)
+none_kept p [] = refl
+none_kept p (t ∷ ts) = grind (arith, common_steps, (none_kept p ts))
+
 nil_none : (types : ℕ → Bool) → types_of (bitmap_octets types) ≡ types_below 65536 types → ((t : ℕ) → types t ≡ false)
     → is_none (types_of (bitmap_octets types)) ≡ true
 unfolding types_below
-nil_none types gives f = ap is_none gives ∙ each (range_with_len 0 65536)
-  where
-    each : (ts : List ℕ) → is_none (filter types ts) ≡ true
-    each [] = refl
-    each (t ∷ ts) = (λ i. is_none (cond (f t i) (t ∷ filter types ts) (filter types ts))) ∙ each ts
-
-filter_some : (p : ℕ → Bool) (ts : List ℕ) → list_any p ts ≡ true → is_none (filter p ts) ≡ false
-filter_some p [] h = absurd (false≢true h)
-filter_some p (t ∷ ts) h = grind (arith, common_steps, (filter_some p ts))
+nil_none types gives f =
+    ap is_none gives ∙ none_kept types (range_with_len 0 65536) ∙ ap not (any_none types (range_with_len 0 65536) (λ t i. f t))
 
 in_range : (n t : ℕ) → t < n → In t (range_with_len 0 n)
 in_range n t l =
@@ -53,7 +51,7 @@ nil_some : (types : ℕ → Bool) → types_of (bitmap_octets types) ≡ types_b
 unfolding types_below
 nil_some types gives t b e =
     ap is_none gives
-    ∙ filter_some types (range_with_len 0 65536) (in_any types (range_with_len 0 65536) t (in_range 65536 t b) e)
+    ∙ none_kept types (range_with_len 0 65536) ∙ ap not (in_any types (range_with_len 0 65536) t (in_range 65536 t b) e)
 
 -- ---- the types of a name
 
@@ -242,11 +240,7 @@ module _ (L : List ZoneRecord) (a : Name) (config : ChainConfig) (links : List H
           ]
 
           not_original : is_original_owner L a config x ≡ false
-          not_original =
-              elim (cases_Bool (is_original_owner L a config x)) [
-                | inl h ↦ absurd (false≢true (sym not_there ∙ facts.exist x low ∙ or_left (is_original_owner L a config x) (is_empty L a config x) h))
-                | inr h ↦ h
-              ]
+          not_original = (or_parts (is_original_owner L a config x) (is_empty L a config x) (sym (facts.exist x low) ∙ not_there)).0
 
           no_cut_above : is_below_chain_cut L a config x ≡ false
           no_cut_above =
@@ -291,11 +285,10 @@ module _ (L : List ZoneRecord) (a : Name) (config : ChainConfig) (links : List H
       strictly = strictly_from en d down deeper
 
       no_cut : tells_cut a d k ≡ false
-      no_cut =
-          told_cut ∙ elim (cases_Bool (is_zone_cut L a d)) [
-            | inl f ↦ absurd (cut_apart L a config facts.cuts d en f (cut_original f) closest.found strictly)
-            | inr f ↦ f
-          ]
+      no_cut = told_cut ∙ elim (cases_Bool (is_zone_cut L a d)) [
+        | inl f ↦ absurd (cut_apart L a config facts.cuts d en f (cut_original f) closest.found strictly)
+        | inr f ↦ f
+      ]
 
       no_cover : (w : Octets) → hash_name config.hash (next_closer x d) ≡ Ok w → find (is_hash_cover a config.parameters w) listed ≡ None
       no_cover w asked =
@@ -321,11 +314,10 @@ module _ (L : List ZoneRecord) (a : Name) (config : ChainConfig) (links : List H
 
     pub told_proved : (t : ℕ) → t < 65536 → (next : Option Octets) → IsNextHash config.hash x d next
         → told_verdict (chain_records a config listed) d k t next ≡ hashed_proved_verdict L a config listed x t
-    told_proved t b next n =
-        elim (cases_lt (length d) (length (closest_encloser (original_owners L a config) a x))) [
-          | inl h ↦ at_higher h t next n
-          | inr h ↦ at_level h t b next n
-        ]
+    told_proved t b next n = elim (cases_lt (length d) (length (closest_encloser (original_owners L a config) a x))) [
+      | inl h ↦ at_higher h t next n
+      | inr h ↦ at_level h t b next n
+    ]
 
 -- ---- lists from anywhere
 

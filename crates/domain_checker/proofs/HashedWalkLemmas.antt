@@ -1,9 +1,11 @@
 -- The names from x up to the apex: which of them are passed, and the hash of the next closer name.
-use Rattle.std.proofs.Common.{◌≡◌, ℕ, ◌+◌, ◌-◌, ◌≤◌, ◌<◌, zero, suc, true, false, not, [], ◌∷◌, length, drop, sym, ap, ◌∙◌, inl, inr, Option, Some, None, arith}
+use Rattle.std.proofs.Common.{◌≡◌, ℕ, ◌+◌, ◌-◌, ◌≤◌, ◌<◌, zero, suc, true, false, not, [], ◌∷◌, length, drop, sym, ap, ◌∙◌, inl, inr, ◌⊎◌, Option, Some, None}
+use Rattle.std.proofs.Common.{arith}
 use Rattle.std.proofs.lemmas.{Bool.{cases_Bool, and_from}, List.length-drop, Grind.common_steps}
 use Rattle.std.specs.{Prelude.{Ok, Err}, List.list_any}
 use Rattle.domain_octets.specs.Words.{Octets}
 use Rattle.domain_names.specs.{Name.{is_at_or_below, is_strictly_below, lowered, same_name, wire_of}, Words.{Label, Name}}
+use Rattle.domain_hasher.specs.declared.error.Nsec3HashError.{Nsec3HashError, TheVariants.{Hasher, OutOfMemory}}
 use Rattle.domain_zone.proofs.NameLemmas.{one_lowered, same_itself, below_itself, below_trans, below_longer, below_length, below_parent, strictly_longer}
 use Rattle.domain_zone.proofs.{NameLemmas.{strictly_from, same_length}, OwnerLemmas.in_any, FindLemmas.{any_none, find_none, find_some}}
 use Rattle.domain_nsec3.specs.{Chain.HashedLink, Config.hash_name}
@@ -143,8 +145,14 @@ module _ (R : HashedRecords) where
       pub missed_here : (covering : Option HashedLink) → IsLookedUp R wire None covering → IsMissed left covering
       missed_here covering looked = grind (arith, common_steps)
 
-      pub refused_here : (n : ℕ) → R.hash wire ≡ Err n → IsFirstRefusal R x n
+      refused_here : (n : ℕ) → R.hash wire ≡ Err n → IsFirstRefusal R x n
       refused_here n refused = grind (arith, common_steps)
+
+      -- so what is refused here is refused on the way
+      pub error_here : (why : Nsec3HashError) → (why ≡ OutOfMemory) ⊎ ((n : ℕ) × (why ≡ Hasher n) × (R.hash wire ≡ Err n))
+          → (why ≡ OutOfMemory) ⊎ ((n : ℕ) × (why ≡ Hasher n) × IsFirstRefusal R x n)
+      error_here why (inl full) = inl full
+      error_here why (inr r) = inr (r.0, r.1, refused_here r.0 r.2)
 
     -- a match of x itself is that of its closest encloser
     pub encloser_here : is_at_or_below x R.apex ≡ true → (k : HashedLink) (wire : Octets) (covering : Option HashedLink)

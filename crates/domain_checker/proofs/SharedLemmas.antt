@@ -1,5 +1,5 @@
 -- The name that two names share has as many labels as they share from the root on.
-use Rattle.std.proofs.Common.{◌≡◌, ◌+◌, ◌≤◌, Bool, true, false, cond, [], ◌∷◌, ◌++◌, map, reverse, length, refl, sym, ap, ◌∙◌, inl, inr, arith, nat_eq}
+use Rattle.std.proofs.Common.{◌≡◌, ◌≤◌, Bool, true, false, cond, [], ◌∷◌, ◌++◌, map, reverse, length, refl, sym, ap, ◌∙◌, inl, inr, arith, nat_eq}
 use Rattle.std.proofs.lemmas.{Bool.{cases_Bool, false≢true}, List.{length-reverse, length-map, reverse-append}, Grind.common_steps}
 use Rattle.std.specs.{List.common_prefix_len, Cmp.Lexicographic.{pointwise, bytes_decides}, Char.to_ascii_lowercase}
 use Rattle.domain_names.specs.{Laws.{from_root-below, below-from_root}, Name.{lowered, is_at_or_below}, Order.{from_root, common_labels}, Words.{Label, Name}}
@@ -11,26 +11,21 @@ same_label = pointwise nat_eq
 -- what goes on from a list shares all of it
 common_whole : (us rest : Name) → common_prefix_len same_label us (us ++ rest) ≡ length us
 common_whole [] rest = refl
-common_whole (u ∷ us) rest =
-    (λ i. cond ((bytes_decides u u).1 refl i) (1 + common_whole us rest i) 0) ∙ omega arith
+common_whole (u ∷ us) rest = rw ((bytes_decides u u).1 refl, common_whole us rest) (omega arith)
 
 -- a last label that the other list does not have there is not shared
 common_front : (us : Name) (n : Label) (ws : Name) → ((rest : Name) → ws ≡ (us ++ n ∷ []) ++ rest → ⊥)
     → common_prefix_len same_label (us ++ n ∷ []) ws ≡ common_prefix_len same_label us ws
 common_front [] n [] h = refl
-common_front [] n (w ∷ ws) h =
-    elim (cases_Bool _) [
-      | inl t ↦ absurd (h ws (ap (λ m. m ∷ ws) (sym ((bytes_decides n w).0 t))))
-      | inr f ↦ λ i. cond (f i) (1 + common_prefix_len same_label [] ws) 0
-    ]
+common_front [] n (w ∷ ws) h = grind (arith, common_steps, (bytes_decides n w), (h ws))
 common_front (u ∷ us) n [] h = refl
 common_front (u ∷ us) n (w ∷ ws) h =
-    elim (cases_Bool _) [
+    elim (cases_Bool (same_label u w)) [
       | inl t ↦
           let same : u ≡ w = (bytes_decides u w).0 t in
           let up = common_front us n ws (λ rest p. h rest (λ j. sym same j ∷ p j)) in
-          λ i. cond (same_label u w) (1 + up i) 0
-      | inr f ↦ (λ i. cond (f i) (1 + common_prefix_len same_label (us ++ n ∷ []) ws) 0) ∙ sym (λ i. cond (f i) (1 + common_prefix_len same_label us ws) 0)
+          rw (t, up) refl
+      | inr f ↦ rw f refl
     ]
 
 -- the name that two share has as many labels

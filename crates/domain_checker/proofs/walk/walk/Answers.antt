@@ -1,10 +1,10 @@
-use Rattle.std.{proofs.{Common.{◌≡◌, ◌∙◌, sym, ap, subst, inl, inr, None, arith}, lemmas.Result.err_from_is_err_and}, specs.Option.option_map}
+use Rattle.std.{proofs.{Common.{◌≡◌, ◌∙◌, sym, ap, subst, None, arith}, lemmas.Result.err_from_is_err_and}, specs.Option.option_map}
 use Rattle.domain_names.specs.Name.{lowered, wire_of}
 use Rattle.domain_zone.proofs.NameLemmas.{below_itself}
 use Rattle.domain_nsec3.specs.View.{as_hashed_link}
 use Rattle.domain_checker.specs.HashedView.{HashedRecords, hashed_records}
 use Rattle.domain_checker.proofs.HashedWalkLemmas.{IsMissed, IsPassed, missed_here, none_first, none_left, passed_on, encloser_above, encloser_here}
-use Rattle.domain_checker.proofs.{HashedWalkLemmas.{refused_here, wire_above}, walk.walk.Given.Over}
+use Rattle.domain_checker.proofs.{HashedWalkLemmas.{error_here, wire_above}, walk.walk.Given.Over}
 use Rattle.domain_checker.proofs.walk.walk.Goals as goal
 use Rattle.domain_checker.proofs.walk.walk.Goals.{Start, After-skip-octets}
 use Rattle.std.proofs.lemmas.Grind.{common_steps}
@@ -21,14 +21,7 @@ returns-in_err-matching-clause-err g c =
     let R = seen g (goal.at.returns-in_err-matching-clause-err g c).Start in
     let x = c.args.name.now in
     let q = err_from_is_err_and c.from_residual.result c.from_residual.ensures.1 in
-    rw (q.1, q.2) (elim c.in_err-matching.ensures.err [
-      | inl full ↦ inl full
-      | inr r ↦ inr (
-        r.0,
-        r.1,
-        refused_here R x x (below_itself x) c.requires.below (none_first R x) c.args.wire.now c.requires.wire r.0 r.2,
-      )
-    ])
+    rw (q.1, q.2) (error_here R x x (below_itself x) c.requires.below (none_first R x) c.args.wire.now c.requires.wire _ c.in_err-matching.ensures.err)
 
 pub returns-in-Match-clause-ok : goal.returns-in-Match-clause-ok
 returns-in-Match-clause-ok g c = grind (arith, common_steps, encloser_here)
@@ -65,14 +58,8 @@ returns-in_err-matching-2-clause-err g c =
     let here = (goal.at.returns-in_err-matching-2-clause-err g c).After-skip-octets in
     let on = passed g here in
     let q = err_from_is_err_and c.from_residual-in_err-matching-2.result c.from_residual-in_err-matching-2.ensures.1 in
-    rw (q.1, q.2) (elim c.in_err-matching-2.ensures.err [
-      | inl full ↦ inl full
-      | inr r ↦ inr (
-        r.0,
-        r.1,
-        refused_here _ _ c.in-Some.above on.above on.within on.first c.skip-octets.result.now (left_wire g here) r.0 r.2,
-      )
-    ])
+    rw (q.1, q.2) (error_here _ _ c.in-Some.above on.above on.within on.first c.skip-octets.result.now (left_wire g here) _
+    c.in_err-matching-2.ensures.err)
 
 pub returns-in-Match-2-clause-ok : goal.returns-in-Match-2-clause-ok
 returns-in-Match-2-clause-ok g c =
@@ -84,12 +71,8 @@ pub names-preserved : goal.names-preserved
 names-preserved g c =
     let here = (goal.at.names-preserved g c).After-skip-octets in
     let on = passed g here in
-    let cover = option_map (λ k. as_hashed_link g.N.ToName.labels k.now) c.in-NoMatch-2.next in
-    record {
-      wire = left_wire g here;
-      missed = missed_here _ _ _ on.above on.within on.first _ (left_wire g here) cover
-          (rw c.in-NoMatch-2.is at c.in_ok-matching-2.ensures.ok);
-    }
+    let wire = left_wire g here in
+    grind (arith, common_steps, missed_here)
 
 pub returns-clause-ok : goal.returns-clause-ok
 returns-clause-ok g c = none_left _ _ _ _ c.names.invariant.missed (sym c.name_eq.ensures.value ∙ c.names-test.false)
