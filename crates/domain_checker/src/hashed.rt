@@ -1,6 +1,6 @@
 //! What NSEC3 records say of hashes.
-ghost use Rattle.std.specs.Prelude.{◌≡◌};
-ghost use Rattle.std.specs.Option.{option_map};
+ghost use Rattle.std.specs.Prelude.{◌≡◌, None, Some, if◌then◌else◌};
+ghost use Rattle.std.specs.Option.{option_map, option_or};
 ghost use Rattle.domain_zone.specs.Covering.{covers, matches};
 ghost use Rattle.domain_nsec3.specs.Meaning.{octets_before};
 ghost use Rattle.domain_nsec3.specs.View.{as_hashed_link, hashed_links_of, parameters_in, parameters_of};
@@ -97,6 +97,29 @@ fn is_cover(label: Option<&[u8]>, next: &[u8], hash: &[u8]) -> bool
     }
 }
 
+/// The cover that was found before or, with none, this record where it covers the hash, by the label
+/// that spells its own.
+fn or_cover<'a, O: Octets, N: ToName>(
+    cover: Option<&'a Nsec3Rr<O, N>>,
+    label: Option<&[u8]>,
+    listed: &'a Nsec3Rr<O, N>,
+    hash: &[u8],
+) -> Option<&'a Nsec3Rr<O, N>>
+    ensures { option_map (λ r. as_hashed_link N.labels r.now) result
+        ≡ option_or (option_map (λ r. as_hashed_link N.labels r.now) cover.entry)
+        (if is_some_with (λ h. covers octets_before h listed.now.«data».next_owner hash.now)
+        (option_map (λ l. read_label l.now) label.entry)
+        then Some (as_hashed_link N.labels listed.now) else None) }
+{
+    if cover.is_some() {
+        return cover;
+    }
+    if is_cover(label, listed.data().next_owner().as_slice(), hash) {
+        return Some(listed);
+    }
+    None
+}
+
 /// The first record that matches the hash or, where none does, the first that covers it. Goes over
 /// the records once.
 pub(crate) fn find_hash<'a, A: ToName, O: Octets, N: ToName>(
@@ -115,9 +138,7 @@ pub(crate) fn find_hash<'a, A: ToName, O: Octets, N: ToName>(
         if is_match(label, hash) {
             return Nsec3Found::Match(listed);
         }
-        if cover.is_none() && is_cover(label, listed.data().next_owner().as_slice(), hash) {
-            cover = Some(listed);
-        }
+        cover = or_cover(cover, label, listed, hash);
     }
     Nsec3Found::NoMatch(cover)
 }
