@@ -25,7 +25,11 @@ module _ (names : List Name) (a : Name) where
   pub exists_same : (x y : Name) → same_name x y ≡ true → exists_over names a x ≡ exists_over names a y
   exists_same x y s = ap (λ k. lowered_below k (lowered a) && list_any (λ n. lowered_below (lowered n) k) names) (one_lowered x y s)
 
-  -- where some name exists, the apex does
+  -- where a name exists, those above it do
+  pub exists_above : (x d : Name) → exists_over names a x ≡ true → is_at_or_below x d ≡ true → is_at_or_below d a ≡ true
+      → exists_over names a d ≡ true
+  exists_above x d there up low = grind (arith, common_steps, any_in, in_any, below_trans)
+
   pub apex_from : (x : Name) → exists_over names a x ≡ true → exists_over names a a ≡ true
   apex_from x there = grind (arith, common_steps, any_in, below_itself, in_any, below_trans)
 

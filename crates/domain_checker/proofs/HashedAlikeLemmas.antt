@@ -120,8 +120,7 @@ module _ (L : List ZoneRecord) (a : Name) (config : ChainConfig) (x : Name) (t :
 
   proves_alike : proves L a config ks x ≡ proves L a config ls x
   proves_alike =
-      λ i. matched_alike (chain_records a config ks) ls alike en i
-      && ((same_name en x || is_zone_cut L a en) || covered_alike (chain_records a config ks) ls alike (next_closer x en) i)
+      rw (matched_alike (chain_records a config ks) ls alike en, covered_alike (chain_records a config ks) ls alike (next_closer x en)) refl
 
   pub proved_alike : hashed_proved_verdict L a config ks x t ≡ hashed_proved_verdict L a config ls x t
   proved_alike = λ i. cond (not (is_at_or_below x a) || proves_alike i) (hashed_zone_verdict L a config x t) NotProven

@@ -26,7 +26,7 @@ use Rattle.domain_checker.specs.HashedVerdict.{is_covered, proves, hashed_proved
 use Rattle.domain_checker.specs.{Verdict.{closest_encloser, IsWithin}, declared.verdict.Verdict.Verdict}
 use Rattle.domain_checker.specs.declared.verdict.Verdict.TheVariants.{BelowDelegation, EmptyName, NotProven}
 use Rattle.domain_checker.proofs.{CutLemmas.{below_cut, cut_above, cut_apart, not_below}, DefiniteLemmas.{choose, definite_proven, is_definite}}
-use Rattle.domain_checker.proofs.EncloserLemmas.{apex_from, closest_is, cut_same, exists_same, owner_owns}
+use Rattle.domain_checker.proofs.EncloserLemmas.{apex_from, closest_is, cut_same, exists_above, exists_same, owner_owns}
 use Rattle.domain_checker.proofs.{HashedListLemmas.{covered_in, covered_never, matched_in, matched_once, told_at}, HashedWalkLemmas.closer_is}
 
 -- ---- a bitmap without types
@@ -95,12 +95,14 @@ module _ (L : List ZoneRecord) (a : Name) (config : ChainConfig) (links : List H
   closest : IsClosestEncloser (original_owners L a config) a x (closest_encloser (original_owners L a config) a x)
   closest = let e = facts.tells.encloser x low in closest_is (original_owners L a config) a x (apex_from (original_owners L a config) a e.0 e.1.found) low
 
+  en_low : is_at_or_below en a ≡ true
+  en_low = (and_parts (is_at_or_below en a) (list_any (λ n. is_at_or_below n en) owners) closest.found).0
+
   -- a list that has every record of the chain proves all
   pub whole_proves : ((k : HashedLink) → In k links → In k listed) → proves L a config listed x ≡ true
   whole_proves has =
       let tells = facts.tells.each x en low free closest in
-      let in_zone = (and_parts (is_at_or_below en a) (list_any (λ n. is_at_or_below n en) owners) closest.found).0 in
-      let told = matched_in L a config links facts listed has en (tells.runs en closest.above in_zone (below_itself en)) in
+      let told = matched_in L a config links facts listed has en (tells.runs en closest.above en_low (below_itself en)) in
       elim (cases_Bool (same_name en x)) [
         | inl s ↦ rw (told, s) refl
         | inr s ↦
@@ -125,8 +127,7 @@ module _ (L : List ZoneRecord) (a : Name) (config : ChainConfig) (links : List H
   untold t f = grind (arith, common_steps)
 
   pub none_proved : (t : ℕ) → IsUnmatched (chain_records a config listed) x → NotProven ≡ hashed_proved_verdict L a config listed x t
-  none_proved t f =
-      untold t (f en closest.above (and_parts (is_at_or_below en a) (list_any (λ n. is_at_or_below n en) owners) closest.found).0).2
+  none_proved t f = untold t (f en closest.above en_low).2
 
   -- d is the first that is matched, v its hash, and k the first record that matches it
   module _ (d : Name) (first : IsFirstMatched (chain_records a config listed) x d) (v : Octets)
@@ -298,11 +299,7 @@ module _ (L : List ZoneRecord) (a : Name) (config : ChainConfig) (links : List H
           let down_d = (and_parts (is_at_or_below q d) (not (same_name q d)) closer.below).0 in
           let in_zone = below_trans q d a down_d first.within in
           let under = below_longer x en q closest.above closer.above (omega (arith, closer.long, deeper)) in
-          let e = and_parts (is_at_or_below en a) (list_any (λ n. is_at_or_below n en) owners) closest.found in
-          let o = any_in (λ n. is_at_or_below n en) owners e.1 in
-          let there : exists_over owners a q ≡ true = and_from (is_at_or_below q a)
-          (list_any (λ n. is_at_or_below n q) owners) in_zone
-          (in_any (λ n. is_at_or_below n q) owners o.0 o.1 (below_trans o.0 en q o.2 under)) in
+          let there = exists_above owners a en q closest.found under in_zone in
           none_found (is_hash_cover a config.parameters w) listed
           (λ r i h. covered_never L a config links facts q in_zone w (alone_at q closer.above in_zone w asked)
           (sym (facts.exist q in_zone) ∙ there) r (within_links r i) (among r i) h)
@@ -330,10 +327,8 @@ module _ (R : HashedRecords) (x : Name) (t : ℕ) where
     longest = d;
     first = first;
     closes = elim (cases_Bool (tells_cut R.apex d k)) [
-      | inl c ↦ or_left (same_name d x || is_told_cut R d) (is_covered R (next_closer x d))
-          (or_right (same_name d x) (is_told_cut R d) (cut_told ∙ c))
-      | inr c ↦ or_right (same_name d x || is_told_cut R d) (is_covered R (next_closer x d))
-          (by (first_cover R w) refl c)
+      | inl c ↦ rw (cut_told ∙ c, or_true (same_name d x)) refl
+      | inr c ↦ rw (by (first_cover R w) refl c, or_true (same_name d x || is_told_cut R d)) refl
     ];
   }
     where
