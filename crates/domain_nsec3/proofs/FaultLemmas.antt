@@ -6,14 +6,14 @@ use Rattle.std.proofs.lemmas.List.{get_or_default, get_or-take, length-take-le, 
 use Rattle.std.proofs.lemmas.List.Folds.{Any-from_list_any, list_any_at}
 use Rattle.std.specs.{List.{AllByRecursion, IsDistinct, list_any, Sorted.IsStrictlySortedBy}, Ordering.nat_cmp, declared.cmp.Ordering.TheVariants.Less}
 use Rattle.std.specs.Cmp.Lexicographic.{slice_cmp, nat_list_cmp_total}
-use Rattle.domain_names.specs.{Name.{lowered, wire_of, same_name}, Order.before, Words.Name}
+use Rattle.domain_names.specs.{Name.{wire_of, same_name}, Order.before, Words.Name}
 use Rattle.domain_hasher.specs.declared.error.Nsec3HashError.{Nsec3HashError}
 use Rattle.domain_zone.specs.Zone.{ZoneRecord}
-use Rattle.domain_zone.proofs.{NameLemmas.{before_order, before_left, one_lowered, same_itself, same_lowered}, PairLemmas.{In, IsAscending, all_in}}
+use Rattle.domain_zone.proofs.{NameLemmas.{before_order, before_left, one_lowered, same_itself}, PairLemmas.{In, IsAscending, all_in}}
 use Rattle.domain_zone.proofs.{FindLemmas.in_map, OwnerLemmas.any_in, ZoneLemmas.{weaker}}
 use Rattle.domain_nsec3.specs.{Chain.{HashedLink, HashedName, IsHashedChain, IsOfChain}, Config.{ChainConfig, Hash, hash_name}}
 use Rattle.domain_nsec3.specs.Faults.{hash_fault, is_hashed_before, IsFirstHashFault, IsFirstHashingFault, HasCollision}
-use Rattle.domain_nsec3.specs.{Owners.{is_original_owner, is_chain_name, original_owners}, Steps.IsFirstRefused}
+use Rattle.domain_nsec3.specs.{Owners.{is_original_owner, is_chain_name}, Steps.IsFirstRefused}
 use Rattle.domain_nsec3.proofs.ListLemmas.{ascends_both, both}
 
 -- names that are the same have one hash
@@ -56,10 +56,7 @@ module _ (L : List ZoneRecord) (a : Name) (config : ChainConfig) where
   one_way x y h = grind (arith, common_steps, before_order)
 
   hashed_alike : (m y x : Name) → same_name m y ≡ true → is_hashed_before L a config m x ≡ is_hashed_before L a config y x
-  hashed_alike m y x s =
-      let k = one_lowered m y s in
-      λ i. cond (list_any (λ n. same_lowered (lowered n) (k i)) (original_owners L a config))
-      (not (is_original_owner L a config x) || before_left m y x k i) (not (is_original_owner L a config x) && before_left m y x k i)
+  hashed_alike m y x s = rw (before_left m y x (one_lowered m y s), one_lowered m y s) refl
 
   -- what is hashed in order are different names
   pub all_apart : (names : List Name) → IsAscending (is_hashed_before L a config) names → IsDistinct same_name names

@@ -1,5 +1,5 @@
 -- Names above owners that stand in order: they ascend, and none of them is an owner.
-use Rattle.std.proofs.Common.{◌≡◌, ℕ, ◌<◌, ◌≤◌, Bool, true, false, not, ◌&&◌, ◌||◌, List, [], ◌∷◌, ◌++◌, length, refl, sym, ap, ◌∙◌, arith, inl, inr}
+use Rattle.std.proofs.Common.{◌≡◌, ℕ, ◌<◌, ◌≤◌, Bool, true, false, ◌||◌, List, [], ◌∷◌, ◌++◌, length, refl, sym, ap, ◌∙◌, arith, inl, inr}
 use Rattle.std.proofs.lemmas.Bool.{cases_Bool, false≢true, leb-true, and_parts, not-true, or_left, or_right, Decides.nat_tests}
 use Rattle.std.proofs.lemmas.{Grind.common_steps}
 use Rattle.std.specs.{List.{AllByRecursion, list_any, Sorted.IsStrictlySortedBy}}
@@ -7,7 +7,7 @@ use Rattle.std.specs.{Ordering.is_lt, declared.cmp.Ordering.TheVariants.Less}
 use Rattle.domain_names.specs.{Order.{canonical_cmp, before, common_labels}, Name.{is_at_or_below, is_strictly_below, lowered, same_name}, Words.Name}
 use Rattle.domain_records.proofs.Lookups.{is_less}
 use Rattle.domain_zone.specs.Enclosers.{is_empty_nonterminal}
-use Rattle.domain_zone.proofs.NameLemmas.{before_order, below_between, below_from, below_itself, below_longer, lowered_below, one_lowered, same_both}
+use Rattle.domain_zone.proofs.NameLemmas.{before_order, below_between, below_from, below_itself, below_longer, one_lowered, same_both}
 use Rattle.domain_zone.proofs.{NameLemmas.{same_itself, same_lowered, strictly_from}, OwnerLemmas.{any_in, any_weaker}}
 use Rattle.domain_zone.proofs.PairLemmas.{IsAscending, all_in, lt_trans}
 use Rattle.domain_zone.proofs.{SharedLemmas.either_way, ZoneLemmas.{weaker, all_both, apart_left, apart_right, after_or}}
@@ -128,9 +128,7 @@ listed a owners up low apex = record {
         let m = any_in (λ n. same_name n x) (gathered a owners) e in
         let g = all_in _ (gathered a owners) m.0 (gathered_are a a owners (below_itself a) low) m.1 in
         let none = all_in _ (gathered a owners) m.0 (gathered_apart a owners (ascending owners up)) m.1 in
-        ap (λ k. (lowered_below k (lowered a) && not (list_any (λ n. same_lowered (lowered n) k) owners))
-        && list_any (λ n. lowered_below (lowered n) k && not (same_lowered (lowered n) k)) owners) (sym (one_lowered m.0 x m.2))
-        ∙ (λ i. ((and_parts (is_at_or_below m.0 a) _ g.0).0 i && not (none i)) && g.1 i)
+        rw (← one_lowered m.0 x m.2, (and_parts (is_at_or_below m.0 a) _ g.0).0, none, g.1) refl
 
     back : (x : Name) → is_empty_nonterminal owners a x ≡ true → list_any (λ n. same_name n x) (gathered a owners) ≡ true
     back x e =

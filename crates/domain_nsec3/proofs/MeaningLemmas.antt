@@ -1,25 +1,25 @@
 -- What the records of an NSEC3 chain say of every name, from the chain alone.
 use Rattle.std.proofs.Common.{length, ◌≤◌, arith, ◌≡◌, ℕ, zero, suc, true, false, not, ◌&&◌, ◌||◌, List, [], ◌∷◌, map, Some, Ok, refl, sym, ap, ◌∙◌}
-use Rattle.std.proofs.{Common.{subst, inl, inr}, lemmas.Bool.{cases_Bool, cases_lt, false≢true, true≢false, and_parts, or_cases, or_left}}
+use Rattle.std.proofs.{Common.{subst, inl, inr}, lemmas.Bool.{cases_Bool, false≢true, and_parts, or_left}}
 use Rattle.std.proofs.lemmas.{List.{Elements.recursion_from_All, Sorted.ranks_by}, Grind.common_steps}
-use Rattle.std.specs.{Prelude.{filter, slice_get}, List.{list_any, Sorted.IsStrictlySortedBy}, Cmp.IsStrictWeakOrder}
+use Rattle.std.specs.{Prelude.{slice_get}, List.{list_any, Sorted.IsStrictlySortedBy}, Cmp.IsStrictWeakOrder}
 use Rattle.std.specs.{Cmp.Lexicographic.{slice_cmp, nat_list_cmp_total}, FinMap.{slice_cmp-IsAntisymmetric, nat_cmp-IsAntisymmetric}}
 use Rattle.std.specs.{Ordering.{nat_cmp, is_lt}, declared.cmp.Ordering.{TheVariants.{Less}}}
 use Rattle.domain_codecs.{specs.Base32.base32_lower, proofs.OrderLemmas.lower_apart}
 use Rattle.domain_octets.proofs.StdLemmas.{some_is}
 use Rattle.domain_bitmap.{specs.Bitmap.bitmap_octets, proofs.BitmapLemmas.bitmap_octets-same}
 use Rattle.domain_zone.specs.{Covering.{matches, covers, matches_or_covers}, Enclosers.{IsClosestEncloser, exists_over}}
-use Rattle.domain_zone.specs.Zone.{ZoneRecord, owns, has_type}
-use Rattle.domain_zone.proofs.NameLemmas.{one_lowered, below_itself, below_trans, below_length, below_longer, below_parent, lowered_below, same_lowered}
+use Rattle.domain_zone.specs.Zone.{ZoneRecord, owns}
+use Rattle.domain_zone.proofs.NameLemmas.{one_lowered, below_itself, below_trans, below_length, below_longer, below_parent, lowered_below}
 use Rattle.domain_zone.proofs.{OwnerLemmas.any_in, PairLemmas.{In, all_in, IsAscending, irreflexive, one_matches_or_covers}, PlaceLemmas.{IsOnly, one_place}}
 use Rattle.domain_zone.proofs.{SharedLemmas.either_way, SoaLemmas.soa_owned, FindLemmas.{from_map, in_at, in_map, stands_in}, ZoneLemmas.weaker}
 use Rattle.domain_names.specs.{Name.{is_at_or_below, lowered, same_name}, Words.Name}
-use Rattle.domain_base.specs.Types.{ns, ds}
+use Rattle.domain_base.specs.Types.{ns}
 use Rattle.domain_nsec3.specs.Chain.{HashedLink, HashedName, IsHashedChain, IsOfChain, cycle, ends, ends_of, hashed_owner}
 use Rattle.domain_nsec3.specs.Config.{ChainConfig, HashAnswer, hash_of}
 use Rattle.domain_nsec3.specs.Meaning.{octets_before, IsAlone, AreAlone, IsRecordOf, IsMatchedOrCoveredOnce, MirrorsZone, TellsEncloserOf, TellsEncloser}
 use Rattle.domain_nsec3.specs.Meaning.{CoversExcluded}
-use Rattle.domain_nsec3.specs.Owners.{original_owners, is_empty, is_chain_name, is_listed, nsec3_lists}
+use Rattle.domain_nsec3.specs.Owners.{original_owners, is_empty, is_chain_name, nsec3_lists}
 use Rattle.domain_nsec3.proofs.{ChainLemmas.cycle_owners, FaultLemmas.hash_same, SharedLemmas.at_length}
 use Rattle.domain_nsec3.proofs.OwnerLemmas.{apex_original, existing_are, out_flag, runs_to_encloser}
 
@@ -70,10 +70,8 @@ exists_same ks a m n e = ap (λ k. lowered_below k (lowered a) && list_any (λ o
 shorter : (ks : List Name) (a : Name) (l : List ℕ) (x d : Name) → exists_over ks a (l ∷ x) ≡ false → exists_over ks a d ≡ true
     → is_at_or_below (l ∷ x) d ≡ true → length d ≤ length x
 shorter ks a l x d none h p =
-    elim (cases_lt (length x) (length d)) [
-      | inl k ↦ absurd (true≢false (sym h ∙ exists_same ks a d (l ∷ x) (sym (at_length (l ∷ x) d p (omega arith))) ∙ none))
-      | inr k ↦ k
-    ]
+    let same = at_length (l ∷ x) d p in
+    grind (arith, common_steps, (exists_same ks a (l ∷ x) d))
 
 an_encloser : (ks : List Name) (a : Name) → exists_over ks a a ≡ true → (x : Name) → is_at_or_below x a ≡ true → (e : Name) × IsClosestEncloser ks a x e
 an_encloser ks a apex [] low = grind (arith, common_steps)
@@ -96,22 +94,10 @@ an_encloser ks a apex (l ∷ x) low =
 module _ (L : List ZoneRecord) (a : Name) (config : ChainConfig) where
   -- names that are the same are names of the chain alike, and have the same types
   pub chain_same : (m n : Name) → same_name m n ≡ true → is_chain_name L a config m ≡ is_chain_name L a config n
-  chain_same m n s =
-      ap (λ k. list_any (λ o. same_lowered (lowered o) k) (original_owners L a config)
-      || (lowered_below k (lowered a) && not (list_any (λ r. same_lowered (lowered r.owner) k) L)
-      && list_any (λ o. lowered_below (lowered o) k && not (same_lowered (lowered o) k)) (original_owners L a config)))
-      (one_lowered m n s)
+  chain_same m n s = rw (one_lowered m n s) refl
 
   pub bit_same : (m n : Name) → same_name m n ≡ true → (t : ℕ) → nsec3_lists L a config m t ≡ nsec3_lists L a config n t
-  bit_same m n s t =
-      ap (λ k. list_any (λ r. same_lowered (lowered r.owner) k) L
-      && is_listed ((lowered_below k (lowered a) && not (same_lowered k (lowered a))
-      && has_type (filter (λ r. same_lowered (lowered r.owner) k) L) ns)
-      && not (has_type (filter (λ r. same_lowered (lowered r.owner) k) L) ds))
-      (same_lowered k (lowered a)) (config.assume_dnskeys_will_be_added && same_lowered k (lowered a))
-      (lowered_below k (lowered a) && not (same_lowered k (lowered a))
-      && has_type (filter (λ r. same_lowered (lowered r.owner) k) L) ns) (filter (λ r. same_lowered (lowered r.owner) k) L) t)
-      (one_lowered m n s)
+  bit_same m n s t = rw (one_lowered m n s) refl
 
   pub bits_same : (m n : Name) → same_name m n ≡ true → bitmap_octets (nsec3_lists L a config m) ≡ bitmap_octets (nsec3_lists L a config n)
   bits_same m n s = bitmap_octets-same (nsec3_lists L a config m) (nsec3_lists L a config n) (λ t b. bit_same m n s t)
@@ -250,10 +236,8 @@ module _ (L : List ZoneRecord) (a : Name) (config : ChainConfig) where
             let low = below_trans d e a (and_parts (is_at_or_below d e) (not (same_name d e)) n.below).0 high in
             let v = alone d n.above low in
             let m = mirrored d v.0 v.1 in
-            let under : is_at_or_below e d ≡ false = elim (cases_Bool (is_at_or_below e d)) [
-              | inl t ↦ let longer = below_length e d t in let more = n.longer in absurd (omega arith)
-              | inr t ↦ t
-            ] in
+            let longer = n.longer in
+            let under : is_at_or_below e d ≡ false = grind (arith, common_steps, (below_length e d)) in
             let none : matches octets_before m.hash v.0 ≡ false = m.matched ∙ runs_to_encloser L a config x e d c n.above low ∙ under in
             record {
               place = m.place;
@@ -262,10 +246,7 @@ module _ (L : List ZoneRecord) (a : Name) (config : ChainConfig) where
               value = v.0;
               is = m.is;
               known = v.1.known;
-              says = elim (or_cases (matches octets_before m.hash v.0) (covers octets_before m.hash m.link.next v.0) m.says) [
-                | inl t ↦ absurd (false≢true (sym none ∙ t))
-                | inr t ↦ t
-              ];
+              says = (ap (λ b. b || covers octets_before m.hash m.link.next v.0) (sym none)) ∙ m.says;
               flags = (all_in (λ k. (k.parameters ≡ config.parameters) × (k.flags ≡ config.flags)) links m.link
                   (recursion_from_All (λ k. (k.parameters ≡ config.parameters) × (k.flags ≡ config.flags)) links chain.told)
                   (in_at links m.place m.link m.is.there)).1;

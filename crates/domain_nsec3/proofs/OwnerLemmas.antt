@@ -42,15 +42,12 @@ module _ (L : List ZoneRecord) (a : Name) (config : ChainConfig) where
       let typed : Name → ℕ → Bool = λ k. has_type (filter (λ r. same_lowered (lowered r.owner) k) L) in
       let stays : Name → Bool = λ k. not (excludes config && ((lowered_below k (lowered a) && not (same_lowered k (lowered a)) && typed k ns)
       && not (typed k ds))) in
-      let original : Name → Bool = λ k. (list_any (λ r. same_lowered (lowered r.owner) k) L && (lowered_below k (lowered a)
-      && not (list_any (λ r. occludes config.occlude_below_dname L a r.owner && (lowered_below k (lowered r.owner)
-      && not (same_lowered k (lowered r.owner)))) L))) && stays k in
       any_filter (λ n. same_name n x) (λ n. not (is_excluded L a config n)) (unoccluded_owners d L a) ∙ either_way _ _
       (λ h.
       let m = any_in (λ n. not (is_excluded L a config n) && same_name n x) (unoccluded_owners d L a) h in
       let p = and_parts (not (is_excluded L a config m.0)) (same_name m.0 x) m.2 in
       let own = all_in (λ n. (owns L n ≡ true) × (is_unoccluded d L a n ≡ true)) (unoccluded_owners d L a) m.0 (owners_are d L a) m.1 in
-      sym (ap original (one_lowered m.0 x p.1)) ∙ (λ i. (own.0 i && own.1 i) && p.0 i))
+      rw (← one_lowered m.0 x p.1, own.0, own.1, p.0) refl)
       (λ h.
       let p = and_parts (owns L x && is_unoccluded d L a x) (not (is_excluded L a config x)) h in
       let q = and_parts (owns L x) (is_unoccluded d L a x) p.0 in

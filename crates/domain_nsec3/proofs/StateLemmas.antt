@@ -1,7 +1,8 @@
 -- The state of the walk over the owners, and what it has gathered.
+use Rattle.domain_octets.proofs.StdLemmas.{or_true}
 use Rattle.std.proofs.Common.{◌≡◌, Bool, true, false, cond, not, ◌&&◌, ◌||◌, List, [], ◌∷◌, ◌++◌, map, refl, sym, ap, ◌∙◌, append_assoc, arith}
 use Rattle.std.proofs.lemmas.{List.{map-append, map-id, append-nil, Elements.filter-append, Folds.list_any-append}, Simd.map-map}
-use Rattle.std.{proofs.lemmas.{Bool.or_right, Grind.common_steps}, specs.{Prelude.filter, List.{list_any}}}
+use Rattle.std.{proofs.lemmas.{Grind.common_steps}, specs.{Prelude.filter, List.{list_any}}}
 use Rattle.domain_bitmap.specs.Bitmap.{bitmap_octets}
 use Rattle.domain_names.specs.{Name.same_name, Words.Name}
 use Rattle.domain_octets.specs.Words.{Octets}
@@ -125,13 +126,15 @@ module _ {zone : ZoneToSign} {left : List OwnerRecords} {listed : Owners} (s : I
         }
 
     pub at_fault : stays zone.config o ≡ true → has_clash o.records ≡ true → is_uneven zone ≡ true
-    at_fault kept h =
-        sym (clashes_stay zone) ∙ ap (λ os. list_any clashes_in (staying zone os)) (sym all_with_next)
-        ∙ ap (list_any clashes_in) (filter-append (stays zone.config) s.given (o ∷ rest))
-        ∙ list_any-append clashes_in (staying zone s.given) (staying zone (o ∷ rest))
-        ∙ or_right (list_any clashes_in (staying zone s.given)) (list_any clashes_in (staying zone (o ∷ rest)))
-        ((λ i. list_any clashes_in (cond (kept i) (o ∷ staying zone rest) (staying zone rest)))
-        ∙ (λ i. h i || list_any clashes_in (staying zone rest)))
+    at_fault kept h = rw (
+      ← clashes_stay zone,
+      ← all_with_next,
+      filter-append (stays zone.config) s.given (o ∷ rest),
+      list_any-append clashes_in (staying zone s.given) (staying zone (o ∷ rest)),
+      kept,
+      h,
+      or_true (list_any clashes_in (staying zone s.given)),
+    ) refl
 
   module _ (none : left ≡ []) where
     all_given : staying zone s.given ≡ map (owner_at zone.records zone.apex) (originals zone)
