@@ -74,11 +74,6 @@ types_told zone =
     at : Name → OwnerRecords
     at n = owner_at zone.records zone.apex n
 
-pub at_start : {zone : ZoneToSign} {left : List OwnerRecords} {listed : Owners}
-    → left ≡ owners_with_records zone.config.occlude_below_dname zone.records zone.apex
-    → listed.names.items ≡ [] → listed.types ≡ [] → IsAt zone left listed
-at_start {zone = zone} all named typed = grind (arith, common_steps)
-
 module _ {zone : ZoneToSign} {left : List OwnerRecords} {listed : Owners} (s : IsAt zone left listed) where
   module _ {o : OwnerRecords} {rest : List OwnerRecords} (next : left ≡ o ∷ rest) where
     all_with_next : s.given ++ o ∷ rest ≡ owners_with_records zone.config.occlude_below_dname zone.records zone.apex
