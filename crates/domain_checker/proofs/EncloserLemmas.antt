@@ -1,12 +1,12 @@
 -- The first of a name and its ancestors that exists is its closest encloser, and an occluded name is below a name that occludes and is not occluded itself.
-use Rattle.std.proofs.Common.{◌≡◌, ℕ, ◌≤◌, Bool, zero, suc, true, false, cond, not, ◌&&◌, List, [], ◌∷◌, map, length, refl, sym, ap, ◌∙◌, inl, inr, arith}
+use Rattle.std.proofs.Common.{◌≡◌, ℕ, ◌≤◌, Bool, zero, suc, true, false, not, List, [], ◌∷◌, map, length, refl, sym, ap, ◌∙◌, inl, inr, arith}
 use Rattle.std.proofs.lemmas.{Bool.{cases_Bool, false≢true, and_parts, and_from, cases_lt}, List.length-map, Grind.common_steps}
-use Rattle.std.specs.{Char.to_ascii_lowercase, List.list_any}
-use Rattle.domain_names.specs.{Name.{is_at_or_below, is_strictly_below, lowered, same_name}, Words.Name}
+use Rattle.std.specs.{Char.to_ascii_lowercase}
+use Rattle.domain_names.specs.{Name.{is_at_or_below, is_strictly_below, same_name}, Words.Name}
 use Rattle.domain_zone.specs.Enclosers.{IsClosestEncloser, exists_over}
 use Rattle.domain_zone.specs.Zone.{ZoneRecord, is_zone_cut, occludes, is_occluded, is_unoccluded, distinct, unoccluded_owners, owns}
 use Rattle.domain_zone.proofs.NameLemmas.{one_lowered, below_itself, below_trans, below_longer, below_length, below_parent, strictly_longer, same_length}
-use Rattle.domain_zone.proofs.{NameLemmas.lowered_below, PairLemmas.In, OwnerLemmas.{any_in, in_any, occluder_below}, FindLemmas.{in_filter, from_map}}
+use Rattle.domain_zone.proofs.{PairLemmas.In, OwnerLemmas.{any_in, in_any, occluder_below}, FindLemmas.{in_filter, from_map}}
 use Rattle.domain_checker.specs.Verdict.{closest_encloser}
 
 -- ---- names at or below each other
@@ -23,7 +23,7 @@ strictly_trans x c n s q = grind (arith, common_steps, below_trans)
 
 module _ (names : List Name) (a : Name) where
   pub exists_same : (x y : Name) → same_name x y ≡ true → exists_over names a x ≡ exists_over names a y
-  exists_same x y s = ap (λ k. lowered_below k (lowered a) && list_any (λ n. lowered_below (lowered n) k) names) (one_lowered x y s)
+  exists_same x y s = rw (one_lowered x y s) refl
 
   -- where a name exists, those above it do
   pub exists_above : (x d : Name) → exists_over names a x ≡ true → is_at_or_below x d ≡ true → is_at_or_below d a ≡ true
@@ -36,17 +36,16 @@ module _ (names : List Name) (a : Name) where
   pub closest_is : (x : Name) → exists_over names a a ≡ true → is_at_or_below x a ≡ true → IsClosestEncloser names a x (closest_encloser names a x)
   closest_is [] e p = grind (arith, common_steps)
   closest_is (l ∷ x) e p =
-      elim (exists_over names a (l ∷ x)) as (λ b. exists_over names a (l ∷ x) ≡ b
-      → IsClosestEncloser names a (l ∷ x) (cond b (l ∷ x) (closest_encloser names a x))) [
-        | true ↦ λ f. record { found = f; above = below_itself (l ∷ x); longest = λ d g q. below_length (l ∷ x) d q }
-        | false ↦ λ f.
+      elim (cases_Bool (exists_over names a (l ∷ x))) [
+        | inl f ↦ rw f (record { found = f; above = below_itself (l ∷ x); longest = λ d g q. below_length (l ∷ x) d q })
+        | inr f ↦
             let up = closest_is x e (higher a e f p) in
-            record {
+            rw f (record {
               found = up.found;
               above = below_trans (l ∷ x) x (closest_encloser names a x) (below_parent l x) up.above;
               longest = λ d g q. up.longest d g (higher d g f q);
-            }
-      ] refl
+            })
+      ]
     where
       -- an ancestor that exists is one of the parent
       higher : (d : Name) → exists_over names a d ≡ true → exists_over names a (l ∷ x) ≡ false → is_at_or_below (l ∷ x) d ≡ true → is_at_or_below x d ≡ true

@@ -4,8 +4,8 @@ use Rattle.std.{proofs.lemmas.{List.Folds.find-append, Grind.common_steps}, spec
 use Rattle.domain_octets.proofs.StdLemmas.{or_none}
 use Rattle.domain_names.specs.Words.{Name}
 use Rattle.domain_nsec.specs.Chain.{Link}
-use Rattle.domain_checker.specs.{HandedIn.HasRead, Reading.{cover_verdict, list_verdict, match_verdict, verdict_of_both}}
-use Rattle.domain_checker.specs.declared.{nsec_check.NsecCheck.NsecCheck, verdict.Verdict.{Verdict, TheVariants.NotProven}}
+use Rattle.domain_checker.specs.{HandedIn.HasRead, Reading.{list_verdict}}
+use Rattle.domain_checker.specs.declared.{nsec_check.NsecCheck.NsecCheck, verdict.Verdict.{TheVariants.NotProven}}
 
 module _ {X V : Type 0} (p : X → Bool) (f : X → V) (xs : List X) (x : X) where
   found_with : (b : Bool) → p x ≡ b → find p (xs ++ x ∷ []) ≡ option_or (find p xs) (cond b (Some x) None)
@@ -28,17 +28,7 @@ module _ {X V : Type 0} (p : X → Bool) (f : X → V) (xs : List X) (x : X) whe
   pub found_before : (found : Option V) → found ≡ option_map f (find p xs) → p x ≡ false → found ≡ option_map f (find p (xs ++ x ∷ []))
   found_before found so e = so ∙ ap (option_map f) (sym (found_with false e ∙ or_none (find p xs)))
 
--- what is known after the last record says what the list of all says
-told : (a x : Name) (t : ℕ) (m c : Option Link) (matched covered : Option Verdict) → matched ≡ option_map (λ k. match_verdict a k t) m
-    → (matched ≡ None → covered ≡ option_map (λ k. cover_verdict a k x) c)
-    → option_or matched covered ≡ option_or (option_map (λ k. match_verdict a k t) m) (option_map (λ k. cover_verdict a k x) c)
-told a x t m c matched covered e f = grind (arith, common_steps)
-
-says : (a x : Name) (t : ℕ) (m c : Option Link) → unwrap_or
-    (option_or (option_map (λ k. match_verdict a k t) m) (option_map (λ k. cover_verdict a k x) c)) NotProven
-    ≡ verdict_of_both a x t m c
-says a x t m c = grind (arith, common_steps)
-
+-- what is known after the last record is what the list of all says
 pub handed_in : (a x : Name) (t : ℕ) (listed : List Link) (check : NsecCheck) → HasRead a x t listed check
     → unwrap_or (option_or check.matched check.covered) NotProven ≡ list_verdict a listed x t
 handed_in a x t listed check h = grind (arith, common_steps)

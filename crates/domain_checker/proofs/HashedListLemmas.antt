@@ -1,8 +1,8 @@
 -- What a record of an NSEC3 chain says of the hash of a name that no other name of the chain has.
-use Rattle.std.proofs.Common.{◌≡◌, ℕ, Bool, zero, suc, true, not, ◌&&◌, ◌||◌, List, [], ◌∷◌, map, refl, sym, ap, ◌∙◌, inr, eq-eqb, Some, slice_get, arith}
+use Rattle.std.proofs.Common.{◌≡◌, ℕ, Bool, zero, suc, true, ◌&&◌, List, [], ◌∷◌, map, refl, sym, ap, ◌∙◌, inr, eq-eqb, Some, slice_get, arith}
 use Rattle.std.proofs.lemmas.{Bool.{or_left, or_right}, List.{Elements.recursion_from_All, Sums.list_all-from_AllPass}}
 use Rattle.std.{proofs.lemmas.Grind.common_steps, specs.{List.AllByRecursion, Cmp.Lexicographic.{nat_list_cmp_total, slice_cmp, bytes_decides}}}
-use Rattle.std.specs.{Ordering.{nat_cmp, is_lt, is_eq, ordering_reverse}, declared.cmp.Ordering.{Ordering, TheVariants.{Less, Equal, Greater}}}
+use Rattle.std.specs.{Ordering.{nat_cmp, is_eq}}
 use Rattle.domain_codecs.specs.{Base32.base32_lower, Codec.IsBase32}
 use Rattle.domain_octets.specs.Words.{Octets, AreOctets}
 use Rattle.domain_names.specs.{Name.{is_at_or_below, same_name, wire_of}, Words.Name}
@@ -16,12 +16,7 @@ use Rattle.domain_checker.specs.{HashedView.chain_records, HashedVerdict.{is_cov
 
 -- octets that the order cannot tell apart
 pub tied_is : (u v : Octets) → matches octets_before u v ≡ is_eq (slice_cmp nat_cmp u v)
-tied_is u v = reads (slice_cmp nat_cmp u v) (slice_cmp nat_cmp v u) (nat_list_cmp_total.antisymm v u)
-  where
-    reads : (r s : Ordering) → s ≡ ordering_reverse r → not (is_lt r || is_lt s) ≡ is_eq r
-    reads Less s e = refl
-    reads Equal s e = ap (λ t. not (is_lt t)) e
-    reads Greater s e = ap (λ t. not (is_lt t)) e
+tied_is u v = grind (arith, common_steps, (nat_list_cmp_total.antisymm v u))
 
 -- names that are the same have one hash
 pub hash_same : (hash : Hash) (m n : Name) → same_name m n ≡ true → hash_name hash m ≡ hash_name hash n

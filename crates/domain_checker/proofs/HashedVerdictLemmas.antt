@@ -4,7 +4,7 @@ use Rattle.std.proofs.Common.{rules}
 use Rattle.domain_octets.proofs.StdLemmas.{and_false, or_true}
 use Rattle.std.proofs.Common.{◌≡◌, ◌≢◌, ℕ, ◌≤◌, ◌<◌, Bool, true, false, cond, not, ◌&&◌, ◌||◌, List, [], ◌∷◌, All, length, refl, sym, ap, ◌∙◌, subst, inl}
 use Rattle.std.proofs.Common.{inr, ◌⊎◌, Option, Some, None, arith}
-use Rattle.std.proofs.lemmas.Bool.{cases_Bool, cases_lt, false≢true, and_parts, and_from, or_left, or_right}
+use Rattle.std.proofs.lemmas.Bool.{cases_Bool, cases_lt, false≢true, and_parts, and_from}
 use Rattle.std.proofs.lemmas.{List.FromFn.{get_or-range_with_len, length-range_with_len}, Option.slice_get-get_or, Grind.common_steps}
 use Rattle.std.specs.{Prelude.{Ok, filter}, List.{find, list_any, Contains, range_with_len}}
 use Rattle.domain_octets.specs.Words.{Octets}
@@ -88,9 +88,6 @@ module _ (L : List ZoneRecord) (a : Name) (config : ChainConfig) (links : List H
 
   abbrev matched : Name → Bool
   matched = is_matched (chain_records a config listed)
-
-  abbrev covered : Name → Bool
-  covered = is_covered (chain_records a config listed)
 
   closest : IsClosestEncloser (original_owners L a config) a x (closest_encloser (original_owners L a config) a x)
   closest = let e = facts.tells.encloser x low in closest_is (original_owners L a config) a x (apex_from (original_owners L a config) a e.0 e.1.found) low

@@ -1,5 +1,5 @@
 -- The name that two names share has as many labels as they share from the root on.
-use Rattle.std.proofs.Common.{◌≡◌, ◌≤◌, Bool, true, false, cond, [], ◌∷◌, ◌++◌, map, reverse, length, refl, sym, ap, ◌∙◌, inl, inr, arith, nat_eq}
+use Rattle.std.proofs.Common.{◌≡◌, ◌≤◌, Bool, [], ◌∷◌, ◌++◌, map, reverse, length, refl, sym, ap, ◌∙◌, inl, inr, arith, nat_eq}
 use Rattle.std.proofs.lemmas.{Bool.{cases_Bool, false≢true}, List.{length-reverse, length-map, reverse-append}, Grind.common_steps}
 use Rattle.std.specs.{List.common_prefix_len, Cmp.Lexicographic.{pointwise, bytes_decides}, Char.to_ascii_lowercase}
 use Rattle.domain_names.specs.{Laws.{from_root-below, below-from_root}, Name.{lowered, is_at_or_below}, Order.{from_root, common_labels}, Words.{Label, Name}}
@@ -32,18 +32,15 @@ common_front (u ∷ us) n (w ∷ ws) h =
 pub shared_length : (x y : Name) → length (shared x y) ≡ common_labels x y
 shared_length [] y = refl
 shared_length (l ∷ x) y =
-    elim (is_at_or_below y (l ∷ x)) as (λ b. is_at_or_below y (l ∷ x) ≡ b → length (cond b (l ∷ x) (shared x y)) ≡ common_labels (l ∷ x) y) [
-      | true ↦ λ e.
+    elim (cases_Bool (is_at_or_below y (l ∷ x))) [
+      | inl e ↦
           let below = below_there y (l ∷ x) e in
-          sym (ap (common_prefix_len same_label (from_root (l ∷ x))) (from_root-below y (l ∷ x) below)
-          ∙ common_whole (from_root (l ∷ x)) (reverse below.front)
-          ∙ length-reverse (lowered (l ∷ x)) ∙ length-map (l ∷ x) (map to_ascii_lowercase))
-      | false ↦ λ e.
-          shared_length x y
-          ∙ sym (ap (λ k. common_prefix_len same_label k (from_root y)) front
+          rw (e, from_root-below y (l ∷ x) below, common_whole (from_root (l ∷ x)) (reverse below.front)) (sym (length-reverse (lowered (l ∷ x))
+          ∙ length-map (l ∷ x) (map to_ascii_lowercase)))
+      | inr e ↦ rw e (shared_length x y ∙ sym (ap (λ k. common_prefix_len same_label k (from_root y)) front
           ∙ common_front (from_root x) (map to_ascii_lowercase l) (from_root y)
-          (λ rest p. false≢true (sym e ∙ below_back y (l ∷ x) (below-from_root y (l ∷ x) rest (p ∙ ap (λ k. k ++ rest) (sym front))))))
-    ] refl
+          (λ rest p. false≢true (sym e ∙ below_back y (l ∷ x) (below-from_root y (l ∷ x) rest (p ∙ ap (λ k. k ++ rest) (sym front)))))))
+    ]
   where
     front : from_root (l ∷ x) ≡ from_root x ++ map to_ascii_lowercase l ∷ []
     front = reverse-append (map to_ascii_lowercase l ∷ []) (lowered x)

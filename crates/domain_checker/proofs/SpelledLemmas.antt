@@ -6,10 +6,6 @@ use Rattle.domain_codecs.{specs.Codec.{base32_octets, base32_digits}, proofs.{Sc
 use Rattle.domain_octets.specs.Words.{Octets}
 use Rattle.domain_checker.specs.HashedList.{read_label}
 
-pub nothing_left : (xs : Octets) → length xs ≡ 0 → xs ≡ []
-nothing_left [] e = refl
-nothing_left (x ∷ xs) e = absurd (omega arith)
-
 -- with no octets left the order is decided by whether others are
 pub ends_alike : (xs : Octets) → nat_eq (length xs) 0 ≡ true → Equal ≡ slice_cmp nat_cmp [] xs
 ends_alike [] h = refl
