@@ -5,6 +5,7 @@ ghost use Rattle.std.specs.List.{list_any, Sorted.{IsSortedByKey, IsStrictlySort
 ghost use Rattle.std.specs.{Ordering.nat_cmp, Cmp.Lexicographic.slice_cmp};
 ghost use Rattle.domain_names.specs.{Name.{is_at_or_below, same_name}, Order.canonical_cmp};
 ghost use Rattle.domain_records.specs.Order.{IsInOrder};
+ghost use Rattle.domain_hasher.specs.declared.error.Nsec3HashError.TheVariants as hash_error;
 ghost use Rattle.domain_zone.specs.Soa.{chain_ttl, soa_of};
 ghost use Rattle.domain_zone.specs.View.{zone_of};
 ghost use Rattle.domain_nsec3.specs.Chain.{IsHashedChain};
@@ -75,6 +76,25 @@ pub(crate) fn hash_after(hashed: &[Hashed], at: usize) -> &[u8]
     hashed[0].hash.as_slice()
 }
 
+/// The chain of these hashes, where no two of them are alike. Takes no memory.
+fn without_collision(
+    hashed: Vec<Hashed>,
+    types: RtypeBitmaps,
+) -> Result<HashedChain, Nsec3HashError>
+    requires { IsSortedByKey (λ h. h.hash) (slice_cmp nat_cmp) hashed.items }
+    ensures ok { IfOk result (λ chain. (chain.hashed.items ≡ hashed.items)
+        × (chain.types ≡ types)) }
+    ensures apart { OnOk result
+        (IsStrictlySortedBy (slice_cmp nat_cmp) (map (λ h. h.hash) hashed.items)) }
+    ensures err { IfErr result (λ e. (e ≡ hash_error.CollisionDetected)
+        × HasAlikeNeighbours hashed.items) }
+{
+    if has_collision(hashed.as_slice()) {
+        return Err(Nsec3HashError::CollisionDetected);
+    }
+    Ok(HashedChain { hashed, types })
+}
+
 /// A chain over these names, of which the first own records and have these types: each is hashed,
 /// in the order of the list, and then they are put in the order of their hashes.
 fn hash_chain<S: Sorter, H: Nsec3Hasher, O: Octets>(
@@ -95,10 +115,7 @@ fn hash_chain<S: Sorter, H: Nsec3Hasher, O: Octets>(
     let mut hashed = hash_names(alloc, hasher, params, apex, names.as_slice())?;
     drop(names);
     sort_by_hash::<S>(&mut hashed)?;
-    if has_collision(hashed.as_slice()) {
-        return Err(Nsec3HashError::CollisionDetected);
-    }
-    Ok(HashedChain { hashed, types })
+    Ok(without_collision(hashed, types)?)
 }
 
 /// The names of a chain: these owners, which stand in canonical order from the apex on, and then
