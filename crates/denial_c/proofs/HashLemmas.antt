@@ -7,9 +7,10 @@ use Rattle.domain_nsec3.specs.{Config.{ChainConfig, Parameters, hash_of}, Faults
 use Rattle.domain_hasher.specs.declared.error.Nsec3HashError.{Nsec3HashError}
 use Rattle.domain_hasher.specs.declared.error.Nsec3HashError.TheVariants.{Hasher, AppendError, OwnerHashError, Nsec3NameTooLong, CollisionDetected, OutOfMemory}
 use Rattle.domain_records.specs.declared.error.SigningError.TheVariants as signing_error
+use Rattle.domain_nsec3.specs.declared.config.Nsec3ParamTtlMode.{Nsec3ParamTtlMode}
 use Rattle.domain_sha1.specs.Iterated.{iterated, sha1_answer}
 use Rattle.domain_zone.specs.Zone.{ZoneRecord}
-use Rattle.denial_c.specs.Chains.{hashing_fault, IsSortedNsec3Fault}
+use Rattle.denial_c.specs.Chains.{hashing_fault, nsec3_making, IsSortedFault}
 
 digest_long : (h : List ℕ) (n : ℕ) → length (digest_bytes h n) ≡ 4 * n
 unfolding digest_bytes
@@ -32,14 +33,14 @@ module _ (L : List ZoneRecord) (a : Name) (config : ChainConfig) (p : Parameters
   first_is_long e h = grind (arith, common_steps, iterated_long)
 
 -- so a fault of hashing is one of two
-pub hashing_faulty : (class : ℕ) (octets : List ℕ) (sorted : List RawRecord) (a : Name) (config : ChainConfig) (p : Parameters)
+pub hashing_faulty : (mode : Nsec3ParamTtlMode) (class : ℕ) (octets : List ℕ) (sorted : List RawRecord) (a : Name) (config : ChainConfig) (p : Parameters)
     → config.hash ≡ hash_by sha1_answer p → p.algorithm ≡ 1
     → (e : Nsec3HashError) → IsFirstFault (zone_of_raw sorted) a config (signing_error.Nsec3HashingError e)
-    → IsSortedNsec3Fault class octets sorted a config (hashing_fault e)
-hashing_faulty class octets sorted a config p by sha1 (Hasher n) h = grind (arith, common_steps)
-hashing_faulty class octets sorted a config p by sha1 AppendError h = absurd h.1
-hashing_faulty class octets sorted a config p by sha1 OwnerHashError h =
+    → IsSortedFault (nsec3_making mode config) class octets a sorted (hashing_fault e)
+hashing_faulty mode class octets sorted a config p by sha1 (Hasher n) h = grind (arith, common_steps)
+hashing_faulty mode class octets sorted a config p by sha1 AppendError h = absurd h.1
+hashing_faulty mode class octets sorted a config p by sha1 OwnerHashError h =
     let wrong = first_is_long _ a config p by sha1 OwnerHashError h.1 in absurd (cc)
-hashing_faulty class octets sorted a config p by sha1 Nsec3NameTooLong h = h
-hashing_faulty class octets sorted a config p by sha1 CollisionDetected h = h
-hashing_faulty class octets sorted a config p by sha1 OutOfMemory h = absurd h.1
+hashing_faulty mode class octets sorted a config p by sha1 Nsec3NameTooLong h = h
+hashing_faulty mode class octets sorted a config p by sha1 CollisionDetected h = h
+hashing_faulty mode class octets sorted a config p by sha1 OutOfMemory h = absurd h.1

@@ -1,9 +1,9 @@
 -- Faults of whole answers, and which questions an error of the hasher is of.
 use Rattle.std.proofs.{Common.{arith, ◌≡◌, ◌<◌, ◌≤◌, ℕ, Bool, true, false, not, ◌||◌, List, Ok, Err, Result, sym, ◌∙◌}, lemmas.Grind.common_steps}
-use Rattle.denial_c.specs.{Judged.{IsNsecAnswer, IsNsecsFault}, Result.IsSpelled, declared.fault.Fault.Fault}
+use Rattle.denial_c.specs.{Among.{AreNsecs, IsReadFault}, Judged.IsNsecAnswer, Result.IsSpelled, declared.fault.Fault.Fault}
 
 pub nsecs_fault : (apex name : List ℕ) (t class : ℕ) (octets : List ℕ) → IsSpelled apex → IsSpelled name → (e : Fault)
-    → IsNsecsFault class octets e → IsNsecAnswer apex name t class octets (Err e)
+    → IsReadFault (AreNsecs class octets) e → IsNsecAnswer apex name t class octets (Err e)
 nsecs_fault apex name t class octets spells spelled e h = grind (arith, common_steps)
 
 module _ {V E : Type 0} (answered : Result V E) (error : E) (is : answered ≡ Err error) where

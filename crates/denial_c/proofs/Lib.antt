@@ -3,7 +3,6 @@ pub mod GivenLemmas
 pub mod ChainLemmas
 pub mod UnevenLemmas
 pub mod HashLemmas
-pub mod CollisionLemmas
 pub mod NsecLemmas
 pub mod Nsec3Lemmas
 pub mod JudgeLemmas

@@ -4,17 +4,13 @@ use Rattle.domain_names.specs.Words.{Name}
 use Rattle.domain_nsec3.specs.Chain.{HashedLink}
 use Rattle.domain_hasher.specs.declared.error.Nsec3HashError.{Nsec3HashError}
 use Rattle.domain_hasher.specs.declared.error.Nsec3HashError.TheVariants as hash_error
-use Rattle.denial_c.specs.{Result.{fault_of, first_parameters, is_known, source_of, IsNsec3Fault, IsSpelled, Source, Spells}, declared.fault.Fault.Fault}
-use Rattle.denial_c.specs.declared.nsec3.Telling.{Telling}
-
-pub chain_fault : (telling : Telling) (apex name : List ℕ) (class : ℕ) (octets : List ℕ) (refused : Type 0) (a : Name) → Spells apex a → IsSpelled name
-    → (e : Fault) → (source_of telling class octets).is_fault a e → IsNsec3Fault (source_of telling class octets) apex name refused e
-chain_fault telling apex name class octets refused a spells spelled e h = grind (arith, common_steps)
+use Rattle.denial_c.specs.Result.{fault_of, first_parameters, is_known, AreAsked, Asks, HashedQuestion, IsNsec3Fault, Source}
 
 -- an error of a check is want of memory, or of a name that is refused
-pub hash_fault : (source : Source) (apex name : List ℕ) (refused : Type 0) (e : Nsec3HashError) → (e ≡ hash_error.OutOfMemory)
-    ⊎ ((n : ℕ) × (e ≡ hash_error.Hasher n)) → ((n : ℕ) → e ≡ hash_error.Hasher n → refused) → IsNsec3Fault source apex name refused (fault_of e)
-hash_fault source apex name refused e h told = grind (arith, common_steps)
+pub hash_fault : {source : Source} {apex name : List ℕ} {q : HashedQuestion} (asked : AreAsked source apex name q) (IsRefused : HashedQuestion → ℕ → Type 0)
+    (e : Nsec3HashError) → (e ≡ hash_error.OutOfMemory) ⊎ ((n : ℕ) × (e ≡ hash_error.Hasher n)) → ((n : ℕ) → e ≡ hash_error.Hasher n → IsRefused q n)
+    → IsNsec3Fault source apex name (Asks source apex name (λ p. (n : ℕ) × IsRefused p n)) (fault_of e)
+hash_fault asked IsRefused e h told = grind (arith, common_steps)
 
 -- what is mapped and passes a test, tested before
 pub map_filter : {X Y : Type 0} (f : X → Y) (q : Y → Bool) (xs : List X) → map f (filter (λ x. q (f x)) xs) ≡ filter q (map f xs)

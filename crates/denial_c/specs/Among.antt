@@ -8,6 +8,7 @@ use Rattle.domain_names.specs.Words.{Name}
 use Rattle.domain_nsec.specs.Chain.{Link}
 use Rattle.domain_nsec3.specs.Chain.{HashedLink, ParamRecord}
 use Rattle.domain_borrowed.specs.{Data.RawRecord, Links.{nsec_record, nsec3_record, param_record, IsNsec, IsNsec3, IsParam}, Wire.{record_octets, IsRecord}}
+use Rattle.denial_c.specs.declared.fault.Fault.{Fault, TheVariants.{Records, OutOfMemory}}
 
 -- of the type and the class
 abbrev pub is_of : ℕ → ℕ → RawRecord → Bool
@@ -35,3 +36,13 @@ AreNsec3s class = AreAmong (is_of rtypes.nsec3 class) nsec3_record IsNsec3
 -- those of the apex alone
 abbrev pub AreParams : Name → ℕ → Octets → List ParamRecord → Type 0
 AreParams a class = AreAmong (is_param a class) param_record IsParam
+
+-- the octets are no records, or the data of one that is to be kept are none
+abbrev pub HasNone : {K : Type 0} → (List K → Type 0) → Type 0
+HasNone Are = (kept : List _) → Are kept → ⊥
+
+-- why no records that are such were kept
+abbrev pub IsReadFault : {K : Type 0} → (List K → Type 0) → Fault → Type 0
+IsReadFault Are Records = HasNone Are
+IsReadFault Are OutOfMemory = Unit {0}
+IsReadFault Are _ = ⊥

@@ -5,26 +5,22 @@ use Rattle.denial_c.specs.declared.chain_fault.ChainFault.{ChainFault}
 use Rattle.denial_c.specs.declared.chain_fault.ChainFault.TheVariants.{Apex, Records, Class, Soa, Ttls, LongSalt, LongOwner, Collision, ShortBuffer}
 use Rattle.denial_c.specs.declared.chain_fault.ChainFault.TheVariants.{OutOfMemory}
 
--- the faults that verdicts have too have the same numbers
-abbrev pub chain_fault_number : ChainFault → ℕ
-chain_fault_number Apex = 16
-chain_fault_number (Records offset) = 18
-chain_fault_number (Class offset) = 22
-chain_fault_number Soa = 23
-chain_fault_number (Ttls offset) = 24
-chain_fault_number (ShortBuffer count) = 25
-chain_fault_number LongSalt = 26
-chain_fault_number LongOwner = 27
-chain_fault_number Collision = 28
-chain_fault_number OutOfMemory = 21
+-- the number of a fault, and the offset where it stands, or how many octets there is no room for; 0
+-- where it has neither. The faults that verdicts have too have the same numbers.
+abbrev pub fault_told : ChainFault → ℕ × ℕ
+fault_told Apex = (16, 0)
+fault_told (Records offset) = (18, offset)
+fault_told OutOfMemory = (21, 0)
+fault_told (Class offset) = (22, offset)
+fault_told Soa = (23, 0)
+fault_told (Ttls offset) = (24, offset)
+fault_told (ShortBuffer count) = (25, count)
+fault_told LongSalt = (26, 0)
+fault_told LongOwner = (27, 0)
+fault_told Collision = (28, 0)
 
--- the offset where a fault stands, or how many octets there is no room for; 0 where it has neither
-abbrev pub fault_count : ChainFault → ℕ
-fault_count (Records offset) = offset
-fault_count (Class offset) = offset
-fault_count (Ttls offset) = offset
-fault_count (ShortBuffer count) = count
-fault_count _ = 0
+abbrev pub chain_fault_number : ChainFault → ℕ
+chain_fault_number fault = (fault_told fault).0
 
 -- a chain was written
 abbrev pub chain_made : ℕ
@@ -37,7 +33,7 @@ chain_number (Err fault) = chain_fault_number fault
 -- how many octets the chain has, or what its fault counts
 abbrev pub chain_count : Result ℕ ChainFault → ℕ
 chain_count (Ok count) = count
-chain_count (Err fault) = fault_count fault
+chain_count (Err fault) = (fault_told fault).1
 
 -- no two names hash alike
 abbrev pub no_collision : ℕ

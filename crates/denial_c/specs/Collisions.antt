@@ -1,23 +1,18 @@
 -- What is answered where two names of an NSEC3 chain hash alike: both names, or exactly why there
 -- is no such answer.
-use Rattle.std.specs.Prelude.{◌≡◌, ℕ, ◌<◌, ◌≤◌, Bool, true, false, ◌++◌, List, length, drop, Option, Some, None, Result, Ok, Err}
+use Rattle.std.specs.Prelude.{◌≡◌, ℕ, Bool, true, false, [], ◌++◌, length, drop, Option, Some, None, Result, Ok, Err}
 use Rattle.domain_octets.specs.Words.{Octets}
 use Rattle.domain_names.specs.{Name.{lowered, wire_of}, Words.Name}
 use Rattle.domain_alike.specs.Alike.{IsFirstPair, Pair}
-use Rattle.domain_borrowed.specs.Data.{RawRecord, zone_of_raw}
+use Rattle.domain_borrowed.specs.Data.{zone_of_raw}
 use Rattle.domain_nsec3.specs.Config.{ChainConfig}
-use Rattle.denial_c.specs.{ChainNumbers.collision_number, Chains.{AreZone, Asking, IsChainFault, Sorts}, declared.chain_fault.ChainFault.ChainFault}
+use Rattle.denial_c.specs.{ChainNumbers.collision_number, Chains.{HasZone, IsChainFault, IsFit, Making}, declared.chain_fault.ChainFault.ChainFault}
 
 -- of the chain of the records, in whatever order they stand, this is the first pair of names that
 -- hash alike, or it has none
-pub record HasFirstPair (apex : Octets) (class : ℕ) (config : ChainConfig) (records : Octets)
-    (pair : Option Pair) : Type 0 where
-  pub a : Name
-  pub given : List RawRecord
-  pub sorted : List RawRecord
-  pub zone : AreZone apex class records a given
-  pub sorts : Sorts given sorted
-  pub first : IsFirstPair (zone_of_raw sorted) a config pair
+abbrev pub HasFirstPair : Octets → ℕ → ChainConfig → Octets → Option Pair → Type 0
+HasFirstPair apex class config records pair =
+    HasZone apex class records (λ a sorted. IsFirstPair (zone_of_raw sorted) a config pair)
 
 -- a buffer, before and after a call
 pub record Written : Type 0 where
@@ -31,15 +26,14 @@ IsNamed n buffer = buffer.new ≡ wire_of (lowered n) ++ drop (length (wire_of n
 abbrev pub IsKept : Written → Type 0
 IsKept buffer = buffer.new ≡ buffer.old
 
--- what is asked is fit for a chain or its salt is too long, and no other fault of a chain counts
-abbrev pub pair_asking : ChainConfig → Asking
-pair_asking config =
+-- of names that hash alike no chain is made, and no fault of a zone counts
+abbrev pub pair_making : ChainConfig → Making
+pair_making config =
     record {
-      is_fit = length config.parameters.salt ≤ 255;
-      is_long = 255 < length config.parameters.salt;
-      is_chain = λ written. ⊥;
-      has_fault = λ error. ⊥;
-      is_uneven_at = λ offset. ⊥;
+      salt = config.parameters.salt;
+      is_chain = λ a sorted written. ⊥;
+      is_fault = λ a sorted error. ⊥;
+      names = λ L a. [];
     }
 
 -- what is answered, and what both buffers have then: the earlier name of the pair and the later
@@ -47,14 +41,14 @@ pair_asking config =
 abbrev pub IsCollisionResult : Octets → ℕ → ChainConfig → Octets → Result Bool ChainFault → Written
     → Written → Type 0
 IsCollisionResult apex class config records (Ok true) earlier later =
-    (length config.parameters.salt ≤ 255)
+    IsFit (pair_making config)
     × ((pair : Pair) × HasFirstPair apex class config records (Some pair) × IsNamed pair.1 earlier
     × IsNamed pair.0 later)
 IsCollisionResult apex class config records (Ok false) earlier later =
-    (length config.parameters.salt ≤ 255) × HasFirstPair apex class config records None
+    IsFit (pair_making config) × HasFirstPair apex class config records None
     × IsKept earlier × IsKept later
 IsCollisionResult apex class config records (Err e) earlier later =
-    IsChainFault (pair_asking config) apex class records earlier.old e × IsKept earlier
+    IsChainFault (pair_making config) apex class records earlier.old e × IsKept earlier
     × IsKept later
 
 -- ---- what C is told

@@ -20,12 +20,16 @@ pub record IsReadUpTo (class : ℕ) (octets : Octets) (offset : ℕ) (left : Oct
   pub whole : AllByRecursion (IsOfClass class) before
   pub far : offset ≡ length (flat_map record_octets before)
 
+-- octets, but such as begin with no record
+pub record BeginsNone (octets : Octets) : Type 0 where
+  pub some : octets ≢ []
+  pub none : (r : RawRecord) (after : Octets) → IsRecord r → octets ≡ record_octets r ++ after → ⊥
+
 -- after records of the class come octets that begin with no record
 pub record HasNoRecordAt (class : ℕ) (octets : Octets) (offset : ℕ) : Type 0 where
   pub left : Octets
   pub read : IsReadUpTo class octets offset left
-  pub some : left ≢ []
-  pub none : (r : RawRecord) (after : Octets) → IsRecord r → left ≡ record_octets r ++ after → ⊥
+  pub none : BeginsNone left
 
 -- after records of the class comes one of another class
 pub record HasOtherClassAt (class : ℕ) (octets : Octets) (offset : ℕ) : Type 0 where

@@ -9,7 +9,7 @@ use Rattle.domain_answer.specs.Expansion.{closer_name, is_expanded, ExpansionRes
 use Rattle.domain_answer.specs.{HashedProved.{HashedRestsOn, IsHashedAnswered}, HashedReading.{IsFirstOfRefusals, IsHashedRead}}
 use Rattle.domain_answer.specs.{Proved.{needs_no_records, CountsWithin, IsAnswered, RestsOn}, Reading.reading, ZoneAnswer.is_at_parent}
 use Rattle.domain_answer.specs.declared.answer.Answer.{Answer, TheVariants.{OutsideZone, AtParent, NotProven, TooManyIterations}}
-use Rattle.denial_c.specs.Result.{sha1_records, AreAsked, AreNsecsAsked, HasNoNsecs, HashedQuestion, IsNsecFault, IsNsec3Fault, Source}
+use Rattle.denial_c.specs.Result.{sha1_records, AreNsecsAsked, HashedQuestion, IsHashedResult, IsNsecFault, Source}
 use Rattle.denial_c.specs.declared.fault.Fault.{Fault}
 use Rattle.denial_c.specs.declared.fault.Fault.TheVariants as fault
 
@@ -27,12 +27,6 @@ pub record HasNsecAnswer (apex name : Octets) (t class : ℕ) (records : Octets)
   pub exact : answer ≡ reading a links x t
   pub within : CountsWithin (length x) answer
 
--- why there are no NSEC records
-abbrev pub IsNsecsFault : ℕ → Octets → Fault → Type 0
-IsNsecsFault class records fault.Records = HasNoNsecs class records
-IsNsecsFault class records fault.OutOfMemory = Unit {0}
-IsNsecsFault class records _ = ⊥
-
 -- of faults the first that stands is told, but for want of memory, which may come before others
 abbrev pub IsNsecAnswer : Octets → Octets → ℕ → ℕ → Octets → Result Answer Fault → Type 0
 IsNsecAnswer apex name t class records (Ok answer) = HasNsecAnswer apex name t class records answer
@@ -42,10 +36,7 @@ IsNsecAnswer apex name t class records (Err e) = IsNsecFault apex name class rec
 -- ---- NSEC3
 
 -- the answer to the name and the type t, with at most so many iterations
-pub record HasNsec3Answer (source : Source) (apex name : Octets) (t limit : ℕ) (answer : Answer)
-    : Type 0 where
-  pub q : HashedQuestion
-  pub asked : AreAsked source apex name q
+pub record IsHashedAnswer (q : HashedQuestion) (t limit : ℕ) (answer : Answer) : Type 0 where
   pub outside : is_at_or_below q.name q.apex ≡ false → answer ≡ OutsideZone
   pub parent : is_at_or_below q.name q.apex ≡ true → is_at_parent q.apex q.name t ≡ true
       → answer ≡ AtParent
@@ -59,29 +50,21 @@ pub record HasNsec3Answer (source : Source) (apex name : Octets) (t limit : ℕ)
   pub within : CountsWithin (length q.name) answer
 
 -- names are hashed, and the hasher refuses one of these
-pub record IsAnswerRefused (source : Source) (apex name : Octets) (t limit : ℕ) : Type 0 where
-  pub q : HashedQuestion
-  pub reason : ℕ
-  pub asked : AreAsked source apex name q
+pub record IsAnswerRefused (q : HashedQuestion) (t limit reason : ℕ) : Type 0 where
   pub needed : needs_no_records q.apex q.name t ≡ false
   pub allowed : q.param.parameters.iterations ≤ limit
   pub first : IsFirstOfRefusals (sha1_records q) q.name t reason
 
--- of faults the first that stands is told, but for want of memory, which may come before others
 abbrev pub IsNsec3Answer : Source → Octets → Octets → ℕ → ℕ → Result Answer Fault → Type 0
-IsNsec3Answer source apex name t limit (Ok answer) =
-    HasNsec3Answer source apex name t limit answer
-IsNsec3Answer source apex name t limit (Err e) =
-    IsNsec3Fault source apex name (IsAnswerRefused source apex name t limit) e
+IsNsec3Answer source apex name t limit =
+    IsHashedResult source apex name (λ q. IsHashedAnswer q t limit)
+    (λ q. IsAnswerRefused q t limit)
 
 -- ---- NSEC3, of a name whose records were expanded from a wildcard
 
 -- the answer, where n is the field Labels of the signatures of those records, with at most so many
 -- iterations
-pub record HasExpansionAnswer (source : Source) (apex name : Octets) (n limit : ℕ)
-    (answer : Answer) : Type 0 where
-  pub q : HashedQuestion
-  pub asked : AreAsked source apex name q
+pub record IsOfExpansion (q : HashedQuestion) (n limit : ℕ) (answer : Answer) : Type 0 where
   pub outside : is_at_or_below q.name q.apex ≡ false → answer ≡ OutsideZone
   pub none : is_at_or_below q.name q.apex ≡ true → is_expanded q.apex q.name n ≡ false
       → answer ≡ NotProven
@@ -95,18 +78,12 @@ pub record HasExpansionAnswer (source : Source) (apex name : Octets) (n limit : 
   pub within : CountsWithin (length q.name) answer
 
 -- the one name that is hashed, the next closer name, is refused by the hasher
-pub record IsExpansionRefused (source : Source) (apex name : Octets) (n limit : ℕ)
-    : Type 0 where
-  pub q : HashedQuestion
-  pub reason : ℕ
-  pub asked : AreAsked source apex name q
+pub record IsExpansionRefused (q : HashedQuestion) (n limit reason : ℕ) : Type 0 where
   pub needed : is_expanded q.apex q.name n ≡ true
   pub allowed : q.param.parameters.iterations ≤ limit
   pub refused : hash_name (sha1_records q).hash (closer_name n q.name) ≡ Err reason
 
--- of faults the first that stands is told, but for want of memory, which may come before others
 abbrev pub IsExpansionAnswer : Source → Octets → Octets → ℕ → ℕ → Result Answer Fault → Type 0
-IsExpansionAnswer source apex name n limit (Ok answer) =
-    HasExpansionAnswer source apex name n limit answer
-IsExpansionAnswer source apex name n limit (Err e) =
-    IsNsec3Fault source apex name (IsExpansionRefused source apex name n limit) e
+IsExpansionAnswer source apex name n limit =
+    IsHashedResult source apex name (λ q. IsOfExpansion q n limit)
+    (λ q. IsExpansionRefused q n limit)

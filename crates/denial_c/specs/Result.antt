@@ -11,7 +11,7 @@ use Rattle.domain_hasher.specs.declared.error.Nsec3HashError.TheVariants as hash
 use Rattle.domain_checker.specs.{HashedReading.IsWalked, HashedVerdict.{HasHashedProof, IsFirstRefusal, IsHashedProved}, HashedView.{HashedRecords, links_with}}
 use Rattle.domain_checker.specs.{Reading.reading, Verdict.{HasProof, IsProved, IsWithin}, declared.verdict.Verdict.Verdict}
 use Rattle.domain_checker.specs.declared.verdict.Verdict.TheVariants.{NotProven, OutsideZone}
-use Rattle.denial_c.specs.{Among.{AreNsecs, AreNsec3s, AreParams}, Numbers.{number_of, labels_of}, declared.fault.Fault.Fault}
+use Rattle.denial_c.specs.{Among.{AreNsecs, AreNsec3s, AreParams, HasNone, IsReadFault}, Numbers.{number_of, labels_of}, declared.fault.Fault.Fault}
 use Rattle.denial_c.specs.declared.fault.Fault.TheVariants as fault
 use Rattle.denial_c.specs.declared.nsec3.Telling.{Telling}
 use Rattle.denial_c.specs.declared.nsec3.Telling.TheVariants as telling
@@ -47,16 +47,12 @@ pub record HasNsecVerdict (apex name : Octets) (t class : ℕ) (records : Octets
   pub exact : verdict ≡ reading a links x t
   pub within : IsWithin (length x) verdict
 
--- no records, or NSEC records whose data are none
-abbrev pub HasNoNsecs : ℕ → Octets → Type 0
-HasNoNsecs class records = (links : List Link) → AreNsecs class records links → ⊥
-
 -- of faults the first that stands is told
 abbrev pub IsNsecFault : Octets → Octets → ℕ → Octets → Fault → Type 0
 IsNsecFault apex name class records fault.Apex = IsSpelled apex → ⊥
 IsNsecFault apex name class records fault.Name = IsSpelled apex × (IsSpelled name → ⊥)
 IsNsecFault apex name class records fault.Records =
-    IsSpelled apex × IsSpelled name × HasNoNsecs class records
+    IsSpelled apex × IsSpelled name × HasNone (AreNsecs class records)
 IsNsecFault apex name class records _ = ⊥
 
 abbrev pub IsNsecResult : Octets → Octets → ℕ → ℕ → Octets → Result Verdict Fault → Type 0
@@ -89,11 +85,15 @@ pub record AreAsked (source : Source) (apex name : Octets) (q : HashedQuestion) 
   pub name_is : Spells name q.name
   pub are : source.are q.apex q.links q.param
 
--- the verdict on the type t
-pub record HasNsec3Verdict (source : Source) (apex name : Octets) (t : ℕ) (verdict : Verdict)
+-- the octets are a question of which this holds
+pub record Asks (source : Source) (apex name : Octets) (Holds : HashedQuestion → Type 0)
     : Type 0 where
   pub q : HashedQuestion
   pub asked : AreAsked source apex name q
+  pub holds : Holds q
+
+-- the verdict on the type t
+pub record IsNsec3Verdict (q : HashedQuestion) (t : ℕ) (verdict : Verdict) : Type 0 where
   pub outside : is_at_or_below q.name q.apex ≡ false → verdict ≡ OutsideZone
   pub zone : IsHashedProved (sha1_records q) q.name t verdict
   pub exact : is_at_or_below q.name q.apex ≡ true → IsWalked (sha1_records q) q.name t verdict
@@ -101,48 +101,24 @@ pub record HasNsec3Verdict (source : Source) (apex name : Octets) (t : ℕ) (ver
       → HasHashedProof (sha1_records q) q.name
   pub within : IsWithin (length q.name) verdict
 
--- the hasher refuses a name that is asked for
-pub record IsRefused (source : Source) (apex name : Octets) : Type 0 where
-  pub q : HashedQuestion
-  pub reason : ℕ
-  pub asked : AreAsked source apex name q
-  pub first : IsFirstRefusal (sha1_records q) q.name reason
-
--- no records, or NSEC3 records whose data are none
-abbrev pub HasNoNsec3s : ℕ → Octets → Type 0
-HasNoNsec3s class records = (links : List HashedLink) → AreNsec3s class records links → ⊥
-
--- no records, or NSEC3PARAM records of the apex whose data are none
-abbrev pub HasNoParams : Name → ℕ → Octets → Type 0
-HasNoParams a class records = (params : List ParamRecord) → AreParams a class records params → ⊥
-
 -- the apex has none or several NSEC3PARAM records
 pub record HasNoParam (a : Name) (class : ℕ) (records : Octets) : Type 0 where
   pub params : List ParamRecord
   pub are : AreParams a class records params
   pub others : length params ≢ 1
 
--- why there are no NSEC3 records
-abbrev pub IsNsec3sFault : ℕ → Octets → Fault → Type 0
-IsNsec3sFault class records fault.Records = HasNoNsec3s class records
-IsNsec3sFault class records fault.OutOfMemory = Unit {0}
-IsNsec3sFault class records _ = ⊥
-
 -- why there is no NSEC3PARAM record
 abbrev pub IsParamFault : Name → ℕ → Octets → Fault → Type 0
-IsParamFault a class records fault.Records = HasNoParams a class records
 IsParamFault a class records fault.Param = HasNoParam a class records
-IsParamFault a class records fault.OutOfMemory = Unit {0}
-IsParamFault a class records _ = ⊥
+IsParamFault a class records e = IsReadFault (AreParams a class records) e
 
 -- why not both are there
 abbrev pub IsChainFault : ℕ → Octets → Name → Fault → Type 0
 IsChainFault class records a fault.Records =
-    HasNoNsec3s class records ⊎ HasNoParams a class records
+    HasNone (AreNsec3s class records) ⊎ HasNone (AreParams a class records)
 IsChainFault class records a fault.Param =
     (links : List HashedLink) × AreNsec3s class records links × HasNoParam a class records
-IsChainFault class records a fault.OutOfMemory = Unit {0}
-IsChainFault class records a _ = ⊥
+IsChainFault class records a e = IsReadFault (AreNsec3s class records) e
 
 -- the NSEC3 records of a class, and the one NSEC3PARAM record of the apex
 pub record AreWithParam (class : ℕ) (records : Octets) (a : Name) (links : List HashedLink)
@@ -182,7 +158,7 @@ abbrev pub alone : ℕ → Octets → Source
 alone class records =
     record {
       are = AreAlone class records;
-      is_fault = λ a. IsNsec3sFault class records;
+      is_fault = λ a. IsReadFault (AreNsec3s class records);
     }
 
 -- where they are from is chosen
@@ -211,10 +187,19 @@ abbrev pub fault_of : Nsec3HashError → Fault
 fault_of hash_error.OutOfMemory = fault.OutOfMemory
 fault_of e = fault.Hasher
 
+-- what is told of a question, or why nothing is; the hasher may refuse a name for such a reason
+abbrev pub IsHashedResult : {V : Type 0} → Source → Octets → Octets
+    → (HashedQuestion → V → Type 0) → (HashedQuestion → ℕ → Type 0) → Result V Fault → Type 0
+IsHashedResult source apex name IsTold IsRefused (Ok told) =
+    Asks source apex name (λ q. IsTold q told)
+IsHashedResult source apex name IsTold IsRefused (Err e) =
+    IsNsec3Fault source apex name (Asks source apex name (λ q. (n : ℕ) × IsRefused q n)) e
+
+-- the first refusal is that of a name that is asked for
 abbrev pub IsNsec3Result : Source → Octets → Octets → ℕ → Result Verdict Fault → Type 0
-IsNsec3Result source apex name t (Ok verdict) = HasNsec3Verdict source apex name t verdict
-IsNsec3Result source apex name t (Err e) =
-    IsNsec3Fault source apex name (IsRefused source apex name) e
+IsNsec3Result source apex name t =
+    IsHashedResult source apex name (λ q. IsNsec3Verdict q t)
+    (λ q. IsFirstRefusal (sha1_records q) q.name)
 
 -- ---- what C is told
 

@@ -1,49 +1,50 @@
 //! Verdicts, whole answers and faults as C sees them.
 ghost use Rattle.std.specs.Prelude.{◌≡◌};
-ghost use Rattle.denial_c.specs.Numbers.{answer_labels, answer_number, fault_number, verdict_labels, verdict_number};
-ghost use Rattle.denial_c.specs.Numbers.{labels_of, number_of};
+ghost use Rattle.denial_c.specs.Numbers.{answer_labels, answer_number, answer_told, fault_number, labels_of, number_of};
+ghost use Rattle.denial_c.specs.Numbers.{verdict_labels, verdict_number, verdict_told};
 
 use crate::fault::Fault;
 use domain_answer::Answer;
 use domain_checker::Verdict;
 
-/// The number of a verdict.
-fn verdict_number(verdict: Verdict) -> u32
-    ensures { result ≡ verdict_number verdict }
+/// The number of a verdict, and how many labels the closest encloser has; 0 where it has none.
+fn verdict_told(verdict: Verdict) -> (u32, usize)
+    ensures { result ≡ verdict_told verdict }
 {
     match verdict {
-        Verdict::NotProven => 0,
-        Verdict::OutsideZone => 1,
-        Verdict::BelowDelegation => 2,
-        Verdict::Has => 3,
-        Verdict::NoType => 4,
-        Verdict::EmptyName => 5,
-        Verdict::OptOut(_) => 6,
-        Verdict::NoName(_) => 7,
+        Verdict::NotProven => (0, 0),
+        Verdict::OutsideZone => (1, 0),
+        Verdict::BelowDelegation => (2, 0),
+        Verdict::Has => (3, 0),
+        Verdict::NoType => (4, 0),
+        Verdict::EmptyName => (5, 0),
+        Verdict::OptOut(count) => (6, count),
+        Verdict::NoName(count) => (7, count),
     }
 }
 
-/// The number of a whole answer.
-fn answer_number(answer: Answer) -> u32
-    ensures { result ≡ answer_number answer }
+/// The number of a whole answer, and how many labels the zone cut, the owner of the DNAME record or
+/// the closest encloser has; 0 where it has none.
+fn answer_told(answer: Answer) -> (u32, usize)
+    ensures { result ≡ answer_told answer }
 {
     match answer {
-        Answer::NotProven => 32,
-        Answer::OutsideZone => 33,
-        Answer::AtParent => 34,
-        Answer::Referral(_) => 35,
-        Answer::Redirected(_) => 36,
-        Answer::Has => 37,
-        Answer::NoDs => 38,
-        Answer::Alias => 39,
-        Answer::NoData => 40,
-        Answer::Wildcard(_) => 41,
-        Answer::WildcardAlias(_) => 42,
-        Answer::WildcardNoData(_) => 43,
-        Answer::NameError(_) => 44,
-        Answer::MayBeUnsigned(_) => 45,
-        Answer::NoCloserName(_) => 46,
-        Answer::TooManyIterations => 47,
+        Answer::NotProven => (32, 0),
+        Answer::OutsideZone => (33, 0),
+        Answer::AtParent => (34, 0),
+        Answer::Referral(count) => (35, count),
+        Answer::Redirected(count) => (36, count),
+        Answer::Has => (37, 0),
+        Answer::NoDs => (38, 0),
+        Answer::Alias => (39, 0),
+        Answer::NoData => (40, 0),
+        Answer::Wildcard(count) => (41, count),
+        Answer::WildcardAlias(count) => (42, count),
+        Answer::WildcardNoData(count) => (43, count),
+        Answer::NameError(count) => (44, count),
+        Answer::MayBeUnsigned(count) => (45, count),
+        Answer::NoCloserName(count) => (46, count),
+        Answer::TooManyIterations => (47, 0),
     }
 }
 
@@ -61,34 +62,6 @@ fn fault_number(fault: Fault) -> u32
     }
 }
 
-/// How many labels the closest encloser has; 0 where the verdict has none.
-fn verdict_labels(verdict: Verdict) -> usize
-    ensures { result ≡ verdict_labels verdict }
-{
-    match verdict {
-        Verdict::OptOut(count) | Verdict::NoName(count) => count,
-        _ => 0,
-    }
-}
-
-/// How many labels the zone cut, the owner of the DNAME record or the closest encloser has; 0 where
-/// the answer has none.
-fn answer_labels(answer: Answer) -> usize
-    ensures { result ≡ answer_labels answer }
-{
-    match answer {
-        Answer::Referral(count)
-        | Answer::Redirected(count)
-        | Answer::Wildcard(count)
-        | Answer::WildcardAlias(count)
-        | Answer::WildcardNoData(count)
-        | Answer::NameError(count)
-        | Answer::MayBeUnsigned(count)
-        | Answer::NoCloserName(count) => count,
-        _ => 0,
-    }
-}
-
 /// Writes the labels of a verdict, and gives its number.
 pub(crate) fn tell_verdict(verdict: Result<Verdict, Fault>, labels: &mut usize) -> u32
     ensures number { result ≡ number_of verdict_number verdict }
@@ -96,8 +69,9 @@ pub(crate) fn tell_verdict(verdict: Result<Verdict, Fault>, labels: &mut usize) 
 {
     match verdict {
         Ok(verdict) => {
-            *labels = verdict_labels(verdict);
-            verdict_number(verdict)
+            let (number, count) = verdict_told(verdict);
+            *labels = count;
+            number
         }
         Err(fault) => {
             *labels = 0;
@@ -113,8 +87,9 @@ pub(crate) fn tell_answer(answer: Result<Answer, Fault>, labels: &mut usize) -> 
 {
     match answer {
         Ok(answer) => {
-            *labels = answer_labels(answer);
-            answer_number(answer)
+            let (number, count) = answer_told(answer);
+            *labels = count;
+            number
         }
         Err(fault) => {
             *labels = 0;

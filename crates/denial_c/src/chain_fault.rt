@@ -1,6 +1,6 @@
 //! Why there is no chain, and the numbers of that.
 ghost use Rattle.std.specs.Prelude.{◌≡◌};
-ghost use Rattle.denial_c.specs.ChainNumbers.{chain_count, chain_fault_number, chain_number, fault_count};
+ghost use Rattle.denial_c.specs.ChainNumbers.{chain_count, chain_fault_number, chain_number, fault_told};
 ghost use Rattle.denial_c.specs.declared.chain_fault.ChainFault.TheVariants.{OutOfMemory as memory};
 
 use domain_octets::OutOfMemory;
@@ -39,35 +39,30 @@ impl From<OutOfMemory> for ChainFault {
     }
 }
 
+/// The number of a fault, and what it counts: the offset where it stands, or the octets that there
+/// is no room for. 0 where it counts nothing.
+fn fault_told(fault: ChainFault) -> (u32, usize)
+    ensures { result ≡ fault_told fault }
+{
+    match fault {
+        ChainFault::Apex => (16, 0),
+        ChainFault::Records(offset) => (18, offset),
+        ChainFault::OutOfMemory => (21, 0),
+        ChainFault::Class(offset) => (22, offset),
+        ChainFault::Soa => (23, 0),
+        ChainFault::Ttls(offset) => (24, offset),
+        ChainFault::ShortBuffer(count) => (25, count),
+        ChainFault::LongSalt => (26, 0),
+        ChainFault::LongOwner => (27, 0),
+        ChainFault::Collision => (28, 0),
+    }
+}
+
 /// The number of a fault.
 pub(crate) fn chain_fault_number(fault: ChainFault) -> u32
     ensures { result ≡ chain_fault_number fault }
 {
-    match fault {
-        ChainFault::Apex => 16,
-        ChainFault::Records(_) => 18,
-        ChainFault::OutOfMemory => 21,
-        ChainFault::Class(_) => 22,
-        ChainFault::Soa => 23,
-        ChainFault::Ttls(_) => 24,
-        ChainFault::ShortBuffer(_) => 25,
-        ChainFault::LongSalt => 26,
-        ChainFault::LongOwner => 27,
-        ChainFault::Collision => 28,
-    }
-}
-
-/// What a fault counts: the offset where it stands, or the octets that there is no room for. 0
-/// where it counts nothing.
-fn fault_count(fault: ChainFault) -> usize
-    ensures { result ≡ fault_count fault }
-{
-    match fault {
-        ChainFault::Records(offset) | ChainFault::Class(offset) | ChainFault::Ttls(offset) =>
-            offset,
-        ChainFault::ShortBuffer(count) => count,
-        _ => 0,
-    }
+    fault_told(fault).0
 }
 
 /// Writes what is counted, the octets of the chain or what its fault counts, and gives the number.
@@ -81,8 +76,9 @@ pub(crate) fn tell_chain(chain: Result<usize, ChainFault>, count: &mut usize) ->
             48
         }
         Err(fault) => {
-            *count = fault_count(fault);
-            chain_fault_number(fault)
+            let (number, counted) = fault_told(fault);
+            *count = counted;
+            number
         }
     }
 }

@@ -1,49 +1,17 @@
 //! What the NSEC or NSEC3 records in octets answer as a whole.
-ghost use Rattle.std.specs.Prelude.{IfErr, IfOk};
-ghost use Rattle.domain_nsec.specs.ChainView.{links_of};
-ghost use Rattle.denial_c.specs.Among.{AreNsecs};
 ghost use Rattle.denial_c.specs.Result.{source_of};
-ghost use Rattle.denial_c.specs.Judged.{IsExpansionAnswer, IsNsecAnswer, IsNsec3Answer, IsNsecsFault};
+ghost use Rattle.denial_c.specs.Judged.{IsExpansionAnswer, IsNsecAnswer, IsNsec3Answer};
 
-use crate::among::is_of;
+use crate::among::records_among;
 use crate::fault::Fault;
 use crate::nsec::read_name;
 use crate::nsec3::Telling;
 use crate::question::{Question, read_question};
 use domain_answer::{Answer, judge_nsec, judge_nsec3, judge_nsec3_expansion};
 use domain_base::{Class, Rtype};
-use domain_borrowed::{ReadNsec, into_nsec, read_record};
-use domain_octets::Parser;
+use domain_borrowed::ReadNsec;
 use domain_sha1::Sha1Hasher;
 use std::alloc::Global;
-
-/// The NSEC records of the class among the records that the octets are. Refuses octets that are no
-/// records, and NSEC records whose data are none.
-fn nsecs_among<'a>(
-    alloc: Global,
-    class: Class,
-    octets: &'a [u8],
-) -> Result<Vec<ReadNsec<'a>>, Fault>
-    ensures ok { IfOk result (λ nsecs. AreNsecs class octets.now (links_of (λ n. n) nsecs.items)) }
-    ensures err { IfErr result (IsNsecsFault class octets.now) }
-{
-    let mut nsecs = Vec::new(alloc);
-    let mut parser = Parser::new(octets);
-    'records: while parser.remaining() > 0 {
-        let Some(record) = read_record(&mut parser) else {
-            return Err(Fault::Records);
-        };
-        if is_of(&record, Rtype::NSEC, class) {
-            let Some(nsec) = into_nsec(record) else {
-                return Err(Fault::Records);
-            };
-            let Ok(()) = nsecs.push(nsec) else {
-                return Err(Fault::OutOfMemory);
-            };
-        }
-    }
-    Ok(nsecs)
-}
 
 /// What the NSEC records of the class among the records that the octets are answer to the name and
 /// the type.
@@ -59,7 +27,7 @@ pub(crate) fn nsec_answer(
 {
     let apex = read_name(apex, Fault::Apex)?;
     let name = read_name(name, Fault::Name)?;
-    let nsecs = nsecs_among(alloc, Class::from_int(class), records)?;
+    let nsecs: Vec<ReadNsec<'_>> = records_among(alloc, &apex, Class::from_int(class), records)?;
     Ok(judge_nsec(&apex, &nsecs, &name, Rtype::from_int(rtype)))
 }
 

@@ -5,11 +5,11 @@ ghost use Rattle.domain_nsec.specs.Chain.{Link};
 ghost use Rattle.domain_checker.specs.HandedIn.{HasRead};
 ghost use Rattle.denial_c.specs.{Among.AreNsecs, Result.{IsNsecResult, Spells, IsSpelled}};
 
-use crate::among::is_of;
+use crate::among::{is_of, next_record};
 use crate::fault::Fault;
 use domain_base::laws::octets_begin_with_one_name;
 use domain_base::{Class, ParsedName, Rtype, ToName};
-use domain_borrowed::{into_nsec, read_record};
+use domain_borrowed::into_nsec;
 use domain_checker::{NsecCheck, Verdict};
 use domain_octets::Parser;
 
@@ -39,7 +39,7 @@ fn hand_in(check: &mut NsecCheck<'_>, class: Class, octets: &[u8]) -> Result<(),
 {
     let mut parser = Parser::new(octets);
     'records: while parser.remaining() > 0 {
-        let Some(record) = read_record(&mut parser) else {
+        let Some(record) = next_record(&mut parser) else {
             return Err(Fault::Records);
         };
         if is_of(&record, Rtype::NSEC, class) {

@@ -1,19 +1,19 @@
 //! What the NSEC3 records in octets prove.
-ghost use Rattle.std.specs.Prelude.{◌≡◌, [], ◌∷◌, filter, map, IfErr, IfOk};
+ghost use Rattle.std.specs.Prelude.{◌≡◌, [], ◌∷◌, filter, IfErr, IfOk};
 ghost use Rattle.domain_nsec3.specs.View.{as_hashed_link, as_param_record, hashed_links_of, parameters_of};
-ghost use Rattle.denial_c.specs.Among.{AreNsec3s, AreParams};
+ghost use Rattle.denial_c.specs.Among.{AreNsec3s, AreParams, IsReadFault};
 ghost use Rattle.domain_checker.specs.HashedView.{links};
-ghost use Rattle.denial_c.specs.Result.{first_parameters, is_known, source_of, AreAlone, AreWithParam, IsChainFault, IsNsec3Result, IsNsec3sFault, IsParamFault};
+ghost use Rattle.denial_c.specs.Result.{first_parameters, is_known, source_of, AreAlone, AreWithParam, IsChainFault, IsNsec3Result, IsParamFault};
 
-use crate::among::is_of;
+use crate::among::records_among;
 use crate::fault::Fault;
 use crate::question::{Question, read_question};
 use domain_base::{Class, Nsec3HashAlgorithm, ParsedName, Rtype, ToName, Ttl};
-use domain_borrowed::{ReadNsec3, ReadNsec3param, into_nsec3, into_nsec3param, read_record};
+use domain_borrowed::{ReadNsec3, ReadNsec3param};
 use domain_chain_rdata::Nsec3param;
 use domain_checker::{Verdict, check_nsec3};
 use domain_nsec3::Nsec3Records;
-use domain_octets::{OutOfMemory, Parser, TryClone};
+use domain_octets::{OutOfMemory, TryClone};
 use domain_record::Record;
 use domain_sha1::Sha1Hasher;
 use std::alloc::Global;
@@ -27,65 +27,6 @@ pub(crate) enum Telling {
     ByFirst,
 }
 
-/// The NSEC3 records of the class among the records that the octets are. Refuses octets that are no
-/// records, and NSEC3 records whose data are none.
-fn nsec3s_among<'a>(
-    alloc: Global,
-    class: Class,
-    octets: &'a [u8],
-) -> Result<Vec<ReadNsec3<'a>>, Fault>
-    ensures ok { IfOk result (λ nsec3s. AreNsec3s class octets.now
-        (hashed_links_of (λ n. n) nsec3s.items)) }
-    ensures err { IfErr result (IsNsec3sFault class octets.now) }
-{
-    let mut nsec3s = Vec::new(alloc);
-    let mut parser = Parser::new(octets);
-    'records: while parser.remaining() > 0 {
-        let Some(record) = read_record(&mut parser) else {
-            return Err(Fault::Records);
-        };
-        if is_of(&record, Rtype::NSEC3, class) {
-            let Some(nsec3) = into_nsec3(record) else {
-                return Err(Fault::Records);
-            };
-            let Ok(()) = nsec3s.push(nsec3) else {
-                return Err(Fault::OutOfMemory);
-            };
-        }
-    }
-    Ok(nsec3s)
-}
-
-/// The NSEC3PARAM records of the apex and the class among the records that the octets are. Refuses
-/// octets that are no records, and such records whose data are none.
-fn params_among<'a>(
-    alloc: Global,
-    apex: &ParsedName<'_>,
-    class: Class,
-    octets: &'a [u8],
-) -> Result<Vec<ReadNsec3param<'a>>, Fault>
-    ensures ok { IfOk result (λ params. AreParams apex.now class octets.now
-        (map (as_param_record (λ n. n)) params.items)) }
-    ensures err { IfErr result (IsParamFault apex.now class octets.now) }
-{
-    let mut params = Vec::new(alloc);
-    let mut parser = Parser::new(octets);
-    'records: while parser.remaining() > 0 {
-        let Some(record) = read_record(&mut parser) else {
-            return Err(Fault::Records);
-        };
-        if is_of(&record, Rtype::NSEC3PARAM, class) & record.owner().name_eq(apex) {
-            let Some(param) = into_nsec3param(record) else {
-                return Err(Fault::Records);
-            };
-            let Ok(()) = params.push(param) else {
-                return Err(Fault::OutOfMemory);
-            };
-        }
-    }
-    Ok(params)
-}
-
 /// The one NSEC3PARAM record of the apex and the class among the records that the octets are.
 fn param_among<'a>(
     alloc: Global,
@@ -97,7 +38,7 @@ fn param_among<'a>(
         (as_param_record (λ n. n) param ∷ [])) }
     ensures err { IfErr result (IsParamFault apex.now class octets.now) }
 {
-    let mut params = params_among(alloc, apex, class, octets)?;
+    let mut params: Vec<ReadNsec3param<'a>> = records_among(alloc, apex, class, octets)?;
     let Some(param) = params.pop() else {
         return Err(Fault::Param);
     };
@@ -119,7 +60,7 @@ fn chain_among<'a>(
         (links (λ n. n) chain) (as_param_record (λ n. n) chain.nsec3param)) }
     ensures err { IfErr result (IsChainFault class octets.now apex.now) }
 {
-    let nsec3s = nsec3s_among(alloc, class, octets)?;
+    let nsec3s = records_among(alloc, apex, class, octets)?;
     let param = param_among(alloc, apex, class, octets)?;
     Ok(Nsec3Records::new(nsec3s, param))
 }
@@ -172,9 +113,9 @@ fn alone_among<'a>(
 ) -> Result<Nsec3Records<ParsedName<'a>, &'a [u8]>, Fault>
     ensures ok { IfOk result (λ chain. AreAlone class octets.now apex.now (links (λ n. n) chain)
         (as_param_record (λ n. n) chain.nsec3param)) }
-    ensures err { IfErr result (IsNsec3sFault class octets.now) }
+    ensures err { IfErr result (IsReadFault (AreNsec3s class octets.now)) }
 {
-    let all = nsec3s_among(alloc, class, octets)?;
+    let all = records_among(alloc, apex, class, octets)?;
     let known = known_of(apex, all);
     let Ok(params) = first_params(alloc, &known) else {
         return Err(Fault::OutOfMemory);

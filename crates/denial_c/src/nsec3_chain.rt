@@ -1,14 +1,9 @@
 //! The NSEC3 chain of the records in octets.
-ghost use Rattle.std.specs.Prelude.{◌≡◌, ◌≤◌, ◌<◌, List, length, IfErr, IfOk};
-ghost use Rattle.domain_borrowed.specs.Data.{RawRecord, zone_of_raw};
-ghost use Rattle.domain_nsec3.specs.Chain.{ChainRecords, IsChainParam, IsHashedChain};
+ghost use Rattle.std.specs.Prelude.{◌≡◌, ◌≤◌, ◌<◌, length, IfErr, IfOk};
 ghost use Rattle.domain_nsec3.specs.View.{config_of};
 ghost use Rattle.domain_nsec3.specs.declared.config.Nsec3ParamTtlMode.TheVariants.{Soa};
-ghost use Rattle.domain_records.specs.Order.{IsInOrder, IsOneClass};
 ghost use Rattle.domain_sha1.specs.Iterated.{sha1_answer};
-ghost use Rattle.domain_dnssec.specs.Wire.{nsec3s_octets};
-ghost use Rattle.denial_c.specs.Chains.{hashed_config, hashing_fault, IsNsec3ChainResult, IsSortedNsec3Fault, Sorts};
-ghost use Rattle.denial_c.specs.Given.{AreGiven};
+ghost use Rattle.denial_c.specs.Chains.{hashed_config, hashing_fault, nsec3_making, AreSorted, IsNsec3ChainResult, IsSortedFault};
 ghost use Rattle.denial_c.specs.declared.chain_fault.ChainFault.TheVariants as fault;
 
 use crate::chain_fault::ChainFault;
@@ -93,17 +88,12 @@ fn sorted_nsec3s(
     sorted: &[BorrowedRecord<'_>],
     config: &GenerateNsec3Config<&[u8], InPlaceSorter>,
 ) -> Result<Vec<u8>, ChainFault>
-    requires given { (given : List RawRecord)
-        × AreGiven class octets.now given × Sorts given sorted.now }
-    requires one_class { IsOneClass sorted.now }
-    requires in_order { IsInOrder (λ n. n) (λ d. d.rtype) sorted.now }
+    requires are { AreSorted class octets.now sorted.now }
     requires sha1 { config.now.params.hash_algorithm ≡ 1 }
-    ensures ok { IfOk result (λ octets. (made : ChainRecords) × IsHashedChain
-        (zone_of_raw sorted.now) apex.now (config_of sha1_answer config.now) made.links
-        × IsChainParam (zone_of_raw sorted.now) apex.now (config_of sha1_answer config.now)
-        config.now.nsec3param_ttl_mode made.param × (octets.items ≡ nsec3s_octets made)) }
-    ensures err { IfErr result (IsSortedNsec3Fault class octets.now sorted.now
-        apex.now (config_of sha1_answer config.now)) }
+    ensures ok { IfOk result (λ octets. (nsec3_making config.now.nsec3param_ttl_mode
+        (config_of sha1_answer config.now)).is_chain apex.now sorted.now octets.items) }
+    ensures err { IfErr result (IsSortedFault (nsec3_making config.now.nsec3param_ttl_mode
+        (config_of sha1_answer config.now)) class octets.now apex.now sorted.now) }
 {
     let chain = match Nsec3Chain::generate(
         alloc,

@@ -1,11 +1,6 @@
 //! The NSEC chain of the records in octets.
-ghost use Rattle.std.specs.Prelude.{◌≡◌, ◌<◌, List, length, IfErr, IfOk};
-ghost use Rattle.domain_records.specs.Order.{IsInOrder, IsOneClass};
-ghost use Rattle.domain_nsec.specs.Chain.{Link, IsChain};
-ghost use Rattle.domain_borrowed.specs.Data.{RawRecord, zone_of_raw};
-ghost use Rattle.domain_dnssec.specs.Wire.{nsecs_octets};
-ghost use Rattle.denial_c.specs.Chains.{IsNsecChainResult, IsSortedNsecFault, IsWritten, Sorts};
-ghost use Rattle.denial_c.specs.Given.{AreGiven};
+ghost use Rattle.std.specs.Prelude.{◌≡◌, ◌<◌, length, IfErr, IfOk};
+ghost use Rattle.denial_c.specs.Chains.{nsec_making, AreSorted, IsNsecChainResult, IsSortedFault, IsWritten};
 ghost use Rattle.denial_c.specs.declared.chain_fault.ChainFault.TheVariants as fault;
 
 use crate::chain_fault::ChainFault;
@@ -35,14 +30,11 @@ fn sorted_nsecs(
     sorted: &[BorrowedRecord<'_>],
     config: &GenerateNsecConfig,
 ) -> Result<Vec<u8>, ChainFault>
-    requires given { (given : List RawRecord)
-        × AreGiven class octets.now given × Sorts given sorted.now }
-    requires one_class { IsOneClass sorted.now }
-    requires in_order { IsInOrder (λ n. n) (λ d. d.rtype) sorted.now }
-    ensures ok { IfOk result (λ octets. (links : List Link) × IsChain
-        (zone_of_raw sorted.now) apex.now config.now links × (octets.items ≡ nsecs_octets links)) }
-    ensures err { IfErr result (IsSortedNsecFault class octets.now sorted.now apex.now
-        config.now) }
+    requires { AreSorted class octets.now sorted.now }
+    ensures ok { IfOk result (λ octets.
+        (nsec_making config.now).is_chain apex.now sorted.now octets.items) }
+    ensures err { IfErr result (IsSortedFault (nsec_making config.now) class octets.now apex.now
+        sorted.now) }
 {
     let chain = match NsecChain::generate(
         alloc,

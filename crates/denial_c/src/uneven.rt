@@ -5,12 +5,13 @@ ghost use Rattle.domain_borrowed.specs.Data.{minimum_of, RawRecord, zone_of_raw}
 ghost use Rattle.domain_records.specs.Order.{HoldsPairwise, IsInOrder};
 ghost use Rattle.domain_zone.specs.View.{as_zone_record};
 ghost use Rattle.domain_zone.specs.Zone.{clashes, has_clash, has_unequal_ttls, records_of};
-ghost use Rattle.denial_c.specs.Chains.{IsSortedUnevenAt, Sorts};
+ghost use Rattle.denial_c.specs.Chains.{AreSorted, IsSortedUnevenAt};
 ghost use Rattle.denial_c.specs.Given.{AreGiven};
 ghost use Rattle.denial_c.specs.Uneven.{is_in_set, is_other, set_of, IsFirstClash, IsFirstUneven, IsUnevenAt};
 
+use crate::among::next_record;
 use domain_base::{Class, ParsedName, Rtype, ToName, Ttl};
-use domain_borrowed::{BorrowedRecord, read_record};
+use domain_borrowed::BorrowedRecord;
 use domain_octets::Parser;
 use domain_records::{RecordsIter, SliceRefsOrOwnedIterator};
 use domain_zone::UnoccludedOwners;
@@ -113,7 +114,7 @@ fn uneven_offset(class: Class, octets: &[u8], set: &RrsetKey<'_>) -> usize
     let mut parser = Parser::new(octets);
     'records: while parser.remaining() > 0 {
         let offset = octets.len() - parser.remaining();
-        let Some(record) = read_record(&mut parser) else {
+        let Some(record) = next_record(&mut parser) else {
             unreachable!();
         };
         if is_in_set(&record, set) {
@@ -138,9 +139,7 @@ pub(crate) fn uneven_at(
     excludes: bool,
     below_dname: bool,
 ) -> usize
-    requires in_order { IsInOrder (λ n. n) (λ d. d.rtype) sorted.now }
-    requires given { (given : List RawRecord)
-        × AreGiven class octets.now given × Sorts given sorted.now }
+    requires are { AreSorted class octets.now sorted.now }
     requires uneven { has_unequal_ttls (zone_of_raw sorted.now) (covered_names excludes below_dname
         (zone_of_raw sorted.now) apex.now) ≡ true }
     ensures { IsSortedUnevenAt (covered_names excludes below_dname) class octets.now sorted.now

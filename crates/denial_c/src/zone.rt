@@ -2,11 +2,12 @@
 ghost use Rattle.std.specs.Prelude.{List, IfErr, IfOk, OnOk};
 ghost use Rattle.domain_records.specs.Order.{IsInOrder, IsOneClass};
 ghost use Rattle.domain_borrowed.specs.Data.{RawRecord};
-ghost use Rattle.denial_c.specs.{Chains.{IsGivenFault, Sorts}, Given.AreGiven};
+ghost use Rattle.denial_c.specs.{Chains.{AreSorted, IsGivenFault, Sorts}, Given.AreGiven};
 
+use crate::among::next_record;
 use crate::chain_fault::ChainFault;
 use domain_base::{Class, ParsedName};
-use domain_borrowed::{BorrowedData, BorrowedRecord, read_record};
+use domain_borrowed::{BorrowedData, BorrowedRecord};
 use domain_octets::{OutOfMemory, Parser};
 use domain_records::SortedRecords;
 use std::alloc::Global;
@@ -21,7 +22,7 @@ fn check_records(class: Class, octets: &[u8]) -> Result<usize, ChainFault>
     let mut parser = Parser::new(octets);
     'records: while parser.remaining() > 0 {
         let offset = octets.len() - parser.remaining();
-        let Some(record) = read_record(&mut parser) else {
+        let Some(record) = next_record(&mut parser) else {
             return Err(ChainFault::Records(offset));
         };
         if record.class() != class {
@@ -45,7 +46,7 @@ fn read_records<'a>(
     let mut records = Vec::with_capacity(alloc, count)?;
     let mut parser = Parser::new(octets);
     'records: while parser.remaining() > 0 {
-        let Some(borrowed) = read_record(&mut parser) else {
+        let Some(borrowed) = next_record(&mut parser) else {
             unreachable!();
         };
         records.push(borrowed)?;
@@ -82,10 +83,7 @@ pub(crate) fn sorted_zone<'a>(
     class: Class,
     octets: &'a [u8],
 ) -> Result<Vec<BorrowedRecord<'a>>, ChainFault>
-    ensures sorts { IfOk result (λ sorted. (given : List RawRecord)
-        × AreGiven class octets.now given × Sorts given sorted.items) }
-    ensures one_class { IfOk result (λ sorted. IsOneClass sorted.items) }
-    ensures in_order { IfOk result (λ sorted. IsInOrder (λ n. n) (λ d. d.rtype) sorted.items) }
+    ensures ok { IfOk result (λ sorted. AreSorted class octets.now sorted.items) }
     ensures err { IfErr result (IsGivenFault class octets.now) }
 {
     let count = check_records(class, octets)?;

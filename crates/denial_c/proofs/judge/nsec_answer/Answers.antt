@@ -1,7 +1,7 @@
 use Rattle.std.proofs.{Common.{◌≡◌, sym, subst}, lemmas.Result.err_from_is_err_and}
 use Rattle.domain_answer.specs.{Proved.IsAnswered, Reading.reading}
 use Rattle.domain_nsec.specs.ChainView.{links_of}
-use Rattle.denial_c.{specs.{Among.AreNsecs, Judged.IsNsecsFault}, proofs.JudgeLemmas.nsecs_fault}
+use Rattle.denial_c.{specs.Among.{AreNsecs, IsReadFault}, proofs.JudgeLemmas.nsecs_fault}
 use Rattle.denial_c.proofs.judge.nsec_answer.Goals as goal
 
 pub returns-in_err-nsecs : goal.returns-in_err-nsecs
@@ -9,7 +9,7 @@ returns-in_err-nsecs c =
     let p = err_from_is_err_and c.from_residual-in_err-nsecs.result c.from_residual-in_err-nsecs.ensures.1 in
     rw (p.1, p.2) (nsecs_fault c.args.apex.now c.args.name.now c.args.rtype c.args.class c.args.records.now (c.in_ok-apex.apex, c.in_ok-apex.ensures.ok)
     (c.in_ok-name.name, c.in_ok-name.ensures.ok) c.in_err-nsecs.field-0.0
-    (subst (λ n. IsNsecsFault n c.args.records.now c.in_err-nsecs.field-0.0) c.from_int.ensures c.in_err-nsecs.ensures.err))
+    (subst (λ n. IsReadFault (AreNsecs n c.args.records.now) c.in_err-nsecs.field-0.0) c.from_int.ensures c.in_err-nsecs.ensures.err))
 
 pub returns : goal.returns
 returns c =

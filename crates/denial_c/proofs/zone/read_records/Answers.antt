@@ -1,19 +1,14 @@
-use Rattle.std.proofs.{lemmas.Grind.common_steps, Common.{ap, arith, length}}
-use Rattle.domain_borrowed.proofs.WireLemmas.{shorter}
-use Rattle.denial_c.proofs.GivenLemmas.{half_all, half_more, half_next, no_octets}
+use Rattle.std.proofs.{lemmas.Grind.common_steps, Common.{arith, subst, sym}}
+use Rattle.denial_c.{specs.Given.AreGiven, proofs.{AmongLemmas.{all_read, no_end, no_octets, past_more}, GivenLemmas.rest_given}}
 use Rattle.denial_c.proofs.zone.read_records.Goals as goal
 
-pub records-init : goal.records-init
-records-init c = grind (arith, common_steps)
-
 pub unreachable-requires : goal.unreachable-requires
-unreachable-requires c = half_next _ _ _ _ c.records.invariant (λ none. let n = ap length none in omega arith) c.in_default.ensures.none
-
-pub records-smaller : goal.records-smaller
-records-smaller c = shorter c.in-Some.borrowed c.records.parser.left c.read_record.new.parser.left c.in-Some.ensures.some.0
+unreachable-requires c = no_end _ _ _ (rest_given c.requires.1 c.records.invariant) c.in_default.ensures.none
 
 pub records-preserved : goal.records-preserved
-records-preserved c = grind (arith, common_steps, half_more)
+records-preserved c = grind (arith, common_steps, past_more)
 
 pub returns : goal.returns
-returns c = half_all _ _ _ _ c.records.invariant (no_octets _ (let n = c.remaining.ensures in omega arith))
+returns c =
+    let read = all_read _ _ _ (rest_given c.requires.1 c.records.invariant) (no_octets _ (omega (arith, c.records-test.false, c.remaining.ensures))) in
+    subst (AreGiven c.args.class c.args.octets.now) (sym read) c.requires.1
