@@ -7,20 +7,20 @@ use Rattle.domain_borrowed.specs.Data.{data_cmp, minimum_of, RawRecord, zone_of_
 use Rattle.domain_nsec3.specs.Config.{ChainConfig}
 use Rattle.domain_records.specs.Order.{IsOneClass}
 use Rattle.denial_c.specs.Chains.{AreSorted, IsChainFault, IsChainResult, IsFit, IsSortedFault, IsWritten, Making, Sorts}
-use Rattle.denial_c.specs.{Collisions.HasFirstPair, Result.Spells, declared.chain_fault.ChainFault.{ChainFault, TheVariants.ShortBuffer}}
+use Rattle.denial_c.specs.{Collisions.HasFirstPair, Result.Spells, declared.fault.Fault.{Fault, TheVariants.ShortBuffer}}
 
 pub sorted_one_class : (given sorted : List RawRecord) → Sorts given sorted → IsOneClass given → IsOneClass sorted
 sorted_one_class given sorted sorts one = (classes_kept (λ n. n) (λ d. d.rtype) minimum_of data_cmp given sorted sorts).1 one
 
 module _ {apex : List ℕ} {class number : ℕ} {records : List ℕ} {a : Name} {listed sorted : List RawRecord} (spells : Spells apex a)
     (of_class : number ≡ class) (as_listed : listed ≡ sorted) (are : AreSorted number records sorted) where
-  pub chain_fault : (making : Making) (old : List ℕ) (e : ChainFault) → IsFit making → IsSortedFault making number records a listed e
+  pub chain_fault : (making : Making) (old : List ℕ) (e : Fault) → IsFit making → IsSortedFault making number records a listed e
       → IsChainFault making apex class records old e
   chain_fault making old e fit h = grind (arith, common_steps)
 
   -- octets that are a chain, written or not
   pub chain_result : (making : Making) (written shown old new : List ℕ) → IsFit making → making.is_chain a listed written → shown ≡ written
-      → (r : Result ℕ ChainFault) → IfOk r (IsWritten shown old new)
+      → (r : Result ℕ Fault) → IfOk r (IsWritten shown old new)
       → IfErr r (λ e. (e ≡ ShortBuffer (length shown)) × (length old < length shown) × (new ≡ old)) → IsChainResult making apex class records r old new
   chain_result making written shown old new fit is as_shown r ok err = grind (arith, common_steps)
 

@@ -17,9 +17,9 @@ use Rattle.domain_sha1.specs.Iterated.{sha1_answer}
 use Rattle.domain_dnssec.specs.AnyOrder as any_order
 use Rattle.domain_dnssec.specs.Wire.{nsecs_octets, nsec3s_octets}
 use Rattle.domain_borrowed.specs.Data.{data_cmp, RawRecord, zone_of_raw}
-use Rattle.denial_c.specs.{ChainNumbers.{chain_count, chain_number}, Given.{AreGiven, HasNoRecordAt, HasOtherClassAt}, Result.{IsSpelled, Spells}}
-use Rattle.denial_c.specs.{Uneven.{IsFirstClash, IsFirstUneven, IsUnevenAt}, declared.chain_fault.ChainFault.ChainFault}
-use Rattle.denial_c.specs.declared.chain_fault.ChainFault.TheVariants as fault
+use Rattle.denial_c.specs.{Given.{AreGiven, HasNoRecordAt, HasOtherClassAt}, Numbers.{chain_count, chain_number}, Result.{IsSpelled, Spells}}
+use Rattle.denial_c.specs.{Uneven.{IsFirstClash, IsFirstUneven, IsUnevenAt}, declared.fault.Fault.Fault}
+use Rattle.denial_c.specs.declared.fault.Fault.TheVariants as fault
 
 -- sorted is the sorted set of the records, by owner, class, type and the octets of the data
 abbrev pub Sorts : List RawRecord → List RawRecord → Type 0
@@ -43,8 +43,8 @@ pub record HasZone (apex : Octets) (class : ℕ) (records : Octets)
   pub so : AreSo a sorted
 
 -- why the octets are no records of the class; want of memory says that they are
-abbrev pub IsGivenFault : ℕ → Octets → ChainFault → Type 0
-IsGivenFault class octets (fault.Records offset) = HasNoRecordAt class octets offset
+abbrev pub IsGivenFault : ℕ → Octets → Fault → Type 0
+IsGivenFault class octets (fault.NoRecord offset) = HasNoRecordAt class octets offset
 IsGivenFault class octets (fault.Class offset) = HasOtherClassAt class octets offset
 IsGivenFault class octets fault.OutOfMemory =
     (given : List RawRecord) × AreGiven class octets given
@@ -99,7 +99,7 @@ nsec3_making mode config =
     }
 
 -- why sorted records of one class, which the octets are in any order, have no chain
-abbrev pub IsSortedFault : Making → ℕ → Octets → Name → List RawRecord → ChainFault → Type 0
+abbrev pub IsSortedFault : Making → ℕ → Octets → Name → List RawRecord → Fault → Type 0
 IsSortedFault making class octets a sorted fault.Soa =
     making.is_fault a sorted signing_error.SoaRecordCouldNotBeDetermined
 IsSortedFault making class octets a sorted (fault.Ttls offset) =
@@ -134,7 +134,7 @@ hashed_config iterations salt opt_out assume_dnskey occlude_below_dname =
     }
 
 -- why names have no hashes of use, where this is the reason: no other stands where SHA-1 hashes
-abbrev pub hashing_fault : Nsec3HashError → ChainFault
+abbrev pub hashing_fault : Nsec3HashError → Fault
 hashing_fault hash_error.CollisionDetected = fault.Collision
 hashing_fault _ = fault.LongOwner
 
@@ -157,11 +157,11 @@ IsFit making = length making.salt ≤ 255
 -- why no chain was written: the first fault that stands, and where none does, want of memory or of
 -- room. Want of memory says that the octets are an apex and records of the class, and leaves open
 -- whether their zone has a fault.
-abbrev pub IsChainFault : Making → Octets → ℕ → Octets → Octets → ChainFault → Type 0
+abbrev pub IsChainFault : Making → Octets → ℕ → Octets → Octets → Fault → Type 0
 IsChainFault making apex class records old fault.Apex = IsSpelled apex → ⊥
 IsChainFault making apex class records old fault.LongSalt =
     IsSpelled apex × (255 < length making.salt)
-IsChainFault making apex class records old (fault.Records offset) =
+IsChainFault making apex class records old (fault.NoRecord offset) =
     IsSpelled apex × IsFit making × HasNoRecordAt class records offset
 IsChainFault making apex class records old (fault.Class offset) =
     IsSpelled apex × IsFit making × HasOtherClassAt class records offset
@@ -175,7 +175,7 @@ IsChainFault making apex class records old e =
     × HasZone apex class records (λ a sorted. IsSortedFault making class records a sorted e)
 
 -- what is answered, and what the buffer has then: a fault leaves it as it was
-abbrev pub IsChainResult : Making → Octets → ℕ → Octets → Result ℕ ChainFault → Octets → Octets
+abbrev pub IsChainResult : Making → Octets → ℕ → Octets → Result ℕ Fault → Octets → Octets
     → Type 0
 IsChainResult making apex class records (Ok count) old new =
     IsFit making × HasZone apex class records (λ a sorted. (written : Octets)
@@ -183,21 +183,21 @@ IsChainResult making apex class records (Ok count) old new =
 IsChainResult making apex class records (Err e) old new =
     IsChainFault making apex class records old e × (new ≡ old)
 
-abbrev pub IsNsecChainResult : Octets → ℕ → GenerateNsecConfig → Octets → Result ℕ ChainFault
+abbrev pub IsNsecChainResult : Octets → ℕ → GenerateNsecConfig → Octets → Result ℕ Fault
     → Octets → Octets → Type 0
 IsNsecChainResult apex class config = IsChainResult (nsec_making config) apex class
 
 -- the NSEC3PARAM record has the TTL of the SOA record
-abbrev pub IsNsec3ChainResult : Octets → ℕ → ChainConfig → Octets → Result ℕ ChainFault → Octets
+abbrev pub IsNsec3ChainResult : Octets → ℕ → ChainConfig → Octets → Result ℕ Fault → Octets
     → Octets → Type 0
 IsNsec3ChainResult apex class config = IsChainResult (nsec3_making Soa config) apex class
 
 -- ---- what C is told
 
 -- the numbers are those of a result with this property
-pub record IsChainTold (IsResult : Result ℕ ChainFault → Octets → Octets → Type 0) (number : ℕ)
+pub record IsChainTold (IsResult : Result ℕ Fault → Octets → Octets → Type 0) (number : ℕ)
     (count : ℕ) (old new : Octets) : Type 0 where
-  pub answer : Result ℕ ChainFault
+  pub answer : Result ℕ Fault
   pub is : IsResult answer old new
   pub tells : number ≡ chain_number answer
   pub counts : count ≡ chain_count answer

@@ -6,7 +6,7 @@ use Rattle.domain_names.specs.{Name.{lowered, wire_of}, Words.Name}
 use Rattle.domain_alike.specs.Alike.{IsFirstPair, Pair}
 use Rattle.domain_borrowed.specs.Data.{zone_of_raw}
 use Rattle.domain_nsec3.specs.Config.{ChainConfig}
-use Rattle.denial_c.specs.{ChainNumbers.collision_number, Chains.{HasZone, IsChainFault, IsFit, Making}, declared.chain_fault.ChainFault.ChainFault}
+use Rattle.denial_c.specs.{Chains.{HasZone, IsChainFault, IsFit, Making}, Numbers.collision_number, declared.fault.Fault.Fault}
 
 -- of the chain of the records, in whatever order they stand, this is the first pair of names that
 -- hash alike, or it has none
@@ -38,7 +38,7 @@ pair_making config =
 
 -- what is answered, and what both buffers have then: the earlier name of the pair and the later
 -- one, or what they had
-abbrev pub IsCollisionResult : Octets → ℕ → ChainConfig → Octets → Result Bool ChainFault → Written
+abbrev pub IsCollisionResult : Octets → ℕ → ChainConfig → Octets → Result Bool Fault → Written
     → Written → Type 0
 IsCollisionResult apex class config records (Ok true) earlier later =
     IsFit (pair_making config)
@@ -54,7 +54,7 @@ IsCollisionResult apex class config records (Err e) earlier later =
 -- ---- what C is told
 
 -- the number is that of a result with this property
-pub record IsCollisionTold (IsResult : Result Bool ChainFault → Type 0) (number : ℕ) : Type 0 where
-  pub answer : Result Bool ChainFault
+pub record IsCollisionTold (IsResult : Result Bool Fault → Type 0) (number : ℕ) : Type 0 where
+  pub answer : Result Bool Fault
   pub is : IsResult answer
   pub tells : number ≡ collision_number answer

@@ -3,7 +3,6 @@ pub mod Numbers
 pub mod Result
 pub mod Question
 pub mod Judged
-pub mod ChainNumbers
 pub mod Given
 pub mod Uneven
 pub mod Chains

@@ -1,10 +1,11 @@
--- Verdicts, whole answers and faults by the numbers that C sees.
-use Rattle.std.specs.Prelude.{ℕ, Result, Ok, Err}
+-- Verdicts, whole answers, chains and faults by the numbers that C sees.
+use Rattle.std.specs.Prelude.{ℕ, Bool, true, false, Result, Ok, Err}
 use Rattle.domain_answer.specs.declared.answer.Answer.{Answer}
 use Rattle.domain_answer.specs.declared.answer.Answer.TheVariants as answers
 use Rattle.domain_checker.specs.declared.verdict.Verdict.{Verdict}
 use Rattle.domain_checker.specs.declared.verdict.Verdict.TheVariants.{OutsideZone, BelowDelegation, Has, NoType, EmptyName, OptOut, NoName, NotProven}
-use Rattle.denial_c.specs.declared.fault.Fault.{Fault, TheVariants.{Apex, Name, Records, Param, Hasher, OutOfMemory}}
+use Rattle.denial_c.specs.declared.fault.Fault.{Fault, TheVariants.{Apex, Name, Records, NoRecord, Param, Hasher, OutOfMemory, Class, Soa, Ttls}}
+use Rattle.denial_c.specs.declared.fault.Fault.TheVariants.{ShortBuffer, LongSalt, LongOwner, Collision}
 
 -- the number of a verdict, and how many labels the closest encloser has; 0 where it has none
 abbrev pub verdict_told : Verdict → ℕ × ℕ
@@ -49,13 +50,26 @@ answer_number answer = (answer_told answer).0
 abbrev pub answer_labels : Answer → ℕ
 answer_labels answer = (answer_told answer).1
 
+-- the number of a fault, and the offset where it stands, or how many octets there is no room for; 0
+-- where it has neither
+abbrev pub fault_told : Fault → ℕ × ℕ
+fault_told Apex = (16, 0)
+fault_told Name = (17, 0)
+fault_told Records = (18, 0)
+fault_told (NoRecord offset) = (18, offset)
+fault_told Param = (19, 0)
+fault_told Hasher = (20, 0)
+fault_told OutOfMemory = (21, 0)
+fault_told (Class offset) = (22, offset)
+fault_told Soa = (23, 0)
+fault_told (Ttls offset) = (24, offset)
+fault_told (ShortBuffer count) = (25, count)
+fault_told LongSalt = (26, 0)
+fault_told LongOwner = (27, 0)
+fault_told Collision = (28, 0)
+
 abbrev pub fault_number : Fault → ℕ
-fault_number Apex = 16
-fault_number Name = 17
-fault_number Records = 18
-fault_number Param = 19
-fault_number Hasher = 20
-fault_number OutOfMemory = 21
+fault_number fault = (fault_told fault).0
 
 abbrev pub number_of : {V : Type 0} → (V → ℕ) → Result V Fault → ℕ
 number_of number (Ok value) = number value
@@ -65,3 +79,27 @@ number_of number (Err fault) = fault_number fault
 abbrev pub labels_of : {V : Type 0} → (V → ℕ) → Result V Fault → ℕ
 labels_of labels (Ok value) = labels value
 labels_of labels (Err fault) = 0
+
+-- ---- chains, and names that hash alike
+
+-- a chain was written
+abbrev pub chain_made : ℕ
+chain_made = 48
+
+abbrev pub chain_number : Result ℕ Fault → ℕ
+chain_number (Ok count) = chain_made
+chain_number (Err fault) = fault_number fault
+
+-- how many octets the chain has, or what its fault counts
+abbrev pub chain_count : Result ℕ Fault → ℕ
+chain_count (Ok count) = count
+chain_count (Err fault) = (fault_told fault).1
+
+-- no two names hash alike
+abbrev pub no_collision : ℕ
+no_collision = 49
+
+abbrev pub collision_number : Result Bool Fault → ℕ
+collision_number (Ok true) = fault_number Collision
+collision_number (Ok false) = no_collision
+collision_number (Err e) = fault_number e

@@ -181,6 +181,7 @@ IsNsec3Fault source apex name refused fault.Param =
     IsSpelled name × IsSpelledFault source apex fault.Param
 IsNsec3Fault source apex name refused fault.Hasher = refused
 IsNsec3Fault source apex name refused fault.OutOfMemory = Unit {0}
+IsNsec3Fault source apex name refused _ = ⊥
 
 -- the fault that an error of a check is
 abbrev pub fault_of : Nsec3HashError → Fault

@@ -3,8 +3,7 @@ use Rattle.std.specs.Prelude.{◌≡◌, ℕ, ◌-◌, ◌<◌, ◌==◌, Bool, 
 use Rattle.domain_octets.specs.Words.{Octets}
 use Rattle.domain_answer.specs.declared.answer.Answer.TheVariants as answers
 use Rattle.domain_checker.specs.declared.verdict.Verdict.TheVariants as verdicts
-use Rattle.denial_c.specs.{ChainNumbers.{chain_fault_number, chain_made, no_collision}, Numbers.{answer_number, fault_number, verdict_number}}
-use Rattle.denial_c.specs.declared.chain_fault.ChainFault.TheVariants as chain_faults
+use Rattle.denial_c.specs.Numbers.{answer_number, chain_made, fault_number, no_collision, verdict_number}
 use Rattle.denial_c.specs.declared.fault.Fault.TheVariants as faults
 
 -- of each verdict, each fault, each whole answer, a chain and one without a collision, whatever it
@@ -25,13 +24,13 @@ texts =
     ∷ (fault_number faults.Param, codes "no single NSEC3PARAM record")
     ∷ (fault_number faults.Hasher, codes "unknown hash algorithm")
     ∷ (fault_number faults.OutOfMemory, codes "out of memory")
-    ∷ (chain_fault_number (chain_faults.Class 0), codes "record of another class")
-    ∷ (chain_fault_number chain_faults.Soa, codes "no single SOA record")
-    ∷ (chain_fault_number (chain_faults.Ttls 0), codes "unequal TTLs")
-    ∷ (chain_fault_number (chain_faults.ShortBuffer 0), codes "buffer too short")
-    ∷ (chain_fault_number chain_faults.LongSalt, codes "salt too long")
-    ∷ (chain_fault_number chain_faults.LongOwner, codes "hashed owner name too long")
-    ∷ (chain_fault_number chain_faults.Collision, codes "hash collision")
+    ∷ (fault_number (faults.Class 0), codes "record of another class")
+    ∷ (fault_number faults.Soa, codes "no single SOA record")
+    ∷ (fault_number (faults.Ttls 0), codes "unequal TTLs")
+    ∷ (fault_number (faults.ShortBuffer 0), codes "buffer too short")
+    ∷ (fault_number faults.LongSalt, codes "salt too long")
+    ∷ (fault_number faults.LongOwner, codes "hashed owner name too long")
+    ∷ (fault_number faults.Collision, codes "hash collision")
     ∷ (answer_number answers.NotProven, codes "not proven")
     ∷ (answer_number answers.OutsideZone, codes "outside zone")
     ∷ (answer_number answers.AtParent, codes "at the parent")

@@ -1,9 +1,9 @@
 //! Verdicts, whole answers and faults as C sees them.
 ghost use Rattle.std.specs.Prelude.{◌≡◌};
-ghost use Rattle.denial_c.specs.Numbers.{answer_labels, answer_number, answer_told, fault_number, labels_of, number_of};
+ghost use Rattle.denial_c.specs.Numbers.{answer_labels, answer_number, answer_told, labels_of, number_of};
 ghost use Rattle.denial_c.specs.Numbers.{verdict_labels, verdict_number, verdict_told};
 
-use crate::fault::Fault;
+use crate::fault::{Fault, fault_number};
 use domain_answer::Answer;
 use domain_checker::Verdict;
 
@@ -45,20 +45,6 @@ fn answer_told(answer: Answer) -> (u32, usize)
         Answer::MayBeUnsigned(count) => (45, count),
         Answer::NoCloserName(count) => (46, count),
         Answer::TooManyIterations => (47, 0),
-    }
-}
-
-/// The number of a fault.
-fn fault_number(fault: Fault) -> u32
-    ensures { result ≡ fault_number fault }
-{
-    match fault {
-        Fault::Apex => 16,
-        Fault::Name => 17,
-        Fault::Records => 18,
-        Fault::Param => 19,
-        Fault::Hasher => 20,
-        Fault::OutOfMemory => 21,
     }
 }
 

@@ -5,12 +5,11 @@ ghost use Rattle.domain_nsec3.specs.View.{config_of};
 ghost use Rattle.domain_records.specs.Order.{IsInOrder};
 ghost use Rattle.domain_borrowed.specs.Data.{zone_of_raw};
 ghost use Rattle.domain_sha1.specs.Iterated.{sha1_answer};
-ghost use Rattle.denial_c.specs.{ChainNumbers.collision_number, Chains.hashed_config};
+ghost use Rattle.denial_c.specs.{Numbers.collision_number, Chains.hashed_config};
 ghost use Rattle.denial_c.specs.Collisions.{IsCollisionResult};
-ghost use Rattle.denial_c.specs.declared.chain_fault.ChainFault.TheVariants as fault;
+ghost use Rattle.denial_c.specs.declared.fault.Fault.TheVariants as fault;
 
-use crate::chain_fault::{ChainFault, chain_fault_number};
-use crate::fault::Fault;
+use crate::fault::{Fault, fault_number};
 use crate::nsec::read_name;
 use crate::nsec3_chain::{Hashing, config_with};
 use crate::zone::sorted_zone;
@@ -31,7 +30,7 @@ fn first_pair<'a>(
     apex: &ParsedName<'a>,
     sorted: &[BorrowedRecord<'a>],
     config: &GenerateNsec3Config<&[u8], InPlaceSorter>,
-) -> Result<Option<Alike<'a>>, ChainFault>
+) -> Result<Option<Alike<'a>>, Fault>
     requires in_order { IsInOrder (λ n. n) (λ d. d.rtype) sorted.now }
     requires sha1 { config.now.params.hash_algorithm ≡ 1 }
     ensures ok { IfOk result (λ alike. IsFirstPair (zone_of_raw sorted.now) apex.now
@@ -40,7 +39,7 @@ fn first_pair<'a>(
 {
     match first_alike(alloc, apex, sorted, config, &Sha1Hasher) {
         Ok(alike) => Ok(alike),
-        Err(Nsec3HashError::OutOfMemory) => Err(ChainFault::OutOfMemory),
+        Err(Nsec3HashError::OutOfMemory) => Err(Fault::OutOfMemory),
         Err(_) => unreachable!(),
     }
 }
@@ -52,7 +51,7 @@ fn first_pair<'a>(
 ///
 /// # Errors
 ///
-/// The first that stands: `Apex`; `LongSalt`; `Records` or `Class`, whichever comes first in the
+/// The first that stands: `Apex`; `LongSalt`; `NoRecord` or `Class`, whichever comes first in the
 /// octets; and `OutOfMemory`. Other faults of the zone are not looked for. Without an answer both
 /// buffers stay as they were.
 pub(crate) fn collision(
@@ -64,16 +63,14 @@ pub(crate) fn collision(
     records: &[u8],
     earlier: &mut [u8; MAX_NAME],
     later: &mut [u8; MAX_NAME],
-) -> Result<bool, ChainFault>
+) -> Result<bool, Fault>
     ensures { IsCollisionResult apex.now class
         (hashed_config hashing.entry.iterations hashing.entry.salt.now hashing.entry.opt_out
         options.assume_dnskeys_will_be_added options.occlude_below_dname) records.now result
         (record { old = earlier.old; new = earlier.new })
         (record { old = later.old; new = later.new }) }
 {
-    let Ok(apex) = read_name(apex, Fault::Apex) else {
-        return Err(ChainFault::Apex);
-    };
+    let apex = read_name(apex, Fault::Apex)?;
     let config = config_with(hashing, options)?;
     let class = Class::from_int(class);
     let sorted = sorted_zone(alloc, class, records)?;
@@ -86,12 +83,12 @@ pub(crate) fn collision(
 }
 
 /// The number of an answer.
-pub(crate) fn collision_number(answer: Result<bool, ChainFault>) -> u32
+pub(crate) fn collision_number(answer: Result<bool, Fault>) -> u32
     ensures { result ≡ collision_number answer }
 {
     match answer {
-        Ok(true) => chain_fault_number(ChainFault::Collision),
+        Ok(true) => fault_number(Fault::Collision),
         Ok(false) => 49,
-        Err(fault) => chain_fault_number(fault),
+        Err(fault) => fault_number(fault),
     }
 }

@@ -18,7 +18,6 @@ ghost use Rattle.denial_c.specs.Texts.{text_of, IsText};
 
 mod among;
 mod answer;
-mod chain_fault;
 mod collision;
 mod fault;
 mod judge;
@@ -291,7 +290,7 @@ pub extern "C" fn denial_nsec_chain(
         assume_dnskeys_will_be_added: assume_dnskey,
         occlude_below_dname,
     };
-    chain_fault::tell_chain(
+    fault::tell_chain(
         nsec_chain::nsec_chain(alloc, apex, class, &config, records, chain),
         count,
     )
@@ -332,7 +331,7 @@ pub extern "C" fn denial_nsec3_chain(
         assume_dnskeys_will_be_added: assume_dnskey,
         occlude_below_dname,
     };
-    chain_fault::tell_chain(
+    fault::tell_chain(
         nsec3_chain::nsec3_chain(alloc, apex, class, hashing, options, records, chain),
         count,
     )

@@ -4,9 +4,8 @@ ghost use Rattle.domain_nsec3.specs.View.{config_of};
 ghost use Rattle.domain_nsec3.specs.declared.config.Nsec3ParamTtlMode.TheVariants.{Soa};
 ghost use Rattle.domain_sha1.specs.Iterated.{sha1_answer};
 ghost use Rattle.denial_c.specs.Chains.{hashed_config, hashing_fault, nsec3_making, AreSorted, IsNsec3ChainResult, IsSortedFault};
-ghost use Rattle.denial_c.specs.declared.chain_fault.ChainFault.TheVariants as fault;
+ghost use Rattle.denial_c.specs.declared.fault.Fault.TheVariants as fault;
 
-use crate::chain_fault::ChainFault;
 use crate::fault::Fault;
 use crate::nsec::read_name;
 use crate::nsec_chain::write_octets;
@@ -43,7 +42,7 @@ pub(crate) struct Hashing<'a> {
 pub(crate) fn config_with<'a>(
     hashing: Hashing<'a>,
     options: GenerateNsecConfig,
-) -> Result<GenerateNsec3Config<&'a [u8], InPlaceSorter>, ChainFault>
+) -> Result<GenerateNsec3Config<&'a [u8], InPlaceSorter>, Fault>
     ensures ok { IfOk result (λ config. config_of sha1_answer config
         ≡ hashed_config hashing.entry.iterations hashing.entry.salt.now hashing.entry.opt_out
         options.assume_dnskeys_will_be_added options.occlude_below_dname) }
@@ -52,7 +51,7 @@ pub(crate) fn config_with<'a>(
     ensures err { IfErr result (λ e. (e ≡ fault.LongSalt) × (255 < length hashing.entry.salt.now)) }
 {
     let Ok(salt) = Nsec3Salt::from_octets(hashing.salt) else {
-        return Err(ChainFault::LongSalt);
+        return Err(Fault::LongSalt);
     };
     let flags = if hashing.opt_out { 1 } else { 0 };
     let params = Nsec3param::new(Nsec3HashAlgorithm::SHA1, flags, hashing.iterations, salt);
@@ -64,12 +63,12 @@ pub(crate) fn config_with<'a>(
 
 /// Why names have no hashes of use. SHA-1 refuses no name, and its hashes have 20 octets, so that
 /// there are no other reasons than these two.
-fn hashing_fault(error: Nsec3HashError) -> ChainFault
+fn hashing_fault(error: Nsec3HashError) -> Fault
     ensures { result ≡ hashing_fault error }
 {
     match error {
-        Nsec3HashError::CollisionDetected => ChainFault::Collision,
-        _ => ChainFault::LongOwner,
+        Nsec3HashError::CollisionDetected => Fault::Collision,
+        _ => Fault::LongOwner,
     }
 }
 
@@ -87,7 +86,7 @@ fn sorted_nsec3s(
     octets: &[u8],
     sorted: &[BorrowedRecord<'_>],
     config: &GenerateNsec3Config<&[u8], InPlaceSorter>,
-) -> Result<Vec<u8>, ChainFault>
+) -> Result<Vec<u8>, Fault>
     requires are { AreSorted class octets.now sorted.now }
     requires sha1 { config.now.params.hash_algorithm ≡ 1 }
     ensures ok { IfOk result (λ octets. (nsec3_making config.now.nsec3param_ttl_mode
@@ -108,17 +107,17 @@ fn sorted_nsec3s(
                 & config.opt_out_exclude_owner_names_of_unsigned_delegations;
             let below_dname = config.occlude_below_dname;
             let offset = uneven_at(apex, class, octets, sorted, excludes, below_dname);
-            return Err(ChainFault::Ttls(offset));
+            return Err(Fault::Ttls(offset));
         }
-        Err(SigningError::OutOfMemory) => return Err(ChainFault::OutOfMemory),
+        Err(SigningError::OutOfMemory) => return Err(Fault::OutOfMemory),
         Err(SigningError::Nsec3HashingError(error)) => return Err(hashing_fault(error)),
-        Err(_) => return Err(ChainFault::Soa),
+        Err(_) => return Err(Fault::Soa),
     };
     let mut octets = Vec::new(alloc);
     match compose_nsec3s(alloc, &chain, &mut octets) {
         Ok(()) => Ok(octets),
         // No record of a zone's chain has data of over 65,535 octets.
-        Err(_) => Err(ChainFault::OutOfMemory),
+        Err(_) => Err(Fault::OutOfMemory),
     }
 }
 
@@ -127,7 +126,7 @@ fn sorted_nsec3s(
 ///
 /// # Errors
 ///
-/// The first that stands: `Apex`; `LongSalt`; `Records` or `Class`, whichever comes first in the
+/// The first that stands: `Apex`; `LongSalt`; `NoRecord` or `Class`, whichever comes first in the
 /// octets; `Soa`, `Ttls`, `LongOwner` or `Collision`, the first fault of the zone; `OutOfMemory`,
 /// which leaves the last four open; and `ShortBuffer`. The buffer stays as it was.
 pub(crate) fn nsec3_chain(
@@ -138,15 +137,13 @@ pub(crate) fn nsec3_chain(
     options: GenerateNsecConfig,
     records: &[u8],
     buffer: &mut [u8],
-) -> Result<usize, ChainFault>
+) -> Result<usize, Fault>
     ensures { IsNsec3ChainResult apex.now class
         (hashed_config hashing.entry.iterations hashing.entry.salt.now hashing.entry.opt_out
         options.assume_dnskeys_will_be_added options.occlude_below_dname) records.now result
         buffer.old buffer.new }
 {
-    let Ok(apex) = read_name(apex, Fault::Apex) else {
-        return Err(ChainFault::Apex);
-    };
+    let apex = read_name(apex, Fault::Apex)?;
     let config = config_with(hashing, options)?;
     let class = Class::from_int(class);
     let sorted = sorted_zone(alloc, class, records)?;

@@ -1,9 +1,8 @@
 //! The NSEC chain of the records in octets.
 ghost use Rattle.std.specs.Prelude.{◌≡◌, ◌<◌, length, IfErr, IfOk};
 ghost use Rattle.denial_c.specs.Chains.{nsec_making, AreSorted, IsNsecChainResult, IsSortedFault, IsWritten};
-ghost use Rattle.denial_c.specs.declared.chain_fault.ChainFault.TheVariants as fault;
+ghost use Rattle.denial_c.specs.declared.fault.Fault.TheVariants as fault;
 
-use crate::chain_fault::ChainFault;
 use crate::fault::Fault;
 use crate::nsec::read_name;
 use crate::uneven::uneven_at;
@@ -29,7 +28,7 @@ fn sorted_nsecs(
     octets: &[u8],
     sorted: &[BorrowedRecord<'_>],
     config: &GenerateNsecConfig,
-) -> Result<Vec<u8>, ChainFault>
+) -> Result<Vec<u8>, Fault>
     requires { AreSorted class octets.now sorted.now }
     ensures ok { IfOk result (λ octets.
         (nsec_making config.now).is_chain apex.now sorted.now octets.items) }
@@ -46,16 +45,16 @@ fn sorted_nsecs(
         Err(SigningError::MultipleTtlValues) => {
             let below_dname = config.occlude_below_dname;
             let offset = uneven_at(apex, class, octets, sorted, false, below_dname);
-            return Err(ChainFault::Ttls(offset));
+            return Err(Fault::Ttls(offset));
         }
-        Err(SigningError::OutOfMemory) => return Err(ChainFault::OutOfMemory),
-        Err(_) => return Err(ChainFault::Soa),
+        Err(SigningError::OutOfMemory) => return Err(Fault::OutOfMemory),
+        Err(_) => return Err(Fault::Soa),
     };
     let mut octets = Vec::new(alloc);
     match compose_nsecs(&chain, &mut octets) {
         Ok(()) => Ok(octets),
         // No record of a zone's chain has data of over 65,535 octets.
-        Err(_) => Err(ChainFault::OutOfMemory),
+        Err(_) => Err(Fault::OutOfMemory),
     }
 }
 
@@ -65,14 +64,14 @@ fn sorted_nsecs(
 ///
 /// `ShortBuffer` with their number exactly where there is no room for them; the buffer stays as it
 /// was.
-pub(crate) fn write_octets(octets: &[u8], buffer: &mut [u8]) -> Result<usize, ChainFault>
+pub(crate) fn write_octets(octets: &[u8], buffer: &mut [u8]) -> Result<usize, Fault>
     ensures ok { IfOk result (IsWritten octets.now buffer.old buffer.new) }
     ensures err { IfErr result (λ e. (e ≡ fault.ShortBuffer (length octets.now))
         × (length buffer.old < length octets.now) × (buffer.new ≡ buffer.old)) }
 {
     let count = octets.len();
     if count > buffer.len() {
-        return Err(ChainFault::ShortBuffer(count));
+        return Err(Fault::ShortBuffer(count));
     }
     let room = &mut buffer[..count];
     room.copy_from_slice(octets);
@@ -84,7 +83,7 @@ pub(crate) fn write_octets(octets: &[u8], buffer: &mut [u8]) -> Result<usize, Ch
 ///
 /// # Errors
 ///
-/// The first that stands: `Apex`; `Records` or `Class`, whichever comes first in the octets; `Soa`
+/// The first that stands: `Apex`; `NoRecord` or `Class`, whichever comes first in the octets; `Soa`
 /// or `Ttls`, the first fault of the zone; `OutOfMemory`, which leaves the last two open; and
 /// `ShortBuffer`. The buffer stays as it was.
 pub(crate) fn nsec_chain(
@@ -94,12 +93,10 @@ pub(crate) fn nsec_chain(
     config: &GenerateNsecConfig,
     records: &[u8],
     buffer: &mut [u8],
-) -> Result<usize, ChainFault>
+) -> Result<usize, Fault>
     ensures { IsNsecChainResult apex.now class config.now records.now result buffer.old buffer.new }
 {
-    let Ok(apex) = read_name(apex, Fault::Apex) else {
-        return Err(ChainFault::Apex);
-    };
+    let apex = read_name(apex, Fault::Apex)?;
     let class = Class::from_int(class);
     let sorted = sorted_zone(alloc, class, records)?;
     let octets = sorted_nsecs(alloc, &apex, class, records, &sorted, config)?;

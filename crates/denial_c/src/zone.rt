@@ -5,7 +5,7 @@ ghost use Rattle.domain_borrowed.specs.Data.{RawRecord};
 ghost use Rattle.denial_c.specs.{Chains.{AreSorted, IsGivenFault, Sorts}, Given.AreGiven};
 
 use crate::among::next_record;
-use crate::chain_fault::ChainFault;
+use crate::fault::Fault;
 use domain_base::{Class, ParsedName};
 use domain_borrowed::{BorrowedData, BorrowedRecord};
 use domain_octets::{OutOfMemory, Parser};
@@ -14,7 +14,7 @@ use std::alloc::Global;
 
 /// Refuses octets that are not records of the class, one after another. Gives their number, by
 /// which room is asked for. Takes no memory.
-fn check_records(class: Class, octets: &[u8]) -> Result<usize, ChainFault>
+fn check_records(class: Class, octets: &[u8]) -> Result<usize, Fault>
     ensures ok { OnOk result ((given : List RawRecord) × AreGiven class octets.now given) }
     ensures err { IfErr result (IsGivenFault class octets.now) }
 {
@@ -23,10 +23,10 @@ fn check_records(class: Class, octets: &[u8]) -> Result<usize, ChainFault>
     'records: while parser.remaining() > 0 {
         let offset = octets.len() - parser.remaining();
         let Some(record) = next_record(&mut parser) else {
-            return Err(ChainFault::Records(offset));
+            return Err(Fault::NoRecord(offset));
         };
         if record.class() != class {
-            return Err(ChainFault::Class(offset));
+            return Err(Fault::Class(offset));
         }
         count = count.saturating_add(1);
     }
@@ -76,13 +76,13 @@ fn sort_records<'a>(
 ///
 /// # Errors
 ///
-/// `Records` or `Class`, whichever stands first in the octets; and `OutOfMemory`, which says that
+/// `NoRecord` or `Class`, whichever stands first in the octets; and `OutOfMemory`, which says that
 /// neither does.
 pub(crate) fn sorted_zone<'a>(
     alloc: Global,
     class: Class,
     octets: &'a [u8],
-) -> Result<Vec<BorrowedRecord<'a>>, ChainFault>
+) -> Result<Vec<BorrowedRecord<'a>>, Fault>
     ensures ok { IfOk result (λ sorted. AreSorted class octets.now sorted.items) }
     ensures err { IfErr result (IsGivenFault class octets.now) }
 {

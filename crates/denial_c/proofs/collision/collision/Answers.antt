@@ -12,13 +12,13 @@ returns c =
     c.args.options.occlude_below_dname in
     let zone = zone_of_raw c.deref.result.now in
     let pair = pair_of c.in-Some.alike in
-    let first = subst (λ (k : ChainConfig). IsFirstPair zone c.in-Ok.apex k (Some pair)) c.in_ok-config.ensures.ok
-    (subst (λ (o : Option Alike). IsFirstPair zone c.in-Ok.apex (config_of sha1_answer c.in_ok-config.config) (option_map pair_of o)) c.in-Some.is
+    let first = subst (λ (k : ChainConfig). IsFirstPair zone c.in_ok-apex.apex k (Some pair)) c.in_ok-config.ensures.ok
+    (subst (λ (o : Option Alike). IsFirstPair zone c.in_ok-apex.apex (config_of sha1_answer c.in_ok-config.config) (option_map pair_of o)) c.in-Some.is
     c.in_ok-alike.ensures.ok) in (
       c.in_ok-config.ensures.fits,
       (
         pair,
-        pair_found c.in-Ok.ensures.ok c.from_int-class.ensures c.deref.ensures.value c.in_ok-sorted.ensures.ok config (Some pair) first,
+        pair_found c.in_ok-apex.ensures.ok c.from_int-class.ensures c.deref.ensures.value c.in_ok-sorted.ensures.ok config (Some pair) first,
         c.write_lowered.ensures,
         c.write_lowered-2.ensures,
       ),

@@ -10,9 +10,9 @@ returns-in_err-octets c =
     let e = c.in_err-octets.field-0.0 in
     let p = err_from_is_err_and c.from_residual-in_err-octets.result c.from_residual-in_err-octets.ensures.1 in
     rw (p.1, p.2) (
-      chain_fault c.in-Ok.ensures.ok c.from_int-class.ensures c.deref.ensures.value c.in_ok-sorted.ensures.ok (nsec3_making Soa config)
+      chain_fault c.in_ok-apex.ensures.ok c.from_int-class.ensures c.deref.ensures.value c.in_ok-sorted.ensures.ok (nsec3_making Soa config)
           c.args.buffer.now e c.in_ok-config.ensures.fits
-          (subst (λ (k : ChainConfig). IsSortedFault (nsec3_making Soa k) c.from_int-class.result c.args.records.now c.in-Ok.apex c.deref.result.now e)
+          (subst (λ (k : ChainConfig). IsSortedFault (nsec3_making Soa k) c.from_int-class.result c.args.records.now c.in_ok-apex.apex c.deref.result.now e)
           c.in_ok-config.ensures.ok c.in_err-octets.ensures.err),
       refl,
     )
@@ -23,9 +23,9 @@ returns c =
     c.args.options.occlude_below_dname in
     let octets = c.in_ok-octets.octets.items in
     let listed = c.deref.result.now in
-    chain_result c.in-Ok.ensures.ok c.from_int-class.ensures c.deref.ensures.value c.in_ok-sorted.ensures.ok (nsec3_making Soa config)
+    chain_result c.in_ok-apex.ensures.ok c.from_int-class.ensures c.deref.ensures.value c.in_ok-sorted.ensures.ok (nsec3_making Soa config)
     octets c.deref-2.result.now c.args.buffer.now c.write_octets.new.buffer c.in_ok-config.ensures.fits
-    (subst (λ mode. (nsec3_making mode config).is_chain c.in-Ok.apex listed octets) c.in_ok-config.ensures.mode
-    (subst (λ (k : ChainConfig). (nsec3_making c.in_ok-config.config.nsec3param_ttl_mode k).is_chain c.in-Ok.apex listed octets) c.in_ok-config.ensures.ok
+    (subst (λ mode. (nsec3_making mode config).is_chain c.in_ok-apex.apex listed octets) c.in_ok-config.ensures.mode
+    (subst (λ (k : ChainConfig). (nsec3_making c.in_ok-config.config.nsec3param_ttl_mode k).is_chain c.in_ok-apex.apex listed octets) c.in_ok-config.ensures.ok
     c.in_ok-octets.ensures.ok))
     c.deref-2.ensures.value c.write_octets.result c.write_octets.ensures.ok c.write_octets.ensures.err
