@@ -1,85 +1,74 @@
-//! Verdicts, whole answers and faults as C sees them.
+//! Verdicts, whole answers, chains and faults as C sees them.
 ghost use Rattle.std.specs.Prelude.{◌≡◌};
-ghost use Rattle.denial_c.specs.Numbers.{answer_labels, answer_number, answer_told, labels_of, number_of};
-ghost use Rattle.denial_c.specs.Numbers.{verdict_labels, verdict_number, verdict_told};
+ghost use Rattle.denial_c.specs.Numbers.{answer_labels, answer_number, chain_count, chain_number, labels_of, number_of};
+ghost use Rattle.denial_c.specs.Numbers.{verdict_labels, verdict_number};
 
-use crate::fault::{Fault, fault_number};
+use crate::fault::{Fault, fault_number, fault_told};
 use domain_answer::Answer;
 use domain_checker::Verdict;
 
-/// The number of a verdict, and how many labels the closest encloser has; 0 where it has none.
-fn verdict_told(verdict: Verdict) -> (u32, usize)
-    ensures { result ≡ verdict_told verdict }
+/// The number of a verdict or a fault, and how many labels the closest encloser has; 0 where there
+/// is none.
+pub(crate) fn verdict_told(verdict: Result<Verdict, Fault>) -> (u32, usize)
+    ensures number { result.0 ≡ number_of verdict_number verdict }
+    ensures labels { result.1 ≡ labels_of verdict_labels verdict }
 {
     match verdict {
-        Verdict::NotProven => (0, 0),
-        Verdict::OutsideZone => (1, 0),
-        Verdict::BelowDelegation => (2, 0),
-        Verdict::Has => (3, 0),
-        Verdict::NoType => (4, 0),
-        Verdict::EmptyName => (5, 0),
-        Verdict::OptOut(count) => (6, count),
-        Verdict::NoName(count) => (7, count),
+        Ok(Verdict::NotProven) => (0, 0),
+        Ok(Verdict::OutsideZone) => (1, 0),
+        Ok(Verdict::BelowDelegation) => (2, 0),
+        Ok(Verdict::Has) => (3, 0),
+        Ok(Verdict::NoType) => (4, 0),
+        Ok(Verdict::EmptyName) => (5, 0),
+        Ok(Verdict::OptOut(count)) => (6, count),
+        Ok(Verdict::NoName(count)) => (7, count),
+        Err(fault) => (fault_number(fault), 0),
     }
 }
 
-/// The number of a whole answer, and how many labels the zone cut, the owner of the DNAME record or
-/// the closest encloser has; 0 where it has none.
-fn answer_told(answer: Answer) -> (u32, usize)
-    ensures { result ≡ answer_told answer }
+/// The number of a whole answer or a fault, and how many labels the zone cut, the owner of the DNAME
+/// record or the closest encloser has; 0 where there is none.
+pub(crate) fn answer_told(answer: Result<Answer, Fault>) -> (u32, usize)
+    ensures number { result.0 ≡ number_of answer_number answer }
+    ensures labels { result.1 ≡ labels_of answer_labels answer }
 {
     match answer {
-        Answer::NotProven => (32, 0),
-        Answer::OutsideZone => (33, 0),
-        Answer::AtParent => (34, 0),
-        Answer::Referral(count) => (35, count),
-        Answer::Redirected(count) => (36, count),
-        Answer::Has => (37, 0),
-        Answer::NoDs => (38, 0),
-        Answer::Alias => (39, 0),
-        Answer::NoData => (40, 0),
-        Answer::Wildcard(count) => (41, count),
-        Answer::WildcardAlias(count) => (42, count),
-        Answer::WildcardNoData(count) => (43, count),
-        Answer::NameError(count) => (44, count),
-        Answer::MayBeUnsigned(count) => (45, count),
-        Answer::NoCloserName(count) => (46, count),
-        Answer::TooManyIterations => (47, 0),
+        Ok(Answer::NotProven) => (32, 0),
+        Ok(Answer::OutsideZone) => (33, 0),
+        Ok(Answer::AtParent) => (34, 0),
+        Ok(Answer::Referral(count)) => (35, count),
+        Ok(Answer::Redirected(count)) => (36, count),
+        Ok(Answer::Has) => (37, 0),
+        Ok(Answer::NoDs) => (38, 0),
+        Ok(Answer::Alias) => (39, 0),
+        Ok(Answer::NoData) => (40, 0),
+        Ok(Answer::Wildcard(count)) => (41, count),
+        Ok(Answer::WildcardAlias(count)) => (42, count),
+        Ok(Answer::WildcardNoData(count)) => (43, count),
+        Ok(Answer::NameError(count)) => (44, count),
+        Ok(Answer::MayBeUnsigned(count)) => (45, count),
+        Ok(Answer::NoCloserName(count)) => (46, count),
+        Ok(Answer::TooManyIterations) => (47, 0),
+        Err(fault) => (fault_number(fault), 0),
     }
 }
 
-/// Writes the labels of a verdict, and gives its number.
-pub(crate) fn tell_verdict(verdict: Result<Verdict, Fault>, labels: &mut usize) -> u32
-    ensures number { result ≡ number_of verdict_number verdict }
-    ensures labels { labels.new ≡ labels_of verdict_labels verdict }
+/// The number of a chain or a fault, and how many octets the chain has, or what its fault counts.
+pub(crate) fn chain_told(chain: Result<usize, Fault>) -> (u32, usize)
+    ensures number { result.0 ≡ chain_number chain }
+    ensures count { result.1 ≡ chain_count chain }
 {
-    match verdict {
-        Ok(verdict) => {
-            let (number, count) = verdict_told(verdict);
-            *labels = count;
-            number
-        }
-        Err(fault) => {
-            *labels = 0;
-            fault_number(fault)
-        }
+    match chain {
+        Ok(octets) => (48, octets),
+        Err(fault) => fault_told(fault),
     }
 }
 
-/// Writes the labels of a whole answer, and gives its number.
-pub(crate) fn tell_answer(answer: Result<Answer, Fault>, labels: &mut usize) -> u32
-    ensures number { result ≡ number_of answer_number answer }
-    ensures labels { labels.new ≡ labels_of answer_labels answer }
+/// Writes what is counted, and gives the number.
+pub(crate) fn tell(told: (u32, usize), count: &mut usize) -> u32
+    ensures number { result ≡ told.0 }
+    ensures count { count.new ≡ told.1 }
 {
-    match answer {
-        Ok(answer) => {
-            let (number, count) = answer_told(answer);
-            *labels = count;
-            number
-        }
-        Err(fault) => {
-            *labels = 0;
-            fault_number(fault)
-        }
-    }
+    *count = told.1;
+    told.0
 }

@@ -1,6 +1,6 @@
 //! Why there is no answer, no verdict or no chain, and the numbers of that.
 ghost use Rattle.std.specs.Prelude.{◌≡◌};
-ghost use Rattle.denial_c.specs.Numbers.{chain_count, chain_number, fault_number, fault_told};
+ghost use Rattle.denial_c.specs.Numbers.{fault_number, fault_told};
 ghost use Rattle.denial_c.specs.Result.{fault_of};
 ghost use Rattle.denial_c.specs.declared.fault.Fault.TheVariants.{OutOfMemory as memory};
 
@@ -64,7 +64,7 @@ impl From<OutOfMemory> for Fault {
 
 /// The number of a fault, and what it counts: the offset where it stands, or the octets that there
 /// is no room for. 0 where it counts nothing.
-fn fault_told(fault: Fault) -> (u32, usize)
+pub(crate) fn fault_told(fault: Fault) -> (u32, usize)
     ensures { result ≡ fault_told fault }
 {
     match fault {
@@ -90,22 +90,4 @@ pub(crate) fn fault_number(fault: Fault) -> u32
     ensures { result ≡ fault_number fault }
 {
     fault_told(fault).0
-}
-
-/// Writes what is counted, the octets of the chain or what its fault counts, and gives the number.
-pub(crate) fn tell_chain(chain: Result<usize, Fault>, count: &mut usize) -> u32
-    ensures number { result ≡ chain_number chain }
-    ensures count { count.new ≡ chain_count chain }
-{
-    match chain {
-        Ok(octets) => {
-            *count = octets;
-            48
-        }
-        Err(fault) => {
-            let (number, counted) = fault_told(fault);
-            *count = counted;
-            number
-        }
-    }
 }

@@ -30,6 +30,8 @@ mod text;
 mod uneven;
 mod zone;
 
+use crate::answer::{answer_told, chain_told, tell, verdict_told};
+use crate::judge::expansion_answer;
 use crate::nsec3::Telling;
 use crate::nsec3_chain::Hashing;
 use crate::text::ROOM;
@@ -72,10 +74,8 @@ pub extern "C" fn denial_judge_nsec(
     ensures { IsTold answer_number answer_labels
         (IsNsecAnswer apex.now name.now rtype class records.now) result labels.new }
 {
-    answer::tell_answer(
-        judge::nsec_answer(alloc, apex, name, rtype, class, records),
-        labels,
-    )
+    let answer = judge::nsec_answer(alloc, apex, name, rtype, class, records);
+    tell(answer_told(answer), labels)
 }
 
 /// What NSEC3 records answer to a question about a name and a type, as a whole, with the one
@@ -100,10 +100,8 @@ pub extern "C" fn denial_judge_nsec3(
         result labels.new }
 {
     let told = Telling::ByRecord;
-    answer::tell_answer(
-        judge::nsec3_answer(alloc, told, apex, name, rtype, class, limit, records),
-        labels,
-    )
+    let answer = judge::nsec3_answer(alloc, told, apex, name, rtype, class, limit, records);
+    tell(answer_told(answer), labels)
 }
 
 /// What NSEC3 records answer to a question about a name and a type, as a whole, with no NSEC3PARAM
@@ -129,10 +127,8 @@ pub extern "C" fn denial_judge_nsec3_alone(
         (IsNsec3Answer (alone class records.now) apex.now name.now rtype limit) result labels.new }
 {
     let told = Telling::ByFirst;
-    answer::tell_answer(
-        judge::nsec3_answer(alloc, told, apex, name, rtype, class, limit, records),
-        labels,
-    )
+    let answer = judge::nsec3_answer(alloc, told, apex, name, rtype, class, limit, records);
+    tell(answer_told(answer), labels)
 }
 
 /// What NSEC3 records answer of a name whose records were expanded from a wildcard, with the one
@@ -158,10 +154,8 @@ pub extern "C" fn denial_judge_nsec3_expansion(
         result labels.new }
 {
     let told = Telling::ByRecord;
-    answer::tell_answer(
-        judge::expansion_answer(alloc, told, apex, name, rrsig_labels, class, limit, records),
-        labels,
-    )
+    let answer = expansion_answer(alloc, told, apex, name, rrsig_labels, class, limit, records);
+    tell(answer_told(answer), labels)
 }
 
 /// What NSEC3 records answer of a name whose records were expanded from a wildcard, with no
@@ -186,10 +180,8 @@ pub extern "C" fn denial_judge_nsec3_expansion_alone(
         result labels.new }
 {
     let told = Telling::ByFirst;
-    answer::tell_answer(
-        judge::expansion_answer(alloc, told, apex, name, rrsig_labels, class, limit, records),
-        labels,
-    )
+    let answer = expansion_answer(alloc, told, apex, name, rrsig_labels, class, limit, records);
+    tell(answer_told(answer), labels)
 }
 
 /// What NSEC records prove of a name and a type. Takes no memory.
@@ -208,10 +200,8 @@ pub extern "C" fn denial_check_nsec(
     ensures { IsTold verdict_number verdict_labels
         (IsNsecResult apex.now name.now rtype class records.now) result labels.new }
 {
-    answer::tell_verdict(
-        nsec::nsec_verdict(apex, name, rtype, class, records),
-        labels,
-    )
+    let verdict = nsec::nsec_verdict(apex, name, rtype, class, records);
+    tell(verdict_told(verdict), labels)
 }
 
 /// What NSEC3 records prove of a name and a type, with the one NSEC3PARAM record of the apex among
@@ -232,10 +222,8 @@ pub extern "C" fn denial_check_nsec3(
     ensures { IsTold verdict_number verdict_labels
         (IsNsec3Result (with_param class records.now) apex.now name.now rtype) result labels.new }
 {
-    answer::tell_verdict(
-        nsec3::nsec3_verdict(alloc, Telling::ByRecord, apex, name, rtype, class, records),
-        labels,
-    )
+    let verdict = nsec3::nsec3_verdict(alloc, Telling::ByRecord, apex, name, rtype, class, records);
+    tell(verdict_told(verdict), labels)
 }
 
 /// What NSEC3 records prove of a name and a type, with no NSEC3PARAM record among them: the first
@@ -257,10 +245,8 @@ pub extern "C" fn denial_check_nsec3_alone(
     ensures { IsTold verdict_number verdict_labels
         (IsNsec3Result (alone class records.now) apex.now name.now rtype) result labels.new }
 {
-    answer::tell_verdict(
-        nsec3::nsec3_verdict(alloc, Telling::ByFirst, apex, name, rtype, class, records),
-        labels,
-    )
+    let verdict = nsec3::nsec3_verdict(alloc, Telling::ByFirst, apex, name, rtype, class, records);
+    tell(verdict_told(verdict), labels)
 }
 
 /// Writes the NSEC chain of a zone into the buffer, its records one after another in canonical
@@ -290,10 +276,8 @@ pub extern "C" fn denial_nsec_chain(
         assume_dnskeys_will_be_added: assume_dnskey,
         occlude_below_dname,
     };
-    fault::tell_chain(
-        nsec_chain::nsec_chain(alloc, apex, class, &config, records, chain),
-        count,
-    )
+    let made = nsec_chain::nsec_chain(alloc, apex, class, &config, records, chain);
+    tell(chain_told(made), count)
 }
 
 /// Writes the NSEC3 chain of a zone into the buffer, its records one after another in the order of
@@ -331,10 +315,8 @@ pub extern "C" fn denial_nsec3_chain(
         assume_dnskeys_will_be_added: assume_dnskey,
         occlude_below_dname,
     };
-    fault::tell_chain(
-        nsec3_chain::nsec3_chain(alloc, apex, class, hashing, options, records, chain),
-        count,
-    )
+    let made = nsec3_chain::nsec3_chain(alloc, apex, class, hashing, options, records, chain);
+    tell(chain_told(made), count)
 }
 
 /// The two names for which a zone has no NSEC3 chain, since they hash alike: the first name of the

@@ -1,8 +1,7 @@
 //! The records of a zone, as octets have them and sorted.
 ghost use Rattle.std.specs.Prelude.{List, IfErr, IfOk, OnOk};
-ghost use Rattle.domain_records.specs.Order.{IsInOrder, IsOneClass};
 ghost use Rattle.domain_borrowed.specs.Data.{RawRecord};
-ghost use Rattle.denial_c.specs.{Chains.{AreSorted, IsGivenFault, Sorts}, Given.AreGiven};
+ghost use Rattle.denial_c.specs.{Chains.{AreSorted, IsGivenFault}, Given.AreGiven};
 
 use crate::among::next_record;
 use crate::fault::Fault;
@@ -54,24 +53,6 @@ fn read_records<'a>(
     Ok(records)
 }
 
-/// The records, sorted; of equal ones the earliest is kept.
-fn sort_records<'a>(
-    records: Vec<BorrowedRecord<'a>>,
-) -> Result<Vec<BorrowedRecord<'a>>, OutOfMemory>
-    requires { IsOneClass records.items }
-    ensures sorts { IfOk result (λ sorted. Sorts records.entry.items sorted.items) }
-    ensures one_class { IfOk result (λ sorted. IsOneClass sorted.items) }
-    ensures in_order { IfOk result (λ sorted. IsInOrder (λ n. n) (λ d. d.rtype) sorted.items) }
-{
-    let sorted: SortedRecords<ParsedName<'a>, BorrowedData<'a>> = match SortedRecords::from_vec(
-        records,
-    ) {
-        Ok(sorted) => sorted,
-        Err(_) => return Err(OutOfMemory),
-    };
-    Ok(sorted.into_inner())
-}
-
 /// The records of the class that the octets are, sorted; of equal ones the earliest is kept.
 ///
 /// # Errors
@@ -88,5 +69,11 @@ pub(crate) fn sorted_zone<'a>(
 {
     let count = check_records(class, octets)?;
     let records = read_records(alloc, class, octets, count)?;
-    Ok(sort_records(records)?)
+    let sorted: SortedRecords<ParsedName<'a>, BorrowedData<'a>> = match SortedRecords::from_vec(
+        records,
+    ) {
+        Ok(sorted) => sorted,
+        Err(_) => return Err(Fault::OutOfMemory),
+    };
+    Ok(sorted.into_inner())
 }
