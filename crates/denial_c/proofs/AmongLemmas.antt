@@ -4,8 +4,10 @@ use Rattle.std.proofs.Common.{append_assoc, append-nil}
 use Rattle.std.proofs.lemmas.{Grind.common_steps, List.{map-append, Elements.filter-append}}
 use Rattle.std.specs.{Prelude.filter, List.{AllByRecursion, flat_map}}
 use Rattle.domain_borrowed.{specs.{Data.RawRecord, Wire.{record_octets, IsRecord}}, proofs.WireLemmas.{same_record, some_octets}}
-use Rattle.domain_zone.proofs.{FindLemmas.{from_map, in_filtered}, PairLemmas.{In, all_in}, ZoneLemmas.{all_both}}
-use Rattle.denial_c.specs.{Among.AreAmong, Given.BeginsNone}
+use Rattle.domain_zone.proofs.{FindLemmas.{from_map, in_filtered}, PairLemmas.{In, all_in}, ZoneLemmas.{all_both, all_front, weaker}}
+use Rattle.domain_dnssec.proofs.AmongLemmas.{all_pairs}
+use Rattle.domain_records.specs.Order.{IsOneClass}
+use Rattle.denial_c.specs.{Among.AreAmong, Given.{AreGiven, BeginsNone, IsOfClass}}
 
 -- ---- what was read, and what is left
 
@@ -122,3 +124,19 @@ module _ {K : Type 0} (is_kept : RawRecord → Bool) (raw : K → RawRecord) (Is
         let i = next_in left after s.before m.records q ahead begins fits in
         let k = from_map raw others q (subst (In q) m.those (in_filtered is_kept m.records q i on)) in
         none k.0 (sym k.2) (all_in IsKept others k.0 m.fit k.1)
+
+-- ---- records of a class
+
+module _ {class : ℕ} {octets left : List ℕ} {given before : List RawRecord} (g : AreGiven class octets given) (p : IsPast IsRecord octets left before) where
+  -- those that were read are the first of them
+  pub rest_given : HasRest left before given
+  rest_given = rest_of before given left p.whole (weaker (IsOfClass class) IsRecord (λ r h. h.0) given g.whole) (sym p.are ∙ g.are)
+
+  pub before_of_class : AllByRecursion (IsOfClass class) before
+  before_of_class = (all_front (IsOfClass class) before rest_given.rest (subst (AllByRecursion (IsOfClass class)) rest_given.all_are g.whole)).0
+
+-- records of the class are of one class
+pub one_class_of : (class : ℕ) (given : List RawRecord) → AllByRecursion (IsOfClass class) given → IsOneClass given
+one_class_of class given h =
+    all_pairs (λ (r s : RawRecord). r.class ≡ s.class) (λ r. refl) (λ r s e. sym e) given
+    (λ r s i j. (all_in (IsOfClass class) given r h i).1 ∙ sym (all_in (IsOfClass class) given s h j).1)

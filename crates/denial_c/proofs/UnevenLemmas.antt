@@ -15,7 +15,7 @@ use Rattle.domain_zone.proofs.{GivenLemmas.{name_of, next_is_owner}, OwnerLemmas
 use Rattle.domain_zone.proofs.{TtlLemmas.{has_neighbour_clash, neighbours_tell, NeverDescend}, ZoneLemmas.{all_both, all_front, any_none, filter_whole, weaker}}
 use Rattle.domain_zone.proofs.FindLemmas.{in_filter, in_filtered, in_front, in_map, in_middle, from_map, in_either}
 use Rattle.denial_c.specs.{Chains.Sorts, Given.AreGiven, Uneven.{is_in_set, is_other, set_of, IsFirstClash, IsFirstUneven, IsUnevenAt}}
-use Rattle.denial_c.proofs.{AmongLemmas.{all_read, past_more, IsPast}, GivenLemmas.{before_of_class, rest_given}}
+use Rattle.denial_c.proofs.AmongLemmas.{all_read, before_of_class, past_more, rest_given, IsPast}
 
 abbrev pub see : RawRecord → ZoneRecord
 see = as_zone_record (λ n. n) (λ d. d.rtype) minimum_of

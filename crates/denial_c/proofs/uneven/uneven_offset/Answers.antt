@@ -1,6 +1,6 @@
 use Rattle.std.proofs.{lemmas.Grind.common_steps, Common.{◌-◌, ap, arith, length, sym, ◌∙◌}}
 use Rattle.denial_c.specs.Uneven.{is_other}
-use Rattle.denial_c.proofs.{AmongLemmas.{no_end, no_octets}, GivenLemmas.rest_given, UnevenLemmas.{scanned_all, scanned_found, scanned_other, scanned_same}}
+use Rattle.denial_c.proofs.{AmongLemmas.{no_end, no_octets, rest_given}, UnevenLemmas.{scanned_all, scanned_found, scanned_other, scanned_same}}
 use Rattle.denial_c.proofs.uneven.uneven_offset.Goals as goal
 
 pub unreachable-requires : goal.unreachable-requires

@@ -1,7 +1,7 @@
 use Rattle.std.proofs.Common.{sym, subst}
 use Rattle.domain_borrowed.specs.Data.{data_cmp}
 use Rattle.domain_records.proofs.OrderLemmas.{in_order_from_sorted}
-use Rattle.denial_c.{specs.Chains.AreSorted, proofs.{ChainLemmas.sorted_one_class, GivenLemmas.one_class_of}}
+use Rattle.denial_c.{specs.Chains.AreSorted, proofs.{ChainLemmas.sorted_one_class, AmongLemmas.one_class_of}}
 use Rattle.denial_c.proofs.zone.sorted_zone.Goals as goal
 
 pub returns-clause-ok : goal.returns-clause-ok
