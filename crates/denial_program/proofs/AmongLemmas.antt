@@ -42,11 +42,6 @@ pub record IsHanding (all left : List RawRecord) (old new : NsecCheck) : Type 0 
   pub goes : Goes IsNsecOf all left links
   pub adds : Adds old new links
 
-pub handing_other : (all left rest : List RawRecord) (old new : NsecCheck) (r : RawRecord) → IsHanding all left old new → left ≡ r ∷ rest
-    → ((k : Link) → IsNsecOf r k → ⊥)
-    → IsHanding all rest old new
-handing_other all left rest old new r s e none = grind (arith, common_steps)
-
 pub handing_one : (all left rest : List RawRecord) (old mid new : NsecCheck) (r : RawRecord) (k : Link)
     → IsHanding all left old mid → left ≡ r ∷ rest → IsNsecOf r k
     → ((a x : Name) (t : ℕ) (before : List Link) → HasRead a x t before mid → HasRead a x t (before ++ k ∷ []) new)

@@ -9,4 +9,3 @@ pub mod AnswerLemmas
 pub mod CheckLemmas
 pub mod AmongLemmas
 pub mod SpelledLemmas
-pub mod LinkLineLemmas

@@ -1,14 +1,10 @@
 -- How far a reader has come, where it tells its octets.
 use Rattle.std.proofs.lemmas.Grind.{common_steps}
 use Rattle.std.proofs.Common.{◌≡◌, ◌≢◌, ℕ, ◌+◌, ◌-◌, ◌<◌, List, [], ◌∷◌, ◌++◌, length, get_or, refl, ap, sym, ◌∙◌, subst, arith, inl, inr, Some, None, IfSome}
-use Rattle.std.proofs.{Common.{Option, append-nil, append_assoc}, lemmas.List.Elements.{All-nil, All-cons}}
+use Rattle.std.proofs.{BufReadLemmas.take_through_nonempty, Common.{Option, append-nil, append_assoc}, lemmas.List.Elements.{All-nil, All-cons}}
 use Rattle.std.specs.{Str.Lines.{lines, strip_carriage_return}, Io.{BufRead.{take_through, drop_through, DropsThrough}, KnownBytes.IsAtEnd}}
 use Rattle.domain_borrowed.specs.Data.{RawRecord}
-use Rattle.denial_program.{specs.{Words.{words, IsSkipped}, Listing.{Give, IsLineRecord, IsGood, IsBad, IsFirstBad}}, proofs.LineSteps.lines_step}
-
-pub taken_some : (bs : List ℕ) → 0 < length (take_through 10 bs) → 0 < length bs
-taken_some [] h = h
-taken_some (x ∷ xs) h = omega arith
+use Rattle.denial_program.{specs.{Words.{words, IsSkipped}, Listing.{Give, IsLineRecord, IsGood, IsBad, IsFirstBad}}, proofs.LineSteps.line_once}
 
 -- what rest gives after these records, all gives; and rest begins with the line of this number
 pub record Continues (all rest : List (List ℕ)) (records : List RawRecord) (number : ℕ) : Type 0 where
@@ -59,10 +55,10 @@ follows_next (Some all) old new records number was buf view out h drops empty fi
     let held : buf ≡ was ++ take_through 10 rest = subst (λ o. IfSome o (λ xs. buf ≡ was ++ take_through 10 xs)) h.1 filled in
     let taken : buf ≡ take_through 10 rest = held ∙ ap (λ (w : List ℕ). w ++ take_through 10 rest) empty in
     let seen : view ≡ take_through 10 rest = same ∙ taken in
-    let step : lines rest ≡ out ∷ lines (drop_through 10 rest) =
-    lines_step rest out (taken_some rest (subst (λ (t : List ℕ). 0 < length t) taken some))
-    (λ front e. ended front (seen ∙ e))
-    (λ p. last (subst (λ (t : List ℕ). get_or t (length t - 1) 0 ≢ 10) (sym seen) p) ∙ seen) in
+    let once = line_once rest (take_through_nonempty 10 rest (subst (λ (t : List ℕ). 0 < length t) taken some)) in
+    let kept : out ≡ once.0 =
+    once.3 out (λ front e. ended front (seen ∙ e)) (λ p. last (subst (λ (t : List ℕ). get_or t (length t - 1) 0 ≢ 10) (sym seen) p) ∙ seen) in
+    let step : lines rest ≡ out ∷ lines (drop_through 10 rest) = once.1 ∙ ap (λ l. l ∷ lines (drop_through 10 rest)) (sym kept) in
     (drop_through 10 rest, dropped, subst (λ ls. Continues (lines all) ls records number) step h.2)
 
 pub follows_skip : (known now : Option (List ℕ)) (out : List ℕ) (records : List RawRecord) (number : ℕ)

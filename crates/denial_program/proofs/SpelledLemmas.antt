@@ -1,63 +1,145 @@
--- The records of octets that lines give are those of the data that the lines spell.
-use Rattle.std.proofs.{Common.{◌≡◌, ℕ, ◌<◌, ◌^◌, List, [], ◌∷◌, map, None, refl, sym, ◌∙◌, subst, inl, inr}, lemmas.List.Elements.All-from_recursion}
+-- What data that lines spell have in common with those of links, and with the octets that are kept of them.
+use Rattle.std.proofs.Common.{◌≡◌, ℕ, ◌*◌, ◌+◌, ◌%◌, ◌<◌, ◌^◌, List, [], ◌∷◌, length, map, Option, Some, None, unwrap_or, refl, sym, ap, ◌∙◌}
+use Rattle.std.proofs.Common.{subst, inl, inr, arith}
+use Rattle.std.proofs.lemmas.{Bool.Decides.nat_tests, Grind.common_steps, List.Elements.{All-from_get_or, All-from_recursion}}
 use Rattle.std.specs.List.{AllByRecursion}
-use Rattle.domain_octets.specs.Words.{Octets}
-use Rattle.domain_names.specs.Words.{Name, Tokens}
-use Rattle.domain_base.specs.Numbers.{TypeText}
+use Rattle.hex.proofs.HexLemmas.{decode_of-ok}
+use Rattle.domain_octets.specs.Words.{AreOctets, Octets}
+use Rattle.domain_names.specs.{Name.IsName, Text.{NameText, root, of_labels}, Words.{Name, Tokens}}
+use Rattle.domain_base.specs.Scan.{IsNumber}
 use Rattle.domain_base.specs.Types as rtypes
-use Rattle.domain_rdata.specs.{Scan.{RdataText, own, generic}, Zone.{kind_of, rtype_of}}
-use Rattle.domain_rdata.specs.declared.zone_record_data.ZoneRecordData.{ZoneRecordData, TheVariants.{Soa, Unknown}}
-use Rattle.domain_borrowed.specs.Data.{RawRecord}
+use Rattle.domain_codecs.specs.Codec.{base32_digits, base32_octets, base32_value}
+use Rattle.domain_codecs.proofs.Scale.{IsScale, no_bits, one_bit, two_bits, three_bits, four_bits, five_bits, six_bits, seven_bits}
+use Rattle.domain_bitmap.specs.{Blocks.IsBitmap, HashText.{OwnerHashText, SaltText, dash, digits}, Scan.is_among}
+use Rattle.domain_bitmap.proofs.BitmapLemmas.{IsBitmap-bitmap_octets}
+use Rattle.domain_fields.specs.Layout.{Fits, Values}
+use Rattle.domain_chain_rdata.specs.{Nsec3paramText.Nsec3paramText, Rdata.{hash_fields, nsec3param, nsec3_values, nsec3param_values}}
+use Rattle.domain_rdata.specs.{Kind.{Kind, next_by_name, next_by_hash, params, plain}, Scan.{RdataText, own, generic}, Zone.{kind_of, rtype_of}}
+use Rattle.domain_rdata.specs.declared.zone_record_data.ZoneRecordData.{ZoneRecordData, TheVariants.{Soa, Nsec, Nsec3, Nsec3param, Unknown}}
+use Rattle.domain_plain.specs.Plain.{soa}
+use Rattle.domain_borrowed.specs.{Data.RawRecord, Links.{IsParam, param_record}}
 use Rattle.domain_dnssec.{specs.RawRecords.{HaveOneChain, TellsMinimum, raw_record}, proofs.RawLemmas.one_chain}
-use Rattle.denial_program.specs.{Listing.Give, Spelled.{GiveData, SpelledRecord, SpellsRecord}, Words.{words, LineText}}
+use Rattle.denial_program.specs.{Check.{IsNsecOf, IsNsec3Of}, Listing.{Give, GiveData}, Spelled.{LineText, SpelledRecord}}
 
 abbrev pub SpelledData : Type 0
 SpelledData = ZoneRecordData Octets Name
 
-abbrev pub IsSpelled : ℕ → Tokens → SpelledData → Type 0
-IsSpelled rtype old d = RdataText (λ o. o) (λ n. n) rtype old d []
+abbrev pub IsSpelled : ℕ → Tokens → SpelledData → Tokens → Type 0
+IsSpelled = RdataText (λ o. o) (λ n. n)
 
 abbrev see : SpelledRecord → RawRecord
 see = raw_record (λ o. o) (λ n. n)
 
-pub type_told : (rtype : ℕ) (old : Tokens) (d : SpelledData) → IsSpelled rtype old d → rtype ≡ rtype_of d
-type_told rtype old d (own other text) = text.0
-type_told rtype old d (generic wire text are end) = are.0
+pub type_told : (rtype : ℕ) (old new : Tokens) (d : SpelledData) → IsSpelled rtype old d new → rtype ≡ rtype_of d
+type_told rtype old new d (own other text) = text.0
+type_told rtype old new d (generic wire text are end) = are.0
 
--- an SOA is read as such, whose numbers have 32 bits
-minimum_told : (rtype : ℕ) (old : Tokens) (d : SpelledData) → IsSpelled rtype old d → TellsMinimum d
-minimum_told rtype old (Soa d) (own other text) = let minimum = text.1.2.2.2.holds in subst (λ n. n < 2 ^ 32) (sym minimum.value) minimum.fits
-minimum_told rtype old (Soa d) (generic wire text are end) = are.1.fits.1.1.1
-minimum_told rtype old (Unknown d) (own other text) = absurd text.1
-minimum_told rtype old (Unknown d) (generic wire text are end) = λ e.
-    let known : kind_of rtypes.soa ≡ None = subst (λ t. kind_of t ≡ None) (are.0 ∙ e) are.1.0 in absurd (cc)
-minimum_told rtype old _ text = tt
+-- ---- what texts spell has octets that are such
 
-spelled_by : (ws : Tokens) (r : RawRecord) → LineText ws r → (s : SpelledRecord) × SpellsRecord ws s × TellsMinimum s.«data» × (see s ≡ r)
-spelled_by ws r t =
-    let type = type_told r.«data».rtype t.data_words t.spelled t.rdata in (
-      record { owner = r.owner; class = r.class; ttl = r.ttl; «data» = t.spelled },
-      record {
-        owner_word = t.owner_word;
-        ttl_word = t.ttl_word;
-        class_word = t.class_word;
-        type_word = t.type_word;
-        data_words = t.data_words;
-        are = t.are;
-        owner = t.owner;
-        ttl = t.ttl;
-        class = t.class;
-        type = subst (TypeText t.type_word) type t.type;
-        rdata = subst (λ rtype. IsSpelled rtype t.data_words t.spelled) type t.rdata;
-      },
-      minimum_told r.«data».rtype t.data_words t.spelled t.rdata,
-      λ i. record {
-        owner = r.owner;
-        class = r.class;
-        ttl = r.ttl;
-        «data» = record { rtype = sym type i; octets = sym t.octets i };
-      },
+spelled_name : (text : Octets) (labels : Name) → NameText text labels → IsName labels
+spelled_name text labels root = record { of_labels = tt; fits = omega arith }
+spelled_name text labels (of_labels t l spelled valid) = valid
+
+digit_small : (c : ℕ) → unwrap_or (base32_value c) 0 < 32
+digit_small c = by (base32_value c) refl
+  where
+    by : (v : Option ℕ) → base32_value c ≡ v → unwrap_or v 0 < 32
+    by None e = omega arith
+    by (Some v) e = grind (arith, common_steps, nat_tests)
+
+digits_small : (text : Octets) → AllByRecursion (λ d. d < 32) (base32_digits text)
+digits_small [] = tt
+digits_small (c ∷ text) = (digit_small c, digits_small text)
+
+groups_small : (scale rest : ℕ) (digits : Octets) → IsScale scale → rest < scale → AllByRecursion (λ d. d < 32) digits
+    → AllByRecursion (λ o. o < 256) (base32_octets scale rest digits)
+unfolding base32_octets
+groups_small scale rest [] s r d = tt
+groups_small scale rest (x ∷ xs) no_bits r d = groups_small 32 (32 * rest + x) xs five_bits (let a = d.0 in omega arith) d.1
+groups_small scale rest (x ∷ xs) one_bit r d = groups_small 64 (32 * rest + x) xs six_bits (let a = d.0 in omega arith) d.1
+groups_small scale rest (x ∷ xs) two_bits r d = groups_small 128 (32 * rest + x) xs seven_bits (let a = d.0 in omega arith) d.1
+groups_small scale rest (x ∷ xs) three_bits r d =
+    let a = d.0 in (omega arith, groups_small 1 ((32 * rest + x) % 1) xs no_bits (omega arith) d.1)
+groups_small scale rest (x ∷ xs) four_bits r d =
+    let a = d.0 in (omega arith, groups_small 2 ((32 * rest + x) % 2) xs one_bit (omega arith) d.1)
+groups_small scale rest (x ∷ xs) five_bits r d =
+    let a = d.0 in (omega arith, groups_small 4 ((32 * rest + x) % 4) xs two_bits (omega arith) d.1)
+groups_small scale rest (x ∷ xs) six_bits r d =
+    let a = d.0 in (omega arith, groups_small 8 ((32 * rest + x) % 8) xs three_bits (omega arith) d.1)
+groups_small scale rest (x ∷ xs) seven_bits r d =
+    let a = d.0 in (omega arith, groups_small 16 ((32 * rest + x) % 16) xs four_bits (omega arith) d.1)
+
+abbrev AreCounted : Octets → Type 0
+AreCounted octets = (length octets < 2 ^ 8) × AreOctets octets
+
+spelled_salt : (text salt : Octets) → SaltText text salt → AreCounted salt
+spelled_salt text salt (dash t e) = (omega arith, All-from_recursion (λ o. o < 256) [] tt)
+spelled_salt text salt (digits t octets other decoded counted) =
+    (omega arith, All-from_get_or (λ o. o < 256) salt 0 (λ i below. (decode_of-ok text salt decoded).3 i))
+
+spelled_hash : (text hash : Octets) → OwnerHashText text hash → AreCounted hash
+spelled_hash text hash t = (
+  omega (arith, t.counted),
+  All-from_recursion (λ o. o < 256) hash (subst (AllByRecursion (λ o. o < 256)) (sym t.decoded.value)
+      (groups_small 1 0 (base32_digits text) no_bits (omega arith) (digits_small text))),
+)
+
+number_fits : (bits : ℕ) (text : Octets) (n : ℕ) → IsNumber bits text n → n < 2 ^ bits
+number_fits bits text n t = subst (λ m. m < 2 ^ bits) (sym t.value) t.fits
+
+spelled_params : (old new : Tokens) (v : Values nsec3param) → Nsec3paramText old v new → Fits nsec3param v
+spelled_params old new v t =
+    let numbers = t.1 in (
+      (
+        number_fits 8 numbers.1.token v.0.0 numbers.1.holds,
+        (
+          number_fits 8 numbers.2.1.token v.0.1.0 numbers.2.1.holds,
+          number_fits 16 numbers.2.2.token v.0.1.1 numbers.2.2.holds,
+        ),
+      ),
+      spelled_salt t.2.token v.1 t.2.holds,
     )
+
+-- ---- data that are spelled in the form of their type, or as octets
+
+abbrev pub AreSound : SpelledData → Type 0
+AreSound (Soa d) = d.minimum < 2 ^ 32
+AreSound (Nsec d) = IsName d.next_name × IsBitmap d.types
+AreSound (Nsec3 d) = Fits hash_fields (nsec3_values d).0 × IsBitmap d.types
+AreSound (Nsec3param d) = Fits nsec3param (nsec3param_values d)
+AreSound (Unknown d) = kind_of d.rtype ≡ None
+AreSound _ = Unit {0}
+
+are_sound : (rtype : ℕ) (old : Tokens) (d : SpelledData) → IsSpelled rtype old d [] → AreSound d
+are_sound rtype old (Soa d) (own other text) = number_fits 32 text.1.2.2.2.token d.minimum text.1.2.2.2.holds
+are_sound rtype old (Soa d) (generic wire text are end) = are.1.fits.1.1.1
+are_sound rtype old (Nsec d) (own other text) = (
+  spelled_name text.1.next_name.token d.next_name text.1.next_name.holds,
+  subst IsBitmap (sym text.1.built) (IsBitmap-bitmap_octets (is_among text.1.types)),
+)
+are_sound rtype old (Nsec d) (generic wire text are end) = (are.1.begins.fits.0, are.1.bitmap)
+are_sound rtype old (Nsec3 d) (own other text) =
+    let hash = text.1.1 in (
+      (spelled_params old hash.0 (nsec3_values d).0.0 hash.1, spelled_hash hash.2.token d.next_owner hash.2.holds),
+      subst IsBitmap (sym text.1.2.built) (IsBitmap-bitmap_octets (is_among text.1.2.types)),
+    )
+are_sound rtype old (Nsec3 d) (generic wire text are end) = (are.1.begins.fits.0, are.1.bitmap)
+are_sound rtype old (Nsec3param d) (own other text) = spelled_params old [] (nsec3param_values d) text.1
+are_sound rtype old (Nsec3param d) (generic wire text are end) = are.1.fits
+are_sound rtype old (Unknown d) (own other text) = absurd text.1
+are_sound rtype old (Unknown d) (generic wire text are end) = subst (λ t. kind_of t ≡ None) are.0 are.1.0
+are_sound rtype old _ text = tt
+
+-- a type with a form of its own is none of those whose data are mere octets
+formless : (rtype other : ℕ) (k : Kind) → kind_of rtype ≡ None → rtype ≡ other → kind_of other ≡ Some k → ⊥
+formless rtype other k none same known = let e = subst (λ t. kind_of t ≡ None) same none in absurd (cc)
+
+-- ---- the chain of what lines give is that of what they spell
+
+minimum_told : (d : SpelledData) → AreSound d → TellsMinimum d
+minimum_told (Soa d) sound = sound
+minimum_told (Unknown d) sound = λ e. formless d.rtype rtypes.soa (plain soa) sound e refl
+minimum_told _ sound = tt
 
 given_spelled : (lines : List Octets) (given : List RawRecord) → Give lines given
     → (spelled : List SpelledRecord) × GiveData lines spelled × AllByRecursion (λ r. TellsMinimum r.«data») spelled × (map see spelled ≡ given)
@@ -65,11 +147,11 @@ given_spelled [] given none = ([], refl, tt, sym none)
 given_spelled (line ∷ more) given (inl (skipped, g)) = let s = given_spelled more given g in (s.0, inl (skipped, s.1), s.2, s.3)
 given_spelled (line ∷ more) given (inr (r, others, is, said, g)) =
     let s = given_spelled more others g in
-    let d = spelled_by (words line) r said.spelled in (
-      d.0 ∷ s.0,
-      inr (d.0, s.0, refl, record { seen = said.seen; plain = said.plain; spelled = d.1 }, s.1),
-      (d.2, s.2),
-      (λ i. d.3 i ∷ s.3 i) ∙ sym is,
+    let t = said.spelled in (
+      t.spelled ∷ s.0,
+      inr (t.spelled, s.0, refl, record { seen = said.seen; plain = said.plain; spelled = t.are }, s.1),
+      (minimum_told t.spelled.«data» (are_sound _ _ t.spelled.«data» t.are.spelled), s.2),
+      (λ i. t.raw i ∷ s.3 i) ∙ sym is,
     )
 
 pub lines_have_one_chain : (lines : List Octets) (given : List RawRecord) → Give lines given
@@ -81,3 +163,59 @@ lines_have_one_chain lines given g =
       subst (λ raw. HaveOneChain (λ o. o) (λ n. n) raw s.0) s.3
           (one_chain (λ o. o) (λ n. n) s.0 (All-from_recursion (λ r. TellsMinimum r.«data») s.0 s.2)),
     )
+
+-- ---- each line of an NSEC, NSEC3 or NSEC3PARAM record gives a link, or parameters
+
+abbrev raw : Name → ℕ → ℕ → SpelledData → RawRecord
+raw owner class ttl d = see (record { owner = owner; class = class; ttl = ttl; «data» = d })
+
+-- what data of this type give
+abbrev Gives : {K : Type 0} → ℕ → (RawRecord → K → Type 0) → Type 0
+Gives {K} rtype Is =
+    (owner : Name) (class ttl : ℕ) (d : SpelledData) → AreSound d → rtype_of d ≡ rtype → (k : K) × Is (raw owner class ttl d) k
+
+pub nsec_given : Gives rtypes.nsec IsNsecOf
+nsec_given owner class ttl (Nsec d) sound e = (
+  record { owner = owner; next = d.next_name; class = class; ttl = ttl; bits = d.types },
+  record { is = refl; fits = record { next = sound.0; bits = sound.1 } },
+)
+nsec_given owner class ttl (Unknown d) sound e = absurd (formless d.rtype rtypes.nsec next_by_name sound e refl)
+nsec_given owner class ttl d sound e = absurd (omega arith)
+
+pub nsec3_given : Gives rtypes.nsec3 IsNsec3Of
+nsec3_given owner class ttl (Nsec3 d) sound e = (
+  record {
+    owner = owner;
+    next = d.next_owner;
+    class = class;
+    ttl = ttl;
+    parameters = record { algorithm = d.hash_algorithm; iterations = d.iterations; salt = d.salt };
+    flags = d.flags;
+    bits = d.types;
+  },
+  record { is = refl; fits = record { fields = sound.0; bits = sound.1 } },
+)
+nsec3_given owner class ttl (Unknown d) sound e = absurd (formless d.rtype rtypes.nsec3 next_by_hash sound e refl)
+nsec3_given owner class ttl d sound e = absurd (omega arith)
+
+pub param_given : Gives rtypes.nsec3param (λ r k. (r ≡ param_record k) × IsParam k)
+param_given owner class ttl (Nsec3param d) sound e = (
+  record {
+    owner = owner;
+    class = class;
+    ttl = ttl;
+    parameters = record { algorithm = d.hash_algorithm; iterations = d.iterations; salt = d.salt };
+    flags = d.flags;
+  },
+  (refl, sound),
+)
+param_given owner class ttl (Unknown d) sound e = absurd (formless d.rtype rtypes.nsec3param params sound e refl)
+param_given owner class ttl d sound e = absurd (omega arith)
+
+-- so does a line that spells them
+pub line_gives : {K : Type 0} (rtype : ℕ) (Is : RawRecord → K → Type 0) → Gives rtype Is → (words : Tokens) (r : RawRecord)
+    → LineText words r → r.«data».rtype ≡ rtype → (k : K) × Is r k
+line_gives {K} rtype Is gives words r t e =
+    let s = t.spelled in
+    subst (λ (x : RawRecord). (k : K) × Is x k) t.raw
+    (gives s.owner s.class s.ttl s.«data» (are_sound _ _ s.«data» t.are.spelled) (ap (λ (x : RawRecord). x.«data».rtype) t.raw ∙ e))

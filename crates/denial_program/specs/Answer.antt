@@ -2,15 +2,15 @@
 use Rattle.std.specs.{Prelude.{◌≡◌, ◌⊎◌, true, false, List, Option}, Io.KnownBytes.Appends}
 use Rattle.domain_octets.specs.Words.{Octets}
 use Rattle.domain_names.specs.Words.{Name, Tokens}
-use Rattle.domain_records.specs.Order.{IsOneClass}
-use Rattle.domain_nsec.specs.Chain.{Link, usual_config}
-use Rattle.domain_nsec3.specs.{Chain.ChainRecords, Config.ChainConfig, View.{HasherAnswer, hash_by, parameters_of}}
+use Rattle.domain_records.specs.{Order.IsOneClass, declared.error.SigningError.SigningError}
+use Rattle.domain_records.specs.declared.error.SigningError.TheVariants as signing_error
+use Rattle.domain_nsec.specs.Chain.{usual_config}
+use Rattle.domain_nsec3.specs.{Config.ChainConfig, View.{HasherAnswer, hash_by, parameters_of}}
 use Rattle.domain_nsec3.specs.declared.config.Nsec3ParamTtlMode.TheVariants.{Soa}
-use Rattle.domain_borrowed.specs.Data.{data_cmp, minimum_of, RawRecord}
-use Rattle.domain_dnssec.specs.AnyOrder as any_order
-use Rattle.domain_dnssec.specs.AnyOrderNsec3 as any_order_nsec3
-use Rattle.domain_dnssec.specs.declared.chain.ChainError.{ChainError}
+use Rattle.domain_borrowed.specs.Data.{RawRecord}
+use Rattle.domain_dnssec.specs.{AnyOrder.AreMixed, declared.chain.ChainError.ChainError}
 use Rattle.domain_dnssec.specs.declared.chain.ChainError.TheVariants as chain_error
+use Rattle.domain_dnssec.specs.RawRecords as raw
 use Rattle.denial_program.specs.{Check.{HasNoNsec3Verdict, IsNsec3Verdict, IsNsecVerdict}, Command.{Asks, Params}, Listing.Give, Text.answer_text}
 use Rattle.denial_program.specs.declared.{answer.Reply.{Reply, TheVariants.{Nsecs, Nsec3s}}, command.Command.Command}
 use Rattle.denial_program.specs.declared.{command.Command.TheVariants.{Nsec, Nsec3, CheckNsec, CheckNsec3}, fault.DenialFault.DenialFault}
@@ -18,36 +18,39 @@ use Rattle.denial_program.specs.{declared.fault.DenialFault.TheVariants.{Unprepa
 
 -- sorted is the sorted set of the records, by owner, class, type and octets
 abbrev pub Sorts : List RawRecord → List RawRecord → Type 0
-Sorts = any_order.Sorts (λ n. n) (λ d. d.rtype) data_cmp
+Sorts = raw.Sorts
 
 -- why the records are not sorted: they are not of one class, or else there was no memory to make
 -- them ready
 abbrev pub IsUnsorted : List RawRecord → DenialFault → Type 0
-IsUnsorted given fault = ((fault ≡ MixedClasses) × any_order.AreMixed given)
+IsUnsorted given fault = ((fault ≡ MixedClasses) × AreMixed given)
     ⊎ ((fault ≡ Unprepared prepare_error) × IsOneClass given)
 
--- what the program says where there is no chain: want of memory before the records are sorted,
--- compacted where they are walked over, is one thing, and want of memory for their chain another
-abbrev pub fault_of_chain : ChainError → DenialFault
-fault_of_chain chain_error.MixedClasses = MixedClasses
-fault_of_chain (chain_error.Sort e) = Unprepared prepare_error
-fault_of_chain (chain_error.Signing e) = Signing e
-fault_of_chain chain_error.OutOfMemory = OutOfMemory
+-- a fault of a zone as the program tells it; want of memory for a chain is one of its own
+abbrev pub fault_of_zone : SigningError → DenialFault
+fault_of_zone signing_error.OutOfMemory = OutOfMemory
+fault_of_zone e = Signing e
 
--- the answer is the NSEC chain of the records, as `GenerateNsecConfig::new` has it
-pub record IsNsecs (given : List RawRecord) (apex : Name) (answer : Reply) : Type 0 where
-  pub links : List Link
-  pub is : answer ≡ Nsecs links
-  pub chain : any_order.IsChainOf (λ n. n) (λ d. d.rtype) minimum_of data_cmp given apex
-      usual_config links
+-- the answer is a chain that is such
+pub record IsReplyOf {K : Type 0} (reply : K → Reply) (is_such : K → Type 0) (answer : Reply) : Type 0
+  where
+    pub made : K
+    pub is : answer ≡ reply made
+    pub chain : is_such made
 
--- there is none, for this reason
-pub record HasNoNsecs (given : List RawRecord) (apex : Name) (fault : DenialFault)
-    : Type 0 where
-  pub error : ChainError
-  pub is : fault ≡ fault_of_chain error
-  pub none : any_order.HasNoChain (λ n. n) (λ d. d.rtype) minimum_of data_cmp given apex
-      usual_config error
+-- there is no chain, for this reason
+abbrev pub HasNone : (ChainError → Type 0) → DenialFault → Type 0
+HasNone is_why MixedClasses = is_why chain_error.MixedClasses
+HasNone is_why (Signing e) = is_why (chain_error.Signing e)
+HasNone is_why OutOfMemory = is_why chain_error.OutOfMemory
+HasNone is_why _ = ⊥
+
+-- the answer is the NSEC chain of the records, as `GenerateNsecConfig::new` has it; there is none
+abbrev pub IsNsecs : List RawRecord → Name → Reply → Type 0
+IsNsecs given apex = IsReplyOf Nsecs (raw.IsChainOf given apex usual_config)
+
+abbrev pub HasNoNsecs : List RawRecord → Name → DenialFault → Type 0
+HasNoNsecs given apex = HasNone (raw.HasNoChain given apex usual_config)
 
 -- how the program makes an NSEC3 chain with these parameters: as `GenerateNsec3Config::new` has it
 abbrev pub usual_nsec3_config : HasherAnswer → Params → ChainConfig
@@ -61,21 +64,16 @@ usual_nsec3_config answer p =
       occlude_below_dname = false;
     }
 
--- the answer is the NSEC3 chain of the records by this hasher, and its NSEC3PARAM record
-pub record IsNsec3s (answers : HasherAnswer) (given : List RawRecord) (apex : Name) (p : Params)
-    (answer : Reply) : Type 0 where
-  pub made : ChainRecords
-  pub is : answer ≡ Nsec3s made
-  pub chain : any_order_nsec3.IsHashedChainOf (λ n. n) (λ d. d.rtype) minimum_of data_cmp given apex
-      (usual_nsec3_config answers p) Soa made.links made.param
+-- the answer is the NSEC3 chain of the records by this hasher, and its NSEC3PARAM record; there is
+-- none
+abbrev pub IsNsec3s : HasherAnswer → List RawRecord → Name → Params → Reply → Type 0
+IsNsec3s answers given apex p =
+    IsReplyOf Nsec3s (λ made. raw.IsHashedChainOf given apex (usual_nsec3_config answers p) Soa
+    made.links made.param)
 
--- there is none, for this reason
-pub record HasNoNsec3s (answers : HasherAnswer) (given : List RawRecord) (apex : Name)
-    (p : Params) (fault : DenialFault) : Type 0 where
-  pub error : ChainError
-  pub is : fault ≡ fault_of_chain error
-  pub none : any_order_nsec3.HasNoHashedChain (λ n. n) (λ d. d.rtype) minimum_of data_cmp given
-      apex (usual_nsec3_config answers p) error
+abbrev pub HasNoNsec3s : HasherAnswer → List RawRecord → Name → Params → DenialFault → Type 0
+HasNoNsec3s answers given apex p =
+    HasNone (raw.HasNoHashedChain given apex (usual_nsec3_config answers p))
 
 abbrev pub IsAnswer : HasherAnswer → Command → List RawRecord → Reply → Type 0
 IsAnswer answers (Nsec apex) given answer = IsNsecs given apex answer
@@ -89,10 +87,12 @@ pub record IsWritten (is_such : Reply → Type 0) (old new : Option Octets) : Ty
   pub is : is_such answer
   pub appends : Appends old new (answer_text answer)
 
--- there is such an answer, and the device failed, or there is none for this reason
+-- there is such an answer, and the device failed; or there was no memory to make the records ready;
+-- or there is none, for this reason
 abbrev pub IsUnwritten : (Reply → Type 0) → (DenialFault → Type 0) → DenialFault → Type 0
 IsUnwritten is_such has_none fault =
-    ((fault ≡ Write) × ((answer : Reply) × is_such answer)) ⊎ has_none fault
+    ((fault ≡ Write) × ((answer : Reply) × is_such answer))
+    ⊎ ((fault ≡ Unprepared prepare_error) ⊎ has_none fault)
 
 -- why there is no answer
 abbrev pub HasNoAnswer : HasherAnswer → Command → List RawRecord → DenialFault → Type 0

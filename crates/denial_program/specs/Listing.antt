@@ -1,14 +1,23 @@
 -- What the lines of a text give.
 use Rattle.std.specs.Prelude.{◌≡◌, ◌⊎◌, ℕ, ◌+◌, List, [], ◌∷◌, ◌++◌, All, length}
 use Rattle.domain_octets.specs.Words.{Octets}
+use Rattle.domain_names.specs.Words.{Tokens}
 use Rattle.domain_borrowed.specs.Data.{RawRecord}
-use Rattle.denial_program.specs.Words.{words, IsSkipped, ArePlain, LineText}
+use Rattle.denial_program.specs.{Spelled.{LineText, SpelledRecord, SpellsRecord}, Words.{words, IsPlain, IsSkipped}}
 
--- the line is not skipped, holds no octet past `~`, and spells the record
-pub record IsLineRecord (line : Octets) (r : RawRecord) : Type 0 where
-  pub seen : IsSkipped (words line) → ⊥
-  pub plain : ArePlain (words line)
-  pub spelled : LineText (words line) r
+-- the line is not skipped, holds no octet past `~`, and its words spell the record
+pub record IsLineOf {R : Type 0} (Spell : Tokens → R → Type 0) (line : Octets) (r : R) : Type 0
+  where
+    pub seen : IsSkipped (words line) → ⊥
+    pub plain : IsPlain line
+    pub spelled : Spell (words line) r
+
+-- the same of a record of octets, and of one with data of all types
+abbrev pub IsLineRecord : Octets → RawRecord → Type 0
+IsLineRecord = IsLineOf LineText
+
+abbrev pub IsLineData : Octets → SpelledRecord → Type 0
+IsLineData = IsLineOf SpellsRecord
 
 -- the lines give these, in order: one for each line that is not skipped, of which it is true
 abbrev pub AreGiven : {R : Type 0} → (Octets → R → Type 0) → List Octets → List R → Type 0
@@ -20,6 +29,9 @@ AreGiven {R} is_of (line ∷ more) given =
 -- the records that the lines give
 abbrev pub Give : List Octets → List RawRecord → Type 0
 Give = AreGiven IsLineRecord
+
+abbrev pub GiveData : List Octets → List SpelledRecord → Type 0
+GiveData = AreGiven IsLineData
 
 -- the line is skipped, or spells a record
 abbrev pub IsGood : Octets → Type 0

@@ -5,7 +5,7 @@ use Rattle.domain_names.specs.{Text.NameText, declared.error.ScanError.ScanError
 use Rattle.domain_names.specs.declared.error.ScanError.TheVariants as scan_error
 use Rattle.domain_names.specs.Words.{Name, Tokens}
 use Rattle.domain_borrowed.specs.Data.{RawRecord}
-use Rattle.denial_program.specs.{Words.{words, IsSkipped, LineText}, Listing.{IsLineRecord, IsBad}, declared.line.Line.Line}
+use Rattle.denial_program.specs.{Listing.{IsLineRecord, IsBad}, Spelled.LineText, Words.{words, IsSkipped}, declared.line.Line.Line}
 use Rattle.denial_program.specs.declared.line.{Line.TheVariants.{Nothing, Record, Bad}, LineError.LineError}
 use Rattle.denial_program.specs.declared.line.LineError.TheVariants as line_error
 

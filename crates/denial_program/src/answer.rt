@@ -21,7 +21,7 @@ use domain_base::ParsedName;
 use domain_borrowed::BorrowedRecord;
 use domain_dnssec::{
     GenerateNsec3Config, GenerateNsecConfig, InPlaceSorter, Nsec3Chain, Nsec3Hasher, NsecChain,
-    RecordsIter, SigningError, Verdict,
+    RecordsIter, Verdict,
 };
 use std::alloc::Global;
 use std::io;
@@ -61,8 +61,7 @@ pub fn nsecs_of<'s, 'a>(
     let config = GenerateNsecConfig::new();
     match NsecChain::generate(alloc, apex, RecordsIter::new_from_owned(sorted), &config) {
         Ok(nsecs) => Ok(Reply::Nsecs(nsecs)),
-        Err(SigningError::OutOfMemory) => Err(DenialFault::OutOfMemory),
-        Err(error) => Err(DenialFault::Signing(error)),
+        Err(error) => Err(DenialFault::from(error)),
     }
 }
 
@@ -85,8 +84,6 @@ fn nsec3s_of<'s, 'a, H: Nsec3Hasher>(
         → HasNoNsec3s (H.answer hasher.now) given apex.now parameters fault) }
     ensures ready { OnOk result (IsReady (zone_of_raw sorted.now) apex.now (usual_nsec3_config
         (H.answer hasher.now) parameters)) }
-    ensures memory { IsErrOf result OutOfMemory → IsReady (zone_of_raw sorted.now) apex.now
-        (usual_nsec3_config (H.answer hasher.now) parameters) }
 {
     let config: GenerateNsec3Config<ZoneOctets, InPlaceSorter> = GenerateNsec3Config::new(
         parameters,
@@ -99,8 +96,7 @@ fn nsec3s_of<'s, 'a, H: Nsec3Hasher>(
         hasher,
     ) {
         Ok(made) => Ok(Reply::Nsec3s(made)),
-        Err(SigningError::OutOfMemory) => Err(DenialFault::OutOfMemory),
-        Err(error) => Err(DenialFault::Signing(error)),
+        Err(error) => Err(DenialFault::from(error)),
     }
 }
 
@@ -135,7 +131,7 @@ fn write_chain<W: Write>(chain: &Nsec3Chain<'_, ZoneOctets>, output: &mut W) -> 
 }
 
 /// Writes the records of an NSEC3 chain, and the record of its parameters.
-#[tactic(auto, using(crate::proofs::RunLemmas::param_printed, crate::proofs::RunLemmas::appends_more))]
+#[tactic(auto, using(crate::proofs::RunLemmas::appends_more))]
 fn write_nsec3s<W: Write>(chain: &Nsec3Chain<'_, ZoneOctets>, output: &mut W) -> io::Result<()>
     ensures { OnOk result (Appends (W.contents output.old) (W.contents output.new)
         (nsec3s_text chain.now)) }
@@ -155,7 +151,8 @@ impl<'s, 'a> Reply<'s, 'a> {
             Reply::Nsecs(chain) => write_nsecs(chain, output)?,
             Reply::Nsec3s(chain) => write_nsec3s(chain, output)?,
             Reply::Verdict(name, verdict) => {
-                writeln!(output, "{}", VerdictText::new(name, *verdict))?;
+                let verdict = *verdict;
+                writeln!(output, "{}", VerdictText { name, verdict })?;
             }
         }
         output.flush()

@@ -1,14 +1,12 @@
-//! Names and data that lie in an arena, one after another.
+//! Names that lie in an arena, one after another.
 ghost use Rattle.std.specs.Prelude.{◌≡◌, IfOk};
-ghost use Rattle.domain_rdata.specs.Zone.{canonical_octets};
 
-use crate::line::{ZoneData, ZoneName};
+use crate::line::ZoneName;
 use bumpalo::Bump;
-use domain_base::{ParsedName, Rtype, ToName};
+use domain_base::{ParsedName, ToName};
 use domain_borrowed::{BorrowedData, BorrowedRecord};
 use domain_octets::OutOfMemory;
-use domain_record::{ComposeRecordData, Record, RecordData};
-use std::alloc::Global;
+use domain_record::{Record, RecordData};
 
 /// A copy of a name.
 pub fn store_name<'a>(arena: &'a Bump, name: &ZoneName) -> Result<ParsedName<'a>, OutOfMemory>
@@ -16,43 +14,6 @@ pub fn store_name<'a>(arena: &'a Bump, name: &ZoneName) -> Result<ParsedName<'a>
 {
     let wire = arena.try_alloc_slice_copy(name.as_wire())?;
     Ok(ParsedName::over(wire))
-}
-
-/// An arena, with the octets of data on their way there.
-#[derive(Drop)]
-pub struct Store<'a> {
-    arena: &'a Bump,
-    octets: Vec<u8>,
-}
-
-impl<'a> Store<'a> {
-    /// A store that lays data into this arena.
-    pub fn new(alloc: Global, arena: &'a Bump) -> Self {
-        Store {
-            arena,
-            octets: Vec::new(alloc),
-        }
-    }
-
-    /// The arena.
-    pub fn arena(&self) -> &'a Bump {
-        self.arena
-    }
-
-    /// A copy of the octets of data in canonical form (RFC 4034, section 6.2), as data of a type.
-    pub fn data(&mut self, rtype: Rtype, data: &ZoneData) -> Result<BorrowedData<'a>, OutOfMemory>
-        ensures { IfOk result (λ stored. stored ≡ record {
-          rtype = rtype;
-          octets = canonical_octets (λ o. o) (λ n. n) «data».now;
-        }) }
-    {
-        self.octets.clear();
-        let Ok(()) = data.compose_canonical_rdata(&mut self.octets) else {
-            return Err(OutOfMemory);
-        };
-        let octets = self.arena.try_alloc_slice_copy(&self.octets)?;
-        Ok(BorrowedData::new(rtype, octets))
-    }
 }
 
 /// The wire form of a name in the arena: `last`, where it is spelled like that, or a copy.

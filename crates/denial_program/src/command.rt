@@ -1,10 +1,8 @@
 //! What the words after the program's name ask for.
 ghost use Rattle.std.specs.Prelude.{◌≡◌, ◌⊎◌, ℕ, ◌∷◌, codes, IfErr, IfNone, IfOk, IfSome, map, string_bytes};
-ghost use Rattle.domain_names.specs.Text.{NameText, IsNoName};
-ghost use Rattle.domain_base.specs.Scan.{IsNumber};
+ghost use Rattle.domain_names.specs.{Text.{NameText, IsNoName}, TextFault.ScanFault};
 ghost use Rattle.domain_bitmap.specs.HashText.{SaltText};
 ghost use Rattle.domain_octets.specs.Words.{Octets};
-ghost use Rattle.domain_base.specs.Numbers.{TypeText};
 ghost use Rattle.denial_program.specs.Command.{Asks, FlagsText, IsNoCommand, Params, Spell, SpellQuestion};
 ghost use Rattle.denial_program.specs.declared.command.Question.{Question};
 ghost use Rattle.denial_program.specs.declared.fault.DenialFault.TheVariants.{OutOfMemory};
@@ -60,14 +58,14 @@ pub fn name_of(alloc: Global, word: &str) -> Result<ZoneName, DenialFault>
     }
 }
 
-/// A number of iterations that a word spells (RFC 5155, section 4.3).
-fn iterations_of(word: &str) -> Result<u16, DenialFault>
-    ensures ok { IfOk result (IsNumber 16 word.now) }
-    ensures err { IfErr result (λ e.
-        (e ≡ DenialFault.Usage) × ((n : ℕ) → IsNumber 16 word.now n → ⊥)) }
+/// The value that a word spells.
+fn value_of<T: FromToken>(word: &str) -> Result<T, DenialFault>
+    ensures ok { IfOk result (T.spells word.now) }
+    ensures err { IfErr result (λ e. (e ≡ DenialFault.Usage)
+        × ((fault : ScanFault) × T.refuses fault word.now)) }
 {
-    match u16::from_token(word) {
-        Ok(number) => Ok(number),
+    match T::from_token(word) {
+        Ok(value) => Ok(value),
         Err(_) => Err(DenialFault::Usage),
     }
 }
@@ -84,10 +82,8 @@ fn salt_of(alloc: Global, word: &str) -> Result<Nsec3Salt<ZoneOctets>, DenialFau
     let mut scanner = IterScanner::<ZoneOctets>::new(&words);
     match Nsec3Salt::scan(alloc, &mut scanner) {
         Ok(salt) => Ok(salt),
-        Err(error) => match error {
-            ScanError::OutOfMemory => Err(DenialFault::OutOfMemory),
-            _ => Err(DenialFault::Usage),
-        },
+        Err(ScanError::OutOfMemory) => Err(DenialFault::OutOfMemory),
+        Err(_) => Err(DenialFault::Usage),
     }
 }
 
@@ -118,7 +114,8 @@ fn nsec_command(alloc: Global, words: &[String]) -> Result<Command, DenialFault>
     Ok(Command::Nsec(name_of(alloc, apex.as_str())?))
 }
 
-/// The parameters with these iterations, this salt, and the flags that a last word asks for.
+/// The parameters with these iterations and this salt (RFC 5155, section 4.3), and the flags that a
+/// last word asks for.
 ///
 /// # Errors
 ///
@@ -137,7 +134,7 @@ pub fn parameters_of(
     let Some(flags) = flags_of(last) else {
         return Err(DenialFault::Usage);
     };
-    let iterations = iterations_of(iterations)?;
+    let iterations: u16 = value_of(iterations)?;
     let salt = salt_of(alloc, salt)?;
     Ok(Nsec3param::new(Nsec3HashAlgorithm::SHA1, flags, iterations, salt))
 }
@@ -157,18 +154,6 @@ fn nsec3_command(alloc: Global, words: &[String]) -> Result<Command, DenialFault
     Ok(Command::Nsec3(apex, parameters))
 }
 
-/// A type that a word spells.
-fn rtype_of(word: &str) -> Result<Rtype, DenialFault>
-    ensures ok { IfOk result (TypeText word.now) }
-    ensures err { IfErr result (λ e.
-        (e ≡ DenialFault.Usage) × ((t : ℕ) → TypeText word.now t → ⊥)) }
-{
-    match Rtype::from_token(word) {
-        Ok(rtype) => Ok(rtype),
-        Err(_) => Err(DenialFault::Usage),
-    }
-}
-
 /// The question that these words spell.
 ///
 /// # Errors
@@ -185,7 +170,7 @@ pub fn question_of(
         × ((q : Question) → SpellQuestion apex.now name.now rtype.now q → ⊥))
         ⊎ (e ≡ OutOfMemory)) }
 {
-    let rtype = rtype_of(rtype)?;
+    let rtype: Rtype = value_of(rtype)?;
     let apex = name_of(alloc, apex)?;
     let name = name_of(alloc, name)?;
     Ok(Question { apex, name, rtype })

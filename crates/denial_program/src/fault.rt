@@ -82,6 +82,19 @@ pub fn fault_of(error: &io::Error, fault: DenialFault) -> DenialFault
     }
 }
 
+impl From<SigningError> for DenialFault {
+    ghost use Rattle.denial_program.specs.Answer.{fault_of_zone};
+
+    ghost from_gives = { λ error e. e ≡ fault_of_zone error };
+
+    fn from(error: SigningError) -> DenialFault {
+        match error {
+            SigningError::OutOfMemory => DenialFault::OutOfMemory,
+            fault => DenialFault::Signing(fault),
+        }
+    }
+}
+
 impl From<OutOfMemory> for DenialFault {
     ghost from_gives = { λ _ e. e ≡ denial_fault.OutOfMemory };
 

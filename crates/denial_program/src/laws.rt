@@ -6,8 +6,8 @@ ghost use Rattle.domain_nsec.specs.Chain.{Link};
 ghost use Rattle.domain_nsec3.specs.Chain.{HashedLink, ParamRecord};
 ghost use Rattle.domain_borrowed.specs.{Data.RawRecord, Links.{param_record, IsParam}};
 ghost use Rattle.domain_dnssec.specs.RawRecords.{HaveOneChain};
-ghost use Rattle.denial_program.specs.{Check.{IsNsecOf, IsNsec3Of}, Words.LineText};
-ghost use Rattle.denial_program.specs.{Listing.Give, Spelled.{GiveData, SpelledRecord}};
+ghost use Rattle.denial_program.specs.{Check.{IsNsecOf, IsNsec3Of}, Listing.{Give, GiveData}};
+ghost use Rattle.denial_program.specs.Spelled.{LineText, SpelledRecord};
 ghost use Rattle.domain_names.specs.Words.{Tokens};
 
 /// The program keeps of a line's data the octets of their canonical form. The chain of the records

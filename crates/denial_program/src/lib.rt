@@ -11,13 +11,13 @@ mod arena;
 mod check;
 mod command;
 mod fault;
-mod last_owner;
 pub mod laws;
 mod line;
 mod prepare;
 mod process;
 mod program;
 mod reading;
+mod store;
 mod verdict_text;
 
 pub use answer::{Reply, nsecs_of};

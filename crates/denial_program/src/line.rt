@@ -1,13 +1,13 @@
 //! What a line of the input says.
-ghost use Rattle.std.specs.Prelude.{◌≡◌, ◌↔◌, [], ◌∷◌, ◌++◌, IsTrue, IfErr, IfOk, IfSome, IfNone, OnOk, map};
+ghost use Rattle.std.specs.Prelude.{◌≡◌, ◌↔◌, [], ◌∷◌, ◌++◌, IsTrue, IfErr, IfOk, OnOk, map};
 ghost use Rattle.domain_names.specs.TextFault.{ScanFault};
 ghost use Rattle.domain_base.specs.Scan.{TakesToken, RefusesToken};
-ghost use Rattle.denial_program.specs.Words.{without_empty, words, is_blank, IsSkipped, IsPlain, ArePlain, LineText};
+ghost use Rattle.denial_program.specs.Spelled.{LineText};
+ghost use Rattle.denial_program.specs.Words.{without_empty, words, is_blank, IsSkipped, IsPlain};
 ghost use Rattle.denial_program.specs.Said.{Says, SpellsNone, line_error_of};
 ghost use Rattle.denial_program.specs.declared.line.LineError.TheVariants.{OutOfMemory as memory};
 
-use crate::arena::Store;
-use crate::last_owner::LastOwner;
+use crate::store::Store;
 use domain_base::{Class, FromToken, IterScanner, Name, Rtype, ScanError, Scanner, Ttl};
 use domain_borrowed::BorrowedRecord;
 use domain_octets::{OctetSet, OutOfMemory, SmallOctets, prefix_len};
@@ -58,14 +58,6 @@ fn is_skipped(line: &[u8]) -> bool
     true
 }
 
-/// A word as text. That it is text is proved, so that it need not be looked through again.
-fn text_of(word: &[u8]) -> &str
-    requires { IsPlain word.now }
-    ensures { result.now ≡ word.now }
-{
-    unsafe { str::from_utf8_unchecked(word) }
-}
-
 /// The octets that stand in words: those that are no blanks, and not past `~`.
 struct OfWords;
 
@@ -84,14 +76,15 @@ impl OctetSet for OfWords {
     }
 }
 
-/// Appends a word as text, if it has octets.
+/// Appends a word as text, if it has octets. That it is text is proved, so that it need not be
+/// looked through again.
 fn push_word<'a>(tokens: &mut LineWords<'a>, word: &'a [u8]) -> Result<(), AllocError>
     requires { IsPlain word.now }
     ensures { OnOk result (map (λ t. t.now) tokens.new.items
         ≡ map (λ t. t.now) tokens.old.items ++ without_empty (word.now ∷ [])) }
 {
     if !word.is_empty() {
-        tokens.push(text_of(word))?;
+        tokens.push(unsafe { str::from_utf8_unchecked(word) })?;
     }
     Ok(())
 }
@@ -101,7 +94,7 @@ fn split_words<'a>(tokens: &mut LineWords<'a>, line: &'a [u8]) -> Result<bool, A
     requires { map (λ t. t.now) tokens.old.items ≡ [] }
     ensures same { IfOk result (λ plain. IsTrue plain
         → map (λ t. t.now) tokens.new.items ≡ words line.now) }
-    ensures plain { IfOk result (λ plain. IsTrue plain ↔ ArePlain (words line.now)) }
+    ensures plain { IfOk result (λ plain. IsTrue plain ↔ IsPlain line.now) }
 {
     let mut rest = line;
     loop {
@@ -160,13 +153,12 @@ fn field<F: FromToken, S: Scanner>(scanner: &mut S) -> Result<F, LineError>
 fn scan_record<'a, S: Scanner<Name = ZoneName, Octets = ZoneOctets>>(
     alloc: Global,
     store: &mut Store<'a>,
-    last: &mut LastOwner<'a>,
     scanner: &mut S,
 ) -> Result<BorrowedRecord<'a>, LineError>
     ensures ok { IfOk result (LineText (S.tokens scanner.old)) }
     ensures err { IfErr result (SpellsNone (S.tokens scanner.old)) }
 {
-    let owner = last.scan(alloc, store.arena(), scanner)?;
+    let owner = store.scan_owner(alloc, scanner)?;
     let ttl = field::<Ttl, S>(scanner)?;
     let class = field::<Class, S>(scanner)?;
     let rtype = field::<Rtype, S>(scanner)?;
@@ -178,25 +170,10 @@ fn scan_record<'a, S: Scanner<Name = ZoneName, Octets = ZoneOctets>>(
     Ok(Record::new(owner, class, ttl, stored))
 }
 
-/// The record that words spell.
-fn record_of<'a, 'w>(
-    alloc: Global,
-    store: &mut Store<'a>,
-    last: &mut LastOwner<'a>,
-    words: &'w [&'w str],
-) -> Result<BorrowedRecord<'a>, LineError>
-    ensures ok { IfOk result (LineText (map (λ w. w.now) words.now)) }
-    ensures err { IfErr result (SpellsNone (map (λ w. w.now) words.now)) }
-{
-    let mut scanner = IterScanner::<ZoneOctets>::new(words);
-    scan_record(alloc, store, last, &mut scanner)
-}
-
 /// What a line says, with the record in the arena. The line stands without its end.
 pub fn read_line<'a>(
     alloc: Global,
     store: &mut Store<'a>,
-    last: &mut LastOwner<'a>,
     line: &[u8],
 ) -> Result<Line<'a>, OutOfMemory>
     ensures { IfOk result (Says line.now) }
@@ -209,7 +186,8 @@ pub fn read_line<'a>(
     if !plain {
         return Ok(Line::Bad);
     }
-    match record_of(alloc, store, last, tokens.as_slice()) {
+    let mut scanner = IterScanner::<ZoneOctets>::new(tokens.as_slice());
+    match scan_record(alloc, store, &mut scanner) {
         Ok(record) => Ok(Line::Record(record)),
         Err(LineError::OutOfMemory) => Err(OutOfMemory),
         Err(LineError::Bad) => Ok(Line::Bad),

@@ -8,10 +8,9 @@ ghost use Rattle.denial_program.specs.Fault.{IsAfterInput, IsReadingFault, IsRea
 ghost use Rattle.denial_program.specs.Listing.{Give, IsFirstBad};
 ghost use Rattle.denial_program.specs.declared.fault.DenialFault.TheVariants.{OutOfMemory};
 
-use crate::arena::Store;
 use crate::fault::{DenialFault, fault_of};
-use crate::last_owner::LastOwner;
 use crate::line::{Line, read_line};
+use crate::store::Store;
 use bumpalo::Bump;
 use domain_borrowed::BorrowedRecord;
 use memchr::memchr;
@@ -97,7 +96,6 @@ pub fn read_lines<'a, R: BufRead>(
     let mut records = Vec::new(alloc);
     let mut line = Vec::new(alloc);
     let mut store = Store::new(alloc, arena);
-    let mut last = LastOwner::new(alloc);
     for number in 1..u64::MAX {
         line.clear();
         let count = match append_line(input, &mut line) {
@@ -107,7 +105,7 @@ pub fn read_lines<'a, R: BufRead>(
         if count == 0 {
             return Ok(records);
         }
-        match read_line(alloc, &mut store, &mut last, without_end(&line))? {
+        match read_line(alloc, &mut store, without_end(&line))? {
             Line::Nothing => {}
             Line::Record(record) => records.push(record)?,
             Line::Bad => {

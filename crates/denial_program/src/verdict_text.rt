@@ -1,5 +1,5 @@
 //! Verdicts as they are printed.
-ghost use Rattle.std.specs.Prelude.{◌≡◌, Some};
+ghost use Rattle.std.specs.Prelude.{Some};
 ghost use Rattle.denial_program.specs.Check.{verdict_text};
 
 use crate::line::ZoneName;
@@ -10,18 +10,10 @@ use std::fmt;
 /// A verdict on a name, as it is printed.
 #[derive(Clone, Copy)]
 pub struct VerdictText<'a> {
-    name: &'a ZoneName,
-    verdict: Verdict,
-}
-
-impl<'a> VerdictText<'a> {
-    /// A verdict on a name.
-    pub fn new(name: &'a ZoneName, verdict: Verdict) -> Self
-        ensures name { result.name.now ≡ name.now }
-        ensures verdict { result.verdict ≡ verdict }
-    {
-        VerdictText { name, verdict }
-    }
+    /// The name.
+    pub name: &'a ZoneName,
+    /// The verdict.
+    pub verdict: Verdict,
 }
 
 impl fmt::Display for VerdictText<'_> {

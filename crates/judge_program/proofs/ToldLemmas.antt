@@ -1,16 +1,13 @@
 -- What records tell of names, as it is written; the errors of hashes.
 use Rattle.std.proofs.Common.{arith, ◌≡◌, ◌⊎◌, ℕ, Bool, ◌||◌, List, [], ◌++◌, codes, ap, sym, ◌∙◌, Option, Some, None, if◌then◌else◌}
 use Rattle.std.proofs.lemmas.{Grind.common_steps, List.Folds.list_any-append}
-use Rattle.std.specs.{Fmt.decimal, Io.KnownBytes.Appends, List.list_any, Option.{is_some, option_map}}
+use Rattle.std.specs.{Io.KnownBytes.Appends, List.list_any, Option.{is_some, option_map}}
 use Rattle.domain_octets.specs.Words.{Octets}
-use Rattle.domain_names.specs.Text.{name_text}
-use Rattle.domain_base.specs.{Numbers.{class_text, type_text}, Types.nsec3param}
-use Rattle.domain_chain_rdata.specs.Nsec3paramText.{nsec3param_text}
 use Rattle.domain_nsec3.specs.Chain.{ParamRecord}
 use Rattle.domain_hasher.specs.declared.error.Nsec3HashError.{Nsec3HashError, TheVariants.{Hasher, OutOfMemory}}
 use Rattle.domain_records.specs.declared.error.SigningError.TheVariants.{Nsec3HashingError}
-use Rattle.denial_program.specs.{Text.nsec3param_line, declared.fault.DenialFault.{DenialFault, TheVariants.{OutOfMemory as Memory, Signing}}}
-use Rattle.denial_program.proofs.RunLemmas.{appends_more, parts_of_line}
+use Rattle.denial_program.specs.declared.fault.DenialFault.{DenialFault, TheVariants.{OutOfMemory as Memory, Signing}}
+use Rattle.denial_program.proofs.RunLemmas.{appends_more}
 use Rattle.judge_program.specs.{Judged.IsRefusedWith, Told.{is_same, line_of, line_once, param_line, AnyLink}}
 
 -- an error of a hash as a fault
@@ -36,14 +33,6 @@ pub once : (first second : List AnyLink) (k : AnyLink) (a b t : Bool) → a ≡ 
 once first second k a b t e f is =
     ap (λ t. if t then [] else line_of k ++ codes "\n") (list_any-append (is_same k) first second
     ∙ ap (λ x. x || list_any (is_same k) second) (sym e) ∙ ap (λ y. a || y) (sym f) ∙ is)
-
--- an NSEC3PARAM record as it is printed
-pub param_line_printed : (k : ParamRecord)
-    → (name_text k.owner ++ codes ".") ++ (codes " " ++ (decimal k.ttl
-    ++ (codes " " ++ (class_text k.class ++ (codes " " ++ (type_text nsec3param ++ (codes " "
-    ++ nsec3param_text ((k.parameters.algorithm, (k.flags, k.parameters.iterations)), k.parameters.salt)))))))) ++ codes "\n"
-    ≡ nsec3param_line k ++ codes "\n"
-param_line_printed k = grind (arith, common_steps, parts_of_line)
 
 pub is_some_mapped : {X Y : Type 0} (f : X → Y) (o : Option X) → is_some (option_map f o) ≡ is_some o
 is_some_mapped f o = grind (arith, common_steps)

@@ -1,9 +1,10 @@
 -- How far a reader has come, where it tells its octets.
 use Rattle.std.proofs.lemmas.Grind.{common_steps}
 use Rattle.std.proofs.Common.{◌≡◌, ℕ, ◌+◌, ◌<◌, List, [], ◌∷◌, ◌++◌, length, refl, ap, sym, ◌∙◌, subst, arith, Some, None, IfSome, Option, append-nil}
-use Rattle.std.{proofs.Common.length-append, specs.{Str.Lines.lines, Io.{BufRead.{take_through, drop_through, DropsThrough}, KnownBytes.IsAtEnd}}}
+use Rattle.std.proofs.{BufReadLemmas.take_through_nonempty, Common.length-append}
+use Rattle.std.specs.{Str.Lines.lines, Io.{BufRead.{take_through, drop_through, DropsThrough}, KnownBytes.IsAtEnd}}
 use Rattle.domain_borrowed.specs.Data.{RawRecord}
-use Rattle.denial_program.{specs.{Listing.{IsBad, IsFirstBad, IsLineRecord}, Words.{words, IsSkipped}}, proofs.{LineSteps.line_once, ReadingLemmas.taken_some}}
+use Rattle.denial_program.{specs.{Listing.{IsBad, IsFirstBad, IsLineRecord}, Words.{words, IsSkipped}}, proofs.LineSteps.line_once}
 use Rattle.lint_program.specs.Lines.{AreLinted}
 
 -- ---- one line
@@ -58,7 +59,7 @@ follows_next (Some all) old new bad numbers records number was buf view h drops 
     let dropped : new ≡ Some (drop_through 10 rest) = subst (λ o. DropsThrough o new 10) h.1 drops in
     let held : buf ≡ was ++ take_through 10 rest = subst (λ o. IfSome o (λ xs. buf ≡ was ++ take_through 10 xs)) h.1 filled in
     let taken : buf ≡ take_through 10 rest = held ∙ ap (λ (w : List ℕ). w ++ take_through 10 rest) empty in
-    let once = line_once rest (taken_some rest (subst (λ (t : List ℕ). 0 < length t) taken some)) in (
+    let once = line_once rest (take_through_nonempty 10 rest (subst (λ (t : List ℕ). 0 < length t) taken some)) in (
       drop_through 10 rest,
       dropped,
       once.0,

@@ -1,58 +1,34 @@
-use Rattle.std.proofs.{Common.{arith, List, refl, rules, subst}, lemmas.Grind.common_steps}
-use Rattle.domain_nsec.specs.Chain.{usual_config, IsChain, IsFaultless, IsFirstFault}
-use Rattle.domain_dnssec.specs.declared.chain.ChainError.TheVariants.{Signing}
-use Rattle.domain_borrowed.specs.Data.{RawRecord, zone_of_raw}
+use Rattle.std.proofs.{Common.{arith, List, subst, sym}, lemmas.Grind.common_steps}
+use Rattle.domain_zone.specs.Zone.{ZoneRecord}
+use Rattle.domain_nsec.specs.{Chain.{usual_config, IsChain, IsFirstFault}, declared.config.GenerateNsecConfig.GenerateNsecConfig}
+use Rattle.domain_borrowed.specs.Data.{zone_of_raw}
+use Rattle.denial_program.{specs.Answer.HasNoNsecs, proofs.AnswerLemmas.{memory_told, no_nsecs, nsecs_made}}
 use Rattle.denial_program.proofs.answer.nsecs_of.Goals as goal
+use Rattle.denial_program.proofs.answer.nsecs_of.Goals.{After-new_from_owned}
+
+-- what holds of the zone and the configuration that were handed on holds of the sorted records and the usual configuration
+usual : (c : After-new_from_owned) (P : List ZoneRecord → GenerateNsecConfig → Type 0)
+    → P (zone_of_raw c.new_from_owned.result) c.new-config.result → P (zone_of_raw c.args.sorted.now) usual_config
+usual c P h = grind (arith, common_steps)
 
 pub returns-in-Ok-clause-ok : goal.returns-in-Ok-clause-ok
-returns-in-Ok-clause-ok c = λ given sorts. record {
-  links = c.in-Ok.nsecs;
-  is = refl;
-  chain = record {
-    sorted = c.args.sorted.now;
-    sorts = sorts;
-    chain = record {
-      one_class = c.requires.one_class;
-      chain = subst (λ (xs : List RawRecord). IsChain (zone_of_raw xs) c.args.apex.now usual_config c.in-Ok.nsecs)
-          c.new_from_owned.ensures
-          (subst (λ config. IsChain (zone_of_raw c.new_from_owned.result) c.args.apex.now config c.in-Ok.nsecs)
-          c.new-config.ensures c.in-Ok.ensures.chain);
-    };
-  };
-}
+returns-in-Ok-clause-ok c = λ given sorts.
+    nsecs_made given c.args.sorted.now c.args.apex.now sorts c.requires.one_class c.in-Ok.nsecs
+    (usual (goal.at.returns-in-Ok-clause-ok c).After-new_from_owned (λ zone config. IsChain zone c.args.apex.now config c.in-Ok.nsecs)
+    c.in-Ok.ensures.chain)
 
 pub returns-in-Ok-clause-faultless : goal.returns-in-Ok-clause-faultless
 returns-in-Ok-clause-faultless c = grind (arith, common_steps)
 
-pub returns-in-Err : goal.returns-in-Err
-returns-in-Err c = record {
-  ok = tt;
-  faultless = tt;
-  err = λ given sorts. record {
-    error = Signing c.in-Err.error;
-    is = refl;
-    none = record {
-      sorted = c.args.sorted.now;
-      sorts = sorts;
-      fault = record {
-        one_class = c.requires.one_class;
-        fault = subst (λ (xs : List RawRecord). IsFirstFault (zone_of_raw xs) c.args.apex.now usual_config c.in-Err.error)
-            c.new_from_owned.ensures
-            (subst (λ config. IsFirstFault (zone_of_raw c.new_from_owned.result) c.args.apex.now config c.in-Err.error)
-            c.new-config.ensures c.in-Err.ensures.fault);
-        told = search rules;
-      };
-    };
-  };
-  memory = λ is. cc;
-}
+pub returns-in-Err-clause-err : goal.returns-in-Err-clause-err
+returns-in-Err-clause-err c = λ given sorts.
+    subst (HasNoNsecs given c.args.apex.now) (sym c.from.ensures)
+    (no_nsecs given c.args.sorted.now c.args.apex.now sorts c.requires.one_class c.in-Err.error
+    (usual (goal.at.returns-in-Err-clause-err c).After-new_from_owned (λ zone config. IsFirstFault zone c.args.apex.now config c.in-Err.error)
+    c.in-Err.ensures.fault))
 
--- the zone has no fault
-faultless : (c : goal.In-Err-OutOfMemory) → IsFaultless (zone_of_raw c.args.sorted.now) c.args.apex.now usual_config
-faultless c = grind (arith, common_steps)
-
-pub returns-in-Err-OutOfMemory-clause-err : goal.returns-in-Err-OutOfMemory-clause-err
-returns-in-Err-OutOfMemory-clause-err c = grind (arith, common_steps, faultless)
-
-pub returns-in-Err-OutOfMemory-clause-memory : goal.returns-in-Err-OutOfMemory-clause-memory
-returns-in-Err-OutOfMemory-clause-memory c = λ is. faultless c
+pub returns-in-Err-clause-memory : goal.returns-in-Err-clause-memory
+returns-in-Err-clause-memory c = λ is.
+    subst (IsFirstFault (zone_of_raw c.args.sorted.now) c.args.apex.now usual_config) (memory_told c.in-Err.error (let from = c.from.ensures in cc))
+    (usual (goal.at.returns-in-Err-clause-memory c).After-new_from_owned (λ zone config. IsFirstFault zone c.args.apex.now config c.in-Err.error)
+    c.in-Err.ensures.fault)

@@ -1,12 +1,19 @@
-use Rattle.std.proofs.{Common.{arith, ◌≡◌, ◌∙◌, List, sym, subst}, lemmas.Grind.common_steps}
+use Rattle.std.proofs.Common.{◌≡◌, ◌∙◌, List, inr, sym, subst}
+use Rattle.domain_octets.proofs.StdLemmas.{if_err_of}
 use Rattle.domain_nsec.specs.Chain.{usual_config, IsFaultless}
 use Rattle.domain_borrowed.specs.Data.{RawRecord, zone_of_raw}
 use Rattle.domain_records.specs.Order.{IsOneClass}
-use Rattle.denial_program.{specs.Answer.{IsNsecs, Sorts}, proofs.AnswerLemmas.{nsecs_unready, nsecs_unwritten, on_ok, uncompacted}}
+use Rattle.domain_dnssec.specs.RawRecords.{HasNoChain}
+use Rattle.denial_program.{specs.Answer.{HasNoNsecs, IsNsecs, IsUnwritten, Sorts}, proofs.AnswerLemmas.{on_ok, unsorted, unwritten}}
 use Rattle.denial_program.proofs.answer.write_nsecs_of.Goals as goal
 
 pub returns-in_err-answer-clause-err : goal.returns-in_err-answer-clause-err
-returns-in_err-answer-clause-err g c = grind (arith, common_steps)
+returns-in_err-answer-clause-err g c =
+    let given = c.args.records.items in
+    let apex = c.args.apex.now in
+    let sorts = subst (λ (xs : List RawRecord). Sorts given xs) (sym (c.deref.ensures.value ∙ c.in_ok-compacted.ensures.ok)) c.in_ok-sorted.ensures.sorts in
+    if_err_of (IsUnwritten (IsNsecs given apex) (HasNoNsecs given apex)) c.in_err-answer.field-0.0 _ c.from_residual-in_err-answer.ensures.1
+    (inr (inr (subst (λ apex. HasNoNsecs given apex c.in_err-answer.field-0.0) c.in_ok-apex.ensures.ok (c.in_err-answer.ensures.err given sorts))))
 
 pub returns-clause-ok : goal.returns-clause-ok
 returns-clause-ok g c =
@@ -25,17 +32,12 @@ returns-clause-err g c =
     let is = subst (λ apex. IsNsecs given apex c.in_ok-answer.answer) c.in_ok-apex.ensures.ok (c.in_ok-answer.ensures.ok given sorts) in
     let faultless = subst (λ apex. IsFaultless (zone_of_raw compacted) apex usual_config) c.in_ok-apex.ensures.ok
     c.in_ok-answer.ensures.faultless in
-    nsecs_unwritten given compacted _ c.in_ok-answer.answer is sorts one faultless _ c.send.ensures.err
+    unwritten c.send.result (IsNsecs given c.args.apex.now) (HasNoChain given c.args.apex.now usual_config) c.in_ok-answer.answer is
+    (record { sorted = compacted; sorts = sorts; one_class = one; faultless = faultless }) c.send.ensures.err
 
 pub returns-in_err-sorted-clause-err : goal.returns-in_err-sorted-clause-err
-returns-in_err-sorted-clause-err g c = nsecs_unready _ _ _ c.in_err-sorted.ensures.err _ c.from_residual.ensures.1
-
-pub returns-in_err-apex-clause-err : goal.returns-in_err-apex-clause-err
-returns-in_err-apex-clause-err g c =
-    nsecs_unready _ _ _ (uncompacted _ _ c.in_ok-sorted.ensures.sorts c.in_ok-sorted.ensures.one_class _ c.in_err-apex.ensures.err)
-    _ c.from_residual-in_err-apex.ensures.1
-
-pub returns-in_err-compacted-clause-err : goal.returns-in_err-compacted-clause-err
-returns-in_err-compacted-clause-err g c =
-    nsecs_unready _ _ _ (uncompacted _ _ c.in_ok-sorted.ensures.sorts c.in_ok-sorted.ensures.one_class _ c.in_err-compacted.ensures.err)
-    _ c.from_residual-in_err-compacted.ensures.1
+returns-in_err-sorted-clause-err g c =
+    let given = c.args.records.items in
+    let apex = c.args.apex.now in
+    unsorted c.from_residual.result (IsNsecs given apex) (HasNoChain given apex usual_config) given (λ mixed. mixed) _ c.in_err-sorted.ensures.err
+    c.from_residual.ensures.1

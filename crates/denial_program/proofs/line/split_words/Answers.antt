@@ -7,8 +7,7 @@ returns-in-empty-clause-same c = grind (arith, common_steps, split_ends)
 
 pub returns-in-empty-clause-plain : goal.returns-in-empty-clause-plain
 returns-in-empty-clause-plain c =
-    let of_word = c.prefix_len.ensures in
-    let plain = (split_ends c.loop-octet.invariant _ _ of_word.has
+    let plain = (split_ends c.loop-octet.invariant _ _ c.prefix_len.ensures.has
     c.split_at.ensures.front c.in_ok-push_word.ensures _ c.split_at.ensures.back (omega arith)).1 in
     (λ all. plain, λ all. refl)
 

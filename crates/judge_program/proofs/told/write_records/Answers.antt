@@ -2,7 +2,7 @@ use Rattle.std.proofs.{Common.{◌≡◌, ◌++◌, ◌||◌, [], true, ap, sym,
 use Rattle.std.specs.{Option.{is_some, option_map}, Io.KnownBytes.Appends}
 use Rattle.domain_nsec3.specs.View.{as_param_record}
 use Rattle.denial_program.{specs.Text.nsec3param_line, proofs.AnswerLemmas.on_ok}
-use Rattle.judge_program.{specs.Told.{any_of, records_text}, proofs.ToldLemmas.{all_written, appends_nothing, is_some_mapped, no_param, param_line_printed}}
+use Rattle.judge_program.{specs.Told.{any_of, records_text}, proofs.ToldLemmas.{all_written, appends_nothing, is_some_mapped, no_param}}
 use Rattle.judge_program.proofs.told.write_records.Goals as goal
 
 pub returns-in_default : goal.returns-in_default
@@ -23,7 +23,7 @@ returns-then-is_some g c =
     ap (λ b. b || is_some n || is_some w) (is_some_mapped _ _ ∙ sym c.is_some.ensures)
     ∙ ap (λ b. c.is_some.result || b || is_some w) (is_some_mapped _ _ ∙ sym c.is_some-2.ensures)
     ∙ ap (λ b. c.is_some.result || c.is_some-2.result || b) (is_some_mapped _ _ ∙ sym c.is_some-3.ensures) ∙ c.if-is_some.true in
-    let line = param_line_printed k ∙ sym (cond-true (is_some m || is_some n || is_some w) (nsec3param_line k ++ codes "\n") [] is) in
+    let line = sym (cond-true (is_some m || is_some n || is_some w) (nsec3param_line k ++ codes "\n") [] is) in
     subst (λ p. OnOk c.writeln.result (Appends old new (records_text (option_map (λ k. as_param_record (λ n. n) k.now) p) m n w))) (sym c.in-Some.is)
     (on_ok (λ h. all_written _ _ _ _ _ _ _ _ _ c.in_ok-write_once.ensures c.in_ok-write_once-2.ensures c.in_ok-write_once-3.ensures
     (subst (Appends third new) line h)) _ c.writeln.ensures.bytes)

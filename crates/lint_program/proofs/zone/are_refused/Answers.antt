@@ -1,9 +1,8 @@
-use Rattle.std.proofs.Common.{refl, subst}
-use Rattle.domain_dnssec.specs.declared.chain.ChainError.TheVariants as chain_error
+use Rattle.std.proofs.Common.{subst}
 use Rattle.denial_program.specs.declared.fault.DenialFault.TheVariants.{MixedClasses}
 use Rattle.lint_program.specs.Zones.{IsZone}
 use Rattle.lint_program.proofs.zone.are_refused.Goals as goal
 
 pub returns-in-Mixed-clause-ok : goal.returns-in-Mixed-clause-ok
 returns-in-Mixed-clause-ok c = λ given mixed.
-    (MixedClasses, tt, record { error = chain_error.MixedClasses; is = refl; none = subst (IsZone given) c.in-Mixed.is mixed })
+    (MixedClasses, tt, subst (IsZone given) c.in-Mixed.is mixed)

@@ -1,26 +1,32 @@
-//! The owner that was read last.
+//! What records are laid into while they are read.
 ghost use Rattle.std.specs.Prelude.{◌≡◌, IfErr, IfNone, IfOk, IfSome, OnOk};
 ghost use Rattle.domain_base.specs.Scan.{TakesToken};
 ghost use Rattle.domain_names.specs.Text.{NameText};
+ghost use Rattle.domain_rdata.specs.Zone.{canonical_octets};
 ghost use Rattle.denial_program.specs.Said.{SpellsNoName};
 
 use crate::arena::store_name;
-use crate::line::{LineError, ZoneName, ZoneOctets};
+use crate::line::{LineError, ZoneData, ZoneName, ZoneOctets};
 use bumpalo::Bump;
-use domain_base::{ParsedName, Scanner};
+use domain_base::{ParsedName, Rtype, Scanner};
+use domain_borrowed::BorrowedData;
 use domain_octets::{OutOfMemory, TryClone};
+use domain_record::ComposeRecordData;
 use std::alloc::Global;
 use std::marker::Model;
 
-/// The owner that was read last, in an arena, and the word that spells it. Records of one owner
-/// mostly follow one another, so that its word is read and its octets are stored but once.
+/// An arena, with the octets of data on their way there, and the owner that was read last and lies
+/// there, with the word that spells it. Records of one owner mostly follow one another, so that its
+/// word is read and its octets are stored but once.
 #[derive(Drop)]
-pub struct LastOwner<'a> {
+pub struct Store<'a> {
+    arena: &'a Bump,
+    octets: Vec<u8>,
     word: Vec<u8>,
     owner: Option<ParsedName<'a>>,
 }
 
-impl<'a> Model for LastOwner<'a> {
+impl<'a> Model for Store<'a> {
     ghost use Rattle.std.specs.Prelude.{IfSome};
     ghost use Rattle.domain_names.specs.Text.{NameText};
 
@@ -28,7 +34,7 @@ impl<'a> Model for LastOwner<'a> {
 
     ghost view = { λ _. tt };
 
-    ghost invariant = { λ last. IfSome last.owner (NameText last.word.items) };
+    ghost invariant = { λ store. IfSome store.owner (NameText store.word.items) };
 }
 
 /// Puts a word in the place of octets.
@@ -40,26 +46,30 @@ fn put_word(octets: &mut Vec<u8>, word: &str) -> Result<(), OutOfMemory>
     Ok(())
 }
 
-impl<'a> LastOwner<'a> {
-    /// None was read yet.
-    pub fn new(alloc: Global) -> Self {
-        LastOwner {
+impl<'a> Store<'a> {
+    /// A store that lays what is read into this arena.
+    pub fn new(alloc: Global, arena: &'a Bump) -> Self {
+        Store {
+            arena,
+            octets: Vec::new(alloc),
             word: Vec::new(alloc),
             owner: None,
         }
     }
 
-    /// The owner, where this word spells it.
-    fn spelled_by(&self, word: &str) -> Result<Option<ParsedName<'a>>, OutOfMemory>
-        ensures { IfOk result (λ found. IfSome found (NameText word.now)) }
+    /// A copy of the octets of data in canonical form (RFC 4034, section 6.2), as data of a type.
+    pub fn data(&mut self, rtype: Rtype, data: &ZoneData) -> Result<BorrowedData<'a>, OutOfMemory>
+        ensures { IfOk result (λ stored. stored ≡ record {
+          rtype = rtype;
+          octets = canonical_octets (λ o. o) (λ n. n) «data».now;
+        }) }
     {
-        let Some(owner) = &self.owner else {
-            return Ok(None);
+        self.octets.clear();
+        let Ok(()) = data.compose_canonical_rdata(&mut self.octets) else {
+            return Err(OutOfMemory);
         };
-        if self.word.as_slice() != word.as_bytes() {
-            return Ok(None);
-        }
-        Ok(Some(owner.try_clone()?))
+        let octets = self.arena.try_alloc_slice_copy(&self.octets)?;
+        Ok(BorrowedData::new(rtype, octets))
     }
 
     /// The owner, where the next word spells it: goes past that word then.
@@ -70,21 +80,24 @@ impl<'a> LastOwner<'a> {
         ensures none { IfOk result (λ found. IfNone found
             (S.tokens scanner.new ≡ S.tokens scanner.old)) }
     {
+        let Some(owner) = &self.owner else {
+            return Ok(None);
+        };
         let Some(word) = scanner.first_token() else {
             return Ok(None);
         };
-        let found = self.spelled_by(word)?;
-        if found.is_some() {
-            scanner.skip_token();
+        if self.word.as_slice() != word.as_bytes() {
+            return Ok(None);
         }
-        Ok(found)
+        let owner = owner.try_clone()?;
+        scanner.skip_token();
+        Ok(Some(owner))
     }
 
     /// Reads a name into the arena, which is then the last.
     fn scan_anew<S: Scanner<Name = ZoneName, Octets = ZoneOctets>>(
         &mut self,
         alloc: Global,
-        arena: &'a Bump,
         scanner: &mut S,
     ) -> Result<ParsedName<'a>, LineError>
         ensures ok { IfOk result (λ name. TakesToken (λ word. NameText word name)
@@ -97,16 +110,15 @@ impl<'a> LastOwner<'a> {
         self.owner = None;
         put_word(&mut self.word, word)?;
         let name = scanner.scan_name(alloc)?;
-        let owner = store_name(arena, &name)?;
+        let owner = store_name(self.arena, &name)?;
         self.owner = Some(owner.try_clone()?);
         Ok(owner)
     }
 
     /// The owner that the next word spells, which lies in the arena.
-    pub fn scan<S: Scanner<Name = ZoneName, Octets = ZoneOctets>>(
+    pub fn scan_owner<S: Scanner<Name = ZoneName, Octets = ZoneOctets>>(
         &mut self,
         alloc: Global,
-        arena: &'a Bump,
         scanner: &mut S,
     ) -> Result<ParsedName<'a>, LineError>
         ensures ok { IfOk result (λ name. TakesToken (λ word. NameText word name)
@@ -115,7 +127,7 @@ impl<'a> LastOwner<'a> {
     {
         match self.scan_known(scanner)? {
             Some(owner) => Ok(owner),
-            None => self.scan_anew(alloc, arena, scanner),
+            None => self.scan_anew(alloc, scanner),
         }
     }
 }
