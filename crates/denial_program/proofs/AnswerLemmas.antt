@@ -63,8 +63,6 @@ module _ {X : Type 0} (r : Result X DenialFault) (is_such : Reply → Type 0) (i
   -- the records were not sorted
   pub unsorted : (given : List RawRecord) → (AreMixed given → is_why MixedClasses) → (e : DenialFault) → IsUnsorted given e → IsErrAnd r (λ f. f ≡ e)
       → IfErr r (IsUnwritten is_such (HasNone is_why))
-  unsorted given mixed e why h = if_err_of (IsUnwritten is_such (HasNone is_why)) e r h (told why)
-    where
-      told : IsUnsorted given e → IsUnwritten is_such (HasNone is_why) e
-      told (inl are) = inr (inr (subst (HasNone is_why) (sym are.0) (mixed are.1)))
-      told (inr are) = inr (inl are.0)
+  unsorted given mixed e (inl are) h =
+      if_err_of (IsUnwritten is_such (HasNone is_why)) e r h (inr (inr (subst (HasNone is_why) (sym are.0) (mixed are.1))))
+  unsorted given mixed e (inr are) h = if_err_of (IsUnwritten is_such (HasNone is_why)) e r h (inr (inl are.0))
