@@ -50,11 +50,14 @@ module _ (o n x : Name) where
 
 -- ---- one pass
 
--- where no cover was met, the record here is one or is passed over
-pub met_now : {W : Type 0} (v : W → Link) (met found : Option W) (here : Bool) (k : Link) (whole rest : Option Link) → is_some met ≡ false
-    → (here ≡ true → whole ≡ option_or (Some k) rest) → (here ≡ false → whole ≡ option_or (option_map v met) rest)
-    → option_map v found ≡ cond here (Some k) None → whole ≡ option_or (option_map v found) rest
-met_now v met found here k whole rest none hit past is = grind (arith, common_steps)
+-- with no cover before this one it counts, and else the one before
+pub started : {W : Type 0} (v : W → Link) (met : Option W) (o : Option Link) → is_some met ≡ false → o ≡ option_or (option_map v met) o
+started v None o none = refl
+started v (Some w) o none = absurd (cc)
+
+pub kept : {W : Type 0} (v : W → Link) (met : Option W) (o : Option Link) → is_some met ≡ true → option_map v met ≡ option_or (option_map v met) o
+kept v None o some = absurd (cc)
+kept v (Some w) o some = refl
 
 -- what a match, or what a cover without one, makes of the whole list
 module _ {T : Type 0} (a : Name) (listed : List Link) (x : Name) (read : Option Link → Option Link → T) where

@@ -1,8 +1,8 @@
-use Rattle.std.proofs.Common.{◌≡◌, ◌+◌, false, not, map, drop, sym, ap, ◌∙◌, subst, arith}
-use Rattle.std.specs.{List.find, Option.{is_some, option_map, option_or}, Prelude.IfSome}
+use Rattle.std.proofs.Common.{◌≡◌, cond, false, not, map, None, Some, sym, ap, ◌∙◌, subst, arith}
+use Rattle.std.specs.{List.find, Option.{is_some, option_map}, Prelude.IfSome}
 use Rattle.domain_nsec.specs.ChainView.{as_link}
-use Rattle.domain_checker.{specs.Reading.{is_cover, is_match}, proofs.FirstLemmas.{found_later, met_here, met_later, met_before}}
-use Rattle.domain_answer.{specs.Found.{IsSharing, cover_link}, proofs.FoundLemmas.met_now}
+use Rattle.domain_checker.{specs.Reading.{is_cover, is_match}, proofs.FirstLemmas.{found_later, met_more}}
+use Rattle.domain_answer.{specs.Found.{IsSharing, cover_link}, proofs.FoundLemmas.{kept, started}}
 use Rattle.domain_answer.proofs.found.find_nsec.Goals as goal
 use Rattle.domain_answer.proofs.found.find_nsec.Goals.{then-is_none, else-is_none}
 use Rattle.std.proofs.lemmas.Grind.{common_steps}
@@ -20,27 +20,19 @@ loop-listed-preserved g c =
     let x = g.M.ToName.labels c.args.name.now in
     let matched = is_match (g.A.ToName.labels c.args.apex.now) x in
     let covered = is_cover (g.A.ToName.labels c.args.apex.now) x in
-    let rest = find covered (map see (drop (at + 1) chain)) in
-    let whole = find covered (map see chain) in
+    let cover = cover_link labels in
     let apart : matched (see listed) ≡ false = sym c.is_match.ensures ∙ c.if-is_match.false in
     let none : is_some c.loop-listed.cover ≡ not c.is_none.result = c.is_none.ensures in
     record {
       matching = c.loop-listed.invariant.matching ∙ found_later matched see chain at listed c.loop-listed-test.true c.listed-item.is apart;
-      covering = elim c.if-is_none.branch [
-        | then-is_none w ↦
-            met_now (cover_link labels) c.loop-listed.cover c.if-is_none.cover (covered (see listed)) (see listed) whole rest
-            (none ∙ ap not w.if-is_none.true)
-            (met_here covered see chain at listed c.loop-listed-test.true c.listed-item.is
-            (cover_link labels) c.loop-listed.cover whole c.loop-listed.invariant.covering (none ∙ ap not w.if-is_none.true))
-            (met_later covered see chain at listed c.loop-listed-test.true c.listed-item.is
-            (cover_link labels) c.loop-listed.cover whole c.loop-listed.invariant.covering)
-            (ap (option_map (cover_link labels)) w.cover-is ∙ w.cover_of-cover.ensures.cover)
-        | else-is_none w ↦
-            met_before covered see chain at listed c.loop-listed-test.true c.listed-item.is
-            (cover_link labels) c.loop-listed.cover whole c.loop-listed.invariant.covering
-            (none ∙ ap not w.if-is_none.false)
-            ∙ sym (ap (λ q. option_or (option_map (cover_link labels) q) rest) w.cover-is)
-      ];
+      covering = met_more covered see chain at listed c.loop-listed-test.true c.listed-item.is cover c.loop-listed.cover c.if-is_none.cover
+          (find covered (map see chain)) c.loop-listed.invariant.covering
+          (elim c.if-is_none.branch [
+            | then-is_none w ↦ ap (option_map cover) w.cover-is ∙ w.cover_of-cover.ensures.cover
+                ∙ started cover c.loop-listed.cover (cond (covered (see listed)) (Some (see listed)) None) (none ∙ ap not w.if-is_none.true)
+            | else-is_none w ↦ ap (option_map cover) w.cover-is
+                ∙ kept cover c.loop-listed.cover (cond (covered (see listed)) (Some (see listed)) None) (none ∙ ap not w.if-is_none.false)
+          ]);
       sharing = elim c.if-is_none.branch [
         | then-is_none w ↦ subst (λ o. IfSome o (IsSharing labels x)) (sym w.cover-is) w.cover_of-cover.ensures.shared
         | else-is_none w ↦ subst (λ o. IfSome o (IsSharing labels x)) (sym w.cover-is) c.loop-listed.invariant.sharing
