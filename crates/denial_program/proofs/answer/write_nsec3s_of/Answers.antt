@@ -40,7 +40,7 @@ returns-clause-err g c =
     let ready = subst (λ apex. IsReady (zone_of_raw sorted) apex (usual_nsec3_config answers p)) c.in_ok-apex.ensures.ok
     c.in_ok-answer.ensures.ready in
     unwritten c.send.result (IsNsec3s answers given c.args.apex.now p) (HasNoHashedChain given c.args.apex.now (usual_nsec3_config answers p))
-    c.in_ok-answer.answer is (record { sorted = sorted; sorts = sorts; one_class = one; ready = ready }) c.send.ensures.err
+    c.in_ok-answer.answer is (record { sorted = sorted; sorts = sorts; one_class = one; zone = ready }) c.send.ensures.err
 
 pub returns-in_err-sorted-clause-err : goal.returns-in_err-sorted-clause-err
 returns-in_err-sorted-clause-err g c =

@@ -33,7 +33,7 @@ returns-clause-err g c =
     let faultless = subst (λ apex. IsFaultless (zone_of_raw compacted) apex usual_config) c.in_ok-apex.ensures.ok
     c.in_ok-answer.ensures.faultless in
     unwritten c.send.result (IsNsecs given c.args.apex.now) (HasNoChain given c.args.apex.now usual_config) c.in_ok-answer.answer is
-    (record { sorted = compacted; sorts = sorts; one_class = one; faultless = faultless }) c.send.ensures.err
+    (record { sorted = compacted; sorts = sorts; one_class = one; zone = faultless }) c.send.ensures.err
 
 pub returns-in_err-sorted-clause-err : goal.returns-in_err-sorted-clause-err
 returns-in_err-sorted-clause-err g c =
