@@ -5,30 +5,6 @@ use Rattle.std.proofs.lemmas.{List.{Elements.recursion_from_All, FromFn.get_or-r
 use Rattle.std.specs.{List.{AllByRecursion as ByRecursion, range_with_len}, Str.IsAscii}
 use Rattle.domain_codecs.specs.Base32.{base32_from, lower_digit, upper_digit, AreDigits}
 
--- eight digits of five octets, step by step: v is what an octet makes of the bits before it, and others follow its digits
-first_of_five : (a : ℕ) (octets digits : List ℕ) → base32_from 8 (a % 8) octets ≡ digits → base32_from 1 0 (a ∷ octets) ≡ (a / 8) ∷ digits
-unfolding base32_from
-first_of_five a octets digits others = grind (arith, common_steps)
-
-second_of_five : (rest b : ℕ) (octets digits : List ℕ) → let v = 256 * rest + b in base32_from 2 (v % 2) octets ≡ digits
-    → base32_from 8 rest (b ∷ octets) ≡ (v / 64) ∷ (v % 64 / 2) ∷ digits
-unfolding base32_from
-second_of_five rest b octets digits others = grind (arith, common_steps)
-
-third_of_five : (rest c : ℕ) (octets digits : List ℕ) → let v = 256 * rest + c in base32_from 16 (v % 16) octets ≡ digits
-    → base32_from 2 rest (c ∷ octets) ≡ (v / 16) ∷ digits
-unfolding base32_from
-third_of_five rest c octets digits others = ap (λ l. ((256 * rest + c) / 16) ∷ l) others
-
-fourth_of_five : (rest d : ℕ) (octets digits : List ℕ) → let v = 256 * rest + d in base32_from 4 (v % 4) octets ≡ digits
-    → base32_from 16 rest (d ∷ octets) ≡ (v / 128) ∷ (v % 128 / 4) ∷ digits
-unfolding base32_from
-fourth_of_five rest d octets digits others = grind (arith, common_steps)
-
-fifth_of_five : (rest e : ℕ) (octets : List ℕ) → let v = 256 * rest + e in base32_from 4 rest (e ∷ octets) ≡ (v / 32) ∷ (v % 32) ∷ base32_from 1 0 octets
-unfolding base32_from
-fifth_of_five rest e octets = grind (arith, common_steps)
-
 -- the digits of five octets, and then those of the octets after them
 pub five_octets : (a b c d e : ℕ) (octets : List ℕ) →
     let second = 256 * (a % 8) + b in
@@ -37,8 +13,8 @@ pub five_octets : (a b c d e : ℕ) (octets : List ℕ) →
     let fifth = 256 * (fourth % 4) + e in
     base32_from 1 0 (a ∷ b ∷ c ∷ d ∷ e ∷ octets)
     ≡ (a / 8) ∷ (second / 64) ∷ (second % 64 / 2) ∷ (third / 16) ∷ (fourth / 128) ∷ (fourth % 128 / 4) ∷ (fifth / 32) ∷ (fifth % 32) ∷ base32_from 1 0 octets
-five_octets a b c d e octets =
-    first_of_five a _ _ (second_of_five _ b _ _ (third_of_five _ c _ _ (fourth_of_five _ d _ _ (fifth_of_five _ e octets))))
+unfolding base32_from
+five_octets a b c d e octets = grind (arith, common_steps)
 
 pub no_digits : base32_from 1 0 [] ≡ []
 unfolding base32_from
@@ -60,31 +36,14 @@ padded xs = xs ++ drop (length xs) (0 ∷ 0 ∷ 0 ∷ 0 ∷ 0 ∷ [])
 abbrev many : ℕ → ℕ
 many count = (8 * count + 4) / 5
 
--- the last digit is filled with zero bits
-filled_8 : (r : ℕ) → base32_from 8 r [] ≡ ((256 * r + 0) / 64) ∷ []
-unfolding base32_from
-filled_8 r = let same : 4 * r ≡ (256 * r + 0) / 64 = omega arith in ap (λ n. n ∷ []) same
-
-filled_2 : (r : ℕ) → base32_from 2 r [] ≡ ((256 * r + 0) / 16) ∷ []
-unfolding base32_from
-filled_2 r = let same : 16 * r ≡ (256 * r + 0) / 16 = omega arith in ap (λ n. n ∷ []) same
-
-filled_16 : (r : ℕ) → base32_from 16 r [] ≡ ((256 * r + 0) / 128) ∷ []
-unfolding base32_from
-filled_16 r = let same : 2 * r ≡ (256 * r + 0) / 128 = omega arith in ap (λ n. n ∷ []) same
-
-filled_4 : (r : ℕ) → base32_from 4 r [] ≡ ((256 * r + 0) / 32) ∷ []
-unfolding base32_from
-filled_4 r = let same : 8 * r ≡ (256 * r + 0) / 32 = omega arith in ap (λ n. n ∷ []) same
-
 digits_of_group : (xs : List ℕ) → length xs ≤ 5 → base32_from 1 0 xs ≡ take (many (length xs)) (eight (padded xs))
-digits_of_group [] short = no_digits
-digits_of_group (a ∷ []) short = first_of_five a _ _ (filled_8 _)
-digits_of_group (a ∷ b ∷ []) short = first_of_five a _ _ (second_of_five _ b _ _ (filled_2 _))
-digits_of_group (a ∷ b ∷ c ∷ []) short = first_of_five a _ _ (second_of_five _ b _ _ (third_of_five _ c _ _ (filled_16 _)))
-digits_of_group (a ∷ b ∷ c ∷ d ∷ []) short =
-    first_of_five a _ _ (second_of_five _ b _ _ (third_of_five _ c _ _ (fourth_of_five _ d _ _ (filled_4 _))))
-digits_of_group (a ∷ b ∷ c ∷ d ∷ e ∷ []) short = five_octets a b c d e [] ∙ ap (λ l. eight (a ∷ b ∷ c ∷ d ∷ e ∷ []) ++ l) no_digits
+unfolding base32_from
+digits_of_group [] short = refl
+digits_of_group (a ∷ []) short = grind (arith, common_steps)
+digits_of_group (a ∷ b ∷ []) short = grind (arith, common_steps)
+digits_of_group (a ∷ b ∷ c ∷ []) short = grind (arith, common_steps)
+digits_of_group (a ∷ b ∷ c ∷ d ∷ []) short = grind (arith, common_steps)
+digits_of_group (a ∷ b ∷ c ∷ d ∷ e ∷ []) short = grind (arith, common_steps)
 digits_of_group (a ∷ b ∷ c ∷ d ∷ e ∷ f ∷ xs) short = absurd (omega arith)
 
 -- the characters of the digits of at most five octets

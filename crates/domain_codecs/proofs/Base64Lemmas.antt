@@ -1,8 +1,8 @@
 -- texts in Base 64, 64 characters at a time
-use Rattle.std.specs.Prelude.{min, ◌-◌, ◌/◌, ◌%◌}
+use Rattle.std.specs.Prelude.{◌-◌, ◌/◌, ◌%◌}
 use Rattle.std.proofs.Common.{◌≡◌, ℕ, zero, suc, ◌+◌, ◌*◌, ◌<◌, ◌≤◌, List, [], ◌∷◌, ◌++◌, length, take, drop, slice_index, length-drop, length-take, refl, sym}
 use Rattle.std.proofs.{Common.{ap, subst, ◌∙◌, arith, ◌⊎◌, inl, inr, Option, None, Result, Ok, Err, true}, lemmas.Bool.cases_lt}
-use Rattle.std.proofs.lemmas.{List.{nil_from_length, take_at, drop_at, take-append-drop, take_all, drop_all, append-nil, append_assoc}, Grind.common_steps}
+use Rattle.std.proofs.lemmas.{List.{nil_from_length, take_at, drop_at, take-append-drop}, Grind.common_steps}
 use Rattle.base64.specs.{GeneralPurpose.{decode_of, encode_of, IsBytes}, Engines.standard, Tables.is_inverse}
 use Rattle.base64.specs.Decode.{IsDecodeTable, decode_outcome, decoded_bytes, decode_group, groups_error, groups_bytes, groups_before_last, leftover_bytes}
 use Rattle.base64.specs.{Decode.{lone_error, no_leftover, or_else, scan_bytes, scan_last, symbol_error}, declared.decode.DecodeError.DecodeError}
@@ -179,11 +179,8 @@ passed_more text left piece so_far long first full =
       bytes = bytes;
     }
 
--- a piece that stands for fewer octets, or for none, is the last of no text
+-- a piece that stands for fewer octets is the last of no text
 module _ (text left : List ℕ) (so_far : Passed text left) (long : 64 < length left) (whole : List ℕ) (decoded : DecodesTo text whole) where
-  pub no_piece : (e : DecodeError) → decode_of standard (take 64 left) ≡ Err e → ⊥
-  no_piece e refused = let here = so_far.forth whole decoded in let first = (split_pieces left here.0 so_far.bytes long here.1).first in cc
-
   pub short_piece : (piece : List ℕ) → DecodesTo (take 64 left) piece → length piece < 48 → ⊥
   short_piece piece read short =
       let here = so_far.forth whole decoded in
@@ -191,59 +188,3 @@ module _ (text left : List ℕ) (so_far : Passed text left) (long : 64 < length 
       let first : DecodesTo (take 64 left) (take 48 here.0) = pieces.first in
       let same : piece ≡ take 48 here.0 = cc in
       omega (arith, pieces.full, ap length same)
-
--- some pieces of the text have been read, and these characters are left
-pub record Read (text left built : List ℕ) : Type 0 where
-  pub rest : List ℕ
-  pub decoded : DecodesTo left rest
-  pub whole : DecodesTo text (built ++ rest)
-  pub bytes : IsBytes left
-
--- the next piece stands for these octets, and this is left
-pub record Next (left built : List ℕ) (text : List ℕ) (count : ℕ) : Type 0 where
-  pub piece : List ℕ
-  pub first : DecodesTo (take count left) piece
-  pub more : Read text (drop count left) (built ++ piece)
-
-last_piece : (text left built : List ℕ) (count : ℕ) → Read text left built → length left ≤ count → Next left built text count
-last_piece text left built count so_far short =
-    let nothing : drop count left ≡ [] = drop_all count left short in
-    record {
-      piece = so_far.rest;
-      first = subst (λ t. DecodesTo t so_far.rest) (sym (take_all count left short)) so_far.decoded;
-      more = record {
-        rest = [];
-        decoded = subst (λ t. DecodesTo t []) (sym nothing)
-            (subst (λ t. DecodesTo t []) (encode_of-nil standard) (decode_of-encode_of standard [] refl (λ i. omega arith)));
-        whole = subst (λ o. DecodesTo text o) (sym (append-nil _)) so_far.whole;
-        bytes = bytes-drop count left so_far.bytes;
-      };
-    }
-
-inner_piece : (text left built : List ℕ) → Read text left built → 64 < length left → Next left built text 64
-inner_piece text left built so_far long =
-    let pieces = split_pieces left _ so_far.bytes long so_far.decoded in
-    let parts : built ++ so_far.rest ≡ (built ++ take 48 so_far.rest) ++ drop 48 so_far.rest =
-    ap (λ o. built ++ o) (sym (take-append-drop 48 _)) ∙ sym (append_assoc built _ _) in
-    record {
-      piece = take 48 so_far.rest;
-      first = pieces.first;
-      more = record {
-        rest = drop 48 so_far.rest;
-        decoded = pieces.others;
-        whole = subst (λ o. DecodesTo text o) parts so_far.whole;
-        bytes = bytes-drop 64 left so_far.bytes;
-      };
-    }
-
-pub next_piece : (text left built : List ℕ) (count : ℕ) → Read text left built → count ≡ min (length left) 64 → Next left built text count
-next_piece text left built count so_far is = elim (cases_lt 64 (length left)) [
-  | inl long ↦ let all : count ≡ 64 = omega arith in subst (λ n. Next left built text n) (sym all) (inner_piece text left built so_far long)
-  | inr short ↦ last_piece text left built count so_far (omega arith)
-]
-
--- all pieces have been read
-pub read_all : (text left built : List ℕ) → Read text left built → left ≡ [] → DecodesTo text built
-read_all text left built so_far none =
-    let nothing : so_far.rest ≡ [] = nothing_decodes _ (subst (λ t. DecodesTo t so_far.rest) none so_far.decoded) in
-    subst (λ o. DecodesTo text o) (ap (λ r. built ++ r) nothing ∙ append-nil built) so_far.whole

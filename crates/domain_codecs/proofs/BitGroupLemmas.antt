@@ -31,20 +31,7 @@ fill_same b c m n same = ap (λ k. replicate ((5 - k) % 5) 0) same
 groups_more : (y : ℕ) (ys : List ℕ) → y < 256 → Groups ys → Groups (y ∷ ys)
 unfolding base32_from
 groups_more y ys b up = record {
-  whole = λ r small.
-      let rest : ((256 * r + y) % 8) < 8 = omega arith in
-      let same : (3 + 8 * length ys) % 5 ≡ (0 + 8 * length (y ∷ ys)) % 5 = omega arith in
-      let e0 : ((256 * r + y) / 8) / 16 % 2 ≡ y / 128 % 2 = omega arith in
-      let e1 : ((256 * r + y) / 8) / 8 % 2 ≡ y / 64 % 2 = omega arith in
-      let e2 : ((256 * r + y) / 8) / 4 % 2 ≡ y / 32 % 2 = omega arith in
-      let e3 : ((256 * r + y) / 8) / 2 % 2 ≡ y / 16 % 2 = omega arith in
-      let e4 : ((256 * r + y) / 8) % 2 ≡ y / 8 % 2 = omega arith in
-      let e5 : ((256 * r + y) % 8) / 4 % 2 ≡ y / 4 % 2 = omega arith in
-      let e6 : ((256 * r + y) % 8) / 2 % 2 ≡ y / 2 % 2 = omega arith in
-      let e7 : ((256 * r + y) % 8) % 2 ≡ y % 2 = omega arith in
-      ap (λ l. (((256 * r + y) / 8) / 16 % 2) ∷ (((256 * r + y) / 8) / 8 % 2) ∷ (((256 * r + y) / 8) / 4 % 2) ∷
-      (((256 * r + y) / 8) / 2 % 2) ∷ (((256 * r + y) / 8) % 2) ∷ l) (up.three ((256 * r + y) % 8) rest)
-      ∙ (λ i. e0 i ∷ e1 i ∷ e2 i ∷ e3 i ∷ e4 i ∷ e5 i ∷ e6 i ∷ e7 i ∷ (bits ys ++ fill_same 3 0 _ _ same i));
+  whole = λ r small. grind (arith, common_steps, (up.three ((256 * r + y) % 8) (omega arith)), (fill_same 3 0 (length ys) (length (y ∷ ys)) (omega arith)));
   three = λ r small.
       let rest : ((256 * r + y) % 64 % 2) < 2 = omega arith in
       let same : (1 + 8 * length ys) % 5 ≡ (3 + 8 * length (y ∷ ys)) % 5 = omega arith in
@@ -64,21 +51,7 @@ groups_more y ys b up = record {
       (((256 * r + y) % 64 / 2) / 8 % 2) ∷ (((256 * r + y) % 64 / 2) / 4 % 2) ∷ (((256 * r + y) % 64 / 2) / 2 % 2) ∷
       (((256 * r + y) % 64 / 2) % 2) ∷ l) (up.one ((256 * r + y) % 64 % 2) rest)
       ∙ (λ i. e0 i ∷ e1 i ∷ e2 i ∷ e3 i ∷ e4 i ∷ e5 i ∷ e6 i ∷ e7 i ∷ e8 i ∷ e9 i ∷ e10 i ∷ (bits ys ++ fill_same 1 3 _ _ same i));
-  one = λ r small.
-      let rest : ((256 * r + y) % 16) < 16 = omega arith in
-      let same : (4 + 8 * length ys) % 5 ≡ (1 + 8 * length (y ∷ ys)) % 5 = omega arith in
-      let e0 : ((256 * r + y) / 16) / 16 % 2 ≡ r % 2 = omega arith in
-      let e1 : ((256 * r + y) / 16) / 8 % 2 ≡ y / 128 % 2 = omega arith in
-      let e2 : ((256 * r + y) / 16) / 4 % 2 ≡ y / 64 % 2 = omega arith in
-      let e3 : ((256 * r + y) / 16) / 2 % 2 ≡ y / 32 % 2 = omega arith in
-      let e4 : ((256 * r + y) / 16) % 2 ≡ y / 16 % 2 = omega arith in
-      let e5 : ((256 * r + y) % 16) / 8 % 2 ≡ y / 8 % 2 = omega arith in
-      let e6 : ((256 * r + y) % 16) / 4 % 2 ≡ y / 4 % 2 = omega arith in
-      let e7 : ((256 * r + y) % 16) / 2 % 2 ≡ y / 2 % 2 = omega arith in
-      let e8 : ((256 * r + y) % 16) % 2 ≡ y % 2 = omega arith in
-      ap (λ l. (((256 * r + y) / 16) / 16 % 2) ∷ (((256 * r + y) / 16) / 8 % 2) ∷ (((256 * r + y) / 16) / 4 % 2) ∷
-      (((256 * r + y) / 16) / 2 % 2) ∷ (((256 * r + y) / 16) % 2) ∷ l) (up.four ((256 * r + y) % 16) rest)
-      ∙ (λ i. e0 i ∷ e1 i ∷ e2 i ∷ e3 i ∷ e4 i ∷ e5 i ∷ e6 i ∷ e7 i ∷ e8 i ∷ (bits ys ++ fill_same 4 1 _ _ same i));
+  one = λ r small. grind (arith, common_steps, (up.four ((256 * r + y) % 16) (omega arith)), (fill_same 4 1 (length ys) (length (y ∷ ys)) (omega arith)));
   four = λ r small.
       let rest : ((256 * r + y) % 128 % 4) < 4 = omega arith in
       let same : (2 + 8 * length ys) % 5 ≡ (4 + 8 * length (y ∷ ys)) % 5 = omega arith in
@@ -100,24 +73,7 @@ groups_more y ys b up = record {
       (((256 * r + y) % 128 / 4) % 2) ∷ l) (up.two ((256 * r + y) % 128 % 4) rest)
       ∙ (λ i. e0 i ∷ e1 i ∷ e2 i ∷ e3 i ∷ e4 i ∷ e5 i ∷ e6 i ∷ e7 i ∷ e8 i ∷ e9 i ∷ e10 i ∷ e11 i ∷ (bits ys
       ++ fill_same 2 4 _ _ same i));
-  two = λ r small.
-      let rest : ((256 * r + y) % 32 % 1) < 1 = omega arith in
-      let same : (0 + 8 * length ys) % 5 ≡ (2 + 8 * length (y ∷ ys)) % 5 = omega arith in
-      let e0 : ((256 * r + y) / 32) / 16 % 2 ≡ r / 2 % 2 = omega arith in
-      let e1 : ((256 * r + y) / 32) / 8 % 2 ≡ r % 2 = omega arith in
-      let e2 : ((256 * r + y) / 32) / 4 % 2 ≡ y / 128 % 2 = omega arith in
-      let e3 : ((256 * r + y) / 32) / 2 % 2 ≡ y / 64 % 2 = omega arith in
-      let e4 : ((256 * r + y) / 32) % 2 ≡ y / 32 % 2 = omega arith in
-      let e5 : ((256 * r + y) % 32 / 1) / 16 % 2 ≡ y / 16 % 2 = omega arith in
-      let e6 : ((256 * r + y) % 32 / 1) / 8 % 2 ≡ y / 8 % 2 = omega arith in
-      let e7 : ((256 * r + y) % 32 / 1) / 4 % 2 ≡ y / 4 % 2 = omega arith in
-      let e8 : ((256 * r + y) % 32 / 1) / 2 % 2 ≡ y / 2 % 2 = omega arith in
-      let e9 : ((256 * r + y) % 32 / 1) % 2 ≡ y % 2 = omega arith in
-      ap (λ l. (((256 * r + y) / 32) / 16 % 2) ∷ (((256 * r + y) / 32) / 8 % 2) ∷ (((256 * r + y) / 32) / 4 % 2) ∷
-      (((256 * r + y) / 32) / 2 % 2) ∷ (((256 * r + y) / 32) % 2) ∷ (((256 * r + y) % 32 / 1) / 16 % 2) ∷
-      (((256 * r + y) % 32 / 1) / 8 % 2) ∷ (((256 * r + y) % 32 / 1) / 4 % 2) ∷ (((256 * r + y) % 32 / 1) / 2 % 2) ∷
-      (((256 * r + y) % 32 / 1) % 2) ∷ l) (up.whole ((256 * r + y) % 32 % 1) rest)
-      ∙ (λ i. e0 i ∷ e1 i ∷ e2 i ∷ e3 i ∷ e4 i ∷ e5 i ∷ e6 i ∷ e7 i ∷ e8 i ∷ e9 i ∷ (bits ys ++ fill_same 0 2 _ _ same i));
+  two = λ r small. grind (arith, common_steps, (up.whole ((256 * r + y) % 32 % 1) (omega arith)), (fill_same 0 2 (length ys) (length (y ∷ ys)) (omega arith)));
 }
 
 groups : (xs : List ℕ) → AllByRecursion (λ octet. octet < 256) xs → Groups xs

@@ -64,11 +64,6 @@ pub encode_more : (table octets : List ℕ) (i : ℕ) → i < length octets
     ++ (get_or table (get_or octets i 0 / 16) 0 ∷ get_or table (get_or octets i 0 % 16) 0 ∷ [])
 encode_more table octets i inside = ap (encode_with table) (take_more octets i 0 inside) ∙ encode_push table (take i octets) (get_or octets i 0)
 
--- the octets so far and those of the digits that are left are what the text stands for
-pub digits_stand : (text octets : List ℕ) (scale rest at : ℕ) (whole : List ℕ) → IsBase32 text whole
-    → Digits text octets scale rest at → IsBase32 text (octets ++ base32_octets scale rest (base32_digits (drop at text)))
-digits_stand text octets scale rest at whole is so_far = record { digits = is.digits; whole = is.whole; value = so_far.read }
-
 pub digits_all : (text octets whole : List ℕ) (scale rest at : ℕ) → IsBase32 text whole → length text ≤ at
     → Digits text octets scale rest at → IsBase32 text octets
 digits_all text octets whole scale rest at is done so_far = grind (arith, common_steps, digits_end)

@@ -1,17 +1,17 @@
 -- texts that are gone through in pieces of 64 characters, and what each piece stands for
-use Rattle.std.proofs.Common.{◌≡◌, ◌≢◌, ℕ, zero, suc, ◌+◌, ◌*◌, ◌/◌, ◌%◌, ◌<◌, ◌≤◌, true, false, List, [], ◌∷◌, ◌++◌, length, take, drop, get_or, length-append}
-use Rattle.std.proofs.{Common.{refl, sym, ap, subst, ◌∙◌, arith, Option, None, Some, Ok, Err}, Math.{ListN.get_or-append, Seq.get_or-append_seam}}
-use Rattle.std.proofs.lemmas.List.{take_at, drop_at, append-nil, map-append, length-map, get_or-append-add, take-append-drop}
-use Rattle.std.specs.{Prelude.{◌↔◌, Bool, not, is_some, IsTrue, MatchOption}, List.AllPass}
+use Rattle.std.proofs.Common.{◌≡◌, ◌≢◌, ℕ, zero, suc, ◌+◌, ◌*◌, ◌%◌, ◌<◌, ◌≤◌, true, false, List, [], ◌∷◌, ◌++◌, length, take, drop, get_or, length-append}
+use Rattle.std.proofs.{Common.{nat_eq, refl, sym, ap, subst, ◌∙◌, arith, Ok, Err}, Math.{ListN.get_or-append}}
+use Rattle.std.proofs.lemmas.List.{take_all, take_at, drop_at, append-nil, map-append, length-map, get_or-append-add, take-append-drop}
+use Rattle.std.specs.{Prelude.{◌↔◌, Bool, IsTrue}, List.AllPass}
 use Rattle.base64.specs.{GeneralPurpose.IsBytes, Engines.standard, declared.decode.DecodeError.DecodeError}
 use Rattle.base64.proofs.EngineFacts.{decode_of-encode_of, encode_of-nil}
 use Rattle.hex.{specs.Hex.{decode_of, decode_pairs, pair_value}, proofs.{HexLemmas.{decode_of-even, decode_of-ok}, Pairs.{cons_byte, decode_pairs-ok_pair}}}
 use Rattle.domain_codecs.specs.declared.codec.Codec.{Codec, TheVariants.{Base16, Base32Hex, Base64}}
-use Rattle.domain_codecs.specs.{Codec.{Decodes, IsText, BuildFault, IsFirstOther, is_digit, base32_octets, base32_digits, IsBase32}, Cut.Cut}
+use Rattle.domain_codecs.specs.{Codec.{Decodes, IsText, IsFirstOther, is_digit, base32_octets, base32_digits, IsBase32}, Cut.Cut}
 use Rattle.domain_codecs.proofs.{CodecBackLemmas.decodes_once, Base16Lemmas.{First, pairs_first}}
 use Rattle.domain_codecs.proofs.Base64Lemmas.{DecodesTo, split_pieces, nothing_decodes, bytes-drop, Passed, passed_none, passed_more, short_piece}
 use Rattle.domain_codecs.proofs.Base64Lemmas.{decoded_length}
-use Rattle.domain_octets.{specs.{Words.AreOctets, declared.error.AppendError.AppendError}, proofs.PrefixLemmas.Searched}
+use Rattle.domain_octets.{specs.{Words.AreOctets}, proofs.PrefixLemmas.{Searched, searched_more}}
 use Rattle.base64.specs.GeneralPurpose as base64
 use Rattle.std.proofs.lemmas.Grind.{common_steps}
 
@@ -19,21 +19,26 @@ use Rattle.std.proofs.lemmas.Grind.{common_steps}
 pub bytes_of : (text : List ℕ) → AreOctets text → IsBytes text
 bytes_of text all i = grind (arith, common_steps)
 
--- ---- one character after another
+-- ---- one piece after another
 
-pub searched_other : (codec : Codec) (text left after : List ℕ) (c : ℕ) → Searched (is_digit codec) text left → left ≡ c ∷ after
-    → is_digit codec c ≡ false → IsFirstOther codec text c
-searched_other codec text left after c so_far is other =
-    let parts : text ≡ so_far.front ++ c ∷ after = so_far.parts ∙ ap (λ l. so_far.front ++ l) is in
-    let before : take (length so_far.front) text ≡ so_far.front = ap (take (length so_far.front)) parts
-    ∙ take_at _ _ _ refl in
+-- a piece whose first characters pass, but one that is none, has the first other character of the text
+pub searched_other : (codec : Codec) (text left piece after : List ℕ) (place : ℕ) → Searched (is_digit codec) text left → Cut left piece after
+    → AllPass (is_digit codec) (take place piece) → place < length piece → is_digit codec (get_or piece place 0) ≡ false
+    → IsFirstOther codec text (get_or piece place 0)
+searched_other codec text left piece after place so_far cut pass inside other =
+    let all = searched_more (is_digit codec) text left (take place piece) (drop place piece ++ after) so_far (grind (arith, common_steps)) pass in
     record {
-      place = length so_far.front;
-      below = omega (arith, ap length parts, length-append so_far.front (c ∷ after));
-      is = sym (ap (λ t. get_or t (length so_far.front) 0) parts ∙ get_or-append_seam so_far.front c after 0);
+      place = length all.front;
+      below = grind (arith, common_steps);
+      is = grind (arith, common_steps);
       other = other;
-      before = subst (AllPass (is_digit codec)) (sym before) so_far.pass;
+      before = grind (arith, common_steps);
     }
+
+pub searched_piece : (codec : Codec) (text left piece after : List ℕ) (place : ℕ) → Searched (is_digit codec) text left → Cut left piece after
+    → AllPass (is_digit codec) (take place piece) → length piece ≤ place → Searched (is_digit codec) text after
+searched_piece codec text left piece after place so_far cut pass whole =
+    searched_more (is_digit codec) text left piece after so_far cut.parts (subst (AllPass (is_digit codec)) (take_all place piece whole) pass)
 
 pass_front : (codec : Codec) (front back : List ℕ) → AllPass (is_digit codec) (front ++ back) → AllPass (is_digit codec) front
 pass_front codec front back all = λ i d below. let here = all i d (omega (arith, length-append front back)) in rw (get_or-append front back d i below) at here
@@ -41,8 +46,6 @@ pass_front codec front back all = λ i d below. let here = all i d (omega (arith
 pass_back : (codec : Codec) (front back : List ℕ) → AllPass (is_digit codec) (front ++ back) → AllPass (is_digit codec) back
 pass_back codec front back all = λ i d below. let here = all (length front + i) d (omega (arith, length-append front back)) in rw
     (get_or-append-add front back i d) at here
-
--- ---- one piece after another
 
 -- what stands in a buffer is a piece, where the buffer is full or the text is over
 pub cut_at : (text buffer after : List ℕ) (count : ℕ) → length buffer ≡ 64 → text ≡ take count buffer ++ after → count ≤ 64
@@ -237,14 +240,12 @@ short_ends text left piece after rest octets c so_far cut more read short is =
     short_piece text left so_far long is.0 is.1 octets (subst (λ t. DecodesTo t octets) (sym front) read) short
 
 -- so whether anything is left says whether it is a text
-pub short_decides : (text left piece after rest octets : List ℕ) (next : Option ℕ) (none : Bool) → Passed text left
-    → Cut left piece after → is_some next ≡ not none
-    → MatchOption next ((after ≡ []) × (rest ≡ [])) (λ c. after ≡ c ∷ rest) → DecodesTo piece octets → length octets < 48 → IsTrue none ↔ IsText Base64 text
-short_decides text left piece after rest octets None true so_far cut told left_over read short = grind (arith, common_steps)
-short_decides text left piece after rest octets None false so_far cut told left_over read short = cc told
-short_decides text left piece after rest octets (Some c) true so_far cut told left_over read short = cc told
-short_decides text left piece after rest octets (Some c) false so_far cut told left_over read short =
-    (λ no. cc no, λ is. absurd (short_ends text left piece after rest octets c so_far cut left_over read short is))
+pub short_decides : (text left piece after next rest octets : List ℕ) (none : Bool) → Passed text left → Cut left piece after → Cut after next rest
+    → none ≡ nat_eq (length next) 0 → DecodesTo piece octets → length octets < 48 → IsTrue none ↔ IsText Base64 text
+short_decides text left piece after [] rest octets none so_far cut more told read short = grind (arith, common_steps, none_after)
+short_decides text left piece after (c ∷ next) rest octets true so_far cut more told read short = grind (arith, common_steps)
+short_decides text left piece after (c ∷ next) rest octets false so_far cut more told read short =
+    (λ no. cc no, λ is. absurd (short_ends text left piece after (next ++ rest) octets c so_far cut more.parts read short is))
 
 -- one that stands for 48 octets may be followed by others
 pub full_goes_on : (text left piece after octets : List ℕ) → Passed text left → Cut left piece after → DecodesTo piece octets
@@ -261,25 +262,3 @@ full_goes_on text left piece (c ∷ after) octets so_far cut read full =
 pub full_is_some : (left piece after octets : List ℕ) → Cut left piece after → DecodesTo piece octets → length octets ≡ 48 → length after < length left
 full_is_some left [] after octets cut read full = let none : octets ≡ [] = nothing_decodes octets read in absurd (omega (arith, ap length none))
 full_is_some left (c ∷ piece) after octets cut read full = omega (arith, ap length cut.parts, length-append (c ∷ piece) after)
-
--- ---- the octets of a piece
-
-base32_short : (scale rest : ℕ) (digits : List ℕ) → length (base32_octets scale rest digits) ≤ length digits
-unfolding base32_octets
-base32_short scale rest [] = omega arith
-base32_short scale rest (digit ∷ digits) =
-    grind (
-      arith,
-      common_steps,
-      (base32_short (32 * scale / 256) ((32 * rest + digit) % (32 * scale / 256)) digits),
-      (base32_short (32 * scale) (32 * rest + digit) digits),
-    )
-
-no_longer : (codec : Codec) (text octets : List ℕ) → IsBytes text → Decodes codec text octets → length octets ≤ length text
-no_longer Base16 text octets bytes decoded = omega (arith, (decode_of-ok text octets decoded).2)
-no_longer Base32Hex text octets bytes decoded = grind (arith, common_steps, base32_short)
-no_longer Base64 text octets bytes decoded = omega (arith, decoded_length text octets bytes decoded)
-
--- an array of 64 octets takes those of a piece
-pub piece_has_room : (codec : Codec) (piece : List ℕ) (e : AppendError) → IsBytes piece → length piece ≤ 64 → BuildFault codec (Some 64) piece e → ⊥
-piece_has_room codec piece e bytes small fault = grind (arith, common_steps, no_longer)

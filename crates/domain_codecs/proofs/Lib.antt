@@ -9,6 +9,5 @@ pub mod BitGroupLemmas
 pub mod RoomLemmas
 pub mod Base64Lemmas
 pub mod Base16Lemmas
-pub mod Base16PieceLemmas
 pub mod JoinedLemmas
 pub mod NoSpaceLemmas

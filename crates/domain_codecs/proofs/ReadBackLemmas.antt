@@ -1,5 +1,5 @@
 -- what octets are written as in Base 32 hex, in either case, is read back
-use Rattle.std.proofs.Common.{◌≡◌, ℕ, ◌+◌, ◌*◌, ◌/◌, ◌%◌, ◌<◌, true, All, not, ◌||◌, List, [], ◌∷◌, map, length, refl, ap, sym, ◌∙◌, arith, lit<, nat_eq, Some}
+use Rattle.std.proofs.Common.{◌≡◌, ℕ, ◌+◌, ◌*◌, ◌/◌, ◌%◌, ◌<◌, true, All, List, [], ◌∷◌, map, length, refl, ap, sym, ◌∙◌, arith, lit<, Some}
 use Rattle.std.proofs.lemmas.{Bool.Decides.nat_tests, List.{length-map, Sums.AllPass-from_list_all, Elements.{recursion_from_All, All-from_recursion}}}
 use Rattle.std.{proofs.lemmas.Grind.common_steps, specs.List.{list_all, AllByRecursion}}
 use Rattle.domain_codecs.specs.{declared.codec.Codec.TheVariants.Base32Hex, Base32.{base32_from, base32_lower, base32_upper, lower_digit, upper_digit}}
@@ -20,47 +20,11 @@ back_none = grind (arith, common_steps)
 back_more : (y : ℕ) (ys : List ℕ) → y < 256 → Back ys → Back (y ∷ ys)
 unfolding base32_octets base32_from
 back_more y ys l up = record {
-  whole =
-      let e : 32 * 0 + (256 * 0 + y) / 8 ≡ y / 8 = omega arith in
-      let f : (256 * 0 + y) % 8 ≡ y % 8 = omega arith in
-      (λ i. base32_octets 32 (e i) (base32_from 8 (f i) ys)) ∙ up.three y l;
-  three = λ a h.
-      let v : (256 * (a % 8) + y) / 64 ≡ 4 * (a % 8) + y / 64 = omega arith in
-      let w : (256 * (a % 8) + y) % 64 ≡ y % 64 = omega arith in
-      let e : (32 * (a / 8) + (4 * (a % 8) + y / 64)) / 4 ≡ a = omega arith in
-      let f : (32 * (a / 8) + (4 * (a % 8) + y / 64)) % 4 ≡ y / 64 = omega arith in
-      (λ i. ((32 * (a / 8) + v i) / 4) ∷ base32_octets 128 (32 * ((32 * (a / 8) + v i) % 4) + w i / 2) (base32_from 2 (w i % 2) ys))
-      ∙ (λ i. e i ∷ base32_octets 128 (32 * f i + y % 64 / 2) (base32_from 2 (y % 64 % 2) ys))
-      ∙ ap (λ t. a ∷ t) (up.one y l);
-  one = λ b h.
-      let v : (256 * (b % 64 % 2) + y) / 16 ≡ 16 * (b % 64 % 2) + y / 16 = omega arith in
-      let w : (256 * (b % 64 % 2) + y) % 16 ≡ y % 16 = omega arith in
-      let e : (32 * (32 * (b / 64) + b % 64 / 2) + (16 * (b % 64 % 2) + y / 16)) / 16 ≡ b = omega arith in
-      let f : (32 * (32 * (b / 64) + b % 64 / 2) + (16 * (b % 64 % 2) + y / 16)) % 16 ≡ y / 16 = omega arith in
-      (λ i. ((32 * (32 * (b / 64) + b % 64 / 2) + v i) / 16) ∷ base32_octets 16 ((32 * (32 * (b / 64) + b % 64 / 2) + v i) % 16) (base32_from 16 (w i) ys))
-      ∙ (λ i. e i ∷ base32_octets 16 (f i) (base32_from 16 (y % 16) ys))
-      ∙ ap (λ t. b ∷ t) (up.four y l);
-  four = λ c h.
-      let v : (256 * (c % 16) + y) / 128 ≡ 2 * (c % 16) + y / 128 = omega arith in
-      let w : (256 * (c % 16) + y) % 128 ≡ y % 128 = omega arith in
-      let e : (32 * (c / 16) + (2 * (c % 16) + y / 128)) / 2 ≡ c = omega arith in
-      let f : (32 * (c / 16) + (2 * (c % 16) + y / 128)) % 2 ≡ y / 128 = omega arith in
-      (λ i. ((32 * (c / 16) + v i) / 2) ∷ base32_octets 64 (32 * ((32 * (c / 16) + v i) % 2) + w i / 4) (base32_from 4 (w i % 4) ys))
-      ∙ (λ i. e i ∷ base32_octets 64 (32 * f i + y % 128 / 4) (base32_from 4 (y % 128 % 4) ys))
-      ∙ ap (λ t. c ∷ t) (up.two y l);
-  two = λ d h.
-      let v : (256 * (d % 128 % 4) + y) / 32 ≡ 8 * (d % 128 % 4) + y / 32 = omega arith in
-      let w : (256 * (d % 128 % 4) + y) % 32 ≡ y % 32 = omega arith in
-      let e : (32 * (32 * (d / 128) + d % 128 / 4) + (8 * (d % 128 % 4) + y / 32)) / 8 ≡ d = omega arith in
-      let f : (32 * (32 * (d / 128) + d % 128 / 4) + (8 * (d % 128 % 4) + y / 32)) % 8 ≡ y / 32 = omega arith in
-      let g : (32 * (y / 32) + y % 32 / 1) / 1 ≡ y = omega arith in
-      let m : (32 * (y / 32) + y % 32 / 1) % 1 ≡ 0 = omega arith in
-      let n : y % 32 % 1 ≡ 0 = omega arith in
-      (λ i. ((32 * (32 * (d / 128) + d % 128 / 4) + v i) / 8) ∷ base32_octets 8 ((32 * (32 * (d / 128) + d % 128 / 4) + v i) % 8)
-      ((w i / 1) ∷ base32_from 1 (w i % 1) ys))
-      ∙ (λ i. e i ∷ base32_octets 8 (f i) ((y % 32 / 1) ∷ base32_from 1 (n i) ys))
-      ∙ (λ i. d ∷ g i ∷ base32_octets 1 (m i) (base32_from 1 0 ys))
-      ∙ ap (λ t. d ∷ y ∷ t) up.whole;
+  whole = grind (arith, common_steps, (up.three y l));
+  three = λ a h. grind (arith, common_steps, (up.one y l));
+  one = λ b h. grind (arith, common_steps, (up.four y l));
+  four = λ c h. grind (arith, common_steps, (up.two y l));
+  two = λ d h. grind (arith, common_steps, up.whole);
 }
 
 pub back : (xs : List ℕ) → AllByRecursion (λ octet. octet < 256) xs → Back xs
@@ -83,12 +47,6 @@ pub record Digits (xs : List ℕ) : Type 0 where
   pub four : (r n : ℕ) → r < 16 → n % 8 ≡ 4 → AreSmall (base32_from 16 r xs) × IsCount n (base32_from 16 r xs)
   pub two : (r n : ℕ) → r < 4 → n % 8 ≡ 6 → AreSmall (base32_from 4 r xs) × IsCount n (base32_from 4 r xs)
 
-counted : (m k : ℕ) → m % 8 ≡ k → is_base32_length m ≡ not (nat_eq k 1 || nat_eq k 3 || nat_eq k 6)
-counted m k e = ap (λ r. not (nat_eq r 1 || nat_eq r 3 || nat_eq r 6)) e
-
-onward : (n : ℕ) (d : ℕ) (ds : List ℕ) → IsCount (n + 1) ds → IsCount n (d ∷ ds)
-onward n d ds h = let e : n + length (d ∷ ds) ≡ n + 1 + length ds = omega arith in ap is_base32_length e ∙ h
-
 digits_none : Digits []
 unfolding base32_from
 digits_none = grind (arith, common_steps)
@@ -96,35 +54,11 @@ digits_none = grind (arith, common_steps)
 digits_more : (y : ℕ) (ys : List ℕ) → y < 256 → Digits ys → Digits (y ∷ ys)
 unfolding base32_from
 digits_more y ys b up = record {
-  whole = λ r n l e. let h = up.three ((256 * r + y) % 8) (n + 1) (omega arith) (omega arith) in (
-    (omega arith, h.0),
-    onward n ((256 * r + y) / 8) _ h.1,
-  );
-  three = λ r n l e.
-      let h = up.one ((256 * r + y) % 64 % 2) (n + 1 + 1) (omega arith) (omega arith) in (
-        (omega arith, (omega arith, h.0)),
-        onward n ((256 * r + y) / 64)
-            ((256 * r + y) % 64 / 2 ∷ base32_from 2 ((256 * r + y) % 64 % 2) ys)
-            (onward (n + 1) ((256 * r + y) % 64 / 2) (base32_from 2 ((256 * r + y) % 64 % 2) ys) h.1),
-      );
-  one = λ r n l e. let h = up.four ((256 * r + y) % 16) (n + 1) (omega arith) (omega arith) in (
-    (omega arith, h.0),
-    onward n ((256 * r + y) / 16) _ h.1,
-  );
-  four = λ r n l e.
-      let h = up.two ((256 * r + y) % 128 % 4) (n + 1 + 1) (omega arith) (omega arith) in (
-        (omega arith, (omega arith, h.0)),
-        onward n ((256 * r + y) / 128)
-            ((256 * r + y) % 128 / 4 ∷ base32_from 4 ((256 * r + y) % 128 % 4) ys)
-            (onward (n + 1) ((256 * r + y) % 128 / 4) (base32_from 4 ((256 * r + y) % 128 % 4) ys) h.1),
-      );
-  two = λ r n l e.
-      let h = up.whole ((256 * r + y) % 32 % 1) (n + 1 + 1) (omega arith) (omega arith) in (
-        (omega arith, (omega arith, h.0)),
-        onward n ((256 * r + y) / 32)
-            ((256 * r + y) % 32 / 1 ∷ base32_from 1 ((256 * r + y) % 32 % 1) ys)
-            (onward (n + 1) ((256 * r + y) % 32 / 1) (base32_from 1 ((256 * r + y) % 32 % 1) ys) h.1),
-      );
+  whole = λ r n l e. grind (arith, common_steps, (up.three ((256 * r + y) % 8) (n + 1) (omega arith) (omega arith)));
+  three = λ r n l e. grind (arith, common_steps, (up.one ((256 * r + y) % 64 % 2) (n + 2) (omega arith) (omega arith)));
+  one = λ r n l e. grind (arith, common_steps, (up.four ((256 * r + y) % 16) (n + 1) (omega arith) (omega arith)));
+  four = λ r n l e. grind (arith, common_steps, (up.two ((256 * r + y) % 128 % 4) (n + 2) (omega arith) (omega arith)));
+  two = λ r n l e. grind (arith, common_steps, (up.whole ((256 * r + y) % 32 % 1) (n + 2) (omega arith) (omega arith)));
 }
 
 digits : (xs : List ℕ) → AllByRecursion (λ octet. octet < 256) xs → Digits xs

@@ -4,11 +4,6 @@ use Rattle.std.specs.Prelude.{◌↔◌, IsErrOf, IsErrAnd, IfErr, IsNone}
 use Rattle.domain_octets.specs.{Limit.{IsOver, HasRoom}, declared.error.AppendError.{AppendError, TheVariants.{ShortBuf, OutOfMemory}}}
 use Rattle.domain_codecs.specs.{declared.codec.Codec.Codec, Codec.{Decodes, BuildFault}}
 
--- what was appended whole had room
-pub room_for_part : {X : Type 0} (limit : Option ℕ) (x : X) (r : Result X AppendError) (built part after : List ℕ) → r ≡ Ok x → after ≡ built ++ part
-    → IsErrOf r ShortBuf ↔ IsOver limit (length built + length part) → HasRoom limit (length after)
-room_for_part limit x r built part after is grown short over = grind (arith, common_steps)
-
 -- a part that is refused on the way to the octets of a text
 pub build_stops : {X : Type 0} (codec : Codec) (limit : Option ℕ) (text built part rest : List ℕ) (r : Result X AppendError)
     (e : AppendError) → r ≡ Err e → Decodes codec text ((built ++ part) ++ rest)

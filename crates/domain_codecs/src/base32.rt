@@ -6,6 +6,7 @@ ghost use Rattle.domain_codecs.specs.declared.codec.Codec.TheVariants as codec;
 ghost use Rattle.domain_codecs.specs.Codec.{Decodes, DecodeFault, HasNoRoom};
 ghost use Rattle.domain_octets.specs.Words.{Octets};
 
+use crate::joined::put;
 use crate::{Codec, DecodeError};
 use domain_octets::{EmptyBuilder, FromBuilder, OutOfMemory};
 use std::alloc::Global;
@@ -73,16 +74,6 @@ fn spell(alphabet: &[u8; 32], octets: &[u8]) -> ([u8; 8], usize)
     (digits, (8 * octets.len() + 4) / 5)
 }
 
-/// Writes eight octets from a place in a buffer on.
-fn put_eight(buffer: &mut [u8], at: usize, eight: &[u8; 8])
-    requires { at + 8 ≤ length buffer.old }
-    ensures front { (count : ℕ) → count ≤ 8
-        → take (at + count) buffer.new ≡ take at buffer.old ++ take count eight.now }
-    ensures room { length buffer.new ≡ length buffer.old }
-{
-    buffer[at..at + 8].copy_from_slice(eight);
-}
-
 /// The digits of octets that are left, each a number below 32. Takes no memory.
 #[derive(Drop)]
 pub struct Digits<'a> {
@@ -137,7 +128,7 @@ impl<'a> Digits<'a> {
                 return end;
             };
             let (digits, count) = spell(alphabet, octets);
-            put_eight(buffer, end, &digits);
+            put(buffer, end, &digits);
             end += count;
         }
         end

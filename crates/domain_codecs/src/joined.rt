@@ -1,12 +1,20 @@
 //! Texts that are read one after another, as one text.
-ghost use Rattle.std.specs.Prelude.{◌≡◌, ◌≤◌, ◌%◌, ◌↔◌, ◌∷◌, ◌++◌, [], length, map, take, IsTrue};
-ghost use Rattle.std.specs.{Prelude.{IfSome, IfNone, MatchOption}, List.{AllPass, concat}};
-ghost use Rattle.domain_codecs.specs.{Codec.{is_digit, IsFirstOther, IsText}, Cut.Cut};
+ghost use Rattle.std.specs.Prelude.{◌≡◌, ◌+◌, ◌≤◌, ◌%◌, ◌++◌, [], ℕ, length, map, take};
+ghost use Rattle.std.specs.List.{concat};
+ghost use Rattle.domain_codecs.specs.Cut.{Cut};
 ghost use Rattle.domain_octets.specs.Words.{Octets, AreOctets};
 
-use crate::{Codec, judging};
-use base64::engine::general_purpose::STANDARD;
 use std::marker::Model;
+
+/// Writes octets from a place in a buffer on.
+pub(crate) fn put(buffer: &mut [u8], at: usize, part: &[u8])
+    requires { at + length part.now ≤ length buffer.old }
+    ensures front { (count : ℕ) → count ≤ length part.now
+        → take (at + count) buffer.new ≡ take at buffer.old ++ take count part.now }
+    ensures room { length buffer.new ≡ length buffer.old }
+{
+    buffer[at..at + part.len()].copy_from_slice(part);
+}
 
 /// The characters of texts that are left to be read.
 #[derive(Drop)]
@@ -29,37 +37,35 @@ impl<'a> Joined<'a> {
         Joined { front: &[], texts }
     }
 
-    /// Takes the next character.
-    pub(crate) fn next(&mut self) -> Option<u8>
-        ensures { MatchOption result ((self.old ≡ []) × (self.new ≡ [])) (λ c.
-            self.old ≡ c ∷ self.new) }
-    {
-        loop {
-            if let [c, after @ ..] = self.front {
-                self.front = after;
-                return Some(*c);
-            }
-            let [text, others @ ..] = self.texts else {
-                return None;
-            };
-            self.front = text.as_bytes();
-            self.texts = others;
-        }
-    }
-
     /// Takes 64 characters, or all where there are fewer.
     pub(crate) fn take_piece(&mut self, piece: &mut [u8; 64]) -> usize
         ensures cut { Cut self.old (take result piece.new) self.new }
         ensures small { result ≤ 64 }
     {
-        for count in 0..64 {
-            let Some(c) = self.next() else {
+        let mut count = 0;
+        loop {
+            let (part, after) = self.front.split_at(self.front.len().min(64 - count));
+            put(piece, count, part);
+            count += part.len();
+            self.front = after;
+            if count == 64 {
+                return 64;
+            }
+            let [text, others @ ..] = self.texts else {
                 return count;
             };
-            piece[count] = c;
+            self.front = text.as_bytes();
+            self.texts = others;
         }
-        64
     }
+}
+
+/// How many octets are over a multiple of 8.
+fn octets_over_eight(text: &[u8]) -> usize
+    ensures over { result ≡ length text.now % 8 }
+    ensures octets { AreOctets text.now }
+{
+    text.len() % 8
 }
 
 /// How many characters texts have over a multiple of 8 when they are joined.
@@ -70,45 +76,8 @@ pub(crate) fn over_eight(texts: &[&str]) -> usize
     let mut over = 0;
     let mut left = texts;
     while let [text, others @ ..] = left {
-        over = (over + judging::over_eight(text.as_bytes())) % 8;
+        over = (over + octets_over_eight(text.as_bytes())) % 8;
         left = others;
     }
     over
-}
-
-/// The first character of texts that stands in no text of the codec.
-pub(crate) fn first_other(codec: Codec, texts: &[&str]) -> Option<u8>
-    ensures some { IfSome result (IsFirstOther codec (concat (map (λ text. text.now) texts.now))) }
-    ensures none { IfNone result
-        (AllPass (is_digit codec) (concat (map (λ text. text.now) texts.now))) }
-{
-    let mut left = Joined::new(texts);
-    while let Some(c) = left.next() {
-        if !judging::is_digit(codec, c) {
-            return Some(c);
-        }
-    }
-    None
-}
-
-/// Whether texts stand for octets in Base 64 when they are joined: every 64 characters for 48
-/// octets, and the last for at most as many.
-pub(crate) fn is_base64(texts: &[&str]) -> bool
-    ensures { IsTrue result ↔ IsText Codec.Base64 (concat (map (λ text. text.now) texts.now)) }
-{
-    if over_eight(texts) % 4 != 0 {
-        return false;
-    }
-    let mut left = Joined::new(texts);
-    let mut piece = [0u8; 64];
-    let mut octets = [0u8; 48];
-    loop {
-        let count = left.take_piece(&mut piece);
-        let Ok(full) = STANDARD.decode_slice_unchecked(&piece[..count], &mut octets) else {
-            return false;
-        };
-        if full < 48 {
-            return left.next().is_none();
-        }
-    }
 }

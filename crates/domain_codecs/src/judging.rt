@@ -4,7 +4,8 @@ ghost use Rattle.std.specs.List.{AllPass, concat};
 ghost use Rattle.domain_codecs.specs.Codec.{base32_value, is_digit, IsFirstOther, IsText, TextFault};
 ghost use Rattle.domain_octets.specs.Words.{Octets, AreOctets};
 
-use crate::{Codec, DecodeError, joined};
+use crate::joined::{Joined, over_eight};
+use crate::{Codec, DecodeError};
 use base64::engine::general_purpose::STANDARD;
 use domain_octets::{OctetSet, prefix_len};
 
@@ -36,7 +37,7 @@ pub(crate) fn base32_digit(c: u8) -> u32
 }
 
 /// Whether a character stands in texts of the codec.
-pub(crate) fn is_digit(codec: Codec, c: u8) -> bool
+fn is_digit(codec: Codec, c: u8) -> bool
     ensures { result ≡ is_digit codec c }
 {
     match codec {
@@ -115,122 +116,76 @@ fn digits_len(codec: Codec, text: &[u8]) -> usize
     }
 }
 
-/// The first character that stands in no text of the codec.
-fn first_other(codec: Codec, text: &[u8]) -> Option<u8>
-    ensures some { IfSome result (IsFirstOther codec text.now) }
-    ensures none { IfNone result (AllPass (is_digit codec) text.now) }
+/// The first character of texts that stands in no text of the codec.
+fn first_other(codec: Codec, texts: &[&str]) -> Option<u8>
+    ensures some { IfSome result (IsFirstOther codec (concat (map (λ text. text.now) texts.now))) }
+    ensures none { IfNone result
+        (AllPass (is_digit codec) (concat (map (λ text. text.now) texts.now))) }
 {
-    let place = digits_len(codec, text);
-    if place == text.len() {
-        return None;
+    let mut left = Joined::new(texts);
+    let mut piece = [0u8; 64];
+    loop {
+        let count = left.take_piece(&mut piece);
+        if count == 0 {
+            return None;
+        }
+        let place = digits_len(codec, &piece[..count]);
+        if place < count {
+            return Some(piece[place]);
+        }
     }
-    Some(text[place])
 }
 
-/// Whether a text stands for octets in Base 64: every 64 characters for 48 octets, and the last for
-/// at most as many.
-fn is_base64(text: &[u8]) -> bool
-    ensures { IsTrue result ↔ IsText Codec.Base64 text.now }
+/// Whether texts stand for octets in Base 64 when they are joined: every 64 characters for 48
+/// octets, and the last for at most as many. So many are over a multiple of 8.
+fn is_base64(over: usize, texts: &[&str]) -> bool
+    requires over { over ≡ length (concat (map (λ text. text.now) texts.now)) % 8 }
+    requires octets { AreOctets (concat (map (λ text. text.now) texts.now)) }
+    ensures { IsTrue result ↔ IsText Codec.Base64 (concat (map (λ text. text.now) texts.now)) }
 {
-    let mut piece = [0u8; 48];
-    let mut left = text;
-    while left.len() > 64 {
-        let (front, after) = left.split_at(64);
-        let Ok(count) = STANDARD.decode_slice_unchecked(front, &mut piece) else {
+    if over % 4 != 0 {
+        return false;
+    }
+    let mut left = Joined::new(texts);
+    let mut piece = [0u8; 64];
+    let mut octets = [0u8; 48];
+    loop {
+        let count = left.take_piece(&mut piece);
+        let Ok(full) = STANDARD.decode_slice_unchecked(&piece[..count], &mut octets) else {
             return false;
         };
-        if count < 48 {
-            return false;
+        if full < 48 {
+            return left.take_piece(&mut piece) == 0;
         }
-        left = after;
-    }
-    STANDARD.decode_slice_unchecked(left, &mut piece).is_ok()
-}
-
-/// How many characters a text has over a multiple of 8.
-pub(crate) fn over_eight(text: &[u8]) -> usize
-    ensures over { result ≡ length text.now % 8 }
-    ensures octets { AreOctets text.now }
-{
-    text.len() % 8
-}
-
-/// A text that is judged, in one part or in several.
-pub(crate) trait Text {
-    /// Its characters.
-    ghost characters: { Self → Octets };
-
-    /// How many characters it has over a multiple of 8.
-    fn over_eight(&self) -> usize
-        ensures over { result ≡ length (characters self.now) % 8 }
-        ensures octets { AreOctets (characters self.now) };
-
-    /// Its first character that stands in no text of the codec.
-    fn first_other(&self, codec: Codec) -> Option<u8>
-        ensures some { IfSome result (IsFirstOther codec (characters self.now)) }
-        ensures none { IfNone result (AllPass (is_digit codec) (characters self.now)) };
-
-    /// Whether it stands for octets in Base 64.
-    fn is_base64(&self) -> bool
-        ensures { IsTrue result ↔ IsText Codec.Base64 (characters self.now) };
-}
-
-impl Text for &[u8] {
-    ghost characters = { λ text. text.now };
-
-    fn over_eight(&self) -> usize {
-        over_eight(self)
-    }
-
-    fn first_other(&self, codec: Codec) -> Option<u8> {
-        first_other(codec, self)
-    }
-
-    fn is_base64(&self) -> bool {
-        is_base64(self)
     }
 }
 
-impl Text for &[&str] {
-    ghost characters = { λ texts. concat (map (λ text. text.now) texts.now) };
-
-    fn over_eight(&self) -> usize {
-        joined::over_eight(self)
-    }
-
-    fn first_other(&self, codec: Codec) -> Option<u8> {
-        joined::first_other(codec, self)
-    }
-
-    fn is_base64(&self) -> bool {
-        joined::is_base64(self)
-    }
-}
-
-/// Refuses what is no text in Base 16: an odd number of digits, and then what is no digit. It has
-/// so many characters over a multiple of 8.
-fn judge_base16<T: Text>(over: usize, text: &T) -> Result<(), DecodeError>
-    requires { over ≡ length (T.characters text.now) % 8 }
-    ensures ok { OnOk result (IsText Codec.Base16 (T.characters text.now)) }
-    ensures err { IfErr result (TextFault Codec.Base16 (T.characters text.now)) }
+/// Refuses what is no text in Base 16: an odd number of digits, and then what is no digit. So many
+/// characters are over a multiple of 8.
+fn judge_base16(over: usize, texts: &[&str]) -> Result<(), DecodeError>
+    requires { over ≡ length (concat (map (λ text. text.now) texts.now)) % 8 }
+    ensures ok { OnOk result (IsText Codec.Base16 (concat (map (λ text. text.now) texts.now))) }
+    ensures err { IfErr result
+        (TextFault Codec.Base16 (concat (map (λ text. text.now) texts.now))) }
 {
     if over % 2 == 1 {
         return Err(DecodeError::ShortInput);
     }
-    match text.first_other(Codec::Base16) {
+    match first_other(Codec::Base16, texts) {
         Some(c) => Err(DecodeError::IllegalChar(char::from(c))),
         None => Ok(()),
     }
 }
 
 /// Refuses what is no text in Base 32 hex: what is no digit, and then a number of digits that no
-/// octets have. It has so many characters over a multiple of 8.
-fn judge_base32<T: Text>(over: usize, text: &T) -> Result<(), DecodeError>
-    requires { over ≡ length (T.characters text.now) % 8 }
-    ensures ok { OnOk result (IsText Codec.Base32Hex (T.characters text.now)) }
-    ensures err { IfErr result (TextFault Codec.Base32Hex (T.characters text.now)) }
+/// octets have. So many characters are over a multiple of 8.
+fn judge_base32(over: usize, texts: &[&str]) -> Result<(), DecodeError>
+    requires { over ≡ length (concat (map (λ text. text.now) texts.now)) % 8 }
+    ensures ok { OnOk result (IsText Codec.Base32Hex (concat (map (λ text. text.now) texts.now))) }
+    ensures err { IfErr result
+        (TextFault Codec.Base32Hex (concat (map (λ text. text.now) texts.now))) }
 {
-    if let Some(c) = text.first_other(Codec::Base32Hex) {
+    if let Some(c) = first_other(Codec::Base32Hex, texts) {
         return Err(DecodeError::IllegalChar(char::from(c)));
     }
     if over == 1 || over == 3 || over == 6 {
@@ -239,30 +194,34 @@ fn judge_base32<T: Text>(over: usize, text: &T) -> Result<(), DecodeError>
     Ok(())
 }
 
-/// Refuses what is no text in Base 64, with its first character that no such text has, if any.
-fn judge_base64<T: Text>(text: &T) -> Result<(), DecodeError>
-    ensures ok { OnOk result (IsText Codec.Base64 (T.characters text.now)) }
-    ensures err { IfErr result (TextFault Codec.Base64 (T.characters text.now)) }
+/// Refuses what is no text in Base 64, with its first character that no such text has, if any. So
+/// many characters are over a multiple of 8.
+fn judge_base64(over: usize, texts: &[&str]) -> Result<(), DecodeError>
+    requires over { over ≡ length (concat (map (λ text. text.now) texts.now)) % 8 }
+    requires octets { AreOctets (concat (map (λ text. text.now) texts.now)) }
+    ensures ok { OnOk result (IsText Codec.Base64 (concat (map (λ text. text.now) texts.now))) }
+    ensures err { IfErr result
+        (TextFault Codec.Base64 (concat (map (λ text. text.now) texts.now))) }
 {
-    if text.is_base64() {
+    if is_base64(over, texts) {
         return Ok(());
     }
-    match text.first_other(Codec::Base64) {
+    match first_other(Codec::Base64, texts) {
         Some(c) => Err(DecodeError::IllegalChar(char::from(c))),
         None => Err(DecodeError::ShortInput),
     }
 }
 
-/// Refuses what is no text of the codec. Takes no memory.
-pub(crate) fn judge<T: Text>(codec: Codec, text: &T) -> Result<(), DecodeError>
-    ensures ok { OnOk result (IsText codec (T.characters text.now)) }
-    ensures err { IfErr result (TextFault codec (T.characters text.now)) }
-    ensures octets { AreOctets (T.characters text.now) }
+/// Refuses texts that are no text of the codec when they are joined. Takes no memory.
+pub(crate) fn judge(codec: Codec, texts: &[&str]) -> Result<(), DecodeError>
+    ensures ok { OnOk result (IsText codec (concat (map (λ text. text.now) texts.now))) }
+    ensures err { IfErr result (TextFault codec (concat (map (λ text. text.now) texts.now))) }
+    ensures octets { AreOctets (concat (map (λ text. text.now) texts.now)) }
 {
-    let over = text.over_eight();
+    let over = over_eight(texts);
     match codec {
-        Codec::Base16 => judge_base16(over, text),
-        Codec::Base32Hex => judge_base32(over, text),
-        Codec::Base64 => judge_base64(text),
+        Codec::Base16 => judge_base16(over, texts),
+        Codec::Base32Hex => judge_base32(over, texts),
+        Codec::Base64 => judge_base64(over, texts),
     }
 }

@@ -1,26 +1,39 @@
-use Rattle.std.proofs.Common.{◌≡◌, ◌<◌, List, ℕ, length, take, arith, length-take}
-use Rattle.domain_codecs.proofs.Base64Lemmas.{passed_more, no_piece, short_piece}
+use Rattle.std.{proofs.Common.{◌≡◌, nat_eq, ap, length, take, map, arith, length-take}, specs.List.concat}
+use Rattle.domain_codecs.proofs.JoinedLemmas.{passed_begin, no_group, refused_piece, short_decides, full_goes_on, full_is_some}
+use Rattle.domain_codecs.proofs.judging.is_base64.Goals.{Else-full-lt48}
 use Rattle.domain_codecs.proofs.judging.is_base64.Goals as goal
+use Rattle.std.proofs.lemmas.Grind.{common_steps}
+
+pub returns-then-over-ne0 : goal.returns-then-over-ne0
+returns-then-over-ne0 c = (
+  λ no. (cc no),
+  λ is. absurd (no_group _ c.args.over c.requires.octets c.requires.over (λ whole. omega (arith, whole, c.if-over-ne0.true)) is),
+)
+
+pub loop-full-init : goal.loop-full-init
+loop-full-init c = passed_begin (concat (map (λ text. text.now) c.args.texts.now)) c.new-left.result c.new-left.ensures c.requires.octets
 
 pub returns-in_default : goal.returns-in_default
 returns-in_default c = (
   λ no. (cc no),
-  λ is. absurd (no_piece _ _ c.loop-left.invariant c.loop-left-test.true is.0 is.1 _
-      (rw c.split_at.ensures.front at c.in_default.ensures.err)),
+  λ is. absurd (refused_piece _ _ _ _ c.loop-full.invariant c.take_piece-count.ensures.cut _ c.in_default.ensures.err is),
 )
 
-pub returns-then-count-lt48 : goal.returns-then-count-lt48
-returns-then-count-lt48 c =
-    let piece : List ℕ = c.decode_slice_unchecked.new.output in
-    let read = rw c.split_at.ensures.front at c.in-Ok.ensures.ok in
-    let short : length (take c.in-Ok.count piece) < 48 = omega (arith, length-take c.in-Ok.count piece) in (
-      λ no. (cc no),
-      λ is. absurd (short_piece _ _ c.loop-left.invariant c.loop-left-test.true is.0 is.1 _ read.0 short),
-    )
+pub returns-then-full-lt48 : goal.returns-then-full-lt48
+returns-then-full-lt48 c =
+    let size : c.take_piece.result ≡ length (take c.take_piece.result c.take_piece.new.piece) =
+    omega (arith, length-take c.take_piece.result c.take_piece.new.piece, c.take_piece.ensures.small) in
+    short_decides _ _ _ _ _ _ _ _ c.loop-full.invariant c.take_piece-count.ensures.cut c.take_piece.ensures.cut (ap (λ n. nat_eq n 0) size)
+    c.in-Ok.ensures.ok.0 (omega (arith, length-take c.in-Ok.full c.decode_slice_unchecked.new.output))
 
-pub loop-left-preserved : goal.loop-left-preserved
-loop-left-preserved c =
-    let piece : List ℕ = c.decode_slice_unchecked.new.output in
-    let read = rw c.split_at.ensures.front at c.in-Ok.ensures.ok in
-    let full : length (take c.in-Ok.count piece) ≡ 48 = omega (arith, length-take c.in-Ok.count piece) in
-    rw c.split_at.ensures.back (passed_more _ _ _ c.loop-left.invariant c.loop-left-test.true read.0 full)
+-- a piece that stands for no fewer than 48 octets stands for 48
+full_piece : (c : Else-full-lt48) → length (take c.in-Ok.full c.decode_slice_unchecked.new.output) ≡ 48
+full_piece c = let read = c.in-Ok.ensures.ok in omega (arith, length-take c.in-Ok.full c.decode_slice_unchecked.new.output)
+
+pub loop-full-smaller : goal.loop-full-smaller
+loop-full-smaller c = grind (arith, common_steps, full_is_some)
+
+pub loop-full-preserved : goal.loop-full-preserved
+loop-full-preserved c =
+    full_goes_on _ _ _ _ _ c.loop-full.invariant c.take_piece-count.ensures.cut c.in-Ok.ensures.ok.0
+    (full_piece (goal.at.loop-full-preserved c).Else-full-lt48)

@@ -1,30 +1,34 @@
-use Rattle.std.{proofs.Common.{◌++◌, map, arith}, specs.List.concat}
+use Rattle.std.{proofs.Common.{◌++◌, map, take, arith}, specs.List.concat}
 use Rattle.domain_codecs.proofs.{RoomLemmas.{build_stops, handed_on}, JoinedLemmas.{ReadPieces, pieces_next, pieces_end}, CodecBackLemmas.decodes_once}
-use Rattle.domain_codecs.proofs.decoding.build_joined.{Given.Over, Goals.After-as_slice}
-use Rattle.domain_codecs.proofs.decoding.build_joined.Goals as goal
+use Rattle.domain_codecs.proofs.decoding.build.{Given.Over, Goals.After-decode_piece-count}
+use Rattle.domain_codecs.proofs.decoding.build.Goals as goal
 use Rattle.std.proofs.lemmas.Grind.{common_steps}
 
 pub returns-then-count-eq0-clause-ok : goal.returns-then-count-eq0-clause-ok
 returns-then-count-eq0-clause-ok g c = grind (arith, common_steps, pieces_end)
 
-pub build_piece-part-requires-clause-text : goal.build_piece-part-requires-clause-text
-build_piece-part-requires-clause-text g c =
+pub decode_piece-count-requires-clause-text : goal.decode_piece-count-requires-clause-text
+decode_piece-count-requires-clause-text g c =
     let next = pieces_next _ _ _ _ _ _ c.loop-left.invariant.read c.take_piece-count.ensures.cut in
     (next.octets, next.first)
 
 -- the octets of the piece follow those that were built
-piece_read : (g : Over) (c : After-as_slice g)
+piece_read : (g : Over) (c : After-decode_piece-count g)
     → ReadPieces c.args.codec (concat (map (λ text. text.now) c.args.texts.now)) c.take_piece-count.new.self
-    (g.B.Octets.octets c.loop-left.octets ++ c.as_slice.result.now)
+    (g.B.Octets.octets c.loop-left.octets ++ take c.decode_piece-count.result c.decode_piece-count.new.octets)
 piece_read g c =
     let next = pieces_next _ _ _ _ _ _ c.loop-left.invariant.read c.take_piece-count.ensures.cut in
-    rw (decodes_once _ _ next.octets c.as_slice.result.now next.first (rw c.as_slice.ensures c.build_piece-part.ensures)) at next.more
+    rw (decodes_once _ _ next.octets _ next.first c.decode_piece-count.ensures.decodes) at next.more
 
 pub loop-left-preserved : goal.loop-left-preserved
-loop-left-preserved g c = grind (arith, common_steps, piece_read)
+loop-left-preserved g c =
+    let read = piece_read g (goal.at.loop-left-preserved g c).After-decode_piece-count in record {
+      read = grind (arith, common_steps, read);
+      room = grind (arith, common_steps);
+    }
 
 pub returns-in_err-append_slice-clause-err : goal.returns-in_err-append_slice-clause-err
 returns-in_err-append_slice-clause-err g c =
-    let read = piece_read g (goal.at.returns-in_err-append_slice-clause-err g c).After-as_slice in
+    let read = piece_read g (goal.at.returns-in_err-append_slice-clause-err g c).After-decode_piece-count in
     handed_on _ _ _ c.from_residual.ensures.1
     (build_stops _ _ _ _ _ read.rest _ _ c.in_err-append_slice.was read.whole c.append_slice.ensures.short c.append_slice.ensures.memory)

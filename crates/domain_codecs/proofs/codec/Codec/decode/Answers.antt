@@ -1,6 +1,0 @@
-use Rattle.domain_codecs.proofs.RefusalLemmas.{refused_for_itself}
-use Rattle.domain_codecs.proofs.codec.Codec.decode.Goals as goal
-
-pub returns-in_err-judge-clause-room : goal.returns-in_err-judge-clause-room
-returns-in_err-judge-clause-room g c =
-    refused_for_itself _ _ _ _ _ c.from_residual-in_err-judge.ensures.1 (rw c.as_bytes-2.ensures.value at c.in_err-judge.ensures.err)
