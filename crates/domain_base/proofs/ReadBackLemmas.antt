@@ -1,14 +1,14 @@
 -- what numbers, types, classes and names are written as is read back
 use Rattle.std.proofs.lemmas.Grind.{common_steps}
-use Rattle.std.proofs.Common.{◌≡◌, ◌≢◌, ℕ, ◌+◌, ◌-◌, ◌*◌, ◌/◌, ◌%◌, ◌<◌, true, false, List, [], ◌∷◌, ◌++◌, Some, None, length, drop, codes, refl, ap, sym}
-use Rattle.std.proofs.{Common.{subst, ◌∙◌, arith, inl, inr}, lemmas.{Fmt.decimal_is_IsNumeral, List.{append_assoc, append-nil, Elements.recursion_from_All}}}
-use Rattle.std.{proofs.lemmas.Bool.{cases_Bool, and_parts, Decides.nat_tests}, specs.Prelude.{◌^◌, ◌==◌, ◌&&◌, not, nat_le, Option, unwrap_or}}
-use Rattle.std.specs.{List.{AllByRecursion, list_all}, Fmt.decimal, Char.{is_ascii_digit, is_ascii_graphic}}
+use Rattle.std.proofs.Common.{◌≡◌, ◌≢◌, ℕ, ◌<◌, true, false, List, [], ◌∷◌, ◌++◌, Some, None, length, drop, codes, refl, sym}
+use Rattle.std.proofs.{Common.{subst, arith, inl, inr}, lemmas.{Fmt.decimal_is_IsNumeral, List.{append_assoc, append-nil, Elements.recursion_from_All}}}
+use Rattle.std.{proofs.lemmas.Bool.{cases_Bool, Decides.nat_tests}, specs.Prelude.{Bool, ◌^◌, ◌==◌, ◌&&◌, not, Option, unwrap_or}}
+use Rattle.std.specs.{List.{AllByRecursion, list_all}, Fmt.decimal, Char.{is_ascii_graphic}}
 use Rattle.domain_octets.{specs.Line.{HasNoSpace, IsWord}, proofs.WordLemmas.{no_space-append, decimal_word}}
 use Rattle.domain_base.specs.Named.{Named, number_named, name_of, NumberText, by_name, by_number}
 use Rattle.domain_base.specs.{Numbers.{type_names, TypeText, type_text, class_names, ClassText, class_text}, Scan.IsNumber}
 use Rattle.domain_names.specs.Name.{IsLabel, IsName}
-use Rattle.domain_names.specs.Text.{symbol_at, is_printable, is_special, octet_text, label_text, dotted_text, name_text, LabelText, at_end, at_dot, octet}
+use Rattle.domain_names.specs.Text.{symbol_at, is_special, octet_text, label_text, dotted_text, name_text, LabelText, at_end, at_dot, octet}
 use Rattle.domain_names.specs.Text.{LabelTexts, last, last_with_dot, dotted, NameText, root, of_labels}
 
 -- ---- numbers
@@ -24,14 +24,17 @@ NamesStand table entries = AllByRecursion (λ entry. number_named table entry.na
 
 named_back : (table entries : List Named) (n : ℕ) (name : List ℕ) → NamesStand table entries → name_of entries n ≡ Some name → number_named table name ≡ Some n
 named_back table [] n name stand is = absurd (let e = is in cc)
-named_back table (entry ∷ entries) n name stand is = elim (cases_Bool (entry.number == n)) [
-  | inl here ↦
-      let same : entry.number ≡ n = grind (arith, nat_tests) in
-      let found : Some entry.name ≡ Some name = rw here at is in
-      let named : entry.name ≡ name = cc found in
-      ap (number_named table) (sym named) ∙ stand.0 ∙ ap Some same
-  | inr other ↦ named_back table entries n name stand.1 (rw other at is)
-]
+named_back table (entry ∷ entries) n name stand is = grind (arith, common_steps, nat_tests, (named_back table entries n name stand.1))
+
+-- which a test finds
+stands : Option ℕ → ℕ → Bool
+stands None n = false
+stands (Some m) n = m == n
+
+stand_test : (table entries : List Named) → list_all (λ entry. stands (number_named table entry.name) entry.number) entries ≡ true → NamesStand table entries
+unfolding stands
+stand_test table [] all = tt
+stand_test table (entry ∷ entries) all = grind (arith, common_steps, nat_tests, (stand_test table entries))
 
 -- where the table tells nothing else of such a text
 number_back_by : (table : List Named) (prefix : List ℕ) (n : ℕ) → NamesStand table table
@@ -43,62 +46,12 @@ number_back_by table prefix n stand other fits None is =
 number_back_by table prefix n stand other fits (Some name) is = by_name name n (named_back table table n name stand is)
 
 pub type_back : (n : ℕ) → n < 65536 → TypeText (type_text n) n
-type_back n fits = number_back_by type_names (codes "TYPE") n stand (λ digits. refl) fits (name_of type_names n) refl where
-  stand : NamesStand type_names type_names
-  stand = (
-    refl,
-    (
-      refl,
-      (
-        refl,
-        (
-          refl,
-          (
-            refl,
-            (
-              refl,
-              (
-                refl,
-                (
-                  refl,
-                  (
-                    refl,
-                    (
-                      refl,
-                      (
-                        refl,
-                        (
-                          refl,
-                          (
-                            refl,
-                            (
-                              refl,
-                              (
-                                refl,
-                                (
-                                  refl,
-                                  (refl, (refl, (refl, (refl, (refl, (refl, (refl, (refl, (refl, (refl, (refl, (refl, tt)))))))))))),
-                                ),
-                              ),
-                            ),
-                          ),
-                        ),
-                      ),
-                    ),
-                  ),
-                ),
-              ),
-            ),
-          ),
-        ),
-      ),
-    ),
-  )
+unfolding stands
+type_back n fits = number_back_by type_names (codes "TYPE") n (stand_test type_names type_names refl) (λ digits. refl) fits (name_of type_names n) refl
 
 pub class_back : (n : ℕ) → n < 65536 → ClassText (class_text n) n
-class_back n fits = number_back_by class_names (codes "CLASS") n stand (λ digits. refl) fits (name_of class_names n) refl where
-  stand : NamesStand class_names class_names
-  stand = (refl, (refl, (refl, tt)))
+unfolding stands
+class_back n fits = number_back_by class_names (codes "CLASS") n (stand_test class_names class_names refl) (λ digits. refl) fits (name_of class_names n) refl
 
 -- ---- names
 
@@ -108,45 +61,13 @@ record Symbol (c : ℕ) (rest : List ℕ) : Type 0 where
   read : symbol_at (octet_text c ++ rest) ≡ Some (c, used)
   left : drop used (octet_text c ++ rest) ≡ rest
 
-special_octet : (c : ℕ) → is_special c ≡ true → (is_ascii_digit c ≡ false) × (is_printable c ≡ true)
-special_octet c special = (grind (arith, nat_tests), grind (arith, nat_tests))
-
-plain_octet : (c : ℕ) → is_special c ≡ false → is_ascii_graphic c ≡ true → ((c == 92) ≡ false) × ((is_printable c && not (c == 46)) ≡ true)
-plain_octet c special graphic = (grind (arith, nat_tests), grind (arith, nat_tests))
-
-digit_is : (d : ℕ) → d < 10 → is_ascii_digit (48 + d) ≡ true
-digit_is d small = grind (arith, nat_tests)
-
-value_is : (c : ℕ) → c < 256 → (48 + c / 100 - 48) * 100 + (48 + c / 10 % 10 - 48) * 10 + (48 + c % 10 - 48) ≡ c
-value_is c small = omega arith
-
-value_fits : (c : ℕ) → c < 256 → nat_le c 255 ≡ true
-value_fits c small = grind (arith, nat_tests)
-
 symbol_back : (c : ℕ) (rest : List ℕ) → c < 256 → Symbol c rest
 unfolding symbol_at octet_text
-symbol_back c rest small = elim (cases_Bool _) [
-  | inl special ↦
-      let found = special_octet c special in
-      record { used = 2; read = rw (special, found.0, found.1) refl; left = rw special refl }
-  | inr other ↦ elim (cases_Bool _) [
-    | inl graphic ↦
-        let found = plain_octet c other graphic in
-        record { used = 1; read = rw (other, graphic, found.0, found.1) refl; left = rw (other, graphic) refl }
-    | inr unseen ↦
-        record {
-          used = 4;
-          read = rw (
-            other,
-            unseen,
-            digit_is (c / 100) (omega arith),
-            digit_is (c / 10 % 10) (omega arith),
-            digit_is (c % 10) (omega arith),
-            value_is c small,
-            value_fits c small,
-          ) refl;
-          left = rw (other, unseen) refl;
-        }
+symbol_back c rest small = elim (cases_Bool (is_special c)) [
+  | inl special ↦ record { used = 2; read = grind (arith, common_steps, nat_tests); left = grind (arith, common_steps) }
+  | inr other ↦ elim (cases_Bool (is_ascii_graphic c)) [
+    | inl graphic ↦ record { used = 1; read = grind (arith, common_steps, nat_tests); left = grind (arith, common_steps) }
+    | inr unseen ↦ record { used = 4; read = grind (arith, common_steps, nat_tests); left = grind (arith, common_steps) }
   ]
 ]
 
@@ -220,13 +141,7 @@ AreWords entries = AllByRecursion (λ entry. IsWord entry.name) entries
 
 named_word : (entries : List Named) (n : ℕ) (name : List ℕ) → AreWords entries → name_of entries n ≡ Some name → IsWord name
 named_word [] n name words is = absurd (let e = is in cc)
-named_word (entry ∷ entries) n name words is = elim (cases_Bool (entry.number == n)) [
-  | inl here ↦
-      let found : Some entry.name ≡ Some name = rw here at is in
-      let named : entry.name ≡ name = cc found in
-      subst IsWord named words.0
-  | inr other ↦ named_word entries n name words.1 (rw other at is)
-]
+named_word (entry ∷ entries) n name words is = grind (arith, common_steps, nat_tests, (named_word entries n name words.1))
 
 number_word_by : (table : List Named) (prefix : List ℕ) (n : ℕ) → AreWords table → IsWord prefix → n < 65536
     → (o : Option (List ℕ)) → name_of table n ≡ o → IsWord (unwrap_or o (prefix ++ decimal n))
@@ -246,15 +161,7 @@ plain_test text all = grind (arith, common_steps, recursion_from_All)
 words_test : (entries : List Named) → list_all (λ entry. list_all (λ c. not (c == 32)) entry.name
     && not (length entry.name == 0)) entries ≡ true → AreWords entries
 words_test [] all = tt
-words_test (entry ∷ entries) all =
-    let parts = and_parts (list_all (λ c. not (c == 32)) entry.name && not (length entry.name == 0))
-    (list_all (λ entry. list_all (λ c. not (c == 32)) entry.name && not (length entry.name == 0)) entries) all in
-    let here = and_parts (list_all (λ c. not (c == 32)) entry.name) (not (length entry.name == 0)) parts.0 in
-    (record { some = λ none. some entry.name here.1 none; unbroken = plain_test entry.name here.0 }, words_test entries parts.1)
-  where
-    some : (text : List ℕ) → not (length text == 0) ≡ true → text ≢ []
-    some [] test = absurd (let h = test in cc)
-    some (c ∷ text) test = λ none. cc
+words_test (entry ∷ entries) all = grind (arith, common_steps, nat_tests, plain_test, (words_test entries))
 
 pub type_word : (n : ℕ) → n < 65536 → IsWord (type_text n)
 type_word n fits = number_word_by type_names (codes "TYPE") n (words_test type_names refl) (record {
