@@ -26,8 +26,8 @@ pub(crate) fn verdict_told(verdict: Result<Verdict, Fault>) -> (u32, usize)
     }
 }
 
-/// The number of a whole answer or a fault, and how many labels the zone cut, the owner of the DNAME
-/// record or the closest encloser has; 0 where there is none.
+/// The number of a whole answer or a fault, and how many labels the zone cut, the owner of the
+/// DNAME record or the closest encloser has; 0 where there is none.
 pub(crate) fn answer_told(answer: Result<Answer, Fault>) -> (u32, usize)
     ensures number { result.0 ≡ number_of answer_number answer }
     ensures labels { result.1 ≡ labels_of answer_labels answer }

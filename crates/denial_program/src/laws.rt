@@ -1,4 +1,5 @@
-//! What the program's contract says of the data that lines spell. A caller calls the law in its body.
+//! What the program's contract says of the data that lines spell. A caller calls the law in its
+//! body.
 ghost use Rattle.std.specs.Prelude.{◌≡◌, List};
 ghost use Rattle.domain_octets.specs.Words.{Octets};
 ghost use Rattle.domain_base.specs.Types as rtypes;

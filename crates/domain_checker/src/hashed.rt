@@ -97,8 +97,8 @@ fn is_cover(label: Option<&[u8]>, next: &[u8], hash: &[u8]) -> bool
     }
 }
 
-/// The cover that was found before or, with none, this record where it covers the hash, by the label
-/// that spells its own.
+/// The cover that was found before or, with none, this record where it covers the hash, by the
+/// label that spells its own.
 fn or_cover<'a, O: Octets, N: ToName>(
     cover: Option<&'a Nsec3Rr<O, N>>,
     label: Option<&[u8]>,

@@ -112,8 +112,8 @@ fn listed_of<'r, 'a>(is_needed: bool, found: &Option<Part<'r, 'a>>) -> Option<Li
 
 /// Whether the record is the same as another.
 fn is_told(listed: Listed<'_, '_>, other: Option<Listed<'_, '_>>) -> bool
-    ensures { result
-        ≡ list_any (is_same (any_of listed.entry)) (option_to_list (option_map any_of other.entry)) }
+    ensures { result ≡ list_any (is_same (any_of listed.entry))
+        (option_to_list (option_map any_of other.entry)) }
 {
     match (listed, other) {
         (Listed::Nsec(nsec), Some(Listed::Nsec(other))) => nsec == other,

@@ -32,8 +32,8 @@ fn refusal_at<S: Scanner>(
     Ok(Some((number, part)))
 }
 
-/// The number of the first of these words that can't be read, where there is one, and what it was to
-/// be. Numbers are counted from 1; where a word is missing it is one more than there are.
+/// The number of the first of these words that can't be read, where there is one, and what it was
+/// to be. Numbers are counted from 1; where a word is missing it is one more than there are.
 pub fn refusal_of(alloc: Global, words: &[&str]) -> Result<Option<(usize, Part)>, AllocError> {
     let count = words.len();
     let mut scanner = IterScanner::<ZoneOctets>::new(words);
