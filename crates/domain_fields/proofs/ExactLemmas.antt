@@ -3,22 +3,15 @@ use Rattle.std.proofs.lemmas.Grind.{common_steps}
 use Rattle.std.proofs.Common.{◌≡◌, ℕ, true, List, [], ◌++◌, length, refl, sym, ap, ◌∙◌, arith, length-append, append_assoc, append-nil}
 use Rattle.std.specs.Cmp.{first_so, second_so}
 use Rattle.domain_names.{specs.Fault.Fault, proofs.FaultLemmas.no_name_fault}
-use Rattle.domain_fields.specs.Field.{Field, octet, short, long, name, spelled_name, counted, exactly, at_most, rest, Value, field_octets, FieldFits, FieldEnds}
+use Rattle.domain_fields.specs.Field.{Field, rest, Value, field_octets, FieldFits, FieldEnds}
 use Rattle.domain_fields.specs.Field.{FieldFault, cut_octet, cut_short, cut_long, no_name, no_spelled_name, no_count, cut_counted, cut_exactly, too_long}
 use Rattle.domain_fields.specs.Layout.{Layout, one, ◌▸◌, Values, octets_of, Fits, Ends, Begins, ParsesBack, is_delimited, splits, FirstFault, in_field}
 use Rattle.domain_fields.{specs.Layout.{in_first, in_later}, proofs.OrderLemmas.{Same, same_field, same_data}}
 
 last_field : (f : Field) (v w : Value f) (r s : List ℕ) → FieldFits f v → FieldFits f w → FieldEnds f r → FieldEnds f s
     → field_octets f v ++ r ≡ field_octets f w ++ s → Same v w r s
-last_field octet v w r s fv fw er es e = same_field octet v w r s refl fv fw e
-last_field short v w r s fv fw er es e = same_field short v w r s refl fv fw e
-last_field long v w r s fv fw er es e = same_field long v w r s refl fv fw e
-last_field name v w r s fv fw er es e = same_field name v w r s refl fv fw e
-last_field spelled_name v w r s fv fw er es e = same_field spelled_name v w r s refl fv fw e
-last_field counted v w r s fv fw er es e = same_field counted v w r s refl fv fw e
-last_field (exactly count) v w r s fv fw er es e = same_field (exactly count) v w r s refl fv fw e
-last_field (at_most limit) v w r s fv fw er es e = same_field (at_most limit) v w r s refl fv fw e
 last_field rest v w r s fv fw er es e = grind (arith, common_steps)
+last_field f v w r s fv fw er es e = same_field f v w r s refl fv fw e
 
 same_whole : (l : Layout) (v w : Values l) (r s : List ℕ) → splits l ≡ true → Fits l v → Fits l w → Ends l v r → Ends l w s
     → octets_of l v ++ r ≡ octets_of l w ++ s → Same v w r s

@@ -1,9 +1,9 @@
 -- octets have one first fault at most
 use Rattle.std.proofs.lemmas.Grind.{common_steps}
-use Rattle.std.proofs.Common.{◌≡◌, ℕ, zero, suc, ◌+◌, ◌<◌, true, false, List, [], ◌∷◌, ◌++◌, length, drop, refl, sym, subst, ◌∙◌, arith, length-append}
-use Rattle.std.{proofs.lemmas.{List.drop_at, Bool.Decides.nat_tests}, specs.{Prelude.{nat_lt, if◌then◌else◌, codes}, Cmp.{first_so, second_so}}}
+use Rattle.std.proofs.Common.{◌≡◌, ℕ, zero, suc, ◌+◌, ◌<◌, true, List, [], ◌∷◌, length, drop, refl, sym, subst, ◌∙◌, arith, length-append}
+use Rattle.std.{proofs.lemmas.{Bool.Decides.nat_tests}, specs.{Prelude.{nat_lt, if◌then◌else◌, codes}, Cmp.{first_so, second_so}}}
 use Rattle.domain_names.specs.Fault.{Fault, ends_early, malformed, NameFault, no_octet, bad_label, long_name, cut_label, past_label}
-use Rattle.domain_fields.specs.Field.{Field, octet, short, long, name, spelled_name, counted, exactly, at_most, rest, FieldFault}
+use Rattle.domain_fields.specs.Field.{Field, name, spelled_name, at_most, FieldFault}
 use Rattle.domain_fields.specs.Layout.{Layout, is_delimited, splits, FirstFault, in_field, in_first, in_later}
 use Rattle.domain_fields.proofs.{OrderLemmas.one_reading, ExactLemmas.{fault_excludes, delimited_splits}}
 
@@ -19,28 +19,19 @@ name_fault (suc n) used (len ∷ after) =
 name_fault_is : (n used : ℕ) (octets : List ℕ) (fault : Fault) → NameFault used octets fault → length octets < n → fault ≡ name_fault n used octets
 unfolding name_fault
 name_fault_is zero used octets fault h below = absurd (omega arith)
-name_fault_is (suc n) used octets fault no_octet below = refl
 name_fault_is (suc n) used octets fault (bad_label len after big) below = let bad : nat_lt 63 len ≡ true = grind (arith, nat_tests) in rw bad
+name_fault_is (suc n) used octets fault (past_label label after f some small brief next) below =
+    grind (arith, common_steps, nat_tests, (length-append label after), (name_fault_is n (used + length label + 1) after f next))
+name_fault_is (suc n) used octets fault no_octet below = refl
 name_fault_is (suc n) used octets fault (long_name len after some small big) below = grind (arith, common_steps)
 name_fault_is (suc n) used octets fault (cut_label len after some small brief cut) below = grind (arith, common_steps)
-name_fault_is (suc n) used octets fault (past_label label after f some small brief next) below =
-    let count = length-append label after in
-    let good : nat_lt 63 (length label) ≡ false = grind (arith, nat_tests) in
-    let fits : nat_lt 255 (used + length label + 2) ≡ false = grind (arith, nat_tests) in
-    let whole : nat_lt (length (label ++ after)) (length label) ≡ false = grind (arith, nat_tests) in
-    rw (good, fits, whole, drop_at label after (length label) refl) (name_fault_is n (used + length label + 1) after f next (omega arith))
 
 -- the fault that a field has, if it has one
 field_fault : Field → List ℕ → Fault
-field_fault octet octets = ends_early
-field_fault short octets = ends_early
-field_fault long octets = ends_early
 field_fault name octets = name_fault (suc (length octets)) 0 octets
 field_fault spelled_name octets = name_fault (suc (length octets)) 0 octets
-field_fault counted octets = ends_early
-field_fault (exactly count) octets = ends_early
 field_fault (at_most limit) octets = malformed (codes "record data too long")
-field_fault rest octets = ends_early
+field_fault _ octets = ends_early
 
 field_fault_is : (f : Field) (octets : List ℕ) (fault : Fault) → FieldFault f octets fault → fault ≡ field_fault f octets
 unfolding field_fault

@@ -87,15 +87,8 @@ data_apart l v w d fv fw =
     grind (arith, common_steps, append-nil, (same_data l v w), (append-nil (octets_of l v)), (same_data l w v), (append-nil (octets_of l w)))
 
 lowered_field : (f : Field) (v : Value f) → FieldFits f v → FieldFits f (lower_field f v)
-lowered_field octet v h = h
-lowered_field short v h = h
-lowered_field long v h = h
 lowered_field name v h = IsName-lowered v h
-lowered_field spelled_name v h = h
-lowered_field counted v h = h
-lowered_field (exactly count) v h = h
-lowered_field (at_most limit) v h = h
-lowered_field rest v h = h
+lowered_field _ v h = h
 
 Fits-lower : (l : Layout) (v : Values l) → Fits l v → Fits l (lower l v)
 Fits-lower (one f) v h = lowered_field f v h

@@ -4,7 +4,7 @@ use Rattle.std.{proofs.lemmas.Bool.and_parts, specs.List.AllByRecursion}
 use Rattle.domain_codecs.specs.{Codec.Decodes, declared.codec.Codec.Codec}
 use Rattle.domain_octets.{specs.Line.{IsWord, word_if_any}, proofs.WordLemmas.decimal_word}
 use Rattle.domain_base.{proofs.ReadBackLemmas.{number_back, dotted_name_back, name_word}, specs.Scan.Grammar}
-use Rattle.domain_fields.specs.{Entry.Spells, Field.{Field, octet, short, long, name, spelled_name, counted, exactly, at_most, rest, Value, FieldFits}}
+use Rattle.domain_fields.specs.{Entry.Spells, Field.{Field, octet, short, long, rest, Value, FieldFits}}
 use Rattle.domain_fields.specs.{Layout.{Layout, one, ◌▸◌, Values, Fits}, Printed.{is_printed_field, is_printed, printed_field, printed}}
 use Rattle.domain_fields.specs.Scan.{FieldText, Scans}
 
@@ -12,12 +12,7 @@ field_back : (f : Field) (v : Value f) → is_printed_field f ≡ true → Field
 field_back octet n is fits = number_back 8 n fits (omega (arith, fits))
 field_back short n is fits = number_back 16 n fits (omega (arith, fits))
 field_back long n is fits = number_back 32 n fits (omega (arith, fits))
-field_back name labels is fits = dotted_name_back labels fits
-field_back spelled_name labels is fits = dotted_name_back labels fits
-field_back counted v is fits = absurd (let e = is in cc)
-field_back (exactly count) v is fits = absurd (let e = is in cc)
-field_back (at_most limit) v is fits = absurd (let e = is in cc)
-field_back rest v is fits = absurd (let e = is in cc)
+field_back f v is fits = grind (arith, common_steps, dotted_name_back)
 
 pub fields_back : (l : Layout) (v : Values l) (after : List (List ℕ)) → is_printed l ≡ true → Fits l v → Scans l (printed l v ++ after) v after
 fields_back (one f) v after is fits = record { token = printed_field f v; first = refl; holds = field_back f v is fits }
@@ -34,15 +29,8 @@ pub fields_alone : (l : Layout) (v : Values l) (tokens : List (List ℕ)) → to
 fields_alone l v tokens are is fits = grind (arith, common_steps, fields_back, (append-nil (printed l v)), (fields_back l v))
 
 field_word : (f : Field) (v : Value f) → is_printed_field f ≡ true → FieldFits f v → IsWord (printed_field f v)
-field_word octet n is fits = decimal_word n (omega (arith, fits))
-field_word short n is fits = decimal_word n (omega (arith, fits))
-field_word long n is fits = decimal_word n (omega (arith, fits))
-field_word name labels is fits = name_word labels fits
-field_word spelled_name labels is fits = name_word labels fits
-field_word counted v is fits = absurd (let e = is in cc)
-field_word (exactly count) v is fits = absurd (let e = is in cc)
-field_word (at_most limit) v is fits = absurd (let e = is in cc)
 field_word rest v is fits = absurd (let e = is in cc)
+field_word f v is fits = grind (arith, common_steps, decimal_word, name_word)
 
 words-append : (a b : List (List ℕ)) → AllByRecursion IsWord a → AllByRecursion IsWord b → AllByRecursion IsWord (a ++ b)
 words-append [] b words more = more

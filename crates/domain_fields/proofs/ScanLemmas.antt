@@ -3,7 +3,7 @@ use Rattle.std.proofs.{Common.{arith, ◌≡◌, ℕ, List, [], ◌++◌, sym, a
 use Rattle.std.{proofs.NetLemmas.Ipv4.read_ipv4_complete, specs.Net.{Grammar.IsDotted, Reader.read_ipv4}}
 use Rattle.domain_names.{proofs.SpellingLemmas.one_name, specs.TextFault.{ScanFault, IsOfTokens}}
 use Rattle.domain_base.proofs.RefusalLemmas.{token_excludes, token_one_fault, name_excludes, name_one_fault}
-use Rattle.domain_fields.specs.Field.{Field, octet, short, long, name, spelled_name, counted, exactly, at_most, rest, Value}
+use Rattle.domain_fields.specs.Field.{Field, octet, short, long, exactly, Value}
 use Rattle.domain_fields.specs.{Layout.{Layout, one, ◌▸◌, Values}, Scan.{FieldText, FieldTextFault, Scans, Refuses}}
 
 field_excludes : (f : Field) (limit : Option ℕ) (fault : ScanFault) (text : List ℕ) (v : Value f)
@@ -11,23 +11,12 @@ field_excludes : (f : Field) (limit : Option ℕ) (fault : ScanFault) (text : Li
 field_excludes octet limit fault text v why is own = why.none v is
 field_excludes short limit fault text v why is own = why.none v is
 field_excludes long limit fault text v why is own = why.none v is
-field_excludes name limit fault text v why is own = name_excludes limit fault text v why is own
-field_excludes spelled_name limit fault text v why is own = name_excludes limit fault text v why is own
-field_excludes counted limit fault text v why is own = is
 field_excludes (exactly count) limit fault text v why is own = why.none v is.0
-field_excludes (at_most n) limit fault text v why is own = is
-field_excludes rest limit fault text v why is own = is
+field_excludes f limit fault text v why is own = grind (arith, common_steps, name_excludes)
 
 field_one_fault : (f : Field) (limit : Option ℕ) (x y : ScanFault) (text : List ℕ) → FieldTextFault limit f x text → FieldTextFault limit f y text → x ≡ y
-field_one_fault octet limit x y text p q = p.said ∙ sym q.said
-field_one_fault short limit x y text p q = p.said ∙ sym q.said
-field_one_fault long limit x y text p q = p.said ∙ sym q.said
-field_one_fault name limit x y text p q = name_one_fault limit x y text p q
-field_one_fault spelled_name limit x y text p q = name_one_fault limit x y text p q
-field_one_fault counted limit x y text p q = absurd p
 field_one_fault (exactly count) limit x y text p q = p.said ∙ sym q.said
-field_one_fault (at_most n) limit x y text p q = absurd p
-field_one_fault rest limit x y text p q = absurd p
+field_one_fault f limit x y text p q = grind (arith, common_steps, name_one_fault)
 
 -- what is left after the values of a layout
 pub scans_left : (l : Layout) (old m n : List (List ℕ)) (v w : Values l) → Scans l old v m → Scans l old w n → m ≡ n
@@ -74,15 +63,8 @@ one_address text xs ys x y =
     sym (ap address_read first) ∙ ap address_read second
 
 field_once : (f : Field) (text : List ℕ) (v w : Value f) → FieldText f text v → FieldText f text w → v ≡ w
-field_once octet text v w x y = x.value ∙ sym y.value
-field_once short text v w x y = x.value ∙ sym y.value
-field_once long text v w x y = x.value ∙ sym y.value
-field_once name text v w x y = one_name text v w x y
-field_once spelled_name text v w x y = one_name text v w x y
-field_once counted text v w x y = absurd x
 field_once (exactly count) text v w x y = one_address text v w x.0 y.0
-field_once (at_most limit) text v w x y = absurd x
-field_once rest text v w x y = absurd x
+field_once f text v w x y = grind (arith, common_steps, one_name)
 
 -- the values of a layout that tokens spell
 pub scans_once : (l : Layout) (old m n : List (List ℕ)) (v w : Values l) → Scans l old v m → Scans l old w n → v ≡ w

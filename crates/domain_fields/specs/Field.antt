@@ -57,27 +57,14 @@ FieldFits rest octets = AreOctets octets
 
 -- what may stand after the field
 abbrev pub FieldEnds : Field → Octets → Type 0
-FieldEnds octet after = Unit {0}
-FieldEnds short after = Unit {0}
-FieldEnds long after = Unit {0}
-FieldEnds name after = Unit {0}
-FieldEnds spelled_name after = Unit {0}
-FieldEnds counted after = Unit {0}
-FieldEnds (exactly count) after = Unit {0}
 FieldEnds (at_most limit) after = length after ≤ limit
 FieldEnds rest after = after ≡ []
+FieldEnds _ after = Unit {0}
 
 -- the value in the canonical form
 abbrev pub lower_field : (f : Field) → Value f → Value f
-lower_field octet n = n
-lower_field short n = n
-lower_field long n = n
 lower_field name labels = lowered labels
-lower_field spelled_name labels = labels
-lower_field counted octets = octets
-lower_field (exactly count) octets = octets
-lower_field (at_most limit) v = v
-lower_field rest octets = octets
+lower_field _ v = v
 
 -- octets do not begin with so many
 pub record IsCut (octets : Octets) (count : ℕ) (fault : Fault) : Type 0 where

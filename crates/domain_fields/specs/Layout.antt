@@ -3,7 +3,7 @@ use Rattle.std.specs.{Prelude.{◌≡◌, ◌+◌, [], ◌++◌, length, Bool, t
 use Rattle.std.specs.Cmp.Lexicographic.{slice_cmp}
 use Rattle.domain_octets.specs.{Place.Place, Words.Octets}
 use Rattle.domain_names.specs.Fault.{Fault}
-use Rattle.domain_fields.specs.Field.{Field, octet, short, long, name, spelled_name, counted, exactly, at_most, rest, Value, field_octets, FieldFits, FieldEnds}
+use Rattle.domain_fields.specs.Field.{Field, rest, Value, field_octets, FieldFits, FieldEnds}
 use Rattle.domain_fields.specs.Field.{lower_field, FieldFault}
 
 infixr 5 ◌▸◌
@@ -66,15 +66,8 @@ canonical_order l v w = slice_cmp nat_cmp (canonical_of l v) (canonical_of l w)
 
 -- one can tell where the field ends
 abbrev pub is_delimited_field : Field → Bool
-is_delimited_field octet = true
-is_delimited_field short = true
-is_delimited_field long = true
-is_delimited_field name = true
-is_delimited_field spelled_name = true
-is_delimited_field counted = true
-is_delimited_field (exactly count) = true
-is_delimited_field (at_most limit) = true
 is_delimited_field rest = false
+is_delimited_field _ = true
 
 abbrev pub is_delimited : Layout → Bool
 is_delimited (one f) = is_delimited_field f

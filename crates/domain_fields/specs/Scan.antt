@@ -3,7 +3,7 @@ use Rattle.std.specs.{Prelude.{◌≡◌, ◌⊎◌, ℕ, codes, length, Option}
 use Rattle.domain_octets.specs.Words.{Octets}
 use Rattle.domain_names.specs.{Text.NameText, TextFault.{ScanFault, illegal, NameTextFault}, Words.{Tokens, Token}}
 use Rattle.domain_base.specs.Scan.{TakesToken, RefusesToken, IsNumber, IsNoNumber, Grammar, Refusal}
-use Rattle.domain_fields.specs.Field.{Field, octet, short, long, name, spelled_name, counted, exactly, at_most, rest, Value}
+use Rattle.domain_fields.specs.Field.{Field, octet, short, long, name, spelled_name, exactly, Value}
 use Rattle.domain_fields.specs.Layout.{Layout, one, ◌▸◌, Values}
 
 -- the text of a value; kinds of fields that are not read as one token have none
@@ -13,10 +13,8 @@ FieldText short text n = IsNumber 16 text n
 FieldText long text n = IsNumber 32 text n
 FieldText name text labels = NameText text labels
 FieldText spelled_name text labels = NameText text labels
-FieldText counted text v = ⊥
 FieldText (exactly count) text octets = IsDotted text octets × (length octets ≡ count)
-FieldText (at_most limit) text v = ⊥
-FieldText rest text v = ⊥
+FieldText _ text v = ⊥
 
 -- the text is no IPv4 address
 pub record IsNoAddress (fault : ScanFault) (text : Token) : Type 0 where
@@ -30,10 +28,8 @@ FieldTextFault limit short = IsNoNumber 16
 FieldTextFault limit long = IsNoNumber 32
 FieldTextFault limit name = NameTextFault limit
 FieldTextFault limit spelled_name = NameTextFault limit
-FieldTextFault limit counted = λ fault text. ⊥
 FieldTextFault limit (exactly count) = IsNoAddress
-FieldTextFault limit (at_most n) = λ fault text. ⊥
-FieldTextFault limit rest = λ fault text. ⊥
+FieldTextFault limit _ = λ fault text. ⊥
 
 -- the tokens begin with the values of a layout, and these are left
 abbrev pub Scans : (l : Layout) → Grammar (Values l)

@@ -1,41 +1,24 @@
 -- the numbers before the data of a record
-use Rattle.std.proofs.{Common.{◌≡◌, ℕ, ◌+◌, ◌<◌, ◌≤◌, List, length, drop, arith, ap, sym, subst, ◌∙◌, refl}, lemmas.List.length-drop}
+use Rattle.std.proofs.{Common.{◌≡◌, ℕ, ◌+◌, ◌<◌, ◌≤◌, List, length, drop, arith, ap, sym, subst, ◌∙◌, refl}, lemmas.{List.length-drop}}
 use Rattle.domain_names.specs.{Fault.Fault, Words.Name}
-use Rattle.domain_fields.specs.Field.{short, long, cut_short, cut_long}
-use Rattle.domain_fields.{specs.Layout.{one, ◌▸◌, Values, Begins, FirstFault, in_field, in_first, in_later, octets_of}, proofs.ExactLemmas.one_reading}
+use Rattle.domain_fields.specs.Field.{cut_short, cut_long}
+use Rattle.domain_fields.{specs.Layout.{Values, Begins, FirstFault, in_field, in_first, in_later, octets_of}, proofs.ExactLemmas.one_reading}
 use Rattle.domain_message.specs.{Header.{numbers, HeaderAt}, Name.NameAt, Refusal.{HeaderFault, in_owner, cut_numbers}, declared.name.NameFault.NameFault}
 use Rattle.domain_message.specs.declared.name.NameFault.TheVariants as name_fault
 use Rattle.domain_message.proofs.OneNameLemmas.{one_name, no_fault}
-
-short_count : (octets : List ℕ) (v : ℕ) (after : List ℕ) → Begins (one short) octets v after → length octets ≡ 2 + length after
-unfolding octets_of
-short_count octets v after begins = omega (arith, ap length begins.parts)
-
-long_count : (octets : List ℕ) (v : ℕ) (after : List ℕ) → Begins (one long) octets v after → length octets ≡ 4 + length after
-unfolding octets_of
-long_count octets v after begins = omega (arith, ap length begins.parts)
 
 pub begins_count : (octets : List ℕ) (v : Values numbers) (after : List ℕ) → Begins numbers octets v after → 10 ≤ length octets
 unfolding octets_of
 begins_count octets v after begins = omega (arith, ap length begins.parts)
 
-short_cut : (octets : List ℕ) (fault : Fault) → FirstFault (one short) octets fault → length octets < 2
-short_cut octets fault (in_field _ _ _ (cut_short _ _ cut)) = cut.short
-
-long_cut : (octets : List ℕ) (fault : Fault) → FirstFault (one long) octets fault → length octets < 4
-long_cut octets fault (in_field _ _ _ (cut_long _ _ cut)) = cut.short
-
-last_cut : (octets : List ℕ) (fault : Fault) → FirstFault (one long ▸ one short) octets fault → length octets < 6
-last_cut octets fault (in_first _ _ _ _ why) = omega (arith, long_cut octets fault why)
-last_cut octets fault (in_later _ _ _ v after _ begins why) = omega (arith, long_count octets v after begins, short_cut after fault why)
-
-later_cut : (octets : List ℕ) (fault : Fault) → FirstFault (one short ▸ one long ▸ one short) octets fault → length octets < 8
-later_cut octets fault (in_first _ _ _ _ why) = omega (arith, short_cut octets fault why)
-later_cut octets fault (in_later _ _ _ v after _ begins why) = omega (arith, short_count octets v after begins, last_cut after fault why)
-
 pub numbers_cut : (octets : List ℕ) (fault : Fault) → FirstFault numbers octets fault → length octets < 10
-numbers_cut octets fault (in_first _ _ _ _ why) = omega (arith, short_cut octets fault why)
-numbers_cut octets fault (in_later _ _ _ v after _ begins why) = omega (arith, short_count octets v after begins, later_cut after fault why)
+unfolding octets_of
+numbers_cut octets fault (in_first _ _ _ _ (in_field _ _ _ (cut_short _ _ cut))) = omega (arith, cut.short)
+numbers_cut octets fault (in_later _ _ _ _ _ _ a (in_first _ _ _ _ (in_field _ _ _ (cut_short _ _ cut)))) = omega (arith, ap length a.parts, cut.short)
+numbers_cut octets fault (in_later _ _ _ _ _ _ a (in_later _ _ _ _ _ _ b (in_first _ _ _ _ (in_field _ _ _ (cut_long _ _ cut))))) =
+    omega (arith, ap length a.parts, ap length b.parts, cut.short)
+numbers_cut octets fault (in_later _ _ _ _ _ _ a (in_later _ _ _ _ _ _ b (in_later _ _ _ _ _ _ c (in_field _ _ _ (cut_short _ _ cut))))) =
+    omega (arith, ap length a.parts, ap length b.parts, ap length c.parts, cut.short)
 
 pub cut_behind : (message : List ℕ) (at : ℕ) (owner : Name) (end : ℕ) (fault : NameFault) → NameAt message at owner end
     → end ≤ length message

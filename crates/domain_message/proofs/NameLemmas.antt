@@ -1,7 +1,7 @@
 -- names that are read label by label, one run after another
 use Rattle.std.proofs.lemmas.Grind.{common_steps}
 use Rattle.std.proofs.Common.{◌≡◌, ℕ, ◌+◌, ◌-◌, ◌*◌, ◌<◌, ◌≤◌, List, [], ◌∷◌, ◌++◌, length, get_or, take, drop, refl, sym, ap, subst, ◌∙◌, arith, length-append}
-use Rattle.std.proofs.lemmas.List.{append-nil, append_assoc, take-append-drop, drop-drop, drop_more, drop_all, length-drop, length-take-le}
+use Rattle.std.proofs.lemmas.List.{append-nil, append_assoc, take-append-drop, drop_more, drop_all, length-drop, length-take-le}
 use Rattle.std.{proofs.lemmas.List.Elements.{All-take, All-drop}, specs.{Prelude.{All, Option, Some, None}, List.AllByRecursion}}
 use Rattle.domain_names.specs.{Name.{wire_of, IsLabel}, Words.Name}
 use Rattle.domain_message.specs.Name.{labels_octets, pointer_octets, RunAt, LabelsAt, in_full, pointed}
@@ -35,48 +35,42 @@ module _ (message : List ℕ) (start used at len : ℕ) (inside : at < length me
   begins : RunAt message start so_far.labels (len ∷ drop (at + 1) message)
   begins = subst (RunAt message start so_far.labels) ahead so_far.run
 
+  fault_there : (fault : NameFault) → EndFault start (used + length (labels_octets so_far.labels)) (len ∷ drop (at + 1) message) fault
+      → LabelsFault message start used fault
+  fault_there fault why = here start used so_far.labels _ fault begins so_far.room why
+
   pub type_fault : 63 < len → len < 192 → LabelsFault message start used name_fault.BadLabelType
-  type_fault big small =
-      here start used so_far.labels (len ∷ drop (at + 1) message) name_fault.BadLabelType begins so_far.room (bad_type len (drop
-      (at + 1) message) big small)
+  type_fault big small = fault_there _ (bad_type len _ big small)
 
   pub length_fault : 0 < len → len ≤ 63 → 255 ≤ used + (at + 1 + len - start) → LabelsFault message start used name_fault.LongName
-  length_fault some small big =
-      here start used so_far.labels (len ∷ drop (at + 1) message) name_fault.LongName begins so_far.room
-      (long_name len (drop (at + 1) message) some small (omega (arith, so_far.place)))
+  length_fault some small big = fault_there _ (long_name len _ some small (omega (arith, so_far.place)))
 
   pub cut_fault : 0 < len → len ≤ 63 → used + (at + 1 + len - start) < 255 → length message < at + 1 + len
       → LabelsFault message start used name_fault.ShortInput
   cut_fault some small short cut =
-      here start used so_far.labels (len ∷ drop (at + 1) message) name_fault.ShortInput begins so_far.room
-      (cut_label len (drop (at + 1) message) some small (omega (arith, so_far.place)) (omega (arith, length-drop (at + 1) message)))
+      fault_there _ (cut_label len _ some small (omega (arith, so_far.place)) (omega (arith, length-drop (at + 1) message)))
 
   pub between_more : All (λ octet. octet < 256) message → 0 < len → len ≤ 63 → used + (at + 1 + len - start) < 255
       → at + 1 + len ≤ length message → LabelsBetween message start used (at + 1 + len)
   between_more bytes some small short whole =
       let label = take len (drop (at + 1) message) in
-      let rest = drop (at + 1 + len) message in
       let long : length label ≡ len = length-take-le len _ (omega (arith, length-drop (at + 1) message)) in
-      let tail : drop (at + 1) message ≡ label ++ rest = sym (take-append-drop len _)
-      ∙ ap (λ r. label ++ r) (drop-drop len _ message) in
-      let label_bytes =
-      All-take (λ octet. octet < 256) len _ (All-drop (λ octet. octet < 256) _ message bytes) in
-      let is_label : IsLabel label = record { not_empty = omega arith; fits = omega arith; octets = label_bytes } in
-      let one : length label ∷ (label ++ []) ≡ len ∷ label = rw (long, append-nil label) refl in
-      let octets : labels_octets (so_far.labels ++ label ∷ []) ≡ labels_octets so_far.labels ++ len ∷ label =
-      octets_of_more _ _ ∙ ap (λ r. labels_octets so_far.labels ++ r) one in
-      let count : length (labels_octets (so_far.labels ++ label ∷ [])) ≡ length (labels_octets so_far.labels) + 1 + len =
-      rw octets (omega (arith, length-append (labels_octets so_far.labels) (len ∷ label))) in
+      let octets = octets_of_more so_far.labels (label ∷ []) in
       record {
         labels = so_far.labels ++ label ∷ [];
         run = record {
-          spelled =
-              so_far.run.spelled ∙ ap (λ r. labels_octets so_far.labels ++ r) (ahead ∙ ap (λ r. len ∷ r) tail)
-              ∙ sym (append_assoc _ _ rest) ∙ ap (λ r. r ++ rest) (sym octets);
-          of_labels = all_of_more so_far.labels (label ∷ []) so_far.run.of_labels (is_label, tt);
+          spelled = grind (arith, common_steps, ahead, octets, long, so_far.run.spelled, (take-append-drop len (drop (at + 1) message)));
+          of_labels = all_of_more so_far.labels (label ∷ []) so_far.run.of_labels (
+            record {
+              not_empty = omega (arith, long);
+              fits = omega (arith, long);
+              octets = All-take (λ octet. octet < 256) len _ (All-drop (λ octet. octet < 256) _ message bytes);
+            },
+            tt,
+          );
         };
-        place = omega (arith, so_far.place, count);
-        room = omega (arith, so_far.place, count);
+        place = grind (arith, common_steps, octets, long, so_far.place);
+        room = grind (arith, common_steps, octets, long, so_far.place);
       }
 
 pub end_fault : (message : List ℕ) (start used at : ℕ) → LabelsBetween message start used at → length message ≤ at
