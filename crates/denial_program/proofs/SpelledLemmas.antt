@@ -1,5 +1,5 @@
 -- What data that lines spell have in common with those of links, and with the octets that are kept of them.
-use Rattle.std.proofs.Common.{◌≡◌, ℕ, ◌*◌, ◌+◌, ◌%◌, ◌<◌, ◌^◌, List, [], ◌∷◌, length, map, Option, Some, None, unwrap_or, refl, sym, ap, ◌∙◌}
+use Rattle.std.proofs.Common.{◌≡◌, ℕ, ◌*◌, ◌+◌, ◌/◌, ◌%◌, ◌<◌, ◌^◌, List, [], ◌∷◌, length, map, Option, Some, None, unwrap_or, refl, sym, ap, ◌∙◌}
 use Rattle.std.proofs.Common.{subst, inl, inr, arith}
 use Rattle.std.proofs.lemmas.{Bool.Decides.nat_tests, Grind.common_steps, List.Elements.{All-from_get_or, All-from_recursion}}
 use Rattle.std.specs.List.{AllByRecursion}
@@ -9,7 +9,7 @@ use Rattle.domain_names.specs.{Name.IsName, Text.{NameText, root, of_labels}, Wo
 use Rattle.domain_base.specs.Scan.{IsNumber}
 use Rattle.domain_base.specs.Types as rtypes
 use Rattle.domain_codecs.specs.Codec.{base32_digits, base32_octets, base32_value}
-use Rattle.domain_codecs.proofs.Scale.{IsScale, no_bits, one_bit, two_bits, three_bits, four_bits, five_bits, six_bits, seven_bits}
+use Rattle.domain_codecs.proofs.{CodecLemmas.widens, Scale.{IsScale, no_bits}}
 use Rattle.domain_bitmap.specs.{Blocks.IsBitmap, HashText.{OwnerHashText, SaltText, dash, digits}, Scan.is_among}
 use Rattle.domain_bitmap.proofs.BitmapLemmas.{IsBitmap-bitmap_octets}
 use Rattle.domain_fields.specs.Layout.{Fits, Values}
@@ -41,11 +41,7 @@ spelled_name text labels root = record { of_labels = tt; fits = omega arith }
 spelled_name text labels (of_labels t l spelled valid) = valid
 
 digit_small : (c : ℕ) → unwrap_or (base32_value c) 0 < 32
-digit_small c = by (base32_value c) refl
-  where
-    by : (v : Option ℕ) → base32_value c ≡ v → unwrap_or v 0 < 32
-    by None e = omega arith
-    by (Some v) e = grind (arith, common_steps, nat_tests)
+digit_small c = grind (arith, common_steps, nat_tests)
 
 digits_small : (text : Octets) → AllByRecursion (λ d. d < 32) (base32_digits text)
 digits_small [] = tt
@@ -55,19 +51,14 @@ groups_small : (scale rest : ℕ) (digits : Octets) → IsScale scale → rest <
     → AllByRecursion (λ o. o < 256) (base32_octets scale rest digits)
 unfolding base32_octets
 groups_small scale rest [] s r d = tt
-groups_small scale rest (x ∷ xs) no_bits r d = groups_small 32 (32 * rest + x) xs five_bits (let a = d.0 in omega arith) d.1
-groups_small scale rest (x ∷ xs) one_bit r d = groups_small 64 (32 * rest + x) xs six_bits (let a = d.0 in omega arith) d.1
-groups_small scale rest (x ∷ xs) two_bits r d = groups_small 128 (32 * rest + x) xs seven_bits (let a = d.0 in omega arith) d.1
-groups_small scale rest (x ∷ xs) three_bits r d =
-    let a = d.0 in (omega arith, groups_small 1 ((32 * rest + x) % 1) xs no_bits (omega arith) d.1)
-groups_small scale rest (x ∷ xs) four_bits r d =
-    let a = d.0 in (omega arith, groups_small 2 ((32 * rest + x) % 2) xs one_bit (omega arith) d.1)
-groups_small scale rest (x ∷ xs) five_bits r d =
-    let a = d.0 in (omega arith, groups_small 4 ((32 * rest + x) % 4) xs two_bits (omega arith) d.1)
-groups_small scale rest (x ∷ xs) six_bits r d =
-    let a = d.0 in (omega arith, groups_small 8 ((32 * rest + x) % 8) xs three_bits (omega arith) d.1)
-groups_small scale rest (x ∷ xs) seven_bits r d =
-    let a = d.0 in (omega arith, groups_small 16 ((32 * rest + x) % 16) xs four_bits (omega arith) d.1)
+groups_small scale rest (x ∷ xs) s r d =
+    grind (
+      arith,
+      common_steps,
+      widens,
+      (groups_small (32 * scale) (32 * rest + x) xs),
+      (groups_small (32 * scale / 256) ((32 * rest + x) % (32 * scale / 256)) xs),
+    )
 
 abbrev AreCounted : Octets → Type 0
 AreCounted octets = (length octets < 2 ^ 8) × AreOctets octets

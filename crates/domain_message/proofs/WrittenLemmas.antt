@@ -91,17 +91,11 @@ module _ {O N : Type 0} (octets : O → Octets) (labels : N → Name) (message :
       → drop place message ≡ wire_octets octets labels d ++ after
       → DataAt message (rtype_of d) place (length (wire_octets octets labels d)) (wire_octets octets labels d)
   unfolding octets_of
-  placed (A d) exact are is = octets_stand message place (length (wire_octets octets labels (A d))) _ after within refl is
   placed (Ns d) exact are is = name_parts message place (labels d.nsdname) after _ are.1.fits is refl
   placed (Soa d) exact are is = start_parts message place _ _ _ after within refl are.1.fits.0.0 are.1.fits.0.1 is
   placed (Mx d) exact are is = exchange_parts message place (to_be_bytes w16 d.preference) _ after within refl are.1.fits.1 is
-  placed (Dnskey d) exact are is = octets_stand message place (length (wire_octets octets labels (Dnskey d))) _ after within refl is
-  placed (Ds d) exact are is = octets_stand message place (length (wire_octets octets labels (Ds d))) _ after within refl is
-  placed (Rrsig d) exact are is = octets_stand message place (length (wire_octets octets labels (Rrsig d))) _ after within refl is
-  placed (Nsec d) exact are is = octets_stand message place (length (wire_octets octets labels (Nsec d))) _ after within refl is
-  placed (Nsec3 d) exact are is = octets_stand message place (length (wire_octets octets labels (Nsec3 d))) _ after within refl is
-  placed (Nsec3param d) exact are is = octets_stand message place (length (wire_octets octets labels (Nsec3param d))) _ after within refl is
   placed (Unknown d) exact are is = grind (arith, common_steps)
+  placed d exact are is = octets_stand message place (length (wire_octets octets labels d)) _ after within refl is
 
 numbers_count : (t c l n : ℕ) → length (octets_of numbers (t, (c, (l, n)))) ≡ 10
 unfolding octets_of

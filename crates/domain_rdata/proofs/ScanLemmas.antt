@@ -83,13 +83,9 @@ AreOf (Some kind) wire = AreOfKind kind wire
 
 -- octets that are values of a kind are their octets
 fields_are : (k : Kind) (wire : List ℕ) (v : Values (layout_of k)) → AreFields k wire v → octets_of (layout_of k) v ≡ wire
-fields_are (plain l) wire v h = sym (h.parts ∙ append-nil _)
-fields_are key wire v h = sym (h.parts ∙ append-nil _)
-fields_are digest wire v h = sym (h.parts ∙ append-nil _)
-fields_are signature wire v h = sym (h.parts ∙ append-nil _)
 fields_are next_by_name wire v h = sym (h.begins.parts ∙ append-nil _)
 fields_are next_by_hash wire v h = sym (h.begins.parts ∙ append-nil _)
-fields_are params wire v h = sym (h.parts ∙ append-nil _)
+fields_are k wire v h = sym (h.parts ∙ append-nil _)
 
 content_is : (rtype : ℕ) (wire : List ℕ) (c : Content) → AreContent rtype wire c → content_octets c ≡ wire
 unfolding octets_of
