@@ -2,93 +2,45 @@
 use Rattle.std.proofs.Common.{◌≡◌, ℕ, Bool, true, false, not, ◌&&◌, ◌↔◌, IsTrue, List, [], ◌∷◌, ◌++◌, map, refl, sym, ap, ◌∙◌, subst, inl, inr, nat_eq, Option}
 use Rattle.std.proofs.{Common.arith, lemmas.{Bool.{cases_Bool, false≢true, and_parts, not-true, eqb-true}, List.map-append}}
 use Rattle.std.proofs.lemmas.{List.Folds.{Any-from_list_any, list_any-from_Any}, Grind.common_steps}
-use Rattle.std.specs.{Prelude.if◌then◌else◌, declared.cmp.Ordering.{Ordering, TheVariants.{Less, Equal, Greater}}, Ordering.{is_lt, is_gt, ordering_reverse}}
+use Rattle.std.specs.{declared.cmp.Ordering.{Ordering, TheVariants.{Less, Equal, Greater}}, Ordering.{is_lt, is_gt, ordering_reverse}}
 use Rattle.std.specs.List.{list_any, AllByRecursion}
 use Rattle.domain_names.specs.{Name.{IsSame, lowered, same_name}, Laws.same_name_same, Order.{canonical_cmp, canonical_cmp_total, before}, Words.Name}
 use Rattle.domain_record.specs.declared.record.Record.{Record}
-use Rattle.domain_records.specs.{Runs.{runs, add_to}, Groups.{same_owner, HasFirst, IsZoneCut}, Order.{MayFollow, IsInOrder}}
+use Rattle.domain_records.specs.{Runs.{runs}, Groups.{same_owner, HasFirst, IsZoneCut}, Order.{MayFollow, IsInOrder}}
 use Rattle.domain_zone.specs.{Zone.{ZoneRecord, OwnersNeverDescend, has_type}, View.as_zone_record}
-use Rattle.domain_zone.proofs.{NameLemmas.{one_lowered, same_itself}, ZoneLemmas.{any_map, BeginsElsewhere, IsFront}}
+use Rattle.domain_records.proofs.Runs.{begins}
+use Rattle.domain_zone.proofs.{NameLemmas.{one_lowered, same_itself}, SharedLemmas.either_way, ZoneLemmas.{any_map, BeginsElsewhere, IsFront}}
 
 -- ---- runs
 
 module _ {X : Type 0} (alike : X → X → Bool) where
-  -- the first run of a list that isn't empty has its first element
-  record Heads (y : X) (ys : List X) : Type 0 where
-    head : List X
-    tails : List (List X)
-    are : runs alike (y ∷ ys) ≡ (y ∷ head) ∷ tails
-
-  heads : (y : X) (ys : List X) → Heads y ys
-  unfolding runs
-  heads y ys = by (runs alike ys) refl
-    where
-      by : (gs : List (List X)) → runs alike ys ≡ gs → Heads y ys
-      by [] e = record { head = []; tails = []; are = ap (add_to alike y) e }
-      by ([] ∷ gs) e = record { head = []; tails = gs; are = ap (add_to alike y) e }
-      by ((z ∷ zs) ∷ gs) e =
-          elim (cases_Bool (alike y z)) [
-            | inl t ↦ record { head = z ∷ zs; tails = gs; are = ap (add_to alike y) e ∙ (λ i. if (t i) then (y ∷ z ∷ zs) ∷ gs else (y ∷ []) ∷ (z ∷ zs) ∷ gs) }
-            | inr t ↦ record {
-              head = [];
-              tails = (z ∷ zs) ∷ gs;
-              are = ap (add_to alike y) e ∙ (λ i. if (t i) then (y ∷ z ∷ zs) ∷ gs else (y ∷ []) ∷ (z ∷ zs) ∷ gs);
-            }
-          ]
-
   abbrev pub StartsApart : X → List X → Type 0
   StartsApart x [] = Unit {0}
   StartsApart x (y ∷ ys) = alike x y ≡ false
 
-  -- the elements of a first run are like its first one, and what follows begins with another
-  pub record FirstRun (x : X) (g t : List X) : Type 0 where
-    pub more : List X
-    pub are : g ≡ x ∷ more
-    pub all : AllByRecursion (λ y. alike x y ≡ true) more
-    pub ends : StartsApart x t
+  -- a first run has this element, others like it, and what follows begins with another
+  abbrev pub IsFirstRun : X → List X → List X → Type 0
+  IsFirstRun x [] t = ⊥
+  IsFirstRun x (y ∷ more) t = (x ≡ y) × AllByRecursion (λ z. alike x z ≡ true) more × StartsApart x t
 
 module _ {X : Type 0} (alike : X → X → Bool) (onward : (x y z : X) → alike x y ≡ true → alike x z ≡ alike y z) where
-  pub first_run : (x : X) (xs g t : List X) → x ∷ xs ≡ g ++ t → runs alike (x ∷ xs) ≡ g ∷ runs alike t → FirstRun alike x g t
+  carried : (x y : X) (us : List X) → alike x y ≡ true → AllByRecursion (λ z. alike y z ≡ true) us → AllByRecursion (λ z. alike x z ≡ true) us
+  carried x y [] a all = tt
+  carried x y (u ∷ us) a all = (onward x y u a ∙ all.0, carried x y us a all.1)
+
+  apart : (x y : X) (us : List X) → alike x y ≡ true → StartsApart alike y us → StartsApart alike x us
+  apart x y [] a h = tt
+  apart x y (u ∷ us) a h = onward x y u a ∙ h
+
+  pub first_run : (x : X) (xs g t : List X) → x ∷ xs ≡ g ++ t → runs alike (x ∷ xs) ≡ g ∷ runs alike t → IsFirstRun alike x g t
   unfolding runs
   first_run x [] g t e f = grind (arith, common_steps)
   first_run x (y ∷ ys) g t e f =
-      let h = heads alike y ys in
+      let b = begins alike y ys in
       elim (cases_Bool (alike x y)) [
-        | inl a ↦
-            let joined : runs alike (x ∷ y ∷ ys) ≡ (x ∷ y ∷ h.head) ∷ h.tails = ap (add_to alike x) h.are
-            ∙ (λ i. if (a i) then (x ∷ y ∷ h.head) ∷ h.tails else (x ∷ []) ∷ (y ∷ h.head) ∷ h.tails) in
-            let g_is : g ≡ x ∷ y ∷ h.head = cc in
-            let rest_is : runs alike t ≡ h.tails = cc in
-            let below : y ∷ ys ≡ (y ∷ h.head) ++ t = tails_of (subst (λ k. x ∷ y ∷ ys ≡ k ++ t) g_is e) in
-            let inner = first_run y ys (y ∷ h.head) t below (h.are ∙ ap (λ k. (y ∷ h.head) ∷ k) (sym rest_is)) in
-            let more_is : h.head ≡ inner.more = heads_of inner.are in
-            record {
-              more = y ∷ h.head;
-              are = g_is;
-              all = (a, subst (AllByRecursion (λ z. alike x z ≡ true)) (sym more_is) (carried inner.more inner.all a));
-              ends = apart t inner.ends a;
-            }
-        | inr a ↦
-            let joined : runs alike (x ∷ y ∷ ys) ≡ (x ∷ []) ∷ (y ∷ h.head) ∷ h.tails = ap (add_to alike x) h.are
-            ∙ (λ i. if (a i) then (x ∷ y ∷ h.head) ∷ h.tails else (x ∷ []) ∷ (y ∷ h.head) ∷ h.tails) in
-            let g_is : g ≡ x ∷ [] = cc in
-            let t_is : y ∷ ys ≡ t = tails_of (subst (λ k. x ∷ y ∷ ys ≡ k ++ t) g_is e) in
-            record { more = []; are = g_is; all = tt; ends = subst (StartsApart alike x) t_is a }
+        | inl a ↦ grind (arith, common_steps, a, (carried x y), (apart x y t a), (first_run y ys (y ∷ b.0) t))
+        | inr a ↦ grind (arith, common_steps, a)
       ]
-    where
-      tails_of : {z : X} {us vs : List X} → z ∷ us ≡ z ∷ vs → us ≡ vs
-      tails_of h = cc
-
-      heads_of : {z : X} {us vs : List X} → z ∷ us ≡ z ∷ vs → us ≡ vs
-      heads_of h = cc
-
-      carried : (us : List X) → AllByRecursion (λ z. alike y z ≡ true) us → alike x y ≡ true → AllByRecursion (λ z. alike x z ≡ true) us
-      carried [] all a = tt
-      carried (u ∷ us) all a = (onward x y u a ∙ all.0, carried us all.1 a)
-
-      apart : (us : List X) → StartsApart alike y us → alike x y ≡ true → StartsApart alike x us
-      apart [] h a = tt
-      apart (u ∷ us) h a = onward x y u a ∙ h
 
 -- ---- groups of one owner
 
@@ -121,20 +73,19 @@ module _ {N D : Type 0} (labels : N → Name) (rtype_of : D → ℕ) (minimum_of
       → (g : ZoneRecord) × IsFront (map see rest) g (map see group) (map see after) × (g.owner ≡ labels owner)
   front_group [] [] after e f owner h = absurd h
   front_group [] (g ∷ group) after e f owner h = cc
-  front_group (r ∷ rest) group after e f owner h =
-      let run = first_run (same_owner labels) owner_onward r rest group after e f in (
-        see r,
+  front_group (r ∷ rest) [] after e f owner h = absurd h
+  front_group (r ∷ rest) (g ∷ group) after e f owner h =
+      let run = first_run (same_owner labels) owner_onward r rest (g ∷ group) after e f in (
+        see g,
         record {
-          gs = map see run.more;
-          are = ap (map see) run.are;
-          split = ap (map see) (e ∙ ap (λ t. t ++ after) run.are) ∙ map-append see (r ∷ run.more) after;
-          group = (all_at r run.more run.all, elsewhere r after run.ends);
+          gs = map see group;
+          are = refl;
+          split = ap (map see) e ∙ map-append see (g ∷ group) after;
+          group = subst (λ s. AllByRecursion (λ o. same_name o.owner (labels s.owner) ≡ true) (map see group)
+              × BeginsElsewhere (labels s.owner) (map see after)) run.0 (all_at r group run.1, elsewhere r after run.2);
         },
-        ap labels (named run.more (subst (HasFirst (λ s. s.owner ≡ owner)) run.are h)),
+        ap labels h,
       )
-    where
-      named : (more : List (Record N D)) → HasFirst (λ s. s.owner ≡ owner) (r ∷ more) → r.owner ≡ owner
-      named more k = k
 
   -- ---- order
 
@@ -161,11 +112,14 @@ module _ {N D : Type 0} (labels : N → Name) (rtype_of : D → ℕ) (minimum_of
   pub cut_test : (b : Bool) (a : Name) (owner : N) (group : List (Record N D)) → HasFirst (λ r. r.owner ≡ owner) group
       → (IsTrue b ↔ IsZoneCut labels rtype_of a group) → b ≡ (not (same_name (labels owner) a) && has_type (map see group) 2)
   cut_test b a owner [] h f = absurd h
-  cut_test b a owner (g ∷ more) h f = by b f
+  cut_test b a owner (g ∷ more) h f =
+      either_way b (not (same_name (labels owner) a) && has_type (map see (g ∷ more)) 2)
+      (λ e.
+      let cut = f.0 e in
+      let ns = cut.delegates in
+      let typed = types ∙ list_any-from_Any (λ r. nat_eq (rtype_of r.«data») 2) (g ∷ more) (ns.0, ns.1, ns.2, ns.3, two (rtype_of ns.1.«data») ns.4) in
+      (λ i. not (apart cut.below i) && typed i)) (λ e. f.1 (says e))
     where
-      group : List (Record N D)
-      group = g ∷ more
-
       types : has_type (map see (g ∷ more)) 2 ≡ list_any (λ r. nat_eq (rtype_of r.«data») 2) (g ∷ more)
       types = any_map (λ r. nat_eq r.rtype 2) see (g ∷ more)
 
@@ -185,14 +139,3 @@ module _ {N D : Type 0} (labels : N → Name) (rtype_of : D → ℕ) (minimum_of
                 ∙ (same_name_same (labels g.owner) a).1 s);
             delegates = (found.0, found.1, found.2, found.3, eqb-true (rtype_of found.1.«data») 2 found.4);
           }
-
-      by : (v : Bool) → (IsTrue v ↔ IsZoneCut labels rtype_of a (g ∷ more)) → v ≡ (not (same_name (labels owner) a) && has_type (map see (g ∷ more)) 2)
-      by true k =
-          let cut = k.0 refl in
-          let ns = cut.delegates in
-          let typed = types ∙ list_any-from_Any (λ r. nat_eq (rtype_of r.«data») 2) (g ∷ more) (ns.0, ns.1, ns.2, ns.3, two (rtype_of ns.1.«data») ns.4) in
-          sym (λ i. not (apart cut.below i) && typed i)
-      by false k = elim (cases_Bool (not (same_name (labels owner) a) && has_type (map see (g ∷ more)) 2)) [
-        | inl e ↦ absurd (false≢true (k.1 (says e)))
-        | inr e ↦ sym e
-      ]
