@@ -14,7 +14,7 @@ use Rattle.domain_nsec3.specs.{Ancestors.IsListOf, Config.{ChainConfig, Hash, Ha
 use Rattle.domain_nsec3.proofs.ListLemmas.{sorted, ascending, ascending_both}
 use Rattle.domain_hasher.specs.declared.error.Nsec3HashError.TheVariants as hash_error
 use Rattle.domain_hasher.specs.declared.error.Nsec3HashError.{Nsec3HashError}
-use Rattle.domain_zone.proofs.FindLemmas.{in_middle, in_either, in_front}
+use Rattle.domain_zone.proofs.FindLemmas.{in_middle, in_either, in_front, find_some, find_none}
 use Rattle.domain_alike.specs.{Alike.{pair_of, AreAlike, IsAlike, IsFirstAlike, IsFirstPair, IsFirstRefusal, Pair}, declared.alike.Alike.Alike}
 use Rattle.domain_alike.specs.AlikeSteps.{first_with, is_hash, pair_with, IsRefusedAmong, Met, Met.{more, nothing}}
 use Rattle.std.proofs.lemmas.Grind.{common_steps}
@@ -43,40 +43,12 @@ none_of (Some b) p e h = absurd (cc)
 
 -- ---- the first that passes a test
 
-found_in : (test : Name → Bool) (xs : List Name) (f : Name) → find test xs ≡ Some f → In f xs × (test f ≡ true)
-found_in test [] f e = absurd (cc)
-found_in test (x ∷ xs) f e =
-    elim (test x) as (λ b. test x ≡ b → cond b (Some x) (find test xs) ≡ Some f → In f (x ∷ xs) × (test f ≡ true)) [
-      | true ↦ λ t q. let is : x ≡ f = cc in (inl is, ap test (sym is) ∙ t)
-      | false ↦ λ t q. let r = found_in test xs f q in (inr r.0, r.1)
-    ] refl e
-
-found_none : (test : Name → Bool) (xs : List Name) (y : Name) → find test xs ≡ None → In y xs → test y ≡ false
-found_none test [] y e i = absurd i
-found_none test (x ∷ xs) y e i =
-    elim (test x) as (λ b. test x ≡ b → cond b (Some x) (find test xs) ≡ None → test y ≡ false) [
-      | true ↦ λ t q. absurd (cc)
-      | false ↦ λ t q. elim i [ inl is ↦ ap test (sym is) ∙ t | inr j ↦ found_none test xs y q j ]
-    ] refl e
-
 -- of names in order it comes before all others that pass
 found_first : (test : Name → Bool) (xs : List Name) (f y : Name) → find test xs ≡ Some f → IsAscending before xs → In y xs → test y ≡ true
     → before y f ≡ false
 found_first test [] f y e up i t = absurd i
 found_first test (x ∷ xs) f y e up i t =
-    elim (test x) as (λ b. test x ≡ b → cond b (Some x) (find test xs) ≡ Some f → before y f ≡ false) [
-      | true ↦ λ s q.
-          let is : x ≡ f = cc in
-          subst (λ k. before y k ≡ false) is
-          (elim i [
-            | inl same ↦ subst (λ k. before k x ≡ false) same (irreflexive before_order x)
-            | inr j ↦ before_order.one_way x y (all_in (λ k. before x k ≡ true) xs y up.0 j)
-          ])
-      | false ↦ λ s q. elim i [
-        | inl same ↦ absurd (false≢true (sym s ∙ ap test same ∙ t))
-        | inr j ↦ found_first test xs f y q up.1 j t
-      ]
-    ] refl e
+    grind (arith, common_steps, (irreflexive before_order), (before_order.one_way x), all_in, (found_first test xs f y))
 
 module _ (test : Name → Bool) (n : Name) (names : List Name) where
   first_known : (x : Name) → find test names ≡ Some x → find test (names ++ n ∷ []) ≡ Some x
@@ -184,9 +156,9 @@ module _ (hash : Hash) (names : List Name) (pairs : List Pair) (n : Name) (h : O
   firsts_before (p ∷ ps) t = ((before_n p.0 t.0.later, tt), firsts_before ps t.1)
 
   with_first : (o : Option Name) → first_with hash names h ≡ o → ArePairs hash (names ++ n ∷ []) (pairs ++ pair_with n o)
-  with_first None e = grind (arith, common_steps, weaker, wider, each_with, found_none, passes)
+  with_first None e = grind (arith, common_steps, weaker, wider, each_with, find_none, passes)
   with_first (Some f) e =
-      let found = found_in test names f e in
+      let found = find_some test names f e in
       let alike = hash_is (hash_name hash f) h found.1 ∙ sym is in
       let new : IsPair hash (names ++ n ∷ []) (n, f) = record {
         later = in_middle names n [];

@@ -1,6 +1,6 @@
 -- Elements of lists: which pass a test, the first that does, and where they stand.
-use Rattle.std.proofs.Common.{◌≡◌, ℕ, Bool, true, false, cond, ◌||◌, List, [], ◌∷◌, ◌++◌, map, Some, None, refl, sym, ap, ◌∙◌, inl, inr, ◌⊎◌, zero, suc}
-use Rattle.std.proofs.{Common.{slice_get, arith}, lemmas.{Bool.{cases_Bool, false≢true}, List.Elements.recursion_from_All, Option.slice_get-get_or}}
+use Rattle.std.proofs.Common.{◌≡◌, ℕ, Bool, true, false, ◌||◌, List, [], ◌∷◌, ◌++◌, map, Some, None, refl, ap, ◌∙◌, inl, inr, ◌⊎◌, zero, suc}
+use Rattle.std.proofs.{Common.{slice_get, arith}, lemmas.{List.Elements.recursion_from_All, Option.slice_get-get_or}}
 use Rattle.std.{proofs.lemmas.Grind.common_steps, specs.{Prelude.{All, filter}, List.{find, list_any, Contains}}}
 use Rattle.domain_zone.{specs.Covering.pairs, proofs.PairLemmas.{In, all_in}}
 
@@ -13,12 +13,7 @@ module _ {X : Type 0} where
 
   pub in_filter : (p : X → Bool) (xs : List X) (y : X) → In y (filter p xs) → In y xs × (p y ≡ true)
   in_filter p [] y i = absurd i
-  in_filter p (x ∷ xs) y i =
-      let later : In y (filter p xs) → In y (x ∷ xs) × (p y ≡ true) = λ j. let r = in_filter p xs y j in (inr r.0, r.1) in
-      elim (p x) as (λ b. p x ≡ b → In y (cond b (x ∷ filter p xs) (filter p xs)) → In y (x ∷ xs) × (p y ≡ true)) [
-        | true ↦ λ e j. elim j [ inl f ↦ (inl f, sym (ap p f) ∙ e) | inr k ↦ later k ]
-        | false ↦ λ e j. later j
-      ] refl i
+  in_filter p (x ∷ xs) y i = grind (arith, common_steps, (in_filter p xs y))
 
   pub in_at : (xs : List X) (i : ℕ) (x : X) → slice_get xs i ≡ Some x → In x xs
   in_at [] i x e = absurd (cc)
@@ -27,11 +22,7 @@ module _ {X : Type 0} where
 
   pub in_filtered : (p : X → Bool) (xs : List X) (y : X) → In y xs → p y ≡ true → In y (filter p xs)
   in_filtered p [] y i e = absurd i
-  in_filtered p (x ∷ xs) y i e =
-      elim (p x) as (λ b. p x ≡ b → In y (cond b (x ∷ filter p xs) (filter p xs))) [
-        | true ↦ λ f. elim i [ inl k ↦ inl k | inr k ↦ inr (in_filtered p xs y k e) ]
-        | false ↦ λ f. elim i [ inl k ↦ absurd (false≢true (sym f ∙ ap p k ∙ e)) | inr k ↦ in_filtered p xs y k e ]
-      ] refl
+  in_filtered p (x ∷ xs) y i e = grind (arith, common_steps, (in_filtered p xs y))
 
   pub in_either : (xs ys : List X) (x : X) → In x (xs ++ ys) → In x xs ⊎ In x ys
   in_either [] ys x i = inr i
@@ -71,24 +62,11 @@ module _ {X Y : Type 0} (f : X → Y) where
 module _ {X : Type 0} (p : X → Bool) where
   pub find_some : (xs : List X) (x : X) → find p xs ≡ Some x → In x xs × (p x ≡ true)
   find_some [] x e = absurd (cc)
-  find_some (y ∷ xs) x e =
-      elim (cases_Bool _) [
-        | inl h ↦
-            let same : y ≡ x = let f : Some y ≡ Some x = sym (λ i. cond (h i) (Some y) (find p xs)) ∙ e in cc in
-            (inl same, ap p (sym same) ∙ h)
-        | inr h ↦ let r = find_some xs x (sym (λ i. cond (h i) (Some y) (find p xs)) ∙ e) in (inr r.0, r.1)
-      ]
+  find_some (y ∷ xs) x e = grind (arith, common_steps, (find_some xs x))
 
   pub find_none : (xs : List X) → find p xs ≡ None → (x : X) → In x xs → p x ≡ false
   find_none [] e x i = absurd i
-  find_none (y ∷ xs) e x i =
-      elim (cases_Bool _) [
-        | inl h ↦ let f : Some y ≡ None = sym (λ i. cond (h i) (Some y) (find p xs)) ∙ e in absurd (cc)
-        | inr h ↦ elim i [
-          | inl same ↦ ap p (sym same) ∙ h
-          | inr j ↦ find_none xs (sym (λ i. cond (h i) (Some y) (find p xs)) ∙ e) x j
-        ]
-      ]
+  find_none (y ∷ xs) e x i = grind (arith, common_steps, (find_none xs))
 
 -- ---- places
 

@@ -1,5 +1,5 @@
 -- The unoccluded owners of a list in order: they ascend, begin with the apex, and are the names that own records and are not occluded.
-use Rattle.std.proofs.Common.{◌≡◌, ℕ, Bool, true, false, cond, not, ◌&&◌, ◌||◌, List, [], ◌∷◌, map, refl, sym, ap, ◌∙◌, inl, inr, arith}
+use Rattle.std.proofs.Common.{◌≡◌, ℕ, Bool, true, false, not, ◌&&◌, ◌||◌, List, [], ◌∷◌, map, refl, sym, ap, ◌∙◌, inl, inr, arith}
 use Rattle.std.proofs.lemmas.{Bool.{cases_Bool, false≢true, true≢false, and_parts, or_cases, or_right, and_from, not-true}, Grind.common_steps}
 use Rattle.std.specs.{Prelude.filter, List.{AllByRecursion, list_any}}
 use Rattle.domain_names.specs.{Name.{is_at_or_below, is_strictly_below, lowered, same_name}, Order.before, Words.Name}
@@ -12,11 +12,7 @@ use Rattle.domain_zone.proofs.ZoneLemmas.{all_filter, all_distinct, any_none, an
 module _ {X : Type 0} where
   pub any_weaker : (p q : X → Bool) → ((x : X) → p x ≡ true → q x ≡ true) → (xs : List X) → list_any p xs ≡ true → list_any q xs ≡ true
   any_weaker p q f [] h = absurd (false≢true h)
-  any_weaker p q f (x ∷ xs) h =
-      elim (or_cases _ _ h) [
-        | inl e ↦ (λ i. f x e i || list_any q xs)
-        | inr e ↦ or_right _ _ (any_weaker p q f xs e)
-      ]
+  any_weaker p q f (x ∷ xs) h = grind (arith, common_steps, (any_weaker p q f xs))
 
   pub any_filter : (p q : X → Bool) (xs : List X) → list_any p (filter q xs) ≡ list_any (λ x. q x && p x) xs
   any_filter p q [] = refl
@@ -69,21 +65,7 @@ owners_ascend d L a h = ascending_filter before (is_unoccluded d L a) (distinct 
 
 any_distinct : (s : Name → Bool) (xs : List Name) → list_any (λ x. s (lowered x)) xs ≡ true → list_any (λ x. s (lowered x)) (distinct xs) ≡ true
 any_distinct s [] h = h
-any_distinct s (x ∷ xs) h =
-    elim (cases_Bool (s (lowered x))) [
-      | inl e ↦ (λ i. e i || list_any (λ y. s (lowered y)) (filter (λ y. not (same_name x y)) (distinct xs)))
-      | inr e ↦ or_right (s (lowered x)) (list_any (λ y. s (lowered y)) (filter (λ y. not (same_name x y)) (distinct xs)))
-          (any_filter (λ y. s (lowered y)) (λ y. not (same_name x y)) (distinct xs)
-          ∙ any_weaker (λ y. s (lowered y)) (λ y. not (same_name x y) && s (lowered y)) (λ y f. other y e f) (distinct xs)
-          (any_distinct s xs (sym (ap (λ b. b || list_any (λ y. s (lowered y)) xs) e) ∙ h)))
-    ]
-  where
-    other : (y : Name) → s (lowered x) ≡ false → s (lowered y) ≡ true → (not (same_name x y) && s (lowered y)) ≡ true
-    other y e f =
-        elim (cases_Bool (same_name x y)) [
-          | inl m ↦ absurd (true≢false (sym f ∙ ap s (sym (one_lowered x y m)) ∙ e))
-          | inr m ↦ (λ i. not (m i) && f i)
-        ]
+any_distinct s (x ∷ xs) h = grind (arith, common_steps, any_filter, any_weaker, one_lowered, (any_distinct s xs))
 
 -- a name that owns records and is not occluded is among them, by any test of keys
 pub any_owner : (d : Bool) (L : List ZoneRecord) (a x : Name) (s : Name → Bool) → owns L x ≡ true → is_unoccluded d L a x ≡ true
@@ -132,11 +114,7 @@ apex_unoccluded d L a = λ i. below_itself a i && not (any_none (λ r. occludes 
 -- a name that owns a record of a type owns records
 pub typed_owns : (M : List ZoneRecord) (c : Name) (t : ℕ) → has_type (records_of M c) t ≡ true → owns M c ≡ true
 typed_owns [] c t h = h
-typed_owns (r ∷ M) c t h =
-    elim (cases_Bool _) [
-      | inl e ↦ (λ i. e i || owns M c)
-      | inr e ↦ (λ i. e i || owns M c) ∙ typed_owns M c t (sym (ap (λ b. has_type (cond b (r ∷ records_of M c) (records_of M c)) t) e) ∙ h)
-    ]
+typed_owns (r ∷ M) c t h = grind (arith, common_steps, (typed_owns M c t))
 
 -- what occludes owns records
 pub occluder_owns : (d : Bool) (L : List ZoneRecord) (a c : Name) → occludes d L a c ≡ true → owns L c ≡ true
