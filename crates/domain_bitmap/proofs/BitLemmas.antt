@@ -1,6 +1,9 @@
 -- bits of octets
-use Rattle.std.proofs.Common.{◌≡◌, ℕ, ◌+◌, ◌-◌, ◌*◌, ◌/◌, ◌%◌, ◌^◌, ◌<◌, ◌≤◌, ◌≢◌, Bool, true, false, refl, sym, ap, ◌∙◌, inl, inr, w8, arith, rules}
-use Rattle.std.proofs.lemmas.Nat.Bits.{bit_at_set_same, bit_at_set_other, shr_and_one, same_from_bits_below, bit_at-lt, bit_at-zero}
+use Rattle.std.proofs.Common.{◌≡◌, ℕ, ◌+◌, ◌-◌, ◌*◌, ◌/◌, ◌%◌, ◌^◌, ◌<◌, ◌≤◌, ◌≢◌, Bool, true, false, refl, sym, ap, ◌∙◌, inl, inr, w8, arith, add-zero}
+use Rattle.std.proofs.Common.{pow_pos, rules}
+use Rattle.std.proofs.lemmas.Nat.Bits.{bit_at_set_same, bit_at_set_other, shr_and_one, same_from_bits_below, bit_at-lt, bit_at-zero, bit_at_cat_low}
+use Rattle.std.proofs.lemmas.Nat.Bits.{bit_at_cat_high}
+use Rattle.std.proofs.lemmas.Nat.{div-add-mod'}
 use Rattle.std.{proofs.lemmas.{Bool.Decides.{nat_tests, eqb_tells}, Grind.common_steps}, specs.{Prelude.{◌||◌, ◌==◌, bit_or, bit_and}, Int.bit_at}}
 use Rattle.domain_bitmap.specs.Bits.{bit_of, octet_with, weight}
 
@@ -67,6 +70,16 @@ bit_of-set octet b k b_small k_small =
 pub bit_of-shr : (octet b : ℕ) → (bit_and (octet / 2 ^ (7 - b)) 1 == 1) ≡ bit_of octet b
 unfolding bit_of
 bit_of-shr octet b = ap (λ n. n == 1) (shr_and_one octet (7 - b))
+
+-- the bits of an octet that is moved
+pub bit_of-shl : (octet s k : ℕ) → s + k < 8 → bit_of (octet * 2 ^ s % 2 ^ 8) k ≡ bit_of octet (s + k)
+unfolding bit_of
+bit_of-shl octet s k small =
+    let moved = octet * 2 ^ s in
+    let low = bit_at_cat_low (moved / 2 ^ 8) 8 (moved % 2 ^ 8) (7 - k) (omega arith) in
+    let high = bit_at_cat_high octet s 0 (7 - k) (pow_pos s) (omega arith) in
+    let place : 7 - k - s ≡ 7 - (s + k) = omega arith in
+    ap (λ n. n == 1) (sym low ∙ ap (λ n. bit_at n (7 - k)) (div-add-mod' moved (2 ^ 8) ∙ sym (add-zero moved)) ∙ high ∙ ap (bit_at octet) place)
 
 pub bit_of-zero : (b : ℕ) → bit_of 0 b ≡ false
 unfolding bit_of
