@@ -138,6 +138,18 @@ pub filter_more : (p q : ℕ → Bool) (c n : ℕ) → c < n → ((j : ℕ) → 
     → length (filter q (range_with_len 0 n)) ≡ length (filter p (range_with_len 0 n)) + 1
 filter_more p q c n inside same was is = filter_more_from p q c 0 n (omega arith) (omega arith) same was is
 
+-- tests that differ at one number
+pub filter_one_more : (p q : ℕ → Bool) (c a n : ℕ) → ((j : ℕ) → j ≢ c → q j ≡ p j)
+    → length (filter q (range_with_len a n)) ≤ length (filter p (range_with_len a n)) + 1
+filter_one_more p q c a zero same = omega arith
+filter_one_more p q c a (suc n) same =
+    elim (eqb_tells a c) [
+      | inl h ↦
+          let rest = ap length (filter_same q p (a + 1) n (λ j low high. same j (omega (arith, h.1)))) in
+          grind (arith, common_steps)
+      | inr h ↦ grind (arith, common_steps, (filter_one_more p q c (a + 1) n same))
+    ]
+
 pub flat_length : (f : ℕ → List ℕ) (most a n : ℕ) → ((j : ℕ) → length (f j) ≤ most) → length (flat_map f (range_with_len a n)) ≤ most * n
 flat_length f most a zero each = omega arith
 flat_length f most a (suc n) each = grind (arith, common_steps, (flat_length f most (a + 1) n each))

@@ -40,7 +40,7 @@ pub(crate) fn check(octets: &[u8]) -> Result<(), RtypeBitmapError>
 }
 
 /// The first block, and the blocks after it.
-#[tactic(auto, using(crate::proofs::BlockLemmas::block_reads))]
+#[tactic(auto, using(std::proofs::lemmas::Grind::common_steps, crate::proofs::BlockLemmas::block_reads))]
 pub(crate) fn split_block(blocks: &[u8]) -> Option<(Window<'_>, &[u8])>
     requires { IsBitmap blocks.now }
     ensures none { IfNone result (blocks_of blocks.now ≡ []) }

@@ -39,10 +39,11 @@ fn pack_all<B: OctetsBuilder>(buffer: &mut B) -> usize
     fill(&mut octets, &mut present, slots);
     let mut end = 0;
     for window in 0..WINDOWS {
-        if present[window] {
-            let own = &octets[32 * window..32 * window + 32];
-            end = write_block(buffer, end, window as u8, own);
+        if !present[window] {
+            continue;
         }
+        let own = &octets[32 * window..32 * window + 32];
+        end = write_block(buffer, end, window as u8, own);
     }
     end
 }

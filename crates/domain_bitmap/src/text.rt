@@ -12,9 +12,10 @@ impl<O: Octets> Display for RtypeBitmap<O> {
 
     fn fmt<W: fmt::Write>(&self, f: &mut fmt::Formatter<W>) -> fmt::Result {
         let mut types = self.iter();
-        if let Some(first) = types.next() {
-            write!(f, "{first}")?;
-        }
+        let Some(first) = types.next() else {
+            return Ok(());
+        };
+        write!(f, "{first}")?;
         while let Some(rtype) = types.next() {
             write!(f, " {rtype}")?;
         }
