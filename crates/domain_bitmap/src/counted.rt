@@ -12,8 +12,7 @@ ghost use Rattle.domain_bitmap.specs.Counted.{by_length, by_length_total, IsCutS
 use bytes::Bytes;
 use domain_base::{CanonicalOrd, ParseError};
 use domain_octets::{
-    AppendError, CopyOctets, EmptyOctets, FromBuilder, Octets, OctetsFrom, OutOfMemory, Parser,
-    TryClone,
+    AppendError, CopyOctets, EmptyOctets, Octets, OctetsFrom, OutOfMemory, Parser, TryClone,
 };
 use std::alloc::Global;
 use std::cmp::Ordering;
@@ -131,16 +130,6 @@ impl<O: EmptyOctets, E> CountedOctets<O, E> {
         ensures { result ≡ [] }
     {
         CountedOctets::from_octets_unchecked(O::empty(alloc))
-    }
-}
-
-impl<O: FromBuilder, E> CountedOctets<O, E> {
-    /// No octets, from an empty builder.
-    pub(crate) fn of_none(builder: O::Builder) -> Self
-        requires { O.Builder.octets builder ≡ [] }
-        ensures { result ≡ [] }
-    {
-        CountedOctets::from_octets_unchecked(O::from_builder(builder))
     }
 }
 

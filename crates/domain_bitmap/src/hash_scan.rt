@@ -96,10 +96,14 @@ impl<O: FromBuilder + Drop> Nsec3Salt<O> {
         if begins {
             scanner.skip_token();
             if alone {
-                return Ok(Nsec3Salt::of_none(scanner.octets_builder(alloc)));
+                let octets = O::from_builder(scanner.octets_builder(alloc));
+                return Ok(Nsec3Salt::from_octets_unchecked(octets));
             }
             return Err(ScanError::Custom("illegal NSEC3 salt"));
         }
-        Nsec3Salt::scan_token(alloc, scanner, Codec::Base16, "illegal NSEC3 salt")
+        match Nsec3Salt::scan_token(alloc, scanner, Codec::Base16, "illegal NSEC3 salt") {
+            Ok(salt) => Ok(salt),
+            Err(error) => Err(error),
+        }
     }
 }

@@ -1,7 +1,7 @@
 //! Hashed owner names as text (RFC 5155, section 3.3).
 ghost use Rattle.std.specs.Prelude.{◌<◌, IfOk, IfErr, Some};
 ghost use Rattle.domain_codecs.specs.Base32.{base32_upper};
-ghost use Rattle.domain_bitmap.specs.{HashFault.HashFault, HashText.OwnerHashText};
+ghost use Rattle.domain_bitmap.specs.HashText.{HashFault, OwnerHashText};
 
 use crate::OwnerHash;
 use domain_codecs::{DecodeError, base32};

@@ -72,7 +72,7 @@ where
         ensures err { IfErr result (SaltFault O.Builder.limit text.now) }
     {
         if text == "-" {
-            return Ok(Nsec3Salt::of_none(O::Builder::empty(alloc)));
+            return Ok(Nsec3Salt::from_octets_unchecked(O::from_builder(O::Builder::empty(alloc))));
         }
         let octets = match base16::decode::<O>(alloc, text) {
             Ok(octets) => octets,
