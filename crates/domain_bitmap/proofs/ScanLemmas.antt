@@ -1,12 +1,13 @@
 -- types read from tokens
-use Rattle.std.proofs.Common.{◌≡◌, ◌≢◌, ℕ, ◌+◌, ◌*◌, ◌/◌, ◌<◌, Bool, true, false, List, [], ◌∷◌, ◌++◌, length, refl, sym, ap, ◌∙◌, subst, inl, inr, arith}
+use Rattle.std.proofs.Common.{◌≡◌, ◌≢◌, ℕ, ◌+◌, ◌*◌, ◌/◌, ◌<◌, Bool, true, false, List, [], ◌∷◌, ◌++◌, length, refl, sym, ap, ◌∙◌, inl, inr, arith}
 use Rattle.std.proofs.{Common.{eq-eqb, append_assoc}, lemmas.{Bool.Decides.{nat_tests, eqb_tells}, Grind.common_steps}}
-use Rattle.std.specs.Prelude.{◌||◌, ◌==◌, Option, if◌then◌else◌, IsNone, Result, IsErrAnd, IfErr}
+use Rattle.std.specs.Prelude.{◌||◌, ◌==◌, Option, if◌then◌else◌, IsNone}
 use Rattle.domain_base.specs.{Numbers.{TypeText, IsNoType}, Scan.{RefusesToken, ended, refused}}
-use Rattle.domain_names.specs.{TextFault.{ScanFault, scan_fault_of, scan_error_of}, declared.error.ScanError.ScanError}
+use Rattle.domain_names.specs.{TextFault.{ScanFault, scan_fault_of, scan_error_of}}
 use Rattle.domain_octets.specs.{Limit.IsOver, declared.error.AppendError.{AppendError, TheVariants.{ShortBuf, OutOfMemory}}}
 use Rattle.domain_bitmap.specs.Builder.{holds, has_window}
-use Rattle.domain_bitmap.specs.Scan.{TypeTexts, no_types, one_more, is_among, has_type_in, room_for, not_a_type, without_room, without_memory, RefusesTypes}
+use Rattle.domain_bitmap.specs.Scan.{TypeTexts, no_types, one_more, is_among, has_type_in, room_for, not_a_type, without_room, without_memory, TypeFault}
+use Rattle.domain_bitmap.specs.Scan.{RefusesTypes}
 use Rattle.domain_bitmap.proofs.RangeLemmas.{filter_same, filter_more}
 
 texts-more : {taken : List (List ℕ)} {types : List ℕ} (token : List ℕ) (t : ℕ) → TypeTexts taken types → TypeText token t
@@ -105,17 +106,22 @@ pub scan_ends : (old now : List (List ℕ)) (value : List ℕ) → Scanned old n
     → (types : List ℕ) × TypeTexts old types × ((t : ℕ) → t < 65536 → holds value t ≡ is_among types t)
 scan_ends old now value scanned none = grind (arith, common_steps)
 
-pub scan_refused : (limit : Option ℕ) (old now rest : List (List ℕ)) (value : List ℕ) (fault : ScanFault) → Scanned old now value
-    → now ≢ [] → RefusesToken IsNoType now rest fault → RefusesTypes limit old rest fault
-scan_refused limit old now rest value fault scanned some ended = absurd (some refl)
-scan_refused limit old now rest value fault scanned some (refused token left why_fault why) = record {
+refused_after : (limit : Option ℕ) (old now rest : List (List ℕ)) (value : List ℕ) (token : List ℕ) (fault : ScanFault) (scanned : Scanned old now value)
+    → now ≡ token ∷ rest → TypeFault limit scanned.types fault token → RefusesTypes limit old rest fault
+refused_after limit old now rest value token fault scanned first why = record {
   taken = scanned.taken;
   types = scanned.types;
   token = token;
-  parts = scanned.parts;
+  parts = scanned.parts ∙ ap (λ l. scanned.taken ++ l) first;
   spelled = scanned.spelled;
-  why = not_a_type fault token why;
+  why = why;
 }
+
+pub scan_refused : (limit : Option ℕ) (old now rest : List (List ℕ)) (value : List ℕ) (fault : ScanFault) → Scanned old now value
+    → now ≢ [] → RefusesToken IsNoType now rest fault → RefusesTypes limit old rest fault
+scan_refused limit old now rest value fault scanned some ended = absurd (some refl)
+scan_refused limit old now rest value fault scanned some (refused token left why_fault why) =
+    refused_after limit old now rest value token fault scanned refl (not_a_type fault token why)
 
 -- a type for which the builder has no room, or no memory
 pub scan_full : (limit : Option ℕ) (old now rest : List (List ℕ)) (value : List ℕ) (token : List ℕ) (t : ℕ) (error : AppendError)
@@ -124,30 +130,11 @@ pub scan_full : (limit : Option ℕ) (old now rest : List (List ℕ)) (value : L
     → (error ≡ OutOfMemory → IsNone limit) → RefusesTypes limit old rest (scan_fault_of (scan_error_of error))
 scan_full limit old now rest value token t ShortBuf scanned first spells small short memory =
     let full = short refl in
-    let room : length value + 34 ≡ room_for (scanned.types ++ t ∷ []) = rw (
-      scanned.room,
-      room-more scanned.types t small (sym (scanned.windows (t / 256)) ∙ full.0),
-    ) refl in
-    record {
-      taken = scanned.taken;
-      types = scanned.types;
-      token = token;
-      parts = scanned.parts ∙ ap (λ l. scanned.taken ++ l) first;
-      spelled = scanned.spelled;
-      why = without_room token t spells (subst (IsOver limit) room full.1);
-    }
-scan_full limit old now rest value token t OutOfMemory scanned first spells small short memory = record {
-  taken = scanned.taken;
-  types = scanned.types;
-  token = token;
-  parts = scanned.parts ∙ ap (λ l. scanned.taken ++ l) first;
-  spelled = scanned.spelled;
-  why = without_memory token t spells (memory refl);
-}
+    let room = room-more scanned.types t small (sym (scanned.windows (t / 256)) ∙ full.0) in
+    refused_after limit old now rest value token _ scanned first (without_room token t spells (rw (room, ← scanned.room) full.1))
+scan_full limit old now rest value token t OutOfMemory scanned first spells small short memory =
+    refused_after limit old now rest value token _ scanned first (without_memory token t spells (memory refl))
 
 pub none_left : (tokens : List (List ℕ)) → (tokens ≢ [] → ⊥) → tokens ≡ []
 none_left [] not_some = refl
 none_left (token ∷ tokens) not_some = absurd (not_some (λ e. cc))
-
-pub refused_with : (r : Result (Unit {0}) ScanError) (error : ScanError) (P : ScanError → Type 0) → IsErrAnd r (λ e. e ≡ error) → P error → IfErr r P
-refused_with r error P gives h = grind (arith, common_steps)

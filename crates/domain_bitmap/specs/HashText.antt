@@ -4,8 +4,8 @@ use Rattle.hex.specs.Hex.{encode_upper}
 use Rattle.domain_octets.specs.{Limit.{HasRoom, IsOver}, Words.Octets}
 use Rattle.domain_codecs.specs.{Codec.{Decodes, DecodeFault}, Texts.decode_error_text}
 use Rattle.domain_codecs.specs.declared.codec.{Codec.{Codec, TheVariants.{Base16, Base32Hex}}, DecodeError.{DecodeError, TheVariants.ShortBuf}}
-use Rattle.domain_bitmap.specs.declared.salt_text.Nsec3SaltFromStrError.{Nsec3SaltFromStrError}
-use Rattle.domain_bitmap.specs.declared.salt_text.Nsec3SaltFromStrError.TheVariants as refusal
+use Rattle.domain_bitmap.specs.declared.salt.Nsec3SaltFromStrError.{Nsec3SaltFromStrError}
+use Rattle.domain_bitmap.specs.declared.salt.Nsec3SaltFromStrError.TheVariants as refusal
 
 -- a salt is its octets in Base 16, and one of no octets is a dash
 abbrev pub salt_text : Octets → Octets

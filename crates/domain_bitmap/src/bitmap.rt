@@ -4,8 +4,7 @@ ghost use Rattle.domain_octets.specs.Words.{Octets};
 ghost use Rattle.domain_bitmap.specs.Blocks.{IsBitmap, contains_type, types_of};
 ghost use Rattle.domain_bitmap.specs.Fault.{FirstBlockFault};
 
-use crate::bits::split_rtype;
-use crate::blocks::{check, is_set, split_block};
+use crate::blocks::{check, is_set, split_block, split_rtype};
 use crate::{RtypeBitmapBuilder, RtypeBitmapError, RtypeBitmapIter};
 use domain_base::Rtype;
 use domain_octets::{EmptyBuilder, FromBuilder, Octets, OutOfMemory, TryClone};

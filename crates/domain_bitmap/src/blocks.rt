@@ -5,6 +5,7 @@ ghost use Rattle.domain_bitmap.specs.Blocks.{IsBitmap, blocks_of, block_types_fr
 ghost use Rattle.domain_bitmap.specs.Fault.{FirstBlockFault};
 
 use crate::RtypeBitmapError;
+use domain_base::Rtype;
 
 /// How many octets a block has at most: those of 256 types.
 const MAX_LEN: usize = 32;
@@ -58,6 +59,23 @@ pub(crate) fn split_block(blocks: &[u8]) -> Option<(Window<'_>, &[u8])>
         }
         _ => None,
     }
+}
+
+/// The window of a type, the octet within the window, and the bit within the octet, the most
+/// significant bit being the first (RFC 4034, section 4.1.2).
+pub(crate) fn split_rtype(rtype: Rtype) -> (u8, usize, u8)
+    ensures window { result.0 ≡ rtype / 256 }
+    ensures octet { result.1 ≡ rtype % 256 / 8 }
+    ensures bit { result.2 ≡ rtype % 8 }
+    ensures octet_bound { result.1 < 32 }
+    ensures bit_bound { result.2 < 8 }
+{
+    let number = rtype.to_int();
+    (
+        (number / 256) as u8,
+        (number % 256 / 8) as usize,
+        (number % 8) as u8,
+    )
 }
 
 /// Whether an octet of a window has a bit set, the most significant bit being the first.

@@ -6,7 +6,7 @@ ghost use Rattle.domain_bitmap.specs.Builder.{holds, has_window};
 ghost use Rattle.domain_bitmap.specs.Bitmap.{bitmap_octets};
 
 use crate::RtypeBitmap;
-use crate::bits::split_rtype;
+use crate::blocks::split_rtype;
 use crate::pack::pack;
 use crate::slots::{SLOT, find_slot, set_bit};
 use domain_base::Rtype;

@@ -1,6 +1,6 @@
 use Rattle.std.proofs.Common.{rules, arith}
 use Rattle.domain_bitmap.{specs.Builder.{holds, has_window}, proofs.{BitLemmas.bit_of-zero, PackLemmas.{types_more, windows_more}}}
-use Rattle.domain_bitmap.proofs.table.fill.Goals as goal
+use Rattle.domain_bitmap.proofs.pack.fill.Goals as goal
 use Rattle.std.proofs.lemmas.Grind.{common_steps}
 
 pub loop-j-init : goal.loop-j-init
