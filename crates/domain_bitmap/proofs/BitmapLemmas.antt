@@ -49,7 +49,7 @@ window_block-same p q w same = ap (λ xs. block_with w (trimmed xs)) (window_oct
 -- tests that agree on all types have the same octets
 pub bitmap_octets-same : (p q : ℕ → Bool) → ((t : ℕ) → t < 65536 → p t ≡ q t) → bitmap_octets p ≡ bitmap_octets q
 unfolding bitmap_octets
-bitmap_octets-same p q same = flat_same _ _ 256 (λ w below. window_block-same p q w (λ t of_window. same t (omega arith)))
+bitmap_octets-same p q same = flat_same _ _ 0 256 (λ w low below. window_block-same p q w (λ t of_window. same t (omega arith)))
 
 -- the block of a window, if it has types
 unfoldable pub block_list : ℕ → List ℕ → List Block

@@ -4,7 +4,8 @@ use Rattle.std.proofs.{Common.{add-one, add_comm}, Math.Nat.mul-suc, lemmas.{Lis
 use Rattle.std.{proofs.lemmas.Grind.common_steps, specs.{Prelude.filter, List.{range_with_len, flat_map}}}
 use Rattle.domain_bitmap.proofs.{RangeLemmas.{filter_same, filter_none, filter_append}, BitLemmas.{bit_of-octet_with, bit_of-zero}, TrimLemmas.get_or-trimmed}
 use Rattle.domain_bitmap.proofs.BlockLemmas.{blocks_of-octets_of_blocks}
-use Rattle.domain_bitmap.proofs.BitmapLemmas.{block_list, blocks_from, octets_of_blocks-blocks_from, get_or-window_octets}
+use Rattle.domain_bitmap.proofs.BitmapLemmas.{block_list, blocks_from, octets_of_blocks-blocks_from, get_or-window_octets, bitmap_octets-same}
+use Rattle.domain_bitmap.proofs.BitmapLemmas.{length-bitmap_octets}
 use Rattle.domain_bitmap.specs.{Bits.has_bit, Bitmap.{window_octets, trimmed, bitmap_octets}}
 use Rattle.domain_bitmap.specs.Blocks.{Block, blocks_of, in_first_block, contains_type, block_types_from, types_of, types_below}
 
@@ -102,3 +103,5 @@ types_of-bitmap_octets types m n all whole =
     let none : m * 0 ≡ 0 = omega arith in
     ap (λ blocks. flat_map (λ b. block_types_from b 0) blocks) (blocks_of-bitmap_octets types ∙ ap (blocks_from types 0) (sym all))
     ∙ types_of_blocks types m 0 m all ∙ rw (none, whole) refl
+
+pub ruleset type_laws = (contains_type-bitmap_octets, types_of-bitmap_octets, length-bitmap_octets)

@@ -35,7 +35,7 @@ within value k w = list_any (is_of_window value w) (range_with_len 0 k)
 count-blocks : (value : List ℕ) (k n : ℕ) → length (filter (within value k) (range_with_len 0 n)) ≤ k
 count-blocks value zero n = omega (arith, ap length (filter_none (within value 0) 0 n (λ j low high. refl)))
 count-blocks value (suc k) n =
-    let more = filter_one_more (within value k) (within value (suc k)) (get_or value (34 * k) 0) 0 n (λ w other. grind (arith, common_steps, any_suc)) in
+    let more = filter_one_more (within value k) (within value (suc k)) (get_or value (34 * k) 0) n (λ w other. grind (arith, common_steps, any_suc)) in
     omega (arith, more, count-blocks value k n)
 
 pub count-has_window : (value : List ℕ) (n : ℕ) → count value n ≤ length value / 34
