@@ -113,3 +113,5 @@ length-window_block types w = grind (arith, common_steps, length-block_with, len
 pub length-bitmap_octets : (types : ℕ → Bool) → length (bitmap_octets types) ≤ 8704
 unfolding bitmap_octets
 length-bitmap_octets types = flat_length (window_block types) 34 0 256 (length-window_block types)
+
+pub ruleset built_steps = (bitmap_octets-same, IsBitmap-bitmap_octets)

@@ -68,3 +68,5 @@ pub no_bitmap_fault : (octets : List ℕ) (fault : Fault) → BitmapFault octets
 no_bitmap_fault octets fault bad bitmap = no_fault bad.found bitmap
 
 pub ruleset parse_steps = (no_fault, bitmap_fault)
+
+pub ruleset check_steps = (headed, reading_starts, reading_goes, cut_length, nothing_left, bad_length, cut_block)

@@ -78,3 +78,5 @@ part_bitmap ends octets place end are inside =
     rw (part_is ends octets place end [] inside) (All-get_or IsBitmap (cut_at ends 0 octets) place [] (omega (arith, length-cut_at ends 0 octets)) are.bitmaps)
 
 pub ruleset get_steps = (length-cut_at, part_ordered, part_inside, part_is, part_bitmap)
+
+pub ruleset push_steps = (cut_pushed, AreBitmaps-push)

@@ -1,5 +1,5 @@
 -- blocks put in order
-use Rattle.std.proofs.Common.{◌≡◌, ℕ, zero, suc, ◌+◌, ◌*◌, ◌/◌, ◌%◌, ◌<◌, ◌≤◌, Bool, true, false, List, [], ◌∷◌, ◌++◌, length, get_or, take, drop}
+use Rattle.std.proofs.Common.{◌≡◌, ℕ, zero, suc, ◌+◌, ◌*◌, ◌/◌, ◌%◌, ◌<◌, ◌≤◌, Bool, true, false, List, [], ◌∷◌, length, get_or, take, drop}
 use Rattle.std.proofs.{Common.{refl, sym, ap, ◌∙◌, inl, inr, arith, set}}
 use Rattle.std.proofs.lemmas.{List.{get_or-take, get_or-drop, length-take, length-drop}, Bool.Decides.eqb_tells, Grind.common_steps}
 use Rattle.std.specs.{Prelude.{◌==◌, ◌&&◌, bit_or, nat_lt, if◌then◌else◌}, List.{range_with_len, list_any, filter}}
@@ -41,10 +41,6 @@ count-blocks value (suc k) n =
 pub count-has_window : (value : List ℕ) (n : ℕ) → count value n ≤ length value / 34
 unfolding has_window
 count-has_window value n = count-blocks value (length value / 34) n
-
--- octets are written at the end of those that stand
-pub front-written : (value s rest : List ℕ) (at n : ℕ) → at ≤ length value → n ≡ at + length s → take n (take at value ++ (s ++ rest)) ≡ take at value ++ s
-front-written value s rest at n inside count = grind (arith, common_steps)
 
 pub block_with-some : (w : ℕ) (xs : List ℕ) → 0 < length xs → block_with w xs ≡ w ∷ length xs ∷ xs
 block_with-some w [] some = absurd (omega (arith, some))

@@ -3,6 +3,7 @@ use Rattle.std.proofs.{Common.{◌≡◌, ◌≢◌, ◌≤◌, ℕ, List, [], �
 use Rattle.std.specs.Prelude.{Option}
 use Rattle.domain_codecs.specs.{Codec.Decodes, declared.codec.Codec.TheVariants.Base16}
 use Rattle.domain_names.specs.TextFault.{ScanFault, illegal}
+use Rattle.domain_base.proofs.ScanLemmas.{no_token}
 use Rattle.domain_base.specs.Scan.{TakesToken, RefusesToken, ended, refused}
 use Rattle.domain_bitmap.specs.{HashText.{SaltText, dash, digits}, HashScan.{CountedFault, SaltTokenFault, BeginsWithDash, after_dash, in_digits}}
 
@@ -49,3 +50,5 @@ refused_digits limit old new token fault first other (refused read left why_faul
     let both = first.1 in
     let same : read ≡ token = cc in
     refused read left why_fault (in_digits why_fault read (rw same other) why)
+
+pub ruleset salt_steps = (no_token, took_dash, refused_digits)

@@ -20,6 +20,7 @@ pub(crate) struct Window<'a> {
 }
 
 /// Checks that octets are a list of blocks.
+#[tactic(auto, using(std::proofs::lemmas::Grind::common_steps, crate::proofs::FaultLemmas::check_steps))]
 pub(crate) fn check(octets: &[u8]) -> Result<(), RtypeBitmapError>
     ensures { MatchResult result (λ _. IsBitmap octets.now) (λ e. FirstBlockFault octets.now e) }
 {

@@ -136,6 +136,7 @@ impl<B: OctetsBuilder> RtypeBitmapBuilder<B> {
     }
 
     /// The bitmap of the types that were added: the only one that holds them. Takes no memory.
+    #[tactic(auto, using(std::proofs::lemmas::Grind::common_steps, crate::proofs::BitmapLemmas::built_steps))]
     pub fn finalize(self) -> RtypeBitmap<B::Frozen>
     where
         B: FreezeBuilder + Truncate,

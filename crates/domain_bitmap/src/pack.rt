@@ -31,6 +31,7 @@ fn merge(octets: &mut [u8], slots: &[u8], j: usize)
 
 /// Puts the types of a builder's blocks into the octets of all windows, which are zeros, and tells
 /// which windows have a block.
+#[tactic(auto, using(std::proofs::lemmas::Grind::common_steps, crate::proofs::BitLemmas::bit_reads), unfolding(crate::specs::Builder::holds, crate::specs::Builder::has_window))]
 fn fill(octets: &mut [u8], present: &mut [bool], slots: &[u8])
     requires octets { (i : ℕ) → slice_index octets.old i ≡ 0 }
     requires all { length octets.old ≡ 8192 }
@@ -100,6 +101,7 @@ fn only_len(slots: &[u8]) -> usize
 }
 
 /// Cuts the only block, and says where it ends.
+#[tactic(auto, using(std::proofs::lemmas::Grind::common_steps))]
 fn pack_one<B: OctetsBuilder>(buffer: &mut B) -> usize
     requires { length (B.octets buffer.old) ≡ 34 }
     ensures { take result (B.octets buffer.new) ≡ bitmap_octets (holds (B.octets buffer.old)) }
@@ -114,6 +116,7 @@ fn pack_one<B: OctetsBuilder>(buffer: &mut B) -> usize
 
 /// Writes a builder's blocks in the order of their windows, each cut after its last octet with a
 /// type, and says where they end. Takes no memory.
+#[tactic(auto, using(crate::proofs::PackLemmas::holds_nothing))]
 pub(crate) fn pack<B: OctetsBuilder>(buffer: &mut B) -> usize
     requires { length (B.octets buffer.old) % 34 ≡ 0 }
     ensures { take result (B.octets buffer.new) ≡ bitmap_octets (holds (B.octets buffer.old)) }

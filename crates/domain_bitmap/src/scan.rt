@@ -44,6 +44,7 @@ where
     /// At the first token that is refused: `Custom("unknown record type")` where it spells no type,
     /// else `ShortBuf` where the builder has no room for the type's window, or `OutOfMemory`. The
     /// tokens after it are left.
+    #[tactic(auto, using(std::proofs::lemmas::Grind::common_steps, crate::proofs::BitmapLemmas::built_steps))]
     pub fn scan<S: Scanner>(alloc: Global, scanner: &mut S) -> Result<Self, ScanError>
         ensures ok { IfOk result (λ bitmap. (types : Rtypes)
             × TypeTexts (S.tokens scanner.old) types × (bitmap ≡ bitmap_octets (is_among types))) }

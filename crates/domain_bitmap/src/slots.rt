@@ -38,12 +38,15 @@ pub(crate) fn used_len(octets: &[u8]) -> usize
     len
 }
 
+#[tactic(auto, using(std::proofs::lemmas::Grind::common_steps))]
 /// Writes octets in place of as many that stand from a place on. Takes no memory.
 pub(crate) fn write_at<B: OctetsBuilder>(buffer: &mut B, at: usize, octets: &[u8])
     requires { at + length octets.now ≤ length (B.octets buffer.old) }
-    ensures { B.octets buffer.new
+    ensures written { B.octets buffer.new
         ≡ take at (B.octets buffer.old)
         ++ (octets.now ++ drop (at + length octets.now) (B.octets buffer.old)) }
+    ensures front { take (at + length octets.now) (B.octets buffer.new)
+        ≡ take at (B.octets buffer.old) ++ octets.now }
 {
     let held = buffer.as_mut_slice();
     let end = at + octets.len();

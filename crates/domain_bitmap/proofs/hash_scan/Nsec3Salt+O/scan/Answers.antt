@@ -1,13 +1,6 @@
 use Rattle.std.proofs.{Common.arith, lemmas.Grind.common_steps}
-use Rattle.domain_base.proofs.ScanLemmas.{no_token}
-use Rattle.domain_bitmap.proofs.SaltLemmas.{took_dash, refused_dash, took_digits, refused_digits}
+use Rattle.domain_bitmap.proofs.SaltLemmas.{refused_dash, took_digits}
 use Rattle.domain_bitmap.proofs.hash_scan.Nsec3Salt+O.scan.Goals as goal
-
-pub returns-in_default-clause-err : goal.returns-in_default-clause-err
-returns-in_default-clause-err g c = no_token _ _ _ c.in_default.ensures c.in_default.ensures
-
-pub returns-then-alone-clause-ok : goal.returns-then-alone-clause-ok
-returns-then-alone-clause-ok g c = grind (arith, common_steps, took_dash)
 
 pub returns-then-begins-clause-err : goal.returns-then-begins-clause-err
 returns-then-begins-clause-err g c =
@@ -16,6 +9,3 @@ returns-then-begins-clause-err g c =
 
 pub returns-in-Ok-clause-ok : goal.returns-in-Ok-clause-ok
 returns-in-Ok-clause-ok g c = grind (arith, common_steps, took_digits)
-
-pub returns-in-Err-clause-err : goal.returns-in-Err-clause-err
-returns-in-Err-clause-err g c = grind (arith, common_steps, refused_digits)
