@@ -47,13 +47,15 @@ in_blocks types t a (suc n) low high =
           in_list-other a _ (blocks_from types (a + 1) n) t h.1 ∙ in_blocks types t (a + 1) n (omega (arith, h.1)) (omega arith)
     ]
 
+pub blocks_of-bitmap_octets : (types : ℕ → Bool) → blocks_of (bitmap_octets types) ≡ blocks_from types 0 256
+unfolding bitmap_octets
+blocks_of-bitmap_octets types = ap blocks_of (sym (octets_of_blocks-blocks_from types 0 256)) ∙ blocks_of-octets_of_blocks (blocks_from types 0 256)
+
 -- a built bitmap has the types that it was built of
 pub contains_type-bitmap_octets : (types : ℕ → Bool) (t : ℕ) → t < 65536 → contains_type (bitmap_octets types) t ≡ types t
-unfolding contains_type bitmap_octets
+unfolding contains_type
 contains_type-bitmap_octets types t small =
-    ap (λ o. in_first_block (blocks_of o) t) (sym (octets_of_blocks-blocks_from types 0 256))
-    ∙ ap (λ bs. in_first_block bs t) (blocks_of-octets_of_blocks (blocks_from types 0 256))
-    ∙ in_blocks types t 0 256 (omega arith) (omega arith)
+    ap (λ blocks. in_first_block blocks t) (blocks_of-bitmap_octets types) ∙ in_blocks types t 0 256 (omega arith) (omega arith)
 
 pub bitmap_octets-exact : (p q : ℕ → Bool) → bitmap_octets p ≡ bitmap_octets q → (t : ℕ) → t < 65536 → p t ≡ q t
 bitmap_octets-exact p q same t small =
@@ -91,10 +93,6 @@ types_of_blocks types m a (suc n) all =
     let rest : flat_map (λ b. block_types_from b 0) (blocks_from types (a + 1) n)
     ≡ filter types (range_with_len (m * a + m) (m * n)) = rw (← next) (types_of_blocks types m (a + 1) n all) in
     flat_map-append _ (block_list a xs) (blocks_from types (a + 1) n) ∙ rw (list, rest, count) (filter_append types (m * a) m (m * n))
-
-pub blocks_of-bitmap_octets : (types : ℕ → Bool) → blocks_of (bitmap_octets types) ≡ blocks_from types 0 256
-unfolding bitmap_octets
-blocks_of-bitmap_octets types = ap blocks_of (sym (octets_of_blocks-blocks_from types 0 256)) ∙ blocks_of-octets_of_blocks (blocks_from types 0 256)
 
 -- the bits of a built bitmap are its types in ascending order
 pub types_of-bitmap_octets : (types : ℕ → Bool) (m n : ℕ) → m ≡ 256 → n ≡ m * m → types_of (bitmap_octets types) ≡ types_below n types
