@@ -1,5 +1,5 @@
 -- octets after an octet that counts them
-use Rattle.std.proofs.{Common.{true, false, inl, inr, ◌≤◌, ◌≡◌, ℕ, ◌<◌, List, length, ap, refl, arith}}
+use Rattle.std.proofs.{Common.{true, false, inr, ◌≤◌, ◌≡◌, ℕ, ◌<◌, List, length, ap, refl, arith}}
 use Rattle.std.{proofs.lemmas.Grind.common_steps, specs.Prelude.{◌↔◌, Option, Result, Ok, IsErrOf}}
 use Rattle.domain_names.specs.{declared.error.ScanError.{ScanError, TheVariants.ShortBuf}, TextFault.{ScanFault, illegal}}
 use Rattle.domain_octets.specs.Limit.{HasRoom}
@@ -23,9 +23,13 @@ refused_too_long codec long limit old new octets x r is took no_room counted =
     let over : 255 < length octets = grind (arith, common_steps) in
     rw took.first (refused took.token new (illegal long) (inr (record { octets = octets; decoded = took.holds; room = room; long = over }, refl)))
 
+counted_fault : (codec : Codec) (long : List ℕ) (limit : Option ℕ) (fault : ScanFault) (token : List ℕ)
+    → CodecFault codec limit fault token → CountedFault codec long limit fault token
+counted_fault codec long limit fault token bad = grind (arith, common_steps)
+
 -- a token that the codec refused
 pub refused_by_codec : (codec : Codec) (long : List ℕ) (limit : Option ℕ) (old new : List (List ℕ)) (fault : ScanFault)
     → RefusesToken (CodecFault codec limit) old new fault → RefusesToken (CountedFault codec long limit) old new fault
 refused_by_codec codec long limit old new fault ended = ended
 refused_by_codec codec long limit old new fault (refused token left why_fault why) =
-    refused token left why_fault (inl why)
+    refused token left why_fault (counted_fault codec long limit why_fault token why)

@@ -9,8 +9,10 @@ use Rattle.domain_bitmap.specs.HashText.{StandsForTooMany}
 -- why a token stands for no octets that have this limit, or, with a text of its own, for over 255
 -- that have room
 abbrev pub CountedFault : Codec → Octets → Option ℕ → ScanFault → Token → Type 0
-CountedFault codec long limit fault token =
-    CodecFault codec limit fault token ⊎ (StandsForTooMany codec limit token × (fault ≡ illegal long))
+CountedFault codec long limit (illegal said) token =
+    CodecFault codec limit (illegal said) token
+    ⊎ (StandsForTooMany codec limit token × (said ≡ long))
+CountedFault codec long limit fault token = CodecFault codec limit fault token
 
 -- the token begins with a dash
 abbrev pub BeginsWithDash : Token → Type 0
