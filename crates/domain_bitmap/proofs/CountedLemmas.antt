@@ -11,8 +11,6 @@ use Rattle.domain_bitmap.specs.{HashScan.CountedFault, Counted.IsCutShort}
 pub cut_at_length : (left : List ℕ) → length left < 1 → IsCutShort left
 cut_at_length left none octets after is = omega (arith, none, ap length is)
 
-pub ruleset counted_steps = (cut_at_length)
-
 -- a token that was read had room: it is refused where it stands for too many octets
 pub refused_too_long : {X : Type 0} (codec : Codec) (long : List ℕ) (limit : Option ℕ) (old new : List (List ℕ)) (octets : List ℕ) (x : X)
     (r : Result X ScanError) → r ≡ Ok x → TakesToken (λ token. Decodes codec token octets) old new

@@ -41,10 +41,6 @@ room-more types t small new =
     (type_in-more types t (t / 256) ∙ rw (eq-eqb (t / 256) (t / 256) refl) refl) in
     omega (arith, more)
 
-room-none : 0 ≡ room_for []
-unfolding room_for has_type_in
-room-none = refl
-
 room-step_at : (types : List ℕ) (t : ℕ) (value after : List ℕ) (known : Bool) → has_type_in types (t / 256) ≡ known
     → length value ≡ room_for types → t < 65536 → length after ≡ (if known then length value else length value + 34)
     → length after ≡ room_for (types ++ t ∷ [])
@@ -66,23 +62,16 @@ pub record Scanned (old now : List (List ℕ)) (value : List ℕ) : Type 0 where
   pub windows : (w : ℕ) → has_window value w ≡ has_type_in types w
   pub room : length value ≡ room_for types
 
-holds-none : (t : ℕ) → holds [] t ≡ is_among [] t
-unfolding holds is_among
-holds-none t = refl
-
-has_window-none : (w : ℕ) → has_window [] w ≡ has_type_in [] w
-unfolding has_window has_type_in
-has_window-none w = refl
-
 pub scan_starts : (tokens : List (List ℕ)) (value : List ℕ) → value ≡ [] → Scanned tokens tokens value
+unfolding holds has_window is_among has_type_in room_for
 scan_starts tokens value none = record {
   taken = [];
   types = [];
   parts = refl;
   spelled = no_types;
-  held = λ t small. rw none (holds-none t);
-  windows = λ w. rw none (has_window-none w);
-  room = rw none room-none;
+  held = λ t small. rw none refl;
+  windows = λ w. rw none refl;
+  room = rw none refl;
 }
 
 pub scan_goes : (old now rest : List (List ℕ)) (value after : List ℕ) (token : List ℕ) (t : ℕ) → Scanned old now value
