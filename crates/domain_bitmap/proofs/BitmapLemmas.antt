@@ -42,14 +42,11 @@ window_octets-same : (p q : ℕ → Bool) (w : ℕ) → ((t : ℕ) → t / 256 �
 window_octets-same p q w same =
     grind (arith, common_steps, window_octets-is, bounded, get_or-window_octets, bit_of-octet_with, in_window, (length-window_octets q w), (bounded q w))
 
-window_block-same : (p q : ℕ → Bool) (w : ℕ) → ((t : ℕ) → t / 256 ≡ w → p t ≡ q t) → window_block p w ≡ window_block q w
-unfolding window_block
-window_block-same p q w same = ap (λ xs. block_with w (trimmed xs)) (window_octets-same p q w same)
-
 -- tests that agree on all types have the same octets
 pub bitmap_octets-same : (p q : ℕ → Bool) → ((t : ℕ) → t < 65536 → p t ≡ q t) → bitmap_octets p ≡ bitmap_octets q
-unfolding bitmap_octets
-bitmap_octets-same p q same = flat_same _ _ 256 (λ w below. window_block-same p q w (λ t of_window. same t (omega arith)))
+unfolding bitmap_octets window_block
+bitmap_octets-same p q same = flat_same _ _ 0 256
+    (λ w low below. ap (λ xs. block_with w (trimmed xs)) (window_octets-same p q w (λ t of_window. same t (omega arith))))
 
 -- the block of a window, if it has types
 unfoldable pub block_list : ℕ → List ℕ → List Block
@@ -113,3 +110,5 @@ length-window_block types w = grind (arith, common_steps, length-block_with, len
 pub length-bitmap_octets : (types : ℕ → Bool) → length (bitmap_octets types) ≤ 8704
 unfolding bitmap_octets
 length-bitmap_octets types = flat_length (window_block types) 34 0 256 (length-window_block types)
+
+pub ruleset built_steps = (bitmap_octets-same, IsBitmap-bitmap_octets)

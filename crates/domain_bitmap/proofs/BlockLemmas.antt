@@ -1,66 +1,80 @@
 -- octets read as blocks
-use Rattle.std.proofs.Common.{◌≡◌, ℕ, zero, suc, ◌+◌, ◌-◌, ◌*◌, ◌/◌, ◌%◌, ◌<◌, ◌≤◌, ◌≢◌, true, false, List, [], ◌∷◌, length, slice_index, get_or, take, drop}
-use Rattle.std.proofs.{Common.{refl, sym, ap, ◌∙◌, subst, arith, length-append}, lemmas.List.{take_at, drop_at, Elements.{All-append, All-nil}}}
+use Rattle.std.proofs.Common.{◌≡◌, ℕ, zero, suc, ◌+◌, ◌-◌, ◌*◌, ◌/◌, ◌%◌, ◌^◌, ◌<◌, ◌≤◌, ◌≢◌, true, false, List, [], ◌∷◌, ◌++◌, length, slice_index, get_or}
+use Rattle.std.proofs.Common.{take, drop}
+use Rattle.std.proofs.{Common.{refl, sym, ap, ◌∙◌, subst, arith, length-drop}, lemmas.List.{drop_at, length-take, Elements.{All-append, All-nil}}}
 use Rattle.std.{proofs.lemmas.Grind.common_steps, specs.List.{AllByRecursion, flat_map}}
 use Rattle.domain_octets.specs.Words.{AreOctets}
-use Rattle.domain_bitmap.proofs.{RangeLemmas.filter_none, BitLemmas.bit_of-zero}
+use Rattle.domain_bitmap.proofs.{RangeLemmas.filter_none, BitLemmas.{bit_of-zero, bit_of-shl}}
 use Rattle.domain_bitmap.specs.Blocks.{Block, IsBlock, octets_of_blocks, blocks_within, blocks_of, IsBitmap, block_types_from, types_from, types_of}
-use Rattle.domain_bitmap.specs.{Blocks.contains_type, Bits.{bit_of, AreClear, IsFirstBit, has_bit}}
+use Rattle.domain_bitmap.specs.{Blocks.contains_type, Bits.{bit_of, has_bit}}
 
-blocks_within-octets_of_blocks : (blocks : List Block) (n : ℕ) → length (octets_of_blocks blocks) ≤ n → blocks_within n (octets_of_blocks blocks) ≡ blocks
+-- as many steps as there are octets are enough
+blocks_within-same : (m n : ℕ) (octets : List ℕ) → length octets ≤ m → length octets ≤ n → blocks_within m octets ≡ blocks_within n octets
 unfolding blocks_within
-blocks_within-octets_of_blocks [] zero fits = refl
-blocks_within-octets_of_blocks [] (suc n) fits = refl
-blocks_within-octets_of_blocks (block ∷ blocks) zero fits = absurd (omega (arith, fits))
-blocks_within-octets_of_blocks (block ∷ blocks) (suc n) fits =
-    grind (arith, common_steps, (blocks_within-octets_of_blocks blocks n (omega (arith, fits, length-append block.octets (octets_of_blocks blocks)))))
+blocks_within-same m n [] enough also = refl
+blocks_within-same m n (window ∷ []) enough also = refl
+blocks_within-same zero n (window ∷ len ∷ octets) enough also = absurd (omega (arith, enough))
+blocks_within-same (suc m) zero (window ∷ len ∷ octets) enough also = absurd (omega (arith, also))
+blocks_within-same (suc m) (suc n) (window ∷ len ∷ octets) enough also =
+    let short = length-drop len octets in
+    ap (λ blocks. record { window = window; octets = take len octets } ∷ blocks)
+    (blocks_within-same m n (drop len octets) (omega (arith, enough, short)) (omega (arith, also, short)))
 
-pub add_two : (n : ℕ) → n + 2 ≡ suc (suc n)
-add_two n = omega arith
+pub blocks_of-cons : (window len : ℕ) (octets : List ℕ)
+    → blocks_of (window ∷ len ∷ octets) ≡ record { window = window; octets = take len octets } ∷ blocks_of (drop len octets)
+unfolding blocks_of blocks_within
+blocks_of-cons window len octets =
+    ap (λ blocks. record { window = window; octets = take len octets } ∷ blocks)
+    (blocks_within-same (suc (length octets)) _ (drop len octets) (omega (arith, length-drop len octets)) (omega arith))
+
+pub nothing_at : (octets : List ℕ) → length octets < 2 → blocks_of octets ≡ []
+unfolding blocks_of blocks_within
+nothing_at [] short = refl
+nothing_at (window ∷ []) short = refl
+nothing_at (window ∷ len ∷ octets) short = absurd (omega (arith, short))
 
 -- the blocks are read back
 pub blocks_of-octets_of_blocks : (blocks : List Block) → blocks_of (octets_of_blocks blocks) ≡ blocks
-unfolding blocks_of
-blocks_of-octets_of_blocks blocks = blocks_within-octets_of_blocks blocks (length (octets_of_blocks blocks)) (omega arith)
+blocks_of-octets_of_blocks [] = nothing_at [] (omega arith)
+blocks_of-octets_of_blocks (block ∷ blocks) = grind (arith, common_steps, blocks_of-cons, (blocks_of-octets_of_blocks blocks))
 
 pub IsBitmap-octets_of_blocks : (blocks : List Block) → AllByRecursion IsBlock blocks → IsBitmap (octets_of_blocks blocks)
 IsBitmap-octets_of_blocks blocks valid = grind (arith, common_steps, blocks_of-octets_of_blocks)
 
--- octets that begin with a block
-pub record HasBlock (octets : List ℕ) : Type 0 where
-  pub headed : 1 < length octets
-  pub inside : get_or octets 1 0 + 2 ≤ length octets
-  pub blocks : blocks_of octets ≡ record {
-    window = get_or octets 0 0;
-    octets = take (get_or octets 1 0) (drop 2 octets);
-  } ∷ blocks_of (drop (get_or octets 1 0 + 2) octets)
-  pub first : IsBlock (record { window = get_or octets 0 0; octets = take (get_or octets 1 0) (drop 2 octets) })
-  pub rest : IsBitmap (drop (get_or octets 1 0 + 2) octets)
+-- octets are the first two and the rest
+pub headed : (octets : List ℕ) → 2 ≤ length octets → octets ≡ get_or octets 0 0 ∷ get_or octets 1 0 ∷ drop 2 octets
+headed octets two = grind (arith, common_steps)
 
-block_from : (blocks : List Block) → AllByRecursion IsBlock blocks → 0 < length (octets_of_blocks blocks) → HasBlock (octets_of_blocks blocks)
-block_from [] valid some = absurd (omega (arith, some))
-block_from (block ∷ blocks) valid some =
-    let more = length-append block.octets (octets_of_blocks blocks) in
-    let front = take_at block.octets (octets_of_blocks blocks) (length block.octets) refl in
-    let after : drop (length block.octets + 2) (octets_of_blocks (block ∷ blocks))
-    ≡ octets_of_blocks blocks = rw (add_two (length block.octets))
-    (drop_at block.octets (octets_of_blocks blocks) (length block.octets) refl) in
+-- octets that begin with a block
+pub record HasBlock (window len : ℕ) (octets : List ℕ) : Type 0 where
+  pub inside : len ≤ length octets
+  pub first : IsBlock (record { window = window; octets = take len octets })
+  pub rest : IsBitmap (drop len octets)
+
+pub block_at : (window len : ℕ) (octets : List ℕ) → IsBitmap (window ∷ len ∷ octets) → HasBlock window len octets
+block_at window len octets bitmap =
+    let blocks = blocks_of-cons window len octets in
+    let spelled = bitmap.spelled ∙ ap octets_of_blocks blocks in
+    let valid = subst (AllByRecursion IsBlock) blocks bitmap.valid in
+    let count : length (take len octets) ≡ len = cc in
+    let parts : octets ≡ take len octets ++ octets_of_blocks (blocks_of (drop len octets)) = cc in
     record {
-      headed = omega (arith, more);
-      inside = omega (arith, more);
-      blocks = rw (after, front, blocks_of-octets_of_blocks blocks) (blocks_of-octets_of_blocks (block ∷ blocks));
-      first = rw front valid.0;
-      rest = rw after (IsBitmap-octets_of_blocks blocks valid.1);
+      inside = omega (arith, count, length-take len octets);
+      first = valid.0;
+      rest = record { spelled = ap (drop len) parts ∙ drop_at (take len octets) _ len count; valid = valid.1 };
     }
 
-pub block_at : (octets : List ℕ) → IsBitmap octets → 0 < length octets → HasBlock octets
-block_at octets bitmap some = grind (arith, common_steps, block_from)
+pub block_before : (window len : ℕ) (octets : List ℕ) → HasBlock window len octets → IsBitmap (window ∷ len ∷ octets)
+block_before window len octets has = grind (arith, common_steps, blocks_of-cons)
 
-pub nothing_at : (octets : List ℕ) → length octets ≡ 0 → blocks_of octets ≡ []
-unfolding blocks_of blocks_within
-nothing_at octets none = rw none refl
+pub block_in : (octets : List ℕ) → IsBitmap octets → 2 ≤ length octets → HasBlock (get_or octets 0 0) (get_or octets 1 0) (drop 2 octets)
+block_in octets bitmap two = block_at _ _ _ (subst IsBitmap (headed octets two) bitmap)
 
-pub ruleset block_reads = (block_at, nothing_at)
+pub blocks_in : (octets : List ℕ) → 2 ≤ length octets → blocks_of octets
+    ≡ record { window = get_or octets 0 0; octets = take (get_or octets 1 0) (drop 2 octets) } ∷ blocks_of (drop (get_or octets 1 0) (drop 2 octets))
+blocks_in octets two = ap blocks_of (headed octets two) ∙ blocks_of-cons _ _ _
+
+pub ruleset block_reads = (block_in, nothing_at, blocks_in)
 
 -- the types of a block, place by place
 pub types_step : (block : Block) (place : ℕ) → place < 256 → has_bit block.octets (256 * block.window + place) ≡ true
@@ -92,34 +106,18 @@ clear_run block place (suc n) fits clear =
     ∙ clear_run block (place + 1) n (omega (arith, fits)) (λ k low high. clear k (omega (arith, low)) (omega (arith, high)))
     ∙ ap (block_types_from block) moved
 
--- the bits of the octet at a place, from the place on and before another, are not set
-clear_in : (octets : List ℕ) (w place bit : ℕ) → place < 256 → place % 8 ≤ bit → bit ≤ 8
-    → AreClear (slice_index octets (place / 8)) (place % 8) bit
-    → block_types_from (record { window = w; octets = octets }) place
-    ≡ block_types_from (record { window = w; octets = octets }) (place / 8 * 8 + bit)
-clear_in octets w place bit inside low high clear =
-    let moved : place + (bit - place % 8) ≡ place / 8 * 8 + bit = omega (arith, low) in
-    clear_run (record { window = w; octets = octets }) place _ (omega (arith, inside, high, low)) (λ k from to.
-    let octet : k / 8 ≡ place / 8 = omega (arith, from, to, high, low) in
-    let kept : bit_of (slice_index octets (k / 8)) (k % 8) ≡ false
-    = rw octet (clear (k % 8) (omega (arith, from, to, high, low)) (omega (arith, from, to, high, low))) in
-    bit_in octets w k (omega (arith, to, inside, high, low)) ∙ kept) ∙ ap (block_types_from (record { window = w; octets = octets })) moved
-
-pub found_at : (octets : List ℕ) (place bit : ℕ) → place < 256 → bit < 8 → IsFirstBit (slice_index octets (place / 8)) (place % 8) bit → (w : ℕ)
-    → block_types_from (record { window = w; octets = octets }) place
-    ≡ (256 * w + (place / 8 * 8 + bit)) ∷ block_types_from (record { window = w; octets = octets }) (place / 8 * 8 + bit + 1)
-found_at octets place bit inside small first w =
-    let found = place / 8 * 8 + bit in
-    let octet : found / 8 ≡ place / 8 = omega (arith, small) in
-    let within : found % 8 ≡ bit = omega (arith, small) in
-    clear_in octets w place bit inside first.low (omega (arith, small)) first.before
-    ∙ types_step (record { window = w; octets = octets }) found (omega (arith, inside, small))
-    (bit_in octets w found (omega (arith, inside, small)) ∙ rw (octet, within) first.set)
-
-pub clear_at : (octets : List ℕ) (place : ℕ) → place < 256 → AreClear (slice_index octets (place / 8)) (place % 8) 8 → (w : ℕ)
+-- what is left of an octet has no bits
+pub clear_at : (octets : List ℕ) (w place : ℕ) → place < 256 → get_or octets (place / 8) 0 * 2 ^ (place % 8) % 2 ^ 8 ≡ 0
     → block_types_from (record { window = w; octets = octets }) place
     ≡ block_types_from (record { window = w; octets = octets }) (place / 8 * 8 + 8)
-clear_at octets place inside clear w = clear_in octets w place 8 inside (omega arith) (omega arith) clear
+clear_at octets w place inside none =
+    let moved : place + (8 - place % 8) ≡ place / 8 * 8 + 8 = omega arith in
+    clear_run (record { window = w; octets = octets }) place _ (omega (arith, inside)) (λ k from to.
+    let octet : k / 8 ≡ place / 8 = omega (arith, from, to) in
+    let bit : place % 8 + (k - place) ≡ k % 8 = omega (arith, from, to) in
+    let kept : bit_of (slice_index octets (place / 8)) (k % 8) ≡ false
+    = rw (← bit) (sym (bit_of-shl (slice_index octets (place / 8)) (place % 8) (k - place) (omega (arith, from, to))) ∙ rw none (bit_of-zero (k - place))) in
+    bit_in octets w k (omega (arith, to, inside)) ∙ rw octet kept) ∙ ap (block_types_from (record { window = w; octets = octets })) moved
 
 types_from-blocks : (blocks : List Block) → types_from blocks 0 ≡ flat_map (λ block. block_types_from block 0) blocks
 types_from-blocks [] = refl

@@ -51,22 +51,18 @@ cut_here [] start octets place end d inside = absurd (omega (arith, inside))
 cut_here (next ∷ ends) start octets zero end d inside = refl
 cut_here (next ∷ ends) start octets (suc place) end d inside = cut_here ends next octets place end d (omega (arith, inside))
 
-record LiesWithin (len start end : ℕ) : Type 0 where
-  pub ordered : start ≤ end
-  pub inside : end ≤ len
-
 end_here : (len : ℕ) (ends : List ℕ) (start place end : ℕ) → EndAt len ends start → place < length ends
-    → LiesWithin len (get_or (start ∷ ends) place 0) (get_or ends place end)
+    → (get_or (start ∷ ends) place 0 ≤ get_or ends place end) × (get_or ends place end ≤ len)
 end_here len [] start place end is inside = absurd (omega (arith, inside))
-end_here len (next ∷ ends) start zero end is inside = record { ordered = is.0; inside = end_high len ends next is.1 }
+end_here len (next ∷ ends) start zero end is inside = (is.0, end_high len ends next is.1)
 end_here len (next ∷ ends) start (suc place) end is inside = end_here len ends next place end is.1 (omega (arith, inside))
 
 -- its octets begin at the end before it
 pub part_ordered : (ends octets : List ℕ) (place end : ℕ) → AreBitmaps ends octets → place < length ends → get_or (0 ∷ ends) place 0 ≤ get_or ends place end
-part_ordered ends octets place end are inside = (end_here (length octets) ends 0 place end are.whole inside).ordered
+part_ordered ends octets place end are inside = (end_here (length octets) ends 0 place end are.whole inside).0
 
 pub part_inside : (ends octets : List ℕ) (place end : ℕ) → AreBitmaps ends octets → place < length ends → get_or ends place end ≤ length octets
-part_inside ends octets place end are inside = (end_here (length octets) ends 0 place end are.whole inside).inside
+part_inside ends octets place end are inside = (end_here (length octets) ends 0 place end are.whole inside).1
 
 pub part_is : (ends octets : List ℕ) (place end : ℕ) (d : List ℕ) → place < length ends
     → slice_range octets (get_or (0 ∷ ends) place 0) (get_or ends place end) ≡ get_or (cut_at ends 0 octets) place d
@@ -78,3 +74,5 @@ part_bitmap ends octets place end are inside =
     rw (part_is ends octets place end [] inside) (All-get_or IsBitmap (cut_at ends 0 octets) place [] (omega (arith, length-cut_at ends 0 octets)) are.bitmaps)
 
 pub ruleset get_steps = (length-cut_at, part_ordered, part_inside, part_is, part_bitmap)
+
+pub ruleset push_steps = (cut_pushed, AreBitmaps-push)

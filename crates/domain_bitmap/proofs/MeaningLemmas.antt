@@ -4,7 +4,8 @@ use Rattle.std.proofs.{Common.{add-one, add_comm}, Math.Nat.mul-suc, lemmas.{Lis
 use Rattle.std.{proofs.lemmas.Grind.common_steps, specs.{Prelude.filter, List.{range_with_len, flat_map}}}
 use Rattle.domain_bitmap.proofs.{RangeLemmas.{filter_same, filter_none, filter_append}, BitLemmas.{bit_of-octet_with, bit_of-zero}, TrimLemmas.get_or-trimmed}
 use Rattle.domain_bitmap.proofs.BlockLemmas.{blocks_of-octets_of_blocks}
-use Rattle.domain_bitmap.proofs.BitmapLemmas.{block_list, blocks_from, octets_of_blocks-blocks_from, get_or-window_octets}
+use Rattle.domain_bitmap.proofs.BitmapLemmas.{block_list, blocks_from, octets_of_blocks-blocks_from, get_or-window_octets, bitmap_octets-same}
+use Rattle.domain_bitmap.proofs.BitmapLemmas.{length-bitmap_octets}
 use Rattle.domain_bitmap.specs.{Bits.has_bit, Bitmap.{window_octets, trimmed, bitmap_octets}}
 use Rattle.domain_bitmap.specs.Blocks.{Block, blocks_of, in_first_block, contains_type, block_types_from, types_of, types_below}
 
@@ -46,13 +47,15 @@ in_blocks types t a (suc n) low high =
           in_list-other a _ (blocks_from types (a + 1) n) t h.1 ∙ in_blocks types t (a + 1) n (omega (arith, h.1)) (omega arith)
     ]
 
+pub blocks_of-bitmap_octets : (types : ℕ → Bool) → blocks_of (bitmap_octets types) ≡ blocks_from types 0 256
+unfolding bitmap_octets
+blocks_of-bitmap_octets types = ap blocks_of (sym (octets_of_blocks-blocks_from types 0 256)) ∙ blocks_of-octets_of_blocks (blocks_from types 0 256)
+
 -- a built bitmap has the types that it was built of
 pub contains_type-bitmap_octets : (types : ℕ → Bool) (t : ℕ) → t < 65536 → contains_type (bitmap_octets types) t ≡ types t
-unfolding contains_type bitmap_octets
+unfolding contains_type
 contains_type-bitmap_octets types t small =
-    ap (λ o. in_first_block (blocks_of o) t) (sym (octets_of_blocks-blocks_from types 0 256))
-    ∙ ap (λ bs. in_first_block bs t) (blocks_of-octets_of_blocks (blocks_from types 0 256))
-    ∙ in_blocks types t 0 256 (omega arith) (omega arith)
+    ap (λ blocks. in_first_block blocks t) (blocks_of-bitmap_octets types) ∙ in_blocks types t 0 256 (omega arith) (omega arith)
 
 pub bitmap_octets-exact : (p q : ℕ → Bool) → bitmap_octets p ≡ bitmap_octets q → (t : ℕ) → t < 65536 → p t ≡ q t
 bitmap_octets-exact p q same t small =
@@ -91,10 +94,6 @@ types_of_blocks types m a (suc n) all =
     ≡ filter types (range_with_len (m * a + m) (m * n)) = rw (← next) (types_of_blocks types m (a + 1) n all) in
     flat_map-append _ (block_list a xs) (blocks_from types (a + 1) n) ∙ rw (list, rest, count) (filter_append types (m * a) m (m * n))
 
-pub blocks_of-bitmap_octets : (types : ℕ → Bool) → blocks_of (bitmap_octets types) ≡ blocks_from types 0 256
-unfolding bitmap_octets
-blocks_of-bitmap_octets types = ap blocks_of (sym (octets_of_blocks-blocks_from types 0 256)) ∙ blocks_of-octets_of_blocks (blocks_from types 0 256)
-
 -- the bits of a built bitmap are its types in ascending order
 pub types_of-bitmap_octets : (types : ℕ → Bool) (m n : ℕ) → m ≡ 256 → n ≡ m * m → types_of (bitmap_octets types) ≡ types_below n types
 unfolding types_of types_below
@@ -102,3 +101,5 @@ types_of-bitmap_octets types m n all whole =
     let none : m * 0 ≡ 0 = omega arith in
     ap (λ blocks. flat_map (λ b. block_types_from b 0) blocks) (blocks_of-bitmap_octets types ∙ ap (blocks_from types 0) (sym all))
     ∙ types_of_blocks types m 0 m all ∙ rw (none, whole) refl
+
+pub ruleset type_laws = (contains_type-bitmap_octets, types_of-bitmap_octets, length-bitmap_octets)

@@ -1,19 +1,12 @@
 -- blocks put in order
-use Rattle.std.proofs.Common.{◌≡◌, ℕ, zero, suc, ◌+◌, ◌-◌, ◌*◌, ◌/◌, ◌%◌, ◌<◌, ◌≤◌, max, Bool, true, false, List, [], ◌∷◌, ◌++◌, length, get_or, take, drop}
-use Rattle.std.proofs.{Common.{refl, sym, ap, ◌∙◌, inl, inr, arith, add-one, add-zero, set}, lemmas.Nat.Bits.{bit_at_or, bit_at-lt}}
+use Rattle.std.proofs.Common.{◌≡◌, ℕ, zero, suc, ◌+◌, ◌*◌, ◌/◌, ◌%◌, ◌<◌, ◌≤◌, Bool, true, false, List, [], ◌∷◌, length, get_or, take, drop}
+use Rattle.std.proofs.{Common.{refl, sym, ap, ◌∙◌, inl, inr, arith, set}}
 use Rattle.std.proofs.lemmas.{List.{get_or-take, get_or-drop, length-take, length-drop}, Bool.Decides.eqb_tells, Grind.common_steps}
-use Rattle.std.specs.{Prelude.{◌||◌, ◌==◌, ◌&&◌, bit_or, nat_lt, if◌then◌else◌}, Int.bit_at, List.{range_with_len, list_any}}
+use Rattle.std.specs.{Prelude.{◌==◌, ◌&&◌, bit_or, nat_lt, if◌then◌else◌}, List.{range_with_len, list_any, filter}}
 use Rattle.domain_bitmap.specs.{Bits.bit_of, Bitmap.{window_octets, window_block, block_with, trimmed, bitmap_octets}}
-use Rattle.domain_bitmap.{specs.Builder.{is_of_window, block_holds, has_window, holds}, proofs.RangeLemmas.{any_more, any_suc, any_none, any_at, flat_single}}
-use Rattle.domain_bitmap.proofs.{BitmapLemmas.{window_octets-is, window_block-none}, SlotLemmas.window_absent}
-
-or_bits : (m n : ℕ) → m < 2 → n < 2 → (max m n == 1) ≡ ((m == 1) || (n == 1))
-or_bits m n m_small n_small = grind (arith, common_steps)
-
--- the bits of two octets together
-pub bit_of-or : (x y b : ℕ) → bit_of (bit_or x y) b ≡ (bit_of x b || bit_of y b)
-unfolding bit_of
-bit_of-or x y b = rw (bit_at_or x y (7 - b)) (or_bits (bit_at x (7 - b)) (bit_at y (7 - b)) (bit_at-lt x (7 - b)) (bit_at-lt y (7 - b)))
+use Rattle.domain_bitmap.{specs.Builder.{is_of_window, block_holds, has_window, holds}}
+use Rattle.domain_bitmap.{proofs.RangeLemmas.{range_more, filter_none, filter_one_more, any_more, any_suc, any_none, any_at, flat_single}}
+use Rattle.domain_bitmap.proofs.{BitLemmas.bit_of-or, BitmapLemmas.{window_octets-is, window_block-none}, SlotLemmas.window_absent}
 
 -- a window that has no block has no types
 no_block : (value : List ℕ) (w : ℕ) → has_window value w ≡ false → (j : ℕ) → j < length value / 34 → is_of_window value w j ≡ false
@@ -28,65 +21,26 @@ pub holds-absent : (value : List ℕ) (w : ℕ) → has_window value w ≡ false
 unfolding holds
 holds-absent value w absent t of_window = grind (arith, common_steps, any_none, no_block)
 
--- how many numbers below n pass a test
-unfoldable pub tally : (ℕ → Bool) → ℕ → ℕ
-tally p zero = 0
-tally p (suc n) = tally p n + (if p n then 1 else 0)
+-- how many windows below n have a block
+abbrev pub count : List ℕ → ℕ → ℕ
+count value n = length (filter (has_window value) (range_with_len 0 n))
 
-pub tally-more : (p : ℕ → Bool) (n : ℕ) → p n ≡ true → tally p (n + 1) ≡ tally p n + 1
-unfolding tally
-tally-more p n passes = rw (add-one, passes) refl
-
-pub tally-less : (p : ℕ → Bool) (n : ℕ) → p n ≡ false → tally p (n + 1) ≡ tally p n
-unfolding tally
-tally-less p n fails = rw (add-one, fails) (add-zero (tally p n))
-
-tally-same : (p q : ℕ → Bool) (n : ℕ) → ((j : ℕ) → p j ≡ q j) → tally p n ≡ tally q n
-unfolding tally
-tally-same p q n same = grind (arith, common_steps)
-
-one_of : (a b : Bool) → (if a || b then 1 else 0) ≤ (if a then 1 else 0) + (if b then 1 else 0)
-one_of a b = grind (arith, common_steps)
-
-tally-or : (p q : ℕ → Bool) (n : ℕ) → tally (λ j. p j || q j) n ≤ tally p n + tally q n
-unfolding tally
-tally-or p q zero = omega arith
-tally-or p q (suc n) = omega (arith, tally-or p q n, one_of (p n) (q n))
-
-tally-none : (c n : ℕ) → n ≤ c → tally (λ j. c == j) n ≡ 0
-unfolding tally
-tally-none c zero below = refl
-tally-none c (suc n) below = grind (arith, common_steps, (tally-none c n (omega arith)))
-
-tally-one : (c n : ℕ) → tally (λ j. c == j) n ≤ 1
-unfolding tally
-tally-one c zero = omega arith
-tally-one c (suc n) = grind (arith, common_steps, tally-none, (tally-one c n))
-
-tally-absent : (n : ℕ) → tally (λ j. false) n ≡ 0
-unfolding tally
-tally-absent zero = refl
-tally-absent (suc n) = rw (tally-absent n) refl
+pub count-more : (value : List ℕ) (n : ℕ) → count value (n + 1) ≡ count value n + (if has_window value n then 1 else 0)
+count-more value n = grind (arith, common_steps, range_more)
 
 -- k blocks are of k windows at most
-tally-blocks : (value : List ℕ) (k n : ℕ) → tally (λ w. list_any (is_of_window value w) (range_with_len 0 k)) n ≤ k
-tally-blocks value zero n = omega (arith, tally-absent n)
-tally-blocks value (suc k) n =
-    let split = tally-same _ _ n (λ w. any_suc (is_of_window value w) k) in
-    let parts = tally-or (λ w. list_any (is_of_window value w) (range_with_len 0 k)) (λ w. is_of_window value w k) n in
-    omega (arith, split, parts, tally-blocks value k n, tally-one (get_or value (34 * k) 0) n)
+abbrev within : List ℕ → ℕ → ℕ → Bool
+within value k w = list_any (is_of_window value w) (range_with_len 0 k)
 
-pub tally-has_window : (value : List ℕ) (n : ℕ) → tally (has_window value) n ≤ length value / 34
+count-blocks : (value : List ℕ) (k n : ℕ) → length (filter (within value k) (range_with_len 0 n)) ≤ k
+count-blocks value zero n = omega (arith, ap length (filter_none (within value 0) 0 n (λ j low high. refl)))
+count-blocks value (suc k) n =
+    let more = filter_one_more (within value k) (within value (suc k)) (get_or value (34 * k) 0) n (λ w other. grind (arith, common_steps, any_suc)) in
+    omega (arith, more, count-blocks value k n)
+
+pub count-has_window : (value : List ℕ) (n : ℕ) → count value n ≤ length value / 34
 unfolding has_window
-tally-has_window value n = tally-blocks value (length value / 34) n
-
--- there is room for the block of a window that is there
-pub room_for : (value : List ℕ) (w : ℕ) → has_window value w ≡ true → tally (has_window value) w + 1 ≤ length value / 34
-room_for value w present = omega (arith, tally-has_window value (w + 1), tally-more (has_window value) w present)
-
--- octets are written at the end of those that stand
-pub front-written : (value s rest : List ℕ) (at n : ℕ) → at ≤ length value → n ≡ at + length s → take n (take at value ++ (s ++ rest)) ≡ take at value ++ s
-front-written value s rest at n inside count = grind (arith, common_steps)
+count-has_window value n = count-blocks value (length value / 34) n
 
 pub block_with-some : (w : ℕ) (xs : List ℕ) → 0 < length xs → block_with w xs ≡ w ∷ length xs ∷ xs
 block_with-some w [] some = absurd (omega (arith, some))

@@ -43,27 +43,26 @@ spelled_once tokens x y no_types no_types = refl
 spelled_once tokens x y (one_more token rest t types text more) (one_more token' rest' u others text' more') =
     grind (arith, common_steps, one_named, (spelled_once rest types others more more'))
 
+-- words, and a type after a space, with what follows it
+next_type : (front : List ℕ) (t : ℕ) (types : List ℕ) → t < 65536
+    → words_of (((front ++ 32 ∷ []) ++ type_text t) ++ spaced_types types) ≡ words_of ((front ++ 32 ∷ []) ++ type_text t) ++ map type_text types
+    → words_of ((front ++ 32 ∷ []) ++ (type_text t ++ spaced_types types)) ≡ words_of front ++ map type_text (t ∷ types)
+next_type front t types small rest =
+    ap words_of (sym (append_assoc (front ++ 32 ∷ []) (type_text t) (spaced_types types))) ∙ rest
+    ∙ ap (λ l. l ++ map type_text types) (next_word front _ (type_word t small)) ∙ append_assoc (words_of front) (type_text t ∷ []) (map type_text types)
+
 -- words, and types that stand after spaces
 pub spaced_words : (front types : List ℕ) → AreTypes types → words_of (front ++ spaced_types types) ≡ words_of front ++ map type_text types
 unfolding spaced_types
 spaced_words front [] small = ap words_of (append-nil front) ∙ sym (append-nil (words_of front))
-spaced_words front (t ∷ types) small =
-    let before = (front ++ 32 ∷ []) ++ type_text t in
-    let parts : front ++ (32 ∷ (type_text t ++ flat_map (λ u. 32 ∷ type_text u) types)) ≡ before ++ flat_map (λ u. 32 ∷ type_text u) types =
-    sym (append_assoc front (32 ∷ []) (type_text t ++ flat_map (λ u. 32 ∷ type_text u) types))
-    ∙ sym (append_assoc (front ++ 32 ∷ []) (type_text t) (flat_map (λ u. 32 ∷ type_text u) types)) in
-    ap words_of parts ∙ spaced_words before types small.1 ∙ ap (λ l. l ++ map type_text types) (next_word front _ (type_word t small.0))
-    ∙ append_assoc (words_of front) (type_text t ∷ []) (map type_text types)
+spaced_words front (t ∷ types) small = ap words_of (sym (append_assoc front (32 ∷ []) (type_text t ++ spaced_types types)))
+    ∙ next_type front t types small.0 (spaced_words ((front ++ 32 ∷ []) ++ type_text t) types small.1)
 
 -- words, and types after a space
 pub types_after : (front types : List ℕ) → AreTypes types → words_of ((front ++ 32 ∷ []) ++ types_text types) ≡ words_of front ++ map type_text types
 unfolding types_text
 types_after front [] small = ap words_of (append-nil (front ++ 32 ∷ [])) ∙ last_space front ∙ sym (append-nil (words_of front))
-types_after front (t ∷ types) small =
-    let before = (front ++ 32 ∷ []) ++ type_text t in
-    ap words_of (sym (append_assoc (front ++ 32 ∷ []) (type_text t) (spaced_types types))) ∙ spaced_words before types small.1
-    ∙ ap (λ l. l ++ map type_text types) (next_word front _ (type_word t small.0))
-    ∙ append_assoc (words_of front) (type_text t ∷ []) (map type_text types)
+types_after front (t ∷ types) small = next_type front t types small.0 (spaced_words ((front ++ 32 ∷ []) ++ type_text t) types small.1)
 
 types_words : (types : List ℕ) → AreTypes types → words_of (types_text types) ≡ map type_text types
 unfolding types_text words_after

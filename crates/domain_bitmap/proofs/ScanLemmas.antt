@@ -1,12 +1,13 @@
 -- types read from tokens
-use Rattle.std.proofs.Common.{◌≡◌, ◌≢◌, ℕ, ◌+◌, ◌*◌, ◌/◌, ◌<◌, Bool, true, false, List, [], ◌∷◌, ◌++◌, length, refl, sym, ap, ◌∙◌, subst, inl, inr, arith}
+use Rattle.std.proofs.Common.{◌≡◌, ◌≢◌, ℕ, ◌+◌, ◌*◌, ◌/◌, ◌<◌, Bool, true, false, List, [], ◌∷◌, ◌++◌, length, refl, sym, ap, ◌∙◌, inl, inr, arith}
 use Rattle.std.proofs.{Common.{eq-eqb, append_assoc}, lemmas.{Bool.Decides.{nat_tests, eqb_tells}, Grind.common_steps}}
-use Rattle.std.specs.Prelude.{◌||◌, ◌==◌, Option, if◌then◌else◌, IsNone, Result, IsErrAnd, IfErr}
+use Rattle.std.specs.Prelude.{◌||◌, ◌==◌, Option, if◌then◌else◌, IsNone}
 use Rattle.domain_base.specs.{Numbers.{TypeText, IsNoType}, Scan.{RefusesToken, ended, refused}}
-use Rattle.domain_names.specs.{TextFault.{ScanFault, scan_fault_of, scan_error_of}, declared.error.ScanError.ScanError}
+use Rattle.domain_names.specs.{TextFault.{ScanFault, scan_fault_of, scan_error_of}}
 use Rattle.domain_octets.specs.{Limit.IsOver, declared.error.AppendError.{AppendError, TheVariants.{ShortBuf, OutOfMemory}}}
 use Rattle.domain_bitmap.specs.Builder.{holds, has_window}
-use Rattle.domain_bitmap.specs.Scan.{TypeTexts, no_types, one_more, is_among, has_type_in, room_for, not_a_type, without_room, without_memory, RefusesTypes}
+use Rattle.domain_bitmap.specs.Scan.{TypeTexts, no_types, one_more, is_among, has_type_in, room_for, not_a_type, without_room, without_memory, TypeFault}
+use Rattle.domain_bitmap.specs.Scan.{RefusesTypes}
 use Rattle.domain_bitmap.proofs.RangeLemmas.{filter_same, filter_more}
 
 texts-more : {taken : List (List ℕ)} {types : List ℕ} (token : List ℕ) (t : ℕ) → TypeTexts taken types → TypeText token t
@@ -40,10 +41,6 @@ room-more types t small new =
     (type_in-more types t (t / 256) ∙ rw (eq-eqb (t / 256) (t / 256) refl) refl) in
     omega (arith, more)
 
-room-none : 0 ≡ room_for []
-unfolding room_for has_type_in
-room-none = refl
-
 room-step_at : (types : List ℕ) (t : ℕ) (value after : List ℕ) (known : Bool) → has_type_in types (t / 256) ≡ known
     → length value ≡ room_for types → t < 65536 → length after ≡ (if known then length value else length value + 34)
     → length after ≡ room_for (types ++ t ∷ [])
@@ -65,23 +62,16 @@ pub record Scanned (old now : List (List ℕ)) (value : List ℕ) : Type 0 where
   pub windows : (w : ℕ) → has_window value w ≡ has_type_in types w
   pub room : length value ≡ room_for types
 
-holds-none : (t : ℕ) → holds [] t ≡ is_among [] t
-unfolding holds is_among
-holds-none t = refl
-
-has_window-none : (w : ℕ) → has_window [] w ≡ has_type_in [] w
-unfolding has_window has_type_in
-has_window-none w = refl
-
 pub scan_starts : (tokens : List (List ℕ)) (value : List ℕ) → value ≡ [] → Scanned tokens tokens value
+unfolding holds has_window is_among has_type_in room_for
 scan_starts tokens value none = record {
   taken = [];
   types = [];
   parts = refl;
   spelled = no_types;
-  held = λ t small. rw none (holds-none t);
-  windows = λ w. rw none (has_window-none w);
-  room = rw none room-none;
+  held = λ t small. rw none refl;
+  windows = λ w. rw none refl;
+  room = rw none refl;
 }
 
 pub scan_goes : (old now rest : List (List ℕ)) (value after : List ℕ) (token : List ℕ) (t : ℕ) → Scanned old now value
@@ -105,17 +95,22 @@ pub scan_ends : (old now : List (List ℕ)) (value : List ℕ) → Scanned old n
     → (types : List ℕ) × TypeTexts old types × ((t : ℕ) → t < 65536 → holds value t ≡ is_among types t)
 scan_ends old now value scanned none = grind (arith, common_steps)
 
-pub scan_refused : (limit : Option ℕ) (old now rest : List (List ℕ)) (value : List ℕ) (fault : ScanFault) → Scanned old now value
-    → now ≢ [] → RefusesToken IsNoType now rest fault → RefusesTypes limit old rest fault
-scan_refused limit old now rest value fault scanned some ended = absurd (some refl)
-scan_refused limit old now rest value fault scanned some (refused token left why_fault why) = record {
+refused_after : (limit : Option ℕ) (old now rest : List (List ℕ)) (value : List ℕ) (token : List ℕ) (fault : ScanFault) (scanned : Scanned old now value)
+    → now ≡ token ∷ rest → TypeFault limit scanned.types fault token → RefusesTypes limit old rest fault
+refused_after limit old now rest value token fault scanned first why = record {
   taken = scanned.taken;
   types = scanned.types;
   token = token;
-  parts = scanned.parts;
+  parts = scanned.parts ∙ ap (λ l. scanned.taken ++ l) first;
   spelled = scanned.spelled;
-  why = not_a_type fault token why;
+  why = why;
 }
+
+pub scan_refused : (limit : Option ℕ) (old now rest : List (List ℕ)) (value : List ℕ) (fault : ScanFault) → Scanned old now value
+    → now ≢ [] → RefusesToken IsNoType now rest fault → RefusesTypes limit old rest fault
+scan_refused limit old now rest value fault scanned some ended = absurd (some refl)
+scan_refused limit old now rest value fault scanned some (refused token left why_fault why) =
+    refused_after limit old now rest value token fault scanned refl (not_a_type fault token why)
 
 -- a type for which the builder has no room, or no memory
 pub scan_full : (limit : Option ℕ) (old now rest : List (List ℕ)) (value : List ℕ) (token : List ℕ) (t : ℕ) (error : AppendError)
@@ -124,30 +119,11 @@ pub scan_full : (limit : Option ℕ) (old now rest : List (List ℕ)) (value : L
     → (error ≡ OutOfMemory → IsNone limit) → RefusesTypes limit old rest (scan_fault_of (scan_error_of error))
 scan_full limit old now rest value token t ShortBuf scanned first spells small short memory =
     let full = short refl in
-    let room : length value + 34 ≡ room_for (scanned.types ++ t ∷ []) = rw (
-      scanned.room,
-      room-more scanned.types t small (sym (scanned.windows (t / 256)) ∙ full.0),
-    ) refl in
-    record {
-      taken = scanned.taken;
-      types = scanned.types;
-      token = token;
-      parts = scanned.parts ∙ ap (λ l. scanned.taken ++ l) first;
-      spelled = scanned.spelled;
-      why = without_room token t spells (subst (IsOver limit) room full.1);
-    }
-scan_full limit old now rest value token t OutOfMemory scanned first spells small short memory = record {
-  taken = scanned.taken;
-  types = scanned.types;
-  token = token;
-  parts = scanned.parts ∙ ap (λ l. scanned.taken ++ l) first;
-  spelled = scanned.spelled;
-  why = without_memory token t spells (memory refl);
-}
+    let room = room-more scanned.types t small (sym (scanned.windows (t / 256)) ∙ full.0) in
+    refused_after limit old now rest value token _ scanned first (without_room token t spells (rw (room, ← scanned.room) full.1))
+scan_full limit old now rest value token t OutOfMemory scanned first spells small short memory =
+    refused_after limit old now rest value token _ scanned first (without_memory token t spells (memory refl))
 
 pub none_left : (tokens : List (List ℕ)) → (tokens ≢ [] → ⊥) → tokens ≡ []
 none_left [] not_some = refl
 none_left (token ∷ tokens) not_some = absurd (not_some (λ e. cc))
-
-pub refused_with : (r : Result (Unit {0}) ScanError) (error : ScanError) (P : ScanError → Type 0) → IsErrAnd r (λ e. e ≡ error) → P error → IfErr r P
-refused_with r error P gives h = grind (arith, common_steps)

@@ -1,7 +1,7 @@
 -- the blocks of 34 octets that a builder holds
-use Rattle.std.proofs.Common.{◌≡◌, ℕ, ◌+◌, ◌-◌, ◌*◌, ◌/◌, ◌%◌, ◌^◌, ◌<◌, ◌≢◌, true, false, List, ◌∷◌, ◌++◌, length, get_or, take, drop, refl, ap, ◌∙◌, inl, inr}
+use Rattle.std.proofs.Common.{◌≡◌, ℕ, ◌+◌, ◌-◌, ◌*◌, ◌/◌, ◌%◌, ◌^◌, ◌<◌, ◌≢◌, true, false, List, ◌∷◌, ◌++◌, length, get_or, refl, ap, inl, inr}
 use Rattle.std.proofs.{Common.{arith, length-append, set, get_or-set_same, get_or-set_other, rules}, lemmas.Bool.Decides.{nat_tests, eqb_tells}}
-use Rattle.std.{proofs.lemmas.{List.{take-set, drop-set, get_or_append_left}, Grind.common_steps}, specs.Prelude.{◌||◌, ◌==◌, bit_or, replicate}}
+use Rattle.std.{proofs.lemmas.{List.{get_or_append_left}, Grind.common_steps}, specs.Prelude.{◌||◌, ◌==◌, bit_or, replicate}}
 use Rattle.domain_octets.proofs.StdLemmas.{and_false}
 use Rattle.domain_bitmap.specs.{Bits.bit_of, Builder.{is_of_window, block_holds, has_window, holds}}
 use Rattle.domain_bitmap.proofs.{RangeLemmas.{any_more, any_same, any_at, any_none, any_with}, BitLemmas.{bit_of-set, bit_of-zero}}
@@ -15,10 +15,6 @@ pub window_absent : (value : List ℕ) (window : ℕ) → ((j : ℕ) → j < len
 unfolding has_window
 window_absent value window other = grind (arith, common_steps, any_none)
 
--- one octet written over
-pub written_is : (value : List ℕ) (at octet : ℕ) → at < length value → take at value ++ (octet ∷ drop (at + 1) value) ≡ set value at octet
-written_is value at octet inside = grind (arith, common_steps, (take-set value), (drop-set value))
-
 same_type : (t r : ℕ) → t / 256 ≡ r / 256 → t % 256 / 8 ≡ r % 256 / 8 → (t == r) ≡ (t % 8 == r % 8)
 same_type t r window octet = grind (arith, nat_tests)
 
@@ -31,7 +27,7 @@ module _ (value : List ℕ) (p r : ℕ) (inside : p < length value / 34) (window
   at = 34 * p + 2 + r % 256 / 8
 
   abbrev more : ℕ
-  more = bit_or (get_or value at 0) (1 * 2 ^ (7 - r % 8) % 2 ^ 8)
+  more = bit_or (get_or value at 0) (2 ^ (7 - r % 8))
 
   abbrev after : List ℕ
   after = set value at more
@@ -76,24 +72,7 @@ module _ (value : List ℕ) (p r : ℕ) (inside : p < length value / 34) (window
   unfolding has_window
   has_window-set_bit w = grind (arith, common_steps, any_same)
 
--- the octets after the code has set a bit
-added : (value slots : List ℕ) (j o b r : ℕ) → slots ≡ value → j < length value / 34 → get_or value (34 * j) 0 ≡ r / 256 → o ≡ r % 256 / 8 → b ≡ r % 8
-    → take (34 * j + 2 + o) value ++ (bit_or (get_or slots (34 * j + 2 + o) 0) (1 * 2 ^ (7 - b) % 2 ^ 8) ∷ drop (34 * j + 2 + o + 1) value)
-    ≡ set value (34 * j + 2 + r % 256 / 8) (bit_or (get_or value (34 * j + 2 + r % 256 / 8) 0) (1 * 2 ^ (7 - r % 8) % 2 ^ 8))
-added value slots j o b r same inside window octet bit = grind (arith, common_steps, written_is)
-
-pub holds-added : (value slots : List ℕ) (j o b r : ℕ) → slots ≡ value → j < length value / 34 → get_or value (34 * j) 0 ≡ r / 256 → o ≡ r % 256 / 8 → b ≡ r % 8
-    → (t : ℕ) → holds (take (34 * j + 2 + o) value ++ (bit_or (get_or slots (34 * j + 2 + o) 0) (1 * 2 ^ (7 - b) % 2 ^ 8) ∷ drop
-    (34 * j + 2 + o + 1) value)) t ≡ ((t == r) || holds value t)
-holds-added value slots j o b r same inside window octet bit t =
-    ap (λ v. holds v t) (added value slots j o b r same inside window octet bit) ∙ holds-set_bit value j r inside window t
-
-pub has_window-added : (value slots : List ℕ) (j o b r : ℕ) → slots ≡ value → j < length value / 34
-    → get_or value (34 * j) 0 ≡ r / 256 → o ≡ r % 256 / 8 → b ≡ r % 8
-    → (w : ℕ) → has_window (take (34 * j + 2 + o) value ++ (bit_or (get_or slots (34 * j + 2 + o) 0)
-    (1 * 2 ^ (7 - b) % 2 ^ 8) ∷ drop (34 * j + 2 + o + 1) value)) w ≡ has_window value w
-has_window-added value slots j o b r same inside window octet bit w =
-    ap (λ v. has_window v w) (added value slots j o b r same inside window octet bit) ∙ has_window-set_bit value j r inside window w
+pub ruleset set_steps = (holds-set_bit, has_window-set_bit)
 
 -- zero octets
 pub zeros_at : (n k : ℕ) → get_or {A = ℕ} (replicate n 0) k 0 ≡ 0

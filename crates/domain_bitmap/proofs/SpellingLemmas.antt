@@ -4,7 +4,7 @@ use Rattle.std.proofs.{Common.{inl, inr, arith}, lemmas.{Bool.Decides.{nat_tests
 use Rattle.std.specs.{Prelude.◌==◌, List.AllByRecursion}
 use Rattle.domain_bitmap.specs.{Bits.has_bit, Bitmap.{window_octets, trimmed, before_trimmed, bitmap_octets}}
 use Rattle.domain_bitmap.specs.Blocks.{Block, IsBlock, IsBitmap, IsShortest, WindowsAscendFrom, last_octet, octets_of_blocks, in_first_block, contains_type}
-use Rattle.domain_bitmap.proofs.{BitLemmas.{octet_with-same, octet_with-bit_of}, TrimLemmas.{before_trimmed-cons, before_trimmed-last, trimmed-zeros}}
+use Rattle.domain_bitmap.proofs.{BitLemmas.{octet_with-same, octet_with-bit_of}, TrimLemmas.{before_trimmed-last, trimmed-zeros}}
 use Rattle.domain_bitmap.proofs.BitmapLemmas.{block_list, blocks_from, octets_of_blocks-blocks_from, length-window_octets, get_or-window_octets, zero_octets}
 use Rattle.domain_bitmap.proofs.MeaningLemmas.{blocks_of-bitmap_octets}
 
@@ -22,7 +22,7 @@ trimmed-whole : (xs : List ℕ) → last_octet xs ≢ 0 → trimmed xs ≡ xs
 unfolding trimmed
 trimmed-whole [] last = absurd (last refl)
 trimmed-whole (x ∷ []) last = before_trimmed-last x last
-trimmed-whole (x ∷ y ∷ ys) last = ap (before_trimmed x) (trimmed-whole (y ∷ ys) last) ∙ before_trimmed-cons x y ys
+trimmed-whole (x ∷ y ∷ ys) last = ap (before_trimmed x) (trimmed-whole (y ∷ ys) last)
 
 -- what is cut ends in no zero octet
 CutIfSome : List ℕ → Type 0
@@ -33,8 +33,7 @@ cut_before : (x : ℕ) (rest : List ℕ) → CutIfSome rest → CutIfSome (befor
 unfolding CutIfSome
 cut_before zero [] cut = tt
 cut_before (suc x) [] cut = λ e. cc
-cut_before zero (y ∷ ys) cut = cut
-cut_before (suc x) (y ∷ ys) cut = cut
+cut_before x (y ∷ ys) cut = cut
 
 cut-trimmed : (xs : List ℕ) → CutIfSome (trimmed xs)
 unfolding trimmed CutIfSome

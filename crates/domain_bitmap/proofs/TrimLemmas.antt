@@ -1,9 +1,6 @@
 -- octets without the zero octets at their end
-use Rattle.std.proofs.{Common.{◌≡◌, ℕ, zero, suc, ◌-◌, ◌<◌, ◌≤◌, ◌≢◌, List, [], ◌∷◌, length, get_or, take, refl, ap, ◌∙◌, arith}, lemmas.Grind.common_steps}
+use Rattle.std.proofs.{Common.{◌≡◌, ℕ, zero, suc, ◌-◌, ◌<◌, ◌≤◌, ◌≢◌, List, [], ◌∷◌, length, get_or, take, refl, arith}, lemmas.Grind.common_steps}
 use Rattle.domain_bitmap.specs.Bitmap.{trimmed, before_trimmed}
-
-pub before_trimmed-cons : (x y : ℕ) (ys : List ℕ) → before_trimmed x (y ∷ ys) ≡ x ∷ y ∷ ys
-before_trimmed-cons x y ys = grind (arith, common_steps)
 
 pub before_trimmed-last : (x : ℕ) → x ≢ 0 → before_trimmed x [] ≡ x ∷ []
 before_trimmed-last x more = grind (arith, common_steps)
@@ -29,14 +26,13 @@ trimmed-to (x ∷ y ∷ ys) (suc m) inside last zeros =
 pub trimmed-cut : (xs : List ℕ) (n : ℕ) → 0 < n → n ≤ length xs → get_or xs (n - 1) 0 ≢ 0 → ((k : ℕ) → n ≤ k → get_or xs k 0 ≡ 0) → trimmed xs ≡ take n xs
 trimmed-cut xs n some within last zeros = grind (arith, common_steps, trimmed-to)
 
-zero_end : (x i : ℕ) → get_or (before_trimmed x []) i 0 ≡ get_or (x ∷ []) i 0
-zero_end x i = grind (arith, common_steps)
-
 keeps : (x i : ℕ) (rest xs : List ℕ) → ((k : ℕ) → get_or rest k 0 ≡ get_or xs k 0) → get_or (before_trimmed x rest) i 0 ≡ get_or (x ∷ xs) i 0
-keeps x zero [] xs same = zero_end x zero
-keeps x (suc i) [] xs same = zero_end x (suc i) ∙ same i
-keeps x zero (y ∷ ys) xs same = ap (λ l. get_or l 0 0) (before_trimmed-cons x y ys)
-keeps x (suc i) (y ∷ ys) xs same = ap (λ l. get_or l (suc i) 0) (before_trimmed-cons x y ys) ∙ same i
+keeps x zero (y ∷ ys) xs same = refl
+keeps x (suc i) (y ∷ ys) xs same = same i
+keeps zero zero [] xs same = refl
+keeps zero (suc i) [] xs same = same i
+keeps (suc x) zero [] xs same = refl
+keeps (suc x) (suc i) [] xs same = same i
 
 -- what is left out reads as zero
 pub get_or-trimmed : (xs : List ℕ) (i : ℕ) → get_or (trimmed xs) i 0 ≡ get_or xs i 0
@@ -52,7 +48,7 @@ pub ruleset trim_steps = (trimmed-cut, trimmed-none)
 longer : (x : ℕ) (rest : List ℕ) → length (before_trimmed x rest) ≤ suc (length rest)
 longer zero [] = omega arith
 longer (suc x) [] = omega arith
-longer x (y ∷ ys) = omega (arith, ap length (before_trimmed-cons x y ys))
+longer x (y ∷ ys) = omega arith
 
 pub length-trimmed : (xs : List ℕ) → length (trimmed xs) ≤ length xs
 unfolding trimmed

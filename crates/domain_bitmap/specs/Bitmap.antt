@@ -10,9 +10,9 @@ window_octets types window =
 
 -- an octet before others, which is left out where it is zero and none follows
 abbrev pub before_trimmed : ℕ → Octets → Octets
+before_trimmed octet (next ∷ octets) = octet ∷ next ∷ octets
 before_trimmed zero [] = []
 before_trimmed (suc octet) [] = suc octet ∷ []
-before_trimmed octet (next ∷ octets) = octet ∷ next ∷ octets
 
 -- octets without the zero octets at their end
 unfoldable pub trimmed : Octets → Octets

@@ -1,21 +1,11 @@
 -- the bits of octets, the most significant bit of an octet being its first (RFC 4034,
 -- section 4.1.2)
-use Rattle.std.specs.{Prelude.{◌≡◌, ℕ, ◌+◌, ◌-◌, ◌/◌, ◌%◌, ◌<◌, ◌≤◌, ◌==◌, Bool, true, false, if◌then◌else◌, slice_index}, Int.bit_at}
+use Rattle.std.specs.{Prelude.{ℕ, ◌+◌, ◌-◌, ◌/◌, ◌%◌, ◌==◌, Bool, if◌then◌else◌, slice_index}, Int.bit_at}
 use Rattle.domain_octets.specs.Words.{Octets}
 
 -- whether a bit of an octet is set
 unfoldable pub bit_of : ℕ → ℕ → Bool
 bit_of octet b = bit_at octet (7 - b) == 1
-
--- the bits of an octet from one on and before another are not set
-abbrev pub AreClear : ℕ → ℕ → ℕ → Type 0
-AreClear octet from before = (b : ℕ) → from ≤ b → b < before → bit_of octet b ≡ false
-
--- of the bits of an octet from one on, this is the first that is set
-pub record IsFirstBit (octet from bit : ℕ) : Type 0 where
-  pub low : from ≤ bit
-  pub set : bit_of octet bit ≡ true
-  pub before : AreClear octet from bit
 
 -- what a bit counts for, where it is set
 abbrev pub weight : ℕ → Bool → ℕ

@@ -21,9 +21,9 @@ abbrev pub octets_of_blocks : List Block → Octets
 octets_of_blocks = flat_map (λ block. block.window ∷ length block.octets ∷ block.octets)
 
 unfoldable pub blocks_within : ℕ → Octets → List Block
-blocks_within zero octets = []
-blocks_within (suc n) [] = []
-blocks_within (suc n) (window ∷ []) = []
+blocks_within n [] = []
+blocks_within n (window ∷ []) = []
+blocks_within zero (window ∷ len ∷ octets) = []
 blocks_within (suc n) (window ∷ len ∷ octets) =
     record { window = window; octets = take len octets } ∷ blocks_within n (drop len octets)
 

@@ -1,5 +1,5 @@
 -- why octets are no list of blocks
-use Rattle.std.specs.Prelude.{◌≡◌, ℕ, ◌<◌, ◌≤◌, ◌⊎◌, [], ◌∷◌, ◌++◌, length, codes}
+use Rattle.std.specs.Prelude.{◌≡◌, ℕ, ◌<◌, ◌≤◌, ◌⊎◌, [], ◌∷◌, length, drop, codes}
 use Rattle.domain_octets.specs.Words.{Octets}
 use Rattle.domain_names.specs.Fault.{Fault, ends_early, malformed}
 use Rattle.domain_bitmap.specs.declared.error.RtypeBitmapError.{RtypeBitmapError, TheVariants.{ShortInput, BadRtypeBitmap}}
@@ -12,9 +12,9 @@ pub data FirstBlockFault : Octets → RtypeBitmapError → Type 0 where
       → FirstBlockFault (window ∷ len ∷ rest) BadRtypeBitmap
   cut_block : (window len : ℕ) (rest : Octets) → 0 < len → len ≤ 32 → length rest < len
       → FirstBlockFault (window ∷ len ∷ rest) ShortInput
-  after : (window : ℕ) (block rest : Octets) (fault : RtypeBitmapError) → 0 < length block
-      → length block ≤ 32 → FirstBlockFault rest fault
-      → FirstBlockFault (window ∷ length block ∷ (block ++ rest)) fault
+  after : (window len : ℕ) (rest : Octets) (fault : RtypeBitmapError) → 0 < len → len ≤ 32
+      → len ≤ length rest → FirstBlockFault (drop len rest) fault
+      → FirstBlockFault (window ∷ len ∷ rest) fault
 
 -- what it is called among the faults of other octets
 abbrev pub bitmap_fault_of : RtypeBitmapError → Fault

@@ -8,7 +8,6 @@ pub mod Laws
 pub mod Scan
 pub mod Counted
 pub mod HashText
-pub mod HashFault
 pub mod HashScan
 pub mod Pieces
 pub mod List

@@ -4,9 +4,8 @@ ghost use Rattle.domain_octets.specs.Words.{Octets};
 ghost use Rattle.domain_bitmap.specs.Blocks.{IsBitmap, contains_type, types_of};
 ghost use Rattle.domain_bitmap.specs.Fault.{FirstBlockFault};
 
-use crate::bits::split_rtype;
-use crate::blocks::{check, is_set, split_block};
-use crate::{RtypeBitmapBuilder, RtypeBitmapError, RtypeBitmapIter};
+use crate::blocks::{check, is_set, split_block, split_rtype};
+use crate::{RtypeBitmapBuilder, RtypeBitmapError};
 use domain_base::Rtype;
 use domain_octets::{EmptyBuilder, FromBuilder, Octets, OutOfMemory, TryClone};
 use std::alloc::Global;
@@ -87,13 +86,6 @@ impl<O: Octets> RtypeBitmap<O> {
         self.octets.as_slice()
     }
 
-    /// The types whose bits are set, block by block as they stand.
-    pub fn iter(&self) -> RtypeBitmapIter<'_>
-        ensures { result ≡ types_of self.now }
-    {
-        RtypeBitmapIter::new(self.octets.as_slice())
-    }
-
     #[tactic(auto, using(crate::proofs::BlockLemmas::look_steps))]
     /// Whether the first block of the type's window has the bit of the type. Of a bitmap that a
     /// builder made this says whether the type was added.
@@ -128,17 +120,5 @@ where
         ensures empty { result ≡ [] }
     {
         RtypeBitmapBuilder::new(alloc)
-    }
-}
-
-impl<'a, O: Octets> IntoIterator for &'a RtypeBitmap<O> {
-    type Item = Rtype;
-
-    type IntoIter = RtypeBitmapIter<'a>;
-
-    ghost into_iter_gives = { λ b types. types ≡ types_of b.now };
-
-    fn into_iter(self) -> RtypeBitmapIter<'a> {
-        self.iter()
     }
 }

@@ -1,10 +1,11 @@
 //! Octets read as blocks.
 ghost use Rattle.std.specs.Prelude.{◌≡◌, ℕ, ◌+◌, ◌*◌, ◌/◌, ◌%◌, ◌<◌, ◌≤◌, ◌∷◌, [], length, IfSome, IfNone, MatchResult};
-ghost use Rattle.domain_bitmap.specs.Bits.{AreClear, IsFirstBit, has_bit};
+ghost use Rattle.domain_bitmap.specs.Bits.{has_bit};
 ghost use Rattle.domain_bitmap.specs.Blocks.{IsBitmap, blocks_of, block_types_from};
 ghost use Rattle.domain_bitmap.specs.Fault.{FirstBlockFault};
 
 use crate::RtypeBitmapError;
+use domain_base::Rtype;
 
 /// How many octets a block has at most: those of 256 types.
 const MAX_LEN: usize = 32;
@@ -19,28 +20,29 @@ pub(crate) struct Window<'a> {
 }
 
 /// Checks that octets are a list of blocks.
+#[tactic(auto, using(std::proofs::lemmas::Grind::common_steps, crate::proofs::FaultLemmas::check_steps))]
 pub(crate) fn check(octets: &[u8]) -> Result<(), RtypeBitmapError>
     ensures { MatchResult result (λ _. IsBitmap octets.now) (λ e. FirstBlockFault octets.now e) }
 {
     let mut rest = octets;
-    while !rest.is_empty() {
-        if rest.len() < 2 {
-            return Err(RtypeBitmapError::ShortInput);
-        }
-        let len = rest[1] as usize;
+    while let [_, len, tail @ ..] = rest {
+        let len = *len as usize;
         if len == 0 || len > MAX_LEN {
             return Err(RtypeBitmapError::BadRtypeBitmap);
         }
-        if rest.len() - 2 < len {
+        if tail.len() < len {
             return Err(RtypeBitmapError::ShortInput);
         }
-        rest = &rest[len + 2..];
+        rest = &tail[len..];
+    }
+    if !rest.is_empty() {
+        return Err(RtypeBitmapError::ShortInput);
     }
     Ok(())
 }
 
 /// The first block, and the blocks after it.
-#[tactic(auto, using(crate::proofs::BlockLemmas::block_reads))]
+#[tactic(auto, using(std::proofs::lemmas::Grind::common_steps, crate::proofs::BlockLemmas::block_reads))]
 pub(crate) fn split_block(blocks: &[u8]) -> Option<(Window<'_>, &[u8])>
     requires { IsBitmap blocks.now }
     ensures none { IfNone result (blocks_of blocks.now ≡ []) }
@@ -50,17 +52,31 @@ pub(crate) fn split_block(blocks: &[u8]) -> Option<(Window<'_>, &[u8])>
     ensures rest { IfSome result (λ p. IsBitmap p.1.now) }
     ensures shorter { IfSome result (λ p. length p.1.now < length blocks.now) }
 {
-    if blocks.is_empty() {
-        return None;
+    match blocks {
+        [number, len, tail @ ..] => {
+            let (octets, rest) = tail.split_at(*len as usize);
+            let number = *number;
+            Some((Window { number, octets }, rest))
+        }
+        _ => None,
     }
-    let end = blocks[1] as usize + 2;
-    Some((
-        Window {
-            number: blocks[0],
-            octets: &blocks[2..end],
-        },
-        &blocks[end..],
-    ))
+}
+
+/// The window of a type, the octet within the window, and the bit within the octet, the most
+/// significant bit being the first (RFC 4034, section 4.1.2).
+pub(crate) fn split_rtype(rtype: Rtype) -> (u8, usize, u8)
+    ensures window { result.0 ≡ rtype / 256 }
+    ensures octet { result.1 ≡ rtype % 256 / 8 }
+    ensures bit { result.2 ≡ rtype % 8 }
+    ensures octet_bound { result.1 < 32 }
+    ensures bit_bound { result.2 < 8 }
+{
+    let number = rtype.to_int();
+    (
+        (number / 256) as u8,
+        (number % 256 / 8) as usize,
+        (number % 8) as u8,
+    )
 }
 
 /// Whether an octet of a window has a bit set, the most significant bit being the first.
@@ -75,25 +91,8 @@ pub(crate) fn is_set(octets: &[u8], octet: usize, bit: u8) -> bool
     }
 }
 
-/// The first bit of an octet, from one on, that is set, the most significant bit being the first.
-fn first_bit(octet: u8, from: u8) -> Option<u8>
-    requires { from < 8 }
-    ensures some { IfSome result (λ bit. (bit < 8) × IsFirstBit octet from bit) }
-    ensures none { IfNone result (AreClear octet from 8) }
-{
-    if octet == 0 {
-        return None;
-    }
-    for bit in from..8 {
-        if octet >> (7 - bit) & 1 == 1 {
-            return Some(bit);
-        }
-    }
-    None
-}
-
-/// The first place in a window, from one on, whose bit is set. An octet without bits is passed at
-/// once.
+/// The first place in a window, from one on, whose bit is set. What is left of an octet is passed at
+/// once where it has no bits.
 pub(crate) fn first_set(octets: &[u8], from: usize) -> Option<usize>
     requires { length octets.now ≤ 32 }
     ensures none { IfNone result ((w : ℕ)
@@ -106,11 +105,13 @@ pub(crate) fn first_set(octets: &[u8], from: usize) -> Option<usize>
 {
     let mut place = from;
     while place < 8 * octets.len() {
-        let start = place / 8 * 8;
-        if let Some(bit) = first_bit(octets[place / 8], (place % 8) as u8) {
-            return Some(start + bit as usize);
+        if octets[place / 8] << (place % 8) == 0 {
+            place = place / 8 * 8 + 8;
+        } else if is_set(octets, place / 8, (place % 8) as u8) {
+            return Some(place);
+        } else {
+            place += 1;
         }
-        place = start + 8;
     }
     None
 }

@@ -6,9 +6,9 @@ ghost use Rattle.domain_bitmap.specs.Builder.{holds, has_window};
 ghost use Rattle.domain_bitmap.specs.Bitmap.{bitmap_octets};
 
 use crate::RtypeBitmap;
-use crate::bits::split_rtype;
+use crate::blocks::split_rtype;
 use crate::pack::pack;
-use crate::slots::{SLOT, find_slot, write_at};
+use crate::slots::{SLOT, find_slot, set_bit};
 use domain_base::Rtype;
 use domain_octets::{
     AppendError, EmptyBuilder, FreezeBuilder, Octets, OctetsBuilder, OutOfMemory, Truncate,
@@ -113,6 +113,7 @@ impl<B: OctetsBuilder> RtypeBitmapBuilder<B> {
     ///
     /// `ShortBuf` where there is no block of the type's window, and the buffer has no place for
     /// another 34 octets. `OutOfMemory` where there was no memory for them.
+    #[tactic(auto, using(std::proofs::lemmas::Grind::common_steps, crate::proofs::SlotLemmas::set_steps))]
     pub fn add(&mut self, rtype: Rtype) -> Result<(), AppendError>
         ensures ok { OnOk result ((t : ℕ) → t < 65536
             → holds self.new t ≡ (t == rtype || holds self.old t)) }
@@ -130,14 +131,12 @@ impl<B: OctetsBuilder> RtypeBitmapBuilder<B> {
     {
         let (window, octet, bit) = split_rtype(rtype);
         let j = self.window_block(window)?;
-        let slots = self.buffer.as_slice();
-        let at = SLOT * j + 2 + octet;
-        let octet = slots[at] | 1 << (7 - bit);
-        write_at(&mut self.buffer, at, &[octet]);
+        set_bit(&mut self.buffer, j, octet, bit);
         Ok(())
     }
 
     /// The bitmap of the types that were added: the only one that holds them. Takes no memory.
+    #[tactic(auto, using(std::proofs::lemmas::Grind::common_steps, crate::proofs::BitmapLemmas::built_steps))]
     pub fn finalize(self) -> RtypeBitmap<B::Frozen>
     where
         B: FreezeBuilder + Truncate,

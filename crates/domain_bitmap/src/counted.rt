@@ -12,8 +12,7 @@ ghost use Rattle.domain_bitmap.specs.Counted.{by_length, by_length_total, IsCutS
 use bytes::Bytes;
 use domain_base::{CanonicalOrd, ParseError};
 use domain_octets::{
-    AppendError, CopyOctets, EmptyOctets, FromBuilder, Octets, OctetsFrom, OutOfMemory, Parser,
-    TryClone,
+    AppendError, CopyOctets, EmptyOctets, Octets, OctetsFrom, OutOfMemory, Parser, TryClone,
 };
 use std::alloc::Global;
 use std::cmp::Ordering;
@@ -134,16 +133,6 @@ impl<O: EmptyOctets, E> CountedOctets<O, E> {
     }
 }
 
-impl<O: FromBuilder, E> CountedOctets<O, E> {
-    /// No octets, from an empty builder.
-    pub(crate) fn of_none(builder: O::Builder) -> Self
-        requires { O.Builder.octets builder ≡ [] }
-        ensures { result ≡ [] }
-    {
-        CountedOctets::from_octets_unchecked(O::from_builder(builder))
-    }
-}
-
 impl<E: Default> CountedOctets<Bytes, E> {
     /// These shared octets. Refuses exactly over 255. Takes no memory.
     pub fn from_bytes(octets: Bytes) -> Result<Self, E>
@@ -167,7 +156,7 @@ impl<'a, E> CountedOctets<&'a [u8], E> {
 
     /// A length octet and so many octets. Refuses, with `ShortInput`, where octets are missing; the
     /// parser then stands where it stood. Takes no memory.
-    #[tactic(auto, using(crate::proofs::CountedLemmas::counted_steps))]
+    #[tactic(auto, using(crate::proofs::CountedLemmas::cut_at_length))]
     pub fn parse(parser: &mut Parser<'a>) -> Result<Self, ParseError>
         ensures ok { IfOk result (λ counted.
             Takes (length counted ∷ counted) parser.old parser.new) }

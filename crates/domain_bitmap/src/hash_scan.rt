@@ -81,6 +81,7 @@ impl<O: FromBuilder + Drop> Nsec3Salt<O> {
     /// `Custom("illegal NSEC3 salt")` for a dash with something after it, `Custom("illegal data")`
     /// for another token that is not in Base 16, else want of room or of memory, else
     /// `Custom("illegal NSEC3 salt")` where it stands for over 255 octets.
+    #[tactic(auto, using(std::proofs::lemmas::Grind::common_steps, crate::proofs::SaltLemmas::salt_steps))]
     pub fn scan<S: Scanner<Octets = O>>(alloc: Global, scanner: &mut S) -> Result<Self, ScanError>
         ensures ok { IfOk result (λ salt.
             TakesToken (λ token. SaltText token salt) (S.tokens scanner.old)
@@ -96,10 +97,14 @@ impl<O: FromBuilder + Drop> Nsec3Salt<O> {
         if begins {
             scanner.skip_token();
             if alone {
-                return Ok(Nsec3Salt::of_none(scanner.octets_builder(alloc)));
+                let octets = O::from_builder(scanner.octets_builder(alloc));
+                return Ok(Nsec3Salt::from_octets_unchecked(octets));
             }
             return Err(ScanError::Custom("illegal NSEC3 salt"));
         }
-        Nsec3Salt::scan_token(alloc, scanner, Codec::Base16, "illegal NSEC3 salt")
+        match Nsec3Salt::scan_token(alloc, scanner, Codec::Base16, "illegal NSEC3 salt") {
+            Ok(salt) => Ok(salt),
+            Err(error) => Err(error),
+        }
     }
 }

@@ -2,8 +2,10 @@
 ghost use Rattle.std.specs.{Prelude.{◌≡◌, ◌<◌, ◌≤◌}, Iterator.{YieldsFirst, item_count}};
 ghost use Rattle.domain_bitmap.specs.Blocks.{IsBitmap, types_of, types_from, blocks_of};
 
+use crate::RtypeBitmap;
 use crate::blocks::{first_set, split_block};
 use domain_base::Rtype;
+use domain_octets::Octets;
 use std::marker::Model;
 
 /// The types that are left, block by block as their bits stand. It is seen as their list.
@@ -25,14 +27,28 @@ impl<'a> Model for RtypeBitmapIter<'a> {
     ghost invariant = { λ s. IsBitmap s.blocks.now × (s.place ≤ 256) };
 }
 
-impl<'a> RtypeBitmapIter<'a> {
-    /// The types of a list of blocks.
+impl<O: Octets> RtypeBitmap<O> {
+    /// The types whose bits are set, block by block as they stand.
     #[tactic(auto, using(crate::proofs::BlockLemmas::types_from_start))]
-    pub(crate) fn new(blocks: &'a [u8]) -> Self
-        requires { IsBitmap blocks.now }
-        ensures { result ≡ types_of blocks.now }
+    pub fn iter(&self) -> RtypeBitmapIter<'_>
+        ensures { result ≡ types_of self.now }
     {
-        RtypeBitmapIter { blocks, place: 0 }
+        RtypeBitmapIter {
+            blocks: self.as_slice(),
+            place: 0,
+        }
+    }
+}
+
+impl<'a, O: Octets> IntoIterator for &'a RtypeBitmap<O> {
+    type Item = Rtype;
+
+    type IntoIter = RtypeBitmapIter<'a>;
+
+    ghost into_iter_gives = { λ b types. types ≡ types_of b.now };
+
+    fn into_iter(self) -> RtypeBitmapIter<'a> {
+        self.iter()
     }
 }
 

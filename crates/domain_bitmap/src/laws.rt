@@ -19,6 +19,7 @@ pub fn built_bitmaps_are_sets()
 
 /// A bitmap that a builder made contains exactly the types that were added, and gives them in
 /// ascending order. It has 34 octets for each of 256 windows at most.
+#[tactic(auto, using(std::proofs::lemmas::Grind::common_steps, crate::proofs::MeaningLemmas::type_laws))]
 pub fn built_bitmaps_give_their_types()
     ensures contains { (types : ℕ → Bool) (t : ℕ) → t < 65536
         → contains_type (bitmap_octets types) t ≡ types t }
@@ -35,6 +36,7 @@ pub fn built_bitmaps_are_shortest()
 
 /// The words of what a bitmap is written as spell the types that it has, and the bitmap of these is
 /// the same one, if its windows ascend strictly and no block ends in a zero octet.
+#[tactic(auto, using(crate::proofs::ReadBackLemmas::types_back, crate::proofs::ReadBackLemmas::bitmap_back))]
 pub fn bitmaps_are_read_back()
     ensures types { (octets : Octets) → IsBitmap octets
         → TypeTexts (words_of (types_text (types_of octets))) (types_of octets) }
@@ -43,6 +45,7 @@ pub fn bitmaps_are_read_back()
 {}
 
 /// What a salt is written as is read back, and is one word.
+#[tactic(auto, using(crate::proofs::ReadBackLemmas::salt_back, crate::proofs::ReadBackLemmas::salt_word))]
 pub fn salts_are_read_back()
     ensures salt { (octets : Octets) → AreOctets octets → length octets ≤ 255
         → SaltText (salt_text octets) octets }
@@ -50,6 +53,7 @@ pub fn salts_are_read_back()
 {}
 
 /// Tokens spell one list of types at most, and a text one salt and one hash at most.
+#[tactic(auto, using(crate::proofs::ReadBackLemmas::spelled_once, crate::proofs::RefusalLemmas::salt_once, crate::proofs::RefusalLemmas::hash_once))]
 pub fn types_and_hashes_are_spelled_once()
     ensures types { (tokens : Tokens) (x y : Rtypes) → TypeTexts tokens x → TypeTexts tokens y
         → x ≡ y }

@@ -27,7 +27,6 @@
 #![tactic(auto)]
 
 mod bitmap;
-mod bits;
 mod blocks;
 mod builder;
 mod compare;
@@ -39,15 +38,11 @@ mod iter;
 pub mod laws;
 mod list;
 mod owner_hash;
-mod owner_hash_text;
 mod pack;
 mod salt;
-mod salt_text;
 mod scan;
 mod slots;
-mod table;
 mod text;
-mod zonefile;
 
 pub use bitmap::RtypeBitmap;
 pub use builder::RtypeBitmapBuilder;
@@ -56,5 +51,4 @@ pub use error::RtypeBitmapError;
 pub use iter::RtypeBitmapIter;
 pub use list::RtypeBitmaps;
 pub use owner_hash::{OwnerHash, OwnerHashError};
-pub use salt::{Nsec3Salt, Nsec3SaltError};
-pub use salt_text::Nsec3SaltFromStrError;
+pub use salt::{Nsec3Salt, Nsec3SaltError, Nsec3SaltFromStrError};

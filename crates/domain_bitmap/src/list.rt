@@ -60,7 +60,7 @@ impl RtypeBitmaps {
     /// # Errors
     ///
     /// `OutOfMemory` where there was no memory for its octets or for their end.
-    #[tactic(auto, using(crate::proofs::ListLemmas::cut_pushed))]
+    #[tactic(auto, using(std::proofs::lemmas::Grind::common_steps, crate::proofs::ListLemmas::push_steps))]
     pub fn push<O: Octets>(&mut self, types: &RtypeBitmap<O>) -> Result<(), OutOfMemory>
         ensures ok { OnOk result (self.new ≡ self.old ++ types.now ∷ []) }
         ensures err { OnErr result (self.new ≡ self.old) }

@@ -1,7 +1,12 @@
-//! Hashed owner names (RFC 5155, section 3.1.7).
-ghost use Rattle.std.specs.Prelude.{Some, codes};
+//! Hashed owner names (RFC 5155, section 3.1.7), and their text (section 3.3).
+ghost use Rattle.std.specs.Prelude.{IfOk, IfErr, Some, codes};
+ghost use Rattle.domain_codecs.specs.Base32.{base32_upper};
+ghost use Rattle.domain_bitmap.specs.HashText.{HashFault, OwnerHashText};
 
 use crate::CountedOctets;
+use domain_codecs::{DecodeError, base32};
+use domain_octets::{EmptyBuilder, FromBuilder, Octets};
+use std::alloc::Global;
 use std::error::Error;
 use std::fmt;
 
@@ -21,3 +26,39 @@ impl fmt::Display for OwnerHashError {
 }
 
 impl Error for OwnerHashError {}
+
+/// The octets in Base 32 hex without padding, in upper case.
+impl<O: Octets> fmt::Display for OwnerHash<O> {
+    ghost output = { λ h. Some (base32_upper h) };
+
+    fn fmt<W: fmt::Write>(&self, f: &mut fmt::Formatter<W>) -> fmt::Result {
+        base32::display(self.as_slice(), f)
+    }
+}
+
+impl<O: Octets> fmt::Debug for OwnerHash<O> {
+    fn fmt<W: fmt::Write>(&self, f: &mut fmt::Formatter<W>) -> fmt::Result {
+        write!(f, "OwnerHash({self})")
+    }
+}
+
+impl<O: FromBuilder + Drop> OwnerHash<O>
+where
+    O::Builder: EmptyBuilder + Drop,
+{
+    /// The hash that a text in Base 32 hex stands for, in either case and without padding.
+    ///
+    /// # Errors
+    ///
+    /// Those of the codec, and `ShortBuf` for over 255 octets too.
+    pub fn from_str(alloc: Global, text: &str) -> Result<Self, DecodeError>
+        ensures ok { IfOk result (OwnerHashText text.now) }
+        ensures err { IfErr result (HashFault O.Builder.limit text.now) }
+    {
+        let octets = base32::decode_hex::<O>(alloc, text)?;
+        match OwnerHash::from_octets(octets) {
+            Ok(hash) => Ok(hash),
+            Err(_) => Err(DecodeError::ShortBuf),
+        }
+    }
+}

@@ -1,11 +1,53 @@
 //! Writes a builder's blocks in order, each cut after its last octet with a type.
-ghost use Rattle.std.specs.Prelude.{◌≡◌, ℕ, ◌+◌, ◌%◌, ◌^◌, ◌<◌, ◌≤◌, ◌++◌, length, slice_index, take, drop};
-ghost use Rattle.domain_bitmap.specs.Builder.{holds};
+ghost use Rattle.std.specs.Prelude.{◌≡◌, ℕ, ◌+◌, ◌-◌, ◌*◌, ◌/◌, ◌%◌, ◌^◌, ◌<◌, ◌≤◌, ◌==◌, ◌++◌, length, take, drop, false};
+ghost use Rattle.std.specs.Prelude.{slice_index, slice_index_or, bit_or, if◌then◌else◌};
+ghost use Rattle.domain_bitmap.specs.{Bits.bit_of, Builder.{holds, has_window}};
 ghost use Rattle.domain_bitmap.specs.Bitmap.{trimmed, block_with, bitmap_octets};
 
 use crate::slots::{SLOT, used_len, write_at};
-use crate::table::{TABLE, WINDOWS, fill};
 use domain_octets::OctetsBuilder;
+
+/// How many windows there are.
+const WINDOWS: usize = 256;
+
+/// How many octets all windows have, 32 each.
+const TABLE: usize = 8192;
+
+/// Sets in the octets of all windows the bits of a builder's block at a place.
+fn merge(octets: &mut [u8], slots: &[u8], j: usize)
+    requires all { length octets.old ≡ 8192 }
+    requires inside { j < length slots.now / 34 }
+    ensures merged { (p : ℕ) → slice_index octets.new p
+        ≡ (if p / 32 == slice_index slots.now (34 * j)
+        then bit_or (slice_index octets.old p) (slice_index slots.now (34 * j + 2 + p % 32))
+        else slice_index octets.old p) }
+    ensures size { length octets.new ≡ length octets.old }
+{
+    let start = slots[SLOT * j] as usize * 32;
+    for i in 0..32 {
+        octets[start + i] |= slots[SLOT * j + 2 + i];
+    }
+}
+
+/// Puts the types of a builder's blocks into the octets of all windows, which are zeros, and tells
+/// which windows have a block.
+#[tactic(auto, using(std::proofs::lemmas::Grind::common_steps, crate::proofs::BitLemmas::bit_reads), unfolding(crate::specs::Builder::holds, crate::specs::Builder::has_window))]
+fn fill(octets: &mut [u8], present: &mut [bool], slots: &[u8])
+    requires octets { (i : ℕ) → slice_index octets.old i ≡ 0 }
+    requires all { length octets.old ≡ 8192 }
+    requires present { (w : ℕ) → slice_index_or present.old w false ≡ false }
+    requires windows { length present.old ≡ 256 }
+    ensures types { (t : ℕ) → t < 65536 → bit_of (slice_index octets.new (t / 8)) (t % 8)
+        ≡ holds slots.now t }
+    ensures windows { (w : ℕ) → slice_index_or present.new w false ≡ has_window slots.now w }
+    ensures size { length octets.new ≡ length octets.old }
+    ensures count { length present.new ≡ length present.old }
+{
+    for j in 0..slots.len() / SLOT {
+        merge(octets, slots, j);
+        present[slots[SLOT * j] as usize] = true;
+    }
+}
 
 /// Writes the block of a window where it has types, and says where the blocks end then.
 fn write_block<B: OctetsBuilder>(buffer: &mut B, end: usize, window: u8, octets: &[u8]) -> usize
@@ -39,10 +81,11 @@ fn pack_all<B: OctetsBuilder>(buffer: &mut B) -> usize
     fill(&mut octets, &mut present, slots);
     let mut end = 0;
     for window in 0..WINDOWS {
-        if present[window] {
-            let own = &octets[32 * window..32 * window + 32];
-            end = write_block(buffer, end, window as u8, own);
+        if !present[window] {
+            continue;
         }
+        let own = &octets[32 * window..32 * window + 32];
+        end = write_block(buffer, end, window as u8, own);
     }
     end
 }
@@ -58,6 +101,7 @@ fn only_len(slots: &[u8]) -> usize
 }
 
 /// Cuts the only block, and says where it ends.
+#[tactic(auto, using(std::proofs::lemmas::Grind::common_steps))]
 fn pack_one<B: OctetsBuilder>(buffer: &mut B) -> usize
     requires { length (B.octets buffer.old) ≡ 34 }
     ensures { take result (B.octets buffer.new) ≡ bitmap_octets (holds (B.octets buffer.old)) }
@@ -72,6 +116,7 @@ fn pack_one<B: OctetsBuilder>(buffer: &mut B) -> usize
 
 /// Writes a builder's blocks in the order of their windows, each cut after its last octet with a
 /// type, and says where they end. Takes no memory.
+#[tactic(auto, using(crate::proofs::PackLemmas::holds_nothing))]
 pub(crate) fn pack<B: OctetsBuilder>(buffer: &mut B) -> usize
     requires { length (B.octets buffer.old) % 34 ≡ 0 }
     ensures { take result (B.octets buffer.new) ≡ bitmap_octets (holds (B.octets buffer.old)) }

@@ -1,7 +1,12 @@
-//! The salt of hashed owner names (RFC 5155, section 3.1.5).
-ghost use Rattle.std.specs.Prelude.{Some, codes};
+//! The salt of hashed owner names (RFC 5155, section 3.1.5), and its text (section 3.3).
+ghost use Rattle.std.specs.Prelude.{IfOk, IfErr, Some, codes};
+ghost use Rattle.domain_bitmap.specs.HashText.{SaltText, SaltFault, salt_error_text, salt_text};
+ghost use Rattle.domain_bitmap.specs.Pieces.{salt_comment, salt_pieces};
 
 use crate::CountedOctets;
+use domain_codecs::{DecodeError, base16};
+use domain_octets::{EmptyBuilder, Formatter, FromBuilder, Octets, OutOfMemory, ZonefileFmt};
+use std::alloc::Global;
 use std::error::Error;
 use std::fmt;
 
@@ -21,3 +26,96 @@ impl fmt::Display for Nsec3SaltError {
 }
 
 impl Error for Nsec3SaltError {}
+
+/// Why a text is no salt.
+#[derive(Clone, Copy, Debug, PartialEq, Eq)]
+pub enum Nsec3SaltFromStrError {
+    /// It is not in Base 16, or its octets have no room or no memory.
+    DecodeError(DecodeError),
+    /// It stands for over 255 octets.
+    Nsec3SaltError(Nsec3SaltError),
+}
+
+impl fmt::Display for Nsec3SaltFromStrError {
+    ghost output = { λ e. Some (salt_error_text e) };
+
+    fn fmt<W: fmt::Write>(&self, f: &mut fmt::Formatter<W>) -> fmt::Result {
+        match self {
+            Nsec3SaltFromStrError::DecodeError(error) => write!(f, "{error}"),
+            Nsec3SaltFromStrError::Nsec3SaltError(error) => write!(f, "{error}"),
+        }
+    }
+}
+
+impl Error for Nsec3SaltFromStrError {}
+
+/// The octets in Base 16, in upper case, and a dash for none.
+impl<O: Octets> fmt::Display for Nsec3Salt<O> {
+    ghost output = { λ s. Some (salt_text s) };
+
+    fn fmt<W: fmt::Write>(&self, f: &mut fmt::Formatter<W>) -> fmt::Result {
+        let octets = self.as_slice();
+        if octets.is_empty() {
+            return f.write_str("-");
+        }
+        base16::display(octets, f)
+    }
+}
+
+impl<O: Octets> fmt::Debug for Nsec3Salt<O> {
+    fn fmt<W: fmt::Write>(&self, f: &mut fmt::Formatter<W>) -> fmt::Result {
+        write!(f, "Nsec3Salt({self})")
+    }
+}
+
+impl<O: FromBuilder + Drop> Nsec3Salt<O>
+where
+    O::Builder: EmptyBuilder + Drop,
+{
+    /// The salt that a text in Base 16 stands for, in either case; a dash alone is the salt of no
+    /// octets.
+    ///
+    /// # Errors
+    ///
+    /// First those of Base 16, then want of room or of memory, then a salt of over 255 octets.
+    pub fn from_str(alloc: Global, text: &str) -> Result<Self, Nsec3SaltFromStrError>
+        ensures ok { IfOk result (SaltText text.now) }
+        ensures err { IfErr result (SaltFault O.Builder.limit text.now) }
+    {
+        if text == "-" {
+            return Ok(Nsec3Salt::from_octets_unchecked(O::from_builder(O::Builder::empty(alloc))));
+        }
+        let octets = match base16::decode::<O>(alloc, text) {
+            Ok(octets) => octets,
+            Err(error) => return Err(Nsec3SaltFromStrError::DecodeError(error)),
+        };
+        match Nsec3Salt::from_octets(octets) {
+            Ok(salt) => Ok(salt),
+            Err(error) => Err(Nsec3SaltFromStrError::Nsec3SaltError(error)),
+        }
+    }
+}
+
+/// The comment on a salt of so many octets.
+#[derive(Drop)]
+struct SaltLength(usize);
+
+impl fmt::Display for SaltLength {
+    ghost output = { λ n. Some (salt_comment n.0) };
+
+    fn fmt<W: fmt::Write>(&self, f: &mut fmt::Formatter<W>) -> fmt::Result {
+        write!(f, "salt (length: {})", self.0)
+    }
+}
+
+/// A block of the salt's text and a comment on its length in octets.
+impl<O: Octets> ZonefileFmt for Nsec3Salt<O> {
+    ghost pieces = { salt_pieces };
+
+    fn fmt<F: Formatter>(&self, formatter: &mut F) -> Result<(), OutOfMemory> {
+        formatter.begin_block()?;
+        formatter.write_token(self)?;
+        formatter.write_comment(&SaltLength(self.as_slice().len()))?;
+        formatter.end_block()
+    }
+}

@@ -1,7 +1,6 @@
 //! Sets of types from tokens.
 ghost use Rattle.std.specs.Prelude.{◌≡◌, ℕ, ◌<◌, [], IfOk, IfErr};
 ghost use Rattle.domain_names.specs.TextFault.{scan_fault_of};
-ghost use Rattle.domain_base.specs.{Scan.{TakesToken, RefusesToken}, Numbers.{TypeText, IsNoType}};
 ghost use Rattle.domain_base.specs.Types.{Rtypes};
 ghost use Rattle.domain_bitmap.specs.{Bitmap.bitmap_octets, Builder.holds};
 ghost use Rattle.domain_bitmap.specs.Scan.{TypeTexts, RefusesTypes, is_among};
@@ -10,20 +9,6 @@ use crate::{RtypeBitmap, RtypeBitmapBuilder};
 use domain_base::{FromToken, Rtype, ScanError, Scanner};
 use domain_octets::{EmptyBuilder, FreezeBuilder, FromBuilder, OctetsBuilder, Truncate};
 use std::alloc::Global;
-
-/// The type that the next token spells.
-fn scan_type<S: Scanner>(scanner: &mut S) -> Result<Rtype, ScanError>
-    ensures ok { IfOk result (λ rtype.
-        TakesToken (λ token. TypeText token rtype) (S.tokens scanner.old) (S.tokens scanner.new)) }
-    ensures number { IfOk result (λ rtype. rtype < 65536) }
-    ensures err { IfErr result (λ e.
-        RefusesToken IsNoType (S.tokens scanner.old) (S.tokens scanner.new) (scan_fault_of e)) }
-{
-    match <Rtype as FromToken>::scan(scanner) {
-        Ok(rtype) => Ok(Rtype::from_int(rtype.to_int())),
-        Err(error) => Err(error),
-    }
-}
 
 /// Adds the types that all tokens that are left spell.
 fn add_all<B: OctetsBuilder, S: Scanner>(
@@ -38,10 +23,11 @@ fn add_all<B: OctetsBuilder, S: Scanner>(
         RefusesTypes B.limit (S.tokens scanner.old) (S.tokens scanner.new) (scan_fault_of e)) }
 {
     while scanner.continues() {
-        let rtype = match scan_type(scanner) {
+        let rtype = match <Rtype as FromToken>::scan(scanner) {
             Ok(rtype) => rtype,
             Err(error) => return Err(error),
         };
+        let _number = rtype.to_int();
         builder.add(rtype)?;
     }
     Ok(())
@@ -58,6 +44,7 @@ where
     /// At the first token that is refused: `Custom("unknown record type")` where it spells no type,
     /// else `ShortBuf` where the builder has no room for the type's window, or `OutOfMemory`. The
     /// tokens after it are left.
+    #[tactic(auto, using(std::proofs::lemmas::Grind::common_steps, crate::proofs::BitmapLemmas::built_steps))]
     pub fn scan<S: Scanner>(alloc: Global, scanner: &mut S) -> Result<Self, ScanError>
         ensures ok { IfOk result (λ bitmap. (types : Rtypes)
             × TypeTexts (S.tokens scanner.old) types × (bitmap ≡ bitmap_octets (is_among types))) }

@@ -5,8 +5,8 @@ use Rattle.domain_names.specs.declared.error.ScanError.{ScanError}
 use Rattle.domain_names.specs.declared.error.ScanError.TheVariants as scan_error
 use Rattle.domain_bitmap.specs.declared.error.RtypeBitmapError.{RtypeBitmapError}
 use Rattle.domain_bitmap.specs.declared.error.RtypeBitmapError.TheVariants as bitmap_error
-use Rattle.domain_bitmap.specs.declared.salt_text.Nsec3SaltFromStrError.{Nsec3SaltFromStrError}
-use Rattle.domain_bitmap.specs.declared.salt_text.Nsec3SaltFromStrError.TheVariants as salt_error
+use Rattle.domain_bitmap.specs.declared.salt.Nsec3SaltFromStrError.{Nsec3SaltFromStrError}
+use Rattle.domain_bitmap.specs.declared.salt.Nsec3SaltFromStrError.TheVariants as salt_error
 use Rattle.domain_message.specs.declared.error.MessageError.{MessageError}
 use Rattle.domain_message.specs.declared.error.MessageError.TheVariants as message_error
 use Rattle.domain_message.specs.declared.line.LineError.{LineError}

@@ -1,5 +1,6 @@
-use Rattle.std.proofs.Common.{Err, ap}
-use Rattle.domain_bitmap.proofs.ScanLemmas.{scan_starts, scan_goes, scan_ends, scan_refused, scan_full, none_left, refused_with}
+use Rattle.std.proofs.Common.{Err, ap, arith}
+use Rattle.domain_octets.proofs.StdLemmas.{if_err_of}
+use Rattle.domain_bitmap.proofs.ScanLemmas.{scan_starts, scan_goes, scan_ends, scan_refused, scan_full, none_left}
 use Rattle.domain_bitmap.proofs.scan.add_all.Goals as goal
 
 pub loop-scanner-init : goal.loop-scanner-init
@@ -11,16 +12,16 @@ returns-in-Err-clause-err g c = scan_refused _ _ _ _ _ _ c.loop-scanner.invarian
 pub loop-scanner-preserved : goal.loop-scanner-preserved
 loop-scanner-preserved g c =
     let took = c.in-Ok.ensures.ok in
-    scan_goes _ _ _ _ _ took.token _ c.loop-scanner.invariant took.first took.holds c.in-Ok.ensures.number
+    scan_goes _ _ _ _ _ took.token _ c.loop-scanner.invariant took.first took.holds (grind arith)
     c.in_ok-add.ensures.ok c.in_ok-add.ensures.windows c.in_ok-add.ensures.size
 
 pub returns-in_err-add-clause-err : goal.returns-in_err-add-clause-err
 returns-in_err-add-clause-err g c =
     let took = c.in-Ok.ensures.ok in
     let full = scan_full _ _ _ _ _ took.token _ _ c.loop-scanner.invariant
-    took.first took.holds c.in-Ok.ensures.number (λ e. c.in_err-add.ensures.short.0 (ap Err e))
+    took.first took.holds (grind arith) (λ e. c.in_err-add.ensures.short.0 (ap Err e))
     (λ e. (c.in_err-add.ensures.memory (ap Err e)).1) in
-    refused_with _ _ _ c.from_residual.ensures.1 full
+    if_err_of _ _ _ c.from_residual.ensures.1 full
 
 pub returns-clause-ok : goal.returns-clause-ok
 returns-clause-ok g c = scan_ends _ _ _ c.loop-scanner.invariant

@@ -1,4 +1,4 @@
-use Rattle.domain_bitmap.proofs.CountedLemmas.{over_limit, refused_by_codec, refused_too_long, token_has_room}
+use Rattle.domain_bitmap.proofs.CountedLemmas.{refused_by_codec, refused_too_long}
 use Rattle.domain_bitmap.proofs.counted.CountedOctets.scan_token.Goals as goal
 
 pub returns-in-Err-clause-err : goal.returns-in-Err-clause-err
@@ -6,5 +6,4 @@ returns-in-Err-clause-err g c = refused_by_codec _ _ _ _ _ _ c.in-Err.ensures.er
 
 pub returns-clause-err : goal.returns-clause-err
 returns-clause-err g c =
-    refused_too_long _ _ _ _ _ _ c.in-Ok.ensures.ok (token_has_room _ _ _ _ _ _ _ c.in-Ok.is c.in-Ok.ensures.ok
-    c.convert_token.ensures.room) (over_limit _ c.in-Err-from_octets.ensures.ok.1)
+    refused_too_long _ _ _ _ _ _ _ _ c.in-Ok.is c.in-Ok.ensures.ok c.convert_token.ensures.room c.in-Err-from_octets.ensures.ok.1

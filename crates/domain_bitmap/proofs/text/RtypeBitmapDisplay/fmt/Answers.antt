@@ -1,26 +1,18 @@
-use Rattle.std.proofs.{Common.{◌++◌, ◌∷◌, [], refl, sym, ap, ◌∙◌, arith}, Output.{has_written_append, writes_in_calls_nil}, lemmas.List.append_assoc}
+use Rattle.std.proofs.{Common.{◌++◌, ◌∷◌, refl, sym, ap, ◌∙◌, arith}, Output.{has_written_append, writes_in_calls_nil}, lemmas.List.append_assoc}
 use Rattle.domain_base.specs.Numbers.{type_text}
 use Rattle.domain_bitmap.specs.Text.{types_text, spaced_types}
 use Rattle.domain_bitmap.proofs.text.RtypeBitmapDisplay.fmt.Goals as goal
-use Rattle.domain_bitmap.proofs.text.RtypeBitmapDisplay.fmt.Goals.{in-Some+in_ok-write, in_default}
 use Rattle.std.proofs.lemmas.Grind.{common_steps}
 
+pub returns-in_default-clause-writes : goal.returns-in_default-clause-writes
+unfolding types_text
+returns-in_default-clause-writes g c = λ plain done.
+    rw (sym c.iter-types.ensures ∙ c.in_default.ensures.steps.0) (record { wrote = writes_in_calls_nil _ _; plain = plain })
+
 pub loop-rtype-init : goal.loop-rtype-init
-unfolding types_text spaced_types
-loop-rtype-init g c = λ plain.
-    elim c.match-next.branch [
-      | in-Some+in_ok-write w ↦ (
-        type_text w.in-Some.first,
-        ap types_text (sym c.iter-types.ensures ∙ w.in-Some.ensures.steps),
-        rw w.f-is (w.in_ok-write.ensures.writes plain refl),
-      )
-      | in_default w ↦
-          let none = w.in_default.ensures.steps in (
-            [],
-            ap types_text (sym c.iter-types.ensures ∙ none.0) ∙ sym (ap spaced_types none.1),
-            rw w.f-is (record { wrote = writes_in_calls_nil _ _; plain = plain }),
-          )
-    ]
+unfolding types_text
+loop-rtype-init g c =
+    λ plain. (type_text c.in-Some.first, ap types_text (sym c.iter-types.ensures ∙ c.in-Some.ensures.steps), c.in_ok-write.ensures.writes plain refl)
 
 pub loop-rtype-preserved : goal.loop-rtype-preserved
 unfolding spaced_types

@@ -1,6 +1,6 @@
 use Rattle.std.proofs.Common.{◌≡◌, ℕ, ◌*◌, get_or}
 use Rattle.domain_bitmap.proofs.PackLemmas.{merged_at}
-use Rattle.domain_bitmap.proofs.table.merge.Given as goal
+use Rattle.domain_bitmap.proofs.pack.merge.Given as goal
 
 abbrev pub invariant-loop-i : goal.invariant-loop-i
 invariant-loop-i l = record {

@@ -1,5 +1,5 @@
 use Rattle.domain_bitmap.proofs.PieceLemmas.{type_written, all_types_written}
-use Rattle.domain_bitmap.proofs.zonefile.RtypeBitmapZonefileFmt.fmt.Goals as goal
+use Rattle.domain_bitmap.proofs.text.RtypeBitmapZonefileFmt.fmt.Goals as goal
 
 pub loop-rtype-preserved : goal.loop-rtype-preserved
 loop-rtype-preserved g c = type_written _ _ _ _ _ _ c.loop-rtype.invariant c.in-Some.ensures.steps c.in_ok-write_token.ensures.ok

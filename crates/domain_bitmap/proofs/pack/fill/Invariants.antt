@@ -1,6 +1,6 @@
 use Rattle.std.{proofs.Common.{◌≡◌, ℕ, ◌/◌, ◌%◌, ◌<◌, false, length, get_or}, specs.List.{list_any, range_with_len}}
 use Rattle.domain_bitmap.specs.{Bits.bit_of, Builder.{block_holds, is_of_window}}
-use Rattle.domain_bitmap.proofs.table.fill.Given as goal
+use Rattle.domain_bitmap.proofs.pack.fill.Given as goal
 
 abbrev pub invariant-loop-j : goal.invariant-loop-j
 invariant-loop-j l = record {
