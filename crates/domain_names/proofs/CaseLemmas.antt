@@ -2,9 +2,9 @@
 use Rattle.std.proofs.Common.{◌≡◌, ℕ, ◌-◌, ◌<◌, ◌≤◌, List, [], ◌∷◌, ◌++◌, length, map, take, drop, refl, sym, ap, ◌∙◌, arith, length-append}
 use Rattle.std.proofs.lemmas.{List.{length-map, take-append-drop, drop_at, drop-append-le, Elements.{All-map, All-weaker}}, Bool.Decides.nat_tests}
 use Rattle.std.proofs.lemmas.Grind.{common_steps}
-use Rattle.std.specs.{Char.to_ascii_lowercase, List.AllByRecursion, Bool.Decides, Cmp.Lexicographic.{pointwise_decides, bytes_decides}}
+use Rattle.std.specs.{Char.to_ascii_lowercase, List.AllByRecursion, Bool.Decides, Cmp.{both_ways, Lexicographic.{pointwise_decides, bytes_decides}}}
 use Rattle.domain_names.specs.{Name.{wire_of, lowered, IsLabel, IsName, IsSame, IsAtOrBelow, is_at_or_below}, Wire.{labels_of, IsWire}, Words.Name}
-use Rattle.domain_names.proofs.WireLemmas.{labels_of-wire_of}
+use Rattle.domain_names.{specs.Laws.same_name_same, proofs.{WireLemmas.labels_of-wire_of, OrderLemmas.same_octets}}
 
 wire_of-lowered : (labels : List (List ℕ)) → AllByRecursion IsLabel labels → wire_of (lowered labels) ≡ map to_ascii_lowercase (wire_of labels)
 wire_of-lowered [] all = refl
@@ -74,3 +74,5 @@ at_or_below_test name above =
       (λ below. let long : length below.front ≡ k = omega (arith, ap length below.joined, length-append below.front (lowered above)) in
           labels.1 (sym (ap (drop k) below.joined ∙ drop_at _ _ k long))),
     )
+
+pub ruleset same_steps = (common_steps, same_from_octets, octets_from_same, same_name_same, same_octets, both_ways)

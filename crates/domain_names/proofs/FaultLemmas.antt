@@ -61,11 +61,10 @@ no_fault octets fault (trailing labels after valid some) wire =
     ∙ sym (append-nil (wire_of (labels_of (wire_of labels ++ after)))))).1
 
 -- a name and more
-pub trailing_fault : (octets name after : List ℕ) → IsWire name → octets ≡ name ++ after → (after ≡ [] → ⊥)
-    → WholeNameFault octets (malformed (codes "trailing data"))
-trailing_fault octets name after wire is some =
-    subst (λ o. WholeNameFault o (malformed (codes "trailing data"))) (sym (is ∙ ap (λ n. n ++ after) wire.spelled))
-    (trailing (labels_of name) after wire.valid some)
+pub trailing_fault : (name after : List ℕ) → IsWire name → 1 ≤ length after → WholeNameFault (name ++ after) (malformed (codes "trailing data"))
+trailing_fault name after wire some =
+    subst (λ n. WholeNameFault (n ++ after) (malformed (codes "trailing data"))) (sym wire.spelled)
+    (trailing (labels_of name) after wire.valid (λ e. omega (arith, some, ap length e)))
 
 named : (octets after : List ℕ) (labels : List (List ℕ)) (count : ℕ) → Reads 0 octets labels after
     → length (wire_of labels) ≡ count → IsWire (take count octets)

@@ -72,7 +72,7 @@ drop_next labels above label i h = sym (drop-drop 1 i labels) ∙ ap (drop 1) h
 pub drop_nothing : (labels : List (List ℕ)) (i : ℕ) → drop i labels ≡ [] → length labels ≤ i
 drop_nothing labels i h = omega (arith, length-drop i labels, ap length h)
 
-pub ruleset label_steps = (length-wire, root_at, label_at)
+pub ruleset label_steps = (common_steps, length-wire, root_at, label_at)
 
 pub wire_is : (octets : List ℕ) → IsWire octets → wire_of (labels_of octets) ≡ octets
 wire_is octets wire = sym wire.spelled
@@ -84,3 +84,5 @@ parent_is (label ∷ labels) parent h = cc
 
 pub parent_dropped : (name : Name) (passed : ℕ) (left parent : Name) → left ≡ drop passed name → Some parent ≡ parent_of left → parent ≡ drop (passed + 1) name
 parent_dropped name passed left parent before up = parent_is left parent up ∙ ap (drop 1) before ∙ drop-drop 1 passed name
+
+pub ruleset wire_steps = (common_steps, IsWire-wire_of, labels_of-wire_of)

@@ -107,6 +107,7 @@ pub trait ToName: TryClone {
 
     /// The last labels of the name, so many, or all of them where there are no more. Takes no
     /// memory.
+    #[tactic(auto, using(std::proofs::lemmas::Grind::common_steps, crate::proofs::WireLemmas::parent_dropped))]
     final fn last_labels(&self, count: usize) -> ParsedName<'_>
     where
         Self: Sized,
@@ -198,6 +199,7 @@ pub trait ToName: TryClone {
 
     /// Writes the name's wire form with A to Z lowered to the front of a buffer (RFC 4034, section
     /// 6.2). Takes no memory.
+    #[tactic(auto, using(std::proofs::lemmas::Grind::common_steps, crate::proofs::CaseLemmas::lowered_wire))]
     final fn lower_wire<'b>(&self, buffer: &'b mut [u8; wire::MAX_NAME]) -> &'b [u8]
     where
         Self: Sized,

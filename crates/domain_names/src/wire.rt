@@ -4,7 +4,7 @@ ghost use Rattle.std.specs.Prelude.{IsTrue, IfOk, IfErr, OnOk, false, ◌++◌, 
 ghost use Rattle.std.specs.{Char.to_ascii_lowercase, Ordering.nat_cmp, Cmp.Lexicographic.slice_cmp};
 ghost use Rattle.std.specs.Hash as fed;
 ghost use Rattle.domain_names.specs.Name.{wire_of, lowered, IsSame, same_name, IsAtOrBelow, is_at_or_below};
-ghost use Rattle.domain_names.specs.Wire.{labels_of, IsWire};
+ghost use Rattle.domain_names.specs.{Wire.{labels_of, IsWire}, Words.Name};
 ghost use Rattle.domain_names.specs.Fault.{NameFault, WholeNameFault, fault_of, name_fault_of};
 ghost use Rattle.domain_names.specs.Order.{canonical_cmp, common_labels};
 ghost use Rattle.domain_names.specs.Parting.{EndAlike, EndsIn, Part, order_below};
@@ -94,35 +94,51 @@ fn lowered_octets_cmp(a: &[u8], b: &[u8]) -> Ordering
     a.len().cmp(&b.len())
 }
 
-/// The canonical order of names with as many labels. Labels are only compared where all nearer the
-/// root are the same.
-fn aligned_cmp(a: &[u8], b: &[u8]) -> Ordering
+/// The canonical order of names with as many labels, and how many they share. Labels are only
+/// compared where all nearer the root are the same.
+#[tactic(auto, using(crate::proofs::WireLemmas::few_labels, crate::proofs::OrderLemmas::aligned_steps, crate::proofs::PartingLemmas::roots))]
+fn compare_aligned(a: &[u8], b: &[u8]) -> Comparison
     requires a { IsWire a.now }
     requires b { IsWire b.now }
     requires same_count { length (labels_of a.now) ≡ length (labels_of b.now) }
-    ensures { result ≡ canonical_cmp (labels_of a.now) (labels_of b.now) }
+    ensures order { result.order ≡ canonical_cmp (labels_of a.now) (labels_of b.now) }
+    ensures common { result.common ≡ common_labels (labels_of a.now) (labels_of b.now) }
 {
     let (Some((x, a_above)), Some((y, b_above))) = (split_first(a), split_first(b)) else {
-        return Ordering::Equal;
+        return Comparison {
+            order: Ordering::Equal,
+            common: 0,
+        };
     };
-    match aligned_cmp(a_above, b_above) {
-        Ordering::Equal => lowered_octets_cmp(x, y),
-        decided => decided,
+    let above = compare_aligned(a_above, b_above);
+    if above.order.is_ne() {
+        return above;
+    }
+    let order = lowered_octets_cmp(x, y);
+    Comparison {
+        order,
+        common: above.common + usize::from(order.is_eq()),
     }
 }
 
-/// The canonical order, from the root on. Labels at the leaf that the other name does not reach
-/// come last.
-fn cmp_from_root(a: &[u8], b: &[u8]) -> Ordering
+/// The canonical order and how many labels are shared, from the root on. Labels at the leaf that
+/// the other name does not reach come last.
+#[tactic(auto, using(crate::proofs::OrderLemmas::cut_steps))]
+fn compare_from_root(a: &[u8], b: &[u8]) -> Comparison
     requires a { IsWire a.now }
     requires b { IsWire b.now }
-    ensures { result ≡ canonical_cmp (labels_of a.now) (labels_of b.now) }
+    ensures order { result.order ≡ canonical_cmp (labels_of a.now) (labels_of b.now) }
+    ensures common { result.common ≡ common_labels (labels_of a.now) (labels_of b.now) }
 {
     let a_count = count_labels(a);
     let b_count = count_labels(b);
     let a_end = skip_labels(a, a_count.saturating_sub(b_count));
     let b_end = skip_labels(b, b_count.saturating_sub(a_count));
-    aligned_cmp(a_end, b_end).then(a_count.cmp(&b_count))
+    let aligned = compare_aligned(a_end, b_end);
+    Comparison {
+        order: aligned.order.then(a_count.cmp(&b_count)),
+        common: aligned.common,
+    }
 }
 
 /// Whether both have eight octets, and the last eight of both are the same. Compares them at once.
@@ -151,6 +167,7 @@ fn equal_eights(a: &[u8], b: &[u8]) -> usize
 }
 
 /// How many octets two names end in alike, the root's among them.
+#[tactic(auto, using(crate::proofs::PartingLemmas::alike_steps))]
 fn equal_end(a: &[u8], b: &[u8]) -> usize
     requires a { IsWire a.now }
     requires b { IsWire b.now }
@@ -168,25 +185,34 @@ fn equal_end(a: &[u8], b: &[u8]) -> usize
     most
 }
 
-/// The longest end of a name that has at most so many octets, and the label right below it.
-fn end_within(name: &[u8], most: usize) -> (Option<&[u8]>, &[u8])
-    requires name { IsWire name.now }
+/// An end of a name, and the label right below it, if the name has more labels than that.
+#[derive(Clone, Copy)]
+struct End<'a> {
+    below: Option<&'a [u8]>,
+    wire: &'a [u8],
+}
+
+/// The longest end of an end that has at most so many octets.
+fn end_within<'a>(end: End<'a>, most: usize) -> End<'a>
+    requires wire { IsWire end.wire.now }
     requires root { 1 ≤ most }
-    ensures wire { IsWire result.1.now }
-    ensures end { EndsIn (labels_of name.now) (option_map (λ x. x.now) result.0)
-        (labels_of result.1.now) }
-    ensures within { length result.1.now ≤ most }
+    ensures wire { IsWire result.wire.now }
+    ensures end { (name : Name) → EndsIn name (option_map (λ x. x.now) end.entry.below) (labels_of end.entry.wire.now)
+        → EndsIn name (option_map (λ x. x.now) result.below) (labels_of result.wire.now) }
+    ensures within { length result.wire.now ≤ most }
+    ensures part { length result.wire.now ≤ length end.entry.wire.now }
 {
-    let mut below = None;
-    let mut end = name;
-    while end.len() > most {
-        let Some((label, above)) = split_first(end) else {
+    let mut end = end;
+    while end.wire.len() > most {
+        let Some((label, above)) = split_first(end.wire) else {
             unreachable!();
         };
-        below = Some(label);
-        end = above;
+        end = End {
+            below: Some(label),
+            wire: above,
+        };
     }
-    (below, end)
+    end
 }
 
 /// Where two names part.
@@ -201,6 +227,7 @@ struct Parting<'a> {
 }
 
 /// Where two names part.
+#[tactic(auto, using(crate::proofs::PartingLemmas::alike_steps))]
 fn part<'a>(a: &'a [u8], b: &'a [u8]) -> Parting<'a>
     requires a { IsWire a.now }
     requires b { IsWire b.now }
@@ -210,27 +237,28 @@ fn part<'a>(a: &'a [u8], b: &'a [u8]) -> Parting<'a>
         (labels_of result.shared.now) }
 {
     let equal = equal_end(a, b);
-    let (mut x, mut a_end) = end_within(a, equal);
-    let (mut y, mut b_end) = end_within(b, equal);
-    'parting: while a_end.len() != b_end.len() {
-        if a_end.len() > b_end.len() {
-            let Some((label, above)) = split_first(a_end) else {
-                unreachable!();
-            };
-            x = Some(label);
-            a_end = above;
-        } else {
-            let Some((label, above)) = split_first(b_end) else {
-                unreachable!();
-            };
-            y = Some(label);
-            b_end = above;
-        }
+    let mut x = end_within(
+        End {
+            below: None,
+            wire: a,
+        },
+        equal,
+    );
+    let mut y = end_within(
+        End {
+            below: None,
+            wire: b,
+        },
+        equal,
+    );
+    'parting: while x.wire.len() != y.wire.len() {
+        x = end_within(x, y.wire.len());
+        y = end_within(y, x.wire.len());
     }
     Parting {
-        left: x,
-        right: y,
-        shared: a_end,
+        left: x.below,
+        right: y.below,
+        shared: x.wire,
     }
 }
 
@@ -252,6 +280,7 @@ fn order_below(x: Option<&[u8]>, y: Option<&[u8]>) -> Option<Ordering>
 }
 
 /// The canonical order.
+#[tactic(auto, using(crate::proofs::PartingLemmas::parted))]
 pub fn canonical_cmp(a: &[u8], b: &[u8]) -> Ordering
     requires a { IsWire a.now }
     requires b { IsWire b.now }
@@ -260,11 +289,12 @@ pub fn canonical_cmp(a: &[u8], b: &[u8]) -> Ordering
     let parting = part(a, b);
     match order_below(parting.left, parting.right) {
         Some(order) => order,
-        None => cmp_from_root(a, b),
+        None => compare_from_root(a, b).order,
     }
 }
 
 /// Whether two names differ in the case of letters at most.
+#[tactic(auto, using(crate::proofs::CaseLemmas::same_steps))]
 pub fn is_same(a: &[u8], b: &[u8]) -> bool
     requires a { IsWire a.now }
     requires b { IsWire b.now }
@@ -275,6 +305,7 @@ pub fn is_same(a: &[u8], b: &[u8]) -> bool
 }
 
 /// Whether a name is at or below another. Its end that has no more octets than the other decides.
+#[tactic(auto, using(crate::proofs::BelowLemmas::below_steps))]
 pub fn is_at_or_below(name: &[u8], above: &[u8]) -> bool
     requires name { IsWire name.now }
     requires above { IsWire above.now }
@@ -291,35 +322,9 @@ pub fn is_at_or_below(name: &[u8], above: &[u8]) -> bool
     is_same(end, above)
 }
 
-/// How many labels two names share, counted from where both have as many left.
-#[tactic(auto, using(crate::proofs::WireLemmas::few_labels, crate::proofs::CommonLemmas::walk_ends))]
-fn common_from_root(a: &[u8], b: &[u8]) -> usize
-    requires a { IsWire a.now }
-    requires b { IsWire b.now }
-    ensures { result ≡ common_labels (labels_of a.now) (labels_of b.now) }
-{
-    let a_count = count_labels(a);
-    let b_count = count_labels(b);
-    let mut x = skip_labels(a, a_count.saturating_sub(b_count));
-    let mut y = skip_labels(b, b_count.saturating_sub(a_count));
-    let mut common = 0;
-    'labels: while let (Some((label, x_above)), Some((facing, y_above))) = (
-        split_first(x),
-        split_first(y),
-    ) {
-        common = if label.eq_ignore_ascii_case(facing) {
-            common + 1
-        } else {
-            0
-        };
-        x = x_above;
-        y = y_above;
-    }
-    common
-}
-
 /// The canonical order, and how many labels are shared: those of the end at which the names part,
 /// unless the labels below it differ in case alone.
+#[tactic(auto, using(crate::proofs::PartingLemmas::parted))]
 pub fn compare(a: &[u8], b: &[u8]) -> Comparison
     requires a { IsWire a.now }
     requires b { IsWire b.now }
@@ -332,10 +337,7 @@ pub fn compare(a: &[u8], b: &[u8]) -> Comparison
             order,
             common: count_labels(parting.shared),
         },
-        None => Comparison {
-            order: cmp_from_root(a, b),
-            common: common_from_root(a, b),
-        },
+        None => compare_from_root(a, b),
     }
 }
 
@@ -383,6 +385,7 @@ pub fn split_name(octets: &[u8]) -> Result<(&[u8], &[u8]), NameError>
 }
 
 /// Checks that octets are a name and nothing more.
+#[tactic(auto, using(crate::proofs::FaultLemmas::in_name_by))]
 pub fn check(octets: &[u8]) -> Result<(), ParseError>
     ensures ok { OnOk result (IsWire octets.now) }
     ensures err { IfErr result (λ e. WholeNameFault octets.now (fault_of e)) }
