@@ -3,20 +3,21 @@ use Rattle.std.proofs.Common.{◌≡◌, ℕ, ◌≤◌, ◌<◌, List, [], ◌�
 use Rattle.std.{proofs.lemmas.{List.length-map, Grind.common_steps}, specs.{Char.to_ascii_lowercase, Cmp.both_ways}}
 use Rattle.domain_names.specs.{Name.{wire_of, lowered, IsSame, IsAtOrBelow, is_at_or_below, same_name}, Wire.{labels_of, IsWire}, Laws.same_name_same}
 use Rattle.domain_names.proofs.{CaseLemmas.{at_or_below_test, lowered_size, octets_from_same}, PartingLemmas.wire_of-end, WireLemmas.length-wire}
+use Rattle.domain_names.specs.Words.{Name}
 
 same_size : (a b : List ℕ) → IsWire a → IsWire b → IsSame (labels_of a) (labels_of b) → length a ≡ length b
 same_size a b a_wire b_wire same =
     omega (arith, ap length (octets_from_same a b a_wire b_wire same), length-map a to_ascii_lowercase, length-map b to_ascii_lowercase)
 
 -- a name with more octets than the other is at or below it where the name above it is
-above_is_below : (end above label : List ℕ) (rest : List (List ℕ)) → IsWire end → IsWire above → labels_of end ≡ label ∷ rest
+above_is_below : (end above label : List ℕ) (rest : Name) → IsWire end → IsWire above → labels_of end ≡ label ∷ rest
     → length above < length end → IsAtOrBelow (labels_of end) (labels_of above) → IsAtOrBelow rest (labels_of above)
 above_is_below end above label rest end_wire above_wire is longer below = go below.front below.joined where
-  go : (front : List (List ℕ)) → lowered (labels_of end) ≡ front ++ lowered (labels_of above) → IsAtOrBelow rest (labels_of above)
+  go : (front : Name) → lowered (labels_of end) ≡ front ++ lowered (labels_of above) → IsAtOrBelow rest (labels_of above)
   go [] joined = absurd (omega (arith, longer, same_size end above end_wire above_wire joined))
   go (f ∷ front) joined = record { front = front; joined = ap (drop 1) (sym (ap lowered is) ∙ joined) }
 
-pub longer_below : (end above label : List ℕ) (rest : List (List ℕ)) → IsWire end → IsWire above → labels_of end ≡ label ∷ rest
+pub longer_below : (end above label : List ℕ) (rest : Name) → IsWire end → IsWire above → labels_of end ≡ label ∷ rest
     → length above < length end → is_at_or_below (labels_of end) (labels_of above) ≡ is_at_or_below rest (labels_of above)
 longer_below end above label rest end_wire above_wire is longer =
     let whole = at_or_below_test (labels_of end) (labels_of above) in
@@ -35,7 +36,7 @@ same_below end above end_wire above_wire within =
     let below = at_or_below_test (labels_of end) (labels_of above) in
     both_ways _ _ (λ e. same.1 (go (below.0 e).front (below.0 e).joined)) (λ e. below.1 (record { front = []; joined = same.0 e }))
   where
-    go : (front : List (List ℕ)) → lowered (labels_of end) ≡ front ++ lowered (labels_of above) → IsSame (labels_of end) (labels_of above)
+    go : (front : Name) → lowered (labels_of end) ≡ front ++ lowered (labels_of above) → IsSame (labels_of end) (labels_of above)
     go [] joined = joined
     go (f ∷ front) joined =
         let more = wire_of-end front (lowered (labels_of above)) in

@@ -6,7 +6,7 @@ use Rattle.std.specs.{Char.to_ascii_lowercase, List.AllByRecursion, Bool.Decides
 use Rattle.domain_names.specs.{Name.{wire_of, lowered, IsLabel, IsName, IsSame, IsAtOrBelow, is_at_or_below}, Wire.{labels_of, IsWire}, Words.Name}
 use Rattle.domain_names.{specs.Laws.same_name_same, proofs.{WireLemmas.labels_of-wire_of, OrderLemmas.same_octets}}
 
-wire_of-lowered : (labels : List (List ℕ)) → AllByRecursion IsLabel labels → wire_of (lowered labels) ≡ map to_ascii_lowercase (wire_of labels)
+wire_of-lowered : (labels : Name) → AllByRecursion IsLabel labels → wire_of (lowered labels) ≡ map to_ascii_lowercase (wire_of labels)
 wire_of-lowered [] all = refl
 wire_of-lowered (label ∷ labels) all = grind (arith, common_steps, (wire_of-lowered labels all.1))
 
@@ -19,7 +19,7 @@ lowered_size octets wire = ap length (lowered_wire octets wire) ∙ length-map o
 low_octet : (c : ℕ) → c < 256 → to_ascii_lowercase c < 256
 low_octet c small = grind (arith, nat_tests)
 
-labels-lowered : (labels : List (List ℕ)) → AllByRecursion IsLabel labels → AllByRecursion IsLabel (lowered labels)
+labels-lowered : (labels : Name) → AllByRecursion IsLabel labels → AllByRecursion IsLabel (lowered labels)
 labels-lowered [] all = all
 labels-lowered (label ∷ labels) all =
     let label_is : IsLabel label = all.0 in
@@ -33,7 +33,7 @@ labels-lowered (label ∷ labels) all =
       labels-lowered labels all.1,
     )
 
-pub IsName-lowered : (labels : List (List ℕ)) → IsName labels → IsName (lowered labels)
+pub IsName-lowered : (labels : Name) → IsName labels → IsName (lowered labels)
 IsName-lowered labels valid = grind (arith, common_steps, labels-lowered, wire_of-lowered)
 
 pub same_from_octets : (a b : List ℕ) → IsWire a → IsWire b → map to_ascii_lowercase a ≡ map to_ascii_lowercase b → IsSame (labels_of a) (labels_of b)
@@ -45,7 +45,7 @@ same_from_octets a b a_wire b_wire same =
 pub octets_from_same : (a b : List ℕ) → IsWire a → IsWire b → IsSame (labels_of a) (labels_of b) → map to_ascii_lowercase a ≡ map to_ascii_lowercase b
 octets_from_same a b a_wire b_wire same = sym (lowered_wire a a_wire) ∙ ap wire_of same ∙ lowered_wire b b_wire
 
-pub one_line : (name above other : List (List ℕ)) → IsAtOrBelow name above → IsAtOrBelow name other → length other ≤ length above → IsAtOrBelow above other
+pub one_line : (name above other : Name) → IsAtOrBelow name above → IsAtOrBelow name other → length other ≤ length above → IsAtOrBelow above other
 one_line name above other a b shorter =
     let k = length a.front in
     let a_long = length-append a.front (lowered above) in

@@ -5,9 +5,10 @@ use Rattle.std.{proofs.lemmas.{List.Elements.{All-take, All-drop}, Grind.common_
 use Rattle.domain_names.specs.{Name.{wire_of, IsLabel, IsName}, Wire.{labels_of, IsWire}}
 use Rattle.domain_names.specs.Fault.{Fault, ends_early, malformed, NameFault, no_octet, bad_label, long_name, cut_label, past_label, WholeNameFault, in_name}
 use Rattle.domain_names.{specs.Fault.trailing, proofs.WireLemmas.{length-wire_of, IsWire-wire_of}}
+use Rattle.domain_names.specs.Words.{Name}
 
 -- the octets are these labels and the root, after so many octets of the name, and then others
-pub record Reads (used : ℕ) (octets : List ℕ) (labels : List (List ℕ)) (after : List ℕ) : Type 0 where
+pub record Reads (used : ℕ) (octets : List ℕ) (labels : Name) (after : List ℕ) : Type 0 where
   pub spelled : octets ≡ wire_of labels ++ after
   pub of_labels : AllByRecursion IsLabel labels
   pub fits : used + length (wire_of labels) ≤ 255
@@ -17,7 +18,7 @@ pub rest_of : (label rest l ls : List ℕ) → length label ≡ length l → lab
 rest_of label rest l ls long same = sym (drop_at label rest (length label) refl) ∙ ap (drop (length label)) same ∙ drop_at l ls (length label) (sym long)
 
 no_fault_by : (used : ℕ) (octets : List ℕ) (fault : Fault) → NameFault used octets fault
-    → (labels : List (List ℕ)) (after : List ℕ) → octets ≡ wire_of labels ++ after → AllByRecursion IsLabel labels
+    → (labels : Name) (after : List ℕ) → octets ≡ wire_of labels ++ after → AllByRecursion IsLabel labels
     → used + length (wire_of labels) ≤ 255 → ⊥
 no_fault_by used octets fault no_octet [] after is all fits = cc
 no_fault_by used octets fault no_octet (l ∷ ls) after is all fits = cc
@@ -35,12 +36,12 @@ no_fault_by used octets fault (past_label label rest f some small short next) (l
     no_fault_by _ rest f next ls after rest_is all.1 (omega (arith, fits, length-append l (wire_of ls)))
 
 -- octets that begin with a name have no fault in it
-pub no_name_fault : (octets : List ℕ) (fault : Fault) → NameFault 0 octets fault → (labels : List (List ℕ)) (after : List ℕ)
+pub no_name_fault : (octets : List ℕ) (fault : Fault) → NameFault 0 octets fault → (labels : Name) (after : List ℕ)
     → IsName labels → octets ≡ wire_of labels ++ after → ⊥
 no_name_fault octets fault found labels after valid is = no_fault_by 0 octets fault found labels after is valid.of_labels (omega (arith, valid.fits))
 
 -- octets begin with one name at most
-pub one_reading : (xs ys : List (List ℕ)) (a b : List ℕ) → AllByRecursion IsLabel xs → AllByRecursion IsLabel ys
+pub one_reading : (xs ys : Name) (a b : List ℕ) → AllByRecursion IsLabel xs → AllByRecursion IsLabel ys
     → wire_of xs ++ a ≡ wire_of ys ++ b → (xs ≡ ys) × (a ≡ b)
 one_reading [] [] a b xs_valid ys_valid same = (refl, cc)
 one_reading [] (y ∷ ys) a b xs_valid ys_valid same = grind (arith, common_steps)
@@ -66,7 +67,7 @@ trailing_fault name after wire some =
     subst (λ n. WholeNameFault (n ++ after) (malformed (codes "trailing data"))) (sym wire.spelled)
     (trailing (labels_of name) after wire.valid (λ e. omega (arith, some, ap length e)))
 
-named : (octets after : List ℕ) (labels : List (List ℕ)) (count : ℕ) → Reads 0 octets labels after
+named : (octets after : List ℕ) (labels : Name) (count : ℕ) → Reads 0 octets labels after
     → length (wire_of labels) ≡ count → IsWire (take count octets)
 named octets after labels count reads long = grind (arith, common_steps, IsWire-wire_of)
 
@@ -75,7 +76,7 @@ pub record Reading (octets : List ℕ) (at : ℕ) : Type 0 where
   pub inside : at ≤ length octets
   pub short : at < 255
   pub fault : (f : Fault) → NameFault at (drop at octets) f → NameFault 0 octets f
-  pub name : (labels : List (List ℕ)) (after : List ℕ) → Reads at (drop at octets) labels after → IsWire (take (at + length (wire_of labels)) octets)
+  pub name : (labels : Name) (after : List ℕ) → Reads at (drop at octets) labels after → IsWire (take (at + length (wire_of labels)) octets)
 
 pub reading_begins : (octets : List ℕ) → Reading octets 0
 reading_begins octets = grind (arith, common_steps, named)

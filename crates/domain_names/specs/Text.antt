@@ -3,7 +3,7 @@ use Rattle.std.specs.Prelude.{◌≡◌, ℕ, ◌+◌, ◌-◌, ◌*◌, ◌/◌
 use Rattle.std.specs.{Prelude.{None, if◌then◌else◌}, Char.{is_ascii_digit, is_ascii_graphic}, List.flat_map}
 use Rattle.domain_octets.specs.Words.{Octets}
 use Rattle.domain_octets.specs.Characters.{space, quote, dollar, left_parenthesis, right_parenthesis, dot, semicolon, at_sign, backslash, tilde, digit_zero}
-use Rattle.domain_names.specs.{Name.IsName, Words.{Name, Label}}
+use Rattle.domain_names.specs.{Name.{IsLabel, IsName}, Words.{Name, Label}}
 
 -- a character from space to ~
 abbrev pub is_printable : ℕ → Bool
@@ -31,11 +31,10 @@ symbol_at (c ∷ text) =
     if c == backslash then escape_at text
     else (if (is_printable c && not (c == dot)) then Some (c, 1) else None)
 
--- the text begins with the text of this label; nothing follows it, or a dot with what stands after
--- that
+-- the text begins with the text of this label, up to the first place where no octet of a label
+-- stands: at its end, at a dot, and at what is wrong there; that and the rest follow it
 pub data LabelText : Octets → Label → Octets → Type 0 where
-  at_end : LabelText [] [] []
-  at_dot : (after : Octets) → LabelText (dot ∷ after) [] (dot ∷ after)
+  ends : (text : Octets) → symbol_at text ≡ None → LabelText text [] text
   octet : (text : Octets) (label : Label) (after : Octets) (c used : ℕ)
       → symbol_at text ≡ Some (c, used) → LabelText (drop used text) label after
       → LabelText text (c ∷ label) after
@@ -46,17 +45,19 @@ HasNoLabel text = (label : Label) (after : Octets) → LabelText text label afte
 
 -- the text begins with no label that can stand after these octets of a name
 abbrev pub HasNoLabelAfter : Octets → Octets → Type 0
-HasNoLabelAfter wire text = HasNoLabel text
-    ⊎ ((label : Label) × (after : Octets) × LabelText text label after
-    × ((length label ≡ 0) ⊎ (255 ≤ length wire + length label)))
+HasNoLabelAfter wire text = (label : Label) (after : Octets) → LabelText text label after
+    → IsLabel label → 255 ≤ length wire + length label
 
--- labels with dots between them, leaf first, with or without a last dot
+-- a dot, and then the next text; or nothing, and no next text
+abbrev pub IsBefore : Octets → Octets → Type 0
+IsBefore next after = (after ≡ dot ∷ next) ⊎ ((after ≡ []) × (next ≡ []))
+
+-- labels of one to 63 octets with dots between them, leaf first, with or without a last dot
 pub data LabelTexts : Octets → Name → Type 0 where
-  last : (text : Octets) (label : Label) → LabelText text label [] → LabelTexts text (label ∷ [])
-  last_with_dot : (text : Octets) (label : Label) → LabelText text label (dot ∷ [])
-      → LabelTexts text (label ∷ [])
+  last : (text : Octets) (label : Label) (after : Octets) → LabelText text label after
+      → IsLabel label → IsBefore [] after → LabelTexts text (label ∷ [])
   dotted : (text : Octets) (label : Label) (after : Octets) (labels : Name)
-      → LabelText text label (dot ∷ after) → LabelTexts after labels
+      → LabelText text label (dot ∷ after) → IsLabel label → LabelTexts after labels
       → LabelTexts text (label ∷ labels)
 
 -- the text is a name: the root is a dot
