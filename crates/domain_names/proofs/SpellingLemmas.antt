@@ -2,7 +2,7 @@
 use Rattle.std.proofs.Common.{◌≡◌, ◌≢◌, ℕ, zero, suc, take, get_or, ◌+◌, ◌<◌, ◌≤◌, List, [], ◌∷◌, ◌++◌, Option, Some, None, length, drop, refl, sym, ap, subst}
 use Rattle.std.proofs.Common.{◌∙◌, ◌-◌, arith, length-append, slice_set, inl, rules}
 use Rattle.std.proofs.{lemmas.{List.{append-nil, append_assoc, length-drop, take_at, take_more}, Grind.common_steps}, Math.Seq.set-append_seam}
-use Rattle.std.specs.{Prelude.{IsSome, IfSome, IfNone, ◌↔◌}, List.AllByRecursion}
+use Rattle.std.specs.{Prelude.{IsSome, IfSome}, List.AllByRecursion}
 use Rattle.domain_names.specs.Name.{wire_of, IsLabel, IsName}
 use Rattle.domain_names.specs.Text.{symbol_at, LabelText, ends, octet, HasNoLabel, HasNoLabelAfter, LabelTexts, IsBefore, last, dotted, NameText}
 use Rattle.domain_names.{specs.Text.{root, of_labels, IsNoName}, proofs.WireLemmas.length-wire_of}
@@ -89,24 +89,6 @@ pub record Naming (text rest wire : List ℕ) : Type 0 where
   pub onward : (labels : Name) → LabelTexts rest labels → (all : Name) × LabelTexts text all × (wire ++ wire_of labels ≡ wire_of all)
   pub back : (all : Name) → LabelTexts text all → (labels : Name) × LabelTexts rest labels × (wire ++ wire_of labels ≡ wire_of all)
 
--- the labels that a text spells begin with the one that it begins with
-record Headed (rest label after : List ℕ) (labels : Name) : Type 0 where
-  more : Name
-  is : labels ≡ label ∷ more
-  spelled : (next : List ℕ) → IsBefore next after → next ≢ [] → LabelTexts next more
-
-head_is : (rest label after : List ℕ) (labels : Name) → LabelText rest label after → LabelTexts rest labels → Headed rest label after labels
-head_is rest label after labels read (last t l a s v e) = record {
-  more = [];
-  is = ap (λ x. x ∷ []) (one_label rest label after l a read s).0;
-  spelled = λ next before some. absurd (let same = one_label rest label after l a read s in grind (arith, common_steps));
-}
-head_is rest label after labels read (dotted t l end more s v others) = record {
-  more = more;
-  is = ap (λ x. x ∷ more) (one_label rest label after l (46 ∷ end) read s).0;
-  spelled = λ next before some. let same = one_label rest label after l (46 ∷ end) read s in grind (arith, common_steps);
-}
-
 pub naming_goes : (text rest wire label after next : List ℕ) → Naming text rest wire → LabelText rest label after
     → IsBefore next after → next ≢ [] → IsLabel label → Naming text next (wire ++ length label ∷ label)
 naming_goes text rest wire label after next so_far read before some valid = record {
@@ -114,14 +96,15 @@ naming_goes text rest wire label after next so_far read before some valid = reco
       let here : LabelText rest label (46 ∷ next) = grind (arith, common_steps) in
       let whole = so_far.onward (label ∷ labels) (dotted rest label next labels here valid spelled) in
       (whole.0, whole.1, append_assoc wire (length label ∷ label) (wire_of labels) ∙ whole.2);
-  back = λ labels spelled.
-      let here = so_far.back labels spelled in
-      let head = head_is rest label after here.0 read here.1 in (
-        head.more,
-        head.spelled next before some,
-        append_assoc wire (length label ∷ label) (wire_of head.more) ∙ ap (λ l. wire ++ wire_of l) (sym head.is) ∙ here.2,
-      );
-}
+  back = λ all spelled. let here = so_far.back all spelled in go all here.0 here.1 here.2;
+} where
+  go : (all labels : Name) → LabelTexts rest labels → wire ++ wire_of labels ≡ wire_of all
+      → (more : Name) × LabelTexts next more × ((wire ++ length label ∷ label) ++ wire_of more ≡ wire_of all)
+  go all labels (last t l a s v e) is = absurd (let same = one_label rest label after l a read s in grind (arith, common_steps))
+  go all labels (dotted t l end more s v others) is =
+      let same = one_label rest label after l (46 ∷ end) read s in
+      let e : end ≡ next = grind (arith, common_steps) in
+      (more, subst (λ x. LabelTexts x more) e others, grind (arith, common_steps))
 
 -- the octets of the labels of a text, to which the root is added
 abbrev pub IsLabelsWire : List ℕ → List ℕ → Type 0
@@ -136,11 +119,12 @@ IsNoLabels text = (labels : Name) → LabelTexts text labels → IsName labels �
 
 -- where no name goes on
 pub no_label_left : (text rest wire : List ℕ) → Naming text rest wire → HasNoLabelAfter wire rest → IsNoLabels text
-no_label_left text rest wire so_far none = λ all spelled valid. let here = so_far.back all spelled in go here.0 here.1 (ap length here.2) valid.fits where
-  go : (labels : Name) {n : ℕ} → LabelTexts rest labels → length (wire ++ wire_of labels) ≡ n → n ≤ 255 → ⊥
-  go labels (last t l a s v e) size fits = omega (arith, size, none l a s v, length-append wire (length l ∷ (l ++ 0 ∷ [])), length-append l (0 ∷ []))
-  go labels (dotted t l end more s v others) size fits =
-      omega (arith, size, none l _ s v, length-append wire (length l ∷ (l ++ wire_of more)), length-append l (wire_of more), length-wire_of more)
+no_label_left text rest wire so_far none = λ all spelled valid. let here = so_far.back all spelled in
+    go here.0 here.1 (omega (arith, valid.fits, ap length here.2, length-append wire (wire_of here.0)))
+  where
+    go : (labels : Name) → LabelTexts rest labels → length wire + length (wire_of labels) ≤ 255 → ⊥
+    go labels (last t l a s v e) fits = let long = none l a s v in grind (arith, common_steps)
+    go labels (dotted t l end more s v others) fits = let long = none l _ s v in grind (arith, common_steps, (length-wire_of more))
 
 pub wrong_after : (text rest wire label after : List ℕ) → Naming text rest wire → LabelText rest label after
     → ((next : List ℕ) → IsBefore next after → ⊥) → IsNoLabels text
@@ -160,15 +144,13 @@ no_labels text labels before (dotted t l end more s v others) = grind (arith, co
 
 -- a text spells one list of labels at most
 same_labels : (text : List ℕ) (xs ys : Name) → LabelTexts text xs → LabelTexts text ys → xs ≡ ys
-same_labels text xs ys (last t l a s v e) (last t' l' a' s' v' e') = ap (λ x. x ∷ []) (sym (one_label t l a l' a' s s').0)
+same_labels text xs ys (last t l a s v e) (last t' l' a' s' v' e') = grind (arith, common_steps, one_label)
 same_labels text xs ys (last t l a s v e) (dotted t' l' end' more' s' v' others') = grind (arith, common_steps, one_label, no_labels)
 same_labels text xs ys (dotted t l end more s v others) (last t' l' a' s' v' e') = grind (arith, common_steps, one_label, no_labels)
 same_labels text xs ys (dotted t l end more s v others) (dotted t' l' end' more' s' v' others') =
     let same = one_label t l (46 ∷ end) l' (46 ∷ end') s s' in
-    let e : end' ≡ end = (let both = same.1 in cc) in
-    let rest = same_labels end more more' others (subst (λ x. LabelTexts x more') e others') in
-    let heads : l ≡ l' = sym same.0 in
-    cc
+    let e : end' ≡ end = grind (arith, common_steps) in
+    let rest = same_labels end more more' others (subst (λ x. LabelTexts x more') e others') in grind (arith, common_steps)
 
 -- a text spells one name at most
 pub one_name : (text : List ℕ) (xs ys : Name) → NameText text xs → NameText text ys → xs ≡ ys
@@ -182,25 +164,21 @@ all_valid text labels (dotted t l end more s valid others) = (valid, all_valid e
 abbrev pub IsNamed : List ℕ → List ℕ → Type 0
 IsNamed text wire = (labels : Name) × NameText text labels × (wire ≡ wire_of labels)
 
-pub named_root : {U : Type 0} (text new : List ℕ) (o : Option U) → text ≡ 46 ∷ [] → IfSome o (λ _. new ≡ 0 ∷ []) → IfSome o (λ _. IsNamed text new)
-named_root text new None is found = tt
-named_root text new (Some u) is found = ([], subst (λ t. NameText t []) (sym is) root, found)
+pub named_root : (text new : List ℕ) → text ≡ 46 ∷ [] → new ≡ 0 ∷ [] → IsNamed text new
+named_root text new is found = ([], subst (λ t. NameText t []) (sym is) root, found)
 
 -- the octets of labels, and then of the root, for which there was room
 pub named_fits : {U : Type 0} (text wire new : List ℕ) (o : Option U) → IsLabelsWire text wire → (IsSome o → length wire < 255)
     → IfSome o (λ _. new ≡ wire ++ 0 ∷ []) → IfSome o (λ _. IsNamed text new)
 named_fits text wire new None found fits is = tt
-named_fits text wire new (Some u) found fits is =
+named_fits text wire new (Some u) (labels, spelled, whole) fits is =
     let small : length wire < 255 = fits refl in
-    let valid : IsName found.0 = record { of_labels = all_valid text found.0 found.1; fits = omega (arith, small, ap length found.2, length-append wire (0 ∷ [])) } in
-    (found.0, of_labels text found.0 found.1 valid, is ∙ found.2)
+    let valid : IsName labels = record { of_labels = all_valid text labels spelled; fits = omega (arith, small, ap length whole, length-append wire (0 ∷ [])) } in
+    (labels, of_labels text labels spelled valid, is ∙ whole)
 
-module _ {U : Type 0} (text wire new : List ℕ) (o : Option U) (found : IsLabelsWire text wire) (room : IsSome o ↔ (length wire < 255)) where
-  pub named_labels : IfSome o (λ _. new ≡ wire ++ 0 ∷ []) → IfSome o (λ _. IsNamed text new)
-  named_labels = named_fits text wire new o found room.0
-
-  pub named_none : text ≢ 46 ∷ [] → IfNone o (IsNoName text)
-  named_none other = grind (arith, common_steps, no_name, same_labels)
+-- the root has no room after those of labels
+pub long_name : (text wire : List ℕ) → IsLabelsWire text wire → 255 ≤ length wire → text ≢ 46 ∷ [] → IsNoName text
+long_name text wire found long other = grind (arith, common_steps, no_name, same_labels)
 
 pub name_is_valid : (text : List ℕ) (labels : Name) → NameText text labels → IsName labels
 name_is_valid text labels spelled = grind (arith, common_steps)
@@ -240,7 +218,8 @@ module _ {text rest octets : List ℕ} (so_far : Measuring text rest octets) (la
   pub measuring_goes : (next : List ℕ) → IsBefore next after → next ≢ [] → Measuring text next measured
   measuring_goes next before some = let here = read (before_stops next after before) in grind (arith, common_steps, measured_is, naming_goes)
 
-  pub measuring_ends : (next : List ℕ) → IsBefore next after → next ≡ [] → IsLabelsWire text (take (length text - length rest + 1 + length label) measured)
+  pub measuring_ends : (next : List ℕ) → IsBefore next after → next ≡ []
+      → IsLabelsWire text (take (length text - length rest + 1 + length label) measured)
   measuring_ends next before none =
       let end : IsBefore [] after = subst (λ n. IsBefore n after) none before in
       let here = read (before_stops [] after end) in
@@ -250,4 +229,4 @@ pub ruleset naming_steps = (common_steps, after_label, naming_goes, naming_ends,
 
 pub ruleset spelling_steps = (common_steps, spelling_goes, spelling_ends, no_label_by_length)
 
-pub ruleset named_steps = (common_steps, named_root, named_none)
+pub ruleset named_steps = (common_steps, named_root, long_name, no_name)
