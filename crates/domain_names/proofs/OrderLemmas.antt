@@ -75,6 +75,6 @@ few_shared xs ys = grind (arith, common_steps, (common_prefix_len-le (pointwise 
 pub same_octets : (a b : List ℕ) → pointwise nat_eq a b ≡ true → a ≡ b
 same_octets a b same = (bytes_decides a b).0 same
 
-pub ruleset aligned_steps = (common_steps, few_shared, canonical_cmp-more, common_labels-more)
+pub ruleset aligned_steps = (few_shared, canonical_cmp-more, common_labels-more)
 
 pub ruleset cut_steps = (common_steps, canonical_cmp-cut, common_labels-cut)

@@ -4,7 +4,7 @@ use Rattle.std.proofs.{Common.{length-append, append_assoc, append-nil, slice_se
 use Rattle.std.proofs.lemmas.{Grind.common_steps, Bool.eqb-true, List.{Elements.{All-head, All-tail}}}
 use Rattle.std.proofs.lemmas.{Str.{IsAscii-append, IsUtf8-from_ascii, Ascii.IsAscii-nil}, Fmt.decimal_digit}
 use Rattle.std.specs.{List.{All, AllByRecursion as ByRecursion, AllPass}, Str.IsAscii, Fmt.decimal, Char.is_ascii_graphic}
-use Rattle.domain_names.specs.{Text.{octet_text, label_text, dotted_text, name_text, is_special, is_ordinary}, Wire.{labels_of, IsWire}}
+use Rattle.domain_names.specs.{Text.{octet_text, label_text, dotted_text, is_special, is_ordinary}, Wire.{labels_of, IsWire}}
 use Rattle.domain_names.specs.{Name.{wire_of, IsLabel, IsName}, Words.Name}
 
 pub octet_text_in_digits : (c : ℕ) → c < 256 → is_special c ≡ false → is_ascii_graphic c ≡ false
@@ -41,10 +41,6 @@ dotted_text_ascii : (labels : Name) → ByRecursion IsLabel labels → IsAscii (
 dotted_text_ascii [] valid = IsAscii-nil
 dotted_text_ascii (label ∷ labels) valid = grind (arith, common_steps, label_text_ascii, (dotted_text_ascii labels valid.1))
 
-pub name_text_ascii : (labels : Name) → IsName labels → IsAscii (name_text labels)
-name_text_ascii [] valid = IsAscii-nil
-name_text_ascii (label ∷ labels) valid = grind (arith, common_steps, label_text_ascii, dotted_text_ascii)
-
 -- ---- names whose octets become their text
 
 -- the labels of a name before its rest have become text, and the rest stands as it was
@@ -80,15 +76,8 @@ pub dotted_ends : (name rest text : List ℕ) → IsDotted name rest text → la
 dotted_ends name rest text so_far none =
     let is = wire_end rest so_far.wire none in grind (arith, common_steps, (set-append_seam so_far.front 0 [] 46))
 
--- ---- what lies between the first dot and the last
-
 pub dotted_ascii : (labels : Name) → IsName labels → IsAscii (dotted_text labels ++ 46 ∷ [])
 dotted_ascii labels valid = grind (arith, common_steps, dotted_text_ascii)
-
-pub between_dots : (text : List ℕ) (labels : Name) → text ≡ dotted_text labels ++ 46 ∷ [] → 2 ≤ length text
-    → take (length text - 1 - 1) (drop 1 text) ≡ name_text labels
-between_dots text [] is some = absurd (omega (arith, some, ap length is))
-between_dots text (label ∷ labels) is some = grind (arith, common_steps)
 
 pub ruleset octet_steps = (common_steps, octet_text_in_digits)
 
@@ -96,4 +85,4 @@ pub ruleset ordinary_steps = (common_steps, ordinary_whole, eqb-true)
 
 pub ruleset dotted_steps = (common_steps, dotted_more, dotted_ends)
 
-pub ruleset ascii_steps = (common_steps, IsUtf8-from_ascii)
+pub ruleset ascii_steps = (IsUtf8-from_ascii)

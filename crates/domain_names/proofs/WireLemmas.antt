@@ -1,7 +1,7 @@
 -- a name read label by label
 use Rattle.std.proofs.Common.{◌≡◌, ℕ, zero, suc, ◌+◌, ◌*◌, ◌<◌, ◌≤◌, List, [], ◌∷◌, length, get_or, take, drop, refl, sym, ap, subst, ◌∙◌, arith, length-append}
-use Rattle.std.{proofs.{Common.{add-one, Some}, lemmas.{List.{take_at, drop_at, drop-drop, length-drop}, Grind.common_steps}}, specs.List.AllByRecursion}
-use Rattle.domain_names.specs.{Name.{wire_of, parent_of, IsLabel, IsName}, Words.Name, Wire.{labels_within, labels_of, IsWire}}
+use Rattle.std.{proofs.{Common.{add-one}, lemmas.{List.{take_at, drop_at, drop-drop, length-drop}, Grind.common_steps}}, specs.List.AllByRecursion}
+use Rattle.domain_names.specs.{Name.{wire_of, IsLabel, IsName}, Words.Name, Wire.{labels_within, labels_of, IsWire}}
 
 labels_within-wire_of : (labels : Name) (n : ℕ) → AllByRecursion IsLabel labels → length labels < n → labels_within n (wire_of labels) ≡ labels
 unfolding labels_within
@@ -77,12 +77,4 @@ pub ruleset label_steps = (common_steps, length-wire, root_at, label_at)
 pub wire_is : (octets : List ℕ) → IsWire octets → wire_of (labels_of octets) ≡ octets
 wire_is octets wire = sym wire.spelled
 
--- what lies above a part of a name is a part one label shorter
-parent_is : (left parent : Name) → Some parent ≡ parent_of left → parent ≡ drop 1 left
-parent_is [] parent h = cc
-parent_is (label ∷ labels) parent h = cc
-
-pub parent_dropped : (name : Name) (passed : ℕ) (left parent : Name) → left ≡ drop passed name → Some parent ≡ parent_of left → parent ≡ drop (passed + 1) name
-parent_dropped name passed left parent before up = parent_is left parent up ∙ ap (drop 1) before ∙ drop-drop 1 passed name
-
-pub ruleset wire_steps = (common_steps, IsWire-wire_of, labels_of-wire_of)
+pub ruleset wire_steps = (IsWire-wire_of, labels_of-wire_of)

@@ -371,9 +371,12 @@ fn put_dots(text: &mut [u8], name: &[u8]) -> bool
 
 /// The text of a name with a dot before each label and one at its end, if all octets of its labels
 /// are written as the characters that they are, as those of most names.
+#[tactic(auto, using(crate::proofs::TextLemmas::dotted_ascii))]
 fn dotted<'a>(name: &[u8], buffer: &'a mut [u8; MAX_NAME]) -> Option<&'a [u8]>
     requires { IsWire name.now }
-    ensures { IfSome result (λ text. text.now ≡ dotted_text (labels_of name.now) ++ dot ∷ []) }
+    ensures text { IfSome result (λ text. text.now ≡ dotted_text (labels_of name.now)
+        ++ dot ∷ []) }
+    ensures ascii { IfSome result (λ text. IsAscii text.now) }
 {
     let text = &mut buffer[..name.len()];
     text.copy_from_slice(name);

@@ -45,7 +45,9 @@ pub trait ToName: TryClone {
         ensures labels { result ≡ labels self.now }
         ensures few { length result ≤ 127 }
     {
-        Labels::new(self.as_wire())
+        Labels {
+            left: self.as_parsed(),
+        }
     }
 
     /// How many labels the name has, the root not counted. Takes no memory.
@@ -84,7 +86,9 @@ pub trait ToName: TryClone {
         Self: Sized,
         ensures { result ≡ labels self.now }
     {
-        DottedName::new(self.as_wire())
+        DottedName {
+            name: self.as_parsed(),
+        }
     }
 
     /// The name over its wire form, which is borrowed. Takes no memory.
@@ -107,21 +111,13 @@ pub trait ToName: TryClone {
 
     /// The last labels of the name, so many, or all of them where there are no more. Takes no
     /// memory.
-    #[tactic(auto, using(std::proofs::lemmas::Grind::common_steps, crate::proofs::WireLemmas::parent_dropped))]
     final fn last_labels(&self, count: usize) -> ParsedName<'_>
     where
         Self: Sized,
         ensures { result ≡ last_labels count (labels self.now) }
     {
         let above = self.count_labels().saturating_sub(count);
-        let mut left = self.as_parsed();
-        'ancestors: for _passed in 0..above {
-            let Some(parent) = left.parent() else {
-                return left;
-            };
-            left = parent;
-        }
-        left
+        ParsedName::over(wire::skip_labels(self.as_wire(), above))
     }
 
     /// Whether the names differ in the case of letters at most (RFC 4343, section 3). Takes no

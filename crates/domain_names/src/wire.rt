@@ -52,7 +52,7 @@ pub(crate) fn count_labels(wire: &[u8]) -> usize
 
 /// The name that is left without the first labels.
 #[tactic(auto, using(crate::proofs::WireLemmas::drop_next, crate::proofs::WireLemmas::drop_nothing))]
-fn skip_labels(wire: &[u8], count: usize) -> &[u8]
+pub(crate) fn skip_labels(wire: &[u8], count: usize) -> &[u8]
     requires wire { IsWire wire.now }
     requires within { count ≤ length (labels_of wire.now) }
     ensures rest { labels_of result.now ≡ drop count (labels_of wire.now) }
