@@ -1,13 +1,12 @@
 -- the end of a name that decides whether it is at or below another
-use Rattle.std.proofs.Common.{◌≡◌, ℕ, ◌≤◌, ◌<◌, List, [], ◌∷◌, ◌++◌, map, length, drop, sym, ap, ◌∙◌, arith, length-append}
+use Rattle.std.proofs.Common.{◌≡◌, ℕ, ◌≤◌, ◌<◌, List, [], ◌∷◌, ◌++◌, map, length, drop, sym, ap, ◌∙◌, arith}
 use Rattle.std.{proofs.lemmas.{List.length-map, Grind.common_steps}, specs.{Char.to_ascii_lowercase, Cmp.both_ways}}
 use Rattle.domain_names.specs.{Name.{wire_of, lowered, IsSame, IsAtOrBelow, is_at_or_below, same_name}, Wire.{labels_of, IsWire}, Laws.same_name_same}
 use Rattle.domain_names.proofs.{CaseLemmas.{at_or_below_test, lowered_size, octets_from_same}, PartingLemmas.wire_of-end, WireLemmas.length-wire}
 use Rattle.domain_names.specs.Words.{Name}
 
 same_size : (a b : List ℕ) → IsWire a → IsWire b → IsSame (labels_of a) (labels_of b) → length a ≡ length b
-same_size a b a_wire b_wire same =
-    omega (arith, ap length (octets_from_same a b a_wire b_wire same), length-map a to_ascii_lowercase, length-map b to_ascii_lowercase)
+same_size a b a_wire b_wire same = grind (arith, common_steps, (octets_from_same a b a_wire b_wire same), length-map)
 
 -- a name with more octets than the other is at or below it where the name above it is
 above_is_below : (end above label : List ℕ) (rest : Name) → IsWire end → IsWire above → labels_of end ≡ label ∷ rest
@@ -39,16 +38,7 @@ same_below end above end_wire above_wire within =
     go : (front : Name) → lowered (labels_of end) ≡ front ++ lowered (labels_of above) → IsSame (labels_of end) (labels_of above)
     go [] joined = joined
     go (f ∷ front) joined =
-        let more = wire_of-end front (lowered (labels_of above)) in
-        absurd (omega (
-          arith,
-          within,
-          lowered_size end end_wire,
-          lowered_size above above_wire,
-          ap (λ l. length (wire_of l)) joined,
-          length-append f (wire_of (front ++ lowered (labels_of above))),
-          ap length more.1,
-          length-append more.0 (wire_of (lowered (labels_of above))),
-        ))
+        let sizes = sym (lowered_size end end_wire) ∙ ap (λ l. length (wire_of l)) joined in
+        absurd (grind (arith, common_steps, (lowered_size above above_wire), (wire_of-end front (lowered (labels_of above)))))
 
 pub ruleset below_steps = (common_steps, longer_below, same_below, at_or_below_test, length-wire)

@@ -7,16 +7,14 @@ use Rattle.domain_names.specs.{Order.{canonical_cmp, common_labels, from_root}, 
 
 module _ {X : Type 0} (R : X → X → Ordering) where
   slice_cmp-push : (xs ys : List X) (x y : X) → length xs ≡ length ys → slice_cmp R (xs ++ x ∷ []) (ys ++ y ∷ []) ≡ ordering_then (slice_cmp R xs ys) (R x y)
-  slice_cmp-push [] [] x y same = grind (arith, common_steps)
-  slice_cmp-push [] (b ∷ bs) x y same = absurd (omega (arith, same))
+  slice_cmp-push [] ys x y same = grind (arith, common_steps)
   slice_cmp-push (a ∷ as') [] x y same = absurd (omega (arith, same))
   slice_cmp-push (a ∷ as') (b ∷ bs) x y same = grind (arith, common_steps, (slice_cmp-push as' bs x y (omega (arith, same))))
 
   -- the lists cut to one length, and then their lengths
   slice_cmp-cut : (k : ℕ) (xs ys : List X) → k ≡ min (length xs) (length ys)
       → slice_cmp R xs ys ≡ ordering_then (slice_cmp R (take k xs) (take k ys)) (nat_cmp (length xs) (length ys))
-  slice_cmp-cut k [] [] is = grind (arith, common_steps)
-  slice_cmp-cut k [] (y ∷ ys) is = grind (arith, common_steps)
+  slice_cmp-cut k [] ys is = grind (arith, common_steps)
   slice_cmp-cut k (x ∷ xs) [] is = grind (arith, common_steps)
   slice_cmp-cut zero (x ∷ xs) (y ∷ ys) is = absurd (omega arith)
   slice_cmp-cut (suc k) (x ∷ xs) (y ∷ ys) is = grind (arith, common_steps, (slice_cmp-cut k xs ys (omega arith)))
@@ -24,8 +22,7 @@ module _ {X : Type 0} (R : X → X → Ordering) where
 module _ {X : Type 0} (e : X → X → Bool) where
   common-push : (xs ys : List X) (x y : X) → length xs ≡ length ys → common_prefix_len e (xs ++ x ∷ []) (ys ++ y ∷ [])
       ≡ common_prefix_len e xs ys + cond (pointwise e (xs ++ x ∷ []) (ys ++ y ∷ [])) 1 0
-  common-push [] [] x y same = grind (arith, common_steps)
-  common-push [] (b ∷ bs) x y same = absurd (omega (arith, same))
+  common-push [] ys x y same = grind (arith, common_steps)
   common-push (a ∷ as') [] x y same = absurd (omega (arith, same))
   common-push (a ∷ as') (b ∷ bs) x y same = grind (arith, common_steps, (common-push as' bs x y (omega (arith, same))))
 

@@ -1,9 +1,9 @@
 -- the labels at which two names part, and what they decide
 use Rattle.std.proofs.Common.{w8, w64, Fits, ◌≡◌, ℕ, zero, suc, ◌≤◌, ◌<◌, ◌+◌, ◌-◌, ◌⊎◌, List, [], ◌∷◌, ◌++◌, length, min, take, drop, get_or, map}
-use Rattle.std.proofs.{Common.{refl, sym, ap, subst, ◌∙◌, arith, Bool, cond, nat_eq, Option, None, Some}}
-use Rattle.std.proofs.lemmas.{List.{append-nil, append_assoc, drop-append-le, get_or-drop, length-take-le, take-append-drop}, Nat.le_bytes_8}
+use Rattle.std.proofs.{Common.{refl, sym, ap, subst, ◌∙◌, arith, Bool, nat_eq, Option, None, Some}}
+use Rattle.std.proofs.lemmas.{List.{append-nil, append_assoc, get_or-drop, take-append-drop}, Nat.le_bytes_8}
 use Rattle.std.{proofs.lemmas.Grind.common_steps, specs.{declared.cmp.Ordering.{Ordering, TheVariants.{Equal}}, Char.to_ascii_lowercase}}
-use Rattle.std.specs.{Cmp.{tied_itself, Lexicographic.{slice_cmp, pointwise, nat_list_cmp_total, texts_ties, bytes_decides}}, Ordering.{ordering_then, nat_cmp}}
+use Rattle.std.specs.{Cmp.{tied_itself, Lexicographic.{slice_cmp, pointwise, nat_list_cmp_total, texts_ties, bytes_decides}}, Ordering.{nat_cmp}}
 use Rattle.std.specs.{Array.IsWholeChunk, Int.{from_le_bytes, to_le_bytes}, List.common_prefix_len}
 use Rattle.domain_names.specs.{Name.wire_of, Wire.{labels_of, IsWire}, Order.{canonical_cmp, common_labels, from_root}, Words.{Name, Label}}
 use Rattle.domain_names.{specs.Parting.{EndAlike, EndsIn, Part, order_below}, proofs.WireLemmas.{wire_is, length-wire}}
@@ -31,14 +31,11 @@ same_label = pointwise nat_eq
 -- lists that begin alike
 slice_cmp-shared : (shared xs ys : Name) → slice_cmp (slice_cmp nat_cmp) (shared ++ xs) (shared ++ ys) ≡ slice_cmp (slice_cmp nat_cmp) xs ys
 slice_cmp-shared [] xs ys = refl
-slice_cmp-shared (s ∷ shared) xs ys =
-    ap (λ o. ordering_then o (slice_cmp (slice_cmp nat_cmp) (shared ++ xs) (shared ++ ys))) (tied_itself nat_list_cmp_total s) ∙ slice_cmp-shared shared xs ys
+slice_cmp-shared (s ∷ shared) xs ys = grind (arith, common_steps, (tied_itself nat_list_cmp_total s), (slice_cmp-shared shared xs ys))
 
 common-shared : (shared xs ys : Name) → common_prefix_len same_label (shared ++ xs) (shared ++ ys) ≡ length shared + common_prefix_len same_label xs ys
 common-shared [] xs ys = omega arith
-common-shared (s ∷ shared) xs ys =
-    ap (λ b. cond b (1 + common_prefix_len same_label (shared ++ xs) (shared ++ ys)) 0) ((bytes_decides s s).1 refl)
-    ∙ omega (arith, common-shared shared xs ys)
+common-shared (s ∷ shared) xs ys = grind (arith, common_steps, ((bytes_decides s s).1 refl), (common-shared shared xs ys))
 
 -- lists that begin with the labels at which names part, unless these tie
 apart : (x y : Option Label) (xs ys : Name) (o : Ordering) → GoesOn x xs → GoesOn y ys → order_below x y ≡ Some o
@@ -65,12 +62,7 @@ roots x y counts root = grind (arith, common_steps)
 -- the octets of a name end in those of the labels that it ends in
 pub wire_of-end : (front above : Name) → (octets : List ℕ) × (wire_of (front ++ above) ≡ octets ++ wire_of above)
 wire_of-end [] above = ([], refl)
-wire_of-end (label ∷ front) above =
-    let more = wire_of-end front above in (
-      length label ∷ (label ++ more.0),
-      ap (λ l. length label ∷ (label ++ l)) more.1
-          ∙ ap (λ l. length label ∷ l) (sym (append_assoc label _ _)),
-    )
+wire_of-end (label ∷ front) above = let more = wire_of-end front above in (length label ∷ (label ++ more.0), grind (arith, common_steps))
 
 ends_in : (name : Name) (below : Option Label) (here : Name) → EndsIn name below here → (front : Name) × (name ≡ front ++ here)
 ends_in name None here ends = ([], ends)
@@ -123,11 +115,7 @@ alike_eight a b x y in_a in_b x_is y_is a_octets b_octets same =
 joined_end : (a : List ℕ) (count more : ℕ) → count + more ≤ length a
     → drop (length a - (count + more)) a ≡ drop (length (take (length a - count) a) - more) (take (length a - count) a)
     ++ drop (length a - count) a
-joined_end a count more within =
-    let n = length a - count in
-    let size : length (take n a) ≡ n = length-take-le n a (omega arith) in
-    ap (λ k. drop k a) (omega (arith, size, within)) ∙ ap (drop (length (take n a) - more)) (sym (take-append-drop n a))
-    ∙ drop-append-le _ (take n a) (drop n a) (omega arith)
+joined_end a count more within = grind (arith, common_steps, (take-append-drop (length a - count) a))
 
 pub alike_before : (a b x y : List ℕ) (count more : ℕ) → EndAlike a b count → x ≡ take (length a - count) a
     → y ≡ take (length b - count) b → EndAlike x y more → EndAlike a b (count + more)
@@ -145,8 +133,7 @@ alike_more a b count i j alike in_a in_b i_is j_is same = grind (arith, common_s
 -- octets of which one list is at its end
 pub lengths_decide : (a b : List ℕ) (i : ℕ) → i ≡ min (length a) (length b)
     → nat_cmp (length a) (length b) ≡ slice_cmp nat_cmp (map to_ascii_lowercase (drop i a)) (map to_ascii_lowercase (drop i b))
-lengths_decide [] [] i is = grind (arith, common_steps)
-lengths_decide [] (y ∷ b) i is = grind (arith, common_steps)
+lengths_decide [] b i is = grind (arith, common_steps)
 lengths_decide (x ∷ a) [] i is = grind (arith, common_steps)
 lengths_decide (x ∷ a) (y ∷ b) zero is = absurd (omega arith)
 lengths_decide (x ∷ a) (y ∷ b) (suc i) is = grind (arith, common_steps, (lengths_decide a b i (omega arith)))

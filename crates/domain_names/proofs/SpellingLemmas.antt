@@ -173,7 +173,7 @@ pub named_fits : {U : Type 0} (text wire new : List ℕ) (o : Option U) → IsLa
 named_fits text wire new None found fits is = tt
 named_fits text wire new (Some u) (labels, spelled, whole) fits is =
     let small : length wire < 255 = fits refl in
-    let valid : IsName labels = record { of_labels = all_valid text labels spelled; fits = omega (arith, small, ap length whole, length-append wire (0 ∷ [])) } in
+    let valid : IsName labels = grind (arith, common_steps, (ap length whole), all_valid) in
     (labels, of_labels text labels spelled valid, is ∙ whole)
 
 -- the root has no room after those of labels

@@ -1,5 +1,5 @@
 -- the text of an octet in decimal digits, of octets that are written as they are, and of names
-use Rattle.std.proofs.Common.{arith, ℕ, zero, suc, ◌/◌, ◌%◌, ◌<◌, ◌≤◌, ◌≡◌, ◌∷◌, ◌++◌, ◌-◌, [], List, true, false, refl, sym, ap, subst, ◌∙◌, length, take, drop}
+use Rattle.std.proofs.Common.{arith, ℕ, zero, suc, ◌/◌, ◌%◌, ◌<◌, ◌≤◌, ◌≡◌, ◌∷◌, ◌++◌, ◌-◌, [], List, true, false, refl, ap, subst, ◌∙◌, length, take, drop}
 use Rattle.std.proofs.{Common.{length-append, append_assoc, append-nil, slice_set, take_all}, Math.Seq.set-append_seam}
 use Rattle.std.proofs.lemmas.{Grind.common_steps, Bool.eqb-true, List.{Elements.{All-head, All-tail}}}
 use Rattle.std.proofs.lemmas.{Str.{IsAscii-append, IsUtf8-from_ascii, Ascii.IsAscii-nil}, Fmt.decimal_digit}

@@ -33,21 +33,22 @@ length-wire octets wire = omega (arith, length-wire_of (labels_of octets), ap le
 
 root_from : (labels : Name) → AllByRecursion IsLabel labels → get_or (wire_of labels) 0 0 ≡ 0 → labels ≡ []
 root_from [] all first = refl
-root_from (label ∷ labels) all first = let label_is : IsLabel label = all.0 in absurd (omega (arith, label_is.not_empty, first))
+root_from (label ∷ labels) all first = grind (arith, common_steps)
 
 label_from : (labels : Name) → IsName labels → (get_or (wire_of labels) 0 0 ≡ 0 → ⊥) → HasLabel (wire_of labels)
 label_from [] valid other = absurd (other refl)
 label_from (label ∷ labels) valid other =
-    let label_is : IsLabel label = valid.of_labels.0 in
-    let above_is : IsName labels = record { of_labels = valid.of_labels.1; fits = omega (arith, valid.fits, length-append label (wire_of labels)) } in
+    let above : IsName labels = grind (arith, common_steps) in
     let rest : drop (length label + 1) (wire_of (label ∷ labels)) ≡ wire_of labels = rw add-one (drop_at label _ _ refl) in
-    record {
-      not_empty = label_is.not_empty;
-      fits = label_is.fits;
-      inside = omega (arith, length-append label (wire_of labels), length-wire_of labels);
-      labels = rw (rest, take_at label (wire_of labels) (length label) refl, labels_of-wire_of labels above_is) (labels_of-wire_of (label ∷ labels) valid);
-      above = rw rest (IsWire-wire_of labels above_is);
-    }
+    grind (
+      arith,
+      common_steps,
+      (take_at label (wire_of labels) _ refl),
+      (IsWire-wire_of labels above),
+      (labels_of-wire_of labels above),
+      (labels_of-wire_of (label ∷ labels) valid),
+      (length-wire_of labels),
+    )
 
 pub root_at : (octets : List ℕ) → IsWire octets → get_or octets 0 0 ≡ 0 → labels_of octets ≡ []
 root_at octets wire zero_first = root_from (labels_of octets) wire.valid.of_labels (subst (λ (w : List ℕ). get_or w 0 0 ≡ 0) wire.spelled zero_first)

@@ -10,4 +10,5 @@ returns c =
     let octets = c.put_lengths.new.octets in
     let written : refill (length old) old octets ≡ octets =
     refilled (length old) old octets (sym (c.put_lengths.ensures.size ∙ ap length c.as_mut_slice.ensures.value)) in
-    named_fits _ _ _ _ c.in_ok-len.ensures.labels (λ some. let below = c.put_root.ensures.room some in grind (arith, common_steps)) (rw written at c.put_root.ensures.root)
+    named_fits _ _ _ _ c.in_ok-len.ensures.labels (λ some. let below = c.put_root.ensures.room some in grind (arith, common_steps))
+    (rw written at c.put_root.ensures.root)
