@@ -20,31 +20,15 @@ fn symbol_at(text: &[u8]) -> Option<(u8, usize)>
     ensures used { IfSome result (λ s. (0 < s.1) × (s.1 ≤ length text.now)) }
 {
     match text {
-        [b'\\', a, b, c, ..] if a.is_ascii_digit() => {
-            if !b.is_ascii_digit() || !c.is_ascii_digit() {
-                return None;
-            }
+        [b'\\', a, b, c, ..] if a.is_ascii_digit() && b.is_ascii_digit() && c.is_ascii_digit() => {
             let value = u16::from(*a - b'0') * 100
                 + u16::from(*b - b'0') * 10
                 + u16::from(*c - b'0');
-            if value > 255 {
-                return None;
-            }
-            Some((value as u8, 4))
+            Some((u8::try_from(value).ok()?, 4))
         }
-        [b'\\', a, ..] => {
-            if a.is_ascii_digit() || *a < b' ' || *a > b'~' {
-                return None;
-            }
-            Some((*a, 2))
-        }
-        [c, ..] => {
-            if *c == b'\\' || *c == b'.' || *c < b' ' || *c > b'~' {
-                return None;
-            }
-            Some((*c, 1))
-        }
-        [] => None,
+        [b'\\', a, ..] if !a.is_ascii_digit() && *a >= b' ' && *a <= b'~' => Some((*a, 2)),
+        [c, ..] if *c != b'\\' && *c != b'.' && *c >= b' ' && *c <= b'~' => Some((*c, 1)),
+        _ => None,
     }
 }
 
@@ -82,9 +66,7 @@ fn read_label(text: &[u8]) -> Option<(ArrayBuilder<MAX_LABEL_LEN>, &[u8])>
     let mut label = ArrayBuilder::new();
     let mut rest = text;
     while let Some((octet, used)) = symbol_at(rest) {
-        if label.append_slice(&[octet]).is_err() {
-            return None;
-        }
+        label.append_slice(&[octet]).ok()?;
         rest = &rest[used..];
     }
     Some((label, rest))
@@ -101,10 +83,8 @@ fn push_label(wire: &mut ArrayBuilder<MAX_NAME>, label: &[u8]) -> Option<()>
     if label.is_empty() {
         return None;
     }
-    if wire.append_slice(&[label.len() as u8]).is_err() || wire.append_slice(label).is_err() {
-        return None;
-    }
-    Some(())
+    wire.append_slice(&[label.len() as u8]).ok()?;
+    wire.append_slice(label).ok()
 }
 
 /// Appends the label that a text begins with, and answers what follows it.
@@ -192,25 +172,12 @@ fn put_lengths(octets: &mut [u8], text: &[u8]) -> Option<usize>
     }
 }
 
-/// Whether a text is a dot and nothing more.
-fn is_dot(text: &[u8]) -> bool
-    ensures { IsTrue result ↔ (text.now ≡ dot ∷ []) }
-{
-    match text {
-        [octet] => *octet == b'.',
-        _ => false,
-    }
-}
-
 /// Appends the root, if there is room for it.
 fn push_root(wire: &mut ArrayBuilder<MAX_NAME>) -> Option<()>
     ensures root { OnSome result (wire.new ≡ wire.old ++ 0 ∷ []) }
     ensures room { IsSome result ↔ (length wire.old < 255) }
 {
-    match wire.append_slice(&[0]) {
-        Ok(()) => Some(()),
-        Err(_) => None,
-    }
+    wire.append_slice(&[0]).ok()
 }
 
 /// Puts the root after the first octets, so many: in the place of the last, where these are all but
@@ -237,9 +204,8 @@ fn read_plain_name(wire: &mut ArrayBuilder<MAX_NAME>, text: &[u8]) -> Option<()>
     ensures { OnSome result ((labels : Name) × NameText text.now labels
         × (wire.new ≡ wire_of labels)) }
 {
-    if wire.append_slice(&[0]).is_err() || wire.append_slice(text).is_err() {
-        return None;
-    }
+    wire.append_slice(&[0]).ok()?;
+    wire.append_slice(text).ok()?;
     let len = put_lengths(wire.as_mut_slice(), text)?;
     put_root(wire, len)
 }
@@ -253,16 +219,14 @@ pub fn read_name(wire: &mut ArrayBuilder<MAX_NAME>, text: &[u8]) -> Option<()>
         × (wire.new ≡ wire_of labels)) }
     ensures none { IfNone result (IsNoName text.now) }
 {
-    if is_dot(text) {
+    if let [b'.'] = text {
         return push_root(wire);
     }
     if read_plain_name(wire, text).is_some() {
         return Some(());
     }
     wire.truncate(0);
-    if read_labels(wire, text).is_none() {
-        return None;
-    }
+    read_labels(wire, text)?;
     push_root(wire)
 }
 

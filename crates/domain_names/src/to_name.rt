@@ -142,23 +142,25 @@ pub trait ToName: TryClone {
     }
 
     /// The order of the names' wire forms, octet by octet.
+    #[tactic(auto, using(crate::proofs::WireLemmas::wire_is))]
     final fn composed_cmp<N: ToName>(&self, other: &N) -> Ordering
     where
         Self: Sized,
         ensures { result ≡ slice_cmp nat_cmp (wire_of (labels self.now))
             (wire_of (N.labels other.now)) }
     {
-        wire::composed_cmp(self.as_wire(), other.as_wire())
+        self.as_wire().cmp(other.as_wire())
     }
 
     /// The order of the names' wire forms with A to Z lowered, octet by octet.
+    #[tactic(auto, using(crate::proofs::CaseLemmas::lowered_wire))]
     final fn lowercase_composed_cmp<N: ToName>(&self, other: &N) -> Ordering
     where
         Self: Sized,
         ensures { result ≡ slice_cmp nat_cmp (wire_of (lowered (labels self.now)))
             (wire_of (lowered (N.labels other.now))) }
     {
-        wire::lowered_cmp(self.as_wire(), other.as_wire())
+        wire::lowered_octets_cmp(self.as_wire(), other.as_wire())
     }
 
     /// Whether the name is at or below another: whether the other's labels end its own, in either

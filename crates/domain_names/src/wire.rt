@@ -68,27 +68,19 @@ pub(crate) fn skip_labels(wire: &[u8], count: usize) -> &[u8]
     wire
 }
 
-/// The order of two octets with A to Z lowered. Octets that are the same are not lowered.
-fn lowered_octet_cmp(a: u8, b: u8) -> Ordering
-    ensures { result ≡ nat_cmp (to_ascii_lowercase a) (to_ascii_lowercase b) }
-{
-    if a == b {
-        return Ordering::Equal;
-    }
-    a.to_ascii_lowercase().cmp(&b.to_ascii_lowercase())
-}
-
-/// The order of octets with A to Z lowered.
+/// The order of octets with A to Z lowered. Octets that are the same are not lowered.
 #[tactic(auto, using(crate::proofs::PartingLemmas::lengths_decide))]
-fn lowered_octets_cmp(a: &[u8], b: &[u8]) -> Ordering
+pub(crate) fn lowered_octets_cmp(a: &[u8], b: &[u8]) -> Ordering
     ensures { result ≡ slice_cmp nat_cmp (map to_ascii_lowercase a.now)
         (map to_ascii_lowercase b.now) }
 {
     let most = a.len().min(b.len());
     for i in 0..most {
-        let order = lowered_octet_cmp(a[i], b[i]);
-        if order.is_ne() {
-            return order;
+        if a[i] != b[i] {
+            let order = a[i].to_ascii_lowercase().cmp(&b[i].to_ascii_lowercase());
+            if order.is_ne() {
+                return order;
+            }
         }
     }
     a.len().cmp(&b.len())
@@ -395,25 +387,4 @@ pub fn check(octets: &[u8]) -> Result<(), ParseError>
         Ok(_) => Err(ParseError::Form("trailing data")),
         Err(error) => Err(ParseError::from(error)),
     }
-}
-
-/// The order of the octets of two names.
-#[tactic(auto, using(crate::proofs::WireLemmas::wire_is))]
-pub fn composed_cmp(a: &[u8], b: &[u8]) -> Ordering
-    requires a { IsWire a.now }
-    requires b { IsWire b.now }
-    ensures { result ≡ slice_cmp nat_cmp (wire_of (labels_of a.now)) (wire_of (labels_of b.now)) }
-{
-    a.cmp(b)
-}
-
-/// The order of the lowered octets of two names.
-#[tactic(auto, using(crate::proofs::CaseLemmas::lowered_wire))]
-pub fn lowered_cmp(a: &[u8], b: &[u8]) -> Ordering
-    requires a { IsWire a.now }
-    requires b { IsWire b.now }
-    ensures { result ≡ slice_cmp nat_cmp (wire_of (lowered (labels_of a.now)))
-        (wire_of (lowered (labels_of b.now))) }
-{
-    lowered_octets_cmp(a, b)
 }

@@ -6,7 +6,7 @@ use Rattle.domain_names.proofs.text.read_plain_name.Goals as goal
 
 pub returns : goal.returns
 returns c =
-    let old = c.append_slice-else-is_err.new.self in
+    let old = c.append_slice-2.new.self in
     let octets = c.put_lengths.new.octets in
     let written : refill (length old) old octets ≡ octets =
     refilled (length old) old octets (sym (c.put_lengths.ensures.size ∙ ap length c.as_mut_slice.ensures.value)) in
