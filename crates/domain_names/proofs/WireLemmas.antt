@@ -1,6 +1,6 @@
 -- a name read label by label
-use Rattle.std.proofs.Common.{◌≡◌, ℕ, zero, suc, ◌+◌, ◌*◌, ◌<◌, ◌≤◌, List, [], ◌∷◌, length, get_or, take, drop, refl, sym, ap, subst, ◌∙◌, arith, length-append}
-use Rattle.std.{proofs.{Common.{add-one}, lemmas.{List.{take_at, drop_at, drop-drop, length-drop}, Grind.common_steps}}, specs.List.AllByRecursion}
+use Rattle.std.proofs.Common.{◌≡◌, ℕ, zero, suc, ◌+◌, ◌*◌, ◌<◌, ◌≤◌, List, [], ◌∷◌, length, get_or, take, drop, refl, sym, ap, ◌∙◌, arith, length-append}
+use Rattle.std.{proofs.{Common.{add-one}, lemmas.{List.{take_at, drop_at, drop-drop}, Grind.common_steps}}, specs.List.AllByRecursion}
 use Rattle.domain_names.specs.{Name.{wire_of, IsLabel, IsName}, Words.Name, Wire.{labels_within, labels_of, IsWire}}
 
 labels_within-wire_of : (labels : Name) (n : ℕ) → AllByRecursion IsLabel labels → length labels < n → labels_within n (wire_of labels) ≡ labels
@@ -51,13 +51,10 @@ label_from (label ∷ labels) valid other =
     )
 
 pub root_at : (octets : List ℕ) → IsWire octets → get_or octets 0 0 ≡ 0 → labels_of octets ≡ []
-root_at octets wire zero_first = root_from (labels_of octets) wire.valid.of_labels (subst (λ (w : List ℕ). get_or w 0 0 ≡ 0) wire.spelled zero_first)
+root_at octets wire zero_first = grind (arith, common_steps, root_from)
 
 pub label_at : (octets : List ℕ) → IsWire octets → (get_or octets 0 0 ≡ 0 → ⊥) → HasLabel octets
 label_at octets wire other = grind (arith, common_steps, label_from)
-
-pub count_at : (octets : List ℕ) → IsWire octets → length (labels_of octets) < 255
-count_at octets wire = omega (arith, wire.valid.fits, length-wire_of (labels_of octets))
 
 twice_length : (labels : Name) → AllByRecursion IsLabel labels → 2 * length labels < length (wire_of labels)
 twice_length [] all = omega arith
@@ -69,9 +66,6 @@ few_labels octets wire = omega (arith, wire.valid.fits, twice_length (labels_of 
 -- the rest of the labels, one at a time
 pub drop_next : (labels above : Name) (label : List ℕ) (i : ℕ) → drop i labels ≡ label ∷ above → drop (i + 1) labels ≡ above
 drop_next labels above label i h = sym (drop-drop 1 i labels) ∙ ap (drop 1) h
-
-pub drop_nothing : (labels : Name) (i : ℕ) → drop i labels ≡ [] → length labels ≤ i
-drop_nothing labels i h = omega (arith, length-drop i labels, ap length h)
 
 pub ruleset label_steps = (common_steps, length-wire, root_at, label_at)
 

@@ -36,7 +36,7 @@ pub fn split_first(wire: &[u8]) -> Option<(&[u8], &[u8])>
 }
 
 /// How many labels a name has.
-#[tactic(auto, using(crate::proofs::WireLemmas::count_at))]
+#[tactic(auto, using(crate::proofs::WireLemmas::few_labels))]
 pub(crate) fn count_labels(wire: &[u8]) -> usize
     requires { IsWire wire.now }
     ensures { result ≡ length (labels_of wire.now) }
@@ -51,7 +51,7 @@ pub(crate) fn count_labels(wire: &[u8]) -> usize
 }
 
 /// The name that is left without the first labels.
-#[tactic(auto, using(crate::proofs::WireLemmas::drop_next, crate::proofs::WireLemmas::drop_nothing))]
+#[tactic(auto, using(crate::proofs::WireLemmas::drop_next))]
 pub(crate) fn skip_labels(wire: &[u8], count: usize) -> &[u8]
     requires wire { IsWire wire.now }
     requires within { count ≤ length (labels_of wire.now) }
