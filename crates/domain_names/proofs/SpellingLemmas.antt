@@ -8,7 +8,8 @@ use Rattle.domain_names.specs.Text.{symbol_at, LabelText, ends, octet, HasNoLabe
 use Rattle.domain_names.{specs.Text.{root, of_labels, IsNoName}, proofs.WireLemmas.length-wire_of}
 use Rattle.domain_names.specs.Words.{Name}
 
-before_stops : (next after : List ℕ) → IsBefore next after → symbol_at after ≡ None
+-- no octet of a label stands where a label ends
+pub before_stops : (next after : List ℕ) → IsBefore next after → symbol_at after ≡ None
 unfolding symbol_at
 before_stops next after before = grind (arith, common_steps)
 
