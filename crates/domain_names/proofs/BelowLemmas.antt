@@ -1,19 +1,16 @@
 -- the end of a name that decides whether it is at or below another
 use Rattle.std.proofs.Common.{◌≡◌, ℕ, ◌≤◌, ◌<◌, List, [], ◌∷◌, ◌++◌, map, length, drop, sym, ap, ◌∙◌, arith}
-use Rattle.std.{proofs.lemmas.{List.length-map, Grind.common_steps}, specs.{Char.to_ascii_lowercase, Cmp.both_ways}}
+use Rattle.std.{proofs.lemmas.{Grind.common_steps}, specs.{Char.to_ascii_lowercase, Cmp.both_ways}}
 use Rattle.domain_names.specs.{Name.{wire_of, lowered, IsSame, IsAtOrBelow, is_at_or_below, same_name}, Wire.{labels_of, IsWire}, Laws.same_name_same}
 use Rattle.domain_names.proofs.{CaseLemmas.{at_or_below_test, lowered_size, octets_from_same}, PartingLemmas.wire_of-end, WireLemmas.length-wire}
 use Rattle.domain_names.specs.Words.{Name}
-
-same_size : (a b : List ℕ) → IsWire a → IsWire b → IsSame (labels_of a) (labels_of b) → length a ≡ length b
-same_size a b a_wire b_wire same = grind (arith, common_steps, (octets_from_same a b a_wire b_wire same), length-map)
 
 -- a name with more octets than the other is at or below it where the name above it is
 above_is_below : (end above label : List ℕ) (rest : Name) → IsWire end → IsWire above → labels_of end ≡ label ∷ rest
     → length above < length end → IsAtOrBelow (labels_of end) (labels_of above) → IsAtOrBelow rest (labels_of above)
 above_is_below end above label rest end_wire above_wire is longer below = go below.front below.joined where
   go : (front : Name) → lowered (labels_of end) ≡ front ++ lowered (labels_of above) → IsAtOrBelow rest (labels_of above)
-  go [] joined = absurd (omega (arith, longer, same_size end above end_wire above_wire joined))
+  go [] joined = absurd (omega (arith, longer, lowered_size end end_wire, lowered_size above above_wire, ap (λ l. length (wire_of l)) joined))
   go (f ∷ front) joined = record { front = front; joined = ap (drop 1) (sym (ap lowered is) ∙ joined) }
 
 pub longer_below : (end above label : List ℕ) (rest : Name) → IsWire end → IsWire above → labels_of end ≡ label ∷ rest

@@ -207,26 +207,15 @@ fn end_within<'a>(end: End<'a>, most: usize) -> End<'a>
     end
 }
 
-/// Where two names part.
-#[derive(Clone, Copy)]
-struct Parting<'a> {
-    /// The label of the first right below the shared end, if it has more labels than that.
-    left: Option<&'a [u8]>,
-    /// That of the second.
-    right: Option<&'a [u8]>,
-    /// The longest end that both have octet for octet.
-    shared: &'a [u8],
-}
-
-/// Where two names part.
+/// Where two names part: the longest end that both have octet for octet, as the end of each.
 #[tactic(auto, using(crate::proofs::PartingLemmas::alike_steps))]
-fn part<'a>(a: &'a [u8], b: &'a [u8]) -> Parting<'a>
+fn part<'a>(a: &'a [u8], b: &'a [u8]) -> (End<'a>, End<'a>)
     requires a { IsWire a.now }
     requires b { IsWire b.now }
-    ensures wire { IsWire result.shared.now }
+    ensures wire { IsWire result.0.wire.now }
     ensures parts { Part (labels_of a.now) (labels_of b.now)
-        (option_map (λ x. x.now) result.left) (option_map (λ y. y.now) result.right)
-        (labels_of result.shared.now) }
+        (option_map (λ x. x.now) result.0.below) (option_map (λ y. y.now) result.1.below)
+        (labels_of result.0.wire.now) }
 {
     let equal = equal_end(a, b);
     let mut x = end_within(
@@ -247,11 +236,7 @@ fn part<'a>(a: &'a [u8], b: &'a [u8]) -> Parting<'a>
         x = end_within(x, y.wire.len());
         y = end_within(y, x.wire.len());
     }
-    Parting {
-        left: x.below,
-        right: y.below,
-        shared: x.wire,
-    }
+    (x, y)
 }
 
 /// What the labels decide at which two names part, unless they differ in case alone. A name without
@@ -278,8 +263,8 @@ pub fn canonical_cmp(a: &[u8], b: &[u8]) -> Ordering
     requires b { IsWire b.now }
     ensures { result ≡ canonical_cmp (labels_of a.now) (labels_of b.now) }
 {
-    let parting = part(a, b);
-    match order_below(parting.left, parting.right) {
+    let (x, y) = part(a, b);
+    match order_below(x.below, y.below) {
         Some(order) => order,
         None => compare_from_root(a, b).order,
     }
@@ -323,11 +308,11 @@ pub fn compare(a: &[u8], b: &[u8]) -> Comparison
     ensures order { result.order ≡ canonical_cmp (labels_of a.now) (labels_of b.now) }
     ensures common { result.common ≡ common_labels (labels_of a.now) (labels_of b.now) }
 {
-    let parting = part(a, b);
-    match order_below(parting.left, parting.right) {
+    let (x, y) = part(a, b);
+    match order_below(x.below, y.below) {
         Some(order) => Comparison {
             order,
-            common: count_labels(parting.shared),
+            common: count_labels(x.wire),
         },
         None => compare_from_root(a, b),
     }
