@@ -1,9 +1,8 @@
 -- the end of a name that decides whether it is at or below another
 use Rattle.std.proofs.Common.{◌≡◌, ℕ, ◌≤◌, ◌<◌, List, [], ◌∷◌, ◌++◌, map, length, drop, sym, ap, ◌∙◌, arith}
-use Rattle.std.{proofs.lemmas.{Grind.common_steps}, specs.{Char.to_ascii_lowercase, Cmp.both_ways}}
-use Rattle.domain_names.specs.{Name.{wire_of, lowered, IsSame, IsAtOrBelow, is_at_or_below, same_name}, Wire.{labels_of, IsWire}, Laws.same_name_same}
-use Rattle.domain_names.proofs.{CaseLemmas.{at_or_below_test, lowered_size, octets_from_same}, PartingLemmas.wire_of-end, WireLemmas.length-wire}
-use Rattle.domain_names.specs.Words.{Name}
+use Rattle.std.{proofs.lemmas.Grind.common_steps, specs.{Char.to_ascii_lowercase, Cmp.both_ways}}
+use Rattle.domain_names.specs.{Name.{wire_of, lowered, IsSame, IsAtOrBelow, is_at_or_below, same_name}, Wire.{labels_of, IsWire}, Words.Name}
+use Rattle.domain_names.{specs.Laws.same_name_same, proofs.{CaseLemmas.{at_or_below_test, lowered_size}, PartingLemmas.wire_of-end, WireLemmas.length-wire}}
 
 -- a name with more octets than the other is at or below it where the name above it is
 above_is_below : (end above label : List ℕ) (rest : Name) → IsWire end → IsWire above → labels_of end ≡ label ∷ rest

@@ -1,7 +1,6 @@
 -- names with A to Z as a to z, on the wire
 use Rattle.std.proofs.Common.{◌≡◌, ℕ, ◌-◌, ◌<◌, ◌≤◌, List, [], ◌∷◌, ◌++◌, length, map, take, drop, refl, sym, ap, ◌∙◌, arith, length-append}
-use Rattle.std.proofs.lemmas.{List.{length-map, take-append-drop, drop_at, Elements.{All-map, All-weaker}}, Bool.Decides.nat_tests}
-use Rattle.std.proofs.lemmas.Grind.{common_steps}
+use Rattle.std.proofs.lemmas.{Grind.common_steps, List.{length-map, take-append-drop, drop_at, Elements.{All-map, All-weaker}}, Bool.Decides.nat_tests}
 use Rattle.std.specs.{Char.to_ascii_lowercase, List.AllByRecursion, Bool.Decides, Cmp.{both_ways, Lexicographic.{pointwise_decides, bytes_decides}}}
 use Rattle.domain_names.specs.{Name.{wire_of, lowered, IsLabel, IsName, IsSame, IsAtOrBelow, is_at_or_below}, Wire.{labels_of, IsWire}, Words.Name}
 use Rattle.domain_names.{specs.Laws.same_name_same, proofs.{WireLemmas.labels_of-wire_of, OrderLemmas.same_octets}}
@@ -30,9 +29,8 @@ IsName-lowered labels valid = grind (arith, common_steps, labels-lowered, wire_o
 
 pub same_from_octets : (a b : List ℕ) → IsWire a → IsWire b → map to_ascii_lowercase a ≡ map to_ascii_lowercase b → IsSame (labels_of a) (labels_of b)
 same_from_octets a b a_wire b_wire same =
-    sym (labels_of-wire_of (lowered (labels_of a)) (IsName-lowered (labels_of a) a_wire.valid))
-    ∙ ap labels_of (lowered_wire a a_wire ∙ same ∙ sym (lowered_wire b b_wire))
-    ∙ labels_of-wire_of (lowered (labels_of b)) (IsName-lowered (labels_of b) b_wire.valid)
+    let back = λ (o : List ℕ) (wire : IsWire o). labels_of-wire_of (lowered (labels_of o)) (IsName-lowered (labels_of o) wire.valid) in
+    sym (back a a_wire) ∙ ap labels_of (lowered_wire a a_wire ∙ same ∙ sym (lowered_wire b b_wire)) ∙ back b b_wire
 
 pub octets_from_same : (a b : List ℕ) → IsWire a → IsWire b → IsSame (labels_of a) (labels_of b) → map to_ascii_lowercase a ≡ map to_ascii_lowercase b
 octets_from_same a b a_wire b_wire same = sym (lowered_wire a a_wire) ∙ ap wire_of same ∙ lowered_wire b b_wire

@@ -1,11 +1,10 @@
 -- octets begin with a name or have a first fault
 use Rattle.std.proofs.Common.{◌≡◌, ℕ, ◌+◌, ◌<◌, ◌≤◌, List, [], ◌∷◌, ◌++◌, length, get_or, take, drop, refl, sym, ap, subst, ◌∙◌, arith, length-append}
 use Rattle.std.proofs.lemmas.List.{append-nil, append_assoc, take-append-drop, drop_at, take_at, drop_more, drop_all, length-drop, length-take-le}
-use Rattle.std.{proofs.lemmas.{Grind.common_steps}, specs.{Prelude.{codes, All}, List.AllByRecursion}}
-use Rattle.domain_names.specs.{Name.{wire_of, IsLabel, IsName}, Wire.{labels_of, IsWire}}
+use Rattle.std.{proofs.lemmas.Grind.common_steps, specs.{Prelude.{codes, All}, List.AllByRecursion}}
+use Rattle.domain_names.specs.{Name.{wire_of, IsLabel, IsName}, Wire.{labels_of, IsWire}, Words.Name}
 use Rattle.domain_names.specs.Fault.{Fault, ends_early, malformed, NameFault, no_octet, bad_label, long_name, cut_label, past_label, WholeNameFault, in_name}
 use Rattle.domain_names.{specs.Fault.trailing, proofs.WireLemmas.{length-wire_of, IsWire-wire_of}}
-use Rattle.domain_names.specs.Words.{Name}
 
 -- what follows the first label
 pub rest_of : (label rest l ls : List ℕ) → length label ≡ length l → label ++ rest ≡ l ++ ls → rest ≡ ls
@@ -45,15 +44,12 @@ one_reading (x ∷ xs) (y ∷ ys) a b xs_valid ys_valid same =
     let tails : (x ++ wire_of xs) ++ a ≡ (y ++ wire_of ys) ++ b = cc in
     let joined : x ++ (wire_of xs ++ a) ≡ y ++ (wire_of ys ++ b) = sym (append_assoc x _ a) ∙ tails ∙ append_assoc y _ b in
     let heads : x ≡ y = sym (take_at x _ _ refl) ∙ ap (take (length x)) joined ∙ take_at y _ _ (sym long) in
-    let rest = one_reading xs ys a b xs_valid.1 ys_valid.1 (rest_of x _ y _ long joined) in
-    let labels = rest.0 in
-    (cc, rest.1)
+    let rest = one_reading xs ys a b xs_valid.1 ys_valid.1 (rest_of x _ y _ long joined) in grind (arith, common_steps)
 
 pub no_fault : (octets : List ℕ) (fault : Fault) → WholeNameFault octets fault → IsWire octets → ⊥
-no_fault octets fault (in_name o f found) wire = no_name_fault o f found (labels_of o) [] wire.valid (wire.spelled ∙ sym (append-nil (wire_of (labels_of o))))
+no_fault octets fault (in_name o f found) wire = no_name_fault o f found (labels_of o) [] wire.valid (wire.spelled ∙ sym (append-nil _))
 no_fault octets fault (trailing labels after valid some) wire =
-    some (one_reading labels (labels_of (wire_of labels ++ after)) after [] valid.of_labels wire.valid.of_labels (wire.spelled
-    ∙ sym (append-nil (wire_of (labels_of (wire_of labels ++ after)))))).1
+    some (one_reading labels _ after [] valid.of_labels wire.valid.of_labels (wire.spelled ∙ sym (append-nil _))).1
 
 -- a name and more
 pub trailing_fault : (name after : List ℕ) → IsWire name → 1 ≤ length after → WholeNameFault (name ++ after) (malformed (codes "trailing data"))

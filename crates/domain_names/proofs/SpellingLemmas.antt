@@ -3,10 +3,9 @@ use Rattle.std.proofs.Common.{◌≡◌, ◌≢◌, ℕ, zero, suc, take, get_or
 use Rattle.std.proofs.Common.{◌∙◌, ◌-◌, arith, length-append, slice_set, inl, rules}
 use Rattle.std.proofs.{lemmas.{List.{append-nil, append_assoc, length-drop, take_at, take_more}, Grind.common_steps}, Math.Seq.set-append_seam}
 use Rattle.std.specs.{Prelude.{IsSome, IfSome}, List.AllByRecursion}
-use Rattle.domain_names.specs.Name.{wire_of, IsLabel, IsName}
-use Rattle.domain_names.specs.Text.{symbol_at, LabelText, ends, octet, HasNoLabel, HasNoLabelAfter, LabelTexts, IsBefore, last, dotted, NameText}
-use Rattle.domain_names.{specs.Text.{root, of_labels, IsNoName}, proofs.WireLemmas.length-wire_of}
-use Rattle.domain_names.specs.Words.{Name}
+use Rattle.domain_names.{specs.{Name.{wire_of, IsLabel, IsName}, Words.Name}, proofs.WireLemmas.length-wire_of}
+use Rattle.domain_names.specs.Text.{symbol_at, LabelText, ends, octet, HasNoLabel, HasNoLabelAfter, LabelTexts, IsBefore, last, dotted}
+use Rattle.domain_names.specs.Text.{NameText, root, of_labels, IsNoName}
 
 -- no octet of a label stands where a label ends
 pub before_stops : (next after : List ℕ) → IsBefore next after → symbol_at after ≡ None
@@ -56,7 +55,7 @@ unfolding symbol_at
 plain_symbol c text slash dot low high = grind (arith, common_steps)
 
 pub spelling_ends : (text rest done : List ℕ) → Spelling text rest done → symbol_at rest ≡ None → LabelText text done rest
-spelling_ends text rest done so_far none = subst (λ l. LabelText text l rest) (append-nil done) (so_far.onward [] rest (ends rest none))
+spelling_ends text rest done so_far none = rw append-nil at (so_far.onward [] rest (ends rest none))
 
 -- a label that is spelled without escapes
 pub plain_label : (text label rest : List ℕ) (n : ℕ) → n ≤ length text
