@@ -230,3 +230,5 @@ pub ruleset naming_steps = (common_steps, after_label, naming_goes, naming_ends,
 pub ruleset spelling_steps = (common_steps, spelling_goes, spelling_ends, no_label_by_length)
 
 pub ruleset named_steps = (common_steps, named_root, long_name, no_name)
+
+pub ruleset measuring_steps = (measuring_begins, measuring_goes)

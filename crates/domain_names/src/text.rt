@@ -151,7 +151,7 @@ fn split_plain_label(text: &[u8]) -> Option<(&[u8], &[u8])>
 /// Puts the length of each label before it, where a text stands after one more octet. The labels
 /// then fill so many octets: all, or all but a last dot. Answers none where a character does not
 /// stand for itself, or where there is no label.
-#[tactic(auto, using(crate::proofs::SpellingLemmas::measuring_begins))]
+#[tactic(auto, using(crate::proofs::SpellingLemmas::measuring_steps))]
 fn put_lengths(octets: &mut [u8], text: &[u8]) -> Option<usize>
     requires { (first : ℕ) × (octets.old ≡ first ∷ text.now) }
     ensures within { IfSome result (λ n. n ≤ length octets.new) }
@@ -234,14 +234,10 @@ pub fn read_name(wire: &mut ArrayBuilder<MAX_NAME>, text: &[u8]) -> Option<()>
 fn is_special(octet: u8) -> bool
     ensures { result ≡ is_special octet }
 {
-    octet == b'"'
-        || octet == b'$'
-        || octet == b'('
-        || octet == b')'
-        || octet == b'.'
-        || octet == b';'
-        || octet == b'@'
-        || octet == b'\\'
+    matches!(
+        octet,
+        b'"' | b'$' | b'(' | b')' | b'.' | b';' | b'@' | b'\\'
+    )
 }
 
 #[tactic(auto, using(crate::proofs::TextLemmas::octet_steps), unfolding(crate::specs::Text::octet_text))]

@@ -1,11 +1,6 @@
 use Rattle.std.proofs.{Common.arith, lemmas.Grind.common_steps}
-use Rattle.domain_names.proofs.SpellingLemmas.{measuring_goes, measuring_ends}
+use Rattle.domain_names.proofs.SpellingLemmas.{measuring_ends}
 use Rattle.domain_names.proofs.text.put_lengths.Goals as goal
-
-pub loop-label-preserved : goal.loop-label-preserved
-loop-label-preserved c =
-    let here = c.in_ok-label.ensures in
-    grind (arith, common_steps, (measuring_goes c.loop-label.invariant _ _ here.parts here.label here.valid c.in_ok-rest.rest.now c.in_ok-rest.ensures.some))
 
 pub returns-then-is_empty-clause-labels : goal.returns-then-is_empty-clause-labels
 returns-then-is_empty-clause-labels c =
