@@ -8,8 +8,8 @@ use Rattle.domain_octets.{specs.Line.{HasNoSpace, IsWord}, proofs.WordLemmas.{no
 use Rattle.domain_base.specs.Named.{Named, number_named, name_of, NumberText, by_name, by_number}
 use Rattle.domain_base.specs.{Numbers.{type_names, TypeText, type_text, class_names, ClassText, class_text}, Scan.IsNumber}
 use Rattle.domain_names.specs.Name.{IsLabel, IsName}
-use Rattle.domain_names.specs.Text.{symbol_at, is_special, octet_text, label_text, dotted_text, name_text, LabelText, at_end, at_dot, octet}
-use Rattle.domain_names.specs.Text.{LabelTexts, last, last_with_dot, dotted, NameText, root, of_labels}
+use Rattle.domain_names.specs.Text.{symbol_at, is_special, octet_text, label_text, dotted_text, name_text, LabelText, ends, octet, IsBefore}
+use Rattle.domain_names.{specs.Text.{LabelTexts, last, dotted, NameText, root, of_labels}, proofs.SpellingLemmas.before_stops}
 
 -- ---- numbers
 
@@ -72,13 +72,13 @@ symbol_back c rest small = elim (cases_Bool (is_special c)) [
 ]
 
 -- a label's text is read as that label, where nothing or a dot follows
-label_back : (label rest : List ℕ) → AllByRecursion (λ c. c < 256) label → LabelText rest [] rest → LabelText (label_text label ++ rest) label rest
-label_back [] rest small ends = ends
-label_back (c ∷ label) rest small ends =
+label_back : (label next rest : List ℕ) → AllByRecursion (λ c. c < 256) label → IsBefore next rest → LabelText (label_text label ++ rest) label rest
+label_back [] next rest small before = ends rest (before_stops next rest before)
+label_back (c ∷ label) next rest small before =
     let symbol = symbol_back c _ small.0 in
     subst (λ t. LabelText t (c ∷ label) rest) (sym (append_assoc (octet_text c) (label_text label) rest))
     (octet (octet_text c ++ (label_text label ++ rest)) label rest c symbol.used symbol.read
-    (subst (λ t. LabelText t label rest) (sym symbol.left) (label_back label rest small.1 ends)))
+    (subst (λ t. LabelText t label rest) (sym symbol.left) (label_back label next rest small.1 before)))
 
 label_octets : (label : List ℕ) → IsLabel label → AllByRecursion (λ c. c < 256) label
 label_octets label valid = recursion_from_All (λ c. c < 256) label valid.octets
@@ -88,19 +88,20 @@ with_dot : (label : List ℕ) (labels : List (List ℕ)) → AllByRecursion IsLa
     → LabelTexts (name_text (label ∷ labels) ++ 46 ∷ []) (label ∷ labels)
 with_dot label [] valid =
     subst (λ t. LabelTexts (t ++ 46 ∷ []) (label ∷ [])) (sym (append-nil _))
-    (last_with_dot (label_text label ++ 46 ∷ []) label (label_back label (46 ∷ []) (label_octets label valid.0) (at_dot [])))
+    (last (label_text label ++ 46 ∷ []) label (46 ∷ []) (label_back label [] (46 ∷ []) (label_octets label valid.0) (inl refl)) valid.0 (inl refl))
 with_dot label (next ∷ labels) valid =
     let after = name_text (next ∷ labels) ++ 46 ∷ [] in
     subst (λ t. LabelTexts t (label ∷ next ∷ labels)) (sym (append_assoc (label_text label) (dotted_text (next ∷ labels)) (46 ∷ [])))
     (dotted (label_text label ++ 46 ∷ after) label after (next ∷ labels)
-    (label_back label (46 ∷ after) (label_octets label valid.0) (at_dot after)) (with_dot next labels valid.1))
+    (label_back label after (46 ∷ after) (label_octets label valid.0) (inl refl)) valid.0 (with_dot next labels valid.1))
 
 without_dot : (label : List ℕ) (labels : List (List ℕ)) → AllByRecursion IsLabel (label ∷ labels) → LabelTexts (name_text (label ∷ labels)) (label ∷ labels)
-without_dot label [] valid = last (label_text label ++ []) label (label_back label [] (label_octets label valid.0) at_end)
+without_dot label [] valid =
+    last (label_text label ++ []) label [] (label_back label [] [] (label_octets label valid.0) (inr (refl, refl))) valid.0 (inr (refl, refl))
 without_dot label (next ∷ labels) valid =
     let after = name_text (next ∷ labels) in
     dotted (label_text label ++ 46 ∷ after) label after (next ∷ labels)
-    (label_back label _ (label_octets label valid.0) (at_dot after)) (without_dot next labels valid.1)
+    (label_back label after _ (label_octets label valid.0) (inl refl)) valid.0 (without_dot next labels valid.1)
 
 pub dotted_name_back : (name : List (List ℕ)) → IsName name → NameText (name_text name ++ 46 ∷ []) name
 dotted_name_back [] valid = root

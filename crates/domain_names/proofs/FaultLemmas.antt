@@ -1,33 +1,27 @@
 -- octets begin with a name or have a first fault
 use Rattle.std.proofs.Common.{◌≡◌, ℕ, ◌+◌, ◌<◌, ◌≤◌, List, [], ◌∷◌, ◌++◌, length, get_or, take, drop, refl, sym, ap, subst, ◌∙◌, arith, length-append}
-use Rattle.std.proofs.lemmas.List.{append-nil, append_assoc, take-append-drop, drop-drop, drop_at, take_at, drop_more, drop_all, length-drop, length-take-le}
-use Rattle.std.{proofs.lemmas.{List.Elements.{All-take, All-drop}, Grind.common_steps}, specs.{Prelude.{codes, All}, List.AllByRecursion}}
-use Rattle.domain_names.specs.{Name.{wire_of, IsLabel, IsName}, Wire.{labels_of, IsWire}}
+use Rattle.std.proofs.lemmas.List.{append-nil, append_assoc, take-append-drop, drop_at, take_at, drop_more, drop_all, length-drop, length-take-le}
+use Rattle.std.{proofs.lemmas.Grind.common_steps, specs.{Prelude.{codes, All}, List.AllByRecursion}}
+use Rattle.domain_names.specs.{Name.{wire_of, IsLabel, IsName}, Wire.{labels_of, IsWire}, Words.Name}
 use Rattle.domain_names.specs.Fault.{Fault, ends_early, malformed, NameFault, no_octet, bad_label, long_name, cut_label, past_label, WholeNameFault, in_name}
 use Rattle.domain_names.{specs.Fault.trailing, proofs.WireLemmas.{length-wire_of, IsWire-wire_of}}
-
--- the octets are these labels and the root, after so many octets of the name, and then others
-pub record Reads (used : ℕ) (octets : List ℕ) (labels : List (List ℕ)) (after : List ℕ) : Type 0 where
-  pub spelled : octets ≡ wire_of labels ++ after
-  pub of_labels : AllByRecursion IsLabel labels
-  pub fits : used + length (wire_of labels) ≤ 255
 
 -- what follows the first label
 pub rest_of : (label rest l ls : List ℕ) → length label ≡ length l → label ++ rest ≡ l ++ ls → rest ≡ ls
 rest_of label rest l ls long same = sym (drop_at label rest (length label) refl) ∙ ap (drop (length label)) same ∙ drop_at l ls (length label) (sym long)
 
 no_fault_by : (used : ℕ) (octets : List ℕ) (fault : Fault) → NameFault used octets fault
-    → (labels : List (List ℕ)) (after : List ℕ) → octets ≡ wire_of labels ++ after → AllByRecursion IsLabel labels
+    → (labels : Name) (after : List ℕ) → octets ≡ wire_of labels ++ after → AllByRecursion IsLabel labels
     → used + length (wire_of labels) ≤ 255 → ⊥
 no_fault_by used octets fault no_octet [] after is all fits = cc
+no_fault_by used octets fault (bad_label len rest big) [] after is all fits = grind (arith, common_steps)
+no_fault_by used octets fault (long_name len rest some small big) [] after is all fits = grind (arith, common_steps)
+no_fault_by used octets fault (cut_label len rest some small short cut) [] after is all fits = grind (arith, common_steps)
+no_fault_by used octets fault (past_label label rest f some small short next) [] after is all fits = grind (arith, common_steps)
 no_fault_by used octets fault no_octet (l ∷ ls) after is all fits = cc
-no_fault_by used octets fault (bad_label len rest big) [] after is all fits = let e : len ≡ 0 = cc in omega arith
 no_fault_by used octets fault (bad_label len rest big) (l ∷ ls) after is all fits = grind (arith, common_steps)
-no_fault_by used octets fault (long_name len rest some small big) [] after is all fits = let e : len ≡ 0 = cc in omega arith
 no_fault_by used octets fault (long_name len rest some small big) (l ∷ ls) after is all fits = grind (arith, common_steps, (length-wire_of ls))
-no_fault_by used octets fault (cut_label len rest some small short cut) [] after is all fits = let e : len ≡ 0 = cc in omega arith
 no_fault_by used octets fault (cut_label len rest some small short cut) (l ∷ ls) after is all fits = grind (arith, common_steps)
-no_fault_by used octets fault (past_label label rest f some small short next) [] after is all fits = let e : length label ≡ 0 = cc in omega arith
 no_fault_by used octets fault (past_label label rest f some small short next) (l ∷ ls) after is all fits =
     let long : length label ≡ length l = cc in
     let tails : label ++ rest ≡ (l ++ wire_of ls) ++ after = cc in
@@ -35,12 +29,12 @@ no_fault_by used octets fault (past_label label rest f some small short next) (l
     no_fault_by _ rest f next ls after rest_is all.1 (omega (arith, fits, length-append l (wire_of ls)))
 
 -- octets that begin with a name have no fault in it
-pub no_name_fault : (octets : List ℕ) (fault : Fault) → NameFault 0 octets fault → (labels : List (List ℕ)) (after : List ℕ)
+pub no_name_fault : (octets : List ℕ) (fault : Fault) → NameFault 0 octets fault → (labels : Name) (after : List ℕ)
     → IsName labels → octets ≡ wire_of labels ++ after → ⊥
 no_name_fault octets fault found labels after valid is = no_fault_by 0 octets fault found labels after is valid.of_labels (omega (arith, valid.fits))
 
 -- octets begin with one name at most
-pub one_reading : (xs ys : List (List ℕ)) (a b : List ℕ) → AllByRecursion IsLabel xs → AllByRecursion IsLabel ys
+pub one_reading : (xs ys : Name) (a b : List ℕ) → AllByRecursion IsLabel xs → AllByRecursion IsLabel ys
     → wire_of xs ++ a ≡ wire_of ys ++ b → (xs ≡ ys) × (a ≡ b)
 one_reading [] [] a b xs_valid ys_valid same = (refl, cc)
 one_reading [] (y ∷ ys) a b xs_valid ys_valid same = grind (arith, common_steps)
@@ -50,33 +44,30 @@ one_reading (x ∷ xs) (y ∷ ys) a b xs_valid ys_valid same =
     let tails : (x ++ wire_of xs) ++ a ≡ (y ++ wire_of ys) ++ b = cc in
     let joined : x ++ (wire_of xs ++ a) ≡ y ++ (wire_of ys ++ b) = sym (append_assoc x _ a) ∙ tails ∙ append_assoc y _ b in
     let heads : x ≡ y = sym (take_at x _ _ refl) ∙ ap (take (length x)) joined ∙ take_at y _ _ (sym long) in
-    let rest = one_reading xs ys a b xs_valid.1 ys_valid.1 (rest_of x _ y _ long joined) in
-    let labels = rest.0 in
-    (cc, rest.1)
+    let rest = one_reading xs ys a b xs_valid.1 ys_valid.1 (rest_of x _ y _ long joined) in grind (arith, common_steps)
 
 pub no_fault : (octets : List ℕ) (fault : Fault) → WholeNameFault octets fault → IsWire octets → ⊥
-no_fault octets fault (in_name o f found) wire = no_name_fault o f found (labels_of o) [] wire.valid (wire.spelled ∙ sym (append-nil (wire_of (labels_of o))))
+no_fault octets fault (in_name o f found) wire = no_name_fault o f found (labels_of o) [] wire.valid (wire.spelled ∙ sym (append-nil _))
 no_fault octets fault (trailing labels after valid some) wire =
-    some (one_reading labels (labels_of (wire_of labels ++ after)) after [] valid.of_labels wire.valid.of_labels (wire.spelled
-    ∙ sym (append-nil (wire_of (labels_of (wire_of labels ++ after)))))).1
+    some (one_reading labels _ after [] valid.of_labels wire.valid.of_labels (wire.spelled ∙ sym (append-nil _))).1
 
 -- a name and more
-pub trailing_fault : (octets name after : List ℕ) → IsWire name → octets ≡ name ++ after → (after ≡ [] → ⊥)
-    → WholeNameFault octets (malformed (codes "trailing data"))
-trailing_fault octets name after wire is some =
-    subst (λ o. WholeNameFault o (malformed (codes "trailing data"))) (sym (is ∙ ap (λ n. n ++ after) wire.spelled))
-    (trailing (labels_of name) after wire.valid some)
+pub trailing_fault : (name after : List ℕ) → IsWire name → 1 ≤ length after → WholeNameFault (name ++ after) (malformed (codes "trailing data"))
+trailing_fault name after wire some =
+    subst (λ n. WholeNameFault (n ++ after) (malformed (codes "trailing data"))) (sym wire.spelled)
+    (trailing (labels_of name) after wire.valid (λ e. omega (arith, some, ap length e)))
 
-named : (octets after : List ℕ) (labels : List (List ℕ)) (count : ℕ) → Reads 0 octets labels after
-    → length (wire_of labels) ≡ count → IsWire (take count octets)
-named octets after labels count reads long = grind (arith, common_steps, IsWire-wire_of)
+named : (octets after : List ℕ) (labels : Name) → octets ≡ wire_of labels ++ after → AllByRecursion IsLabel labels
+    → length (wire_of labels) ≤ 255 → IsWire (take (length (wire_of labels)) octets)
+named octets after labels spelled all fits = grind (arith, common_steps, IsWire-wire_of)
 
 -- a part of the octets has been read as labels
 pub record Reading (octets : List ℕ) (at : ℕ) : Type 0 where
   pub inside : at ≤ length octets
   pub short : at < 255
   pub fault : (f : Fault) → NameFault at (drop at octets) f → NameFault 0 octets f
-  pub name : (labels : List (List ℕ)) (after : List ℕ) → Reads at (drop at octets) labels after → IsWire (take (at + length (wire_of labels)) octets)
+  pub name : (labels : Name) (after : List ℕ) → drop at octets ≡ wire_of labels ++ after → AllByRecursion IsLabel labels
+      → at + length (wire_of labels) ≤ 255 → IsWire (take (at + length (wire_of labels)) octets)
 
 pub reading_begins : (octets : List ℕ) → Reading octets 0
 reading_begins octets = grind (arith, common_steps, named)
@@ -91,30 +82,19 @@ module _ (octets : List ℕ) (at len : ℕ) (below : at < length octets) (is : g
       let label = take len (drop (at + 1) octets) in
       let rest = drop (at + 1 + len) octets in
       let long : length label ≡ len = length-take-le len _ (omega (arith, length-drop (at + 1) octets)) in
-      let tail : drop (at + 1) octets ≡ label ++ rest = sym (take-append-drop len _)
-      ∙ ap (λ r. label ++ r) (drop-drop len _ octets) in
-      let here : drop at octets ≡ length label ∷ (label ++ rest) = rw long (ahead ∙ ap (λ r. len ∷ r) tail) in
+      let here : drop at octets ≡ length label ∷ (label ++ rest) = grind (arith, common_steps, ahead, (take-append-drop len (drop (at + 1) octets))) in
       let used : at + length label + 1 ≡ at + 1 + len = omega arith in
-      let label_bytes = All-take (λ octet. octet < 256) len _ (All-drop (λ octet. octet < 256) _ octets bytes) in
       record {
         inside = inside;
         short = short;
         fault = λ f h. so_far.fault f (rw here (past_label {used = at} label rest f (omega arith) (omega arith) (omega arith) (rw used h)));
-        name = λ labels after h.
-            let count : at + length (wire_of (label ∷ labels)) ≡ at + 1 + len + length (wire_of labels) = omega (arith, length-append label (wire_of labels)) in
-            rw (← count) (so_far.name (label ∷ labels) after (record {
-              spelled = here ∙ ap (λ r. length label ∷ (label ++ r)) h.spelled ∙ ap (λ r. length label ∷ r) (sym (append_assoc label (wire_of labels) after));
-              of_labels = (record { not_empty = omega arith; fits = omega arith; octets = label_bytes }, h.of_labels);
-              fits = omega (arith, h.fits, length-append label (wire_of labels));
-            }));
+        name = λ labels after spelled all fits.
+            let valid : IsLabel label = record { not_empty = omega arith; fits = omega arith; octets = grind (arith, common_steps) } in
+            grind (arith, common_steps, (so_far.name (label ∷ labels) after));
       }
 
   pub reading_ends : Reading octets at → len ≡ 0 → IsWire (take (at + 1) octets)
-  reading_ends so_far root = so_far.name [] (drop (at + 1) octets) (record {
-    spelled = ahead ∙ ap (λ n. n ∷ drop (at + 1) octets) root;
-    of_labels = tt;
-    fits = omega (arith, so_far.short);
-  })
+  reading_ends so_far root = so_far.name [] (drop (at + 1) octets) (ahead ∙ ap (λ n. n ∷ drop (at + 1) octets) root) tt (omega (arith, so_far.short))
 
   pub label_fault : Reading octets at → 63 < len → NameFault 0 octets (malformed (codes "compressed or bad label"))
   label_fault so_far big = so_far.fault _ (rw ahead (bad_label {used = at} len (drop (at + 1) octets) big))

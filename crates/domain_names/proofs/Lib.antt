@@ -6,4 +6,3 @@ pub mod BelowLemmas
 pub mod FaultLemmas
 pub mod TextLemmas
 pub mod SpellingLemmas
-pub mod CommonLemmas

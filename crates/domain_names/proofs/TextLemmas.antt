@@ -1,10 +1,11 @@
 -- the text of an octet in decimal digits, of octets that are written as they are, and of names
-use Rattle.std.proofs.Common.{arith, ℕ, ◌/◌, ◌%◌, ◌<◌, ◌≡◌, ◌∷◌, ◌++◌, ◌-◌, [], suc, List, true, false, refl, sym, ap, ◌∙◌, length, take, drop, slice_set, ◌≤◌}
-use Rattle.std.proofs.{Common.{length-append, append_assoc, append-nil}, lemmas.{Grind.common_steps, List.{length-set, Elements.{All-head, All-tail}}}}
-use Rattle.std.proofs.{Math.Seq.set-append_seam, lemmas.{Str.{IsAscii-append, Ascii.IsAscii-nil}, Fmt.decimal_digit}}
+use Rattle.std.proofs.Common.{arith, ℕ, zero, suc, ◌/◌, ◌%◌, ◌<◌, ◌≤◌, ◌≡◌, ◌∷◌, ◌++◌, ◌-◌, [], List, true, false, refl, ap, subst, ◌∙◌, length, take, drop}
+use Rattle.std.proofs.{Common.{length-append, append_assoc, append-nil, slice_set, take_all}, Math.Seq.set-append_seam}
+use Rattle.std.proofs.lemmas.{Grind.common_steps, Bool.eqb-true, List.{Elements.{All-head, All-tail}}}
+use Rattle.std.proofs.lemmas.{Str.{IsAscii-append, IsUtf8-from_ascii, Ascii.IsAscii-nil}, Fmt.decimal_digit}
 use Rattle.std.specs.{List.{All, AllByRecursion as ByRecursion, AllPass}, Str.IsAscii, Fmt.decimal, Char.is_ascii_graphic}
-use Rattle.domain_names.specs.{Name.{wire_of, IsLabel, IsName}, Text.{octet_text, label_text, dotted_text, name_text, is_special, is_ordinary}}
-use Rattle.domain_names.specs.Wire.{labels_of, IsWire}
+use Rattle.domain_names.specs.{Text.{octet_text, label_text, dotted_text, is_special, is_ordinary}, Wire.{labels_of, IsWire}}
+use Rattle.domain_names.specs.{Name.{wire_of, IsLabel, IsName}, Words.Name}
 
 pub octet_text_in_digits : (c : ℕ) → c < 256 → is_special c ≡ false → is_ascii_graphic c ≡ false
     → octet_text c ≡ 92 ∷ (decimal (c / 100) ++ (decimal (c / 10 % 10) ++ decimal (c % 10)))
@@ -16,11 +17,14 @@ unfolding octet_text
 ordinary_octet c ordinary = grind (arith, common_steps)
 
 -- a label whose octets are all written as they are
-pub ordinary_text : (label : List ℕ) → AllPass is_ordinary label → label_text label ≡ label
+ordinary_text : (label : List ℕ) → AllPass is_ordinary label → label_text label ≡ label
 ordinary_text [] all = refl
 ordinary_text (c ∷ label) all =
     ap (λ l. l ++ label_text label) (ordinary_octet c (all 0 c (omega arith)))
     ∙ ap (λ l. c ∷ l) (ordinary_text label (λ k d within. all (suc k) d (omega (arith, within))))
+
+pub ordinary_whole : (label : List ℕ) (n : ℕ) → AllPass is_ordinary (take n label) → n ≡ length label → label_text label ≡ label
+ordinary_whole label n all is = ordinary_text label (subst (AllPass is_ordinary) (take_all n label (omega arith)) all)
 
 -- ---- texts of names are ASCII
 
@@ -33,13 +37,9 @@ label_text_ascii [] octets = IsAscii-nil
 label_text_ascii (c ∷ label) octets = IsAscii-append _ _
     (octet_text_ascii c (All-head (λ x. x < 256) c label octets)) (label_text_ascii label (All-tail (λ x. x < 256) c label octets))
 
-dotted_text_ascii : (labels : List (List ℕ)) → ByRecursion IsLabel labels → IsAscii (dotted_text labels)
+dotted_text_ascii : (labels : Name) → ByRecursion IsLabel labels → IsAscii (dotted_text labels)
 dotted_text_ascii [] valid = IsAscii-nil
 dotted_text_ascii (label ∷ labels) valid = grind (arith, common_steps, label_text_ascii, (dotted_text_ascii labels valid.1))
-
-pub name_text_ascii : (labels : List (List ℕ)) → IsName labels → IsAscii (name_text labels)
-name_text_ascii [] valid = IsAscii-nil
-name_text_ascii (label ∷ labels) valid = grind (arith, common_steps, label_text_ascii, dotted_text_ascii)
 
 -- ---- names whose octets become their text
 
@@ -63,38 +63,26 @@ pub dotted_more : (name rest text label above : List ℕ) → IsDotted name rest
     → label_text label ≡ label → IsDotted name above (slice_set text (length name - length rest) 46)
 dotted_more name rest text label above so_far labels further same =
     let is = wire_parts rest label above so_far.wire further labels in
-    let parts : text ≡ so_far.front ++ length label ∷ (label ++ above) = so_far.parts ∙ ap (λ l. so_far.front ++ l) is in
-    let at : length name - length rest ≡ length so_far.front =
-    omega (arith, so_far.size, ap length so_far.parts, length-append so_far.front rest) in
-    let changed : slice_set text (length name - length rest) 46 ≡ so_far.front ++ 46 ∷ (label ++ above) =
-    ap (λ t. slice_set t (length name - length rest) 46) parts ∙ ap (λ i. slice_set (so_far.front ++ length label ∷ (label ++ above)) i 46) at
-    ∙ set-append_seam _ (length label) _ 46 in
     record {
       front = so_far.front ++ 46 ∷ label;
-      parts = changed ∙ sym (append_assoc _ _ above);
-      dots = so_far.dots ∙ ap (λ l. so_far.front ++ dotted_text l) labels
-          ∙ ap (λ l. so_far.front ++ 46 ∷ (l ++ dotted_text (labels_of above))) same
-          ∙ sym (append_assoc so_far.front (46 ∷ label) (dotted_text (labels_of above)));
+      parts = grind (arith, common_steps, (set-append_seam so_far.front (length label) (label ++ above) 46));
+      dots = grind (arith, common_steps);
       wire = further;
-      size = length-set text _ 46 ∙ so_far.size;
+      size = grind (arith, common_steps);
     }
 
 pub dotted_ends : (name rest text : List ℕ) → IsDotted name rest text → labels_of rest ≡ []
     → slice_set text (length name - 1) 46 ≡ dotted_text (labels_of name) ++ 46 ∷ []
 dotted_ends name rest text so_far none =
-    let is = wire_end rest so_far.wire none in
-    let parts : text ≡ so_far.front ++ 0 ∷ [] = so_far.parts ∙ ap (λ l. so_far.front ++ l) is in
-    let at : length name - 1 ≡ length so_far.front = omega (arith, so_far.size, ap length parts, length-append so_far.front (0 ∷ [])) in
-    let all : dotted_text (labels_of name) ≡ so_far.front = so_far.dots ∙ ap (λ l. so_far.front ++ dotted_text l) none ∙ append-nil _ in
-    ap (λ t. slice_set t (length name - 1) 46) parts ∙ ap (λ i. slice_set (so_far.front ++ 0 ∷ []) i 46) at
-    ∙ set-append_seam _ 0 [] 46 ∙ ap (λ l. l ++ 46 ∷ []) (sym all)
+    let is = wire_end rest so_far.wire none in grind (arith, common_steps, (set-append_seam so_far.front 0 [] 46))
 
--- ---- what lies between the first dot and the last
-
-pub dotted_ascii : (labels : List (List ℕ)) → IsName labels → IsAscii (dotted_text labels ++ 46 ∷ [])
+pub dotted_ascii : (labels : Name) → IsName labels → IsAscii (dotted_text labels ++ 46 ∷ [])
 dotted_ascii labels valid = grind (arith, common_steps, dotted_text_ascii)
 
-pub between_dots : (text : List ℕ) (labels : List (List ℕ)) → text ≡ dotted_text labels ++ 46 ∷ [] → 2 ≤ length text
-    → take (length text - 1 - 1) (drop 1 text) ≡ name_text labels
-between_dots text [] is some = absurd (omega (arith, some, ap length is))
-between_dots text (label ∷ labels) is some = grind (arith, common_steps)
+pub ruleset octet_steps = (common_steps, octet_text_in_digits)
+
+pub ruleset ordinary_steps = (common_steps, ordinary_whole, eqb-true)
+
+pub ruleset dotted_steps = (common_steps, dotted_more, dotted_ends)
+
+pub ruleset ascii_steps = (IsUtf8-from_ascii)

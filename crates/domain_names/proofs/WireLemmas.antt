@@ -1,23 +1,23 @@
 -- a name read label by label
-use Rattle.std.proofs.Common.{◌≡◌, ℕ, zero, suc, ◌+◌, ◌*◌, ◌<◌, ◌≤◌, List, [], ◌∷◌, length, get_or, take, drop, refl, sym, ap, subst, ◌∙◌, arith, length-append}
-use Rattle.std.{proofs.{Common.{add-one, Some}, lemmas.{List.{take_at, drop_at, drop-drop, length-drop}, Grind.common_steps}}, specs.List.AllByRecursion}
-use Rattle.domain_names.specs.{Name.{wire_of, parent_of, IsLabel, IsName}, Words.Name, Wire.{labels_within, labels_of, IsWire}}
+use Rattle.std.proofs.Common.{◌≡◌, ℕ, zero, suc, ◌+◌, ◌*◌, ◌<◌, ◌≤◌, List, [], ◌∷◌, length, get_or, take, drop, refl, sym, ap, ◌∙◌, arith, length-append}
+use Rattle.std.{proofs.{Common.{add-one}, lemmas.{List.{take_at, drop_at, drop-drop}, Grind.common_steps}}, specs.List.AllByRecursion}
+use Rattle.domain_names.specs.{Name.{wire_of, IsLabel, IsName}, Words.Name, Wire.{labels_within, labels_of, IsWire}}
 
-labels_within-wire_of : (labels : List (List ℕ)) (n : ℕ) → AllByRecursion IsLabel labels → length labels < n → labels_within n (wire_of labels) ≡ labels
+labels_within-wire_of : (labels : Name) (n : ℕ) → AllByRecursion IsLabel labels → length labels < n → labels_within n (wire_of labels) ≡ labels
 unfolding labels_within
 labels_within-wire_of labels zero all below = absurd (omega arith)
 labels_within-wire_of [] (suc n) all below = refl
 labels_within-wire_of (label ∷ labels) (suc n) all below = grind (arith, common_steps, (labels_within-wire_of labels n all.1 (omega (arith, below))))
 
-pub length-wire_of : (labels : List (List ℕ)) → length labels < length (wire_of labels)
+pub length-wire_of : (labels : Name) → length labels < length (wire_of labels)
 length-wire_of [] = omega arith
 length-wire_of (label ∷ labels) = omega (arith, length-wire_of labels, length-append label (wire_of labels))
 
-pub labels_of-wire_of : (labels : List (List ℕ)) → IsName labels → labels_of (wire_of labels) ≡ labels
+pub labels_of-wire_of : (labels : Name) → IsName labels → labels_of (wire_of labels) ≡ labels
 unfolding labels_of
 labels_of-wire_of labels valid = labels_within-wire_of labels (length (wire_of labels)) valid.of_labels (length-wire_of labels)
 
-pub IsWire-wire_of : (labels : List (List ℕ)) → IsName labels → IsWire (wire_of labels)
+pub IsWire-wire_of : (labels : Name) → IsName labels → IsWire (wire_of labels)
 IsWire-wire_of labels valid = grind (arith, common_steps, labels_of-wire_of)
 
 -- a name that is not the root begins with a label
@@ -31,34 +31,32 @@ pub record HasLabel (octets : List ℕ) : Type 0 where
 pub length-wire : (octets : List ℕ) → IsWire octets → 0 < length octets
 length-wire octets wire = omega (arith, length-wire_of (labels_of octets), ap length wire.spelled)
 
-root_from : (labels : List (List ℕ)) → AllByRecursion IsLabel labels → get_or (wire_of labels) 0 0 ≡ 0 → labels ≡ []
+root_from : (labels : Name) → AllByRecursion IsLabel labels → get_or (wire_of labels) 0 0 ≡ 0 → labels ≡ []
 root_from [] all first = refl
-root_from (label ∷ labels) all first = let label_is : IsLabel label = all.0 in absurd (omega (arith, label_is.not_empty, first))
+root_from (label ∷ labels) all first = grind (arith, common_steps)
 
-label_from : (labels : List (List ℕ)) → IsName labels → (get_or (wire_of labels) 0 0 ≡ 0 → ⊥) → HasLabel (wire_of labels)
+label_from : (labels : Name) → IsName labels → (get_or (wire_of labels) 0 0 ≡ 0 → ⊥) → HasLabel (wire_of labels)
 label_from [] valid other = absurd (other refl)
 label_from (label ∷ labels) valid other =
-    let label_is : IsLabel label = valid.of_labels.0 in
-    let above_is : IsName labels = record { of_labels = valid.of_labels.1; fits = omega (arith, valid.fits, length-append label (wire_of labels)) } in
+    let above : IsName labels = grind (arith, common_steps) in
     let rest : drop (length label + 1) (wire_of (label ∷ labels)) ≡ wire_of labels = rw add-one (drop_at label _ _ refl) in
-    record {
-      not_empty = label_is.not_empty;
-      fits = label_is.fits;
-      inside = omega (arith, length-append label (wire_of labels), length-wire_of labels);
-      labels = rw (rest, take_at label (wire_of labels) (length label) refl, labels_of-wire_of labels above_is) (labels_of-wire_of (label ∷ labels) valid);
-      above = rw rest (IsWire-wire_of labels above_is);
-    }
+    grind (
+      arith,
+      common_steps,
+      (take_at label (wire_of labels) _ refl),
+      (IsWire-wire_of labels above),
+      (labels_of-wire_of labels above),
+      (labels_of-wire_of (label ∷ labels) valid),
+      (length-wire_of labels),
+    )
 
 pub root_at : (octets : List ℕ) → IsWire octets → get_or octets 0 0 ≡ 0 → labels_of octets ≡ []
-root_at octets wire zero_first = root_from (labels_of octets) wire.valid.of_labels (subst (λ (w : List ℕ). get_or w 0 0 ≡ 0) wire.spelled zero_first)
+root_at octets wire zero_first = grind (arith, common_steps, root_from)
 
 pub label_at : (octets : List ℕ) → IsWire octets → (get_or octets 0 0 ≡ 0 → ⊥) → HasLabel octets
 label_at octets wire other = grind (arith, common_steps, label_from)
 
-pub count_at : (octets : List ℕ) → IsWire octets → length (labels_of octets) < 255
-count_at octets wire = omega (arith, wire.valid.fits, length-wire_of (labels_of octets))
-
-twice_length : (labels : List (List ℕ)) → AllByRecursion IsLabel labels → 2 * length labels < length (wire_of labels)
+twice_length : (labels : Name) → AllByRecursion IsLabel labels → 2 * length labels < length (wire_of labels)
 twice_length [] all = omega arith
 twice_length (label ∷ labels) all = grind (arith, common_steps, (twice_length labels all.1))
 
@@ -66,21 +64,12 @@ pub few_labels : (octets : List ℕ) → IsWire octets → length (labels_of oct
 few_labels octets wire = omega (arith, wire.valid.fits, twice_length (labels_of octets) wire.valid.of_labels)
 
 -- the rest of the labels, one at a time
-pub drop_next : (labels above : List (List ℕ)) (label : List ℕ) (i : ℕ) → drop i labels ≡ label ∷ above → drop (i + 1) labels ≡ above
+pub drop_next : (labels above : Name) (label : List ℕ) (i : ℕ) → drop i labels ≡ label ∷ above → drop (i + 1) labels ≡ above
 drop_next labels above label i h = sym (drop-drop 1 i labels) ∙ ap (drop 1) h
 
-pub drop_nothing : (labels : List (List ℕ)) (i : ℕ) → drop i labels ≡ [] → length labels ≤ i
-drop_nothing labels i h = omega (arith, length-drop i labels, ap length h)
-
-pub ruleset label_steps = (length-wire, root_at, label_at)
+pub ruleset label_steps = (common_steps, length-wire, root_at, label_at)
 
 pub wire_is : (octets : List ℕ) → IsWire octets → wire_of (labels_of octets) ≡ octets
 wire_is octets wire = sym wire.spelled
 
--- what lies above a part of a name is a part one label shorter
-parent_is : (left parent : Name) → Some parent ≡ parent_of left → parent ≡ drop 1 left
-parent_is [] parent h = cc
-parent_is (label ∷ labels) parent h = cc
-
-pub parent_dropped : (name : Name) (passed : ℕ) (left parent : Name) → left ≡ drop passed name → Some parent ≡ parent_of left → parent ≡ drop (passed + 1) name
-parent_dropped name passed left parent before up = parent_is left parent up ∙ ap (drop 1) before ∙ drop-drop 1 passed name
+pub ruleset wire_steps = (IsWire-wire_of, labels_of-wire_of)

@@ -1,34 +1,21 @@
 //! The labels of a name, one after another.
-ghost use Rattle.std.specs.{Prelude.{◌≡◌, ◌<◌}, Iterator.{YieldsFirstRef, item_count}};
-ghost use Rattle.domain_names.specs.Wire.{labels_of, IsWire};
+ghost use Rattle.std.specs.Iterator.{YieldsFirstRef, item_count};
 
-use crate::wire;
+use crate::ParsedName;
 use std::marker::Model;
 
 /// The labels that are left, leaf first, without the root.
 #[derive(Drop)]
 pub struct Labels<'a> {
-    wire: &'a [u8],
+    pub(crate) left: ParsedName<'a>,
 }
 
 impl<'a> Model for Labels<'a> {
     ghost use Rattle.domain_names.specs.Words.{Name};
-    ghost use Rattle.domain_names.specs.Wire.{labels_of, IsWire};
 
     ghost Value = { Name };
 
-    ghost view = { λ s. labels_of s.wire.now };
-
-    ghost invariant = { λ s. IsWire s.wire.now };
-}
-
-impl<'a> Labels<'a> {
-    pub(crate) fn new(wire: &'a [u8]) -> Self
-        requires { IsWire wire.now }
-        ensures { result ≡ labels_of wire.now }
-    {
-        Labels { wire }
-    }
+    ghost view = { λ s. s.left };
 }
 
 impl<'a> Iterator for Labels<'a> {
@@ -39,8 +26,8 @@ impl<'a> Iterator for Labels<'a> {
     ghost remaining = { item_count (λ labels. labels) };
 
     fn next(&mut self) -> Option<&'a [u8]> {
-        let (label, above) = wire::split_first(self.wire)?;
-        self.wire = above;
+        let (label, above) = self.left.split_first()?;
+        self.left = above;
         Some(label)
     }
 }

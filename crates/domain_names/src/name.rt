@@ -90,6 +90,7 @@ where
     ///
     /// Refuses a text that is no name as `Custom("illegal name")`, and a name for which the builder
     /// has no room or no memory.
+    #[tactic(auto, using(crate::proofs::WireLemmas::wire_steps))]
     pub fn from_str(alloc: Global, text: &str) -> Result<Self, ScanError>
         ensures ok { IfOk result (NameText text.now) }
         ensures err { IfErr result (λ e. NameTextFault O.Builder.limit (scan_fault_of e) text.now) }

@@ -40,10 +40,7 @@ impl<'a> ParsedName<'a> {
         ensures err { IfErr result (λ e. NameFault 0 parser.old.left (fault_of e)) }
         ensures unmoved { OnErr result (parser.new ≡ parser.old) }
     {
-        match Self::read(parser) {
-            Ok(name) => Ok(name),
-            Err(error) => Err(ParseError::from(error)),
-        }
+        Ok(Self::read(parser)?)
     }
 
     /// The name that comes next, as by `parse`, with a refusal that holds no text.

@@ -1,11 +1,10 @@
 //! Names as text (RFC 1035, section 5.1).
-ghost use Rattle.std.specs.Prelude.{◌≡◌, ◌≢◌, ℕ, Some, drop, slice_index, ◌+◌, ◌<◌, ◌≤◌, ◌∷◌, ◌++◌, [], ◌⊎◌, length, take, IfSome, IfNone, IsSome, OnSome, IsTrue, ◌↔◌};
+ghost use Rattle.std.specs.Prelude.{◌≡◌, ◌≢◌, ℕ, Some, None, drop, slice_index, ◌+◌, ◌<◌, ◌≤◌, ◌∷◌, ◌++◌, [], ◌⊎◌, length, take, IfSome, IfNone, IsSome, OnSome, IsTrue, ◌↔◌};
 ghost use Rattle.std.specs.Fmt.{WritesOnOk};
-ghost use Rattle.std.specs.List.{AllByRecursion};
 ghost use Rattle.std.specs.Str.{IsAscii};
-ghost use Rattle.domain_octets.specs.Characters.{dot};
+ghost use Rattle.domain_octets.specs.{Characters.dot, Words.Octets};
 ghost use Rattle.domain_names.specs.Name.{wire_of, IsLabel, IsName};
-ghost use Rattle.domain_names.specs.Text.{symbol_at, LabelText, LabelTexts, HasNoLabel, HasNoLabelAfter, NameText, IsNoName, is_special, octet_text, label_text, dotted_text, name_text};
+ghost use Rattle.domain_names.specs.Text.{symbol_at, LabelText, LabelTexts, IsBefore, HasNoLabel, HasNoLabelAfter, NameText, IsNoName, is_special, octet_text, label_text, dotted_text, name_text};
 ghost use Rattle.domain_names.specs.Wire.{labels_of, IsWire};
 ghost use Rattle.domain_names.specs.Words.{Label, Name};
 
@@ -21,31 +20,15 @@ fn symbol_at(text: &[u8]) -> Option<(u8, usize)>
     ensures used { IfSome result (λ s. (0 < s.1) × (s.1 ≤ length text.now)) }
 {
     match text {
-        [b'\\', a, b, c, ..] if a.is_ascii_digit() => {
-            if !b.is_ascii_digit() || !c.is_ascii_digit() {
-                return None;
-            }
+        [b'\\', a, b, c, ..] if a.is_ascii_digit() && b.is_ascii_digit() && c.is_ascii_digit() => {
             let value = u16::from(*a - b'0') * 100
                 + u16::from(*b - b'0') * 10
                 + u16::from(*c - b'0');
-            if value > 255 {
-                return None;
-            }
-            Some((value as u8, 4))
+            Some((u8::try_from(value).ok()?, 4))
         }
-        [b'\\', a, ..] => {
-            if a.is_ascii_digit() || *a < b' ' || *a > b'~' {
-                return None;
-            }
-            Some((*a, 2))
-        }
-        [c, ..] => {
-            if *c == b'\\' || *c == b'.' || *c < b' ' || *c > b'~' {
-                return None;
-            }
-            Some((*c, 1))
-        }
-        [] => None,
+        [b'\\', a, ..] if !a.is_ascii_digit() && *a >= b' ' && *a <= b'~' => Some((*a, 2)),
+        [c, ..] if *c != b'\\' && *c != b'.' && *c >= b' ' && *c <= b'~' => Some((*c, 1)),
+        _ => None,
     }
 }
 
@@ -72,7 +55,9 @@ fn plain_len(text: &[u8]) -> usize
     text.len()
 }
 
-/// The label that a text begins with, and what follows it.
+/// The label that a text begins with, and what follows it. Answers none for a label of over 63
+/// octets.
+#[tactic(auto, using(crate::proofs::SpellingLemmas::spelling_steps))]
 fn read_label(text: &[u8]) -> Option<(ArrayBuilder<MAX_LABEL_LEN>, &[u8])>
     ensures label { IfSome result (λ p. LabelText text.now p.0 p.1.now) }
     ensures fits { IfSome result (λ p. length p.0 ≤ 63) }
@@ -80,16 +65,8 @@ fn read_label(text: &[u8]) -> Option<(ArrayBuilder<MAX_LABEL_LEN>, &[u8])>
 {
     let mut label = ArrayBuilder::new();
     let mut rest = text;
-    while let [first, ..] = rest {
-        if *first == b'.' {
-            break;
-        }
-        let Some((octet, used)) = symbol_at(rest) else {
-            return None;
-        };
-        if label.append_slice(&[octet]).is_err() {
-            return None;
-        }
+    while let Some((octet, used)) = symbol_at(rest) {
+        label.append_slice(&[octet]).ok()?;
         rest = &rest[used..];
     }
     Some((label, rest))
@@ -106,13 +83,12 @@ fn push_label(wire: &mut ArrayBuilder<MAX_NAME>, label: &[u8]) -> Option<()>
     if label.is_empty() {
         return None;
     }
-    if wire.append_slice(&[label.len() as u8]).is_err() || wire.append_slice(label).is_err() {
-        return None;
-    }
-    Some(())
+    wire.append_slice(&[label.len() as u8]).ok()?;
+    wire.append_slice(label).ok()
 }
 
 /// Appends the label that a text begins with, and answers what follows it.
+#[tactic(auto, using(crate::proofs::SpellingLemmas::one_label))]
 fn take_label<'a>(wire: &mut ArrayBuilder<MAX_NAME>, text: &'a [u8]) -> Option<&'a [u8]>
     ensures some { IfSome result (λ after. (label : Label) × LabelText text.now label after.now
         × IsLabel label × (wire.new ≡ wire.old ++ length label ∷ label)) }
@@ -123,46 +99,50 @@ fn take_label<'a>(wire: &mut ArrayBuilder<MAX_NAME>, text: &'a [u8]) -> Option<&
     Some(after)
 }
 
+/// What stands after the dot that ends a label: nothing, where a name ends with or without a dot.
+/// Answers none where another character stands.
+#[tactic(auto, using(std::proofs::lemmas::Grind::common_steps))]
+fn after_dot(text: &[u8]) -> Option<&[u8]>
+    ensures some { IfSome result (λ next. IsBefore next.now text.now) }
+    ensures none { IfNone result ((next : Octets) → IsBefore next text.now → ⊥) }
+{
+    match text {
+        [] => Some(text),
+        [b'.', next @ ..] => Some(next),
+        _ => None,
+    }
+}
+
 /// Appends the wire form of the labels that a text spells, label by label, without the root.
+#[tactic(auto, using(crate::proofs::SpellingLemmas::naming_steps))]
 fn read_labels(wire: &mut ArrayBuilder<MAX_NAME>, text: &[u8]) -> Option<()>
     requires { wire.old ≡ [] }
     ensures labels { OnSome result ((labels : Name) × LabelTexts text.now labels
-        × AllByRecursion IsLabel labels × (wire.new ++ 0 ∷ [] ≡ wire_of labels)) }
+        × (wire.new ++ 0 ∷ [] ≡ wire_of labels)) }
     ensures none { IfNone result ((labels : Name) → LabelTexts text.now labels
         → IsName labels → ⊥) }
 {
     let mut rest = text;
     loop {
-        let Some(after) = take_label(wire, rest) else {
-            return None;
-        };
-        match after {
-            [_, next @ ..] if !next.is_empty() => rest = next,
-            _ => break,
+        let after = take_label(wire, rest)?;
+        rest = after_dot(after)?;
+        if rest.is_empty() {
+            return Some(());
         }
     }
-    Some(())
 }
 
-/// Whether a label ends where this text begins.
-fn ends_label(text: &[u8]) -> bool
-    ensures { IsTrue result → LabelText text.now [] text.now }
-{
-    match text {
-        [] => true,
-        [first, ..] => *first == b'.',
-    }
-}
-
-/// The label that a text begins with, if its characters all stand for themselves, and what follows
-/// it.
+/// The label that a text begins with, if no character of it is escaped, and what follows it, where
+/// that is not an escape.
+#[tactic(auto, using(crate::proofs::SpellingLemmas::plain_label))]
 fn split_plain_label(text: &[u8]) -> Option<(&[u8], &[u8])>
     ensures parts { IfSome result (λ p. text.now ≡ p.0.now ++ p.1.now) }
-    ensures label { IfSome result (λ p. LabelText text.now p.0.now p.1.now) }
+    ensures label { IfSome result (λ p. symbol_at p.1.now ≡ None
+        → LabelText text.now p.0.now p.1.now) }
     ensures valid { IfSome result (λ p. IsLabel p.0.now) }
 {
     let (label, after) = text.split_at(plain_len(text));
-    if label.is_empty() || label.len() > MAX_LABEL_LEN || !ends_label(after) {
+    if label.is_empty() || label.len() > MAX_LABEL_LEN {
         return None;
     }
     Some((label, after))
@@ -171,33 +151,24 @@ fn split_plain_label(text: &[u8]) -> Option<(&[u8], &[u8])>
 /// Puts the length of each label before it, where a text stands after one more octet. The labels
 /// then fill so many octets: all, or all but a last dot. Answers none where a character does not
 /// stand for itself, or where there is no label.
+#[tactic(auto, using(crate::proofs::SpellingLemmas::measuring_steps))]
 fn put_lengths(octets: &mut [u8], text: &[u8]) -> Option<usize>
     requires { (first : ℕ) × (octets.old ≡ first ∷ text.now) }
     ensures within { IfSome result (λ n. n ≤ length octets.new) }
     ensures dot { IfSome result (λ n. length octets.new ≤ n + 1) }
     ensures size { length octets.new ≡ length octets.old }
     ensures labels { IfSome result (λ n. (labels : Name) × LabelTexts text.now labels
-        × AllByRecursion IsLabel labels × (take n octets.new ++ 0 ∷ [] ≡ wire_of labels)) }
+        × (take n octets.new ++ 0 ∷ [] ≡ wire_of labels)) }
 {
     let mut rest = text;
     loop {
         let at = text.len() - rest.len();
         let (label, after) = split_plain_label(rest)?;
         octets[at] = label.len() as u8;
-        match after {
-            [] | [_] => return Some(at + 1 + label.len()),
-            [_, next @ ..] => rest = next,
+        rest = after_dot(after)?;
+        if rest.is_empty() {
+            return Some(at + 1 + label.len());
         }
-    }
-}
-
-/// Whether a text is a dot and nothing more.
-fn is_dot(text: &[u8]) -> bool
-    ensures { IsTrue result ↔ (text.now ≡ dot ∷ []) }
-{
-    match text {
-        [octet] => *octet == b'.',
-        _ => false,
     }
 }
 
@@ -206,10 +177,7 @@ fn push_root(wire: &mut ArrayBuilder<MAX_NAME>) -> Option<()>
     ensures root { OnSome result (wire.new ≡ wire.old ++ 0 ∷ []) }
     ensures room { IsSome result ↔ (length wire.old < 255) }
 {
-    match wire.append_slice(&[0]) {
-        Ok(()) => Some(()),
-        Err(_) => None,
-    }
+    wire.append_slice(&[0]).ok()
 }
 
 /// Puts the root after the first octets, so many: in the place of the last, where these are all but
@@ -236,31 +204,29 @@ fn read_plain_name(wire: &mut ArrayBuilder<MAX_NAME>, text: &[u8]) -> Option<()>
     ensures { OnSome result ((labels : Name) × NameText text.now labels
         × (wire.new ≡ wire_of labels)) }
 {
-    if wire.append_slice(&[0]).is_err() || wire.append_slice(text).is_err() {
-        return None;
-    }
+    wire.append_slice(&[0]).ok()?;
+    wire.append_slice(text).ok()?;
     let len = put_lengths(wire.as_mut_slice(), text)?;
     put_root(wire, len)
 }
 
 /// Puts the wire form of the name that a text spells into an empty builder. Stops at the first
 /// character or label that no name has.
+#[tactic(auto, using(crate::proofs::SpellingLemmas::named_steps))]
 pub fn read_name(wire: &mut ArrayBuilder<MAX_NAME>, text: &[u8]) -> Option<()>
     requires { wire.old ≡ [] }
     ensures name { OnSome result ((labels : Name) × NameText text.now labels
         × (wire.new ≡ wire_of labels)) }
     ensures none { IfNone result (IsNoName text.now) }
 {
-    if is_dot(text) {
+    if let [b'.'] = text {
         return push_root(wire);
     }
     if read_plain_name(wire, text).is_some() {
         return Some(());
     }
     wire.truncate(0);
-    if read_labels(wire, text).is_none() {
-        return None;
-    }
+    read_labels(wire, text)?;
     push_root(wire)
 }
 
@@ -268,17 +234,13 @@ pub fn read_name(wire: &mut ArrayBuilder<MAX_NAME>, text: &[u8]) -> Option<()>
 fn is_special(octet: u8) -> bool
     ensures { result ≡ is_special octet }
 {
-    octet == b'"'
-        || octet == b'$'
-        || octet == b'('
-        || octet == b')'
-        || octet == b'.'
-        || octet == b';'
-        || octet == b'@'
-        || octet == b'\\'
+    matches!(
+        octet,
+        b'"' | b'$' | b'(' | b')' | b'.' | b';' | b'@' | b'\\'
+    )
 }
 
-#[tactic(auto, unfolding(crate::specs::Text::octet_text))]
+#[tactic(auto, using(crate::proofs::TextLemmas::octet_steps), unfolding(crate::specs::Text::octet_text))]
 fn write_octet<W: fmt::Write>(octet: u8, f: &mut fmt::Formatter<W>) -> fmt::Result
     ensures { WritesOnOk W.write_str_gives f.old result (octet_text octet) f.new }
 {
@@ -317,7 +279,7 @@ impl OctetSet for Ordinary {
 
 /// Whether all octets of a label are written as the characters that they are, as those of most
 /// labels.
-#[tactic(auto, using(crate::proofs::TextLemmas::ordinary_text))]
+#[tactic(auto, using(crate::proofs::TextLemmas::ordinary_steps))]
 fn is_ordinary_label(label: &[u8]) -> bool
     ensures { IsTrue result → label_text label.now ≡ label.now }
 {
@@ -326,6 +288,7 @@ fn is_ordinary_label(label: &[u8]) -> bool
 
 /// Text, all of whose octets are ASCII. That they are is proved, so that it need not be looked
 /// through.
+#[tactic(auto, using(crate::proofs::TextLemmas::ascii_steps))]
 fn ascii_text(octets: &[u8]) -> &str
     requires { IsAscii octets.now }
     ensures { result.now ≡ octets.now }
@@ -348,6 +311,7 @@ fn write_label<W: fmt::Write>(label: &[u8], f: &mut fmt::Formatter<W>) -> fmt::R
 
 /// Puts a dot in the place of the length of each label, and of the root, in a copy of a name's
 /// octets. Answers false where an octet of a label is not written as the character that it is.
+#[tactic(auto, using(crate::proofs::TextLemmas::dotted_steps))]
 fn put_dots(text: &mut [u8], name: &[u8]) -> bool
     requires name { IsWire name.now }
     requires copy { text.old ≡ name.now }
@@ -367,9 +331,12 @@ fn put_dots(text: &mut [u8], name: &[u8]) -> bool
 
 /// The text of a name with a dot before each label and one at its end, if all octets of its labels
 /// are written as the characters that they are, as those of most names.
+#[tactic(auto, using(crate::proofs::TextLemmas::dotted_ascii))]
 fn dotted<'a>(name: &[u8], buffer: &'a mut [u8; MAX_NAME]) -> Option<&'a [u8]>
     requires { IsWire name.now }
-    ensures { IfSome result (λ text. text.now ≡ dotted_text (labels_of name.now) ++ dot ∷ []) }
+    ensures text { IfSome result (λ text. text.now ≡ dotted_text (labels_of name.now)
+        ++ dot ∷ []) }
+    ensures ascii { IfSome result (λ text. IsAscii text.now) }
 {
     let text = &mut buffer[..name.len()];
     text.copy_from_slice(name);

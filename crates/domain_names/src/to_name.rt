@@ -45,7 +45,9 @@ pub trait ToName: TryClone {
         ensures labels { result ≡ labels self.now }
         ensures few { length result ≤ 127 }
     {
-        Labels::new(self.as_wire())
+        Labels {
+            left: self.as_parsed(),
+        }
     }
 
     /// How many labels the name has, the root not counted. Takes no memory.
@@ -84,7 +86,9 @@ pub trait ToName: TryClone {
         Self: Sized,
         ensures { result ≡ labels self.now }
     {
-        DottedName::new(self.as_wire())
+        DottedName {
+            name: self.as_parsed(),
+        }
     }
 
     /// The name over its wire form, which is borrowed. Takes no memory.
@@ -113,14 +117,7 @@ pub trait ToName: TryClone {
         ensures { result ≡ last_labels count (labels self.now) }
     {
         let above = self.count_labels().saturating_sub(count);
-        let mut left = self.as_parsed();
-        'ancestors: for _passed in 0..above {
-            let Some(parent) = left.parent() else {
-                return left;
-            };
-            left = parent;
-        }
-        left
+        ParsedName::over(wire::skip_labels(self.as_wire(), above))
     }
 
     /// Whether the names differ in the case of letters at most (RFC 4343, section 3). Takes no
@@ -145,23 +142,25 @@ pub trait ToName: TryClone {
     }
 
     /// The order of the names' wire forms, octet by octet.
+    #[tactic(auto, using(crate::proofs::WireLemmas::wire_is))]
     final fn composed_cmp<N: ToName>(&self, other: &N) -> Ordering
     where
         Self: Sized,
         ensures { result ≡ slice_cmp nat_cmp (wire_of (labels self.now))
             (wire_of (N.labels other.now)) }
     {
-        wire::composed_cmp(self.as_wire(), other.as_wire())
+        self.as_wire().cmp(other.as_wire())
     }
 
     /// The order of the names' wire forms with A to Z lowered, octet by octet.
+    #[tactic(auto, using(crate::proofs::CaseLemmas::lowered_wire))]
     final fn lowercase_composed_cmp<N: ToName>(&self, other: &N) -> Ordering
     where
         Self: Sized,
         ensures { result ≡ slice_cmp nat_cmp (wire_of (lowered (labels self.now)))
             (wire_of (lowered (N.labels other.now))) }
     {
-        wire::lowered_cmp(self.as_wire(), other.as_wire())
+        wire::lowered_octets_cmp(self.as_wire(), other.as_wire())
     }
 
     /// Whether the name is at or below another: whether the other's labels end its own, in either
@@ -198,6 +197,7 @@ pub trait ToName: TryClone {
 
     /// Writes the name's wire form with A to Z lowered to the front of a buffer (RFC 4034, section
     /// 6.2). Takes no memory.
+    #[tactic(auto, using(std::proofs::lemmas::Grind::common_steps, crate::proofs::CaseLemmas::lowered_wire))]
     final fn lower_wire<'b>(&self, buffer: &'b mut [u8; wire::MAX_NAME]) -> &'b [u8]
     where
         Self: Sized,

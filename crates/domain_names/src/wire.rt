@@ -4,7 +4,7 @@ ghost use Rattle.std.specs.Prelude.{IsTrue, IfOk, IfErr, OnOk, false, ◌++◌, 
 ghost use Rattle.std.specs.{Char.to_ascii_lowercase, Ordering.nat_cmp, Cmp.Lexicographic.slice_cmp};
 ghost use Rattle.std.specs.Hash as fed;
 ghost use Rattle.domain_names.specs.Name.{wire_of, lowered, IsSame, same_name, IsAtOrBelow, is_at_or_below};
-ghost use Rattle.domain_names.specs.Wire.{labels_of, IsWire};
+ghost use Rattle.domain_names.specs.{Wire.{labels_of, IsWire}, Words.Name};
 ghost use Rattle.domain_names.specs.Fault.{NameFault, WholeNameFault, fault_of, name_fault_of};
 ghost use Rattle.domain_names.specs.Order.{canonical_cmp, common_labels};
 ghost use Rattle.domain_names.specs.Parting.{EndAlike, EndsIn, Part, order_below};
@@ -36,7 +36,7 @@ pub fn split_first(wire: &[u8]) -> Option<(&[u8], &[u8])>
 }
 
 /// How many labels a name has.
-#[tactic(auto, using(crate::proofs::WireLemmas::count_at))]
+#[tactic(auto, using(crate::proofs::WireLemmas::few_labels))]
 pub(crate) fn count_labels(wire: &[u8]) -> usize
     requires { IsWire wire.now }
     ensures { result ≡ length (labels_of wire.now) }
@@ -51,8 +51,8 @@ pub(crate) fn count_labels(wire: &[u8]) -> usize
 }
 
 /// The name that is left without the first labels.
-#[tactic(auto, using(crate::proofs::WireLemmas::drop_next, crate::proofs::WireLemmas::drop_nothing))]
-fn skip_labels(wire: &[u8], count: usize) -> &[u8]
+#[tactic(auto, using(crate::proofs::WireLemmas::drop_next))]
+pub(crate) fn skip_labels(wire: &[u8], count: usize) -> &[u8]
     requires wire { IsWire wire.now }
     requires within { count ≤ length (labels_of wire.now) }
     ensures rest { labels_of result.now ≡ drop count (labels_of wire.now) }
@@ -68,61 +68,69 @@ fn skip_labels(wire: &[u8], count: usize) -> &[u8]
     wire
 }
 
-/// The order of two octets with A to Z lowered. Octets that are the same are not lowered.
-fn lowered_octet_cmp(a: u8, b: u8) -> Ordering
-    ensures { result ≡ nat_cmp (to_ascii_lowercase a) (to_ascii_lowercase b) }
-{
-    if a == b {
-        return Ordering::Equal;
-    }
-    a.to_ascii_lowercase().cmp(&b.to_ascii_lowercase())
-}
-
-/// The order of octets with A to Z lowered.
+/// The order of octets with A to Z lowered. Octets that are the same are not lowered.
 #[tactic(auto, using(crate::proofs::PartingLemmas::lengths_decide))]
-fn lowered_octets_cmp(a: &[u8], b: &[u8]) -> Ordering
+pub(crate) fn lowered_octets_cmp(a: &[u8], b: &[u8]) -> Ordering
     ensures { result ≡ slice_cmp nat_cmp (map to_ascii_lowercase a.now)
         (map to_ascii_lowercase b.now) }
 {
     let most = a.len().min(b.len());
     for i in 0..most {
-        let order = lowered_octet_cmp(a[i], b[i]);
-        if order.is_ne() {
-            return order;
+        if a[i] != b[i] {
+            let order = a[i].to_ascii_lowercase().cmp(&b[i].to_ascii_lowercase());
+            if order.is_ne() {
+                return order;
+            }
         }
     }
     a.len().cmp(&b.len())
 }
 
-/// The canonical order of names with as many labels. Labels are only compared where all nearer the
-/// root are the same.
-fn aligned_cmp(a: &[u8], b: &[u8]) -> Ordering
+/// The canonical order of names with as many labels, and how many they share. Labels are only
+/// compared where all nearer the root are the same.
+#[tactic(auto, using(crate::proofs::WireLemmas::few_labels, crate::proofs::OrderLemmas::aligned_steps, crate::proofs::PartingLemmas::roots))]
+fn compare_aligned(a: &[u8], b: &[u8]) -> Comparison
     requires a { IsWire a.now }
     requires b { IsWire b.now }
     requires same_count { length (labels_of a.now) ≡ length (labels_of b.now) }
-    ensures { result ≡ canonical_cmp (labels_of a.now) (labels_of b.now) }
+    ensures order { result.order ≡ canonical_cmp (labels_of a.now) (labels_of b.now) }
+    ensures common { result.common ≡ common_labels (labels_of a.now) (labels_of b.now) }
 {
     let (Some((x, a_above)), Some((y, b_above))) = (split_first(a), split_first(b)) else {
-        return Ordering::Equal;
+        return Comparison {
+            order: Ordering::Equal,
+            common: 0,
+        };
     };
-    match aligned_cmp(a_above, b_above) {
-        Ordering::Equal => lowered_octets_cmp(x, y),
-        decided => decided,
+    let above = compare_aligned(a_above, b_above);
+    if above.order.is_ne() {
+        return above;
+    }
+    let order = lowered_octets_cmp(x, y);
+    Comparison {
+        order,
+        common: above.common + usize::from(order.is_eq()),
     }
 }
 
-/// The canonical order, from the root on. Labels at the leaf that the other name does not reach
-/// come last.
-fn cmp_from_root(a: &[u8], b: &[u8]) -> Ordering
+/// The canonical order and how many labels are shared, from the root on. Labels at the leaf that
+/// the other name does not reach come last.
+#[tactic(auto, using(crate::proofs::OrderLemmas::cut_steps))]
+fn compare_from_root(a: &[u8], b: &[u8]) -> Comparison
     requires a { IsWire a.now }
     requires b { IsWire b.now }
-    ensures { result ≡ canonical_cmp (labels_of a.now) (labels_of b.now) }
+    ensures order { result.order ≡ canonical_cmp (labels_of a.now) (labels_of b.now) }
+    ensures common { result.common ≡ common_labels (labels_of a.now) (labels_of b.now) }
 {
     let a_count = count_labels(a);
     let b_count = count_labels(b);
     let a_end = skip_labels(a, a_count.saturating_sub(b_count));
     let b_end = skip_labels(b, b_count.saturating_sub(a_count));
-    aligned_cmp(a_end, b_end).then(a_count.cmp(&b_count))
+    let aligned = compare_aligned(a_end, b_end);
+    Comparison {
+        order: aligned.order.then(a_count.cmp(&b_count)),
+        common: aligned.common,
+    }
 }
 
 /// Whether both have eight octets, and the last eight of both are the same. Compares them at once.
@@ -151,6 +159,7 @@ fn equal_eights(a: &[u8], b: &[u8]) -> usize
 }
 
 /// How many octets two names end in alike, the root's among them.
+#[tactic(auto, using(crate::proofs::PartingLemmas::alike_steps))]
 fn equal_end(a: &[u8], b: &[u8]) -> usize
     requires a { IsWire a.now }
     requires b { IsWire b.now }
@@ -168,70 +177,66 @@ fn equal_end(a: &[u8], b: &[u8]) -> usize
     most
 }
 
-/// The longest end of a name that has at most so many octets, and the label right below it.
-fn end_within(name: &[u8], most: usize) -> (Option<&[u8]>, &[u8])
-    requires name { IsWire name.now }
+/// An end of a name, and the label right below it, if the name has more labels than that.
+#[derive(Clone, Copy)]
+struct End<'a> {
+    below: Option<&'a [u8]>,
+    wire: &'a [u8],
+}
+
+/// The longest end of an end that has at most so many octets.
+fn end_within<'a>(end: End<'a>, most: usize) -> End<'a>
+    requires wire { IsWire end.wire.now }
     requires root { 1 ≤ most }
-    ensures wire { IsWire result.1.now }
-    ensures end { EndsIn (labels_of name.now) (option_map (λ x. x.now) result.0)
-        (labels_of result.1.now) }
-    ensures within { length result.1.now ≤ most }
+    ensures wire { IsWire result.wire.now }
+    ensures end { (name : Name) → EndsIn name (option_map (λ x. x.now) end.entry.below) (labels_of end.entry.wire.now)
+        → EndsIn name (option_map (λ x. x.now) result.below) (labels_of result.wire.now) }
+    ensures within { length result.wire.now ≤ most }
+    ensures part { length result.wire.now ≤ length end.entry.wire.now }
 {
-    let mut below = None;
-    let mut end = name;
-    while end.len() > most {
-        let Some((label, above)) = split_first(end) else {
+    let mut end = end;
+    while end.wire.len() > most {
+        let Some((label, above)) = split_first(end.wire) else {
             unreachable!();
         };
-        below = Some(label);
-        end = above;
+        end = End {
+            below: Some(label),
+            wire: above,
+        };
     }
-    (below, end)
+    end
 }
 
-/// Where two names part.
-#[derive(Clone, Copy)]
-struct Parting<'a> {
-    /// The label of the first right below the shared end, if it has more labels than that.
-    left: Option<&'a [u8]>,
-    /// That of the second.
-    right: Option<&'a [u8]>,
-    /// The longest end that both have octet for octet.
-    shared: &'a [u8],
-}
-
-/// Where two names part.
-fn part<'a>(a: &'a [u8], b: &'a [u8]) -> Parting<'a>
+/// Where two names part: the longest end that both have octet for octet, as the end of each.
+#[tactic(auto, using(crate::proofs::PartingLemmas::alike_steps))]
+fn part<'a>(a: &'a [u8], b: &'a [u8]) -> (End<'a>, End<'a>)
     requires a { IsWire a.now }
     requires b { IsWire b.now }
-    ensures wire { IsWire result.shared.now }
+    ensures wire { IsWire result.0.wire.now }
     ensures parts { Part (labels_of a.now) (labels_of b.now)
-        (option_map (λ x. x.now) result.left) (option_map (λ y. y.now) result.right)
-        (labels_of result.shared.now) }
+        (option_map (λ x. x.now) result.0.below) (option_map (λ y. y.now) result.1.below)
+        (labels_of result.0.wire.now) }
 {
     let equal = equal_end(a, b);
-    let (mut x, mut a_end) = end_within(a, equal);
-    let (mut y, mut b_end) = end_within(b, equal);
-    'parting: while a_end.len() != b_end.len() {
-        if a_end.len() > b_end.len() {
-            let Some((label, above)) = split_first(a_end) else {
-                unreachable!();
-            };
-            x = Some(label);
-            a_end = above;
-        } else {
-            let Some((label, above)) = split_first(b_end) else {
-                unreachable!();
-            };
-            y = Some(label);
-            b_end = above;
-        }
+    let mut x = end_within(
+        End {
+            below: None,
+            wire: a,
+        },
+        equal,
+    );
+    let mut y = end_within(
+        End {
+            below: None,
+            wire: b,
+        },
+        equal,
+    );
+    'parting: while x.wire.len() != y.wire.len() {
+        x = end_within(x, y.wire.len());
+        y = end_within(y, x.wire.len());
     }
-    Parting {
-        left: x,
-        right: y,
-        shared: a_end,
-    }
+    (x, y)
 }
 
 /// What the labels decide at which two names part, unless they differ in case alone. A name without
@@ -252,19 +257,21 @@ fn order_below(x: Option<&[u8]>, y: Option<&[u8]>) -> Option<Ordering>
 }
 
 /// The canonical order.
+#[tactic(auto, using(crate::proofs::PartingLemmas::parted))]
 pub fn canonical_cmp(a: &[u8], b: &[u8]) -> Ordering
     requires a { IsWire a.now }
     requires b { IsWire b.now }
     ensures { result ≡ canonical_cmp (labels_of a.now) (labels_of b.now) }
 {
-    let parting = part(a, b);
-    match order_below(parting.left, parting.right) {
+    let (x, y) = part(a, b);
+    match order_below(x.below, y.below) {
         Some(order) => order,
-        None => cmp_from_root(a, b),
+        None => compare_from_root(a, b).order,
     }
 }
 
 /// Whether two names differ in the case of letters at most.
+#[tactic(auto, using(crate::proofs::CaseLemmas::same_steps))]
 pub fn is_same(a: &[u8], b: &[u8]) -> bool
     requires a { IsWire a.now }
     requires b { IsWire b.now }
@@ -275,6 +282,7 @@ pub fn is_same(a: &[u8], b: &[u8]) -> bool
 }
 
 /// Whether a name is at or below another. Its end that has no more octets than the other decides.
+#[tactic(auto, using(crate::proofs::BelowLemmas::below_steps))]
 pub fn is_at_or_below(name: &[u8], above: &[u8]) -> bool
     requires name { IsWire name.now }
     requires above { IsWire above.now }
@@ -291,51 +299,22 @@ pub fn is_at_or_below(name: &[u8], above: &[u8]) -> bool
     is_same(end, above)
 }
 
-/// How many labels two names share, counted from where both have as many left.
-#[tactic(auto, using(crate::proofs::WireLemmas::few_labels, crate::proofs::CommonLemmas::walk_ends))]
-fn common_from_root(a: &[u8], b: &[u8]) -> usize
-    requires a { IsWire a.now }
-    requires b { IsWire b.now }
-    ensures { result ≡ common_labels (labels_of a.now) (labels_of b.now) }
-{
-    let a_count = count_labels(a);
-    let b_count = count_labels(b);
-    let mut x = skip_labels(a, a_count.saturating_sub(b_count));
-    let mut y = skip_labels(b, b_count.saturating_sub(a_count));
-    let mut common = 0;
-    'labels: while let (Some((label, x_above)), Some((facing, y_above))) = (
-        split_first(x),
-        split_first(y),
-    ) {
-        common = if label.eq_ignore_ascii_case(facing) {
-            common + 1
-        } else {
-            0
-        };
-        x = x_above;
-        y = y_above;
-    }
-    common
-}
-
 /// The canonical order, and how many labels are shared: those of the end at which the names part,
 /// unless the labels below it differ in case alone.
+#[tactic(auto, using(crate::proofs::PartingLemmas::parted))]
 pub fn compare(a: &[u8], b: &[u8]) -> Comparison
     requires a { IsWire a.now }
     requires b { IsWire b.now }
     ensures order { result.order ≡ canonical_cmp (labels_of a.now) (labels_of b.now) }
     ensures common { result.common ≡ common_labels (labels_of a.now) (labels_of b.now) }
 {
-    let parting = part(a, b);
-    match order_below(parting.left, parting.right) {
+    let (x, y) = part(a, b);
+    match order_below(x.below, y.below) {
         Some(order) => Comparison {
             order,
-            common: count_labels(parting.shared),
+            common: count_labels(x.wire),
         },
-        None => Comparison {
-            order: cmp_from_root(a, b),
-            common: common_from_root(a, b),
-        },
+        None => compare_from_root(a, b),
     }
 }
 
@@ -383,6 +362,7 @@ pub fn split_name(octets: &[u8]) -> Result<(&[u8], &[u8]), NameError>
 }
 
 /// Checks that octets are a name and nothing more.
+#[tactic(auto, using(crate::proofs::FaultLemmas::in_name_by))]
 pub fn check(octets: &[u8]) -> Result<(), ParseError>
     ensures ok { OnOk result (IsWire octets.now) }
     ensures err { IfErr result (λ e. WholeNameFault octets.now (fault_of e)) }
@@ -392,25 +372,4 @@ pub fn check(octets: &[u8]) -> Result<(), ParseError>
         Ok(_) => Err(ParseError::Form("trailing data")),
         Err(error) => Err(ParseError::from(error)),
     }
-}
-
-/// The order of the octets of two names.
-#[tactic(auto, using(crate::proofs::WireLemmas::wire_is))]
-pub fn composed_cmp(a: &[u8], b: &[u8]) -> Ordering
-    requires a { IsWire a.now }
-    requires b { IsWire b.now }
-    ensures { result ≡ slice_cmp nat_cmp (wire_of (labels_of a.now)) (wire_of (labels_of b.now)) }
-{
-    a.cmp(b)
-}
-
-/// The order of the lowered octets of two names.
-#[tactic(auto, using(crate::proofs::CaseLemmas::lowered_wire))]
-pub fn lowered_cmp(a: &[u8], b: &[u8]) -> Ordering
-    requires a { IsWire a.now }
-    requires b { IsWire b.now }
-    ensures { result ≡ slice_cmp nat_cmp (wire_of (lowered (labels_of a.now)))
-        (wire_of (lowered (labels_of b.now))) }
-{
-    lowered_octets_cmp(a, b)
 }
