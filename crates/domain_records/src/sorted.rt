@@ -19,7 +19,7 @@ use crate::owner::RecordsIter;
 use crate::rrset::{Rrset, RrsetIter};
 use crate::sort::sort_and_dedup;
 use crate::sorter::{DefaultSorter, Sorter};
-use crate::write::{SoaRecords, write_part, write_part_with_comments};
+use crate::write::{Commented, Plain, write_soa_first};
 use domain_base::{CanonicalOrd, Class, Rtype, ToName};
 use domain_octets::OutOfMemory;
 use domain_record::{CloneRecordData, Record, RecordData};
@@ -386,9 +386,7 @@ impl<N: ToName, D: RecordData + CanonicalOrd, Sort: Sorter> SortedRecords<N, D, 
             (texts ⟦<Record<N, D> as fmt::Display>⟧.output (soa_first D.rtype self.now))
             target.new) }
     {
-        let records = self.as_slice();
-        write_part::<Record<N, D>, SoaRecords, W>(records, true, target)?;
-        write_part::<Record<N, D>, SoaRecords, W>(records, false, target)
+        write_soa_first(self.as_slice(), target, &Plain)
     }
 
     /// Writes the SOA records and then the others, each in order, and after each what `comment`
@@ -410,10 +408,6 @@ impl<N: ToName, D: RecordData + CanonicalOrd, Sort: Sorter> SortedRecords<N, D, 
             ⟦<Record<N, D> as fmt::Display>⟧.output F.Fn
             comment target.old (soa_first D.rtype self.now) target.new) }
     {
-        let records = self.as_slice();
-        write_part_with_comments::<Record<N, D>, SoaRecords, W, F>(
-            records, true, target, &comment,
-        )?;
-        write_part_with_comments::<Record<N, D>, SoaRecords, W, F>(records, false, target, &comment)
+        write_soa_first(self.as_slice(), target, &Commented { comment })
     }
 }
