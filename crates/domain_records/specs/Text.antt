@@ -1,6 +1,6 @@
 -- Records as text.
-use Rattle.std.specs.{Prelude.{◌≡◌, ℕ, Bool, not, ◌==◌, List, [], ◌∷◌, ◌++◌, filter, Option, Some, Result, Ok}, Fmt.{WritesText, ◌++?◌}, Fn.Shared, List.FoldsTo}
-use Rattle.std.specs.declared.fmt.Error.{Error}
+use Rattle.std.specs.Prelude.{◌≡◌, ℕ, Bool, not, ◌==◌, List, [], ◌∷◌, ◌++◌, filter, Option, Some, Result, Ok}
+use Rattle.std.specs.{Fmt.{WritesText, ◌++?◌}, Fn.Shared, List.FoldsTo, declared.fmt.Error.Error}
 use Rattle.domain_octets.specs.{Words.Octets, Characters.line_feed}
 use Rattle.domain_base.specs.Types.{soa}
 use Rattle.domain_record.specs.declared.record.Record.{Record}

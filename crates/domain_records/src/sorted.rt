@@ -14,7 +14,7 @@ ghost use Rattle.domain_record.specs.{Record.record_cmp, RecordClone.IsRecordClo
 
 use crate::error::{InsertError, SigningError, SortError};
 use crate::list::{append, clone_all, first_match, search};
-use crate::lookup::{Wanted, first_of_type, first_place, is_wanted, rrset_at};
+use crate::lookup::{first_of_type, first_place, is_wanted, rrset_at};
 use crate::owner::RecordsIter;
 use crate::rrset::{Rrset, RrsetIter};
 use crate::sort::sort_and_dedup;
@@ -188,15 +188,11 @@ impl<N: ToName, D: RecordData + CanonicalOrd, Sort: Sorter> SortedRecords<N, D, 
         ensures found { result ≡ list_any (matches N.labels D.rtype (N.labels name.now) class rtype)
             self.old }
     {
-        let wanted = Wanted {
-            owner: name,
-            class,
-            rtype,
-        };
-        if first_place(&self.records, &wanted).is_none() {
+        if first_place(&self.records, name, &class, &rtype).is_none() {
             return false;
         }
-        self.records.retain(|stored| !is_wanted(stored, &wanted));
+        self.records
+            .retain(|stored| !is_wanted(stored, name, &class, &rtype));
         true
     }
 
@@ -216,12 +212,7 @@ impl<N: ToName, D: RecordData + CanonicalOrd, Sort: Sorter> SortedRecords<N, D, 
         ensures found { result ≡ list_any (matches N.labels D.rtype (N.labels name.now) class rtype)
             self.old }
     {
-        let wanted = Wanted {
-            owner: name,
-            class,
-            rtype,
-        };
-        match first_place(&self.records, &wanted) {
+        match first_place(&self.records, name, &class, &rtype) {
             Some(at) => {
                 let _ = self.records.remove(at);
                 true
@@ -308,13 +299,8 @@ impl<N: ToName, D: RecordData + CanonicalOrd, Sort: Sorter> SortedRecords<N, D, 
             (find (begins_with (matches N.labels D.rtype (N.labels apex.now) None (Some rtype)))
             (runs (same_rrset N.labels D.rtype) self.now)) result }
     {
-        let wanted = Wanted {
-            owner: apex,
-            class: None,
-            rtype: Some(rtype),
-        };
         let records = self.as_slice();
-        rrset_at(records, first_place(records, &wanted))
+        rrset_at(records, first_place(records, apex, &None, &Some(rtype)))
     }
 
     /// The number of records.
