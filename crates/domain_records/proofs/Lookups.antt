@@ -72,7 +72,8 @@ module _ {N D : Type 0} (labels : N → List (List ℕ)) (rtype : D → ℕ) (da
 
   module _ (rs : List (Record N D)) (sorted : IsStrictlySortedBy (record_cmp labels rtype data_cmp) rs) where
     -- the keys of records in canonical order never descend
-    rises : (i j : ℕ) (d : Record N D) → i ≤ j → j < length rs → is_gt (key_cmp (key_of labels rtype (get_or rs i d)) (key_of labels rtype (get_or rs j d))) ≡ false
+    rises : (i j : ℕ) (d : Record N D) → i ≤ j → j < length rs
+        → is_gt (key_cmp (key_of labels rtype (get_or rs i d)) (key_of labels rtype (get_or rs j d))) ≡ false
     rises i j d le within =
         ⊎_elim (λ lt. rise (get_or rs i d) (get_or rs j d) (Less-from_sorted (record_cmp labels rtype data_cmp) rs i j d sorted lt within))
         (λ ge. let same : i ≡ j = omega arith in rw same (ap is_gt (tied_itself key_cmp_total (key_of labels rtype (get_or rs j d)))))

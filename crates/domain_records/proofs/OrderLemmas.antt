@@ -1,11 +1,11 @@
 -- Records in order: from neighbours to all pairs, and from the canonical order.
-use Rattle.std.proofs.lemmas.Grind.{common_steps}
-use Rattle.std.proofs.Common.{◌≡◌, ℕ, ◌+◌, ◌<◌, ◌≤◌, zero, suc, add-one, Bool, true, false, List, [], ◌∷◌, length, get_or, refl, sym, ◌∙◌, ap, arith}
+use Rattle.std.proofs.lemmas.{Bool.{eqb-true, eq-eqb}, Grind.common_steps}
+use Rattle.std.proofs.Common.{◌≡◌, ◌↔◌, ℕ, ◌+◌, ◌<◌, ◌≤◌, zero, suc, add-one, Bool, true, false, List, [], ◌∷◌, length, get_or, refl, sym, ◌∙◌, ap, arith}
 use Rattle.std.specs.{List.{AllByRecursion, Sorted.IsStrictlySortedBy}, Cmp.{IsTotalOrder, upto, tied_itself, ranks, nat_cmp_total}}
 use Rattle.std.specs.{Ordering.{ordering_then, nat_cmp, is_gt, is_le, MatchOrdering}, declared.cmp.Ordering.{Ordering, TheVariants.{Less, Equal, Greater}}}
 use Rattle.domain_names.specs.{Name.IsSame, Order.{canonical_cmp, canonical_cmp_total}, Laws.{same_tied, tied_same}}
 use Rattle.domain_record.specs.{declared.record.Record.Record, Record.record_cmp}
-use Rattle.domain_records.specs.{Groups.may_follow, Runs.HoldsOfNeighbours, Order.{HoldsPairwise, IsOneClass, MayFollow, IsInOrder}}
+use Rattle.domain_records.specs.{Groups.{may_follow, same_class, same_ttl}, Runs.HoldsOfNeighbours, Order.{HoldsPairwise, IsOneClass, MayFollow, IsInOrder}}
 
 module _ {X : Type 0} (P : X → X → Type 0) where
   each_after : ((x y z : X) → P x y → P y z → P x z) → (x y : X) (ys : List X) → P x y → AllByRecursion (P y) ys → AllByRecursion (P x) ys
@@ -57,7 +57,7 @@ module _ {N D : Type 0} (labels : N → List (List ℕ)) (rtype : D → ℕ) whe
     type = λ same. types (sym is ∙ same_tied (labels r.owner) (labels s.owner) same);
   }
 
-  pub follows_chain : (r s t : Record N D) → MayFollow labels rtype r s → MayFollow labels rtype s t → MayFollow labels rtype r t
+  follows_chain : (r s t : Record N D) → MayFollow labels rtype r s → MayFollow labels rtype s t → MayFollow labels rtype r t
   follows_chain r s t h k = record {
     owner = upto canonical_cmp_total (labels r.owner) (labels s.owner) (labels t.owner) h.owner k.owner;
     type = λ same.
@@ -88,10 +88,10 @@ module _ {N D : Type 0} (labels : N → List (List ℕ)) (rtype : D → ℕ) whe
   test_of r s Greater is h = absurd (let e = sym h.owner ∙ ap is_gt is in cc)
 
   -- the test of two records says whether one may follow the other
-  pub may_follow-means : (r s : Record N D) → may_follow labels rtype r s ≡ true → MayFollow labels rtype r s
+  may_follow-means : (r s : Record N D) → may_follow labels rtype r s ≡ true → MayFollow labels rtype r s
   may_follow-means r s = tested r s _ refl
 
-  pub may_follow-from : (r s : Record N D) → MayFollow labels rtype r s → may_follow labels rtype r s ≡ true
+  may_follow-from : (r s : Record N D) → MayFollow labels rtype r s → may_follow labels rtype r s ≡ true
   may_follow-from r s = test_of r s _ refl
 
   module _ (data_cmp : D → D → Ordering) where
@@ -121,10 +121,19 @@ module _ {N D : Type 0} (labels : N → List (List ℕ)) (rtype : D → ℕ) whe
     in_order_from_sorted [] sorted one = tt
     in_order_from_sorted (r ∷ rs) sorted one = (each_follows r rs one.0 sorted.0, in_order_from_sorted rs sorted.1 one.1)
 
-module _ {X : Type 0} (same : X → X → Bool) (P : X → X → Type 0) (means : (x y : X) → same x y ≡ true → P x y)
-    (from : (x y : X) → P x y → same x y ≡ true) (chain : (x y z : X) → P x y → P y z → P x z) where
-  pub pairs_of_run : (xs : List X) → HoldsOfNeighbours same xs → HoldsPairwise P xs
-  pairs_of_run xs h = pairs_from_neighbours P chain xs (λ k d lt. means _ _ (h k d lt))
+-- neighbours that a test passes have a relation that chains: then all pairs have it, and the other way round
+run_iff_pairs : {X : Type 0} (same : X → X → Bool) (P : X → X → Type 0) → ((x y : X) → same x y ≡ true → P x y) → ((x y : X) → P x y → same x y ≡ true)
+    → ((x y z : X) → P x y → P y z → P x z) → (xs : List X) → HoldsOfNeighbours same xs ↔ HoldsPairwise P xs
+run_iff_pairs same P means from chain xs =
+    (λ h. pairs_from_neighbours P chain xs (λ k d lt. means _ _ (h k d lt)), λ h k d lt. from _ _ (pair_at P xs k (k + 1) d h (omega arith) lt))
 
-  pub run_of_pairs : (xs : List X) → HoldsPairwise P xs → HoldsOfNeighbours same xs
-  run_of_pairs xs h k d lt = from _ _ (pair_at P xs k (k + 1) d h (omega arith) lt)
+module _ {N D : Type 0} (rs : List (Record N D)) where
+  pub one_class : HoldsOfNeighbours same_class rs ↔ IsOneClass rs
+  one_class = run_iff_pairs same_class (λ r s. r.class ≡ s.class) (λ r s. eqb-true _ _) (λ r s. eq-eqb _ _) (λ r s t h k. h ∙ k) rs
+
+  pub one_ttl : HoldsOfNeighbours same_ttl rs ↔ HoldsPairwise (λ r s. r.ttl ≡ s.ttl) rs
+  one_ttl = run_iff_pairs same_ttl (λ r s. r.ttl ≡ s.ttl) (λ r s. eqb-true _ _) (λ r s. eq-eqb _ _) (λ r s t h k. h ∙ k) rs
+
+  pub in_order : (labels : N → List (List ℕ)) (rtype : D → ℕ) → HoldsOfNeighbours (may_follow labels rtype) rs ↔ IsInOrder labels rtype rs
+  in_order labels rtype =
+      run_iff_pairs _ (MayFollow labels rtype) (may_follow-means labels rtype) (may_follow-from labels rtype) (follows_chain labels rtype) rs

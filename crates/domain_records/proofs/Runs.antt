@@ -35,15 +35,15 @@ module _ {X : Type 0} (same : X → X → Bool) where
       ap (add_to same x) b.2 ∙ ap (λ c. cond c ((x ∷ y ∷ b.0) ∷ b.1) ((x ∷ []) ∷ (y ∷ b.0) ∷ b.1)) apart ∙ ap (λ gs. (x ∷ []) ∷ gs) (sym b.2)
 
   -- the first run, and the runs of what follows
-  pub runs-first : (xs : List X) (n : ℕ) → IsFirstRun same xs n → runs same xs ≡ take n xs ∷ runs same (drop n xs)
+  pub runs_first : (xs : List X) (n : ℕ) → IsFirstRun same xs n → runs same xs ≡ take n xs ∷ runs same (drop n xs)
   unfolding runs
-  runs-first xs zero h = absurd (let s = h.some in omega arith)
-  runs-first [] (suc n) h = absurd (let w = h.within in omega arith)
-  runs-first (x ∷ xs) (suc zero) h = one x xs h
-  runs-first (x ∷ []) (suc (suc m)) h = absurd (let w = h.within in omega arith)
-  runs-first (x ∷ y ∷ ys) (suc (suc m)) h =
+  runs_first xs zero h = absurd (let s = h.some in omega arith)
+  runs_first [] (suc n) h = absurd (let w = h.within in omega arith)
+  runs_first (x ∷ xs) (suc zero) h = one x xs h
+  runs_first (x ∷ []) (suc (suc m)) h = absurd (let w = h.within in omega arith)
+  runs_first (x ∷ y ∷ ys) (suc (suc m)) h =
       let alike : same x y ≡ true = h.alike 0 x (omega arith) in
-      ap (add_to same x) (runs-first (y ∷ ys) (suc m) (tail_run x _ _ (omega arith) h))
+      ap (add_to same x) (runs_first (y ∷ ys) (suc m) (tail_run x _ _ (omega arith) h))
       ∙ ap (λ c. cond c ((x ∷ y ∷ take m ys) ∷ runs same (drop m ys)) ((x ∷ []) ∷ (y ∷ take m ys) ∷ runs same (drop m ys))) alike
 
 pub runs_nil : {X : Type 0} (same : X → X → Bool) (xs : List X) → xs ≡ [] → runs same xs ≡ []

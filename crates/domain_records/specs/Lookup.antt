@@ -19,12 +19,17 @@ matches labels rtype owner class type r =
 abbrev pub HasAt : {X : Type 0} → (X → Bool) → List X → ℕ → Type 0
 HasAt {X} p xs i = (i < length xs) × ((d : X) → p (slice_index_or xs i d) ≡ true)
 
+-- the place of the first element of which P holds with `true`, if there is one; of those before it
+-- P holds with `false`
+abbrev pub IsFirst : {X : Type 0} → (X → Bool → Type 0) → List X → Option ℕ → Type 0
+IsFirst {X} P xs None = (k : ℕ) (d : X) → k < length xs → P (slice_index_or xs k d) false
+IsFirst {X} P xs (Some i) =
+    (i < length xs) × ((d : X) → P (slice_index_or xs i d) true)
+    × ((k : ℕ) (d : X) → k < i → P (slice_index_or xs k d) false)
+
 -- the place of the first element that passes the test, if there is one
 abbrev pub IsFirstPlace : {X : Type 0} → (X → Bool) → List X → Option ℕ → Type 0
-IsFirstPlace {X} p xs None = (k : ℕ) (d : X) → k < length xs → p (slice_index_or xs k d) ≡ false
-IsFirstPlace {X} p xs (Some i) =
-    (i < length xs) × ((d : X) → p (slice_index_or xs i d) ≡ true)
-    × ((k : ℕ) (d : X) → k < i → p (slice_index_or xs k d) ≡ false)
+IsFirstPlace p = IsFirst (λ x b. p x ≡ b)
 
 -- what a look-up compares
 pub record Key : Type 0 where

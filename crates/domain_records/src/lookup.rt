@@ -116,12 +116,8 @@ pub(crate) fn first_of_type<N, D: RecordData>(
 ) -> Option<usize>
     ensures { IsFirstPlace (λ r. D.rtype r.«data» == rtype) records.now result }
 {
-    for (i, stored) in records.iter().enumerate() {
-        if stored.rtype() == rtype {
-            return Some(i);
-        }
-    }
-    None
+    let is_wanted = |stored: &Record<N, D>| stored.rtype() == rtype;
+    SliceRefsOrOwned::new_from_owned(records).first_match(&is_wanted)
 }
 
 /// The records of one owner and one type that begin at a place.

@@ -1,7 +1,7 @@
 //! Slices of values, and of references to values.
 ghost use Rattle.std.specs.Prelude.{◌≡◌, ◌≤◌, ◌<◌, length, take, drop, slice_get, map};
 ghost use Rattle.std.specs.Iterator.{YieldsFirstRef, item_count};
-ghost use Rattle.domain_records.specs.Slices.{items_of};
+ghost use Rattle.domain_records.specs.{Edits.IsFirstMatch, Slices.items_of};
 
 use std::fmt;
 use std::marker::Model;
@@ -105,6 +105,19 @@ impl<'a, T> SliceRefsOrOwned<'a, T> {
             SliceRefsOrOwned::Refs(s) => SliceRefsOrOwned::Refs(refs_back(s.refs, n)),
             SliceRefsOrOwned::Owned(s) => SliceRefsOrOwned::Owned(&s[n..]),
         }
+    }
+
+    /// The place of the first value of which the test answers true.
+    pub(crate) fn first_match<F: Fn(&T) -> bool>(&self, test: &F) -> Option<usize>
+        requires { F.IsAlwaysCallable test.now }
+        ensures { IsFirstMatch F.Fn test.now (items_of self.now) result }
+    {
+        for i in 0..self.len() {
+            if test(self.at(i)) {
+                return Some(i);
+            }
+        }
+        None
     }
 
     /// The values in order. What the iterator hands out outlives it.

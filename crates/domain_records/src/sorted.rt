@@ -13,10 +13,11 @@ ghost use Rattle.domain_base.specs.Types.{soa};
 ghost use Rattle.domain_record.specs.{Record.record_cmp, RecordClone.IsRecordClone};
 
 use crate::error::{InsertError, SigningError, SortError};
-use crate::list::{append, clone_all, first_match, search};
+use crate::list::{append, clone_all, insert_if_absent, search};
 use crate::lookup::{first_of_type, first_place, is_wanted, rrset_at};
 use crate::owner::RecordsIter;
 use crate::rrset::{Rrset, RrsetIter};
+use crate::slice::SliceRefsOrOwned;
 use crate::sort::sort_and_dedup;
 use crate::sorter::{DefaultSorter, Sorter};
 use crate::write::{Commented, Plain, write_soa_first};
@@ -188,12 +189,14 @@ impl<N: ToName, D: RecordData + CanonicalOrd, Sort: Sorter> SortedRecords<N, D, 
         ensures found { result ≡ list_any (matches N.labels D.rtype (N.labels name.now) class rtype)
             self.old }
     {
-        if first_place(&self.records, name, &class, &rtype).is_none() {
-            return false;
+        match first_place(&self.records, name, &class, &rtype) {
+            Some(_) => {
+                self.records
+                    .retain(|stored| !is_wanted(stored, name, &class, &rtype));
+                true
+            }
+            None => false,
         }
-        self.records
-            .retain(|stored| !is_wanted(stored, name, &class, &rtype));
-        true
     }
 
     /// Takes out the first record of this owner, of the class and the type that are asked: `None`
@@ -233,12 +236,10 @@ impl<N: ToName, D: RecordData + CanonicalOrd, Sort: Sorter> SortedRecords<N, D, 
         ensures { (at : Option ℕ) × IsFirstMatch F.Fn matcher self.old at
             × Updates (record_cmp N.labels D.rtype D.canonical_cmp) at «data» self.old self.new }
     {
-        if let Some(at) = first_match(&self.records, &matcher) {
+        if let Some(at) = SliceRefsOrOwned::new_from_owned(&self.records).first_match(&matcher) {
             let mut changed = self.records.remove(at);
             *changed.data_mut() = data;
-            if let Err(place) = search(&self.records, &changed) {
-                let _ = self.records.insert(place, changed);
-            }
+            insert_if_absent(&mut self.records, changed);
         }
     }
 
