@@ -28,20 +28,6 @@ fn ref_at<'a, T>(refs: &'a [&'a T], i: usize) -> &'a T
     refs[i]
 }
 
-fn refs_front<'a, T>(refs: &'a [&'a T], n: usize) -> RefSlice<'a, T>
-    requires { n ≤ length refs.now }
-    ensures { map (λ p. p.now) result.refs.now ≡ take n (map (λ p. p.now) refs.now) }
-{
-    RefSlice { refs: &refs[..n] }
-}
-
-fn refs_back<'a, T>(refs: &'a [&'a T], n: usize) -> RefSlice<'a, T>
-    requires { n ≤ length refs.now }
-    ensures { map (λ p. p.now) result.refs.now ≡ drop n (map (λ p. p.now) refs.now) }
-{
-    RefSlice { refs: &refs[n..] }
-}
-
 fn item_at<T>(items: &[T], i: usize) -> &T
     requires { i < length items.now }
     ensures { slice_get items.now i ≡ Some result.now }
@@ -91,7 +77,7 @@ impl<'a, T> SliceRefsOrOwned<'a, T> {
         ensures { items_of result ≡ take n (items_of self.now) }
     {
         match self {
-            SliceRefsOrOwned::Refs(s) => SliceRefsOrOwned::Refs(refs_front(s.refs, n)),
+            SliceRefsOrOwned::Refs(s) => SliceRefsOrOwned::Refs(RefSlice { refs: &s.refs[..n] }),
             SliceRefsOrOwned::Owned(s) => SliceRefsOrOwned::Owned(&s[..n]),
         }
     }
@@ -102,7 +88,7 @@ impl<'a, T> SliceRefsOrOwned<'a, T> {
         ensures { items_of result ≡ drop n (items_of self.now) }
     {
         match self {
-            SliceRefsOrOwned::Refs(s) => SliceRefsOrOwned::Refs(refs_back(s.refs, n)),
+            SliceRefsOrOwned::Refs(s) => SliceRefsOrOwned::Refs(RefSlice { refs: &s.refs[n..] }),
             SliceRefsOrOwned::Owned(s) => SliceRefsOrOwned::Owned(&s[n..]),
         }
     }
