@@ -1,5 +1,4 @@
 pub mod Arranging
-pub mod Clones
 pub mod Firsts
 pub mod FoundGroups
 pub mod Lookups

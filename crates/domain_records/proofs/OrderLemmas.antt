@@ -1,10 +1,10 @@
 -- Records in order: from neighbours to all pairs, and from the canonical order.
 use Rattle.std.proofs.lemmas.{Bool.{eqb-true, eq-eqb, Decides.nat_tests}, Grind.common_steps, Map.Keys.Less-from_sorted}
 use Rattle.std.proofs.Common.{◌≡◌, ◌↔◌, ℕ, ◌+◌, ◌<◌, ◌≤◌, zero, suc, add-one, Bool, true, false, List, [], ◌∷◌, length, get_or, refl, sym, ◌∙◌, arith}
-use Rattle.std.specs.{List.{AllByRecursion, Sorted.IsStrictlySortedBy}, Cmp.{IsTotalOrder, upto}}
+use Rattle.std.specs.{List.{AllByRecursion, Sorted.IsStrictlySortedBy}, Cmp.{IsTotalOrder, upto, tied_itself, nat_cmp_total}}
 use Rattle.std.specs.{Ordering.{ordering_then, nat_cmp, is_gt, is_le}, declared.cmp.Ordering.{Ordering, TheVariants.{Less, Equal}}}
 use Rattle.domain_names.specs.{Name.IsSame, Order.{canonical_cmp, canonical_cmp_total}, Laws.{same_tied, tied_same}}
-use Rattle.domain_record.specs.{declared.record.Record.Record, Record.record_cmp}
+use Rattle.domain_record.specs.{declared.record.Record.Record, Record.record_cmp, RecordClone.IsRecordClone}
 use Rattle.domain_records.specs.{Groups.{may_follow, same_class, same_ttl}, Runs.HoldsOfNeighbours, Order.{HoldsPairwise, IsOneClass, MayFollow, IsInOrder}}
 
 module _ {X : Type 0} (P : X → X → Type 0) where
@@ -98,3 +98,16 @@ module _ {N D : Type 0} (rs : List (Record N D)) where
   pub in_order : (labels : N → List (List ℕ)) (rtype : D → ℕ) → HoldsOfNeighbours (may_follow labels rtype) rs ↔ IsInOrder labels rtype rs
   in_order labels rtype =
       run_iff_pairs _ (MayFollow labels rtype) (may_follow-means labels rtype) (may_follow-from labels rtype) (follows_chain labels rtype) rs
+
+-- a copy of a record is equal to it under the canonical order
+pub clone_tied : {N D : Type 0} (labels : N → List (List ℕ)) (rtype : D → ℕ) (data_cmp : D → D → Ordering) (is_owner_clone : N → N → Type 0)
+    (is_data_clone : D → D → Type 0)
+    → ((a b : N) → is_owner_clone a b → labels b ≡ labels a) → ((a b : D) → is_data_clone a b → rtype b ≡ rtype a)
+    → ((a b : D) → is_data_clone a b → data_cmp a b ≡ Equal)
+    → (r copy : Record N D) → IsRecordClone is_owner_clone is_data_clone r copy → record_cmp labels rtype data_cmp r copy ≡ Equal
+clone_tied labels rtype data_cmp is_owner_clone is_data_clone by_owner by_type by_data r copy h =
+    let class : nat_cmp r.class copy.class ≡ Equal = rw h.class (tied_itself nat_cmp_total r.class) in
+    let owner : canonical_cmp (labels r.owner) (labels copy.owner) ≡ Equal = rw (by_owner r.owner copy.owner h.owner)
+    (tied_itself canonical_cmp_total (labels r.owner)) in
+    let type : nat_cmp (rtype r.«data») (rtype copy.«data») ≡ Equal = rw (by_type r.«data» copy.«data» h.«data») (tied_itself nat_cmp_total (rtype r.«data»)) in
+    rw (class, owner, type) (by_data r.«data» copy.«data» h.«data»)

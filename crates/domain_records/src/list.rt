@@ -50,7 +50,7 @@ pub(crate) fn append<T: Drop, U: IntoIterator<Item = T>>(
 }
 
 /// Copies of the items, in the same order.
-#[tactic(auto, using(std::proofs::lemmas::Grind::common_steps, crate::proofs::Clones::zip_push))]
+#[tactic(auto, using(std::proofs::lemmas::List::Elements::all_zip_more))]
 pub(crate) fn clone_all<T: TryClone + Drop>(
     items: &[T],
     alloc: Global,
