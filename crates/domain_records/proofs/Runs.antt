@@ -1,5 +1,5 @@
 -- The maximal runs of a list.
-use Rattle.std.proofs.Common.{◌≡◌, ℕ, ◌+◌, ◌<◌, ◌≤◌, eqb, IsTrue, zero, suc, Bool, true, false, cond, List, [], ◌∷◌, length, get_or, take, drop, refl, sym, ◌∙◌}
+use Rattle.std.proofs.Common.{◌≡◌, ℕ, ◌<◌, ◌≤◌, eqb, IsTrue, zero, suc, Bool, true, false, cond, List, [], ◌∷◌, length, take, drop, refl, sym, ◌∙◌}
 use Rattle.std.proofs.{Common.{ap, arith, add-one}, lemmas.{Bool.eq-eqb, Grind.common_steps}}
 use Rattle.domain_records.specs.Runs.{AreGroups, Apart, add_to, runs, IsFirstRun, HoldsOfNeighbours}
 
@@ -61,20 +61,12 @@ module _ {X : Type 0} (same : X → X → Bool) where
   runs_are_groups [] = record { all = refl; each = tt; apart = tt }
   runs_are_groups (x ∷ xs) = grind (arith, common_steps, (runs_are_groups xs))
 
-module _ {X : Type 0} (same : X → X → Bool) (xs : List X) (n : ℕ) (h : IsFirstRun same xs n) where
-  -- a first run that ends before the list does ends where two neighbours differ
-  ends_short : (m : ℕ) (d : X) → n ≡ suc m → HoldsOfNeighbours same xs → n < length xs → ⊥
-  ends_short m d is all lt =
-      let alike : same (get_or xs m d) (get_or xs (m + 1) d) ≡ true = all m d (omega arith) in
-      let apart : same (get_or xs m d) (get_or xs n d) ≡ false = h.ends m d (omega arith) lt in
-      let place : m + 1 ≡ n = omega arith in
-      let other : same (get_or xs m d) (get_or xs n d) ≡ true = rw place at alike in
-      absurd (cc)
-
+-- a first run that ends before the list does ends where two neighbours differ
 not_short : {X : Type 0} (same : X → X → Bool) (xs : List X) (n : ℕ) → IsFirstRun same xs n → HoldsOfNeighbours same xs → n < length xs → ⊥
 not_short same [] n h all lt = absurd (omega arith)
 not_short same (x ∷ xs) zero h all lt = absurd (let s = h.some in omega arith)
-not_short same (x ∷ xs) (suc m) h all lt = ends_short same (x ∷ xs) (suc m) h m x refl all lt
+not_short same (x ∷ xs) (suc m) h all lt =
+    absurd (let alike = rw add-one at (all m x (omega arith)) in let apart = h.ends m x (omega arith) lt in cc)
 
 -- a list whose neighbours are the same is its first run
 pub run_is_whole : {X : Type 0} (same : X → X → Bool) (xs : List X) (n : ℕ) → IsFirstRun same xs n → HoldsOfNeighbours same xs → IsTrue (eqb n (length xs))

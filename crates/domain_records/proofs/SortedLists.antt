@@ -104,6 +104,7 @@ module _ {X : Type 0} {R : X → X → Ordering} (o : IsTotalOrder R) where
   sorted_remove (d ∷ ys) i lt s = sorted_from_all_adjacent o (remove (d ∷ ys) i) d (λ k. all_pairs_remove (λ x y. R x y ≡ Less) (d ∷ ys) i lt
       (λ j k e. Less-from_sorted R (d ∷ ys) j k e s) k (k + 1) d (omega arith))
 
+module _ {X : Type 0} {R : X → X → Ordering} where
   -- where an equal one stands
   pub holds_at : (xs : List X) (x : X) (i : ℕ) → IsAt R xs x i → Holds R xs x
   holds_at [] x i at = absurd (let h = at.in_range in omega arith)

@@ -1,9 +1,9 @@
 //! Groups of neighbours.
 ghost use Rattle.std.specs.Prelude.{◌≡◌, ◌<◌, ◌↔◌, length, Bool, IsTrue, slice_index_or};
 ghost use Rattle.std.specs.Option.{ForSome, option_map};
-ghost use Rattle.domain_records.specs.Slices.{items_of};
 ghost use Rattle.domain_records.specs.Groups.{same_owner, same_type, same_rrset, same_class, same_ttl, may_follow};
 ghost use Rattle.domain_records.specs.Runs.{IsRun, IsFirstRun, TakesRun, HoldsOfNeighbours};
+ghost use Rattle.domain_records.specs.Slices.{items_of};
 
 use crate::slice::SliceRefsOrOwned;
 use domain_base::ToName;

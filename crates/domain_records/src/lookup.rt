@@ -3,8 +3,7 @@ ghost use Rattle.std.specs.{Prelude.{◌≡◌, ◌≤◌, ◌↔◌, ◌==◌, 
 ghost use Rattle.std.specs.List.Sorted.{IsStrictlySortedBy};
 ghost use Rattle.domain_record.specs.Record.{record_cmp};
 ghost use Rattle.domain_records.specs.Lookup.{matches, HasAt, IsFirstPlace, IsParted, is_before};
-ghost use Rattle.domain_records.specs.Groups.{same_rrset};
-ghost use Rattle.domain_records.specs.Rrsets.{IsFound, group_at};
+ghost use Rattle.domain_records.specs.{Groups.same_rrset, Rrsets.{IsFound, group_at}};
 
 use crate::error::SigningError;
 use crate::rrset::{Rrset, RrsetIter};

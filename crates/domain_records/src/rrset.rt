@@ -23,8 +23,7 @@ pub struct Rrset<'a, N, D: RecordData> {
 impl<'a, N, D: RecordData> Model for Rrset<'a, N, D> {
     ghost use Rattle.std.specs.Prelude.{List};
     ghost use Rattle.domain_record.specs.declared.record.Record.{Record};
-    ghost use Rattle.domain_records.specs.Slices.{items_of};
-    ghost use Rattle.domain_records.specs.Rrsets.{IsRrset};
+    ghost use Rattle.domain_records.specs.{Slices.items_of, Rrsets.IsRrset};
 
     ghost Value = { List (Record N D) };
 

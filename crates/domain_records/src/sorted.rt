@@ -3,12 +3,10 @@ ghost use Rattle.std.specs.Prelude.{◌≡◌, ◌↔◌, ◌==◌, ◌++◌, �
 ghost use Rattle.std.specs.Prelude.{Option, IsTrue, IfOk, IfErr, OnOk, OnErr, IsErrOf};
 ghost use Rattle.std.specs.{List.{AllZip, list_any}, Fmt.WritesText, Slice.Iter.iter_rest};
 ghost use Rattle.std.specs.{Iterator.IsFiniteIterable, List.Sorted.IsStrictlySortedBy};
-ghost use Rattle.domain_records.specs.Text.{texts, soa_first, WritesWithComments};
 ghost use Rattle.domain_records.specs.Edits.{Gives, refused, without_first, IsFirstMatch, Updates};
-ghost use Rattle.domain_records.specs.{Lookup.matches, Groups.same_rrset};
-ghost use Rattle.domain_records.specs.{Rrsets.{IsFound, begins_with}, Runs.runs};
-ghost use Rattle.domain_records.specs.Order.{IsOneClass, IsInOrder};
-ghost use Rattle.domain_records.specs.SortedSet.{IsUnion, Adds, Holds};
+ghost use Rattle.domain_records.specs.{Text.{texts, soa_first, WritesWithComments}, Lookup.matches};
+ghost use Rattle.domain_records.specs.{Rrsets.{IsFound, begins_with}, Groups.same_rrset, Runs.runs};
+ghost use Rattle.domain_records.specs.{Order.{IsOneClass, IsInOrder}, SortedSet.{IsUnion, Adds, Holds}};
 ghost use Rattle.domain_base.specs.Types.{soa};
 ghost use Rattle.domain_record.specs.{Record.record_cmp, RecordClone.IsRecordClone};
 
@@ -37,10 +35,8 @@ pub struct SortedRecords<N: ToName, D: RecordData + CanonicalOrd, Sort: Sorter =
 }
 
 impl<N: ToName, D: RecordData + CanonicalOrd, Sort: Sorter> Model for SortedRecords<N, D, Sort> {
-    ghost use Rattle.std.specs.Prelude.{List};
-    ghost use Rattle.std.specs.List.Sorted.{IsStrictlySortedBy};
-    ghost use Rattle.domain_record.specs.declared.record.Record.{Record};
-    ghost use Rattle.domain_record.specs.Record.{record_cmp};
+    ghost use Rattle.std.specs.{Prelude.List, List.Sorted.IsStrictlySortedBy};
+    ghost use Rattle.domain_record.specs.{declared.record.Record.Record, Record.record_cmp};
 
     ghost Value = { List (Record N D) };
 
