@@ -1,10 +1,10 @@
 -- The first group that begins with an element of some kind.
-use Rattle.std.proofs.Common.{◌≡◌, ℕ, zero, suc, Bool, true, false, ◌&&◌, eqb, List, [], ◌∷◌, find, Option, Some, None, Result, refl, ◌∙◌, ap, arith}
-use Rattle.std.{proofs.lemmas.{Bool.{eqb-true, and_parts}, Grind.common_steps}, specs.{Option.option_transpose, List.slice_get}}
-use Rattle.domain_names.specs.{Name.same_name, Laws.same_name_equiv}
+use Rattle.std.proofs.Common.{◌≡◌, ℕ, zero, suc, Bool, true, false, List, [], ◌∷◌, find, Option, Some, None, Result, refl, ◌∙◌, arith}
+use Rattle.std.{proofs.lemmas.{Grind.common_steps}, specs.{Option.option_transpose, List.slice_get}}
+use Rattle.domain_names.specs.{Laws.same_name_equiv}
 use Rattle.domain_record.specs.declared.record.Record.{Record}
-use Rattle.domain_records.specs.{declared.error.SigningError.SigningError, Groups.{same_owner, same_type, same_rrset}, Lookup.{IsFirstPlace, matches, is_asked}}
-use Rattle.domain_records.specs.{Rrsets.{TakesRrset, IsFound, IsRrsetOf, begins_with, group_at}, Runs.{runs, add_to}}
+use Rattle.domain_records.specs.{declared.error.SigningError.SigningError, Groups.{same_rrset}, Lookup.{IsFirstPlace, matches}}
+use Rattle.domain_records.specs.{Rrsets.{TakesRrset, IsFound, begins_with, group_at}, Runs.{runs, add_to}}
 use Rattle.domain_records.proofs.Runs.{begins, runs_nil}
 
 module _ {X : Type 0} (same : X → X → Bool) (p : X → Bool) (alike : (x y : X) → same x y ≡ true → p x ≡ p y) where
@@ -25,10 +25,6 @@ module _ {X : Type 0} (same : X → X → Bool) (p : X → Bool) (alike : (x y :
       passed x _ (h.2 0 x (omega arith)) ∙ found_group xs (Some i) (let lt = h.0 in omega arith, λ d. h.1 d, λ k d lt. h.2 (suc k) d (omega arith))
 
 module _ {N D : Type 0} (same : Record N D → Record N D → Bool) (rtype : D → ℕ) where
-  taken_some : (item : Result (List (Record N D)) SigningError) (group : List (Record N D)) → IsRrsetOf rtype group item
-      → IsFound rtype (Some group) (option_transpose (Some item))
-  taken_some item group h = grind (arith, common_steps)
-
   -- what stands at the place of the first record that passes the test is the first group that begins with one
   pub found_by : (p : Record N D → Bool) → ((r s : Record N D) → same r s ≡ true → p r ≡ p s)
       → (records : List (Record N D)) (place : Option ℕ) (found : Result (Option (List (Record N D))) SigningError)
@@ -41,15 +37,7 @@ module _ {N D : Type 0} (same : Record N D → Record N D → Bool) (rtype : D �
   taken_group s r t h = grind (arith, common_steps, runs_nil)
 
 module _ {N D : Type 0} (labels : N → List (List ℕ)) (rtype : D → ℕ) where
-  -- records of one owner and one type are of a type alike
-  pub types_alike : (t : ℕ) (r s : Record N D) → same_rrset labels rtype r s ≡ true → eqb (rtype r.«data») t ≡ eqb (rtype s.«data») t
-  types_alike t r s h = ap (λ n. eqb n t) (eqb-true (rtype r.«data») (rtype s.«data») (and_parts (same_owner labels r s) (same_type rtype r s) h).1)
-
-  -- and match alike, where no class is asked
+  -- records of one owner and one type match alike, where no class is asked
   pub matches_alike : (owner : List (List ℕ)) (type : Option ℕ) (r s : Record N D) → same_rrset labels rtype r s ≡ true
       → matches labels rtype owner None type r ≡ matches labels rtype owner None type s
-  matches_alike owner type r s h =
-      let p = and_parts _ _ h in
-      let a = same_name_equiv.congr (labels r.owner) (labels s.owner) owner p.0 in
-      let b = ap (is_asked type) (eqb-true _ _ p.1) in
-      ap (λ c. c && is_asked type (rtype r.«data»)) a ∙ ap (λ c. same_name (labels s.owner) owner && c) b
+  matches_alike owner type r s h = grind (arith, common_steps, (same_name_equiv.congr (labels r.owner) (labels s.owner) owner))

@@ -1,7 +1,7 @@
 -- The maximal runs of a list.
-use Rattle.std.proofs.Common.{◌≡◌, ℕ, ◌<◌, ◌≤◌, eqb, IsTrue, zero, suc, Bool, true, false, cond, List, [], ◌∷◌, length, take, drop, refl, sym, ◌∙◌}
+use Rattle.std.proofs.Common.{◌≡◌, ℕ, ◌<◌, ◌≤◌, eqb, IsTrue, zero, suc, Bool, true, false, cond, List, [], ◌∷◌, length, take, drop, refl}
 use Rattle.std.proofs.{Common.{ap, arith, add-one}, lemmas.{Bool.eq-eqb, Grind.common_steps}}
-use Rattle.domain_records.specs.Runs.{AreGroups, Apart, add_to, runs, IsFirstRun, HoldsOfNeighbours}
+use Rattle.domain_records.specs.Runs.{AreGroups, add_to, runs, IsFirstRun, HoldsOfNeighbours}
 
 module _ {X : Type 0} (same : X → X → Bool) where
   -- the first run of some elements begins with the first of them
@@ -32,7 +32,7 @@ module _ {X : Type 0} (same : X → X → Bool) where
   one x (y ∷ ys) h =
       let b = begins y ys in
       let apart : same x y ≡ false = h.ends 0 x refl (omega arith) in
-      ap (add_to same x) b.2 ∙ ap (λ c. cond c ((x ∷ y ∷ b.0) ∷ b.1) ((x ∷ []) ∷ (y ∷ b.0) ∷ b.1)) apart ∙ ap (λ gs. (x ∷ []) ∷ gs) (sym b.2)
+      rw (b.2, apart) refl
 
   -- the first run, and the runs of what follows
   pub runs_first : (xs : List X) (n : ℕ) → IsFirstRun same xs n → runs same xs ≡ take n xs ∷ runs same (drop n xs)
@@ -43,18 +43,13 @@ module _ {X : Type 0} (same : X → X → Bool) where
   runs_first (x ∷ []) (suc (suc m)) h = absurd (let w = h.within in omega arith)
   runs_first (x ∷ y ∷ ys) (suc (suc m)) h =
       let alike : same x y ≡ true = h.alike 0 x (omega arith) in
-      ap (add_to same x) (runs_first (y ∷ ys) (suc m) (tail_run x _ _ (omega arith) h))
-      ∙ ap (λ c. cond c ((x ∷ y ∷ take m ys) ∷ runs same (drop m ys)) ((x ∷ []) ∷ (y ∷ take m ys) ∷ runs same (drop m ys))) alike
+      rw (runs_first (y ∷ ys) (suc m) (tail_run x _ _ (omega arith) h), alike) refl
 
 pub runs_nil : {X : Type 0} (same : X → X → Bool) (xs : List X) → xs ≡ [] → runs same xs ≡ []
 unfolding runs
 runs_nil same xs e = ap (runs same) e
 
 module _ {X : Type 0} (same : X → X → Bool) where
-  longer : (x y : X) (ys : List X) (gs : List (List X)) → Apart same ((y ∷ ys) ∷ gs) → Apart same ((x ∷ y ∷ ys) ∷ gs)
-  longer x y ys [] h = tt
-  longer x y ys (g ∷ gs) h = h
-
   -- the groups of a list join to it, each is one run, and neighbours differ
   pub runs_are_groups : (xs : List X) → AreGroups same xs (runs same xs)
   unfolding runs

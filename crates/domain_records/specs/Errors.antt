@@ -1,7 +1,6 @@
--- What a refusal of hashing is to those who sign, and a refusal to sort.
+-- What a refusal of hashing is to those who sign.
 use Rattle.domain_records.specs.declared.error.SigningError.{SigningError}
 use Rattle.domain_records.specs.declared.error.SigningError.TheVariants as signing_error
-use Rattle.domain_records.specs.declared.error.SortError.{SortError}
 use Rattle.domain_hasher.specs.declared.error.Nsec3HashError.{Nsec3HashError}
 use Rattle.domain_hasher.specs.declared.error.Nsec3HashError.TheVariants.{OutOfMemory}
 
@@ -9,7 +8,3 @@ use Rattle.domain_hasher.specs.declared.error.Nsec3HashError.TheVariants.{OutOfM
 abbrev pub signing_error_of : Nsec3HashError → SigningError
 signing_error_of OutOfMemory = signing_error.OutOfMemory
 signing_error_of e = signing_error.Nsec3HashingError e
-
--- the one value of its type
-abbrev pub sort_error : SortError
-sort_error = record { reason = record {} }
