@@ -1,23 +1,17 @@
 -- The first group that begins with an element of some kind.
-use Rattle.std.proofs.Common.{◌≡◌, ℕ, zero, suc, Bool, true, false, cond, ◌&&◌, eqb, List, [], ◌∷◌, find, Option, Some, None, Result, refl, ◌∙◌, ap, arith}
-use Rattle.std.{proofs.lemmas.{Bool.{eqb-true, and_parts}, Grind.common_steps}, specs.Option.option_transpose}
-use Rattle.domain_names.specs.{Name.same_name, Laws.same_name_equiv}
+use Rattle.std.proofs.Common.{◌≡◌, ℕ, zero, suc, Bool, true, false, List, [], ◌∷◌, find, Option, Some, None, Result, refl, ◌∙◌, arith}
+use Rattle.std.{proofs.lemmas.{Grind.common_steps}, specs.{Option.option_transpose, List.slice_get}}
+use Rattle.domain_names.specs.{Laws.same_name_equiv}
 use Rattle.domain_record.specs.declared.record.Record.{Record}
-use Rattle.domain_records.specs.{declared.error.SigningError.SigningError, Groups.{same_owner, same_type, same_rrset}, Lookup.{IsFirstPlace, matches, is_asked}}
-use Rattle.domain_records.specs.{Rrsets.{TakesRrset, IsFound, IsRrsetOf, begins_with, first_group, group_at}, Runs.{runs, add_to}}
+use Rattle.domain_records.specs.{declared.error.SigningError.SigningError, Groups.{same_rrset}, Lookup.{IsFirstPlace, matches}}
+use Rattle.domain_records.specs.{Rrsets.{TakesRrset, IsFound, begins_with, group_at}, Runs.{runs, add_to}}
 use Rattle.domain_records.proofs.Runs.{begins, runs_nil}
 
 module _ {X : Type 0} (same : X → X → Bool) (p : X → Bool) (alike : (x y : X) → same x y ≡ true → p x ≡ p y) where
-  passed_step : (x y : X) (ys : List X) (gs : List (List X)) (b : Bool) → same x y ≡ b → p x ≡ false
-      → find (begins_with p) (cond b ((x ∷ y ∷ ys) ∷ gs) ((x ∷ []) ∷ (y ∷ ys) ∷ gs)) ≡ find (begins_with p) ((y ∷ ys) ∷ gs)
-  passed_step x y ys gs b is h = grind (arith, common_steps)
-
   passed : (x : X) (gs : List (List X)) → p x ≡ false → find (begins_with p) (add_to same x gs) ≡ find (begins_with p) gs
-  passed x [] h = ap (λ c. cond c (Some (x ∷ [])) None) h
-  passed x ([] ∷ gs) h = ap (λ c. cond c (Some (x ∷ [])) (find (begins_with p) gs)) h
-  passed x ((y ∷ ys) ∷ gs) h = passed_step x y ys gs (same x y) refl h
+  passed x gs h = grind (arith, common_steps)
 
-  hit : (x : X) (xs : List X) → p x ≡ true → find (begins_with p) (runs same (x ∷ xs)) ≡ first_group (runs same (x ∷ xs))
+  hit : (x : X) (xs : List X) → p x ≡ true → find (begins_with p) (runs same (x ∷ xs)) ≡ slice_get (runs same (x ∷ xs)) 0
   hit x xs h = grind (arith, common_steps, (begins same x xs))
 
   -- it is the group that begins at the place of the first such element
@@ -31,10 +25,6 @@ module _ {X : Type 0} (same : X → X → Bool) (p : X → Bool) (alike : (x y :
       passed x _ (h.2 0 x (omega arith)) ∙ found_group xs (Some i) (let lt = h.0 in omega arith, λ d. h.1 d, λ k d lt. h.2 (suc k) d (omega arith))
 
 module _ {N D : Type 0} (same : Record N D → Record N D → Bool) (rtype : D → ℕ) where
-  taken_some : (item : Result (List (Record N D)) SigningError) (group : List (Record N D)) → IsRrsetOf rtype group item
-      → IsFound rtype (Some group) (option_transpose (Some item))
-  taken_some item group h = grind (arith, common_steps)
-
   -- what stands at the place of the first record that passes the test is the first group that begins with one
   pub found_by : (p : Record N D → Bool) → ((r s : Record N D) → same r s ≡ true → p r ≡ p s)
       → (records : List (Record N D)) (place : Option ℕ) (found : Result (Option (List (Record N D))) SigningError)
@@ -43,19 +33,11 @@ module _ {N D : Type 0} (same : Record N D → Record N D → Bool) (rtype : D �
 
   -- the first call of `next` finds the first group
   pub taken_group : (s : List (Record N D)) (r : Option (Result (List (Record N D)) SigningError)) (t : List (Record N D))
-      → TakesRrset same rtype s r t → IsFound rtype (first_group (runs same s)) (option_transpose r)
+      → TakesRrset same rtype s r t → IsFound rtype (slice_get (runs same s) 0) (option_transpose r)
   taken_group s r t h = grind (arith, common_steps, runs_nil)
 
 module _ {N D : Type 0} (labels : N → List (List ℕ)) (rtype : D → ℕ) where
-  -- records of one owner and one type are of a type alike
-  pub types_alike : (t : ℕ) (r s : Record N D) → same_rrset labels rtype r s ≡ true → eqb (rtype r.«data») t ≡ eqb (rtype s.«data») t
-  types_alike t r s h = ap (λ n. eqb n t) (eqb-true (rtype r.«data») (rtype s.«data») (and_parts (same_owner labels r s) (same_type rtype r s) h).1)
-
-  -- and match alike, where no class is asked
+  -- records of one owner and one type match alike, where no class is asked
   pub matches_alike : (owner : List (List ℕ)) (type : Option ℕ) (r s : Record N D) → same_rrset labels rtype r s ≡ true
       → matches labels rtype owner None type r ≡ matches labels rtype owner None type s
-  matches_alike owner type r s h =
-      let p = and_parts _ _ h in
-      let a = same_name_equiv.congr (labels r.owner) (labels s.owner) owner p.0 in
-      let b = ap (is_asked type) (eqb-true _ _ p.1) in
-      ap (λ c. c && is_asked type (rtype r.«data»)) a ∙ ap (λ c. same_name (labels s.owner) owner && c) b
+  matches_alike owner type r s h = grind (arith, common_steps, (same_name_equiv.congr (labels r.owner) (labels s.owner) owner))

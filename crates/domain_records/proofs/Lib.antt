@@ -1,13 +1,10 @@
 pub mod Arranging
-pub mod Clones
 pub mod Firsts
 pub mod FoundGroups
 pub mod Lookups
-pub mod Matches
 pub mod OrderLemmas
 pub mod Removals
 pub mod Placing
-pub mod RrsetLemmas
 pub mod Runs
 pub mod SortedLists
 pub mod Sorting

@@ -1,11 +1,11 @@
 -- Records in order: from neighbours to all pairs, and from the canonical order.
-use Rattle.std.proofs.lemmas.Grind.{common_steps}
-use Rattle.std.proofs.Common.{◌≡◌, ℕ, ◌+◌, ◌<◌, ◌≤◌, zero, suc, add-one, Bool, true, false, List, [], ◌∷◌, length, get_or, refl, sym, ◌∙◌, ap, arith}
-use Rattle.std.specs.{List.{AllByRecursion, Sorted.IsStrictlySortedBy}, Cmp.{IsTotalOrder, upto, tied_itself, ranks, nat_cmp_total}}
-use Rattle.std.specs.{Ordering.{ordering_then, nat_cmp, is_gt, is_le, MatchOrdering}, declared.cmp.Ordering.{Ordering, TheVariants.{Less, Equal, Greater}}}
+use Rattle.std.proofs.lemmas.{Bool.{eqb-true, eq-eqb, Decides.nat_tests}, Grind.common_steps, Map.Keys.Less-from_sorted}
+use Rattle.std.proofs.Common.{◌≡◌, ◌↔◌, ℕ, ◌+◌, ◌<◌, ◌≤◌, zero, suc, add-one, Bool, true, false, List, [], ◌∷◌, length, get_or, refl, sym, ◌∙◌, arith}
+use Rattle.std.specs.{List.{AllByRecursion, Sorted.IsStrictlySortedBy}, Cmp.{IsTotalOrder, upto, tied_itself, nat_cmp_total}}
+use Rattle.std.specs.{Ordering.{ordering_then, nat_cmp, is_gt, is_le}, declared.cmp.Ordering.{Ordering, TheVariants.{Less, Equal}}}
 use Rattle.domain_names.specs.{Name.IsSame, Order.{canonical_cmp, canonical_cmp_total}, Laws.{same_tied, tied_same}}
-use Rattle.domain_record.specs.{declared.record.Record.Record, Record.record_cmp}
-use Rattle.domain_records.specs.{Groups.may_follow, Runs.HoldsOfNeighbours, Order.{HoldsPairwise, IsOneClass, MayFollow, IsInOrder}}
+use Rattle.domain_record.specs.{declared.record.Record.Record, Record.record_cmp, RecordClone.IsRecordClone}
+use Rattle.domain_records.specs.{Groups.{may_follow, same_class, same_ttl}, Runs.HoldsOfNeighbours, Order.{HoldsPairwise, IsOneClass, MayFollow, IsInOrder}}
 
 module _ {X : Type 0} (P : X → X → Type 0) where
   each_after : ((x y z : X) → P x y → P y z → P x z) → (x y : X) (ys : List X) → P x y → AllByRecursion (P y) ys → AllByRecursion (P x) ys
@@ -42,22 +42,22 @@ module _ {X : Type 0} {R : X → X → Ordering} (o : IsTotalOrder R) where
   pub tied_between : (x y z : X) → is_gt (R x y) ≡ false → is_gt (R y z) ≡ false → R x z ≡ Equal → R x y ≡ Equal
   tied_between x y z h k e = not_less_by x y z (R x y) (R y z) refl refl e h k
 
-number_by : (m n : ℕ) (r : Ordering) → MatchOrdering r (m < n) (m ≡ n) (n < m) → is_le r ≡ true → m ≤ n
-number_by m n r h k = grind (arith, common_steps)
+parts : (o : Ordering) (m n : ℕ) → is_le (ordering_then o (nat_cmp m n)) ≡ true → (is_gt o ≡ false) × (o ≡ Equal → m ≤ n)
+parts o m n h = grind (arith, nat_tests)
 
-by_number : (m n : ℕ) (r : Ordering) → MatchOrdering r (m < n) (m ≡ n) (n < m) → m ≤ n → is_le r ≡ true
-by_number m n r h k = grind (arith, common_steps)
+from_parts : (o : Ordering) (m n : ℕ) → is_gt o ≡ false → (o ≡ Equal → m ≤ n) → is_le (ordering_then o (nat_cmp m n)) ≡ true
+from_parts o m n h k = grind (arith, nat_tests)
+
+less_parts : (a b : ℕ) (o : Ordering) (m n : ℕ) (d : Ordering) → a ≡ b → ordering_then (nat_cmp a b) (ordering_then o (ordering_then (nat_cmp m n) d)) ≡ Less
+    → (is_gt o ≡ false) × (o ≡ Equal → m ≤ n)
+less_parts a b o m n d one h = grind (arith, nat_tests)
 
 module _ {N D : Type 0} (labels : N → List (List ℕ)) (rtype : D → ℕ) where
-  -- by what the order of the owners answers
-  follows_by : (r s : Record N D) (o : Ordering) → canonical_cmp (labels r.owner) (labels s.owner) ≡ o → is_gt o ≡ false
-      → (o ≡ Equal → rtype r.«data» ≤ rtype s.«data») → MayFollow labels rtype r s
-  follows_by r s o is up types = record {
-    owner = ap is_gt is ∙ up;
-    type = λ same. types (sym is ∙ same_tied (labels r.owner) (labels s.owner) same);
-  }
+  follows_by : (r s : Record N D) → (is_gt (canonical_cmp (labels r.owner) (labels s.owner)) ≡ false)
+      × (canonical_cmp (labels r.owner) (labels s.owner) ≡ Equal → rtype r.«data» ≤ rtype s.«data») → MayFollow labels rtype r s
+  follows_by r s h = record { owner = h.0; type = λ same. h.1 (same_tied (labels r.owner) (labels s.owner) same) }
 
-  pub follows_chain : (r s t : Record N D) → MayFollow labels rtype r s → MayFollow labels rtype s t → MayFollow labels rtype r t
+  follows_chain : (r s t : Record N D) → MayFollow labels rtype r s → MayFollow labels rtype s t → MayFollow labels rtype r t
   follows_chain r s t h k = record {
     owner = upto canonical_cmp_total (labels r.owner) (labels s.owner) (labels t.owner) h.owner k.owner;
     type = λ same.
@@ -69,62 +69,45 @@ module _ {N D : Type 0} (labels : N → List (List ℕ)) (rtype : D → ℕ) whe
         omega arith;
   }
 
-  number_up : (m n : ℕ) → is_le (nat_cmp m n) ≡ true → m ≤ n
-  number_up m n h = number_by m n (nat_cmp m n) (ranks m n) h
-
-  up_number : (m n : ℕ) → m ≤ n → is_le (nat_cmp m n) ≡ true
-  up_number m n h = by_number m n (nat_cmp m n) (ranks m n) h
-
-  tested : (r s : Record N D) (o : Ordering) → canonical_cmp (labels r.owner) (labels s.owner) ≡ o
-      → is_le (ordering_then o (nat_cmp (rtype r.«data») (rtype s.«data»))) ≡ true → MayFollow labels rtype r s
-  tested r s Less is h = follows_by r s Less is refl (λ e. absurd (cc))
-  tested r s Equal is h = follows_by r s Equal is refl (λ e. number_up _ _ h)
-  tested r s Greater is h = absurd (cc)
-
-  test_of : (r s : Record N D) (o : Ordering) → canonical_cmp (labels r.owner) (labels s.owner) ≡ o → MayFollow labels rtype r s
-      → is_le (ordering_then o (nat_cmp (rtype r.«data») (rtype s.«data»))) ≡ true
-  test_of r s Less is h = refl
-  test_of r s Equal is h = up_number _ _ (h.type (tied_same (labels r.owner) (labels s.owner) is))
-  test_of r s Greater is h = absurd (let e = sym h.owner ∙ ap is_gt is in cc)
-
   -- the test of two records says whether one may follow the other
-  pub may_follow-means : (r s : Record N D) → may_follow labels rtype r s ≡ true → MayFollow labels rtype r s
-  may_follow-means r s = tested r s _ refl
+  may_follow-means : (r s : Record N D) → may_follow labels rtype r s ≡ true → MayFollow labels rtype r s
+  may_follow-means r s h = follows_by r s (parts _ _ _ h)
 
-  pub may_follow-from : (r s : Record N D) → MayFollow labels rtype r s → may_follow labels rtype r s ≡ true
-  may_follow-from r s = test_of r s _ refl
+  may_follow-from : (r s : Record N D) → MayFollow labels rtype r s → may_follow labels rtype r s ≡ true
+  may_follow-from r s h = from_parts _ _ _ h.owner (λ tied. h.type (tied_same (labels r.owner) (labels s.owner) tied))
 
-  module _ (data_cmp : D → D → Ordering) where
-    follows_step : (r s : Record N D) (o p : Ordering) → canonical_cmp (labels r.owner) (labels s.owner) ≡ o
-        → nat_cmp (rtype r.«data») (rtype s.«data») ≡ p → ordering_then o (ordering_then p (data_cmp r.«data» s.«data»)) ≡ Less → MayFollow labels rtype r s
-    follows_step r s Less p is types h = follows_by r s Less is refl (λ e. absurd (cc))
-    follows_step r s Equal Less is types h = grind (arith, common_steps)
-    follows_step r s Equal Equal is types h = grind (arith, common_steps)
-    follows_step r s Equal Greater is types h = absurd (cc)
-    follows_step r s Greater p is types h = absurd (cc)
+  -- records of one class in canonical order are in order
+  pub in_order_from_sorted : (data_cmp : D → D → Ordering) (rs : List (Record N D)) → IsStrictlySortedBy (record_cmp labels rtype data_cmp) rs → IsOneClass rs
+      → IsInOrder labels rtype rs
+  in_order_from_sorted data_cmp rs sorted one = pairs_from_neighbours _ follows_chain rs (λ k d lt. follows_by _ _ (less_parts _ _ _ _ _ _
+      (pair_at _ rs k (k + 1) d one (omega arith) lt) (Less-from_sorted (record_cmp labels rtype data_cmp) rs k (k + 1) d sorted (omega arith) lt)))
 
-    follows_less : (r s : Record N D) → r.class ≡ s.class → record_cmp labels rtype data_cmp r s ≡ Less → MayFollow labels rtype r s
-    follows_less r s one less =
-        follows_step r s _ _ refl refl
-        (ap (λ o. ordering_then o (ordering_then (canonical_cmp (labels r.owner) (labels s.owner))
-        (ordering_then (nat_cmp (rtype r.«data») (rtype s.«data»)) (data_cmp r.«data» s.«data»))))
-        (sym (ap (λ c. nat_cmp r.class c) (sym one) ∙ tied_itself nat_cmp_total r.class)) ∙ less)
+-- neighbours that a test passes have a relation that chains: then all pairs have it, and the other way round
+run_iff_pairs : {X : Type 0} (same : X → X → Bool) (P : X → X → Type 0) → ((x y : X) → same x y ≡ true → P x y) → ((x y : X) → P x y → same x y ≡ true)
+    → ((x y z : X) → P x y → P y z → P x z) → (xs : List X) → HoldsOfNeighbours same xs ↔ HoldsPairwise P xs
+run_iff_pairs same P means from chain xs =
+    (λ h. pairs_from_neighbours P chain xs (λ k d lt. means _ _ (h k d lt)), λ h k d lt. from _ _ (pair_at P xs k (k + 1) d h (omega arith) lt))
 
-    each_follows : (r : Record N D) (rs : List (Record N D)) → AllByRecursion (λ s. r.class ≡ s.class) rs
-        → AllByRecursion (λ s. record_cmp labels rtype data_cmp r s ≡ Less) rs → AllByRecursion (MayFollow labels rtype r) rs
-    each_follows r [] one less = tt
-    each_follows r (s ∷ rs) one less = (follows_less r s one.0 less.0, each_follows r rs one.1 less.1)
+module _ {N D : Type 0} (rs : List (Record N D)) where
+  pub one_class : HoldsOfNeighbours same_class rs ↔ IsOneClass rs
+  one_class = run_iff_pairs same_class (λ r s. r.class ≡ s.class) (λ r s. eqb-true _ _) (λ r s. eq-eqb _ _) (λ r s t h k. h ∙ k) rs
 
-    -- records of one class in canonical order are in order
-    pub in_order_from_sorted : (rs : List (Record N D)) → IsStrictlySortedBy (record_cmp labels rtype data_cmp) rs → IsOneClass rs → IsInOrder labels rtype rs
-    unfolding IsStrictlySortedBy
-    in_order_from_sorted [] sorted one = tt
-    in_order_from_sorted (r ∷ rs) sorted one = (each_follows r rs one.0 sorted.0, in_order_from_sorted rs sorted.1 one.1)
+  pub one_ttl : HoldsOfNeighbours same_ttl rs ↔ HoldsPairwise (λ r s. r.ttl ≡ s.ttl) rs
+  one_ttl = run_iff_pairs same_ttl (λ r s. r.ttl ≡ s.ttl) (λ r s. eqb-true _ _) (λ r s. eq-eqb _ _) (λ r s t h k. h ∙ k) rs
 
-module _ {X : Type 0} (same : X → X → Bool) (P : X → X → Type 0) (means : (x y : X) → same x y ≡ true → P x y)
-    (from : (x y : X) → P x y → same x y ≡ true) (chain : (x y z : X) → P x y → P y z → P x z) where
-  pub pairs_of_run : (xs : List X) → HoldsOfNeighbours same xs → HoldsPairwise P xs
-  pairs_of_run xs h = pairs_from_neighbours P chain xs (λ k d lt. means _ _ (h k d lt))
+  pub in_order : (labels : N → List (List ℕ)) (rtype : D → ℕ) → HoldsOfNeighbours (may_follow labels rtype) rs ↔ IsInOrder labels rtype rs
+  in_order labels rtype =
+      run_iff_pairs _ (MayFollow labels rtype) (may_follow-means labels rtype) (may_follow-from labels rtype) (follows_chain labels rtype) rs
 
-  pub run_of_pairs : (xs : List X) → HoldsPairwise P xs → HoldsOfNeighbours same xs
-  run_of_pairs xs h k d lt = from _ _ (pair_at P xs k (k + 1) d h (omega arith) lt)
+-- a copy of a record is equal to it under the canonical order
+pub clone_tied : {N D : Type 0} (labels : N → List (List ℕ)) (rtype : D → ℕ) (data_cmp : D → D → Ordering) (is_owner_clone : N → N → Type 0)
+    (is_data_clone : D → D → Type 0)
+    → ((a b : N) → is_owner_clone a b → labels b ≡ labels a) → ((a b : D) → is_data_clone a b → rtype b ≡ rtype a)
+    → ((a b : D) → is_data_clone a b → data_cmp a b ≡ Equal)
+    → (r copy : Record N D) → IsRecordClone is_owner_clone is_data_clone r copy → record_cmp labels rtype data_cmp r copy ≡ Equal
+clone_tied labels rtype data_cmp is_owner_clone is_data_clone by_owner by_type by_data r copy h =
+    let class : nat_cmp r.class copy.class ≡ Equal = rw h.class (tied_itself nat_cmp_total r.class) in
+    let owner : canonical_cmp (labels r.owner) (labels copy.owner) ≡ Equal = rw (by_owner r.owner copy.owner h.owner)
+    (tied_itself canonical_cmp_total (labels r.owner)) in
+    let type : nat_cmp (rtype r.«data») (rtype copy.«data») ≡ Equal = rw (by_type r.«data» copy.«data» h.«data») (tied_itself nat_cmp_total (rtype r.«data»)) in
+    rw (class, owner, type) (by_data r.«data» copy.«data» h.«data»)

@@ -1,10 +1,10 @@
 -- A list in the order of places that ascend is sorted, and of equals the earliest comes first.
-use Rattle.std.proofs.lemmas.Grind.{common_steps}
-use Rattle.std.proofs.Common.{◌≡◌, ◌∙◌, ℕ, ◌+◌, ◌<◌, ◌≤◌, Some, Bool, true, false, List, length, get_or, sym, ap, subst, arith, is_lt, inl, inr}
+use Rattle.std.proofs.lemmas.{Grind.common_steps, Bool.Decides.nat_tests}
+use Rattle.std.proofs.Common.{◌≡◌, ◌∙◌, ℕ, ◌+◌, ◌<◌, ◌≤◌, Some, Bool, true, false, List, length, get_or, sym, ap, arith, is_lt, inl, inr}
 use Rattle.std.proofs.lemmas.{Bool.{cases_Bool, cases_order}, List.{Folds.find_at, Sums.{position_or_len_is, fails_before_first, passes_at_first}}}
 use Rattle.std.proofs.lemmas.{Option.{slice_get-get_or, slice_get_past}, List.get_or_default, Map.Keys.{Less-from_sorted, sorted_from_all_adjacent}}
-use Rattle.std.specs.{Cmp.{IsTotalOrder, then_total, on_total, nat_cmp_total, alike_right, tied_back, Equal-is, ranks}, List.{position_or_len, find, slice_get}}
-use Rattle.std.specs.{List.Sorted.IsPermutation, Ordering.{is_eq, ordering_then, ordering_reverse, MatchOrdering}, declared.cmp.Ordering.Ordering}
+use Rattle.std.specs.{Cmp.{IsTotalOrder, then_total, on_total, nat_cmp_total, alike_right, tied_back, Equal-is}, List.{position_or_len, find, slice_get}}
+use Rattle.std.specs.{List.Sorted.IsPermutation, Ordering.{is_eq}, declared.cmp.Ordering.Ordering}
 use Rattle.std.specs.declared.cmp.Ordering.TheVariants.{Less, Equal}
 use Rattle.domain_records.specs.{declared.owner_runs.Run.Run, OwnerOrder.compared_runs, Places.{AreInOrder, IsArranged, compared_places}}
 use Rattle.domain_records.specs.SortedSet.{IsSortOf, first_equal}
@@ -16,12 +16,6 @@ places_total o xs d = then_total (on_total (λ k. get_or xs k d) o) nat_cmp_tota
 pub runs_total : {X : Type 0} {R : X → X → Ordering} → IsTotalOrder R → (xs : List X) (d : X) → IsTotalOrder (compared_runs R xs d)
 unfolding compared_runs
 runs_total o xs d = then_total (on_total (λ (r : Run). r.key) nat_cmp_total) (on_total (λ (r : Run). get_or xs r.start d) o)
-
-not_after : (a b : Ordering) → ordering_then a b ≡ Less → is_lt (ordering_reverse a) ≡ false
-not_after a b h = grind (arith, common_steps)
-
-second_less : (a b : Ordering) → a ≡ Equal → ordering_then a b ≡ Less → b ≡ Less
-second_less a b tie h = ap (λ r. ordering_then r b) (sym tie) ∙ h
 
 module _ {X : Type 0} {R : X → X → Ordering} (o : IsTotalOrder R) (xs : List X) (d : X) (places inverse : List ℕ) (h : AreInOrder R xs d places inverse) where
   abbrev key : ℕ → X
@@ -39,11 +33,10 @@ module _ {X : Type 0} {R : X → X → Ordering} (o : IsTotalOrder R) (xs : List
   earlier : (x : X) (j k : ℕ) → j < k → k < length places → is_eq (R (key j) x) ≡ true → is_eq (R (key k) x) ≡ true → get_or places j 0 < get_or places k 0
   unfolding compared_places
   earlier x j k lt below p q =
-      let a = get_or places j 0 in
-      let b = get_or places k 0 in
       let tie : R (key j) (key k) ≡ Equal = sym (alike_right o x (key k) (key j) (tied_back o (key k) x ((Equal-is (R (key k) x)).0 q)))
       ∙ (Equal-is (R (key j) x)).0 p in
-      subst (λ r. MatchOrdering r (a < b) (a ≡ b) (b < a)) (second_less _ _ tie (both j k lt below)) (ranks a b)
+      let less = both j k lt below in
+      grind (arith, nat_tests)
 
   module _ (ys : List X) (put : IsArranged xs places ys) where
     at : (k : ℕ) (e : X) → k < length ys → get_or ys k e ≡ key k

@@ -1,7 +1,7 @@
 -- The maximal runs of a list.
-use Rattle.std.proofs.Common.{◌≡◌, ℕ, ◌+◌, ◌<◌, ◌≤◌, eqb, IsTrue, zero, suc, Bool, true, false, cond, List, [], ◌∷◌, length, get_or, take, drop, refl, sym, ◌∙◌}
+use Rattle.std.proofs.Common.{◌≡◌, ℕ, ◌<◌, ◌≤◌, eqb, IsTrue, zero, suc, Bool, true, false, cond, List, [], ◌∷◌, length, take, drop, refl}
 use Rattle.std.proofs.{Common.{ap, arith, add-one}, lemmas.{Bool.eq-eqb, Grind.common_steps}}
-use Rattle.domain_records.specs.Runs.{AreGroups, Apart, add_to, runs, IsFirstRun, HoldsOfNeighbours}
+use Rattle.domain_records.specs.Runs.{AreGroups, add_to, runs, IsFirstRun, HoldsOfNeighbours}
 
 module _ {X : Type 0} (same : X → X → Bool) where
   -- the first run of some elements begins with the first of them
@@ -32,49 +32,36 @@ module _ {X : Type 0} (same : X → X → Bool) where
   one x (y ∷ ys) h =
       let b = begins y ys in
       let apart : same x y ≡ false = h.ends 0 x refl (omega arith) in
-      ap (add_to same x) b.2 ∙ ap (λ c. cond c ((x ∷ y ∷ b.0) ∷ b.1) ((x ∷ []) ∷ (y ∷ b.0) ∷ b.1)) apart ∙ ap (λ gs. (x ∷ []) ∷ gs) (sym b.2)
+      rw (b.2, apart) refl
 
   -- the first run, and the runs of what follows
-  pub runs-first : (xs : List X) (n : ℕ) → IsFirstRun same xs n → runs same xs ≡ take n xs ∷ runs same (drop n xs)
+  pub runs_first : (xs : List X) (n : ℕ) → IsFirstRun same xs n → runs same xs ≡ take n xs ∷ runs same (drop n xs)
   unfolding runs
-  runs-first xs zero h = absurd (let s = h.some in omega arith)
-  runs-first [] (suc n) h = absurd (let w = h.within in omega arith)
-  runs-first (x ∷ xs) (suc zero) h = one x xs h
-  runs-first (x ∷ []) (suc (suc m)) h = absurd (let w = h.within in omega arith)
-  runs-first (x ∷ y ∷ ys) (suc (suc m)) h =
+  runs_first xs zero h = absurd (let s = h.some in omega arith)
+  runs_first [] (suc n) h = absurd (let w = h.within in omega arith)
+  runs_first (x ∷ xs) (suc zero) h = one x xs h
+  runs_first (x ∷ []) (suc (suc m)) h = absurd (let w = h.within in omega arith)
+  runs_first (x ∷ y ∷ ys) (suc (suc m)) h =
       let alike : same x y ≡ true = h.alike 0 x (omega arith) in
-      ap (add_to same x) (runs-first (y ∷ ys) (suc m) (tail_run x _ _ (omega arith) h))
-      ∙ ap (λ c. cond c ((x ∷ y ∷ take m ys) ∷ runs same (drop m ys)) ((x ∷ []) ∷ (y ∷ take m ys) ∷ runs same (drop m ys))) alike
+      rw (runs_first (y ∷ ys) (suc m) (tail_run x _ _ (omega arith) h), alike) refl
 
 pub runs_nil : {X : Type 0} (same : X → X → Bool) (xs : List X) → xs ≡ [] → runs same xs ≡ []
 unfolding runs
 runs_nil same xs e = ap (runs same) e
 
 module _ {X : Type 0} (same : X → X → Bool) where
-  longer : (x y : X) (ys : List X) (gs : List (List X)) → Apart same ((y ∷ ys) ∷ gs) → Apart same ((x ∷ y ∷ ys) ∷ gs)
-  longer x y ys [] h = tt
-  longer x y ys (g ∷ gs) h = h
-
   -- the groups of a list join to it, each is one run, and neighbours differ
   pub runs_are_groups : (xs : List X) → AreGroups same xs (runs same xs)
   unfolding runs
   runs_are_groups [] = record { all = refl; each = tt; apart = tt }
   runs_are_groups (x ∷ xs) = grind (arith, common_steps, (runs_are_groups xs))
 
-module _ {X : Type 0} (same : X → X → Bool) (xs : List X) (n : ℕ) (h : IsFirstRun same xs n) where
-  -- a first run that ends before the list does ends where two neighbours differ
-  ends_short : (m : ℕ) (d : X) → n ≡ suc m → HoldsOfNeighbours same xs → n < length xs → ⊥
-  ends_short m d is all lt =
-      let alike : same (get_or xs m d) (get_or xs (m + 1) d) ≡ true = all m d (omega arith) in
-      let apart : same (get_or xs m d) (get_or xs n d) ≡ false = h.ends m d (omega arith) lt in
-      let place : m + 1 ≡ n = omega arith in
-      let other : same (get_or xs m d) (get_or xs n d) ≡ true = rw place at alike in
-      absurd (cc)
-
+-- a first run that ends before the list does ends where two neighbours differ
 not_short : {X : Type 0} (same : X → X → Bool) (xs : List X) (n : ℕ) → IsFirstRun same xs n → HoldsOfNeighbours same xs → n < length xs → ⊥
 not_short same [] n h all lt = absurd (omega arith)
 not_short same (x ∷ xs) zero h all lt = absurd (let s = h.some in omega arith)
-not_short same (x ∷ xs) (suc m) h all lt = ends_short same (x ∷ xs) (suc m) h m x refl all lt
+not_short same (x ∷ xs) (suc m) h all lt =
+    absurd (let alike = rw add-one at (all m x (omega arith)) in let apart = h.ends m x (omega arith) lt in cc)
 
 -- a list whose neighbours are the same is its first run
 pub run_is_whole : {X : Type 0} (same : X → X → Bool) (xs : List X) (n : ℕ) → IsFirstRun same xs n → HoldsOfNeighbours same xs → IsTrue (eqb n (length xs))

@@ -1,57 +1,39 @@
 -- Sorted sets as lists: where an element stands or goes, and what a sort and a dedup leave.
-use Rattle.std.proofs.Common.{◌≡◌, ℕ, ◌+◌, ◌<◌, suc, Bool, false, cond, not, ◌&&◌, List, [], ◌∷◌, ◌++◌, length, get_or, take, drop, Option, Some, None, Result}
-use Rattle.std.proofs.{Common.{Ok, Err, IfOk, IfErr, refl, sym, ◌∙◌, ap, subst, arith, is_lt}, lemmas.Map.Keys.Less-from_sorted}
-use Rattle.std.proofs.lemmas.List.Sorted.{searchable_from_sorted, IsPermutation-insert, Contains-permutation, All-permutation}
-use Rattle.std.proofs.lemmas.List.{Kept.{IsStrictlySortedBy-dedup, Any-dedup}, Filters.All-dedup}
-use Rattle.std.proofs.{lemmas.List.{take-append-drop, get_or-take, get_or-drop, get_or_default, length-take-le, length-drop}, Math.Seq.drop-cons}
-use Rattle.std.proofs.lemmas.{List.Elements.{All-contains_itself, filter_agree, recursion_from_All}, Grind.common_steps}
-use Rattle.std.specs.List.{AllByRecursion, Contains, dedup, dedup_from, filter, find, insert, remove}
+use Rattle.std.proofs.Common.{◌≡◌, ℕ, ◌+◌, ◌<◌, Bool, false, not, ◌&&◌, List, [], ◌∷◌, ◌++◌, length, get_or, take, drop, Result}
+use Rattle.std.proofs.{Common.{Ok, Err, IfOk, IfErr, refl, sym, ◌∙◌, ap, subst, arith, is_lt}, lemmas.Map.Keys.{Less-from_sorted, sorted_from_all_adjacent}}
+use Rattle.std.proofs.lemmas.List.{take-append-drop, get_or-take, get_or-drop, get_or_default, length-take-le, length-drop, Filters.All-dedup}
+use Rattle.std.proofs.lemmas.List.{Elements.{All-contains_itself, AllZip-get_or, filter_agree, recursion_from_All}, Kept.{IsStrictlySortedBy-dedup, Any-dedup}}
+use Rattle.std.proofs.lemmas.List.{Quantifiers.all_pairs_remove, Sorted.{searchable_from_sorted, IsPermutation-insert, Contains-permutation, All-permutation}}
+use Rattle.std.proofs.lemmas.{Grind.common_steps, Slice.Zip.AllZip-long}
+use Rattle.std.specs.List.{AllByRecursion, AllZip, slice_get, Contains, dedup, dedup_from, filter, find, insert, remove}
 use Rattle.std.specs.List.Sorted.{IsStrictlySortedBy, IsSorted, IsStable, IsPermutation, ties, IsSearchInRange, IsBinarySearchResult, IsNonDecreasingBy}
-use Rattle.std.specs.{Cmp.{IsTotalOrder, IsEquivalence, eq_by_cmp_equiv, tied_back, Equal-is}, Ordering.{eq_by_cmp, is_eq, ordering_index, ordering_reverse}}
-use Rattle.std.specs.declared.cmp.Ordering.{Ordering, TheVariants.{Less, Greater}}
+use Rattle.std.specs.Cmp.{IsTotalOrder, IsEquivalence, eq_by_cmp_equiv, alike_right, tied_back, Equal-is}
+use Rattle.std.specs.{Ordering.{eq_by_cmp, is_eq, ordering_index, ordering_reverse}, declared.cmp.Ordering.{Ordering, TheVariants.{Less, Equal, Greater}}}
 use Rattle.domain_records.specs.SortedSet.{IsAt, IsGapFor, Holds, IsSortedSetOf, IsSortOf, IsUnion, KeepsEarliest, Adds}
 
 module _ {X : Type 0} where
   -- the first that passes is the first of those that pass
-  abbrev pub first_of : List X → Option X
-  first_of [] = None
-  first_of (x ∷ xs) = Some x
-
-  first_step : (p : X → Bool) (x : X) (xs : List X) (b : Bool) → find p xs ≡ first_of (filter p xs)
-      → cond b (Some x) (find p xs) ≡ first_of (cond b (x ∷ filter p xs) (filter p xs))
-  first_step p x xs b h = grind (arith, common_steps)
-
-  pub find_first : (p : X → Bool) (xs : List X) → find p xs ≡ first_of (filter p xs)
+  find_first : (p : X → Bool) (xs : List X) → find p xs ≡ slice_get (filter p xs) 0
   find_first p [] = refl
-  find_first p (x ∷ xs) = first_step p x xs (p x) (find_first p xs)
+  find_first p (x ∷ xs) = grind (arith, common_steps, (find_first p xs))
 
   -- two lists that one test filters alike begin alike
-  pub find_alike : (p : X → Bool) (xs ys : List X) → filter p xs ≡ filter p ys → find p xs ≡ find p ys
-  find_alike p xs ys h = find_first p xs ∙ ap first_of h ∙ sym (find_first p ys)
+  find_alike : (p : X → Bool) (xs ys : List X) → filter p xs ≡ filter p ys → find p xs ≡ find p ys
+  find_alike p xs ys h = find_first p xs ∙ ap (λ l. slice_get l 0) h ∙ sym (find_first p ys)
 
   module _ {E : X → X → Bool} (e : IsEquivalence E) (x : X) where
-    dedup_step : (k y : X) (xs : List X) (b : Bool) → E y k ≡ b
-        → find (λ z. E z x) (dedup_from E k xs) ≡ find (λ z. E z x) (k ∷ xs)
-        → find (λ z. E z x) (dedup_from E y xs) ≡ find (λ z. E z x) (y ∷ xs)
-        → find (λ z. E z x) (cond b (dedup_from E k xs) (k ∷ dedup_from E y xs)) ≡ find (λ z. E z x) (k ∷ y ∷ xs)
-    dedup_step k y xs b h one two = grind (arith, common_steps)
-
     find-dedup_from : (k : X) (xs : List X) → find (λ z. E z x) (dedup_from E k xs) ≡ find (λ z. E z x) (k ∷ xs)
     find-dedup_from k [] = refl
-    find-dedup_from k (y ∷ xs) = dedup_step k y xs (E y k) refl (find-dedup_from k xs) (find-dedup_from y xs)
+    find-dedup_from k (y ∷ xs) = grind (arith, common_steps, (find-dedup_from k xs), (find-dedup_from y xs))
 
     -- `dedup` keeps the first of each run
-    pub find-dedup : (xs : List X) → find (λ z. E z x) (dedup E xs) ≡ find (λ z. E z x) xs
+    find-dedup : (xs : List X) → find (λ z. E z x) (dedup E xs) ≡ find (λ z. E z x) xs
     find-dedup [] = refl
     find-dedup (y ∷ xs) = find-dedup_from y xs
 
   rec_join : (P : X → Type 0) (xs : List X) (x : X) (ys : List X) → AllByRecursion P (xs ++ ys) → P x → AllByRecursion P (xs ++ x ∷ ys)
   rec_join P [] x ys h p = (p, h)
   rec_join P (y ∷ xs) x ys h p = (h.0, rec_join P xs x ys h.1 p)
-
-  rec_cut : (P : X → Type 0) (xs : List X) (x : X) (ys : List X) → AllByRecursion P (xs ++ x ∷ ys) → AllByRecursion P (xs ++ ys)
-  rec_cut P [] x ys h = h.1
-  rec_cut P (y ∷ xs) x ys h = (h.0, rec_cut P xs x ys h.1)
 
 tied : (s : Ordering) → not (is_lt (ordering_reverse s)) && not (is_lt s) ≡ is_eq s
 tied s = grind (arith, common_steps)
@@ -62,11 +44,6 @@ module _ {X : Type 0} {R : X → X → Ordering} (o : IsTotalOrder R) where
   unfolding IsStrictlySortedBy
   sorted_join [] x ys s l g = (g, s)
   sorted_join (y ∷ xs) x ys s l g = (rec_join _ xs x ys s.0 l.0, sorted_join xs x ys s.1 l.1 g)
-
-  pub sorted_cut : (xs : List X) (x : X) (ys : List X) → IsStrictlySortedBy R (xs ++ x ∷ ys) → IsStrictlySortedBy R (xs ++ ys)
-  unfolding IsStrictlySortedBy
-  sorted_cut [] x ys s = s.1
-  sorted_cut (y ∷ xs) x ys s = (rec_cut _ xs x ys s.0, sorted_cut xs x ys s.1)
 
   turned : (x y : X) → R x y ≡ Less → is_lt (R y x) ≡ false
   turned x y h = ap is_lt (o.antisymm y x ∙ ap ordering_reverse h)
@@ -124,11 +101,10 @@ module _ {X : Type 0} {R : X → X → Ordering} (o : IsTotalOrder R) where
   -- one that is taken out
   pub sorted_remove : (xs : List X) (i : ℕ) → i < length xs → IsStrictlySortedBy R xs → IsStrictlySortedBy R (remove xs i)
   sorted_remove [] i lt s = absurd (omega arith)
-  sorted_remove (d ∷ ys) i lt s =
-      let xs = d ∷ ys in
-      sorted_cut (take i xs) (get_or xs i d) (drop (suc i) xs)
-      (subst (λ (l : List X). IsStrictlySortedBy R (take i xs ++ l)) (drop-cons xs i d lt) (subst (IsStrictlySortedBy R) (sym (take-append-drop i xs)) s))
+  sorted_remove (d ∷ ys) i lt s = sorted_from_all_adjacent o (remove (d ∷ ys) i) d (λ k. all_pairs_remove (λ x y. R x y ≡ Less) (d ∷ ys) i lt
+      (λ j k e. Less-from_sorted R (d ∷ ys) j k e s) k (k + 1) d (omega arith))
 
+module _ {X : Type 0} {R : X → X → Ordering} where
   -- where an equal one stands
   pub holds_at : (xs : List X) (x : X) (i : ℕ) → IsAt R xs x i → Holds R xs x
   holds_at [] x i at = absurd (let h = at.in_range in omega arith)
@@ -141,6 +117,19 @@ module _ {X : Type 0} {R : X → X → Ordering} (o : IsTotalOrder R) where
 pub sorted_nil : {X : Type 0} (R : X → X → Ordering) (xs : List X) → xs ≡ [] → IsStrictlySortedBy R xs
 unfolding IsStrictlySortedBy
 sorted_nil R xs e = subst (IsStrictlySortedBy R) (sym e) tt
+
+-- a list whose elements are tied, place by place, to those of a sorted list is sorted too
+module _ {X : Type 0} {R : X → X → Ordering} (o : IsTotalOrder R) (P : X → X → Type 0) (tie : (x y : X) → P x y → R x y ≡ Equal) where
+  less_too : (x y x' y' : X) → P x x' → P y y' → R x y ≡ Less → R x' y' ≡ Less
+  less_too x y x' y' p q h = sym (o.congr x x' y' (tie x x' p)) ∙ sym (alike_right o y y' x (tie y y' q)) ∙ h
+
+  pub sorted_too : (xs ys : List X) → AllZip P xs ys → IsStrictlySortedBy R xs → IsStrictlySortedBy R ys
+  sorted_too xs [] z s = sorted_nil R [] refl
+  sorted_too xs (y ∷ ys) z s =
+      let long = AllZip-long P xs (y ∷ ys) z in
+      let at = λ (k : ℕ) (lt : k < length xs). AllZip-get_or P xs (y ∷ ys) k y y z lt in
+      sorted_from_all_adjacent o (y ∷ ys) y (λ k lt. less_too _ _ _ _ (at k (omega arith)) (at (k + 1) (omega arith))
+      (Less-from_sorted R xs k (k + 1) y s (omega arith) (omega arith)))
 
 -- an element that was read
 pub read_is : {X : Type 0} (xs : List X) (i : ℕ) (x : X) → i < length xs → x ≡ get_or xs i x → (d : X) → get_or xs i d ≡ x

@@ -1,8 +1,8 @@
 -- What the calls of sorted records add, remove and change.
-use Rattle.std.specs.Prelude.{◌≡◌, ℕ, ◌<◌, Bool, true, false, List, [], ◌∷◌, length, Option, Some, None, slice_index_or, remove, ◌⊎◌, if◌then◌else◌}
+use Rattle.std.specs.Prelude.{◌≡◌, ℕ, Bool, List, [], ◌∷◌, Option, Some, None, slice_index_or, remove, ◌⊎◌, if◌then◌else◌}
 use Rattle.std.specs.{Fn.{Shared, FnReturnsAt}, Iterator.Drains, declared.cmp.Ordering.Ordering}
 use Rattle.domain_record.specs.declared.record.Record.{Record}
-use Rattle.domain_records.specs.{declared.error.InsertError.{InsertError, TheVariants.{Present, OutOfMemory}}, SortedSet.{Holds, Adds}}
+use Rattle.domain_records.specs.{declared.error.InsertError.{InsertError, TheVariants.{Present, OutOfMemory}}, Lookup.IsFirst, SortedSet.{Holds, Adds}}
 use denote.Ref.{Bor}
 
 -- what `into_iter` made of more gave xs, and then ended
@@ -23,11 +23,7 @@ without_first p (x ∷ xs) = if p x then xs else x ∷ without_first p xs
 -- the first element at which the closure answers true, if there is one
 abbrev pub IsFirstMatch : {F X : Type 0} → Shared F (Bor X × Unit {0}) Bool → F → List X
     → Option ℕ → Type 0
-IsFirstMatch {F} {X} g f xs None =
-    (k : ℕ) (d : X) → k < length xs → FnReturnsAt g f (slice_index_or xs k d) false
-IsFirstMatch {F} {X} g f xs (Some i) =
-    (i < length xs) × ((d : X) → FnReturnsAt g f (slice_index_or xs i d) true)
-    × ((k : ℕ) (d : X) → k < i → FnReturnsAt g f (slice_index_or xs k d) false)
+IsFirstMatch g f = IsFirst (FnReturnsAt g f)
 
 -- new is the sorted set xs with x, unless an equal one stands
 abbrev pub AddsIfAbsent : {X : Type 0} → (X → X → Ordering) → List X → X → List X → Type 0

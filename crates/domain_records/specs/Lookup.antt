@@ -1,6 +1,6 @@
 -- How records are looked up by owner, class and type.
 use Rattle.std.specs.Prelude.{◌≡◌, ℕ, ◌<◌, Bool, true, false, ◌==◌, ◌&&◌, List, length, Option, Some, None, slice_index_or}
-use Rattle.std.specs.{Ordering.{nat_cmp, is_lt, on, then_cmp}, List.Sorted.IsPartitionPoint, declared.cmp.Ordering.Ordering}
+use Rattle.std.specs.{Ordering.{nat_cmp, is_lt, on, then_cmp}, Option.unwrap_or, List.Sorted.IsPartitionPoint, declared.cmp.Ordering.Ordering}
 use Rattle.domain_names.specs.{Name.same_name, Order.canonical_cmp, Words.Name}
 use Rattle.domain_record.specs.declared.record.Record.{Record}
 
@@ -19,35 +19,26 @@ matches labels rtype owner class type r =
 abbrev pub HasAt : {X : Type 0} → (X → Bool) → List X → ℕ → Type 0
 HasAt {X} p xs i = (i < length xs) × ((d : X) → p (slice_index_or xs i d) ≡ true)
 
+-- the place of the first element of which P holds with `true`, if there is one; of those before it
+-- P holds with `false`
+abbrev pub IsFirst : {X : Type 0} → (X → Bool → Type 0) → List X → Option ℕ → Type 0
+IsFirst {X} P xs None = (k : ℕ) (d : X) → k < length xs → P (slice_index_or xs k d) false
+IsFirst {X} P xs (Some i) =
+    (i < length xs) × ((d : X) → P (slice_index_or xs i d) true)
+    × ((k : ℕ) (d : X) → k < i → P (slice_index_or xs k d) false)
+
 -- the place of the first element that passes the test, if there is one
 abbrev pub IsFirstPlace : {X : Type 0} → (X → Bool) → List X → Option ℕ → Type 0
-IsFirstPlace {X} p xs None = (k : ℕ) (d : X) → k < length xs → p (slice_index_or xs k d) ≡ false
-IsFirstPlace {X} p xs (Some i) =
-    (i < length xs) × ((d : X) → p (slice_index_or xs i d) ≡ true)
-    × ((k : ℕ) (d : X) → k < i → p (slice_index_or xs k d) ≡ false)
+IsFirstPlace p = IsFirst (λ x b. p x ≡ b)
 
--- what a look-up compares: class, owner, and the type where one is asked
+-- what a look-up compares
 pub record Key : Type 0 where
   pub class : ℕ
   pub owner : Name
   pub type : ℕ
 
--- the number where one is asked
-abbrev pub where_asked : Option ℕ → ℕ → ℕ
-where_asked None n = 0
-where_asked (Some m) n = n
-
-abbrev pub number_asked : Option ℕ → ℕ
-number_asked None = 0
-number_asked (Some m) = m
-
-abbrev pub key_of : {N D : Type 0} → (N → Name) → (D → ℕ) → Option ℕ → Record N D → Key
-key_of labels rtype type r =
-    record { class = r.class; owner = labels r.owner; type = where_asked type (rtype r.«data») }
-
--- the key of the records of this class that match
-abbrev pub wanted_key : ℕ → Name → Option ℕ → Key
-wanted_key class owner type = record { class = class; owner = owner; type = number_asked type }
+abbrev pub key_of : {N D : Type 0} → (N → Name) → (D → ℕ) → Record N D → Key
+key_of labels rtype r = record { class = r.class; owner = labels r.owner; type = rtype r.«data» }
 
 -- by class, then owner, then type
 abbrev pub key_cmp : Key → Key → Ordering
@@ -59,7 +50,8 @@ key_cmp =
 abbrev pub is_before : {N D : Type 0} → (N → Name) → (D → ℕ) → ℕ → Name → Option ℕ
     → Record N D → Bool
 is_before labels rtype class owner type r =
-    is_lt (key_cmp (key_of labels rtype type r) (wanted_key class owner type))
+    is_lt (key_cmp (key_of labels rtype r)
+    (record { class = class; owner = owner; type = unwrap_or type 0 }))
 
 -- the elements before n pass the test, and those from n on don't
 abbrev pub IsParted : {X : Type 0} → (X → Bool) → List X → ℕ → Type 0

@@ -1,5 +1,6 @@
 -- Records of one owner and one type (RFC 2181, section 5).
 use Rattle.std.specs.Prelude.{◌≡◌, ◌≢◌, ℕ, ◌<◌, Bool, false, List, [], ◌∷◌, ◌++◌, length, Option, Result, Some, None, Ok, MatchOption, MatchResult, drop}
+use Rattle.std.specs.List.{slice_get}
 use Rattle.domain_base.specs.Types.{rrsig}
 use Rattle.domain_record.specs.declared.record.Record.{Record}
 use Rattle.domain_records.specs.declared.error.SigningError.{SigningError}
@@ -43,15 +44,10 @@ abbrev pub begins_with : {X : Type 0} → (X → Bool) → List X → Bool
 begins_with p [] = false
 begins_with p (x ∷ xs) = p x
 
--- the first of the groups, if there is one
-abbrev pub first_group : {X : Type 0} → List (List X) → Option (List X)
-first_group [] = None
-first_group (g ∷ gs) = Some g
-
 -- the group that begins at that place
 abbrev pub group_at : {X : Type 0} → (X → X → Bool) → List X → Option ℕ → Option (List X)
 group_at same xs None = None
-group_at same xs (Some i) = first_group (runs same (drop i xs))
+group_at same xs (Some i) = slice_get (runs same (drop i xs)) 0
 
 -- the group that was found, if there is one, as an RRset, or its refusal
 abbrev pub IsFound : {N D : Type 0} → (D → ℕ) → Option (List (Record N D))

@@ -1,6 +1,6 @@
 -- Records as text.
-use Rattle.std.specs.{Prelude.{◌≡◌, ℕ, Bool, not, ◌==◌, List, [], ◌∷◌, ◌++◌, filter, Option, Some, Result, Ok}, Fmt.{WritesText, ◌++?◌}, Fn.Shared}
-use Rattle.std.specs.declared.fmt.Error.{Error}
+use Rattle.std.specs.Prelude.{◌≡◌, ℕ, Bool, not, ◌==◌, List, [], ◌∷◌, ◌++◌, filter, Option, Some, Result, Ok}
+use Rattle.std.specs.{Fmt.{WritesText, ◌++?◌}, Fn.Shared, List.FoldsTo, declared.fmt.Error.Error}
 use Rattle.domain_octets.specs.{Words.Octets, Characters.line_feed}
 use Rattle.domain_base.specs.Types.{soa}
 use Rattle.domain_record.specs.declared.record.Record.{Record}
@@ -43,6 +43,4 @@ WritesLine {F} {X} {W} took output g f w x v =
 abbrev pub WritesWithComments : {F X W : Type 0} → (W → Octets → W → Type 0) → (X → Option Octets)
     → Shared F (Bor X × (MutBor W × Unit {0})) (Result (Unit {0}) Error × (MutBor W × Unit {0})) → F
     → W → List X → W → Type 0
-WritesWithComments took output g f w [] v = w ≡ v
-WritesWithComments {F} {X} {W} took output g f w (x ∷ xs) v =
-    (u : W) × WritesLine took output g f w x u × WritesWithComments took output g f u xs v
+WritesWithComments took output g f = FoldsTo (WritesLine took output g f)

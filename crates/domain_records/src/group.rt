@@ -1,8 +1,9 @@
 //! Groups of neighbours.
 ghost use Rattle.std.specs.Prelude.{◌≡◌, ◌<◌, ◌↔◌, length, Bool, IsTrue, slice_index_or};
-ghost use Rattle.domain_records.specs.Slices.{items_of};
+ghost use Rattle.std.specs.Option.{ForSome, option_map};
 ghost use Rattle.domain_records.specs.Groups.{same_owner, same_type, same_rrset, same_class, same_ttl, may_follow};
-ghost use Rattle.domain_records.specs.Runs.{IsFirstRun, HoldsOfNeighbours};
+ghost use Rattle.domain_records.specs.Runs.{IsRun, IsFirstRun, TakesRun, HoldsOfNeighbours};
+ghost use Rattle.domain_records.specs.Slices.{items_of};
 
 use crate::slice::SliceRefsOrOwned;
 use domain_base::ToName;
@@ -96,7 +97,7 @@ fn is_same<T, G: Grouping<T>>(records: &SliceRefsOrOwned<'_, T>, i: usize, j: us
 }
 
 /// The length of the first group.
-pub(crate) fn first_run<T, G: Grouping<T>>(records: &SliceRefsOrOwned<'_, T>) -> usize
+fn first_run<T, G: Grouping<T>>(records: &SliceRefsOrOwned<'_, T>) -> usize
     requires { 0 < length (items_of records.now) }
     ensures { IsFirstRun G.same (items_of records.now) result }
 {
@@ -106,6 +107,24 @@ pub(crate) fn first_run<T, G: Grouping<T>>(records: &SliceRefsOrOwned<'_, T>) ->
         n += 1;
     }
     n
+}
+
+/// Takes the first group from the front.
+#[tactic(auto, using(std::proofs::lemmas::Grind::common_steps, crate::proofs::Runs::runs_first))]
+pub(crate) fn take_group<'a, T, G: Grouping<T>>(
+    left: &mut SliceRefsOrOwned<'a, T>,
+) -> Option<SliceRefsOrOwned<'a, T>>
+    ensures taken { TakesRun G.same (items_of left.old) (option_map items_of result)
+        (items_of left.new) }
+    ensures run { ForSome result (λ group. IsRun G.same (items_of group)) }
+{
+    if left.len() == 0 {
+        return None;
+    }
+    let n = first_run::<T, G>(left);
+    let group = left.front(n);
+    *left = left.back(n);
+    Some(group)
 }
 
 /// Whether the elements are one group, or none.

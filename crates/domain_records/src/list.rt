@@ -1,7 +1,8 @@
 //! Lists as sorted sets.
-ghost use Rattle.std.specs.{Prelude.{◌≡◌, ◌++◌, List, IfOk, IfErr, OnOk, OnErr}, List.AllZip};
-ghost use Rattle.std.specs.{List.Sorted.IsStrictlySortedBy, Iterator.IsFiniteIterable};
-ghost use Rattle.domain_records.specs.{Edits.{Gives, IsFirstMatch}, SortedSet.{IsAt, IsGapFor}};
+ghost use Rattle.std.specs.Prelude.{◌≡◌, ◌<◌, ◌++◌, List, IfOk, IfErr, OnOk, OnErr};
+ghost use Rattle.std.specs.Prelude.{vec_len, vec_capacity};
+ghost use Rattle.std.specs.{List.{AllZip, Sorted.IsStrictlySortedBy}, Iterator.IsFiniteIterable};
+ghost use Rattle.domain_records.specs.{Edits.{Gives, AddsIfAbsent}, SortedSet.{IsAt, IsGapFor}};
 
 use domain_base::CanonicalOrd;
 use domain_octets::{OutOfMemory, TryClone};
@@ -14,6 +15,18 @@ pub(crate) fn search<T: CanonicalOrd>(items: &[T], item: &T) -> Result<usize, us
     ensures absent { IfErr result (IsGapFor T.canonical_cmp items.now item.now) }
 {
     items.binary_search_by(|stored| stored.canonical_cmp(item))
+}
+
+/// Puts an item in its place, unless an equal one stands. It takes no memory.
+pub(crate) fn insert_if_absent<T: CanonicalOrd + Drop>(items: &mut Vec<T>, item: T)
+    requires sorted { IsStrictlySortedBy T.canonical_cmp items.old.items }
+    requires room { vec_len items.old < vec_capacity items.old }
+    ensures added { AddsIfAbsent T.canonical_cmp items.old.items item items.new.items }
+    ensures sorted { IsStrictlySortedBy T.canonical_cmp items.new.items }
+{
+    if let Err(place) = search(items, &item) {
+        let _ = items.insert(place, item);
+    }
 }
 
 /// Puts items at the end. A refusal leaves the list as it was.
@@ -36,21 +49,8 @@ pub(crate) fn append<T: Drop, U: IntoIterator<Item = T>>(
     Ok(())
 }
 
-/// The place of the first element of which the test answers true.
-pub(crate) fn first_match<T, F: Fn(&T) -> bool>(items: &[T], test: &F) -> Option<usize>
-    requires { F.IsAlwaysCallable test.now }
-    ensures { IsFirstMatch F.Fn test.now items.now result }
-{
-    for (i, item) in items.iter().enumerate() {
-        if test(item) {
-            return Some(i);
-        }
-    }
-    None
-}
-
 /// Copies of the items, in the same order.
-#[tactic(auto, using(std::proofs::lemmas::Grind::common_steps, crate::proofs::Clones::zip_push))]
+#[tactic(auto, using(std::proofs::lemmas::List::Elements::all_zip_more))]
 pub(crate) fn clone_all<T: TryClone + Drop>(
     items: &[T],
     alloc: Global,

@@ -3,73 +3,59 @@ ghost use Rattle.std.specs.{Prelude.{◌≡◌, ◌≤◌, ◌↔◌, ◌==◌, 
 ghost use Rattle.std.specs.List.Sorted.{IsStrictlySortedBy};
 ghost use Rattle.domain_record.specs.Record.{record_cmp};
 ghost use Rattle.domain_records.specs.Lookup.{matches, HasAt, IsFirstPlace, IsParted, is_before};
-ghost use Rattle.domain_records.specs.{Lookup.{key_of, wanted_key, key_cmp}, Groups.same_rrset};
-ghost use Rattle.domain_records.specs.Rrsets.{IsFound, group_at};
+ghost use Rattle.domain_records.specs.{Groups.same_rrset, Rrsets.{IsFound, group_at}};
 
 use crate::error::SigningError;
 use crate::rrset::{Rrset, RrsetIter};
 use crate::slice::SliceRefsOrOwned;
 use domain_base::{CanonicalOrd, Class, Rtype, ToName};
 use domain_record::{Record, RecordData};
-use std::cmp::Ordering;
 
-/// What a look-up asks of a record: its owner, and where given its class and its type.
-#[derive(Drop)]
-pub(crate) struct Wanted<'a, N> {
-    pub(crate) owner: &'a N,
-    pub(crate) class: Option<Class>,
-    pub(crate) rtype: Option<Rtype>,
-}
-
-/// Whether the record is what is wanted.
+/// Whether the record has this owner, and the class and the type that are asked.
 pub(crate) fn is_wanted<N: ToName, D: RecordData>(
     stored: &Record<N, D>,
-    wanted: &Wanted<'_, N>,
+    owner: &N,
+    class: &Option<Class>,
+    rtype: &Option<Rtype>,
 ) -> bool
-    ensures { result ≡ matches N.labels D.rtype (N.labels wanted.now.owner.now) wanted.now.class
-        wanted.now.rtype stored.now }
+    ensures { result ≡ matches N.labels D.rtype (N.labels owner.now) class.now rtype.now stored.now }
 {
-    let class_asked = match &wanted.class {
-        Some(class) => stored.class() == *class,
-        None => true,
-    };
-    let rtype_asked = match &wanted.rtype {
-        Some(rtype) => stored.rtype() == *rtype,
-        None => true,
-    };
-    stored.owner().name_eq(wanted.owner) && class_asked && rtype_asked
+    stored.owner().name_eq(owner)
+        && stored.class() == (*class).unwrap_or(stored.class())
+        && stored.rtype() == (*rtype).unwrap_or(stored.rtype())
 }
 
-/// How the record stands to what is wanted, within a class.
-fn key_order<N: ToName, D: RecordData>(
+/// Whether the record stands before those of this class that are wanted.
+fn is_before<N: ToName, D: RecordData>(
     stored: &Record<N, D>,
     class: Class,
-    wanted: &Wanted<'_, N>,
-) -> Ordering
-    ensures { result ≡ key_cmp (key_of N.labels D.rtype wanted.now.rtype stored.now)
-        (wanted_key class (N.labels wanted.now.owner.now) wanted.now.rtype) }
+    owner: &N,
+    rtype: &Option<Rtype>,
+) -> bool
+    ensures { result ≡ is_before N.labels D.rtype class (N.labels owner.now) rtype.now stored.now }
 {
-    let by_type = match &wanted.rtype {
-        Some(rtype) => stored.rtype().cmp(rtype),
-        None => Ordering::Equal,
-    };
-    let by_owner = stored.owner().name_cmp(wanted.owner);
-    stored.class().cmp(&class).then(by_owner.then(by_type))
+    let by_type = stored.rtype().cmp(&(*rtype).unwrap_or(Rtype::from_int(0)));
+    let by_owner = stored.owner().name_cmp(owner);
+    stored
+        .class()
+        .cmp(&class)
+        .then(by_owner.then(by_type))
+        .is_lt()
 }
 
 /// The first place at which a record that is wanted would stand within a class.
 fn lower_bound<N: ToName, D: RecordData + CanonicalOrd>(
     records: &[Record<N, D>],
     class: Class,
-    wanted: &Wanted<'_, N>,
+    owner: &N,
+    rtype: &Option<Rtype>,
 ) -> usize
     requires { IsStrictlySortedBy (record_cmp N.labels D.rtype D.canonical_cmp) records.now }
     ensures bound { result ≤ length records.now }
-    ensures parted { IsParted
-        (is_before N.labels D.rtype class (N.labels wanted.now.owner.now) wanted.now.rtype)
+    ensures parted { IsParted (is_before N.labels D.rtype class (N.labels owner.now) rtype.now)
         records.now result }
 {
-    records.partition_point(|stored| key_order(stored, class, wanted).is_lt())
+    records.partition_point(|stored| is_before(stored, class, owner, rtype))
 }
 
 /// The place after the last record of a class, and of those before it.
@@ -88,34 +74,36 @@ fn class_end<N: ToName, D: RecordData + CanonicalOrd>(
 fn is_wanted_at<N: ToName, D: RecordData>(
     records: &[Record<N, D>],
     at: usize,
-    wanted: &Wanted<'_, N>,
+    owner: &N,
+    class: &Option<Class>,
+    rtype: &Option<Rtype>,
 ) -> bool
-    ensures { IsTrue result ↔ HasAt
-        (matches N.labels D.rtype (N.labels wanted.now.owner.now) wanted.now.class wanted.now.rtype)
-        records.now at }
+    ensures { IsTrue result
+        ↔ HasAt (matches N.labels D.rtype (N.labels owner.now) class.now rtype.now) records.now at }
 {
-    at < records.len() && is_wanted(&records[at], wanted)
+    at < records.len() && is_wanted(&records[at], owner, class, rtype)
 }
 
-/// The place of the first record that is wanted. Takes two binary searches for each class that
-/// stands before it.
+/// The place of the first record of this owner, of the class and the type that are asked. Takes two
+/// binary searches for each class that stands before it.
 pub(crate) fn first_place<N: ToName, D: RecordData + CanonicalOrd>(
     records: &[Record<N, D>],
-    wanted: &Wanted<'_, N>,
+    owner: &N,
+    class: &Option<Class>,
+    rtype: &Option<Rtype>,
 ) -> Option<usize>
     requires { IsStrictlySortedBy (record_cmp N.labels D.rtype D.canonical_cmp) records.now }
-    ensures { IsFirstPlace
-        (matches N.labels D.rtype (N.labels wanted.now.owner.now) wanted.now.class wanted.now.rtype)
-        records.now result }
+    ensures { IsFirstPlace (matches N.labels D.rtype (N.labels owner.now) class.now rtype.now) records.now
+        result }
 {
     let mut start = 0;
     while start < records.len() {
-        let class = records[start].class();
-        let at = lower_bound(records, class, wanted);
-        if is_wanted_at(records, at, wanted) {
+        let stored = records[start].class();
+        let at = lower_bound(records, stored, owner, rtype);
+        if is_wanted_at(records, at, owner, class, rtype) {
             return Some(at);
         }
-        start = class_end(records, class);
+        start = class_end(records, stored);
     }
     None
 }
@@ -127,12 +115,8 @@ pub(crate) fn first_of_type<N, D: RecordData>(
 ) -> Option<usize>
     ensures { IsFirstPlace (λ r. D.rtype r.«data» == rtype) records.now result }
 {
-    for (i, stored) in records.iter().enumerate() {
-        if stored.rtype() == rtype {
-            return Some(i);
-        }
-    }
-    None
+    let is_wanted = |stored: &Record<N, D>| stored.rtype() == rtype;
+    SliceRefsOrOwned::new_from_owned(records).first_match(&is_wanted)
 }
 
 /// The records of one owner and one type that begin at a place.

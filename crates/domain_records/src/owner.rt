@@ -2,11 +2,10 @@
 ghost use Rattle.std.specs.Prelude.{◌≡◌, ◌≤◌, ◌<◌, ◌↔◌, [], length, map, drop, Any, IsTrue};
 ghost use Rattle.std.specs.Iterator.{item_count};
 ghost use Rattle.domain_names.specs.Name.{IsAtOrBelow};
-ghost use Rattle.domain_records.specs.Slices.{items_of};
+ghost use Rattle.domain_records.specs.{Slices.items_of, Order.{IsOneClass, IsInOrder}, Runs.TakesRun};
 ghost use Rattle.domain_records.specs.Groups.{same_owner, HasFirst, SkipsTo, IsZoneCut};
-ghost use Rattle.domain_records.specs.{Order.{IsOneClass, IsInOrder}, Runs.TakesRun};
 
-use crate::group::{ByClass, ByOwner, InOrder, first_run, is_one_run};
+use crate::group::{ByClass, ByOwner, InOrder, is_one_run, take_group};
 use crate::rrset::OwnerRrsIter;
 use crate::slice::{SliceRefsOrOwned, SliceRefsOrOwnedIterator};
 use domain_base::{Class, Rtype, ToName};
@@ -23,9 +22,7 @@ pub struct OwnerRrs<'a, N: ToName, D> {
 impl<'a, N: ToName, D> Model for OwnerRrs<'a, N, D> {
     ghost use Rattle.std.specs.Prelude.{List};
     ghost use Rattle.domain_record.specs.declared.record.Record.{Record};
-    ghost use Rattle.domain_records.specs.Slices.{items_of};
-    ghost use Rattle.domain_records.specs.Groups.{same_owner};
-    ghost use Rattle.domain_records.specs.Runs.{IsRun};
+    ghost use Rattle.domain_records.specs.{Slices.items_of, Groups.same_owner, Runs.IsRun};
 
     ghost Value = { List (Record N D) };
 
@@ -98,26 +95,8 @@ impl<'a, N: ToName, D> OwnerRrs<'a, N, D> {
 fn has_type<N, D: RecordData>(records: &SliceRefsOrOwned<'_, Record<N, D>>, wanted: Rtype) -> bool
     ensures { IsTrue result ↔ Any (λ r. D.rtype r.«data» ≡ wanted) (items_of records.now) }
 {
-    for i in 0..records.len() {
-        if records.at(i).rtype() == wanted {
-            return true;
-        }
-    }
-    false
-}
-
-/// How many records stand before the first whose owner is at or below the apex.
-fn count_outside<N: ToName, D>(records: &SliceRefsOrOwned<'_, Record<N, D>>, apex: &N) -> usize
-    ensures { SkipsTo (λ r. IsAtOrBelow (N.labels r.owner) (N.labels apex.now))
-        (items_of records.now)
-        (drop result (items_of records.now)) × (result ≤ length (items_of records.now)) }
-{
-    let total = records.len();
-    let mut n = 0;
-    while n < total && !records.at(n).owner().ends_with(apex) {
-        n += 1;
-    }
-    n
+    let is_wanted = |record: &Record<N, D>| record.rtype() == wanted;
+    records.first_match(&is_wanted).is_some()
 }
 
 /// An iterator over the groups of records of one owner, in the order in which they stand. The
@@ -188,11 +167,13 @@ impl<'a, N: ToName, D> RecordsIter<'a, N, D> {
         ensures { SkipsTo (λ r. IsAtOrBelow (N.labels r.owner) (N.labels apex.now))
             self.old self.new }
     {
-        let n = count_outside(&self.left, apex);
+        let is_within = |record: &Record<N, D>| record.owner().ends_with(apex);
+        let n = self.left.first_match(&is_within).unwrap_or(self.left.len());
         self.left = self.left.back(n);
     }
 
     /// Whether the records left have one class. It holds where none is left.
+    #[tactic(auto, using(crate::proofs::OrderLemmas::one_class))]
     pub fn is_one_class(&self) -> bool
         ensures { IsTrue result ↔ IsOneClass self.now }
     {
@@ -204,6 +185,7 @@ impl<'a, N: ToName, D: RecordData> RecordsIter<'a, N, D> {
     /// Whether the owners of the records left never descend in the canonical order of names
     /// (RFC 4034, section 6.1), and their types never descend within an owner. It holds where no
     /// record is left.
+    #[tactic(auto, using(crate::proofs::OrderLemmas::in_order))]
     pub fn is_in_order(&self) -> bool
         ensures { IsTrue result ↔ IsInOrder N.labels D.rtype self.now }
     {
@@ -219,12 +201,7 @@ impl<'a, N: ToName, D> Iterator for RecordsIter<'a, N, D> {
     ghost remaining = { item_count (λ s. s) };
 
     fn next(&mut self) -> Option<OwnerRrs<'a, N, D>> {
-        if self.left.len() == 0 {
-            return None;
-        }
-        let n = first_run::<Record<N, D>, ByOwner>(&self.left);
-        let records = self.left.front(n);
-        self.left = self.left.back(n);
+        let records = take_group::<Record<N, D>, ByOwner>(&mut self.left)?;
         Some(OwnerRrs { records })
     }
 }

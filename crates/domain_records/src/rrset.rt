@@ -1,15 +1,15 @@
 //! Records of one owner and one type.
 ghost use Rattle.std.specs.Prelude.{◌≡◌, ◌<◌, IsTrue, IfOk, IfErr, ◌↔◌, length, map};
 ghost use Rattle.std.specs.Iterator.{item_count};
-ghost use Rattle.domain_records.specs.{Slices.items_of, Groups.{HasFirst, same_rrset, same_type}};
+ghost use Rattle.domain_records.specs.{Slices.items_of, Groups.HasFirst};
 ghost use Rattle.domain_records.specs.Rrsets.{HasOneTtl, IsRrset, IsNoRrset, TakesRrset};
 
 use crate::error::SigningError;
-use crate::group::{ByRrset, ByTtl, ByType, Grouping, first_run, is_one_run};
+use crate::group::{ByRrset, ByTtl, ByType, Grouping, is_one_run, take_group};
 use crate::slice::{SliceRefsOrOwned, SliceRefsOrOwnedIterator};
 use domain_base::{Class, Rtype, ToName, Ttl};
 use domain_record::{Record, RecordData};
-use std::marker::Model;
+use std::marker::{Model, PhantomData};
 
 /// Records that are taken for an RRset: at least one, and all with one TTL unless the first is an
 /// RRSIG (RFC 2181, section 5.2). It borrows them. Contracts see the list of the records.
@@ -23,8 +23,7 @@ pub struct Rrset<'a, N, D: RecordData> {
 impl<'a, N, D: RecordData> Model for Rrset<'a, N, D> {
     ghost use Rattle.std.specs.Prelude.{List};
     ghost use Rattle.domain_record.specs.declared.record.Record.{Record};
-    ghost use Rattle.domain_records.specs.Slices.{items_of};
-    ghost use Rattle.domain_records.specs.Rrsets.{IsRrset};
+    ghost use Rattle.domain_records.specs.{Slices.items_of, Rrsets.IsRrset};
 
     ghost Value = { List (Record N D) };
 
@@ -34,6 +33,7 @@ impl<'a, N, D: RecordData> Model for Rrset<'a, N, D> {
 }
 
 /// Whether the records have one TTL, or the first is an RRSIG.
+#[tactic(auto, using(crate::proofs::OrderLemmas::one_ttl))]
 fn has_one_ttl<N, D: RecordData>(records: &SliceRefsOrOwned<'_, Record<N, D>>) -> bool
     requires { 0 < length (items_of records.now) }
     ensures { IsTrue result ↔ HasOneTtl D.rtype (items_of records.now) }
@@ -148,30 +148,23 @@ impl<'a, N, D: RecordData> Rrset<'a, N, D> {
     }
 }
 
-/// Takes the first group from the front, as an RRset or its refusal.
-fn take_rrset<'a, N, D: RecordData, G: Grouping<Record<N, D>>>(
-    left: &mut SliceRefsOrOwned<'a, Record<N, D>>,
-) -> Option<Result<Rrset<'a, N, D>, SigningError>>
-    ensures { TakesRrset G.same D.rtype (items_of left.old) result (items_of left.new) }
-{
-    if left.len() == 0 {
-        return None;
-    }
-    let n = first_run::<Record<N, D>, G>(left);
-    let group = left.front(n);
-    *left = left.back(n);
-    Some(Rrset::new(group))
-}
-
-/// An iterator over the groups of records of one owner and one type, in the order in which they
-/// stand. The class is not looked at. A group whose TTLs differ is answered by `MultipleTtlValues`,
-/// and the iterator goes on after it. Contracts see the list of the records that are left.
+/// An iterator over groups of records as RRsets, in the order in which they stand; `G` tells which
+/// records belong together. A group whose TTLs differ is answered by `MultipleTtlValues`, and the
+/// iterator goes on after it. Contracts see the list of the records that are left.
 #[derive(Drop)]
-pub struct RrsetIter<'a, N: ToName, D: RecordData> {
+pub struct RrsetGroups<'a, N, D: RecordData, G: Grouping<Record<N, D>>> {
     left: SliceRefsOrOwned<'a, Record<N, D>>,
+    grouping: PhantomData<G>,
 }
 
-impl<'a, N: ToName, D: RecordData> Model for RrsetIter<'a, N, D> {
+/// An iterator over the groups of records of one owner and one type. The class is not looked at.
+pub type RrsetIter<'a, N, D> = RrsetGroups<'a, N, D, ByRrset>;
+
+/// An iterator over the groups of records of one type within the records of one owner. The class is
+/// not looked at.
+pub type OwnerRrsIter<'a, N, D> = RrsetGroups<'a, N, D, ByType>;
+
+impl<'a, N, D: RecordData, G: Grouping<Record<N, D>>> Model for RrsetGroups<'a, N, D, G> {
     ghost use Rattle.std.specs.Prelude.{List};
     ghost use Rattle.domain_record.specs.declared.record.Record.{Record};
     ghost use Rattle.domain_records.specs.Slices.{items_of};
@@ -181,77 +174,41 @@ impl<'a, N: ToName, D: RecordData> Model for RrsetIter<'a, N, D> {
     ghost view = { λ s. items_of s.left };
 }
 
-impl<'a, N: ToName, D: RecordData> RrsetIter<'a, N, D> {
+impl<'a, N, D: RecordData, G: Grouping<Record<N, D>>> RrsetGroups<'a, N, D, G> {
     /// Over the records of a slice.
     pub fn new(records: SliceRefsOrOwned<'a, Record<N, D>>) -> Self
         ensures { result ≡ items_of records.entry }
     {
-        RrsetIter { left: records }
+        RrsetGroups {
+            left: records,
+            grouping: PhantomData,
+        }
     }
 
     /// Over the records that the references point to, in their order.
     pub fn new_from_refs(records: &'a [&'a Record<N, D>]) -> Self
         ensures { result ≡ map (λ p. p.now) records.now }
     {
-        RrsetIter::new(SliceRefsOrOwned::new_from_refs(records))
+        RrsetGroups::new(SliceRefsOrOwned::new_from_refs(records))
     }
 
     /// Over records that lie together.
     pub fn new_from_owned(records: &'a [Record<N, D>]) -> Self
         ensures { result ≡ records.now }
     {
-        RrsetIter::new(SliceRefsOrOwned::new_from_owned(records))
+        RrsetGroups::new(SliceRefsOrOwned::new_from_owned(records))
     }
 }
 
-impl<'a, N: ToName, D: RecordData> Iterator for RrsetIter<'a, N, D> {
+impl<'a, N, D: RecordData, G: Grouping<Record<N, D>>> Iterator for RrsetGroups<'a, N, D, G> {
     type Item = Result<Rrset<'a, N, D>, SigningError>;
 
-    ghost next_gives = { TakesRrset (same_rrset N.labels D.rtype) D.rtype };
+    ghost next_gives = { TakesRrset G.same D.rtype };
 
     ghost remaining = { item_count (λ s. s) };
 
     fn next(&mut self) -> Option<Result<Rrset<'a, N, D>, SigningError>> {
-        take_rrset::<N, D, ByRrset>(&mut self.left)
-    }
-}
-
-/// An iterator over the groups of records of one type within the records of one owner, in the order
-/// in which they stand. The class is not looked at. A group whose TTLs differ is answered by
-/// `MultipleTtlValues`, and the iterator goes on after it. Contracts see the list of the records
-/// that are left.
-#[derive(Drop)]
-pub struct OwnerRrsIter<'a, N, D: RecordData> {
-    left: SliceRefsOrOwned<'a, Record<N, D>>,
-}
-
-impl<'a, N, D: RecordData> Model for OwnerRrsIter<'a, N, D> {
-    ghost use Rattle.std.specs.Prelude.{List};
-    ghost use Rattle.domain_record.specs.declared.record.Record.{Record};
-    ghost use Rattle.domain_records.specs.Slices.{items_of};
-
-    ghost Value = { List (Record N D) };
-
-    ghost view = { λ s. items_of s.left };
-}
-
-impl<'a, N, D: RecordData> OwnerRrsIter<'a, N, D> {
-    /// Over the records of one owner.
-    pub(crate) fn new(records: SliceRefsOrOwned<'a, Record<N, D>>) -> Self
-        ensures { result ≡ items_of records.entry }
-    {
-        OwnerRrsIter { left: records }
-    }
-}
-
-impl<'a, N, D: RecordData> Iterator for OwnerRrsIter<'a, N, D> {
-    type Item = Result<Rrset<'a, N, D>, SigningError>;
-
-    ghost next_gives = { TakesRrset (same_type D.rtype) D.rtype };
-
-    ghost remaining = { item_count (λ s. s) };
-
-    fn next(&mut self) -> Option<Result<Rrset<'a, N, D>, SigningError>> {
-        take_rrset::<N, D, ByType>(&mut self.left)
+        let group = take_group::<Record<N, D>, G>(&mut self.left)?;
+        Some(Rrset::new(group))
     }
 }

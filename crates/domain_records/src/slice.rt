@@ -1,7 +1,7 @@
 //! Slices of values, and of references to values.
 ghost use Rattle.std.specs.Prelude.{◌≡◌, ◌≤◌, ◌<◌, length, take, drop, slice_get, map};
 ghost use Rattle.std.specs.Iterator.{YieldsFirstRef, item_count};
-ghost use Rattle.domain_records.specs.Slices.{items_of};
+ghost use Rattle.domain_records.specs.{Edits.IsFirstMatch, Slices.items_of};
 
 use std::fmt;
 use std::marker::Model;
@@ -26,20 +26,6 @@ fn ref_at<'a, T>(refs: &'a [&'a T], i: usize) -> &'a T
     ensures { slice_get (map (λ p. p.now) refs.now) i ≡ Some result.now }
 {
     refs[i]
-}
-
-fn refs_front<'a, T>(refs: &'a [&'a T], n: usize) -> RefSlice<'a, T>
-    requires { n ≤ length refs.now }
-    ensures { map (λ p. p.now) result.refs.now ≡ take n (map (λ p. p.now) refs.now) }
-{
-    RefSlice { refs: &refs[..n] }
-}
-
-fn refs_back<'a, T>(refs: &'a [&'a T], n: usize) -> RefSlice<'a, T>
-    requires { n ≤ length refs.now }
-    ensures { map (λ p. p.now) result.refs.now ≡ drop n (map (λ p. p.now) refs.now) }
-{
-    RefSlice { refs: &refs[n..] }
 }
 
 fn item_at<T>(items: &[T], i: usize) -> &T
@@ -91,7 +77,7 @@ impl<'a, T> SliceRefsOrOwned<'a, T> {
         ensures { items_of result ≡ take n (items_of self.now) }
     {
         match self {
-            SliceRefsOrOwned::Refs(s) => SliceRefsOrOwned::Refs(refs_front(s.refs, n)),
+            SliceRefsOrOwned::Refs(s) => SliceRefsOrOwned::Refs(RefSlice { refs: &s.refs[..n] }),
             SliceRefsOrOwned::Owned(s) => SliceRefsOrOwned::Owned(&s[..n]),
         }
     }
@@ -102,9 +88,22 @@ impl<'a, T> SliceRefsOrOwned<'a, T> {
         ensures { items_of result ≡ drop n (items_of self.now) }
     {
         match self {
-            SliceRefsOrOwned::Refs(s) => SliceRefsOrOwned::Refs(refs_back(s.refs, n)),
+            SliceRefsOrOwned::Refs(s) => SliceRefsOrOwned::Refs(RefSlice { refs: &s.refs[n..] }),
             SliceRefsOrOwned::Owned(s) => SliceRefsOrOwned::Owned(&s[n..]),
         }
+    }
+
+    /// The place of the first value of which the test answers true.
+    pub(crate) fn first_match<F: Fn(&T) -> bool>(&self, test: &F) -> Option<usize>
+        requires { F.IsAlwaysCallable test.now }
+        ensures { IsFirstMatch F.Fn test.now (items_of self.now) result }
+    {
+        for i in 0..self.len() {
+            if test(self.at(i)) {
+                return Some(i);
+            }
+        }
+        None
     }
 
     /// The values in order. What the iterator hands out outlives it.

@@ -52,12 +52,13 @@ fn sort_whole<T: CanonicalOrd, S: Sorter>(items: &mut Vec<T>) -> Result<(), OutO
         (IsSortOf S.is_stable T.canonical_cmp items.old.items items.new.items) }
     ensures err { OnErr result (items.new.items ≡ items.old.items) }
 {
-    S::sort_by(items, |a, b| a.canonical_cmp(b))
+    Ok(S::sort_by(items, |a, b| a.canonical_cmp(b))?)
 }
 
 /// Puts the records into canonical order. Each is moved once, to the place that keys of owners make
 /// likely, where these places are right; else the sorter is given the records. A refusal leaves the
 /// list as it was.
+#[tactic(auto, using(std::proofs::lemmas::Grind::common_steps))]
 fn sort<N: ToName, D: RecordData + CanonicalOrd, S: Sorter>(
     records: &mut Vec<Record<N, D>>,
 ) -> Result<(), OutOfMemory>

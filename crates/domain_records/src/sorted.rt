@@ -3,23 +3,22 @@ ghost use Rattle.std.specs.Prelude.{◌≡◌, ◌↔◌, ◌==◌, ◌++◌, �
 ghost use Rattle.std.specs.Prelude.{Option, IsTrue, IfOk, IfErr, OnOk, OnErr, IsErrOf};
 ghost use Rattle.std.specs.{List.{AllZip, list_any}, Fmt.WritesText, Slice.Iter.iter_rest};
 ghost use Rattle.std.specs.{Iterator.IsFiniteIterable, List.Sorted.IsStrictlySortedBy};
-ghost use Rattle.domain_records.specs.Text.{texts, soa_first, WritesWithComments};
 ghost use Rattle.domain_records.specs.Edits.{Gives, refused, without_first, IsFirstMatch, Updates};
-ghost use Rattle.domain_records.specs.{Lookup.matches, Groups.same_rrset};
-ghost use Rattle.domain_records.specs.{Rrsets.{IsFound, begins_with}, Runs.runs};
-ghost use Rattle.domain_records.specs.Order.{IsOneClass, IsInOrder};
-ghost use Rattle.domain_records.specs.SortedSet.{IsUnion, Adds, Holds};
+ghost use Rattle.domain_records.specs.{Text.{texts, soa_first, WritesWithComments}, Lookup.matches};
+ghost use Rattle.domain_records.specs.{Rrsets.{IsFound, begins_with}, Groups.same_rrset, Runs.runs};
+ghost use Rattle.domain_records.specs.{Order.{IsOneClass, IsInOrder}, SortedSet.{IsUnion, Adds, Holds}};
 ghost use Rattle.domain_base.specs.Types.{soa};
 ghost use Rattle.domain_record.specs.{Record.record_cmp, RecordClone.IsRecordClone};
 
 use crate::error::{InsertError, SigningError, SortError};
-use crate::list::{append, clone_all, first_match, search};
-use crate::lookup::{Wanted, first_of_type, first_place, is_wanted, rrset_at};
+use crate::list::{append, clone_all, insert_if_absent, search};
+use crate::lookup::{first_of_type, first_place, is_wanted, rrset_at};
 use crate::owner::RecordsIter;
 use crate::rrset::{Rrset, RrsetIter};
+use crate::slice::SliceRefsOrOwned;
 use crate::sort::sort_and_dedup;
 use crate::sorter::{DefaultSorter, Sorter};
-use crate::write::{SoaRecords, write_part, write_part_with_comments};
+use crate::write::{Commented, Plain, write_soa_first};
 use domain_base::{CanonicalOrd, Class, Rtype, ToName};
 use domain_octets::OutOfMemory;
 use domain_record::{CloneRecordData, Record, RecordData};
@@ -36,10 +35,8 @@ pub struct SortedRecords<N: ToName, D: RecordData + CanonicalOrd, Sort: Sorter =
 }
 
 impl<N: ToName, D: RecordData + CanonicalOrd, Sort: Sorter> Model for SortedRecords<N, D, Sort> {
-    ghost use Rattle.std.specs.Prelude.{List};
-    ghost use Rattle.std.specs.List.Sorted.{IsStrictlySortedBy};
-    ghost use Rattle.domain_record.specs.declared.record.Record.{Record};
-    ghost use Rattle.domain_record.specs.Record.{record_cmp};
+    ghost use Rattle.std.specs.{Prelude.List, List.Sorted.IsStrictlySortedBy};
+    ghost use Rattle.domain_record.specs.{declared.record.Record.Record, Record.record_cmp};
 
     ghost Value = { List (Record N D) };
 
@@ -188,16 +185,14 @@ impl<N: ToName, D: RecordData + CanonicalOrd, Sort: Sorter> SortedRecords<N, D, 
         ensures found { result ≡ list_any (matches N.labels D.rtype (N.labels name.now) class rtype)
             self.old }
     {
-        let wanted = Wanted {
-            owner: name,
-            class,
-            rtype,
-        };
-        if first_place(&self.records, &wanted).is_none() {
-            return false;
+        match first_place(&self.records, name, &class, &rtype) {
+            Some(_) => {
+                self.records
+                    .retain(|stored| !is_wanted(stored, name, &class, &rtype));
+                true
+            }
+            None => false,
         }
-        self.records.retain(|stored| !is_wanted(stored, &wanted));
-        true
     }
 
     /// Takes out the first record of this owner, of the class and the type that are asked: `None`
@@ -216,12 +211,7 @@ impl<N: ToName, D: RecordData + CanonicalOrd, Sort: Sorter> SortedRecords<N, D, 
         ensures found { result ≡ list_any (matches N.labels D.rtype (N.labels name.now) class rtype)
             self.old }
     {
-        let wanted = Wanted {
-            owner: name,
-            class,
-            rtype,
-        };
-        match first_place(&self.records, &wanted) {
+        match first_place(&self.records, name, &class, &rtype) {
             Some(at) => {
                 let _ = self.records.remove(at);
                 true
@@ -242,12 +232,10 @@ impl<N: ToName, D: RecordData + CanonicalOrd, Sort: Sorter> SortedRecords<N, D, 
         ensures { (at : Option ℕ) × IsFirstMatch F.Fn matcher self.old at
             × Updates (record_cmp N.labels D.rtype D.canonical_cmp) at «data» self.old self.new }
     {
-        if let Some(at) = first_match(&self.records, &matcher) {
+        if let Some(at) = SliceRefsOrOwned::new_from_owned(&self.records).first_match(&matcher) {
             let mut changed = self.records.remove(at);
             *changed.data_mut() = data;
-            if let Err(place) = search(&self.records, &changed) {
-                let _ = self.records.insert(place, changed);
-            }
+            insert_if_absent(&mut self.records, changed);
         }
     }
 
@@ -308,13 +296,8 @@ impl<N: ToName, D: RecordData + CanonicalOrd, Sort: Sorter> SortedRecords<N, D, 
             (find (begins_with (matches N.labels D.rtype (N.labels apex.now) None (Some rtype)))
             (runs (same_rrset N.labels D.rtype) self.now)) result }
     {
-        let wanted = Wanted {
-            owner: apex,
-            class: None,
-            rtype: Some(rtype),
-        };
         let records = self.as_slice();
-        rrset_at(records, first_place(records, &wanted))
+        rrset_at(records, first_place(records, apex, &None, &Some(rtype)))
     }
 
     /// The number of records.
@@ -386,9 +369,7 @@ impl<N: ToName, D: RecordData + CanonicalOrd, Sort: Sorter> SortedRecords<N, D, 
             (texts ⟦<Record<N, D> as fmt::Display>⟧.output (soa_first D.rtype self.now))
             target.new) }
     {
-        let records = self.as_slice();
-        write_part::<Record<N, D>, SoaRecords, W>(records, true, target)?;
-        write_part::<Record<N, D>, SoaRecords, W>(records, false, target)
+        write_soa_first(self.as_slice(), target, &Plain)
     }
 
     /// Writes the SOA records and then the others, each in order, and after each what `comment`
@@ -410,10 +391,6 @@ impl<N: ToName, D: RecordData + CanonicalOrd, Sort: Sorter> SortedRecords<N, D, 
             ⟦<Record<N, D> as fmt::Display>⟧.output F.Fn
             comment target.old (soa_first D.rtype self.now) target.new) }
     {
-        let records = self.as_slice();
-        write_part_with_comments::<Record<N, D>, SoaRecords, W, F>(
-            records, true, target, &comment,
-        )?;
-        write_part_with_comments::<Record<N, D>, SoaRecords, W, F>(records, false, target, &comment)
+        write_soa_first(self.as_slice(), target, &Commented { comment })
     }
 }

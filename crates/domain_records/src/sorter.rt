@@ -43,7 +43,8 @@ impl Sorter for DefaultSorter {
         records: &mut Vec<T>,
         compare: F,
     ) -> Result<(), OutOfMemory> {
-        records.sort_by(compare).map_err(|_| OutOfMemory)
+        records.sort_by(compare)?;
+        Ok(())
     }
 }
 

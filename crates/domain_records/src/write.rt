@@ -1,108 +1,102 @@
-//! A list as text, the elements of one kind first.
-ghost use Rattle.std.specs.{Prelude.{◌≡◌, ◌∷◌, [], Bool, filter, OnOk}, Bool.beq, Fmt.WritesText};
-ghost use Rattle.domain_records.specs.Text.{texts, is_soa, WritesLine, WritesWithComments};
+//! Records as text, those of type SOA first.
+ghost use Rattle.std.specs.Prelude.{◌≡◌, ◌∷◌, [], filter, OnOk};
+ghost use Rattle.std.specs.{Bool.beq, Fmt.WritesText, List.FoldsTo};
+ghost use Rattle.domain_records.specs.Text.{is_soa, soa_first, WritesLine};
 
 use domain_base::Rtype;
 use domain_record::{Record, RecordData};
 use std::fmt;
 
-/// A kind of elements.
-pub trait Kind<T> {
-    /// The elements of the kind.
-    ghost is_of: { T → Bool };
+/// A way to write an element.
+pub trait Line<T, W> {
+    /// What a call asks.
+    ghost is_ready: { Self → Type 0 };
 
-    /// Whether an element is of the kind.
-    fn is_of(item: &T) -> bool
-        ensures { result ≡ is_of item.now };
+    /// What a call that doesn't fail makes of the writer.
+    ghost writes: { Self → W → T → W → Type 0 };
+
+    /// Writes an element.
+    fn put(&self, item: &T, target: &mut W) -> fmt::Result
+        requires { is_ready self.now }
+        ensures { OnOk result (writes self.now target.old item.now target.new) };
 }
 
-/// Records of type SOA.
-pub struct SoaRecords;
+/// The text of an element alone.
+pub struct Plain;
 
-impl<N, D: RecordData> Kind<Record<N, D>> for SoaRecords {
-    ghost is_of = { is_soa D.rtype };
+impl<T: fmt::Display, W: fmt::Write> Line<T, W> for Plain {
+    ghost is_ready = { λ _. Unit {0} };
 
-    fn is_of(item: &Record<N, D>) -> bool {
-        item.rtype() == Rtype::SOA
+    ghost writes = { λ _ w x v. WritesText W.write_str_gives w (T.output x) v };
+
+    fn put(&self, item: &T, target: &mut W) -> fmt::Result {
+        write!(target, "{item}")
     }
 }
 
-/// Writes an element, if it is of a kind, or if it is not.
-fn write_picked<T: fmt::Display, K: Kind<T>, W: fmt::Write>(
-    item: &T,
-    of_kind: bool,
+/// The text of an element, its comment and a line feed.
+#[derive(Drop)]
+pub struct Commented<F> {
+    pub(crate) comment: F,
+}
+
+impl<T: fmt::Display, W: fmt::Write, F: Fn(&T, &mut W) -> fmt::Result> Line<T, W> for Commented<F> {
+    ghost is_ready = { λ line. F.IsAlwaysCallable line.comment };
+
+    ghost writes = { λ line. WritesLine W.write_str_gives T.output F.Fn line.comment };
+
+    fn put(&self, item: &T, target: &mut W) -> fmt::Result {
+        let comment = &self.comment;
+        write!(target, "{item}")?;
+        comment(item, target)?;
+        target.write_char('\n')
+    }
+}
+
+/// Writes a record, if it is of type SOA, or if it is not.
+fn write_picked<N, D: RecordData, W, L: Line<Record<N, D>, W>>(
+    item: &Record<N, D>,
+    of_soa: bool,
     target: &mut W,
+    line: &L,
 ) -> fmt::Result
-    ensures { OnOk result (WritesText W.write_str_gives target.old
-        (texts T.output (filter (λ x. beq (K.is_of x) of_kind) (item.now ∷ []))) target.new) }
+    requires { L.is_ready line.now }
+    ensures { OnOk result (FoldsTo (L.writes line.now) target.old
+        (filter (λ r. beq (is_soa D.rtype r) of_soa) (item.now ∷ [])) target.new) }
 {
-    if K::is_of(item) != of_kind {
+    if (item.rtype() == Rtype::SOA) != of_soa {
         return Ok(());
     }
-    write!(target, "{item}")
+    line.put(item, target)
 }
 
-/// Writes the elements of a kind, or the others, in their order.
-pub(crate) fn write_part<T: fmt::Display, K: Kind<T>, W: fmt::Write>(
-    items: &[T],
-    of_kind: bool,
+/// Writes the records of type SOA, or the others, in their order.
+fn write_part<N, D: RecordData, W, L: Line<Record<N, D>, W>>(
+    records: &[Record<N, D>],
+    of_soa: bool,
     target: &mut W,
+    line: &L,
 ) -> fmt::Result
-    ensures { OnOk result (WritesText W.write_str_gives target.old
-        (texts T.output (filter (λ x. beq (K.is_of x) of_kind) items.now)) target.new) }
+    requires { L.is_ready line.now }
+    ensures { OnOk result (FoldsTo (L.writes line.now) target.old
+        (filter (λ r. beq (is_soa D.rtype r) of_soa) records.now) target.new) }
 {
-    for item in items {
-        write_picked::<T, K, W>(item, of_kind, target)?;
+    for item in records {
+        write_picked(item, of_soa, target, line)?;
     }
     Ok(())
 }
 
-/// Writes an element, its comment and a line feed.
-fn write_line<T: fmt::Display, W: fmt::Write, F: Fn(&T, &mut W) -> fmt::Result>(
-    item: &T,
+/// Writes the records of type SOA, and then the others, each in their order.
+pub(crate) fn write_soa_first<N, D: RecordData, W, L: Line<Record<N, D>, W>>(
+    records: &[Record<N, D>],
     target: &mut W,
-    comment: &F,
+    line: &L,
 ) -> fmt::Result
-    requires { F.IsAlwaysCallable comment.now }
+    requires { L.is_ready line.now }
     ensures { OnOk result
-        (WritesLine W.write_str_gives T.output F.Fn comment.now target.old item.now target.new) }
+        (FoldsTo (L.writes line.now) target.old (soa_first D.rtype records.now) target.new) }
 {
-    write!(target, "{item}")?;
-    comment(item, target)?;
-    target.write_char('\n')
-}
-
-/// Writes the line of an element, if it is of a kind, or if it is not.
-fn write_picked_line<T: fmt::Display, K: Kind<T>, W: fmt::Write, F: Fn(&T, &mut W) -> fmt::Result>(
-    item: &T,
-    of_kind: bool,
-    target: &mut W,
-    comment: &F,
-) -> fmt::Result
-    requires { F.IsAlwaysCallable comment.now }
-    ensures { OnOk result (WritesWithComments W.write_str_gives T.output F.Fn comment.now target.old
-        (filter (λ x. beq (K.is_of x) of_kind) (item.now ∷ [])) target.new) }
-{
-    if K::is_of(item) != of_kind {
-        return Ok(());
-    }
-    write_line(item, target, comment)
-}
-
-/// Writes the elements of a kind, or the others, in their order, each with its comment and a line
-/// feed.
-pub(crate) fn write_part_with_comments<
-    T: fmt::Display,
-    K: Kind<T>,
-    W: fmt::Write,
-    F: Fn(&T, &mut W) -> fmt::Result,
->(items: &[T], of_kind: bool, target: &mut W, comment: &F) -> fmt::Result
-    requires { F.IsAlwaysCallable comment.now }
-    ensures { OnOk result (WritesWithComments W.write_str_gives T.output F.Fn comment.now target.old
-        (filter (λ x. beq (K.is_of x) of_kind) items.now) target.new) }
-{
-    for item in items {
-        write_picked_line::<T, K, W, F>(item, of_kind, target, comment)?;
-    }
-    Ok(())
+    write_part(records, true, target, line)?;
+    write_part(records, false, target, line)
 }

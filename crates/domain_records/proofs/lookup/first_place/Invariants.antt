@@ -8,7 +8,7 @@ abbrev pub invariant-loop-start : goal.invariant-loop-start
 invariant-loop-start g l = record {
   within : l.start ≤ length l.records;
   none : (k : ℕ) (d : Record g.row.N.Denot g.row.D.Denot) → k < l.start
-      → matches g.N.ToName.labels g.D.RecordData.rtype (g.N.ToName.labels l.wanted.owner.now) l.wanted.class l.wanted.rtype (get_or l.records k d) ≡ false;
+      → matches g.N.ToName.labels g.D.RecordData.rtype (g.N.ToName.labels l.owner) l.class l.rtype (get_or l.records k d) ≡ false;
 }
 
 abbrev pub decreases-loop-start : goal.decreases-loop-start

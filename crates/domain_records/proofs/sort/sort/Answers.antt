@@ -1,14 +1,7 @@
-use Rattle.std.{proofs.{Common.{◌≡◌, ◌∙◌, length, refl, arith}, lemmas.List.take_at}, specs.List.Sorted.IsPermutation}
+use Rattle.std.{proofs.{Common.{◌≡◌, ◌∙◌, length, refl}, lemmas.List.take_at}, specs.List.Sorted.IsPermutation}
 use Rattle.domain_record.specs.Record.{record_cmp, record_cmp_total}
 use Rattle.domain_records.{specs.Places.{AreInOrder, IsArranged}, proofs.Placing.arranged_sort}
 use Rattle.domain_records.proofs.sort.sort.Goals as goal
-use Rattle.std.proofs.lemmas.Grind.{common_steps}
-
-pub arrange-requires-clause-ranks : goal.arrange-requires-clause-ranks
-arrange-requires-clause-ranks g c = grind (arith, common_steps)
-
-pub arrange-requires-clause-all : goal.arrange-requires-clause-all
-arrange-requires-clause-all g c = grind (arith, common_steps)
 
 pub returns-then-are_in_order-clause-ok : goal.returns-then-are_in_order-clause-ok
 returns-then-are_in_order-clause-ok g c =
@@ -24,6 +17,3 @@ returns-then-are_in_order-clause-ok g c =
     let moved : IsPermutation xs ys = rw c.deref_mut.ensures.value at c.arrange.ensures.moved in
     let m : length ys ≡ c.args.records.now.len = put.many ∙ (rw c.deref_mut.ensures.value at c.deref_mut.ensures.len) in
     rw (take_at ys _ c.args.records.now.len m) (arranged_sort o xs c.in-Some.first.now places ranks up ys put g.S.Sorter.is_stable moved)
-
-pub returns-in_default-clause-ok : goal.returns-in_default-clause-ok
-returns-in_default-clause-ok g c = grind (arith, common_steps)

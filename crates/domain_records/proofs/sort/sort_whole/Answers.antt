@@ -1,4 +1,4 @@
-use Rattle.std.proofs.{Common.rules, lemmas.{Fn.always_returns_same, Result.on_ok_weaker}}
+use Rattle.std.proofs.{Common.rules, lemmas.Fn.always_returns_same}
 use Rattle.domain_records.proofs.SortedLists.{stable_earliest}
 use Rattle.domain_records.proofs.sort.sort_whole.Goals as goal
 
@@ -9,11 +9,6 @@ pub returns-clause-ok : goal.returns-clause-ok
 returns-clause-ok g c =
     let R = g.T.CanonicalOrd.canonical_cmp in
     let o = g.met.T.CanonicalOrd.total in
-    let done = c.sort_by.ensures in
-    on_ok_weaker c.sort_by.result
-    (λ sorted. record {
-      moved = done.permutation;
-      sorted = sorted R o (always_returns_same _ _ _ (λ a r h called. search rules));
-      earliest = λ on. stable_earliest o _ _ (done.stable on R o (always_returns_same _ _ _ (λ a r h called. search rules)));
-    })
-    done.sorted
+    let done = c.in_ok-sort_by.ensures in
+    let by = always_returns_same _ _ _ (λ a r h called. search rules) in
+    record { moved = done.permutation; sorted = done.sorted R o by; earliest = λ on. stable_earliest o _ _ (done.stable on R o by) }

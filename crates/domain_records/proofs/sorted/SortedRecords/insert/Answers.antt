@@ -19,4 +19,4 @@ returns-in_default-clause-ok g c =
 
 pub returns-in-Ok-clause-present : goal.returns-in-Ok-clause-present
 returns-in-Ok-clause-present g c =
-    (λ e. rw (← c.self.view_is, ← c.deref.ensures.value) (holds_at (order g) _ _ _ c.in-Ok.ensures.found), λ h. refl)
+    (λ e. rw (← c.self.view_is, ← c.deref.ensures.value) (holds_at _ _ _ c.in-Ok.ensures.found), λ h. refl)

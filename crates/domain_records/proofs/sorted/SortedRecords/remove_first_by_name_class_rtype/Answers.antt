@@ -1,6 +1,6 @@
 use Rattle.std.proofs.Common.{sym}
 use Rattle.domain_record.specs.Record.{record_cmp_total}
-use Rattle.domain_records.proofs.{SortedLists.sorted_remove, Removals.{first_without, none_without, none_any}}
+use Rattle.domain_records.proofs.{SortedLists.sorted_remove, Removals.{none_left, first_left}}
 use Rattle.domain_records.proofs.sorted.SortedRecords.remove_first_by_name_class_rtype.Goals as goal
 
 pub invariant_of-self : goal.invariant_of-self
@@ -10,10 +10,11 @@ invariant_of-self g c =
     rw c.remove.ensures.items (sorted_remove o _ _ within c.self.invariant)
 
 pub returns-in-Some-clause-kept : goal.returns-in-Some-clause-kept
-returns-in-Some-clause-kept g c = rw (c.remove.ensures.items, ← c.self.view_is) (sym (first_without _ _ _ (rw c.deref.ensures.value at c.in-Some.ensures)))
+returns-in-Some-clause-kept g c =
+    rw (c.remove.ensures.items, ← c.self.view_is) (sym (first_left _ _ _ (rw c.deref.ensures.value at c.in-Some.ensures)).0)
 
 pub returns-in-None-clause-kept : goal.returns-in-None-clause-kept
-returns-in-None-clause-kept g c = rw (← c.self.view_is) (sym (none_without _ _ (rw c.deref.ensures.value at c.in-None.ensures)))
+returns-in-None-clause-kept g c = rw (← c.self.view_is) (sym (none_left _ _ (rw c.deref.ensures.value at c.in-None.ensures)).1)
 
 pub returns-in-None-clause-found : goal.returns-in-None-clause-found
-returns-in-None-clause-found g c = rw (← c.self.view_is) (sym (none_any _ _ (rw c.deref.ensures.value at c.in-None.ensures)))
+returns-in-None-clause-found g c = rw (← c.self.view_is) (sym (none_left _ _ (rw c.deref.ensures.value at c.in-None.ensures)).2)

@@ -1,7 +1,0 @@
-use Rattle.std.proofs.Common.{◌≡◌, ◌<◌, ℕ, false, eqb, get_or}
-use Rattle.domain_record.specs.declared.record.Record.{Record}
-use Rattle.domain_records.proofs.lookup.first_of_type.Given as goal
-
--- no record so far is of the type
-abbrev pub invariant-loop-i : goal.invariant-loop-i
-invariant-loop-i g l = (k : ℕ) (d : Record g.row.N.Denot g.row.D.Denot) → k < l.i → eqb (g.D.RecordData.rtype (get_or l.records k d).data) l.rtype ≡ false

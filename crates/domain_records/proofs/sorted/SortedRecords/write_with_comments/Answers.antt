@@ -1,9 +1,0 @@
-use Rattle.std.proofs.lemmas.Result.{on_ok_weaker}
-use Rattle.domain_records.{specs.Text.is_soa, proofs.Texts.lines_of_both}
-use Rattle.domain_records.proofs.sorted.SortedRecords.write_with_comments.Goals as goal
-
-pub returns : goal.returns
-returns g c =
-    rw (← c.as_slice-records.ensures.records)
-    (on_ok_weaker c.write_part_with_comments-2.result
-    (λ h. lines_of_both _ _ (is_soa g.D.RecordData.rtype) _ _ _ _ _ _ c.in_ok-write_part_with_comments.ensures h) c.write_part_with_comments-2.ensures)

@@ -1,7 +1,0 @@
-use Rattle.domain_records.proofs.Texts.{picked_lines_more}
-use Rattle.domain_records.proofs.write.write_part_with_comments.Goals as goal
-
-pub loop-item-preserved : goal.loop-item-preserved
-loop-item-preserved g c v h =
-    c.loop-item.invariant v (picked_lines_more _ _ _ _ _ _ _ _
-    c.loop-item-test.true c.item-item.is _ _ _ c.in_ok-write_picked_line.ensures h)
