@@ -73,7 +73,8 @@ all_pairs (r ∷ s ∷ rs) order e =
     ∙ any_front _ _ (s ∷ rs) (weaker _ _ (λ t h. λ i. no_clash_back r t h i || list_any (clashes t) (s ∷ rs)) (s ∷ rs) first)
     ∙ all_pairs (s ∷ rs) order.1 p.1
 
-any_more : (r : ZoneRecord) (ts us : List ZoneRecord) → list_any (λ t. list_any (clashes t) us) ts ≡ true → list_any (λ t. list_any (clashes t) (r ∷ us)) ts ≡ true
+any_more : (r : ZoneRecord) (ts us : List ZoneRecord) → list_any (λ t. list_any (clashes t) us) ts ≡ true
+    → list_any (λ t. list_any (clashes t) (r ∷ us)) ts ≡ true
 any_more r [] us h = absurd (false≢true h)
 any_more r (t ∷ ts) us h = grind (arith, common_steps, (any_more r ts us))
 
