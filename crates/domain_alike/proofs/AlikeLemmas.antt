@@ -1,8 +1,8 @@
 -- Names that have one hash, found in a list of names in canonical order.
 use Rattle.std.proofs.Common.{◌≡◌, ◌⊎◌, ℕ, Bool, true, false, cond, List, [], ◌∷◌, ◌++◌, map, refl, sym, ap, ◌∙◌, inl, inr, subst, Option, Some, None, Bor}
 use Rattle.std.proofs.Common.{is_some, option_map, Ok, Err, ◌+◌, ◌<◌, drop, get_or, length, take, arith}
-use Rattle.std.proofs.lemmas.{Bool.{cases_Bool, false≢true, or_left, or_right}, Cmp.tied_itself, List.{drop_more, map-append, take-append-drop}}
-use Rattle.std.proofs.lemmas.List.{Elements.{All-from_recursion, recursion_from_All}, Folds.{find-append, list_any-append}}
+use Rattle.std.proofs.lemmas.{Bool.{cases_Bool, false≢true, or_left}, Cmp.tied_itself, List.{drop_more, map-append, take-append-drop}}
+use Rattle.std.proofs.lemmas.List.{Elements.{All-from_recursion, recursion_from_All}, Folds.{find-append}}
 use Rattle.std.specs.{Cmp.Lexicographic.{slice_cmp, bytes_decides, nat_list_cmp_total, texts_ties}, List.{find, list_any, AllByRecursion}}
 use Rattle.std.specs.{Option.{option_copied, option_or}, Prelude.slice_get, Ordering.{is_eq, nat_cmp}}
 use Rattle.domain_octets.{specs.Words.Octets, proofs.StdLemmas.or_none}
@@ -117,11 +117,7 @@ module _ (hash : Hash) (names : List Name) (pairs : List Pair) (n : Name) (h : O
     earlier = in_front names (n ∷ []) p.1 t.earlier;
     alike = t.alike;
     apart = t.apart;
-    first = λ y i e. elim (in_either names (n ∷ []) y i) [
-      | inl j ↦ t.first y j e
-      | inr (inl same) ↦ subst (λ k. before k p.1 ≡ false) same (before_order.one_way p.1 n (before_n p.1 t.earlier))
-      | inr (inr none) ↦ absurd none
-    ];
+    first = λ y i e. grind (arith, common_steps, (in_either names (n ∷ []) y i), (t.first y), (before_order.one_way p.1 n), (before_n p.1 t.earlier));
   }
 
   -- a name before the last one that has its hash
@@ -133,21 +129,17 @@ module _ (hash : Hash) (names : List Name) (pairs : List Pair) (n : Name) (h : O
       → (x y : Name) → In x (names ++ n ∷ []) → In y (names ++ n ∷ []) → before y x ≡ true → hash_name hash y ≡ hash_name hash x
       → list_any (λ (p : Pair). same_name p.0 x) (pairs ++ rest) ≡ true
   each_with rest new x y i j b e =
-      list_any-append (λ (p : Pair). same_name p.0 x) pairs rest
-      ∙ elim (in_either names (n ∷ []) x i) [
-        | inr (inr none) ↦ absurd none
-        | inl k ↦ elim (in_either names (n ∷ []) y j) [
-          | inl l ↦ or_left (list_any (λ (p : Pair). same_name p.0 x) pairs) (list_any (λ (p : Pair). same_name p.0 x) rest) (old.each x y k l b e)
-          | inr (inl same) ↦ absurd (false≢true (sym (before_order.one_way x n (before_n x k)) ∙ ap (λ m. before m x) same ∙ b))
-          | inr (inr none) ↦ absurd none
-        ]
-        | inr (inl at) ↦ elim (in_either names (n ∷ []) y j) [
-          | inl l ↦ or_right (list_any (λ (p : Pair). same_name p.0 x) pairs) (list_any (λ (p : Pair). same_name p.0 x) rest)
-              (subst (λ m. list_any (λ (p : Pair). same_name p.0 m) rest ≡ true) at (new y l (e ∙ ap (hash_name hash) (sym at))))
-          | inr (inl same) ↦ absurd (false≢true (sym (irreflexive before_order n) ∙ ap (before n) at ∙ ap (λ m. before m x) same ∙ b))
-          | inr (inr none) ↦ absurd none
-        ]
-      ]
+      grind (
+        arith,
+        common_steps,
+        (in_either names (n ∷ []) x i),
+        (in_either names (n ∷ []) y j),
+        (old.each x y),
+        (new y),
+        (before_n x),
+        (before_order.one_way x n),
+        (irreflexive before_order n),
+      )
 
   -- each pair's later name comes before the last name
   firsts_before : (ps : List Pair) → AllByRecursion (IsPair hash names) ps
@@ -165,11 +157,15 @@ module _ (hash : Hash) (names : List Name) (pairs : List Pair) (n : Name) (h : O
         earlier = in_front names (n ∷ []) f found.0;
         alike = alike;
         apart = before_n f found.0;
-        first = λ y i w. elim (in_either names (n ∷ []) y i) [
-          | inl j ↦ found_first test names f y e up j (passes y w)
-          | inr (inl same) ↦ subst (λ k. before k f ≡ false) same (before_order.one_way f n (before_n f found.0))
-          | inr (inr none) ↦ absurd none
-        ];
+        first = λ y i w. grind (
+          arith,
+          common_steps,
+          (in_either names (n ∷ []) y i),
+          (found_first test names f y e up),
+          (passes y),
+          (before_order.one_way f n),
+          (before_n f found.0),
+        );
       } in
       record {
         told = all_both (IsPair hash (names ++ n ∷ [])) pairs ((n, f) ∷ [])

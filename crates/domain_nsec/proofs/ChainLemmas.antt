@@ -1,10 +1,10 @@
 -- How the records of a chain are gathered, and what the finished chain means.
-use Rattle.std.proofs.Common.{◌≡◌, ℕ, ◌+◌, Bool, true, false, cond, not, ◌&&◌, ◌||◌, List, [], ◌∷◌, ◌++◌, map, refl, sym, ap, ◌∙◌, subst, inl, inr, ◌⊎◌, Some}
-use Rattle.std.proofs.{Common.{zero, suc, ◌<◌, length, get_or, take, arith}, lemmas.Bool.{cases_Bool, false≢true, true≢false, and_parts, or_cases, not-true}}
+use Rattle.std.proofs.Common.{◌≡◌, ℕ, ◌+◌, Bool, true, false, not, ◌&&◌, ◌||◌, List, [], ◌∷◌, ◌++◌, map, refl, sym, ap, ◌∙◌, subst, inl, inr, ◌⊎◌, Some}
+use Rattle.std.proofs.{Common.{zero, suc, ◌<◌, length, get_or, take, arith}, lemmas.Bool.{cases_Bool, false≢true, and_parts, or_cases, not-true}}
 use Rattle.std.proofs.lemmas.{List.{take_more, Elements.recursion_from_All}, Grind.common_steps}
 use Rattle.std.specs.{Prelude.{count_by, All}, List.{AllByRecursion, list_any}}
 use Rattle.domain_bitmap.specs.Bitmap.{bitmap_octets}
-use Rattle.domain_zone.specs.{Covering.{matches, covers, matches_or_covers, pairs}, Soa.{chain_ttl, soa_of}}
+use Rattle.domain_zone.specs.{Covering.{covers, matches_or_covers, pairs}, Soa.{chain_ttl, soa_of}}
 use Rattle.domain_zone.specs.{Zone.{ZoneRecord, OwnersNeverDescend, owns, is_occluded, is_unoccluded, unoccluded_owners}, declared.soa.ApexSoa.ApexSoa}
 use Rattle.domain_zone.proofs.NameLemmas.{before_order, one_lowered, same_itself, same_is, before_left, before_right, below_from, same_lowered}
 use Rattle.domain_zone.proofs.OwnerLemmas.{any_owner, any_in, owners_are, owners_ascend, apex_unoccluded}
@@ -165,27 +165,9 @@ module _ (L : List ZoneRecord) (a : Name) (order : OwnersNeverDescend L) (config
             (any_owner config.occlude_below_dname L a x (λ m. same_lowered m (lowered x)) o zone (same_itself x x refl)) in
             let k = one_lowered m.0 x m.2 in
             let low = below_from x a (and_parts (is_at_or_below x a) (not (is_occluded config.occlude_below_dname L a x)) zone).0 in
-            let parts = and_parts (not (matches before l.owner x))
-            (cond (before l.owner l.next) (before l.owner x && before x l.next) (before l.owner x || before x l.next)) c in
-            absurd (clash (before l.owner l.next) refl parts.1 low m.0 k (owner_gap l m.0 i m.1) (link_next l i))
+            absurd (grind (arith, common_steps, low, (owner_gap l m.0 i m.1), (link_next l i), (before_right l.owner m.0 x k), (before_left m.0 x l.next k)))
         | inr o ↦ o
       ]
-    where
-      clash : (b : Bool) → before l.owner l.next ≡ b → cond b (before l.owner x && before x l.next) (before l.owner x
-          || before x l.next) ≡ true → before x a ≡ false → (m : Name) → lowered m ≡ lowered x
-          → IsApart {lt = before} before_order m (l.owner, l.next)
-          → ((before l.owner l.next ≡ true) × In l.next (unoccluded_owners config.occlude_below_dname L a)) ⊎ (a ≡ l.next) → ⊥
-      clash true e h low m k (inl f) n =
-          false≢true (sym f ∙ before_right l.owner m x k ∙ (and_parts (before l.owner x) (before x l.next) h).0)
-      clash true e h low m k (inr f) n =
-          false≢true (sym f.1 ∙ before_left m x l.next k ∙ (and_parts (before l.owner x) (before x l.next) h).1)
-      clash false e h low m k (inr f) n = true≢false (sym f.0 ∙ e)
-      clash false e h low m k (inl f) (inl n) = true≢false (sym n.0 ∙ e)
-      clash false e h low m k (inl f) (inr n) =
-          elim (or_cases (before l.owner x) (before x l.next) h) [
-            | inl g ↦ false≢true (sym f ∙ before_right l.owner m x k ∙ g)
-            | inr g ↦ false≢true (sym low ∙ ap (before x) n ∙ g)
-          ]
 
   mirrored : (x : Name) → is_at_or_below x a ≡ true → is_occluded config.occlude_below_dname L a x ≡ false
       → IsMatchedOrCoveredOnce L a config.assume_dnskeys_will_be_added links x

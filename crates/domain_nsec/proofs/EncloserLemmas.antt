@@ -1,6 +1,6 @@
 -- What the record that covers a name tells of it.
-use Rattle.std.proofs.Common.{ℕ, slice_get, Some, ◌≡◌, ◌≤◌, Bool, true, false, cond, not, ◌&&◌, ◌||◌, List, length, ltb, refl, sym, ap, ◌∙◌, subst, inl, inr}
-use Rattle.std.proofs.{Common.{◌⊎◌, arith}, lemmas.Bool.{cases_Bool, false≢true, true≢false, and_parts, and_from, or_cases, not-true, ltb-true, ltb-false}}
+use Rattle.std.proofs.Common.{ℕ, slice_get, Some, ◌≡◌, ◌≤◌, Bool, true, false, cond, not, ◌&&◌, List, length, ltb, refl, sym, ap, ◌∙◌, subst, inl, inr}
+use Rattle.std.proofs.{Common.{◌⊎◌, arith}, lemmas.Bool.{false≢true, and_parts, and_from, or_cases, not-true, ltb-true, ltb-false}}
 use Rattle.std.{proofs.lemmas.Grind.common_steps, specs.List.list_any}
 use Rattle.domain_zone.specs.{Covering.{matches, covers, matches_or_covers}, Enclosers.{IsClosestEncloser, longer, exists_over, is_empty_nonterminal, IsShared}}
 use Rattle.domain_zone.specs.Zone.{ZoneRecord, OwnersNeverDescend, owns, occludes, is_occluded, is_unoccluded, unoccluded_owners}
@@ -27,39 +27,19 @@ module _ (L : List ZoneRecord) (a : Name) (order : OwnersNeverDescend L) (config
 
   pub covered : (x : Name) (l : Link) → In l links → is_at_or_below x a ≡ true → covers before l.owner l.next x ≡ true → Covered x l
   covered x l i low c =
-      let parts = and_parts (not (matches before l.owner x))
-      (cond (before l.owner l.next) (before l.owner x && before x l.next) (before l.owner x || before x l.next)) c in
-      by (before l.owner l.next) refl parts.1 (link_next L a order config links chain l i)
-    where
-      by : (b : Bool) → before l.owner l.next ≡ b → cond b (before l.owner x && before x l.next) (before l.owner x || before x l.next) ≡ true
-          → ((before l.owner l.next ≡ true) × In l.next (unoccluded_owners config.occlude_below_dname L a)) ⊎ (a ≡ l.next) → Covered x l
-      by true e h n =
-          let p = and_parts (before l.owner x) (before x l.next) h in
-          record {
-            owner_in_chain = link_owner L a order config links chain l i;
-            after = p.0;
-            next_unoccluded = elim n [ inl k ↦ inl (p.1, k.1) | inr k ↦ inr k ];
-            sides = λ m j. elim (owner_gap L a order config links chain l m i j) [ inl f ↦ inl f | inr f ↦ inr (p.1, f.1) ];
-          }
-      by false e h (inl k) = absurd (true≢false (sym k.0 ∙ e))
-      by false e h (inr k) = record {
-        owner_in_chain = link_owner L a order config links chain l i;
-        after = elim (or_cases (before l.owner x) (before x l.next) h) [
-          | inl f ↦ f
-          | inr f ↦ absurd (false≢true (sym (below_from x a low) ∙ ap (before x) k ∙ f))
-        ];
-        next_unoccluded = inr k;
-        sides = λ m j. elim (owner_gap L a order config links chain l m i j) [ inl f ↦ inl f | inr f ↦ absurd (true≢false (sym f.0 ∙ e)) ];
-      }
+      grind (
+        arith,
+        common_steps,
+        (link_owner L a order config links chain l i),
+        (link_next L a order config links chain l i),
+        (owner_gap L a order config links chain l),
+        (below_from x a low),
+      )
 
   -- no owner of the chain is x
   apart : (x : Name) (l : Link) → Covered x l → (m : Name) → In m (unoccluded_owners config.occlude_below_dname L a) → same_name m x ≡ true → ⊥
   apart x l c m j s =
-      let k = one_lowered m x s in
-      elim (c.sides m j) [
-        | inl f ↦ false≢true (sym f ∙ before_right _ m x k ∙ c.after)
-        | inr f ↦ false≢true (sym f.1 ∙ before_left m x _ k ∙ f.0)
-      ]
+      grind (arith, common_steps, (c.sides m j), (before_right l.owner m x (one_lowered m x s)), (before_left m x l.next (one_lowered m x s)), c.after)
 
   told_empty : (x : Name) → is_at_or_below x a ≡ true → (place : ℕ) (l : Link) → slice_get links place ≡ Some l → covers before l.owner l.next x ≡ true
       → is_empty_nonterminal (unoccluded_owners config.occlude_below_dname L a) a x ≡ is_strictly_below l.next x
@@ -73,31 +53,20 @@ module _ (L : List ZoneRecord) (a : Name) (order : OwnersNeverDescend L) (config
           (unoccluded_owners config.occlude_below_dname L a)))
           (list_any (λ n. is_strictly_below n x) (unoccluded_owners config.occlude_below_dname L a)) h in
           let m = any_in (λ n. is_strictly_below n x) (unoccluded_owners config.occlude_below_dname L a) p.1 in
-          let q = and_parts (is_at_or_below m.0 x) (not (same_name m.0 x)) m.2 in
-          elim (v.sides m.0 m.1) [
-            | inl f ↦ absurd (false≢true (sym (below_from m.0 x q.0) ∙ le_lt before_order m.0 l.owner x f v.after))
-            | inr f ↦ and_from (is_at_or_below l.next x) (not (same_name l.next x))
-                (below_between m.0 x l.next q.0 (before_order.one_way x l.next f.0) f.1)
-                (ap not (apart_right x l.next f.0))
-          ]
+          grind (
+            arith,
+            common_steps,
+            m.2,
+            (v.sides m.0 m.1),
+            (below_from m.0 x),
+            (le_lt before_order m.0 l.owner x),
+            (below_between m.0 x l.next),
+            (before_order.one_way x l.next),
+            (apart_right x l.next),
+          )
 
       back : Covered x l → is_strictly_below l.next x ≡ true → is_empty_nonterminal (unoccluded_owners config.occlude_below_dname L a) a x ≡ true
-      back v h =
-          let q = and_parts (is_at_or_below l.next x) (not (same_name l.next x)) h in
-          and_from (is_at_or_below x a && not (list_any (λ n. same_name n x) (unoccluded_owners config.occlude_below_dname L a)))
-          (list_any (λ n. is_strictly_below n x) (unoccluded_owners config.occlude_below_dname L a))
-          (and_from (is_at_or_below x a) (not (list_any (λ n. same_name n x) (unoccluded_owners config.occlude_below_dname L a))) low
-          (elim (cases_Bool (list_any (λ n. same_name n x) (unoccluded_owners config.occlude_below_dname L a))) [
-            | inl e ↦ let m = any_in (λ n. same_name n x) (unoccluded_owners config.occlude_below_dname L a) e in absurd (apart x l v m.0 m.1 m.2)
-            | inr e ↦ ap not e
-          ]))
-          (elim v.next_unoccluded [
-            | inl k ↦ in_any (λ n. is_strictly_below n x) (unoccluded_owners config.occlude_below_dname L a) l.next k.1 h
-            | inr k ↦
-                let below = subst (λ n. is_at_or_below n x ≡ true) (sym k) q.0 in
-                absurd (true≢false (sym (same_is a x ∙ (λ i. not (below_from a x below i || below_from x a low i)) ∙ refl)
-                ∙ (ap (λ n. same_name n x) k ∙ not-true (same_name l.next x) q.1)))
-          ])
+      back v h = grind (arith, common_steps, any_in, (apart x l v), in_any, (same_is a x), (below_from a x), (below_from x a low))
 
   pub tells_empty : TellsEmpty L a config links
   tells_empty = record { each = told_empty }
@@ -190,17 +159,17 @@ module _ (L : List ZoneRecord) (a : Name) (order : OwnersNeverDescend L) (config
           (any_owner config.occlude_below_dname L a c (λ n. same_lowered n (lowered c)) cut_owns unoccluded
           (same_itself c c refl)) in
           let k = one_lowered m.0 c m.2 in
-          let c_first : before l.owner c ≡ false =
-          elim (v.sides m.0 m.1) [
-            | inl f ↦ sym (before_right l.owner m.0 c k) ∙ f
-            | inr f ↦ absurd (false≢true (sym (before_order.chain x c l.next (below_from x c down) (sym (before_left m.0 c l.next k) ∙ f.1)) ∙ f.0))
-          ] in
-          let under = below_between x c l.owner down c_first (before_order.one_way l.owner x v.after) in
-          elim (cases_Bool (same_name l.owner c)) [
-            | inl e ↦ e
-            | inr e ↦ absurd (false≢true (sym u ∙ below_occluder config.occlude_below_dname L a c l.owner cut
-                (and_from (is_at_or_below l.owner c) (not (same_name l.owner c)) under (ap not e))))
-          ]
+          grind (
+            arith,
+            common_steps,
+            (v.sides m.0 m.1),
+            (before_right l.owner m.0 c k),
+            (before_left m.0 c l.next k),
+            (before_order.chain x c l.next (below_from x c down)),
+            (below_between x c l.owner down),
+            (before_order.one_way l.owner x v.after),
+            (below_occluder config.occlude_below_dname L a c l.owner cut),
+          )
 
   pub covers_below_occluders : CoversBelowOccluders L a config links
   covers_below_occluders = record { each = covered_below }

@@ -43,25 +43,20 @@ no_clash_back r s e = no_clash s r (λ c. differ s r c (sym (one_ttl r s e (sym 
 no_clash_itself : (r : ZoneRecord) → clashes r r ≡ false
 no_clash_itself r = no_clash r r (λ c. differ r r c refl)
 
+-- what clashes with no record of its type clashes with none that this one does not clash with
+further : (r s : ZoneRecord) (ts : List ZoneRecord) → AllByRecursion (λ t. clashes s t ≡ false) ts → AllByRecursion (λ t. r.rtype ≤ t.rtype) ts
+    → AllByRecursion (λ t. s.rtype ≤ t.rtype) ts → r.rtype ≤ s.rtype → clashes r s ≡ false → AllByRecursion (λ t. clashes r t ≡ false) ts
+further r s [] even low high first here = tt
+further r s (t ∷ ts) even low high first here = (
+  no_clash r t (λ c. grind (arith, common_steps, c, (one_ttl r s), (one_ttl s t), (differ r t))),
+  further r s ts even.1 low.1 high.1 first here,
+)
+
 -- where no neighbours clash, the first record clashes with none
 first_even : (r : ZoneRecord) (rs : List ZoneRecord) → NeverDescend (r ∷ rs) → has_neighbour_clash (r ∷ rs) ≡ false
     → AllByRecursion (λ s. clashes r s ≡ false) rs
 first_even r [] order e = tt
-first_even r (s ∷ rs) order e =
-    let p = or_parts (clashes r s) (has_neighbour_clash (s ∷ rs)) e in
-    (p.0, further rs (first_even s rs order.1 p.1) order.0.1 order.1.0 p.0)
-  where
-    further : (ts : List ZoneRecord) → AllByRecursion (λ t. clashes s t ≡ false) ts → AllByRecursion (λ t. r.rtype ≤ t.rtype) ts
-        → AllByRecursion (λ t. s.rtype ≤ t.rtype) ts → clashes r s ≡ false → AllByRecursion (λ t. clashes r t ≡ false) ts
-    further [] even low high here = tt
-    further (t ∷ ts) even low high here = (
-      no_clash r t (λ c.
-          let first_low : r.rtype ≤ s.rtype = order.0.0 in
-          let type_is : r.rtype ≡ s.rtype = omega (arith, c.one_type, first_low, high.0) in
-          let next_is : s.rtype ≡ t.rtype = sym type_is ∙ c.one_type in
-          differ r t c (one_ttl r s here type_is c.signed ∙ one_ttl s t even.0 next_is (ap (λ n. nat_eq n 46) (sym type_is) ∙ c.signed))),
-      further ts even.1 low.1 high.1 here,
-    )
+first_even r (s ∷ rs) order e = grind (arith, common_steps, (further r s rs), (first_even s rs))
 
 -- a test of a list with one more element in front
 any_front : (p q : ZoneRecord → Bool) (rs : List ZoneRecord) → AllByRecursion (λ s. p s ≡ q s) rs → list_any p rs ≡ list_any q rs
@@ -78,6 +73,11 @@ all_pairs (r ∷ s ∷ rs) order e =
     ∙ any_front _ _ (s ∷ rs) (weaker _ _ (λ t h. λ i. no_clash_back r t h i || list_any (clashes t) (s ∷ rs)) (s ∷ rs) first)
     ∙ all_pairs (s ∷ rs) order.1 p.1
 
+any_more : (r : ZoneRecord) (ts us : List ZoneRecord) → list_any (λ t. list_any (clashes t) us) ts ≡ true
+    → list_any (λ t. list_any (clashes t) (r ∷ us)) ts ≡ true
+any_more r [] us h = absurd (false≢true h)
+any_more r (t ∷ ts) us h = grind (arith, common_steps, (any_more r ts us))
+
 -- neighbours that clash are a pair that clashes
 some_pair : (rs : List ZoneRecord) → has_neighbour_clash rs ≡ true → has_clash rs ≡ true
 some_pair [] e = absurd (false≢true e)
@@ -86,20 +86,11 @@ some_pair (r ∷ s ∷ rs) e =
     elim (or_cases (clashes r s) (has_neighbour_clash (s ∷ rs)) e) [
       | inl h ↦ in_front (list_any (λ t. list_any (clashes t) (r ∷ s ∷ rs)) (s ∷ rs)) (clashes r r) (list_any (clashes r) rs) (clashes r s) h
       | inr h ↦ or_right (list_any (clashes r) (r ∷ s ∷ rs)) (list_any (λ t. list_any (clashes t) (r ∷ s ∷ rs)) (s ∷ rs))
-          (more (s ∷ rs) (s ∷ rs) (some_pair (s ∷ rs) h))
+          (any_more r (s ∷ rs) (s ∷ rs) (some_pair (s ∷ rs) h))
     ]
   where
     in_front : (z a c b : Bool) → b ≡ true → ((a || (b || c)) || z) ≡ true
-    in_front z true c b h = refl
-    in_front z false c b h = λ i. (h i || c) || z
-
-    more : (ts us : List ZoneRecord) → list_any (λ t. list_any (clashes t) us) ts ≡ true → list_any (λ t. list_any (clashes t) (r ∷ us)) ts ≡ true
-    more [] us h = absurd (false≢true h)
-    more (t ∷ ts) us h =
-        elim (or_cases (list_any (clashes t) us) (list_any (λ u. list_any (clashes u) us) ts) h) [
-          | inl k ↦ λ i. or_right (clashes t r) (list_any (clashes t) us) k i || list_any (λ u. list_any (clashes u) (r ∷ us)) ts
-          | inr k ↦ or_right (list_any (clashes t) (r ∷ us)) (list_any (λ u. list_any (clashes u) (r ∷ us)) ts) (more ts us k)
-        ]
+    in_front z a c b h = grind (arith, common_steps)
 
 pub neighbours_tell : (rs : List ZoneRecord) → NeverDescend rs → has_neighbour_clash rs ≡ has_clash rs
 neighbours_tell rs order = grind (arith, common_steps, some_pair, all_pairs)
