@@ -114,7 +114,8 @@ clear_at octets w place inside none =
     let moved : place + (8 - place % 8) ≡ place / 8 * 8 + 8 = omega arith in
     clear_run (record { window = w; octets = octets }) place _ (omega (arith, inside)) (λ k from to.
     let bit = bit_of-shl (slice_index octets (place / 8)) (place % 8) (k - place) (omega (arith, from, to)) in
-    grind (arith, common_steps, (bit_in octets w k (omega (arith, to, inside))), bit_of-zero)) ∙ ap (block_types_from (record { window = w; octets = octets })) moved
+    grind (arith, common_steps, (bit_in octets w k (omega (arith, to, inside))), bit_of-zero))
+    ∙ ap (block_types_from (record { window = w; octets = octets })) moved
 
 types_from-blocks : (blocks : List Block) → types_from blocks 0 ≡ flat_map (λ block. block_types_from block 0) blocks
 types_from-blocks [] = refl
