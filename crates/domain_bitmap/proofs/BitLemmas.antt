@@ -24,28 +24,13 @@ digit_tells : (b : Bool) → (digit b == 1) ≡ b
 unfolding digit
 digit_tells b = grind (arith, common_steps)
 
--- an octet as the sum of its bits
-record Sum (bit : ℕ → Bool) : Type 0 where
-  whole : octet_with bit ≡ 128 * digit (bit 0) + 64 * digit (bit 1) + 32 * digit (bit 2) + 16 * digit (bit 3) + 8 * digit
-      (bit 4) + 4 * digit (bit 5) + 2 * digit (bit 6) + digit (bit 7)
-  small0 : digit (bit 0) ≤ 1
-  small1 : digit (bit 1) ≤ 1
-  small2 : digit (bit 2) ≤ 1
-  small3 : digit (bit 3) ≤ 1
-  small4 : digit (bit 4) ≤ 1
-  small5 : digit (bit 5) ≤ 1
-  small6 : digit (bit 6) ≤ 1
-  small7 : digit (bit 7) ≤ 1
-
-sum_of : (bit : ℕ → Bool) → Sum bit
-unfolding octet_with
-sum_of bit = grind (arith, common_steps, weight-digit, digit_small)
-
 pub octet_with-lt : (bit : ℕ → Bool) → octet_with bit < 256
-octet_with-lt bit = let s = sum_of bit in omega arith
+unfolding octet_with
+octet_with-lt bit = grind (arith, common_steps, weight-digit, digit_small)
 
 bit_at-octet_with : (bit : ℕ → Bool) (b : ℕ) → b < 8 → bit_at (octet_with bit) (7 - b) ≡ digit (bit b)
-bit_at-octet_with bit b small = grind (arith, common_steps, sum_of)
+unfolding octet_with
+bit_at-octet_with bit b small = grind (arith, common_steps, weight-digit, digit_small)
 
 pub bit_of-octet_with : (bit : ℕ → Bool) (b : ℕ) → b < 8 → bit_of (octet_with bit) b ≡ bit b
 unfolding bit_of

@@ -113,11 +113,9 @@ pub clear_at : (octets : List ℕ) (w place : ℕ) → place < 256 → get_or oc
 clear_at octets w place inside none =
     let moved : place + (8 - place % 8) ≡ place / 8 * 8 + 8 = omega arith in
     clear_run (record { window = w; octets = octets }) place _ (omega (arith, inside)) (λ k from to.
-    let octet : k / 8 ≡ place / 8 = omega (arith, from, to) in
-    let bit : place % 8 + (k - place) ≡ k % 8 = omega (arith, from, to) in
-    let kept : bit_of (slice_index octets (place / 8)) (k % 8) ≡ false
-    = rw (← bit) (sym (bit_of-shl (slice_index octets (place / 8)) (place % 8) (k - place) (omega (arith, from, to))) ∙ rw none (bit_of-zero (k - place))) in
-    bit_in octets w k (omega (arith, to, inside)) ∙ rw octet kept) ∙ ap (block_types_from (record { window = w; octets = octets })) moved
+    let bit = bit_of-shl (slice_index octets (place / 8)) (place % 8) (k - place) (omega (arith, from, to)) in
+    grind (arith, common_steps, (bit_in octets w k (omega (arith, to, inside))), bit_of-zero))
+    ∙ ap (block_types_from (record { window = w; octets = octets })) moved
 
 types_from-blocks : (blocks : List Block) → types_from blocks 0 ≡ flat_map (λ block. block_types_from block 0) blocks
 types_from-blocks [] = refl

@@ -39,12 +39,8 @@ unfolding blocks_from
 in_blocks types t a zero low high = absurd (omega arith)
 in_blocks types t a (suc n) low high =
     elim (eqb_tells a (t / 256)) [
-      | inl h ↦
-          let past = in_blocks-past types t (a + 1) n (omega (arith, h.1)) in
-          in_list-here a (trimmed (window_octets types a)) (blocks_from types (a + 1) n) t h.1 past
-          ∙ ap (λ w. has_bit (trimmed (window_octets types w)) t) h.1 ∙ has_bit-window types t
-      | inr h ↦
-          in_list-other a _ (blocks_from types (a + 1) n) t h.1 ∙ in_blocks types t (a + 1) n (omega (arith, h.1)) (omega arith)
+      | inl h ↦ grind (arith, common_steps, in_blocks-past, in_list-here, has_bit-window)
+      | inr h ↦ grind (arith, common_steps, in_list-other, (in_blocks types t (a + 1) n (omega (arith, h.1)) (omega arith)))
     ]
 
 pub blocks_of-bitmap_octets : (types : ℕ → Bool) → blocks_of (bitmap_octets types) ≡ blocks_from types 0 256

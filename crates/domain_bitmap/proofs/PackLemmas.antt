@@ -1,7 +1,7 @@
 -- blocks put in order
 use Rattle.std.proofs.Common.{◌≡◌, ℕ, zero, suc, ◌+◌, ◌*◌, ◌/◌, ◌%◌, ◌<◌, ◌≤◌, Bool, true, false, List, [], ◌∷◌, length, get_or, take, drop}
-use Rattle.std.proofs.{Common.{refl, sym, ap, ◌∙◌, inl, inr, arith, set}}
-use Rattle.std.proofs.lemmas.{List.{get_or-take, get_or-drop, length-take, length-drop}, Bool.Decides.eqb_tells, Grind.common_steps}
+use Rattle.std.proofs.{Common.{refl, sym, ap, ◌∙◌, arith, set}}
+use Rattle.std.proofs.lemmas.{List.{get_or-take, get_or-drop, length-take, length-drop}, Grind.common_steps}
 use Rattle.std.specs.{Prelude.{◌==◌, ◌&&◌, bit_or, nat_lt, if◌then◌else◌}, List.{range_with_len, list_any, filter}}
 use Rattle.domain_bitmap.specs.{Bits.bit_of, Bitmap.{window_octets, window_block, block_with, trimmed, bitmap_octets}}
 use Rattle.domain_bitmap.{specs.Builder.{is_of_window, block_holds, has_window, holds}}
@@ -11,11 +11,7 @@ use Rattle.domain_bitmap.proofs.{BitLemmas.bit_of-or, BitmapLemmas.{window_octet
 -- a window that has no block has no types
 no_block : (value : List ℕ) (w : ℕ) → has_window value w ≡ false → (j : ℕ) → j < length value / 34 → is_of_window value w j ≡ false
 unfolding has_window
-no_block value w absent j inside =
-    elim (eqb_tells (get_or value (34 * j) 0) w) [
-      | inl h ↦ let found = any_at (is_of_window value w) (length value / 34) j inside h.0 in absurd (cc (found, absent))
-      | inr h ↦ h.0
-    ]
+no_block value w absent j inside = grind (arith, common_steps, (any_at (is_of_window value w) (length value / 34) j inside))
 
 pub holds-absent : (value : List ℕ) (w : ℕ) → has_window value w ≡ false → (t : ℕ) → t / 256 ≡ w → holds value t ≡ false
 unfolding holds
@@ -69,14 +65,11 @@ pub table_window : (octets value xs : List ℕ) (w : ℕ) → w < 256 → length
     → ((t : ℕ) → t < 65536 → bit_of (get_or octets (t / 8) 0) (t % 8) ≡ holds value t) → window_octets (holds value) w ≡ xs
 table_window octets value xs w inside all is small bits =
     let long : length xs ≡ 32 = omega (arith, ap length is, length-take 32 (drop (32 * w) octets), length-drop (32 * w) octets) in
-    window_octets-is _ w xs long small (λ k b k_small b_small. let t : ℕ = 256 * w + 8 * k + b in
-    let place : t / 8 ≡ 32 * w + k = omega arith in
-    let bit : t % 8 ≡ b = omega arith in
-    let octet : get_or xs k 0 ≡ get_or octets (t / 8) 0 = rw (
-      is,
-      place,
-    ) (get_or-take 32 (drop (32 * w) octets) k 0 k_small ∙ get_or-drop (32 * w) octets k 0) in
-    rw octet (ap (λ c. bit_of (get_or octets (t / 8) 0) c) (sym bit) ∙ bits t (omega arith)))
+    window_octets-is _ w xs long small (λ k b k_small b_small.
+    let octet : get_or xs k 0 ≡ get_or octets (32 * w + k) 0 = rw is (get_or-take 32 (drop (32 * w) octets) k 0 k_small ∙ get_or-drop (32 * w) octets k 0) in
+    let place : (256 * w + 8 * k + b) / 8 ≡ 32 * w + k = omega arith in
+    let bit : (256 * w + 8 * k + b) % 8 ≡ b = omega arith in
+    rw octet (rw (place, bit) at (bits (256 * w + 8 * k + b) (omega arith))))
 
 -- a builder without blocks, and one with one block
 pub holds_nothing : (value : List ℕ) → length value ≡ 0 → bitmap_octets (holds value) ≡ []
@@ -95,11 +88,7 @@ one_block value one small =
     let xs = drop 2 value in
     let long : length xs ≡ 32 = omega (arith, length-drop 2 value) in
     let octets : window_octets (holds value) w ≡ xs = window_octets-is _ w xs long (λ k. rw (get_or-drop 2 value k 0) (small (2 + k)))
-    (λ k b k_small b_small. let t : ℕ = 256 * w + 8 * k + b in
-    let window : w ≡ t / 256 = omega arith in
-    let place : t % 256 / 8 ≡ k = omega arith in
-    let bit : t % 8 ≡ b = omega arith in
-    rw (get_or-drop 2 value k 0) (sym (one_bit value t one window ∙ rw (place, bit) refl))) in
+    (λ k b k_small b_small. grind (arith, common_steps, (one_bit value (256 * w + 8 * k + b) one (omega arith)))) in
     flat_single _ w 256 (small 0) (λ v below other. window_block-none _ v (holds-absent value v
     (window_absent value v (λ j inside. let at : j ≡ 0 = omega arith in rw at (λ is. other (sym is))))))
     ∙ ap (λ l. block_with w (trimmed l)) octets

@@ -1,5 +1,5 @@
 -- salts read from tokens
-use Rattle.std.proofs.{Common.{◌≡◌, ◌≢◌, ◌≤◌, ℕ, List, [], ◌∷◌, length, drop, sym, ap, ◌∙◌, subst, codes}}
+use Rattle.std.proofs.{Common.{arith, ◌≡◌, ◌≢◌, ◌≤◌, ℕ, List, [], ◌∷◌, length, drop, sym, ap, ◌∙◌, codes}, lemmas.Grind.common_steps}
 use Rattle.std.specs.Prelude.{Option}
 use Rattle.domain_codecs.specs.{Codec.Decodes, declared.codec.Codec.TheVariants.Base16}
 use Rattle.domain_names.specs.TextFault.{ScanFault, illegal}
@@ -13,20 +13,13 @@ gone_past old new rest token is past = is ∙ ap (λ l. token ∷ l) (sym (past 
 -- a dash alone
 pub took_dash : (old new : List (List ℕ)) (token salt : List ℕ) → (rest : List (List ℕ)) × (old ≡ token ∷ rest) → new ≡ drop 1 old
     → token ≡ codes "-" → salt ≡ [] → TakesToken (λ t. SaltText t salt) old new
-took_dash old new token salt first past alone none = record {
-  token = token;
-  first = gone_past old new first.0 token first.1 past;
-  holds = subst (SaltText token) (sym none) (dash token alone);
-}
+took_dash old new token salt first past alone none = grind (arith, common_steps, gone_past, dash)
 
 -- a dash and more
 pub refused_dash : (limit : Option ℕ) (old new : List (List ℕ)) (token : List ℕ) → (rest : List (List ℕ)) × (old ≡ token ∷ rest)
     → new ≡ drop 1 old → BeginsWithDash token → token ≢ codes "-"
     → RefusesToken (SaltTokenFault limit) old new (illegal (codes "illegal NSEC3 salt"))
-refused_dash limit old new token first past begins more =
-    subst (λ (l : List (List ℕ)). RefusesToken (SaltTokenFault limit) l new (illegal (codes "illegal NSEC3 salt")))
-    (sym (gone_past old new first.0 token first.1 past))
-    (refused token new (illegal (codes "illegal NSEC3 salt")) (after_dash token begins more))
+refused_dash limit old new token first past begins more = rw (gone_past old new first.0 token first.1 past) (refused token new _ (after_dash token begins more))
 
 -- digits
 not_dash : (token : List ℕ) → (BeginsWithDash token → ⊥) → token ≢ codes "-"
@@ -36,10 +29,7 @@ not_dash (c ∷ rest) other is = other (cc)
 pub took_digits : (old new : List (List ℕ)) (token salt : List ℕ) → (rest : List (List ℕ)) × (old ≡ token ∷ rest)
     → (BeginsWithDash token → ⊥) → TakesToken (λ t. Decodes Base16 t salt) old new → length salt ≤ 255
     → TakesToken (λ t. SaltText t salt) old new
-took_digits old new token salt first other took counted =
-    let both : took.token ∷ new ≡ token ∷ first.0 = sym took.first ∙ first.1 in
-    let same : took.token ≡ token = cc in
-    record { token = took.token; first = took.first; holds = digits took.token salt (rw same (not_dash token other)) took.holds counted }
+took_digits old new token salt first other took counted = grind (arith, common_steps, not_dash, digits)
 
 pub refused_digits : (limit : Option ℕ) (old new : List (List ℕ)) (token : List ℕ) (fault : ScanFault)
     → (rest : List (List ℕ)) × (old ≡ token ∷ rest) → (BeginsWithDash token → ⊥)

@@ -1,6 +1,6 @@
 -- types read from tokens
-use Rattle.std.proofs.Common.{◌≡◌, ◌≢◌, ℕ, ◌+◌, ◌*◌, ◌/◌, ◌<◌, Bool, true, false, List, [], ◌∷◌, ◌++◌, length, refl, sym, ap, ◌∙◌, inl, inr, arith}
-use Rattle.std.proofs.{Common.{eq-eqb, append_assoc}, lemmas.{Bool.Decides.{nat_tests, eqb_tells}, Grind.common_steps}}
+use Rattle.std.proofs.Common.{◌≡◌, ◌≢◌, ℕ, ◌+◌, ◌*◌, ◌/◌, ◌<◌, true, false, List, [], ◌∷◌, ◌++◌, length, refl, sym, ap, ◌∙◌, arith}
+use Rattle.std.proofs.{Common.{append_assoc}, lemmas.{Grind.common_steps}}
 use Rattle.std.specs.Prelude.{◌||◌, ◌==◌, Option, if◌then◌else◌, IsNone}
 use Rattle.domain_base.specs.{Numbers.{TypeText, IsNoType}, Scan.{RefusesToken, ended, refused}}
 use Rattle.domain_names.specs.{TextFault.{ScanFault, scan_fault_of, scan_error_of}}
@@ -27,30 +27,20 @@ type_in-more types t w = grind (arith, common_steps)
 room-same : (types : List ℕ) (t : ℕ) → has_type_in types (t / 256) ≡ true → room_for (types ++ t ∷ []) ≡ room_for types
 unfolding room_for
 room-same types t known =
-    ap (λ l. 34 * length l) (filter_same _ (has_type_in types) 0 256
-    (λ w low high. type_in-more types t w ∙ elim (eqb_tells w (t / 256)) [
-      | inl h ↦ let is : has_type_in types w ≡ true = ap (has_type_in types) h.1 ∙ known in rw (h.0, is) refl
-      | inr h ↦ rw h.0 refl
-    ]))
+    ap (λ l. 34 * length l) (filter_same (has_type_in (types ++ t ∷ [])) (has_type_in types) 0 256 (λ w low high. grind (arith, common_steps, type_in-more)))
 
 room-more : (types : List ℕ) (t : ℕ) → t < 65536 → has_type_in types (t / 256) ≡ false → room_for (types ++ t ∷ []) ≡ room_for types + 34
 unfolding room_for
 room-more types t small new =
-    let more = filter_more (has_type_in types) _ (t / 256) 256 (omega arith)
-    (λ w other. type_in-more types t w ∙ (let test : (w == t / 256) ≡ false = grind (arith, nat_tests) in rw test refl)) new
-    (type_in-more types t (t / 256) ∙ rw (eq-eqb (t / 256) (t / 256) refl) refl) in
+    let more = filter_more (has_type_in types) (has_type_in (types ++ t ∷ [])) (t / 256) 256 (omega arith)
+    (λ w other. grind (arith, common_steps, type_in-more)) new (grind (arith, common_steps, type_in-more)) in
     omega (arith, more)
-
-room-step_at : (types : List ℕ) (t : ℕ) (value after : List ℕ) (known : Bool) → has_type_in types (t / 256) ≡ known
-    → length value ≡ room_for types → t < 65536 → length after ≡ (if known then length value else length value + 34)
-    → length after ≡ room_for (types ++ t ∷ [])
-room-step_at types t value after known h room small size = grind (arith, common_steps, room-same, room-more)
 
 room-step : (types : List ℕ) (t : ℕ) (value after : List ℕ) → length value ≡ room_for types → t < 65536
     → has_window value (t / 256) ≡ has_type_in types (t / 256)
     → length after ≡ (if has_window value (t / 256) then length value else length value + 34)
     → length after ≡ room_for (types ++ t ∷ [])
-room-step types t value after room small windows size = room-step_at types t value after (has_type_in types (t / 256)) refl room small (rw (← windows) size)
+room-step types t value after room small windows size = grind (arith, common_steps, room-same, room-more)
 
 -- what was read so far
 pub record Scanned (old now : List (List ℕ)) (value : List ℕ) : Type 0 where

@@ -1,6 +1,6 @@
 -- the blocks of 34 octets that a builder holds
-use Rattle.std.proofs.Common.{◌≡◌, ℕ, ◌+◌, ◌-◌, ◌*◌, ◌/◌, ◌%◌, ◌^◌, ◌<◌, ◌≢◌, true, false, List, ◌∷◌, ◌++◌, length, get_or, refl, ap, inl, inr}
-use Rattle.std.proofs.{Common.{arith, length-append, set, get_or-set_same, get_or-set_other, rules}, lemmas.Bool.Decides.{nat_tests, eqb_tells}}
+use Rattle.std.proofs.Common.{◌≡◌, ℕ, ◌+◌, ◌-◌, ◌*◌, ◌/◌, ◌%◌, ◌^◌, ◌<◌, ◌≢◌, true, false, List, ◌∷◌, ◌++◌, length, get_or, inl, inr}
+use Rattle.std.proofs.{Common.{arith, length-append, set, get_or-set_other, rules}, lemmas.Bool.Decides.{nat_tests, eqb_tells}}
 use Rattle.std.{proofs.lemmas.{List.{get_or_append_left}, Grind.common_steps}, specs.Prelude.{◌||◌, ◌==◌, bit_or, replicate}}
 use Rattle.domain_octets.proofs.StdLemmas.{and_false}
 use Rattle.domain_bitmap.specs.{Bits.bit_of, Builder.{is_of_window, block_holds, has_window, holds}}
@@ -42,23 +42,15 @@ module _ (value : List ℕ) (p r : ℕ) (inside : p < length value / 34) (window
   window_kept j = kept (34 * j) (omega arith)
 
   elsewhere : (t j : ℕ) → j ≢ p → block_holds after t j ≡ block_holds value t j
-  elsewhere t j other =
-      let place : 34 * j + 2 + t % 256 / 8 ≢ at = omega arith in
-      rw (window_kept j, kept (34 * j + 2 + t % 256 / 8) place) refl
+  elsewhere t j other = grind (arith, common_steps, kept)
 
   -- the bit of a type in the block
   bit_after : (t : ℕ) → t / 256 ≡ r / 256 → bit_of (get_or after (34 * p + 2 + t % 256 / 8) 0) (t % 8)
       ≡ ((t == r) || bit_of (get_or value (34 * p + 2 + t % 256 / 8) 0) (t % 8))
   bit_after t of_window =
       elim (eqb_tells (t % 256 / 8) (r % 256 / 8)) [
-        | inl h ↦
-            let place : 34 * p + 2 + t % 256 / 8 ≡ at = ap (λ o. 34 * p + 2 + o) h.1 in
-            rw (place, get_or-set_same value at more 0 at_inside, same_type t r of_window h.1)
-            (bit_of-set (get_or value at 0) (t % 8) (r % 8) (omega arith) (omega arith))
-        | inr h ↦
-            let octet : t % 256 / 8 ≢ r % 256 / 8 = h.1 in
-            let place : 34 * p + 2 + t % 256 / 8 ≢ at = omega arith in
-            rw (kept (34 * p + 2 + t % 256 / 8) place, other_octet t r octet) refl
+        | inl h ↦ grind (arith, common_steps, same_type, bit_of-set, at_inside)
+        | inr h ↦ grind (arith, common_steps, kept, other_octet)
       ]
 
   here : (t : ℕ) → block_holds after t p ≡ ((t == r) || block_holds value t p)

@@ -1,6 +1,6 @@
 -- the one form of the octets of a set of types
 use Rattle.std.proofs.Common.{◌≡◌, ◌≢◌, ℕ, zero, suc, ◌+◌, ◌*◌, ◌/◌, ◌%◌, ◌<◌, ◌≤◌, Bool, true, false, List, [], ◌∷◌, ◌++◌, length, get_or, refl, sym, ap, ◌∙◌}
-use Rattle.std.proofs.{Common.{inl, inr, arith}, lemmas.{Bool.Decides.{nat_tests, eqb_tells, leb_tells}, List.get_or_past, Grind.common_steps}}
+use Rattle.std.proofs.{Common.{inl, inr, arith}, lemmas.{Bool.Decides.{nat_tests, eqb_tells, leb_tells}, Grind.common_steps}}
 use Rattle.std.specs.{Prelude.◌==◌, List.AllByRecursion}
 use Rattle.domain_bitmap.specs.{Bits.has_bit, Bitmap.{window_octets, trimmed, before_trimmed, bitmap_octets}}
 use Rattle.domain_bitmap.specs.Blocks.{Block, IsBlock, IsBitmap, IsShortest, WindowsAscendFrom, last_octet, octets_of_blocks, in_first_block, contains_type}
@@ -82,9 +82,7 @@ window_of_block : (types : ℕ → Bool) (block : Block) → IsBlock block
 unfolding has_bit
 window_of_block types block valid same i =
     elim (leb_tells 32 i) [
-      | inl h ↦
-          get_or_past _ i 0 (omega (arith, h.1, length-window_octets types block.window))
-          ∙ sym (get_or_past _ i 0 (omega (arith, h.1, valid.fits)))
+      | inl h ↦ grind (arith, common_steps, (length-window_octets types block.window), valid.fits)
       | inr h ↦
           let inside : i < 32 = h.1 in
           get_or-window_octets types _ i inside
