@@ -148,12 +148,8 @@ fn equal_eights(a: &[u8], b: &[u8]) -> usize
     ensures { EndAlike a.now b.now result }
 {
     let mut count = 0;
-    let mut a_front = a;
-    let mut b_front = b;
-    while same_last_eight(a_front, b_front) {
+    'eights: while same_last_eight(&a[..a.len() - count], &b[..b.len() - count]) {
         count += 8;
-        a_front = &a_front[..a_front.len() - 8];
-        b_front = &b_front[..b_front.len() - 8];
     }
     count
 }
