@@ -117,9 +117,9 @@ joined_end : (a : List ℕ) (count more : ℕ) → count + more ≤ length a
     ++ drop (length a - count) a
 joined_end a count more within = grind (arith, common_steps, (take-append-drop (length a - count) a))
 
-pub alike_before : (a b x y : List ℕ) (count more : ℕ) → EndAlike a b count → x ≡ take (length a - count) a
-    → y ≡ take (length b - count) b → EndAlike x y more → EndAlike a b (count + more)
-alike_before a b x y count more alike x_is y_is before = grind (arith, common_steps, joined_end)
+pub alike_before : (a b : List ℕ) (count more : ℕ) → EndAlike a b count
+    → EndAlike (take (length a - count) a) (take (length b - count) b) more → EndAlike a b (count + more)
+alike_before a b count more alike before = grind (arith, common_steps, joined_end)
 
 one_before : (name : List ℕ) (count place : ℕ) → count < length name → place ≡ length name - 1 - count
     → drop (length name - (count + 1)) name ≡ get_or name place 0 ∷ drop (length name - count) name

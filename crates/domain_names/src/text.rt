@@ -132,8 +132,8 @@ fn read_labels(wire: &mut ArrayBuilder<MAX_NAME>, text: &[u8]) -> Option<()>
     }
 }
 
-/// The label that a text begins with, if no character of it is escaped, and what follows it, where
-/// that is not an escape.
+/// The characters that a text begins with and that stand for themselves, if they are as many as a
+/// label has, and what follows them. They are its first label, unless an escape follows.
 #[tactic(auto, using(crate::proofs::SpellingLemmas::plain_label))]
 fn split_plain_label(text: &[u8]) -> Option<(&[u8], &[u8])>
     ensures parts { IfSome result (λ p. text.now ≡ p.0.now ++ p.1.now) }

@@ -148,12 +148,8 @@ fn equal_eights(a: &[u8], b: &[u8]) -> usize
     ensures { EndAlike a.now b.now result }
 {
     let mut count = 0;
-    let mut a_front = a;
-    let mut b_front = b;
-    while same_last_eight(a_front, b_front) {
+    'eights: while same_last_eight(&a[..a.len() - count], &b[..b.len() - count]) {
         count += 8;
-        a_front = &a_front[..a_front.len() - 8];
-        b_front = &b_front[..b_front.len() - 8];
     }
     count
 }
@@ -184,12 +180,13 @@ struct End<'a> {
     wire: &'a [u8],
 }
 
-/// The longest end of an end that has at most so many octets.
+/// The longest end within this one that has at most so many octets.
 fn end_within<'a>(end: End<'a>, most: usize) -> End<'a>
     requires wire { IsWire end.wire.now }
     requires root { 1 ≤ most }
     ensures wire { IsWire result.wire.now }
-    ensures end { (name : Name) → EndsIn name (option_map (λ x. x.now) end.entry.below) (labels_of end.entry.wire.now)
+    ensures end { (name : Name)
+        → EndsIn name (option_map (λ x. x.now) end.entry.below) (labels_of end.entry.wire.now)
         → EndsIn name (option_map (λ x. x.now) result.below) (labels_of result.wire.now) }
     ensures within { length result.wire.now ≤ most }
     ensures part { length result.wire.now ≤ length end.entry.wire.now }
@@ -218,20 +215,16 @@ fn part<'a>(a: &'a [u8], b: &'a [u8]) -> (End<'a>, End<'a>)
         (labels_of result.0.wire.now) }
 {
     let equal = equal_end(a, b);
-    let mut x = end_within(
-        End {
-            below: None,
-            wire: a,
-        },
-        equal,
-    );
-    let mut y = end_within(
-        End {
-            below: None,
-            wire: b,
-        },
-        equal,
-    );
+    let x = End {
+        below: None,
+        wire: a,
+    };
+    let y = End {
+        below: None,
+        wire: b,
+    };
+    let mut x = end_within(x, equal);
+    let mut y = end_within(y, equal);
     'parting: while x.wire.len() != y.wire.len() {
         x = end_within(x, y.wire.len());
         y = end_within(y, x.wire.len());
