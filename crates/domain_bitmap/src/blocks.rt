@@ -91,8 +91,8 @@ pub(crate) fn is_set(octets: &[u8], octet: usize, bit: u8) -> bool
     }
 }
 
-/// The first place in a window, from one on, whose bit is set. What is left of an octet is passed at
-/// once where it has no bits.
+/// The first place in a window, from one on, whose bit is set. What is left of an octet is passed
+/// at once where it has no bits.
 pub(crate) fn first_set(octets: &[u8], from: usize) -> Option<usize>
     requires { length octets.now ≤ 32 }
     ensures none { IfNone result ((w : ℕ)
