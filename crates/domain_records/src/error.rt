@@ -15,14 +15,7 @@ use std::fmt;
 /// whoever has one has seen a sort refused.
 #[derive(Clone, Copy, Debug, PartialEq, Eq)]
 pub struct SortError {
-    reason: OutOfMemory,
-}
-
-impl SortError {
-    /// That there was no memory to sort records.
-    pub(crate) fn new(reason: OutOfMemory) -> Self {
-        SortError { reason }
-    }
+    pub(crate) reason: OutOfMemory,
 }
 
 impl fmt::Display for SortError {

@@ -82,7 +82,7 @@ impl<N: ToName, D: RecordData + CanonicalOrd, Sort: Sorter> SortedRecords<N, D, 
         ensures { IfOk result (IsUnion Sort.is_stable (record_cmp N.labels D.rtype D.canonical_cmp)
             records.items) }
     {
-        sort_and_dedup::<N, D, Sort>(&mut records).map_err(SortError::new)?;
+        sort_and_dedup::<N, D, Sort>(&mut records).map_err(|reason| SortError { reason })?;
         Ok(SortedRecords {
             records,
             sorter: PhantomData,
