@@ -33,15 +33,14 @@ module _ (s t : List ℕ) (i : ℕ) (h : AreRanks s t) (lt : i < length s) where
       let a = swapped_from_swap s v i o 0 lt back.0 refl in
       let b = swapped_from_swap ys w i p d (omega arith) (omega (arith, there.0)) refl in
       elim (cases_eq k i) [
-        | inl e ↦ ap (λ q. get_or w (get_or v q 0) d) e ∙ ap (λ q. get_or w q d) (a.0 ∙ back.1) ∙ b.0 ∙ ap (λ q. get_or ys (get_or s q 0) d) (sym e)
+        | inl e ↦ rw (e, a.0, back.1, b.0) refl
         | inr e ↦
             elim (cases_eq k o) [
-              | inl f ↦ ap (λ q. get_or w (get_or v q 0) d) f ∙ ap (λ q. get_or w q d) a.1 ∙ b.1
-                  ∙ ap (λ q. get_or ys q d) (sym back.1 ∙ ap (λ q. get_or s q 0) (sym f))
+              | inl f ↦ rw (f, a.1, b.1, back.1) refl
               | inr f ↦
                   let rank = sym (h.place k below).1 in
-                  ap (λ q. get_or w q d) (a.2 k e f)
-                  ∙ b.2 (get_or s k 0) (λ g. f (rank ∙ ap (λ q. get_or t q 0) g)) (λ g. e (rank ∙ ap (λ q. get_or t q 0) g ∙ there.1))
+                  rw (a.2 k e f)
+                  (b.2 (get_or s k 0) (λ g. f (rank ∙ ap (λ q. get_or t q 0) g)) (λ g. e (rank ∙ ap (λ q. get_or t q 0) g ∙ there.1)))
             ]
       ]
 

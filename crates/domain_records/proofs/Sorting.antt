@@ -1,6 +1,6 @@
 -- What a sort asks of its comparison.
 use Rattle.std.{proofs.Common.{Bor, List, [], ◌∷◌, ap, is_lt}, specs.{declared.cmp.Ordering.Ordering, Fn.{Mut, AlwaysReturns, ReturnsEach, ComparesAs}}}
-use Rattle.domain_records.specs.Sort.{AnswersBy}
+use Rattle.domain_records.specs.SortedSet.{AnswersBy}
 
 module _ {F X R : Type 0} (g : Mut F X R) (P Q : X → R → Type 0) (f : (a : X) (r : R) → P a r → Q a r) where
   each_weaker : (xs : List X) (s : F) → ReturnsEach g P s xs → ReturnsEach g Q s xs

@@ -1,5 +1,4 @@
 pub mod Edits
-pub mod Errors
 pub mod ErrorText
 pub mod Groups
 pub mod Lookup
@@ -9,6 +8,5 @@ pub mod Places
 pub mod Rrsets
 pub mod Runs
 pub mod Slices
-pub mod Sort
 pub mod SortedSet
 pub mod Text

@@ -1,7 +1,7 @@
 //! Why records were not put in or signed.
 ghost use Rattle.std.specs.Prelude.{◌≡◌, Some, codes};
 ghost use Rattle.domain_records.specs.declared.error.SigningError.TheVariants as signing_error;
-ghost use Rattle.domain_records.specs.{Edits.refused, Errors.signing_error_of};
+ghost use Rattle.domain_records.specs.{Edits.refused, ErrorText.signing_error_of};
 ghost use Rattle.domain_records.specs.ErrorText.{signing_error_text, insert_error_text};
 
 use domain_hasher::Nsec3HashError;
@@ -15,14 +15,7 @@ use std::fmt;
 /// whoever has one has seen a sort refused.
 #[derive(Clone, Copy, Debug, PartialEq, Eq)]
 pub struct SortError {
-    reason: OutOfMemory,
-}
-
-impl SortError {
-    /// That there was no memory to sort records.
-    pub(crate) fn new(reason: OutOfMemory) -> Self {
-        SortError { reason }
-    }
+    pub(crate) reason: OutOfMemory,
 }
 
 impl fmt::Display for SortError {

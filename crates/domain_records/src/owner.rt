@@ -2,7 +2,8 @@
 ghost use Rattle.std.specs.Prelude.{◌≡◌, ◌≤◌, ◌<◌, ◌↔◌, [], length, map, drop, Any, IsTrue};
 ghost use Rattle.std.specs.Iterator.{item_count};
 ghost use Rattle.domain_names.specs.Name.{IsAtOrBelow};
-ghost use Rattle.domain_records.specs.{Slices.items_of, Order.{IsOneClass, IsInOrder}, Runs.TakesRun};
+ghost use Rattle.domain_records.specs.{Slices.items_of, Runs.TakesRun};
+ghost use Rattle.domain_records.specs.Order.{IsOneClass, IsInOrder};
 ghost use Rattle.domain_records.specs.Groups.{same_owner, HasFirst, SkipsTo, IsZoneCut};
 
 use crate::group::{ByClass, ByOwner, InOrder, is_one_run, take_group};

@@ -59,6 +59,7 @@ fn give_keys<N: ToName, D>(records: &[Record<N, D>], first: &Record<N, D>, runs:
 }
 
 /// Compares the keys of two runs, and the first record of each where the keys are the same.
+#[tactic(auto, unfolding(crate::specs::OwnerOrder::compared_runs))]
 fn compare_runs<N: ToName, D: RecordData + CanonicalOrd>(
     records: &[Record<N, D>],
     first: &Record<N, D>,

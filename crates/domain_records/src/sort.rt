@@ -14,6 +14,7 @@ use domain_record::{Record, RecordData};
 use std::cmp::Ordering;
 
 /// Compares the records at two places, and then the places.
+#[tactic(auto, unfolding(crate::specs::Places::compared_places))]
 fn compare_places<N: ToName, D: RecordData + CanonicalOrd>(
     records: &[Record<N, D>],
     first: &Record<N, D>,

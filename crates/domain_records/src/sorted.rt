@@ -6,7 +6,8 @@ ghost use Rattle.std.specs.{Iterator.IsFiniteIterable, List.Sorted.IsStrictlySor
 ghost use Rattle.domain_records.specs.Edits.{Gives, refused, without_first, IsFirstMatch, Updates};
 ghost use Rattle.domain_records.specs.{Text.{texts, soa_first, WritesWithComments}, Lookup.matches};
 ghost use Rattle.domain_records.specs.{Rrsets.{IsFound, begins_with}, Groups.same_rrset, Runs.runs};
-ghost use Rattle.domain_records.specs.{Order.{IsOneClass, IsInOrder}, SortedSet.{IsUnion, Adds, Holds}};
+ghost use Rattle.domain_records.specs.Order.{IsOneClass, IsInOrder};
+ghost use Rattle.domain_records.specs.SortedSet.{IsUnion, Adds, Holds};
 ghost use Rattle.domain_base.specs.Types.{soa};
 ghost use Rattle.domain_record.specs.{Record.record_cmp, RecordClone.IsRecordClone};
 
@@ -57,6 +58,7 @@ impl<N: ToName, D: RecordData + CanonicalOrd> SortedRecords<N, D> {
 
 impl<N: ToName, D: RecordData + CanonicalOrd, Sort: Sorter> SortedRecords<N, D, Sort> {
     /// No records. Takes no memory.
+    #[tactic(auto, using(crate::proofs::SortedLists::sorted_nil))]
     pub fn new(alloc: Global) -> Self
         ensures { result ≡ [] }
     {
@@ -80,7 +82,7 @@ impl<N: ToName, D: RecordData + CanonicalOrd, Sort: Sorter> SortedRecords<N, D, 
         ensures { IfOk result (IsUnion Sort.is_stable (record_cmp N.labels D.rtype D.canonical_cmp)
             records.items) }
     {
-        sort_and_dedup::<N, D, Sort>(&mut records).map_err(SortError::new)?;
+        sort_and_dedup::<N, D, Sort>(&mut records).map_err(|reason| SortError { reason })?;
         Ok(SortedRecords {
             records,
             sorter: PhantomData,
