@@ -18,7 +18,8 @@ pub(crate) fn is_wanted<N: ToName, D: RecordData>(
     class: &Option<Class>,
     rtype: &Option<Rtype>,
 ) -> bool
-    ensures { result ≡ matches N.labels D.rtype (N.labels owner.now) class.now rtype.now stored.now }
+    ensures { result
+        ≡ matches N.labels D.rtype (N.labels owner.now) class.now rtype.now stored.now }
 {
     stored.owner().name_eq(owner)
         && stored.class() == (*class).unwrap_or(stored.class())
@@ -93,8 +94,8 @@ pub(crate) fn first_place<N: ToName, D: RecordData + CanonicalOrd>(
     rtype: &Option<Rtype>,
 ) -> Option<usize>
     requires { IsStrictlySortedBy (record_cmp N.labels D.rtype D.canonical_cmp) records.now }
-    ensures { IsFirstPlace (matches N.labels D.rtype (N.labels owner.now) class.now rtype.now) records.now
-        result }
+    ensures { IsFirstPlace (matches N.labels D.rtype (N.labels owner.now) class.now rtype.now)
+        records.now result }
 {
     let mut start = 0;
     while start < records.len() {
