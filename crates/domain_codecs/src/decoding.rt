@@ -79,14 +79,14 @@ fn build<B: EmptyBuilder + Drop>(
 {
     let mut octets = B::empty(alloc);
     let mut left = Joined::new(texts);
-    let mut piece = [0u8; 64];
+    let mut buffer = [0u8; 64];
     let mut part = [0u8; 64];
     loop {
-        let count = left.take_piece(&mut piece);
-        if count == 0 {
+        let piece = left.take_piece(&mut buffer);
+        if piece.is_empty() {
             return Ok(octets);
         }
-        let count = decode_piece(codec, &piece[..count], &mut part);
+        let count = decode_piece(codec, piece, &mut part);
         octets.append_slice(&part[..count])?;
     }
 }

@@ -34,25 +34,38 @@ impl<'a> Joined<'a> {
     pub(crate) fn new(texts: &'a [&'a str]) -> Self
         ensures { result ≡ concat (map (λ text. text.now) texts.now) }
     {
-        Joined { front: &[], texts }
+        match texts {
+            [text, others @ ..] => Joined {
+                front: text.as_bytes(),
+                texts: others,
+            },
+            [] => Joined { front: &[], texts },
+        }
     }
 
-    /// Takes 64 characters, or all where there are fewer.
-    pub(crate) fn take_piece(&mut self, piece: &mut [u8; 64]) -> usize
-        ensures cut { Cut self.old (take result piece.new) self.new }
-        ensures small { result ≤ 64 }
+    /// Takes 64 characters, or all where there are fewer: those of one text as they stand there,
+    /// and those of several in a buffer.
+    pub(crate) fn take_piece<'b>(&mut self, buffer: &'b mut [u8; 64]) -> &'b [u8]
+    where
+        'a: 'b,
+        ensures { Cut self.old result.now self.new }
     {
+        if self.front.len() >= 64 || self.texts.is_empty() {
+            let (piece, after) = self.front.split_at(self.front.len().min(64));
+            self.front = after;
+            return piece;
+        }
         let mut count = 0;
         loop {
             let (part, after) = self.front.split_at(self.front.len().min(64 - count));
-            put(piece, count, part);
+            put(buffer, count, part);
             count += part.len();
             self.front = after;
             if count == 64 {
-                return 64;
+                return buffer;
             }
             let [text, others @ ..] = self.texts else {
-                return count;
+                return &buffer[..count];
             };
             self.front = text.as_bytes();
             self.texts = others;

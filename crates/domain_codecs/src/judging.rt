@@ -123,14 +123,14 @@ fn first_other(codec: Codec, texts: &[&str]) -> Option<u8>
         (AllPass (is_digit codec) (concat (map (λ text. text.now) texts.now))) }
 {
     let mut left = Joined::new(texts);
-    let mut piece = [0u8; 64];
+    let mut buffer = [0u8; 64];
     loop {
-        let count = left.take_piece(&mut piece);
-        if count == 0 {
+        let piece = left.take_piece(&mut buffer);
+        if piece.is_empty() {
             return None;
         }
-        let place = digits_len(codec, &piece[..count]);
-        if place < count {
+        let place = digits_len(codec, piece);
+        if place < piece.len() {
             return Some(piece[place]);
         }
     }
@@ -147,15 +147,15 @@ fn is_base64(over: usize, texts: &[&str]) -> bool
         return false;
     }
     let mut left = Joined::new(texts);
-    let mut piece = [0u8; 64];
+    let mut buffer = [0u8; 64];
     let mut octets = [0u8; 48];
     loop {
-        let count = left.take_piece(&mut piece);
-        let Ok(full) = STANDARD.decode_slice_unchecked(&piece[..count], &mut octets) else {
+        let piece = left.take_piece(&mut buffer);
+        let Ok(full) = STANDARD.decode_slice_unchecked(piece, &mut octets) else {
             return false;
         };
         if full < 48 {
-            return left.take_piece(&mut piece) == 0;
+            return left.take_piece(&mut buffer).is_empty();
         }
     }
 }

@@ -4,20 +4,20 @@ use Rattle.domain_codecs.proofs.decoding.build.{Given.Over, Goals.After-decode_p
 use Rattle.domain_codecs.proofs.decoding.build.Goals as goal
 use Rattle.std.proofs.lemmas.Grind.{common_steps}
 
-pub returns-then-count-eq0-clause-ok : goal.returns-then-count-eq0-clause-ok
-returns-then-count-eq0-clause-ok g c = grind (arith, common_steps, pieces_end)
+pub returns-then-is_empty-clause-ok : goal.returns-then-is_empty-clause-ok
+returns-then-is_empty-clause-ok g c = grind (arith, common_steps, pieces_end)
 
 pub decode_piece-count-requires-clause-text : goal.decode_piece-count-requires-clause-text
 decode_piece-count-requires-clause-text g c =
-    let next = pieces_next _ _ _ _ _ _ c.loop-left.invariant.read c.take_piece-count.ensures.cut in
+    let next = pieces_next _ _ _ _ _ _ c.loop-left.invariant.read c.take_piece-piece.ensures in
     (next.octets, next.first)
 
 -- the octets of the piece follow those that were built
 piece_read : (g : Over) (c : After-decode_piece-count g)
-    → ReadPieces c.args.codec (concat (map (λ text. text.now) c.args.texts.now)) c.take_piece-count.new.self
+    → ReadPieces c.args.codec (concat (map (λ text. text.now) c.args.texts.now)) c.take_piece-piece.new.self
     (g.B.Octets.octets c.loop-left.octets ++ take c.decode_piece-count.result c.decode_piece-count.new.octets)
 piece_read g c =
-    let next = pieces_next _ _ _ _ _ _ c.loop-left.invariant.read c.take_piece-count.ensures.cut in
+    let next = pieces_next _ _ _ _ _ _ c.loop-left.invariant.read c.take_piece-piece.ensures in
     rw (decodes_once _ _ next.octets _ next.first c.decode_piece-count.ensures.decodes) at next.more
 
 pub loop-left-preserved : goal.loop-left-preserved

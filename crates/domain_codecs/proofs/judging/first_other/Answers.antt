@@ -1,16 +1,16 @@
-use Rattle.std.proofs.{Common.{arith, length-take}, lemmas.Grind.common_steps}
+use Rattle.std.proofs.{Common.arith, lemmas.Grind.common_steps}
 use Rattle.domain_codecs.proofs.JoinedLemmas.{searched_other, searched_piece}
 use Rattle.domain_codecs.proofs.judging.first_other.Goals as goal
 
-pub returns-then-place-count-clause-some : goal.returns-then-place-count-clause-some
-returns-then-place-count-clause-some c =
+pub returns-then-place-piece-clause-some : goal.returns-then-place-piece-clause-some
+returns-then-place-piece-clause-some c =
     grind (
       arith,
       common_steps,
-      (searched_other _ _ _ _ _ c.digits_len-place.result c.loop-left.invariant c.take_piece-count.ensures.cut c.digits_len-place.ensures.digits),
+      (searched_other _ _ _ _ _ c.digits_len-place.result c.loop-left.invariant c.take_piece-piece.ensures c.digits_len-place.ensures.digits),
     )
 
 pub loop-left-preserved : goal.loop-left-preserved
 loop-left-preserved c =
-    searched_piece _ _ _ _ _ c.digits_len-place.result c.loop-left.invariant c.take_piece-count.ensures.cut c.digits_len-place.ensures.digits
-    (omega (arith, length-take c.take_piece-count.result c.take_piece-count.new.piece, c.if-place-count.false))
+    searched_piece _ _ _ _ _ c.digits_len-place.result c.loop-left.invariant c.take_piece-piece.ensures c.digits_len-place.ensures.digits
+    c.if-place-piece.false

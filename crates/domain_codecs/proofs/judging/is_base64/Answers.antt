@@ -16,14 +16,12 @@ loop-full-init c = passed_begin (concat (map (λ text. text.now) c.args.texts.no
 pub returns-in_default : goal.returns-in_default
 returns-in_default c = (
   λ no. (cc no),
-  λ is. absurd (refused_piece _ _ _ _ c.loop-full.invariant c.take_piece-count.ensures.cut _ c.in_default.ensures.err is),
+  λ is. absurd (refused_piece _ _ _ _ c.loop-full.invariant c.take_piece-piece.ensures _ c.in_default.ensures.err is),
 )
 
 pub returns-then-full-lt48 : goal.returns-then-full-lt48
 returns-then-full-lt48 c =
-    let size : c.take_piece.result ≡ length (take c.take_piece.result c.take_piece.new.piece) =
-    omega (arith, length-take c.take_piece.result c.take_piece.new.piece, c.take_piece.ensures.small) in
-    short_decides _ _ _ _ _ _ _ _ c.loop-full.invariant c.take_piece-count.ensures.cut c.take_piece.ensures.cut (ap (λ n. nat_eq n 0) size)
+    short_decides _ _ _ _ _ _ _ _ c.loop-full.invariant c.take_piece-piece.ensures c.take_piece.ensures c.is_empty.ensures
     c.in-Ok.ensures.ok.0 (omega (arith, length-take c.in-Ok.full c.decode_slice_unchecked.new.output))
 
 -- a piece that stands for no fewer than 48 octets stands for 48
@@ -35,5 +33,5 @@ loop-full-smaller c = grind (arith, common_steps, full_is_some)
 
 pub loop-full-preserved : goal.loop-full-preserved
 loop-full-preserved c =
-    full_goes_on _ _ _ _ _ c.loop-full.invariant c.take_piece-count.ensures.cut c.in-Ok.ensures.ok.0
+    full_goes_on _ _ _ _ _ c.loop-full.invariant c.take_piece-piece.ensures c.in-Ok.ensures.ok.0
     (full_piece (goal.at.loop-full-preserved c).Else-full-lt48)
