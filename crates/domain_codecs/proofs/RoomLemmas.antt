@@ -1,7 +1,7 @@
 -- room in a builder that is filled part by part
-use Rattle.std.proofs.{Common.{◌≡◌, ℕ, ◌+◌, List, ◌++◌, length, arith, Option, Result, Ok, Err}, lemmas.Grind.common_steps}
+use Rattle.std.proofs.{Common.{◌≡◌, ℕ, ◌+◌, List, ◌++◌, length, arith, Option, Result, Err}, lemmas.Grind.common_steps}
 use Rattle.std.specs.Prelude.{◌↔◌, IsErrOf, IsErrAnd, IfErr, IsNone}
-use Rattle.domain_octets.specs.{Limit.{IsOver, HasRoom}, declared.error.AppendError.{AppendError, TheVariants.{ShortBuf, OutOfMemory}}}
+use Rattle.domain_octets.specs.{Limit.{IsOver}, declared.error.AppendError.{AppendError, TheVariants.{ShortBuf, OutOfMemory}}}
 use Rattle.domain_codecs.specs.{declared.codec.Codec.Codec, Codec.{Decodes, BuildFault}}
 
 -- a part that is refused on the way to the octets of a text

@@ -1,5 +1,5 @@
 //! Base 32 with the extended hex alphabet, without padding (RFC 4648, section 7).
-ghost use Rattle.std.specs.Prelude.{◌≡◌, ◌+◌, ◌*◌, ◌/◌, ◌<◌, ◌≤◌, ◌∷◌, ◌++◌, [], ℕ, map, length, slice_index, take, drop, IfOk, IfErr, IfSome, IfNone, IsErrOf, ◌↔◌, string_bytes};
+ghost use Rattle.std.specs.Prelude.{◌≡◌, ◌+◌, ◌*◌, ◌/◌, ◌<◌, ◌≤◌, ◌∷◌, ◌++◌, [], map, length, slice_index, take, drop, IfOk, IfErr, IfSome, IfNone, IsErrOf, ◌↔◌, string_bytes};
 ghost use Rattle.std.specs.Fmt.{WritesOnOk};
 ghost use Rattle.domain_codecs.specs.Base32.{AreDigits, base32_from, base32_upper, base32_lower, upper_digit, lower_digit};
 ghost use Rattle.domain_codecs.specs.declared.codec.Codec.TheVariants as codec;

@@ -4,7 +4,7 @@ ghost use Rattle.std.specs.List.{concat};
 ghost use Rattle.domain_codecs.specs.Codec.{Decodes, IsText, HasNoRoom, BuildFault, DecodeFault};
 ghost use Rattle.domain_octets.specs.{Limit.HasRoom, Words.AreOctets};
 
-use crate::joined::Joined;
+use crate::joined::{Joined, over_eight};
 use crate::judging::{base32_digit, judge};
 use crate::{Codec, DecodeError};
 use base64::engine::general_purpose::STANDARD;
@@ -67,18 +67,16 @@ fn decode_piece(codec: Codec, piece: &[u8], octets: &mut [u8; 64]) -> usize
 fn build<B: EmptyBuilder + Drop>(
     alloc: Global,
     codec: Codec,
-    texts: &[&str],
+    text: &Joined<'_>,
 ) -> Result<B, AppendError>
-    requires text { IsText codec (concat (map (λ text. text.now) texts.now)) }
-    requires octets { AreOctets (concat (map (λ text. text.now) texts.now)) }
-    ensures ok { IfOk result (λ b.
-        Decodes codec (concat (map (λ text. text.now) texts.now)) (B.octets b)) }
+    requires text { IsText codec text.now }
+    requires octets { AreOctets text.now }
+    ensures ok { IfOk result (λ b. Decodes codec text.now (B.octets b)) }
     ensures room { IfOk result (λ b. HasRoom B.limit (length (B.octets b))) }
-    ensures err { IfErr result
-        (BuildFault codec B.limit (concat (map (λ text. text.now) texts.now))) }
+    ensures err { IfErr result (BuildFault codec B.limit text.now) }
 {
     let mut octets = B::empty(alloc);
-    let mut left = Joined::new(texts);
+    let mut left = text.fork();
     let mut buffer = [0u8; 64];
     let mut part = [0u8; 64];
     loop {
@@ -139,8 +137,9 @@ impl Codec {
         ensures room { IsErrOf result DecodeError.ShortBuf
             ↔ HasNoRoom self O.Builder.limit (concat (map (λ text. text.now) texts.now)) }
     {
-        judge(self, texts)?;
-        let builder = build::<O::Builder>(alloc, self, texts)?;
+        let text = Joined::new(texts);
+        judge(self, over_eight(texts), &text)?;
+        let builder = build::<O::Builder>(alloc, self, &text)?;
         Ok(O::from_builder(builder))
     }
 }

@@ -43,6 +43,16 @@ impl<'a> Joined<'a> {
         }
     }
 
+    /// The same characters, to be read once more.
+    pub(crate) fn fork(&self) -> Joined<'a>
+        ensures { result ≡ self.now }
+    {
+        Joined {
+            front: self.front,
+            texts: self.texts,
+        }
+    }
+
     /// Takes 64 characters, or all where there are fewer: those of one text as they stand there,
     /// and those of several in a buffer.
     pub(crate) fn take_piece<'b>(&mut self, buffer: &'b mut [u8; 64]) -> &'b [u8]

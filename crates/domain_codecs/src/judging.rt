@@ -1,13 +1,12 @@
 //! Whether a text stands for octets, and what is wrong with it.
-ghost use Rattle.std.specs.Prelude.{◌≡◌, ◌<◌, ◌≤◌, ◌%◌, ◌↔◌, false, IsTrue, IfErr, IfSome, IfNone, OnOk, Some, length, map, slice_index, take, unwrap_or};
-ghost use Rattle.std.specs.List.{AllPass, concat};
+ghost use Rattle.std.specs.Prelude.{◌≡◌, ◌<◌, ◌≤◌, ◌%◌, ◌↔◌, false, IsTrue, IfErr, IfSome, IfNone, OnOk, Some, length, slice_index, take, unwrap_or};
+ghost use Rattle.std.specs.List.{AllPass};
 ghost use Rattle.domain_codecs.specs.Codec.{base32_value, is_digit, IsFirstOther, IsText, TextFault};
-ghost use Rattle.domain_octets.specs.Words.{Octets, AreOctets};
+ghost use Rattle.domain_octets.specs.Words.{AreOctets};
 
-use crate::joined::{Joined, over_eight};
+use crate::joined::Joined;
 use crate::{Codec, DecodeError};
 use base64::engine::general_purpose::STANDARD;
-use domain_octets::{OctetSet, prefix_len};
 
 /// The value of a digit of Base 32 hex.
 fn base32_value(c: u8) -> Option<u8>
@@ -47,82 +46,26 @@ fn is_digit(codec: Codec, c: u8) -> bool
     }
 }
 
-/// The digits of Base 16.
-struct Base16Digits;
-
-impl OctetSet for Base16Digits {
-    ghost use Rattle.domain_codecs.specs.Codec.{is_digit};
-    ghost use Rattle.domain_codecs.specs.declared.codec.Codec.TheVariants as codec;
-
-    ghost has = { is_digit codec.Base16 };
-
-    fn contains(octet: u8) -> bool {
-        is_digit(Codec::Base16, octet)
-    }
-
-    fn is_usual(octet: u8) -> bool {
-        (octet >= b'0' && octet <= b'9')
-            | (octet >= b'A' && octet <= b'F')
-            | (octet >= b'a' && octet <= b'f')
-    }
-}
-
-/// The digits of Base 32 hex.
-struct Base32Digits;
-
-impl OctetSet for Base32Digits {
-    ghost use Rattle.domain_codecs.specs.Codec.{is_digit};
-    ghost use Rattle.domain_codecs.specs.declared.codec.Codec.TheVariants as codec;
-
-    ghost has = { is_digit codec.Base32Hex };
-
-    fn contains(octet: u8) -> bool {
-        is_digit(Codec::Base32Hex, octet)
-    }
-
-    fn is_usual(octet: u8) -> bool {
-        Self::contains(octet)
-    }
-}
-
-/// The characters of Base 64.
-struct Base64Characters;
-
-impl OctetSet for Base64Characters {
-    ghost use Rattle.domain_codecs.specs.Codec.{is_digit};
-    ghost use Rattle.domain_codecs.specs.declared.codec.Codec.TheVariants as codec;
-
-    ghost has = { is_digit codec.Base64 };
-
-    fn contains(octet: u8) -> bool {
-        is_digit(Codec::Base64, octet)
-    }
-
-    fn is_usual(octet: u8) -> bool {
-        Self::contains(octet)
-    }
-}
-
 /// How many characters of the codec's texts a text begins with.
 fn digits_len(codec: Codec, text: &[u8]) -> usize
     ensures within { result ≤ length text.now }
     ensures digits { AllPass (is_digit codec) (take result text.now) }
     ensures end { result < length text.now → is_digit codec (slice_index text.now result) ≡ false }
 {
-    match codec {
-        Codec::Base16 => prefix_len::<Base16Digits>(text),
-        Codec::Base32Hex => prefix_len::<Base32Digits>(text),
-        Codec::Base64 => prefix_len::<Base64Characters>(text),
+    for i in 0..text.len() {
+        if !is_digit(codec, text[i]) {
+            return i;
+        }
     }
+    text.len()
 }
 
 /// The first character of texts that stands in no text of the codec.
-fn first_other(codec: Codec, texts: &[&str]) -> Option<u8>
-    ensures some { IfSome result (IsFirstOther codec (concat (map (λ text. text.now) texts.now))) }
-    ensures none { IfNone result
-        (AllPass (is_digit codec) (concat (map (λ text. text.now) texts.now))) }
+fn first_other(codec: Codec, text: &Joined<'_>) -> Option<u8>
+    ensures some { IfSome result (IsFirstOther codec text.now) }
+    ensures none { IfNone result (AllPass (is_digit codec) text.now) }
 {
-    let mut left = Joined::new(texts);
+    let mut left = text.fork();
     let mut buffer = [0u8; 64];
     loop {
         let piece = left.take_piece(&mut buffer);
@@ -138,15 +81,15 @@ fn first_other(codec: Codec, texts: &[&str]) -> Option<u8>
 
 /// Whether texts stand for octets in Base 64 when they are joined: every 64 characters for 48
 /// octets, and the last for at most as many. So many are over a multiple of 8.
-fn is_base64(over: usize, texts: &[&str]) -> bool
-    requires over { over ≡ length (concat (map (λ text. text.now) texts.now)) % 8 }
-    requires octets { AreOctets (concat (map (λ text. text.now) texts.now)) }
-    ensures { IsTrue result ↔ IsText Codec.Base64 (concat (map (λ text. text.now) texts.now)) }
+fn is_base64(over: usize, text: &Joined<'_>) -> bool
+    requires over { over ≡ length text.now % 8 }
+    requires octets { AreOctets text.now }
+    ensures { IsTrue result ↔ IsText Codec.Base64 text.now }
 {
     if over % 4 != 0 {
         return false;
     }
-    let mut left = Joined::new(texts);
+    let mut left = text.fork();
     let mut buffer = [0u8; 64];
     let mut octets = [0u8; 48];
     loop {
@@ -162,16 +105,15 @@ fn is_base64(over: usize, texts: &[&str]) -> bool
 
 /// Refuses what is no text in Base 16: an odd number of digits, and then what is no digit. So many
 /// characters are over a multiple of 8.
-fn judge_base16(over: usize, texts: &[&str]) -> Result<(), DecodeError>
-    requires { over ≡ length (concat (map (λ text. text.now) texts.now)) % 8 }
-    ensures ok { OnOk result (IsText Codec.Base16 (concat (map (λ text. text.now) texts.now))) }
-    ensures err { IfErr result
-        (TextFault Codec.Base16 (concat (map (λ text. text.now) texts.now))) }
+fn judge_base16(over: usize, text: &Joined<'_>) -> Result<(), DecodeError>
+    requires { over ≡ length text.now % 8 }
+    ensures ok { OnOk result (IsText Codec.Base16 text.now) }
+    ensures err { IfErr result (TextFault Codec.Base16 text.now) }
 {
     if over % 2 == 1 {
         return Err(DecodeError::ShortInput);
     }
-    match first_other(Codec::Base16, texts) {
+    match first_other(Codec::Base16, text) {
         Some(c) => Err(DecodeError::IllegalChar(char::from(c))),
         None => Ok(()),
     }
@@ -179,13 +121,12 @@ fn judge_base16(over: usize, texts: &[&str]) -> Result<(), DecodeError>
 
 /// Refuses what is no text in Base 32 hex: what is no digit, and then a number of digits that no
 /// octets have. So many characters are over a multiple of 8.
-fn judge_base32(over: usize, texts: &[&str]) -> Result<(), DecodeError>
-    requires { over ≡ length (concat (map (λ text. text.now) texts.now)) % 8 }
-    ensures ok { OnOk result (IsText Codec.Base32Hex (concat (map (λ text. text.now) texts.now))) }
-    ensures err { IfErr result
-        (TextFault Codec.Base32Hex (concat (map (λ text. text.now) texts.now))) }
+fn judge_base32(over: usize, text: &Joined<'_>) -> Result<(), DecodeError>
+    requires { over ≡ length text.now % 8 }
+    ensures ok { OnOk result (IsText Codec.Base32Hex text.now) }
+    ensures err { IfErr result (TextFault Codec.Base32Hex text.now) }
 {
-    if let Some(c) = first_other(Codec::Base32Hex, texts) {
+    if let Some(c) = first_other(Codec::Base32Hex, text) {
         return Err(DecodeError::IllegalChar(char::from(c)));
     }
     if over == 1 || over == 3 || over == 6 {
@@ -196,32 +137,32 @@ fn judge_base32(over: usize, texts: &[&str]) -> Result<(), DecodeError>
 
 /// Refuses what is no text in Base 64, with its first character that no such text has, if any. So
 /// many characters are over a multiple of 8.
-fn judge_base64(over: usize, texts: &[&str]) -> Result<(), DecodeError>
-    requires over { over ≡ length (concat (map (λ text. text.now) texts.now)) % 8 }
-    requires octets { AreOctets (concat (map (λ text. text.now) texts.now)) }
-    ensures ok { OnOk result (IsText Codec.Base64 (concat (map (λ text. text.now) texts.now))) }
-    ensures err { IfErr result
-        (TextFault Codec.Base64 (concat (map (λ text. text.now) texts.now))) }
+fn judge_base64(over: usize, text: &Joined<'_>) -> Result<(), DecodeError>
+    requires over { over ≡ length text.now % 8 }
+    requires octets { AreOctets text.now }
+    ensures ok { OnOk result (IsText Codec.Base64 text.now) }
+    ensures err { IfErr result (TextFault Codec.Base64 text.now) }
 {
-    if is_base64(over, texts) {
+    if is_base64(over, text) {
         return Ok(());
     }
-    match first_other(Codec::Base64, texts) {
+    match first_other(Codec::Base64, text) {
         Some(c) => Err(DecodeError::IllegalChar(char::from(c))),
         None => Err(DecodeError::ShortInput),
     }
 }
 
-/// Refuses texts that are no text of the codec when they are joined. Takes no memory.
-pub(crate) fn judge(codec: Codec, texts: &[&str]) -> Result<(), DecodeError>
-    ensures ok { OnOk result (IsText codec (concat (map (λ text. text.now) texts.now))) }
-    ensures err { IfErr result (TextFault codec (concat (map (λ text. text.now) texts.now))) }
-    ensures octets { AreOctets (concat (map (λ text. text.now) texts.now)) }
+/// Refuses what is no text of the codec. So many characters are over a multiple of 8. Takes no
+/// memory.
+pub(crate) fn judge(codec: Codec, over: usize, text: &Joined<'_>) -> Result<(), DecodeError>
+    requires over { over ≡ length text.now % 8 }
+    requires octets { AreOctets text.now }
+    ensures ok { OnOk result (IsText codec text.now) }
+    ensures err { IfErr result (TextFault codec text.now) }
 {
-    let over = over_eight(texts);
     match codec {
-        Codec::Base16 => judge_base16(over, texts),
-        Codec::Base32Hex => judge_base32(over, texts),
-        Codec::Base64 => judge_base64(over, texts),
+        Codec::Base16 => judge_base16(over, text),
+        Codec::Base32Hex => judge_base32(over, text),
+        Codec::Base64 => judge_base64(over, text),
     }
 }

@@ -1,5 +1,5 @@
 //! The records of one owner after another.
-ghost use Rattle.std.specs.Prelude.{◌≡◌, ◌≤◌, ◌<◌, ◌↔◌, [], length, map, drop, Any, IsTrue};
+ghost use Rattle.std.specs.Prelude.{◌≡◌, ◌<◌, ◌↔◌, [], length, map, Any, IsTrue};
 ghost use Rattle.std.specs.Iterator.{item_count};
 ghost use Rattle.domain_names.specs.Name.{IsAtOrBelow};
 ghost use Rattle.domain_records.specs.{Slices.items_of, Runs.TakesRun};

@@ -1,5 +1,5 @@
 //! Records as text, those of type SOA first.
-ghost use Rattle.std.specs.Prelude.{◌≡◌, ◌∷◌, [], filter, OnOk};
+ghost use Rattle.std.specs.Prelude.{◌∷◌, [], filter, OnOk};
 ghost use Rattle.std.specs.{Bool.beq, Fmt.WritesText, List.FoldsTo};
 ghost use Rattle.domain_records.specs.Text.{is_soa, soa_first, WritesLine};
 

@@ -1,4 +1,4 @@
-use Rattle.std.{proofs.Common.{◌++◌, map, take, arith}, specs.List.concat}
+use Rattle.std.{proofs.Common.{◌++◌, take, arith}}
 use Rattle.domain_codecs.proofs.{RoomLemmas.{build_stops, handed_on}, JoinedLemmas.{ReadPieces, pieces_next, pieces_end}, CodecBackLemmas.decodes_once}
 use Rattle.domain_codecs.proofs.decoding.build.{Given.Over, Goals.After-decode_piece-count}
 use Rattle.domain_codecs.proofs.decoding.build.Goals as goal
@@ -14,7 +14,7 @@ decode_piece-count-requires-clause-text g c =
 
 -- the octets of the piece follow those that were built
 piece_read : (g : Over) (c : After-decode_piece-count g)
-    → ReadPieces c.args.codec (concat (map (λ text. text.now) c.args.texts.now)) c.take_piece-piece.new.self
+    → ReadPieces c.args.codec c.args.text.now c.take_piece-piece.new.self
     (g.B.Octets.octets c.loop-left.octets ++ take c.decode_piece-count.result c.decode_piece-count.new.octets)
 piece_read g c =
     let next = pieces_next _ _ _ _ _ _ c.loop-left.invariant.read c.take_piece-piece.ensures in

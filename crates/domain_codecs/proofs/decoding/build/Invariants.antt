@@ -1,11 +1,11 @@
-use Rattle.std.{proofs.Common.{length, map}, specs.List.concat}
+use Rattle.std.{proofs.Common.{length}}
 use Rattle.domain_octets.specs.Limit.{HasRoom}
 use Rattle.domain_codecs.proofs.JoinedLemmas.{ReadPieces}
 use Rattle.domain_codecs.proofs.decoding.build.Given as goal
 
 abbrev pub invariant-loop-left : goal.invariant-loop-left
 invariant-loop-left g l = record {
-  read : ReadPieces l.codec (concat (map (λ text. text.now) l.fn.texts)) l.left (g.B.Octets.octets l.octets);
+  read : ReadPieces l.codec l.fn.text l.left (g.B.Octets.octets l.octets);
   room : HasRoom g.B.OctetsBuilder.limit (length (g.B.Octets.octets l.octets));
 }
 

@@ -1,4 +1,4 @@
-use Rattle.std.{proofs.Common.{◌≡◌, nat_eq, ap, length, take, map, arith, length-take}, specs.List.concat}
+use Rattle.std.{proofs.Common.{◌≡◌, length, take, arith, length-take}}
 use Rattle.domain_codecs.proofs.JoinedLemmas.{passed_begin, no_group, refused_piece, short_decides, full_goes_on, full_is_some}
 use Rattle.domain_codecs.proofs.judging.is_base64.Goals.{Else-full-lt48}
 use Rattle.domain_codecs.proofs.judging.is_base64.Goals as goal
@@ -11,7 +11,7 @@ returns-then-over-ne0 c = (
 )
 
 pub loop-full-init : goal.loop-full-init
-loop-full-init c = passed_begin (concat (map (λ text. text.now) c.args.texts.now)) c.new-left.result c.new-left.ensures c.requires.octets
+loop-full-init c = passed_begin c.args.text.now c.fork-left.result c.fork-left.ensures c.requires.octets
 
 pub returns-in_default : goal.returns-in_default
 returns-in_default c = (
