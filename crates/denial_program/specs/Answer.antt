@@ -32,8 +32,8 @@ fault_of_zone signing_error.OutOfMemory = OutOfMemory
 fault_of_zone e = Signing e
 
 -- the answer is a chain that is such
-pub record IsReplyOf {K : Type 0} (reply : K → Reply) (is_such : K → Type 0) (answer : Reply) : Type 0
-  where
+pub record IsReplyOf {K : Type 0} (reply : K → Reply) (is_such : K → Type 0) (answer : Reply)
+  : Type 0 where
     pub made : K
     pub is : answer ≡ reply made
     pub chain : is_such made

@@ -24,7 +24,8 @@ abbrev pub AreGiven : {R : Type 0} → (Octets → R → Type 0) → List Octets
 AreGiven is_of [] given = given ≡ []
 AreGiven {R} is_of (line ∷ more) given =
     (IsSkipped (words line) × AreGiven is_of more given)
-    ⊎ ((r : R) × (others : List R) × (given ≡ r ∷ others) × is_of line r × AreGiven is_of more others)
+    ⊎ ((r : R) × (others : List R) × (given ≡ r ∷ others) × is_of line r
+    × AreGiven is_of more others)
 
 -- the records that the lines give
 abbrev pub Give : List Octets → List RawRecord → Type 0

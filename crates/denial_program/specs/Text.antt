@@ -15,7 +15,8 @@ use Rattle.denial_program.specs.{Check.verdict_text, declared.answer.Reply.{Repl
 abbrev pub record_line : {D : Type 0} → ℕ → (D → Octets) → Record Name D → Octets
 record_line rtype data_text r =
     (name_text r.owner ++ codes ".") ++ (codes " " ++ (decimal r.ttl ++ (codes " "
-    ++ (class_text r.class ++ (codes " " ++ (type_text rtype ++ (codes " " ++ data_text r.«data»)))))))
+    ++ (class_text r.class ++ (codes " " ++ (type_text rtype
+    ++ (codes " " ++ data_text r.«data»)))))))
 
 -- the record of a link, with the next name, its last dot, and the types
 abbrev pub nsec_line : Link → Octets

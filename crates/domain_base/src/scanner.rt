@@ -180,7 +180,7 @@ where
         let Some(token) = self.first_token() else {
             return Err(ScanError::EndOfEntry);
         };
-        let octets = convert(alloc, codec, token);
+        let octets = codec.decode(alloc, token).map_err(refusal);
         self.skip_token();
         octets
     }
@@ -188,10 +188,7 @@ where
     fn convert_entry(&mut self, alloc: Global, codec: Codec) -> Result<O, ScanError> {
         let tokens = self.left;
         self.left = &[];
-        match tokens {
-            [token] => convert(alloc, codec, token),
-            _ => convert_joined(alloc, codec, tokens),
-        }
+        codec.decode_joined(alloc, tokens).map_err(refusal)
     }
 }
 
@@ -206,41 +203,6 @@ fn refusal(error: DecodeError) -> ScanError
         DecodeError::ShortInput => ScanError::Custom("illegal data"),
         DecodeError::ShortBuf => ScanError::ShortBuf,
         DecodeError::OutOfMemory => ScanError::OutOfMemory,
-    }
-}
-
-/// The octets that a text stands for.
-fn convert<O: FromBuilder>(alloc: Global, codec: Codec, text: &str) -> Result<O, ScanError>
-where
-    O::Builder: EmptyBuilder + Drop,
-    ensures ok { IfOk result (λ octets. Decodes codec text.now (O.octets octets)) }
-    ensures err { IfErr result (λ e. CodecFault codec O.Builder.limit (scan_fault_of e) text.now) }
-    ensures room { IsErrOf result ScanError.ShortBuf ↔ HasNoRoom codec O.Builder.limit text.now }
-{
-    match codec.decode(alloc, text) {
-        Ok(octets) => Ok(octets),
-        Err(error) => Err(refusal(error)),
-    }
-}
-
-/// The octets that tokens stand for when they are joined.
-fn convert_joined<O: FromBuilder>(
-    alloc: Global,
-    codec: Codec,
-    tokens: &[&str],
-) -> Result<O, ScanError>
-where
-    O::Builder: EmptyBuilder + Drop,
-    ensures ok { IfOk result (λ octets.
-        Decodes codec (concat (map (λ token. token.now) tokens.now)) (O.octets octets)) }
-    ensures err { IfErr result (λ e. EntryFault codec O.Builder.limit (scan_fault_of e)
-        (map (λ token. token.now) tokens.now)) }
-    ensures room { IsErrOf result ScanError.ShortBuf
-        ↔ HasNoRoom codec O.Builder.limit (concat (map (λ token. token.now) tokens.now)) }
-{
-    match codec.decode_joined(alloc, tokens) {
-        Ok(octets) => Ok(octets),
-        Err(error) => Err(refusal(error)),
     }
 }
 

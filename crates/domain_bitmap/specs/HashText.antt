@@ -34,7 +34,8 @@ pub record StandsForTooMany (codec : Codec) (limit : Option ℕ) (text : Octets)
 abbrev pub SaltFault : Option ℕ → Octets → Nsec3SaltFromStrError → Type 0
 SaltFault limit text (refusal.DecodeError error) =
     (text ≢ codes "-") × DecodeFault Base16 limit text error
-SaltFault limit text (refusal.Nsec3SaltError error) = (text ≢ codes "-") × StandsForTooMany Base16 limit text
+SaltFault limit text (refusal.Nsec3SaltError error) =
+    (text ≢ codes "-") × StandsForTooMany Base16 limit text
 
 -- what the error says
 abbrev pub salt_error_text : Nsec3SaltFromStrError → Octets

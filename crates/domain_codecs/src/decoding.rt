@@ -90,14 +90,17 @@ fn build<B: EmptyBuilder + Drop>(
 }
 
 /// The octets of a text in Base 16 that has at most 64 digits, in a buffer; None for all others.
-fn few_octets<'a>(codec: Codec, text: &[u8], buffer: &'a mut [u8; 32]) -> Option<&'a [u8]>
+fn few_octets<'a>(codec: Codec, text: &Joined<'_>, buffer: &'a mut [u8; 32]) -> Option<&'a [u8]>
     ensures { IfSome result (λ octets. Decodes codec text.now octets.now) }
 {
-    if codec != Codec::Base16 || text.len() > 64 {
+    let mut left = text.fork();
+    let mut digits = [0u8; 64];
+    let piece = left.take_piece(&mut digits);
+    if codec != Codec::Base16 || !left.is_empty() {
         return None;
     }
-    let part = &mut buffer[..text.len() / 2];
-    if hex::decode_to_slice(text, part).is_err() {
+    let part = &mut buffer[..piece.len() / 2];
+    if hex::decode_to_slice(piece, part).is_err() {
         return None;
     }
     Some(part)
@@ -115,9 +118,6 @@ impl Codec {
         ensures room { IsErrOf result DecodeError.ShortBuf
             ↔ HasNoRoom self O.Builder.limit text.now }
     {
-        if let Some(octets) = few_octets(self, text.as_bytes(), &mut [0; 32]) {
-            return Ok(O::from_octets(alloc, octets)?);
-        }
         self.decode_joined(alloc, &[text])
     }
 
@@ -138,6 +138,9 @@ impl Codec {
             ↔ HasNoRoom self O.Builder.limit (concat (map (λ text. text.now) texts.now)) }
     {
         let text = Joined::new(texts);
+        if let Some(octets) = few_octets(self, &text, &mut [0; 32]) {
+            return Ok(O::from_octets(alloc, octets)?);
+        }
         judge(self, over_eight(texts), &text)?;
         let builder = build::<O::Builder>(alloc, self, &text)?;
         Ok(O::from_builder(builder))

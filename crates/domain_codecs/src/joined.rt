@@ -1,5 +1,5 @@
 //! Texts that are read one after another, as one text.
-ghost use Rattle.std.specs.Prelude.{◌≡◌, ◌+◌, ◌≤◌, ◌%◌, ◌++◌, [], ℕ, length, map, take};
+ghost use Rattle.std.specs.Prelude.{◌≡◌, IsTrue, ◌+◌, ◌≤◌, ◌%◌, ◌++◌, [], ℕ, length, map, take};
 ghost use Rattle.std.specs.List.{concat};
 ghost use Rattle.domain_codecs.specs.Cut.{Cut};
 ghost use Rattle.domain_octets.specs.Words.{Octets, AreOctets};
@@ -51,6 +51,13 @@ impl<'a> Joined<'a> {
             front: self.front,
             texts: self.texts,
         }
+    }
+
+    /// Whether it is told that none are left.
+    pub(crate) fn is_empty(&self) -> bool
+        ensures { IsTrue result → self.now ≡ [] }
+    {
+        self.front.is_empty() && self.texts.is_empty()
     }
 
     /// Takes 64 characters, or all where there are fewer: those of one text as they stand there,

@@ -13,6 +13,7 @@ ghost use Rattle.domain_octets.specs.{Line.IsWord, Words.{Octets, AreOctets}};
 /// Texts are in the lexicographic order of their octets, of whatever lengths those are (RFC 4648,
 /// section 7). So the owners of NSEC3 records are in the order of their hashes (RFC 5155,
 /// section 3).
+#[tactic(auto, using(crate::proofs::OrderLemmas::lower_keeps, crate::proofs::OrderLemmas::upper_keeps))]
 pub fn base32_keeps_order()
     ensures lower { (x y : Octets) → AreOctets x → AreOctets y
         → slice_cmp nat_cmp (base32_lower x) (base32_lower y) ≡ slice_cmp nat_cmp x y }
@@ -52,6 +53,7 @@ pub fn texts_stand_for_octets_once()
 {}
 
 /// A decimal number is one word, and so is what some octets are written as in a codec.
+#[tactic(auto, using(domain_octets::proofs::WordLemmas::decimal_word, crate::proofs::NoSpaceLemmas::lower_hex_word, crate::proofs::NoSpaceLemmas::upper_hex_word, crate::proofs::NoSpaceLemmas::lower_base32_word, crate::proofs::NoSpaceLemmas::upper_base32_word, crate::proofs::NoSpaceLemmas::base64_word))]
 pub fn texts_are_words()
     ensures decimal { (n : ℕ) → n < 2 ^ 64 → IsWord (decimal n) }
     ensures base16_lower { (octets : Octets) → octets ≢ [] → IsWord (encode_lower octets) }
@@ -63,6 +65,7 @@ pub fn texts_are_words()
 
 /// The digits that texts in Base 32 are made of are the groups of five of the bits of the octets,
 /// the last filled with zero bits (RFC 4648, section 6).
+#[tactic(auto, using(crate::proofs::BitGroupLemmas::digits_are_groups))]
 pub fn base32_digits_are_groups_of_bits()
     ensures { (octets : Octets) → AreOctets octets
         → flat_map digit_bits (base32_from 1 0 octets) ≡ filled_bits octets }

@@ -53,8 +53,8 @@ IsCoverAt R None cover = cover ≡ None
 IsCoverAt R (Some v) cover =
     (place : ℕ) × (cover ≡ Some place) × IsOfHash R.apex R.parameters R.links v place false
 
--- the record at this place is the only one of the links that matches the closest encloser, the first
--- of x and its ancestors at or below the apex that is matched
+-- the record at this place is the only one of the links that matches the closest encloser, the
+-- first of x and its ancestors at or below the apex that is matched
 pub record IsSoleMatch (R : HashedRecords) (x : Name) (place : ℕ) : Type 0 where
   pub name : Name
   pub above : is_at_or_below x name ≡ true
@@ -64,8 +64,8 @@ pub record IsSoleMatch (R : HashedRecords) (x : Name) (place : ℕ) : Type 0 whe
   pub known : hash_name R.hash name ≡ Ok value
   pub of : IsOfHash R.apex R.parameters R.links value place true
 
--- so is that at the place of an encloser, which has as many labels, and the cover is that of the next
--- closer name
+-- so is that at the place of an encloser, which has as many labels, and the cover is that of the
+-- next closer name
 pub record IsPlaced (R : HashedRecords) (x : Name) (f : PlacedEncloser) : Type 0 where
   pub sole : IsSoleMatch R x f.place
   pub counts : f.count ≡ length sole.name

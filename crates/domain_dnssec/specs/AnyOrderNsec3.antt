@@ -12,7 +12,8 @@ use Rattle.domain_dnssec.specs.{AnyOrder.{HasNone, OfZone, ZoneHasNone}, declare
 -- the zone has no NSEC3 chain for this reason; want of memory says that it has no fault but, where
 -- it has one, a fault of hashing
 abbrev pub ZoneHasNoHashedChain : List ZoneRecord → Name → ChainConfig → ChainError → Type 0
-ZoneHasNoHashedChain L apex config = ZoneHasNone (IsFirstFault L apex config) (IsReady L apex config)
+ZoneHasNoHashedChain L apex config =
+    ZoneHasNone (IsFirstFault L apex config) (IsReady L apex config)
 
 -- these are the chain and the NSEC3PARAM record of the zone
 abbrev pub IsWholeHashedChain : List ZoneRecord → Name → ChainConfig → Nsec3ParamTtlMode

@@ -11,6 +11,7 @@ ghost use Rattle.domain_fields.specs.Layout.{Ends, ParsesBack, splits, is_delimi
 ghost use Rattle.domain_fields.specs.Layout.{canonical_order};
 
 /// Octets begin with data of given fields in one way at most, and in none where they have a fault.
+#[tactic(auto, using(crate::proofs::ExactLemmas::one_reading, crate::proofs::ExactLemmas::fault_excludes))]
 pub fn reading_is_exact()
     ensures one { (l : Layout) (octets : Octets) (v w : Values l) (r s : Octets) → splits l ≡ true
         → Begins l octets v r → Begins l octets w s → (v ≡ w) × (r ≡ s) }
@@ -19,18 +20,21 @@ pub fn reading_is_exact()
 {}
 
 /// Octets have one first fault at most.
+#[tactic(auto, using(crate::proofs::FaultLemmas::one_fault))]
 pub fn octets_have_one_first_fault()
     ensures { (l : Layout) (octets : Octets) (x y : Fault) → FirstFault l octets x
         → FirstFault l octets y → splits l ≡ true → x ≡ y }
 {}
 
 /// Octets that were composed of values that fit parse back to these values, and nothing is left.
+#[tactic(auto, using(crate::proofs::ExactLemmas::parses_back))]
 pub fn composed_data_parses_back()
     ensures { (l : Layout) (v : Values l) → splits l ≡ true → Fits l v → Ends l v []
         → ParsesBack l v }
 {}
 
 /// In the order of canonical octets earlier fields decide before later ones.
+#[tactic(auto, using(crate::proofs::OrderLemmas::order_both))]
 pub fn fields_decide_in_order()
     ensures { (a b : Layout) (v w : Values a) (x y : Values b) → is_delimited a ≡ true
         → Fits a v → Fits a w
@@ -40,6 +44,7 @@ pub fn fields_decide_in_order()
 
 /// Tokens begin with the values of a list of fields in one way at most: the values and the tokens
 /// that are left are determined (RFC 1035, section 5.1).
+#[tactic(auto, using(crate::proofs::ScanLemmas::scans_once, crate::proofs::ScanLemmas::scans_left))]
 pub fn tokens_spell_values_once()
     ensures values { (l : Layout) (old m n : Tokens) (v w : Values l) → Scans l old v m
         → Scans l old w n → v ≡ w }
@@ -68,6 +73,7 @@ pub fn tokens_have_one_first_fault()
 
 /// What numbers and names are written as, a token each, is read as these values, and what follows
 /// is left. Each of these tokens is one word.
+#[tactic(auto, using(crate::proofs::ReadBackLemmas::fields_back, crate::proofs::ReadBackLemmas::fields_words))]
 pub fn fields_are_read_back()
     ensures values { (l : Layout) (v : Values l) (after : Tokens) → is_printed l ≡ true → Fits l v
         → Scans l (printed l v ++ after) v after }

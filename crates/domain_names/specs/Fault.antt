@@ -25,15 +25,20 @@ name_fault_of name_error.LongName = malformed (codes "long domain name")
 -- before them
 pub data NameFault : ℕ → Octets → Fault → Type 0 where
   no_octet : {used : ℕ} → NameFault used [] ends_early
-  bad_label : {used : ℕ} (len : ℕ) (after : Octets) → 63 < len → NameFault used (len ∷ after) (malformed (codes "compressed or bad label"))
+  bad_label : {used : ℕ} (len : ℕ) (after : Octets) → 63 < len
+      → NameFault used (len ∷ after) (malformed (codes "compressed or bad label"))
   long_name : {used : ℕ} (len : ℕ) (after : Octets) → 0 < len → len ≤ 63 → 255 < used + len + 2
       → NameFault used (len ∷ after) (malformed (codes "long domain name"))
-  cut_label : {used : ℕ} (len : ℕ) (after : Octets) → 0 < len → len ≤ 63 → used + len + 2 ≤ 255 → length after < len
-      → NameFault used (len ∷ after) ends_early
-  past_label : {used : ℕ} (label : Label) (after : Octets) (fault : Fault) → 0 < length label → length label ≤ 63 → used + length label + 2 ≤ 255
-      → NameFault (used + length label + 1) after fault → NameFault used (length label ∷ (label ++ after)) fault
+  cut_label : {used : ℕ} (len : ℕ) (after : Octets) → 0 < len → len ≤ 63
+      → used + len + 2 ≤ 255 → length after < len → NameFault used (len ∷ after) ends_early
+  past_label : {used : ℕ} (label : Label) (after : Octets) (fault : Fault) → 0 < length label
+      → length label ≤ 63 → used + length label + 2 ≤ 255
+      → NameFault (used + length label + 1) after fault
+      → NameFault used (length label ∷ (label ++ after)) fault
 
 -- the first fault in octets that are to be a name and nothing more
 pub data WholeNameFault : Octets → Fault → Type 0 where
-  in_name : (octets : Octets) (fault : Fault) → NameFault 0 octets fault → WholeNameFault octets fault
-  trailing : (labels : Name) (after : Octets) → IsName labels → after ≢ [] → WholeNameFault (wire_of labels ++ after) (malformed (codes "trailing data"))
+  in_name : (octets : Octets) (fault : Fault) → NameFault 0 octets fault
+      → WholeNameFault octets fault
+  trailing : (labels : Name) (after : Octets) → IsName labels → after ≢ []
+      → WholeNameFault (wire_of labels ++ after) (malformed (codes "trailing data"))

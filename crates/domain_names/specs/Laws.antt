@@ -16,15 +16,19 @@ module _ {X : Type 0} {R : X → X → Ordering} (total : IsTotalOrder R) where
   front_first (x ∷ front) rest = rw (tied_itself total x) (front_first front rest)
 
   module _ (exact : IsAntisymmetric R) where
-    between : (front low high y : List X) → is_gt (slice_cmp R (front ++ low) y) ≡ false → is_gt (slice_cmp R y (front ++ high)) ≡ false
-        → (rest : List X) × (y ≡ front ++ rest)
+    between : (front low high y : List X) → is_gt (slice_cmp R (front ++ low) y) ≡ false
+        → is_gt (slice_cmp R y (front ++ high)) ≡ false → (rest : List X) × (y ≡ front ++ rest)
     between [] low high y above below = (y, refl)
     between (x ∷ front) low high [] above below = absurd (cc)
     between (x ∷ front) low high (b ∷ y) above below =
-        elim (R x b) as (λ r. R x b ≡ r → is_gt (ordering_then r (slice_cmp R (front ++ low) y)) ≡ false
-        → is_gt (ordering_then (ordering_reverse r) (slice_cmp R y (front ++ high))) ≡ false → (rest : List X) × (b ∷ y ≡ x ∷ (front ++ rest))) [
+        elim (R x b) as (λ r. R x b ≡ r
+        → is_gt (ordering_then r (slice_cmp R (front ++ low) y)) ≡ false
+        → is_gt (ordering_then (ordering_reverse r) (slice_cmp R y (front ++ high))) ≡ false
+        → (rest : List X) × (b ∷ y ≡ x ∷ (front ++ rest))) [
           | Less ↦ λ is up down. absurd (cc)
-          | Equal ↦ λ is up down. let found = between front low high y up down in (found.0, λ i. sym (exact x b is) i ∷ found.1 i)
+          | Equal ↦ λ is up down.
+              let found = between front low high y up down in
+              (found.0, λ i. sym (exact x b is) i ∷ found.1 i)
           | Greater ↦ λ is up down. absurd (cc)
         ] refl above (rw (← total.antisymm b x) below)
 
@@ -32,32 +36,41 @@ labels_exact : IsAntisymmetric (slice_cmp nat_cmp)
 labels_exact = slice_cmp-IsAntisymmetric nat_cmp-IsAntisymmetric
 
 -- from the root, what stands above comes first
-pub from_root-below : (name above : Name) (below : IsAtOrBelow name above) → from_root name ≡ from_root above ++ reverse below.front
-from_root-below name above below = ap reverse below.joined ∙ reverse-append below.front (lowered above)
+pub from_root-below : (name above : Name) (below : IsAtOrBelow name above)
+    → from_root name ≡ from_root above ++ reverse below.front
+from_root-below name above below =
+    ap reverse below.joined ∙ reverse-append below.front (lowered above)
 
-pub below-from_root : (name above rest : Name) → from_root name ≡ from_root above ++ rest → IsAtOrBelow name above
+pub below-from_root : (name above rest : Name) → from_root name ≡ from_root above ++ rest
+    → IsAtOrBelow name above
 below-from_root name above rest is = record {
   front = reverse rest;
-  joined = sym (reverse-reverse (lowered name)) ∙ ap reverse is ∙ reverse-append (from_root above) rest
+  joined = sym (reverse-reverse (lowered name)) ∙ ap reverse is
+      ∙ reverse-append (from_root above) rest
       ∙ ap (λ l. reverse rest ++ l) (reverse-reverse (lowered above));
 }
 
 pub ancestor_first : (name above : Name) → IsAtOrBelow name above → IsUpTo above name
 unfolding canonical_cmp
-ancestor_first name above below = rw (from_root-below name above below) (front_first nat_list_cmp_total (from_root above) (reverse below.front))
+ancestor_first name above below = rw (from_root-below name above below)
+    (front_first nat_list_cmp_total (from_root above) (reverse below.front))
 
-pub between_names : (above x y z : Name) → IsAtOrBelow x above → IsAtOrBelow z above → IsUpTo x y → IsUpTo y z → IsAtOrBelow y above
+pub between_names : (above x y z : Name) → IsAtOrBelow x above → IsAtOrBelow z above
+    → IsUpTo x y → IsUpTo y z → IsAtOrBelow y above
 unfolding canonical_cmp
 between_names above x y z x_below z_below x_y y_z =
-    let found = between nat_list_cmp_total labels_exact (from_root above) (reverse x_below.front) (reverse z_below.front) (from_root y)
-    (rw (← from_root-below x above x_below) x_y) (rw (← from_root-below z above z_below) y_z) in
+    let found = between nat_list_cmp_total labels_exact (from_root above) (reverse x_below.front)
+    (reverse z_below.front) (from_root y) (rw (← from_root-below x above x_below) x_y)
+    (rw (← from_root-below z above z_below) y_z) in
     below-from_root y above found.0 found.1
 
 -- names that the order does not tell apart are the same
 pub tied_same : (x y : Name) → canonical_cmp x y ≡ Equal → lowered x ≡ lowered y
 unfolding canonical_cmp
 tied_same x y tie =
-    sym (reverse-reverse (lowered x)) ∙ ap reverse (slice_cmp-IsAntisymmetric labels_exact (from_root x) (from_root y) tie) ∙ reverse-reverse (lowered y)
+    sym (reverse-reverse (lowered x))
+    ∙ ap reverse (slice_cmp-IsAntisymmetric labels_exact (from_root x) (from_root y) tie)
+    ∙ reverse-reverse (lowered y)
 
 pub same_tied : (x y : Name) → lowered x ≡ lowered y → canonical_cmp x y ≡ Equal
 unfolding canonical_cmp

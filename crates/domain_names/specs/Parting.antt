@@ -26,7 +26,8 @@ abbrev pub order_below : Option Label → Option Label → Option Ordering
 order_below None None = Some Equal
 order_below None (Some y) = Some Less
 order_below (Some x) None = Some Greater
-order_below (Some x) (Some y) = unless_tied (slice_cmp nat_cmp (map to_ascii_lowercase x) (map to_ascii_lowercase y))
+order_below (Some x) (Some y) =
+    unless_tied (slice_cmp nat_cmp (map to_ascii_lowercase x) (map to_ascii_lowercase y))
 
 -- both have so many octets, and the last so many of both are the same
 pub record EndAlike (a b : Octets) (count : ℕ) : Type 0 where

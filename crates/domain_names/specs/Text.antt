@@ -21,19 +21,24 @@ decimal_at a [] = None
 -- itself
 abbrev pub escape_at : Octets → Option (ℕ × ℕ)
 escape_at [] = None
-escape_at (a ∷ text) = if is_ascii_digit a then decimal_at a text else (if is_printable a then Some (a, 2) else None)
+escape_at (a ∷ text) =
+    if is_ascii_digit a then decimal_at a text
+    else (if is_printable a then Some (a, 2) else None)
 
 -- the octet that a text within a label begins with, and how many characters spell it
 unfoldable pub symbol_at : Octets → Option (ℕ × ℕ)
 symbol_at [] = None
-symbol_at (c ∷ text) = if c == backslash then escape_at text else (if (is_printable c && not (c == dot)) then Some (c, 1) else None)
+symbol_at (c ∷ text) =
+    if c == backslash then escape_at text
+    else (if (is_printable c && not (c == dot)) then Some (c, 1) else None)
 
 -- the text begins with the text of this label, up to the first place where no octet of a label
 -- stands: at its end, at a dot, and at what is wrong there; that and the rest follow it
 pub data LabelText : Octets → Label → Octets → Type 0 where
   ends : (text : Octets) → symbol_at text ≡ None → LabelText text [] text
-  octet : (text : Octets) (label : Label) (after : Octets) (c used : ℕ) → symbol_at text ≡ Some (c, used)
-      → LabelText (drop used text) label after → LabelText text (c ∷ label) after
+  octet : (text : Octets) (label : Label) (after : Octets) (c used : ℕ)
+      → symbol_at text ≡ Some (c, used) → LabelText (drop used text) label after
+      → LabelText text (c ∷ label) after
 
 -- the text begins with no label of at most 63 octets
 abbrev pub HasNoLabel : Octets → Type 0
@@ -41,7 +46,8 @@ HasNoLabel text = (label : Label) (after : Octets) → LabelText text label afte
 
 -- the text begins with no label that can stand after these octets of a name
 abbrev pub HasNoLabelAfter : Octets → Octets → Type 0
-HasNoLabelAfter wire text = (label : Label) (after : Octets) → LabelText text label after → IsLabel label → 255 ≤ length wire + length label
+HasNoLabelAfter wire text = (label : Label) (after : Octets) → LabelText text label after
+    → IsLabel label → 255 ≤ length wire + length label
 
 -- a dot, and then the next text; or nothing, and no next text
 abbrev pub IsBefore : Octets → Octets → Type 0
@@ -49,15 +55,17 @@ IsBefore next after = (after ≡ dot ∷ next) ⊎ ((after ≡ []) × (next ≡ 
 
 -- labels of one to 63 octets with dots between them, leaf first, with or without a last dot
 pub data LabelTexts : Octets → Name → Type 0 where
-  last : (text : Octets) (label : Label) (after : Octets) → LabelText text label after → IsLabel label → IsBefore [] after
-      → LabelTexts text (label ∷ [])
-  dotted : (text : Octets) (label : Label) (after : Octets) (labels : Name) → LabelText text label (dot ∷ after) → IsLabel label
-      → LabelTexts after labels → LabelTexts text (label ∷ labels)
+  last : (text : Octets) (label : Label) (after : Octets) → LabelText text label after
+      → IsLabel label → IsBefore [] after → LabelTexts text (label ∷ [])
+  dotted : (text : Octets) (label : Label) (after : Octets) (labels : Name)
+      → LabelText text label (dot ∷ after) → IsLabel label → LabelTexts after labels
+      → LabelTexts text (label ∷ labels)
 
 -- the text is a name: the root is a dot
 pub data NameText : Octets → Name → Type 0 where
   root : NameText (dot ∷ []) []
-  of_labels : (text : Octets) (labels : Name) → LabelTexts text labels → IsName labels → NameText text labels
+  of_labels : (text : Octets) (labels : Name) → LabelTexts text labels → IsName labels
+      → NameText text labels
 
 -- no name has this text
 abbrev pub IsNoName : Octets → Type 0
@@ -66,7 +74,8 @@ IsNoName text = (labels : Name) → NameText text labels → ⊥
 -- a character that has a meaning of its own: " $ ( ) . ; @ \
 abbrev pub is_special : ℕ → Bool
 is_special c =
-    c == quote || c == dollar || c == left_parenthesis || c == right_parenthesis || c == dot || c == semicolon || c == at_sign || c == backslash
+    c == quote || c == dollar || c == left_parenthesis || c == right_parenthesis || c == dot
+    || c == semicolon || c == at_sign || c == backslash
 
 -- a character that is written as it is
 abbrev pub is_ordinary : ℕ → Bool
@@ -77,7 +86,8 @@ unfoldable pub octet_text : ℕ → Octets
 octet_text c =
     if is_special c then backslash ∷ c ∷ []
     else (if is_ascii_graphic c then c ∷ []
-    else backslash ∷ (digit_zero + c / 100) ∷ (digit_zero + c / 10 % 10) ∷ (digit_zero + c % 10) ∷ [])
+    else backslash ∷ (digit_zero + c / 100) ∷ (digit_zero + c / 10 % 10)
+    ∷ (digit_zero + c % 10) ∷ [])
 
 abbrev pub label_text : Label → Octets
 label_text = flat_map octet_text

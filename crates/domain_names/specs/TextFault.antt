@@ -36,5 +36,6 @@ IsOfTokens limit no_memory = ⊥
 abbrev pub NameTextFault : Option ℕ → ScanFault → Octets → Type 0
 NameTextFault limit entry_ends text = ⊥
 NameTextFault limit (illegal said) text = (said ≡ codes "illegal name") × IsNoName text
-NameTextFault limit no_room text = (labels : Name) × NameText text labels × IsOver limit (length (wire_of labels))
+NameTextFault limit no_room text =
+    (labels : Name) × NameText text labels × IsOver limit (length (wire_of labels))
 NameTextFault limit no_memory text = ((labels : Name) × NameText text labels) × IsNone limit

@@ -4,6 +4,7 @@ ghost use Rattle.domain_octets.specs.{Characters.space, Line.{words_of, IsWord}}
 ghost use Rattle.domain_octets.specs.Words.{Octets, AreOctets};
 
 /// The words of a line are the tokens that it was made of.
+#[tactic(auto, using(crate::proofs::WordLemmas::joined_words))]
 pub fn lines_are_read_back()
     ensures { (tokens : List Octets) → AllByRecursion IsWord tokens
         → words_of (join_with_byte space tokens) ≡ tokens }

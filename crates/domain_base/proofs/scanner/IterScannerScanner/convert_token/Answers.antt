@@ -8,4 +8,4 @@ returns-in_default-clause-err g c = grind (arith, common_steps, no_token)
 pub returns-clause-err : goal.returns-clause-err
 returns-clause-err g c =
     let first = c.in-Some.ensures in
-    refused_token _ _ _ first.0 _ _ first.1 c.skip_token.ensures c.convert-octets.ensures.err
+    refused_token _ _ _ first.0 _ _ first.1 c.skip_token.ensures (grind (arith, common_steps))
