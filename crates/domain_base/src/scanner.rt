@@ -6,7 +6,7 @@ ghost use Rattle.domain_names.specs.TextFault.{ScanFault, scan_fault_of, NameTex
 ghost use Rattle.domain_names.specs.{Text.NameText, Words.{Tokens, Token}};
 ghost use Rattle.domain_base.specs.Scan.{TakesToken, RefusesToken, CodecFault, TokenHasNoRoom};
 ghost use Rattle.domain_base.specs.Scan.{EntryFault, IsEnd};
-ghost use Rattle.domain_codecs.specs.Codec.{Decodes, HasNoRoom, DecodeFault};
+ghost use Rattle.domain_codecs.specs.Codec.{Decodes, DecodeFault};
 ghost use Rattle.domain_octets.specs.{Limit.HasRoom, Words.Octets};
 
 use domain_codecs::{Codec, DecodeError};
