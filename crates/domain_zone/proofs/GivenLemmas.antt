@@ -6,7 +6,7 @@ use Rattle.domain_record.specs.declared.record.Record.{Record}
 use Rattle.domain_records.specs.Order.{MayFollow, HoldsPairwise, IsInOrder}
 use Rattle.domain_zone.specs.{Owners.{OwnerRecords, owner_at, owners_with_records}, View.as_zone_record}
 use Rattle.domain_zone.specs.Zone.{ZoneRecord, records_of, unoccluded_owners, has_clash, has_unequal_ttls}
-use Rattle.domain_zone.proofs.{NameLemmas.{one_lowered, same_itself}, OwnerLemmas.filter_passes, TtlLemmas.NeverDescend, ZoneLemmas.{all_front, any_map}}
+use Rattle.domain_zone.proofs.{NameLemmas.{one_lowered, same_itself}, OwnerLemmas.filter_passes, TtlLemmas.NeverDescend, ZoneLemmas.{all_front, all_map, any_map, weaker}, PairLemmas.all_from_in}
 
 abbrev pub name_of : OwnerRecords → Name
 name_of o = o.name
@@ -15,8 +15,7 @@ abbrev pub clashes_in : OwnerRecords → Bool
 clashes_in o = has_clash o.records
 
 all_known : (L : List ZoneRecord) (a : Name) (ks : List Name) → AllByRecursion (λ o. o ≡ owner_at L a o.name) (map (owner_at L a) ks)
-all_known L a [] = tt
-all_known L a (k ∷ ks) = (refl, all_known L a ks)
+all_known L a ks = all_map _ (owner_at L a) ks (all_from_in _ ks (λ k i. refl))
 
 names_again : (L : List ZoneRecord) (a : Name) (ks : List Name) → map name_of (map (owner_at L a) ks) ≡ ks
 names_again L a [] = refl
@@ -52,25 +51,16 @@ module _ {N D : Type 0} (labels : N → Name) (rtype_of : D → ℕ) (minimum_of
 
   follows : (r : Record N D) (rs : List (Record N D)) → AllByRecursion (MayFollow labels rtype_of r) rs
       → AllByRecursion (λ s. same_name (labels r.owner) s.owner ≡ true → rtype_of r.«data» ≤ s.rtype) (map see rs)
-  follows r [] h = tt
-  follows r (s ∷ rs) h =
-      let first : MayFollow labels rtype_of r s = h.0 in
-      ((λ e. first.type ((same_name_same (labels r.owner) (labels s.owner)).0 e)), follows r rs h.1)
+  follows r rs h = all_map _ see rs (weaker _ _ (λ s f e. f.type ((same_name_same (labels r.owner) (labels s.owner)).0 e)) rs h)
 
   pub types_at : (rs : List (Record N D)) (n : Name) → IsInOrder labels rtype_of rs → NeverDescend (records_of (map see rs) n)
   types_at [] n h = tt
   types_at (r ∷ rs) n h =
-      let more = records_of (map see rs) n in
-      elim (same_name (labels r.owner) n) as (λ b. same_name (labels r.owner) n ≡ b
-      → NeverDescend (cond b (see r ∷ records_of (map see rs) n) (records_of (map see rs) n))) [
-        | true ↦ λ e. (
-          filter_passes _ (λ s. rtype_of r.«data» ≤ s.rtype) (λ s. same_name s.owner n)
-              (λ s f q. f (same_itself (labels r.owner) s.owner (one_lowered (labels r.owner) n e
-              ∙ sym (one_lowered s.owner n q)))) (map see rs) (follows r rs h.0),
-          types_at rs n h.1,
-        )
-        | false ↦ λ e. types_at rs n h.1
-      ] refl
+      grind (arith, common_steps, (types_at rs n h.1), here)
+    where
+      here : same_name (labels r.owner) n ≡ true → AllByRecursion (λ s. rtype_of r.«data» ≤ s.rtype) (records_of (map see rs) n)
+      here e = filter_passes _ _ _ (λ s f q. f (same_itself (labels r.owner) s.owner (one_lowered (labels r.owner) n e
+          ∙ sym (one_lowered s.owner n q)))) (map see rs) (follows r rs h.0)
 
   pub raw_types : (rs : List (Record N D)) → NeverDescend (map see rs) → HoldsPairwise (λ r s. rtype_of r.«data» ≤ rtype_of s.«data») rs
   raw_types [] h = tt

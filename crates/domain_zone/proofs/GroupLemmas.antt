@@ -9,7 +9,7 @@ use Rattle.domain_record.specs.declared.record.Record.{Record}
 use Rattle.domain_records.specs.{Runs.{runs}, Groups.{same_owner, HasFirst, IsZoneCut}, Order.{MayFollow, IsInOrder}}
 use Rattle.domain_zone.specs.{Zone.{ZoneRecord, OwnersNeverDescend, has_type}, View.as_zone_record}
 use Rattle.domain_records.proofs.Runs.{begins}
-use Rattle.domain_zone.proofs.{NameLemmas.{one_lowered, same_itself}, SharedLemmas.either_way, ZoneLemmas.{any_map, BeginsElsewhere, IsFront}}
+use Rattle.domain_zone.proofs.{NameLemmas.{one_lowered, same_itself}, SharedLemmas.either_way, ZoneLemmas.{all_map, any_map, weaker, BeginsElsewhere, IsFront}}
 
 -- ---- runs
 
@@ -59,8 +59,7 @@ module _ {N D : Type 0} (labels : N → Name) (rtype_of : D → ℕ) (minimum_of
 
   all_at : (r : Record N D) (more : List (Record N D)) → AllByRecursion (λ s. same_owner labels r s ≡ true) more
       → AllByRecursion (λ s. same_name s.owner (labels r.owner) ≡ true) (map see more)
-  all_at r [] h = tt
-  all_at r (s ∷ more) h = (same_itself (labels s.owner) (labels r.owner) (sym (owner_key r s h.0)), all_at r more h.1)
+  all_at r more h = all_map _ see more (weaker _ _ (λ s e. same_itself (labels s.owner) (labels r.owner) (sym (owner_key r s e))) more h)
 
   elsewhere : (r : Record N D) (t : List (Record N D)) → StartsApart (same_owner labels) r t → BeginsElsewhere (labels r.owner) (map see t)
   elsewhere r [] h = tt
@@ -98,14 +97,9 @@ module _ {N D : Type 0} (labels : N → Name) (rtype_of : D → ℕ) (minimum_of
       turned Equal = refl
       turned Greater = refl
 
-  all_follow : (r : Record N D) (rs : List (Record N D)) → AllByRecursion (MayFollow labels rtype_of r) rs
-      → AllByRecursion (λ s. before s.owner (labels r.owner) ≡ false) (map see rs)
-  all_follow r [] h = tt
-  all_follow r (s ∷ rs) h = (not_before r s h.0, all_follow r rs h.1)
-
   pub owners_in_order : (rs : List (Record N D)) → IsInOrder labels rtype_of rs → OwnersNeverDescend (map see rs)
   owners_in_order [] h = tt
-  owners_in_order (r ∷ rs) h = (all_follow r rs h.0, owners_in_order rs h.1)
+  owners_in_order (r ∷ rs) h = (all_map _ see rs (weaker _ _ (not_before r) rs h.0), owners_in_order rs h.1)
 
   -- ---- zone cuts
 

@@ -7,7 +7,7 @@ use Rattle.domain_base.specs.Types.{ns, dname}
 use Rattle.domain_zone.specs.Zone.{ZoneRecord, OwnersNeverDescend, records_of, owns, has_type, occludes, is_occluded, is_unoccluded, distinct}
 use Rattle.domain_zone.specs.Zone.{unoccluded_owners}
 use Rattle.domain_zone.proofs.{PairLemmas.{IsAscending, In}, NameLemmas.{one_lowered, same_itself, below_itself, below_from, lowered_below, same_lowered}}
-use Rattle.domain_zone.proofs.ZoneLemmas.{all_filter, all_distinct, any_none, any_map, same_back, after_or, not_strictly}
+use Rattle.domain_zone.proofs.ZoneLemmas.{all_filter, all_distinct, all_map, any_none, any_map, same_back, after_or, not_strictly}
 
 module _ {X : Type 0} where
   pub any_weaker : (p q : X → Bool) → ((x : X) → p x ≡ true → q x ≡ true) → (xs : List X) → list_any p xs ≡ true → list_any q xs ≡ true
@@ -41,11 +41,6 @@ module _ {X : Type 0} where
   ascending_filter lt q [] h = tt
   ascending_filter lt q (x ∷ xs) h = grind (arith, common_steps, all_filter, (ascending_filter lt q xs h.1))
 
-owners_in_order : (r : ZoneRecord) (rs : List ZoneRecord) → AllByRecursion (λ s. before s.owner r.owner ≡ false) rs
-    → AllByRecursion (λ n. before n r.owner ≡ false) (map (λ s. s.owner) rs)
-owners_in_order r [] h = tt
-owners_in_order r (s ∷ rs) h = (h.0, owners_in_order r rs h.1)
-
 distinct_ascends : (L : List ZoneRecord) → OwnersNeverDescend L → IsAscending before (distinct (map (λ r. r.owner) L))
 distinct_ascends [] h = tt
 distinct_ascends (r ∷ rs) h =
@@ -53,7 +48,7 @@ distinct_ascends (r ∷ rs) h =
     let other : Name → Bool = λ y. not (same_name r.owner y) in (
       filter_passes (λ n. before n r.owner ≡ false) (λ n. before r.owner n ≡ true) other
           (λ n e f. after_or r.owner n e (not_same n r.owner (not-true (same_name r.owner n) f))) rest
-          (all_distinct (λ n. before n r.owner ≡ false) (map (λ s. s.owner) rs) (owners_in_order r rs h.0)),
+          (all_distinct (λ n. before n r.owner ≡ false) (map (λ s. s.owner) rs) (all_map _ _ rs h.0)),
       ascending_filter before other rest (distinct_ascends rs h.1),
     )
   where
@@ -123,10 +118,6 @@ occluder_owns d L a c h = grind (arith, common_steps, typed_owns)
 -- a name strictly below what occludes is occluded
 pub below_occluder : (d : Bool) (L : List ZoneRecord) (a c x : Name) → occludes d L a c ≡ true → is_strictly_below x c ≡ true → is_occluded d L a x ≡ true
 below_occluder d L a c x h s =
-    let types : Name → ℕ → Bool = λ k. has_type (filter (λ s. same_lowered (lowered s.owner) k) L) in
-    let over : Name → Bool = λ k. (lowered_below k (lowered a) && not (same_lowered k (lowered a)) && types k ns)
-    || (d && lowered_below k (lowered a) && types k dname) in
-    let at : Name → Bool = λ k. over k && (lowered_below (lowered x) k && not (same_lowered (lowered x) k)) in
     let q = any_in _ L (occluder_owns d L a c h) in
-    in_any _ L q.0 q.1 (ap at (one_lowered _ c q.2)
-    ∙ and_from _ _ h s)
+    let same = one_lowered q.0.owner c q.2 in
+    in_any _ L q.0 q.1 (grind (arith, common_steps))

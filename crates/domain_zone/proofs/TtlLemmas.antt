@@ -1,11 +1,11 @@
 -- Where types never descend, two records of one type differ in TTL exactly where two neighbours do.
-use Rattle.std.proofs.Common.{◌≡◌, ◌≤◌, ℕ, Bool, true, false, ◌||◌, List, [], ◌∷◌, map, refl, sym, ap, ◌∙◌, inl, inr, arith, nat_eq, Option}
+use Rattle.std.proofs.Common.{◌≡◌, ◌≤◌, ℕ, Bool, true, false, ◌||◌, List, [], ◌∷◌, map, refl, sym, ap, subst, ◌∙◌, inl, inr, arith, nat_eq, Option}
 use Rattle.std.proofs.lemmas.{Bool.{cases_Bool, false≢true, or_parts, or_cases, eqb-false, or_right}, Grind.common_steps}
 use Rattle.std.specs.List.{list_any, AllByRecursion}
 use Rattle.domain_record.specs.declared.record.Record.{Record}
 use Rattle.domain_records.specs.Order.{HoldsPairwise}
 use Rattle.domain_names.specs.Words.{Name}
-use Rattle.domain_zone.{specs.{View.as_zone_record, Zone.{ZoneRecord, clashes, has_clash}}, proofs.ZoneLemmas.{any_none, weaker}}
+use Rattle.domain_zone.{specs.{View.as_zone_record, Zone.{ZoneRecord, clashes, has_clash}}, proofs.{FindLemmas.any_none, OwnerLemmas.in_any, PairLemmas.{In, all_in}, SharedLemmas.either_way, ZoneLemmas.all_map}}
 
 -- two neighbours clash
 abbrev pub has_neighbour_clash : List ZoneRecord → Bool
@@ -58,53 +58,40 @@ first_even : (r : ZoneRecord) (rs : List ZoneRecord) → NeverDescend (r ∷ rs)
 first_even r [] order e = tt
 first_even r (s ∷ rs) order e = grind (arith, common_steps, (further r s rs), (first_even s rs))
 
--- a test of a list with one more element in front
-any_front : (p q : ZoneRecord → Bool) (rs : List ZoneRecord) → AllByRecursion (λ s. p s ≡ q s) rs → list_any p rs ≡ list_any q rs
-any_front p q [] h = refl
-any_front p q (r ∷ rs) h = λ i. h.0 i || any_front p q rs h.1 i
-
-all_pairs : (rs : List ZoneRecord) → NeverDescend rs → has_neighbour_clash rs ≡ false → has_clash rs ≡ false
-all_pairs [] order e = refl
-all_pairs (r ∷ []) order e = λ i. (no_clash_itself r i || false) || false
-all_pairs (r ∷ s ∷ rs) order e =
-    let p = or_parts (clashes r s) _ e in
-    let first = first_even r (s ∷ rs) order e in
-    (λ i. (no_clash_itself r i || any_none (clashes r) (s ∷ rs) first i) || list_any (λ t. list_any (clashes t) (r ∷ s ∷ rs)) (s ∷ rs))
-    ∙ any_front _ _ (s ∷ rs) (weaker _ _ (λ t h. λ i. no_clash_back r t h i || list_any (clashes t) (s ∷ rs)) (s ∷ rs) first)
-    ∙ all_pairs (s ∷ rs) order.1 p.1
-
-any_more : (r : ZoneRecord) (ts us : List ZoneRecord) → list_any (λ t. list_any (clashes t) us) ts ≡ true
-    → list_any (λ t. list_any (clashes t) (r ∷ us)) ts ≡ true
-any_more r [] us h = absurd (false≢true h)
-any_more r (t ∷ ts) us h = grind (arith, common_steps, (any_more r ts us))
+-- so no two of all do
+no_pair : (rs : List ZoneRecord) → NeverDescend rs → has_neighbour_clash rs ≡ false → (r s : ZoneRecord) → In r rs → In s rs → clashes r s ≡ false
+no_pair [] order e r s i j = absurd i
+no_pair (q ∷ rs) order e r s (inl i) (inl j) = grind (arith, common_steps, (no_clash_itself r))
+no_pair (q ∷ rs) order e r s (inl i) (inr j) = subst (λ x. clashes x s ≡ false) i (all_in _ rs s (first_even q rs order e) j)
+no_pair (q ∷ rs) order e r s (inr i) (inl j) =
+    no_clash_back s r (subst (λ x. clashes x r ≡ false) j (all_in _ rs r (first_even q rs order e) i))
+no_pair (q ∷ []) order e r s (inr i) (inr j) = absurd i
+no_pair (q ∷ p ∷ rs) order e r s (inr i) (inr j) = no_pair (p ∷ rs) order.1 (or_parts (clashes q p) _ e).1 r s i j
 
 -- neighbours that clash are a pair that clashes
-some_pair : (rs : List ZoneRecord) → has_neighbour_clash rs ≡ true → has_clash rs ≡ true
+some_pair : (rs : List ZoneRecord) → has_neighbour_clash rs ≡ true → (r : ZoneRecord) × (s : ZoneRecord) × In r rs × In s rs × (clashes r s ≡ true)
 some_pair [] e = absurd (false≢true e)
 some_pair (r ∷ []) e = absurd (false≢true e)
 some_pair (r ∷ s ∷ rs) e =
     elim (or_cases (clashes r s) (has_neighbour_clash (s ∷ rs)) e) [
-      | inl h ↦ in_front (list_any (λ t. list_any (clashes t) (r ∷ s ∷ rs)) (s ∷ rs)) (clashes r r) (list_any (clashes r) rs) (clashes r s) h
-      | inr h ↦ or_right (list_any (clashes r) (r ∷ s ∷ rs)) (list_any (λ t. list_any (clashes t) (r ∷ s ∷ rs)) (s ∷ rs))
-          (any_more r (s ∷ rs) (s ∷ rs) (some_pair (s ∷ rs) h))
+      | inl h ↦ (r, s, inl refl, inr (inl refl), h)
+      | inr h ↦ let p = some_pair (s ∷ rs) h in (p.0, p.1, inr p.2, inr p.3, p.4)
     ]
-  where
-    in_front : (z a c b : Bool) → b ≡ true → ((a || (b || c)) || z) ≡ true
-    in_front z a c b h = grind (arith, common_steps)
 
 pub neighbours_tell : (rs : List ZoneRecord) → NeverDescend rs → has_neighbour_clash rs ≡ has_clash rs
-neighbours_tell rs order = grind (arith, common_steps, some_pair, all_pairs)
+neighbours_tell rs order =
+    either_way (has_neighbour_clash rs) (has_clash rs)
+    (λ e. let p = some_pair rs e in in_any (λ r. list_any (clashes r) rs) rs p.0 p.2 (in_any (clashes p.0) rs p.1 p.3 p.4))
+    (λ e. elim (cases_Bool (has_neighbour_clash rs)) [
+      | inl t ↦ t
+      | inr f ↦ absurd (false≢true (sym (any_none _ rs (λ r i. any_none _ rs (λ s j. no_pair rs order f r s i j))) ∙ e))
+    ])
 
 -- records whose types never descend, as a zone sees them
 module _ {N D : Type 0} (labels : N → Name) (rtype_of : D → ℕ) (minimum_of : D → Option ℕ) where
   abbrev see : Record N D → ZoneRecord
   see = as_zone_record labels rtype_of minimum_of
 
-  seen_after : (r : Record N D) (ss : List (Record N D)) → AllByRecursion (λ s. rtype_of r.«data» ≤ rtype_of s.«data») ss
-      → AllByRecursion (λ s. rtype_of r.«data» ≤ s.rtype) (map see ss)
-  seen_after r [] h = tt
-  seen_after r (s ∷ ss) h = (h.0, seen_after r ss h.1)
-
   pub seen_never_descend : (rs : List (Record N D)) → HoldsPairwise (λ r s. rtype_of r.«data» ≤ rtype_of s.«data») rs → NeverDescend (map see rs)
   seen_never_descend [] h = tt
-  seen_never_descend (r ∷ rs) h = (seen_after r rs h.0, seen_never_descend rs h.1)
+  seen_never_descend (r ∷ rs) h = (all_map _ see rs h.0, seen_never_descend rs h.1)

@@ -1,15 +1,16 @@
 -- What the walk knows before each group, and one step of it.
 use Rattle.std.proofs.Common.{◌≡◌, ℕ, Bool, true, false, cond, not, ◌&&◌, ◌||◌, List, [], ◌∷◌, ◌++◌, map, refl, sym, ap, ◌∙◌, subst, inl, inr, Option, Some}
-use Rattle.std.proofs.{Common.{None, append_assoc, arith}, lemmas.{List.append-nil, Bool.{cases_Bool, false≢true, true≢false, and_right}}}
+use Rattle.std.proofs.{Common.{None, append_assoc, arith}, lemmas.{List.append-nil, Bool.{cases_Bool, false≢true, true≢false, and_right, or_parts}}}
 use Rattle.std.proofs.lemmas.{List.{Elements.filter-append, Folds.list_any-append}, Grind.common_steps}
 use Rattle.std.specs.{Prelude.filter, List.{AllByRecursion, list_any}}
-use Rattle.domain_octets.proofs.StdLemmas.{or_false}
+use Rattle.domain_octets.proofs.StdLemmas.{and_true, or_false}
 use Rattle.domain_names.specs.{Name.{is_at_or_below, is_strictly_below, lowered, same_name}, Order.before, Words.Name}
 use Rattle.domain_base.specs.Types.{ns, dname}
-use Rattle.domain_zone.specs.{Walk.is_under, Zone.{ZoneRecord, OwnersNeverDescend, records_of, has_type, occludes, is_occluded, is_unoccluded, distinct}}
+use Rattle.domain_zone.specs.{Owners.owner_at, Walk.{is_cut_group, is_passed_over, is_under, occluder_from}, Zone.is_zone_cut}
+use Rattle.domain_zone.specs.{Zone.{ZoneRecord, OwnersNeverDescend, records_of, has_type, occludes, is_occluded, is_unoccluded, distinct}}
 use Rattle.domain_zone.proofs.NameLemmas.{before_left, before_order, one_lowered, below_itself, below_trans, below_from, below_between, lowered_below}
 use Rattle.domain_zone.proofs.NameLemmas.{same_lowered}
-use Rattle.domain_zone.proofs.ZoneLemmas.{weaker, all_both, all_front, any_none, BeginsElsewhere, IsGroup, AreAt, AllBefore, AllAfter, records_at}
+use Rattle.domain_zone.proofs.ZoneLemmas.{weaker, all_both, all_front, all_map, any_none, BeginsElsewhere, IsGroup, AreAt, AllBefore, AllAfter, records_at}
 use Rattle.domain_zone.proofs.ZoneLemmas.{distinct_more, after_or, not_strictly, strictly_after}
 
 abbrev pub IsSince : Option Name → Name → Type 0
@@ -109,8 +110,8 @@ module _ {d : Bool} {L : List ZoneRecord} {a : Name} {rest : List ZoneRecord} {c
         in_order = in_order_after group R (subst OwnersNeverDescend e w.in_order);
         unoccluded =
             ap (filter (is_unoccluded d L a)) (ap distinct (owners_append w.passed group)
-            ∙ distinct_more (owners w.passed) n (owners gs) (owners_all (λ m. before m n ≡ true) w.passed x.earlier)
-            (owners_all (λ m. lowered m ≡ lowered n) gs x.at.1))
+            ∙ distinct_more (owners w.passed) n (owners gs) (all_map (λ m. before m n ≡ true) _ w.passed x.earlier)
+            (all_map (λ m. lowered m ≡ lowered n) _ gs x.at.1))
             ∙ filter-append (is_unoccluded d L a) (distinct (owners w.passed)) (n ∷ [])
             ∙ ap (λ t. t ++ cond (is_unoccluded d L a n) (n ∷ []) []) w.unoccluded;
         since = both (λ r. IsSince cut r.owner) (λ r. before n r.owner ≡ true) (λ r. IsSince cut' r.owner) (λ r p q. since' r.owner q p)
@@ -132,21 +133,10 @@ module _ {d : Bool} {L : List ZoneRecord} {a : Name} {rest : List ZoneRecord} {c
       owners_append [] ys = refl
       owners_append (z ∷ xs) ys = ap (λ t. z.owner ∷ t) (owners_append xs ys)
 
-      owners_all : (P : Name → Type 0) (rs : List ZoneRecord) → AllByRecursion (λ r. P r.owner) rs → AllByRecursion P (owners rs)
-      owners_all P [] h = tt
-      owners_all P (r ∷ rs) h = (h.0, owners_all P rs h.1)
-
       any_at : (y : Name) (rs : List ZoneRecord) → AllByRecursion (λ r. lowered r.owner ≡ lowered g.owner) rs
           → list_any (λ r. occludes d L a r.owner && is_strictly_below y r.owner) (g ∷ rs) ≡ (occludes d L a g.owner && is_strictly_below y g.owner)
       any_at y [] h = or_false (occludes d L a g.owner && is_strictly_below y g.owner)
-      any_at y (r ∷ rs) h =
-          let types : Name → ℕ → Bool = λ k. has_type (filter (λ s. same_lowered (lowered s.owner) k) L) in
-          let over : Name → Bool = λ k. (lowered_below k (lowered a) && not (same_lowered k (lowered a)) && types k ns)
-          || (d && lowered_below k (lowered a) && types k dname) in
-          let at : Name → Bool = λ k. over k && (lowered_below (lowered y) k && not (same_lowered (lowered y) k)) in
-          ap (λ b. at (lowered g.owner) || (b || list_any (λ s. at (lowered s.owner)) rs)) (ap at h.0)
-          ∙ or_twice (at (lowered g.owner)) (list_any (λ s. at (lowered s.owner)) rs)
-          ∙ any_at y rs h.1
+      any_at y (r ∷ rs) h = rw h.0 (or_twice (occludes d L a g.owner && is_strictly_below y g.owner) _ ∙ any_at y rs h.1)
         where
           or_twice : (b c : Bool) → (b || (b || c)) ≡ (b || c)
           or_twice true c = refl
@@ -210,5 +200,27 @@ module _ {d : Bool} {L : List ZoneRecord} {a : Name} {rest : List ZoneRecord} {c
             | inr b ↦ b
           ]
 
-  pub next_records : IsGroup (g ∷ gs) R → records_of L g.owner ≡ g ∷ gs
-  next_records i = (next_known i).records
+  -- ---- as the iterator goes on
+
+  pub walk_passed : IsGroup (g ∷ gs) R → is_passed_over a cut g.owner ≡ true → IsWalked d L a R cut ks
+  walk_passed i passed = grind (arith, common_steps, (walk_outside i), (walk_under i))
+
+  module _ (i : IsGroup (g ∷ gs) R) (given : is_passed_over a cut g.owner ≡ false) where
+    zone : is_at_or_below g.owner a ≡ true
+    zone = grind (arith, common_steps)
+
+    records : records_of L g.owner ≡ g ∷ gs
+    records = (next_known i).records
+
+    cut_is : is_zone_cut L a g.owner ≡ is_cut_group a g.owner (g ∷ gs)
+    cut_is = λ j. (zone j && not (same_name g.owner a)) && has_type (records j) ns
+
+    pub owner_is : record { name = g.owner; records = g ∷ gs; is_zone_cut = is_cut_group a g.owner (g ∷ gs) } ≡ owner_at L a g.owner
+    owner_is = λ j. record { name = g.owner; records = sym records j; is_zone_cut = sym cut_is j }
+
+    pub walk_given : IsWalked d L a R (occluder_from d a g.owner (g ∷ gs)) (ks ++ g.owner ∷ [])
+    walk_given =
+        subst (λ c. IsWalked d L a R c (ks ++ g.owner ∷ []))
+        ((λ j. cond (cut_is j || (d && zone j && has_type (records j) dname)) (Some g.owner) None)
+        ∙ (λ j. cond (is_cut_group a g.owner (g ∷ gs) || (and_true d j && has_type (g ∷ gs) dname)) (Some g.owner) None))
+        (walk_onto i zone (or_parts (not (is_at_or_below g.owner a)) (is_under cut g.owner) given).1)
