@@ -1,12 +1,13 @@
 -- What is known of the owners that an iterator has given and has left.
-use Rattle.std.proofs.Common.{arith, ◌≡◌, ◌≤◌, Bool, true, false, cond, ◌||◌, List, [], ◌∷◌, ◌++◌, map, refl, sym, ap, ◌∙◌, subst, Option, ℕ}
+use Rattle.std.proofs.Common.{arith, ◌≡◌, ◌≤◌, Bool, true, false, ◌||◌, List, [], ◌∷◌, ◌++◌, map, refl, sym, ap, ◌∙◌, subst, Option, ℕ}
 use Rattle.std.{proofs.lemmas.{Grind.common_steps, List.{append-nil, Folds.list_any-append}, Bool.or_right}, specs.List.{list_any, AllByRecursion}}
 use Rattle.domain_names.specs.{Laws.same_name_same, Name.same_name, Words.Name}
 use Rattle.domain_record.specs.declared.record.Record.{Record}
 use Rattle.domain_records.specs.Order.{MayFollow, HoldsPairwise, IsInOrder}
 use Rattle.domain_zone.specs.{Owners.{OwnerRecords, owner_at, owners_with_records}, View.as_zone_record}
 use Rattle.domain_zone.specs.Zone.{ZoneRecord, records_of, unoccluded_owners, has_clash, has_unequal_ttls}
-use Rattle.domain_zone.proofs.{NameLemmas.{one_lowered, same_itself}, OwnerLemmas.filter_passes, TtlLemmas.NeverDescend, ZoneLemmas.{all_front, all_map, any_map, weaker}, PairLemmas.all_from_in}
+use Rattle.domain_zone.proofs.{NameLemmas.{one_lowered, same_itself}, OwnerLemmas.filter_passes, PairLemmas.all_from_in, TtlLemmas.NeverDescend}
+use Rattle.domain_zone.proofs.ZoneLemmas.{all_front, all_map, any_map, weaker}
 
 abbrev pub name_of : OwnerRecords → Name
 name_of o = o.name

@@ -1,29 +1,30 @@
 -- What an iterator over the owners that are not occluded has left to give.
-use Rattle.std.proofs.Common.{◌≡◌, Bool, true, false, cond, not, ◌&&◌, ◌||◌, List, [], ◌∷◌, ◌++◌, map, refl, sym, ap, ◌∙◌, subst, inl, inr, Option, Some, None}
+use Rattle.std.proofs.Common.{◌≡◌, Bool, false, ◌&&◌, ◌||◌, List, [], ◌∷◌, ◌++◌, map, refl, sym, ap, ◌∙◌, inl, inr, Option, None}
 use Rattle.std.proofs.{Common.{append_assoc, ℕ, arith}, lemmas.{Bool.cases_Bool, Grind.common_steps, List.map-append}}
+use Rattle.std.specs.{Bool.then_some, Borrow.Bor, Option.option_map}
 use Rattle.domain_record.specs.declared.record.Record.{Record}
 use Rattle.domain_records.specs.{Groups.{same_owner, HasFirst}, Order.IsInOrder, Runs.runs}
-use Rattle.domain_names.specs.{Name.{is_at_or_below, same_name}, Words.Name}
+use Rattle.domain_names.specs.{Words.Name}
 use Rattle.domain_zone.specs.{Owners.{owner_at, owners_with_records}, View.as_zone_record}
-use Rattle.domain_zone.specs.Walk.{is_under, is_passed_over, is_cut_group, occluder_from, left_owners}
-use Rattle.domain_zone.{specs.Zone.{ZoneRecord, has_type, records_of, is_zone_cut, occludes}, proofs.GroupLemmas.{front_group, owners_in_order}}
+use Rattle.domain_zone.specs.Walk.{is_passed_over, is_cut_group, occluder_from, left_owners}
+use Rattle.domain_zone.{specs.Zone.{ZoneRecord, has_type}, proofs.GroupLemmas.{front_group, owners_in_order}}
 use Rattle.domain_zone.proofs.{WalkLemmas.{IsWalked, walk_start, walk_passed, owner_is, walk_given}, ZoneLemmas.IsFront}
-use Rattle.domain_base.specs.Types.{ns, dname}
+use Rattle.domain_base.specs.Types.{dname}
 
 -- ---- one group
 
 module _ {N D : Type 0} (labels : N → Name) (rtype_of : D → ℕ) (minimum_of : D → Option ℕ) (d : Bool) (a : Name) (o : Option Name) where
-  pub left_given : (group : List (Record N D)) (owner : N) (gs : List (List ZoneRecord)) → HasFirst (λ r. r.owner ≡ owner) group
-      → is_passed_over a o (labels owner) ≡ false
-      → left_owners d a o (map (as_zone_record labels rtype_of minimum_of) group ∷ gs)
-      ≡ record {
-        name = labels owner;
-        records = map (as_zone_record labels rtype_of minimum_of) group;
-        is_zone_cut = is_cut_group a (labels owner) (map (as_zone_record labels rtype_of minimum_of) group);
-      }
-      ∷ left_owners d a (occluder_from d a (labels owner) (map (as_zone_record labels rtype_of minimum_of) group)) gs
-  left_given [] owner gs h e = absurd h
-  left_given (r ∷ rs) owner gs h e = grind (arith, common_steps)
+  abbrev seen : Record N D → ZoneRecord
+  seen = as_zone_record labels rtype_of minimum_of
+
+  -- the next owner, where tests tell whether it is a zone cut and whether it owns a DNAME record
+  pub left_given : (group : List (Record N D)) (owner : Bor N) (gs : List (List ZoneRecord)) → HasFirst (λ r. r.owner ≡ owner.now) group
+      → is_passed_over a o (labels owner.now) ≡ false → (cut owns : Bool) → cut ≡ is_cut_group a (labels owner.now) (map seen group)
+      → owns ≡ has_type (map seen group) dname → (next : Option (Bor N)) → next ≡ then_some (cut || (d && owns)) owner
+      → left_owners d a o (map seen group ∷ gs) ≡ record { name = labels owner.now; records = map seen group; is_zone_cut = cut }
+      ∷ left_owners d a (option_map (λ n. labels n.now) next) gs
+  left_given [] owner gs h e cut owns tested typed next is = absurd h
+  left_given (r ∷ rs) owner gs h e cut owns tested typed next is = grind (arith, common_steps)
 
 -- ---- runs, one after another
 
@@ -100,8 +101,3 @@ pub left_none : {N D : Type 0} (labels : N → Name) (rtype_of : D → ℕ) (min
     → left_owners d a o (map (map (as_zone_record labels rtype_of minimum_of)) (runs (same_owner labels) rs)) ≡ []
 unfolding runs
 left_none labels rtype_of minimum_of d a o rs e = grind (arith, common_steps)
-
--- the occluder after a group
-pub occluder_after : (d : Bool) (a n : Name) (G : List ZoneRecord) (cut owns : Bool) (o : Option Name) → cut ≡ is_cut_group a n G → owns ≡ has_type G dname
-    → o ≡ cond (cut || (d && owns)) (Some n) None → o ≡ occluder_from d a n G
-occluder_after d a n G cut owns o c w e = e ∙ (λ i. cond (c i || (d && w i)) (Some n) None)

@@ -3,7 +3,6 @@ use Rattle.std.proofs.Common.{◌≡◌, ℕ, Bool, true, false, not, ◌&&◌, 
 use Rattle.std.proofs.lemmas.{Bool.{cases_Bool, false≢true, true≢false, and_parts, or_cases, or_right, and_from, not-true}, Grind.common_steps}
 use Rattle.std.specs.{Prelude.filter, List.{AllByRecursion, list_any}}
 use Rattle.domain_names.specs.{Name.{is_at_or_below, is_strictly_below, lowered, same_name}, Order.before, Words.Name}
-use Rattle.domain_base.specs.Types.{ns, dname}
 use Rattle.domain_zone.specs.Zone.{ZoneRecord, OwnersNeverDescend, records_of, owns, has_type, occludes, is_occluded, is_unoccluded, distinct}
 use Rattle.domain_zone.specs.Zone.{unoccluded_owners}
 use Rattle.domain_zone.proofs.{PairLemmas.{IsAscending, In}, NameLemmas.{one_lowered, same_itself, below_itself, below_from, lowered_below, same_lowered}}

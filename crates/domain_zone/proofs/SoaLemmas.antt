@@ -1,6 +1,6 @@
 -- The SOA records that a scan of the records finds.
-use Rattle.std.proofs.Common.{arith, ◌≡◌, List, [], ◌∷◌, ◌++◌, Option, Some, None, true, false, cond, nat_eq, refl, ap, ◌∙◌, sym, inl, inr, append_assoc}
-use Rattle.std.{proofs.lemmas.{Grind.common_steps, Bool.{cases_Bool, or_parts, and_right}}, specs.{Prelude.filter, Option.is_some}}
+use Rattle.std.proofs.Common.{◌≡◌, List, [], ◌∷◌, ◌++◌, Option, Some, None, true, false, cond, nat_eq, refl, ap, ◌∙◌, inl, inr}
+use Rattle.std.{proofs.lemmas.{Bool.{cases_Bool, or_parts, and_right}}, specs.{Prelude.filter}}
 use Rattle.domain_names.specs.{Name.same_name, Words.Name}
 use Rattle.domain_base.specs.Types.{soa}
 use Rattle.domain_zone.specs.{Soa.{of_only, is_soa, soa_of}, Zone.{ZoneRecord, owns}, declared.soa.ApexSoa.ApexSoa}

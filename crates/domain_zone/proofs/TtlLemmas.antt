@@ -1,11 +1,12 @@
 -- Where types never descend, two records of one type differ in TTL exactly where two neighbours do.
-use Rattle.std.proofs.Common.{◌≡◌, ◌≤◌, ℕ, Bool, true, false, ◌||◌, List, [], ◌∷◌, map, refl, sym, ap, subst, ◌∙◌, inl, inr, arith, nat_eq, Option}
-use Rattle.std.proofs.lemmas.{Bool.{cases_Bool, false≢true, or_parts, or_cases, eqb-false, or_right}, Grind.common_steps}
+use Rattle.std.proofs.Common.{◌≡◌, ◌≤◌, ℕ, Bool, true, false, ◌||◌, List, [], ◌∷◌, map, refl, sym, subst, ◌∙◌, inl, inr, arith, Option}
+use Rattle.std.proofs.lemmas.{Bool.{cases_Bool, false≢true, or_parts, or_cases, Decides.nat_tests}, Grind.common_steps}
 use Rattle.std.specs.List.{list_any, AllByRecursion}
 use Rattle.domain_record.specs.declared.record.Record.{Record}
 use Rattle.domain_records.specs.Order.{HoldsPairwise}
 use Rattle.domain_names.specs.Words.{Name}
-use Rattle.domain_zone.{specs.{View.as_zone_record, Zone.{ZoneRecord, clashes, has_clash}}, proofs.{FindLemmas.any_none, OwnerLemmas.in_any, PairLemmas.{In, all_in}, SharedLemmas.either_way, ZoneLemmas.all_map}}
+use Rattle.domain_zone.specs.{View.as_zone_record, Zone.{ZoneRecord, clashes, has_clash}}
+use Rattle.domain_zone.proofs.{FindLemmas.any_none, OwnerLemmas.in_any, PairLemmas.{In, all_in}, SharedLemmas.either_way, ZoneLemmas.all_map}
 
 -- two neighbours clash
 abbrev pub has_neighbour_clash : List ZoneRecord → Bool
@@ -18,37 +19,21 @@ abbrev pub NeverDescend : List ZoneRecord → Type 0
 NeverDescend [] = Unit {0}
 NeverDescend (r ∷ rs) = AllByRecursion (λ s. r.rtype ≤ s.rtype) rs × NeverDescend rs
 
--- what a clash says
-record Clash (r s : ZoneRecord) : Type 0 where
-  one_type : r.rtype ≡ s.rtype
-  signed : nat_eq r.rtype 46 ≡ false
-  apart : nat_eq r.ttl s.ttl ≡ false
-
-clash_is : (r s : ZoneRecord) → clashes r s ≡ true → Clash r s
-clash_is r s e = grind (arith, common_steps)
-
--- records of one type other than RRSIG that don't clash have one TTL
-one_ttl : (r s : ZoneRecord) → clashes r s ≡ false → r.rtype ≡ s.rtype → nat_eq r.rtype 46 ≡ false → r.ttl ≡ s.ttl
-one_ttl r s e t n = grind (arith, common_steps)
-
-no_clash : (r s : ZoneRecord) → (Clash r s → ⊥) → clashes r s ≡ false
-no_clash r s f = elim (cases_Bool (clashes r s)) [ inl e ↦ absurd (f (clash_is r s e)) | inr e ↦ e ]
-
-differ : (r s : ZoneRecord) → Clash r s → r.ttl ≡ s.ttl → ⊥
-differ r s c e = eqb-false r.ttl s.ttl c.apart e
-
 no_clash_back : (r s : ZoneRecord) → clashes r s ≡ false → clashes s r ≡ false
-no_clash_back r s e = no_clash s r (λ c. differ s r c (sym (one_ttl r s e (sym c.one_type) (ap (λ t. nat_eq t 46) (sym c.one_type) ∙ c.signed))))
+no_clash_back r s e = grind (arith, common_steps, nat_tests)
 
 no_clash_itself : (r : ZoneRecord) → clashes r r ≡ false
-no_clash_itself r = no_clash r r (λ c. differ r r c refl)
+no_clash_itself r = grind (arith, common_steps, nat_tests)
+
+no_clash_past : (r s t : ZoneRecord) → r.rtype ≤ s.rtype → clashes r s ≡ false → s.rtype ≤ t.rtype → clashes s t ≡ false → clashes r t ≡ false
+no_clash_past r s t low e high f = grind (arith, common_steps, nat_tests)
 
 -- what clashes with no record of its type clashes with none that this one does not clash with
 further : (r s : ZoneRecord) (ts : List ZoneRecord) → AllByRecursion (λ t. clashes s t ≡ false) ts → AllByRecursion (λ t. r.rtype ≤ t.rtype) ts
     → AllByRecursion (λ t. s.rtype ≤ t.rtype) ts → r.rtype ≤ s.rtype → clashes r s ≡ false → AllByRecursion (λ t. clashes r t ≡ false) ts
 further r s [] even low high first here = tt
 further r s (t ∷ ts) even low high first here = (
-  no_clash r t (λ c. grind (arith, common_steps, c, (one_ttl r s), (one_ttl s t), (differ r t))),
+  no_clash_past r s t first here high.0 even.0,
   further r s ts even.1 low.1 high.1 first here,
 )
 

@@ -1,5 +1,5 @@
 -- The types that a walk over the records of an owner has gathered.
-use Rattle.std.proofs.{Common.{◌≡◌, ℕ, ◌<◌, Bool, true, false, ◌&&◌, ◌||◌, List, [], ◌∷◌, ◌++◌, ap, nat_eq, append_assoc, arith}, lemmas.{Grind.common_steps, Bool.Decides.nat_tests}}
+use Rattle.std.proofs.{Common.{◌≡◌, ℕ, ◌<◌, Bool, true, false, ◌||◌, List, [], ◌∷◌, ap, nat_eq, arith}, lemmas.{Grind.common_steps, Bool.Decides.nat_tests}}
 use Rattle.domain_bitmap.specs.Builder.{holds}
 use Rattle.domain_zone.specs.Zone.{ZoneRecord, lists_type, may_list}
 

@@ -1,5 +1,5 @@
 -- What the walk knows before each group, and one step of it.
-use Rattle.std.proofs.Common.{◌≡◌, ℕ, Bool, true, false, cond, not, ◌&&◌, ◌||◌, List, [], ◌∷◌, ◌++◌, map, refl, sym, ap, ◌∙◌, subst, inl, inr, Option, Some}
+use Rattle.std.proofs.Common.{◌≡◌, Bool, true, false, cond, not, ◌&&◌, ◌||◌, List, [], ◌∷◌, ◌++◌, map, refl, sym, ap, ◌∙◌, subst, inl, inr, Option, Some}
 use Rattle.std.proofs.{Common.{None, append_assoc, arith}, lemmas.{List.append-nil, Bool.{cases_Bool, false≢true, true≢false, and_right, or_parts}}}
 use Rattle.std.proofs.lemmas.{List.{Elements.filter-append, Folds.list_any-append}, Grind.common_steps}
 use Rattle.std.specs.{Prelude.filter, List.{AllByRecursion, list_any}}
@@ -8,8 +8,8 @@ use Rattle.domain_names.specs.{Name.{is_at_or_below, is_strictly_below, lowered,
 use Rattle.domain_base.specs.Types.{ns, dname}
 use Rattle.domain_zone.specs.{Owners.owner_at, Walk.{is_cut_group, is_passed_over, is_under, occluder_from}, Zone.is_zone_cut}
 use Rattle.domain_zone.specs.{Zone.{ZoneRecord, OwnersNeverDescend, records_of, has_type, occludes, is_occluded, is_unoccluded, distinct}}
-use Rattle.domain_zone.proofs.NameLemmas.{before_left, before_order, one_lowered, below_itself, below_trans, below_from, below_between, lowered_below}
-use Rattle.domain_zone.proofs.NameLemmas.{same_lowered}
+use Rattle.domain_zone.proofs.NameLemmas.{before_left, before_order, one_lowered, below_itself, below_trans, below_from, below_between}
+use Rattle.domain_zone.proofs.OwnerLemmas.{occluder_below}
 use Rattle.domain_zone.proofs.ZoneLemmas.{weaker, all_both, all_front, all_map, any_none, BeginsElsewhere, IsGroup, AreAt, AllBefore, AllAfter, records_at}
 use Rattle.domain_zone.proofs.ZoneLemmas.{distinct_more, after_or, not_strictly, strictly_after}
 
@@ -142,41 +142,23 @@ module _ {d : Bool} {L : List ZoneRecord} {a : Name} {rest : List ZoneRecord} {c
           or_twice true c = refl
           or_twice false c = refl
 
-  -- the group is out of the zone
-  pub walk_outside : IsGroup (g ∷ gs) R → is_at_or_below g.owner a ≡ false → IsWalked d L a R cut ks
-  walk_outside i out =
-      let n = g.owner in
-      subst (IsWalked d L a R cut) ((λ i. ks ++ cond (out i && not (is_occluded d L a n)) (n ∷ []) []) ∙ append-nil ks)
-      (walk_on (next_known i) cut (λ y h s. s)
-      (λ y h.
-      (λ i. is_under cut y || ((out i && not (same_name n a) && has_type (records_of L n) ns
-      || (d && out i && has_type (records_of L n) dname)) && is_strictly_below y n))
-      ∙ (λ i. is_under cut y || (not_there d (has_type (records_of L n) dname) i && is_strictly_below y n))
-      ∙ or_false (is_under cut y)))
-    where
-      not_there : (b c : Bool) → (b && false && c) ≡ false
-      not_there true c = refl
-      not_there false c = refl
-
-  -- the group is below the last occluder
-  pub walk_under : IsGroup (g ∷ gs) R → is_at_or_below g.owner a ≡ true → is_under cut g.owner ≡ true → IsWalked d L a R cut ks
-  walk_under i zone under =
-      let n = g.owner in
+  -- the group is out of the zone, or below the last occluder
+  pub walk_passed : IsGroup (g ∷ gs) R → is_passed_over a cut g.owner ≡ true → IsWalked d L a R cut ks
+  walk_passed i passed =
       let x = next_known i in
-      subst (IsWalked d L a R cut) ((λ i. ks ++ cond (zone i && not ((x.under ∙ under) i)) (n ∷ []) []) ∙ append-nil ks)
-      (walk_on x cut (λ y h s. s)
-      (λ y h. absorbed (is_under cut y) (occludes d L a n) (is_at_or_below y n) (not (same_name y n))
-      (λ b. lower cut n y under b)))
+      let out = (λ j. is_at_or_below g.owner a && not (x.under j)) ∙ no_other _ _ passed in
+      subst (IsWalked d L a R cut) ((λ j. ks ++ cond (out j) (g.owner ∷ []) []) ∙ append-nil ks)
+      (walk_on x cut (λ y h s. s) (λ y h. absorbed _ _ _ _ _ _ passed (occluder_below d L a g.owner) (lower cut y)))
     where
-      lower : (c : Option Name) (n y : Name) → is_under c n ≡ true → is_at_or_below y n ≡ true → is_under c y ≡ true
-      lower None n y u b = absurd (false≢true u)
-      lower (Some c) n y u b = below_trans y n c b u
+      no_other : (z u : Bool) → (not z || u) ≡ true → (z && not u) ≡ false
+      no_other z u p = grind (arith, common_steps)
 
-      absorbed : (u c b d : Bool) → (b ≡ true → u ≡ true) → (u || (c && (b && d))) ≡ u
-      absorbed true c b d f = refl
-      absorbed false true true d f = absurd (false≢true (f refl))
-      absorbed false true false d f = refl
-      absorbed false false b d f = refl
+      absorbed : (z u v o b e : Bool) → (not z || u) ≡ true → (o ≡ true → z ≡ true) → (u ≡ true → b ≡ true → v ≡ true) → (v || (o && (b && e))) ≡ v
+      absorbed z u v o b e p f g = grind (arith, common_steps)
+
+      lower : (c : Option Name) (y : Name) → is_under c g.owner ≡ true → is_at_or_below y g.owner ≡ true → is_under c y ≡ true
+      lower None y u b = absurd (false≢true u)
+      lower (Some c) y u b = below_trans y g.owner c b u
 
   -- the group's name is not occluded
   pub walk_onto : IsGroup (g ∷ gs) R → is_at_or_below g.owner a ≡ true → is_under cut g.owner ≡ false
@@ -201,9 +183,6 @@ module _ {d : Bool} {L : List ZoneRecord} {a : Name} {rest : List ZoneRecord} {c
           ]
 
   -- ---- as the iterator goes on
-
-  pub walk_passed : IsGroup (g ∷ gs) R → is_passed_over a cut g.owner ≡ true → IsWalked d L a R cut ks
-  walk_passed i passed = grind (arith, common_steps, (walk_outside i), (walk_under i))
 
   module _ (i : IsGroup (g ∷ gs) R) (given : is_passed_over a cut g.owner ≡ false) where
     zone : is_at_or_below g.owner a ≡ true

@@ -125,11 +125,7 @@ impl<'a, N: ToName, D: ZoneData> Iterator for UnoccludedOwners<'a, N, D> {
             }
             let is_zone_cut = records.is_zone_cut(self.apex);
             let owns_dname = has_type(records.records(), Rtype::DNAME);
-            self.occluder = if is_zone_cut | (self.below_dname & owns_dname) {
-                Some(name)
-            } else {
-                None
-            };
+            self.occluder = (is_zone_cut | (self.below_dname & owns_dname)).then_some(name);
             return Some(UnoccludedOwner {
                 name,
                 records,
