@@ -6,14 +6,14 @@ ghost use Rattle.domain_nsec.specs.Chain.{Link, links_in, IsChain, IsFaultless, 
 ghost use Rattle.domain_nsec.specs.ChainView.{as_link, links_of};
 
 use crate::GenerateNsecConfig;
-use crate::owners::Owners;
+use crate::types::types_of;
 use domain_base::{MakeName, ParsedName, ToName};
 use domain_bitmap::{RtypeBitmap, RtypeBitmaps};
 use domain_chain_rdata::Nsec;
 use domain_octets::{EmptyBuilder, FromBuilder, GrowingBuilder, OctetsBuilder, OutOfMemory};
 use domain_record::{Record, ZoneData};
 use domain_records::{RecordsIter, SigningError};
-use domain_zone::{ApexSoa, UnoccludedOwners, find_soa, has_unequal_ttls};
+use domain_zone::{ApexSoa, ListedOwners, UnoccludedOwners, find_soa, has_unequal_ttls};
 use std::alloc::Global;
 use std::marker::Model;
 
@@ -100,13 +100,17 @@ impl<'a, N: ToName> NsecChain<'a, N> {
             return Err(SigningError::SoaRecordCouldNotBeDetermined);
         };
         let mut left = UnoccludedOwners::new(apex, records, config.occlude_below_dname);
-        let mut owners = Owners::new(alloc);
+        let mut owners = ListedOwners::new(alloc);
         'owners: while let Some(owner) = left.next() {
             if has_unequal_ttls(owner.records.records()) {
                 return Err(SigningError::MultipleTtlValues);
             }
+            if owners.is_full {
+                continue;
+            }
             let assumed = config.assume_dnskeys_will_be_added & owner.name.name_eq(apex);
-            owners.add(alloc, &owner, assumed);
+            let types = types_of(alloc, owner.records.records(), assumed, owner.is_zone_cut);
+            owners.add(owner.name.as_parsed(), types);
         }
         if owners.is_full {
             return Err(SigningError::OutOfMemory);

@@ -12,7 +12,6 @@ mod chain;
 mod config;
 pub mod laws;
 mod nsec;
-mod owners;
 mod types;
 
 pub use chain::{BorrowedNsec, NsecChain};

@@ -1,11 +1,11 @@
 //! The types that NSEC records list.
-ghost use Rattle.std.specs.Prelude.{◌≡◌, ◌∷◌, ◌++◌, [], ℕ, Bool, ◌<◌, IfOk, OnOk};
+ghost use Rattle.std.specs.Prelude.{◌≡◌, [], ℕ, Bool, ◌<◌, IfOk};
 ghost use Rattle.domain_bitmap.specs.{Bitmap.bitmap_octets, Builder.holds};
 ghost use Rattle.domain_nsec.specs.Chain.{is_listed};
 ghost use Rattle.domain_zone.specs.View.{zone_of};
 
 use domain_base::{Rtype, ToName};
-use domain_bitmap::{RtypeBitmap, RtypeBitmapBuilder, RtypeBitmaps};
+use domain_bitmap::{RtypeBitmap, RtypeBitmapBuilder};
 use domain_octets::{EmptyBuilder, GrowingBuilder, OutOfMemory};
 use domain_record::{Record, ZoneData};
 use domain_records::SliceRefsOrOwnedIterator;
@@ -32,7 +32,7 @@ where
 }
 
 /// The types of an owner's NSEC record.
-fn types_of<N: ToName, D: ZoneData>(
+pub(crate) fn types_of<N: ToName, D: ZoneData>(
     alloc: Global,
     records: SliceRefsOrOwnedIterator<'_, Record<N, D>>,
     assumed: bool,
@@ -45,19 +45,4 @@ fn types_of<N: ToName, D: ZoneData>(
     let mut types = common_types::<Vec<u8>>(alloc, assumed)?;
     add_types(&mut types, records, at_cut)?;
     Ok(types.finalize())
-}
-
-/// Appends the types of an owner's NSEC record.
-pub(crate) fn push_types<N: ToName, D: ZoneData>(
-    alloc: Global,
-    types: &mut RtypeBitmaps,
-    records: SliceRefsOrOwnedIterator<'_, Record<N, D>>,
-    assumed: bool,
-    at_cut: bool,
-) -> Result<(), OutOfMemory>
-    ensures { OnOk result (types.new ≡ types.old ++ bitmap_octets (is_listed assumed at_cut
-        (zone_of N.labels D.rtype D.minimum records.entry)) ∷ []) }
-{
-    let listed = types_of(alloc, records, assumed, at_cut)?;
-    types.push(&listed)
 }

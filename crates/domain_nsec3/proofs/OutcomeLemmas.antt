@@ -15,7 +15,8 @@ use Rattle.domain_zone.proofs.{PairLemmas.{IsAscending, all_from_in}, ZoneLemmas
 use Rattle.domain_nsec3.specs.{Chain.IsHashedChain, Config.ChainConfig, Faults.{AreAllHashed, IsFirstHashingFault, is_hashed_before}}
 use Rattle.domain_nsec3.specs.{Owners.{original_owners, is_original_owner, is_chain_name, is_empty, nsec3_lists}, Steps.{AreOrderedHashes, AreOriginalOwners}}
 use Rattle.domain_nsec3.specs.Steps.{AreWithEmpty, Common, IsHashingFault, links_in, no_types}
-use Rattle.domain_nsec3.specs.declared.{chain.HashedChain.HashedChain, hash.Hashed.Hashed, owners.Owners.Owners}
+use Rattle.domain_nsec3.specs.declared.{chain.HashedChain.HashedChain, hash.Hashed.Hashed}
+use Rattle.domain_zone.specs.declared.listed.ListedOwners.{ListedOwners}
 use Rattle.domain_nsec3.proofs.{ChainLemmas.{all_hashed, chain_of_zone, collides}, FaultLemmas.{all_apart, first_fault, hashed_in_order, hashing_fault}}
 use Rattle.domain_nsec3.proofs.{ListLemmas.{ascending, sorted}, OwnerLemmas.{empty_are, is_own, names_are}}
 
@@ -33,7 +34,7 @@ module _ (L : List ZoneRecord) (a : Name) (config : ChainConfig) where
 
 -- ---- what hashing comes to
 
-module _ (L : List ZoneRecord) (a : Name) (config : ChainConfig) (order : OwnersNeverDescend L) (owners : Owners)
+module _ (L : List ZoneRecord) (a : Name) (config : ChainConfig) (order : OwnersNeverDescend L) (owners : ListedOwners)
     (os : AreOriginalOwners L a config owners) (names : List Name) (joined : AreWithEmpty a owners.names.items names) where
   -- which names are empty
   is_listed : (x : Name) → list_any (λ n. same_name n x) joined.empty ≡ is_empty_nonterminal (original_owners L a config) a x

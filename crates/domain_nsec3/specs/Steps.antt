@@ -11,11 +11,12 @@ use Rattle.domain_names.specs.Words.{Name}
 use Rattle.domain_zone.specs.{Enclosers.is_empty_nonterminal, Zone.ZoneRecord}
 use Rattle.domain_nsec3.specs.{Ancestors.IsListOf, Chain.{HashedLink, cycle, hashed_owner}, Config.{ChainConfig, Hash, HashAnswer, Parameters, hash_name}}
 use Rattle.domain_nsec3.specs.{Faults.hash_fault, Owners.{original_owners, nsec3_lists}, View.parameters_of}
-use Rattle.domain_nsec3.specs.declared.{chain.HashedChain.HashedChain, hash.Hashed.Hashed, owners.Owners.Owners}
+use Rattle.domain_nsec3.specs.declared.{chain.HashedChain.HashedChain, hash.Hashed.Hashed}
+use Rattle.domain_zone.specs.declared.listed.ListedOwners.{ListedOwners}
 
 -- the original owner names of a chain that own records, with their types
 pub record AreOriginalOwners (L : List ZoneRecord) (a : Name) (config : ChainConfig)
-    (owners : Owners) : Type 0 where
+    (owners : ListedOwners) : Type 0 where
   pub names : owners.names.items ≡ original_owners L a config
   pub types : owners.types
       ≡ map (λ n. bitmap_octets (nsec3_lists L a config n)) (original_owners L a config)

@@ -18,7 +18,7 @@ ghost use Rattle.domain_nsec3.specs.declared.hash.Hashed.{Hashed};
 use crate::GenerateNsec3Config;
 use crate::empty::empty_nonterminals;
 use crate::hash::{Hashed, hash_names};
-use crate::owners::{Owners, list_owners};
+use crate::owners::list_owners;
 use domain_base::{ParsedName, ToName};
 use domain_bitmap::RtypeBitmaps;
 use domain_chain_rdata::Nsec3param;
@@ -26,7 +26,7 @@ use domain_hasher::{Nsec3HashError, Nsec3Hasher};
 use domain_octets::{Octets, OutOfMemory};
 use domain_record::ZoneData;
 use domain_records::{RecordsIter, SigningError, Sorter};
-use domain_zone::ApexSoa;
+use domain_zone::{ApexSoa, ListedOwners};
 use std::alloc::Global;
 
 /// A chain before its records are made: the hashes of its names, and the types of those names that
@@ -158,7 +158,7 @@ pub(crate) fn chain_of_zone<S: Sorter, H: Nsec3Hasher, O: Octets, N: ToName, D: 
         (N.labels apex.now) (config_of (H.answer hasher.now) config.now)) }
 {
     let owners = list_owners(alloc, apex, records, config)?;
-    let Owners { names, types, .. } = owners;
+    let ListedOwners { names, types, .. } = owners;
     let apex = apex.as_parsed();
     let names = with_empty(alloc, &apex, names)?;
     Ok(hash_chain::<S, H, O>(alloc, hasher, &config.params, &apex, names, types)?)

@@ -9,68 +9,13 @@ ghost use Rattle.domain_nsec3.specs.Steps.{AreOriginalOwners};
 ghost use Rattle.domain_nsec3.specs.View.{HasherAnswer, config_of};
 
 use crate::GenerateNsec3Config;
-use crate::types::{OwnerKind, push_types};
-use domain_base::{ParsedName, ToName};
-use domain_bitmap::RtypeBitmaps;
+use crate::types::{OwnerKind, types_of};
+use domain_base::ToName;
 use domain_octets::Octets;
 use domain_record::ZoneData;
 use domain_records::{RecordsIter, SigningError};
-use domain_zone::{UnoccludedOwner, UnoccludedOwners, has_unequal_ttls};
+use domain_zone::{ListedOwners, UnoccludedOwners, has_unequal_ttls};
 use std::alloc::Global;
-
-/// Names of a chain that own records, and the types of each. Once memory was wanting for one it is
-/// full, and takes no other: so the walk that gathers them goes on, and finds the faults of the
-/// owners that are left.
-#[derive(Drop)]
-pub(crate) struct Owners<'a> {
-    pub(crate) names: Vec<ParsedName<'a>>,
-    pub(crate) types: RtypeBitmaps,
-    pub(crate) is_full: bool,
-}
-
-impl<'a> Owners<'a> {
-    /// No owners.
-    fn new(alloc: Global) -> Self
-        ensures room { result.is_full ≡ false }
-        ensures names { result.names.items ≡ [] }
-        ensures types { result.types ≡ [] }
-    {
-        Owners {
-            names: Vec::new(alloc),
-            types: RtypeBitmaps::new(alloc),
-            is_full: false,
-        }
-    }
-
-    /// Adds an owner of this kind with the types that its record lists, and DNSKEY where it is
-    /// assumed.
-    fn add<N: ToName, D: ZoneData>(
-        &mut self,
-        alloc: Global,
-        owner: &UnoccludedOwner<'a, N, D>,
-        kind: OwnerKind,
-        assumed: bool,
-    )
-        ensures room { self.new.is_full ≡ false → self.old.is_full ≡ false }
-        ensures names { self.new.is_full ≡ false
-            → self.new.names.items ≡ self.old.names.items ++ N.labels owner.now.name.now ∷ [] }
-        ensures types { self.new.is_full ≡ false → self.new.types ≡ self.old.types
-            ++ bitmap_octets (is_listed kind.is_unsigned_cut kind.is_apex assumed kind.is_zone_cut
-            (zone_of N.labels D.rtype D.minimum owner.now.records)) ∷ [] }
-    {
-        if self.is_full {
-            return;
-        }
-        let records = owner.records.records();
-        if push_types(alloc, &mut self.types, records, kind, assumed).is_err() {
-            self.is_full = true;
-            return;
-        }
-        if self.names.push(owner.name.as_parsed()).is_err() {
-            self.is_full = true;
-        }
-    }
-}
 
 /// The original owner names of a chain that own records, with their types: the owners that are not
 /// occluded, but for unsigned delegations where these are left out (RFC 5155, section 7.1). They
@@ -85,7 +30,7 @@ pub(crate) fn list_owners<'a, S, O: Octets, N: ToName, D: ZoneData>(
     apex: &'a N,
     records: RecordsIter<'a, N, D>,
     config: &GenerateNsec3Config<O, S>,
-) -> Result<Owners<'a>, SigningError>
+) -> Result<ListedOwners<'a>, SigningError>
     requires { IsInOrder N.labels D.rtype records }
     ensures owners { IfOk result (λ owners. (answer : HasherAnswer) → AreOriginalOwners
         (zone_of N.labels D.rtype D.minimum records.entry) (N.labels apex.now)
@@ -102,7 +47,7 @@ pub(crate) fn list_owners<'a, S, O: Octets, N: ToName, D: ZoneData>(
     let excludes = config.params.opt_out_flag()
         & config.opt_out_exclude_owner_names_of_unsigned_delegations;
     let mut left = UnoccludedOwners::new(apex, records, config.occlude_below_dname);
-    let mut owners = Owners::new(alloc);
+    let mut owners = ListedOwners::new(alloc);
     'owners: while let Some(owner) = left.next() {
         let is_unsigned_cut = owner.is_unsigned_cut();
         if excludes & is_unsigned_cut {
@@ -111,6 +56,9 @@ pub(crate) fn list_owners<'a, S, O: Octets, N: ToName, D: ZoneData>(
         if has_unequal_ttls(owner.records.records()) {
             return Err(SigningError::MultipleTtlValues);
         }
+        if owners.is_full {
+            continue;
+        }
         let is_apex = owner.name.name_eq(apex);
         let kind = OwnerKind {
             is_zone_cut: owner.is_zone_cut,
@@ -118,7 +66,8 @@ pub(crate) fn list_owners<'a, S, O: Octets, N: ToName, D: ZoneData>(
             is_apex,
         };
         let assumed = config.assume_dnskeys_will_be_added & is_apex;
-        owners.add(alloc, &owner, kind, assumed);
+        let types = types_of(alloc, owner.records.records(), kind, assumed);
+        owners.add(owner.name.as_parsed(), types);
     }
     if owners.is_full {
         return Err(SigningError::OutOfMemory);

@@ -1,11 +1,11 @@
 //! The types that NSEC3 records list.
-ghost use Rattle.std.specs.Prelude.{◌≡◌, ◌||◌, ◌&&◌, ◌==◌, ◌∷◌, ◌++◌, ℕ, [], ◌<◌, IfOk, OnOk};
+ghost use Rattle.std.specs.Prelude.{◌≡◌, ◌||◌, ◌&&◌, ◌==◌, ℕ, [], ◌<◌, IfOk, OnOk};
 ghost use Rattle.domain_bitmap.specs.{Bitmap.bitmap_octets, Builder.holds};
 ghost use Rattle.domain_nsec3.specs.Owners.{is_listed};
 ghost use Rattle.domain_zone.specs.View.{zone_of};
 
 use domain_base::{Rtype, ToName};
-use domain_bitmap::{RtypeBitmap, RtypeBitmapBuilder, RtypeBitmaps};
+use domain_bitmap::{RtypeBitmap, RtypeBitmapBuilder};
 use domain_octets::{EmptyBuilder, GrowingBuilder, OutOfMemory};
 use domain_record::{Record, ZoneData};
 use domain_records::SliceRefsOrOwnedIterator;
@@ -57,7 +57,7 @@ where
 }
 
 /// The types of an owner's NSEC3 record (RFC 5155, section 7.1).
-fn types_of<N: ToName, D: ZoneData>(
+pub(crate) fn types_of<N: ToName, D: ZoneData>(
     alloc: Global,
     records: SliceRefsOrOwnedIterator<'_, Record<N, D>>,
     kind: OwnerKind,
@@ -70,20 +70,4 @@ fn types_of<N: ToName, D: ZoneData>(
     let mut types = common_types::<Vec<u8>>(alloc, kind, assumed)?;
     add_types(&mut types, records, kind.is_zone_cut)?;
     Ok(types.finalize())
-}
-
-/// Appends the types of an owner's NSEC3 record.
-pub(crate) fn push_types<N: ToName, D: ZoneData>(
-    alloc: Global,
-    types: &mut RtypeBitmaps,
-    records: SliceRefsOrOwnedIterator<'_, Record<N, D>>,
-    kind: OwnerKind,
-    assumed: bool,
-) -> Result<(), OutOfMemory>
-    ensures { OnOk result (types.new ≡ types.old
-        ++ bitmap_octets (is_listed kind.is_unsigned_cut kind.is_apex assumed kind.is_zone_cut
-        (zone_of N.labels D.rtype D.minimum records.entry)) ∷ []) }
-{
-    let listed = types_of(alloc, records, kind, assumed)?;
-    types.push(&listed)
 }

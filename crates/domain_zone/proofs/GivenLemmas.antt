@@ -1,13 +1,13 @@
 -- What is known of the owners that an iterator has given and has left.
-use Rattle.std.proofs.Common.{arith, ◌≡◌, ◌≤◌, Bool, true, false, ◌||◌, List, [], ◌∷◌, ◌++◌, map, refl, sym, ap, ◌∙◌, subst, Option, ℕ}
-use Rattle.std.{proofs.lemmas.{Grind.common_steps, List.{append-nil, Folds.list_any-append}, Bool.or_right}, specs.List.{list_any, AllByRecursion}}
+use Rattle.std.proofs.Common.{arith, ◌≡◌, ◌≤◌, Bool, true, List, [], ◌∷◌, ◌++◌, map, refl, sym, ◌∙◌, subst, Option, ℕ}
+use Rattle.std.{proofs.lemmas.{Grind.common_steps}, specs.List.{AllByRecursion}}
 use Rattle.domain_names.specs.{Laws.same_name_same, Name.same_name, Words.Name}
 use Rattle.domain_record.specs.declared.record.Record.{Record}
 use Rattle.domain_records.specs.Order.{MayFollow, HoldsPairwise, IsInOrder}
 use Rattle.domain_zone.specs.{Owners.{OwnerRecords, owner_at, owners_with_records}, View.as_zone_record}
-use Rattle.domain_zone.specs.Zone.{ZoneRecord, records_of, unoccluded_owners, has_clash, has_unequal_ttls}
+use Rattle.domain_zone.specs.Zone.{ZoneRecord, records_of, unoccluded_owners, has_clash}
 use Rattle.domain_zone.proofs.{NameLemmas.{one_lowered, same_itself}, OwnerLemmas.filter_passes, PairLemmas.all_from_in, TtlLemmas.NeverDescend}
-use Rattle.domain_zone.proofs.ZoneLemmas.{all_front, all_map, any_map, weaker}
+use Rattle.domain_zone.proofs.ZoneLemmas.{all_front, all_map, weaker}
 
 abbrev pub name_of : OwnerRecords → Name
 name_of o = o.name
@@ -15,12 +15,8 @@ name_of o = o.name
 abbrev pub clashes_in : OwnerRecords → Bool
 clashes_in o = has_clash o.records
 
-all_known : (L : List ZoneRecord) (a : Name) (ks : List Name) → AllByRecursion (λ o. o ≡ owner_at L a o.name) (map (owner_at L a) ks)
+pub all_known : (L : List ZoneRecord) (a : Name) (ks : List Name) → AllByRecursion (λ o. o ≡ owner_at L a o.name) (map (owner_at L a) ks)
 all_known L a ks = all_map _ (owner_at L a) ks (all_from_in _ ks (λ k i. refl))
-
-names_again : (L : List ZoneRecord) (a : Name) (ks : List Name) → map name_of (map (owner_at L a) ks) ≡ ks
-names_again L a [] = refl
-names_again L a (k ∷ ks) = ap (λ t. k ∷ t) (names_again L a ks)
 
 module _ (d : Bool) (L : List ZoneRecord) (a : Name) (given : List OwnerRecords) where
   -- the next one is an owner with its records
@@ -28,21 +24,6 @@ module _ (d : Bool) (L : List ZoneRecord) (a : Name) (given : List OwnerRecords)
   next_is_owner o left e =
       (all_front (λ o. o ≡ owner_at L a o.name) given (o ∷ left)
       (subst (AllByRecursion (λ o. o ≡ owner_at L a o.name)) (sym e) (all_known L a (unoccluded_owners d L a)))).1.0
-
-  -- at the end all owners have been given
-  pub all_given : given ++ [] ≡ owners_with_records d L a → map name_of given ≡ unoccluded_owners d L a
-  all_given e = ap (map name_of) (sym (append-nil given) ∙ e) ∙ names_again L a (unoccluded_owners d L a)
-
-  pub even_given : given ++ [] ≡ owners_with_records d L a → list_any clashes_in given ≡ false → has_unequal_ttls L (unoccluded_owners d L a) ≡ false
-  even_given e h = grind (arith, common_steps, any_map)
-
-  -- an owner with unequal TTLs
-  pub uneven_next : (o : OwnerRecords) (left : List OwnerRecords) → given ++ o ∷ left ≡ owners_with_records d L a
-      → has_clash o.records ≡ true → has_unequal_ttls L (unoccluded_owners d L a) ≡ true
-  uneven_next o left e h =
-      sym (any_map clashes_in (owner_at L a) (unoccluded_owners d L a)) ∙ ap (list_any clashes_in) (sym e)
-      ∙ list_any-append clashes_in given _
-      ∙ or_right (list_any clashes_in given) (list_any clashes_in (o ∷ left)) (λ i. h i || list_any clashes_in left)
 
 -- ---- the types of an owner's records never descend
 

@@ -12,3 +12,4 @@ pub mod LeftLemmas
 pub mod PlaceLemmas
 pub mod SharedLemmas
 pub mod GivenLemmas
+pub mod ListedLemmas

@@ -3,17 +3,20 @@
 //!
 //! The definitions stand in `specs/`, each a filter over the whole list of records. The code is
 //! what the generators of chains share: the SOA of the apex, the test on TTLs, the
-//! types of an owner, and `UnoccludedOwners`, the one walk over the records of a zone.
+//! types of an owner, the owners that a chain lists, and `UnoccludedOwners`, the one walk over the
+//! records of a zone.
 //! The crates above may rely on this: `UnoccludedOwners` gives exactly the owners that the
 //! definitions say are not occluded, each with its records and whether it is a zone cut.
 #![tactic(auto)]
 
 pub mod laws;
+mod listed;
 mod owners;
 mod soa;
 mod ttl;
 mod types;
 
+pub use listed::ListedOwners;
 pub use owners::{UnoccludedOwner, UnoccludedOwners, has_type};
 pub use soa::{ApexSoa, find_soa};
 pub use ttl::has_unequal_ttls;

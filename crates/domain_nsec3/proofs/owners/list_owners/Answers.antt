@@ -1,7 +1,8 @@
 use Rattle.std.proofs.Common.{◌≡◌, ◌∙◌, ◌&&◌, not, sym, ap, map, subst, Err, arith}
 use Rattle.domain_zone.specs.{OwnerView.as_owner_records, View.{as_zone_record, zone_of}, Zone.has_clash}
 use Rattle.domain_zone.proofs.{GivenLemmas.{raw_types, types_at}, TtlLemmas.NeverDescend}
-use Rattle.domain_nsec3.{specs.View.{HasherAnswer, config_of}, proofs.StateLemmas.{stays, at_known, at_excluded, at_owner, at_fault, at_end, even_end}}
+use Rattle.domain_nsec3.{specs.View.{HasherAnswer, config_of}, proofs.StateLemmas.{stays, at_start, at_end}}
+use Rattle.domain_zone.proofs.ListedLemmas.{next_known, next_out, next_listed, next_uneven, none_uneven}
 use Rattle.domain_nsec3.proofs.owners.list_owners.{Given.Over, Goals.{After-is_unsigned_cut-is_unsigned_cut, After-has_unequal_ttls}}
 use Rattle.domain_nsec3.proofs.owners.list_owners.Goals as goal
 use Rattle.std.proofs.lemmas.Grind.{common_steps}
@@ -24,16 +25,19 @@ clash_found : (g : Over) (c : After-has_unequal_ttls g)
     ≡ c.has_unequal_ttls.result
 clash_found g c = grind (arith, common_steps)
 
+pub owners-init : goal.owners-init
+owners-init g c = λ answer. at_start _ _ (config_of answer c.args.config.now) c.new-left.ensures c.new-owners.ensures.names c.new-owners.ensures.types
+
 pub owners-preserved-then-excludes-is_unsigned_cut : goal.owners-preserved-then-excludes-is_unsigned_cut
 owners-preserved-then-excludes-is_unsigned_cut g c = λ answer.
     let at = goal.at.owners-preserved-then-excludes-is_unsigned_cut g c in
-    at_excluded (c.owners.invariant answer) c.in-Some.ensures.steps
+    next_out (c.owners.invariant answer) c.in-Some.ensures.steps
     (stay_found g at.After-is_unsigned_cut-is_unsigned_cut answer ∙ ap not c.if-excludes-is_unsigned_cut.true)
 
 pub has_unequal_ttls-requires : goal.has_unequal_ttls-requires
 has_unequal_ttls-requires g c =
     let labels = g.N.ToName.labels in
-    let known = at_known (c.owners.invariant refuses) c.in-Some.ensures.steps in
+    let known = next_known (c.owners.invariant refuses) c.in-Some.ensures.steps in
     raw_types labels _ g.D.ZoneData.minimum _
     (subst (λ rs. NeverDescend (map (as_zone_record labels g.D.RecordData.rtype g.D.ZoneData.minimum) rs)) (sym c.records.ensures)
     (subst NeverDescend (sym (ap (λ p. p.records) known)) (types_at labels _ _ _ _ c.requires)))
@@ -42,31 +46,35 @@ pub returns-then-has_unequal_ttls-clause-fault : goal.returns-then-has_unequal_t
 returns-then-has_unequal_ttls-clause-fault g c = λ soa answer.
     let at = goal.at.returns-then-has_unequal_ttls-clause-fault g c in (
       soa,
-      at_fault (c.owners.invariant answer) c.in-Some.ensures.steps
+      next_uneven (c.owners.invariant answer) c.in-Some.ensures.steps
           (stay_found g at.After-is_unsigned_cut-is_unsigned_cut answer ∙ ap not c.if-excludes-is_unsigned_cut.false)
           (clash_found g at.After-has_unequal_ttls ∙ c.if-has_unequal_ttls.true),
     )
 
+pub owners-preserved-then-owners : goal.owners-preserved-then-owners
+owners-preserved-then-owners g c = λ answer.
+    let at = goal.at.owners-preserved-then-owners g c in
+    next_listed (c.owners.invariant answer) c.in-Some.ensures.steps
+    (stay_found g at.After-is_unsigned_cut-is_unsigned_cut answer ∙ ap not c.if-excludes-is_unsigned_cut.false)
+    (clash_found g at.After-has_unequal_ttls ∙ c.if-has_unequal_ttls.false)
+    (λ room. room) (grind (arith, common_steps)) (grind (arith, common_steps))
+
 pub owners-preserved : goal.owners-preserved
 owners-preserved g c = λ answer.
     let at = goal.at.owners-preserved g c in
-    at_owner (c.owners.invariant answer) c.in-Some.ensures.steps
+    next_listed (c.owners.invariant answer) c.in-Some.ensures.steps
     (stay_found g at.After-is_unsigned_cut-is_unsigned_cut answer ∙ ap not c.if-excludes-is_unsigned_cut.false)
     (clash_found g at.After-has_unequal_ttls ∙ c.if-has_unequal_ttls.false)
-    c.is_unsigned_cut-is_unsigned_cut.ensures
-    c.name_eq-is_apex.ensures.value
-    c.add.ensures.room
-    c.add.ensures.names
-    c.add.ensures.types
+    c.add.ensures.room (grind (arith, common_steps)) (grind (arith, common_steps))
 
-pub returns-then-owners-clause-fault : goal.returns-then-owners-clause-fault
-returns-then-owners-clause-fault g c = λ soa answer. record {
+pub returns-then-owners-2-clause-fault : goal.returns-then-owners-2-clause-fault
+returns-then-owners-2-clause-fault g c = λ soa answer. record {
   soa = soa;
-  ttls = even_end (c.owners.invariant answer) c.in_default.ensures.steps.0;
+  ttls = none_uneven (c.owners.invariant answer) c.in_default.ensures.steps.0;
 }
 
 pub returns-clause-owners : goal.returns-clause-owners
-returns-clause-owners g c = λ answer. at_end (c.owners.invariant answer) c.in_default.ensures.steps.0 c.if-owners.false
+returns-clause-owners g c = λ answer. at_end _ _ (config_of answer c.args.config.now) (c.owners.invariant answer) c.in_default.ensures.steps.0 c.if-owners-2.false
 
 pub returns-clause-even : goal.returns-clause-even
-returns-clause-even g c = λ answer. even_end (c.owners.invariant answer) c.in_default.ensures.steps.0
+returns-clause-even g c = λ answer. none_uneven (c.owners.invariant answer) c.in_default.ensures.steps.0
