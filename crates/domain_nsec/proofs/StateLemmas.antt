@@ -42,7 +42,8 @@ pub at_start : (L : List ZoneRecord) (a : Name) (config : GenerateNsecConfig) {l
     → IsAt (record { records = L; apex = a; config = config }) left listed
 at_start L a config {left = left} all named typed =
     let zone : ZoneToSign = record { records = L; apex = a; config = config } in
-    let whole : filter (λ o. true) left ≡ map (owner_at zone.records zone.apex) (names_of zone) = filter_whole _ left (all_from_in _ left (λ o i. refl)) ∙ all in
+    let whole : filter (λ o. true) left ≡ map (owner_at zone.records zone.apex) (names_of zone) =
+    filter_whole _ left (all_from_in _ left (λ o i. refl)) ∙ all in
     record {
       known = subst (AllByRecursion _) (sym all) (all_known zone.records zone.apex (names_of zone));
       even = sym (any_map clashes_in (owner_at zone.records zone.apex) (names_of zone)) ∙ ap (list_any clashes_in) (sym whole);

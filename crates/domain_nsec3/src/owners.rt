@@ -1,10 +1,8 @@
 //! The owners of a zone that its NSEC3 chain holds.
-ghost use Rattle.std.specs.Prelude.{◌≡◌, ◌≢◌, ◌∷◌, ◌++◌, [], false, None, IfOk, IfErr};
-ghost use Rattle.std.specs.Prelude.{OnOk};
+ghost use Rattle.std.specs.Prelude.{◌≡◌, ◌≢◌, false, None, IfOk, IfErr, OnOk};
 ghost use Rattle.domain_records.specs.Order.{IsInOrder};
-ghost use Rattle.domain_bitmap.specs.Bitmap.{bitmap_octets};
 ghost use Rattle.domain_zone.specs.{Soa.soa_of, Zone.has_unequal_ttls, View.zone_of};
-ghost use Rattle.domain_nsec3.specs.{Faults.IsFirstFault, Owners.{is_listed, original_owners}};
+ghost use Rattle.domain_nsec3.specs.{Faults.IsFirstFault, Owners.original_owners};
 ghost use Rattle.domain_nsec3.specs.Steps.{AreOriginalOwners};
 ghost use Rattle.domain_nsec3.specs.View.{HasherAnswer, config_of};
 

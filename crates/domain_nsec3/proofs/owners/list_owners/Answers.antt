@@ -74,7 +74,8 @@ returns-then-owners-2-clause-fault g c = λ soa answer. record {
 }
 
 pub returns-clause-owners : goal.returns-clause-owners
-returns-clause-owners g c = λ answer. at_end _ _ (config_of answer c.args.config.now) (c.owners.invariant answer) c.in_default.ensures.steps.0 c.if-owners-2.false
+returns-clause-owners g c = λ answer.
+    at_end _ _ (config_of answer c.args.config.now) (c.owners.invariant answer) c.in_default.ensures.steps.0 c.if-owners-2.false
 
 pub returns-clause-even : goal.returns-clause-even
 returns-clause-even g c = λ answer. none_uneven (c.owners.invariant answer) c.in_default.ensures.steps.0
