@@ -7,6 +7,7 @@ ghost use Rattle.domain_octets.specs.Words.{AreOctets};
 use crate::joined::Joined;
 use crate::{Codec, DecodeError};
 use base64::engine::general_purpose::STANDARD;
+use domain_octets::{OctetSet, prefix_len};
 
 /// The value of a digit of Base 32 hex.
 fn base32_value(c: u8) -> Option<u8>
@@ -46,12 +47,34 @@ fn is_digit(codec: Codec, c: u8) -> bool
     }
 }
 
+/// The digits of Base 16.
+struct Base16Digits;
+
+impl OctetSet for Base16Digits {
+    ghost use Rattle.domain_codecs.specs.declared.codec.Codec.TheVariants as codec;
+
+    ghost has = { is_digit codec.Base16 };
+
+    fn contains(octet: u8) -> bool {
+        is_digit(Codec::Base16, octet)
+    }
+
+    fn is_usual(octet: u8) -> bool {
+        (octet >= b'0' && octet <= b'9')
+            | (octet >= b'A' && octet <= b'F')
+            | (octet >= b'a' && octet <= b'f')
+    }
+}
+
 /// How many characters of the codec's texts a text begins with.
 fn digits_len(codec: Codec, text: &[u8]) -> usize
     ensures within { result ≤ length text.now }
     ensures digits { AllPass (is_digit codec) (take result text.now) }
     ensures end { result < length text.now → is_digit codec (slice_index text.now result) ≡ false }
 {
+    if codec == Codec::Base16 {
+        return prefix_len::<Base16Digits>(text);
+    }
     for i in 0..text.len() {
         if !is_digit(codec, text[i]) {
             return i;
