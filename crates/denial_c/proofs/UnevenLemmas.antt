@@ -3,15 +3,15 @@ use Rattle.std.proofs.lemmas.Grind.{common_steps}
 use Rattle.std.proofs.Common.{◌≡◌, ℕ, ◌-◌, ◌<◌, ◌≤◌, Bool, true, false, cond, not, ◌&&◌, ◌||◌, List, [], ◌∷◌, ◌++◌, map, length, refl, sym, ap, ◌∙◌, subst, inl}
 use Rattle.std.proofs.Common.{inr, arith, nat_eq, append_assoc, append-nil, length-append, is_some, Some, None, Option}
 use Rattle.std.proofs.lemmas.Bool.{and_from, and_parts, cases_Bool, eq-eqb, eqb-false, eqb-true, false≢true, not-false, not-true, or_left, or_parts, or_right}
-use Rattle.std.proofs.lemmas.List.{map-append, Elements.filter-append, Folds.list_any-append}
+use Rattle.std.proofs.lemmas.List.{Folds.list_any-append}
 use Rattle.std.specs.{Prelude.{filter, Contains}, List.{AllByRecursion, flat_map, list_any}}
-use Rattle.domain_alike.{specs.Covered.covered_names, proofs.KeptLemmas.{is_unsigned, kept_all, kept_more, kept_past, names_stay, stays, stays_by, AreKept}}
+use Rattle.domain_alike.{specs.Covered.covered_names, proofs.KeptLemmas.{is_unsigned, kept_all, kept_more, kept_past, kept_start, stays, stays_by, AreKept}}
 use Rattle.domain_names.specs.{Name.same_name, Words.Name}
 use Rattle.domain_dnssec.proofs.AmongLemmas.{any_two, contains_in, in_contains}
 use Rattle.domain_borrowed.specs.{Data.{minimum_of, RawRecord, zone_of_raw}, Wire.{record_octets, IsRecord}}
-use Rattle.domain_zone.specs.{Owners.{OwnerRecords, owner_at}, View.as_zone_record}
+use Rattle.domain_zone.specs.{Owners.{OwnerRecords, owner_at, owners_with_records}, View.as_zone_record}
 use Rattle.domain_zone.specs.Zone.{ZoneRecord, clashes, has_clash, has_unequal_ttls, records_of, unoccluded_owners}
-use Rattle.domain_zone.proofs.{GivenLemmas.{name_of, next_is_owner}, OwnerLemmas.in_any, PairLemmas.{In, all_in, all_from_in}}
+use Rattle.domain_zone.proofs.{GivenLemmas.{name_of}, OwnerLemmas.in_any, PairLemmas.{In, all_in, all_from_in}}
 use Rattle.domain_zone.proofs.{TtlLemmas.{has_neighbour_clash, neighbours_tell, NeverDescend}, ZoneLemmas.{all_both, all_front, any_none, filter_whole, weaker}}
 use Rattle.domain_zone.proofs.FindLemmas.{in_filter, in_filtered, in_front, in_map, in_middle, from_map, in_either}
 use Rattle.denial_c.specs.{Chains.Sorts, Given.AreGiven, Uneven.{is_in_set, is_other, set_of, IsFirstClash, IsFirstUneven, IsUnevenAt}}
@@ -92,17 +92,20 @@ between_end zs previous s order = sym (neighbours_tell zs order) ∙ ap has_neig
 
 -- ---- owners
 
--- these are the names of the owners given so far that stay, and none of them has unequal TTLs
+-- these names, and those of the owners that are left and stay, are all, and none of these has unequal TTLs
 pub record IsWalked (excludes d : Bool) (L : List ZoneRecord) (a : Name) (left : List OwnerRecords) : Type 0 where
   pub names : List Name
   pub kept : AreKept excludes d L a left names
   pub even : has_unequal_ttls L names ≡ false
 
 module _ {excludes d : Bool} {L : List ZoneRecord} {a : Name} where
+  pub walked_start : {left : List OwnerRecords} → left ≡ owners_with_records d L a → IsWalked excludes d L a left
+  walked_start all = record { names = []; kept = kept_start all refl; even = refl }
+
   -- where an owner is next
   module _ {ahead left : List OwnerRecords} {o : OwnerRecords} (s : IsWalked excludes d L a ahead) (next : ahead ≡ o ∷ left) where
     pub walked_known : o ≡ owner_at L a o.name
-    walked_known = next_is_owner d L a s.kept.given o left (ap (λ os. s.kept.given ++ os) (sym next) ∙ s.kept.all)
+    walked_known = (subst (AllByRecursion (λ o. o ≡ owner_at L a o.name)) next s.kept.known).0
 
     pub walked_clash : (t : ℕ) → IsFirstClash o.records t → IsFirstClash (records_of L o.name) t
     walked_clash t h = subst (λ p. IsFirstClash p.records t) walked_known h
@@ -123,15 +126,12 @@ module _ {excludes d : Bool} {L : List ZoneRecord} {a : Name} where
 
       pub walked_first : (excludes && cut) ≡ false → IsFirstUneven L (covered_names excludes d L a) o.name
       walked_first stay =
-          let names = λ (os : List OwnerRecords). map name_of (filter (stays excludes) os) in
           let after = filter (stays excludes) left in
           record {
             passed = s.names;
-            rest = names left;
-            among = sym (names_stay excludes L a (unoccluded_owners d L a)) ∙ ap names (sym s.kept.all ∙ ap (λ os. s.kept.given ++ os) next)
-                ∙ ap (map name_of) (filter-append (stays excludes) s.kept.given (o ∷ left))
-                ∙ map-append name_of (filter (stays excludes) s.kept.given) (filter (stays excludes) (o ∷ left))
-                ∙ (λ i. sym s.kept.are i ++ map name_of (cond (stays_by excludes o is stay i) (o ∷ after) after));
+            rest = map name_of after;
+            among = s.kept.all ∙ ap (λ os. s.names ++ map name_of (filter (stays excludes) os)) next
+                ∙ (λ i. s.names ++ map name_of (cond (stays_by excludes o is stay i) (o ∷ after) after));
             even = s.even;
           }
 

@@ -1,13 +1,13 @@
--- What is known of the owners that an iterator has given and has left.
-use Rattle.std.proofs.Common.{arith, ◌≡◌, ◌≤◌, Bool, true, List, [], ◌∷◌, ◌++◌, map, refl, sym, ◌∙◌, subst, Option, ℕ}
+-- What is known of owners that an iterator gives.
+use Rattle.std.proofs.Common.{arith, ◌≡◌, ◌≤◌, Bool, true, List, [], ◌∷◌, map, refl, sym, ◌∙◌, Option, ℕ}
 use Rattle.std.{proofs.lemmas.{Grind.common_steps}, specs.List.{AllByRecursion}}
 use Rattle.domain_names.specs.{Laws.same_name_same, Name.same_name, Words.Name}
 use Rattle.domain_record.specs.declared.record.Record.{Record}
 use Rattle.domain_records.specs.Order.{MayFollow, HoldsPairwise, IsInOrder}
-use Rattle.domain_zone.specs.{Owners.{OwnerRecords, owner_at, owners_with_records}, View.as_zone_record}
-use Rattle.domain_zone.specs.Zone.{ZoneRecord, records_of, unoccluded_owners, has_clash}
+use Rattle.domain_zone.specs.{Owners.{OwnerRecords, owner_at}, View.as_zone_record}
+use Rattle.domain_zone.specs.Zone.{ZoneRecord, records_of, has_clash}
 use Rattle.domain_zone.proofs.{NameLemmas.{one_lowered, same_itself}, OwnerLemmas.filter_passes, PairLemmas.all_from_in, TtlLemmas.NeverDescend}
-use Rattle.domain_zone.proofs.ZoneLemmas.{all_front, all_map, weaker}
+use Rattle.domain_zone.proofs.ZoneLemmas.{all_map, weaker}
 
 abbrev pub name_of : OwnerRecords → Name
 name_of o = o.name
@@ -17,13 +17,6 @@ clashes_in o = has_clash o.records
 
 pub all_known : (L : List ZoneRecord) (a : Name) (ks : List Name) → AllByRecursion (λ o. o ≡ owner_at L a o.name) (map (owner_at L a) ks)
 all_known L a ks = all_map _ (owner_at L a) ks (all_from_in _ ks (λ k i. refl))
-
-module _ (d : Bool) (L : List ZoneRecord) (a : Name) (given : List OwnerRecords) where
-  -- the next one is an owner with its records
-  pub next_is_owner : (o : OwnerRecords) (left : List OwnerRecords) → given ++ o ∷ left ≡ owners_with_records d L a → o ≡ owner_at L a o.name
-  next_is_owner o left e =
-      (all_front (λ o. o ≡ owner_at L a o.name) given (o ∷ left)
-      (subst (AllByRecursion (λ o. o ≡ owner_at L a o.name)) (sym e) (all_known L a (unoccluded_owners d L a)))).1.0
 
 -- ---- the types of an owner's records never descend
 

@@ -1,10 +1,10 @@
 use Rattle.std.proofs.Common.{◌∙◌, ◌++◌, ◌∷◌, [], arith}
-use Rattle.domain_alike.proofs.KeptLemmas.{kept_all, kept_more, kept_past}
+use Rattle.domain_alike.proofs.KeptLemmas.{kept_all, kept_more, kept_past, kept_start}
 use Rattle.domain_alike.proofs.chain_names.owners_of.Goals as goal
 use Rattle.std.proofs.lemmas.Grind.{common_steps}
 
 pub owners-init : goal.owners-init
-owners-init c = grind (arith, common_steps)
+owners-init c = kept_start (grind (arith, common_steps)) c.new-owners.ensures.items
 
 pub owners-preserved-then-without_unsigned-is_unsigned_cut : goal.owners-preserved-then-without_unsigned-is_unsigned_cut
 owners-preserved-then-without_unsigned-is_unsigned_cut c =
