@@ -53,6 +53,7 @@ fn push_token(line: &mut String, first: bool, text: &str) -> Result<(), OutOfMem
 }
 
 /// The tokens with one space between them.
+#[tactic(auto, using(crate::proofs::PieceLemmas::from_nothing))]
 fn simple_text(alloc: Global, pieces: &[Piece]) -> Result<String, OutOfMemory>
     ensures { IfOk result (λ text. string_bytes text ≡ simple_text (map piece_text pieces.now)) }
 {
