@@ -55,6 +55,34 @@ module _ {V W : Type 0} (limit : Option ℕ) (A : List (List ℕ) → V → List
   pub both_one_fault : OneFault limit RA → OneFault limit RB → OneFault limit (RefusesBoth A RA RB)
   both_one_fault one other old m n x y h h8 own also = grind (arith, common_steps)
 
+-- a grammar that reads tokens in one way at most, and what it refuses it does not read, and refuses for one reason
+pub record IsExact {V : Type 0} (limit : Option ℕ) (G : List (List ℕ) → V → List (List ℕ) → Type 0)
+    (R : List (List ℕ) → List (List ℕ) → ScanFault → Type 0) : Type 0 where
+  pub once : ReadsOnce G
+  pub apart : Excludes limit G R
+  pub one_fault : OneFault limit R
+
+pub fields_exact : (limit : Option ℕ) (l : Layout) → IsExact limit (Scans l) (Refuses limit l)
+fields_exact limit l = record { once = fields_once l; apart = fields_refused limit l; one_fault = fields_one_fault limit l }
+
+-- a token that spells one value, or is refused for one reason
+pub token_exact : {V : Type 0} (limit : Option ℕ) (spells : List ℕ → V → Type 0) (Why : ScanFault → List ℕ → Type 0)
+    → ((text : List ℕ) (v w : V) → spells text v → spells text w → v ≡ w) → ((fault : ScanFault) (text : List ℕ) (v : V) → Why fault text → spells text v → ⊥)
+    → ((x y : ScanFault) (text : List ℕ) → Why x text → Why y text → x ≡ y) → IsExact limit (OneToken spells) (RefusesToken Why)
+token_exact limit spells Why once none one = record {
+  once = one_token spells once;
+  apart = token_refused limit spells Why (λ fault text v why is own. none fault text v why is);
+  one_fault = token_once_refused limit Why one;
+}
+
+pub both_exact : {V W : Type 0} (limit : Option ℕ) (A : List (List ℕ) → V → List (List ℕ) → Type 0) (B : List (List ℕ) → W → List (List ℕ) → Type 0)
+    (RA RB : List (List ℕ) → List (List ℕ) → ScanFault → Type 0) → IsExact limit A RA → IsExact limit B RB → IsExact limit (Both A B) (RefusesBoth A RA RB)
+both_exact limit A B RA RB a b = record {
+  once = both_once A B a.once b.once;
+  apart = both_refused limit A B RA RB a.once a.apart b.apart;
+  one_fault = both_one_fault limit A B RA RB a.once a.apart a.one_fault b.one_fault;
+}
+
 -- fields and then octets, which all tokens that are left spell together
 module _ {V : Type 0} (G : List (List ℕ) → V → List (List ℕ) → Type 0) (once : ReadsOnce G) (codec : Codec) (old : List (List ℕ)) (v w : V) (x y : List ℕ)
     (first : Spells G codec old v x) (second : Spells G codec old w y) where
@@ -64,15 +92,14 @@ module _ {V : Type 0} (G : List (List ℕ) → V → List (List ℕ) → Type 0)
   pub same_octets : x ≡ y
   same_octets = grind (arith, common_steps)
 
-module _ {V : Type 0} (limit : Option ℕ) (G : List (List ℕ) → V → List (List ℕ) → Type 0) (R : List (List ℕ) → List (List ℕ)
-    → ScanFault → Type 0) (once : ReadsOnce G) (excludes : Excludes limit G R)
-    (TooMany : V → List ℕ → Type 0) (codec : Codec) where
+module _ {V : Type 0} (limit : Option ℕ) (G : List (List ℕ) → V → List (List ℕ) → Type 0) (R : List (List ℕ) → List (List ℕ) → ScanFault → Type 0)
+    (exact : IsExact limit G R) (Unfit : V → List ℕ → Type 0) (message : List ℕ) (codec : Codec) where
   module _ (old new : List (List ℕ)) (fault : ScanFault) (own : IsOfTokens limit fault) (v : V) (octets : List ℕ) (is : Spells G codec old v octets) where
-    pub entry_refused : (TooMany v octets → ⊥) → RefusesData G R limit TooMany codec old new fault → ⊥
+    pub entry_refused : (Unfit v octets → ⊥) → RefusesData G R limit Unfit message codec old new fault → ⊥
     entry_refused fits h = grind (arith, common_steps)
 
   -- data are refused, but for want of room or memory, for one reason
-  pub entry_refused_once : OneFault limit R → (old m n : List (List ℕ)) (x y : ScanFault)
-      → RefusesData G R limit TooMany codec old m x → RefusesData G R limit TooMany codec old n y
+  pub entry_refused_once : (old m n : List (List ℕ)) (x y : ScanFault)
+      → RefusesData G R limit Unfit message codec old m x → RefusesData G R limit Unfit message codec old n y
       → IsOfTokens limit x → IsOfTokens limit y → x ≡ y
-  entry_refused_once one old m n x y h h7 own also = grind (arith, common_steps)
+  entry_refused_once old m n x y h h7 own also = grind (arith, common_steps)

@@ -3,8 +3,8 @@ pub mod TargetLemmas
 pub mod ReadLemmas
 pub mod OrderLemmas
 pub mod ExactLemmas
+pub mod SameLemmas
 pub mod FaultLemmas
 pub mod ScanLemmas
 pub mod GrammarLemmas
-pub mod PieceLemmas
 pub mod ReadBackLemmas

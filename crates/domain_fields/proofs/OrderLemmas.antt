@@ -90,7 +90,7 @@ lowered_field : (f : Field) (v : Value f) → FieldFits f v → FieldFits f (low
 lowered_field name v h = IsName-lowered v h
 lowered_field _ v h = h
 
-Fits-lower : (l : Layout) (v : Values l) → Fits l v → Fits l (lower l v)
+pub Fits-lower : (l : Layout) (v : Values l) → Fits l v → Fits l (lower l v)
 Fits-lower (one f) v h = lowered_field f v h
 Fits-lower (a ▸ b) v h = (Fits-lower a v.0 h.0, Fits-lower b v.1 h.1)
 

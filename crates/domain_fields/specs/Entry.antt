@@ -1,5 +1,5 @@
 -- data as tokens: fields, and then octets, which all tokens that are left spell together
-use Rattle.std.specs.{Prelude.{◌≡◌, ℕ, [], length, codes, Option}, List.concat}
+use Rattle.std.specs.{Prelude.{◌≡◌, ℕ, [], length, Option}, List.concat}
 use Rattle.domain_octets.specs.{Limit.HasRoom, Words.Octets}
 use Rattle.domain_codecs.specs.{Codec.Decodes, declared.codec.Codec.Codec}
 use Rattle.domain_names.specs.{TextFault.{ScanFault, illegal}, Words.Tokens}
@@ -21,25 +21,25 @@ pub record RefusesEntry {V : Type 0} (G : Grammar V) (limit : Option ℕ) (codec
   pub end_of : IsEnd new entry
   pub why : EntryFault codec limit fault entry
 
--- fields and octets were read, for which the builder had room, but there are too many octets after
+-- fields and octets were read, for which the builder had room, but these octets may not follow
 -- these fields
-pub record IsTooLong {V : Type 0} (G : Grammar V) (limit : Option ℕ)
-    (TooMany : V → Octets → Type 0) (codec : Codec) (old new : Tokens)
-    (fault : ScanFault) : Type 0 where
+pub record IsUnfit {V : Type 0} (G : Grammar V) (limit : Option ℕ) (Unfit : V → Octets → Type 0)
+    (message : Octets) (codec : Codec) (old new : Tokens) (fault : ScanFault) : Type 0 where
   pub value : V
   pub octets : Octets
   pub spelled : Spells G codec old value octets
   pub room : HasRoom limit (length octets)
-  pub long : TooMany value octets
+  pub unfit : Unfit value octets
   pub all : new ≡ []
-  pub said : fault ≡ illegal (codes "record data too long")
+  pub said : fault ≡ illegal message
 
--- the first field that is refused, and the tokens that are left then
+-- the first field that is refused, and the tokens that are left then; octets that may not follow
+-- are refused with this message
 pub data RefusesData {V : Type 0} (G : Grammar V) (R : Refusal) (limit : Option ℕ)
-    (TooMany : V → Octets → Type 0) (codec : Codec)
+    (Unfit : V → Octets → Type 0) (message : Octets) (codec : Codec)
     (old new : Tokens) (fault : ScanFault) : Type 0 where
-  in_field : R old new fault → RefusesData G R limit TooMany codec old new fault
+  in_field : R old new fault → RefusesData G R limit Unfit message codec old new fault
   in_entry : RefusesEntry G limit codec old new fault
-      → RefusesData G R limit TooMany codec old new fault
-  too_long : IsTooLong G limit TooMany codec old new fault
-      → RefusesData G R limit TooMany codec old new fault
+      → RefusesData G R limit Unfit message codec old new fault
+  unfit : IsUnfit G limit Unfit message codec old new fault
+      → RefusesData G R limit Unfit message codec old new fault

@@ -9,3 +9,4 @@ pub mod Sequence
 pub mod Entry
 pub mod Flag
 pub mod Printed
+pub mod Pieces

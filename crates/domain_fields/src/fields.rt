@@ -1,13 +1,13 @@
 //! The fields of record data: how they are written, compared and hashed, once for every type.
-ghost use Rattle.std.specs.Prelude.{◌≡◌, ◌≤◌, ◌-◌, SomeIff, true, refl, length, take, drop, fold};
+ghost use Rattle.std.specs.Prelude.{◌≡◌, ◌≤◌, ◌-◌, ◌↔◌, SomeIff, IsTrue, true, refl, length, take, drop, fold};
 ghost use Rattle.std.specs.List.{flat_map};
 ghost use Rattle.std.specs.Hash as fed;
-ghost use Rattle.std.specs.Prelude.{map};
+ghost use Rattle.std.specs.Prelude.{map, bytes_eq};
 ghost use Rattle.std.specs.Char.{to_ascii_lowercase};
 ghost use Rattle.std.specs.Ordering.{nat_cmp};
 ghost use Rattle.std.specs.Cmp.Lexicographic.{slice_cmp};
 ghost use Rattle.domain_fields.specs.Field.{Field, Value, field_octets, lower_field, FieldFits, octet, short, long, name, spelled_name, exactly, at_most, rest};
-ghost use Rattle.domain_fields.specs.Layout.{Layout, one, ◌▸◌, Values, Fits, octets_of, canonical_of, canonical_order, is_delimited};
+ghost use Rattle.domain_fields.specs.Layout.{Layout, one, ◌▸◌, Values, Fits, octets_of, canonical_of, canonical_order, lower, is_delimited, splits};
 ghost use Rattle.domain_fields.specs.Laws.{both_true};
 ghost use Rattle.domain_fields.specs.Target.{Appends};
 
@@ -117,6 +117,19 @@ pub fn canonical_cmp_octets<F: Fields>(fields: &F, octets: &[u8]) -> Ordering
     let (order, rest) = fields.order_from(octets);
     let end: &[u8] = &[];
     order.then(end.cmp(rest))
+}
+
+/// Whether the canonical octets of fields are the same.
+#[tactic(auto, using(crate::proofs::SameLemmas::equal_octets))]
+pub fn canonical_eq<F: Fields>(fields: &F, other: &F) -> bool
+    ensures octets { result ≡ bytes_eq (canonical_of F.layout (F.values fields.now))
+        (canonical_of F.layout (F.values other.now)) }
+    ensures values { splits F.layout ≡ true → IsTrue result
+        ↔ (lower F.layout (F.values fields.now) ≡ lower F.layout (F.values other.now)) }
+{
+    fields.fits();
+    other.fits();
+    fields.order(other).is_eq()
 }
 
 /// The first octets, up to so many, and the others.

@@ -16,6 +16,7 @@ mod counted;
 mod encoded;
 mod fields;
 pub mod laws;
+mod pieces;
 mod read_fields;
 mod scan_fields;
 mod wire_fault;
@@ -24,7 +25,9 @@ pub use counted::Counted;
 pub use encoded::{InBase16, InBase64, InLowerBase16};
 pub use fields::{
     AtMost, Delimited, Exactly, Fields, MAX_RDLEN, Rest, Spelled, canonical_cmp_octets,
+    canonical_eq,
 };
+pub use pieces::{Block, Comment, Pieces, Token};
 pub use read_fields::ReadFields;
 pub use scan_fields::{Address, ScanFields, Scanned};
 pub use wire_fault::WireFault;

@@ -7,7 +7,6 @@ ghost use Rattle.domain_keys.specs.{Pieces.{dnskey_text, ds_text}, Scan.{DnskeyT
 
 use crate::{Dnskey, Ds};
 use domain_octets::Octets;
-use domain_octets::laws::slices_hold_octets;
 
 /// The octets of a key's data are read as these fields, in no other way, and nothing is left.
 pub fn dnskey_parses_back<O: Octets>(value: &Dnskey<O>)
@@ -28,7 +27,6 @@ pub fn dnskey_reads_back<O: Octets>(value: &Dnskey<O>)
     ensures { DnskeyText (words_of (dnskey_text value.now)) value.now }
 {
     let _fields = value.fields();
-    slices_hold_octets(value.public_key().as_slice());
 }
 
 /// So do those of a digest's data.
@@ -36,5 +34,4 @@ pub fn ds_reads_back<O: Octets>(value: &Ds<O>)
     ensures { DsText (words_of (ds_text value.now)) value.now }
 {
     let _fields = value.fields();
-    slices_hold_octets(value.digest().as_slice());
 }

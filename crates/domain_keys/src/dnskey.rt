@@ -13,7 +13,7 @@ ghost use Rattle.domain_keys.specs.Data.{dnskey_data, dnskey, dnskey_values, dns
 ghost use Rattle.domain_keys.specs.Flags.{is_revoked, is_secure_entry_point, is_zone_key};
 ghost use Rattle.domain_keys.specs.KeyTag.{key_tag_of};
 
-use crate::fields::{KeyFields, MOST};
+use crate::entry::{KeyFields, MOST};
 use crate::{flags, key_tag};
 use domain_base::{CanonicalOrd, Rtype, SecurityAlgorithm};
 use domain_fields::{AtMost, Fields, MAX_RDLEN, ReadFields, Rest};
@@ -78,12 +78,7 @@ impl<O: Octets> Dnskey<O> {
         if public_key.as_slice().len() > MOST {
             return Err(LongRecordData);
         }
-        Ok(Dnskey {
-            flags,
-            protocol,
-            algorithm,
-            public_key,
-        })
+        Ok(Dnskey::new_unchecked(flags, protocol, algorithm, public_key))
     }
 
     /// The data of these fields, which have at most 65,535 octets. Takes no memory.
@@ -107,16 +102,12 @@ impl<O: Octets> Dnskey<O> {
     }
 
     /// The same key over other octets, which are the same. Takes no memory.
+    #[tactic(auto, unfolding(domain_fields::specs::Layout::octets_of))]
     pub fn with_octets<P: Octets>(&self, public_key: P) -> Dnskey<P>
         requires { P.octets public_key ≡ self.now.public_key }
         ensures { result ≡ self.now }
     {
-        Dnskey {
-            flags: self.flags,
-            protocol: self.protocol,
-            algorithm: self.algorithm,
-            public_key,
-        }
+        Dnskey::new_unchecked(self.flags, self.protocol, self.algorithm, public_key)
     }
 
     /// A copy. Uses the allocator of the key's octets.
@@ -158,13 +149,7 @@ impl<O: Octets> Dnskey<O> {
     pub fn into_public_key(self) -> O
         ensures { O.octets result ≡ self.public_key }
     {
-        let Dnskey {
-            flags: _,
-            protocol: _,
-            algorithm: _,
-            public_key,
-        } = self;
-        public_key
+        self.public_key
     }
 
     /// The same key, held otherwise. What `From` makes of the key must be at most 65,531 octets.
@@ -176,17 +161,11 @@ impl<O: Octets> Dnskey<O> {
         ensures numbers { (result.flags ≡ self.flags) × (result.protocol ≡ self.protocol)
             × (result.algorithm ≡ self.algorithm) }
     {
-        let Dnskey {
-            flags,
-            protocol,
-            algorithm,
-            public_key,
-        } = self;
         Dnskey {
-            flags,
-            protocol,
-            algorithm,
-            public_key: P::from(public_key),
+            flags: self.flags,
+            protocol: self.protocol,
+            algorithm: self.algorithm,
+            public_key: P::from(self.public_key),
         }
     }
 
@@ -195,14 +174,14 @@ impl<O: Octets> Dnskey<O> {
     pub fn is_zone_key(&self) -> bool
         ensures { result ≡ is_zone_key self.now.flags }
     {
-        flags::has_flag(self.flags, flags::ZONE_KEY)
+        self.flags & flags::ZONE_KEY != 0
     }
 
     /// Whether the key is revoked: flag 0x0080 (RFC 5011, section 3).
     pub fn is_revoked(&self) -> bool
         ensures { result ≡ is_revoked self.now.flags }
     {
-        flags::has_flag(self.flags, flags::REVOKED)
+        self.flags & flags::REVOKED != 0
     }
 
     /// Whether other zones may point to the key: flag 0x0001. A hint, on which no validation may
@@ -210,7 +189,7 @@ impl<O: Octets> Dnskey<O> {
     pub fn is_secure_entry_point(&self) -> bool
         ensures { result ≡ is_secure_entry_point self.now.flags }
     {
-        flags::has_flag(self.flags, flags::SECURE_ENTRY_POINT)
+        self.flags & flags::SECURE_ENTRY_POINT != 0
     }
 
     /// The tag by which DS and RRSIG records name the key (RFC 4034, appendix B), for every
@@ -260,15 +239,13 @@ impl<'a> Dnskey<&'a [u8]> {
         ensures unmoved { OnErr result (parser.new ≡ parser.old) }
         ensures goes_on { GoesOn parser.old parser.new }
     {
-        match KeyFields::<'a>::read(parser) {
-            Ok((flags, (protocol, (algorithm, (AtMost, Rest(public_key)))))) => Ok(Dnskey {
-                flags,
-                protocol,
-                algorithm: SecurityAlgorithm::from_int(algorithm),
-                public_key,
-            }),
-            Err(fault) => Err(ParseError::from(fault)),
-        }
+        let (flags, (protocol, (algorithm, (AtMost, Rest(public_key))))) = KeyFields::read(parser)?;
+        Ok(Dnskey {
+            flags,
+            protocol,
+            algorithm: SecurityAlgorithm::from_int(algorithm),
+            public_key,
+        })
     }
 }
 
@@ -283,10 +260,7 @@ impl<'a> ParseRecordData<'a> for Dnskey<&'a [u8]> {
         if rtype != Rtype::DNSKEY {
             return Ok(None);
         }
-        match Self::parse(parser) {
-            Ok(data) => Ok(Some(data)),
-            Err(error) => Err(error),
-        }
+        Ok(Some(Self::parse(parser)?))
     }
 }
 
@@ -330,7 +304,7 @@ impl<O: Octets> Dnskey<O> {
         ensures value { result ≡ bytes_eq (dnskey_octets self.now) (dnskey_octets other.now) }
         ensures same { IsTrue result ↔ (self.now ≡ other.now) }
     {
-        self.fields().order(&other.fields()).is_eq()
+        domain_fields::canonical_eq(&self.fields(), &other.fields())
     }
 
     /// The order to a key over other octets: by flags, protocol, algorithm and key, which is the

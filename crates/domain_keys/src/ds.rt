@@ -11,7 +11,7 @@ ghost use Rattle.domain_fields.specs.Layout.{Begins, Fits, FirstFault, GoesOn};
 ghost use Rattle.domain_fields.specs.{Laws.{fed_alike, tied_octets}, DataClone.copies_tied};
 ghost use Rattle.domain_keys.specs.Data.{ds_data, ds, ds_values, ds_octets};
 
-use crate::fields::{KeyFields, MOST};
+use crate::entry::{KeyFields, MOST};
 use domain_base::{CanonicalOrd, DigestAlgorithm, Rtype, SecurityAlgorithm};
 use domain_fields::{AtMost, Fields, MAX_RDLEN, ReadFields, Rest};
 use domain_octets::{
@@ -75,12 +75,7 @@ impl<O: Octets> Ds<O> {
         if digest.as_slice().len() > MOST {
             return Err(LongRecordData);
         }
-        Ok(Ds {
-            key_tag,
-            algorithm,
-            digest_type,
-            digest,
-        })
+        Ok(Ds::new_unchecked(key_tag, algorithm, digest_type, digest))
     }
 
     /// The data of these fields, which have at most 65,535 octets. Takes no memory.
@@ -104,16 +99,12 @@ impl<O: Octets> Ds<O> {
     }
 
     /// The same digest over other octets, which are the same. Takes no memory.
+    #[tactic(auto, unfolding(domain_fields::specs::Layout::octets_of))]
     pub fn with_octets<P: Octets>(&self, digest: P) -> Ds<P>
         requires { P.octets digest ≡ self.now.digest }
         ensures { result ≡ self.now }
     {
-        Ds {
-            key_tag: self.key_tag,
-            algorithm: self.algorithm,
-            digest_type: self.digest_type,
-            digest,
-        }
+        Ds::new_unchecked(self.key_tag, self.algorithm, self.digest_type, digest)
     }
 
     /// A copy. Uses the allocator of the digest's octets.
@@ -155,13 +146,7 @@ impl<O: Octets> Ds<O> {
     pub fn into_digest(self) -> O
         ensures { O.octets result ≡ self.digest }
     {
-        let Ds {
-            key_tag: _,
-            algorithm: _,
-            digest_type: _,
-            digest,
-        } = self;
-        digest
+        self.digest
     }
 
     /// The fields, in the order of the wire.
@@ -195,15 +180,15 @@ impl<'a> Ds<&'a [u8]> {
         ensures unmoved { OnErr result (parser.new ≡ parser.old) }
         ensures goes_on { GoesOn parser.old parser.new }
     {
-        match KeyFields::<'a>::read(parser) {
-            Ok((key_tag, (algorithm, (digest_type, (AtMost, Rest(digest)))))) => Ok(Ds {
-                key_tag,
-                algorithm: SecurityAlgorithm::from_int(algorithm),
-                digest_type: DigestAlgorithm::from_int(digest_type),
-                digest,
-            }),
-            Err(fault) => Err(ParseError::from(fault)),
-        }
+        let (key_tag, (algorithm, (digest_type, (AtMost, Rest(digest))))) = KeyFields::read(
+            parser,
+        )?;
+        Ok(Ds {
+            key_tag,
+            algorithm: SecurityAlgorithm::from_int(algorithm),
+            digest_type: DigestAlgorithm::from_int(digest_type),
+            digest,
+        })
     }
 }
 
@@ -218,10 +203,7 @@ impl<'a> ParseRecordData<'a> for Ds<&'a [u8]> {
         if rtype != Rtype::DS {
             return Ok(None);
         }
-        match Self::parse(parser) {
-            Ok(data) => Ok(Some(data)),
-            Err(error) => Err(error),
-        }
+        Ok(Some(Self::parse(parser)?))
     }
 }
 
@@ -265,7 +247,7 @@ impl<O: Octets> Ds<O> {
         ensures value { result ≡ bytes_eq (ds_octets self.now) (ds_octets other.now) }
         ensures same { IsTrue result ↔ (self.now ≡ other.now) }
     {
-        self.fields().order(&other.fields()).is_eq()
+        domain_fields::canonical_eq(&self.fields(), &other.fields())
     }
 
     /// The order to a digest over other octets: by key tag, algorithm, type of the digest and

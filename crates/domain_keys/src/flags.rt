@@ -1,6 +1,5 @@
 //! The flags of keys (RFC 4034, section 2.1.1; RFC 5011, section 3).
 ghost use Rattle.std.specs.Prelude.{◌≡◌, Some};
-ghost use Rattle.domain_fields.specs.Flag.{has_flag};
 ghost use Rattle.domain_keys.specs.Flags.{word_if, flags_comment};
 
 use std::fmt;
@@ -13,13 +12,6 @@ pub const REVOKED: u16 = 0x0080;
 
 /// Other zones may point to the key.
 pub const SECURE_ENTRY_POINT: u16 = 0x0001;
-
-/// Whether the flags have this one.
-pub fn has_flag(flags: u16, flag: u16) -> bool
-    ensures { result ≡ has_flag flag flags }
-{
-    flags & flag != 0
-}
 
 /// The names of the flags that are set, as a comment.
 #[derive(Drop)]
@@ -36,9 +28,9 @@ impl fmt::Display for FlagsComment {
 
     fn fmt<W: fmt::Write>(&self, f: &mut fmt::Formatter<W>) -> fmt::Result {
         let flags = self.0;
-        let revoked = word_if(has_flag(flags, REVOKED), " revoked");
-        let entry_point = word_if(has_flag(flags, SECURE_ENTRY_POINT), " sep");
-        let zone_key = word_if(has_flag(flags, ZONE_KEY), " zone_key");
+        let revoked = word_if(flags & REVOKED != 0, " revoked");
+        let entry_point = word_if(flags & SECURE_ENTRY_POINT != 0, " sep");
+        let zone_key = word_if(flags & ZONE_KEY != 0, " zone_key");
         let none = word_if(flags == 0, " <none>");
         write!(f, "flags:{revoked}{entry_point}{zone_key}{none}")
     }

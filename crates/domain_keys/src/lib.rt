@@ -12,14 +12,12 @@
 
 pub mod data_laws;
 mod dnskey;
-mod dnskey_text;
 mod ds;
-mod ds_text;
 mod entry;
-mod fields;
 mod flags;
 mod key_tag;
 pub mod laws;
+mod text;
 
 pub use dnskey::Dnskey;
 pub use ds::Ds;

@@ -1,11 +1,8 @@
 -- what was composed parses back
-use Rattle.std.proofs.Common.{ℕ, ◌≡◌, ◌≤◌, List, [], length, length-append, refl, arith}
+use Rattle.std.proofs.Common.{ℕ, ◌≤◌, List, [], length, length-append, refl, arith}
 use Rattle.domain_octets.specs.Words.{AreOctets}
 use Rattle.domain_fields.{specs.Layout.{Values, Begins, ParsesBack, octets_of}, proofs.ExactLemmas.parses_back}
-use Rattle.domain_plain.specs.Plain.{a, unknown}
-
-pub address_back : (octets : List ℕ) → AreOctets octets → length octets ≡ 4 → ParsesBack a octets
-address_back octets small four = parses_back a octets refl (four, small) tt
+use Rattle.domain_plain.specs.Plain.{unknown}
 
 pub short_data_back : (octets : List ℕ) → AreOctets octets → length octets ≤ 65535 → ParsesBack unknown (tt, octets)
 unfolding octets_of

@@ -1,8 +1,9 @@
 -- SOA data over other names, and as text
-use Rattle.std.specs.{Prelude.{◌≡◌, [], ◌∷◌, ◌++◌, Option, Some}, Fmt.{decimal, ◌++?◌}}
-use Rattle.domain_octets.specs.{Words.Octets, Characters.{space, dot}}
-use Rattle.domain_names.specs.{Text.name_text, Words.Name}
-use Rattle.domain_plain.specs.declared.soa.Soa.{Soa}
+use Rattle.std.specs.{Prelude.{◌≡◌, Option, Some}, List.join_with_byte}
+use Rattle.domain_octets.specs.{Words.Octets, Characters.space}
+use Rattle.domain_names.specs.Words.{Name}
+use Rattle.domain_fields.specs.Printed.{printed}
+use Rattle.domain_plain.specs.{declared.soa.Soa.Soa, Plain.{soa, soa_values}}
 
 -- each name stands for the other one, and the numbers are the same
 pub record IsSoaWith {M N : Type 0} (is_same : M → N → Type 0) (source : Soa M)
@@ -17,10 +18,4 @@ pub record IsSoaWith {M N : Type 0} (is_same : M → N → Type 0) (source : Soa
 
 -- the two names with their last dots, and the numbers, with single spaces between them
 abbrev pub soa_text : {N : Type 0} → (N → Name) → Soa N → Option Octets
-soa_text labels d =
-    Some (name_text (labels d.mname) ++ dot ∷ []) ++? Some (space ∷ [])
-    ++? Some (name_text (labels d.rname) ++ dot ∷ []) ++? Some (space ∷ [])
-    ++? Some (decimal d.serial) ++? Some (space ∷ []) ++? Some (decimal d.refresh)
-    ++? Some (space ∷ [])
-    ++? Some (decimal d.retry) ++? Some (space ∷ []) ++? Some (decimal d.expire)
-    ++? Some (space ∷ []) ++? Some (decimal d.minimum)
+soa_text labels d = Some (join_with_byte space (printed soa (soa_values labels d)))

@@ -45,14 +45,8 @@ impl A {
         ensures unmoved { OnErr result (parser.new ≡ parser.old) }
         ensures goes_on { GoesOn parser.old parser.new }
     {
-        match Exactly::<4>::read(parser) {
-            Ok(address) => {
-                let octets = address.0;
-                let addr = Ipv4Addr::from(octets);
-                Ok(A { addr })
-            }
-            Err(fault) => Err(ParseError::from(fault)),
-        }
+        let Exactly(octets) = Exactly::<4>::read(parser)?;
+        Ok(A::new(Ipv4Addr::from(octets)))
     }
 
     /// The data that the tokens begin with: an address. A refusal leaves an end of the tokens.
@@ -73,11 +67,9 @@ impl A {
     {
         self.addr
     }
-}
 
-impl A {
     /// The fields, in the order of the wire.
-    fn fields(&self) -> Exactly<4>
+    pub(crate) fn fields(&self) -> Exactly<4>
         ensures { result.0 ≡ ipv4_octets self.now.addr }
     {
         Exactly(self.addr.octets())
@@ -146,10 +138,7 @@ impl<'a> ParseRecordData<'a> for A {
         if rtype != Rtype::A {
             return Ok(None);
         }
-        match A::parse(parser) {
-            Ok(data) => Ok(Some(data)),
-            Err(error) => Err(error),
-        }
+        Ok(Some(A::parse(parser)?))
     }
 }
 
@@ -194,7 +183,6 @@ impl fmt::Display for A {
     ghost output = { λ d. Some (ipv4_text (ipv4_octets d.addr)) };
 
     fn fmt<W: fmt::Write>(&self, f: &mut fmt::Formatter<W>) -> fmt::Result {
-        let addr = self.addr;
-        write!(f, "{addr}")
+        write!(f, "{}", self.addr)
     }
 }

@@ -11,54 +11,46 @@ ghost use Rattle.domain_plain.specs.{Plain.{mx_values, unknown, unknown_values},
 
 use crate::{A, Mx, Ns, Soa, UnknownRecordData};
 use domain_base::ToName;
-use domain_octets::{Octets, laws};
+use domain_fields::Fields;
+use domain_octets::Octets;
 
 /// The octets that an address is composed to parse back to it, and nothing is left.
-#[tactic(auto, using(crate::proofs::WireLemmas::address_back))]
+#[tactic(auto, using(domain_fields::proofs::ExactLemmas::parses_back))]
 pub fn a_parses_back(value: &A)
     ensures { ParsesBack a (a_values value.now) }
 {
-    laws::slices_hold_octets(&value.addr().octets());
+    value.fields().fits();
 }
 
 /// So does a name server.
-#[tactic(auto, using(domain_fields::proofs::ExactLemmas::parses_back, domain_fields::proofs::NameLemmas::name_fits))]
+#[tactic(auto, using(domain_fields::proofs::ExactLemmas::parses_back))]
 pub fn ns_parses_back<N: ToName>(value: &Ns<N>)
     ensures { ParsesBack ns (ns_values N.labels value.now) }
 {
-    let _nsdname = value.nsdname().as_wire();
+    value.fields().fits();
 }
 
 /// So does the start of a zone.
-#[tactic(auto, using(domain_fields::proofs::ExactLemmas::parses_back, domain_fields::proofs::NameLemmas::name_fits))]
+#[tactic(auto, using(domain_fields::proofs::ExactLemmas::parses_back))]
 pub fn soa_parses_back<N: ToName>(value: &Soa<N>)
     ensures { ParsesBack soa (soa_values N.labels value.now) }
 {
-    let _mname = value.mname().as_wire();
-    let _rname = value.rname().as_wire();
-    let _times = (
-        value.serial(),
-        value.refresh().as_secs(),
-        value.retry().as_secs(),
-    );
-    let _ends = (value.expire().as_secs(), value.minimum().as_secs());
+    value.fields().fits();
 }
 
 /// So does a mail exchange.
-#[tactic(auto, using(domain_fields::proofs::ExactLemmas::parses_back, domain_fields::proofs::NameLemmas::name_fits))]
+#[tactic(auto, using(domain_fields::proofs::ExactLemmas::parses_back))]
 pub fn mx_parses_back<N: ToName>(value: &Mx<N>)
     ensures { ParsesBack mx (mx_values N.labels value.now) }
 {
-    let _preference = value.preference();
-    let _exchange = value.exchange().as_wire();
+    value.fields().fits();
 }
 
 /// So does data of any type.
-#[tactic(auto, using(crate::proofs::WireLemmas::short_data_back))]
 pub fn unknown_data_parses_back<O: Octets>(value: &UnknownRecordData<O>)
     ensures { ParsesBack unknown (unknown_values O.octets value.now) }
 {
-    laws::slices_hold_octets(value.data().as_slice());
+    let _fields = value.fields();
 }
 
 /// Tokens that are refused as the generic form, but for want of room or of memory, spell no data in
@@ -76,53 +68,37 @@ pub fn generic_data_has_one_fault()
         → IsOfTokens limit y → x ≡ y }
 {}
 
-fn are_octets(first: u8, second: u8, third: u8, fourth: u8)
-    ensures { (first < 256) × (second < 256) × (third < 256) × (fourth < 256) }
-{}
-
 /// The words of what an address is written as spell it.
 #[tactic(auto, using(crate::proofs::ReadBackLemmas::a_back))]
 pub fn a_reads_back(value: &A)
     ensures { Scans a (words_of (ipv4_text (ipv4_octets value.now.addr))) (a_values value.now) [] }
 {
-    let octets = value.addr().octets();
-    are_octets(octets[0], octets[1], octets[2], octets[3]);
+    value.fields().fits();
 }
 
 /// So do those of a name server.
-#[tactic(auto, using(crate::proofs::ReadBackLemmas::named_back))]
 pub fn ns_reads_back<N: ToName>(value: &Ns<N>)
     ensures { Scans ns (words_of (name_text (N.labels value.now.nsdname) ++ codes "."))
         (ns_values N.labels value.now) [] }
 {
-    let _nsdname = value.nsdname().as_wire();
+    value.fields().fits();
 }
 
 /// So do those of the start of a zone.
-#[tactic(auto, using(crate::proofs::ReadBackLemmas::named_back))]
 pub fn soa_reads_back<N: ToName>(value: &Soa<N>)
     ensures { IfSome (soa_text N.labels value.now) (λ text.
         Scans soa (words_of text) (soa_values N.labels value.now) []) }
 {
-    let _mname = value.mname().as_wire();
-    let _rname = value.rname().as_wire();
-    let _times = (
-        value.serial(),
-        value.refresh().as_secs(),
-        value.retry().as_secs(),
-    );
-    let _ends = (value.expire().as_secs(), value.minimum().as_secs());
+    value.fields().fits();
 }
 
 /// So do those of a mail exchange.
-#[tactic(auto, using(crate::proofs::ReadBackLemmas::named_back))]
 pub fn mx_reads_back<N: ToName>(value: &Mx<N>)
     ensures { Scans mx (words_of (decimal value.now.preference ++ codes " "
         ++ name_text (N.labels value.now.exchange) ++ codes "."))
         (mx_values N.labels value.now) [] }
 {
-    let _preference = value.preference();
-    let _exchange = value.exchange().as_wire();
+    value.fields().fits();
 }
 
 /// So do those of data in the generic form, of any type.

@@ -11,7 +11,6 @@
 #![tactic(auto)]
 
 mod a;
-mod generic;
 pub mod laws;
 mod mx;
 mod ns;

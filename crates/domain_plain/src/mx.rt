@@ -58,10 +58,7 @@ impl<N> Mx<N> {
         ensures { IfOk result (λ copy. (copy.preference ≡ self.now.preference)
             × N.is_clone self.now.exchange copy.exchange) }
     {
-        Ok(Mx {
-            preference: self.preference,
-            exchange: self.exchange.try_clone()?,
-        })
+        Ok(Mx::new(self.preference, self.exchange.try_clone()?))
     }
 }
 
@@ -91,14 +88,8 @@ impl<M, N: OctetsFrom<M>> OctetsFrom<Mx<M>> for Mx<N> {
     ghost takes_memory = { N.takes_memory };
 
     fn try_octets_from(alloc: Global, source: Mx<M>) -> Result<Self, AppendError> {
-        let Mx {
-            preference,
-            exchange,
-        } = source;
-        Ok(Mx {
-            preference,
-            exchange: N::try_octets_from(alloc, exchange)?,
-        })
+        let exchange = N::try_octets_from(alloc, source.exchange)?;
+        Ok(Mx::new(source.preference, exchange))
     }
 }
 
@@ -111,14 +102,8 @@ impl<M, N: FlattenInto<M>> FlattenInto<Mx<M>> for Mx<N> {
     ghost takes_memory = { N.takes_memory };
 
     fn try_flatten_into(self, alloc: Global) -> Result<Mx<M>, AppendError> {
-        let Mx {
-            preference,
-            exchange,
-        } = self;
-        Ok(Mx {
-            preference,
-            exchange: exchange.try_flatten_into(alloc)?,
-        })
+        let exchange = self.exchange.try_flatten_into(alloc)?;
+        Ok(Mx::new(self.preference, exchange))
     }
 }
 
@@ -137,16 +122,11 @@ impl<N: ToName> Mx<N> {
         let (preference, Scanned(exchange)) = <(u16, Scanned<N>) as ScanFields<S>>::scan(
             alloc, scanner,
         )?;
-        Ok(Mx {
-            preference,
-            exchange,
-        })
+        Ok(Mx::new(preference, exchange))
     }
-}
 
-impl<N: ToName> Mx<N> {
     /// The fields, in the order of the wire.
-    fn fields(&self) -> (u16, ParsedName<'_>)
+    pub(crate) fn fields(&self) -> (u16, ParsedName<'_>)
         ensures { (result.0 ≡ self.now.preference) × (result.1 ≡ N.labels self.now.exchange) }
     {
         (self.preference, self.exchange.as_parsed())
@@ -170,13 +150,8 @@ impl<'a> Mx<ParsedName<'a>> {
         ensures unmoved { OnErr result (parser.new ≡ parser.old) }
         ensures goes_on { GoesOn parser.old parser.new }
     {
-        match <(u16, ParsedName<'a>)>::read(parser) {
-            Ok((preference, exchange)) => Ok(Mx {
-                preference,
-                exchange,
-            }),
-            Err(fault) => Err(ParseError::from(fault)),
-        }
+        let (preference, exchange) = <(u16, ParsedName<'a>)>::read(parser)?;
+        Ok(Mx::new(preference, exchange))
     }
 }
 
@@ -191,10 +166,7 @@ impl<'a> ParseRecordData<'a> for Mx<ParsedName<'a>> {
         if rtype != Rtype::MX {
             return Ok(None);
         }
-        match Self::parse(parser) {
-            Ok(data) => Ok(Some(data)),
-            Err(error) => Err(error),
-        }
+        Ok(Some(Self::parse(parser)?))
     }
 }
 
@@ -248,8 +220,6 @@ impl<N: ToName> fmt::Display for Mx<N> {
         ++ codes ".") };
 
     fn fmt<W: fmt::Write>(&self, f: &mut fmt::Formatter<W>) -> fmt::Result {
-        let preference = self.preference;
-        let exchange = self.exchange.fmt_with_dot();
-        write!(f, "{preference} {exchange}")
+        write!(f, "{} {}", self.preference, self.exchange.fmt_with_dot())
     }
 }

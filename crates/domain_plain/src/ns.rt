@@ -45,9 +45,7 @@ impl<N> Ns<N> {
         N: TryClone,
         ensures { IfOk result (λ copy. N.is_clone self.now.nsdname copy.nsdname) }
     {
-        Ok(Ns {
-            nsdname: self.nsdname.try_clone()?,
-        })
+        Ok(Ns::new(self.nsdname.try_clone()?))
     }
 }
 
@@ -75,10 +73,7 @@ impl<M, N: OctetsFrom<M>> OctetsFrom<Ns<M>> for Ns<N> {
     ghost takes_memory = { N.takes_memory };
 
     fn try_octets_from(alloc: Global, source: Ns<M>) -> Result<Self, AppendError> {
-        let Ns { nsdname } = source;
-        Ok(Ns {
-            nsdname: N::try_octets_from(alloc, nsdname)?,
-        })
+        Ok(Ns::new(N::try_octets_from(alloc, source.nsdname)?))
     }
 }
 
@@ -90,10 +85,7 @@ impl<M, N: FlattenInto<M>> FlattenInto<Ns<M>> for Ns<N> {
     ghost takes_memory = { N.takes_memory };
 
     fn try_flatten_into(self, alloc: Global) -> Result<Ns<M>, AppendError> {
-        let Ns { nsdname } = self;
-        Ok(Ns {
-            nsdname: nsdname.try_flatten_into(alloc)?,
-        })
+        Ok(Ns::new(self.nsdname.try_flatten_into(alloc)?))
     }
 }
 
@@ -111,11 +103,9 @@ impl<N: ToName> Ns<N> {
         let Scanned(nsdname) = <Scanned<N> as ScanFields<S>>::scan(alloc, scanner)?;
         Ok(Ns { nsdname })
     }
-}
 
-impl<N: ToName> Ns<N> {
     /// The fields, in the order of the wire.
-    fn fields(&self) -> ParsedName<'_>
+    pub(crate) fn fields(&self) -> ParsedName<'_>
         ensures { result ≡ N.labels self.now.nsdname }
     {
         self.nsdname.as_parsed()
@@ -137,10 +127,7 @@ impl<'a> Ns<ParsedName<'a>> {
         ensures unmoved { OnErr result (parser.new ≡ parser.old) }
         ensures goes_on { GoesOn parser.old parser.new }
     {
-        match <ParsedName<'a> as ReadFields<'a>>::read(parser) {
-            Ok(nsdname) => Ok(Ns { nsdname }),
-            Err(fault) => Err(ParseError::from(fault)),
-        }
+        Ok(Ns::new(<ParsedName<'a> as ReadFields<'a>>::read(parser)?))
     }
 }
 
@@ -155,10 +142,7 @@ impl<'a> ParseRecordData<'a> for Ns<ParsedName<'a>> {
         if rtype != Rtype::NS {
             return Ok(None);
         }
-        match Self::parse(parser) {
-            Ok(data) => Ok(Some(data)),
-            Err(error) => Err(error),
-        }
+        Ok(Some(Self::parse(parser)?))
     }
 }
 
@@ -211,7 +195,6 @@ impl<N: ToName> fmt::Display for Ns<N> {
     ghost output = { λ d. Some (name_text (N.labels d.nsdname) ++ codes ".") };
 
     fn fmt<W: fmt::Write>(&self, f: &mut fmt::Formatter<W>) -> fmt::Result {
-        let nsdname = self.nsdname.fmt_with_dot();
-        write!(f, "{nsdname}")
+        write!(f, "{}", self.nsdname.fmt_with_dot())
     }
 }

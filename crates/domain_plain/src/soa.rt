@@ -30,12 +30,12 @@ pub struct Soa<N> {
     minimum: Ttl,
 }
 
-type SoaFields<'a> = (
-    (ParsedName<'a>, ParsedName<'a>),
-    ((u32, (u32, u32)), (u32, u32)),
-);
+/// Serial, refresh, retry, expire and minimum.
+type SoaNumbers = ((u32, (u32, u32)), (u32, u32));
 
-type ScannedSoa<N> = ((Scanned<N>, Scanned<N>), ((u32, (u32, u32)), (u32, u32)));
+type SoaFields<'a> = ((ParsedName<'a>, ParsedName<'a>), SoaNumbers);
+
+type ScannedSoa<N> = ((Scanned<N>, Scanned<N>), SoaNumbers);
 
 impl<N> Soa<N> {
     /// The data of these fields.
@@ -118,43 +118,41 @@ impl<N> Soa<N> {
         self.minimum
     }
 
-    /// The same numbers beside other names.
-    fn with_names<M>(&self, mname: M, rname: M) -> Soa<M>
+    /// The numbers, in the order of the wire.
+    fn numbers(&self) -> SoaNumbers
+        ensures { result ≡ (
+          (self.now.serial, (self.now.refresh, self.now.retry)),
+          (self.now.expire, self.now.minimum),
+        ) }
+    {
+        (
+            (self.serial, (self.refresh.as_secs(), self.retry.as_secs())),
+            (self.expire.as_secs(), self.minimum.as_secs()),
+        )
+    }
+
+    /// The data of these names and numbers.
+    fn of_parts(mname: N, rname: N, numbers: SoaNumbers) -> Self
         ensures { result ≡ record {
           mname = mname;
           rname = rname;
-          serial = self.now.serial;
-          refresh = self.now.refresh;
-          retry = self.now.retry;
-          expire = self.now.expire;
-          minimum = self.now.minimum;
+          serial = numbers.0.0;
+          refresh = numbers.0.1.0;
+          retry = numbers.0.1.1;
+          expire = numbers.1.0;
+          minimum = numbers.1.1;
         } }
     {
+        let ((serial, (refresh, retry)), (expire, minimum)) = numbers;
         Soa {
             mname,
             rname,
-            serial: self.serial,
-            refresh: self.refresh,
-            retry: self.retry,
-            expire: self.expire,
-            minimum: self.minimum,
+            serial,
+            refresh: Ttl::from_secs(refresh),
+            retry: Ttl::from_secs(retry),
+            expire: Ttl::from_secs(expire),
+            minimum: Ttl::from_secs(minimum),
         }
-    }
-
-    /// The names alone.
-    fn into_names(self) -> (N, N)
-        ensures { result ≡ (self.mname, self.rname) }
-    {
-        let Soa {
-            mname,
-            rname,
-            serial: _,
-            refresh: _,
-            retry: _,
-            expire: _,
-            minimum: _,
-        } = self;
-        (mname, rname)
     }
 
     /// A copy. Answers `OutOfMemory` where there is no memory for it.
@@ -165,7 +163,7 @@ impl<N> Soa<N> {
     {
         let mname = self.mname.try_clone()?;
         let rname = self.rname.try_clone()?;
-        Ok(self.with_names(mname, rname))
+        Ok(Soa::of_parts(mname, rname, self.numbers()))
     }
 }
 
@@ -198,13 +196,12 @@ impl<M, N: OctetsFrom<M> + Drop> OctetsFrom<Soa<M>> for Soa<N> {
     ghost takes_memory = { N.takes_memory };
 
     fn try_octets_from(alloc: Global, source: Soa<M>) -> Result<Self, AppendError> {
-        let numbers = source.with_names((), ());
-        let (mname, rname) = source.into_names();
+        let numbers = source.numbers();
         let (mname, rname) = both(
-            N::try_octets_from(alloc, mname),
-            N::try_octets_from(alloc, rname),
+            N::try_octets_from(alloc, source.mname),
+            N::try_octets_from(alloc, source.rname),
         )?;
-        Ok(numbers.with_names(mname, rname))
+        Ok(Soa::of_parts(mname, rname, numbers))
     }
 }
 
@@ -216,10 +213,10 @@ impl<M: Drop, N: FlattenInto<M>> FlattenInto<Soa<M>> for Soa<N> {
     ghost takes_memory = { N.takes_memory };
 
     fn try_flatten_into(self, alloc: Global) -> Result<Soa<M>, AppendError> {
-        let numbers = self.with_names((), ());
-        let (mname, rname) = self.into_names();
-        let (mname, rname) = both(mname.try_flatten_into(alloc), rname.try_flatten_into(alloc))?;
-        Ok(numbers.with_names(mname, rname))
+        let numbers = self.numbers();
+        let mname = self.mname.try_flatten_into(alloc);
+        let (mname, rname) = both(mname, self.rname.try_flatten_into(alloc))?;
+        Ok(Soa::of_parts(mname, rname, numbers))
     }
 }
 
@@ -235,35 +232,24 @@ impl<N: ToName> Soa<N> {
             Refuses S.Octets.Builder.limit soa (S.tokens scanner.old) (S.tokens scanner.new)
             (scan_fault_of e)) }
     {
-        let (names, ((serial, (refresh, retry)), (expire, minimum))) = <ScannedSoa<N> as ScanFields<
-            S,
-        >>::scan(alloc, scanner)?;
-        let (Scanned(mname), Scanned(rname)) = names;
-        Ok(Soa {
-            mname,
-            rname,
-            serial,
-            refresh: Ttl::from_secs(refresh),
-            retry: Ttl::from_secs(retry),
-            expire: Ttl::from_secs(expire),
-            minimum: Ttl::from_secs(minimum),
-        })
+        let ((Scanned(mname), Scanned(rname)), numbers) = <ScannedSoa<N> as ScanFields<S>>::scan(
+            alloc, scanner,
+        )?;
+        Ok(Soa::of_parts(mname, rname, numbers))
     }
-}
 
-impl<N: ToName> Soa<N> {
     /// The fields, in the order of the wire.
-    fn fields(&self) -> SoaFields<'_>
-        ensures { (result.0.0 ≡ N.labels self.now.mname) × (result.0.1 ≡ N.labels self.now.rname)
-            × (result.1.0 ≡ (self.now.serial, (self.now.refresh, self.now.retry)))
-            × (result.1.1 ≡ (self.now.expire, self.now.minimum)) }
+    pub(crate) fn fields(&self) -> SoaFields<'_>
+        ensures names { (result.0.0 ≡ N.labels self.now.mname)
+            × (result.0.1 ≡ N.labels self.now.rname) }
+        ensures numbers { result.1 ≡ (
+          (self.now.serial, (self.now.refresh, self.now.retry)),
+          (self.now.expire, self.now.minimum),
+        ) }
     {
         (
             (self.mname.as_parsed(), self.rname.as_parsed()),
-            (
-                (self.serial, (self.refresh.as_secs(), self.retry.as_secs())),
-                (self.expire.as_secs(), self.minimum.as_secs()),
-            ),
+            self.numbers(),
         )
     }
 }
@@ -285,18 +271,8 @@ impl<'a> Soa<ParsedName<'a>> {
         ensures unmoved { OnErr result (parser.new ≡ parser.old) }
         ensures goes_on { GoesOn parser.old parser.new }
     {
-        match SoaFields::read(parser) {
-            Ok(((mname, rname), ((serial, (refresh, retry)), (expire, minimum)))) => Ok(Soa {
-                mname,
-                rname,
-                serial,
-                refresh: Ttl::from_secs(refresh),
-                retry: Ttl::from_secs(retry),
-                expire: Ttl::from_secs(expire),
-                minimum: Ttl::from_secs(minimum),
-            }),
-            Err(fault) => Err(ParseError::from(fault)),
-        }
+        let ((mname, rname), numbers) = SoaFields::read(parser)?;
+        Ok(Soa::of_parts(mname, rname, numbers))
     }
 }
 
@@ -311,10 +287,7 @@ impl<'a> ParseRecordData<'a> for Soa<ParsedName<'a>> {
         if rtype != Rtype::SOA {
             return Ok(None);
         }
-        match Self::parse(parser) {
-            Ok(data) => Ok(Some(data)),
-            Err(error) => Err(error),
-        }
+        Ok(Some(Self::parse(parser)?))
     }
 }
 

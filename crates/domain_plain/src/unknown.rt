@@ -1,27 +1,27 @@
-//! Data of types that are not known.
-ghost use Rattle.std.specs.Prelude.{◌≡◌, ◌≤◌, ◌↔◌, length, IsOk, IsNone, IfOk, IfErr, OnOk, OnErr};
+//! Data of types that are not known, and their text (RFC 3597, section 5).
+ghost use Rattle.std.specs.Prelude.{◌≡◌, ◌≤◌, ◌↔◌, length, IsOk, IsNone, IfOk, IfErr, OnOk, OnErr, Some};
 ghost use Rattle.std.specs.{Prelude.[], Ordering.{on, nat_cmp}};
 ghost use Rattle.std.specs.Cmp.Lexicographic.{slice_cmp, on_texts};
-ghost use Rattle.domain_octets.specs.Limit.{IsOver};
+ghost use Rattle.domain_octets.specs.{Limit.IsOver, Words.AreOctets};
 ghost use Rattle.domain_names.specs.{Fault.fault_of, TextFault.scan_fault_of};
-ghost use Rattle.domain_plain.specs.Generic.{GenericText, GenericFault};
+ghost use Rattle.domain_plain.specs.Generic.{GenericText, GenericFault, IsNoMark, generic_mark, generic_text};
 ghost use Rattle.domain_plain.specs.Plain.{unknown, unknown_values};
 ghost use Rattle.domain_fields.specs.Layout.{Begins, FirstFault, GoesOn, octets_of, canonical_of};
 ghost use Rattle.domain_fields.specs.DataClone.{same_values_tie};
 
-use crate::generic::GenericMark;
 use domain_base::{CanonicalOrd, FromToken, Rtype, ScanError, Scanner};
-use domain_codecs::Codec;
+use domain_codecs::{Codec, base16};
 use domain_fields::{AtMost, Fields, MAX_RDLEN, ReadFields, Rest};
 use domain_octets::{
     AppendError, CopyOctets, FlattenInto, FromBuilder, Octets, OctetsBuilder, OctetsFrom,
-    OutOfMemory, ParseError, Parser, TryClone,
+    OutOfMemory, ParseError, Parser, TryClone, laws,
 };
 use domain_record::{
     CloneRecordData, ComposeRecordData, LongRecordData, ParseRecordData, RecordData,
 };
 use std::alloc::Global;
 use std::cmp::Ordering;
+use std::fmt;
 use std::marker::Model;
 
 /// Data of any type, as at most 65,535 octets (RFC 3597).
@@ -87,10 +87,32 @@ impl<O: Octets> UnknownRecordData<O> {
     }
 
     /// The fields, in the order of the wire.
-    fn fields(&self) -> (AtMost<MAX_RDLEN>, Rest<'_>)
-        ensures { result.1.0.now ≡ O.octets self.now.«data» }
+    pub(crate) fn fields(&self) -> (AtMost<MAX_RDLEN>, Rest<'_>)
+        ensures values { result.1.0.now ≡ O.octets self.now.«data» }
+        ensures fits { AreOctets (O.octets self.now.«data») }
+        ensures limit { length (O.octets self.now.«data») ≤ 65535 }
     {
-        (AtMost, Rest(self.data.as_slice()))
+        let octets = self.data.as_slice();
+        laws::slices_hold_octets(octets);
+        (AtMost, Rest(octets))
+    }
+}
+
+/// The token that generic text begins with.
+#[derive(Drop)]
+struct GenericMark;
+
+/// A backslash and `#`. Refuses every other token as `Custom("illegal data")`.
+impl FromToken for GenericMark {
+    ghost spells = { λ text _. text ≡ generic_mark };
+
+    ghost refuses = { IsNoMark };
+
+    fn from_token(token: &str) -> Result<GenericMark, ScanError> {
+        if token == "\\#" {
+            return Ok(GenericMark);
+        }
+        Err(ScanError::Custom("illegal data"))
     }
 }
 
@@ -105,7 +127,6 @@ impl<O: FromBuilder> UnknownRecordData<O> {
     /// most 65,535; `Custom("illegal data")` for what is no Base 16; `ShortBuf` and `OutOfMemory`
     /// where the octets have no room or no memory; and `Custom("illegal data")` where they have,
     /// but are another number of octets. A refusal leaves an end of the tokens.
-    #[tactic(auto, using(crate::proofs::GenericLemmas::generic))]
     pub fn scan<S: Scanner<Octets = O>>(
         alloc: Global,
         rtype: Rtype,
@@ -146,10 +167,8 @@ impl<'a> UnknownRecordData<&'a [u8]> {
         ensures unmoved { OnErr result (parser.new ≡ parser.old) }
         ensures goes_on { GoesOn parser.old parser.new }
     {
-        match <(AtMost<MAX_RDLEN>, Rest<'a>)>::read(parser) {
-            Ok((AtMost, Rest(data))) => Ok(UnknownRecordData { rtype, data }),
-            Err(fault) => Err(ParseError::from(fault)),
-        }
+        let (AtMost, Rest(data)) = <(AtMost<MAX_RDLEN>, Rest<'a>)>::read(parser)?;
+        Ok(UnknownRecordData { rtype, data })
     }
 }
 
@@ -162,10 +181,7 @@ impl<'a> ParseRecordData<'a> for UnknownRecordData<&'a [u8]> {
     ghost faults = { λ octets fault. FirstFault unknown octets fault };
 
     fn parse_rdata(rtype: Rtype, parser: &mut Parser<'a>) -> Result<Option<Self>, ParseError> {
-        match Self::parse(rtype, parser) {
-            Ok(data) => Ok(Some(data)),
-            Err(error) => Err(error),
-        }
+        Ok(Some(Self::parse(rtype, parser)?))
     }
 }
 
@@ -256,5 +272,32 @@ impl<O: Octets> CanonicalOrd for UnknownRecordData<O> {
 
     fn canonical_cmp(&self, other: &Self) -> Ordering {
         self.fields().order(&other.fields())
+    }
+}
+
+/// The generic form: `\#`, the number of octets, and the octets in Base 16 in upper case, if there
+/// are any.
+impl<O: Octets> fmt::Display for UnknownRecordData<O> {
+    ghost output = { λ d. Some (generic_text (O.octets d.«data»)) };
+
+    fn fmt<W: fmt::Write>(&self, f: &mut fmt::Formatter<W>) -> fmt::Result {
+        let octets = self.data().as_slice();
+        let count = octets.len();
+        write!(f, "\\# {count}")?;
+        if count == 0 {
+            return Ok(());
+        }
+        f.write_str(" ")?;
+        base16::display(octets, f)
+    }
+}
+
+/// The type and the octets.
+impl<O: Octets> fmt::Debug for UnknownRecordData<O> {
+    fn fmt<W: fmt::Write>(&self, f: &mut fmt::Formatter<W>) -> fmt::Result {
+        f.debug_struct("UnknownRecordData")
+            .field("rtype", &self.rtype())
+            .field("data", &self.data().as_slice())
+            .finish()
     }
 }

@@ -57,7 +57,7 @@ module _ {O N : Type 0} (octets : O → List ℕ) (labels : N → List (List ℕ
   soa_back d read = own (name_first (labels d.mname) _ (name_is_valid read.1.1.token (labels d.mname) read.1.1.holds)) (refl, read)
 
   pub rrsig_back : (d : RrsigData) (tokens : List (List ℕ)) → RrsigText tokens d → IsGeneric tokens → ⊥
-  rrsig_back d tokens read = type_first d.fields.type_covered tokens read.spelled.fields.1.0 read.spelled.fields.1.1
+  rrsig_back d tokens read = type_first d.fields.type_covered tokens read.spelled.fields.0 read.spelled.fields.1
 
   pub nsec_first : (name : List (List ℕ)) (types : List ℕ) → IsName name → IsGeneric (words_of (name_text name ++ 46 ∷ 32 ∷ [] ++ types)) → ⊥
   nsec_first name types valid marked =

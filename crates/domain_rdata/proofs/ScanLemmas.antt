@@ -103,7 +103,7 @@ module _ {O N : Type 0} (octets : O → List ℕ) (labels : N → List (List ℕ
 
 -- generic text
 generic_begins : (tokens : List (List ℕ)) (wire : List ℕ) → GenericText tokens wire → IsGeneric tokens
-generic_begins tokens wire text = (text.count ∷ text.digits, text.parts)
+generic_begins tokens wire text = let mark = text.fields.1 in (text.fields.0, mark.first ∙ ap (λ t. t ∷ text.fields.0) mark.holds)
 
 module _ {O N : Type 0} (octets : O → List ℕ) (labels : N → List (List ℕ)) (rtype : ℕ) (old : List (List ℕ)) where
   own_excludes : (IsGeneric old → ⊥) → ((d : ZoneRecordData O N) (after : List (List ℕ)) → OwnText octets labels rtype old d after → ⊥)

@@ -46,10 +46,7 @@ abbrev pub ds_of : Values ds → DsData
 ds_of v = ds_data v.0 v.1.0 v.1.1.0 v.1.1.1.1
 
 abbrev pub rrsig_of : Values rrsig → RrsigData
-rrsig_of v =
-    rrsig_data
-    (of_numbers (v.1.0.0, (v.1.0.1.0, v.1.0.1.1.0)) v.1.0.1.1.1)
-    v.1.1
+rrsig_of v = rrsig_data (of_numbers v.1.0.0 v.1.0.1) v.1.1
 
 -- the tokens begin with these values in the text form of the kind, and the last are left
 abbrev pub FieldsText : (k : Kind) → Grammar (Values (layout_of k))

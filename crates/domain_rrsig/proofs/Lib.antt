@@ -1,4 +1,3 @@
-pub mod PieceLemmas
 pub mod RefusalLemmas
 pub mod RrsigLemmas
 pub mod ScanLemmas

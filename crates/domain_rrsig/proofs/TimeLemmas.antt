@@ -23,3 +23,5 @@ time_after stamp reference ahead limit (Some x) is n = nearest x (subst (IsNear 
 pub none_after : (stamp reference ahead limit : ℕ) (o : Option ℕ) → SomeIff o (reference + ahead < limit) (reference + ahead)
     → IsNear stamp reference (reference + ahead) → IsNone o ↔ ((time : ℕ) × IsNear stamp reference time × (limit ≤ time))
 none_after stamp reference ahead limit o is n = grind (arith, common_steps)
+
+pub ruleset after = (time_after, none_after)

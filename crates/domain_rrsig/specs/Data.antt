@@ -28,17 +28,28 @@ proto_rrsig_data type_covered algorithm labels original_ttl expiration inception
       signer_name = signer_name;
     }
 
--- type covered, algorithm, labels, original TTL, expiration, inception, key tag and the name of the
--- signer
+-- type covered, algorithm, labels, original TTL, expiration, inception and key tag
+abbrev pub rrsig_numbers : Layout
+rrsig_numbers = (one short ▸ one octet ▸ one octet) ▸ (one long ▸ one long ▸ one long) ▸ one short
+
+abbrev pub rrsig_numbers_values : ProtoRrsigData → Values rrsig_numbers
+rrsig_numbers_values d = (
+  (d.type_covered, (d.algorithm, d.labels)),
+  ((d.original_ttl, (d.expiration, d.inception)), d.key_tag),
+)
+
+-- the fields with these numbers and this name
+abbrev pub of_numbers : Values rrsig_numbers → Name → ProtoRrsigData
+of_numbers numbers signer_name =
+    proto_rrsig_data numbers.0.0 numbers.0.1.0 numbers.0.1.1 numbers.1.0.0 numbers.1.0.1.0
+    numbers.1.0.1.1 numbers.1.1 signer_name
+
+-- those numbers and the name of the signer
 abbrev pub proto_rrsig : Layout
-proto_rrsig =
-    (one short ▸ one octet ▸ one octet) ▸ (one long ▸ one long ▸ one long) ▸ one short ▸ one name
+proto_rrsig = rrsig_numbers ▸ one name
 
 abbrev pub proto_rrsig_values : ProtoRrsigData → Values proto_rrsig
-proto_rrsig_values d = (
-  (d.type_covered, (d.algorithm, d.labels)),
-  ((d.original_ttl, (d.expiration, d.inception)), (d.key_tag, d.signer_name)),
-)
+proto_rrsig_values d = (rrsig_numbers_values d, d.signer_name)
 
 -- a signature
 pub record RrsigData : Type 0 where
@@ -63,22 +74,6 @@ rrsig_octets d = octets_of rrsig (rrsig_values d)
 -- section 6.2)
 abbrev pub rrsig_canonical : RrsigData → Octets
 rrsig_canonical d = canonical_of rrsig (rrsig_values d)
-
--- the numbers of a signature's data, which stand before the name
-abbrev pub rrsig_numbers : Layout
-rrsig_numbers = (one short ▸ one octet ▸ one octet) ▸ (one long ▸ one long ▸ one long) ▸ one short
-
-abbrev pub rrsig_numbers_values : ProtoRrsigData → Values rrsig_numbers
-rrsig_numbers_values d = (
-  (d.type_covered, (d.algorithm, d.labels)),
-  ((d.original_ttl, (d.expiration, d.inception)), d.key_tag),
-)
-
--- the fields with these numbers and this name
-abbrev pub of_numbers : Values rrsig_numbers → Name → ProtoRrsigData
-of_numbers numbers signer_name =
-    proto_rrsig_data numbers.0.0 numbers.0.1.0 numbers.0.1.1 numbers.1.0.0 numbers.1.0.1.0
-    numbers.1.0.1.1 numbers.1.1 signer_name
 
 -- the same but for the case of letters in the name of the signer
 pub record IsSameRrsig (a b : RrsigData) : Type 0 where

@@ -10,7 +10,6 @@ ghost use Rattle.domain_rrsig.specs.{Scan.{RrsigText, RefusesRrsig}, Time.{TimeT
 use crate::Rrsig;
 use domain_base::ToName;
 use domain_octets::Octets;
-use domain_octets::laws::slices_hold_octets;
 
 /// The octets of a signature's data are read as these fields, in no other way, and nothing is left.
 /// The signer's name comes back as it is spelled.
@@ -22,11 +21,11 @@ pub fn rrsig_parses_back<O: Octets, N: ToName>(value: &Rrsig<O, N>)
 }
 
 /// The words of what a signature's data are written as spell these data.
+#[tactic(auto, using(crate::proofs::ReadBackLemmas::rrsig_text_back))]
 pub fn rrsig_reads_back<O: Octets, N: ToName>(value: &Rrsig<O, N>)
     ensures { RrsigText (words_of (rrsig_text value.now)) value.now }
 {
     let _fields = value.fields();
-    slices_hold_octets(value.signature().as_slice());
 }
 
 /// What a time is written as is read back, as a token and by itself.

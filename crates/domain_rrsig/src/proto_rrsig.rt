@@ -4,6 +4,7 @@ ghost use Rattle.domain_fields.specs.Layout.{Fits, octets_of, canonical_of};
 ghost use Rattle.domain_fields.specs.Target.{Appends};
 ghost use Rattle.domain_rrsig.specs.Data.{proto_rrsig, proto_rrsig_values, proto_rrsig_data, rrsig_octets, rrsig_data, rrsig_numbers_values, of_numbers};
 
+use crate::rrsig::fits;
 use crate::{Rrsig, Timestamp};
 use domain_base::{ParsedName, Rtype, SecurityAlgorithm, ToName, Ttl};
 use domain_fields::Fields;
@@ -15,14 +16,14 @@ use std::marker::Model;
 /// signs their octets, followed by the records.
 #[derive(Drop)]
 pub struct ProtoRrsig<N: ToName> {
-    type_covered: Rtype,
-    algorithm: SecurityAlgorithm,
-    labels: u8,
-    original_ttl: Ttl,
-    expiration: Timestamp,
-    inception: Timestamp,
-    key_tag: u16,
-    signer_name: N,
+    pub(crate) type_covered: Rtype,
+    pub(crate) algorithm: SecurityAlgorithm,
+    pub(crate) labels: u8,
+    pub(crate) original_ttl: Ttl,
+    pub(crate) expiration: Timestamp,
+    pub(crate) inception: Timestamp,
+    pub(crate) key_tag: u16,
+    pub(crate) signer_name: N,
 }
 
 impl<N: ToName> Model for ProtoRrsig<N> {
@@ -34,11 +35,11 @@ impl<N: ToName> Model for ProtoRrsig<N> {
         d.expiration d.inception d.key_tag (N.labels d.signer_name) };
 }
 
-/// A number of 16 bits and two of 8 bits, three of 32 bits, one of 16 bits, and a name.
-pub type ProtoFields<'a> = ((u16, (u8, u8)), ((u32, (u32, u32)), (u16, ParsedName<'a>)));
-
-/// The numbers among the fields.
+/// A number of 16 bits and two of 8 bits, three of 32 bits, and one of 16 bits.
 pub type Numbers = ((u16, (u8, u8)), ((u32, (u32, u32)), u16));
+
+/// The numbers, and a name.
+pub type ProtoFields<'a> = (Numbers, ParsedName<'a>);
 
 impl<N: ToName> ProtoRrsig<N> {
     /// The fields: the type of the records that are signed, the algorithm of the key, how many
@@ -81,7 +82,13 @@ impl<N: ToName> ProtoRrsig<N> {
             ≤ 65535) }
         ensures fields { IfOk result (λ d. d ≡ rrsig_data self (O.octets signature)) }
     {
-        Rrsig::of_fields(self, signature)
+        if !fits(&self, &signature) {
+            return Err(LongRecordData);
+        }
+        Ok(Rrsig {
+            fields: self,
+            signature,
+        })
     }
 
     /// Appends the octets, with the name as it is spelled. A refusal leaves what stood, and a
@@ -120,121 +127,29 @@ impl<N: ToName> ProtoRrsig<N> {
         }
     }
 
-    /// The numbers, and the name.
-    pub(crate) fn into_parts(self) -> (Numbers, N)
-        ensures numbers { result.0 ≡ rrsig_numbers_values self }
-        ensures signer { N.labels result.1 ≡ self.signer_name }
-    {
-        let numbers = self.numbers();
-        let ProtoRrsig {
-            type_covered: _,
-            algorithm: _,
-            labels: _,
-            original_ttl: _,
-            expiration: _,
-            inception: _,
-            key_tag: _,
-            signer_name,
-        } = self;
-        (numbers, signer_name)
-    }
-
-    /// The type of the records that are signed.
-    pub(crate) fn type_covered(&self) -> Rtype
-        ensures { result ≡ self.now.type_covered }
-    {
-        self.type_covered
-    }
-
-    /// The algorithm of the key.
-    pub(crate) fn algorithm(&self) -> SecurityAlgorithm
-        ensures { result ≡ self.now.algorithm }
-    {
-        self.algorithm
-    }
-
-    /// The number of labels.
-    pub(crate) fn labels(&self) -> u8
-        ensures { result ≡ self.now.labels }
-    {
-        self.labels
-    }
-
-    /// The TTL of the records.
-    pub(crate) fn original_ttl(&self) -> Ttl
-        ensures { result ≡ self.now.original_ttl }
-    {
-        self.original_ttl
-    }
-
-    /// When the signature ends to hold.
-    pub(crate) fn expiration(&self) -> Timestamp
-        ensures { result ≡ self.now.expiration }
-    {
-        self.expiration
-    }
-
-    /// When the signature begins to hold.
-    pub(crate) fn inception(&self) -> Timestamp
-        ensures { result ≡ self.now.inception }
-    {
-        self.inception
-    }
-
-    /// The tag of the key.
-    pub(crate) fn key_tag(&self) -> u16
-        ensures { result ≡ self.now.key_tag }
-    {
-        self.key_tag
-    }
-
-    /// The owner of the key.
-    pub(crate) fn signer_name(&self) -> &N
-        ensures { N.labels result.now ≡ self.now.signer_name }
-    {
-        &self.signer_name
-    }
-
     /// The numbers, in the order of the wire.
     pub(crate) fn numbers(&self) -> Numbers
         ensures values { result ≡ rrsig_numbers_values self.now }
         ensures fits { Fits proto_rrsig (proto_rrsig_values self.now) }
     {
         let _name = self.signer_name.as_wire();
-        let covered = self.type_covered().to_int();
-        let times = (self.expiration().into_int(), self.inception().into_int());
+        let (algorithm, labels, key_tag) = (self.algorithm.to_int(), self.labels, self.key_tag);
+        let times = (self.expiration.into_int(), self.inception.into_int());
         (
-            (covered, (self.algorithm().to_int(), self.labels())),
-            ((self.original_ttl().as_secs(), times), self.key_tag()),
+            (self.type_covered.to_int(), (algorithm, labels)),
+            ((self.original_ttl.as_secs(), times), key_tag),
         )
     }
 
     /// The fields, in the order of the wire.
     pub(crate) fn fields(&self) -> ProtoFields<'_>
-        ensures head { result.0 ≡ (self.now.type_covered, (self.now.algorithm, self.now.labels)) }
-        ensures times { result.1.0 ≡ (
-          self.now.original_ttl,
-          (self.now.expiration, self.now.inception),
-        ) }
-        ensures signer { (result.1.1.0 ≡ self.now.key_tag) × (result.1.1.1 ≡ self.now.signer_name) }
+        ensures numbers { result.0 ≡ rrsig_numbers_values self.now }
+        ensures signer { result.1 ≡ self.now.signer_name }
         ensures fits { Fits proto_rrsig (proto_rrsig_values self.now) }
     {
-        let (head, (times, key_tag)) = self.numbers();
-        (head, (times, (key_tag, self.signer_name.as_parsed())))
+        (self.numbers(), self.signer_name.as_parsed())
     }
-}
 
-impl<'a> ProtoRrsig<ParsedName<'a>> {
-    /// Fields that were read.
-    pub(crate) fn of_parsed(fields: ProtoFields<'a>) -> Self
-        ensures { proto_rrsig_values result ≡ fields.entry }
-    {
-        let (head, (times, (key_tag, signer_name))) = fields;
-        ProtoRrsig::of_parts((head, (times, key_tag)), signer_name)
-    }
-}
-
-impl<N: ToName> ProtoRrsig<N> {
     /// A copy. Uses the allocator of the name.
     pub fn clone(&self) -> Result<Self, OutOfMemory>
         ensures { IfOk result (λ copy. copy ≡ self.now) }

@@ -6,9 +6,9 @@ ghost use Rattle.std.specs.Cmp.Lexicographic.{slice_cmp, on_texts, on_texts_equa
 ghost use Rattle.std.specs.Hash as fed;
 ghost use Rattle.domain_names.specs.Fault.{fault_of};
 ghost use Rattle.domain_base.specs.Types as rtypes;
-ghost use Rattle.domain_fields.specs.Layout.{Begins, Fits, FirstFault, GoesOn, octets_of};
+ghost use Rattle.domain_fields.specs.Layout.{Begins, Fits, FirstFault, GoesOn};
 ghost use Rattle.domain_fields.specs.Laws.{fed_alike, tied_octets};
-ghost use Rattle.domain_rrsig.specs.Data.{rrsig, rrsig_values, rrsig_octets, rrsig_canonical, rrsig_data, proto_rrsig_data, IsSameRrsig};
+ghost use Rattle.domain_rrsig.specs.Data.{rrsig, rrsig_values, rrsig_octets, rrsig_canonical, rrsig_data, proto_rrsig_data, IsSameRrsig, rrsig_numbers_values};
 ghost use Rattle.domain_fields.specs.DataClone.{copies_tied};
 
 use crate::proto_rrsig::ProtoFields;
@@ -29,8 +29,8 @@ use std::marker::Model;
 /// most 65,535 octets.
 #[derive(Drop)]
 pub struct Rrsig<O: Octets, N: ToName> {
-    fields: ProtoRrsig<N>,
-    signature: O,
+    pub(crate) fields: ProtoRrsig<N>,
+    pub(crate) signature: O,
 }
 
 impl<O: Octets, N: ToName> Model for Rrsig<O, N> {
@@ -49,7 +49,7 @@ impl<O: Octets, N: ToName> Model for Rrsig<O, N> {
 type RrsigFields<'a> = (AtMost<MAX_RDLEN>, (ProtoFields<'a>, Rest<'a>));
 
 /// Whether fields and a signature have at most 65,535 octets.
-fn fits<O: Octets, N: ToName>(fields: &ProtoRrsig<N>, signature: &O) -> bool
+pub(crate) fn fits<O: Octets, N: ToName>(fields: &ProtoRrsig<N>, signature: &O) -> bool
     ensures { IsTrue result ↔ (length
         (rrsig_octets (rrsig_data fields.now (O.octets signature.now))) ≤ 65535) }
 {
@@ -126,36 +126,21 @@ impl<O: Octets, N: ToName> Rrsig<O, N> {
             key_tag,
             signer_name,
         );
-        Rrsig::of_parts(fields, signature)
-    }
-
-    /// Fields with a signature.
-    pub(crate) fn of_fields(fields: ProtoRrsig<N>, signature: O) -> Result<Self, LongRecordData>
-    where
-        O: Drop,
-        N: Drop,
-        ensures ok { IsOk result ↔ (length (rrsig_octets (rrsig_data fields (O.octets signature)))
-            ≤ 65535) }
-        ensures fields { IfOk result (λ d. d ≡ rrsig_data fields (O.octets signature)) }
-    {
-        if !fits(&fields, &signature) {
-            return Err(LongRecordData);
-        }
-        Ok(Rrsig { fields, signature })
+        Rrsig { fields, signature }
     }
 
     /// The type of the records that are signed (RFC 4034, section 3.1.1).
     pub fn type_covered(&self) -> Rtype
         ensures { result ≡ self.now.fields.type_covered }
     {
-        self.fields.type_covered()
+        self.fields.type_covered
     }
 
     /// The algorithm of the key (RFC 4034, section 3.1.2).
     pub fn algorithm(&self) -> SecurityAlgorithm
         ensures { result ≡ self.now.fields.algorithm }
     {
-        self.fields.algorithm()
+        self.fields.algorithm
     }
 
     /// How many labels the owner of the records has, without a leading asterisk and the root
@@ -163,42 +148,42 @@ impl<O: Octets, N: ToName> Rrsig<O, N> {
     pub fn labels(&self) -> u8
         ensures { result ≡ self.now.fields.labels }
     {
-        self.fields.labels()
+        self.fields.labels
     }
 
     /// The TTL of the records in their zone (RFC 4034, section 3.1.4).
     pub fn original_ttl(&self) -> Ttl
         ensures { result ≡ self.now.fields.original_ttl }
     {
-        self.fields.original_ttl()
+        self.fields.original_ttl
     }
 
     /// When the signature ends to hold (RFC 4034, section 3.1.5).
     pub fn expiration(&self) -> Timestamp
         ensures { result ≡ self.now.fields.expiration }
     {
-        self.fields.expiration()
+        self.fields.expiration
     }
 
     /// When the signature begins to hold (RFC 4034, section 3.1.5).
     pub fn inception(&self) -> Timestamp
         ensures { result ≡ self.now.fields.inception }
     {
-        self.fields.inception()
+        self.fields.inception
     }
 
     /// The tag of the key (RFC 4034, section 3.1.6).
     pub fn key_tag(&self) -> u16
         ensures { result ≡ self.now.fields.key_tag }
     {
-        self.fields.key_tag()
+        self.fields.key_tag
     }
 
     /// The owner of the key, as it is spelled (RFC 4034, section 3.1.7).
     pub fn signer_name(&self) -> &N
         ensures { N.labels result.now ≡ self.now.fields.signer_name }
     {
-        self.fields.signer_name()
+        &self.fields.signer_name
     }
 
     /// The signature (RFC 4034, section 3.1.8).
@@ -226,15 +211,6 @@ impl<O: Octets, N: ToName> Rrsig<O, N> {
         self.signature = signature;
     }
 
-    /// The fields but the signature, and the signature.
-    pub(crate) fn into_parts(self) -> (ProtoRrsig<N>, O)
-        ensures parts { (result.0 ≡ self.fields) × (O.octets result.1 ≡ self.signature) }
-        ensures limit { length (rrsig_octets self) ≤ 65535 }
-    {
-        let Rrsig { fields, signature } = self;
-        (fields, signature)
-    }
-
     /// The same data over another name and other octets, which spell those of this.
     pub fn with_octets<P: Octets, M: ToName>(&self, signer_name: M, signature: P) -> Rrsig<P, M>
         requires signer { M.labels signer_name ≡ self.now.fields.signer_name }
@@ -245,34 +221,10 @@ impl<O: Octets, N: ToName> Rrsig<O, N> {
         Rrsig { fields, signature }
     }
 
-    /// Fields with a signature, which have at most 65,535 octets.
-    pub(crate) fn of_parts(fields: ProtoRrsig<N>, signature: O) -> Self
-        requires { length (rrsig_octets (rrsig_data fields (O.octets signature))) ≤ 65535 }
-        ensures { result ≡ rrsig_data fields (O.octets signature) }
-    {
-        Rrsig { fields, signature }
-    }
-
-    /// The fields but the signature.
-    pub(crate) fn proto(&self) -> &ProtoRrsig<N>
-        ensures { result.now ≡ self.now.fields }
-    {
-        &self.fields
-    }
-
     /// The fields, in the order of the wire.
     pub(crate) fn fields(&self) -> RrsigFields<'_>
-        ensures head { result.1.0.0 ≡ (
-          self.now.fields.type_covered,
-          (self.now.fields.algorithm, self.now.fields.labels),
-        ) }
-        ensures times { result.1.0.1.0
-            ≡ (
-              self.now.fields.original_ttl,
-              (self.now.fields.expiration, self.now.fields.inception),
-            ) }
-        ensures signer { (result.1.0.1.1.0 ≡ self.now.fields.key_tag)
-            × (result.1.0.1.1.1 ≡ self.now.fields.signer_name) }
+        ensures numbers { result.1.0.0 ≡ rrsig_numbers_values self.now.fields }
+        ensures signer { result.1.0.1 ≡ self.now.fields.signer_name }
         ensures signature { result.1.1.0.now ≡ self.now.signature }
         ensures fits { Fits rrsig (rrsig_values self.now) }
         ensures limit { length (rrsig_octets self.now) ≤ 65535 }
@@ -284,18 +236,6 @@ impl<O: Octets, N: ToName> Rrsig<O, N> {
 }
 
 impl<'a> Rrsig<&'a [u8], ParsedName<'a>> {
-    /// Fields that were read.
-    fn of_parsed(fields: RrsigFields<'a>) -> Self
-        requires { length (octets_of rrsig (tt, (fields.1.0, fields.1.1.0.now))) ≤ 65535 }
-        ensures { rrsig_values result ≡ (tt, (fields.entry.1.0, fields.entry.1.1.0.now)) }
-    {
-        let (AtMost, (fields, Rest(signature))) = fields;
-        Rrsig {
-            fields: ProtoRrsig::of_parsed(fields),
-            signature,
-        }
-    }
-
     /// All octets that are left, as data. Takes no memory.
     ///
     /// # Errors
@@ -312,10 +252,9 @@ impl<'a> Rrsig<&'a [u8], ParsedName<'a>> {
         ensures unmoved { OnErr result (parser.new ≡ parser.old) }
         ensures goes_on { GoesOn parser.old parser.new }
     {
-        match RrsigFields::<'a>::read(parser) {
-            Ok(fields) => Ok(Self::of_parsed(fields)),
-            Err(fault) => Err(ParseError::from(fault)),
-        }
+        let (AtMost, ((numbers, signer_name), Rest(signature))) = RrsigFields::<'a>::read(parser)?;
+        let fields = ProtoRrsig::of_parts(numbers, signer_name);
+        Ok(Rrsig { fields, signature })
     }
 }
 
@@ -330,10 +269,7 @@ impl<'a> ParseRecordData<'a> for Rrsig<&'a [u8], ParsedName<'a>> {
         if rtype != Rtype::RRSIG {
             return Ok(None);
         }
-        match Self::parse(parser) {
-            Ok(data) => Ok(Some(data)),
-            Err(error) => Err(error),
-        }
+        Ok(Some(Self::parse(parser)?))
     }
 }
 
@@ -378,7 +314,7 @@ impl<O: Octets, N: ToName> Rrsig<O, N> {
         ensures value { result ≡ bytes_eq (rrsig_canonical self.now) (rrsig_canonical other.now) }
         ensures same { IsTrue result ↔ IsSameRrsig self.now other.now }
     {
-        self.fields().order(&other.fields()).is_eq()
+        domain_fields::canonical_eq(&self.fields(), &other.fields())
     }
 
     /// The order to a signature over other octets and names: by the fields in the order of the

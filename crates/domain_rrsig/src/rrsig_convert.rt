@@ -17,8 +17,8 @@ impl<N: ToName + Drop, O: CopyOctets> OctetsFrom<ProtoRrsig<N>> for ProtoRrsig<N
     ghost takes_memory = { IsNone O.capacity };
 
     fn try_octets_from(alloc: Global, source: ProtoRrsig<N>) -> Result<Self, AppendError> {
-        let (numbers, name) = source.into_parts();
-        let name = Name::<O>::try_octets_from(alloc, name)?;
+        let numbers = source.numbers();
+        let name = Name::<O>::try_octets_from(alloc, source.signer_name)?;
         Ok(ProtoRrsig::of_parts(numbers, name))
     }
 }
@@ -45,11 +45,11 @@ impl<S: Octets + Drop, N: ToName + Drop, O: CopyOctets + Drop> OctetsFrom<Rrsig<
     ghost takes_memory = { IsNone O.capacity };
 
     fn try_octets_from(alloc: Global, source: Rrsig<S, N>) -> Result<Self, AppendError> {
-        let (fields, signature) = source.into_parts();
+        let Rrsig { fields, signature } = source;
         let fields = ProtoRrsig::<Name<O>>::try_octets_from(alloc, fields);
         let signature = O::copy_octets(alloc, signature.as_slice());
         let (fields, signature) = both(fields, signature)?;
-        Ok(Rrsig::of_parts(fields, signature))
+        Ok(Rrsig { fields, signature })
     }
 }
 

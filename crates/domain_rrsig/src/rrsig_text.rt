@@ -1,78 +1,43 @@
 //! Signatures as text (RFC 4034, section 3.2).
-ghost use Rattle.std.specs.Prelude.{◌≡◌, ◌++◌, [], Some, IfOk, IfErr, OnOk};
+ghost use Rattle.std.specs.Prelude.{◌≡◌, [], Some, IfOk, IfErr, OnOk};
 ghost use Rattle.domain_names.specs.TextFault.{scan_fault_of};
-ghost use Rattle.domain_rrsig.specs.Scan.{numbers_text, RefusesNumbers, times_text, RefusesTimes, rrsig_fields_text, RefusesRrsigFields, RrsigText, RefusesRrsig};
-ghost use Rattle.domain_rrsig.specs.Pieces.{signed_numbers_text, signed_times_text, rrsig_text, signed_number_pieces, signer_pieces, rrsig_pieces};
+ghost use Rattle.domain_rrsig.specs.Pieces.{rrsig_text, rrsig_pieces};
+ghost use Rattle.domain_rrsig.specs.Scan.{rrsig_fields, rrsig_fields_text, RefusesRrsigFields, RrsigText, RefusesRrsig};
 
 use crate::{ProtoRrsig, Rrsig, Timestamp};
 use domain_base::{FromToken, Rtype, ScanError, Scanner, SecurityAlgorithm, ToName, Ttl};
 use domain_codecs::Codec;
-use domain_fields::{InBase64, ScanFields, Scanned};
+use domain_fields::{Block, Comment, InBase64, Pieces, ScanFields, Scanned, Token};
 use domain_octets::{Formatter, FromBuilder, Octets, OutOfMemory, ZonefileFmt};
 use std::alloc::Global;
 use std::fmt;
 
-/// The type covered, the algorithm, the labels and the TTL, one token each.
-fn scan_numbers<S: Scanner>(
-    alloc: Global,
-    scanner: &mut S,
-) -> Result<(Rtype, (u8, (u8, u32))), ScanError>
-    ensures ok { IfOk result (λ v. numbers_text (S.tokens scanner.old) v (S.tokens scanner.new)) }
+/// All fields but the signature, one token each.
+fn scan_fields<S: Scanner>(alloc: Global, scanner: &mut S) -> Result<ProtoRrsig<S::Name>, ScanError>
+    ensures ok { IfOk result (λ d. rrsig_fields_text (S.tokens scanner.old) (rrsig_fields d)
+        (S.tokens scanner.new)) }
     ensures err { IfErr result (λ e.
-        RefusesNumbers S.Octets.Builder.limit (S.tokens scanner.old) (S.tokens scanner.new)
+        RefusesRrsigFields S.Octets.Builder.limit (S.tokens scanner.old) (S.tokens scanner.new)
         (scan_fault_of e)) }
 {
     let type_covered = match Rtype::scan(scanner) {
         Ok(type_covered) => type_covered,
         Err(error) => return Err(error),
     };
-    match <(u8, (u8, u32)) as ScanFields<S>>::scan(alloc, scanner) {
-        Ok(numbers) => Ok((type_covered, numbers)),
-        Err(error) => Err(error),
-    }
-}
-
-/// Expiration and inception, one token each.
-fn scan_times<S: Scanner>(scanner: &mut S) -> Result<(Timestamp, Timestamp), ScanError>
-    ensures ok { IfOk result (λ v. times_text (S.tokens scanner.old) v (S.tokens scanner.new)) }
-    ensures err { IfErr result (λ e.
-        RefusesTimes (S.tokens scanner.old) (S.tokens scanner.new) (scan_fault_of e)) }
-{
+    let (algorithm, (labels, original_ttl)) = <(u8, (u8, u32)) as ScanFields<S>>::scan(
+        alloc, scanner,
+    )?;
     let expiration = match Timestamp::scan(scanner) {
         Ok(expiration) => expiration,
         Err(error) => return Err(error),
     };
-    match Timestamp::scan(scanner) {
-        Ok(inception) => Ok((expiration, inception)),
-        Err(error) => Err(error),
-    }
-}
-
-/// The key tag and the name of the signer.
-type SignerFields<S> = (u16, Scanned<<S as Scanner>::Name>);
-
-/// All fields but the signature, one token each.
-fn scan_fields<S: Scanner>(alloc: Global, scanner: &mut S) -> Result<ProtoRrsig<S::Name>, ScanError>
-    ensures ok { IfOk result (λ d. rrsig_fields_text (S.tokens scanner.old) (
-      (d.type_covered, (d.algorithm, (d.labels, d.original_ttl))),
-      ((d.expiration, d.inception), (d.key_tag, d.signer_name)),
-    ) (S.tokens scanner.new)) }
-    ensures err { IfErr result (λ e.
-        RefusesRrsigFields S.Octets.Builder.limit (S.tokens scanner.old) (S.tokens scanner.new)
-        (scan_fault_of e)) }
-{
-    let (type_covered, (algorithm, (labels, original_ttl))) = match scan_numbers(alloc, scanner) {
-        Ok(numbers) => numbers,
+    let inception = match Timestamp::scan(scanner) {
+        Ok(inception) => inception,
         Err(error) => return Err(error),
     };
-    let (expiration, inception) = match scan_times(scanner) {
-        Ok(times) => times,
-        Err(error) => return Err(error),
-    };
-    let (key_tag, Scanned(signer_name)) = match SignerFields::<S>::scan(alloc, scanner) {
-        Ok(signer) => signer,
-        Err(error) => return Err(error),
-    };
+    let (key_tag, Scanned(signer_name)) = <(u16, Scanned<S::Name>) as ScanFields<S>>::scan(
+        alloc, scanner,
+    )?;
     Ok(ProtoRrsig::new(
         type_covered,
         SecurityAlgorithm::from_int(algorithm),
@@ -105,48 +70,12 @@ impl<O: FromBuilder + Drop, N: ToName + Drop> Rrsig<O, N> {
             RefusesRrsig O.Builder.limit (S.tokens scanner.old) (S.tokens scanner.new)
             (scan_fault_of e)) }
     {
-        let fields = match scan_fields(alloc, scanner) {
-            Ok(fields) => fields,
-            Err(error) => return Err(error),
-        };
-        let signature = match scanner.convert_entry(alloc, Codec::Base64) {
-            Ok(signature) => signature,
-            Err(error) => return Err(error),
-        };
+        let fields = scan_fields(alloc, scanner)?;
+        let signature = scanner.convert_entry(alloc, Codec::Base64)?;
         match fields.into_rrsig(signature) {
             Ok(data) => Ok(data),
             Err(_) => Err(ScanError::Custom("record data too long")),
         }
-    }
-}
-
-/// The type covered, algorithm, labels and TTL, with single spaces.
-#[derive(Drop)]
-struct SignedNumbers<'a, N: ToName>(&'a ProtoRrsig<N>);
-
-impl<'a, N: ToName> fmt::Display for SignedNumbers<'a, N> {
-    ghost output = { λ t. Some (signed_numbers_text t.0.now) };
-
-    #[tactic(auto, unfolding(crate::specs::Pieces::signed_numbers_text))]
-    fn fmt<W: fmt::Write>(&self, f: &mut fmt::Formatter<W>) -> fmt::Result {
-        let (type_covered, algorithm) = (self.0.type_covered(), self.0.algorithm());
-        let (labels, original_ttl) = (self.0.labels(), self.0.original_ttl().as_secs());
-        write!(f, "{type_covered} {algorithm} {labels} {original_ttl}")
-    }
-}
-
-/// Expiration, inception and key tag, with single spaces.
-#[derive(Drop)]
-struct SignedTimes<'a, N: ToName>(&'a ProtoRrsig<N>);
-
-impl<'a, N: ToName> fmt::Display for SignedTimes<'a, N> {
-    ghost output = { λ t. Some (signed_times_text t.0.now) };
-
-    #[tactic(auto, unfolding(crate::specs::Pieces::signed_times_text))]
-    fn fmt<W: fmt::Write>(&self, f: &mut fmt::Formatter<W>) -> fmt::Result {
-        let (expiration, inception) = (self.0.expiration(), self.0.inception());
-        let key_tag = self.0.key_tag();
-        write!(f, "{expiration} {inception} {key_tag}")
     }
 }
 
@@ -156,10 +85,19 @@ impl<O: Octets, N: ToName> fmt::Display for Rrsig<O, N> {
     ghost output = { λ d. Some (rrsig_text d) };
 
     fn fmt<W: fmt::Write>(&self, f: &mut fmt::Formatter<W>) -> fmt::Result {
-        let (numbers, times) = (SignedNumbers(self.proto()), SignedTimes(self.proto()));
-        let signer_name = self.signer_name().fmt_with_dot();
-        let signature = InBase64(self.signature().as_slice());
-        write!(f, "{numbers} {times} {signer_name} {signature}")
+        write!(
+            f,
+            "{} {} {} {} {} {} {} {} {}",
+            self.type_covered(),
+            self.algorithm(),
+            self.labels(),
+            self.original_ttl(),
+            self.expiration(),
+            self.inception(),
+            self.key_tag(),
+            self.signer_name().fmt_with_dot(),
+            InBase64(self.signature().as_slice())
+        )
     }
 }
 
@@ -184,50 +122,27 @@ impl<O: Octets, N: ToName> ZonefileFmt for Rrsig<O, N> {
     ghost pieces = { rrsig_pieces };
 
     fn fmt<F: Formatter>(&self, formatter: &mut F) -> Result<(), OutOfMemory> {
-        let fields = self.proto();
-        formatter.begin_block()?;
-        write_numbers(fields, formatter)?;
-        write_signer(fields, formatter)?;
-        formatter.write_token(&InBase64(self.signature().as_slice()))?;
-        formatter.end_block()
+        let (labels, original_ttl) = (self.labels(), self.original_ttl().as_secs());
+        let (expiration, inception) = (self.expiration(), self.inception());
+        let numbers = (
+            (Token(self.type_covered()), Token(self.algorithm())),
+            (
+                (Token(labels), Comment("labels")),
+                (Token(original_ttl), Comment("original ttl")),
+            ),
+        );
+        let times = (
+            (Token(expiration), Comment("expiration")),
+            (Token(inception), Comment("inception")),
+        );
+        let signer = (
+            (Token(self.key_tag()), Comment("key tag")),
+            (
+                Token(self.signer_name().fmt_with_dot()),
+                Comment("signer name"),
+            ),
+        );
+        let signature = Token(InBase64(self.signature().as_slice()));
+        Block((numbers, (times, (signer, signature)))).write(formatter)
     }
-}
-
-/// The pieces of the type covered, the algorithm, the labels and the TTL.
-fn write_numbers<N: ToName, F: Formatter>(
-    fields: &ProtoRrsig<N>,
-    formatter: &mut F,
-) -> Result<(), OutOfMemory>
-    ensures { OnOk result (F.pieces formatter.new ≡ F.pieces formatter.old
-        ++ signed_number_pieces fields.now) }
-{
-    let (type_covered, algorithm) = (fields.type_covered(), fields.algorithm());
-    let (labels, original_ttl) = (fields.labels(), fields.original_ttl().as_secs());
-    formatter.write_token(&type_covered)?;
-    formatter.write_token(&algorithm)?;
-    formatter.write_token(&labels)?;
-    formatter.write_comment(&"labels")?;
-    formatter.write_token(&original_ttl)?;
-    formatter.write_comment(&"original ttl")
-}
-
-/// The pieces of the times, the key tag and the name of the signer.
-fn write_signer<N: ToName, F: Formatter>(
-    fields: &ProtoRrsig<N>,
-    formatter: &mut F,
-) -> Result<(), OutOfMemory>
-    ensures { OnOk result (F.pieces formatter.new ≡ F.pieces formatter.old
-        ++ signer_pieces fields.now) }
-{
-    let (expiration, inception) = (fields.expiration(), fields.inception());
-    let key_tag = fields.key_tag();
-    let signer_name = fields.signer_name().fmt_with_dot();
-    formatter.write_token(&expiration)?;
-    formatter.write_comment(&"expiration")?;
-    formatter.write_token(&inception)?;
-    formatter.write_comment(&"inception")?;
-    formatter.write_token(&key_tag)?;
-    formatter.write_comment(&"key tag")?;
-    formatter.write_token(&signer_name)?;
-    formatter.write_comment(&"signer name")
 }

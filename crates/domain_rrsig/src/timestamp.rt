@@ -99,6 +99,7 @@ impl Timestamp {
     /// The time that is meant, in seconds since the start of 1970, where one asks at the reference:
     /// the one in the 2^31 seconds before it or the 2^31 - 1 after it. Where that would be before
     /// 1970 it is the number of the stamp itself. None where the time is not below 2^64.
+    #[tactic(auto, using(std::proofs::lemmas::Grind::common_steps, crate::proofs::TimeLemmas::after))]
     pub fn to_system_time(self, reference: u64) -> Option<u64>
         ensures time { IfSome result (TimeAt self reference) }
         ensures none { IsNone result ↔ ((time : ℕ) × IsNear self reference time × (2 ^ 64 ≤ time)) }

@@ -1,6 +1,13 @@
-use Rattle.std.proofs.Common.{rules}
-use Rattle.domain_keys.proofs.ReadBackLemmas.{ds_text_back}
+use Rattle.std.proofs.Common.{refl}
+use Rattle.domain_codecs.specs.declared.codec.Codec.TheVariants.{Base16}
+use Rattle.domain_codecs.proofs.{CodecBackLemmas.lower_back, NoSpaceLemmas.lower_hex_plain}
+use Rattle.domain_fields.proofs.ReadBackLemmas.{fields_entry_line}
+use Rattle.domain_keys.specs.Scan.{three_numbers}
 use Rattle.domain_keys.proofs.data_laws.ds_reads_back.Goals as goal
 
 pub returns : goal.returns
-returns g c = ds_text_back c.args.value.now c.fields-fields.ensures.fits c.fields-fields.ensures.limit (search rules)
+returns g c =
+    let known = c.fields-fields.ensures in
+    let text = fields_entry_line three_numbers Base16 _ _ c.args.value.now.digest refl (known.fits.0, (known.fits.1.0, known.fits.1.1.0))
+    (lower_hex_plain _) (lower_back _ known.fits.1.1.1.1) in
+    record { spelled = text; fits = known.limit }

@@ -1,16 +1,35 @@
-use Rattle.std.proofs.Common.{◌∙◌}
-use Rattle.domain_rrsig.{specs.Data.proto_rrsig_data, proofs.ScanLemmas.{read_fields, refused_signer}}
+use Rattle.std.proofs.{Common.{inl, inr}, lemmas.Result.err_from_is_err_and}
 use Rattle.domain_rrsig.proofs.rrsig_text.scan_fields.Goals as goal
 
 pub returns-in-Err-scan-clause-err : goal.returns-in-Err-scan-clause-err
 returns-in-Err-scan-clause-err g c =
-    refused_signer _ _ _ _ c.in-Ok.numbers c.in-Ok-scan_times.times c.in-Ok.ensures.ok c.in-Ok-scan_times.ensures.ok _ _ c.in-Err-scan.ensures.err
+    inr (_, _, c.in-Ok.ensures.ok, inr (_, _, c.in_ok-algorithm.ensures.ok, inl c.in-Err-scan.ensures.err))
+
+pub returns-in-Err-scan-2-clause-err : goal.returns-in-Err-scan-2-clause-err
+returns-in-Err-scan-2-clause-err g c =
+    inr (_, _, c.in-Ok.ensures.ok, inr (_, _, c.in_ok-algorithm.ensures.ok, inr (_, _, c.in-Ok-scan.ensures.ok, inl c.in-Err-scan-2.ensures.err)))
+
+pub returns-in_err-key_tag-clause-err : goal.returns-in_err-key_tag-clause-err
+returns-in_err-key_tag-clause-err g c =
+    let p = err_from_is_err_and c.from_residual-in_err-key_tag.result c.from_residual-in_err-key_tag.ensures.1 in
+    rw (p.1, p.2) (inr (
+      _,
+      _,
+      c.in-Ok.ensures.ok,
+      inr (
+        _,
+        _,
+        c.in_ok-algorithm.ensures.ok,
+        inr (
+          _,
+          _,
+          c.in-Ok-scan.ensures.ok,
+          inr (_, _, c.in-Ok-scan-2.ensures.ok, c.in_err-key_tag.ensures.err),
+        ),
+      ),
+    ))
 
 pub returns-clause-ok : goal.returns-clause-ok
 returns-clause-ok g c =
-    let numbers = c.in-Ok.numbers in
-    let times = c.in-Ok-scan_times.times in
-    let tag = c.in-Ok-scan.signer.0 in
-    let labels = g.S.Name.ToName.labels c.in-Ok-scan.signer.1.0 in
-    read_fields _ _ _ _ numbers times c.in-Ok.ensures.ok c.in-Ok-scan_times.ensures.ok _ _ c.in-Ok-scan.ensures.ok
-    (c.new.ensures ∙ (λ i. proto_rrsig_data numbers.0 (c.from_int.ensures i) numbers.1.1.0 (c.from_secs.ensures i) times.0 times.1 tag labels))
+    rw (c.new.ensures, c.from_int.ensures, c.from_secs.ensures)
+    (_, c.in-Ok.ensures.ok, (_, c.in_ok-algorithm.ensures.ok, (_, c.in-Ok-scan.ensures.ok, (_, c.in-Ok-scan-2.ensures.ok, c.in_ok-key_tag.ensures.ok))))

@@ -1,12 +1,28 @@
-use Rattle.std.proofs.Common.{refl}
-use Rattle.domain_rrsig.proofs.ScanLemmas.{refused_entry, refused_length}
+use Rattle.std.proofs.{Common.refl, lemmas.Result.err_from_is_err_and}
+use Rattle.domain_fields.specs.Entry.{in_field, in_entry, unfit}
+use Rattle.domain_rrsig.{specs.Data.rrsig_data, proofs.ScanLemmas.too_many}
 use Rattle.domain_rrsig.proofs.rrsig.Rrsig.scan.Goals as goal
 
-pub returns-in-Err-convert_entry-clause-err : goal.returns-in-Err-convert_entry-clause-err
-returns-in-Err-convert_entry-clause-err g c =
-    refused_entry _ _ _ _ _ c.in-Ok.fields c.in-Ok.ensures.ok c.in-Err-convert_entry.ensures.end c.in-Err-convert_entry.ensures.err
+pub returns-in_err-fields-clause-err : goal.returns-in_err-fields-clause-err
+returns-in_err-fields-clause-err g c =
+    let p = err_from_is_err_and c.from_residual.result c.from_residual.ensures.1 in
+    rw (p.1, p.2) (in_field c.in_err-fields.ensures.err)
 
-pub returns-in-Err-into_rrsig-clause-err : goal.returns-in-Err-into_rrsig-clause-err
-returns-in-Err-into_rrsig-clause-err g c =
-    refused_length _ _ _ _ _ _ _ c.in-Ok.ensures.ok c.in-Ok-convert_entry.ensures.ok c.in-Ok-convert_entry.ensures.room
-    c.in-Ok-convert_entry.ensures.all (λ le. let e = c.in-Err-into_rrsig.ensures.ok.1 le in cc) refl
+pub returns-in_err-signature-clause-err : goal.returns-in_err-signature-clause-err
+returns-in_err-signature-clause-err g c =
+    let p = err_from_is_err_and c.from_residual-in_err-signature.result c.from_residual-in_err-signature.ensures.1 in
+    let read = c.in_err-signature.ensures in
+    rw (p.1, p.2) (in_entry (record { value = _; entry = _; fields = c.in_ok-fields.ensures.ok; end_of = read.end; why = read.err }))
+
+pub returns-in-Err-clause-err : goal.returns-in-Err-clause-err
+returns-in-Err-clause-err g c =
+    let read = c.in_ok-signature.ensures in
+    unfit (record {
+      value = _;
+      octets = _;
+      spelled = record { entry = _; fields = c.in_ok-fields.ensures.ok; decoded = read.ok };
+      room = read.room;
+      unfit = too_many (rrsig_data c.in_ok-fields.fields (g.O.Octets.octets c.in_ok-signature.signature)) (λ le. let e = c.in-Err.ensures.ok.1 le in cc);
+      all = read.all;
+      said = refl;
+    })

@@ -1,12 +1,6 @@
-use Rattle.std.proofs.{lemmas.Grind.common_steps, Common.{◌∙◌, arith, sym, subst}}
-use Rattle.domain_rrsig.{specs.Time.{IsNear, TimeAt, nearest, before_1970}, proofs.TimeLemmas.{near_before, none_near, time_after, none_after}}
+use Rattle.std.proofs.{Common.{◌∙◌, arith, sym, subst}}
+use Rattle.domain_rrsig.{specs.Time.{IsNear, TimeAt, nearest, before_1970}, proofs.TimeLemmas.{near_before, none_near}}
 use Rattle.domain_rrsig.proofs.timestamp.Timestamp.to_system_time.Goals as goal
-
-pub returns-then-ahead-lt2147483648-clause-time : goal.returns-then-ahead-lt2147483648-clause-time
-returns-then-ahead-lt2147483648-clause-time c = grind (arith, common_steps, time_after)
-
-pub returns-then-ahead-lt2147483648-clause-none : goal.returns-then-ahead-lt2147483648-clause-none
-returns-then-ahead-lt2147483648-clause-none c = grind (arith, common_steps, none_after)
 
 pub returns-in-Some-clause-time : goal.returns-in-Some-clause-time
 returns-in-Some-clause-time c =

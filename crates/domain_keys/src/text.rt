@@ -1,0 +1,142 @@
+//! Keys and digests of keys as text (RFC 4034, sections 2.2 and 5.3).
+ghost use Rattle.std.specs.Prelude.{◌≡◌, [], Some, IfOk, IfErr, OnOk};
+ghost use Rattle.domain_names.specs.TextFault.{scan_fault_of};
+ghost use Rattle.domain_keys.specs.Pieces.{dnskey_text, dnskey_pieces, ds_text, ds_pieces};
+ghost use Rattle.domain_keys.specs.Scan.{DnskeyText, RefusesDnskey, DsText, RefusesDs};
+
+use crate::entry::scan_entry;
+use crate::flags::FlagsComment;
+use crate::{Dnskey, Ds};
+use domain_base::{DigestAlgorithm, ScanError, Scanner, SecurityAlgorithm};
+use domain_codecs::Codec;
+use domain_fields::{Block, Comment, InBase16, InBase64, InLowerBase16, Pieces, Token};
+use domain_octets::{Formatter, FromBuilder, Octets, OutOfMemory, ZonefileFmt};
+use std::alloc::Global;
+use std::fmt;
+
+impl<O: FromBuilder + Drop> Dnskey<O> {
+    /// The data that all tokens left spell: flags, protocol and algorithm in decimal, and the key
+    /// in Base 64, in as many tokens as one likes, or in none.
+    ///
+    /// # Errors
+    ///
+    /// That of the first of the numbers that is refused, then that of the codec, then
+    /// `Custom("record data too long")` for data of over 65,535 octets. The tokens left are then an
+    /// end of those before.
+    #[tactic(auto, unfolding(domain_fields::specs::Layout::octets_of))]
+    pub fn scan<S: Scanner<Octets = O>>(alloc: Global, scanner: &mut S) -> Result<Self, ScanError>
+        ensures ok { IfOk result (DnskeyText (S.tokens scanner.old)) }
+        ensures all { OnOk result (S.tokens scanner.new ≡ []) }
+        ensures err { IfErr result (λ e.
+            RefusesDnskey O.Builder.limit (S.tokens scanner.old) (S.tokens scanner.new)
+            (scan_fault_of e)) }
+    {
+        let (numbers, public_key) = scan_entry(alloc, scanner, Codec::Base64)?;
+        let (flags, (protocol, algorithm)) = numbers;
+        let algorithm = SecurityAlgorithm::from_int(algorithm);
+        Ok(Dnskey::new_unchecked(flags, protocol, algorithm, public_key))
+    }
+}
+
+/// Flags, protocol, algorithm and the key in Base 64, with single spaces; the last one stays where
+/// the key is empty.
+impl<O: Octets> fmt::Display for Dnskey<O> {
+    ghost output = { λ d. Some (dnskey_text d) };
+
+    fn fmt<W: fmt::Write>(&self, f: &mut fmt::Formatter<W>) -> fmt::Result {
+        let (flags, protocol, algorithm) = (self.flags(), self.protocol(), self.algorithm());
+        let key = InBase64(self.public_key().as_slice());
+        write!(f, "{flags} {protocol} {algorithm} {key}")
+    }
+}
+
+impl<O: Octets> fmt::Debug for Dnskey<O> {
+    fn fmt<W: fmt::Write>(&self, f: &mut fmt::Formatter<W>) -> fmt::Result {
+        f.debug_struct("Dnskey")
+            .field("flags", &self.flags())
+            .field("protocol", &self.protocol())
+            .field("algorithm", &self.algorithm())
+            .field("public_key", &self.public_key().as_slice())
+            .finish()
+    }
+}
+
+/// The fields, with comments that name the flags, the protocol and the key tag.
+impl<O: Octets> ZonefileFmt for Dnskey<O> {
+    ghost pieces = { dnskey_pieces };
+
+    fn fmt<F: Formatter>(&self, formatter: &mut F) -> Result<(), OutOfMemory> {
+        let (flags, protocol, algorithm) = (self.flags(), self.protocol(), self.algorithm());
+        let key = InBase64(self.public_key().as_slice());
+        let flags = (Token(flags), Comment(FlagsComment(flags)));
+        let protocol = (Token(protocol), Comment("protocol"));
+        let key = (
+            Token(key),
+            Comment(format_args!("key tag: {}", self.key_tag())),
+        );
+        Block((flags, (protocol, (Token(algorithm), key)))).write(formatter)
+    }
+}
+
+impl<O: FromBuilder + Drop> Ds<O> {
+    /// The data that all tokens left spell: key tag, algorithm and type of the digest in decimal,
+    /// and the digest in Base 16, in as many tokens as one likes, or in none.
+    ///
+    /// # Errors
+    ///
+    /// That of the first of the numbers that is refused, then that of the codec, then
+    /// `Custom("record data too long")` for data of over 65,535 octets. The tokens left are then an
+    /// end of those before.
+    #[tactic(auto, unfolding(domain_fields::specs::Layout::octets_of))]
+    pub fn scan<S: Scanner<Octets = O>>(alloc: Global, scanner: &mut S) -> Result<Self, ScanError>
+        ensures ok { IfOk result (DsText (S.tokens scanner.old)) }
+        ensures all { OnOk result (S.tokens scanner.new ≡ []) }
+        ensures err { IfErr result (λ e.
+            RefusesDs O.Builder.limit (S.tokens scanner.old) (S.tokens scanner.new)
+            (scan_fault_of e)) }
+    {
+        let (numbers, digest) = scan_entry(alloc, scanner, Codec::Base16)?;
+        let (key_tag, (algorithm, digest_type)) = numbers;
+        let algorithm = SecurityAlgorithm::from_int(algorithm);
+        let digest_type = DigestAlgorithm::from_int(digest_type);
+        Ok(Ds::new_unchecked(key_tag, algorithm, digest_type, digest))
+    }
+}
+
+/// Key tag, algorithm, type of the digest and the digest in Base 16, in lower case, with single
+/// spaces; the last one stays where the digest is empty.
+impl<O: Octets> fmt::Display for Ds<O> {
+    ghost output = { λ d. Some (ds_text d) };
+
+    fn fmt<W: fmt::Write>(&self, f: &mut fmt::Formatter<W>) -> fmt::Result {
+        let (key_tag, algorithm) = (self.key_tag(), self.algorithm());
+        let digest_type = self.digest_type();
+        let digest = InLowerBase16(self.digest().as_slice());
+        write!(f, "{key_tag} {algorithm} {digest_type} {digest}")
+    }
+}
+
+impl<O: Octets> fmt::Debug for Ds<O> {
+    fn fmt<W: fmt::Write>(&self, f: &mut fmt::Formatter<W>) -> fmt::Result {
+        f.debug_struct("Ds")
+            .field("key_tag", &self.key_tag())
+            .field("algorithm", &self.algorithm())
+            .field("digest_type", &self.digest_type())
+            .field("digest", &self.digest().as_slice())
+            .finish()
+    }
+}
+
+/// The fields, with a comment that names the key tag; the digest is in upper case.
+impl<O: Octets> ZonefileFmt for Ds<O> {
+    ghost pieces = { ds_pieces };
+
+    fn fmt<F: Formatter>(&self, formatter: &mut F) -> Result<(), OutOfMemory> {
+        let (key_tag, algorithm) = (self.key_tag(), self.algorithm());
+        let digest_type = self.digest_type();
+        let digest = InBase16(self.digest().as_slice());
+        let key_tag = (Token(key_tag), Comment("key tag"));
+        let digest = (Token(digest_type), Token(digest));
+        Block((key_tag, (Token(algorithm), digest))).write(formatter)
+    }
+}
