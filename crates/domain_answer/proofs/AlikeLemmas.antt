@@ -1,17 +1,15 @@
 -- What NSEC records answer does not depend on TTLs, classes and the case of letters.
-use Rattle.std.proofs.{Common.{◌≡◌, ℕ, Bool, cond, not, ◌&&◌, ◌||◌, List, length, refl, Option, Some, None, arith}, lemmas.Grind.common_steps}
-use Rattle.std.specs.List.{find}
+use Rattle.std.{proofs.{Common.{◌≡◌, ℕ, Bool, cond, not, ◌&&◌, ◌||◌, List, length, Option, Some, None, arith}, lemmas.Grind.common_steps}, specs.List.find}
 use Rattle.domain_names.specs.{Name.{is_strictly_below, lowered}, Words.Name}
 use Rattle.domain_base.specs.Types.{dname, ns}
 use Rattle.domain_bitmap.specs.Blocks.{contains_type}
 use Rattle.domain_zone.{specs.{Enclosers.{longer, shared}, Zone.ZoneRecord}, proofs.NameLemmas.{lowered_below, one_lowered, same_lowered}}
 use Rattle.domain_nsec.specs.Chain.{Link}
-use Rattle.domain_checker.specs.{Alike.{ArePaired, IsAlike}, Reading.{is_at_cut, is_cover, is_match}}
-use Rattle.domain_checker.proofs.{AlikeLemmas.{is_cover_alike, is_match_alike, says_alike, shared_alike}, PairedLemmas.{OptionsPaired, any_alike, find_alike}}
-use Rattle.domain_checker.proofs.EncloserLemmas.{same_count}
-use Rattle.domain_answer.specs.{declared.answer.Answer.TheVariants.{Referral, Redirected, WildcardNoData, NameError, NoCloserName}, Proved.proved_answer}
-use Rattle.domain_answer.specs.Reading.{absent_answer, cover_answer, listed_both, match_answer, owner_answer, reading, tells_occluded, wildcard_both}
-use Rattle.domain_answer.specs.Reading.{wildcard_cover_answer, wildcard_match_answer}
+use Rattle.domain_checker.{specs.{Alike.{ArePaired, IsAlike}, Reading.{is_at_cut, is_cover, is_match}}, proofs.AlikeLemmas.{is_cover_alike, is_match_alike}}
+use Rattle.domain_checker.proofs.{AlikeLemmas.{says_alike, shared_alike}, EncloserLemmas.same_count, PairedLemmas.{OptionsPaired, any_alike, find_alike}}
+use Rattle.domain_answer.specs.{Proved.proved_answer, Reading.{absent_answer, cover_answer, listed_both, match_answer, owner_answer, reading, tells_occluded}}
+use Rattle.domain_answer.specs.{Reading.{wildcard_both, wildcard_cover_answer, wildcard_match_answer}, declared.answer.Answer.TheVariants.Referral}
+use Rattle.domain_answer.specs.declared.answer.Answer.TheVariants.{Redirected, WildcardNoData, NameError, NoCloserName}
 
 -- ---- one record
 
@@ -55,12 +53,8 @@ module _ (a : Name) (t : ℕ) where
   wildcard_both_alike : (n : ℕ) (w : Name) (m p c d : Option Link) → OptionsPaired IsAlike m p → OptionsPaired IsAlike c d
       → wildcard_both a n w t m c ≡ wildcard_both a n w t p d
   wildcard_both_alike n w (Some k) (Some l) c d m h = wildcard_match_alike a k l m n t
-  wildcard_both_alike n w (Some k) None c d m h = absurd m
-  wildcard_both_alike n w None (Some l) c d m h = absurd m
-  wildcard_both_alike n w None None None None m h = refl
-  wildcard_both_alike n w None None None (Some d) m h = absurd h
-  wildcard_both_alike n w None None (Some c) None m h = absurd h
   wildcard_both_alike n w None None (Some c) (Some d) m h = wildcard_cover_alike a c d h n w
+  wildcard_both_alike n w m p c d h i = grind (arith, common_steps)
 
   module _ (ks ls : List Link) (all : ArePaired IsAlike ks ls) where
     matching : (y : Name) → OptionsPaired IsAlike (find (is_match a y) ks) (find (is_match a y) ls)
@@ -78,12 +72,8 @@ module _ (a : Name) (t : ℕ) where
     both_alike : (x : Name) (m n c d : Option Link) → OptionsPaired IsAlike m n → OptionsPaired IsAlike c d
         → listed_both a ks x t m c ≡ listed_both a ls x t n d
     both_alike x (Some k) (Some l) c d m h = match_answer_alike a k l m t
-    both_alike x (Some k) None c d m h = absurd m
-    both_alike x None (Some l) c d m h = absurd m
-    both_alike x None None None None m h = refl
-    both_alike x None None None (Some d) m h = absurd h
-    both_alike x None None (Some c) None m h = absurd h
     both_alike x None None (Some c) (Some d) m h = cover_alike c d x h
+    both_alike x m n c d h i = grind (arith, common_steps)
 
     pub reading_alike : (x : Name) → reading a ks x t ≡ reading a ls x t
     reading_alike x = grind (arith, common_steps, both_alike, matching, covering)

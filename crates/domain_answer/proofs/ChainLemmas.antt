@@ -1,19 +1,25 @@
--- What a record of a chain that leaves out the names below a DNAME tells of the zone.
-use Rattle.std.proofs.lemmas.Grind.{common_steps}
-use Rattle.std.proofs.Common.{◌≡◌, ℕ, ◌<◌, Bool, true, false, not, ◌&&◌, ◌||◌, List, [], ◌∷◌, refl, sym, ap, ◌∙◌, Some, slice_get, arith}
-use Rattle.std.{proofs.lemmas.Bool.{and_from, false_from_ne_true, false≢true, or_parts}, specs.{List.list_any}}
+-- What the records of a chain that leaves out the names below a DNAME tell of the zone, and that what they answer is what they prove.
+use Rattle.std.proofs.Common.{◌≡◌, ℕ, ◌<◌, Bool, true, false, cond, not, ◌&&◌, ◌||◌, List, [], ◌∷◌, length, refl, sym, ap, ◌∙◌, inl, inr, Some, slice_get}
+use Rattle.std.proofs.{Common.arith, lemmas.{Bool.{and_from, and_left, and_right, cases_Bool, false_from_ne_true, false≢true}, Grind.common_steps}}
+use Rattle.std.specs.List.{find, list_any}
 use Rattle.domain_bitmap.specs.Blocks.{contains_type}
 use Rattle.domain_names.specs.{Name.{is_at_or_below, is_strictly_below, lowered, same_name}, Order.before, Words.Name}
-use Rattle.domain_base.specs.Types.{dname, soa}
-use Rattle.domain_zone.specs.Covering.{matches, covers, pairs}
-use Rattle.domain_zone.specs.Zone.{ZoneRecord, OwnersNeverDescend, has_type, is_occluded, is_zone_cut, occludes, owns, records_of, unoccluded_owners}
-use Rattle.domain_zone.proofs.{NameLemmas.{one_lowered, below_itself, lowered_below}, PairLemmas.In, OwnerLemmas.in_any, FindLemmas.in_at}
+use Rattle.domain_base.specs.Types.{cname, dname, soa}
+use Rattle.domain_zone.specs.{Covering.{matches, covers, pairs}, Enclosers.IsClosestEncloser, Zone.{ZoneRecord, OwnersNeverDescend, has_type, is_occluded}}
+use Rattle.domain_zone.{specs.Zone.{is_unoccluded, is_zone_cut, occludes, owns, records_of, unoccluded_owners}, proofs.FindLemmas.{Stands, in_at, stands_all}}
+use Rattle.domain_zone.proofs.{NameLemmas.{one_lowered, below_itself, lowered_below}, OwnerLemmas.{below_occluder, in_any}, PairLemmas.In}
 use Rattle.domain_nsec.specs.{Chain.{Link, IsChain, is_listed, nsec_lists}, declared.config.GenerateNsecConfig.GenerateNsecConfig}
-use Rattle.domain_checker.{specs.Reading.is_at_cut, proofs.EncloserLemmas.{cut_same, owner_owns}}
-use Rattle.domain_checker.proofs.MeantLemmas.{BitmapsAreSets, ChainLaws, IgnoresCase, IsMeant, cut_at, ends, meant_by, owner_low, type_at, covered_no_owner}
-use Rattle.domain_checker.proofs.MeantLemmas.{covered_occluded, matched_low, matched_same}
-use Rattle.domain_answer.specs.{TypesAnswer.is_of_child, Proved.LeavesOutBelowDname, Reading.{tells_occluded, tells_occluder}}
-use Rattle.domain_answer.{specs.ZoneAnswer.{name_exists, owns_type}, proofs.OccluderLemmas.cut_owns}
+use Rattle.domain_checker.{specs.{Reading.{is_at_cut, is_cover, is_match}, Verdict.has_match_or_cover}, proofs.EncloserLemmas.{closest_is, cut_same}}
+use Rattle.domain_checker.proofs.{EncloserLemmas.{owner_owns, same_count, strictly_trans, top_occluder}, MeantLemmas.{BitmapsAreSets, ChainLaws, IgnoresCase}}
+use Rattle.domain_checker.proofs.MeantLemmas.{IsMeant, apex_exists, cover_of, cut_at, ends, match_of, meant_by, owner_low, silent, type_at, covered_encloser}
+use Rattle.domain_checker.proofs.MeantLemmas.{covered_no_owner, covered_occluded, covered_under, covered_unowned, matched_high, matched_low, matched_same}
+use Rattle.domain_answer.specs.{Proved.{IsAnswered, LeavesOutBelowDname, is_missing, knows_wildcard}, Reading.{cover_answer, listed_answer, listed_both}}
+use Rattle.domain_answer.specs.{Reading.{match_answer, reading, tells_occluded, tells_occluder, wildcard_answer, wildcard_both}, TypesAnswer.is_of_child}
+use Rattle.domain_answer.specs.{TypesAnswer.owned_answer, ZoneAnswer.{asterisk, encloser, highest_occluder, inside_answer, is_at_parent, missing_answer}}
+use Rattle.domain_answer.specs.{ZoneAnswer.{name_exists, owns_type, wildcard_below}, declared.answer.Answer.{Answer, TheVariants.{OutsideZone, AtParent}}}
+use Rattle.domain_answer.specs.declared.answer.Answer.TheVariants.{Referral, Redirected, NoData, WildcardNoData, NameError, NoCloserName, NotProven}
+use Rattle.domain_answer.proofs.{ChoiceLemmas.{either_found, expanded_alike, owned_alike}, EncloserLemmas.{closest_last, cut_owns, none_above, parent_below}}
+use Rattle.domain_answer.proofs.{EncloserLemmas.{strictly_enclosed, wildcard_low}, KindLemmas.highest_of}
 
 -- a chain that leaves out what stands below a DNAME
 pub meant_leaving : ChainLaws → (L : List ZoneRecord) (a : Name) (config : GenerateNsecConfig) (links : List Link)
@@ -40,20 +46,29 @@ soa_bit assumed cut rs = grind (arith, common_steps)
 
 -- ---- tests over lists
 
-and_not : (b s : Bool) → s ≡ false → b ≡ (b && not s)
-and_not b s e = grind (arith, common_steps)
-
 -- where none is the same as x, those at or below x are strictly below it
 strictly_any : (names : List Name) (x : Name) → list_any (λ n. same_name n x) names ≡ false
     → list_any (λ n. is_at_or_below n x) names ≡ list_any (λ n. is_strictly_below n x) names
 strictly_any [] x e = refl
-strictly_any (n ∷ names) x e =
-    let p = or_parts (same_name n x) (list_any (λ n. same_name n x) names) e in
-    λ j. and_not (is_at_or_below n x) (same_name n x) p.0 j || strictly_any names x p.1 j
+strictly_any (n ∷ names) x e = grind (arith, common_steps, (strictly_any names x))
 
 -- what owns nothing is no zone cut
 pub no_cut : (L : List ZoneRecord) (a x : Name) → owns L x ≡ false → is_zone_cut L a x ≡ false
 no_cut L a x e = false_from_ne_true (is_zone_cut L a x) (λ c. false≢true (sym e ∙ cut_owns L a x c))
+
+turned : (b : Bool) (u v : Answer) → cond b u v ≡ cond (not b) v u
+turned b u v = grind (arith, common_steps)
+
+-- a name that owns nothing has no data
+owned_none : (L : List ZoneRecord) (a : Name) (assume : Bool) (x : Name) (t : ℕ) → owns L x ≡ false
+    → owned_answer (is_zone_cut L a x) (owns_type L a assume x) (length x) t ≡ NoData
+owned_none L a assume x t e = grind (arith, common_steps, no_cut)
+
+-- what is said of a name at or below the apex, whose parent is not the one to answer, is what is proved
+read_by : (low parent : Bool) (said proved inner : Answer) → (low ≡ true → parent ≡ false → said ≡ proved)
+    → cond (not low) OutsideZone (cond parent AtParent said)
+    ≡ cond (not low || parent) (cond (not low) OutsideZone (cond parent AtParent inner)) proved
+read_by low parent said proved inner f = grind (arith, common_steps)
 
 module _ (L : List ZoneRecord) (a : Name) (assume : Bool) (links : List Link) (meant : IsMeant true L a assume links)
     (alike : IgnoresCase L a assume) (sets : BitmapsAreSets) where
@@ -108,3 +123,115 @@ module _ (L : List ZoneRecord) (a : Name) (assume : Bool) (links : List Link) (m
     -- x is occluded exactly where the record tells it
     pub covered_told : tells_occluded a k x ≡ is_occluded true L a x
     covered_told = covered_occluded true L a assume links meant k place there x low c (tells_occluder a k) (occludes_at k (in_at links place k there))
+
+  -- ---- what a list of its records answers
+
+  module _ (listed : List Link) (among : (k : Link) → In k listed → Stands links k) (x : Name) (low : is_at_or_below x a ≡ true) (t : ℕ)
+      (bound : t < 65536) where
+    abbrev above : Name
+    above = encloser L a x
+
+    abbrev wildcard : Name
+    wildcard = wildcard_below above
+
+    closest : IsClosestEncloser owners a x above
+    closest = closest_is owners a x (apex_exists true L a assume links meant) low
+
+    -- ---- a name that is not occluded and doesn't exist
+
+    module _ (high : is_occluded true L a x ≡ false) (gone : name_exists L a x ≡ false) where
+      low_w : is_at_or_below wildcard a ≡ true
+      low_w = wildcard_low owners a x above closest
+
+      high_w : is_occluded true L a wildcard ≡ false
+      high_w = false_from_ne_true (is_occluded true L a wildcard) (λ e.
+          let top = (top_occluder true L a wildcard e).0 in
+          false≢true (sym high ∙ below_occluder true L a top.name x top.over
+          (strictly_trans x above top.name (strictly_enclosed owners a x above closest gone) (parent_below asterisk above top.name top.under))))
+
+      -- what is proved of the wildcard
+      abbrev proved : Answer
+      proved = cond (not (has_match_or_cover listed wildcard)) (NoCloserName (length above)) (missing_answer L a assume (length above) wildcard t)
+
+      wildcard_told : wildcard_answer a listed (length above) wildcard t ≡ proved
+      wildcard_told =
+          either_found (λ m c. wildcard_both a (length above) wildcard t m c ≡ proved) (find (is_match a wildcard) listed) (find (is_cover a wildcard) listed)
+          (λ e f. rw (silent true L a assume links meant listed among wildcard e f))
+          (λ k e. let r = match_of true L a assume links meant listed among wildcard k e in
+          rw (r.2, matched_exists k r.0 wildcard r.1) (expanded_alike (is_at_cut a k) (is_zone_cut L a wildcard) (contains_type k.bits)
+          (owns_type L a assume wildcard) (length above) t (matched_cut k r.0 wildcard r.1) (λ c. matched_type k r.0 wildcard r.1 t bound)
+          (matched_type k r.0 wildcard r.1 cname (omega arith))))
+          (λ k f. let r = cover_of true L a assume links meant listed among wildcard k f in
+          let free = covered_told k r.0.place r.0.there wildcard low_w r.1 ∙ high_w in
+          let exists = covered_exists k r.0.place r.0.there wildcard low_w r.1 in
+          let unowned = covered_unowned true L a assume links meant k r.0.place r.0.there wildcard low_w r.1 high_w in
+          rw (r.2, free, sym exists, unowned, no_cut L a wildcard unowned)
+          (turned (name_exists L a wildcard) (WildcardNoData (length above)) (NameError (length above))))
+
+    -- ---- any name of the zone
+
+    -- what is proved where a record matches or covers x
+    abbrev known : Answer
+    known = cond (is_missing L a x && not (knows_wildcard L a listed x)) (NoCloserName (length above)) (inside_answer L a assume x t (highest_occluder L a x))
+
+    there : name_exists L a x ≡ true → is_missing L a x ≡ false
+    there e = and_right (is_unoccluded true L a x) (not (name_exists L a x)) (ap not e)
+
+    of_match : (k : Link) → In k links → matches before k.owner x ≡ true → match_answer a k t ≡ known
+    of_match k i m =
+        let exists = matched_exists k i x m in
+        rw (there exists, none_above L a x (matched_high true L a assume links meant k i x m), exists, child_at k i)
+        (owned_alike (is_at_cut a k) (is_zone_cut L a x) (contains_type k.bits) (owns_type L a assume x) (length k.owner) (length x) t
+        (matched_cut k i x m) (λ c. matched_type k i x m t bound) (matched_type k i x m cname (omega arith)) (same_count k.owner x (same k i x m)))
+
+    module _ (k : Link) (place : ℕ) (stands : slice_get links place ≡ Some k) (c : covers before k.owner k.next x ≡ true) where
+      told : tells_occluded a k x ≡ is_occluded true L a x
+      told = covered_told k place stands x low c
+
+      exists : is_strictly_below k.next x ≡ name_exists L a x
+      exists = sym (covered_exists k place stands x low c)
+
+      of_occluded : is_occluded true L a x ≡ true → cover_answer a listed k x t ≡ known
+      of_occluded e =
+          let h = highest_of L a x e in
+          let owner = covered_under true L a assume links meant k place stands x low c h.0 h.2.over h.2.free h.2.under in
+          let labels = same_count k.owner h.0 owner in
+          let cut = covered_cut k place stands x low c ∙ cut_same L a k.owner h.0 owner in
+          let free = and_right (is_at_or_below x a) (not (is_occluded true L a x)) (ap not e) in
+          rw (and_left (is_unoccluded true L a x) (not (name_exists L a x)) free, h.1, told ∙ e)
+          (λ j. cond (cut j) (Referral (labels j)) (Redirected (labels j)))
+
+      -- of a name that isn't occluded the next name tells whether it exists
+      of_empty : is_occluded true L a x ≡ false → name_exists L a x ≡ true → cover_answer a listed k x t ≡ known
+      of_empty high e =
+          rw (there e, none_above L a x high, told ∙ high, exists, e)
+          (sym (owned_none L a assume x t (covered_unowned true L a assume links meant k place stands x low c high)))
+
+      of_missing : is_occluded true L a x ≡ false → name_exists L a x ≡ false → cover_answer a listed k x t ≡ known
+      of_missing high e =
+          let missing : is_missing L a x ≡ true = λ j. (low j && not (high j)) && not (e j) in
+          let labels = covered_encloser true L a assume links meant k place stands x low c in
+          rw (missing, none_above L a x high, told ∙ high, exists, e, labels, closest_last owners a x) (wildcard_told high e)
+
+      of_cover : cover_answer a listed k x t ≡ known
+      of_cover =
+          elim (cases_Bool (is_occluded true L a x)) [
+            | inl e ↦ of_occluded e
+            | inr high ↦ elim (cases_Bool (name_exists L a x)) [ inl e ↦ of_empty high e | inr e ↦ of_missing high e ]
+          ]
+
+    list_proved : listed_answer a listed x t ≡ cond (not (has_match_or_cover listed x)) NotProven known
+    list_proved =
+        either_found (λ m c. listed_both a listed x t m c ≡ cond (not (has_match_or_cover listed x)) NotProven known)
+        (find (is_match a x) listed) (find (is_cover a x) listed) (λ e f. rw (silent true L a assume links meant listed among x e f))
+        (λ k e. let r = match_of true L a assume links meant listed among x k e in rw (r.2) (of_match k r.0 r.1))
+        (λ k f. let r = cover_of true L a assume links meant listed among x k f in rw (r.2) (of_cover k r.0.place r.0.there r.1))
+
+-- what they answer is what they prove, of every name and type
+pub reading_proved : ChainLaws → ((L : List ZoneRecord) (a : Name) (assume : Bool) → IgnoresCase L a assume) → BitmapsAreSets
+    → (listed : List Link) (a x : Name) (t : ℕ) → t < 65536 → IsAnswered listed a x t (reading a listed x t)
+reading_proved laws alike sets listed a x t b L config links leaves order chain among =
+    let assume = config.assume_dnskeys_will_be_added in
+    read_by (is_at_or_below x a) (is_at_parent a x t) (listed_answer a listed x t) _ (inside_answer L a assume x t (highest_occluder L a x)) (λ low apart.
+    list_proved L a assume links (meant_leaving laws L a config links leaves order chain) (alike L a assume) sets listed
+    (stands_all links listed among) x low t b ∙ rw (low, apart))

@@ -1,20 +1,17 @@
 -- What NSEC3 records answer of a name whose records were expanded from a wildcard is what they prove of the zone.
-use Rattle.std.proofs.Common.{◌≡◌, ℕ, ◌+◌, ◌≤◌, ◌<◌, true, false, List, length, refl, sym, ap, ◌∙◌, subst, inl, inr, Option, Some, None}
-use Rattle.std.proofs.{Common.arith, lemmas.{Bool.{cases_lt, false≢true}, List.Elements.recursion_from_All, Grind.common_steps}}
-use Rattle.std.specs.{List.Contains}
+use Rattle.std.proofs.{Common.{Bool, cond, not, ◌≡◌, ℕ, ◌+◌, ◌≤◌, ◌<◌, true, false, List, length, sym, ap, ◌∙◌, subst, inl, inr, arith}, lemmas.Bool.cases_lt}
+use Rattle.std.{proofs.lemmas.{Bool.false≢true, Grind.common_steps, List.Elements.recursion_from_All}, specs.List.Contains}
 use Rattle.domain_octets.specs.Words.{Octets}
 use Rattle.domain_names.specs.{Name.{is_at_or_below, last_labels}, Words.Name}
-use Rattle.domain_chain_rdata.specs.OptOut.{is_opt_out}
 use Rattle.domain_zone.{specs.Zone.ZoneRecord, proofs.{NameLemmas.{below_longer, below_parent}, PairLemmas.{In, all_in}}}
-use Rattle.domain_nsec3.specs.{Chain.{HashedLink, IsHashedChain}, Config.ChainConfig, Meaning.IsAlone, Owners.original_owners}
-use Rattle.domain_checker.specs.{HashedEncloser.{IsDenial, IsOfName}, HashedList.{is_hash_cover, is_hash_match}}
-use Rattle.domain_checker.specs.{HashedView.{HashedRecords, chain_records, first_cover, first_match}}
-use Rattle.domain_checker.proofs.{HashedVerdictLemmas.as_chain, EncloserLemmas.{apex_from, closest_is}}
-use Rattle.domain_answer.specs.declared.answer.Answer.{Answer, TheVariants.{MayBeUnsigned, NoCloserName}}
-use Rattle.domain_answer.specs.Expansion.{ExpansionRestsOn, IsExpansionAnswered, IsExpansionRead, closer_name, closer_told, is_expanded, proved_expansion}
-use Rattle.domain_answer.specs.{HashedZoneAnswer.{hashed_encloser, hashed_exists}, Proved.CountsWithin}
-use Rattle.domain_answer.{specs.ZoneAnswer.{asterisk, wildcard_below}, proofs.{CountLemmas.{closest_last, last_above, last_count}, EncloserLemmas.exists_above}}
-use Rattle.domain_answer.proofs.{HashedWayLemmas.{alone_by, heard, unheard}, ProofLemmas.choose}
+use Rattle.domain_nsec3.specs.{Chain.HashedLink, Config.ChainConfig, Meaning.IsAlone, Owners.original_owners}
+use Rattle.domain_checker.specs.{HashedFacts.{ChainFacts, ChainsAreKnown}, HashedList.{is_hash_cover, is_hash_match}, HashedVerdict.is_covered}
+use Rattle.domain_checker.{specs.HashedView.{HashedRecords, chain_records, first_cover, first_match}, proofs.EncloserLemmas.{apex_from, closest_is}}
+use Rattle.domain_checker.proofs.{EncloserLemmas.exists_above, HashedEncloserLemmas.{cover_denies, match_is_of_name}, HashedVerdictLemmas.as_chain}
+use Rattle.domain_answer.specs.Expansion.{missing_closer, ExpansionRestsOn, IsExpansionAnswered, IsExpansionRead, closer_name, closer_told, is_expanded}
+use Rattle.domain_answer.specs.{Expansion.proved_expansion, HashedZoneAnswer.{hashed_encloser, hashed_exists}, Proved.CountsWithin, ZoneAnswer.asterisk}
+use Rattle.domain_answer.{specs.{ZoneAnswer.wildcard_below, declared.answer.Answer.{Answer, TheVariants.NotProven}}, proofs.ChoiceLemmas.either_found}
+use Rattle.domain_answer.proofs.{EncloserLemmas.{closest_last, last_above, last_count}, HashedWayLemmas.{alone_by, heard, unheard}}
 
 -- what such a name is known of
 record IsLonger (a x : Name) (n : ℕ) : Type 0 where
@@ -56,54 +53,45 @@ expansion_encloser L a config x n e there gone =
     ] in
     sym (closest_last names a x) ∙ ap (λ k. last_labels k x) labels
 
--- ---- what the law of the checker says of records of a chain
+-- ---- what records of a chain answer is what they prove
 
-pub record TellsNames : Type 0 where
-  pub matches : (L : List ZoneRecord) (a : Name) (config : ChainConfig) (links : List HashedLink) → IsHashedChain L a config links
-      → (x : Name) (v : Octets) → is_at_or_below x a ≡ true → IsAlone L a config x v → (k : HashedLink) → Contains links k
-      → is_hash_match a config.parameters v k ≡ true → IsOfName L a config x k
-  pub covers : (L : List ZoneRecord) (a : Name) (config : ChainConfig) (links : List HashedLink) → IsHashedChain L a config links
-      → (x : Name) (v : Octets) → is_at_or_below x a ≡ true → IsAlone L a config x v → (k : HashedLink) → Contains links k
-      → is_hash_cover a config.parameters v k ≡ true → IsDenial L a config x k
+unproven : (there covered : Bool) (v : Answer) → covered ≡ false → NotProven ≡ cond there NotProven (cond (not covered) NotProven v)
+unproven there covered v e = grind (arith, common_steps)
 
-module _ (tells : TellsNames) (L : List ZoneRecord) (a : Name) (config : ChainConfig) (links : List HashedLink)
-    (chain : IsHashedChain L a config links) (listed : List HashedLink) (among : (k : HashedLink) → In k listed → Contains links k)
+module _ (L : List ZoneRecord) (a : Name) (config : ChainConfig) (links : List HashedLink)
+    (facts : ChainFacts L a config links) (listed : List HashedLink) (among : (k : HashedLink) → In k listed → Contains links k)
     (x : Name) (n : ℕ) (low : is_at_or_below (closer_name n x) a ≡ true) (v : Octets) (alone : IsAlone L a config (closer_name n x) v) where
-  told_proved : (m c : Option HashedLink) → first_match (chain_records a config listed) v ≡ m → first_cover (chain_records a config listed) v ≡ c
-      → closer_told n m c ≡ proved_expansion L a config listed x n
-  told_proved (Some k) c e f =
-      let h = heard config.hash (is_hash_match a config.parameters) listed (closer_name n x) v alone.known k e in
-      rw ((tells.matches L a config links chain (closer_name n x) v low alone k (among k h.0) h.1).exists)
-  told_proved None (Some k) e f =
-      let h = heard config.hash (is_hash_cover a config.parameters) listed (closer_name n x) v alone.known k f in
-      let denial = tells.covers L a config links chain (closer_name n x) v low alone k (among k h.0) h.1 in
-      rw (denial.flags, denial.absent, h.2)
-  told_proved None None e f =
-      grind (arith, common_steps, (unheard config.hash (is_hash_cover a config.parameters) listed (closer_name n x) v alone.known f))
+  told_proved : closer_told n (first_match (chain_records a config listed) v) (first_cover (chain_records a config listed) v)
+      ≡ proved_expansion L a config listed x n
+  told_proved =
+      either_found (λ m c. closer_told n m c ≡ proved_expansion L a config listed x n) (first_match (chain_records a config listed) v)
+      (first_cover (chain_records a config listed) v)
+      (λ e f. unproven (hashed_exists L a config (closer_name n x)) (is_covered (chain_records a config listed) (closer_name n x)) (missing_closer config n)
+      (unheard config.hash (is_hash_cover a config.parameters) listed (closer_name n x) v alone.known f))
+      (λ k e. let h = heard config.hash (is_hash_match a config.parameters) listed (closer_name n x) v alone.known k e in
+      rw ((match_is_of_name L a config links facts (closer_name n x) v low alone k (among k h.0) h.1).exists))
+      (λ k f. let h = heard config.hash (is_hash_cover a config.parameters) listed (closer_name n x) v alone.known k f in
+      let denial = cover_denies L a config links facts (closer_name n x) v low alone k (among k h.0) h.1 in
+      rw (denial.flags, denial.absent, h.2))
 
-pub expansion_proved : TellsNames → (R : HashedRecords) (x : Name) (n : ℕ) (answer : Answer)
+pub expansion_proved : ChainsAreKnown → (R : HashedRecords) (x : Name) (n : ℕ) (answer : Answer)
     → is_expanded R.apex x n ≡ true → IsExpansionRead R x n answer → IsExpansionAnswered R x n answer
-expansion_proved tells R x n answer e read = λ L config links value hash parameters chain alone among.
+expansion_proved knows R x n answer e read = λ L config links value hash parameters chain alone among.
     let here = subst (λ S. IsExpansionRead S x n answer) (as_chain R config hash parameters) read in
     here.says
-    ∙ told_proved tells L R.apex config links chain R.links
+    ∙ told_proved L R.apex config links (knows L R.apex config links chain) R.links
     (λ k i. all_in (Contains links) R.links k (recursion_from_All (Contains links) R.links among) i)
     x n (closer_low R.apex x n e) here.value (alone_by L R.apex config (closer_name n x) value here.value alone here.known)
-    (first_match (chain_records R.apex config R.links) here.value) (first_cover (chain_records R.apex config R.links) here.value) refl refl
 
 -- ---- of any records
 
 module _ (R : HashedRecords) (x : Name) (n : ℕ) (answer : Answer) (read : IsExpansionRead R x n answer) where
   pub expansion_rests : ExpansionRestsOn R x n answer
-  expansion_rests = by (first_match R read.value) (first_cover R read.value) refl read.says
-    where
-      by : (m c : Option HashedLink) → first_cover R read.value ≡ c → answer ≡ closer_told n m c → ExpansionRestsOn R x n answer
-      by (Some k) c f says = subst (ExpansionRestsOn R x n) (sym says) tt
-      by None None f says = subst (ExpansionRestsOn R x n) (sym says) tt
-      by None (Some k) f says =
-          let c = (heard R.hash (is_hash_cover R.apex R.parameters) R.links (closer_name n x) read.value read.known k f).2 in
-          subst (ExpansionRestsOn R x n) (sym says)
-          (choose (ExpansionRestsOn R x n) (is_opt_out k.flags) (MayBeUnsigned n) (NoCloserName n) (refl, c) (refl, c))
+  expansion_rests =
+      subst (ExpansionRestsOn R x n) (sym read.says) (either_found (λ m c. ExpansionRestsOn R x n (closer_told n m c)) (first_match R read.value)
+      (first_cover R read.value) (λ e f. tt) (λ k e. tt)
+      (λ k f. let c = (heard R.hash (is_hash_cover R.apex R.parameters) R.links (closer_name n x) read.value read.known k f).2 in
+      grind (arith, common_steps)))
 
   pub expansion_counts : is_expanded R.apex x n ≡ true → CountsWithin (length x) answer
   expansion_counts e = grind (arith, common_steps)

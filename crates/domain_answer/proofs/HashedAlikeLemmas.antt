@@ -9,13 +9,12 @@ use Rattle.domain_chain_rdata.specs.OptOut.{is_opt_out}
 use Rattle.domain_zone.specs.Zone.{ZoneRecord, is_zone_cut}
 use Rattle.domain_nsec3.specs.{Chain.HashedLink, Config.ChainConfig, Owners.nsec3_lists}
 use Rattle.domain_checker.specs.{Alike.{ArePaired, IsHashedAlike}, HashedEncloser.{Encloser, IsFoundEncloser, encloser_is_cut, next_cover}}
-use Rattle.domain_checker.specs.{HashedView.{HashedRecords, chain_records, with_links}, HashedVerdict.next_closer}
-use Rattle.domain_checker.proofs.{HashedAlikeLemmas.{covered_alike, matched_alike, matching, covering, found_alike, first_alike}, PairedLemmas.OptionsPaired}
-use Rattle.domain_answer.specs.declared.answer.Answer.{Answer, TheVariants.{MayBeUnsigned, NoCloserName, NotProven}}
-use Rattle.domain_answer.specs.Expansion.{IsExpansionRead, closer_name, closer_told, proved_expansion}
-use Rattle.domain_answer.specs.HashedProved.{hashed_proved_answer, tells_encloser, tells_wildcard}
-use Rattle.domain_answer.specs.HashedReading.{IsHashedRead, IsReadOn, encloser_answer, found_answer, wildcard_told}
-use Rattle.domain_answer.specs.{HashedZoneAnswer.{hashed_encloser, hashed_exists, hashed_zone_answer}, ZoneAnswer.wildcard_below}
+use Rattle.domain_checker.{specs.{HashedVerdict.next_closer, HashedView.{HashedRecords, chain_records, with_links}}, proofs.HashedAlikeLemmas.covered_alike}
+use Rattle.domain_checker.proofs.{HashedAlikeLemmas.{matched_alike, matching, covering, found_alike, first_alike}, PairedLemmas.OptionsPaired}
+use Rattle.domain_answer.specs.{Expansion.{IsExpansionRead, closer_name, closer_told, proved_expansion}, HashedProved.{hashed_proved_answer, tells_encloser}}
+use Rattle.domain_answer.specs.{HashedProved.tells_wildcard, HashedReading.{IsHashedRead, IsReadOn, encloser_answer, found_answer, wildcard_told}}
+use Rattle.domain_answer.specs.{HashedZoneAnswer.{hashed_encloser, hashed_exists, hashed_zone_answer}, ZoneAnswer.wildcard_below, declared.answer.Answer.Answer}
+use Rattle.domain_answer.specs.declared.answer.Answer.TheVariants.{MayBeUnsigned, NoCloserName, NotProven}
 
 -- ---- what records say that were found
 

@@ -1,20 +1,20 @@
 -- What NSEC3 records answer, by what the records tell that it comes of.
-use Rattle.std.proofs.Common.{◌≡◌, ℕ, ◌<◌, Bool, true, false, cond, List, length, refl, sym, ap, ◌∙◌, subst, nat_eq, Option, Some, None, arith}
-use Rattle.std.{proofs.lemmas.{Bool.eqb-false, Grind.common_steps}, specs.{Prelude.Ok, List.{find, list_any}}}
+use Rattle.std.proofs.Common.{rules, ◌≡◌, ℕ, ◌<◌, Bool, true, false, List, length, refl, sym, ap, ◌∙◌, subst, nat_eq, Option, Some, None, arith}
+use Rattle.std.{proofs.lemmas.{Bool.eqb-false, Grind.common_steps}, specs.{List.{find, list_any}, Prelude.Ok}}
 use Rattle.domain_octets.specs.Words.{Octets}
 use Rattle.domain_names.specs.{Name.{same_name, last_labels}, Words.Name}
 use Rattle.domain_base.specs.Types.{dname, ns}
 use Rattle.domain_bitmap.specs.Blocks.{contains_type}
 use Rattle.domain_chain_rdata.specs.OptOut.{is_opt_out}
-use Rattle.domain_zone.{specs.Zone.ZoneRecord, proofs.{NameLemmas.below_length, PairLemmas.In, OwnerLemmas.in_any, FindLemmas.{any_none, find_none, find_some}}}
+use Rattle.domain_zone.{specs.Zone.ZoneRecord, proofs.{FindLemmas.{any_none, find_none, find_some}, NameLemmas.below_length, OwnerLemmas.in_any, PairLemmas.In}}
 use Rattle.domain_nsec3.specs.{Chain.HashedLink, Config.{ChainConfig, Hash, hash_name}, Meaning.IsAlone}
-use Rattle.domain_checker.specs.HashedView.{HashedRecords, first_cover, first_match}
 use Rattle.domain_checker.specs.{HashedEncloser.{Encloser, IsEncloser, IsFoundEncloser, encloser_is_cut, next_cover}, HashedList.{is_hash_cover, is_hash_match}}
-use Rattle.domain_checker.specs.{HashedReading.IsNextHash, HashedVerdict.{is_covered, is_matched, is_ok_with, next_closer}}
-use Rattle.domain_checker.proofs.HashedEncloserLemmas.{itself_counted}
-use Rattle.domain_answer.specs.declared.answer.Answer.{Answer, TheVariants.{Referral, Redirected, NameError, MayBeUnsigned, NoCloserName, NotProven}}
-use Rattle.domain_answer.specs.HashedReading.{IsReadOn, IsWildcardRead, encloser_answer, found_answer, lower_answer, next_answer, own_answer, wildcard_told}
-use Rattle.domain_answer.specs.{TypesAnswer.wildcard_types_answer, ZoneAnswer.wildcard_below}
+use Rattle.domain_checker.specs.{HashedReading.IsNextHash, HashedVerdict.{is_covered, is_matched, is_ok_with, next_closer}, HashedView.HashedRecords}
+use Rattle.domain_checker.{specs.HashedView.{first_cover, first_match}, proofs.HashedEncloserLemmas.itself_counted}
+use Rattle.domain_answer.specs.HashedReading.{IsReadOn, IsWildcardRead, encloser_answer, found_answer, next_answer, own_answer, wildcard_told}
+use Rattle.domain_answer.specs.{TypesAnswer.wildcard_types_answer, ZoneAnswer.wildcard_below, declared.answer.Answer.{Answer, TheVariants.Referral}}
+use Rattle.domain_answer.specs.declared.answer.Answer.TheVariants.{Redirected, NameError, MayBeUnsigned, NoCloserName, NotProven}
+use Rattle.domain_answer.proofs.ChoiceLemmas.{choose_by, either_found}
 
 -- ---- what the first record that passes a test of the hash of y tells of the list
 
@@ -51,94 +51,64 @@ pub record IsClosed (R : HashedRecords) (x : Name) (e : Encloser) (d : Name) : T
   pub covers : is_hash_cover R.apex R.parameters value link ≡ true
   pub covered : is_covered R (next_closer x d) ≡ true
 
--- the ways to an answer
-pub data IsBy (R : HashedRecords) (x : Name) (t : ℕ) (e : Encloser) (d : Name) (answer : Answer) : Type 0 where
-  by_itself : same_name d x ≡ true → answer ≡ own_answer R.apex e t → IsBy R x t e d answer
-  by_cut : same_name d x ≡ false → encloser_is_cut R.apex e ≡ true → answer ≡ Referral e.count → IsBy R x t e d answer
-  by_dname : same_name d x ≡ false → encloser_is_cut R.apex e ≡ false → contains_type e.link.bits dname ≡ true → answer ≡ Redirected e.count
-      → IsBy R x t e d answer
-  by_gap : IsOpen R x e d → is_covered R (next_closer x d) ≡ false → answer ≡ NotProven → IsBy R x t e d answer
-  by_opt_out : (c : IsClosed R x e d) → is_opt_out c.link.flags ≡ true → answer ≡ MayBeUnsigned e.count → IsBy R x t e d answer
-  by_wildcard : (c : IsClosed R x e d) → is_opt_out c.link.flags ≡ false → IsWildcardRead R x t e.count answer → IsBy R x t e d answer
-
--- and those by the wildcard w
-pub data IsByWildcard (R : HashedRecords) (w : Name) (t n : ℕ) (answer : Answer) : Type 0 where
-  by_match : (v : Octets) → hash_name R.hash w ≡ Ok v → (k : HashedLink) → In k R.links → is_hash_match R.apex R.parameters v k ≡ true
-      → is_matched R w ≡ true → answer ≡ wildcard_types_answer (contains_type k.bits ns) k.bits n t → IsByWildcard R w t n answer
-  by_cover : (v : Octets) → hash_name R.hash w ≡ Ok v → (k : HashedLink) → In k R.links → is_hash_cover R.apex R.parameters v k ≡ true
-      → is_covered R w ≡ true → answer ≡ NameError n → IsByWildcard R w t n answer
-  by_none : is_matched R w ≡ false → is_covered R w ≡ false → answer ≡ NoCloserName n → IsByWildcard R w t n answer
-
 own_never : (a : Name) (e : Encloser) (t n : ℕ) → own_answer a e t ≡ NoCloserName n → ⊥
 own_never a e t n h = grind (arith, common_steps)
 
-read_plain : (R : HashedRecords) (x : Name) (t : ℕ) (first answer : Answer)
-    → ((n : ℕ) → first ≡ NoCloserName n → ⊥) → IsReadOn R x t first answer → answer ≡ first
-read_plain R x t first answer f r = grind (arith, common_steps)
+-- P holds of the answer
+module _ (R : HashedRecords) (x : Name) (t : ℕ) (answer : Answer) (P : Answer → Type 0) where
+  -- where it does of what is first said or, if that leaves the wildcard to be asked, of what is read on
+  abbrev Then : Answer → Type 0
+  Then (NoCloserName n) = IsWildcardRead R x t n answer → P answer
+  Then first = P first
 
-module _ (R : HashedRecords) (x : Name) (t : ℕ) (answer : Answer) where
-  pub by_read : (e : Encloser) (is : IsEncloser R x e) → IsReadOn R x t (encloser_answer R.apex e (length x) t) answer → IsBy R x t e is.name answer
-  by_read e is ends = by is.next is.closes is.covers
+  read_then : (first : Answer) → IsReadOn R x t first answer → Then first → P answer
+  read_then (NoCloserName n) read then = then read
+  read_then first read then = subst P (sym read) then
+
+  plain : (v : Answer) → ((n : ℕ) → v ≡ NoCloserName n → ⊥) → P v → Then v
+  plain (NoCloserName n) never p = absurd (never n refl)
+  plain v never p = p
+
+  -- so where it does by each way that leads to an answer
+  pub by_encloser : (e : Encloser) (is : IsEncloser R x e) → IsReadOn R x t (encloser_answer R.apex e (length x) t) answer
+      → (same_name is.name x ≡ true → P (own_answer R.apex e t))
+      → (same_name is.name x ≡ false → encloser_is_cut R.apex e ≡ true → P (Referral e.count))
+      → (same_name is.name x ≡ false → encloser_is_cut R.apex e ≡ false → contains_type e.link.bits dname ≡ true → P (Redirected e.count))
+      → (IsOpen R x e is.name → is_covered R (next_closer x is.name) ≡ false → P NotProven)
+      → ((c : IsClosed R x e is.name) → is_opt_out c.link.flags ≡ true → P (MayBeUnsigned e.count))
+      → ((c : IsClosed R x e is.name) → is_opt_out c.link.flags ≡ false → IsWildcardRead R x t e.count answer → P answer) → P answer
+  by_encloser e is read own cut directed gap out wildcard =
+      let itself = itself_counted R x e is in
+      let first : nat_eq e.count (length x) ≡ true → Then (own_answer R.apex e t) =
+      λ i. plain (own_answer R.apex e t) (own_never R.apex e t) (own (sym itself ∙ i)) in
+      let other : nat_eq e.count (length x) ≡ false → same_name is.name x ≡ false = λ i. sym itself ∙ i in
+      read_then (encloser_answer R.apex e (length x) t) read
+      (search (rules, (choose_by Then), first, other, cut, directed, (by e.cover is.next is.closes is.covers)) depth 12)
     where
-      on : (first : Answer) → encloser_answer R.apex e (length x) t ≡ first → IsReadOn R x t first answer
-      on first f = subst (λ g. IsReadOn R x t g answer) f ends
+      by : (o : Option HashedLink) (next : Option Octets) → IsNextHash R.hash x is.name next → o ≡ next_cover R next → IsOpen R x e is.name
+          → Then (next_answer e.count o)
+      by o None s f way = absurd (cc)
+      by None (Some v) n f way = gap way (unheard R.hash (is_hash_cover R.apex R.parameters) R.links (next_closer x is.name) v n.1 (sym f))
+      by (Some k) (Some v) n f way =
+          let h = heard R.hash (is_hash_cover R.apex R.parameters) R.links (next_closer x is.name) v n.1 k (sym f) in
+          let closed : IsClosed R x e is.name =
+          record { below = way; value = v; known = n.1; link = k; listed = h.0; covers = h.1; covered = h.2 } in
+          choose_by Then (is_opt_out k.flags) (MayBeUnsigned e.count) (NoCloserName e.count) (out closed) (wildcard closed)
 
-      -- of what lies below it, by the tests and the cover
-      lower : (v : Octets) → same_name is.name x ≡ false → hash_name R.hash (next_closer x is.name) ≡ Ok v → (c h : Bool)
-          → encloser_is_cut R.apex e ≡ c → contains_type e.link.bits dname ≡ h → (o : Option HashedLink) → first_cover R v ≡ o
-          → IsReadOn R x t (cond c (Referral e.count) (cond h (Redirected e.count) (next_answer e.count o))) answer → IsBy R x t e is.name answer
-      lower v s n true h g i o j read = by_cut s g read
-      lower v s n false true g i o j read = by_dname s g i read
-      lower v s n false false g i None j read = by_gap (record { other = s; uncut = g; undirected = i })
-          (unheard R.hash (is_hash_cover R.apex R.parameters) R.links (next_closer x is.name) v n j) read
-      lower v s n false false g i (Some k) j read = flagged (is_opt_out k.flags) refl read
-        where
-          closed : IsClosed R x e is.name
-          closed =
-              let r = heard R.hash (is_hash_cover R.apex R.parameters) R.links (next_closer x is.name) v n k j in
-              record {
-                below = record { other = s; uncut = g; undirected = i };
-                value = v;
-                known = n;
-                link = k;
-                listed = r.0;
-                covers = r.1;
-                covered = r.2;
-              }
-
-          flagged : (b : Bool) → is_opt_out k.flags ≡ b → IsReadOn R x t (cond b (MayBeUnsigned e.count) (NoCloserName e.count)) answer
-              → IsBy R x t e is.name answer
-          flagged true out read = by_opt_out closed out read
-          flagged false out read = by_wildcard closed out read
-
-      by : (next : Option Octets) → IsNextHash R.hash x is.name next → e.cover ≡ next_cover R next → IsBy R x t e is.name answer
-      by None s f =
-          by_itself s (read_plain R x t (own_answer R.apex e t) answer (own_never R.apex e t)
-          (on (own_answer R.apex e t) (λ i. cond ((itself_counted R x e is ∙ s) i) (own_answer R.apex e t) (lower_answer R.apex e))))
-      by (Some v) n f =
-          let c = encloser_is_cut R.apex e in
-          let h = contains_type e.link.bits dname in
-          lower v n.0 n.1 c h refl refl (first_cover R v) refl
-          (on (cond c (Referral e.count) (cond h (Redirected e.count) (next_answer e.count (first_cover R v))))
-          (λ i. cond ((itself_counted R x e is ∙ n.0) i) (own_answer R.apex e t)
-          (cond c (Referral e.count) (cond h (Redirected e.count) (next_answer e.count (f i))))))
-
-  pub by_wildcard_read : (n : ℕ) → IsWildcardRead R x t n answer → IsByWildcard R (wildcard_below (last_labels n x)) t n answer
-  by_wildcard_read n r = by (first_match R r.value) (first_cover R r.value) refl refl r.says
-    where
-      w : Name
-      w = wildcard_below (last_labels n x)
-
-      by : (m c : Option HashedLink) → first_match R r.value ≡ m → first_cover R r.value ≡ c → answer ≡ wildcard_told n t m c
-          → IsByWildcard R (wildcard_below (last_labels n x)) t n answer
-      by (Some k) c e f says =
-          let h = heard R.hash (is_hash_match R.apex R.parameters) R.links (wildcard_below (last_labels n x)) r.value r.known k e in
-          by_match r.value r.known k h.0 h.1 h.2 says
-      by None (Some k) e f says =
-          let h = heard R.hash (is_hash_cover R.apex R.parameters) R.links (wildcard_below (last_labels n x)) r.value r.known k f in
-          by_cover r.value r.known k h.0 h.1 h.2 says
-      by None None e f says = by_none (unheard R.hash (is_hash_match R.apex R.parameters) R.links (wildcard_below (last_labels n x)) r.value r.known e)
-          (unheard R.hash (is_hash_cover R.apex R.parameters) R.links (wildcard_below (last_labels n x)) r.value r.known f) says
+  -- and of what is told of the wildcard w
+  pub by_wildcard : (n : ℕ) → IsWildcardRead R x t n answer → (w : Name) → w ≡ wildcard_below (last_labels n x)
+      → ((v : Octets) → hash_name R.hash w ≡ Ok v → (k : HashedLink) → In k R.links → is_hash_match R.apex R.parameters v k ≡ true
+      → is_matched R w ≡ true → P (wildcard_types_answer (contains_type k.bits ns) k.bits n t))
+      → ((v : Octets) → hash_name R.hash w ≡ Ok v → (k : HashedLink) → In k R.links → is_hash_cover R.apex R.parameters v k ≡ true
+      → is_covered R w ≡ true → P (NameError n))
+      → (is_matched R w ≡ false → is_covered R w ≡ false → P (NoCloserName n)) → P answer
+  by_wildcard n r w e match cover none =
+      let known : hash_name R.hash w ≡ Ok r.value = ap (hash_name R.hash) e ∙ r.known in
+      subst P (sym r.says) (either_found (λ m c. P (wildcard_told n t m c)) (first_match R r.value) (first_cover R r.value)
+      (λ f g. none (unheard R.hash (is_hash_match R.apex R.parameters) R.links w r.value known f)
+      (unheard R.hash (is_hash_cover R.apex R.parameters) R.links w r.value known g))
+      (λ k f. let h = heard R.hash (is_hash_match R.apex R.parameters) R.links w r.value known k f in match r.value known k h.0 h.1 h.2)
+      (λ k f. let h = heard R.hash (is_hash_cover R.apex R.parameters) R.links w r.value known k f in cover r.value known k h.0 h.1 h.2))
 
 -- ---- how many labels the closest encloser has
 

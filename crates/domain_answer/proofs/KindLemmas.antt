@@ -1,21 +1,18 @@
 -- Each kind of answer is the zone's exactly where what it says is so.
-use Rattle.std.proofs.Common.{◌≡◌, ℕ, Bool, true, false, cond, not, ◌&&◌, ◌||◌, List, length, refl, sym, ap, ◌∙◌, inl, inr, Some, None, arith}
-use Rattle.std.proofs.lemmas.{Bool.{and_from, and_parts, and_right, not-false, not-true}, Grind.common_steps}
-use Rattle.std.specs.{Prelude.◌==◌, List.list_any}
+use Rattle.std.proofs.Common.{rules, ◌≡◌, ℕ, Bool, true, false, cond, not, ◌&&◌, List, length, refl, sym, ap, ◌∙◌, inl, inr, Option, Some, None, arith}
+use Rattle.std.{proofs.lemmas.{Bool.{and_from, and_parts, and_right, not-false, not-true}, Grind.common_steps}, specs.{List.list_any, Prelude.◌==◌}}
 use Rattle.domain_names.specs.{Name.{is_at_or_below, is_strictly_below, lowered, same_name}, Words.Name}
 use Rattle.domain_base.specs.Types.{cname, dname, ds}
 use Rattle.domain_zone.specs.Zone.{ZoneRecord, has_type, is_occluded, is_unoccluded, is_zone_cut, occludes, owns, records_of, unoccluded_owners}
 use Rattle.domain_zone.proofs.{NameLemmas.{below_itself, lowered_below, one_lowered, same_itself}, OwnerLemmas.any_owner}
 use Rattle.domain_nsec.specs.Chain.{nsec_lists}
 use Rattle.domain_checker.proofs.EncloserLemmas.{cut_same, occluded_same, occludes_same, top_occluder, same_count, strictly_trans}
-use Rattle.domain_answer.specs.declared.answer.Answer.{Answer}
-use Rattle.domain_answer.specs.declared.answer.Answer.TheVariants.{OutsideZone, AtParent, Referral, Redirected, Has, NoDs, Alias, NoData, Wildcard, NotProven}
-use Rattle.domain_answer.specs.declared.answer.Answer.TheVariants.{WildcardAlias, WildcardNoData, NameError, MayBeUnsigned, NoCloserName, TooManyIterations}
-use Rattle.domain_answer.specs.Kinds.{IsAbsent, IsHere, IsRedirected, IsReferred, IsSo, wildcard_of}
-use Rattle.domain_answer.specs.ZoneAnswer.{encloser, existing_answer, highest_occluder, inside_answer, is_at_parent, missing_answer, name_exists}
-use Rattle.domain_answer.specs.ZoneAnswer.{occluded_answer, owns_type, unoccluded_answer, zone_answer}
-use Rattle.domain_answer.proofs.{CountLemmas.strictly_same, EncloserLemmas.below_strictly}
-use Rattle.domain_answer.proofs.OccluderLemmas.{cut_occludes, cut_owns, dname_occludes, free_parts, highest_is, none_above}
+use Rattle.domain_answer.specs.{Kinds.{IsAbsent, IsHere, IsRedirected, IsReferred, IsSo, wildcard_of}, TypesAnswer.owned_answer, ZoneAnswer.encloser}
+use Rattle.domain_answer.specs.ZoneAnswer.{highest_occluder, inside_answer, is_at_parent, missing_answer, name_exists, occluded_answer, owns_type}
+use Rattle.domain_answer.specs.{ZoneAnswer.{unoccluded_answer, zone_answer}, declared.answer.Answer.{Answer, TheVariants.{OutsideZone, AtParent, Referral}}}
+use Rattle.domain_answer.specs.declared.answer.Answer.TheVariants.{Redirected, Has, NoDs, Alias, NoData, Wildcard, NotProven, WildcardAlias, WildcardNoData}
+use Rattle.domain_answer.{specs.declared.answer.Answer.TheVariants.{NameError, MayBeUnsigned, NoCloserName, TooManyIterations}, proofs.ChoiceLemmas.choose_by}
+use Rattle.domain_answer.proofs.EncloserLemmas.{below_strictly, cut_occludes, cut_owns, dname_occludes, free_parts, highest_is, none_above, strictly_same}
 
 module _ (L : List ZoneRecord) (a : Name) where
   -- what is the same as a name that is not occluded isn't either
@@ -61,50 +58,40 @@ module _ (L : List ZoneRecord) (a : Name) where
     abbrev w : Name
     w = wildcard_of L a x
 
-    choose_by : (b : Bool) (u v : Answer) → (b ≡ true → So u) → (b ≡ false → So v) → So (cond b u v)
-    choose_by b u v p q = grind (arith, common_steps)
-
     -- ---- what the zone's answer says is so
+
+    module _ (here : IsHere L a x t) where
+      pub existing_so : name_exists L a x ≡ true → So (owned_answer (is_zone_cut L a x) (owns_type L a assume x) (length x) t)
+      existing_so there = grind (arith, common_steps, (choose_by So), and_parts, same_itself, not-true, not-false)
+
+      pub missing_so : name_exists L a x ≡ false → So (missing_answer L a assume (length (encloser L a x)) w t)
+      missing_so gone =
+          let absent : IsAbsent L a x t (length (encloser L a x)) = record {
+            missing = and_from (is_unoccluded true L a x) (not (name_exists L a x)) here.free (ap not gone);
+            child = here.child;
+            count = refl;
+          } in
+          search (rules, (choose_by So), not-true, not-false) depth 12
 
     module _ (low : is_at_or_below x a ≡ true) (child : is_at_parent a x t ≡ false) where
       occluded_so : (o : Name) → highest_occluder L a x ≡ Some o → So (occluded_answer L a o)
       occluded_so o e =
           let h = some_highest x o e in
-          choose_by (is_zone_cut L a o) (Referral (length o)) (Redirected (length o))
+          choose_by So (is_zone_cut L a o) (Referral (length o)) (Redirected (length o))
           (λ c. record { cut = o; count = refl; is_cut = c; free = h.free; below = inl h.under })
           (λ c. let d = (and_parts (is_at_or_below o a) (has_type (records_of L o) dname) (rw c at h.over)).1 in
           record { owner = o; count = refl; no_cut = c; owns_dname = d; free = h.free; below = h.under })
 
-      module _ (none : highest_occluder L a x ≡ None) where
-        free : is_unoccluded true L a x ≡ true
-        free = and_from (is_at_or_below x a) (not (is_occluded true L a x)) low (ap not (none_highest x none))
+      free_here : highest_occluder L a x ≡ None → IsHere L a x t
+      free_here none =
+          record { free = and_from (is_at_or_below x a) (not (is_occluded true L a x)) low (ap not (none_highest x none)); child = child }
 
-        here : IsHere L a x t
-        here = record { free = free; child = child }
-
-        existing_so : name_exists L a x ≡ true → So (existing_answer L a assume x t)
-        existing_so there = grind (arith, common_steps, choose_by, and_parts, free, same_itself, not-true, here, not-false)
-
-        missing_so : name_exists L a x ≡ false → So (missing_answer L a assume (encloser L a x) (wildcard_of L a x) t)
-        missing_so gone =
-            let n = length (encloser L a x) in
-            let absent : IsAbsent L a x t (length (encloser L a x)) = record {
-              missing = and_from (is_unoccluded true L a x) (not (name_exists L a x)) free (ap not gone);
-              child = child;
-              count = refl;
-            } in
-            let last = cond (owns_type L a assume w cname) (WildcardAlias n) (WildcardNoData n) in
-            choose_by (not (name_exists L a w)) (NameError n) (cond (owns_type L a assume w t || is_zone_cut L a w) (Wildcard n) last)
-            (λ c. (absent, not-true (name_exists L a w) c))
-            (λ c. let there = not-false (name_exists L a w) c in
-            choose_by (owns_type L a assume w t || is_zone_cut L a w) (Wildcard n) last (λ o. (absent, there, o))
-            (λ o. choose_by (owns_type L a assume w cname) (WildcardAlias n) (WildcardNoData n) (λ d. (absent, there, o, d)) (λ d. (absent, there, o, d))))
-
-      inside_so : So (inside_answer L a assume x t (highest_occluder L a x))
-      inside_so = grind (arith, common_steps, occluded_so, existing_so, missing_so)
+      inside_so : (o : Option Name) → highest_occluder L a x ≡ o → So (inside_answer L a assume x t o)
+      inside_so None e = let here = free_here e in search (rules, (choose_by So), (existing_so here), (missing_so here))
+      inside_so (Some o) e = occluded_so o e
 
     pub answer_so : So (zone_answer L a assume x t)
-    answer_so = grind (arith, common_steps, inside_so)
+    answer_so = search (rules, (choose_by So), not-true, not-false, inside_so) depth 12
 
     -- ---- and where it is so, that is the answer
 
@@ -127,13 +114,13 @@ module _ (L : List ZoneRecord) (a : Name) where
         ∙ (λ j. cond (cut_same L a r.0 o r.2 j) (Referral (same_count r.0 o r.2 j)) (Redirected (same_count r.0 o r.2 j)))
 
     at_free : IsHere L a x t → zone_answer L a assume x t ≡ unoccluded_answer L a assume x t
-    at_free h = grind (arith, common_steps, at_inside, and_parts, free, none_above, free_parts)
+    at_free h = grind (arith, common_steps, at_inside, and_parts, none_above, free_parts)
 
-    at_existing : IsHere L a x t → name_exists L a x ≡ true → zone_answer L a assume x t ≡ existing_answer L a assume x t
-    at_existing h there = at_free h
-        ∙ (λ j. cond (there j) (existing_answer L a assume x t) (missing_answer L a assume (encloser L a x) (wildcard_of L a x) t))
+    at_existing : IsHere L a x t → name_exists L a x ≡ true
+        → zone_answer L a assume x t ≡ owned_answer (is_zone_cut L a x) (owns_type L a assume x) (length x) t
+    at_existing h there = grind (arith, common_steps, at_free)
 
-    at_missing : (n : ℕ) → IsAbsent L a x t n → zone_answer L a assume x t ≡ missing_answer L a assume (encloser L a x) (wildcard_of L a x) t
+    at_missing : (n : ℕ) → IsAbsent L a x t n → zone_answer L a assume x t ≡ missing_answer L a assume (length (encloser L a x)) w t
     at_missing n h = grind (arith, common_steps, at_free)
 
     owned_exists : IsHere L a x t → (s : ℕ) → owns_type L a assume x s ≡ true → name_exists L a x ≡ true

@@ -1,12 +1,7 @@
+pub mod ChoiceLemmas
 pub mod FoundLemmas
-pub mod ToldLemmas
-pub mod DefiniteLemmas
-pub mod CountLemmas
-pub mod WildcardLemmas
 pub mod EncloserLemmas
-pub mod OccluderLemmas
 pub mod ChainLemmas
-pub mod AnswerLemmas
 pub mod ProofLemmas
 pub mod AlikeLemmas
 pub mod WholeLemmas

@@ -1,108 +1,88 @@
--- Of any records at all: those that an answer rests on are there, and what it counts is within the name.
-use Rattle.std.proofs.Common.{◌≡◌, ◌<◌, ◌⊎◌, arith, ℕ, Bool, true, false, cond, ◌||◌, List, length, refl, inl, inr, Option, Some, None}
-use Rattle.std.{proofs.lemmas.{Bool.{and_parts, or_left, or_right}, Grind.common_steps}, specs.List.find}
-use Rattle.domain_bitmap.specs.Blocks.{contains_type}
-use Rattle.domain_names.specs.{Name.{is_strictly_below, last_labels}, Order.before, Words.Name}
-use Rattle.domain_base.specs.Types.{cname}
-use Rattle.domain_zone.specs.Covering.{matches, covers, matches_or_covers}
-use Rattle.domain_zone.proofs.{NameLemmas.{below_length, same_is}, PairLemmas.In, OwnerLemmas.in_any, FindLemmas.find_some}
+-- Of any records at all: those that an answer rests on are there, what it counts is within the name, and what of it rests on no wildcard is told.
+use Rattle.std.proofs.{Common.{rules, ◌≡◌, ◌≢◌, ◌<◌, ◌≤◌, arith, ℕ, true, false, cond, List, length, refl, sym, ◌∙◌, Some}, lemmas.Bool.and_parts}
+use Rattle.std.{proofs.lemmas.Grind.common_steps, specs.List.find}
+use Rattle.domain_names.specs.{Name.{is_at_or_below, is_strictly_below, last_labels}, Order.before, Words.Name}
+use Rattle.domain_zone.{specs.{Covering.covers, Enclosers.{longer, shared}}, proofs.{FindLemmas.find_some, NameLemmas.{below_length, same_is}}}
+use Rattle.domain_zone.proofs.OwnerLemmas.{in_any}
 use Rattle.domain_nsec.specs.Chain.{Link}
-use Rattle.domain_checker.{specs.{Reading.{is_at_cut, is_cover, is_match}, Verdict.{HasProof, is_inside}}, proofs.EncloserLemmas.same_count}
-use Rattle.domain_answer.specs.declared.answer.Answer.{Answer, TheVariants.{Wildcard, WildcardAlias, WildcardNoData, NameError, NoCloserName, NotProven}}
-use Rattle.domain_answer.specs.Proved.{CountsWithin, HasBothProofs, RestsOn}
-use Rattle.domain_answer.specs.Reading.{absent_answer, cover_answer, listed_answer, listed_both, match_answer, reading, tells_occluded, wildcard_both}
-use Rattle.domain_answer.{specs.ZoneAnswer.wildcard_below, proofs.CountLemmas.encloser_less}
-
--- what both answers have, the one that is chosen has
-pub choose : (P : Answer → Type 0) (b : Bool) (v w : Answer) → P v → P w → P (cond b v w)
-choose P b v w p q = grind (arith, common_steps)
-
--- P holds of what is said of a wildcard, where it holds of all that its record may say, and of what is said without one
-pub wildcard_has : (P : Answer → Type 0) (a : Name) (n : ℕ) (w : Name) (t : ℕ) (m c : Option Link) → P (NoCloserName n)
-    → ((k : Link) → (m ≡ Some k) ⊎ (c ≡ Some k) → P (Wildcard n) × P (WildcardAlias n) × P (WildcardNoData n) × P (NameError n))
-    → P (wildcard_both a n w t m c)
-wildcard_has P a n w t None None none some = none
-wildcard_has P a n w t None (Some k) none some =
-    let p = some k (inr refl) in
-    choose P (tells_occluded a k w) (NoCloserName n) (cond (is_strictly_below k.next w) (WildcardNoData n) (NameError n)) none
-    (choose P (is_strictly_below k.next w) (WildcardNoData n) (NameError n) p.2 p.3)
-wildcard_has P a n w t (Some k) c none some =
-    let p = some k (inl refl) in
-    choose P (contains_type k.bits t || is_at_cut a k) (Wildcard n) (cond (contains_type k.bits cname) (WildcardAlias n) (WildcardNoData n)) p.0
-    (choose P (contains_type k.bits cname) (WildcardAlias n) (WildcardNoData n) p.1 p.2)
+use Rattle.domain_checker.{specs.{Reading.{is_cover, is_match}, Verdict.{HasProof, is_inside}}, proofs.EncloserLemmas.same_count}
+use Rattle.domain_answer.specs.{Proved.{CountsWithin, RestsOn}, Reading.{IsNameAnswer, absent_answer, cover_answer, listed_answer, listed_both, match_answer}}
+use Rattle.domain_answer.specs.Reading.{name_answer, owner_answer, reading, tells_occluded, tells_occluder, wildcard_answer, wildcard_both}
+use Rattle.domain_answer.specs.{ZoneAnswer.wildcard_below, declared.answer.{Answer.{Answer, TheVariants.{NoCloserName, NoData}}, NameAnswer.TheVariants.Given}}
+use Rattle.domain_answer.{specs.declared.answer.NameAnswer.TheVariants.Absent, proofs.{ChoiceLemmas.{choose_by, either_found}, EncloserLemmas.encloser_less}}
 
 module _ (a : Name) (listed : List Link) where
-  told : (y : Name) (k : Link) → In k listed → is_inside a k ≡ true → matches_or_covers before k.owner k.next y ≡ true → HasProof listed a y
-  told y k i e f = grind (arith, common_steps, in_any)
+  match_proves : (y : Name) (k : Link) → find (is_match a y) listed ≡ Some k → HasProof listed a y
+  match_proves y k e = grind (arith, common_steps, in_any, (find_some (is_match a y) listed k e))
 
-  by_match : (y : Name) (k : Link) → find (is_match a y) listed ≡ Some k → HasProof listed a y
-  by_match y k e =
-      let r = find_some (is_match a y) listed k e in
-      let p = and_parts (matches before k.owner y) (is_inside a k) r.1 in
-      told y k r.0 p.1 (or_left (matches before k.owner y) (covers before k.owner k.next y) p.0)
+  cover_proves : (y : Name) (k : Link) → find (is_cover a y) listed ≡ Some k → HasProof listed a y
+  cover_proves y k e = grind (arith, common_steps, in_any, (find_some (is_cover a y) listed k e))
 
-  by_cover : (y : Name) (k : Link) → find (is_cover a y) listed ≡ Some k → HasProof listed a y
-  by_cover y k e =
-      let r = find_some (is_cover a y) listed k e in
-      let p = and_parts (covers before k.owner k.next y) (is_inside a k) r.1 in
-      told y k r.0 p.1 (or_right (matches before k.owner y) (covers before k.owner k.next y) p.0)
+  matched_within : (x : Name) (k : Link) → is_match a x k ≡ true → length k.owner ≤ length x
+  matched_within x k m = grind (arith, common_steps, same_count, same_is)
 
   module _ (x : Name) (t : ℕ) where
-    -- P holds of what the list says, where it holds of what its first match and its first cover do
-    listed_has : (P : Answer → Type 0) → P NotProven → ((k : Link) → find (is_match a x) listed ≡ Some k → P (match_answer a k t))
-        → ((k : Link) → find (is_cover a x) listed ≡ Some k → P (cover_answer a listed k x t)) → P (listed_answer a listed x t)
-    listed_has P none match cover = by (find (is_match a x) listed) (find (is_cover a x) listed) refl refl
-      where
-        by : (o p : Option Link) → find (is_match a x) listed ≡ o → find (is_cover a x) listed ≡ p → P (listed_both a listed x t o p)
-        by None None e f = none
-        by None (Some k) e f = cover k f
-        by (Some k) p e f = match k e
+    -- the records are there, and the count is within the name
+    abbrev pub Fits : Answer → Type 0
+    Fits v = RestsOn listed a x v × CountsWithin (length x) v
 
-    abbrev Rests : Answer → Type 0
-    Rests = RestsOn listed a x
-
-    absent_rests : (n : ℕ) → HasProof listed a x → Rests (absent_answer a listed n x t)
-    absent_rests n h =
+    absent_fits : (n : ℕ) → n < length x → HasProof listed a x → Fits (absent_answer a listed n x t)
+    absent_fits n less has =
         let w = wildcard_below (last_labels n x) in
-        wildcard_has Rests a n w t (find (is_match a w) listed) (find (is_cover a w) listed) h (λ k o.
-        let both : HasBothProofs listed a x n = (h, elim o [ inl e ↦ by_match w k e | inr e ↦ by_cover w k e ]) in
-        (both, both, both, both))
+        either_found (λ m c. Fits (wildcard_both a n w t m c)) (find (is_match a w) listed) (find (is_cover a w) listed) (λ e f. (has, less))
+        (λ k e. let both = match_proves w k e in grind (arith, common_steps)) (λ k f. let both = cover_proves w k f in grind (arith, common_steps))
 
-    match_rests : (k : Link) → HasProof listed a x → Rests (match_answer a k t)
-    match_rests k h = grind (arith, common_steps)
+    match_fits : (k : Link) → HasProof listed a x → length k.owner ≤ length x → Fits (match_answer a k t)
+    match_fits k has within = grind (arith, common_steps)
 
-    cover_rests : (k : Link) → HasProof listed a x → Rests (cover_answer a listed k x t)
-    cover_rests k h = grind (arith, common_steps, absent_rests)
+    cover_fits : (k : Link) → HasProof listed a x → covers before k.owner k.next x ≡ true → Fits (cover_answer a listed k x t)
+    cover_fits k has c =
+        let within : tells_occluded a k x ≡ true → length k.owner ≤ length x =
+        λ o. below_length x k.owner (and_parts (is_at_or_below x k.owner) (tells_occluder a k) o).0 in
+        search (rules, (choose_by Fits), absent_fits, (encloser_less k.owner k.next x c)) depth 12
 
-    list_rests : Rests (listed_answer a listed x t)
-    list_rests = listed_has Rests tt (λ k e. match_rests k (by_match x k e)) (λ k e. cover_rests k (by_cover x k e))
+    listed_fits : Fits (listed_answer a listed x t)
+    listed_fits =
+        either_found (λ m c. Fits (listed_both a listed x t m c)) (find (is_match a x) listed) (find (is_cover a x) listed) (λ e f. (tt, tt))
+        (λ k e. let m = (find_some (is_match a x) listed k e).1 in match_fits k (match_proves x k e) (matched_within x k m))
+        (λ k f. let c = (find_some (is_cover a x) listed k f).1 in
+        cover_fits k (cover_proves x k f) (and_parts (covers before k.owner k.next x) (is_inside a k) c).0)
 
-    pub reading_rests : Rests (reading a listed x t)
-    reading_rests = grind (arith, common_steps, list_rests)
+    pub reading_fits : Fits (reading a listed x t)
+    reading_fits = grind (arith, common_steps, listed_fits)
 
-    -- ---- how many labels an answer counts
+-- ---- what a record says of its owner, or of what is below it, rests on no wildcard; what is said of a wildcard does
 
-    abbrev Counts : Answer → Type 0
-    Counts = CountsWithin (length x)
+pub match_own : (a : Name) (k : Link) (t : ℕ) → name_answer (match_answer a k t) ≡ Given (match_answer a k t)
+match_own a k t = grind (arith, common_steps)
 
-    choose_by : (b : Bool) (v w : Answer) → (b ≡ true → Counts v) → (b ≡ false → Counts w) → Counts (cond b v w)
-    choose_by b v w p q = grind (arith, common_steps)
+pub owner_own : (a : Name) (k : Link) → name_answer (owner_answer a k) ≡ Given (owner_answer a k)
+owner_own a k = grind (arith, common_steps)
 
-    absent_counts : (n : ℕ) → n < length x → Counts (absent_answer a listed n x t)
-    absent_counts n h =
-        let w = wildcard_below (last_labels n x) in
-        wildcard_has Counts a n w t (find (is_match a w) listed) (find (is_cover a w) listed) h (λ k o. (h, h, h, h))
+wildcard_own : (a : Name) (listed : List Link) (n : ℕ) (w : Name) (t : ℕ) → name_answer (wildcard_answer a listed n w t) ≡ Absent n
+wildcard_own a listed n w t =
+    either_found (λ m c. name_answer (wildcard_both a n w t m c) ≡ Absent n) (find (is_match a w) listed) (find (is_cover a w) listed)
+    (λ e f. refl) (λ k e. grind (arith, common_steps)) (λ k f. grind (arith, common_steps))
 
-    match_counts : (k : Link) → matches before k.owner x ≡ true → Counts (match_answer a k t)
-    match_counts k m = grind (arith, common_steps, same_count, same_is)
+module _ (a : Name) (listed : List Link) (x : Name) (t : ℕ) (whole : Answer) where
+  given_told : (said : Answer) → whole ≡ said → name_answer said ≡ Given said → IsNameAnswer whole a listed x t (Given said)
+  given_told said is own = grind (arith, common_steps)
 
-    cover_counts : (k : Link) → covers before k.owner k.next x ≡ true → Counts (cover_answer a listed k x t)
-    cover_counts k c = grind (arith, common_steps, choose_by, below_length, and_parts, choose, absent_counts, encloser_less)
+  pub match_told : (k : Link) (said : Answer) → whole ≡ match_answer a k t → said ≡ match_answer a k t → IsNameAnswer whole a listed x t (Given said)
+  match_told k said is same = given_told said (is ∙ sym same) (rw same (match_own a k t))
 
-    list_counts : Counts (listed_answer a listed x t)
-    list_counts =
-        listed_has Counts tt (λ k e. match_counts k (and_parts (matches before k.owner x) (is_inside a k) (find_some (is_match a x) listed k e).1).0)
-        (λ k e. cover_counts k (and_parts (covers before k.owner k.next x) (is_inside a k) (find_some (is_cover a x) listed k e).1).0)
+  pub cover_told : (k : Link) (n : ℕ) → whole ≡ cover_answer a listed k x t → tells_occluded a k x ≡ false → is_strictly_below k.next x ≡ false
+      → n ≡ length (longer (shared x k.owner) (shared x k.next)) → covers before k.owner k.next x ≡ true → IsNameAnswer whole a listed x t (Absent n)
+  cover_told k n is free none counts c =
+      let less : n < length x = rw counts (encloser_less k.owner k.next x c none) in
+      let said : whole ≡ absent_answer a listed n x t =
+      is ∙ (λ j. cond (free j) (owner_answer a k) (cond (none j) NoData (absent_answer a listed (sym counts j) x t))) in
+      grind (arith, common_steps, wildcard_own)
 
-    pub reading_counts : Counts (reading a listed x t)
-    reading_counts = grind (arith, common_steps, list_counts)
+-- ---- what is given is the whole answer, and no wildcard is asked for
+
+pub given_is : (whole said : Answer) → Given said ≡ name_answer whole → whole ≡ said
+given_is whole said e = grind (arith, common_steps)
+
+pub given_never : (whole said : Answer) → Given said ≡ name_answer whole → (n : ℕ) → said ≢ NoCloserName n
+given_never whole said e n f = grind (arith, common_steps)

@@ -1,20 +1,16 @@
 -- The whole chain proves all that the zone says; and which chains leave out the names below a DNAME.
-use Rattle.std.proofs.Common.{◌≡◌, ◌≢◌, ℕ, Bool, true, false, cond, not, ◌&&◌, ◌||◌, List, [], ◌∷◌, map, length, refl, sym, ap, ◌∙◌, inl, inr, Option, arith}
-use Rattle.std.proofs.lemmas.{Bool.and_right, List.Elements.recursion_from_All, Grind.common_steps}
-use Rattle.std.specs.{Prelude.{All, filter}, List.list_any}
+use Rattle.std.proofs.Common.{◌≡◌, ℕ, Bool, true, false, cond, not, ◌&&◌, ◌||◌, List, [], ◌∷◌, map, length, refl, sym, ap, ◌∙◌, inl, inr, arith}
+use Rattle.std.{proofs.lemmas.{Bool.and_right, Grind.common_steps, List.Elements.recursion_from_All}, specs.{List.list_any, Prelude.{All, filter}}}
 use Rattle.domain_octets.proofs.StdLemmas.{and_false}
 use Rattle.domain_names.specs.{Name.{is_at_or_below, is_strictly_below}, Words.Name}
 use Rattle.domain_base.specs.Types.{dname}
 use Rattle.domain_zone.specs.Zone.{ZoneRecord, OwnersNeverDescend, distinct, has_type, is_occluded, is_unoccluded, is_zone_cut, occludes, records_of}
-use Rattle.domain_zone.specs.Zone.{unoccluded_owners}
-use Rattle.domain_zone.proofs.{PairLemmas.{In, all_in}, OwnerLemmas.in_any, FindLemmas.{any_none, from_map, in_filter}}
+use Rattle.domain_zone.{specs.Zone.unoccluded_owners, proofs.{FindLemmas.{any_none, from_map, in_filter}, OwnerLemmas.in_any, PairLemmas.{In, all_in}}}
 use Rattle.domain_nsec.specs.{Chain.{IsChain, Link}, declared.config.GenerateNsecConfig.GenerateNsecConfig}
 use Rattle.domain_checker.{specs.Verdict.has_match_or_cover, proofs.{EncloserLemmas.{closest_is, in_distinct}, MeantLemmas.{ChainLaws, apex_exists, some_link}}}
-use Rattle.domain_answer.specs.declared.answer.Answer.{TheVariants.{NoCloserName, NotProven}}
-use Rattle.domain_answer.specs.Proved.{LeavesOutBelowDname, is_missing, knows_wildcard, proved_answer}
-use Rattle.domain_answer.specs.ZoneAnswer.{encloser, inside_answer, is_at_parent, wildcard_below, zone_answer}
-use Rattle.domain_answer.proofs.{ChainLemmas.meant_leaving, EncloserLemmas.wildcard_low}
-use Rattle.domain_answer.proofs.DefiniteLemmas.{all_told, choose, is_of_zone, of_zone_other}
+use Rattle.domain_answer.specs.{Proved.{LeavesOutBelowDname, is_missing, knows_wildcard, proved_answer}, ZoneAnswer.{encloser, is_at_parent, wildcard_below}}
+use Rattle.domain_answer.{specs.{ZoneAnswer.zone_answer, declared.answer.Answer.TheVariants.NoCloserName}, proofs.ChainLemmas.meant_leaving}
+use Rattle.domain_answer.proofs.{ChoiceLemmas.all_told, EncloserLemmas.wildcard_low}
 
 pub whole_proves : ChainLaws → (L : List ZoneRecord) (a : Name) (config : GenerateNsecConfig) (links : List Link) (x : Name)
     (t : ℕ) → LeavesOutBelowDname L a config → OwnersNeverDescend L → IsChain L a config links
@@ -29,31 +25,11 @@ whole_proves laws L a config links x t leaves order chain =
     let wild = some_link true L a assume links meant (wildcard_below en) (wildcard_low (unoccluded_owners true L a) a x en closest) in
     and_right (is_missing L a x) (not (knows_wildcard L a links x)) (ap not wild))
 
--- ---- a zone says something of each name
-
-module _ (L : List ZoneRecord) (a : Name) (assume : Bool) (x : Name) (t : ℕ) where
-  inside_says : (o : Option Name) → is_of_zone (inside_answer L a assume x t o) ≡ true
-  unfolding is_of_zone
-  inside_says o = grind (arith, common_steps, choose)
-
-  zone_says : is_of_zone (zone_answer L a assume x t) ≡ true
-  unfolding is_of_zone
-  zone_says = grind (arith, common_steps, choose, inside_says)
-
-  pub zone_proves : zone_answer L a assume x t ≢ NotProven
-  zone_proves = (of_zone_other (zone_answer L a assume x t) zone_says).0
-
-  pub zone_knows : (n : ℕ) → zone_answer L a assume x t ≢ NoCloserName n
-  zone_knows = (of_zone_other (zone_answer L a assume x t) zone_says).1
-
 -- ---- chains that leave out the names below a DNAME
 
 filter_same : {X : Type 0} (p q : X → Bool) (xs : List X) → ((x : X) → In x xs → p x ≡ q x) → filter p xs ≡ filter q xs
 filter_same p q [] h = refl
 filter_same p q (x ∷ xs) h = λ i. cond (h x (inl refl) i) (x ∷ filter_same p q xs (λ y j. h y (inr j)) i) (filter_same p q xs (λ y j. h y (inr j)) i)
-
-pub left_out_by_choice : (L : List ZoneRecord) (a : Name) (b : Bool) → b ≡ true → unoccluded_owners b L a ≡ unoccluded_owners true L a
-left_out_by_choice L a b e = ap (λ b. unoccluded_owners b L a) e
 
 module _ (L : List ZoneRecord) (a : Name) (none : All (λ r. is_occluded true L a r.owner ≡ is_occluded false L a r.owner) L) where
   same_owners : unoccluded_owners false L a ≡ unoccluded_owners true L a

@@ -1,16 +1,15 @@
 -- What a list of records of a zone's NSEC3 chain proves of what the zone says.
-use Rattle.std.specs.{Prelude.{ℕ, Bool, true, false, not, ◌&&◌, ◌||◌, List, ◌≡◌, All, length, if◌then◌else◌}, List.Contains}
+use Rattle.std.specs.{List.Contains, Prelude.{ℕ, Bool, true, false, not, ◌&&◌, ◌||◌, List, ◌≡◌, All, length, if◌then◌else◌}}
 use Rattle.domain_octets.specs.Words.{Octets}
 use Rattle.domain_names.specs.{Name.{same_name, last_labels}, Words.Name}
 use Rattle.domain_base.specs.Types.{dname}
 use Rattle.domain_chain_rdata.specs.OptOut.{is_opt_out}
 use Rattle.domain_zone.specs.Zone.{ZoneRecord, is_zone_cut}
 use Rattle.domain_nsec3.specs.{Chain.{HashedLink, IsHashedChain}, Config.ChainConfig, Meaning.{AreAlone, IsAlone}, Owners.nsec3_lists}
-use Rattle.domain_checker.specs.HashedView.{HashedRecords, chain_records}
-use Rattle.domain_checker.specs.HashedVerdict.{is_below_chain_cut, is_covered, is_matched, next_closer, IsFirstMatched}
+use Rattle.domain_checker.specs.{HashedVerdict.{is_below_chain_cut, is_covered, is_matched, next_closer, IsFirstMatched}, HashedView.HashedRecords}
+use Rattle.domain_checker.specs.HashedView.{chain_records}
 use Rattle.domain_answer.specs.{HashedZoneAnswer.{hashed_encloser, hashed_exists, hashed_zone_answer, HashedLeavesOutBelowDname}, Proved.needs_no_records}
-use Rattle.domain_answer.specs.{ZoneAnswer.wildcard_below, declared.answer.Answer.Answer}
-use Rattle.domain_answer.specs.declared.answer.Answer.TheVariants.{OutsideZone, AtParent, Referral, Redirected, Wildcard}
+use Rattle.domain_answer.specs.{ZoneAnswer.wildcard_below, declared.answer.Answer.{Answer, TheVariants.{OutsideZone, AtParent, Referral, Redirected, Wildcard}}}
 use Rattle.domain_answer.specs.declared.answer.Answer.TheVariants.{WildcardAlias, WildcardNoData, NameError, MayBeUnsigned, NoCloserName, TooManyIterations}
 use Rattle.domain_answer.specs.declared.answer.Answer.TheVariants.{NotProven}
 
@@ -75,10 +74,8 @@ pub record HasEncloserProof (R : HashedRecords) (x : Name) (n : ℕ) : Type 0 wh
 
 -- and a record covers the name one label longer
 pub record HasCloserProof (R : HashedRecords) (x : Name) (n : ℕ) : Type 0 where
-  pub longest : Name
-  pub first : IsFirstMatched R x longest
-  pub counts : n ≡ length longest
-  pub covered : is_covered R (next_closer x longest) ≡ true
+  pub encloser : HasEncloserProof R x n
+  pub covered : is_covered R (next_closer x encloser.longest) ≡ true
 
 -- and a record matches the wildcard below the last n labels of x
 abbrev pub HasWildcardProof : HashedRecords → Name → ℕ → Type 0

@@ -3,14 +3,13 @@
 -- chain: its original owner names and their ancestors at or below the apex.
 use Rattle.std.specs.Prelude.{ℕ, Bool, true, not, ◌&&◌, ◌||◌, ◌==◌, List, ◌≡◌, length, if◌then◌else◌}
 use Rattle.domain_names.specs.{Name.{is_at_or_below, same_name}, Words.Name}
-use Rattle.domain_base.specs.Types.{cname, dname, ds, nsec, nsec3param}
+use Rattle.domain_base.specs.Types.{dname, nsec, nsec3param}
 use Rattle.domain_chain_rdata.specs.OptOut.{is_opt_out}
 use Rattle.domain_zone.specs.{Enclosers.exists_over, Zone.{ZoneRecord, is_zone_cut, unoccluded_owners}}
 use Rattle.domain_nsec3.specs.{Config.ChainConfig, Owners.{nsec3_lists, original_owners}}
 use Rattle.domain_checker.specs.{HashedVerdict.is_below_chain_cut, Verdict.closest_encloser}
-use Rattle.domain_answer.specs.{ZoneAnswer.{is_at_parent, wildcard_below}, declared.answer.Answer.Answer}
-use Rattle.domain_answer.specs.declared.answer.Answer.TheVariants.{OutsideZone, AtParent, Referral, Redirected, Has, NoDs, Alias, NoData, Wildcard}
-use Rattle.domain_answer.specs.declared.answer.Answer.TheVariants.{WildcardAlias, WildcardNoData, NameError, MayBeUnsigned}
+use Rattle.domain_answer.specs.{TypesAnswer.{expanded_answer, owned_answer}, ZoneAnswer.{is_at_parent, wildcard_below}, declared.answer.Answer.Answer}
+use Rattle.domain_answer.specs.declared.answer.Answer.TheVariants.{OutsideZone, AtParent, Referral, Redirected, NameError, MayBeUnsigned}
 
 -- x is a name of the chain
 abbrev pub hashed_exists : List ZoneRecord → Name → ChainConfig → Name → Bool
@@ -20,20 +19,11 @@ hashed_exists L a config x = exists_over (original_owners L a config) a x
 abbrev pub hashed_encloser : List ZoneRecord → Name → ChainConfig → Name → Name
 hashed_encloser L a config x = closest_encloser (original_owners L a config) a x
 
--- of a name that exists
-abbrev pub hashed_existing_answer : List ZoneRecord → Name → ChainConfig → Name → ℕ → Answer
-hashed_existing_answer L a config x t =
-    if is_zone_cut L a x && not (t == ds) then Referral (length x) else
-    (if nsec3_lists L a config x t then Has else
-    (if is_zone_cut L a x then NoDs else
-    (if nsec3_lists L a config x cname then Alias else NoData)))
-
--- of a name whose closest encloser, right above the wildcard w, has n labels
+-- of a name that does not exist, whose closest encloser, right above the wildcard w, has n labels
 abbrev pub hashed_wildcard_answer : List ZoneRecord → Name → ChainConfig → ℕ → Name → ℕ → Answer
 hashed_wildcard_answer L a config n w t =
     if not (hashed_exists L a config w) then NameError n else
-    (if nsec3_lists L a config w t || is_zone_cut L a w then Wildcard n else
-    (if nsec3_lists L a config w cname then WildcardAlias n else WildcardNoData n))
+    expanded_answer (is_zone_cut L a w) (nsec3_lists L a config w) n t
 
 -- of a name that does not exist, by its closest encloser e; where unsigned delegations may be left
 -- out, it may be one of them or below one
@@ -48,7 +38,8 @@ hashed_missing_answer L a config e t =
 abbrev pub hashed_inside_answer : List ZoneRecord → Name → ChainConfig → Name → ℕ → Answer
 hashed_inside_answer L a config x t =
     if is_below_chain_cut L a config x then Referral (length (hashed_encloser L a config x)) else
-    (if hashed_exists L a config x then hashed_existing_answer L a config x t
+    (if hashed_exists L a config x
+    then owned_answer (is_zone_cut L a x) (nsec3_lists L a config x) (length x) t
     else hashed_missing_answer L a config (hashed_encloser L a config x) t)
 
 -- the first that holds

@@ -1,11 +1,9 @@
 pub mod ZoneAnswer
 pub mod Proved
 pub mod Reading
-pub mod NameAnswer
 pub mod Found
 pub mod Kinds
 pub mod HashedZoneAnswer
-pub mod HashedMeaning
 pub mod HashedProved
 pub mod HashedReading
 pub mod Expansion

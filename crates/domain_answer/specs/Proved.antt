@@ -1,13 +1,12 @@
 -- What a list of records of a zone's NSEC chain proves of what the zone says.
-use Rattle.std.specs.{Prelude.{ℕ, Bool, true, not, ◌&&◌, ◌||◌, ◌<◌, ◌≤◌, List, ◌≡◌, All, length, if◌then◌else◌}, List.Contains}
+use Rattle.std.specs.{List.Contains, Prelude.{ℕ, Bool, true, not, ◌&&◌, ◌||◌, ◌<◌, ◌≤◌, List, ◌≡◌, All, length, if◌then◌else◌}}
 use Rattle.domain_names.specs.{Name.{is_at_or_below, last_labels}, Words.Name}
 use Rattle.domain_zone.specs.Zone.{ZoneRecord, OwnersNeverDescend, is_unoccluded, unoccluded_owners}
 use Rattle.domain_nsec.specs.{Chain.{IsChain, Link}, declared.config.GenerateNsecConfig.GenerateNsecConfig}
 use Rattle.domain_checker.specs.Verdict.{has_match_or_cover, HasProof}
 use Rattle.domain_answer.specs.{ZoneAnswer.{encloser, is_at_parent, name_exists, wildcard_below, zone_answer}, declared.answer.Answer.Answer}
-use Rattle.domain_answer.specs.declared.answer.Answer.TheVariants.{OutsideZone, AtParent, Referral, Redirected, Wildcard}
-use Rattle.domain_answer.specs.declared.answer.Answer.TheVariants.{WildcardAlias, WildcardNoData, NameError, MayBeUnsigned, NoCloserName, TooManyIterations}
-use Rattle.domain_answer.specs.declared.answer.Answer.TheVariants.{NotProven}
+use Rattle.domain_answer.specs.declared.answer.Answer.TheVariants.{OutsideZone, AtParent, Referral, Redirected, Wildcard, WildcardAlias, WildcardNoData}
+use Rattle.domain_answer.specs.declared.answer.Answer.TheVariants.{NameError, MayBeUnsigned, NoCloserName, TooManyIterations, NotProven}
 
 -- the zone's answer follows from the name and the type alone
 abbrev pub needs_no_records : Name → Name → ℕ → Bool

@@ -1,15 +1,15 @@
 -- What NSEC records answer by themselves (RFC 4035, section 5.4; RFC 6840, sections 4.1, 4.3 and
 -- 4.4).
-use Rattle.std.specs.{Prelude.{ℕ, Bool, not, ◌&&◌, ◌||◌, List, Option, Some, None, length, if◌then◌else◌}, List.find}
+use Rattle.std.specs.{List.find, Prelude.{ℕ, Bool, not, ◌≡◌, ◌<◌, ◌&&◌, ◌||◌, List, Option, Some, None, length, if◌then◌else◌}}
 use Rattle.domain_bitmap.specs.Blocks.{contains_type}
 use Rattle.domain_names.specs.{Name.{is_at_or_below, is_strictly_below, last_labels}, Words.Name}
 use Rattle.domain_base.specs.Types.{dname}
 use Rattle.domain_zone.specs.Enclosers.{longer, shared}
 use Rattle.domain_nsec.specs.Chain.{Link}
 use Rattle.domain_checker.specs.Reading.{is_at_cut, is_cover, is_match}
-use Rattle.domain_answer.specs.{ZoneAnswer.{is_at_parent, wildcard_below}, TypesAnswer.{types_answer, wildcard_types_answer}, declared.answer.Answer.Answer}
-use Rattle.domain_answer.specs.declared.answer.Answer.TheVariants.{OutsideZone, AtParent, Referral, Redirected, NoData, WildcardNoData, NameError, NoCloserName}
-use Rattle.domain_answer.specs.declared.answer.Answer.TheVariants.{NotProven}
+use Rattle.domain_answer.specs.{TypesAnswer.{types_answer, wildcard_types_answer}, ZoneAnswer.{is_at_parent, wildcard_below}, declared.answer.Answer.Answer}
+use Rattle.domain_answer.specs.declared.answer.Answer.TheVariants.{OutsideZone, AtParent, Referral, Redirected, NoData, Wildcard, WildcardAlias, WildcardNoData}
+use Rattle.domain_answer.specs.declared.answer.{Answer.TheVariants.{NameError, NoCloserName, NotProven}, NameAnswer.{NameAnswer, TheVariants.{Given, Absent}}}
 
 -- the record's owner is a zone cut or owns a DNAME record
 abbrev pub tells_occluder : Name → Link → Bool
@@ -76,3 +76,23 @@ abbrev pub reading : Name → List Link → Name → ℕ → Answer
 reading a listed x t =
     if not (is_at_or_below x a) then OutsideZone else
     (if is_at_parent a x t then AtParent else listed_answer a listed x t)
+
+-- ---- before a wildcard is asked for
+
+-- what of an answer rests on no wildcard: all of it or, of a name that does not exist, how many
+-- labels its closest encloser has
+abbrev pub name_answer : Answer → NameAnswer
+name_answer (Wildcard n) = Absent n
+name_answer (WildcardAlias n) = Absent n
+name_answer (WildcardNoData n) = Absent n
+name_answer (NameError n) = Absent n
+name_answer (NoCloserName n) = Absent n
+name_answer answer = Given answer
+
+-- so much of the answer is told, and where x does not exist, the whole answer is what the list says
+-- of the wildcard below the closest encloser, which has fewer labels than x
+pub record IsNameAnswer (whole : Answer) (a : Name) (listed : List Link) (x : Name) (t : ℕ)
+    (told : NameAnswer) : Type 0 where
+  pub exact : told ≡ name_answer whole
+  pub absent : (n : ℕ) → told ≡ Absent n
+      → (whole ≡ absent_answer a listed n x t) × (n < length x)

@@ -2,15 +2,14 @@
 -- section 3.2), over its records L alone; a is the apex. A name of the zone is one that is not
 -- occluded, where owners of DNAME records occlude too: nothing below them is a name of the zone
 -- (RFC 6672, section 2.4).
-use Rattle.std.specs.{Prelude.{ℕ, Bool, true, not, ◌&&◌, ◌||◌, ◌==◌, List, [], ◌∷◌, Option, Some, None, length, if◌then◌else◌}, Option.option_or}
+use Rattle.std.specs.{Prelude.{ℕ, Bool, true, not, ◌&&◌, ◌==◌, List, [], ◌∷◌, Option, Some, None, length, if◌then◌else◌}, Option.option_or}
 use Rattle.domain_names.specs.{Name.{is_at_or_below, same_name}, Words.{Label, Name}}
-use Rattle.domain_base.specs.Types.{cname, ds}
+use Rattle.domain_base.specs.Types.{ds}
 use Rattle.domain_zone.specs.{Enclosers.exists_over, Zone.{ZoneRecord, is_zone_cut, occludes, owns, unoccluded_owners}}
 use Rattle.domain_nsec.specs.Chain.{nsec_lists}
 use Rattle.domain_checker.specs.Verdict.{closest_encloser}
-use Rattle.domain_answer.specs.declared.answer.Answer.{Answer}
-use Rattle.domain_answer.specs.declared.answer.Answer.TheVariants.{OutsideZone, AtParent, Referral, Redirected, Has, NoDs, Alias, NoData, Wildcard}
-use Rattle.domain_answer.specs.declared.answer.Answer.TheVariants.{WildcardAlias, WildcardNoData, NameError}
+use Rattle.domain_answer.specs.{TypesAnswer.{expanded_answer, owned_answer}, declared.answer.Answer.Answer}
+use Rattle.domain_answer.specs.declared.answer.Answer.TheVariants.{OutsideZone, AtParent, Referral, Redirected, NameError}
 
 -- x is an owner that is not occluded, or an ancestor of one
 abbrev pub name_exists : List ZoneRecord → Name → Name → Bool
@@ -42,26 +41,19 @@ abbrev pub occluded_answer : List ZoneRecord → Name → Name → Answer
 occluded_answer L a o =
     if is_zone_cut L a o then Referral (length o) else Redirected (length o)
 
--- of a name that exists
-abbrev pub existing_answer : List ZoneRecord → Name → Bool → Name → ℕ → Answer
-existing_answer L a assume x t =
-    if is_zone_cut L a x && not (t == ds) then Referral (length x) else
-    (if owns_type L a assume x t then Has else
-    (if is_zone_cut L a x then NoDs else
-    (if owns_type L a assume x cname then Alias else NoData)))
-
--- of a name that does not exist, by its closest encloser e and the wildcard w below that
-abbrev pub missing_answer : List ZoneRecord → Name → Bool → Name → Name → ℕ → Answer
-missing_answer L a assume e w t =
-    if not (name_exists L a w) then NameError (length e) else
-    (if owns_type L a assume w t || is_zone_cut L a w then Wildcard (length e) else
-    (if owns_type L a assume w cname then WildcardAlias (length e) else WildcardNoData (length e)))
+-- of a name that does not exist, whose closest encloser, right above the wildcard w, has n labels
+abbrev pub missing_answer : List ZoneRecord → Name → Bool → ℕ → Name → ℕ → Answer
+missing_answer L a assume n w t =
+    if not (name_exists L a w) then NameError n else
+    expanded_answer (is_zone_cut L a w) (owns_type L a assume w) n t
 
 -- of a name that is not occluded
 abbrev pub unoccluded_answer : List ZoneRecord → Name → Bool → Name → ℕ → Answer
 unoccluded_answer L a assume x t =
-    if name_exists L a x then existing_answer L a assume x t
-    else missing_answer L a assume (encloser L a x) (wildcard_below (encloser L a x)) t
+    let e = encloser L a x in
+    if name_exists L a x
+    then owned_answer (is_zone_cut L a x) (owns_type L a assume x) (length x) t
+    else missing_answer L a assume (length e) (wildcard_below e) t
 
 abbrev pub inside_answer : List ZoneRecord → Name → Bool → Name → ℕ → Option Name → Answer
 inside_answer L a assume x t None = unoccluded_answer L a assume x t

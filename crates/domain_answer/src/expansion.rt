@@ -3,15 +3,14 @@ ghost use Rattle.std.specs.Prelude.{◌≡◌, ◌<◌, ◌≤◌, ◌⊎◌, �
 ghost use Rattle.domain_names.specs.Name.{is_at_or_below};
 ghost use Rattle.domain_nsec3.specs.Config.{hash_name};
 ghost use Rattle.domain_hasher.specs.declared.error.Nsec3HashError.TheVariants as hash_error;
-ghost use Rattle.domain_checker.specs.HashedPass.{found_cover, found_match};
 ghost use Rattle.domain_checker.specs.HashedView.{hash_with, hashed_records, parameters};
-ghost use Rattle.domain_answer.specs.Expansion.{closer_name, closer_told, is_expanded};
+ghost use Rattle.domain_answer.specs.Expansion.{closer_name, is_expanded};
 ghost use Rattle.domain_answer.specs.Expansion.{ExpansionRestsOn, IsExpansionAnswered, IsExpansionRead};
 ghost use Rattle.domain_answer.specs.Proved.{CountsWithin};
 
 use crate::nsec3::next_answer;
 use crate::{Answer, laws};
-use domain_base::{ParsedName, ToName};
+use domain_base::ToName;
 use domain_checker::{Nsec3Found, find_nsec3};
 use domain_hasher::{Nsec3HashError, Nsec3Hasher};
 use domain_nsec3::Nsec3Records;
@@ -24,27 +23,6 @@ fn is_expanded<A: ToName, M: ToName>(apex: &A, name: &M, labels: usize) -> bool
     ensures { result ≡ is_expanded (A.labels apex.now) (M.labels name.now) labels }
 {
     name.ends_with(apex) && apex.count_labels() <= labels && labels < name.count_labels()
-}
-
-/// The name one label longer than the last labels of a name, so many.
-fn closer_name<M: ToName>(name: &M, labels: usize) -> ParsedName<'_>
-    requires { labels < length (M.labels name.now) }
-    ensures { result ≡ closer_name labels (M.labels name.now) }
-{
-    // The count of labels is a usize, so that one more than fewer is.
-    let _count = name.count_labels();
-    name.last_labels(labels + 1)
-}
-
-/// What the records say of the name, by what they tell of the next closer name.
-fn closer_told<O: Octets, N: ToName>(labels: usize, found: Nsec3Found<'_, O, N>) -> Answer
-    ensures { result ≡ closer_told labels (found_match N.labels found.entry)
-        (found_cover N.labels found.entry) }
-{
-    match found {
-        Nsec3Found::Match(_) => Answer::NotProven,
-        Nsec3Found::NoMatch(cover) => next_answer(labels, cover),
-    }
 }
 
 /// What the records say of such a name. Hashes the next closer name, and no other.
@@ -67,9 +45,13 @@ fn read_expansion<A: ToName, O: Octets, N: ToName, M: ToName, H: Nsec3Hasher>(
         ⊎ ((n : ℕ) × (e ≡ hash_error.Hasher n))) }
     ensures memory { IsErrOf result hash_error.OutOfMemory → H.takes_memory hasher.now }
 {
-    let closer = closer_name(name, labels);
-    let found = find_nsec3(alloc, apex, records, &closer, hasher)?;
-    Ok(closer_told(labels, found))
+    // The count of labels is a usize, so that one more than fewer is.
+    let _count = name.count_labels();
+    let closer = name.last_labels(labels + 1);
+    match find_nsec3(alloc, apex, records, &closer, hasher)? {
+        Nsec3Found::Match(_) => Ok(Answer::NotProven),
+        Nsec3Found::NoMatch(cover) => Ok(next_answer(labels, cover)),
+    }
 }
 
 /// What NSEC3 records answer of a name whose records were expanded from a wildcard (RFC 5155,

@@ -22,7 +22,6 @@ pub mod laws;
 mod listed;
 mod nsec;
 mod nsec3;
-mod nsec3_laws;
 mod of_types;
 mod wildcard;
 

@@ -5,7 +5,7 @@ ghost use Rattle.domain_zone.specs.Covering.{covers};
 ghost use Rattle.domain_nsec.specs.ChainView.{as_link};
 ghost use Rattle.domain_checker.specs.{Reading.{is_cover, is_match}, Verdict.is_inside};
 ghost use Rattle.domain_answer.specs.Found.{cover_link, IsSharing};
-ghost use Rattle.domain_answer.specs.Reading.{tells_occluded, tells_occluder};
+ghost use Rattle.domain_answer.specs.Reading.{tells_occluded};
 
 use crate::found::NsecCover;
 use domain_base::{Rtype, ToName};
@@ -21,7 +21,7 @@ struct Shares {
 
 /// Whether the owner and the next name cover the name: it lies between the two, or on either side
 /// of them where the next name is not after the owner. If so, how many labels it shares with them.
-#[tactic(auto, using(crate::proofs::FoundLemmas::at_owner, crate::proofs::FoundLemmas::ahead_of_both, crate::proofs::FoundLemmas::ahead_of_next, crate::proofs::FoundLemmas::after_both, crate::proofs::FoundLemmas::uncovered))]
+#[tactic(auto, using(crate::proofs::FoundLemmas::covers_is, std::proofs::lemmas::Grind::common_steps))]
 fn covered<N: ToName, M: ToName>(owner: &N, next: &N, name: &M) -> Option<Shares>
     ensures covers { is_some result
         ≡ covers before (N.labels owner.now) (N.labels next.now) (M.labels name.now) }
@@ -102,14 +102,7 @@ pub(crate) fn cover_of<'a, A: ToName, O: Octets, N: ToName, M: ToName>(
     })
 }
 
-/// Whether the owner is a zone cut or owns a DNAME record.
-fn tells_occluder<A: ToName, O: Octets, N: ToName>(apex: &A, listed: &NsecRr<O, N>) -> bool
-    ensures { result ≡ tells_occluder (A.labels apex.now) (as_link N.labels listed.now) }
-{
-    is_at_cut(apex, listed) || listed.data().types().contains(Rtype::DNAME)
-}
-
-/// Whether the owner is such a one, and the name is at or below it.
+/// Whether the owner is a zone cut or owns a DNAME record, and the name is at or below it.
 pub(crate) fn tells_occluded<A: ToName, O: Octets, N: ToName, M: ToName>(
     apex: &A,
     listed: &NsecRr<O, N>,
@@ -118,5 +111,6 @@ pub(crate) fn tells_occluded<A: ToName, O: Octets, N: ToName, M: ToName>(
     ensures { result ≡ tells_occluded (A.labels apex.now) (as_link N.labels listed.now)
         (M.labels name.now) }
 {
-    name.ends_with(listed.owner()) && tells_occluder(apex, listed)
+    name.ends_with(listed.owner())
+        && (is_at_cut(apex, listed) || listed.data().types().contains(Rtype::DNAME))
 }

@@ -1,15 +1,12 @@
 //! What records of an NSEC chain answer.
-ghost use Rattle.std.specs.Prelude.{◌≡◌, ◌<◌, ℕ, List, true, length};
-ghost use Rattle.domain_names.specs.Order.{before};
-ghost use Rattle.domain_zone.specs.Covering.{covers};
-ghost use Rattle.domain_nsec.specs.{Chain.Link, ChainView.{as_link, links_of}};
-ghost use Rattle.domain_answer.specs.{Found.{cover_link, IsSharing}, NameAnswer.IsNameAnswer};
+ghost use Rattle.std.specs.Prelude.{◌≡◌, length};
+ghost use Rattle.domain_nsec.specs.ChainView.{as_link, links_of};
+ghost use Rattle.domain_answer.specs.ZoneAnswer.{is_at_parent};
 ghost use Rattle.domain_answer.specs.Proved.{CountsWithin, IsAnswered, RestsOn};
-ghost use Rattle.domain_answer.specs.Reading.{absent_answer, cover_answer, listed_answer};
-ghost use Rattle.domain_answer.specs.Reading.{match_answer, owner_answer, reading, wildcard_answer};
-ghost use Rattle.domain_answer.specs.Reading.{wildcard_cover_answer, wildcard_match_answer};
+ghost use Rattle.domain_answer.specs.Reading.{owner_answer, reading, wildcard_answer, IsNameAnswer};
+ghost use Rattle.domain_answer.specs.Reading.{wildcard_cover_answer};
 
-use crate::found::{NsecCover, NsecFound, find_nsec};
+use crate::found::{NsecFound, find_nsec};
 use crate::listed::tells_occluded;
 use crate::of_types::{types_answer, wildcard_types_answer};
 use crate::wildcard::wildcard_below;
@@ -19,6 +16,13 @@ use domain_chain_rdata::Nsec;
 use domain_checker::{NsecRr, is_at_cut, is_strictly_below};
 use domain_octets::Octets;
 use domain_record::Record;
+
+/// Whether the parent zone answers: the type is DS and the name is the apex.
+pub(crate) fn is_at_parent<A: ToName, M: ToName>(apex: &A, name: &M, rtype: Rtype) -> bool
+    ensures { result ≡ is_at_parent (A.labels apex.now) (M.labels name.now) rtype }
+{
+    rtype == Rtype::DS && name.name_eq(apex)
+}
 
 /// What a record whose owner is a zone cut or owns a DNAME record says of the names strictly below
 /// the owner.
@@ -32,33 +36,8 @@ fn owner_answer<A: ToName, O: Octets, N: ToName>(apex: &A, listed: &NsecRr<O, N>
     Answer::Redirected(count)
 }
 
-/// What a record says of its owner: nothing, where it is of the apex of a child zone.
-fn match_answer<A: ToName, O: Octets, N: ToName>(
-    apex: &A,
-    listed: &NsecRr<O, N>,
-    rtype: Rtype,
-) -> Answer
-    ensures { result ≡ match_answer (A.labels apex.now) (as_link N.labels listed.now) rtype }
-{
-    let count = listed.owner().count_labels();
-    types_answer(listed.data().types(), is_at_cut(apex, listed), count, rtype)
-}
-
-/// What the record of a wildcard says of a name whose closest encloser, right above the wildcard,
-/// has so many labels.
-fn wildcard_match_answer<A: ToName, O: Octets, N: ToName>(
-    apex: &A,
-    count: usize,
-    listed: &NsecRr<O, N>,
-    rtype: Rtype,
-) -> Answer
-    ensures { result ≡ wildcard_match_answer (A.labels apex.now) count
-        (as_link N.labels listed.now) rtype }
-{
-    wildcard_types_answer(listed.data().types(), is_at_cut(apex, listed), count, rtype)
-}
-
-/// What a record that covers that wildcard says of such a name.
+/// What a record that covers a wildcard says of a name whose closest encloser, right above the
+/// wildcard, has so many labels.
 fn wildcard_cover_answer<A: ToName, O: Octets, N: ToName>(
     apex: &A,
     count: usize,
@@ -91,68 +70,12 @@ pub fn judge_wildcard<A: ToName, O: Octets, N: ToName>(
         wildcard.now rtype }
 {
     match find_nsec(apex, chain, wildcard) {
-        NsecFound::Match(listed) => wildcard_match_answer(apex, count, listed, rtype),
+        NsecFound::Match(listed) => {
+            let at_cut = is_at_cut(apex, listed);
+            wildcard_types_answer(listed.data().types(), at_cut, count, rtype)
+        }
         NsecFound::Cover(cover) => wildcard_cover_answer(apex, count, cover.record, wildcard),
         NsecFound::Neither => Answer::NoCloserName(count),
-    }
-}
-
-/// What the records say of a name that does not exist, whose closest encloser has so many labels.
-fn absent_answer<A: ToName, O: Octets, N: ToName, M: ToName>(
-    apex: &A,
-    chain: &[NsecRr<O, N>],
-    count: usize,
-    name: &M,
-    rtype: Rtype,
-) -> Answer
-    requires { count < length (M.labels name.now) }
-    ensures { result ≡ absent_answer (A.labels apex.now) (links_of N.labels chain.now) count
-        (M.labels name.now) rtype }
-{
-    let mut buffer = [0; MAX_NAME];
-    let wildcard = wildcard_below(&mut buffer, name, count);
-    judge_wildcard(apex, chain, count, &wildcard, rtype)
-}
-
-/// What a record says of a name that it covers.
-#[tactic(auto, using(crate::proofs::ToldLemmas::given_told, crate::proofs::ToldLemmas::owner_own))]
-fn cover_answer<A: ToName, O: Octets, N: ToName, M: ToName>(
-    apex: &A,
-    cover: NsecCover<'_, O, N>,
-    name: &M,
-) -> NameAnswer
-    requires covers { covers before (cover_link N.labels cover).owner
-        (cover_link N.labels cover).next (M.labels name.now) ≡ true }
-    requires shared { IsSharing N.labels (M.labels name.now) cover }
-    ensures { (listed : List Link) (t : ℕ) → IsNameAnswer (cover_answer (A.labels apex.now) listed
-        (cover_link N.labels cover.entry) (M.labels name.now) t) (A.labels apex.now) listed
-        (M.labels name.now) t result }
-{
-    let listed = cover.record;
-    if tells_occluded(apex, listed, name) {
-        return NameAnswer::Given(owner_answer(apex, listed));
-    }
-    if is_strictly_below(listed.data().next_name(), name) {
-        return NameAnswer::Given(Answer::NoData);
-    }
-    NameAnswer::Absent(cover.shared)
-}
-
-/// What the records say of a name at or below the apex.
-fn listed_answer<A: ToName, O: Octets, N: ToName, M: ToName>(
-    apex: &A,
-    chain: &[NsecRr<O, N>],
-    name: &M,
-    rtype: Rtype,
-) -> NameAnswer
-    ensures { IsNameAnswer (listed_answer (A.labels apex.now) (links_of N.labels chain.now)
-        (M.labels name.now) rtype) (A.labels apex.now) (links_of N.labels chain.now)
-        (M.labels name.now) rtype result }
-{
-    match find_nsec(apex, chain, name) {
-        NsecFound::Match(listed) => NameAnswer::Given(match_answer(apex, listed, rtype)),
-        NsecFound::Cover(cover) => cover_answer(apex, cover, name),
-        NsecFound::Neither => NameAnswer::Given(Answer::NotProven),
     }
 }
 
@@ -172,10 +95,26 @@ pub fn judge_name<A: ToName, O: Octets, N: ToName, M: ToName>(
     if !name.ends_with(apex) {
         return NameAnswer::Given(Answer::OutsideZone);
     }
-    if rtype == Rtype::DS && name.name_eq(apex) {
+    if is_at_parent(apex, name, rtype) {
         return NameAnswer::Given(Answer::AtParent);
     }
-    listed_answer(apex, chain, name, rtype)
+    let cover = match find_nsec(apex, chain, name) {
+        NsecFound::Match(listed) => {
+            let count = listed.owner().count_labels();
+            let at_cut = is_at_cut(apex, listed);
+            return NameAnswer::Given(types_answer(listed.data().types(), at_cut, count, rtype));
+        }
+        NsecFound::Cover(cover) => cover,
+        NsecFound::Neither => return NameAnswer::Given(Answer::NotProven),
+    };
+    let listed = cover.record;
+    if tells_occluded(apex, listed, name) {
+        return NameAnswer::Given(owner_answer(apex, listed));
+    }
+    if is_strictly_below(listed.data().next_name(), name) {
+        return NameAnswer::Given(Answer::NoData);
+    }
+    NameAnswer::Absent(cover.shared)
 }
 
 /// What the records say of a name, with what they say of the wildcard where that decides.
@@ -190,7 +129,11 @@ fn read<A: ToName, O: Octets, N: ToName, M: ToName>(
 {
     match judge_name(apex, chain, name, rtype) {
         NameAnswer::Given(answer) => answer,
-        NameAnswer::Absent(count) => absent_answer(apex, chain, count, name, rtype),
+        NameAnswer::Absent(count) => {
+            let mut buffer = [0; MAX_NAME];
+            let wildcard = wildcard_below(&mut buffer, name, count);
+            judge_wildcard(apex, chain, count, &wildcard, rtype)
+        }
     }
 }
 

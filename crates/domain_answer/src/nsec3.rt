@@ -8,11 +8,12 @@ ghost use Rattle.domain_checker.specs.HashedEncloser.{encloser_of};
 ghost use Rattle.domain_checker.specs.HashedPass.{found_cover, found_match};
 ghost use Rattle.domain_checker.specs.HashedView.{hash_with, hashed_records, parameters};
 ghost use Rattle.domain_answer.specs.HashedProved.{HashedRestsOn, IsHashedAnswered};
-ghost use Rattle.domain_answer.specs.HashedReading.{found_answer, lower_answer, next_answer, own_answer, wildcard_told};
+ghost use Rattle.domain_answer.specs.HashedReading.{found_answer, lower_answer, next_answer, wildcard_told};
 ghost use Rattle.domain_answer.specs.HashedReading.{IsFirstOfRefusals, IsHashedRead, IsWildcardRead};
 ghost use Rattle.domain_answer.specs.Proved.{needs_no_records, CountsWithin};
 ghost use Rattle.domain_answer.specs.ZoneAnswer.{is_at_parent, wildcard_below};
 
+use crate::nsec::is_at_parent;
 use crate::of_types::{types_answer, wildcard_types_answer};
 use crate::wildcard::wildcard_below;
 use crate::{Answer, laws};
@@ -22,31 +23,6 @@ use domain_hasher::{Nsec3HashError, Nsec3Hasher};
 use domain_nsec3::Nsec3Records;
 use domain_octets::Octets;
 use std::alloc::Global;
-
-/// Whether the parent zone answers: the type is DS and the name is the apex.
-fn is_at_parent<A: ToName, M: ToName>(apex: &A, name: &M, rtype: Rtype) -> bool
-    ensures { result ≡ is_at_parent (A.labels apex.now) (M.labels name.now) rtype }
-{
-    rtype == Rtype::DS && name.name_eq(apex)
-}
-
-/// What the record of the closest encloser says of its own name: nothing, where it is of the apex
-/// of a child zone.
-fn own_answer<A: ToName, O: Octets, N: ToName>(
-    apex: &A,
-    encloser: &Nsec3Encloser<'_, O, N>,
-    rtype: Rtype,
-) -> Answer
-    ensures { result ≡ own_answer (A.labels apex.now) (encloser_of N.labels encloser.now) rtype }
-{
-    let at_cut = encloser.is_zone_cut(apex);
-    types_answer(
-        encloser.matching.data().types(),
-        at_cut,
-        encloser.count,
-        rtype,
-    )
-}
 
 /// What the first cover of the next closer name says, where the closest encloser has so many
 /// labels.
@@ -66,7 +42,7 @@ pub(crate) fn next_answer<O: Octets, N: ToName>(
     Answer::NoCloserName(count)
 }
 
-/// What both say of a name below the closest encloser.
+/// What that and the record of the closest encloser say of a name below it.
 fn lower_answer<A: ToName, O: Octets, N: ToName>(
     apex: &A,
     encloser: &Nsec3Encloser<'_, O, N>,
@@ -93,16 +69,14 @@ fn found_answer<A: ToName, O: Octets, N: ToName>(
     ensures { result ≡ found_answer (A.labels apex.now)
         (option_map (encloser_of N.labels) found.entry) count rtype }
 {
-    match found {
-        Some(encloser) => {
-            if encloser.count == count {
-                own_answer(apex, &encloser, rtype)
-            } else {
-                lower_answer(apex, &encloser)
-            }
-        }
-        None => Answer::NotProven,
+    let Some(encloser) = found else {
+        return Answer::NotProven;
+    };
+    if encloser.count != count {
+        return lower_answer(apex, &encloser);
     }
+    let types = encloser.matching.data().types();
+    types_answer(types, encloser.is_zone_cut(apex), count, rtype)
 }
 
 /// What the records say of a name that does not exist, by what they tell of the wildcard below its

@@ -1,55 +1,37 @@
 -- What is picked of the NSEC3 chain of a zone is what its answer rests on, and no more.
-use Rattle.std.proofs.Common.{◌≡◌, ◌≢◌, ℕ, ◌<◌, Bool, true, false, cond, not, ◌&&◌, ◌||◌, List, [], ◌∷◌, map, length, Some, None, Option, slice_get}
-use Rattle.std.proofs.Common.{refl, sym, ap, ◌∙◌, inl, inr, ◌⊎◌, arith}
-use Rattle.std.proofs.lemmas.{Bool.{and_parts, cases_eq, false≢true, or_cases, or_left, or_right, true_from_ne_false}, List.length-map}
-use Rattle.std.proofs.lemmas.Grind.{common_steps}
-use Rattle.std.specs.{List.{Contains, list_any}}
-use Rattle.domain_octets.{specs.Words.Octets, proofs.StdLemmas.{some_is, none_some}}
+use Rattle.std.proofs.Common.{◌≡◌, ◌≢◌, ℕ, ◌<◌, Bool, true, false, cond, not, ◌&&◌, ◌||◌, List, [], ◌∷◌, map, length, Some, None, Option, slice_get, refl, sym}
+use Rattle.std.proofs.{Common.{ap, subst, ◌∙◌, inl, inr, ◌⊎◌, arith}, lemmas.Bool.{and_parts, cases_eq, false≢true, or_cases, or_left, or_right}}
+use Rattle.std.{proofs.lemmas.{Bool.true_from_ne_false, Grind.common_steps, List.length-map}, specs.List.list_any}
+use Rattle.domain_octets.proofs.StdLemmas.{some_is, none_some}
 use Rattle.domain_names.specs.{Name.{is_at_or_below, same_name, last_labels}, Words.Name}
-use Rattle.domain_zone.specs.{Enclosers.{IsClosestEncloser, exists_over}, Zone.{ZoneRecord, is_zone_cut}}
-use Rattle.domain_zone.proofs.{NameLemmas.{below_itself, below_longer}, OwnerLemmas.in_any}
+use Rattle.domain_zone.{specs.{Enclosers.{IsClosestEncloser, exists_over}, Zone.{ZoneRecord, is_zone_cut}}, proofs.NameLemmas.{below_itself, below_longer}}
+use Rattle.domain_zone.proofs.OwnerLemmas.{in_any}
 use Rattle.domain_nsec3.specs.{Chain.{ChainRecords, HashedLink, HashedName, IsHashedChain, cycle, ends, ends_of}, Config.{ChainConfig, Hash, hash_name}}
-use Rattle.domain_nsec3.specs.{Meaning.{IsAlone, TellsEncloser}, Owners.{is_chain_name, nsec3_lists, original_owners}}
+use Rattle.domain_nsec3.specs.{Meaning.IsAlone, Owners.{nsec3_lists, original_owners}}
 use Rattle.domain_base.specs.Types.{dname}
-use Rattle.domain_checker.specs.{HashedEncloser.IsOfName, HashedList.{is_hash_cover, is_hash_match}, HashedView.{HashedRecords, chain_records}}
-use Rattle.domain_checker.specs.{HashedVerdict.{is_covered, is_matched, next_closer}}
-use Rattle.domain_checker.proofs.{EncloserLemmas.{apex_from, closest_is, same_count}, HashedListLemmas.hash_same}
-use Rattle.domain_answer.specs.declared.answer.Answer.{Answer, TheVariants.{NoCloserName, NotProven}}
-use Rattle.domain_answer.specs.HashedProved.{AreAskedAlone, IsHashedAnswered, hashed_proved_answer, needs_wildcard, tells_encloser, tells_wildcard}
-use Rattle.domain_answer.specs.{HashedReading.IsHashedRead, HashedZoneAnswer.{HashedLeavesOutBelowDname, hashed_encloser, hashed_zone_answer}}
-use Rattle.domain_answer.{specs.ZoneAnswer.{is_at_parent, wildcard_below}, proofs.{CountLemmas.closest_last, HashedWayLemmas.unheard}}
-use Rattle.domain_answer.proofs.EncloserLemmas.{exists_low, strictly_other}
-use Rattle.domain_denier.specs.Picked.{at_place}
-use Rattle.domain_denier.specs.HashedPicked.{AreHashedNeeded, IsHashedDenial, IsHashedWhole, hashed_picked, picked_without}
-use Rattle.domain_denier.specs.{HashedSteps.{IsPickedRead, IsSoleCover, IsSoleMatch, IsSoleWildcard}, declared.nsec3.Nsec3Denial.Nsec3Denial}
-use Rattle.domain_denier.proofs.{HashSearchLemmas.cycle_length, SomeLemmas.{AreAmong, all_among, among_contained, contained, in_place}}
-use Rattle.domain_denier.proofs.SomeLemmas.{no_match, others_among, picked_among, without_others}
-
--- what the laws say
-pub record DenyLaws : Type 0 where
-  pub readings : (R : HashedRecords) (x : Name) (t : ℕ) (answer : Answer) → t < 65536
-      → is_at_or_below x R.apex ≡ true → is_at_parent R.apex x t ≡ false → IsHashedRead R x t answer → IsHashedAnswered R x t answer
-  pub whole : (L : List ZoneRecord) (a : Name) (config : ChainConfig) (links : List HashedLink) (x : Name) (t : ℕ)
-      → HashedLeavesOutBelowDname L a config → IsHashedChain L a config links → AreAskedAlone L a config x
-      → hashed_proved_answer L a config links x t ≡ hashed_zone_answer L a config x t
-  pub definite : (L : List ZoneRecord) (a : Name) (config : ChainConfig) (x : Name) (t : ℕ) → hashed_zone_answer L a config x t ≢ NotProven
-  pub closer : (L : List ZoneRecord) (a : Name) (config : ChainConfig) (x : Name) (t n : ℕ) → hashed_zone_answer L a config x t ≢ NoCloserName n
-  pub matches : (L : List ZoneRecord) (a : Name) (config : ChainConfig) (links : List HashedLink) → IsHashedChain L a config links
-      → (x : Name) (v : Octets) → is_at_or_below x a ≡ true → IsAlone L a config x v
-      → (k : HashedLink) → Contains links k → is_hash_match a config.parameters v k ≡ true → IsOfName L a config x k
+use Rattle.domain_checker.specs.{HashedFacts.{ChainFacts, ChainsAreKnown}, HashedList.{is_hash_cover, is_hash_match}, HashedVerdict.{is_covered, is_matched}}
+use Rattle.domain_checker.{specs.{HashedVerdict.next_closer, HashedView.{HashedRecords, chain_records}}, proofs.EncloserLemmas.same_count}
+use Rattle.domain_checker.proofs.{HashedEncloserLemmas.match_is_of_name, HashedListLemmas.hash_same}
+use Rattle.domain_answer.specs.{HashedProved.{AreAskedAlone, hashed_proved_answer, needs_wildcard, tells_encloser, tells_wildcard}, HashedReading.IsHashedRead}
+use Rattle.domain_answer.specs.{HashedZoneAnswer.{HashedLeavesOutBelowDname, hashed_encloser, hashed_zone_answer}, ZoneAnswer.{is_at_parent, wildcard_below}}
+use Rattle.domain_answer.{specs.declared.answer.Answer.{Answer, TheVariants.{NoCloserName, NotProven}}, proofs.EncloserLemmas.{closest_last, exists_low}}
+use Rattle.domain_answer.proofs.{EncloserLemmas.strictly_other, HashedAnswerLemmas.{encloser_is, read_proved}, HashedWayLemmas.unheard}
+use Rattle.domain_answer.proofs.HashedWholeLemmas.{IsOfZone, encloser_told as whole_tells, whole_proves, zone_says}
+use Rattle.domain_denier.specs.{HashedPicked.{AreHashedNeeded, IsHashedDenial, IsHashedWhole, hashed_picked, picked_without}, HashedSteps.IsPickedRead}
+use Rattle.domain_denier.specs.{HashedSteps.{IsSoleCover, IsSoleMatch, IsSoleWildcard}, Picked.at_place, declared.nsec3.Nsec3Denial.Nsec3Denial}
+use Rattle.domain_denier.proofs.{HashSearchLemmas.cycle_length, SomeLemmas.{AreAmong, all_among, among_contained, contained, in_place, no_match, others_among}}
+use Rattle.domain_denier.proofs.SomeLemmas.{picked_among, without_others}
 
 -- the chain of a zone has a record
-pub some_links : (L : List ZoneRecord) (a : Name) (config : ChainConfig) (links : List HashedLink) → IsHashedChain L a config links
-    → TellsEncloser L a config links
-    → ((x : Name) → is_at_or_below x a ≡ true → exists_over (original_owners L a config) a x ≡ is_chain_name L a config x)
-    → links ≡ [] → ⊥
-some_links L a config links chain tells exist none =
+pub some_links : (L : List ZoneRecord) (a : Name) (config : ChainConfig) (links : List HashedLink) → ChainFacts L a config links → links ≡ [] → ⊥
+some_links L a config links facts none =
+    let chain = facts.chain in
     let hashes = map (λ (n : HashedName). n.hash) chain.names in
-    let e = tells.encloser a (below_itself a) in
+    let e = facts.tells.encloser a (below_itself a) in
     let low = exists_low (original_owners L a config) a e.0 e.1.found in
     let count : length links ≡ length chain.names = sym (length-map links ends) ∙ ap length chain.linked
     ∙ length-map (cycle hashes) (ends_of a) ∙ cycle_length hashes ∙ length-map chain.names (λ (n : HashedName). n.hash) in
-    by e.0 chain.names (chain.complete e.0 (sym (exist e.0 low) ∙ e.1.found)) (sym count ∙ ap length none)
+    by e.0 chain.names (chain.complete e.0 (sym (facts.exist e.0 low) ∙ e.1.found)) (sym count ∙ ap length none)
   where
     by : (y : Name) (names : List HashedName) → list_any (λ n. same_name n.name y) names ≡ true → length names ≡ 0 → ⊥
     by y [] h l = false≢true h
@@ -88,13 +70,16 @@ module _ (L : List ZoneRecord) (config : ChainConfig) (chain : ChainRecords) (x 
   closes listed =
       (same_name en x || is_zone_cut L a en || nsec3_lists L a config en dname) || is_covered (chain_records a config listed) (next_closer x en)
 
-  module _ (laws : DenyLaws) (leaves : HashedLeavesOutBelowDname L a config) (is : IsHashedChain L a config links) (small : t < 65536)
+  module _ (knows : ChainsAreKnown) (leaves : HashedLeavesOutBelowDname L a config) (is : IsHashedChain L a config links) (small : t < 65536)
       (low : is_at_or_below x a ≡ true) (parent : is_at_parent a x t ≡ false) (asked : AreAskedAlone L a config x) where
+    facts : ChainFacts L a config links
+    facts = knows L a config links is
+
     -- what some links prove is what they say
     proved_is : (listed : List HashedLink) → AreAmong links listed → (answer : Answer)
         → IsHashedRead (chain_records a config listed) x t answer → answer ≡ hashed_proved_answer L a config listed x t
     proved_is listed among answer read =
-        laws.readings (chain_records a config listed) x t answer small low parent read L config links refl refl leaves is asked
+        read_proved knows (chain_records a config listed) x t answer small low parent read L config links refl refl leaves is asked
         (among_contained links listed among)
 
     -- ---- without the record of the closest encloser
@@ -106,22 +91,18 @@ module _ (L : List ZoneRecord) (config : ChainConfig) (chain : ChainRecords) (x 
     untold : (listed : List HashedLink) → tells_encloser L a config listed x ≡ false → hashed_proved_answer L a config listed x t ≡ NotProven
     untold listed e = inside_proved listed ∙ (λ i. cond (not (e i)) NotProven (rest listed))
 
-    whole_tells : tells_encloser L a config links x ≡ true
-    whole_tells = true_from_ne_false (tells_encloser L a config links x) (λ e.
-        laws.definite L a config x t (sym (laws.whole L a config links x t leaves is asked) ∙ untold links e))
-
     encloser_matched : is_matched R en ≡ true
-    encloser_matched = (and_parts (is_matched R en) (closes links) whole_tells).0
+    encloser_matched = (and_parts (is_matched R en) (closes links) (whole_tells L a config links facts x low asked)).0
 
     module _ (place : ℕ) (sole : IsSoleMatch R x place) where
       exists : exists_over owners a sole.name ≡ true
       exists =
           let alone : IsAlone L a config sole.name sole.value = grind (arith, common_steps) in
-          (laws.matches L a config links is sole.name sole.value sole.within alone sole.of.link (contained links place sole.of.link sole.of.there)
+          (match_is_of_name L a config links facts sole.name sole.value sole.within alone sole.of.link (contained links place sole.of.link sole.of.there)
           sole.of.matched).exists
 
       closest : IsClosestEncloser owners a x en
-      closest = closest_is owners a x (apex_from owners a sole.name exists) low
+      closest = encloser_is L a config links facts x low
 
       -- it is the name that is matched first
       is_first : same_name en sole.name ≡ true
@@ -158,7 +139,7 @@ module _ (L : List ZoneRecord) (config : ChainConfig) (chain : ChainRecords) (x 
           let says = proved_is listed (without_among place d) (NoCloserName r.0) r.1 in
           inside_proved listed
           ∙ less_by (tells_encloser L a config listed x) (needs_wildcard L a config x && not (tells_wildcard L a config listed x)) r.0 (length en) zone
-          (laws.closer L a config x t) (says ∙ inside_proved listed);
+          (λ n e. subst IsOfZone e (zone_says L a config x t)) (says ∙ inside_proved listed);
     }
       where
         is_place : (o : Option ℕ) (place : ℕ) → (o ≡ Some place) ⊎ (o ≡ Some place → ⊥)
@@ -195,7 +176,7 @@ module _ (L : List ZoneRecord) (config : ChainConfig) (chain : ChainRecords) (x 
 
     pub denial_is : (d : Nsec3Denial) → IsPickedRead R x t d → IsHashedDenial L config chain x t d
     denial_is d read =
-        let says : d.answer ≡ zone = proved_is links (all_among links) d.answer read.whole ∙ laws.whole L a config links x t leaves is asked in
+        let says : d.answer ≡ zone = proved_is links (all_among links) d.answer read.whole ∙ whole_proves knows L a config links x t leaves is asked in
         record {
           zone = says;
           proved = sym (proved_is (hashed_picked links d) (picked_among links d) d.answer read.picked) ∙ says;

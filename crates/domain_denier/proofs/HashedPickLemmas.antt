@@ -1,24 +1,22 @@
 -- What is picked of an NSEC3 chain answers as the whole chain does, and less without one of its records.
-use Rattle.std.proofs.Common.{◌≡◌, ℕ, ◌<◌, Bool, true, false, cond, List, [], length, Some, None, Option, slice_get, nat_eq, refl, sym}
-use Rattle.std.proofs.Common.{ap, ◌∙◌, subst, inl, inr, arith}
-use Rattle.std.proofs.lemmas.{Bool.{eqb-false, false_from_ne_true, false≢true}, Option.slice_get_cases, Grind.common_steps}
-use Rattle.std.specs.{Prelude.Ok, List.list_any}
+use Rattle.std.proofs.Common.{◌≡◌, ℕ, ◌<◌, Bool, true, false, cond, List, [], length, Some, None, Option, slice_get, nat_eq, refl, sym, ap, ◌∙◌, subst, inl}
+use Rattle.std.proofs.{Common.{inr, arith}, lemmas.{Bool.{eqb-false, false_from_ne_true, false≢true}, Grind.common_steps, Option.slice_get_cases}}
+use Rattle.std.specs.{List.list_any, Prelude.Ok}
 use Rattle.domain_octets.{specs.Words.Octets, proofs.StdLemmas.{some_is, none_some}}
 use Rattle.domain_names.specs.{Name.{is_at_or_below, last_labels}, Words.Name}
 use Rattle.domain_base.specs.Types.{dname}
 use Rattle.domain_bitmap.specs.Blocks.{contains_type}
-use Rattle.domain_zone.proofs.{NameLemmas.{below_length}, PairLemmas.In, OwnerLemmas.in_any, FindLemmas.{any_none, in_at}}
+use Rattle.domain_zone.proofs.{FindLemmas.{any_none, in_at}, NameLemmas.below_length, OwnerLemmas.in_any, PairLemmas.In}
 use Rattle.domain_nsec3.specs.{Chain.HashedLink, Config.hash_name}
-use Rattle.domain_checker.specs.{HashedEncloser.{Encloser, IsEncloser, encloser_is_cut, next_cover}, HashedList.is_hash_match}
-use Rattle.domain_checker.specs.{HashedReading.{IsNextHash, IsUnmatched}, HashedView.{HashedRecords, first_cover, first_match, with_links}}
-use Rattle.domain_checker.{specs.HashedVerdict.{is_matched, is_ok_with}, proofs.HashedWalkLemmas.some_matched}
-use Rattle.domain_answer.specs.declared.answer.Answer.{Answer, TheVariants.{Referral, Redirected, NoCloserName, NotProven}}
+use Rattle.domain_checker.specs.{HashedEncloser.{Encloser, IsEncloser, encloser_is_cut, next_cover}, HashedList.is_hash_match, HashedReading.IsNextHash}
+use Rattle.domain_checker.specs.{HashedReading.IsUnmatched, HashedVerdict.{is_matched, is_ok_with}, HashedView.{HashedRecords, first_cover, first_match}}
+use Rattle.domain_checker.{specs.HashedView.with_links, proofs.HashedWalkLemmas.some_matched}
 use Rattle.domain_answer.specs.HashedReading.{IsHashedRead, IsReadOn, IsWildcardRead, encloser_answer, next_answer, own_answer, wildcard_told}
-use Rattle.domain_answer.{specs.ZoneAnswer.wildcard_below, proofs.{CountLemmas.last_above, ExpansionLemmas.last_low, HashedWayLemmas.closer_counts}}
-use Rattle.domain_denier.specs.HashedPicked.{AreHashedThere, TellsOfName, hashed_picked, picked_without, without_records}
-use Rattle.domain_denier.specs.HashedSteps.{IsCoverAt, IsFirstDenial, IsInside, IsOfHash, IsPickedRead, IsPlaced, IsSoleCover, IsSoleMatch, encloser_with}
-use Rattle.domain_denier.specs.{HashedSteps.{link_at, next_role, wildcard_told_by}, declared.encloser.PlacedEncloser.PlacedEncloser}
-use Rattle.domain_denier.specs.declared.nsec3.Nsec3Denial.{Nsec3Denial}
+use Rattle.domain_answer.specs.{ZoneAnswer.wildcard_below, declared.answer.Answer.{Answer, TheVariants.{Referral, Redirected, NoCloserName, NotProven}}}
+use Rattle.domain_answer.proofs.{EncloserLemmas.last_above, ExpansionLemmas.last_low, HashedWayLemmas.closer_counts}
+use Rattle.domain_denier.specs.{HashedPicked.{AreHashedThere, TellsOfName, hashed_picked, picked_without, without_records}, HashedSteps.IsCoverAt}
+use Rattle.domain_denier.specs.HashedSteps.{IsFirstDenial, IsInside, IsOfHash, IsPickedRead, IsPlaced, IsSoleCover, IsSoleMatch, encloser_with, link_at}
+use Rattle.domain_denier.specs.{HashedSteps.{next_role, wildcard_told_by}, declared.{encloser.PlacedEncloser.PlacedEncloser, nsec3.Nsec3Denial.Nsec3Denial}}
 use Rattle.domain_denier.proofs.SomeLemmas.{AreAmong, AreOthers, all_among, covered, in_picked, in_without, matched, no_cover, no_match, others_among}
 use Rattle.domain_denier.proofs.SomeLemmas.{picked_among, unmatched, without_others}
 

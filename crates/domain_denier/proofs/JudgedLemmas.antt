@@ -1,19 +1,17 @@
 -- What one record, or two of which the first denies a name alone, tell by what they are judged to say.
 use Rattle.std.proofs.Common.{◌≡◌, ◌≢◌, ℕ, ◌<◌, Bool, true, false, cond, not, ◌&&◌, List, [], ◌∷◌, ◌++◌, length, slice_get, get_or, Option, Some, None, refl}
-use Rattle.std.proofs.{Common.{sym, ap, ◌∙◌, subst, arith, inl, inr}, lemmas.Option.{slice_get_cases, slice_get_read}}
-use Rattle.std.{proofs.lemmas.{Bool.{and_left, cases_Bool, false≢true, or_parts, true_from_ne_false}, Grind.common_steps}, specs.List.find}
+use Rattle.std.proofs.{Common.{sym, ap, ◌∙◌, subst, arith, inl, inr}, lemmas.Bool.{and_left, cases_Bool, false≢true, or_parts, true_from_ne_false}}
+use Rattle.std.{proofs.lemmas.{Grind.common_steps, Option.{slice_get_cases, slice_get_read}}, specs.List.find}
 use Rattle.domain_names.specs.{Name.{is_at_or_below, is_strictly_below, same_name, last_labels}, Order.before, Words.Name}
-use Rattle.domain_zone.{specs.{Covering.{covers, matches, matches_or_covers}, Enclosers.{longer, shared}}, proofs.{NameLemmas.same_is, FindLemmas.find_none}}
+use Rattle.domain_zone.{specs.{Covering.{covers, matches, matches_or_covers}, Enclosers.{longer, shared}}, proofs.{FindLemmas.find_none, NameLemmas.same_is}}
 use Rattle.domain_nsec.specs.Chain.{Link}
-use Rattle.domain_checker.specs.{Verdict.is_inside, Reading.{is_at_cut, is_cover, is_match}}
+use Rattle.domain_checker.specs.{Reading.{is_at_cut, is_cover, is_match}, Verdict.is_inside}
+use Rattle.domain_answer.specs.Reading.{IsNameAnswer, name_answer, absent_answer, cover_answer, listed_both, match_answer, owner_answer, reading}
+use Rattle.domain_answer.specs.{Reading.{tells_occluded, wildcard_answer, wildcard_both, wildcard_match_answer}, ZoneAnswer.{is_at_parent, wildcard_below}}
 use Rattle.domain_answer.specs.declared.answer.{Answer.{Answer, TheVariants.{AtParent, NoCloserName, NoData, OutsideZone}}, NameAnswer.NameAnswer}
-use Rattle.domain_answer.specs.{declared.answer.NameAnswer.TheVariants.Given, NameAnswer.{IsNameAnswer, name_answer}}
-use Rattle.domain_answer.specs.Reading.{absent_answer, cover_answer, listed_both, match_answer, owner_answer, reading, tells_occluded}
-use Rattle.domain_answer.specs.Reading.{wildcard_answer, wildcard_both}
-use Rattle.domain_answer.specs.{Reading.wildcard_match_answer, ZoneAnswer.{is_at_parent, wildcard_below}}
-use Rattle.domain_answer.proofs.ToldLemmas.{given_never, match_own, owner_own}
-use Rattle.domain_denier.specs.{Judged.{IsOfWildcard, IsSilent, IsTold, Tells}, declared.judged.OfWildcard.{OfWildcard, TheVariants.{Told, Untold}}}
-use Rattle.domain_denier.specs.Picked.{IsOf, at_place, listed_option}
+use Rattle.domain_answer.{specs.declared.answer.NameAnswer.TheVariants.Given, proofs.ProofLemmas.{given_never, match_own, owner_own}}
+use Rattle.domain_denier.specs.{Judged.{IsOfWildcard, IsSilent, IsTold, Tells}, Picked.{IsOf, at_place, listed_option}, declared.judged.OfWildcard.OfWildcard}
+use Rattle.domain_denier.specs.declared.judged.OfWildcard.TheVariants.{Told, Untold}
 
 -- a record that neither matches nor covers is found by neither test
 silent_tests : (a x : Name) (k : Link) → matches_or_covers before k.owner k.next x ≡ false → (is_match a x k ≡ false) × (is_cover a x k ≡ false)

@@ -1,15 +1,14 @@
 -- What is picked of the chain of a zone is what its answer rests on, and no more.
-use Rattle.std.proofs.Common.{◌≡◌, ◌≢◌, ℕ, ◌<◌, arith, Bool, true, false, cond, not, ◌&&◌, ◌||◌, List, [], ◌∷◌, ◌++◌, length, Some, None}
-use Rattle.std.proofs.{Common.{sym, ap, ◌∙◌, subst, inl, inr, ◌⊎◌}, lemmas.Bool.{and_parts, false_from_ne_true, false≢true, or_right}}
-use Rattle.std.{proofs.lemmas.{List.Elements.{All-nil, All-push}, Grind.common_steps}, specs.{Prelude.All, List.Contains}}
+use Rattle.std.proofs.Common.{◌≡◌, ◌≢◌, ℕ, ◌<◌, arith, Bool, true, false, cond, not, ◌&&◌, ◌||◌, List, [], ◌∷◌, ◌++◌, length, Some, None, sym, ap, ◌∙◌, subst}
+use Rattle.std.proofs.{Common.{inl, inr, ◌⊎◌}, lemmas.{Bool.{and_parts, false_from_ne_true, false≢true, or_right}, Grind.common_steps, List.Elements.All-nil}}
+use Rattle.std.{proofs.lemmas.List.Elements.All-push, specs.{List.Contains, Prelude.All}}
 use Rattle.domain_names.specs.{Name.{is_at_or_below, last_labels}, Order.before, Words.Name}
 use Rattle.domain_zone.specs.{Covering.matches_or_covers, Zone.{ZoneRecord, is_unoccluded, unoccluded_owners}}
 use Rattle.domain_nsec.specs.{Chain.Link, declared.config.GenerateNsecConfig.GenerateNsecConfig}
 use Rattle.domain_checker.{specs.Verdict.has_match_or_cover, proofs.{EncloserLemmas.closest_is, MeantLemmas.{ChainLaws, IsMeant, apex_exists}}}
-use Rattle.domain_answer.specs.declared.answer.Answer.{Answer, TheVariants.{NoCloserName, NotProven}}
-use Rattle.domain_answer.specs.{Proved.{IsAnswered, is_missing, knows_wildcard, proved_answer}, Reading.reading}
-use Rattle.domain_answer.specs.ZoneAnswer.{encloser, is_at_parent, name_exists, wildcard_below, zone_answer}
-use Rattle.domain_answer.proofs.{ChainLemmas.meant_leaving, CountLemmas.closest_last, EncloserLemmas.wildcard_low, OccluderLemmas.free_parts}
+use Rattle.domain_answer.specs.{Proved.{IsAnswered, is_missing, knows_wildcard, proved_answer}, Reading.reading, ZoneAnswer.{encloser, is_at_parent}}
+use Rattle.domain_answer.specs.{ZoneAnswer.{name_exists, wildcard_below, zone_answer}, declared.answer.Answer.{Answer, TheVariants.{NoCloserName, NotProven}}}
+use Rattle.domain_answer.proofs.{ChainLemmas.meant_leaving, EncloserLemmas.{closest_last, free_parts, wildcard_low}}
 use Rattle.domain_denier.specs.Picked.{AreNeeded, AreThere, IsDenial, IsFound, IsOf, IsWhole, IsWildcardPicked, at_place, listed_option, picked}
 use Rattle.domain_denier.{specs.declared.nsec.NsecDenial.NsecDenial, proofs.SomeLemmas.contained}
 

@@ -5,12 +5,11 @@ use Rattle.domain_octets.specs.Words.{Octets}
 use Rattle.domain_names.specs.{Name.{is_at_or_below, is_strictly_below, lowered, same_name, wire_of}, Words.{Label, Name}}
 use Rattle.domain_zone.{specs.Zone.ZoneRecord, proofs.NameLemmas.{below_itself, below_parent, below_trans, same_itself}}
 use Rattle.domain_nsec3.specs.{Chain.{ChainRecords, HashedLink}, Config.{ChainConfig, Hash, hash_name}}
-use Rattle.domain_checker.specs.{HashedReading.IsUnmatched, HashedView.{HashedRecords, first_cover}, HashedVerdict.IsFirst}
-use Rattle.domain_checker.proofs.HashedWalkLemmas.{IsMissed, IsPassed, none_first, none_left, passed_on}
-use Rattle.domain_answer.proofs.CountLemmas.{parent_below}
+use Rattle.domain_checker.{specs.{HashedReading.IsUnmatched, HashedVerdict.IsFirst, HashedView.{HashedRecords, first_cover}}, proofs.HashedWalkLemmas.IsMissed}
+use Rattle.domain_checker.proofs.HashedWalkLemmas.{IsPassed, none_first, none_left, passed_on}
+use Rattle.domain_answer.proofs.EncloserLemmas.{parent_below}
 use Rattle.domain_denier.specs.{HashedPicked.{IsHashedWhole, IsRefusedAbove}, HashedSteps.{IsFoundHash, IsInside, IsOfHash, IsPlaced}}
-use Rattle.domain_denier.specs.declared.{hash_search.HashPlace.HashPlace, encloser.PlacedEncloser.PlacedEncloser}
-use Rattle.domain_denier.proofs.SomeLemmas.{all_among, unmatched}
+use Rattle.domain_denier.{specs.declared.{encloser.PlacedEncloser.PlacedEncloser, hash_search.HashPlace.HashPlace}, proofs.SomeLemmas.{all_among, unmatched}}
 
 module _ (R : HashedRecords) (x : Name) where
   -- no record matches the name that is left, and that at the place covers it

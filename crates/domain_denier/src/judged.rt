@@ -1,6 +1,6 @@
 //! What records at places of an NSEC chain say.
 ghost use Rattle.std.specs.Prelude.{◌≡◌, ◌<◌, ◌++◌, Some, length, IfSome, IsTrue};
-ghost use Rattle.domain_answer.specs.{NameAnswer.IsNameAnswer, Reading.reading};
+ghost use Rattle.domain_answer.specs.Reading.{reading, IsNameAnswer};
 ghost use Rattle.domain_answer.specs.ZoneAnswer.{wildcard_below};
 ghost use Rattle.domain_answer.specs.declared.answer.Answer.TheVariants.{NoCloserName};
 ghost use Rattle.domain_names.specs.Name.{last_labels};

@@ -6,22 +6,20 @@ ghost use Rattle.domain_nsec3.specs.Config.{ChainConfig, hash_name};
 ghost use Rattle.domain_nsec3.specs.View.{hash_by};
 ghost use Rattle.domain_hasher.specs.declared.error.Nsec3HashError.TheVariants as hash_error;
 ghost use Rattle.domain_zone.specs.Zone.{ZoneRecord};
-ghost use Rattle.domain_checker.specs.HashedEncloser.{encloser_is_cut};
 ghost use Rattle.domain_checker.specs.HashedView.{links_with};
 ghost use Rattle.domain_answer.specs.HashedProved.{AreAskedAlone};
-ghost use Rattle.domain_answer.specs.HashedReading.{next_answer, own_answer, IsHashedRead};
+ghost use Rattle.domain_answer.specs.HashedReading.{next_answer, IsHashedRead};
 ghost use Rattle.domain_answer.specs.Proved.{needs_no_records};
 ghost use Rattle.domain_answer.specs.ZoneAnswer.{is_at_parent, wildcard_below};
 ghost use Rattle.domain_denier.specs.HashedPicked.{hashed_picked, without_records, AreHashedThere, ArePlaces, IsHashedDenial, IsHashedWhole, IsRefusedAbove};
-ghost use Rattle.domain_denier.specs.HashedSteps.{encloser_with, link_at, wildcard_told_by, with_encloser, IsFirstDenial, IsInside, IsPickedRead, IsPlaced, IsWildcardPlaced};
+ghost use Rattle.domain_denier.specs.HashedSteps.{link_at, wildcard_told_by, with_encloser, IsFirstDenial, IsInside, IsPickedRead, IsPlaced, IsWildcardPlaced};
 
 use crate::encloser::{PlacedEncloser, find_encloser};
 use crate::hash_search::{HashPlace, look_up};
-use domain_answer::{Answer, laws, types_answer, wildcard_of, wildcard_types_answer};
+use domain_answer::{Answer, types_answer, wildcard_of, wildcard_types_answer};
 use domain_base::{MAX_NAME, ParsedName, Rtype, ToName};
-use domain_checker::laws::hashes_tell_of_names;
+use domain_checker::laws::hashed_chains_are_known;
 use domain_hasher::{Nsec3HashError, Nsec3Hasher};
-use domain_nsec3::laws::{chains_mean_the_zone, names_exist};
 use domain_nsec3::{BorrowedNsec3, Nsec3Chain};
 use domain_octets::Octets;
 use std::alloc::Global;
@@ -109,32 +107,6 @@ fn lend_at<'c, O: Octets>(chain: &'c Nsec3Chain<'_, O>, place: usize) -> Borrowe
     listed
 }
 
-/// Whether the record of a name with so many labels says that it is a zone cut: it lists NS, and
-/// the name is not the apex.
-fn is_zone_cut(apex: &ParsedName<'_>, listed: &BorrowedNsec3<'_>, count: usize) -> bool
-    ensures { result ≡ encloser_is_cut apex.now (encloser_with count listed.now None) }
-{
-    (count != apex.count_labels()) & listed.data().types().contains(Rtype::NS)
-}
-
-/// What the record of a name with so many labels says of it: nothing, where it is of the apex of a
-/// child zone.
-fn own_answer(
-    apex: &ParsedName<'_>,
-    listed: &BorrowedNsec3<'_>,
-    count: usize,
-    rtype: Rtype,
-) -> Answer
-    ensures { result ≡ own_answer apex.now (encloser_with count listed.now None) rtype }
-{
-    types_answer(
-        listed.data().types(),
-        is_zone_cut(apex, listed, count),
-        count,
-        rtype,
-    )
-}
-
 /// What the record that covers the next closer name says, where the closest encloser has so many
 /// labels.
 fn next_answer<O: Octets>(chain: &Nsec3Chain<'_, O>, count: usize, cover: Option<usize>) -> Answer
@@ -167,14 +139,17 @@ fn first_denial<O: Octets>(
         → IsFirstDenial apex.now chain.now.links k encloser count rtype result }
 {
     let listed = lend_at(chain, encloser.place);
+    let types = listed.data().types();
+    // It is a zone cut where the record lists NS, and it is not the apex.
+    let at_cut = (encloser.count != apex.count_labels()) & types.contains(Rtype::NS);
     if encloser.count == count {
-        let answer = own_answer(apex, &listed, encloser.count, rtype);
+        let answer = types_answer(types, at_cut, encloser.count, rtype);
         return with_encloser(answer, encloser.place);
     }
-    if is_zone_cut(apex, &listed, encloser.count) {
+    if at_cut {
         return with_encloser(Answer::Referral(encloser.count), encloser.place);
     }
-    if listed.data().types().contains(Rtype::DNAME) {
+    if types.contains(Rtype::DNAME) {
         return with_encloser(Answer::Redirected(encloser.count), encloser.place);
     }
     Nsec3Denial {
@@ -388,12 +363,8 @@ pub fn deny_nsec3<O: Octets, M: ToName, H: Nsec3Hasher>(
     if is_at_parent(apex, name, rtype) {
         return Ok(without_records(Answer::AtParent));
     }
-    // By these laws what the records say is what the zone says, of a type of 16 bits.
-    laws::hashed_readings_are_proved();
-    laws::hashed_whole_chains_prove_all();
-    hashes_tell_of_names();
-    chains_mean_the_zone();
-    names_exist();
+    // By this law what the records say is what the zone says, of a type of 16 bits.
+    hashed_chains_are_known();
     let _number = rtype.to_int();
     if chain.is_empty() {
         return Ok(without_records(Answer::NotProven));

@@ -1,4 +1,4 @@
-use Rattle.domain_answer.proofs.{AnswerLemmas.reading_proved, ProofLemmas.{reading_counts, reading_rests}}
+use Rattle.domain_answer.proofs.{ChainLemmas.reading_proved, ProofLemmas.reading_fits}
 use Rattle.domain_answer.proofs.laws.readings_are_proved.Goals as goal
 
 pub returns-clause-zone : goal.returns-clause-zone
@@ -9,7 +9,7 @@ returns-clause-zone c =
     c.types_ignore_case.ensures c.built_bitmaps_give_their_types.ensures.contains
 
 pub returns-clause-proof : goal.returns-clause-proof
-returns-clause-proof c = λ listed a x t. reading_rests a listed x t
+returns-clause-proof c = λ listed a x t. (reading_fits a listed x t).0
 
 pub returns-clause-within : goal.returns-clause-within
-returns-clause-within c = λ listed a x t. reading_counts a listed x t
+returns-clause-within c = λ listed a x t. (reading_fits a listed x t).1

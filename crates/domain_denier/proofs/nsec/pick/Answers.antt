@@ -1,10 +1,9 @@
-use Rattle.std.proofs.{Common.{◌<◌, sym, ◌∙◌, subst, rules, Some, arith}, lemmas.Bool.false≢true}
+use Rattle.std.proofs.{Common.{◌<◌, sym, ◌∙◌, subst, rules, Some, arith}, lemmas.{Bool.false≢true, Grind.common_steps}}
 use Rattle.domain_checker.proofs.MeantLemmas.{ChainLaws}
-use Rattle.domain_answer.proofs.ToldLemmas.{given_is, given_never}
-use Rattle.domain_denier.proofs.{JudgedLemmas.{outside_only, said_inside}, PickLemmas.{AnswerLaws, denied_by_one, none_first, nothing_outside}}
-use Rattle.domain_denier.specs.Picked.{at_place}
+use Rattle.domain_answer.proofs.ProofLemmas.{given_is, given_never}
+use Rattle.domain_denier.{specs.Picked.at_place, proofs.{JudgedLemmas.{outside_only, said_inside}, PickLemmas.{AnswerLaws, denied_by_one, none_first}}}
+use Rattle.domain_denier.proofs.PickLemmas.{nothing_outside}
 use Rattle.domain_denier.proofs.nsec.pick.Goals as goal
-use Rattle.std.proofs.lemmas.Grind.{common_steps}
 
 pub returns-then-is_empty : goal.returns-then-is_empty
 returns-then-is_empty g c =

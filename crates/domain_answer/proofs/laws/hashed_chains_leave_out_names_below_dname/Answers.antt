@@ -1,8 +1,10 @@
-use Rattle.domain_answer.proofs.WholeLemmas.{left_out_by_choice, left_out_without_dname, none_left_out}
-use Rattle.domain_answer.proofs.nsec3_laws.hashed_chains_leave_out_names_below_dname.Goals as goal
+use Rattle.std.proofs.Common.{ap}
+use Rattle.domain_zone.specs.Zone.{unoccluded_owners}
+use Rattle.domain_answer.proofs.WholeLemmas.{left_out_without_dname, none_left_out}
+use Rattle.domain_answer.proofs.laws.hashed_chains_leave_out_names_below_dname.Goals as goal
 
 pub returns-clause-chosen : goal.returns-clause-chosen
-returns-clause-chosen c = λ L a config. left_out_by_choice L a config.occlude_below_dname
+returns-clause-chosen c = λ L a config e. ap (λ b. unoccluded_owners b L a) e
 
 pub returns-clause-none : goal.returns-clause-none
 returns-clause-none c = λ L a none config. none_left_out L a none config.occlude_below_dname

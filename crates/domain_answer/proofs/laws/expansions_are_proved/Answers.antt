@@ -1,9 +1,8 @@
 use Rattle.domain_answer.proofs.ExpansionLemmas.{expansion_counts, expansion_encloser, expansion_proved, expansion_rests}
-use Rattle.domain_answer.proofs.nsec3_laws.expansions_are_proved.Goals as goal
+use Rattle.domain_answer.proofs.laws.expansions_are_proved.Goals as goal
 
 pub returns-clause-zone : goal.returns-clause-zone
-returns-clause-zone c =
-    expansion_proved (record { matches = c.hashes_tell_of_names.ensures.matches; covers = c.hashes_tell_of_names.ensures.covers })
+returns-clause-zone c = expansion_proved c.hashed_chains_are_known.ensures
 
 pub returns-clause-proof : goal.returns-clause-proof
 returns-clause-proof c = expansion_rests

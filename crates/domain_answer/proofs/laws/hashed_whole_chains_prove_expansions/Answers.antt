@@ -1,5 +1,5 @@
 use Rattle.domain_answer.proofs.HashedWholeLemmas.{whole_closer}
-use Rattle.domain_answer.proofs.nsec3_laws.hashed_whole_chains_prove_expansions.Goals as goal
+use Rattle.domain_answer.proofs.laws.hashed_whole_chains_prove_expansions.Goals as goal
 
 pub returns : goal.returns
 returns c = λ L a config links x n value chain longer alone gone.

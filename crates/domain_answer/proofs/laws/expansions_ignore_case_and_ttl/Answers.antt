@@ -1,7 +1,7 @@
 use Rattle.std.{proofs.{Common.{◌∙◌, refl, sym}, lemmas.List.Elements.{All-from_recursion, recursion_from_All}}, specs.List.Contains}
 use Rattle.domain_checker.{specs.{Alike.{IsHashedAlike, IsPairedIn}, HashedView.chain_records}, proofs.PairedLemmas.paired_with_some}
 use Rattle.domain_answer.proofs.HashedAlikeLemmas.{expansion_alike, proved_expansion_alike}
-use Rattle.domain_answer.proofs.nsec3_laws.expansions_ignore_case_and_ttl.Goals as goal
+use Rattle.domain_answer.proofs.laws.expansions_ignore_case_and_ttl.Goals as goal
 
 pub returns-clause-alike : goal.returns-clause-alike
 returns-clause-alike c = λ R other x n answer h read. expansion_alike R other h x n answer read
