@@ -11,7 +11,6 @@ ghost use Rattle.domain_fields.specs.Layout.{Ends, ParsesBack, splits, is_delimi
 ghost use Rattle.domain_fields.specs.Layout.{canonical_order};
 
 /// Octets begin with data of given fields in one way at most, and in none where they have a fault.
-#[tactic(auto, using(crate::proofs::ExactLemmas::one_reading, crate::proofs::ExactLemmas::fault_excludes))]
 pub fn reading_is_exact()
     ensures one { (l : Layout) (octets : Octets) (v w : Values l) (r s : Octets) → splits l ≡ true
         → Begins l octets v r → Begins l octets w s → (v ≡ w) × (r ≡ s) }
@@ -54,6 +53,7 @@ pub fn tokens_spell_values_once()
 
 /// Tokens that are refused as a list of fields, but for want of room or of memory, begin with no
 /// values of it, over builders with any limit.
+#[tactic(auto, using(crate::proofs::ScanLemmas::refused_spells_none))]
 pub fn refused_tokens_spell_nothing()
     ensures { (limit : Option ℕ) (l : Layout) (old new after : Tokens) (v : Values l)
         (fault : ScanFault) → Refuses limit l old new fault → IsOfTokens limit fault
