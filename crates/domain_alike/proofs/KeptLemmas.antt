@@ -4,7 +4,8 @@ use Rattle.std.{proofs.lemmas.Grind.common_steps, specs.{Prelude.filter, List.Al
 use Rattle.domain_base.specs.Types.{ds}
 use Rattle.domain_names.specs.Words.{Name}
 use Rattle.domain_nsec3.specs.Owners.{is_unsigned_cut}
-use Rattle.domain_zone.{specs.{Owners.{OwnerRecords, owner_at, owners_with_records}, Zone.{ZoneRecord, has_type, unoccluded_owners}}, proofs.GivenLemmas.{all_known, name_of}}
+use Rattle.domain_zone.specs.{Owners.{OwnerRecords, owner_at, owners_with_records}, Zone.{ZoneRecord, has_type, unoccluded_owners}}
+use Rattle.domain_zone.proofs.GivenLemmas.{all_known, name_of}
 use Rattle.domain_alike.specs.Covered.{covered_names}
 
 -- an unsigned delegation

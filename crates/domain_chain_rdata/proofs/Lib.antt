@@ -1,5 +1,4 @@
 pub mod NsecLemmas
-pub mod TextLemmas
 pub mod Nsec3Lemmas
-pub mod Nsec3TextLemmas
+pub mod TextLemmas
 pub mod ReadBackLemmas

@@ -1,21 +1,13 @@
 -- NSEC3 data as text (RFC 5155, section 3.3), and in the pieces of a zone file
-use Rattle.std.specs.Prelude.{◌≡◌, ℕ, List, [], ◌∷◌, ◌++◌, codes, Option}
+use Rattle.std.specs.Prelude.{ℕ, List, [], ◌∷◌, ◌++◌, codes, Option}
 use Rattle.domain_codecs.specs.{Base32.base32_upper, declared.codec.Codec.TheVariants.Base32Hex}
 use Rattle.domain_octets.specs.{Piece.{PieceText, token, opens, closes}, Words.Octets}
-use Rattle.domain_base.specs.{Scan.{RefusesToken, Refusal, Grammar}, Types.Rtypes}
-use Rattle.domain_bitmap.specs.{Bitmap.bitmap_octets, Blocks.types_of, HashScan.CountedFault, HashText.{OwnerHashText, salt_text}}
-use Rattle.domain_bitmap.specs.{Pieces.{type_pieces, salt_pieces}, Scan.{TypeTexts, RefusesTypes, is_among}, Text.spaced_types}
+use Rattle.domain_base.specs.Scan.{RefusesToken, Refusal, Grammar}
+use Rattle.domain_bitmap.specs.{Blocks.types_of, HashScan.CountedFault, HashText.{OwnerHashText, salt_text}}
+use Rattle.domain_bitmap.specs.{Pieces.{type_pieces, salt_pieces}, Scan.RefusesTypes, Text.spaced_types}
 use Rattle.domain_fields.specs.{Layout.Values, Sequence.{OneToken, Both, RefusesBoth}}
 use Rattle.domain_chain_rdata.specs.{OptOut.opt_out_comment, Nsec3paramText.{Nsec3paramText, RefusesNsec3param, hash_numbers_text, number_pieces}}
-use Rattle.domain_chain_rdata.specs.Rdata.{hash_numbers, hash_fields, nsec3}
-use Rattle.domain_names.specs.Words.{Tokens}
-
--- all tokens spell the types of a bitmap, one each
-pub record BitmapText (old : Tokens) (octets : Octets) (new : Tokens) : Type 0 where
-  pub types : Rtypes
-  pub spelled : TypeTexts old types
-  pub built : octets ≡ bitmap_octets (is_among types)
-  pub all : new ≡ []
+use Rattle.domain_chain_rdata.specs.{NsecText.BitmapText, Rdata.{hash_numbers, hash_fields, nsec3}}
 
 -- parameters, and a hash in Base 32 hex
 abbrev pub HashText : Grammar (Values hash_fields)

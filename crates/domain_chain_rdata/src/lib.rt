@@ -13,18 +13,13 @@
 
 mod nsec;
 mod nsec3;
-mod nsec3_compare;
-mod nsec3_convert;
 pub mod nsec3_laws;
 mod nsec3_text;
-mod nsec3_wire;
 mod nsec3param;
 mod nsec3param_text;
-mod nsec_compare;
-mod nsec_convert;
 pub mod nsec_laws;
 mod nsec_text;
-mod nsec_wire;
+mod wire;
 
 pub use nsec::Nsec;
 pub use nsec3::Nsec3;

@@ -1,19 +1,34 @@
-//! The next name and the types at a name.
-ghost use Rattle.std.specs.{Prelude.◌≡◌, Ordering.{on, nat_cmp}};
-ghost use Rattle.std.specs.Cmp.Lexicographic.{slice_cmp, on_texts};
+//! The next name and the types at a name: written, compared, hashed, copied.
+ghost use Rattle.std.specs.Prelude.{◌≡◌, ◌⊎◌, ◌&&◌, Some, IfOk, IsNone, length, refl, bytes_eq};
+ghost use Rattle.std.specs.Ordering.{on, nat_cmp, then_cmp, eq_of_both, ordering_then};
+ghost use Rattle.std.specs.Cmp.{on_equiv, on_total, then_total, and_equiv, partial_equiv_from_equiv, po};
+ghost use Rattle.std.specs.Cmp.Lexicographic.{slice_cmp, on_texts, nat_list_cmp_total, nat_list_eq_equiv};
+ghost use Rattle.std.specs.List.{flat_map};
+ghost use Rattle.std.specs.Hash as fed;
+ghost use Rattle.domain_octets.specs.Limit.{IsOver};
+ghost use Rattle.domain_names.specs.{Name.same_name, Laws.same_name_equiv};
+ghost use Rattle.domain_names.specs.Order.{canonical_cmp as name_cmp, canonical_cmp_total};
 ghost use Rattle.domain_base.specs.Types as rtypes;
+ghost use Rattle.domain_bitmap.specs.Blocks.{IsBitmap};
+ghost use Rattle.domain_fields.specs.{DataClone.same_values_tie, Laws.ties_of_both};
 ghost use Rattle.domain_fields.specs.Layout.{octets_of, canonical_of};
-ghost use Rattle.domain_chain_rdata.specs.Rdata.{nsec, nsec_values};
+ghost use Rattle.domain_chain_rdata.specs.Rdata.{nsec, nsec_values, nsec_hashed};
+ghost use Rattle.domain_chain_rdata.specs.{Laws.nsec_fed, NsecConvert.{IsNsecClone, IsSameNsec}};
 
 use domain_base::{CanonicalOrd, ParsedName, Rtype, ToName};
 use domain_bitmap::RtypeBitmap;
 use domain_fields::{Fields, MAX_RDLEN, Rest, Spelled};
-use domain_octets::{AppendError, Octets, OctetsBuilder};
-use domain_record::{ComposeRecordData, RecordData};
+use domain_octets::{
+    AppendError, CopyOctets, FlattenInto, Octets, OctetsBuilder, OctetsFrom, OutOfMemory, TryClone,
+};
+use domain_record::{CloneRecordData, ComposeRecordData, RecordData, both};
+use std::alloc::Global;
 use std::cmp::Ordering;
+use std::hash::{Hash, Hasher};
 
 /// The next owner of a zone's chain, and the types at this one (RFC 4034, section 4).
 #[derive(Drop)]
+#[derive_where(Debug; N)]
 pub struct Nsec<O: Octets, N> {
     next_name: N,
     types: RtypeBitmap<O>,
@@ -62,7 +77,8 @@ impl<O: Octets, N> Nsec<O, N> {
 impl<O: Octets, N: ToName> Nsec<O, N> {
     /// The fields, in the order of the wire.
     pub(crate) fn fields(&self) -> (Spelled<ParsedName<'_>>, Rest<'_>)
-        ensures { (result.0.0 ≡ N.labels self.now.next_name) × (result.1.0.now ≡ self.now.types) }
+        ensures values { nsec_values N.labels self.now ≡ (result.0.0, result.1.0.now) }
+        ensures bitmap { IsBitmap self.now.types }
     {
         let next_name = Spelled(self.next_name.as_parsed());
         (next_name, Rest(self.types.as_slice()))
@@ -110,6 +126,153 @@ impl<O: Octets, N: ToName> CanonicalOrd for Nsec<O, N> {
     ghost total = { on_texts (λ d. canonical_of nsec (nsec_values N.labels d)) };
 
     fn canonical_cmp(&self, other: &Self) -> Ordering {
+        self.canonical_cmp_to(other)
+    }
+}
+
+impl<O: Octets, N: ToName> Nsec<O, N> {
+    /// Whether data over other octets and names are the same: the next names but for the case of
+    /// letters, and the bitmaps' octets. Takes no memory.
+    pub fn eq_to<P: Octets, M: ToName>(&self, other: &Nsec<P, M>) -> bool
+        ensures { result ≡ (same_name (N.labels self.now.next_name) (M.labels other.now.next_name)
+            && bytes_eq self.now.types other.now.types) }
+    {
+        self.next_name().name_eq(other.next_name()) && self.types().eq_to(other.types())
+    }
+
+    /// The order of the next names, and then of the bitmaps' octets, also of data over other octets
+    /// and names. Takes no memory.
+    pub fn cmp_to<P: Octets, M: ToName>(&self, other: &Nsec<P, M>) -> Ordering
+        ensures { result ≡ ordering_then
+            (name_cmp (N.labels self.now.next_name) (M.labels other.now.next_name))
+            (slice_cmp nat_cmp self.now.types other.now.types) }
+    {
+        self.next_name()
+            .name_cmp(other.next_name())
+            .then_with(|| self.types().cmp_to(other.types()))
+    }
+
+    /// The canonical order, also of data over other octets and names. Takes no memory.
+    pub fn canonical_cmp_to<P: Octets, M: ToName>(&self, other: &Nsec<P, M>) -> Ordering
+        ensures { result ≡ slice_cmp nat_cmp (canonical_of nsec (nsec_values N.labels self.now))
+            (canonical_of nsec (nsec_values M.labels other.now)) }
+    {
         self.fields().order(&other.fields())
+    }
+}
+
+impl<O: Octets, N: ToName> PartialEq for Nsec<O, N> {
+    ghost eq = { eq_of_both (on (λ d. N.labels d.next_name) same_name)
+        (on (λ d. d.types) bytes_eq) };
+
+    ghost laws = { partial_equiv_from_equiv
+        (and_equiv (on_equiv (λ d. N.labels d.next_name) same_name_equiv)
+        (on_equiv (λ d. d.types) nat_list_eq_equiv)) };
+
+    fn eq(&self, other: &Self) -> bool {
+        self.eq_to(other)
+    }
+}
+
+impl<O: Octets, N: ToName> Eq for Nsec<O, N> {
+    ghost laws = { and_equiv (on_equiv (λ d. N.labels d.next_name) same_name_equiv)
+        (on_equiv (λ d. d.types) nat_list_eq_equiv) };
+}
+
+impl<O: Octets, N: ToName> PartialOrd for Nsec<O, N> {
+    ghost partial_cmp = { λ a b. Some (then_cmp (on (λ d. N.labels d.next_name) name_cmp)
+        (on (λ d. d.types) (slice_cmp nat_cmp)) a b) };
+
+    ghost laws = { po (then_total (on_total (λ d. N.labels d.next_name) canonical_cmp_total)
+        (on_total (λ d. d.types) nat_list_cmp_total))
+        (ties_of_both (λ d. N.labels d.next_name) (λ d. d.types)) };
+
+    fn partial_cmp(&self, other: &Self) -> Option<Ordering> {
+        Some(self.cmp(other))
+    }
+}
+
+impl<O: Octets, N: ToName> Ord for Nsec<O, N> {
+    ghost cmp = { then_cmp (on (λ d. N.labels d.next_name) name_cmp)
+        (on (λ d. d.types) (slice_cmp nat_cmp)) };
+
+    ghost total = { then_total (on_total (λ d. N.labels d.next_name) canonical_cmp_total)
+        (on_total (λ d. d.types) nat_list_cmp_total) };
+
+    ghost matches_partial_cmp = { λ a b. refl };
+
+    ghost matches_eq = { ties_of_both (λ d. N.labels d.next_name) (λ d. d.types) };
+
+    fn cmp(&self, other: &Self) -> Ordering {
+        self.cmp_to(other)
+    }
+}
+
+/// The octets of the next name, lowered, and then those of the bitmap.
+impl<O: Octets, N: ToName> Hash for Nsec<O, N> {
+    ghost hash_input = { λ d. flat_map fed.u8 (canonical_of nsec_hashed (nsec_values N.labels d)) };
+
+    ghost respects_eq = { (nsec_fed (λ d. N.labels d.next_name) (λ d. d.types)).fed };
+
+    fn hash<H: Hasher>(&self, state: &mut H) {
+        let next_name = self.next_name().as_parsed();
+        (next_name, Rest(self.types().as_slice())).feed(state);
+    }
+}
+
+impl<O: Octets, N: TryClone + Drop> Nsec<O, N> {
+    /// A copy. Uses the allocators of the name and of the octets.
+    pub fn clone(&self) -> Result<Self, OutOfMemory>
+        ensures { IfOk result (IsNsecClone N.is_clone self.now) }
+    {
+        let next_name = self.next_name().try_clone()?;
+        let types = self.types().try_clone()?;
+        Ok(Nsec::new(next_name, types))
+    }
+}
+
+impl<O: Octets, N: TryClone + Drop> TryClone for Nsec<O, N> {
+    ghost is_clone = { IsNsecClone N.is_clone };
+
+    fn try_clone(&self) -> Result<Self, OutOfMemory> {
+        self.clone()
+    }
+}
+
+impl<O: Octets, N: ToName + Drop> CloneRecordData for Nsec<O, N> {
+    ghost clone_rtype = { λ d copy same. refl };
+
+    ghost clone_canonical = { λ d copy same. same_values_tie nsec (nsec_values N.labels) d copy
+        (λ i. (N.clone_labels d.next_name copy.next_name same.next_name i, same.types i)) };
+}
+
+impl<S: Octets + Drop, N: Drop, O: CopyOctets + Drop, M: OctetsFrom<N> + Drop> OctetsFrom<
+    Nsec<S, N>,
+> for Nsec<O, M> {
+    ghost is_same = { IsSameNsec M.OctetsFrom.is_same };
+
+    ghost has_no_room = { λ source. M.OctetsFrom.has_no_room source.next_name
+        ⊎ IsOver O.capacity (length source.types) };
+
+    ghost takes_memory = { M.OctetsFrom.takes_memory ⊎ IsNone O.capacity };
+
+    fn try_octets_from(alloc: Global, source: Nsec<S, N>) -> Result<Self, AppendError> {
+        let (next_name, types) = source.into_parts();
+        let next_name = M::try_octets_from(alloc, next_name);
+        let types = RtypeBitmap::try_octets_from(alloc, types);
+        let (next_name, types) = both(next_name, types)?;
+        Ok(Nsec::new(next_name, types))
+    }
+}
+
+impl<O: Octets, N, T: OctetsFrom<Nsec<O, N>>> FlattenInto<T> for Nsec<O, N> {
+    ghost is_same = { λ source made. T.OctetsFrom.is_same source made };
+
+    ghost has_no_room = { λ source. T.OctetsFrom.has_no_room source };
+
+    ghost takes_memory = { T.OctetsFrom.takes_memory };
+
+    fn try_flatten_into(self, alloc: Global) -> Result<T, AppendError> {
+        T::try_octets_from(alloc, self)
     }
 }

@@ -1,23 +1,33 @@
-//! The next hash and the types at a hashed name.
-ghost use Rattle.std.specs.{Prelude.◌≡◌, Ordering.{on, nat_cmp}};
-ghost use Rattle.std.specs.Cmp.Lexicographic.{slice_cmp, on_texts};
+//! The next hash and the types at a hashed name: written, compared, hashed, copied.
+ghost use Rattle.std.specs.Prelude.{◌≡◌, ◌↔◌, ◌⊎◌, Some, IsTrue, IfOk, IsNone, length, refl, bytes_eq};
+ghost use Rattle.std.specs.{Ordering.{on, nat_cmp}, Cmp.{partial_equiv_from_equiv, po}};
+ghost use Rattle.std.specs.Cmp.Lexicographic.{slice_cmp, on_texts, on_texts_equal};
+ghost use Rattle.std.specs.List.{flat_map};
+ghost use Rattle.std.specs.Hash as fed;
+ghost use Rattle.domain_octets.specs.Limit.{IsOver};
+ghost use Rattle.domain_bitmap.specs.Blocks.{IsBitmap};
 ghost use Rattle.domain_base.specs.Types as rtypes;
-ghost use Rattle.domain_fields.specs.Layout.{Fits};
+ghost use Rattle.domain_fields.specs.{DataClone.copies_tied, Laws.{fed_alike, tied_octets}, Layout.Fits};
 ghost use Rattle.domain_chain_rdata.specs.OptOut.{is_opt_out};
-ghost use Rattle.domain_chain_rdata.specs.Rdata.{hash_numbers, nsec3, nsec3_values, nsec3_octets, nsec3param_values};
+ghost use Rattle.domain_chain_rdata.specs.Rdata.{nsec3, nsec3_values, nsec3_octets, nsec3param_values};
 
 use crate::Nsec3param;
 use crate::nsec3param::{HashNumbers, ParamFields, has_opt_out};
 use domain_base::{CanonicalOrd, Nsec3HashAlgorithm, Rtype};
 use domain_bitmap::{Nsec3Salt, OwnerHash, RtypeBitmap};
 use domain_fields::{Counted, Fields, MAX_RDLEN, Rest};
-use domain_octets::{AppendError, Octets, OctetsBuilder, laws};
-use domain_record::{ComposeRecordData, RecordData};
+use domain_octets::{
+    AppendError, CopyOctets, Octets, OctetsBuilder, OctetsFrom, OutOfMemory, TryClone, laws,
+};
+use domain_record::{CloneRecordData, ComposeRecordData, RecordData, both};
+use std::alloc::Global;
 use std::cmp::Ordering;
+use std::hash::{Hash, Hasher};
 
 /// The next hash of a zone's chain, how names are hashed, and the types at the name that this one
 /// is the hash of (RFC 5155, section 3).
 #[derive(Drop)]
+#[derive_where(Debug)]
 pub struct Nsec3<O: Octets> {
     hash_algorithm: Nsec3HashAlgorithm,
     flags: u8,
@@ -27,8 +37,8 @@ pub struct Nsec3<O: Octets> {
     types: RtypeBitmap<O>,
 }
 
-/// The parameters, the next hash and the type bitmap.
-type Nsec3Fields<'a> = ((ParamFields<'a>, Counted<'a>), Rest<'a>);
+/// The parameters and the next hash.
+pub type HashFields<'a> = (ParamFields<'a>, Counted<'a>);
 
 impl<O: Octets> Nsec3<O> {
     /// The data of these fields. Takes no memory.
@@ -157,9 +167,7 @@ impl<O: Octets> Nsec3<O> {
 
     /// The first three fields.
     pub(crate) fn numbers(&self) -> HashNumbers
-        ensures value { result ≡ (self.now.hash_algorithm, (self.now.flags, self.now.iterations)) }
-        ensures fits { Fits hash_numbers
-            (self.now.hash_algorithm, (self.now.flags, self.now.iterations)) }
+        ensures { result ≡ (nsec3_values self.now).0.0.0 }
     {
         (
             self.hash_algorithm().to_int(),
@@ -168,15 +176,13 @@ impl<O: Octets> Nsec3<O> {
     }
 
     /// The fields, in the order of the wire.
-    pub(crate) fn fields(&self) -> Nsec3Fields<'_>
-        ensures numbers { result.0.0.0 ≡ (
-          self.now.hash_algorithm,
-          (self.now.flags, self.now.iterations),
+    pub(crate) fn fields(&self) -> (HashFields<'_>, Rest<'_>)
+        ensures values { nsec3_values self.now ≡ (
+          ((result.0.0.0, result.0.0.1.octets.now), result.0.1.octets.now),
+          result.1.0.now,
         ) }
-        ensures hashed { (result.0.0.1.octets.now ≡ self.now.salt)
-            × (result.0.1.octets.now ≡ self.now.next_owner) }
-        ensures types { result.1.0.now ≡ self.now.types }
         ensures fits { Fits nsec3 (nsec3_values self.now) }
+        ensures bitmap { IsBitmap self.now.types }
     {
         let salt = Counted::new(self.salt.as_slice());
         let next_owner = Counted::new(self.next_owner.as_slice());
@@ -229,5 +235,130 @@ impl<O: Octets> CanonicalOrd for Nsec3<O> {
 
     fn canonical_cmp(&self, other: &Self) -> Ordering {
         self.canonical_cmp_to(other)
+    }
+}
+
+impl<O: Octets> Nsec3<O> {
+    /// Whether data over other octets are the same. Takes no memory.
+    pub fn eq_to<P: Octets>(&self, other: &Nsec3<P>) -> bool
+        ensures value { result ≡ bytes_eq (nsec3_octets self.now) (nsec3_octets other.now) }
+        ensures same { IsTrue result ↔ (nsec3_values self.now ≡ nsec3_values other.now) }
+    {
+        self.fields().order(&other.fields()).is_eq()
+    }
+
+    /// The order by the fields in the order of the wire, shorter salts and hashes first, also of
+    /// data over other octets. This is the order of the octets. Takes no memory.
+    pub fn cmp_to<P: Octets>(&self, other: &Nsec3<P>) -> Ordering
+        ensures { result ≡ slice_cmp nat_cmp (nsec3_octets self.now) (nsec3_octets other.now) }
+    {
+        self.fields().order(&other.fields())
+    }
+
+    /// The canonical order, which is `cmp_to`.
+    pub fn canonical_cmp_to<P: Octets>(&self, other: &Nsec3<P>) -> Ordering
+        ensures { result ≡ slice_cmp nat_cmp (nsec3_octets self.now) (nsec3_octets other.now) }
+    {
+        self.cmp_to(other)
+    }
+}
+
+impl<O: Octets> PartialEq for Nsec3<O> {
+    ghost eq = { on nsec3_octets bytes_eq };
+
+    ghost laws = { partial_equiv_from_equiv (on_texts_equal nsec3_octets) };
+
+    fn eq(&self, other: &Self) -> bool {
+        self.eq_to(other)
+    }
+}
+
+impl<O: Octets> Eq for Nsec3<O> {
+    ghost laws = { on_texts_equal nsec3_octets };
+}
+
+impl<O: Octets> PartialOrd for Nsec3<O> {
+    ghost partial_cmp = { λ a b. Some (on nsec3_octets (slice_cmp nat_cmp) a b) };
+
+    ghost laws = { po (on_texts nsec3_octets) (tied_octets nsec3_octets) };
+
+    fn partial_cmp(&self, other: &Self) -> Option<Ordering> {
+        Some(self.cmp_to(other))
+    }
+}
+
+impl<O: Octets> Ord for Nsec3<O> {
+    ghost cmp = { on nsec3_octets (slice_cmp nat_cmp) };
+
+    ghost total = { on_texts nsec3_octets };
+
+    ghost matches_partial_cmp = { λ a b. refl };
+
+    ghost matches_eq = { tied_octets nsec3_octets };
+
+    fn cmp(&self, other: &Self) -> Ordering {
+        self.cmp_to(other)
+    }
+}
+
+/// The octets.
+impl<O: Octets> Hash for Nsec3<O> {
+    ghost hash_input = { λ d. flat_map fed.u8 (nsec3_octets d) };
+
+    ghost respects_eq = { (fed_alike nsec3_octets).fed };
+
+    fn hash<H: Hasher>(&self, state: &mut H) {
+        self.fields().feed(state);
+    }
+}
+
+impl<O: Octets + Drop> Nsec3<O> {
+    /// A copy. Uses the allocators of the octets.
+    pub fn clone(&self) -> Result<Self, OutOfMemory>
+        ensures { IfOk result (λ copy. copy ≡ self.now) }
+    {
+        let salt = self.salt().clone()?;
+        let next_owner = self.next_owner().clone()?;
+        let types = self.types().clone()?;
+        Ok(Nsec3::new(
+            self.hash_algorithm(),
+            self.flags(),
+            self.iterations(),
+            salt,
+            next_owner,
+            types,
+        ))
+    }
+}
+
+impl<O: Octets + Drop> TryClone for Nsec3<O> {
+    ghost is_clone = { λ d copy. copy ≡ d };
+
+    fn try_clone(&self) -> Result<Self, OutOfMemory> {
+        self.clone()
+    }
+}
+
+impl<O: Octets + Drop> CloneRecordData for Nsec3<O> {
+    ghost clone_rtype = { λ d copy same. refl };
+
+    ghost clone_canonical = { copies_tied nsec3_octets };
+}
+
+impl<S: Octets + Drop, O: CopyOctets + Drop> OctetsFrom<Nsec3<S>> for Nsec3<O> {
+    ghost is_same = { λ source made. nsec3_values made ≡ nsec3_values source };
+
+    ghost has_no_room = { λ source. (IsOver O.capacity (length source.salt)
+        ⊎ IsOver O.capacity (length source.next_owner)) ⊎ IsOver O.capacity (length source.types) };
+
+    ghost takes_memory = { IsNone O.capacity };
+
+    fn try_octets_from(alloc: Global, source: Nsec3<S>) -> Result<Self, AppendError> {
+        let (params, next_owner, types) = source.into_parts();
+        let params = Nsec3param::try_octets_from(alloc, params);
+        let next_owner = OwnerHash::try_octets_from(alloc, next_owner);
+        let types = RtypeBitmap::try_octets_from(alloc, types);
+        let ((params, next_owner), types) = both(both(params, next_owner), types)?;
+        Ok(Nsec3::of_params(params, next_owner, types))
     }
 }

@@ -15,7 +15,6 @@ ghost use Rattle.domain_names.specs.Words.{Tokens};
 
 use crate::{Nsec3, Nsec3param};
 use domain_octets::Octets;
-use domain_octets::laws::slices_hold_octets;
 
 /// The octets of parameters are read as these parameters, in no other way, and nothing is left.
 #[tactic(auto, using(crate::proofs::Nsec3Lemmas::params_back))]
@@ -27,15 +26,16 @@ pub fn nsec3param_parses_back<O: Octets>(value: &Nsec3param<O>)
 
 /// The octets of NSEC3 data are read as these fields, the last a type bitmap, in no other way, and
 /// nothing is left.
+#[tactic(auto, using(crate::proofs::Nsec3Lemmas::nsec3_back))]
 pub fn nsec3_parses_back<O: Octets>(value: &Nsec3<O>)
     ensures { Nsec3ParsesBack (nsec3_values value.now) }
 {
     let _fields = value.fields();
-    let _types = value.types().as_slice();
 }
 
 /// Tokens begin with parameters, or with parameters and a hash, in one way at most: the values and
 /// the tokens that are left are determined.
+#[tactic(auto, using(crate::proofs::TextLemmas::params_once, crate::proofs::TextLemmas::hashes_once))]
 pub fn hashes_are_spelled_once()
     ensures params { (old m n : Tokens) (v w : Values nsec3param) → Nsec3paramText old v m
         → Nsec3paramText old w n → v ≡ w }
@@ -75,7 +75,6 @@ pub fn nsec3param_reads_back<O: Octets>(value: &Nsec3param<O>)
         (nsec3param_values value.now) [] }
 {
     let _fields = value.fields();
-    slices_hold_octets(value.salt().as_slice());
 }
 
 /// The words of what NSEC3 data with a hash of one octet or more are written as spell the same
@@ -89,7 +88,4 @@ pub fn nsec3_reads_back<O: Octets>(value: &Nsec3<O>)
         → Nsec3Text (words_of (nsec3_text (nsec3_values value.now))) (nsec3_values value.now) [] }
 {
     let _fields = value.fields();
-    let _types = value.types().as_slice();
-    slices_hold_octets(value.salt().as_slice());
-    slices_hold_octets(value.next_owner().as_slice());
 }

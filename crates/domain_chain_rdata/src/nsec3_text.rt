@@ -5,8 +5,8 @@ ghost use Rattle.domain_bitmap.specs.Blocks.{types_of};
 ghost use Rattle.domain_bitmap.specs.Text.{spaced_types};
 ghost use Rattle.domain_chain_rdata.specs.OptOut.{opt_out_comment};
 ghost use Rattle.domain_fields.specs.Layout.{Fits};
-ghost use Rattle.domain_chain_rdata.specs.Rdata.{nsec3, nsec3_values, nsec3param_values};
-ghost use Rattle.domain_chain_rdata.specs.Nsec3Text.{HashText, RefusesHash, Nsec3Text, RefusesNsec3, params_before_hash, nsec3_text, nsec3_pieces};
+ghost use Rattle.domain_chain_rdata.specs.Rdata.{nsec3, nsec3_values};
+ghost use Rattle.domain_chain_rdata.specs.Nsec3Text.{Nsec3Text, RefusesNsec3, params_before_hash, nsec3_text, nsec3_pieces};
 
 use crate::nsec3param::HashNumbers;
 use crate::nsec3param_text::write_numbers;
@@ -18,27 +18,6 @@ use domain_octets::{
 };
 use std::alloc::Global;
 use std::fmt;
-
-/// The parameters and the hash that the tokens begin with.
-fn scan_hash<O: FromBuilder + Drop, S: Scanner<Octets = O>>(
-    alloc: Global,
-    scanner: &mut S,
-) -> Result<(Nsec3param<O>, OwnerHash<O>), ScanError>
-    ensures ok { IfOk result (λ v.
-        HashText (S.tokens scanner.old) (nsec3param_values v.0, v.1) (S.tokens scanner.new)) }
-    ensures err { IfErr result (λ e.
-        RefusesHash O.Builder.limit (S.tokens scanner.old) (S.tokens scanner.new)
-        (scan_fault_of e)) }
-{
-    let params = match Nsec3param::scan(alloc, scanner) {
-        Ok(params) => params,
-        Err(error) => return Err(error),
-    };
-    match OwnerHash::scan(alloc, scanner) {
-        Ok(next_owner) => Ok((params, next_owner)),
-        Err(error) => Err(error),
-    }
-}
 
 impl<O: FromBuilder + Drop> Nsec3<O>
 where
@@ -62,18 +41,12 @@ where
             RefusesNsec3 O.Builder.limit (S.tokens scanner.old) (S.tokens scanner.new)
             (scan_fault_of e)) }
     {
-        let (params, next_owner) = match scan_hash(alloc, scanner) {
-            Ok(hashed) => hashed,
-            Err(error) => return Err(error),
-        };
-        match RtypeBitmap::scan(alloc, scanner) {
-            Ok(types) => {
-                let data = Nsec3::of_params(params, next_owner, types);
-                let _fields = data.fields();
-                Ok(data)
-            }
-            Err(error) => Err(error),
-        }
+        let params = Nsec3param::scan(alloc, scanner)?;
+        let next_owner = OwnerHash::scan(alloc, scanner)?;
+        let types = RtypeBitmap::scan(alloc, scanner)?;
+        let data = Nsec3::of_params(params, next_owner, types);
+        let _fields = data.fields();
+        Ok(data)
     }
 }
 
@@ -109,7 +82,7 @@ impl<'a, O: Octets> fmt::Display for AfterSpaces<'a, O> {
 
 /// The parameters that a zone should have, as they are written before a hash: SHA-1, with opt-out
 /// or not, no iterations and no salt (RFC 9276, section 3.1).
-#[tactic(auto, using(crate::proofs::Nsec3TextLemmas::usual_text))]
+#[tactic(auto, using(crate::proofs::TextLemmas::usual_text))]
 fn usual_params(numbers: HashNumbers, salt: &[u8]) -> Option<&'static str>
     ensures { IfSome result (λ text. text.now ≡ params_before_hash numbers salt.now) }
 {
@@ -150,19 +123,6 @@ impl<O: Octets> fmt::Display for Nsec3<O> {
         let params = BeforeHash(self.numbers(), self.salt());
         let types = AfterSpaces(self.types());
         write!(f, "{params}{}{types}", self.next_owner())
-    }
-}
-
-impl<O: Octets> fmt::Debug for Nsec3<O> {
-    fn fmt<W: fmt::Write>(&self, f: &mut fmt::Formatter<W>) -> fmt::Result {
-        f.debug_struct("Nsec3")
-            .field("hash_algorithm", &self.hash_algorithm())
-            .field("flags", &self.flags())
-            .field("iterations", &self.iterations())
-            .field("salt", self.salt())
-            .field("next_owner", self.next_owner())
-            .field("types", self.types())
-            .finish()
     }
 }
 

@@ -11,7 +11,7 @@ ghost use Rattle.domain_fields.specs.Layout.{Begins, Fits, FirstFault, GoesOn};
 ghost use Rattle.domain_fields.specs.Laws.{fed_alike, tied_octets};
 ghost use Rattle.domain_fields.specs.DataClone.{copies_tied};
 ghost use Rattle.domain_chain_rdata.specs.OptOut.{is_opt_out, with_opt_out};
-ghost use Rattle.domain_chain_rdata.specs.Rdata.{hash_numbers, nsec3param, nsec3param_values, nsec3param_octets, uncounted, uncounted_octets};
+ghost use Rattle.domain_chain_rdata.specs.Rdata.{nsec3param, nsec3param_values, nsec3param_octets, uncounted, uncounted_octets};
 
 use domain_base::{CanonicalOrd, Nsec3HashAlgorithm, Rtype};
 use domain_bitmap::Nsec3Salt;
@@ -31,6 +31,7 @@ const OPT_OUT: u8 = 0x01;
 
 /// How the names of a zone are hashed (RFC 5155, section 4).
 #[derive(Drop)]
+#[derive_where(Debug)]
 pub struct Nsec3param<O: Octets> {
     hash_algorithm: Nsec3HashAlgorithm,
     flags: u8,
@@ -162,9 +163,7 @@ impl<O: Octets> Nsec3param<O> {
 
     /// The fields but the salt.
     pub(crate) fn numbers(&self) -> HashNumbers
-        ensures value { result ≡ (self.now.hash_algorithm, (self.now.flags, self.now.iterations)) }
-        ensures fits { Fits hash_numbers
-            (self.now.hash_algorithm, (self.now.flags, self.now.iterations)) }
+        ensures { result ≡ (nsec3param_values self.now).0 }
     {
         (
             self.hash_algorithm().to_int(),
@@ -174,11 +173,7 @@ impl<O: Octets> Nsec3param<O> {
 
     /// The fields, in the order of the wire.
     pub(crate) fn fields(&self) -> ParamFields<'_>
-        ensures numbers { result.0 ≡ (
-          self.now.hash_algorithm,
-          (self.now.flags, self.now.iterations),
-        ) }
-        ensures salt { result.1.octets.now ≡ self.now.salt }
+        ensures values { nsec3param_values self.now ≡ (result.0, result.1.octets.now) }
         ensures fits { Fits nsec3param (nsec3param_values self.now) }
     {
         let salt = self.salt.as_slice();
@@ -188,16 +183,11 @@ impl<O: Octets> Nsec3param<O> {
 
     /// The numbers, and the octets of the salt.
     fn uncounted(&self) -> (HashNumbers, Rest<'_>)
-        ensures numbers { result.0 ≡ (
-          self.now.hash_algorithm,
-          (self.now.flags, self.now.iterations),
-        ) }
-        ensures salt { result.1.0.now ≡ self.now.salt }
+        ensures values { nsec3param_values self.now ≡ (result.0, result.1.0.now) }
         ensures fits { Fits uncounted (nsec3param_values self.now) }
     {
-        let salt = self.salt.as_slice();
-        laws::slices_hold_octets(salt);
-        (self.numbers(), Rest(salt))
+        let (numbers, salt) = self.fields();
+        (numbers, Rest(salt.as_slice()))
     }
 }
 

@@ -2,8 +2,7 @@
 ghost use Rattle.std.specs.Prelude.{◌≡◌, ◌++◌, Some, IfOk, IfErr, OnOk};
 ghost use Rattle.domain_names.specs.TextFault.{scan_fault_of};
 ghost use Rattle.domain_fields.specs.Layout.{Fits};
-ghost use Rattle.domain_fields.specs.Scan.{Scans, Refuses};
-ghost use Rattle.domain_chain_rdata.specs.Rdata.{hash_numbers, nsec3param, nsec3param_values};
+ghost use Rattle.domain_chain_rdata.specs.Rdata.{nsec3param, nsec3param_values};
 ghost use Rattle.domain_chain_rdata.specs.Nsec3paramText.{Nsec3paramText, RefusesNsec3param, hash_numbers_text, nsec3param_text, number_pieces, nsec3param_pieces};
 
 use crate::Nsec3param;
@@ -14,17 +13,6 @@ use domain_fields::ScanFields;
 use domain_octets::{Formatter, FromBuilder, Octets, OutOfMemory, ZonefileFmt};
 use std::alloc::Global;
 use std::fmt;
-
-/// Hash algorithm, flags and iterations, one token each.
-fn scan_numbers<S: Scanner>(alloc: Global, scanner: &mut S) -> Result<HashNumbers, ScanError>
-    ensures ok { IfOk result (λ v.
-        Scans hash_numbers (S.tokens scanner.old) v (S.tokens scanner.new)) }
-    ensures err { IfErr result (λ e.
-        Refuses S.Octets.Builder.limit hash_numbers (S.tokens scanner.old) (S.tokens scanner.new)
-        (scan_fault_of e)) }
-{
-    <HashNumbers as ScanFields<S>>::scan(alloc, scanner)
-}
 
 impl<O: FromBuilder + Drop> Nsec3param<O> {
     /// The data that the tokens begin with: hash algorithm, flags and iterations in decimal, and
@@ -41,19 +29,13 @@ impl<O: FromBuilder + Drop> Nsec3param<O> {
             RefusesNsec3param O.Builder.limit (S.tokens scanner.old) (S.tokens scanner.new)
             (scan_fault_of e)) }
     {
-        let (hash_algorithm, (flags, iterations)) = match scan_numbers(alloc, scanner) {
-            Ok(numbers) => numbers,
-            Err(error) => return Err(error),
-        };
+        let numbers = <HashNumbers as ScanFields<S>>::scan(alloc, scanner)?;
+        let (hash_algorithm, (flags, iterations)) = numbers;
         let hash_algorithm = Nsec3HashAlgorithm::from_int(hash_algorithm);
-        match Nsec3Salt::scan(alloc, scanner) {
-            Ok(salt) => {
-                let data = Nsec3param::new(hash_algorithm, flags, iterations, salt);
-                let _fields = data.fields();
-                Ok(data)
-            }
-            Err(error) => Err(error),
-        }
+        let salt = Nsec3Salt::scan(alloc, scanner)?;
+        let data = Nsec3param::new(hash_algorithm, flags, iterations, salt);
+        let _fields = data.fields();
+        Ok(data)
     }
 }
 
@@ -66,17 +48,6 @@ impl<O: Octets> fmt::Display for Nsec3param<O> {
         let (hash_algorithm, (flags, iterations)) = self.numbers();
         let salt = self.salt();
         write!(f, "{hash_algorithm} {flags} {iterations} {salt}")
-    }
-}
-
-impl<O: Octets> fmt::Debug for Nsec3param<O> {
-    fn fmt<W: fmt::Write>(&self, f: &mut fmt::Formatter<W>) -> fmt::Result {
-        f.debug_struct("Nsec3param")
-            .field("hash_algorithm", &self.hash_algorithm())
-            .field("flags", &self.flags())
-            .field("iterations", &self.iterations())
-            .field("salt", self.salt())
-            .finish()
     }
 }
 

@@ -11,16 +11,16 @@ ghost use Rattle.domain_chain_rdata.specs.{NsecWire.NsecParsesBack, Rdata.nsec_v
 
 use crate::Nsec;
 use domain_base::ToName;
+use domain_fields::Fields;
 use domain_octets::Octets;
-use domain_octets::laws::slices_hold_octets;
 
 /// The octets of NSEC data are read as this name and this type bitmap, in no other way, and nothing
 /// is left.
+#[tactic(auto, using(crate::proofs::NsecLemmas::nsec_back))]
 pub fn nsec_parses_back<O: Octets, N: ToName>(value: &Nsec<O, N>)
     ensures { NsecParsesBack (nsec_values N.labels value.now) }
 {
-    let _next_name = value.next_name().as_wire();
-    slices_hold_octets(value.types().as_slice());
+    value.fields().fits();
 }
 
 /// The words of what NSEC data are written as spell the same name and the same types. They spell
@@ -35,8 +35,7 @@ pub fn nsec_reads_back<O: Octets, N: ToName>(value: &Nsec<O, N>)
         ++ types_text (types_of value.now.types))) (N.labels value.now.next_name)
         value.now.types [] }
 {
-    let _next_name = value.next_name().as_wire();
-    let _types = value.types().as_slice();
+    value.fields().fits();
 }
 
 /// Tokens that are refused as NSEC data, but for want of room or of memory, spell none, over

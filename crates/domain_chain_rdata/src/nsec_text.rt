@@ -35,10 +35,8 @@ where
             (S.tokens scanner.new) (scan_fault_of e)) }
     {
         let next_name = scanner.scan_name(alloc)?;
-        match RtypeBitmap::scan(alloc, scanner) {
-            Ok(types) => Ok(Nsec::new(next_name, types)),
-            Err(error) => Err(error),
-        }
+        let types = RtypeBitmap::scan(alloc, scanner)?;
+        Ok(Nsec::new(next_name, types))
     }
 }
 
@@ -52,15 +50,6 @@ impl<O: Octets, N: ToName> fmt::Display for Nsec<O, N> {
         let next_name = self.next_name().fmt_with_dot();
         let types = self.types();
         write!(f, "{next_name} {types}")
-    }
-}
-
-impl<O: Octets, N: fmt::Debug> fmt::Debug for Nsec<O, N> {
-    fn fmt<W: fmt::Write>(&self, f: &mut fmt::Formatter<W>) -> fmt::Result {
-        f.debug_struct("Nsec")
-            .field("next_name", self.next_name())
-            .field("types", self.types())
-            .finish()
     }
 }
 

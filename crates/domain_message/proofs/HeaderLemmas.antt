@@ -27,46 +27,17 @@ cut_behind message at owner end fault owned inside said cut =
     cut_numbers owner end owned (omega (arith, length-drop end message)) said
 
 -- one header stands at a place, and none where it has a fault
-pub record SameHeader (owner other : Name) (rtype class ttl count place rtype' class' ttl' count' place' : ℕ) : Type 0 where
-  pub owners : owner ≡ other
-  pub rtypes : rtype ≡ rtype'
-  pub classes : class ≡ class'
-  pub ttls : ttl ≡ ttl'
-  pub counts : count ≡ count'
-  pub places : place ≡ place'
-
-pub one_header : (message : List ℕ) (at : ℕ) (owner other : Name) (rtype class ttl count place rtype' class' ttl' count' place' : ℕ)
-    → HeaderAt message at owner rtype class ttl count place → HeaderAt message at other rtype' class' ttl' count' place'
-    → SameHeader owner other rtype class ttl count place rtype' class' ttl' count' place'
-one_header message at owner other rtype class ttl count place rtype' class' ttl' count' place' x y =
+pub one_header : (message : List ℕ) (at : ℕ) (owner other : Name) (v w : Values numbers) (place place' : ℕ) → HeaderAt message at owner v place
+    → HeaderAt message at other w place' → (owner ≡ other) × (v ≡ w) × (place ≡ place')
+one_header message at owner other v w place place' x y =
     let names = one_name message at owner other x.owner_end y.owner_end x.owned y.owned in
-    let read =
-    one_reading numbers (drop x.owner_end message) _ _ x.behind y.behind refl
-    x.numbered (subst (λ e. Begins numbers (drop e message) (rtype', (class', (ttl', count'))) y.behind) (sym names.1) y.numbered) in
-    record {
-      owners = names.0;
-      rtypes = ap (λ v. v.0) read.0;
-      classes = ap (λ v. v.1.0) read.0;
-      ttls = ap (λ v. v.1.1.0) read.0;
-      counts = ap (λ v. v.1.1.1) read.0;
-      places = x.place_is ∙ ap (λ e. e + 10) names.1 ∙ sym y.place_is;
-    }
+    let read = one_reading numbers (drop x.owner_end message) v w x.behind y.behind refl x.numbered
+    (subst (λ e. Begins numbers (drop e message) w y.behind) (sym names.1) y.numbered) in
+    (names.0, read.0, x.place_is ∙ ap (λ e. e + 10) names.1 ∙ sym y.place_is)
 
-pub no_header : (message : List ℕ) (at : ℕ) (owner : Name) (rtype class ttl count place : ℕ) (fault : NameFault)
-    → HeaderAt message at owner rtype class ttl count place → HeaderFault message at fault → ⊥
-no_header message at owner rtype class ttl count place fault x (in_owner why) = no_fault message at owner x.owner_end fault x.owned why
-no_header message at owner rtype class ttl count place fault x (cut_numbers other end owned cut said) =
+pub no_header : (message : List ℕ) (at : ℕ) (owner : Name) (v : Values numbers) (place : ℕ) (fault : NameFault)
+    → HeaderAt message at owner v place → HeaderFault message at fault → ⊥
+no_header message at owner v place fault x (in_owner why) = no_fault message at owner x.owner_end fault x.owned why
+no_header message at owner v place fault x (cut_numbers other end owned cut said) =
     let names = one_name message at owner other x.owner_end end x.owned owned in
-    omega (
-      arith,
-      names.1,
-      cut,
-      length-drop x.owner_end message,
-      begins_count (drop x.owner_end message) (
-        rtype,
-        (
-          class,
-          (ttl, count),
-        ),
-      ) x.behind x.numbered,
-    )
+    omega (arith, names.1, cut, length-drop x.owner_end message, begins_count (drop x.owner_end message) v x.behind x.numbered)

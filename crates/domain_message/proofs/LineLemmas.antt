@@ -2,11 +2,20 @@
 use Rattle.std.{proofs.Common.{ℕ, refl, sym, subst, ◌≡◌, ◌↔◌, IsTrue, false, List, [], ◌∷◌, Result, IfErr}, specs.Prelude.{Bool, Option}}
 use Rattle.domain_octets.specs.{Line.words_of, Words.Octets}
 use Rattle.domain_names.specs.Words.{Name}
-use Rattle.domain_message.{specs.{Entry.{RefusesEntry, RefusesLine, in_entry, IsNoEntry}, declared.line.LineError.LineError}, proofs.RecordLemmas.on_err}
+use Rattle.domain_message.{specs.Entry.{RefusesHead, RefusesEntry, RefusesLine, in_entry, IsNoEntry}, proofs.RecordLemmas.on_err}
+use Rattle.domain_message.specs.declared.line.LineError.{LineError, TheVariants.{RecordData, Trailing}}
 
 pub none_left : (tokens : List (List ℕ)) (more : Bool) → IsTrue more ↔ (tokens ≡ [] → ⊥) → more ≡ false → tokens ≡ []
 none_left [] more test off = refl
 none_left (token ∷ tokens) more test off = absurd (let on = test.1 (λ e. cc) in cc)
+
+-- what is refused of the first four tokens is of the entry
+pub in_head : {O N : Type 0} (octets : O → Octets) (labels : N → Name) (limit : Option ℕ) (tokens : List (List ℕ)) (e : LineError)
+    → RefusesHead limit tokens e → RefusesEntry octets labels limit tokens e
+unfolding RefusesEntry
+in_head octets labels limit tokens (RecordData e) why = absurd why
+in_head octets labels limit tokens Trailing why = absurd why
+in_head octets labels limit tokens _ why = why
 
 pub line_refused : {O N X : Type 0} (octets : O → Octets) (labels : N
     → Name) (limit : Option ℕ) (line : List ℕ) (seen tokens : List (List ℕ))

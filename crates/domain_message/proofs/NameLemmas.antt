@@ -3,7 +3,7 @@ use Rattle.std.proofs.lemmas.Grind.{common_steps}
 use Rattle.std.proofs.Common.{◌≡◌, ℕ, ◌+◌, ◌-◌, ◌*◌, ◌<◌, ◌≤◌, List, [], ◌∷◌, ◌++◌, length, get_or, take, drop, refl, sym, ap, subst, ◌∙◌, arith, length-append}
 use Rattle.std.proofs.lemmas.List.{append-nil, append_assoc, take-append-drop, drop_more, drop_all, length-drop, length-take-le}
 use Rattle.std.{proofs.lemmas.List.Elements.{All-take, All-drop}, specs.{Prelude.{All, Option, Some, None}, List.AllByRecursion}}
-use Rattle.domain_names.specs.{Name.{wire_of, IsLabel}, Words.Name}
+use Rattle.domain_names.{specs.{Name.{wire_of, IsLabel}, Words.Name}, proofs.WireLemmas.{IsWire-wire_of, labels_of-wire_of}}
 use Rattle.domain_message.specs.Name.{labels_octets, pointer_octets, RunAt, LabelsAt, in_full, pointed}
 use Rattle.domain_message.specs.Fault.{EndFault, no_octet, half_pointer, bad_type, not_backward, long_name, cut_label, LabelsFault, here, beyond}
 use Rattle.domain_message.specs.{Steps.{LabelsBetween, EndsWith, RunRead, LabelsRead}, declared.name.NameFault.NameFault}
@@ -199,3 +199,6 @@ pub end_fault_here : (message : List ℕ) (start used at : ℕ) (fault : NameFau
     → ((read : ℕ) → EndFault start read (drop at message) fault) → LabelsFault message start used fault
 end_fault_here message start used at fault between found =
     here start used between.labels (drop at message) fault between.run between.room (found (used + length (labels_octets between.labels)))
+
+-- the octets of a name that were read are made a name
+pub ruleset wire_steps = (IsWire-wire_of, labels_of-wire_of)

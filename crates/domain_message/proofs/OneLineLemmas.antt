@@ -5,12 +5,7 @@ use Rattle.domain_base.{specs.{Numbers.{ClassText, TypeText}, Scan.{TakesToken, 
 use Rattle.domain_names.{specs.{Text.NameText, Words.{Name, Token, Tokens}}, proofs.SpellingLemmas.one_name}
 use Rattle.domain_record.specs.declared.record.Record.{Record}
 use Rattle.domain_rdata.{proofs.ScanLemmas.text_once, specs.{Scan.RdataText, Zone.rtype_of, declared.zone_record_data.ZoneRecordData.ZoneRecordData}}
-use Rattle.domain_message.specs.{Alike.AreAlike, Entry.{EntryText, LineText}}
-
--- a token that is taken is told from the tokens
-taken_once : {V : Type 0} (P : Token → V → Type 0) → ((t : Token) (v w : V) → P t v → P t w → v ≡ w) → (v w : V) (old other m n : Tokens)
-    → old ≡ other → TakesToken (λ t. P t v) old m → TakesToken (λ t. P t w) other n → (v ≡ w) × (m ≡ n)
-taken_once P once v w old other m n same x y = grind (arith, common_steps)
+use Rattle.domain_message.specs.{Alike.AreAlike, Entry.{HeadTaken, EntryText, LineText}}
 
 same_number : (text : Token) (m n : ℕ) → IsNumber 32 text m → IsNumber 32 text n → m ≡ n
 same_number text m n p q = p.value ∙ sym q.value
@@ -21,6 +16,11 @@ same_class text m n p q = one_named _ _ text m n p q
 same_type : (text : Token) (m n : ℕ) → TypeText text m → TypeText text n → m ≡ n
 same_type text m n p q = one_named _ _ text m n p q
 
+-- the first four tokens, and what follows them
+head_once : (owner other : Name) (ttl class rtype ttl' class' rtype' : ℕ) (tokens m n : Tokens) → HeadTaken owner ttl class rtype tokens m
+    → HeadTaken other ttl' class' rtype' tokens n → (owner ≡ other) × (ttl ≡ ttl') × (class ≡ class') × (rtype ≡ rtype') × (m ≡ n)
+head_once owner other ttl class rtype ttl' class' rtype' tokens m n x y = grind (arith, common_steps, one_name, same_number, same_class, same_type)
+
 module _ {O N : Type 0} (octets : O → Octets) (labels : N → Name) where
   text_type : (rtype : ℕ) (old new : Tokens) (d : ZoneRecordData O N) → RdataText octets labels rtype old d new → rtype_of d ≡ rtype
   text_type rtype old new d h = grind (arith, common_steps)
@@ -28,23 +28,14 @@ module _ {O N : Type 0} (octets : O → Octets) (labels : N → Name) where
   one_entry : (tokens : Tokens) (r s : Record N (ZoneRecordData O N)) → EntryText octets labels tokens r → EntryText octets labels tokens s
       → AreAlike octets labels r s
   one_entry tokens r s x y =
-      let owner = taken_once NameText one_name _ _ tokens tokens x.head.behind_owner y.head.behind_owner refl
-      x.head.owned y.head.owned in
-      let ttl = taken_once _ same_number _ _ x.head.behind_owner y.head.behind_owner x.head.behind_ttl y.head.behind_ttl
-      owner.1 x.head.timed y.head.timed in
-      let class = taken_once ClassText same_class _ _ x.head.behind_ttl y.head.behind_ttl x.head.behind_class
-      y.head.behind_class ttl.1 x.head.classed y.head.classed in
-      let rtype = taken_once TypeText same_type _ _ x.head.behind_class y.head.behind_class x.data_tokens y.data_tokens
-      class.1 x.head.typed y.head.typed in
-      let other = subst (λ t. RdataText octets labels t x.data_tokens s.«data» []) (sym rtype.0)
-      (subst (λ ws. RdataText octets labels y.rtype ws s.«data» []) (sym rtype.1) y.spelled) in
+      let same = head_once _ _ _ _ _ _ _ _ tokens _ _ x.head y.head in
+      let other = subst (λ t. RdataText octets labels t x.data_tokens s.«data» []) (sym same.3)
+      (subst (λ ws. RdataText octets labels y.rtype ws s.«data» []) (sym same.4) y.spelled) in
       record {
-        owners = owner.0;
-        classes = class.0;
-        ttls = ttl.0;
-        types =
-            text_type _ _ [] r.«data» x.spelled ∙ rtype.0
-            ∙ sym (text_type _ _ [] s.«data» y.spelled);
+        owners = same.0;
+        classes = same.2;
+        ttls = same.1;
+        types = text_type _ _ [] r.«data» x.spelled ∙ sym (text_type _ _ [] s.«data» other);
         wires = (text_once octets labels _ _ [] [] r.«data» s.«data» x.spelled other).1;
       }
 

@@ -9,6 +9,7 @@ use Rattle.domain_record.specs.declared.record.Record.{Record}
 use Rattle.domain_rdata.specs.{Scan.AreData, Zone.{rtype_of, wire_octets}, declared.zone_record_data.ZoneRecordData.ZoneRecordData}
 use Rattle.domain_rdata.specs.declared.zone_record_data.ZoneRecordData.TheVariants.{A, Ns, Soa, Mx, Dnskey, Ds, Rrsig, Nsec, Nsec3, Nsec3param, Unknown}
 use Rattle.domain_message.specs.{Data.{PartsAt, DataAt, OctetsAt}, Header.numbers, Record.RecordAt, Written.{HasExactWire, record_octets}}
+use Rattle.domain_message.specs.declared.parts.Part.{Part}
 use Rattle.domain_message.specs.declared.parts.Part.TheVariants as part
 use Rattle.domain_message.proofs.OneNameLemmas.{in_full_at}
 
@@ -31,24 +32,19 @@ module _ (message : List ℕ) where
       → PartsAt message (part.Name ∷ []) at (wire_of name) end
   name_parts at name rest end valid is end_is = grind (arith, common_steps, in_full_at)
 
+  name_then : (at : ℕ) (name : Name) (rest back : List ℕ) (parts : List Part) (end : ℕ) → IsName name → drop at message ≡ wire_of name ++ rest
+      → PartsAt message parts (at + length (wire_of name)) back end → PartsAt message (part.Name ∷ parts) at (wire_of name ++ back) end
+  name_then at name rest back parts end valid is more =
+      (wire_of name, back, at + length (wire_of name), (name, in_full_at message at name rest valid is, refl), more, refl)
+
   exchange_parts : (at : ℕ) (preference : List ℕ) (name : Name) (rest : List ℕ) → at ≤ length message → length preference ≡ 2 → IsName name
       → drop at message ≡ (preference ++ wire_of name) ++ rest
       → PartsAt message (part.Plain 2 ∷ part.Name ∷ []) at (preference ++ wire_of name) (at + length (preference ++ wire_of name))
   exchange_parts at preference name rest within two valid is =
       let joined : drop at message ≡ preference ++ (wire_of name ++ rest) = is ∙ append_assoc preference _ rest in
-      let next : drop (at + 2) message ≡ wire_of name ++ rest =
-      subst (λ n. drop (at + n) message ≡ wire_of name ++ rest) two (past at preference (wire_of name ++ rest) joined) in (
-        preference,
-        wire_of name,
-        at + 2,
-        octets_stand at 2 preference (wire_of name ++ rest) within two joined,
-        name_parts _ name rest _ valid next (omega (
-          arith,
-          two,
-          length-append preference (wire_of name),
-        )),
-        refl,
-      )
+      let next = subst (λ n. drop (at + n) message ≡ wire_of name ++ rest) two (past at preference (wire_of name ++ rest) joined) in
+      let end_is : at + length (preference ++ wire_of name) ≡ at + 2 + length (wire_of name) = omega (arith, two, length-append preference (wire_of name)) in
+      (preference, wire_of name, at + 2, octets_stand at 2 preference _ within two joined, name_parts (at + 2) name rest _ valid next end_is, refl)
 
   start_parts : (at : ℕ) (m r : Name) (numbers rest : List ℕ) → at ≤ length message → length numbers ≡ 20 → IsName m → IsName r
       → drop at message ≡ ((wire_of m ++ wire_of r) ++ numbers) ++ rest
@@ -58,32 +54,15 @@ module _ (message : List ℕ) where
       let joined : drop at message ≡ wire_of m ++ (wire_of r ++ (numbers ++ rest)) =
       is ∙ append_assoc _ numbers rest ∙ append_assoc (wire_of m) (wire_of r) (numbers ++ rest) in
       let second = past at (wire_of m) (wire_of r ++ (numbers ++ rest)) joined in
-      let third = past _ _ _ second in
-      let within_second = within_past at (wire_of m) (wire_of r ++ (numbers ++ rest)) within joined in
-      let within_third = within_past _ _ _ within_second second in
-      let end_is : at + length ((wire_of m ++ wire_of r) ++ numbers) ≡ at + length (wire_of m) + length (wire_of r) + 20 =
-      omega (arith, twenty, length-append (wire_of m ++ wire_of r) numbers, length-append (wire_of m) (wire_of r)) in (
-        wire_of m,
-        wire_of r ++ numbers,
-        at + length (wire_of m),
-        (m, in_full_at message at m (wire_of r ++ (numbers ++ rest)) m_is joined, refl),
-        (
-          wire_of r,
-          numbers,
-          at + length (wire_of m) + length (wire_of r),
-          (r, in_full_at message _ r _ r_is second, refl),
-          (
-            numbers,
-            [],
-            at + length (wire_of m) + length (wire_of r) + 20,
-            octets_stand _ 20 numbers rest within_third twenty third,
-            (refl, end_is),
-            sym (append-nil numbers),
-          ),
-          refl,
-        ),
-        append_assoc _ _ numbers,
-      )
+      let within_third = within_past _ (wire_of r) (numbers ++ rest) (within_past at (wire_of m) _ within joined) second in
+      let last = octets_stand _ 20 numbers rest within_third twenty (past _ (wire_of r) (numbers ++ rest) second) in
+      let end = at + length (wire_of m ++ (wire_of r ++ numbers)) in
+      let end_is : end ≡ at + length (wire_of m) + length (wire_of r) + 20 =
+      omega (arith, twenty, length-append (wire_of m) (wire_of r ++ numbers), length-append (wire_of r) numbers) in
+      let ends : PartsAt message (part.Plain 20 ∷ []) (at + length (wire_of m) + length (wire_of r)) numbers end =
+      (numbers, [], at + length (wire_of m) + length (wire_of r) + 20, last, (refl, end_is), sym (append-nil numbers)) in
+      let later = name_then _ r (numbers ++ rest) numbers (part.Plain 20 ∷ []) end r_is second ends in
+      rw (append_assoc (wire_of m) (wire_of r) numbers) (name_then at m _ _ (part.Name ∷ part.Plain 20 ∷ []) end m_is joined later)
 
 module _ {O N : Type 0} (octets : O → Octets) (labels : N → Name) (message : List ℕ) (place : ℕ) (after : List ℕ)
     (within : place ≤ length message) where

@@ -3,7 +3,7 @@
 use Rattle.std.specs.Prelude.{◌≡◌, ◌≢◌, ℕ, Option, [], ◌∷◌, slice_index}
 use Rattle.domain_octets.specs.{Characters.semicolon, Line.words_of, Words.Octets}
 use Rattle.domain_base.specs.{Numbers.{ClassText, TypeText, IsNoClass, IsNoType}, Scan.{TakesToken, RefusesToken, IsNumber, IsNoNumber}}
-use Rattle.domain_names.specs.{TextFault.{NameTextFault, scan_fault_of}, Text.NameText, Words.{Name, Tokens}, declared.error.ScanError.ScanError}
+use Rattle.domain_names.specs.{TextFault.{NameTextFault, scan_fault_of}, Text.NameText, Words.{Name, Tokens}}
 use Rattle.domain_record.specs.declared.record.Record.{Record}
 use Rattle.domain_rdata.specs.{Refusal.RefusesRdata, Scan.RdataText, declared.zone_record_data.ZoneRecordData.ZoneRecordData}
 use Rattle.domain_message.specs.declared.line.LineError.{LineError, TheVariants.{NoEntry, Owner, Ttl, Class, Rtype, RecordData, Trailing, OutOfMemory}}
@@ -51,34 +51,33 @@ pub record LineText {O N : Type 0} (octets : O → Octets) (labels : N → Name)
   pub spelled : EntryText octets labels (words_of line) r
 
 -- why the first four tokens are no owner, TTL, class and type
-pub data RefusesHead (limit : Option ℕ) (tokens : Tokens) (error : LineError) : Type 0 where
-  at_owner : (left : Tokens) (e : ScanError)
-      → RefusesToken (NameTextFault limit) tokens left (scan_fault_of e) → error ≡ Owner e
-      → RefusesHead limit tokens error
-  at_ttl : (owner : Name) (behind left : Tokens) (e : ScanError) → OwnerTaken owner tokens behind
-      → RefusesToken (IsNoNumber 32) behind left (scan_fault_of e) → error ≡ Ttl e
-      → RefusesHead limit tokens error
-  at_class : (owner : Name) (ttl : ℕ) (between behind left : Tokens) (e : ScanError)
-      → OwnerTaken owner tokens between → TtlTaken ttl between behind
-      → RefusesToken IsNoClass behind left (scan_fault_of e) → error ≡ Class e
-      → RefusesHead limit tokens error
-  at_type : (owner : Name) (ttl class : ℕ) (first second behind left : Tokens) (e : ScanError)
-      → OwnerTaken owner tokens first → TtlTaken ttl first second → ClassTaken class second behind
-      → RefusesToken IsNoType behind left (scan_fault_of e) → error ≡ Rtype e
-      → RefusesHead limit tokens error
+abbrev pub RefusesHead : Option ℕ → Tokens → LineError → Type 0
+RefusesHead limit tokens (Owner e) =
+    (left : Tokens) × RefusesToken (NameTextFault limit) tokens left (scan_fault_of e)
+RefusesHead limit tokens (Ttl e) =
+    (owner : Name) × (behind left : Tokens) × OwnerTaken owner tokens behind
+    × RefusesToken (IsNoNumber 32) behind left (scan_fault_of e)
+RefusesHead limit tokens (Class e) =
+    (owner : Name) × (ttl : ℕ) × (between behind left : Tokens) × OwnerTaken owner tokens between
+    × TtlTaken ttl between behind × RefusesToken IsNoClass behind left (scan_fault_of e)
+RefusesHead limit tokens (Rtype e) =
+    (owner : Name) × (ttl class : ℕ) × (first second behind left : Tokens)
+    × OwnerTaken owner tokens first × TtlTaken ttl first second × ClassTaken class second behind
+    × RefusesToken IsNoType behind left (scan_fault_of e)
+RefusesHead limit tokens _ = ⊥
 
 -- why tokens spell no record: one of the first four, their data, or tokens behind the data
-pub data RefusesEntry {O N : Type 0} (octets : O → Octets) (labels : N → Name) (limit : Option ℕ)
-    (tokens : Tokens) (error : LineError) : Type 0 where
-  in_head : RefusesHead limit tokens error → RefusesEntry octets labels limit tokens error
-  in_data : (owner : Name) (ttl class rtype : ℕ) (after left : Tokens) (e : ScanError)
-      → HeadTaken owner ttl class rtype tokens after
-      → RefusesRdata limit rtype after left (scan_fault_of e) → error ≡ RecordData e
-      → RefusesEntry octets labels limit tokens error
-  behind_data : (owner : Name) (ttl class rtype : ℕ) (after left : Tokens)
-      (d : ZoneRecordData O N) → HeadTaken owner ttl class rtype tokens after
-      → RdataText octets labels rtype after d left → left ≢ [] → error ≡ Trailing
-      → RefusesEntry octets labels limit tokens error
+unfoldable pub RefusesEntry : {O N : Type 0} → (O → Octets) → (N → Name) → Option ℕ → Tokens
+    → LineError → Type 0
+RefusesEntry octets labels limit tokens (RecordData e) =
+    (owner : Name) × (ttl class rtype : ℕ) × (after left : Tokens)
+    × HeadTaken owner ttl class rtype tokens after
+    × RefusesRdata limit rtype after left (scan_fault_of e)
+RefusesEntry {O} {N} octets labels limit tokens Trailing =
+    (owner : Name) × (ttl class rtype : ℕ) × (after left : Tokens) × (d : ZoneRecordData O N)
+    × HeadTaken owner ttl class rtype tokens after
+    × RdataText octets labels rtype after d left × (left ≢ [])
+RefusesEntry octets labels limit tokens error = RefusesHead limit tokens error
 
 -- why a line spells no record
 pub data RefusesLine {O N : Type 0} (octets : O → Octets) (labels : N → Name) (limit : Option ℕ)

@@ -2,7 +2,7 @@
 use Rattle.std.specs.Prelude.{◌≡◌, ℕ, ◌+◌, drop}
 use Rattle.domain_octets.specs.Words.{Octets}
 use Rattle.domain_names.specs.Words.{Name}
-use Rattle.domain_fields.specs.{Field.{short, long}, Layout.{Layout, one, ◌▸◌, Begins}}
+use Rattle.domain_fields.specs.{Field.{short, long}, Layout.{Layout, one, ◌▸◌, Values, Begins}}
 use Rattle.domain_message.specs.Name.{NameAt}
 
 -- the type, the class, the TTL and the length of the data
@@ -10,10 +10,10 @@ abbrev pub numbers : Layout
 numbers = one short ▸ one short ▸ one long ▸ one short
 
 -- the owner and these numbers stand at a place, up to another
-pub record HeaderAt (message : Octets) (at : ℕ) (owner : Name) (rtype class ttl count : ℕ)
+pub record HeaderAt (message : Octets) (at : ℕ) (owner : Name) (v : Values numbers)
     (place : ℕ) : Type 0 where
   pub owner_end : ℕ
   pub behind : Octets
   pub owned : NameAt message at owner owner_end
-  pub numbered : Begins numbers (drop owner_end message) (rtype, (class, (ttl, count))) behind
+  pub numbered : Begins numbers (drop owner_end message) v behind
   pub place_is : place ≡ owner_end + 10

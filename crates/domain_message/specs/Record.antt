@@ -2,9 +2,10 @@
 use Rattle.std.specs.Prelude.{◌≡◌, ◌⊎◌, ℕ, ◌+◌, ◌<◌, ◌≤◌, List, length, Option, Some}
 use Rattle.domain_octets.specs.{Limit.IsOver, Words.Octets}
 use Rattle.domain_names.specs.Words.{Name}
+use Rattle.domain_fields.specs.Layout.{Values}
 use Rattle.domain_record.specs.declared.record.Record.{Record}
 use Rattle.domain_rdata.specs.{Kind.Kind, Refusal.{AreOfKind, IsPart}, Scan.AreData, Zone.kind_of, declared.zone_record_data.ZoneRecordData.ZoneRecordData}
-use Rattle.domain_message.specs.{Data.{parts_of, PartsAt, PartsFault, DataAt}, Header.HeaderAt, Refusal.{HeaderFault, message_error_of}}
+use Rattle.domain_message.specs.{Data.{parts_of, PartsAt, PartsFault, DataAt}, Header.{numbers, HeaderAt}, Refusal.{HeaderFault, message_error_of}}
 use Rattle.domain_message.specs.declared.{parts.Part.Part, name.NameFault.NameFault, error.MessageError.MessageError}
 use Rattle.domain_message.specs.declared.error.MessageError.TheVariants.{ShortInput, DataLength, IllegalData, ShortBuf}
 use Rattle.domain_message.specs.declared.error.MessageError.TheVariants.{OutOfMemory}
@@ -23,7 +24,7 @@ pub record RecordAt {O N : Type 0} (octets : O → Octets) (labels : N → Name)
   pub rtype : ℕ
   pub count : ℕ
   pub place : ℕ
-  pub header : HeaderAt message at (labels r.owner) rtype r.class r.ttl count place
+  pub header : HeaderAt message at (labels r.owner) (rtype, (r.class, (r.ttl, count))) place
   pub holds : IsDataAt octets labels message rtype place count r.«data»
   pub end_is : end ≡ place + count
 
@@ -62,6 +63,5 @@ pub data RefusesRecord (limit : Option ℕ) (message : Octets) (at : ℕ)
     (error : MessageError) : Type 0 where
   in_header : (fault : NameFault) → HeaderFault message at fault → error ≡ message_error_of fault
       → RefusesRecord limit message at error
-  in_data : (owner : Name) (rtype class ttl count place : ℕ)
-      → HeaderAt message at owner rtype class ttl count place
-      → RefusesData limit message rtype place count error → RefusesRecord limit message at error
+  in_data : (owner : Name) (v : Values numbers) (place : ℕ) → HeaderAt message at owner v place
+      → RefusesData limit message v.0 place v.1.1.1 error → RefusesRecord limit message at error

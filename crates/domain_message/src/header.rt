@@ -46,8 +46,8 @@ fn read_numbers(octets: &[u8]) -> Result<Numbers, NameFault>
 
 /// What stands before the data of the record that stands at a place of a message.
 pub(crate) fn header_at(message: &[u8], at: usize) -> Result<Header, NameFault>
-    ensures ok { IfOk result (λ h. (owner : Name) × HeaderAt message.now at owner h.rtype h.class
-        h.ttl h.count h.place × (h.owner ≡ wire_of owner)) }
+    ensures ok { IfOk result (λ h. (owner : Name) × HeaderAt message.now at owner
+        (h.rtype, (h.class, (h.ttl, h.count))) h.place × (h.owner ≡ wire_of owner)) }
     ensures inside { IfOk result (λ h. h.place ≤ length message.now) }
     ensures short { IfOk result (λ h. h.count < 65536) }
     ensures err { IfErr result (HeaderFault message.now at) }

@@ -107,6 +107,7 @@ fn scan_head<O: FromBuilder, N: Drop, S: Scanner<Name = N, Octets = O>>(
 ///
 /// The first of these parts that is missing or refused, with what is said of it; `Trailing` where
 /// tokens are left behind the data.
+#[tactic(auto, unfolding(crate::specs::Entry::RefusesEntry))]
 pub fn scan_entry<O: FromBuilder + Drop, N: MakeName + Drop, S: Scanner<Name = N, Octets = O>>(
     alloc: Global,
     scanner: &mut S,
@@ -138,16 +139,6 @@ fn is_no_entry(words: &[&str]) -> bool
     }
 }
 
-/// The record that words spell.
-fn record_of(alloc: Global, words: &[&str]) -> Result<OwnedRecord, LineError>
-    ensures ok { IfOk result (EntryText (λ o. o.items) (λ n. n) (map (λ w. w.now) words.now)) }
-    ensures err { IfErr result (RefusesEntry ⟦<Vec<u8> as Octets>⟧.octets
-        ⟦<Name<Vec<u8>> as ToName>⟧.labels None (map (λ w. w.now) words.now)) }
-{
-    let mut scanner = IterScanner::<Vec<u8>>::new(words);
-    scan_entry(alloc, &mut scanner)
-}
-
 /// The record that a line of a zone's text spells, in the form that this library prints (RFC 1035,
 /// section 5.1): owner, TTL, class, type and data, and one or more spaces between them. Names are
 /// absolute, with or without a last dot; a tab is no space, and is refused. For other octets, or
@@ -170,5 +161,6 @@ pub fn scan_record(alloc: Global, line: &str) -> Result<OwnedRecord, LineError>
     if is_no_entry(words.as_slice()) {
         return Err(LineError::NoEntry);
     }
-    record_of(alloc, words.as_slice())
+    let mut scanner = IterScanner::<Vec<u8>>::new(words.as_slice());
+    scan_entry(alloc, &mut scanner)
 }

@@ -156,6 +156,7 @@ pub(crate) fn name_at(message: &[u8], at: usize) -> Result<(NameOctets, usize), 
 /// or a pointer, or before the root, `BadLabelType`, `ForwardPointer`, and `LongName` where the
 /// labels would be over 255 octets with the root. `OutOfMemory` where a name stands there, and
 /// there is no memory for it.
+#[tactic(auto, using(std::proofs::lemmas::Grind::common_steps, crate::proofs::NameLemmas::wire_steps))]
 pub fn read_name<N: MakeName>(
     alloc: Global,
     message: &[u8],

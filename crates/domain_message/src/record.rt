@@ -108,6 +108,7 @@ where
 /// of the type. `ShortBuf` where the octets of the data, or a part that is held by itself, have no
 /// room in their builder, and `OutOfMemory`, once all but whether they are data of the type is
 /// known.
+#[tactic(auto, using(std::proofs::lemmas::Grind::common_steps, crate::proofs::NameLemmas::wire_steps))]
 pub fn read_record<O: FromBuilder + Drop, N: MakeName + Drop>(
     alloc: Global,
     message: &[u8],

@@ -1,4 +1,4 @@
 pub mod ZoneLemmas
-pub mod ScanLemmas
 pub mod OctetsLemmas
+pub mod ScanLemmas
 pub mod ReadBackLemmas

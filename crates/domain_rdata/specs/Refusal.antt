@@ -27,12 +27,13 @@ RefusesKind limit params = RefusesNsec3param limit
 
 -- tokens are refused as the text form of a type: at a field of that form, or, before any token is
 -- taken, since the type has none
-pub data RefusesOwn (limit : Option ℕ) (rtype : ℕ) (old new : Tokens)
-    (fault : ScanFault) : Type 0 where
-  at_field : (kind : Kind) → kind_of rtype ≡ Some kind → RefusesKind limit kind old new fault
-      → RefusesOwn limit rtype old new fault
-  no_form : kind_of rtype ≡ None → fault ≡ illegal (codes "unknown record data") → new ≡ old
-      → RefusesOwn limit rtype old new fault
+abbrev pub RefusesKnown : Option ℕ → Option Kind → Refusal
+RefusesKnown limit (Some kind) old new fault = RefusesKind limit kind old new fault
+RefusesKnown limit None old new fault =
+    (fault ≡ illegal (codes "unknown record data")) × (new ≡ old)
+
+abbrev pub RefusesOwn : Option ℕ → ℕ → Refusal
+RefusesOwn limit rtype = RefusesKnown limit (kind_of rtype)
 
 -- all the octets are data of a kind on the wire
 abbrev pub AreOfKind : Kind → Octets → Type 0

@@ -13,8 +13,6 @@ use Rattle.domain_keys.specs.{Data.{dnskey_values, ds_values}, Pieces.{dnskey_te
 use Rattle.domain_rrsig.specs.{Data.rrsig_values, Pieces.rrsig_text}
 use Rattle.domain_chain_rdata.specs.{Nsec3Text.nsec3_text, Nsec3paramText.nsec3param_text, Rdata.{nsec_values, nsec3_values, nsec3param_values}}
 use Rattle.domain_rdata.specs.Kind.{Kind, plain, key, digest, signature, next_by_name, next_by_hash, params, layout_of}
-use Rattle.domain_rdata.specs.declared.zone_record_data.OwnType.{OwnType}
-use Rattle.domain_rdata.specs.declared.zone_record_data.OwnType.TheVariants as own_type
 use Rattle.domain_rdata.specs.declared.zone_record_data.ZoneRecordData.{ZoneRecordData}
 use Rattle.domain_rdata.specs.declared.zone_record_data.ZoneRecordData.TheVariants.{A, Ns, Soa, Mx, Dnskey, Ds, Rrsig, Nsec, Nsec3, Nsec3param, Unknown}
 
@@ -33,19 +31,6 @@ kind_of rtype =
     else (if rtype == rtypes.nsec3 then Some next_by_hash
     else (if rtype == rtypes.nsec3param then Some params
     else None)))))))))
-
--- the numbers of these types, as code names them
-abbrev pub number_of : OwnType → ℕ
-number_of own_type.A = rtypes.a
-number_of own_type.Ns = rtypes.ns
-number_of own_type.Soa = rtypes.soa
-number_of own_type.Mx = rtypes.mx
-number_of own_type.Dnskey = rtypes.dnskey
-number_of own_type.Ds = rtypes.ds
-number_of own_type.Rrsig = rtypes.rrsig
-number_of own_type.Nsec = rtypes.nsec
-number_of own_type.Nsec3 = rtypes.nsec3
-number_of own_type.Nsec3param = rtypes.nsec3param
 
 -- the number of the data's type
 abbrev pub rtype_of : {O N : Type 0} → ZoneRecordData O N → ℕ

@@ -14,7 +14,7 @@ ghost use Rattle.domain_rdata.specs.Scan.{AreData};
 ghost use Rattle.domain_rdata.specs.Zone.{kind_of};
 
 use crate::ZoneRecordData;
-use crate::zone_record_data::{OwnType, own_type};
+use crate::zone_record_data::return_of_type;
 use domain_base::{MakeName, ParsedName, Rtype, ScanError, ToName};
 use domain_chain_rdata::{Nsec, Nsec3, Nsec3param};
 use domain_keys::{Dnskey, Ds};
@@ -287,18 +287,19 @@ where
             (scan_fault_of e)) }
     {
         let octets = data.data().as_slice();
-        Ok(match own_type(data.rtype()) {
-            Some(OwnType::A) => ZoneRecordData::A(a_of(octets)?),
-            Some(OwnType::Ns) => ZoneRecordData::Ns(ns_of(alloc, octets)?),
-            Some(OwnType::Soa) => ZoneRecordData::Soa(soa_of(alloc, octets)?),
-            Some(OwnType::Mx) => ZoneRecordData::Mx(mx_of(alloc, octets)?),
-            Some(OwnType::Dnskey) => ZoneRecordData::Dnskey(dnskey_of(alloc, octets)?),
-            Some(OwnType::Ds) => ZoneRecordData::Ds(ds_of(alloc, octets)?),
-            Some(OwnType::Rrsig) => ZoneRecordData::Rrsig(rrsig_of(alloc, octets)?),
-            Some(OwnType::Nsec) => ZoneRecordData::Nsec(nsec_of(alloc, octets)?),
-            Some(OwnType::Nsec3) => ZoneRecordData::Nsec3(nsec3_of(alloc, octets)?),
-            Some(OwnType::Nsec3param) => ZoneRecordData::Nsec3param(nsec3param_of(alloc, octets)?),
-            None => ZoneRecordData::Unknown(data),
-        })
+        let rtype = data.rtype();
+        return_of_type!(rtype;
+            A => A(a_of(octets)?),
+            NS => Ns(ns_of(alloc, octets)?),
+            SOA => Soa(soa_of(alloc, octets)?),
+            MX => Mx(mx_of(alloc, octets)?),
+            DNSKEY => Dnskey(dnskey_of(alloc, octets)?),
+            DS => Ds(ds_of(alloc, octets)?),
+            RRSIG => Rrsig(rrsig_of(alloc, octets)?),
+            NSEC => Nsec(nsec_of(alloc, octets)?),
+            NSEC3 => Nsec3(nsec3_of(alloc, octets)?),
+            NSEC3PARAM => Nsec3param(nsec3param_of(alloc, octets)?),
+            _ => Ok(ZoneRecordData::Unknown(data))
+        )
     }
 }

@@ -1,8 +1,7 @@
 //! Data of all types as one type: the variants, the types that have one, and what is done with the
 //! data whatever their type.
-ghost use Rattle.std.specs.{Prelude.{◌≡◌, None, IfNone, IfOk, IfSome}, Ordering.nat_cmp};
+ghost use Rattle.std.specs.{Prelude.{◌≡◌, IfOk}, Ordering.nat_cmp};
 ghost use Rattle.std.specs.Cmp.Lexicographic.{slice_cmp};
-ghost use Rattle.domain_rdata.specs.Zone.{kind_of, number_of};
 ghost use Rattle.domain_rdata.specs.ZoneClone.{IsZoneClone, same_rtype, zone_copies_tie};
 
 use domain_base::{CanonicalOrd, Rtype, ToName, Ttl};
@@ -63,81 +62,18 @@ macro_rules! with_data {
 
 pub(crate) use with_data;
 
-/// A type that has data of its own, and a variant of `ZoneRecordData` for them.
-#[derive(Clone, Copy)]
-pub(crate) enum OwnType {
-    A,
-    Ns,
-    Soa,
-    Mx,
-    Dnskey,
-    Ds,
-    Rrsig,
-    Nsec,
-    Nsec3,
-    Nsec3param,
+/// Returns the data of a type, made as the row of the type says; what is given last for a type that
+/// has none.
+macro_rules! return_of_type {
+    ($rtype:expr; $($number:ident => $data:ident($made:expr),)* _ => $other:expr) => {{
+        $(if $rtype == Rtype::$number {
+            return Ok(ZoneRecordData::$data($made));
+        })*
+        $other
+    }};
 }
 
-/// Which of these types a number is; None for a type whose data are mere octets.
-pub(crate) fn own_type(rtype: Rtype) -> Option<OwnType>
-    ensures number { IfSome result (λ own. rtype ≡ number_of own) }
-    ensures none { IfNone result (kind_of rtype ≡ None) }
-{
-    if rtype == Rtype::A {
-        return Some(OwnType::A);
-    }
-    if rtype == Rtype::NS {
-        return Some(OwnType::Ns);
-    }
-    if rtype == Rtype::SOA {
-        return Some(OwnType::Soa);
-    }
-    if rtype == Rtype::MX {
-        return Some(OwnType::Mx);
-    }
-    if rtype == Rtype::DNSKEY {
-        return Some(OwnType::Dnskey);
-    }
-    if rtype == Rtype::DS {
-        return Some(OwnType::Ds);
-    }
-    if rtype == Rtype::RRSIG {
-        return Some(OwnType::Rrsig);
-    }
-    if rtype == Rtype::NSEC {
-        return Some(OwnType::Nsec);
-    }
-    if rtype == Rtype::NSEC3 {
-        return Some(OwnType::Nsec3);
-    }
-    if rtype == Rtype::NSEC3PARAM {
-        return Some(OwnType::Nsec3param);
-    }
-    None
-}
-/// The data of a type, made by the function of that name of the type's own data; what is given
-/// last for a type that has none.
-macro_rules! made_of_type {
-    ($rtype:expr, $make:ident($($given:expr),*), $other:expr) => {
-        match own_type($rtype) {
-            Some(OwnType::A) => ZoneRecordData::A(crate::A::$make($($given),*)?),
-            Some(OwnType::Ns) => ZoneRecordData::Ns(crate::Ns::$make($($given),*)?),
-            Some(OwnType::Soa) => ZoneRecordData::Soa(crate::Soa::$make($($given),*)?),
-            Some(OwnType::Mx) => ZoneRecordData::Mx(crate::Mx::$make($($given),*)?),
-            Some(OwnType::Dnskey) => ZoneRecordData::Dnskey(crate::Dnskey::$make($($given),*)?),
-            Some(OwnType::Ds) => ZoneRecordData::Ds(crate::Ds::$make($($given),*)?),
-            Some(OwnType::Rrsig) => ZoneRecordData::Rrsig(crate::Rrsig::$make($($given),*)?),
-            Some(OwnType::Nsec) => ZoneRecordData::Nsec(crate::Nsec::$make($($given),*)?),
-            Some(OwnType::Nsec3) => ZoneRecordData::Nsec3(crate::Nsec3::$make($($given),*)?),
-            Some(OwnType::Nsec3param) => {
-                ZoneRecordData::Nsec3param(crate::Nsec3param::$make($($given),*)?)
-            }
-            None => $other,
-        }
-    };
-}
-
-pub(crate) use made_of_type;
+pub(crate) use return_of_type;
 
 impl<O: Octets, N: ToName> RecordData for ZoneRecordData<O, N> {
     ghost use Rattle.domain_rdata.specs.Zone.{rtype_of};

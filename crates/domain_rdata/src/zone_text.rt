@@ -6,7 +6,7 @@ ghost use Rattle.domain_rdata.specs.Scan.{RdataText, OwnText, IsGeneric};
 ghost use Rattle.domain_rdata.specs.declared.zone_record_data.ZoneRecordData.{ZoneRecordData};
 
 use crate::ZoneRecordData;
-use crate::zone_record_data::{OwnType, made_of_type, own_type, with_data};
+use crate::zone_record_data::{return_of_type, with_data};
 use domain_base::{MakeName, Rtype, ScanError, Scanner, ToName};
 use domain_octets::{EmptyBuilder, FreezeBuilder, FromBuilder, Octets, Truncate};
 use domain_plain::UnknownRecordData;
@@ -47,11 +47,19 @@ where
             RefusesOwn O.Builder.limit rtype (S.tokens scanner.old) (S.tokens scanner.new)
             (scan_fault_of e)) }
     {
-        Ok(made_of_type!(
-            rtype,
-            scan(alloc, scanner),
-            return Err(ScanError::Custom("unknown record data"))
-        ))
+        return_of_type!(rtype;
+            A => A(crate::A::scan(alloc, scanner)?),
+            NS => Ns(crate::Ns::scan(alloc, scanner)?),
+            SOA => Soa(crate::Soa::scan(alloc, scanner)?),
+            MX => Mx(crate::Mx::scan(alloc, scanner)?),
+            DNSKEY => Dnskey(crate::Dnskey::scan(alloc, scanner)?),
+            DS => Ds(crate::Ds::scan(alloc, scanner)?),
+            RRSIG => Rrsig(crate::Rrsig::scan(alloc, scanner)?),
+            NSEC => Nsec(crate::Nsec::scan(alloc, scanner)?),
+            NSEC3 => Nsec3(crate::Nsec3::scan(alloc, scanner)?),
+            NSEC3PARAM => Nsec3param(crate::Nsec3param::scan(alloc, scanner)?),
+            _ => Err(ScanError::Custom("unknown record data"))
+        )
     }
 
     /// The data of a type that the tokens begin with: in the text form of that type, or, where the
@@ -69,6 +77,7 @@ where
     /// `Custom("illegal data")` exactly where the octets are no data of the type, and, where they
     /// are, `ShortBuf` or `OutOfMemory` for a part that has no room or no memory. A refusal leaves
     /// an end of the tokens.
+    #[tactic(auto, using(std::proofs::lemmas::Grind::common_steps, crate::proofs::ScanLemmas::scan_steps))]
     pub fn scan_rdata<S: Scanner<Name = N, Octets = O>>(
         alloc: Global,
         rtype: Rtype,
@@ -90,12 +99,10 @@ where
             → RdataText O.octets N.labels rtype (S.tokens scanner.old) d after → ⊥) }
     {
         if !is_generic(scanner) {
-            return Self::scan_own(alloc, rtype, scanner);
+            return Ok(Self::scan_own(alloc, rtype, scanner)?);
         }
-        match UnknownRecordData::scan(alloc, rtype, scanner) {
-            Ok(data) => Self::from_generic(alloc, data),
-            Err(error) => Err(error),
-        }
+        let data = UnknownRecordData::scan(alloc, rtype, scanner)?;
+        Ok(Self::from_generic(alloc, data)?)
     }
 }
 

@@ -1,4 +1,4 @@
-use Rattle.domain_chain_rdata.proofs.Nsec3TextLemmas.{params_refused, nsec3_refused}
+use Rattle.domain_chain_rdata.proofs.TextLemmas.{params_refused, nsec3_refused}
 use Rattle.domain_chain_rdata.proofs.nsec3_laws.refused_tokens_spell_no_hashes.Goals as goal
 
 pub returns : goal.returns

@@ -2,4 +2,4 @@ use Rattle.domain_chain_rdata.proofs.TextLemmas.{nsec_one_fault}
 use Rattle.domain_chain_rdata.proofs.nsec_laws.nsec_has_one_fault.Goals as goal
 
 pub returns : goal.returns
-returns c = λ names bitmaps old m n x y p q own also own' also'. nsec_one_fault names bitmaps old m n x y p q own also own' also'
+returns c = nsec_one_fault

@@ -2,4 +2,4 @@ use Rattle.domain_chain_rdata.proofs.TextLemmas.{nsec_refused}
 use Rattle.domain_chain_rdata.proofs.nsec_laws.refused_tokens_spell_no_nsec.Goals as goal
 
 pub returns : goal.returns
-returns c = λ names bitmaps old new after fault labels octets why own also is. nsec_refused names bitmaps old new after fault labels octets why is own also
+returns c = nsec_refused

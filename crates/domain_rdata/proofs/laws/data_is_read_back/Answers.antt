@@ -14,10 +14,9 @@ returns-in-Rrsig g c = grind (arith, common_steps, (rrsig_back g.O.Octets.octets
 
 pub returns-in-Nsec : goal.returns-in-Nsec
 returns-in-Nsec g c =
-    let name = g.N.ToName.labels c.in-Nsec.data.next_name in
-    let first = c.nsec_reads_back.ensures.types.next_name in
-    rw c.in-Nsec.is (λ exact. own (nsec_first g.O.Octets.octets g.N.ToName.labels name _
-    (name_is_valid first.token name first.holds)) (refl, c.nsec_reads_back.ensures.same exact))
+    let first = c.nsec_reads_back.ensures.types.1 in
+    rw c.in-Nsec.is (λ exact. own (nsec_first g.O.Octets.octets g.N.ToName.labels _ _
+    (name_is_valid first.token _ first.holds)) (refl, c.nsec_reads_back.ensures.same exact))
 
 pub returns-in-Unknown : goal.returns-in-Unknown
 returns-in-Unknown g c =

@@ -1,30 +1,22 @@
-use Rattle.std.proofs.{Common.arith, lemmas.{Grind.common_steps, Result.err_from_is_err_and}}
+use Rattle.std.proofs.{Common.{refl, arith}, lemmas.Grind.common_steps}
 use Rattle.domain_chain_rdata.specs.Rdata.{nsec3_values}
-use Rattle.domain_rdata.{specs.Refusal.{salt_by_hash, next_hash, types_by_hash}, proofs.OctetsLemmas.{not_nsec3, not_copied}}
+use Rattle.domain_rdata.{specs.{Kind.next_by_hash, Refusal.{salt_by_hash, next_hash, types_by_hash}}, proofs.OctetsLemmas.{not_data, not_copied}}
 use Rattle.domain_rdata.proofs.zone_octets.nsec3_of.Goals as goal
 
 pub returns-in_err-data-clause-err : goal.returns-in_err-data-clause-err
-returns-in_err-data-clause-err g c =
-    let p = err_from_is_err_and c.from_residual.result c.from_residual.ensures.1 in
-    rw p.1 (not_nsec3 nsec3_values c.args.octets.now _ _ p.2 c.in_err-data.ensures.err)
+returns-in_err-data-clause-err g c = not_data next_by_hash nsec3_values _ _ refl _ c.from_residual.ensures.1 c.in_err-data.ensures.err
 
 pub returns-in_err-salt-clause-err : goal.returns-in_err-salt-clause-err
 returns-in_err-salt-clause-err g c =
-    let p = err_from_is_err_and c.from_residual-in_err-salt.result c.from_residual-in_err-salt.ensures.1 in
-    rw (p.1, p.2)
-    (not_copied _ _ c.args.octets.now _ _ _ c.in_err-salt.ensures.err (grind (arith, common_steps))
-    (salt_by_hash (nsec3_values c.in_ok-data.data) c.in_ok-data.ensures.ok))
+    not_copied _ _ _ _ _ _ _ c.from_residual-in_err-salt.ensures.1 c.in_err-salt.ensures.err (grind (arith, common_steps))
+    (salt_by_hash (nsec3_values c.in_ok-data.data) c.in_ok-data.ensures.ok)
 
 pub returns-in_err-next_owner-clause-err : goal.returns-in_err-next_owner-clause-err
 returns-in_err-next_owner-clause-err g c =
-    let p = err_from_is_err_and c.from_residual-in_err-next_owner.result c.from_residual-in_err-next_owner.ensures.1 in
-    rw (p.1, p.2)
-    (not_copied _ _ c.args.octets.now _ _ _ c.in_err-next_owner.ensures.err (grind (arith, common_steps))
-    (next_hash (nsec3_values c.in_ok-data.data) c.in_ok-data.ensures.ok))
+    not_copied _ _ _ _ _ _ _ c.from_residual-in_err-next_owner.ensures.1 c.in_err-next_owner.ensures.err (grind (arith, common_steps))
+    (next_hash (nsec3_values c.in_ok-data.data) c.in_ok-data.ensures.ok)
 
 pub returns-in_err-types-clause-err : goal.returns-in_err-types-clause-err
 returns-in_err-types-clause-err g c =
-    let p = err_from_is_err_and c.from_residual-in_err-types.result c.from_residual-in_err-types.ensures.1 in
-    rw (p.1, p.2)
-    (not_copied _ _ c.args.octets.now _ _ _ c.in_err-types.ensures.err (grind (arith, common_steps))
-    (types_by_hash (nsec3_values c.in_ok-data.data) c.in_ok-data.ensures.ok))
+    not_copied _ _ _ _ _ _ _ c.from_residual-in_err-types.ensures.1 c.in_err-types.ensures.err (grind (arith, common_steps))
+    (types_by_hash (nsec3_values c.in_ok-data.data) c.in_ok-data.ensures.ok)

@@ -1,16 +1,12 @@
-use Rattle.std.proofs.{Common.{refl, arith}, lemmas.{Grind.common_steps, Result.err_from_is_err_and}}
-use Rattle.domain_chain_rdata.specs.Rdata.{nsec3param, nsec3param_values}
-use Rattle.domain_rdata.{specs.{Kind.params, Refusal.salt}, proofs.OctetsLemmas.{not_fields, not_copied}}
+use Rattle.std.proofs.{Common.{refl, arith}, lemmas.Grind.common_steps}
+use Rattle.domain_chain_rdata.specs.Rdata.{nsec3param_values}
+use Rattle.domain_rdata.{specs.{Kind.params, Refusal.salt}, proofs.OctetsLemmas.{not_data, not_copied}}
 use Rattle.domain_rdata.proofs.zone_octets.nsec3param_of.Goals as goal
 
 pub returns-in_err-data-clause-err : goal.returns-in_err-data-clause-err
-returns-in_err-data-clause-err g c =
-    let p = err_from_is_err_and c.from_residual.result c.from_residual.ensures.1 in
-    rw p.1 (not_fields nsec3param nsec3param_values c.args.octets.now params _ _ refl (λ w. w) p.2 c.in_err-data.ensures.err)
+returns-in_err-data-clause-err g c = not_data params nsec3param_values _ _ refl _ c.from_residual.ensures.1 c.in_err-data.ensures.err
 
 pub returns-in_err-salt-clause-err : goal.returns-in_err-salt-clause-err
 returns-in_err-salt-clause-err g c =
-    let p = err_from_is_err_and c.from_residual-in_err-salt.result c.from_residual-in_err-salt.ensures.1 in
-    rw (p.1, p.2)
-    (not_copied _ _ c.args.octets.now _ _ _ c.in_err-salt.ensures.err (grind (arith, common_steps))
-    (salt (nsec3param_values c.in_ok-data.data) c.in_ok-data.ensures.ok))
+    not_copied _ _ _ _ _ _ _ c.from_residual-in_err-salt.ensures.1 c.in_err-salt.ensures.err (grind (arith, common_steps))
+    (salt (nsec3param_values c.in_ok-data.data) c.in_ok-data.ensures.ok)

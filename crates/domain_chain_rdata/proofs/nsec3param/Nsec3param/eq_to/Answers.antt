@@ -1,18 +1,10 @@
-use Rattle.std.proofs.{Common.{◌≡◌, ap, ◌∙◌, rules}, lemmas.Map.Text.is_eq-slice_cmp}
-use Rattle.std.specs.{Ordering.{is_eq, nat_cmp}, Cmp.Lexicographic.slice_cmp, Prelude.bytes_eq}
-use Rattle.domain_chain_rdata.{specs.Rdata.{nsec3param_values, uncounted_octets}, proofs.Nsec3Lemmas.same_params}
+use Rattle.std.proofs.{Common.{arith, refl}, lemmas.{Grind.common_steps, Map.Text.is_eq-slice_cmp}}
+use Rattle.domain_chain_rdata.{specs.Rdata.uncounted, proofs.Nsec3Lemmas.same_by_octets}
 use Rattle.domain_chain_rdata.proofs.nsec3param.Nsec3param.eq_to.Goals as goal
 
-ordered : (g : _) (c : goal.After-is_eq g) → c.order.result ≡ slice_cmp nat_cmp (uncounted_octets c.args.self.now) (uncounted_octets c.args.other.now)
-ordered g c = search rules
-
-equal : (g : _) (c : goal.After-is_eq g) → c.is_eq.result ≡ bytes_eq (uncounted_octets c.args.self.now) (uncounted_octets c.args.other.now)
-equal g c = c.is_eq.ensures ∙ ap is_eq (ordered g c) ∙ is_eq-slice_cmp (uncounted_octets c.args.self.now) (uncounted_octets c.args.other.now)
-
 pub returns-clause-value : goal.returns-clause-value
-returns-clause-value g c = equal g c
+returns-clause-value g c = grind (arith, common_steps, is_eq-slice_cmp)
 
 pub returns-clause-same : goal.returns-clause-same
 returns-clause-same g c =
-    same_params (nsec3param_values c.args.self.now) (nsec3param_values c.args.other.now) c.is_eq.result c.uncounted.ensures.fits
-    c.uncounted-2.ensures.fits (equal g c)
+    same_by_octets uncounted _ _ _ refl (λ u. ((tt, (tt, tt)), refl)) c.uncounted.ensures.fits c.uncounted-2.ensures.fits (returns-clause-value g c)

@@ -1,29 +1,26 @@
-use Rattle.std.proofs.{Common.arith, lemmas.Grind.common_steps}
-use Rattle.domain_rdata.{specs.Refusal.in_generic, proofs.ScanLemmas.{generic_ok, own_err, octets_err, none_spelled, refused_none}}
+use Rattle.std.proofs.{Common.arith, lemmas.{Grind.common_steps, Result.err_from_is_err_and}}
+use Rattle.domain_rdata.{specs.Refusal.in_own, proofs.ScanLemmas.{generic_ok, generic_err, none_spelled}}
 use Rattle.domain_rdata.proofs.zone_record_data.ZoneRecordData.scan_rdata.Goals as goal
 
-pub returns-then-not-is_generic-clause-err : goal.returns-then-not-is_generic-clause-err
-returns-then-not-is_generic-clause-err g c =
-    own_err g.O.Octets.octets g.N.ToName.labels _ _ _ _ _ c.scan_own.ensures.err
-    (λ marked. let e = c.is_generic.ensures.1 marked in grind (arith, common_steps))
+pub returns-in_err-scan_own-clause-spells_none : goal.returns-in_err-scan_own-clause-spells_none
+returns-in_err-scan_own-clause-spells_none g c =
+    let p = err_from_is_err_and c.from_residual.result c.from_residual.ensures.1 in
+    let refused = in_own (λ marked. let e = c.is_generic.ensures.1 marked in grind (arith, common_steps)) c.in_err-scan_own.ensures.err in
+    rw (p.1, p.2) (none_spelled g.O.Octets.octets g.N.ToName.labels _ _ _ _ _ refused)
 
-pub returns-then-not-is_generic-clause-spells_none : goal.returns-then-not-is_generic-clause-spells_none
-returns-then-not-is_generic-clause-spells_none g c = refused_none _ _ _ _ _ _ _ (returns-then-not-is_generic-clause-err g c)
+pub returns-in_err-from_generic-clause-err : goal.returns-in_err-from_generic-clause-err
+returns-in_err-from_generic-clause-err g c =
+    let p = err_from_is_err_and c.from_residual-in_err-from_generic.result c.from_residual-in_err-from_generic.ensures.1 in
+    let read = c.in_ok-data.ensures in
+    rw (p.1, p.2) (generic_err _ _ _ _ _ _ _ c.in_err-from_generic.ensures.err read.rtype read.ok read.all)
 
-pub returns-in-Ok-clause-ok : goal.returns-in-Ok-clause-ok
-returns-in-Ok-clause-ok g c =
-    generic_ok _ _ _ _ _ _ _ _ c.from_generic.ensures.ok c.in-Ok.ensures.rtype c.in-Ok.ensures.ok c.in-Ok.ensures.all
+pub returns-in_err-from_generic-clause-spells_none : goal.returns-in_err-from_generic-clause-spells_none
+returns-in_err-from_generic-clause-spells_none g c =
+    let p = err_from_is_err_and c.from_residual-in_err-from_generic.result c.from_residual-in_err-from_generic.ensures.1 in
+    let read = c.in_ok-data.ensures in
+    rw (p.1, p.2) (none_spelled _ _ _ _ _ _ _ (generic_err _ _ _ _ _ _ _ c.in_err-from_generic.ensures.err read.rtype read.ok read.all))
 
-pub returns-in-Ok-clause-err : goal.returns-in-Ok-clause-err
-returns-in-Ok-clause-err g c =
-    octets_err g.O.Octets.octets g.N.ToName.labels _ _ _ _ _ _ _ c.from_generic.ensures.err
-    c.in-Ok.ensures.rtype c.in-Ok.ensures.ok c.in-Ok.ensures.all
-
-pub returns-in-Ok-clause-spells_none : goal.returns-in-Ok-clause-spells_none
-returns-in-Ok-clause-spells_none g c = refused_none _ _ _ _ _ _ _ (returns-in-Ok-clause-err g c)
-
-pub returns-in-Err-clause-err : goal.returns-in-Err-clause-err
-returns-in-Err-clause-err g c = in_generic (c.is_generic.ensures.0 (grind (arith, common_steps))) c.in-Err.ensures.err
-
-pub returns-in-Err-clause-spells_none : goal.returns-in-Err-clause-spells_none
-returns-in-Err-clause-spells_none g c = none_spelled _ _ _ _ _ _ _ (returns-in-Err-clause-err g c)
+pub returns-clause-ok : goal.returns-clause-ok
+returns-clause-ok g c =
+    let read = c.in_ok-data.ensures in
+    generic_ok _ _ _ _ _ _ _ _ c.in_ok-from_generic.ensures.ok read.rtype read.ok read.all

@@ -1,0 +1,12 @@
+use Rattle.std.proofs.{Common.arith, lemmas.Grind.common_steps}
+use Rattle.domain_fields.specs.{Field.spelled_name, Layout.one}
+use Rattle.domain_chain_rdata.proofs.NsecLemmas.{fields_then_types, fields_then_fault}
+use Rattle.domain_chain_rdata.proofs.wire.Nsec+ref+slice+u8+ParsedName.parse.Goals as goal
+
+pub returns-in_err-types-clause-err : goal.returns-in_err-types-clause-err
+returns-in_err-types-clause-err c =
+    grind (arith, common_steps, (fields_then_fault (one spelled_name) c.args.parser.now c.fork-ahead.result c.read.new.parser c.in-Ok.name))
+
+pub returns-clause-ok : goal.returns-clause-ok
+returns-clause-ok c =
+    grind (arith, common_steps, (fields_then_types (one spelled_name) c.args.parser.now c.fork-ahead.result c.read.new.parser c.parse.new.parser))
