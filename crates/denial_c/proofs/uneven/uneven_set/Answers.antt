@@ -1,7 +1,8 @@
 use Rattle.std.proofs.{Common.{arith, ap, map, subst, sym, ◌∙◌}, lemmas.Grind.common_steps}
 use Rattle.domain_borrowed.specs.Data.{minimum_of, zone_of_raw}
 use Rattle.domain_zone.{specs.{View.as_zone_record, Zone.{has_clash, records_of}}, proofs.{GivenLemmas.{raw_types, types_at}, TtlLemmas.NeverDescend}}
-use Rattle.denial_c.{specs.Uneven.IsFirstClash, proofs.UnevenLemmas.{walked_all, walked_clash, walked_even, walked_first, walked_known, walked_past, walked_start}}
+use Rattle.denial_c.specs.Uneven.{IsFirstClash}
+use Rattle.denial_c.proofs.UnevenLemmas.{walked_all, walked_clash, walked_even, walked_first, walked_known, walked_past, walked_start}
 use Rattle.denial_c.proofs.uneven.uneven_set.Goals as goal
 
 pub owners-init : goal.owners-init
