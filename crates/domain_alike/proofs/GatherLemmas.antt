@@ -1,26 +1,20 @@
 -- The owners of a list in order and the names above them, gathered one owner after another.
-use Rattle.std.proofs.Common.{◌≡◌, ◌⊎◌, ℕ, ◌+◌, ◌<◌, ◌≤◌, Bool, true, false, cond, not, ◌&&◌, ◌||◌, List, [], ◌∷◌, ◌++◌, length, sym, ap, ◌∙◌, arith, inl, inr}
+use Rattle.std.proofs.Common.{◌≡◌, ◌⊎◌, ℕ, ◌+◌, ◌<◌, ◌≤◌, Bool, true, false, cond, not, ◌&&◌, ◌||◌, List, [], ◌∷◌, ◌++◌, length, refl, sym, ap, ◌∙◌, arith, inl, inr}
 use Rattle.std.proofs.{Common.append-nil, lemmas.Bool.{cases_Bool, false≢true, leb-true, and_parts, and_from, or_cases, or_left, or_right, Decides.nat_tests}}
 use Rattle.std.proofs.lemmas.{List.{Elements.recursion_from_All, Folds.list_any-append}, Grind.common_steps}
 use Rattle.std.specs.{Prelude.{All, filter, nat_le, nat_lt}, List.{AllByRecursion, list_any, Sorted.IsStrictlySortedBy}}
-use Rattle.domain_names.specs.{Name.{is_at_or_below, is_strictly_below, lowered, same_name}, Order.{before, canonical_cmp}, Words.Name}
+use Rattle.domain_names.specs.{Name.{is_at_or_below, is_strictly_below, lowered, same_name}, Order.{before, canonical_cmp, common_labels}, Words.Name}
 use Rattle.domain_zone.specs.{Enclosers.exists_over, Zone.{ZoneRecord, OwnersNeverDescend}}
 use Rattle.domain_zone.proofs.NameLemmas.{before_order, one_lowered, same_itself, below_itself, below_trans, below_from, below_between, below_longer}
-use Rattle.domain_zone.proofs.{NameLemmas.{below_length, below_parent, lowered_below}, OwnerLemmas.{any_in, in_any, owners_are, owners_ascend}}
-use Rattle.domain_zone.proofs.{PairLemmas.{In, IsAscending, all_in, le_lt}, SharedLemmas.either_way, ZoneLemmas.{all_both, all_filter, after_or, weaker}}
-use Rattle.domain_zone.proofs.FindLemmas.{in_either, in_middle}
+use Rattle.domain_zone.proofs.{NameLemmas.{below_length, below_parent, lowered_below, same_both}, OwnerLemmas.{any_in, owners_are, owners_ascend}}
+use Rattle.domain_zone.proofs.{PairLemmas.{IsAscending, all_in, le_lt}, SharedLemmas.either_way, ZoneLemmas.{all_both, all_filter, after_or, weaker}}
 use Rattle.domain_nsec3.specs.{Ancestors.{above_with_more, IsListOf}, Config.{ChainConfig, excludes}}
 use Rattle.domain_nsec3.specs.Owners.{is_chain_name, is_empty, is_original_owner, original_owners}
 use Rattle.domain_nsec3.proofs.{AncestorLemmas.{are_above, less, not_less, IsAbove}, ListLemmas.{sorted, ascending, ascending_both}, OwnerLemmas.existing_are}
-use Rattle.domain_nsec3.proofs.{OutcomeLemmas.original_below, SharedLemmas.{Shares, at_length, cons_below}}
+use Rattle.domain_nsec3.proofs.{OutcomeLemmas.original_below, SharedLemmas.{at_length, common_shares, cons_below}}
 use Rattle.domain_alike.specs.{AlikeSteps.up_with_more, Covered.covered_names}
 
--- ---- lists
-
--- at or below a name is at or below one that is the same
-below_same : (n m x : Name) → same_name m x ≡ true → is_at_or_below n m ≡ true → is_at_or_below n x ≡ true
-below_same n m x e h = ap (λ k. lowered_below (lowered n) k) (sym (one_lowered m x e)) ∙ h
-
+-- a name that is the same as one at or below another is so too
 same_below : (m x a : Name) → same_name m x ≡ true → is_at_or_below m a ≡ true → is_at_or_below x a ≡ true
 same_below m x a e h = ap (λ k. lowered_below k (lowered a)) (sym (one_lowered m x e)) ∙ h
 
@@ -78,122 +72,109 @@ up_ascend s (label ∷ o) =
 
 -- ---- a list of owners
 
--- of the owners so far and the names above them, up to the apex, the list has each once, in order; p is the last owner, or the apex
-pub record IsGathered (a : Name) (left passed names : List Name) (p : Name) : Type 0 where
-  pub rising : IsAscending before left
-  pub low : AllByRecursion (λ o. is_at_or_below o a ≡ true) left
-  pub later : AllByRecursion (λ o. before o p ≡ false) left
-  pub in_zone : is_at_or_below p a ≡ true
-  pub ascend : IsAscending before names
-  pub capped : AllByRecursion (λ n. before p n ≡ false) names
-  pub sound : AllByRecursion (λ n. (is_at_or_below n a ≡ true)
-      × ((n ≡ a) ⊎ (list_any (λ o. is_at_or_below o n) passed ≡ true))) names
-  pub held : (e : Name) → is_at_or_below p e ≡ true → is_at_or_below e a ≡ true → list_any (λ n. same_name n e) names ≡ true
-  pub each : (o : Name) → In o passed → (e : Name) → is_at_or_below o e ≡ true → is_at_or_below e a ≡ true
-      → list_any (λ n. same_name n e) names ≡ true
+-- what owners add, each after the one before it, of which p is the first
+abbrev pub gathered_up : Name → List Name → List Name
+gathered_up p [] = []
+gathered_up p (o ∷ os) = up_with_more (common_labels o p) o ++ gathered_up o os
 
-pub gathered_start : (a : Name) (owners : List Name) → IsStrictlySortedBy canonical_cmp owners
-    → All (λ n. is_at_or_below n a ≡ true) owners → IsGathered a owners [] (a ∷ []) a
-gathered_start a owners up low = grind (arith, common_steps, recursion_from_All, ascending, below_from, below_itself, same_itself)
+-- what an owner adds comes after the owner before it
+added_after : (p o : Name) → before o p ≡ false → (m : Name) → IsUp (common_labels o p) o m → before p m ≡ true
+added_after p o later m u =
+    elim (cases_Bool (before p m)) [
+      | inl e ↦ e
+      | inr e ↦
+          let few = leb-true (length m) (common_labels o p) (sym (common_shares o p _ refl m u.0) ∙ below_between o m p u.0 e later) in
+          let many : common_labels o p < length m = u.1 in
+          absurd (omega arith)
+    ]
 
-module _ {a : Name} {left passed names : List Name} {p o : Name} (s : ℕ) (h : IsGathered a (o ∷ left) passed names p) (shares : Shares o p s) where
-  low_o : is_at_or_below o a ≡ true
-  low_o = h.low.0
+later_ones : (o : Name) (os : List Name) → AllByRecursion (λ q. before o q ≡ true) os → AllByRecursion (λ q. before q o ≡ false) os
+later_ones o os up = weaker (λ q. before o q ≡ true) (λ q. before q o ≡ false) (before_order.one_way o) os up
 
-  apex_short : length a ≤ s
-  apex_short = leb-true (length a) s (sym (shares a low_o) ∙ h.in_zone)
+gathered_after : (p : Name) (os : List Name) → AllByRecursion (λ o. before o p ≡ false) os → IsAscending before os
+    → AllByRecursion (λ m. before p m ≡ true) (gathered_up p os)
+gathered_after p [] low up = tt
+gathered_after p (o ∷ os) low up =
+    all_both _ _ _ (weaker _ _ (added_after p o low.0) _ (up_are _ o))
+    (weaker _ _ (λ m e. le_lt before_order p o m low.0 e) _ (gathered_after o os (later_ones o os up.0) up.1))
 
-  -- what the owner adds comes after the owner before it
-  after_last : (m : Name) → IsUp s o m → before p m ≡ true
-  after_last m u =
-      elim (cases_Bool (before p m)) [
-        | inl e ↦ e
-        | inr e ↦
-            let few = leb-true (length m) s (sym (shares m u.0) ∙ below_between o m p u.0 e h.later.0) in
-            let many : s < length m = u.1 in
-            absurd (omega arith)
+gathered_ascends : (p : Name) (os : List Name) → AllByRecursion (λ o. before o p ≡ false) os → IsAscending before os
+    → IsAscending before (gathered_up p os)
+gathered_ascends p [] low up = tt
+gathered_ascends p (o ∷ os) low up =
+    let after = gathered_after o os (later_ones o os up.0) up.1 in
+    ascending_both _ _ (up_ascend _ o) (gathered_ascends o os (later_ones o os up.0) up.1)
+    (weaker _ _ (λ m u. weaker _ _ (λ n e. le_lt before_order m o n (below_from o m u.0) e) _ after) _ (up_are _ o))
+
+module _ (a : Name) where
+  -- each exists over the owners
+  gathered_exist : (p : Name) (os : List Name) → is_at_or_below p a ≡ true → AllByRecursion (λ o. is_at_or_below o a ≡ true) os
+      → AllByRecursion (λ n. exists_over os a n ≡ true) (gathered_up p os)
+  gathered_exist p [] low all = tt
+  gathered_exist p (o ∷ os) low all =
+      let short : length a ≤ common_labels o p = leb-true (length a) (common_labels o p) (sym (common_shares o p _ refl a all.0) ∙ low) in
+      all_both _ _ _ (weaker (IsUp (common_labels o p) o) _ (λ m u. let more : common_labels o p < length m = u.1 in
+      and_from (is_at_or_below m a) _ (below_longer o m a u.0 all.0 (omega arith)) (or_left (is_at_or_below o m) _ u.0)) _ (up_are _ o))
+      (weaker (λ n. exists_over os a n ≡ true) _ (λ n e. grind (arith, common_steps)) _ (gathered_exist o os all.0 all.1))
+
+  -- what exists over them is there, but for what is above the owner before them
+  gathered_has : (p : Name) (os : List Name) (e : Name) → list_any (λ o. is_at_or_below o e) os ≡ true
+      → (is_at_or_below p e ≡ true) ⊎ (list_any (λ n. same_name n e) (gathered_up p os) ≡ true)
+  gathered_has p [] e there = absurd (false≢true there)
+  gathered_has p (o ∷ os) e there =
+      elim (or_cases (is_at_or_below o e) (list_any (λ q. is_at_or_below q e) os) there) [
+        | inl down ↦ here down
+        | inr later ↦ elim (gathered_has o os e later) [
+          | inl down ↦ here down
+          | inr t ↦ inr (list_any-append (λ n. same_name n e) (up_with_more (common_labels o p) o) (gathered_up o os) ∙ or_right _ _ t)
+        ]
+      ]
+    where
+      here : is_at_or_below o e ≡ true → (is_at_or_below p e ≡ true) ⊎ (list_any (λ n. same_name n e) (gathered_up p (o ∷ os)) ≡ true)
+      here down = elim (cases_Bool (nat_le (length e) (common_labels o p))) [
+        | inl l ↦ inl (common_shares o p _ refl e down ∙ l)
+        | inr l ↦ inr (list_any-append (λ n. same_name n e) (up_with_more (common_labels o p) o) (gathered_up o os)
+            ∙ or_left _ _ (up_has (common_labels o p) o e down (grind (arith, nat_tests))))
       ]
 
-  new_below : (m : Name) → IsUp s o m → is_at_or_below m a ≡ true
-  new_below m u = grind (arith, common_steps, apex_short, below_longer)
-
-  old_more : (n : Name) → list_any (λ q. is_at_or_below q n) passed ≡ true → list_any (λ q. is_at_or_below q n) (passed ++ o ∷ []) ≡ true
-  old_more n e = list_any-append (λ q. is_at_or_below q n) passed (o ∷ []) ∙ or_left (list_any (λ q. is_at_or_below q n) passed) (is_at_or_below o n || false) e
-
-  kept : (e : Name) → list_any (λ n. same_name n e) names ≡ true → list_any (λ n. same_name n e) (names ++ up_with_more s o) ≡ true
-  kept e t = grind (arith, common_steps)
-
-  held_more : (e : Name) → is_at_or_below o e ≡ true → is_at_or_below e a ≡ true → list_any (λ n. same_name n e) (names ++ up_with_more s o) ≡ true
-  held_more e down up =
-      elim (cases_Bool (nat_le (length e) s)) [
-        | inl l ↦ kept e (h.held e (shares e down ∙ l) up)
-        | inr l ↦
-            list_any-append (λ n. same_name n e) names (up_with_more s o)
-            ∙ or_right (list_any (λ n. same_name n e) names) (list_any (λ n. same_name n e) (up_with_more s o))
-            (up_has s o e down (grind (arith, nat_tests)))
-      ]
-
-  pub gathered_more : IsGathered a left (passed ++ o ∷ []) (names ++ up_with_more s o) o
-  gathered_more = record {
-    rising = h.rising.1;
-    low = h.low.1;
-    later = weaker (λ q. before o q ≡ true) (λ q. before q o ≡ false) (λ q e. before_order.one_way o q e) left h.rising.0;
-    in_zone = low_o;
-    ascend = ascending_both names (up_with_more s o) h.ascend (up_ascend s o)
-        (weaker (λ n. before p n ≡ false) (λ n. AllByRecursion (λ m. before n m ≡ true) (up_with_more s o))
-        (λ n e. weaker (IsUp s o) (λ m. before n m ≡ true) (λ m u. le_lt before_order n p m e (after_last m u)) (up_with_more s o) (up_are s o))
-        names h.capped);
-    capped = all_both (λ n. before o n ≡ false) names (up_with_more s o)
-        (weaker (λ n. before p n ≡ false) (λ n. before o n ≡ false) (λ n e. before_order.chain o p n h.later.0 e) names h.capped)
-        (weaker (IsUp s o) (λ m. before o m ≡ false) (λ m u. below_from o m u.0) (up_with_more s o) (up_are s o));
-    sound = all_both (λ n. (is_at_or_below n a ≡ true) × ((n ≡ a) ⊎ (list_any (λ q. is_at_or_below q n) (passed ++ o ∷ []) ≡ true)))
-        names (up_with_more s o)
-        (weaker (λ n. (is_at_or_below n a ≡ true) × ((n ≡ a) ⊎ (list_any (λ q. is_at_or_below q n) passed ≡ true)))
-        (λ n. (is_at_or_below n a ≡ true) × ((n ≡ a) ⊎ (list_any (λ q. is_at_or_below q n) (passed ++ o ∷ []) ≡ true)))
-        (λ n t. (t.0, elim t.1 [ inl e ↦ inl e | inr e ↦ inr (old_more n e) ])) names h.sound)
-        (weaker (IsUp s o) (λ n. (is_at_or_below n a ≡ true) × ((n ≡ a) ⊎ (list_any (λ q. is_at_or_below q n) (passed ++ o ∷ []) ≡ true)))
-        (λ m u. (new_below m u, inr (in_any (λ q. is_at_or_below q m) (passed ++ o ∷ []) o (in_middle passed o []) u.0)))
-        (up_with_more s o) (up_are s o));
-    held = held_more;
-    each = λ q i e down up. elim (in_either passed (o ∷ []) q i) [
-      | inl j ↦ kept e (h.each q j e down up)
-      | inr (inl is) ↦ held_more e (ap (λ k. is_at_or_below k e) is ∙ down) up
-      | inr (inr none) ↦ absurd none
-    ];
-  }
-
-pub gathered_end : {a : Name} {owners names : List Name} {p : Name} → IsGathered a [] owners names p
-    → All (λ n. is_at_or_below n a ≡ true) owners → 0 < length owners → IsListOf (exists_over owners a) names
-gathered_end {a = a} {owners = owners} {names = names} h low some = record {
-  ascend = sorted names h.ascend;
-  exactly = λ x. either_way (list_any (λ n. same_name n x) names) (exists_over owners a x) (there x) (back x);
+-- what exists over owners in order is the apex and what they add
+pub gathered_all : (a : Name) (owners : List Name) → IsStrictlySortedBy canonical_cmp owners → All (λ n. is_at_or_below n a ≡ true) owners
+    → 0 < length owners → IsListOf (exists_over owners a) (a ∷ gathered_up a owners)
+gathered_all a owners order below some = record {
+  ascend = sorted (a ∷ gathered_up a owners) (gathered_after a owners low up, gathered_ascends a owners low up);
+  exactly = λ x. either_way (list_any (λ n. same_name n x) (a ∷ gathered_up a owners)) (exists_over owners a x) (there x) (back x);
 }
   where
-    apex_there : list_any (λ o. is_at_or_below o a) owners ≡ true
-    apex_there = first owners some (recursion_from_All (λ n. is_at_or_below n a ≡ true) owners low)
-      where
-        first : (os : List Name) → 0 < length os → AllByRecursion (λ n. is_at_or_below n a ≡ true) os → list_any (λ o. is_at_or_below o a) os ≡ true
-        first [] s t = absurd (omega arith)
-        first (o ∷ os) s t = or_left (is_at_or_below o a) (list_any (λ o. is_at_or_below o a) os) t.0
+    all : AllByRecursion (λ n. is_at_or_below n a ≡ true) owners
+    all = recursion_from_All (λ n. is_at_or_below n a ≡ true) owners below
 
-    moved : (n x : Name) → same_name n x ≡ true → list_any (λ o. is_at_or_below o n) owners ≡ true → list_any (λ o. is_at_or_below o x) owners ≡ true
-    moved n x e t = let m = any_in (λ o. is_at_or_below o n) owners t in in_any (λ o. is_at_or_below o x) owners m.0 m.1 (below_same m.0 n x e m.2)
+    up : IsAscending before owners
+    up = ascending owners order
 
-    there : (x : Name) → list_any (λ n. same_name n x) names ≡ true → exists_over owners a x ≡ true
-    there x t =
-        let n = any_in (λ n. same_name n x) names t in
-        let s = all_in (λ n. (is_at_or_below n a ≡ true) × ((n ≡ a) ⊎ (list_any (λ o. is_at_or_below o n) owners ≡ true))) names n.0 h.sound n.1 in
-        and_from (is_at_or_below x a) (list_any (λ o. is_at_or_below o x) owners) (same_below n.0 x a n.2 s.0)
-        (elim s.1 [
-          | inl is ↦ moved n.0 x n.2 (ap (λ k. list_any (λ o. is_at_or_below o k) owners) is ∙ apex_there)
-          | inr e ↦ moved n.0 x n.2 e
-        ])
+    low : AllByRecursion (λ o. before o a ≡ false) owners
+    low = weaker (λ n. is_at_or_below n a ≡ true) (λ n. before n a ≡ false) (λ n e. below_from n a e) owners all
 
-    back : (x : Name) → exists_over owners a x ≡ true → list_any (λ n. same_name n x) names ≡ true
-    back x t =
-        let q = and_parts (is_at_or_below x a) (list_any (λ o. is_at_or_below o x) owners) t in
-        let m = any_in (λ o. is_at_or_below o x) owners q.1 in
-        h.each m.0 m.1 x m.2 q.0
+    first : (os : List Name) → 0 < length os → AllByRecursion (λ n. is_at_or_below n a ≡ true) os → list_any (λ o. is_at_or_below o a) os ≡ true
+    first [] s t = absurd (omega arith)
+    first (o ∷ os) s t = or_left (is_at_or_below o a) (list_any (λ o. is_at_or_below o a) os) t.0
+
+    moved : (n x : Name) → same_name n x ≡ true → exists_over owners a n ≡ true → exists_over owners a x ≡ true
+    moved n x s e = rw (← one_lowered n x s) e
+
+    there : (x : Name) → list_any (λ n. same_name n x) (a ∷ gathered_up a owners) ≡ true → exists_over owners a x ≡ true
+    there x t = elim (or_cases (same_name a x) _ t) [
+      | inl s ↦ moved a x s (and_from (is_at_or_below a a) _ (below_itself a) (first owners some all))
+      | inr e ↦ let n = any_in (λ n. same_name n x) (gathered_up a owners) e in
+          moved n.0 x n.2 (all_in (λ n. exists_over owners a n ≡ true) (gathered_up a owners) n.0 (gathered_exist a a owners (below_itself a) all) n.1)
+    ]
+
+    back : (x : Name) → exists_over owners a x ≡ true → list_any (λ n. same_name n x) (a ∷ gathered_up a owners) ≡ true
+    back x e =
+        let q = and_parts (is_at_or_below x a) (list_any (λ o. is_at_or_below o x) owners) e in
+        elim (gathered_has a a owners x q.1) [
+          | inl above ↦ or_left (same_name a x) _ (same_both a x above q.0)
+          | inr t ↦ or_right (same_name a x) _ t
+        ]
 
 -- ---- the owners of a chain
 
