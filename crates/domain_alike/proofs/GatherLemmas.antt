@@ -1,6 +1,7 @@
 -- The owners of a list in order and the names above them, gathered one owner after another.
 use Rattle.std.proofs.Common.{◌≡◌, ◌⊎◌, ℕ, ◌+◌, ◌<◌, ◌≤◌, Bool, true, false, cond, not, ◌&&◌, ◌||◌, List, [], ◌∷◌, ◌++◌, length, refl, sym, ap, ◌∙◌, inl, inr}
-use Rattle.std.proofs.{Common.{append-nil, arith}, lemmas.Bool.{cases_Bool, false≢true, leb-true, and_parts, and_from, or_cases, or_left, or_right, Decides.nat_tests}}
+use Rattle.std.proofs.{Common.{append-nil, arith}, lemmas.Bool.{cases_Bool, false≢true, leb-true, and_parts, and_from, or_cases, or_left, or_right}}
+use Rattle.std.proofs.lemmas.Bool.{Decides.nat_tests}
 use Rattle.std.proofs.lemmas.{List.{Elements.recursion_from_All, Folds.list_any-append}, Grind.common_steps}
 use Rattle.std.specs.{Prelude.{All, filter, nat_le, nat_lt}, List.{AllByRecursion, list_any, Sorted.IsStrictlySortedBy}}
 use Rattle.domain_names.specs.{Name.{is_at_or_below, is_strictly_below, lowered, same_name}, Order.{before, canonical_cmp, common_labels}, Words.Name}
