@@ -1,8 +1,8 @@
 -- a line spells one record at most
-use Rattle.std.proofs.{Common.{arith, ◌≡◌, ℕ, List, [], refl, sym, subst, ◌∙◌}, lemmas.Grind.common_steps}
+use Rattle.std.proofs.{Common.{arith, ◌≡◌, ℕ, List, [], sym, subst, ◌∙◌}, lemmas.Grind.common_steps}
 use Rattle.domain_octets.specs.{Line.words_of, Words.Octets}
-use Rattle.domain_base.{specs.{Numbers.{ClassText, TypeText}, Scan.{TakesToken, IsNumber}}, proofs.NamedLemmas.one_named}
-use Rattle.domain_names.{specs.{Text.NameText, Words.{Name, Token, Tokens}}, proofs.SpellingLemmas.one_name}
+use Rattle.domain_base.{specs.{Numbers.{ClassText, TypeText}, Scan.{IsNumber}}, proofs.NamedLemmas.one_named}
+use Rattle.domain_names.{specs.{Words.{Name, Token, Tokens}}, proofs.SpellingLemmas.one_name}
 use Rattle.domain_record.specs.declared.record.Record.{Record}
 use Rattle.domain_rdata.{proofs.ScanLemmas.text_once, specs.{Scan.RdataText, Zone.rtype_of, declared.zone_record_data.ZoneRecordData.ZoneRecordData}}
 use Rattle.domain_message.specs.{Alike.AreAlike, Entry.{HeadTaken, EntryText, LineText}}

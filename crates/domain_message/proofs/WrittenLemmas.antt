@@ -1,23 +1,19 @@
 -- a record that is written without compression stands where it was written
 use Rattle.std.proofs.lemmas.Grind.{common_steps}
 use Rattle.std.proofs.Common.{◌≡◌, ℕ, ◌+◌, ◌<◌, ◌≤◌, ◌^◌, List, [], ◌∷◌, ◌++◌, refl, sym, ap, subst, ◌∙◌, arith, length, length-append, drop}
-use Rattle.std.{proofs.lemmas.List.{append-nil, append_assoc, drop-drop, drop_at, take_at, length-drop}, specs.Int.{w16, to_be_bytes}}
+use Rattle.std.{proofs.lemmas.List.{append-nil, append_assoc, take_at, length-drop}, specs.Int.{w16, to_be_bytes}}
 use Rattle.domain_octets.specs.Words.{Octets}
 use Rattle.domain_names.specs.{Name.{wire_of, IsName}, Words.Name}
 use Rattle.domain_fields.specs.Layout.{octets_of}
 use Rattle.domain_record.specs.declared.record.Record.{Record}
 use Rattle.domain_rdata.specs.{Scan.AreData, Zone.{rtype_of, wire_octets}, declared.zone_record_data.ZoneRecordData.ZoneRecordData}
-use Rattle.domain_rdata.specs.declared.zone_record_data.ZoneRecordData.TheVariants.{A, Ns, Soa, Mx, Dnskey, Ds, Rrsig, Nsec, Nsec3, Nsec3param, Unknown}
+use Rattle.domain_rdata.specs.declared.zone_record_data.ZoneRecordData.TheVariants.{Ns, Soa, Mx, Unknown}
 use Rattle.domain_message.specs.{Data.{PartsAt, DataAt, OctetsAt}, Header.numbers, Record.RecordAt, Written.{HasExactWire, record_octets}}
 use Rattle.domain_message.specs.declared.parts.Part.{Part}
 use Rattle.domain_message.specs.declared.parts.Part.TheVariants as part
-use Rattle.domain_message.proofs.OneNameLemmas.{in_full_at}
+use Rattle.domain_message.proofs.OneNameLemmas.{in_full_at, past}
 
 module _ (message : List ℕ) where
-  -- what stands behind some octets
-  past : (at : ℕ) (front rest : List ℕ) → drop at message ≡ front ++ rest → drop (at + length front) message ≡ rest
-  past at front rest is = sym (drop-drop (length front) at message) ∙ ap (drop (length front)) is ∙ drop_at front rest (length front) refl
-
   -- octets stand where they are
   octets_stand : (at count : ℕ) (front rest : List ℕ) → at ≤ length message → length front ≡ count → drop at message ≡ front ++ rest
       → OctetsAt message at count front (at + count)
@@ -42,7 +38,7 @@ module _ (message : List ℕ) where
       → PartsAt message (part.Plain 2 ∷ part.Name ∷ []) at (preference ++ wire_of name) (at + length (preference ++ wire_of name))
   exchange_parts at preference name rest within two valid is =
       let joined : drop at message ≡ preference ++ (wire_of name ++ rest) = is ∙ append_assoc preference _ rest in
-      let next = subst (λ n. drop (at + n) message ≡ wire_of name ++ rest) two (past at preference (wire_of name ++ rest) joined) in
+      let next = subst (λ n. drop (at + n) message ≡ wire_of name ++ rest) two (past message at preference (wire_of name ++ rest) joined) in
       let end_is : at + length (preference ++ wire_of name) ≡ at + 2 + length (wire_of name) = omega (arith, two, length-append preference (wire_of name)) in
       (preference, wire_of name, at + 2, octets_stand at 2 preference _ within two joined, name_parts (at + 2) name rest _ valid next end_is, refl)
 
@@ -53,9 +49,9 @@ module _ (message : List ℕ) where
   start_parts at m r numbers rest within twenty m_is r_is is =
       let joined : drop at message ≡ wire_of m ++ (wire_of r ++ (numbers ++ rest)) =
       is ∙ append_assoc _ numbers rest ∙ append_assoc (wire_of m) (wire_of r) (numbers ++ rest) in
-      let second = past at (wire_of m) (wire_of r ++ (numbers ++ rest)) joined in
+      let second = past message at (wire_of m) (wire_of r ++ (numbers ++ rest)) joined in
       let within_third = within_past _ (wire_of r) (numbers ++ rest) (within_past at (wire_of m) _ within joined) second in
-      let last = octets_stand _ 20 numbers rest within_third twenty (past _ (wire_of r) (numbers ++ rest) second) in
+      let last = octets_stand _ 20 numbers rest within_third twenty (past message _ (wire_of r) (numbers ++ rest) second) in
       let end = at + length (wire_of m ++ (wire_of r ++ numbers)) in
       let end_is : end ≡ at + length (wire_of m) + length (wire_of r) + 20 =
       omega (arith, twenty, length-append (wire_of m) (wire_of r ++ numbers), length-append (wire_of r) numbers) in

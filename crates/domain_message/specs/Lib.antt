@@ -1,5 +1,4 @@
 pub mod Name
-pub mod Fault
 pub mod Steps
 pub mod ErrorText
 pub mod Refusal

@@ -1,40 +1,69 @@
--- names in a message, where an end of a name may stand at an earlier place (RFC 1035,
--- section 4.1.4)
-use Rattle.std.specs.{Prelude.{◌≡◌, ℕ, ◌+◌, ◌/◌, ◌%◌, ◌<◌, [], ◌∷◌, ◌++◌, length, drop}, List.AllByRecursion}
+-- names in a message, where an end of a name may stand at an earlier place, and why none stands
+-- at a place (RFC 1035, section 4.1.4)
+use Rattle.std.specs.Prelude.{◌≡◌, ℕ, ◌+◌, ◌/◌, ◌%◌, ◌<◌, ◌≤◌, [], ◌∷◌, ◌++◌, length, drop, Result, Ok, Err}
 use Rattle.domain_octets.specs.Words.{Octets}
 use Rattle.domain_names.specs.{Name.{IsLabel, IsName}, Words.Name}
-
--- the octets of labels, before the root or a pointer
-abbrev pub labels_octets : Name → Octets
-labels_octets [] = []
-labels_octets (label ∷ labels) = length label ∷ (label ++ labels_octets labels)
+use Rattle.domain_message.specs.declared.name.NameFault.{NameFault}
+use Rattle.domain_message.specs.declared.name.NameFault.TheVariants as name_fault
 
 -- a pointer to a place: two bits that are set, and the place in 14 bits
 abbrev pub pointer_octets : ℕ → Octets
 pointer_octets target = (192 + target / 256) ∷ (target % 256) ∷ []
-
--- at a place of the message stand labels, and behind them these octets
-pub record RunAt (message : Octets) (at : ℕ) (labels : Name) (behind : Octets) : Type 0 where
-  pub spelled : drop at message ≡ labels_octets labels ++ behind
-  pub of_labels : AllByRecursion IsLabel labels
 
 -- a pointer that is not to the place of the labels before it, and not to a later one
 pub record IsBackward (at target : ℕ) : Type 0 where
   pub earlier : target < at
   pub fits : target < 16384
 
--- at a place of the message stand the labels of a name, up to another place: all of them, and the
--- root, or some of them, and a pointer to an earlier place where the others stand
-pub data LabelsAt (message : Octets) : ℕ → Name → ℕ → Type 0 where
-  in_full : (at : ℕ) (labels : Name) (after : Octets) (end : ℕ)
-      → RunAt message at labels (0 ∷ after) → end ≡ at + length (labels_octets labels) + 1
-      → LabelsAt message at labels end
-  pointed : (at : ℕ) (labels : Name) (target : ℕ) (after : Octets) (end : ℕ) (others : Name)
-      (far : ℕ) → RunAt message at labels (pointer_octets target ++ after)
-      → end ≡ at + length (labels_octets labels) + 2 → IsBackward at target
-      → LabelsAt message target others far → LabelsAt message at (labels ++ others) end
+-- what is wrong behind labels that began at a place, when so many octets of the name are read
+pub data EndFault (at used : ℕ) : Octets → NameFault → Type 0 where
+  no_octet : EndFault at used [] name_fault.ShortInput
+  half_pointer : (high : ℕ) → 192 ≤ high → EndFault at used (high ∷ []) name_fault.ShortInput
+  bad_type : (len : ℕ) (after : Octets) → 63 < len → len < 192
+      → EndFault at used (len ∷ after) name_fault.BadLabelType
+  not_backward : (target : ℕ) (after : Octets) → at ≤ target
+      → EndFault at used (pointer_octets target ++ after) name_fault.ForwardPointer
+  long_name : (len : ℕ) (after : Octets) → 0 < len → len ≤ 63 → 255 < used + len + 2
+      → EndFault at used (len ∷ after) name_fault.LongName
+  cut_label : (len : ℕ) (after : Octets) → 0 < len → len ≤ 63 → used + len + 2 ≤ 255
+      → length after < len → EndFault at used (len ∷ after) name_fault.ShortInput
+
+-- what labels at a place come to: the labels and the place behind them, or their first fault
+abbrev pub Outcome : Type 0
+Outcome = Result (Name × ℕ) NameFault
+
+-- these labels stand before the others
+abbrev pub behind : Name → Outcome → Outcome
+behind labels (Ok r) = Ok (labels ++ r.0, r.1)
+behind labels (Err fault) = Err fault
+
+-- the place behind the labels is this one
+abbrev pub up_to : ℕ → Outcome → Outcome
+up_to end (Ok r) = Ok (r.0, end)
+up_to end (Err fault) = Err fault
+
+-- what labels come to that began at a place and go on at another, when so many octets of the name
+-- are read: the root stands there, or a label with room for the root behind it, or a pointer to an
+-- earlier place where they go on, or there is a fault
+pub data ComesTo (message : Octets) : ℕ → ℕ → ℕ → Outcome → Type 0 where
+  root : (start at used : ℕ) (after : Octets) → drop at message ≡ 0 ∷ after
+      → ComesTo message start at used (Ok ([], at + 1))
+  label : (start at used : ℕ) (label after : Octets) (rest : Outcome) → IsLabel label
+      → drop at message ≡ length label ∷ (label ++ after) → used + length label + 2 ≤ 255
+      → ComesTo message start (at + 1 + length label) (used + 1 + length label) rest
+      → ComesTo message start at used (behind (label ∷ []) rest)
+  pointer : (start at used target : ℕ) (after : Octets) (rest : Outcome)
+      → drop at message ≡ pointer_octets target ++ after → IsBackward start target
+      → ComesTo message target target used rest
+      → ComesTo message start at used (up_to (at + 2) rest)
+  at_fault : (start at used : ℕ) (fault : NameFault) → EndFault start used (drop at message) fault
+      → ComesTo message start at used (Err fault)
 
 -- at a place of the message stands this name, up to another place
 pub record NameAt (message : Octets) (at : ℕ) (name : Name) (end : ℕ) : Type 0 where
-  pub stands : LabelsAt message at name end
+  pub stands : ComesTo message at at 0 (Ok (name, end))
   pub valid : IsName name
+
+-- the first fault of labels at a place, when so many octets of the name are read
+abbrev pub LabelsFault : Octets → ℕ → ℕ → NameFault → Type 0
+LabelsFault message at used fault = ComesTo message at at used (Err fault)

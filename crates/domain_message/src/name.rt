@@ -1,9 +1,8 @@
 //! Names in a message, whose ends may stand at earlier places (RFC 1035, section 4.1.4).
-ghost use Rattle.std.specs.Prelude.{◌≡◌, ℕ, ◌+◌, ◌<◌, ◌≤◌, length, drop, IfOk, IfErr};
+ghost use Rattle.std.specs.Prelude.{◌≡◌, ℕ, ◌+◌, ◌<◌, ◌≤◌, [], None, Err, length, IfOk, IfErr, IfSome};
 ghost use Rattle.domain_names.specs.{Name.wire_of, Words.Name};
-ghost use Rattle.domain_message.specs.{Name.NameAt, Fault.{EndFault, LabelsFault}};
-ghost use Rattle.domain_message.specs.Refusal.{RefusesName};
-ghost use Rattle.domain_message.specs.Steps.{LabelsBetween, Stops, EndsWith, RunRead, LabelsRead};
+ghost use Rattle.domain_message.specs.{Name.{up_to, ComesTo, LabelsFault, NameAt, Outcome}, Refusal.RefusesName};
+ghost use Rattle.domain_message.specs.Steps.{GoesOn, LabelsBetween, Stops, RunRead};
 
 use crate::MessageError;
 use domain_base::MakeName;
@@ -46,6 +45,7 @@ struct Run {
 
 /// The place where the labels end that stand at a place, when so many octets of the name were read
 /// before.
+#[tactic(auto, using(crate::proofs::NameLemmas::label_steps))]
 fn labels_end(message: &[u8], start: usize, used: usize) -> Result<usize, NameFault>
     requires { used < 255 }
     ensures ok { IfOk result (LabelsBetween message.now start used) }
@@ -75,11 +75,14 @@ fn labels_end(message: &[u8], start: usize, used: usize) -> Result<usize, NameFa
 }
 
 /// The root or the pointer at a place, behind labels that began at another.
+#[tactic(auto, using(crate::proofs::NameLemmas::root_ends, crate::proofs::NameLemmas::half_fault))]
 fn run_end(message: &[u8], start: usize, at: usize) -> Result<Run, NameFault>
     requires { Stops message.now at }
-    ensures ok { IfOk result (λ run.
-        EndsWith start at (drop at message.now) run.target run.end) }
-    ensures err { IfErr result (λ e. (used : ℕ) → EndFault start used (drop at message.now) e) }
+    ensures ok { IfOk result (λ run. (used : ℕ) (rest : Outcome)
+        → GoesOn message.now run.target used rest
+        → ComesTo message.now start at used (up_to run.end rest)) }
+    ensures back { IfOk result (λ run. IfSome run.target (λ target. target < start)) }
+    ensures err { IfErr result (λ e. (used : ℕ) → ComesTo message.now start at used (Err e)) }
 {
     let high = message[at];
     if high == 0 {
@@ -102,11 +105,12 @@ fn run_end(message: &[u8], start: usize, at: usize) -> Result<Run, NameFault>
 }
 
 /// Appends the octets of the labels that stand at a place.
-#[tactic(auto, using(crate::proofs::NameLemmas::end_fault_here))]
+#[tactic(auto, using(crate::proofs::NameLemmas::run_read, crate::proofs::NameLemmas::run_fault))]
 fn read_run(message: &[u8], start: usize, wire: &mut NameOctets) -> Result<Run, NameFault>
     requires { length wire.old < 255 }
     ensures ok { IfOk result (λ run.
         RunRead message.now start wire.old wire.new run.target run.end) }
+    ensures back { IfOk result (λ run. IfSome run.target (λ target. target < start)) }
     ensures err { IfErr result (LabelsFault message.now start (length wire.old)) }
 {
     let at = labels_end(message, start, wire.as_slice().len())?;
@@ -118,8 +122,9 @@ fn read_run(message: &[u8], start: usize, wire: &mut NameOctets) -> Result<Run, 
 }
 
 /// The octets of all labels of the name that stands at a place, and the place after it.
+#[tactic(auto, using(crate::proofs::NameLemmas::run_next))]
 fn read_labels(message: &[u8], at: usize) -> Result<(NameOctets, usize), NameFault>
-    ensures ok { IfOk result (λ r. LabelsRead message.now at r.0 r.1) }
+    ensures ok { IfOk result (λ r. RunRead message.now at [] r.0 None r.1) }
     ensures err { IfErr result (LabelsFault message.now at 0) }
 {
     let mut wire = ArrayBuilder::new();
@@ -132,6 +137,7 @@ fn read_labels(message: &[u8], at: usize) -> Result<(NameOctets, usize), NameFau
 
 /// The name that stands at a place of a message, as its octets without compression, and the place
 /// after it.
+#[tactic(auto, using(crate::proofs::OneNameLemmas::read_inside))]
 pub(crate) fn name_at(message: &[u8], at: usize) -> Result<(NameOctets, usize), NameFault>
     ensures ok { IfOk result (λ r. (name : Name) × NameAt message.now at name r.1
         × (r.0 ≡ wire_of name)) }

@@ -1,4 +1,4 @@
-use Rattle.std.proofs.{Common.{arith, sym, subst}, lemmas.{Grind.common_steps, Result.err_from_is_err_and}}
+use Rattle.std.proofs.{Common.{sym, subst}, lemmas.{Result.err_from_is_err_and}}
 use Rattle.domain_rdata.specs.Zone.{kind_of}
 use Rattle.domain_message.specs.Record.{in_header, in_data, in_octets, RefusesData, OctetsRefusal}
 use Rattle.domain_message.proofs.record.read_record.Goals as goal
