@@ -136,21 +136,20 @@ module _ (apart : TellsApart) (L : List ZoneRecord) (a : Name) (config : ChainCo
         let k = get_or links i first.link in
         let there : slice_get links i ≡ Some k = slice_get-get_or links i first.link (omega (arith, last)) in
         let r = record_at i k there in
-        let next : k.next ≡ first.hash = next_is i k r.0 r.1
-        ∙ get_or_past hashes (suc i) (get_or hashes 0 []) (omega (arith, many, last))
-        ∙ get_or_from_slice_get hashes 0 first.hash [] (cycled 0 first.link first.hash first.is).1 in
+        let next = next_is i k r.0 r.1 in
+        let low = last_next i k r.0 r.1 last in
+        let begins = (cycled 0 first.link first.hash first.is).1 in
         record {
           link = k;
           hash = r.0;
           is = r.1;
-          says = said r.0 k.next v (inr (ap (octets_before v) next ∙ first.order, last_next i k r.0 r.1 last));
+          says = grind (arith, common_steps, said, get_or_past, many, get_or_from_slice_get);
         }
 
     -- else the last whose hash is not after it
     pub searched : (low high : ℕ) → low < high → high ≤ length links → high - low ≤ 1 → IsOrdered a links v low false
         → IsAhead a links v high → IsSaid a links v low
     searched low high within end near behind ahead =
-        let high_is : high ≡ suc low = omega (arith, within, near) in
         record {
           link = behind.link;
           hash = behind.hash;
@@ -158,13 +157,10 @@ module _ (apart : TellsApart) (L : List ZoneRecord) (a : Name) (config : ChainCo
           says = said behind.hash behind.link.next v (inl (
             behind.order,
             elim ahead [
-              | inl e ↦ inr (last_next low behind.link behind.hash behind.is (omega (arith, high_is, e)))
-              | inr f ↦ inl (
-                  ap (octets_before v) (next_is low behind.link behind.hash behind.is
-                  ∙ get_or_from_slice_get hashes (suc low) f.hash (get_or hashes 0 [])
-                  (sym (ap (slice_get hashes) high_is) ∙ (cycled high f.link f.hash f.is).1))
-                  ∙ f.order
-                  )
+              | inl e ↦ inr (last_next low behind.link behind.hash behind.is (omega (arith, within, near, e)))
+              | inr f ↦
+                  let next = next_is low behind.link behind.hash behind.is in
+                  inl (grind (arith, common_steps, get_or_from_slice_get, (cycled high f.link f.hash f.is)))
             ],
           ));
         }

@@ -18,7 +18,7 @@ use Rattle.domain_answer.{specs.declared.answer.Answer.{Answer, TheVariants.{NoC
 use Rattle.domain_answer.proofs.{EncloserLemmas.strictly_other, HashedAnswerLemmas.{encloser_is, read_proved}, HashedWayLemmas.unheard}
 use Rattle.domain_answer.proofs.HashedWholeLemmas.{IsOfZone, encloser_told as whole_tells, whole_proves, zone_says}
 use Rattle.domain_denier.specs.{HashedPicked.{AreHashedNeeded, IsHashedDenial, IsHashedWhole, hashed_picked, picked_without}, HashedSteps.IsPickedRead}
-use Rattle.domain_denier.specs.{HashedSteps.{IsSoleCover, IsSoleMatch, IsSoleWildcard}, Picked.at_place, declared.nsec3.Nsec3Denial.Nsec3Denial}
+use Rattle.domain_denier.specs.{HashedSteps.{IsSoleBelow, IsSoleMatch}, Picked.at_place, declared.nsec3.Nsec3Denial.Nsec3Denial}
 use Rattle.domain_denier.proofs.{HashSearchLemmas.cycle_length, SomeLemmas.{AreAmong, all_among, among_contained, contained, in_place, no_match, others_among}}
 use Rattle.domain_denier.proofs.SomeLemmas.{picked_among, without_others}
 
@@ -155,11 +155,13 @@ module _ (L : List ZoneRecord) (config : ChainConfig) (chain : ChainRecords) (x 
     encloser_told : (place : ℕ) → IsSoleMatch R x place → is_matched (chain_records a config (at_place links (Some place))) en ≡ true
     encloser_told place sole = grind (arith, common_steps, (hash_same config.hash en sole.name (is_first place sole)))
 
-    closer_told : (place : ℕ) → IsSoleCover R x place → is_covered (chain_records a config (at_place links (Some place))) (next_closer x en) ≡ true
+    closer_told : (place : ℕ) → IsSoleBelow R x (next_closer x) false place
+        → is_covered (chain_records a config (at_place links (Some place))) (next_closer x en) ≡ true
     closer_told place cover = grind (arith, common_steps, (same_count en cover.sole.name (is_first cover.encloser cover.sole)))
 
-    wildcard_told : (place : ℕ) → IsSoleWildcard R x place → tells_wildcard L a config (at_place links (Some place)) x ≡ true
-    wildcard_told place told =
+    wildcard_told : (place : ℕ) (m : Bool) → IsSoleBelow R x (λ n. wildcard_below (last_labels (length n) x)) m place
+        → tells_wildcard L a config (at_place links (Some place)) x ≡ true
+    wildcard_told place m told =
         let listed = at_place links (Some place) in
         let w = wildcard_below en in
         let count = same_count en told.sole.name (is_first told.encloser told.sole) in
@@ -183,7 +185,7 @@ module _ (L : List ZoneRecord) (config : ChainConfig) (chain : ChainRecords) (x 
           parts = record {
             encloser = λ place e. encloser_told place (read.matched place e);
             next_closer = λ place e. closer_told place (read.covered place e);
-            wildcard = λ place e. wildcard_told place (read.told place e);
+            wildcard = λ place e. wildcard_told place (read.told place e).0 (read.told place e).1;
           };
           needed = needed_is d read;
         }

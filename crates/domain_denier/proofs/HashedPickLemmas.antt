@@ -1,6 +1,6 @@
 -- What is picked of an NSEC3 chain answers as the whole chain does, and less without one of its records.
 use Rattle.std.proofs.Common.{◌≡◌, ℕ, ◌<◌, Bool, true, false, cond, List, [], length, Some, None, Option, slice_get, nat_eq, refl, sym, ap, ◌∙◌, subst, inl}
-use Rattle.std.proofs.{Common.{inr, arith}, lemmas.{Bool.{eqb-false, false_from_ne_true, false≢true}, Grind.common_steps, Option.slice_get_cases}}
+use Rattle.std.proofs.{Common.{inr, arith}, lemmas.{Bool.{eqb-false, false_from_ne_true, false≢true}, Grind.common_steps}}
 use Rattle.std.specs.{List.list_any, Prelude.Ok}
 use Rattle.domain_octets.{specs.Words.Octets, proofs.StdLemmas.{some_is, none_some}}
 use Rattle.domain_names.specs.{Name.{is_at_or_below, last_labels}, Words.Name}
@@ -9,13 +9,13 @@ use Rattle.domain_bitmap.specs.Blocks.{contains_type}
 use Rattle.domain_zone.proofs.{FindLemmas.{any_none, in_at}, NameLemmas.below_length, OwnerLemmas.in_any, PairLemmas.In}
 use Rattle.domain_nsec3.specs.{Chain.HashedLink, Config.hash_name}
 use Rattle.domain_checker.specs.{HashedEncloser.{Encloser, IsEncloser, encloser_is_cut, next_cover}, HashedList.is_hash_match, HashedReading.IsNextHash}
-use Rattle.domain_checker.specs.{HashedReading.IsUnmatched, HashedVerdict.{is_matched, is_ok_with}, HashedView.{HashedRecords, first_cover, first_match}}
-use Rattle.domain_checker.{specs.HashedView.with_links, proofs.HashedWalkLemmas.some_matched}
+use Rattle.domain_checker.specs.{HashedReading.IsUnmatched, HashedVerdict.{is_matched, is_ok_with, next_closer}, HashedView.{HashedRecords, first_cover}}
+use Rattle.domain_checker.{specs.HashedView.{first_match, with_links}, proofs.HashedWalkLemmas.some_matched}
 use Rattle.domain_answer.specs.HashedReading.{IsHashedRead, IsReadOn, IsWildcardRead, encloser_answer, next_answer, own_answer, wildcard_told}
 use Rattle.domain_answer.specs.{ZoneAnswer.wildcard_below, declared.answer.Answer.{Answer, TheVariants.{Referral, Redirected, NoCloserName, NotProven}}}
 use Rattle.domain_answer.proofs.{EncloserLemmas.last_above, ExpansionLemmas.last_low, HashedWayLemmas.closer_counts}
 use Rattle.domain_denier.specs.{HashedPicked.{AreHashedThere, TellsOfName, hashed_picked, picked_without, without_records}, HashedSteps.IsCoverAt}
-use Rattle.domain_denier.specs.HashedSteps.{IsFirstDenial, IsInside, IsOfHash, IsPickedRead, IsPlaced, IsSoleCover, IsSoleMatch, encloser_with, link_at}
+use Rattle.domain_denier.specs.HashedSteps.{IsFirstDenial, IsInside, IsOfHash, IsPickedRead, IsPlaced, IsSoleBelow, IsSoleMatch, encloser_with, link_at}
 use Rattle.domain_denier.specs.{HashedSteps.{next_role, wildcard_told_by}, declared.{encloser.PlacedEncloser.PlacedEncloser, nsec3.Nsec3Denial.Nsec3Denial}}
 use Rattle.domain_denier.proofs.SomeLemmas.{AreAmong, AreOthers, all_among, covered, in_picked, in_without, matched, no_cover, no_match, others_among}
 use Rattle.domain_denier.proofs.SomeLemmas.{picked_among, unmatched, without_others}
@@ -142,10 +142,10 @@ module _ (R : HashedRecords) (x : Name) (f : PlacedEncloser) (t : ℕ) where
       sole : (place : ℕ) → d.of_encloser ≡ Some place → IsSoleMatch R x place
       sole place e = subst (IsSoleMatch R x) (some_is f.place place (sym first.encloser ∙ e)) placed.sole
 
-      sole_cover : (place : ℕ) → d.of_next_closer ≡ Some place → IsSoleCover R x place
+      sole_cover : (place : ℕ) → d.of_next_closer ≡ Some place → IsSoleBelow R x (next_closer x) false place
       sole_cover place e = by placed.next placed.closes placed.cover
         where
-          by : (next : Option Octets) → IsNextHash R.hash x placed.sole.name next → IsCoverAt R next f.cover → IsSoleCover R x place
+          by : (next : Option Octets) → IsNextHash R.hash x placed.sole.name next → IsCoverAt R next f.cover → IsSoleBelow R x (next_closer x) false place
           by None n none = absurd (none_some place (sym none ∙ (rests_below place e).3))
           by (Some w) n at =
               let same : at.0 ≡ place = some_is at.0 place (sym at.1 ∙ (rests_below place e).3) in
@@ -203,13 +203,10 @@ module _ (R : HashedRecords) (x : Name) (f : PlacedEncloser) (t : ℕ) where
           where
             by : (b : Bool) → m ≡ b → wildcard_told_by n t of.link m ≡ wildcard_told n t (first_match (with_links R listed) value)
                 (first_cover (with_links R listed) value)
-            by true g =
-                let found = matched R.links R.apex R.parameters value place m of listed among has g in
-                ap (wildcard_told_by n t of.link) g ∙ (λ i. wildcard_told n t (sym found i) (first_cover (with_links R listed) value))
+            by true g = grind (arith, common_steps, (matched R.links R.apex R.parameters value place m of listed among has g))
             by false g =
                 let none = unmatched R.links R.apex R.parameters value place m of listed among g in
-                let found = covered R.links R.apex R.parameters value place m of listed among has g in
-                ap (wildcard_told_by n t of.link) g ∙ (λ i. wildcard_told n t (sym none i) (sym found i))
+                grind (arith, common_steps, (covered R.links R.apex R.parameters value place m of listed among has g))
 
         wild_gone : (listed : List HashedLink) → AreOthers R.links place listed → IsWildcardRead (with_links R listed) x t n (NoCloserName n)
         wild_gone listed others = record {
@@ -217,6 +214,15 @@ module _ (R : HashedRecords) (x : Name) (f : PlacedEncloser) (t : ℕ) where
           known = known;
           says = λ i. wildcard_told n t (sym (no_match R.links R.apex R.parameters value place m of listed others) i)
               (sym (no_cover R.links R.apex R.parameters value place m of listed others) i);
+        }
+
+        told_at : (j : ℕ) → place ≡ j → IsSoleBelow R x (λ y. wildcard_below (last_labels (length y) x)) m j
+        told_at j same = record {
+          encloser = f.place;
+          sole = placed.sole;
+          value = value;
+          known = ap (λ i. hash_name R.hash (wildcard_below (last_labels i x))) (sym counted) ∙ known;
+          of = subst (λ i. IsOfHash R.apex R.parameters R.links value i m) same of;
         }
 
         pub wildcard_read : IsPickedRead R x t e
@@ -228,14 +234,7 @@ module _ (R : HashedRecords) (x : Name) (f : PlacedEncloser) (t : ℕ) where
               (wild_in (hashed_picked R.links e) (picked_among R.links e) (in_picked R.links e place of.link of.there (inr role)));
           matched = λ j g. sole j (sym encloser ∙ g);
           covered = λ j g. sole_cover j (sym next_closer ∙ g);
-          told = λ j g. record {
-            encloser = f.place;
-            sole = placed.sole;
-            value = value;
-            known = ap (λ i. hash_name R.hash (wildcard_below (last_labels i x))) (sym counted) ∙ known;
-            is_match = m;
-            of = subst (λ i. IsOfHash R.apex R.parameters R.links value i m) (some_is place j (sym role ∙ g)) of;
-          };
+          told = λ j g. (m, told_at j (some_is place j (sym role ∙ g)));
           next_closer = without_closer e encloser_is (λ q g. sym next_closer ∙ g);
           wildcard = λ j g apart.
               let listed = picked_without R.links j e in
@@ -281,16 +280,7 @@ asked_below links a x f low inside k t n e =
     let c = closer_counts a (encloser_with f.count k (link_at links f.cover)) (length x) t n e in
     let short = below_length x inside.name inside.above in
     let long = below_length inside.name a inside.within in
-    let other = eqb-false f.count (length x) c.1 in
-    let less : n < length x = omega (arith, c.0, inside.counts, short, other) in
-    record {
-      less = less;
-      above = last_above x n;
-      within = last_low a x n low (omega (arith, c.0, inside.counts, long)) (omega (arith, less));
-    }
-
-pub record_there : (links : List HashedLink) (place : ℕ) → place < length links → (k : HashedLink) × (slice_get links place ≡ Some k)
-record_there links place h = elim (slice_get_cases links place).1 [ inl some ↦ (some.0, some.2) | inr none ↦ absurd (omega (arith, h, none.0)) ]
+    grind (arith, common_steps, eqb-false, last_above, last_low)
 
 -- ---- the places are places of the chain
 

@@ -1,27 +1,25 @@
 -- What one record, or two of which the first denies a name alone, tell by what they are judged to say.
-use Rattle.std.proofs.Common.{◌≡◌, ◌≢◌, ℕ, ◌<◌, Bool, true, false, cond, not, ◌&&◌, List, [], ◌∷◌, ◌++◌, length, slice_get, get_or, Option, Some, None, refl}
-use Rattle.std.proofs.{Common.{sym, ap, ◌∙◌, subst, arith, inl, inr}, lemmas.Bool.{and_left, cases_Bool, false≢true, or_parts, true_from_ne_false}}
-use Rattle.std.{proofs.lemmas.{Grind.common_steps, Option.{slice_get_cases, slice_get_read}}, specs.List.find}
+use Rattle.std.proofs.Common.{◌≡◌, ◌≢◌, ℕ, ◌<◌, Bool, true, false, cond, not, List, [], ◌∷◌, ◌++◌, length, slice_get, get_or, Option, Some, None, refl}
+use Rattle.std.proofs.{Common.{sym, ap, ◌∙◌, subst, arith, inl, inr}, lemmas.Bool.{and_left, cases_Bool, or_parts, true_from_ne_false}}
+use Rattle.std.{proofs.lemmas.{Grind.common_steps, Option.{slice_get_read}}, specs.List.find}
 use Rattle.domain_names.specs.{Name.{is_at_or_below, is_strictly_below, same_name, last_labels}, Order.before, Words.Name}
-use Rattle.domain_zone.{specs.{Covering.{covers, matches, matches_or_covers}, Enclosers.{longer, shared}}, proofs.{FindLemmas.find_none, NameLemmas.same_is}}
+use Rattle.domain_zone.{specs.{Covering.{matches_or_covers}, Enclosers.{longer, shared}}, proofs.{NameLemmas.same_is}}
 use Rattle.domain_nsec.specs.Chain.{Link}
-use Rattle.domain_checker.specs.{Reading.{is_at_cut, is_cover, is_match}, Verdict.is_inside}
-use Rattle.domain_answer.specs.Reading.{IsNameAnswer, name_answer, absent_answer, cover_answer, listed_both, match_answer, owner_answer, reading}
-use Rattle.domain_answer.specs.{Reading.{tells_occluded, wildcard_answer, wildcard_both, wildcard_match_answer}, ZoneAnswer.{is_at_parent, wildcard_below}}
-use Rattle.domain_answer.specs.declared.answer.{Answer.{Answer, TheVariants.{AtParent, NoCloserName, NoData, OutsideZone}}, NameAnswer.NameAnswer}
-use Rattle.domain_answer.{specs.declared.answer.NameAnswer.TheVariants.Given, proofs.ProofLemmas.{given_never, match_own, owner_own}}
+use Rattle.domain_checker.specs.{Reading.{is_cover, is_match}}
+use Rattle.domain_answer.specs.Reading.{IsNameAnswer, name_answer, absent_answer, listed_both, reading}
+use Rattle.domain_answer.specs.{Reading.{tells_occluded, wildcard_answer, wildcard_both}, ZoneAnswer.{is_at_parent, wildcard_below}}
+use Rattle.domain_answer.specs.declared.answer.{Answer.{Answer, TheVariants.{AtParent, NoCloserName, OutsideZone}}, NameAnswer.NameAnswer}
+use Rattle.domain_answer.{specs.declared.answer.NameAnswer.TheVariants.Given, proofs.ProofLemmas.{given_never, match_own}}
 use Rattle.domain_denier.specs.{Judged.{IsOfWildcard, IsSilent, IsTold, Tells}, Picked.{IsOf, at_place, listed_option}, declared.judged.OfWildcard.OfWildcard}
-use Rattle.domain_denier.specs.declared.judged.OfWildcard.TheVariants.{Told, Untold}
+use Rattle.domain_denier.{specs.declared.judged.OfWildcard.TheVariants.{Told, Untold}, proofs.SomeLemmas.record_there}
 
 -- a record that neither matches nor covers is found by neither test
 silent_tests : (a x : Name) (k : Link) → matches_or_covers before k.owner k.next x ≡ false → (is_match a x k ≡ false) × (is_cover a x k ≡ false)
-silent_tests a x k e =
-    let p = or_parts (matches before k.owner x) (covers before k.owner k.next x) e in
-    (and_left (matches before k.owner x) (is_inside a k) p.0, and_left (covers before k.owner k.next x) (is_inside a k) p.1)
+silent_tests a x k e = grind (arith, common_steps, and_left, or_parts)
 
 -- a record whose owner is another name does not match
 pub unmatched : (a x : Name) (k : Link) → same_name k.owner x ≡ false → is_match a x k ≡ false
-unmatched a x k e = λ i. (sym (same_is k.owner x) ∙ e) i && is_inside a k
+unmatched a x k e = grind (arith, common_steps, same_is)
 
 -- ---- what is said of a wildcard tells that the name is denied
 
@@ -39,17 +37,12 @@ told_whole a listed x t whole told is tells = grind (arith, common_steps)
 
 -- ---- only of a name outside the zone is it said that it is
 
-cover_inside : (o c s : Bool) (n : ℕ) (v : Answer) → v ≢ OutsideZone
-    → cond o (cond c (Answer.Referral n) (Answer.Redirected n)) (cond s NoData v) ≢ OutsideZone
-cover_inside o c s n v f e = grind (arith, common_steps)
-
 -- what is given for it would be no wildcard's, nor a record's
 listed_inside : (a : Name) (listed : List Link) (x : Name) (t : ℕ) (m c : Option Link) → listed_both a listed x t m c ≢ OutsideZone
 listed_inside a listed x t (Some k) c e = grind (arith, common_steps)
 listed_inside a listed x t None (Some k) e =
     let n = length (longer (shared x k.owner) (shared x k.next)) in
-    cover_inside (tells_occluded a k x) (is_at_cut a k) (is_strictly_below k.next x) (length k.owner) (absent_answer a listed n x t)
-    (told_wildcard a (wildcard_below (last_labels n x)) n t listed).inside e
+    let told = told_wildcard a (wildcard_below (last_labels n x)) n t listed in grind (arith, common_steps)
 listed_inside a listed x t None None e = absurd (cc)
 
 pub outside_only : (a : Name) (listed : List Link) (x : Name) (t : ℕ) → reading a listed x t ≡ OutsideZone → is_at_or_below x a ≡ false
@@ -69,14 +62,10 @@ module _ (a x : Name) (t : ℕ) (k : Link) where
       cond (not u) OutsideZone (cond p AtParent (listed_both a (k ∷ []) x t (cond m (Some k) None) (cond c (Some k) None)))
 
   unproven : (u p : Bool) → IsTold (chosen u p false false) → ⊥
-  unproven false p told = told.inside refl
-  unproven true true told = told.here refl
-  unproven true false told = told.proven refl
+  unproven u p told = grind (arith, common_steps)
 
   pub told_by_one : IsTold (reading a (k ∷ []) x t) → matches_or_covers before k.owner k.next x ≡ true
-  told_by_one told = true_from_ne_false (matches_or_covers before k.owner k.next x) (λ e.
-      let tests = silent_tests a x k e in
-      unproven (is_at_or_below x a) (is_at_parent a x t) (rw (tests.0, tests.1) at told))
+  told_by_one told = grind (arith, common_steps, (silent_tests a x k), unproven, true_from_ne_false)
 
   -- ---- a record that denies the name alone
 
@@ -95,54 +84,23 @@ module _ (a x : Name) (t : ℕ) (k : Link) where
   abbrev w_of : ℕ → Name
   w_of n = wildcard_below (last_labels n x)
 
-  wildcard_match_never : (n m : ℕ) → wildcard_match_answer a n k t ≡ NoCloserName m → ⊥
-  wildcard_match_never n m e = grind (arith, common_steps)
-
   -- what leaves no more to ask than the wildcard, by the tests of the name
   chosen_parts : (u p m c : Bool) (n : ℕ) → chosen u p m c ≡ NoCloserName n
-      → (u ≡ true) × (p ≡ false) × (m ≡ false) × (c ≡ true) × (cover_answer a (k ∷ []) k x t ≡ NoCloserName n)
-  chosen_parts false p m c n e = absurd (cc)
-  chosen_parts true true m c n e = absurd (cc)
-  chosen_parts true false true c n e = absurd (given_never (match_answer a k t) (match_answer a k t) (sym (match_own a k t)) n e)
-  chosen_parts true false false false n e = absurd (cc)
-  chosen_parts true false false true n e = (refl, refl, refl, refl, e)
-
-  cover_parts : (o s : Bool) (absent : Answer) (n : ℕ) → cond o (owner_answer a k) (cond s NoData absent) ≡ NoCloserName n
-      → (o ≡ false) × (s ≡ false) × (absent ≡ NoCloserName n)
-  cover_parts true s absent n e = absurd (given_never (owner_answer a k) (owner_answer a k) (sym (owner_own a k)) n e)
-  cover_parts false true absent n e = absurd (cc)
-  cover_parts false false absent n e = (refl, refl, e)
+      → (u ≡ true) × (p ≡ false) × (m ≡ false) × (c ≡ true) × (tells_occluded a k x ≡ false) × (is_strictly_below k.next x ≡ false)
+      × (absent_answer a (k ∷ []) (length (longer (shared x k.owner) (shared x k.next))) x t ≡ NoCloserName n)
+  chosen_parts u p m c n e = grind (arith, common_steps, (match_own a k t), given_never)
 
   -- and by those of the wildcard, which the record may cover where it says nothing
   silent_parts : (n m : ℕ) (mb cb : Bool) → wildcard_both a n (w_of n) t (cond mb (Some k) None) (cond cb (Some k) None) ≡ NoCloserName m
       → (n ≡ m) × (mb ≡ false) × (cb ≡ true → tells_occluded a k (w_of n) ≡ true)
-  silent_parts n m true cb e = absurd (wildcard_match_never n m e)
-  silent_parts n m false false e = ((cc), refl, λ f. absurd (false≢true f))
-  silent_parts n m false true e = let by = covered (tells_occluded a k (w_of n)) (is_strictly_below k.next (w_of n)) e in (by.0, refl, λ f. by.1)
-    where
-      covered : (o s : Bool) → cond o (NoCloserName n) (cond s (Answer.WildcardNoData n) (Answer.NameError n)) ≡ NoCloserName m
-          → (n ≡ m) × (o ≡ true)
-      covered true s e = ((cc), refl)
-      covered false true e = absurd (cc)
-      covered false false e = absurd (cc)
+  silent_parts n m mb cb e = grind (arith, common_steps)
 
   pub denies : (n : ℕ) → reading a (k ∷ []) x t ≡ NoCloserName n → Denies n
   denies n e =
       let N = length (longer (shared x k.owner) (shared x k.next)) in
       let q = chosen_parts (is_at_or_below x a) (is_at_parent a x t) (is_match a x k) (is_cover a x k) n e in
-      let c = cover_parts (tells_occluded a k x) (is_strictly_below k.next x) (absent_answer a (k ∷ []) N x t) n q.4 in
-      let s = silent_parts N n (is_match a (w_of N) k) (is_cover a (w_of N) k) c.2 in
-      record {
-        under = q.0;
-        parent = q.1;
-        unmatching = q.2;
-        covering = q.3;
-        free = c.0;
-        no_end = c.1;
-        counts = s.0;
-        silent = rw s.0 at s.1;
-        occluded = rw s.0 at s.2;
-      }
+      let s = silent_parts N n (is_match a (w_of N) k) (is_cover a (w_of N) k) q.6 in
+      grind (arith, common_steps)
 
   -- ---- with another record
 
@@ -168,14 +126,12 @@ placed links p k inside is = ap listed_option (slice_get_read links (length link
 
 module _ (links : List Link) (a x : Name) (t : ℕ) where
   pub one_at : (p : ℕ) → p < length links → IsTold (reading a (at_place links (Some p)) x t) → IsOf links p x
-  one_at p inside told = elim (slice_get_cases links p).1 [
-    | inl some ↦ record {
-      link = some.0;
-      there = some.2;
-      says = told_by_one a x t some.0 (subst (λ ls. IsTold (reading a ls x t)) (ap listed_option some.2) told);
-    }
-    | inr none ↦ absurd (omega (arith, inside, none.0))
-  ]
+  one_at p inside told =
+      let some = record_there links p inside in record {
+        link = some.0;
+        there = some.1;
+        says = told_by_one a x t some.0 (subst (λ ls. IsTold (reading a ls x t)) (ap listed_option some.1) told);
+      }
 
   -- where the first record denies the name and says nothing of the wildcard, the second alone says of that what both do
   module _ (p q n : ℕ) (l : Link) (in_q : q < length links) (l_is : l ≡ get_or links q l)
@@ -194,36 +150,26 @@ module _ (links : List Link) (a x : Name) (t : ℕ) where
       at_p = ap listed_option k_is
 
       denied : Denies a x t k n
-      denied = denies a x t k n (sym (λ i. reading a (at_p i) x t) ∙ says)
+      denied = grind (arith, common_steps, at_p, (denies a x t k n))
 
-      unmatching : is_match a w k ≡ false
-      unmatching = find_none (is_match a w) (k ∷ []) (sym (ap (find (is_match a w)) at_p) ∙ silent.matching) k (inl refl)
-
-      uncovering : is_cover a w k ≡ false
-      uncovering = find_none (is_cover a w) (k ∷ []) (sym (ap (find (is_cover a w)) at_p) ∙ silent.covering) k (inl refl)
+      unfound : (f : Link → Bool) → find f (at_place links (Some p)) ≡ None → f k ≡ false
+      unfound f e = grind (arith, common_steps, at_p)
 
       second_alone : wildcard_answer a (l ∷ []) n w t ≡ wildcard_answer a (k ∷ l ∷ []) n w t
-      second_alone = sym (λ i. wildcard_both a n w t (cond (unmatching i) (Some k) (find (is_match a w) (l ∷ [])))
-          (cond (uncovering i) (Some k) (find (is_cover a w) (l ∷ []))))
+      second_alone = rw (unfound (is_match a w) silent.matching, unfound (is_cover a w) silent.covering) refl
 
       both : IsBoth
       both = record {
-        reads = second_alone ∙ ap (λ v. wildcard_answer a (k ∷ l ∷ []) n v t) w_is ∙ sym (both_read a x t k n denied l (unmatched a x l apart))
-            ∙ sym (λ i. reading a (at_p i ++ at_q i) x t);
+        reads = grind (arith, common_steps, at_p, at_q, second_alone, (both_read a x t k n denied l (unmatched a x l apart)));
         tells = record {
           link = l;
           there = slice_get_read links (length links) q l refl in_q l_is;
-          says = subst (λ v. matches_or_covers before l.owner l.next v ≡ true) (sym w_is)
-              (second_tells a x t k n denied l (unmatched a x l apart)
-              (subst (λ v. (m : ℕ) → wildcard_answer a (k ∷ l ∷ []) n v t ≢ NoCloserName m) w_is (λ m e. some m (second_alone ∙ e))));
+          says = grind (arith, common_steps, second_alone, (second_tells a x t k n denied l (unmatched a x l apart)));
         };
       }
 
     pub both_at : p < length links → IsBoth
-    both_at in_p = elim (slice_get_cases links p).1 [
-      | inl some_k ↦ both some_k.0 some_k.2
-      | inr none ↦ absurd (omega (arith, in_p, none.0))
-    ]
+    both_at in_p = let some = record_there links p in_p in both some.0 some.1
 
 -- where it says nothing, the count is the one that was handed in
 pub count_kept : (a : Name) (listed : List Link) (n m : ℕ) (w : Name) (t : ℕ) → wildcard_answer a listed n w t ≡ NoCloserName m

@@ -8,26 +8,19 @@ use Rattle.domain_nsec.specs.{Chain.Link, declared.config.GenerateNsecConfig.Gen
 use Rattle.domain_checker.{specs.Verdict.has_match_or_cover, proofs.{EncloserLemmas.closest_is, MeantLemmas.{ChainLaws, IsMeant, apex_exists}}}
 use Rattle.domain_answer.specs.{Proved.{IsAnswered, is_missing, knows_wildcard, proved_answer}, Reading.reading, ZoneAnswer.{encloser, is_at_parent}}
 use Rattle.domain_answer.specs.{ZoneAnswer.{name_exists, wildcard_below, zone_answer}, declared.answer.Answer.{Answer, TheVariants.{NoCloserName, NotProven}}}
+use Rattle.domain_answer.{specs.Kinds.IsSo, proofs.KindLemmas.answer_so}
 use Rattle.domain_answer.proofs.{ChainLemmas.meant_leaving, EncloserLemmas.{closest_last, free_parts, wildcard_low}}
 use Rattle.domain_denier.specs.Picked.{AreNeeded, AreThere, IsDenial, IsFound, IsOf, IsWhole, IsWildcardPicked, at_place, listed_option, picked}
 use Rattle.domain_denier.{specs.declared.nsec.NsecDenial.NsecDenial, proofs.SomeLemmas.contained}
 
--- what lists say is what they prove, and no zone says that there is no closer name
-pub record AnswerLaws : Type 0 where
-  pub zone : (listed : List Link) (a x : Name) (t : ℕ) → t < 65536 → IsAnswered listed a x t (reading a listed x t)
-  pub closer : (L : List ZoneRecord) (a : Name) (assume : Bool) (x : Name) (t n : ℕ) → zone_answer L a assume x t ≢ NoCloserName n
+-- where none is picked
+pub none_picked : (links : List Link) (a x : Name) (t : ℕ) (d : NsecDenial) → d.answer ≡ reading a [] x t → d.of_name ≡ None → d.of_wildcard ≡ None
+    → ((L : List ZoneRecord) (config : GenerateNsecConfig) → IsWhole L a config links
+    → reading a [] x t ≡ zone_answer L a config.assume_dnskeys_will_be_added x t) → IsDenial links a x t d
+none_picked links a x t d exact name wildcard zone = grind (arith, common_steps)
 
-pub none_first : (links : List Link) (k : Link) (more : List Link) → links ≡ [] → links ≡ k ∷ more → ⊥
-none_first links k more none are = grind (arith, common_steps)
-
--- outside of the zone no records are needed
-pub nothing_outside : (L : List ZoneRecord) (a : Name) (assume : Bool) (x : Name) (t : ℕ) → is_at_or_below x a ≡ false
-    → reading a [] x t ≡ zone_answer L a assume x t
-nothing_outside L a assume x t e = grind (arith, common_steps)
-
-module _ (laws : ChainLaws) (answers : AnswerLaws) (links : List Link) (L : List ZoneRecord) (a : Name)
-    (config : GenerateNsecConfig) (whole : IsWhole L a config links) (x : Name) (t : ℕ) (small : t < 65536)
-    (under : is_at_or_below x a ≡ true) where
+module _ (laws : ChainLaws) (links : List Link) (L : List ZoneRecord) (a : Name) (config : GenerateNsecConfig) (whole : IsWhole L a config links)
+    (x : Name) (t : ℕ) (answered : (listed : List Link) → IsAnswered listed a x t (reading a listed x t)) (under : is_at_or_below x a ≡ true) where
   abbrev assume : Bool
   assume = config.assume_dnskeys_will_be_added
 
@@ -38,7 +31,7 @@ module _ (laws : ChainLaws) (answers : AnswerLaws) (links : List Link) (L : List
   meant = meant_leaving laws L a config links whole.leaves_out whole.order whole.chain
 
   proved : (listed : List Link) → All (Contains links) listed → reading a listed x t ≡ proved_answer L a config.assume_dnskeys_will_be_added listed x t
-  proved listed among = answers.zone listed a x t small L config links whole.leaves_out whole.order whole.chain among
+  proved listed among = answered listed L config links whole.leaves_out whole.order whole.chain among
 
   -- what a list proves that has a record of x: what the zone says or, where it lacks one of the wildcard that decides, that there
   -- is no such name
@@ -80,7 +73,7 @@ module _ (laws : ChainLaws) (answers : AnswerLaws) (links : List Link) (L : List
     module _ (count : ℕ) (says : reading a (at_place links (Some p)) x t ≡ NoCloserName count) where
       only_half : IsHalf (at_place links (Some p))
       only_half = elim half_here [
-        | inl e ↦ absurd (answers.closer L a config.assume_dnskeys_will_be_added x t count (sym e ∙ says))
+        | inl e ↦ absurd (subst (IsSo L a assume x t) (sym e ∙ says) (answer_so L a assume x t))
         | inr h ↦ h
       ]
 
@@ -133,8 +126,7 @@ module _ (laws : ChainLaws) (answers : AnswerLaws) (links : List Link) (L : List
         second = wildcard.2 L a config whole wildcard_under
 
         pub zone_of_both : d.answer ≡ reading a (picked links d) x t → d.answer ≡ zone
-        zone_of_both exact = exact ∙ (λ i. reading a (at_place links (name i) ++ at_place links (wildcard.1 i)) x t)
-            ∙ both_say wildcard.0 second
+        zone_of_both exact = grind (arith, common_steps, both_say, second)
 
         pub needs_both : AreNeeded links a x t d
         needs_both = record {
@@ -143,7 +135,7 @@ module _ (laws : ChainLaws) (answers : AnswerLaws) (links : List Link) (L : List
         }
 
 -- what is picked, as it is promised
-module _ (laws : ChainLaws) (answers : AnswerLaws) (links : List Link) (a x : Name) (t : ℕ) (small : t < 65536)
+module _ (laws : ChainLaws) (links : List Link) (a x : Name) (t : ℕ) (answered : (listed : List Link) → IsAnswered listed a x t (reading a listed x t))
     (under : is_at_or_below x a ≡ true) (p : ℕ) where
   pub denied_by_one : p < length links → IsFound links p x → (answer : Answer) → reading a (at_place links (Some p)) x t ≡ answer
       → ((n : ℕ) → answer ≢ NoCloserName n) → IsDenial links a x t (record { answer = answer; of_name = Some p; of_wildcard = None })
@@ -153,9 +145,9 @@ module _ (laws : ChainLaws) (answers : AnswerLaws) (links : List Link) (a x : Na
       → (d : NsecDenial) → AreThere links d → d.of_name ≡ Some p → IsWildcardPicked links x count d
       → d.answer ≡ reading a (picked links d) x t → IsDenial links a x t d
   denied_by_both found count says d there name wildcard exact = record {
-    zone = λ L config whole. zone_of_both laws answers links L a config whole x t small under p
+    zone = λ L config whole. zone_of_both laws links L a config whole x t answered under p
         (found L a config whole under) count says d name wildcard exact;
-    needed = λ L config whole. needs_both laws answers links L a config whole x t small under p
+    needed = λ L config whole. needs_both laws links L a config whole x t answered under p
         (found L a config whole under) count says d name wildcard;
     there = there;
     exact = exact;

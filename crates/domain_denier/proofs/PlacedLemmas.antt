@@ -87,10 +87,7 @@ ancestor_above a x left is label next parts other =
     let up : is_at_or_below left next ≡ true = ap (λ n. is_at_or_below n next) parts ∙ below_parent label next in
     let strictly : is_strictly_below (label ∷ next) a ≡ true = ap (λ n. is_strictly_below n a) (sym parts)
     ∙ and_from (is_at_or_below left a) (not (same_name left a)) is.within (ap not other) in
-    record {
-      above = below_trans x left next is.above up;
-      within = parent_below label next a strictly;
-    }
+    grind (arith, common_steps, (below_trans x left next is.above up), (parent_below label next a strictly))
 
 pub refused_at : (a x left : Name) (hash : Hash) → IsAncestor a x left → (wire : Octets) → wire ≡ wire_of (lowered left) → (n : ℕ)
     → hash wire ≡ Err n → IsRefusedAbove a hash x n

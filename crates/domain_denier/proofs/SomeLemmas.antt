@@ -1,7 +1,7 @@
 -- What some of the links of a chain find of a hash, where one of all matches or covers it.
-use Rattle.std.proofs.Common.{◌≡◌, ℕ, Bool, true, false, cond, List, [], ◌∷◌, ◌++◌, Some, None, Option, slice_get, refl, sym, ap, ◌∙◌, subst, inl, inr, ◌⊎◌}
-use Rattle.std.proofs.{Common.arith, lemmas.{Bool.{false≢true, ne_eqb, or_left, or_right}, List.Elements.All-from_recursion}}
-use Rattle.std.{proofs.lemmas.{Option.{slice_get_within, get_or_from_slice_get}, Grind.common_steps}, specs.{Prelude.All, List.{Contains, find}}}
+use Rattle.std.proofs.Common.{◌≡◌, ℕ, Bool, true, false, cond, List, [], ◌∷◌, ◌++◌, Some, None, Option, slice_get, length, refl, sym, ap, ◌∙◌, subst, inl, inr}
+use Rattle.std.proofs.{Common.{◌<◌, ◌⊎◌, arith}, lemmas.{Bool.{false≢true, ne_eqb, or_left, or_right}, Grind.common_steps, List.Elements.All-from_recursion}}
+use Rattle.std.{proofs.lemmas.{Option.{slice_get_cases, slice_get_within, get_or_from_slice_get}}, specs.{Prelude.All, List.{Contains, find}}}
 use Rattle.domain_octets.specs.Words.{Octets}
 use Rattle.domain_names.specs.Words.{Name}
 use Rattle.domain_zone.proofs.{PairLemmas.{In, all_from_in}, FindLemmas.{find_none, find_some, in_front, stands_in}}
@@ -44,6 +44,9 @@ all_among links = λ k i. let s = stands_in links k i in (s.place, s.there)
 
 pub contained : {X : Type 0} (links : List X) (place : ℕ) (k : X) → slice_get links place ≡ Some k → Contains links k
 contained links place k e = (place, slice_get_within links place k e, get_or_from_slice_get links place k k e)
+
+pub record_there : {X : Type 0} (links : List X) (place : ℕ) → place < length links → (k : X) × (slice_get links place ≡ Some k)
+record_there links place h = elim (slice_get_cases links place).1 [ inl some ↦ (some.0, some.2) | inr none ↦ absurd (omega (arith, h, none.0)) ]
 
 pub among_contained : (links listed : List HashedLink) → AreAmong links listed → All (Contains links) listed
 among_contained links listed among =

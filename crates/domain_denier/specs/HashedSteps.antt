@@ -149,21 +149,14 @@ pub record IsWildcardPlaced (hash : Hash) (chain : ChainRecords) (x : Name) (t n
   pub of : (L : List ZoneRecord) (config : ChainConfig) → IsHashedWhole L config hash chain
       → IsOfHash chain.param.owner chain.param.parameters chain.links value place is_match
 
--- the record at this place is the only one that covers the next closer name
-pub record IsSoleCover (R : HashedRecords) (x : Name) (place : ℕ) : Type 0 where
+-- the record at this place is the only one that matches, or covers, a name that the closest
+-- encloser tells
+pub record IsSoleBelow (R : HashedRecords) (x : Name) (below : Name → Name) (is_match : Bool)
+    (place : ℕ) : Type 0 where
   pub encloser : ℕ
   pub sole : IsSoleMatch R x encloser
   pub value : Octets
-  pub known : hash_name R.hash (next_closer x sole.name) ≡ Ok value
-  pub of : IsOfHash R.apex R.parameters R.links value place false
-
--- and that at this place the only one that matches or covers the wildcard
-pub record IsSoleWildcard (R : HashedRecords) (x : Name) (place : ℕ) : Type 0 where
-  pub encloser : ℕ
-  pub sole : IsSoleMatch R x encloser
-  pub value : Octets
-  pub known : hash_name R.hash (wildcard_below (last_labels (length sole.name) x)) ≡ Ok value
-  pub is_match : Bool
+  pub known : hash_name R.hash (below sole.name) ≡ Ok value
   pub of : IsOfHash R.apex R.parameters R.links value place is_match
 
 -- what is picked answers as all links do; without it less is said
@@ -171,8 +164,10 @@ pub record IsPickedRead (R : HashedRecords) (x : Name) (t : ℕ) (d : Nsec3Denia
   pub whole : IsHashedRead R x t d.answer
   pub picked : IsHashedRead (with_links R (hashed_picked R.links d)) x t d.answer
   pub matched : (place : ℕ) → d.of_encloser ≡ Some place → IsSoleMatch R x place
-  pub covered : (place : ℕ) → d.of_next_closer ≡ Some place → IsSoleCover R x place
-  pub told : (place : ℕ) → d.of_wildcard ≡ Some place → IsSoleWildcard R x place
+  pub covered : (place : ℕ) → d.of_next_closer ≡ Some place
+      → IsSoleBelow R x (next_closer x) false place
+  pub told : (place : ℕ) → d.of_wildcard ≡ Some place → (is_match : Bool)
+      × IsSoleBelow R x (λ n. wildcard_below (last_labels (length n) x)) is_match place
   pub next_closer : (place : ℕ) → d.of_next_closer ≡ Some place
       → ¬ (d.of_encloser ≡ Some place)
       → IsHashedRead (with_links R (picked_without R.links place d)) x t NotProven

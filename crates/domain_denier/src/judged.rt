@@ -8,7 +8,7 @@ ghost use Rattle.domain_denier.specs.Judged.{IsOfWildcard, IsSilent, Tells};
 ghost use Rattle.domain_denier.specs.Picked.{at_place, IsFound, IsOf};
 
 use crate::owner_keys::OwnerKeys;
-use crate::search::{place_of, suggested, suggested_wildcard};
+use crate::search::{place_of, suggested};
 use domain_answer::{
     Answer, NameAnswer, NsecFound, find_nsec, judge_name, judge_nsec, judge_wildcard,
 };
@@ -67,7 +67,7 @@ pub(crate) fn first_of<A: ToName, N: ToName, M: ToName>(
         (at_place chain.now (Some result.place)) (M.labels name.now) rtype) (A.labels apex.now)
         (at_place chain.now (Some result.place)) (M.labels name.now) rtype result.answer }
 {
-    if let Some(place) = suggested(chain, keys, name) {
+    if let Some(place) = suggested(chain, keys, name, None) {
         let answer = judge_one(apex, chain, name, rtype, place);
         if is_told(answer) {
             return OfName { place, answer };
@@ -120,7 +120,7 @@ pub(crate) fn of_wildcard<A: ToName, N: ToName>(
 /// What the record at the second place says of the wildcard below the closest encloser of a name,
 /// which has so many labels, where that at the first denies the name and says nothing of the
 /// wildcard.
-fn told_of_second<A: ToName, N: ToName, M: ToName>(
+pub(crate) fn told_of_second<A: ToName, N: ToName, M: ToName>(
     apex: &A,
     chain: &NsecChain<'_, N>,
     name: &M,
@@ -154,7 +154,7 @@ fn told_of_second<A: ToName, N: ToName, M: ToName>(
 }
 
 /// What the records at two places of the chain say.
-fn judge_both<A: ToName, N: ToName, M: ToName>(
+pub(crate) fn judge_both<A: ToName, N: ToName, M: ToName>(
     apex: &A,
     chain: &NsecChain<'_, N>,
     name: &M,
@@ -175,54 +175,4 @@ fn judge_both<A: ToName, N: ToName, M: ToName>(
         unreachable!();
     };
     judge_nsec(apex, &[first, second], name, rtype)
-}
-
-/// A record that matches or covers the wildcard below the closest encloser of a name, by its place,
-/// and what it answers with the one that denies the name.
-#[derive(Clone, Copy)]
-pub(crate) struct OfBoth {
-    pub(crate) place: usize,
-    pub(crate) answer: Answer,
-}
-
-/// The record that matches or covers the wildcard below the closest encloser of a name, which has
-/// so many labels, and what it says with the one at a place that denies the name alone. `is_silent`
-/// where that one neither matches nor covers the wildcard.
-pub(crate) fn second_of<A: ToName, N: ToName, M: ToName>(
-    apex: &A,
-    chain: &NsecChain<'_, N>,
-    keys: Option<&OwnerKeys>,
-    name: &M,
-    rtype: Rtype,
-    wildcard: &ParsedName<'_>,
-    count: usize,
-    first: usize,
-    is_silent: bool,
-) -> OfBoth
-    requires first { first < length chain.now }
-    requires denies { reading (A.labels apex.now) (at_place chain.now (Some first))
-        (M.labels name.now) rtype ≡ NoCloserName count }
-    requires silent { IsTrue is_silent
-        → IsSilent (A.labels apex.now) (at_place chain.now (Some first)) wildcard.now }
-    requires wildcard { wildcard.now ≡ wildcard_below (last_labels count (M.labels name.now)) }
-    ensures inside { result.place < length chain.now }
-    ensures found { IsFound chain.now result.place wildcard.now }
-    ensures exact { result.answer ≡ reading (A.labels apex.now)
-        (at_place chain.now (Some first) ++ at_place chain.now (Some result.place))
-        (M.labels name.now) rtype }
-{
-    if is_silent {
-        if let Some(place) = suggested_wildcard(chain, keys, wildcard, count) {
-            if let Some(answer) = told_of_second(
-                apex, chain, name, rtype, wildcard, count, first, place,
-            ) {
-                return OfBoth { place, answer };
-            }
-        }
-    }
-    let place = place_of(chain, keys, wildcard);
-    OfBoth {
-        place,
-        answer: judge_both(apex, chain, name, rtype, first, place),
-    }
 }

@@ -8,8 +8,9 @@ ghost use Rattle.domain_denier.specs.Picked.{at_place, picked, AreThere, IsDenia
 ghost use Rattle.domain_answer.specs.declared.answer.Answer.TheVariants.{NoCloserName, OutsideZone};
 ghost use Rattle.domain_answer.specs.declared.answer.NameAnswer.TheVariants.{Given};
 
-use crate::judged::{OfName, OfWildcard, first_of, of_wildcard, second_of};
+use crate::judged::{OfName, OfWildcard, first_of, judge_both, of_wildcard, told_of_second};
 use crate::owner_keys::OwnerKeys;
+use crate::search::{place_of, suggested};
 use domain_answer::{Answer, NameAnswer, judge_nsec, laws, wildcard_of};
 use domain_base::{MAX_NAME, ParsedName, Rtype, ToName};
 use domain_nsec::NsecChain;
@@ -71,13 +72,24 @@ fn with_second<A: ToName, N: ToName, M: ToName>(
     ensures exact { result.answer ≡ reading (A.labels apex.now) (picked chain.now result)
         (M.labels name.now) rtype }
 {
-    let second = second_of(
-        apex, chain, keys, name, rtype, wildcard, count, place, is_silent,
-    );
+    if is_silent {
+        if let Some(near) = suggested(chain, keys, wildcard, Some(count)) {
+            if let Some(answer) = told_of_second(
+                apex, chain, name, rtype, wildcard, count, place, near,
+            ) {
+                return NsecDenial {
+                    answer,
+                    of_name: Some(place),
+                    of_wildcard: Some(near),
+                };
+            }
+        }
+    }
+    let second = place_of(chain, keys, wildcard);
     NsecDenial {
-        answer: second.answer,
+        answer: judge_both(apex, chain, name, rtype, place, second),
         of_name: Some(place),
-        of_wildcard: Some(second.place),
+        of_wildcard: Some(second),
     }
 }
 
@@ -103,7 +115,6 @@ fn with_wildcard<A: ToName, N: ToName, M: ToName>(
 {
     // By these laws what the records say is what the zone says, of a type of 16 bits.
     laws::readings_are_proved();
-    laws::whole_chains_prove_all();
     chains_mean_the_zone();
     let _number = rtype.to_int();
     let mut buffer = [0; MAX_NAME];
@@ -141,7 +152,6 @@ fn pick<A: ToName, N: ToName, M: ToName>(
 {
     // By these laws what the records say is what the zone says, of a type of 16 bits.
     laws::readings_are_proved();
-    laws::whole_chains_prove_all();
     chains_mean_the_zone();
     let _number = rtype.to_int();
     if chain.is_empty() {

@@ -1,7 +1,7 @@
 //! Keys of the owners of a chain, by which a search for a name begins near its end.
 
 use domain_answer::wildcard_of;
-use domain_base::{MAX_NAME, ParsedName, ToName};
+use domain_base::{MAX_NAME, ToName};
 use domain_nsec::NsecChain;
 use domain_octets::OutOfMemory;
 use domain_records::owner_key;
@@ -127,7 +127,7 @@ impl OwnerKeys {
         if let Some(owner) = chain.owner(1) {
             let mut buffer = [0; MAX_NAME];
             if let Some(wildcard) = wildcard_of(&mut buffer, owner, scale.shared) {
-                made.below_apex = made.place_near(&wildcard);
+                made.below_apex = made.place_near(&wildcard, None);
             }
         }
         Ok(made)
@@ -149,21 +149,12 @@ impl OwnerKeys {
         (below, self.count_up_to(key))
     }
 
-    /// The last place whose key is not above that of the wildcard below an ancestor of a name,
-    /// which has so many labels.
-    pub(crate) fn place_near_wildcard(
-        &self,
-        wildcard: &ParsedName<'_>,
-        count: usize,
-    ) -> Option<usize> {
-        if count == self.scale.shared {
+    /// The last place whose key is not above that of a name. Of the wildcard right below an
+    /// ancestor it is said how many labels that one has.
+    pub(crate) fn place_near<M: ToName>(&self, name: &M, above: Option<usize>) -> Option<usize> {
+        if above == Some(self.scale.shared) {
             return self.below_apex;
         }
-        self.place_near(wildcard)
-    }
-
-    /// The last place whose key is not above that of a name.
-    pub(crate) fn place_near<M: ToName>(&self, name: &M) -> Option<usize> {
         self.count_up_to(self.scale.short(name)).checked_sub(1)
     }
 }

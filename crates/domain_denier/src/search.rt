@@ -3,7 +3,7 @@ ghost use Rattle.std.specs.Prelude.{◌<◌, length, IfSome, IsTrue};
 ghost use Rattle.domain_denier.specs.{Picked.IsFound, Search.{AreEnds, IsAhead, IsBehind}};
 
 use crate::owner_keys::OwnerKeys;
-use domain_base::{ParsedName, ToName};
+use domain_base::ToName;
 use domain_checker::is_before;
 use domain_nsec::{NsecChain, laws};
 
@@ -32,33 +32,17 @@ fn suggested_ends<M: ToName>(keys: Option<&OwnerKeys>, name: &M) -> Ends {
     }
 }
 
-/// A place that the keys of a chain suggest for a name.
+/// A place that the keys of a chain suggest for a name. Of the wildcard right below an ancestor it
+/// is said how many labels that one has.
 pub(crate) fn suggested<N: ToName, M: ToName>(
     chain: &NsecChain<'_, N>,
     keys: Option<&OwnerKeys>,
     name: &M,
+    above: Option<usize>,
 ) -> Option<usize>
     ensures { IfSome result (λ place. place < length chain.now) }
 {
-    let place = keys?.place_near(name)?;
-    if place < chain.len() {
-        Some(place)
-    } else {
-        None
-    }
-}
-
-/// A place that the keys of a chain suggest for the wildcard below the closest encloser of a name,
-/// which has so many labels.
-pub(crate) fn suggested_wildcard<N: ToName>(
-    chain: &NsecChain<'_, N>,
-    keys: Option<&OwnerKeys>,
-    wildcard: &ParsedName<'_>,
-    count: usize,
-) -> Option<usize>
-    ensures { IfSome result (λ place. place < length chain.now) }
-{
-    let place = keys?.place_near_wildcard(wildcard, count)?;
+    let place = keys?.place_near(name, above)?;
     if place < chain.len() {
         Some(place)
     } else {

@@ -3,7 +3,8 @@ use Rattle.domain_names.specs.Name.{last_labels}
 use Rattle.domain_nsec3.specs.Chain.{HashedLink}
 use Rattle.domain_answer.specs.declared.answer.Answer.TheVariants.{NoCloserName}
 use Rattle.domain_denier.specs.{HashedPicked.TellsOfName, HashedSteps.{IsFirstDenial, IsOfHash}}
-use Rattle.domain_denier.proofs.HashedPickLemmas.{IsAskedBelow, asked_below, first_there, name_there, plain_read, record_there, wildcard_read}
+use Rattle.domain_denier.proofs.HashedPickLemmas.{IsAskedBelow, asked_below, first_there, name_there, plain_read, wildcard_read}
+use Rattle.domain_denier.proofs.SomeLemmas.{record_there}
 use Rattle.domain_denier.proofs.nsec3.deny_placed.Given.{Over}
 use Rattle.domain_denier.proofs.nsec3.deny_placed.Goals as goal
 use Rattle.domain_denier.proofs.nsec3.deny_placed.Goals.{Start, After-first_denial-first}
