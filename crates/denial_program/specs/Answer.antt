@@ -33,10 +33,10 @@ fault_of_zone e = Signing e
 
 -- the answer is a chain that is such
 pub record IsReplyOf {K : Type 0} (reply : K → Reply) (is_such : K → Type 0) (answer : Reply)
-  : Type 0 where
-    pub made : K
-    pub is : answer ≡ reply made
-    pub chain : is_such made
+    : Type 0 where
+  pub made : K
+  pub is : answer ≡ reply made
+  pub chain : is_such made
 
 -- there is no chain, for this reason
 abbrev pub HasNone : (ChainError → Type 0) → DenialFault → Type 0
