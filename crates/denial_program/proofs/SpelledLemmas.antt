@@ -105,8 +105,8 @@ are_sound : (rtype : ℕ) (old : Tokens) (d : SpelledData) → IsSpelled rtype o
 are_sound rtype old (Soa d) (own other text) = number_fits 32 text.1.2.2.2.token d.minimum text.1.2.2.2.holds
 are_sound rtype old (Soa d) (generic wire text are end) = are.1.fits.1.1.1
 are_sound rtype old (Nsec d) (own other text) = (
-  spelled_name text.1.next_name.token d.next_name text.1.next_name.holds,
-  subst IsBitmap (sym text.1.built) (IsBitmap-bitmap_octets (is_among text.1.types)),
+  spelled_name text.1.1.token d.next_name text.1.1.holds,
+  subst IsBitmap (sym text.1.2.built) (IsBitmap-bitmap_octets (is_among text.1.2.types)),
 )
 are_sound rtype old (Nsec d) (generic wire text are end) = (are.1.begins.fits.0, are.1.bitmap)
 are_sound rtype old (Nsec3 d) (own other text) =
