@@ -57,12 +57,14 @@ fn compare(a: &OwnName, text: &str, answers: &mut Answers) -> Answered {
     Ok(())
 }
 
-/// How each name compares with the one before it, the first with the root.
+/// How each name compares with the one before it, the first with the root, and how many labels the
+/// two share.
 fn ascend(words: &[&str], answers: &mut Answers) -> Answered {
     let mut before = OwnName::from_str(answers.alloc, ".")?;
     for word in words {
         let name = OwnName::from_str(answers.alloc, word)?;
-        answers.debug(word, &(before.name_cmp(&name), name.name_cmp(&before)));
+        let after = name.compare(&before);
+        answers.debug(word, &(before.name_cmp(&name), after.order, after.common));
         before = name;
     }
     Ok(())

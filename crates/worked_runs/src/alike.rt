@@ -1,0 +1,104 @@
+//! Names that hash alike: those that `denial lint` tells, and the first two, as C is told them.
+use crate::outcome::{show, text_of};
+use denial_program::sort_zone;
+use domain_alike::{first_alike, write_lowered};
+use domain_base::{IterScanner, ParsedName, Scanner, ToName};
+use domain_borrowed::{BorrowedRecord, read_record};
+use domain_codecs::Codec;
+use domain_dnssec::{GenerateNsec3Config, InPlaceSorter, Name, Nsec3Hasher, Parser};
+use lint_program::run_lint;
+use std::alloc::Global;
+use std::io;
+use std::io::ErrorKind;
+
+/// What `denial lint` says of a text, and how it ends.
+pub fn lint<H: Nsec3Hasher>(
+    rt: &HostRuntime,
+    hasher: &H,
+    words: &[String],
+    text: &str,
+) -> io::Result<()> {
+    let mut output = Vec::new(rt.alloc());
+    match run_lint(rt.alloc(), words, hasher, &mut text.as_bytes(), &mut output) {
+        Ok(outcome) => {
+            show(rt, text_of(output)?.as_str())?;
+            println!(rt; "  {outcome:?}")
+        }
+        Err(fault) => println!(rt; "  {fault}"),
+    }
+}
+
+/// The octets that a text spells in Base 16.
+fn octets_of(alloc: Global, text: &str) -> io::Result<Vec<u8>> {
+    let words: Vec<&str> = text.split_whitespace().collect(alloc)?;
+    let mut scanner = IterScanner::<Vec<u8>>::new(words.as_slice());
+    match scanner.convert_entry(alloc, Codec::Base16) {
+        Ok(octets) => Ok(octets),
+        Err(_) => Err(io::Error::from(ErrorKind::InvalidInput)),
+    }
+}
+
+/// The records of a message that octets are, one after another.
+fn records_in(alloc: Global, octets: &[u8]) -> io::Result<Vec<BorrowedRecord<'_>>> {
+    let mut parser = Parser::new(octets);
+    let mut records = Vec::new(alloc);
+    for _place in octets {
+        match read_record(&mut parser) {
+            Some(record) => records.push(record)?,
+            None => return Ok(records),
+        }
+    }
+    Ok(records)
+}
+
+/// Whether a word is among them.
+fn has(words: &[String], wanted: &str) -> bool {
+    words.iter().any(|word| word.as_str() == wanted)
+}
+
+/// The parameters of a chain, with opt-out and without names below a DNAME where these are asked
+/// for.
+fn config_of(alloc: Global, words: &[String]) -> GenerateNsec3Config<Vec<u8>, InPlaceSorter> {
+    let mut config = GenerateNsec3Config::default(alloc);
+    config.occlude_below_dname = has(words, "below-dname");
+    if has(words, "optout") {
+        config.params.set_opt_out_flag();
+    }
+    config
+}
+
+/// Prints a name as it is hashed, with the octet after it in the buffer.
+fn show_name(rt: &HostRuntime, label: &str, name: &ParsedName<'_>) -> io::Result<()> {
+    let mut buffer = [0xee; 255];
+    write_lowered(name, &mut buffer);
+    print!(rt; "  {label}: ")?;
+    for octet in buffer.iter().take(name.as_wire().len().saturating_add(1)) {
+        print!(rt; "{octet:02x}")?;
+    }
+    println!(rt; "")
+}
+
+/// The first two names of the chain at `A.` that hash alike, the earlier one first. The text is the
+/// records' octets.
+pub fn first<H: Nsec3Hasher>(
+    rt: &HostRuntime,
+    hasher: &H,
+    words: &[String],
+    text: &str,
+) -> io::Result<()> {
+    let alloc = rt.alloc();
+    let octets = octets_of(alloc, text)?;
+    let records = records_in(alloc, octets.as_slice())?;
+    let config = config_of(alloc, words);
+    let (Ok(sorted), Ok(apex)) = (sort_zone(records), ParsedName::from_slice(b"\x01A\0")) else {
+        return Err(io::Error::from(ErrorKind::InvalidInput));
+    };
+    match first_alike(alloc, &apex, &sorted, &config, hasher) {
+        Ok(Some(alike)) => {
+            show_name(rt, "first", &alike.first)?;
+            show_name(rt, "later", &alike.later)
+        }
+        Ok(None) => println!(rt; "  none"),
+        Err(_) => println!(rt; "  refused"),
+    }
+}
