@@ -56,9 +56,6 @@ module _ (a : Name) (listed : List Link) where
 pub match_own : (a : Name) (k : Link) (t : ℕ) → name_answer (match_answer a k t) ≡ Given (match_answer a k t)
 match_own a k t = grind (arith, common_steps)
 
-pub owner_own : (a : Name) (k : Link) → name_answer (owner_answer a k) ≡ Given (owner_answer a k)
-owner_own a k = grind (arith, common_steps)
-
 wildcard_own : (a : Name) (listed : List Link) (n : ℕ) (w : Name) (t : ℕ) → name_answer (wildcard_answer a listed n w t) ≡ Absent n
 wildcard_own a listed n w t =
     either_found (λ m c. name_answer (wildcard_both a n w t m c) ≡ Absent n) (find (is_match a w) listed) (find (is_cover a w) listed)

@@ -1,12 +1,7 @@
 -- Tokens that are refused: for one reason, and spelling nothing.
-use Rattle.std.{proofs.{Common.{arith, ◌≡◌, ℕ, List, ◌∷◌, [], ◌⊎◌, Option}, lemmas.Grind.common_steps}, specs.Prelude.IsNone}
-use Rattle.domain_octets.specs.Limit.{IsOver}
+use Rattle.std.proofs.{Common.{arith, ◌≡◌, ℕ, List, ◌∷◌, [], ◌⊎◌, Option}, lemmas.Grind.common_steps}
 use Rattle.domain_names.specs.{TextFault.{ScanFault, entry_ends, IsOfTokens, NameTextFault}, Text.NameText}
 use Rattle.domain_base.specs.Scan.{TakesToken, RefusesToken}
-
--- what has a limit takes no memory
-pub over_limit : (limit : Option ℕ) (count : ℕ) → IsOver limit count → IsNone limit → ⊥
-over_limit limit count over none = grind (arith, common_steps)
 
 -- ---- one token
 

@@ -38,9 +38,6 @@ module _ (value : List ℕ) (p r : ℕ) (inside : p < length value / 34) (window
   kept : (k : ℕ) → k ≢ at → get_or after k 0 ≡ get_or value k 0
   kept k other = get_or-set_other value at k more 0 other
 
-  window_kept : (j : ℕ) → get_or after (34 * j) 0 ≡ get_or value (34 * j) 0
-  window_kept j = kept (34 * j) (omega arith)
-
   elsewhere : (t j : ℕ) → j ≢ p → block_holds after t j ≡ block_holds value t j
   elsewhere t j other = grind (arith, common_steps, kept)
 

@@ -62,11 +62,6 @@ module _ {N D : Type 0} (labels : N → Name) (rtype_of : D → ℕ) (minimum_of
   abbrev pub IsChainOf : List (Record N D) → Name → GenerateNsecConfig → List Link → Type 0
   IsChainOf given apex config links = OfZone given (λ L. IsChain L apex config links)
 
-  -- this is the first fault of the given records
-  abbrev pub IsFaultOf : List (Record N D) → Name → GenerateNsecConfig → SigningError → Type 0
-  IsFaultOf given apex config error =
-      OfZone given (λ L. IsFirstFault L apex config error × (error ≢ signing_error.OutOfMemory))
-
   -- why the given records have no chain
   abbrev pub HasNoChain : List (Record N D) → Name → GenerateNsecConfig → ChainError → Type 0
   HasNoChain given apex config = HasNone given (λ L. ZoneHasNoChain L apex config)

@@ -1,8 +1,6 @@
 -- The NSEC3 chain of a zone whose records are given in any order, and when there is none.
-use Rattle.std.specs.{Prelude.{◌≢◌, ℕ, List, Option}, declared.cmp.Ordering.Ordering}
+use Rattle.std.specs.{Prelude.{ℕ, List, Option}, declared.cmp.Ordering.Ordering}
 use Rattle.domain_record.specs.declared.record.Record.{Record}
-use Rattle.domain_records.specs.declared.error.SigningError.{SigningError}
-use Rattle.domain_records.specs.declared.error.SigningError.TheVariants as signing_error
 use Rattle.domain_names.specs.Words.{Name}
 use Rattle.domain_nsec3.specs.{Chain.{HashedLink, IsChainParam, IsHashedChain, ParamRecord}, Config.ChainConfig, Faults.{IsFirstFault, IsReady}}
 use Rattle.domain_nsec3.specs.declared.config.Nsec3ParamTtlMode.{Nsec3ParamTtlMode}
@@ -28,11 +26,6 @@ module _ {N D : Type 0} (labels : N → Name) (rtype_of : D → ℕ) (minimum_of
       → List HashedLink → ParamRecord → Type 0
   IsHashedChainOf given apex config mode links param = OfZone labels rtype_of minimum_of data_cmp
       given (λ L. IsWholeHashedChain L apex config mode links param)
-
-  -- this is the first fault of the given records
-  abbrev pub IsHashedFaultOf : List (Record N D) → Name → ChainConfig → SigningError → Type 0
-  IsHashedFaultOf given apex config error = OfZone labels rtype_of minimum_of data_cmp given
-      (λ L. IsFirstFault L apex config error × (error ≢ signing_error.OutOfMemory))
 
   -- why the given records have no chain
   abbrev pub HasNoHashedChain : List (Record N D) → Name → ChainConfig → ChainError → Type 0

@@ -1,6 +1,6 @@
 -- texts whose first octets are all of one set
-use Rattle.std.proofs.{Common.{◌≡◌, ℕ, Bool, true, List, [], ◌∷◌, ◌++◌, take, drop, sym, ap, ◌∙◌}, lemmas.List.{append_assoc, take-append-drop}}
-use Rattle.std.{proofs.lemmas.List.Elements.{All-append, All-cons, All-nil}, specs.List.AllPass}
+use Rattle.std.proofs.{Common.{◌≡◌, ℕ, Bool, true, List, ◌++◌, take, drop, sym, ap, ◌∙◌}, lemmas.List.{append_assoc, take-append-drop}}
+use Rattle.std.{proofs.lemmas.List.Elements.All-append, specs.List.AllPass}
 
 -- these octets are left of the text, and those before them are of the set
 pub record Searched (has : ℕ → Bool) (text left : List ℕ) : Type 0 where
@@ -16,10 +16,6 @@ module _ (has : ℕ → Bool) where
     parts = so_far.parts ∙ ap (λ l. so_far.front ++ l) is ∙ sym (append_assoc so_far.front piece after);
     pass = All-append (λ c. has c ≡ true) so_far.front piece so_far.pass pass;
   }
-
-  pub searched_one : (text left after : List ℕ) (c : ℕ) → Searched has text left → left ≡ c ∷ after → has c ≡ true → Searched has text after
-  searched_one text left after c so_far is in_set =
-      searched_more text left (c ∷ []) after so_far is (All-cons (λ x. has x ≡ true) c [] in_set (All-nil (λ x. has x ≡ true)))
 
   pub searched_eight : (text left eight after : List ℕ) → Searched has text left → eight ≡ take 8 left → after ≡ drop 8 left
       → AllPass has eight → Searched has text after

@@ -1,6 +1,6 @@
 -- tests, options and results, where std has no such law
 use Rattle.std.proofs.Common.{◌≡◌, Bool, true, false, refl, subst, sym, Option, Some, None, Result, Ok, Err, IfErr}
-use Rattle.std.specs.{Prelude.{◌||◌, ◌&&◌, IsErrAnd, OnOk}, Option.option_or}
+use Rattle.std.specs.{Prelude.{◌||◌, ◌&&◌, IsErrAnd}, Option.option_or}
 
 pub or_false : (b : Bool) → (b || false) ≡ b
 or_false true = refl
@@ -9,10 +9,6 @@ or_false false = refl
 pub or_true : (b : Bool) → (b || true) ≡ true
 or_true true = refl
 or_true false = refl
-
-pub or_next : (a b c : Bool) → ((a || b) || c) ≡ (a || (b || c))
-or_next true b c = refl
-or_next false b c = refl
 
 pub and_true : (b : Bool) → (b && true) ≡ b
 and_true true = refl
@@ -31,10 +27,6 @@ some_is x y e = cc
 
 pub none_some : {X : Type 0} (x : X) → None ≡ Some x → ⊥
 none_some x e = absurd (cc)
-
-pub on_ok_gives : {T E P Q : Type 0} (r : Result T E) → (P → Q) → OnOk r P → OnOk r Q
-on_ok_gives (Ok x) gives holds = gives holds
-on_ok_gives (Err e) gives holds = tt
 
 -- what holds of an error that is handed on
 pub if_err_of : {X E : Type 0} (P : E → Type 0) (e : E) (r : Result X E) → IsErrAnd r (λ f. f ≡ e) → P e → IfErr r P

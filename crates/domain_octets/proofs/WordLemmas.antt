@@ -82,11 +82,6 @@ decimal_word n small =
 
 -- ---- texts that may have no characters
 
--- a text after a space, which is a word if it has any character
-pub next_any : (front text : List ℕ) → HasNoSpace text → words_of ((front ++ 32 ∷ []) ++ text) ≡ words_of front ++ word_if_any text
-next_any front [] plain = ap words_of (append-nil (front ++ 32 ∷ [])) ∙ last_space front ∙ sym (append-nil (words_of front))
-next_any front (c ∷ text) plain = next_word front (c ∷ text) (record { some = λ none. cc; unbroken = plain })
-
 -- a line after a space
 joined_after : (word front text : List ℕ) → words_after word ((front ++ 32 ∷ []) ++ text) ≡ words_after word front ++ words_of text
 unfolding words_after
@@ -96,6 +91,3 @@ joined_after word (c ∷ front) text = elim (cases_Bool (c == 32)) [
       ∙ sym (append_assoc (word_if_any word) (words_after [] front) (words_of text)))
   | inr other ↦ rw other (joined_after (word ++ c ∷ []) front text)
 ]
-
-pub two_lines : (front text : List ℕ) → words_of ((front ++ 32 ∷ []) ++ text) ≡ words_of front ++ words_of text
-two_lines front text = joined_after [] front text
