@@ -98,6 +98,7 @@ impl<'a> Digits<'a> {
     }
 
     /// The next five octets, fewer at the end; None where none are left.
+    #[tactic(auto, using(std::proofs::lemmas::Grind::common_steps, crate::proofs::Base32Lemmas::next_left, crate::proofs::Base32Lemmas::no_digits))]
     fn next_five(&mut self) -> Option<&'a [u8]>
         ensures some { IfSome result (λ octets. self.old ≡ base32_from 1 0 octets.now ++ self.new) }
         ensures count { IfSome result (λ octets.

@@ -55,6 +55,7 @@ pub fn unknown_data_parses_back<O: Octets>(value: &UnknownRecordData<O>)
 
 /// Tokens that are refused as the generic form, but for want of room or of memory, spell no data in
 /// that form, over builders with any limit.
+#[tactic(auto, using(std::proofs::lemmas::Grind::common_steps, crate::proofs::GenericLemmas::refused_is_no_text))]
 pub fn refused_tokens_spell_no_generic_data()
     ensures { (limit : Option ℕ) (old new : Tokens) (fault : ScanFault) (octets : Octets)
         → GenericFault limit old new fault → IsOfTokens limit fault → GenericText old octets → ⊥ }
@@ -62,6 +63,7 @@ pub fn refused_tokens_spell_no_generic_data()
 
 /// Tokens are refused as the generic form, but for want of room or of memory, for one reason, over
 /// builders with any limit.
+#[tactic(auto, using(std::proofs::lemmas::Grind::common_steps, crate::proofs::GenericLemmas::generic_one_fault))]
 pub fn generic_data_has_one_fault()
     ensures { (limit : Option ℕ) (old m n : Tokens) (x y : ScanFault)
         → GenericFault limit old m x → GenericFault limit old n y → IsOfTokens limit x
@@ -102,6 +104,7 @@ pub fn mx_reads_back<N: ToName>(value: &Mx<N>)
 }
 
 /// So do those of data in the generic form, of any type.
+#[tactic(auto, using(std::proofs::lemmas::Grind::common_steps, crate::proofs::ReadBackLemmas::generic_back))]
 pub fn generic_data_reads_back()
     ensures { (octets : Octets) → AreOctets octets → length octets ≤ 65535
         → GenericText (words_of (generic_text octets)) octets }
