@@ -55,7 +55,7 @@ impl Write for FailingWriter {
 }
 
 /// What a run says whose reader fails once, for this reason, after so many reads.
-fn after(
+fn said_after(
     rt: &HostRuntime,
     good: usize,
     reason: ErrorKind,
@@ -81,7 +81,7 @@ pub fn reads(rt: &HostRuntime, reason: ErrorKind, words: &[String], text: &str) 
     let (first, end) = (first.parse().unwrap_or(0), end.parse().unwrap_or(0));
     let mut before = String::new(rt.alloc());
     for good in first..end {
-        let said = after(rt, good, reason, words, text)?;
+        let said = said_after(rt, good, reason, words, text)?;
         if said != before {
             show(rt, said.as_str())?;
         }
@@ -91,7 +91,7 @@ pub fn reads(rt: &HostRuntime, reason: ErrorKind, words: &[String], text: &str) 
 }
 
 /// A run into a writer that fails after so many writes, or when it is told to hand them on.
-fn into(
+fn run_into(
     rt: &HostRuntime,
     good: usize,
     hands_on: bool,
@@ -117,10 +117,10 @@ fn into(
 /// What went out where a writer fails after each number of writes up to 300. Each takes 11 octets
 /// at most.
 pub fn writes(rt: &HostRuntime, words: &[String], text: &str) -> io::Result<()> {
-    let (_, whole) = into(rt, usize::MAX, true, words, text);
+    let (_, whole) = run_into(rt, usize::MAX, true, words, text);
     let (mut refused, mut is_beginning, mut is_told) = (0, true, true);
     for good in 0..300 {
-        let (answer, held) = into(rt, good, true, words, text);
+        let (answer, held) = run_into(rt, good, true, words, text);
         is_beginning &= whole.as_slice().starts_with(held.as_slice());
         if answer == Err(DenialFault::Write) {
             refused = good + 1;
@@ -128,6 +128,7 @@ pub fn writes(rt: &HostRuntime, words: &[String], text: &str) -> io::Result<()> 
             is_told &= answer == Ok(()) && held.as_slice() == whole.as_slice();
         }
     }
+    println!(rt; "  octets: {}", whole.len())?;
     println!(rt; "  a beginning: {is_beginning}")?;
     println!(rt; "  each failure told: {is_told}")?;
     let is_each = refused >= whole.len() / 11 && refused < 300;
@@ -136,8 +137,8 @@ pub fn writes(rt: &HostRuntime, words: &[String], text: &str) -> io::Result<()> 
 
 /// What is said of a writer that takes all and can't hand it on.
 pub fn flush(rt: &HostRuntime, words: &[String], text: &str) -> io::Result<()> {
-    let (_, whole) = into(rt, usize::MAX, true, words, text);
-    let (answer, held) = into(rt, usize::MAX, false, words, text);
+    let (_, whole) = run_into(rt, usize::MAX, true, words, text);
+    let (answer, held) = run_into(rt, usize::MAX, false, words, text);
     println!(rt; "  answer: {answer:?}")?;
     println!(rt; "  all of it: {}", held.as_slice() == whole.as_slice())
 }
