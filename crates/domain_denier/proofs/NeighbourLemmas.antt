@@ -1,8 +1,14 @@
 -- The pairs of neighbours of a list, and what lists map to, by their places.
-use Rattle.std.proofs.Common.{◌≡◌, ℕ, zero, suc, List, [], ◌∷◌, map, length, get_or, slice_get, Option, Some, None, refl, sym, ap, ◌∙◌}
-use Rattle.std.{proofs.lemmas.Option.slice_get-map, specs.Option.option_map}
+use Rattle.std.proofs.Common.{◌≡◌, ◌⊎◌, ℕ, zero, suc, Bool, true, false, List, [], ◌∷◌, map, length, get_or, slice_get, Option, Some, None, refl, sym, ap, ◌∙◌}
+use Rattle.std.{proofs.{Common.arith, lemmas.{Grind.common_steps, Option.slice_get-map}}, specs.Option.option_map}
 use Rattle.domain_octets.proofs.StdLemmas.{some_is}
-use Rattle.domain_zone.specs.Covering.{pairs}
+use Rattle.domain_zone.specs.Covering.{matches_or_covers, pairs}
+
+-- an owner with a next value matches or covers x: it is not after x, and the next one is, or is not after the owner; or the next one
+-- is after x, and not after the owner
+pub said : {X : Type 0} (lt : X → X → Bool) (o n x : X) → ((lt x o ≡ false) × ((lt x n ≡ true) ⊎ (lt o n ≡ false)))
+    ⊎ ((lt x n ≡ true) × (lt o n ≡ false)) → matches_or_covers lt o n x ≡ true
+said lt o n x h = grind (arith, common_steps)
 
 module _ {X : Type 0} where
   pub pair_is : (ks : List X) (f : X) (i : ℕ) (p : X × X) → slice_get (pairs ks f) i ≡ Some p

@@ -2,6 +2,7 @@
 use Rattle.std.proofs.Common.{◌≡◌, ◌≢◌, ℕ, ◌<◌, arith, Bool, true, false, cond, not, ◌&&◌, ◌||◌, List, [], ◌∷◌, ◌++◌, length, Some, None, sym, ap, ◌∙◌, subst}
 use Rattle.std.proofs.{Common.{inl, inr, ◌⊎◌}, lemmas.{Bool.{and_parts, false_from_ne_true, false≢true, or_right}, Grind.common_steps, List.Elements.All-nil}}
 use Rattle.std.{proofs.lemmas.List.Elements.All-push, specs.{List.Contains, Prelude.All}}
+use Rattle.domain_octets.proofs.StdLemmas.{some_is}
 use Rattle.domain_names.specs.{Name.{is_at_or_below, last_labels}, Order.before, Words.Name}
 use Rattle.domain_zone.specs.{Covering.matches_or_covers, Zone.{ZoneRecord, is_unoccluded, unoccluded_owners}}
 use Rattle.domain_nsec.specs.{Chain.Link, declared.config.GenerateNsecConfig.GenerateNsecConfig}
@@ -10,7 +11,7 @@ use Rattle.domain_answer.specs.{Proved.{IsAnswered, is_missing, knows_wildcard, 
 use Rattle.domain_answer.specs.{ZoneAnswer.{name_exists, wildcard_below, zone_answer}, declared.answer.Answer.{Answer, TheVariants.{NoCloserName, NotProven}}}
 use Rattle.domain_answer.{specs.Kinds.IsSo, proofs.KindLemmas.answer_so}
 use Rattle.domain_answer.proofs.{ChainLemmas.meant_leaving, EncloserLemmas.{closest_last, free_parts, wildcard_low}}
-use Rattle.domain_denier.specs.Picked.{AreNeeded, AreThere, IsDenial, IsFound, IsOf, IsWhole, IsWildcardPicked, at_place, listed_option, picked}
+use Rattle.domain_denier.specs.Picked.{IsDenial, IsFound, IsOf, IsWhole, at_place, listed_option}
 use Rattle.domain_denier.{specs.declared.nsec.NsecDenial.NsecDenial, proofs.SomeLemmas.contained}
 
 -- where none is picked
@@ -120,20 +121,6 @@ module _ (laws : ChainLaws) (links : List Link) (L : List ZoneRecord) (a : Name)
             let among = one_among of_w.link (contained links q of_w.link of_w.there) in
             (λ i. reading a (there_w i) x t) ∙ proved (of_w.link ∷ []) among ∙ rw (under, parent, other)
 
-      -- what is picked where the first record denies the name alone
-      module _ (d : NsecDenial) (name : d.of_name ≡ Some p) (wildcard : IsWildcardPicked links x count d) where
-        second : IsOf links wildcard.0 (wildcard_below (last_labels count x))
-        second = wildcard.2 L a config whole wildcard_under
-
-        pub zone_of_both : d.answer ≡ reading a (picked links d) x t → d.answer ≡ zone
-        zone_of_both exact = grind (arith, common_steps, both_say, second)
-
-        pub needs_both : AreNeeded links a x t d
-        needs_both = record {
-          name = λ low parent. (λ i. reading a (at_place links (wildcard.1 i)) x t) ∙ wildcard_alone wildcard.0 second parent;
-          wildcard = λ some. (count, (λ i. reading a (at_place links (name i)) x t) ∙ says);
-        }
-
 -- what is picked, as it is promised
 module _ (laws : ChainLaws) (links : List Link) (a x : Name) (t : ℕ) (answered : (listed : List Link) → IsAnswered listed a x t (reading a listed x t))
     (under : is_at_or_below x a ≡ true) (p : ℕ) where
@@ -141,15 +128,26 @@ module _ (laws : ChainLaws) (links : List Link) (a x : Name) (t : ℕ) (answered
       → ((n : ℕ) → answer ≢ NoCloserName n) → IsDenial links a x t (record { answer = answer; of_name = Some p; of_wildcard = None })
   denied_by_one inside found answer is never = grind (arith, common_steps, one_says)
 
-  pub denied_by_both : IsFound links p x → (count : ℕ) → reading a (at_place links (Some p)) x t ≡ NoCloserName count
-      → (d : NsecDenial) → AreThere links d → d.of_name ≡ Some p → IsWildcardPicked links x count d
-      → d.answer ≡ reading a (picked links d) x t → IsDenial links a x t d
-  denied_by_both found count says d there name wildcard exact = record {
-    zone = λ L config whole. zone_of_both laws links L a config whole x t answered under p
-        (found L a config whole under) count says d name wildcard exact;
-    needed = λ L config whole. needs_both laws links L a config whole x t answered under p
-        (found L a config whole under) count says d name wildcard;
-    there = there;
+  pub denied_by_both : p < length links → IsFound links p x → (count : ℕ) → reading a (at_place links (Some p)) x t ≡ NoCloserName count
+      → (q : ℕ) → q < length links → IsFound links q (wildcard_below (last_labels count x)) → (answer : Answer)
+      → answer ≡ reading a (at_place links (Some p) ++ at_place links (Some q)) x t
+      → IsDenial links a x t (record { answer = answer; of_name = Some p; of_wildcard = Some q })
+  denied_by_both inside found count says q inside_q found_q answer exact = record {
+    zone = λ L config whole.
+        let of = found L a config whole under in
+        let under_w = wildcard_under laws links L a config whole x t answered under p of count says in
+        exact ∙ both_say laws links L a config whole x t answered under p of count says q (found_q L a config whole under_w);
+    needed = λ L config whole.
+        let of = found L a config whole under in
+        let under_w = wildcard_under laws links L a config whole x t answered under p of count says in
+        record {
+          name = λ low parent. wildcard_alone laws links L a config whole x t answered under p of count says q (found_q L a config whole under_w) parent;
+          wildcard = λ some. (count, says);
+        };
+    there = record {
+      name = λ r e. subst (λ n. n < length links) (some_is p r e) inside;
+      wildcard = λ r e. subst (λ n. n < length links) (some_is q r e) inside_q;
+    };
     exact = exact;
     outside = λ e. absurd (false≢true (sym e ∙ under));
   }

@@ -1,21 +1,17 @@
 -- Where a search in a chain ends, the record matches or covers the name.
 use Rattle.std.proofs.Common.{◌≡◌, ℕ, suc, ◌-◌, ◌≤◌, true, false, List, map, length, get_or, slice_get, Some, sym, ap, ◌∙◌, subst, arith}
-use Rattle.std.proofs.{Common.{inl, inr, ◌⊎◌}, lemmas.{Bool.{cases_lt, and_parts}, List.{get_or_past, length-map}, Grind.common_steps}}
+use Rattle.std.proofs.{Common.{inl, inr, ◌⊎◌}, lemmas.{Bool.{cases_lt, and_parts}, List.{get_or_past, length-map}}}
 use Rattle.std.{proofs.lemmas.Option.{get_or_from_slice_get, slice_get-get_or, slice_get-map}, specs.Option.option_map}
 use Rattle.domain_names.specs.{Name.is_at_or_below, Order.before, Words.Name}
-use Rattle.domain_zone.specs.{Covering.{matches_or_covers, pairs}, Zone.{ZoneRecord, unoccluded_owners}}
+use Rattle.domain_zone.specs.{Covering.pairs, Zone.{ZoneRecord, unoccluded_owners}}
 use Rattle.domain_zone.proofs.{NameLemmas.{below_from, before_right, one_lowered}, FindLemmas.in_at}
 use Rattle.domain_nsec.specs.{Chain.Link, declared.config.GenerateNsecConfig.GenerateNsecConfig}
 use Rattle.domain_checker.proofs.MeantLemmas.{ChainLaws, inside}
 use Rattle.domain_answer.proofs.ChainLemmas.{meant_leaving}
-use Rattle.domain_denier.{specs.{Picked.{IsOf, IsWhole}, Search.AreEnds}, proofs.NeighbourLemmas.{pair_is, pairs_length}}
+use Rattle.domain_denier.{specs.{Picked.{IsOf, IsWhole}, Search.AreEnds}, proofs.NeighbourLemmas.{pair_is, pairs_length, said}}
 
 abbrev pub ends : Link → Name × Name
 ends k = (k.owner, k.next)
-
--- an owner that is not after x, with a next name that is, or with one that is not after the owner
-said : (o n : Name) (x : Name) → before x o ≡ false → (before x n ≡ true) ⊎ (before o n ≡ false) → matches_or_covers before o n x ≡ true
-said o n x low high = grind (arith, common_steps)
 
 -- the record at a place has the owner at that place, and points to the owner after it, the last one to the apex
 ends_at : (links : List Link) (owners : List Name) (a : Name) → map ends links ≡ pairs owners a → (i : ℕ) (k : Link) → slice_get links i ≡ Some k
@@ -57,4 +53,4 @@ module _ (laws : ChainLaws) (links : List Link) (x : Name) (low high : ℕ) (at_
             let many : length links ≡ length owners = sym (length-map links ends) ∙ ap length names ∙ pairs_length owners a in
             inr (ap (before k.owner) (k_ends.1 ∙ get_or_past owners (suc low) a (omega (arith, none, many))) ∙ below_from k.owner a owner_low)
       ] in
-      record { link = k; there = there; says = said k.owner k.next x low_owner is_next }
+      record { link = k; there = there; says = said before k.owner k.next x (inl (low_owner, is_next)) }

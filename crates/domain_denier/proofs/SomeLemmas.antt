@@ -1,14 +1,20 @@
 -- What some of the links of a chain find of a hash, where one of all matches or covers it.
 use Rattle.std.proofs.Common.{◌≡◌, ℕ, Bool, true, false, cond, List, [], ◌∷◌, ◌++◌, Some, None, Option, slice_get, length, refl, sym, ap, ◌∙◌, subst, inl, inr}
-use Rattle.std.proofs.{Common.{◌<◌, ◌⊎◌, arith}, lemmas.{Bool.{false≢true, ne_eqb, or_left, or_right}, Grind.common_steps, List.Elements.All-from_recursion}}
+use Rattle.std.proofs.{Common.{◌<◌, arith}, lemmas.{Bool.{false≢true, ne_eqb, or_left, or_right}, Grind.common_steps, List.Elements.All-from_recursion}}
 use Rattle.std.{proofs.lemmas.{Option.{slice_get_cases, slice_get_within, get_or_from_slice_get}}, specs.{Prelude.All, List.{Contains, find}}}
 use Rattle.domain_octets.specs.Words.{Octets}
-use Rattle.domain_names.specs.Words.{Name}
-use Rattle.domain_zone.proofs.{PairLemmas.{In, all_from_in}, FindLemmas.{find_none, find_some, in_front, stands_in}}
-use Rattle.domain_nsec3.specs.{Chain.HashedLink, Config.Parameters}
-use Rattle.domain_checker.specs.HashedList.{is_hash_cover, is_hash_match}
-use Rattle.domain_denier.specs.{Picked.{at_place, listed_option}, HashedPicked.{IsPicked, hashed_picked, other_place, picked_without}}
-use Rattle.domain_denier.specs.{HashedSteps.{IsOfHash, tells_hash}, declared.nsec3.Nsec3Denial.Nsec3Denial}
+use Rattle.domain_zone.{specs.Zone.ZoneRecord, proofs.{PairLemmas.{In, all_from_in}, FindLemmas.{find_none, find_some, in_front, stands_in}}}
+use Rattle.domain_nsec3.specs.{Chain.{ChainRecords, HashedLink}, Config.{ChainConfig, Hash}}
+use Rattle.domain_checker.specs.{HashedList.{is_hash_cover, is_hash_match}, HashedView.{HashedRecords, chain_records, first_cover, first_match, with_links}}
+use Rattle.domain_answer.specs.HashedReading.{wildcard_told}
+use Rattle.domain_denier.specs.{Picked.{at_place, listed_option}, HashedPicked.{IsHashedWhole, IsPicked, hashed_picked, other_place, picked_without, without}}
+use Rattle.domain_denier.specs.{HashedSteps.{IsOfHash, all_records, tells_hash, wildcard_told_by}, declared.nsec3.Nsec3Denial.Nsec3Denial}
+
+-- the records of a zone's chain are read as that chain tells
+pub read_is : (L : List ZoneRecord) (config : ChainConfig) (hash : Hash) (chain : ChainRecords) → IsHashedWhole L config hash chain
+    → chain_records chain.param.owner config chain.links ≡ all_records hash chain
+read_is L config hash chain whole =
+    λ i. record { links = chain.links; apex = chain.param.owner; parameters = whole.parameters i; hash = whole.hashed i }
 
 -- ---- finding
 
@@ -55,36 +61,50 @@ among_contained links listed among =
 pub others_among : (links : List HashedLink) (gone : ℕ) (listed : List HashedLink) → AreOthers links gone listed → AreAmong links listed
 others_among links gone listed others = λ k i. let o = others k i in (o.0, o.1)
 
-module _ (links : List HashedLink) (a : Name) (p : Parameters) (v : Octets) (place : ℕ) (is_match : Bool)
-    (of : IsOfHash a p links v place is_match) where
-  by_match : (k : HashedLink) → is_hash_match a p v k ≡ true → tells_hash a p v k ≡ true
-  by_match k e = or_left (is_hash_match a p v k) (is_hash_cover a p v k) e
+module _ (R : HashedRecords) (v : Octets) (place : ℕ) (is_match : Bool) (of : IsOfHash R v place is_match) where
+  abbrev match_of : HashedLink → Bool
+  match_of k = is_hash_match R.apex R.parameters v k
 
-  by_cover : (k : HashedLink) → is_hash_cover a p v k ≡ true → tells_hash a p v k ≡ true
-  by_cover k e = or_right (is_hash_match a p v k) (is_hash_cover a p v k) e
+  abbrev cover_of : HashedLink → Bool
+  cover_of k = is_hash_cover R.apex R.parameters v k
+
+  by_match : (k : HashedLink) → is_hash_match R.apex R.parameters v k ≡ true → tells_hash R.apex R.parameters v k ≡ true
+  by_match k e = or_left (match_of k) (cover_of k) e
+
+  by_cover : (k : HashedLink) → is_hash_cover R.apex R.parameters v k ≡ true → tells_hash R.apex R.parameters v k ≡ true
+  by_cover k e = or_right (match_of k) (cover_of k) e
 
   -- none of them but that at the place tells
-  module _ (listed : List HashedLink) (others : AreOthers links place listed) where
-    pub no_match : find (is_hash_match a p v) listed ≡ None
-    no_match = none_found (is_hash_match a p v) listed (λ k i e. let o = others k i in o.2 (of.only o.0 k o.1 (by_match k e)))
+  module _ (listed : List HashedLink) (others : AreOthers R.links place listed) where
+    pub no_match : first_match (with_links R listed) v ≡ None
+    no_match = none_found (is_hash_match R.apex R.parameters v) listed (λ k i e. let o = others k i in o.2 (of.only o.0 k o.1 (by_match k e)))
 
-    pub no_cover : find (is_hash_cover a p v) listed ≡ None
-    no_cover = none_found (is_hash_cover a p v) listed (λ k i e. let o = others k i in o.2 (of.only o.0 k o.1 (by_cover k e)))
+    pub no_cover : first_cover (with_links R listed) v ≡ None
+    no_cover = none_found (is_hash_cover R.apex R.parameters v) listed (λ k i e. let o = others k i in o.2 (of.only o.0 k o.1 (by_cover k e)))
 
-  module _ (listed : List HashedLink) (among : AreAmong links listed) where
-    is_link : (k : HashedLink) → In k listed → tells_hash a p v k ≡ true → k ≡ of.link
+  module _ (listed : List HashedLink) (among : AreAmong R.links listed) where
+    is_link : (k : HashedLink) → In k listed → tells_hash R.apex R.parameters v k ≡ true → k ≡ of.link
     is_link k i e = grind (arith, common_steps)
 
     -- a record that covers is no match
-    pub unmatched : is_match ≡ false → find (is_hash_match a p v) listed ≡ None
-    unmatched other = none_found (is_hash_match a p v) listed (λ k i e.
-        false≢true (sym (of.matched ∙ other) ∙ ap (is_hash_match a p v) (sym (is_link k i (by_match k e))) ∙ e))
+    pub unmatched : is_match ≡ false → first_match (with_links R listed) v ≡ None
+    unmatched other = none_found (is_hash_match R.apex R.parameters v) listed (λ k i e.
+        false≢true (sym (of.matched ∙ other) ∙ ap (is_hash_match R.apex R.parameters v) (sym (is_link k i (by_match k e))) ∙ e))
 
-    pub matched : In of.link listed → is_match ≡ true → find (is_hash_match a p v) listed ≡ Some of.link
-    matched i sure = sole_found (is_hash_match a p v) listed of.link i (of.matched ∙ sure) (λ k j e. is_link k j (by_match k e))
+    pub matched : In of.link listed → is_match ≡ true → first_match (with_links R listed) v ≡ Some of.link
+    matched i sure = sole_found (is_hash_match R.apex R.parameters v) listed of.link i (of.matched ∙ sure) (λ k j e. is_link k j (by_match k e))
 
-    pub covered : In of.link listed → is_match ≡ false → find (is_hash_cover a p v) listed ≡ Some of.link
+    pub covered : In of.link listed → is_match ≡ false → first_cover (with_links R listed) v ≡ Some of.link
     covered i other = grind (arith, common_steps, sole_found, is_link, by_cover)
+
+-- what they say of a wildcard with that hash
+pub told_in : (R : HashedRecords) (v : Octets) (place : ℕ) (m : Bool) (of : IsOfHash R v place m) (listed : List HashedLink) → AreAmong R.links listed
+    → In of.link listed → (n t : ℕ)
+    → wildcard_told_by n t of.link m ≡ wildcard_told n t (first_match (with_links R listed) v) (first_cover (with_links R listed) v)
+told_in R v place true of listed among has n t =
+    λ i. wildcard_told n t (sym (matched R v place true of listed among has refl) i) (first_cover (with_links R listed) v)
+told_in R v place false of listed among has n t =
+    λ i. wildcard_told n t (sym (unmatched R v place false of listed among refl) i) (sym (covered R v place false of listed among has refl) i)
 
 -- ---- the links at places
 
@@ -97,46 +117,33 @@ pub in_place : (links : List HashedLink) (o : Option ℕ) (place : ℕ) (k : Has
     → In k (at_place links o)
 in_place links o place k e g = subst (λ ls. In k ls) (sym (ap (at_place links) e ∙ ap listed_option g)) (inl refl)
 
-from_other : (gone : ℕ) (o : Option ℕ) (place : ℕ) → other_place gone o ≡ Some place → (o ≡ Some place) × (place ≡ gone → ⊥)
-from_other gone o place e = grind (arith, common_steps)
-
--- another place is kept
-kept_place : (gone : ℕ) (o : Option ℕ) (place : ℕ) → o ≡ Some place → (place ≡ gone → ⊥) → other_place gone o ≡ Some place
-kept_place gone o place e other = ap (other_place gone) e ∙ (λ i. cond (ne_eqb place gone other i) None (Some place))
-
--- of the others none is at the place
-not_gone : (gone : ℕ) (o : Option ℕ) → other_place gone o ≡ Some gone → ⊥
-not_gone gone o e = (from_other gone o gone e).1 refl
-
-module _ (links : List HashedLink) (o q r : Option ℕ) where
-  from_three : (k : HashedLink) → In k (at_place links o ++ (at_place links q ++ at_place links r))
-      → (place : ℕ) × ((o ≡ Some place) ⊎ ((q ≡ Some place) ⊎ (r ≡ Some place))) × (slice_get links place ≡ Some k)
-  from_three k i = grind (arith, common_steps)
-
-  into_three : (place : ℕ) (k : HashedLink) → slice_get links place ≡ Some k → ((o ≡ Some place) ⊎ (q ≡ Some place)) ⊎ (r ≡ Some place)
-      → In k (at_place links o ++ (at_place links q ++ at_place links r))
-  into_three place k there is = grind (arith, common_steps, in_front, in_back, in_place)
-
-  three_others : (gone : ℕ) → (o ≡ Some gone → ⊥) → (q ≡ Some gone → ⊥) → (r ≡ Some gone → ⊥)
-      → AreOthers links gone (at_place links o ++ (at_place links q ++ at_place links r))
-  three_others gone g h m = grind (arith, common_steps)
-
 -- ---- the links that were picked
 
 module _ (links : List HashedLink) (d : Nsec3Denial) where
+  from_picked : (k : HashedLink) → In k (hashed_picked links d) → (place : ℕ) × IsPicked d place × (slice_get links place ≡ Some k)
+  from_picked k i = grind (arith, common_steps)
+
   pub picked_among : AreAmong links (hashed_picked links d)
-  picked_among = λ k i. let f = from_three links d.of_encloser d.of_next_closer d.of_wildcard k i in (f.0, f.2)
+  picked_among = λ k i. let f = from_picked k i in (f.0, f.2)
 
   pub in_picked : (place : ℕ) (k : HashedLink) → slice_get links place ≡ Some k → IsPicked d place → In k (hashed_picked links d)
-  in_picked place k there is = into_three links d.of_encloser d.of_next_closer d.of_wildcard place k there is
+  in_picked place k there is = grind (arith, common_steps, in_front, in_back, in_place)
 
-  -- but for the one at a place
-  module _ (gone : ℕ) where
-    pub without_others : AreOthers links gone (picked_without links gone d)
-    without_others =
-        three_others links (other_place gone d.of_encloser) (other_place gone d.of_next_closer) (other_place gone d.of_wildcard) gone
-        (not_gone gone d.of_encloser) (not_gone gone d.of_next_closer) (not_gone gone d.of_wildcard)
+-- but for the one at a place
+from_other : (gone : ℕ) (o : Option ℕ) (place : ℕ) → other_place gone o ≡ Some place → (o ≡ Some place) × (place ≡ gone → ⊥)
+from_other gone o place e = grind (arith, common_steps)
 
-    pub in_without : (place : ℕ) (k : HashedLink) → slice_get links place ≡ Some k → IsPicked d place → (place ≡ gone → ⊥)
-        → In k (picked_without links gone d)
-    in_without place k there is other = grind (arith, common_steps, into_three, kept_place)
+kept_place : (gone : ℕ) (o : Option ℕ) (place : ℕ) → o ≡ Some place → (place ≡ gone → ⊥) → other_place gone o ≡ Some place
+kept_place gone o place e other = ap (other_place gone) e ∙ (λ i. cond (ne_eqb place gone other i) None (Some place))
+
+module _ (links : List HashedLink) (d : Nsec3Denial) (gone : ℕ) where
+  never_gone : (place : ℕ) → IsPicked (without gone d) place → place ≡ gone → ⊥
+  never_gone place is = grind (arith, common_steps, from_other)
+
+  pub without_others : AreOthers links gone (picked_without links gone d)
+  without_others = λ k i. let f = from_picked links (without gone d) k i in (f.0, f.2, never_gone f.0 f.1)
+
+  pub in_without : (place : ℕ) (k : HashedLink) → slice_get links place ≡ Some k → IsPicked d place → (place ≡ gone → ⊥)
+      → In k (picked_without links gone d)
+  in_without place k there is other =
+      let kept : IsPicked (without gone d) place = grind (arith, common_steps, kept_place) in in_picked links (without gone d) place k there kept

@@ -43,12 +43,18 @@ abbrev pub other_place : ℕ → Option ℕ → Option ℕ
 other_place gone None = None
 other_place gone (Some place) = if place == gone then None else Some place
 
--- the links that were picked, but for the one at a place
+-- what was picked, but for the record at a place
+abbrev pub without : ℕ → Nsec3Denial → Nsec3Denial
+without gone d =
+    record d {
+      of_encloser = other_place gone d.of_encloser;
+      of_next_closer = other_place gone d.of_next_closer;
+      of_wildcard = other_place gone d.of_wildcard;
+    }
+
+-- the links of that
 abbrev pub picked_without : List HashedLink → ℕ → Nsec3Denial → List HashedLink
-picked_without links gone d =
-    at_place links (other_place gone d.of_encloser)
-    ++ (at_place links (other_place gone d.of_next_closer)
-    ++ at_place links (other_place gone d.of_wildcard))
+picked_without links gone d = hashed_picked links (without gone d)
 
 -- the places that were picked are places of the chain
 abbrev pub AreHashedThere : List HashedLink → Nsec3Denial → Type 0

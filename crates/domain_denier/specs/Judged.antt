@@ -28,5 +28,4 @@ abbrev pub IsOfWildcard : Name → List Link → ℕ → Name → ℕ → OfWild
 IsOfWildcard a listed n w t (Told answer) =
     (answer ≡ wildcard_answer a listed n w t) × ((m : ℕ) → answer ≢ NoCloserName m)
 IsOfWildcard a listed n w t (Untold is_silent) =
-    ((m : ℕ) × (wildcard_answer a listed n w t ≡ NoCloserName m))
-    × (IsTrue is_silent → IsSilent a listed w)
+    (wildcard_answer a listed n w t ≡ NoCloserName n) × (IsTrue is_silent → IsSilent a listed w)

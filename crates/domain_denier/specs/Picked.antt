@@ -1,9 +1,9 @@
 -- The records of an NSEC chain that a server answers a question with (RFC 4035, section 3.1.3).
 use Rattle.std.specs.Prelude.{ℕ, ◌≡◌, ◌≢◌, true, false, List, [], ◌∷◌, ◌++◌, ◌<◌, length, Option, Some, None, slice_get}
-use Rattle.domain_names.specs.{Name.{is_at_or_below, last_labels}, Order.before, Words.Name}
+use Rattle.domain_names.specs.{Name.is_at_or_below, Order.before, Words.Name}
 use Rattle.domain_zone.specs.{Covering.matches_or_covers, Zone.{OwnersNeverDescend, ZoneRecord}}
 use Rattle.domain_nsec.specs.{Chain.{IsChain, Link}, declared.config.GenerateNsecConfig.GenerateNsecConfig}
-use Rattle.domain_answer.specs.{Proved.LeavesOutBelowDname, Reading.reading, ZoneAnswer.{is_at_parent, wildcard_below, zone_answer}}
+use Rattle.domain_answer.specs.{Proved.LeavesOutBelowDname, Reading.reading, ZoneAnswer.{is_at_parent, zone_answer}}
 use Rattle.domain_answer.specs.declared.answer.Answer.TheVariants.{NoCloserName, NotProven}
 use Rattle.domain_denier.specs.declared.nsec.NsecDenial.{NsecDenial}
 
@@ -43,12 +43,6 @@ abbrev pub IsFound : List Link → ℕ → Name → Type 0
 IsFound links place x =
     (L : List ZoneRecord) (a : Name) (config : GenerateNsecConfig) → IsWhole L a config links
     → is_at_or_below x a ≡ true → IsOf links place x
-
--- the record of the wildcard below the last labels of x, so many, was picked
-abbrev pub IsWildcardPicked : List Link → Name → ℕ → NsecDenial → Type 0
-IsWildcardPicked links x count d =
-    (place : ℕ) × (d.of_wildcard ≡ Some place)
-    × IsFound links place (wildcard_below (last_labels count x))
 
 -- without the picked record of the name nothing is proved, and without that of the wildcard no more
 -- than that there is no such name

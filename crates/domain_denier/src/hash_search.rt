@@ -1,12 +1,10 @@
 //! The record of a chain that says something of a hash.
-ghost use Rattle.std.specs.Prelude.{◌≡◌, ◌<◌, ◌⊎◌, ℕ, Ok, Err, List, length, IfOk, IfErr, IsErrOf};
-ghost use Rattle.domain_nsec3.specs.{Chain.IsHashedChain, Config.ChainConfig};
-ghost use Rattle.domain_nsec3.specs.{Meaning.octets_before, View.hash_by};
+ghost use Rattle.std.specs.Prelude.{◌≡◌, ◌<◌, ◌⊎◌, ℕ, Err, length, IfOk, IfErr, IsErrOf};
+ghost use Rattle.domain_nsec3.specs.{Config.Hash, Meaning.octets_before, View.hash_by};
 ghost use Rattle.domain_hasher.specs.declared.error.Nsec3HashError.TheVariants as hash_error;
-ghost use Rattle.domain_zone.specs.Zone.{ZoneRecord};
-ghost use Rattle.domain_denier.specs.HashedSteps.{IsFoundHash, IsOfHash, IsSaid};
+ghost use Rattle.domain_denier.specs.HashedSteps.{all_records, IsFoundAt, IsOfHash, IsOfZone};
 
-use domain_codecs::laws::{base32_reads_back, base32_tells_apart};
+use domain_checker::laws::hashed_chains_are_known;
 use domain_hasher::{Nsec3HashError, Nsec3Hasher, hash_wire};
 use domain_nsec3::Nsec3Chain;
 use domain_octets::Octets;
@@ -27,24 +25,20 @@ fn is_before(octets: &[u8], other: &[u8]) -> bool
     octets.cmp(other).is_lt()
 }
 
-/// The place of the record that matches or covers a hash: the last whose own hash is not after it
-/// and, where each is, the last of all.
-fn place_of_hash<O: Octets>(chain: &Nsec3Chain<'_, O>, hash: &[u8]) -> usize
+/// The record that matches or covers a hash: the last whose own hash is not after it and, where
+/// each is, the last of all.
+fn find_hash<O: Octets>(chain: &Nsec3Chain<'_, O>, hash: &[u8]) -> HashPlace
     requires some { 0 < length chain.now.links }
-    ensures inside { result < length chain.now.links }
-    ensures of_hash { (L : List ZoneRecord) (config : ChainConfig)
-        → IsHashedChain L chain.now.param.owner config chain.now.links
-        → IsSaid chain.now.param.owner chain.now.links hash.now result }
+    ensures inside { result.place < length chain.now.links }
+    ensures of_hash { (by : Hash) → IsOfZone by chain.now
+        → IsOfHash (all_records by chain.now) hash.now result.place result.matches }
 {
-    base32_tells_apart();
+    hashed_chains_are_known();
     let Some(first) = chain.hash_at(0) else {
         unreachable!();
     };
-    if is_before(hash, first) {
-        return chain.len() - 1;
-    }
-    let mut low = 0;
     let mut high = chain.len();
+    let mut low = if is_before(hash, first) { high - 1 } else { 0 };
     'search: while high - low > 1 {
         let middle = low + (high - low) / 2;
         let Some(own) = chain.hash_at(middle) else {
@@ -56,27 +50,11 @@ fn place_of_hash<O: Octets>(chain: &Nsec3Chain<'_, O>, hash: &[u8]) -> usize
             low = middle;
         }
     }
-    low
-}
-
-/// The record that matches or covers a hash.
-fn find_hash<O: Octets>(chain: &Nsec3Chain<'_, O>, hash: &[u8]) -> HashPlace
-    requires some { 0 < length chain.now.links }
-    ensures inside { result.place < length chain.now.links }
-    ensures of_hash { (L : List ZoneRecord) (config : ChainConfig)
-        → IsHashedChain L chain.now.param.owner config chain.now.links
-        → config.parameters ≡ chain.now.param.parameters
-        → IsOfHash chain.now.param.owner chain.now.param.parameters chain.now.links hash.now
-        result.place result.matches }
-{
-    base32_reads_back();
-    base32_tells_apart();
-    let place = place_of_hash(chain, hash);
-    let Some(own) = chain.hash_at(place) else {
+    let Some(own) = chain.hash_at(low) else {
         unreachable!();
     };
     HashPlace {
-        place,
+        place: low,
         matches: own.cmp(hash).is_eq(),
     }
 }
@@ -89,8 +67,9 @@ pub(crate) fn look_up<O: Octets, H: Nsec3Hasher>(
     hasher: &H,
 ) -> Result<HashPlace, Nsec3HashError>
     requires some { 0 < length chain.now.links }
-    ensures ok { IfOk result (IsFoundHash
-        (hash_by (H.answer hasher.now) chain.now.param.parameters) chain.now wire.now) }
+    ensures ok { IfOk result (λ found. IsFoundAt
+        (hash_by (H.answer hasher.now) chain.now.param.parameters) chain.now wire.now found.place
+        found.matches) }
     ensures err { IfErr result (λ e. (e ≡ hash_error.OutOfMemory) ⊎ ((n : ℕ)
         × (e ≡ hash_error.Hasher n)
         × (hash_by (H.answer hasher.now) chain.now.param.parameters wire.now ≡ Err n))) }

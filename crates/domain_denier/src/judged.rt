@@ -1,11 +1,12 @@
 //! What records at places of an NSEC chain say.
-ghost use Rattle.std.specs.Prelude.{◌≡◌, ◌<◌, ◌++◌, Some, length, IfSome, IsTrue};
+ghost use Rattle.std.specs.Prelude.{◌≡◌, ◌<◌, ◌++◌, Some, length, slice_get, IsTrue};
+ghost use Rattle.domain_nsec.specs.ChainView.{as_link};
 ghost use Rattle.domain_answer.specs.Reading.{reading, IsNameAnswer};
 ghost use Rattle.domain_answer.specs.ZoneAnswer.{wildcard_below};
 ghost use Rattle.domain_answer.specs.declared.answer.Answer.TheVariants.{NoCloserName};
 ghost use Rattle.domain_names.specs.Name.{last_labels};
 ghost use Rattle.domain_denier.specs.Judged.{IsOfWildcard, IsSilent, Tells};
-ghost use Rattle.domain_denier.specs.Picked.{at_place, IsFound, IsOf};
+ghost use Rattle.domain_denier.specs.Picked.{at_place, IsFound};
 
 use crate::owner_keys::OwnerKeys;
 use crate::search::{place_of, suggested};
@@ -13,13 +14,17 @@ use domain_answer::{
     Answer, NameAnswer, NsecFound, find_nsec, judge_name, judge_nsec, judge_wildcard,
 };
 use domain_base::{ParsedName, Rtype, ToName};
-use domain_nsec::NsecChain;
+use domain_nsec::{BorrowedNsec, NsecChain};
 
-/// The record that matches or covers a name, by its place, and what it answers of the name.
-#[derive(Clone, Copy)]
-pub(crate) struct OfName {
-    pub(crate) place: usize,
-    pub(crate) answer: NameAnswer,
+/// The record at a place of the chain.
+fn lend_at<'c, N: ToName>(chain: &'c NsecChain<'_, N>, place: usize) -> BorrowedNsec<'c>
+    requires { place < length chain.now }
+    ensures { slice_get chain.now place ≡ Some (as_link (λ n. n) result) }
+{
+    let Some(listed) = chain.lend(place) else {
+        unreachable!();
+    };
+    listed
 }
 
 /// What the record at a place of the chain answers of a name.
@@ -35,10 +40,7 @@ fn judge_one<A: ToName, N: ToName, M: ToName>(
         (M.labels name.now) rtype) (A.labels apex.now) (at_place chain.now (Some place))
         (M.labels name.now) rtype result }
 {
-    let Some(listed) = chain.lend(place) else {
-        unreachable!();
-    };
-    judge_name(apex, &[listed], name, rtype)
+    judge_name(apex, &[lend_at(chain, place)], name, rtype)
 }
 
 /// Whether an answer comes of a record that matches or covers the name.
@@ -51,33 +53,30 @@ fn is_told(answer: NameAnswer) -> bool
     )
 }
 
-/// The record that matches or covers a name, and what it says. It stands where the keys suggest, or
-/// else where a search ends: what it says tells which.
+/// The record that matches or covers a name, by its place, and what it answers of the name. It
+/// stands where the keys suggest, or else where a search ends: what it says tells which.
 pub(crate) fn first_of<A: ToName, N: ToName, M: ToName>(
     apex: &A,
     chain: &NsecChain<'_, N>,
     keys: Option<&OwnerKeys>,
     name: &M,
     rtype: Rtype,
-) -> OfName
+) -> (usize, NameAnswer)
     requires some { 0 < length chain.now }
-    ensures inside { result.place < length chain.now }
-    ensures found { IsFound chain.now result.place (M.labels name.now) }
-    ensures exact { IsNameAnswer (reading (A.labels apex.now)
-        (at_place chain.now (Some result.place)) (M.labels name.now) rtype) (A.labels apex.now)
-        (at_place chain.now (Some result.place)) (M.labels name.now) rtype result.answer }
+    ensures inside { result.0 < length chain.now }
+    ensures found { IsFound chain.now result.0 (M.labels name.now) }
+    ensures exact { IsNameAnswer (reading (A.labels apex.now) (at_place chain.now (Some result.0))
+        (M.labels name.now) rtype) (A.labels apex.now) (at_place chain.now (Some result.0))
+        (M.labels name.now) rtype result.1 }
 {
     if let Some(place) = suggested(chain, keys, name, None) {
         let answer = judge_one(apex, chain, name, rtype, place);
         if is_told(answer) {
-            return OfName { place, answer };
+            return (place, answer);
         }
     }
     let place = place_of(chain, keys, name);
-    OfName {
-        place,
-        answer: judge_one(apex, chain, name, rtype, place),
-    }
+    (place, judge_one(apex, chain, name, rtype, place))
 }
 
 /// What a record that denies a name says of the wildcard below the closest encloser of the name.
@@ -103,10 +102,7 @@ pub(crate) fn of_wildcard<A: ToName, N: ToName>(
     ensures { IsOfWildcard (A.labels apex.now) (at_place chain.now (Some place)) count wildcard.now
         rtype result }
 {
-    let Some(listed) = chain.lend(place) else {
-        unreachable!();
-    };
-    let records = [listed];
+    let records = [lend_at(chain, place)];
     match find_nsec(apex, &records, wildcard) {
         NsecFound::Neither => return OfWildcard::Untold(true),
         NsecFound::Match(_) | NsecFound::Cover(_) => {}
@@ -117,62 +113,45 @@ pub(crate) fn of_wildcard<A: ToName, N: ToName>(
     }
 }
 
-/// What the record at the second place says of the wildcard below the closest encloser of a name,
-/// which has so many labels, where that at the first denies the name and says nothing of the
-/// wildcard.
-pub(crate) fn told_of_second<A: ToName, N: ToName, M: ToName>(
+/// The record that matches or covers the wildcard below the closest encloser of a name, which has
+/// so many labels, by its place, and what it and the first one say of the name. The first denies
+/// the name; where it is silent of the wildcard, what the suggested record says of that is the
+/// answer of both.
+pub(crate) fn second_of<A: ToName, N: ToName, M: ToName>(
     apex: &A,
     chain: &NsecChain<'_, N>,
+    keys: Option<&OwnerKeys>,
     name: &M,
     rtype: Rtype,
     wildcard: &ParsedName<'_>,
     count: usize,
     first: usize,
-    second: usize,
-) -> Option<Answer>
+    is_silent: bool,
+) -> (usize, Answer)
     requires first { first < length chain.now }
-    requires second { second < length chain.now }
     requires denies { reading (A.labels apex.now) (at_place chain.now (Some first))
         (M.labels name.now) rtype ≡ NoCloserName count }
-    requires silent { IsSilent (A.labels apex.now) (at_place chain.now (Some first)) wildcard.now }
+    requires silent { IsTrue is_silent
+        → IsSilent (A.labels apex.now) (at_place chain.now (Some first)) wildcard.now }
     requires wildcard { wildcard.now ≡ wildcard_below (last_labels count (M.labels name.now)) }
-    ensures tells { IfSome result (λ answer. IsOf chain.now second wildcard.now) }
-    ensures exact { IfSome result (λ answer. answer ≡ reading (A.labels apex.now)
-        (at_place chain.now (Some first) ++ at_place chain.now (Some second)) (M.labels name.now)
-        rtype) }
-{
-    let Some(listed) = chain.lend(second) else {
-        unreachable!();
-    };
-    if listed.owner().name_eq(name) {
-        return None;
-    }
-    match judge_wildcard(apex, &[listed], count, wildcard, rtype) {
-        Answer::NoCloserName(_) => None,
-        answer => Some(answer),
-    }
-}
-
-/// What the records at two places of the chain say.
-pub(crate) fn judge_both<A: ToName, N: ToName, M: ToName>(
-    apex: &A,
-    chain: &NsecChain<'_, N>,
-    name: &M,
-    rtype: Rtype,
-    first: usize,
-    second: usize,
-) -> Answer
-    requires first { first < length chain.now }
-    requires second { second < length chain.now }
-    ensures { result ≡ reading (A.labels apex.now)
-        (at_place chain.now (Some first) ++ at_place chain.now (Some second)) (M.labels name.now)
+    ensures inside { result.0 < length chain.now }
+    ensures found { IsFound chain.now result.0 wildcard.now }
+    ensures exact { result.1 ≡ reading (A.labels apex.now)
+        (at_place chain.now (Some first) ++ at_place chain.now (Some result.0)) (M.labels name.now)
         rtype }
 {
-    let Some(first) = chain.lend(first) else {
-        unreachable!();
-    };
-    let Some(second) = chain.lend(second) else {
-        unreachable!();
-    };
-    judge_nsec(apex, &[first, second], name, rtype)
+    if is_silent {
+        if let Some(near) = suggested(chain, keys, wildcard, Some(count)) {
+            let listed = lend_at(chain, near);
+            if !listed.owner().name_eq(name) {
+                match judge_wildcard(apex, &[listed], count, wildcard, rtype) {
+                    Answer::NoCloserName(_) => {}
+                    answer => return (near, answer),
+                }
+            }
+        }
+    }
+    let second = place_of(chain, keys, wildcard);
+    let both = [lend_at(chain, first), lend_at(chain, second)];
+    (second, judge_nsec(apex, &both, name, rtype))
 }

@@ -1,16 +1,12 @@
 //! What is picked of an NSEC chain.
-ghost use Rattle.std.specs.Prelude.{◌≡◌, ◌<◌, ◌↔◌, [], None, Some, true, length, IfOk, IsTrue};
-ghost use Rattle.domain_names.specs.Name.{is_at_or_below, last_labels};
-ghost use Rattle.domain_answer.specs.Reading.{absent_answer, reading};
-ghost use Rattle.domain_answer.specs.ZoneAnswer.{wildcard_below};
-ghost use Rattle.domain_denier.specs.Judged.{IsSilent};
-ghost use Rattle.domain_denier.specs.Picked.{at_place, picked, AreThere, IsDenial, IsFound, IsWildcardPicked};
-ghost use Rattle.domain_answer.specs.declared.answer.Answer.TheVariants.{NoCloserName, OutsideZone};
+ghost use Rattle.std.specs.Prelude.{◌≡◌, ◌↔◌, [], None, Some, IfOk, IsTrue};
+ghost use Rattle.domain_answer.specs.Reading.{reading};
+ghost use Rattle.domain_denier.specs.Picked.{IsDenial};
+ghost use Rattle.domain_answer.specs.declared.answer.Answer.TheVariants.{OutsideZone};
 ghost use Rattle.domain_answer.specs.declared.answer.NameAnswer.TheVariants.{Given};
 
-use crate::judged::{OfName, OfWildcard, first_of, judge_both, of_wildcard, told_of_second};
+use crate::judged::{OfWildcard, first_of, of_wildcard, second_of};
 use crate::owner_keys::OwnerKeys;
-use crate::search::{place_of, suggested};
 use domain_answer::{Answer, NameAnswer, judge_nsec, laws, wildcard_of};
 use domain_base::{MAX_NAME, ParsedName, Rtype, ToName};
 use domain_nsec::NsecChain;
@@ -46,93 +42,6 @@ fn judge_none<A: ToName, M: ToName>(apex: &A, name: &M, rtype: Rtype) -> NsecDen
     }
 }
 
-/// What is picked where the record at a place denies the name, whose closest encloser has so many
-/// labels, and says nothing of the wildcard below that one: the record of the wildcard too.
-/// `is_silent` where the record neither matches nor covers the wildcard.
-fn with_second<A: ToName, N: ToName, M: ToName>(
-    apex: &A,
-    chain: &NsecChain<'_, N>,
-    keys: Option<&OwnerKeys>,
-    name: &M,
-    rtype: Rtype,
-    wildcard: &ParsedName<'_>,
-    count: usize,
-    place: usize,
-    is_silent: bool,
-) -> NsecDenial
-    requires inside { place < length chain.now }
-    requires denies { reading (A.labels apex.now) (at_place chain.now (Some place))
-        (M.labels name.now) rtype ≡ NoCloserName count }
-    requires silent { IsTrue is_silent
-        → IsSilent (A.labels apex.now) (at_place chain.now (Some place)) wildcard.now }
-    requires wildcard { wildcard.now ≡ wildcard_below (last_labels count (M.labels name.now)) }
-    ensures there { AreThere chain.now result }
-    ensures name { result.of_name ≡ Some place }
-    ensures wildcard { IsWildcardPicked chain.now (M.labels name.now) count result }
-    ensures exact { result.answer ≡ reading (A.labels apex.now) (picked chain.now result)
-        (M.labels name.now) rtype }
-{
-    if is_silent {
-        if let Some(near) = suggested(chain, keys, wildcard, Some(count)) {
-            if let Some(answer) = told_of_second(
-                apex, chain, name, rtype, wildcard, count, place, near,
-            ) {
-                return NsecDenial {
-                    answer,
-                    of_name: Some(place),
-                    of_wildcard: Some(near),
-                };
-            }
-        }
-    }
-    let second = place_of(chain, keys, wildcard);
-    NsecDenial {
-        answer: judge_both(apex, chain, name, rtype, place, second),
-        of_name: Some(place),
-        of_wildcard: Some(second),
-    }
-}
-
-/// What is picked where the record at a place denies the name, whose closest encloser has so many
-/// labels: the record of the wildcard below that one too, unless it is the same.
-fn with_wildcard<A: ToName, N: ToName, M: ToName>(
-    apex: &A,
-    chain: &NsecChain<'_, N>,
-    keys: Option<&OwnerKeys>,
-    name: &M,
-    rtype: Rtype,
-    place: usize,
-    count: usize,
-) -> NsecDenial
-    requires inside { place < length chain.now }
-    requires below { is_at_or_below (M.labels name.now) (A.labels apex.now) ≡ true }
-    requires found { IsFound chain.now place (M.labels name.now) }
-    requires absent { reading (A.labels apex.now) (at_place chain.now (Some place))
-        (M.labels name.now) rtype ≡ absent_answer (A.labels apex.now)
-        (at_place chain.now (Some place)) count (M.labels name.now) rtype }
-    requires counts { count < length (M.labels name.now) }
-    ensures { IsDenial chain.now (A.labels apex.now) (M.labels name.now) rtype result }
-{
-    // By these laws what the records say is what the zone says, of a type of 16 bits.
-    laws::readings_are_proved();
-    chains_mean_the_zone();
-    let _number = rtype.to_int();
-    let mut buffer = [0; MAX_NAME];
-    let Some(wildcard) = wildcard_of(&mut buffer, name, count) else {
-        unreachable!();
-    };
-    match of_wildcard(apex, chain, rtype, &wildcard, count, place) {
-        OfWildcard::Told(answer) => NsecDenial {
-            answer,
-            of_name: Some(place),
-            of_wildcard: None,
-        },
-        OfWildcard::Untold(is_silent) => with_second(
-            apex, chain, keys, name, rtype, &wildcard, count, place, is_silent,
-        ),
-    }
-}
-
 /// Whether it is said that a name is outside the zone.
 fn is_outside(answer: NameAnswer) -> bool
     ensures { IsTrue result ↔ (answer ≡ Given OutsideZone) }
@@ -140,7 +49,8 @@ fn is_outside(answer: NameAnswer) -> bool
     matches!(answer, NameAnswer::Given(Answer::OutsideZone))
 }
 
-/// What is picked of a chain, by its keys where there are some.
+/// What is picked of a chain, by its keys where there are some: the record of the name and, where
+/// that denies the name, the one of the wildcard below its closest encloser, unless it is the same.
 fn pick<A: ToName, N: ToName, M: ToName>(
     apex: &A,
     chain: &NsecChain<'_, N>,
@@ -157,17 +67,40 @@ fn pick<A: ToName, N: ToName, M: ToName>(
     if chain.is_empty() {
         return judge_none(apex, name, rtype);
     }
-    let OfName { place, answer } = first_of(apex, chain, keys, name, rtype);
+    let (place, answer) = first_of(apex, chain, keys, name, rtype);
     if is_outside(answer) {
         return judge_none(apex, name, rtype);
     }
-    match answer {
-        NameAnswer::Given(answer) => NsecDenial {
+    let count = match answer {
+        NameAnswer::Given(answer) => {
+            return NsecDenial {
+                answer,
+                of_name: Some(place),
+                of_wildcard: None,
+            };
+        }
+        NameAnswer::Absent(count) => count,
+    };
+    let mut buffer = [0; MAX_NAME];
+    let Some(wildcard) = wildcard_of(&mut buffer, name, count) else {
+        unreachable!();
+    };
+    match of_wildcard(apex, chain, rtype, &wildcard, count, place) {
+        OfWildcard::Told(answer) => NsecDenial {
             answer,
             of_name: Some(place),
             of_wildcard: None,
         },
-        NameAnswer::Absent(count) => { with_wildcard(apex, chain, keys, name, rtype, place, count) }
+        OfWildcard::Untold(is_silent) => {
+            let (second, answer) = second_of(
+                apex, chain, keys, name, rtype, &wildcard, count, place, is_silent,
+            );
+            NsecDenial {
+                answer,
+                of_name: Some(place),
+                of_wildcard: Some(second),
+            }
+        }
     }
 }
 

@@ -8,11 +8,11 @@ ghost use Rattle.domain_hasher.specs.declared.error.Nsec3HashError.TheVariants a
 ghost use Rattle.domain_zone.specs.Zone.{ZoneRecord};
 ghost use Rattle.domain_checker.specs.HashedView.{links_with};
 ghost use Rattle.domain_answer.specs.HashedProved.{AreAskedAlone};
-ghost use Rattle.domain_answer.specs.HashedReading.{next_answer, IsHashedRead};
+ghost use Rattle.domain_answer.specs.HashedReading.{encloser_answer, next_answer, IsHashedRead};
 ghost use Rattle.domain_answer.specs.Proved.{needs_no_records};
 ghost use Rattle.domain_answer.specs.ZoneAnswer.{is_at_parent, wildcard_below};
 ghost use Rattle.domain_denier.specs.HashedPicked.{hashed_picked, without_records, AreHashedThere, ArePlaces, IsHashedDenial, IsHashedWhole, IsRefusedAbove};
-ghost use Rattle.domain_denier.specs.HashedSteps.{link_at, wildcard_told_by, with_encloser, IsFirstDenial, IsInside, IsPickedRead, IsPlaced, IsWildcardPlaced};
+ghost use Rattle.domain_denier.specs.HashedSteps.{encloser_at, link_at, next_role, wildcard_told_by, IsWildcardAnswer};
 
 use crate::encloser::{PlacedEncloser, find_encloser};
 use crate::hash_search::{HashPlace, look_up};
@@ -77,18 +77,6 @@ fn without_records(answer: Answer) -> Nsec3Denial
     }
 }
 
-/// An answer that rests on the record of the closest encloser alone.
-fn with_encloser(answer: Answer, place: usize) -> Nsec3Denial
-    ensures { result ≡ with_encloser answer place }
-{
-    Nsec3Denial {
-        answer,
-        of_encloser: Some(place),
-        of_next_closer: None,
-        of_wildcard: None,
-    }
-}
-
 /// Whether the parent zone answers: the type is DS and the name is the apex.
 fn is_at_parent<M: ToName>(apex: &ParsedName<'_>, name: &M, rtype: Rtype) -> bool
     ensures { result ≡ is_at_parent apex.now (M.labels name.now) rtype }
@@ -124,40 +112,40 @@ fn next_answer<O: Octets>(chain: &Nsec3Chain<'_, O>, count: usize, cover: Option
 }
 
 /// What the records of the closest encloser and of the next closer name say of a name with so many
-/// labels; of one that does not exist no more than that.
-fn first_denial<O: Octets>(
-    apex: &ParsedName<'_>,
+/// labels, of one that does not exist no more than that; and the place of the second, where that
+/// rests on it.
+fn first_answer<O: Octets>(
     chain: &Nsec3Chain<'_, O>,
     encloser: PlacedEncloser,
     count: usize,
     rtype: Rtype,
-) -> Nsec3Denial
+) -> (Answer, Option<usize>)
     requires place { encloser.place < length chain.now.links }
     requires cover { (place : ℕ) → encloser.cover ≡ Some place
         → place < length chain.now.links }
-    ensures { (k : HashedLink) → slice_get chain.now.links encloser.place ≡ Some k
-        → IsFirstDenial apex.now chain.now.links k encloser count rtype result }
+    ensures says { (k : HashedLink) → slice_get chain.now.links encloser.place ≡ Some k
+        → result.0 ≡ encloser_answer chain.now.param.owner
+        (encloser_at chain.now.links encloser k) count rtype }
+    ensures rests { (k : HashedLink) → slice_get chain.now.links encloser.place ≡ Some k
+        → result.1 ≡ next_role chain.now.param.owner
+        (encloser_at chain.now.links encloser k) count encloser.cover }
 {
     let listed = lend_at(chain, encloser.place);
     let types = listed.data().types();
+    let apex = chain.nsec3param().owner();
     // It is a zone cut where the record lists NS, and it is not the apex.
     let at_cut = (encloser.count != apex.count_labels()) & types.contains(Rtype::NS);
     if encloser.count == count {
-        let answer = types_answer(types, at_cut, encloser.count, rtype);
-        return with_encloser(answer, encloser.place);
+        return (types_answer(types, at_cut, encloser.count, rtype), None);
     }
     if at_cut {
-        return with_encloser(Answer::Referral(encloser.count), encloser.place);
+        return (Answer::Referral(encloser.count), None);
     }
     if types.contains(Rtype::DNAME) {
-        return with_encloser(Answer::Redirected(encloser.count), encloser.place);
+        return (Answer::Redirected(encloser.count), None);
     }
-    Nsec3Denial {
-        answer: next_answer(chain, encloser.count, encloser.cover),
-        of_encloser: Some(encloser.place),
-        of_next_closer: encloser.cover,
-        of_wildcard: None,
-    }
+    let answer = next_answer(chain, encloser.count, encloser.cover);
+    (answer, encloser.cover)
 }
 
 /// What the record says that matches or covers the wildcard below the closest encloser, which has
@@ -180,22 +168,19 @@ fn wildcard_told<O: Octets>(
     wildcard_types_answer(types, types.contains(Rtype::NS), count, rtype)
 }
 
-/// What is picked where there is no such name, and the closest encloser has so many labels: the
-/// record of the wildcard below that one too.
-fn with_wildcard<O: Octets, M: ToName, H: Nsec3Hasher>(
+/// What is said of a name that does not exist, whose closest encloser has so many labels, and the
+/// place of the record that says so: that of the wildcard below that one.
+fn wildcard_answer<O: Octets, M: ToName, H: Nsec3Hasher>(
     alloc: Global,
     chain: &Nsec3Chain<'_, O>,
     name: &M,
     rtype: Rtype,
-    first: Nsec3Denial,
     count: usize,
     hasher: &H,
-) -> Result<Nsec3Denial, Nsec3HashError>
+) -> Result<(Answer, usize), Nsec3HashError>
     requires some { 0 < length chain.now.links }
     requires counts { count < length (M.labels name.now) }
-    ensures first { IfOk result (λ d. (d.of_encloser ≡ first.of_encloser)
-        × (d.of_next_closer ≡ first.of_next_closer)) }
-    ensures wildcard { IfOk result (IsWildcardPlaced
+    ensures ok { IfOk result (IsWildcardAnswer
         (hash_by (H.answer hasher.now) chain.now.param.parameters) chain.now
         (M.labels name.now) rtype count) }
     ensures err { IfErr result (λ e. (e ≡ hash_error.OutOfMemory) ⊎ ((n : ℕ)
@@ -211,78 +196,7 @@ fn with_wildcard<O: Octets, M: ToName, H: Nsec3Hasher>(
     let mut lowered = [0; MAX_NAME];
     let wire = wildcard.lower_wire(&mut lowered);
     let found = look_up(alloc, chain, wire, hasher)?;
-    Ok(Nsec3Denial {
-        answer: wildcard_told(chain, count, rtype, found),
-        of_encloser: first.of_encloser,
-        of_next_closer: first.of_next_closer,
-        of_wildcard: Some(found.place),
-    })
-}
-
-/// What is picked where the closest encloser of a name is found.
-fn deny_placed<O: Octets, M: ToName, H: Nsec3Hasher>(
-    alloc: Global,
-    apex: &ParsedName<'_>,
-    chain: &Nsec3Chain<'_, O>,
-    name: &M,
-    rtype: Rtype,
-    encloser: PlacedEncloser,
-    hasher: &H,
-) -> Result<Nsec3Denial, Nsec3HashError>
-    requires some { 0 < length chain.now.links }
-    requires apex { apex.now ≡ chain.now.param.owner }
-    requires below { is_at_or_below (M.labels name.now) apex.now ≡ true }
-    requires inside { IsInside chain.now.links apex.now (M.labels name.now) encloser }
-    ensures there { IfOk result (AreHashedThere chain.now.links) }
-    ensures read { IfOk result (λ d. (L : List ZoneRecord) (config : ChainConfig)
-        → IsHashedWhole L config (hash_by (H.answer hasher.now) chain.now.param.parameters)
-        chain.now → IsPlaced
-        (links_with apex.now chain.now.param.parameters (H.answer hasher.now) chain.now.links)
-        (M.labels name.now) encloser → IsPickedRead
-        (links_with apex.now chain.now.param.parameters (H.answer hasher.now) chain.now.links)
-        (M.labels name.now) rtype d) }
-    ensures err { IfErr result (λ e. (e ≡ hash_error.OutOfMemory) ⊎ ((n : ℕ)
-        × (e ≡ hash_error.Hasher n) × IsRefusedAbove apex.now
-        (hash_by (H.answer hasher.now) chain.now.param.parameters) (M.labels name.now) n)) }
-    ensures memory { IsErrOf result hash_error.OutOfMemory → H.takes_memory hasher.now }
-{
-    let first = first_denial(apex, chain, encloser, name.count_labels(), rtype);
-    let Answer::NoCloserName(count) = first.answer else {
-        return Ok(first);
-    };
-    Ok(with_wildcard(alloc, chain, name, rtype, first, count, hasher)?)
-}
-
-/// What is picked for a name at or below the apex.
-fn deny_inside<O: Octets, M: ToName, H: Nsec3Hasher>(
-    alloc: Global,
-    apex: &ParsedName<'_>,
-    chain: &Nsec3Chain<'_, O>,
-    name: &M,
-    rtype: Rtype,
-    hasher: &H,
-) -> Result<Nsec3Denial, Nsec3HashError>
-    requires some { 0 < length chain.now.links }
-    requires apex { apex.now ≡ chain.now.param.owner }
-    requires below { is_at_or_below (M.labels name.now) apex.now ≡ true }
-    ensures there { IfOk result (AreHashedThere chain.now.links) }
-    ensures read { IfOk result (λ d. (L : List ZoneRecord) (config : ChainConfig)
-        → IsHashedWhole L config (hash_by (H.answer hasher.now) chain.now.param.parameters)
-        chain.now → IsPickedRead
-        (links_with apex.now chain.now.param.parameters (H.answer hasher.now) chain.now.links)
-        (M.labels name.now) rtype d) }
-    ensures err { IfErr result (λ e. (e ≡ hash_error.OutOfMemory) ⊎ ((n : ℕ)
-        × (e ≡ hash_error.Hasher n) × IsRefusedAbove apex.now
-        (hash_by (H.answer hasher.now) chain.now.param.parameters) (M.labels name.now) n)) }
-    ensures memory { IsErrOf result hash_error.OutOfMemory → H.takes_memory hasher.now }
-{
-    let mut buffer = [0; MAX_NAME];
-    let wire = name.lower_wire(&mut buffer);
-    let found = find_encloser(alloc, apex, chain, &name.as_parsed(), wire, hasher)?;
-    let Some(encloser) = found else {
-        return Ok(without_records(Answer::NotProven));
-    };
-    Ok(deny_placed(alloc, apex, chain, name, rtype, encloser, hasher)?)
+    Ok((wildcard_told(chain, count, rtype, found), found.place))
 }
 
 /// The records of an NSEC3 chain that a server answers a question about a name and a type with (RFC
@@ -369,5 +283,26 @@ pub fn deny_nsec3<O: Octets, M: ToName, H: Nsec3Hasher>(
     if chain.is_empty() {
         return Ok(without_records(Answer::NotProven));
     }
-    Ok(deny_inside(alloc, apex, chain, name, rtype, hasher)?)
+    let mut buffer = [0; MAX_NAME];
+    let wire = name.lower_wire(&mut buffer);
+    let found = find_encloser(alloc, chain, &name.as_parsed(), wire, hasher)?;
+    let Some(encloser) = found else {
+        return Ok(without_records(Answer::NotProven));
+    };
+    let (answer, of_next_closer) = first_answer(chain, encloser, name.count_labels(), rtype);
+    let Answer::NoCloserName(count) = answer else {
+        return Ok(Nsec3Denial {
+            answer,
+            of_encloser: Some(encloser.place),
+            of_next_closer,
+            of_wildcard: None,
+        });
+    };
+    let (answer, place) = wildcard_answer(alloc, chain, name, rtype, count, hasher)?;
+    Ok(Nsec3Denial {
+        answer,
+        of_encloser: Some(encloser.place),
+        of_next_closer,
+        of_wildcard: Some(place),
+    })
 }

@@ -140,13 +140,13 @@ impl OwnerKeys {
         count_from(&self.keys, samples, key)
     }
 
-    /// How many owners have a key below that of a name, and how many have none above it.
+    /// The last place with a key below that of a name, and the first with one above it.
     pub(crate) fn places_of<M: ToName>(&self, name: &M) -> (usize, usize) {
         let key = self.scale.short(name);
         let below = key
             .checked_sub(1)
             .map_or(0, |before| self.count_up_to(before));
-        (below, self.count_up_to(key))
+        (below.saturating_sub(1), self.count_up_to(key))
     }
 
     /// The last place whose key is not above that of a name. Of the wildcard right below an

@@ -7,29 +7,10 @@ use domain_base::ToName;
 use domain_checker::is_before;
 use domain_nsec::{NsecChain, laws};
 
-/// The ends of a search: the record that it looks for stands at `low` or after it, and before
-/// `high`.
-#[derive(Clone, Copy)]
-struct Ends {
-    low: usize,
-    high: usize,
-}
-
-/// Ends that the keys of a chain suggest, or none in particular.
-fn suggested_ends<M: ToName>(keys: Option<&OwnerKeys>, name: &M) -> Ends {
-    match keys {
-        Some(keys) => {
-            let (below, up_to) = keys.places_of(name);
-            Ends {
-                low: below.saturating_sub(1),
-                high: up_to,
-            }
-        }
-        None => Ends {
-            low: 0,
-            high: usize::MAX,
-        },
-    }
+/// Ends of a search that the keys of a chain suggest, or none in particular: the record that it
+/// looks for stands at the first or after it, and before the second.
+fn suggested_ends<M: ToName>(keys: Option<&OwnerKeys>, name: &M) -> (usize, usize) {
+    keys.map_or((0, usize::MAX), |keys| keys.places_of(name))
 }
 
 /// A place that the keys of a chain suggest for a name. Of the wildcard right below an ancestor it
@@ -78,27 +59,28 @@ fn is_ahead<N: ToName, M: ToName>(chain: &NsecChain<'_, N>, place: usize, name: 
 }
 
 /// The suggested ends where they are right, and else those of the chain.
-fn tested<N: ToName, M: ToName>(chain: &NsecChain<'_, N>, near: Ends, name: &M) -> Ends
+fn tested<N: ToName, M: ToName>(
+    chain: &NsecChain<'_, N>,
+    near: (usize, usize),
+    name: &M,
+) -> (usize, usize)
     requires some { 0 < length chain.now }
-    ensures { AreEnds chain.now (M.labels name.now) result.low result.high }
+    ensures { AreEnds chain.now (M.labels name.now) result.0 result.1 }
 {
-    let low = if is_behind(chain, near.low, name) {
-        near.low
+    let low = if is_behind(chain, near.0, name) {
+        near.0
     } else {
         0
     };
-    let high = if is_ahead(chain, near.high, name) {
-        near.high
+    let high = if is_ahead(chain, near.1, name) {
+        near.1
     } else {
         chain.len()
     };
     if low < high {
-        Ends { low, high }
+        (low, high)
     } else {
-        Ends {
-            low: 0,
-            high: chain.len(),
-        }
+        (0, chain.len())
     }
 }
 
@@ -115,7 +97,7 @@ pub(crate) fn place_of<N: ToName, M: ToName>(
     ensures of_name { IsFound chain.now result (M.labels name.now) }
 {
     laws::chains_mean_the_zone();
-    let Ends { mut low, mut high } = tested(chain, suggested_ends(keys, name), name);
+    let (mut low, mut high) = tested(chain, suggested_ends(keys, name), name);
     'search: while high - low > 1 {
         let middle = low + (high - low) / 2;
         let Some(owner) = chain.owner(middle) else {

@@ -1,8 +1,13 @@
-use Rattle.std.proofs.{Common.{◌<◌, refl, sym, ◌∙◌, subst, Some, arith}, lemmas.{Bool.false≢true, Grind.common_steps}}
+use Rattle.std.proofs.{Common.{List, ◌≡◌, ◌<◌, true, refl, sym, ◌∙◌, subst, Some, arith}, lemmas.{Bool.false≢true, Grind.common_steps}}
+use Rattle.domain_names.specs.Name.{is_at_or_below}
+use Rattle.domain_nsec.specs.Chain.{Link}
 use Rattle.domain_checker.proofs.MeantLemmas.{ChainLaws}
+use Rattle.domain_answer.specs.{Proved.IsAnswered, Reading.reading, declared.answer.Answer.TheVariants.NoCloserName}
 use Rattle.domain_answer.proofs.ProofLemmas.{given_is, given_never}
-use Rattle.domain_denier.{specs.Picked.at_place, proofs.{JudgedLemmas.{outside_only, said_inside}, PickLemmas.{denied_by_one, none_picked}}}
+use Rattle.domain_denier.{specs.Picked.at_place, proofs.JudgedLemmas.{outside_only, said_inside, told_of, untold_of}}
+use Rattle.domain_denier.proofs.{PickLemmas.{denied_by_both, denied_by_one, none_picked}, nsec.pick.Given.Over}
 use Rattle.domain_denier.proofs.nsec.pick.Goals as goal
+use Rattle.domain_denier.proofs.nsec.pick.Goals.{Else-is_outside, In-Untold}
 
 pub returns-then-is_empty : goal.returns-then-is_empty
 returns-then-is_empty g c =
@@ -16,33 +21,68 @@ returns-then-is_outside g c =
     let a = g.A.ToName.labels c.args.apex.now in
     let x = g.M.ToName.labels c.args.name.now in
     let t = c.args.rtype in
-    let listed = at_place c.args.chain.now (Some c.first_of-place.result.place) in
+    let listed = at_place c.args.chain.now (Some c.first_of-place.result.0) in
     let told = c.first_of-place.ensures.exact in
     let out = outside_only a listed x t (given_is _ _ (sym (c.is_outside.ensures.0 c.if-is_outside.true) ∙ told.exact)) in
     let none = c.judge_none-then-is_outside.ensures in
     none_picked _ _ _ _ _ none.answer none.name none.wildcard (λ L config whole. rw out refl)
 
-pub with_wildcard-requires-clause-below : goal.with_wildcard-requires-clause-below
-with_wildcard-requires-clause-below g c = grind (arith, common_steps)
+-- ---- of a name in the zone
 
-pub with_wildcard-requires-clause-absent : goal.with_wildcard-requires-clause-absent
-with_wildcard-requires-clause-absent g c = (c.first_of-place.ensures.exact.absent c.in-Absent.count c.in-Absent.is).0
+low : (g : Over) (c : Else-is_outside g) → is_at_or_below (g.M.ToName.labels c.args.name.now) (g.A.ToName.labels c.args.apex.now) ≡ true
+low g c =
+    said_inside (g.A.ToName.labels c.args.apex.now) (at_place c.args.chain.now (Some c.first_of-place.result.0)) (g.M.ToName.labels c.args.name.now)
+    c.args.rtype c.first_of-place.result.1 c.first_of-place.ensures.exact.exact (λ e. false≢true (sym c.if-is_outside.false ∙ c.is_outside.ensures.1 e))
 
-pub with_wildcard-requires-clause-counts : goal.with_wildcard-requires-clause-counts
-with_wildcard-requires-clause-counts g c = (c.first_of-place.ensures.exact.absent c.in-Absent.count c.in-Absent.is).1
+-- what the laws say
+chain_laws : (g : Over) (c : Else-is_outside g) → ChainLaws
+chain_laws g c = grind (arith, common_steps)
+
+answered : (g : Over) (c : Else-is_outside g) (listed : List Link) → IsAnswered listed (g.A.ToName.labels c.args.apex.now)
+    (g.M.ToName.labels c.args.name.now) c.args.rtype
+    (reading (g.A.ToName.labels c.args.apex.now) listed (g.M.ToName.labels c.args.name.now) c.args.rtype)
+answered g c listed =
+    c.readings_are_proved.ensures.zone listed _ _ c.args.rtype (subst (λ n. n < 65536) c.to_int-number.ensures c.to_int-number.type_inv)
 
 pub returns-in-Given : goal.returns-in-Given
 returns-in-Given g c =
-    let chain_laws : ChainLaws = grind (arith, common_steps) in
-    let a = g.A.ToName.labels c.args.apex.now in
-    let x = g.M.ToName.labels c.args.name.now in
-    let t = c.args.rtype in
-    let place = c.first_of-place.result.place in
-    let listed = at_place c.args.chain.now (Some c.first_of-place.result.place) in
-    let told = c.first_of-place.ensures.exact.exact in
-    let small : c.args.rtype < 65536 = subst (λ n. n < 65536) c.to_int-number.ensures c.to_int-number.type_inv in
-    let low = said_inside a listed x t c.first_of-place.result.answer told (λ e. false≢true (sym c.if-is_outside.false ∙ c.is_outside.ensures.1 e)) in
-    let given = sym c.in-Given.is ∙ told in
-    denied_by_one chain_laws c.args.chain.now a x t (λ listed. c.readings_are_proved.ensures.zone listed a x t small) low place
-    c.first_of-place.ensures.inside c.first_of-place.ensures.found
+    let here = (goal.at.returns-in-Given g c).Else-is_outside in
+    let first = c.first_of-place.ensures in
+    let given = sym c.in-Given.is ∙ first.exact.exact in
+    denied_by_one (chain_laws g here) c.args.chain.now _ _ c.args.rtype (answered g here) (low g here) _ first.inside first.found
     c.in-Given.answer (given_is _ _ given) (given_never _ _ given)
+
+pub unreachable-requires : goal.unreachable-requires
+unreachable-requires g c =
+    let less = (c.first_of-place.ensures.exact.absent c.in-Absent.count c.in-Absent.is).1 in grind (arith, common_steps)
+
+-- the first record denies the name alone
+untold : (g : Over) (c : In-Untold g)
+    → reading (g.A.ToName.labels c.args.apex.now) (at_place c.args.chain.now (Some c.first_of-place.result.0)) (g.M.ToName.labels c.args.name.now) c.args.rtype
+    ≡ NoCloserName c.in-Absent.count
+untold g c =
+    untold_of _ _ _ _ _ _ _ (c.first_of-place.ensures.exact.absent c.in-Absent.count c.in-Absent.is).0 c.in-Some.ensures.some c.in-Untold.is_silent
+    (rw c.in-Untold.is at c.of_wildcard.ensures)
+
+pub second_of-second-requires-clause-denies : goal.second_of-second-requires-clause-denies
+second_of-second-requires-clause-denies g c = untold g (goal.at.second_of-second-requires-clause-denies g c).In-Untold
+
+pub second_of-second-requires-clause-silent : goal.second_of-second-requires-clause-silent
+second_of-second-requires-clause-silent g c = (rw c.in-Untold.is at c.of_wildcard.ensures).1
+
+pub returns-in-Told : goal.returns-in-Told
+returns-in-Told g c =
+    let here = (goal.at.returns-in-Told g c).Else-is_outside in
+    let first = c.first_of-place.ensures in
+    let told = told_of _ _ _ _ _ _ _ (first.exact.absent c.in-Absent.count c.in-Absent.is).0 c.in-Some.ensures.some c.in-Told.answer
+    (rw c.in-Told.is at c.of_wildcard.ensures) in
+    denied_by_one (chain_laws g here) c.args.chain.now _ _ c.args.rtype (answered g here) (low g here) _ first.inside first.found
+    c.in-Told.answer told.0 told.1
+
+pub returns-in-Untold : goal.returns-in-Untold
+returns-in-Untold g c =
+    let here = (goal.at.returns-in-Untold g c).Else-is_outside in
+    let first = c.first_of-place.ensures in
+    let second = c.second_of-second.ensures in
+    denied_by_both (chain_laws g here) c.args.chain.now _ _ c.args.rtype (answered g here) (low g here) _ first.inside first.found
+    c.in-Absent.count (untold g (goal.at.returns-in-Untold g c).In-Untold) _ second.inside (rw c.in-Some.ensures.some at second.found) _ second.exact
