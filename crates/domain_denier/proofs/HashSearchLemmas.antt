@@ -10,7 +10,7 @@ use Rattle.domain_names.specs.Words.{Name}
 use Rattle.domain_zone.specs.{Covering.{covers, matches, matches_or_covers}, Zone.ZoneRecord}
 use Rattle.domain_zone.proofs.PairLemmas.{IsAscending, irreflexive, one_matches_or_covers, In, all_in, all_from_in}
 use Rattle.domain_zone.proofs.{PlaceLemmas.{IsOnly, one_place}, FindLemmas.in_at}
-use Rattle.domain_nsec3.specs.{Chain.{HashedLink, HashedName, IsOfChain, cycle, ends, ends_of}, Config.ChainConfig, Meaning.{IsRecordOf, octets_before}}
+use Rattle.domain_nsec3.specs.{Chain.{HashedLink, IsOfChain, cycle, ends, ends_of}, Config.ChainConfig, Meaning.{IsRecordOf, octets_before}}
 use Rattle.domain_checker.specs.{HashedFacts.ChainFacts, HashedList.{is_some_with, owner_hash}, HashedView.chain_records}
 use Rattle.domain_checker.proofs.HashedListLemmas.{tied_is, hash_at, hashes_octets, record_at}
 use Rattle.domain_denier.{specs.HashedSteps.{IsOfHash, tells_hash}, proofs.NeighbourLemmas.{mapped_at, pair_is, pairs_length, said}}
@@ -77,13 +77,12 @@ module _ (L : List ZoneRecord) (a : Name) (config : ChainConfig) (links : List H
   abbrev hashes : List Octets
   hashes = map (λ n. n.hash) facts.chain.names
 
-  pub many : length links ≡ length (map (λ (n : HashedName). n.hash) facts.chain.names)
+  pub many : length links ≡ length hashes
   many = sym (length-map links ends) ∙ ap length facts.chain.linked ∙ length-map (cycle hashes) (ends_of a) ∙ cycle_length hashes
 
   -- the hash of a record at a place, and the pair that its record leads from and to
   cycled : (i : ℕ) (k : HashedLink) (h : Octets) → IsRecordOf a links i k h
-      → (slice_get (cycle (map (λ (n : HashedName). n.hash) facts.chain.names)) i ≡ Some (h, k.next))
-      × (slice_get (map (λ (n : HashedName). n.hash) facts.chain.names) i ≡ Some h)
+      → (slice_get (cycle hashes) i ≡ Some (h, k.next)) × (slice_get hashes i ≡ Some h)
   cycled i k h r =
       let p = mapped_at ends (ends_of a) links (cycle hashes) facts.chain.linked i k r.there in
       let q = cycle_is hashes i p.0 p.1 in
@@ -104,12 +103,11 @@ module _ (L : List ZoneRecord) (a : Name) (config : ChainConfig) (links : List H
     -- the search ends at the record of h
     module _ (low high : ℕ) (within : low < high) (end : high ≤ length links) (near : high - low ≤ 1) (behind : IsBehind a links v low)
         (ahead : IsAhead a links v high) (k : HashedLink) (h : Octets) (r : IsRecordOf a links low k h) where
-      next_is : k.next ≡ get_or (map (λ (n : HashedName). n.hash) facts.chain.names) (suc low)
-          (get_or (map (λ (n : HashedName). n.hash) facts.chain.names) 0 [])
+      next_is : k.next ≡ get_or hashes (suc low) (get_or hashes 0 [])
       next_is = (cycle_is hashes low (h, k.next) (cycled low k h r).0).1
 
       -- the record of the last hash leads to the first
-      last_next : suc low ≡ length links → k.next ≡ get_or (map (λ (n : HashedName). n.hash) facts.chain.names) 0 []
+      last_next : suc low ≡ length links → k.next ≡ get_or hashes 0 []
       last_next last = next_is ∙ get_or_past hashes (suc low) (get_or hashes 0 []) (omega (arith, many, last))
 
       wrapped : suc low ≡ length links → octets_before h k.next ≡ false

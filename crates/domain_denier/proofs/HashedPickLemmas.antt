@@ -59,15 +59,7 @@ pub record IsEncloserAt (R : HashedRecords) (x : Name) (f : PlacedEncloser) : Ty
 
 pub placed_at : (hash : Hash) (chain : ChainRecords) (x : Name) (f : PlacedEncloser) → IsPlaced hash chain x f → IsOfZone hash chain
     → IsEncloserAt (all_records hash chain) x f
-placed_at hash chain x f placed zone = record {
-  name = placed.name;
-  counts = placed.counts;
-  above = placed.reached.above;
-  within = placed.reached.within;
-  first = placed.reached.first zone;
-  sole = placed.found.sole zone;
-  covers = placed.reached.closes zone;
-}
+placed_at hash chain x f placed zone = grind (arith, common_steps)
 
 -- what is picked tells of the encloser, of the next closer name and of the wildcard; it answers as all links do, and less without one
 pub record IsPickedRead (R : HashedRecords) (x : Name) (t : ℕ) (d : Nsec3Denial) : Type 0 where

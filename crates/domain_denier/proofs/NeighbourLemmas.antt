@@ -1,6 +1,7 @@
 -- The pairs of neighbours of a list, and what lists map to, by their places.
 use Rattle.std.proofs.Common.{◌≡◌, ◌⊎◌, ℕ, zero, suc, Bool, true, false, List, [], ◌∷◌, map, length, get_or, slice_get, Option, Some, None, refl, sym, ap, ◌∙◌}
-use Rattle.std.{proofs.{Common.arith, lemmas.{Grind.common_steps, Option.slice_get-map}}, specs.Option.option_map}
+use Rattle.std.proofs.{Common.{arith, length-append}, lemmas.{Grind.common_steps, List.length-drop, Option.slice_get-map, Slice.Zip.length-zip}}
+use Rattle.std.specs.Option.{option_map}
 use Rattle.domain_octets.proofs.StdLemmas.{some_is}
 use Rattle.domain_zone.specs.Covering.{matches_or_covers, pairs}
 
@@ -20,9 +21,7 @@ module _ {X : Type 0} where
   pair_is (k ∷ m ∷ ks) f (suc i) p e = pair_is (m ∷ ks) f i p e
 
   pub pairs_length : (ks : List X) (f : X) → length (pairs ks f) ≡ length ks
-  pairs_length [] f = refl
-  pairs_length (k ∷ []) f = refl
-  pairs_length (k ∷ m ∷ ks) f = ap suc (pairs_length (m ∷ ks) f)
+  pairs_length ks f = simp (length-zip, length-append, length-drop) (omega arith)
 
 -- where two lists map to the same, so do their elements at each place
 pub mapped_at : {X Y Z : Type 0} (g : X → Z) (h : Y → Z) (xs : List X) (ys : List Y) → map g xs ≡ map h ys → (i : ℕ) (x : X) → slice_get xs i ≡ Some x

@@ -2,7 +2,6 @@
 use Rattle.std.proofs.Common.{◌≡◌, ◌≢◌, ℕ, ◌<◌, arith, Bool, true, false, cond, not, ◌&&◌, ◌||◌, List, [], ◌∷◌, ◌++◌, length, Some, None, sym, ap, ◌∙◌, subst}
 use Rattle.std.proofs.{Common.{inl, inr, ◌⊎◌}, lemmas.{Bool.{and_parts, false_from_ne_true, false≢true, or_right}, Grind.common_steps, List.Elements.All-nil}}
 use Rattle.std.{proofs.lemmas.List.Elements.All-push, specs.{List.Contains, Prelude.All}}
-use Rattle.domain_octets.proofs.StdLemmas.{some_is}
 use Rattle.domain_names.specs.{Name.{is_at_or_below, last_labels}, Order.before, Words.Name}
 use Rattle.domain_zone.specs.{Covering.matches_or_covers, Zone.{ZoneRecord, is_unoccluded, unoccluded_owners}}
 use Rattle.domain_nsec.specs.{Chain.Link, declared.config.GenerateNsecConfig.GenerateNsecConfig}
@@ -144,10 +143,7 @@ module _ (laws : ChainLaws) (links : List Link) (a x : Name) (t : ℕ) (answered
           name = λ low parent. wildcard_alone laws links L a config whole x t answered under p of count says q (found_q L a config whole under_w) parent;
           wildcard = λ some. (count, says);
         };
-    there = record {
-      name = λ r e. subst (λ n. n < length links) (some_is p r e) inside;
-      wildcard = λ r e. subst (λ n. n < length links) (some_is q r e) inside_q;
-    };
+    there = grind (arith, common_steps);
     exact = exact;
     outside = λ e. absurd (false≢true (sym e ∙ under));
   }

@@ -1,7 +1,7 @@
 -- The names from x up to the apex, by the places of the records that match or cover them.
 use Rattle.std.proofs.Common.{◌≡◌, ℕ, ◌<◌, Bool, true, false, not, ◌∷◌, length, Option, Some, None, refl, sym, ap, ◌∙◌, subst, arith}
 use Rattle.std.{proofs.lemmas.{Bool.and_from, Grind.common_steps}, specs.Prelude.Err}
-use Rattle.domain_octets.{specs.Words.Octets, proofs.StdLemmas.{none_some, some_is}}
+use Rattle.domain_octets.{specs.Words.Octets, proofs.StdLemmas.some_is}
 use Rattle.domain_names.specs.{Name.{is_at_or_below, is_strictly_below, lowered, same_name, wire_of}, Words.{Label, Name}}
 use Rattle.domain_zone.proofs.NameLemmas.{below_itself, below_parent, below_trans, same_itself}
 use Rattle.domain_nsec3.specs.{Chain.ChainRecords, Config.Hash}
@@ -21,13 +21,7 @@ module _ (hash : Hash) (chain : ChainRecords) (x : Name) where
   R = all_records hash chain
 
   pub reached_here : is_at_or_below x chain.param.owner ≡ true → IsReached hash chain x x None
-  reached_here low = record {
-    above = below_itself x;
-    within = low;
-    there = λ place e. absurd (none_some place e);
-    first = λ zone. none_first R x;
-    closes = λ zone. same_itself x x refl;
-  }
+  reached_here low = grind (arith, common_steps, below_itself, none_first, same_itself)
 
   module _ (left : Name) (cover : Option ℕ) (reached : IsReached hash chain x left cover) where
     pub refused_at : (n : ℕ) (wire : Octets) → wire ≡ wire_of (lowered left) → hash wire ≡ Err n → IsRefusedAbove chain.param.owner hash x n

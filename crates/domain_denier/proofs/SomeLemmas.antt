@@ -3,7 +3,7 @@ use Rattle.std.proofs.Common.{◌≡◌, ℕ, Bool, true, false, cond, List, [],
 use Rattle.std.proofs.{Common.{◌<◌, arith}, lemmas.{Bool.{false≢true, ne_eqb, or_left, or_right}, Grind.common_steps, List.Elements.All-from_recursion}}
 use Rattle.std.{proofs.lemmas.{Option.{slice_get_cases, slice_get_within, get_or_from_slice_get}}, specs.{Prelude.All, List.{Contains, find}}}
 use Rattle.domain_octets.specs.Words.{Octets}
-use Rattle.domain_zone.{specs.Zone.ZoneRecord, proofs.{PairLemmas.{In, all_from_in}, FindLemmas.{find_none, find_some, in_front, stands_in}}}
+use Rattle.domain_zone.{specs.Zone.ZoneRecord, proofs.{PairLemmas.{In, all_from_in}, FindLemmas.{in_front, stands_in}}}
 use Rattle.domain_nsec3.specs.{Chain.{ChainRecords, HashedLink}, Config.{ChainConfig, Hash}}
 use Rattle.domain_checker.specs.{HashedList.{is_hash_cover, is_hash_match}, HashedView.{HashedRecords, chain_records, first_cover, first_match, with_links}}
 use Rattle.domain_answer.specs.HashedReading.{wildcard_told}
@@ -18,20 +18,14 @@ read_is L config hash chain whole =
 
 -- ---- finding
 
-module _ {X : Type 0} (f : X → Bool) (xs : List X) where
-  none_found : ((x : X) → In x xs → f x ≡ true → ⊥) → find f xs ≡ None
-  none_found g = by (find f xs) refl
-    where
-      by : (o : Option X) → find f xs ≡ o → find f xs ≡ None
-      by None e = e
-      by (Some x) e = let r = find_some f xs x e in absurd (g x r.0 r.1)
+module _ {X : Type 0} (f : X → Bool) where
+  none_found : (xs : List X) → ((x : X) → In x xs → f x ≡ true → ⊥) → find f xs ≡ None
+  none_found [] g = refl
+  none_found (x ∷ xs) g = grind (arith, common_steps, (none_found xs (λ y i. g y (inr i))), (g x (inl refl)))
 
-  sole_found : (x : X) → In x xs → f x ≡ true → ((y : X) → In y xs → f y ≡ true → y ≡ x) → find f xs ≡ Some x
-  sole_found x i h g = by (find f xs) refl
-    where
-      by : (o : Option X) → find f xs ≡ o → find f xs ≡ Some x
-      by None e = absurd (false≢true (sym (find_none f xs e x i) ∙ h))
-      by (Some y) e = let r = find_some f xs y e in e ∙ ap Some (g y r.0 r.1)
+  sole_found : (xs : List X) (x : X) → In x xs → f x ≡ true → ((y : X) → In y xs → f y ≡ true → y ≡ x) → find f xs ≡ Some x
+  sole_found [] x i h g = absurd i
+  sole_found (y ∷ xs) x i h g = grind (arith, common_steps, (sole_found xs x), (g y (inl refl)))
 
 -- ---- some of the links
 

@@ -3,19 +3,10 @@ use Rattle.std.specs.Prelude.{ℕ, ◌≡◌, ◌⊎◌, ◌<◌, ◌≤◌, tru
 use Rattle.domain_names.specs.{Order.before, Words.Name}
 use Rattle.domain_nsec.specs.Chain.{Link}
 
--- the owner at the low end is not after x
-abbrev pub IsBehind : List Link → Name → ℕ → Type 0
-IsBehind links x low =
-    (low ≡ 0) ⊎ ((d : Link) → before x (slice_index_or links low d).owner ≡ false)
-
--- the owner at the high end is after x, where the list has one there
-abbrev pub IsAhead : List Link → Name → ℕ → Type 0
-IsAhead links x high =
-    (high ≡ length links) ⊎ ((d : Link) → before x (slice_index_or links high d).owner ≡ true)
-
--- the two ends
+-- the owner at the low end is not after x, and that at the high one is, where the list has one there
 pub record AreEnds (links : List Link) (x : Name) (low high : ℕ) : Type 0 where
   pub within : low < high
   pub inside : high ≤ length links
-  pub behind : IsBehind links x low
-  pub ahead : IsAhead links x high
+  pub behind : (low ≡ 0) ⊎ ((d : Link) → before x (slice_index_or links low d).owner ≡ false)
+  pub ahead : (high ≡ length links)
+      ⊎ ((d : Link) → before x (slice_index_or links high d).owner ≡ true)

@@ -290,19 +290,19 @@ pub fn deny_nsec3<O: Octets, M: ToName, H: Nsec3Hasher>(
         return Ok(without_records(Answer::NotProven));
     };
     let (answer, of_next_closer) = first_answer(chain, encloser, name.count_labels(), rtype);
+    let first = Nsec3Denial {
+        answer,
+        of_encloser: Some(encloser.place),
+        of_next_closer,
+        of_wildcard: None,
+    };
     let Answer::NoCloserName(count) = answer else {
-        return Ok(Nsec3Denial {
-            answer,
-            of_encloser: Some(encloser.place),
-            of_next_closer,
-            of_wildcard: None,
-        });
+        return Ok(first);
     };
     let (answer, place) = wildcard_answer(alloc, chain, name, rtype, count, hasher)?;
     Ok(Nsec3Denial {
         answer,
-        of_encloser: Some(encloser.place),
-        of_next_closer,
         of_wildcard: Some(place),
+        ..first
     })
 }

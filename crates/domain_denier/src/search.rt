@@ -1,6 +1,6 @@
 //! The record of a chain that says something of a name.
-ghost use Rattle.std.specs.Prelude.{◌<◌, length, IfSome, IsTrue};
-ghost use Rattle.domain_denier.specs.{Picked.IsFound, Search.{AreEnds, IsAhead, IsBehind}};
+ghost use Rattle.std.specs.Prelude.{◌<◌, length, IfSome};
+ghost use Rattle.domain_denier.specs.{Picked.IsFound, Search.AreEnds};
 
 use crate::owner_keys::OwnerKeys;
 use domain_base::ToName;
@@ -31,34 +31,8 @@ pub(crate) fn suggested<N: ToName, M: ToName>(
     }
 }
 
-/// Whether a search may begin at a place: it is the first, or its owner is not after the name.
-fn is_behind<N: ToName, M: ToName>(chain: &NsecChain<'_, N>, place: usize, name: &M) -> bool
-    ensures { IsTrue result → IsBehind chain.now (M.labels name.now) place }
-{
-    if place == 0 {
-        return true;
-    }
-    match chain.owner(place) {
-        Some(owner) => !is_before(name, owner),
-        None => false,
-    }
-}
-
-/// Whether a search may end before a place: its owner is after the name.
-fn is_ahead<N: ToName, M: ToName>(chain: &NsecChain<'_, N>, place: usize, name: &M) -> bool
-    ensures inside { IsTrue result → place < length chain.now }
-    ensures ahead { IsTrue result → IsAhead chain.now (M.labels name.now) place }
-{
-    if place >= chain.len() {
-        return false;
-    }
-    match chain.owner(place) {
-        Some(owner) => is_before(name, owner),
-        None => false,
-    }
-}
-
-/// The suggested ends where they are right, and else those of the chain.
+/// The suggested ends where the owner at the low one is not after the name, and that at the high
+/// one is, and else those of the chain.
 fn tested<N: ToName, M: ToName>(
     chain: &NsecChain<'_, N>,
     near: (usize, usize),
@@ -67,15 +41,14 @@ fn tested<N: ToName, M: ToName>(
     requires some { 0 < length chain.now }
     ensures { AreEnds chain.now (M.labels name.now) result.0 result.1 }
 {
-    let low = if is_behind(chain, near.0, name) {
-        near.0
-    } else {
-        0
+    let low = match chain.owner(near.0) {
+        Some(owner) if near.0 > 0 && !is_before(name, owner) => near.0,
+        _ => 0,
     };
-    let high = if is_ahead(chain, near.1, name) {
-        near.1
-    } else {
-        chain.len()
+    let near_high = near.1.min(chain.len());
+    let high = match chain.owner(near_high) {
+        Some(owner) if is_before(name, owner) => near_high,
+        _ => chain.len(),
     };
     if low < high {
         (low, high)
