@@ -6,7 +6,7 @@ use Rattle.domain_names.specs.{Name.{is_at_or_below, is_strictly_below, same_nam
 use Rattle.domain_zone.specs.Enclosers.{IsClosestEncloser, exists_over}
 use Rattle.domain_zone.specs.Zone.{ZoneRecord, is_zone_cut, occludes, is_occluded, is_unoccluded, distinct, unoccluded_owners, owns}
 use Rattle.domain_zone.proofs.NameLemmas.{one_lowered, below_itself, below_trans, below_longer, below_length, below_parent, strictly_longer, same_length}
-use Rattle.domain_zone.proofs.{PairLemmas.In, OwnerLemmas.{any_in, in_any, occluder_below}, FindLemmas.{in_filter, from_map}}
+use Rattle.domain_zone.proofs.{PairLemmas.{In, all_in}, OwnerLemmas.{any_in, in_any, occluder_below, owners_are}, FindLemmas.in_filter}
 use Rattle.domain_checker.specs.Verdict.{closest_encloser}
 
 -- ---- names at or below each other
@@ -109,14 +109,11 @@ module _ (below_dname : Bool) (L : List ZoneRecord) (a : Name) where
   -- ---- owners that are not occluded
 
   pub owner_unoccluded : (n : Name) → In n (unoccluded_owners below_dname L a) → is_unoccluded below_dname L a n ≡ true
-  owner_unoccluded n i = (in_filter (is_unoccluded below_dname L a) (distinct (map (λ r. r.owner) L)) n i).1
-
-  record_of : (n : Name) → In n (unoccluded_owners below_dname L a) → (r : ZoneRecord) × In r L × (r.owner ≡ n)
-  record_of n i = grind (arith, common_steps, from_map, in_distinct, in_filter)
+  owner_unoccluded n i = (all_in _ _ n (owners_are below_dname L a) i).1
 
   -- whatever is the same as such an owner owns records
   pub owner_owns : (n x : Name) → In n (unoccluded_owners below_dname L a) → same_name n x ≡ true → owns L x ≡ true
-  owner_owns n x i s = grind (arith, common_steps, record_of, in_any)
+  owner_owns n x i s = rw (one_lowered n x s) at (all_in _ _ n (owners_are below_dname L a) i).0
 
 -- ---- zone cuts
 

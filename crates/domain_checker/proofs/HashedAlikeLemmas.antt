@@ -1,17 +1,15 @@
 -- What NSEC3 records say does not depend on TTLs, classes and the case of letters.
-use Rattle.std.proofs.Common.{◌≡◌, ℕ, cond, not, ◌&&◌, ◌||◌, List, [], ◌∷◌, map, refl, sym, ap, ◌∙◌, inl, inr, Option, Some, None, arith}
+use Rattle.std.proofs.Common.{◌≡◌, ℕ, cond, not, ◌&&◌, ◌||◌, List, [], ◌∷◌, length, map, refl, sym, ap, ◌∙◌, Option, Some, None, arith}
 use Rattle.std.{proofs.lemmas.{List.length-map, Grind.common_steps}, specs.{Prelude.{is_some, unwrap_or}, Char.to_ascii_lowercase, List.list_all}}
 use Rattle.domain_codecs.specs.{Codec.{base32_digits, base32_octets, base32_value, is_base32_length, is_digit}, declared.codec.Codec.TheVariants.Base32Hex}
 use Rattle.domain_octets.specs.Words.{Octets}
-use Rattle.domain_names.specs.{Name.{is_at_or_below, lowered, same_name}, Words.{Label, Name}}
-use Rattle.domain_base.specs.Types.{ns}
-use Rattle.domain_bitmap.specs.Blocks.{contains_type}
+use Rattle.domain_names.specs.{Name.{is_at_or_below, lowered}, Words.{Label, Name}}
 use Rattle.domain_zone.{specs.{Covering.{covers, matches}, Zone.{ZoneRecord}}, proofs.NameLemmas.{one_lowered}}
 use Rattle.domain_nsec3.specs.{Chain.HashedLink, Config.{ChainConfig, Parameters}, Meaning.octets_before, Owners.original_owners}
 use Rattle.domain_checker.specs.Alike.{ArePaired, IsHashedAlike}
 use Rattle.domain_checker.specs.HashedList.{hash_in, is_hash_cover, is_hash_match, is_some_with, is_spelling, owner_hash, read_label, same_parameters}
 use Rattle.domain_checker.specs.HashedView.{HashedRecords, chain_records, first_cover, first_match, with_links}
-use Rattle.domain_checker.specs.HashedReading.{IsWalked, hash_cover_verdict, tells_cut, told_verdict}
+use Rattle.domain_checker.specs.{HashedEncloser.{Encloser, IsFoundEncloser, next_cover}, HashedReading.{IsWalked, found_verdict}}
 use Rattle.domain_checker.specs.HashedVerdict.{IsFirst, hashed_proved_verdict, hashed_zone_verdict, is_covered, is_matched, next_closer, proves}
 use Rattle.domain_checker.specs.{Verdict.closest_encloser, declared.verdict.Verdict.{Verdict, TheVariants.NotProven}}
 use Rattle.domain_checker.proofs.PairedLemmas.{OptionsPaired, any_alike, find_alike}
@@ -55,9 +53,6 @@ module _ (a : Name) (p : Parameters) (k l : HashedLink) (alike : IsHashedAlike k
   pub hash_cover_alike : (v : Octets) → is_hash_cover a p v k ≡ is_hash_cover a p v l
   hash_cover_alike v = λ i. is_some_with (λ h. covers octets_before h (alike.next i) v) (owner_hash_alike i)
 
-  pub cut_alike : (d : Name) → tells_cut a d k ≡ tells_cut a d l
-  cut_alike d = λ i. not (same_name d a) && contains_type (alike.bits i) ns
-
 -- ---- lists
 
 -- other records, each like the one at its place
@@ -85,34 +80,44 @@ module _ (R : HashedRecords) (ls : List HashedLink) (alike : ArePaired IsHashedA
       → (l : HashedLink) × IsHashedAlike k l × (first_match S v ≡ Some l)
   found_alike v k e = grind (arith, common_steps, (matching v))
 
-  cover_says_alike : (count : ℕ) (m n : Option HashedLink) → OptionsPaired IsHashedAlike m n → hash_cover_verdict count m ≡ hash_cover_verdict count n
-  cover_says_alike count m n h = grind (arith, common_steps)
+  -- what records say that are alike
+  told_alike : (n t count : ℕ) (k l : HashedLink) → IsHashedAlike k l → (c d : Option HashedLink) → OptionsPaired IsHashedAlike c d
+      → found_verdict R.apex (Some (record { count = count; link = k; cover = c })) n t
+      ≡ found_verdict R.apex (Some (record { count = count; link = l; cover = d })) n t
+  told_alike n t count k l h c d covers = grind (arith, common_steps)
 
-  told_alike : (d : Name) (k l : HashedLink) → IsHashedAlike k l → (t : ℕ) (next : Option Octets)
-      → told_verdict R d k t next ≡ told_verdict S d l t next
-  told_alike d k l h t next = grind (arith, common_steps, cover_says_alike, covering)
+  next_alike : (next : Option Octets) → OptionsPaired IsHashedAlike (next_cover R next) (next_cover S next)
+  next_alike next = grind (arith, common_steps, covering)
 
   module _ (x : Name) (t : ℕ) (verdict : Verdict) where
     pub walked_alike : IsWalked R x t verdict → IsWalked S x t verdict
-    walked_alike (inl w) =
-        let other = found_alike w.value w.link w.found in
-        inl (record {
-          name = w.name;
-          link = other.0;
-          value = w.value;
-          next = w.next;
-          first = record {
-            above = w.first.above;
-            within = w.first.within;
-            found = sym (matched_alike w.name) ∙ w.first.found;
-            first = first_alike x w.name w.first.first;
-          };
-          known = w.known;
-          found = other.2;
-          closes = w.closes;
-          says = w.says ∙ told_alike w.name w.link other.0 other.1 t w.next;
-        })
-    walked_alike (inr w) = inr (w.0, λ y up low. let f = w.1 y up low in (f.0, f.1, sym (matched_alike y) ∙ f.2))
+    walked_alike w = by w.found w.is w.says
+      where
+        by : (found : Option Encloser) → IsFoundEncloser R x found → verdict ≡ found_verdict R.apex found (length x) t → IsWalked S x t verdict
+        by None is says = record { found = None; is = λ y up low. let f = is y up low in (f.0, f.1, sym (matched_alike y) ∙ f.2); says = says }
+        by (Some e) is says =
+            let other = found_alike is.value e.link is.found in
+            record {
+              found = Some (record { count = e.count; link = other.0; cover = next_cover S is.next });
+              is = record {
+                name = is.name;
+                counts = is.counts;
+                first = record {
+                  above = is.first.above;
+                  within = is.first.within;
+                  found = sym (matched_alike is.name) ∙ is.first.found;
+                  first = first_alike x is.name is.first.first;
+                };
+                value = is.value;
+                known = is.known;
+                found = other.2;
+                next = is.next;
+                closes = is.closes;
+                covers = refl;
+              };
+              says = says ∙ told_alike (length x) t e.count e.link other.0 other.1 e.cover (next_cover S is.next)
+                  (rw is.covers (next_alike is.next));
+            }
 
 module _ (L : List ZoneRecord) (a : Name) (config : ChainConfig) (x : Name) (t : ℕ) (ks ls : List HashedLink) (alike : ArePaired IsHashedAlike ks ls) where
   abbrev en : Name

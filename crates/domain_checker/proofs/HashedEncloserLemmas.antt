@@ -1,20 +1,27 @@
--- What the closest encloser tells of a name is what the way from the name to the apex gives.
-use Rattle.std.proofs.Common.{◌≡◌, ℕ, true, false, not, ◌&&◌, List, length, sym, ap, ◌∙◌, inl, inr, nat_eq, Option, Some, None, arith}
-use Rattle.std.{proofs.lemmas.{Bool.{cases_Bool, false≢true}, Grind.common_steps}, specs.List.Contains}
+-- What a record of a zone's chain tells of a name whose hash it matches or covers, and the record of a closest encloser.
+use Rattle.std.proofs.Common.{◌≡◌, ℕ, ◌<◌, Bool, true, false, not, List, [], ◌∷◌, length, refl, sym, ap, ◌∙◌, inl, inr, ◌⊎◌, cond, nat_eq}
+use Rattle.std.proofs.Common.{Option, Some, None, arith}
+use Rattle.std.proofs.lemmas.{Bool.{cases_Bool, false≢true}, Grind.common_steps}
+use Rattle.std.specs.{Prelude.{Ok, filter}, List.{list_any, Contains, range_with_len}}
 use Rattle.domain_octets.specs.Words.{Octets}
 use Rattle.domain_names.specs.{Name.{is_at_or_below, same_name}, Words.Name}
-use Rattle.domain_base.specs.Types.{ns}
-use Rattle.domain_bitmap.specs.Blocks.{contains_type}
-use Rattle.domain_zone.{specs.Zone.{ZoneRecord, has_type, records_of}, proofs.{NameLemmas.{below_trans, same_length}, FindLemmas.{in_at, stands_from}}}
-use Rattle.domain_nsec3.specs.{Chain.HashedLink, Config.ChainConfig, Meaning.IsAlone, Owners.nsec3_lists}
-use Rattle.domain_checker.specs.{HashedFacts.ChainFacts, HashedList.{is_hash_cover, is_hash_match}, HashedView.HashedRecords}
-use Rattle.domain_checker.specs.HashedEncloser.{Encloser, IsDenial, IsEncloser, IsFoundEncloser, IsOfName, encloser_is_cut, encloser_verdict, found_verdict}
-use Rattle.domain_checker.specs.HashedEncloser.{next_cover}
-use Rattle.domain_checker.specs.HashedReading.{IsNextHash, IsTold, IsUnmatched, IsWalked, tells_cut, told_verdict}
-use Rattle.domain_checker.proofs.{HashedListLemmas.{covered_never, matched_once, told_at}, HashedVerdictLemmas.ns_listed}
+use Rattle.domain_base.specs.Types.{ns, rrsig}
+use Rattle.domain_bitmap.{specs.{Bitmap.bitmap_octets, Blocks.{contains_type, types_of, types_below}}, proofs.RangeLemmas.{any_at, any_none as any_missing}}
+use Rattle.domain_zone.specs.Zone.{ZoneRecord, has_type, owns, records_of}
+use Rattle.domain_zone.proofs.{NameLemmas.{below_trans, same_length}, PairLemmas.In, OwnerLemmas.{any_in, in_any, typed_owns}}
+use Rattle.domain_zone.proofs.FindLemmas.{any_none, find_none, find_some, in_filter}
+use Rattle.domain_chain_rdata.specs.OptOut.{is_opt_out}
+use Rattle.domain_nsec3.specs.{Chain.HashedLink, Config.{ChainConfig, hash_name}, Meaning.IsAlone, Owners.{is_chain_name, is_original_owner, nsec3_lists}}
+use Rattle.domain_checker.specs.{HashedFacts.ChainFacts, HashedList.{is_hash_cover, is_hash_match}, HashedView.{HashedRecords, first_cover}}
+use Rattle.domain_checker.specs.HashedEncloser.{Encloser, IsDenial, IsEncloser, IsNextHash, IsOfName, IsUnmatched, encloser_is_cut, next_cover, tells_cut}
+use Rattle.domain_checker.specs.{HashedReading.{found_verdict, hash_cover_verdict, is_none, own_verdict}, declared.verdict.Verdict.Verdict}
+use Rattle.domain_checker.specs.HashedVerdict.{is_covered, is_ok_with, missing_verdict, next_closer}
+use Rattle.domain_checker.specs.declared.verdict.Verdict.TheVariants.{BelowDelegation, NotProven}
+use Rattle.domain_checker.proofs.{EncloserLemmas.owner_owns, HashedListLemmas.{covered_never, matched_once, told_at, within}}
 
-module _ (R : HashedRecords) (x : Name) (e : Encloser)
-    (is : IsEncloser R x e) where
+-- ---- by how many labels there are
+
+module _ (R : HashedRecords) (x : Name) (e : Encloser) (is : IsEncloser R x e) where
   -- whether it is x itself
   pub itself_counted : nat_eq e.count (length x) ≡ same_name is.name x
   itself_counted = grind (arith, common_steps)
@@ -23,34 +30,78 @@ module _ (R : HashedRecords) (x : Name) (e : Encloser)
   pub cut_counted : encloser_is_cut R.apex e ≡ tells_cut R.apex is.name e.link
   cut_counted = grind (arith, common_steps, same_length)
 
-  -- what is told of x by how many labels there are
-  pub encloser_told : (t : ℕ) → IsTold R x t (encloser_verdict R.apex e (length x) t)
-  encloser_told t = record {
-    name = is.name;
-    link = e.link;
-    value = is.value;
-    next = is.next;
-    first = is.first;
-    known = is.known;
-    found = is.found;
-    closes = is.closes;
-    says = by is.next is.closes is.covers;
-  }
+  -- what holds of a verdict by each way that leads to one holds of what is told
+  pub by_encloser : (t : ℕ) (P : Verdict → Type 0) → (same_name is.name x ≡ true → P (own_verdict R.apex e t))
+      → (same_name is.name x ≡ false → encloser_is_cut R.apex e ≡ true → P BelowDelegation)
+      → (same_name is.name x ≡ false → encloser_is_cut R.apex e ≡ false → is_covered R (next_closer x is.name) ≡ false → P NotProven)
+      → (same_name is.name x ≡ false → encloser_is_cut R.apex e ≡ false → is_covered R (next_closer x is.name) ≡ true → (v : Octets)
+      → hash_name R.hash (next_closer x is.name) ≡ Ok v → (k : HashedLink) → In k R.links → is_hash_cover R.apex R.parameters v k ≡ true
+      → P (missing_verdict (is_opt_out k.flags) e.count)) → P (found_verdict R.apex (Some e) (length x) t)
+  by_encloser t P own cut gap cover = rw itself_counted (by e.cover is.next is.closes is.covers)
     where
-      by : (next : Option Octets) → IsNextHash R.hash x is.name next → e.cover ≡ next_cover R next
-          → encloser_verdict R.apex e (length x) t ≡ told_verdict R is.name e.link t next
-      by None s c = grind (arith, common_steps, itself_counted, cut_counted)
-      by (Some v) s c = grind (arith, common_steps, itself_counted, cut_counted)
+      by : (o : Option HashedLink) (next : Option Octets) → IsNextHash R.hash x is.name next → o ≡ next_cover R next
+          → P (cond (same_name is.name x) (own_verdict R.apex e t) (cond (encloser_is_cut R.apex e) BelowDelegation (hash_cover_verdict e.count o)))
+      by o None s f = rw s (own s)
+      by o (Some v) n f = rw n.0 (elim (cases_Bool (encloser_is_cut R.apex e)) [
+        | inl c ↦ rw c (cut n.0 c)
+        | inr c ↦ rw c (told o f c)
+      ])
+        where
+          heard : is_covered R (next_closer x is.name) ≡ list_any (is_hash_cover R.apex R.parameters v) R.links
+          heard = ap (is_ok_with (λ u. list_any (is_hash_cover R.apex R.parameters u) R.links)) n.1
 
--- what is found gives what the way gives
-pub found_walked : (R : HashedRecords) (x : Name) (t : ℕ) (o : Option Encloser)
-    → IsFoundEncloser R x o → IsWalked R x t (found_verdict R.apex o (length x) t)
-found_walked R x t o none = grind (arith, common_steps, encloser_told)
+          told : (o : Option HashedLink) → o ≡ first_cover R v → encloser_is_cut R.apex e ≡ false → P (hash_cover_verdict e.count o)
+          told None f c = gap n.0 c (heard ∙ any_none (is_hash_cover R.apex R.parameters v) R.links
+              (find_none (is_hash_cover R.apex R.parameters v) R.links (sym f)))
+          told (Some k) f c =
+              let g = find_some (is_hash_cover R.apex R.parameters v) R.links k (sym f) in
+              cover n.0 c (heard ∙ in_any (is_hash_cover R.apex R.parameters v) R.links k g.0 g.1) v n.1 k g.0 g.1
 
 -- a name that is not at or below the apex has no ancestor there
-pub outside_unmatched : (R : HashedRecords) (x : Name)
-    → is_at_or_below x R.apex ≡ false → IsUnmatched R x
+pub outside_unmatched : (R : HashedRecords) (x : Name) → is_at_or_below x R.apex ≡ false → IsUnmatched R x
 outside_unmatched R x out = λ y up low. absurd (false≢true (sym out ∙ below_trans x y R.apex up low))
+
+-- ---- a bitmap without types
+
+none_kept : (p : ℕ → Bool) (ts : List ℕ) → is_none (filter p ts) ≡ not (list_any p ts)
+none_kept p [] = refl
+none_kept p (t ∷ ts) = grind (arith, common_steps, (none_kept p ts))
+
+none_given : (types : ℕ → Bool) → types_of (bitmap_octets types) ≡ types_below 65536 types
+    → is_none (types_of (bitmap_octets types)) ≡ not (list_any types (range_with_len 0 65536))
+unfolding types_below
+none_given types gives = ap is_none gives ∙ none_kept types (range_with_len 0 65536)
+
+-- ---- the types of a name
+
+module _ (L : List ZoneRecord) (a : Name) (config : ChainConfig) where
+  -- NS is listed where the name owns NS records
+  ns_listed : (n : Name) → nsec3_lists L a config n ns ≡ has_type (records_of L n) ns
+  ns_listed n = grind (arith, common_steps, typed_owns)
+
+  -- an original owner name has RRSIG or NS
+  some_listed : (n : Name) → owns L n ≡ true → (nsec3_lists L a config n rrsig ≡ true) ⊎ (nsec3_lists L a config n ns ≡ true)
+  some_listed n o = grind (arith, common_steps)
+
+  original_owns : (x : Name) → is_original_owner L a config x ≡ true → owns L x ≡ true
+  original_owns x h =
+      let m = any_in _ _ h in
+      owner_owns _ L a m.0 x (in_filter _ _ m.0 m.1).0 m.2
+
+  -- a name of the chain that is no original owner lists nothing
+  pub empty_lists : (x : Name) → is_chain_name L a config x ≡ true → is_original_owner L a config x ≡ false → (t : ℕ) → nsec3_lists L a config x t ≡ false
+  empty_lists x h out t = grind (arith, common_steps)
+
+  any_listed : (x : Name) → is_chain_name L a config x ≡ true
+      → list_any (nsec3_lists L a config x) (range_with_len 0 65536) ≡ is_original_owner L a config x
+  any_listed x known = by (is_original_owner L a config x) refl
+    where
+      by : (b : Bool) → is_original_owner L a config x ≡ b → list_any (nsec3_lists L a config x) (range_with_len 0 65536) ≡ b
+      by true e = elim (some_listed x (original_owns x e)) [
+        | inl h ↦ any_at (nsec3_lists L a config x) 65536 rrsig (omega arith) h
+        | inr h ↦ any_at (nsec3_lists L a config x) 65536 ns (omega arith) h
+      ]
+      by false e = any_missing (nsec3_lists L a config x) 65536 (λ t b. empty_lists x known e t)
 
 -- ---- one record of a zone's chain
 
@@ -59,23 +110,20 @@ module _ (L : List ZoneRecord) (a : Name) (config : ChainConfig) (links : List H
     (there : Contains links k) where
   pub match_is_of_name : is_hash_match a config.parameters v k ≡ true → IsOfName L a config x k
   match_is_of_name h =
-      let s = stands_from links k there in
-      let m = matched_once L a config links facts x low v alone k (in_at links s.place k s.there) s h in
-      record {
-        exists = facts.exist x low ∙ m.0;
-        types = λ t b. ap (λ o. contains_type o t) m.1 ∙ facts.contains (nsec3_lists L a config x) t b;
-        cut = (λ i. not (same_name x a) && (ap (λ o. contains_type o ns) m.1 ∙ facts.contains (nsec3_lists L a config x) ns (omega arith)
-            ∙ ns_listed L a config x) i) ∙ (λ i. (sym low i && not (same_name x a)) && has_type (records_of L x) ns);
-      }
+      let m = matched_once L a config links facts x low v alone k there h in
+      let types : (t : ℕ) → t < 65536 → contains_type k.bits t ≡ nsec3_lists L a config x t =
+      λ t b. ap (λ o. contains_type o t) m.1 ∙ facts.contains (nsec3_lists L a config x) t b in
+      record { exists = facts.exist x low ∙ m.0; types = types; cut = rw (low, types ns (omega arith), ns_listed L a config x) refl }
+
+  -- it has types where x is an original owner name
+  pub match_is_empty : is_hash_match a config.parameters v k ≡ true → is_none (types_of k.bits) ≡ not (is_original_owner L a config x)
+  match_is_empty h =
+      let m = matched_once L a config links facts x low v alone k there h in
+      ap (λ o. is_none (types_of o)) m.1 ∙ none_given (nsec3_lists L a config x) (facts.gives (nsec3_lists L a config x))
+      ∙ ap not (any_listed L a config x m.0)
 
   pub cover_denies : is_hash_cover a config.parameters v k ≡ true → IsDenial L a config x k
-  cover_denies h =
-      let s = stands_from links k there in
-      let i = in_at links s.place k s.there in
-      record {
-        absent = facts.exist x low ∙ elim (cases_Bool _) [
-          | inl e ↦ absurd (covered_never L a config links facts x low v alone e k i s h)
-          | inr e ↦ e
-        ];
-        flags = (told_at L a config links facts k i).1;
-      }
+  cover_denies h = record {
+    absent = facts.exist x low ∙ covered_never L a config links facts x low v alone k there h;
+    flags = (told_at L a config links facts k (within L a config links facts x low v alone k there)).1;
+  }

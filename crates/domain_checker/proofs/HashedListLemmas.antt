@@ -1,14 +1,15 @@
 -- What a record of an NSEC3 chain says of the hash of a name that no other name of the chain has.
-use Rattle.std.proofs.Common.{◌≡◌, ℕ, Bool, zero, suc, true, ◌&&◌, List, [], ◌∷◌, map, refl, sym, ap, ◌∙◌, inr, eq-eqb, Some, slice_get, arith}
-use Rattle.std.proofs.lemmas.{Bool.{or_left, or_right}, List.{Elements.recursion_from_All, Sums.list_all-from_AllPass}}
-use Rattle.std.{proofs.lemmas.Grind.common_steps, specs.{List.AllByRecursion, Cmp.Lexicographic.{nat_list_cmp_total, slice_cmp, bytes_decides}}}
+use Rattle.std.proofs.Common.{◌≡◌, Bool, true, false, not, ◌&&◌, List, [], ◌∷◌, map, refl, sym, ap, ◌∙◌, subst, eq-eqb, Some, slice_get, arith}
+use Rattle.std.proofs.lemmas.{Bool.{and_parts, not-true, or_left, or_right}, List.{Elements.recursion_from_All, Sums.list_all-from_AllPass}}
+use Rattle.std.{proofs.lemmas.Grind.common_steps, specs.{List.{AllByRecursion, Contains}, Cmp.Lexicographic.{nat_list_cmp_total, slice_cmp, bytes_decides}}}
 use Rattle.std.specs.{Ordering.{nat_cmp, is_eq}}
 use Rattle.domain_codecs.specs.{Base32.base32_lower, Codec.IsBase32}
 use Rattle.domain_octets.specs.Words.{Octets, AreOctets}
 use Rattle.domain_names.specs.{Name.{is_at_or_below, same_name, wire_of}, Words.Name}
 use Rattle.domain_bitmap.specs.Bitmap.{bitmap_octets}
 use Rattle.domain_zone.specs.{Covering.{matches, covers, matches_or_covers}, Zone.ZoneRecord}
-use Rattle.domain_zone.proofs.{NameLemmas.{same_itself, one_lowered}, PairLemmas.{In, all_in}, OwnerLemmas.in_any, FindLemmas.{in_at, in_pairs, Stands}}
+use Rattle.domain_zone.proofs.{NameLemmas.{same_itself, one_lowered}, PairLemmas.{In, all_in}, OwnerLemmas.in_any}
+use Rattle.domain_zone.proofs.FindLemmas.{from_map, in_at, in_map, in_pairs, stands_from, Stands}
 use Rattle.domain_nsec3.specs.{Chain.{HashedLink, HashedName, IsOfChain, cycle, ends, ends_of, hashed_owner}, Config.{ChainConfig, Parameters, Hash, hash_name}}
 use Rattle.domain_nsec3.specs.{Meaning.{IsAlone, IsCovered, IsMatched, IsMatchedOrCoveredOnce, IsRecordOf, octets_before}, Owners.{is_chain_name, nsec3_lists}}
 use Rattle.domain_checker.specs.{HashedFacts.ChainFacts, HashedList.{same_parameters, is_spelling, owner_hash, is_some_with, is_hash_match, is_hash_cover}}
@@ -21,17 +22,6 @@ tied_is u v = grind (arith, common_steps, (nat_list_cmp_total.antisymm v u))
 -- names that are the same have one hash
 pub hash_same : (hash : Hash) (m n : Name) → same_name m n ≡ true → hash_name hash m ≡ hash_name hash n
 hash_same hash m n s = ap (λ l. hash (wire_of l)) (one_lowered m n s)
-
--- the ends of a link at a place are those of a pair
-end_at : (a : Name) (links : List HashedLink) (ps : List (Octets × Octets)) → map ends links ≡ map (ends_of a) ps
-    → (j : ℕ) (k : HashedLink) → slice_get links j ≡ Some k → (p : Octets × Octets) × In p ps × (k.owner ≡ hashed_owner a p.0)
-end_at a [] ps e j k g = absurd (cc)
-end_at a (l ∷ links) [] e j k g = absurd (cc)
-end_at a (l ∷ links) (p ∷ ps) e zero k g = grind (arith, common_steps)
-end_at a (l ∷ links) (p ∷ ps) e (suc j) k g =
-    let rest : map ends links ≡ map (ends_of a) ps = cc in
-    let r = end_at a links ps rest j k g in
-    (r.0, inr r.1, r.2)
 
 in_cycle : (hashes : List Octets) (p : Octets × Octets) → In p (cycle hashes) → In p.0 hashes
 in_cycle [] p i = i
@@ -54,11 +44,11 @@ module _ (L : List ZoneRecord) (a : Name) (config : ChainConfig) (links : List H
   record_at k s =
       let chain = facts.chain in
       let hashes = map (λ n. n.hash) chain.names in
-      let e = end_at a links _ chain.linked s.place k s.there in (
+      let e = from_map (ends_of a) (cycle hashes) (ends k) (subst (In (ends k)) chain.linked (in_map ends links k (in_at links s.place k s.there))) in (
         e.0.0,
         record {
           there = s.there;
-          spelled = e.2;
+          spelled = sym (ap (λ q. q.0) e.2);
           octets = all_in AreOctets hashes _ (hashes_octets L a config _
               (recursion_from_All _ _ chain.sound)) (in_cycle hashes e.0 e.1);
         },
@@ -80,41 +70,45 @@ module _ (L : List ZoneRecord) (a : Name) (config : ChainConfig) (links : List H
     pub covered_in : IsCovered a config links d → is_covered (chain_records a config listed) d ≡ true
     covered_in m = grind (arith, common_steps, in_any, hash_at, (in_at links m.place m.link m.is.there))
 
-  -- the place of the record that says something of d, where no other name of the chain has its hash
-  module _ (d : Name) (low : is_at_or_below d a ≡ true) (v : Octets) (alone : IsAlone L a config d v) where
+  -- a record of the chain, and the one that says something of d, where no other name of the chain has its hash
+  module _ (d : Name) (low : is_at_or_below d a ≡ true) (v : Octets) (alone : IsAlone L a config d v) (k : HashedLink)
+      (there : Contains links k) where
     one : IsMatchedOrCoveredOnce L a config links d v
     one = facts.mirrors.each d v low alone
 
-    -- a record that matches or covers the hash is that one
-    record_is : (k : HashedLink) (s : Stands links k) → matches_or_covers octets_before (record_at k s).0 k.next v ≡ true
-        → (k ≡ one.link) × ((record_at k s).0 ≡ one.hash)
-    record_is k s h =
-        let r = (record_at k s).1 in
-        let place : s.place ≡ one.place = one.only s.place k (record_at k s).0 r h in
-        let found : Some k ≡ Some one.link = sym s.there ∙ ap (slice_get links) place ∙ one.is.there in
+    at : Stands links k
+    at = stands_from links k there
+
+    pub within : In k links
+    within = in_at links at.place k at.there
+
+    -- if it matches or covers the hash, it is that one
+    record_is : matches_or_covers octets_before (record_at k at).0 k.next v ≡ true → (k ≡ one.link) × ((record_at k at).0 ≡ one.hash)
+    record_is h =
+        let r = (record_at k at).1 in
+        let place : at.place ≡ one.place = one.only at.place k (record_at k at).0 r h in
+        let found : Some k ≡ Some one.link = sym at.there ∙ ap (slice_get links) place ∙ one.is.there in
         let same : k ≡ one.link = cc in
-        let owner : hashed_owner a (record_at k s).0 ≡ hashed_owner a one.hash = sym r.spelled ∙ ap (λ m. m.owner) same ∙ one.is.spelled in
-        let text : base32_lower (record_at k s).0 ≡ base32_lower one.hash = cc in
-        (same, facts.tells_apart (record_at k s).0 one.hash r.octets one.is.octets text)
+        let owner : hashed_owner a (record_at k at).0 ≡ hashed_owner a one.hash = sym r.spelled ∙ ap (λ m. m.owner) same ∙ one.is.spelled in
+        let text : base32_lower (record_at k at).0 ≡ base32_lower one.hash = cc in
+        (same, facts.tells_apart (record_at k at).0 one.hash r.octets one.is.octets text)
 
-    says : (test : Octets → Bool) (k : HashedLink) (i : In k links) (s : Stands links k)
-        → is_some_with test (owner_hash a config.parameters k) ≡ test (record_at k s).0
-    says test k i s = let r = (record_at k s).1 in ap (is_some_with test) (hash_at k i (record_at k s).0 r.octets r.spelled)
+    says : (test : Octets → Bool) → is_some_with test (owner_hash a config.parameters k) ≡ test (record_at k at).0
+    says test = let r = (record_at k at).1 in ap (is_some_with test) (hash_at k within (record_at k at).0 r.octets r.spelled)
 
-    -- a record that matches the hash is that of d, which is a name of the chain
-    pub matched_once : (k : HashedLink) (i : In k links) (s : Stands links k) → is_hash_match a config.parameters v k ≡ true
+    -- if it matches the hash, it is that of d, which is a name of the chain
+    pub matched_once : is_hash_match a config.parameters v k ≡ true
         → (is_chain_name L a config d ≡ true) × (k.bits ≡ bitmap_octets (nsec3_lists L a config d))
-    matched_once k i s h =
-        let m : matches octets_before (record_at k s).0 v ≡ true = sym (says (λ u. matches octets_before u v) k i s) ∙ h in
-        let is = record_is k s (or_left (matches octets_before (record_at k s).0 v) (covers octets_before (record_at k s).0 k.next v) m) in
+    matched_once h =
+        let m : matches octets_before (record_at k at).0 v ≡ true = sym (says (λ u. matches octets_before u v)) ∙ h in
+        let is = record_is (or_left (matches octets_before (record_at k at).0 v) (covers octets_before (record_at k at).0 k.next v) m) in
         let known : is_chain_name L a config d ≡ true = sym one.matched ∙ ap (λ u. matches octets_before u v) (sym is.1) ∙ m in
         (known, ap (λ l. l.bits) is.0 ∙ one.bits known)
 
-    -- no record covers the hash of a name of the chain
-    pub covered_never : is_chain_name L a config d ≡ true → (k : HashedLink) (i : In k links) (s : Stands links k)
-        → is_hash_cover a config.parameters v k ≡ true → ⊥
-    covered_never known k i s h =
-        let c : covers octets_before (record_at k s).0 k.next v ≡ true = sym (says (λ u. covers octets_before u k.next v) k i s) ∙ h in
-        let is = record_is k s (or_right (matches octets_before (record_at k s).0 v) (covers octets_before (record_at k s).0 k.next v) c) in
-        let m : matches octets_before (record_at k s).0 v ≡ true = ap (λ u. matches octets_before u v) is.1 ∙ one.matched ∙ known in
-        grind (arith, common_steps)
+    -- if it covers the hash, d is none
+    pub covered_never : is_hash_cover a config.parameters v k ≡ true → is_chain_name L a config d ≡ false
+    covered_never h =
+        let c : covers octets_before (record_at k at).0 k.next v ≡ true = sym (says (λ u. covers octets_before u k.next v)) ∙ h in
+        let is = record_is (or_right (matches octets_before (record_at k at).0 v) (covers octets_before (record_at k at).0 k.next v) c) in
+        let other = not-true (matches octets_before (record_at k at).0 v) (and_parts (not (matches octets_before (record_at k at).0 v)) _ c).0 in
+        sym one.matched ∙ ap (λ u. matches octets_before u v) (sym is.1) ∙ other

@@ -1,16 +1,15 @@
 -- The names from x up to the apex: which of them are passed, and the hash of the next closer name.
-use Rattle.std.proofs.Common.{◌≡◌, ℕ, ◌+◌, ◌-◌, ◌≤◌, ◌<◌, zero, suc, true, false, not, [], ◌∷◌, length, drop, sym, ap, ◌∙◌, inl, inr, ◌⊎◌, Option, Some, None}
+use Rattle.std.proofs.Common.{◌≡◌, ℕ, ◌+◌, ◌-◌, ◌≤◌, ◌<◌, zero, suc, true, false, not, [], ◌∷◌, length, drop, refl, sym, ap, ◌∙◌, inl, inr, Option, Some, None}
 use Rattle.std.proofs.Common.{arith}
 use Rattle.std.proofs.lemmas.{Bool.{cases_Bool, and_from}, List.length-drop, Grind.common_steps}
 use Rattle.std.specs.{Prelude.{Ok, Err}, List.list_any}
 use Rattle.domain_octets.specs.Words.{Octets}
 use Rattle.domain_names.specs.{Name.{is_at_or_below, is_strictly_below, lowered, same_name, wire_of}, Words.{Label, Name}}
-use Rattle.domain_hasher.specs.declared.error.Nsec3HashError.{Nsec3HashError, TheVariants.{Hasher, OutOfMemory}}
 use Rattle.domain_zone.proofs.NameLemmas.{one_lowered, same_itself, below_itself, below_trans, below_longer, below_length, below_parent, strictly_longer}
 use Rattle.domain_zone.proofs.{NameLemmas.{strictly_from, same_length}, OwnerLemmas.in_any, FindLemmas.{any_none, find_none, find_some}}
 use Rattle.domain_nsec3.specs.{Chain.HashedLink, Config.hash_name}
-use Rattle.domain_checker.specs.{HashedList.is_hash_match, HashedView.{HashedRecords, first_cover, first_match}, HashedEncloser.IsEncloser}
-use Rattle.domain_checker.specs.{HashedPass.IsLookedUp, HashedReading.{IsNextHash, IsUnmatched}}
+use Rattle.domain_checker.specs.{HashedList.is_hash_match, HashedView.{HashedRecords, first_cover, first_match}, HashedPass.IsLookedUp}
+use Rattle.domain_checker.specs.HashedEncloser.{IsEncloser, IsNextHash, IsUnmatched, next_cover}
 use Rattle.domain_checker.specs.HashedVerdict.{IsFirst, IsFirstRefusal, is_matched, is_ok_with, next_closer}
 use Rattle.domain_checker.proofs.{EncloserLemmas.same_count, HashedListLemmas.hash_same}
 
@@ -57,6 +56,25 @@ module _ (R : HashedRecords) where
     -- at the name itself none is passed
     pub none_first : IsFirst R x x
     none_first y above below = let l = strictly_longer y x below in let m = below_length x y above in absurd (omega arith)
+
+    -- what is known of a name that the way comes to, with the first cover of the next closer name
+    pub record IsReached (left : Name) (cover : Option HashedLink) : Type 0 where
+      pub above : is_at_or_below x left ≡ true
+      pub within : is_at_or_below left R.apex ≡ true
+      pub first : IsFirst R x left
+      pub next : Option Octets
+      pub closes : IsNextHash R.hash x left next
+      pub covers : cover ≡ next_cover R next
+
+    pub reached_first : is_at_or_below x R.apex ≡ true → IsReached x None
+    reached_first low = record {
+      above = below_itself x;
+      within = low;
+      first = none_first;
+      next = None;
+      closes = same_itself x x refl;
+      covers = refl;
+    }
 
     -- what is known at a name, where the hash of the one right below it is v
     pub record IsPassed (left : Name) (v : Octets) : Type 0 where
@@ -115,47 +133,45 @@ module _ (R : HashedRecords) where
                 | inr s ↦ missed.first y g (and_from (is_at_or_below y left) (not (same_name y left)) down (ap not s))
               ]
 
-      -- at the name above, a match is that of the closest encloser
-      pub encloser_above : (next : Name) → IsPassed next missed.value
-          → (k : HashedLink) (wire : Octets) (covering : Option HashedLink) → wire ≡ wire_of (lowered next)
-          → IsLookedUp R wire (Some k) covering → (n : ℕ) → n ≡ length next
-          → IsEncloser R x (record { count = n; link = k; cover = cover })
-      encloser_above next passed k wire covering e looked n counts =
-          let known = ap R.hash (sym e) ∙ looked.known in
+      pub reached_on : (l : Label) (next : Name) → left ≡ l ∷ next → same_name left R.apex ≡ false → IsReached next cover
+      reached_on l next e other =
+          let on = passed_on l next e other in
           record {
-            name = next;
-            counts = counts;
-            first = record {
-              above = passed.above;
-              within = passed.within;
-              found = some_matched next looked.value k known (sym looked.found.matching);
-              first = passed.first;
-            };
-            value = looked.value;
-            known = known;
-            found = sym looked.found.matching;
+            above = on.above;
+            within = on.within;
+            first = on.first;
             next = Some missed.value;
-            closes = passed.closes;
+            closes = on.closes;
             covers = missed.covered;
           }
 
-    -- a name whose names before it were passed
-    module _ (left : Name) (above : is_at_or_below x left ≡ true) (within : is_at_or_below left R.apex ≡ true)
-        (first : IsFirst R x left) (wire : Octets) (e : wire ≡ wire_of (lowered left)) where
-      pub missed_here : (covering : Option HashedLink) → IsLookedUp R wire None covering → IsMissed left covering
-      missed_here covering looked = grind (arith, common_steps)
+    -- what is found of a name that the way comes to
+    module _ (left : Name) (cover : Option HashedLink) (reached : IsReached left cover) (wire : Octets) (e : wire ≡ wire_of (lowered left)) where
+      pub missed_there : (covering : Option HashedLink) → IsLookedUp R wire None covering → IsMissed left covering
+      missed_there covering looked = grind (arith, common_steps)
 
-      refused_here : (n : ℕ) → R.hash wire ≡ Err n → IsFirstRefusal R x n
-      refused_here n refused = grind (arith, common_steps)
+      pub refused_there : (n : ℕ) → R.hash wire ≡ Err n → IsFirstRefusal R x n
+      refused_there n refused = grind (arith, common_steps)
 
-      -- so what is refused here is refused on the way
-      pub error_here : (why : Nsec3HashError) → (why ≡ OutOfMemory) ⊎ ((n : ℕ) × (why ≡ Hasher n) × (R.hash wire ≡ Err n))
-          → (why ≡ OutOfMemory) ⊎ ((n : ℕ) × (why ≡ Hasher n) × IsFirstRefusal R x n)
-      error_here why (inl full) = inl full
-      error_here why (inr r) = inr (r.0, r.1, refused_here r.0 r.2)
-
-    -- a match of x itself is that of its closest encloser
-    pub encloser_here : is_at_or_below x R.apex ≡ true → (k : HashedLink) (wire : Octets) (covering : Option HashedLink)
-        → wire ≡ wire_of (lowered x) → IsLookedUp R wire (Some k) covering → (n : ℕ) → n ≡ length x
-        → IsEncloser R x (record { count = n; link = k; cover = None })
-    encloser_here low k wire covering e looked n counts = grind (arith, common_steps, some_matched, same_itself)
+      -- a match is that of the closest encloser
+      pub encloser_there : (k : HashedLink) (covering : Option HashedLink) → IsLookedUp R wire (Some k) covering → (n : ℕ) → n ≡ length left
+          → IsEncloser R x (record { count = n; link = k; cover = cover })
+      encloser_there k covering looked n counts =
+          let known = ap R.hash (sym e) ∙ looked.known in
+          let found = sym looked.found.matching in
+          record {
+            name = left;
+            counts = counts;
+            first = record {
+              above = reached.above;
+              within = reached.within;
+              found = some_matched left looked.value k known found;
+              first = reached.first;
+            };
+            value = looked.value;
+            known = known;
+            found = found;
+            next = reached.next;
+            closes = reached.closes;
+            covers = reached.covers;
+          }

@@ -1,15 +1,14 @@
 -- What NSEC3 records tell of the closest encloser of a name x (RFC 5155, section 8.3); a is the
 -- apex.
-use Rattle.std.specs.{Prelude.{ℕ, ◌≡◌, ◌<◌, Bool, true, false, not, ◌&&◌, ◌==◌, List, length, Option, Some, None, Ok, if◌then◌else◌}, Option.option_map}
+use Rattle.std.specs.{Prelude.{ℕ, ◌≡◌, ◌<◌, Bool, true, false, not, ◌&&◌, ◌==◌, List, length, Option, Some, None, Ok}, Option.option_map}
 use Rattle.domain_octets.specs.Words.{Octets}
-use Rattle.domain_base.specs.Types.{ds, ns}
-use Rattle.domain_names.specs.Words.{Name}
-use Rattle.domain_bitmap.specs.Blocks.{contains_type, types_of}
+use Rattle.domain_base.specs.Types.{ns}
+use Rattle.domain_names.specs.{Name.{is_at_or_below, same_name}, Words.Name}
+use Rattle.domain_bitmap.specs.Blocks.{contains_type}
 use Rattle.domain_zone.specs.{Enclosers.exists_over, Zone.{ZoneRecord, is_zone_cut}}
-use Rattle.domain_nsec3.specs.{Chain.HashedLink, Config.{ChainConfig, hash_name}, Owners.{nsec3_lists, original_owners}, View.as_hashed_link}
-use Rattle.domain_checker.specs.{HashedReading.{is_none, tells_cut, hash_cover_verdict, IsNextHash, IsUnmatched}, HashedVerdict.IsFirstMatched}
-use Rattle.domain_checker.specs.{HashedView.{HashedRecords, first_cover, first_match}, declared.{encloser.Nsec3Encloser.Nsec3Encloser, verdict.Verdict.Verdict}}
-use Rattle.domain_checker.specs.declared.verdict.Verdict.TheVariants.{BelowDelegation, Has, NoType, EmptyName, NotProven}
+use Rattle.domain_nsec3.specs.{Chain.HashedLink, Config.{ChainConfig, Hash, hash_name}, Owners.{nsec3_lists, original_owners}, View.as_hashed_link}
+use Rattle.domain_checker.specs.{HashedVerdict.{IsFirstMatched, is_matched, next_closer}, HashedView.{HashedRecords, first_cover, first_match}}
+use Rattle.domain_checker.specs.declared.encloser.Nsec3Encloser.{Nsec3Encloser}
 
 -- how many labels a name has, a record that matches it, and one that covers the name one label
 -- longer
@@ -25,6 +24,12 @@ encloser_of labels e =
       link = as_hashed_link labels e.matching.now;
       cover = option_map (λ k. as_hashed_link labels k.now) e.cover;
     }
+
+-- the hash of the next closer name, of x where d is the closest encloser; None where d is x
+abbrev pub IsNextHash : Hash → Name → Name → Option Octets → Type 0
+IsNextHash hash x d None = same_name d x ≡ true
+IsNextHash hash x d (Some v) =
+    (same_name d x ≡ false) × (hash_name hash (next_closer x d) ≡ Ok v)
 
 -- the first cover of the hash of the next closer name
 abbrev pub next_cover : HashedRecords → Option Octets → Option HashedLink
@@ -45,6 +50,13 @@ pub record IsEncloser (R : HashedRecords) (x : Name) (e : Encloser) : Type 0 whe
   pub closes : IsNextHash R.hash x name next
   pub covers : e.cover ≡ next_cover R next
 
+-- neither x nor an ancestor at or below the apex is refused by the hasher, and no record matches
+-- one of them
+abbrev pub IsUnmatched : HashedRecords → Name → Type 0
+IsUnmatched R x =
+    (y : Name) → is_at_or_below x y ≡ true → is_at_or_below y R.apex ≡ true
+    → (v : Octets) × (hash_name R.hash y ≡ Ok v) × (is_matched R y ≡ false)
+
 -- what the way from x to the apex ends at: None where no name of it is refused or matched
 abbrev pub IsFoundEncloser : HashedRecords → Name → Option Encloser → Type 0
 IsFoundEncloser R x None = IsUnmatched R x
@@ -54,26 +66,11 @@ IsFoundEncloser R x (Some e) = IsEncloser R x e
 abbrev pub encloser_is_cut : Name → Encloser → Bool
 encloser_is_cut a e = not (e.count == length a) && contains_type e.link.bits ns
 
--- the record says of its name; and of a name below it
-abbrev pub own_verdict : Name → Encloser → ℕ → Verdict
-own_verdict a e t =
-    if contains_type e.link.bits t then Has
-    else if encloser_is_cut a e && not (t == ds) then BelowDelegation
-    else if is_none (types_of e.link.bits) then EmptyName else NoType
-
-abbrev pub lower_verdict : Name → Encloser → Verdict
-lower_verdict a e =
-    if encloser_is_cut a e then BelowDelegation else hash_cover_verdict e.count e.cover
-
--- what is told of x, by how many labels it has
-abbrev pub encloser_verdict : Name → Encloser → ℕ → ℕ → Verdict
-encloser_verdict a e n t = if e.count == n then own_verdict a e t else lower_verdict a e
-
-abbrev pub found_verdict : Name → Option Encloser → ℕ → ℕ → Verdict
-found_verdict a None n t = NotProven
-found_verdict a (Some e) n t = encloser_verdict a e n t
-
 -- ---- one record of a zone's chain
+
+-- the record k of a name d tells that d is a zone cut: it lists NS, and d is not the apex
+abbrev pub tells_cut : Name → Name → HashedLink → Bool
+tells_cut a d k = not (same_name d a) && contains_type k.bits ns
 
 -- the record is that of x, which exists, lists its types, and tells whether it is a zone cut
 pub record IsOfName (L : List ZoneRecord) (a : Name) (config : ChainConfig) (x : Name)

@@ -3,9 +3,9 @@ pub mod Reading
 pub mod HashedList
 pub mod HashedView
 pub mod HashedVerdict
-pub mod HashedReading
 pub mod HashedPass
 pub mod HashedEncloser
+pub mod HashedReading
 pub mod HashedFacts
 pub mod HandedIn
 pub mod Alike

@@ -1,5 +1,5 @@
 //! The closest encloser of a name, as NSEC3 records tell it.
-ghost use Rattle.std.specs.Prelude.{◌≡◌, ◌⊎◌, ℕ, Ok, Err, None, false, IfOk, IfErr, IsErrOf};
+ghost use Rattle.std.specs.Prelude.{◌≡◌, ◌≤◌, ◌⊎◌, ℕ, Ok, Err, None, false, length, drop, IfOk, IfErr, IsErrOf};
 ghost use Rattle.std.specs.Option.{option_map};
 ghost use Rattle.domain_names.specs.Name.{is_at_or_below, lowered, wire_of};
 ghost use Rattle.domain_nsec3.specs.Config.{hash_name};
@@ -10,11 +10,10 @@ ghost use Rattle.domain_checker.specs.HashedVerdict.{IsFirstRefusal};
 ghost use Rattle.domain_checker.specs.HashedView.{hash_with, hashed_records};
 
 use crate::Nsec3Found;
-use crate::hashed::Nsec3Rr;
-use crate::walk::{look_up, walk};
+use crate::hashed::find_hash;
 use domain_base::{MAX_NAME, Rtype, ToName};
 use domain_chain_rdata::Nsec3;
-use domain_hasher::{Nsec3HashError, Nsec3Hasher};
+use domain_hasher::{Nsec3HashError, Nsec3Hasher, hash_wire};
 use domain_nsec3::Nsec3Records;
 use domain_octets::Octets;
 use domain_record::Record;
@@ -41,6 +40,39 @@ impl<'a, O: Octets, N: ToName> Nsec3Encloser<'a, O, N> {
     {
         (self.count != apex.count_labels()) & self.matching.data().types().contains(Rtype::NS)
     }
+}
+
+/// What the records say of the name with this wire form in lower case. Hashes it, and goes over the
+/// records once.
+fn look_up<'a, A: ToName, O: Octets, N: ToName, H: Nsec3Hasher>(
+    alloc: Global,
+    apex: &A,
+    records: &'a Nsec3Records<N, O>,
+    wire: &[u8],
+    hasher: &H,
+) -> Result<Nsec3Found<'a, O, N>, Nsec3HashError>
+    ensures ok { IfOk result (λ found. IsLookedUp
+        (hashed_records (A.labels apex.now) N.labels (H.answer hasher.now) records.now) wire.now
+        (found_match N.labels found) (found_cover N.labels found)) }
+    ensures err { IfErr result (λ e. (e ≡ hash_error.OutOfMemory) ⊎ ((n : ℕ)
+        × (e ≡ hash_error.Hasher n)
+        × (hash_with (H.answer hasher.now) records.now wire.now ≡ Err n))) }
+    ensures memory { IsErrOf result hash_error.OutOfMemory → H.takes_memory hasher.now }
+{
+    let param = records.nsec3param.data();
+    let (algorithm, iterations) = (param.hash_algorithm(), param.iterations());
+    let salt = param.salt().as_slice();
+    let hash = hash_wire(alloc, hasher, algorithm, iterations, salt, wire)?;
+    Ok(find_hash(apex, param, records.nsec3s.as_slice(), hash.as_slice()))
+}
+
+/// The octets without the first ones.
+fn skip(octets: &[u8], count: usize) -> &[u8]
+    requires { count ≤ length octets.now }
+    ensures { result.now ≡ drop count octets.now }
+{
+    let (_, rest) = octets.split_at(count);
+    rest
 }
 
 /// What NSEC3 records tell of the closest encloser of a name (RFC 5155, section 8.3). None where
@@ -85,8 +117,29 @@ pub fn find_nsec3_encloser<'a, A: ToName, O: Octets, N: ToName, M: ToName, H: Ns
         return Ok(None);
     }
     let mut buffer = [0; MAX_NAME];
-    let lowered = name.lower_wire(&mut buffer);
-    Ok(walk(alloc, apex, records, &name.as_parsed(), lowered, hasher)?)
+    let mut octets = name.lower_wire(&mut buffer);
+    let mut left = name.as_parsed();
+    let mut cover = None;
+    'names: loop {
+        cover = match look_up(alloc, apex, records, octets, hasher)? {
+            Nsec3Found::Match(matching) => {
+                return Ok(Some(Nsec3Encloser {
+                    count: left.count_labels(),
+                    matching,
+                    cover,
+                }));
+            }
+            Nsec3Found::NoMatch(next) => next,
+        };
+        if left.name_eq(apex) {
+            return Ok(None);
+        }
+        let Some((label, above)) = left.split_first() else {
+            unreachable!();
+        };
+        octets = skip(octets, label.len() + 1);
+        left = above;
+    }
 }
 
 /// What NSEC3 records tell of one name: the first that matches its hash or, where none does, the

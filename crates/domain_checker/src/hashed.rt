@@ -58,18 +58,6 @@ fn hash_label<'a, A: ToName, O: Octets, N: ToName>(
     Some(label)
 }
 
-/// Whether a record matches the hash, by the label that spells its own.
-#[tactic(auto, using(crate::proofs::HashedListLemmas::tied_is))]
-fn is_match(label: Option<&[u8]>, hash: &[u8]) -> bool
-    ensures { result ≡ is_some_with (λ h. matches octets_before h hash.now)
-        (option_map (λ l. read_label l.now) label.entry) }
-{
-    match label {
-        Some(label) => spelled_cmp(label, hash).is_eq(),
-        None => false,
-    }
-}
-
 /// Whether the hash lies between the one that the label spells and the next one, or on either side
 /// of the two where the next one is not after the first.
 #[tactic(auto, using(crate::proofs::HashedListLemmas::tied_is))]
@@ -86,40 +74,6 @@ fn lies_between(label: &[u8], next: &[u8], hash: &[u8]) -> bool
     !order.is_eq() & between
 }
 
-/// Whether a record covers the hash, by the label that spells its own and the next hash.
-fn is_cover(label: Option<&[u8]>, next: &[u8], hash: &[u8]) -> bool
-    ensures { result ≡ is_some_with (λ h. covers octets_before h next.now hash.now)
-        (option_map (λ l. read_label l.now) label.entry) }
-{
-    match label {
-        Some(label) => lies_between(label, next, hash),
-        None => false,
-    }
-}
-
-/// The cover that was found before or, with none, this record where it covers the hash, by the
-/// label that spells its own.
-fn or_cover<'a, O: Octets, N: ToName>(
-    cover: Option<&'a Nsec3Rr<O, N>>,
-    label: Option<&[u8]>,
-    listed: &'a Nsec3Rr<O, N>,
-    hash: &[u8],
-) -> Option<&'a Nsec3Rr<O, N>>
-    ensures { option_map (λ r. as_hashed_link N.labels r.now) result
-        ≡ option_or (option_map (λ r. as_hashed_link N.labels r.now) cover.entry)
-        (if is_some_with (λ h. covers octets_before h listed.now.«data».next_owner hash.now)
-        (option_map (λ l. read_label l.now) label.entry)
-        then Some (as_hashed_link N.labels listed.now) else None) }
-{
-    if cover.is_some() {
-        return cover;
-    }
-    if is_cover(label, listed.data().next_owner().as_slice(), hash) {
-        return Some(listed);
-    }
-    None
-}
-
 /// The first record that matches the hash or, where none does, the first that covers it. Goes over
 /// the records once.
 pub(crate) fn find_hash<'a, A: ToName, O: Octets, N: ToName>(
@@ -134,11 +88,15 @@ pub(crate) fn find_hash<'a, A: ToName, O: Octets, N: ToName>(
 {
     let mut cover = None;
     for listed in nsec3s {
-        let label = hash_label(apex, param, listed);
-        if is_match(label, hash) {
+        let Some(label) = hash_label(apex, param, listed) else {
+            continue;
+        };
+        if spelled_cmp(label, hash).is_eq() {
             return Nsec3Found::Match(listed);
         }
-        cover = or_cover(cover, label, listed, hash);
+        if cover.is_none() && lies_between(label, listed.data().next_owner().as_slice(), hash) {
+            cover = Some(listed);
+        }
     }
     Nsec3Found::NoMatch(cover)
 }

@@ -71,6 +71,7 @@ pub fn walks_ignore_case_and_ttl()
 
 /// The whole chain of a zone proves what the zone says of every name and type, and the zone says
 /// something of each.
+#[tactic(auto, using(crate::proofs::ListLemmas::whole_proves, crate::proofs::ListLemmas::zone_says))]
 pub fn whole_chains_prove_all()
     ensures zone { (L : List ZoneRecord) (a : Name) (config : GenerateNsecConfig)
         (links : List Link) (x : Name) (t : ℕ) → config.occlude_below_dname ≡ false
@@ -86,6 +87,7 @@ pub fn whole_chains_prove_all()
 /// The whole NSEC3 chain of a zone proves what the zone says of every name and type, where no other
 /// name of the chain has the hash of the name or of an ancestor at or below the apex; and the zone
 /// says something of each.
+#[tactic(auto, using(crate::proofs::HashedVerdictLemmas::whole_chain_proves, crate::proofs::HashedVerdictLemmas::hashed_zone_says))]
 pub fn whole_hashed_chains_prove_all()
     ensures zone { (L : List ZoneRecord) (a : Name) (config : ChainConfig)
         (links : List HashedLink) (x : Name) (t : ℕ)

@@ -24,7 +24,6 @@ mod nsec3_laws;
 mod nsec_check;
 mod spelled;
 mod verdict;
-mod walk;
 
 pub use encloser::{Nsec3Encloser, find_nsec3, find_nsec3_encloser};
 pub use hashed::{Nsec3Found, Nsec3Rr};

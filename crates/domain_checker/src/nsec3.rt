@@ -4,8 +4,8 @@ ghost use Rattle.std.specs.Option.{option_map};
 ghost use Rattle.domain_names.specs.Name.{is_at_or_below};
 ghost use Rattle.domain_nsec3.specs.View.{as_hashed_link};
 ghost use Rattle.domain_hasher.specs.declared.error.Nsec3HashError.TheVariants as hash_error;
-ghost use Rattle.domain_checker.specs.HashedEncloser.{encloser_of, found_verdict, lower_verdict, own_verdict};
-ghost use Rattle.domain_checker.specs.HashedReading.{hash_cover_verdict, IsWalked};
+ghost use Rattle.domain_checker.specs.HashedEncloser.{encloser_of};
+ghost use Rattle.domain_checker.specs.HashedReading.{found_verdict, hash_cover_verdict, IsWalked, own_verdict};
 ghost use Rattle.domain_checker.specs.HashedVerdict.{HasHashedProof, IsFirstRefusal, IsHashedProved};
 ghost use Rattle.domain_checker.specs.Verdict.{IsWithin};
 ghost use Rattle.domain_checker.specs.HashedView.{hashed_records};
@@ -56,20 +56,6 @@ fn cover_verdict<O: Octets, N: ToName>(cover: Option<&Nsec3Rr<O, N>>, count: usi
     }
 }
 
-/// What the record that matches the closest encloser says of the name below it, with the first
-/// cover of the next closer name.
-fn lower_verdict<A: ToName, O: Octets, N: ToName>(
-    apex: &A,
-    encloser: &Nsec3Encloser<'_, O, N>,
-) -> Verdict
-    ensures { result ≡ lower_verdict (A.labels apex.now) (encloser_of N.labels encloser.now) }
-{
-    if encloser.is_zone_cut(apex) {
-        return Verdict::BelowDelegation;
-    }
-    cover_verdict(encloser.cover, encloser.count)
-}
-
 /// What the records say of a name with so many labels, whose closest encloser they tell.
 fn found_verdict<A: ToName, O: Octets, N: ToName>(
     apex: &A,
@@ -84,8 +70,10 @@ fn found_verdict<A: ToName, O: Octets, N: ToName>(
         Some(encloser) => {
             if encloser.count == count {
                 own_verdict(apex, &encloser, rtype)
+            } else if encloser.is_zone_cut(apex) {
+                Verdict::BelowDelegation
             } else {
-                lower_verdict(apex, &encloser)
+                cover_verdict(encloser.cover, encloser.count)
             }
         }
         None => Verdict::NotProven,

@@ -69,15 +69,12 @@ pub(crate) fn spelled_cmp(label: &[u8], hash: &[u8]) -> Ordering
                 return Ordering::Greater;
             };
             let order = (value / scale).cmp(&u32::from(*octet));
-            if order != Ordering::Equal {
+            if order.is_ne() {
                 return order;
             }
             left = after;
         }
     }
-    if left.is_empty() {
-        Ordering::Equal
-    } else {
-        Ordering::Less
-    }
+    let end: &[u8] = &[];
+    end.cmp(left)
 }

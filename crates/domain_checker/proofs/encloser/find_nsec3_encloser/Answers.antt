@@ -1,19 +1,44 @@
-use Rattle.std.proofs.Common.{◌∙◌, sym, ap, arith}
+use Rattle.std.{proofs.{Common.{◌∙◌, sym, ap, subst, None, arith}, lemmas.Grind.common_steps}}
 use Rattle.domain_names.specs.Name.{lowered, wire_of}
 use Rattle.domain_checker.{specs.HashedView.hashed_records, proofs.HashedEncloserLemmas.outside_unmatched}
+use Rattle.domain_checker.proofs.HashedWalkLemmas.{IsReached, encloser_there, missed_there, none_left, reached_first, reached_on, refused_there, wire_above}
 use Rattle.domain_checker.proofs.encloser.find_nsec3_encloser.Goals as goal
-use Rattle.std.proofs.lemmas.Grind.{common_steps}
 
 pub returns-then-not-ends_with-clause-found : goal.returns-then-not-ends_with-clause-found
 returns-then-not-ends_with-clause-found g c =
     let R = hashed_records (g.A.ToName.labels c.args.apex.now) g.N.ToName.labels (g.H.Nsec3Hasher.answer c.args.hasher.now) c.args.records.now in
     outside_unmatched R _ (sym c.ends_with.ensures.value ∙ c.if-not-ends_with.true)
 
-pub walk-requires-clause-wire : goal.walk-requires-clause-wire
-walk-requires-clause-wire g c = c.lower_wire-lowered.ensures.octets ∙ ap (λ l. wire_of (lowered l)) (sym c.as_parsed.ensures)
+pub names-init : goal.names-init
+names-init g c =
+    let R = hashed_records (g.A.ToName.labels c.args.apex.now) g.N.ToName.labels (g.H.Nsec3Hasher.answer c.args.hasher.now) c.args.records.now in
+    let x = g.M.ToName.labels c.args.name.now in
+    let same = sym c.as_parsed-left.ensures in
+    record {
+      wire = c.lower_wire-octets.ensures.octets ∙ ap (λ n. wire_of (lowered n)) same;
+      reached = subst (λ n. IsReached R x n None) same (reached_first R x (sym c.ends_with.ensures.value ∙ c.if-not-ends_with.false));
+    }
 
-pub returns-clause-found : goal.returns-clause-found
-returns-clause-found g c = rw c.as_parsed.ensures at c.in_ok-walk.ensures.ok
+pub returns-in_err-matching-clause-refusal : goal.returns-in_err-matching-clause-refusal
+returns-in_err-matching-clause-refusal g c n e = refused_there _ _ _ _ c.names.invariant.reached _ c.names.invariant.wire n (grind (arith, common_steps))
 
-pub returns-in_err-walk-clause-refusal : goal.returns-in_err-walk-clause-refusal
-returns-in_err-walk-clause-refusal g c n e = grind (arith, common_steps)
+pub returns-in-Match-clause-found : goal.returns-in-Match-clause-found
+returns-in-Match-clause-found g c =
+    encloser_there _ _ _ _ c.names.invariant.reached _ c.names.invariant.wire _ None (rw c.in-Match.is at c.in_ok-matching.ensures.ok) _
+    c.count_labels.ensures.count
+
+pub returns-then-name_eq-clause-found : goal.returns-then-name_eq-clause-found
+returns-then-name_eq-clause-found g c =
+    none_left _ _ _ _ (missed_there _ _ _ _ c.names.invariant.reached _ c.names.invariant.wire _ (rw c.in-NoMatch.is at c.in_ok-matching.ensures.ok))
+    (sym c.name_eq.ensures.value ∙ c.if-name_eq.true)
+
+pub skip-octets-requires : goal.skip-octets-requires
+skip-octets-requires g c = grind (arith, common_steps)
+
+pub names-preserved : goal.names-preserved
+names-preserved g c = record {
+  wire = grind (arith, common_steps, wire_above);
+  reached = reached_on _ _ _ _
+      (missed_there _ _ _ _ c.names.invariant.reached _ c.names.invariant.wire _ (rw c.in-NoMatch.is at c.in_ok-matching.ensures.ok))
+      c.in-Some.label.now c.in-Some.above c.in-Some.ensures.parts (sym c.name_eq.ensures.value ∙ c.if-name_eq.false);
+}

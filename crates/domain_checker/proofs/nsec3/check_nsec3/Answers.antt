@@ -1,7 +1,7 @@
 use Rattle.std.{proofs.Common.{◌≡◌, ◌<◌, ◌∙◌, true, sym, ap, subst}, specs.Option.option_map}
 use Rattle.domain_names.specs.Name.{is_at_or_below}
-use Rattle.domain_checker.specs.{HashedEncloser.{found_verdict, encloser_of}, HashedReading.{IsWalked, WalksAreProved}, HashedView.hashed_records}
-use Rattle.domain_checker.proofs.{HashedEncloserLemmas.found_walked, nsec3.check_nsec3.Given.Over}
+use Rattle.domain_checker.specs.{HashedEncloser.encloser_of, HashedReading.{IsWalked, WalksAreProved, found_verdict}, HashedView.hashed_records}
+use Rattle.domain_checker.proofs.nsec3.check_nsec3.Given.{Over}
 use Rattle.domain_checker.proofs.nsec3.check_nsec3.Goals as goal
 use Rattle.domain_checker.proofs.nsec3.check_nsec3.Goals.{After-found_verdict}
 
@@ -10,11 +10,12 @@ walked : (g : Over) (c : After-found_verdict g) → IsWalked
     (hashed_records (g.A.ToName.labels c.args.apex.now) g.N.ToName.labels (g.H.Nsec3Hasher.answer c.args.hasher.now) c.args.records.now)
     (g.M.ToName.labels c.args.name.now) c.args.rtype c.found_verdict.result
 walked g c =
-    let R = hashed_records (g.A.ToName.labels c.args.apex.now) g.N.ToName.labels (g.H.Nsec3Hasher.answer c.args.hasher.now) c.args.records.now in
-    let x = g.M.ToName.labels c.args.name.now in
     let found = option_map (encloser_of g.N.ToName.labels) c.in_ok-found.found in
-    let says = c.found_verdict.ensures ∙ ap (λ n. found_verdict R.apex found n c.args.rtype) c.count_labels.ensures.count in
-    subst (IsWalked R x c.args.rtype) (sym says) (found_walked R x c.args.rtype found c.in_ok-found.ensures.found)
+    record {
+      found = found;
+      is = c.in_ok-found.ensures.found;
+      says = c.found_verdict.ensures ∙ ap (λ n. found_verdict (g.A.ToName.labels c.args.apex.now) found n c.args.rtype) c.count_labels.ensures.count;
+    }
 
 -- and what the records prove
 proved : (g : Over) (c : After-found_verdict g) → WalksAreProved
