@@ -1,7 +1,7 @@
 -- What NSEC3 records say does not depend on TTLs, classes and the case of letters.
-use Rattle.std.proofs.Common.{◌≡◌, ℕ, cond, not, ◌&&◌, ◌||◌, List, [], ◌∷◌, length, map, refl, sym, ap, ◌∙◌, Option, Some, None, arith}
-use Rattle.std.{proofs.lemmas.{List.length-map, Grind.common_steps}, specs.{Prelude.{is_some, unwrap_or}, Char.to_ascii_lowercase, List.list_all}}
-use Rattle.domain_codecs.specs.{Codec.{base32_digits, base32_octets, base32_value, is_base32_length, is_digit}, declared.codec.Codec.TheVariants.Base32Hex}
+use Rattle.std.proofs.Common.{◌≡◌, ℕ, cond, not, ◌||◌, List, [], ◌∷◌, length, map, refl, sym, ap, ◌∙◌, Option, Some, None, arith}
+use Rattle.std.{proofs.lemmas.{List.{length-map, Folds.list_all-map}, Simd.map-map, Grind.common_steps}, specs.{Char.to_ascii_lowercase}}
+use Rattle.domain_codecs.specs.{Codec.{base32_value}}
 use Rattle.domain_octets.specs.Words.{Octets}
 use Rattle.domain_names.specs.{Name.{is_at_or_below, lowered}, Words.{Label, Name}}
 use Rattle.domain_zone.{specs.{Covering.{covers, matches}, Zone.{ZoneRecord}}, proofs.NameLemmas.{one_lowered}}
@@ -20,19 +20,11 @@ use Rattle.domain_checker.proofs.PairedLemmas.{OptionsPaired, any_alike, find_al
 value_lower : (c : ℕ) → base32_value (to_ascii_lowercase c) ≡ base32_value c
 value_lower c = grind (arith, common_steps)
 
-all_lower : (label : Label) → list_all (is_digit Base32Hex) (map to_ascii_lowercase label) ≡ list_all (is_digit Base32Hex) label
-all_lower [] = refl
-all_lower (c ∷ label) = λ i. is_some (value_lower c i) && all_lower label i
-
-digits_lower : (label : Label) → base32_digits (map to_ascii_lowercase label) ≡ base32_digits label
-digits_lower [] = refl
-digits_lower (c ∷ label) = λ i. unwrap_or (value_lower c i) 0 ∷ digits_lower label i
-
 spelling_lower : (label : Label) → is_spelling (map to_ascii_lowercase label) ≡ is_spelling label
-spelling_lower label = λ i. all_lower label i && is_base32_length (length-map label to_ascii_lowercase i)
+spelling_lower label = simp (list_all-map, length-map, value_lower)
 
 read_lower : (label : Label) → read_label (map to_ascii_lowercase label) ≡ read_label label
-read_lower label = ap (base32_octets 1 0) (digits_lower label)
+read_lower label = simp (map-map, value_lower)
 
 -- owners that are the same spell one hash
 hash_in_alike : (a o q : Name) → lowered o ≡ lowered q → hash_in a o ≡ hash_in a q

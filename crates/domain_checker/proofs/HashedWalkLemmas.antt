@@ -57,31 +57,28 @@ module _ (R : HashedRecords) where
     pub none_first : IsFirst R x x
     none_first y above below = let l = strictly_longer y x below in let m = below_length x y above in absurd (omega arith)
 
-    -- what is known of a name that the way comes to, with the first cover of the next closer name
-    pub record IsReached (left : Name) (cover : Option HashedLink) : Type 0 where
+    -- what is known of a name that the way comes to, by the hash of the next closer name
+    pub record IsPassedTo (left : Name) (next : Option Octets) : Type 0 where
       pub above : is_at_or_below x left ≡ true
       pub within : is_at_or_below left R.apex ≡ true
       pub first : IsFirst R x left
-      pub next : Option Octets
       pub closes : IsNextHash R.hash x left next
+
+    abbrev pub IsPassed : Name → Octets → Type 0
+    IsPassed left v = IsPassedTo left (Some v)
+
+    -- the same with the first cover of that name
+    pub record IsReached (left : Name) (cover : Option HashedLink) : Type 0 where
+      pub next : Option Octets
+      pub passed : IsPassedTo left next
       pub covers : cover ≡ next_cover R next
 
     pub reached_first : is_at_or_below x R.apex ≡ true → IsReached x None
     reached_first low = record {
-      above = below_itself x;
-      within = low;
-      first = none_first;
       next = None;
-      closes = same_itself x x refl;
+      passed = record { above = below_itself x; within = low; first = none_first; closes = same_itself x x refl };
       covers = refl;
     }
-
-    -- what is known at a name, where the hash of the one right below it is v
-    pub record IsPassed (left : Name) (v : Octets) : Type 0 where
-      pub above : is_at_or_below x left ≡ true
-      pub within : is_at_or_below left R.apex ≡ true
-      pub first : IsFirst R x left
-      pub closes : IsNextHash R.hash x left (Some v)
 
     -- what is known of a name that no record matches, with the first cover of its hash
     pub record IsMissed (left : Name) (cover : Option HashedLink) : Type 0 where
@@ -134,16 +131,7 @@ module _ (R : HashedRecords) where
               ]
 
       pub reached_on : (l : Label) (next : Name) → left ≡ l ∷ next → same_name left R.apex ≡ false → IsReached next cover
-      reached_on l next e other =
-          let on = passed_on l next e other in
-          record {
-            above = on.above;
-            within = on.within;
-            first = on.first;
-            next = Some missed.value;
-            closes = on.closes;
-            covers = missed.covered;
-          }
+      reached_on l next e other = record { next = Some missed.value; passed = passed_on l next e other; covers = missed.covered }
 
     -- what is found of a name that the way comes to
     module _ (left : Name) (cover : Option HashedLink) (reached : IsReached left cover) (wire : Octets) (e : wire ≡ wire_of (lowered left)) where
@@ -163,15 +151,15 @@ module _ (R : HashedRecords) where
             name = left;
             counts = counts;
             first = record {
-              above = reached.above;
-              within = reached.within;
+              above = reached.passed.above;
+              within = reached.passed.within;
               found = some_matched left looked.value k known found;
-              first = reached.first;
+              first = reached.passed.first;
             };
             value = looked.value;
             known = known;
             found = found;
             next = reached.next;
-            closes = reached.closes;
+            closes = reached.passed.closes;
             covers = reached.covers;
           }

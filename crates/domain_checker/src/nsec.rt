@@ -116,6 +116,7 @@ pub(crate) fn cover_verdict<A: ToName, O: Octets, N: ToName, M: ToName>(
 /// section 4.3). `NoName` and `EmptyName` are none where a name above the asked one owns a DNAME
 /// record, which redirects all names below it: ask for DNAME at each of them that is at or below
 /// the apex, and none may be `Has` (RFC 6840, section 4.1).
+#[tactic(auto, using(std::proofs::lemmas::Grind::common_steps, std::proofs::lemmas::List::take_all))]
 pub fn check_nsec<A: ToName, O: Octets, N: ToName, M: ToName>(
     apex: &A,
     chain: &[Record<N, Nsec<O, N>>],
