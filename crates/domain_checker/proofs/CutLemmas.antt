@@ -1,5 +1,5 @@
 -- The zone cuts that an NSEC3 chain holds: what exists is not strictly below one.
-use Rattle.std.proofs.{Common.{◌≡◌, true, false, List, inl, inr, arith}, lemmas.{Bool.cases_Bool, Grind.common_steps}}
+use Rattle.std.proofs.{Common.{◌≡◌, true, false, List, arith}, lemmas.{Bool.false_from_ne_true, Grind.common_steps}}
 use Rattle.domain_names.specs.{Name.is_strictly_below, Words.Name}
 use Rattle.domain_zone.specs.{Enclosers.exists_over, Zone.{ZoneRecord, is_zone_cut}}
 use Rattle.domain_zone.proofs.{NameLemmas.{one_lowered, same_itself, below_itself, strictly_longer}, OwnerLemmas.{any_in, in_any}}
@@ -30,7 +30,5 @@ module _ (L : List ZoneRecord) (a : Name) (config : ChainConfig) where
         omega arith
 
     pub not_below : (y : Name) → exists_over (original_owners L a config) a y ≡ true → is_below_chain_cut L a config y ≡ false
-    not_below y there = elim (cases_Bool (is_below_chain_cut L a config y)) [
-      | inl f ↦ let c = cut_above y f in absurd (cut_apart c.cut y c.is_cut c.original there c.under)
-      | inr f ↦ f
-    ]
+    not_below y there =
+        false_from_ne_true (is_below_chain_cut L a config y) (λ f. let c = cut_above y f in cut_apart c.cut y c.is_cut c.original there c.under)

@@ -1,12 +1,12 @@
 -- The first of a name and its ancestors that exists is its closest encloser, and an occluded name is below a name that occludes and is not occluded itself.
-use Rattle.std.proofs.Common.{◌≡◌, ℕ, ◌≤◌, Bool, zero, suc, true, false, not, List, [], ◌∷◌, map, length, refl, sym, ap, ◌∙◌, inl, inr, arith}
+use Rattle.std.proofs.Common.{◌≡◌, ℕ, ◌<◌, ◌≤◌, Bool, zero, suc, true, false, not, List, [], ◌∷◌, map, length, refl, sym, ap, ◌∙◌, inl, inr, arith}
 use Rattle.std.proofs.lemmas.{Bool.{cases_Bool, false≢true, and_parts, and_from, cases_lt}, List.length-map, Grind.common_steps}
 use Rattle.std.specs.{Char.to_ascii_lowercase}
 use Rattle.domain_names.specs.{Name.{is_at_or_below, is_strictly_below, same_name}, Words.Name}
 use Rattle.domain_zone.specs.Enclosers.{IsClosestEncloser, exists_over}
 use Rattle.domain_zone.specs.Zone.{ZoneRecord, is_zone_cut, occludes, is_occluded, is_unoccluded, distinct, unoccluded_owners, owns}
 use Rattle.domain_zone.proofs.NameLemmas.{one_lowered, below_itself, below_trans, below_longer, below_length, below_parent, strictly_longer, same_length}
-use Rattle.domain_zone.proofs.{PairLemmas.{In, all_in}, OwnerLemmas.{any_in, in_any, occluder_below, owners_are}, FindLemmas.in_filter}
+use Rattle.domain_zone.proofs.{PairLemmas.{In, all_in}, OwnerLemmas.{any_in, in_any, occluder_below, owners_are}, FindLemmas.in_filter, ZoneLemmas.same_back}
 use Rattle.domain_checker.specs.Verdict.{closest_encloser}
 
 -- ---- names at or below each other
@@ -18,6 +18,10 @@ same_count x y e = sym (length-map x (map to_ascii_lowercase)) ∙ ap length (on
 -- x is strictly below what a name that it is strictly below is at or below
 pub strictly_trans : (x c n : Name) → is_strictly_below x c ≡ true → is_at_or_below c n ≡ true → is_strictly_below x n ≡ true
 strictly_trans x c n s q = grind (arith, common_steps, below_trans)
+
+-- what x is below has fewer labels, if it is another name
+pub shorter_above : (x d : Name) → is_at_or_below x d ≡ true → same_name d x ≡ false → length d < length x
+shorter_above x d p s = grind (arith, common_steps, same_length, same_back)
 
 -- ---- closest enclosers
 
@@ -110,6 +114,9 @@ module _ (below_dname : Bool) (L : List ZoneRecord) (a : Name) where
 
   pub owner_unoccluded : (n : Name) → In n (unoccluded_owners below_dname L a) → is_unoccluded below_dname L a n ≡ true
   owner_unoccluded n i = (all_in _ _ n (owners_are below_dname L a) i).1
+
+  pub owner_high : (n : Name) → In n (unoccluded_owners below_dname L a) → is_occluded below_dname L a n ≡ false
+  owner_high n i = grind (arith, common_steps, owner_unoccluded)
 
   -- whatever is the same as such an owner owns records
   pub owner_owns : (n x : Name) → In n (unoccluded_owners below_dname L a) → same_name n x ≡ true → owns L x ≡ true

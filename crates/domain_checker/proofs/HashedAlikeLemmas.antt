@@ -1,17 +1,17 @@
 -- What NSEC3 records say does not depend on TTLs, classes and the case of letters.
-use Rattle.std.proofs.Common.{◌≡◌, ℕ, cond, not, ◌||◌, List, [], ◌∷◌, length, map, refl, sym, ap, ◌∙◌, Option, Some, None, arith}
+use Rattle.std.proofs.Common.{◌≡◌, ℕ, cond, List, [], ◌∷◌, length, map, refl, sym, ap, ◌∙◌, Option, Some, None, arith}
 use Rattle.std.{proofs.lemmas.{List.{length-map, Folds.list_all-map}, Simd.map-map, Grind.common_steps}, specs.{Char.to_ascii_lowercase}}
 use Rattle.domain_codecs.specs.{Codec.{base32_value}}
 use Rattle.domain_octets.specs.Words.{Octets}
-use Rattle.domain_names.specs.{Name.{is_at_or_below, lowered}, Words.{Label, Name}}
+use Rattle.domain_names.specs.{Name.{lowered}, Words.{Label, Name}}
 use Rattle.domain_zone.{specs.{Covering.{covers, matches}, Zone.{ZoneRecord}}, proofs.NameLemmas.{one_lowered}}
 use Rattle.domain_nsec3.specs.{Chain.HashedLink, Config.{ChainConfig, Parameters}, Meaning.octets_before, Owners.original_owners}
 use Rattle.domain_checker.specs.Alike.{ArePaired, IsHashedAlike}
 use Rattle.domain_checker.specs.HashedList.{hash_in, is_hash_cover, is_hash_match, is_some_with, is_spelling, owner_hash, read_label, same_parameters}
 use Rattle.domain_checker.specs.HashedView.{HashedRecords, chain_records, first_cover, first_match, with_links}
 use Rattle.domain_checker.specs.{HashedEncloser.{Encloser, IsFoundEncloser, next_cover}, HashedReading.{IsWalked, found_verdict}}
-use Rattle.domain_checker.specs.HashedVerdict.{IsFirst, hashed_proved_verdict, hashed_zone_verdict, is_covered, is_matched, next_closer, proves}
-use Rattle.domain_checker.specs.{Verdict.closest_encloser, declared.verdict.Verdict.{Verdict, TheVariants.NotProven}}
+use Rattle.domain_checker.specs.HashedVerdict.{IsFirst, hashed_proved_verdict, is_covered, is_matched, next_closer}
+use Rattle.domain_checker.specs.{Verdict.closest_encloser, declared.verdict.Verdict.{Verdict}}
 use Rattle.domain_checker.proofs.PairedLemmas.{OptionsPaired, any_alike, find_alike}
 
 -- ---- labels
@@ -115,9 +115,6 @@ module _ (L : List ZoneRecord) (a : Name) (config : ChainConfig) (x : Name) (t :
   abbrev en : Name
   en = closest_encloser (original_owners L a config) a x
 
-  proves_alike : proves L a config ks x ≡ proves L a config ls x
-  proves_alike =
-      rw (matched_alike (chain_records a config ks) ls alike en, covered_alike (chain_records a config ks) ls alike (next_closer x en)) refl
-
   pub proved_alike : hashed_proved_verdict L a config ks x t ≡ hashed_proved_verdict L a config ls x t
-  proved_alike = λ i. cond (not (is_at_or_below x a) || proves_alike i) (hashed_zone_verdict L a config x t) NotProven
+  proved_alike =
+      rw (matched_alike (chain_records a config ks) ls alike en, covered_alike (chain_records a config ks) ls alike (next_closer x en)) refl

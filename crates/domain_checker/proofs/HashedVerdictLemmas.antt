@@ -1,7 +1,7 @@
 -- What a list of records of an NSEC3 chain says is what it proves.
 use Rattle.std.proofs.Common.{rules, ◌≡◌, ◌≢◌, ℕ, ◌+◌, ◌≤◌, ◌<◌, true, false, not, ◌&&◌, ◌||◌, List, length, refl, sym, ap, ◌∙◌, subst, inl, inr, Option}
 use Rattle.std.proofs.Common.{Some, None, arith}
-use Rattle.std.proofs.lemmas.Bool.{or_parts, cases_Bool, cases_lt, false_from_ne_true, false≢true, true_from_ne_false, and_parts, and_from}
+use Rattle.std.proofs.lemmas.Bool.{or_parts, cases_Bool, false_from_ne_true, false≢true, true_from_ne_false, and_parts, and_from}
 use Rattle.std.proofs.lemmas.{List.Elements.recursion_from_All, Grind.common_steps}
 use Rattle.std.specs.{Prelude.Ok, List.{list_any, Contains}}
 use Rattle.domain_octets.{specs.Words.Octets, proofs.StdLemmas.or_true}
@@ -10,7 +10,7 @@ use Rattle.domain_bitmap.specs.Blocks.{contains_type, types_of}
 use Rattle.domain_chain_rdata.specs.OptOut.{is_opt_out}
 use Rattle.domain_zone.specs.{Enclosers.{exists_over, IsClosestEncloser}, Zone.{ZoneRecord, is_zone_cut}}
 use Rattle.domain_zone.proofs.NameLemmas.{one_lowered, same_lowered, below_itself, below_trans, below_longer, below_length, strictly_from, strictly_longer}
-use Rattle.domain_zone.proofs.{NameLemmas.same_length, PairLemmas.{In, all_in}, ZoneLemmas.same_back, FindLemmas.{find_some, Stands, stands_in}}
+use Rattle.domain_zone.proofs.{NameLemmas.same_length, PairLemmas.{In, all_in}, FindLemmas.{find_some, Stands, stands_in}}
 use Rattle.domain_nsec3.specs.{Chain.{HashedLink, IsHashedChain}, Config.{ChainConfig, hash_name}, Meaning.{AreAlone, IsAlone}}
 use Rattle.domain_nsec3.specs.Owners.{is_empty, is_original_owner, nsec3_lists, original_owners}
 use Rattle.domain_checker.specs.HashedEncloser.{Encloser, IsEncloser, IsFoundEncloser, IsOfName, encloser_is_cut}
@@ -22,7 +22,7 @@ use Rattle.domain_checker.specs.HashedVerdict.{is_covered, proves, hashed_proved
 use Rattle.domain_checker.specs.{Verdict.{closest_encloser, IsWithin}, declared.verdict.Verdict.Verdict}
 use Rattle.domain_checker.specs.declared.verdict.Verdict.TheVariants.{BelowDelegation, NotProven}
 use Rattle.domain_checker.proofs.{CutLemmas.{below_cut, cut_above, cut_apart, not_below}, DefiniteLemmas.{choose, definite_proven, is_definite}}
-use Rattle.domain_checker.proofs.EncloserLemmas.{apex_from, closest_is, cut_same, exists_above, exists_same, same_count}
+use Rattle.domain_checker.proofs.EncloserLemmas.{apex_from, closest_is, cut_same, exists_above, exists_same, same_count, shorter_above}
 use Rattle.domain_checker.proofs.HashedEncloserLemmas.{by_encloser, cover_denies, cut_counted, empty_lists, match_is_empty, match_is_of_name}
 use Rattle.domain_checker.proofs.{HashedListLemmas.{covered_in, matched_in}, HashedWalkLemmas.{closer_is, matched_same}}
 
@@ -46,17 +46,10 @@ module _ (L : List ZoneRecord) (a : Name) (config : ChainConfig) (links : List H
         elim (cases_Bool (same_name en x)) [
           | inl s ↦ rw (told, s) refl
           | inr s ↦
-              let closer = closer_is x en closest.above (shorter s) in
+              let closer = closer_is x en closest.above (shorter_above x en closest.above s) in
               let gap = covered_in L a config links facts listed has (next_closer x en)
               (tells.next (next_closer x en) (record { above = closer.above; below = closer.below; longer = closer.long })) in
               rw (told, gap, or_true (same_name en x || is_zone_cut L a en)) refl
-        ]
-      where
-        shorter : same_name (closest_encloser owners a x) x ≡ false → length (closest_encloser owners a x) < length x
-        shorter s = elim (cases_lt (length (closest_encloser owners a x)) (length x)) [
-          | inl h ↦ h
-          | inr h ↦ absurd (false≢true (sym s ∙ same_back x (closest_encloser owners a x)
-              (same_length x (closest_encloser owners a x) (closest_of x low).above h)))
         ]
 
   -- a zone cut that exists is one of the chain
@@ -153,7 +146,7 @@ module _ (L : List ZoneRecord) (a : Name) (config : ChainConfig) (links : List H
 
       module _ (s : same_name is.name x ≡ false) where
         long : length is.name < length x
-        long = grind (arith, common_steps)
+        long = shorter_above x is.name is.first.above s
 
         -- below a zone cut
         at_cut : encloser_is_cut a e ≡ true → BelowDelegation ≡ proved

@@ -1,6 +1,6 @@
 -- What the laws of chains say of the records of one, whether it keeps what stands below a DNAME or not.
-use Rattle.std.proofs.Common.{◌≡◌, ℕ, ◌<◌, Bool, true, false, not, ◌&&◌, List, length, sym, ap, ◌∙◌, subst, inl, inr, ◌⊎◌, Some, None, slice_get}
-use Rattle.std.proofs.{Common.arith, lemmas.{Bool.{cases_Bool, false≢true, and_parts, and_from, or_right, not-true}, List.Elements.recursion_from_All}}
+use Rattle.std.proofs.Common.{◌≡◌, ℕ, ◌<◌, Bool, true, false, not, ◌&&◌, List, length, sym, ap, ◌∙◌, subst, inl, inr, ◌⊎◌, Some, None, slice_get, arith}
+use Rattle.std.proofs.lemmas.{Bool.{cases_Bool, false≢true, and_parts, and_from, or_right, false_from_ne_true}, List.Elements.recursion_from_All}
 use Rattle.std.{proofs.lemmas.Grind.common_steps, specs.List.{find, list_any}}
 use Rattle.domain_names.specs.{Name.{is_at_or_below, is_strictly_below, lowered, same_name}, Order.before, Words.Name}
 use Rattle.domain_base.specs.Types.{ns}
@@ -9,10 +9,12 @@ use Rattle.domain_zone.specs.{Covering.{matches, covers, matches_or_covers}, Enc
 use Rattle.domain_zone.specs.Zone.{ZoneRecord, OwnersNeverDescend, has_type, is_zone_cut, occludes, owns, is_occluded, is_unoccluded, unoccluded_owners}
 use Rattle.domain_zone.proofs.{NameLemmas.{one_lowered, same_itself, same_is, below_itself, lowered_below}, PairLemmas.{In, all_in}}
 use Rattle.domain_zone.proofs.{OwnerLemmas.{any_in, in_any, below_occluder}, FindLemmas.{Stands, any_none, find_none, find_some, in_at, in_map, in_pairs}}
+use Rattle.domain_zone.proofs.SharedLemmas.{either_way}
 use Rattle.domain_nsec.specs.{Chain.{Link, IsChain, is_listed, nsec_lists}, Meaning.{IsCycle, MirrorsZone, TellsEmpty, TellsEncloser, CoversBelowOccluders}}
 use Rattle.domain_nsec.specs.declared.config.GenerateNsecConfig.{GenerateNsecConfig}
 use Rattle.domain_checker.specs.{Verdict.{closest_encloser, has_match_or_cover, is_inside}, Reading.{is_at_cut, is_cover, is_match}}
-use Rattle.domain_checker.proofs.EncloserLemmas.{closest_is, closest_alike, top_occluder, occluded_same, occludes_same, owner_unoccluded, owner_owns}
+use Rattle.domain_checker.proofs.EncloserLemmas.{closest_is, closest_alike, top_occluder, occluded_same, occludes_same, owner_high}
+use Rattle.domain_checker.proofs.EncloserLemmas.{owner_unoccluded, owner_owns}
 
 -- the public laws of chains
 pub record ChainLaws : Type 0 where
@@ -119,7 +121,7 @@ module _ (below_dname : Bool) (L : List ZoneRecord) (a : Name) (assume : Bool) (
     matched_low = ap (λ q. lowered_below q (lowered a)) (sym (one_lowered k.owner x matched_same)) ∙ owner_low k.owner (ends k i).0
 
     pub matched_high : is_occluded below_dname L a x ≡ false
-    matched_high = grind (arith, common_steps, and_parts, owner_unoccluded, ends, occluded_same, matched_same)
+    matched_high = sym (occluded_same below_dname L a k.owner x matched_same) ∙ owner_high below_dname L a k.owner (ends k i).0
 
   -- ---- a cover
 
@@ -136,15 +138,10 @@ module _ (below_dname : Bool) (L : List ZoneRecord) (a : Name) (assume : Bool) (
     covered_unowned high = grind (arith, common_steps, says)
 
     pub covered_no_owner : list_any (λ n. same_name n x) (unoccluded_owners below_dname L a) ≡ false
-    covered_no_owner =
-        elim (cases_Bool (list_any (λ n. same_name n x) owners)) [
-          | inl e ↦
-              let m = any_in (λ n. same_name n x) owners e in
-              let free = and_parts (is_at_or_below m.0 a) (not (is_occluded below_dname L a m.0)) (owner_unoccluded below_dname L a m.0 m.1) in
-              let high = sym (occluded_same below_dname L a m.0 x m.2) ∙ not-true (is_occluded below_dname L a m.0) free.1 in
-              absurd (false≢true (sym (covered_unowned high) ∙ owner_owns below_dname L a m.0 x m.1 m.2))
-          | inr e ↦ e
-        ]
+    covered_no_owner = false_from_ne_true (list_any (λ n. same_name n x) owners) (λ e.
+        let m = any_in (λ n. same_name n x) owners e in
+        let high = sym (occluded_same below_dname L a m.0 x m.2) ∙ owner_high below_dname L a m.0 m.1 in
+        false≢true (sym (covered_unowned high) ∙ owner_owns below_dname L a m.0 x m.1 m.2))
 
     -- the record of the highest occluder covers all names strictly below it
     pub covered_under : (o : Name) → occludes below_dname L a o ≡ true → is_unoccluded below_dname L a o ≡ true → is_strictly_below x o ≡ true
@@ -155,21 +152,16 @@ module _ (below_dname : Bool) (L : List ZoneRecord) (a : Name) (assume : Bool) (
     pub covered_occluded : (told : Bool) → told ≡ occludes below_dname L a k.owner
         → (is_at_or_below x k.owner && told) ≡ is_occluded below_dname L a x
     covered_occluded told is =
-        elim (cases_Bool (is_occluded below_dname L a x)) [
-          | inl e ↦
-              let top = top_occluder below_dname L a x e in
-              let s = covered_under top.0.name top.0.over top.1 top.0.under in
-              let under = (and_parts (is_at_or_below x top.0.name) (not (same_name x top.0.name)) top.0.under).0 in
-              and_from (is_at_or_below x k.owner) told
-              (ap (lowered_below (lowered x)) (one_lowered k.owner top.0.name s) ∙ under)
-              (is ∙ occludes_same below_dname L a k.owner top.0.name s ∙ top.0.over)
-              ∙ sym e
-          | inr e ↦
-              let apart : same_name x k.owner ≡ false =
-              grind (arith, common_steps, other, (same_is k.owner x), (same_itself k.owner x), (one_lowered x k.owner)) in
-              let below = below_occluder below_dname L a k.owner x in
-              grind (arith, common_steps)
-        ]
+        let apart : same_name x k.owner ≡ false =
+        grind (arith, common_steps, other, (same_is k.owner x), (same_itself k.owner x), (one_lowered x k.owner)) in
+        either_way (is_at_or_below x k.owner && told) (is_occluded below_dname L a x)
+        (λ h. grind (arith, common_steps, (below_occluder below_dname L a k.owner x)))
+        (λ e.
+        let top = top_occluder below_dname L a x e in
+        let s = covered_under top.0.name top.0.over top.1 top.0.under in
+        let under = (and_parts (is_at_or_below x top.0.name) (not (same_name x top.0.name)) top.0.under).0 in
+        and_from (is_at_or_below x k.owner) told (ap (lowered_below (lowered x)) (one_lowered k.owner top.0.name s) ∙ under)
+        (is ∙ occludes_same below_dname L a k.owner top.0.name s ∙ top.0.over))
 
     -- the closest encloser has as many labels as the longer of the names that x shares with the record's
     pub covered_encloser : length (longer (shared x k.owner) (shared x k.next)) ≡ length (closest_encloser (unoccluded_owners below_dname L a) a x)

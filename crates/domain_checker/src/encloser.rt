@@ -1,5 +1,5 @@
 //! The closest encloser of a name, as NSEC3 records tell it.
-ghost use Rattle.std.specs.Prelude.{◌≡◌, ◌≤◌, ◌⊎◌, ℕ, Ok, Err, None, false, length, drop, IfOk, IfErr, IsErrOf};
+ghost use Rattle.std.specs.Prelude.{◌≡◌, ◌⊎◌, ℕ, Ok, Err, None, false, IfOk, IfErr, IsErrOf};
 ghost use Rattle.std.specs.Option.{option_map};
 ghost use Rattle.domain_names.specs.Name.{is_at_or_below, lowered, wire_of};
 ghost use Rattle.domain_nsec3.specs.Config.{hash_name};
@@ -66,15 +66,6 @@ fn look_up<'a, A: ToName, O: Octets, N: ToName, H: Nsec3Hasher>(
     Ok(find_hash(apex, param, records.nsec3s.as_slice(), hash.as_slice()))
 }
 
-/// The octets without the first ones.
-fn skip(octets: &[u8], count: usize) -> &[u8]
-    requires { count ≤ length octets.now }
-    ensures { result.now ≡ drop count octets.now }
-{
-    let (_, rest) = octets.split_at(count);
-    rest
-}
-
 /// What NSEC3 records tell of the closest encloser of a name (RFC 5155, section 8.3). None where
 /// they match neither the name nor an ancestor at or below the apex, or where the name is not at or
 /// below the apex.
@@ -137,7 +128,7 @@ pub fn find_nsec3_encloser<'a, A: ToName, O: Octets, N: ToName, M: ToName, H: Ns
         let Some((label, above)) = left.split_first() else {
             unreachable!();
         };
-        octets = skip(octets, label.len() + 1);
+        octets = &octets[label.len() + 1..];
         left = above;
     }
 }

@@ -1,10 +1,9 @@
 //! What NSEC3 records say of hashes.
-ghost use Rattle.std.specs.Prelude.{◌≡◌, None, Some, if◌then◌else◌};
-ghost use Rattle.std.specs.Option.{option_map, option_or};
-ghost use Rattle.domain_zone.specs.Covering.{covers, matches};
+ghost use Rattle.std.specs.{Prelude.◌≡◌, Option.option_map};
+ghost use Rattle.domain_zone.specs.Covering.{covers};
 ghost use Rattle.domain_nsec3.specs.Meaning.{octets_before};
-ghost use Rattle.domain_nsec3.specs.View.{as_hashed_link, hashed_links_of, parameters_in, parameters_of};
-ghost use Rattle.domain_checker.specs.HashedList.{same_parameters, read_label, owner_hash, is_some_with};
+ghost use Rattle.domain_nsec3.specs.View.{as_hashed_link, hashed_links_of, parameters_of};
+ghost use Rattle.domain_checker.specs.HashedList.{read_label, owner_hash};
 ghost use Rattle.domain_checker.specs.HashedPass.{found_match, found_cover, IsFound};
 
 use crate::spelled::{is_spelling, spelled_cmp};
@@ -25,15 +24,6 @@ pub enum Nsec3Found<'a, O: Octets, N: ToName> {
     NoMatch(Option<&'a Record<N, Nsec3<O>>>),
 }
 
-/// Whether a record's names are hashed with these parameters.
-fn has_parameters<O: Octets>(nsec3: &Nsec3<O>, param: &Nsec3param<O>) -> bool
-    ensures { result ≡ same_parameters (parameters_in nsec3.now) (parameters_of param.now) }
-{
-    (nsec3.hash_algorithm() == param.hash_algorithm())
-        & (nsec3.iterations() == param.iterations())
-        & (nsec3.salt().as_slice() == param.salt().as_slice())
-}
-
 /// The label that spells the hash at which a record stands. None where the record has other
 /// parameters, or an owner of another form.
 fn hash_label<'a, A: ToName, O: Octets, N: ToName>(
@@ -49,7 +39,11 @@ fn hash_label<'a, A: ToName, O: Octets, N: ToName>(
     let Some((label, above)) = owner.split_first() else {
         return None;
     };
-    if !has_parameters(listed.data(), param) {
+    let nsec3 = listed.data();
+    let same = (nsec3.hash_algorithm() == param.hash_algorithm())
+        & (nsec3.iterations() == param.iterations())
+        & (nsec3.salt().as_slice() == param.salt().as_slice());
+    if !same {
         return None;
     }
     if !(above.name_eq(apex) & is_spelling(label)) {

@@ -32,9 +32,6 @@ returns-then-name_eq-clause-found g c =
     none_left _ _ _ _ (missed_there _ _ _ _ c.names.invariant.reached _ c.names.invariant.wire _ (rw c.in-NoMatch.is at c.in_ok-matching.ensures.ok))
     (sym c.name_eq.ensures.value ∙ c.if-name_eq.true)
 
-pub skip-octets-requires : goal.skip-octets-requires
-skip-octets-requires g c = grind (arith, common_steps)
-
 pub names-preserved : goal.names-preserved
 names-preserved g c = record {
   wire = grind (arith, common_steps, wire_above);
