@@ -80,13 +80,11 @@ module _ (L : List ZoneRecord) (a : Name) (config : ChainConfig) where
   ns_listed n = grind (arith, common_steps, typed_owns)
 
   -- an original owner name has RRSIG or NS
-  some_listed : (n : Name) → owns L n ≡ true → (nsec3_lists L a config n rrsig ≡ true) ⊎ (nsec3_lists L a config n ns ≡ true)
-  some_listed n o = grind (arith, common_steps)
-
-  original_owns : (x : Name) → is_original_owner L a config x ≡ true → owns L x ≡ true
-  original_owns x h =
+  some_listed : (x : Name) → is_original_owner L a config x ≡ true → (nsec3_lists L a config x rrsig ≡ true) ⊎ (nsec3_lists L a config x ns ≡ true)
+  some_listed x h =
       let m = any_in _ _ h in
-      owner_owns _ L a m.0 x (in_filter _ _ m.0 m.1).0 m.2
+      let owned : owns L x ≡ true = owner_owns _ L a m.0 x (in_filter _ _ m.0 m.1).0 m.2 in
+      grind (arith, common_steps)
 
   -- a name of the chain that is no original owner lists nothing
   pub empty_lists : (x : Name) → is_chain_name L a config x ≡ true → is_original_owner L a config x ≡ false → (t : ℕ) → nsec3_lists L a config x t ≡ false
@@ -97,7 +95,7 @@ module _ (L : List ZoneRecord) (a : Name) (config : ChainConfig) where
   any_listed x known = by (is_original_owner L a config x) refl
     where
       by : (b : Bool) → is_original_owner L a config x ≡ b → list_any (nsec3_lists L a config x) (range_with_len 0 65536) ≡ b
-      by true e = elim (some_listed x (original_owns x e)) [
+      by true e = elim (some_listed x e) [
         | inl h ↦ any_at (nsec3_lists L a config x) 65536 rrsig (omega arith) h
         | inr h ↦ any_at (nsec3_lists L a config x) 65536 ns (omega arith) h
       ]

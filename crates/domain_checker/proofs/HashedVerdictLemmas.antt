@@ -33,6 +33,9 @@ module _ (L : List ZoneRecord) (a : Name) (config : ChainConfig) (links : List H
   closest_of : (x : Name) → is_at_or_below x a ≡ true → IsClosestEncloser owners a x (closest_encloser owners a x)
   closest_of x low = let e = facts.tells.encloser x low in closest_is owners a x (apex_from owners a e.0 e.1.found) low
 
+  closest_low : (x : Name) → is_at_or_below x a ≡ true → is_at_or_below (closest_encloser owners a x) a ≡ true
+  closest_low x low = (and_parts _ (list_any (λ n. is_at_or_below n (closest_encloser owners a x)) owners) (closest_of x low).found).0
+
   -- a list that has every record of the chain proves all
   module _ (listed : List HashedLink) (among : (k : HashedLink) → In k listed → Stands links k) (x : Name) (low : is_at_or_below x a ≡ true)
       (free : AreAlone L a config x) where
@@ -40,9 +43,8 @@ module _ (L : List ZoneRecord) (a : Name) (config : ChainConfig) (links : List H
     whole_proves has =
         let en = closest_encloser owners a x in
         let closest = closest_of x low in
-        let en_low = (and_parts (is_at_or_below en a) (list_any (λ n. is_at_or_below n en) owners) closest.found).0 in
         let tells = facts.tells.each x en low free closest in
-        let told = matched_in L a config links facts listed has en (tells.runs en closest.above en_low (below_itself en)) in
+        let told = matched_in L a config links facts listed has en (tells.runs en closest.above (closest_low x low) (below_itself en)) in
         elim (cases_Bool (same_name en x)) [
           | inl s ↦ rw (told, s) refl
           | inr s ↦
@@ -72,9 +74,6 @@ module _ (L : List ZoneRecord) (a : Name) (config : ChainConfig) (links : List H
 
     closest : IsClosestEncloser owners a x en
     closest = closest_of x low
-
-    en_low : is_at_or_below en a ≡ true
-    en_low = (and_parts (is_at_or_below en a) (list_any (λ n. is_at_or_below n en) owners) closest.found).0
 
     alone_at : (y : Name) → is_at_or_below x y ≡ true → is_at_or_below y a ≡ true → (v : Octets) → hash_name config.hash y ≡ Ok v → IsAlone L a config y v
     alone_at y up in_zone v known = grind (arith, common_steps)
@@ -201,7 +200,7 @@ module _ (L : List ZoneRecord) (a : Name) (config : ChainConfig) (links : List H
               rw (en_matched same, en_x same ∙ s, en_cut same ∙ c, en_next same ∙ covered, uncut same, other, gone same, denied.flags, labels same, low) refl
 
     found_proved : (found : Option Encloser) → IsFoundEncloser R x found → found_verdict a found (length x) t ≡ proved
-    found_proved None is = rw (low, (is en closest.above en_low).2) refl
+    found_proved None is = rw (low, (is en closest.above (closest_low x low)).2) refl
     found_proved (Some e) is = by_encloser R x e is t (λ v. v ≡ proved) (at_name e is) (at_cut e is) (at_gap e is) (at_cover e is)
 
 -- ---- lists from anywhere

@@ -35,14 +35,11 @@ is_match a x k = matches before k.owner x && is_inside a k
 abbrev pub is_cover : Name → Name → Link → Bool
 is_cover a x k = covers before k.owner k.next x && is_inside a k
 
-abbrev pub verdict_of_cover : Name → Name → Option Link → Verdict
-verdict_of_cover a x None = NotProven
-verdict_of_cover a x (Some k) = cover_verdict a k x
-
 -- a match counts before a cover
 abbrev pub verdict_of_both : Name → Name → ℕ → Option Link → Option Link → Verdict
-verdict_of_both a x t None covering = verdict_of_cover a x covering
 verdict_of_both a x t (Some k) covering = match_verdict a k t
+verdict_of_both a x t None (Some k) = cover_verdict a k x
+verdict_of_both a x t None None = NotProven
 
 -- what a list of records says of a name at or below the apex: of matches and of covers the first
 -- counts

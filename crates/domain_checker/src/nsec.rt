@@ -1,9 +1,8 @@
 //! What records of an NSEC chain prove.
 ghost use Rattle.std.specs.Prelude.{◌≡◌, ◌≢◌, true, length};
 ghost use Rattle.domain_names.specs.Name.{is_at_or_below};
-ghost use Rattle.domain_names.specs.Order.{before, canonical_cmp};
+ghost use Rattle.domain_names.specs.Order.{canonical_cmp};
 ghost use Rattle.domain_names.specs.Words.{Name};
-ghost use Rattle.domain_zone.specs.Covering.{covers};
 ghost use Rattle.domain_nsec.specs.ChainView.{as_link, links_of};
 ghost use Rattle.domain_checker.specs.Verdict.{HasProof, IsProved, IsWithin};
 ghost use Rattle.domain_checker.specs.Reading.{cover_verdict, is_cover, is_match, match_verdict, reading};
@@ -16,23 +15,6 @@ use domain_chain_rdata::Nsec;
 use domain_octets::Octets;
 use domain_record::Record;
 use std::cmp::Ordering;
-
-/// Whether the owner and the next name cover the name: it lies between the two, or on either side
-/// of them where the next name is not after the owner. `order` is the canonical order of the owner
-/// and the name.
-#[tactic(auto, using(crate::proofs::FirstLemmas::match_is_tie))]
-fn covers<N: ToName, M: ToName>(order: Ordering, owner: &N, next: &N, name: &M) -> bool
-    requires { order ≡ canonical_cmp (N.labels owner.now) (M.labels name.now) }
-    ensures { result ≡ covers before (N.labels owner.now) (N.labels next.now) (M.labels name.now) }
-{
-    if order.is_eq() {
-        return false;
-    }
-    if is_before(owner, next) {
-        return order.is_lt() && is_before(name, next);
-    }
-    order.is_lt() || is_before(name, next)
-}
 
 /// Whether the record is not passed over and its owner is the name, by the canonical order of the
 /// two.
@@ -48,8 +30,10 @@ pub(crate) fn is_match<A: ToName, O: Octets, N: ToName>(
     order.is_eq() && is_inside(apex, listed)
 }
 
-/// Whether the record is not passed over and covers the name. `order` is the canonical order of its
-/// owner and the name.
+/// Whether the record is not passed over and covers the name: it lies between the owner and the
+/// next name, or on either side of them where the next name is not after the owner. `order` is the
+/// canonical order of the owner and the name.
+#[tactic(auto, using(crate::proofs::FirstLemmas::match_is_tie))]
 pub(crate) fn is_cover<A: ToName, O: Octets, N: ToName, M: ToName>(
     apex: &A,
     order: Ordering,
@@ -60,7 +44,14 @@ pub(crate) fn is_cover<A: ToName, O: Octets, N: ToName, M: ToName>(
     ensures { result ≡ is_cover (A.labels apex.now) (M.labels name.now)
         (as_link N.labels listed.now) }
 {
-    covers(order, listed.owner(), listed.data().next_name(), name) && is_inside(apex, listed)
+    let next = listed.data().next_name();
+    if order.is_eq() {
+        return false;
+    }
+    if is_before(listed.owner(), next) {
+        return order.is_lt() && is_before(name, next) && is_inside(apex, listed);
+    }
+    (order.is_lt() || is_before(name, next)) && is_inside(apex, listed)
 }
 
 /// What a record says of its owner.
