@@ -1,6 +1,6 @@
 -- The first of a name and its ancestors that exists is its closest encloser, and an occluded name is below a name that occludes and is not occluded itself.
 use Rattle.std.proofs.Common.{◌≡◌, ℕ, ◌<◌, ◌≤◌, Bool, zero, suc, true, false, not, List, [], ◌∷◌, map, length, refl, sym, ap, ◌∙◌, inl, inr, arith}
-use Rattle.std.proofs.lemmas.{Bool.{cases_Bool, false≢true, and_parts, and_from, cases_lt}, List.length-map, Grind.common_steps}
+use Rattle.std.proofs.lemmas.{Bool.{cases_Bool, false_from_ne_true, false≢true, and_parts, and_from}, List.length-map, Grind.common_steps}
 use Rattle.std.specs.{Char.to_ascii_lowercase}
 use Rattle.domain_names.specs.{Name.{is_at_or_below, is_strictly_below, same_name}, Words.Name}
 use Rattle.domain_zone.specs.Enclosers.{IsClosestEncloser, exists_over}
@@ -54,10 +54,8 @@ module _ (names : List Name) (a : Name) where
       -- an ancestor that exists is one of the parent
       higher : (d : Name) → exists_over names a d ≡ true → exists_over names a (l ∷ x) ≡ false → is_at_or_below (l ∷ x) d ≡ true → is_at_or_below x d ≡ true
       higher d g f q =
-          elim (cases_lt (length x) (length d)) [
-            | inl h ↦ absurd (false≢true (sym f ∙ exists_same (l ∷ x) d (same_length (l ∷ x) d q (omega arith)) ∙ g))
-            | inr h ↦ below_longer (l ∷ x) x d (below_parent l x) q h
-          ]
+          let other = false_from_ne_true (same_name d (l ∷ x)) (λ s. false≢true (sym f ∙ sym (exists_same d (l ∷ x) s) ∙ g)) in
+          below_longer (l ∷ x) x d (below_parent l x) q (omega (arith, shorter_above (l ∷ x) d q other))
 
   -- closest enclosers have as many labels
   pub closest_alike : (x e d : Name) → IsClosestEncloser names a x e → IsClosestEncloser names a x d → length e ≡ length d

@@ -13,9 +13,6 @@ pub record IsCompared (label hash left : Octets) (scale rest at : ℕ) : Type 0 
   pub below : rest < scale
   pub order : slice_cmp nat_cmp (base32_octets scale rest (base32_digits (drop at label))) left ≡ slice_cmp nat_cmp (read_label label) hash
 
-pub compared_first : (label hash : Octets) → IsCompared label hash hash 1 0 0
-compared_first label hash = record { scale_is = no_bits; below = omega arith; order = refl }
-
 -- the digit d there
 module _ (label hash left : Octets) (scale rest at d : ℕ) (inside : at < length label) (is : d ≡ digit_at label at) (small : d < 32)
     (so_far : IsCompared label hash left scale rest at) where

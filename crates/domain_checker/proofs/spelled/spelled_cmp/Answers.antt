@@ -1,10 +1,11 @@
-use Rattle.std.{proofs.{Common.{◌≡◌, ◌*◌, ◌+◌, ◌/◌, ◌∙◌, false, arith}, lemmas.Grind.common_steps}, specs.Ordering.{is_ne, nat_cmp}}
-use Rattle.domain_checker.proofs.SpelledLemmas.{compared_apart, compared_end, compared_first, compared_narrow, compared_none, compared_wide}
+use Rattle.std.{proofs.{Common.{◌≡◌, ◌*◌, ◌+◌, ◌/◌, ◌∙◌, false, refl, arith}, lemmas.Grind.common_steps}, specs.Ordering.{is_ne, nat_cmp}}
+use Rattle.domain_codecs.proofs.Scale.{no_bits}
+use Rattle.domain_checker.proofs.SpelledLemmas.{compared_apart, compared_end, compared_narrow, compared_none, compared_wide}
 use Rattle.domain_checker.proofs.spelled.spelled_cmp.Goals as goal
 use Rattle.domain_checker.proofs.spelled.spelled_cmp.Goals.{then-wider-lt256, else-wider-lt256+in-Some+else-is_ne}
 
 pub loop-c-init : goal.loop-c-init
-loop-c-init c = compared_first c.args.label.now c.args.hash.now
+loop-c-init c = record { scale_is = no_bits; below = omega arith; order = refl }
 
 pub returns-in_default : goal.returns-in_default
 returns-in_default c =
