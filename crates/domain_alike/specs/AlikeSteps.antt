@@ -1,11 +1,13 @@
--- The steps by which names that hash alike are found.
-use Rattle.std.specs.Prelude.{◌≡◌, ℕ, Bool, false, List, [], ◌∷◌, ◌++◌, length, nat_lt, Option, Some, None, Ok, Err, if◌then◌else◌}
+-- The names of a list that hash alike, and how they are found.
+use Rattle.std.specs.Prelude.{◌≡◌, ◌⊎◌, ℕ, Bool, true, false, List, [], ◌∷◌, ◌++◌, filter, length, nat_lt, Option, Some, None, Ok, Err, Vec, if◌then◌else◌}
 use Rattle.std.specs.BTreeMap as tree
-use Rattle.std.specs.{Cmp.Lexicographic.slice_cmp, List.{find, AllByRecursion}, Ordering.{is_eq, nat_cmp}}
+use Rattle.std.specs.{BTreeMap.BTreeMap, Cmp.Lexicographic.slice_cmp, List.{find, flat_map, list_any, AllByRecursion}, Ordering.{is_eq, nat_cmp}}
 use Rattle.domain_octets.specs.Words.{Octets}
-use Rattle.domain_names.specs.Words.{Name}
+use Rattle.domain_names.specs.{Name.same_name, Order.before, Words.Name}
+use Rattle.domain_hasher.specs.declared.error.Nsec3HashError.{Nsec3HashError}
+use Rattle.domain_hasher.specs.declared.error.Nsec3HashError.TheVariants as hash_error
 use Rattle.domain_nsec3.specs.{Ancestors.above_with_more, Config.{Hash, HashAnswer, hash_name}}
-use Rattle.domain_alike.specs.{Alike.Pair, declared.alike.FirstNames.FirstNames}
+use Rattle.domain_alike.specs.Alike.{Pair}
 
 -- a name and those above it that have more than so many labels, the shortest first
 abbrev pub up_with_more : ℕ → Name → List Name
@@ -16,33 +18,42 @@ abbrev pub is_hash : HashAnswer → Octets → Bool
 is_hash (Ok g) h = is_eq (slice_cmp nat_cmp g h)
 is_hash (Err n) h = false
 
--- the first of these names that has this hash
-abbrev pub first_with : Hash → List Name → Octets → Option Name
-first_with hash names h = find (λ n. is_hash (hash_name hash n) h) names
+-- the first of these names that has the hash, where the answer is one
+abbrev pub first_with : Hash → List Name → HashAnswer → Option Name
+first_with hash names (Ok h) = find (λ n. is_hash (hash_name hash n) h) names
+first_with hash names (Err n) = None
 
 -- the map has of each hash the first of these names
-abbrev pub AreFirstNames : Hash → List Name → FirstNames → Type 0
+abbrev pub AreFirstNames : {A : Type 0} → Hash → List Name → BTreeMap (Vec ℕ A) Name → Type 0
 AreFirstNames hash names firsts =
-    (h : Octets) → tree.get (slice_cmp nat_cmp) firsts.map h ≡ first_with hash names h
+    (k : Vec ℕ _) → tree.get (λ x y. slice_cmp nat_cmp x.items y.items) firsts k
+    ≡ first_with hash names (Ok k.items)
+
+-- of these names the first before this one that has its hash
+abbrev pub first_before : Hash → List Name → Name → Option Name
+first_before hash names n = first_with hash (filter (λ y. before y n) names) (hash_name hash n)
 
 -- a name with one that has its hash, where there is one
 abbrev pub pair_with : Name → Option Name → List Pair
 pair_with n None = []
 pair_with n (Some first) = (n, first) ∷ []
 
--- these are the pairs of these names, none of which is refused: of all but the last, and then of
--- the last
-pub data Met : Hash → List Name → List Pair → Type 0 where
-  nothing : (hash : Hash) → Met hash [] []
-  more : (hash : Hash) (names : List Name) (pairs : List Pair) (n : Name) (h : Octets)
-      → Met hash names pairs → hash_name hash n ≡ Ok h
-      → Met hash (names ++ n ∷ []) (pairs ++ pair_with n (first_with hash names h))
+abbrev pub IsHashed : Hash → Name → Type 0
+IsHashed hash n = (h : Octets) × (hash_name hash n ≡ Ok h)
+
+-- these are the pairs of some of the names, none of which is refused
+pub record ArePairs (hash : Hash) (names some : List Name) (pairs : List Pair) : Type 0 where
+  pub hashed : AllByRecursion (IsHashed hash) some
+  pub are : pairs ≡ flat_map (λ n. pair_with n (first_before hash names n)) some
 
 -- the first of these names that is refused
 pub record IsRefusedAmong (hash : Hash) (names : List Name) (number : ℕ) : Type 0 where
-  pub front : List Name
   pub name : Name
-  pub back : List Name
-  pub are : names ≡ front ++ name ∷ back
+  pub there : list_any (λ n. same_name n name) names ≡ true
   pub refused : hash_name hash name ≡ Err number
-  pub hashed : AllByRecursion (λ n. (h : Octets) × (hash_name hash n ≡ Ok h)) front
+  pub hashed : AllByRecursion (IsHashed hash) (filter (λ y. before y name) names)
+
+-- no memory, or the refusal of a number
+abbrev pub IsRefusedBy : (ℕ → Type 0) → Nsec3HashError → Type 0
+IsRefusedBy refused e =
+    (e ≡ hash_error.OutOfMemory) ⊎ ((n : ℕ) × (e ≡ hash_error.Hasher n) × refused n)

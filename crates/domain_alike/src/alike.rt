@@ -1,16 +1,16 @@
 //! Which names of a chain hash alike.
 ghost use Rattle.std.specs.Prelude.{◌≡◌, ◌⊎◌, ℕ, ◌++◌, ◌∷◌, [], List, Ok, Err, IfErr, IfOk, OnOk, map, option_map, slice_get};
-ghost use Rattle.domain_names.specs.Words.{Name};
+ghost use Rattle.std.specs.List.Sorted.{IsStrictlySortedBy};
+ghost use Rattle.domain_names.specs.{Order.canonical_cmp, Words.Name};
 ghost use Rattle.domain_nsec3.specs.Config.{Hash, hash_name};
 ghost use Rattle.domain_nsec3.specs.View.{config_of, hash_by, parameters_of};
 ghost use Rattle.domain_records.specs.Order.{IsInOrder};
 ghost use Rattle.domain_hasher.specs.declared.error.Nsec3HashError.TheVariants as hash_error;
 ghost use Rattle.domain_borrowed.specs.Data.{zone_of_raw};
 ghost use Rattle.domain_alike.specs.Alike.{pair_of, AreAlike, IsFirstPair, IsFirstRefusal};
-ghost use Rattle.domain_alike.specs.AlikeSteps.{first_with, pair_with, AreFirstNames, IsRefusedAmong, Met};
+ghost use Rattle.domain_alike.specs.AlikeSteps.{first_with, pair_with, AreFirstNames, ArePairs, IsRefusedAmong, IsRefusedBy};
 
 use crate::chain_names::chain_names;
-use crate::hash_key::HashKey;
 use domain_base::{MAX_NAME, ParsedName, ToName};
 use domain_borrowed::BorrowedRecord;
 use domain_chain_rdata::Nsec3param;
@@ -29,90 +29,26 @@ pub struct Alike<'a> {
     pub first: ParsedName<'a>,
 }
 
-/// The first name of each hash that came.
-#[derive(Drop)]
-struct FirstNames<'a> {
-    map: BTreeMap<HashKey, ParsedName<'a>>,
-}
-
-impl<'a> FirstNames<'a> {
-    /// None.
-    fn new(alloc: Global) -> Self
-        ensures { (hash : Hash) → AreFirstNames hash [] result }
-    {
-        FirstNames {
-            map: BTreeMap::new(alloc),
-        }
-    }
-
-    /// The first name of a hash.
-    fn get(&self, hash: &HashKey) -> Option<&ParsedName<'a>>
-        ensures { (h : Hash) (names : List Name) → AreFirstNames h names self.now
-            → option_map (λ n. n.now) result ≡ first_with h names hash.now }
-    {
-        self.map.get(hash)
-    }
-
-    /// Takes in a name with its hash, where none of its hash came before.
-    fn put(&mut self, hash: HashKey, name: &ParsedName<'a>) -> Result<(), OutOfMemory>
-        ensures { OnOk result ((h : Hash) (names : List Name)
-            → hash_name h name.now ≡ Ok hash → AreFirstNames h names self.old
-            → AreFirstNames h (names ++ name.now ∷ []) self.new) }
-    {
-        if self.map.get(&hash).is_some() {
-            return Ok(());
-        }
-        self.map.insert(hash, name.try_clone()?)?;
-        Ok(())
-    }
-}
-
-/// The hash of a name.
-///
-/// # Errors
-///
-/// `Hasher` with what the hasher refuses, and `OutOfMemory`.
-fn hash_of<O: Octets, H: Nsec3Hasher>(
-    alloc: Global,
-    name: &ParsedName<'_>,
-    parameters: &Nsec3param<O>,
-    hasher: &H,
-) -> Result<HashKey, Nsec3HashError>
-    ensures ok { IfOk result (λ hash. hash_name (hash_by (H.answer hasher.now)
-        (parameters_of parameters.now)) name.now ≡ Ok hash) }
-    ensures err { IfErr result (λ e. (e ≡ hash_error.OutOfMemory) ⊎ ((n : ℕ)
-        × (e ≡ hash_error.Hasher n)
-        × (hash_name (hash_by (H.answer hasher.now) (parameters_of parameters.now)) name.now
-        ≡ Err n))) }
-{
-    let algorithm = parameters.hash_algorithm();
-    let iterations = parameters.iterations();
-    let salt = parameters.salt().as_slice();
-    let mut buffer = [0; MAX_NAME];
-    let lowered = name.lower_wire(&mut buffer);
-    let hash = hash_wire(alloc, hasher, algorithm, iterations, salt, lowered)?;
-    Ok(HashKey::new(hash))
-}
-
-/// Adds a name with the first that has its hash, where there is one.
-fn push_pair<'a>(
-    pairs: &mut Vec<Alike<'a>>,
+/// The first name that came with this hash; takes in the name as the first where none did.
+fn first_of_hash<'a>(
+    firsts: &mut BTreeMap<Vec<u8>, ParsedName<'a>>,
+    hash: Vec<u8>,
     name: &ParsedName<'a>,
-    first: Option<&ParsedName<'a>>,
-) -> Result<(), OutOfMemory>
-    ensures { OnOk result (map pair_of pairs.new.items ≡ map pair_of pairs.old.items
-        ++ pair_with name.now (option_map (λ n. n.now) first.entry)) }
+) -> Result<Option<ParsedName<'a>>, OutOfMemory>
+    ensures { IfOk result (λ first. (h : Hash) (names : List Name)
+        → hash_name h name.now ≡ Ok hash.items → AreFirstNames h names firsts.old
+        → (first ≡ first_with h names (Ok hash.items))
+        × AreFirstNames h (names ++ name.now ∷ []) firsts.new) }
 {
-    let Some(first) = first else {
-        return Ok(());
-    };
-    let later = name.try_clone()?;
-    let first = first.try_clone()?;
-    pairs.push(Alike { later, first })?;
-    Ok(())
+    if let Some(first) = firsts.get(&hash) {
+        return Ok(Some(first.try_clone()?));
+    }
+    firsts.insert(hash, name.try_clone()?)?;
+    Ok(None)
 }
 
-/// Of these names each that has the hash of one before it, with the first that has it.
+/// Of these names, in canonical order, each that has the hash of one before it, with the first that
+/// has it.
 ///
 /// # Errors
 ///
@@ -123,19 +59,25 @@ fn pairs_of<'a, O: Octets, H: Nsec3Hasher>(
     parameters: &Nsec3param<O>,
     hasher: &H,
 ) -> Result<Vec<Alike<'a>>, Nsec3HashError>
-    ensures ok { IfOk result (λ pairs. Met (hash_by (H.answer hasher.now)
-        (parameters_of parameters.now)) names.now (map pair_of pairs.items)) }
-    ensures err { IfErr result (λ e. (e ≡ hash_error.OutOfMemory) ⊎ ((n : ℕ)
-        × (e ≡ hash_error.Hasher n)
-        × IsRefusedAmong (hash_by (H.answer hasher.now) (parameters_of parameters.now)) names.now
-        n)) }
+    requires { IsStrictlySortedBy canonical_cmp names.now }
+    ensures ok { IfOk result (λ pairs. ArePairs (hash_by (H.answer hasher.now)
+        (parameters_of parameters.now)) names.now names.now (map pair_of pairs.items)) }
+    ensures err { IfErr result (IsRefusedBy (IsRefusedAmong (hash_by (H.answer hasher.now)
+        (parameters_of parameters.now)) names.now)) }
 {
-    let mut firsts = FirstNames::new(alloc);
+    let algorithm = parameters.hash_algorithm();
+    let iterations = parameters.iterations();
+    let salt = parameters.salt().as_slice();
+    let mut firsts = BTreeMap::new(alloc);
     let mut pairs = Vec::new(alloc);
     for name in names {
-        let hash = hash_of(alloc, name, parameters, hasher)?;
-        push_pair(&mut pairs, name, firsts.get(&hash))?;
-        firsts.put(hash, name)?;
+        let mut buffer = [0; MAX_NAME];
+        let lowered = name.lower_wire(&mut buffer);
+        let hash = hash_wire(alloc, hasher, algorithm, iterations, salt, lowered)?;
+        if let Some(first) = first_of_hash(&mut firsts, hash, name)? {
+            let later = name.try_clone()?;
+            pairs.push(Alike { later, first })?;
+        }
     }
     Ok(pairs)
 }

@@ -8,7 +8,6 @@
 
 mod alike;
 mod chain_names;
-mod hash_key;
 mod lowered;
 
 pub use alike::{Alike, alike_names, first_alike};
