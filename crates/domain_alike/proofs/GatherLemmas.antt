@@ -1,18 +1,18 @@
 -- The owners of a list in order and the names above them, gathered one owner after another.
-use Rattle.std.proofs.Common.{◌≡◌, ℕ, ◌<◌, ◌≤◌, Bool, true, false, List, [], ◌∷◌, ◌++◌, length, refl, sym, ap, ◌∙◌, inl, inr, arith}
-use Rattle.std.proofs.lemmas.Bool.{cases_Bool, false≢true, leb-true, and_from, or_left, Decides.nat_tests}
+use Rattle.std.proofs.Common.{◌≡◌, ℕ, ◌<◌, ◌≤◌, true, false, List, [], ◌∷◌, ◌++◌, length, refl, sym, ◌∙◌, arith}
+use Rattle.std.proofs.lemmas.Bool.{false≢true, leb-true, and_from, or_left, Decides.nat_tests}
 use Rattle.std.proofs.lemmas.{List.Elements.recursion_from_All, Grind.common_steps}
 use Rattle.std.specs.{Prelude.{All}, List.{AllByRecursion, list_any, Sorted.IsStrictlySortedBy}}
-use Rattle.domain_names.specs.{Name.{is_at_or_below, lowered, same_name}, Order.{before, canonical_cmp, common_labels}, Words.Name}
-use Rattle.domain_zone.specs.{Enclosers.exists_over, Zone.{ZoneRecord, OwnersNeverDescend}}
+use Rattle.domain_names.specs.{Name.{is_at_or_below, same_name}, Order.{before, canonical_cmp, common_labels}, Words.Name}
+use Rattle.domain_zone.specs.{Enclosers.exists_over, Zone.{ZoneRecord}}
 use Rattle.domain_zone.proofs.NameLemmas.{before_order, below_between, below_from, below_itself, below_length, below_longer, below_parent, below_trans}
-use Rattle.domain_zone.proofs.{NameLemmas.{lowered_below, one_lowered, same_both}, OwnerLemmas.{any_in, ascending_filter, owners_are, owners_ascend}}
-use Rattle.domain_zone.proofs.{PairLemmas.{IsAscending, all_in, le_lt}, SharedLemmas.either_way, ZoneLemmas.{all_both, all_filter, after_or, weaker}}
-use Rattle.domain_nsec3.specs.{Ancestors.{above_with_more, IsListOf}, Config.{ChainConfig, excludes}}
-use Rattle.domain_nsec3.specs.Owners.{is_chain_name, is_original_owner, original_owners}
+use Rattle.domain_zone.proofs.{NameLemmas.{one_lowered, same_both}, OwnerLemmas.{any_in}}
+use Rattle.domain_zone.proofs.{PairLemmas.{IsAscending, all_in, le_lt}, SharedLemmas.either_way, ZoneLemmas.{all_both, after_or, weaker}}
+use Rattle.domain_nsec3.specs.{Ancestors.{above_with_more, IsListOf}, Config.{ChainConfig}}
+use Rattle.domain_nsec3.specs.Owners.{is_chain_name, original_owners}
 use Rattle.domain_nsec3.proofs.{AncestorLemmas.{are_above, has_each}, ListLemmas.{sorted, ascending, ascending_both}, OwnerLemmas.existing_are}
 use Rattle.domain_nsec3.proofs.{OutcomeLemmas.original_below, SharedLemmas.{common_shares, cons_below}}
-use Rattle.domain_alike.specs.{AlikeSteps.up_with_more, Covered.covered_names}
+use Rattle.domain_alike.specs.{AlikeSteps.up_with_more}
 
 -- ---- a name and those above it, which are those above a name with one label more
 
@@ -97,32 +97,12 @@ gathered_all a owners order below some = record {
         rw (← one_lowered n.0 x n.2) (all_in (λ n. exists_over owners a n ≡ true) (a ∷ gathered_up a owners) n.0
         (and_from _ _ (below_itself a) (first owners some all), gathered_exist a a owners (below_itself a) all) n.1)
 
--- ---- the owners of a chain
-
-pub covered_sorted : (w d : Bool) (L : List ZoneRecord) (a : Name) → OwnersNeverDescend L → IsStrictlySortedBy canonical_cmp (covered_names w d L a)
-covered_sorted w d L a order = grind (arith, common_steps, sorted, ascending_filter, owners_ascend)
-
-pub covered_below : (w d : Bool) (L : List ZoneRecord) (a : Name) → All (λ n. is_at_or_below n a ≡ true) (covered_names w d L a)
-covered_below w d L a = grind (arith, common_steps, all_filter, owners_are)
-
 -- ---- the names of a chain
 
 module _ (L : List ZoneRecord) (a : Name) (config : ChainConfig) where
   -- no name outside of the zone is one
   outside : (x : Name) → is_at_or_below x a ≡ false → is_chain_name L a config x ≡ false
-  outside x out =
-      let low = recursion_from_All _ (original_owners L a config) (original_below L a config) in
-      elim (cases_Bool (is_original_owner L a config x)) [
-        | inl own ↦
-            let n = any_in (λ n. same_name n x) (original_owners L a config) own in
-            let under = all_in (λ n. is_at_or_below n a ≡ true) (original_owners L a config) n.0 low n.1 in
-            absurd (false≢true (sym out ∙ ap (λ k. lowered_below k (lowered a)) (sym (one_lowered n.0 x n.2)) ∙ under))
-        | inr none ↦ grind (arith, common_steps)
-      ]
+  outside x out = grind (arith, common_steps, any_in, all_in, one_lowered, (recursion_from_All (λ n. is_at_or_below n a ≡ true) _ (original_below L a config)))
 
-  exists_is : (x : Name) → exists_over (original_owners L a config) a x ≡ is_chain_name L a config x
+  pub exists_is : (x : Name) → exists_over (original_owners L a config) a x ≡ is_chain_name L a config x
   exists_is x = grind (arith, common_steps, existing_are, outside)
-
-  pub listed_names : (w d : Bool) → excludes config ≡ w → config.occlude_below_dname ≡ d → (owners names : List Name)
-      → owners ≡ covered_names w d L a → IsListOf (exists_over owners a) names → IsListOf (is_chain_name L a config) names
-  listed_names w d left_out below owners names are list = grind (arith, common_steps, exists_is)

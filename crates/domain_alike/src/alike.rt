@@ -1,5 +1,5 @@
 //! Which names of a chain hash alike.
-ghost use Rattle.std.specs.Prelude.{◌≡◌, ◌⊎◌, ℕ, ◌++◌, ◌∷◌, [], List, Ok, Err, IfErr, IfOk, OnOk, map, option_map, slice_get};
+ghost use Rattle.std.specs.Prelude.{◌≡◌, ◌⊎◌, ℕ, ◌++◌, ◌∷◌, [], List, Ok, Err, IfErr, IfOk, OnOk, map, option_map};
 ghost use Rattle.std.specs.List.Sorted.{IsStrictlySortedBy};
 ghost use Rattle.domain_names.specs.{Order.canonical_cmp, Words.Name};
 ghost use Rattle.domain_nsec3.specs.Config.{Hash, hash_name};
@@ -113,13 +113,6 @@ pub fn alike_names<'a, O: Octets, S, H: Nsec3Hasher>(
     Ok(pairs)
 }
 
-/// The first of these pairs.
-fn first_of<'a>(pairs: Vec<Alike<'a>>) -> Option<Alike<'a>>
-    ensures { result ≡ slice_get pairs.entry.items 0 }
-{
-    pairs.into_iter().next()
-}
-
 /// The first name in canonical order of the NSEC3 chain of sorted records that has the hash of one
 /// before it, with the first that has it. None where no two names have one hash.
 ///
@@ -143,5 +136,5 @@ pub fn first_alike<'a, O: Octets, S, H: Nsec3Hasher>(
         (H.answer hasher.now) config.now) n)) }
 {
     let pairs = alike_names(alloc, apex, sorted, config, hasher)?;
-    Ok(first_of(pairs))
+    Ok(pairs.into_iter().next())
 }
