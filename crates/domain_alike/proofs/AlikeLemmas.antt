@@ -12,10 +12,10 @@ use Rattle.domain_zone.proofs.FindLemmas.{in_at, in_filter, in_filtered, find_no
 use Rattle.domain_zone.proofs.NameLemmas.{before_left, before_order, before_right, one_lowered, same_itself}
 use Rattle.domain_zone.proofs.{OwnerLemmas.{any_in, ascending_filter, in_any}, PairLemmas.{In, IsAscending, all_from_in, all_in, irreflexive}}
 use Rattle.domain_zone.proofs.ZoneLemmas.{after_or, all_both, any_map, filter_none, weaker}
-use Rattle.domain_nsec3.specs.{Ancestors.IsListOf, Config.{ChainConfig, Hash, HashAnswer, hash_name, hash_of}, Faults.HasCollision, Owners.is_chain_name}
+use Rattle.domain_nsec3.specs.{Ancestors.IsListOf, Config.{ChainConfig, HashAnswer, hash_of}, Faults.HasCollision, Owners.is_chain_name}
 use Rattle.domain_nsec3.proofs.{FaultLemmas.hash_same, ListLemmas.{sorted, ascending}}
 use Rattle.domain_alike.specs.{Alike.{pair_of, AreAlike, IsAlike, IsFirstAlike, IsFirstPair, IsFirstRefusal, Pair}, declared.alike.Alike.Alike}
-use Rattle.domain_alike.specs.AlikeSteps.{first_before, first_with, is_hash, pair_with, ArePairs, IsHashed, IsRefusedAmong}
+use Rattle.domain_alike.specs.AlikeSteps.{first_before, first_with, is_hash, pair_with, ArePairs, IsHashed}
 
 -- ---- hashes
 
@@ -45,35 +45,13 @@ found_first test [] f y e up i t = absurd i
 found_first test (x ∷ xs) f y e up i t =
     grind (arith, common_steps, (irreflexive before_order), (before_order.one_way x), all_in, (found_first test xs f y))
 
--- ---- the pairs of a list
+-- ---- over the names of a chain
 
 -- the names up to a place are those before the name there
 names_before : (xs : List Name) (i : ℕ) (n : Name) → IsAscending before xs → slice_get xs i ≡ Some n → take i xs ≡ filter (λ y. before y n) xs
 names_before [] i n up at = absurd (cc)
 names_before (x ∷ xs) zero n up at = grind (arith, common_steps, filter_none, weaker, before_order, (irreflexive before_order))
 names_before (x ∷ xs) (suc i) n up at = grind (arith, common_steps, all_in, (in_at xs i n at), (names_before xs i n up.1 at))
-
-module _ (hash : Hash) (names : List Name) (i : ℕ) (n : Name) (pairs : List Pair) (up : IsAscending before names) (l : i < length names)
-    (is : n ≡ get_or names i n) (old : ArePairs hash names (take i names) pairs) where
-  front : take i names ≡ filter (λ y. before y n) names
-  front = names_before names i n up (slice_get-get_or names i n l ∙ ap Some (sym is))
-
-  pub pairs_more : (h : Octets) (first : Option Name) (more : List Pair) → hash_name hash n ≡ Ok h
-      → first ≡ first_with hash (take i names) (Ok h) → more ≡ pairs ++ pair_with n first → ArePairs hash names (take (i + 1) names) more
-  pairs_more h first more e found pushed = record {
-    hashed = rw (take_more names i n l, ← is) (all_both (IsHashed hash) (take i names) (n ∷ []) old.hashed ((h, e), tt));
-    are = grind (arith, common_steps, front, old.are);
-  }
-
-  pub refused_at : (number : ℕ) → hash_name hash n ≡ Err number → IsRefusedAmong hash names number
-  refused_at number e = record {
-    name = n;
-    there = in_any (λ m. same_name m n) names n (in_at names i n (slice_get-get_or names i n l ∙ ap Some (sym is))) (same_itself n n refl);
-    refused = e;
-    hashed = subst (AllByRecursion (IsHashed hash)) front old.hashed;
-  }
-
--- ---- over the names of a chain
 
 module _ (L : List ZoneRecord) (a : Name) (config : ChainConfig) (names : List Name) (list : IsListOf (is_chain_name L a config) names) where
   up : IsAscending before names
@@ -153,17 +131,33 @@ module _ (L : List ZoneRecord) (a : Name) (config : ChainConfig) (names : List N
         ascend = sorted _ (subst (IsAscending before) (sym lasts) (ascending_filter before (λ n. is_some (first_of n)) names up));
       }
 
-  pub first_refusal : (number : ℕ) → IsRefusedAmong config.hash names number → IsFirstRefusal L a config number
-  first_refusal number r = record {
-    name = r.name;
-    in_chain = sym (list.exactly r.name) ∙ r.there;
-    refused = r.refused;
-    first = λ y c b.
-        let m = listed y c in
-        let low = before_left m.0 y r.name (one_lowered m.0 y m.2) ∙ b in
-        let known = all_in (IsHashed config.hash) _ m.0 r.hashed (in_filtered (λ k. before k r.name) names m.0 m.1 low) in
-        (known.0, sym (hash_same config.hash m.0 y m.2) ∙ known.1);
-  }
+  -- at a name, where the pairs of those before it are known
+  module _ (i : ℕ) (n : Name) (pairs : List Pair) (l : i < length names) (is : n ≡ get_or names i n)
+      (old : ArePairs config.hash names (take i names) pairs) where
+    at : slice_get names i ≡ Some n
+    at = slice_get-get_or names i n l ∙ ap Some (sym is)
+
+    front : take i names ≡ filter (λ y. before y n) names
+    front = names_before names i n up at
+
+    pub pairs_more : (h : Octets) (first : Option Name) (more : List Pair) → hash_of config n ≡ Ok h
+        → first ≡ first_with config.hash (take i names) (Ok h) → more ≡ pairs ++ pair_with n first → ArePairs config.hash names (take (i + 1) names) more
+    pairs_more h first more e found pushed = record {
+      hashed = rw (take_more names i n l, ← is) (all_both (IsHashed config.hash) (take i names) (n ∷ []) old.hashed ((h, e), tt));
+      are = grind (arith, common_steps, front, old.are);
+    }
+
+    pub first_refusal : (number : ℕ) → hash_of config n ≡ Err number → IsFirstRefusal L a config number
+    first_refusal number e = record {
+      name = n;
+      in_chain = of_chain n (in_at names i n at);
+      refused = e;
+      first = λ y c b.
+          let m = listed y c in
+          let low = before_left m.0 y n (one_lowered m.0 y m.2) ∙ b in
+          let known = all_in (IsHashed config.hash) _ m.0 (subst (AllByRecursion _) front old.hashed) (in_filtered (λ k. before k n) names m.0 m.1 low) in
+          (known.0, sym (hash_same config.hash m.0 y m.2) ∙ known.1);
+    }
 
 -- ---- the first pair
 

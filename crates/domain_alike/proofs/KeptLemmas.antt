@@ -44,3 +44,6 @@ module _ {excludes d : Bool} {L : List ZoneRecord} {a : Name} where
   pub kept_all : {left : List OwnerRecords} {names : List Name} → AreKept excludes d L a left names → left ≡ []
       → names ≡ covered_names excludes d L a
   kept_all h none = grind (arith, common_steps, append-nil, h.all)
+
+-- a step of the walk, and its end
+pub ruleset kept_steps = (kept_past, kept_more, kept_all)

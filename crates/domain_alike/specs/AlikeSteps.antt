@@ -1,9 +1,9 @@
 -- The names of a list that hash alike, and how they are found.
-use Rattle.std.specs.Prelude.{◌≡◌, ◌⊎◌, ℕ, Bool, true, false, List, [], ◌∷◌, ◌++◌, filter, length, nat_lt, Option, Some, None, Ok, Err, Vec, if◌then◌else◌}
+use Rattle.std.specs.Prelude.{◌≡◌, ◌⊎◌, ℕ, Bool, false, List, [], ◌∷◌, ◌++◌, filter, length, nat_lt, Option, Some, None, Ok, Err, Vec, if◌then◌else◌}
 use Rattle.std.specs.BTreeMap as tree
-use Rattle.std.specs.{BTreeMap.BTreeMap, Cmp.Lexicographic.slice_cmp, List.{find, flat_map, list_any, AllByRecursion}, Ordering.{is_eq, nat_cmp}}
+use Rattle.std.specs.{BTreeMap.BTreeMap, Cmp.Lexicographic.slice_cmp, List.{find, flat_map, AllByRecursion}, Ordering.{is_eq, nat_cmp}}
 use Rattle.domain_octets.specs.Words.{Octets}
-use Rattle.domain_names.specs.{Name.same_name, Order.before, Words.Name}
+use Rattle.domain_names.specs.{Order.before, Words.Name}
 use Rattle.domain_hasher.specs.declared.error.Nsec3HashError.{Nsec3HashError}
 use Rattle.domain_hasher.specs.declared.error.Nsec3HashError.TheVariants as hash_error
 use Rattle.domain_nsec3.specs.{Ancestors.above_with_more, Config.{Hash, HashAnswer, hash_name}}
@@ -45,13 +45,6 @@ IsHashed hash n = (h : Octets) × (hash_name hash n ≡ Ok h)
 pub record ArePairs (hash : Hash) (names some : List Name) (pairs : List Pair) : Type 0 where
   pub hashed : AllByRecursion (IsHashed hash) some
   pub are : pairs ≡ flat_map (λ n. pair_with n (first_before hash names n)) some
-
--- the first of these names that is refused
-pub record IsRefusedAmong (hash : Hash) (names : List Name) (number : ℕ) : Type 0 where
-  pub name : Name
-  pub there : list_any (λ n. same_name n name) names ≡ true
-  pub refused : hash_name hash name ≡ Err number
-  pub hashed : AllByRecursion (IsHashed hash) (filter (λ y. before y name) names)
 
 -- no memory, or the refusal of a number
 abbrev pub IsRefusedBy : (ℕ → Type 0) → Nsec3HashError → Type 0

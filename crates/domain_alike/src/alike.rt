@@ -1,19 +1,16 @@
 //! Which names of a chain hash alike.
-ghost use Rattle.std.specs.Prelude.{◌≡◌, ◌⊎◌, ℕ, ◌++◌, ◌∷◌, [], List, Ok, Err, IfErr, IfOk, OnOk, map, option_map};
-ghost use Rattle.std.specs.List.Sorted.{IsStrictlySortedBy};
-ghost use Rattle.domain_names.specs.{Order.canonical_cmp, Words.Name};
-ghost use Rattle.domain_nsec3.specs.Config.{Hash, hash_name};
-ghost use Rattle.domain_nsec3.specs.View.{config_of, hash_by, parameters_of};
+ghost use Rattle.std.specs.Prelude.{◌≡◌, ◌⊎◌, ℕ, ◌++◌, ◌∷◌, [], List, Ok, IfErr, IfOk, map, option_map};
+ghost use Rattle.domain_names.specs.Words.{Name};
+ghost use Rattle.domain_nsec3.specs.{Config.{Hash, hash_name}, View.config_of};
 ghost use Rattle.domain_records.specs.Order.{IsInOrder};
 ghost use Rattle.domain_hasher.specs.declared.error.Nsec3HashError.TheVariants as hash_error;
 ghost use Rattle.domain_borrowed.specs.Data.{zone_of_raw};
 ghost use Rattle.domain_alike.specs.Alike.{pair_of, AreAlike, IsFirstPair, IsFirstRefusal};
-ghost use Rattle.domain_alike.specs.AlikeSteps.{first_with, pair_with, AreFirstNames, ArePairs, IsRefusedAmong, IsRefusedBy};
+ghost use Rattle.domain_alike.specs.AlikeSteps.{first_with, AreFirstNames};
 
 use crate::chain_names::chain_names;
 use domain_base::{MAX_NAME, ParsedName, ToName};
 use domain_borrowed::BorrowedRecord;
-use domain_chain_rdata::Nsec3param;
 use domain_hasher::{Nsec3HashError, Nsec3Hasher, hash_wire};
 use domain_nsec3::GenerateNsec3Config;
 use domain_octets::{Octets, OutOfMemory, TryClone};
@@ -47,41 +44,6 @@ fn first_of_hash<'a>(
     Ok(None)
 }
 
-/// Of these names, in canonical order, each that has the hash of one before it, with the first that
-/// has it.
-///
-/// # Errors
-///
-/// `Hasher` with what the hasher refuses of the first name that it refuses, and `OutOfMemory`.
-fn pairs_of<'a, O: Octets, H: Nsec3Hasher>(
-    alloc: Global,
-    names: &[ParsedName<'a>],
-    parameters: &Nsec3param<O>,
-    hasher: &H,
-) -> Result<Vec<Alike<'a>>, Nsec3HashError>
-    requires { IsStrictlySortedBy canonical_cmp names.now }
-    ensures ok { IfOk result (λ pairs. ArePairs (hash_by (H.answer hasher.now)
-        (parameters_of parameters.now)) names.now names.now (map pair_of pairs.items)) }
-    ensures err { IfErr result (IsRefusedBy (IsRefusedAmong (hash_by (H.answer hasher.now)
-        (parameters_of parameters.now)) names.now)) }
-{
-    let algorithm = parameters.hash_algorithm();
-    let iterations = parameters.iterations();
-    let salt = parameters.salt().as_slice();
-    let mut firsts = BTreeMap::new(alloc);
-    let mut pairs = Vec::new(alloc);
-    for name in names {
-        let mut buffer = [0; MAX_NAME];
-        let lowered = name.lower_wire(&mut buffer);
-        let hash = hash_wire(alloc, hasher, algorithm, iterations, salt, lowered)?;
-        if let Some(first) = first_of_hash(&mut firsts, hash, name)? {
-            let later = name.try_clone()?;
-            pairs.push(Alike { later, first })?;
-        }
-    }
-    Ok(pairs)
-}
-
 /// Of the names of the NSEC3 chain of sorted records each that has the hash of one before it in
 /// canonical order, with the first that has it; they stand in canonical order. What else the zone
 /// lacks for a chain, as an SOA record, is not asked.
@@ -109,7 +71,20 @@ pub fn alike_names<'a, O: Octets, S, H: Nsec3Hasher>(
         & config.opt_out_exclude_owner_names_of_unsigned_delegations;
     let below_dname = config.occlude_below_dname;
     let names = chain_names(alloc, apex, sorted, without_unsigned, below_dname)?;
-    let pairs = pairs_of(alloc, &names, &config.params, hasher)?;
+    let algorithm = config.params.hash_algorithm();
+    let iterations = config.params.iterations();
+    let salt = config.params.salt().as_slice();
+    let mut firsts = BTreeMap::new(alloc);
+    let mut pairs = Vec::new(alloc);
+    for name in &names {
+        let mut buffer = [0; MAX_NAME];
+        let lowered = name.lower_wire(&mut buffer);
+        let hash = hash_wire(alloc, hasher, algorithm, iterations, salt, lowered)?;
+        if let Some(first) = first_of_hash(&mut firsts, hash, name)? {
+            let later = name.try_clone()?;
+            pairs.push(Alike { later, first })?;
+        }
+    }
     Ok(pairs)
 }
 

@@ -19,6 +19,7 @@ use std::alloc::Global;
 /// The owners at or below the apex that are not occluded, in canonical order. Unsigned delegations
 /// are left out where `without_unsigned` says so, and names below the owner of a DNAME record where
 /// `below_dname` does.
+#[tactic(auto, using(crate::proofs::KeptLemmas::kept_steps))]
 fn owners_of<'a>(
     alloc: Global,
     apex: &ParsedName<'a>,
