@@ -18,7 +18,7 @@ use Rattle.domain_dnssec.specs.AnyOrder as any_order
 use Rattle.domain_dnssec.specs.Wire.{nsecs_octets, nsec3s_octets}
 use Rattle.domain_borrowed.specs.Data.{data_cmp, RawRecord, zone_of_raw}
 use Rattle.denial_c.specs.{Given.{AreGiven, HasNoRecordAt, HasOtherClassAt}, Numbers.{chain_count, chain_number}, Result.{IsSpelled, Spells}}
-use Rattle.denial_c.specs.{Uneven.{IsFirstClash, IsFirstUneven, IsUnevenAt}, declared.fault.Fault.Fault}
+use Rattle.denial_c.specs.{Uneven.{IsFirstClash, IsFirstUneven, IsUnevenAt}, declared.{fault.Fault.Fault, nsec3_chain.Hashing.Hashing}}
 use Rattle.denial_c.specs.declared.fault.Fault.TheVariants as fault
 
 -- sorted is the sorted set of the records, by owner, class, type and the octets of the data
@@ -132,6 +132,9 @@ hashed_config iterations salt opt_out assume_dnskey occlude_below_dname =
       assume_dnskeys_will_be_added = assume_dnskey;
       occlude_below_dname = occlude_below_dname;
     }
+
+abbrev pub config_by : Hashing → ChainConfig
+config_by h = hashed_config h.iterations h.salt.now h.opt_out h.assume_dnskey h.occlude_below_dname
 
 -- why names have no hashes of use, where this is the reason: no other stands where SHA-1 hashes
 abbrev pub hashing_fault : Nsec3HashError → Fault

@@ -5,7 +5,7 @@ ghost use Rattle.domain_nsec3.specs.View.{config_of};
 ghost use Rattle.domain_records.specs.Order.{IsInOrder};
 ghost use Rattle.domain_borrowed.specs.Data.{zone_of_raw};
 ghost use Rattle.domain_sha1.specs.Iterated.{sha1_answer};
-ghost use Rattle.denial_c.specs.{Numbers.collision_number, Chains.hashed_config};
+ghost use Rattle.denial_c.specs.{Numbers.collision_number, Chains.config_by};
 ghost use Rattle.denial_c.specs.Collisions.{IsCollisionResult};
 ghost use Rattle.denial_c.specs.declared.fault.Fault.TheVariants as fault;
 
@@ -17,7 +17,6 @@ use domain_alike::{Alike, first_alike, write_lowered};
 use domain_base::{Class, MAX_NAME, ParsedName};
 use domain_borrowed::BorrowedRecord;
 use domain_hasher::Nsec3HashError;
-use domain_nsec::GenerateNsecConfig;
 use domain_nsec3::GenerateNsec3Config;
 use domain_records::InPlaceSorter;
 use domain_sha1::Sha1Hasher;
@@ -59,19 +58,16 @@ pub(crate) fn collision(
     apex: &[u8],
     class: u16,
     hashing: Hashing<'_>,
-    options: GenerateNsecConfig,
     records: &[u8],
     earlier: &mut [u8; MAX_NAME],
     later: &mut [u8; MAX_NAME],
 ) -> Result<bool, Fault>
-    ensures { IsCollisionResult apex.now class
-        (hashed_config hashing.entry.iterations hashing.entry.salt.now hashing.entry.opt_out
-        options.assume_dnskeys_will_be_added options.occlude_below_dname) records.now result
+    ensures { IsCollisionResult apex.now class (config_by hashing.entry) records.now result
         (record { old = earlier.old; new = earlier.new })
         (record { old = later.old; new = later.new }) }
 {
     let apex = read_name(apex, Fault::Apex)?;
-    let config = config_with(hashing, options)?;
+    let config = config_with(hashing)?;
     let class = Class::from_int(class);
     let sorted = sorted_zone(alloc, class, records)?;
     let Some(alike) = first_pair(alloc, &apex, &sorted, &config)? else {

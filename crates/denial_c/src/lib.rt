@@ -310,12 +310,10 @@ pub extern "C" fn denial_nsec3_chain(
         iterations,
         salt,
         opt_out,
-    };
-    let options = GenerateNsecConfig {
-        assume_dnskeys_will_be_added: assume_dnskey,
+        assume_dnskey,
         occlude_below_dname,
     };
-    let made = nsec3_chain::nsec3_chain(alloc, apex, class, hashing, options, records, chain);
+    let made = nsec3_chain::nsec3_chain(alloc, apex, class, hashing, records, chain);
     tell(chain_told(made), count)
 }
 
@@ -349,12 +347,10 @@ pub extern "C" fn denial_nsec3_collision(
         iterations,
         salt,
         opt_out,
-    };
-    let options = GenerateNsecConfig {
-        assume_dnskeys_will_be_added: false,
+        assume_dnskey: false,
         occlude_below_dname,
     };
     collision::collision_number(collision::collision(
-        alloc, apex, class, hashing, options, records, earlier, later,
+        alloc, apex, class, hashing, records, earlier, later,
     ))
 }

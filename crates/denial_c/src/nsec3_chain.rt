@@ -3,7 +3,7 @@ ghost use Rattle.std.specs.Prelude.{◌≡◌, ◌≤◌, ◌<◌, length, IfErr
 ghost use Rattle.domain_nsec3.specs.View.{config_of};
 ghost use Rattle.domain_nsec3.specs.declared.config.Nsec3ParamTtlMode.TheVariants.{Soa};
 ghost use Rattle.domain_sha1.specs.Iterated.{sha1_answer};
-ghost use Rattle.denial_c.specs.Chains.{hashed_config, hashing_fault, nsec3_making, AreSorted, IsNsec3ChainResult, IsSortedFault};
+ghost use Rattle.denial_c.specs.Chains.{config_by, hashing_fault, nsec3_making, AreSorted, IsNsec3ChainResult, IsSortedFault};
 ghost use Rattle.denial_c.specs.declared.fault.Fault.TheVariants as fault;
 
 use crate::fault::Fault;
@@ -17,13 +17,12 @@ use domain_borrowed::BorrowedRecord;
 use domain_chain_rdata::Nsec3param;
 use domain_dnssec::compose_nsec3s;
 use domain_hasher::Nsec3HashError;
-use domain_nsec::GenerateNsecConfig;
 use domain_nsec3::{GenerateNsec3Config, Nsec3Chain};
 use domain_records::{InPlaceSorter, RecordsIter, SigningError};
 use domain_sha1::Sha1Hasher;
 use std::alloc::Global;
 
-/// How names are hashed, by SHA-1, and whether unsigned delegations are left out.
+/// How a chain is made of names that are hashed by SHA-1.
 #[derive(Clone, Copy)]
 pub(crate) struct Hashing<'a> {
     /// How often a hash is taken again (RFC 5155, section 3.1.3).
@@ -32,6 +31,10 @@ pub(crate) struct Hashing<'a> {
     pub salt: &'a [u8],
     /// Whether unsigned delegations are left out, and the records say so (RFC 5155, section 6).
     pub opt_out: bool,
+    /// Whether the apex gets DNSKEY records.
+    pub assume_dnskey: bool,
+    /// Whether names below the owner of a DNAME record are left out.
+    pub occlude_below_dname: bool,
 }
 
 /// How a chain is made.
@@ -41,11 +44,9 @@ pub(crate) struct Hashing<'a> {
 /// `LongSalt` exactly where the salt has over 255 octets.
 pub(crate) fn config_with<'a>(
     hashing: Hashing<'a>,
-    options: GenerateNsecConfig,
 ) -> Result<GenerateNsec3Config<&'a [u8], InPlaceSorter>, Fault>
     ensures ok { IfOk result (λ config. config_of sha1_answer config
-        ≡ hashed_config hashing.entry.iterations hashing.entry.salt.now hashing.entry.opt_out
-        options.assume_dnskeys_will_be_added options.occlude_below_dname) }
+        ≡ config_by hashing.entry) }
     ensures mode { IfOk result (λ config. config.nsec3param_ttl_mode ≡ Soa) }
     ensures fits { IfOk result (λ _. length hashing.entry.salt.now ≤ 255) }
     ensures err { IfErr result (λ e. (e ≡ fault.LongSalt) × (255 < length hashing.entry.salt.now)) }
@@ -56,8 +57,8 @@ pub(crate) fn config_with<'a>(
     let flags = if hashing.opt_out { 1 } else { 0 };
     let params = Nsec3param::new(Nsec3HashAlgorithm::SHA1, flags, hashing.iterations, salt);
     let mut config = GenerateNsec3Config::new(params);
-    config.assume_dnskeys_will_be_added = options.assume_dnskeys_will_be_added;
-    config.occlude_below_dname = options.occlude_below_dname;
+    config.assume_dnskeys_will_be_added = hashing.assume_dnskey;
+    config.occlude_below_dname = hashing.occlude_below_dname;
     Ok(config)
 }
 
@@ -134,17 +135,14 @@ pub(crate) fn nsec3_chain(
     apex: &[u8],
     class: u16,
     hashing: Hashing<'_>,
-    options: GenerateNsecConfig,
     records: &[u8],
     buffer: &mut [u8],
 ) -> Result<usize, Fault>
-    ensures { IsNsec3ChainResult apex.now class
-        (hashed_config hashing.entry.iterations hashing.entry.salt.now hashing.entry.opt_out
-        options.assume_dnskeys_will_be_added options.occlude_below_dname) records.now result
+    ensures { IsNsec3ChainResult apex.now class (config_by hashing.entry) records.now result
         buffer.old buffer.new }
 {
     let apex = read_name(apex, Fault::Apex)?;
-    let config = config_with(hashing, options)?;
+    let config = config_with(hashing)?;
     let class = Class::from_int(class);
     let sorted = sorted_zone(alloc, class, records)?;
     let octets = sorted_nsec3s(alloc, &apex, class, records, &sorted, &config)?;

@@ -3,13 +3,12 @@ use Rattle.domain_alike.specs.{Alike.{pair_of, IsFirstPair}, declared.alike.Alik
 use Rattle.domain_borrowed.specs.Data.{zone_of_raw}
 use Rattle.domain_nsec3.specs.{Config.ChainConfig, View.config_of}
 use Rattle.domain_sha1.specs.Iterated.{sha1_answer}
-use Rattle.denial_c.{specs.Chains.hashed_config, proofs.ChainLemmas.pair_found}
+use Rattle.denial_c.{specs.Chains.config_by, proofs.ChainLemmas.pair_found}
 use Rattle.denial_c.proofs.collision.collision.Goals as goal
 
 pub returns : goal.returns
 returns c =
-    let config = hashed_config c.args.hashing.iterations c.args.hashing.salt.now c.args.hashing.opt_out c.args.options.assume_dnskeys_will_be_added
-    c.args.options.occlude_below_dname in
+    let config = config_by c.args.hashing in
     let zone = zone_of_raw c.deref.result.now in
     let pair = pair_of c.in-Some.alike in
     let first = subst (λ (k : ChainConfig). IsFirstPair zone c.in_ok-apex.apex k (Some pair)) c.in_ok-config.ensures.ok

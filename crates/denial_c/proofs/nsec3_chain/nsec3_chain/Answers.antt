@@ -1,12 +1,11 @@
 use Rattle.std.proofs.{Common.{refl, subst}, lemmas.Result.err_from_is_err_and}
 use Rattle.domain_nsec3.specs.{Config.ChainConfig, declared.config.Nsec3ParamTtlMode.TheVariants.Soa}
-use Rattle.denial_c.{specs.Chains.{hashed_config, nsec3_making, IsSortedFault}, proofs.ChainLemmas.{chain_fault, chain_result}}
+use Rattle.denial_c.{specs.Chains.{config_by, nsec3_making, IsSortedFault}, proofs.ChainLemmas.{chain_fault, chain_result}}
 use Rattle.denial_c.proofs.nsec3_chain.nsec3_chain.Goals as goal
 
 pub returns-in_err-octets : goal.returns-in_err-octets
 returns-in_err-octets c =
-    let config = hashed_config c.args.hashing.iterations c.args.hashing.salt.now c.args.hashing.opt_out c.args.options.assume_dnskeys_will_be_added
-    c.args.options.occlude_below_dname in
+    let config = config_by c.args.hashing in
     let e = c.in_err-octets.field-0.0 in
     let p = err_from_is_err_and c.from_residual-in_err-octets.result c.from_residual-in_err-octets.ensures.1 in
     rw (p.1, p.2) (
@@ -19,8 +18,7 @@ returns-in_err-octets c =
 
 pub returns : goal.returns
 returns c =
-    let config = hashed_config c.args.hashing.iterations c.args.hashing.salt.now c.args.hashing.opt_out c.args.options.assume_dnskeys_will_be_added
-    c.args.options.occlude_below_dname in
+    let config = config_by c.args.hashing in
     let octets = c.in_ok-octets.octets.items in
     let listed = c.deref.result.now in
     chain_result c.in_ok-apex.ensures.ok c.from_int-class.ensures c.deref.ensures.value c.in_ok-sorted.ensures.ok (nsec3_making Soa config)
