@@ -1,6 +1,6 @@
 -- What one record, or two of which the first denies a name alone, tell by what they are judged to say.
 use Rattle.std.proofs.Common.{◌≡◌, ◌≢◌, ℕ, ◌<◌, Bool, true, false, cond, not, List, [], ◌∷◌, ◌++◌, length, slice_get, Option, Some, None, refl}
-use Rattle.std.proofs.{Common.{sym, ap, ◌∙◌, subst, arith}, lemmas.Bool.{and_left, or_parts, true_from_ne_false}}
+use Rattle.std.proofs.{Common.{sym, ap, ◌∙◌, arith}, lemmas.Bool.{and_left, or_parts, true_from_ne_false}}
 use Rattle.std.{proofs.lemmas.Grind.common_steps, specs.List.find}
 use Rattle.domain_names.specs.{Name.{is_at_or_below, is_strictly_below, same_name, last_labels}, Order.before, Words.Name}
 use Rattle.domain_zone.{specs.{Covering.{matches_or_covers}, Enclosers.{longer, shared}}, proofs.{NameLemmas.same_is}}
@@ -104,34 +104,22 @@ module _ (a x : Name) (t : ℕ) (k : Link) where
 module _ (links : List Link) (a x : Name) (t : ℕ) where
   pub one_at : (p : ℕ) → p < length links → IsTold (reading a (at_place links (Some p)) x t) → IsOf links p x
   one_at p inside told =
-      let some = record_there links p inside in record {
-        link = some.0;
-        there = some.1;
-        says = told_by_one a x t some.0 (subst (λ ls. IsTold (reading a ls x t)) (ap listed_option some.1) told);
-      }
+      let some = record_there links p inside in
+      let here = ap listed_option some.1 in grind (arith, common_steps, (told_by_one a x t some.0))
 
   -- where the first record denies the name and says nothing of the wildcard, the second alone says of that what both do
   module _ (p q n : ℕ) (l : Link) (l_there : slice_get links q ≡ Some l) (says : reading a (at_place links (Some p)) x t ≡ NoCloserName n)
       (apart : same_name l.owner x ≡ false) (w : Name) (w_is : w ≡ wildcard_below (last_labels n x)) (silent : IsSilent a (at_place links (Some p)) w)
       (some : (m : ℕ) → wildcard_answer a (l ∷ []) n w t ≢ NoCloserName m) where
-    at_q : at_place links (Some q) ≡ l ∷ []
-    at_q = ap listed_option l_there
-
-    pub record IsBoth : Type 0 where
-      pub reads : wildcard_answer a (l ∷ []) n w t ≡ reading a (at_place links (Some p) ++ at_place links (Some q)) x t
-      pub tells : IsOf links q w
-
-    pub both_at : p < length links → IsBoth
+    pub both_at : p < length links
+        → (wildcard_answer a (l ∷ []) n w t ≡ reading a (at_place links (Some p) ++ at_place links (Some q)) x t) × IsOf links q w
     both_at in_p =
         let first = record_there links p in_p in
         let k = first.0 in
         let at_p : at_place links (Some p) ≡ first.0 ∷ [] = ap listed_option first.1 in
         let second_alone = unasked a w n t k l (rw at_p at silent) in
         let both = both_read a x t k n (rw at_p at says) l (unmatched a x l apart) in
-        record {
-          reads = grind (arith, common_steps);
-          tells = record { link = l; there = l_there; says = wildcard_tells a w n t l some };
-        }
+        (grind (arith, common_steps), record { link = l; there = l_there; says = wildcard_tells a w n t l some })
 
 -- what is told of the wildcard is the whole answer, and else the name is denied alone
 module _ (a : Name) (listed : List Link) (n : ℕ) (w v : Name) (t : ℕ) (whole : Answer) (absent : whole ≡ wildcard_answer a listed n v t) (w_is : w ≡ v) where

@@ -14,7 +14,7 @@ use Rattle.domain_denier.proofs.SomeLemmas.{all_among, unmatched}
 -- what is found of a hash, in other words
 pub found_of : (hash : Hash) (chain : ChainRecords) (wire w : Octets) (place : ℕ) (b m : Bool) → IsFoundAt hash chain wire place b → wire ≡ w → b ≡ m
     → IsFoundAt hash chain w place m
-found_of hash chain wire w place b m found e f = subst (λ u. IsFoundAt hash chain u place m) e (subst (IsFoundAt hash chain wire place) f found)
+found_of hash chain wire w place b m found e f = grind (arith, common_steps)
 
 module _ (hash : Hash) (chain : ChainRecords) (x : Name) where
   abbrev R : HashedRecords

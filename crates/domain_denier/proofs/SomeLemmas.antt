@@ -1,6 +1,6 @@
 -- What some of the links of a chain find of a hash, where one of all matches or covers it.
-use Rattle.std.proofs.Common.{◌≡◌, ℕ, Bool, true, false, cond, List, [], ◌∷◌, ◌++◌, Some, None, Option, slice_get, length, refl, sym, ap, ◌∙◌, subst, inl, inr}
-use Rattle.std.proofs.{Common.{◌<◌, arith}, lemmas.{Bool.{false≢true, ne_eqb, or_left, or_right}, Grind.common_steps, List.Elements.All-from_recursion}}
+use Rattle.std.proofs.Common.{◌≡◌, ℕ, Bool, true, false, List, [], ◌∷◌, ◌++◌, Some, None, Option, slice_get, length, refl, sym, ap, ◌∙◌, subst, inl, inr}
+use Rattle.std.proofs.{Common.{◌<◌, arith}, lemmas.{Bool.{ne_eqb, or_left, or_right}, Grind.common_steps, List.Elements.All-from_recursion}}
 use Rattle.std.{proofs.lemmas.{Option.{slice_get_cases, slice_get_within, get_or_from_slice_get}}, specs.{Prelude.All, List.{Contains, find}}}
 use Rattle.domain_octets.specs.Words.{Octets}
 use Rattle.domain_zone.{specs.Zone.ZoneRecord, proofs.{PairLemmas.{In, all_from_in}, FindLemmas.{in_front, stands_in}}}
@@ -82,11 +82,10 @@ module _ (R : HashedRecords) (v : Octets) (place : ℕ) (is_match : Bool) (of : 
 
     -- a record that covers is no match
     pub unmatched : is_match ≡ false → first_match (with_links R listed) v ≡ None
-    unmatched other = none_found (is_hash_match R.apex R.parameters v) listed (λ k i e.
-        false≢true (sym (of.matched ∙ other) ∙ ap (is_hash_match R.apex R.parameters v) (sym (is_link k i (by_match k e))) ∙ e))
+    unmatched other = grind (arith, common_steps, none_found, is_link, by_match)
 
     pub matched : In of.link listed → is_match ≡ true → first_match (with_links R listed) v ≡ Some of.link
-    matched i sure = sole_found (is_hash_match R.apex R.parameters v) listed of.link i (of.matched ∙ sure) (λ k j e. is_link k j (by_match k e))
+    matched i sure = grind (arith, common_steps, sole_found, is_link, by_match)
 
     pub covered : In of.link listed → is_match ≡ false → first_cover (with_links R listed) v ≡ Some of.link
     covered i other = grind (arith, common_steps, sole_found, is_link, by_cover)
@@ -128,7 +127,7 @@ from_other : (gone : ℕ) (o : Option ℕ) (place : ℕ) → other_place gone o 
 from_other gone o place e = grind (arith, common_steps)
 
 kept_place : (gone : ℕ) (o : Option ℕ) (place : ℕ) → o ≡ Some place → (place ≡ gone → ⊥) → other_place gone o ≡ Some place
-kept_place gone o place e other = ap (other_place gone) e ∙ (λ i. cond (ne_eqb place gone other i) None (Some place))
+kept_place gone o place e other = grind (arith, common_steps, ne_eqb)
 
 module _ (links : List HashedLink) (d : Nsec3Denial) (gone : ℕ) where
   never_gone : (place : ℕ) → IsPicked (without gone d) place → place ≡ gone → ⊥

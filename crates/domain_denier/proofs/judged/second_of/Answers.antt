@@ -15,6 +15,6 @@ returns-in_default-judge_wildcard g c =
     (λ m e. c.in_default-judge_wildcard.not-NoCloserName m (c.judge_wildcard.ensures ∙ e)) c.requires.first in
     record {
       inside = c.in-Some.ensures;
-      found = λ L apex config whole under. both.tells;
-      exact = c.judge_wildcard.ensures ∙ both.reads;
+      found = λ L apex config whole under. both.1;
+      exact = c.judge_wildcard.ensures ∙ both.0;
     }
