@@ -55,12 +55,8 @@ module _ (a x : Name) (k l : Link) (alike : IsAlike k l) where
 module _ (a x : Name) (t : ℕ) where
   both_alike : (m n c d : Option Link) → OptionsPaired IsAlike m n → OptionsPaired IsAlike c d → verdict_of_both a x t m c ≡ verdict_of_both a x t n d
   both_alike (Some k) (Some l) c d m h = match_verdict_alike a x k l m t
-  both_alike (Some k) None c d m h = absurd m
-  both_alike None (Some l) c d m h = absurd m
-  both_alike None None None None m h = refl
-  both_alike None None None (Some d) m h = absurd h
-  both_alike None None (Some c) None m h = absurd h
   both_alike None None (Some c) (Some d) m h = cover_verdict_alike a x c d h
+  both_alike m n c d h i = grind (arith, common_steps)
 
   pub reading_alike : (ks ls : List Link) → ArePaired IsAlike ks ls → reading a ks x t ≡ reading a ls x t
   reading_alike ks ls h =

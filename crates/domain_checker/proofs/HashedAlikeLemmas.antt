@@ -45,6 +45,12 @@ module _ (a : Name) (p : Parameters) (k l : HashedLink) (alike : IsHashedAlike k
   pub hash_cover_alike : (v : Octets) → is_hash_cover a p v k ≡ is_hash_cover a p v l
   hash_cover_alike v = λ i. is_some_with (λ h. covers octets_before h (alike.next i) v) (owner_hash_alike i)
 
+-- closest enclosers with as many labels, and records that are alike
+pub record IsEncloserAlike (e f : Encloser) : Type 0 where
+  pub counts : e.count ≡ f.count
+  pub links : IsHashedAlike e.link f.link
+  pub covers : OptionsPaired IsHashedAlike e.cover f.cover
+
 -- ---- lists
 
 -- other records, each like the one at its place
@@ -72,44 +78,42 @@ module _ (R : HashedRecords) (ls : List HashedLink) (alike : ArePaired IsHashedA
       → (l : HashedLink) × IsHashedAlike k l × (first_match S v ≡ Some l)
   found_alike v k e = grind (arith, common_steps, (matching v))
 
-  -- what records say that are alike
-  told_alike : (n t count : ℕ) (k l : HashedLink) → IsHashedAlike k l → (c d : Option HashedLink) → OptionsPaired IsHashedAlike c d
-      → found_verdict R.apex (Some (record { count = count; link = k; cover = c })) n t
-      ≡ found_verdict R.apex (Some (record { count = count; link = l; cover = d })) n t
-  told_alike n t count k l h c d covers = grind (arith, common_steps)
-
   next_alike : (next : Option Octets) → OptionsPaired IsHashedAlike (next_cover R next) (next_cover S next)
   next_alike next = grind (arith, common_steps, covering)
 
-  module _ (x : Name) (t : ℕ) (verdict : Verdict) where
-    pub walked_alike : IsWalked R x t verdict → IsWalked S x t verdict
-    walked_alike w = by w.found w.is w.says
-      where
-        by : (found : Option Encloser) → IsFoundEncloser R x found → verdict ≡ found_verdict R.apex found (length x) t → IsWalked S x t verdict
-        by None is says = record { found = None; is = λ y up low. let f = is y up low in (f.0, f.1, sym (matched_alike y) ∙ f.2); says = says }
-        by (Some e) is says =
-            let other = found_alike is.value e.link is.found in
-            record {
-              found = Some (record { count = e.count; link = other.0; cover = next_cover S is.next });
-              is = record {
-                name = is.name;
-                counts = is.counts;
-                first = record {
-                  above = is.first.above;
-                  within = is.first.within;
-                  found = sym (matched_alike is.name) ∙ is.first.found;
-                  first = first_alike x is.name is.first.first;
-                };
-                value = is.value;
-                known = is.known;
-                found = other.2;
-                next = is.next;
-                closes = is.closes;
-                covers = refl;
-              };
-              says = says ∙ told_alike (length x) t e.count e.link other.0 other.1 e.cover (next_cover S is.next)
-                  (rw is.covers (next_alike is.next));
-            }
+  -- the closest encloser that the one list tells, and that of the other
+  pub encloser_alike : (x : Name) (found : Option Encloser) → IsFoundEncloser R x found
+      → (other : Option Encloser) × IsFoundEncloser S x other × OptionsPaired IsEncloserAlike found other
+  encloser_alike x None is = (None, λ y up low. let f = is y up low in (f.0, f.1, sym (matched_alike y) ∙ f.2), tt)
+  encloser_alike x (Some e) is =
+      let other = found_alike is.value e.link is.found in (
+        Some (record { count = e.count; link = other.0; cover = next_cover S is.next }),
+        record {
+          name = is.name;
+          counts = is.counts;
+          first = record {
+            above = is.first.above;
+            within = is.first.within;
+            found = sym (matched_alike is.name) ∙ is.first.found;
+            first = first_alike x is.name is.first.first;
+          };
+          value = is.value;
+          known = is.known;
+          found = other.2;
+          next = is.next;
+          closes = is.closes;
+          covers = refl;
+        },
+        record { counts = refl; links = other.1; covers = rw is.covers (next_alike is.next) },
+      )
+
+  told_alike : (n t : ℕ) (e f : Option Encloser) → OptionsPaired IsEncloserAlike e f → found_verdict R.apex e n t ≡ found_verdict R.apex f n t
+  told_alike n t e f h = grind (arith, common_steps)
+
+  pub walked_alike : (x : Name) (t : ℕ) (verdict : Verdict) → IsWalked R x t verdict → IsWalked S x t verdict
+  walked_alike x t verdict w =
+      let other = encloser_alike x w.found w.is in
+      record { found = other.0; is = other.1; says = w.says ∙ told_alike (length x) t w.found other.0 other.2 }
 
 module _ (L : List ZoneRecord) (a : Name) (config : ChainConfig) (x : Name) (t : ℕ) (ks ls : List HashedLink) (alike : ArePaired IsHashedAlike ks ls) where
   abbrev en : Name

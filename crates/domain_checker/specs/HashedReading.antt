@@ -1,5 +1,5 @@
--- What NSEC3 records say by themselves of a name x with so many labels, where they tell its closest
--- encloser (RFC 5155, section 8); a is the apex.
+-- What NSEC3 records say by themselves of a name x, by what they tell of its closest encloser (RFC
+-- 5155, section 8); a is the apex.
 use Rattle.std.specs.Prelude.{ℕ, ◌≡◌, ◌≢◌, Bool, true, false, not, ◌&&◌, ◌==◌, [], ◌∷◌, length, Option, Some, None, if◌then◌else◌}
 use Rattle.domain_names.specs.Words.{Name}
 use Rattle.domain_base.specs.Types.{ds, Rtypes}

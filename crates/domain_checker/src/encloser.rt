@@ -107,6 +107,8 @@ pub fn find_nsec3_encloser<'a, A: ToName, O: Octets, N: ToName, M: ToName, H: Ns
     if !name.ends_with(apex) {
         return Ok(None);
     }
+    // The wire form of each name above is an end of this one. Of a name that no record matches the
+    // first cover is kept for the name above it, and not the hash.
     let mut buffer = [0; MAX_NAME];
     let mut octets = name.lower_wire(&mut buffer);
     let mut left = name.as_parsed();
