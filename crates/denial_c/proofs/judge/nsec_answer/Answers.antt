@@ -1,4 +1,4 @@
-use Rattle.std.proofs.{Common.{◌≡◌, sym, subst}, lemmas.Result.err_from_is_err_and}
+use Rattle.std.proofs.{Common.{arith, ◌≡◌, subst}, lemmas.{Grind.common_steps, Result.err_from_is_err_and}}
 use Rattle.domain_answer.specs.{Proved.IsAnswered, Reading.reading}
 use Rattle.domain_nsec.specs.ChainView.{links_of}
 use Rattle.denial_c.{specs.Among.{AreNsecs, IsReadFault}, proofs.JudgeLemmas.nsecs_fault}
@@ -16,17 +16,11 @@ returns c =
     let a = c.in_ok-apex.apex in
     let x = c.in_ok-name.name in
     let links = links_of (λ n. n) c.deref.result.now in
-    let listed = subst (λ items. AreNsecs c.from_int.result c.args.records.now (links_of (λ n. n) items)) (sym c.deref.ensures.value)
-    c.in_ok-nsecs.ensures.ok in
     record {
       a = a;
       x = x;
       links = links;
-      asked = record {
-        apex_is = c.in_ok-apex.ensures.ok;
-        name_is = c.in_ok-name.ensures.ok;
-        are = subst (λ n. AreNsecs n c.args.records.now links) c.from_int.ensures listed;
-      };
+      asked = grind (arith, common_steps);
       zone = subst (λ t. IsAnswered links a x t c.judge_nsec.result) c.from_int-2.ensures c.judge_nsec.ensures.zone;
       proof = c.judge_nsec.ensures.proof;
       exact = subst (λ t. c.judge_nsec.result ≡ reading a links x t) c.from_int-2.ensures c.judge_nsec.ensures.exact;

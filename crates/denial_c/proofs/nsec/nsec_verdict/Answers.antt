@@ -1,4 +1,4 @@
-use Rattle.std.proofs.{Common.{[], Err, sym, subst}, lemmas.Result.err_from_is_err_and}
+use Rattle.std.proofs.{Common.{arith, [], Err, sym, subst}, lemmas.{Grind.common_steps, Result.err_from_is_err_and}}
 use Rattle.denial_c.specs.{Among.AreNsecs, Result.{HasNsecVerdict, IsNsecResult}}
 use Rattle.denial_c.proofs.nsec.nsec_verdict.Goals as goal
 
@@ -10,11 +10,7 @@ returns c =
       a = c.in_ok-apex.apex;
       x = c.in_ok-name.name;
       links = handed.0;
-      asked = record {
-        apex_is = c.in_ok-apex.ensures.ok;
-        name_is = c.in_ok-name.ensures.ok;
-        are = subst (λ n. AreNsecs n c.args.records.now handed.0) c.from_int-2.ensures handed.1;
-      };
+      asked = grind (arith, common_steps);
       zone = c.verdict.ensures.zone _ _ _ _ read;
       proof = c.verdict.ensures.proof _ _ _ _ read;
       exact = c.verdict.ensures.exact _ _ _ _ read;

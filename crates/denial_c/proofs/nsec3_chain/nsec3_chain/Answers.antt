@@ -20,10 +20,7 @@ pub returns : goal.returns
 returns c =
     let config = config_by c.args.hashing in
     let octets = c.in_ok-octets.octets.items in
-    let listed = c.deref.result.now in
     chain_result c.in_ok-apex.ensures.ok c.from_int-class.ensures c.deref.ensures.value c.in_ok-sorted.ensures.ok (nsec3_making Soa config)
     octets c.deref-2.result.now c.args.buffer.now c.write_octets.new.buffer c.in_ok-config.ensures.fits
-    (subst (λ mode. (nsec3_making mode config).is_chain c.in_ok-apex.apex listed octets) c.in_ok-config.ensures.mode
-    (subst (λ (k : ChainConfig). (nsec3_making c.in_ok-config.config.nsec3param_ttl_mode k).is_chain c.in_ok-apex.apex listed octets) c.in_ok-config.ensures.ok
-    c.in_ok-octets.ensures.ok))
+    (rw (← c.in_ok-config.ensures.mode, ← c.in_ok-config.ensures.ok) c.in_ok-octets.ensures.ok)
     c.deref-2.ensures.value c.write_octets.result c.write_octets.ensures.ok c.write_octets.ensures.err

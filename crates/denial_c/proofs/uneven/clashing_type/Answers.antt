@@ -1,4 +1,4 @@
-use Rattle.std.proofs.Common.{subst, sym, ◌∙◌}
+use Rattle.std.proofs.{Common.{arith, subst, sym, ◌∙◌}, lemmas.Grind.common_steps}
 use Rattle.domain_borrowed.specs.Data.{minimum_of, zone_of_raw}
 use Rattle.domain_zone.proofs.TtlLemmas.{seen_never_descend}
 use Rattle.denial_c.{specs.Uneven.IsFirstClash, proofs.UnevenLemmas.{see, between_clash, between_end, between_next, IsBetween}}
@@ -12,9 +12,7 @@ returns-then-clash-clause-some c =
 
 pub neighbours-preserved : goal.neighbours-preserved
 neighbours-preserved c =
-    between_next _ _ (see c.in-Some-next.record.now) _
-    (subst (λ l. IsBetween (zone_of_raw c.args.records) (see c.neighbours.previous.now) (zone_of_raw l)) c.in-Some-next.ensures.steps c.neighbours.invariant)
-    (sym c.clash.ensures ∙ c.if-clash.false)
+    grind (arith, common_steps, between_next)
 
 pub returns-clause-none : goal.returns-clause-none
 returns-clause-none c =

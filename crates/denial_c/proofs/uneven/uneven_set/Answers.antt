@@ -1,7 +1,6 @@
 use Rattle.std.proofs.{Common.{arith, ap, map, subst, sym, ◌∙◌}, lemmas.Grind.common_steps}
 use Rattle.domain_borrowed.specs.Data.{minimum_of, zone_of_raw}
-use Rattle.domain_zone.{specs.{View.as_zone_record, Zone.{has_clash, records_of}}, proofs.{GivenLemmas.{raw_types, types_at}, TtlLemmas.NeverDescend}}
-use Rattle.denial_c.specs.Uneven.{IsFirstClash}
+use Rattle.domain_zone.{specs.{View.as_zone_record, Zone.has_clash}, proofs.{GivenLemmas.{raw_types, types_at}, TtlLemmas.NeverDescend}}
 use Rattle.denial_c.proofs.UnevenLemmas.{walked_all, walked_clash, walked_even, walked_first, walked_known, walked_past, walked_start}
 use Rattle.denial_c.proofs.uneven.uneven_set.Goals as goal
 
@@ -10,7 +9,7 @@ owners-init c = walked_start (grind (arith, common_steps))
 
 pub owners-preserved-then-excludes-is_unsigned_cut : goal.owners-preserved-then-excludes-is_unsigned_cut
 owners-preserved-then-excludes-is_unsigned_cut c =
-    walked_past c.owners.invariant c.in-Some.ensures.steps c.is_unsigned_cut.ensures c.if-excludes-is_unsigned_cut.true
+    grind (arith, common_steps, walked_past)
 
 pub clashing_type-requires : goal.clashing_type-requires
 clashing_type-requires c =
@@ -25,10 +24,7 @@ returns-in-Some-clashing_type-clause-first c =
 
 pub returns-in-Some-clashing_type-clause-clash : goal.returns-in-Some-clashing_type-clause-clash
 returns-in-Some-clashing_type-clause-clash c =
-    let t = c.in-Some-clashing_type.rtype in
-    subst (λ n. IsFirstClash (records_of (zone_of_raw c.args.sorted.now) n) t) (sym c.as_parsed-name.ensures)
-    (walked_clash c.owners.invariant c.in-Some.ensures.steps t
-    (subst (λ rs. IsFirstClash (zone_of_raw rs) t) c.records.ensures c.in-Some-clashing_type.ensures.some))
+    grind (arith, common_steps, walked_clash)
 
 pub owners-preserved : goal.owners-preserved
 owners-preserved c =
@@ -36,4 +32,4 @@ owners-preserved c =
     (ap (λ rs. has_clash (zone_of_raw rs)) (sym c.records.ensures) ∙ c.in_default-clashing_type.ensures.none)
 
 pub returns-clause-none : goal.returns-clause-none
-returns-clause-none c = walked_all c.owners.invariant c.in_default.ensures.steps.0
+returns-clause-none c = grind (arith, common_steps, walked_all)
