@@ -49,8 +49,8 @@ fn answer_line(rt: &HostRuntime, line: &str, text: &str) -> io::Result<()> {
 fn main(rt: HostRuntime) -> io::Result<()> {
     let alloc = rt.alloc();
     let input = io::read_to_string(alloc, rt.reader())?;
-    let mut text = String::new(alloc);
-    let (mut head, mut is_begun) = ("", false);
+    let (mut head, mut text) = (String::new(alloc), String::new(alloc));
+    let mut is_begun = false;
     for line in input.lines() {
         if let Some(spelled) = line.strip_prefix("|") {
             if !is_begun {
@@ -59,10 +59,11 @@ fn main(rt: HostRuntime) -> io::Result<()> {
             is_begun = true;
             input::add_line(&mut text, spelled)?;
         } else {
-            answer_line(&rt, head, text.as_str())?;
-            (head, is_begun) = (line, false);
+            answer_line(&rt, head.as_str(), text.as_str())?;
+            head = String::from_str(alloc, line)?;
+            is_begun = false;
         }
         println!(rt; "{line}")?;
     }
-    answer_line(&rt, head, text.as_str())
+    answer_line(&rt, head.as_str(), text.as_str())
 }
