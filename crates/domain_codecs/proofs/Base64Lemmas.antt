@@ -1,8 +1,7 @@
 -- texts in Base 64, 64 characters at a time
-use Rattle.std.specs.Prelude.{◌-◌, ◌/◌, ◌%◌}
-use Rattle.std.proofs.Common.{◌≡◌, ℕ, zero, suc, ◌+◌, ◌*◌, ◌<◌, ◌≤◌, List, [], ◌∷◌, ◌++◌, length, take, drop, slice_index, length-drop, length-take, refl, sym}
-use Rattle.std.proofs.{Common.{ap, subst, ◌∙◌, arith, ◌⊎◌, inl, inr, Option, None, Result, Ok, Err, true}, lemmas.Bool.cases_lt}
-use Rattle.std.proofs.lemmas.{List.{nil_from_length, take_at, drop_at, take-append-drop}, Grind.common_steps}
+use Rattle.std.{specs.Prelude.{◌-◌, ◌/◌, ◌%◌}, proofs.Common.{◌≡◌, ℕ, zero, suc, ◌+◌, ◌*◌, ◌<◌, ◌≤◌, List, [], ◌∷◌, ◌++◌, length, take, drop, slice_index}}
+use Rattle.std.proofs.Common.{length-drop, length-take, refl, sym, ap, subst, ◌∙◌, arith, ◌⊎◌, inl, inr, Option, None, Result, Ok, Err, true}
+use Rattle.std.proofs.lemmas.{Bool.cases_lt, List.{nil_from_length, take_at, drop_at, take-append-drop}, Grind.common_steps}
 use Rattle.base64.specs.{GeneralPurpose.{decode_of, encode_of, IsBytes}, Engines.standard, Tables.is_inverse}
 use Rattle.base64.specs.Decode.{IsDecodeTable, decode_outcome, decoded_bytes, decode_group, groups_error, groups_bytes, groups_before_last, leftover_bytes}
 use Rattle.base64.specs.{Decode.{lone_error, no_leftover, or_else, scan_bytes, scan_last, symbol_error}, declared.decode.DecodeError.DecodeError}

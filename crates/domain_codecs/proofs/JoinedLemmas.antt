@@ -1,19 +1,17 @@
 -- texts that are gone through in pieces of 64 characters, and what each piece stands for
 use Rattle.std.proofs.Common.{◌≡◌, ◌≢◌, ℕ, zero, suc, ◌+◌, ◌*◌, ◌%◌, ◌<◌, ◌≤◌, true, false, List, [], ◌∷◌, ◌++◌, length, take, drop, get_or, length-append}
-use Rattle.std.proofs.{Common.{nat_eq, refl, sym, ap, subst, ◌∙◌, arith, Ok, Err}, Math.{ListN.get_or-append}}
-use Rattle.std.proofs.lemmas.List.{take_all, take_at, drop_at, append-nil, map-append, length-map, get_or-append-add, take-append-drop}
-use Rattle.std.specs.{Prelude.{◌↔◌, Bool, IsTrue}, List.AllPass}
+use Rattle.std.proofs.{Common.{nat_eq, refl, sym, ap, subst, ◌∙◌, arith, Ok, Err}, Math.ListN.get_or-append, lemmas.List.{take_all, take_at, drop_at}}
+use Rattle.std.{proofs.lemmas.{List.{append-nil, map-append, length-map, get_or-append-add, take-append-drop}, Grind.common_steps}, specs.Prelude.{◌↔◌, Bool}}
+use Rattle.std.specs.{Prelude.IsTrue, List.AllPass}
 use Rattle.base64.specs.{GeneralPurpose.IsBytes, Engines.standard, declared.decode.DecodeError.DecodeError}
 use Rattle.base64.proofs.EngineFacts.{decode_of-encode_of, encode_of-nil}
-use Rattle.hex.{specs.Hex.{decode_of, decode_pairs, pair_value}, proofs.{HexLemmas.{decode_of-even, decode_of-ok}, Pairs.{cons_byte, decode_pairs-ok_pair}}}
-use Rattle.domain_codecs.specs.declared.codec.Codec.{Codec, TheVariants.{Base16, Base32Hex, Base64}}
-use Rattle.domain_codecs.specs.{Codec.{Decodes, IsText, IsFirstOther, is_digit, base32_octets, base32_digits, IsBase32}, Cut.Cut}
-use Rattle.domain_codecs.proofs.{CodecBackLemmas.decodes_once, Base16Lemmas.{First, pairs_first}}
-use Rattle.domain_codecs.proofs.Base64Lemmas.{DecodesTo, split_pieces, nothing_decodes, bytes-drop, Passed, passed_none, passed_more, short_piece}
-use Rattle.domain_codecs.proofs.Base64Lemmas.{decoded_length}
-use Rattle.domain_octets.{specs.{Words.AreOctets}, proofs.PrefixLemmas.{Searched, searched_more}}
 use Rattle.base64.specs.GeneralPurpose as base64
-use Rattle.std.proofs.lemmas.Grind.{common_steps}
+use Rattle.hex.{specs.Hex.{decode_of, decode_pairs, pair_value}, proofs.{HexLemmas.{decode_of-even, decode_of-ok}, Pairs.{cons_byte, decode_pairs-ok_pair}}}
+use Rattle.domain_codecs.specs.{declared.codec.Codec.{Codec, TheVariants.{Base16, Base32Hex, Base64}}, Codec.{Decodes, IsText, IsFirstOther, is_digit}}
+use Rattle.domain_codecs.{specs.{Codec.{base32_octets, base32_digits, IsBase32}, Cut.Cut}, proofs.{CodecBackLemmas.decodes_once, Base16Lemmas.First}}
+use Rattle.domain_codecs.proofs.{Base16Lemmas.pairs_first, Base64Lemmas.{DecodesTo, split_pieces, nothing_decodes, bytes-drop, Passed, passed_none}}
+use Rattle.domain_codecs.proofs.Base64Lemmas.{passed_more, short_piece, decoded_length}
+use Rattle.domain_octets.{specs.{Words.AreOctets}, proofs.PrefixLemmas.{Searched, searched_more}}
 
 -- octets are what the library `base64` takes for bytes
 pub bytes_of : (text : List ℕ) → AreOctets text → IsBytes text

@@ -1,9 +1,8 @@
 -- a text that is refused stands for no octets
 use Rattle.std.{proofs.{Common.{◌≡◌, ℕ, List, arith, Option, Result}, lemmas.Grind.common_steps}, specs.{Prelude.{◌↔◌, IsErrOf, IsErrAnd}, List.AllPass}}
 use Rattle.hex.proofs.HexLemmas.{decode_of-ok}
-use Rattle.domain_codecs.specs.declared.codec.Codec.{Codec, TheVariants.{Base16, Base32Hex, Base64}}
-use Rattle.domain_codecs.specs.{Codec.{is_digit, Decodes, IsFirstOther, HasBadChar, HasBadLength, HasNoRoom, TextFault}, declared.codec.DecodeError.DecodeError}
-use Rattle.domain_codecs.specs.declared.codec.DecodeError.TheVariants.{ShortBuf}
+use Rattle.domain_codecs.specs.{declared.codec.Codec.{Codec, TheVariants.{Base16, Base32Hex, Base64}}, Codec.{is_digit, Decodes, IsFirstOther, HasBadChar}}
+use Rattle.domain_codecs.specs.{Codec.{HasBadLength, HasNoRoom, TextFault}, declared.codec.DecodeError.{DecodeError, TheVariants.ShortBuf}}
 
 other_passes : (codec : Codec) (text : List ℕ) (c : ℕ) → IsFirstOther codec text c → AllPass (is_digit codec) text → ⊥
 other_passes codec text c first all = grind (arith, common_steps)

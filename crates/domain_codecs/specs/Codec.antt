@@ -2,13 +2,12 @@
 use Rattle.std.specs.Prelude.{◌≡◌, ℕ, ◌+◌, ◌-◌, ◌*◌, ◌/◌, ◌%◌, ◌<◌, ◌==◌, ◌||◌, ◌&&◌, nat_le, Bool, true, false, not, [], ◌∷◌, map, length, slice_index, take}
 use Rattle.std.specs.{Prelude.{Ok, if◌then◌else◌, Option, Some, None, IsNone, is_some, unwrap_or}, List.AllPass}
 use Rattle.hex.specs.Hex as hex
-use Rattle.base64.specs.GeneralPurpose as base64
 use Rattle.base64.specs.Engines.{standard}
+use Rattle.base64.specs.GeneralPurpose as base64
 use Rattle.domain_codecs.specs.declared.codec.{Codec.{Codec, TheVariants.{Base16, Base32Hex, Base64}}, DecodeError.DecodeError}
 use Rattle.domain_codecs.specs.declared.codec.DecodeError.TheVariants.{IllegalChar, ShortInput, ShortBuf, OutOfMemory}
-use Rattle.domain_octets.specs.declared.error.AppendError.{AppendError}
+use Rattle.domain_octets.specs.{declared.error.AppendError.AppendError, Limit.IsOver, Words.Octets, Characters.{plus, slash, equals_sign}}
 use Rattle.domain_octets.specs.declared.error.AppendError.TheVariants as append_error
-use Rattle.domain_octets.specs.{Limit.IsOver, Words.Octets, Characters.{plus, slash, equals_sign}}
 
 -- the value of a digit of Base 32 hex, in either case: 0 to 9, and A to V for 10 to 31; as octets
 -- the characters 0, A and a are 48, 65 and 97

@@ -1,9 +1,9 @@
 //! Base 32 with the extended hex alphabet, without padding (RFC 4648, section 7).
-ghost use Rattle.std.specs.Prelude.{◌≡◌, ◌+◌, ◌*◌, ◌/◌, ◌<◌, ◌≤◌, ◌∷◌, ◌++◌, [], map, length, slice_index, take, drop, IfOk, IfErr, IfSome, IfNone, IsErrOf, ◌↔◌, string_bytes};
+ghost use Rattle.std.specs.Prelude.{◌≡◌, ◌+◌, ◌*◌, ◌/◌, ◌<◌, ◌≤◌, ◌∷◌, ◌++◌, [], map, length, slice_index, take, drop, IfOk, IfErr, IfSome, IfNone, IsErrOf, ◌↔◌, string_bytes, unwrap_or};
 ghost use Rattle.std.specs.Fmt.{WritesOnOk};
 ghost use Rattle.domain_codecs.specs.Base32.{AreDigits, base32_from, base32_upper, base32_lower, upper_digit, lower_digit};
 ghost use Rattle.domain_codecs.specs.declared.codec.Codec.TheVariants as codec;
-ghost use Rattle.domain_codecs.specs.Codec.{Decodes, DecodeFault, HasNoRoom};
+ghost use Rattle.domain_codecs.specs.Codec.{base32_value, Decodes, DecodeFault, HasNoRoom};
 ghost use Rattle.domain_octets.specs.Words.{Octets};
 
 use crate::joined::put;
@@ -26,6 +26,33 @@ where
         ↔ HasNoRoom codec.Base32Hex O.Builder.limit text.now }
 {
     Codec::Base32Hex.decode(alloc, text)
+}
+
+/// The value of a digit, in either case; None for a character that is no digit.
+pub fn digit_value(c: u8) -> Option<u8>
+    ensures value { result ≡ base32_value c }
+    ensures small { IfSome result (λ digit. digit < 32) }
+{
+    if c >= b'0' && c <= b'9' {
+        Some(c - b'0')
+    } else if c >= b'A' && c <= b'V' {
+        Some(c - b'A' + 10)
+    } else if c >= b'a' && c <= b'v' {
+        Some(c - b'a' + 10)
+    } else {
+        None
+    }
+}
+
+/// The value of a digit, in either case, and 0 for a character that is no digit.
+pub fn digit_or_zero(c: u8) -> u32
+    ensures value { result ≡ unwrap_or (base32_value c) 0 }
+    ensures small { result < 32 }
+{
+    match digit_value(c) {
+        Some(digit) => u32::from(digit),
+        None => 0,
+    }
 }
 
 /// The digits in lower case.

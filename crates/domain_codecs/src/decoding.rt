@@ -4,8 +4,9 @@ ghost use Rattle.std.specs.List.{concat};
 ghost use Rattle.domain_codecs.specs.Codec.{Decodes, IsText, HasNoRoom, BuildFault, DecodeFault};
 ghost use Rattle.domain_octets.specs.{Limit.HasRoom, Words.AreOctets};
 
+use crate::base32::digit_or_zero;
 use crate::joined::{Joined, over_eight};
-use crate::judging::{base32_digit, judge};
+use crate::judging::judge;
 use crate::{Codec, DecodeError};
 use base64::engine::general_purpose::STANDARD;
 use domain_octets::{AppendError, EmptyBuilder, FromBuilder};
@@ -23,7 +24,7 @@ fn decode_base32(digits: &[u8], octets: &mut [u8; 64]) -> usize
     let mut rest: u32 = 0;
     for c in digits {
         let wider = 32 * scale;
-        let value = 32 * rest + base32_digit(*c);
+        let value = 32 * rest + digit_or_zero(*c);
         if wider < 256 {
             scale = wider;
             rest = value;

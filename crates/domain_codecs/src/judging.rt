@@ -1,40 +1,13 @@
 //! Whether a text stands for octets, and what is wrong with it.
-ghost use Rattle.std.specs.Prelude.{◌≡◌, ◌<◌, ◌≤◌, ◌%◌, ◌↔◌, false, IsTrue, IfErr, IfSome, IfNone, OnOk, Some, length, slice_index, take, unwrap_or};
+ghost use Rattle.std.specs.Prelude.{◌≡◌, ◌<◌, ◌≤◌, ◌%◌, ◌↔◌, false, IsTrue, IfErr, IfSome, IfNone, OnOk, Some, length, slice_index, take};
 ghost use Rattle.std.specs.List.{AllPass};
-ghost use Rattle.domain_codecs.specs.Codec.{base32_value, is_digit, IsFirstOther, IsText, TextFault};
+ghost use Rattle.domain_codecs.specs.Codec.{is_digit, IsFirstOther, IsText, TextFault};
 ghost use Rattle.domain_octets.specs.Words.{AreOctets};
 
 use crate::joined::Joined;
-use crate::{Codec, DecodeError};
+use crate::{Codec, DecodeError, base32};
 use base64::engine::general_purpose::STANDARD;
 use domain_octets::{OctetSet, prefix_len};
-
-/// The value of a digit of Base 32 hex.
-fn base32_value(c: u8) -> Option<u8>
-    ensures value { result ≡ base32_value c }
-    ensures small { IfSome result (λ digit. digit < 32) }
-{
-    if c >= b'0' && c <= b'9' {
-        Some(c - b'0')
-    } else if c >= b'A' && c <= b'V' {
-        Some(c - b'A' + 10)
-    } else if c >= b'a' && c <= b'v' {
-        Some(c - b'a' + 10)
-    } else {
-        None
-    }
-}
-
-/// The value of a digit of Base 32 hex, and 0 for what is none.
-pub(crate) fn base32_digit(c: u8) -> u32
-    ensures value { result ≡ unwrap_or (base32_value c) 0 }
-    ensures small { result < 32 }
-{
-    match base32_value(c) {
-        Some(digit) => u32::from(digit),
-        None => 0,
-    }
-}
 
 /// Whether a character stands in texts of the codec.
 fn is_digit(codec: Codec, c: u8) -> bool
@@ -42,7 +15,7 @@ fn is_digit(codec: Codec, c: u8) -> bool
 {
     match codec {
         Codec::Base16 => c.is_ascii_hexdigit(),
-        Codec::Base32Hex => base32_value(c).is_some(),
+        Codec::Base32Hex => base32::digit_value(c).is_some(),
         Codec::Base64 => c.is_ascii_alphanumeric() || c == b'+' || c == b'/' || c == b'=',
     }
 }

@@ -1,8 +1,7 @@
-use Rattle.std.proofs.Common.{rules, arith}
+use Rattle.std.proofs.{Common.{rules, arith}, lemmas.Grind.common_steps}
 use Rattle.hex.specs.Hex.{encode_with}
 use Rattle.domain_codecs.proofs.CodecLemmas.{encode_more}
 use Rattle.domain_codecs.proofs.base16.display.Goals as goal
-use Rattle.std.proofs.lemmas.Grind.{common_steps}
 
 pub loop-octet-init : goal.loop-octet-init
 unfolding encode_with

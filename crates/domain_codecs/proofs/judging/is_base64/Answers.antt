@@ -1,8 +1,7 @@
-use Rattle.std.{proofs.Common.{◌≡◌, length, take, arith, length-take}}
+use Rattle.std.proofs.{Common.{◌≡◌, length, take, arith, length-take}, lemmas.Grind.common_steps}
 use Rattle.domain_codecs.proofs.JoinedLemmas.{passed_begin, no_group, refused_piece, short_decides, full_goes_on, full_is_some}
 use Rattle.domain_codecs.proofs.judging.is_base64.Goals.{Else-full-lt48}
 use Rattle.domain_codecs.proofs.judging.is_base64.Goals as goal
-use Rattle.std.proofs.lemmas.Grind.{common_steps}
 
 pub returns-then-over-ne0 : goal.returns-then-over-ne0
 returns-then-over-ne0 c = (
