@@ -1,8 +1,7 @@
 -- How the records of a chain are gathered, and what the finished chain means.
-use Rattle.std.proofs.Common.{◌≡◌, ℕ, ◌+◌, Bool, true, false, not, ◌&&◌, ◌||◌, List, [], ◌∷◌, ◌++◌, map, refl, sym, ap, ◌∙◌, subst, inl, inr, ◌⊎◌, Some}
-use Rattle.std.proofs.{Common.{zero, suc, ◌<◌, length, get_or, take, arith}, lemmas.Bool.{cases_Bool, false≢true, and_parts, or_cases, not-true}}
-use Rattle.std.proofs.lemmas.{List.{take_more, Elements.recursion_from_All}, Grind.common_steps}
-use Rattle.std.specs.{Prelude.{count_by, All}, List.{AllByRecursion, list_any}}
+use Rattle.std.proofs.Common.{◌≡◌, ℕ, ◌+◌, Bool, true, false, not, ◌&&◌, ◌||◌, List, [], ◌∷◌, ◌++◌, map, refl, sym, ap, ◌∙◌, subst, inl, inr, ◌⊎◌, Some, zero}
+use Rattle.std.proofs.{Common.{suc, ◌<◌, length, get_or, take, arith}, lemmas.{Bool.{cases_Bool, false≢true, and_parts, or_cases, not-true}, List.take_more}}
+use Rattle.std.{proofs.lemmas.{List.Elements.recursion_from_All, Grind.common_steps}, specs.{Prelude.{count_by, All}, List.{AllByRecursion, list_any}}}
 use Rattle.domain_bitmap.specs.Bitmap.{bitmap_octets}
 use Rattle.domain_zone.specs.{Covering.{covers, matches_or_covers, pairs}, Soa.{chain_ttl, soa_of}}
 use Rattle.domain_zone.specs.{Zone.{ZoneRecord, OwnersNeverDescend, owns, is_occluded, is_unoccluded, unoccluded_owners}, declared.soa.ApexSoa.ApexSoa}
@@ -11,9 +10,8 @@ use Rattle.domain_zone.proofs.OwnerLemmas.{any_owner, any_in, owners_are, owners
 use Rattle.domain_zone.proofs.{PairLemmas.{In, all_in, IsAscending, IsApart, one_matches_or_covers, gap, owner_in, next_is}, PlaceLemmas.one_place}
 use Rattle.domain_zone.proofs.{SoaLemmas.soa_owned, ZoneLemmas.{weaker, apart_right}, FindLemmas.in_at}
 use Rattle.domain_names.specs.{Name.{is_at_or_below, lowered, same_name}, Order.before, Words.Name}
-use Rattle.domain_nsec.specs.Chain.{Link, link_of, links_in, nsec_lists, IsChain}
-use Rattle.domain_nsec.specs.Meaning.{MirrorsZone, IsMatchedOrCoveredOnce, IsCycle, OwnersAscend, last_next}
-use Rattle.domain_nsec.specs.declared.config.GenerateNsecConfig.{GenerateNsecConfig}
+use Rattle.domain_nsec.specs.{Chain.{Link, link_of, links_in, nsec_lists, IsChain}, Meaning.{MirrorsZone, IsMatchedOrCoveredOnce, IsCycle, OwnersAscend}}
+use Rattle.domain_nsec.specs.{Meaning.last_next, declared.config.GenerateNsecConfig.GenerateNsecConfig}
 
 abbrev pub pair_of : Link → Name × Name
 pair_of k = (k.owner, k.next)

@@ -3,10 +3,9 @@ use Rattle.std.proofs.Common.{◌≡◌, ℕ, Bool, List, [], map, map-id, Some,
 use Rattle.std.{proofs.lemmas.{Simd.map-map, Grind.common_steps}, specs.{Prelude.filter, List.{list_any, AllByRecursion}}}
 use Rattle.domain_bitmap.specs.Bitmap.{bitmap_octets}
 use Rattle.domain_names.specs.{Name.same_name, Words.Name}
-use Rattle.domain_zone.specs.{Owners.{OwnerRecords, owner_at, owners_with_records}, Soa.soa_of, declared.listed.ListedOwners.ListedOwners}
-use Rattle.domain_zone.specs.{Zone.{ZoneRecord, has_unequal_ttls, unoccluded_owners}, declared.soa.ApexSoa.ApexSoa}
-use Rattle.domain_zone.proofs.{GivenLemmas.{name_of, clashes_in, all_known}, ListedLemmas.{IsListing, all_named, all_typed}}
-use Rattle.domain_zone.proofs.{PairLemmas.all_from_in, ZoneLemmas.{any_map, filter_whole}}
+use Rattle.domain_zone.specs.{Owners.{OwnerRecords, owner_at, owners_with_records}, Soa.soa_of, declared.listed.ListedOwners.ListedOwners, Zone.ZoneRecord}
+use Rattle.domain_zone.{specs.{Zone.{has_unequal_ttls, unoccluded_owners}, declared.soa.ApexSoa.ApexSoa}, proofs.GivenLemmas.{name_of, clashes_in, all_known}}
+use Rattle.domain_zone.proofs.{ListedLemmas.{IsListing, all_named, all_typed}, PairLemmas.all_from_in, ZoneLemmas.{any_map, filter_whole}}
 use Rattle.domain_nsec.specs.{Chain.{links_in, nsec_lists, is_listed, IsChain}, declared.config.GenerateNsecConfig.GenerateNsecConfig}
 use Rattle.domain_nsec.proofs.ChainLemmas.{chain_of}
 

@@ -1,9 +1,8 @@
 -- The NSEC chain of a zone (RFC 4034, section 4; RFC 4035, section 2.3), and when there is none.
 use Rattle.std.specs.Prelude.{ℕ, Bool, true, false, ◌&&◌, ◌||◌, ◌==◌, List, [], ◌∷◌, map, slice_index_or, Some, None, ◌≡◌, ◌≢◌, All}
 use Rattle.domain_bitmap.specs.Bitmap.{bitmap_octets}
-use Rattle.domain_records.specs.declared.error.SigningError.{SigningError}
-use Rattle.domain_records.specs.declared.error.SigningError.TheVariants.{EmptyRecordSlice, SoaRecordCouldNotBeDetermined, MultipleTtlValues, Nsec3HashingError}
-use Rattle.domain_records.specs.declared.error.SigningError.TheVariants.{OutOfMemory}
+use Rattle.domain_records.specs.declared.error.SigningError.{SigningError, TheVariants.{EmptyRecordSlice, SoaRecordCouldNotBeDetermined, MultipleTtlValues}}
+use Rattle.domain_records.specs.declared.error.SigningError.TheVariants.{Nsec3HashingError, OutOfMemory}
 use Rattle.domain_zone.specs.{Covering.pairs, Soa.{chain_ttl, soa_of}}
 use Rattle.domain_zone.specs.{Zone.{ZoneRecord, unoccluded_owners, is_zone_cut, records_of, lists_type, has_unequal_ttls}, declared.soa.ApexSoa.ApexSoa}
 use Rattle.domain_names.specs.{Name.same_name, Words.Name}

@@ -1,7 +1,6 @@
 -- The names above a name.
-use Rattle.std.proofs.Common.{◌≡◌, ℕ, ◌+◌, ◌≤◌, ◌<◌, true, false, cond, List, [], ◌∷◌, ◌++◌, length, refl, sym, ap, ◌∙◌, arith}
-use Rattle.std.proofs.lemmas.{Bool.{Decides.nat_tests}, List.{append-nil}, Grind.common_steps}
-use Rattle.std.specs.{Prelude.nat_lt, List.{AllByRecursion, list_any}}
+use Rattle.std.proofs.{Common.{◌≡◌, ℕ, ◌+◌, ◌≤◌, ◌<◌, true, false, cond, List, [], ◌∷◌, ◌++◌, length, refl, sym, ap, ◌∙◌, arith}, lemmas.Bool.Decides.nat_tests}
+use Rattle.std.{proofs.lemmas.{List.append-nil, Grind.common_steps}, specs.{Prelude.nat_lt, List.{AllByRecursion, list_any}}}
 use Rattle.domain_names.specs.{Name.{is_at_or_below, same_name}, Words.Name}
 use Rattle.domain_zone.proofs.{NameLemmas.{same_itself, below_trans, below_parent}, ZoneLemmas.{weaker, all_both}}
 use Rattle.domain_nsec3.{specs.Ancestors.above_with_more, proofs.SharedLemmas.{at_length, cons_below}}

@@ -1,8 +1,7 @@
 -- The owners of NSEC3 records ascend in canonical order, as their hashes do.
-use Rattle.std.proofs.Common.{◌≡◌, ℕ, ◌<◌, List, [], ◌∷◌, map, refl, sym, ap, ◌∙◌, subst}
-use Rattle.std.proofs.lemmas.{Cmp.tied_itself, List.Elements.recursion_from_All, Simd.map-map}
-use Rattle.std.specs.{Prelude.All, List.{AllByRecursion, Sorted.IsStrictlySortedBy}, Cmp.Lexicographic.slice_cmp, Ordering.{nat_cmp, ordering_then}}
-use Rattle.std.specs.declared.cmp.Ordering.TheVariants.{Less}
+use Rattle.std.proofs.{Common.{◌≡◌, ℕ, ◌<◌, List, [], ◌∷◌, map, refl, sym, ap, ◌∙◌, subst}, lemmas.{Cmp.tied_itself, List.Elements.recursion_from_All}}
+use Rattle.std.{proofs.lemmas.Simd.map-map, specs.{Prelude.All, List.{AllByRecursion, Sorted.IsStrictlySortedBy}, Cmp.Lexicographic.slice_cmp}}
+use Rattle.std.specs.{Ordering.{nat_cmp, ordering_then}, declared.cmp.Ordering.TheVariants.Less}
 use Rattle.domain_codecs.proofs.OrderLemmas.{lower_keeps}
 use Rattle.domain_names.{specs.{Order.{canonical_cmp, canonical_cmp_total}, Words.Name}, proofs.OrderLemmas.canonical_cmp-more}
 use Rattle.domain_zone.specs.Zone.{ZoneRecord}

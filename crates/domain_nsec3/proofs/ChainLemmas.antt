@@ -1,11 +1,10 @@
 -- Hashes in order, each linked with the next one, are the chain of the zone where they are those of the names of its chain.
-use Rattle.std.proofs.Common.{◌≡◌, ℕ, ◌+◌, ◌<◌, ◌≤◌, true, List, [], ◌∷◌, ◌++◌, map, length, get_or, take, Some, Ok, refl, sym, ap, ◌∙◌, subst}
-use Rattle.std.proofs.Common.{arith, inl, inr, add-one}
-use Rattle.std.proofs.lemmas.{Bool.cases_lt, List.{get_or-map, get_or_append_left, get_or_push, length-map, length_push, take_more}}
-use Rattle.std.proofs.lemmas.{Map.Keys.{apart_from_distinct, IsDistinct-IsPermutation}, Option.slice_get-get_or, Simd.map-map}
-use Rattle.std.proofs.lemmas.Slice.Zip.{firsts-zip, get_or-zip, length-zip}
-use Rattle.std.proofs.lemmas.{List.{Elements.{recursion_from_All, All-map, All-weaker}, Folds.list_any_at, Sorted.list_any-IsPermutation}, Grind.common_steps}
-use Rattle.std.specs.{Prelude.All, List.{AllByRecursion, IsDistinct, list_any, Sorted.IsStrictlySortedBy}, Ordering.nat_cmp, Cmp.Lexicographic.slice_cmp}
+use Rattle.std.proofs.Common.{◌≡◌, ℕ, ◌+◌, ◌<◌, ◌≤◌, true, List, [], ◌∷◌, ◌++◌, map, length, get_or, take, Some, Ok, refl, sym, ap, ◌∙◌, subst, arith, inl, inr}
+use Rattle.std.proofs.{Common.add-one, lemmas.{Bool.cases_lt, List.{get_or-map, get_or_append_left, get_or_push, length-map, length_push, take_more}}}
+use Rattle.std.proofs.lemmas.{Map.Keys.{apart_from_distinct, IsDistinct-IsPermutation}, Option.slice_get-get_or, Simd.map-map, Slice.Zip.firsts-zip}
+use Rattle.std.proofs.lemmas.{Slice.Zip.{get_or-zip, length-zip}, List.{Elements.{recursion_from_All, All-map, All-weaker}, Folds.list_any_at}}
+use Rattle.std.{proofs.lemmas.{List.Sorted.list_any-IsPermutation, Grind.common_steps}, specs.{Prelude.All, List.{AllByRecursion, IsDistinct, list_any}}}
+use Rattle.std.specs.{List.Sorted.IsStrictlySortedBy, Ordering.nat_cmp, Cmp.Lexicographic.slice_cmp}
 use Rattle.domain_base.specs.Classes.{in_class}
 use Rattle.domain_names.specs.{Name.same_name, Words.Name}
 use Rattle.domain_octets.specs.Words.{Octets}

@@ -1,20 +1,17 @@
 -- The order in which the names of a chain are hashed, and the first of them that is refused.
 use Rattle.std.proofs.Common.{◌≡◌, ℕ, zero, suc, ◌<◌, Bool, true, false, not, ◌&&◌, ◌||◌, cond, List, [], ◌∷◌, ◌++◌, length, get_or, map, refl, sym, ap, ◌∙◌}
-use Rattle.std.proofs.Common.{inl, inr, arith}
-use Rattle.std.proofs.lemmas.{Bool.{cases_Bool, cases_order, false≢true}, Cmp.tied_itself, Grind.common_steps, Map.Keys.IsDistinct-from_apart}
-use Rattle.std.proofs.lemmas.List.{get_or_default, get_or-take, length-take-le, Elements.{All-get_or, All-from_recursion, recursion_from_All}}
-use Rattle.std.proofs.lemmas.List.Folds.{Any-from_list_any, list_any_at}
-use Rattle.std.specs.{List.{AllByRecursion, IsDistinct, list_any, Sorted.IsStrictlySortedBy}, Ordering.nat_cmp, declared.cmp.Ordering.TheVariants.Less}
-use Rattle.std.specs.Cmp.Lexicographic.{slice_cmp, nat_list_cmp_total}
+use Rattle.std.proofs.{Common.{inl, inr, arith}, lemmas.{Bool.{cases_Bool, cases_order, false≢true}, Cmp.tied_itself, Grind.common_steps}}
+use Rattle.std.proofs.lemmas.{Map.Keys.IsDistinct-from_apart, List.{get_or_default, get_or-take, length-take-le, Elements.{All-get_or, All-from_recursion}}}
+use Rattle.std.{proofs.lemmas.List.{Elements.recursion_from_All, Folds.{Any-from_list_any, list_any_at}}, specs.List.{AllByRecursion, IsDistinct, list_any}}
+use Rattle.std.specs.{List.Sorted.IsStrictlySortedBy, Ordering.nat_cmp, declared.cmp.Ordering.TheVariants.Less, Cmp.Lexicographic.slice_cmp}
+use Rattle.std.specs.Cmp.Lexicographic.{nat_list_cmp_total}
 use Rattle.domain_names.specs.{Name.{wire_of, same_name}, Order.before, Words.Name}
 use Rattle.domain_hasher.specs.declared.error.Nsec3HashError.{Nsec3HashError}
-use Rattle.domain_zone.specs.Zone.{ZoneRecord}
-use Rattle.domain_zone.proofs.{NameLemmas.{before_order, before_left, one_lowered, same_itself}, PairLemmas.{In, IsAscending, all_in}}
-use Rattle.domain_zone.proofs.{FindLemmas.in_map, OwnerLemmas.any_in, ZoneLemmas.{weaker}}
-use Rattle.domain_nsec3.specs.{Chain.{HashedLink, HashedName, IsHashedChain, IsOfChain}, Config.{ChainConfig, Hash, hash_name}}
-use Rattle.domain_nsec3.specs.Faults.{hash_fault, is_hashed_before, IsFirstHashFault, IsFirstHashingFault, HasCollision}
-use Rattle.domain_nsec3.specs.{Owners.{is_original_owner, is_chain_name}, Steps.IsFirstRefused}
-use Rattle.domain_nsec3.proofs.ListLemmas.{ascends_both, both}
+use Rattle.domain_zone.{specs.Zone.ZoneRecord, proofs.{NameLemmas.{before_order, before_left, one_lowered, same_itself}, PairLemmas.{In, IsAscending, all_in}}}
+use Rattle.domain_zone.proofs.{FindLemmas.in_map, OwnerLemmas.any_in, ZoneLemmas.weaker}
+use Rattle.domain_nsec3.specs.{Chain.{HashedLink, HashedName, IsHashedChain, IsOfChain}, Config.{ChainConfig, Hash, hash_name}, Faults.hash_fault}
+use Rattle.domain_nsec3.specs.{Faults.{is_hashed_before, IsFirstHashFault, IsFirstHashingFault, HasCollision}, Owners.{is_original_owner, is_chain_name}}
+use Rattle.domain_nsec3.{specs.Steps.IsFirstRefused, proofs.ListLemmas.{ascends_both, both}}
 
 -- names that are the same have one hash
 pub hash_same : (hash : Hash) (m n : Name) → same_name m n ≡ true → hash_name hash m ≡ hash_name hash n

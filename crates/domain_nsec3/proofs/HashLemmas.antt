@@ -1,14 +1,11 @@
 -- Lists of hashed names: how they are ordered and built.
-use Rattle.std.proofs.Common.{◌≡◌, ℕ, ◌+◌, ◌-◌, ◌<◌, ◌≤◌, false, List, [], ◌∷◌, ◌++◌, map, length, get_or, take, None, refl, sym, ap, ◌∙◌}
-use Rattle.std.proofs.Common.{subst, arith, inl, inr, ◌⊎◌, IsPermutation}
-use Rattle.std.proofs.lemmas.{Bool.{true≢false}, List.{get_or-map, get_or_read, length-map, map_push, take_more}}
-use Rattle.std.proofs.lemmas.Map.Keys.{sorted_from_all_adjacent}
-use Rattle.std.proofs.lemmas.List.Elements.{All-map, All-push, All-weaker}
-use Rattle.std.proofs.lemmas.List.Sorted.{All-permutation, IsPermutation-map, IsPermutation-refl, IsPermutation-trans}
-use Rattle.std.specs.{Prelude.All, List.Sorted.{IsSortedByKey, IsStrictlySortedBy}, Cmp.Lexicographic.{slice_cmp, nat_list_cmp_total}}
-use Rattle.std.specs.FinMap.{slice_cmp-IsAntisymmetric, nat_cmp-IsAntisymmetric}
-use Rattle.std.specs.{Ordering.{nat_cmp, is_lt, ordering_reverse}, declared.cmp.Ordering.{Ordering, TheVariants.{Less, Equal, Greater}}}
-use Rattle.std.proofs.lemmas.Grind.{common_steps}
+use Rattle.std.proofs.Common.{◌≡◌, ℕ, ◌+◌, ◌-◌, ◌<◌, ◌≤◌, false, List, [], ◌∷◌, ◌++◌, map, length, get_or, take, None, refl, sym, ap, ◌∙◌, subst, arith, inl}
+use Rattle.std.proofs.{Common.{inr, ◌⊎◌, IsPermutation}, lemmas.{Bool.true≢false, List.{get_or-map, get_or_read, length-map, map_push, take_more}}}
+use Rattle.std.proofs.lemmas.{Map.Keys.sorted_from_all_adjacent, List.{Elements.{All-map, All-push, All-weaker}, Sorted.{All-permutation, IsPermutation-map}}}
+use Rattle.std.{proofs.lemmas.{List.Sorted.{IsPermutation-refl, IsPermutation-trans}, Grind.common_steps}, specs.{Prelude.All, List.Sorted.IsSortedByKey}}
+use Rattle.std.specs.{List.Sorted.IsStrictlySortedBy, Cmp.Lexicographic.{slice_cmp, nat_list_cmp_total}, FinMap.slice_cmp-IsAntisymmetric}
+use Rattle.std.specs.{FinMap.nat_cmp-IsAntisymmetric, Ordering.{nat_cmp, is_lt, ordering_reverse}, declared.cmp.Ordering.{Ordering, TheVariants.{Less, Equal}}}
+use Rattle.std.specs.declared.cmp.Ordering.TheVariants.{Greater}
 use Rattle.domain_hasher.specs.declared.error.Nsec3HashError.{Nsec3HashError, TheVariants.OutOfMemory}
 use Rattle.domain_names.specs.Words.{Name}
 use Rattle.domain_octets.specs.Words.{Octets}

@@ -1,16 +1,13 @@
 -- Names above owners that stand in order: they ascend, and none of them is an owner.
 use Rattle.std.proofs.Common.{◌≡◌, ℕ, ◌<◌, ◌≤◌, Bool, true, false, ◌||◌, List, [], ◌∷◌, ◌++◌, length, refl, sym, ap, ◌∙◌, arith, inl, inr}
-use Rattle.std.proofs.lemmas.Bool.{cases_Bool, false≢true, leb-true, and_parts, not-true, or_left, or_right, Decides.nat_tests}
-use Rattle.std.proofs.lemmas.{Grind.common_steps}
-use Rattle.std.specs.{List.{AllByRecursion, list_any, Sorted.IsStrictlySortedBy}}
-use Rattle.std.specs.{Ordering.is_lt, declared.cmp.Ordering.TheVariants.Less}
+use Rattle.std.proofs.lemmas.{Bool.{cases_Bool, false≢true, leb-true, and_parts, not-true, or_left, or_right, Decides.nat_tests}, Grind.common_steps}
+use Rattle.std.specs.{List.{AllByRecursion, list_any, Sorted.IsStrictlySortedBy}, Ordering.is_lt, declared.cmp.Ordering.TheVariants.Less}
 use Rattle.domain_names.specs.{Order.{canonical_cmp, before, common_labels}, Name.{is_at_or_below, is_strictly_below, lowered, same_name}, Words.Name}
 use Rattle.domain_records.proofs.Lookups.{is_less}
-use Rattle.domain_zone.specs.Enclosers.{is_empty_nonterminal}
-use Rattle.domain_zone.proofs.NameLemmas.{before_order, below_between, below_from, below_itself, below_longer, one_lowered, same_both}
-use Rattle.domain_zone.proofs.{NameLemmas.{same_itself, same_lowered, strictly_from}, OwnerLemmas.{any_in, any_weaker}}
-use Rattle.domain_zone.proofs.PairLemmas.{IsAscending, all_in, lt_trans}
-use Rattle.domain_zone.proofs.{SharedLemmas.either_way, ZoneLemmas.{weaker, all_both, apart_left, apart_right, after_or}}
+use Rattle.domain_zone.{specs.Enclosers.is_empty_nonterminal, proofs.NameLemmas.{before_order, below_between, below_from, below_itself, below_longer}}
+use Rattle.domain_zone.proofs.{NameLemmas.{one_lowered, same_both, same_itself, same_lowered, strictly_from}, OwnerLemmas.{any_in, any_weaker}}
+use Rattle.domain_zone.proofs.{PairLemmas.{IsAscending, all_in, lt_trans}, SharedLemmas.either_way, ZoneLemmas.{weaker, all_both, apart_left, apart_right}}
+use Rattle.domain_zone.proofs.ZoneLemmas.{after_or}
 use Rattle.domain_nsec3.specs.Ancestors.{above_with_more, IsListOf}
 use Rattle.domain_nsec3.proofs.{AncestorLemmas.{IsAbove, are_above, has_each}, SharedLemmas.{at_length, common_shares}}
 

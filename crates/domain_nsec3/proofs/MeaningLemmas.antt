@@ -1,27 +1,22 @@
 -- What the records of an NSEC3 chain say of every name, from the chain alone.
-use Rattle.std.proofs.Common.{length, ◌≤◌, arith, ◌≡◌, ℕ, zero, suc, true, false, not, ◌&&◌, ◌||◌, List, [], ◌∷◌, map, Some, Ok, refl, sym, ap, ◌∙◌}
-use Rattle.std.proofs.{Common.{subst, inl, inr}, lemmas.Bool.{cases_Bool, false≢true, and_parts, or_left}}
-use Rattle.std.proofs.lemmas.{List.{Elements.recursion_from_All, Sorted.ranks_by}, Grind.common_steps}
-use Rattle.std.specs.{Prelude.{slice_get}, List.{list_any, Sorted.IsStrictlySortedBy}, Cmp.IsStrictWeakOrder}
-use Rattle.std.specs.{Cmp.Lexicographic.{slice_cmp, nat_list_cmp_total}, FinMap.{slice_cmp-IsAntisymmetric, nat_cmp-IsAntisymmetric}}
-use Rattle.std.specs.{Ordering.{nat_cmp, is_lt}, declared.cmp.Ordering.{TheVariants.{Less}}}
+use Rattle.std.proofs.Common.{length, ◌≤◌, arith, ◌≡◌, ℕ, zero, suc, true, false, not, ◌&&◌, ◌||◌, List, [], ◌∷◌, map, Some, Ok, refl, sym, ap, ◌∙◌, subst, inl}
+use Rattle.std.proofs.{Common.inr, lemmas.{Option.same_Some, Bool.{cases_Bool, false≢true, and_parts, or_left}, List.Elements.recursion_from_All}}
+use Rattle.std.{proofs.lemmas.{List.Sorted.ranks_by, Grind.common_steps}, specs.{Prelude.slice_get, List.{list_any, Sorted.IsStrictlySortedBy}}}
+use Rattle.std.specs.{Cmp.{IsStrictWeakOrder, Lexicographic.{slice_cmp, nat_list_cmp_total}}, FinMap.{slice_cmp-IsAntisymmetric, nat_cmp-IsAntisymmetric}}
+use Rattle.std.specs.{Ordering.{nat_cmp, is_lt}, declared.cmp.Ordering.TheVariants.Less}
 use Rattle.domain_codecs.{specs.Base32.base32_lower, proofs.OrderLemmas.lower_apart}
-use Rattle.domain_octets.proofs.StdLemmas.{some_is}
 use Rattle.domain_bitmap.{specs.Bitmap.bitmap_octets, proofs.BitmapLemmas.bitmap_octets-same}
-use Rattle.domain_zone.specs.{Covering.{matches, covers, matches_or_covers}, Enclosers.{IsClosestEncloser, exists_over}}
-use Rattle.domain_zone.specs.Zone.{ZoneRecord, owns}
-use Rattle.domain_zone.proofs.NameLemmas.{one_lowered, below_itself, below_trans, below_length, below_longer, below_parent, lowered_below}
-use Rattle.domain_zone.proofs.{OwnerLemmas.any_in, PairLemmas.{In, all_in, IsAscending, irreflexive, one_matches_or_covers}, PlaceLemmas.{IsOnly, one_place}}
+use Rattle.domain_zone.specs.{Covering.{matches, covers, matches_or_covers}, Enclosers.{IsClosestEncloser, exists_over}, Zone.{ZoneRecord, owns}}
+use Rattle.domain_zone.proofs.{NameLemmas.{one_lowered, below_itself, below_trans, below_length, below_longer, below_parent, lowered_below}, OwnerLemmas.any_in}
+use Rattle.domain_zone.proofs.{PairLemmas.{In, all_in, IsAscending, irreflexive, one_matches_or_covers}, PlaceLemmas.{IsOnly, one_place}}
 use Rattle.domain_zone.proofs.{SharedLemmas.either_way, SoaLemmas.soa_owned, FindLemmas.{from_map, in_at, in_map, stands_in}, ZoneLemmas.weaker}
 use Rattle.domain_names.specs.{Name.{is_at_or_below, lowered, same_name}, Words.Name}
 use Rattle.domain_base.specs.Types.{ns}
-use Rattle.domain_nsec3.specs.Chain.{HashedLink, HashedName, IsHashedChain, IsOfChain, cycle, ends, ends_of, hashed_owner}
-use Rattle.domain_nsec3.specs.Config.{ChainConfig, HashAnswer, hash_of}
-use Rattle.domain_nsec3.specs.Meaning.{octets_before, IsAlone, AreAlone, IsRecordOf, IsMatchedOrCoveredOnce, MirrorsZone, TellsEncloserOf, TellsEncloser}
-use Rattle.domain_nsec3.specs.Meaning.{CoversExcluded}
-use Rattle.domain_nsec3.specs.Owners.{original_owners, is_empty, is_chain_name, nsec3_lists}
-use Rattle.domain_nsec3.proofs.{ChainLemmas.cycle_owners, FaultLemmas.hash_same, SharedLemmas.at_length}
-use Rattle.domain_nsec3.proofs.OwnerLemmas.{apex_original, existing_are, out_flag, runs_to_encloser}
+use Rattle.domain_nsec3.specs.{Chain.{HashedLink, HashedName, IsHashedChain, IsOfChain, cycle, ends, ends_of, hashed_owner}, Config.{ChainConfig, HashAnswer}}
+use Rattle.domain_nsec3.specs.{Config.hash_of, Meaning.{octets_before, IsAlone, AreAlone, IsRecordOf, IsMatchedOrCoveredOnce, MirrorsZone, TellsEncloserOf}}
+use Rattle.domain_nsec3.specs.{Meaning.{TellsEncloser, CoversExcluded}, Owners.{original_owners, is_empty, is_chain_name, nsec3_lists}}
+use Rattle.domain_nsec3.proofs.{ChainLemmas.cycle_owners, FaultLemmas.hash_same, SharedLemmas.at_length, OwnerLemmas.{apex_original, existing_are, out_flag}}
+use Rattle.domain_nsec3.proofs.OwnerLemmas.{runs_to_encloser}
 
 -- ---- the order of hashes
 
@@ -178,7 +173,7 @@ module _ (L : List ZoneRecord) (a : Name) (config : ChainConfig) where
         let one = the_pair v in
         let l = link_there links (cycle (map (λ n. n.hash) chain.names)) chain.linked one.item one.place one.there in
         let p = of_place l.0 one.place l.1 in
-        let is : one.item ≡ (p.name.hash, l.0.next) = some_is one.item (p.name.hash, l.0.next) (sym one.there ∙ p.pair) in
+        let is : one.item ≡ (p.name.hash, l.0.next) = same_Some one.item (p.name.hash, l.0.next) (sym one.there ∙ p.pair) in
         let says : matches_or_covers octets_before p.name.hash l.0.next v
         ≡ true = ap (λ (q : List ℕ × List ℕ). matches_or_covers octets_before q.0 q.1 v) (sym is) ∙ one.passes in
         let matched : matches octets_before p.name.hash v ≡ is_chain_name L a config x =
@@ -189,7 +184,7 @@ module _ (L : List ZoneRecord) (a : Name) (config : ChainConfig) where
         let q = from_map (λ (r : List ℕ × List ℕ). r.0) (cycle hashes) v (subst (In v) (sym (cycle_owners hashes)) (among x v alone.known c)) in
         let s = stands_in (cycle hashes) q.0 q.1 in
         let at = one.only s.place q.0 s.there (or_left (matches octets_before q.0.0 v) _ (matches_itself q.0.0 v q.2)) in
-        let same : q.0 ≡ (p.name.hash, l.0.next) = some_is q.0 (p.name.hash, l.0.next) (sym s.there ∙ ap (slice_get (cycle hashes)) at ∙ p.pair) in
+        let same : q.0 ≡ (p.name.hash, l.0.next) = same_Some q.0 (p.name.hash, l.0.next) (sym s.there ∙ ap (slice_get (cycle hashes)) at ∙ p.pair) in
         matches_itself p.name.hash v (sym (ap (λ r. r.0) same) ∙ q.2)) in
         record {
           place = one.place;

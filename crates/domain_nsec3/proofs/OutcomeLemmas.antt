@@ -1,22 +1,17 @@
 -- What hashing the names of a chain comes to: the chain of the zone, or its first fault.
 use Rattle.std.proofs.Common.{◌≡◌, ℕ, ◌-◌, ◌<◌, true, false, List, [], ◌++◌, map, length, get_or, refl, sym, ap, ◌∙◌, subst, inl, inr, ◌⊎◌, Some, arith}
-use Rattle.std.proofs.lemmas.Bool.{and_parts, cases_lt, not-true}
-use Rattle.std.proofs.lemmas.{List.{get_or-map, get_or_append_left, get_or-append_right, get_or_past, length-append, length-map}, Grind.common_steps}
-use Rattle.std.proofs.lemmas.List.Elements.{All-from_recursion, All-get_or}
-use Rattle.std.specs.{Prelude.{All}, List.{AllByRecursion, list_any, Sorted.IsStrictlySortedBy}}
+use Rattle.std.proofs.lemmas.{Bool.{and_parts, cases_lt, not-true}, List.{get_or-map, get_or_append_left, get_or-append_right, get_or_past, length-append}}
+use Rattle.std.{proofs.lemmas.{List.{length-map, Elements.{All-from_recursion, All-get_or}}, Grind.common_steps}, specs.{Prelude.All, List.AllByRecursion}}
+use Rattle.std.specs.List.{list_any, Sorted.IsStrictlySortedBy}
 use Rattle.domain_names.specs.{Order.{before, canonical_cmp}, Name.{is_at_or_below, same_name}, Words.Name}
 use Rattle.domain_hasher.specs.declared.error.Nsec3HashError.{Nsec3HashError, TheVariants.OutOfMemory}
 use Rattle.domain_bitmap.specs.Bitmap.{bitmap_octets}
-use Rattle.domain_zone.specs.{Enclosers.is_empty_nonterminal, Soa.{chain_ttl, soa_of}}
-use Rattle.domain_zone.specs.{Zone.{ZoneRecord, OwnersNeverDescend}, declared.soa.ApexSoa.ApexSoa}
-use Rattle.domain_zone.proofs.NameLemmas.{same_itself}
-use Rattle.domain_zone.proofs.OwnerLemmas.{ascending_filter, in_any, owners_are, owners_ascend}
-use Rattle.domain_zone.proofs.{PairLemmas.{IsAscending, all_from_in}, ZoneLemmas.{all_filter, weaker}}
-use Rattle.domain_nsec3.specs.{Chain.IsHashedChain, Config.ChainConfig, Faults.{AreAllHashed, IsFirstHashingFault, is_hashed_before}}
-use Rattle.domain_nsec3.specs.{Owners.{original_owners, is_original_owner, is_chain_name, is_empty, nsec3_lists}, Steps.{AreOrderedHashes, AreOriginalOwners}}
-use Rattle.domain_nsec3.specs.Steps.{AreWithEmpty, Common, IsHashingFault, links_in, no_types}
-use Rattle.domain_nsec3.specs.declared.{chain.HashedChain.HashedChain, hash.Hashed.Hashed}
-use Rattle.domain_zone.specs.declared.listed.ListedOwners.{ListedOwners}
+use Rattle.domain_zone.specs.{Enclosers.is_empty_nonterminal, Soa.{chain_ttl, soa_of}, Zone.{ZoneRecord, OwnersNeverDescend}, declared.soa.ApexSoa.ApexSoa}
+use Rattle.domain_zone.{specs.declared.listed.ListedOwners.ListedOwners, proofs.{NameLemmas.same_itself, OwnerLemmas.{ascending_filter, in_any, owners_are}}}
+use Rattle.domain_zone.proofs.{OwnerLemmas.owners_ascend, PairLemmas.{IsAscending, all_from_in}, ZoneLemmas.{all_filter, weaker}}
+use Rattle.domain_nsec3.specs.{Chain.IsHashedChain, Config.ChainConfig, Faults.{AreAllHashed, IsFirstHashingFault, is_hashed_before}, Owners.original_owners}
+use Rattle.domain_nsec3.specs.{Owners.{is_original_owner, is_chain_name, is_empty, nsec3_lists}, Steps.{AreOrderedHashes, AreOriginalOwners, AreWithEmpty}}
+use Rattle.domain_nsec3.specs.{Steps.{Common, IsHashingFault, links_in, no_types}, declared.{chain.HashedChain.HashedChain, hash.Hashed.Hashed}}
 use Rattle.domain_nsec3.proofs.{ChainLemmas.{all_hashed, chain_of_zone, collides}, FaultLemmas.{all_apart, first_fault, hashed_in_order, hashing_fault}}
 use Rattle.domain_nsec3.proofs.{ListLemmas.{ascending, sorted}, OwnerLemmas.{empty_are, is_own, names_are}}
 

@@ -1,14 +1,12 @@
 -- The state of the walk over the owners, and what it has gathered.
-use Rattle.std.proofs.Common.{◌≡◌, Bool, false, not, ◌&&◌, List, [], ◌∷◌, map, map-id, refl, subst, sym, ap, ◌∙◌, arith}
-use Rattle.std.proofs.lemmas.{Simd.map-map, Grind.common_steps}
-use Rattle.std.specs.{Prelude.filter, List.{list_any, AllByRecursion}}
+use Rattle.std.proofs.{Common.{◌≡◌, Bool, false, not, ◌&&◌, List, [], ◌∷◌, map, map-id, refl, subst, sym, ap, ◌∙◌, arith}, lemmas.Simd.map-map}
+use Rattle.std.{proofs.lemmas.Grind.common_steps, specs.{Prelude.filter, List.{list_any, AllByRecursion}}}
 use Rattle.domain_bitmap.specs.Bitmap.{bitmap_octets}
 use Rattle.domain_names.specs.{Name.same_name, Words.Name}
 use Rattle.domain_octets.specs.Words.{Octets}
-use Rattle.domain_zone.specs.{Owners.{OwnerRecords, owner_at, owners_with_records}, declared.listed.ListedOwners.ListedOwners}
-use Rattle.domain_zone.specs.Zone.{ZoneRecord, has_type, has_unequal_ttls, unoccluded_owners}
-use Rattle.domain_zone.proofs.{GivenLemmas.{name_of, clashes_in, all_known}, ListedLemmas.{IsListing, all_named, all_typed}}
-use Rattle.domain_zone.proofs.{OwnerLemmas.owners_are, ZoneLemmas.{all_filter, any_map, weaker}}
+use Rattle.domain_zone.specs.{Owners.{OwnerRecords, owner_at, owners_with_records}, declared.listed.ListedOwners.ListedOwners, Zone.{ZoneRecord, has_type}}
+use Rattle.domain_zone.{specs.Zone.{has_unequal_ttls, unoccluded_owners}, proofs.{GivenLemmas.{name_of, clashes_in, all_known}, ListedLemmas.IsListing}}
+use Rattle.domain_zone.proofs.{ListedLemmas.{all_named, all_typed}, OwnerLemmas.owners_are, ZoneLemmas.{all_filter, any_map, weaker}}
 use Rattle.domain_base.specs.Types.{ds}
 use Rattle.domain_nsec3.specs.{Config.{ChainConfig, excludes}, Owners.{original_owners, is_excluded, is_listed, nsec3_lists}, Steps.AreOriginalOwners}
 use Rattle.domain_nsec3.proofs.ChainLemmas.{map_same}

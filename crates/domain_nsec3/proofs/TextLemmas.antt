@@ -1,9 +1,8 @@
 -- The text of a hash as a label.
 use Rattle.std.proofs.Common.{◌≡◌, ℕ, ◌+◌, ◌*◌, ◌/◌, ◌<◌, ◌≤◌, List, [], ◌∷◌, ◌++◌, map, length, refl, sym, ap, ◌∙◌, subst, arith, get_or, set, take, Fits, w8}
-use Rattle.std.proofs.Common.{inl, inr}
-use Rattle.std.proofs.lemmas.{Bool.cases_lt, List.{Elements.{All-map, All-weaker, recursion_from_All}, Folds.map_fixed, get_or_past, length-map}}
-use Rattle.std.proofs.lemmas.Grind.{common_steps}
-use Rattle.std.specs.{Prelude.{All, None, Ok, nat_lt, true, false, if◌then◌else◌}, Char.to_ascii_lowercase, List.AllByRecursion, Str.IsAscii}
+use Rattle.std.proofs.{Common.{inl, inr}, lemmas.{Bool.cases_lt, List.{Elements.{All-map, All-weaker, recursion_from_All}, Folds.map_fixed, get_or_past}}}
+use Rattle.std.{proofs.lemmas.{List.length-map, Grind.common_steps}, specs.Prelude.{All, None, Ok, nat_lt, true, false, if◌then◌else◌}}
+use Rattle.std.specs.{Char.to_ascii_lowercase, List.AllByRecursion, Str.IsAscii}
 use Rattle.domain_codecs.{specs.Base32.{base32_from, base32_lower, lower_digit}, proofs.{Base32Lemmas.many_digits, ReadBackLemmas.are_small}}
 use Rattle.domain_octets.proofs.OctetLemmas.{octets_from_type}
 use Rattle.domain_names.specs.{Name.{wire_of, IsName}, Text.{label_text, name_text}, Wire.{labels_of, IsWire}, Words.Name}

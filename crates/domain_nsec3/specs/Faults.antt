@@ -1,12 +1,10 @@
 -- When a zone has no NSEC3 chain.
 use Rattle.std.specs.Prelude.{Bool, true, false, not, ◌&&◌, ◌||◌, ◌==◌, List, length, nat_lt, Option, Some, None, Ok, Err, ◌≡◌, ◌≢◌, if◌then◌else◌}
-use Rattle.domain_names.specs.Name.{wire_of, same_name}
-use Rattle.domain_records.specs.declared.error.SigningError.{SigningError}
-use Rattle.domain_records.specs.declared.error.SigningError.TheVariants.{EmptyRecordSlice, SoaRecordCouldNotBeDetermined, MultipleTtlValues}
+use Rattle.domain_names.specs.{Name.{wire_of, same_name}, Order.before, Words.Name}
+use Rattle.domain_records.specs.declared.error.SigningError.{SigningError, TheVariants.{EmptyRecordSlice, SoaRecordCouldNotBeDetermined, MultipleTtlValues}}
 use Rattle.domain_records.specs.declared.error.SigningError.TheVariants.{Nsec3HashingError, OutOfMemory}
 use Rattle.domain_hasher.specs.declared.error.Nsec3HashError.{Nsec3HashError}
 use Rattle.domain_hasher.specs.declared.error.Nsec3HashError.TheVariants as hash_error
-use Rattle.domain_names.specs.{Order.before, Words.Name}
 use Rattle.domain_zone.specs.{Soa.soa_of, Zone.{ZoneRecord, has_unequal_ttls}}
 use Rattle.domain_nsec3.specs.{Chain.hashed_owner, Config.{ChainConfig, HashAnswer, hash_of}, Owners.{is_chain_name, is_original_owner, original_owners}}
 

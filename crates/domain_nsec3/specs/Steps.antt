@@ -8,11 +8,10 @@ use Rattle.domain_bitmap.specs.Bitmap.{bitmap_octets}
 use Rattle.domain_chain_rdata.specs.declared.nsec3param.Nsec3param.{Nsec3param}
 use Rattle.domain_hasher.specs.declared.error.Nsec3HashError.{Nsec3HashError, TheVariants.{OutOfMemory, CollisionDetected}}
 use Rattle.domain_names.specs.Words.{Name}
-use Rattle.domain_zone.specs.{Enclosers.is_empty_nonterminal, Zone.ZoneRecord}
+use Rattle.domain_zone.specs.{Enclosers.is_empty_nonterminal, Zone.ZoneRecord, declared.listed.ListedOwners.ListedOwners}
 use Rattle.domain_nsec3.specs.{Ancestors.IsListOf, Chain.{HashedLink, cycle, hashed_owner}, Config.{ChainConfig, Hash, HashAnswer, Parameters, hash_name}}
 use Rattle.domain_nsec3.specs.{Faults.hash_fault, Owners.{original_owners, nsec3_lists}, View.parameters_of}
 use Rattle.domain_nsec3.specs.declared.{chain.HashedChain.HashedChain, hash.Hashed.Hashed}
-use Rattle.domain_zone.specs.declared.listed.ListedOwners.{ListedOwners}
 
 -- the original owner names of a chain that own records, with their types
 pub record AreOriginalOwners (L : List ZoneRecord) (a : Name) (config : ChainConfig)

@@ -26,8 +26,7 @@ pub struct BorrowedNsec3<'a> {
 
 impl<'a> Model for BorrowedNsec3<'a> {
     ghost use Rattle.domain_base.specs.Classes.{in_class};
-    ghost use Rattle.domain_nsec3.specs.Chain.{HashedLink};
-    ghost use Rattle.domain_nsec3.specs.View.{link_with};
+    ghost use Rattle.domain_nsec3.specs.{Chain.HashedLink, View.link_with};
 
     ghost Value = { HashedLink };
 

@@ -24,8 +24,7 @@ pub struct HashedOwner<'a> {
 impl<'a> Model for HashedOwner<'a> {
     ghost use Rattle.std.specs.Prelude.{◌≡◌, ◌<◌, All, Ok, None};
     ghost use Rattle.domain_names.specs.Words.{Name};
-    ghost use Rattle.domain_nsec3.specs.Chain.{hashed_owner};
-    ghost use Rattle.domain_nsec3.specs.Faults.{hash_fault};
+    ghost use Rattle.domain_nsec3.specs.{Chain.hashed_owner, Faults.hash_fault};
 
     ghost Value = { Name };
 

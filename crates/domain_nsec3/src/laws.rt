@@ -1,9 +1,8 @@
 //! What holds of the names of a chain. A caller calls the law in its body.
 ghost use Rattle.std.specs.Prelude.{◌≡◌, ℕ, true, false, List};
 ghost use Rattle.domain_zone.specs.Enclosers.{exists_over, is_empty_nonterminal, IsClosestEncloser};
-ghost use Rattle.domain_names.specs.Name.{is_at_or_below, same_name};
-ghost use Rattle.domain_names.specs.Words.{Name};
 ghost use Rattle.domain_zone.specs.Zone.{ZoneRecord, is_zone_cut};
+ghost use Rattle.domain_names.specs.{Name.{is_at_or_below, same_name}, Words.Name};
 ghost use Rattle.domain_nsec3.specs.Chain.{HashedLink, IsHashedChain};
 ghost use Rattle.domain_nsec3.specs.Config.{ChainConfig};
 ghost use Rattle.domain_nsec3.specs.Meaning.{CoversExcluded, CutsEnclose, MirrorsZone, OwnersAscend, TellsEncloser};

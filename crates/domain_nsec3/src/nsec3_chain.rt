@@ -4,10 +4,9 @@ ghost use Rattle.domain_base.specs.Classes.{in_class};
 ghost use Rattle.domain_records.specs.Order.{IsOneClass, IsInOrder};
 ghost use Rattle.domain_zone.specs.View.{zone_of};
 ghost use Rattle.domain_nsec3.specs.Chain.{HashedLink, IsChainParam, IsHashedChain, param_ttl};
-ghost use Rattle.domain_nsec3.specs.Faults.{IsFaultless, IsFirstFault};
-ghost use Rattle.domain_nsec3.specs.Meaning.{IsRecordOf};
-ghost use Rattle.domain_nsec3.specs.Steps.{common_of, links_in, AreUsable};
-ghost use Rattle.domain_nsec3.specs.View.{as_param_record, config_of, hashed_links_of, parameters_of};
+ghost use Rattle.domain_nsec3.specs.{Faults.{IsFaultless, IsFirstFault}, Meaning.IsRecordOf};
+ghost use Rattle.domain_nsec3.specs.{Steps.{common_of, links_in, AreUsable}, View.as_param_record};
+ghost use Rattle.domain_nsec3.specs.View.{config_of, hashed_links_of, parameters_of};
 
 use crate::GenerateNsec3Config;
 use crate::borrowed::{BorrowedNsec3, lend_record};
@@ -36,9 +35,8 @@ pub struct Nsec3Chain<'a, O: Octets> {
 }
 
 impl<'a, O: Octets> Model for Nsec3Chain<'a, O> {
-    ghost use Rattle.domain_nsec3.specs.Chain.{ChainRecords};
-    ghost use Rattle.domain_nsec3.specs.Steps.{common_of, links_in, AreUsable};
-    ghost use Rattle.domain_nsec3.specs.View.{as_param_record};
+    ghost use Rattle.domain_nsec3.specs.{Chain.ChainRecords, Steps.{common_of, links_in}};
+    ghost use Rattle.domain_nsec3.specs.{Steps.AreUsable, View.as_param_record};
 
     ghost Value = { ChainRecords };
 

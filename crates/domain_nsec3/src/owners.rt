@@ -3,8 +3,7 @@ ghost use Rattle.std.specs.Prelude.{◌≡◌, ◌≢◌, false, None, IfOk, IfE
 ghost use Rattle.domain_records.specs.Order.{IsInOrder};
 ghost use Rattle.domain_zone.specs.{Soa.soa_of, Zone.has_unequal_ttls, View.zone_of};
 ghost use Rattle.domain_nsec3.specs.{Faults.IsFirstFault, Owners.original_owners};
-ghost use Rattle.domain_nsec3.specs.Steps.{AreOriginalOwners};
-ghost use Rattle.domain_nsec3.specs.View.{HasherAnswer, config_of};
+ghost use Rattle.domain_nsec3.specs.{Steps.AreOriginalOwners, View.{HasherAnswer, config_of}};
 
 use crate::GenerateNsec3Config;
 use crate::types::{OwnerKind, types_of};

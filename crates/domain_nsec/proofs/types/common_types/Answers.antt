@@ -1,6 +1,5 @@
-use Rattle.domain_nsec.proofs.TypeLemmas.{common_two, common_three}
+use Rattle.domain_nsec.proofs.{TypeLemmas.{common_two, common_three}, types.common_types.Goals.{then-assumed+in_ok-add_type-3, else-assumed}}
 use Rattle.domain_nsec.proofs.types.common_types.Goals as goal
-use Rattle.domain_nsec.proofs.types.common_types.Goals.{then-assumed+in_ok-add_type-3, else-assumed}
 
 pub returns : goal.returns
 returns g c = λ cut t b.

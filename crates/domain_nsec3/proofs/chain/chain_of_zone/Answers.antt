@@ -1,6 +1,5 @@
-use Rattle.std.proofs.Common.{◌≡◌, true, None, Ok, refl, sym, ap, ◌∙◌, subst, arith}
-use Rattle.std.proofs.lemmas.{Grind.common_steps, List.Elements.All-weaker, Result.err_from_is_err_and}
-use Rattle.std.specs.{Prelude.All, List.{list_any, Sorted.IsStrictlySortedBy}}
+use Rattle.std.proofs.{Common.{◌≡◌, true, None, Ok, refl, sym, ap, ◌∙◌, subst, arith}, lemmas.{Grind.common_steps, List.Elements.All-weaker}}
+use Rattle.std.{proofs.lemmas.Result.err_from_is_err_and, specs.{Prelude.All, List.{list_any, Sorted.IsStrictlySortedBy}}}
 use Rattle.domain_names.specs.{Order.canonical_cmp, Name.{is_at_or_below, same_name}, Words.Name}
 use Rattle.domain_zone.{specs.{Soa.chain_ttl, View.zone_of, Zone.OwnersNeverDescend}, proofs.{GroupLemmas.owners_in_order, SoaLemmas.soa_owned}}
 use Rattle.domain_nsec3.specs.{Faults.{IsReady, hash_fault}, Steps.{AreOrderedHashes, AreWithEmpty, IsHashOf, IsHashingFault, common_of}, View.config_of}

@@ -1,8 +1,7 @@
-use Rattle.std.{proofs.{Common.{sym, ap, ◌∙◌, arith}, lemmas.Bool.false≢true}, specs.Cmp.Lexicographic.bytes_decides}
+use Rattle.std.{proofs.{Common.{sym, ap, ◌∙◌, arith}, lemmas.{Bool.false≢true, Grind.common_steps}}, specs.Cmp.Lexicographic.bytes_decides}
 use Rattle.domain_names.proofs.OrderLemmas.{same_octets}
 use Rattle.domain_nsec3.proofs.HashLemmas.{alike_at, ascend_more, keys_ascend}
 use Rattle.domain_nsec3.proofs.chain.has_collision.Goals as goal
-use Rattle.std.proofs.lemmas.Grind.{common_steps}
 
 pub returns-then-eq-clause-alike : goal.returns-then-eq-clause-alike
 returns-then-eq-clause-alike c _ = grind (arith, common_steps, alike_at, same_octets)

@@ -1,8 +1,7 @@
-use Rattle.std.proofs.Common.{arith}
+use Rattle.std.proofs.{Common.arith, lemmas.Grind.common_steps}
 use Rattle.domain_octets.proofs.OctetLemmas.{octets_from_type}
 use Rattle.domain_nsec3.proofs.TextLemmas.{owner_length}
 use Rattle.domain_nsec3.proofs.hash.check_hash.Goals as goal
-use Rattle.std.proofs.lemmas.Grind.{common_steps}
 
 pub returns-then-digits-as_wire-gt-MAX_NAME-clause-err : goal.returns-then-digits-as_wire-gt-MAX_NAME-clause-err
 returns-then-digits-as_wire-gt-MAX_NAME-clause-err c = grind (arith, common_steps, owner_length)

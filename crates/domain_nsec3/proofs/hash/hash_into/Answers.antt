@@ -1,7 +1,6 @@
-use Rattle.std.proofs.lemmas.Result.{err_from_is_err_and}
+use Rattle.std.proofs.{lemmas.{Result.err_from_is_err_and, Grind.common_steps}, Common.arith}
 use Rattle.domain_nsec3.{specs.View.{hash_by, parameters_of}, proofs.HashLemmas.{all_hashed, first_refused, one_hashed}}
 use Rattle.domain_nsec3.proofs.hash.hash_into.Goals as goal
-use Rattle.std.proofs.{Common.arith, lemmas.Grind.common_steps}
 
 pub loop-place-preserved : goal.loop-place-preserved
 loop-place-preserved g c = grind (arith, common_steps, one_hashed)

@@ -1,7 +1,6 @@
-use Rattle.std.proofs.Common.{arith}
+use Rattle.std.proofs.{Common.arith, lemmas.Grind.common_steps}
 use Rattle.domain_nsec3.proofs.TextLemmas.{owner_made, owner_room}
 use Rattle.domain_nsec3.proofs.hash.write_owner.Goals as goal
-use Rattle.std.proofs.lemmas.Grind.{common_steps}
 
 pub write_hash-label-requires : goal.write_hash-label-requires
 write_hash-label-requires c = grind (arith, common_steps, owner_room)

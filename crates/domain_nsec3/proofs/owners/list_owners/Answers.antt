@@ -1,11 +1,9 @@
-use Rattle.std.proofs.Common.{◌≡◌, ◌∙◌, ◌&&◌, not, sym, ap, map, subst, Err, arith}
-use Rattle.domain_zone.specs.{OwnerView.as_owner_records, View.{as_zone_record, zone_of}, Zone.has_clash}
-use Rattle.domain_zone.proofs.{GivenLemmas.{raw_types, types_at}, TtlLemmas.NeverDescend}
+use Rattle.std.proofs.{Common.{◌≡◌, ◌∙◌, ◌&&◌, not, sym, ap, map, subst, Err, arith}, lemmas.Grind.common_steps}
+use Rattle.domain_zone.{specs.{OwnerView.as_owner_records, View.{as_zone_record, zone_of}, Zone.has_clash}, proofs.GivenLemmas.{raw_types, types_at}}
+use Rattle.domain_zone.proofs.{TtlLemmas.NeverDescend, ListedLemmas.{next_known, next_out, next_listed, next_uneven, none_uneven}}
 use Rattle.domain_nsec3.{specs.View.{HasherAnswer, config_of}, proofs.StateLemmas.{stays, at_start, at_end}}
-use Rattle.domain_zone.proofs.ListedLemmas.{next_known, next_out, next_listed, next_uneven, none_uneven}
 use Rattle.domain_nsec3.proofs.owners.list_owners.{Given.Over, Goals.{After-is_unsigned_cut-is_unsigned_cut, After-has_unequal_ttls}}
 use Rattle.domain_nsec3.proofs.owners.list_owners.Goals as goal
-use Rattle.std.proofs.lemmas.Grind.{common_steps}
 
 -- what the owners are does not depend on a hasher; this one refuses
 refuses : HasherAnswer

@@ -1,10 +1,8 @@
-use Rattle.std.proofs.Common.{◌≡◌, ◌∙◌, refl, sym, ap, map, subst, Some, arith}
+use Rattle.std.proofs.{Common.{◌≡◌, ◌∙◌, refl, sym, ap, map, subst, Some, arith}, lemmas.Grind.common_steps}
 use Rattle.domain_zone.{specs.{Soa.soa_of, View.{as_zone_record, zone_of}, Zone.has_clash}, proofs.{GivenLemmas.{raw_types, types_at}, TtlLemmas.NeverDescend}}
 use Rattle.domain_zone.proofs.ListedLemmas.{next_known, next_listed, next_uneven, none_uneven}
-use Rattle.domain_nsec.proofs.{StateLemmas.{at_start, at_end}, chain.NsecChain.generate.Given.Over}
-use Rattle.domain_nsec.proofs.chain.NsecChain.generate.Goals.{In-Some, After-has_unequal_ttls}
+use Rattle.domain_nsec.proofs.{StateLemmas.{at_start, at_end}, chain.NsecChain.generate.{Given.Over, Goals.{In-Some, After-has_unequal_ttls}}}
 use Rattle.domain_nsec.proofs.chain.NsecChain.generate.Goals as goal
-use Rattle.std.proofs.lemmas.Grind.{common_steps}
 
 -- the SOA record that was found is that of the zone
 soa_found : (g : Over) (c : In-Some g)

@@ -1,7 +1,6 @@
-use Rattle.std.proofs.Common.{◌+◌, [], get_or, ap, ◌∙◌, arith}
+use Rattle.std.proofs.{Common.{◌+◌, [], get_or, ap, ◌∙◌, arith}, lemmas.Grind.common_steps}
 use Rattle.domain_nsec.{specs.ChainView.as_link, proofs.ChainLemmas.{links_counted, link_borrowed}}
 use Rattle.domain_nsec.proofs.chain.NsecChain.lend.Goals as goal
-use Rattle.std.proofs.lemmas.Grind.{common_steps}
 
 pub returns-then-place-len-clause-none : goal.returns-then-place-len-clause-none
 returns-then-place-len-clause-none g c = grind (arith, common_steps, links_counted)

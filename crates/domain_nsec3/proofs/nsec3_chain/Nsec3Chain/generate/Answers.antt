@@ -1,7 +1,6 @@
-use Rattle.std.proofs.Common.{sym, ap, subst, arith}
+use Rattle.std.proofs.{Common.{sym, ap, subst, arith}, lemmas.Grind.common_steps}
 use Rattle.domain_nsec3.specs.Steps.{AreUsable}
 use Rattle.domain_nsec3.proofs.nsec3_chain.Nsec3Chain.generate.Goals as goal
-use Rattle.std.proofs.lemmas.Grind.{common_steps}
 
 pub chain_of_zone-requires-clause-soa : goal.chain_of_zone-requires-clause-soa
 chain_of_zone-requires-clause-soa g c = grind (arith, common_steps)

@@ -1,8 +1,7 @@
-use Rattle.std.{proofs.Common.{List, ℕ, ◌<◌, length, ap, arith, sym, subst, ◌∙◌}, specs.Prelude.All}
+use Rattle.std.{proofs.{Common.{List, ℕ, ◌<◌, length, ap, arith, sym, subst, ◌∙◌}, lemmas.Grind.common_steps}, specs.Prelude.All}
 use Rattle.domain_nsec3.specs.{Chain.{ChainRecords, HashedLink}, Meaning.IsRecordOf, Steps.{common_of, links_in}}
 use Rattle.domain_nsec3.proofs.ChainLemmas.{links_counted, hash_there}
 use Rattle.domain_nsec3.proofs.nsec3_chain.Nsec3Chain.hash_at.Goals as goal
-use Rattle.std.proofs.lemmas.Grind.{common_steps}
 
 pub index-requires : goal.index-requires
 index-requires g c = grind (arith, common_steps, links_counted)
