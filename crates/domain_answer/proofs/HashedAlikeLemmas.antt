@@ -1,6 +1,5 @@
 -- What NSEC3 records answer does not depend on TTLs, classes and the case of letters.
-use Rattle.std.proofs.Common.{◌≡◌, ℕ, cond, not, ◌&&◌, ◌||◌, List, length, subst, Option, arith}
-use Rattle.std.proofs.lemmas.Grind.{common_steps}
+use Rattle.std.proofs.{Common.{◌≡◌, ℕ, cond, not, ◌&&◌, ◌||◌, List, length, subst, Option, arith}, lemmas.Grind.common_steps}
 use Rattle.domain_names.specs.{Name.same_name, Words.Name}
 use Rattle.domain_base.specs.Types.{dname}
 use Rattle.domain_chain_rdata.specs.OptOut.{is_opt_out}

@@ -9,13 +9,13 @@ use Rattle.domain_zone.{specs.{Covering.{covers, matches}, Zone.ZoneRecord}, pro
 use Rattle.domain_nsec3.specs.{Chain.{HashedLink, IsHashedChain}, Config.ChainConfig, Meaning.{IsAlone, IsMatchedOrCoveredOnce, octets_before}}
 use Rattle.domain_nsec3.specs.Owners.{nsec3_lists, original_owners}
 use Rattle.domain_checker.specs.{HashedFacts.{ChainFacts, ChainsAreKnown}, HashedVerdict.{is_below_chain_cut, is_covered, is_matched, proves}}
-use Rattle.domain_checker.{specs.HashedView.chain_records, proofs.HashedListLemmas.{covered_in, matched_in, told_at}}
+use Rattle.domain_checker.{specs.HashedView.chain_records, proofs.{HashedListLemmas.{covered_in, matched_in, told_at}, FirstMatchedLemmas.encloser_is}}
 use Rattle.domain_checker.proofs.HashedVerdictLemmas.{whole_proves as proves_all}
 use Rattle.domain_answer.specs.{Expansion.{closer_name, is_expanded, missing_closer, proved_expansion}, HashedProved.{AreAskedAlone, hashed_proved_answer}}
 use Rattle.domain_answer.specs.{HashedProved.{needs_wildcard, tells_encloser, tells_wildcard}, HashedZoneAnswer.{HashedLeavesOutBelowDname, hashed_encloser}}
 use Rattle.domain_answer.specs.{HashedZoneAnswer.{hashed_exists, hashed_zone_answer}, ZoneAnswer.{is_at_parent, wildcard_below}, declared.answer.Answer.Answer}
 use Rattle.domain_answer.{specs.declared.answer.Answer.TheVariants.{NoCloserName, TooManyIterations, NotProven}, proofs.ChoiceLemmas.{all_told, choose_by}}
-use Rattle.domain_answer.proofs.{EncloserLemmas.wildcard_low, ExpansionLemmas.closer_low, HashedAnswerLemmas.encloser_is}
+use Rattle.domain_answer.proofs.{EncloserLemmas.wildcard_low, ExpansionLemmas.closer_low}
 
 -- of a proof that has a record of m, one of m is left, and what closes it
 closed : (m s c d v : Bool) → (m && ((s || c) || v)) ≡ true → (m && (((s || c) || d) || v)) ≡ true

@@ -4,8 +4,7 @@ ghost use Rattle.domain_names.specs.Order.{before, common_labels};
 ghost use Rattle.domain_zone.specs.Covering.{covers};
 ghost use Rattle.domain_nsec.specs.ChainView.{as_link};
 ghost use Rattle.domain_checker.specs.{Reading.{is_cover, is_match}, Verdict.is_inside};
-ghost use Rattle.domain_answer.specs.Found.{cover_link, IsSharing};
-ghost use Rattle.domain_answer.specs.Reading.{tells_occluded};
+ghost use Rattle.domain_answer.specs.{Found.{cover_link, IsSharing}, Reading.tells_occluded};
 
 use crate::found::NsecCover;
 use domain_base::{Rtype, ToName};

@@ -1,10 +1,9 @@
 //! What records of an NSEC chain answer.
 ghost use Rattle.std.specs.Prelude.{◌≡◌, length};
 ghost use Rattle.domain_nsec.specs.ChainView.{as_link, links_of};
-ghost use Rattle.domain_answer.specs.ZoneAnswer.{is_at_parent};
-ghost use Rattle.domain_answer.specs.Proved.{CountsWithin, IsAnswered, RestsOn};
-ghost use Rattle.domain_answer.specs.Reading.{owner_answer, reading, wildcard_answer, IsNameAnswer};
-ghost use Rattle.domain_answer.specs.Reading.{wildcard_cover_answer};
+ghost use Rattle.domain_answer.specs.{ZoneAnswer.is_at_parent, Proved.{CountsWithin, IsAnswered}};
+ghost use Rattle.domain_answer.specs.{Proved.RestsOn, Reading.{owner_answer, reading}};
+ghost use Rattle.domain_answer.specs.Reading.{wildcard_answer, IsNameAnswer, wildcard_cover_answer};
 
 use crate::found::{NsecFound, find_nsec};
 use crate::listed::tells_occluded;

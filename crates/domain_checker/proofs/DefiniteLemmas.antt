@@ -1,7 +1,6 @@
 -- A zone has a verdict on every name and type: a choice between verdicts is one of them.
 use Rattle.std.proofs.{Common.{arith, ◌≡◌, ◌≢◌, Bool, true, false, cond, sym, ap, ◌∙◌}, lemmas.{Grind.common_steps, Bool.true≢false}}
-use Rattle.domain_checker.specs.declared.verdict.Verdict.{Verdict}
-use Rattle.domain_checker.specs.declared.verdict.Verdict.TheVariants.{NotProven}
+use Rattle.domain_checker.specs.declared.verdict.Verdict.{Verdict, TheVariants.NotProven}
 
 unfoldable pub is_definite : Verdict → Bool
 is_definite NotProven = false

@@ -3,8 +3,7 @@ use Rattle.std.proofs.{Common.{◌≡◌, ℕ, Bool, true, false, cond, List, []
 use Rattle.std.{proofs.lemmas.{List.Folds.find-append, Grind.common_steps}, specs.{List.find, Option.{is_some, option_map, option_or, unwrap_or}}}
 use Rattle.domain_names.specs.Words.{Name}
 use Rattle.domain_nsec.specs.Chain.{Link}
-use Rattle.domain_checker.specs.{HandedIn.HasRead, Reading.{list_verdict}}
-use Rattle.domain_checker.specs.declared.{nsec_check.NsecCheck.NsecCheck, verdict.Verdict.{TheVariants.NotProven}}
+use Rattle.domain_checker.specs.{HandedIn.HasRead, Reading.list_verdict, declared.{nsec_check.NsecCheck.NsecCheck, verdict.Verdict.TheVariants.NotProven}}
 
 module _ {X V : Type 0} (p : X → Bool) (f : X → V) (xs : List X) (x : X) (found : Option V) (so : found ≡ option_map f (find p xs)) where
   found_more : option_or found (cond (p x) (Some (f x)) None) ≡ option_map f (find p (xs ++ x ∷ []))

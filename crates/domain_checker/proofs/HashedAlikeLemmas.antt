@@ -6,13 +6,11 @@ use Rattle.domain_octets.specs.Words.{Octets}
 use Rattle.domain_names.specs.{Name.{lowered}, Words.{Label, Name}}
 use Rattle.domain_zone.{specs.{Covering.{covers, matches}, Zone.{ZoneRecord}}, proofs.NameLemmas.{one_lowered}}
 use Rattle.domain_nsec3.specs.{Chain.HashedLink, Config.{ChainConfig, Parameters}, Meaning.octets_before, Owners.original_owners}
-use Rattle.domain_checker.specs.Alike.{ArePaired, IsHashedAlike}
-use Rattle.domain_checker.specs.HashedList.{hash_in, is_hash_cover, is_hash_match, is_some_with, is_spelling, owner_hash, read_label, same_parameters}
-use Rattle.domain_checker.specs.HashedView.{HashedRecords, chain_records, first_cover, first_match, with_links}
-use Rattle.domain_checker.specs.{HashedEncloser.{Encloser, IsFoundEncloser, next_cover}, HashedReading.{IsWalked, found_verdict}}
-use Rattle.domain_checker.specs.HashedVerdict.{IsFirst, hashed_proved_verdict, is_covered, is_matched, next_closer}
-use Rattle.domain_checker.specs.{Verdict.closest_encloser, declared.verdict.Verdict.{Verdict}}
-use Rattle.domain_checker.proofs.PairedLemmas.{OptionsPaired, any_alike, find_alike}
+use Rattle.domain_checker.specs.{Alike.{ArePaired, IsHashedAlike}, HashedList.{hash_in, is_hash_cover, is_hash_match, is_some_with, is_spelling, owner_hash}}
+use Rattle.domain_checker.specs.{HashedList.{read_label, same_parameters}, HashedView.{HashedRecords, chain_records, first_cover, first_match, with_links}}
+use Rattle.domain_checker.specs.{HashedEncloser.{Encloser, IsFoundEncloser, next_cover}, HashedReading.{IsWalked, found_verdict}, HashedVerdict.IsFirst}
+use Rattle.domain_checker.specs.{HashedVerdict.{hashed_proved_verdict, is_covered, is_matched, next_closer}, Verdict.closest_encloser}
+use Rattle.domain_checker.{specs.declared.verdict.Verdict.Verdict, proofs.PairedLemmas.{OptionsPaired, any_alike, find_alike}}
 
 -- ---- labels
 

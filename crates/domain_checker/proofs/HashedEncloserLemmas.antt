@@ -1,15 +1,13 @@
 -- What a record of a zone's chain tells of a name whose hash it matches or covers, and the record of a closest encloser.
-use Rattle.std.proofs.Common.{◌≡◌, ℕ, ◌<◌, Bool, true, false, not, List, [], ◌∷◌, length, refl, sym, ap, ◌∙◌, inl, inr, ◌⊎◌, cond, nat_eq}
-use Rattle.std.proofs.Common.{Option, Some, None, arith}
-use Rattle.std.proofs.lemmas.{Bool.{cases_Bool, false≢true}, Grind.common_steps}
-use Rattle.std.specs.{Prelude.{Ok, filter}, List.{list_any, Contains, range_with_len}}
+use Rattle.std.proofs.Common.{◌≡◌, ℕ, ◌<◌, Bool, true, false, not, List, [], ◌∷◌, length, refl, sym, ap, ◌∙◌, inl, inr, ◌⊎◌, cond, nat_eq, Option, Some, None}
+use Rattle.std.{proofs.{Common.arith, lemmas.{Bool.{cases_Bool, false≢true}, Grind.common_steps}}, specs.{Prelude.{Ok, filter}, List.{list_any, Contains}}}
+use Rattle.std.specs.List.{range_with_len}
 use Rattle.domain_octets.specs.Words.{Octets}
 use Rattle.domain_names.specs.{Name.{is_at_or_below, same_name}, Words.Name}
 use Rattle.domain_base.specs.Types.{ns, rrsig}
 use Rattle.domain_bitmap.{specs.{Bitmap.bitmap_octets, Blocks.{contains_type, types_of, types_below}}, proofs.RangeLemmas.{any_at, any_none as any_missing}}
-use Rattle.domain_zone.specs.Zone.{ZoneRecord, has_type, owns, records_of}
-use Rattle.domain_zone.proofs.{NameLemmas.{below_trans, same_length}, PairLemmas.In, OwnerLemmas.{any_in, in_any, typed_owns}}
-use Rattle.domain_zone.proofs.FindLemmas.{any_none, find_none, find_some, in_filter}
+use Rattle.domain_zone.{specs.Zone.{ZoneRecord, has_type, owns, records_of}, proofs.{NameLemmas.{below_trans, same_length}, PairLemmas.In, OwnerLemmas.any_in}}
+use Rattle.domain_zone.proofs.{OwnerLemmas.{in_any, typed_owns}, FindLemmas.{any_none, find_none, find_some, in_filter}}
 use Rattle.domain_chain_rdata.specs.OptOut.{is_opt_out}
 use Rattle.domain_nsec3.specs.{Chain.HashedLink, Config.{ChainConfig, hash_name}, Meaning.IsAlone, Owners.{is_chain_name, is_original_owner, nsec3_lists}}
 use Rattle.domain_checker.specs.{HashedFacts.ChainFacts, HashedList.{is_hash_cover, is_hash_match}, HashedView.{HashedRecords, first_cover}}

@@ -1,15 +1,13 @@
 -- What a record of an NSEC3 chain says of the hash of a name that no other name of the chain has.
 use Rattle.std.proofs.Common.{◌≡◌, Bool, true, false, not, ◌&&◌, List, [], ◌∷◌, map, refl, sym, ap, ◌∙◌, subst, eq-eqb, Some, slice_get, arith}
-use Rattle.std.proofs.lemmas.{Bool.{and_parts, not-true, or_left, or_right}, List.{Elements.recursion_from_All, Sums.list_all-from_AllPass}}
-use Rattle.std.{proofs.lemmas.Grind.common_steps, specs.{List.{AllByRecursion, Contains}, Cmp.Lexicographic.{nat_list_cmp_total, slice_cmp, bytes_decides}}}
-use Rattle.std.specs.{Ordering.{nat_cmp, is_eq}}
+use Rattle.std.proofs.lemmas.{Bool.{and_parts, not-true, or_left, or_right}, List.{Elements.recursion_from_All, Sums.list_all-from_AllPass}, Grind.common_steps}
+use Rattle.std.specs.{List.{AllByRecursion, Contains}, Cmp.Lexicographic.{nat_list_cmp_total, slice_cmp, bytes_decides}, Ordering.{nat_cmp, is_eq}}
 use Rattle.domain_codecs.specs.{Base32.base32_lower, Codec.IsBase32}
 use Rattle.domain_octets.specs.Words.{Octets, AreOctets}
 use Rattle.domain_names.specs.{Name.{is_at_or_below, same_name, wire_of}, Words.Name}
 use Rattle.domain_bitmap.specs.Bitmap.{bitmap_octets}
-use Rattle.domain_zone.specs.{Covering.{matches, covers, matches_or_covers}, Zone.ZoneRecord}
-use Rattle.domain_zone.proofs.{NameLemmas.{same_itself, one_lowered}, PairLemmas.{In, all_in}, OwnerLemmas.in_any}
-use Rattle.domain_zone.proofs.FindLemmas.{from_map, in_at, in_map, in_pairs, stands_from, Stands}
+use Rattle.domain_zone.{specs.{Covering.{matches, covers, matches_or_covers}, Zone.ZoneRecord}, proofs.{NameLemmas.{same_itself, one_lowered}, PairLemmas.In}}
+use Rattle.domain_zone.proofs.{PairLemmas.all_in, OwnerLemmas.in_any, FindLemmas.{from_map, in_at, in_map, in_pairs, stands_from, Stands}}
 use Rattle.domain_nsec3.specs.{Chain.{HashedLink, HashedName, IsOfChain, cycle, ends, ends_of, hashed_owner}, Config.{ChainConfig, Parameters, Hash, hash_name}}
 use Rattle.domain_nsec3.specs.{Meaning.{IsAlone, IsCovered, IsMatched, IsMatchedOrCoveredOnce, IsRecordOf, octets_before}, Owners.{is_chain_name, nsec3_lists}}
 use Rattle.domain_checker.specs.{HashedFacts.ChainFacts, HashedList.{same_parameters, is_spelling, owner_hash, is_some_with, is_hash_match, is_hash_cover}}

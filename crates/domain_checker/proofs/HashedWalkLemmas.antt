@@ -1,17 +1,14 @@
 -- The names from x up to the apex: which of them are passed, and the hash of the next closer name.
 use Rattle.std.proofs.Common.{◌≡◌, ℕ, ◌+◌, ◌-◌, ◌≤◌, ◌<◌, zero, suc, true, false, not, [], ◌∷◌, length, drop, refl, sym, ap, ◌∙◌, inl, inr, Option, Some, None}
-use Rattle.std.proofs.Common.{arith}
-use Rattle.std.proofs.lemmas.{Bool.{cases_Bool, and_from}, List.length-drop, Grind.common_steps}
-use Rattle.std.specs.{Prelude.{Ok, Err}, List.list_any}
+use Rattle.std.{proofs.{Common.arith, lemmas.{Bool.{cases_Bool, and_from}, List.length-drop, Grind.common_steps}}, specs.{Prelude.{Ok, Err}, List.list_any}}
 use Rattle.domain_octets.specs.Words.{Octets}
 use Rattle.domain_names.specs.{Name.{is_at_or_below, is_strictly_below, lowered, same_name, wire_of}, Words.{Label, Name}}
 use Rattle.domain_zone.proofs.NameLemmas.{one_lowered, same_itself, below_itself, below_trans, below_longer, below_length, below_parent, strictly_longer}
 use Rattle.domain_zone.proofs.{NameLemmas.{strictly_from, same_length}, OwnerLemmas.in_any, FindLemmas.{any_none, find_none, find_some}}
 use Rattle.domain_nsec3.specs.{Chain.HashedLink, Config.hash_name}
 use Rattle.domain_checker.specs.{HashedList.is_hash_match, HashedView.{HashedRecords, first_cover, first_match}, HashedPass.IsLookedUp}
-use Rattle.domain_checker.specs.HashedEncloser.{IsEncloser, IsNextHash, IsUnmatched, next_cover}
-use Rattle.domain_checker.specs.HashedVerdict.{IsFirst, IsFirstRefusal, is_matched, is_ok_with, next_closer}
-use Rattle.domain_checker.proofs.{EncloserLemmas.same_count, HashedListLemmas.hash_same}
+use Rattle.domain_checker.specs.{HashedEncloser.{IsEncloser, IsNextHash, IsUnmatched, next_cover}, HashedVerdict.{IsFirst, IsFirstRefusal, is_matched}}
+use Rattle.domain_checker.{specs.HashedVerdict.{is_ok_with, next_closer}, proofs.{EncloserLemmas.same_count, HashedListLemmas.hash_same}}
 
 pub below_drop : (n : ℕ) (x : Name) → is_at_or_below x (drop n x) ≡ true
 below_drop zero x = below_itself x

@@ -10,6 +10,7 @@ pub mod HashedListLemmas
 pub mod HashedWalkLemmas
 pub mod HashedEncloserLemmas
 pub mod CutLemmas
+pub mod FirstMatchedLemmas
 pub mod HashedVerdictLemmas
 pub mod HandedInLemmas
 pub mod PairedLemmas

@@ -1,18 +1,13 @@
 -- What a list of records of the chain says by itself is what it proves.
-use Rattle.std.proofs.Common.{rules}
-use Rattle.std.proofs.Common.{◌≡◌, ◌≢◌, ℕ, ◌<◌, Bool, true, false, cond, not, ◌||◌, List, length, refl, sym, ◌∙◌, subst, inl, inr, Option, Some}
-use Rattle.std.proofs.{Common.{None, arith}, lemmas.{Bool.{cases_Bool, false≢true}, Grind.common_steps}}
-use Rattle.std.specs.List.{find}
+use Rattle.std.proofs.Common.{rules, ◌≡◌, ◌≢◌, ℕ, ◌<◌, Bool, true, false, cond, not, ◌||◌, List, length, refl, sym, ◌∙◌, subst, inl, inr, Option, Some, None}
+use Rattle.std.{proofs.{Common.arith, lemmas.{Bool.{cases_Bool, false≢true}, Grind.common_steps}}, specs.List.find}
 use Rattle.domain_names.specs.{Name.{is_at_or_below}, Words.Name}
-use Rattle.domain_zone.specs.Zone.{ZoneRecord, OwnersNeverDescend}
-use Rattle.domain_zone.proofs.{OwnerLemmas.in_any, FindLemmas.{find_some, stands_all}}
+use Rattle.domain_zone.{specs.Zone.{ZoneRecord, OwnersNeverDescend}, proofs.{OwnerLemmas.in_any, FindLemmas.{find_some, stands_all}}}
 use Rattle.domain_nsec.specs.{Chain.{Link, IsChain}, declared.config.GenerateNsecConfig.GenerateNsecConfig}
-use Rattle.domain_checker.specs.declared.verdict.Verdict.{Verdict, TheVariants.{OutsideZone, NotProven}}
-use Rattle.domain_checker.specs.Verdict.{zone_verdict, has_match_or_cover, proved_verdict, IsProved}
-use Rattle.domain_checker.specs.Verdict.{HasProof, IsWithin}
-use Rattle.domain_checker.specs.Reading.{is_match, is_cover, verdict_of_both, match_verdict, cover_verdict, reading}
-use Rattle.domain_checker.proofs.DefiniteLemmas.{choose, definite_proven, is_definite}
-use Rattle.domain_checker.proofs.MeantLemmas.{BitmapsAreSets, ChainLaws, IgnoresCase, IsMeant, config_with, meant_by, some_link, cover_of, match_of, silent}
+use Rattle.domain_checker.specs.{declared.verdict.Verdict.{Verdict, TheVariants.{OutsideZone, NotProven}}, Verdict.{zone_verdict, has_match_or_cover}}
+use Rattle.domain_checker.specs.{Verdict.{proved_verdict, IsProved, HasProof, IsWithin}, Reading.{is_match, is_cover, verdict_of_both, match_verdict}}
+use Rattle.domain_checker.{specs.Reading.{cover_verdict, reading}, proofs.{DefiniteLemmas.{choose, definite_proven, is_definite}, MeantLemmas.BitmapsAreSets}}
+use Rattle.domain_checker.proofs.MeantLemmas.{ChainLaws, IgnoresCase, IsMeant, config_with, meant_by, some_link, cover_of, match_of, silent}
 use Rattle.domain_checker.proofs.{SharedLemmas.shared_within, VerdictLemmas.{matched, covers_told}}
 
 -- a chain that keeps what stands below a DNAME

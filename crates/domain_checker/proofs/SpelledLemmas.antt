@@ -1,6 +1,5 @@
 -- Octets that a label spells, compared with others digit by digit.
-use Rattle.std.proofs.Common.{◌≡◌, ℕ, ◌+◌, ◌*◌, ◌/◌, ◌%◌, ◌<◌, ◌≤◌, true, false, [], ◌∷◌, length, drop, arith}
-use Rattle.std.proofs.lemmas.{List.drop_all, Grind.common_steps}
+use Rattle.std.proofs.{Common.{◌≡◌, ℕ, ◌+◌, ◌*◌, ◌/◌, ◌%◌, ◌<◌, ◌≤◌, true, false, [], ◌∷◌, length, drop, arith}, lemmas.{List.drop_all, Grind.common_steps}}
 use Rattle.std.specs.{Ordering.{is_ne, nat_cmp}, Cmp.Lexicographic.slice_cmp, declared.cmp.Ordering.TheVariants.Greater}
 use Rattle.domain_codecs.{specs.Codec.{base32_octets, base32_digits}, proofs.{Scale.IsScale, CodecLemmas.{digit_at, widens}}}
 use Rattle.domain_octets.specs.Words.{Octets}

@@ -1,16 +1,12 @@
 -- What a record of the chain says of a name that it matches or covers is the verdict of the zone.
-use Rattle.std.proofs.Common.{refl}
-use Rattle.domain_names.specs.Name.{same_name}
-use Rattle.domain_checker.specs.Reading.{is_at_cut}
-use Rattle.std.proofs.Common.{◌≡◌, ℕ, ◌<◌, Bool, true, false, List, sym, ◌∙◌, Some, slice_get}
-use Rattle.domain_octets.proofs.StdLemmas.{or_false}
-use Rattle.domain_names.specs.{Name.is_at_or_below, Order.before, Words.Name}
-use Rattle.domain_zone.specs.{Covering.{matches, covers}, Zone.{ZoneRecord, unoccluded_owners}}
-use Rattle.domain_zone.proofs.{PairLemmas.In, OwnerLemmas.in_any, FindLemmas.in_at}
-use Rattle.domain_nsec.specs.Chain.{Link}
-use Rattle.domain_checker.{specs.{Verdict.{zone_verdict}, Reading.{match_verdict, cover_verdict}}, proofs.EncloserLemmas.cut_same}
+use Rattle.std.proofs.Common.{refl, ◌≡◌, ℕ, ◌<◌, Bool, true, false, List, sym, ◌∙◌, Some, slice_get}
+use Rattle.domain_names.specs.{Name.{same_name, is_at_or_below}, Order.before, Words.Name}
+use Rattle.domain_checker.{specs.{Reading.{is_at_cut, match_verdict, cover_verdict}, Verdict.zone_verdict}, proofs.EncloserLemmas.cut_same}
 use Rattle.domain_checker.proofs.MeantLemmas.{BitmapsAreSets, IgnoresCase, IsMeant, cut_at, ends, matched_high, matched_low, matched_same, type_at}
 use Rattle.domain_checker.proofs.MeantLemmas.{covered_encloser, covered_no_owner, covered_occluded}
+use Rattle.domain_octets.proofs.StdLemmas.{or_false}
+use Rattle.domain_zone.{specs.{Covering.{matches, covers}, Zone.{ZoneRecord, unoccluded_owners}}, proofs.{PairLemmas.In, OwnerLemmas.in_any, FindLemmas.in_at}}
+use Rattle.domain_nsec.specs.Chain.{Link}
 
 -- the chain keeps what stands below a DNAME
 module _ (L : List ZoneRecord) (a : Name) (assume : Bool) (links : List Link) (meant : IsMeant false L a assume links)

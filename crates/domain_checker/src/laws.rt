@@ -8,10 +8,9 @@ ghost use Rattle.domain_nsec.specs.declared.config.GenerateNsecConfig.{GenerateN
 ghost use Rattle.domain_nsec3.specs.{Chain.{HashedLink, IsHashedChain}, Config.ChainConfig};
 ghost use Rattle.domain_nsec3.specs.Meaning.{AreAlone};
 ghost use Rattle.domain_checker.specs.Verdict.{closest_encloser, proved_verdict, zone_verdict};
-ghost use Rattle.domain_checker.specs.Verdict.{IsProved};
-ghost use Rattle.domain_checker.specs.Alike.{ArePaired, IsAlike, IsHashedAlike, IsPairedIn};
-ghost use Rattle.domain_checker.specs.HashedVerdict.{hashed_proved_verdict, hashed_zone_verdict};
-ghost use Rattle.domain_checker.specs.HashedReading.{IsWalked};
+ghost use Rattle.domain_checker.specs.{Verdict.IsProved, Alike.{ArePaired, IsAlike, IsHashedAlike}};
+ghost use Rattle.domain_checker.specs.{Alike.IsPairedIn, HashedVerdict.hashed_proved_verdict};
+ghost use Rattle.domain_checker.specs.{HashedVerdict.hashed_zone_verdict, HashedReading.IsWalked};
 ghost use Rattle.domain_checker.specs.HashedView.{HashedRecords, chain_records, with_links};
 ghost use Rattle.domain_checker.specs.{Reading.reading, declared.verdict.Verdict.Verdict};
 ghost use Rattle.domain_checker.specs.declared.verdict.Verdict.TheVariants.{NotProven};

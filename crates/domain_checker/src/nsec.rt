@@ -1,8 +1,6 @@
 //! What records of an NSEC chain prove.
 ghost use Rattle.std.specs.Prelude.{◌≡◌, ◌≢◌, true, length};
-ghost use Rattle.domain_names.specs.Name.{is_at_or_below};
-ghost use Rattle.domain_names.specs.Order.{canonical_cmp};
-ghost use Rattle.domain_names.specs.Words.{Name};
+ghost use Rattle.domain_names.specs.{Name.is_at_or_below, Order.canonical_cmp, Words.Name};
 ghost use Rattle.domain_nsec.specs.ChainView.{as_link, links_of};
 ghost use Rattle.domain_checker.specs.Verdict.{HasProof, IsProved, IsWithin};
 ghost use Rattle.domain_checker.specs.Reading.{cover_verdict, is_cover, is_match, match_verdict, reading};

@@ -1,38 +1,12 @@
 //! Hashes that labels spell in Base 32 hex.
-ghost use Rattle.std.specs.{Prelude.{◌≡◌, ◌<◌, unwrap_or, IfSome}, Ordering.nat_cmp};
+ghost use Rattle.std.specs.{Prelude.{◌≡◌}, Ordering.nat_cmp};
 ghost use Rattle.std.specs.{Cmp.Lexicographic.slice_cmp, List.list_all};
-ghost use Rattle.domain_codecs.specs.Codec.{base32_value, is_digit};
+ghost use Rattle.domain_codecs.specs.Codec.{is_digit};
 ghost use Rattle.domain_checker.specs.HashedList.{is_spelling, read_label};
 
 use domain_codecs::Codec;
+use domain_codecs::base32::{digit_or_zero, digit_value};
 use std::cmp::Ordering;
-
-/// The value of a digit of Base 32 hex, in either case (RFC 4648, section 7).
-fn digit_value(c: u8) -> Option<u32>
-    ensures value { result ≡ base32_value c }
-    ensures small { IfSome result (λ digit. digit < 32) }
-{
-    if c >= b'0' && c <= b'9' {
-        Some(u32::from(c - b'0'))
-    } else if c >= b'A' && c <= b'V' {
-        Some(u32::from(c - b'A' + 10))
-    } else if c >= b'a' && c <= b'v' {
-        Some(u32::from(c - b'a' + 10))
-    } else {
-        None
-    }
-}
-
-/// The value of a digit of Base 32 hex, and 0 for what is none.
-fn digit_or_zero(c: u8) -> u32
-    ensures value { result ≡ unwrap_or (base32_value c) 0 }
-    ensures small { result < 32 }
-{
-    match digit_value(c) {
-        Some(digit) => digit,
-        None => 0,
-    }
-}
 
 /// Whether all octets are digits of Base 32 hex.
 fn are_digits(label: &[u8]) -> bool

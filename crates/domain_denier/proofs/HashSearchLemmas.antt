@@ -1,15 +1,13 @@
 -- Where a search by hash in a chain ends, the record matches or covers the hash, and no other does.
-use Rattle.std.proofs.Common.{◌≡◌, ℕ, suc, ◌+◌, ◌-◌, ◌<◌, ◌≤◌, Bool, true, false, ◌||◌, List, [], ◌∷◌, map, length, get_or, slice_get, Some}
-use Rattle.std.proofs.{Common.{refl, sym, ap, ◌∙◌, arith, inl, inr, ◌⊎◌}, lemmas.List.{get_or_past, length-map, Elements.recursion_from_All, Sorted.ranks_by}}
-use Rattle.std.proofs.lemmas.{Option.{get_or_from_slice_get, slice_get_within}}
-use Rattle.std.specs.{List.{AllByRecursion, Sorted.IsStrictlySortedBy}, Cmp.{IsStrictWeakOrder, Lexicographic.{nat_list_cmp_total, slice_cmp}}}
-use Rattle.std.specs.{Ordering.{is_eq, is_lt, nat_cmp}}
+use Rattle.std.proofs.Common.{◌≡◌, ℕ, suc, ◌+◌, ◌-◌, ◌<◌, ◌≤◌, Bool, true, false, ◌||◌, List, [], ◌∷◌, map, length, get_or, slice_get, Some, refl, sym, ap, ◌∙◌}
+use Rattle.std.proofs.{Common.{arith, inl, inr, ◌⊎◌}, lemmas.{Option.{same_Some, get_or_from_slice_get, slice_get_within}, List.{get_or_past, length-map}}}
+use Rattle.std.{proofs.lemmas.List.{Elements.recursion_from_All, Sorted.ranks_by}, specs.List.{AllByRecursion, Sorted.IsStrictlySortedBy}}
+use Rattle.std.specs.{Cmp.{IsStrictWeakOrder, Lexicographic.{nat_list_cmp_total, slice_cmp}}, Ordering.{is_eq, is_lt, nat_cmp}}
 use Rattle.domain_codecs.specs.Base32.{base32_lower}
-use Rattle.domain_octets.{specs.Words.{AreOctets, Octets}, proofs.StdLemmas.some_is}
+use Rattle.domain_octets.specs.Words.{AreOctets, Octets}
 use Rattle.domain_names.specs.Words.{Name}
-use Rattle.domain_zone.specs.{Covering.{covers, matches, matches_or_covers}, Zone.ZoneRecord}
-use Rattle.domain_zone.proofs.PairLemmas.{IsAscending, irreflexive, one_matches_or_covers, In, all_in, all_from_in}
-use Rattle.domain_zone.proofs.{PlaceLemmas.{IsOnly, one_place}, FindLemmas.in_at}
+use Rattle.domain_zone.{specs.{Covering.{covers, matches, matches_or_covers}, Zone.ZoneRecord}, proofs.PairLemmas.{IsAscending, irreflexive}}
+use Rattle.domain_zone.proofs.{PairLemmas.{one_matches_or_covers, In, all_in, all_from_in}, PlaceLemmas.{IsOnly, one_place}, FindLemmas.in_at}
 use Rattle.domain_nsec3.specs.{Chain.{HashedLink, IsOfChain, cycle, ends, ends_of}, Config.ChainConfig, Meaning.{IsRecordOf, octets_before}}
 use Rattle.domain_checker.specs.{HashedFacts.ChainFacts, HashedList.{is_some_with, owner_hash}, HashedView.chain_records}
 use Rattle.domain_checker.proofs.HashedListLemmas.{tied_is, hash_at, hashes_octets, record_at}
@@ -116,7 +114,7 @@ module _ (L : List ZoneRecord) (a : Name) (config : ChainConfig) (links : List H
       says : matches_or_covers octets_before h k.next v ≡ true
       says = elim behind [
         | inl b ↦
-            let same : b.hash ≡ h = some_is b.hash h (sym (cycled low b.link b.hash b.is).1 ∙ (cycled low k h r).1) in
+            let same : b.hash ≡ h = same_Some b.hash h (sym (cycled low b.link b.hash b.is).1 ∙ (cycled low k h r).1) in
             said octets_before h k.next v (inl (
               ap (octets_before v) (sym same) ∙ b.order,
               elim ahead [

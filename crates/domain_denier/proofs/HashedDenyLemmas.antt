@@ -1,8 +1,7 @@
 -- What is picked of the NSEC3 chain of a zone is what its answer rests on, and no more.
 use Rattle.std.proofs.Common.{◌≡◌, ◌≢◌, ℕ, ◌<◌, Bool, true, false, cond, not, ◌&&◌, ◌||◌, List, [], ◌∷◌, length, Some, refl, sym, ap, subst, ◌∙◌, inl, inr}
-use Rattle.std.proofs.{Common.arith, lemmas.Bool.{and_parts, cases_Bool, cases_eq, false≢true, or_left, or_right, true_from_ne_false}}
+use Rattle.std.proofs.{Common.arith, lemmas.{Option.same_Some, Bool.{and_parts, cases_Bool, cases_eq, false≢true, or_left, or_right, true_from_ne_false}}}
 use Rattle.std.{proofs.lemmas.{Grind.common_steps, List.length-map}, specs.List.list_any}
-use Rattle.domain_octets.proofs.StdLemmas.{some_is}
 use Rattle.domain_names.specs.{Name.{is_at_or_below, same_name, last_labels}, Words.Name}
 use Rattle.domain_zone.{specs.{Enclosers.{IsClosestEncloser, exists_over}, Zone.{ZoneRecord, is_zone_cut}}, proofs.NameLemmas.{below_itself, below_longer}}
 use Rattle.domain_zone.proofs.OwnerLemmas.{in_any}
@@ -10,11 +9,11 @@ use Rattle.domain_nsec3.specs.{Chain.{ChainRecords, HashedLink, HashedName}, Con
 use Rattle.domain_base.specs.Types.{dname}
 use Rattle.domain_checker.specs.{HashedFacts.{ChainFacts, ChainsAreKnown}, HashedList.is_hash_match, HashedReading.IsUnmatched}
 use Rattle.domain_checker.specs.{HashedVerdict.{is_covered, is_matched, next_closer}, HashedView.{HashedRecords, chain_records}}
-use Rattle.domain_checker.proofs.{EncloserLemmas.same_count, HashedEncloserLemmas.match_is_of_name, HashedListLemmas.hash_same}
+use Rattle.domain_checker.proofs.{EncloserLemmas.same_count, FirstMatchedLemmas.encloser_is, HashedEncloserLemmas.match_is_of_name, HashedListLemmas.hash_same}
 use Rattle.domain_answer.specs.{HashedProved.{AreAskedAlone, hashed_proved_answer, needs_wildcard, tells_encloser, tells_wildcard}, HashedReading.IsHashedRead}
 use Rattle.domain_answer.specs.{HashedZoneAnswer.{hashed_encloser, hashed_zone_answer}, ZoneAnswer.{is_at_parent, wildcard_below}}
 use Rattle.domain_answer.{specs.declared.answer.Answer.{Answer, TheVariants.{NoCloserName, NotProven}}, proofs.EncloserLemmas.{closest_last, exists_low}}
-use Rattle.domain_answer.proofs.{EncloserLemmas.strictly_other, HashedAnswerLemmas.{encloser_is, read_proved}, HashedWayLemmas.unheard}
+use Rattle.domain_answer.proofs.{EncloserLemmas.strictly_other, HashedAnswerLemmas.read_proved, HashedWayLemmas.unheard}
 use Rattle.domain_answer.proofs.HashedWholeLemmas.{IsOfZone, encloser_told as whole_tells, whole_proves, zone_says}
 use Rattle.domain_denier.specs.HashedPicked.{AreHashedNeeded, IsHashedDenial, IsHashedWhole, TellOfTheirParts, hashed_picked, picked_without}
 use Rattle.domain_denier.specs.{HashedSteps.{IsSoleOf, all_records}, Picked.at_place, declared.nsec3.Nsec3Denial.Nsec3Denial}
@@ -135,7 +134,7 @@ module _ (L : List ZoneRecord) (config : ChainConfig) (chain : ChainRecords) (x 
         name = λ place tells. elim (cases_eq read.f.place place) [
           | inl h ↦ subst (λ q. hashed_proved_answer L a config (picked_without links q d) x t ≡ NotProven) h without_encloser
           | inr h ↦
-              let apart : d.of_encloser ≡ Some place → ⊥ = λ e. h (some_is read.f.place place (sym read.encloser ∙ e)) in
+              let apart : d.of_encloser ≡ Some place → ⊥ = λ e. h (same_Some read.f.place place (sym read.encloser ∙ e)) in
               let of_next : d.of_next_closer ≡ Some place = elim tells [ inl e ↦ absurd (apart e) | inr e ↦ e ] in
               sym (proved_is (picked_without links place d) (without_among place) NotProven (read.next_closer place of_next apart))
         ];

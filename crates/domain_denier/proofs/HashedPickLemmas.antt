@@ -1,8 +1,8 @@
 -- What is picked of an NSEC3 chain answers as the whole chain does, and less without one of its records.
 use Rattle.std.proofs.Common.{◌≡◌, ℕ, ◌<◌, Bool, true, false, cond, not, ◌&&◌, List, [], length, Some, None, Option, slice_get, nat_eq, refl, sym, ap, ◌∙◌}
-use Rattle.std.proofs.{Common.{subst, inl, inr, ◌⊎◌, arith}, lemmas.{Bool.{eqb-false, false_from_ne_true, false≢true}, Grind.common_steps}}
+use Rattle.std.proofs.{Common.{subst, inl, inr, ◌⊎◌, arith}, lemmas.{Option.same_Some, Bool.{eqb-false, false_from_ne_true, false≢true}, Grind.common_steps}}
 use Rattle.std.specs.{List.list_any, Prelude.{Ok, Err}}
-use Rattle.domain_octets.{specs.Words.Octets, proofs.StdLemmas.{some_is, none_some}}
+use Rattle.domain_octets.{specs.Words.Octets, proofs.StdLemmas.none_some}
 use Rattle.domain_names.specs.{Name.{is_at_or_below, last_labels}, Words.Name}
 use Rattle.domain_base.specs.Types.{dname}
 use Rattle.domain_bitmap.specs.Blocks.{contains_type}
@@ -151,11 +151,11 @@ module _ (R : HashedRecords) (x : Name) (f : PlacedEncloser) (t : ℕ) (at : IsE
       → next_cover (with_links R listed) (next cover c) ≡ None
   cover_gone None c q e listed others = refl
   cover_gone (Some p) c q e listed others =
-      no_cover R c.1.value p false c.1.of listed (subst (λ s. AreOthers R.links s listed) (sym (some_is p q e)) others)
+      no_cover R c.1.value p false c.1.of listed (subst (λ s. AreOthers R.links s listed) (sym (same_Some p q e)) others)
 
   sole_cover : (cover : Option ℕ) → IsCoverAt R x at.name cover → (q : ℕ) → cover ≡ Some q → IsSoleOf R (next_closer x at.name) q false
   sole_cover None c q e = absurd (none_some q e)
-  sole_cover (Some p) c q e = subst (λ s. IsSoleOf R (next_closer x at.name) s false) (some_is p q e) c.1
+  sole_cover (Some p) c q e = subst (λ s. IsSoleOf R (next_closer x at.name) s false) (same_Some p q e) c.1
 
   -- ---- what is picked
 
@@ -238,14 +238,14 @@ module _ (R : HashedRecords) (x : Name) (f : PlacedEncloser) (t : ℕ) (at : IsE
           (λ q e. (
             m,
             subst (λ i. IsSoleOf R (wildcard_below (last_labels i x)) q m) counted
-                (subst (λ i. IsSoleOf R (wildcard_below (last_labels n x)) i m) (some_is place q (sym part ∙ e)) of),
+                (subst (λ i. IsSoleOf R (wildcard_below (last_labels n x)) i m) (same_Some place q (sym part ∙ e)) of),
           ))
           (λ q e listed others. (
             n,
             wild_on listed (NoCloserName n) (record {
               value = of.value;
               known = of.known;
-              says = gone listed (subst (λ s. AreOthers R.links s listed) (sym (some_is place q (sym part ∙ e))) others);
+              says = gone listed (subst (λ s. AreOthers R.links s listed) (sym (same_Some place q (sym part ∙ e))) others);
             }),
           ))
         where
@@ -292,7 +292,7 @@ module _ (hash : Hash) (chain : ChainRecords) (x : Name) (f : PlacedEncloser) (p
   pub all_there : (role part : Option ℕ) → role ≡ next_role chain.param.owner (encloser_at chain.links f k) (length x) f.cover
       → ((q : ℕ) → part ≡ Some q → q < length chain.links) → (place : ℕ)
       → ((Some f.place ≡ Some place) ⊎ (role ≡ Some place)) ⊎ (part ≡ Some place) → place < length chain.links
-  all_there role part is wild place (inl (inl e)) = subst (λ n. n < length chain.links) (some_is f.place place e) placed.found.inside
+  all_there role part is wild place (inl (inl e)) = subst (λ n. n < length chain.links) (same_Some f.place place e) placed.found.inside
   all_there role part is wild place (inl (inr e)) =
       placed.reached.there place (role_by (rests_below chain.param.owner (encloser_at chain.links f k) (length x)) f.cover place (sym is ∙ e)).1
   all_there role part is wild place (inr e) = wild place e

@@ -1,15 +1,13 @@
 -- What one record, or two of which the first denies a name alone, tell by what they are judged to say.
-use Rattle.std.proofs.Common.{◌≡◌, ◌≢◌, ℕ, ◌<◌, Bool, true, false, cond, not, List, [], ◌∷◌, ◌++◌, length, slice_get, Option, Some, None, refl}
-use Rattle.std.proofs.{Common.{sym, ap, ◌∙◌, arith}, lemmas.Bool.{and_left, or_parts, true_from_ne_false}}
-use Rattle.std.{proofs.lemmas.Grind.common_steps, specs.List.find}
+use Rattle.std.proofs.Common.{◌≡◌, ◌≢◌, ℕ, ◌<◌, Bool, true, false, cond, not, List, [], ◌∷◌, ◌++◌, length, slice_get, Option, Some, None, refl, sym, ap, ◌∙◌}
+use Rattle.std.{proofs.{Common.arith, lemmas.{Bool.{and_left, or_parts, true_from_ne_false}, Grind.common_steps}}, specs.List.find}
 use Rattle.domain_names.specs.{Name.{is_at_or_below, is_strictly_below, same_name, last_labels}, Order.before, Words.Name}
 use Rattle.domain_zone.{specs.{Covering.{matches_or_covers}, Enclosers.{longer, shared}}, proofs.{NameLemmas.same_is}}
 use Rattle.domain_nsec.specs.Chain.{Link}
 use Rattle.domain_checker.specs.{Reading.{is_cover, is_match}}
-use Rattle.domain_answer.specs.Reading.{IsNameAnswer, name_answer, absent_answer, listed_both, reading}
-use Rattle.domain_answer.specs.{Reading.{tells_occluded, wildcard_answer, wildcard_both}, ZoneAnswer.{is_at_parent, wildcard_below}}
-use Rattle.domain_answer.specs.declared.answer.{Answer.{Answer, TheVariants.{AtParent, NoCloserName, OutsideZone}}, NameAnswer.NameAnswer}
-use Rattle.domain_answer.{specs.declared.answer.NameAnswer.TheVariants.Given, proofs.ProofLemmas.{given_never, match_own}}
+use Rattle.domain_answer.specs.Reading.{IsNameAnswer, name_answer, absent_answer, listed_both, reading, tells_occluded, wildcard_answer, wildcard_both}
+use Rattle.domain_answer.specs.{ZoneAnswer.{is_at_parent, wildcard_below}, declared.answer.Answer.{Answer, TheVariants.{AtParent, NoCloserName, OutsideZone}}}
+use Rattle.domain_answer.{specs.declared.answer.NameAnswer.{NameAnswer, TheVariants.Given}, proofs.ProofLemmas.{given_never, match_own}}
 use Rattle.domain_denier.specs.{Judged.{IsOfWildcard, IsSilent, IsTold, Tells}, Picked.{IsOf, at_place, listed_option}}
 use Rattle.domain_denier.{specs.declared.judged.OfWildcard.TheVariants.{Told, Untold}, proofs.SomeLemmas.record_there}
 

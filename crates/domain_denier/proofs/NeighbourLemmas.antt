@@ -1,8 +1,7 @@
 -- The pairs of neighbours of a list, and what lists map to, by their places.
 use Rattle.std.proofs.Common.{◌≡◌, ◌⊎◌, ℕ, zero, suc, Bool, true, false, List, [], ◌∷◌, map, length, get_or, slice_get, Option, Some, None, refl, sym, ap, ◌∙◌}
-use Rattle.std.proofs.{Common.{arith, length-append}, lemmas.{Grind.common_steps, List.length-drop, Option.slice_get-map, Slice.Zip.length-zip}}
+use Rattle.std.proofs.{Common.{arith, length-append}, lemmas.{Option.{same_Some, slice_get-map}, Grind.common_steps, List.length-drop, Slice.Zip.length-zip}}
 use Rattle.std.specs.Option.{option_map}
-use Rattle.domain_octets.proofs.StdLemmas.{some_is}
 use Rattle.domain_zone.specs.Covering.{matches_or_covers, pairs}
 
 -- an owner with a next value matches or covers x: it is not after x, and the next one is, or is not after the owner; or the next one
@@ -15,9 +14,9 @@ module _ {X : Type 0} where
   pub pair_is : (ks : List X) (f : X) (i : ℕ) (p : X × X) → slice_get (pairs ks f) i ≡ Some p
       → (slice_get ks i ≡ Some p.0) × (p.1 ≡ get_or ks (suc i) f)
   pair_is [] f i p e = absurd (cc)
-  pair_is (k ∷ []) f zero p e = let is = some_is (k, f) p e in (ap (λ (q : X × X). Some q.0) is, ap (λ q. q.1) (sym is))
+  pair_is (k ∷ []) f zero p e = let is = same_Some (k, f) p e in (ap (λ (q : X × X). Some q.0) is, ap (λ q. q.1) (sym is))
   pair_is (k ∷ []) f (suc i) p e = absurd (cc)
-  pair_is (k ∷ m ∷ ks) f zero p e = let is = some_is (k, m) p e in (ap (λ (q : X × X). Some q.0) is, ap (λ q. q.1) (sym is))
+  pair_is (k ∷ m ∷ ks) f zero p e = let is = same_Some (k, m) p e in (ap (λ (q : X × X). Some q.0) is, ap (λ q. q.1) (sym is))
   pair_is (k ∷ m ∷ ks) f (suc i) p e = pair_is (m ∷ ks) f i p e
 
   pub pairs_length : (ks : List X) (f : X) → length (pairs ks f) ≡ length ks
@@ -31,4 +30,4 @@ mapped_at {Y = Y} g h xs ys e i x there =
   where
     by : (o : Option Y) → slice_get ys i ≡ o → option_map h o ≡ Some (g x) → (y : Y) × (slice_get ys i ≡ Some y) × (g x ≡ h y)
     by None f m = absurd (cc)
-    by (Some y) f m = (y, f, sym (some_is (h y) (g x) m))
+    by (Some y) f m = (y, f, sym (same_Some (h y) (g x) m))

@@ -8,8 +8,7 @@ use Rattle.domain_nsec.specs.{Chain.Link, declared.config.GenerateNsecConfig.Gen
 use Rattle.domain_checker.{specs.Verdict.has_match_or_cover, proofs.{EncloserLemmas.closest_is, MeantLemmas.{ChainLaws, IsMeant, apex_exists}}}
 use Rattle.domain_answer.specs.{Proved.{IsAnswered, is_missing, knows_wildcard, proved_answer}, Reading.reading, ZoneAnswer.{encloser, is_at_parent}}
 use Rattle.domain_answer.specs.{ZoneAnswer.{name_exists, wildcard_below, zone_answer}, declared.answer.Answer.{Answer, TheVariants.{NoCloserName, NotProven}}}
-use Rattle.domain_answer.{specs.Kinds.IsSo, proofs.KindLemmas.answer_so}
-use Rattle.domain_answer.proofs.{ChainLemmas.meant_leaving, EncloserLemmas.{closest_last, free_parts, wildcard_low}}
+use Rattle.domain_answer.{specs.Kinds.IsSo, proofs.{KindLemmas.answer_so, ChainLemmas.meant_leaving, EncloserLemmas.{closest_last, free_parts, wildcard_low}}}
 use Rattle.domain_denier.specs.Picked.{IsDenial, IsFound, IsOf, IsWhole, at_place, listed_option}
 use Rattle.domain_denier.{specs.declared.nsec.NsecDenial.NsecDenial, proofs.SomeLemmas.contained}
 

@@ -1,7 +1,7 @@
 -- The names from x up to the apex, by the places of the records that match or cover them.
-use Rattle.std.proofs.Common.{◌≡◌, ℕ, ◌<◌, Bool, true, false, not, ◌∷◌, length, Option, Some, None, refl, sym, ap, ◌∙◌, subst, arith}
+use Rattle.std.proofs.{Common.{◌≡◌, ℕ, ◌<◌, Bool, true, false, not, ◌∷◌, length, Option, Some, None, refl, sym, ap, ◌∙◌, subst, arith}, lemmas.Option.same_Some}
 use Rattle.std.{proofs.lemmas.{Bool.and_from, Grind.common_steps}, specs.Prelude.Err}
-use Rattle.domain_octets.{specs.Words.Octets, proofs.StdLemmas.some_is}
+use Rattle.domain_octets.specs.Words.{Octets}
 use Rattle.domain_names.specs.{Name.{is_at_or_below, is_strictly_below, lowered, same_name, wire_of}, Words.{Label, Name}}
 use Rattle.domain_zone.proofs.NameLemmas.{below_itself, below_parent, below_trans, same_itself}
 use Rattle.domain_nsec3.specs.{Chain.ChainRecords, Config.Hash}
@@ -58,7 +58,7 @@ module _ (hash : Hash) (chain : ChainRecords) (x : Name) where
             record {
               above = below_trans x left next reached.above up;
               within = parent_below label next a strictly;
-              there = λ q e. subst (λ n. n < length chain.links) (some_is place q e) found.inside;
+              there = λ q e. subst (λ n. n < length chain.links) (same_Some place q e) found.inside;
               first = λ zone. (passed zone).first;
               closes = λ zone. let p = passed zone in
                   (p.closes.0, record { value = (found.sole zone).value; known = p.closes.1; of = (found.sole zone).of });

@@ -3,8 +3,7 @@ ghost use Rattle.std.specs.Prelude.{◌≡◌, ◌<◌, ◌⊎◌, ℕ, true, le
 ghost use Rattle.domain_names.specs.Name.{is_at_or_below, lowered, wire_of};
 ghost use Rattle.domain_nsec3.specs.View.{hash_by};
 ghost use Rattle.domain_hasher.specs.declared.error.Nsec3HashError.TheVariants as hash_error;
-ghost use Rattle.domain_denier.specs.HashedPicked.{IsRefusedAbove};
-ghost use Rattle.domain_denier.specs.HashedSteps.{IsFoundPlaced};
+ghost use Rattle.domain_denier.specs.{HashedPicked.IsRefusedAbove, HashedSteps.IsFoundPlaced};
 
 use crate::hash_search::look_up;
 use domain_base::{ParsedName, ToName};

@@ -1,8 +1,7 @@
 //! What records at places of an NSEC chain say.
 ghost use Rattle.std.specs.Prelude.{◌≡◌, ◌<◌, ◌++◌, Some, length, slice_get, IsTrue};
 ghost use Rattle.domain_nsec.specs.ChainView.{as_link};
-ghost use Rattle.domain_answer.specs.Reading.{reading, IsNameAnswer};
-ghost use Rattle.domain_answer.specs.ZoneAnswer.{wildcard_below};
+ghost use Rattle.domain_answer.specs.{Reading.{reading, IsNameAnswer}, ZoneAnswer.wildcard_below};
 ghost use Rattle.domain_answer.specs.declared.answer.Answer.TheVariants.{NoCloserName};
 ghost use Rattle.domain_names.specs.Name.{last_labels};
 ghost use Rattle.domain_denier.specs.Judged.{IsOfWildcard, IsSilent, Tells};

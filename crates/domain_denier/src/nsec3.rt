@@ -1,8 +1,7 @@
 //! What is picked of an NSEC3 chain.
 ghost use Rattle.std.specs.Prelude.{◌≡◌, ◌<◌, ◌⊎◌, ℕ, List, None, Some, Ok, Err, true, false, length, slice_get, IfOk, IfErr, IsErrOf};
 ghost use Rattle.domain_names.specs.Name.{is_at_or_below, last_labels};
-ghost use Rattle.domain_nsec3.specs.Chain.{HashedLink};
-ghost use Rattle.domain_nsec3.specs.Config.{ChainConfig, hash_name};
+ghost use Rattle.domain_nsec3.specs.{Chain.HashedLink, Config.{ChainConfig, hash_name}};
 ghost use Rattle.domain_nsec3.specs.View.{hash_by};
 ghost use Rattle.domain_hasher.specs.declared.error.Nsec3HashError.TheVariants as hash_error;
 ghost use Rattle.domain_zone.specs.Zone.{ZoneRecord};

@@ -2,9 +2,8 @@ use Rattle.std.{proofs.{Common.{◌≡◌, cond, false, not, map, None, Some, sy
 use Rattle.std.specs.{Option.{is_some, option_map}, Prelude.IfSome}
 use Rattle.domain_nsec.specs.ChainView.{as_link}
 use Rattle.domain_checker.{specs.Reading.{is_cover, is_match}, proofs.FirstLemmas.{found_later, met_more}}
-use Rattle.domain_answer.{specs.Found.{IsSharing, cover_link}, proofs.FoundLemmas.{kept, started}}
+use Rattle.domain_answer.{specs.Found.{IsSharing, cover_link}, proofs.{FoundLemmas.{kept, started}, found.find_nsec.Goals.{then-is_none, else-is_none}}}
 use Rattle.domain_answer.proofs.found.find_nsec.Goals as goal
-use Rattle.domain_answer.proofs.found.find_nsec.Goals.{then-is_none, else-is_none}
 
 pub returns-then-is_match-clause-found : goal.returns-then-is_match-clause-found
 returns-then-is_match-clause-found g c = grind (arith, common_steps)

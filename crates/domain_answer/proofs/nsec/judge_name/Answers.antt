@@ -1,10 +1,8 @@
 use Rattle.std.proofs.{Common.{◌≡◌, sym, ◌∙◌, arith}, lemmas.Grind.common_steps}
 use Rattle.domain_nsec.specs.ChainView.{as_link, links_of}
 use Rattle.domain_answer.{specs.{Found.{cover_link, found_cover, found_match}, Reading.{listed_both, reading}}, proofs.FoundLemmas.{found_covers, found_reads}}
-use Rattle.domain_answer.proofs.ProofLemmas.{cover_told, match_told}
-use Rattle.domain_answer.proofs.nsec.judge_name.Given.{Over}
+use Rattle.domain_answer.proofs.{ProofLemmas.{cover_told, match_told}, nsec.judge_name.{Given.Over, Goals.After-find_nsec}}
 use Rattle.domain_answer.proofs.nsec.judge_name.Goals as goal
-use Rattle.domain_answer.proofs.nsec.judge_name.Goals.{After-find_nsec}
 
 -- the records say what the first match says, or else the first cover
 reads : (g : Over) (c : After-find_nsec g)

@@ -1,8 +1,7 @@
 use Rattle.std.proofs.{Common.arith, lemmas.Grind.common_steps}
 use Rattle.domain_checker.specs.HashedView.{hashed_records}
-use Rattle.domain_answer.proofs.{HashedWayLemmas.{IsAsked, asked_below}, nsec3.read_nsec3.Given.Over}
+use Rattle.domain_answer.proofs.{HashedWayLemmas.{IsAsked, asked_below}, nsec3.read_nsec3.{Given.Over, Goals.In-NoCloserName}}
 use Rattle.domain_answer.proofs.nsec3.read_nsec3.Goals as goal
-use Rattle.domain_answer.proofs.nsec3.read_nsec3.Goals.{In-NoCloserName}
 
 -- the wildcard below the closest encloser is asked for
 asked : (g : Over) (c : In-NoCloserName g) → IsAsked

@@ -3,9 +3,8 @@ use Rattle.std.specs.List.{AllByRecursion}
 use Rattle.domain_octets.specs.Words.{Octets}
 use Rattle.domain_names.{specs.{Name.{IsLabel, IsName, wire_of, last_labels}, Wire.{labels_of, IsWire}, Words.Name}, proofs.WireLemmas.IsWire-wire_of}
 use Rattle.domain_names.proofs.WireLemmas.{labels_of-wire_of}
-use Rattle.domain_answer.{specs.ZoneAnswer.{asterisk, wildcard_below}, proofs.wildcard.wildcard_below.Given.Over}
+use Rattle.domain_answer.{specs.ZoneAnswer.{asterisk, wildcard_below}, proofs.wildcard.wildcard_below.{Given.Over, Goals.After-as_wire}}
 use Rattle.domain_answer.proofs.wildcard.wildcard_below.Goals as goal
-use Rattle.domain_answer.proofs.wildcard.wildcard_below.Goals.{After-as_wire}
 
 -- each label that is dropped has a length and one octet at least
 wire_drop : (n : ℕ) (x : Name) → AllByRecursion IsLabel x → n ≤ length x → length (wire_of (drop n x)) + (n + n) ≤ length (wire_of x)

@@ -2,11 +2,10 @@ use Rattle.std.proofs.{Common.{◌≡◌, Option, None, Some, cond, true, false,
 use Rattle.std.specs.Option.{is_some, option_map, option_or}
 use Rattle.domain_octets.proofs.StdLemmas.{or_none}
 use Rattle.domain_nsec3.specs.View.{as_hashed_link, parameters_of}
-use Rattle.domain_checker.specs.HashedList.{is_hash_match, is_hash_cover}
-use Rattle.domain_checker.proofs.{FirstLemmas.{found_later, met_more}, HashedListLemmas.tied_is}
-use Rattle.domain_checker.proofs.hashed.find_hash.Goals as goal
+use Rattle.domain_checker.{specs.HashedList.{is_hash_match, is_hash_cover}, proofs.{FirstLemmas.{found_later, met_more}, HashedListLemmas.tied_is}}
 use Rattle.domain_checker.proofs.hashed.find_hash.Goals.{then-is_none+then-lies_between, else-is_none, else-is_none-via-then-is_none+else-lies_between}
 use Rattle.domain_checker.proofs.hashed.find_hash.Goals.{else-is_none-via-else-is_none}
+use Rattle.domain_checker.proofs.hashed.find_hash.Goals as goal
 
 pub returns-then-is_eq : goal.returns-then-is_eq
 returns-then-is_eq g c = grind (arith, common_steps, tied_is)

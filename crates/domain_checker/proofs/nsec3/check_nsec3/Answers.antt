@@ -1,8 +1,7 @@
 use Rattle.std.{proofs.Common.{◌<◌, ◌∙◌, sym, ap, subst}, specs.Option.option_map}
 use Rattle.domain_checker.specs.{HashedEncloser.encloser_of, HashedReading.{IsWalked, WalksAreProved, found_verdict}, HashedView.hashed_records}
-use Rattle.domain_checker.proofs.nsec3.check_nsec3.Given.{Over}
+use Rattle.domain_checker.proofs.nsec3.check_nsec3.{Given.Over, Goals.After-found_verdict}
 use Rattle.domain_checker.proofs.nsec3.check_nsec3.Goals as goal
-use Rattle.domain_checker.proofs.nsec3.check_nsec3.Goals.{After-found_verdict}
 
 -- the verdict is what the way to the apex gives, and what the records prove
 known : (g : Over) (c : After-found_verdict g)

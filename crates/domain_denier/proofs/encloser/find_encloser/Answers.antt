@@ -2,8 +2,7 @@ use Rattle.std.proofs.{Common.{◌≡◌, false, sym, ap, subst, ◌∙◌, inl,
 use Rattle.domain_names.specs.Name.{lowered, same_name, wire_of}
 use Rattle.domain_nsec3.specs.View.{hash_by}
 use Rattle.domain_checker.proofs.HashedWalkLemmas.{wire_above}
-use Rattle.domain_denier.specs.HashedSteps.{IsReached}
-use Rattle.domain_denier.proofs.PlacedLemmas.{found_of, none_placed, reached_above, reached_here, refused_at}
+use Rattle.domain_denier.{specs.HashedSteps.IsReached, proofs.PlacedLemmas.{found_of, none_placed, reached_above, reached_here, refused_at}}
 use Rattle.domain_denier.proofs.encloser.find_encloser.Goals as goal
 
 pub names-init : goal.names-init

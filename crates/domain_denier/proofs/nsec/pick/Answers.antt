@@ -4,10 +4,9 @@ use Rattle.domain_nsec.specs.Chain.{Link}
 use Rattle.domain_checker.proofs.MeantLemmas.{ChainLaws}
 use Rattle.domain_answer.specs.{Proved.IsAnswered, Reading.reading, declared.answer.Answer.TheVariants.NoCloserName}
 use Rattle.domain_answer.proofs.ProofLemmas.{given_is, given_never}
-use Rattle.domain_denier.{specs.Picked.at_place, proofs.JudgedLemmas.{outside_only, said_inside, told_of, untold_of}}
-use Rattle.domain_denier.proofs.{PickLemmas.{denied_by_both, denied_by_one, none_picked}, nsec.pick.Given.Over}
+use Rattle.domain_denier.{specs.Picked.at_place, proofs.{JudgedLemmas.{outside_only, said_inside, told_of, untold_of}, PickLemmas.denied_by_both}}
+use Rattle.domain_denier.proofs.{PickLemmas.{denied_by_one, none_picked}, nsec.pick.{Given.Over, Goals.{Else-is_outside, In-Untold}}}
 use Rattle.domain_denier.proofs.nsec.pick.Goals as goal
-use Rattle.domain_denier.proofs.nsec.pick.Goals.{Else-is_outside, In-Untold}
 
 pub returns-then-is_empty : goal.returns-then-is_empty
 returns-then-is_empty g c =

@@ -1,14 +1,14 @@
-use Rattle.std.proofs.Common.{◌≡◌, ◌<◌, true, false, length, slice_get, Some, refl, sym, ap, subst, ◌∙◌, inl, inr}
+use Rattle.std.proofs.{Common.{◌≡◌, ◌<◌, true, false, length, slice_get, Some, refl, sym, ap, subst, ◌∙◌, inl, inr}, lemmas.Option.same_Some}
 use Rattle.std.{proofs.lemmas.Result.err_from_is_err_and, specs.Prelude.Err}
-use Rattle.domain_octets.proofs.StdLemmas.{none_some, some_is}
+use Rattle.domain_octets.proofs.StdLemmas.{none_some}
 use Rattle.domain_names.specs.Name.{is_at_or_below}
 use Rattle.domain_nsec3.specs.{Chain.HashedLink, View.hash_by}
 use Rattle.domain_answer.specs.{HashedReading.encloser_answer, ZoneAnswer.is_at_parent}
 use Rattle.domain_denier.specs.HashedSteps.{IsPlaced, encloser_at, next_role}
 use Rattle.domain_denier.proofs.{HashedDenyLemmas.{denial_is, never_unmatched, some_links}, SomeLemmas.record_there, nsec3.deny_nsec3.Given.Over}
 use Rattle.domain_denier.proofs.HashedPickLemmas.{all_there, asked_less, none_read, placed_at, plain_read, refused_below, wildcard_read}
-use Rattle.domain_denier.proofs.nsec3.deny_nsec3.Goals as goal
 use Rattle.domain_denier.proofs.nsec3.deny_nsec3.Goals.{After-first_answer-answer, After-to_int-number}
+use Rattle.domain_denier.proofs.nsec3.deny_nsec3.Goals as goal
 
 -- the name lies in the zone, whose parent does not answer
 low : (g : Over) (c : After-to_int-number g) → is_at_or_below (g.M.ToName.labels c.args.name.now) c.args.chain.now.param.owner ≡ true
@@ -138,4 +138,4 @@ returns-clause-there g c =
     let p = placed g at in
     let k = record_there c.args.chain.now.links _ p.found.inside in
     all_there _ _ _ _ p k.0 _ _ (says g at k.0 k.1).1
-    (λ q e. subst (λ n. n < length c.args.chain.now.links) (some_is _ q e) c.in_ok-answer.ensures.ok.found.inside)
+    (λ q e. subst (λ n. n < length c.args.chain.now.links) (same_Some _ q e) c.in_ok-answer.ensures.ok.found.inside)

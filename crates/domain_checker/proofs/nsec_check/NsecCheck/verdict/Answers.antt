@@ -2,9 +2,8 @@ use Rattle.std.proofs.{Common.{◌≡◌, ◌≢◌, ◌<◌, ◌∙◌, ℕ, Li
 use Rattle.domain_names.specs.Words.{Name}
 use Rattle.domain_nsec.specs.Chain.{Link}
 use Rattle.domain_checker.specs.{HandedIn.HasRead, Reading.reading, Verdict.{HasProof, IsProved, IsWithin}, declared.verdict.Verdict.TheVariants.NotProven}
-use Rattle.domain_checker.proofs.{HandedInLemmas.handed_in, ListLemmas.{has_proof, reading_within}}
+use Rattle.domain_checker.proofs.{HandedInLemmas.handed_in, ListLemmas.{has_proof, reading_within}, nsec_check.NsecCheck.verdict.Goals.After-unwrap_or}
 use Rattle.domain_checker.proofs.nsec_check.NsecCheck.verdict.Goals as goal
-use Rattle.domain_checker.proofs.nsec_check.NsecCheck.verdict.Goals.{After-unwrap_or}
 
 -- the answer is what the records say
 said : (c : After-unwrap_or) (a x : Name) (t : ℕ) (listed : List Link) → HasRead a x t listed c.args.self.now → reading a listed x t ≡ c.unwrap_or.result
