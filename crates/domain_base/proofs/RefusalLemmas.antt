@@ -1,14 +1,9 @@
 -- Tokens that are refused: for one reason, and spelling nothing.
-use Rattle.std.proofs.{Common.{arith, ◌≡◌, ℕ, List, ◌∷◌, [], ◌⊎◌, Option}, lemmas.Grind.common_steps}
-use Rattle.domain_names.specs.{TextFault.{ScanFault, entry_ends, IsOfTokens, NameTextFault}, Text.NameText}
+use Rattle.std.proofs.{Common.{arith, ◌≡◌, ℕ, List, Option}, lemmas.Grind.common_steps}
+use Rattle.domain_names.specs.{TextFault.{ScanFault, IsOfTokens, NameTextFault}, Text.NameText}
 use Rattle.domain_base.specs.Scan.{TakesToken, RefusesToken}
 
 -- ---- one token
-
--- why a token was refused
-told : (Why : ScanFault → List ℕ → Type 0) (old new : List (List ℕ)) (fault : ScanFault) → RefusesToken Why old new fault
-    → ((old ≡ []) × (new ≡ []) × (fault ≡ entry_ends)) ⊎ ((token : List ℕ) × (old ≡ token ∷ new) × Why fault token)
-told Why old new fault why = grind (arith, common_steps)
 
 pub token_excludes : {V : Type 0} (spells : List ℕ → V → Type 0) (Why : ScanFault → List ℕ → Type 0) (limit : Option ℕ)
     → ((fault : ScanFault) (text : List ℕ) (v : V) → Why fault text → spells text v → IsOfTokens limit fault → ⊥)
@@ -16,18 +11,9 @@ pub token_excludes : {V : Type 0} (spells : List ℕ → V → Type 0) (Why : Sc
     → TakesToken (λ text. spells text v) old after → IsOfTokens limit fault → ⊥
 token_excludes spells Why limit none old new after v fault why takes own = grind (arith, common_steps)
 
-both_told : (Why : ScanFault → List ℕ → Type 0) (old m n : List (List ℕ)) (x y : ScanFault) → ((text : List ℕ) → Why x text → Why y text → x ≡ y)
-    → ((old ≡ []) × (m ≡ []) × (x ≡ entry_ends)) ⊎ ((token : List ℕ) × (old ≡ token ∷ m) × Why x token)
-    → ((old ≡ []) × (n ≡ []) × (y ≡ entry_ends)) ⊎ ((token : List ℕ) × (old ≡ token ∷ n) × Why y token) → (x ≡ y) × (m ≡ n)
-both_told Why old m n x y one h h8 = grind (arith, common_steps)
-
-pub token_one_fault_if : (Why : ScanFault → List ℕ → Type 0) (old m n : List (List ℕ)) (x y : ScanFault) → RefusesToken Why old m x → RefusesToken Why old n y
-    → ((text : List ℕ) → Why x text → Why y text → x ≡ y) → (x ≡ y) × (m ≡ n)
-token_one_fault_if Why old m n x y first second one = both_told Why old m n x y one (told Why old m x first) (told Why old n y second)
-
 pub token_one_fault : (Why : ScanFault → List ℕ → Type 0) → ((x y : ScanFault) (text : List ℕ) → Why x text → Why y text → x ≡ y)
     → (old m n : List (List ℕ)) (x y : ScanFault) → RefusesToken Why old m x → RefusesToken Why old n y → (x ≡ y) × (m ≡ n)
-token_one_fault Why one old m n x y first second = token_one_fault_if Why old m n x y first second (one x y)
+token_one_fault Why one old m n x y first second = grind (arith, common_steps, (one x y))
 
 -- ---- names
 
@@ -37,5 +23,3 @@ name_excludes limit fault text labels why is own = grind (arith, common_steps)
 
 pub name_one_fault : (limit : Option ℕ) (x y : ScanFault) (text : List ℕ) → NameTextFault limit x text → NameTextFault limit y text → x ≡ y
 name_one_fault limit x y text p q = grind (arith, common_steps)
-
--- ---- octets

@@ -1,5 +1,5 @@
 //! The numbers of algorithms.
-ghost use Rattle.std.specs.{Prelude.{◌≡◌, Some, IfOk, IfErr}, Fmt.decimal};
+ghost use Rattle.std.specs.{Prelude.{◌≡◌, ℕ, Some, IfOk, IfErr}, Fmt.decimal};
 ghost use Rattle.domain_names.specs.TextFault.{scan_fault_of};
 ghost use Rattle.domain_base.specs.Scan.{IsNumber, IsNoNumber, RefusesToken, TakesToken};
 
@@ -13,8 +13,6 @@ use std::marker::Model;
 pub struct SecurityAlgorithm(u8);
 
 impl Model for SecurityAlgorithm {
-    ghost use Rattle.std.specs.Prelude.{ℕ};
-
     ghost Value = { ℕ };
 
     ghost view = { λ a. a.0 };
@@ -100,8 +98,6 @@ impl fmt::Display for SecurityAlgorithm {
 pub struct DigestAlgorithm(u8);
 
 impl Model for DigestAlgorithm {
-    ghost use Rattle.std.specs.Prelude.{ℕ};
-
     ghost Value = { ℕ };
 
     ghost view = { λ a. a.0 };
@@ -172,8 +168,6 @@ impl fmt::Display for DigestAlgorithm {
 pub struct Nsec3HashAlgorithm(u8);
 
 impl Model for Nsec3HashAlgorithm {
-    ghost use Rattle.std.specs.Prelude.{ℕ};
-
     ghost Value = { ℕ };
 
     ghost view = { λ a. a.0 };

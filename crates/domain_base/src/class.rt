@@ -1,9 +1,8 @@
 //! Classes of records.
-ghost use Rattle.std.specs.Prelude.{◌≡◌, Some, IfOk, IfErr};
-ghost use Rattle.domain_base.specs.Named.{entries};
-ghost use Rattle.domain_base.specs.Numbers.{class_names, ClassText, IsNoClass, class_text};
+ghost use Rattle.std.specs.Prelude.{◌≡◌, ℕ, Some, IfOk, IfErr};
 ghost use Rattle.domain_names.specs.TextFault.{scan_fault_of};
-ghost use Rattle.domain_base.specs.Scan.{RefusesToken, TakesToken};
+ghost use Rattle.domain_base.specs.Numbers.{class_names, ClassText, IsNoClass, class_text};
+ghost use Rattle.domain_base.specs.{Named.entries, Scan.{RefusesToken, TakesToken}};
 
 use crate::{FromToken, Scanner, named};
 use domain_names::ScanError;
@@ -15,8 +14,6 @@ use std::marker::Model;
 pub struct Class(u16);
 
 impl Model for Class {
-    ghost use Rattle.std.specs.Prelude.{ℕ};
-
     ghost Value = { ℕ };
 
     ghost view = { λ c. c.0 };

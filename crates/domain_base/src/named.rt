@@ -4,10 +4,11 @@ ghost use Rattle.std.specs.{Option.option_map, Str.IsAscii, Fmt.WritesOnOk};
 ghost use Rattle.domain_base.specs.Named.{entries, number_named, name_of, HasPrefix};
 ghost use Rattle.domain_base.specs.Named.{IsWithoutPrefix, NumberText, number_text};
 
-use crate::number;
+use crate::FromToken;
 use std::fmt;
 
 /// The number that the table has for a name, in either case.
+#[tactic(auto, using(crate::proofs::NamedLemmas::same_yes, crate::proofs::NamedLemmas::same_no, std::proofs::lemmas::List::drop_more))]
 pub fn number_named(table: &[(u16, &str)], text: &str) -> Option<u16>
     ensures { result ≡ number_named (entries table.now) text.now }
 {
@@ -48,6 +49,7 @@ fn after_prefix<'a>(text: &'a str, prefix: &str) -> Option<&'a str>
 }
 
 /// The number that a text stands for: by its name, or by the prefix and decimal digits.
+#[tactic(auto, using(crate::specs::Named::by_name, crate::specs::Named::by_number, crate::proofs::NamedLemmas::no_number, crate::proofs::NamedLemmas::no_digits))]
 pub fn read_number(table: &[(u16, &str)], prefix: &str, text: &str) -> Option<u16>
     requires ascii { IsAscii prefix.now }
     requires some { 0 < length prefix.now }
@@ -58,10 +60,8 @@ pub fn read_number(table: &[(u16, &str)], prefix: &str, text: &str) -> Option<u1
     if let Some(number) = number_named(table, text) {
         return Some(number);
     }
-    let Some(digits) = after_prefix(text, prefix) else {
-        return None;
-    };
-    number::read_u16(digits)
+    let digits = after_prefix(text, prefix)?;
+    u16::from_token(digits).ok()
 }
 
 /// Writes the name of a number, or the prefix and its decimal digits.

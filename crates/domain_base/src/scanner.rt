@@ -120,9 +120,6 @@ pub struct IterScanner<'a, O> {
 }
 
 impl<'a, O> Model for IterScanner<'a, O> {
-    ghost use Rattle.std.specs.Prelude.{map};
-    ghost use Rattle.domain_names.specs.Words.{Tokens};
-
     ghost Value = { Tokens };
 
     ghost view = { λ s. map (λ token. token.now) s.left.now };
@@ -163,6 +160,7 @@ where
         }
     }
 
+    #[tactic(auto, using(crate::proofs::ScanLemmas::no_token))]
     fn scan_name(&mut self, alloc: Global) -> Result<Name<O>, ScanError> {
         let Some(token) = self.first_token() else {
             return Err(ScanError::EndOfEntry);
@@ -176,6 +174,7 @@ where
         O::Builder::empty(alloc)
     }
 
+    #[tactic(auto, using(crate::proofs::ScanLemmas::no_token))]
     fn convert_token(&mut self, alloc: Global, codec: Codec) -> Result<O, ScanError> {
         let Some(token) = self.first_token() else {
             return Err(ScanError::EndOfEntry);
@@ -222,6 +221,7 @@ pub trait FromToken {
         ensures err { IfErr result (λ e. refuses (scan_fault_of e) token.now) };
 
     /// The value that the next token spells. A token that is refused is gone past too.
+    #[tactic(auto, using(crate::proofs::ScanLemmas::no_token))]
     final fn scan<S: Scanner>(scanner: &mut S) -> Result<Self, ScanError>
     where
         Self: Sized,

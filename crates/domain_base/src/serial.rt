@@ -1,5 +1,5 @@
 //! Serial numbers.
-ghost use Rattle.std.specs.Prelude.{◌≡◌, ◌<◌, ◌+◌, ◌++◌, ◌↔◌, length, Some, IsNone, IsErr, IfOk};
+ghost use Rattle.std.specs.Prelude.{◌≡◌, ◌<◌, ◌+◌, ◌++◌, ◌↔◌, ℕ, length, Some, IsNone, IsErr, IfOk};
 ghost use Rattle.std.specs.{Prelude.{IfErr, OnOk, OnErr, IsErrOf}, Fmt.decimal};
 ghost use Rattle.std.specs.{Int.{w32, to_be_bytes}, Ordering.nat_cmp, Cmp.nat_cmp_total};
 ghost use Rattle.domain_octets.specs.{Limit.IsOver, Place.Takes};
@@ -20,8 +20,6 @@ const _: () = prove!(Serial::COMPOSE_LEN as usize == size_of::<u32>());
 pub struct Serial(u32);
 
 impl Model for Serial {
-    ghost use Rattle.std.specs.Prelude.{ℕ};
-
     ghost Value = { ℕ };
 
     ghost view = { λ s. s.0 };

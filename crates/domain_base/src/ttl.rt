@@ -1,5 +1,5 @@
 //! Times to live.
-ghost use Rattle.std.specs.{Prelude.{◌≡◌, ◌*◌, Some, IfOk, IfErr}, Fmt.decimal};
+ghost use Rattle.std.specs.{Prelude.{◌≡◌, ◌*◌, ℕ, Some, IfOk, IfErr}, Fmt.decimal};
 ghost use Rattle.domain_names.specs.TextFault.{scan_fault_of};
 ghost use Rattle.domain_base.specs.Scan.{IsNumber, IsNoNumber, RefusesToken, TakesToken};
 
@@ -14,8 +14,6 @@ use std::marker::Model;
 pub struct Ttl(u32);
 
 impl Model for Ttl {
-    ghost use Rattle.std.specs.Prelude.{ℕ};
-
     ghost Value = { ℕ };
 
     ghost view = { λ t. t.0 };

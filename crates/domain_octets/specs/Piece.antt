@@ -1,6 +1,6 @@
 -- the pieces of a zone file's text
-use Rattle.std.specs.{Prelude.{Bool, true, false, List, [], ◌∷◌, ◌++◌, string_bytes}, List.join_with_byte}
-use Rattle.domain_octets.specs.{declared.pieces.Piece.{Piece, TheVariants.{Token, Comment, Open, Close}}, Words.Octets, Characters.space}
+use Rattle.std.specs.{Prelude.{List, [], ◌∷◌, string_bytes}, List.join_with_byte}
+use Rattle.domain_octets.specs.{declared.formatter.Piece.{Piece, TheVariants.{Token, Comment, Open, Close}}, Words.Octets, Characters.space}
 
 -- a token, a comment, or the beginning or end of a block in which lines may break
 pub data PieceText : Type 0 where
@@ -25,8 +25,3 @@ tokens_of (closes ∷ pieces) = tokens_of pieces
 -- the tokens with one space between them
 abbrev pub simple_text : List PieceText → Octets
 simple_text pieces = join_with_byte space (tokens_of pieces)
-
--- a line with one token more
-abbrev pub line_with : Bool → Octets → Octets → Octets
-line_with true line text = line ++ text
-line_with false line text = (line ++ space ∷ []) ++ text

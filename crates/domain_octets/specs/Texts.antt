@@ -1,10 +1,8 @@
 -- what errors say
 use Rattle.std.specs.Prelude.{codes}
-use Rattle.domain_octets.specs.declared.error.AppendError.{AppendError}
+use Rattle.domain_octets.specs.{declared.error.{AppendError.AppendError, ParseError.ParseError}, Words.Octets}
 use Rattle.domain_octets.specs.declared.error.AppendError.TheVariants as append_error
-use Rattle.domain_octets.specs.declared.error.ParseError.{ParseError}
 use Rattle.domain_octets.specs.declared.error.ParseError.TheVariants as parse_error
-use Rattle.domain_octets.specs.Words.{Octets}
 
 abbrev pub append_error_text : AppendError → Octets
 append_error_text append_error.ShortBuf = codes "buffer size exceeded"

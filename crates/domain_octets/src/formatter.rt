@@ -1,11 +1,24 @@
-//! What takes the pieces of a zone file's text.
+//! The pieces of a zone file's text, and what takes them.
 ghost use Rattle.std.specs.Prelude.{◌≡◌, ◌++◌, ◌∷◌, [], List, IfSome, map, OnOk, OnErr};
-ghost use Rattle.domain_octets.specs.Piece.{PieceText, token, comment, opens, closes};
+ghost use Rattle.domain_octets.specs.Piece.{PieceText, piece_text, token, comment, opens, closes};
 
-use crate::{OutOfMemory, Piece};
+use crate::OutOfMemory;
 use std::alloc::Global;
 use std::fmt::Display;
 use std::marker::Model;
+
+/// A piece of a zone file's text.
+#[derive(Debug, PartialEq, Eq, Drop)]
+pub enum Piece {
+    /// A token.
+    Token(String),
+    /// A comment on what stands before it.
+    Comment(String),
+    /// The beginning of a block, within which lines may break.
+    Open,
+    /// The end of a block.
+    Close,
+}
 
 /// What takes the pieces of a zone file's text, one after another.
 pub trait Formatter {
@@ -43,9 +56,6 @@ pub struct PieceFormatter {
 }
 
 impl Model for PieceFormatter {
-    ghost use Rattle.std.specs.Prelude.{List, map};
-    ghost use Rattle.domain_octets.specs.Piece.{PieceText, piece_text};
-
     ghost Value = { List PieceText };
 
     ghost view = { λ f. map piece_text f.pieces.items };
@@ -61,11 +71,6 @@ impl PieceFormatter {
             pieces: Vec::new(alloc),
         }
     }
-}
-
-impl PieceFormatter {
-    ghost use Rattle.std.specs.Prelude.{◌≡◌, map};
-    ghost use Rattle.domain_octets.specs.Piece.{piece_text};
 
     /// The pieces in their order.
     pub fn pieces(&self) -> &[Piece]
@@ -80,23 +85,19 @@ impl Formatter for PieceFormatter {
 
     fn write_token<T: Display>(&mut self, value: &T) -> Result<(), OutOfMemory> {
         let text = format!(in self.alloc; "{value}")?;
-        self.pieces.push(Piece::Token(text))?;
-        Ok(())
+        Ok(self.pieces.push(Piece::Token(text))?)
     }
 
     fn write_comment<T: Display>(&mut self, value: &T) -> Result<(), OutOfMemory> {
         let text = format!(in self.alloc; "{value}")?;
-        self.pieces.push(Piece::Comment(text))?;
-        Ok(())
+        Ok(self.pieces.push(Piece::Comment(text))?)
     }
 
     fn begin_block(&mut self) -> Result<(), OutOfMemory> {
-        self.pieces.push(Piece::Open)?;
-        Ok(())
+        Ok(self.pieces.push(Piece::Open)?)
     }
 
     fn end_block(&mut self) -> Result<(), OutOfMemory> {
-        self.pieces.push(Piece::Close)?;
-        Ok(())
+        Ok(self.pieces.push(Piece::Close)?)
     }
 }

@@ -3,6 +3,7 @@ ghost use Rattle.std.specs.Prelude.{◌≡◌, IfOk, IsOk};
 ghost use Rattle.domain_octets.specs.Words.{Octets};
 
 use crate::OutOfMemory;
+use bytes::Bytes;
 
 /// A value that can be copied, which may take memory.
 pub trait TryClone {
@@ -38,6 +39,14 @@ impl TryClone for Vec<u8> {
     }
 }
 
+impl TryClone for Bytes {
+    ghost is_clone = { λ b copy. copy ≡ b };
+
+    fn try_clone(&self) -> Result<Bytes, OutOfMemory> {
+        Ok(self.clone()?)
+    }
+}
+
 impl<'a> TryClone for &'a [u8] {
     ghost is_clone = { λ s copy. copy.now ≡ s.now };
 
@@ -57,6 +66,16 @@ impl Octets for Vec<u8> {
 
     fn as_slice(&self) -> &[u8] {
         Vec::as_slice(self)
+    }
+}
+
+impl Octets for Bytes {
+    ghost octets = { λ b. b };
+
+    ghost clone_octets = { λ b copy same. same };
+
+    fn as_slice(&self) -> &[u8] {
+        Bytes::as_slice(self)
     }
 }
 

@@ -1,6 +1,7 @@
 //! Octets that are read from the front.
-ghost use Rattle.std.specs.Prelude.{◌≡◌, ◌<◌, ◌≤◌, ◌+◌, ◌∷◌, ◌↔◌, [], length, drop, IsErr, IfOk, IfErr, OnErr};
-ghost use Rattle.std.specs.Int.{w16, w32, to_be_bytes};
+ghost use Rattle.std.specs.Prelude.{◌≡◌, ◌<◌, ◌≤◌, ◌+◌, ◌^◌, ◌∷◌, ◌↔◌, [], length, drop};
+ghost use Rattle.std.specs.{Prelude.{IsErr, IfOk, IfErr, OnErr}, Int.{w16, w32, to_be_bytes}};
+ghost use Rattle.domain_octets.specs.Place.{Place, Takes};
 
 use crate::ParseError;
 use std::marker::Model;
@@ -15,9 +16,6 @@ pub struct Parser<'a> {
 }
 
 impl<'a> Model for Parser<'a> {
-    ghost use Rattle.domain_octets.specs.Place.{Place};
-    ghost use Rattle.std.specs.Prelude.{◌+◌, ◌<◌, ◌^◌, length};
-
     ghost Value = { Place };
 
     ghost view = { λ p. record { pos = p.pos; left = p.left.now } };
@@ -26,8 +24,6 @@ impl<'a> Model for Parser<'a> {
 }
 
 impl<'a> Parser<'a> {
-    ghost use Rattle.domain_octets.specs.Place.{Takes};
-
     /// A parser over these octets, none of which are read yet.
     pub fn new(octets: &'a [u8]) -> Self
         ensures { result ≡ record { pos = 0; left = octets.now } }

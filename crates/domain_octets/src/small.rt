@@ -1,9 +1,12 @@
-//! Octets that lie in the value itself where they are few.
-ghost use Rattle.std.specs.Prelude.{◌≡◌, ◌≤◌, None, [], length, IsOk, IfOk};
-ghost use Rattle.domain_octets.specs.{Small.room_inside, Words.Octets};
+//! Octets that lie in the value itself where they are few, and what builds them.
+ghost use Rattle.std.specs.Prelude.{◌≡◌, ◌≤◌, ◌+◌, ◌++◌, None, [], refl, length, IfOk, IsErrOf, IsOk};
+ghost use Rattle.std.{specs.{Prelude.{OnErr, OnOk}, List.refill}, proofs.Common.sym};
+ghost use Rattle.domain_octets.specs.Small.{room_inside, held_octets, IsHeldRight};
+ghost use Rattle.domain_octets.specs.{Written.refilled, Words.Octets};
 
 use crate::{
-    AppendError, CopyOctets, EmptyOctets, FromBuilder, Octets, OutOfMemory, SmallBuilder, TryClone,
+    AppendError, CopyOctets, EmptyBuilder, EmptyOctets, FreezeBuilder, FromBuilder, GrowingBuilder,
+    Octets, OctetsBuilder, OutOfMemory, Truncate, TryClone,
 };
 use smallvec::SmallVec;
 use std::alloc::Global;
@@ -14,7 +17,7 @@ const _: () = prove!(size_of::<SmallOctets>() == 32);
 
 /// How many octets lie in the value itself at most: of its 32, one has their length, and one tells
 /// where they are.
-pub(crate) const INSIDE: usize = 30;
+const INSIDE: usize = 30;
 
 /// Where octets lie.
 #[derive(Drop)]
@@ -33,9 +36,6 @@ pub struct SmallOctets {
 }
 
 impl Model for SmallOctets {
-    ghost use Rattle.domain_octets.specs.Words.{Octets};
-    ghost use Rattle.domain_octets.specs.Small.{held_octets, IsHeldRight};
-
     ghost Value = { Octets };
 
     ghost view = { λ s. held_octets s.held };
@@ -57,22 +57,6 @@ impl SmallOctets {
             });
         }
         Ok(Self::inside(octets))
-    }
-
-    /// The octets of a vector, whose memory is kept where there are more than 30.
-    #[inline]
-    pub(crate) fn from_small_vec(octets: SmallVec<u8, INSIDE>) -> Self
-        ensures { result ≡ octets.items }
-    {
-        if octets.len() <= INSIDE {
-            return Self::inside(octets.as_slice());
-        }
-        match octets.into_vec() {
-            Ok(octets) => SmallOctets {
-                held: Held::Outside(octets),
-            },
-            Err(_) => unreachable!(),
-        }
     }
 
     #[inline]
@@ -137,11 +121,117 @@ impl FromBuilder for SmallOctets {
     type Builder = SmallBuilder;
 
     fn from_builder(builder: SmallBuilder) -> Self {
-        builder.into_octets()
+        builder.freeze()
     }
 
     /// Takes no memory where there are at most 30 octets.
     fn from_octets(alloc: Global, octets: &[u8]) -> Result<Self, AppendError> {
         Self::copy_octets(alloc, octets)
+    }
+}
+
+/// The builder of [`SmallOctets`]: it takes memory only for more than 30 octets.
+#[derive(Drop)]
+pub struct SmallBuilder {
+    octets: SmallVec<u8, INSIDE>,
+}
+
+impl Model for SmallBuilder {
+    ghost Value = { Octets };
+
+    ghost view = { λ b. b.octets.items };
+
+    ghost invariant = { λ b. room_inside ≤ b.octets.capacity };
+}
+
+impl TryClone for SmallBuilder {
+    ghost is_clone = { λ b copy. copy ≡ b };
+
+    /// A copy. Takes no memory where there are at most 30 octets.
+    fn try_clone(&self) -> Result<Self, OutOfMemory>
+        ensures copy { IfOk result (λ copy. copy ≡ self.now) }
+        ensures inside { length self.now ≤ room_inside → IsOk result }
+    {
+        Ok(SmallBuilder {
+            octets: SmallVec::from_slice(*self.octets.allocator(), self.octets.as_slice())?,
+        })
+    }
+}
+
+impl Octets for SmallBuilder {
+    ghost octets = { λ b. b };
+
+    ghost clone_octets = { λ b copy same. same };
+
+    #[inline]
+    fn as_slice(&self) -> &[u8] {
+        self.octets.as_slice()
+    }
+}
+
+impl OctetsBuilder for SmallBuilder {
+    ghost limit = { None };
+
+    ghost with_octets = { λ b xs. refill (length b) b xs };
+
+    /// The first octets are given just the memory that they need, since most octets come at once.
+    /// Takes no memory where there are then at most 30.
+    #[inline]
+    fn append_slice(&mut self, slice: &[u8]) -> Result<(), AppendError>
+        ensures ok { OnOk result (self.new ≡ self.old ++ slice.now) }
+        ensures err { OnErr result (self.new ≡ self.old) }
+        ensures grows { IsErrOf result AppendError.ShortBuf → ⊥ }
+        ensures inside { length self.old + length slice.now ≤ room_inside → IsOk result }
+    {
+        if self.octets.is_empty() {
+            self.octets.reserve_exact(slice.len())?;
+        }
+        self.octets.extend_from_slice(slice)?;
+        Ok(())
+    }
+
+    #[inline]
+    fn as_mut_slice(&mut self) -> &mut [u8] {
+        self.octets.as_mut_slice()
+    }
+
+    ghost has_octets = { λ b xs same. refilled (length b) b xs (sym same) };
+}
+
+impl EmptyBuilder for SmallBuilder {
+    #[inline]
+    fn empty(alloc: Global) -> Self {
+        SmallBuilder {
+            octets: SmallVec::new(alloc),
+        }
+    }
+}
+
+impl Truncate for SmallBuilder {
+    fn truncate(&mut self, len: usize) {
+        self.octets.truncate(len);
+    }
+}
+
+impl GrowingBuilder for SmallBuilder {
+    ghost grows = { refl };
+}
+
+impl FreezeBuilder for SmallBuilder {
+    type Frozen = SmallOctets;
+
+    /// The memory of the builder is kept where there are more than 30 octets.
+    #[inline]
+    fn freeze(self) -> SmallOctets {
+        let SmallBuilder { octets } = self;
+        if octets.len() <= INSIDE {
+            return SmallOctets::inside(octets.as_slice());
+        }
+        match octets.into_vec() {
+            Ok(octets) => SmallOctets {
+                held: Held::Outside(octets),
+            },
+            Err(_) => unreachable!(),
+        }
     }
 }

@@ -1,6 +1,6 @@
 //! Values that a zone file shows in pieces.
 ghost use Rattle.std.specs.Prelude.{◌≡◌, ◌++◌, List, map, IfOk, OnOk, string_bytes};
-ghost use Rattle.domain_octets.specs.Piece.{PieceText, piece_text, simple_text, line_with};
+ghost use Rattle.domain_octets.specs.Piece.{PieceText, piece_text, simple_text};
 
 use crate::{Formatter, OutOfMemory, Piece, PieceFormatter};
 use std::alloc::Global;
@@ -40,18 +40,6 @@ pub trait ZonefileFmt {
     }
 }
 
-/// Appends a token, after a space where it is not the first.
-fn push_token(line: &mut String, first: bool, text: &str) -> Result<(), OutOfMemory>
-    ensures { OnOk result (string_bytes line.new
-        ≡ line_with first (string_bytes line.old) text.now) }
-{
-    if !first {
-        line.push(' ')?;
-    }
-    line.push_str(text)?;
-    Ok(())
-}
-
 /// The tokens with one space between them.
 #[tactic(auto, using(crate::proofs::PieceLemmas::from_nothing))]
 fn simple_text(alloc: Global, pieces: &[Piece]) -> Result<String, OutOfMemory>
@@ -61,7 +49,10 @@ fn simple_text(alloc: Global, pieces: &[Piece]) -> Result<String, OutOfMemory>
     let mut first = true;
     for piece in pieces {
         if let Piece::Token(text) = piece {
-            push_token(&mut line, first, text.as_str())?;
+            if !first {
+                line.push(' ')?;
+            }
+            line.push_str(text.as_str())?;
             first = false;
         }
     }

@@ -1,7 +1,7 @@
-use Rattle.std.proofs.Common.{◌≡◌, drop, map, string_bytes}
-use Rattle.domain_octets.{specs.Piece.{piece_text, simple_text, tokens_of}, proofs.PieceLemmas.continued}
+use Rattle.std.proofs.Common.{◌≡◌, ◌++◌, drop, map, string_bytes}
+use Rattle.domain_octets.{specs.Piece.{piece_text, simple_text, tokens_of}, proofs.PieceLemmas.added}
 use Rattle.domain_octets.proofs.zonefile.simple_text.Given as goal
 
 abbrev pub invariant-loop-piece : goal.invariant-loop-piece
 invariant-loop-piece l =
-    continued l.first (string_bytes l.line) (tokens_of (map piece_text (drop l.piece-index l.pieces))) ≡ simple_text (map piece_text l.pieces)
+    string_bytes l.line ++ added l.first (tokens_of (map piece_text (drop l.piece-index l.pieces))) ≡ simple_text (map piece_text l.pieces)

@@ -1,5 +1,5 @@
-use Rattle.domain_base.proofs.ScanLemmas.{none_left}
+use Rattle.std.proofs.{Common.sym, lemmas.List.append-nil}
 use Rattle.domain_base.proofs.scanner.IterScannerScanner.convert_entry.Goals as goal
 
 pub returns-clause-end : goal.returns-clause-end
-returns-clause-end g c = none_left c.args.self.now
+returns-clause-end g c = record { front = c.args.self.now; joined = sym (append-nil c.args.self.now) }
