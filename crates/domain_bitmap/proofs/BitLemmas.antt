@@ -1,10 +1,8 @@
 -- bits of octets
-use Rattle.std.proofs.Common.{◌≡◌, ℕ, ◌+◌, ◌-◌, ◌*◌, ◌/◌, ◌%◌, ◌^◌, ◌<◌, ◌≤◌, Bool, true, false, max, sym, ap, ◌∙◌, arith, add-zero}
-use Rattle.std.proofs.Common.{pow_pos, rules}
+use Rattle.std.proofs.Common.{◌≡◌, ℕ, ◌+◌, ◌-◌, ◌*◌, ◌/◌, ◌%◌, ◌^◌, ◌<◌, ◌≤◌, Bool, true, false, max, sym, ap, ◌∙◌, arith, add-zero, pow_pos}
 use Rattle.std.proofs.lemmas.Nat.Bits.{bit_at_or, bit_at-pow_same, bit_at-pow_other, shr_and_one, same_from_bits_below, bit_at-lt, bit_at-zero, bit_at_cat_low}
-use Rattle.std.proofs.lemmas.Nat.Bits.{bit_at_cat_high}
-use Rattle.std.proofs.lemmas.Nat.{div-add-mod'}
-use Rattle.std.{proofs.lemmas.{Bool.Decides.{nat_tests}, Grind.common_steps}, specs.{Prelude.{◌||◌, ◌==◌, bit_or, bit_and}, Int.bit_at}}
+use Rattle.std.{proofs.lemmas.{Nat.{Bits.bit_at_cat_high, div-add-mod'}, Bool.Decides.nat_tests, Grind.common_steps}, specs.Prelude.{◌||◌, ◌==◌, bit_or}}
+use Rattle.std.specs.{Prelude.bit_and, Int.bit_at}
 use Rattle.domain_bitmap.specs.Bits.{bit_of, octet_with, weight}
 
 -- a bit as a number
@@ -81,16 +79,5 @@ octets_same x y x_small y_small same =
     same_from_bits_below 8 x y x_small y_small (λ i small. let back : 7 - (7 - i) ≡ i = omega arith in
     let equal : (bit_at x i == 1) ≡ (bit_at y i == 1) = rw back at (same (7 - i) (omega arith)) in
     one_bit _ _ (bit_at-lt x i) (bit_at-lt y i) equal)
-
-pub octet_with-bit_of : (x : ℕ) → x < 256 → octet_with (bit_of x) ≡ x
-octet_with-bit_of x small = octets_same (octet_with (bit_of x)) x (octet_with-lt (bit_of x)) small (bit_of-octet_with (bit_of x))
-
--- octets of bits that agree are equal
-pub octet_with-same : (p q : ℕ → Bool) → ((b : ℕ) → b < 8 → p b ≡ q b) → octet_with p ≡ octet_with q
-octet_with-same p q same = search (rules, octets_same, octet_with-lt, bit_of-octet_with)
-
-pub octet_with-none : (p : ℕ → Bool) → ((b : ℕ) → b < 8 → p b ≡ false) → octet_with p ≡ 0
-octet_with-none p none =
-    octets_same _ 0 (octet_with-lt p) (omega arith) (λ b small. bit_of-octet_with p b small ∙ none b small ∙ sym (bit_of-zero b))
 
 pub ruleset bit_reads = (bit_of-shr, bit_of-zero)

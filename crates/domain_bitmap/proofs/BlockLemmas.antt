@@ -1,12 +1,10 @@
 -- octets read as blocks
-use Rattle.std.proofs.Common.{◌≡◌, ℕ, zero, suc, ◌+◌, ◌-◌, ◌*◌, ◌/◌, ◌%◌, ◌^◌, ◌<◌, ◌≤◌, ◌≢◌, true, false, List, [], ◌∷◌, ◌++◌, length, slice_index, get_or}
-use Rattle.std.proofs.Common.{take, drop}
-use Rattle.std.proofs.{Common.{refl, sym, ap, ◌∙◌, subst, arith, length-drop}, lemmas.List.{drop_at, length-take, Elements.{All-append, All-nil}}}
+use Rattle.std.proofs.Common.{◌≡◌, ℕ, zero, suc, ◌+◌, ◌-◌, ◌*◌, ◌/◌, ◌%◌, ◌^◌, ◌<◌, ◌≤◌, true, false, List, [], ◌∷◌, ◌++◌, length, slice_index, get_or, take}
+use Rattle.std.proofs.{Common.{drop, refl, sym, ap, ◌∙◌, subst, arith, length-drop}, lemmas.List.{drop_at, length-take, Elements.{All-append, All-nil}}}
 use Rattle.std.{proofs.lemmas.Grind.common_steps, specs.List.{AllByRecursion, flat_map}}
 use Rattle.domain_octets.specs.Words.{AreOctets}
-use Rattle.domain_bitmap.proofs.{RangeLemmas.filter_none, BitLemmas.{bit_of-zero, bit_of-shl}}
-use Rattle.domain_bitmap.specs.Blocks.{Block, IsBlock, octets_of_blocks, blocks_within, blocks_of, IsBitmap, block_types_from, types_from, types_of}
-use Rattle.domain_bitmap.specs.{Blocks.contains_type, Bits.{bit_of, has_bit}}
+use Rattle.domain_bitmap.{proofs.{RangeLemmas.filter_none, BitLemmas.{bit_of-zero, bit_of-shl}}, specs.Blocks.{Block, IsBlock, octets_of_blocks, blocks_within}}
+use Rattle.domain_bitmap.specs.{Blocks.{blocks_of, IsBitmap, block_types_from, types_from, types_of}, Bits.{bit_of, has_bit}}
 
 -- as many steps as there are octets are enough
 blocks_within-same : (m n : ℕ) (octets : List ℕ) → length octets ≤ m → length octets ≤ n → blocks_within m octets ≡ blocks_within n octets
@@ -117,7 +115,7 @@ clear_at octets w place inside none =
     grind (arith, common_steps, (bit_in octets w k (omega (arith, to, inside))), bit_of-zero))
     ∙ ap (block_types_from (record { window = w; octets = octets })) moved
 
-types_from-blocks : (blocks : List Block) → types_from blocks 0 ≡ flat_map (λ block. block_types_from block 0) blocks
+pub types_from-blocks : (blocks : List Block) → types_from blocks 0 ≡ flat_map (λ block. block_types_from block 0) blocks
 types_from-blocks [] = refl
 types_from-blocks (block ∷ blocks) = refl
 
@@ -125,37 +123,7 @@ pub types_from_start : (octets : List ℕ) → types_from (blocks_of octets) 0 �
 unfolding types_of
 types_from_start octets = types_from-blocks (blocks_of octets)
 
--- a look into the first block, and past it
-pub contains_here : (octets : List ℕ) (block : Block) (blocks : List Block) (t : ℕ) → blocks_of octets ≡ block ∷ blocks
-    → block.window ≡ t / 256 → contains_type octets t ≡ has_bit block.octets t
-unfolding contains_type
-contains_here octets block blocks t is here = grind (arith, common_steps)
-
-pub contains_later : (octets rest : List ℕ) (block : Block) (t : ℕ) → blocks_of octets ≡ block ∷ blocks_of rest
-    → block.window ≢ t / 256 → contains_type octets t ≡ contains_type rest t
-unfolding contains_type
-contains_later octets rest block t is other = grind (arith, common_steps)
-
-pub contains_nothing : (octets : List ℕ) (t : ℕ) → blocks_of octets ≡ [] → contains_type octets t ≡ false
-unfolding contains_type
-contains_nothing octets t is = rw is refl
-
--- a block without types from a place on is passed
-pub types_from_next : (octets rest : List ℕ) (block : Block) (place : ℕ) → blocks_of octets ≡ block ∷ blocks_of rest
-    → block_types_from block place ≡ [] → types_from (blocks_of octets) place ≡ types_from (blocks_of rest) 0
-types_from_next octets rest block place is none = rw (is, none) (sym (types_from-blocks (blocks_of rest)))
-
-pub types_from_here : (octets : List ℕ) (block : Block) (blocks : List Block) (place next t : ℕ)
-    → blocks_of octets ≡ block ∷ blocks → block_types_from block place ≡ t ∷ block_types_from block next
-    → types_from (blocks_of octets) place ≡ t ∷ types_from (blocks_of octets) next
-types_from_here octets block blocks place next t is found = rw (is, found) refl
-
-pub types_from_nothing : (octets : List ℕ) (place : ℕ) → blocks_of octets ≡ [] → types_from (blocks_of octets) place ≡ []
-types_from_nothing octets place is = rw is refl
-
-pub ruleset look_steps = (contains_here, contains_later, contains_nothing)
-
-pub ruleset iter_steps = (types_from_next, types_from_here, types_from_nothing)
+pub ruleset iter_steps = (types_from-blocks)
 
 -- ---- bitmaps are octets
 

@@ -1,7 +1,6 @@
 -- why octets are no list of blocks
-use Rattle.std.proofs.lemmas.Grind.{common_steps}
-use Rattle.std.proofs.Common.{◌≡◌, ℕ, zero, suc, ◌+◌, ◌<◌, ◌≤◌, List, [], ◌∷◌, length, get_or, take, drop, sym, ap, ◌∙◌, subst, arith}
-use Rattle.std.proofs.lemmas.{List.{length-take, get_or-drop}}
+use Rattle.std.proofs.{lemmas.Grind.common_steps, Common.{◌≡◌, ℕ, ◌+◌, ◌<◌, ◌≤◌, List, [], ◌∷◌, length, get_or, take, drop, sym, ap, ◌∙◌, subst, arith}}
+use Rattle.std.proofs.lemmas.List.{length-take, get_or-drop}
 use Rattle.domain_bitmap.specs.declared.error.RtypeBitmapError.{RtypeBitmapError, TheVariants.{ShortInput}}
 use Rattle.domain_bitmap.specs.Fault.{BitmapFault, bitmap_fault_of, FirstBlockFault, no_length, bad_length, cut_block, after}
 use Rattle.domain_bitmap.{specs.Blocks.{IsBitmap, octets_of_blocks}, proofs.BlockLemmas.{IsBitmap-octets_of_blocks, headed, block_at, block_before, nothing_at}}
@@ -17,10 +16,7 @@ pub reading_starts : (octets : List ℕ) → ((i : ℕ) → get_or octets i 0 < 
 reading_starts octets small = record { bitmap = λ b. b; fault = λ e f. f; small = small }
 
 small_take : (xs : List ℕ) (n i : ℕ) → ((k : ℕ) → get_or xs k 0 < 256) → get_or (take n xs) i 0 < 256
-small_take xs zero i small = omega arith
-small_take [] (suc n) i small = omega arith
-small_take (x ∷ xs) (suc n) zero small = small 0
-small_take (x ∷ xs) (suc n) (suc i) small = small_take xs n i (λ k. small (suc k))
+small_take xs n i small = grind (arith, common_steps, (small i))
 
 pub reading_goes : (octets rest : List ℕ) → Reading octets rest → 2 ≤ length rest → 0 < get_or rest 1 0 → get_or rest 1 0 ≤ 32
     → get_or rest 1 0 ≤ length (drop 2 rest) → Reading octets (drop (get_or rest 1 0) (drop 2 rest))

@@ -7,11 +7,9 @@ pub mod BitmapLemmas
 pub mod PackLemmas
 pub mod MeaningLemmas
 pub mod FaultLemmas
-pub mod SpellingLemmas
 pub mod ScanLemmas
 pub mod CountedLemmas
 pub mod SaltLemmas
-pub mod PieceLemmas
 pub mod ReadBackLemmas
 pub mod RefusalLemmas
 pub mod ListLemmas

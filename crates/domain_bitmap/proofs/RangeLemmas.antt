@@ -1,8 +1,7 @@
 -- numbers in a row
-use Rattle.std.proofs.Common.{◌≡◌, ℕ, zero, suc, ◌+◌, ◌-◌, ◌*◌, ◌<◌, ◌≤◌, ◌≢◌, Bool, true, false, List, [], ◌∷◌, ◌++◌, length, refl, sym, ap, ◌∙◌, inl, inr}
-use Rattle.std.proofs.{Common.{arith, add-zero, zero-add, add-one}, lemmas.Bool.Decides.leb_tells}
-use Rattle.std.proofs.lemmas.List.{Folds.{list_any_none}, Elements.filter-append}
-use Rattle.std.{proofs.lemmas.Grind.common_steps, specs.{Prelude.◌||◌, List.{range_with_len, list_any, flat_map, filter}}}
+use Rattle.std.proofs.Common.{◌≡◌, ℕ, zero, suc, ◌+◌, ◌<◌, ◌≤◌, ◌≢◌, Bool, true, false, [], ◌∷◌, ◌++◌, length, refl, sym, ap, ◌∙◌, inl, inr, arith, add-zero}
+use Rattle.std.{proofs.{Common.{zero-add, add-one}, lemmas.{Bool.Decides.eqb_tells, List.Elements.filter-append, Grind.common_steps}}, specs.Prelude.◌||◌}
+use Rattle.std.specs.{Prelude.{◌&&◌, if◌then◌else◌, nat_lt}, List.{range_with_len, list_any, filter}}
 
 pub range_append : (a m n : ℕ) → range_with_len a (m + n) ≡ range_with_len a m ++ range_with_len (a + m) n
 range_append a zero n = rw (add-zero a, zero-add n) refl
@@ -14,59 +13,39 @@ range_append a (suc m) n =
 pub range_more : (n : ℕ) → range_with_len 0 (n + 1) ≡ range_with_len 0 n ++ n ∷ []
 range_more n = range_append 0 n 1 ∙ ap (λ k. range_with_len 0 n ++ k ∷ []) (zero-add n)
 
--- the numbers before one of the row, and those after it
-range_at : (n k : ℕ) → k < n → range_with_len 0 n ≡ range_with_len 0 k ++ k ∷ range_with_len (k + 1) (n - (k + 1))
-range_at n k below =
-    let count : n ≡ k + suc (n - (k + 1)) = omega arith in
-    ap (range_with_len 0) count ∙ range_append 0 k (suc (n - (k + 1)))
-    ∙ ap (λ s. range_with_len 0 k ++ range_with_len s (suc (n - (k + 1)))) (zero-add k)
+range_suc : (n : ℕ) → range_with_len 0 (suc n) ≡ range_with_len 0 n ++ n ∷ []
+range_suc n = ap (range_with_len 0) (sym (add-one n)) ∙ range_more n
 
 -- whether some number in a row passes a test
 pub any_more : (p : ℕ → Bool) (n : ℕ) → list_any p (range_with_len 0 (n + 1)) ≡ (list_any p (range_with_len 0 n) || p n)
 any_more p n = grind (arith, common_steps, range_more)
 
 pub any_suc : (p : ℕ → Bool) (n : ℕ) → list_any p (range_with_len 0 (suc n)) ≡ (list_any p (range_with_len 0 n) || p n)
-any_suc p n = ap (λ m. list_any p (range_with_len 0 m)) (sym (add-one n)) ∙ any_more p n
+any_suc p n = grind (arith, common_steps, range_suc)
 
-pub any_same : (p q : ℕ → Bool) (a n : ℕ) → ((j : ℕ) → a ≤ j → j < a + n → p j ≡ q j) → list_any p (range_with_len a n) ≡ list_any q (range_with_len a n)
-any_same p q a zero same = refl
-any_same p q a (suc n) same = grind (arith, common_steps, (any_same p q (a + 1) n (λ j low high. same j (omega arith) (omega arith))))
+pub any_same : (p q : ℕ → Bool) (n : ℕ) → ((j : ℕ) → j < n → p j ≡ q j) → list_any p (range_with_len 0 n) ≡ list_any q (range_with_len 0 n)
+any_same p q zero same = refl
+any_same p q (suc n) same = grind (arith, common_steps, any_suc, (any_same p q n (λ j below. same j (omega (arith, below)))), (same n))
 
 pub any_at : (p : ℕ → Bool) (n k : ℕ) → k < n → p k ≡ true → list_any p (range_with_len 0 n) ≡ true
-any_at p n k below passes = rw (range_at n k below) (grind (arith, common_steps))
+any_at p zero k below passes = absurd (omega (arith, below))
+any_at p (suc n) k below passes = elim (eqb_tells k n) [
+  | inl h ↦ grind (arith, common_steps, any_suc)
+  | inr h ↦ grind (arith, common_steps, any_suc, (any_at p n k (omega (arith, below, h.1)) passes))
+]
 
 pub any_none : (p : ℕ → Bool) (n : ℕ) → ((j : ℕ) → j < n → p j ≡ false) → list_any p (range_with_len 0 n) ≡ false
-any_none p n fails = any_same p (λ _. false) 0 n (λ j low high. fails j (omega arith)) ∙ list_any_none (λ _. false) (range_with_len 0 n) (λ k d below. refl)
+any_none p zero fails = refl
+any_none p (suc n) fails = grind (arith, common_steps, any_suc, (any_none p n (λ j below. fails j (omega (arith, below)))), (fails n))
 
 -- a test that says more at one place says so of the row
 pub any_with : (p q : ℕ → Bool) (c : Bool) (n k : ℕ) → k < n → ((j : ℕ) → j < n → j ≢ k → q j ≡ p j) → q k ≡ (c || p k)
     → list_any q (range_with_len 0 n) ≡ (c || list_any p (range_with_len 0 n))
-any_with p q c n k below same more =
-    let front = any_same q p 0 k (λ j low high. same j (omega arith) (omega arith)) in
-    let back = any_same q p (k + 1) (n - (k + 1)) (λ j low high. same j (omega arith) (omega arith)) in
-    rw (range_at n k below) (grind (arith, common_steps))
-
--- lists made for each number in a row
-pub flat_same : (f g : ℕ → List ℕ) (a n : ℕ) → ((j : ℕ) → a ≤ j → j < a + n → f j ≡ g j) → flat_map f (range_with_len a n) ≡ flat_map g (range_with_len a n)
-flat_same f g a zero same = refl
-flat_same f g a (suc n) same = grind (arith, common_steps, (flat_same f g (a + 1) n (λ j low high. same j (omega arith) (omega arith))))
-
-pub flat_more : (f : ℕ → List ℕ) (n : ℕ) → flat_map f (range_with_len 0 (n + 1)) ≡ flat_map f (range_with_len 0 n) ++ f n
-flat_more f n = grind (arith, common_steps, range_more)
-
-flat_none : (f : ℕ → List ℕ) (a n : ℕ) → ((j : ℕ) → a ≤ j → j < a + n → f j ≡ []) → flat_map f (range_with_len a n) ≡ []
-flat_none f a zero none = refl
-flat_none f a (suc n) none = rw (none a (omega arith) (omega arith)) (flat_none f (a + 1) n (λ j low high. none j (omega arith) (omega arith)))
-
-pub flat_single : (f : ℕ → List ℕ) (w n : ℕ) → w < n → ((j : ℕ) → j < n → j ≢ w → f j ≡ []) → flat_map f (range_with_len 0 n) ≡ f w
-flat_single f w n inside none =
-    let front = flat_none f 0 w (λ j low high. none j (omega arith) (omega arith)) in
-    let back = flat_none f (w + 1) (n - (w + 1)) (λ j low high. none j (omega arith) (omega arith)) in
-    rw (range_at n w inside) (grind (arith, common_steps))
-
-pub flat_length : (f : ℕ → List ℕ) (most a n : ℕ) → ((j : ℕ) → length (f j) ≤ most) → length (flat_map f (range_with_len a n)) ≤ most * n
-flat_length f most a zero each = omega arith
-flat_length f most a (suc n) each = grind (arith, common_steps, (flat_length f most (a + 1) n each))
+any_with p q c zero k below same more = absurd (omega (arith, below))
+any_with p q c (suc n) k below same more = elim (eqb_tells k n) [
+  | inl h ↦ grind (arith, common_steps, any_suc, (any_same q p n (λ j low. same j (omega (arith, low)) (omega (arith, low, h.1)))))
+  | inr h ↦ grind (arith, common_steps, any_suc, (any_with p q c n k (omega (arith, below, h.1)) (λ j low. same j (omega (arith, low))) more), (same n))
+]
 
 -- the numbers that pass a test
 pub filter_none : (p : ℕ → Bool) (a n : ℕ) → ((j : ℕ) → a ≤ j → j < a + n → p j ≡ false) → filter p (range_with_len a n) ≡ []
@@ -81,22 +60,19 @@ filter_same p q a (suc n) same =
 pub filter_append : (p : ℕ → Bool) (a m n : ℕ) → filter p (range_with_len a m) ++ filter p (range_with_len (a + m) n) ≡ filter p (range_with_len a (m + n))
 filter_append p a m n = sym (ap (filter p) (range_append a m n) ∙ filter-append p (range_with_len a m) (range_with_len (a + m) n))
 
--- one more number passes
-pub filter_more : (p q : ℕ → Bool) (c n : ℕ) → c < n → ((j : ℕ) → j ≢ c → q j ≡ p j) → p c ≡ false → q c ≡ true
-    → length (filter q (range_with_len 0 n)) ≡ length (filter p (range_with_len 0 n)) + 1
-filter_more p q c n inside same was is =
-    let front = filter_same q p 0 c (λ j low high. same j (omega arith)) in
-    let back = filter_same q p (c + 1) (n - (c + 1)) (λ j low high. same j (omega arith)) in
-    rw (range_at n c inside) (grind (arith, common_steps))
+-- how many numbers pass a test
+pub count_more : (p : ℕ → Bool) (n : ℕ) → length (filter p (range_with_len 0 (n + 1))) ≡ length (filter p (range_with_len 0 n)) + (if p n then 1 else 0)
+count_more p n = grind (arith, common_steps, range_more)
+
+count_suc : (p : ℕ → Bool) (n : ℕ) → length (filter p (range_with_len 0 (suc n))) ≡ length (filter p (range_with_len 0 n)) + (if p n then 1 else 0)
+count_suc p n = ap (λ m. length (filter p (range_with_len 0 m))) (sym (add-one n)) ∙ count_more p n
 
 -- tests that differ at one number
-pub filter_one_more : (p q : ℕ → Bool) (c n : ℕ) → ((j : ℕ) → j ≢ c → q j ≡ p j)
-    → length (filter q (range_with_len 0 n)) ≤ length (filter p (range_with_len 0 n)) + 1
-filter_one_more p q c n same =
-    elim (leb_tells n c) [
-      | inl h ↦ omega (arith, ap length (filter_same q p 0 n (λ j low high. same j (omega (arith, h.1)))))
-      | inr h ↦
-          let front = filter_same q p 0 c (λ j low high. same j (omega arith)) in
-          let back = filter_same q p (c + 1) (n - (c + 1)) (λ j low high. same j (omega arith)) in
-          rw (range_at n c h.1) (grind (arith, common_steps))
-    ]
+pub filter_at : (p q : ℕ → Bool) (c n : ℕ) → ((j : ℕ) → j ≢ c → q j ≡ p j)
+    → length (filter q (range_with_len 0 n)) + (if nat_lt c n && p c then 1 else 0)
+    ≡ length (filter p (range_with_len 0 n)) + (if nat_lt c n && q c then 1 else 0)
+filter_at p q c zero same = grind (arith, common_steps)
+filter_at p q c (suc n) same = elim (eqb_tells c n) [
+  | inl h ↦ grind (arith, common_steps, (count_suc p n), (count_suc q n), (filter_at p q c n same))
+  | inr h ↦ grind (arith, common_steps, (count_suc p n), (count_suc q n), (filter_at p q c n same), (same n))
+]

@@ -9,7 +9,7 @@ use Rattle.domain_base.{specs.Numbers.type_text, proofs.{NamedLemmas.one_named, 
 use Rattle.domain_bitmap.specs.{Bits.has_bit, Bitmap.bitmap_octets}
 use Rattle.domain_bitmap.specs.Blocks.{Block, IsBlock, IsBitmap, IsShortest, blocks_of, block_types_from, types_of, types_below, contains_type}
 use Rattle.domain_bitmap.specs.{HashText.{SaltText, dash, digits, salt_text}, Scan.{TypeTexts, no_types, one_more, is_among}, Text.{spaced_types, types_text}}
-use Rattle.domain_bitmap.proofs.{BitmapLemmas.bitmap_octets-same, MeaningLemmas.types_of-bitmap_octets, RangeLemmas.any_at, SpellingLemmas.built_from_shortest}
+use Rattle.domain_bitmap.proofs.{BitmapLemmas.{bitmap_octets-same, built_from_shortest}, MeaningLemmas.types_of-bitmap_octets, RangeLemmas.any_at}
 
 -- ---- types of 16 bits
 
@@ -43,26 +43,20 @@ spelled_once tokens x y no_types no_types = refl
 spelled_once tokens x y (one_more token rest t types text more) (one_more token' rest' u others text' more') =
     grind (arith, common_steps, one_named, (spelled_once rest types others more more'))
 
--- words, and a type after a space, with what follows it
-next_type : (front : List ℕ) (t : ℕ) (types : List ℕ) → t < 65536
-    → words_of (((front ++ 32 ∷ []) ++ type_text t) ++ spaced_types types) ≡ words_of ((front ++ 32 ∷ []) ++ type_text t) ++ map type_text types
-    → words_of ((front ++ 32 ∷ []) ++ (type_text t ++ spaced_types types)) ≡ words_of front ++ map type_text (t ∷ types)
-next_type front t types small rest =
-    ap words_of (sym (append_assoc (front ++ 32 ∷ []) (type_text t) (spaced_types types))) ∙ rest
-    ∙ ap (λ l. l ++ map type_text types) (next_word front _ (type_word t small)) ∙ append_assoc (words_of front) (type_text t ∷ []) (map type_text types)
-
 -- words, and types that stand after spaces
 pub spaced_words : (front types : List ℕ) → AreTypes types → words_of (front ++ spaced_types types) ≡ words_of front ++ map type_text types
 unfolding spaced_types
 spaced_words front [] small = ap words_of (append-nil front) ∙ sym (append-nil (words_of front))
-spaced_words front (t ∷ types) small = ap words_of (sym (append_assoc front (32 ∷ []) (type_text t ++ spaced_types types)))
-    ∙ next_type front t types small.0 (spaced_words ((front ++ 32 ∷ []) ++ type_text t) types small.1)
+spaced_words front (t ∷ types) small =
+    ap words_of (sym (append_assoc front (32 ∷ []) _) ∙ sym (append_assoc (front ++ 32 ∷ []) (type_text t) (spaced_types types)))
+    ∙ spaced_words ((front ++ 32 ∷ []) ++ type_text t) types small.1 ∙ ap (λ l. l ++ map type_text types) (next_word front _ (type_word t small.0))
+    ∙ append_assoc (words_of front) (type_text t ∷ []) (map type_text types)
 
 -- words, and types after a space
 pub types_after : (front types : List ℕ) → AreTypes types → words_of ((front ++ 32 ∷ []) ++ types_text types) ≡ words_of front ++ map type_text types
-unfolding types_text
+unfolding types_text spaced_types
 types_after front [] small = ap words_of (append-nil (front ++ 32 ∷ [])) ∙ last_space front ∙ sym (append-nil (words_of front))
-types_after front (t ∷ types) small = next_type front t types small.0 (spaced_words ((front ++ 32 ∷ []) ++ type_text t) types small.1)
+types_after front (t ∷ types) small = ap words_of (append_assoc front (32 ∷ []) _) ∙ spaced_words front (t ∷ types) small
 
 types_words : (types : List ℕ) → AreTypes types → words_of (types_text types) ≡ map type_text types
 unfolding types_text words_after

@@ -1,10 +1,8 @@
 -- salts read from tokens
-use Rattle.std.proofs.{Common.{arith, ◌≡◌, ◌≢◌, ◌≤◌, ℕ, List, [], ◌∷◌, length, drop, sym, ap, ◌∙◌, codes}, lemmas.Grind.common_steps}
-use Rattle.std.specs.Prelude.{Option}
+use Rattle.std.{proofs.{Common.{arith, ◌≡◌, ◌≢◌, ◌≤◌, ℕ, List, [], ◌∷◌, length, drop, sym, ap, ◌∙◌, codes}, lemmas.Grind.common_steps}, specs.Prelude.Option}
 use Rattle.domain_codecs.specs.{Codec.Decodes, declared.codec.Codec.TheVariants.Base16}
 use Rattle.domain_names.specs.TextFault.{ScanFault, illegal}
-use Rattle.domain_base.proofs.ScanLemmas.{no_token}
-use Rattle.domain_base.specs.Scan.{TakesToken, RefusesToken, ended, refused}
+use Rattle.domain_base.{proofs.ScanLemmas.no_token, specs.Scan.{TakesToken, RefusesToken, ended, refused}}
 use Rattle.domain_bitmap.specs.{HashText.{SaltText, dash, digits}, HashScan.{CountedFault, SaltTokenFault, BeginsWithDash, after_dash, in_digits}}
 
 gone_past : (old new rest : List (List ℕ)) (token : List ℕ) → old ≡ token ∷ rest → new ≡ drop 1 old → old ≡ token ∷ new

@@ -1,14 +1,11 @@
 -- types read from tokens
-use Rattle.std.proofs.Common.{◌≡◌, ◌≢◌, ℕ, ◌+◌, ◌*◌, ◌/◌, ◌<◌, true, false, List, [], ◌∷◌, ◌++◌, length, refl, sym, ap, ◌∙◌, arith}
-use Rattle.std.proofs.{Common.{append_assoc}, lemmas.{Grind.common_steps}}
-use Rattle.std.specs.Prelude.{◌||◌, ◌==◌, Option, if◌then◌else◌, IsNone}
+use Rattle.std.proofs.Common.{◌≡◌, ◌≢◌, ℕ, ◌+◌, ◌*◌, ◌/◌, ◌<◌, false, List, [], ◌∷◌, ◌++◌, length, refl, ap, ◌∙◌, arith, append_assoc}
+use Rattle.std.{proofs.lemmas.Grind.common_steps, specs.{Prelude.{◌||◌, ◌==◌, Option, if◌then◌else◌, IsNone, filter}, List.range_with_len}}
 use Rattle.domain_base.specs.{Numbers.{TypeText, IsNoType}, Scan.{RefusesToken, ended, refused}}
 use Rattle.domain_names.specs.{TextFault.{ScanFault, scan_fault_of, scan_error_of}}
 use Rattle.domain_octets.specs.{Limit.IsOver, declared.error.AppendError.{AppendError, TheVariants.{ShortBuf, OutOfMemory}}}
-use Rattle.domain_bitmap.specs.Builder.{holds, has_window}
-use Rattle.domain_bitmap.specs.Scan.{TypeTexts, no_types, one_more, is_among, has_type_in, room_for, not_a_type, without_room, without_memory, TypeFault}
-use Rattle.domain_bitmap.specs.Scan.{RefusesTypes}
-use Rattle.domain_bitmap.proofs.RangeLemmas.{filter_same, filter_more}
+use Rattle.domain_bitmap.specs.{Builder.{holds, has_window}, Scan.{TypeTexts, no_types, one_more, is_among, has_type_in, room_for, not_a_type, without_room}}
+use Rattle.domain_bitmap.{specs.Scan.{without_memory, TypeFault, RefusesTypes}, proofs.RangeLemmas.filter_at}
 
 texts-more : {taken : List (List ℕ)} {types : List ℕ} (token : List ℕ) (t : ℕ) → TypeTexts taken types → TypeText token t
     → TypeTexts (taken ++ token ∷ []) (types ++ t ∷ [])
@@ -24,23 +21,15 @@ type_in-more : (types : List ℕ) (t w : ℕ) → has_type_in (types ++ t ∷ []
 unfolding has_type_in
 type_in-more types t w = grind (arith, common_steps)
 
-room-same : (types : List ℕ) (t : ℕ) → has_type_in types (t / 256) ≡ true → room_for (types ++ t ∷ []) ≡ room_for types
-unfolding room_for
-room-same types t known =
-    ap (λ l. 34 * length l) (filter_same (has_type_in (types ++ t ∷ [])) (has_type_in types) 0 256 (λ w low high. grind (arith, common_steps, type_in-more)))
+windows-more : (types : List ℕ) (t n : ℕ) → t / 256 < n → length (filter (has_type_in (types ++ t ∷ [])) (range_with_len 0 n))
+    ≡ length (filter (has_type_in types) (range_with_len 0 n)) + (if has_type_in types (t / 256) then 0 else 1)
+windows-more types t n inside =
+    let more = filter_at (has_type_in types) (has_type_in (types ++ t ∷ [])) (t / 256) n (λ w other. grind (arith, common_steps, type_in-more)) in
+    grind (arith, common_steps, type_in-more, more)
 
-room-more : (types : List ℕ) (t : ℕ) → t < 65536 → has_type_in types (t / 256) ≡ false → room_for (types ++ t ∷ []) ≡ room_for types + 34
+room-more : (types : List ℕ) (t : ℕ) → t < 65536 → room_for (types ++ t ∷ []) ≡ room_for types + 34 * (if has_type_in types (t / 256) then 0 else 1)
 unfolding room_for
-room-more types t small new =
-    let more = filter_more (has_type_in types) (has_type_in (types ++ t ∷ [])) (t / 256) 256 (omega arith)
-    (λ w other. grind (arith, common_steps, type_in-more)) new (grind (arith, common_steps, type_in-more)) in
-    omega (arith, more)
-
-room-step : (types : List ℕ) (t : ℕ) (value after : List ℕ) → length value ≡ room_for types → t < 65536
-    → has_window value (t / 256) ≡ has_type_in types (t / 256)
-    → length after ≡ (if has_window value (t / 256) then length value else length value + 34)
-    → length after ≡ room_for (types ++ t ∷ [])
-room-step types t value after room small windows size = grind (arith, common_steps, room-same, room-more)
+room-more types t small = omega (arith, windows-more types t 256 (omega (arith, small)))
 
 -- what was read so far
 pub record Scanned (old now : List (List ℕ)) (value : List ℕ) : Type 0 where
@@ -72,13 +61,12 @@ scan_goes old now rest value after token t scanned first spells small held windo
     grind (
       arith,
       common_steps,
-      texts-more,
       among-more,
       type_in-more,
-      room-step,
       (append_assoc scanned.taken (token ∷ []) rest),
       (texts-more token t scanned.spelled spells),
-      (room-step scanned.types t value after scanned.room small (scanned.windows (t / 256)) size),
+      (room-more scanned.types t small),
+      (scanned.windows (t / 256)),
     )
 
 pub scan_ends : (old now : List (List ℕ)) (value : List ℕ) → Scanned old now value → now ≡ []
@@ -109,8 +97,9 @@ pub scan_full : (limit : Option ℕ) (old now rest : List (List ℕ)) (value : L
     → (error ≡ OutOfMemory → IsNone limit) → RefusesTypes limit old rest (scan_fault_of (scan_error_of error))
 scan_full limit old now rest value token t ShortBuf scanned first spells small short memory =
     let full = short refl in
-    let room = room-more scanned.types t small (sym (scanned.windows (t / 256)) ∙ full.0) in
-    refused_after limit old now rest value token _ scanned first (without_room token t spells (rw (room, ← scanned.room) full.1))
+    let room : room_for (scanned.types ++ t ∷ []) ≡ length value + 34 =
+    grind (arith, common_steps, (room-more scanned.types t small), (scanned.windows (t / 256)), scanned.room) in
+    refused_after limit old now rest value token _ scanned first (without_room token t spells (rw room full.1))
 scan_full limit old now rest value token t OutOfMemory scanned first spells small short memory =
     refused_after limit old now rest value token _ scanned first (without_memory token t spells (memory refl))
 

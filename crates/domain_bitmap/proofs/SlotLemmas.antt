@@ -1,7 +1,7 @@
 -- the blocks of 34 octets that a builder holds
 use Rattle.std.proofs.Common.{◌≡◌, ℕ, ◌+◌, ◌-◌, ◌*◌, ◌/◌, ◌%◌, ◌^◌, ◌<◌, ◌≢◌, true, false, List, ◌∷◌, ◌++◌, length, get_or, inl, inr}
 use Rattle.std.proofs.{Common.{arith, length-append, set, get_or-set_other, rules}, lemmas.Bool.Decides.{nat_tests, eqb_tells}}
-use Rattle.std.{proofs.lemmas.{List.{get_or_append_left}, Grind.common_steps}, specs.Prelude.{◌||◌, ◌==◌, bit_or, replicate}}
+use Rattle.std.{proofs.lemmas.{Grind.common_steps}, specs.Prelude.{◌||◌, ◌==◌, bit_or, replicate}}
 use Rattle.domain_octets.proofs.StdLemmas.{and_false}
 use Rattle.domain_bitmap.specs.{Bits.bit_of, Builder.{is_of_window, block_holds, has_window, holds}}
 use Rattle.domain_bitmap.proofs.{RangeLemmas.{any_more, any_same, any_at, any_none, any_with}, BitLemmas.{bit_of-set, bit_of-zero}}
@@ -77,12 +77,6 @@ module _ (value rest : List ℕ) (window : ℕ) (whole : length value % 34 ≡ 0
 
   one_more : length grown / 34 ≡ length value / 34 + 1
   one_more = omega (arith, length-append value (window ∷ rest), long)
-
-  place : 34 * (length value / 34) ≡ length value
-  place = omega arith
-
-  front : (k : ℕ) → k < length value → get_or grown k 0 ≡ get_or value k 0
-  front k below = get_or_append_left value (window ∷ rest) 0 k below
 
   zero_last : (k : ℕ) → get_or grown (34 * (length value / 34) + 2 + k) 0 ≡ 0
   zero_last k = grind (arith, common_steps)

@@ -1,56 +1,41 @@
 -- octets without the zero octets at their end
-use Rattle.std.proofs.{Common.{◌≡◌, ℕ, zero, suc, ◌-◌, ◌<◌, ◌≤◌, ◌≢◌, List, [], ◌∷◌, length, get_or, take, refl, arith}, lemmas.Grind.common_steps}
-use Rattle.domain_bitmap.specs.Bitmap.{trimmed, before_trimmed}
+use Rattle.std.proofs.Common.{◌≡◌, ℕ, zero, suc, ◌-◌, ◌<◌, ◌≤◌, ◌≢◌, List, [], ◌∷◌, length, get_or, take, ◌∙◌, arith}
+use Rattle.std.proofs.lemmas.Grind.{common_steps, same_number_lists}
+use Rattle.domain_bitmap.specs.{Bitmap.trimmed, Blocks.last_octet}
 
-pub before_trimmed-last : (x : ℕ) → x ≢ 0 → before_trimmed x [] ≡ x ∷ []
-before_trimmed-last x more = grind (arith, common_steps)
+-- the last octet, if there is one, is not zero
+abbrev pub IsCut : List ℕ → Type 0
+IsCut xs = 0 < length xs → last_octet xs ≢ 0
 
-pub trimmed-zeros : (xs : List ℕ) → ((k : ℕ) → get_or xs k 0 ≡ 0) → trimmed xs ≡ []
+pub none_cut : IsCut []
+none_cut = λ some. absurd (omega (arith, some))
+
+pub cut-trimmed : (xs : List ℕ) → IsCut (trimmed xs)
 unfolding trimmed
-trimmed-zeros [] zeros = refl
-trimmed-zeros (x ∷ xs) zeros =
-    let rest = trimmed-zeros xs (λ k. zeros (suc k)) in
-    let first : x ≡ 0 = zeros 0 in
-    rw (rest, first) refl
-
-pub trimmed-to : (xs : List ℕ) (m : ℕ) → m < length xs → get_or xs m 0 ≢ 0 → ((k : ℕ) → m < k → get_or xs k 0 ≡ 0) → trimmed xs ≡ take (suc m) xs
-unfolding trimmed
-trimmed-to [] m inside last zeros = absurd (omega (arith, inside))
-trimmed-to (x ∷ xs) zero inside last zeros =
-    rw (trimmed-zeros xs (λ k. zeros (suc k) (omega arith))) (before_trimmed-last x last)
-trimmed-to (x ∷ []) (suc m) inside last zeros = absurd (omega (arith, inside))
-trimmed-to (x ∷ y ∷ ys) (suc m) inside last zeros =
-    grind (arith, common_steps, (trimmed-to (y ∷ ys) m (omega (arith, inside)) last (λ k more. zeros (suc k) (omega arith))))
-
--- the code counts down from the end
-pub trimmed-cut : (xs : List ℕ) (n : ℕ) → 0 < n → n ≤ length xs → get_or xs (n - 1) 0 ≢ 0 → ((k : ℕ) → n ≤ k → get_or xs k 0 ≡ 0) → trimmed xs ≡ take n xs
-trimmed-cut xs n some within last zeros = grind (arith, common_steps, trimmed-to)
-
-keeps : (x i : ℕ) (rest xs : List ℕ) → ((k : ℕ) → get_or rest k 0 ≡ get_or xs k 0) → get_or (before_trimmed x rest) i 0 ≡ get_or (x ∷ xs) i 0
-keeps x zero (y ∷ ys) xs same = refl
-keeps x (suc i) (y ∷ ys) xs same = same i
-keeps zero zero [] xs same = refl
-keeps zero (suc i) [] xs same = same i
-keeps (suc x) zero [] xs same = refl
-keeps (suc x) (suc i) [] xs same = same i
+cut-trimmed [] = none_cut
+cut-trimmed (x ∷ xs) = grind (arith, common_steps, (cut-trimmed xs))
 
 -- what is left out reads as zero
 pub get_or-trimmed : (xs : List ℕ) (i : ℕ) → get_or (trimmed xs) i 0 ≡ get_or xs i 0
 unfolding trimmed
-get_or-trimmed [] i = refl
-get_or-trimmed (x ∷ xs) i = keeps x i (trimmed xs) xs (get_or-trimmed xs)
-
-pub trimmed-none : (xs : List ℕ) → ((k : ℕ) → 0 ≤ k → get_or xs k 0 ≡ 0) → trimmed xs ≡ take 0 xs
-trimmed-none xs zeros = trimmed-zeros xs (λ k. zeros k (omega arith))
-
-pub ruleset trim_steps = (trimmed-cut, trimmed-none)
-
-longer : (x : ℕ) (rest : List ℕ) → length (before_trimmed x rest) ≤ suc (length rest)
-longer zero [] = omega arith
-longer (suc x) [] = omega arith
-longer x (y ∷ ys) = omega arith
+get_or-trimmed [] i = grind (arith, common_steps)
+get_or-trimmed (x ∷ xs) zero = grind (arith, common_steps)
+get_or-trimmed (x ∷ xs) (suc i) = grind (arith, common_steps, (get_or-trimmed xs i))
 
 pub length-trimmed : (xs : List ℕ) → length (trimmed xs) ≤ length xs
 unfolding trimmed
 length-trimmed [] = omega arith
-length-trimmed (x ∷ xs) = omega (arith, longer x (trimmed xs), length-trimmed xs)
+length-trimmed (x ∷ xs) = grind (arith, common_steps, (length-trimmed xs))
+
+-- octets that read alike are the same, where no zero octet ends them
+pub cut_same : (xs ys : List ℕ) → IsCut xs → IsCut ys → ((i : ℕ) → get_or xs i 0 ≡ get_or ys i 0) → xs ≡ ys
+cut_same xs ys cut also same =
+    let long : length xs ≡ length ys = grind (arith, common_steps, (same (length xs - 1)), (same (length ys - 1))) in
+    same_number_lists xs ys long (λ k inside. same k)
+
+pub trimmed-take : (xs : List ℕ) (n : ℕ) → n ≤ length xs → ((k : ℕ) → n ≤ k → get_or xs k 0 ≡ 0) → (0 < n → get_or xs (n - 1) 0 ≢ 0)
+    → trimmed xs ≡ take n xs
+trimmed-take xs n within zeros last =
+    cut_same _ _ (cut-trimmed xs) (grind (arith, common_steps)) (λ i. get_or-trimmed xs i ∙ grind (arith, common_steps))
+
+pub ruleset trim_steps = (trimmed-take)

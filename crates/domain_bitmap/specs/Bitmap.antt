@@ -1,7 +1,7 @@
 -- the octets of a set of types (RFC 4034, section 4.1.2)
-use Rattle.std.specs.{Prelude.{ℕ, zero, suc, ◌+◌, ◌*◌, Bool, [], ◌∷◌, length, map}, List.{range_with_len, flat_map}}
+use Rattle.std.specs.{Prelude.{ℕ, ◌+◌, ◌*◌, ◌==◌, ◌&&◌, if◌then◌else◌, Bool, List, [], ◌∷◌, length, map}, List.{range_with_len, flat_map}}
 use Rattle.domain_octets.specs.Words.{Octets}
-use Rattle.domain_bitmap.specs.Bits.{octet_with}
+use Rattle.domain_bitmap.specs.{Bits.octet_with, Blocks.{Block, octets_of_blocks}}
 
 -- the 32 octets of a window: bit b of octet i is that of the type 256 * window + 8 * i + b
 unfoldable pub window_octets : (ℕ → Bool) → ℕ → Octets
@@ -10,24 +10,24 @@ window_octets types window =
 
 -- an octet before others, which is left out where it is zero and none follows
 abbrev pub before_trimmed : ℕ → Octets → Octets
-before_trimmed octet (next ∷ octets) = octet ∷ next ∷ octets
-before_trimmed zero [] = []
-before_trimmed (suc octet) [] = suc octet ∷ []
+before_trimmed octet octets = if octet == 0 && length octets == 0 then [] else octet ∷ octets
 
 -- octets without the zero octets at their end
 unfoldable pub trimmed : Octets → Octets
 trimmed [] = []
 trimmed (octet ∷ octets) = before_trimmed octet (trimmed octets)
 
--- the block of a window: its number, how many octets follow, and these; a window without types has
--- none
-abbrev pub block_with : ℕ → Octets → Octets
-block_with window [] = []
-block_with window (octet ∷ octets) = window ∷ length (octet ∷ octets) ∷ octet ∷ octets
+-- the block of a window that has these octets; a window without types has none
+abbrev pub block_if_any : ℕ → Octets → List Block
+block_if_any window [] = []
+block_if_any window (octet ∷ octets) =
+    record { window = window; octets = octet ∷ octets } ∷ []
 
-unfoldable pub window_block : (ℕ → Bool) → ℕ → Octets
-window_block types window = block_with window (trimmed (window_octets types window))
+-- the blocks of so many windows, in ascending order, from one on, which have these octets
+unfoldable pub blocks_with : (ℕ → Octets) → ℕ → ℕ → List Block
+blocks_with octets first count =
+    flat_map (λ window. block_if_any window (trimmed (octets window))) (range_with_len first count)
 
--- the blocks of all windows in ascending order
+-- the blocks of all windows
 unfoldable pub bitmap_octets : (ℕ → Bool) → Octets
-bitmap_octets types = flat_map (window_block types) (range_with_len 0 256)
+bitmap_octets types = octets_of_blocks (blocks_with (window_octets types) 0 256)

@@ -69,9 +69,7 @@ WindowsAscendFrom low (block ∷ blocks) =
 
 -- the last of octets, or zero where there is none
 abbrev pub last_octet : Octets → ℕ
-last_octet [] = 0
-last_octet (octet ∷ []) = octet
-last_octet (octet ∷ next ∷ octets) = last_octet (next ∷ octets)
+last_octet octets = slice_index octets (length octets - 1)
 
 -- the octets are blocks in the one form that a builder gives: windows ascend strictly, and no block
 -- ends in a zero octet

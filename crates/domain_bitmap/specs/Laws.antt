@@ -1,7 +1,6 @@
 -- what the impls of comparisons cite
-use Rattle.std.specs.Prelude.{bytes_eq}
+use Rattle.std.specs.{Prelude.bytes_eq, Hash.{Alike, same_Alike}, Cmp.Lexicographic.bytes_decides}
 use Rattle.std.specs.Hash as fed
-use Rattle.std.specs.{Hash.{Alike, same_Alike}, Cmp.Lexicographic.bytes_decides}
 
 -- equal octets are fed alike
 pub octets_fed : Alike bytes_eq (fed.slice fed.u8)

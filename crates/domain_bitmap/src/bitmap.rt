@@ -86,9 +86,9 @@ impl<O: Octets> RtypeBitmap<O> {
         self.octets.as_slice()
     }
 
-    #[tactic(auto, using(crate::proofs::BlockLemmas::look_steps))]
     /// Whether the first block of the type's window has the bit of the type. Of a bitmap that a
     /// builder made this says whether the type was added.
+    #[tactic(auto, using(std::proofs::lemmas::Grind::common_steps), unfolding(crate::specs::Blocks::contains_type))]
     pub fn contains(&self, rtype: Rtype) -> bool
         ensures { result ≡ contains_type self.now rtype }
     {

@@ -1,7 +1,6 @@
 //! Octets read as blocks.
 ghost use Rattle.std.specs.Prelude.{◌≡◌, ℕ, ◌+◌, ◌*◌, ◌/◌, ◌%◌, ◌<◌, ◌≤◌, ◌∷◌, [], length, IfSome, IfNone, MatchResult};
-ghost use Rattle.domain_bitmap.specs.Bits.{has_bit};
-ghost use Rattle.domain_bitmap.specs.Blocks.{IsBitmap, blocks_of, block_types_from};
+ghost use Rattle.domain_bitmap.specs.{Bits.has_bit, Blocks.{IsBitmap, blocks_of, block_types_from}};
 ghost use Rattle.domain_bitmap.specs.Fault.{FirstBlockFault};
 
 use crate::RtypeBitmapError;

@@ -1,9 +1,7 @@
 //! Builds sets of types.
 ghost use Rattle.std.specs.Prelude.{◌≡◌, ℕ, ◌+◌, ◌/◌, ◌%◌, ◌<◌, ◌||◌, ◌==◌, ◌↔◌, [], false, length, OnOk, OnErr, IfOk, slice_index, ◌*◌, if◌then◌else◌, IsErrOf, IsNone};
-ghost use Rattle.domain_octets.specs.Limit.{IsOver};
-ghost use Rattle.domain_octets.specs.Words.{Octets};
-ghost use Rattle.domain_bitmap.specs.Builder.{holds, has_window};
-ghost use Rattle.domain_bitmap.specs.Bitmap.{bitmap_octets};
+ghost use Rattle.domain_octets.specs.{Limit.IsOver, Words.Octets};
+ghost use Rattle.domain_bitmap.specs.{Builder.{holds, has_window}, Bitmap.bitmap_octets};
 
 use crate::RtypeBitmap;
 use crate::blocks::split_rtype;

@@ -1,8 +1,7 @@
 //! Bitmaps compared by their octets.
-ghost use Rattle.std.specs.Prelude.{◌≡◌, ◌↔◌, Some, IsTrue, refl, bytes_eq};
-ghost use Rattle.std.specs.Ordering.{nat_cmp};
-ghost use Rattle.std.specs.Cmp.{partial_equiv_from_equiv, po};
-ghost use Rattle.std.specs.Cmp.Lexicographic.{slice_cmp, nat_list_cmp_total, nat_list_eq_equiv, texts_ties};
+ghost use Rattle.std.specs.{Prelude.{◌≡◌, ◌↔◌, Some, IsTrue, refl, bytes_eq}, Ordering.nat_cmp};
+ghost use Rattle.std.specs.Cmp.{partial_equiv_from_equiv, po, Lexicographic.slice_cmp};
+ghost use Rattle.std.specs.Cmp.Lexicographic.{nat_list_cmp_total, nat_list_eq_equiv, texts_ties};
 ghost use Rattle.std.specs.Hash as fed;
 ghost use Rattle.domain_bitmap.specs.Laws.{octets_fed};
 

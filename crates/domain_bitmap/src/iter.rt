@@ -59,7 +59,7 @@ impl<'a> Iterator for RtypeBitmapIter<'a> {
 
     ghost remaining = { item_count (λ types. types) };
 
-    #[tactic(auto, using(crate::proofs::BlockLemmas::iter_steps))]
+    #[tactic(auto, using(std::proofs::lemmas::Grind::common_steps, crate::proofs::BlockLemmas::iter_steps))]
     fn next(&mut self) -> Option<Rtype> {
         while let Some((block, rest)) = split_block(self.blocks) {
             if let Some(place) = first_set(block.octets, self.place) {

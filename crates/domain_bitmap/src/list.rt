@@ -19,11 +19,11 @@ pub struct RtypeBitmaps {
 impl Model for RtypeBitmaps {
     ghost use Rattle.std.specs.Prelude.{List};
     ghost use Rattle.domain_octets.specs.Words.{Octets};
-    ghost use Rattle.domain_bitmap.specs.List.{cut_at, AreBitmaps};
+    ghost use Rattle.domain_bitmap.specs.List.{parts_of, AreBitmaps};
 
     ghost Value = { List Octets };
 
-    ghost view = { λ b. cut_at b.ends.items 0 b.octets.items };
+    ghost view = { λ b. parts_of b.ends.items b.octets.items };
 
     ghost invariant = { λ b. AreBitmaps b.ends.items b.octets.items };
 }

@@ -1,11 +1,10 @@
 //! Writes a builder's blocks in order, each cut after its last octet with a type.
-ghost use Rattle.std.specs.Prelude.{◌≡◌, ℕ, ◌+◌, ◌-◌, ◌*◌, ◌/◌, ◌%◌, ◌^◌, ◌<◌, ◌≤◌, ◌==◌, ◌++◌, length, take, drop, false};
-ghost use Rattle.std.specs.Prelude.{slice_index, slice_index_or, bit_or, if◌then◌else◌};
-ghost use Rattle.domain_bitmap.specs.{Bits.bit_of, Builder.{holds, has_window}};
-ghost use Rattle.domain_bitmap.specs.Bitmap.{trimmed, block_with, bitmap_octets};
+ghost use Rattle.std.specs.Prelude.{◌≡◌, ℕ, ◌+◌, ◌/◌, ◌%◌, ◌^◌, ◌<◌, ◌≤◌, ◌++◌, length, take, false, slice_index, slice_index_or};
+ghost use Rattle.domain_bitmap.specs.{Bits.bit_of, Builder.{holds, has_window, merged_octet}};
+ghost use Rattle.domain_bitmap.specs.{Bitmap.{trimmed, block_if_any, bitmap_octets}, Blocks.octets_of_blocks};
 
 use crate::slots::{SLOT, used_len, write_at};
-use domain_octets::OctetsBuilder;
+use domain_octets::{OctetsBuilder, laws};
 
 /// How many windows there are.
 const WINDOWS: usize = 256;
@@ -17,10 +16,7 @@ const TABLE: usize = 8192;
 fn merge(octets: &mut [u8], slots: &[u8], j: usize)
     requires all { length octets.old ≡ 8192 }
     requires inside { j < length slots.now / 34 }
-    ensures merged { (p : ℕ) → slice_index octets.new p
-        ≡ (if p / 32 == slice_index slots.now (34 * j)
-        then bit_or (slice_index octets.old p) (slice_index slots.now (34 * j + 2 + p % 32))
-        else slice_index octets.old p) }
+    ensures merged { (i : ℕ) → slice_index octets.new i ≡ merged_octet octets.old slots.now j i }
     ensures size { length octets.new ≡ length octets.old }
 {
     let start = slots[SLOT * j] as usize * 32;
@@ -40,6 +36,8 @@ fn fill(octets: &mut [u8], present: &mut [bool], slots: &[u8])
     ensures types { (t : ℕ) → t < 65536 → bit_of (slice_index octets.new (t / 8)) (t % 8)
         ≡ holds slots.now t }
     ensures windows { (w : ℕ) → slice_index_or present.new w false ≡ has_window slots.now w }
+    ensures absent { (i : ℕ) → slice_index_or present.new (i / 32) false ≡ false
+        → slice_index octets.new i ≡ 0 }
     ensures size { length octets.new ≡ length octets.old }
     ensures count { length present.new ≡ length present.old }
 {
@@ -50,15 +48,15 @@ fn fill(octets: &mut [u8], present: &mut [bool], slots: &[u8])
 }
 
 /// Writes the block of a window where it has types, and says where the blocks end then.
+#[tactic(auto, using(std::proofs::lemmas::Grind::common_steps, crate::proofs::PackLemmas::block_written))]
 fn write_block<B: OctetsBuilder>(buffer: &mut B, end: usize, window: u8, octets: &[u8]) -> usize
     requires room { end + 34 ≤ length (B.octets buffer.old) }
     requires small { end + 34 < 2 ^ 64 }
     requires fits { length octets.now ≤ 32 }
     ensures written { take result (B.octets buffer.new) ≡ take end (B.octets buffer.old)
-        ++ block_with window (trimmed octets.now) }
+        ++ octets_of_blocks (block_if_any window (trimmed octets.now)) }
     ensures size { length (B.octets buffer.new) ≡ length (B.octets buffer.old) }
     ensures grows { result ≤ end + 34 }
-    ensures bounded { (i : ℕ) → slice_index octets.now i < 256 }
 {
     let len = used_len(octets);
     if len == 0 {
@@ -79,6 +77,7 @@ fn pack_all<B: OctetsBuilder>(buffer: &mut B) -> usize
     let mut octets = [0; TABLE];
     let mut present = [false; WINDOWS];
     fill(&mut octets, &mut present, slots);
+    laws::slices_hold_octets(&octets);
     let mut end = 0;
     for window in 0..WINDOWS {
         if !present[window] {
@@ -90,23 +89,15 @@ fn pack_all<B: OctetsBuilder>(buffer: &mut B) -> usize
     end
 }
 
-/// How many octets of the only block's window are left without the zero octets at the end.
-fn only_len(slots: &[u8]) -> usize
-    requires { length slots.now ≡ 34 }
-    ensures types { bitmap_octets (holds slots.now)
-        ≡ block_with (slice_index slots.now 0) (take result (drop 2 slots.now)) }
-    ensures within { result ≤ 32 }
-{
-    used_len(&slots[2..])
-}
-
 /// Cuts the only block, and says where it ends.
-#[tactic(auto, using(std::proofs::lemmas::Grind::common_steps))]
+#[tactic(auto, using(std::proofs::lemmas::Grind::common_steps, crate::proofs::PackLemmas::one_steps))]
 fn pack_one<B: OctetsBuilder>(buffer: &mut B) -> usize
     requires { length (B.octets buffer.old) ≡ 34 }
     ensures { take result (B.octets buffer.new) ≡ bitmap_octets (holds (B.octets buffer.old)) }
 {
-    let len = only_len(buffer.as_slice());
+    let slots = buffer.as_slice();
+    laws::slices_hold_octets(slots);
+    let len = used_len(&slots[2..]);
     if len == 0 {
         return 0;
     }

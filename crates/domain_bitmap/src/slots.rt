@@ -1,8 +1,7 @@
 //! The blocks that a builder holds: 34 octets each, at multiples of 34.
 ghost use Rattle.std.specs.Prelude.{◌≡◌, ◌+◌, ◌*◌, ◌/◌, ◌<◌, ◌≤◌, ◌++◌, ◌↔◌, false, length, take, drop, IfSome, IsSome, IsTrue, IfNone};
 ghost use Rattle.std.specs.Prelude.{◌-◌, ◌^◌, slice_index, slice_set, bit_or};
-ghost use Rattle.domain_bitmap.specs.Builder.{has_window, is_of_window};
-ghost use Rattle.domain_bitmap.specs.Bitmap.{trimmed};
+ghost use Rattle.domain_bitmap.specs.{Builder.{has_window, is_of_window}, Bitmap.trimmed};
 
 use domain_octets::OctetsBuilder;
 

@@ -33,6 +33,7 @@ impl<O: Octets> fmt::Debug for RtypeBitmap<O> {
 impl<O: Octets> ZonefileFmt for RtypeBitmap<O> {
     ghost pieces = { λ b. type_pieces (types_of b) };
 
+    #[tactic(auto, using(std::proofs::lemmas::Grind::common_steps), unfolding(crate::specs::Pieces::type_pieces))]
     fn fmt<F: Formatter>(&self, formatter: &mut F) -> Result<(), OutOfMemory> {
         let mut types = self.iter();
         while let Some(rtype) = types.next() {

@@ -1,4 +1,4 @@
-use Rattle.domain_bitmap.proofs.{BitmapLemmas.bitmap_octets-same, MeaningLemmas.bitmap_octets-exact}
+use Rattle.domain_bitmap.proofs.BitmapLemmas.{bitmap_octets-same, bitmap_octets-exact}
 use Rattle.domain_bitmap.proofs.laws.built_bitmaps_are_sets.Goals as goal
 
 pub returns : goal.returns
