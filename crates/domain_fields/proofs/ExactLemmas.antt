@@ -1,7 +1,6 @@
 -- what is read is determined by the octets
-use Rattle.std.proofs.lemmas.Grind.{common_steps}
-use Rattle.std.proofs.Common.{◌≡◌, ℕ, true, List, [], ◌++◌, length, refl, sym, ap, ◌∙◌, arith, length-append, append_assoc, append-nil}
-use Rattle.std.specs.Cmp.{first_so, second_so}
+use Rattle.std.proofs.{lemmas.Grind.common_steps, Common.{◌≡◌, ℕ, true, List, [], ◌++◌, length, refl, sym, ap, ◌∙◌, arith, length-append, append_assoc}}
+use Rattle.std.{proofs.Common.append-nil, specs.Cmp.{first_so, second_so}}
 use Rattle.domain_names.{specs.Fault.Fault, proofs.FaultLemmas.no_name_fault}
 use Rattle.domain_fields.specs.Field.{Field, rest, Value, field_octets, FieldFits, FieldEnds}
 use Rattle.domain_fields.specs.Field.{FieldFault, cut_octet, cut_short, cut_long, no_name, no_spelled_name, no_count, cut_counted, cut_exactly, too_long}

@@ -1,11 +1,9 @@
 -- octets have one first fault at most
-use Rattle.std.proofs.lemmas.Grind.{common_steps}
-use Rattle.std.proofs.Common.{◌≡◌, ℕ, zero, suc, ◌+◌, ◌<◌, true, List, [], ◌∷◌, length, drop, refl, sym, subst, ◌∙◌, arith, length-append}
-use Rattle.std.{proofs.lemmas.{Bool.Decides.nat_tests}, specs.{Prelude.{nat_lt, if◌then◌else◌, codes}, Cmp.{first_so, second_so}}}
+use Rattle.std.proofs.{lemmas.Grind.common_steps, Common.{◌≡◌, ℕ, zero, suc, ◌+◌, ◌<◌, true, List, [], ◌∷◌, length, drop, refl, sym, subst, ◌∙◌, arith}}
+use Rattle.std.{proofs.{Common.length-append, lemmas.Bool.Decides.nat_tests}, specs.{Prelude.{nat_lt, if◌then◌else◌, codes}, Cmp.{first_so, second_so}}}
 use Rattle.domain_names.specs.Fault.{Fault, ends_early, malformed, NameFault, no_octet, bad_label, long_name, cut_label, past_label}
-use Rattle.domain_fields.specs.Field.{Field, name, spelled_name, at_most, FieldFault}
-use Rattle.domain_fields.specs.Layout.{Layout, is_delimited, splits, FirstFault, in_field, in_first, in_later}
-use Rattle.domain_fields.proofs.{OrderLemmas.one_reading, ExactLemmas.{fault_excludes, delimited_splits}}
+use Rattle.domain_fields.specs.{Field.{Field, name, spelled_name, at_most, FieldFault}, Layout.{Layout, is_delimited, splits, FirstFault, in_field, in_first}}
+use Rattle.domain_fields.{specs.Layout.in_later, proofs.{OrderLemmas.one_reading, ExactLemmas.{fault_excludes, delimited_splits}}}
 
 -- the fault that a name has, if it has one
 name_fault : ℕ → ℕ → List ℕ → Fault

@@ -1,15 +1,13 @@
 -- the lexicographic order of octets, field by field
 use Rattle.std.proofs.Common.{ap, ◌≡◌, ℕ, ◌+◌, true, List, [], ◌∷◌, ◌++◌, length, take, drop, refl, sym, subst, ◌∙◌, arith, length-append, append_assoc}
-use Rattle.std.proofs.{Common.append-nil, lemmas.Grind.common_steps}
+use Rattle.std.proofs.{Common.append-nil, lemmas.{Grind.common_steps, List.{Concat.flat_map-append, take_at, drop_at}}}
 use Rattle.std.specs.{declared.cmp.Ordering.TheVariants.{Less, Equal, Greater}, Ordering.{ordering_then, nat_cmp}, Cmp.{first_so, second_so}}
 use Rattle.std.specs.{Cmp.Lexicographic.slice_cmp, FinMap.nat_cmp-IsAntisymmetric, List.{AllByRecursion, flat_map, fold}}
 use Rattle.std.specs.Hash as fed
-use Rattle.std.proofs.lemmas.List.{Concat.flat_map-append, take_at, drop_at}
 use Rattle.domain_names.{specs.Name.{wire_of, IsLabel, IsName}, proofs.CaseLemmas.IsName-lowered}
 use Rattle.domain_fields.specs.Field.{Field, octet, short, long, name, spelled_name, counted, exactly, at_most, rest, Value, field_octets, FieldFits}
-use Rattle.domain_fields.specs.Field.{lower_field}
-use Rattle.domain_fields.specs.Layout.{Layout, one, ◌▸◌, Values, octets_of, Fits, lower, canonical_of, canonical_order, is_delimited, is_delimited_field}
-use Rattle.domain_fields.specs.Layout.{Begins}
+use Rattle.domain_fields.specs.{Field.lower_field, Layout.{Layout, one, ◌▸◌, Values, octets_of, Fits, lower, canonical_of, canonical_order, is_delimited}}
+use Rattle.domain_fields.specs.Layout.{is_delimited_field, Begins}
 
 -- two values, and what stands after them, are the same
 pub record Same {V : Type 0} (v w : V) (r s : List ℕ) : Type 0 where

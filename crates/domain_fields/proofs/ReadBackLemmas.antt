@@ -4,9 +4,8 @@ use Rattle.std.{proofs.{Common.{ap, ◌∙◌}, lemmas.Bool.and_parts}, specs.Li
 use Rattle.domain_codecs.specs.{Codec.Decodes, declared.codec.Codec.Codec}
 use Rattle.domain_octets.{specs.Line.{IsWord, HasNoSpace, word_if_any, words_of}, proofs.WordLemmas.{decimal_word, one_word, first_word, joined_words}}
 use Rattle.domain_base.{proofs.ReadBackLemmas.{number_back, dotted_name_back, name_word}, specs.Scan.Grammar}
-use Rattle.domain_fields.specs.{Entry.Spells, Field.{Field, octet, short, long, rest, Value, FieldFits}}
-use Rattle.domain_fields.specs.{Layout.{Layout, one, ◌▸◌, Values, Fits}, Printed.{is_printed_field, is_printed, printed_field, printed}}
-use Rattle.domain_fields.specs.Scan.{FieldText, Scans}
+use Rattle.domain_fields.specs.{Entry.Spells, Field.{Field, octet, short, long, rest, Value, FieldFits}, Layout.{Layout, one, ◌▸◌, Values, Fits}}
+use Rattle.domain_fields.specs.{Printed.{is_printed_field, is_printed, printed_field, printed}, Scan.{FieldText, Scans}}
 
 field_back : (f : Field) (v : Value f) → is_printed_field f ≡ true → FieldFits f v → FieldText f (printed_field f v) v
 field_back octet n is fits = number_back 8 n fits (omega (arith, fits))

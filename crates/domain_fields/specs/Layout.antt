@@ -3,8 +3,7 @@ use Rattle.std.specs.{Prelude.{◌≡◌, ◌+◌, [], ◌++◌, length, Bool, t
 use Rattle.std.specs.Cmp.Lexicographic.{slice_cmp}
 use Rattle.domain_octets.specs.{Place.Place, Words.Octets}
 use Rattle.domain_names.specs.Fault.{Fault}
-use Rattle.domain_fields.specs.Field.{Field, rest, Value, field_octets, FieldFits, FieldEnds}
-use Rattle.domain_fields.specs.Field.{lower_field, FieldFault}
+use Rattle.domain_fields.specs.Field.{Field, rest, Value, field_octets, FieldFits, FieldEnds, lower_field, FieldFault}
 
 infixr 5 ◌▸◌
 pub data Layout : Type 0 where

@@ -3,8 +3,7 @@ use Rattle.std.specs.{Prelude.{◌≡◌, ◌⊎◌, ℕ, codes, length, Option}
 use Rattle.domain_octets.specs.Words.{Octets}
 use Rattle.domain_names.specs.{Text.NameText, TextFault.{ScanFault, illegal, NameTextFault}, Words.{Tokens, Token}}
 use Rattle.domain_base.specs.Scan.{TakesToken, RefusesToken, IsNumber, IsNoNumber, Grammar, Refusal}
-use Rattle.domain_fields.specs.Field.{Field, octet, short, long, name, spelled_name, exactly, Value}
-use Rattle.domain_fields.specs.Layout.{Layout, one, ◌▸◌, Values}
+use Rattle.domain_fields.specs.{Field.{Field, octet, short, long, name, spelled_name, exactly, Value}, Layout.{Layout, one, ◌▸◌, Values}}
 
 -- the text of a value; kinds of fields that are not read as one token have none
 abbrev pub FieldText : (f : Field) → Token → Value f → Type 0

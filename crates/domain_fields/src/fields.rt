@@ -1,11 +1,8 @@
 //! The fields of record data: how they are written, compared and hashed, once for every type.
-ghost use Rattle.std.specs.Prelude.{◌≡◌, ◌≤◌, ◌-◌, ◌↔◌, SomeIff, IsTrue, true, refl, length, take, drop, fold};
-ghost use Rattle.std.specs.List.{flat_map};
+ghost use Rattle.std.specs.Prelude.{◌≡◌, ◌≤◌, ◌-◌, ◌↔◌, SomeIff, IsTrue, true, refl, length, take};
+ghost use Rattle.std.specs.{Prelude.{drop, fold, map, bytes_eq}, List.flat_map};
+ghost use Rattle.std.specs.{Char.to_ascii_lowercase, Ordering.nat_cmp, Cmp.Lexicographic.slice_cmp};
 ghost use Rattle.std.specs.Hash as fed;
-ghost use Rattle.std.specs.Prelude.{map, bytes_eq};
-ghost use Rattle.std.specs.Char.{to_ascii_lowercase};
-ghost use Rattle.std.specs.Ordering.{nat_cmp};
-ghost use Rattle.std.specs.Cmp.Lexicographic.{slice_cmp};
 ghost use Rattle.domain_fields.specs.Field.{Field, Value, field_octets, lower_field, FieldFits, octet, short, long, name, spelled_name, exactly, at_most, rest};
 ghost use Rattle.domain_fields.specs.Layout.{Layout, one, ◌▸◌, Values, Fits, octets_of, canonical_of, canonical_order, lower, is_delimited, splits};
 ghost use Rattle.domain_fields.specs.Laws.{both_true};
@@ -315,7 +312,7 @@ impl<'a> Fields for ParsedName<'a> {
         self.compose(target)
     }
 
-    #[tactic(auto, unfolding(crate::specs::Layout::octets_of))]
+    #[tactic(auto, using(std::proofs::lemmas::Grind::common_steps, domain_names::proofs::CaseLemmas::lowered_size), unfolding(crate::specs::Layout::octets_of))]
     fn put_canonical<B: OctetsBuilder>(&self, target: &mut B) -> Result<(), AppendError> {
         let _wire = self.as_wire();
         self.compose_canonical(target)
@@ -333,7 +330,7 @@ impl<'a> Fields for ParsedName<'a> {
         (lowered_with_octets_cmp(wire, front), back)
     }
 
-    #[tactic(auto, using(domain_names::proofs::CaseLemmas::lowered_wire), unfolding(crate::specs::Layout::octets_of))]
+    #[tactic(auto, using(domain_names::proofs::CaseLemmas::lowered_wire, std::proofs::lemmas::Grind::common_steps), unfolding(crate::specs::Layout::octets_of))]
     fn feed<H: Hasher>(&self, state: &mut H) {
         let wire = self.as_wire();
         for octet in wire {
@@ -363,18 +360,19 @@ impl<A: Delimited, B: Fields> Fields for (A, B) {
         self.1.room_after(left)
     }
 
-    #[tactic(auto, using(crate::proofs::TargetLemmas::writing))]
+    #[tactic(auto, using(crate::proofs::TargetLemmas::writing, std::proofs::lemmas::Grind::common_steps, crate::proofs::TargetLemmas::stops_both))]
     fn put<T: OctetsBuilder>(&self, target: &mut T) -> Result<(), AppendError> {
         self.0.put(target)?;
         self.1.put(target)
     }
 
-    #[tactic(auto, using(crate::proofs::TargetLemmas::writing))]
+    #[tactic(auto, using(crate::proofs::TargetLemmas::writing, std::proofs::lemmas::Grind::common_steps, crate::proofs::TargetLemmas::stops_both))]
     fn put_canonical<T: OctetsBuilder>(&self, target: &mut T) -> Result<(), AppendError> {
         self.0.put_canonical(target)?;
         self.1.put_canonical(target)
     }
 
+    #[tactic(auto, using(std::proofs::lemmas::Grind::common_steps, crate::proofs::OrderLemmas::order_both))]
     fn order(&self, other: &Self) -> Ordering {
         self.0.fits();
         other.0.fits();
@@ -389,7 +387,7 @@ impl<A: Delimited, B: Fields> Fields for (A, B) {
         (front.then(back), rest)
     }
 
-    #[tactic(auto, using(crate::proofs::OrderLemmas::feed_both))]
+    #[tactic(auto, using(crate::proofs::OrderLemmas::feed_both, std::proofs::lemmas::Grind::common_steps, crate::proofs::OrderLemmas::fold_both))]
     fn feed<H: Hasher>(&self, state: &mut H) {
         self.0.feed(state);
         self.1.feed(state);

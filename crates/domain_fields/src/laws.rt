@@ -4,11 +4,10 @@ ghost use Rattle.std.specs.{Prelude.{◌≡◌, ℕ, ◌++◌, [], Option, true}
 ghost use Rattle.std.specs.Ordering.{ordering_then};
 ghost use Rattle.domain_octets.specs.{Line.IsWord, Words.Octets};
 ghost use Rattle.domain_names.specs.{Fault.Fault, TextFault.{ScanFault, IsOfTokens}, Words.Tokens};
-ghost use Rattle.domain_fields.specs.{Field.Field, Printed.{is_printed, printed}};
-ghost use Rattle.domain_fields.specs.Scan.{Scans, Refuses};
-ghost use Rattle.domain_fields.specs.Layout.{Layout, one, ◌▸◌, Values, Begins, FirstFault, Fits};
-ghost use Rattle.domain_fields.specs.Layout.{Ends, ParsesBack, splits, is_delimited};
-ghost use Rattle.domain_fields.specs.Layout.{canonical_order};
+ghost use Rattle.domain_fields.specs.{Field.Field, Printed.{is_printed, printed}, Scan.Scans};
+ghost use Rattle.domain_fields.specs.{Scan.Refuses, Layout.{Layout, one, ◌▸◌, Values, Begins}};
+ghost use Rattle.domain_fields.specs.Layout.{FirstFault, Fits, Ends, ParsesBack, splits};
+ghost use Rattle.domain_fields.specs.Layout.{is_delimited, canonical_order};
 
 /// Octets begin with data of given fields in one way at most, and in none where they have a fault.
 pub fn reading_is_exact()

@@ -1,8 +1,7 @@
 -- Items that are put into the order of their places, one rank after another.
 use Rattle.std.proofs.{Common.{below_more, ◌≡◌, ◌∙◌, ℕ, ◌+◌, ◌<◌, List, length, get_or, refl, sym, ap, inl, inr, arith}, lemmas.Bool.cases_eq}
-use Rattle.std.proofs.lemmas.List.{Edits.{length-swap, swapped_from_swap}, Elements.{All-get_or, All-from_get_or}}
-use Rattle.std.proofs.lemmas.{List.Sorted.{IsPermutation-swap, IsPermutation-trans, All-permutation}, Grind.common_steps}
-use Rattle.std.specs.List.{swap, Sorted.IsPermutation}
+use Rattle.std.proofs.lemmas.List.{Edits.{length-swap, swapped_from_swap}, Elements.{All-get_or, All-from_get_or}, Sorted.IsPermutation-swap}
+use Rattle.std.{proofs.lemmas.{List.Sorted.{IsPermutation-trans, All-permutation}, Grind.common_steps}, specs.List.{swap, Sorted.IsPermutation}}
 use Rattle.domain_records.specs.Places.{AreRanks}
 
 -- the ranks before i are taken by their items; what goes to rank p now stands at s p, and t has the

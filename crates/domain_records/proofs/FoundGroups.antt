@@ -3,9 +3,8 @@ use Rattle.std.proofs.Common.{◌≡◌, ℕ, zero, suc, Bool, true, false, List
 use Rattle.std.{proofs.lemmas.{Grind.common_steps}, specs.{Option.option_transpose, List.slice_get}}
 use Rattle.domain_names.specs.{Laws.same_name_equiv}
 use Rattle.domain_record.specs.declared.record.Record.{Record}
-use Rattle.domain_records.specs.{declared.error.SigningError.SigningError, Groups.{same_rrset}, Lookup.{IsFirstPlace, matches}}
-use Rattle.domain_records.specs.{Rrsets.{TakesRrset, IsFound, begins_with, group_at}, Runs.{runs, add_to}}
-use Rattle.domain_records.proofs.Runs.{begins, runs_nil}
+use Rattle.domain_records.specs.{declared.error.SigningError.SigningError, Groups.same_rrset, Lookup.{IsFirstPlace, matches}, Rrsets.{TakesRrset, IsFound}}
+use Rattle.domain_records.{specs.{Rrsets.{begins_with, group_at}, Runs.{runs, add_to}}, proofs.Runs.{begins, runs_nil}}
 
 module _ {X : Type 0} (same : X → X → Bool) (p : X → Bool) (alike : (x y : X) → same x y ≡ true → p x ≡ p y) where
   passed : (x : X) (gs : List (List X)) → p x ≡ false → find (begins_with p) (add_to same x gs) ≡ find (begins_with p) gs

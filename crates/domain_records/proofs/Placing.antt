@@ -1,10 +1,9 @@
 -- A list in the order of places that ascend is sorted, and of equals the earliest comes first.
-use Rattle.std.proofs.lemmas.{Grind.common_steps, Bool.Decides.nat_tests}
-use Rattle.std.proofs.Common.{◌≡◌, ◌∙◌, ℕ, ◌+◌, ◌<◌, ◌≤◌, Some, Bool, true, false, List, length, get_or, sym, ap, arith, is_lt, inl, inr}
-use Rattle.std.proofs.lemmas.{Bool.{cases_Bool, cases_order}, List.{Folds.find_at, Sums.{position_or_len_is, fails_before_first, passes_at_first}}}
-use Rattle.std.proofs.lemmas.{Option.{slice_get-get_or, slice_get_past}, List.get_or_default, Map.Keys.{Less-from_sorted, sorted_from_all_adjacent}}
-use Rattle.std.specs.{Cmp.{IsTotalOrder, then_total, on_total, nat_cmp_total, alike_right, tied_back, Equal-is}, List.{position_or_len, find, slice_get}}
-use Rattle.std.specs.{List.Sorted.IsPermutation, Ordering.{is_eq}, declared.cmp.Ordering.Ordering}
+use Rattle.std.proofs.{lemmas.{Grind.common_steps, Bool.Decides.nat_tests}, Common.{◌≡◌, ◌∙◌, ℕ, ◌+◌, ◌<◌, ◌≤◌, Some, Bool, true, false, List, length, get_or}}
+use Rattle.std.proofs.{Common.{sym, ap, arith, is_lt, inl, inr}, lemmas.{Bool.{cases_Bool, cases_order}, List.{Folds.find_at, Sums.position_or_len_is}}}
+use Rattle.std.proofs.lemmas.{List.{Sums.{fails_before_first, passes_at_first}, get_or_default}, Option.{slice_get-get_or, slice_get_past}}
+use Rattle.std.{proofs.lemmas.Map.Keys.{Less-from_sorted, sorted_from_all_adjacent}, specs.Cmp.{IsTotalOrder, then_total, on_total, nat_cmp_total, alike_right}}
+use Rattle.std.specs.{Cmp.{tied_back, Equal-is}, List.{position_or_len, find, slice_get, Sorted.IsPermutation}, Ordering.is_eq, declared.cmp.Ordering.Ordering}
 use Rattle.std.specs.declared.cmp.Ordering.TheVariants.{Less, Equal}
 use Rattle.domain_records.specs.{declared.owner_runs.Run.Run, OwnerOrder.compared_runs, Places.{AreInOrder, IsArranged, compared_places}}
 use Rattle.domain_records.specs.SortedSet.{IsSortOf, first_equal}

@@ -1,6 +1,5 @@
 -- What is left without the elements that pass a test.
-use Rattle.std.proofs.Common.{◌≡◌, ℕ, zero, suc, Bool, true, false, not, List, [], ◌∷◌, Some, None, refl, arith}
-use Rattle.std.specs.List.{filter, list_any, remove}
+use Rattle.std.{proofs.Common.{◌≡◌, ℕ, zero, suc, Bool, true, false, not, List, [], ◌∷◌, Some, None, refl, arith}, specs.List.{filter, list_any, remove}}
 use Rattle.domain_records.specs.{Edits.without_first, Lookup.IsFirstPlace}
 
 module _ {X : Type 0} (p : X → Bool) where

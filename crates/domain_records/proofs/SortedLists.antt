@@ -1,14 +1,13 @@
 -- Sorted sets as lists: where an element stands or goes, and what a sort and a dedup leave.
-use Rattle.std.proofs.Common.{◌≡◌, ℕ, ◌+◌, ◌<◌, Bool, false, not, ◌&&◌, List, [], ◌∷◌, ◌++◌, length, get_or, take, drop, Result}
-use Rattle.std.proofs.{Common.{Ok, Err, IfOk, IfErr, refl, sym, ◌∙◌, ap, subst, arith, is_lt}, lemmas.Map.Keys.{Less-from_sorted, sorted_from_all_adjacent}}
-use Rattle.std.proofs.lemmas.List.{take-append-drop, get_or-take, get_or-drop, get_or_default, length-take-le, length-drop, Filters.All-dedup}
-use Rattle.std.proofs.lemmas.List.{Elements.{All-contains_itself, AllZip-get_or, filter_agree, recursion_from_All}, Kept.{IsStrictlySortedBy-dedup, Any-dedup}}
+use Rattle.std.proofs.Common.{◌≡◌, ℕ, ◌+◌, ◌<◌, Bool, false, not, ◌&&◌, List, [], ◌∷◌, ◌++◌, length, get_or, take, drop, Result, Ok, Err, IfOk, IfErr, refl}
+use Rattle.std.proofs.{Common.{sym, ◌∙◌, ap, subst, arith, is_lt}, lemmas.{Map.Keys.{Less-from_sorted, sorted_from_all_adjacent}, List.take-append-drop}}
+use Rattle.std.proofs.lemmas.List.{get_or-take, get_or-drop, get_or_default, length-take-le, length-drop, Filters.All-dedup, Elements.All-contains_itself}
+use Rattle.std.proofs.lemmas.List.{Elements.{AllZip-get_or, filter_agree, recursion_from_All}, Kept.{IsStrictlySortedBy-dedup, Any-dedup}}
 use Rattle.std.proofs.lemmas.List.{Quantifiers.all_pairs_remove, Sorted.{searchable_from_sorted, IsPermutation-insert, Contains-permutation, All-permutation}}
-use Rattle.std.proofs.lemmas.{Grind.common_steps, Slice.Zip.AllZip-long}
-use Rattle.std.specs.List.{AllByRecursion, AllZip, slice_get, Contains, dedup, dedup_from, filter, find, insert, remove}
-use Rattle.std.specs.List.Sorted.{IsStrictlySortedBy, IsSorted, IsStable, IsPermutation, ties, IsSearchInRange, IsBinarySearchResult, IsNonDecreasingBy}
-use Rattle.std.specs.Cmp.{IsTotalOrder, IsEquivalence, eq_by_cmp_equiv, alike_right, tied_back, Equal-is}
-use Rattle.std.specs.{Ordering.{eq_by_cmp, is_eq, ordering_index, ordering_reverse}, declared.cmp.Ordering.{Ordering, TheVariants.{Less, Equal, Greater}}}
+use Rattle.std.{proofs.lemmas.{Grind.common_steps, Slice.Zip.AllZip-long}, specs.List.{AllByRecursion, AllZip, slice_get, Contains, dedup, dedup_from, filter}}
+use Rattle.std.specs.List.{find, insert, remove, Sorted.{IsStrictlySortedBy, IsSorted, IsStable, IsPermutation, ties, IsSearchInRange, IsBinarySearchResult}}
+use Rattle.std.specs.{List.Sorted.IsNonDecreasingBy, Cmp.{IsTotalOrder, IsEquivalence, eq_by_cmp_equiv, alike_right, tied_back, Equal-is}, Ordering.eq_by_cmp}
+use Rattle.std.specs.{Ordering.{is_eq, ordering_index, ordering_reverse}, declared.cmp.Ordering.{Ordering, TheVariants.{Less, Equal, Greater}}}
 use Rattle.domain_records.specs.SortedSet.{IsAt, IsGapFor, Holds, IsSortedSetOf, IsSortOf, IsUnion, KeepsEarliest, Adds}
 
 module _ {X : Type 0} where

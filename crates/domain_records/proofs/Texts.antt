@@ -1,7 +1,6 @@
 -- One text after another.
 use Rattle.std.proofs.Common.{◌≡◌, ℕ, ◌+◌, ◌<◌, length, get_or, drop, Bool, true, false, not, List, [], ◌∷◌, ◌++◌, Option, append-nil, refl, arith}
-use Rattle.std.proofs.lemmas.{List.Folds.concat-append, Grind.common_steps}
-use Rattle.std.specs.{Bool.beq, List.{FoldsTo, filter}, Fmt.{WritesInCalls, WritesText, ◌++?◌}}
+use Rattle.std.{proofs.lemmas.{List.Folds.concat-append, Grind.common_steps}, specs.{Bool.beq, List.{FoldsTo, filter}, Fmt.{WritesInCalls, WritesText, ◌++?◌}}}
 use Rattle.domain_records.specs.Text.{texts}
 
 module _ {W X : Type 0} (R : W → X → W → Type 0) where

@@ -1,11 +1,10 @@
 -- What errors say, and what a refusal of hashing is to those who sign.
 use Rattle.std.specs.Prelude.{codes}
 use Rattle.domain_octets.specs.Words.{Octets}
-use Rattle.domain_records.specs.declared.error.InsertError.{InsertError}
+use Rattle.domain_records.specs.declared.error.{InsertError.InsertError, SigningError.SigningError}
 use Rattle.domain_records.specs.declared.error.InsertError.TheVariants as insert_error
-use Rattle.domain_hasher.specs.{ErrorText.hash_error_text, declared.error.Nsec3HashError.{Nsec3HashError, TheVariants.OutOfMemory}}
-use Rattle.domain_records.specs.declared.error.SigningError.{SigningError}
 use Rattle.domain_records.specs.declared.error.SigningError.TheVariants as signing_error
+use Rattle.domain_hasher.specs.{ErrorText.hash_error_text, declared.error.Nsec3HashError.{Nsec3HashError, TheVariants.OutOfMemory}}
 
 -- of a chain that could not be made
 abbrev pub signing_error_text : SigningError → Octets

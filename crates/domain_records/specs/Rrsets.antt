@@ -3,9 +3,8 @@ use Rattle.std.specs.Prelude.{◌≡◌, ◌≢◌, ℕ, ◌<◌, Bool, false, L
 use Rattle.std.specs.List.{slice_get}
 use Rattle.domain_base.specs.Types.{rrsig}
 use Rattle.domain_record.specs.declared.record.Record.{Record}
-use Rattle.domain_records.specs.declared.error.SigningError.{SigningError}
-use Rattle.domain_records.specs.declared.error.SigningError.TheVariants.{EmptyRecordSlice, MultipleTtlValues}
-use Rattle.domain_records.specs.{Groups.IfFirst, Order.HoldsPairwise, Runs.runs}
+use Rattle.domain_records.specs.{declared.error.SigningError.{SigningError, TheVariants.{EmptyRecordSlice, MultipleTtlValues}}, Groups.IfFirst}
+use Rattle.domain_records.specs.{Order.HoldsPairwise, Runs.runs}
 
 -- no two differ in TTL, unless the type of the first is RRSIG: records of that type are grouped,
 -- but no RRset (RFC 4034, section 3)

@@ -110,6 +110,7 @@ pub(crate) fn first_place<N: ToName, D: RecordData + CanonicalOrd>(
 }
 
 /// The place of the first record of this type.
+#[tactic(auto, using(std::proofs::lemmas::Grind::common_steps, crate::proofs::Firsts::first_by))]
 pub(crate) fn first_of_type<N, D: RecordData>(
     records: &[Record<N, D>],
     rtype: Rtype,

@@ -1,8 +1,7 @@
-use Rattle.std.{proofs.Common.{refl, arith}, specs.Cmp.IsTotalOrder}
+use Rattle.std.{proofs.{Common.{refl, arith}, lemmas.Grind.common_steps}, specs.Cmp.IsTotalOrder}
 use Rattle.domain_record.specs.Record.{record_cmp, record_cmp_total}
 use Rattle.domain_records.proofs.{SortedLists.{sorted_insert, holds_at}, sorted.SortedRecords.insert.Given.Over}
 use Rattle.domain_records.proofs.sorted.SortedRecords.insert.Goals as goal
-use Rattle.std.proofs.lemmas.Grind.{common_steps}
 
 -- the canonical order of the records, which is total
 order : (g : Over) → IsTotalOrder (record_cmp g.N.ToName.labels g.D.RecordData.rtype g.D.CanonicalOrd.canonical_cmp)

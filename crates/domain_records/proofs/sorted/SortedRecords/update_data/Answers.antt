@@ -1,8 +1,7 @@
-use Rattle.std.{proofs.Common.{refl, Some, None, arith}, specs.Cmp.IsTotalOrder}
+use Rattle.std.{proofs.{Common.{refl, Some, None, arith}, lemmas.Grind.common_steps}, specs.Cmp.IsTotalOrder}
 use Rattle.domain_record.specs.Record.{record_cmp, record_cmp_total}
 use Rattle.domain_records.proofs.{SortedLists.{sorted_remove, read_is}, sorted.SortedRecords.update_data.Given.Over}
 use Rattle.domain_records.proofs.sorted.SortedRecords.update_data.Goals as goal
-use Rattle.std.proofs.lemmas.Grind.{common_steps}
 
 -- the canonical order of the records, which is total
 order : (g : Over) → IsTotalOrder (record_cmp g.N.ToName.labels g.D.RecordData.rtype g.D.CanonicalOrd.canonical_cmp)

@@ -1,8 +1,0 @@
-use Rattle.std.proofs.{Common.arith, lemmas.Grind.common_steps}
-use Rattle.domain_names.proofs.CaseLemmas.{lowered_size}
-use Rattle.domain_fields.specs.Layout.{octets_of}
-use Rattle.domain_fields.proofs.fields.ParsedNameFields.put_canonical.Goals as goal
-
-pub returns : goal.returns
-unfolding octets_of
-returns g c = grind (arith, common_steps, lowered_size)
