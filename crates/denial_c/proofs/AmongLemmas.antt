@@ -1,8 +1,7 @@
 -- Records that are read one after another, of which some are kept.
-use Rattle.std.proofs.Common.{◌≡◌, ℕ, ◌≤◌, Bool, true, false, cond, List, [], ◌∷◌, ◌++◌, map, length, refl, sym, ap, ◌∙◌, subst, arith, inl, inr}
-use Rattle.std.proofs.Common.{append_assoc, append-nil}
-use Rattle.std.proofs.lemmas.{Grind.common_steps, List.{map-append, Elements.filter-append}}
-use Rattle.std.specs.{Prelude.filter, List.{AllByRecursion, flat_map}}
+use Rattle.std.proofs.Common.{◌≡◌, ℕ, ◌≤◌, Bool, true, false, cond, List, [], ◌∷◌, ◌++◌, map, length, refl, sym, ap, ◌∙◌, subst, arith, inl, inr, append_assoc}
+use Rattle.std.{proofs.{Common.append-nil, lemmas.{Grind.common_steps, List.{map-append, Elements.filter-append}}}, specs.{Prelude.filter, List.AllByRecursion}}
+use Rattle.std.specs.List.{flat_map}
 use Rattle.domain_borrowed.{specs.{Data.RawRecord, Wire.{record_octets, IsRecord}}, proofs.WireLemmas.{same_record, some_octets}}
 use Rattle.domain_zone.proofs.{FindLemmas.{from_map, in_filtered}, PairLemmas.{In, all_in}, ZoneLemmas.{all_both, all_front, weaker}}
 use Rattle.domain_dnssec.proofs.AmongLemmas.{all_pairs}

@@ -1,10 +1,8 @@
 -- Records of one owner and type that differ in TTL.
-use Rattle.std.proofs.lemmas.Grind.{common_steps}
-use Rattle.std.proofs.Common.{◌≡◌, ℕ, ◌-◌, ◌<◌, ◌≤◌, Bool, true, false, cond, not, ◌&&◌, ◌||◌, List, [], ◌∷◌, ◌++◌, map, length, refl, sym, ap, ◌∙◌, subst, inl}
-use Rattle.std.proofs.Common.{inr, arith, nat_eq, append_assoc, append-nil, length-append, is_some, Some, None, Option}
+use Rattle.std.proofs.{lemmas.Grind.common_steps, Common.{◌≡◌, ℕ, ◌-◌, ◌<◌, ◌≤◌, Bool, true, false, cond, not, ◌&&◌, ◌||◌, List, [], ◌∷◌, ◌++◌, map, length}}
+use Rattle.std.proofs.Common.{refl, sym, ap, ◌∙◌, subst, inl, inr, arith, nat_eq, append_assoc, append-nil, length-append, is_some, Some, None, Option}
 use Rattle.std.proofs.lemmas.Bool.{and_from, and_parts, cases_Bool, eq-eqb, eqb-false, eqb-true, false≢true, not-false, not-true, or_left, or_parts, or_right}
-use Rattle.std.proofs.lemmas.List.{Folds.list_any-append}
-use Rattle.std.specs.{Prelude.{filter, Contains}, List.{AllByRecursion, flat_map, list_any}}
+use Rattle.std.{proofs.lemmas.List.Folds.list_any-append, specs.{Prelude.{filter, Contains}, List.{AllByRecursion, flat_map, list_any}}}
 use Rattle.domain_alike.{specs.Covered.covered_names, proofs.KeptLemmas.{is_unsigned, kept_all, kept_more, kept_past, kept_start, stays, stays_by, AreKept}}
 use Rattle.domain_names.specs.{Name.same_name, Words.Name}
 use Rattle.domain_dnssec.proofs.AmongLemmas.{any_two, contains_in, in_contains}

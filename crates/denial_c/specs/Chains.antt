@@ -5,17 +5,16 @@ use Rattle.domain_alike.specs.Covered.{covered_names}
 use Rattle.domain_octets.specs.Words.{Octets}
 use Rattle.domain_names.specs.Words.{Name}
 use Rattle.domain_nsec.specs.{Chain.{Link, IsChain, IsFirstFault}, declared.config.GenerateNsecConfig.GenerateNsecConfig}
-use Rattle.domain_nsec3.specs.Chain.{ChainRecords, IsChainParam, IsHashedChain}
-use Rattle.domain_nsec3.specs.{Config.{excludes, ChainConfig, Parameters}, Faults.{IsFirstFault as IsFirstHashedFault}, View.hash_by}
-use Rattle.domain_nsec3.specs.declared.config.Nsec3ParamTtlMode.{Nsec3ParamTtlMode, TheVariants.Soa}
+use Rattle.domain_nsec3.specs.{Chain.{ChainRecords, IsChainParam, IsHashedChain}, Config.{excludes, ChainConfig, Parameters}}
+use Rattle.domain_nsec3.specs.{Faults.IsFirstFault as IsFirstHashedFault, View.hash_by, declared.config.Nsec3ParamTtlMode.{Nsec3ParamTtlMode, TheVariants.Soa}}
 use Rattle.domain_hasher.specs.declared.error.Nsec3HashError.{Nsec3HashError}
 use Rattle.domain_hasher.specs.declared.error.Nsec3HashError.TheVariants as hash_error
 use Rattle.domain_records.specs.{Order.{IsInOrder, IsOneClass}, declared.error.SigningError.SigningError}
 use Rattle.domain_records.specs.declared.error.SigningError.TheVariants as signing_error
 use Rattle.domain_zone.specs.Zone.{records_of, ZoneRecord}
 use Rattle.domain_sha1.specs.Iterated.{sha1_answer}
-use Rattle.domain_dnssec.specs.AnyOrder as any_order
 use Rattle.domain_dnssec.specs.Wire.{nsecs_octets, nsec3s_octets}
+use Rattle.domain_dnssec.specs.AnyOrder as any_order
 use Rattle.domain_borrowed.specs.Data.{data_cmp, RawRecord, zone_of_raw}
 use Rattle.denial_c.specs.{Given.{AreGiven, HasNoRecordAt, HasOtherClassAt}, Numbers.{chain_count, chain_number}, Result.{IsSpelled, Spells}}
 use Rattle.denial_c.specs.{Uneven.{IsFirstClash, IsFirstUneven, IsUnevenAt}, declared.{fault.Fault.Fault, nsec3_chain.Hashing.Hashing}}

@@ -9,8 +9,7 @@ use Rattle.domain_answer.specs.Expansion.{closer_name, is_expanded, ExpansionRes
 use Rattle.domain_answer.specs.{HashedProved.{HashedRestsOn, IsHashedAnswered}, HashedReading.{IsFirstOfRefusals, IsHashedRead}}
 use Rattle.domain_answer.specs.{Proved.{needs_no_records, CountsWithin, IsAnswered, RestsOn}, Reading.reading, ZoneAnswer.is_at_parent}
 use Rattle.domain_answer.specs.declared.answer.Answer.{Answer, TheVariants.{OutsideZone, AtParent, NotProven, TooManyIterations}}
-use Rattle.denial_c.specs.Result.{sha1_records, AreNsecsAsked, HashedQuestion, IsHashedResult, IsNsecFault, Source}
-use Rattle.denial_c.specs.declared.fault.Fault.{Fault}
+use Rattle.denial_c.specs.{Result.{sha1_records, AreNsecsAsked, HashedQuestion, IsHashedResult, IsNsecFault, Source}, declared.fault.Fault.Fault}
 use Rattle.denial_c.specs.declared.fault.Fault.TheVariants as fault
 
 -- ---- NSEC

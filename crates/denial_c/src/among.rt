@@ -18,6 +18,7 @@ use domain_octets::Parser;
 use std::alloc::Global;
 
 /// The record that comes next, as `read_record` has it; less is left after it.
+#[tactic(auto, using(domain_borrowed::proofs::WireLemmas::shorter))]
 pub(crate) fn next_record<'a>(parser: &mut Parser<'a>) -> Option<BorrowedRecord<'a>>
     requires { 0 < length parser.old.left }
     ensures some { IfSome result (λ r. (parser.old.left ≡ record_octets r ++ parser.new.left)
@@ -131,6 +132,7 @@ impl<'a> ReadAs<'a> for ReadNsec3param<'a> {
 
 /// The records of a type that count, of an apex and a class, among the records that the octets are.
 /// Refuses octets that are no records, and such records whose data are none.
+#[tactic(auto, using(std::proofs::lemmas::Grind::common_steps, crate::proofs::AmongLemmas::passed, crate::proofs::AmongLemmas::taken))]
 pub(crate) fn records_among<'a, K: ReadAs<'a>>(
     alloc: Global,
     apex: &ParsedName<'_>,

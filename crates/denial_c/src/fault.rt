@@ -1,7 +1,6 @@
 //! Why there is no answer, no verdict or no chain, and the numbers of that.
 ghost use Rattle.std.specs.Prelude.{◌≡◌};
-ghost use Rattle.denial_c.specs.Numbers.{fault_number, fault_told};
-ghost use Rattle.denial_c.specs.Result.{fault_of};
+ghost use Rattle.denial_c.specs.{Numbers.{fault_number, fault_told}, Result.fault_of};
 ghost use Rattle.denial_c.specs.declared.fault.Fault.TheVariants.{OutOfMemory as memory};
 
 use domain_hasher::Nsec3HashError;

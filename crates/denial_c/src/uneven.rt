@@ -58,6 +58,7 @@ fn clashing_type<'a>(mut records: SliceRefsOrOwnedIterator<'a, BorrowedRecord<'a
 /// differ in TTL, and the first such type; None where there is none. Unsigned delegations are
 /// passed over where `excludes` says so, and names below the owner of a DNAME record where
 /// `below_dname` does.
+#[tactic(auto, using(std::proofs::lemmas::Grind::common_steps, crate::proofs::UnevenLemmas::walked_all, crate::proofs::UnevenLemmas::walked_clash, crate::proofs::UnevenLemmas::walked_first, crate::proofs::UnevenLemmas::walked_past, crate::proofs::UnevenLemmas::walked_start))]
 fn uneven_set<'a>(
     apex: &'a ParsedName<'a>,
     sorted: &'a [BorrowedRecord<'a>],
@@ -105,6 +106,7 @@ fn is_other(first: Option<Ttl>, ttl: Ttl) -> bool
 
 /// The offset of the first record of this owner and this type that has another TTL than those
 /// before it.
+#[tactic(auto, using(std::proofs::lemmas::Grind::common_steps, crate::proofs::UnevenLemmas::scanned_other, crate::proofs::UnevenLemmas::scanned_same))]
 fn uneven_offset(class: Class, octets: &[u8], set: &RrsetKey<'_>) -> usize
     requires { (given : List RawRecord) × AreGiven class octets.now given × (has_clash (set_of
         (zone_of_raw given) set.now.owner set.now.rtype) ≡ true) }

@@ -33,6 +33,7 @@ fn check_records(class: Class, octets: &[u8]) -> Result<usize, Fault>
 }
 
 /// The records of the class that the octets are; room is asked for so many at first.
+#[tactic(auto, using(std::proofs::lemmas::Grind::common_steps, crate::proofs::AmongLemmas::past_more))]
 fn read_records<'a>(
     alloc: Global,
     class: Class,

@@ -1,17 +1,14 @@
 -- Names that have one hash, found in a list of names in canonical order.
 use Rattle.std.proofs.Common.{◌≡◌, ℕ, zero, suc, ◌+◌, ◌<◌, Bool, true, false, cond, List, [], ◌∷◌, ◌++◌, map, refl, sym, ap, ◌∙◌, subst, Option, Some, None}
-use Rattle.std.proofs.Common.{Bor, is_some, option_map, Ok, Err, get_or, length, take, arith}
-use Rattle.std.proofs.lemmas.{Bool.{false≢true}, Cmp.tied_itself, Grind.{common_steps}, Option.slice_get-get_or}
-use Rattle.std.proofs.lemmas.List.{map-append, take_more, Elements.{All-from_recursion, recursion_from_All}}
-use Rattle.std.specs.{Cmp.Lexicographic.{bytes_decides, nat_list_cmp_total, texts_ties}, List.{find, flat_map, list_any, AllByRecursion}}
-use Rattle.std.specs.{Option.{option_copied}, Prelude.{filter, slice_get}, Ordering.{is_eq}}
+use Rattle.std.proofs.{Common.{is_some, option_map, Ok, Err, get_or, length, take, arith}, lemmas.{Bool.false≢true, Cmp.tied_itself, Grind.common_steps}}
+use Rattle.std.proofs.lemmas.{Option.slice_get-get_or, List.{map-append, take_more, Elements.{All-from_recursion, recursion_from_All}}}
+use Rattle.std.specs.{Cmp.Lexicographic.{bytes_decides, nat_list_cmp_total, texts_ties}, List.{find, flat_map, list_any, AllByRecursion}, Prelude.filter}
+use Rattle.std.specs.{Prelude.slice_get, Ordering.is_eq}
 use Rattle.domain_octets.{specs.Words.Octets}
 use Rattle.domain_names.specs.{Name.same_name, Order.before, Words.Name}
-use Rattle.domain_zone.specs.Zone.{ZoneRecord}
-use Rattle.domain_zone.proofs.FindLemmas.{in_at, in_filter, in_filtered, find_none, find_some}
-use Rattle.domain_zone.proofs.NameLemmas.{before_left, before_order, before_right, one_lowered, same_itself}
-use Rattle.domain_zone.proofs.{OwnerLemmas.{any_in, ascending_filter, in_any}, PairLemmas.{In, IsAscending, all_from_in, all_in, irreflexive}}
-use Rattle.domain_zone.proofs.ZoneLemmas.{after_or, all_both, any_map, filter_none, weaker}
+use Rattle.domain_zone.{specs.Zone.ZoneRecord, proofs.{FindLemmas.{in_at, in_filter, in_filtered, find_none, find_some}, NameLemmas.before_left}}
+use Rattle.domain_zone.proofs.{NameLemmas.{before_order, before_right, one_lowered, same_itself}, OwnerLemmas.{any_in, ascending_filter, in_any}, PairLemmas.In}
+use Rattle.domain_zone.proofs.{PairLemmas.{IsAscending, all_from_in, all_in, irreflexive}, ZoneLemmas.{after_or, all_both, any_map, filter_none, weaker}}
 use Rattle.domain_nsec3.specs.{Ancestors.IsListOf, Config.{ChainConfig, HashAnswer, hash_of}, Faults.HasCollision, Owners.is_chain_name}
 use Rattle.domain_nsec3.proofs.{FaultLemmas.hash_same, ListLemmas.{sorted, ascending}}
 use Rattle.domain_alike.specs.{Alike.{pair_of, AreAlike, IsAlike, IsFirstAlike, IsFirstPair, IsFirstRefusal, Pair}, declared.alike.Alike.Alike}
@@ -25,16 +22,6 @@ hash_is (Err n) h e = absurd (false≢true e)
 
 is_hash_so : (answer : HashAnswer) (h : Octets) → answer ≡ Ok h → is_hash answer h ≡ true
 is_hash_so answer h e = ap (λ w. is_hash w h) e ∙ ap is_eq (tied_itself nat_list_cmp_total h)
-
--- ---- what a map has
-
-pub some_of : {A : Type 0} (o : Option (Bor A)) (p : Option A) → is_some o ≡ true → option_copied o ≡ p → (x : A) × (p ≡ Some x)
-some_of None p e h = absurd (cc)
-some_of (Some b) p e h = (b.now, sym h)
-
-pub none_of : {A : Type 0} (o : Option (Bor A)) (p : Option A) → is_some o ≡ false → option_copied o ≡ p → p ≡ None
-none_of None p e h = sym h
-none_of (Some b) p e h = absurd (cc)
 
 -- ---- the first that passes a test
 

@@ -1,15 +1,12 @@
 -- The owners of a list in order and the names above them, gathered one owner after another.
-use Rattle.std.proofs.Common.{◌≡◌, ℕ, ◌<◌, ◌≤◌, true, false, List, [], ◌∷◌, ◌++◌, length, refl, sym, ◌∙◌, arith}
-use Rattle.std.proofs.lemmas.Bool.{false≢true, leb-true, and_from, or_left, Decides.nat_tests}
-use Rattle.std.proofs.lemmas.{List.Elements.recursion_from_All, Grind.common_steps}
-use Rattle.std.specs.{Prelude.{All}, List.{AllByRecursion, list_any, Sorted.IsStrictlySortedBy}}
+use Rattle.std.proofs.{Common.{◌≡◌, ℕ, ◌<◌, ◌≤◌, true, false, List, [], ◌∷◌, ◌++◌, length, refl, sym, ◌∙◌, arith}, lemmas.Bool.{false≢true, leb-true, and_from}}
+use Rattle.std.{proofs.lemmas.{Bool.{or_left, Decides.nat_tests}, List.Elements.recursion_from_All, Grind.common_steps}, specs.Prelude.All}
+use Rattle.std.specs.List.{AllByRecursion, list_any, Sorted.IsStrictlySortedBy}
 use Rattle.domain_names.specs.{Name.{is_at_or_below, same_name}, Order.{before, canonical_cmp, common_labels}, Words.Name}
-use Rattle.domain_zone.specs.{Enclosers.exists_over, Zone.{ZoneRecord}}
-use Rattle.domain_zone.proofs.NameLemmas.{before_order, below_between, below_from, below_itself, below_length, below_longer, below_parent, below_trans}
-use Rattle.domain_zone.proofs.{NameLemmas.{one_lowered, same_both}, OwnerLemmas.{any_in}}
-use Rattle.domain_zone.proofs.{PairLemmas.{IsAscending, all_in, le_lt}, SharedLemmas.either_way, ZoneLemmas.{all_both, after_or, weaker}}
-use Rattle.domain_nsec3.specs.{Ancestors.{above_with_more, IsListOf}, Config.{ChainConfig}}
-use Rattle.domain_nsec3.specs.Owners.{is_chain_name, original_owners}
+use Rattle.domain_zone.{specs.{Enclosers.exists_over, Zone.ZoneRecord}, proofs.NameLemmas.{before_order, below_between, below_from, below_itself, below_length}}
+use Rattle.domain_zone.proofs.{NameLemmas.{below_longer, below_parent, below_trans, one_lowered, same_both}, OwnerLemmas.any_in, PairLemmas.IsAscending}
+use Rattle.domain_zone.proofs.{PairLemmas.{all_in, le_lt}, SharedLemmas.either_way, ZoneLemmas.{all_both, after_or, weaker}}
+use Rattle.domain_nsec3.specs.{Ancestors.{above_with_more, IsListOf}, Config.ChainConfig, Owners.{is_chain_name, original_owners}}
 use Rattle.domain_nsec3.proofs.{AncestorLemmas.{are_above, has_each}, ListLemmas.{sorted, ascending, ascending_both}, OwnerLemmas.existing_are}
 use Rattle.domain_nsec3.proofs.{OutcomeLemmas.original_below, SharedLemmas.{common_shares, cons_below}}
 use Rattle.domain_alike.specs.{AlikeSteps.up_with_more}

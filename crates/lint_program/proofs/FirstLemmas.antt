@@ -20,11 +20,8 @@ pub first_told : (lines : List (List ℕ)) (m : ℕ) (more numbers : List ℕ) (
     → AreLinted 1 lines (m ∷ more) numbers records → IsFirstBad lines m
 first_told lines m more numbers records h = grind (arith, common_steps, first_from)
 
-none_from : (n : ℕ) (lines : List (List ℕ)) (numbers : List ℕ) (records : List RawRecord) → AreLinted n lines [] numbers records → Give lines records
+pub none_from : (n : ℕ) (lines : List (List ℕ)) (numbers : List ℕ) (records : List RawRecord) → AreLinted n lines [] numbers records → Give lines records
 none_from n [] numbers records h = h.2
 none_from n (line ∷ rest) numbers records (inl h) = inl (h.0, none_from (n + 1) rest numbers records h.1)
 none_from n (line ∷ rest) numbers records (inr (inl h)) = inr (h.0, h.1, h.2, h.3, none_from (n + 1) rest h.4 h.1 h.6)
 none_from n (line ∷ rest) numbers records (inr (inr h)) = absurd (let w = h.1 in cc)
-
-pub none_told : (lines : List (List ℕ)) (numbers : List ℕ) (records : List RawRecord) → AreLinted 1 lines [] numbers records → Give lines records
-none_told lines numbers records h = none_from 1 lines numbers records h

@@ -1,8 +1,7 @@
 -- How far a reader has come, where it tells its octets.
-use Rattle.std.proofs.lemmas.Grind.{common_steps}
-use Rattle.std.proofs.Common.{◌≡◌, ℕ, ◌+◌, ◌<◌, List, [], ◌∷◌, ◌++◌, length, refl, ap, sym, ◌∙◌, subst, arith, Some, None, IfSome, Option, append-nil}
-use Rattle.std.proofs.{BufReadLemmas.take_through_nonempty, Common.length-append}
-use Rattle.std.specs.{Str.Lines.lines, Io.{BufRead.{take_through, drop_through, DropsThrough}, KnownBytes.IsAtEnd}}
+use Rattle.std.proofs.{lemmas.Grind.common_steps, Common.{◌≡◌, ℕ, ◌+◌, ◌<◌, List, [], ◌∷◌, ◌++◌, length, refl, ap, ◌∙◌, subst, arith, Some, None, IfSome}}
+use Rattle.std.{proofs.{Common.{Option, append-nil}, BufReadLemmas.take_through_nonempty}, specs.{Str.Lines.lines, Io.BufRead.{take_through, drop_through}}}
+use Rattle.std.specs.Io.{BufRead.DropsThrough, KnownBytes.IsAtEnd}
 use Rattle.domain_borrowed.specs.Data.{RawRecord}
 use Rattle.denial_program.{specs.{Listing.{IsBad, IsFirstBad, IsLineRecord}, Words.{words, IsSkipped}}, proofs.LineSteps.line_once}
 use Rattle.lint_program.specs.Lines.{AreLinted}
@@ -81,7 +80,3 @@ pub follows_bad : (known now : Option (List ℕ)) (view old new numbers : List �
     → FollowsAt known now view old numbers records number → new ≡ old ++ number ∷ [] → ((out : List ℕ) → lines view ≡ out ∷ [] → IsBad out)
     → Follows known now new numbers records (number + 1)
 follows_bad known now view old new numbers records number h e said = grind (arith, common_steps)
-
--- one place and one record more
-pub paired_more : {A B : Type 0} (xs : List A) (ys : List B) (x : A) (y : B) → length xs ≡ length ys → length (xs ++ x ∷ []) ≡ length (ys ++ y ∷ [])
-paired_more xs ys x y h = length-append xs (x ∷ []) ∙ ap (λ n. n + 1) h ∙ sym (length-append ys (y ∷ []))

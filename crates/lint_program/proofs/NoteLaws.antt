@@ -3,6 +3,7 @@ use Rattle.std.proofs.{lemmas.Grind.common_steps, Common.{◌≡◌, ◌⊎◌, 
 use Rattle.std.specs.List.{AllByRecursion}
 use Rattle.domain_names.specs.Words.{Name}
 use Rattle.domain_borrowed.specs.Data.{RawRecord}
+use Rattle.domain_zone.proofs.ZoneLemmas.{all_both, weaker}
 use Rattle.lint_program.specs.{Notes.{earlier, look_of, Deserves, Found, HasMark, IsDeserved, IsToldOf, Mark, Found.{more, nothing}}, declared.looks.Look.Look}
 use Rattle.lint_program.specs.declared.looks.Reason.{Reason}
 
@@ -22,14 +23,6 @@ split_last (w ∷ xs) (z ∷ ys) zs x y h =
       | inr p ↦ inr (p.0, p.1, cc (heads, p.2))
     ]
 
-all_more : {A : Type 0} (P : A → Type 0) (xs ys : List A) → AllByRecursion P xs → AllByRecursion P ys → AllByRecursion P (xs ++ ys)
-all_more P [] ys h k = k
-all_more P (x ∷ xs) ys h k = (h.0, all_more P xs ys h.1 k)
-
-all_so : {A : Type 0} (P Q : A → Type 0) (xs : List A) → ((x : A) → P x → Q x) → AllByRecursion P xs → AllByRecursion Q xs
-all_so P Q [] so h = h
-all_so P Q (x ∷ xs) so h = (so x h.0, all_so P Q xs so h.1)
-
 -- ---- what is told is deserved
 
 module _ (l : Look) (a : Name) where
@@ -48,7 +41,7 @@ module _ (l : Look) (a : Name) where
   pub told_deserved : (rs : List RawRecord) (ns : List ℕ) (ms : List Mark) → Found l a rs ns ms → AllByRecursion (IsDeserved l a rs ns) ms
   told_deserved rs ns ms (nothing _ _) = tt
   told_deserved rs ns ms (more _ _ before numbers marks r n last found told) =
-      all_more _ marks last (all_so _ _ marks (longer before numbers r n) (told_deserved before numbers marks found))
+      all_both _ marks last (weaker _ _ (longer before numbers r n) marks (told_deserved before numbers marks found))
       (last_told before numbers r n last (numbered before numbers marks found) told)
 
 -- ---- what is deserved is told

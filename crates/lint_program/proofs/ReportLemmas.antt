@@ -1,7 +1,6 @@
 -- The lines of a report, one after another.
 use Rattle.std.proofs.Common.{arith, ◌≡◌, ℕ, ◌+◌, List, [], ◌∷◌, ◌++◌, Option, refl, ap, map, sym, ◌∙◌, subst, take, append-nil, append_assoc}
-use Rattle.std.proofs.lemmas.{Grind.common_steps, List.map-append}
-use Rattle.std.specs.Io.KnownBytes.{Appends}
+use Rattle.std.{proofs.lemmas.{Grind.common_steps, List.map-append}, specs.Io.KnownBytes.Appends}
 use Rattle.domain_octets.specs.Words.{Octets}
 use Rattle.denial_program.proofs.RunLemmas.{appends_more}
 use Rattle.lint_program.specs.Report.{AreEach}
@@ -23,17 +22,3 @@ module _ {A : Type 0} (is_such : A → Octets → Type 0) where
         (each_more (map f (take i items)) (f item) so_far.0 told.0 so_far.1 told.1),
     appends_more a b c so_far.0 told.0 so_far.2 told.2,
   )
-
--- the parts of a note in the grouping in which they are written, of a line of the input and of none
-pub placed_parts : (kind line number colon opening told closing end k o c p : Octets) → kind ≡ k → opening ≡ o → closing ≡ c → p ≡ line ++ number ++ colon
-    → kind ++ (line ++ (number ++ (colon ++ (opening ++ (told ++ (closing ++ end)))))) ≡ k ++ p ++ o ++ told ++ c ++ end
-placed_parts kind line number colon opening told closing end k o c p is_kind is_opening is_closing is = grind (arith, common_steps)
-
-pub whole_parts : (kind opening told closing end k o c p : Octets) → kind ≡ k → opening ≡ o → closing ≡ c → p ≡ []
-    → kind ++ (opening ++ (told ++ (closing ++ end))) ≡ k ++ p ++ o ++ told ++ c ++ end
-whole_parts kind opening told closing end k o c p is_kind is_opening is_closing is = grind (arith, common_steps)
-
--- those of what is told of a bad line
-pub fault_parts : (line number between word colon told end : Octets)
-    → line ++ (number ++ (between ++ (word ++ (colon ++ (told ++ end))))) ≡ line ++ number ++ between ++ word ++ colon ++ told ++ end
-fault_parts line number between word colon told end = simp append_assoc

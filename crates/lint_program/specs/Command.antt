@@ -1,8 +1,7 @@
 -- What the words after the program's name ask for, and which faults there are.
 use Rattle.std.specs.Prelude.{◌≡◌, ◌∷◌, [], Option, Some, None}
 use Rattle.domain_names.specs.{Text.NameText, Words.{Name, Token, Tokens}}
-use Rattle.denial_program.specs.{Command.{Params, Spell}, declared.fault.DenialFault.DenialFault}
-use Rattle.denial_program.specs.declared.fault.DenialFault.TheVariants.{Usage, Read, Signing, Write, OutOfMemory}
+use Rattle.denial_program.specs.{Command.{Params, Spell}, declared.fault.DenialFault.{DenialFault, TheVariants.{Usage, Read, Signing, Write, OutOfMemory}}}
 
 -- the words are one, which spells the apex
 pub record AsksPlainly (words : Tokens) (apex : Name) : Type 0 where

@@ -4,7 +4,6 @@ pub mod Odd
 pub mod Notes
 pub mod NoteText
 pub mod Firsts
-pub mod Zones
 pub mod Alike
 pub mod Command
 pub mod Report

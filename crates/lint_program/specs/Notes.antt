@@ -1,14 +1,12 @@
 -- What is told of the records that were read: each record that deserves it, and no other.
 use Rattle.std.specs.Prelude.{◌≡◌, ◌≢◌, ◌⊎◌, ℕ, ◌==◌, Bool, true, false, not, ◌&&◌, ◌||◌, List, [], ◌∷◌, ◌++◌, length, Option, Some, None, IsSome, MatchOption}
 use Rattle.std.specs.{Prelude.if◌then◌else◌, List.{find, list_any}}
-use Rattle.domain_names.specs.Name.{is_at_or_below, same_name}
+use Rattle.domain_names.specs.{Name.{is_at_or_below, same_name}, Words.Name}
 use Rattle.domain_base.specs.Types as rtypes
-use Rattle.domain_names.specs.Words.{Name}
 use Rattle.domain_borrowed.specs.Data.{RawRecord}
-use Rattle.lint_program.specs.{Odd.{has_extras, shape_of, IsSuch}, declared.{notes.Note.Note, looks.Look.Look}}
+use Rattle.lint_program.specs.{Odd.{has_extras, shape_of, IsSuch}, declared.{notes.Note.Note, looks.{Look.Look, Reason.{Reason, TheVariants.NoSoa}}}}
+use Rattle.lint_program.specs.declared.looks.Reason.TheVariants.{SecondSoa, StraySoa, OtherClass, OtherTtl, Outside, BesideAlias, OddData, Parameters}
 use Rattle.lint_program.specs.declared.looks.Look.TheVariants as look
-use Rattle.lint_program.specs.declared.looks.Reason.{Reason}
-use Rattle.lint_program.specs.declared.looks.Reason.TheVariants.{NoSoa, SecondSoa, StraySoa, OtherClass, OtherTtl, Outside, BesideAlias, OddData, Parameters}
 
 -- what a note tells: why, and of the line of which number; that there is no SOA is told of no line
 pub record Mark : Type 0 where

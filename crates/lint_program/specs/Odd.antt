@@ -1,5 +1,5 @@
 -- Octets that are data of their type, of the types whose data are not read.
-use Rattle.std.specs.{Prelude.{◌≡◌, ℕ, ◌-◌, ◌<◌, ◌==◌, Bool, not, ◌||◌, drop, length, nat_lt, slice_index, if◌then◌else◌}, List.fold}
+use Rattle.std.specs.Prelude.{◌≡◌, ℕ, ◌-◌, ◌<◌, ◌==◌, Bool, not, ◌||◌, [], ◌∷◌, drop, length, nat_lt, slice_index, if◌then◌else◌}
 use Rattle.domain_octets.specs.Words.{Octets}
 use Rattle.domain_base.specs.Types as rtypes
 use Rattle.domain_names.specs.Wire.{IsWire}
@@ -18,14 +18,15 @@ shape_of t =
     else if t == 257 then Issuers
     else Whatever
 
--- how many octets of a text are to come after these, where texts stand one after another, each
--- after an octet with its length
-abbrev pub to_come : Octets → ℕ
-to_come octets = fold (λ left octet. if left == 0 then octet else left - 1) 0 octets
+-- how many octets of a text are to come after these, where so many are to come before them: texts
+-- stand one after another, each after an octet with its length
+abbrev pub to_come : ℕ → Octets → ℕ
+to_come left [] = left
+to_come left (octet ∷ octets) = to_come (if left == 0 then octet else left - 1) octets
 
 -- such texts, and at least one
 pub record AreTexts (octets : Octets) : Type 0 where
-  pub whole : to_come octets ≡ 0
+  pub whole : to_come 0 octets ≡ 0
   pub some : 0 < length octets
 
 -- the octets have the shape

@@ -1,5 +1,5 @@
 -- What is told of an input.
-use Rattle.std.specs.Prelude.{◌≡◌, ◌≢◌, ◌⊎◌, ℕ, ◌≤◌, ◌==◌, Bool, true, false, ◌&&◌, List, [], ◌∷◌, ◌++◌, All, codes, length, Option, Some, None, if◌then◌else◌}
+use Rattle.std.specs.Prelude.{◌≡◌, ◌≢◌, ◌⊎◌, ℕ, ◌≤◌, ◌==◌, Bool, ◌&&◌, List, [], ◌∷◌, ◌++◌, All, codes, length, Option, Some, None, if◌then◌else◌}
 use Rattle.std.specs.Fmt.{decimal}
 use Rattle.domain_octets.specs.{Words.Octets, Characters.{space, tilde}}
 use Rattle.domain_names.specs.Words.{Name, Tokens}
@@ -9,9 +9,8 @@ use Rattle.domain_nsec3.specs.View.{HasherAnswer}
 use Rattle.domain_hasher.specs.declared.error.Nsec3HashError.TheVariants.{Hasher}
 use Rattle.domain_records.specs.declared.error.SigningError.{SigningError, TheVariants.Nsec3HashingError}
 use Rattle.denial_program.specs.{Answer.{HasNoNsecs, IsNsecs}, Command.Params, Fault.IsOfRecords, declared.{answer.Reply.Reply, fault.DenialFault.DenialFault}}
-use Rattle.lint_program.specs.{Alike.{alike_text, outcome_with, AreTold, IsRefusalBy}, Command.Asks, Lines.AreLinted, NoteText.{closing, opening}}
-use Rattle.lint_program.specs.{Notes.{fails, AreNoted, Mark}, Outcomes.is_faulty}
-use Rattle.lint_program.specs.declared.outcome.Outcome.{Outcome, TheVariants.{Clean, Warned, Faulty}}
+use Rattle.lint_program.specs.{Alike.{alike_text, outcome_with, AreTold, IsRefusalBy}, Command.Asks, Lines.AreLinted, NoteText.frame, Notes.{fails, AreNoted}}
+use Rattle.lint_program.specs.{Notes.Mark, Outcomes.is_faulty, declared.outcome.Outcome.{Outcome, TheVariants.{Clean, Warned, Faulty}}}
 
 -- the octet is printed, and no end of a line
 abbrev pub IsPrinted : ℕ → Type 0
@@ -51,8 +50,8 @@ place_text (Some n) = codes "line " ++ decimal n ++ codes ": "
 pub record IsLine (is_fault : Bool) (mark : Mark) (text : Octets) : Type 0 where
   pub told : Octets
   pub printed : All IsPrinted told
-  pub is : text ≡ kind_of is_fault ++ place_text mark.place ++ opening mark.reason ++ told
-      ++ closing mark.reason ++ codes "\n"
+  pub is : text ≡ kind_of is_fault ++ place_text mark.place ++ (frame mark.reason).0 ++ told
+      ++ (frame mark.reason).1 ++ codes "\n"
 
 -- as a fault of the zone where it is one for which the records are refused, and else as a warning
 abbrev pub IsNote : Bool → Mark → Octets → Type 0
@@ -70,11 +69,6 @@ AreRefused records apex =
 -- they have one
 abbrev pub HaveChain : List RawRecord → Name → Type 0
 HaveChain records apex = (answer : Reply) × IsNsecs records apex answer
-
--- whether they are refused
-abbrev pub IfRefused : Bool → List RawRecord → Name → Type 0
-IfRefused true records apex = AreRefused records apex
-IfRefused false records apex = HaveChain records apex
 
 -- the outcome, where these lines are bad, the others give these records, and these marks are told
 abbrev pub IsOutcome : List ℕ → List RawRecord → Name → List Mark → Outcome → Type 0

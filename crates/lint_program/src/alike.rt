@@ -3,23 +3,25 @@ ghost use Rattle.std.specs.Prelude.{◌≡◌, ◌⊎◌, ℕ, List, IfErr, IfOk
 ghost use Rattle.domain_alike.specs.Alike.{pair_of};
 ghost use Rattle.domain_borrowed.specs.Data.{RawRecord};
 ghost use Rattle.domain_hasher.specs.declared.error.Nsec3HashError.TheVariants as hash_error;
+ghost use Rattle.domain_records.specs.Order.{IsInOrder, IsOneClass};
 ghost use Rattle.domain_records.specs.declared.error.SigningError.TheVariants as signing_error;
+ghost use Rattle.denial_program.specs.Answer.{Sorts};
 ghost use Rattle.denial_program.specs.declared.fault.DenialFault.TheVariants.{OutOfMemory as Memory, Signing};
-ghost use Rattle.lint_program.specs.{Alike.{outcome_with, AreTold, IsRefusalBy}, Zones.{IsUsable, IsZone}};
+ghost use Rattle.lint_program.specs.Alike.{outcome_with, AreTold, IsRefusalBy};
 
 use crate::outcome::Outcome;
-use crate::zone::Zone;
 use denial_program::{DenialFault, Nsec3Params, ZoneOctets};
 use domain_alike::{Alike, alike_names};
 use domain_base::ParsedName;
+use domain_borrowed::BorrowedRecord;
 use domain_dnssec::{
     GenerateNsec3Config, InPlaceSorter, Nsec3HashError, Nsec3Hasher, SigningError,
 };
 use std::alloc::Global;
 
-/// Of the names of the NSEC3 chain that `denial nsec3` would make of a zone with these parameters,
-/// each that has the hash of one before it in canonical order, with the first that has it. None are
-/// told without parameters, nor of records of more than one class.
+/// Of the names of the NSEC3 chain that `denial nsec3` would make of sorted records with these
+/// parameters, each that has the hash of one before it in canonical order, with the first that has
+/// it. None are told without parameters.
 ///
 /// Takes memory for each name: its hash is looked for in a map.
 ///
@@ -29,23 +31,21 @@ use std::alloc::Global;
 pub fn alike_of<'a, H: Nsec3Hasher>(
     alloc: Global,
     apex: &ParsedName<'a>,
-    zone: &Zone<'a>,
+    sorted: &[BorrowedRecord<'a>],
     parameters: Option<Nsec3Params>,
     hasher: &H,
 ) -> Result<Vec<Alike<'a>>, DenialFault>
-    requires { IsUsable zone.now }
-    ensures ok { IfOk result (λ pairs. (given : List RawRecord) → IsZone given zone.now
+    requires one_class { IsOneClass sorted.now }
+    requires in_order { IsInOrder (λ n. n) (λ d. d.rtype) sorted.now }
+    ensures ok { IfOk result (λ pairs. (given : List RawRecord) → Sorts given sorted.now
         → AreTold (H.answer hasher.now) given apex.now parameters
         (map pair_of pairs.items)) }
     ensures err { IfErr result (λ e. (e ≡ Memory) ⊎ ((n : ℕ)
         × (e ≡ Signing (signing_error.Nsec3HashingError (hash_error.Hasher n)))
-        × ((given : List RawRecord) → IsZone given zone.now
+        × ((given : List RawRecord) → Sorts given sorted.now
         → IsRefusalBy (H.answer hasher.now) given apex.now parameters n))) }
 {
     let Some(parameters) = parameters else {
-        return Ok(Vec::new(alloc));
-    };
-    let Zone::Sorted(sorted) = zone else {
         return Ok(Vec::new(alloc));
     };
     let config: GenerateNsec3Config<ZoneOctets, InPlaceSorter> = GenerateNsec3Config::new(

@@ -1,7 +1,6 @@
 //! What the words after the program's name ask for.
-ghost use Rattle.std.specs.Prelude.{◌≡◌, ◌⊎◌, [], IfErr, IfOk, map, string_bytes};
+ghost use Rattle.std.specs.Prelude.{◌≡◌, ◌⊎◌, IfErr, IfOk, map, string_bytes};
 ghost use Rattle.domain_names.specs.Text.{IsNoName, NameText};
-ghost use Rattle.denial_program.specs.Command.{Params, Spell};
 ghost use Rattle.denial_program.specs.declared.fault.DenialFault.TheVariants.{OutOfMemory};
 ghost use Rattle.lint_program.specs.Command.{Asks, IsNoCommand};
 
@@ -34,16 +33,6 @@ fn stored_name<'a>(
     Ok(ParsedName::over(wire))
 }
 
-/// The parameters that two words spell, without opt-out.
-fn hashed_by(alloc: Global, iterations: &str, salt: &str) -> Result<Nsec3Params, DenialFault>
-    ensures ok { IfOk result (Spell iterations.now salt.now []) }
-    ensures err { IfErr result (λ e. ((e ≡ DenialFault.Usage)
-        × ((p : Params) → Spell iterations.now salt.now [] p → ⊥))
-        ⊎ (e ≡ OutOfMemory)) }
-{
-    parameters_of(alloc, iterations, salt, &[])
-}
-
 /// What the words ask for: an apex, and after it the iterations and the salt of an NSEC3 chain or
 /// nothing. The apex lies in the arena.
 ///
@@ -71,7 +60,8 @@ pub fn asked_of<'a>(
         }
         [apex, iterations, salt] => {
             let apex = stored_name(alloc, arena, apex.as_str())?;
-            let parameters = hashed_by(alloc, iterations.as_str(), salt.as_str())?;
+            let (iterations, salt) = (iterations.as_str(), salt.as_str());
+            let parameters = parameters_of(alloc, iterations, salt, &[])?;
             Ok(Asked {
                 apex,
                 parameters: Some(parameters),

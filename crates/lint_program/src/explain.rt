@@ -9,17 +9,6 @@ use denial_program::without_end;
 use std::alloc::{AllocError, Global};
 use std::str;
 
-/// The words of a line, which spaces and tabs separate.
-fn words_of(alloc: Global, line: &[u8]) -> Result<Vec<&[u8]>, AllocError> {
-    let mut words = Vec::new(alloc);
-    for word in line.split(|octet| *octet == b' ' || *octet == b'\t') {
-        if !word.is_empty() {
-            words.push(word)?;
-        }
-    }
-    Ok(words)
-}
-
 /// The first octet of a word that is past `~`.
 fn octet_past(word: &[u8]) -> Option<u8> {
     for octet in word {
@@ -35,7 +24,7 @@ fn octet_past(word: &[u8]) -> Option<u8> {
 pub fn explain(alloc: Global, line: &[u8]) -> Result<(usize, String), AllocError> {
     let line = without_end(line);
     let mut words = Vec::new(alloc);
-    for word in &words_of(alloc, line)? {
+    for word in line.split(|octet| *octet == b' ' || *octet == b'\t') {
         if let Some(octet) = octet_past(word) {
             let said = quoted(alloc, word)?;
             let text = format!(in alloc;
@@ -44,7 +33,9 @@ pub fn explain(alloc: Global, line: &[u8]) -> Result<(usize, String), AllocError
             )?;
             return Ok((words.len().saturating_add(1), text));
         }
-        words.push(str::from_utf8(word).unwrap_or(""))?;
+        if !word.is_empty() {
+            words.push(str::from_utf8(word).unwrap_or(""))?;
+        }
     }
     if let Some(directive) = directive_of(&words) {
         let text = format!(in alloc;
@@ -108,23 +99,12 @@ fn told_of_word(
     part: Part,
 ) -> Result<String, AllocError> {
     let said = quoted(alloc, word.as_bytes())?;
+    let next = words.get(2).copied().unwrap_or("");
     match part {
-        Part::Owner => {
-            let trouble = name_trouble(word);
-            format!(in alloc; "{said} is no name: {trouble}")
-        }
-        Part::Ttl => {
-            let trouble = ttl_trouble(alloc, word, words.get(2).copied().unwrap_or(""))?;
-            format!(in alloc; "{said} is no TTL: {trouble}")
-        }
-        Part::Class => {
-            let trouble = class_trouble(word);
-            format!(in alloc; "{said} is no class: {trouble}")
-        }
-        Part::Type => {
-            let trouble = type_trouble(alloc, word)?;
-            format!(in alloc; "{said} {trouble}")
-        }
+        Part::Owner => format!(in alloc; "{said} is no name: {}", name_trouble(word)),
+        Part::Ttl => format!(in alloc; "{said} is no TTL: {}", ttl_trouble(alloc, word, next)?),
+        Part::Class => format!(in alloc; "{said} is no class: {}", class_trouble(word)),
+        Part::Type => format!(in alloc; "{said} {}", type_trouble(alloc, word)?),
         Part::Data(rtype) | Part::Nothing(rtype) => format!(in alloc;
             "{said} is one word too many: data of {rtype} end before it"
         ),

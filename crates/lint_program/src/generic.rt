@@ -15,13 +15,6 @@ fn put_name(alloc: Global, data: &mut Vec<u8>, word: &str) -> Result<(), ScanErr
     Ok(())
 }
 
-/// Appends the octets of an IPv6 address.
-fn put_address(data: &mut Vec<u8>, word: &str) -> Result<(), ScanError> {
-    let address = word.parse::<Ipv6Addr>().map_err(|_| NO_DATA)?;
-    data.extend_from_slice(&address.octets())?;
-    Ok(())
-}
-
 /// Appends the octets of texts without escapes and blanks, quoted or not, each after its length.
 fn put_texts(data: &mut Vec<u8>, words: &[&str]) -> Result<(), ScanError> {
     for word in words {
@@ -56,7 +49,10 @@ fn put_data(
 ) -> Result<(), ScanError> {
     match (rtype.to_int(), words) {
         (5 | 12 | 39, [name]) => put_name(alloc, data, name),
-        (28, [address]) => put_address(data, address),
+        (28, [address]) => {
+            let address = address.parse::<Ipv6Addr>().map_err(|_| NO_DATA)?;
+            Ok(data.extend_from_slice(&address.octets())?)
+        }
         (16 | 99, [_, ..]) => put_texts(data, words),
         (33, [numbers @ .., target]) if numbers.len() == 3 => {
             put_numbers(data, numbers)?;

@@ -11,6 +11,7 @@ ghost use Rattle.lint_program.specs.{Notes.Mark, declared.looks.{Look.Look, Reas
 
 /// Where a report tells a line, the first that it tells is the line for which `run_denial` and
 /// `run_judge` refuse the input; and where it tells none, they read records from it.
+#[tactic(auto, using(crate::proofs::FirstLemmas::first_told, crate::proofs::FirstLemmas::none_from))]
 pub fn the_first_told_is_refused()
     ensures first { (lines : List Octets) (n : ℕ) (more numbers : List ℕ)
         (records : List RawRecord) → AreLinted 1 lines (n ∷ more) numbers records
@@ -21,6 +22,7 @@ pub fn the_first_told_is_refused()
 
 /// Each note that a look finds is of a record that deserves it, by the number of its line; and of
 /// each record that deserves one there is a note.
+#[tactic(auto, using(crate::proofs::NoteLaws::told_deserved, crate::proofs::NoteLaws::deserved_told))]
 pub fn what_is_noted_is_deserved()
     ensures told { (l : Look) (a : Name) (records : List RawRecord) (numbers : List ℕ)
         (marks : List Mark) → Found l a records numbers marks

@@ -25,14 +25,12 @@ mod name_trouble;
 mod note_text;
 mod notes;
 mod odd;
-mod ordered_name;
 mod outcome;
 mod program;
 mod reading;
 mod refusal;
 mod report;
 mod wanted;
-mod zone;
 
 pub use fault::LintFault;
 pub use outcome::Outcome;

@@ -4,8 +4,8 @@ ghost use Rattle.std.specs.Prelude.{◌≡◌, IfNone, IfSome, option_map};
 ghost use Rattle.lint_program.specs.Notes.{bit, fails, group_of, is_apex_soa, look_of, stands_beside_alias, Deserves, FindsNothing};
 
 use crate::odd::{has_extras, is_such, shape_of};
-use crate::ordered_name::OrderedName;
-use domain_base::{ParsedName, Rtype, ToName};
+use crate::reading::Place;
+use domain_base::{Name, ParsedName, Rtype, ToName};
 use domain_borrowed::BorrowedRecord;
 
 /// What the records are looked through for, each time once.
@@ -60,17 +60,27 @@ impl Reason {
     }
 }
 
-/// A record that stands before another in its group.
+/// A record, and where it stands.
 #[derive(Clone, Copy)]
-pub struct Earlier<'z, 'a> {
-    /// The number of its line.
-    pub number: u64,
+pub struct Placed<'z, 'a> {
     /// The record.
     pub borrowed: &'z BorrowedRecord<'a>,
+    /// Where it stands.
+    pub place: Place,
 }
 
 /// What puts records together: a name and a number.
-pub type Group<'z> = (OrderedName<'z>, u16);
+pub type Group<'z> = (Name<&'z [u8]>, u16);
+
+/// A name as a part of a group, in the octets where it lies.
+fn named<'z>(name: &'z ParsedName<'_>) -> Name<&'z [u8]>
+    ensures { result ≡ name.now }
+{
+    let Ok(named) = Name::from_octets(name.as_wire()) else {
+        unreachable!();
+    };
+    named
+}
 
 /// The number that a test is.
 fn bit(is_so: bool) -> u16
@@ -104,13 +114,10 @@ pub fn group_of<'z>(
 {
     let rtype = borrowed.rtype();
     match look {
-        Look::Soas => (OrderedName::over(apex), bit(is_apex_soa(apex, borrowed))),
-        Look::Ttls => (OrderedName::over(borrowed.owner()), rtype.to_int()),
-        Look::Aliases => (
-            OrderedName::over(borrowed.owner()),
-            bit(stands_beside_alias(rtype)),
-        ),
-        Look::Classes | Look::Outside | Look::Data => (OrderedName::over(apex), 0),
+        Look::Soas => (named(apex), bit(is_apex_soa(apex, borrowed))),
+        Look::Ttls => (named(borrowed.owner()), rtype.to_int()),
+        Look::Aliases => (named(borrowed.owner()), bit(stands_beside_alias(rtype))),
+        Look::Classes | Look::Outside | Look::Data => (named(apex), 0),
     }
 }
 
@@ -118,14 +125,14 @@ pub fn group_of<'z>(
 pub fn reason_of(
     look: Look,
     apex: &ParsedName<'_>,
-    first: Option<&Earlier<'_, '_>>,
+    first: Option<Placed<'_, '_>>,
     borrowed: &BorrowedRecord<'_>,
 ) -> Option<Reason>
     ensures look { IfSome result (λ reason. look_of reason ≡ look) }
     ensures some { IfSome result (λ reason. Deserves reason apex.now
-        (option_map (λ e. e.now.borrowed.now) first.entry) borrowed.now) }
+        (option_map (λ p. p.borrowed.now) first.entry) borrowed.now) }
     ensures none { IfNone result (FindsNothing look apex.now
-        (option_map (λ e. e.now.borrowed.now) first.entry) borrowed.now) }
+        (option_map (λ p. p.borrowed.now) first.entry) borrowed.now) }
 {
     let rtype = borrowed.rtype();
     match look {

@@ -1,43 +1,33 @@
 //! The texts of what is told of records.
 ghost use Rattle.std.specs.Prelude.{◌≡◌};
-ghost use Rattle.lint_program.specs.NoteText.{closing, opening};
+ghost use Rattle.lint_program.specs.NoteText.{frame};
 
-use crate::looks::{Earlier, Reason};
+use crate::looks::{Placed, Reason};
 use crate::odd::shape_of;
-use crate::reading::Place;
 use domain_base::{ParsedName, ToName};
-use domain_borrowed::BorrowedRecord;
 use std::alloc::{AllocError, Global};
 
 impl Reason {
-    /// What each note of this reason begins with.
-    pub fn opening(&self) -> &'static str
-        ensures { result.now ≡ opening self.now }
+    /// What each note of this reason begins and ends with.
+    pub fn frame(&self) -> (&'static str, &'static str)
+        ensures { (result.0.now, result.1.now) ≡ frame self.now }
     {
         match self {
-            Reason::NoSoa => "the apex ",
-            Reason::SecondSoa => "the apex owns the SOA record of line ",
-            Reason::OtherClass => "the class is ",
-            Reason::OtherTtl => "the TTL is ",
-            Reason::OddData => "the octets are no data of ",
-            Reason::Parameters => "NSEC3PARAM with further iterations or a salt: ",
-            Reason::StraySoa | Reason::Outside | Reason::BesideAlias => "",
-        }
-    }
-
-    /// What it ends with.
-    pub fn closing(&self) -> &'static str
-        ensures { result.now ≡ closing self.now }
-    {
-        match self {
-            Reason::NoSoa => " owns no SOA record",
-            Reason::SecondSoa => " already",
-            Reason::StraySoa => " owns an SOA record, and is not the apex",
-            Reason::Outside => ": the record is passed over",
-            Reason::BesideAlias =>
+            Reason::NoSoa => ("the apex ", " owns no SOA record"),
+            Reason::SecondSoa => ("the apex owns the SOA record of line ", " already"),
+            Reason::StraySoa => ("", " owns an SOA record, and is not the apex"),
+            Reason::OtherClass => ("the class is ", ""),
+            Reason::OtherTtl => ("the TTL is ", ""),
+            Reason::Outside => ("", ": the record is passed over"),
+            Reason::BesideAlias => (
+                "",
                 ", with the same owner: one of them is CNAME, which stands alone",
-            Reason::Parameters => " wants 0 and none",
-            Reason::OtherClass | Reason::OtherTtl | Reason::OddData => "",
+            ),
+            Reason::OddData => ("the octets are no data of ", ""),
+            Reason::Parameters => (
+                "NSEC3PARAM with further iterations or a salt: ",
+                " wants 0 and none",
+            ),
         }
     }
 }
@@ -48,18 +38,15 @@ pub fn text_of(
     alloc: Global,
     apex: &ParsedName<'_>,
     reason: Reason,
-    first: Option<&Earlier<'_, '_>>,
-    borrowed: &BorrowedRecord<'_>,
-    place: Place,
+    first: Option<Placed<'_, '_>>,
+    placed: Placed<'_, '_>,
 ) -> Result<String, AllocError> {
+    let Placed { borrowed, place } = placed;
     let apex = apex.fmt_with_dot();
     let name = borrowed.owner().fmt_with_dot();
     let rtype = borrowed.rtype();
-    let first = first.copied().unwrap_or(Earlier {
-        number: place.number,
-        borrowed,
-    });
-    let line = first.number;
+    let first = first.unwrap_or(placed);
+    let line = first.place.number;
     match reason {
         Reason::NoSoa => format!(in alloc; "{apex}"),
         Reason::SecondSoa => format!(in alloc; "{line}"),

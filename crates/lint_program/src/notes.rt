@@ -4,13 +4,14 @@ ghost use Rattle.std.specs.Prelude.{◌≡◌, ◌==◌, ◌++◌, List, OnOk, I
 ghost use Rattle.std.specs.List.{list_any};
 ghost use Rattle.lint_program.specs.Notes.{is_apex_soa, mark_of, missing_soa, AreNoted, Found, IsToldOf, Mark};
 
-use crate::firsts::Firsts;
-use crate::looks::{Earlier, Look, Reason, group_of, is_apex_soa, reason_of};
+use crate::firsts::first_in_group;
+use crate::looks::{Look, Placed, Reason, is_apex_soa, reason_of};
 use crate::note_text::text_of;
-use crate::reading::{Lines, Place};
+use crate::reading::Lines;
 use domain_base::{ParsedName, ToName};
 use domain_borrowed::BorrowedRecord;
 use std::alloc::{AllocError, Global};
+use std::collections::BTreeMap;
 
 /// What is told of a record, or of all.
 #[derive(Drop)]
@@ -28,23 +29,22 @@ fn note_one(
     alloc: Global,
     look: Look,
     apex: &ParsedName<'_>,
-    first: Option<&Earlier<'_, '_>>,
-    borrowed: &BorrowedRecord<'_>,
-    place: Place,
+    first: Option<Placed<'_, '_>>,
+    placed: Placed<'_, '_>,
     notes: &mut Vec<Note>,
 ) -> Result<(), AllocError>
     ensures { OnOk result ((more : List Mark)
-        × IsToldOf look apex.now (option_map (λ e. e.now.borrowed.now) first.entry) borrowed.now
-        place.number more
+        × IsToldOf look apex.now (option_map (λ p. p.borrowed.now) first.entry)
+        placed.entry.borrowed.now placed.entry.place.number more
         × (map mark_of notes.new.items ≡ map mark_of notes.old.items ++ more)) }
 {
-    let Some(reason) = reason_of(look, apex, first, borrowed) else {
+    let Some(reason) = reason_of(look, apex, first, placed.borrowed) else {
         return Ok(());
     };
-    let text = text_of(alloc, apex, reason, first, borrowed, place)?;
+    let text = text_of(alloc, apex, reason, first, placed)?;
     notes.push(Note {
         reason,
-        place: Some(place.number),
+        place: Some(placed.place.number),
         text,
     })?;
     Ok(())
@@ -62,13 +62,12 @@ fn note_each<'z, 'a>(
         × Found look apex.now lines.now.records.items (map (λ p. p.number) lines.now.places.items)
         more × (map mark_of notes.new.items ≡ map mark_of notes.old.items ++ more)) }
 {
-    let mut firsts = Firsts::new(alloc);
+    let mut firsts = BTreeMap::new(alloc);
     for (i, borrowed) in lines.records.iter().enumerate() {
         let place = lines.places[i];
-        let group = group_of(look, apex, borrowed);
-        let first = firsts.get(&group);
-        note_one(alloc, look, apex, first, borrowed, place, notes)?;
-        firsts.put(group, place.number, borrowed)?;
+        let placed = Placed { borrowed, place };
+        let first = first_in_group(look, apex, &mut firsts, placed)?;
+        note_one(alloc, look, apex, first, placed, notes)?;
     }
     Ok(())
 }

@@ -82,13 +82,6 @@ fn are_texts(octets: &[u8]) -> bool
     left == 0 && !octets.is_empty()
 }
 
-/// Whether the octets are three numbers of two octets and a name.
-fn is_service(octets: &[u8]) -> bool
-    ensures { IsTrue result ↔ IsSuch Shape.Service octets.now }
-{
-    octets.len() > 6 && is_name(&octets[6..])
-}
-
 /// Whether octets have the shape.
 pub fn is_such(shape: Shape, octets: &[u8]) -> bool
     ensures { IsTrue result ↔ IsSuch shape octets.now }
@@ -97,7 +90,7 @@ pub fn is_such(shape: Shape, octets: &[u8]) -> bool
         Shape::OneName => is_name(octets),
         Shape::Texts => are_texts(octets),
         Shape::LongAddress => octets.len() == 16,
-        Shape::Service => is_service(octets),
+        Shape::Service => octets.len() > 6 && is_name(&octets[6..]),
         Shape::Certificate => octets.len() > 3,
         Shape::Issuers => octets.len() > 2,
         Shape::Whatever => true,

@@ -1,16 +1,18 @@
 //! The run of the program, over any reader and any writer.
-ghost use Rattle.std.specs.Prelude.{◌≡◌, List, Option, IfErr, IfOk, IsErrOf};
+ghost use Rattle.std.specs.Prelude.{◌≡◌, ◌⊎◌, ℕ, List, Option, IfErr, IfOk, IsErrOf};
 ghost use Rattle.std.specs.Prelude.{MatchResult, OnOk, IfSome, map, string_bytes};
 ghost use Rattle.std.specs.{Str.Lines.lines, Io.KnownBytes.Appends};
 ghost use Rattle.domain_octets.specs.Words.{Octets};
 ghost use Rattle.domain_names.specs.Words.{Name};
 ghost use Rattle.domain_borrowed.specs.Data.{RawRecord};
-ghost use Rattle.domain_records.specs.declared.error.SigningError.{SigningError};
-ghost use Rattle.denial_program.specs.{Command.Params, Fault.{IsBeforeOutput, IsReadToEnd}};
-ghost use Rattle.denial_program.specs.declared.fault.DenialFault.TheVariants.{OutOfMemory as Memory};
-ghost use Rattle.lint_program.specs.Command.{Asks, IsCommand, IsRunFault};
+ghost use Rattle.domain_alike.specs.Alike.{pair_of};
+ghost use Rattle.domain_hasher.specs.declared.error.Nsec3HashError.TheVariants as hash_error;
+ghost use Rattle.domain_records.specs.{Order.{IsInOrder, IsOneClass}, declared.error.SigningError.SigningError};
+ghost use Rattle.domain_records.specs.declared.error.SigningError.TheVariants as signing_error;
+ghost use Rattle.denial_program.specs.{Answer.Sorts, Command.Params, Fault.{IsBeforeOutput, IsReadToEnd}};
+ghost use Rattle.denial_program.specs.declared.fault.DenialFault.TheVariants.{OutOfMemory as Memory, Signing};
+ghost use Rattle.lint_program.specs.{Alike.{AreTold, IsRefusalBy}, Command.{Asks, IsCommand, IsRunFault}};
 ghost use Rattle.lint_program.specs.{Notes.mark_of, Report.{IsOutcome, IsRefused, IsTold}};
-ghost use Rattle.lint_program.specs.Zones.{IsUsable, IsZone};
 
 use crate::alike::{alike_of, outcome_with};
 use crate::command::{Asked, asked_of};
@@ -18,38 +20,72 @@ use crate::notes::{Note, notes_of};
 use crate::outcome::Outcome;
 use crate::reading::{BadLine, Lines, read_lines};
 use crate::report::write_report;
-use crate::zone::{Zone, are_refused, zone_of};
 use bumpalo::Bump;
-use denial_program::{DenialFault, fault_of};
+use denial_program::{DenialFault, Nsec3Params, fault_of, nsecs_of, sort_zone};
+use domain_alike::Alike;
 use domain_base::ParsedName;
+use domain_borrowed::BorrowedRecord;
 use domain_dnssec::Nsec3Hasher;
 use std::alloc::Global;
 use std::io::{BufRead, Write};
 
-/// What was found but for names that hash alike, where these lines are bad and this is told of the
-/// records of the others.
+/// What was found but for names that hash alike, where these lines are bad, the records of the
+/// others are sorted, and this is told of them.
 fn outcome_of<'a>(
     alloc: Global,
     apex: &ParsedName<'a>,
-    zone: &Zone<'a>,
+    sorted: &[BorrowedRecord<'a>],
     bad: &[BadLine<'_>],
     notes: &[Note],
 ) -> Result<Outcome, DenialFault>
-    requires { IsUsable zone.now }
-    ensures ok { IfOk result (λ outcome. (given : List RawRecord) → IsZone given zone.now
+    requires one_class { IsOneClass sorted.now }
+    requires in_order { IsInOrder (λ n. n) (λ d. d.rtype) sorted.now }
+    ensures ok { IfOk result (λ outcome. (given : List RawRecord) → Sorts given sorted.now
         → IsOutcome (map (λ b. b.number) bad.now) given apex.now (map mark_of notes.now) outcome) }
     ensures err { IfErr result (λ e. e ≡ Memory) }
 {
-    if !bad.is_empty() {
+    if let [_, ..] = bad {
         return Ok(Outcome::Faulty);
     }
-    if are_refused(alloc, apex, zone)? {
-        return Ok(Outcome::Faulty);
+    match nsecs_of(alloc, apex, sorted) {
+        Ok(_answer) => {}
+        Err(DenialFault::Signing(_error)) => return Ok(Outcome::Faulty),
+        Err(_fault) => return Err(DenialFault::OutOfMemory),
     }
-    if !notes.is_empty() {
-        return Ok(Outcome::Warned);
+    match notes {
+        [] => Ok(Outcome::Clean),
+        [_, ..] => Ok(Outcome::Warned),
     }
-    Ok(Outcome::Clean)
+}
+
+/// What was found but for names that hash alike, where these lines are bad, these are the records
+/// of the others, and this is told of them; and the names that hash alike. Records of more than one
+/// class are a fault, and none of their names is told.
+fn judged<'a, H: Nsec3Hasher>(
+    alloc: Global,
+    apex: &ParsedName<'a>,
+    records: Vec<BorrowedRecord<'a>>,
+    bad: &[BadLine<'_>],
+    notes: &[Note],
+    parameters: Option<Nsec3Params>,
+    hasher: &H,
+) -> Result<(Outcome, Vec<Alike<'a>>), DenialFault>
+    ensures outcome { IfOk result (λ told. IsOutcome (map (λ b. b.number) bad.now)
+        records.entry.items apex.now (map mark_of notes.now) told.0) }
+    ensures alike { IfOk result (λ told. AreTold (H.answer hasher.now) records.entry.items apex.now
+        parameters (map pair_of told.1.items)) }
+    ensures err { IfErr result (λ e. (e ≡ Memory) ⊎ ((n : ℕ)
+        × (e ≡ Signing (signing_error.Nsec3HashingError (hash_error.Hasher n)))
+        × IsRefusalBy (H.answer hasher.now) records.entry.items apex.now parameters n)) }
+{
+    let sorted = match sort_zone(records) {
+        Ok(sorted) => sorted,
+        Err(DenialFault::MixedClasses) => return Ok((Outcome::Faulty, Vec::new(alloc))),
+        Err(_fault) => return Err(DenialFault::OutOfMemory),
+    };
+    let outcome = outcome_of(alloc, apex, &sorted, bad, notes)?;
+    let alike = alike_of(alloc, apex, &sorted, parameters, hasher)?;
+    Ok((outcome, alike))
 }
 
 /// Does what the words ask for: reads the records of the zone at the apex, one a line, and writes
@@ -99,9 +135,7 @@ pub fn run_lint<R: BufRead, W: Write, H: Nsec3Hasher>(
     let lines = read_lines(alloc, &arena, input)?;
     let notes = notes_of(alloc, &apex, &lines)?;
     let Lines { bad, records, .. } = lines;
-    let zone = zone_of(records)?;
-    let outcome = outcome_of(alloc, &apex, &zone, &bad, &notes)?;
-    let alike = alike_of(alloc, &apex, &zone, parameters, hasher)?;
+    let (outcome, alike) = judged(alloc, &apex, records, &bad, &notes, parameters, hasher)?;
     match write_report(alloc, &bad, &notes, outcome, &alike, output) {
         Ok(()) => Ok(outcome_with(&alike, outcome)),
         Err(e) => Err(fault_of(&e, DenialFault::Write)),

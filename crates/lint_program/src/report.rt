@@ -1,6 +1,5 @@
 //! What is told of an input, as it is written.
-ghost use Rattle.std.specs.Prelude.{◌≡◌, ◌++◌, All, OnOk, map};
-ghost use Rattle.std.specs.Io.KnownBytes.{Appends};
+ghost use Rattle.std.specs.{Prelude.{◌≡◌, ◌++◌, All, OnOk, map}, Io.KnownBytes.Appends};
 ghost use Rattle.domain_octets.specs.Words.{Octets};
 ghost use Rattle.domain_alike.specs.Alike.{pair_of};
 ghost use Rattle.lint_program.specs.{Alike.alike_text, Notes.mark_of, Outcomes.is_faulty};
@@ -65,8 +64,7 @@ fn write_note<W: Write>(note: &Note, are_refused: bool, output: &mut W) -> io::R
         × Appends (W.contents output.old) (W.contents output.new) text) }
 {
     let kind = kind_of(note.reason.fails() & are_refused);
-    let opening = note.reason.opening();
-    let closing = note.reason.closing();
+    let (opening, closing) = note.reason.frame();
     let told = printed(note.text.as_str());
     match note.place {
         Some(number) => writeln!(output, "{kind}line {number}: {opening}{told}{closing}"),

@@ -1,5 +1,5 @@
-use Rattle.std.proofs.{lemmas.Grind.common_steps, Common.{arith, sym, ◌∙◌}}
-use Rattle.denial_c.proofs.AmongLemmas.{passed, refused, refused_data, taken}
+use Rattle.std.proofs.Common.{sym, ◌∙◌}
+use Rattle.denial_c.proofs.AmongLemmas.{refused, refused_data}
 use Rattle.denial_c.proofs.among.records_among.Goals as goal
 
 pub returns-in_default-clause-err : goal.returns-in_default-clause-err
@@ -9,9 +9,3 @@ pub returns-in_default-read-clause-err : goal.returns-in_default-read-clause-err
 returns-in_default-read-clause-err g c = λ kept are.
     refused_data _ _ _ _ _ _ kept c.records.invariant are _ c.in-Some.borrowed c.in-Some.ensures.some.0 c.in-Some.ensures.some.1
     (sym c.counts.ensures ∙ c.if-counts.true) c.in_default-read.ensures.none
-
-pub records-preserved-in-Ok-1 : goal.records-preserved-in-Ok-1
-records-preserved-in-Ok-1 g c = grind (arith, common_steps, taken)
-
-pub records-preserved : goal.records-preserved
-records-preserved g c = grind (arith, common_steps, passed)

@@ -1,8 +1,7 @@
 use Rattle.std.proofs.{Common.{arith, ap, Err, refl, subst}, lemmas.{Grind.common_steps, Result.err_from_is_err_and}}
 use Rattle.domain_answer.specs.declared.answer.Answer.TheVariants.{OutsideZone, NotProven, TooManyIterations}
 use Rattle.domain_names.specs.Name.{is_at_or_below}
-use Rattle.denial_c.specs.{Judged.{IsExpansionRefused, IsOfExpansion}, Question.as_question}
-use Rattle.denial_c.proofs.{JudgeLemmas.{allowed, expanded}, Nsec3Lemmas.hash_fault}
+use Rattle.denial_c.{specs.{Judged.{IsExpansionRefused, IsOfExpansion}, Question.as_question}, proofs.{JudgeLemmas.{allowed, expanded}, Nsec3Lemmas.hash_fault}}
 use Rattle.denial_c.proofs.judge.expansion_answer.Goals as goal
 
 pub returns-in_err-apex : goal.returns-in_err-apex

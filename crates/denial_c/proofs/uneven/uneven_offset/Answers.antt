@@ -1,6 +1,5 @@
-use Rattle.std.proofs.{lemmas.Grind.common_steps, Common.{◌-◌, ap, arith, length, sym, ◌∙◌}}
-use Rattle.denial_c.specs.Uneven.{is_other}
-use Rattle.denial_c.proofs.{AmongLemmas.{no_end, no_octets, rest_given}, UnevenLemmas.{scanned_all, scanned_found, scanned_other, scanned_same}}
+use Rattle.std.proofs.Common.{◌-◌, ap, arith, length, sym, ◌∙◌}
+use Rattle.denial_c.{specs.Uneven.is_other, proofs.{AmongLemmas.{no_end, no_octets, rest_given}, UnevenLemmas.{scanned_all, scanned_found}}}
 use Rattle.denial_c.proofs.uneven.uneven_offset.Goals as goal
 
 pub unreachable-requires : goal.unreachable-requires
@@ -11,12 +10,6 @@ returns-then-is_other c =
     scanned_found c.records.invariant c.in-Some.record _ c.in-Some.ensures.some.0 c.in-Some.ensures.some.1 _ c.requires.1 _
     (λ i. length c.args.octets.now - c.remaining-in-records.ensures i) (sym c.is_in_set.ensures ∙ c.if-is_in_set.true)
     (ap (λ w. is_other c.records.first w) (sym c.ttl.ensures) ∙ sym c.is_other.ensures ∙ c.if-is_other.true)
-
-pub records-preserved-then-is_in_set : goal.records-preserved-then-is_in_set
-records-preserved-then-is_in_set c = grind (arith, common_steps, scanned_same)
-
-pub records-preserved : goal.records-preserved
-records-preserved c = grind (arith, common_steps, scanned_other)
 
 pub unreachable-requires-2 : goal.unreachable-requires-2
 unreachable-requires-2 c =

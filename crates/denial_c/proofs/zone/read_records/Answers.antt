@@ -1,12 +1,9 @@
-use Rattle.std.proofs.{lemmas.Grind.common_steps, Common.{arith, subst, sym}}
-use Rattle.denial_c.{specs.Given.AreGiven, proofs.AmongLemmas.{all_read, no_end, no_octets, past_more, rest_given}}
+use Rattle.std.proofs.Common.{arith, subst, sym}
+use Rattle.denial_c.{specs.Given.AreGiven, proofs.AmongLemmas.{all_read, no_end, no_octets, rest_given}}
 use Rattle.denial_c.proofs.zone.read_records.Goals as goal
 
 pub unreachable-requires : goal.unreachable-requires
 unreachable-requires c = no_end _ _ _ (rest_given c.requires.1 c.records.invariant) c.in_default.ensures.none
-
-pub records-preserved : goal.records-preserved
-records-preserved c = grind (arith, common_steps, past_more)
 
 pub returns : goal.returns
 returns c =

@@ -1,5 +1,4 @@
-use Rattle.std.proofs.Common.{Ok, ◌≡◌, ◌&&◌, ◌++◌, ap, inl, inr, map, refl, subst, sym, take, arith}
-use Rattle.std.proofs.lemmas.Grind.{common_steps}
+use Rattle.std.proofs.{Common.{Ok, ◌≡◌, ◌&&◌, ◌++◌, ap, inl, inr, map, refl, subst, sym, take, arith}, lemmas.Grind.common_steps}
 use Rattle.domain_octets.proofs.StdLemmas.{if_err_of}
 use Rattle.domain_nsec3.specs.{Ancestors.IsListOf, Config.hash_name, Owners.is_chain_name, View.config_of}
 use Rattle.domain_borrowed.specs.Data.{zone_of_raw}

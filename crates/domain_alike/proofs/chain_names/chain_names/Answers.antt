@@ -1,10 +1,9 @@
-use Rattle.std.proofs.Common.{arith}
+use Rattle.std.proofs.{Common.arith, lemmas.Grind.common_steps}
 use Rattle.domain_borrowed.specs.Data.{zone_of_raw}
 use Rattle.domain_nsec3.proofs.ListLemmas.{sorted}
 use Rattle.domain_zone.proofs.{GroupLemmas.owners_in_order, OwnerLemmas.{ascending_filter, owners_are, owners_ascend}, ZoneLemmas.all_filter}
 use Rattle.domain_alike.proofs.GatherLemmas.{exists_is}
 use Rattle.domain_alike.proofs.chain_names.chain_names.Goals as goal
-use Rattle.std.proofs.lemmas.Grind.{common_steps}
 
 pub names_over-requires-clause-ascend : goal.names_over-requires-clause-ascend
 names_over-requires-clause-ascend c = grind (arith, common_steps, sorted, ascending_filter, owners_ascend, owners_in_order)

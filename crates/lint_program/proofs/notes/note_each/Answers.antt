@@ -1,11 +1,10 @@
-use Rattle.std.proofs.Common.{◌≡◌, ◌∙◌, ◌+◌, ◌<◌, ◌∷◌, ◌++◌, [], ap, append-nil, append_assoc, arith, get_or, length, map, subst, sym, take}
+use Rattle.std.proofs.Common.{◌≡◌, ◌∙◌, ◌+◌, ◌<◌, ◌∷◌, ◌++◌, [], ap, append-nil, append_assoc, arith, get_or, length, map, sym, take}
 use Rattle.std.proofs.lemmas.{Grind.common_steps, List.take_more}
-use Rattle.lint_program.specs.{Firsts.AreFirsts, Notes.{earlier, first_in, mark_of, IsToldOf, Found.nothing}, declared.reading.Place.Place}
-use Rattle.lint_program.proofs.NoteLemmas.{found_more}
+use Rattle.lint_program.{specs.Notes.{earlier, mark_of, IsToldOf, Found.nothing}, proofs.NoteLemmas.found_more}
 use Rattle.lint_program.proofs.notes.note_each.Goals as goal
 
 pub loop-i-init : goal.loop-i-init
-loop-i-init c = (c.new-firsts.ensures c.args.look c.args.apex.now, ([], nothing c.args.look c.args.apex.now, sym (append-nil _)))
+loop-i-init c = (λ g. grind (arith, common_steps), ([], nothing c.args.look c.args.apex.now, sym (append-nil _)))
 
 pub loop-i-preserved : goal.loop-i-preserved
 loop-i-preserved c =
@@ -22,13 +21,12 @@ loop-i-preserved c =
     let within : i < length places = omega (arith, here, c.args.lines.now.paired) in
     let d_is : d ≡ get_or places i d = grind (arith, common_steps, c.index-place.ensures) in
     let more_records : take (i + 1) records ≡ before ++ r ∷ [] = take_more records i r here ∙ ap (λ x. before ++ x ∷ []) (sym r_is) in
-    let firsts = c.in_ok-put.ensures l a before c.group_of-group.ensures c.loop-i.invariant.0 in
-    let first_is = c.get-first.ensures l a before c.loop-i.invariant.0 ∙ ap (first_in l a before) c.group_of-group.ensures in
+    let known = c.in_ok-first.ensures before c.loop-i.invariant.0 in
     let last = c.in_ok-note_one.ensures in
     let so_far = c.loop-i.invariant.1 in
     let told : IsToldOf l a (earlier l a before r) r (get_or places i d).number last.0 =
-    subst (λ (p : Place). IsToldOf l a (earlier l a before r) r p.number last.0) d_is (subst (λ f. IsToldOf l a f r d.number last.0) first_is last.1) in (
-      subst (λ rs. AreFirsts l a rs c.put.new.self) (sym more_records) firsts,
+    rw (← d_is, ← known.0) last.1 in (
+      rw more_records known.1,
       (
         so_far.0 ++ last.0,
         found_more l a records _ i r d _ _ here r_is within so_far.1 told,

@@ -1,6 +1,6 @@
-use Rattle.std.proofs.Common.{◌≡◌, take}
+use Rattle.std.proofs.Common.{◌≡◌, drop}
 use Rattle.lint_program.specs.Odd.{to_come}
 use Rattle.lint_program.proofs.odd.are_texts.Given as goal
 
 abbrev pub invariant-loop-octet : goal.invariant-loop-octet
-invariant-loop-octet l = l.left ≡ to_come (take l.octet-index l.octets)
+invariant-loop-octet l = to_come l.left (drop l.octet-index l.octets) ≡ to_come 0 l.octets

@@ -1,6 +1,5 @@
-use Rattle.std.{proofs.Common.codes, specs.Fmt.decimal}
+use Rattle.std.proofs.{Common.arith, lemmas.Grind.common_steps}
 use Rattle.denial_program.proofs.AnswerLemmas.{on_ok}
-use Rattle.lint_program.proofs.ReportLemmas.{fault_parts}
 use Rattle.lint_program.proofs.report.write_bad.Goals as goal
 
 pub returns : goal.returns
@@ -11,8 +10,7 @@ returns g c =
         word = c.in_ok-word.word;
         told = c.printed-told.result.now;
         printed = c.printed-told.ensures;
-        is = fault_parts (codes "line ") (decimal c.args.bad.now.number) (codes ", word ") (decimal c.in_ok-word.word) (codes ": ")
-            c.printed-told.result.now (codes "\n");
+        is = grind (arith, common_steps);
       },
       h,
     )) c.writeln.result c.writeln.ensures.bytes
