@@ -4,18 +4,15 @@ use Rattle.std.specs.Result.{IsErrAnd}
 use Rattle.domain_octets.proofs.StdLemmas.{if_err_of}
 use Rattle.domain_names.specs.Words.{Name}
 use Rattle.domain_nsec.specs.Chain.{Link, usual_config, IsChain, IsFirstFault}
-use Rattle.domain_nsec3.specs.{Chain.{ChainRecords, IsChainParam, IsHashedChain}, View.HasherAnswer}
+use Rattle.domain_nsec3.specs.{Chain.{ChainRecords, IsChainParam, IsHashedChain}, View.HasherAnswer, declared.config.Nsec3ParamTtlMode.TheVariants.Soa}
 use Rattle.domain_nsec3.specs.Faults as hashed
-use Rattle.domain_nsec3.specs.declared.config.Nsec3ParamTtlMode.TheVariants.{Soa}
-use Rattle.domain_records.specs.{Order.IsOneClass, declared.error.SigningError.SigningError}
-use Rattle.domain_records.specs.declared.error.SigningError.TheVariants.{OutOfMemory as NoRoom}
+use Rattle.domain_records.specs.{Order.IsOneClass, declared.error.SigningError.{SigningError, TheVariants.OutOfMemory as NoRoom}}
 use Rattle.domain_borrowed.specs.Data.{RawRecord, data_cmp, minimum_of, zone_of_raw}
 use Rattle.domain_dnssec.{specs.AnyOrder.AreMixed, proofs.KeptLemmas.classes_kept}
 use Rattle.domain_dnssec.specs.declared.chain.ChainError.{ChainError, TheVariants.{MixedClasses, OutOfMemory}}
-use Rattle.denial_program.specs.Answer.{fault_of_zone, usual_nsec3_config, HasNoAnswer, HasNone, HasNoNsecs, HasNoNsec3s, IsAnswer, IsNsecs}
-use Rattle.denial_program.specs.{Answer.{IsNsec3s, IsUnsorted, IsUnwritten, Sorts}, Command.Params}
-use Rattle.denial_program.specs.declared.{answer.Reply.{Reply, TheVariants.{Nsecs, Nsec3s}}, command.Command.Command, fault.DenialFault.DenialFault}
-use Rattle.denial_program.specs.declared.fault.DenialFault.TheVariants.{Write, OutOfMemory as NoMemory}
+use Rattle.denial_program.specs.Answer.{fault_of_zone, usual_nsec3_config, HasNoAnswer, HasNone, HasNoNsecs, HasNoNsec3s, IsAnswer, IsNsecs, IsNsec3s}
+use Rattle.denial_program.specs.{Answer.{IsUnsorted, IsUnwritten, Sorts}, Command.Params, declared.answer.Reply.{Reply, TheVariants.{Nsecs, Nsec3s}}}
+use Rattle.denial_program.specs.declared.{command.Command.Command, fault.DenialFault.{DenialFault, TheVariants.{Write, OutOfMemory as NoMemory}}}
 
 -- where writing failed there was an answer
 pub answer_unwritten : {X : Type 0} (answers : HasherAnswer) (command : Command) (given : List RawRecord) (r : Result X DenialFault)

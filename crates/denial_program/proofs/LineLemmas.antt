@@ -1,8 +1,7 @@
 -- The record that tokens spell, part after part, and tokens that spell none.
 use Rattle.std.proofs.{Common.{arith, ◌≡◌, ◌≢◌, ℕ, [], refl, sym, subst, None, Result, IfErr}, lemmas.{Grind.common_steps, Result.err_from_is_err_and}}
 use Rattle.std.specs.Result.{IsErrAnd}
-use Rattle.domain_names.specs.{Words.{Name, Token, Tokens}, declared.error.ScanError.ScanError}
-use Rattle.domain_names.specs.TextFault.{ScanFault, IsOfTokens, scan_fault_of}
+use Rattle.domain_names.specs.{Words.{Name, Token, Tokens}, declared.error.ScanError.ScanError, TextFault.{ScanFault, IsOfTokens, scan_fault_of}}
 use Rattle.domain_base.specs.{Scan.{TakesToken, RefusesToken, IsNumber, IsNoNumber}, Numbers.{ClassText, IsNoClass, TypeText, IsNoType, type_names}}
 use Rattle.domain_base.proofs.NamedLemmas.{one_named}
 use Rattle.domain_message.specs.Entry.{OwnerTaken, TtlTaken, ClassTaken, TypeTaken}

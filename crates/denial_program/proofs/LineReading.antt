@@ -1,8 +1,7 @@
 -- A line that was found in what the reader holds, and one that the reader found.
-use Rattle.std.proofs.lemmas.Grind.{common_steps}
-use Rattle.std.proofs.Common.{◌≡◌, ◌≢◌, ℕ, ◌+◌, ◌-◌, ◌<◌, List, [], length, take, get_or, sym, ap, ◌∙◌, subst, arith, IfSome, Option, length-take-le}
-use Rattle.std.proofs.{KnownBytes.Consumes-nil, BufReadLemmas.Consumes_through, lemmas.List.{get_or-take, Elements.{All-nil, All-from_get_or}}}
-use Rattle.std.specs.Io.{BufRead.{take_through, DropsThrough}, KnownBytes.Consumes}
+use Rattle.std.proofs.{lemmas.Grind.common_steps, Common.{◌≡◌, ◌≢◌, ℕ, ◌+◌, ◌-◌, ◌<◌, List, [], length, take, get_or, sym, ap, ◌∙◌, subst, arith, IfSome}}
+use Rattle.std.proofs.{Common.{Option, length-take-le}, KnownBytes.Consumes-nil, BufReadLemmas.Consumes_through, lemmas.List.{get_or-take, Elements.All-nil}}
+use Rattle.std.{proofs.lemmas.List.Elements.All-from_get_or, specs.Io.{BufRead.{take_through, DropsThrough}, KnownBytes.Consumes}}
 
 -- what is known of octets follows from what else is known of them
 pub known_so : (P Q : List ℕ → Type 0) (known : Option (List ℕ)) → ((xs : List ℕ) → P xs → Q xs) → IfSome known P → IfSome known Q

@@ -1,17 +1,14 @@
 -- What data that lines spell have in common with those of links, and with the octets that are kept of them.
-use Rattle.std.proofs.Common.{◌≡◌, ℕ, ◌*◌, ◌+◌, ◌/◌, ◌%◌, ◌<◌, ◌^◌, List, [], ◌∷◌, length, map, Option, Some, None, unwrap_or, refl, sym, ap, ◌∙◌}
-use Rattle.std.proofs.Common.{subst, inl, inr, arith}
-use Rattle.std.proofs.lemmas.{Bool.Decides.nat_tests, Grind.common_steps, List.Elements.{All-from_get_or, All-from_recursion}}
+use Rattle.std.proofs.Common.{◌≡◌, ℕ, ◌*◌, ◌+◌, ◌/◌, ◌%◌, ◌<◌, ◌^◌, List, [], ◌∷◌, length, map, Option, Some, None, unwrap_or, refl, sym, ap, ◌∙◌, subst, inl}
+use Rattle.std.proofs.{Common.{inr, arith}, lemmas.{Bool.Decides.nat_tests, Grind.common_steps, List.Elements.{All-from_get_or, All-from_recursion}}}
 use Rattle.std.specs.List.{AllByRecursion}
 use Rattle.hex.proofs.HexLemmas.{decode_of-ok}
 use Rattle.domain_octets.specs.Words.{AreOctets, Octets}
 use Rattle.domain_names.specs.{Name.IsName, Text.{NameText, root, of_labels}, Words.{Name, Tokens}}
 use Rattle.domain_base.specs.Scan.{IsNumber}
 use Rattle.domain_base.specs.Types as rtypes
-use Rattle.domain_codecs.specs.Codec.{base32_digits, base32_octets, base32_value}
-use Rattle.domain_codecs.proofs.{CodecLemmas.widens, Scale.{IsScale, no_bits}}
-use Rattle.domain_bitmap.specs.{Blocks.IsBitmap, HashText.{OwnerHashText, SaltText, dash, digits}, Scan.is_among}
-use Rattle.domain_bitmap.proofs.BitmapLemmas.{IsBitmap-bitmap_octets}
+use Rattle.domain_codecs.{specs.Codec.{base32_digits, base32_octets, base32_value}, proofs.{CodecLemmas.widens, Scale.{IsScale, no_bits}}}
+use Rattle.domain_bitmap.{specs.{Blocks.IsBitmap, HashText.{OwnerHashText, SaltText, dash, digits}, Scan.is_among}, proofs.BitmapLemmas.IsBitmap-bitmap_octets}
 use Rattle.domain_fields.specs.Layout.{Fits, Values}
 use Rattle.domain_chain_rdata.specs.{Nsec3paramText.Nsec3paramText, Rdata.{hash_fields, nsec3param, nsec3_values, nsec3param_values}}
 use Rattle.domain_rdata.specs.{Kind.{Kind, next_by_name, next_by_hash, params, plain}, Scan.{RdataText, own, generic}, Zone.{kind_of, rtype_of}}

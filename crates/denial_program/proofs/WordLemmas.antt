@@ -1,11 +1,9 @@
 -- Words none of whose octets is past `~`, and lines that are bad.
-use Rattle.std.proofs.Common.{◌≡◌, ◌↔◌, Bor, map, Bool, true, false, IsTrue, ℕ, ◌<◌, ◌≤◌, List, [], ◌∷◌, ◌++◌, take, drop, length, get_or, ap, sym, ◌∙◌}
-use Rattle.std.proofs.{Common.{subst, arith, append-nil, refl}, lemmas.Bool.Decides.nat_tests}
-use Rattle.std.proofs.lemmas.{Grind.common_steps, List.{take-append-drop, drop_more, drop_all, get_or-drop}}
-use Rattle.std.proofs.lemmas.List.Elements.{All-nil, All-cons, All-get_or, All-append, All-drop, All-weaker}
-use Rattle.std.proofs.lemmas.List.{Elements.filter-append, Splits.{slice_split_at, slice_split_none}}
-use Rattle.std.proofs.lemmas.Str.{IsUtf8-from_ascii}
-use Rattle.std.specs.{Prelude.nat_lt, List.{All, AllPass, slice_split}, Str.IsUtf8}
+use Rattle.std.proofs.Common.{◌≡◌, ◌↔◌, Bor, map, Bool, true, false, IsTrue, ℕ, ◌<◌, ◌≤◌, List, [], ◌∷◌, ◌++◌, take, drop, length, get_or, ap, sym, ◌∙◌, subst}
+use Rattle.std.proofs.{Common.{arith, append-nil, refl}, lemmas.{Bool.Decides.nat_tests, Grind.common_steps, List.{take-append-drop, drop_more, drop_all}}}
+use Rattle.std.proofs.lemmas.List.{get_or-drop, Elements.{All-nil, All-cons, All-get_or, All-append, All-drop, All-weaker, filter-append}}
+use Rattle.std.{proofs.lemmas.{List.Splits.{slice_split_at, slice_split_none}, Str.IsUtf8-from_ascii}, specs.{Prelude.nat_lt, List.{All, AllPass, slice_split}}}
+use Rattle.std.specs.Str.{IsUtf8}
 use Rattle.denial_program.specs.{Listing.IsBad, Said.SpellsNone, Spelled.LineText, Words.{without_empty, words, is_blank, IsSkipped, is_of_word, IsPlain}}
 use Rattle.denial_program.specs.declared.line.LineError.{LineError, TheVariants.Bad}
 

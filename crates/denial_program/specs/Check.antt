@@ -8,12 +8,11 @@ use Rattle.domain_nsec.specs.Chain.{Link}
 use Rattle.domain_nsec3.specs.{Chain.{HashedLink, ParamRecord}, View.HasherAnswer}
 use Rattle.domain_checker.specs.{HashedView.{links_with, HashedRecords}, Verdict.{HasProof, IsProved}, Reading.reading}
 use Rattle.domain_checker.specs.{HashedVerdict.{HasHashedProof, IsFirstRefusal, IsHashedProved}, HashedReading.IsWalked, declared.verdict.Verdict.Verdict}
-use Rattle.domain_borrowed.specs.{Data.RawRecord, Links.{nsec_record, nsec3_record, param_record, IsNsec, IsNsec3, IsParam}}
 use Rattle.domain_checker.specs.declared.verdict.Verdict.TheVariants as verdicts
-use Rattle.denial_program.specs.declared.answer.Reply.{Reply}
+use Rattle.domain_borrowed.specs.{Data.RawRecord, Links.{nsec_record, nsec3_record, param_record, IsNsec, IsNsec3, IsParam}}
+use Rattle.denial_program.specs.declared.{answer.Reply.Reply, command.Question.Question, fault.DenialFault.{DenialFault, TheVariants.{Signing, Param}}}
+use Rattle.denial_program.specs.declared.fault.DenialFault.TheVariants.{OutOfMemory}
 use Rattle.denial_program.specs.declared.answer.Reply.TheVariants as answers
-use Rattle.denial_program.specs.declared.{command.Question.Question, fault.DenialFault.DenialFault}
-use Rattle.denial_program.specs.declared.fault.DenialFault.TheVariants.{Signing, Param, OutOfMemory}
 
 -- what records give, in their order: one thing each that is such, and none those that are not
 abbrev pub AreAmong : {K : Type 0} → (RawRecord → K → Type 0) → List RawRecord → List K → Type 0

@@ -2,9 +2,8 @@
 use Rattle.std.specs.Prelude.{◌≡◌, ℕ, [], Option, Some, IfSome}
 use Rattle.domain_octets.specs.Words.{Octets}
 use Rattle.domain_names.specs.Words.{Tokens}
-use Rattle.denial_program.specs.{Command.{IsCommand, IsNoCommand}, declared.fault.DenialFault.DenialFault}
-use Rattle.denial_program.specs.declared.fault.DenialFault.TheVariants.{Usage, Read, Line, Unprepared, MixedClasses, Signing, Param, Write, OutOfMemory}
-use Rattle.denial_program.specs.declared.prepare.PrepareError.{PrepareError}
+use Rattle.denial_program.specs.{Command.{IsCommand, IsNoCommand}, declared.fault.DenialFault.{DenialFault, TheVariants.{Usage, Read, Line, Unprepared}}}
+use Rattle.denial_program.specs.declared.{fault.DenialFault.TheVariants.{MixedClasses, Signing, Param, Write, OutOfMemory}, prepare.PrepareError.PrepareError}
 
 -- the one value of its type
 abbrev pub prepare_error : PrepareError

@@ -1,9 +1,8 @@
 -- What was read of a line.
 use Rattle.domain_octets.specs.Words.{Octets}
 use Rattle.domain_base.specs.Scan.{TakesToken}
-use Rattle.domain_names.specs.{Text.NameText, declared.error.ScanError.ScanError}
+use Rattle.domain_names.specs.{Text.NameText, declared.error.ScanError.ScanError, Words.{Name, Tokens}}
 use Rattle.domain_names.specs.declared.error.ScanError.TheVariants as scan_error
-use Rattle.domain_names.specs.Words.{Name, Tokens}
 use Rattle.domain_borrowed.specs.Data.{RawRecord}
 use Rattle.denial_program.specs.{Listing.{IsLineRecord, IsBad}, Spelled.LineText, Words.{words, IsSkipped}, declared.line.Line.Line}
 use Rattle.denial_program.specs.declared.line.{Line.TheVariants.{Nothing, Record, Bad}, LineError.LineError}

@@ -1,7 +1,6 @@
 -- Octets begin with one record at most.
-use Rattle.std.proofs.lemmas.Grind.{common_steps}
-use Rattle.std.proofs.Common.{◌≡◌, ℕ, ◌<◌, ◌+◌, List, [], ◌∷◌, ◌++◌, length, take, drop, refl, sym, ap, ◌∙◌, arith, append_assoc, length-append}
-use Rattle.std.proofs.lemmas.List.{take_at, drop_at}
+use Rattle.std.proofs.{lemmas.Grind.common_steps, Common.{◌≡◌, ℕ, ◌<◌, ◌+◌, List, [], ◌∷◌, ◌++◌, length, take, drop, refl, sym, ap, ◌∙◌, arith, append_assoc}}
+use Rattle.std.proofs.{Common.length-append, lemmas.List.{take_at, drop_at}}
 use Rattle.domain_names.specs.{Fault.Fault, Name.wire_of}
 use Rattle.domain_fields.{specs.Layout.{Values, octets_of, Begins, FirstFault}, proofs.{ExactLemmas.fault_excludes, OrderLemmas.{same_data, Same}}}
 use Rattle.domain_borrowed.specs.{Data.RawRecord, Wire.{header, header_of, record_octets, IsOneRecord, IsRecord}}

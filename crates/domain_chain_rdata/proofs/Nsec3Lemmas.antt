@@ -4,8 +4,7 @@ use Rattle.std.specs.{Prelude.{bytes_eq, IsTrue, codes}, Fmt.decimal, Cmp.Lexico
 use Rattle.domain_octets.specs.Piece.{PieceText, token, comment}
 use Rattle.domain_bitmap.specs.{Blocks.IsBitmap, Text.{types_text, spaced_types}}
 use Rattle.domain_fields.{specs.Layout.{Layout, Values, octets_of, Fits, Ends, ParsesBack, splits}, proofs.ExactLemmas.{parses_back, same_values}}
-use Rattle.domain_chain_rdata.specs.{Rdata.{nsec3param, hash_fields, nsec3}, Nsec3paramText.number_pieces}
-use Rattle.domain_chain_rdata.specs.Nsec3Wire.{Nsec3ParsesBack}
+use Rattle.domain_chain_rdata.specs.{Rdata.{nsec3param, hash_fields, nsec3}, Nsec3paramText.number_pieces, Nsec3Wire.Nsec3ParsesBack}
 use Rattle.domain_chain_rdata.proofs.NsecLemmas.{with_types_back}
 
 -- equal octets are those of the same values

@@ -3,8 +3,7 @@ use Rattle.std.proofs.{Common.{arith, ◌≡◌, ℕ, true, List, [], ◌++◌, 
 use Rattle.domain_names.specs.Fault.{Fault}
 use Rattle.domain_octets.specs.{Place.{Place, Takes}, Words.AreOctets}
 use Rattle.domain_bitmap.{specs.{Blocks.IsBitmap, Fault.BitmapFault}, proofs.FaultLemmas.no_bitmap_fault}
-use Rattle.domain_fields.specs.Field.{spelled_name, rest}
-use Rattle.domain_fields.specs.Layout.{Layout, Values, one, ◌▸◌, Fits, Ends, Begins, in_first, octets_of, is_delimited}
+use Rattle.domain_fields.specs.{Field.{spelled_name, rest}, Layout.{Layout, Values, one, ◌▸◌, Fits, Ends, Begins, in_first, octets_of, is_delimited}}
 use Rattle.domain_fields.proofs.{ExactLemmas.{begins_alone, one_reading, fault_excludes}, OrderLemmas.same_data}
 use Rattle.domain_chain_rdata.specs.{Rdata.nsec, NsecWire.{BeginsWithTypes, FaultWithTypes, in_fields, in_types, ParsesBackWithTypes, NsecParsesBack}}
 

@@ -8,9 +8,8 @@ use Rattle.domain_base.{specs.Numbers.type_text, proofs.ReadBackLemmas.{dotted_n
 use Rattle.domain_bitmap.specs.{Bitmap.bitmap_octets, Blocks.{IsBitmap, IsShortest, types_of}, HashText.salt_text, Scan.is_among, Text.types_text}
 use Rattle.domain_bitmap.proofs.ReadBackLemmas.{are_types, texts_spell, types_after, spaced_words, bitmap_back, salt_back, salt_word}
 use Rattle.domain_fields.{specs.Layout.{Values, Fits}, proofs.ReadBackLemmas.fields_back}
-use Rattle.domain_chain_rdata.specs.Nsec3Text.{HashText, Nsec3Text, nsec3_text}
-use Rattle.domain_chain_rdata.specs.{Nsec3paramText.{Nsec3paramText, hash_numbers_text, nsec3param_text}, NsecText.{BitmapText, NsecText}}
-use Rattle.domain_chain_rdata.specs.Rdata.{hash_numbers, nsec3param, hash_fields, nsec3}
+use Rattle.domain_chain_rdata.specs.{Nsec3Text.{HashText, Nsec3Text, nsec3_text}, Nsec3paramText.{Nsec3paramText, hash_numbers_text, nsec3param_text}}
+use Rattle.domain_chain_rdata.specs.{NsecText.{BitmapText, NsecText}, Rdata.{hash_numbers, nsec3param, hash_fields, nsec3}}
 
 -- the bitmap of the types of a bitmap
 abbrev pub rebuilt : List ℕ → List ℕ

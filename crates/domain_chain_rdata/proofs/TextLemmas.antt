@@ -5,15 +5,12 @@ use Rattle.domain_codecs.specs.declared.codec.Codec.TheVariants.{Base32Hex}
 use Rattle.domain_names.{specs.{TextFault.{ScanFault, IsOfTokens, NameTextFault}, Text.NameText}, proofs.SpellingLemmas.one_name}
 use Rattle.domain_base.{specs.Scan.RefusesToken, proofs.RefusalLemmas.{name_excludes, name_one_fault}}
 use Rattle.domain_bitmap.specs.{HashScan.{CountedFault, SaltTokenFault}, HashText.{SaltText, OwnerHashText}, Scan.RefusesTypes}
-use Rattle.domain_bitmap.proofs.ReadBackLemmas.{spelled_once}
-use Rattle.domain_bitmap.proofs.RefusalLemmas.{types_refused, types_one_fault, salt_once, salt_excludes, salt_one_fault, hash_once, hash_excludes}
-use Rattle.domain_bitmap.proofs.RefusalLemmas.{counted_one_fault}
-use Rattle.domain_fields.specs.{Layout.Values, Scan.Scans, Sequence.{OneToken, Both}}
-use Rattle.domain_fields.proofs.GrammarLemmas.{ReadsOnce, Excludes, OneFault, fields_once, one_token, token_refused, token_once_refused}
-use Rattle.domain_fields.proofs.GrammarLemmas.{both_once, both_refused, both_one_fault}
-use Rattle.domain_chain_rdata.specs.{NsecText.{BitmapText, NsecText, RefusesNsec}, Rdata.hash_numbers}
-use Rattle.domain_chain_rdata.specs.Nsec3paramText.{Nsec3paramText, RefusesNsec3param, hash_numbers_text}
-use Rattle.domain_chain_rdata.specs.Nsec3Text.{HashText, RefusesHash, Nsec3Text, RefusesNsec3, params_before_hash}
+use Rattle.domain_bitmap.proofs.{ReadBackLemmas.spelled_once, RefusalLemmas.{types_refused, types_one_fault, salt_once, salt_excludes, salt_one_fault}}
+use Rattle.domain_bitmap.proofs.RefusalLemmas.{hash_once, hash_excludes, counted_one_fault}
+use Rattle.domain_fields.{specs.{Layout.Values, Scan.Scans, Sequence.{OneToken, Both}}, proofs.GrammarLemmas.{ReadsOnce, Excludes, OneFault, fields_once}}
+use Rattle.domain_fields.proofs.GrammarLemmas.{one_token, token_refused, token_once_refused, both_once, both_refused, both_one_fault}
+use Rattle.domain_chain_rdata.specs.{NsecText.{BitmapText, NsecText, RefusesNsec}, Rdata.hash_numbers, Nsec3paramText.{Nsec3paramText, RefusesNsec3param}}
+use Rattle.domain_chain_rdata.specs.{Nsec3paramText.hash_numbers_text, Nsec3Text.{HashText, RefusesHash, Nsec3Text, RefusesNsec3, params_before_hash}}
 
 -- a bitmap at last
 bitmap_once : ReadsOnce BitmapText

@@ -3,8 +3,7 @@ use Rattle.std.specs.Prelude.{◌≡◌, []}
 use Rattle.domain_octets.specs.Words.{Octets}
 use Rattle.domain_names.specs.Fault.{Fault}
 use Rattle.domain_bitmap.specs.{Blocks.IsBitmap, Fault.BitmapFault}
-use Rattle.domain_fields.specs.Field.{spelled_name, rest}
-use Rattle.domain_fields.specs.Layout.{Layout, Values, one, ◌▸◌, octets_of, Begins, FirstFault}
+use Rattle.domain_fields.specs.{Field.{spelled_name, rest}, Layout.{Layout, Values, one, ◌▸◌, octets_of, Begins, FirstFault}}
 use Rattle.domain_chain_rdata.specs.Rdata.{nsec}
 
 -- the octets are these fields, and then a type bitmap to the end

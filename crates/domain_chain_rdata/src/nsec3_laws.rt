@@ -2,16 +2,14 @@
 //! A caller calls the law in its body.
 ghost use Rattle.std.specs.Prelude.{◌≡◌, ◌≢◌, ℕ, [], Option};
 ghost use Rattle.domain_octets.specs.Line.{words_of};
-ghost use Rattle.domain_bitmap.specs.Bitmap.{bitmap_octets};
-ghost use Rattle.domain_bitmap.specs.Blocks.{IsShortest, types_of};
+ghost use Rattle.domain_bitmap.specs.{Bitmap.bitmap_octets, Blocks.{IsShortest, types_of}};
 ghost use Rattle.domain_bitmap.specs.Scan.{is_among};
 ghost use Rattle.domain_fields.specs.Layout.{ParsesBack, Values};
 ghost use Rattle.domain_chain_rdata.specs.Nsec3paramText.{Nsec3paramText, RefusesNsec3param, nsec3param_text};
 ghost use Rattle.domain_chain_rdata.specs.Nsec3Text.{HashText, Nsec3Text, RefusesNsec3, nsec3_text};
 ghost use Rattle.domain_chain_rdata.specs.Nsec3Wire.{Nsec3ParsesBack};
 ghost use Rattle.domain_chain_rdata.specs.Rdata.{hash_fields, nsec3, nsec3_values, nsec3param, nsec3param_values};
-ghost use Rattle.domain_names.specs.TextFault.{ScanFault, IsOfTokens};
-ghost use Rattle.domain_names.specs.Words.{Tokens};
+ghost use Rattle.domain_names.specs.{TextFault.{ScanFault, IsOfTokens}, Words.Tokens};
 
 use crate::{Nsec3, Nsec3param};
 use domain_octets::Octets;

@@ -1,12 +1,11 @@
 //! NSEC3 data as text (RFC 5155, section 3.3).
 ghost use Rattle.std.specs.Prelude.{◌≡◌, Some, IfOk, IfErr, IfSome};
 ghost use Rattle.domain_names.specs.TextFault.{scan_fault_of};
-ghost use Rattle.domain_bitmap.specs.Blocks.{types_of};
-ghost use Rattle.domain_bitmap.specs.Text.{spaced_types};
+ghost use Rattle.domain_bitmap.specs.{Blocks.types_of, Text.spaced_types};
 ghost use Rattle.domain_chain_rdata.specs.OptOut.{opt_out_comment};
-ghost use Rattle.domain_fields.specs.Layout.{Fits};
 ghost use Rattle.domain_chain_rdata.specs.Rdata.{nsec3, nsec3_values};
 ghost use Rattle.domain_chain_rdata.specs.Nsec3Text.{Nsec3Text, RefusesNsec3, params_before_hash, nsec3_text, nsec3_pieces};
+ghost use Rattle.domain_fields.specs.Layout.{Fits};
 
 use crate::nsec3param::HashNumbers;
 use crate::nsec3param_text::write_numbers;

@@ -7,9 +7,8 @@ ghost use Rattle.std.specs.Hash as fed;
 ghost use Rattle.domain_octets.specs.Limit.{IsOver};
 ghost use Rattle.domain_names.specs.Fault.{fault_of};
 ghost use Rattle.domain_base.specs.Types as rtypes;
-ghost use Rattle.domain_fields.specs.Layout.{Begins, Fits, FirstFault, GoesOn};
-ghost use Rattle.domain_fields.specs.Laws.{fed_alike, tied_octets};
-ghost use Rattle.domain_fields.specs.DataClone.{copies_tied};
+ghost use Rattle.domain_fields.specs.{Layout.{Begins, Fits, FirstFault, GoesOn}, Laws.fed_alike};
+ghost use Rattle.domain_fields.specs.{Laws.tied_octets, DataClone.copies_tied};
 ghost use Rattle.domain_chain_rdata.specs.OptOut.{is_opt_out, with_opt_out};
 ghost use Rattle.domain_chain_rdata.specs.Rdata.{nsec3param, nsec3param_values, nsec3param_octets, uncounted, uncounted_octets};
 

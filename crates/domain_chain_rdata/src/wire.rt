@@ -3,9 +3,8 @@ ghost use Rattle.std.specs.Prelude.{◌≡◌, IfOk, IfErr, OnErr};
 ghost use Rattle.domain_names.specs.Fault.{fault_of};
 ghost use Rattle.domain_base.specs.Types as rtypes;
 ghost use Rattle.domain_fields.specs.Layout.{GoesOn};
-ghost use Rattle.domain_chain_rdata.specs.NsecWire.{BeginsNsec, NsecFault};
-ghost use Rattle.domain_chain_rdata.specs.Nsec3Wire.{BeginsNsec3, Nsec3Fault};
-ghost use Rattle.domain_chain_rdata.specs.Rdata.{nsec_values, nsec3_values};
+ghost use Rattle.domain_chain_rdata.specs.{NsecWire.{BeginsNsec, NsecFault}, Nsec3Wire.BeginsNsec3};
+ghost use Rattle.domain_chain_rdata.specs.{Nsec3Wire.Nsec3Fault, Rdata.{nsec_values, nsec3_values}};
 
 use crate::nsec3::HashFields;
 use crate::nsec3param::params_of;

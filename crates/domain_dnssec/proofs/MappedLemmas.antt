@@ -1,9 +1,7 @@
 -- The sorted set of what records are mapped to is that of the records, mapped.
-use Rattle.std.proofs.Common.{◌≡◌, true, List, [], ◌∷◌, map, Option, Some, None, refl, sym, ap, ◌∙◌, subst, inl, inr, arith}
-use Rattle.std.proofs.lemmas.{Grind.common_steps, List.Elements.All-from_recursion}
-use Rattle.std.specs.{Prelude.{Any, Contains, find}, Option.option_map, Cmp.{IsTotalOrder, Equal-is}}
-use Rattle.std.specs.List.Sorted.{IsStrictlySortedBy}
-use Rattle.std.specs.{Ordering.{is_eq, ordering_reverse}, declared.cmp.Ordering.{Ordering, TheVariants.{Less, Equal, Greater}}}
+use Rattle.std.proofs.{Common.{◌≡◌, true, List, [], ◌∷◌, map, Option, Some, None, refl, sym, ap, ◌∙◌, subst, inl, inr, arith}, lemmas.Grind.common_steps}
+use Rattle.std.{proofs.lemmas.List.Elements.All-from_recursion, specs.{Prelude.{Any, Contains, find}, Option.option_map, Cmp.{IsTotalOrder, Equal-is}}}
+use Rattle.std.specs.{List.Sorted.IsStrictlySortedBy, Ordering.{is_eq, ordering_reverse}, declared.cmp.Ordering.{Ordering, TheVariants.{Less, Equal, Greater}}}
 use Rattle.domain_records.specs.SortedSet.{IsUnion, first_equal}
 use Rattle.domain_zone.proofs.{PairLemmas.{In, all_in, all_from_in}, FindLemmas.{in_map, from_map, find_some}}
 use Rattle.domain_dnssec.proofs.AmongLemmas.{contains_in, in_contains}

@@ -4,17 +4,15 @@ use Rattle.std.specs.{Prelude.Contains, List.AllByRecursion}
 use Rattle.domain_octets.specs.Words.{Octets}
 use Rattle.domain_names.specs.Words.{Name}
 use Rattle.domain_record.specs.{Record.{record_cmp, record_cmp_total}, declared.record.Record.Record}
-use Rattle.domain_rdata.specs.Zone.{data_cmp, minimum_of, rtype_of}
-use Rattle.domain_rdata.specs.declared.zone_record_data.ZoneRecordData.{ZoneRecordData, TheVariants.{Soa, Unknown}}
+use Rattle.domain_rdata.specs.{Zone.{data_cmp, minimum_of, rtype_of}, declared.zone_record_data.ZoneRecordData.{ZoneRecordData, TheVariants.{Soa, Unknown}}}
 use Rattle.domain_records.specs.Order.{IsOneClass}
 use Rattle.domain_zone.{specs.{View.zone_of, Zone.ZoneRecord}, proofs.PairLemmas.{all_in, all_from_in}}
 use Rattle.domain_borrowed.specs.Data.{RawRecord, zone_of_raw, data_cmp as raw_cmp, data_cmp_total as raw_cmp_total, minimum_of as raw_minimum}
 use Rattle.domain_borrowed.proofs.MinimumLemmas.{minimum_last}
-use Rattle.domain_dnssec.specs.{RawRecords.{HaveOneChain, TellMinima, TellsMinimum, raw_data, raw_record}}
+use Rattle.domain_dnssec.specs.{RawRecords.{HaveOneChain, TellMinima, TellsMinimum, raw_data, raw_record}, AnyOrder.{HasNone, OfZone, ZoneHasNoChain}}
+use Rattle.domain_dnssec.specs.{AnyOrderNsec3.{IsWholeHashedChain, ZoneHasNoHashedChain}, declared.chain.ChainError.{ChainError, TheVariants.MixedClasses}}
+use Rattle.domain_dnssec.{specs.declared.chain.ChainError.TheVariants.{Sort, Signing, OutOfMemory}, proofs.{AmongLemmas.contains_in, MappedLemmas.sets_back}}
 use Rattle.domain_nsec.specs.Chain.{IsChain}
-use Rattle.domain_dnssec.specs.{AnyOrder.{HasNone, OfZone, ZoneHasNoChain}, AnyOrderNsec3.{IsWholeHashedChain, ZoneHasNoHashedChain}}
-use Rattle.domain_dnssec.specs.declared.chain.ChainError.{ChainError, TheVariants.{MixedClasses, Sort, Signing, OutOfMemory}}
-use Rattle.domain_dnssec.proofs.{AmongLemmas.contains_in, MappedLemmas.sets_back}
 
 module _ {O N : Type 0} (octets : O → Octets) (labels : N → Name) where
   abbrev see : Record N (ZoneRecordData O N) → RawRecord

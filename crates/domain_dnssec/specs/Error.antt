@@ -1,33 +1,26 @@
 -- What the errors of the library are to a program: their kind, without their texts.
-use Rattle.domain_names.specs.declared.error.NameError.{NameError}
+use Rattle.domain_names.specs.declared.error.{NameError.NameError, ScanError.ScanError}
 use Rattle.domain_names.specs.declared.error.NameError.TheVariants as name_error
-use Rattle.domain_names.specs.declared.error.ScanError.{ScanError}
 use Rattle.domain_names.specs.declared.error.ScanError.TheVariants as scan_error
-use Rattle.domain_bitmap.specs.declared.error.RtypeBitmapError.{RtypeBitmapError}
+use Rattle.domain_bitmap.specs.declared.{error.RtypeBitmapError.RtypeBitmapError, salt.Nsec3SaltFromStrError.Nsec3SaltFromStrError}
 use Rattle.domain_bitmap.specs.declared.error.RtypeBitmapError.TheVariants as bitmap_error
-use Rattle.domain_bitmap.specs.declared.salt.Nsec3SaltFromStrError.{Nsec3SaltFromStrError}
 use Rattle.domain_bitmap.specs.declared.salt.Nsec3SaltFromStrError.TheVariants as salt_error
-use Rattle.domain_message.specs.declared.error.MessageError.{MessageError}
+use Rattle.domain_message.specs.declared.{error.MessageError.MessageError, line.LineError.LineError}
 use Rattle.domain_message.specs.declared.error.MessageError.TheVariants as message_error
-use Rattle.domain_message.specs.declared.line.LineError.{LineError}
 use Rattle.domain_message.specs.declared.line.LineError.TheVariants as line_error
 use Rattle.domain_codecs.specs.declared.codec.DecodeError.{DecodeError}
 use Rattle.domain_codecs.specs.declared.codec.DecodeError.TheVariants as decode_error
-use Rattle.domain_octets.specs.declared.error.AppendError.{AppendError}
+use Rattle.domain_octets.specs.declared.error.{AppendError.AppendError, ParseError.ParseError}
 use Rattle.domain_octets.specs.declared.error.AppendError.TheVariants as append_error
-use Rattle.domain_octets.specs.declared.error.ParseError.{ParseError}
 use Rattle.domain_octets.specs.declared.error.ParseError.TheVariants as parse_error
-use Rattle.domain_records.specs.declared.error.InsertError.{InsertError}
+use Rattle.domain_records.specs.declared.error.{InsertError.InsertError, SigningError.SigningError}
 use Rattle.domain_records.specs.declared.error.InsertError.TheVariants as insert_error
-use Rattle.domain_hasher.specs.declared.error.Nsec3HashError.{Nsec3HashError}
-use Rattle.domain_hasher.specs.declared.error.Nsec3HashError.TheVariants as hash_error
-use Rattle.domain_records.specs.declared.error.SigningError.{SigningError}
 use Rattle.domain_records.specs.declared.error.SigningError.TheVariants as signing_error
-use Rattle.domain_hasher.specs.declared.hasher.HasherError.{HasherError}
+use Rattle.domain_hasher.specs.declared.{error.Nsec3HashError.Nsec3HashError, hasher.HasherError.HasherError}
+use Rattle.domain_hasher.specs.declared.error.Nsec3HashError.TheVariants as hash_error
 use Rattle.domain_hasher.specs.declared.hasher.HasherError.TheVariants as hasher_error
-use Rattle.domain_dnssec.specs.declared.chain.ChainError.{ChainError}
+use Rattle.domain_dnssec.specs.declared.{chain.ChainError.ChainError, error.Error.Error}
 use Rattle.domain_dnssec.specs.declared.chain.ChainError.TheVariants as chain_error
-use Rattle.domain_dnssec.specs.declared.error.Error.{Error}
 use Rattle.domain_dnssec.specs.declared.error.Error.TheVariants as variant
 
 abbrev pub of_scanning : ScanError → Error

@@ -2,9 +2,8 @@
 use Rattle.std.specs.Prelude.{codes}
 use Rattle.domain_octets.specs.Words.{Octets}
 use Rattle.domain_records.specs.ErrorText.{signing_error_text}
-use Rattle.domain_dnssec.specs.declared.chain.ChainError.{ChainError}
+use Rattle.domain_dnssec.specs.declared.{chain.ChainError.ChainError, error.Error.Error}
 use Rattle.domain_dnssec.specs.declared.chain.ChainError.TheVariants as chain_error
-use Rattle.domain_dnssec.specs.declared.error.Error.{Error}
 use Rattle.domain_dnssec.specs.declared.error.Error.TheVariants as variant
 
 abbrev pub chain_error_text : ChainError → Octets

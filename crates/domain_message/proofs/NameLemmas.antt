@@ -1,8 +1,7 @@
 -- names that are read label by label, one run after another
-use Rattle.std.proofs.lemmas.Grind.{common_steps}
-use Rattle.std.proofs.Common.{◌≡◌, ℕ, ◌+◌, ◌-◌, ◌*◌, ◌<◌, ◌≤◌, List, [], ◌∷◌, ◌++◌, length, get_or, take, drop, refl, sym, ap, subst, ◌∙◌, arith, length-append}
-use Rattle.std.proofs.lemmas.List.{append_assoc, take-append-drop, take_at, drop_more, drop_all, length-drop, length-take-le}
-use Rattle.std.{proofs.lemmas.List.Elements.{All-take, All-drop}, specs.{Prelude.{All, Option, Some, None, Ok, Err}}}
+use Rattle.std.proofs.{lemmas.Grind.common_steps, Common.{◌≡◌, ℕ, ◌+◌, ◌-◌, ◌*◌, ◌<◌, ◌≤◌, List, [], ◌∷◌, ◌++◌, length, get_or, take, drop, refl, sym, ap}}
+use Rattle.std.proofs.{Common.{subst, ◌∙◌, arith, length-append}, lemmas.List.{append_assoc, take-append-drop, take_at, drop_more, drop_all, length-drop}}
+use Rattle.std.{proofs.lemmas.List.{length-take-le, Elements.{All-take, All-drop}}, specs.Prelude.{All, Option, Some, None, Ok, Err}}
 use Rattle.domain_octets.proofs.OctetLemmas.{octets_from_type}
 use Rattle.domain_names.{specs.{Name.{wire_of}, Words.Name}, proofs.WireLemmas.{IsWire-wire_of, labels_of-wire_of}}
 use Rattle.domain_message.specs.Name.{pointer_octets, behind, up_to, Outcome, ComesTo, LabelsFault, root, label, pointer, at_fault}

@@ -3,9 +3,8 @@ use Rattle.std.proofs.lemmas.Grind.{common_steps}
 use Rattle.std.proofs.Common.{◌≡◌, ℕ, ◌+◌, ◌<◌, ◌≤◌, List, [], ◌∷◌, ◌++◌, length, take, drop, refl, sym, ap, subst, ◌∙◌, arith, length-append, IfOk}
 use Rattle.std.{proofs.lemmas.List.{drop-drop, drop_at, take_at, length-drop}, specs.{Prelude.{None, Ok, Err}, List.AllByRecursion}}
 use Rattle.domain_names.{specs.{Name.{wire_of, IsLabel, IsName}, Words.Name}}
-use Rattle.domain_message.specs.Name.{pointer_octets, Outcome, ComesTo, LabelsFault, NameAt, root, label, pointer, at_fault}
-use Rattle.domain_message.specs.Name.{EndFault}
-use Rattle.domain_message.specs.{Steps.RunRead, declared.name.NameFault.NameFault}
+use Rattle.domain_message.specs.{Name.{pointer_octets, Outcome, ComesTo, LabelsFault, NameAt, root, label, pointer, at_fault, EndFault}, Steps.RunRead}
+use Rattle.domain_message.specs.declared.name.NameFault.{NameFault}
 
 -- where there is a fault is no root, no label with room for it, and no pointer that leads back
 no_root : (at used : ℕ) (a b : List ℕ) (f : NameFault) → EndFault at used b f → b ≡ 0 ∷ a → ⊥

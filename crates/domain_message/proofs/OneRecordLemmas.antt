@@ -5,9 +5,8 @@ use Rattle.domain_names.specs.Words.{Name}
 use Rattle.domain_fields.specs.Layout.{Values}
 use Rattle.domain_record.specs.declared.record.Record.{Record}
 use Rattle.domain_rdata.{specs.{Kind.Kind, declared.zone_record_data.ZoneRecordData.ZoneRecordData}, proofs.ScanLemmas.{AreOf, are_of, are_wire}}
-use Rattle.domain_message.specs.{Alike.{AreAlike, IsOfMessage}, Data.{DataAt, parts_of}, Header.numbers}
-use Rattle.domain_message.specs.Record.{IsDataAt, RecordAt, OctetsRefusal, RefusesData, RefusesRecord, in_header, in_data}
-use Rattle.domain_message.specs.declared.error.MessageError.{MessageError}
+use Rattle.domain_message.specs.{Alike.{AreAlike, IsOfMessage}, Data.{DataAt, parts_of}, Header.numbers, Record.{IsDataAt, RecordAt, OctetsRefusal}}
+use Rattle.domain_message.specs.{Record.{RefusesData, RefusesRecord, in_header, in_data}, declared.error.MessageError.MessageError}
 use Rattle.domain_message.proofs.{HeaderLemmas.{one_header, no_header}, PartLemmas.{one_parts, no_parts, one_placed}}
 
 pub one_record : {O N : Type 0} (octets : O → Octets) (labels : N → Name) (message : List ℕ) (at : ℕ) (r s : Record N (ZoneRecordData O N)) (e f : ℕ)

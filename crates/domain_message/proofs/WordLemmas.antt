@@ -1,9 +1,8 @@
 -- the words of a line, one after another
-use Rattle.std.proofs.lemmas.Grind.{common_steps}
-use Rattle.std.proofs.{Common.{◌≡◌, ℕ, ◌<◌, List, [], ◌∷◌, ◌++◌, Bor, length, map, get_or, refl, sym, ap, subst, ◌∙◌, arith, true, false}, lemmas.Bool.eqb-true}
-use Rattle.std.proofs.lemmas.{Bool.Decides.nat_tests, List.{get_or-take, length-take, Elements.{recursion_from_All, All-from_get_or}}}
-use Rattle.std.proofs.lemmas.List.Sums.{split_at_first, fails_before_first, passes_at_first}
-use Rattle.std.specs.{Prelude.{◌==◌, Bool}, List.{before_first, after_first, position_or_len}, Str.IsUtf8}
+use Rattle.std.proofs.{lemmas.Grind.common_steps, Common.{◌≡◌, ℕ, ◌<◌, List, [], ◌∷◌, ◌++◌, Bor, length, map, get_or, refl, sym, ap, subst, ◌∙◌, arith, true}}
+use Rattle.std.proofs.{Common.false, lemmas.{Bool.{eqb-true, Decides.nat_tests}, List.{get_or-take, length-take, Elements.recursion_from_All}}}
+use Rattle.std.{proofs.lemmas.List.{Elements.All-from_get_or, Sums.{split_at_first, fails_before_first, passes_at_first}}, specs.Prelude.{◌==◌, Bool}}
+use Rattle.std.specs.{List.{before_first, after_first, position_or_len}, Str.IsUtf8}
 use Rattle.domain_octets.{specs.Line.{word_if_any, words_after, words_of, HasNoSpace, IsWord}, proofs.WordLemmas.{first_word, one_word}}
 
 -- the words that were found, and those of the rest

@@ -1,7 +1,6 @@
 -- a record that is written without compression stands where it was written
-use Rattle.std.proofs.lemmas.Grind.{common_steps}
-use Rattle.std.proofs.Common.{◌≡◌, ℕ, ◌+◌, ◌<◌, ◌≤◌, ◌^◌, List, [], ◌∷◌, ◌++◌, refl, sym, ap, subst, ◌∙◌, arith, length, length-append, drop}
-use Rattle.std.{proofs.lemmas.List.{append-nil, append_assoc, take_at, length-drop}, specs.Int.{w16, to_be_bytes}}
+use Rattle.std.proofs.{lemmas.Grind.common_steps, Common.{◌≡◌, ℕ, ◌+◌, ◌<◌, ◌≤◌, ◌^◌, List, [], ◌∷◌, ◌++◌, refl, sym, ap, subst, ◌∙◌, arith, length}}
+use Rattle.std.{proofs.{Common.{length-append, drop}, lemmas.List.{append-nil, append_assoc, take_at, length-drop}}, specs.Int.{w16, to_be_bytes}}
 use Rattle.domain_octets.specs.Words.{Octets}
 use Rattle.domain_names.specs.{Name.{wire_of, IsName}, Words.Name}
 use Rattle.domain_fields.specs.Layout.{octets_of}
@@ -9,9 +8,8 @@ use Rattle.domain_record.specs.declared.record.Record.{Record}
 use Rattle.domain_rdata.specs.{Scan.AreData, Zone.{rtype_of, wire_octets}, declared.zone_record_data.ZoneRecordData.ZoneRecordData}
 use Rattle.domain_rdata.specs.declared.zone_record_data.ZoneRecordData.TheVariants.{Ns, Soa, Mx, Unknown}
 use Rattle.domain_message.specs.{Data.{PartsAt, DataAt, OctetsAt}, Header.numbers, Record.RecordAt, Written.{HasExactWire, record_octets}}
-use Rattle.domain_message.specs.declared.parts.Part.{Part}
+use Rattle.domain_message.{specs.declared.parts.Part.Part, proofs.OneNameLemmas.{in_full_at, past}}
 use Rattle.domain_message.specs.declared.parts.Part.TheVariants as part
-use Rattle.domain_message.proofs.OneNameLemmas.{in_full_at, past}
 
 module _ (message : List ℕ) where
   -- octets stand where they are

@@ -2,12 +2,10 @@
 -- and 4.1.4)
 use Rattle.std.specs.Prelude.{◌≡◌, ◌⊎◌, ℕ, ◌+◌, ◌<◌, ◌≤◌, ◌==◌, ◌||◌, Bool, List, [], ◌∷◌, ◌++◌, length, take, drop, Option, Some, None, if◌then◌else◌}
 use Rattle.domain_octets.specs.Words.{Octets}
-use Rattle.domain_names.specs.Name.{wire_of}
+use Rattle.domain_names.specs.{Name.wire_of, Words.Name}
 use Rattle.domain_base.specs.Types as rtypes
-use Rattle.domain_names.specs.Words.{Name}
-use Rattle.domain_message.specs.{Name.{NameAt, LabelsFault}, declared.parts.Part.Part}
+use Rattle.domain_message.specs.{Name.{NameAt, LabelsFault}, declared.{parts.Part.Part, name.NameFault.NameFault}}
 use Rattle.domain_message.specs.declared.parts.Part.TheVariants as part
-use Rattle.domain_message.specs.declared.name.NameFault.{NameFault}
 use Rattle.domain_message.specs.declared.name.NameFault.TheVariants as name_fault
 
 -- their data are one name: NS, MD, MF, CNAME, MB, MG, MR, PTR

@@ -2,9 +2,8 @@
 use Rattle.std.specs.Prelude.{codes, ◌++◌}
 use Rattle.domain_octets.specs.Words.{Octets}
 use Rattle.domain_names.specs.ErrorText.{scan_error_text}
-use Rattle.domain_message.specs.declared.error.MessageError.{MessageError}
-use Rattle.domain_message.specs.declared.error.MessageError.TheVariants.{ShortInput, BadLabelType, ForwardPointer, LongName, DataLength, IllegalData, ShortBuf}
-use Rattle.domain_message.specs.declared.{error.MessageError.TheVariants.OutOfMemory, line.LineError.LineError}
+use Rattle.domain_message.specs.declared.error.MessageError.{MessageError, TheVariants.{ShortInput, BadLabelType, ForwardPointer, LongName, DataLength}}
+use Rattle.domain_message.specs.declared.{error.MessageError.TheVariants.{IllegalData, ShortBuf, OutOfMemory}, line.LineError.LineError}
 use Rattle.domain_message.specs.declared.line.LineError.TheVariants as line_error
 
 abbrev pub message_error_text : MessageError → Octets

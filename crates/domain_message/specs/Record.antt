@@ -6,9 +6,8 @@ use Rattle.domain_fields.specs.Layout.{Values}
 use Rattle.domain_record.specs.declared.record.Record.{Record}
 use Rattle.domain_rdata.specs.{Kind.Kind, Refusal.{AreOfKind, IsPart}, Scan.AreData, Zone.kind_of, declared.zone_record_data.ZoneRecordData.ZoneRecordData}
 use Rattle.domain_message.specs.{Data.{parts_of, PartsAt, PartsFault, DataAt}, Header.{numbers, HeaderAt}, Refusal.{HeaderFault, message_error_of}}
-use Rattle.domain_message.specs.declared.{parts.Part.Part, name.NameFault.NameFault, error.MessageError.MessageError}
-use Rattle.domain_message.specs.declared.error.MessageError.TheVariants.{ShortInput, DataLength, IllegalData, ShortBuf}
-use Rattle.domain_message.specs.declared.error.MessageError.TheVariants.{OutOfMemory}
+use Rattle.domain_message.specs.declared.{parts.Part.Part, name.NameFault.NameFault, error.MessageError.{MessageError, TheVariants.{ShortInput, DataLength}}}
+use Rattle.domain_message.specs.declared.error.MessageError.TheVariants.{IllegalData, ShortBuf, OutOfMemory}
 
 -- so many octets at a place are these data, and have these octets without compression
 pub record IsDataAt {O N : Type 0} (octets : O → Octets) (labels : N → Name) (message : Octets)

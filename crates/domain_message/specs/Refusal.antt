@@ -3,11 +3,9 @@ use Rattle.std.specs.Prelude.{◌≡◌, ℕ, ◌+◌, ◌<◌, length, Option}
 use Rattle.domain_octets.specs.{Limit.IsOver, Words.Octets, declared.error.AppendError.AppendError}
 use Rattle.domain_octets.specs.declared.error.AppendError.TheVariants as append_error
 use Rattle.domain_names.specs.Words.{Name}
-use Rattle.domain_message.specs.{Name.{NameAt, LabelsFault}, declared.name.NameFault.NameFault}
+use Rattle.domain_message.specs.{Name.{NameAt, LabelsFault}, declared.{name.NameFault.NameFault, error.MessageError.{MessageError, TheVariants.ShortInput}}}
+use Rattle.domain_message.specs.declared.error.MessageError.TheVariants.{BadLabelType, ForwardPointer, LongName, ShortBuf, OutOfMemory}
 use Rattle.domain_message.specs.declared.name.NameFault.TheVariants as name_fault
-use Rattle.domain_message.specs.declared.error.MessageError.{MessageError}
-use Rattle.domain_message.specs.declared.error.MessageError.TheVariants.{ShortInput, BadLabelType, ForwardPointer, LongName, ShortBuf}
-use Rattle.domain_message.specs.declared.error.MessageError.TheVariants.{OutOfMemory}
 
 abbrev pub message_error_of : NameFault → MessageError
 message_error_of name_fault.ShortInput = ShortInput

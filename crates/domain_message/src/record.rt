@@ -3,9 +3,8 @@ ghost use Rattle.std.specs.Prelude.{◌≡◌, ◌≤◌, ◌<◌, ◌+◌, ℕ,
 ghost use Rattle.domain_octets.specs.Words.{Octets};
 ghost use Rattle.domain_names.specs.TextFault.{scan_fault_of};
 ghost use Rattle.domain_rdata.specs.{Kind.Kind, Refusal.OctetsFault};
-ghost use Rattle.domain_message.specs.{Data.DataAt, Refusal.CopyRefusal};
-ghost use Rattle.domain_message.specs.Record.{IsDataAt, RecordAt, OctetsRefusal, RefusesData};
-ghost use Rattle.domain_message.specs.Record.{RefusesRecord};
+ghost use Rattle.domain_message.specs.{Data.DataAt, Refusal.CopyRefusal, Record.IsDataAt};
+ghost use Rattle.domain_message.specs.Record.{RecordAt, OctetsRefusal, RefusesData, RefusesRecord};
 
 use crate::MessageError;
 use crate::header::header_at;

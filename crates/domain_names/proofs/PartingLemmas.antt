@@ -1,9 +1,8 @@
 -- the labels at which two names part, and what they decide
-use Rattle.std.proofs.Common.{w8, w64, Fits, ◌≡◌, ℕ, zero, suc, ◌≤◌, ◌<◌, ◌+◌, ◌-◌, ◌⊎◌, List, [], ◌∷◌, ◌++◌, length, min, take, drop, get_or, map}
-use Rattle.std.proofs.{Common.{refl, sym, ap, subst, ◌∙◌, arith, Bool, nat_eq, Option, None, Some}}
-use Rattle.std.proofs.lemmas.{List.{append-nil, append_assoc, get_or-drop, take-append-drop}, Nat.le_bytes_8}
-use Rattle.std.{proofs.lemmas.Grind.common_steps, specs.{declared.cmp.Ordering.{Ordering, TheVariants.{Equal}}, Char.to_ascii_lowercase}}
-use Rattle.std.specs.{Cmp.{tied_itself, Lexicographic.{slice_cmp, pointwise, nat_list_cmp_total, texts_ties, bytes_decides}}, Ordering.{nat_cmp}}
+use Rattle.std.proofs.Common.{w8, w64, Fits, ◌≡◌, ℕ, zero, suc, ◌≤◌, ◌<◌, ◌+◌, ◌-◌, ◌⊎◌, List, [], ◌∷◌, ◌++◌, length, min, take, drop, get_or, map, refl, sym}
+use Rattle.std.proofs.{Common.{ap, subst, ◌∙◌, arith, Bool, nat_eq, Option, None, Some}, lemmas.List.{append-nil, append_assoc, get_or-drop, take-append-drop}}
+use Rattle.std.{proofs.lemmas.{Nat.le_bytes_8, Grind.common_steps}, specs.{declared.cmp.Ordering.{Ordering, TheVariants.Equal}, Char.to_ascii_lowercase}}
+use Rattle.std.specs.{Cmp.{tied_itself, Lexicographic.{slice_cmp, pointwise, nat_list_cmp_total, texts_ties, bytes_decides}}, Ordering.nat_cmp}
 use Rattle.std.specs.{Array.IsWholeChunk, Int.{from_le_bytes, to_le_bytes}, List.common_prefix_len}
 use Rattle.domain_names.specs.{Name.wire_of, Wire.{labels_of, IsWire}, Order.{canonical_cmp, common_labels, from_root}, Words.{Name, Label}}
 use Rattle.domain_names.{specs.Parting.{EndAlike, EndsIn, Part, order_below}, proofs.WireLemmas.{wire_is, length-wire}}

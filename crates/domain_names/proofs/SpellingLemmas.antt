@@ -1,11 +1,9 @@
 -- names spelled by texts
 use Rattle.std.proofs.Common.{◌≡◌, ◌≢◌, ℕ, zero, suc, take, get_or, ◌+◌, ◌<◌, ◌≤◌, List, [], ◌∷◌, ◌++◌, Option, Some, None, length, drop, refl, sym, ap, subst}
-use Rattle.std.proofs.Common.{◌∙◌, ◌-◌, arith, length-append, slice_set, inl, rules}
-use Rattle.std.proofs.{lemmas.{List.{append-nil, append_assoc, length-drop, take_at, take_more}, Grind.common_steps}, Math.Seq.set-append_seam}
-use Rattle.std.specs.{Prelude.{IsSome, IfSome}, List.AllByRecursion}
-use Rattle.domain_names.{specs.{Name.{wire_of, IsLabel, IsName}, Words.Name}, proofs.WireLemmas.length-wire_of}
-use Rattle.domain_names.specs.Text.{symbol_at, LabelText, ends, octet, HasNoLabel, HasNoLabelAfter, LabelTexts, IsBefore, last, dotted}
-use Rattle.domain_names.specs.Text.{NameText, root, of_labels, IsNoName}
+use Rattle.std.proofs.{Common.{◌∙◌, ◌-◌, arith, length-append, slice_set, inl, rules}, lemmas.List.{append-nil, append_assoc, length-drop, take_at, take_more}}
+use Rattle.std.{proofs.{lemmas.Grind.common_steps, Math.Seq.set-append_seam}, specs.{Prelude.{IsSome, IfSome}, List.AllByRecursion}}
+use Rattle.domain_names.specs.{Name.{wire_of, IsLabel, IsName}, Words.Name, Text.{symbol_at, LabelText, ends, octet, HasNoLabel, HasNoLabelAfter, LabelTexts}}
+use Rattle.domain_names.{specs.Text.{IsBefore, last, dotted, NameText, root, of_labels, IsNoName}, proofs.WireLemmas.length-wire_of}
 
 -- no octet of a label stands where a label ends
 pub before_stops : (next after : List ℕ) → IsBefore next after → symbol_at after ≡ None

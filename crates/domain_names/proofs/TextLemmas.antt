@@ -1,8 +1,7 @@
 -- the text of an octet in decimal digits, of octets that are written as they are, and of names
 use Rattle.std.proofs.Common.{arith, ℕ, zero, suc, ◌/◌, ◌%◌, ◌<◌, ◌≤◌, ◌≡◌, ◌∷◌, ◌++◌, ◌-◌, [], List, true, false, refl, ap, subst, ◌∙◌, length, take, drop}
-use Rattle.std.proofs.{Common.{length-append, append_assoc, append-nil, slice_set, take_all}, Math.Seq.set-append_seam}
-use Rattle.std.proofs.lemmas.{Grind.common_steps, Bool.eqb-true, List.{Elements.{All-head, All-tail}}}
-use Rattle.std.proofs.lemmas.{Str.{IsAscii-append, IsUtf8-from_ascii, Ascii.IsAscii-nil}, Fmt.decimal_digit}
+use Rattle.std.proofs.{Common.{length-append, append_assoc, append-nil, slice_set, take_all}, Math.Seq.set-append_seam, lemmas.Grind.common_steps}
+use Rattle.std.proofs.lemmas.{Bool.eqb-true, List.Elements.{All-head, All-tail}, Str.{IsAscii-append, IsUtf8-from_ascii, Ascii.IsAscii-nil}, Fmt.decimal_digit}
 use Rattle.std.specs.{List.{All, AllByRecursion as ByRecursion, AllPass}, Str.IsAscii, Fmt.decimal, Char.is_ascii_graphic}
 use Rattle.domain_names.specs.{Text.{octet_text, label_text, dotted_text, is_special, is_ordinary}, Wire.{labels_of, IsWire}}
 use Rattle.domain_names.specs.{Name.{wire_of, IsLabel, IsName}, Words.Name}

@@ -1,9 +1,8 @@
 -- what errors say
 use Rattle.std.specs.Prelude.{codes}
 use Rattle.domain_octets.specs.Words.{Octets}
-use Rattle.domain_names.specs.declared.error.NameError.{NameError}
+use Rattle.domain_names.specs.declared.error.{NameError.NameError, ScanError.ScanError}
 use Rattle.domain_names.specs.declared.error.NameError.TheVariants as name_error
-use Rattle.domain_names.specs.declared.error.ScanError.{ScanError}
 use Rattle.domain_names.specs.declared.error.ScanError.TheVariants as scan_error
 
 abbrev pub name_error_text : NameError → Octets

@@ -1,11 +1,9 @@
 -- why octets are no name on the wire (RFC 1035, sections 2.3.4 and 3.1)
 use Rattle.std.specs.Prelude.{◌≢◌, ℕ, ◌+◌, ◌<◌, ◌≤◌, [], ◌∷◌, ◌++◌, length, codes}
-use Rattle.domain_octets.specs.declared.error.ParseError.{ParseError}
+use Rattle.domain_octets.specs.{declared.error.ParseError.ParseError, Words.Octets}
 use Rattle.domain_octets.specs.declared.error.ParseError.TheVariants as parse_error
-use Rattle.domain_octets.specs.Words.{Octets}
-use Rattle.domain_names.specs.declared.error.NameError.{NameError}
+use Rattle.domain_names.specs.{declared.error.NameError.NameError, Name.{wire_of, IsName}, Words.{Name, Label}}
 use Rattle.domain_names.specs.declared.error.NameError.TheVariants as name_error
-use Rattle.domain_names.specs.{Name.{wire_of, IsName}, Words.{Name, Label}}
 
 pub data Fault : Type 0 where
   ends_early : Fault

@@ -1,12 +1,11 @@
 -- what the impls of comparisons cite: laws of the canonical order, of lists under an order of their
 -- items and then of names
 use Rattle.std.proofs.{Common.{◌≡◌, false, List, [], ◌∷◌, ◌++◌, reverse, refl, sym, ap, ◌∙◌, Some}, lemmas.List.{reverse-append, reverse-reverse}}
-use Rattle.std.specs.declared.cmp.Ordering.{Ordering, TheVariants.{Less, Equal, Greater}}
-use Rattle.std.specs.Ordering.{ordering_then, ordering_reverse, nat_cmp, is_gt, is_eq, eq_by_cmp}
-use Rattle.std.specs.Cmp.{IsTotalOrder, IsEquivalence, IsPartialOrder, tied_itself, on_equiv, po, both_ways, Equal-is}
+use Rattle.std.specs.{declared.cmp.Ordering.{Ordering, TheVariants.{Less, Equal, Greater}}, Ordering.{ordering_then, ordering_reverse, nat_cmp, is_gt, is_eq}}
+use Rattle.std.specs.{Ordering.eq_by_cmp, Cmp.{IsTotalOrder, IsEquivalence, IsPartialOrder, tied_itself, on_equiv, po, both_ways, Equal-is}}
 use Rattle.std.specs.Cmp.Lexicographic.{slice_cmp, nat_list_cmp_total, lists_total, lists_equiv, nat_list_eq_equiv, pointwise_decides, bytes_decides}
-use Rattle.std.specs.{Bool.Decides, Hash.{HashWrites, Alike, same_Alike, on_Alike}}
-use Rattle.std.specs.FinMap.{IsAntisymmetric, nat_cmp-IsAntisymmetric, slice_cmp-IsAntisymmetric}
+use Rattle.std.specs.{Bool.Decides, Hash.{HashWrites, Alike, same_Alike, on_Alike}, FinMap.{IsAntisymmetric, nat_cmp-IsAntisymmetric}}
+use Rattle.std.specs.FinMap.{slice_cmp-IsAntisymmetric}
 use Rattle.domain_names.specs.{Name.{lowered, IsAtOrBelow, IsSame, same_name}, Order.{canonical_cmp, canonical_cmp_total, from_root, IsUpTo}, Words.Name}
 
 module _ {X : Type 0} {R : X → X → Ordering} (total : IsTotalOrder R) where

@@ -1,8 +1,7 @@
 -- why a text is not read as a name, and what errors of reading say
 use Rattle.std.specs.Prelude.{◌≡◌, ℕ, codes, Option, None, IsNone, length}
-use Rattle.domain_octets.specs.{Limit.IsOver, declared.error.AppendError.AppendError}
+use Rattle.domain_octets.specs.{Limit.IsOver, declared.error.AppendError.AppendError, Words.Octets}
 use Rattle.domain_octets.specs.declared.error.AppendError.TheVariants as append_error
-use Rattle.domain_octets.specs.Words.{Octets}
 use Rattle.domain_names.specs.{declared.error.ScanError.{ScanError, TheVariants.{EndOfEntry, Custom, ShortBuf, OutOfMemory}}, Name.wire_of}
 use Rattle.domain_names.specs.{Text.{NameText, IsNoName}, Words.Name}
 

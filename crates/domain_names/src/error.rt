@@ -1,9 +1,8 @@
 //! Why names or tokens were not read.
 ghost use Rattle.std.specs.Prelude.{◌≡◌, Some};
+ghost use Rattle.domain_names.specs.{TextFault.scan_error_of, ErrorText.name_error_text};
+ghost use Rattle.domain_names.specs.{ErrorText.scan_error_text, Fault.{fault_of, name_fault_of}};
 ghost use Rattle.domain_names.specs.declared.error.ScanError.TheVariants as scan_error;
-ghost use Rattle.domain_names.specs.TextFault.{scan_error_of};
-ghost use Rattle.domain_names.specs.ErrorText.{name_error_text, scan_error_text};
-ghost use Rattle.domain_names.specs.Fault.{fault_of, name_fault_of};
 
 use domain_octets::{AppendError, OutOfMemory, ParseError};
 use std::alloc::{AllocError, AllocFailed};

@@ -2,9 +2,8 @@
 ghost use Rattle.std.specs.Prelude.{◌≡◌, ◌↔◌, Some, refl, IsOk, IfOk, IfErr};
 ghost use Rattle.std.specs.Cmp.{partial_equiv_from_equiv};
 ghost use Rattle.std.specs.Hash as fed;
-ghost use Rattle.domain_names.specs.Name.{wire_of, lowered, same_name};
-ghost use Rattle.domain_names.specs.Text.{name_text, NameText};
-ghost use Rattle.domain_names.specs.TextFault.{NameTextFault, scan_fault_of};
+ghost use Rattle.domain_names.specs.{Name.{wire_of, lowered, same_name}, Text.name_text};
+ghost use Rattle.domain_names.specs.{Text.NameText, TextFault.{NameTextFault, scan_fault_of}};
 ghost use Rattle.domain_names.specs.Order.{canonical_cmp, canonical_cmp_total};
 ghost use Rattle.domain_names.specs.Laws.{same_name_equiv, same_name_ties, same_name_fed};
 ghost use Rattle.domain_names.specs.{Laws.canonical_po, Fault.{WholeNameFault, fault_of}};

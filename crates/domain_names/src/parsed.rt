@@ -18,8 +18,7 @@ pub struct ParsedName<'a> {
 }
 
 impl<'a> Model for ParsedName<'a> {
-    ghost use Rattle.domain_names.specs.Words.{Name};
-    ghost use Rattle.domain_names.specs.Wire.{labels_of, IsWire};
+    ghost use Rattle.domain_names.specs.{Words.Name, Wire.{labels_of, IsWire}};
 
     ghost Value = { Name };
 

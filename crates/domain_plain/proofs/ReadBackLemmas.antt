@@ -1,8 +1,7 @@
 -- what data are written as is read back
-use Rattle.std.proofs.lemmas.Grind.{common_steps}
-use Rattle.std.proofs.Common.{◌≡◌, ◌≢◌, ℕ, ◌<◌, ◌≤◌, false, All, List, [], ◌∷◌, ◌++◌, length, refl, sym, ap, subst, ◌∙◌, arith}
-use Rattle.std.proofs.lemmas.{Bool.Decides.nat_tests, List.append-nil}
-use Rattle.std.specs.{Prelude.◌==◌, Fmt.decimal, List.AllByRecursion, Net.Text.{ipv4_text, dotted_text}}
+use Rattle.std.proofs.{lemmas.Grind.common_steps, Common.{◌≡◌, ◌≢◌, ℕ, ◌<◌, ◌≤◌, false, All, List, [], ◌∷◌, ◌++◌, length, refl, sym, ap, subst, ◌∙◌, arith}}
+use Rattle.std.{proofs.lemmas.{Bool.Decides.nat_tests, List.append-nil}, specs.{Prelude.◌==◌, Fmt.decimal, List.AllByRecursion, Net.Text.ipv4_text}}
+use Rattle.std.specs.Net.Text.{dotted_text}
 use Rattle.hex.specs.Hex.{encode_upper, encode_with}
 use Rattle.domain_codecs.{specs.{Codec.Decodes, declared.codec.Codec.TheVariants.Base16}, proofs.{CodecBackLemmas.upper_back, NoSpaceLemmas.upper_hex_word}}
 use Rattle.domain_octets.{specs.{Line.{words_of, IsWord}, Words.AreOctets}, proofs.WordLemmas.{one_word, decimal_word, joined_words}}

@@ -3,10 +3,9 @@ ghost use Rattle.std.specs.Prelude.{◌≡◌, refl, IfOk, IsOk, IfErr, OnErr, S
 ghost use Rattle.std.specs.{Net.{Addr.ipv4_octets, Text.ipv4_text}, Ordering.{on, nat_cmp}};
 ghost use Rattle.std.specs.Cmp.Lexicographic.{slice_cmp, on_texts};
 ghost use Rattle.domain_names.specs.{TextFault.scan_fault_of, Fault.fault_of};
-ghost use Rattle.domain_fields.specs.Scan.{Scans, Refuses};
+ghost use Rattle.domain_fields.specs.{Scan.{Scans, Refuses}, Layout.{Begins, FirstFault, GoesOn}};
+ghost use Rattle.domain_fields.specs.{Layout.{octets_of, canonical_of}, DataClone.same_values_tie};
 ghost use Rattle.domain_base.specs.Types as rtypes;
-ghost use Rattle.domain_fields.specs.Layout.{Begins, FirstFault, GoesOn, octets_of, canonical_of};
-ghost use Rattle.domain_fields.specs.DataClone.{same_values_tie};
 ghost use Rattle.domain_plain.specs.Plain.{a, a_values};
 
 use domain_base::{CanonicalOrd, Rtype, ScanError, Scanner};

@@ -2,10 +2,9 @@
 ghost use Rattle.std.specs.Prelude.{◌≡◌, ◌++◌, refl, IfOk, IfErr, OnErr, Some, codes};
 ghost use Rattle.std.specs.{Ordering.{on, nat_cmp}, Cmp.Lexicographic.{slice_cmp, on_texts}};
 ghost use Rattle.domain_names.specs.{TextFault.scan_fault_of, Text.name_text, Fault.fault_of};
-ghost use Rattle.domain_fields.specs.Scan.{Scans, Refuses};
+ghost use Rattle.domain_fields.specs.{Scan.{Scans, Refuses}, Layout.{Begins, FirstFault, GoesOn}};
+ghost use Rattle.domain_fields.specs.{Layout.{octets_of, canonical_of}, DataClone.same_values_tie};
 ghost use Rattle.domain_base.specs.Types as rtypes;
-ghost use Rattle.domain_fields.specs.Layout.{Begins, FirstFault, GoesOn, octets_of, canonical_of};
-ghost use Rattle.domain_fields.specs.DataClone.{same_values_tie};
 ghost use Rattle.domain_plain.specs.Plain.{ns, ns_values};
 
 use domain_base::{CanonicalOrd, ParsedName, Rtype, ScanError, Scanner, ToName};

@@ -1,6 +1,6 @@
 //! Data of types that are not known, and their text (RFC 3597, section 5).
 ghost use Rattle.std.specs.Prelude.{◌≡◌, ◌≤◌, ◌↔◌, length, IsOk, IsNone, IfOk, IfErr, OnOk, OnErr, Some};
-ghost use Rattle.std.specs.{Prelude.[], Ordering.{on, nat_cmp}};
+ghost use Rattle.std.specs.{Prelude.{[]}, Ordering.{on, nat_cmp}};
 ghost use Rattle.std.specs.Cmp.Lexicographic.{slice_cmp, on_texts};
 ghost use Rattle.domain_octets.specs.{Limit.IsOver, Words.AreOctets};
 ghost use Rattle.domain_names.specs.{Fault.fault_of, TextFault.scan_fault_of};

@@ -2,8 +2,7 @@
 use Rattle.std.proofs.{lemmas.Grind.common_steps, Common.{◌≡◌, ℕ, List, [], length, codes, Option, Some, Ok, Err, Result, IsErrAnd, IfErr, arith, true}}
 use Rattle.std.proofs.Common.{refl, ap}
 use Rattle.domain_names.specs.{Fault.Fault, TextFault.{ScanFault, illegal, scan_fault_of}, declared.error.ScanError.ScanError}
-use Rattle.domain_fields.specs.{Field.spelled_name, Layout.{one, Values, Begins, splits}}
-use Rattle.domain_fields.proofs.ExactLemmas.{one_reading, fault_excludes}
+use Rattle.domain_fields.{specs.{Field.spelled_name, Layout.{one, Values, Begins, splits}}, proofs.ExactLemmas.{one_reading, fault_excludes}}
 use Rattle.domain_chain_rdata.{specs.Rdata.hash_fields, proofs.NsecLemmas.with_types_excluded}
 use Rattle.domain_rdata.specs.Kind.{Kind, next_by_name, next_by_hash, layout_of, BeginsKind, KindFault}
 use Rattle.domain_rdata.specs.Refusal.{AreOfKind, IsPart, of_key, of_digest, of_signature, types_by_name, salt_by_hash, next_hash, types_by_hash, salt}

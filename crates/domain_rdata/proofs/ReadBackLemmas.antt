@@ -1,11 +1,10 @@
 -- what data are written as does not begin with the mark of the generic form
-use Rattle.std.proofs.lemmas.Grind.{common_steps}
-use Rattle.std.proofs.Common.{◌≡◌, ℕ, ◌<◌, All, List, [], ◌∷◌, ◌++◌, length, refl, sym, ap, subst, ◌∙◌, arith, append_assoc, length-append}
-use Rattle.std.specs.Prelude.{IfSome, slice_index}
+use Rattle.std.proofs.{lemmas.Grind.common_steps, Common.{◌≡◌, ℕ, ◌<◌, All, List, [], ◌∷◌, ◌++◌, length, refl, sym, ap, subst, ◌∙◌, arith, append_assoc}}
+use Rattle.std.{proofs.Common.length-append, specs.Prelude.{IfSome, slice_index}}
 use Rattle.domain_octets.{specs.Line.words_of, proofs.WordLemmas.{one_word, first_word}}
+use Rattle.domain_base.{specs.{Named.{by_name, by_number}, Numbers.TypeText, Scan.{IsNumber, TakesToken}}, proofs.ReadBackLemmas.name_word}
 use Rattle.domain_base.specs.Types as rtypes
 use Rattle.domain_names.{specs.{Name.IsName, Text.name_text}, proofs.SpellingLemmas.name_is_valid}
-use Rattle.domain_base.{specs.{Named.{by_name, by_number}, Numbers.TypeText, Scan.{IsNumber, TakesToken}}, proofs.ReadBackLemmas.name_word}
 use Rattle.domain_fields.specs.{Layout.octets_of, Scan.Scans}
 use Rattle.domain_plain.specs.{Generic.{generic_mark, generic_text}, Plain.{ns, soa, soa_values}, Soa.soa_text, declared.ns.Ns.Ns as NsData}
 use Rattle.domain_plain.{specs.{declared.soa.Soa.Soa as SoaData, Unknown.UnknownData}, proofs.ReadBackLemmas.generic_back}

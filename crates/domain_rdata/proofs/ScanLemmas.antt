@@ -8,12 +8,10 @@ use Rattle.domain_keys.proofs.RefusalLemmas.{dnskey_once, ds_once, refused_dnske
 use Rattle.domain_rrsig.{specs.{Data.rrsig_values, Scan.RrsigText}, proofs.RefusalLemmas.{rrsig_once, refused_rrsig}}
 use Rattle.domain_chain_rdata.proofs.TextLemmas.{nsec_once, nsec_refused, params_once, params_refused, nsec3_once, nsec3_refused}
 use Rattle.domain_rdata.specs.Kind.{Kind, plain, key, digest, signature, next_by_name, next_by_hash, params, layout_of, AreFields, FieldsText, dnskey_of, ds_of}
-use Rattle.domain_rdata.specs.Kind.{rrsig_of}
-use Rattle.domain_rdata.specs.Refusal.{RefusesKind, RefusesKnown, AreOfKind, OctetsFault, RefusesRdata, in_own, in_generic, in_octets}
-use Rattle.domain_rdata.specs.Scan.{RdataText, own, generic, ContentText, OwnText, AreContent, AreData, IsGeneric}
+use Rattle.domain_rdata.specs.{Kind.rrsig_of, Refusal.{RefusesKind, RefusesKnown, AreOfKind, OctetsFault, RefusesRdata, in_own, in_generic, in_octets}}
+use Rattle.domain_rdata.specs.{Scan.{RdataText, own, generic, ContentText, OwnText, AreContent, AreData, IsGeneric}, Zone.{kind_of, Content, fields, mere}}
+use Rattle.domain_rdata.specs.{Zone.{content_of, content_octets, IsOfKind, of_kind, wire_octets}, declared.zone_record_data.ZoneRecordData.ZoneRecordData}
 use Rattle.domain_rdata.proofs.OctetsLemmas.{fields_begin}
-use Rattle.domain_rdata.specs.Zone.{kind_of, Content, fields, mere, content_of, content_octets, IsOfKind, of_kind, wire_octets}
-use Rattle.domain_rdata.specs.declared.zone_record_data.ZoneRecordData.{ZoneRecordData}
 
 -- all tokens spell data
 whole_once : {V D : Type 0} (G : List (List ℕ) → D → Type 0) (of : V → D) (values : D → V)

@@ -6,9 +6,8 @@ use Rattle.domain_base.specs.Scan.{Grammar}
 use Rattle.domain_fields.specs.{Layout.{Layout, Values, Begins, FirstFault}, Scan.Scans}
 use Rattle.domain_keys.specs.{Data.{DnskeyData, dnskey, dnskey_data, DsData, ds, ds_data}, Scan.{DnskeyText, DsText}}
 use Rattle.domain_rrsig.specs.{Data.{RrsigData, rrsig, rrsig_data, of_numbers}, Scan.RrsigText}
-use Rattle.domain_chain_rdata.specs.{NsecText.NsecText, Nsec3Text.Nsec3Text, Nsec3paramText.Nsec3paramText}
-use Rattle.domain_chain_rdata.specs.{NsecWire.{BeginsNsec, NsecFault}, Nsec3Wire.{BeginsNsec3, Nsec3Fault}}
-use Rattle.domain_chain_rdata.specs.Rdata.{nsec, nsec3, nsec3param}
+use Rattle.domain_chain_rdata.specs.{NsecText.NsecText, Nsec3Text.Nsec3Text, Nsec3paramText.Nsec3paramText, NsecWire.{BeginsNsec, NsecFault}}
+use Rattle.domain_chain_rdata.specs.{Nsec3Wire.{BeginsNsec3, Nsec3Fault}, Rdata.{nsec, nsec3, nsec3param}}
 
 -- of fields of one token each, or in a way of their own
 pub data Kind : Type 0 where

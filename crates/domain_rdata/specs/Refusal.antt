@@ -5,8 +5,7 @@ use Rattle.domain_octets.specs.{Limit.IsOver, Words.Octets}
 use Rattle.domain_names.specs.{Fault.Fault, TextFault.{ScanFault, entry_ends, illegal, no_room, no_memory}, Words.Tokens}
 use Rattle.domain_base.specs.Scan.{Refusal}
 use Rattle.domain_plain.specs.Generic.{GenericText, GenericFault}
-use Rattle.domain_fields.specs.{Field.{name, spelled_name}, Layout.{Layout, one, ◌▸◌, Values, Begins}}
-use Rattle.domain_fields.specs.Scan.{Refuses}
+use Rattle.domain_fields.specs.{Field.{name, spelled_name}, Layout.{Layout, one, ◌▸◌, Values, Begins}, Scan.Refuses}
 use Rattle.domain_keys.specs.{Data.{dnskey, ds}, Scan.{RefusesDnskey, RefusesDs}}
 use Rattle.domain_rrsig.specs.{Data.rrsig, Scan.RefusesRrsig}
 use Rattle.domain_chain_rdata.specs.{NsecText.RefusesNsec, NsecWire.BeginsNsec, Nsec3Text.RefusesNsec3, Nsec3Wire.BeginsNsec3, Nsec3paramText.RefusesNsec3param}

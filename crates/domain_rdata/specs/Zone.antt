@@ -3,9 +3,8 @@ use Rattle.std.specs.{Prelude.{◌≡◌, ℕ, ◌==◌, ◌++◌, Option, Some,
 use Rattle.std.specs.{Net.{Addr.ipv4_octets, Text.ipv4_text}, Ordering.{nat_cmp, on, then_cmp}, Cmp.{IsTotalOrder, on_total, then_total, nat_cmp_total}}
 use Rattle.std.specs.Cmp.Lexicographic.{slice_cmp, on_texts}
 use Rattle.domain_octets.specs.Words.{Octets}
-use Rattle.domain_names.specs.Text.{name_text}
+use Rattle.domain_names.specs.{Text.name_text, Words.Name}
 use Rattle.domain_base.specs.Types as rtypes
-use Rattle.domain_names.specs.Words.{Name}
 use Rattle.domain_bitmap.specs.{Blocks.types_of, Text.types_text}
 use Rattle.domain_fields.specs.Layout.{Values, octets_of, canonical_of}
 use Rattle.domain_plain.specs.{Generic.generic_text, Plain.{a, a_values, ns, ns_values, soa, soa_values, mx, mx_values, unknown}, Soa.soa_text}

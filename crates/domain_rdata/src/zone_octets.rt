@@ -8,10 +8,9 @@ ghost use Rattle.domain_rrsig.specs.Data.{rrsig, rrsig_values};
 ghost use Rattle.domain_chain_rdata.specs.NsecWire.{BeginsNsec};
 ghost use Rattle.domain_chain_rdata.specs.Nsec3Wire.{BeginsNsec3};
 ghost use Rattle.domain_chain_rdata.specs.Rdata.{nsec_values, nsec3_values, nsec3param, nsec3param_values};
-ghost use Rattle.domain_rdata.specs.Kind.{plain, key, digest, signature, next_by_name, next_by_hash, params};
-ghost use Rattle.domain_rdata.specs.Refusal.{CopyFault, IsNotWhole, OctetsFault};
-ghost use Rattle.domain_rdata.specs.Scan.{AreData};
-ghost use Rattle.domain_rdata.specs.Zone.{kind_of};
+ghost use Rattle.domain_rdata.specs.Kind.{plain, key, digest, signature, next_by_name};
+ghost use Rattle.domain_rdata.specs.{Kind.{next_by_hash, params}, Refusal.{CopyFault, IsNotWhole}};
+ghost use Rattle.domain_rdata.specs.{Refusal.OctetsFault, Scan.AreData, Zone.kind_of};
 
 use crate::ZoneRecordData;
 use crate::zone_record_data::return_of_type;

@@ -1,7 +1,6 @@
 //! Data of all types as one type: the variants, the types that have one, and what is done with the
 //! data whatever their type.
-ghost use Rattle.std.specs.{Prelude.{◌≡◌, IfOk}, Ordering.nat_cmp};
-ghost use Rattle.std.specs.Cmp.Lexicographic.{slice_cmp};
+ghost use Rattle.std.specs.{Prelude.{◌≡◌, IfOk}, Ordering.nat_cmp, Cmp.Lexicographic.slice_cmp};
 ghost use Rattle.domain_rdata.specs.ZoneClone.{IsZoneClone, same_rtype, zone_copies_tie};
 
 use domain_base::{CanonicalOrd, Rtype, ToName, Ttl};

@@ -1,15 +1,13 @@
 -- what times and signatures are written as is read back
-use Rattle.std.proofs.{lemmas.Grind.common_steps, Common.{ℕ, ◌<◌, ◌≤◌, List, ◌∷◌, ◌++◌, length, refl, arith}}
-use Rattle.std.{proofs.lemmas.Fmt.{decimal_is_IsNumeral, length-decimal-le}, specs.{Prelude.◌^◌, Fmt.decimal, Str.Parse.without_leading_plus}}
-use Rattle.std.specs.List.{AllByRecursion}
+use Rattle.std.proofs.{lemmas.{Grind.common_steps, Fmt.{decimal_is_IsNumeral, length-decimal-le}}, Common.{ℕ, ◌<◌, ◌≤◌, List, ◌∷◌, ◌++◌, length, refl, arith}}
+use Rattle.std.specs.{Prelude.◌^◌, Fmt.decimal, Str.Parse.without_leading_plus, List.AllByRecursion}
 use Rattle.base64.specs.{GeneralPurpose.encode_of, Engines.standard}
 use Rattle.domain_codecs.{specs.declared.codec.Codec.TheVariants.Base64, proofs.{CodecBackLemmas.base64_back, NoSpaceLemmas.base64_plain}}
 use Rattle.domain_octets.{specs.Line.{words_of, IsWord}, proofs.WordLemmas.decimal_word}
 use Rattle.domain_base.{specs.{Numbers.type_text, Scan.IsNumber}, proofs.ReadBackLemmas.{type_back, type_word, name_word}}
 use Rattle.domain_fields.{specs.Layout.Fits, proofs.ReadBackLemmas.{fields_back, entry_line}}
-use Rattle.domain_rrsig.specs.Data.{ProtoRrsigData, proto_rrsig, proto_rrsig_values, RrsigData, rrsig, rrsig_values, rrsig_octets}
-use Rattle.domain_rrsig.specs.{Pieces.{dotted, rrsig_words, rrsig_text}, Scan.{lengths, signer, RrsigText, rrsig_fields, rrsig_fields_text}}
-use Rattle.domain_rrsig.specs.Time.{TimeText, TimeToken}
+use Rattle.domain_rrsig.specs.{Data.{ProtoRrsigData, proto_rrsig, proto_rrsig_values, RrsigData, rrsig, rrsig_values, rrsig_octets}, Pieces.dotted}
+use Rattle.domain_rrsig.specs.{Pieces.{rrsig_words, rrsig_text}, Scan.{lengths, signer, RrsigText, rrsig_fields, rrsig_fields_text}, Time.{TimeText, TimeToken}}
 
 -- ---- times
 

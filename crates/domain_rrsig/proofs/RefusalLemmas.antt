@@ -4,9 +4,8 @@ use Rattle.domain_codecs.specs.declared.codec.Codec.TheVariants.{Base64}
 use Rattle.domain_names.specs.{TextFault.{ScanFault, IsOfTokens}}
 use Rattle.domain_base.{specs.Numbers.{TypeText, IsNoType}, proofs.NamedLemmas.one_named}
 use Rattle.domain_fields.proofs.GrammarLemmas.{IsExact, fields_exact, token_exact, both_exact, same_fields, same_octets, entry_refused, entry_refused_once}
-use Rattle.domain_rrsig.specs.{Data.{RrsigData}, Time.{TimeToken, IsNoTime}}
-use Rattle.domain_rrsig.specs.Scan.{lengths, signer, rrsig_fields_text, RefusesRrsigFields, RrsigText, RefusesRrsig}
-use Rattle.domain_rrsig.proofs.ScanLemmas.{length_of_rrsig}
+use Rattle.domain_rrsig.specs.{Data.RrsigData, Time.{TimeToken, IsNoTime}, Scan.{lengths, signer, rrsig_fields_text, RefusesRrsigFields, RrsigText}}
+use Rattle.domain_rrsig.{specs.Scan.RefusesRrsig, proofs.ScanLemmas.length_of_rrsig}
 
 fields_exactly : (limit : Option ℕ) → IsExact limit rrsig_fields_text (RefusesRrsigFields limit)
 fields_exactly limit =

@@ -6,10 +6,9 @@ ghost use Rattle.std.specs.Cmp.Lexicographic.{slice_cmp, on_texts, on_texts_equa
 ghost use Rattle.std.specs.Hash as fed;
 ghost use Rattle.domain_names.specs.Fault.{fault_of};
 ghost use Rattle.domain_base.specs.Types as rtypes;
-ghost use Rattle.domain_fields.specs.Layout.{Begins, Fits, FirstFault, GoesOn};
-ghost use Rattle.domain_fields.specs.Laws.{fed_alike, tied_octets};
+ghost use Rattle.domain_fields.specs.{Layout.{Begins, Fits, FirstFault, GoesOn}, Laws.fed_alike};
+ghost use Rattle.domain_fields.specs.{Laws.tied_octets, DataClone.copies_tied};
 ghost use Rattle.domain_rrsig.specs.Data.{rrsig, rrsig_values, rrsig_octets, rrsig_canonical, rrsig_data, proto_rrsig_data, IsSameRrsig, rrsig_numbers_values};
-ghost use Rattle.domain_fields.specs.DataClone.{copies_tied};
 
 use crate::proto_rrsig::ProtoFields;
 use crate::{ProtoRrsig, Timestamp};

@@ -4,10 +4,8 @@ use Rattle.std.{proofs.lemmas.{Grind.common_steps}, specs.List.{AllByRecursion}}
 use Rattle.domain_names.specs.{Laws.same_name_same, Name.same_name, Words.Name}
 use Rattle.domain_record.specs.declared.record.Record.{Record}
 use Rattle.domain_records.specs.Order.{MayFollow, HoldsPairwise, IsInOrder}
-use Rattle.domain_zone.specs.{Owners.{OwnerRecords, owner_at}, View.as_zone_record}
-use Rattle.domain_zone.specs.Zone.{ZoneRecord, records_of, has_clash}
-use Rattle.domain_zone.proofs.{NameLemmas.{one_lowered, same_itself}, OwnerLemmas.filter_passes, PairLemmas.all_from_in, TtlLemmas.NeverDescend}
-use Rattle.domain_zone.proofs.ZoneLemmas.{all_map, weaker}
+use Rattle.domain_zone.{specs.{Owners.{OwnerRecords, owner_at}, View.as_zone_record, Zone.{ZoneRecord, records_of, has_clash}}, proofs.NameLemmas.one_lowered}
+use Rattle.domain_zone.proofs.{NameLemmas.same_itself, OwnerLemmas.filter_passes, PairLemmas.all_from_in, TtlLemmas.NeverDescend, ZoneLemmas.{all_map, weaker}}
 
 abbrev pub name_of : OwnerRecords → Name
 name_of o = o.name

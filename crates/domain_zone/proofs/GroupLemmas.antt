@@ -1,14 +1,12 @@
 -- Groups of records, as the walk sees them.
 use Rattle.std.proofs.Common.{◌≡◌, ℕ, Bool, true, false, not, ◌&&◌, ◌↔◌, IsTrue, List, [], ◌∷◌, ◌++◌, map, refl, sym, ap, ◌∙◌, subst, inl, inr, nat_eq, Option}
-use Rattle.std.proofs.{Common.arith, lemmas.{Bool.{cases_Bool, false≢true, and_parts, not-true, eqb-true}, List.map-append}}
-use Rattle.std.proofs.lemmas.{List.Folds.{Any-from_list_any, list_any-from_Any}, Grind.common_steps}
-use Rattle.std.specs.{declared.cmp.Ordering.{Ordering, TheVariants.{Less, Equal, Greater}}, Ordering.{is_lt, is_gt, ordering_reverse}}
-use Rattle.std.specs.List.{list_any, AllByRecursion}
+use Rattle.std.proofs.{Common.arith, lemmas.{Bool.{cases_Bool, false≢true, and_parts, not-true, eqb-true}, List.{map-append, Folds.Any-from_list_any}}}
+use Rattle.std.{proofs.lemmas.{List.Folds.list_any-from_Any, Grind.common_steps}, specs.declared.cmp.Ordering.{Ordering, TheVariants.{Less, Equal, Greater}}}
+use Rattle.std.specs.{Ordering.{is_lt, is_gt, ordering_reverse}, List.{list_any, AllByRecursion}}
 use Rattle.domain_names.specs.{Name.{IsSame, lowered, same_name}, Laws.same_name_same, Order.{canonical_cmp, canonical_cmp_total, before}, Words.Name}
 use Rattle.domain_record.specs.declared.record.Record.{Record}
-use Rattle.domain_records.specs.{Runs.{runs}, Groups.{same_owner, HasFirst, IsZoneCut}, Order.{MayFollow, IsInOrder}}
+use Rattle.domain_records.{specs.{Runs.runs, Groups.{same_owner, HasFirst, IsZoneCut}, Order.{MayFollow, IsInOrder}}, proofs.Runs.begins}
 use Rattle.domain_zone.specs.{Zone.{ZoneRecord, OwnersNeverDescend, has_type}, View.as_zone_record}
-use Rattle.domain_records.proofs.Runs.{begins}
 use Rattle.domain_zone.proofs.{NameLemmas.{one_lowered, same_itself}, SharedLemmas.either_way, ZoneLemmas.{all_map, any_map, weaker, BeginsElsewhere, IsFront}}
 
 -- ---- runs

@@ -1,14 +1,12 @@
 -- What an iterator over the owners that are not occluded has left to give.
-use Rattle.std.proofs.Common.{◌≡◌, Bool, false, ◌&&◌, ◌||◌, List, [], ◌∷◌, ◌++◌, map, refl, sym, ap, ◌∙◌, inl, inr, Option, None}
-use Rattle.std.proofs.{Common.{append_assoc, ℕ, arith}, lemmas.{Bool.cases_Bool, Grind.common_steps, List.map-append}}
-use Rattle.std.specs.{Bool.then_some, Borrow.Bor, Option.option_map}
+use Rattle.std.proofs.Common.{◌≡◌, Bool, false, ◌&&◌, ◌||◌, List, [], ◌∷◌, ◌++◌, map, refl, sym, ap, ◌∙◌, inl, inr, Option, None, append_assoc, ℕ, arith}
+use Rattle.std.{proofs.lemmas.{Bool.cases_Bool, Grind.common_steps, List.map-append}, specs.{Bool.then_some, Borrow.Bor, Option.option_map}}
 use Rattle.domain_record.specs.declared.record.Record.{Record}
 use Rattle.domain_records.specs.{Groups.{same_owner, HasFirst}, Order.IsInOrder, Runs.runs}
 use Rattle.domain_names.specs.{Words.Name}
-use Rattle.domain_zone.specs.{Owners.{owner_at, owners_with_records}, View.as_zone_record}
-use Rattle.domain_zone.specs.Walk.{is_passed_over, is_cut_group, occluder_from, left_owners}
-use Rattle.domain_zone.{specs.Zone.{ZoneRecord, has_type}, proofs.GroupLemmas.{front_group, owners_in_order}}
-use Rattle.domain_zone.proofs.{WalkLemmas.{IsWalked, walk_start, walk_passed, owner_is, walk_given}, ZoneLemmas.IsFront}
+use Rattle.domain_zone.specs.{Owners.{owner_at, owners_with_records}, View.as_zone_record, Walk.{is_passed_over, is_cut_group, occluder_from, left_owners}}
+use Rattle.domain_zone.{specs.Zone.{ZoneRecord, has_type}, proofs.{GroupLemmas.{front_group, owners_in_order}, WalkLemmas.{IsWalked, walk_start, walk_passed}}}
+use Rattle.domain_zone.proofs.{WalkLemmas.{owner_is, walk_given}, ZoneLemmas.IsFront}
 use Rattle.domain_base.specs.Types.{dname}
 
 -- ---- one group

@@ -3,9 +3,8 @@ use Rattle.std.proofs.{Common.{◌≡◌, Bool, true, false, not, ◌||◌, [], 
 use Rattle.std.proofs.lemmas.{List.Sorted.ranks_by, Bool.true≢false, Grind.common_steps}
 use Rattle.std.specs.{declared.cmp.Ordering.{Ordering, TheVariants.{Less, Equal, Greater}}, Char.to_ascii_lowercase}
 use Rattle.std.specs.{Ordering.{is_lt, is_eq, is_gt, ordering_reverse}, Cmp.{IsStrictWeakOrder, Lexicographic.pointwise}, List.ends_with}
-use Rattle.domain_names.specs.Laws.{ancestor_first, between_names, same_name_same, same_name_ties, same_tied}
-use Rattle.domain_names.specs.Name.{lowered, IsAtOrBelow, same_name, is_at_or_below, is_strictly_below}
-use Rattle.domain_names.specs.{Order.{canonical_cmp, canonical_cmp_total, before, IsUpTo}, Words.{Label, Name}}
+use Rattle.domain_names.specs.{Laws.{ancestor_first, between_names, same_name_same, same_name_ties, same_tied}, Name.{lowered, IsAtOrBelow, same_name}}
+use Rattle.domain_names.specs.{Name.{is_at_or_below, is_strictly_below}, Order.{canonical_cmp, canonical_cmp_total, before, IsUpTo}, Words.{Label, Name}}
 use Rattle.domain_names.proofs.CaseLemmas.{at_or_below_test, one_line}
 use Rattle.domain_zone.specs.Covering.{matches}
 

@@ -1,7 +1,6 @@
 -- Where types never descend, two records of one type differ in TTL exactly where two neighbours do.
 use Rattle.std.proofs.Common.{◌≡◌, ◌≤◌, ℕ, Bool, true, false, ◌||◌, List, [], ◌∷◌, map, refl, sym, subst, ◌∙◌, inl, inr, arith, Option}
-use Rattle.std.proofs.lemmas.{Bool.{cases_Bool, false≢true, or_parts, or_cases, Decides.nat_tests}, Grind.common_steps}
-use Rattle.std.specs.List.{list_any, AllByRecursion}
+use Rattle.std.{proofs.lemmas.{Bool.{cases_Bool, false≢true, or_parts, or_cases, Decides.nat_tests}, Grind.common_steps}, specs.List.{list_any, AllByRecursion}}
 use Rattle.domain_record.specs.declared.record.Record.{Record}
 use Rattle.domain_records.specs.Order.{HoldsPairwise}
 use Rattle.domain_names.specs.Words.{Name}

@@ -6,11 +6,10 @@ use Rattle.std.specs.{Prelude.filter, List.{AllByRecursion, list_any}}
 use Rattle.domain_octets.proofs.StdLemmas.{and_true, or_false}
 use Rattle.domain_names.specs.{Name.{is_at_or_below, is_strictly_below, lowered, same_name}, Order.before, Words.Name}
 use Rattle.domain_base.specs.Types.{ns, dname}
-use Rattle.domain_zone.specs.{Owners.owner_at, Walk.{is_cut_group, is_passed_over, is_under, occluder_from}, Zone.is_zone_cut}
-use Rattle.domain_zone.specs.{Zone.{ZoneRecord, OwnersNeverDescend, records_of, has_type, occludes, is_occluded, is_unoccluded, distinct}}
-use Rattle.domain_zone.proofs.NameLemmas.{before_left, before_order, one_lowered, below_itself, below_trans, below_from, below_between}
-use Rattle.domain_zone.proofs.OwnerLemmas.{occluder_below}
-use Rattle.domain_zone.proofs.ZoneLemmas.{weaker, all_both, all_front, all_map, any_none, BeginsElsewhere, IsGroup, AreAt, AllBefore, AllAfter, records_at}
+use Rattle.domain_zone.specs.{Owners.owner_at, Walk.{is_cut_group, is_passed_over, is_under, occluder_from}, Zone.{is_zone_cut, ZoneRecord, OwnersNeverDescend}}
+use Rattle.domain_zone.{specs.Zone.{records_of, has_type, occludes, is_occluded, is_unoccluded, distinct}, proofs.NameLemmas.{before_left, before_order}}
+use Rattle.domain_zone.proofs.{NameLemmas.{one_lowered, below_itself, below_trans, below_from, below_between}, OwnerLemmas.occluder_below, ZoneLemmas.weaker}
+use Rattle.domain_zone.proofs.ZoneLemmas.{all_both, all_front, all_map, any_none, BeginsElsewhere, IsGroup, AreAt, AllBefore, AllAfter, records_at}
 use Rattle.domain_zone.proofs.ZoneLemmas.{distinct_more, after_or, not_strictly, strictly_after}
 
 abbrev pub IsSince : Option Name → Name → Type 0

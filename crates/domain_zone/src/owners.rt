@@ -70,13 +70,9 @@ pub struct UnoccludedOwners<'a, N: ToName, D: ZoneData> {
 }
 
 impl<'a, N: ToName, D: ZoneData> Model for UnoccludedOwners<'a, N, D> {
-    ghost use Rattle.std.specs.Prelude.{List, map};
-    ghost use Rattle.std.specs.Option.{option_map};
-    ghost use Rattle.domain_records.specs.Groups.{same_owner};
-    ghost use Rattle.domain_records.specs.Runs.{runs};
-    ghost use Rattle.domain_zone.specs.Owners.{OwnerRecords};
-    ghost use Rattle.domain_zone.specs.View.{zone_of};
-    ghost use Rattle.domain_zone.specs.Walk.{left_owners};
+    ghost use Rattle.std.specs.{Prelude.{List, map}, Option.option_map};
+    ghost use Rattle.domain_records.specs.{Groups.same_owner, Runs.runs};
+    ghost use Rattle.domain_zone.specs.{Owners.OwnerRecords, View.zone_of, Walk.left_owners};
 
     ghost Value = { List OwnerRecords };
 

@@ -7,8 +7,7 @@ use Rattle.domain_nsec.specs.Chain.{Link}
 use Rattle.domain_answer.specs.{Proved.{IsAnswered, RestsOn}, Reading.reading, declared.answer.Answer.Answer}
 use Rattle.denial_program.specs.{Check.AreNsecs, declared.{command.Question.Question, fault.DenialFault.{DenialFault, TheVariants.{Write, OutOfMemory}}}}
 use Rattle.judge_program.specs.{Run.{HasNoText, IsNsecText, IsText, IsUnwritten}, Text.first_line, Told.{below_text, nsec_tellings, Tellings}}
-use Rattle.judge_program.specs.declared.shown.Shown.{Shown}
-use Rattle.judge_program.specs.declared.command.ChainKind.{ChainKind}
+use Rattle.judge_program.specs.declared.{shown.Shown.Shown, command.ChainKind.ChainKind}
 
 -- where writing failed there was an answer
 pub text_unwritten : {X : Type 0} (hashes : HasherAnswer) (kind : ChainKind) (given : List RawRecord) (q : Question) (shown : Shown) (r : Result X DenialFault)

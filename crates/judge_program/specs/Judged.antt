@@ -12,8 +12,7 @@ use Rattle.domain_answer.specs.{HashedProved.{HashedRestsOn, IsHashedAnswered}, 
 use Rattle.domain_answer.specs.{Proved.{needs_no_records, IsAnswered, RestsOn}, Reading.reading, ZoneAnswer.is_at_parent, declared.answer.Answer.Answer}
 use Rattle.domain_answer.specs.declared.answer.Answer.TheVariants.{OutsideZone, AtParent, TooManyIterations, NotProven}
 use Rattle.denial_program.specs.{Check.{AreNsecs, AreNsec3s, AreParams, HasNoParam, IsRefusedBy}, declared.command.Question.Question}
-use Rattle.denial_program.specs.declared.fault.DenialFault.{DenialFault}
-use Rattle.denial_program.specs.declared.fault.DenialFault.TheVariants.{Signing, Param, OutOfMemory}
+use Rattle.denial_program.specs.declared.fault.DenialFault.{DenialFault, TheVariants.{Signing, Param, OutOfMemory}}
 use Rattle.judge_program.specs.declared.command.Nsec3Options.{Nsec3Options}
 
 -- the answer is what the NSEC records prove of any zone of whose chain they are; from any records,

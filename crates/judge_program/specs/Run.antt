@@ -8,9 +8,8 @@ use Rattle.domain_answer.specs.declared.answer.Answer.{Answer}
 use Rattle.domain_checker.specs.HashedView.{links_with}
 use Rattle.denial_program.specs.{Listing.Give, declared.{command.Question.Question, fault.DenialFault.DenialFault}}
 use Rattle.denial_program.specs.declared.fault.DenialFault.TheVariants.{Usage, Unprepared, Write, OutOfMemory}
-use Rattle.judge_program.specs.{Command.{Asks, IsCommand, IsNoCommand}, Judged.{IsNotNsec3Judged, IsNsec3Judged, IsNsecJudged}}
-use Rattle.judge_program.specs.{Needs.rests_on_records, Told.{below_text, nsec_tellings, AreNsec3Told, Tellings}, Text.first_line}
-use Rattle.judge_program.specs.declared.command.ChainKind.{ChainKind}
+use Rattle.judge_program.specs.{Command.{Asks, IsCommand, IsNoCommand}, Judged.{IsNotNsec3Judged, IsNsec3Judged, IsNsecJudged}, Needs.rests_on_records}
+use Rattle.judge_program.specs.{Told.{below_text, nsec_tellings, AreNsec3Told, Tellings}, Text.first_line, declared.command.ChainKind.ChainKind}
 use Rattle.judge_program.specs.declared.{command.{ChainKind.TheVariants.{Nsec, Nsec3}, Command.Command, Nsec3Options.Nsec3Options}, shown.Shown.Shown}
 
 -- the text is that of what the NSEC records answer to the question, on one line, and below it,

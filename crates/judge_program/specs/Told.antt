@@ -1,8 +1,7 @@
 -- The records that an answer rests on, and those that a server answers with; a is the apex, x the
 -- name.
-use Rattle.std.specs.Prelude.{◌≡◌, ℕ, ◌+◌, ◌==◌, Bool, true, false, not, ◌&&◌, ◌||◌, List, [], ◌++◌, codes, length, nat_lt, bytes_eq, Option, Some}
-use Rattle.std.specs.Prelude.{None, Result, Ok, Err, if◌then◌else◌}
-use Rattle.std.specs.{List.{find, list_any}, Option.{is_some, option_map, option_to_list}}
+use Rattle.std.specs.Prelude.{◌≡◌, ℕ, ◌+◌, ◌==◌, Bool, true, false, not, ◌&&◌, ◌||◌, List, [], ◌++◌, codes, length, nat_lt, bytes_eq, Option, Some, None}
+use Rattle.std.specs.{Prelude.{Result, Ok, Err, if◌then◌else◌}, List.{find, list_any}, Option.{is_some, option_map, option_to_list}}
 use Rattle.domain_octets.specs.Words.{Octets}
 use Rattle.domain_names.specs.{Words.Name, Name.{same_name, last_labels}}
 use Rattle.domain_base.specs.Types.{ds}
@@ -16,10 +15,9 @@ use Rattle.domain_checker.specs.{HashedVerdict.IsFirstRefusal, Reading.{is_cover
 use Rattle.domain_answer.specs.{Expansion.closer_name, ZoneAnswer.wildcard_below, declared.answer.Answer.Answer}
 use Rattle.denial_program.specs.Text.{link_values, nsec_line, nsec3_line, nsec3param_line}
 use Rattle.judge_program.specs.{Needs.{needs_next_closer, needs_of, needs_wildcard, rests_on_records, wildcard_count}, Text.full_text}
-use Rattle.judge_program.specs.declared.{told.{Listed.Listed, Part.Part, Parts.Parts}, needs.Needs.Needs, role.Role.Role, shown.Shown.Shown}
-use Rattle.judge_program.specs.declared.told.Listed.TheVariants.{Nsec, Nsec3}
+use Rattle.judge_program.specs.declared.{told.{Listed.{Listed, TheVariants.Nsec}, Part.Part, Parts.Parts}, needs.Needs.Needs, role.Role.Role, shown.Shown.Shown}
+use Rattle.judge_program.specs.declared.{told.Listed.TheVariants.Nsec3, role.Role.TheVariants.{Asked, Encloser as ClosestEncloser, NextCloser, Wildcard}}
 use Rattle.judge_program.specs.declared.needs.Needs.TheVariants as needs
-use Rattle.judge_program.specs.declared.role.Role.TheVariants.{Asked, Encloser as ClosestEncloser, NextCloser, Wildcard}
 use Rattle.judge_program.specs.declared.shown.Shown.TheVariants as shows
 
 -- the name that a record tells of

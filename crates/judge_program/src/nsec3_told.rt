@@ -1,10 +1,8 @@
 //! What NSEC3 records answer to a question, and what they tell of the names that this rests on.
-ghost use Rattle.std.specs.Prelude.{◌≡◌, ℕ, None, IfErr, IfOk};
-ghost use Rattle.std.specs.Option.{option_map};
+ghost use Rattle.std.specs.{Prelude.{◌≡◌, ℕ, None, IfErr, IfOk}, Option.option_map};
 ghost use Rattle.domain_nsec3.specs.View.{as_hashed_link, as_param_record};
 ghost use Rattle.domain_hasher.specs.declared.error.Nsec3HashError.TheVariants as hash_error;
-ghost use Rattle.domain_checker.specs.HashedEncloser.{encloser_of};
-ghost use Rattle.domain_checker.specs.HashedVerdict.{IsFirstRefusal};
+ghost use Rattle.domain_checker.specs.{HashedEncloser.encloser_of, HashedVerdict.IsFirstRefusal};
 ghost use Rattle.domain_answer.specs.HashedReading.{IsFirstOfRefusals};
 ghost use Rattle.denial_program.specs.declared.fault.DenialFault.TheVariants.{OutOfMemory as Memory, Signing};
 ghost use Rattle.domain_records.specs.declared.error.SigningError.TheVariants as signing_error;

@@ -1,7 +1,6 @@
 //! The records that an answer rests on, and those that a server answers with, as they are printed.
-ghost use Rattle.std.specs.Prelude.{◌≡◌, ◌++◌, Some, OnOk};
-ghost use Rattle.std.specs.{List.list_any, Option.{option_map, option_to_list}};
-ghost use Rattle.std.specs.Io.KnownBytes.{Appends};
+ghost use Rattle.std.specs.{Prelude.{◌≡◌, ◌++◌, Some, OnOk}, List.list_any, Option.option_map};
+ghost use Rattle.std.specs.{Option.option_to_list, Io.KnownBytes.Appends};
 ghost use Rattle.domain_nsec3.specs.View.{as_param_record};
 ghost use Rattle.judge_program.specs.Told.{any_of, below_text, is_needed, is_same, line_of, line_once, listed_of, matched_part, records_text, telling_of, tellings_of, told_line};
 

@@ -1,8 +1,7 @@
 //! A chain of hashes, with a hasher of one's own.
 ghost use Rattle.std.specs.Prelude.{nat_le, Err, IfOk, if◌then◌else◌};
-ghost use Rattle.domain_dnssec.specs.Iterated.{sha1_answer};
-ghost use Rattle.domain_dnssec.specs.Hashed.{as_param_record, config_of, hashed_links_of};
-ghost use Rattle.domain_dnssec.specs.ZoneRecords.{IsHashedChainOf};
+ghost use Rattle.domain_dnssec.specs.{Iterated.sha1_answer, Hashed.{as_param_record, config_of}};
+ghost use Rattle.domain_dnssec.specs.{Hashed.hashed_links_of, ZoneRecords.IsHashedChainOf};
 
 use crate::zone::{OwnedRecord, ZoneName, records};
 use domain_dnssec::rdata::Nsec3Salt;

@@ -1,7 +1,6 @@
 //! Records of a message, and of a line.
 ghost use Rattle.std.specs.Prelude.{IfOk};
-ghost use Rattle.domain_dnssec.specs.Entry.{LineText};
-ghost use Rattle.domain_dnssec.specs.Record.{RecordAt};
+ghost use Rattle.domain_dnssec.specs.{Entry.LineText, Record.RecordAt};
 
 use domain_dnssec::{Error, LineError, MessageError, OwnedRecord, read_record, scan_record};
 use std::alloc::Global;

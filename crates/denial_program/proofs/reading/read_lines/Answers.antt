@@ -1,8 +1,7 @@
 use Rattle.std.{proofs.{lemmas.Grind.common_steps, Common.{◌≡◌, ◌+◌, ◌<◌, [], ◌∷◌, arith, length, subst, ◌++◌, IfSome}}, specs.Str.Lines.lines}
-use Rattle.denial_program.specs.{Listing.IsFirstBad, Said.Says}
-use Rattle.denial_program.proofs.ReadingLemmas.{follows_end, follows_next, follows_skip, follows_record, follows_bad, Follows}
+use Rattle.denial_program.{specs.{Listing.IsFirstBad, Said.Says}, proofs.ReadingLemmas.{follows_end, follows_next, follows_skip, follows_record, follows_bad}}
+use Rattle.denial_program.proofs.{ReadingLemmas.Follows, reading.read_lines.Goals.{in-Nothing, in-Record+in_ok-push-in-Record}}
 use Rattle.denial_program.proofs.reading.read_lines.Goals as goal
-use Rattle.denial_program.proofs.reading.read_lines.Goals.{in-Nothing, in-Record+in_ok-push-in-Record}
 
 pub returns-then-count-eq0-clause-ok : goal.returns-then-count-eq0-clause-ok
 returns-then-count-eq0-clause-ok g c = grind (arith, common_steps, follows_end)

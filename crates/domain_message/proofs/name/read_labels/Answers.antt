@@ -1,6 +1,5 @@
 use Rattle.std.proofs.{Common.{sym, subst}, lemmas.Result.err_from_is_err_and}
-use Rattle.domain_message.specs.Name.{LabelsFault}
-use Rattle.domain_message.proofs.NameLemmas.{fault_on}
+use Rattle.domain_message.{specs.Name.LabelsFault, proofs.NameLemmas.fault_on}
 use Rattle.domain_message.proofs.name.read_labels.Goals as goal
 
 pub returns-in_err-target-2-clause-err : goal.returns-in_err-target-2-clause-err

@@ -1,5 +1,4 @@
-use Rattle.std.proofs.{Common.{◌≡◌, ◌∙◌, length, ap, sym, arith}, lemmas.Grind.common_steps}
-use Rattle.std.specs.List.{refill}
+use Rattle.std.{proofs.{Common.{◌≡◌, ◌∙◌, length, ap, sym, arith}, lemmas.Grind.common_steps}, specs.List.refill}
 use Rattle.domain_octets.specs.Written.{refilled}
 use Rattle.domain_names.proofs.SpellingLemmas.{named_fits}
 use Rattle.domain_names.proofs.text.read_plain_name.Goals as goal

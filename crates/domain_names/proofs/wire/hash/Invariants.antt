@@ -1,6 +1,5 @@
-use Rattle.std.proofs.Common.{◌≡◌, map, take, fold, flat_map}
+use Rattle.std.{proofs.Common.{◌≡◌, map, take, fold, flat_map}, specs.Char.to_ascii_lowercase}
 use Rattle.std.specs.Hash as fed
-use Rattle.std.specs.Char.{to_ascii_lowercase}
 use Rattle.domain_names.proofs.wire.hash.Given as goal
 
 abbrev pub invariant-loop-octet : goal.invariant-loop-octet

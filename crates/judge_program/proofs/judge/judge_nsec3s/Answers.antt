@@ -1,5 +1,4 @@
-use Rattle.judge_program.proofs.Nsec3RunLemmas.{nsec3_text_is, nsec3_unwritten}
-use Rattle.judge_program.specs.Told.{tellings_of}
+use Rattle.judge_program.{proofs.Nsec3RunLemmas.{nsec3_text_is, nsec3_unwritten}, specs.Told.tellings_of}
 use Rattle.judge_program.proofs.judge.judge_nsec3s.Goals as goal
 
 pub returns-in-Ok-clause-ok : goal.returns-in-Ok-clause-ok

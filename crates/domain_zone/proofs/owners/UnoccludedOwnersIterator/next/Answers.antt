@@ -1,10 +1,8 @@
-use Rattle.std.proofs.{lemmas.Grind.common_steps, Common.{Bool, Option, map, sym, ap, ◌∙◌, arith}}
-use Rattle.std.specs.Option.{option_map}
+use Rattle.std.{proofs.{lemmas.Grind.common_steps, Common.{Bool, Option, map, sym, ap, ◌∙◌, arith}}, specs.Option.option_map}
 use Rattle.domain_records.specs.{Groups.same_owner, Runs.runs}
 use Rattle.domain_base.specs.Types.{dname}
 use Rattle.domain_names.specs.Words.{Name}
-use Rattle.domain_zone.specs.{View.as_zone_record, Walk.left_owners, Zone.has_type}
-use Rattle.domain_zone.proofs.{GroupLemmas.cut_test, LeftLemmas.{left_given, left_none}}
+use Rattle.domain_zone.{specs.{View.as_zone_record, Walk.left_owners, Zone.has_type}, proofs.{GroupLemmas.cut_test, LeftLemmas.{left_given, left_none}}}
 use Rattle.domain_zone.proofs.owners.UnoccludedOwnersIterator.next.Goals as goal
 
 pub returns-in-Some-clause-steps : goal.returns-in-Some-clause-steps
