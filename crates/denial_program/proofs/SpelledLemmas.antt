@@ -105,13 +105,13 @@ are_sound rtype old (Nsec d) (own other text) = (
   spelled_name text.1.1.token d.next_name text.1.1.holds,
   subst IsBitmap (sym text.1.2.built) (IsBitmap-bitmap_octets (is_among text.1.2.types)),
 )
-are_sound rtype old (Nsec d) (generic wire text are end) = (are.1.begins.fits.0, are.1.bitmap)
+are_sound rtype old (Nsec d) (generic wire text are end) = are.1.fits
 are_sound rtype old (Nsec3 d) (own other text) =
     let hash = text.1.1 in (
       (spelled_params old hash.0 (nsec3_values d).0.0 hash.1, spelled_hash hash.2.token d.next_owner hash.2.holds),
       subst IsBitmap (sym text.1.2.built) (IsBitmap-bitmap_octets (is_among text.1.2.types)),
     )
-are_sound rtype old (Nsec3 d) (generic wire text are end) = (are.1.begins.fits.0, are.1.bitmap)
+are_sound rtype old (Nsec3 d) (generic wire text are end) = are.1.fits
 are_sound rtype old (Nsec3param d) (own other text) = spelled_params old [] (nsec3param_values d) text.1
 are_sound rtype old (Nsec3param d) (generic wire text are end) = are.1.fits
 are_sound rtype old (Unknown d) (own other text) = absurd text.1
@@ -165,7 +165,7 @@ Gives {K} rtype Is =
 pub nsec_given : Gives rtypes.nsec IsNsecOf
 nsec_given owner class ttl (Nsec d) sound e = (
   record { owner = owner; next = d.next_name; class = class; ttl = ttl; bits = d.types },
-  record { is = refl; fits = record { next = sound.0; bits = sound.1 } },
+  record { is = refl; fits = sound },
 )
 nsec_given owner class ttl (Unknown d) sound e = absurd (formless d.rtype rtypes.nsec next_by_name sound e refl)
 nsec_given owner class ttl d sound e = absurd (omega arith)
@@ -181,7 +181,7 @@ nsec3_given owner class ttl (Nsec3 d) sound e = (
     flags = d.flags;
     bits = d.types;
   },
-  record { is = refl; fits = record { fields = sound.0; bits = sound.1 } },
+  record { is = refl; fits = sound },
 )
 nsec3_given owner class ttl (Unknown d) sound e = absurd (formless d.rtype rtypes.nsec3 next_by_hash sound e refl)
 nsec3_given owner class ttl d sound e = absurd (omega arith)

@@ -1,8 +1,7 @@
 -- octets read as blocks
 use Rattle.std.proofs.Common.{◌≡◌, ℕ, zero, suc, ◌+◌, ◌-◌, ◌*◌, ◌/◌, ◌%◌, ◌^◌, ◌<◌, ◌≤◌, true, false, List, [], ◌∷◌, ◌++◌, length, slice_index, get_or, take}
-use Rattle.std.proofs.{Common.{drop, refl, sym, ap, ◌∙◌, subst, arith, length-drop}, lemmas.List.{drop_at, length-take, Elements.{All-append, All-nil}}}
+use Rattle.std.proofs.{Common.{drop, refl, ap, ◌∙◌, subst, arith, length-drop}, lemmas.List.{drop_at, length-take}}
 use Rattle.std.{proofs.lemmas.Grind.common_steps, specs.List.{AllByRecursion, flat_map}}
-use Rattle.domain_octets.specs.Words.{AreOctets}
 use Rattle.domain_bitmap.{proofs.{RangeLemmas.filter_none, BitLemmas.{bit_of-zero, bit_of-shl}}, specs.Blocks.{Block, IsBlock, octets_of_blocks, blocks_within}}
 use Rattle.domain_bitmap.specs.{Blocks.{blocks_of, IsBitmap, block_types_from, types_from, types_of}, Bits.{bit_of, has_bit}}
 
@@ -124,21 +123,3 @@ unfolding types_of
 types_from_start octets = types_from-blocks (blocks_of octets)
 
 pub ruleset iter_steps = (types_from-blocks)
-
--- ---- bitmaps are octets
-
-small_at : (octets : List ℕ) → ((i : ℕ) → slice_index octets i < 256) → AllByRecursion (λ octet. octet < 256) octets
-small_at [] bounded = tt
-small_at (octet ∷ octets) bounded = (bounded 0, small_at octets (λ i. bounded (suc i)))
-
-small_block : (block : Block) → IsBlock block → AreOctets (block.window ∷ length block.octets ∷ block.octets)
-small_block block is = grind (arith, common_steps, (small_at block.octets is.bounded))
-
-blocks_small : (blocks : List Block) → AllByRecursion IsBlock blocks → AreOctets (octets_of_blocks blocks)
-blocks_small [] all = All-nil (λ octet. octet < 256)
-blocks_small (block ∷ blocks) (here, all) =
-    All-append (λ octet. octet < 256) (block.window ∷ length block.octets ∷ block.octets) _
-    (small_block block here) (blocks_small blocks all)
-
-pub bitmap_small : (octets : List ℕ) → IsBitmap octets → AreOctets octets
-bitmap_small octets is = subst AreOctets (sym is.spelled) (blocks_small (blocks_of octets) is.valid)

@@ -1,5 +1,5 @@
 -- why octets are no list of blocks
-use Rattle.std.proofs.{lemmas.Grind.common_steps, Common.{◌≡◌, ℕ, ◌+◌, ◌<◌, ◌≤◌, List, [], ◌∷◌, length, get_or, take, drop, sym, ap, ◌∙◌, subst, arith}}
+use Rattle.std.proofs.{lemmas.Grind.common_steps, Common.{◌≡◌, refl, ℕ, ◌+◌, ◌<◌, ◌≤◌, List, [], ◌∷◌, length, get_or, take, drop, sym, ap, subst, ◌∙◌, arith}}
 use Rattle.std.proofs.lemmas.List.{length-take, get_or-drop}
 use Rattle.domain_bitmap.specs.declared.error.RtypeBitmapError.{RtypeBitmapError, TheVariants.{ShortInput}}
 use Rattle.domain_bitmap.specs.Fault.{BitmapFault, bitmap_fault_of, FirstBlockFault, no_length, bad_length, cut_block, after}
@@ -54,6 +54,19 @@ no_fault (no_length window) bitmap = let none = bitmap.spelled ∙ ap octets_of_
 no_fault (bad_length window len rest bad) bitmap = grind (arith, common_steps, (block_at window len rest bitmap))
 no_fault (cut_block window len rest some small cut) bitmap = grind (arith, common_steps, (block_at window len rest bitmap))
 no_fault (after window len rest fault some small inside later) bitmap = no_fault later (block_at window len rest bitmap).rest
+
+-- octets have one first fault
+pub one_block_fault : {octets : List ℕ} {e f : RtypeBitmapError} → FirstBlockFault octets e → FirstBlockFault octets f → e ≡ f
+one_block_fault (no_length window) (no_length x) = refl
+one_block_fault (bad_length window len rest bad) (bad_length x l r also) = refl
+one_block_fault (bad_length window len rest bad) (cut_block x l r some small cut) = grind (arith, common_steps)
+one_block_fault (bad_length window len rest bad) (after x l r f some small inside q) = grind (arith, common_steps)
+one_block_fault (cut_block window len rest some small cut) (bad_length x l r bad) = grind (arith, common_steps)
+one_block_fault (cut_block window len rest some small cut) (cut_block x l r more also short) = refl
+one_block_fault (cut_block window len rest some small cut) (after x l r f more also inside q) = absurd (omega arith)
+one_block_fault (after window len rest e some small inside p) (bad_length x l r bad) = grind (arith, common_steps)
+one_block_fault (after window len rest e some small inside p) (cut_block x l r more also cut) = absurd (omega arith)
+one_block_fault (after window len rest e some small inside p) (after x l r f more also within q) = one_block_fault p q
 
 -- a fault by its name
 pub bitmap_fault : (octets : List ℕ) (first : RtypeBitmapError) (fault : Fault) → FirstBlockFault octets first

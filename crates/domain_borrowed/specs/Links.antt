@@ -1,14 +1,15 @@
 -- Records of chains as octets.
-use Rattle.domain_names.specs.Name.{IsName}
 use Rattle.domain_base.specs.Types as rtypes
-use Rattle.domain_bitmap.specs.Blocks.{IsBitmap}
 use Rattle.domain_fields.specs.Layout.{Values, Fits, octets_of}
-use Rattle.domain_chain_rdata.specs.Rdata.{nsec, nsec3, hash_fields, nsec3param}
+use Rattle.domain_chain_rdata.specs.Rdata.{nsec, nsec3, nsec3param}
 use Rattle.domain_nsec.specs.Chain.{Link}
 use Rattle.domain_nsec3.specs.Chain.{HashedLink, ParamRecord}
 use Rattle.domain_borrowed.specs.Data.{RawRecord}
 
 -- ---- NSEC
+
+abbrev pub next_values : Link → Values nsec
+next_values k = (k.next, k.bits)
 
 -- the record of a link (RFC 4034, section 4.1)
 abbrev pub nsec_record : Link → RawRecord
@@ -17,20 +18,19 @@ nsec_record k =
       owner = k.owner;
       class = k.class;
       ttl = k.ttl;
-      «data» = record { rtype = rtypes.nsec; octets = octets_of nsec (k.next, k.bits) };
+      «data» = record { rtype = rtypes.nsec; octets = octets_of nsec (next_values k) };
     }
 
 -- the next name and the bitmap have such octets
-pub record IsNsec (k : Link) : Type 0 where
-  pub next : IsName k.next
-  pub bits : IsBitmap k.bits
+abbrev pub IsNsec : Link → Type 0
+IsNsec k = Fits nsec (next_values k)
 
 -- ---- NSEC3
 
-abbrev pub hash_values : HashedLink → Values hash_fields
+abbrev pub hash_values : HashedLink → Values nsec3
 hash_values k =
     let p = k.parameters in
-    (((p.algorithm, (k.flags, p.iterations)), p.salt), k.next)
+    ((((p.algorithm, (k.flags, p.iterations)), p.salt), k.next), k.bits)
 
 -- the record of a link (RFC 5155, section 3.2)
 abbrev pub nsec3_record : HashedLink → RawRecord
@@ -39,13 +39,12 @@ nsec3_record k =
       owner = k.owner;
       class = k.class;
       ttl = k.ttl;
-      «data» = record { rtype = rtypes.nsec3; octets = octets_of nsec3 (hash_values k, k.bits) };
+      «data» = record { rtype = rtypes.nsec3; octets = octets_of nsec3 (hash_values k) };
     }
 
 -- the fields and the bitmap have such octets
-pub record IsNsec3 (k : HashedLink) : Type 0 where
-  pub fields : Fits hash_fields (hash_values k)
-  pub bits : IsBitmap k.bits
+abbrev pub IsNsec3 : HashedLink → Type 0
+IsNsec3 k = Fits nsec3 (hash_values k)
 
 -- ---- NSEC3PARAM
 

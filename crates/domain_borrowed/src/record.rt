@@ -25,6 +25,7 @@ pub type ReadNsec3param<'a> = Record<ParsedName<'a>, Nsec3param<&'a [u8]>>;
 
 /// The record with its data read as NSEC data (RFC 4034, section 4.1). None where it is of another
 /// type, or the octets are no such data.
+#[tactic(auto, using(crate::proofs::DataLemmas::no_nsec))]
 pub fn into_nsec<'a>(borrowed: BorrowedRecord<'a>) -> Option<ReadNsec<'a>>
     ensures some { IfSome result (λ r. (borrowed.entry ≡ nsec_record (as_link (λ n. n) r))
         × IsNsec (as_link (λ n. n) r)) }
@@ -43,6 +44,7 @@ pub fn into_nsec<'a>(borrowed: BorrowedRecord<'a>) -> Option<ReadNsec<'a>>
 
 /// The record with its data read as NSEC3 data (RFC 5155, section 3.2). None where it is of another
 /// type, or the octets are no such data.
+#[tactic(auto, using(crate::proofs::DataLemmas::no_nsec3))]
 pub fn into_nsec3<'a>(borrowed: BorrowedRecord<'a>) -> Option<ReadNsec3<'a>>
     ensures some { IfSome result (λ r. (borrowed.entry ≡ nsec3_record (as_hashed_link (λ n. n) r))
         × IsNsec3 (as_hashed_link (λ n. n) r)) }

@@ -1,4 +1,3 @@
-pub mod NsecLemmas
-pub mod Nsec3Lemmas
+pub mod DataLemmas
 pub mod TextLemmas
 pub mod ReadBackLemmas

@@ -9,7 +9,7 @@ use Rattle.domain_bitmap.specs.{Bitmap.bitmap_octets, Blocks.{IsBitmap, IsShorte
 use Rattle.domain_bitmap.proofs.ReadBackLemmas.{are_types, texts_spell, types_after, spaced_words, bitmap_back, salt_back, salt_word}
 use Rattle.domain_fields.{specs.Layout.{Values, Fits}, proofs.ReadBackLemmas.fields_back}
 use Rattle.domain_chain_rdata.specs.{Nsec3Text.{HashText, Nsec3Text, nsec3_text}, Nsec3paramText.{Nsec3paramText, hash_numbers_text, nsec3param_text}}
-use Rattle.domain_chain_rdata.specs.{NsecText.{BitmapText, NsecText}, Rdata.{hash_numbers, nsec3param, hash_fields, nsec3}}
+use Rattle.domain_chain_rdata.specs.{NsecText.{BitmapText, NsecText}, Rdata.{hash_numbers, nsec, nsec3param, hash_fields, nsec3}}
 
 -- the bitmap of the types of a bitmap
 abbrev pub rebuilt : List ℕ → List ℕ
@@ -20,9 +20,9 @@ rebuilt octets = bitmap_octets (is_among (types_of octets))
 types_read : (octets : List ℕ) → IsBitmap octets → BitmapText (map type_text (types_of octets)) (rebuilt octets) []
 types_read octets bitmap = record { types = types_of octets; spelled = texts_spell (types_of octets) (are_types octets bitmap); built = refl; all = refl }
 
-pub nsec_text_back : (labels : List (List ℕ)) (octets : List ℕ) → IsName labels → IsBitmap octets
+pub nsec_text_back : (labels : List (List ℕ)) (octets : List ℕ) → Fits nsec (labels, octets)
     → NsecText (words_of (name_text labels ++ 46 ∷ 32 ∷ [] ++ types_text (types_of octets))) labels (rebuilt octets) []
-nsec_text_back labels octets valid bitmap =
+nsec_text_back labels octets (valid, bitmap) =
     let types = types_of octets in
     let name = name_text labels ++ 46 ∷ [] in
     let words : words_of (name_text labels ++ 46 ∷ 32 ∷ [] ++ types_text types) ≡ name ∷ map type_text types =
@@ -30,10 +30,10 @@ nsec_text_back labels octets valid bitmap =
     ∙ types_after name types (are_types octets bitmap) ∙ ap (λ l. l ++ map type_text types) (one_word name (name_word labels valid)) in
     (map type_text types, record { token = name; first = words; holds = dotted_name_back labels valid }, types_read octets bitmap)
 
-pub nsec_text_same : (labels : List (List ℕ)) (octets : List ℕ) → IsName labels → IsBitmap octets → IsShortest octets
+pub nsec_text_same : (labels : List (List ℕ)) (octets : List ℕ) → Fits nsec (labels, octets) → IsShortest octets
     → NsecText (words_of (name_text labels ++ 46 ∷ 32 ∷ [] ++ types_text (types_of octets))) labels octets []
-nsec_text_same labels octets valid bitmap shortest =
-    grind (arith, common_steps, nsec_text_back, (bitmap_back octets bitmap shortest), (nsec_text_back labels octets valid bitmap))
+nsec_text_same labels octets fits shortest =
+    grind (arith, common_steps, (bitmap_back octets fits.1 shortest), (nsec_text_back labels octets fits))
 
 -- ---- the parameters of hashes
 
@@ -62,17 +62,15 @@ hash_read : (v : Values hash_fields) (after : List (List ℕ)) → Fits hash_fie
 hash_read v after fits =
     grind (arith, common_steps, (params_read v.0 (base32_upper v.1 ∷ after) fits.0), (upper_reads_back v.1 fits.1.1))
 
-nsec3_words : (v : Values nsec3) → Fits nsec3 v → v.0.1 ≢ [] → IsBitmap v.1
+nsec3_words : (v : Values nsec3) → Fits nsec3 v → v.0.1 ≢ []
     → words_of (nsec3_text v) ≡ params_tokens v.0.0 ++ base32_upper v.0.1 ∷ map type_text (types_of v.1)
-nsec3_words v fits some bitmap = grind (arith, common_steps, spaced_words, are_types, next_word, upper_base32_word, params_words)
+nsec3_words v fits some = grind (arith, common_steps, spaced_words, are_types, next_word, upper_base32_word, params_words)
 
-pub nsec3_text_back : (v : Values nsec3) → Fits nsec3 v → v.0.1 ≢ [] → IsBitmap v.1
-    → Nsec3Text (words_of (nsec3_text v)) (v.0, rebuilt v.1) []
-nsec3_text_back v fits some bitmap =
+pub nsec3_text_back : (v : Values nsec3) → Fits nsec3 v → v.0.1 ≢ [] → Nsec3Text (words_of (nsec3_text v)) (v.0, rebuilt v.1) []
+nsec3_text_back v fits some =
     let types = map type_text (types_of v.1) in
-    subst (λ tokens. Nsec3Text tokens (v.0, rebuilt v.1) []) (sym (nsec3_words v fits some bitmap))
-    (types, hash_read v.0 types fits.0, types_read v.1 bitmap)
+    subst (λ tokens. Nsec3Text tokens (v.0, rebuilt v.1) []) (sym (nsec3_words v fits some))
+    (types, hash_read v.0 types fits.0, types_read v.1 fits.1)
 
-pub nsec3_text_same : (v : Values nsec3) → Fits nsec3 v → v.0.1 ≢ [] → IsBitmap v.1 → IsShortest v.1
-    → Nsec3Text (words_of (nsec3_text v)) v []
-nsec3_text_same v fits some bitmap shortest = grind (arith, common_steps, bitmap_back, nsec3_text_back)
+pub nsec3_text_same : (v : Values nsec3) → Fits nsec3 v → v.0.1 ≢ [] → IsShortest v.1 → Nsec3Text (words_of (nsec3_text v)) v []
+nsec3_text_same v fits some shortest = grind (arith, common_steps, bitmap_back, nsec3_text_back)

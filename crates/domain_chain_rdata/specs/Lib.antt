@@ -2,8 +2,6 @@ pub mod Rdata
 pub mod Laws
 pub mod NsecText
 pub mod NsecConvert
-pub mod NsecWire
 pub mod OptOut
 pub mod Nsec3paramText
-pub mod Nsec3Wire
 pub mod Nsec3Text

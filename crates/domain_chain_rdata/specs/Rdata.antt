@@ -1,20 +1,20 @@
 -- the fields of record data, in the order of the wire
 use Rattle.domain_octets.specs.Words.{Octets}
-use Rattle.domain_fields.specs.{Field.{octet, short, name, spelled_name, counted, rest}, Layout.{Layout, one, ◌▸◌, Values, octets_of}}
+use Rattle.domain_fields.specs.{Field.{octet, short, name, spelled_name, counted, rest, types}, Layout.{Layout, one, ◌▸◌, Values, octets_of}}
 use Rattle.domain_chain_rdata.specs.declared.{nsec.Nsec.Nsec, nsec3.Nsec3.Nsec3, nsec3param.Nsec3param.Nsec3param}
 use Rattle.domain_names.specs.Words.{Name}
 
 -- the next name, whose case the canonical form keeps (RFC 6840, section 5.1), and the type bitmap
 -- (RFC 4034, section 4.1)
 abbrev pub nsec : Layout
-nsec = one spelled_name ▸ one rest
+nsec = one spelled_name ▸ one types
 
 abbrev pub nsec_values : {O N : Type 0} → (N → Name) → Nsec O N → Values nsec
 nsec_values labels d = (labels d.next_name, d.types)
 
 -- what is hashed of it: the next name lowered, since data that differ in its case alone are equal
 abbrev pub nsec_hashed : Layout
-nsec_hashed = one name ▸ one rest
+nsec_hashed = one name ▸ one types
 
 -- hash algorithm, flags and iterations
 abbrev pub hash_numbers : Layout
@@ -43,7 +43,7 @@ hash_fields = nsec3param ▸ one counted
 
 -- those, and the type bitmap
 abbrev pub nsec3 : Layout
-nsec3 = hash_fields ▸ one rest
+nsec3 = hash_fields ▸ one types
 
 abbrev pub nsec3_values : {O : Type 0} → Nsec3 O → Values nsec3
 nsec3_values d = ((((d.hash_algorithm, (d.flags, d.iterations)), d.salt), d.next_owner), d.types)

@@ -1,30 +1,34 @@
 //! The next name and the types at a name: written, compared, hashed, copied.
-ghost use Rattle.std.specs.Prelude.{◌≡◌, ◌⊎◌, ◌&&◌, Some, IfOk, IsNone, length, refl, bytes_eq};
+ghost use Rattle.std.specs.Prelude.{◌≡◌, ◌⊎◌, ◌&&◌, Some, IfOk, IfErr, OnErr, IsNone, length};
+ghost use Rattle.std.specs.Prelude.{refl, bytes_eq};
 ghost use Rattle.std.specs.Ordering.{on, nat_cmp, then_cmp, eq_of_both, ordering_then};
 ghost use Rattle.std.specs.Cmp.{on_equiv, on_total, then_total, and_equiv, partial_equiv_from_equiv, po};
 ghost use Rattle.std.specs.Cmp.Lexicographic.{slice_cmp, on_texts, nat_list_cmp_total, nat_list_eq_equiv};
 ghost use Rattle.std.specs.List.{flat_map};
 ghost use Rattle.std.specs.Hash as fed;
 ghost use Rattle.domain_octets.specs.Limit.{IsOver};
-ghost use Rattle.domain_names.specs.{Name.same_name, Laws.same_name_equiv};
+ghost use Rattle.domain_names.specs.{Name.same_name, Laws.same_name_equiv, Fault.fault_of};
 ghost use Rattle.domain_names.specs.Order.{canonical_cmp as name_cmp, canonical_cmp_total};
 ghost use Rattle.domain_base.specs.Types as rtypes;
-ghost use Rattle.domain_bitmap.specs.Blocks.{IsBitmap};
 ghost use Rattle.domain_fields.specs.{DataClone.same_values_tie, Laws.ties_of_both};
-ghost use Rattle.domain_fields.specs.Layout.{octets_of, canonical_of};
+ghost use Rattle.domain_fields.specs.Layout.{octets_of, canonical_of, Begins, FirstFault, GoesOn};
 ghost use Rattle.domain_chain_rdata.specs.Rdata.{nsec, nsec_values, nsec_hashed};
 ghost use Rattle.domain_chain_rdata.specs.{Laws.nsec_fed, NsecConvert.{IsNsecClone, IsSameNsec}};
 
 use domain_base::{CanonicalOrd, ParsedName, Rtype, ToName};
 use domain_bitmap::RtypeBitmap;
-use domain_fields::{Fields, MAX_RDLEN, Rest, Spelled};
+use domain_fields::{Fields, MAX_RDLEN, ReadFields, Spelled};
 use domain_octets::{
-    AppendError, CopyOctets, FlattenInto, Octets, OctetsBuilder, OctetsFrom, OutOfMemory, TryClone,
+    AppendError, CopyOctets, FlattenInto, Octets, OctetsBuilder, OctetsFrom, OutOfMemory,
+    ParseError, Parser, TryClone,
 };
-use domain_record::{CloneRecordData, ComposeRecordData, RecordData, both};
+use domain_record::{CloneRecordData, ComposeRecordData, ParseRecordData, RecordData, both};
 use std::alloc::Global;
 use std::cmp::Ordering;
 use std::hash::{Hash, Hasher};
+
+/// The next name and the types.
+pub type NsecFields<'a> = (Spelled<ParsedName<'a>>, RtypeBitmap<&'a [u8]>);
 
 /// The next owner of a zone's chain, and the types at this one (RFC 4034, section 4).
 #[derive(Drop)]
@@ -76,12 +80,49 @@ impl<O: Octets, N> Nsec<O, N> {
 
 impl<O: Octets, N: ToName> Nsec<O, N> {
     /// The fields, in the order of the wire.
-    pub(crate) fn fields(&self) -> (Spelled<ParsedName<'_>>, Rest<'_>)
-        ensures values { nsec_values N.labels self.now ≡ (result.0.0, result.1.0.now) }
-        ensures bitmap { IsBitmap self.now.types }
+    pub(crate) fn fields(&self) -> NsecFields<'_>
+        ensures { nsec_values N.labels self.now ≡ (result.0.0, result.1) }
     {
-        let next_name = Spelled(self.next_name.as_parsed());
-        (next_name, Rest(self.types.as_slice()))
+        let types = self.types.with_octets(self.types.as_slice());
+        (Spelled(self.next_name.as_parsed()), types)
+    }
+}
+
+impl<'a> Nsec<&'a [u8], ParsedName<'a>> {
+    /// The data that all octets that are left are: a name, and then a type bitmap (RFC 4034,
+    /// section 4.1). Takes no memory.
+    ///
+    /// # Errors
+    ///
+    /// The first fault in field order: of the name, at the first label that is at fault, a missing
+    /// octet is `ShortInput`, a length over 63 or a pointer `Form("compressed or bad label")`, a
+    /// name over 255 octets `Form("long domain name")`; of the bitmap, a missing octet is
+    /// `ShortInput` and a block of no or over 32 octets `Form("invalid NSEC bitmap")`. The parser
+    /// then stands where it stood.
+    pub fn parse(parser: &mut Parser<'a>) -> Result<Self, ParseError>
+        ensures ok { IfOk result (λ d.
+            Begins nsec parser.old.left (nsec_values (λ name. name) d) parser.new.left) }
+        ensures err { IfErr result (λ e. FirstFault nsec parser.old.left (fault_of e)) }
+        ensures unmoved { OnErr result (parser.new ≡ parser.old) }
+        ensures goes_on { GoesOn parser.old parser.new }
+    {
+        let (Spelled(next_name), types) = NsecFields::<'a>::read(parser)?;
+        Ok(Nsec::new(next_name, types))
+    }
+}
+
+impl<'a> ParseRecordData<'a> for Nsec<&'a [u8], ParsedName<'a>> {
+    ghost is_read = { λ rtype. rtype ≡ rtypes.nsec };
+
+    ghost begins = { λ octets d after. Begins nsec octets (nsec_values (λ name. name) d) after };
+
+    ghost faults = { FirstFault nsec };
+
+    fn parse_rdata(rtype: Rtype, parser: &mut Parser<'a>) -> Result<Option<Self>, ParseError> {
+        if rtype != Rtype::NSEC {
+            return Ok(None);
+        }
+        Ok(Some(Self::parse(parser)?))
     }
 }
 
@@ -215,8 +256,8 @@ impl<O: Octets, N: ToName> Hash for Nsec<O, N> {
     ghost respects_eq = { (nsec_fed (λ d. N.labels d.next_name) (λ d. d.types)).fed };
 
     fn hash<H: Hasher>(&self, state: &mut H) {
-        let next_name = self.next_name().as_parsed();
-        (next_name, Rest(self.types().as_slice())).feed(state);
+        let (Spelled(next_name), types) = self.fields();
+        (next_name, types).feed(state);
     }
 }
 

@@ -1,25 +1,28 @@
 //! The next hash and the types at a hashed name: written, compared, hashed, copied.
-ghost use Rattle.std.specs.Prelude.{◌≡◌, ◌↔◌, ◌⊎◌, Some, IsTrue, IfOk, IsNone, length, refl, bytes_eq};
+ghost use Rattle.std.specs.Prelude.{◌≡◌, ◌↔◌, ◌⊎◌, Some, IsTrue, IfOk, IfErr, OnErr, IsNone};
+ghost use Rattle.std.specs.Prelude.{length, refl, bytes_eq};
 ghost use Rattle.std.specs.{Ordering.{on, nat_cmp}, Cmp.{partial_equiv_from_equiv, po}};
 ghost use Rattle.std.specs.Cmp.Lexicographic.{slice_cmp, on_texts, on_texts_equal};
 ghost use Rattle.std.specs.List.{flat_map};
 ghost use Rattle.std.specs.Hash as fed;
 ghost use Rattle.domain_octets.specs.Limit.{IsOver};
-ghost use Rattle.domain_bitmap.specs.Blocks.{IsBitmap};
+ghost use Rattle.domain_names.specs.Fault.{fault_of};
 ghost use Rattle.domain_base.specs.Types as rtypes;
-ghost use Rattle.domain_fields.specs.{DataClone.copies_tied, Laws.{fed_alike, tied_octets}, Layout.Fits};
+ghost use Rattle.domain_fields.specs.{DataClone.copies_tied, Laws.{fed_alike, tied_octets}};
+ghost use Rattle.domain_fields.specs.Layout.{Begins, FirstFault, Fits, GoesOn};
 ghost use Rattle.domain_chain_rdata.specs.OptOut.{is_opt_out};
 ghost use Rattle.domain_chain_rdata.specs.Rdata.{nsec3, nsec3_values, nsec3_octets, nsec3param_values};
 
 use crate::Nsec3param;
-use crate::nsec3param::{HashNumbers, ParamFields, has_opt_out};
+use crate::nsec3param::{HashNumbers, ParamFields, has_opt_out, params_of};
 use domain_base::{CanonicalOrd, Nsec3HashAlgorithm, Rtype};
 use domain_bitmap::{Nsec3Salt, OwnerHash, RtypeBitmap};
-use domain_fields::{Counted, Fields, MAX_RDLEN, Rest};
+use domain_fields::{Counted, Fields, MAX_RDLEN, ReadFields};
 use domain_octets::{
-    AppendError, CopyOctets, Octets, OctetsBuilder, OctetsFrom, OutOfMemory, TryClone, laws,
+    AppendError, CopyOctets, Octets, OctetsBuilder, OctetsFrom, OutOfMemory, ParseError, Parser,
+    TryClone, laws,
 };
-use domain_record::{CloneRecordData, ComposeRecordData, RecordData, both};
+use domain_record::{CloneRecordData, ComposeRecordData, ParseRecordData, RecordData, both};
 use std::alloc::Global;
 use std::cmp::Ordering;
 use std::hash::{Hash, Hasher};
@@ -37,8 +40,8 @@ pub struct Nsec3<O: Octets> {
     types: RtypeBitmap<O>,
 }
 
-/// The parameters and the next hash.
-pub type HashFields<'a> = (ParamFields<'a>, Counted<'a>);
+/// The parameters, the next hash, and the types.
+pub type Nsec3Fields<'a> = ((ParamFields<'a>, Counted<'a>), RtypeBitmap<&'a [u8]>);
 
 impl<O: Octets> Nsec3<O> {
     /// The data of these fields. Takes no memory.
@@ -176,13 +179,12 @@ impl<O: Octets> Nsec3<O> {
     }
 
     /// The fields, in the order of the wire.
-    pub(crate) fn fields(&self) -> (HashFields<'_>, Rest<'_>)
+    pub(crate) fn fields(&self) -> Nsec3Fields<'_>
         ensures values { nsec3_values self.now ≡ (
           ((result.0.0.0, result.0.0.1.octets.now), result.0.1.octets.now),
-          result.1.0.now,
+          result.1,
         ) }
         ensures fits { Fits nsec3 (nsec3_values self.now) }
-        ensures bitmap { IsBitmap self.now.types }
     {
         let salt = Counted::new(self.salt.as_slice());
         let next_owner = Counted::new(self.next_owner.as_slice());
@@ -190,7 +192,47 @@ impl<O: Octets> Nsec3<O> {
         laws::slices_hold_octets(salt.as_slice());
         laws::slices_hold_octets(next_owner.as_slice());
         laws::slices_hold_octets(types);
-        (((self.numbers(), salt), next_owner), Rest(types))
+        (
+            ((self.numbers(), salt), next_owner),
+            self.types.with_octets(types),
+        )
+    }
+}
+
+impl<'a> Nsec3<&'a [u8]> {
+    /// The data that all octets that are left are: hash algorithm, flags, iterations, a counted
+    /// salt, a counted hash, and then a type bitmap (RFC 5155, section 3.2). Takes no memory.
+    ///
+    /// # Errors
+    ///
+    /// The first fault in field order: a missing octet is `ShortInput`; of the bitmap, a block of
+    /// no or over 32 octets is `Form("invalid NSEC bitmap")`. The parser then stands where it
+    /// stood.
+    pub fn parse(parser: &mut Parser<'a>) -> Result<Self, ParseError>
+        ensures ok { IfOk result (λ d.
+            Begins nsec3 parser.old.left (nsec3_values d) parser.new.left) }
+        ensures err { IfErr result (λ e. FirstFault nsec3 parser.old.left (fault_of e)) }
+        ensures unmoved { OnErr result (parser.new ≡ parser.old) }
+        ensures goes_on { GoesOn parser.old parser.new }
+    {
+        let ((params, hash), types) = Nsec3Fields::<'a>::read(parser)?;
+        let next_owner = OwnerHash::from_octets_unchecked(hash.as_slice());
+        Ok(Nsec3::of_params(params_of(params), next_owner, types))
+    }
+}
+
+impl<'a> ParseRecordData<'a> for Nsec3<&'a [u8]> {
+    ghost is_read = { λ rtype. rtype ≡ rtypes.nsec3 };
+
+    ghost begins = { λ octets d after. Begins nsec3 octets (nsec3_values d) after };
+
+    ghost faults = { FirstFault nsec3 };
+
+    fn parse_rdata(rtype: Rtype, parser: &mut Parser<'a>) -> Result<Option<Self>, ParseError> {
+        if rtype != Rtype::NSEC3 {
+            return Ok(None);
+        }
+        Ok(Some(Self::parse(parser)?))
     }
 }
 
@@ -244,7 +286,7 @@ impl<O: Octets> Nsec3<O> {
         ensures value { result ≡ bytes_eq (nsec3_octets self.now) (nsec3_octets other.now) }
         ensures same { IsTrue result ↔ (nsec3_values self.now ≡ nsec3_values other.now) }
     {
-        self.fields().order(&other.fields()).is_eq()
+        domain_fields::canonical_eq(&self.fields(), &other.fields())
     }
 
     /// The order by the fields in the order of the wire, shorter salts and hashes first, also of

@@ -7,7 +7,6 @@ ghost use Rattle.domain_bitmap.specs.Scan.{is_among};
 ghost use Rattle.domain_fields.specs.Layout.{ParsesBack, Values};
 ghost use Rattle.domain_chain_rdata.specs.Nsec3paramText.{Nsec3paramText, RefusesNsec3param, nsec3param_text};
 ghost use Rattle.domain_chain_rdata.specs.Nsec3Text.{HashText, Nsec3Text, RefusesNsec3, nsec3_text};
-ghost use Rattle.domain_chain_rdata.specs.Nsec3Wire.{Nsec3ParsesBack};
 ghost use Rattle.domain_chain_rdata.specs.Rdata.{hash_fields, nsec3, nsec3_values, nsec3param, nsec3param_values};
 ghost use Rattle.domain_names.specs.{TextFault.{ScanFault, IsOfTokens}, Words.Tokens};
 
@@ -15,7 +14,7 @@ use crate::{Nsec3, Nsec3param};
 use domain_octets::Octets;
 
 /// The octets of parameters are read as these parameters, in no other way, and nothing is left.
-#[tactic(auto, using(crate::proofs::Nsec3Lemmas::params_back))]
+#[tactic(auto, using(crate::proofs::DataLemmas::params_back))]
 pub fn nsec3param_parses_back<O: Octets>(value: &Nsec3param<O>)
     ensures { ParsesBack nsec3param (nsec3param_values value.now) }
 {
@@ -24,9 +23,9 @@ pub fn nsec3param_parses_back<O: Octets>(value: &Nsec3param<O>)
 
 /// The octets of NSEC3 data are read as these fields, the last a type bitmap, in no other way, and
 /// nothing is left.
-#[tactic(auto, using(crate::proofs::Nsec3Lemmas::nsec3_back))]
+#[tactic(auto, using(crate::proofs::DataLemmas::nsec3_back))]
 pub fn nsec3_parses_back<O: Octets>(value: &Nsec3<O>)
-    ensures { Nsec3ParsesBack (nsec3_values value.now) }
+    ensures { ParsesBack nsec3 (nsec3_values value.now) }
 {
     let _fields = value.fields();
 }

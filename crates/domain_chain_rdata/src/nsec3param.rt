@@ -282,7 +282,7 @@ impl<O: Octets> Nsec3param<O> {
         ensures value { result ≡ bytes_eq (uncounted_octets self.now) (uncounted_octets other.now) }
         ensures same { IsTrue result ↔ (nsec3param_values self.now ≡ nsec3param_values other.now) }
     {
-        self.uncounted().order(&other.uncounted()).is_eq()
+        domain_fields::canonical_eq(&self.uncounted(), &other.uncounted())
     }
 
     /// The order by hash algorithm, flags, iterations and salt, salts in lexicographic order, also

@@ -7,7 +7,8 @@ ghost use Rattle.domain_names.specs.Words.{Name, Tokens};
 ghost use Rattle.domain_bitmap.specs.{Bitmap.bitmap_octets, Blocks.{IsShortest, types_of}};
 ghost use Rattle.domain_bitmap.specs.{Scan.is_among, Text.types_text};
 ghost use Rattle.domain_chain_rdata.specs.NsecText.{NsecText, RefusesNsec};
-ghost use Rattle.domain_chain_rdata.specs.{NsecWire.NsecParsesBack, Rdata.nsec_values};
+ghost use Rattle.domain_chain_rdata.specs.Rdata.{nsec, nsec_values};
+ghost use Rattle.domain_fields.specs.Layout.{ParsesBack};
 
 use crate::Nsec;
 use domain_base::ToName;
@@ -16,9 +17,9 @@ use domain_octets::Octets;
 
 /// The octets of NSEC data are read as this name and this type bitmap, in no other way, and nothing
 /// is left.
-#[tactic(auto, using(crate::proofs::NsecLemmas::nsec_back))]
+#[tactic(auto, using(crate::proofs::DataLemmas::nsec_back))]
 pub fn nsec_parses_back<O: Octets, N: ToName>(value: &Nsec<O, N>)
-    ensures { NsecParsesBack (nsec_values N.labels value.now) }
+    ensures { ParsesBack nsec (nsec_values N.labels value.now) }
 {
     value.fields().fits();
 }

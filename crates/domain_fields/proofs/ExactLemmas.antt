@@ -1,15 +1,17 @@
 -- what is read is determined by the octets
-use Rattle.std.proofs.{lemmas.Grind.common_steps, Common.{◌≡◌, ℕ, true, List, [], ◌++◌, length, refl, sym, ap, ◌∙◌, arith, length-append, append_assoc}}
-use Rattle.std.{proofs.Common.append-nil, specs.Cmp.{first_so, second_so}}
+use Rattle.std.proofs.{lemmas.Grind.common_steps, Common.{◌≡◌, ℕ, true, List, [], ◌++◌, length, refl, sym, ap, subst, ◌∙◌, arith, length-append}}
+use Rattle.std.{proofs.Common.{append_assoc, append-nil}, specs.Cmp.{first_so, second_so}}
 use Rattle.domain_names.{specs.Fault.Fault, proofs.FaultLemmas.no_name_fault}
-use Rattle.domain_fields.specs.Field.{Field, rest, Value, field_octets, FieldFits, FieldEnds}
-use Rattle.domain_fields.specs.Field.{FieldFault, cut_octet, cut_short, cut_long, no_name, no_spelled_name, no_count, cut_counted, cut_exactly, too_long}
+use Rattle.domain_bitmap.{specs.Blocks.IsBitmap, proofs.FaultLemmas.no_bitmap_fault}
+use Rattle.domain_fields.specs.Field.{Field, rest, types, Value, field_octets, FieldFits, FieldEnds, FieldFault, cut_octet, cut_short, cut_long, no_name}
+use Rattle.domain_fields.specs.Field.{no_spelled_name, no_count, cut_counted, cut_exactly, no_types, too_long}
 use Rattle.domain_fields.specs.Layout.{Layout, one, ◌▸◌, Values, octets_of, Fits, Ends, Begins, ParsesBack, is_delimited, splits, FirstFault, in_field}
 use Rattle.domain_fields.{specs.Layout.{in_first, in_later}, proofs.OrderLemmas.{Same, same_field, same_data}}
 
 last_field : (f : Field) (v w : Value f) (r s : List ℕ) → FieldFits f v → FieldFits f w → FieldEnds f r → FieldEnds f s
     → field_octets f v ++ r ≡ field_octets f w ++ s → Same v w r s
 last_field rest v w r s fv fw er es e = grind (arith, common_steps)
+last_field types v w r s fv fw er es e = grind (arith, common_steps)
 last_field f v w r s fv fw er es e = same_field f v w r s refl fv fw e
 
 same_whole : (l : Layout) (v w : Values l) (r s : List ℕ) → splits l ≡ true → Fits l v → Fits l w → Ends l v r → Ends l w s
@@ -37,6 +39,8 @@ field_excludes f octets fault (no_spelled_name o d h) v r fits ends e = no_name_
 field_excludes f octets fault no_count v r fits ends e = cc
 field_excludes f octets fault (cut_counted count tail cut) v r fits ends e = grind (arith, common_steps)
 field_excludes f octets fault (cut_exactly count o d cut) v r fits ends e = omega (arith, cut.short, ap length e, length-append v r, fits.0)
+field_excludes f octets fault (no_types o d h) v r fits ends e =
+    no_bitmap_fault o d h (subst IsBitmap (sym (e ∙ ap (λ after. v ++ after) ends ∙ append-nil v)) fits)
 field_excludes f octets fault (too_long limit o d h) v r fits ends e = omega (arith, h.long, ends, ap length e)
 
 -- data of which one can tell where they end
@@ -70,8 +74,3 @@ parses_back l v split fits ends = record {
   alone = λ w r read. one_reading l _ w v r [] split read (begins_alone l v fits ends);
   no_fault = λ fault found. fault_excludes l _ fault found split v [] (begins_alone l v fits ends);
 }
-
--- data of the same octets are the same
-pub same_values : (l : Layout) (v w : Values l) → splits l ≡ true → Fits l v → Fits l w → Ends l v [] → Ends l w [] → octets_of l v ≡ octets_of l w → v ≡ w
-same_values l v w split fits_v fits_w ends_v ends_w same =
-    grind (arith, common_steps, begins_alone, (one_reading l (octets_of l w) v w), (begins_alone l v fits_v ends_v), (begins_alone l w fits_w ends_w))

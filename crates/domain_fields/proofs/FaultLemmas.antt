@@ -1,8 +1,10 @@
 -- octets have one first fault at most
-use Rattle.std.proofs.{lemmas.Grind.common_steps, Common.{◌≡◌, ℕ, zero, suc, ◌+◌, ◌<◌, true, List, [], ◌∷◌, length, drop, refl, sym, subst, ◌∙◌, arith}}
+use Rattle.std.proofs.{lemmas.Grind.common_steps, Common.{◌≡◌, ℕ, zero, suc, ◌+◌, ◌<◌, true, List, [], ◌∷◌, length, drop, refl, sym, ap, subst, ◌∙◌, arith}}
 use Rattle.std.{proofs.{Common.length-append, lemmas.Bool.Decides.nat_tests}, specs.{Prelude.{nat_lt, if◌then◌else◌, codes}, Cmp.{first_so, second_so}}}
 use Rattle.domain_names.specs.Fault.{Fault, ends_early, malformed, NameFault, no_octet, bad_label, long_name, cut_label, past_label}
-use Rattle.domain_fields.specs.{Field.{Field, name, spelled_name, at_most, FieldFault}, Layout.{Layout, is_delimited, splits, FirstFault, in_field, in_first}}
+use Rattle.domain_bitmap.{specs.Fault.bitmap_fault_of, proofs.FaultLemmas.one_block_fault}
+use Rattle.domain_fields.specs.{Field.{Field, FieldFault, no_types, too_long}, Layout.{Layout, is_delimited, splits, FirstFault, in_field, in_first}}
+use Rattle.domain_fields.specs.Field.{cut_octet, cut_short, cut_long, no_name, no_spelled_name, no_count, cut_counted, cut_exactly}
 use Rattle.domain_fields.{specs.Layout.in_later, proofs.{OrderLemmas.one_reading, ExactLemmas.{fault_excludes, delimited_splits}}}
 
 -- the fault that a name has, if it has one
@@ -24,19 +26,25 @@ name_fault_is (suc n) used octets fault no_octet below = refl
 name_fault_is (suc n) used octets fault (long_name len after some small big) below = grind (arith, common_steps)
 name_fault_is (suc n) used octets fault (cut_label len after some small brief cut) below = grind (arith, common_steps)
 
--- the fault that a field has, if it has one
-field_fault : Field → List ℕ → Fault
-field_fault name octets = name_fault (suc (length octets)) 0 octets
-field_fault spelled_name octets = name_fault (suc (length octets)) 0 octets
-field_fault (at_most limit) octets = malformed (codes "record data too long")
-field_fault _ octets = ends_early
+one_name_fault : (octets : List ℕ) (x y : Fault) → NameFault 0 octets x → NameFault 0 octets y → x ≡ y
+one_name_fault octets x y p q =
+    name_fault_is (suc (length octets)) 0 octets x p (omega arith) ∙ sym (name_fault_is (suc (length octets)) 0 octets y q (omega arith))
 
-field_fault_is : (f : Field) (octets : List ℕ) (fault : Fault) → FieldFault f octets fault → fault ≡ field_fault f octets
-unfolding field_fault
-field_fault_is f octets fault found = grind (arith, common_steps, name_fault_is)
+-- a field has one fault
+field_one_fault : (f : Field) (octets : List ℕ) (x y : Fault) → FieldFault f octets x → FieldFault f octets y → x ≡ y
+field_one_fault f octets x y (cut_octet o d p) (cut_octet q e r) = p.early ∙ sym r.early
+field_one_fault f octets x y (cut_short o d p) (cut_short q e r) = p.early ∙ sym r.early
+field_one_fault f octets x y (cut_long o d p) (cut_long q e r) = p.early ∙ sym r.early
+field_one_fault f octets x y (no_name o d p) (no_name q e r) = one_name_fault o d e p r
+field_one_fault f octets x y (no_spelled_name o d p) (no_spelled_name q e r) = one_name_fault o d e p r
+field_one_fault f octets x y no_count no_count = refl
+field_one_fault f octets x y (cut_counted count after cut) (cut_counted n rest short) = refl
+field_one_fault f octets x y (cut_exactly count o d p) (cut_exactly n q e r) = p.early ∙ sym r.early
+field_one_fault f octets x y (no_types o d p) (no_types q e r) = p.named ∙ ap bitmap_fault_of (one_block_fault p.found r.found) ∙ sym r.named
+field_one_fault f octets x y (too_long limit o d p) (too_long n q e r) = p.said ∙ sym r.said
 
 pub one_fault : (l : Layout) (octets : List ℕ) (x y : Fault) → FirstFault l octets x → FirstFault l octets y → splits l ≡ true → x ≡ y
-one_fault l octets x y (in_field f o d h) (in_field g p e k) sp = field_fault_is f o d h ∙ sym (field_fault_is f o e k)
+one_fault l octets x y (in_field f o d h) (in_field g p e k) sp = field_one_fault f o d e h k
 one_fault l octets x y (in_first a b o d h) (in_first c g p e k) sp = one_fault a o d e h k (delimited_splits a (first_so (is_delimited a) (splits b) sp))
 one_fault l octets x y (in_first a b o d h) (in_later c g p v m e begins k) sp = grind (arith, common_steps, fault_excludes, delimited_splits)
 one_fault l octets x y (in_later a b o v m d begins h) (in_first c g p e k) sp = grind (arith, common_steps, fault_excludes, delimited_splits)

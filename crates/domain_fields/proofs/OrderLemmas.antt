@@ -5,9 +5,9 @@ use Rattle.std.specs.{declared.cmp.Ordering.TheVariants.{Less, Equal, Greater}, 
 use Rattle.std.specs.{Cmp.Lexicographic.slice_cmp, FinMap.nat_cmp-IsAntisymmetric, List.{AllByRecursion, flat_map, fold}}
 use Rattle.std.specs.Hash as fed
 use Rattle.domain_names.{specs.Name.{wire_of, IsLabel, IsName}, proofs.CaseLemmas.IsName-lowered}
-use Rattle.domain_fields.specs.Field.{Field, octet, short, long, name, spelled_name, counted, exactly, at_most, rest, Value, field_octets, FieldFits}
-use Rattle.domain_fields.specs.{Field.lower_field, Layout.{Layout, one, ◌▸◌, Values, octets_of, Fits, lower, canonical_of, canonical_order, is_delimited}}
-use Rattle.domain_fields.specs.Layout.{is_delimited_field, Begins}
+use Rattle.domain_fields.specs.Field.{Field, octet, short, long, name, spelled_name, counted, exactly, at_most, rest, types, Value, field_octets}
+use Rattle.domain_fields.specs.{Field.{FieldFits, lower_field}, Layout.{Layout, one, ◌▸◌, Values, octets_of, Fits, lower, canonical_of, canonical_order}}
+use Rattle.domain_fields.specs.Layout.{is_delimited, is_delimited_field, Begins}
 
 -- two values, and what stands after them, are the same
 pub record Same {V : Type 0} (v w : V) (r s : List ℕ) : Type 0 where
@@ -47,6 +47,7 @@ same_field counted v w r s d fv fw e = same_counted v w r s e
 same_field (exactly count) v w r s d fv fw e = let as_long : length v ≡ length w = fv.0 ∙ sym fw.0 in same_front v w r s as_long e
 same_field (at_most limit) v w r s d fv fw e = record { values = refl; after = e }
 same_field rest v w r s d fv fw e = absurd (cc)
+same_field types v w r s d fv fw e = absurd (cc)
 
 pub same_data : (l : Layout) (v w : Values l) (r s : List ℕ) → is_delimited l ≡ true → Fits l v → Fits l w
     → octets_of l v ++ r ≡ octets_of l w ++ s → Same v w r s

@@ -2,8 +2,9 @@
 use Rattle.std.proofs.{lemmas.Grind.common_steps, Common.{◌≡◌, ℕ, ◌<◌, List, [], ◌∷◌, ◌++◌, length, sym, ap, subst, arith, length-append}}
 use Rattle.domain_octets.specs.Place.{Place, Takes}
 use Rattle.domain_names.specs.Fault.{Fault, NameFault, ends_early}
+use Rattle.domain_bitmap.specs.{Fault.{FirstBlockFault, bitmap_fault_of}, declared.error.RtypeBitmapError.RtypeBitmapError}
 use Rattle.domain_fields.specs.Field.{octet, short, long, name, spelled_name, counted, exactly, at_most, IsCut, IsLong, cut_octet, cut_short, cut_long, no_name}
-use Rattle.domain_fields.specs.Field.{no_spelled_name, no_count, cut_counted, cut_exactly, too_long}
+use Rattle.domain_fields.specs.Field.{types, no_spelled_name, no_count, cut_counted, cut_exactly, no_types, too_long}
 use Rattle.domain_fields.specs.Layout.{Layout, one, ◌▸◌, Values, octets_of, Begins, FirstFault, in_field, in_first, in_later, GoesOn}
 
 pub goes_on : (octets : List ℕ) (old new : Place) → Takes octets old new → GoesOn old new
@@ -30,6 +31,10 @@ exactly_fault count octets fault h = in_field (exactly count) octets fault (cut_
 pub long_data_fault : (limit : ℕ) (octets : List ℕ) (fault : Fault) → IsLong octets limit fault → FirstFault (one (at_most limit)) octets fault
 long_data_fault limit octets fault h = in_field (at_most limit) octets fault (too_long limit octets fault h)
 
+pub types_fault : (octets : List ℕ) (first : RtypeBitmapError) (fault : Fault) → FirstBlockFault octets first → fault ≡ bitmap_fault_of first
+    → FirstFault (one types) octets fault
+types_fault octets first fault found named = in_field types octets fault (no_types octets fault (record { first = first; found = found; named = named }))
+
 pub count_fault : (octets : List ℕ) → length octets < 1 → FirstFault (one counted) octets ends_early
 count_fault [] h = in_field counted [] ends_early no_count
 count_fault (n ∷ octets) h = absurd (omega arith)
@@ -47,6 +52,7 @@ pub ruleset reading = (
   spelled_name_fault,
   exactly_fault,
   long_data_fault,
+  types_fault,
   count_fault,
   counted_fault,
 )

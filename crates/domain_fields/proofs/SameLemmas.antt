@@ -1,11 +1,12 @@
 -- values that have the same octets
 use Rattle.std.proofs.{Common.{◌≡◌, ◌↔◌, Bool, true, [], refl, sym, ap, ◌∙◌, append-nil}, lemmas.Map.Text.is_eq-slice_cmp}
 use Rattle.std.specs.{Prelude.{bytes_eq, IsTrue}, Cmp.{first_so, second_so, Lexicographic.bytes_decides}, declared.cmp.Ordering.Ordering, Ordering.is_eq}
-use Rattle.domain_fields.specs.{Field.{Field, rest, Value, field_octets, FieldFits}, Layout.{Layout, one, ◌▸◌, Values, octets_of, Fits, lower, canonical_of}}
-use Rattle.domain_fields.{specs.Layout.{canonical_order, is_delimited, splits}, proofs.OrderLemmas.{same_field, same_data, Fits-lower}}
+use Rattle.domain_fields.specs.{Field.{Field, rest, types, Value, field_octets, FieldFits}, Layout.{Layout, one, ◌▸◌, Values, octets_of, Fits, lower}}
+use Rattle.domain_fields.{specs.Layout.{canonical_of, canonical_order, is_delimited, splits}, proofs.OrderLemmas.{same_field, same_data, Fits-lower}}
 
 one_same : (f : Field) (v w : Value f) → FieldFits f v → FieldFits f w → field_octets f v ≡ field_octets f w → v ≡ w
 one_same rest v w fv fw e = e
+one_same types v w fv fw e = e
 one_same f v w fv fw e =
     let same = same_field f v w [] [] refl fv fw (append-nil (field_octets f v) ∙ e ∙ sym (append-nil (field_octets f w))) in
     same.values

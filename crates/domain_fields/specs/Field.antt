@@ -2,6 +2,7 @@
 use Rattle.std.specs.{Prelude.{◌≡◌, ℕ, ◌<◌, ◌≤◌, ◌^◌, [], ◌∷◌, length, codes}, Int.{w16, w32, to_be_bytes}}
 use Rattle.domain_octets.specs.Words.{Octets, AreOctets}
 use Rattle.domain_names.specs.{Name.{wire_of, lowered, IsName}, Fault.{Fault, ends_early, malformed, NameFault}, Words.Name}
+use Rattle.domain_bitmap.specs.{Blocks.IsBitmap, Fault.BitmapFault}
 
 -- octet, short, long: numbers of 8, 16 and 32 bits
 -- name, spelled_name: a name, which the canonical form lowers, or keeps as it is spelled (RFC 4034,
@@ -10,6 +11,7 @@ use Rattle.domain_names.specs.{Name.{wire_of, lowered, IsName}, Fault.{Fault, en
 -- exactly: so many octets
 -- at_most: no octets, and at most so many after it
 -- rest: all octets that are left
+-- types: a type bitmap, which all octets that are left are (RFC 4034, section 4.1.2)
 pub data Field : Type 0 where
   octet : Field
   short : Field
@@ -20,6 +22,7 @@ pub data Field : Type 0 where
   exactly : ℕ → Field
   at_most : ℕ → Field
   rest : Field
+  types : Field
 
 abbrev pub Value : Field → Type 0
 Value octet = ℕ
@@ -31,6 +34,7 @@ Value counted = Octets
 Value (exactly count) = Octets
 Value (at_most limit) = Unit {0}
 Value rest = Octets
+Value types = Octets
 
 abbrev pub field_octets : (f : Field) → Value f → Octets
 field_octets octet n = n ∷ []
@@ -42,6 +46,7 @@ field_octets counted octets = length octets ∷ octets
 field_octets (exactly count) octets = octets
 field_octets (at_most limit) v = []
 field_octets rest octets = octets
+field_octets types octets = octets
 
 -- the values that have octets
 abbrev pub FieldFits : (f : Field) → Value f → Type 0
@@ -54,11 +59,13 @@ FieldFits counted octets = (length octets < 2 ^ 8) × AreOctets octets
 FieldFits (exactly count) octets = (length octets ≡ count) × AreOctets octets
 FieldFits (at_most limit) v = Unit {0}
 FieldFits rest octets = AreOctets octets
+FieldFits types octets = IsBitmap octets
 
 -- what may stand after the field
 abbrev pub FieldEnds : Field → Octets → Type 0
 FieldEnds (at_most limit) after = length after ≤ limit
 FieldEnds rest after = after ≡ []
+FieldEnds types after = after ≡ []
 FieldEnds _ after = Unit {0}
 
 -- the value in the canonical form
@@ -92,5 +99,7 @@ pub data FieldFault : Field → Octets → Fault → Type 0 where
       → FieldFault counted (count ∷ after) ends_early
   cut_exactly : (count : ℕ) (octets : Octets) (fault : Fault) → IsCut octets count fault
       → FieldFault (exactly count) octets fault
+  no_types : (octets : Octets) (fault : Fault) → BitmapFault octets fault
+      → FieldFault types octets fault
   too_long : (limit : ℕ) (octets : Octets) (fault : Fault) → IsLong octets limit fault
       → FieldFault (at_most limit) octets fault

@@ -3,7 +3,7 @@ use Rattle.std.specs.{Prelude.{◌≡◌, ◌+◌, [], ◌++◌, length, Bool, t
 use Rattle.std.specs.Cmp.Lexicographic.{slice_cmp}
 use Rattle.domain_octets.specs.{Place.Place, Words.Octets}
 use Rattle.domain_names.specs.Fault.{Fault}
-use Rattle.domain_fields.specs.Field.{Field, rest, Value, field_octets, FieldFits, FieldEnds, lower_field, FieldFault}
+use Rattle.domain_fields.specs.Field.{Field, rest, types, Value, field_octets, FieldFits, FieldEnds, lower_field, FieldFault}
 
 infixr 5 ◌▸◌
 pub data Layout : Type 0 where
@@ -66,6 +66,7 @@ canonical_order l v w = slice_cmp nat_cmp (canonical_of l v) (canonical_of l w)
 -- one can tell where the field ends
 abbrev pub is_delimited_field : Field → Bool
 is_delimited_field rest = false
+is_delimited_field types = false
 is_delimited_field _ = true
 
 abbrev pub is_delimited : Layout → Bool

@@ -2,7 +2,7 @@
 use Rattle.std.specs.{Prelude.{Bool, true, false, [], ◌∷◌, ◌++◌, ◌&&◌}, Fmt.decimal}
 use Rattle.domain_octets.specs.Characters.{dot}
 use Rattle.domain_names.specs.{Text.name_text, Words.{Tokens, Token}}
-use Rattle.domain_fields.specs.Field.{Field, octet, short, long, name, spelled_name, counted, exactly, at_most, rest, Value}
+use Rattle.domain_fields.specs.Field.{Field, octet, short, long, name, spelled_name, Value}
 use Rattle.domain_fields.specs.Layout.{Layout, one, ◌▸◌, Values}
 
 -- numbers and names are
@@ -12,10 +12,7 @@ is_printed_field short = true
 is_printed_field long = true
 is_printed_field name = true
 is_printed_field spelled_name = true
-is_printed_field counted = false
-is_printed_field (exactly count) = false
-is_printed_field (at_most limit) = false
-is_printed_field rest = false
+is_printed_field _ = false
 
 abbrev pub is_printed : Layout → Bool
 is_printed (one f) = is_printed_field f
@@ -28,10 +25,7 @@ printed_field short n = decimal n
 printed_field long n = decimal n
 printed_field name labels = name_text labels ++ dot ∷ []
 printed_field spelled_name labels = name_text labels ++ dot ∷ []
-printed_field counted octets = []
-printed_field (exactly count) octets = []
-printed_field (at_most limit) v = []
-printed_field rest octets = []
+printed_field _ v = []
 
 abbrev pub printed : (l : Layout) → Values l → Tokens
 printed (one f) v = printed_field f v ∷ []

@@ -3,12 +3,13 @@ ghost use Rattle.std.specs.Prelude.{◌≡◌, ◌≤◌, ◌-◌, ◌↔◌, So
 ghost use Rattle.std.specs.{Prelude.{drop, fold, map, bytes_eq}, List.flat_map};
 ghost use Rattle.std.specs.{Char.to_ascii_lowercase, Ordering.nat_cmp, Cmp.Lexicographic.slice_cmp};
 ghost use Rattle.std.specs.Hash as fed;
-ghost use Rattle.domain_fields.specs.Field.{Field, Value, field_octets, lower_field, FieldFits, octet, short, long, name, spelled_name, exactly, at_most, rest};
+ghost use Rattle.domain_fields.specs.Field.{Field, Value, field_octets, lower_field, FieldFits, octet, short, long, name, spelled_name, exactly, at_most, rest, types};
 ghost use Rattle.domain_fields.specs.Layout.{Layout, one, ◌▸◌, Values, Fits, octets_of, canonical_of, canonical_order, lower, is_delimited, splits};
 ghost use Rattle.domain_fields.specs.Laws.{both_true};
 ghost use Rattle.domain_fields.specs.Target.{Appends};
 
 use domain_base::{ParsedName, ToName};
+use domain_bitmap::RtypeBitmap;
 use domain_octets::{AppendError, OctetsBuilder, laws};
 use std::cmp::Ordering;
 use std::hash::Hasher;
@@ -240,6 +241,18 @@ impl<'a> Octeted for Rest<'a> {
     fn octets<'o>(&'o self, _buffer: &'o mut [u8; 4]) -> &'o [u8] {
         laws::slices_hold_octets(self.0);
         self.0
+    }
+}
+
+impl<'a> Octeted for RtypeBitmap<&'a [u8]> {
+    ghost field = { types };
+
+    ghost value = { λ b. b };
+
+    ghost keeps = { λ v. refl };
+
+    fn octets<'o>(&'o self, _buffer: &'o mut [u8; 4]) -> &'o [u8] {
+        self.as_slice()
     }
 }
 

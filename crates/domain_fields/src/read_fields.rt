@@ -1,13 +1,14 @@
 //! The fields of record data, read from octets.
 ghost use Rattle.std.specs.Prelude.{◌≡◌, IfOk, IfErr, OnErr};
 ghost use Rattle.domain_fields.specs.WireFault.{wire_fault_of};
-ghost use Rattle.domain_fields.specs.Field.{octet, short, long, name, spelled_name, counted, exactly, at_most, rest};
+ghost use Rattle.domain_fields.specs.Field.{octet, short, long, name, spelled_name, counted, exactly, at_most, rest, types};
 ghost use Rattle.domain_fields.specs.Layout.{Layout, one, ◌▸◌, Values, Begins, FirstFault, GoesOn};
 
 use crate::WireFault;
 use crate::counted::Counted;
 use crate::fields::{AtMost, Exactly, Rest, Spelled};
 use domain_base::ParsedName;
+use domain_bitmap::RtypeBitmap;
 use domain_octets::{Parser, laws};
 
 /// Fields that are read from octets, in the order of the wire.
@@ -160,6 +161,20 @@ impl<'a> ReadFields<'a> for Rest<'a> {
         laws::slices_hold_octets(octets);
         parser.advance(octets.len());
         Ok(Rest(octets))
+    }
+}
+
+impl<'a> ReadFields<'a> for RtypeBitmap<&'a [u8]> {
+    ghost layout = { one types };
+
+    ghost values = { λ b. b };
+
+    #[tactic(auto, using(crate::proofs::ReadLemmas::reading), unfolding(crate::specs::Layout::octets_of))]
+    fn read(parser: &mut Parser<'a>) -> Result<RtypeBitmap<&'a [u8]>, WireFault> {
+        let octets = parser.peek_all();
+        let types = RtypeBitmap::from_octets(octets)?;
+        parser.advance(octets.len());
+        Ok(types)
     }
 }
 

@@ -1,8 +1,10 @@
 //! Why octets are no data.
 ghost use Rattle.std.specs.Prelude.{◌≡◌};
 ghost use Rattle.domain_names.specs.Fault.{fault_of, name_fault_of};
+ghost use Rattle.domain_bitmap.specs.Fault.{bitmap_fault_of};
 
 use domain_base::{NameError, ParseError};
+use domain_bitmap::RtypeBitmapError;
 
 /// The first fault of octets that are to begin with fields: a `ParseError` without its text.
 #[derive(Clone, Copy, Debug, PartialEq, Eq)]
@@ -15,6 +17,8 @@ pub enum WireFault {
     LongName,
     /// There are more octets than the data may have.
     LongData,
+    /// A block of a type bitmap has no or over 32 octets.
+    BadBitmap,
 }
 
 impl From<NameError> for WireFault {
@@ -31,6 +35,19 @@ impl From<NameError> for WireFault {
     }
 }
 
+impl From<RtypeBitmapError> for WireFault {
+    ghost use Rattle.domain_fields.specs.WireFault.{wire_fault_of};
+
+    ghost from_gives = { λ b w. wire_fault_of w ≡ bitmap_fault_of b };
+
+    fn from(error: RtypeBitmapError) -> WireFault {
+        match error {
+            RtypeBitmapError::ShortInput => WireFault::ShortInput,
+            RtypeBitmapError::BadRtypeBitmap => WireFault::BadBitmap,
+        }
+    }
+}
+
 impl From<WireFault> for ParseError {
     ghost use Rattle.domain_fields.specs.WireFault.{wire_fault_of};
 
@@ -42,6 +59,7 @@ impl From<WireFault> for ParseError {
             WireFault::BadLabel => ParseError::Form("compressed or bad label"),
             WireFault::LongName => ParseError::Form("long domain name"),
             WireFault::LongData => ParseError::Form("record data too long"),
+            WireFault::BadBitmap => ParseError::Form("invalid NSEC bitmap"),
         }
     }
 }

@@ -1,34 +1,23 @@
 -- What octets of the generic form are: data of a type in one way at most, and none where they have a fault or more follows.
 use Rattle.std.proofs.{lemmas.Grind.common_steps, Common.{◌≡◌, ℕ, List, [], length, codes, Option, Some, Ok, Err, Result, IsErrAnd, IfErr, arith, true}}
 use Rattle.std.proofs.Common.{refl, ap}
-use Rattle.domain_names.specs.{Fault.Fault, TextFault.{ScanFault, illegal, scan_fault_of}, declared.error.ScanError.ScanError}
-use Rattle.domain_fields.{specs.{Field.spelled_name, Layout.{one, Values, Begins, splits}}, proofs.ExactLemmas.{one_reading, fault_excludes}}
-use Rattle.domain_chain_rdata.{specs.Rdata.hash_fields, proofs.NsecLemmas.with_types_excluded}
-use Rattle.domain_rdata.specs.Kind.{Kind, next_by_name, next_by_hash, layout_of, BeginsKind, KindFault}
+use Rattle.domain_names.specs.{TextFault.{ScanFault, illegal, scan_fault_of}, declared.error.ScanError.ScanError}
+use Rattle.domain_fields.{specs.Layout.{Values, Begins, FirstFault, splits}, proofs.ExactLemmas.{one_reading, fault_excludes}}
+use Rattle.domain_rdata.specs.Kind.{Kind, layout_of}
 use Rattle.domain_rdata.specs.Refusal.{AreOfKind, IsPart, of_key, of_digest, of_signature, types_by_name, salt_by_hash, next_hash, types_by_hash, salt}
 use Rattle.domain_rdata.specs.Refusal.{CopyFault, IsNotWhole, at_fault, goes_on, OctetsFault}
 
-pub fields_begin : (k : Kind) (octets : List ℕ) (v : Values (layout_of k)) (after : List ℕ) → BeginsKind k octets v after → Begins (layout_of k) octets v after
-fields_begin next_by_name octets v after is = is.begins
-fields_begin next_by_hash octets v after is = is.begins
-fields_begin k octets v after is = is
-
-kind_excluded : (k : Kind) (octets : List ℕ) (fault : Fault) (v : Values (layout_of k)) → splits (layout_of k) ≡ true → KindFault k octets fault
-    → BeginsKind k octets v [] → ⊥
-kind_excluded next_by_name octets fault v split why is = with_types_excluded (one spelled_name) octets [] fault v refl why is
-kind_excluded next_by_hash octets fault v split why is = with_types_excluded hash_fields octets [] fault v refl why is
-kind_excluded k octets fault v split why is = fault_excludes (layout_of k) octets fault why split v [] is
-
 module _ {D : Type 0} (k : Kind) (values : D → Values (layout_of k)) (limit : Option ℕ) (octets : List ℕ) (split : splits (layout_of k) ≡ true) where
   -- octets with a fault, or that go on after the data, are no data of a kind
-  not_whole : IsNotWhole (λ o d after. BeginsKind k o (values d) after) (KindFault k) octets → AreOfKind k octets → ⊥
-  not_whole (at_fault fault why) whole = kind_excluded k octets fault whole.0 split why whole.1
+  not_whole : IsNotWhole (λ o d after. Begins (layout_of k) o (values d) after) (FirstFault (layout_of k)) octets → AreOfKind k octets → ⊥
+  not_whole (at_fault fault why) whole = fault_excludes (layout_of k) octets fault why split whole.0 [] whole.1
   not_whole (goes_on d after begins more) whole =
-      let read = one_reading (layout_of k) octets _ whole.0 after [] split (fields_begin k octets _ after begins) (fields_begin k octets _ [] whole.1) in
+      let read = one_reading (layout_of k) octets _ whole.0 after [] split begins whole.1 in
       omega (arith, more, ap length read.1)
 
   pub not_data : {T : Type 0} (r : Result T ScanError) → IsErrAnd r (λ e. scan_fault_of e ≡ illegal (codes "illegal data"))
-      → IsNotWhole (λ o d after. BeginsKind k o (values d) after) (KindFault k) octets → IfErr r (λ e. OctetsFault limit (Some k) octets (scan_fault_of e))
+      → IsNotWhole (λ o d after. Begins (layout_of k) o (values d) after) (FirstFault (layout_of k)) octets
+      → IfErr r (λ e. OctetsFault limit (Some k) octets (scan_fault_of e))
   not_data (Ok d) said why = tt
   not_data (Err e) said why = rw said (refl, not_whole why)
 

@@ -6,12 +6,11 @@ use Rattle.domain_fields.{specs.Layout.{Values, octets_of}, proofs.GrammarLemmas
 use Rattle.domain_keys.specs.{Data.{dnskey_values, ds_values}, Scan.{DnskeyText, DsText}}
 use Rattle.domain_keys.proofs.RefusalLemmas.{dnskey_once, ds_once, refused_dnskey, refused_ds}
 use Rattle.domain_rrsig.{specs.{Data.rrsig_values, Scan.RrsigText}, proofs.RefusalLemmas.{rrsig_once, refused_rrsig}}
-use Rattle.domain_chain_rdata.proofs.TextLemmas.{nsec_once, nsec_refused, params_once, params_refused, nsec3_once, nsec3_refused}
+use Rattle.domain_chain_rdata.proofs.TextLemmas.{nsec_once, nsec_refused, params_exact, nsec3_exact}
 use Rattle.domain_rdata.specs.Kind.{Kind, plain, key, digest, signature, next_by_name, next_by_hash, params, layout_of, AreFields, FieldsText, dnskey_of, ds_of}
 use Rattle.domain_rdata.specs.{Kind.rrsig_of, Refusal.{RefusesKind, RefusesKnown, AreOfKind, OctetsFault, RefusesRdata, in_own, in_generic, in_octets}}
 use Rattle.domain_rdata.specs.{Scan.{RdataText, own, generic, ContentText, OwnText, AreContent, AreData, IsGeneric}, Zone.{kind_of, Content, fields, mere}}
 use Rattle.domain_rdata.specs.{Zone.{content_of, content_octets, IsOfKind, of_kind, wire_octets}, declared.zone_record_data.ZoneRecordData.ZoneRecordData}
-use Rattle.domain_rdata.proofs.OctetsLemmas.{fields_begin}
 
 -- all tokens spell data
 whole_once : {V D : Type 0} (G : List (List ℕ) → D → Type 0) (of : V → D) (values : D → V)
@@ -28,8 +27,8 @@ kind_once key = whole_once DnskeyText dnskey_of dnskey_values dnskey_once (λ v.
 kind_once digest = whole_once DsText ds_of ds_values ds_once (λ v. refl)
 kind_once signature = whole_once RrsigText rrsig_of rrsig_values rrsig_once (λ v. refl)
 kind_once next_by_name = nsec_once
-kind_once next_by_hash = nsec3_once
-kind_once params = params_once
+kind_once next_by_hash = (nsec3_exact None).once
+kind_once params = (params_exact None).once
 
 -- what is refused, but for want of room or memory, are no data of the kind
 kind_refused : (k : Kind) (limit : Option ℕ) → Excludes limit (FieldsText k) (RefusesKind limit k)
@@ -38,8 +37,8 @@ kind_refused key limit = λ old new after v fault why is alone. refused_dnskey l
 kind_refused digest limit = λ old new after v fault why is alone. refused_ds limit old new fault (ds_of v) why alone is.0
 kind_refused signature limit = λ old new after v fault why is alone. refused_rrsig limit old new fault (rrsig_of v) why alone is.0
 kind_refused next_by_name limit = λ old new after v fault why is alone. nsec_refused limit limit old new after fault v.0 v.1 why alone alone is
-kind_refused next_by_hash limit = nsec3_refused limit
-kind_refused params limit = params_refused limit
+kind_refused next_by_hash limit = (nsec3_exact limit).apart
+kind_refused params limit = (params_exact limit).apart
 
 -- the tokens begin with data of a type of this kind, which are these octets, and these are left
 abbrev pub Reads : Option Kind → List (List ℕ) → List ℕ → List (List ℕ) → Type 0
@@ -74,7 +73,7 @@ AreOf (Some kind) wire = AreOfKind kind wire
 
 -- octets that are values of a kind are their octets
 fields_are : (k : Kind) (wire : List ℕ) (v : Values (layout_of k)) → AreFields k wire v → octets_of (layout_of k) v ≡ wire
-fields_are k wire v h = let begins = fields_begin k wire v [] h in sym (begins.parts ∙ append-nil _)
+fields_are k wire v h = sym (h.parts ∙ append-nil _)
 
 content_is : (rtype : ℕ) (wire : List ℕ) (c : Content) → AreContent rtype wire c → content_octets c ≡ wire
 unfolding octets_of

@@ -1,13 +1,11 @@
 -- kinds of data: of what fields they are made up, and how these stand in octets and as tokens
 use Rattle.std.specs.Prelude.{◌≡◌, []}
 use Rattle.domain_octets.specs.Words.{Octets}
-use Rattle.domain_names.specs.Fault.{Fault}
 use Rattle.domain_base.specs.Scan.{Grammar}
-use Rattle.domain_fields.specs.{Layout.{Layout, Values, Begins, FirstFault}, Scan.Scans}
+use Rattle.domain_fields.specs.{Layout.{Layout, Values, Begins}, Scan.Scans}
 use Rattle.domain_keys.specs.{Data.{DnskeyData, dnskey, dnskey_data, DsData, ds, ds_data}, Scan.{DnskeyText, DsText}}
 use Rattle.domain_rrsig.specs.{Data.{RrsigData, rrsig, rrsig_data, of_numbers}, Scan.RrsigText}
-use Rattle.domain_chain_rdata.specs.{NsecText.NsecText, Nsec3Text.Nsec3Text, Nsec3paramText.Nsec3paramText, NsecWire.{BeginsNsec, NsecFault}}
-use Rattle.domain_chain_rdata.specs.{Nsec3Wire.{BeginsNsec3, Nsec3Fault}, Rdata.{nsec, nsec3, nsec3param}}
+use Rattle.domain_chain_rdata.specs.{NsecText.NsecText, Nsec3Text.Nsec3Text, Nsec3paramText.Nsec3paramText, Rdata.{nsec, nsec3, nsec3param}}
 
 -- of fields of one token each, or in a way of their own
 pub data Kind : Type 0 where
@@ -29,21 +27,9 @@ layout_of next_by_name = nsec
 layout_of next_by_hash = nsec3
 layout_of params = nsec3param
 
--- octets begin with these values on the wire, and others are left
-abbrev pub BeginsKind : (k : Kind) → Octets → Values (layout_of k) → Octets → Type 0
-BeginsKind next_by_name = BeginsNsec
-BeginsKind next_by_hash = BeginsNsec3
-BeginsKind k = Begins (layout_of k)
-
 -- all the octets are these values on the wire
 abbrev pub AreFields : (k : Kind) → Octets → Values (layout_of k) → Type 0
-AreFields k wire v = BeginsKind k wire v []
-
--- the first fault of octets that do not begin with such values
-abbrev pub KindFault : Kind → Octets → Fault → Type 0
-KindFault next_by_name = NsecFault
-KindFault next_by_hash = Nsec3Fault
-KindFault k = FirstFault (layout_of k)
+AreFields k wire v = Begins (layout_of k) wire v []
 
 -- data with these values
 abbrev pub dnskey_of : Values dnskey → DnskeyData

@@ -8,7 +8,7 @@ use Rattle.domain_plain.specs.Generic.{GenericText, GenericFault}
 use Rattle.domain_fields.specs.{Field.{name, spelled_name}, Layout.{Layout, one, ◌▸◌, Values, Begins}, Scan.Refuses}
 use Rattle.domain_keys.specs.{Data.{dnskey, ds}, Scan.{RefusesDnskey, RefusesDs}}
 use Rattle.domain_rrsig.specs.{Data.rrsig, Scan.RefusesRrsig}
-use Rattle.domain_chain_rdata.specs.{NsecText.RefusesNsec, NsecWire.BeginsNsec, Nsec3Text.RefusesNsec3, Nsec3Wire.BeginsNsec3, Nsec3paramText.RefusesNsec3param}
+use Rattle.domain_chain_rdata.specs.{NsecText.RefusesNsec, Nsec3Text.RefusesNsec3, Nsec3paramText.RefusesNsec3param}
 use Rattle.domain_chain_rdata.specs.Rdata.{nsec, nsec3, nsec3param}
 use Rattle.domain_rdata.specs.{Kind.{Kind, plain, key, digest, signature, next_by_name, next_by_hash, params, layout_of, AreFields}, Scan.IsGeneric}
 use Rattle.domain_rdata.specs.Zone.{kind_of}
@@ -43,10 +43,10 @@ pub data IsPart (wire : Octets) : Kind → Octets → Type 0 where
   of_key : (v : Values dnskey) → Begins dnskey wire v [] → IsPart wire key v.1.1.1.1
   of_digest : (v : Values ds) → Begins ds wire v [] → IsPart wire digest v.1.1.1.1
   of_signature : (v : Values rrsig) → Begins rrsig wire v [] → IsPart wire signature v.1.1
-  types_by_name : (v : Values nsec) → BeginsNsec wire v [] → IsPart wire next_by_name v.1
-  salt_by_hash : (v : Values nsec3) → BeginsNsec3 wire v [] → IsPart wire next_by_hash v.0.0.1
-  next_hash : (v : Values nsec3) → BeginsNsec3 wire v [] → IsPart wire next_by_hash v.0.1
-  types_by_hash : (v : Values nsec3) → BeginsNsec3 wire v [] → IsPart wire next_by_hash v.1
+  types_by_name : (v : Values nsec) → Begins nsec wire v [] → IsPart wire next_by_name v.1
+  salt_by_hash : (v : Values nsec3) → Begins nsec3 wire v [] → IsPart wire next_by_hash v.0.0.1
+  next_hash : (v : Values nsec3) → Begins nsec3 wire v [] → IsPart wire next_by_hash v.0.1
+  types_by_hash : (v : Values nsec3) → Begins nsec3 wire v [] → IsPart wire next_by_hash v.1
   salt : (v : Values nsec3param) → Begins nsec3param wire v [] → IsPart wire params v.1
 
 -- why octets are not copied into octets that have this limit

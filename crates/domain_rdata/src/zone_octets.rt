@@ -5,9 +5,8 @@ ghost use Rattle.domain_fields.specs.Layout.{Begins};
 ghost use Rattle.domain_plain.specs.Plain.{a, a_values, ns, ns_values, soa, soa_values, mx, mx_values};
 ghost use Rattle.domain_keys.specs.Data.{dnskey, dnskey_values, ds, ds_values};
 ghost use Rattle.domain_rrsig.specs.Data.{rrsig, rrsig_values};
-ghost use Rattle.domain_chain_rdata.specs.NsecWire.{BeginsNsec};
-ghost use Rattle.domain_chain_rdata.specs.Nsec3Wire.{BeginsNsec3};
-ghost use Rattle.domain_chain_rdata.specs.Rdata.{nsec_values, nsec3_values, nsec3param, nsec3param_values};
+ghost use Rattle.domain_chain_rdata.specs.Rdata.{nsec, nsec_values, nsec3, nsec3_values, nsec3param};
+ghost use Rattle.domain_chain_rdata.specs.Rdata.{nsec3param_values};
 ghost use Rattle.domain_rdata.specs.Kind.{plain, key, digest, signature, next_by_name};
 ghost use Rattle.domain_rdata.specs.{Kind.{next_by_hash, params}, Refusal.{CopyFault, IsNotWhole}};
 ghost use Rattle.domain_rdata.specs.{Refusal.OctetsFault, Scan.AreData, Zone.kind_of};
@@ -159,7 +158,7 @@ fn nsec_of<O: FromBuilder + Drop, N: MakeName + Drop>(
 ) -> Result<Nsec<O, N>, ScanError>
 where
     O::Builder: EmptyBuilder + Drop,
-    ensures ok { IfOk result (λ d. BeginsNsec octets.now (nsec_values N.labels d) []) }
+    ensures ok { IfOk result (λ d. Begins nsec octets.now (nsec_values N.labels d) []) }
     ensures err { IfErr result (λ e.
         OctetsFault O.Builder.limit (Some next_by_name) octets.now (scan_fault_of e)) }
 {
@@ -221,7 +220,7 @@ where
 fn nsec3_of<O: FromBuilder + Drop>(alloc: Global, octets: &[u8]) -> Result<Nsec3<O>, ScanError>
 where
     O::Builder: EmptyBuilder + Drop,
-    ensures ok { IfOk result (λ d. BeginsNsec3 octets.now (nsec3_values d) []) }
+    ensures ok { IfOk result (λ d. Begins nsec3 octets.now (nsec3_values d) []) }
     ensures err { IfErr result (λ e.
         OctetsFault O.Builder.limit (Some next_by_hash) octets.now (scan_fault_of e)) }
 {
