@@ -1,51 +1,28 @@
 -- What NSEC records answer does not depend on TTLs, classes and the case of letters.
-use Rattle.std.{proofs.{Common.{◌≡◌, ℕ, Bool, cond, not, ◌&&◌, ◌||◌, List, length, Option, Some, None, arith}, lemmas.Grind.common_steps}, specs.List.find}
-use Rattle.domain_names.specs.{Name.{is_strictly_below, lowered}, Words.Name}
-use Rattle.domain_base.specs.Types.{dname, ns}
-use Rattle.domain_bitmap.specs.Blocks.{contains_type}
-use Rattle.domain_zone.{specs.{Enclosers.{longer, shared}, Zone.ZoneRecord}, proofs.NameLemmas.{lowered_below, one_lowered, same_lowered}}
+use Rattle.std.{proofs.{Common.{◌≡◌, ℕ, Bool, List, length, Option, Some, None, arith}, lemmas.Grind.common_steps}, specs.List.find}
+use Rattle.domain_names.specs.{Words.Name}
+use Rattle.domain_zone.{specs.{Zone.ZoneRecord}}
 use Rattle.domain_nsec.specs.Chain.{Link}
-use Rattle.domain_checker.{specs.{Alike.{ArePaired, IsAlike}, Reading.{is_at_cut, is_cover, is_match}}, proofs.AlikeLemmas.{is_cover_alike, is_match_alike}}
-use Rattle.domain_checker.proofs.{AlikeLemmas.{says_alike, shared_alike}, EncloserLemmas.same_count, PairedLemmas.{OptionsPaired, any_alike, find_alike}}
-use Rattle.domain_answer.specs.{Proved.proved_answer, Reading.{absent_answer, cover_answer, listed_both, match_answer, owner_answer, reading, tells_occluded}}
-use Rattle.domain_answer.specs.{Reading.{wildcard_both, wildcard_cover_answer, wildcard_match_answer}, declared.answer.Answer.TheVariants.Referral}
-use Rattle.domain_answer.specs.declared.answer.Answer.TheVariants.{Redirected, WildcardNoData, NameError, NoCloserName}
+use Rattle.domain_checker.{specs.{Alike.{ArePaired, IsAlike}, Reading.{is_cover, is_match}}, proofs.AlikeLemmas.{is_cover_alike, is_match_alike}}
+use Rattle.domain_checker.proofs.{AlikeLemmas.{nexts, owners, says_alike, shared_alike}, EncloserLemmas.same_count}
+use Rattle.domain_checker.proofs.PairedLemmas.{OptionsPaired, any_alike, find_alike}
+use Rattle.domain_answer.specs.{Proved.proved_answer, Reading.{absent_answer, cover_answer, listed_both, match_answer, reading}}
+use Rattle.domain_answer.specs.{Reading.{wildcard_both, wildcard_cover_answer, wildcard_match_answer}}
 
 -- ---- one record
 
 module _ (a : Name) (k l : Link) (alike : IsAlike k l) where
-  owners : lowered k.owner ≡ lowered l.owner
-  owners = one_lowered k.owner l.owner alike.owner
-
-  nexts : lowered k.next ≡ lowered l.next
-  nexts = one_lowered k.next l.next alike.next
-
   labels : length k.owner ≡ length l.owner
   labels = same_count k.owner l.owner alike.owner
 
-  cut_alike : is_at_cut a k ≡ is_at_cut a l
-  cut_alike = λ i. not (same_lowered (owners i) (lowered a)) && contains_type (alike.bits i) ns
-
-  occluded_alike : (x : Name) → tells_occluded a k x ≡ tells_occluded a l x
-  occluded_alike x = λ i. lowered_below (lowered x) (owners i) && (cut_alike i || contains_type (alike.bits i) dname)
-
-  below_alike : (x : Name) → is_strictly_below k.next x ≡ is_strictly_below l.next x
-  below_alike x = λ i. lowered_below (nexts i) (lowered x) && not (same_lowered (nexts i) (lowered x))
-
-  owner_answer_alike : owner_answer a k ≡ owner_answer a l
-  owner_answer_alike = λ i. cond (cut_alike i) (Referral (labels i)) (Redirected (labels i))
-
   match_answer_alike : (t : ℕ) → match_answer a k t ≡ match_answer a l t
-  match_answer_alike t = grind (arith, common_steps, cut_alike)
+  match_answer_alike t = grind (arith, common_steps, (owners alike), labels)
 
   wildcard_match_alike : (n t : ℕ) → wildcard_match_answer a n k t ≡ wildcard_match_answer a n l t
-  wildcard_match_alike n t = grind (arith, common_steps, cut_alike)
+  wildcard_match_alike n t = grind (arith, common_steps, (owners alike))
 
   wildcard_cover_alike : (n : ℕ) (w : Name) → wildcard_cover_answer a n k w ≡ wildcard_cover_answer a n l w
-  wildcard_cover_alike n w = λ i. cond (occluded_alike w i) (NoCloserName n) (cond (below_alike w i) (WildcardNoData n) (NameError n))
-
-  count_alike : (x : Name) → length (longer (shared x k.owner) (shared x k.next)) ≡ length (longer (shared x l.owner) (shared x l.next))
-  count_alike x = λ i. length (longer (shared_alike x k.owner l.owner owners i) (shared_alike x k.next l.next nexts i))
+  wildcard_cover_alike n w = grind (arith, common_steps, (owners alike), (nexts alike))
 
 -- ---- lists
 
@@ -67,7 +44,7 @@ module _ (a : Name) (t : ℕ) where
     absent_alike n x = grind (arith, common_steps, wildcard_both_alike, matching, covering)
 
     cover_alike : (k l : Link) (x : Name) → IsAlike k l → cover_answer a ks k x t ≡ cover_answer a ls l x t
-    cover_alike k l x alike = grind (arith, common_steps, count_alike, absent_alike, occluded_alike, owner_answer_alike, below_alike)
+    cover_alike k l x alike = grind (arith, common_steps, (owners alike), (nexts alike), (labels a k l alike), shared_alike, absent_alike)
 
     both_alike : (x : Name) (m n c d : Option Link) → OptionsPaired IsAlike m n → OptionsPaired IsAlike c d
         → listed_both a ks x t m c ≡ listed_both a ls x t n d

@@ -1,7 +1,7 @@
 -- What the records of a chain that leaves out the names below a DNAME tell of the zone, and that what they answer is what they prove.
-use Rattle.std.proofs.Common.{◌≡◌, ℕ, ◌<◌, Bool, true, false, cond, not, ◌&&◌, ◌||◌, List, [], ◌∷◌, length, refl, sym, ap, ◌∙◌, inl, inr, Some, slice_get}
+use Rattle.std.proofs.Common.{◌≡◌, ℕ, ◌<◌, Bool, true, false, cond, not, ◌&&◌, ◌||◌, List, [], ◌∷◌, length, refl, sym, ap, ◌∙◌, inl, inr}
 use Rattle.std.proofs.{Common.arith, lemmas.{Bool.{and_from, and_left, and_right, cases_Bool, false_from_ne_true, false≢true}, Grind.common_steps}}
-use Rattle.std.specs.List.{find, list_any}
+use Rattle.std.specs.List.{list_any}
 use Rattle.domain_bitmap.specs.Blocks.{contains_type}
 use Rattle.domain_names.specs.{Name.{is_at_or_below, is_strictly_below, lowered, same_name}, Order.before, Words.Name}
 use Rattle.domain_base.specs.Types.{cname, dname, soa}
@@ -9,24 +9,24 @@ use Rattle.domain_zone.specs.{Covering.{matches, covers, pairs}, Enclosers.IsClo
 use Rattle.domain_zone.{specs.Zone.{is_unoccluded, is_zone_cut, occludes, owns, records_of, unoccluded_owners}, proofs.FindLemmas.{Stands, in_at, stands_all}}
 use Rattle.domain_zone.proofs.{NameLemmas.{one_lowered, below_itself, lowered_below}, OwnerLemmas.{below_occluder, in_any}, PairLemmas.In}
 use Rattle.domain_nsec.specs.{Chain.{Link, IsChain, is_listed, nsec_lists}, declared.config.GenerateNsecConfig.GenerateNsecConfig}
-use Rattle.domain_checker.{specs.{Reading.{is_at_cut, is_cover, is_match}, Verdict.has_match_or_cover}, proofs.EncloserLemmas.{closest_is, cut_same}}
-use Rattle.domain_checker.proofs.{EncloserLemmas.{owner_owns, same_count, strictly_trans, top_occluder}, MeantLemmas.{BitmapsAreSets, ChainLaws, IgnoresCase}}
-use Rattle.domain_checker.proofs.MeantLemmas.{IsMeant, apex_exists, cover_of, cut_at, ends, match_of, meant_by, owner_low, silent, type_at, covered_encloser}
+use Rattle.domain_checker.{specs.{Reading.{is_at_cut}, Verdict.has_match_or_cover}, proofs.EncloserLemmas.{closest_is, cut_same}}
+use Rattle.domain_checker.{specs.Facts.{NsecChainsAreKnown, NsecFacts}, proofs.EncloserLemmas.{owner_owns, same_count, strictly_trans, top_occluder}}
+use Rattle.domain_checker.proofs.MeantLemmas.{apex_exists, config_with, cut_at, ends, list_says, owner_low, type_at, covered_encloser}
 use Rattle.domain_checker.proofs.MeantLemmas.{covered_no_owner, covered_occluded, covered_under, covered_unowned, matched_high, matched_low, matched_same}
 use Rattle.domain_answer.specs.{Proved.{IsAnswered, LeavesOutBelowDname, is_missing, knows_wildcard}, Reading.{cover_answer, listed_answer, listed_both}}
 use Rattle.domain_answer.specs.{Reading.{match_answer, reading, tells_occluded, tells_occluder, wildcard_answer, wildcard_both}, TypesAnswer.is_of_child}
 use Rattle.domain_answer.specs.{TypesAnswer.owned_answer, ZoneAnswer.{asterisk, encloser, highest_occluder, inside_answer, is_at_parent, missing_answer}}
 use Rattle.domain_answer.specs.{ZoneAnswer.{name_exists, owns_type, wildcard_below}, declared.answer.Answer.{Answer, TheVariants.{OutsideZone, AtParent}}}
 use Rattle.domain_answer.specs.declared.answer.Answer.TheVariants.{Referral, Redirected, NoData, WildcardNoData, NameError, NoCloserName, NotProven}
-use Rattle.domain_answer.proofs.{ChoiceLemmas.{either_found, expanded_alike, owned_alike}, EncloserLemmas.{closest_last, cut_owns, none_above, parent_below}}
+use Rattle.domain_answer.proofs.{ChoiceLemmas.{expanded_alike, owned_alike}, EncloserLemmas.{closest_last, cut_owns, none_above, parent_below}}
 use Rattle.domain_answer.proofs.{EncloserLemmas.{strictly_enclosed, wildcard_low}, KindLemmas.highest_of}
 
 -- a chain that leaves out what stands below a DNAME
-pub meant_leaving : ChainLaws → (L : List ZoneRecord) (a : Name) (config : GenerateNsecConfig) (links : List Link)
-    → LeavesOutBelowDname L a config → OwnersNeverDescend L → IsChain L a config links
-    → IsMeant true L a config.assume_dnskeys_will_be_added links
-meant_leaving laws L a config links leaves order chain =
-    meant_by laws true L a config.assume_dnskeys_will_be_added links order (record {
+pub facts_leaving : NsecChainsAreKnown → (L : List ZoneRecord) (a : Name) (config : GenerateNsecConfig) (links : List Link)
+    → LeavesOutBelowDname L a config.occlude_below_dname → OwnersNeverDescend L → IsChain L a config links
+    → NsecFacts L a (config_with true config.assume_dnskeys_will_be_added) links
+facts_leaving knows L a config links leaves order chain =
+    knows L a (config_with true config.assume_dnskeys_will_be_added) links order (record {
       numbers = chain.numbers;
       soa = chain.soa;
       names = chain.names ∙ ap (λ owners. pairs owners a) leaves;
@@ -70,22 +70,21 @@ read_by : (low parent : Bool) (said proved inner : Answer) → (low ≡ true →
     ≡ cond (not low || parent) (cond (not low) OutsideZone (cond parent AtParent inner)) proved
 read_by low parent said proved inner f = grind (arith, common_steps)
 
-module _ (L : List ZoneRecord) (a : Name) (assume : Bool) (links : List Link) (meant : IsMeant true L a assume links)
-    (alike : IgnoresCase L a assume) (sets : BitmapsAreSets) where
+module _ {L : List ZoneRecord} {a : Name} {assume : Bool} {links : List Link} (facts : NsecFacts L a (config_with true assume) links) where
   abbrev owners : List Name
   owners = unoccluded_owners true L a
 
   -- a record of the chain is no record of a child's apex
   pub child_at : (k : Link) → In k links → is_of_child (is_at_cut a k) k.bits ≡ false
   child_at k i =
-      (λ j. cut_at true L a assume links meant alike sets k i j && type_at true L a assume links meant alike sets k i soa (omega arith) j)
+      (λ j. cut_at facts k i j && type_at facts k i soa (omega arith) j)
       ∙ soa_bit (assume && same_name k.owner a) (is_zone_cut L a k.owner) (records_of L k.owner)
 
   -- and its owner occludes exactly where it says so
   occludes_at : (k : Link) → In k links → tells_occluder a k ≡ occludes true L a k.owner
   occludes_at k i =
-      let low = owner_low true L a assume links meant k.owner (ends true L a assume links meant k i).0 in
-      (λ j. cut_at true L a assume links meant alike sets k i j || type_at true L a assume links meant alike sets k i dname (omega arith) j)
+      let low = owner_low facts k.owner (ends facts k i).0 in
+      (λ j. cut_at facts k i j || type_at facts k i dname (omega arith) j)
       ∙ dname_bit (assume && same_name k.owner a) (is_zone_cut L a k.owner) (records_of L k.owner)
       ∙ (λ j. is_zone_cut L a k.owner || (sym low j && has_type (records_of L k.owner) dname))
 
@@ -93,36 +92,38 @@ module _ (L : List ZoneRecord) (a : Name) (assume : Bool) (links : List Link) (m
 
   module _ (k : Link) (i : In k links) (x : Name) (m : matches before k.owner x ≡ true) where
     same : same_name k.owner x ≡ true
-    same = matched_same true L a assume links meant k i x m
+    same = matched_same facts k i x m
 
     pub matched_exists : name_exists L a x ≡ true
     matched_exists =
-        and_from (is_at_or_below x a) (list_any (λ n. is_at_or_below n x) owners) (matched_low true L a assume links meant k i x m)
-        (in_any (λ n. is_at_or_below n x) owners k.owner (ends true L a assume links meant k i).0
+        and_from (is_at_or_below x a) (list_any (λ n. is_at_or_below n x) owners) (matched_low facts k i x m)
+        (in_any (λ n. is_at_or_below n x) owners k.owner (ends facts k i).0
         (ap (lowered_below (lowered k.owner)) (sym (one_lowered k.owner x same)) ∙ below_itself k.owner))
 
     pub matched_type : (t : ℕ) → t < 65536 → contains_type k.bits t ≡ owns_type L a assume x t
     matched_type t b =
-        type_at true L a assume links meant alike sets k i t b ∙ alike k.owner x same t
-        ∙ sym (λ j. owner_owns true L a k.owner x (ends true L a assume links meant k i).0 same j && nsec_lists L a assume x t)
+        type_at facts k i t b ∙ facts.alike k.owner x same t
+        ∙ sym (λ j. owner_owns true L a k.owner x (ends facts k i).0 same j && nsec_lists L a assume x t)
 
     pub matched_cut : is_at_cut a k ≡ is_zone_cut L a x
-    matched_cut = cut_at true L a assume links meant alike sets k i ∙ cut_same L a k.owner x same
+    matched_cut = cut_at facts k i ∙ cut_same L a k.owner x same
 
   -- ---- a cover
 
-  module _ (k : Link) (place : ℕ) (there : slice_get links place ≡ Some k) (x : Name) (low : is_at_or_below x a ≡ true)
-      (c : covers before k.owner k.next x ≡ true) where
+  module _ (k : Link) (stands : Stands links k) (x : Name) (low : is_at_or_below x a ≡ true) (c : covers before k.owner k.next x ≡ true) where
+    i : In k links
+    i = in_at links stands.place k stands.there
+
     -- x exists exactly where the next name is strictly below it
     pub covered_exists : name_exists L a x ≡ is_strictly_below k.next x
-    covered_exists = grind (arith, common_steps, strictly_any, (covered_no_owner true L a assume links meant k place there x low c))
+    covered_exists = grind (arith, common_steps, strictly_any, (covered_no_owner facts k stands x low c))
 
     pub covered_cut : is_at_cut a k ≡ is_zone_cut L a k.owner
-    covered_cut = cut_at true L a assume links meant alike sets k (in_at links place k there)
+    covered_cut = cut_at facts k i
 
     -- x is occluded exactly where the record tells it
     pub covered_told : tells_occluded a k x ≡ is_occluded true L a x
-    covered_told = covered_occluded true L a assume links meant k place there x low c (tells_occluder a k) (occludes_at k (in_at links place k there))
+    covered_told = covered_occluded facts k stands x low c (tells_occluder a k) (occludes_at k i)
 
   -- ---- what a list of its records answers
 
@@ -135,7 +136,7 @@ module _ (L : List ZoneRecord) (a : Name) (assume : Bool) (links : List Link) (m
     wildcard = wildcard_below above
 
     closest : IsClosestEncloser owners a x above
-    closest = closest_is owners a x (apex_exists true L a assume links meant) low
+    closest = closest_is owners a x (apex_exists facts) low
 
     -- ---- a name that is not occluded and doesn't exist
 
@@ -155,18 +156,16 @@ module _ (L : List ZoneRecord) (a : Name) (assume : Bool) (links : List Link) (m
 
       wildcard_told : wildcard_answer a listed (length above) wildcard t ≡ proved
       wildcard_told =
-          either_found (λ m c. wildcard_both a (length above) wildcard t m c ≡ proved) (find (is_match a wildcard) listed) (find (is_cover a wildcard) listed)
-          (λ e f. rw (silent true L a assume links meant listed among wildcard e f))
-          (λ k e. let r = match_of true L a assume links meant listed among wildcard k e in
-          rw (r.2, matched_exists k r.0 wildcard r.1) (expanded_alike (is_at_cut a k) (is_zone_cut L a wildcard) (contains_type k.bits)
-          (owns_type L a assume wildcard) (length above) t (matched_cut k r.0 wildcard r.1) (λ c. matched_type k r.0 wildcard r.1 t bound)
-          (matched_type k r.0 wildcard r.1 cname (omega arith))))
-          (λ k f. let r = cover_of true L a assume links meant listed among wildcard k f in
-          let free = covered_told k r.0.place r.0.there wildcard low_w r.1 ∙ high_w in
-          let exists = covered_exists k r.0.place r.0.there wildcard low_w r.1 in
-          let unowned = covered_unowned true L a assume links meant k r.0.place r.0.there wildcard low_w r.1 high_w in
-          rw (r.2, free, sym exists, unowned, no_cut L a wildcard unowned)
+          list_says facts listed among wildcard (wildcard_both a (length above) wildcard t) (missing_answer L a assume (length above) wildcard t)
+          (λ k i m. rw (matched_exists k i wildcard m) (expanded_alike (is_at_cut a k) (is_zone_cut L a wildcard) (contains_type k.bits)
+          (owns_type L a assume wildcard) (length above) t (matched_cut k i wildcard m) (λ c. matched_type k i wildcard m t bound)
+          (matched_type k i wildcard m cname (omega arith))))
+          (λ k s c.
+          let free = covered_told k s wildcard low_w c ∙ high_w in
+          let unowned = covered_unowned facts k s wildcard low_w c high_w in
+          rw (free, sym (covered_exists k s wildcard low_w c), unowned, no_cut L a wildcard unowned)
           (turned (name_exists L a wildcard) (WildcardNoData (length above)) (NameError (length above))))
+          ∙ turned (has_match_or_cover listed wildcard) (missing_answer L a assume (length above) wildcard t) (NoCloserName (length above))
 
     -- ---- any name of the zone
 
@@ -180,23 +179,23 @@ module _ (L : List ZoneRecord) (a : Name) (assume : Bool) (links : List Link) (m
     of_match : (k : Link) → In k links → matches before k.owner x ≡ true → match_answer a k t ≡ known
     of_match k i m =
         let exists = matched_exists k i x m in
-        rw (there exists, none_above L a x (matched_high true L a assume links meant k i x m), exists, child_at k i)
+        rw (there exists, none_above L a x (matched_high facts k i x m), exists, child_at k i)
         (owned_alike (is_at_cut a k) (is_zone_cut L a x) (contains_type k.bits) (owns_type L a assume x) (length k.owner) (length x) t
         (matched_cut k i x m) (λ c. matched_type k i x m t bound) (matched_type k i x m cname (omega arith)) (same_count k.owner x (same k i x m)))
 
-    module _ (k : Link) (place : ℕ) (stands : slice_get links place ≡ Some k) (c : covers before k.owner k.next x ≡ true) where
+    module _ (k : Link) (stands : Stands links k) (c : covers before k.owner k.next x ≡ true) where
       told : tells_occluded a k x ≡ is_occluded true L a x
-      told = covered_told k place stands x low c
+      told = covered_told k stands x low c
 
       exists : is_strictly_below k.next x ≡ name_exists L a x
-      exists = sym (covered_exists k place stands x low c)
+      exists = sym (covered_exists k stands x low c)
 
       of_occluded : is_occluded true L a x ≡ true → cover_answer a listed k x t ≡ known
       of_occluded e =
           let h = highest_of L a x e in
-          let owner = covered_under true L a assume links meant k place stands x low c h.0 h.2.over h.2.free h.2.under in
+          let owner = covered_under facts k stands x low c h.0 h.2.over h.2.free h.2.under in
           let labels = same_count k.owner h.0 owner in
-          let cut = covered_cut k place stands x low c ∙ cut_same L a k.owner h.0 owner in
+          let cut = covered_cut k stands x low c ∙ cut_same L a k.owner h.0 owner in
           let free = and_right (is_at_or_below x a) (not (is_occluded true L a x)) (ap not e) in
           rw (and_left (is_unoccluded true L a x) (not (name_exists L a x)) free, h.1, told ∙ e)
           (λ j. cond (cut j) (Referral (labels j)) (Redirected (labels j)))
@@ -205,12 +204,12 @@ module _ (L : List ZoneRecord) (a : Name) (assume : Bool) (links : List Link) (m
       of_empty : is_occluded true L a x ≡ false → name_exists L a x ≡ true → cover_answer a listed k x t ≡ known
       of_empty high e =
           rw (there e, none_above L a x high, told ∙ high, exists, e)
-          (sym (owned_none L a assume x t (covered_unowned true L a assume links meant k place stands x low c high)))
+          (sym (owned_none L a assume x t (covered_unowned facts k stands x low c high)))
 
       of_missing : is_occluded true L a x ≡ false → name_exists L a x ≡ false → cover_answer a listed k x t ≡ known
       of_missing high e =
           let missing : is_missing L a x ≡ true = λ j. (low j && not (high j)) && not (e j) in
-          let labels = covered_encloser true L a assume links meant k place stands x low c in
+          let labels = covered_encloser facts k stands x low c in
           rw (missing, none_above L a x high, told ∙ high, exists, e, labels, closest_last owners a x) (wildcard_told high e)
 
       of_cover : cover_answer a listed k x t ≡ known
@@ -222,16 +221,11 @@ module _ (L : List ZoneRecord) (a : Name) (assume : Bool) (links : List Link) (m
 
     list_proved : listed_answer a listed x t ≡ cond (not (has_match_or_cover listed x)) NotProven known
     list_proved =
-        either_found (λ m c. listed_both a listed x t m c ≡ cond (not (has_match_or_cover listed x)) NotProven known)
-        (find (is_match a x) listed) (find (is_cover a x) listed) (λ e f. rw (silent true L a assume links meant listed among x e f))
-        (λ k e. let r = match_of true L a assume links meant listed among x k e in rw (r.2) (of_match k r.0 r.1))
-        (λ k f. let r = cover_of true L a assume links meant listed among x k f in rw (r.2) (of_cover k r.0.place r.0.there r.1))
+        list_says facts listed among x (listed_both a listed x t) known of_match of_cover ∙ turned (has_match_or_cover listed x) known NotProven
 
 -- what they answer is what they prove, of every name and type
-pub reading_proved : ChainLaws → ((L : List ZoneRecord) (a : Name) (assume : Bool) → IgnoresCase L a assume) → BitmapsAreSets
-    → (listed : List Link) (a x : Name) (t : ℕ) → t < 65536 → IsAnswered listed a x t (reading a listed x t)
-reading_proved laws alike sets listed a x t b L config links leaves order chain among =
+pub reading_proved : NsecChainsAreKnown → (listed : List Link) (a x : Name) (t : ℕ) → t < 65536 → IsAnswered listed a x t (reading a listed x t)
+reading_proved knows listed a x t b L config links leaves order chain among =
     let assume = config.assume_dnskeys_will_be_added in
     read_by (is_at_or_below x a) (is_at_parent a x t) (listed_answer a listed x t) _ (inside_answer L a assume x t (highest_occluder L a x)) (λ low apart.
-    list_proved L a assume links (meant_leaving laws L a config links leaves order chain) (alike L a assume) sets listed
-    (stands_all links listed among) x low t b ∙ rw (low, apart))
+    list_proved (facts_leaving knows L a config links leaves order chain) listed (stands_all links listed among) x low t b ∙ rw (low, apart))

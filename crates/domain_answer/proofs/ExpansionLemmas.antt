@@ -5,13 +5,14 @@ use Rattle.domain_octets.specs.Words.{Octets}
 use Rattle.domain_names.specs.{Name.{is_at_or_below, last_labels}, Words.Name}
 use Rattle.domain_zone.{specs.Zone.ZoneRecord, proofs.{NameLemmas.{below_longer, below_parent}, PairLemmas.{In, all_in}}}
 use Rattle.domain_nsec3.specs.{Chain.HashedLink, Config.ChainConfig, Meaning.IsAlone, Owners.original_owners}
-use Rattle.domain_checker.specs.{HashedFacts.{ChainFacts, ChainsAreKnown}, HashedList.{is_hash_cover, is_hash_match}, HashedVerdict.is_covered}
-use Rattle.domain_checker.{specs.HashedView.{HashedRecords, chain_records, first_cover, first_match}, proofs.EncloserLemmas.{apex_from, closest_is}}
-use Rattle.domain_checker.proofs.{EncloserLemmas.exists_above, HashedEncloserLemmas.{cover_denies, match_is_of_name}, HashedVerdictLemmas.as_chain}
+use Rattle.domain_checker.specs.{HashedFacts.{ChainFacts, ChainsAreKnown}, HashedVerdict.is_covered}
+use Rattle.domain_checker.{specs.HashedView.{HashedRecords, chain_records}, proofs.EncloserLemmas.{apex_from, closest_is}}
+use Rattle.domain_checker.proofs.{EncloserLemmas.exists_above, HashedEncloserLemmas.{cover_denies, match_is_of_name}}
+use Rattle.domain_checker.proofs.{HashedListLemmas.alone_by, HashedVerdictLemmas.as_chain}
 use Rattle.domain_answer.specs.Expansion.{missing_closer, ExpansionRestsOn, IsExpansionAnswered, IsExpansionRead, closer_name, closer_told, is_expanded}
 use Rattle.domain_answer.specs.{Expansion.proved_expansion, HashedZoneAnswer.{hashed_encloser, hashed_exists}, Proved.CountsWithin, ZoneAnswer.asterisk}
-use Rattle.domain_answer.{specs.{ZoneAnswer.wildcard_below, declared.answer.Answer.{Answer, TheVariants.NotProven}}, proofs.ChoiceLemmas.either_found}
-use Rattle.domain_answer.proofs.{EncloserLemmas.{closest_last, last_above, last_count}, HashedWayLemmas.{alone_by, heard, unheard}}
+use Rattle.domain_answer.specs.{ZoneAnswer.wildcard_below, declared.answer.Answer.{Answer, TheVariants.NotProven}}
+use Rattle.domain_answer.proofs.{EncloserLemmas.{closest_last, last_above, last_count}, HashedWayLemmas.by_told}
 
 -- what such a name is known of
 record IsLonger (a x : Name) (n : ℕ) : Type 0 where
@@ -58,40 +59,34 @@ expansion_encloser L a config x n e there gone =
 unproven : (there covered : Bool) (v : Answer) → covered ≡ false → NotProven ≡ cond there NotProven (cond (not covered) NotProven v)
 unproven there covered v e = grind (arith, common_steps)
 
-module _ (L : List ZoneRecord) (a : Name) (config : ChainConfig) (links : List HashedLink)
+module _ {L : List ZoneRecord} {a : Name} {config : ChainConfig} {links : List HashedLink}
     (facts : ChainFacts L a config links) (listed : List HashedLink) (among : (k : HashedLink) → In k listed → Contains links k)
-    (x : Name) (n : ℕ) (low : is_at_or_below (closer_name n x) a ≡ true) (v : Octets) (alone : IsAlone L a config (closer_name n x) v) where
-  told_proved : closer_told n (first_match (chain_records a config listed) v) (first_cover (chain_records a config listed) v)
-      ≡ proved_expansion L a config listed x n
-  told_proved =
-      either_found (λ m c. closer_told n m c ≡ proved_expansion L a config listed x n) (first_match (chain_records a config listed) v)
-      (first_cover (chain_records a config listed) v)
-      (λ e f. unproven (hashed_exists L a config (closer_name n x)) (is_covered (chain_records a config listed) (closer_name n x)) (missing_closer config n)
-      (unheard config.hash (is_hash_cover a config.parameters) listed (closer_name n x) v alone.known f))
-      (λ k e. let h = heard config.hash (is_hash_match a config.parameters) listed (closer_name n x) v alone.known k e in
-      rw ((match_is_of_name L a config links facts (closer_name n x) v low alone k (among k h.0) h.1).exists))
-      (λ k f. let h = heard config.hash (is_hash_cover a config.parameters) listed (closer_name n x) v alone.known k f in
-      let denial = cover_denies L a config links facts (closer_name n x) v low alone k (among k h.0) h.1 in
-      rw (denial.flags, denial.absent, h.2))
+    (x : Name) (n : ℕ) (low : is_at_or_below (closer_name n x) a ≡ true) (u : Octets) (alone : IsAlone L a config (closer_name n x) u) where
+  told_proved : (answer : Answer) → IsExpansionRead (chain_records a config listed) x n answer → answer ≡ proved_expansion L a config listed x n
+  told_proved answer read =
+      let y = closer_name n x in
+      let R = chain_records a config listed in
+      by_told R y (closer_told n) answer (λ v. v ≡ proved_expansion L a config listed x n) read
+      (λ v known k i matches there. rw ((match_is_of_name facts y v low (alone_by L a config y u v alone known) k (among k i) matches).exists))
+      (λ v known k i covers there.
+      let denial = cover_denies facts y v low (alone_by L a config y u v alone known) k (among k i) covers in
+      rw (denial.flags, denial.absent, there))
+      (λ unmatched uncovered. unproven (hashed_exists L a config y) (is_covered R y) (missing_closer config n) uncovered)
 
 pub expansion_proved : ChainsAreKnown → (R : HashedRecords) (x : Name) (n : ℕ) (answer : Answer)
     → is_expanded R.apex x n ≡ true → IsExpansionRead R x n answer → IsExpansionAnswered R x n answer
 expansion_proved knows R x n answer e read = λ L config links value hash parameters chain alone among.
-    let here = subst (λ S. IsExpansionRead S x n answer) (as_chain R config hash parameters) read in
-    here.says
-    ∙ told_proved L R.apex config links (knows L R.apex config links chain) R.links
+    told_proved (knows L R.apex config links chain) R.links
     (λ k i. all_in (Contains links) R.links k (recursion_from_All (Contains links) R.links among) i)
-    x n (closer_low R.apex x n e) here.value (alone_by L R.apex config (closer_name n x) value here.value alone here.known)
+    x n (closer_low R.apex x n e) value alone answer (subst (λ S. IsExpansionRead S x n answer) (as_chain R config hash parameters) read)
 
 -- ---- of any records
 
 module _ (R : HashedRecords) (x : Name) (n : ℕ) (answer : Answer) (read : IsExpansionRead R x n answer) where
   pub expansion_rests : ExpansionRestsOn R x n answer
   expansion_rests =
-      subst (ExpansionRestsOn R x n) (sym read.says) (either_found (λ m c. ExpansionRestsOn R x n (closer_told n m c)) (first_match R read.value)
-      (first_cover R read.value) (λ e f. tt) (λ k e. tt)
-      (λ k f. let c = (heard R.hash (is_hash_cover R.apex R.parameters) R.links (closer_name n x) read.value read.known k f).2 in
-      grind (arith, common_steps)))
+      by_told R (closer_name n x) (closer_told n) answer (ExpansionRestsOn R x n) read (λ v known k i match there. tt)
+      (λ v known k i cover there. grind (arith, common_steps)) (λ unmatched uncovered. tt)
 
   pub expansion_counts : is_expanded R.apex x n ≡ true → CountsWithin (length x) answer
   expansion_counts e = grind (arith, common_steps)

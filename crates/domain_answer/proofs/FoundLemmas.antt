@@ -1,11 +1,11 @@
 -- Tests of one NSEC record, and what was found of a name.
 use Rattle.std.proofs.Common.{◌≡◌, ℕ, ◌≤◌, Bool, true, false, cond, not, ◌&&◌, ◌||◌, List, length, Option, Some, None, sym, refl, arith, leb, max}
-use Rattle.std.{proofs.lemmas.{Bool.{and_parts, le-leb, leb-true}, Grind.common_steps}, specs.{List.find, Option.{is_some, option_map, option_or}}}
+use Rattle.std.{proofs.lemmas.{Bool.{and_parts, le-leb, leb-true}, Grind.common_steps}, specs.{List.find}}
 use Rattle.std.specs.{Ordering.{is_eq, is_gt, is_lt}}
 use Rattle.domain_names.specs.{Name.{is_at_or_below, same_name}, Order.{before, canonical_cmp, canonical_cmp_total, common_labels}, Words.Name}
 use Rattle.domain_zone.{specs.{Covering.{covers, matches}, Enclosers.{longer, shared}}, proofs.{FindLemmas.find_some, NameLemmas.{below_longer, below_trans}}}
 use Rattle.domain_zone.proofs.{NameLemmas.same_is, SharedLemmas.{either_way, shared_is}}
-use Rattle.domain_checker.{specs.{Reading.is_cover, Verdict.is_inside}, proofs.{FirstLemmas.match_is_tie, SharedLemmas.shared_length}}
+use Rattle.domain_checker.{specs.{Reading.is_cover, Verdict.is_inside}, proofs.{HandedInLemmas.match_is_tie, SharedLemmas.shared_length}}
 use Rattle.domain_nsec.specs.Chain.{Link}
 use Rattle.domain_answer.specs.{Found.IsFound, Reading.{listed_both, reading}, ZoneAnswer.is_at_parent}
 
@@ -22,15 +22,6 @@ module _ (o n x : Name) where
   covers_is = grind (arith, common_steps, (match_is_tie o x), (canonical_cmp_total.antisymm o x))
 
 -- ---- one pass
-
--- with no cover before this one it counts, and else the one before
-pub started : {W : Type 0} (v : W → Link) (met : Option W) (o : Option Link) → is_some met ≡ false → o ≡ option_or (option_map v met) o
-started v None o none = refl
-started v (Some w) o none = absurd (cc)
-
-pub kept : {W : Type 0} (v : W → Link) (met : Option W) (o : Option Link) → is_some met ≡ true → option_map v met ≡ option_or (option_map v met) o
-kept v None o some = absurd (cc)
-kept v (Some w) o some = refl
 
 -- so of a name at or below the apex the list says what is said of what was found
 pub found_reads : (a : Name) (listed : List Link) (x : Name) (t : ℕ) → is_at_or_below x a ≡ true → is_at_parent a x t ≡ false

@@ -12,15 +12,17 @@ use Rattle.domain_zone.proofs.{NameLemmas.below_length, PairLemmas.{In, all_in}}
 use Rattle.domain_nsec3.specs.{Chain.HashedLink, Config.{ChainConfig, hash_name}, Meaning.IsAlone, Owners.{nsec3_lists, original_owners}}
 use Rattle.domain_checker.specs.{HashedEncloser.{Encloser, IsEncloser, IsFoundEncloser, encloser_is_cut}, HashedFacts.{ChainFacts, ChainsAreKnown}}
 use Rattle.domain_checker.{specs.{HashedVerdict.{is_covered, is_matched, next_closer}, HashedView.{HashedRecords, chain_records}}, proofs.CutLemmas.not_below}
-use Rattle.domain_checker.proofs.{EncloserLemmas.{owner_unoccluded, same_count}, HashedEncloserLemmas.{cover_denies, match_is_of_name}}
-use Rattle.domain_checker.proofs.{HashedVerdictLemmas.as_chain, FirstMatchedLemmas.{IsGone, IsKnown, IsOfClosest, encloser_is, known_of_first}}
+use Rattle.domain_checker.proofs.{EncloserLemmas.{owner_unoccluded, same_count}, HashedEncloserLemmas.{IsClosed, cover_denies, match_is_of_name}}
+use Rattle.domain_checker.proofs.{HashedListLemmas.alone_by, HashedVerdictLemmas.as_chain}
+use Rattle.domain_checker.proofs.FirstMatchedLemmas.{IsGone, IsKnown, IsOfClosest, encloser_is, known_of_first}
 use Rattle.domain_answer.specs.HashedProved.{AreAskedAlone, IsHashedAnswered, hashed_proved_answer, needs_wildcard, tells_encloser, tells_wildcard}
-use Rattle.domain_answer.specs.{HashedReading.{IsHashedRead, IsReadOn, IsWildcardRead, found_answer, own_answer}, HashedZoneAnswer.HashedLeavesOutBelowDname}
+use Rattle.domain_answer.specs.HashedReading.{IsHashedRead, IsReadOn, IsTold, IsWildcardRead, found_answer, own_answer, wildcard_told}
+use Rattle.domain_answer.specs.Proved.{LeavesOutBelowDname}
 use Rattle.domain_answer.specs.{HashedZoneAnswer.{hashed_encloser, hashed_inside_answer, hashed_wildcard_answer}, TypesAnswer.is_of_child}
 use Rattle.domain_answer.specs.{TypesAnswer.wildcard_types_answer, ZoneAnswer.{is_at_parent, wildcard_below}, declared.answer.Answer.Answer}
 use Rattle.domain_answer.specs.declared.answer.Answer.TheVariants.{Referral, Redirected, NameError, MayBeUnsigned, NoCloserName, NotProven}
 use Rattle.domain_answer.proofs.{ChoiceLemmas.{expanded_alike, owned_alike}, EncloserLemmas.{closest_last, dname_occludes, exists_low, none_below}}
-use Rattle.domain_answer.proofs.{EncloserLemmas.wildcard_low, HashedWayLemmas.{IsClosed, IsOpen, alone_by, by_encloser, by_wildcard}}
+use Rattle.domain_answer.proofs.{EncloserLemmas.wildcard_low, HashedWayLemmas.{by_encloser, by_told}}
 
 -- of DNAME the chain lists what the name owns
 pub dname_owned : (L : List ZoneRecord) (a : Name) (config : ChainConfig) (d : Name) → nsec3_lists L a config d dname ≡ true
@@ -33,7 +35,7 @@ soa_unlisted L a config n = grind (arith, common_steps)
 
 -- ---- names of the chain
 
-owner_high : (L : List ZoneRecord) (a : Name) (config : ChainConfig) → HashedLeavesOutBelowDname L a config
+owner_high : (L : List ZoneRecord) (a : Name) (config : ChainConfig) → LeavesOutBelowDname L a config.occlude_below_dname
     → (o : Name) → In o (original_owners L a config) → is_occluded true L a o ≡ false
 owner_high L a config leaves o i = grind (arith, common_steps, in_filter, owner_unoccluded)
 
@@ -65,21 +67,18 @@ module _ (L : List ZoneRecord) (a : Name) (config : ChainConfig) (listed : List 
   inside_is : is_at_or_below x a ≡ true → is_at_parent a x t ≡ false → inside ≡ hashed_proved_answer L a config listed x t
   inside_is low apart = rw (low, apart)
 
-  module _ (links : List HashedLink) (facts : ChainFacts L a config links) (leaves : HashedLeavesOutBelowDname L a config)
+  module _ (links : List HashedLink) (facts : ChainFacts L a config links) (leaves : LeavesOutBelowDname L a config.occlude_below_dname)
       (among : (k : HashedLink) → In k listed → Contains links k) (low : is_at_or_below x a ≡ true) (bound : t < 65536)
       (asked : AreAskedAlone L a config x) where
     closest : IsClosestEncloser owners a x en
-    closest = encloser_is L a config links facts x low
+    closest = encloser_is facts x low
 
     en_low : is_at_or_below en a ≡ true
     en_low = exists_low owners a en closest.found
 
-    alone_at : (y : Name) → is_at_or_below x y ≡ true → is_at_or_below y a ≡ true → (v : Octets) → hash_name config.hash y ≡ Ok v → IsAlone L a config y v
-    alone_at y up in_zone v known = let f = asked.ancestors y up in_zone in alone_by L a config y f.0 v f.1 known
-
     module _ (e : Encloser) (is : IsEncloser R x e) where
       known : IsKnown L a config R x en e is.name
-      known = known_of_first L a config links facts listed among x low alone_at e is
+      known = known_of_first facts listed among x low asked.ancestors e is
 
       -- x itself
       at_name : same_name is.name x ≡ true → own_answer a e t ≡ inside
@@ -107,28 +106,29 @@ module _ (L : List ZoneRecord) (a : Name) (config : ChainConfig) (listed : List 
           rw (k.matched, k.asked ∙ s, k.types dname (omega arith) ∙ h, k.cut ∙ c, g.uncut, g.gone) (ap Redirected k.labels)
 
       -- no cover
-      at_gap : IsOpen R x e is.name → is_covered R (next_closer x is.name) ≡ false → NotProven ≡ inside
-      at_gap o uncovered =
+      at_gap : same_name is.name x ≡ false → encloser_is_cut a e ≡ false → contains_type e.link.bits dname ≡ false
+          → is_covered R (next_closer x is.name) ≡ false → NotProven ≡ inside
+      at_gap s c d uncovered =
           elim known.either [
-            | inl k ↦ rw (k.matched, k.asked ∙ o.other, k.types dname (omega arith) ∙ o.undirected, k.cut ∙ o.uncut, k.next ∙ uncovered)
+            | inl k ↦ rw (k.matched, k.asked ∙ s, k.types dname (omega arith) ∙ d, k.cut ∙ c, k.next ∙ uncovered)
             | inr unmatched ↦ rw (unmatched)
           ]
 
       -- a cover: x does not exist, and d is its closest encloser
-      module _ (c : IsClosed R x e is.name) where
+      module _ (c : IsClosed R x e is.name) (undirected : contains_type e.link.bits dname ≡ false) where
         denied : IsOfClosest L a config R x en e is.name × (c.link.flags ≡ config.flags)
-        denied = known.denied c.below.other c.value c.known c.link c.listed c.covers
+        denied = known.denied c
 
         gone : IsGone L a config x
-        gone = known.gone c.below.other c.below.uncut denied.0
+        gone = known.gone c.other c.uncut denied.0
 
         missing_is : missing (is_opt_out c.link.flags) ≡ inside
         missing_is = ap (λ k. missing (is_opt_out k)) denied.1
             ∙ rw (
               denied.0.matched,
-              denied.0.asked ∙ c.below.other,
-              denied.0.types dname (omega arith) ∙ c.below.undirected,
-              denied.0.cut ∙ c.below.uncut,
+              denied.0.asked ∙ c.other,
+              denied.0.types dname (omega arith) ∙ undirected,
+              denied.0.cut ∙ c.uncut,
               denied.0.next ∙ c.covered,
               gone.uncut,
               gone.gone,
@@ -154,16 +154,17 @@ module _ (L : List ZoneRecord) (a : Name) (config : ChainConfig) (listed : List 
 
           at_wildcard : (answer : Answer) → IsWildcardRead R x t (length en) answer → answer ≡ inside
           at_wildcard answer read =
-              by_wildcard R x t answer (λ v. v ≡ inside) (length en) read w (ap wildcard_below (sym (closest_last owners a x)))
+              let told = wildcard_told (length en) t in
+              by_told R w told answer (λ v. v ≡ inside) (subst (λ y. IsTold R y told answer) (ap wildcard_below (closest_last owners a x)) read)
               (λ v known k i matches matched.
-              let of = match_is_of_name L a config links facts w v low_w (alone_w v known) k (among k i) matches in
+              let of = match_is_of_name facts w v low_w (alone_w v known) k (among k i) matches in
               let at_cut : contains_type k.bits ns ≡ is_zone_cut L a w = (λ j. not (sym other_w j) && contains_type k.bits ns) ∙ of.cut in
               decides (wildcard_types_answer (contains_type k.bits ns) k.bits (length en) t)
               (rw (or_left (is_matched R w) (is_covered R w) matched, of.exists)
               (expanded_alike (contains_type k.bits ns) (is_zone_cut L a w) (contains_type k.bits) (nsec3_lists L a config w) (length en) t at_cut
               (λ u. of.types t bound) (of.types cname (omega arith)))))
               (λ v known k i covers covered.
-              let absent = (cover_denies L a config links facts w v low_w (alone_w v known) k (among k i) covers).absent in
+              let absent = (cover_denies facts w v low_w (alone_w v known) k (among k i) covers).absent in
               decides (NameError (length en)) (rw (or_right (is_matched R w) (is_covered R w) covered, absent)))
               (λ unmatched uncovered. decides (NoCloserName (length en)) (rw (unmatched, uncovered)))
 
@@ -172,7 +173,7 @@ module _ (L : List ZoneRecord) (a : Name) (config : ChainConfig) (listed : List 
     found_inside None is answer ends = rw ((is en closest.above en_low).2) ends
     found_inside (Some e) is answer ends =
         by_encloser R x t answer (λ v. v ≡ inside) e is ends (at_name e is) (at_cut e is) (at_dname e is) (at_gap e is) (at_out e is)
-        (λ c out read. at_wildcard e is c out answer (subst (λ n. IsWildcardRead R x t n answer) (denied e is c).0.labels read))
+        (λ c d out read. at_wildcard e is c d out answer (subst (λ n. IsWildcardRead R x t n answer) (denied e is c d).0.labels read))
 
 -- for records of the chain of any zone
 pub read_proved : ChainsAreKnown → (R : HashedRecords) (x : Name) (t : ℕ) (answer : Answer) → t < 65536

@@ -1,20 +1,20 @@
 -- The whole NSEC3 chain proves all that the zone says.
-use Rattle.std.proofs.{Common.{rules, ◌≡◌, ℕ, Bool, true, false, cond, not, ◌&&◌, ◌||◌, List, length, sym, ◌∙◌, inl, inr, arith}, lemmas.Bool.cases_Bool}
-use Rattle.std.proofs.lemmas.{Bool.{or_left, or_right}, Grind.common_steps}
+use Rattle.std.proofs.Common.{rules, ◌≡◌, ℕ, Bool, true, false, cond, not, ◌&&◌, ◌||◌, List, length, inl, inr, arith}
+use Rattle.std.proofs.lemmas.{Bool.{cases_Bool, or_left, or_right}, Grind.common_steps}
 use Rattle.domain_octets.specs.Words.{Octets}
 use Rattle.domain_names.specs.{Name.is_at_or_below, Words.Name}
 use Rattle.domain_base.specs.Types.{dname}
 use Rattle.domain_chain_rdata.specs.OptOut.{is_opt_out}
-use Rattle.domain_zone.{specs.{Covering.{covers, matches}, Zone.ZoneRecord}, proofs.FindLemmas.{in_at, stands_in}}
-use Rattle.domain_nsec3.specs.{Chain.{HashedLink, IsHashedChain}, Config.ChainConfig, Meaning.{IsAlone, IsMatchedOrCoveredOnce, octets_before}}
+use Rattle.domain_zone.specs.Zone.{ZoneRecord}
+use Rattle.domain_nsec3.specs.{Chain.{HashedLink, IsHashedChain}, Config.ChainConfig, Meaning.{IsAlone}}
 use Rattle.domain_nsec3.specs.Owners.{nsec3_lists, original_owners}
-use Rattle.domain_checker.specs.{HashedFacts.{ChainFacts, ChainsAreKnown}, HashedVerdict.{is_below_chain_cut, is_covered, is_matched, proves}}
-use Rattle.domain_checker.{specs.HashedView.chain_records, proofs.{HashedListLemmas.{covered_in, matched_in, told_at}, FirstMatchedLemmas.encloser_is}}
-use Rattle.domain_checker.proofs.HashedVerdictLemmas.{whole_proves as proves_all}
+use Rattle.domain_checker.specs.{HashedFacts.{ChainFacts, ChainsAreKnown}, HashedVerdict.{is_below_chain_cut, is_matched, proves}}
+use Rattle.domain_checker.{specs.HashedView.chain_records, proofs.{HashedListLemmas.{whole_covers, whole_matches}, FirstMatchedLemmas.encloser_is}}
+use Rattle.domain_checker.proofs.{ChoiceLemmas.choose_by, HashedVerdictLemmas.{whole_proves as proves_all}}
 use Rattle.domain_answer.specs.{Expansion.{closer_name, is_expanded, missing_closer, proved_expansion}, HashedProved.{AreAskedAlone, hashed_proved_answer}}
-use Rattle.domain_answer.specs.{HashedProved.{needs_wildcard, tells_encloser, tells_wildcard}, HashedZoneAnswer.{HashedLeavesOutBelowDname, hashed_encloser}}
+use Rattle.domain_answer.specs.{HashedProved.{needs_wildcard, tells_encloser, tells_wildcard}, HashedZoneAnswer.hashed_encloser, Proved.LeavesOutBelowDname}
 use Rattle.domain_answer.specs.{HashedZoneAnswer.{hashed_exists, hashed_zone_answer}, ZoneAnswer.{is_at_parent, wildcard_below}, declared.answer.Answer.Answer}
-use Rattle.domain_answer.{specs.declared.answer.Answer.TheVariants.{NoCloserName, TooManyIterations, NotProven}, proofs.ChoiceLemmas.{all_told, choose_by}}
+use Rattle.domain_answer.{specs.declared.answer.Answer.TheVariants.{NoCloserName, TooManyIterations, NotProven}, proofs.ChoiceLemmas.all_told}
 use Rattle.domain_answer.proofs.{EncloserLemmas.wildcard_low, ExpansionLemmas.closer_low}
 
 -- of a proof that has a record of m, one of m is left, and what closes it
@@ -25,51 +25,21 @@ closed m s c d v e = grind (arith, common_steps)
 needs_none : (u g d o w : Bool) → (g ≡ false → w ≡ true) → ((((not u && not g) && not d) && not o) && not w) ≡ false
 needs_none u g d o w f = grind (arith, common_steps)
 
-module _ (L : List ZoneRecord) (a : Name) (config : ChainConfig) (links : List HashedLink) (facts : ChainFacts L a config links) where
-  -- a record matches a name that exists, and covers one that does not
-  module _ (y : Name) (low : is_at_or_below y a ≡ true) (v : Octets) (alone : IsAlone L a config y v) where
-    one : IsMatchedOrCoveredOnce L a config links y v
-    one = facts.mirrors.each y v low alone
-
-    whole_matches : hashed_exists L a config y ≡ true → is_matched (chain_records a config links) y ≡ true
-    whole_matches there = matched_in L a config links facts links (λ k i. i) y (record {
-      place = one.place;
-      link = one.link;
-      hash = one.hash;
-      value = v;
-      is = one.is;
-      known = alone.known;
-      says = one.matched ∙ sym (facts.exist y low) ∙ there;
-    })
-
-    whole_covers : hashed_exists L a config y ≡ false → is_covered (chain_records a config links) y ≡ true
-    whole_covers gone =
-        let other : matches octets_before one.hash v ≡ false = one.matched ∙ sym (facts.exist y low) ∙ gone in
-        covered_in L a config links facts links (λ k i. i) y (record {
-          place = one.place;
-          link = one.link;
-          hash = one.hash;
-          value = v;
-          is = one.is;
-          known = alone.known;
-          says = sym (λ j. other j || covers octets_before one.hash one.link.next v) ∙ one.says;
-          flags = (told_at L a config links facts one.link (in_at links one.place one.link one.is.there)).1;
-        })
-
+module _ {L : List ZoneRecord} {a : Name} {config : ChainConfig} {links : List HashedLink} (facts : ChainFacts L a config links) where
   module _ (x : Name) (low : is_at_or_below x a ≡ true) (asked : AreAskedAlone L a config x) where
     pub encloser_told : tells_encloser L a config links x ≡ true
     encloser_told =
-        let told : proves L a config links x ≡ true = proves_all L a config links facts links (stands_in links) x low asked.ancestors (λ k i. i) in
+        let told : proves L a config links x ≡ true = proves_all facts x low asked.ancestors in
         grind (arith, common_steps, closed)
 
     w_told : hashed_exists L a config x ≡ false → tells_wildcard L a config links x ≡ true
     w_told gone =
         let w = wildcard_below (hashed_encloser L a config x) in
-        let low_w = wildcard_low (original_owners L a config) a x (hashed_encloser L a config x) (encloser_is L a config links facts x low) in
+        let low_w = wildcard_low (original_owners L a config) a x (hashed_encloser L a config x) (encloser_is facts x low) in
         let g = asked.wildcard gone in
         elim (cases_Bool (hashed_exists L a config w)) [
-          | inl e ↦ or_left (is_matched (chain_records a config links) w) (is_covered (chain_records a config links) w) (whole_matches w low_w g.0 g.1 e)
-          | inr e ↦ or_right (is_matched (chain_records a config links) w) (is_covered (chain_records a config links) w) (whole_covers w low_w g.0 g.1 e)
+          | inl e ↦ or_left (is_matched (chain_records a config links) w) _ (whole_matches facts w low_w g.0 g.1 e)
+          | inr e ↦ or_right (is_matched (chain_records a config links) w) _ (whole_covers facts w low_w g.0 g.1 e)
         ]
 
     -- what is needed is told
@@ -79,22 +49,22 @@ module _ (L : List ZoneRecord) (a : Name) (config : ChainConfig) (links : List H
         (is_opt_out config.flags) (tells_wildcard L a config links x) w_told
 
 pub whole_proves : ChainsAreKnown → (L : List ZoneRecord) (a : Name) (config : ChainConfig) (links : List HashedLink)
-    (x : Name) (t : ℕ) → HashedLeavesOutBelowDname L a config → IsHashedChain L a config links → AreAskedAlone L a config x
+    (x : Name) (t : ℕ) → LeavesOutBelowDname L a config.occlude_below_dname → IsHashedChain L a config links → AreAskedAlone L a config x
     → hashed_proved_answer L a config links x t ≡ hashed_zone_answer L a config x t
 whole_proves knows L a config links x t leaves chain asked =
     let facts = knows L a config links chain in
     all_told (is_at_or_below x a) (is_at_parent a x t) (tells_encloser L a config links x)
     (needs_wildcard L a config x && not (tells_wildcard L a config links x)) (hashed_zone_answer L a config x t)
     (NoCloserName (length (hashed_encloser L a config x)))
-    (λ low. encloser_told L a config links facts x low asked) (λ low. wildcard_told L a config links facts x low asked)
+    (λ low. encloser_told facts x low asked) (λ low. wildcard_told facts x low asked)
 
 -- of names whose records were expanded from a wildcard
-pub whole_closer : (L : List ZoneRecord) (a : Name) (config : ChainConfig) (links : List HashedLink) → ChainFacts L a config links
+pub whole_closer : {L : List ZoneRecord} {a : Name} {config : ChainConfig} {links : List HashedLink} → ChainFacts L a config links
     → (x : Name) (n : ℕ) (v : Octets) → is_expanded a x n ≡ true → IsAlone L a config (closer_name n x) v
     → hashed_exists L a config (closer_name n x) ≡ false → proved_expansion L a config links x n ≡ missing_closer config n
-whole_closer L a config links facts x n v e alone gone =
+whole_closer {L} {a} {config} {links} facts x n v e alone gone =
     λ j. cond (gone j) NotProven
-    (cond (not (whole_covers L a config links facts (closer_name n x) (closer_low a x n e) v alone gone j)) NotProven (missing_closer config n))
+    (cond (not (whole_covers facts (closer_name n x) (closer_low a x n e) v alone gone j)) NotProven (missing_closer config n))
 
 -- ---- a zone says something of each name: records give more answers
 

@@ -6,12 +6,12 @@ use Rattle.domain_base.specs.Types.{cname, dname, ds}
 use Rattle.domain_zone.specs.Zone.{ZoneRecord, has_type, is_occluded, is_unoccluded, is_zone_cut, occludes, owns, records_of, unoccluded_owners}
 use Rattle.domain_zone.proofs.{NameLemmas.{below_itself, lowered_below, one_lowered, same_itself}, OwnerLemmas.any_owner}
 use Rattle.domain_nsec.specs.Chain.{nsec_lists}
-use Rattle.domain_checker.proofs.EncloserLemmas.{cut_same, occluded_same, occludes_same, top_occluder, same_count, strictly_trans}
+use Rattle.domain_checker.proofs.{ChoiceLemmas.choose_by, EncloserLemmas.{cut_same, occluded_same, occludes_same, top_occluder, same_count, strictly_trans}}
 use Rattle.domain_answer.specs.{Kinds.{IsAbsent, IsHere, IsRedirected, IsReferred, IsSo, wildcard_of}, TypesAnswer.owned_answer, ZoneAnswer.encloser}
 use Rattle.domain_answer.specs.ZoneAnswer.{highest_occluder, inside_answer, is_at_parent, missing_answer, name_exists, occluded_answer, owns_type}
 use Rattle.domain_answer.specs.{ZoneAnswer.{unoccluded_answer, zone_answer}, declared.answer.Answer.{Answer, TheVariants.{OutsideZone, AtParent, Referral}}}
 use Rattle.domain_answer.specs.declared.answer.Answer.TheVariants.{Redirected, Has, NoDs, Alias, NoData, Wildcard, NotProven, WildcardAlias, WildcardNoData}
-use Rattle.domain_answer.{specs.declared.answer.Answer.TheVariants.{NameError, MayBeUnsigned, NoCloserName, TooManyIterations}, proofs.ChoiceLemmas.choose_by}
+use Rattle.domain_answer.specs.declared.answer.Answer.TheVariants.{NameError, MayBeUnsigned, NoCloserName, TooManyIterations}
 use Rattle.domain_answer.proofs.EncloserLemmas.{below_strictly, cut_occludes, cut_owns, dname_occludes, free_parts, highest_is, none_above, strictly_same}
 
 module _ (L : List ZoneRecord) (a : Name) where

@@ -5,11 +5,12 @@ use Rattle.domain_names.specs.{Name.{is_at_or_below, is_strictly_below, last_lab
 use Rattle.domain_zone.{specs.{Covering.covers, Enclosers.{longer, shared}}, proofs.{FindLemmas.find_some, NameLemmas.{below_length, same_is}}}
 use Rattle.domain_zone.proofs.OwnerLemmas.{in_any}
 use Rattle.domain_nsec.specs.Chain.{Link}
-use Rattle.domain_checker.{specs.{Reading.{is_cover, is_match}, Verdict.{HasProof, is_inside}}, proofs.EncloserLemmas.same_count}
+use Rattle.domain_checker.specs.{Reading.{is_cover, is_match}, Verdict.{HasProof, is_inside}}
+use Rattle.domain_checker.proofs.{ChoiceLemmas.{choose_by, either_found}, EncloserLemmas.same_count}
 use Rattle.domain_answer.specs.{Proved.{CountsWithin, RestsOn}, Reading.{IsNameAnswer, absent_answer, cover_answer, listed_answer, listed_both, match_answer}}
 use Rattle.domain_answer.specs.Reading.{name_answer, owner_answer, reading, tells_occluded, tells_occluder, wildcard_answer, wildcard_both}
 use Rattle.domain_answer.specs.{ZoneAnswer.wildcard_below, declared.answer.{Answer.{Answer, TheVariants.{NoCloserName, NoData}}, NameAnswer.TheVariants.Given}}
-use Rattle.domain_answer.{specs.declared.answer.NameAnswer.TheVariants.Absent, proofs.{ChoiceLemmas.{choose_by, either_found}, EncloserLemmas.encloser_less}}
+use Rattle.domain_answer.{specs.declared.answer.NameAnswer.TheVariants.Absent, proofs.EncloserLemmas.encloser_less}
 
 module _ (a : Name) (listed : List Link) where
   match_proves : (y : Name) (k : Link) → find (is_match a y) listed ≡ Some k → HasProof listed a y

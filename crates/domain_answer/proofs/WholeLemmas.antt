@@ -7,22 +7,23 @@ use Rattle.domain_base.specs.Types.{dname}
 use Rattle.domain_zone.specs.Zone.{ZoneRecord, OwnersNeverDescend, distinct, has_type, is_occluded, is_unoccluded, is_zone_cut, occludes, records_of}
 use Rattle.domain_zone.{specs.Zone.unoccluded_owners, proofs.{FindLemmas.{any_none, from_map, in_filter}, OwnerLemmas.in_any, PairLemmas.{In, all_in}}}
 use Rattle.domain_nsec.specs.{Chain.{IsChain, Link}, declared.config.GenerateNsecConfig.GenerateNsecConfig}
-use Rattle.domain_checker.{specs.Verdict.has_match_or_cover, proofs.{EncloserLemmas.{closest_is, in_distinct}, MeantLemmas.{ChainLaws, apex_exists, some_link}}}
+use Rattle.domain_checker.specs.{Facts.NsecChainsAreKnown, Verdict.has_match_or_cover}
+use Rattle.domain_checker.proofs.{EncloserLemmas.{closest_is, in_distinct}, MeantLemmas.{apex_exists, some_link}}
 use Rattle.domain_answer.specs.{Proved.{LeavesOutBelowDname, is_missing, knows_wildcard, proved_answer}, ZoneAnswer.{encloser, is_at_parent, wildcard_below}}
-use Rattle.domain_answer.{specs.{ZoneAnswer.zone_answer, declared.answer.Answer.TheVariants.NoCloserName}, proofs.ChainLemmas.meant_leaving}
+use Rattle.domain_answer.{specs.{ZoneAnswer.zone_answer, declared.answer.Answer.TheVariants.NoCloserName}, proofs.ChainLemmas.facts_leaving}
 use Rattle.domain_answer.proofs.{ChoiceLemmas.all_told, EncloserLemmas.wildcard_low}
 
-pub whole_proves : ChainLaws → (L : List ZoneRecord) (a : Name) (config : GenerateNsecConfig) (links : List Link) (x : Name)
-    (t : ℕ) → LeavesOutBelowDname L a config → OwnersNeverDescend L → IsChain L a config links
+pub whole_proves : NsecChainsAreKnown → (L : List ZoneRecord) (a : Name) (config : GenerateNsecConfig) (links : List Link) (x : Name)
+    (t : ℕ) → LeavesOutBelowDname L a config.occlude_below_dname → OwnersNeverDescend L → IsChain L a config links
     → proved_answer L a config.assume_dnskeys_will_be_added links x t ≡ zone_answer L a config.assume_dnskeys_will_be_added x t
-whole_proves laws L a config links x t leaves order chain =
+whole_proves knows L a config links x t leaves order chain =
     let assume = config.assume_dnskeys_will_be_added in
     let en = encloser L a x in
-    let meant = meant_leaving laws L a config links leaves order chain in
+    let facts = facts_leaving knows L a config links leaves order chain in
     all_told (is_at_or_below x a) (is_at_parent a x t) (has_match_or_cover links x) (is_missing L a x && not (knows_wildcard L a links x))
-    (zone_answer L a assume x t) (NoCloserName (length en)) (some_link true L a assume links meant x) (λ low.
-    let closest = closest_is (unoccluded_owners true L a) a x (apex_exists true L a assume links meant) low in
-    let wild = some_link true L a assume links meant (wildcard_below en) (wildcard_low (unoccluded_owners true L a) a x en closest) in
+    (zone_answer L a assume x t) (NoCloserName (length en)) (some_link facts x) (λ low.
+    let closest = closest_is (unoccluded_owners true L a) a x (apex_exists facts) low in
+    let wild = some_link facts (wildcard_below en) (wildcard_low (unoccluded_owners true L a) a x en closest) in
     and_right (is_missing L a x) (not (knows_wildcard L a links x)) (ap not wild))
 
 -- ---- chains that leave out the names below a DNAME

@@ -1,15 +1,15 @@
 -- What NSEC3 records answer of a name x whose records were expanded from the wildcard right below
 -- its last n labels (RFC 5155, section 8.8; RFC 4035, section 5.3.4); a is the apex. As many labels
 -- as that the signatures of those records tell in their field Labels.
-use Rattle.std.specs.Prelude.{ℕ, ◌≡◌, ◌+◌, Bool, true, false, not, ◌&&◌, nat_le, nat_lt, List, All, length, Option, Some, None, Ok, if◌then◌else◌}
+use Rattle.std.specs.Prelude.{ℕ, ◌≡◌, ◌+◌, Bool, true, false, not, ◌&&◌, nat_le, nat_lt, List, All, length, Option, Some, None, if◌then◌else◌}
 use Rattle.std.specs.List.{Contains}
 use Rattle.domain_octets.specs.Words.{Octets}
 use Rattle.domain_names.specs.{Name.{is_at_or_below, last_labels}, Words.Name}
 use Rattle.domain_chain_rdata.specs.OptOut.{is_opt_out}
 use Rattle.domain_zone.specs.Zone.{ZoneRecord}
-use Rattle.domain_nsec3.specs.{Chain.{HashedLink, IsHashedChain}, Config.{ChainConfig, hash_name}, Meaning.IsAlone}
-use Rattle.domain_checker.specs.{HashedVerdict.is_covered, HashedView.{HashedRecords, chain_records, first_cover, first_match}}
-use Rattle.domain_answer.specs.{HashedReading.next_answer, HashedZoneAnswer.hashed_exists, declared.answer.Answer.Answer}
+use Rattle.domain_nsec3.specs.{Chain.{HashedLink, IsHashedChain}, Config.ChainConfig, Meaning.IsAlone}
+use Rattle.domain_checker.specs.{HashedVerdict.is_covered, HashedView.{HashedRecords, chain_records}}
+use Rattle.domain_answer.specs.{HashedReading.{IsTold, next_answer}, HashedZoneAnswer.hashed_exists, declared.answer.Answer.Answer}
 use Rattle.domain_answer.specs.declared.answer.Answer.TheVariants.{OutsideZone, MayBeUnsigned, NoCloserName, TooManyIterations, NotProven}
 
 -- x is longer than its last n labels, and these are a name at or below the apex
@@ -25,11 +25,9 @@ abbrev pub closer_told : ℕ → Option HashedLink → Option HashedLink → Ans
 closer_told n (Some k) covering = NotProven
 closer_told n None covering = next_answer n covering
 
--- that name is not refused by the hasher, and the list says so of it
-pub record IsExpansionRead (R : HashedRecords) (x : Name) (n : ℕ) (answer : Answer) : Type 0 where
-  pub value : Octets
-  pub known : hash_name R.hash (closer_name n x) ≡ Ok value
-  pub says : answer ≡ closer_told n (first_match R value) (first_cover R value)
+-- the answer is what the list says of that name
+abbrev pub IsExpansionRead : HashedRecords → Name → ℕ → Answer → Type 0
+IsExpansionRead R x n = IsTold R (closer_name n x) (closer_told n)
 
 -- of a name that the zone does not have: where the chain has the flag of opt-out, it may be an
 -- unsigned delegation

@@ -8,7 +8,7 @@ use Rattle.domain_zone.specs.Zone.{ZoneRecord, is_zone_cut}
 use Rattle.domain_nsec3.specs.{Chain.{HashedLink, IsHashedChain}, Config.ChainConfig, Meaning.{AreAlone, IsAlone}, Owners.nsec3_lists}
 use Rattle.domain_checker.specs.{HashedVerdict.{is_below_chain_cut, is_covered, is_matched, next_closer, IsFirstMatched}, HashedView.HashedRecords}
 use Rattle.domain_checker.specs.HashedView.{chain_records}
-use Rattle.domain_answer.specs.{HashedZoneAnswer.{hashed_encloser, hashed_exists, hashed_zone_answer, HashedLeavesOutBelowDname}, Proved.needs_no_records}
+use Rattle.domain_answer.specs.{HashedZoneAnswer.{hashed_encloser, hashed_exists, hashed_zone_answer}, Proved.{needs_no_records, LeavesOutBelowDname}}
 use Rattle.domain_answer.specs.{ZoneAnswer.wildcard_below, declared.answer.Answer.{Answer, TheVariants.{OutsideZone, AtParent, Referral, Redirected, Wildcard}}}
 use Rattle.domain_answer.specs.declared.answer.Answer.TheVariants.{WildcardAlias, WildcardNoData, NameError, MayBeUnsigned, NoCloserName, TooManyIterations}
 use Rattle.domain_answer.specs.declared.answer.Answer.TheVariants.{NotProven}
@@ -60,7 +60,7 @@ abbrev pub IsHashedAnswered : HashedRecords → Name → ℕ → Answer → Type
 IsHashedAnswered R x t answer =
     (L : List ZoneRecord) (config : ChainConfig) (links : List HashedLink)
     → config.hash ≡ R.hash → config.parameters ≡ R.parameters
-    → HashedLeavesOutBelowDname L R.apex config → IsHashedChain L R.apex config links
+    → LeavesOutBelowDname L R.apex config.occlude_below_dname → IsHashedChain L R.apex config links
     → AreAskedAlone L R.apex config x → All (Contains links) R.links
     → answer ≡ hashed_proved_answer L R.apex config R.links x t
 

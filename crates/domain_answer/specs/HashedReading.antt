@@ -42,11 +42,17 @@ wildcard_told n t (Some k) covering = wildcard_types_answer (contains_type k.bit
 wildcard_told n t None (Some k) = NameError n
 wildcard_told n t None None = NoCloserName n
 
--- the wildcard below the last n labels of x is not refused by the hasher, and the list says so of x
-pub record IsWildcardRead (R : HashedRecords) (x : Name) (t n : ℕ) (answer : Answer) : Type 0 where
+-- the name y is not refused by the hasher, and the answer is what is told by its first match, or
+-- else its first cover
+pub record IsTold (R : HashedRecords) (y : Name)
+    (told : Option HashedLink → Option HashedLink → Answer) (answer : Answer) : Type 0 where
   pub value : Octets
-  pub known : hash_name R.hash (wildcard_below (last_labels n x)) ≡ Ok value
-  pub says : answer ≡ wildcard_told n t (first_match R value) (first_cover R value)
+  pub known : hash_name R.hash y ≡ Ok value
+  pub says : answer ≡ told (first_match R value) (first_cover R value)
+
+-- the answer is what the list says of x by the wildcard below its last n labels
+abbrev pub IsWildcardRead : HashedRecords → Name → ℕ → ℕ → Answer → Type 0
+IsWildcardRead R x t n = IsTold R (wildcard_below (last_labels n x)) (wildcard_told n t)
 
 -- where the closest encloser leaves no more to ask than the wildcard, that is asked for
 abbrev pub IsReadOn : HashedRecords → Name → ℕ → Answer → Answer → Type 0

@@ -1,11 +1,11 @@
 -- What a zone with an NSEC3 chain says of a name x and a type t (RFC 5155, sections 6 and 8; RFC
 -- 4592, section 3.3; RFC 6672, section 3.2); a is the apex. The zone's names are those of the
 -- chain: its original owner names and their ancestors at or below the apex.
-use Rattle.std.specs.Prelude.{ℕ, Bool, true, not, ◌&&◌, ◌||◌, ◌==◌, List, ◌≡◌, length, if◌then◌else◌}
+use Rattle.std.specs.Prelude.{ℕ, Bool, not, ◌&&◌, ◌||◌, ◌==◌, List, length, if◌then◌else◌}
 use Rattle.domain_names.specs.{Name.{is_at_or_below, same_name}, Words.Name}
 use Rattle.domain_base.specs.Types.{dname, nsec, nsec3param}
 use Rattle.domain_chain_rdata.specs.OptOut.{is_opt_out}
-use Rattle.domain_zone.specs.{Enclosers.exists_over, Zone.{ZoneRecord, is_zone_cut, unoccluded_owners}}
+use Rattle.domain_zone.specs.{Enclosers.exists_over, Zone.{ZoneRecord, is_zone_cut}}
 use Rattle.domain_nsec3.specs.{Config.ChainConfig, Owners.{nsec3_lists, original_owners}}
 use Rattle.domain_checker.specs.{HashedVerdict.is_below_chain_cut, Verdict.closest_encloser}
 use Rattle.domain_answer.specs.{TypesAnswer.{expanded_answer, owned_answer}, ZoneAnswer.{is_at_parent, wildcard_below}, declared.answer.Answer.Answer}
@@ -47,11 +47,6 @@ abbrev pub hashed_zone_answer : List ZoneRecord → Name → ChainConfig → Nam
 hashed_zone_answer L a config x t =
     if not (is_at_or_below x a) then OutsideZone else
     (if is_at_parent a x t then AtParent else hashed_inside_answer L a config x t)
-
--- the chain leaves out what stands below a DNAME, or nothing stands there
-abbrev pub HashedLeavesOutBelowDname : List ZoneRecord → Name → ChainConfig → Type 0
-HashedLeavesOutBelowDname L a config =
-    unoccluded_owners config.occlude_below_dname L a ≡ unoccluded_owners true L a
 
 -- a type that of the two chains of a zone one lists for x, whatever x owns: NSEC, and at the apex
 -- NSEC3PARAM

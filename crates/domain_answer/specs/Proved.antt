@@ -29,17 +29,17 @@ proved_answer L a assume listed x t =
     (if is_missing L a x && not (knows_wildcard L a listed x)
     then NoCloserName (length (encloser L a x)) else zone_answer L a assume x t))
 
--- the chain leaves out what stands below a DNAME, or nothing stands there
-abbrev pub LeavesOutBelowDname : List ZoneRecord → Name → GenerateNsecConfig → Type 0
-LeavesOutBelowDname L a config =
-    unoccluded_owners config.occlude_below_dname L a ≡ unoccluded_owners true L a
+-- a chain with this choice leaves out what stands below a DNAME, or nothing stands there
+abbrev pub LeavesOutBelowDname : List ZoneRecord → Name → Bool → Type 0
+LeavesOutBelowDname L a below_dname =
+    unoccluded_owners below_dname L a ≡ unoccluded_owners true L a
 
 -- the answer is what is proved of any zone of whose chain these are records, in any order, with
 -- repeats
 abbrev pub IsAnswered : List Link → Name → Name → ℕ → Answer → Type 0
 IsAnswered listed a x t answer =
     (L : List ZoneRecord) (config : GenerateNsecConfig) (links : List Link)
-    → LeavesOutBelowDname L a config → OwnersNeverDescend L → IsChain L a config links
+    → LeavesOutBelowDname L a config.occlude_below_dname → OwnersNeverDescend L → IsChain L a config links
     → All (Contains links) listed
     → answer ≡ proved_answer L a config.assume_dnskeys_will_be_added listed x t
 

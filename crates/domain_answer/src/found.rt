@@ -21,10 +21,8 @@ pub struct NsecCover<'a, O: Octets, N: ToName> {
 pub enum NsecFound<'a, O: Octets, N: ToName> {
     /// The first record that matches it.
     Match(&'a NsecRr<O, N>),
-    /// No record matches it, and this is the first that covers it.
-    Cover(NsecCover<'a, O, N>),
-    /// No record matches or covers it.
-    Neither,
+    /// No record matches it, and this is the first that covers it, if one does.
+    NoMatch(Option<NsecCover<'a, O, N>>),
 }
 
 /// The first record that matches the name or, where none does, the first that covers it. Records
@@ -43,12 +41,10 @@ pub fn find_nsec<'a, A: ToName, O: Octets, N: ToName, M: ToName>(
         if is_match(apex, listed, name) {
             return NsecFound::Match(listed);
         }
-        if cover.is_none() {
-            cover = cover_of(apex, listed, name);
+        if cover.is_some() {
+            continue;
         }
+        cover = cover_of(apex, listed, name);
     }
-    match cover {
-        Some(cover) => NsecFound::Cover(cover),
-        None => NsecFound::Neither,
-    }
+    NsecFound::NoMatch(cover)
 }

@@ -12,15 +12,13 @@ ghost use Rattle.domain_checker.specs.HashedView.{HashedRecords, chain_records, 
 ghost use Rattle.domain_answer.specs.Expansion.{closer_name, is_expanded, missing_closer, proved_expansion, ExpansionRestsOn, IsExpansionAnswered, IsExpansionRead};
 ghost use Rattle.domain_answer.specs.HashedProved.{hashed_proved_answer, AreAskedAlone, HashedRestsOn, IsHashedAnswered};
 ghost use Rattle.domain_answer.specs.HashedReading.{IsHashedRead};
-ghost use Rattle.domain_answer.specs.HashedZoneAnswer.{hashed_encloser, hashed_exists, hashed_zone_answer, is_of_one_chain, HashedLeavesOutBelowDname};
+ghost use Rattle.domain_answer.specs.HashedZoneAnswer.{hashed_encloser, hashed_exists, hashed_zone_answer, is_of_one_chain};
 ghost use Rattle.domain_answer.specs.Proved.{proved_answer, CountsWithin, IsAnswered, LeavesOutBelowDname, RestsOn};
 ghost use Rattle.domain_answer.specs.ZoneAnswer.{is_at_parent, name_exists, wildcard_below, zone_answer};
 ghost use Rattle.domain_answer.specs.{Kinds.IsSo, Reading.reading, declared.answer.Answer.Answer};
 ghost use Rattle.domain_answer.specs.declared.answer.Answer.TheVariants.{NoCloserName, NotProven, TooManyIterations};
 
-use domain_bitmap::laws::built_bitmaps_give_their_types;
-use domain_checker::laws::hashed_chains_are_known;
-use domain_nsec::laws::{chains_mean_the_zone, types_ignore_case};
+use domain_checker::laws::{chains_are_known, hashed_chains_are_known};
 use domain_nsec3::laws as nsec3_laws;
 
 /// Each kind of answer is the zone's exactly where what it says is so; of each name and type
@@ -42,9 +40,7 @@ pub fn readings_are_proved()
     ensures within { (listed : List Link) (a x : Name) (t : ℕ)
         → CountsWithin (length x) (reading a listed x t) }
 {
-    chains_mean_the_zone();
-    types_ignore_case();
-    built_bitmaps_give_their_types();
+    chains_are_known();
 }
 
 /// What NSEC records answer and prove does not depend on TTLs, classes and the case of letters: so
@@ -55,7 +51,8 @@ pub fn readings_ignore_case_and_ttl()
         → ArePaired IsAlike listed other → reading a listed x t ≡ reading a other x t }
     ensures proved { (listed : List Link) (a x : Name) (t : ℕ) → t < 65536
         → (L : List ZoneRecord) (config : GenerateNsecConfig) (links : List Link)
-        → LeavesOutBelowDname L a config → OwnersNeverDescend L → IsChain L a config links
+        → LeavesOutBelowDname L a config.occlude_below_dname → OwnersNeverDescend L
+        → IsChain L a config links
         → All (IsPairedIn IsAlike links) listed
         → reading a listed x t
         ≡ proved_answer L a config.assume_dnskeys_will_be_added listed x t }
@@ -67,7 +64,7 @@ pub fn readings_ignore_case_and_ttl()
 /// something of each, also of each wildcard.
 pub fn whole_chains_prove_all()
     ensures zone { (L : List ZoneRecord) (a : Name) (config : GenerateNsecConfig)
-        (links : List Link) (x : Name) (t : ℕ) → LeavesOutBelowDname L a config
+        (links : List Link) (x : Name) (t : ℕ) → LeavesOutBelowDname L a config.occlude_below_dname
         → OwnersNeverDescend L → IsChain L a config links
         → proved_answer L a config.assume_dnskeys_will_be_added links x t
         ≡ zone_answer L a config.assume_dnskeys_will_be_added x t }
@@ -76,19 +73,20 @@ pub fn whole_chains_prove_all()
     ensures closer { (L : List ZoneRecord) (a : Name) (assume : Bool) (x : Name) (t n : ℕ)
         → zone_answer L a assume x t ≢ NoCloserName n }
 {
-    chains_mean_the_zone();
+    chains_are_known();
 }
 
-/// A chain leaves out the names below an owner of a DNAME record where that was chosen, where the
-/// zone has no such record, and where it has none below one that is not below a zone cut too.
+/// A chain, NSEC or NSEC3, leaves out the names below an owner of a DNAME record where that was
+/// chosen, where the zone has no such record, and where it has none below one that is not below a
+/// zone cut too.
 pub fn chains_leave_out_names_below_dname()
-    ensures chosen { (L : List ZoneRecord) (a : Name) (config : GenerateNsecConfig)
-        → config.occlude_below_dname ≡ true → LeavesOutBelowDname L a config }
+    ensures chosen { (L : List ZoneRecord) (a : Name) (below_dname : Bool) → below_dname ≡ true
+        → LeavesOutBelowDname L a below_dname }
     ensures no_dname { (L : List ZoneRecord) (a : Name) → has_type L dname ≡ false
-        → (config : GenerateNsecConfig) → LeavesOutBelowDname L a config }
+        → (below_dname : Bool) → LeavesOutBelowDname L a below_dname }
     ensures none { (L : List ZoneRecord) (a : Name)
         → All (λ r. is_occluded true L a r.owner ≡ is_occluded false L a r.owner) L
-        → (config : GenerateNsecConfig) → LeavesOutBelowDname L a config }
+        → (below_dname : Bool) → LeavesOutBelowDname L a below_dname }
 {}
 
 // ---- NSEC3
@@ -139,7 +137,7 @@ pub fn hashed_readings_ignore_case_and_ttl()
     ensures proved { (listed : List HashedLink) (a x : Name) (t : ℕ) (answer : Answer) → t < 65536
         → is_at_or_below x a ≡ true → is_at_parent a x t ≡ false
         → (L : List ZoneRecord) (config : ChainConfig) (links : List HashedLink)
-        → HashedLeavesOutBelowDname L a config → IsHashedChain L a config links
+        → LeavesOutBelowDname L a config.occlude_below_dname → IsHashedChain L a config links
         → AreAskedAlone L a config x → All (IsPairedIn IsHashedAlike links) listed
         → IsHashedRead (chain_records a config listed) x t answer
         → answer ≡ hashed_proved_answer L a config listed x t }
@@ -167,7 +165,8 @@ pub fn expansions_ignore_case_and_ttl()
 /// name of the chain has a hash that is asked for; and the zone says something of each.
 pub fn hashed_whole_chains_prove_all()
     ensures zone { (L : List ZoneRecord) (a : Name) (config : ChainConfig)
-        (links : List HashedLink) (x : Name) (t : ℕ) → HashedLeavesOutBelowDname L a config
+        (links : List HashedLink) (x : Name) (t : ℕ)
+        → LeavesOutBelowDname L a config.occlude_below_dname
         → IsHashedChain L a config links → AreAskedAlone L a config x
         → hashed_proved_answer L a config links x t ≡ hashed_zone_answer L a config x t }
     ensures definite { (L : List ZoneRecord) (a : Name) (config : ChainConfig) (x : Name) (t : ℕ)
@@ -193,31 +192,18 @@ pub fn hashed_whole_chains_prove_expansions()
     hashed_chains_are_known();
 }
 
-/// An NSEC3 chain leaves out the names below an owner of a DNAME record where that was chosen,
-/// where the zone has no such record, and where it has none below one that is not below a zone cut
-/// too.
-pub fn hashed_chains_leave_out_names_below_dname()
-    ensures chosen { (L : List ZoneRecord) (a : Name) (config : ChainConfig)
-        → config.occlude_below_dname ≡ true → HashedLeavesOutBelowDname L a config }
-    ensures no_dname { (L : List ZoneRecord) (a : Name) → has_type L dname ≡ false
-        → (config : ChainConfig) → HashedLeavesOutBelowDname L a config }
-    ensures none { (L : List ZoneRecord) (a : Name)
-        → All (λ r. is_occluded true L a r.owner ≡ is_occluded false L a r.owner) L
-        → (config : ChainConfig) → HashedLeavesOutBelowDname L a config }
-{}
-
 /// Where its NSEC3 chain has no flag of opt-out, a zone answers with that as with an NSEC chain, of
 /// every name and of every type that both list alike: all but NSEC and, at the apex, NSEC3PARAM.
 /// The apex exists, as it does where there is a chain.
 pub fn zones_without_opt_out_answer_alike()
     ensures zone { (L : List ZoneRecord) (a : Name) (config : ChainConfig) (x : Name) (t : ℕ)
-        → is_opt_out config.flags ≡ false → HashedLeavesOutBelowDname L a config
+        → is_opt_out config.flags ≡ false → LeavesOutBelowDname L a config.occlude_below_dname
         → name_exists L a a ≡ true → is_of_one_chain a x t ≡ false
         → hashed_zone_answer L a config x t
         ≡ zone_answer L a config.assume_dnskeys_will_be_added x t }
     ensures chain { (L : List ZoneRecord) (a : Name) (config : ChainConfig)
         (links : List HashedLink) (x : Name) (t : ℕ) → is_opt_out config.flags ≡ false
-        → HashedLeavesOutBelowDname L a config → IsHashedChain L a config links
+        → LeavesOutBelowDname L a config.occlude_below_dname → IsHashedChain L a config links
         → is_of_one_chain a x t ≡ false → hashed_zone_answer L a config x t
         ≡ zone_answer L a config.assume_dnskeys_will_be_added x t }
 {

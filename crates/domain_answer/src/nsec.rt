@@ -73,8 +73,10 @@ pub fn judge_wildcard<A: ToName, O: Octets, N: ToName>(
             let at_cut = is_at_cut(apex, listed);
             wildcard_types_answer(listed.data().types(), at_cut, count, rtype)
         }
-        NsecFound::Cover(cover) => wildcard_cover_answer(apex, count, cover.record, wildcard),
-        NsecFound::Neither => Answer::NoCloserName(count),
+        NsecFound::NoMatch(Some(cover)) => {
+            wildcard_cover_answer(apex, count, cover.record, wildcard)
+        }
+        NsecFound::NoMatch(None) => Answer::NoCloserName(count),
     }
 }
 
@@ -103,8 +105,10 @@ pub fn judge_name<A: ToName, O: Octets, N: ToName, M: ToName>(
             let at_cut = is_at_cut(apex, listed);
             return NameAnswer::Given(types_answer(listed.data().types(), at_cut, count, rtype));
         }
-        NsecFound::Cover(cover) => cover,
-        NsecFound::Neither => return NameAnswer::Given(Answer::NotProven),
+        NsecFound::NoMatch(cover) => cover,
+    };
+    let Some(cover) = cover else {
+        return NameAnswer::Given(Answer::NotProven);
     };
     let listed = cover.record;
     if tells_occluded(apex, listed, name) {

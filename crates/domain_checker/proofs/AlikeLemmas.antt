@@ -1,13 +1,11 @@
 -- What NSEC records say does not depend on TTLs, classes and the case of letters.
-use Rattle.std.proofs.{Common.{◌≡◌, ℕ, Bool, cond, not, ◌&&◌, ◌||◌, List, [], ◌∷◌, refl, nat_eq, Option, Some, None, arith}, lemmas.Grind.common_steps}
+use Rattle.std.proofs.{Common.{◌≡◌, ℕ, Bool, cond, not, ◌&&◌, ◌||◌, List, [], ◌∷◌, refl, Option, Some, None, arith}, lemmas.Grind.common_steps}
 use Rattle.domain_names.specs.{Name.{is_at_or_below, lowered}, Order.before, Words.Name}
-use Rattle.domain_base.specs.Types.{ds, ns}
-use Rattle.domain_bitmap.specs.Blocks.{contains_type}
 use Rattle.domain_zone.specs.{Covering.{covers, matches, matches_or_covers}, Enclosers.shared, Zone.ZoneRecord}
-use Rattle.domain_zone.proofs.NameLemmas.{before_left, before_right, lowered_below, one_lowered, same_lowered}
+use Rattle.domain_zone.proofs.NameLemmas.{before_left, before_right, lowered_below, one_lowered}
 use Rattle.domain_nsec.specs.Chain.{Link}
-use Rattle.domain_checker.specs.{Alike.{ArePaired, IsAlike}, Reading.{cover_verdict, is_at_cut, is_cover, is_match, match_verdict, reading, verdict_of_both}}
-use Rattle.domain_checker.specs.{Verdict.{is_inside, proved_verdict}, declared.verdict.Verdict.TheVariants.{OutsideZone, BelowDelegation, Has, NoType}}
+use Rattle.domain_checker.specs.{Alike.{ArePaired, IsAlike}, Reading.{cover_verdict, is_cover, is_match, match_verdict, reading, verdict_of_both}}
+use Rattle.domain_checker.specs.{Verdict.{is_inside, proved_verdict}, declared.verdict.Verdict.TheVariants.{OutsideZone}}
 use Rattle.domain_checker.proofs.PairedLemmas.{OptionsPaired, any_alike, find_alike}
 
 -- ---- one record
@@ -22,33 +20,31 @@ pub shared_alike : (x y z : Name) → lowered y ≡ lowered z → shared x y ≡
 shared_alike [] y z e = refl
 shared_alike (l ∷ x) y z e = λ i. cond (lowered_below (e i) (lowered (l ∷ x))) (l ∷ x) (shared_alike x y z e i)
 
-module _ (a x : Name) (k l : Link) (alike : IsAlike k l) where
-  owners : lowered k.owner ≡ lowered l.owner
+module _ {k l : Link} (alike : IsAlike k l) where
+  pub owners : lowered k.owner ≡ lowered l.owner
   owners = one_lowered k.owner l.owner alike.owner
 
-  nexts : lowered k.next ≡ lowered l.next
+  pub nexts : lowered k.next ≡ lowered l.next
   nexts = one_lowered k.next l.next alike.next
 
+module _ (a x : Name) (k l : Link) (alike : IsAlike k l) where
   inside_alike : is_inside a k ≡ is_inside a l
-  inside_alike = λ i. lowered_below (owners i) (lowered a) && lowered_below (nexts i) (lowered a)
+  inside_alike = λ i. lowered_below (owners alike i) (lowered a) && lowered_below (nexts alike i) (lowered a)
 
   pub is_match_alike : is_match a x k ≡ is_match a x l
-  is_match_alike = λ i. matches_alike k.owner l.owner x owners i && inside_alike i
+  is_match_alike = λ i. matches_alike k.owner l.owner x (owners alike) i && inside_alike i
 
   pub is_cover_alike : is_cover a x k ≡ is_cover a x l
-  is_cover_alike = λ i. covers_alike k.owner l.owner k.next l.next x owners nexts i && inside_alike i
+  is_cover_alike = λ i. covers_alike k.owner l.owner k.next l.next x (owners alike) (nexts alike) i && inside_alike i
 
   pub says_alike : matches_or_covers before k.owner k.next x ≡ matches_or_covers before l.owner l.next x
-  says_alike = λ i. matches_alike k.owner l.owner x owners i || covers_alike k.owner l.owner k.next l.next x owners nexts i
+  says_alike = grind (arith, common_steps, (matches_alike k.owner l.owner), (covers_alike k.owner l.owner k.next l.next), (owners alike), (nexts alike))
 
-  cut_alike : is_at_cut a k ≡ is_at_cut a l
-  cut_alike = λ i. not (same_lowered (owners i) (lowered a)) && contains_type (alike.bits i) ns
+  match_verdict_alike : (t : ℕ) → match_verdict a k t ≡ match_verdict a l t
+  match_verdict_alike t = grind (arith, common_steps, (owners alike))
 
-  pub match_verdict_alike : (t : ℕ) → match_verdict a k t ≡ match_verdict a l t
-  match_verdict_alike t = λ i. cond (contains_type (alike.bits i) t) Has (cond (cut_alike i && not (nat_eq t ds)) BelowDelegation NoType)
-
-  pub cover_verdict_alike : cover_verdict a k x ≡ cover_verdict a l x
-  cover_verdict_alike = grind (arith, common_steps, owners, nexts, shared_alike)
+  cover_verdict_alike : cover_verdict a k x ≡ cover_verdict a l x
+  cover_verdict_alike = grind (arith, common_steps, (owners alike), (nexts alike), shared_alike)
 
 -- ---- lists
 

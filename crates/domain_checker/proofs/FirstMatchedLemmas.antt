@@ -7,12 +7,14 @@ use Rattle.domain_bitmap.specs.Blocks.{contains_type}
 use Rattle.domain_zone.{specs.{Enclosers.{exists_over, IsClosestEncloser}, Zone.{ZoneRecord, is_zone_cut}}, proofs.NameLemmas.{one_lowered, same_lowered}}
 use Rattle.domain_zone.proofs.{NameLemmas.{below_itself, below_trans, below_longer, below_length, same_length, strictly_from, strictly_longer}, PairLemmas.In}
 use Rattle.domain_zone.proofs.FindLemmas.{find_some}
-use Rattle.domain_nsec3.specs.{Chain.HashedLink, Config.{ChainConfig, hash_name}, Meaning.IsAlone, Owners.{is_original_owner, nsec3_lists, original_owners}}
-use Rattle.domain_checker.specs.{HashedEncloser.{Encloser, IsEncloser, IsOfName, encloser_is_cut}, HashedFacts.ChainFacts, HashedList.is_hash_cover}
+use Rattle.domain_nsec3.specs.{Chain.HashedLink, Config.{ChainConfig, hash_name}, Meaning.{AreAlone, IsAlone}}
+use Rattle.domain_nsec3.specs.Owners.{is_original_owner, nsec3_lists, original_owners}
+use Rattle.domain_checker.specs.{HashedEncloser.{Encloser, IsEncloser, IsOfName, encloser_is_cut}, HashedFacts.ChainFacts}
 use Rattle.domain_checker.specs.{HashedList.is_hash_match, HashedView.{HashedRecords, chain_records}, Verdict.closest_encloser}
 use Rattle.domain_checker.{specs.HashedVerdict.{is_below_chain_cut, is_covered, is_matched, next_closer}, proofs.CutLemmas.{below_cut, cut_above, cut_apart}}
 use Rattle.domain_checker.proofs.{HashedWalkLemmas.{closer_is, matched_same}, EncloserLemmas.{apex_from, closest_is, cut_same, exists_above, exists_same}}
-use Rattle.domain_checker.proofs.{EncloserLemmas.{same_count, shorter_above}, HashedEncloserLemmas.{cover_denies, cut_counted, match_is_of_name}}
+use Rattle.domain_checker.proofs.{EncloserLemmas.{same_count, shorter_above}, HashedEncloserLemmas.{IsClosed, cover_denies, cut_counted, match_is_of_name}}
+use Rattle.domain_checker.proofs.HashedListLemmas.{alone_at}
 
 module _ (L : List ZoneRecord) (a : Name) (config : ChainConfig) where
   -- the name is the closest encloser en of x, and matched by the record of e
@@ -45,10 +47,9 @@ module _ (L : List ZoneRecord) (a : Name) (config : ChainConfig) where
     pub itself : same_name name x ≡ true → IsItself R x en e name
     pub at_cut : same_name name x ≡ false → encloser_is_cut a e ≡ true → IsOfClosest R x en e name × (is_below_chain_cut L a config x ≡ true)
     pub gone : same_name name x ≡ false → encloser_is_cut a e ≡ false → IsOfClosest R x en e name → IsGone x
-    pub denied : same_name name x ≡ false → (v : Octets) → hash_name config.hash (next_closer x name) ≡ Ok v → (k : HashedLink) → In k R.links
-        → is_hash_cover a config.parameters v k ≡ true → IsOfClosest R x en e name × (k.flags ≡ config.flags)
+    pub denied : (c : IsClosed R x e name) → IsOfClosest R x en e name × (c.link.flags ≡ config.flags)
 
-module _ (L : List ZoneRecord) (a : Name) (config : ChainConfig) (links : List HashedLink) (facts : ChainFacts L a config links) where
+module _ {L : List ZoneRecord} {a : Name} {config : ChainConfig} {links : List HashedLink} (facts : ChainFacts L a config links) where
   abbrev owners : List Name
   owners = original_owners L a config
 
@@ -61,7 +62,7 @@ module _ (L : List ZoneRecord) (a : Name) (config : ChainConfig) (links : List H
       true_from_ne_false (is_original_owner L a config d) (λ h. false≢true (sym (facts.left_out d c h) ∙ sym (facts.exist d low) ∙ there))
 
   module _ (listed : List HashedLink) (among : (k : HashedLink) → In k listed → Contains links k) (x : Name) (low : is_at_or_below x a ≡ true)
-      (alone : (y : Name) → is_at_or_below x y ≡ true → is_at_or_below y a ≡ true → (v : Octets) → hash_name config.hash y ≡ Ok v → IsAlone L a config y v)
+      (free : AreAlone L a config x)
       (e : Encloser) (is : IsEncloser (chain_records a config listed) x e) where
     abbrev en : Name
     en = closest_encloser owners a x
@@ -72,14 +73,17 @@ module _ (L : List ZoneRecord) (a : Name) (config : ChainConfig) (links : List H
     closest : IsClosestEncloser owners a x en
     closest = encloser_is x low
 
+    alone : (y : Name) → is_at_or_below x y ≡ true → is_at_or_below y a ≡ true → (v : Octets) → hash_name config.hash y ≡ Ok v → IsAlone L a config y v
+    alone = alone_at L a config x free
+
     of_name : IsOfName L a config is.name e.link
     of_name =
         let f = find_some (is_hash_match a config.parameters is.value) listed e.link is.found in
-        match_is_of_name L a config links facts is.name is.value is.first.within (alone is.name is.first.above is.first.within is.value is.known)
+        match_is_of_name facts is.name is.value is.first.within (alone is.name is.first.above is.first.within is.value is.known)
         e.link (among e.link f.0) f.1
 
     cut : encloser_is_cut a e ≡ is_zone_cut L a is.name
-    cut = cut_counted R x e is ∙ of_name.cut
+    cut = cut_counted is ∙ of_name.cut
 
     of_closest : same_name en is.name ≡ true → IsOfClosest L a config R x en e is.name
     of_closest same = record {
@@ -133,11 +137,12 @@ module _ (L : List ZoneRecord) (a : Name) (config : ChainConfig) (links : List H
             let one = same_length en r.cut (below_longer x en r.cut closest.above above l) m in
             false≢true (sym (k.cut ∙ c) ∙ cut_same L a en r.cut one ∙ r.is_cut));
       };
-      denied = λ s v known k i covers.
+      denied = λ c.
           let next = next_closer x is.name in
-          let closer = closer_is x is.name is.first.above (shorter_above x is.name is.first.above s) in
+          let closer = closer_is x is.name is.first.above (shorter_above x is.name is.first.above c.other) in
           let next_low = below_trans next is.name a (and_parts (is_at_or_below next is.name) _ closer.below).0 is.first.within in
-          let denial = cover_denies L a config links facts next v next_low (alone next closer.above next_low v known) k (among k i) covers in (
+          let denial =
+          cover_denies facts next c.value next_low (alone next closer.above next_low c.value c.known) c.link (among c.link c.listed) c.covers in (
             level (λ g.
                 let far = strictly_longer en is.name g in
                 let up = below_longer x en next closest.above closer.above (omega (arith, closer.long)) in

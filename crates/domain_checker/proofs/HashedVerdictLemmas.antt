@@ -1,48 +1,51 @@
 -- What a list of records of an NSEC3 chain says is what it proves.
 use Rattle.std.proofs.Common.{rules, ◌≡◌, ◌≢◌, ℕ, ◌≤◌, ◌<◌, true, false, not, ◌&&◌, ◌||◌, List, length, refl, sym, ◌∙◌, subst, inl, inr, Option, Some, None}
 use Rattle.std.proofs.{Common.arith, lemmas.{Bool.{or_parts, cases_Bool, false_from_ne_true, false≢true, and_parts}, List.Elements.recursion_from_All}}
-use Rattle.std.{proofs.lemmas.Grind.common_steps, specs.{Prelude.Ok, List.{list_any, Contains}}}
-use Rattle.domain_octets.{specs.Words.Octets, proofs.StdLemmas.or_true}
+use Rattle.std.{proofs.lemmas.Grind.common_steps, specs.{List.{list_any, Contains}}}
+use Rattle.domain_octets.{proofs.StdLemmas.or_true}
 use Rattle.domain_names.specs.{Name.{is_at_or_below, same_name}, Words.Name}
 use Rattle.domain_bitmap.specs.Blocks.{types_of}
 use Rattle.domain_chain_rdata.specs.OptOut.{is_opt_out}
-use Rattle.domain_zone.{specs.Zone.{ZoneRecord, is_zone_cut}, proofs.{NameLemmas.{one_lowered, below_itself, below_length}, PairLemmas.{In, all_in}}}
-use Rattle.domain_zone.proofs.FindLemmas.{find_some, Stands, stands_in}
-use Rattle.domain_nsec3.specs.{Chain.{HashedLink, IsHashedChain}, Config.{ChainConfig, hash_name}, Meaning.{AreAlone, IsAlone}}
+use Rattle.domain_zone.specs.{Enclosers.exists_over, Zone.{ZoneRecord, is_zone_cut}}
+use Rattle.domain_zone.proofs.{NameLemmas.{one_lowered, below_length, below_trans}, PairLemmas.{In, all_in}}
+use Rattle.domain_zone.proofs.FindLemmas.{find_some}
+use Rattle.domain_nsec3.specs.{Chain.{HashedLink, IsHashedChain}, Config.{ChainConfig}, Meaning.{AreAlone}}
 use Rattle.domain_nsec3.specs.Owners.{is_empty, is_original_owner, original_owners}
 use Rattle.domain_checker.specs.{HashedEncloser.{Encloser, IsEncloser, IsFoundEncloser, encloser_is_cut}, HashedFacts.{ChainFacts, ChainsAreKnown}}
-use Rattle.domain_checker.specs.{HashedList.{is_hash_match, is_hash_cover}, HashedReading.{IsWalked, found_verdict, is_none, own_verdict}}
+use Rattle.domain_checker.specs.{HashedList.{is_hash_match}, HashedReading.{IsWalked, found_verdict, hash_cover_verdict, is_none, own_verdict}}
 use Rattle.domain_checker.specs.{HashedView.{HashedRecords, chain_records, first_match}, HashedVerdict.{missing_verdict, hashed_zone_verdict, next_closer}}
 use Rattle.domain_checker.specs.HashedVerdict.{is_ok_with, is_covered, proves, hashed_proved_verdict, IsHashedProved, lists_ns, is_told_cut, HasHashedProof}
 use Rattle.domain_checker.specs.{Verdict.{closest_encloser, IsWithin}, declared.verdict.Verdict.{Verdict, TheVariants.{BelowDelegation, NotProven}}}
-use Rattle.domain_checker.proofs.{CutLemmas.not_below, DefiniteLemmas.{choose, definite_proven, is_definite}, EncloserLemmas.shorter_above}
-use Rattle.domain_checker.proofs.{HashedEncloserLemmas.{by_encloser, cut_counted, empty_lists, match_is_empty}, HashedListLemmas.{covered_in, matched_in}}
+use Rattle.domain_checker.proofs.{CutLemmas.not_below, ChoiceLemmas.{IsDefinite, choose_by}, EncloserLemmas.shorter_above}
+use Rattle.domain_checker.proofs.HashedEncloserLemmas.{IsClosed, by_way, cut_counted, empty_lists, match_is_empty}
+use Rattle.domain_checker.proofs.HashedListLemmas.{alone_at, whole_covers, whole_matches}
 use Rattle.domain_checker.proofs.{HashedWalkLemmas.closer_is, FirstMatchedLemmas.{IsKnown, cut_original, encloser_is, known_of_first}}
 
-module _ (L : List ZoneRecord) (a : Name) (config : ChainConfig) (links : List HashedLink) (facts : ChainFacts L a config links) where
+module _ {L : List ZoneRecord} {a : Name} {config : ChainConfig} {links : List HashedLink} (facts : ChainFacts L a config links) where
   abbrev owners : List Name
   owners = original_owners L a config
 
   closest_low : (x : Name) → is_at_or_below x a ≡ true → is_at_or_below (closest_encloser owners a x) a ≡ true
-  closest_low x low = (and_parts _ (list_any (λ n. is_at_or_below n (closest_encloser owners a x)) owners) (encloser_is L a config links facts x low).found).0
+  closest_low x low = (and_parts _ (list_any (λ n. is_at_or_below n (closest_encloser owners a x)) owners) (encloser_is facts x low).found).0
 
-  -- a list that has every record of the chain proves all
-  module _ (listed : List HashedLink) (among : (k : HashedLink) → In k listed → Stands links k) (x : Name) (low : is_at_or_below x a ≡ true)
-      (free : AreAlone L a config x) where
-    pub whole_proves : ((k : HashedLink) → In k links → In k listed) → proves L a config listed x ≡ true
-    whole_proves has =
-        let en = closest_encloser owners a x in
-        let closest = encloser_is L a config links facts x low in
-        let tells = facts.tells.each x en low free closest in
-        let told = matched_in L a config links facts listed has en (tells.runs en closest.above (closest_low x low) (below_itself en)) in
-        elim (cases_Bool (same_name en x)) [
-          | inl s ↦ rw (told, s) refl
-          | inr s ↦
-              let closer = closer_is x en closest.above (shorter_above x en closest.above s) in
-              let gap = covered_in L a config links facts listed has (next_closer x en)
-              (tells.next (next_closer x en) (record { above = closer.above; below = closer.below; longer = closer.long })) in
-              rw (told, gap, or_true (same_name en x || is_zone_cut L a en)) refl
-        ]
+  -- the whole chain proves all
+  pub whole_proves : (x : Name) → is_at_or_below x a ≡ true → AreAlone L a config x → proves L a config links x ≡ true
+  whole_proves x low free =
+      let en = closest_encloser owners a x in
+      let closest = encloser_is facts x low in
+      let en_low = closest_low x low in
+      let of_en = free en closest.above en_low in
+      let told = whole_matches facts en en_low of_en.0 of_en.1 closest.found in
+      elim (cases_Bool (same_name en x)) [
+        | inl s ↦ rw (told, s) refl
+        | inr s ↦
+            let q = next_closer x en in
+            let closer = closer_is x en closest.above (shorter_above x en closest.above s) in
+            let q_low = below_trans q en a (and_parts (is_at_or_below q en) _ closer.below).0 en_low in
+            let of_q = free q closer.above q_low in
+            let gone = false_from_ne_true (exists_over owners a q) (λ h. let l = closest.longest q h closer.above in omega (arith, closer.long)) in
+            rw (told, whole_covers facts q q_low of_q.0 of_q.1 gone, or_true (same_name en x || is_zone_cut L a en)) refl
+      ]
 
   -- ---- what records of the chain tell of a name at or below the apex
 
@@ -57,14 +60,11 @@ module _ (L : List ZoneRecord) (a : Name) (config : ChainConfig) (links : List H
     abbrev proved : Verdict
     proved = hashed_proved_verdict L a config listed x t
 
-    alone : (y : Name) → is_at_or_below x y ≡ true → is_at_or_below y a ≡ true → (v : Octets) → hash_name config.hash y ≡ Ok v → IsAlone L a config y v
-    alone y up within v hashed = grind (arith, common_steps)
-
     -- where a record matches x or an ancestor, and that of e is the first
 
     module _ (e : Encloser) (is : IsEncloser R x e) where
       known : IsKnown L a config R x en e is.name
-      known = known_of_first L a config links facts listed among x low alone e is
+      known = known_of_first facts listed among x low free e is
 
       -- x itself
       at_name : same_name is.name x ≡ true → own_verdict a e t ≡ proved
@@ -76,14 +76,14 @@ module _ (L : List ZoneRecord) (a : Name) (config : ChainConfig) (links : List H
             | inl h ↦ rw (h, low) refl
             | inr h ↦
                 let no_cut = false_from_ne_true (is_zone_cut L a x)
-                (λ c. false≢true (sym h ∙ cut_original L a config links facts x low k.there c)) in
+                (λ c. false≢true (sym h ∙ cut_original facts x low k.there c)) in
                 rw (h, empty_lists L a config x (sym (facts.exist x low) ∙ k.there) h t, no_cut, low) refl
           ])
         where
           emptied : is_none (types_of e.link.bits) ≡ not (is_original_owner L a config is.name)
           emptied =
               let f = find_some (is_hash_match a config.parameters is.value) listed e.link is.found in
-              match_is_empty L a config links facts is.name is.value is.first.within (alone is.name is.first.above is.first.within is.value is.known)
+              match_is_empty facts is.name is.value is.first.within (alone_at L a config x free is.name is.first.above is.first.within is.value is.known)
               e.link (among e.link f.0) f.1
 
       -- below a zone cut
@@ -98,18 +98,17 @@ module _ (L : List ZoneRecord) (a : Name) (config : ChainConfig) (links : List H
       ]
 
       -- a cover: x does not exist, and the name is its closest encloser
-      at_cover : same_name is.name x ≡ false → encloser_is_cut a e ≡ false → is_covered R (next_closer x is.name) ≡ true → (v : Octets)
-          → hash_name config.hash (next_closer x is.name) ≡ Ok v → (k : HashedLink) → In k listed → is_hash_cover a config.parameters v k ≡ true
-          → missing_verdict (is_opt_out k.flags) e.count ≡ proved
-      at_cover s c covered v hashed k i covers =
-          let d = known.denied s v hashed k i covers in
-          let g = known.gone s c d.0 in
+      at_cover : (c : IsClosed R x e is.name) → missing_verdict (is_opt_out c.link.flags) e.count ≡ proved
+      at_cover c =
+          let d = known.denied c in
+          let g = known.gone c.other c.uncut d.0 in
           let other = (or_parts (is_original_owner L a config x) (is_empty L a config x) (sym (facts.exist x low) ∙ g.gone)).0 in
-          rw (d.0.matched, d.0.asked ∙ s, d.0.cut ∙ c, d.0.next ∙ covered, g.uncut, other, g.gone, d.1, d.0.labels, low) refl
+          rw (d.0.matched, d.0.asked ∙ c.other, d.0.cut ∙ c.uncut, d.0.next ∙ c.covered, g.uncut, other, g.gone, d.1, d.0.labels, low) refl
 
     found_proved : (found : Option Encloser) → IsFoundEncloser R x found → found_verdict a found (length x) t ≡ proved
-    found_proved None is = rw (low, (is en (encloser_is L a config links facts x low).above (closest_low x low)).2) refl
-    found_proved (Some e) is = by_encloser R x e is t (λ v. v ≡ proved) (at_name e is) (at_cut e is) (at_gap e is) (at_cover e is)
+    found_proved None is = rw (low, (is en (encloser_is facts x low).above (closest_low x low)).2) refl
+    found_proved (Some e) is =
+        by_way is (λ v. v ≡ proved) (own_verdict a e t) BelowDelegation (hash_cover_verdict e.count) (at_name e is) (at_cut e is) (at_gap e is) (at_cover e is)
 
 -- ---- lists from anywhere
 
@@ -121,14 +120,15 @@ module _ (R : HashedRecords) (x : Name) (t : ℕ) where
       cut_told : is_told_cut R is.name ≡ encloser_is_cut R.apex e
       cut_told =
           (λ i. not (same_name is.name R.apex) && is_ok_with (λ v. lists_ns (first_match R v)) (is.known i))
-          ∙ (λ i. not (same_name is.name R.apex) && lists_ns (is.found i)) ∙ sym (cut_counted R x e is)
+          ∙ (λ i. not (same_name is.name R.apex) && lists_ns (is.found i)) ∙ sym (cut_counted is)
 
       closes : found_verdict R.apex (Some e) (length x) t ≢ NotProven
           → (same_name is.name x || is_told_cut R is.name || is_covered R (next_closer x is.name)) ≡ true
       closes =
-          by_encloser R x e is t (λ v. v ≢ NotProven → (same_name is.name x || is_told_cut R is.name || is_covered R (next_closer x is.name)) ≡ true)
-          (λ s n. rw s refl) (λ s c n. rw (cut_told ∙ c, or_true (same_name is.name x)) refl) (λ s c u n. absurd (n refl))
-          (λ s c covered v known k i h n. rw (covered, or_true (same_name is.name x || is_told_cut R is.name)) refl)
+          by_way is (λ v. v ≢ NotProven → (same_name is.name x || is_told_cut R is.name || is_covered R (next_closer x is.name)) ≡ true)
+          (own_verdict R.apex e t) BelowDelegation (hash_cover_verdict e.count) (λ s n. rw s refl)
+          (λ s c n. rw (cut_told ∙ c, or_true (same_name is.name x)) refl) (λ s c u n. absurd (n refl))
+          (λ c n. rw (c.covered, or_true (same_name is.name x || is_told_cut R is.name)) refl)
 
   pub walked_has_proof : (verdict : Verdict) → IsWalked R x t verdict → verdict ≢ NotProven → HasHashedProof R x
   walked_has_proof verdict w n = found_has_proof w.found w.is (λ e. n (w.says ∙ e))
@@ -154,7 +154,7 @@ pub walked_proved : ChainsAreKnown → (R : HashedRecords) (x : Name) (t : ℕ) 
     → is_at_or_below x R.apex ≡ true → IsWalked R x t verdict → IsHashedProved R x t verdict
 walked_proved knows R x t verdict b low w = λ L config links hash parameters chain free among.
     let here = subst (λ S. IsWalked S x t verdict) (as_chain R config hash parameters) w in
-    here.says ∙ found_proved L R.apex config links (knows L R.apex config links chain) R.links
+    here.says ∙ found_proved (knows L R.apex config links chain) R.links
     (λ k i. all_in (Contains links) R.links k (recursion_from_All (Contains links) R.links among) i) x low free t b here.found here.is
 
 -- ---- the whole chain
@@ -164,11 +164,11 @@ pub whole_chain_proves : ChainsAreKnown → (L : List ZoneRecord) (a : Name) (co
     → hashed_proved_verdict L a config links x t ≡ hashed_zone_verdict L a config x t
 whole_chain_proves knows L a config links x t chain free =
     elim (cases_Bool (is_at_or_below x a)) [
-      | inl e ↦ rw (e, whole_proves L a config links (knows L a config links chain) links (stands_in links) x e free (λ k i. i)) refl
+      | inl e ↦ rw (e, whole_proves (knows L a config links chain) x e free) refl
       | inr e ↦ rw e refl
     ]
 
 -- a zone has a verdict on every name and type
 pub hashed_zone_says : (L : List ZoneRecord) (a : Name) (config : ChainConfig) (x : Name) (t : ℕ) → hashed_zone_verdict L a config x t ≢ NotProven
-unfolding is_definite
-hashed_zone_says L a config x t = definite_proven (hashed_zone_verdict L a config x t) (search (rules, choose))
+hashed_zone_says L a config x t e =
+    let said : IsDefinite (hashed_zone_verdict L a config x t) = search (rules, (choose_by IsDefinite)) depth 12 in subst IsDefinite e said

@@ -1,8 +1,7 @@
-pub mod FirstLemmas
 pub mod EncloserLemmas
 pub mod SharedLemmas
 pub mod MeantLemmas
-pub mod DefiniteLemmas
+pub mod ChoiceLemmas
 pub mod VerdictLemmas
 pub mod ListLemmas
 pub mod SpelledLemmas

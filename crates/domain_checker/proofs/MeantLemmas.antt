@@ -1,79 +1,41 @@
--- What the laws of chains say of the records of one, whether it keeps what stands below a DNAME or not.
-use Rattle.std.proofs.Common.{◌≡◌, ℕ, ◌<◌, Bool, true, false, not, ◌&&◌, List, length, sym, ap, ◌∙◌, subst, inl, inr, ◌⊎◌, Some, None, slice_get, arith}
+-- What is known of the records of an NSEC chain, whether it keeps what stands below a DNAME or not.
+use Rattle.std.proofs.Common.{◌≡◌, ℕ, ◌<◌, Bool, true, false, cond, not, ◌&&◌, List, length, refl, sym, ap, ◌∙◌, subst, inl, inr, ◌⊎◌, Option, Some, None}
+use Rattle.std.proofs.Common.{arith}
 use Rattle.std.proofs.lemmas.{Bool.{cases_Bool, false≢true, and_parts, and_from, or_right, false_from_ne_true}, List.Elements.recursion_from_All}
 use Rattle.std.{proofs.lemmas.Grind.common_steps, specs.List.{find, list_any}}
 use Rattle.domain_names.specs.{Name.{is_at_or_below, is_strictly_below, lowered, same_name}, Order.before, Words.Name}
 use Rattle.domain_base.specs.Types.{ns}
 use Rattle.domain_bitmap.specs.{Bitmap.bitmap_octets, Blocks.contains_type}
 use Rattle.domain_zone.specs.{Covering.{matches, covers, matches_or_covers}, Enclosers.{exists_over, longer, shared}}
-use Rattle.domain_zone.specs.Zone.{ZoneRecord, OwnersNeverDescend, has_type, is_zone_cut, occludes, owns, is_occluded, is_unoccluded, unoccluded_owners}
+use Rattle.domain_zone.specs.Zone.{ZoneRecord, has_type, is_zone_cut, occludes, owns, is_occluded, is_unoccluded, unoccluded_owners}
 use Rattle.domain_zone.proofs.{NameLemmas.{one_lowered, same_itself, same_is, below_itself, lowered_below}, PairLemmas.{In, all_in}}
 use Rattle.domain_zone.proofs.{OwnerLemmas.{any_in, in_any, below_occluder}, FindLemmas.{Stands, any_none, find_none, find_some, in_at, in_map, in_pairs}}
 use Rattle.domain_zone.proofs.SharedLemmas.{either_way}
-use Rattle.domain_nsec.specs.{Chain.{Link, IsChain, is_listed, nsec_lists}, Meaning.{IsCycle, MirrorsZone, TellsEmpty, TellsEncloser, CoversBelowOccluders}}
-use Rattle.domain_nsec.specs.declared.config.GenerateNsecConfig.{GenerateNsecConfig}
-use Rattle.domain_checker.specs.{Verdict.{closest_encloser, has_match_or_cover, is_inside}, Reading.{is_at_cut, is_cover, is_match}}
+use Rattle.domain_nsec.specs.{Chain.{Link, is_listed, nsec_lists}, declared.config.GenerateNsecConfig.GenerateNsecConfig}
+use Rattle.domain_checker.specs.{Facts.NsecFacts, Verdict.{closest_encloser, has_match_or_cover, is_inside}, Reading.{is_at_cut, is_cover, is_match}}
+use Rattle.domain_checker.proofs.ChoiceLemmas.{either_found}
 use Rattle.domain_checker.proofs.EncloserLemmas.{closest_is, closest_alike, top_occluder, occluded_same, occludes_same, owner_high}
 use Rattle.domain_checker.proofs.EncloserLemmas.{owner_unoccluded, owner_owns}
 
--- the public laws of chains
-pub record ChainLaws : Type 0 where
-  pub cycle : (L : List ZoneRecord) (a : Name) (config : GenerateNsecConfig) (links : List Link) → OwnersNeverDescend L
-      → IsChain L a config links → IsCycle a links
-  pub denial : (L : List ZoneRecord) (a : Name) (config : GenerateNsecConfig) (links : List Link) → OwnersNeverDescend L
-      → IsChain L a config links → MirrorsZone L a config links
-  pub nonterminals : (L : List ZoneRecord) (a : Name) (config : GenerateNsecConfig) (links : List Link) → OwnersNeverDescend L
-      → IsChain L a config links → TellsEmpty L a config links
-  pub enclosers : (L : List ZoneRecord) (a : Name) (config : GenerateNsecConfig) (links : List Link) → OwnersNeverDescend L
-      → IsChain L a config links → TellsEncloser L a config links
-  pub occluded : (L : List ZoneRecord) (a : Name) (config : GenerateNsecConfig) (links : List Link) → OwnersNeverDescend L
-      → IsChain L a config links → CoversBelowOccluders L a config links
-
 abbrev pub config_with : (below_dname assume : Bool) → GenerateNsecConfig
 config_with below_dname assume = record { assume_dnskeys_will_be_added = assume; occlude_below_dname = below_dname }
-
--- what they say of one chain
-pub record IsMeant (below_dname : Bool) (L : List ZoneRecord) (a : Name) (assume : Bool) (links : List Link) : Type 0 where
-  pub chain : IsChain L a (config_with below_dname assume) links
-  pub cycle : IsCycle a links
-  pub denial : MirrorsZone L a (config_with below_dname assume) links
-  pub nonterminals : TellsEmpty L a (config_with below_dname assume) links
-  pub enclosers : TellsEncloser L a (config_with below_dname assume) links
-  pub occluded : CoversBelowOccluders L a (config_with below_dname assume) links
-
-pub meant_by : ChainLaws → (below_dname : Bool) (L : List ZoneRecord) (a : Name) (assume : Bool) (links : List Link) → OwnersNeverDescend L
-    → IsChain L a (config_with below_dname assume) links → IsMeant below_dname L a assume links
-meant_by laws below_dname L a assume links order chain =
-    let config = config_with below_dname assume in
-    record {
-      chain = chain;
-      cycle = laws.cycle L a config links order chain;
-      denial = laws.denial L a config links order chain;
-      nonterminals = laws.nonterminals L a config links order chain;
-      enclosers = laws.enclosers L a config links order chain;
-      occluded = laws.occluded L a config links order chain;
-    }
-
--- and of the types of names that are the same
-abbrev pub IgnoresCase : List ZoneRecord → Name → Bool → Type 0
-IgnoresCase L a assume = (x y : Name) → same_name x y ≡ true → (t : ℕ) → nsec_lists L a assume x t ≡ nsec_lists L a assume y t
-
-abbrev pub BitmapsAreSets : Type 0
-BitmapsAreSets = (types : ℕ → Bool) (t : ℕ) → t < 65536 → contains_type (bitmap_octets types) t ≡ types t
 
 -- the bit of NS says whether there are NS records
 ns_bit : (assumed cut : Bool) (rs : List ZoneRecord) → is_listed assumed cut rs ns ≡ has_type rs ns
 ns_bit assumed cut rs = grind (arith, common_steps)
 
-module _ (below_dname : Bool) (L : List ZoneRecord) (a : Name) (assume : Bool) (links : List Link) (meant : IsMeant below_dname L a assume links) where
+module _ {L : List ZoneRecord} {a : Name} {config : GenerateNsecConfig} {links : List Link} (facts : NsecFacts L a config links) where
+  abbrev below_dname : Bool
+  below_dname = config.occlude_below_dname
+
   abbrev owners : List Name
-  owners = unoccluded_owners below_dname L a
+  owners = unoccluded_owners config.occlude_below_dname L a
 
   -- ---- the names of a record
 
   pub ends : (k : Link) → In k links → In k.owner (unoccluded_owners below_dname L a)
       × (In k.next (unoccluded_owners below_dname L a) ⊎ (a ≡ k.next))
-  ends k i = in_pairs owners a _ (subst (λ ps. In (k.owner, k.next) ps) meant.chain.names (in_map (λ k. (k.owner, k.next)) links k i))
+  ends k i = in_pairs owners a _ (subst (λ ps. In (k.owner, k.next) ps) facts.chain.names (in_map (λ k. (k.owner, k.next)) links k i))
 
   pub owner_low : (n : Name) → In n (unoccluded_owners below_dname L a) → is_at_or_below n a ≡ true
   owner_low n i = (and_parts (is_at_or_below n a) (not (is_occluded below_dname L a n)) (owner_unoccluded below_dname L a n i)).0
@@ -91,25 +53,24 @@ module _ (below_dname : Bool) (L : List ZoneRecord) (a : Name) (assume : Bool) (
       elim (cases_Bool _) [
         | inl e ↦
             let top = top_occluder below_dname L a x e in
-            let r = meant.occluded.each top.0.name x top.0.over top.1 top.0.under in
+            let r = facts.occluded.each top.0.name x top.0.over top.1 top.0.under in
             in_any _ links r.link (in_at links r.place _ r.there)
             (or_right (matches before r.link.owner x) (covers before r.link.owner r.link.next x) r.covered)
         | inr e ↦
-            let r = meant.denial.each x low e in
+            let r = facts.denial.each x low e in
             in_any _ links r.link (in_at links r.place _ r.there) r.says
       ]
 
-  module _ (alike : IgnoresCase L a assume) (sets : BitmapsAreSets) where
-    -- the types of a record are those of its owner
-    pub type_at : (k : Link) → In k links → (t : ℕ) → t < 65536 → contains_type k.bits t ≡ nsec_lists L a assume k.owner t
-    type_at k i t b =
-        ap (λ o. contains_type o t) (all_in (λ l. l.bits ≡ bitmap_octets (nsec_lists L a assume l.owner)) links k
-        (recursion_from_All (λ l. l.bits ≡ bitmap_octets (nsec_lists L a assume l.owner)) links meant.chain.bits) i)
-        ∙ sets (nsec_lists L a assume k.owner) t b
+  -- the types of a record are those of its owner
+  pub type_at : (k : Link) → In k links → (t : ℕ) → t < 65536 → contains_type k.bits t ≡ nsec_lists L a config.assume_dnskeys_will_be_added k.owner t
+  type_at k i t b =
+      let lists = nsec_lists L a config.assume_dnskeys_will_be_added in
+      ap (λ o. contains_type o t) (all_in (λ l. l.bits ≡ bitmap_octets (lists l.owner)) links k (recursion_from_All _ links facts.chain.bits) i)
+      ∙ facts.contains (lists k.owner) t b
 
-    -- its owner is a zone cut exactly where the record says so
-    pub cut_at : (k : Link) → In k links → is_at_cut a k ≡ is_zone_cut L a k.owner
-    cut_at k i = grind (arith, common_steps, owner_low, ends, type_at, ns_bit)
+  -- its owner is a zone cut exactly where the record says so
+  pub cut_at : (k : Link) → In k links → is_at_cut a k ≡ is_zone_cut L a k.owner
+  cut_at k i = grind (arith, common_steps, owner_low, ends, type_at, ns_bit)
 
   -- ---- a match
 
@@ -125,8 +86,7 @@ module _ (below_dname : Bool) (L : List ZoneRecord) (a : Name) (assume : Bool) (
 
   -- ---- a cover
 
-  module _ (k : Link) (place : ℕ) (there : slice_get links place ≡ Some k) (x : Name) (low : is_at_or_below x a ≡ true)
-      (c : covers before k.owner k.next x ≡ true) where
+  module _ (k : Link) (stands : Stands links k) (x : Name) (low : is_at_or_below x a ≡ true) (c : covers before k.owner k.next x ≡ true) where
     says : matches_or_covers before k.owner k.next x ≡ true
     says = or_right (matches before k.owner x) (covers before k.owner k.next x) c
 
@@ -167,29 +127,32 @@ module _ (below_dname : Bool) (L : List ZoneRecord) (a : Name) (assume : Bool) (
     pub covered_encloser : length (longer (shared x k.owner) (shared x k.next)) ≡ length (closest_encloser (unoccluded_owners below_dname L a) a x)
     covered_encloser =
         closest_alike owners a x (longer (shared x k.owner) (shared x k.next)) (closest_encloser owners a x)
-        (meant.enclosers.each x low place k there c)
+        (facts.enclosers.each x low stands.place k stands.there c)
         (closest_is owners a x apex_exists low)
 
--- ---- what is found of a name among records of the chain
+  -- ---- what is found of a name among records of the chain
 
-module _ (below_dname : Bool) (L : List ZoneRecord) (a : Name) (assume : Bool) (links : List Link) (meant : IsMeant below_dname L a assume links)
-    (listed : List Link) (among : (k : Link) → In k listed → Stands links k) (y : Name) where
-  in_links : (k : Link) → In k listed → In k links
-  in_links k i = let s = among k i in in_at links s.place k s.there
+  module _ (listed : List Link) (among : (k : Link) → In k listed → Stands links k) (y : Name) where
+    in_links : (k : Link) → In k listed → In k links
+    in_links k i = let s = among k i in in_at links s.place k s.there
 
-  heard : (k : Link) → In k listed → matches_or_covers before k.owner k.next y ≡ true → has_match_or_cover listed y ≡ true
-  heard k i e = in_any (λ k. matches_or_covers before k.owner k.next y) listed k i e
+    heard : (k : Link) → In k listed → matches_or_covers before k.owner k.next y ≡ true → has_match_or_cover listed y ≡ true
+    heard k i e = in_any (λ k. matches_or_covers before k.owner k.next y) listed k i e
 
-  pub match_of : (k : Link) → find (is_match a y) listed ≡ Some k → In k links × (matches before k.owner y ≡ true) × (has_match_or_cover listed y ≡ true)
-  match_of k e = grind (arith, common_steps, in_links, heard, (find_some (is_match a y) listed k e))
+    silent : find (is_match a y) listed ≡ None → find (is_cover a y) listed ≡ None → has_match_or_cover listed y ≡ false
+    silent e f = any_none (λ k. matches_or_covers before k.owner k.next y) listed (λ k i.
+        let within = inside k (in_links k i) in
+        let no_match = find_none (is_match a y) listed e k i in
+        let no_cover = find_none (is_cover a y) listed f k i in
+        grind (arith, common_steps))
 
-  pub cover_of : (k : Link) → find (is_cover a y) listed ≡ Some k
-      → Stands links k × (covers before k.owner k.next y ≡ true) × (has_match_or_cover listed y ≡ true)
-  cover_of k e = grind (arith, common_steps, heard, (find_some (is_cover a y) listed k e))
-
-  pub silent : find (is_match a y) listed ≡ None → find (is_cover a y) listed ≡ None → has_match_or_cover listed y ≡ false
-  silent e f = any_none (λ k. matches_or_covers before k.owner k.next y) listed (λ k i.
-      let within = inside below_dname L a assume links meant k (in_links k i) in
-      let no_match = find_none (is_match a y) listed e k i in
-      let no_cover = find_none (is_cover a y) listed f k i in
-      grind (arith, common_steps))
+    -- where each match and each cover says the same, so does the list that has one
+    pub list_says : {V : Type 0} (f : Option Link → Option Link → V) (said : V)
+        → ((k : Link) → In k links → matches before k.owner y ≡ true → f (Some k) (find (is_cover a y) listed) ≡ said)
+        → ((k : Link) → Stands links k → covers before k.owner k.next y ≡ true → f None (Some k) ≡ said)
+        → f (find (is_match a y) listed) (find (is_cover a y) listed) ≡ cond (has_match_or_cover listed y) said (f None None)
+    list_says f said match cover =
+        either_found (λ m c. f m c ≡ cond (has_match_or_cover listed y) said (f None None)) (find (is_match a y) listed) (find (is_cover a y) listed)
+        (λ e g. rw (silent e g) refl)
+        (λ k e. grind (arith, common_steps, in_links, heard, match, (find_some (is_match a y) listed k e)))
+        (λ k e. grind (arith, common_steps, among, heard, cover, (find_some (is_cover a y) listed k e)))

@@ -6,6 +6,7 @@ pub mod HashedVerdict
 pub mod HashedPass
 pub mod HashedEncloser
 pub mod HashedReading
+pub mod Facts
 pub mod HashedFacts
 pub mod HandedIn
 pub mod Alike

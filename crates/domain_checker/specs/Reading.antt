@@ -1,11 +1,11 @@
 -- What NSEC records say by themselves (RFC 4035, section 5.4; RFC 6840, section 4.1).
-use Rattle.std.specs.{Prelude.{ℕ, Bool, not, ◌&&◌, ◌==◌, List, Option, Some, None, length, if◌then◌else◌}, List.find}
+use Rattle.std.specs.{Prelude.{◌≡◌, ◌≢◌, ℕ, Bool, true, not, ◌&&◌, ◌==◌, List, Option, Some, None, length, if◌then◌else◌}, List.find}
 use Rattle.domain_bitmap.specs.Blocks.{contains_type}
 use Rattle.domain_names.specs.{Name.{is_at_or_below, is_strictly_below, same_name}, Order.before, Words.Name}
 use Rattle.domain_base.specs.Types.{ds, ns}
 use Rattle.domain_zone.specs.{Covering.{matches, covers}, Enclosers.{longer, shared}}
 use Rattle.domain_nsec.specs.Chain.{Link}
-use Rattle.domain_checker.specs.{Verdict.is_inside, declared.verdict.Verdict.Verdict}
+use Rattle.domain_checker.specs.{Verdict.{HasProof, IsProved, IsWithin, is_inside}, declared.verdict.Verdict.Verdict}
 use Rattle.domain_checker.specs.declared.verdict.Verdict.TheVariants.{OutsideZone, BelowDelegation, Has, NoType, EmptyName, NoName, NotProven}
 
 -- the owner is a zone cut: the record lists NS, and the owner is not the apex
@@ -51,3 +51,16 @@ list_verdict a listed x t =
 abbrev pub reading : Name → List Link → Name → ℕ → Verdict
 reading a listed x t =
     if is_at_or_below x a then list_verdict a listed x t else OutsideZone
+
+-- what is promised of the verdict on a list of records
+pub record IsChecked (listed : List Link) (a x : Name) (t : ℕ) (verdict : Verdict) : Type 0 where
+  -- for records of the chain of any zone, the verdict of that zone where a record matches or covers
+  -- the name, and else `NotProven`
+  pub zone : IsProved listed a x t verdict
+  -- for any records at all, a name of the zone has a verdict only where a record that is not passed
+  -- over matches or covers it
+  pub proof : is_at_or_below x a ≡ true → verdict ≢ NotProven → HasProof listed a x
+  -- the verdict is what the first match says, or else the first cover
+  pub exact : verdict ≡ reading a listed x t
+  -- and the number of a closest encloser's labels is none that the name lacks
+  pub within : IsWithin (length x) verdict

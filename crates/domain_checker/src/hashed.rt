@@ -70,6 +70,7 @@ fn lies_between(label: &[u8], next: &[u8], hash: &[u8]) -> bool
 
 /// The first record that matches the hash or, where none does, the first that covers it. Goes over
 /// the records once.
+#[tactic(auto, using(crate::proofs::HashedListLemmas::tied_is))]
 pub(crate) fn find_hash<'a, A: ToName, O: Octets, N: ToName>(
     apex: &A,
     param: &Nsec3param<O>,
@@ -88,9 +89,11 @@ pub(crate) fn find_hash<'a, A: ToName, O: Octets, N: ToName>(
         if spelled_cmp(label, hash).is_eq() {
             return Nsec3Found::Match(listed);
         }
-        if cover.is_none() && lies_between(label, listed.data().next_owner().as_slice(), hash) {
-            cover = Some(listed);
+        if cover.is_some() {
+            continue;
         }
+        let next = listed.data().next_owner().as_slice();
+        cover = lies_between(label, next, hash).then_some(listed);
     }
     Nsec3Found::NoMatch(cover)
 }

@@ -8,7 +8,8 @@ ghost use Rattle.domain_nsec.specs.declared.config.GenerateNsecConfig.{GenerateN
 ghost use Rattle.domain_nsec3.specs.{Chain.{HashedLink, IsHashedChain}, Config.ChainConfig};
 ghost use Rattle.domain_nsec3.specs.Meaning.{AreAlone};
 ghost use Rattle.domain_checker.specs.Verdict.{closest_encloser, proved_verdict, zone_verdict};
-ghost use Rattle.domain_checker.specs.{Verdict.IsProved, Alike.{ArePaired, IsAlike, IsHashedAlike}};
+ghost use Rattle.domain_checker.specs.Facts.{NsecChainsAreKnown};
+ghost use Rattle.domain_checker.specs.{Reading.IsChecked, Alike.{ArePaired, IsAlike, IsHashedAlike}};
 ghost use Rattle.domain_checker.specs.{Alike.IsPairedIn, HashedVerdict.hashed_proved_verdict};
 ghost use Rattle.domain_checker.specs.{HashedVerdict.hashed_zone_verdict, HashedReading.IsWalked};
 ghost use Rattle.domain_checker.specs.HashedView.{HashedRecords, chain_records, with_links};
@@ -26,14 +27,23 @@ pub fn closest_enclosers()
         → is_at_or_below x a ≡ true → IsClosestEncloser names a x (closest_encloser names a x) }
 {}
 
-/// What any records of a chain say by themselves is what they prove of the zone.
-pub fn readings_are_proved()
-    ensures { (listed : List Link) (a x : Name) (t : ℕ) → t < 65536
-        → IsProved listed a x t (reading a listed x t) }
+/// What the laws of NSEC chains, of their types and of bitmaps say, put together for each chain.
+pub fn chains_are_known()
+    ensures { NsecChainsAreKnown }
 {
     chains_mean_the_zone();
     types_ignore_case();
     built_bitmaps_give_their_types();
+}
+
+/// What any records say by themselves is what they prove of the zone of whose chain they are, and
+/// of any records at all no verdict comes without a proof.
+#[tactic(auto, using(crate::proofs::ListLemmas::reading_checked))]
+pub fn readings_are_proved()
+    ensures { (listed : List Link) (a x : Name) (t : ℕ) → t < 65536
+        → IsChecked listed a x t (reading a listed x t) }
+{
+    chains_are_known();
 }
 
 /// What NSEC records say and prove does not depend on TTLs, classes and the case of letters: so it
@@ -80,7 +90,7 @@ pub fn whole_chains_prove_all()
     ensures definite { (L : List ZoneRecord) (a : Name) (assume : Bool) (x : Name) (t : ℕ)
         → zone_verdict L a assume x t ≢ NotProven }
 {
-    chains_mean_the_zone();
+    chains_are_known();
 }
 
 /// The whole NSEC3 chain of a zone proves what the zone says of every name and type, where no other

@@ -1,9 +1,8 @@
 //! What records of an NSEC chain prove.
-ghost use Rattle.std.specs.Prelude.{◌≡◌, ◌≢◌, true, length};
-ghost use Rattle.domain_names.specs.{Name.is_at_or_below, Order.canonical_cmp, Words.Name};
+ghost use Rattle.std.specs.Prelude.{◌≡◌};
+ghost use Rattle.domain_names.specs.{Order.canonical_cmp, Words.Name};
 ghost use Rattle.domain_nsec.specs.ChainView.{as_link, links_of};
-ghost use Rattle.domain_checker.specs.Verdict.{HasProof, IsProved, IsWithin};
-ghost use Rattle.domain_checker.specs.Reading.{cover_verdict, is_cover, is_match, match_verdict, reading};
+ghost use Rattle.domain_checker.specs.Reading.{cover_verdict, is_cover, is_match, match_verdict, IsChecked};
 
 use crate::Verdict;
 use crate::listed::{NsecRr, is_at_cut, is_before, is_inside, is_strictly_below, longer_shared};
@@ -16,7 +15,7 @@ use std::cmp::Ordering;
 
 /// Whether the record is not passed over and its owner is the name, by the canonical order of the
 /// two.
-#[tactic(auto, using(crate::proofs::FirstLemmas::match_is_tie))]
+#[tactic(auto, using(crate::proofs::HandedInLemmas::match_is_tie))]
 pub(crate) fn is_match<A: ToName, O: Octets, N: ToName>(
     apex: &A,
     order: Ordering,
@@ -31,7 +30,7 @@ pub(crate) fn is_match<A: ToName, O: Octets, N: ToName>(
 /// Whether the record is not passed over and covers the name: it lies between the owner and the
 /// next name, or on either side of them where the next name is not after the owner. `order` is the
 /// canonical order of the owner and the name.
-#[tactic(auto, using(crate::proofs::FirstLemmas::match_is_tie))]
+#[tactic(auto, using(crate::proofs::HandedInLemmas::match_is_tie))]
 pub(crate) fn is_cover<A: ToName, O: Octets, N: ToName, M: ToName>(
     apex: &A,
     order: Ordering,
@@ -112,23 +111,8 @@ pub fn check_nsec<A: ToName, O: Octets, N: ToName, M: ToName>(
     name: &M,
     rtype: Rtype,
 ) -> Verdict
-    // For records of the chain of any zone, the verdict of that zone where a record matches or
-    // covers the name, and else `NotProven`.
-    ensures zone { IsProved (links_of N.labels chain.now) (A.labels apex.now) (M.labels name.now)
-        rtype result }
-
-    // For any list at all, a name of the zone has a verdict only where a record that is not passed
-    // over matches or covers it.
-    ensures proof { is_at_or_below (M.labels name.now) (A.labels apex.now) ≡ true
-        → result ≢ Verdict.NotProven
-        → HasProof (links_of N.labels chain.now) (A.labels apex.now) (M.labels name.now) }
-
-    // For any list at all, the answer is what its first match says, or else its first cover.
-    ensures exact { result ≡ reading (A.labels apex.now) (links_of N.labels chain.now)
-        (M.labels name.now) rtype }
-
-    // For any list at all, the number of a closest encloser's labels is none that the name lacks.
-    ensures within { IsWithin (length (M.labels name.now)) result }
+    ensures { IsChecked (links_of N.labels chain.now) (A.labels apex.now) (M.labels name.now) rtype
+        result }
 {
     let mut check = NsecCheck::new(apex, name, rtype);
     for listed in chain {

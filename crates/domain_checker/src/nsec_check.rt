@@ -1,9 +1,8 @@
 //! Records of an NSEC chain that are handed in one after another.
-ghost use Rattle.std.specs.Prelude.{◌≡◌, ◌≢◌, ℕ, List, [], ◌∷◌, ◌++◌, true, length};
-ghost use Rattle.domain_names.specs.{Name.is_at_or_below, Words.Name};
+ghost use Rattle.std.specs.Prelude.{ℕ, List, [], ◌∷◌, ◌++◌};
+ghost use Rattle.domain_names.specs.Words.{Name};
 ghost use Rattle.domain_nsec.specs.{Chain.Link, ChainView.as_link};
-ghost use Rattle.domain_checker.specs.{HandedIn.HasRead, Verdict.{HasProof, IsProved, IsWithin}};
-ghost use Rattle.domain_checker.specs.Reading.{reading};
+ghost use Rattle.domain_checker.specs.{HandedIn.HasRead, Reading.IsChecked};
 
 use crate::nsec::{cover_verdict, is_cover, is_match, match_verdict};
 use crate::{Verdict, laws};
@@ -58,24 +57,8 @@ impl<'a> NsecCheck<'a> {
 
     /// What the records that were handed in prove, as `check_nsec` says of their list.
     pub fn verdict(&self) -> Verdict
-        // For records of the chain of any zone, the verdict of that zone where a record matches or
-        // covers the name, and else `NotProven`.
-        ensures zone { (a x : Name) (t : ℕ) (listed : List Link) → HasRead a x t listed self.now
-            → IsProved listed a x t result }
-
-        // For any records at all, a name of the zone has a verdict only where a record that is not
-        // passed over matches or covers it.
-        ensures proof { (a x : Name) (t : ℕ) (listed : List Link) → HasRead a x t listed self.now
-            → is_at_or_below x a ≡ true → result ≢ Verdict.NotProven → HasProof listed a x }
-
-        // For any records at all, the answer is what the first match says, or else the first cover.
-        ensures exact { (a x : Name) (t : ℕ) (listed : List Link) → HasRead a x t listed self.now
-            → result ≡ reading a listed x t }
-
-        // For any records at all, the number of a closest encloser's labels is none that the name
-        // lacks.
-        ensures within { (a x : Name) (t : ℕ) (listed : List Link) → HasRead a x t listed self.now
-            → IsWithin (length x) result }
+        ensures { (a x : Name) (t : ℕ) (listed : List Link) → HasRead a x t listed self.now
+            → IsChecked listed a x t result }
     {
         // By this law what the records say is what they prove, of a type of 16 bits.
         laws::readings_are_proved();

@@ -36,18 +36,18 @@ pub(crate) fn spelled_cmp(label: &[u8], hash: &[u8]) -> Ordering
         if wider < 256 {
             scale = wider;
             rest = value;
-        } else {
-            scale = wider / 256;
-            rest = value % scale;
-            let Some((octet, after)) = left.split_first() else {
-                return Ordering::Greater;
-            };
-            let order = (value / scale).cmp(&u32::from(*octet));
-            if order.is_ne() {
-                return order;
-            }
-            left = after;
+            continue;
         }
+        scale = wider / 256;
+        rest = value % scale;
+        let Some((octet, after)) = left.split_first() else {
+            return Ordering::Greater;
+        };
+        let order = (value / scale).cmp(&u32::from(*octet));
+        if order.is_ne() {
+            return order;
+        }
+        left = after;
     }
     let end: &[u8] = &[];
     end.cmp(left)

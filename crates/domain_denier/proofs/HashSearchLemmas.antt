@@ -95,7 +95,7 @@ module _ (L : List ZoneRecord) (a : Name) (config : ChainConfig) (links : List H
     tells_is : (i : ℕ) (k : HashedLink) (h : Octets) → IsRecordOf a links i k h
         → tells_hash a config.parameters v k ≡ matches_or_covers octets_before h k.next v
     tells_is i k h r =
-        let own : owner_hash a config.parameters k ≡ Some h = hash_at L a config links facts k (in_at links i k r.there) h r.octets r.spelled in
+        let own : owner_hash a config.parameters k ≡ Some h = hash_at facts k (in_at links i k r.there) h r.octets r.spelled in
         λ j. is_some_with (λ u. matches octets_before u v) (own j) || is_some_with (λ u. covers octets_before u k.next v) (own j)
 
     -- the search ends at the record of h
@@ -139,10 +139,10 @@ module _ (L : List ZoneRecord) (a : Name) (config : ChainConfig) (links : List H
           record {
             link = k;
             there = r.there;
-            matched = ap (is_some_with (λ u. matches octets_before u v)) (hash_at L a config links facts k (in_at links low k r.there) h r.octets r.spelled)
+            matched = ap (is_some_with (λ u. matches octets_before u v)) (hash_at facts k (in_at links low k r.there) h r.octets r.spelled)
                 ∙ tied_is h v;
             says = tells_is low k h r ∙ says;
             only = λ j m e passes.
-                let s = record_at L a config links facts m (record { place = j; there = e }) in
+                let s = record_at facts m (record { place = j; there = e }) in
                 one.only j (s.0, m.next) (cycled j m s.0 s.1).0 (sym (tells_is j m s.0 s.1) ∙ passes) ∙ sym (one.only low (h, k.next) there.0 says);
           }

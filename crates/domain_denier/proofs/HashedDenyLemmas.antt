@@ -9,11 +9,12 @@ use Rattle.domain_nsec3.specs.{Chain.{ChainRecords, HashedLink, HashedName}, Con
 use Rattle.domain_base.specs.Types.{dname}
 use Rattle.domain_checker.specs.{HashedFacts.{ChainFacts, ChainsAreKnown}, HashedList.is_hash_match, HashedReading.IsUnmatched}
 use Rattle.domain_checker.specs.{HashedVerdict.{is_covered, is_matched, next_closer}, HashedView.{HashedRecords, chain_records}}
-use Rattle.domain_checker.proofs.{EncloserLemmas.same_count, FirstMatchedLemmas.encloser_is, HashedEncloserLemmas.match_is_of_name, HashedListLemmas.hash_same}
+use Rattle.domain_checker.proofs.{EncloserLemmas.same_count, FirstMatchedLemmas.encloser_is, HashedEncloserLemmas.{match_is_of_name, unheard}}
+use Rattle.domain_checker.proofs.HashedListLemmas.{hash_same}
 use Rattle.domain_answer.specs.{HashedProved.{AreAskedAlone, hashed_proved_answer, needs_wildcard, tells_encloser, tells_wildcard}, HashedReading.IsHashedRead}
 use Rattle.domain_answer.specs.{HashedZoneAnswer.{hashed_encloser, hashed_zone_answer}, ZoneAnswer.{is_at_parent, wildcard_below}}
 use Rattle.domain_answer.{specs.declared.answer.Answer.{Answer, TheVariants.{NoCloserName, NotProven}}, proofs.EncloserLemmas.{closest_last, exists_low}}
-use Rattle.domain_answer.proofs.{EncloserLemmas.strictly_other, HashedAnswerLemmas.read_proved, HashedWayLemmas.unheard}
+use Rattle.domain_answer.proofs.{EncloserLemmas.strictly_other, HashedAnswerLemmas.read_proved}
 use Rattle.domain_answer.proofs.HashedWholeLemmas.{IsOfZone, encloser_told as whole_tells, whole_proves, zone_says}
 use Rattle.domain_denier.specs.HashedPicked.{AreHashedNeeded, IsHashedDenial, IsHashedWhole, TellOfTheirParts, hashed_picked, picked_without}
 use Rattle.domain_denier.specs.{HashedSteps.{IsSoleOf, all_records}, Picked.at_place, declared.nsec3.Nsec3Denial.Nsec3Denial}
@@ -86,10 +87,10 @@ module _ (L : List ZoneRecord) (config : ChainConfig) (chain : ChainRecords) (x 
     untold listed e = inside_proved listed ∙ (λ i. cond (not (e i)) NotProven (rest listed))
 
     closest : IsClosestEncloser owners a x en
-    closest = encloser_is L a config links facts x low
+    closest = encloser_is facts x low
 
     encloser_matched : is_matched R en ≡ true
-    encloser_matched = (and_parts (is_matched R en) (closes links) (whole_tells L a config links facts x low asked)).0
+    encloser_matched = (and_parts (is_matched R en) (closes links) (whole_tells facts x low asked)).0
 
     -- so it is not that none is matched
     pub never_unmatched : IsUnmatched (all_records hash chain) x → ⊥
@@ -105,7 +106,7 @@ module _ (L : List ZoneRecord) (config : ChainConfig) (chain : ChainRecords) (x 
       exists =
           let sole = read.at.sole in
           let alone : IsAlone L a config read.at.name read.at.sole.value = grind (arith, common_steps) in
-          (match_is_of_name L a config links facts name sole.value read.at.within alone sole.of.link (contained links read.f.place sole.of.link sole.of.there)
+          (match_is_of_name facts name sole.value read.at.within alone sole.of.link (contained links read.f.place sole.of.link sole.of.there)
           sole.of.matched).exists
 
       -- it is the closest encloser that is matched first

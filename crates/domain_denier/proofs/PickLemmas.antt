@@ -5,10 +5,11 @@ use Rattle.std.{proofs.lemmas.List.Elements.All-push, specs.{List.Contains, Prel
 use Rattle.domain_names.specs.{Name.{is_at_or_below, last_labels}, Order.before, Words.Name}
 use Rattle.domain_zone.specs.{Covering.matches_or_covers, Zone.{ZoneRecord, is_unoccluded, unoccluded_owners}}
 use Rattle.domain_nsec.specs.{Chain.Link, declared.config.GenerateNsecConfig.GenerateNsecConfig}
-use Rattle.domain_checker.{specs.Verdict.has_match_or_cover, proofs.{EncloserLemmas.closest_is, MeantLemmas.{ChainLaws, IsMeant, apex_exists}}}
+use Rattle.domain_checker.specs.{Facts.{NsecChainsAreKnown, NsecFacts}, Verdict.has_match_or_cover}
+use Rattle.domain_checker.proofs.{EncloserLemmas.closest_is, MeantLemmas.{apex_exists, config_with}}
 use Rattle.domain_answer.specs.{Proved.{IsAnswered, is_missing, knows_wildcard, proved_answer}, Reading.reading, ZoneAnswer.{encloser, is_at_parent}}
 use Rattle.domain_answer.specs.{ZoneAnswer.{name_exists, wildcard_below, zone_answer}, declared.answer.Answer.{Answer, TheVariants.{NoCloserName, NotProven}}}
-use Rattle.domain_answer.{specs.Kinds.IsSo, proofs.{KindLemmas.answer_so, ChainLemmas.meant_leaving, EncloserLemmas.{closest_last, free_parts, wildcard_low}}}
+use Rattle.domain_answer.{specs.Kinds.IsSo, proofs.{KindLemmas.answer_so, ChainLemmas.facts_leaving, EncloserLemmas.{closest_last, free_parts, wildcard_low}}}
 use Rattle.domain_denier.specs.Picked.{IsDenial, IsFound, IsOf, IsWhole, at_place, listed_option}
 use Rattle.domain_denier.{specs.declared.nsec.NsecDenial.NsecDenial, proofs.SomeLemmas.contained}
 
@@ -18,7 +19,7 @@ pub none_picked : (links : List Link) (a x : Name) (t : ℕ) (d : NsecDenial) �
     → reading a [] x t ≡ zone_answer L a config.assume_dnskeys_will_be_added x t) → IsDenial links a x t d
 none_picked links a x t d exact name wildcard zone = grind (arith, common_steps)
 
-module _ (laws : ChainLaws) (links : List Link) (L : List ZoneRecord) (a : Name) (config : GenerateNsecConfig) (whole : IsWhole L a config links)
+module _ (knows : NsecChainsAreKnown) (links : List Link) (L : List ZoneRecord) (a : Name) (config : GenerateNsecConfig) (whole : IsWhole L a config links)
     (x : Name) (t : ℕ) (answered : (listed : List Link) → IsAnswered listed a x t (reading a listed x t)) (under : is_at_or_below x a ≡ true) where
   abbrev assume : Bool
   assume = config.assume_dnskeys_will_be_added
@@ -26,8 +27,8 @@ module _ (laws : ChainLaws) (links : List Link) (L : List ZoneRecord) (a : Name)
   abbrev zone : Answer
   zone = zone_answer L a config.assume_dnskeys_will_be_added x t
 
-  meant : IsMeant true L a config.assume_dnskeys_will_be_added links
-  meant = meant_leaving laws L a config links whole.leaves_out whole.order whole.chain
+  facts : NsecFacts L a (config_with true config.assume_dnskeys_will_be_added) links
+  facts = facts_leaving knows L a config links whole.leaves_out whole.order whole.chain
 
   proved : (listed : List Link) → All (Contains links) listed → reading a listed x t ≡ proved_answer L a config.assume_dnskeys_will_be_added listed x t
   proved listed among = answered listed L config links whole.leaves_out whole.order whole.chain among
@@ -82,8 +83,7 @@ module _ (laws : ChainLaws) (links : List Link) (L : List ZoneRecord) (a : Name)
       pub wildcard_under : is_at_or_below (wildcard_below (last_labels count x)) a ≡ true
       wildcard_under =
           let owners = unoccluded_owners true L a in
-          let apex = apex_exists true L a config.assume_dnskeys_will_be_added links meant in
-          ap (λ w. is_at_or_below w a) wildcard_is ∙ wildcard_low owners a x (encloser L a x) (closest_is owners a x apex under)
+          ap (λ w. is_at_or_below w a) wildcard_is ∙ wildcard_low owners a x (encloser L a x) (closest_is owners a x (apex_exists facts) under)
 
       module _ (q : ℕ) (of_w : IsOf links q (wildcard_below (last_labels count x))) where
         there_w : at_place links (Some q) ≡ of_w.link ∷ []
@@ -109,7 +109,7 @@ module _ (laws : ChainLaws) (links : List Link) (L : List ZoneRecord) (a : Name)
         other : matches_or_covers before of_w.link.owner of_w.link.next x ≡ false
         other = false_from_ne_true (matches_or_covers before of_w.link.owner of_w.link.next x) (λ e.
             let free = (and_parts (is_unoccluded true L a x) (not (name_exists L a x)) only_half.missing).0 in
-            let once = meant.denial.each x under (free_parts L a x free).1 in
+            let once = facts.denial.each x under (free_parts L a x free).1 in
             let same : p ≡ q = once.only p of.link of.there of.says ∙ sym (once.only q of_w.link of_w.there e) in
             false≢true (sym only_half.unknown ∙ (λ i. knows_wildcard L a (at_place links (Some (same i))) x) ∙ (λ i. knows_wildcard L a (there_w i) x)
             ∙ first_has (wildcard_below (encloser L a x)) of_w.link [] says_w))
@@ -120,8 +120,8 @@ module _ (laws : ChainLaws) (links : List Link) (L : List ZoneRecord) (a : Name)
             (λ i. reading a (there_w i) x t) ∙ proved (of_w.link ∷ []) among ∙ rw (under, parent, other)
 
 -- what is picked, as it is promised
-module _ (laws : ChainLaws) (links : List Link) (a x : Name) (t : ℕ) (answered : (listed : List Link) → IsAnswered listed a x t (reading a listed x t))
-    (under : is_at_or_below x a ≡ true) (p : ℕ) where
+module _ (knows : NsecChainsAreKnown) (links : List Link) (a x : Name) (t : ℕ)
+    (answered : (listed : List Link) → IsAnswered listed a x t (reading a listed x t)) (under : is_at_or_below x a ≡ true) (p : ℕ) where
   pub denied_by_one : p < length links → IsFound links p x → (answer : Answer) → reading a (at_place links (Some p)) x t ≡ answer
       → ((n : ℕ) → answer ≢ NoCloserName n) → IsDenial links a x t (record { answer = answer; of_name = Some p; of_wildcard = None })
   denied_by_one inside found answer is never = grind (arith, common_steps, one_says)
@@ -133,13 +133,13 @@ module _ (laws : ChainLaws) (links : List Link) (a x : Name) (t : ℕ) (answered
   denied_by_both inside found count says q inside_q found_q answer exact = record {
     zone = λ L config whole.
         let of = found L a config whole under in
-        let under_w = wildcard_under laws links L a config whole x t answered under p of count says in
-        exact ∙ both_say laws links L a config whole x t answered under p of count says q (found_q L a config whole under_w);
+        let under_w = wildcard_under knows links L a config whole x t answered under p of count says in
+        exact ∙ both_say knows links L a config whole x t answered under p of count says q (found_q L a config whole under_w);
     needed = λ L config whole.
         let of = found L a config whole under in
-        let under_w = wildcard_under laws links L a config whole x t answered under p of count says in
+        let under_w = wildcard_under knows links L a config whole x t answered under p of count says in
         record {
-          name = λ low parent. wildcard_alone laws links L a config whole x t answered under p of count says q (found_q L a config whole under_w) parent;
+          name = λ low parent. wildcard_alone knows links L a config whole x t answered under p of count says q (found_q L a config whole under_w) parent;
           wildcard = λ some. (count, says);
         };
     there = grind (arith, common_steps);

@@ -6,8 +6,8 @@ use Rattle.domain_names.specs.{Name.is_at_or_below, Order.before, Words.Name}
 use Rattle.domain_zone.specs.{Covering.pairs, Zone.{ZoneRecord, unoccluded_owners}}
 use Rattle.domain_zone.proofs.{NameLemmas.{below_from, before_right, one_lowered}, FindLemmas.in_at}
 use Rattle.domain_nsec.specs.{Chain.Link, declared.config.GenerateNsecConfig.GenerateNsecConfig}
-use Rattle.domain_checker.proofs.MeantLemmas.{ChainLaws, inside}
-use Rattle.domain_answer.proofs.ChainLemmas.{meant_leaving}
+use Rattle.domain_checker.{specs.Facts.NsecChainsAreKnown, proofs.MeantLemmas.inside}
+use Rattle.domain_answer.proofs.ChainLemmas.{facts_leaving}
 use Rattle.domain_denier.{specs.{Picked.{IsOf, IsWhole}, Search.AreEnds}, proofs.NeighbourLemmas.{pair_is, pairs_length, said}}
 
 abbrev pub ends : Link → Name × Name
@@ -19,13 +19,13 @@ ends_at : (links : List Link) (owners : List Name) (a : Name) → map ends links
 ends_at links owners a are i k there =
     pair_is owners a i (ends k) (ap (λ ps. slice_get ps i) (sym are) ∙ slice_get-map ends links i ∙ ap (option_map ends) there)
 
-module _ (laws : ChainLaws) (links : List Link) (x : Name) (low high : ℕ) (at_ends : AreEnds links x low high) (near : high - low ≤ 1) where
+module _ (knows : NsecChainsAreKnown) (links : List Link) (x : Name) (low high : ℕ) (at_ends : AreEnds links x low high) (near : high - low ≤ 1) where
   pub found : (L : List ZoneRecord) (a : Name) (config : GenerateNsecConfig) → IsWhole L a config links
       → is_at_or_below x a ≡ true → IsOf links low x
   found L a config whole under =
       let owners = unoccluded_owners config.occlude_below_dname L a in
       let names = whole.chain.names in
-      let cycle = laws.cycle L a config links whole.order whole.chain in
+      let cycle = (knows L a config links whole.order whole.chain).cycle in
       let d = cycle.first in
       let k = get_or links low d in
       let there : slice_get links low ≡ Some k = slice_get-get_or links low d (omega (arith, at_ends.within, at_ends.inside)) in
@@ -36,9 +36,9 @@ module _ (laws : ChainLaws) (links : List Link) (x : Name) (low high : ℕ) (at_
             ∙ before_right x cycle.first.owner a (one_lowered cycle.first.owner a cycle.begins) ∙ below_from x a under
         | inr f ↦ f d
       ] in
-      let meant = meant_leaving laws L a config links whole.leaves_out whole.order whole.chain in
+      let facts = facts_leaving knows L a config links whole.leaves_out whole.order whole.chain in
       let owner_low : is_at_or_below k.owner a ≡ true = (and_parts (is_at_or_below k.owner a) (is_at_or_below k.next a)
-      (inside true L a config.assume_dnskeys_will_be_added links meant k (in_at links low k there))).0 in
+      (inside facts k (in_at links low k there))).0 in
       let is_high : high ≡ suc low = omega (arith, at_ends.within, near) in
       let is_next : (before x k.next ≡ true) ⊎ (before k.owner k.next ≡ false) = elim (cases_lt (suc low) (length links)) [
         | inl more ↦

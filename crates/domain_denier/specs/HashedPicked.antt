@@ -5,7 +5,7 @@ use Rattle.domain_zone.specs.Zone.{ZoneRecord}
 use Rattle.domain_nsec3.specs.{Chain.{ChainRecords, HashedLink, IsHashedChain}, Config.{ChainConfig, Hash, hash_name}}
 use Rattle.domain_checker.specs.{HashedVerdict.{is_covered, is_matched, next_closer}, HashedView.chain_records}
 use Rattle.domain_answer.specs.HashedProved.{hashed_proved_answer, tells_wildcard}
-use Rattle.domain_answer.specs.{HashedZoneAnswer.{HashedLeavesOutBelowDname, hashed_encloser, hashed_zone_answer}, ZoneAnswer.wildcard_below}
+use Rattle.domain_answer.specs.{HashedZoneAnswer.{hashed_encloser, hashed_zone_answer}, Proved.LeavesOutBelowDname, ZoneAnswer.wildcard_below}
 use Rattle.domain_answer.specs.declared.answer.Answer.{Answer, TheVariants.{NoCloserName, NotProven}}
 use Rattle.domain_denier.specs.{Picked.at_place, declared.nsec3.Nsec3Denial.Nsec3Denial}
 
@@ -13,7 +13,7 @@ use Rattle.domain_denier.specs.{Picked.at_place, declared.nsec3.Nsec3Denial.Nsec
 -- made by this hash, and the NSEC3PARAM record stands at the apex and tells its parameters
 pub record IsHashedWhole (L : List ZoneRecord) (config : ChainConfig) (hash : Hash)
     (chain : ChainRecords) : Type 0 where
-  pub leaves_out : HashedLeavesOutBelowDname L chain.param.owner config
+  pub leaves_out : LeavesOutBelowDname L chain.param.owner config.occlude_below_dname
   pub is : IsHashedChain L chain.param.owner config chain.links
   pub hashed : config.hash ≡ hash
   pub parameters : config.parameters ≡ chain.param.parameters

@@ -34,7 +34,7 @@ pub record AreThere (links : List Link) (d : NsecDenial) : Type 0 where
 -- the links are the chain of a zone, in which names below a DNAME are left out
 pub record IsWhole (L : List ZoneRecord) (a : Name) (config : GenerateNsecConfig)
     (links : List Link) : Type 0 where
-  pub leaves_out : LeavesOutBelowDname L a config
+  pub leaves_out : LeavesOutBelowDname L a config.occlude_below_dname
   pub order : OwnersNeverDescend L
   pub chain : IsChain L a config links
 

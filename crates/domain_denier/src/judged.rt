@@ -103,8 +103,8 @@ pub(crate) fn of_wildcard<A: ToName, N: ToName>(
 {
     let records = [lend_at(chain, place)];
     match find_nsec(apex, &records, wildcard) {
-        NsecFound::Neither => return OfWildcard::Untold(true),
-        NsecFound::Match(_) | NsecFound::Cover(_) => {}
+        NsecFound::NoMatch(None) => return OfWildcard::Untold(true),
+        NsecFound::Match(_) | NsecFound::NoMatch(Some(_)) => {}
     }
     match judge_wildcard(apex, &records, count, wildcard, rtype) {
         Answer::NoCloserName(_) => OfWildcard::Untold(false),

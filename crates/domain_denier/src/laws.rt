@@ -5,7 +5,7 @@ ghost use Rattle.domain_zone.specs.Zone.{ZoneRecord};
 ghost use Rattle.domain_nsec3.specs.Chain.{ChainRecords, IsChainParam, IsHashedChain};
 ghost use Rattle.domain_nsec3.specs.{Config.ChainConfig, View.{hash_by, HasherAnswer}};
 ghost use Rattle.domain_nsec3.specs.declared.config.Nsec3ParamTtlMode.{Nsec3ParamTtlMode};
-ghost use Rattle.domain_answer.specs.HashedZoneAnswer.{HashedLeavesOutBelowDname};
+ghost use Rattle.domain_answer.specs.Proved.{LeavesOutBelowDname};
 ghost use Rattle.domain_denier.specs.HashedPicked.{IsHashedWhole};
 
 /// A chain that `Nsec3Chain::generate` gives is one that `deny_nsec3` may be asked of: its
@@ -16,7 +16,8 @@ pub fn generated_chains_are_whole()
         → IsChainParam L a config mode chain.param → chain.param.owner ≡ a }
     ensures whole { (L : List ZoneRecord) (a : Name) (config : ChainConfig)
         (mode : Nsec3ParamTtlMode) (answer : HasherAnswer) (chain : ChainRecords)
-        → config.hash ≡ hash_by answer config.parameters → HashedLeavesOutBelowDname L a config
+        → config.hash ≡ hash_by answer config.parameters
+        → LeavesOutBelowDname L a config.occlude_below_dname
         → IsHashedChain L a config chain.links → IsChainParam L a config mode chain.param
         → IsHashedWhole L config (hash_by answer chain.param.parameters) chain }
 {}

@@ -9,8 +9,8 @@ use crate::judged::{OfWildcard, first_of, of_wildcard, second_of};
 use crate::owner_keys::OwnerKeys;
 use domain_answer::{Answer, NameAnswer, judge_nsec, laws, wildcard_of};
 use domain_base::{MAX_NAME, ParsedName, Rtype, ToName};
+use domain_checker::laws::chains_are_known;
 use domain_nsec::NsecChain;
-use domain_nsec::laws::chains_mean_the_zone;
 use domain_octets::OutOfMemory;
 use std::alloc::Global;
 use std::marker::Model;
@@ -62,7 +62,7 @@ fn pick<A: ToName, N: ToName, M: ToName>(
 {
     // By these laws what the records say is what the zone says, of a type of 16 bits.
     laws::readings_are_proved();
-    chains_mean_the_zone();
+    chains_are_known();
     let _number = rtype.to_int();
     if chain.is_empty() {
         return judge_none(apex, name, rtype);

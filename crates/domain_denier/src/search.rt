@@ -4,8 +4,8 @@ ghost use Rattle.domain_denier.specs.{Picked.IsFound, Search.AreEnds};
 
 use crate::owner_keys::OwnerKeys;
 use domain_base::ToName;
-use domain_checker::is_before;
-use domain_nsec::{NsecChain, laws};
+use domain_checker::{is_before, laws};
+use domain_nsec::NsecChain;
 
 /// Ends of a search that the keys of a chain suggest, or none in particular: the record that it
 /// looks for stands at the first or after it, and before the second.
@@ -69,7 +69,7 @@ pub(crate) fn place_of<N: ToName, M: ToName>(
     ensures inside { result < length chain.now }
     ensures of_name { IsFound chain.now result (M.labels name.now) }
 {
-    laws::chains_mean_the_zone();
+    laws::chains_are_known();
     let (mut low, mut high) = tested(chain, suggested_ends(keys, name), name);
     'search: while high - low > 1 {
         let middle = low + (high - low) / 2;

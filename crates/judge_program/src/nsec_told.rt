@@ -45,12 +45,12 @@ fn find_told<'r, 'a, N: ToName>(
             matches: true,
             listed: Listed::Nsec(nsec),
         }),
-        NsecFound::Cover(cover) => Some(Part {
+        NsecFound::NoMatch(Some(cover)) => Some(Part {
             role,
             matches: false,
             listed: Listed::Nsec(cover.record),
         }),
-        NsecFound::Neither => None,
+        NsecFound::NoMatch(None) => None,
     }
 }
 

@@ -5,16 +5,16 @@ use Rattle.denial_c.proofs.nsec.nsec_verdict.Goals as goal
 pub returns : goal.returns
 returns c =
     let handed = c.in_ok-hand_in.ensures.ok in
-    let read = handed.2 _ _ _ [] c.new-check.ensures in
+    let checked = c.verdict.ensures _ _ _ _ (handed.2 _ _ _ [] c.new-check.ensures) in
     subst (λ t. HasNsecVerdict c.args.apex.now c.args.name.now t c.args.class c.args.records.now c.verdict.result) c.from_int.ensures (record {
       a = c.in_ok-apex.apex;
       x = c.in_ok-name.name;
       links = handed.0;
       asked = grind (arith, common_steps);
-      zone = c.verdict.ensures.zone _ _ _ _ read;
-      proof = c.verdict.ensures.proof _ _ _ _ read;
-      exact = c.verdict.ensures.exact _ _ _ _ read;
-      within = c.verdict.ensures.within _ _ _ _ read;
+      zone = checked.zone;
+      proof = checked.proof;
+      exact = checked.exact;
+      within = checked.within;
     })
 
 pub returns-in_err-hand_in : goal.returns-in_err-hand_in

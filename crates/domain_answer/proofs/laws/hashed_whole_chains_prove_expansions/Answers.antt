@@ -3,4 +3,4 @@ use Rattle.domain_answer.proofs.laws.hashed_whole_chains_prove_expansions.Goals 
 
 pub returns : goal.returns
 returns c = λ L a config links x n value chain longer alone gone.
-    whole_closer L a config links (c.hashed_chains_are_known.ensures L a config links chain) x n value longer alone gone
+    whole_closer (c.hashed_chains_are_known.ensures L a config links chain) x n value longer alone gone

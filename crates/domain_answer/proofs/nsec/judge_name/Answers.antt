@@ -20,8 +20,8 @@ returns-in-Match g c =
 
 pub returns : goal.returns
 returns g c =
-    let k = cover_link g.N.ToName.labels c.in-Cover.cover in
-    let whole = rw c.in-Cover.is at (reads g (goal.at.returns g c).After-find_nsec) in
-    let covers = found_covers _ _ _ _ (rw c.in-Cover.is at c.find_nsec.ensures.found) in
-    cover_told _ _ _ c.args.rtype _ k c.in-Cover.cover.shared whole (grind (arith, common_steps)) (grind (arith, common_steps))
-    (rw c.in-Cover.is at c.find_nsec.ensures.shared) covers
+    let k = cover_link g.N.ToName.labels c.in-Some.cover in
+    let whole = rw (c.in-NoMatch.is, c.in-Some.is) at (reads g (goal.at.returns g c).After-find_nsec) in
+    let covers = found_covers _ _ _ _ (rw (c.in-NoMatch.is, c.in-Some.is) at c.find_nsec.ensures.found) in
+    cover_told _ _ _ c.args.rtype _ k c.in-Some.cover.shared whole (grind (arith, common_steps)) (grind (arith, common_steps))
+    (rw (c.in-NoMatch.is, c.in-Some.is) at c.find_nsec.ensures.shared) covers

@@ -9,5 +9,5 @@ pub returns-clause-proved : goal.returns-clause-proved
 returns-clause-proved c = λ listed a x t bound L config links keeps order chain h.
     let some = paired_with_some IsAlike links listed (recursion_from_All _ listed h) in
     reading_alike a x t listed _ some.alike
-    ∙ c.readings_are_proved.ensures some.some a x t bound L config links keeps order chain (All-from_recursion (Contains links) _ some.among)
+    ∙ (c.readings_are_proved.ensures some.some a x t bound).zone L config links keeps order chain (All-from_recursion (Contains links) _ some.among)
     ∙ sym (proved_alike a x t L _ listed _ some.alike)

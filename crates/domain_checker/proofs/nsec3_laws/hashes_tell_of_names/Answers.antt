@@ -2,7 +2,7 @@ use Rattle.domain_checker.proofs.HashedEncloserLemmas.{cover_denies, match_is_of
 use Rattle.domain_checker.proofs.nsec3_laws.hashes_tell_of_names.Goals as goal
 
 pub returns-clause-matches : goal.returns-clause-matches
-returns-clause-matches c = λ L a config links chain. match_is_of_name L a config links (c.hashed_chains_are_known.ensures L a config links chain)
+returns-clause-matches c = λ L a config links chain. match_is_of_name (c.hashed_chains_are_known.ensures L a config links chain)
 
 pub returns-clause-covers : goal.returns-clause-covers
-returns-clause-covers c = λ L a config links chain. cover_denies L a config links (c.hashed_chains_are_known.ensures L a config links chain)
+returns-clause-covers c = λ L a config links chain. cover_denies (c.hashed_chains_are_known.ensures L a config links chain)

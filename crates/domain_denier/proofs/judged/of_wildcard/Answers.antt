@@ -1,17 +1,17 @@
-use Rattle.std.{proofs.{Common.{[], ◌∷◌, refl, sym, ap, ◌∙◌, subst}, lemmas.Bool.false≢true}}
+use Rattle.std.{proofs.{Common.{[], ◌∷◌, None, refl, sym, ap, ◌∙◌, subst}, lemmas.Bool.false≢true}}
 use Rattle.domain_nsec.specs.ChainView.{as_link}
-use Rattle.domain_answer.specs.{Found.{IsFound, found_cover, found_match}, Reading.wildcard_both, declared.answer.Answer.TheVariants.NoCloserName}
+use Rattle.domain_answer.specs.{Found.IsFound, Reading.wildcard_both, declared.answer.Answer.TheVariants.NoCloserName}
 use Rattle.domain_denier.{specs.Judged.IsSilent, proofs.JudgedLemmas.count_kept}
 use Rattle.domain_denier.proofs.judged.of_wildcard.Goals as goal
 
-pub returns-in-Neither : goal.returns-in-Neither
-returns-in-Neither g c =
+pub returns-in-NoMatch-None : goal.returns-in-NoMatch-None
+returns-in-NoMatch-None g c =
     let a = g.A.ToName.labels c.args.apex.now in
     let w = c.args.wildcard.now in
     let n = c.args.count in
     let t = c.args.rtype in
     let l = as_link (λ m. m) c.lend_at.result in
-    let found = subst (λ f. IsFound a (l ∷ []) w (found_match (λ m. m) f) (found_cover (λ m. m) f)) c.in-Neither.is c.find_nsec.ensures.found in
+    let found : IsFound a (l ∷ []) w None None = rw (c.in-NoMatch-None.is, c.in-NoMatch-None.field-0-is) at c.find_nsec.ensures.found in
     let silent : IsSilent (g.A.ToName.labels c.args.apex.now) (as_link (λ m. m) c.lend_at.result ∷ []) c.args.wildcard.now
     = record { matching = sym found.matching; covering = sym (found.covering refl) } in
     rw c.lend_at.ensures (λ i. wildcard_both a n w t (silent.matching i) (silent.covering i), λ e. silent)

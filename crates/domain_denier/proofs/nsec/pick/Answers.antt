@@ -1,7 +1,6 @@
 use Rattle.std.proofs.{Common.{List, ◌≡◌, ◌<◌, true, refl, sym, ◌∙◌, subst, Some, arith}, lemmas.{Bool.false≢true, Grind.common_steps}}
 use Rattle.domain_names.specs.Name.{is_at_or_below}
 use Rattle.domain_nsec.specs.Chain.{Link}
-use Rattle.domain_checker.proofs.MeantLemmas.{ChainLaws}
 use Rattle.domain_answer.specs.{Proved.IsAnswered, Reading.reading, declared.answer.Answer.TheVariants.NoCloserName}
 use Rattle.domain_answer.proofs.ProofLemmas.{given_is, given_never}
 use Rattle.domain_denier.{specs.Picked.at_place, proofs.{JudgedLemmas.{outside_only, said_inside, told_of, untold_of}, PickLemmas.denied_by_both}}
@@ -12,7 +11,7 @@ pub returns-then-is_empty : goal.returns-then-is_empty
 returns-then-is_empty g c =
     let none = c.judge_none.ensures in
     none_picked _ _ _ _ _ none.answer none.name none.wildcard (λ L config whole.
-    let cycle = c.chains_mean_the_zone.ensures.cycle L _ config c.args.chain.now whole.order whole.chain in
+    let cycle = (c.chains_are_known.ensures L _ config c.args.chain.now whole.order whole.chain).cycle in
     let empty = c.is_empty.ensures.0 c.if-is_empty.true in let some = cycle.are in absurd (cc))
 
 pub returns-then-is_outside : goal.returns-then-is_outside
@@ -33,10 +32,6 @@ low g c =
     said_inside (g.A.ToName.labels c.args.apex.now) (at_place c.args.chain.now (Some c.first_of-place.result.0)) (g.M.ToName.labels c.args.name.now)
     c.args.rtype c.first_of-place.result.1 c.first_of-place.ensures.exact.exact (λ e. false≢true (sym c.if-is_outside.false ∙ c.is_outside.ensures.1 e))
 
--- what the laws say
-chain_laws : (g : Over) (c : Else-is_outside g) → ChainLaws
-chain_laws g c = grind (arith, common_steps)
-
 answered : (g : Over) (c : Else-is_outside g) (listed : List Link) → IsAnswered listed (g.A.ToName.labels c.args.apex.now)
     (g.M.ToName.labels c.args.name.now) c.args.rtype
     (reading (g.A.ToName.labels c.args.apex.now) listed (g.M.ToName.labels c.args.name.now) c.args.rtype)
@@ -48,7 +43,7 @@ returns-in-Given g c =
     let here = (goal.at.returns-in-Given g c).Else-is_outside in
     let first = c.first_of-place.ensures in
     let given = sym c.in-Given.is ∙ first.exact.exact in
-    denied_by_one (chain_laws g here) c.args.chain.now _ _ c.args.rtype (answered g here) (low g here) _ first.inside first.found
+    denied_by_one here.chains_are_known.ensures c.args.chain.now _ _ c.args.rtype (answered g here) (low g here) _ first.inside first.found
     c.in-Given.answer (given_is _ _ given) (given_never _ _ given)
 
 pub unreachable-requires : goal.unreachable-requires
@@ -75,7 +70,7 @@ returns-in-Told g c =
     let first = c.first_of-place.ensures in
     let told = told_of _ _ _ _ _ _ _ (first.exact.absent c.in-Absent.count c.in-Absent.is).0 c.in-Some.ensures.some c.in-Told.answer
     (rw c.in-Told.is at c.of_wildcard.ensures) in
-    denied_by_one (chain_laws g here) c.args.chain.now _ _ c.args.rtype (answered g here) (low g here) _ first.inside first.found
+    denied_by_one here.chains_are_known.ensures c.args.chain.now _ _ c.args.rtype (answered g here) (low g here) _ first.inside first.found
     c.in-Told.answer told.0 told.1
 
 pub returns-in-Untold : goal.returns-in-Untold
@@ -83,5 +78,5 @@ returns-in-Untold g c =
     let here = (goal.at.returns-in-Untold g c).Else-is_outside in
     let first = c.first_of-place.ensures in
     let second = c.second_of-second.ensures in
-    denied_by_both (chain_laws g here) c.args.chain.now _ _ c.args.rtype (answered g here) (low g here) _ first.inside first.found
+    denied_by_both here.chains_are_known.ensures c.args.chain.now _ _ c.args.rtype (answered g here) (low g here) _ first.inside first.found
     c.in-Absent.count (untold g (goal.at.returns-in-Untold g c).In-Untold) _ second.inside (rw c.in-Some.ensures.some at second.found) _ second.exact

@@ -4,8 +4,5 @@ use Rattle.domain_denier.proofs.search.place_of.Goals as goal
 
 pub returns-clause-of_name : goal.returns-clause-of_name
 returns-clause-of_name g c =
-    let laws = c.chains_mean_the_zone.ensures in
-    found
-    (record { cycle = laws.cycle; denial = laws.denial; nonterminals = laws.nonterminals; enclosers = laws.enclosers; occluded = laws.occluded })
-    c.args.chain.now (g.M.ToName.labels c.args.name.now) c.search.low c.search.high c.search.invariant
+    found c.chains_are_known.ensures c.args.chain.now (g.M.ToName.labels c.args.name.now) c.search.low c.search.high c.search.invariant
     (omega (arith, c.search-test.false, c.search.invariant.within))

@@ -10,14 +10,14 @@ returns-clause-some g c = λ given apex config links listed x t answer leaves ch
       sorted = chain.sorted;
       sorts = chain.sorts;
       one_class = chain.one_class;
-      zone = proved _ config links (c.chains_leave_out_names_below_dname.ensures.chosen _ apex config leaves) order chain.zone among;
+      zone = proved _ config links (c.chains_leave_out_names_below_dname.ensures.chosen _ apex config.occlude_below_dname leaves) order chain.zone among;
     }
 
 pub returns-clause-all : goal.returns-clause-all
 returns-clause-all g c = λ given apex config links listed x t answer leaves chain same proved.
     let order = c.sorted_owners_never_descend.ensures given chain.sorted chain.sorts chain.one_class in
     let out = c.chains_leave_out_names_below_dname.ensures.chosen
-    (zone_of g.N.ToName.labels g.D.RecordData.rtype g.D.ZoneData.minimum chain.sorted) apex config leaves in
+    (zone_of g.N.ToName.labels g.D.RecordData.rtype g.D.ZoneData.minimum chain.sorted) apex config.occlude_below_dname leaves in
     record {
       sorted = chain.sorted;
       sorts = chain.sorts;
