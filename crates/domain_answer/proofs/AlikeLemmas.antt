@@ -1,36 +1,19 @@
 -- What NSEC records answer does not depend on TTLs, classes and the case of letters.
-use Rattle.std.{proofs.{Common.{◌≡◌, ℕ, Bool, List, length, Option, Some, None, arith}, lemmas.Grind.common_steps}, specs.List.find}
+use Rattle.std.{proofs.{Common.{◌≡◌, ℕ, Bool, List, Option, Some, None, arith}, lemmas.Grind.common_steps}, specs.List.find}
 use Rattle.domain_names.specs.{Words.Name}
 use Rattle.domain_zone.{specs.{Zone.ZoneRecord}}
 use Rattle.domain_nsec.specs.Chain.{Link}
 use Rattle.domain_checker.{specs.{Alike.{ArePaired, IsAlike}, Reading.{is_cover, is_match}}, proofs.AlikeLemmas.{is_cover_alike, is_match_alike}}
 use Rattle.domain_checker.proofs.{AlikeLemmas.{nexts, owners, says_alike, shared_alike}, EncloserLemmas.same_count}
 use Rattle.domain_checker.proofs.PairedLemmas.{OptionsPaired, any_alike, find_alike}
-use Rattle.domain_answer.specs.{Proved.proved_answer, Reading.{absent_answer, cover_answer, listed_both, match_answer, reading}}
-use Rattle.domain_answer.specs.{Reading.{wildcard_both, wildcard_cover_answer, wildcard_match_answer}}
-
--- ---- one record
-
-module _ (a : Name) (k l : Link) (alike : IsAlike k l) where
-  labels : length k.owner ≡ length l.owner
-  labels = same_count k.owner l.owner alike.owner
-
-  match_answer_alike : (t : ℕ) → match_answer a k t ≡ match_answer a l t
-  match_answer_alike t = grind (arith, common_steps, (owners alike), labels)
-
-  wildcard_match_alike : (n t : ℕ) → wildcard_match_answer a n k t ≡ wildcard_match_answer a n l t
-  wildcard_match_alike n t = grind (arith, common_steps, (owners alike))
-
-  wildcard_cover_alike : (n : ℕ) (w : Name) → wildcard_cover_answer a n k w ≡ wildcard_cover_answer a n l w
-  wildcard_cover_alike n w = grind (arith, common_steps, (owners alike), (nexts alike))
-
--- ---- lists
+use Rattle.domain_answer.specs.{Proved.proved_answer, Reading.{absent_answer, cover_answer, listed_both, reading}}
+use Rattle.domain_answer.specs.{Reading.{wildcard_both}}
 
 module _ (a : Name) (t : ℕ) where
   wildcard_both_alike : (n : ℕ) (w : Name) (m p c d : Option Link) → OptionsPaired IsAlike m p → OptionsPaired IsAlike c d
       → wildcard_both a n w t m c ≡ wildcard_both a n w t p d
-  wildcard_both_alike n w (Some k) (Some l) c d m h = wildcard_match_alike a k l m n t
-  wildcard_both_alike n w None None (Some c) (Some d) m h = wildcard_cover_alike a c d h n w
+  wildcard_both_alike n w (Some k) (Some l) c d m h = grind (arith, common_steps, (owners m))
+  wildcard_both_alike n w None None (Some c) (Some d) m h = grind (arith, common_steps, (owners h), (nexts h))
   wildcard_both_alike n w m p c d h i = grind (arith, common_steps)
 
   module _ (ks ls : List Link) (all : ArePaired IsAlike ks ls) where
@@ -44,11 +27,11 @@ module _ (a : Name) (t : ℕ) where
     absent_alike n x = grind (arith, common_steps, wildcard_both_alike, matching, covering)
 
     cover_alike : (k l : Link) (x : Name) → IsAlike k l → cover_answer a ks k x t ≡ cover_answer a ls l x t
-    cover_alike k l x alike = grind (arith, common_steps, (owners alike), (nexts alike), (labels a k l alike), shared_alike, absent_alike)
+    cover_alike k l x alike = grind (arith, common_steps, (owners alike), (nexts alike), (same_count k.owner l.owner alike.owner), shared_alike, absent_alike)
 
     both_alike : (x : Name) (m n c d : Option Link) → OptionsPaired IsAlike m n → OptionsPaired IsAlike c d
         → listed_both a ks x t m c ≡ listed_both a ls x t n d
-    both_alike x (Some k) (Some l) c d m h = match_answer_alike a k l m t
+    both_alike x (Some k) (Some l) c d m h = grind (arith, common_steps, (owners m), (same_count k.owner l.owner m.owner))
     both_alike x None None (Some c) (Some d) m h = cover_alike c d x h
     both_alike x m n c d h i = grind (arith, common_steps)
 

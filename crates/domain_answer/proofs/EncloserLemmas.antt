@@ -1,16 +1,16 @@
 -- Names above a name: its last labels, its closest encloser, the wildcard below that, and the names that occlude it.
 use Rattle.std.proofs.Common.{◌≡◌, ℕ, ◌≤◌, ◌<◌, ◌-◌, suc, Bool, true, false, cond, not, ◌&&◌, ◌||◌, List, [], ◌∷◌, drop, length, refl, sym, ap, ◌∙◌, inl, inr}
 use Rattle.std.proofs.{Common.{Some, None, arith}, lemmas.Bool.{and_from, and_parts, cases_Bool, false_from_ne_true, false≢true, or_left}}
-use Rattle.std.{proofs.lemmas.Grind.common_steps, specs.{List.list_any, Option.option_or}}
+use Rattle.std.{proofs.lemmas.{Grind.common_steps, List.length-drop}, specs.{List.list_any, Option.option_or}}
 use Rattle.domain_names.specs.{Name.{is_at_or_below, is_strictly_below, lowered, same_name, last_labels}, Order.before, Words.{Label, Name}}
 use Rattle.domain_base.specs.Types.{dname}
 use Rattle.domain_zone.specs.{Covering.{covers, matches}, Enclosers.{IsClosestEncloser, exists_over, longer, shared}, Zone.{ZoneRecord, has_type, is_occluded}}
 use Rattle.domain_zone.{specs.Zone.{is_unoccluded, is_zone_cut, occludes, owns, records_of}, proofs.NameLemmas.{before_right, before_order, below_between}}
-use Rattle.domain_zone.proofs.NameLemmas.{below_from, below_itself, below_length, below_longer, below_parent, below_root, below_trans, strictly_longer}
+use Rattle.domain_zone.proofs.NameLemmas.{below_from, below_length, below_longer, below_parent, below_root, below_trans, strictly_longer}
 use Rattle.domain_zone.proofs.{NameLemmas.{strictly_from, lowered_below, one_lowered, same_lowered}, OwnerLemmas.{any_in, below_occluder, occluder_owns}}
 use Rattle.domain_zone.proofs.PairLemmas.{In}
 use Rattle.domain_checker.{specs.Verdict.closest_encloser, proofs.EncloserLemmas.{exists_same, occluded_same, occludes_same, strictly_trans, top_occluder}}
-use Rattle.domain_checker.proofs.SharedLemmas.{shared_within}
+use Rattle.domain_checker.proofs.{HashedWalkLemmas.below_drop, SharedLemmas.shared_within}
 use Rattle.domain_answer.specs.ZoneAnswer.{asterisk, highest_occluder, wildcard_below}
 
 -- ---- names that are the same, and names below each other
@@ -30,20 +30,15 @@ parent_below l x c s =
 
 -- ---- the last labels
 
-pub last_all : (x : Name) (n : ℕ) → length x ≤ n → last_labels n x ≡ x
-last_all x n h = let none : length x - n ≡ 0 = omega arith in ap (λ m. drop m x) none
-
 pub last_more : (l : Label) (x : Name) (n : ℕ) → n ≤ length x → last_labels n (l ∷ x) ≡ last_labels n x
 last_more l x n h = let more : length (l ∷ x) - n ≡ suc (length x - n) = omega arith in ap (λ m. drop m (l ∷ x)) more
 
 -- they are at or above the name, and so many
 pub last_above : (x : Name) (n : ℕ) → is_at_or_below x (last_labels n x) ≡ true
-last_above [] n = ap (is_at_or_below []) (last_all [] n (omega arith)) ∙ below_itself []
-last_above (l ∷ x) n = grind (arith, common_steps, last_more, last_all, below_itself, (last_above x n))
+last_above x n = below_drop (length x - n) x
 
 pub last_count : (x : Name) (n : ℕ) → n ≤ length x → length (last_labels n x) ≡ n
-last_count [] n h = let none : length {A = Label} [] ≡ n = omega arith in ap length (last_all [] n (omega arith)) ∙ none
-last_count (l ∷ x) n h = grind (arith, common_steps)
+last_count x n h = omega (arith, length-drop (length x - n) x)
 
 -- ---- the closest encloser is the last labels of the name
 

@@ -1,11 +1,11 @@
 -- Tests of one NSEC record, and what was found of a name.
-use Rattle.std.proofs.Common.{◌≡◌, ℕ, ◌≤◌, Bool, true, false, cond, not, ◌&&◌, ◌||◌, List, length, Option, Some, None, sym, refl, arith, leb, max}
-use Rattle.std.{proofs.lemmas.{Bool.{and_parts, le-leb, leb-true}, Grind.common_steps}, specs.{List.find}}
+use Rattle.std.proofs.Common.{◌≡◌, ℕ, ◌≤◌, Bool, true, false, cond, not, ◌&&◌, ◌||◌, List, length, Option, Some, None, sym, arith, leb, max}
+use Rattle.std.{proofs.lemmas.{Bool.{le-leb, leb-true}, Grind.common_steps}}
 use Rattle.std.specs.{Ordering.{is_eq, is_gt, is_lt}}
 use Rattle.domain_names.specs.{Name.{is_at_or_below, same_name}, Order.{before, canonical_cmp, canonical_cmp_total, common_labels}, Words.Name}
 use Rattle.domain_zone.{specs.{Covering.{covers, matches}, Enclosers.{longer, shared}}, proofs.{FindLemmas.find_some, NameLemmas.{below_longer, below_trans}}}
 use Rattle.domain_zone.proofs.{NameLemmas.same_is, SharedLemmas.{either_way, shared_is}}
-use Rattle.domain_checker.{specs.{Reading.is_cover, Verdict.is_inside}, proofs.{HandedInLemmas.match_is_tie, SharedLemmas.shared_length}}
+use Rattle.domain_checker.{specs.{Reading.is_cover}, proofs.{HandedInLemmas.match_is_tie, SharedLemmas.shared_length}}
 use Rattle.domain_nsec.specs.Chain.{Link}
 use Rattle.domain_answer.specs.{Found.IsFound, Reading.{listed_both, reading}, ZoneAnswer.is_at_parent}
 
@@ -26,17 +26,13 @@ module _ (o n x : Name) where
 -- so of a name at or below the apex the list says what is said of what was found
 pub found_reads : (a : Name) (listed : List Link) (x : Name) (t : ℕ) → is_at_or_below x a ≡ true → is_at_parent a x t ≡ false
     → (matched covered : Option Link) → IsFound a listed x matched covered → reading a listed x t ≡ listed_both a listed x t matched covered
-found_reads a listed x t low apart None covered found =
-    rw (low, apart) (λ i. listed_both a listed x t (sym found.matching i) (sym (found.covering refl) i))
-found_reads a listed x t low apart (Some k) covered found =
-    rw (low, apart) (λ i. listed_both a listed x t (sym found.matching i) (find (is_cover a x) listed))
+found_reads a listed x t low apart None covered found = grind (arith, common_steps)
+found_reads a listed x t low apart (Some k) covered found = grind (arith, common_steps)
 
 -- a cover that was found covers the name
 pub found_covers : (a : Name) (listed : List Link) (x : Name) (k : Link) → IsFound a listed x None (Some k)
     → covers before k.owner k.next x ≡ true
-found_covers a listed x k found =
-    (and_parts (covers before k.owner k.next x) (is_inside a k)
-    (find_some (is_cover a x) listed k (sym (found.covering refl))).1).0
+found_covers a listed x k found = grind (arith, common_steps, (find_some (is_cover a x) listed k))
 
 -- ---- what is at or below the apex, by the labels that a name at or below it shares
 

@@ -59,12 +59,12 @@ whole_proves knows L a config links x t leaves chain asked =
     (λ low. encloser_told facts x low asked) (λ low. wildcard_told facts x low asked)
 
 -- of names whose records were expanded from a wildcard
-pub whole_closer : {L : List ZoneRecord} {a : Name} {config : ChainConfig} {links : List HashedLink} → ChainFacts L a config links
-    → (x : Name) (n : ℕ) (v : Octets) → is_expanded a x n ≡ true → IsAlone L a config (closer_name n x) v
+pub whole_closer : ChainsAreKnown → (L : List ZoneRecord) (a : Name) (config : ChainConfig) (links : List HashedLink) (x : Name) (n : ℕ) (v : Octets)
+    → IsHashedChain L a config links → is_expanded a x n ≡ true → IsAlone L a config (closer_name n x) v
     → hashed_exists L a config (closer_name n x) ≡ false → proved_expansion L a config links x n ≡ missing_closer config n
-whole_closer {L} {a} {config} {links} facts x n v e alone gone =
-    λ j. cond (gone j) NotProven
-    (cond (not (whole_covers facts (closer_name n x) (closer_low a x n e) v alone gone j)) NotProven (missing_closer config n))
+whole_closer knows L a config links x n v chain e alone gone =
+    let covered = whole_covers (knows L a config links chain) (closer_name n x) (closer_low a x n e) v alone gone in
+    λ j. cond (gone j) NotProven (cond (not (covered j)) NotProven (missing_closer config n))
 
 -- ---- a zone says something of each name: records give more answers
 

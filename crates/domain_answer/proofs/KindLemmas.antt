@@ -61,10 +61,10 @@ module _ (L : List ZoneRecord) (a : Name) where
     -- ---- what the zone's answer says is so
 
     module _ (here : IsHere L a x t) where
-      pub existing_so : name_exists L a x ≡ true → So (owned_answer (is_zone_cut L a x) (owns_type L a assume x) (length x) t)
+      existing_so : name_exists L a x ≡ true → So (owned_answer (is_zone_cut L a x) (owns_type L a assume x) (length x) t)
       existing_so there = grind (arith, common_steps, (choose_by So), and_parts, same_itself, not-true, not-false)
 
-      pub missing_so : name_exists L a x ≡ false → So (missing_answer L a assume (length (encloser L a x)) w t)
+      missing_so : name_exists L a x ≡ false → So (missing_answer L a assume (length (encloser L a x)) w t)
       missing_so gone =
           let absent : IsAbsent L a x t (length (encloser L a x)) = record {
             missing = and_from (is_unoccluded true L a x) (not (name_exists L a x)) here.free (ap not gone);

@@ -23,6 +23,7 @@ use domain_nsec3::laws as nsec3_laws;
 
 /// Each kind of answer is the zone's exactly where what it says is so; of each name and type
 /// exactly one kind holds.
+#[tactic(auto, using(crate::proofs::KindLemmas::answer_so, crate::proofs::KindLemmas::so_answer))]
 pub fn one_kind_of_answer_holds()
     ensures so { (L : List ZoneRecord) (a : Name) (assume : Bool) (x : Name) (t : ℕ)
         → IsSo L a assume x t (zone_answer L a assume x t) }
@@ -62,6 +63,7 @@ pub fn readings_ignore_case_and_ttl()
 
 /// The whole chain of a zone proves what the zone says of every name and type, and the zone says
 /// something of each, also of each wildcard.
+#[tactic(auto, using(crate::proofs::WholeLemmas::whole_proves, crate::proofs::KindLemmas::answer_so))]
 pub fn whole_chains_prove_all()
     ensures zone { (L : List ZoneRecord) (a : Name) (config : GenerateNsecConfig)
         (links : List Link) (x : Name) (t : ℕ) → LeavesOutBelowDname L a config.occlude_below_dname
@@ -79,6 +81,7 @@ pub fn whole_chains_prove_all()
 /// A chain, NSEC or NSEC3, leaves out the names below an owner of a DNAME record where that was
 /// chosen, where the zone has no such record, and where it has none below one that is not below a
 /// zone cut too.
+#[tactic(auto, using(crate::proofs::WholeLemmas::left_out_without_dname, crate::proofs::WholeLemmas::none_left_out))]
 pub fn chains_leave_out_names_below_dname()
     ensures chosen { (L : List ZoneRecord) (a : Name) (below_dname : Bool) → below_dname ≡ true
         → LeavesOutBelowDname L a below_dname }
@@ -163,6 +166,7 @@ pub fn expansions_ignore_case_and_ttl()
 
 /// The whole NSEC3 chain of a zone proves what the zone says of every name and type, where no other
 /// name of the chain has a hash that is asked for; and the zone says something of each.
+#[tactic(auto, using(crate::proofs::HashedWholeLemmas::whole_proves, crate::proofs::HashedWholeLemmas::zone_says))]
 pub fn hashed_whole_chains_prove_all()
     ensures zone { (L : List ZoneRecord) (a : Name) (config : ChainConfig)
         (links : List HashedLink) (x : Name) (t : ℕ)
@@ -182,6 +186,7 @@ pub fn hashed_whole_chains_prove_all()
 /// The whole NSEC3 chain of a zone proves of each name that was expanded from a wildcard that the
 /// zone does not have the next closer name, where it does not and no name of the chain has the hash
 /// of that.
+#[tactic(auto, using(crate::proofs::HashedWholeLemmas::whole_closer))]
 pub fn hashed_whole_chains_prove_expansions()
     ensures { (L : List ZoneRecord) (a : Name) (config : ChainConfig) (links : List HashedLink)
         (x : Name) (n : ℕ) (value : Octets) → IsHashedChain L a config links

@@ -1,17 +1,14 @@
 -- What NSEC records say does not depend on TTLs, classes and the case of letters.
-use Rattle.std.proofs.{Common.{◌≡◌, ℕ, Bool, cond, not, ◌&&◌, ◌||◌, List, [], ◌∷◌, refl, Option, Some, None, arith}, lemmas.Grind.common_steps}
+use Rattle.std.proofs.{Common.{◌≡◌, ℕ, Bool, cond, List, [], ◌∷◌, refl, Option, Some, None, arith}, lemmas.Grind.common_steps}
 use Rattle.domain_names.specs.{Name.{is_at_or_below, lowered}, Order.before, Words.Name}
-use Rattle.domain_zone.specs.{Covering.{covers, matches, matches_or_covers}, Enclosers.shared, Zone.ZoneRecord}
+use Rattle.domain_zone.specs.{Covering.{covers, matches_or_covers}, Enclosers.shared, Zone.ZoneRecord}
 use Rattle.domain_zone.proofs.NameLemmas.{before_left, before_right, lowered_below, one_lowered}
 use Rattle.domain_nsec.specs.Chain.{Link}
-use Rattle.domain_checker.specs.{Alike.{ArePaired, IsAlike}, Reading.{cover_verdict, is_cover, is_match, match_verdict, reading, verdict_of_both}}
-use Rattle.domain_checker.specs.{Verdict.{is_inside, proved_verdict}, declared.verdict.Verdict.TheVariants.{OutsideZone}}
+use Rattle.domain_checker.specs.{Alike.{ArePaired, IsAlike}, Reading.{is_cover, is_match, reading, verdict_of_both}}
+use Rattle.domain_checker.specs.{Verdict.{proved_verdict}, declared.verdict.Verdict.TheVariants.{OutsideZone}}
 use Rattle.domain_checker.proofs.PairedLemmas.{OptionsPaired, any_alike, find_alike}
 
 -- ---- one record
-
-matches_alike : (o p x : Name) → lowered o ≡ lowered p → matches before o x ≡ matches before p x
-matches_alike o p x e = λ i. not (before_left o p x e i || before_right x o p e i)
 
 covers_alike : (o p n m x : Name) → lowered o ≡ lowered p → lowered n ≡ lowered m → covers before o n x ≡ covers before p m x
 covers_alike o p n m x e f = grind (arith, common_steps, before_left, before_right, (before_left o p n e), (before_right p n m f))
@@ -28,30 +25,28 @@ module _ {k l : Link} (alike : IsAlike k l) where
   nexts = one_lowered k.next l.next alike.next
 
 module _ (a x : Name) (k l : Link) (alike : IsAlike k l) where
-  inside_alike : is_inside a k ≡ is_inside a l
-  inside_alike = λ i. lowered_below (owners alike i) (lowered a) && lowered_below (nexts alike i) (lowered a)
-
   pub is_match_alike : is_match a x k ≡ is_match a x l
-  is_match_alike = λ i. matches_alike k.owner l.owner x (owners alike) i && inside_alike i
+  is_match_alike = grind (arith, common_steps, before_left, before_right, (owners alike), (nexts alike))
 
   pub is_cover_alike : is_cover a x k ≡ is_cover a x l
-  is_cover_alike = λ i. covers_alike k.owner l.owner k.next l.next x (owners alike) (nexts alike) i && inside_alike i
+  is_cover_alike = grind (arith, common_steps, (covers_alike k.owner l.owner k.next l.next x), (owners alike), (nexts alike))
 
   pub says_alike : matches_or_covers before k.owner k.next x ≡ matches_or_covers before l.owner l.next x
-  says_alike = grind (arith, common_steps, (matches_alike k.owner l.owner), (covers_alike k.owner l.owner k.next l.next), (owners alike), (nexts alike))
-
-  match_verdict_alike : (t : ℕ) → match_verdict a k t ≡ match_verdict a l t
-  match_verdict_alike t = grind (arith, common_steps, (owners alike))
-
-  cover_verdict_alike : cover_verdict a k x ≡ cover_verdict a l x
-  cover_verdict_alike = grind (arith, common_steps, (owners alike), (nexts alike), shared_alike)
+  says_alike =
+      grind (
+        arith,
+        common_steps,
+        (before_left k.owner l.owner x (owners alike)),
+        (before_right x k.owner l.owner (owners alike)),
+        (covers_alike k.owner l.owner k.next l.next x (owners alike) (nexts alike)),
+      )
 
 -- ---- lists
 
 module _ (a x : Name) (t : ℕ) where
   both_alike : (m n c d : Option Link) → OptionsPaired IsAlike m n → OptionsPaired IsAlike c d → verdict_of_both a x t m c ≡ verdict_of_both a x t n d
-  both_alike (Some k) (Some l) c d m h = match_verdict_alike a x k l m t
-  both_alike None None (Some c) (Some d) m h = cover_verdict_alike a x c d h
+  both_alike (Some k) (Some l) c d m h = grind (arith, common_steps, (owners m))
+  both_alike None None (Some c) (Some d) m h = grind (arith, common_steps, (owners h), (nexts h), shared_alike)
   both_alike m n c d h i = grind (arith, common_steps)
 
   pub reading_alike : (ks ls : List Link) → ArePaired IsAlike ks ls → reading a ks x t ≡ reading a ls x t

@@ -1,4 +1,4 @@
-use Rattle.std.{proofs.{Common.{[], ◌∷◌, None, refl, sym, ap, ◌∙◌, subst}, lemmas.Bool.false≢true}}
+use Rattle.std.{proofs.{Common.{[], ◌∷◌, None, refl, sym, ap, ◌∙◌}, lemmas.Bool.false≢true}}
 use Rattle.domain_nsec.specs.ChainView.{as_link}
 use Rattle.domain_answer.specs.{Found.IsFound, Reading.wildcard_both, declared.answer.Answer.TheVariants.NoCloserName}
 use Rattle.domain_denier.{specs.Judged.IsSilent, proofs.JudgedLemmas.count_kept}
