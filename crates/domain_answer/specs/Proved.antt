@@ -39,8 +39,8 @@ LeavesOutBelowDname L a below_dname =
 abbrev pub IsAnswered : List Link → Name → Name → ℕ → Answer → Type 0
 IsAnswered listed a x t answer =
     (L : List ZoneRecord) (config : GenerateNsecConfig) (links : List Link)
-    → LeavesOutBelowDname L a config.occlude_below_dname → OwnersNeverDescend L → IsChain L a config links
-    → All (Contains links) listed
+    → LeavesOutBelowDname L a config.occlude_below_dname → OwnersNeverDescend L
+    → IsChain L a config links → All (Contains links) listed
     → answer ≡ proved_answer L a config.assume_dnskeys_will_be_added listed x t
 
 -- a record that is not passed over matches or covers x, and one the wildcard below the last n
