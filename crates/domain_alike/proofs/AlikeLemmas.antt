@@ -5,12 +5,13 @@ use Rattle.std.proofs.lemmas.{Option.slice_get-get_or, List.{map-append, take_mo
 use Rattle.std.specs.{Cmp.Lexicographic.{bytes_decides, nat_list_cmp_total, texts_ties}, List.{find, flat_map, list_any, AllByRecursion}, Prelude.filter}
 use Rattle.std.specs.{Prelude.slice_get, Ordering.is_eq}
 use Rattle.domain_octets.{specs.Words.Octets}
-use Rattle.domain_names.specs.{Name.same_name, Order.before, Words.Name}
+use Rattle.domain_names.specs.{Name.same_name, Order.{before, canonical_cmp}, Words.Name}
 use Rattle.domain_zone.{specs.Zone.ZoneRecord, proofs.{FindLemmas.{in_at, in_filter, in_filtered, find_none, find_some}, NameLemmas.before_left}}
 use Rattle.domain_zone.proofs.{NameLemmas.{before_order, before_right, one_lowered, same_itself}, OwnerLemmas.{any_in, ascending_filter, in_any}, PairLemmas.In}
-use Rattle.domain_zone.proofs.{PairLemmas.{IsAscending, all_from_in, all_in, irreflexive}, ZoneLemmas.{after_or, all_both, any_map, filter_none, weaker}}
+use Rattle.domain_zone.proofs.PairLemmas.{IsAscending, all_from_in, all_in, ascending, irreflexive}
+use Rattle.domain_zone.proofs.ZoneLemmas.{after_or, all_both, any_map, filter_none, weaker}
 use Rattle.domain_nsec3.specs.{Ancestors.IsListOf, Config.{ChainConfig, HashAnswer, hash_of}, Faults.HasCollision, Owners.is_chain_name}
-use Rattle.domain_nsec3.proofs.{FaultLemmas.hash_same, ListLemmas.{sorted, ascending}}
+use Rattle.domain_nsec3.proofs.{FaultLemmas.hash_same, ListLemmas.{sorted}}
 use Rattle.domain_alike.specs.{Alike.{pair_of, AreAlike, IsAlike, IsFirstAlike, IsFirstPair, IsFirstRefusal, Pair}, declared.alike.Alike.Alike}
 use Rattle.domain_alike.specs.AlikeSteps.{first_before, first_with, is_hash, pair_with, ArePairs, IsHashed}
 
@@ -42,7 +43,7 @@ names_before (x ∷ xs) (suc i) n up at = grind (arith, common_steps, all_in, (i
 
 module _ (L : List ZoneRecord) (a : Name) (config : ChainConfig) (names : List Name) (list : IsListOf (is_chain_name L a config) names) where
   up : IsAscending before names
-  up = ascending names list.ascend
+  up = ascending canonical_cmp names list.ascend
 
   listed : (x : Name) → is_chain_name L a config x ≡ true → (n : Name) × In n names × (same_name n x ≡ true)
   listed x c = any_in (λ n. same_name n x) names (list.exactly x ∙ c)
@@ -159,7 +160,7 @@ module _ (L : List ZoneRecord) (a : Name) (config : ChainConfig) where
     alike = (recursion_from_All (IsAlike L a config) (p ∷ ps) are.told).0;
     least = λ x y cx cy b e.
         let laters = map (λ (q : Pair). q.0) (p ∷ ps) in
-        let up = ascending laters are.ascend in
+        let up = ascending canonical_cmp laters are.ascend in
         let n = any_in (λ n. same_name n x) laters (any_map (λ n. same_name n x) (λ (q : Pair). q.0) (p ∷ ps) ∙ are.each x y cx cy b e) in
         grind (arith, common_steps, all_in, (irreflexive before_order p.0), (before_order.one_way p.0 n.0), (before_left n.0 x p.0 (one_lowered n.0 x n.2)));
   }

@@ -8,9 +8,9 @@ use Rattle.domain_zone.specs.{Covering.{covers, matches}, Enclosers.{IsClosestEn
 use Rattle.domain_zone.{specs.Zone.{is_unoccluded, is_zone_cut, occludes, owns, records_of}, proofs.NameLemmas.{before_right, before_order, below_between}}
 use Rattle.domain_zone.proofs.NameLemmas.{below_from, below_length, below_longer, below_parent, below_root, below_trans, strictly_longer}
 use Rattle.domain_zone.proofs.{NameLemmas.{strictly_from, lowered_below, one_lowered, same_lowered}, OwnerLemmas.{any_in, below_occluder, occluder_owns}}
-use Rattle.domain_zone.proofs.PairLemmas.{In}
-use Rattle.domain_checker.{specs.Verdict.closest_encloser, proofs.EncloserLemmas.{exists_same, occluded_same, occludes_same, strictly_trans, top_occluder}}
-use Rattle.domain_checker.proofs.{HashedWalkLemmas.below_drop, SharedLemmas.shared_within}
+use Rattle.domain_zone.proofs.{PairLemmas.In, SharedLemmas.{exists_same, shared_within}}
+use Rattle.domain_checker.{specs.Verdict.closest_encloser, proofs.EncloserLemmas.{occluded_same, occludes_same, strictly_trans, top_occluder}}
+use Rattle.domain_checker.proofs.HashedWalkLemmas.{below_drop}
 use Rattle.domain_answer.specs.ZoneAnswer.{asterisk, highest_occluder, wildcard_below}
 
 -- ---- names that are the same, and names below each other

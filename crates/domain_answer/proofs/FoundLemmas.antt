@@ -4,8 +4,8 @@ use Rattle.std.{proofs.lemmas.{Bool.{le-leb, leb-true}, Grind.common_steps}}
 use Rattle.std.specs.{Ordering.{is_eq, is_gt, is_lt}}
 use Rattle.domain_names.specs.{Name.{is_at_or_below, same_name}, Order.{before, canonical_cmp, canonical_cmp_total, common_labels}, Words.Name}
 use Rattle.domain_zone.{specs.{Covering.{covers, matches}, Enclosers.{longer, shared}}, proofs.{FindLemmas.find_some, NameLemmas.{below_longer, below_trans}}}
-use Rattle.domain_zone.proofs.{NameLemmas.same_is, SharedLemmas.{either_way, shared_is}}
-use Rattle.domain_checker.{specs.{Reading.is_cover}, proofs.{HandedInLemmas.match_is_tie, SharedLemmas.shared_length}}
+use Rattle.domain_zone.proofs.{NameLemmas.same_is, SharedLemmas.{either_way, shared_is, shared_length}}
+use Rattle.domain_checker.{specs.{Reading.is_cover}, proofs.HandedInLemmas.match_is_tie}
 use Rattle.domain_nsec.specs.Chain.{Link}
 use Rattle.domain_answer.specs.{Found.IsFound, Reading.{listed_both, reading}, ZoneAnswer.is_at_parent}
 

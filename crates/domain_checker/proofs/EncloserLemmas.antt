@@ -1,12 +1,11 @@
 -- The first of a name and its ancestors that exists is its closest encloser, and an occluded name is below a name that occludes and is not occluded itself.
-use Rattle.std.proofs.Common.{◌≡◌, ℕ, ◌<◌, ◌≤◌, Bool, zero, suc, true, false, not, List, [], ◌∷◌, map, length, refl, sym, ap, ◌∙◌, inl, inr, arith}
-use Rattle.std.proofs.lemmas.{Bool.{cases_Bool, false_from_ne_true, false≢true, and_parts, and_from}, List.length-map, Grind.common_steps}
-use Rattle.std.specs.{Char.to_ascii_lowercase}
+use Rattle.std.proofs.Common.{◌≡◌, ℕ, ◌<◌, ◌≤◌, Bool, zero, suc, true, false, not, List, [], ◌∷◌, map, length, sym, ap, ◌∙◌, inl, inr, arith}
+use Rattle.std.{proofs.lemmas.{Bool.{cases_Bool, and_parts, and_from}, List.length-map, Grind.common_steps}, specs.Char.to_ascii_lowercase}
 use Rattle.domain_names.specs.{Name.{is_at_or_below, is_strictly_below, same_name}, Words.Name}
-use Rattle.domain_zone.specs.Enclosers.{IsClosestEncloser, exists_over}
-use Rattle.domain_zone.specs.Zone.{ZoneRecord, is_zone_cut, occludes, is_occluded, is_unoccluded, distinct, unoccluded_owners, owns}
-use Rattle.domain_zone.proofs.NameLemmas.{one_lowered, below_itself, below_trans, below_longer, below_length, below_parent, strictly_longer, same_length}
-use Rattle.domain_zone.proofs.{PairLemmas.{In, all_in}, OwnerLemmas.{any_in, in_any, occluder_below, owners_are}, FindLemmas.in_filter, ZoneLemmas.same_back}
+use Rattle.domain_zone.specs.{Enclosers.{IsClosestEncloser, exists_over}, Zone.{ZoneRecord, is_zone_cut, occludes, is_occluded, is_unoccluded, distinct}}
+use Rattle.domain_zone.{specs.Zone.{unoccluded_owners, owns}, proofs.NameLemmas.{one_lowered, below_itself, below_trans, below_length, strictly_longer}}
+use Rattle.domain_zone.proofs.{NameLemmas.same_length, PairLemmas.{In, all_in}, OwnerLemmas.{any_in, in_any, occluder_below, owners_are}, FindLemmas.in_filter}
+use Rattle.domain_zone.proofs.{SharedLemmas.{closest_above, parent_below}, ZoneLemmas.same_back}
 use Rattle.domain_checker.specs.Verdict.{closest_encloser}
 
 -- ---- names at or below each other
@@ -26,9 +25,6 @@ shorter_above x d p s = grind (arith, common_steps, same_length, same_back)
 -- ---- closest enclosers
 
 module _ (names : List Name) (a : Name) where
-  pub exists_same : (x y : Name) → same_name x y ≡ true → exists_over names a x ≡ exists_over names a y
-  exists_same x y s = rw (one_lowered x y s) refl
-
   -- where a name exists, those above it do
   pub exists_above : (x d : Name) → exists_over names a x ≡ true → is_at_or_below x d ≡ true → is_at_or_below d a ≡ true
       → exists_over names a d ≡ true
@@ -43,19 +39,8 @@ module _ (names : List Name) (a : Name) where
       elim (cases_Bool (exists_over names a (l ∷ x))) [
         | inl f ↦ rw f (record { found = f; above = below_itself (l ∷ x); longest = λ d g q. below_length (l ∷ x) d q })
         | inr f ↦
-            let up = closest_is x e (higher a e f p) in
-            rw f (record {
-              found = up.found;
-              above = below_trans (l ∷ x) x (closest_encloser names a x) (below_parent l x) up.above;
-              longest = λ d g q. up.longest d g (higher d g f q);
-            })
+            let up = closest_is x e (parent_below names a l x f a e p) in rw f (closest_above names a l x f (closest_encloser names a x) up)
       ]
-    where
-      -- an ancestor that exists is one of the parent
-      higher : (d : Name) → exists_over names a d ≡ true → exists_over names a (l ∷ x) ≡ false → is_at_or_below (l ∷ x) d ≡ true → is_at_or_below x d ≡ true
-      higher d g f q =
-          let other = false_from_ne_true (same_name d (l ∷ x)) (λ s. false≢true (sym f ∙ sym (exists_same d (l ∷ x) s) ∙ g)) in
-          below_longer (l ∷ x) x d (below_parent l x) q (omega (arith, shorter_above (l ∷ x) d q other))
 
   -- closest enclosers have as many labels
   pub closest_alike : (x e d : Name) → IsClosestEncloser names a x e → IsClosestEncloser names a x d → length e ≡ length d

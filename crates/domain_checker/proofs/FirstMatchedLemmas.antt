@@ -6,13 +6,13 @@ use Rattle.domain_names.specs.{Name.{is_at_or_below, is_strictly_below, last_lab
 use Rattle.domain_bitmap.specs.Blocks.{contains_type}
 use Rattle.domain_zone.{specs.{Enclosers.{exists_over, IsClosestEncloser}, Zone.{ZoneRecord, is_zone_cut}}, proofs.NameLemmas.{one_lowered, same_lowered}}
 use Rattle.domain_zone.proofs.{NameLemmas.{below_itself, below_trans, below_longer, below_length, same_length, strictly_from, strictly_longer}, PairLemmas.In}
-use Rattle.domain_zone.proofs.FindLemmas.{find_some}
+use Rattle.domain_zone.proofs.{FindLemmas.find_some, SharedLemmas.exists_same}
 use Rattle.domain_nsec3.specs.{Chain.HashedLink, Config.{ChainConfig, hash_name}, Meaning.{AreAlone, IsAlone}}
 use Rattle.domain_nsec3.specs.Owners.{is_original_owner, nsec3_lists, original_owners}
 use Rattle.domain_checker.specs.{HashedEncloser.{Encloser, IsEncloser, IsOfName, encloser_is_cut}, HashedFacts.ChainFacts}
 use Rattle.domain_checker.specs.{HashedList.is_hash_match, HashedView.{HashedRecords, chain_records}, Verdict.closest_encloser}
 use Rattle.domain_checker.{specs.HashedVerdict.{is_below_chain_cut, is_covered, is_matched, next_closer}, proofs.CutLemmas.{below_cut, cut_above, cut_apart}}
-use Rattle.domain_checker.proofs.{HashedWalkLemmas.{closer_is, matched_same}, EncloserLemmas.{apex_from, closest_is, cut_same, exists_above, exists_same}}
+use Rattle.domain_checker.proofs.{HashedWalkLemmas.{closer_is, matched_same}, EncloserLemmas.{apex_from, closest_is, cut_same, exists_above}}
 use Rattle.domain_checker.proofs.{EncloserLemmas.{same_count, shorter_above}, HashedEncloserLemmas.{IsClosed, cover_denies, cut_counted, match_is_of_name}}
 use Rattle.domain_checker.proofs.HashedListLemmas.{alone_at}
 

@@ -1,5 +1,4 @@
 pub mod EncloserLemmas
-pub mod SharedLemmas
 pub mod MeantLemmas
 pub mod ChoiceLemmas
 pub mod VerdictLemmas

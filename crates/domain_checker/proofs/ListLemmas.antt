@@ -2,13 +2,14 @@
 use Rattle.std.proofs.Common.{rules, ◌≡◌, ◌≢◌, ℕ, ◌<◌, Bool, true, false, cond, not, ◌||◌, List, length, refl, subst}
 use Rattle.std.{proofs.{Common.arith, lemmas.Grind.common_steps}, specs.List.find}
 use Rattle.domain_names.specs.{Name.{is_at_or_below}, Words.Name}
-use Rattle.domain_zone.{specs.Zone.{ZoneRecord, OwnersNeverDescend}, proofs.{OwnerLemmas.in_any, FindLemmas.{find_some, stands_all}}}
+use Rattle.domain_zone.specs.Zone.{ZoneRecord, OwnersNeverDescend}
+use Rattle.domain_zone.proofs.{OwnerLemmas.in_any, FindLemmas.{find_some, stands_all}, SharedLemmas.shared_within}
 use Rattle.domain_nsec.specs.{Chain.{Link, IsChain}, declared.config.GenerateNsecConfig.GenerateNsecConfig}
 use Rattle.domain_checker.specs.{declared.verdict.Verdict.{Verdict, TheVariants.{OutsideZone, NotProven}}, Verdict.{zone_verdict, has_match_or_cover}}
 use Rattle.domain_checker.specs.{Verdict.{proved_verdict, IsProved, HasProof, IsWithin}, Reading.{is_match, is_cover, verdict_of_both, list_verdict}}
 use Rattle.domain_checker.specs.{Facts.{NsecChainsAreKnown, NsecFacts}, Reading.{IsChecked, reading}}
 use Rattle.domain_checker.proofs.ChoiceLemmas.{IsDefinite, choose_by, either_found}
-use Rattle.domain_checker.proofs.{MeantLemmas.{config_with, list_says, some_link}, SharedLemmas.shared_within, VerdictLemmas.{matched, covers_told}}
+use Rattle.domain_checker.proofs.{MeantLemmas.{config_with, list_says, some_link}, VerdictLemmas.{matched, covers_told}}
 
 -- a chain that keeps what stands below a DNAME
 facts_keeping : NsecChainsAreKnown → (L : List ZoneRecord) (a : Name) (config : GenerateNsecConfig) (links : List Link)

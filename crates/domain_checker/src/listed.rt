@@ -42,7 +42,7 @@ pub fn is_strictly_below<N: ToName, M: ToName>(name: &N, above: &M) -> bool
 }
 
 /// How many labels the longer of the names has that the name shares with the two others.
-#[tactic(auto, using(crate::proofs::SharedLemmas::shared_length))]
+#[tactic(auto, using(domain_zone::proofs::SharedLemmas::shared_length))]
 pub fn longer_shared<N: ToName, M: ToName>(name: &M, owner: &N, next: &N) -> usize
     ensures { result ≡ length (longer (shared (M.labels name.now) (N.labels owner.now))
         (shared (M.labels name.now) (N.labels next.now))) }

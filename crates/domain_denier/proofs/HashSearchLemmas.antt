@@ -1,45 +1,33 @@
 -- Where a search by hash in a chain ends, the record matches or covers the hash, and no other does.
 use Rattle.std.proofs.Common.{◌≡◌, ℕ, suc, ◌+◌, ◌-◌, ◌<◌, ◌≤◌, Bool, true, false, ◌||◌, List, [], ◌∷◌, map, length, get_or, slice_get, Some, refl, sym, ap, ◌∙◌}
 use Rattle.std.proofs.{Common.{arith, inl, inr, ◌⊎◌}, lemmas.{Option.{same_Some, get_or_from_slice_get, slice_get_within}, List.{get_or_past, length-map}}}
-use Rattle.std.{proofs.lemmas.List.{Elements.recursion_from_All, Sorted.ranks_by}, specs.List.{AllByRecursion, Sorted.IsStrictlySortedBy}}
-use Rattle.std.specs.{Cmp.{IsStrictWeakOrder, Lexicographic.{nat_list_cmp_total, slice_cmp}}, Ordering.{is_eq, is_lt, nat_cmp}}
+use Rattle.std.{proofs.lemmas.List.{Elements.recursion_from_All, Sorted.ranks_by}, specs.{List.Sorted.IsStrictlySortedBy, Cmp.IsStrictWeakOrder}}
+use Rattle.std.specs.{Cmp.Lexicographic.{nat_list_cmp_total, slice_cmp}, Ordering.{is_eq, nat_cmp}}
 use Rattle.domain_codecs.specs.Base32.{base32_lower}
 use Rattle.domain_octets.specs.Words.{AreOctets, Octets}
 use Rattle.domain_names.specs.Words.{Name}
-use Rattle.domain_zone.{specs.{Covering.{covers, matches, matches_or_covers}, Zone.ZoneRecord}, proofs.PairLemmas.{IsAscending, irreflexive}}
-use Rattle.domain_zone.proofs.{PairLemmas.{one_matches_or_covers, In, all_in, all_from_in}, PlaceLemmas.{IsOnly, one_place}, FindLemmas.in_at}
+use Rattle.domain_zone.{specs.{Covering.{covers, matches, matches_or_covers}, Zone.ZoneRecord}, proofs.PairLemmas.{In, all_in, ascending, first_least}}
+use Rattle.domain_zone.proofs.{PairLemmas.{one_of_ring, said}, PlaceLemmas.IsOnly, FindLemmas.{in_at, mapped_at, pair_is, pairs_length}}
 use Rattle.domain_nsec3.specs.{Chain.{HashedLink, IsOfChain, cycle, ends, ends_of}, Config.ChainConfig, Meaning.{IsRecordOf, octets_before}}
-use Rattle.domain_checker.specs.{HashedFacts.ChainFacts, HashedList.{is_some_with, owner_hash}, HashedView.chain_records}
-use Rattle.domain_checker.proofs.HashedListLemmas.{tied_is, hash_at, hashes_octets, record_at}
-use Rattle.domain_denier.{specs.HashedSteps.{IsOfHash, tells_hash}, proofs.NeighbourLemmas.{mapped_at, pair_is, pairs_length, said}}
+use Rattle.domain_checker.{specs.{HashedFacts.ChainFacts, HashedList.{is_some_with, owner_hash}, HashedView.chain_records}, proofs.HashedListLemmas.tied_is}
+use Rattle.domain_checker.proofs.HashedListLemmas.{hash_at, hashes_octets, record_at}
+use Rattle.domain_denier.specs.HashedSteps.{IsOfHash, tells_hash}
 
 -- ---- lists of hashes that ascend
 
 octets_order : IsStrictWeakOrder octets_before
 octets_order = ranks_by nat_list_cmp_total (λ v. v)
 
-ascends : (us : List Octets) → IsStrictlySortedBy (slice_cmp nat_cmp) us → IsAscending octets_before us
-unfolding IsStrictlySortedBy
-ascends [] h = tt
-ascends (u ∷ us) h = (all_from_in _ us (λ v i. ap is_lt (all_in _ us v h.0 i)), ascends us h.1)
-
--- none is before the first
-none_before : (u : Octets) (us : List Octets) → IsAscending octets_before (u ∷ us) → AllByRecursion (λ v. octets_before v u ≡ false) (u ∷ us)
-none_before u us rise =
-    (irreflexive octets_order u, all_from_in _ us (λ v i. octets_order.one_way u v (all_in (λ w. octets_before u w ≡ true) us v rise.0 i)))
-
 first_low : (us : List Octets) → IsStrictlySortedBy (slice_cmp nat_cmp) us → (h d : Octets) → In h us → octets_before h (get_or us 0 d) ≡ false
 first_low [] up h d i = absurd i
-first_low (u ∷ us) up h d i = all_in (λ v. octets_before v u ≡ false) (u ∷ us) h (none_before u us (ascends (u ∷ us) up)) i
+first_low (u ∷ us) up h d i =
+    all_in (λ v. octets_before v u ≡ false) (u ∷ us) h (first_least octets_order u us (ascending (slice_cmp nat_cmp) (u ∷ us) up)) i
 
 -- exactly one pair of the cycle matches or covers any octets
 one_pair : (us : List Octets) → 0 < length us → IsStrictlySortedBy (slice_cmp nat_cmp) us → (v : Octets)
     → IsOnly (λ (p : Octets × Octets). matches_or_covers octets_before p.0 p.1 v) (cycle us)
 one_pair [] some up v = absurd (omega (arith, some))
-one_pair (u ∷ us) some up v =
-    let rise = ascends (u ∷ us) up in
-    one_place (λ (p : Octets × Octets). matches_or_covers octets_before p.0 p.1 v) (cycle (u ∷ us))
-    (one_matches_or_covers octets_order u us u v rise (none_before u us rise) (irreflexive octets_order u))
+one_pair (u ∷ us) some up v = one_of_ring octets_order u us (ascending (slice_cmp nat_cmp) (u ∷ us) up) v
 
 -- ---- the pairs of the cycle, by their places
 

@@ -1,10 +1,10 @@
 -- What is picked of the NSEC3 chain of a zone is what its answer rests on, and no more.
-use Rattle.std.proofs.Common.{◌≡◌, ◌≢◌, ℕ, ◌<◌, Bool, true, false, cond, not, ◌&&◌, ◌||◌, List, [], ◌∷◌, length, Some, refl, sym, ap, subst, ◌∙◌, inl, inr}
-use Rattle.std.proofs.{Common.arith, lemmas.{Option.same_Some, Bool.{and_parts, cases_Bool, cases_eq, false≢true, or_left, or_right, true_from_ne_false}}}
-use Rattle.std.{proofs.lemmas.{Grind.common_steps, List.length-map}, specs.List.list_any}
+use Rattle.std.proofs.Common.{◌≡◌, ◌≢◌, ℕ, ◌<◌, Bool, true, false, cond, not, ◌&&◌, ◌||◌, List, [], length, Some, refl, sym, ap, subst, ◌∙◌, inl, inr, arith}
+use Rattle.std.proofs.lemmas.{Option.{same_Some, slice_get_within}, Bool.{and_parts, cases_Bool, cases_eq, false≢true, or_left, or_right, true_from_ne_false}}
+use Rattle.std.proofs.lemmas.{Grind.common_steps, List.length-map}
 use Rattle.domain_names.specs.{Name.{is_at_or_below, same_name, last_labels}, Words.Name}
 use Rattle.domain_zone.{specs.{Enclosers.{IsClosestEncloser, exists_over}, Zone.{ZoneRecord, is_zone_cut}}, proofs.NameLemmas.{below_itself, below_longer}}
-use Rattle.domain_zone.proofs.OwnerLemmas.{in_any}
+use Rattle.domain_zone.proofs.{FindLemmas.stands_in, OwnerLemmas.{any_in, in_any}}
 use Rattle.domain_nsec3.specs.{Chain.{ChainRecords, HashedLink, HashedName}, Config.{ChainConfig, Hash}, Meaning.IsAlone, Owners.{nsec3_lists, original_owners}}
 use Rattle.domain_base.specs.Types.{dname}
 use Rattle.domain_checker.specs.{HashedFacts.{ChainFacts, ChainsAreKnown}, HashedList.is_hash_match, HashedReading.IsUnmatched}
@@ -17,9 +17,9 @@ use Rattle.domain_answer.{specs.declared.answer.Answer.{Answer, TheVariants.{NoC
 use Rattle.domain_answer.proofs.{EncloserLemmas.strictly_other, HashedAnswerLemmas.read_proved}
 use Rattle.domain_answer.proofs.HashedWholeLemmas.{IsOfZone, encloser_told as whole_tells, whole_proves, zone_says}
 use Rattle.domain_denier.specs.HashedPicked.{AreHashedNeeded, IsHashedDenial, IsHashedWhole, TellOfTheirParts, hashed_picked, picked_without}
-use Rattle.domain_denier.specs.{HashedSteps.{IsSoleOf, all_records}, Picked.at_place, declared.nsec3.Nsec3Denial.Nsec3Denial}
-use Rattle.domain_denier.proofs.{HashSearchLemmas.many, HashedPickLemmas.IsPickedRead, SomeLemmas.{AreAmong, all_among, among_contained, contained}}
-use Rattle.domain_denier.proofs.SomeLemmas.{in_place, no_match, others_among, picked_among, read_is, without_others}
+use Rattle.domain_denier.{specs.{HashedSteps.{IsSoleOf, all_records}, Picked.at_place, declared.nsec3.Nsec3Denial.Nsec3Denial}, proofs.HashSearchLemmas.many}
+use Rattle.domain_denier.proofs.{HashedPickLemmas.IsPickedRead, SomeLemmas.{AreAmong, all_among, among_contained, contained, in_place, no_match, others_among}}
+use Rattle.domain_denier.proofs.SomeLemmas.{picked_among, read_is, without_others}
 
 -- the chain of a zone has a record
 pub some_links : (L : List ZoneRecord) (a : Name) (config : ChainConfig) (links : List HashedLink) → ChainFacts L a config links → links ≡ [] → ⊥
@@ -28,11 +28,9 @@ some_links L a config links facts none =
     let e = facts.tells.encloser a (below_itself a) in
     let low = exists_low (original_owners L a config) a e.0 e.1.found in
     let count : length links ≡ length facts.chain.names = many L a config links facts ∙ length-map names (λ (n : HashedName). n.hash) in
-    by e.0 names (facts.chain.complete e.0 (sym (facts.exist e.0 low) ∙ e.1.found)) (sym count ∙ ap length none)
-  where
-    by : (y : Name) (names : List HashedName) → list_any (λ n. same_name n.name y) names ≡ true → length names ≡ 0 → ⊥
-    by y [] h l = false≢true h
-    by y (n ∷ names) h l = absurd (omega (arith, l))
+    let n = any_in (λ n. same_name n.name e.0) names (facts.chain.complete e.0 (sym (facts.exist e.0 low) ∙ e.1.found)) in
+    let s = stands_in names n.0 n.1 in
+    omega (arith, count, ap length none, slice_get_within names s.place n.0 s.there)
 
 -- where no more is said than that there is no such name, so much is proved
 less_by : (tells lacks : Bool) (n m : ℕ) (v : Answer) → ((k : ℕ) → v ≢ NoCloserName k)

@@ -1,11 +1,11 @@
 -- What one record, or two of which the first denies a name alone, tell by what they are judged to say.
 use Rattle.std.proofs.Common.{◌≡◌, ◌≢◌, ℕ, ◌<◌, Bool, true, false, cond, not, List, [], ◌∷◌, ◌++◌, length, slice_get, Option, Some, None, refl, sym, ap, ◌∙◌}
-use Rattle.std.{proofs.{Common.arith, lemmas.{Bool.{and_left, or_parts, true_from_ne_false}, Grind.common_steps}}, specs.List.find}
+use Rattle.std.proofs.{Common.{inl, arith}, lemmas.{Bool.{and_left, or_parts, true_from_ne_false}, Grind.common_steps}}
 use Rattle.domain_names.specs.{Name.{is_at_or_below, is_strictly_below, same_name, last_labels}, Order.before, Words.Name}
-use Rattle.domain_zone.{specs.{Covering.{matches_or_covers}, Enclosers.{longer, shared}}, proofs.{NameLemmas.same_is}}
+use Rattle.domain_zone.{specs.{Covering.matches_or_covers, Enclosers.{longer, shared}}, proofs.{FindLemmas.find_none, NameLemmas.same_is}}
 use Rattle.domain_nsec.specs.Chain.{Link}
-use Rattle.domain_checker.specs.{Reading.{is_cover, is_match}}
-use Rattle.domain_answer.specs.Reading.{IsNameAnswer, name_answer, absent_answer, listed_both, reading, tells_occluded, wildcard_answer, wildcard_both}
+use Rattle.domain_checker.specs.Reading.{is_cover, is_match}
+use Rattle.domain_answer.specs.Reading.{IsNameAnswer, name_answer, absent_answer, listed_both, reading, tells_occluded, wildcard_answer}
 use Rattle.domain_answer.specs.{ZoneAnswer.{is_at_parent, wildcard_below}, declared.answer.Answer.{Answer, TheVariants.{AtParent, NoCloserName, OutsideZone}}}
 use Rattle.domain_answer.{specs.declared.answer.NameAnswer.{NameAnswer, TheVariants.Given}, proofs.ProofLemmas.{given_never, match_own}}
 use Rattle.domain_denier.specs.{Judged.{IsOfWildcard, IsSilent, IsTold, Tells}, Picked.{IsOf, at_place, listed_option}}
@@ -25,12 +25,10 @@ wildcard_tells : (a w : Name) (n t : ℕ) (l : Link) → ((m : ℕ) → wildcard
 wildcard_tells a w n t l some =
     true_from_ne_false (matches_or_covers before l.owner l.next w) (λ e. let tests = silent_tests a w l e in some n (rw (tests.0, tests.1) refl))
 
-unfound : (f : Link → Bool) (k : Link) → find f (k ∷ []) ≡ None → f k ≡ false
-unfound f k e = grind (arith, common_steps)
-
 -- before another record one that is silent leaves what that says of a wildcard
 unasked : (a w : Name) (n t : ℕ) (k l : Link) → IsSilent a (k ∷ []) w → wildcard_answer a (l ∷ []) n w t ≡ wildcard_answer a (k ∷ l ∷ []) n w t
-unasked a w n t k l silent = rw (unfound (is_match a w) k silent.matching, unfound (is_cover a w) k silent.covering) refl
+unasked a w n t k l silent =
+    rw (find_none (is_match a w) (k ∷ []) silent.matching k (inl refl), find_none (is_cover a w) (k ∷ []) silent.covering k (inl refl)) refl
 
 -- a record whose owner is another name does not match
 pub unmatched : (a x : Name) (k : Link) → same_name k.owner x ≡ false → is_match a x k ≡ false
@@ -39,11 +37,8 @@ unmatched a x k e = grind (arith, common_steps, same_is)
 -- ---- what is said of a wildcard tells that the name is denied
 
 module _ (a w : Name) (n t : ℕ) where
-  told_both : (m c : Option Link) → IsTold (wildcard_both a n w t m c)
-  told_both m c = grind (arith, common_steps)
-
   pub told_wildcard : (listed : List Link) → IsTold (wildcard_answer a listed n w t)
-  told_wildcard listed = told_both (find (is_match a w) listed) (find (is_cover a w) listed)
+  told_wildcard listed = grind (arith, common_steps)
 
 -- so both forms of an answer of the name tell it
 pub told_whole : (a : Name) (listed : List Link) (x : Name) (t : ℕ) (whole : Answer) (told : NameAnswer) → IsNameAnswer whole a listed x t told

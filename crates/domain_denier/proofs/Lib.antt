@@ -2,7 +2,6 @@ pub mod HashSearchLemmas
 pub mod HashedDenyLemmas
 pub mod HashedPickLemmas
 pub mod JudgedLemmas
-pub mod NeighbourLemmas
 pub mod PickLemmas
 pub mod PlacedLemmas
 pub mod SearchLemmas

@@ -100,10 +100,7 @@ module _ (knows : NsecChainsAreKnown) (links : List Link) (L : List ZoneRecord) 
             or_right (matches_or_covers before of.link.owner of.link.next (wildcard_below (encloser L a x)))
             (has_match_or_cover (of_w.link ∷ []) (wildcard_below (encloser L a x)))
             (first_has (wildcard_below (encloser L a x)) of_w.link [] says_w) in
-            rw all (elim (half (of.link ∷ of_w.link ∷ []) among (first_has x of.link (of_w.link ∷ []) of.says)) [
-              | inl e ↦ e
-              | inr h ↦ absurd (false≢true (sym h.unknown ∙ knows))
-            ])
+            rw all (grind (arith, common_steps, (half (of.link ∷ of_w.link ∷ []) among (first_has x of.link (of_w.link ∷ []) of.says))))
 
         -- the record of the wildcard alone says nothing of x: it is not that of x, which would know the wildcard
         other : matches_or_covers before of_w.link.owner of_w.link.next x ≡ false

@@ -1,5 +1,5 @@
 -- The names from x up to the apex, by the places of the records that match or cover them.
-use Rattle.std.proofs.{Common.{◌≡◌, ℕ, ◌<◌, Bool, true, false, not, ◌∷◌, length, Option, Some, None, refl, sym, ap, ◌∙◌, subst, arith}, lemmas.Option.same_Some}
+use Rattle.std.proofs.{Common.{◌≡◌, ℕ, ◌<◌, true, false, not, ◌∷◌, length, Option, Some, None, refl, sym, ap, ◌∙◌, subst, arith}, lemmas.Option.same_Some}
 use Rattle.std.{proofs.lemmas.{Bool.and_from, Grind.common_steps}, specs.Prelude.Err}
 use Rattle.domain_octets.specs.Words.{Octets}
 use Rattle.domain_names.specs.{Name.{is_at_or_below, is_strictly_below, lowered, same_name, wire_of}, Words.{Label, Name}}
@@ -10,11 +10,6 @@ use Rattle.domain_checker.proofs.HashedWalkLemmas.{IsPassed, none_first, none_le
 use Rattle.domain_answer.proofs.EncloserLemmas.{parent_below}
 use Rattle.domain_denier.specs.{HashedPicked.IsRefusedAbove, HashedSteps.{IsFoundAt, IsOfZone, IsReached, all_records}}
 use Rattle.domain_denier.proofs.SomeLemmas.{all_among, unmatched}
-
--- what is found of a hash, in other words
-pub found_of : (hash : Hash) (chain : ChainRecords) (wire w : Octets) (place : ℕ) (b m : Bool) → IsFoundAt hash chain wire place b → wire ≡ w → b ≡ m
-    → IsFoundAt hash chain w place m
-found_of hash chain wire w place b m found e f = grind (arith, common_steps)
 
 module _ (hash : Hash) (chain : ChainRecords) (x : Name) where
   abbrev R : HashedRecords

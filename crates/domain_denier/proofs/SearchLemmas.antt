@@ -4,11 +4,11 @@ use Rattle.std.proofs.{Common.{inl, inr, ◌⊎◌}, lemmas.{Bool.{cases_lt, and
 use Rattle.std.{proofs.lemmas.Option.{get_or_from_slice_get, slice_get-get_or, slice_get-map}, specs.Option.option_map}
 use Rattle.domain_names.specs.{Name.is_at_or_below, Order.before, Words.Name}
 use Rattle.domain_zone.specs.{Covering.pairs, Zone.{ZoneRecord, unoccluded_owners}}
-use Rattle.domain_zone.proofs.{NameLemmas.{below_from, before_right, one_lowered}, FindLemmas.in_at}
+use Rattle.domain_zone.proofs.{NameLemmas.{below_from, before_right, one_lowered}, FindLemmas.{in_at, pair_is, pairs_length}, PairLemmas.said}
 use Rattle.domain_nsec.specs.{Chain.Link, declared.config.GenerateNsecConfig.GenerateNsecConfig}
 use Rattle.domain_checker.{specs.Facts.NsecChainsAreKnown, proofs.MeantLemmas.inside}
 use Rattle.domain_answer.proofs.ChainLemmas.{facts_leaving}
-use Rattle.domain_denier.{specs.{Picked.{IsOf, IsWhole}, Search.AreEnds}, proofs.NeighbourLemmas.{pair_is, pairs_length, said}}
+use Rattle.domain_denier.specs.{Picked.{IsOf, IsWhole}, Search.AreEnds}
 
 abbrev pub ends : Link → Name × Name
 ends k = (k.owner, k.next)

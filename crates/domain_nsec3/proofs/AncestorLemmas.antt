@@ -1,22 +1,21 @@
 -- The names above a name.
 use Rattle.std.proofs.{Common.{◌≡◌, ℕ, ◌+◌, ◌≤◌, ◌<◌, true, false, cond, List, [], ◌∷◌, ◌++◌, length, refl, sym, ap, ◌∙◌, arith}, lemmas.Bool.Decides.nat_tests}
 use Rattle.std.{proofs.lemmas.{List.append-nil, Grind.common_steps}, specs.{Prelude.nat_lt, List.{AllByRecursion, list_any}}}
-use Rattle.domain_names.specs.{Name.{is_at_or_below, same_name}, Words.Name}
-use Rattle.domain_zone.proofs.{NameLemmas.{same_itself, below_trans, below_parent}, ZoneLemmas.{weaker, all_both}}
-use Rattle.domain_nsec3.{specs.Ancestors.above_with_more, proofs.SharedLemmas.{at_length, cons_below}}
+use Rattle.domain_names.specs.{Name.{is_at_or_below, lowered, same_name}, Words.{Label, Name}}
+use Rattle.domain_zone.proofs.{NameLemmas.{one_lowered, same_itself, same_length, below_trans, below_parent}, ZoneLemmas.{weaker, all_both}}
+use Rattle.domain_nsec3.specs.Ancestors.{above_with_more}
 
-pub less : (m n : ℕ) → m < n → nat_lt m n ≡ true
-less m n h = grind (arith, nat_tests)
+-- a name at or below one with no fewer labels is that one
+pub at_length : (x e : Name) → is_at_or_below x e ≡ true → length x ≤ length e → lowered x ≡ lowered e
+at_length x e h l = one_lowered x e (same_length x e h l)
 
-pub not_less : (m n : ℕ) → n ≤ m → nat_lt m n ≡ false
-not_less m n h = grind (arith, nat_tests)
-
-is_less : (m n : ℕ) → nat_lt m n ≡ true → m < n
-is_less m n h = grind (arith, nat_tests)
+-- above the first label
+pub cons_below : (x : Label) (xs e : Name) → length e ≤ length xs → is_at_or_below (x ∷ xs) e ≡ is_at_or_below xs e
+cons_below x xs e l = grind (arith, common_steps, (below_parent x xs))
 
 pub more_none : (n : ℕ) (x : Name) → length x ≤ n + 1 → above_with_more n x ≡ []
 more_none n [] h = refl
-more_none n (label ∷ x) h = rw (not_less n (length x) (omega arith))
+more_none n (label ∷ x) h = grind (arith, nat_tests)
 
 abbrev pub IsAbove : ℕ → Name → Name → Type 0
 IsAbove n o m = (is_at_or_below o m ≡ true) × (length m < length o) × (n < length m)
@@ -31,7 +30,7 @@ are_above n (label ∷ x) =
             omega (arith, h.1),
             h.2,
           )) _ (are_above n x))
-          ((below_parent label x, omega arith, is_less n _ e), tt)
+          ((below_parent label x, omega arith, grind (arith, nat_tests)), tt)
       | false ↦ λ e. tt
     ] refl
 

@@ -4,8 +4,8 @@ use Rattle.std.{proofs.lemmas.Simd.map-map, specs.{Prelude.All, List.{AllByRecur
 use Rattle.std.specs.{Ordering.{nat_cmp, ordering_then}, declared.cmp.Ordering.TheVariants.Less}
 use Rattle.domain_codecs.proofs.OrderLemmas.{lower_keeps}
 use Rattle.domain_names.{specs.{Order.{canonical_cmp, canonical_cmp_total}, Words.Name}, proofs.OrderLemmas.canonical_cmp-more}
-use Rattle.domain_zone.specs.Zone.{ZoneRecord}
-use Rattle.domain_nsec3.specs.{Chain.{HashedLink, HashedName, IsHashedChain, IsOfChain, cycle, ends, ends_of, hashed_owner}, Config.ChainConfig}
+use Rattle.domain_zone.{specs.Zone.ZoneRecord, proofs.{PairLemmas.{all_from_in, all_in}, ZoneLemmas.{all_map, weaker}}}
+use Rattle.domain_nsec3.specs.{Chain.{HashedLink, IsHashedChain, IsOfChain, cycle, ends, ends_of, hashed_owner}, Config.ChainConfig}
 use Rattle.domain_nsec3.{specs.Meaning.OwnersAscend, proofs.{ChainLemmas.cycle_owners, TextLemmas.lower_text}}
 
 before_owner : (a : Name) (u v : List ℕ) → All (λ o. o < 256) u → All (λ o. o < 256) v → slice_cmp nat_cmp u v ≡ Less
@@ -19,13 +19,10 @@ ascending : (a : Name) (us : List (List ℕ)) → AllByRecursion (λ u. All (λ 
     → IsStrictlySortedBy (slice_cmp nat_cmp) us → IsStrictlySortedBy canonical_cmp (map (hashed_owner a) us)
 unfolding IsStrictlySortedBy
 ascending a [] h up = tt
-ascending a (u ∷ us) h up = (each us h.1 up.0, ascending a us h.1 up.1)
-  where
-    each : (vs : List (List ℕ)) → AllByRecursion (λ u. All (λ o. o < 256) u) vs
-        → AllByRecursion (λ v. slice_cmp nat_cmp u v ≡ Less) vs
-        → AllByRecursion (λ y. canonical_cmp (hashed_owner a u) y ≡ Less) (map (hashed_owner a) vs)
-    each [] k m = tt
-    each (v ∷ vs) k m = (before_owner a u v h.0 k.0 m.0, each vs k.1 m.1)
+ascending a (u ∷ us) h up = (
+  all_map _ (hashed_owner a) us (all_from_in _ us (λ v i. before_owner a u v h.0 (all_in _ us v h.1 i) (all_in _ us v up.0 i))),
+  ascending a us h.1 up.1,
+)
 
 owners_of_cycle : (a : Name) (links : List HashedLink) (us : List (List ℕ)) → map ends links ≡ map (ends_of a) (cycle us)
     → map (λ k. k.owner) links ≡ map (hashed_owner a) us
@@ -37,8 +34,5 @@ owners_of_cycle a links us e =
 pub owners_ascend : (L : List ZoneRecord) (a : Name) (config : ChainConfig) (links : List HashedLink) → IsHashedChain L a config links → OwnersAscend links
 owners_ascend L a config links chain =
     subst (IsStrictlySortedBy canonical_cmp) (sym (owners_of_cycle a links (map (λ n. n.hash) chain.names) chain.linked))
-    (ascending a (map (λ n. n.hash) chain.names) (octets chain.names (recursion_from_All (IsOfChain L a config) chain.names chain.sound)) chain.ascend)
-  where
-    octets : (ns : List HashedName) → AllByRecursion (IsOfChain L a config) ns → AllByRecursion (λ u. All (λ o. o < 256) u) (map (λ n. n.hash) ns)
-    octets [] h = tt
-    octets (n ∷ ns) h = (h.0.sound.2, octets ns h.1)
+    (ascending a (map (λ n. n.hash) chain.names) (all_map _ (λ n. n.hash) chain.names
+    (weaker _ _ (λ n h. h.sound.2) chain.names (recursion_from_All (IsOfChain L a config) chain.names chain.sound))) chain.ascend)

@@ -1,55 +1,37 @@
 -- Hashes in order, each linked with the next one, are the chain of the zone where they are those of the names of its chain.
-use Rattle.std.proofs.Common.{◌≡◌, ℕ, ◌+◌, ◌<◌, ◌≤◌, true, List, [], ◌∷◌, ◌++◌, map, length, get_or, take, Some, Ok, refl, sym, ap, ◌∙◌, subst, arith, inl, inr}
-use Rattle.std.proofs.{Common.add-one, lemmas.{Bool.cases_lt, List.{get_or-map, get_or_append_left, get_or_push, length-map, length_push, take_more}}}
-use Rattle.std.proofs.lemmas.{Map.Keys.{apart_from_distinct, IsDistinct-IsPermutation}, Option.slice_get-get_or, Simd.map-map, Slice.Zip.firsts-zip}
-use Rattle.std.proofs.lemmas.{Slice.Zip.{get_or-zip, length-zip}, List.{Elements.{recursion_from_All, All-map, All-weaker}, Folds.list_any_at}}
-use Rattle.std.{proofs.lemmas.{List.Sorted.list_any-IsPermutation, Grind.common_steps}, specs.{Prelude.All, List.{AllByRecursion, IsDistinct, list_any}}}
-use Rattle.std.specs.{List.Sorted.IsStrictlySortedBy, Ordering.nat_cmp, Cmp.Lexicographic.slice_cmp}
+use Rattle.std.proofs.Common.{◌≡◌, ℕ, suc, ◌+◌, ◌<◌, true, List, [], ◌∷◌, ◌++◌, map, length, get_or, take, Some, Ok, refl, sym, ap, ◌∙◌, subst, arith, inl, inr}
+use Rattle.std.proofs.{Common.◌≤◌, lemmas.{Bool.cases_lt, List.{get_or-map, get_or_past, length-map, take_more}, Map.Keys.apart_from_distinct}}
+use Rattle.std.proofs.lemmas.{Map.Keys.IsDistinct-IsPermutation, Option.slice_get-get_or, Simd.map-map, List.Elements.{recursion_from_All, All-map, All-weaker}}
+use Rattle.std.{proofs.lemmas.{List.{Folds.list_any_at, Sorted.list_any-IsPermutation}, Grind.common_steps}, specs.{Prelude.All, List.AllByRecursion}}
+use Rattle.std.specs.{List.{IsDistinct, list_any, Sorted.IsStrictlySortedBy}, Ordering.nat_cmp, Cmp.Lexicographic.slice_cmp}
 use Rattle.domain_base.specs.Classes.{in_class}
 use Rattle.domain_names.specs.{Name.same_name, Words.Name}
 use Rattle.domain_octets.specs.Words.{Octets}
 use Rattle.domain_bitmap.specs.Bitmap.{bitmap_octets}
-use Rattle.domain_zone.specs.{Covering.pairs, Soa.{chain_ttl, soa_of}, Zone.ZoneRecord, declared.soa.ApexSoa.ApexSoa}
-use Rattle.domain_zone.proofs.{NameLemmas.same_itself, OwnerLemmas.any_in, PairLemmas.{all_in}, SharedLemmas.either_way, ZoneLemmas.{any_map, same_back}}
+use Rattle.domain_zone.{specs.{Covering.pairs, Soa.{chain_ttl, soa_of}, Zone.ZoneRecord, declared.soa.ApexSoa.ApexSoa}, proofs.NameLemmas.same_itself}
+use Rattle.domain_zone.proofs.{FindLemmas.{pair_at, pairs_length, pairs_owners}, OwnerLemmas.any_in, PairLemmas.all_in, SharedLemmas.either_way}
+use Rattle.domain_zone.proofs.ZoneLemmas.{any_map, same_back}
 use Rattle.domain_nsec3.specs.{Chain.{HashedLink, HashedName, IsHashedChain, IsOfChain, cycle, ends, ends_of, hashed_owner}, Config.ChainConfig}
-use Rattle.domain_nsec3.specs.{Faults.{AreAllHashed, HasCollision, hash_fault}, Meaning.IsRecordOf, Owners.{is_chain_name, nsec3_lists}}
-use Rattle.domain_nsec3.specs.Steps.{AreHashesOf, AreOrderedHashes, Common, HasAlikeNeighbours, IsHashOf, link_to, links_in, name_at, no_types}
-use Rattle.domain_nsec3.specs.declared.{chain.HashedChain.HashedChain, hash.Hashed.Hashed}
-use Rattle.domain_nsec3.proofs.{TextLemmas.{sound_some, sound_short}, FaultLemmas.hash_same}
+use Rattle.domain_nsec3.specs.{Faults.{AreAllHashed, HasCollision, hash_fault}, Meaning.IsRecordOf, Owners.{is_chain_name, nsec3_lists}, Steps.AreHashesOf}
+use Rattle.domain_nsec3.specs.Steps.{AreOrderedHashes, AreUsable, Common, HasAlikeNeighbours, IsHashOf, link_to, links_in, name_at}
+use Rattle.domain_nsec3.{specs.declared.{chain.HashedChain.HashedChain, hash.Hashed.Hashed}, proofs.TextLemmas.{sound_some, sound_short}}
+use Rattle.domain_nsec3.proofs.FaultLemmas.{hash_same}
 
 -- ---- each with the one after it
 
 module _ {X : Type 0} where
   pub cycle_length : (xs : List X) → length (cycle xs) ≡ length xs
   cycle_length [] = refl
-  cycle_length (x ∷ xs) = omega (arith, length-zip (x ∷ xs) (xs ++ x ∷ []), length_push xs x)
+  cycle_length (x ∷ xs) = pairs_length (x ∷ xs) x
 
   pub cycle_owners : (xs : List X) → map (λ (p : X × X). p.0) (cycle xs) ≡ xs
   cycle_owners [] = refl
-  cycle_owners (x ∷ xs) = firsts-zip (x ∷ xs) (xs ++ x ∷ []) (omega (arith, length_push xs x))
+  cycle_owners (x ∷ xs) = pairs_owners (x ∷ xs) x
 
-  cycle_at : (x : X) (xs : List X) (i : ℕ) (d : X × X) → i < length (x ∷ xs)
-      → get_or (cycle (x ∷ xs)) i d ≡ (get_or (x ∷ xs) i d.0, get_or (xs ++ x ∷ []) i d.1)
-  cycle_at x xs i d within = get_or-zip (x ∷ xs) (xs ++ x ∷ []) i d within (omega (arith, within, length_push xs x))
-
-  pub first_at : (xs : List X) (i : ℕ) (d : X × X) → i < length xs → (get_or (cycle xs) i d).0 ≡ get_or xs i d.0
-  first_at [] i d within = absurd (omega arith)
-  first_at (x ∷ xs) i d within = ap (λ p. p.0) (cycle_at x xs i d within)
-
-  -- the one after it, or the first after the last
-  pub next_at : {Y : Type 0} (f : X → Y) (next : Y) (xs : List X) (i : ℕ) (d : X × X) → i < length xs
-      → (i + 1 < length xs → (e : X) → next ≡ f (get_or xs (i + 1) e)) → (length xs ≤ i + 1 → (e : X) → next ≡ f (get_or xs 0 e))
-      → next ≡ f (get_or (cycle xs) i d).1
-  next_at f next [] i d within later first = absurd (omega arith)
-  next_at f next (x ∷ xs) i d within later first =
-      let at = ap (λ p. f p.1) (sym (cycle_at x xs i d within)) in
-      elim (cases_lt (i + 1) (length (x ∷ xs))) [
-        | inl l ↦ later l d.1 ∙ ap f (after l) ∙ at
-        | inr l ↦ first l d.1 ∙ ap f (sym (get_or_push xs x d.1 i (omega (arith, l, within)))) ∙ at
-      ]
-    where
-      after : i + 1 < length (x ∷ xs) → get_or (x ∷ xs) (i + 1) d.1 ≡ get_or (xs ++ x ∷ []) i d.1
-      after l = rw add-one (sym (get_or_append_left xs (x ∷ []) d.1 i (omega (arith, l))))
+  -- what stands at a place, and after it, or the first after the last
+  pub cycle_at : (xs : List X) (i : ℕ) (d : X × X) → i < length xs → get_or (cycle xs) i d ≡ (get_or xs i d.0, get_or xs (suc i) (get_or xs 0 d.1))
+  cycle_at [] i d within = absurd (omega arith)
+  cycle_at (x ∷ xs) i d within = pair_at (x ∷ xs) x i d within
 
 cycle_map : {X Y : Type 0} (f : X → Y) (xs : List X) → cycle (map f xs) ≡ map (λ (q : X × X). (f q.0, f q.1)) (cycle xs)
 cycle_map f [] = refl
@@ -65,15 +47,21 @@ map_same f g (x ∷ xs) h = λ i. h.0 i ∷ map_same f g xs h.1 i
 
 -- ---- the links of a chain
 
+-- the hash that a record points to is as short as all are
+pub next_short : (a : Name) (chain : HashedChain) (next : Octets) (i : ℕ) (h : Hashed) → i < length chain.hashed.items → AreUsable a chain
+    → next ≡ (get_or chain.hashed.items (i + 1) (get_or chain.hashed.items 0 h)).hash → length next ≤ 39
+next_short a chain next i h within usable is = elim (cases_lt (i + 1) (length chain.hashed.items)) [
+  | inl more ↦ grind (arith, common_steps, (usable (i + 1) (get_or chain.hashed.items 0 h) more))
+  | inr none ↦ grind (arith, common_steps, get_or_past, (usable 0 h (omega arith)))
+]
+
 module _ (a : Name) (chain : HashedChain) (p : Common) where
   -- what stands at a place, with the hash after it
   pub link_is : (item : Hashed) (next : Octets) (i : ℕ) (d : HashedLink) → i < length chain.hashed.items → item ≡ get_or chain.hashed.items i item
-      → (i + 1 < length chain.hashed.items → (h : Hashed) → next ≡ (get_or chain.hashed.items (i + 1) h).hash)
-      → (length chain.hashed.items ≤ i + 1 → (h : Hashed) → next ≡ (get_or chain.hashed.items 0 h).hash)
+      → next ≡ (get_or chain.hashed.items (i + 1) (get_or chain.hashed.items 0 item)).hash
       → link_to a p chain.types item next ≡ get_or (links_in a chain p) i d
-  link_is item next i d within is later first =
-      let here = first_at chain.hashed.items i (item, item) within in
-      let after = next_at (λ (h : Hashed). h.hash) next chain.hashed.items i (item, item) within later first in
+  link_is item next i d within is after =
+      let at = cycle_at chain.hashed.items i (item, item) within in
       grind (arith, common_steps, cycle_length)
 
   pub links_counted : length (links_in a chain p) ≡ length chain.hashed.items
@@ -81,9 +69,9 @@ module _ (a : Name) (chain : HashedChain) (p : Common) where
       length-map (cycle chain.hashed.items) (λ (q : Hashed × Hashed). link_to a p chain.types q.0 q.1.hash) ∙ cycle_length chain.hashed.items
 
   -- the record at a place has the hash at that place
-  pub hash_there : (i : ℕ) (h : Hashed) → i < length chain.hashed.items → h ≡ get_or chain.hashed.items i h → All (λ octet. octet < 256) h.hash
-      → (k : HashedLink) × IsRecordOf a (links_in a chain p) i k h.hash
-  hash_there i h within is octets =
+  pub hash_there : (i : ℕ) (h : Hashed) (v : Octets) → i < length chain.hashed.items → h ≡ get_or chain.hashed.items i h → v ≡ h.hash
+      → All (λ octet. octet < 256) v → (k : HashedLink) × IsRecordOf a (links_in a chain p) i k v
+  hash_there i h v within is v_is octets =
       let d = link_to a p chain.types h h.hash in (
         get_or (links_in a chain p) i (link_to a p chain.types h h.hash),
         record {
@@ -91,7 +79,8 @@ module _ (a : Name) (chain : HashedChain) (p : Common) where
           spelled =
               ap (λ k. k.owner) (get_or-map (λ (q : Hashed × Hashed). link_to a p chain.types q.0 q.1.hash) (cycle chain.hashed.items) i (h, h) d
               (omega (arith, within, cycle_length chain.hashed.items)))
-              ∙ ap (λ (g : Hashed). hashed_owner a g.hash) (first_at chain.hashed.items i (h, h) within ∙ sym is);
+              ∙ ap (λ (g : Hashed). hashed_owner a g.hash) (ap (λ q. q.0) (cycle_at chain.hashed.items i (h, h) within) ∙ sym is)
+              ∙ ap (hashed_owner a) (sym v_is);
           octets = octets;
         },
       )
@@ -152,7 +141,7 @@ module _ (L : List ZoneRecord) (a : Name) (config : ChainConfig) (names : List N
 
   -- each linked with the next one, with the types of its name
   pub chain_of_zone : (chain : HashedChain) (p : Common) (numbers : ApexSoa)
-      → ((i : ℕ) → i < length names → get_or chain.types i no_types ≡ bitmap_octets (nsec3_lists L a config (get_or names i [])))
+      → ((i : ℕ) → i < length names → get_or chain.types i [] ≡ bitmap_octets (nsec3_lists L a config (get_or names i [])))
       → soa_of L a ≡ Some numbers → p.ttl ≡ chain_ttl numbers → p.parameters ≡ config.parameters → p.flags ≡ config.flags
       → AreOrderedHashes a config.hash names chain.hashed.items → IsHashedChain L a config (links_in a chain p)
   chain_of_zone chain p numbers listed soa ttl parameters flags o = record {
@@ -169,9 +158,9 @@ module _ (L : List ZoneRecord) (a : Name) (config : ChainConfig) (names : List N
     linked = map-map ends link (cycle hs) ∙ sym (map-map (ends_of a) (λ (q : Hashed × Hashed). (q.0.hash, q.1.hash)) (cycle hs))
         ∙ ap (map (ends_of a)) (sym (cycle_map (λ (h : Hashed). h.hash) hs) ∙ ap cycle (sym (map-map (λ n. n.hash) named hs)));
     bits = map-map (λ k. k.bits) link (cycle hs)
-        ∙ sym (map-map (λ (h : Hashed). get_or chain.types h.place no_types) (λ (q : Hashed × Hashed). q.0) (cycle hs))
-        ∙ ap (map (λ (h : Hashed). get_or chain.types h.place no_types)) (cycle_owners hs)
-        ∙ map_same (λ (h : Hashed). get_or chain.types h.place no_types) (λ h. bitmap_octets (nsec3_lists L a config (name_at names h))) hs
+        ∙ sym (map-map (λ (h : Hashed). get_or chain.types h.place []) (λ (q : Hashed × Hashed). q.0) (cycle hs))
+        ∙ ap (map (λ (h : Hashed). get_or chain.types h.place [])) (cycle_owners hs)
+        ∙ map_same (λ (h : Hashed). get_or chain.types h.place []) (λ h. bitmap_octets (nsec3_lists L a config (name_at names h))) hs
         (recursion_from_All _ hs (All-weaker (IsHashOf a config.hash names) _ (λ h e. listed h.place e.inside) hs o.hashes.each))
         ∙ sym (map-map (λ n. bitmap_octets (nsec3_lists L a config n.name)) named hs);
     numbered = All-map (λ k. (k.class ≡ in_class) × (k.ttl ≡ chain_ttl numbers)) link (cycle hs) (λ k d l. (refl, ttl));

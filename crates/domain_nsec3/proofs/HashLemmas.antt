@@ -1,29 +1,26 @@
 -- Lists of hashed names: how they are ordered and built.
-use Rattle.std.proofs.Common.{◌≡◌, ℕ, ◌+◌, ◌-◌, ◌<◌, ◌≤◌, false, List, [], ◌∷◌, ◌++◌, map, length, get_or, take, None, refl, sym, ap, ◌∙◌, subst, arith, inl}
-use Rattle.std.proofs.{Common.{inr, ◌⊎◌, IsPermutation}, lemmas.{Bool.true≢false, List.{get_or-map, get_or_read, length-map, map_push, take_more}}}
-use Rattle.std.proofs.lemmas.{Map.Keys.sorted_from_all_adjacent, List.{Elements.{All-map, All-push, All-weaker}, Sorted.{All-permutation, IsPermutation-map}}}
+use Rattle.std.proofs.Common.{◌≡◌, ℕ, ◌+◌, ◌-◌, ◌<◌, ◌≤◌, false, List, [], ◌∷◌, ◌++◌, map, length, get_or, take, drop, None, sym, ap, ◌∙◌, subst, arith, inl}
+use Rattle.std.proofs.{Common.{inr, ◌⊎◌, IsPermutation}, lemmas.List.{drop_more, get_or-map, get_or_read, length-map, map_push, take_more, take-append-drop}}
+use Rattle.std.proofs.lemmas.{List.{Elements.{All-map, All-push, All-weaker}, Sorted.{All-permutation, IsPermutation-map}}, Map.Keys.sorted_from_all_adjacent}
 use Rattle.std.{proofs.lemmas.{List.Sorted.{IsPermutation-refl, IsPermutation-trans}, Grind.common_steps}, specs.{Prelude.All, List.Sorted.IsSortedByKey}}
 use Rattle.std.specs.{List.Sorted.IsStrictlySortedBy, Cmp.Lexicographic.{slice_cmp, nat_list_cmp_total}, FinMap.slice_cmp-IsAntisymmetric}
-use Rattle.std.specs.{FinMap.nat_cmp-IsAntisymmetric, Ordering.{nat_cmp, is_lt, ordering_reverse}, declared.cmp.Ordering.{Ordering, TheVariants.{Less, Equal}}}
-use Rattle.std.specs.declared.cmp.Ordering.TheVariants.{Greater}
+use Rattle.std.specs.{FinMap.nat_cmp-IsAntisymmetric, Ordering.{nat_cmp, is_lt}, declared.cmp.Ordering.TheVariants.Less}
 use Rattle.domain_hasher.specs.declared.error.Nsec3HashError.{Nsec3HashError, TheVariants.OutOfMemory}
 use Rattle.domain_names.specs.Words.{Name}
 use Rattle.domain_octets.specs.Words.{Octets}
-use Rattle.domain_nsec3.specs.{Config.{Hash, hash_name}, Faults.hash_fault, declared.hash.Hashed.Hashed}
-use Rattle.domain_nsec3.specs.Steps.{IsHashed, IsHashOf, AreHashesOf, HasAlikeNeighbours, IsRefusal, IsFirstRefused, name_at}
+use Rattle.domain_nsec3.specs.{Config.{Hash, hash_name}, Faults.hash_fault, declared.hash.Hashed.Hashed, Steps.{IsHashed, IsHashOf, AreHashesOf}}
+use Rattle.domain_nsec3.specs.Steps.{HasAlikeNeighbours, IsRefusal, IsFirstRefused, name_at}
 
 -- octets that differ and do not descend ascend
 pub less_apart : (u v : Octets) → is_lt (slice_cmp nat_cmp v u) ≡ false → (u ≡ v → ⊥) → slice_cmp nat_cmp u v ≡ Less
-less_apart u v up apart = by (slice_cmp nat_cmp u v) refl (nat_list_cmp_total.antisymm v u)
-  where
-    by : (r : Ordering) → slice_cmp nat_cmp u v ≡ r → slice_cmp nat_cmp v u ≡ ordering_reverse r → r ≡ Less
-    by Less e f = refl
-    by Equal e f = absurd (apart (slice_cmp-IsAntisymmetric nat_cmp-IsAntisymmetric u v e))
-    by Greater e f = absurd (true≢false (sym (ap is_lt f) ∙ up))
+less_apart u v up apart = grind (arith, common_steps, slice_cmp-IsAntisymmetric, nat_cmp-IsAntisymmetric, (nat_list_cmp_total.antisymm v u))
+
+abbrev pub octets_of : List Hashed → List Octets
+octets_of = map (λ h. h.hash)
 
 -- the hashes up to a place ascend
 abbrev pub Ascend : List Hashed → ℕ → Type 0
-Ascend hashed n = (k : ℕ) (d : Hashed) → k + 1 < n → slice_cmp nat_cmp (get_or hashed k d).hash (get_or hashed (k + 1) d).hash ≡ Less
+Ascend hashed n = (k : ℕ) → k + 1 < n → slice_cmp nat_cmp (get_or (octets_of hashed) k []) (get_or (octets_of hashed) (k + 1) []) ≡ Less
 
 module _ (hashed : List Hashed) (i : ℕ) (x y : Hashed) (some : 0 < i) (within : i < length hashed) (x_is : x ≡ get_or hashed (i - 1) x)
     (y_is : y ≡ get_or hashed i y) where
@@ -41,23 +38,14 @@ module _ (hashed : List Hashed) (i : ℕ) (x y : Hashed) (some : 0 < i) (within 
       }
 
   pub ascend_more : IsSortedByKey (λ h. h.hash) (slice_cmp nat_cmp) hashed → (x.hash ≡ y.hash → ⊥) → Ascend hashed i → Ascend hashed (i + 1)
-  ascend_more sorted other up k d l =
-      let x_at = get_or_read hashed (i - 1) x (omega arith) x_is d in
-      let y_at = get_or_read hashed i y within y_is d in
-      grind (arith, common_steps, less_apart, (up k d), (sorted k d))
+  ascend_more sorted other up k l =
+      let x_at = get_or-map (λ (h : Hashed). h.hash) hashed (i - 1) x [] (omega arith) in
+      let y_at = get_or-map (λ (h : Hashed). h.hash) hashed i y [] within in
+      grind (arith, common_steps, less_apart, (up k), (sorted (i - 1) x))
 
-pub keys_ascend : (hashed : List Hashed) (n : ℕ) → length hashed ≤ n → Ascend hashed n
-    → IsStrictlySortedBy (slice_cmp nat_cmp) (map (λ h. h.hash) hashed)
+pub keys_ascend : (hashed : List Hashed) (n : ℕ) → length hashed ≤ n → Ascend hashed n → IsStrictlySortedBy (slice_cmp nat_cmp) (octets_of hashed)
 keys_ascend hashed n past up =
-    sorted_from_all_adjacent nat_list_cmp_total (map (λ (h : Hashed). h.hash) hashed) [] (by hashed (λ k d l. up k d (omega (arith, l, past))))
-  where
-    by : (hs : List Hashed) → Ascend hs (length hs) → (k : ℕ) → k + 1 < length (map (λ h. h.hash) hs)
-        → slice_cmp nat_cmp (get_or (map (λ h. h.hash) hs) k []) (get_or (map (λ h. h.hash) hs) (k + 1) []) ≡ Less
-    by [] up k l = absurd (omega arith)
-    by (h ∷ hs) up k l =
-        let m : k + 1 < length (h ∷ hs) = omega (arith, l, length-map (h ∷ hs) (λ (g : Hashed). g.hash)) in
-        (λ i. slice_cmp nat_cmp (get_or-map (λ (g : Hashed). g.hash) (h ∷ hs) k h [] (omega (arith, m)) i)
-        (get_or-map (λ (g : Hashed). g.hash) (h ∷ hs) (k + 1) h [] m i)) ∙ up k h m
+    sorted_from_all_adjacent nat_list_cmp_total (octets_of hashed) [] (λ k l. up k (omega (arith, l, past, length-map hashed (λ (h : Hashed). h.hash))))
 
 module _ (a : Name) (hash : Hash) (names : List Name) where
   -- the names up to a place are hashed, each with its place
@@ -87,10 +75,12 @@ module _ (a : Name) (hash : Hash) (names : List Name) where
       → AreHashed n hashed → IsRefusal a (hash_name hash x) e → (e ≡ OutOfMemory) ⊎ IsFirstRefused a hash names e
   first_refused n hashed x e within there h (inl m) = inl m
   first_refused n hashed x e within there h (inr f) = inr (record {
-    place = n;
-    inside = within;
+    before = take n names;
+    name = x;
+    after = drop (n + 1) names;
+    are = sym (take-append-drop n names) ∙ ap (λ ns. take n names ++ ns) (drop_more names n x within ∙ ap (λ y. y ∷ drop (n + 1) names) (sym there));
     sound = subst (All (λ y. hash_fault a (hash_name hash y) ≡ None)) h.named (All-map (λ y. hash_fault a (hash_name hash y) ≡ None) (name_at names) hashed
         (All-weaker (IsHashOf a hash names) (λ g. hash_fault a (hash_name hash (name_at names g)) ≡ None)
         (λ g k. ap (hash_fault a) k.is.known ∙ k.is.sound) hashed h.each));
-    fault = ap (λ y. hash_fault a (hash_name hash y)) (sym (get_or_read names n x within there [])) ∙ f;
+    fault = f;
   })

@@ -1,4 +1,3 @@
-pub mod SharedLemmas
 pub mod AncestorLemmas
 pub mod ListLemmas
 pub mod OwnerLemmas

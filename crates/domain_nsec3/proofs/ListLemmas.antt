@@ -1,15 +1,14 @@
 -- Names above owners that stand in order: they ascend, and none of them is an owner.
-use Rattle.std.proofs.Common.{◌≡◌, ℕ, ◌<◌, ◌≤◌, Bool, true, false, ◌||◌, List, [], ◌∷◌, ◌++◌, length, refl, sym, ap, ◌∙◌, arith, inl, inr}
-use Rattle.std.proofs.lemmas.{Bool.{cases_Bool, false≢true, leb-true, and_parts, not-true, or_left, or_right, Decides.nat_tests}, Grind.common_steps}
-use Rattle.std.specs.{List.{AllByRecursion, list_any, Sorted.IsStrictlySortedBy}, Ordering.is_lt, declared.cmp.Ordering.TheVariants.Less}
-use Rattle.domain_names.specs.{Order.{canonical_cmp, before, common_labels}, Name.{is_at_or_below, is_strictly_below, lowered, same_name}, Words.Name}
+use Rattle.std.proofs.Common.{◌≡◌, ℕ, ◌≤◌, Bool, true, false, ◌||◌, List, [], ◌∷◌, ◌++◌, length, refl, sym, ◌∙◌, arith}
+use Rattle.std.proofs.lemmas.{Bool.{false≢true, leb-true, and_parts, not-true, or_left, or_right, Decides.nat_tests}, Grind.common_steps}
+use Rattle.std.specs.{List.{AllByRecursion, list_any, Sorted.IsStrictlySortedBy}, declared.cmp.Ordering.TheVariants.Less}
+use Rattle.domain_names.specs.{Order.{canonical_cmp, before, common_labels}, Name.{is_at_or_below, is_strictly_below, same_name}, Words.Name}
 use Rattle.domain_records.proofs.Lookups.{is_less}
 use Rattle.domain_zone.{specs.Enclosers.is_empty_nonterminal, proofs.NameLemmas.{before_order, below_between, below_from, below_itself, below_longer}}
-use Rattle.domain_zone.proofs.{NameLemmas.{one_lowered, same_both, same_itself, same_lowered, strictly_from}, OwnerLemmas.{any_in, any_weaker}}
-use Rattle.domain_zone.proofs.{PairLemmas.{IsAscending, all_in, lt_trans}, SharedLemmas.either_way, ZoneLemmas.{weaker, all_both, apart_left, apart_right}}
-use Rattle.domain_zone.proofs.ZoneLemmas.{after_or}
-use Rattle.domain_nsec3.specs.Ancestors.{above_with_more, IsListOf}
-use Rattle.domain_nsec3.proofs.{AncestorLemmas.{IsAbove, are_above, has_each}, SharedLemmas.{at_length, common_shares}}
+use Rattle.domain_zone.proofs.{NameLemmas.{one_lowered, same_both, same_itself, strictly_from}, OwnerLemmas.{any_in, any_weaker}}
+use Rattle.domain_zone.proofs.{PairLemmas.{IsAscending, all_from_in, all_in, ascending, lt_trans}, SharedLemmas.{common_shares, either_way}, ZoneLemmas.weaker}
+use Rattle.domain_zone.proofs.ZoneLemmas.{all_both, apart_left, apart_right, after_or}
+use Rattle.domain_nsec3.{specs.Ancestors.{above_with_more, IsListOf}, proofs.AncestorLemmas.{IsAbove, are_above, at_length, has_each}}
 
 -- ---- ascending lists of names
 
@@ -18,23 +17,10 @@ unfolding IsStrictlySortedBy
 sorted [] h = tt
 sorted (k ∷ ks) h = (weaker (λ y. before k y ≡ true) (λ y. canonical_cmp k y ≡ Less) (λ y e. is_less (canonical_cmp k y) e) ks h.0, sorted ks h.1)
 
-pub ascending : (ks : List Name) → IsStrictlySortedBy canonical_cmp ks → IsAscending before ks
-unfolding IsStrictlySortedBy
-ascending [] h = tt
-ascending (k ∷ ks) h = (weaker (λ y. canonical_cmp k y ≡ Less) (λ y. before k y ≡ true) (λ y e. ap is_lt e) ks h.0, ascending ks h.1)
-
 pub ascends_both : (lt : Name → Name → Bool) (xs ys : List Name) → IsAscending lt xs → IsAscending lt ys
     → AllByRecursion (λ x. AllByRecursion (λ y. lt x y ≡ true) ys) xs → IsAscending lt (xs ++ ys)
 ascends_both lt [] ys h k across = k
 ascends_both lt (x ∷ xs) ys h k across = (all_both (λ y. lt x y ≡ true) xs ys h.0 across.0, ascends_both lt xs ys h.1 k across.1)
-
-pub ascending_both : (xs ys : List Name) → IsAscending before xs → IsAscending before ys
-    → AllByRecursion (λ x. AllByRecursion (λ y. before x y ≡ true) ys) xs → IsAscending before (xs ++ ys)
-ascending_both = ascends_both before
-
-pub both : (P Q : Name → Type 0) (xs : List Name) → AllByRecursion P xs → AllByRecursion Q xs → AllByRecursion (λ x. P x × Q x) xs
-both P Q [] p q = tt
-both P Q (x ∷ xs) p q = ((p.0, q.0), both P Q xs p.1 q.1)
 
 -- ---- the names above one owner
 
@@ -46,21 +32,12 @@ above_before n o =
 
 above_ascend : (n : ℕ) (o : Name) → IsAscending before (above_with_more n o)
 above_ascend n [] = tt
-above_ascend n (label ∷ x) = grind (arith, common_steps, ascending_both, weaker, above_before, (above_ascend n x))
+above_ascend n (label ∷ x) = grind (arith, common_steps, ascends_both, weaker, above_before, (above_ascend n x))
 
 -- those that an owner doesn't share with a name before it come after that name
 above_after : (p o : Name) → before p o ≡ true → AllByRecursion (λ m. before p m ≡ true) (above_with_more (common_labels o p) o)
 above_after p o b =
-    weaker (IsAbove _ o) _
-    (λ m h. elim (cases_Bool _) [
-      | inl e ↦ e
-      | inr e ↦
-          let below : is_at_or_below p m ≡ true = below_between o m p h.0 e (before_order.one_way p o b) in
-          let few : length m ≤ common_labels o p = leb-true _ _ (sym (common_shares o p _ refl m h.0) ∙ below) in
-          let many : common_labels o p < length m = h.2 in
-          absurd (omega arith)
-    ])
-    _ (are_above _ o)
+    weaker (IsAbove _ o) _ (λ m h. grind (arith, common_steps, nat_tests, before_order, (common_shares o p m h.0), (below_between o m p h.0))) _ (are_above _ o)
 
 -- ---- those above each owner that it doesn't share with the one before it
 
@@ -80,7 +57,7 @@ gathered_after p (o ∷ os) h = grind (arith, common_steps, above_after, weaker,
 gathered_ascend : (p : Name) (os : List Name) → IsAscending before os → IsAscending before (gathered p os)
 gathered_ascend p [] h = tt
 gathered_ascend p (o ∷ os) h =
-    grind (arith, common_steps, ascending_both, above_ascend, weaker, before_order, gathered_after, above_before, (gathered_ascend o os h.1))
+    grind (arith, common_steps, ascends_both, above_ascend, weaker, before_order, gathered_after, above_before, (gathered_ascend o os h.1))
 
 none_same : (o n : Name) (os : List Name) → before n o ≡ true → AllByRecursion (λ m. before o m ≡ true) os → list_any (λ m. same_name m n) os ≡ false
 none_same o n [] e h = refl
@@ -90,21 +67,21 @@ gathered_apart : (p : Name) (os : List Name) → IsAscending before os → AllBy
 gathered_apart p [] h = tt
 gathered_apart p (o ∷ os) h =
     all_both _ _ _ (weaker _ _ (λ m e. (λ i. apart_right m o e i || none_same o m os e h.0 i)) _ (above_before _ o))
-    (weaker _ _ (λ m e. (λ i. apart_left o m e.0 i || e.1 i)) _ (both _ _ _ (gathered_after o os h) (gathered_apart o os h.1)))
+    (all_from_in _ _ (λ m i. (λ j. apart_left o m (all_in _ _ m (gathered_after o os h) i) j || all_in _ _ m (gathered_apart o os h.1) i j)))
 
 -- each name above an owner is one of them or is gathered, unless it is above the name before the owners
 gathered_each : (p : Name) (os : List Name) (x : Name) → is_at_or_below p x ≡ false → list_any (λ n. is_at_or_below n x) os ≡ true
     → (list_any (λ n. same_name n x) os || list_any (λ n. same_name n x) (gathered p os)) ≡ true
 gathered_each p [] x out h = absurd (false≢true h)
 gathered_each p (o ∷ os) x out h =
-    grind (arith, common_steps, nat_tests, has_each, at_length, same_itself, (common_shares o p (common_labels o p) refl x), (gathered_each o os x))
+    grind (arith, common_steps, nat_tests, has_each, at_length, same_itself, (common_shares o p x), (gathered_each o os x))
 
 -- what is gathered is strictly below an apex of all, and above an owner
 gathered_are : (a p : Name) (os : List Name) → is_at_or_below p a ≡ true → AllByRecursion (λ n. is_at_or_below n a ≡ true) os
     → AllByRecursion (λ m. (is_strictly_below m a ≡ true) × (list_any (λ n. is_strictly_below n m) os ≡ true)) (gathered p os)
 gathered_are a p [] low all = tt
 gathered_are a p (o ∷ os) low all =
-    let short : length a ≤ common_labels o p = leb-true _ _ (sym (common_shares o p (common_labels o p) refl a all.0) ∙ low) in
+    let short : length a ≤ common_labels o p = leb-true _ _ (sym (common_shares o p a all.0) ∙ low) in
     all_both _ (above_with_more (common_labels o p) o) (gathered o os)
     (weaker (IsAbove (common_labels o p) o) _ (λ m h. (
       strictly_from m a (below_longer o m a h.0 all.0 (omega (arith, short, h.2))) (omega (arith, short, h.2)),
@@ -116,7 +93,7 @@ gathered_are a p (o ∷ os) low all =
 pub listed : (a : Name) (owners : List Name) → IsStrictlySortedBy canonical_cmp owners → AllByRecursion (λ n. is_at_or_below n a ≡ true) owners
     → list_any (λ n. same_name n a) owners ≡ true → IsListOf (is_empty_nonterminal owners a) (gathered a owners)
 listed a owners up low apex = record {
-  ascend = sorted (gathered a owners) (gathered_ascend a owners (ascending owners up));
+  ascend = sorted (gathered a owners) (gathered_ascend a owners (ascending canonical_cmp owners up));
   exactly = λ x. either_way _ (is_empty_nonterminal owners a x) (there x) (back x);
 }
   where
@@ -124,18 +101,15 @@ listed a owners up low apex = record {
     there x e =
         let m = any_in (λ n. same_name n x) (gathered a owners) e in
         let g = all_in _ (gathered a owners) m.0 (gathered_are a a owners (below_itself a) low) m.1 in
-        let none = all_in _ (gathered a owners) m.0 (gathered_apart a owners (ascending owners up)) m.1 in
+        let none = all_in _ (gathered a owners) m.0 (gathered_apart a owners (ascending canonical_cmp owners up)) m.1 in
         rw (← one_lowered m.0 x m.2, (and_parts (is_at_or_below m.0 a) _ g.0).0, none, g.1) refl
 
     back : (x : Name) → is_empty_nonterminal owners a x ≡ true → list_any (λ n. same_name n x) (gathered a owners) ≡ true
-    back x e =
-        let p = and_parts _ _ e in
-        let q = and_parts (is_at_or_below x a) _ p.0 in
-        let none = not-true (list_any (λ n. same_name n x) owners) q.1 in
-        let out : is_at_or_below a x ≡ false = elim (cases_Bool (is_at_or_below a x)) [
-          | inl t ↦ absurd (false≢true (sym none ∙ ap (λ k. list_any (λ n. same_lowered (lowered n) k) owners)
-              (one_lowered x a (same_both x a q.0 t)) ∙ apex))
-          | inr t ↦ t
-        ] in
-        ap (λ b. b || list_any (λ n. same_name n x) (gathered a owners)) (sym none) ∙ gathered_each a owners x out
-        (any_weaker (λ n. is_strictly_below n x) (λ n. is_at_or_below n x) (λ n t. (and_parts (is_at_or_below n x) _ t).0) owners p.1)
+    back x e = grind (
+      arith,
+      common_steps,
+      one_lowered,
+      (same_both x a),
+      (gathered_each a owners x),
+      (any_weaker (λ n. is_strictly_below n x) (λ n. is_at_or_below n x) (λ n t. (and_parts (is_at_or_below n x) _ t).0) owners),
+    )

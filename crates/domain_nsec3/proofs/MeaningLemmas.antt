@@ -1,22 +1,21 @@
 -- What the records of an NSEC3 chain say of every name, from the chain alone.
-use Rattle.std.proofs.Common.{length, ◌≤◌, arith, ◌≡◌, ℕ, zero, suc, true, false, not, ◌&&◌, ◌||◌, List, [], ◌∷◌, map, Some, Ok, refl, sym, ap, ◌∙◌, subst, inl}
-use Rattle.std.proofs.{Common.inr, lemmas.{Option.same_Some, Bool.{cases_Bool, false≢true, and_parts, or_left}, List.Elements.recursion_from_All}}
-use Rattle.std.{proofs.lemmas.{List.Sorted.ranks_by, Grind.common_steps}, specs.{Prelude.slice_get, List.{list_any, Sorted.IsStrictlySortedBy}}}
-use Rattle.std.specs.{Cmp.{IsStrictWeakOrder, Lexicographic.{slice_cmp, nat_list_cmp_total}}, FinMap.{slice_cmp-IsAntisymmetric, nat_cmp-IsAntisymmetric}}
-use Rattle.std.specs.{Ordering.{nat_cmp, is_lt}, declared.cmp.Ordering.TheVariants.Less}
+use Rattle.std.proofs.Common.{arith, ◌≡◌, ℕ, true, false, not, ◌||◌, List, [], ◌∷◌, map, Some, Ok, refl, sym, ap, ◌∙◌, inl, inr}
+use Rattle.std.proofs.lemmas.{Option.same_Some, Bool.{cases_Bool, false≢true, and_parts, or_left}, List.{Elements.recursion_from_All, Sorted.ranks_by}}
+use Rattle.std.{proofs.lemmas.Grind.common_steps, specs.{Prelude.slice_get, List.{list_any, Sorted.IsStrictlySortedBy}, Cmp.IsStrictWeakOrder}}
+use Rattle.std.specs.{Cmp.Lexicographic.{slice_cmp, nat_list_cmp_total}, FinMap.{slice_cmp-IsAntisymmetric, nat_cmp-IsAntisymmetric}, Ordering.nat_cmp}
 use Rattle.domain_codecs.{specs.Base32.base32_lower, proofs.OrderLemmas.lower_apart}
 use Rattle.domain_bitmap.{specs.Bitmap.bitmap_octets, proofs.BitmapLemmas.bitmap_octets-same}
 use Rattle.domain_zone.specs.{Covering.{matches, covers, matches_or_covers}, Enclosers.{IsClosestEncloser, exists_over}, Zone.{ZoneRecord, owns}}
-use Rattle.domain_zone.proofs.{NameLemmas.{one_lowered, below_itself, below_trans, below_length, below_longer, below_parent, lowered_below}, OwnerLemmas.any_in}
-use Rattle.domain_zone.proofs.{PairLemmas.{In, all_in, IsAscending, irreflexive, one_matches_or_covers}, PlaceLemmas.{IsOnly, one_place}}
-use Rattle.domain_zone.proofs.{SharedLemmas.either_way, SoaLemmas.soa_owned, FindLemmas.{from_map, in_at, in_map, stands_in}, ZoneLemmas.weaker}
-use Rattle.domain_names.specs.{Name.{is_at_or_below, lowered, same_name}, Words.Name}
+use Rattle.domain_zone.proofs.{NameLemmas.{one_lowered, below_itself, below_trans, below_length}, OwnerLemmas.any_in, PairLemmas.{In, all_in, ascending}}
+use Rattle.domain_zone.proofs.{PairLemmas.{irreflexive, one_of_ring}, PlaceLemmas.IsOnly, SharedLemmas.{closest_above, either_way, parent_below}}
+use Rattle.domain_zone.proofs.{SoaLemmas.soa_owned, FindLemmas.{in_at, mapped_at, stands_in}}
+use Rattle.domain_octets.specs.Words.{Octets}
+use Rattle.domain_names.specs.{Name.{is_at_or_below, same_name}, Words.Name}
 use Rattle.domain_base.specs.Types.{ns}
 use Rattle.domain_nsec3.specs.{Chain.{HashedLink, HashedName, IsHashedChain, IsOfChain, cycle, ends, ends_of, hashed_owner}, Config.{ChainConfig, HashAnswer}}
 use Rattle.domain_nsec3.specs.{Config.hash_of, Meaning.{octets_before, IsAlone, AreAlone, IsRecordOf, IsMatchedOrCoveredOnce, MirrorsZone, TellsEncloserOf}}
 use Rattle.domain_nsec3.specs.{Meaning.{TellsEncloser, CoversExcluded}, Owners.{original_owners, is_empty, is_chain_name, nsec3_lists}}
-use Rattle.domain_nsec3.proofs.{ChainLemmas.cycle_owners, FaultLemmas.hash_same, SharedLemmas.at_length, OwnerLemmas.{apex_original, existing_are, out_flag}}
-use Rattle.domain_nsec3.proofs.OwnerLemmas.{runs_to_encloser}
+use Rattle.domain_nsec3.proofs.{ChainLemmas.cycle_owners, FaultLemmas.hash_same, OwnerLemmas.{apex_original, existing_are, out_flag, runs_to_encloser}}
 
 -- ---- the order of hashes
 
@@ -31,42 +30,10 @@ tied_octets u v m = grind (arith, common_steps, slice_cmp-IsAntisymmetric, nat_c
 matches_itself : (u v : List ℕ) → u ≡ v → matches octets_before u v ≡ true
 matches_itself u v e = ap (matches octets_before u) (sym e) ∙ (λ i. not (irreflexive octets_order u i || irreflexive octets_order u i))
 
-ascends : (us : List (List ℕ)) → IsStrictlySortedBy (slice_cmp nat_cmp) us → IsAscending octets_before us
-unfolding IsStrictlySortedBy
-ascends [] h = tt
-ascends (u ∷ us) h = (weaker (λ v. slice_cmp nat_cmp u v ≡ Less) (λ v. octets_before u v ≡ true) (λ v e. ap is_lt e) us h.0, ascends us h.1)
-
--- exactly one pair of the cycle matches or covers any octets
-one_pair : (u : List ℕ) (us : List (List ℕ)) → IsStrictlySortedBy (slice_cmp nat_cmp) (u ∷ us) → (v : List ℕ)
-    → IsOnly (λ (p : List ℕ × List ℕ). matches_or_covers octets_before p.0 p.1 v) (cycle (u ∷ us))
-one_pair u us up v =
-    let rise = ascends _ up in
-    one_place _ _
-    (one_matches_or_covers octets_order u us u v rise (
-      irreflexive octets_order u,
-      weaker (λ w. octets_before u w ≡ true) (λ w. octets_before w u ≡ false) (octets_order.one_way u) us rise.0,
-    ) (irreflexive octets_order u))
-
-head_is : {X : Type 0} {x y : X} {xs ys : List X} → x ∷ xs ≡ y ∷ ys → x ≡ y
-head_is e = cc
-
-tail_is : {X : Type 0} {x y : X} {xs ys : List X} → x ∷ xs ≡ y ∷ ys → xs ≡ ys
-tail_is e = cc
-
 ok_is : (x y : List ℕ) (r s : HashAnswer) → r ≡ s → r ≡ Ok x → s ≡ Ok y → x ≡ y
 ok_is x y r s e p q = let both : Ok x ≡ Ok y = sym p ∙ e ∙ q in cc
 
 -- ---- each name has a closest encloser
-
-exists_same : (ks : List Name) (a m n : Name) → lowered m ≡ lowered n → exists_over ks a m ≡ exists_over ks a n
-exists_same ks a m n e = ap (λ k. lowered_below k (lowered a) && list_any (λ o. lowered_below (lowered o) k) ks) e
-
--- what exists over a name that does not, is above its first label
-shorter : (ks : List Name) (a : Name) (l : List ℕ) (x d : Name) → exists_over ks a (l ∷ x) ≡ false → exists_over ks a d ≡ true
-    → is_at_or_below (l ∷ x) d ≡ true → length d ≤ length x
-shorter ks a l x d none h p =
-    let same = at_length (l ∷ x) d p in
-    grind (arith, common_steps, (exists_same ks a (l ∷ x) d))
 
 an_encloser : (ks : List Name) (a : Name) → exists_over ks a a ≡ true → (x : Name) → is_at_or_below x a ≡ true → (e : Name) × IsClosestEncloser ks a x e
 an_encloser ks a apex [] low = grind (arith, common_steps)
@@ -74,14 +41,7 @@ an_encloser ks a apex (l ∷ x) low =
     elim (cases_Bool _) [
       | inl e ↦ (l ∷ x, record { found = e; above = below_itself (l ∷ x); longest = λ d h p. below_length (l ∷ x) d p })
       | inr e ↦
-          let up = an_encloser ks a apex x (below_longer (l ∷ x) x a (below_parent l x) low (shorter ks a l x a e apex low)) in (
-            up.0,
-            record {
-              found = up.1.found;
-              above = below_trans (l ∷ x) x up.0 (below_parent l x) up.1.above;
-              longest = λ d h p. up.1.longest d h (below_longer (l ∷ x) x d (below_parent l x) p (shorter ks a l x d e h p));
-            },
-          )
+          let up = an_encloser ks a apex x (parent_below ks a l x e a apex low) in (up.0, closest_above ks a l x e up.0 up.1)
     ]
 
 -- ---- the record of a name
@@ -98,30 +58,12 @@ module _ (L : List ZoneRecord) (a : Name) (config : ChainConfig) where
   bits_same m n s = bitmap_octets-same (nsec3_lists L a config m) (nsec3_lists L a config n) (λ t b. bit_same m n s t)
 
   -- the record at a place
-  pub record IsAtPlace (k : HashedLink) (j : ℕ) (names : List HashedName) (ps : List (List ℕ × List ℕ)) : Type 0 where
+  pub record IsAtPlace (names : List HashedName) (k : HashedLink) (j : ℕ) : Type 0 where
     pub name : HashedName
     pub there : In name names
-    pub pair : slice_get ps j ≡ Some (name.hash, k.next)
+    pub pair : slice_get (cycle (map (λ n. n.hash) names)) j ≡ Some (name.hash, k.next)
     pub owner : k.owner ≡ hashed_owner a name.hash
     pub bits : k.bits ≡ bitmap_octets (nsec3_lists L a config name.name)
-
-  at_place : (links : List HashedLink) (names : List HashedName) (ps : List (List ℕ × List ℕ))
-      → map ends links ≡ map (ends_of a) ps → map (λ (p : List ℕ × List ℕ). p.0) ps ≡ map (λ n. n.hash) names
-      → map (λ k. k.bits) links ≡ map (λ n. bitmap_octets (nsec3_lists L a config n.name)) names
-      → (k : HashedLink) (j : ℕ) → slice_get links j ≡ Some k → IsAtPlace k j names ps
-  at_place [] names ps h f b k j i = absurd (cc)
-  at_place (l ∷ links) [] ps h f b k j i = absurd (cc)
-  at_place (l ∷ links) (n ∷ names) [] h f b k j i = absurd (cc)
-  at_place (l ∷ links) (n ∷ names) (p ∷ ps) h f b k (suc j) i = grind (arith, common_steps, (at_place links names ps (tail_is h) (tail_is f) (tail_is b) k j i))
-  at_place (l ∷ links) (n ∷ names) (p ∷ ps) h f b k zero i = grind (arith, common_steps)
-
-  -- there is one
-  link_there : (links : List HashedLink) (ps : List (List ℕ × List ℕ)) → map ends links ≡ map (ends_of a) ps
-      → (p : List ℕ × List ℕ) (j : ℕ) → slice_get ps j ≡ Some p → (k : HashedLink) × (slice_get links j ≡ Some k)
-  link_there links [] h p j i = absurd (cc)
-  link_there [] (q ∷ ps) h p j i = absurd (cc)
-  link_there (l ∷ links) (q ∷ ps) h p zero i = (l, refl)
-  link_there (l ∷ links) (q ∷ ps) h p (suc j) i = link_there links ps (tail_is h) p j i
 
   -- the apex is a name of the chain where it owns records
   apex_named : owns L a ≡ true → is_chain_name L a config a ≡ true
@@ -131,15 +73,28 @@ module _ (L : List ZoneRecord) (a : Name) (config : ChainConfig) where
     name_sound : (n : HashedName) → In n chain.names → IsOfChain L a config n
     name_sound n i = all_in (IsOfChain L a config) chain.names n (recursion_from_All (IsOfChain L a config) chain.names chain.sound) i
 
-    pub of_place : (k : HashedLink) (j : ℕ) → slice_get links j ≡ Some k → IsAtPlace k j chain.names (cycle (map (λ n. n.hash) chain.names))
-    of_place k j i = grind (arith, common_steps, at_place, cycle_owners)
+    abbrev hashes : List Octets
+    hashes = map (λ n. n.hash) chain.names
+
+    pub of_place : (k : HashedLink) (j : ℕ) → slice_get links j ≡ Some k → IsAtPlace chain.names k j
+    of_place k j i =
+        let p = mapped_at ends (ends_of a) links (cycle hashes) chain.linked j k i in
+        let n = mapped_at (λ (q : Octets × Octets). q.0) (λ n. n.hash) (cycle hashes) chain.names (cycle_owners hashes) j p.0 p.1 in
+        let told = mapped_at (λ k. k.bits) (λ n. bitmap_octets (nsec3_lists L a config n.name)) links chain.names chain.bits j k i in
+        record {
+          name = n.0;
+          there = in_at chain.names j n.0 n.1;
+          pair = p.1 ∙ (λ i. Some (n.2 i, sym (ap (λ q. q.1) p.2) i));
+          owner = ap (λ q. q.0) p.2 ∙ ap (hashed_owner a) n.2;
+          bits = told.2 ∙ ap (λ m. bitmap_octets (nsec3_lists L a config m.name)) (same_Some told.0 n.0 (sym told.1 ∙ n.1));
+        }
 
     -- what the owner of a record spells
     spelled_is : (k : HashedLink) (j : ℕ) (h : List ℕ) (r : IsRecordOf a links j k h) → (of_place k j r.there).name.hash ≡ h
     spelled_is k j h r =
         let p = of_place k j r.there in
         let owner : base32_lower p.name.hash ∷ a ≡ base32_lower h ∷ a = sym p.owner ∙ r.spelled in
-        lower_apart p.name.hash h (name_sound p.name p.there).sound.2 r.octets (head_is owner)
+        lower_apart p.name.hash h (name_sound p.name p.there).sound.2 r.octets (cc)
 
     -- a record that matches the hash of a name that shares it with none is that of the name
     pub matched_name : (x : Name) (v : List ℕ) → IsAlone L a config x v
@@ -150,28 +105,20 @@ module _ (L : List ZoneRecord) (a : Name) (config : ChainConfig) where
         let s = name_sound p.name p.there in
         alone.alone p.name.name s.in_chain (s.hashed ∙ ap Ok (tied_octets p.name.hash v m))
 
-    -- the hash of a name of the chain is among them
-    among : (x : Name) (v : List ℕ) → hash_of config x ≡ Ok v → is_chain_name L a config x ≡ true → In v (map (λ n. n.hash) chain.names)
-    among x v known c =
-        let n = any_in (λ n. same_name n.name x) chain.names (chain.complete x c) in
-        let is : n.0.hash ≡ v = ok_is n.0.hash v (hash_of config n.0.name) (hash_of config x)
-        (hash_same config.hash n.0.name x n.2) (name_sound n.0 n.1).hashed known in
-        subst (λ w. In w (map (λ n. n.hash) chain.names)) is (in_map (λ (n : HashedName). n.hash) chain.names n.0 n.1)
-
     -- exactly one pair of the cycle matches or covers any octets
-    the_pair : (v : List ℕ) → IsOnly (λ (p : List ℕ × List ℕ). matches_or_covers octets_before p.0 p.1 v) (cycle (map (λ n. n.hash) chain.names))
+    the_pair : (v : Octets) → IsOnly (λ (p : Octets × Octets). matches_or_covers octets_before p.0 p.1 v) (cycle hashes)
     the_pair v = by chain.names chain.ascend (chain.complete a (apex_named (soa_owned L a chain.numbers chain.soa)))
       where
         by : (ns : List HashedName) → IsStrictlySortedBy (slice_cmp nat_cmp) (map (λ n. n.hash) ns)
             → list_any (λ n. same_name n.name a) ns ≡ true →
-            IsOnly (λ (p : List ℕ × List ℕ). matches_or_covers octets_before p.0 p.1 v) (cycle (map (λ n. n.hash) ns))
+            IsOnly (λ (p : Octets × Octets). matches_or_covers octets_before p.0 p.1 v) (cycle (map (λ n. n.hash) ns))
         by [] up h = absurd (false≢true h)
-        by (n ∷ ns) up h = one_pair n.hash (map (λ n. n.hash) ns) up v
+        by (n ∷ ns) up h = one_of_ring octets_order n.hash (map (λ n. n.hash) ns) (ascending (slice_cmp nat_cmp) (n.hash ∷ map (λ n. n.hash) ns) up) v
 
     mirrored : (x : Name) (v : List ℕ) → IsAlone L a config x v → IsMatchedOrCoveredOnce L a config links x v
     mirrored x v alone =
         let one = the_pair v in
-        let l = link_there links (cycle (map (λ n. n.hash) chain.names)) chain.linked one.item one.place one.there in
+        let l = mapped_at (ends_of a) ends (cycle hashes) links (sym chain.linked) one.place one.item one.there in
         let p = of_place l.0 one.place l.1 in
         let is : one.item ≡ (p.name.hash, l.0.next) = same_Some one.item (p.name.hash, l.0.next) (sym one.there ∙ p.pair) in
         let says : matches_or_covers octets_before p.name.hash l.0.next v
@@ -180,12 +127,14 @@ module _ (L : List ZoneRecord) (a : Name) (config : ChainConfig) where
         either_way (matches octets_before p.name.hash v) (is_chain_name L a config x)
         (λ m. sym (chain_same p.name.name x (matched_name x v alone l.0 one.place l.1 m)) ∙ (name_sound p.name p.there).in_chain)
         (λ c.
-        let hashes : List (List ℕ) = map (λ n. n.hash) chain.names in
-        let q = from_map (λ (r : List ℕ × List ℕ). r.0) (cycle hashes) v (subst (In v) (sym (cycle_owners hashes)) (among x v alone.known c)) in
-        let s = stands_in (cycle hashes) q.0 q.1 in
-        let at = one.only s.place q.0 s.there (or_left (matches octets_before q.0.0 v) _ (matches_itself q.0.0 v q.2)) in
-        let same : q.0 ≡ (p.name.hash, l.0.next) = same_Some q.0 (p.name.hash, l.0.next) (sym s.there ∙ ap (slice_get (cycle hashes)) at ∙ p.pair) in
-        matches_itself p.name.hash v (sym (ap (λ r. r.0) same) ∙ q.2)) in
+        let n = any_in (λ n. same_name n.name x) chain.names (chain.complete x c) in
+        let s = stands_in chain.names n.0 n.1 in
+        let q = mapped_at (λ n. n.hash) (λ (r : Octets × Octets). r.0) chain.names (cycle hashes) (sym (cycle_owners hashes)) s.place n.0 s.there in
+        let is : q.0.0 ≡ v = sym q.2 ∙ ok_is n.0.hash v (hash_of config n.0.name) (hash_of config x) (hash_same config.hash n.0.name x n.2)
+        (name_sound n.0 n.1).hashed alone.known in
+        let at = one.only s.place q.0 q.1 (or_left (matches octets_before q.0.0 v) _ (matches_itself q.0.0 v is)) in
+        let same : q.0 ≡ (p.name.hash, l.0.next) = same_Some q.0 (p.name.hash, l.0.next) (sym q.1 ∙ ap (slice_get (cycle hashes)) at ∙ p.pair) in
+        matches_itself p.name.hash v (sym (ap (λ r. r.0) same) ∙ is)) in
         record {
           place = one.place;
           link = l.0;

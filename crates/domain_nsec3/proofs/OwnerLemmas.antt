@@ -1,6 +1,6 @@
 -- The names of the chain are those that exist over its owners; what that says of closest enclosers and of zone cuts.
 use Rattle.std.proofs.Common.{◌≡◌, ℕ, Bool, true, false, not, ◌&&◌, ◌||◌, List, [], ◌∷◌, ◌++◌, length, refl, sym, ap, ◌∙◌, inl, inr, arith}
-use Rattle.std.proofs.lemmas.{Bool.{cases_Bool, false≢true, and_parts, and_from, or_left, cases_lt}, Grind.common_steps}
+use Rattle.std.proofs.lemmas.{Bool.{false_from_ne_true, false≢true, and_parts, and_from, or_left, cases_lt}, Grind.common_steps}
 use Rattle.std.specs.{Prelude.filter, List.list_any}
 use Rattle.domain_octets.proofs.StdLemmas.{and_false}
 use Rattle.domain_names.specs.{Name.{is_at_or_below, is_strictly_below, lowered, same_name}, Words.Name}
@@ -78,15 +78,9 @@ module _ (L : List ZoneRecord) (a : Name) (config : ChainConfig) where
   owner_above x low o h =
       let m = any_in (λ n. is_strictly_below n x) (original_owners L a config) h in
       let high = owner_unoccluded m.0 (is_own m.0 m.1) in
-      let x_high : is_occluded config.occlude_below_dname L a x ≡ false = elim (cases_Bool _) [
-        | inl e ↦ absurd (false≢true (sym high ∙ any_weaker _ _
-            (λ r t. let q = and_parts _ _ t in and_from _ _ q.0 (strictly_down x m.0 _ (and_parts (is_at_or_below m.0 x) _ m.2).0 q.1)) L e))
-        | inr e ↦ e
-      ] in
-      let no_cut : is_zone_cut L a x ≡ false = elim (cases_Bool _) [
-        | inl e ↦ absurd (false≢true (sym high ∙ below_occluder _ L a x m.0 (cut_occludes x e) m.2))
-        | inr e ↦ e
-      ] in
+      let x_high = false_from_ne_true (is_occluded config.occlude_below_dname L a x) (λ e. false≢true (sym high ∙ any_weaker _ _
+      (λ r t. let q = and_parts _ _ t in and_from _ _ q.0 (strictly_down x m.0 _ (and_parts (is_at_or_below m.0 x) _ m.2).0 q.1)) L e)) in
+      let no_cut = false_from_ne_true (is_zone_cut L a x) (λ e. false≢true (sym high ∙ below_occluder _ L a x m.0 (cut_occludes x e) m.2)) in
       original_is x ∙ (λ i. (o i && (low i && not (x_high i))) && not (excludes config && (no_cut i && not (has_type (records_of L x) ds))))
       ∙ ap not (and_false (excludes config))
 

@@ -1,15 +1,14 @@
 -- The state of the walk over the owners, and what it has gathered.
-use Rattle.std.proofs.{Common.{◌≡◌, Bool, false, not, ◌&&◌, List, [], ◌∷◌, map, map-id, refl, subst, sym, ap, ◌∙◌, arith}, lemmas.Simd.map-map}
+use Rattle.std.proofs.{Common.{◌≡◌, Bool, true, false, not, ◌&&◌, List, [], ◌∷◌, map, map-id, refl, subst, sym, ap, ◌∙◌, arith}, lemmas.Simd.map-map}
 use Rattle.std.{proofs.lemmas.Grind.common_steps, specs.{Prelude.filter, List.{list_any, AllByRecursion}}}
 use Rattle.domain_bitmap.specs.Bitmap.{bitmap_octets}
 use Rattle.domain_names.specs.{Name.same_name, Words.Name}
 use Rattle.domain_octets.specs.Words.{Octets}
 use Rattle.domain_zone.specs.{Owners.{OwnerRecords, owner_at, owners_with_records}, declared.listed.ListedOwners.ListedOwners, Zone.{ZoneRecord, has_type}}
-use Rattle.domain_zone.{specs.Zone.{has_unequal_ttls, unoccluded_owners}, proofs.{GivenLemmas.{name_of, clashes_in, all_known}, ListedLemmas.IsListing}}
+use Rattle.domain_zone.{specs.Zone.{has_unequal_ttls, owns, unoccluded_owners}, proofs.{GivenLemmas.{name_of, clashes_in, all_known}, ListedLemmas.IsListing}}
 use Rattle.domain_zone.proofs.{ListedLemmas.{all_named, all_typed}, OwnerLemmas.owners_are, ZoneLemmas.{all_filter, any_map, weaker}}
 use Rattle.domain_base.specs.Types.{ds}
 use Rattle.domain_nsec3.specs.{Config.{ChainConfig, excludes}, Owners.{original_owners, is_excluded, is_listed, nsec3_lists}, Steps.AreOriginalOwners}
-use Rattle.domain_nsec3.proofs.ChainLemmas.{map_same}
 
 -- a zone to sign: its records, its apex and how its chain is made
 pub record ZoneToSign : Type 0 where
@@ -47,16 +46,14 @@ owners_stay zone (k ∷ ks) = grind (arith, common_steps, (owners_stay zone ks))
 abbrev bits_of : ZoneToSign → List Octets
 bits_of zone = map (λ n. bitmap_octets (nsec3_lists zone.records zone.apex zone.config n)) (originals zone)
 
-types_told : (zone : ZoneToSign) → map (types_of zone) (map (owner_at zone.records zone.apex) (originals zone)) ≡ bits_of zone
-types_told zone =
-    map-map (types_of zone) at (originals zone)
-    ∙ map_same (λ n. types_of zone (at n)) (λ n. bitmap_octets (nsec3_lists zone.records zone.apex zone.config n)) (originals zone)
-    (weaker _ _ (λ n own. sym (λ i. bitmap_octets (λ t. own.0 i && is_listed ((at n).is_zone_cut && not (has_type (at n).records ds))
-    (same_name n zone.apex) (zone.config.assume_dnskeys_will_be_added && same_name n zone.apex) (at n).is_zone_cut (at n).records t))) (originals zone)
-    (all_filter _ _ _ (owners_are zone.config.occlude_below_dname zone.records zone.apex)))
-  where
-    at : Name → OwnerRecords
-    at n = owner_at zone.records zone.apex n
+-- the types of owners that own records, as the chain lists them
+types_told : (zone : ZoneToSign) (ks : List Name) → AllByRecursion (λ n. owns zone.records n ≡ true) ks
+    → map (types_of zone) (map (owner_at zone.records zone.apex) ks) ≡ map (λ n. bitmap_octets (nsec3_lists zone.records zone.apex zone.config n)) ks
+types_told zone [] own = refl
+types_told zone (k ∷ ks) own =
+    let at = owner_at zone.records zone.apex k in
+    λ i. bitmap_octets (λ t. sym own.0 i && is_listed (at.is_zone_cut && not (has_type at.records ds)) (same_name k zone.apex)
+    (zone.config.assume_dnskeys_will_be_added && same_name k zone.apex) at.is_zone_cut at.records t) ∷ types_told zone ks own.1 i
 
 -- those that stay are listed
 abbrev pub IsAt : ZoneToSign → List OwnerRecords → ListedOwners → Type 0
@@ -73,7 +70,8 @@ at_start L a config {left = left} all named typed =
       known = subst (AllByRecursion _) (sym all) (all_known zone.records zone.apex (unoccluded_owners zone.config.occlude_below_dname zone.records zone.apex));
       even = sym (any_map clashes_in at (originals zone)) ∙ ap (list_any clashes_in) (sym kept);
       named = λ room. rw (named, kept, map-map name_of at (originals zone)) (sym (map-id (originals zone)));
-      typed = λ room. rw (typed, kept) (sym (types_told zone));
+      typed = λ room. rw (typed, kept) (sym (types_told zone (originals zone) (weaker _ _ (λ n own. own.0) (originals zone)
+          (all_filter _ _ _ (owners_are zone.config.occlude_below_dname zone.records zone.apex)))));
     }
 
 -- where none are left, they are the original owners

@@ -1,12 +1,12 @@
 -- The text of a hash as a label.
 use Rattle.std.proofs.Common.{◌≡◌, ℕ, ◌+◌, ◌*◌, ◌/◌, ◌<◌, ◌≤◌, List, [], ◌∷◌, ◌++◌, map, length, refl, sym, ap, ◌∙◌, subst, arith, get_or, set, take, Fits, w8}
-use Rattle.std.proofs.{Common.{inl, inr}, lemmas.{Bool.cases_lt, List.{Elements.{All-map, All-weaker, recursion_from_All}, Folds.map_fixed, get_or_past}}}
-use Rattle.std.{proofs.lemmas.{List.length-map, Grind.common_steps}, specs.Prelude.{All, None, Ok, nat_lt, true, false, if◌then◌else◌}}
-use Rattle.std.specs.{Char.to_ascii_lowercase, List.AllByRecursion, Str.IsAscii}
+use Rattle.std.proofs.lemmas.{List.{Elements.{All-map, All-weaker, recursion_from_All}, Folds.map_fixed, length-map}, Str.Ascii.IsAscii-from_all}
+use Rattle.std.{proofs.lemmas.Grind.common_steps, specs.{Prelude.{All, None, Ok, nat_lt, true, false, if◌then◌else◌}, Char.to_ascii_lowercase}}
+use Rattle.std.specs.{List.AllByRecursion, Str.IsAscii}
 use Rattle.domain_codecs.{specs.Base32.{base32_from, base32_lower, lower_digit}, proofs.{Base32Lemmas.many_digits, ReadBackLemmas.are_small}}
 use Rattle.domain_octets.proofs.OctetLemmas.{octets_from_type}
-use Rattle.domain_names.specs.{Name.{wire_of, IsName}, Text.{label_text, name_text}, Wire.{labels_of, IsWire}, Words.Name}
-use Rattle.domain_names.proofs.{TextLemmas.ordinary_octet, WireLemmas.{IsWire-wire_of, labels_of-wire_of, wire_is}}
+use Rattle.domain_names.{specs.{Name.{wire_of, IsName}, Text.{label_text, name_text}, Wire.{labels_of, IsWire}, Words.Name}, proofs.TextLemmas.ordinary_octet}
+use Rattle.domain_names.proofs.WireLemmas.{IsWire-wire_of, labels_of-wire_of, wire_is}
 use Rattle.domain_nsec3.specs.{Chain.hashed_owner, Faults.hash_fault}
 
 -- how many digits a hash has
@@ -25,10 +25,7 @@ digit_ascii : (d : ℕ) → d < 32 → lower_digit d < 128
 digit_ascii d b = elim (nat_lt d 10) as (λ t. (if t then 48 + d else 87 + d) < 128) [ true ↦ omega arith | false ↦ omega arith ]
 
 pub ascii_text : (h : List ℕ) → AreOctets h → IsAscii (base32_lower h)
-ascii_text h all i = elim (cases_lt i (length (base32_lower h))) [
-  | inl l ↦ each_digit (λ o. o < 128) digit_ascii h all i 0 l
-  | inr m ↦ omega (arith, get_or_past (base32_lower h) i 0 m)
-]
+ascii_text h all = IsAscii-from_all (base32_lower h) (each_digit (λ o. o < 128) digit_ascii h all)
 
 pub text_octets : (h : List ℕ) → AreOctets h → All (λ o. o < 256) (base32_lower h)
 text_octets = each_digit (λ o. o < 256) (λ d b. let small = digit_ascii d b in omega arith)

@@ -1,6 +1,6 @@
 -- The steps of the generator: the owners with their types, their hashes, and the links that these
 -- make.
-use Rattle.std.specs.Prelude.{◌≡◌, ℕ, ◌+◌, ◌<◌, false, List, [], ◌++◌, map, length, take, None, Some, Ok, ◌⊎◌, slice_index_or, All, IsPermutation}
+use Rattle.std.specs.Prelude.{◌≡◌, ℕ, ◌+◌, ◌<◌, List, [], ◌∷◌, ◌++◌, map, length, None, Some, Ok, ◌⊎◌, slice_index_or, All, IsPermutation}
 use Rattle.std.specs.{List.Sorted.IsStrictlySortedBy, Ordering.nat_cmp, Cmp.Lexicographic.slice_cmp}
 use Rattle.domain_octets.specs.Words.{Octets}
 use Rattle.domain_base.specs.Classes.{in_class}
@@ -54,10 +54,12 @@ pub record AreHashesOf (a : Name) (hash : Hash) (names : List Name) (hashed : Li
 -- the first of these names whose hash is of no use
 pub record IsFirstRefused (a : Name) (hash : Hash) (names : List Name) (e : Nsec3HashError)
     : Type 0 where
-  pub place : ℕ
-  pub inside : place < length names
-  pub sound : All (λ n. hash_fault a (hash_name hash n) ≡ None) (take place names)
-  pub fault : hash_fault a (hash_name hash (slice_index_or names place [])) ≡ Some e
+  pub before : List Name
+  pub name : Name
+  pub after : List Name
+  pub are : names ≡ before ++ name ∷ after
+  pub sound : All (λ n. hash_fault a (hash_name hash n) ≡ None) before
+  pub fault : hash_fault a (hash_name hash name) ≡ Some e
 
 -- two neighbours are alike
 pub record HasAlikeNeighbours (hashed : List Hashed) : Type 0 where
@@ -100,9 +102,6 @@ pub record Common : Type 0 where
 abbrev pub common_of : {O : Type 0} → Nsec3param O → ℕ → Common
 common_of p ttl = record { ttl = ttl; parameters = parameters_of p; flags = p.flags }
 
-abbrev pub no_types : Octets
-no_types = bitmap_octets (λ t. false)
-
 -- the link from a hash to the next one; the types are those of the first names, and the others have
 -- none
 abbrev pub link_to : Name → Common → List Octets → Hashed → Octets → HashedLink
@@ -113,7 +112,7 @@ link_to a p types h next = record {
   ttl = p.ttl;
   parameters = p.parameters;
   flags = p.flags;
-  bits = slice_index_or types h.place no_types;
+  bits = slice_index_or types h.place [];
 }
 
 -- the links of a chain below an apex

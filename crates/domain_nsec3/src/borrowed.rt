@@ -1,8 +1,8 @@
 //! Records of a chain that take no memory: they borrow what the chain holds.
-ghost use Rattle.std.specs.Prelude.{◌≡◌, ◌<◌, ◌≤◌, Ok, None, Some, length, slice_index_or};
+ghost use Rattle.std.specs.Prelude.{◌≡◌, ◌<◌, [], Ok, Some, length, slice_index_or};
 ghost use Rattle.domain_base.specs.Classes.{in_class};
-ghost use Rattle.domain_nsec3.specs.{Chain.HashedLink, Faults.hash_fault};
-ghost use Rattle.domain_nsec3.specs.Steps.{common_of, link_to, links_in, no_types, AreUsable};
+ghost use Rattle.domain_nsec3.specs.Chain.{HashedLink};
+ghost use Rattle.domain_nsec3.specs.Steps.{common_of, links_in, AreUsable};
 ghost use Rattle.domain_nsec3.specs.{Text.link_text, View.link_with};
 
 use crate::HashedOwner;
@@ -68,7 +68,7 @@ impl fmt::Display for BorrowedNsec3<'_> {
 
 /// The types at a place; past the end there are none.
 fn lend_types<'a>(types: &'a RtypeBitmaps, place: usize) -> RtypeBitmap<&'a [u8]>
-    ensures { result ≡ slice_index_or types.now place no_types }
+    ensures { result ≡ slice_index_or types.now place [] }
 {
     if let Some(own) = types.get(place) {
         return own;
@@ -78,33 +78,6 @@ fn lend_types<'a>(types: &'a RtypeBitmaps, place: usize) -> RtypeBitmap<&'a [u8]
         unreachable!();
     };
     types
-}
-
-/// The record of a name of a chain, which points to a hash, by the record of its parameters.
-fn lend_link<'a, O: Octets>(
-    types: &'a RtypeBitmaps,
-    hashed: &'a Hashed,
-    next: &'a [u8],
-    ttl: Ttl,
-    nsec3param: &'a Record<ParsedName<'_>, Nsec3param<O>>,
-) -> BorrowedNsec3<'a>
-    requires sound { hash_fault nsec3param.now.owner (Ok hashed.now.hash) ≡ None }
-    requires short { length next.now ≤ 39 }
-    ensures { result ≡ link_to nsec3param.now.owner (common_of nsec3param.now.«data» ttl)
-        types.now hashed.now next.now }
-{
-    let owner = HashedOwner::new(nsec3param.owner().as_parsed(), hashed.hash.as_slice());
-    let params = nsec3param.data();
-    let salt = params.salt();
-    let data = Nsec3::new(
-        params.hash_algorithm(),
-        params.flags(),
-        params.iterations(),
-        salt.with_octets(salt.as_slice()),
-        OwnerHash::from_octets_unchecked(next),
-        lend_types(types, hashed.place),
-    );
-    BorrowedNsec3 { owner, ttl, data }
 }
 
 /// The record at a place of a chain, by the record of its parameters, whose owner is the apex. It
@@ -121,5 +94,17 @@ pub(crate) fn lend_record<'a, O: Octets>(
         (links_in nsec3param.now.owner chain.now (common_of nsec3param.now.«data» ttl)) at d }
 {
     let next = hash_after(chain.hashed.as_slice(), at);
-    lend_link(&chain.types, &chain.hashed[at], next, ttl, nsec3param)
+    let hashed = &chain.hashed[at];
+    let owner = HashedOwner::new(nsec3param.owner().as_parsed(), hashed.hash.as_slice());
+    let params = nsec3param.data();
+    let salt = params.salt();
+    let data = Nsec3::new(
+        params.hash_algorithm(),
+        params.flags(),
+        params.iterations(),
+        salt.with_octets(salt.as_slice()),
+        OwnerHash::from_octets_unchecked(next),
+        lend_types(&chain.types, hashed.place),
+    );
+    BorrowedNsec3 { owner, ttl, data }
 }

@@ -1,5 +1,5 @@
 //! A chain before its records are made.
-ghost use Rattle.std.specs.Prelude.{◌≡◌, ◌+◌, ◌<◌, ◌≤◌, Some, true, false, length, map};
+ghost use Rattle.std.specs.Prelude.{◌≡◌, ◌+◌, ◌<◌, Some, true, false, length, map};
 ghost use Rattle.std.specs.Prelude.{slice_index_or, All, IfOk, IfErr, OnOk, OnErr, IsPermutation};
 ghost use Rattle.std.specs.List.{list_any, Sorted.{IsSortedByKey, IsStrictlySortedBy}};
 ghost use Rattle.std.specs.{Ordering.nat_cmp, Cmp.Lexicographic.slice_cmp};
@@ -15,7 +15,7 @@ ghost use Rattle.domain_nsec3.specs.declared.hash.Hashed.{Hashed};
 
 use crate::GenerateNsec3Config;
 use crate::empty::empty_nonterminals;
-use crate::hash::{Hashed, hash_names};
+use crate::hash::{Hashed, hash_into};
 use crate::owners::list_owners;
 use domain_base::{ParsedName, ToName};
 use domain_bitmap::RtypeBitmaps;
@@ -63,10 +63,8 @@ pub(crate) fn has_collision(hashed: &[Hashed]) -> bool
 /// The hash after the one at a place; after the last one the first.
 pub(crate) fn hash_after(hashed: &[Hashed], at: usize) -> &[u8]
     requires { at < length hashed.now }
-    ensures later { at + 1 < length hashed.now → (d : Hashed)
-        → result.now ≡ (slice_index_or hashed.now (at + 1) d).hash }
-    ensures first { length hashed.now ≤ at + 1 → (d : Hashed)
-        → result.now ≡ (slice_index_or hashed.now 0 d).hash }
+    ensures { (d : Hashed) → result.now
+        ≡ (slice_index_or hashed.now (at + 1) (slice_index_or hashed.now 0 d)).hash }
 {
     if at + 1 < hashed.len() {
         return hashed[at + 1].hash.as_slice();
@@ -110,7 +108,8 @@ fn hash_chain<S: Sorter, H: Nsec3Hasher, O: Octets>(
     ensures fault { IfErr result (IsHashingFault apex.now
         (hash_by (H.answer hasher.now) (parameters_of params.now)) names.entry.items) }
 {
-    let mut hashed = hash_names(alloc, hasher, params, apex, names.as_slice())?;
+    let room = Vec::with_capacity(alloc, names.len())?;
+    let mut hashed = hash_into(alloc, hasher, params, apex, names.as_slice(), room)?;
     drop(names);
     sort_by_hash::<S>(&mut hashed)?;
     Ok(without_collision(hashed, types)?)

@@ -1,6 +1,6 @@
 //! Records of a chain in octets of their own.
 ghost use Rattle.std.specs.Prelude.{◌≡◌, IfOk};
-ghost use Rattle.domain_nsec3.specs.View.{as_hashed_link, as_param_record, parameters_in};
+ghost use Rattle.domain_nsec3.specs.View.{as_hashed_link, as_param_record};
 
 use crate::borrowed::BorrowedNsec3;
 use domain_base::{Class, MakeName, ParsedName, ToName};
@@ -22,32 +22,6 @@ where
     Ok(O::from_builder(builder))
 }
 
-/// A copy of data.
-fn copy_data<O: FromBuilder>(
-    alloc: Global,
-    borrowed: &Nsec3<&[u8]>,
-) -> Result<Nsec3<O>, OutOfMemory>
-where
-    O: Drop,
-    O::Builder: GrowingBuilder + EmptyBuilder + Drop,
-    ensures parameters { IfOk result (λ copy. parameters_in copy ≡ parameters_in borrowed.now) }
-    ensures flags { IfOk result (λ copy. copy.flags ≡ borrowed.now.flags) }
-    ensures next { IfOk result (λ copy. copy.next_owner ≡ borrowed.now.next_owner) }
-    ensures types { IfOk result (λ copy. copy.types ≡ borrowed.now.types) }
-{
-    let salt = copy_octets(alloc, borrowed.salt().as_slice())?;
-    let next = copy_octets(alloc, borrowed.next_owner().as_slice())?;
-    let types = copy_octets(alloc, borrowed.types().as_slice())?;
-    Ok(Nsec3::new(
-        borrowed.hash_algorithm(),
-        borrowed.flags(),
-        borrowed.iterations(),
-        borrowed.salt().with_octets(salt),
-        borrowed.next_owner().with_octets(next),
-        borrowed.types().with_octets(types),
-    ))
-}
-
 /// A copy of a record.
 pub(crate) fn copy_record<O: FromBuilder, N: MakeName>(
     alloc: Global,
@@ -60,7 +34,18 @@ where
     ensures { IfOk result (λ made. as_hashed_link N.labels made ≡ borrowed.now) }
 {
     let owner = borrowed.owner().make(alloc)?;
-    let data = copy_data(alloc, borrowed.data())?;
+    let lent = borrowed.data();
+    let salt = copy_octets(alloc, lent.salt().as_slice())?;
+    let next = copy_octets(alloc, lent.next_owner().as_slice())?;
+    let types = copy_octets(alloc, lent.types().as_slice())?;
+    let data = Nsec3::new(
+        lent.hash_algorithm(),
+        lent.flags(),
+        lent.iterations(),
+        lent.salt().with_octets(salt),
+        lent.next_owner().with_octets(next),
+        lent.types().with_octets(types),
+    );
     Ok(Record::new(owner, Class::IN, borrowed.ttl(), data))
 }
 

@@ -2,7 +2,6 @@
 ghost use Rattle.std.specs.Prelude.{◌≡◌, ◌+◌, ◌<◌, ◌≤◌, ◌++◌, ◌∷◌, ◌⊎◌, [], Ok, Some, None, length, take, All, IfOk, IfErr, IsErrOf, OnOk, vec_capacity, vec_len};
 ghost use Rattle.domain_octets.specs.Words.{Octets};
 ghost use Rattle.domain_hasher.specs.declared.error.Nsec3HashError.TheVariants as hash_error;
-ghost use Rattle.domain_names.specs.{Wire.{labels_of, IsWire}, Words.Name};
 ghost use Rattle.domain_nsec3.specs.{Chain.hashed_owner, Config.hash_name, Faults.hash_fault};
 ghost use Rattle.domain_nsec3.specs.Steps.{AreHashesOf, IsFirstRefused, IsHashed, IsRefusal};
 ghost use Rattle.domain_nsec3.specs.View.{hash_by, parameters_of};
@@ -23,30 +22,6 @@ pub(crate) struct Hashed {
     pub(crate) place: usize,
 }
 
-/// The octets of the hash of a name.
-fn hash_octets<H: Nsec3Hasher>(
-    alloc: Global,
-    hasher: &H,
-    algorithm: Nsec3HashAlgorithm,
-    iterations: u16,
-    salt: &[u8],
-    name: &ParsedName<'_>,
-) -> Result<Vec<u8>, Nsec3HashError>
-    ensures ok { IfOk result (λ octets.
-        hash_name (hash_by (H.answer hasher.now)
-        (record { algorithm = algorithm; iterations = iterations; salt = salt.now })) name.now
-        ≡ Ok octets.items) }
-    ensures err { IfErr result (λ e. (a : Name) → IsRefusal a
-        (hash_name (hash_by (H.answer hasher.now)
-        (record { algorithm = algorithm; iterations = iterations; salt = salt.now })) name.now)
-        e) }
-    ensures memory { IsErrOf result hash_error.OutOfMemory → H.takes_memory hasher.now }
-{
-    let mut buffer = [0; MAX_NAME];
-    let lowered = name.lower_wire(&mut buffer);
-    Ok(hash_wire(alloc, hasher, algorithm, iterations, salt, lowered)?)
-}
-
 /// Whether octets are of use as a hash below an apex. Else tells the first reason why not.
 fn check_hash(apex: &ParsedName<'_>, hash: &[u8]) -> Result<(), Nsec3HashError>
     ensures ok { OnOk result (hash_fault apex.now (Ok hash.now) ≡ None) }
@@ -64,25 +39,26 @@ fn check_hash(apex: &ParsedName<'_>, hash: &[u8]) -> Result<(), Nsec3HashError>
     Ok(())
 }
 
-/// The hash of a name, where it is of use.
-fn hash_checked<H: Nsec3Hasher>(
+/// The hash of a name by these parameters, where it is of use.
+fn hash_checked<H: Nsec3Hasher, O: Octets>(
     alloc: Global,
     hasher: &H,
-    algorithm: Nsec3HashAlgorithm,
-    iterations: u16,
-    salt: &[u8],
+    params: &Nsec3param<O>,
     apex: &ParsedName<'_>,
     name: &ParsedName<'_>,
 ) -> Result<Vec<u8>, Nsec3HashError>
-    ensures ok { IfOk result (λ hash. IsHashed apex.now (hash_by (H.answer hasher.now)
-        (record { algorithm = algorithm; iterations = iterations; salt = salt.now })) name.now
-        hash.items) }
+    ensures ok { IfOk result (λ hash. IsHashed apex.now
+        (hash_by (H.answer hasher.now) (parameters_of params.now)) name.now hash.items) }
     ensures err { IfErr result (IsRefusal apex.now
-        (hash_name (hash_by (H.answer hasher.now)
-        (record { algorithm = algorithm; iterations = iterations; salt = salt.now })) name.now)) }
+        (hash_name (hash_by (H.answer hasher.now) (parameters_of params.now)) name.now)) }
     ensures memory { IsErrOf result hash_error.OutOfMemory → H.takes_memory hasher.now }
 {
-    let hash = hash_octets(alloc, hasher, algorithm, iterations, salt, name)?;
+    let mut buffer = [0; MAX_NAME];
+    let lowered = name.lower_wire(&mut buffer);
+    let algorithm = params.hash_algorithm();
+    let iterations = params.iterations();
+    let salt = params.salt().as_slice();
+    let hash = hash_wire(alloc, hasher, algorithm, iterations, salt, lowered)?;
     check_hash(apex, hash.as_slice())?;
     Ok(hash)
 }
@@ -112,21 +88,8 @@ fn join_label<'a>(buffer: &'a mut [u8], label: &[u8], above: &[u8]) -> &'a [u8]
     &buffer[..end]
 }
 
-/// Writes the owner of the record of a hash to the front of a buffer: the text of the hash in lower
-/// case as a label before the apex.
-pub(crate) fn write_owner<'a>(buffer: &'a mut [u8], apex: &ParsedName<'_>, hash: &[u8]) -> &'a [u8]
-    requires sound { hash_fault apex.now (Ok hash.now) ≡ None }
-    requires room { 255 ≤ length buffer.old }
-    ensures wire { IsWire result.now }
-    ensures labels { labels_of result.now ≡ hashed_owner apex.now hash.now }
-{
-    let above = apex.as_wire();
-    let mut label = [0; MAX_TEXT];
-    let label = write_hash(&mut label, hash);
-    join_label(buffer, label, above)
-}
-
-/// The owner of the record of a hash.
+/// The owner of the record of a hash: the text of the hash in lower case as a label before the
+/// apex.
 pub(crate) fn make_owner<N: MakeName>(
     alloc: Global,
     apex: &ParsedName<'_>,
@@ -135,8 +98,11 @@ pub(crate) fn make_owner<N: MakeName>(
     requires { hash_fault apex.now (Ok hash.now) ≡ None }
     ensures { IfOk result (λ owner. N.labels owner ≡ hashed_owner apex.now hash.now) }
 {
+    let above = apex.as_wire();
+    let mut text = [0; MAX_TEXT];
+    let label = write_hash(&mut text, hash);
     let mut wire = [0; MAX_NAME];
-    Ok(N::make(alloc, write_owner(&mut wire, apex, hash))?)
+    Ok(N::make(alloc, join_label(&mut wire, label, above))?)
 }
 
 /// The owner of the NSEC3 record of a name (RFC 5155, section 3): the hash of the name, in lower
@@ -179,48 +145,15 @@ where
         (N.labels name.now)) ≡ None) }
 {
     let apex = apex.as_parsed();
-    let name = name.as_parsed();
-    let hash = hash_checked(
-        alloc,
-        hasher,
-        algorithm,
-        iterations,
-        salt.as_slice(),
-        &apex,
-        &name,
-    )?;
+    let salt = salt.with_octets(salt.as_slice());
+    let params = Nsec3param::new(algorithm, 0, iterations, salt);
+    let hash = hash_checked(alloc, hasher, &params, &apex, &name.as_parsed())?;
     Ok(make_owner(alloc, &apex, hash.as_slice())?)
-}
-
-/// The hash of the name at a place.
-fn hash_at<H: Nsec3Hasher, O: Octets>(
-    alloc: Global,
-    hasher: &H,
-    params: &Nsec3param<O>,
-    apex: &ParsedName<'_>,
-    name: &ParsedName<'_>,
-    place: usize,
-) -> Result<Hashed, Nsec3HashError>
-    ensures place { IfOk result (λ hashed. hashed.place ≡ place) }
-    ensures ok { IfOk result (λ hashed. IsHashed apex.now
-        (hash_by (H.answer hasher.now) (parameters_of params.now)) name.now hashed.hash) }
-    ensures err { IfErr result (IsRefusal apex.now
-        (hash_name (hash_by (H.answer hasher.now) (parameters_of params.now)) name.now)) }
-    ensures memory { IsErrOf result hash_error.OutOfMemory → H.takes_memory hasher.now }
-{
-    let algorithm = params.hash_algorithm();
-    let iterations = params.iterations();
-    let salt = params.salt().as_slice();
-    let octets = hash_checked(alloc, hasher, algorithm, iterations, salt, apex, name)?;
-    Ok(Hashed {
-        hash: NameHash::new(octets.as_slice()),
-        place,
-    })
 }
 
 /// The hashes of names, each with the place of its name, in their order, in a list that has room
 /// for them; else the first refusal. Takes no memory but the hasher's.
-fn hash_into<H: Nsec3Hasher, O: Octets>(
+pub(crate) fn hash_into<H: Nsec3Hasher, O: Octets>(
     alloc: Global,
     hasher: &H,
     params: &Nsec3param<O>,
@@ -239,27 +172,9 @@ fn hash_into<H: Nsec3Hasher, O: Octets>(
     ensures memory { IsErrOf result hash_error.OutOfMemory → H.takes_memory hasher.now }
 {
     for (place, name) in names.iter().enumerate() {
-        let item = hash_at(alloc, hasher, params, apex, name, place)?;
-        hashed.push_reserved(item);
+        let octets = hash_checked(alloc, hasher, params, apex, name)?;
+        let hash = NameHash::new(octets.as_slice());
+        hashed.push_reserved(Hashed { hash, place });
     }
     Ok(hashed)
-}
-
-/// The hashes of names, each with the place of its name, in their order; else the first refusal.
-/// The memory of the list is taken first.
-pub(crate) fn hash_names<H: Nsec3Hasher, O: Octets>(
-    alloc: Global,
-    hasher: &H,
-    params: &Nsec3param<O>,
-    apex: &ParsedName<'_>,
-    names: &[ParsedName<'_>],
-) -> Result<Vec<Hashed>, Nsec3HashError>
-    ensures ok { IfOk result (λ hashed. AreHashesOf apex.now
-        (hash_by (H.answer hasher.now) (parameters_of params.now)) names.now hashed.items) }
-    ensures err { IfErr result (λ e. (e ≡ hash_error.OutOfMemory)
-        ⊎ IsFirstRefused apex.now (hash_by (H.answer hasher.now) (parameters_of params.now))
-        names.now e) }
-{
-    let room = Vec::with_capacity(alloc, names.len())?;
-    hash_into(alloc, hasher, params, apex, names, room)
 }

@@ -13,9 +13,7 @@ use crate::nsec3_chain::Nsec3Chain;
 use domain_base::MakeName;
 use domain_chain_rdata::{Nsec3, Nsec3param};
 use domain_hasher::Nsec3Hasher;
-use domain_octets::{
-    EmptyBuilder, FreezeBuilder, FromBuilder, GrowingBuilder, Octets, OutOfMemory, Truncate,
-};
+use domain_octets::{EmptyBuilder, FreezeBuilder, FromBuilder, GrowingBuilder, Octets, Truncate};
 use domain_record::{Record, ZoneData};
 use domain_records::{RecordsIter, SigningError, Sorter};
 use std::alloc::Global;
@@ -36,25 +34,6 @@ impl<N, O: Octets> Nsec3Records<N, O> {
     {
         Nsec3Records { nsec3s, nsec3param }
     }
-}
-
-/// The records of a chain, and that of its parameters, in octets of their own.
-fn copy_records<O: FromBuilder, N: MakeName>(
-    alloc: Global,
-    chain: &Nsec3Chain<'_, O>,
-) -> Result<Nsec3Records<N, O>, OutOfMemory>
-where
-    N: Drop,
-    O: Drop,
-    O::Builder: GrowingBuilder + EmptyBuilder + Drop,
-    ensures nsec3s { IfOk result (λ made.
-        hashed_links_of N.labels made.nsec3s.items ≡ chain.now.links) }
-    ensures param { IfOk result (λ made. as_param_record N.labels made.nsec3param
-        ≡ chain.now.param) }
-{
-    let nsec3s = chain.records(alloc)?;
-    let nsec3param = copy_param(alloc, chain.nsec3param())?;
-    Ok(Nsec3Records::new(nsec3s, nsec3param))
 }
 
 /// The NSEC3 chain of a zone, and its NSEC3PARAM record (RFC 5155, section 7.1): one record for
@@ -129,5 +108,7 @@ where
         (config_of (H.answer hasher.now) config.now) (hashed_links_of N.labels made.nsec3s.items)) }
 {
     let chain = Nsec3Chain::generate(alloc, apex, records, config, hasher)?;
-    Ok(copy_records(alloc, &chain)?)
+    let nsec3s = chain.records(alloc)?;
+    let nsec3param = copy_param(alloc, chain.nsec3param())?;
+    Ok(Nsec3Records::new(nsec3s, nsec3param))
 }

@@ -80,21 +80,6 @@ fn as_octets(hash: &[u8]) -> &[u8]
 }
 
 impl<'a, O: Octets> Nsec3Chain<'a, O> {
-    /// The chain with the TTL of its records, and the record of its parameters, whose owner is the
-    /// apex.
-    fn new(chain: HashedChain, ttl: Ttl, nsec3param: Record<ParsedName<'a>, Nsec3param<O>>) -> Self
-        requires { AreUsable nsec3param.owner chain }
-        ensures links { result.links
-            ≡ links_in nsec3param.entry.owner chain (common_of nsec3param.entry.«data» ttl) }
-        ensures param { result.param ≡ as_param_record (λ n. n) nsec3param.entry }
-    {
-        Nsec3Chain {
-            chain,
-            ttl,
-            nsec3param,
-        }
-    }
-
     /// The NSEC3 chain of a zone and its NSEC3PARAM record (RFC 5155, section 7.1): those that
     /// `generate_nsec3s` gives, with the same refusals, before the records are made. It borrows the
     /// apex; the records of the zone are only read.
@@ -134,7 +119,11 @@ impl<'a, O: Octets> Nsec3Chain<'a, O> {
         };
         let chain = chain_of_zone(alloc, apex, records, config, hasher, &soa)?;
         let nsec3param = param_record(apex, config, &soa)?;
-        Ok(Nsec3Chain::new(chain, soa.chain_ttl(), nsec3param))
+        Ok(Nsec3Chain {
+            chain,
+            ttl: soa.chain_ttl(),
+            nsec3param,
+        })
     }
 
     /// How many NSEC3 records the chain has.

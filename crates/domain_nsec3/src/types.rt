@@ -1,12 +1,12 @@
 //! The types that NSEC3 records list.
-ghost use Rattle.std.specs.Prelude.{◌≡◌, ◌||◌, ◌&&◌, ◌==◌, ℕ, [], ◌<◌, IfOk, OnOk};
+ghost use Rattle.std.specs.Prelude.{◌≡◌, ◌||◌, ◌&&◌, ◌==◌, ℕ, ◌<◌, IfOk, OnOk};
 ghost use Rattle.domain_bitmap.specs.{Bitmap.bitmap_octets, Builder.holds};
 ghost use Rattle.domain_nsec3.specs.Owners.{is_listed};
 ghost use Rattle.domain_zone.specs.View.{zone_of};
 
 use domain_base::{Rtype, ToName};
 use domain_bitmap::{RtypeBitmap, RtypeBitmapBuilder};
-use domain_octets::{EmptyBuilder, GrowingBuilder, OutOfMemory};
+use domain_octets::{GrowingBuilder, OutOfMemory};
 use domain_record::{Record, ZoneData};
 use domain_records::SliceRefsOrOwnedIterator;
 use domain_zone::{add_type, add_types};
@@ -38,24 +38,6 @@ fn add_wanted<B: GrowingBuilder>(
     Ok(())
 }
 
-/// The types that an NSEC3 record lists whatever its owner owns.
-fn common_types<B: GrowingBuilder + EmptyBuilder>(
-    alloc: Global,
-    kind: OwnerKind,
-    assumed: bool,
-) -> Result<RtypeBitmapBuilder<B>, OutOfMemory>
-where
-    B: Drop,
-    ensures { IfOk result (λ types. (t : ℕ) → t < 65536 → holds types t
-        ≡ is_listed kind.is_unsigned_cut kind.is_apex assumed kind.is_zone_cut [] t) }
-{
-    let mut types = RtypeBitmapBuilder::<B>::new(alloc);
-    add_wanted(&mut types, Rtype::RRSIG, !kind.is_unsigned_cut)?;
-    add_wanted(&mut types, Rtype::NSEC3PARAM, kind.is_apex)?;
-    add_wanted(&mut types, Rtype::DNSKEY, assumed)?;
-    Ok(types)
-}
-
 /// The types of an owner's NSEC3 record (RFC 5155, section 7.1).
 pub(crate) fn types_of<N: ToName, D: ZoneData>(
     alloc: Global,
@@ -67,7 +49,10 @@ pub(crate) fn types_of<N: ToName, D: ZoneData>(
         ≡ bitmap_octets (is_listed kind.is_unsigned_cut kind.is_apex assumed kind.is_zone_cut
         (zone_of N.labels D.rtype D.minimum records.entry))) }
 {
-    let mut types = common_types::<Vec<u8>>(alloc, kind, assumed)?;
+    let mut types = RtypeBitmapBuilder::<Vec<u8>>::new(alloc);
+    add_wanted(&mut types, Rtype::RRSIG, !kind.is_unsigned_cut)?;
+    add_wanted(&mut types, Rtype::NSEC3PARAM, kind.is_apex)?;
+    add_wanted(&mut types, Rtype::DNSKEY, assumed)?;
     add_types(&mut types, records, kind.is_zone_cut)?;
     Ok(types.finalize())
 }

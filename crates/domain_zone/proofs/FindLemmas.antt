@@ -1,7 +1,8 @@
 -- Elements of lists: which pass a test, the first that does, and where they stand.
-use Rattle.std.proofs.Common.{◌≡◌, ℕ, Bool, true, false, ◌||◌, List, [], ◌∷◌, ◌++◌, map, Some, None, refl, ap, ◌∙◌, inl, inr, ◌⊎◌, zero, suc}
-use Rattle.std.proofs.{Common.{slice_get, arith}, lemmas.{List.Elements.recursion_from_All, Option.slice_get-get_or}}
-use Rattle.std.{proofs.lemmas.Grind.common_steps, specs.{Prelude.{All, filter}, List.{find, list_any, Contains}}}
+use Rattle.std.proofs.Common.{◌≡◌, ℕ, ◌<◌, Bool, true, false, ◌||◌, List, [], ◌∷◌, ◌++◌, map, Some, None, refl, ap, ◌∙◌, inl, inr, ◌⊎◌, zero, suc, sym, length}
+use Rattle.std.proofs.Common.{get_or, length-append}
+use Rattle.std.proofs.{Common.{slice_get, arith}, lemmas.{List.Elements.recursion_from_All, Option.{slice_get-get_or, slice_get_within, get_or_from_slice_get}}}
+use Rattle.std.{proofs.lemmas.{Grind.common_steps, List.length-drop, Slice.Zip.length-zip}, specs.{Prelude.{All, filter}, List.{find, list_any, Contains}}}
 use Rattle.domain_zone.{specs.Covering.pairs, proofs.PairLemmas.{In, all_in}}
 
 -- ---- elements
@@ -85,3 +86,35 @@ stands_in (y ∷ xs) x (inr i) = let s = stands_in xs x i in record { place = su
 
 pub stands_all : {X : Type 0} (xs ys : List X) → All (Contains xs) ys → (y : X) → In y ys → Stands xs y
 stands_all xs ys h y i = stands_from xs y (all_in (Contains xs) ys y (recursion_from_All (Contains xs) ys h) i)
+
+-- ---- the pairs of a list, and lists that map to the same, by places
+
+module _ {X : Type 0} where
+  pub pairs_length : (ks : List X) (first : X) → length (pairs ks first) ≡ length ks
+  pairs_length ks first = simp (length-zip, length-append, length-drop) (omega arith)
+
+  pub pairs_owners : (ks : List X) (first : X) → map (λ (p : X × X). p.0) (pairs ks first) ≡ ks
+  pairs_owners [] first = refl
+  pairs_owners (k ∷ []) first = refl
+  pairs_owners (k ∷ l ∷ ks) first = ap (λ ls. k ∷ ls) (pairs_owners (l ∷ ks) first)
+
+  pub pair_at : (ks : List X) (first : X) (i : ℕ) (d : X × X) → i < length ks → get_or (pairs ks first) i d ≡ (get_or ks i d.0, get_or ks (suc i) first)
+  pair_at [] first i d within = absurd (omega arith)
+  pair_at (k ∷ []) first zero d within = refl
+  pair_at (k ∷ []) first (suc i) d within = absurd (omega arith)
+  pair_at (k ∷ l ∷ ks) first zero d within = refl
+  pair_at (k ∷ l ∷ ks) first (suc i) d within = pair_at (l ∷ ks) first i d (omega arith)
+
+  pub pair_is : (ks : List X) (first : X) (i : ℕ) (p : X × X) → slice_get (pairs ks first) i ≡ Some p
+      → (slice_get ks i ≡ Some p.0) × (p.1 ≡ get_or ks (suc i) first)
+  pair_is ks first i p there =
+      let within : i < length ks = omega (arith, slice_get_within (pairs ks first) i p there, pairs_length ks first) in
+      let is = sym (get_or_from_slice_get (pairs ks first) i p p there) ∙ pair_at ks first i p within in
+      (slice_get-get_or ks i p.0 within ∙ ap (λ (q : X × X). Some q.0) (sym is), ap (λ q. q.1) is)
+
+pub mapped_at : {X Y Z : Type 0} (g : X → Z) (h : Y → Z) (xs : List X) (ys : List Y) → map g xs ≡ map h ys → (i : ℕ) (x : X) → slice_get xs i ≡ Some x
+    → (y : Y) × (slice_get ys i ≡ Some y) × (g x ≡ h y)
+mapped_at g h [] ys e i x there = absurd (cc)
+mapped_at g h (w ∷ xs) [] e i x there = absurd (cc)
+mapped_at g h (w ∷ xs) (y ∷ ys) e zero x there = grind (arith, common_steps)
+mapped_at g h (w ∷ xs) (y ∷ ys) e (suc i) x there = mapped_at g h xs ys (cc) i x there

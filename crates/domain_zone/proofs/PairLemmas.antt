@@ -1,9 +1,9 @@
 -- A list that ascends in a strict order, and the pairs of it: exactly one pair matches or covers each value, and nothing of the list lies in a gap.
 use Rattle.std.proofs.Common.{◌≡◌, ℕ, ◌+◌, Bool, true, false, cond, not, ◌&&◌, ◌||◌, List, [], ◌∷◌, refl, ap, ◌∙◌, subst, inl, inr, ◌⊎◌, arith}
-use Rattle.std.proofs.lemmas.{Bool.cases_Bool, List.Sums.sum_by-cons, Grind.common_steps}
-use Rattle.std.specs.{Prelude.count_by, List.AllByRecursion, Cmp.IsStrictWeakOrder}
+use Rattle.std.{proofs.lemmas.{Bool.cases_Bool, List.Sums.sum_by-cons, Grind.common_steps}, specs.{Prelude.count_by, List.AllByRecursion}}
+use Rattle.std.specs.{List.Sorted.IsStrictlySortedBy, Cmp.IsStrictWeakOrder, Ordering.is_lt, declared.cmp.Ordering.{Ordering, TheVariants.Less}}
 use Rattle.domain_octets.proofs.StdLemmas.{or_true}
-use Rattle.domain_zone.specs.Covering.{matches_or_covers, pairs}
+use Rattle.domain_zone.{specs.Covering.{matches_or_covers, pairs}, proofs.PlaceLemmas.{IsOnly, one_place}}
 
 module _ {X : Type 0} where
   -- an element
@@ -120,3 +120,28 @@ module _ {X : Type 0} {lt : X → X → Bool} (o : IsStrictWeakOrder lt) where
   gap k (l ∷ ks) a p y up (inl e) (inr j) = grind (arith, common_steps, all_in)
   gap k (l ∷ ks) a p y up (inr i) (inl f) = grind (arith, common_steps, all_in, (owner_in l ks a p i))
   gap k (l ∷ ks) a p y up (inr i) (inr j) = gap l ks a p y up.1 i j
+
+  -- ---- rings
+
+  -- none comes before the first
+  pub first_least : (k : X) (ks : List X) → IsAscending lt (k ∷ ks) → AllByRecursion (λ y. lt y k ≡ false) (k ∷ ks)
+  first_least k ks up = (irreflexive k, all_from_in _ ks (λ y i. o.one_way k y (all_in (λ z. lt k z ≡ true) ks y up.0 i)))
+
+  -- exactly one pair of a ring matches or covers any value
+  pub one_of_ring : (k : X) (ks : List X) → IsAscending lt (k ∷ ks) → (x : X)
+      → IsOnly (λ (p : X × X). matches_or_covers lt p.0 p.1 x) (pairs (k ∷ ks) k)
+  one_of_ring k ks up x = one_place _ _ (one_matches_or_covers k ks k x up (first_least k ks up) (irreflexive k))
+
+-- ---- lists that ascend by a comparison
+
+module _ {X : Type 0} (cmp : X → X → Ordering) where
+  pub ascending : (xs : List X) → IsStrictlySortedBy cmp xs → IsAscending (λ x y. is_lt (cmp x y)) xs
+  unfolding IsStrictlySortedBy
+  ascending [] h = tt
+  ascending (x ∷ xs) h = (all_from_in _ xs (λ y i. ap is_lt (all_in (λ z. cmp x z ≡ Less) xs y h.0 i)), ascending xs h.1)
+
+-- an owner with a next value matches or covers x: it is not after x, and the next one is, or is not after the owner; or the next one
+-- is after x, and not after the owner
+pub said : {X : Type 0} (lt : X → X → Bool) (o n x : X) → ((lt x o ≡ false) × ((lt x n ≡ true) ⊎ (lt o n ≡ false)))
+    ⊎ ((lt x n ≡ true) × (lt o n ≡ false)) → matches_or_covers lt o n x ≡ true
+said lt o n x h = grind (arith, common_steps)

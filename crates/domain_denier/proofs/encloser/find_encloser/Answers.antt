@@ -2,7 +2,7 @@ use Rattle.std.proofs.{Common.{◌≡◌, false, sym, ap, subst, ◌∙◌, inl,
 use Rattle.domain_names.specs.Name.{lowered, same_name, wire_of}
 use Rattle.domain_nsec3.specs.View.{hash_by}
 use Rattle.domain_checker.proofs.HashedWalkLemmas.{wire_above}
-use Rattle.domain_denier.{specs.HashedSteps.IsReached, proofs.PlacedLemmas.{found_of, none_placed, reached_above, reached_here, refused_at}}
+use Rattle.domain_denier.{specs.HashedSteps.IsReached, proofs.PlacedLemmas.{none_placed, reached_above, reached_here, refused_at}}
 use Rattle.domain_denier.proofs.encloser.find_encloser.Goals as goal
 
 pub names-init : goal.names-init
@@ -27,12 +27,12 @@ returns-then-found-clause-ok g c = record {
   name = c.names.left;
   counts = c.count_labels.ensures.count;
   reached = c.names.invariant.reached;
-  found = found_of _ _ _ _ _ _ _ c.in_ok-found.ensures.ok c.names.invariant.wire c.if-found.true;
+  found = rw (c.names.invariant.wire, c.if-found.true) at c.in_ok-found.ensures.ok;
 }
 
 pub returns-then-name_eq-clause-ok : goal.returns-then-name_eq-clause-ok
 returns-then-name_eq-clause-ok g c =
-    none_placed _ _ _ _ _ c.names.invariant.reached _ (found_of _ _ _ _ _ _ _ c.in_ok-found.ensures.ok c.names.invariant.wire c.if-found.false)
+    none_placed _ _ _ _ _ c.names.invariant.reached _ (rw (c.names.invariant.wire, c.if-found.false) at c.in_ok-found.ensures.ok)
     (ap (same_name c.names.left) (sym (c.owner-apex.ensures ∙ ap (λ r. r.owner) c.nsec3param.ensures)) ∙ sym c.name_eq.ensures.value ∙ c.if-name_eq.true)
 
 pub names-preserved : goal.names-preserved
@@ -42,5 +42,5 @@ names-preserved g c =
     record {
       wire = grind (arith, common_steps, wire_above);
       reached = reached_above _ _ _ _ _ c.names.invariant.reached _
-          (found_of _ _ _ _ _ _ _ c.in_ok-found.ensures.ok c.names.invariant.wire c.if-found.false) _ _ c.in-Some.ensures.parts other;
+          (rw (c.names.invariant.wire, c.if-found.false) at c.in_ok-found.ensures.ok) _ _ c.in-Some.ensures.parts other;
     }

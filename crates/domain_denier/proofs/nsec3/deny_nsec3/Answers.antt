@@ -1,25 +1,21 @@
-use Rattle.std.proofs.{Common.{◌≡◌, ◌<◌, true, false, length, slice_get, Some, refl, sym, ap, subst, ◌∙◌, inl, inr}, lemmas.Option.same_Some}
-use Rattle.std.{proofs.lemmas.Result.err_from_is_err_and, specs.Prelude.Err}
+use Rattle.std.proofs.{Common.{◌≡◌, ◌<◌, true, false, length, slice_get, Some, refl, sym, ap, subst, ◌∙◌, inl, inr, arith}, lemmas.Option.same_Some}
+use Rattle.std.{proofs.lemmas.{Grind.common_steps, Result.err_from_is_err_and}, specs.Prelude.Err}
 use Rattle.domain_octets.proofs.StdLemmas.{none_some}
 use Rattle.domain_names.specs.Name.{is_at_or_below}
 use Rattle.domain_nsec3.specs.{Chain.HashedLink, View.hash_by}
 use Rattle.domain_answer.specs.{HashedReading.encloser_answer, ZoneAnswer.is_at_parent}
-use Rattle.domain_denier.specs.HashedSteps.{IsPlaced, encloser_at, next_role}
-use Rattle.domain_denier.proofs.{HashedDenyLemmas.{denial_is, never_unmatched, some_links}, SomeLemmas.record_there, nsec3.deny_nsec3.Given.Over}
-use Rattle.domain_denier.proofs.HashedPickLemmas.{all_there, asked_less, none_read, placed_at, plain_read, refused_below, wildcard_read}
-use Rattle.domain_denier.proofs.nsec3.deny_nsec3.Goals.{After-first_answer-answer, After-to_int-number}
+use Rattle.domain_denier.{specs.HashedSteps.{IsPlaced, encloser_at, next_role}, proofs.HashedDenyLemmas.{denial_is, never_unmatched, some_links}}
+use Rattle.domain_denier.proofs.{SomeLemmas.record_there, nsec3.deny_nsec3.Given.Over, HashedPickLemmas.{all_there, asked_less, none_read, placed_at}}
+use Rattle.domain_denier.proofs.{HashedPickLemmas.{plain_read, refused_below, wildcard_read}, nsec3.deny_nsec3.Goals.After-first_answer-answer}
+use Rattle.domain_denier.proofs.nsec3.deny_nsec3.Goals.{After-to_int-number}
 use Rattle.domain_denier.proofs.nsec3.deny_nsec3.Goals as goal
 
 -- the name lies in the zone, whose parent does not answer
 low : (g : Over) (c : After-to_int-number g) → is_at_or_below (g.M.ToName.labels c.args.name.now) c.args.chain.now.param.owner ≡ true
-low g c =
-    ap (is_at_or_below (g.M.ToName.labels c.args.name.now)) (sym (c.owner-apex.ensures ∙ ap (λ r. r.owner) c.nsec3param.ensures))
-    ∙ sym c.ends_with.ensures.value ∙ c.if-not-ends_with.false
+low g c = let apex = ap (λ r. r.owner) c.nsec3param.ensures in grind (arith, common_steps)
 
 parent : (g : Over) (c : After-to_int-number g) → is_at_parent c.args.chain.now.param.owner (g.M.ToName.labels c.args.name.now) c.args.rtype ≡ false
-parent g c =
-    ap (λ o. is_at_parent o (g.M.ToName.labels c.args.name.now) c.args.rtype) (sym (c.owner-apex.ensures ∙ ap (λ r. r.owner) c.nsec3param.ensures))
-    ∙ sym c.is_at_parent.ensures ∙ c.if-is_at_parent.false
+parent g c = let apex = ap (λ r. r.owner) c.nsec3param.ensures in grind (arith, common_steps)
 
 small : (g : Over) (c : After-to_int-number g) → c.args.rtype < 65536
 small g c = subst (λ n. n < 65536) c.to_int-number.ensures c.to_int-number.type_inv

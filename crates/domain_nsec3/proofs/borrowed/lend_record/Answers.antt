@@ -1,11 +1,23 @@
-use Rattle.std.proofs.Common.{◌≡◌, ◌+◌, ◌<◌, ◌≤◌, List, length, get_or, ◌∙◌, subst}
-use Rattle.domain_nsec3.{specs.declared.hash.Hashed.Hashed, proofs.ChainLemmas.link_is}
+use Rattle.std.proofs.{Common.{◌≡◌, ◌+◌, List, get_or, subst, arith}, lemmas.Grind.common_steps}
+use Rattle.domain_nsec3.{specs.{declared.hash.Hashed.Hashed, Steps.common_of}, proofs.{ChainLemmas.{link_is, next_short}, borrowed.lend_record.Given.Over}}
+use Rattle.domain_nsec3.proofs.borrowed.lend_record.Goals.{After-index-hashed}
 use Rattle.domain_nsec3.proofs.borrowed.lend_record.Goals as goal
+
+-- the hash that the record points to
+next_is : (g : Over) (c : After-index-hashed g) → c.hash_after-next.result.now
+    ≡ (get_or c.args.chain.now.hashed.items (c.args.at + 1) (get_or c.args.chain.now.hashed.items 0 c.index-hashed.result.now)).hash
+next_is g c =
+    subst (λ (hs : List Hashed). c.hash_after-next.result.now ≡ (get_or hs (c.args.at + 1) (get_or hs 0 c.index-hashed.result.now)).hash)
+    c.as_slice.ensures.value (c.hash_after-next.ensures c.index-hashed.result.now)
+
+pub from_octets_unchecked-requires : goal.from_octets_unchecked-requires
+from_octets_unchecked-requires g c =
+    let at = (goal.at.from_octets_unchecked-requires g c).After-index-hashed in
+    let short = next_short c.args.nsec3param.now.owner c.args.chain.now _ _ c.index-hashed.result.now c.requires.inside c.requires.sound (next_is g at) in
+    grind (arith, common_steps)
 
 pub returns : goal.returns
 returns g c d =
-    c.lend_link.ensures ∙ link_is _ c.args.chain.now _ _ _ _ d c.requires.inside c.index.ensures
-    (subst (λ (hs : List Hashed). c.args.at + 1 < length hs → (x : Hashed)
-    → c.hash_after-next.result.now ≡ (get_or hs (c.args.at + 1) x).hash) c.as_slice.ensures.value c.hash_after-next.ensures.later)
-    (subst (λ (hs : List Hashed). length hs ≤ c.args.at + 1 → (x : Hashed)
-    → c.hash_after-next.result.now ≡ (get_or hs 0 x).hash) c.as_slice.ensures.value c.hash_after-next.ensures.first)
+    let link = link_is c.args.nsec3param.now.owner c.args.chain.now (common_of c.args.nsec3param.now.«data» c.args.ttl) c.index-hashed.result.now
+    c.hash_after-next.result.now c.args.at d c.requires.inside c.index-hashed.ensures (next_is g (goal.at.returns g c).After-index-hashed) in
+    grind (arith, common_steps)
