@@ -1,9 +1,9 @@
 -- Records that are read one after another, of which some are kept.
-use Rattle.std.proofs.Common.{◌≡◌, ℕ, ◌≤◌, Bool, true, false, cond, List, [], ◌∷◌, ◌++◌, map, length, refl, sym, ap, ◌∙◌, subst, arith, inl, inr, append_assoc}
+use Rattle.std.proofs.Common.{◌≡◌, ℕ, ◌≤◌, Bool, true, false, cond, List, [], ◌∷◌, ◌++◌, map, length, refl, sym, ap, ◌∙◌, subst, arith, append_assoc}
 use Rattle.std.{proofs.{Common.append-nil, lemmas.{Grind.common_steps, List.{map-append, Elements.filter-append}}}, specs.{Prelude.filter, List.AllByRecursion}}
 use Rattle.std.specs.List.{flat_map}
 use Rattle.domain_borrowed.{specs.{Data.RawRecord, Wire.{record_octets, IsRecord}}, proofs.WireLemmas.{same_record, some_octets}}
-use Rattle.domain_zone.proofs.{FindLemmas.{from_map, in_filtered}, PairLemmas.{In, all_in}, ZoneLemmas.{all_both, all_front, weaker}}
+use Rattle.domain_zone.proofs.{FindLemmas.{from_map, in_filtered, in_middle}, PairLemmas.{In, all_in}, ZoneLemmas.{all_both, all_front, weaker}}
 use Rattle.domain_dnssec.proofs.AmongLemmas.{all_pairs}
 use Rattle.domain_records.specs.Order.{IsOneClass}
 use Rattle.denial_c.specs.{Among.AreAmong, Given.{AreGiven, BeginsNone, IsOfClass}}
@@ -62,15 +62,11 @@ no_end left before all s n = next s.rest s.left_is s.whole
 -- which is one of them
 pub next_in : (left after : List ℕ) (before all : List RawRecord) (q : RawRecord) → HasRest left before all → left ≡ record_octets q ++ after → IsRecord q
     → In q all
-next_in left after before all q s begins fits = subst (In q) (sym s.all_are) (there before (here s.rest (sym begins ∙ s.left_is) s.whole))
+next_in left after before all q s begins fits = subst (In q) (sym s.all_are) (here s.rest (sym begins ∙ s.left_is) s.whole)
   where
-    here : (rest : List RawRecord) → record_octets q ++ after ≡ flat_map record_octets rest → AllByRecursion IsRecord rest → In q rest
+    here : (rest : List RawRecord) → record_octets q ++ after ≡ flat_map record_octets rest → AllByRecursion IsRecord rest → In q (before ++ rest)
     here [] e h = absurd (some_octets q after e)
-    here (r ∷ rs) e h = inl (sym (same_record q r after _ fits h.0 e).records)
-
-    there : (front : List RawRecord) → In q s.rest → In q (front ++ s.rest)
-    there [] i = i
-    there (r ∷ rs) i = inr (there rs i)
+    here (r ∷ rs) e h = subst (λ p. In q (before ++ p ∷ rs)) (same_record q r after _ fits h.0 e).records (in_middle before q rs)
 
 -- without octets left all have been read
 pub all_read : (left : List ℕ) (before all : List RawRecord) → HasRest left before all → left ≡ [] → before ≡ all

@@ -5,14 +5,14 @@ use Rattle.std.proofs.lemmas.Bool.{and_from, and_parts, cases_Bool, eq-eqb, eqb-
 use Rattle.std.{proofs.lemmas.List.Folds.list_any-append, specs.{Prelude.{filter, Contains}, List.{AllByRecursion, flat_map, list_any}}}
 use Rattle.domain_alike.{specs.Covered.covered_names, proofs.KeptLemmas.{is_unsigned, kept_all, kept_more, kept_past, kept_start, stays, stays_by, AreKept}}
 use Rattle.domain_names.specs.{Name.same_name, Words.Name}
-use Rattle.domain_dnssec.proofs.AmongLemmas.{any_two, contains_in, in_contains}
+use Rattle.domain_dnssec.{specs.RawRecords.Sorts, proofs.AmongLemmas.{any_two, contains_in, in_contains}}
 use Rattle.domain_borrowed.specs.{Data.{minimum_of, RawRecord, zone_of_raw}, Wire.{record_octets, IsRecord}}
 use Rattle.domain_zone.specs.{Owners.{OwnerRecords, owner_at, owners_with_records}, View.as_zone_record}
 use Rattle.domain_zone.specs.Zone.{ZoneRecord, clashes, has_clash, has_unequal_ttls, records_of, unoccluded_owners}
 use Rattle.domain_zone.proofs.{GivenLemmas.{name_of}, OwnerLemmas.in_any, PairLemmas.{In, all_in, all_from_in}}
 use Rattle.domain_zone.proofs.{TtlLemmas.{has_neighbour_clash, neighbours_tell, NeverDescend}, ZoneLemmas.{all_both, all_front, any_none, filter_whole, weaker}}
 use Rattle.domain_zone.proofs.FindLemmas.{in_filter, in_filtered, in_front, in_map, in_middle, from_map, in_either}
-use Rattle.denial_c.specs.{Chains.Sorts, Given.AreGiven, Uneven.{is_in_set, is_other, set_of, IsFirstClash, IsFirstUneven, IsUnevenAt}}
+use Rattle.denial_c.specs.{Given.AreGiven, Uneven.{is_in_set, is_other, set_of, IsFirstClash, IsFirstUneven, IsUnevenAt}}
 use Rattle.denial_c.proofs.AmongLemmas.{all_read, before_of_class, past_more, rest_given, IsPast}
 
 abbrev pub see : RawRecord → ZoneRecord

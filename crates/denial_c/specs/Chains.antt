@@ -13,16 +13,11 @@ use Rattle.domain_records.specs.{Order.{IsInOrder, IsOneClass}, declared.error.S
 use Rattle.domain_records.specs.declared.error.SigningError.TheVariants as signing_error
 use Rattle.domain_zone.specs.Zone.{records_of, ZoneRecord}
 use Rattle.domain_sha1.specs.Iterated.{sha1_answer}
-use Rattle.domain_dnssec.specs.Wire.{nsecs_octets, nsec3s_octets}
-use Rattle.domain_dnssec.specs.AnyOrder as any_order
-use Rattle.domain_borrowed.specs.Data.{data_cmp, RawRecord, zone_of_raw}
-use Rattle.denial_c.specs.{Given.{AreGiven, HasNoRecordAt, HasOtherClassAt}, Numbers.{chain_count, chain_number}, Result.{IsSpelled, Spells}}
+use Rattle.domain_dnssec.specs.{RawRecords.Sorts, Wire.{nsecs_octets, nsec3s_octets}}
+use Rattle.domain_borrowed.specs.Data.{RawRecord, zone_of_raw}
+use Rattle.denial_c.specs.{Given.{AreGiven, HasNoRecordAt, HasOtherClassAt}, Numbers.chain_told, Result.{IsSpelled, Spells}}
 use Rattle.denial_c.specs.{Uneven.{IsFirstClash, IsFirstUneven, IsUnevenAt}, declared.{fault.Fault.Fault, nsec3_chain.Hashing.Hashing}}
 use Rattle.denial_c.specs.declared.fault.Fault.TheVariants as fault
-
--- sorted is the sorted set of the records, by owner, class, type and the octets of the data
-abbrev pub Sorts : List RawRecord → List RawRecord → Type 0
-Sorts = any_order.Sorts (λ n. n) (λ d. d.rtype) data_cmp
 
 -- these are the records of the class that the octets are, sorted
 pub record AreSorted (class : ℕ) (octets : Octets) (sorted : List RawRecord) : Type 0 where
@@ -201,5 +196,4 @@ pub record IsChainTold (IsResult : Result ℕ Fault → Octets → Octets → Ty
     (count : ℕ) (old new : Octets) : Type 0 where
   pub answer : Result ℕ Fault
   pub is : IsResult answer old new
-  pub tells : number ≡ chain_number answer
-  pub counts : count ≡ chain_count answer
+  pub tells : (number, count) ≡ chain_told answer

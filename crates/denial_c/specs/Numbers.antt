@@ -21,9 +21,6 @@ verdict_told (NoName count) = (7, count)
 abbrev pub verdict_number : Verdict → ℕ
 verdict_number verdict = (verdict_told verdict).0
 
-abbrev pub verdict_labels : Verdict → ℕ
-verdict_labels verdict = (verdict_told verdict).1
-
 -- the number of a whole answer, and how many labels the zone cut, the owner of the DNAME record or
 -- the closest encloser has; 0 where it has none
 abbrev pub answer_told : Answer → ℕ × ℕ
@@ -47,9 +44,6 @@ answer_told answers.TooManyIterations = (47, 0)
 abbrev pub answer_number : Answer → ℕ
 answer_number answer = (answer_told answer).0
 
-abbrev pub answer_labels : Answer → ℕ
-answer_labels answer = (answer_told answer).1
-
 -- the number of a fault, and the offset where it stands, or how many octets there is no room for; 0
 -- where it has neither
 abbrev pub fault_told : Fault → ℕ × ℕ
@@ -71,14 +65,10 @@ fault_told Collision = (28, 0)
 abbrev pub fault_number : Fault → ℕ
 fault_number fault = (fault_told fault).0
 
-abbrev pub number_of : {V : Type 0} → (V → ℕ) → Result V Fault → ℕ
-number_of number (Ok value) = number value
-number_of number (Err fault) = fault_number fault
-
--- a fault has no labels
-abbrev pub labels_of : {V : Type 0} → (V → ℕ) → Result V Fault → ℕ
-labels_of labels (Ok value) = labels value
-labels_of labels (Err fault) = 0
+-- what is told of a value, or of a fault, which has no labels
+abbrev pub told_by : {V : Type 0} → (V → ℕ × ℕ) → Result V Fault → ℕ × ℕ
+told_by told (Ok value) = told value
+told_by told (Err fault) = (fault_number fault, 0)
 
 -- ---- chains, and names that hash alike
 
@@ -86,14 +76,10 @@ labels_of labels (Err fault) = 0
 abbrev pub chain_made : ℕ
 chain_made = 48
 
-abbrev pub chain_number : Result ℕ Fault → ℕ
-chain_number (Ok count) = chain_made
-chain_number (Err fault) = fault_number fault
-
--- how many octets the chain has, or what its fault counts
-abbrev pub chain_count : Result ℕ Fault → ℕ
-chain_count (Ok count) = count
-chain_count (Err fault) = (fault_told fault).1
+-- the number of a chain or a fault, and how many octets the chain has, or what its fault counts
+abbrev pub chain_told : Result ℕ Fault → ℕ × ℕ
+chain_told (Ok count) = (chain_made, count)
+chain_told (Err fault) = fault_told fault
 
 -- no two names hash alike
 abbrev pub no_collision : ℕ

@@ -11,7 +11,7 @@ use Rattle.domain_hasher.specs.declared.error.Nsec3HashError.TheVariants as hash
 use Rattle.domain_checker.specs.{HashedReading.IsWalked, HashedVerdict.{HasHashedProof, IsFirstRefusal, IsHashedProved}, HashedView.{HashedRecords, links_with}}
 use Rattle.domain_checker.specs.{Reading.reading, Verdict.{HasProof, IsProved, IsWithin}, declared.verdict.Verdict.Verdict}
 use Rattle.domain_checker.specs.declared.verdict.Verdict.TheVariants.{NotProven, OutsideZone}
-use Rattle.denial_c.specs.{Among.{AreNsecs, AreNsec3s, AreParams, HasNone, IsReadFault}, Numbers.{number_of, labels_of}, declared.fault.Fault.Fault}
+use Rattle.denial_c.specs.{Among.{AreNsecs, AreNsec3s, AreParams, HasNone, IsReadFault}, Numbers.told_by, declared.fault.Fault.Fault}
 use Rattle.denial_c.specs.declared.fault.Fault.TheVariants as fault
 use Rattle.denial_c.specs.declared.nsec3.Telling.{Telling}
 use Rattle.denial_c.specs.declared.nsec3.Telling.TheVariants as telling
@@ -205,9 +205,8 @@ IsNsec3Result source apex name t =
 -- ---- what C is told
 
 -- the numbers are those of an answer with this property
-pub record IsTold {V : Type 0} (number_by labels_by : V → ℕ)
-    (IsAnswer : Result V Fault → Type 0) (number labels : ℕ) : Type 0 where
+pub record IsTold {V : Type 0} (told : V → ℕ × ℕ) (IsAnswer : Result V Fault → Type 0)
+    (number labels : ℕ) : Type 0 where
   pub answer : Result V Fault
   pub is : IsAnswer answer
-  pub tells : number ≡ number_of number_by answer
-  pub counts : labels ≡ labels_of labels_by answer
+  pub tells : (number, labels) ≡ told_by told answer

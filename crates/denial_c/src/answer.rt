@@ -1,7 +1,6 @@
 //! Verdicts, whole answers, chains and faults as C sees them.
 ghost use Rattle.std.specs.Prelude.{◌≡◌};
-ghost use Rattle.denial_c.specs.Numbers.{answer_labels, answer_number, chain_count, chain_number, labels_of, number_of};
-ghost use Rattle.denial_c.specs.Numbers.{verdict_labels, verdict_number};
+ghost use Rattle.denial_c.specs.Numbers.{answer_told, chain_told, told_by, verdict_told};
 
 use crate::fault::{Fault, fault_number, fault_told};
 use domain_answer::Answer;
@@ -10,8 +9,7 @@ use domain_checker::Verdict;
 /// The number of a verdict or a fault, and how many labels the closest encloser has; 0 where there
 /// is none.
 pub(crate) fn verdict_told(verdict: Result<Verdict, Fault>) -> (u32, usize)
-    ensures number { result.0 ≡ number_of verdict_number verdict }
-    ensures labels { result.1 ≡ labels_of verdict_labels verdict }
+    ensures { result ≡ told_by verdict_told verdict }
 {
     match verdict {
         Ok(Verdict::NotProven) => (0, 0),
@@ -29,8 +27,7 @@ pub(crate) fn verdict_told(verdict: Result<Verdict, Fault>) -> (u32, usize)
 /// The number of a whole answer or a fault, and how many labels the zone cut, the owner of the
 /// DNAME record or the closest encloser has; 0 where there is none.
 pub(crate) fn answer_told(answer: Result<Answer, Fault>) -> (u32, usize)
-    ensures number { result.0 ≡ number_of answer_number answer }
-    ensures labels { result.1 ≡ labels_of answer_labels answer }
+    ensures { result ≡ told_by answer_told answer }
 {
     match answer {
         Ok(Answer::NotProven) => (32, 0),
@@ -55,8 +52,7 @@ pub(crate) fn answer_told(answer: Result<Answer, Fault>) -> (u32, usize)
 
 /// The number of a chain or a fault, and how many octets the chain has, or what its fault counts.
 pub(crate) fn chain_told(chain: Result<usize, Fault>) -> (u32, usize)
-    ensures number { result.0 ≡ chain_number chain }
-    ensures count { result.1 ≡ chain_count chain }
+    ensures { result ≡ chain_told chain }
 {
     match chain {
         Ok(octets) => (48, octets),
@@ -66,8 +62,7 @@ pub(crate) fn chain_told(chain: Result<usize, Fault>) -> (u32, usize)
 
 /// Writes what is counted, and gives the number.
 pub(crate) fn tell(told: (u32, usize), count: &mut usize) -> u32
-    ensures number { result ≡ told.0 }
-    ensures count { count.new ≡ told.1 }
+    ensures { (result, count.new) ≡ told }
 {
     *count = told.1;
     told.0

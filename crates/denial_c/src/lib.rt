@@ -12,7 +12,7 @@ ghost use Rattle.std.specs.Prelude.{◌≡◌, false};
 ghost use Rattle.denial_c.specs.Chains.{hashed_config, IsChainTold, IsNsecChainResult, IsNsec3ChainResult};
 ghost use Rattle.denial_c.specs.Collisions.{IsCollisionResult, IsCollisionTold};
 ghost use Rattle.denial_c.specs.Judged.{IsExpansionAnswer, IsNsecAnswer, IsNsec3Answer};
-ghost use Rattle.denial_c.specs.Numbers.{answer_labels, answer_number, verdict_labels, verdict_number};
+ghost use Rattle.denial_c.specs.Numbers.{answer_told, verdict_told};
 ghost use Rattle.denial_c.specs.Result.{alone, with_param, IsNsecResult, IsNsec3Result, IsTold};
 ghost use Rattle.denial_c.specs.Texts.{text_of, IsText};
 
@@ -71,7 +71,7 @@ pub extern "C" fn denial_judge_nsec(
     records: &[u8],
     labels: &mut usize,
 ) -> u32
-    ensures { IsTold answer_number answer_labels
+    ensures { IsTold answer_told
         (IsNsecAnswer apex.now name.now rtype class records.now) result labels.new }
 {
     let answer = judge::nsec_answer(alloc, apex, name, rtype, class, records);
@@ -95,7 +95,7 @@ pub extern "C" fn denial_judge_nsec3(
     records: &[u8],
     labels: &mut usize,
 ) -> u32
-    ensures { IsTold answer_number answer_labels
+    ensures { IsTold answer_told
         (IsNsec3Answer (with_param class records.now) apex.now name.now rtype limit)
         result labels.new }
 {
@@ -123,7 +123,7 @@ pub extern "C" fn denial_judge_nsec3_alone(
     records: &[u8],
     labels: &mut usize,
 ) -> u32
-    ensures { IsTold answer_number answer_labels
+    ensures { IsTold answer_told
         (IsNsec3Answer (alone class records.now) apex.now name.now rtype limit) result labels.new }
 {
     let told = Telling::ByFirst;
@@ -149,7 +149,7 @@ pub extern "C" fn denial_judge_nsec3_expansion(
     records: &[u8],
     labels: &mut usize,
 ) -> u32
-    ensures { IsTold answer_number answer_labels
+    ensures { IsTold answer_told
         (IsExpansionAnswer (with_param class records.now) apex.now name.now rrsig_labels limit)
         result labels.new }
 {
@@ -175,7 +175,7 @@ pub extern "C" fn denial_judge_nsec3_expansion_alone(
     records: &[u8],
     labels: &mut usize,
 ) -> u32
-    ensures { IsTold answer_number answer_labels
+    ensures { IsTold answer_told
         (IsExpansionAnswer (alone class records.now) apex.now name.now rrsig_labels limit)
         result labels.new }
 {
@@ -197,7 +197,7 @@ pub extern "C" fn denial_check_nsec(
     records: &[u8],
     labels: &mut usize,
 ) -> u32
-    ensures { IsTold verdict_number verdict_labels
+    ensures { IsTold verdict_told
         (IsNsecResult apex.now name.now rtype class records.now) result labels.new }
 {
     let verdict = nsec::nsec_verdict(apex, name, rtype, class, records);
@@ -219,7 +219,7 @@ pub extern "C" fn denial_check_nsec3(
     records: &[u8],
     labels: &mut usize,
 ) -> u32
-    ensures { IsTold verdict_number verdict_labels
+    ensures { IsTold verdict_told
         (IsNsec3Result (with_param class records.now) apex.now name.now rtype) result labels.new }
 {
     let verdict = nsec3::nsec3_verdict(alloc, Telling::ByRecord, apex, name, rtype, class, records);
@@ -242,7 +242,7 @@ pub extern "C" fn denial_check_nsec3_alone(
     records: &[u8],
     labels: &mut usize,
 ) -> u32
-    ensures { IsTold verdict_number verdict_labels
+    ensures { IsTold verdict_told
         (IsNsec3Result (alone class records.now) apex.now name.now rtype) result labels.new }
 {
     let verdict = nsec3::nsec3_verdict(alloc, Telling::ByFirst, apex, name, rtype, class, records);

@@ -1,5 +1,6 @@
 -- Records that are gone over one by one, of which some are kept.
-use Rattle.std.proofs.{lemmas.Grind.common_steps, Common.{◌≡◌, ℕ, List, [], ◌∷◌, ◌++◌, arith, length, refl, sym, subst, inr, append_assoc, append-nil}}
+use Rattle.std.proofs.{lemmas.Grind.common_steps, Common.{◌≡◌, ◌∙◌, ℕ, ◌+◌, ◌<◌, List, [], ◌∷◌, ◌++◌, ap, arith, drop, get_or, length, refl, sym, subst, inr}}
+use Rattle.std.proofs.{Common.{append_assoc, append-nil}, lemmas.List.drop_more}
 use Rattle.domain_names.specs.Words.{Name}
 use Rattle.domain_nsec.specs.Chain.{Link}
 use Rattle.domain_record.specs.RecordClone.{IsRecordClone}
@@ -7,13 +8,14 @@ use Rattle.domain_borrowed.specs.Data.{RawRecord}
 use Rattle.domain_checker.specs.{HandedIn.HasRead, declared.nsec_check.NsecCheck.NsecCheck}
 use Rattle.denial_program.specs.Check.{AreAmong, IsNsecOf}
 
-pub ended : (left : List RawRecord) → length left ≡ 0 → left ≡ []
-ended [] e = refl
-ended (r ∷ rs) e = absurd (omega arith)
-
 -- a copy is the record
-pub cloned : (r copy : RawRecord) → IsRecordClone (λ n m. m ≡ n) (λ d e. e ≡ d) r copy → r ≡ copy
+cloned : (r copy : RawRecord) → IsRecordClone (λ n m. m ≡ n) (λ d e. e ≡ d) r copy → r ≡ copy
 cloned r copy s = grind (arith, common_steps)
+
+-- the record at a place, which was copied, is the first of those that are left
+pub next_left : (all : List RawRecord) (i : ℕ) (r copy : RawRecord) → i < length all → r ≡ get_or all i r
+    → IsRecordClone (λ n m. m ≡ n) (λ d e. e ≡ d) r copy → drop i all ≡ copy ∷ drop (i + 1) all
+next_left all i r copy within is same = drop_more all i r within ∙ ap (λ x. x ∷ drop (i + 1) all) (sym is ∙ cloned r copy same)
 
 module _ {K : Type 0} (Is : RawRecord → K → Type 0) where
   -- the records before those that are left gave these

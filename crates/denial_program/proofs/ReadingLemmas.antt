@@ -4,7 +4,8 @@ use Rattle.std.proofs.Common.{◌≡◌, ◌≢◌, ℕ, ◌+◌, ◌-◌, ◌<�
 use Rattle.std.proofs.{BufReadLemmas.take_through_nonempty, Common.{Option, append-nil, append_assoc}, lemmas.List.Elements.{All-nil, All-cons}}
 use Rattle.std.specs.{Str.Lines.{lines, strip_carriage_return}, Io.{BufRead.{take_through, drop_through, DropsThrough}, KnownBytes.IsAtEnd}}
 use Rattle.domain_borrowed.specs.Data.{RawRecord}
-use Rattle.denial_program.{specs.{Words.{words, IsSkipped}, Listing.{Give, IsLineRecord, IsGood, IsBad, IsFirstBad}}, proofs.LineSteps.line_once}
+use Rattle.denial_program.specs.{Words.{words, IsSkipped}, Listing.{Give, IsLineRecord, IsGood, IsBad, IsFirstBad}}
+use Rattle.denial_program.proofs.{LineReading.known_so, LineSteps.line_once}
 
 -- what rest gives after these records, all gives; and rest begins with the line of this number
 pub record Continues (all rest : List (List ℕ)) (records : List RawRecord) (number : ℕ) : Type 0 where
@@ -25,41 +26,48 @@ first_bad_later line more k good h = record {
   bad = h.bad;
 }
 
--- of known octets the lines before this number gave these records, and the reader has the others left
+-- of known octets the reader has these left, and this holds of the lines of both
+abbrev pub IsReading : (List (List ℕ) → List (List ℕ) → Type 0) → Option (List ℕ) → Option (List ℕ) → Type 0
+IsReading Holds known now = IfSome known (λ all. (rest : List ℕ) × (now ≡ Some rest) × Holds (lines all) (lines rest))
+
+module _ (Holds : List (List ℕ) → List (List ℕ) → Type 0) where
+  pub reading_end : (known now : Option (List ℕ)) → IsReading Holds known now → IsAtEnd now → IfSome known (λ all. Holds (lines all) [])
+  reading_end None now h e = tt
+  reading_end (Some all) None h e = absurd (let w = h.1 in cc)
+  reading_end (Some all) (Some xs) h e = let same : h.0 ≡ [] = (let w = h.1 in cc) in subst (λ (r : List ℕ). Holds (lines all) (lines r)) same h.2
+
+  -- a line was read into a buffer that was empty, and without its end it is this
+  pub reading_next : (known old new : Option (List ℕ)) (was buf view out : List ℕ) → IsReading Holds known old
+      → DropsThrough old new 10 → was ≡ [] → IfSome old (λ xs. buf ≡ was ++ take_through 10 xs) → 0 < length buf → view ≡ buf
+      → ((front : List ℕ) → view ≡ front ++ 10 ∷ [] → out ≡ strip_carriage_return front)
+      → (get_or view (length view - 1) 0 ≢ 10 → out ≡ view)
+      → IsReading (λ all rest. Holds all (out ∷ rest)) known new
+  reading_next None old new was buf view out h drops empty filled some same ended last = tt
+  reading_next (Some all) old new was buf view out h drops empty filled some same ended last =
+      let rest = h.0 in
+      let dropped : new ≡ Some (drop_through 10 rest) = subst (λ o. DropsThrough o new 10) h.1 drops in
+      let held : buf ≡ was ++ take_through 10 rest = subst (λ o. IfSome o (λ xs. buf ≡ was ++ take_through 10 xs)) h.1 filled in
+      let taken : buf ≡ take_through 10 rest = held ∙ ap (λ (w : List ℕ). w ++ take_through 10 rest) empty in
+      let seen : view ≡ take_through 10 rest = same ∙ taken in
+      let once = line_once rest (take_through_nonempty 10 rest (subst (λ (t : List ℕ). 0 < length t) taken some)) in
+      let kept : out ≡ once.0 =
+      once.2 out (λ front e. ended front (seen ∙ e)) (λ p. last (subst (λ (t : List ℕ). get_or t (length t - 1) 0 ≢ 10) (sym seen) p) ∙ seen) in
+      let step : lines rest ≡ out ∷ lines (drop_through 10 rest) = once.1 ∙ ap (λ l. l ∷ lines (drop_through 10 rest)) (sym kept) in
+      (drop_through 10 rest, dropped, subst (Holds (lines all)) step h.2)
+
+-- the lines before this number gave these records
 abbrev pub Follows : Option (List ℕ) → Option (List ℕ) → List RawRecord → ℕ → Type 0
-Follows known now records number = IfSome known (λ all. (rest : List ℕ) × (now ≡ Some rest) × Continues (lines all) (lines rest) records number)
+Follows known now records number = IsReading (λ all rest. Continues all rest records number) known now
 
 -- the same where the line of this number was taken
 abbrev pub FollowsAt : Option (List ℕ) → Option (List ℕ) → List ℕ → List RawRecord → ℕ → Type 0
-FollowsAt known now out records number = IfSome known (λ all. (rest : List ℕ) × (now ≡ Some rest) × Continues (lines all) (out ∷ lines rest) records number)
+FollowsAt known now out records number = IsReading (λ all rest. Continues all (out ∷ rest) records number) known now
 
 pub follows_end : (known now : Option (List ℕ)) (records : List RawRecord) (number : ℕ)
     → Follows known now records number → IsAtEnd now → IfSome known (λ all. Give (lines all) records)
-follows_end None now records number h e = tt
-follows_end (Some all) None records number h e = absurd (let w = h.1 in cc)
-follows_end (Some all) (Some xs) records number h e =
-    let same : h.0 ≡ [] = (let w = h.1 in cc) in
-    let c : Continues (lines all) [] records number = subst (λ (r : List ℕ). Continues (lines all) (lines r) records number) same h.2 in
-    subst (Give (lines all)) (append-nil records) (c.gives [] refl)
-
--- a line was read into a buffer that was empty
-pub follows_next : (known old new : Option (List ℕ)) (records : List RawRecord) (number : ℕ) (was buf view out : List ℕ) → Follows known old records number
-    → DropsThrough old new 10 → was ≡ [] → IfSome old (λ xs. buf ≡ was ++ take_through 10 xs) → 0 < length buf → view ≡ buf
-    → ((front : List ℕ) → view ≡ front ++ 10 ∷ [] → out ≡ strip_carriage_return front)
-    → (get_or view (length view - 1) 0 ≢ 10 → out ≡ view)
-    → FollowsAt known new out records number
-follows_next None old new records number was buf view out h drops empty filled some same ended last = tt
-follows_next (Some all) old new records number was buf view out h drops empty filled some same ended last =
-    let rest = h.0 in
-    let dropped : new ≡ Some (drop_through 10 rest) = subst (λ o. DropsThrough o new 10) h.1 drops in
-    let held : buf ≡ was ++ take_through 10 rest = subst (λ o. IfSome o (λ xs. buf ≡ was ++ take_through 10 xs)) h.1 filled in
-    let taken : buf ≡ take_through 10 rest = held ∙ ap (λ (w : List ℕ). w ++ take_through 10 rest) empty in
-    let seen : view ≡ take_through 10 rest = same ∙ taken in
-    let once = line_once rest (take_through_nonempty 10 rest (subst (λ (t : List ℕ). 0 < length t) taken some)) in
-    let kept : out ≡ once.0 =
-    once.3 out (λ front e. ended front (seen ∙ e)) (λ p. last (subst (λ (t : List ℕ). get_or t (length t - 1) 0 ≢ 10) (sym seen) p) ∙ seen) in
-    let step : lines rest ≡ out ∷ lines (drop_through 10 rest) = once.1 ∙ ap (λ l. l ∷ lines (drop_through 10 rest)) (sym kept) in
-    (drop_through 10 rest, dropped, subst (λ ls. Continues (lines all) ls records number) step h.2)
+follows_end known now records number h e =
+    known_so _ (λ all. Give (lines all) records) known (λ all c. subst (Give (lines all)) (append-nil records) (c.gives [] refl))
+    (reading_end (λ all rest. Continues all rest records number) known now h e)
 
 pub follows_skip : (known now : Option (List ℕ)) (out : List ℕ) (records : List RawRecord) (number : ℕ)
     → FollowsAt known now out records number → IsSkipped (words out) → Follows known now records (number + 1)

@@ -15,10 +15,8 @@ Says line Bad = IsBad line
 
 -- why words are no record, where a token was refused
 abbrev pub line_error_of : ScanError → LineError
-line_error_of scan_error.EndOfEntry = line_error.Bad
-line_error_of (scan_error.Custom text) = line_error.Bad
-line_error_of scan_error.ShortBuf = line_error.Bad
 line_error_of scan_error.OutOfMemory = line_error.OutOfMemory
+line_error_of _ = line_error.Bad
 
 -- the words spell no record, unless there was no memory to tell
 abbrev pub SpellsNone : Tokens → LineError → Type 0

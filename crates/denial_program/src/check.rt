@@ -1,5 +1,5 @@
 //! What a chain that was read proves of a name and a type.
-ghost use Rattle.std.specs.Prelude.{◌≡◌, ◌⊎◌, ℕ, List, [], ◌∷◌, ◌++◌, map, IfErr, IfOk};
+ghost use Rattle.std.specs.Prelude.{◌≡◌, ◌⊎◌, ℕ, List, [], ◌∷◌, ◌++◌, IfErr, IfOk};
 ghost use Rattle.domain_names.specs.Words.{Name};
 ghost use Rattle.domain_nsec.specs.Chain.{Link};
 ghost use Rattle.domain_nsec3.specs.View.{as_param_record, hashed_links_of};
@@ -7,18 +7,14 @@ ghost use Rattle.domain_checker.specs.HandedIn.{HasRead};
 ghost use Rattle.denial_program.specs.Check.{AreNsecs, AreNsec3s, AreParams, HasNoNsec3Verdict, HasNoParam, IsNsec3Verdict, IsNsecVerdict};
 ghost use Rattle.denial_program.specs.declared.fault.DenialFault.TheVariants.{OutOfMemory as Memory};
 
+use crate::among::records_among;
 use crate::answer::Reply;
 use crate::command::Question;
 use crate::fault::DenialFault;
 use crate::line::ZoneName;
-use domain_base::{ParsedName, ToName};
-use domain_borrowed::{
-    BorrowedRecord, ReadNsec3, ReadNsec3param, into_nsec, into_nsec3, into_nsec3param,
-};
+use domain_base::ParsedName;
+use domain_borrowed::{BorrowedRecord, ReadNsec3param, into_nsec};
 use domain_dnssec::{Nsec3Hasher, Nsec3Records, NsecCheck, check_nsec3};
-use domain_hasher::Nsec3HashError;
-use domain_octets::OutOfMemory;
-use domain_records::SigningError;
 use std::alloc::Global;
 
 /// Hands in the NSEC records among these, in their order.
@@ -33,45 +29,6 @@ fn hand_in<'a>(check: &mut NsecCheck<'_>, records: Vec<BorrowedRecord<'a>>)
             check.add(&nsec);
         }
     }
-}
-
-/// The NSEC3 records among these, in their order.
-fn nsec3s_among<'a>(
-    alloc: Global,
-    records: Vec<BorrowedRecord<'a>>,
-) -> Result<Vec<ReadNsec3<'a>>, OutOfMemory>
-    ensures { IfOk result (λ nsec3s.
-        AreNsec3s records.entry.items (hashed_links_of (λ n. n) nsec3s.items)) }
-{
-    let mut nsec3s = Vec::new(alloc);
-    let mut left = records.into_iter();
-    'left: while let Some(record) = left.next() {
-        if let Some(nsec3) = into_nsec3(record) {
-            nsec3s.push(nsec3)?;
-        }
-    }
-    Ok(nsec3s)
-}
-
-/// The NSEC3PARAM records of the apex among these.
-fn params_at<'a>(
-    alloc: Global,
-    apex: &ZoneName,
-    records: &[BorrowedRecord<'a>],
-) -> Result<Vec<ReadNsec3param<'a>>, OutOfMemory>
-    ensures { IfOk result (λ params.
-        AreParams apex.now records.now (map (as_param_record (λ n. n)) params.items)) }
-{
-    let mut params = Vec::new(alloc);
-    for record in records {
-        let Some(param) = into_nsec3param(record.clone()?) else {
-            continue;
-        };
-        if param.owner().name_eq(apex) {
-            params.push(param)?;
-        }
-    }
-    Ok(params)
 }
 
 /// What the NSEC records among these prove.
@@ -102,14 +59,14 @@ pub fn chain_of<'a>(
     ensures err { IfErr result (λ e. ((e ≡ DenialFault.Param)
         × HasNoParam apex.now records.entry.items) ⊎ (e ≡ Memory)) }
 {
-    let mut params = params_at(alloc, apex, &records)?;
+    let mut params: Vec<ReadNsec3param<'a>> = records_among(alloc, apex, &records)?;
     let Some(param) = params.pop() else {
         return Err(DenialFault::Param);
     };
     if !params.is_empty() {
         return Err(DenialFault::Param);
     }
-    Ok(Nsec3Records::new(nsec3s_among(alloc, records)?, param))
+    Ok(Nsec3Records::new(records_among(alloc, apex, &records)?, param))
 }
 
 /// What the NSEC3 records among these prove.
@@ -125,11 +82,6 @@ pub fn nsec3_reply<'s, 'a, H: Nsec3Hasher>(
 {
     let Question { apex, name, rtype } = question;
     let chain = chain_of(alloc, &apex, records)?;
-    match check_nsec3(alloc, &apex, &chain, &name, rtype, hasher) {
-        Ok(verdict) => Ok(Reply::Verdict(name, verdict)),
-        Err(error) => match error {
-            Nsec3HashError::OutOfMemory => Err(DenialFault::OutOfMemory),
-            _ => Err(DenialFault::Signing(SigningError::Nsec3HashingError(error))),
-        },
-    }
+    let verdict = check_nsec3(alloc, &apex, &chain, &name, rtype, hasher)?;
+    Ok(Reply::Verdict(name, verdict))
 }

@@ -4,6 +4,7 @@ ghost use Rattle.denial_program.specs.Fault.{exit_status};
 ghost use Rattle.denial_program.specs.declared.fault.DenialFault.TheVariants as denial_fault;
 
 use crate::prepare::PrepareError;
+use domain_hasher::Nsec3HashError;
 use domain_octets::OutOfMemory;
 use domain_records::SigningError;
 use std::alloc::{AllocError, AllocFailed};
@@ -92,6 +93,17 @@ impl From<SigningError> for DenialFault {
             SigningError::OutOfMemory => DenialFault::OutOfMemory,
             fault => DenialFault::Signing(fault),
         }
+    }
+}
+
+impl From<Nsec3HashError> for DenialFault {
+    ghost use Rattle.domain_records.specs.ErrorText.{signing_error_of};
+    ghost use Rattle.denial_program.specs.Answer.{fault_of_zone};
+
+    ghost from_gives = { λ error e. e ≡ fault_of_zone (signing_error_of error) };
+
+    fn from(error: Nsec3HashError) -> DenialFault {
+        DenialFault::from(SigningError::from(error))
     }
 }
 

@@ -6,6 +6,7 @@
 //! of its process, and tests hand in such as fail.
 #![tactic(auto)]
 
+mod among;
 mod answer;
 mod arena;
 mod check;
@@ -20,12 +21,14 @@ mod reading;
 mod store;
 mod verdict_text;
 
+pub use among::{ReadAs, records_among};
 pub use answer::{Reply, nsecs_of};
 pub use check::chain_of;
 pub use command::{Nsec3Params, Question, name_of, parameters_of, question_of};
 pub use fault::{DenialFault, fault_of};
-pub use line::{ZoneName, ZoneOctets};
+pub use line::{Line, ZoneName, ZoneOctets, read_line};
 pub use prepare::{PrepareError, read_records, sort_zone};
 pub use process::{BUFFER, words_of};
 pub use program::run_denial;
 pub use reading::without_end;
+pub use store::Store;

@@ -120,10 +120,7 @@ pub fn store_apex<'a>(arena: &'a Bump, apex: &ZoneName) -> Result<ParsedName<'a>
     ensures ok { IfOk result (λ copy. copy ≡ apex.now) }
     ensures err { IfErr result (λ e. e ≡ DenialFault.Unprepared prepare_error) }
 {
-    match store_name(arena, apex) {
-        Ok(copy) => Ok(copy),
-        Err(_) => Err(unprepared()),
-    }
+    store_name(arena, apex).map_err(|_| unprepared())
 }
 
 /// The records, with the octets of their owners compacted into the arena once more, in order.
@@ -138,8 +135,5 @@ pub fn compact_zone<'a>(
     ensures ok { IfOk result (λ compacted. compacted.items ≡ sorted.entry.items) }
     ensures err { IfErr result (λ e. e ≡ DenialFault.Unprepared prepare_error) }
 {
-    match compact_owners(arena, sorted) {
-        Ok(compacted) => Ok(compacted),
-        Err(_) => Err(unprepared()),
-    }
+    compact_owners(arena, sorted).map_err(|_| unprepared())
 }

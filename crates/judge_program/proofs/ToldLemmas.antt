@@ -4,15 +4,14 @@ use Rattle.std.{proofs.lemmas.{Grind.common_steps, List.Folds.list_any-append}, 
 use Rattle.domain_octets.specs.Words.{Octets}
 use Rattle.domain_nsec3.specs.Chain.{ParamRecord}
 use Rattle.domain_hasher.specs.declared.error.Nsec3HashError.{Nsec3HashError, TheVariants.{Hasher, OutOfMemory}}
-use Rattle.domain_records.specs.declared.error.SigningError.TheVariants.{Nsec3HashingError}
-use Rattle.denial_program.{specs.declared.fault.DenialFault.{DenialFault, TheVariants.{OutOfMemory as Memory, Signing}}, proofs.RunLemmas.appends_more}
+use Rattle.domain_records.specs.ErrorText.{signing_error_of}
+use Rattle.denial_program.{specs.Answer.fault_of_zone, proofs.RunLemmas.appends_more}
 use Rattle.judge_program.specs.{Judged.IsRefusedWith, Told.{is_same, line_of, line_once, param_line, AnyLink}}
 
 -- an error of a hash as a fault
-pub refused_with : {P : ℕ → Type 0} (e : Nsec3HashError) (f : DenialFault) → (e ≡ OutOfMemory → f ≡ Memory)
-    → ((n : ℕ) → e ≡ Hasher n → f ≡ Signing (Nsec3HashingError (Hasher n))) → (e ≡ OutOfMemory) ⊎ ((n : ℕ) × (e ≡ Hasher n))
-    → ((n : ℕ) → e ≡ Hasher n → P n) → IsRefusedWith P f
-refused_with e f memory hasher errors first = grind (arith, common_steps)
+pub refused_with : {P : ℕ → Type 0} (e : Nsec3HashError) → (e ≡ OutOfMemory) ⊎ ((n : ℕ) × (e ≡ Hasher n)) → ((n : ℕ) → e ≡ Hasher n → P n)
+    → IsRefusedWith P (fault_of_zone (signing_error_of e))
+refused_with e errors first = grind (arith, common_steps)
 
 -- what is written one after another; the last may be nothing
 pub all_written : (a b c d e : Option Octets) (t u v w : Octets) → Appends a b t → Appends b c u → Appends c d v → Appends d e w

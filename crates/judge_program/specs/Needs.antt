@@ -1,5 +1,5 @@
 -- Which records an answer rests on, and which of them a response needs.
-use Rattle.std.specs.Prelude.{ℕ, Bool, true, false, Option, Some, None}
+use Rattle.std.specs.{Prelude.{ℕ, Bool, true, false, Option, Some, None}, Option.is_some}
 use Rattle.domain_answer.specs.declared.answer.Answer.{Answer}
 use Rattle.domain_answer.specs.declared.answer.Answer.TheVariants as answers
 use Rattle.judge_program.specs.declared.needs.Needs.{Needs}
@@ -23,15 +23,11 @@ wildcard_count (answers.NameError n) = Some n
 wildcard_count (answers.NoCloserName n) = Some n
 wildcard_count _ = None
 
--- an answer that rests on a cover of the next closer name
+-- an answer that rests on a cover of the next closer name: the wildcard was asked for behind that,
+-- but where the cover has the flag of opt-out
 abbrev pub needs_next_closer : Answer → Bool
-needs_next_closer (answers.Wildcard n) = true
-needs_next_closer (answers.WildcardAlias n) = true
-needs_next_closer (answers.WildcardNoData n) = true
-needs_next_closer (answers.NameError n) = true
 needs_next_closer (answers.MayBeUnsigned n) = true
-needs_next_closer (answers.NoCloserName n) = true
-needs_next_closer _ = false
+needs_next_closer answer = is_some (wildcard_count answer)
 
 -- which records a response needs of the name (RFC 4035, section 3.1.3; RFC 5155, section 7.2)
 abbrev pub needs_of : Answer → Needs

@@ -26,7 +26,7 @@ pub record IsNsec3Text (hashes : HasherAnswer) (given : List RawRecord) (q : Que
     (asked : Nsec3Options) (shown : Shown) (text : Octets) : Type 0 where
   pub answer : Answer
   pub judged : IsNsec3Judged hashes given q asked answer
-  pub told : Tellings
+  pub told : Option Tellings
   pub are : AreNsec3Told (rests_on_records answer) shown asked.labels judged.param
       (links_with q.apex judged.param.parameters hashes judged.links) q.name answer told
   pub is : text ≡ first_line shown q.name answer ++ below_text shown answer told

@@ -5,7 +5,7 @@ use Rattle.domain_names.specs.{Text.name_text, Words.Name, Name.last_labels}
 use Rattle.domain_answer.specs.{ZoneAnswer.wildcard_below, declared.answer.Answer.Answer}
 use Rattle.domain_answer.specs.declared.answer.Answer.TheVariants as answers
 use Rattle.denial_program.specs.{FaultText.fault_text, declared.fault.DenialFault.DenialFault}
-use Rattle.denial_program.specs.declared.fault.DenialFault.TheVariants.{Usage, Read, Line, Unprepared, MixedClasses, Signing, Param, Write, OutOfMemory}
+use Rattle.denial_program.specs.declared.fault.DenialFault.TheVariants.{Usage}
 use Rattle.judge_program.specs.declared.shown.Shown.{Shown}
 use Rattle.judge_program.specs.declared.shown.Shown.TheVariants as shows
 
@@ -56,20 +56,12 @@ answer_text name answers.NotProven = codes "not proven"
 
 -- the line of an answer, as a comment where the records that a server answers with follow
 abbrev pub first_line : Shown → Name → Answer → Octets
-first_line shows.Answer name answer = answer_text name answer ++ codes "\n"
-first_line shows.Why name answer = answer_text name answer ++ codes "\n"
 first_line shows.Records name answer = codes "; " ++ answer_text name answer ++ codes "\n"
+first_line _ name answer = answer_text name answer ++ codes "\n"
 
 -- a fault as this program prints it
 abbrev pub judge_fault_text : DenialFault → Octets
 judge_fault_text Usage =
     codes "usage: denial judge nsec APEX NAME TYPE [--why | --records] | denial judge nsec3 APEX "
     ++ codes "NAME TYPE [--labels N] [--limit ITERATIONS] [--why | --records]"
-judge_fault_text Read = fault_text Read
-judge_fault_text (Line n) = fault_text (Line n)
-judge_fault_text (Unprepared e) = fault_text (Unprepared e)
-judge_fault_text MixedClasses = fault_text MixedClasses
-judge_fault_text (Signing e) = fault_text (Signing e)
-judge_fault_text Param = fault_text Param
-judge_fault_text Write = fault_text Write
-judge_fault_text OutOfMemory = fault_text OutOfMemory
+judge_fault_text fault = fault_text fault

@@ -111,20 +111,17 @@ tellings_of p =
       param = option_map (λ k. as_param_record (λ n. n) k.now) p.param;
     }
 
-abbrev pub no_tellings : Tellings
-no_tellings = record { matched = None; closer = None; wildcard = None; param = None }
-
--- of NSEC records
-abbrev pub nsec_tellings : Name → List Link → Name → Answer → Tellings
+-- of NSEC records, where the answer rests on some
+abbrev pub nsec_tellings : Name → List Link → Name → Answer → Option Tellings
 nsec_tellings a listed x answer =
     if rests_on_records answer
-    then record {
+    then Some (record {
       matched = nsec_told a listed Asked x;
       closer = None;
       wildcard = told_where (nsec_told a listed) (wildcard_asked x (wildcard_count answer));
       param = None;
-    }
-    else no_tellings
+    })
+    else None
 
 -- the name that is matched: x itself, or its closest encloser, which has n labels
 abbrev pub encloser_role : Name → ℕ → Role
@@ -162,18 +159,19 @@ expansion_tellings param R x n =
       param = Some param;
     }
 
-abbrev pub AreWhole : ParamRecord → HashedRecords → Name → Answer → Tellings → Type 0
+abbrev pub AreWhole : ParamRecord → HashedRecords → Name → Answer → Option Tellings → Type 0
 AreWhole param R x answer told =
     (found : Option Encloser) × IsFoundEncloser R x found
-    × (told ≡ nsec3_tellings param R x answer found)
+    × (told ≡ Some (nsec3_tellings param R x answer found))
 
 -- what is told where this is to be shown: nothing where the answer rests on no records
 abbrev pub AreNsec3Told : Bool → Shown → Option ℕ → ParamRecord → HashedRecords → Name → Answer
-    → Tellings → Type 0
-AreNsec3Told false shown labels param R x answer told = told ≡ no_tellings
-AreNsec3Told true shows.Answer labels param R x answer told = told ≡ no_tellings
+    → Option Tellings → Type 0
+AreNsec3Told false shown labels param R x answer told = told ≡ None
+AreNsec3Told true shows.Answer labels param R x answer told = told ≡ None
 AreNsec3Told true shown None param R x answer told = AreWhole param R x answer told
-AreNsec3Told true shown (Some n) param R x answer told = told ≡ expansion_tellings param R x n
+AreNsec3Told true shown (Some n) param R x answer told =
+    told ≡ Some (expansion_tellings param R x n)
 
 -- ---- lines
 
@@ -217,10 +215,12 @@ records_text param m c w =
     ++ (if is_some m || is_some c || is_some w then param_line param else [])
 
 -- what follows the line of an answer
-abbrev pub below_text : Shown → Answer → Tellings → Octets
-below_text shows.Answer answer t = []
-below_text shows.Why answer t = told_line t.matched ++ told_line t.closer ++ told_line t.wildcard
-below_text shows.Records answer t =
+abbrev pub below_text : Shown → Answer → Option Tellings → Octets
+below_text shown answer None = []
+below_text shows.Answer answer (Some t) = []
+below_text shows.Why answer (Some t) =
+    told_line t.matched ++ told_line t.closer ++ told_line t.wildcard
+below_text shows.Records answer (Some t) =
     records_text t.param (matched_part (needs_of answer) t.matched) (listed_of true t.closer)
     (listed_of (needs_wildcard answer) t.wildcard)
 

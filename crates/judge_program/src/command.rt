@@ -45,19 +45,8 @@ pub struct Command {
     pub shown: Shown,
 }
 
-/// What the option asks to be printed.
-fn shown_by(option: &str) -> Option<Shown>
-    ensures some { IfSome result (ShownText (option.now ∷ [])) }
-    ensures none { IfNone result ((shown : Shown) → ShownText (option.now ∷ []) shown → ⊥) }
-{
-    match option {
-        "--why" => Some(Shown::Why),
-        "--records" => Some(Shown::Records),
-        _ => None,
-    }
-}
-
 /// What the options ask to be printed.
+#[tactic(auto, using(std::proofs::lemmas::Grind::common_steps, denial_program::proofs::CommandLemmas::same_text))]
 fn shown_of(options: &[String]) -> Option<Shown>
     ensures some { IfSome result (ShownText (map string_bytes options.now)) }
     ensures none { IfNone result
@@ -65,37 +54,27 @@ fn shown_of(options: &[String]) -> Option<Shown>
 {
     match options {
         [] => Some(Shown::Answer),
-        [option] => shown_by(option.as_str()),
+        [option] if option.as_str() == "--why" => Some(Shown::Why),
+        [option] if option.as_str() == "--records" => Some(Shown::Records),
         _ => None,
     }
 }
 
 /// The limit of iterations that the options ask for, and what is printed.
+#[tactic(auto, using(std::proofs::lemmas::Grind::common_steps, denial_program::proofs::CommandLemmas::same_text, crate::proofs::CommandLemmas::no_limit))]
 fn limit_of(options: &[String]) -> Option<(u16, Shown)>
     ensures some { IfSome result (λ p. LimitText (map string_bytes options.now) p.0 p.1) }
     ensures none { IfNone result ((limit : ℕ) (shown : Shown)
         → LimitText (map string_bytes options.now) limit shown → ⊥) }
 {
-    let [option, number, more @ ..] = options else {
-        return Some((USUAL_LIMIT, shown_of(options)?));
-    };
-    if option.as_str() != "--limit" {
-        return None;
+    match options {
+        [option, number, more @ ..] if option.as_str() == "--limit" => {
+            // RFC 5155, section 4.3.
+            let limit = u16::from_token(number.as_str()).ok()?;
+            Some((limit, shown_of(more)?))
+        }
+        _ => Some((USUAL_LIMIT, shown_of(options)?)),
     }
-    // RFC 5155, section 4.3.
-    let limit = u16::from_token(number.as_str()).ok()?;
-    Some((limit, shown_of(more)?))
-}
-
-/// A limit of iterations, and what is printed, without labels.
-fn without_labels(asked: (u16, Shown)) -> (Nsec3Options, Shown)
-    ensures labels { result.0.labels ≡ None }
-    ensures limit { result.0.limit ≡ asked.0 }
-    ensures shown { result.1 ≡ asked.1 }
-{
-    let (limit, shown) = asked;
-    let labels = None;
-    (Nsec3Options { labels, limit }, shown)
 }
 
 /// How the options ask for NSEC3 records to be judged, and what is printed.
@@ -106,17 +85,19 @@ fn nsec3_options_of(options: &[String]) -> Option<(Nsec3Options, Shown)>
     ensures none { IfNone result ((asked : Nsec3Options) (shown : Shown)
         → LabelsText (map string_bytes options.now) asked.labels asked.limit shown → ⊥) }
 {
-    let [option, number, more @ ..] = options else {
-        return Some(without_labels(limit_of(options)?));
-    };
-    if option.as_str() != "--labels" {
-        return Some(without_labels(limit_of(options)?));
+    match options {
+        [option, number, more @ ..] if option.as_str() == "--labels" => {
+            // RFC 4034, section 3.1.3.
+            let labels = Some(u8::from_token(number.as_str()).ok()?);
+            let (limit, shown) = limit_of(more)?;
+            Some((Nsec3Options { labels, limit }, shown))
+        }
+        _ => {
+            let labels = None;
+            let (limit, shown) = limit_of(options)?;
+            Some((Nsec3Options { labels, limit }, shown))
+        }
     }
-    // RFC 4034, section 3.1.3.
-    let labels = u8::from_token(number.as_str()).ok()?;
-    let (limit, shown) = limit_of(more)?;
-    let labels = Some(labels);
-    Some((Nsec3Options { labels, limit }, shown))
 }
 
 /// The kind of chain that a first word names, with the options that stand for it, and what is

@@ -1,7 +1,6 @@
 //! What records of a chain that were read answer to a question.
-ghost use Rattle.std.specs.{Prelude.{◌≡◌, ◌++◌, IfErr, IfOk, OnOk}, Io.KnownBytes.Appends};
-ghost use Rattle.domain_nsec.specs.ChainView.{links_of};
-ghost use Rattle.denial_program.specs.{Check.AreNsecs, Fault.IsBeforeOutput};
+ghost use Rattle.std.specs.{Prelude.{◌≡◌, ◌++◌, IfErr, OnOk, option_map}, Io.KnownBytes.Appends};
+ghost use Rattle.denial_program.specs.Fault.{IsBeforeOutput};
 ghost use Rattle.denial_program.specs.declared.fault.DenialFault.TheVariants.{OutOfMemory as Memory};
 ghost use Rattle.judge_program.specs.{Judged.IsNotNsec3Judged, Text.first_line, Told.{below_text, tellings_of}};
 ghost use Rattle.judge_program.specs.Run.{HasNoText, IsNsecText, IsNsec3Text, IsText, IsUnwritten, IsWritten};
@@ -10,33 +9,14 @@ use crate::command::{ChainKind, Command, Nsec3Options};
 use crate::nsec_told::nsec_parts;
 use crate::nsec3_told::Inquiry;
 use crate::shown::{Shown, write_first};
-use crate::told::Parts;
-use denial_program::{DenialFault, Question, ZoneName, chain_of, fault_of};
+use crate::told::{Parts, write_below};
+use denial_program::{DenialFault, Question, ZoneName, chain_of, fault_of, records_among};
 use domain_answer::{Answer, judge_nsec};
-use domain_borrowed::{BorrowedRecord, ReadNsec, into_nsec};
+use domain_borrowed::{BorrowedRecord, ReadNsec};
 use domain_dnssec::Nsec3Hasher;
-use domain_octets::OutOfMemory;
 use std::alloc::Global;
 use std::io;
 use std::io::Write;
-
-/// The NSEC records among these, in their order.
-fn nsecs_among<'a>(
-    alloc: Global,
-    records: Vec<BorrowedRecord<'a>>,
-) -> Result<Vec<ReadNsec<'a>>, OutOfMemory>
-    ensures { IfOk result (λ nsecs.
-        AreNsecs records.entry.items (links_of (λ n. n) nsecs.items)) }
-{
-    let mut nsecs = Vec::new(alloc);
-    let mut left = records.into_iter();
-    'left: while let Some(record) = left.next() {
-        if let Some(nsec) = into_nsec(record) {
-            nsecs.push(nsec)?;
-        }
-    }
-    Ok(nsecs)
-}
 
 /// Writes an answer about a name, and what is asked for below it. Hands all on to the device.
 #[tactic(auto, using(denial_program::proofs::RunLemmas::appends_more))]
@@ -44,14 +24,15 @@ fn write_answer<W: Write>(
     name: &ZoneName,
     answer: Answer,
     shown: Shown,
-    parts: &Parts<'_, '_>,
+    parts: &Option<Parts<'_, '_>>,
     output: &mut W,
 ) -> io::Result<()>
     ensures { OnOk result (Appends (W.contents output.old) (W.contents output.new)
-        (first_line shown name.now answer ++ below_text shown answer (tellings_of parts.now))) }
+        (first_line shown name.now answer
+        ++ below_text shown answer (option_map tellings_of parts.now))) }
 {
     write_first(name, answer, shown, output)?;
-    parts.write(shown, answer, output)?;
+    write_below(parts, shown, answer, output)?;
     output.flush()
 }
 
@@ -69,7 +50,7 @@ fn judge_nsecs<'a, W: Write>(
         (λ e. e ≡ Memory)) }
     ensures untouched { IfErr result (λ e. IsBeforeOutput e → output.new ≡ output.old) }
 {
-    let nsecs = nsecs_among(alloc, records)?;
+    let nsecs: Vec<ReadNsec<'a>> = records_among(alloc, &question.apex, &records)?;
     let answer = judge_nsec(&question.apex, &nsecs, &question.name, question.rtype);
     let parts = nsec_parts(question, &nsecs, answer);
     match write_answer(&question.name, answer, shown, &parts, output) {

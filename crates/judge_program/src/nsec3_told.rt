@@ -1,13 +1,10 @@
 //! What NSEC3 records answer to a question, and what they tell of the names that this rests on.
-ghost use Rattle.std.specs.{Prelude.{◌≡◌, ℕ, None, IfErr, IfOk}, Option.option_map};
+ghost use Rattle.std.specs.{Prelude.{◌≡◌, None, Some, IfErr, IfOk}, Option.option_map};
 ghost use Rattle.domain_nsec3.specs.View.{as_hashed_link, as_param_record};
-ghost use Rattle.domain_hasher.specs.declared.error.Nsec3HashError.TheVariants as hash_error;
 ghost use Rattle.domain_checker.specs.{HashedEncloser.encloser_of, HashedVerdict.IsFirstRefusal};
-ghost use Rattle.domain_answer.specs.HashedReading.{IsFirstOfRefusals};
-ghost use Rattle.denial_program.specs.declared.fault.DenialFault.TheVariants.{OutOfMemory as Memory, Signing};
-ghost use Rattle.domain_records.specs.declared.error.SigningError.TheVariants as signing_error;
+ghost use Rattle.denial_program.specs.declared.fault.DenialFault.TheVariants.{OutOfMemory as Memory};
 ghost use Rattle.judge_program.specs.Inquiry.{records_of};
-ghost use Rattle.judge_program.specs.Judged.{IsAnswerAsked, IsCloserRefusal, IsExpansionAnswer, IsNsec3Answer, IsRefusalAsked, IsRefusedWith};
+ghost use Rattle.judge_program.specs.Judged.{IsAnswerAsked, IsRefusalAsked, IsRefusedWith};
 ghost use Rattle.judge_program.specs.Needs.{rests_on_records, wildcard_count};
 ghost use Rattle.judge_program.specs.Told.{closer_told, encloser_role, encloser_told, expansion_tellings, finding, nsec3_told, telling_of, tellings_of, told_where, wildcard_asked, AnyLink.hashed, AreNsec3Told, AreWhole, IsRefusalBelow};
 
@@ -24,7 +21,6 @@ use domain_borrowed::ReadNsec3;
 use domain_checker::{Nsec3Encloser, Nsec3Found, find_nsec3, find_nsec3_encloser};
 use domain_dnssec::{Nsec3Hasher, Nsec3Records};
 use domain_hasher::Nsec3HashError;
-use domain_records::SigningError;
 use std::alloc::Global;
 
 /// What they tell of the closest encloser of a name.
@@ -41,18 +37,6 @@ pub struct Inquiry<'r, 'a, H: Nsec3Hasher> {
     pub chain: &'r Nsec3Records<ParsedName<'a>, &'a [u8]>,
     /// The hasher.
     pub hasher: &'r H,
-}
-
-/// The fault that an error of a hash is.
-fn refused(error: Nsec3HashError) -> DenialFault
-    ensures memory { error ≡ hash_error.OutOfMemory → result ≡ Memory }
-    ensures hasher { (n : ℕ) → error ≡ hash_error.Hasher n
-        → result ≡ Signing (signing_error.Nsec3HashingError (hash_error.Hasher n)) }
-{
-    match error {
-        Nsec3HashError::OutOfMemory => DenialFault::OutOfMemory,
-        _ => DenialFault::Signing(SigningError::Nsec3HashingError(error)),
-    }
 }
 
 /// A record that covers a name, if one does.
@@ -117,38 +101,6 @@ fn closer_part<'r, 'a>(
 }
 
 impl<'r, 'a, H: Nsec3Hasher> Inquiry<'r, 'a, H> {
-    /// The answer, where no labels are told.
-    fn whole_answer(&self, limit: u16) -> Result<Answer, DenialFault>
-        ensures ok { IfOk result
-            (IsNsec3Answer (records_of H.answer self.now) self.now.question.now limit) }
-        ensures err { IfErr result (IsRefusedWith (IsFirstOfRefusals
-            (records_of H.answer self.now) self.now.question.now.name
-            self.now.question.now.rtype)) }
-    {
-        let (alloc, chain, hasher) = (self.alloc, self.chain, self.hasher);
-        let Question { apex, name, rtype } = self.question;
-        match judge_nsec3(alloc, apex, chain, name, *rtype, limit, hasher) {
-            Ok(answer) => Ok(answer),
-            Err(error) => Err(refused(error)),
-        }
-    }
-
-    /// The answer about a name whose records were expanded from a wildcard, as the labels tell that
-    /// their signatures have.
-    fn expansion_answer(&self, labels: u8, limit: u16) -> Result<Answer, DenialFault>
-        ensures ok { IfOk result
-            (IsExpansionAnswer (records_of H.answer self.now) self.now.question.now labels limit) }
-        ensures err { IfErr result (IsRefusedWith
-            (IsCloserRefusal (records_of H.answer self.now) self.now.question.now labels limit)) }
-    {
-        let (alloc, chain, hasher) = (self.alloc, self.chain, self.hasher);
-        let Question { apex, name, .. } = self.question;
-        match judge_nsec3_expansion(alloc, apex, chain, name, labels as usize, limit, hasher) {
-            Ok(answer) => Ok(answer),
-            Err(error) => Err(refused(error)),
-        }
-    }
-
     /// The answer.
     ///
     /// # Errors
@@ -161,10 +113,13 @@ impl<'r, 'a, H: Nsec3Hasher> Inquiry<'r, 'a, H> {
         ensures err { IfErr result (IsRefusedWith (IsRefusalAsked asked.labels
             (records_of H.answer self.now) self.now.question.now asked.limit)) }
     {
-        match asked.labels {
-            Some(labels) => self.expansion_answer(labels, asked.limit),
-            None => self.whole_answer(asked.limit),
-        }
+        let (alloc, chain, hasher) = (self.alloc, self.chain, self.hasher);
+        let Question { apex, name, rtype } = self.question;
+        let Nsec3Options { labels, limit } = asked;
+        let Some(labels) = labels else {
+            return Ok(judge_nsec3(alloc, apex, chain, name, *rtype, limit, hasher)?);
+        };
+        Ok(judge_nsec3_expansion(alloc, apex, chain, name, labels as usize, limit, hasher)?)
     }
 
     /// What the records tell of a name. Of one whose hash is refused nothing is told.
@@ -190,10 +145,8 @@ impl<'r, 'a, H: Nsec3Hasher> Inquiry<'r, 'a, H> {
                 listed: Listed::Nsec3(nsec3),
             })),
             Ok(Nsec3Found::NoMatch(cover)) => Ok(cover_part(role, cover)),
-            Err(error) => match error {
-                Nsec3HashError::OutOfMemory => Err(DenialFault::OutOfMemory),
-                _ => Ok(None),
-            },
+            Err(Nsec3HashError::OutOfMemory) => Err(DenialFault::OutOfMemory),
+            Err(_) => Ok(None),
         }
     }
 
@@ -215,15 +168,12 @@ impl<'r, 'a, H: Nsec3Hasher> Inquiry<'r, 'a, H> {
     fn find_whole(&self, answer: Answer) -> Result<Parts<'r, 'a>, DenialFault>
         ensures ok { IfOk result (λ parts. AreWhole
             (as_param_record (λ n. n) self.now.chain.now.nsec3param) (records_of H.answer self.now)
-            self.now.question.now.name answer (tellings_of parts)) }
+            self.now.question.now.name answer (Some (tellings_of parts))) }
         ensures err { IfErr result (IsRefusedWith
             (IsFirstRefusal (records_of H.answer self.now) self.now.question.now.name)) }
     {
         let Question { apex, name, .. } = self.question;
-        let found = match find_nsec3_encloser(self.alloc, apex, self.chain, name, self.hasher) {
-            Ok(found) => found,
-            Err(error) => return Err(refused(error)),
-        };
+        let found = find_nsec3_encloser(self.alloc, apex, self.chain, name, self.hasher)?;
         let wildcard = self.find_wildcard(answer)?;
         Ok(Parts {
             matched: encloser_part(name, &found),
@@ -263,24 +213,19 @@ impl<'r, 'a, H: Nsec3Hasher> Inquiry<'r, 'a, H> {
         labels: Option<u8>,
         shown: Shown,
         answer: Answer,
-    ) -> Result<Parts<'r, 'a>, DenialFault>
+    ) -> Result<Option<Parts<'r, 'a>>, DenialFault>
         ensures ok { IfOk result (λ parts. AreNsec3Told (rests_on_records answer) shown labels
             (as_param_record (λ n. n) self.now.chain.now.nsec3param) (records_of H.answer self.now)
-            self.now.question.now.name answer (tellings_of parts)) }
+            self.now.question.now.name answer (option_map tellings_of parts)) }
         ensures err { IfErr result (IsRefusedWith (IsRefusalBelow labels
             (records_of H.answer self.now) self.now.question.now.name)) }
     {
         if shown == Shown::Answer || !rests_on_records(answer) {
-            return Ok(Parts {
-                matched: None,
-                closer: None,
-                wildcard: None,
-                param: None,
-            });
+            return Ok(None);
         }
         match labels {
-            Some(labels) => Ok(self.find_closer(labels)?),
-            None => Ok(self.find_whole(answer)?),
+            Some(labels) => Ok(Some(self.find_closer(labels)?)),
+            None => Ok(Some(self.find_whole(answer)?)),
         }
     }
 }

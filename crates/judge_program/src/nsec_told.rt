@@ -69,27 +69,22 @@ fn find_wildcard<'r, 'a>(
     find_told(&question.apex, nsecs, role, &wildcard)
 }
 
-/// What they tell of the names that an answer rests on.
+/// What they tell of the names that an answer rests on, where it rests on records.
 pub fn nsec_parts<'r, 'a>(
     question: &'r Question,
     nsecs: &'r [ReadNsec<'a>],
     answer: Answer,
-) -> Parts<'r, 'a>
-    ensures { tellings_of result ≡ nsec_tellings question.now.apex (links_of (λ n. n) nsecs.now)
-        question.now.name answer }
+) -> Option<Parts<'r, 'a>>
+    ensures { option_map tellings_of result ≡ nsec_tellings question.now.apex
+        (links_of (λ n. n) nsecs.now) question.now.name answer }
 {
     if !rests_on_records(answer) {
-        return Parts {
-            matched: None,
-            closer: None,
-            wildcard: None,
-            param: None,
-        };
+        return None;
     }
-    Parts {
+    Some(Parts {
         matched: find_told(&question.apex, nsecs, Role::Asked, &question.name),
         closer: None,
         wildcard: find_wildcard(question, nsecs, answer),
         param: None,
-    }
+    })
 }

@@ -31,8 +31,7 @@ pub fn write_first<W: Write>(
 {
     let text = AnswerText { name, answer };
     match shown {
-        Shown::Answer => writeln!(output, "{text}"),
-        Shown::Why => writeln!(output, "{text}"),
+        Shown::Answer | Shown::Why => writeln!(output, "{text}"),
         Shown::Records => writeln!(output, "; {text}"),
     }
 }

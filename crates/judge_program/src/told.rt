@@ -167,26 +167,32 @@ fn write_records<W: Write>(
     Ok(())
 }
 
-impl Parts<'_, '_> {
-    /// Writes what is asked for below an answer: the records that it rests on, one a line, with
-    /// what each tells; or those that a server answers with, one a line.
-    pub fn write<W: Write>(&self, shown: Shown, answer: Answer, output: &mut W) -> io::Result<()>
-        ensures { OnOk result (Appends (W.contents output.old) (W.contents output.new)
-            (below_text shown answer (tellings_of self.now))) }
-    {
-        match shown {
-            Shown::Answer => Ok(()),
-            Shown::Why => {
-                write_told(&self.matched, output)?;
-                write_told(&self.closer, output)?;
-                write_told(&self.wildcard, output)
-            }
-            Shown::Records => {
-                let matched = matched_part(needs_of(answer), &self.matched);
-                let closer = listed_of(true, &self.closer);
-                let wildcard = listed_of(needs_wildcard(answer), &self.wildcard);
-                write_records(matched, closer, wildcard, self.param, output)
-            }
+/// Writes what is asked for below an answer: the records that it rests on, one a line, with what
+/// each tells; or those that a server answers with, one a line.
+pub fn write_below<W: Write>(
+    parts: &Option<Parts<'_, '_>>,
+    shown: Shown,
+    answer: Answer,
+    output: &mut W,
+) -> io::Result<()>
+    ensures { OnOk result (Appends (W.contents output.old) (W.contents output.new)
+        (below_text shown answer (option_map tellings_of parts.now))) }
+{
+    let Some(parts) = parts else {
+        return Ok(());
+    };
+    match shown {
+        Shown::Answer => Ok(()),
+        Shown::Why => {
+            write_told(&parts.matched, output)?;
+            write_told(&parts.closer, output)?;
+            write_told(&parts.wildcard, output)
+        }
+        Shown::Records => {
+            let matched = matched_part(needs_of(answer), &parts.matched);
+            let closer = listed_of(true, &parts.closer);
+            let wildcard = listed_of(needs_wildcard(answer), &parts.wildcard);
+            write_records(matched, closer, wildcard, parts.param, output)
         }
     }
 }

@@ -3,7 +3,6 @@ use Rattle.std.specs.Prelude.{◌≡◌, ◌⊎◌, ℕ, ◌+◌, List, [], ◌�
 use Rattle.domain_octets.specs.Words.{Octets}
 use Rattle.domain_borrowed.specs.Data.{RawRecord}
 use Rattle.denial_program.specs.{Listing.{IsBad, IsLineRecord}, Words.{words, IsSkipped}}
-use Rattle.lint_program.specs.declared.reading.Line.{Line, TheVariants.{Nothing, Record, Bad}}
 
 -- each of these lines, of which the first has the number n, is skipped, spells a record, or is bad:
 -- these are the numbers of all that are bad, and the records of all others with their numbers, in
@@ -16,9 +15,3 @@ AreLinted n (line ∷ more) bad numbers records =
     × (left : List ℕ) × (numbers ≡ n ∷ left) × AreLinted (n + 1) more bad left others)
     ⊎ ((others : List ℕ) × (bad ≡ n ∷ others) × IsBad line
     × AreLinted (n + 1) more others numbers records))
-
--- what was read of a line is what it is
-abbrev pub Reads : Octets → Line → Type 0
-Reads line Nothing = IsSkipped (words line)
-Reads line (Record r) = IsLineRecord line r
-Reads line Bad = IsBad line

@@ -12,28 +12,21 @@ const FIRST: usize = 5;
 
 /// Whether all octets of a word are digits of Base 16, or of Base 64 and what fills it up.
 fn are_digits(form: &str, word: &str) -> bool {
-    for octet in word.as_bytes() {
-        let is_digit = match *octet {
-            b'+' | b'/' | b'=' => form == BASE64,
-            _ if form == BASE64 => octet.is_ascii_alphanumeric(),
-            _ => octet.is_ascii_hexdigit(),
-        };
-        if !is_digit {
-            return false;
-        }
-    }
-    true
+    word.as_bytes().iter().all(|octet| match *octet {
+        b'+' | b'/' | b'=' => form == BASE64,
+        _ if form == BASE64 => octet.is_ascii_alphanumeric(),
+        _ => octet.is_ascii_hexdigit(),
+    })
 }
 
 /// The place of the first of these words, from a place on, that has an octet which is no digit of
 /// the form.
 fn first_other(form: &str, words: &[&str], from: usize) -> Option<usize> {
-    for (place, word) in words.iter().enumerate() {
-        if place >= from && !are_digits(form, word) {
-            return Some(place);
-        }
-    }
-    None
+    let after = words
+        .get(from..)?
+        .iter()
+        .position(|word| !are_digits(form, word))?;
+    Some(from.saturating_add(after))
 }
 
 /// What is told of data in the generic form, and of which word, by its number; of this one where

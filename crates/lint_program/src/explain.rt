@@ -9,23 +9,13 @@ use denial_program::without_end;
 use std::alloc::{AllocError, Global};
 use std::str;
 
-/// The first octet of a word that is past `~`.
-fn octet_past(word: &[u8]) -> Option<u8> {
-    for octet in word {
-        if *octet > b'~' {
-            return Some(*octet);
-        }
-    }
-    None
-}
-
 /// What is wrong in a line, which stands with its end, and at which of its words, by its number
 /// counted from 1.
 pub fn explain(alloc: Global, line: &[u8]) -> Result<(usize, String), AllocError> {
     let line = without_end(line);
     let mut words = Vec::new(alloc);
     for word in line.split(|octet| *octet == b' ' || *octet == b'\t') {
-        if let Some(octet) = octet_past(word) {
+        if let Some(octet) = word.iter().find(|octet| **octet > b'~') {
             let said = quoted(alloc, word)?;
             let text = format!(in alloc;
                 "{said} has the octet {octet}, which is past `~`: \
@@ -50,12 +40,9 @@ pub fn explain(alloc: Global, line: &[u8]) -> Result<(usize, String), AllocError
 /// section 4).
 fn directive_of(words: &[&str]) -> Option<&'static str> {
     let first = words.first()?;
-    for directive in ["$ORIGIN", "$TTL", "$INCLUDE", "$GENERATE"] {
-        if first.eq_ignore_ascii_case(directive) {
-            return Some(directive);
-        }
-    }
-    None
+    ["$ORIGIN", "$TTL", "$INCLUDE", "$GENERATE"]
+        .into_iter()
+        .find(|directive| first.eq_ignore_ascii_case(directive))
 }
 
 /// Tells a word that can't be read as what stands there.

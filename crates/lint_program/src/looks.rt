@@ -147,34 +147,20 @@ pub fn reason_of(
             Some(Reason::SecondSoa)
         }
         Look::Classes => {
-            if borrowed.class() == first?.borrowed.class() {
-                return None;
-            }
-            Some(Reason::OtherClass)
+            let first = first?.borrowed;
+            (borrowed.class() != first.class()).then_some(Reason::OtherClass)
         }
         // RFC 2181, section 5.2; RRSIG records have the TTLs of what they sign.
         Look::Ttls => {
-            if rtype == Rtype::RRSIG || borrowed.ttl() == first?.borrowed.ttl() {
-                return None;
-            }
-            Some(Reason::OtherTtl)
+            let first = first?.borrowed;
+            ((rtype != Rtype::RRSIG) & (borrowed.ttl() != first.ttl())).then_some(Reason::OtherTtl)
         }
-        Look::Outside => {
-            if borrowed.owner().ends_with(apex) {
-                return None;
-            }
-            Some(Reason::Outside)
-        }
+        Look::Outside => (!borrowed.owner().ends_with(apex)).then_some(Reason::Outside),
         // RFC 1034, section 3.6.2.
         Look::Aliases => {
             let first = first?.borrowed;
-            if stands_beside_alias(rtype) {
-                return None;
-            }
-            if rtype == Rtype::CNAME || first.rtype() == Rtype::CNAME {
-                return Some(Reason::BesideAlias);
-            }
-            None
+            let is_alias = (rtype == Rtype::CNAME) | (first.rtype() == Rtype::CNAME);
+            (!stands_beside_alias(rtype) & is_alias).then_some(Reason::BesideAlias)
         }
         Look::Data => {
             let octets = borrowed.data().octets();

@@ -44,14 +44,9 @@ impl Shape {
 pub fn shape_of(rtype: Rtype) -> Shape
     ensures { result ≡ shape_of rtype }
 {
-    let number = rtype.to_int();
-    if number == 5 || number == 12 || number == 39 {
-        return Shape::OneName;
-    }
-    if number == 16 || number == 99 {
-        return Shape::Texts;
-    }
-    match number {
+    match rtype.to_int() {
+        5 | 12 | 39 => Shape::OneName,
+        16 | 99 => Shape::Texts,
         28 => Shape::LongAddress,
         33 => Shape::Service,
         52 => Shape::Certificate,

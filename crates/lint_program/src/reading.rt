@@ -1,13 +1,11 @@
 //! The lines of an input, each read by itself.
-ghost use Rattle.std.specs.Prelude.{◌≡◌, ◌⊎◌, ◌∷◌, [], IfErr, IfOk, IfSome, OnOk, length, map};
-ghost use Rattle.std.specs.Str.Lines.{lines};
-ghost use Rattle.domain_octets.specs.Words.{Octets};
+ghost use Rattle.std.specs.{Prelude.{◌≡◌, ◌⊎◌, IfErr, IfOk, IfSome, OnOk, length, map}, Str.Lines.lines};
 ghost use Rattle.denial_program.specs.Fault.{IsReadToEnd};
 ghost use Rattle.denial_program.specs.declared.fault.DenialFault.TheVariants.{OutOfMemory};
-ghost use Rattle.lint_program.specs.Lines.{AreLinted, Reads};
+ghost use Rattle.lint_program.specs.Lines.{AreLinted};
 
 use bumpalo::Bump;
-use denial_program::{DenialFault, fault_of, read_records};
+use denial_program::{DenialFault, Line, Store, fault_of, read_line, without_end};
 use domain_borrowed::BorrowedRecord;
 use std::alloc::Global;
 use std::io::BufRead;
@@ -43,17 +41,6 @@ pub struct Lines<'a> {
     ghost paired: { length places.items ≡ length records.items },
 }
 
-/// What a line says.
-#[derive(Drop)]
-pub enum Line<'a> {
-    /// It is blank, or a comment.
-    Nothing,
-    /// A record, with its octets in an arena.
-    Record(BorrowedRecord<'a>),
-    /// None of these.
-    Bad,
-}
-
 /// Whether the first word of a line ends with a dot.
 fn has_dot(line: &[u8]) -> bool {
     let mut last = b' ';
@@ -64,29 +51,6 @@ fn has_dot(line: &[u8]) -> bool {
         last = *octet;
     }
     last == b'.'
-}
-
-/// What one line says, which stands with its end.
-///
-/// # Errors
-///
-/// `OutOfMemory`, and `Read`, which the octets of a slice never give.
-fn read_line<'a>(alloc: Global, arena: &'a Bump, line: &[u8]) -> Result<Line<'a>, DenialFault>
-    ensures ok { IfOk result (λ said. (out : Octets) → lines line.now ≡ out ∷ [] → Reads out said) }
-    ensures err { IfErr result (λ e. (e ≡ DenialFault.Read) ⊎ (e ≡ OutOfMemory)) }
-{
-    let mut left: &[u8] = line;
-    match read_records(alloc, arena, &mut left) {
-        Ok(mut records) => match records.pop() {
-            Some(record) => Ok(Line::Record(record)),
-            None => Ok(Line::Nothing),
-        },
-        Err(fault) => match fault {
-            DenialFault::Line(_) => Ok(Line::Bad),
-            DenialFault::Unprepared(_) => Err(DenialFault::OutOfMemory),
-            _ => Err(fault),
-        },
-    }
 }
 
 /// The lines that are no records, and the records of the others, with their octets in the arena.
@@ -109,6 +73,7 @@ pub fn read_lines<'a, R: BufRead>(
     let mut records = Vec::new(alloc);
     let mut places = Vec::new(alloc);
     let mut line = Vec::new(alloc);
+    let mut store = Store::new(alloc, arena);
     for number in 1..u64::MAX {
         line.clear();
         let count = match input.read_until(b'\n', &mut line) {
@@ -122,7 +87,7 @@ pub fn read_lines<'a, R: BufRead>(
                 places,
             });
         }
-        match read_line(alloc, arena, &line)? {
+        match read_line(alloc, &mut store, without_end(&line))? {
             Line::Nothing => {}
             Line::Record(record) => {
                 let has_dot = has_dot(&line);

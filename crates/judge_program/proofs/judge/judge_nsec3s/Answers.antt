@@ -1,17 +1,33 @@
-use Rattle.judge_program.{proofs.Nsec3RunLemmas.{nsec3_text_is, nsec3_unwritten}, specs.Told.tellings_of}
+use Rattle.std.proofs.Common.{◌++◌, option_map, refl}
+use Rattle.domain_nsec3.specs.View.{as_param_record, hashed_links_of}
+use Rattle.judge_program.specs.{Judged.IsNotNsec3Judged, Run.IsNsec3Text, Text.first_line, Told.{below_text, tellings_of}}
+use Rattle.judge_program.proofs.{RunLemmas.unwritten, judge.judge_nsec3s.{Given.Over, Goals.After-write_answer}}
 use Rattle.judge_program.proofs.judge.judge_nsec3s.Goals as goal
 
-pub returns-in-Ok-clause-ok : goal.returns-in-Ok-clause-ok
-returns-in-Ok-clause-ok g c = record {
-  text = _;
-  is = nsec3_text_is (g.H.Nsec3Hasher.answer c.args.hasher.now) _ c.args.question.now _ _ _ _ c.in_ok-answer.answer (tellings_of c.in_ok-parts.parts)
-      c.in_ok-chain.ensures.param c.in_ok-chain.ensures.nsec3s c.in_ok-answer.ensures.ok c.in_ok-parts.ensures.ok;
-  appends = c.in-Ok.ensures;
+-- the text that is to be written is that of what the records answer
+told : (g : Over) (c : After-write_answer g)
+    → IsNsec3Text (g.H.Nsec3Hasher.answer c.args.hasher.now) c.args.records.items c.args.question.now c.args.asked c.args.shown
+    (first_line c.args.shown c.args.question.now.name c.in_ok-answer.answer
+    ++ below_text c.args.shown c.in_ok-answer.answer (option_map tellings_of c.in_ok-parts.parts))
+told g c = record {
+  answer = c.in_ok-answer.answer;
+  judged = record {
+    param = as_param_record (λ n. n) c.in_ok-chain.chain.nsec3param;
+    single = c.in_ok-chain.ensures.param;
+    links = hashed_links_of (λ n. n) c.in_ok-chain.chain.nsec3s.items;
+    are = c.in_ok-chain.ensures.nsec3s;
+    is = c.in_ok-answer.ensures.ok;
+  };
+  told = option_map tellings_of c.in_ok-parts.parts;
+  are = c.in_ok-parts.ensures.ok;
+  is = refl;
 }
+
+pub returns-in-Ok-clause-ok : goal.returns-in-Ok-clause-ok
+returns-in-Ok-clause-ok g c =
+    record { text = _; is = told g (goal.at.returns-in-Ok-clause-ok g c).After-write_answer; appends = c.in-Ok.ensures }
 
 pub returns-clause-err : goal.returns-clause-err
 returns-clause-err g c =
-    let hashes = g.H.Nsec3Hasher.answer c.args.hasher.now in
-    let is = nsec3_text_is hashes _ c.args.question.now _ c.args.shown _ _ c.in_ok-answer.answer (tellings_of c.in_ok-parts.parts)
-    c.in_ok-chain.ensures.param c.in_ok-chain.ensures.nsec3s c.in_ok-answer.ensures.ok c.in_ok-parts.ensures.ok in
-    nsec3_unwritten hashes _ _ _ _ _ _ is c.fault_of.ensures.either
+    unwritten _ (IsNotNsec3Judged (g.H.Nsec3Hasher.answer c.args.hasher.now) c.args.records.items c.args.question.now c.args.asked) _
+    (told g (goal.at.returns-clause-err g c).After-write_answer) tt _ c.fault_of.ensures.either

@@ -1,25 +1,31 @@
-use Rattle.std.proofs.Common.{◌≡◌, ap, refl}
+use Rattle.std.proofs.Common.{◌≡◌, ◌++◌, ap, option_map, refl}
 use Rattle.domain_nsec.specs.ChainView.{links_of}
 use Rattle.denial_program.specs.declared.fault.DenialFault.TheVariants.{OutOfMemory}
-use Rattle.judge_program.proofs.RunLemmas.{nsec_text, unwritten}
+use Rattle.judge_program.specs.{Run.IsNsecText, Text.first_line, Told.{below_text, tellings_of}}
+use Rattle.judge_program.proofs.{RunLemmas.unwritten, judge.judge_nsecs.{Given.Over, Goals.After-write_answer}}
 use Rattle.judge_program.proofs.judge.judge_nsecs.Goals as goal
+
+-- the text that is to be written is that of what the records answer
+told : (g : Over) (c : After-write_answer g) → IsNsecText c.args.records.items c.args.question.now c.args.shown
+    (first_line c.args.shown c.args.question.now.name c.judge_nsec-answer.result
+    ++ below_text c.args.shown c.judge_nsec-answer.result (option_map tellings_of c.nsec_parts-parts.result))
+told g c = record {
+  answer = c.judge_nsec-answer.result;
+  judged = record {
+    links = links_of (λ n. n) c.in_ok-nsecs.nsecs.items;
+    are = rw c.deref.ensures.value at c.in_ok-nsecs.ensures;
+    zone = rw c.deref-2.ensures.value at c.judge_nsec-answer.ensures.zone;
+    exact = rw c.deref-2.ensures.value at c.judge_nsec-answer.ensures.exact;
+    proof = rw c.deref-2.ensures.value at c.judge_nsec-answer.ensures.proof;
+  };
+  is = ap (λ t. first_line c.args.shown c.args.question.now.name c.judge_nsec-answer.result ++ below_text c.args.shown c.judge_nsec-answer.result t)
+      (rw c.deref-3.ensures.value at c.nsec_parts-parts.ensures);
+}
 
 pub returns-in-Ok-clause-ok : goal.returns-in-Ok-clause-ok
 returns-in-Ok-clause-ok g c =
-    let given = c.args.records.items in
-    let q = c.args.question.now in
-    let answer = c.judge_nsec-answer.result in
-    let is = nsec_text given q c.args.shown answer _ _ _ _ (ap (links_of (λ n. n)) c.deref.ensures.value) (ap (links_of (λ n. n)) c.deref-2.ensures.value)
-    c.in_ok-nsecs.ensures c.judge_nsec-answer.ensures.zone c.judge_nsec-answer.ensures.exact c.judge_nsec-answer.ensures.proof
-    c.nsec_parts-parts.ensures in
-    record { text = _; is = is; appends = c.in-Ok.ensures }
+    record { text = _; is = told g (goal.at.returns-in-Ok-clause-ok g c).After-write_answer; appends = c.in-Ok.ensures }
 
 pub returns-clause-err : goal.returns-clause-err
 returns-clause-err g c =
-    let given = c.args.records.items in
-    let q = c.args.question.now in
-    let answer = c.judge_nsec-answer.result in
-    let is = nsec_text given q c.args.shown answer _ _ _ _ (ap (links_of (λ n. n)) c.deref.ensures.value) (ap (links_of (λ n. n)) c.deref-2.ensures.value)
-    c.in_ok-nsecs.ensures c.judge_nsec-answer.ensures.zone c.judge_nsec-answer.ensures.exact c.judge_nsec-answer.ensures.proof
-    c.nsec_parts-parts.ensures in
-    unwritten _ (λ e. e ≡ OutOfMemory) _ is refl _ c.fault_of.ensures.either
+    unwritten _ (λ e. e ≡ OutOfMemory) _ (told g (goal.at.returns-clause-err g c).After-write_answer) refl _ c.fault_of.ensures.either
