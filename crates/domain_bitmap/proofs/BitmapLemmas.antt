@@ -3,28 +3,24 @@ use Rattle.std.proofs.Common.{◌≡◌, ◌≢◌, ℕ, zero, suc, ◌+◌, ◌
 use Rattle.std.proofs.{Common.{inr, arith, zero-add}, lemmas.{Bool.Decides.{eqb_tells, leb_tells}, Grind.common_steps, List.FromFn.length-map-range_with_len}}
 use Rattle.std.{proofs.lemmas.List.FromFn.get_or-map-range_with_len, specs.{Prelude.{◌==◌, if◌then◌else◌}, List.AllByRecursion}}
 use Rattle.domain_bitmap.specs.{Bits.{has_bit, octet_with}, Bitmap.{window_octets, trimmed, block_if_any, blocks_with, bitmap_octets}}
-use Rattle.domain_bitmap.specs.Blocks.{Block, IsBlock, IsBitmap, IsShortest, WindowsAscendFrom, last_octet, octets_of_blocks, in_first_block, contains_type}
+use Rattle.domain_bitmap.specs.Blocks.{Block, IsBlock, IsBitmap, AreShortest, IsShortest, last_octet, octets_of_blocks, in_first_block, contains_type}
 use Rattle.domain_bitmap.proofs.{BitLemmas.{octet_with-lt, bit_of-octet_with, bit_of-zero, octets_same}, RangeLemmas.range_more}
 use Rattle.domain_bitmap.proofs.BlockLemmas.{IsBitmap-octets_of_blocks, blocks_of-octets_of_blocks}
 use Rattle.domain_bitmap.proofs.TrimLemmas.{IsCut, none_cut, cut-trimmed, cut_same, get_or-trimmed, length-trimmed}
 
 -- ---- blocks in the one form that a builder gives, from a window on
 
-abbrev pub EndsSet : Block → Type 0
-EndsSet block = last_octet block.octets ≢ 0
-
 pub record InForm (low : ℕ) (blocks : List Block) : Type 0 where
   pub valid : AllByRecursion IsBlock blocks
-  pub ascending : WindowsAscendFrom low blocks
-  pub cut : AllByRecursion EndsSet blocks
+  pub shortest : AreShortest low blocks
 
 pub none_in_form : (low : ℕ) → InForm low []
-none_in_form low = record { valid = tt; ascending = tt; cut = tt }
+none_in_form low = record { valid = tt; shortest = tt }
 
 pub form-lower : (low high : ℕ) (blocks : List Block) → low ≤ high → InForm high blocks → InForm low blocks
 form-lower low high [] lower form = none_in_form low
 form-lower low high (block ∷ blocks) lower form =
-    record { valid = form.valid; ascending = (omega (arith, form.ascending.0), form.ascending.1); cut = form.cut }
+    record { valid = form.valid; shortest = (omega (arith, form.shortest.0), form.shortest.1, form.shortest.2) }
 
 -- octets that a block may have, but that there may be none
 pub record OfWindow (octets : List ℕ) : Type 0 where
@@ -44,8 +40,7 @@ pub form-more : (w : ℕ) (octets : List ℕ) (blocks : List Block) → w < 256 
 form-more w [] blocks small of_window form = form-lower w (w + 1) blocks (omega arith) form
 form-more w (x ∷ xs) blocks small of_window form = record {
   valid = (record { window = small; not_empty = omega arith; fits = of_window.fits; bounded = of_window.small }, form.valid);
-  ascending = (omega arith, form.ascending);
-  cut = (of_window.cut (omega arith), form.cut);
+  shortest = (omega arith, of_window.cut (omega arith), form.shortest);
 }
 
 -- ---- the types of such blocks
@@ -59,14 +54,14 @@ unfolding has_bit
 has_bit-trimmed octets t = grind (arith, common_steps, get_or-trimmed)
 
 -- a window below all others has no types
-none_below : (blocks : List Block) (low t : ℕ) → WindowsAscendFrom low blocks → t / 256 < low → in_first_block blocks t ≡ false
-none_below [] low t ascend below = refl
-none_below (block ∷ blocks) low t ascend below = grind (arith, common_steps, (none_below blocks (block.window + 1) t ascend.1 (omega (arith, ascend.0))))
+none_below : (blocks : List Block) (low t : ℕ) → AreShortest low blocks → t / 256 < low → in_first_block blocks t ≡ false
+none_below [] low t short below = refl
+none_below (block ∷ blocks) low t short below = grind (arith, common_steps, (none_below blocks (block.window + 1) t short.2 (omega (arith, short.0))))
 
-pub in-more : (w : ℕ) (octets : List ℕ) (blocks : List Block) (t : ℕ) → WindowsAscendFrom (w + 1) blocks
+pub in-more : (w : ℕ) (octets : List ℕ) (blocks : List Block) (t : ℕ) → AreShortest (w + 1) blocks
     → in_first_block (block_if_any w octets ++ blocks) t ≡ (if w == t / 256 then has_bit octets t else in_first_block blocks t)
-in-more w [] blocks t ascend = grind (arith, common_steps, none_below, has_bit-none)
-in-more w (x ∷ xs) blocks t ascend = refl
+in-more w [] blocks t short = grind (arith, common_steps, none_below, has_bit-none)
+in-more w (x ∷ xs) blocks t short = refl
 
 -- ---- one spelling
 
@@ -82,21 +77,21 @@ same_octets xs ys w x y same =
           rw (octet, bit) at (same t (omega (arith, h.1))))
     ])
 
-of_block : (block : Block) → IsBlock block → EndsSet block → OfWindow block.octets
+of_block : (block : Block) → IsBlock block → last_octet block.octets ≢ 0 → OfWindow block.octets
 of_block block valid cut = record { fits = valid.fits; small = valid.bounded; cut = λ some. cut }
 
 -- a block has a type, which blocks of later windows do not have
-no_less : (block : Block) (blocks others : List Block) (low : ℕ) → InForm low (block ∷ blocks) → WindowsAscendFrom (block.window + 1) others
+no_less : (block : Block) (blocks others : List Block) (low : ℕ) → InForm low (block ∷ blocks) → AreShortest (block.window + 1) others
     → ((t : ℕ) → t < 65536 → in_first_block (block ∷ blocks) t ≡ in_first_block others t) → ⊥
 no_less block blocks others low form later same =
     let valid : IsBlock block = form.valid.0 in
     let empty : OfWindow [] = record { fits = omega arith; small = λ i. omega arith; cut = none_cut } in
-    let none : block.octets ≡ [] = same_octets _ [] block.window (of_block block valid form.cut.0) empty
+    let none : block.octets ≡ [] = same_octets _ [] block.window (of_block block valid form.shortest.1) empty
     (λ t here. grind (arith, common_steps, has_bit-none, (same t (omega (arith, here, valid.window))), (none_below others _ t later (omega (arith, here))))) in
     omega (arith, ap length none, valid.not_empty)
 
 form-rest : (low : ℕ) (block : Block) (blocks : List Block) → InForm low (block ∷ blocks) → InForm (block.window + 1) blocks
-form-rest low block blocks form = record { valid = form.valid.1; ascending = form.ascending.1; cut = form.cut.1 }
+form-rest low block blocks form = record { valid = form.valid.1; shortest = form.shortest.2 }
 
 same_block : (x y : Block) → x.window ≡ y.window → x.octets ≡ y.octets → x ≡ y
 same_block x y window octets = ap (λ n. record { window = n; octets = x.octets }) window ∙ ap (λ l. record { window = y.window; octets = l }) octets
@@ -107,15 +102,15 @@ once [] [] low x y same = refl
 once (block ∷ xs) [] low x y same = absurd (no_less block xs [] low x tt same)
 once [] (block ∷ ys) low x y same = absurd (no_less block ys [] low y tt (λ t small. sym (same t small)))
 once (a ∷ xs) (b ∷ ys) low x y same = elim (leb_tells a.window b.window) [
-  | inr h ↦ absurd (no_less b ys (a ∷ xs) low y (omega (arith, h.1), x.ascending.1) (λ t small. sym (same t small)))
+  | inr h ↦ absurd (no_less b ys (a ∷ xs) low y (omega (arith, h.1), x.shortest.1, x.shortest.2) (λ t small. sym (same t small)))
   | inl h ↦ elim (leb_tells b.window a.window) [
-    | inr k ↦ absurd (no_less a xs (b ∷ ys) low x (omega (arith, k.1), y.ascending.1) same)
+    | inr k ↦ absurd (no_less a xs (b ∷ ys) low x (omega (arith, k.1), y.shortest.1, y.shortest.2) same)
     | inl k ↦
         let here : a.window ≡ b.window = omega (arith, h.1, k.1) in
-        let first : a ≡ b = same_block a b here (same_octets _ _ a.window (of_block a x.valid.0 x.cut.0) (of_block b y.valid.0 y.cut.0)
+        let first : a ≡ b = same_block a b here (same_octets _ _ a.window (of_block a x.valid.0 x.shortest.1) (of_block b y.valid.0 y.shortest.1)
         (λ t window. grind (arith, common_steps, (same t (omega (arith, window, x.valid.0.window)))))) in
         let rest : xs ≡ ys = once xs ys (a.window + 1) (form-rest low a xs x) (rw here (form-rest low b ys y))
-        (λ t small. grind (arith, common_steps, (same t small), (none_below xs _ t x.ascending.1), (none_below ys _ t y.ascending.1))) in
+        (λ t small. grind (arith, common_steps, (same t small), (none_below xs _ t x.shortest.2), (none_below ys _ t y.shortest.2))) in
         cc
   ]
 ]
@@ -150,7 +145,7 @@ in-blocks_with : (octets : ℕ → List ℕ) (a n t : ℕ) → AreWindows octets
 unfolding blocks_with
 in-blocks_with octets a zero t are fits low high = absurd (omega (arith, low, high))
 in-blocks_with octets a (suc n) t are fits low high =
-    in-more a _ _ t (form-blocks_with octets (a + 1) n are (omega (arith, fits))).ascending ∙ elim (eqb_tells a (t / 256)) [
+    in-more a _ _ t (form-blocks_with octets (a + 1) n are (omega (arith, fits))).shortest ∙ elim (eqb_tells a (t / 256)) [
       | inl h ↦ rw h.0 (has_bit-trimmed (octets a) t ∙ ap (λ w. has_bit (octets w) t) h.1)
       | inr h ↦ rw h.0 (in-blocks_with octets (a + 1) n t are (omega (arith, fits)) (omega (arith, low, h.1)) (omega (arith, high)))
     ]
@@ -206,8 +201,7 @@ unfolding contains_type
 spelling_is types octets x =
     let y = spells-bitmap_octets types in
     x.bitmap.spelled ∙ ap octets_of_blocks (once _ _ 0
-    (record { valid = x.bitmap.valid; ascending = x.shortest.ascending; cut = x.shortest.cut })
-    (record { valid = y.bitmap.valid; ascending = y.shortest.ascending; cut = y.shortest.cut })
+    (record { valid = x.bitmap.valid; shortest = x.shortest }) (record { valid = y.bitmap.valid; shortest = y.shortest })
     (λ t small. x.contains t small ∙ sym (y.contains t small))) ∙ sym y.bitmap.spelled
 
 pub IsBitmap-bitmap_octets : (types : ℕ → Bool) → IsBitmap (bitmap_octets types)

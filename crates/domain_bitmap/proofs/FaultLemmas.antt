@@ -1,5 +1,5 @@
 -- why octets are no list of blocks
-use Rattle.std.proofs.{lemmas.Grind.common_steps, Common.{◌≡◌, refl, ℕ, ◌+◌, ◌<◌, ◌≤◌, List, [], ◌∷◌, length, get_or, take, drop, sym, ap, subst, ◌∙◌, arith}}
+use Rattle.std.proofs.{lemmas.Grind.common_steps, Common.{◌≡◌, refl, ℕ, suc, ◌+◌, ◌<◌, ◌≤◌, List, [], ◌∷◌, length, get_or, take, drop, ap, ◌∙◌, arith}}
 use Rattle.std.proofs.lemmas.List.{length-take, get_or-drop}
 use Rattle.domain_bitmap.specs.declared.error.RtypeBitmapError.{RtypeBitmapError, TheVariants.{ShortInput}}
 use Rattle.domain_bitmap.specs.Fault.{BitmapFault, bitmap_fault_of, FirstBlockFault, no_length, bad_length, cut_block, after}
@@ -20,23 +20,24 @@ small_take xs n i small = grind (arith, common_steps, (small i))
 
 pub reading_goes : (octets rest : List ℕ) → Reading octets rest → 2 ≤ length rest → 0 < get_or rest 1 0 → get_or rest 1 0 ≤ 32
     → get_or rest 1 0 ≤ length (drop 2 rest) → Reading octets (drop (get_or rest 1 0) (drop 2 rest))
-reading_goes octets rest reading two some fits inside =
-    let len = get_or rest 1 0 in
-    let count = length-take len (drop 2 rest) in
-    let small : (i : ℕ) → get_or (drop 2 rest) i 0 < 256 = λ i. rw (get_or-drop 2 rest i 0) (reading.small (2 + i)) in
+reading_goes octets [] reading two some fits inside = absurd (omega (arith, two))
+reading_goes octets (window ∷ []) reading two some fits inside = absurd (omega (arith, two))
+reading_goes octets (window ∷ len ∷ tail) reading two some fits inside =
+    let count = length-take len tail in
+    let small : (i : ℕ) → get_or tail i 0 < 256 = λ i. reading.small (suc (suc i)) in
     record {
-      bitmap = λ b. reading.bitmap (subst IsBitmap (sym (headed rest two)) (block_before _ len (drop 2 rest) (record {
+      bitmap = λ b. reading.bitmap (block_before window len tail (record {
         inside = inside;
         first = record {
           window = reading.small 0;
           not_empty = omega (arith, count);
           fits = omega (arith, count);
-          bounded = λ i. small_take (drop 2 rest) len i small;
+          bounded = λ i. small_take tail len i small;
         };
         rest = b;
-      })));
-      fault = λ e f. reading.fault e (subst (λ (o : List ℕ). FirstBlockFault o e) (sym (headed rest two)) (after _ len (drop 2 rest) e some fits inside f));
-      small = λ i. rw (get_or-drop len (drop 2 rest) i 0) (small (len + i));
+      }));
+      fault = λ e f. reading.fault e (after window len tail e some fits inside f);
+      small = λ i. rw (get_or-drop len tail i 0) (small (len + i));
     }
 
 pub nothing_left : (rest : List ℕ) → length rest ≡ 0 → IsBitmap rest

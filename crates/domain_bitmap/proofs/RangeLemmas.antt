@@ -1,6 +1,7 @@
 -- numbers in a row
 use Rattle.std.proofs.Common.{◌≡◌, ℕ, zero, suc, ◌+◌, ◌<◌, ◌≤◌, ◌≢◌, Bool, true, false, [], ◌∷◌, ◌++◌, length, refl, sym, ap, ◌∙◌, inl, inr, arith, add-zero}
-use Rattle.std.{proofs.{Common.{zero-add, add-one}, lemmas.{Bool.Decides.eqb_tells, List.Elements.filter-append, Grind.common_steps}}, specs.Prelude.◌||◌}
+use Rattle.std.{proofs.{Common.{zero-add, add-one}, lemmas.{Bool.Decides.eqb_tells, Grind.common_steps}}, specs.Prelude.◌||◌}
+use Rattle.std.proofs.lemmas.List.{Elements.filter-append, Folds.list_any_at, FromFn.{length-range_with_len, get_or-range_with_len}}
 use Rattle.std.specs.{Prelude.{◌&&◌, if◌then◌else◌, nat_lt}, List.{range_with_len, list_any, filter}}
 
 pub range_append : (a m n : ℕ) → range_with_len a (m + n) ≡ range_with_len a m ++ range_with_len (a + m) n
@@ -28,11 +29,8 @@ any_same p q zero same = refl
 any_same p q (suc n) same = grind (arith, common_steps, any_suc, (any_same p q n (λ j below. same j (omega (arith, below)))), (same n))
 
 pub any_at : (p : ℕ → Bool) (n k : ℕ) → k < n → p k ≡ true → list_any p (range_with_len 0 n) ≡ true
-any_at p zero k below passes = absurd (omega (arith, below))
-any_at p (suc n) k below passes = elim (eqb_tells k n) [
-  | inl h ↦ grind (arith, common_steps, any_suc)
-  | inr h ↦ grind (arith, common_steps, any_suc, (any_at p n k (omega (arith, below, h.1)) passes))
-]
+any_at p n k below passes = list_any_at p (range_with_len 0 n) k 0 (rw (length-range_with_len 0 n) below)
+    (rw (get_or-range_with_len 0 n k 0 below, zero-add k) passes)
 
 pub any_none : (p : ℕ → Bool) (n : ℕ) → ((j : ℕ) → j < n → p j ≡ false) → list_any p (range_with_len 0 n) ≡ false
 any_none p zero fails = refl

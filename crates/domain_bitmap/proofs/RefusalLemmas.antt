@@ -1,48 +1,37 @@
 -- Tokens that are refused as types, salts and hashes: for one reason, and spelling nothing.
-use Rattle.std.proofs.{Common.{◌≡◌, ◌≢◌, ℕ, List, [], ◌∷◌, ◌++◌, length, arith, Option}, lemmas.Grind.common_steps}
+use Rattle.std.proofs.{Common.{◌≡◌, ◌≢◌, ℕ, List, [], ◌∷◌, length, arith, Option}, lemmas.Grind.common_steps}
 use Rattle.std.specs.Prelude.{codes, ◌%◌, ◌==◌, if◌then◌else◌, Bool, Ok, Err}
 use Rattle.hex.specs.{Hex.decode_pairs, declared.error.FromHexError.TheVariants.OddLength}
 use Rattle.domain_codecs.{specs.{Codec.Decodes, declared.codec.Codec.{Codec, TheVariants.{Base16, Base32Hex}}}, proofs.CodecBackLemmas.decodes_once}
-use Rattle.domain_base.specs.Numbers.{TypeText, IsNoType}
-use Rattle.domain_names.specs.TextFault.{ScanFault, no_memory, IsOfTokens}
+use Rattle.domain_base.specs.Numbers.{IsNoType}
+use Rattle.domain_names.specs.TextFault.{ScanFault, no_room, no_memory, IsOfTokens}
 use Rattle.domain_bitmap.specs.{HashScan.{CountedFault, BeginsWithDash, SaltTokenFault}, HashText.{SaltText, OwnerHashText}}
-use Rattle.domain_bitmap.specs.Scan.{TypeTexts, one_more, TypeFault, RefusesTypes}
+use Rattle.domain_bitmap.specs.Scan.{TypeTexts, one_more, TypeFault, RefusesAfter, next, later}
 
 -- ---- types
 
-head_of : (token : List ℕ) (tokens : List (List ℕ)) (types : List ℕ) → TypeTexts (token ∷ tokens) types
-    → (t : ℕ) × (rest : List ℕ) × TypeText token t × TypeTexts tokens rest
-head_of token tokens [] none = elim none [ ]
-head_of token tokens (t ∷ types) (one_more tok toks u us is more) = (t, types, is, more)
-
--- among the tokens of types every token spells a type
-type_at : (taken : List (List ℕ)) (token : List ℕ) (new : List (List ℕ)) (types : List ℕ) → TypeTexts (taken ++ token ∷ new) types → (t : ℕ) × TypeText token t
-type_at [] token new types all = let h = head_of token new types all in (h.0, h.2)
-type_at (first ∷ taken) token new types all = let h = head_of first (taken ++ token ∷ new) types all in type_at taken token new h.1 h.3
-
--- the first of tokens that spells no type
-first_same : (ts us : List (List ℕ)) (a b : List ℕ) (m n : List (List ℕ)) (xs ys : List ℕ) → ts ++ a ∷ m ≡ us ++ b ∷ n → TypeTexts ts xs → TypeTexts us ys
-    → ((t : ℕ) → TypeText a t → ⊥) → ((t : ℕ) → TypeText b t → ⊥) → m ≡ n
-first_same [] [] a b m n xs ys same before after unread unspelled = cc
-first_same [] (u ∷ us) a b m n xs ys same before after unread unspelled = grind (arith, common_steps, head_of)
-first_same (t ∷ ts) [] a b m n xs ys same before after unread unspelled = grind (arith, common_steps, head_of)
-first_same (t ∷ ts) (u ∷ us) a b m n xs ys same before after unread unspelled =
-    let h = head_of t ts xs before in
-    let k = head_of u us ys after in
-    let rest : ts ++ a ∷ m ≡ us ++ b ∷ n = cc in
-    first_same ts us a b m n h.1 k.1 rest h.3 k.3 unread unspelled
-
-type_fault : (limit : Option ℕ) (before : List ℕ) (fault : ScanFault) (token : List ℕ) → TypeFault limit before fault token
+type_fault : (limit : Option ℕ) (types : List ℕ) (fault : ScanFault) (token : List ℕ) → TypeFault limit types fault token
     → IsOfTokens limit fault → IsNoType fault token
-type_fault limit before fault token h own = grind (arith, common_steps)
+type_fault limit types no_room token why own = grind (arith, common_steps)
+type_fault limit types no_memory token why own = absurd own
+type_fault limit types _ token why own = why
 
-pub types_refused : (limit : Option ℕ) (old new : List (List ℕ)) (types : List ℕ) (fault : ScanFault)
-    → RefusesTypes limit old new fault → TypeTexts old types → IsOfTokens limit fault → ⊥
-types_refused limit old new types fault why is own = grind (arith, common_steps, type_at, type_fault)
+pub types_refused : (limit : Option ℕ) (read : List ℕ) (old new : List (List ℕ)) (types : List ℕ) (fault : ScanFault)
+    → RefusesAfter limit read old new fault → TypeTexts old types → IsOfTokens limit fault → ⊥
+types_refused limit read old new types fault (next r token left f why) (one_more tok toks t ts is more) own = (type_fault limit r f token why own).none t is
+types_refused limit read old new types fault (later r token u toks left f spells why) (one_more tok rest t ts is more) own =
+    types_refused limit (u ∷ r) toks left ts f why more own
 
-pub types_one_fault : (limit : Option ℕ) (old m n : List (List ℕ)) (x y : ScanFault) → RefusesTypes limit old m x
-    → RefusesTypes limit old n y → IsOfTokens limit x → IsOfTokens limit y → (x ≡ y) × (m ≡ n)
-types_one_fault limit old m n x y p q own also = grind (arith, common_steps, type_fault, first_same)
+pub types_one_fault : (limit : Option ℕ) (read others : List ℕ) (old m n : List (List ℕ)) (x y : ScanFault) → RefusesAfter limit read old m x
+    → RefusesAfter limit others old n y → IsOfTokens limit x → IsOfTokens limit y → (x ≡ y) × (m ≡ n)
+types_one_fault limit read others old m n x y (next r token left f why) (next s tok rest g reason) own also =
+    grind (arith, common_steps, (type_fault limit r f token why own), (type_fault limit s g token reason also))
+types_one_fault limit read others old m n x y (next r token left f why) (later s tok t toks rest g spells reason) own also =
+    absurd ((type_fault limit r f token why own).none t spells)
+types_one_fault limit read others old m n x y (later r token t toks left f spells why) (next s tok rest g reason) own also =
+    absurd ((type_fault limit s g token reason also).none t spells)
+types_one_fault limit read others old m n x y (later r token t toks left f spells why) (later s tok u tokens rest g spelled reason) own also =
+    types_one_fault limit (t ∷ r) (u ∷ s) toks left rest f g why reason own also
 
 -- ---- octets that an octet counts
 

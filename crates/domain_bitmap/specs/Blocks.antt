@@ -61,21 +61,19 @@ in_first_block (block ∷ blocks) t =
 unfoldable pub contains_type : Octets → ℕ → Bool
 contains_type octets t = in_first_block (blocks_of octets) t
 
--- the windows of blocks ascend strictly, from a number on
-abbrev pub WindowsAscendFrom : ℕ → List Block → Type 0
-WindowsAscendFrom low [] = Unit {0}
-WindowsAscendFrom low (block ∷ blocks) =
-    (low ≤ block.window) × WindowsAscendFrom (block.window + 1) blocks
-
 -- the last of octets, or zero where there is none
 abbrev pub last_octet : Octets → ℕ
 last_octet octets = slice_index octets (length octets - 1)
 
--- the octets are blocks in the one form that a builder gives: windows ascend strictly, and no block
--- ends in a zero octet
-pub record IsShortest (octets : Octets) : Type 0 where
-  pub ascending : WindowsAscendFrom 0 (blocks_of octets)
-  pub cut : AllByRecursion (λ block. last_octet block.octets ≢ 0) (blocks_of octets)
+-- the windows of blocks ascend strictly, from a number on, and no block ends in a zero octet
+abbrev pub AreShortest : ℕ → List Block → Type 0
+AreShortest low [] = Unit {0}
+AreShortest low (block ∷ blocks) =
+    (low ≤ block.window) × (last_octet block.octets ≢ 0) × AreShortest (block.window + 1) blocks
+
+-- the octets are such blocks, the one form that a builder gives
+abbrev pub IsShortest : Octets → Type 0
+IsShortest octets = AreShortest 0 (blocks_of octets)
 
 -- the types below a number that are in a set, in ascending order
 unfoldable pub types_below : ℕ → (ℕ → Bool) → Rtypes

@@ -1,29 +1,38 @@
 //! Sets of types as octets.
-ghost use Rattle.std.specs.Prelude.{◌≡◌, ◌↔◌, [], IsTrue, IsOk, IfOk, IfErr};
-ghost use Rattle.domain_octets.specs.Words.{Octets};
+ghost use Rattle.std.specs.Prelude.{◌≡◌, ◌↔◌, ◌<◌, ◌^◌, ◌++◌, ◌+◌, length, [], IsTrue, IsOk, IfOk, IfErr};
+ghost use Rattle.std.specs.Prelude.{OnOk, OnErr, IsErrOf, IsNone};
+ghost use Rattle.std.specs.{Ordering.nat_cmp, Cmp.Lexicographic.{slice_cmp, nat_list_cmp_total}};
+ghost use Rattle.domain_octets.specs.{Limit.IsOver, Place.Takes};
+ghost use Rattle.domain_names.specs.Fault.{fault_of};
 ghost use Rattle.domain_bitmap.specs.Blocks.{IsBitmap, contains_type, types_of};
-ghost use Rattle.domain_bitmap.specs.Fault.{FirstBlockFault};
+ghost use Rattle.domain_bitmap.specs.Fault.{BitmapFault, FirstBlockFault};
 
 use crate::blocks::{check, is_set, split_block, split_rtype};
-use crate::{RtypeBitmapBuilder, RtypeBitmapError};
-use domain_base::Rtype;
-use domain_octets::{EmptyBuilder, FromBuilder, Octets, OutOfMemory, TryClone};
+use crate::{CheckedOctets, OctetsKind, RtypeBitmapBuilder, RtypeBitmapError};
+use domain_base::{ParseError, Rtype};
+use domain_octets::{AppendError, EmptyBuilder, FromBuilder, Octets, OctetsBuilder, Parser};
 use std::alloc::Global;
-use std::marker::Model;
+use std::cmp::Ordering;
+
+/// Octets that are a list of blocks of types.
+pub struct Blocks;
+
+impl OctetsKind for Blocks {
+    const MAX_LEN: usize = usize::MAX;
+
+    ghost holds = { IsBitmap };
+
+    ghost order = { slice_cmp nat_cmp };
+
+    ghost total = { nat_list_cmp_total };
+
+    fn order(a: &[u8], b: &[u8]) -> Ordering {
+        a.cmp(b)
+    }
+}
 
 /// A list of blocks of types (RFC 4034, section 4.1.2), seen as its octets.
-#[derive(Drop)]
-pub struct RtypeBitmap<O: Octets> {
-    octets: O,
-}
-
-impl<O: Octets> Model for RtypeBitmap<O> {
-    ghost Value = { Octets };
-
-    ghost view = { λ b. O.octets b.octets };
-
-    ghost invariant = { λ b. IsBitmap (O.octets b.octets) };
-}
+pub type RtypeBitmap<O> = CheckedOctets<O, Blocks>;
 
 impl<O: Octets> RtypeBitmap<O> {
     /// Octets that are a list of blocks, each of 1 to 32 octets. Windows may come in any order and
@@ -42,48 +51,7 @@ impl<O: Octets> RtypeBitmap<O> {
         ensures err { IfErr result (FirstBlockFault (O.octets octets)) }
     {
         check(octets.as_slice())?;
-        Ok(RtypeBitmap { octets })
-    }
-
-    /// The bitmap over octets that are a list of blocks.
-    pub(crate) fn over(octets: O) -> Self
-        requires { IsBitmap (O.octets octets) }
-        ensures { result ≡ O.octets octets }
-    {
-        RtypeBitmap { octets }
-    }
-
-    /// The same bitmap over other octets, which are the same. Takes no memory.
-    pub fn with_octets<P: Octets>(&self, octets: P) -> RtypeBitmap<P>
-        requires { P.octets octets ≡ self.now }
-        ensures { result ≡ self.now }
-    {
-        let _ = &self.octets;
-        RtypeBitmap { octets }
-    }
-
-    /// A copy. Uses the allocator of the octets.
-    pub fn clone(&self) -> Result<Self, OutOfMemory>
-        ensures { IfOk result (λ copy. copy ≡ self.now) }
-    {
-        Ok(RtypeBitmap {
-            octets: self.octets.try_clone()?,
-        })
-    }
-
-    /// The octets.
-    pub fn as_octets(&self) -> &O
-        ensures { O.octets result.now ≡ self.now }
-    {
-        &self.octets
-    }
-
-    /// The octets as a slice. They are a list of blocks, wherever the bitmap came from.
-    pub fn as_slice(&self) -> &[u8]
-        ensures octets { result.now ≡ self.now }
-        ensures blocks { IsBitmap self.now }
-    {
-        self.octets.as_slice()
+        Ok(RtypeBitmap::from_octets_unchecked(octets))
     }
 
     /// Whether the first block of the type's window has the bit of the type. Of a bitmap that a
@@ -93,7 +61,7 @@ impl<O: Octets> RtypeBitmap<O> {
         ensures { result ≡ contains_type self.now rtype }
     {
         let (window, octet, bit) = split_rtype(rtype);
-        let mut blocks = self.octets.as_slice();
+        let mut blocks = self.as_slice();
         while let Some((block, rest)) = split_block(blocks) {
             if block.number == window {
                 return is_set(block.octets, octet, bit);
@@ -109,6 +77,25 @@ impl<O: Octets> RtypeBitmap<O> {
     {
         self.iter().next().is_none()
     }
+
+    /// The length of the octets, which must be below 65,536.
+    pub fn compose_len(&self) -> u16
+        requires { length self.now < 2 ^ 16 }
+        ensures { result ≡ length self.now }
+    {
+        self.as_slice().len() as u16
+    }
+
+    /// Appends the octets.
+    pub fn compose<B: OctetsBuilder>(&self, target: &mut B) -> Result<(), AppendError>
+        ensures ok { OnOk result (B.octets target.new ≡ B.octets target.old ++ self.now) }
+        ensures err { OnErr result (B.octets target.new ≡ B.octets target.old) }
+        ensures short { IsErrOf result AppendError.ShortBuf
+            ↔ IsOver B.limit (length (B.octets target.old) + length self.now) }
+        ensures memory { IsErrOf result AppendError.OutOfMemory → IsNone B.limit }
+    {
+        target.append_slice(self.as_slice())
+    }
 }
 
 impl<O: FromBuilder> RtypeBitmap<O>
@@ -120,5 +107,26 @@ where
         ensures empty { result ≡ [] }
     {
         RtypeBitmapBuilder::new(alloc)
+    }
+}
+
+impl<'a> RtypeBitmap<&'a [u8]> {
+    /// All octets that are left, as a bitmap. Takes no memory.
+    ///
+    /// # Errors
+    ///
+    /// That of the first fault, as `from_octets`. The parser then stands where it stood.
+    #[tactic(auto, using(crate::proofs::FaultLemmas::parse_steps))]
+    pub fn parse(parser: &mut Parser<'a>) -> Result<Self, ParseError>
+        ensures ok { IsOk result ↔ IsBitmap parser.old.left }
+        ensures octets { IfOk result (λ bitmap. Takes bitmap parser.old parser.new
+            × (parser.new.left ≡ [])) }
+        ensures err { IfErr result (λ e. BitmapFault parser.old.left (fault_of e)) }
+        ensures unmoved { OnErr result (parser.new ≡ parser.old) }
+    {
+        let octets = parser.peek_all();
+        check(octets)?;
+        parser.advance(octets.len());
+        Ok(RtypeBitmap::from_octets_unchecked(octets))
     }
 }

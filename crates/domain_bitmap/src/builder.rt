@@ -143,6 +143,6 @@ impl<B: OctetsBuilder> RtypeBitmapBuilder<B> {
         let RtypeBitmapBuilder { mut buffer } = self;
         let len = pack(&mut buffer);
         buffer.truncate(len);
-        RtypeBitmap::over(buffer.freeze())
+        RtypeBitmap::from_octets_unchecked(buffer.freeze())
     }
 }

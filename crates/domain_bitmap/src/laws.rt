@@ -63,6 +63,7 @@ pub fn types_and_hashes_are_spelled_once()
 
 /// Tokens that are refused as types, and texts that are refused as a salt or as a hash, but for
 /// want of room or of memory, spell none, over builders with any limit.
+#[tactic(auto, using(crate::proofs::RefusalLemmas::types_refused, crate::proofs::RefusalLemmas::salt_excludes, crate::proofs::RefusalLemmas::hash_excludes))]
 pub fn refused_tokens_spell_no_types()
     ensures types { (limit : Option ℕ) (old new : Tokens) (types : Rtypes) (fault : ScanFault)
         → RefusesTypes limit old new fault → IsOfTokens limit fault → TypeTexts old types → ⊥ }
@@ -76,6 +77,7 @@ pub fn refused_tokens_spell_no_types()
 /// Tokens are refused as types, but for want of room or of memory, for one reason, and the tokens
 /// that are left then are determined. A text is refused as a salt or as a hash, but for want of
 /// memory, for one reason. Both over builders with any limit.
+#[tactic(auto, using(crate::proofs::RefusalLemmas::types_one_fault, crate::proofs::RefusalLemmas::salt_one_fault, crate::proofs::RefusalLemmas::counted_one_fault))]
 pub fn types_and_hashes_have_one_fault()
     ensures types { (limit : Option ℕ) (old m n : Tokens) (x y : ScanFault)
         → RefusesTypes limit old m x → RefusesTypes limit old n y → IsOfTokens limit x

@@ -17,8 +17,9 @@
 //! - `iter` gives the types whose bits are set, block by block as they stand; `contains` looks into
 //!   the first block of the type's window. Over what a builder made both answer for the set that
 //!   was added (`laws`).
-//! - Equality, both orders and `Hash` are those of the octets; of two bitmaps that builders made,
-//!   equality is that of the sets.
+//! - A bitmap, a salt and a hash are `CheckedOctets` of their kinds, and what is done with octets
+//!   alone stands there. Equality, order and `Hash` are those of the octets, and a kind gives the
+//!   canonical order; of two bitmaps that builders made, equality is that of the sets.
 //! - `RtypeBitmaps` is a list of bitmaps in two vectors, in which each takes 8 octets beside its
 //!   own. `push` copies one or changes nothing, and `get` lends one in constant time, without
 //!   memory.
@@ -29,8 +30,7 @@
 mod bitmap;
 mod blocks;
 mod builder;
-mod compare;
-mod convert;
+mod checked;
 mod counted;
 mod error;
 mod hash_scan;
@@ -44,9 +44,10 @@ mod scan;
 mod slots;
 mod text;
 
-pub use bitmap::RtypeBitmap;
+pub use bitmap::{Blocks, RtypeBitmap};
 pub use builder::RtypeBitmapBuilder;
-pub use counted::CountedOctets;
+pub use checked::{CheckedOctets, OctetsKind};
+pub use counted::{Counted, CountedOctets};
 pub use error::RtypeBitmapError;
 pub use iter::RtypeBitmapIter;
 pub use list::RtypeBitmaps;

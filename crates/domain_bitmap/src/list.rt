@@ -84,7 +84,7 @@ impl RtypeBitmaps {
         }
         let start = start_at(&self.ends, place);
         let end = self.ends[place];
-        Some(RtypeBitmap::over(&self.octets[start..end]))
+        Some(RtypeBitmap::from_octets_unchecked(&self.octets[start..end]))
     }
 }
 

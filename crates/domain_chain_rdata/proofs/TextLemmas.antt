@@ -24,8 +24,8 @@ module _ (limit : Option ℕ) where
   bitmap_exact : IsExact limit BitmapText (RefusesTypes limit)
   bitmap_exact = record {
     once = grind (arith, common_steps, spelled_once);
-    apart = λ old new after v fault why is own. types_refused limit old new is.types fault why is.spelled own;
-    one_fault = λ old m n x y p q own also. types_one_fault limit old m n x y p q own also;
+    apart = λ old new after v fault why is own. types_refused limit _ old new is.types fault why is.spelled own;
+    one_fault = λ old m n x y p q own also. types_one_fault limit _ _ old m n x y p q own also;
   }
 
   salt_exact : IsExact limit (OneToken SaltText) (RefusesToken (SaltTokenFault limit))

@@ -1,8 +1,7 @@
-use Rattle.std.proofs.{Common.{◌++◌, ◌∷◌, refl, sym, ap, ◌∙◌, arith}, Output.{has_written_append, writes_in_calls_nil}, lemmas.List.append_assoc}
+use Rattle.std.proofs.{Common.{◌++◌, ◌∷◌, refl, sym, ap, ◌∙◌, arith}, Output.{has_written_append, writes_in_calls_nil}, lemmas.Grind.common_steps}
 use Rattle.domain_base.specs.Numbers.{type_text}
 use Rattle.domain_bitmap.specs.Text.{types_text, spaced_types}
 use Rattle.domain_bitmap.proofs.text.RtypeBitmapDisplay.fmt.Goals as goal
-use Rattle.std.proofs.lemmas.Grind.{common_steps}
 
 pub returns-in_default-clause-writes : goal.returns-in_default-clause-writes
 unfolding types_text
@@ -17,12 +16,10 @@ loop-rtype-init g c =
 pub loop-rtype-preserved : goal.loop-rtype-preserved
 unfolding spaced_types
 loop-rtype-preserved g c =
-    λ plain. let so_far = c.loop-rtype.invariant plain in
-    let more = c.in_ok-write-2.ensures.writes so_far.2.plain refl in
-    let word = 32 ∷ type_text c.in-Some-next.rtype in (
-      so_far.0 ++ word,
-      so_far.1 ∙ ap (λ l. so_far.0 ++ spaced_types l) c.in-Some-next.ensures.steps ∙ sym (append_assoc _ word _),
-      has_written_append _ _ _ _ _ _ so_far.2 more,
+    λ plain. let so_far = c.loop-rtype.invariant plain in (
+      so_far.0 ++ (32 ∷ type_text c.in-Some-next.rtype),
+      grind (arith, common_steps),
+      has_written_append _ _ _ _ _ _ so_far.2 (c.in_ok-write-2.ensures.writes so_far.2.plain refl),
     )
 
 pub returns-clause-writes : goal.returns-clause-writes

@@ -1,5 +1,5 @@
 use Rattle.domain_bitmap.proofs.CountedLemmas.{refused_by_codec, refused_too_long}
-use Rattle.domain_bitmap.proofs.counted.CountedOctets.scan_token.Goals as goal
+use Rattle.domain_bitmap.proofs.hash_scan.CountedOctets+O+E.scan_token.Goals as goal
 
 pub returns-in-Err-clause-err : goal.returns-in-Err-clause-err
 returns-in-Err-clause-err g c = refused_by_codec _ _ _ _ _ _ c.in-Err.ensures.err

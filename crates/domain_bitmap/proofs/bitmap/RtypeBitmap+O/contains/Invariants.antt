@@ -1,6 +1,6 @@
 use Rattle.std.proofs.Common.{◌≡◌, ℕ, ◌/◌, length}
 use Rattle.domain_bitmap.specs.Blocks.{IsBitmap, contains_type}
-use Rattle.domain_bitmap.proofs.bitmap.RtypeBitmap.contains.Given as goal
+use Rattle.domain_bitmap.proofs.bitmap.RtypeBitmap+O.contains.Given as goal
 
 abbrev pub invariant-loop-block : goal.invariant-loop-block
 invariant-loop-block g l = record {
