@@ -20,7 +20,9 @@ mod scanner;
 mod serial;
 mod ttl;
 
-pub use algorithm::{DigestAlgorithm, Nsec3HashAlgorithm, SecurityAlgorithm};
+pub use algorithm::{
+    Algorithm, DigestAlgorithm, Digesting, Hashing, Nsec3HashAlgorithm, SecurityAlgorithm, Signing,
+};
 pub use class::Class;
 pub use domain_names::{
     CanonicalOrd, Comparison, DottedName, Labels, MAX_NAME, MakeName, Name, NameError, ParseError,
