@@ -1,11 +1,8 @@
 -- What octets of the generic form are: data of a type in one way at most, and none where they have a fault or more follows.
-use Rattle.std.proofs.{lemmas.Grind.common_steps, Common.{◌≡◌, ℕ, List, [], length, codes, Option, Some, Ok, Err, Result, IsErrAnd, IfErr, arith, true}}
-use Rattle.std.proofs.Common.{refl, ap}
-use Rattle.domain_names.specs.{TextFault.{ScanFault, illegal, scan_fault_of}, declared.error.ScanError.ScanError}
+use Rattle.std.proofs.Common.{◌≡◌, ℕ, List, [], length, codes, Option, Some, Ok, Err, Result, IsErrAnd, IfErr, arith, true, refl, ap, inr}
+use Rattle.domain_names.specs.{TextFault.{ScanFault, illegal, no_room, no_memory, scan_fault_of}, declared.error.ScanError.ScanError}
 use Rattle.domain_fields.{specs.Layout.{Values, Begins, FirstFault, splits}, proofs.ExactLemmas.{one_reading, fault_excludes}}
-use Rattle.domain_rdata.specs.Kind.{Kind, layout_of}
-use Rattle.domain_rdata.specs.Refusal.{AreOfKind, IsPart, of_key, of_digest, of_signature, types_by_name, salt_by_hash, next_hash, types_by_hash, salt}
-use Rattle.domain_rdata.specs.Refusal.{CopyFault, IsNotWhole, at_fault, goes_on, OctetsFault}
+use Rattle.domain_rdata.specs.{Kind.{Kind, layout_of, AreFields}, Refusal.{AreOfKind, CopyFault, IsHeld, IsNotWhole, at_fault, goes_on, OctetsFault}}
 
 module _ {D : Type 0} (k : Kind) (values : D → Values (layout_of k)) (limit : Option ℕ) (octets : List ℕ) (split : splits (layout_of k) ≡ true) where
   -- octets with a fault, or that go on after the data, are no data of a kind
@@ -21,24 +18,16 @@ module _ {D : Type 0} (k : Kind) (values : D → Values (layout_of k)) (limit : 
   not_data (Ok d) said why = tt
   not_data (Err e) said why = rw said (refl, not_whole why)
 
--- octets that have a part are data
-whole_of : (wire part : List ℕ) (kind : Kind) → IsPart wire kind part → AreOfKind kind wire
-whole_of wire _ _ (of_key v begins) = (v, begins)
-whole_of wire _ _ (of_digest v begins) = (v, begins)
-whole_of wire _ _ (of_signature v begins) = (v, begins)
-whole_of wire _ _ (types_by_name v begins) = (v, begins)
-whole_of wire _ _ (salt_by_hash v begins) = (v, begins)
-whole_of wire _ _ (next_hash v begins) = (v, begins)
-whole_of wire _ _ (types_by_hash v begins) = (v, begins)
-whole_of wire _ _ (salt v begins) = (v, begins)
-
-copy_fault : (limit : Option ℕ) (kind : Kind) (wire octets part : List ℕ) (fault : ScanFault) → CopyFault limit octets fault → octets ≡ part
-    → IsPart wire kind part → OctetsFault limit (Some kind) wire fault
-copy_fault limit kind wire octets part fault why same is = grind (arith, common_steps, whole_of)
-
 -- data of which a part is not copied
-pub not_copied : {T : Type 0} (limit : Option ℕ) (kind : Kind) (wire octets part : List ℕ) (fault : ScanError) (r : Result T ScanError)
-    → IsErrAnd r (λ e. e ≡ fault) → CopyFault limit octets (scan_fault_of fault)
-    → octets ≡ part → IsPart wire kind part → IfErr r (λ e. OctetsFault limit (Some kind) wire (scan_fault_of e))
-not_copied limit kind wire octets part fault (Ok d) said why same is = tt
-not_copied limit kind wire octets part fault (Err e) said why same is = rw said (copy_fault limit kind wire octets part _ why same is)
+module _ (kind : Kind) (v : Values (layout_of kind)) (limit : Option ℕ) (wire octets : List ℕ) where
+  copy_fault : (fault : ScanFault) → CopyFault limit octets fault → AreFields kind wire v → IsHeld (layout_of kind) v octets
+      → OctetsFault limit (Some kind) wire fault
+  copy_fault no_room why is held = (octets, record { values = v; whole = is; held = held }, why)
+  copy_fault no_memory why is held = inr (octets, record { values = v; whole = is; held = held }, why)
+  copy_fault _ why is held = absurd why
+
+  pub not_copied : {T : Type 0} (fault : ScanError) (r : Result T ScanError) → IsErrAnd r (λ e. e ≡ fault)
+      → CopyFault limit octets (scan_fault_of fault) → AreFields kind wire v → IsHeld (layout_of kind) v octets
+      → IfErr r (λ e. OctetsFault limit (Some kind) wire (scan_fault_of e))
+  not_copied fault (Ok d) said why is held = tt
+  not_copied fault (Err e) said why is held = rw said (copy_fault _ why is held)

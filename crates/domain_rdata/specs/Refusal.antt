@@ -1,15 +1,14 @@
 -- why record data are refused, in the text form of their type or in the generic form (RFC 1035,
 -- section 5.1, and RFC 3597, section 5)
-use Rattle.std.specs.Prelude.{◌≡◌, ◌⊎◌, ℕ, ◌<◌, [], length, codes, Option, Some, None, IsNone}
+use Rattle.std.specs.Prelude.{◌≡◌, ◌⊎◌, ℕ, ◌<◌, ◌||◌, [], length, codes, Bool, true, false, IsTrue, Option, Some, None, IsNone}
 use Rattle.domain_octets.specs.{Limit.IsOver, Words.Octets}
 use Rattle.domain_names.specs.{Fault.Fault, TextFault.{ScanFault, entry_ends, illegal, no_room, no_memory}, Words.Tokens}
 use Rattle.domain_base.specs.Scan.{Refusal}
 use Rattle.domain_plain.specs.Generic.{GenericText, GenericFault}
-use Rattle.domain_fields.specs.{Field.{name, spelled_name}, Layout.{Layout, one, ◌▸◌, Values, Begins}, Scan.Refuses}
-use Rattle.domain_keys.specs.{Data.{dnskey, ds}, Scan.{RefusesDnskey, RefusesDs}}
-use Rattle.domain_rrsig.specs.{Data.rrsig, Scan.RefusesRrsig}
+use Rattle.domain_fields.specs.{Field.{name, spelled_name, counted, rest, types}, Layout.{Layout, one, ◌▸◌, Values}, Scan.Refuses}
+use Rattle.domain_keys.specs.Scan.{RefusesDnskey, RefusesDs}
+use Rattle.domain_rrsig.specs.Scan.{RefusesRrsig}
 use Rattle.domain_chain_rdata.specs.{NsecText.RefusesNsec, Nsec3Text.RefusesNsec3, Nsec3paramText.RefusesNsec3param}
-use Rattle.domain_chain_rdata.specs.Rdata.{nsec, nsec3, nsec3param}
 use Rattle.domain_rdata.specs.{Kind.{Kind, plain, key, digest, signature, next_by_name, next_by_hash, params, layout_of, AreFields}, Scan.IsGeneric}
 use Rattle.domain_rdata.specs.Zone.{kind_of}
 
@@ -38,16 +37,19 @@ RefusesOwn limit rtype = RefusesKnown limit (kind_of rtype)
 abbrev pub AreOfKind : Kind → Octets → Type 0
 AreOfKind kind wire = (v : Values (layout_of kind)) × AreFields kind wire v
 
--- the parts of those data that are held as octets of their own
-pub data IsPart (wire : Octets) : Kind → Octets → Type 0 where
-  of_key : (v : Values dnskey) → Begins dnskey wire v [] → IsPart wire key v.1.1.1.1
-  of_digest : (v : Values ds) → Begins ds wire v [] → IsPart wire digest v.1.1.1.1
-  of_signature : (v : Values rrsig) → Begins rrsig wire v [] → IsPart wire signature v.1.1
-  types_by_name : (v : Values nsec) → Begins nsec wire v [] → IsPart wire next_by_name v.1
-  salt_by_hash : (v : Values nsec3) → Begins nsec3 wire v [] → IsPart wire next_by_hash v.0.0.1
-  next_hash : (v : Values nsec3) → Begins nsec3 wire v [] → IsPart wire next_by_hash v.0.1
-  types_by_hash : (v : Values nsec3) → Begins nsec3 wire v [] → IsPart wire next_by_hash v.1
-  salt : (v : Values nsec3param) → Begins nsec3param wire v [] → IsPart wire params v.1
+-- a value of the fields that is held as octets of its own
+abbrev pub IsHeld : (l : Layout) → Values l → Octets → Type 0
+IsHeld (one counted) v part = v ≡ part
+IsHeld (one rest) v part = v ≡ part
+IsHeld (one types) v part = v ≡ part
+IsHeld (a ▸ b) v part = IsHeld a v.0 part ⊎ IsHeld b v.1 part
+IsHeld _ v part = ⊥
+
+-- such a part of those data
+pub record IsPart (wire : Octets) (kind : Kind) (part : Octets) : Type 0 where
+  pub values : Values (layout_of kind)
+  pub whole : AreFields kind wire values
+  pub held : IsHeld (layout_of kind) values part
 
 -- why octets are not copied into octets that have this limit
 abbrev pub CopyFault : Option ℕ → Octets → ScanFault → Type 0
@@ -63,26 +65,17 @@ pub data IsNotWhole {D : Type 0} (begins : Octets → D → Octets → Type 0)
   goes_on : (d : D) (after : Octets) → begins octets d after → 0 < length after
       → IsNotWhole begins faults octets
 
--- there is a name among the fields
-abbrev pub HasName : Layout → Type 0
-HasName (one name) = Unit {0}
-HasName (one spelled_name) = Unit {0}
-HasName (a ▸ b) = HasName a ⊎ HasName b
-HasName _ = ⊥
-
--- memory is taken to make data of a kind of octets: for a name, and for parts that have no limit
-abbrev pub TakesMemory : Option ℕ → Kind → Type 0
-TakesMemory limit (plain l) = HasName l
-TakesMemory limit key = IsNone limit
-TakesMemory limit digest = IsNone limit
-TakesMemory limit signature = Unit {0}
-TakesMemory limit next_by_name = Unit {0}
-TakesMemory limit next_by_hash = IsNone limit
-TakesMemory limit params = IsNone limit
+-- whether there is a name among the fields
+abbrev pub has_name : Layout → Bool
+has_name (one name) = true
+has_name (one spelled_name) = true
+has_name (a ▸ b) = has_name a || has_name b
+has_name _ = false
 
 -- why the octets of a generic form are not turned into data over octets that have this limit: they
--- are no such data, or they are, and a part has no room or no memory; those of a type that has no
--- text form of its own are not refused, since any octets are its data
+-- are no such data, or they are, and a part has no room, or there is no memory for a name, or for a
+-- part, which takes some where octets have no limit; those of a type that has no text form of its
+-- own are not refused, since any octets are its data
 abbrev pub OctetsFault : Option ℕ → Option Kind → Octets → ScanFault → Type 0
 OctetsFault limit None wire fault = ⊥
 OctetsFault limit (Some kind) wire entry_ends = ⊥
@@ -90,7 +83,9 @@ OctetsFault limit (Some kind) wire (illegal said) =
     (said ≡ codes "illegal data") × (AreOfKind kind wire → ⊥)
 OctetsFault limit (Some kind) wire no_room =
     (part : Octets) × IsPart wire kind part × IsOver limit (length part)
-OctetsFault limit (Some kind) wire no_memory = AreOfKind kind wire × TakesMemory limit kind
+OctetsFault limit (Some kind) wire no_memory =
+    (AreOfKind kind wire × IsTrue (has_name (layout_of kind)))
+    ⊎ ((part : Octets) × IsPart wire kind part × IsNone limit)
 
 -- why tokens are refused as data of a type, where octets have this limit, and the tokens that are
 -- left then: the mark of the generic form at their head decides what they are held to; text in that

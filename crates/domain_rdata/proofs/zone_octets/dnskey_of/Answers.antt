@@ -1,6 +1,6 @@
-use Rattle.std.proofs.{Common.{refl, arith}, lemmas.Grind.common_steps}
+use Rattle.std.proofs.{Common.{inr, refl, arith}, lemmas.Grind.common_steps}
 use Rattle.domain_keys.specs.Data.{dnskey_values}
-use Rattle.domain_rdata.{specs.{Kind.key, Refusal.of_key}, proofs.OctetsLemmas.{not_data, not_copied}}
+use Rattle.domain_rdata.{specs.Kind.key, proofs.OctetsLemmas.{not_data, not_copied}}
 use Rattle.domain_rdata.proofs.zone_octets.dnskey_of.Goals as goal
 
 pub returns-in_err-data-clause-err : goal.returns-in_err-data-clause-err
@@ -8,5 +8,5 @@ returns-in_err-data-clause-err g c = not_data key dnskey_values _ _ refl _ c.fro
 
 pub returns-in_err-key-clause-err : goal.returns-in_err-key-clause-err
 returns-in_err-key-clause-err g c =
-    not_copied _ _ _ _ _ _ _ c.from_residual-in_err-key.ensures.1 c.in_err-key.ensures.err (grind (arith, common_steps))
-    (of_key (dnskey_values c.in_ok-data.data) c.in_ok-data.ensures.ok)
+    not_copied key (dnskey_values c.in_ok-data.data) _ _ _ _ _ c.from_residual-in_err-key.ensures.1 c.in_err-key.ensures.err
+    c.in_ok-data.ensures.ok (inr (inr (inr (inr (grind (arith, common_steps))))))

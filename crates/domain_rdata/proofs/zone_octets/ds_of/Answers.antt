@@ -1,6 +1,6 @@
-use Rattle.std.proofs.{Common.{refl, arith}, lemmas.Grind.common_steps}
+use Rattle.std.proofs.{Common.{inr, refl, arith}, lemmas.Grind.common_steps}
 use Rattle.domain_keys.specs.Data.{ds_values}
-use Rattle.domain_rdata.{specs.{Kind.digest, Refusal.of_digest}, proofs.OctetsLemmas.{not_data, not_copied}}
+use Rattle.domain_rdata.{specs.Kind.digest, proofs.OctetsLemmas.{not_data, not_copied}}
 use Rattle.domain_rdata.proofs.zone_octets.ds_of.Goals as goal
 
 pub returns-in_err-data-clause-err : goal.returns-in_err-data-clause-err
@@ -8,5 +8,5 @@ returns-in_err-data-clause-err g c = not_data digest ds_values _ _ refl _ c.from
 
 pub returns-in_err-digest-clause-err : goal.returns-in_err-digest-clause-err
 returns-in_err-digest-clause-err g c =
-    not_copied _ _ _ _ _ _ _ c.from_residual-in_err-digest.ensures.1 c.in_err-digest.ensures.err (grind (arith, common_steps))
-    (of_digest (ds_values c.in_ok-data.data) c.in_ok-data.ensures.ok)
+    not_copied digest (ds_values c.in_ok-data.data) _ _ _ _ _ c.from_residual-in_err-digest.ensures.1 c.in_err-digest.ensures.err
+    c.in_ok-data.ensures.ok (inr (inr (inr (inr (grind (arith, common_steps))))))

@@ -1,6 +1,6 @@
-use Rattle.std.proofs.{Common.{refl, arith}, lemmas.Grind.common_steps}
+use Rattle.std.proofs.{Common.{inr, refl, arith}, lemmas.Grind.common_steps}
 use Rattle.domain_chain_rdata.specs.Rdata.{nsec3param_values}
-use Rattle.domain_rdata.{specs.{Kind.params, Refusal.salt}, proofs.OctetsLemmas.{not_data, not_copied}}
+use Rattle.domain_rdata.{specs.Kind.params, proofs.OctetsLemmas.{not_data, not_copied}}
 use Rattle.domain_rdata.proofs.zone_octets.nsec3param_of.Goals as goal
 
 pub returns-in_err-data-clause-err : goal.returns-in_err-data-clause-err
@@ -8,5 +8,5 @@ returns-in_err-data-clause-err g c = not_data params nsec3param_values _ _ refl 
 
 pub returns-in_err-salt-clause-err : goal.returns-in_err-salt-clause-err
 returns-in_err-salt-clause-err g c =
-    not_copied _ _ _ _ _ _ _ c.from_residual-in_err-salt.ensures.1 c.in_err-salt.ensures.err (grind (arith, common_steps))
-    (salt (nsec3param_values c.in_ok-data.data) c.in_ok-data.ensures.ok)
+    not_copied params (nsec3param_values c.in_ok-data.data) _ _ _ _ _ c.from_residual-in_err-salt.ensures.1 c.in_err-salt.ensures.err
+    c.in_ok-data.ensures.ok (inr (grind (arith, common_steps)))

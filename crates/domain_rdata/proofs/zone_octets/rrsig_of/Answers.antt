@@ -1,6 +1,6 @@
-use Rattle.std.proofs.{Common.{refl, arith}, lemmas.Grind.common_steps}
+use Rattle.std.proofs.{Common.{inr, refl, arith}, lemmas.Grind.common_steps}
 use Rattle.domain_rrsig.specs.Data.{rrsig_values}
-use Rattle.domain_rdata.{specs.{Kind.signature, Refusal.of_signature}, proofs.OctetsLemmas.{not_data, not_copied}}
+use Rattle.domain_rdata.{specs.Kind.signature, proofs.OctetsLemmas.{not_data, not_copied}}
 use Rattle.domain_rdata.proofs.zone_octets.rrsig_of.Goals as goal
 
 pub returns-in_err-data-clause-err : goal.returns-in_err-data-clause-err
@@ -8,5 +8,5 @@ returns-in_err-data-clause-err g c = not_data signature rrsig_values _ _ refl _ 
 
 pub returns-in_err-signature-clause-err : goal.returns-in_err-signature-clause-err
 returns-in_err-signature-clause-err g c =
-    not_copied _ _ _ _ _ _ _ c.from_residual-in_err-signature.ensures.1 c.in_err-signature.ensures.err (grind (arith, common_steps))
-    (of_signature (rrsig_values c.in_ok-data.data) c.in_ok-data.ensures.ok)
+    not_copied signature (rrsig_values c.in_ok-data.data) _ _ _ _ _ c.from_residual-in_err-signature.ensures.1 c.in_err-signature.ensures.err
+    c.in_ok-data.ensures.ok (inr (inr (grind (arith, common_steps))))
