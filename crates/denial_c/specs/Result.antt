@@ -1,6 +1,6 @@
 -- What is answered of octets: a verdict, which is that of the library over the records that the
 -- octets are, or exactly why there is none.
-use Rattle.std.specs.Prelude.{◌≡◌, ◌≢◌, ◌⊎◌, ◌&&◌, ◌==◌, nat_lt, ℕ, Bool, true, false, List, [], ◌∷◌, filter, length, Result, Ok, Err}
+use Rattle.std.specs.Prelude.{◌≡◌, ◌≢◌, ◌⊎◌, ◌&&◌, ◌==◌, nat_lt, ℕ, Bool, List, [], ◌∷◌, filter, length, Result, Ok, Err}
 use Rattle.domain_octets.specs.Words.{Octets}
 use Rattle.domain_names.specs.{Name.{is_at_or_below, wire_of, IsName}, Words.Name}
 use Rattle.domain_nsec.specs.Chain.{Link}
@@ -8,9 +8,7 @@ use Rattle.domain_nsec3.specs.{Chain.{HashedLink, ParamRecord}, Config.Parameter
 use Rattle.domain_sha1.specs.Iterated.{sha1_answer}
 use Rattle.domain_hasher.specs.declared.error.Nsec3HashError.{Nsec3HashError}
 use Rattle.domain_hasher.specs.declared.error.Nsec3HashError.TheVariants as hash_error
-use Rattle.domain_checker.specs.{HashedReading.IsWalked, HashedVerdict.{HasHashedProof, IsFirstRefusal, IsHashedProved}, HashedView.{HashedRecords, links_with}}
-use Rattle.domain_checker.specs.{Reading.reading, Verdict.{HasProof, IsProved, IsWithin}, declared.verdict.Verdict.Verdict}
-use Rattle.domain_checker.specs.declared.verdict.Verdict.TheVariants.{NotProven, OutsideZone}
+use Rattle.domain_checker.specs.{HashedReading.IsHashedChecked, HashedView.{HashedRecords, links_with}, Reading.IsChecked, declared.verdict.Verdict.Verdict}
 use Rattle.denial_c.specs.{Among.{AreNsecs, AreNsec3s, AreParams, HasNone, IsReadFault}, Numbers.told_by, declared.fault.Fault.Fault}
 use Rattle.denial_c.specs.declared.fault.Fault.TheVariants as fault
 use Rattle.denial_c.specs.declared.nsec3.Telling.{Telling}
@@ -28,24 +26,16 @@ IsSpelled octets = (labels : Name) × Spells octets labels
 
 -- ---- NSEC
 
--- the names and the NSEC records of a class that the octets are
-pub record AreNsecsAsked (apex name : Octets) (class : ℕ) (records : Octets) (a x : Name)
-    (links : List Link) : Type 0 where
-  pub apex_is : Spells apex a
-  pub name_is : Spells name x
-  pub are : AreNsecs class records links
-
--- the verdict on the type t
-pub record HasNsecVerdict (apex name : Octets) (t class : ℕ) (records : Octets)
-    (verdict : Verdict) : Type 0 where
+-- the octets are two names and the NSEC records of a class, of which this holds
+pub record AsksNsecs (apex name : Octets) (class : ℕ) (records : Octets)
+    (Holds : List Link → Name → Name → Type 0) : Type 0 where
   pub a : Name
   pub x : Name
   pub links : List Link
-  pub asked : AreNsecsAsked apex name class records a x links
-  pub zone : IsProved links a x t verdict
-  pub proof : is_at_or_below x a ≡ true → verdict ≢ NotProven → HasProof links a x
-  pub exact : verdict ≡ reading a links x t
-  pub within : IsWithin (length x) verdict
+  pub apex_is : Spells apex a
+  pub name_is : Spells name x
+  pub are : AreNsecs class records links
+  pub holds : Holds links a x
 
 -- of faults the first that stands is told
 abbrev pub IsNsecFault : Octets → Octets → ℕ → Octets → Fault → Type 0
@@ -55,9 +45,10 @@ IsNsecFault apex name class records fault.Records =
     IsSpelled apex × IsSpelled name × HasNone (AreNsecs class records)
 IsNsecFault apex name class records _ = ⊥
 
+-- the verdict on the type t
 abbrev pub IsNsecResult : Octets → Octets → ℕ → ℕ → Octets → Result Verdict Fault → Type 0
 IsNsecResult apex name t class records (Ok verdict) =
-    HasNsecVerdict apex name t class records verdict
+    AsksNsecs apex name class records (λ links a x. IsChecked links a x t verdict)
 IsNsecResult apex name t class records (Err e) = IsNsecFault apex name class records e
 
 -- ---- NSEC3
@@ -91,15 +82,6 @@ pub record Asks (source : Source) (apex name : Octets) (Holds : HashedQuestion �
   pub q : HashedQuestion
   pub asked : AreAsked source apex name q
   pub holds : Holds q
-
--- the verdict on the type t
-pub record IsNsec3Verdict (q : HashedQuestion) (t : ℕ) (verdict : Verdict) : Type 0 where
-  pub outside : is_at_or_below q.name q.apex ≡ false → verdict ≡ OutsideZone
-  pub zone : IsHashedProved (sha1_records q) q.name t verdict
-  pub exact : is_at_or_below q.name q.apex ≡ true → IsWalked (sha1_records q) q.name t verdict
-  pub proof : is_at_or_below q.name q.apex ≡ true → verdict ≢ NotProven
-      → HasHashedProof (sha1_records q) q.name
-  pub within : IsWithin (length q.name) verdict
 
 -- the apex has none or several NSEC3PARAM records
 pub record HasNoParam (a : Name) (class : ℕ) (records : Octets) : Type 0 where
@@ -188,19 +170,17 @@ abbrev pub fault_of : Nsec3HashError → Fault
 fault_of hash_error.OutOfMemory = fault.OutOfMemory
 fault_of e = fault.Hasher
 
--- what is told of a question, or why nothing is; the hasher may refuse a name for such a reason
+-- what the library tells of a question, which may be the hasher's refusal, or why nothing is told
 abbrev pub IsHashedResult : {V : Type 0} → Source → Octets → Octets
-    → (HashedQuestion → V → Type 0) → (HashedQuestion → ℕ → Type 0) → Result V Fault → Type 0
-IsHashedResult source apex name IsTold IsRefused (Ok told) =
-    Asks source apex name (λ q. IsTold q told)
-IsHashedResult source apex name IsTold IsRefused (Err e) =
-    IsNsec3Fault source apex name (Asks source apex name (λ q. (n : ℕ) × IsRefused q n)) e
+    → (HashedQuestion → Result V Nsec3HashError → Type 0) → Result V Fault → Type 0
+IsHashedResult source apex name Tells (Ok told) = Asks source apex name (λ q. Tells q (Ok told))
+IsHashedResult source apex name Tells (Err e) = IsNsec3Fault source apex name
+    (Asks source apex name (λ q. (n : ℕ) × Tells q (Err (hash_error.Hasher n)))) e
 
--- the first refusal is that of a name that is asked for
+-- the verdict on the type t
 abbrev pub IsNsec3Result : Source → Octets → Octets → ℕ → Result Verdict Fault → Type 0
 IsNsec3Result source apex name t =
-    IsHashedResult source apex name (λ q. IsNsec3Verdict q t)
-    (λ q. IsFirstRefusal (sha1_records q) q.name)
+    IsHashedResult source apex name (λ q. IsHashedChecked (sha1_records q) q.name t)
 
 -- ---- what C is told
 

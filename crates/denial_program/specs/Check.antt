@@ -1,13 +1,13 @@
 -- What the records of a chain that were read prove of a name and a type.
-use Rattle.std.specs.Prelude.{ℕ, ◌≡◌, ◌≢◌, ◌⊎◌, true, false, List, [], ◌∷◌, ◌++◌, codes, length}
+use Rattle.std.specs.Prelude.{ℕ, ◌≡◌, ◌≢◌, ◌⊎◌, true, List, [], ◌∷◌, ◌++◌, codes, length, Ok}
 use Rattle.domain_octets.specs.Words.{Octets}
-use Rattle.domain_names.specs.{Name.{is_at_or_below, last_labels, same_name}, Text.name_text, Words.Name}
+use Rattle.domain_names.specs.{Name.{last_labels, same_name}, Text.name_text, Words.Name}
 use Rattle.domain_hasher.specs.declared.error.Nsec3HashError.TheVariants.{Hasher}
 use Rattle.domain_records.specs.declared.error.SigningError.{SigningError, TheVariants.Nsec3HashingError}
 use Rattle.domain_nsec.specs.Chain.{Link}
 use Rattle.domain_nsec3.specs.{Chain.{HashedLink, ParamRecord}, View.HasherAnswer}
-use Rattle.domain_checker.specs.{HashedView.{links_with, HashedRecords}, Verdict.{HasProof, IsProved}, Reading.reading}
-use Rattle.domain_checker.specs.{HashedVerdict.{HasHashedProof, IsFirstRefusal, IsHashedProved}, HashedReading.IsWalked, declared.verdict.Verdict.Verdict}
+use Rattle.domain_checker.specs.{HashedReading.IsHashedChecked, HashedVerdict.IsFirstRefusal, HashedView.{links_with, HashedRecords}}
+use Rattle.domain_checker.specs.{Reading.IsChecked, declared.verdict.Verdict.Verdict}
 use Rattle.domain_checker.specs.declared.verdict.Verdict.TheVariants as verdicts
 use Rattle.domain_borrowed.specs.{Data.RawRecord, Links.{nsec_record, nsec3_record, param_record, IsNsec, IsNsec3, IsParam}}
 use Rattle.denial_program.specs.declared.{answer.Reply.Reply, command.Question.Question, fault.DenialFault.{DenialFault, TheVariants.{Signing, Param}}}
@@ -48,23 +48,16 @@ AreNsec3s = AreAmong IsNsec3Of
 abbrev pub AreParams : Name → List RawRecord → List ParamRecord → Type 0
 AreParams apex = AreAmong (IsParamOf apex)
 
--- the answer is what the NSEC records prove of the question: what is proved of any zone of whose
--- chain they are, and, from any records, what the first match says, or else the first cover, and
--- nothing without a proof
+-- the answer is what the NSEC records prove of the question
 pub record IsNsecVerdict (given : List RawRecord) (q : Question) (answer : Reply) : Type 0 where
   pub links : List Link
   pub are : AreNsecs given links
   pub verdict : Verdict
   pub is : answer ≡ answers.Verdict q.name verdict
-  pub outside : is_at_or_below q.name q.apex ≡ false → verdict ≡ verdicts.OutsideZone
-  pub zone : IsProved links q.apex q.name q.rtype verdict
-  pub exact : verdict ≡ reading q.apex links q.name q.rtype
-  pub proof : is_at_or_below q.name q.apex ≡ true → verdict ≢ verdicts.NotProven
-      → HasProof links q.apex q.name
+  pub checked : IsChecked links q.apex q.name q.rtype verdict
 
 -- the apex has one NSEC3PARAM record, and the answer is what the NSEC3 records prove of the
--- question with its parameters: of any zone of whose chain they are, and, from any records, what
--- they say on the way from the name to the apex
+-- question with its parameters
 pub record IsNsec3Verdict (hashes : HasherAnswer) (given : List RawRecord) (q : Question)
     (answer : Reply) : Type 0 where
   pub param : ParamRecord
@@ -73,13 +66,8 @@ pub record IsNsec3Verdict (hashes : HasherAnswer) (given : List RawRecord) (q : 
   pub are : AreNsec3s given links
   pub verdict : Verdict
   pub is : answer ≡ answers.Verdict q.name verdict
-  pub outside : is_at_or_below q.name q.apex ≡ false → verdict ≡ verdicts.OutsideZone
-  pub zone : IsHashedProved (links_with q.apex param.parameters hashes links) q.name
-      q.rtype verdict
-  pub exact : is_at_or_below q.name q.apex ≡ true
-      → IsWalked (links_with q.apex param.parameters hashes links) q.name q.rtype verdict
-  pub proof : is_at_or_below q.name q.apex ≡ true → verdict ≢ verdicts.NotProven
-      → HasHashedProof (links_with q.apex param.parameters hashes links) q.name
+  pub checked : IsHashedChecked (links_with q.apex param.parameters hashes links) q.name q.rtype
+      (Ok verdict)
 
 -- the apex has none or several NSEC3PARAM records
 pub record HasNoParam (apex : Name) (given : List RawRecord) : Type 0 where

@@ -1,5 +1,4 @@
 pub mod ChoiceLemmas
-pub mod FoundLemmas
 pub mod EncloserLemmas
 pub mod ChainLemmas
 pub mod ProofLemmas
@@ -13,3 +12,4 @@ pub mod HashedAlikeLemmas
 pub mod HashedWholeLemmas
 pub mod HashedZoneLemmas
 pub mod ExpansionLemmas
+pub mod JudgedLemmas

@@ -1,16 +1,16 @@
 -- Of any records at all: those that an answer rests on are there, what it counts is within the name, and what of it rests on no wildcard is told.
-use Rattle.std.proofs.{Common.{rules, ◌≡◌, ◌≢◌, ◌<◌, ◌≤◌, arith, ℕ, true, false, cond, List, length, refl, sym, ◌∙◌, Some}, lemmas.Bool.and_parts}
-use Rattle.std.{proofs.lemmas.Grind.common_steps, specs.List.find}
+use Rattle.std.proofs.Common.{rules, ◌≡◌, ◌≢◌, ◌<◌, ◌≤◌, arith, ℕ, true, false, cond, List, length, refl, sym, ◌∙◌, Option, Some, None}
+use Rattle.std.{proofs.lemmas.{Bool.and_parts, Grind.common_steps}, specs.List.find}
 use Rattle.domain_names.specs.{Name.{is_at_or_below, is_strictly_below, last_labels}, Order.before, Words.Name}
 use Rattle.domain_zone.{specs.{Covering.covers, Enclosers.{longer, shared}}, proofs.{FindLemmas.find_some, NameLemmas.{below_length, same_is}}}
 use Rattle.domain_zone.proofs.OwnerLemmas.{in_any}
 use Rattle.domain_nsec.specs.Chain.{Link}
 use Rattle.domain_checker.specs.{Reading.{is_cover, is_match}, Verdict.{HasProof, is_inside}}
 use Rattle.domain_checker.proofs.{ChoiceLemmas.{choose_by, either_found}, EncloserLemmas.same_count}
-use Rattle.domain_answer.specs.{Proved.{CountsWithin, RestsOn}, Reading.{IsNameAnswer, absent_answer, cover_answer, listed_answer, listed_both, match_answer}}
-use Rattle.domain_answer.specs.Reading.{name_answer, owner_answer, reading, tells_occluded, tells_occluder, wildcard_answer, wildcard_both}
-use Rattle.domain_answer.specs.{ZoneAnswer.wildcard_below, declared.answer.{Answer.{Answer, TheVariants.{NoCloserName, NoData}}, NameAnswer.TheVariants.Given}}
-use Rattle.domain_answer.{specs.declared.answer.NameAnswer.TheVariants.Absent, proofs.EncloserLemmas.encloser_less}
+use Rattle.domain_answer.specs.{Found.IsFound, Proved.{CountsWithin, RestsOn}, Reading.{IsNameAnswer, absent_answer, cover_answer, listed_answer, listed_both}}
+use Rattle.domain_answer.specs.Reading.{match_answer, name_answer, owner_answer, reading, tells_occluded, tells_occluder, wildcard_answer, wildcard_both}
+use Rattle.domain_answer.specs.{ZoneAnswer.{is_at_parent, wildcard_below}, declared.answer.Answer.{Answer, TheVariants.{NoCloserName, NoData}}}
+use Rattle.domain_answer.{specs.declared.answer.NameAnswer.TheVariants.{Absent, Given}, proofs.EncloserLemmas.encloser_less}
 
 module _ (a : Name) (listed : List Link) where
   match_proves : (y : Name) (k : Link) → find (is_match a y) listed ≡ Some k → HasProof listed a y
@@ -51,6 +51,19 @@ module _ (a : Name) (listed : List Link) where
 
     pub reading_fits : Fits (reading a listed x t)
     reading_fits = grind (arith, common_steps, listed_fits)
+
+-- ---- what one pass finds
+
+-- of a name at or below the apex the list says what is said of what was found
+pub found_reads : (a : Name) (listed : List Link) (x : Name) (t : ℕ) → is_at_or_below x a ≡ true → is_at_parent a x t ≡ false
+    → (matched covered : Option Link) → IsFound a listed x matched covered → reading a listed x t ≡ listed_both a listed x t matched covered
+found_reads a listed x t low apart None covered found = grind (arith, common_steps)
+found_reads a listed x t low apart (Some k) covered found = grind (arith, common_steps)
+
+-- a cover that was found covers the name
+pub found_covers : (a : Name) (listed : List Link) (x : Name) (k : Link) → IsFound a listed x None (Some k)
+    → covers before k.owner k.next x ≡ true
+found_covers a listed x k found = grind (arith, common_steps, (find_some (is_cover a x) listed k))
 
 -- ---- what a record says of its owner, or of what is below it, rests on no wildcard; what is said of a wildcard does
 

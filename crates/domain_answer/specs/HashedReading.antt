@@ -1,6 +1,6 @@
 -- What NSEC3 records answer by themselves (RFC 5155, section 8; RFC 6840, sections 4.1, 4.3 and
 -- 4.4).
-use Rattle.std.specs.Prelude.{ℕ, ◌==◌, ◌≡◌, ◌⊎◌, Option, Some, None, Ok, Err, length, if◌then◌else◌}
+use Rattle.std.specs.{Prelude.{ℕ, Bool, ◌==◌, ◌≡◌, ◌⊎◌, Option, Some, None, Ok, Err, length, if◌then◌else◌}, Option.option_map}
 use Rattle.domain_octets.specs.Words.{Octets}
 use Rattle.domain_base.specs.Types.{dname, ns}
 use Rattle.domain_names.specs.{Words.Name, Name.last_labels}
@@ -16,20 +16,28 @@ use Rattle.domain_answer.specs.declared.answer.Answer.TheVariants.{Referral, Red
 abbrev pub own_answer : Name → Encloser → ℕ → Answer
 own_answer a e t = types_answer (encloser_is_cut a e) e.link.bits e.count t
 
--- a cover of the next closer name says, where the closest encloser has n labels
+-- a cover of the next closer name says, by its flag of opt-out, where the closest encloser has n
+-- labels
+abbrev pub next_by : ℕ → Option Bool → Answer
+next_by n None = NotProven
+next_by n (Some opt_out) = if opt_out then MayBeUnsigned n else NoCloserName n
+
+abbrev pub flag_of : Option HashedLink → Option Bool
+flag_of cover = option_map (λ k. is_opt_out k.flags) cover
+
 abbrev pub next_answer : ℕ → Option HashedLink → Answer
-next_answer n None = NotProven
-next_answer n (Some k) = if is_opt_out k.flags then MayBeUnsigned n else NoCloserName n
+next_answer n cover = next_by n (flag_of cover)
 
--- both say of a name below the closest encloser
-abbrev pub lower_answer : Name → Encloser → Answer
-lower_answer a e =
-    if encloser_is_cut a e then Referral e.count else
-    (if contains_type e.link.bits dname then Redirected e.count else next_answer e.count e.cover)
+-- both say of a name with m labels
+abbrev pub answer_by : Bool → Octets → ℕ → Option Bool → ℕ → ℕ → Answer
+answer_by at_cut bits n opt_out m t =
+    if n == m then types_answer at_cut bits n t else
+    (if at_cut then Referral n else
+    (if contains_type bits dname then Redirected n else next_by n opt_out))
 
--- they say of a name with n labels
 abbrev pub encloser_answer : Name → Encloser → ℕ → ℕ → Answer
-encloser_answer a e n t = if e.count == n then own_answer a e t else lower_answer a e
+encloser_answer a e n t =
+    answer_by (encloser_is_cut a e) e.link.bits e.count (flag_of e.cover) n t
 
 abbrev pub found_answer : Name → Option Encloser → ℕ → ℕ → Answer
 found_answer a None n t = NotProven

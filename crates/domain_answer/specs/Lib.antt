@@ -8,3 +8,4 @@ pub mod HashedProved
 pub mod HashedReading
 pub mod Expansion
 pub mod TypesAnswer
+pub mod Judged

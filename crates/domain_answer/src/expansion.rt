@@ -1,16 +1,13 @@
 //! What NSEC3 records answer of a name whose records were expanded from a wildcard.
-ghost use Rattle.std.specs.Prelude.{◌≡◌, ◌<◌, ◌≤◌, ◌⊎◌, ℕ, Ok, Err, true, false, length, IfOk, IfErr, IsErrOf};
-ghost use Rattle.domain_names.specs.Name.{is_at_or_below};
-ghost use Rattle.domain_nsec3.specs.Config.{hash_name};
+ghost use Rattle.std.specs.Prelude.{◌≡◌, IsErrOf};
 ghost use Rattle.domain_hasher.specs.declared.error.Nsec3HashError.TheVariants as hash_error;
-ghost use Rattle.domain_checker.specs.HashedView.{hash_with, hashed_records, parameters};
-ghost use Rattle.domain_answer.specs.Expansion.{closer_name, is_expanded};
-ghost use Rattle.domain_answer.specs.Expansion.{ExpansionRestsOn, IsExpansionAnswered, IsExpansionRead};
-ghost use Rattle.domain_answer.specs.Proved.{CountsWithin};
+ghost use Rattle.domain_checker.specs.HashedView.{hashed_records};
+ghost use Rattle.domain_answer.specs.{Expansion.is_expanded, Judged.IsExpansionJudged};
 
-use crate::nsec3::next_answer;
-use crate::{Answer, laws};
+use crate::Answer;
+use crate::nsec3::{next_answer, opt_out_of};
 use domain_base::ToName;
+use domain_checker::laws::hashed_chains_are_known;
 use domain_checker::{Nsec3Found, find_nsec3};
 use domain_hasher::{Nsec3HashError, Nsec3Hasher};
 use domain_nsec3::Nsec3Records;
@@ -23,35 +20,6 @@ fn is_expanded<A: ToName, M: ToName>(apex: &A, name: &M, labels: usize) -> bool
     ensures { result ≡ is_expanded (A.labels apex.now) (M.labels name.now) labels }
 {
     name.ends_with(apex) && apex.count_labels() <= labels && labels < name.count_labels()
-}
-
-/// What the records say of such a name. Hashes the next closer name, and no other.
-fn read_expansion<A: ToName, O: Octets, N: ToName, M: ToName, H: Nsec3Hasher>(
-    alloc: Global,
-    apex: &A,
-    records: &Nsec3Records<N, O>,
-    name: &M,
-    labels: usize,
-    hasher: &H,
-) -> Result<Answer, Nsec3HashError>
-    requires { labels < length (M.labels name.now) }
-    ensures ok { IfOk result (IsExpansionRead
-        (hashed_records (A.labels apex.now) N.labels (H.answer hasher.now) records.now)
-        (M.labels name.now) labels) }
-    ensures refusal { (n : ℕ) → IsErrOf result (hash_error.Hasher n)
-        → hash_name (hash_with (H.answer hasher.now) records.now)
-        (closer_name labels (M.labels name.now)) ≡ Err n }
-    ensures errors { IfErr result (λ e. (e ≡ hash_error.OutOfMemory)
-        ⊎ ((n : ℕ) × (e ≡ hash_error.Hasher n))) }
-    ensures memory { IsErrOf result hash_error.OutOfMemory → H.takes_memory hasher.now }
-{
-    // The count of labels is a usize, so that one more than fewer is.
-    let _count = name.count_labels();
-    let closer = name.last_labels(labels + 1);
-    match find_nsec3(alloc, apex, records, &closer, hasher)? {
-        Nsec3Found::Match(_) => Ok(Answer::NotProven),
-        Nsec3Found::NoMatch(cover) => Ok(next_answer(labels, cover)),
-    }
 }
 
 /// What NSEC3 records answer of a name whose records were expanded from a wildcard (RFC 5155,
@@ -85,40 +53,9 @@ pub fn judge_nsec3_expansion<A: ToName, O: Octets, N: ToName, M: ToName, H: Nsec
     limit: u16,
     hasher: &H,
 ) -> Result<Answer, Nsec3HashError>
-    ensures outside { is_at_or_below (M.labels name.now) (A.labels apex.now) ≡ false
-        → result ≡ Ok Answer.OutsideZone }
-    ensures none { is_at_or_below (M.labels name.now) (A.labels apex.now) ≡ true
-        → is_expanded (A.labels apex.now) (M.labels name.now) labels ≡ false
-        → result ≡ Ok Answer.NotProven }
-    ensures iterations { is_expanded (A.labels apex.now) (M.labels name.now) labels ≡ true
-        → limit < (parameters records.now).iterations → result ≡ Ok Answer.TooManyIterations }
-
-    // For records of the chain of any zone, within the limit, what they prove of the next closer
-    // name.
-    ensures zone { is_expanded (A.labels apex.now) (M.labels name.now) labels ≡ true
-        → (parameters records.now).iterations ≤ limit
-        → IfOk result (IsExpansionAnswered
+    ensures judged { IsExpansionJudged
         (hashed_records (A.labels apex.now) N.labels (H.answer hasher.now) records.now)
-        (M.labels name.now) labels) }
-
-    // For any list at all, the answer is what the records say by themselves, and those that it
-    // rests on are there.
-    ensures exact { is_expanded (A.labels apex.now) (M.labels name.now) labels ≡ true
-        → (parameters records.now).iterations ≤ limit
-        → IfOk result (IsExpansionRead
-        (hashed_records (A.labels apex.now) N.labels (H.answer hasher.now) records.now)
-        (M.labels name.now) labels) }
-    ensures proof { IfOk result (ExpansionRestsOn
-        (hashed_records (A.labels apex.now) N.labels (H.answer hasher.now) records.now)
-        (M.labels name.now) labels) }
-    ensures within { IfOk result (CountsWithin (length (M.labels name.now))) }
-
-    // An error is the refusal of the one name that is hashed, or want of memory.
-    ensures refusal { (n : ℕ) → IsErrOf result (hash_error.Hasher n)
-        → hash_name (hash_with (H.answer hasher.now) records.now)
-        (closer_name labels (M.labels name.now)) ≡ Err n }
-    ensures errors { IfErr result (λ e. (e ≡ hash_error.OutOfMemory)
-        ⊎ ((n : ℕ) × (e ≡ hash_error.Hasher n))) }
+        (M.labels name.now) labels limit result }
     ensures memory { IsErrOf result hash_error.OutOfMemory → H.takes_memory hasher.now }
 {
     if !name.ends_with(apex) {
@@ -131,6 +68,12 @@ pub fn judge_nsec3_expansion<A: ToName, O: Octets, N: ToName, M: ToName, H: Nsec
         return Ok(Answer::TooManyIterations);
     }
     // By this law what the records say is what they prove.
-    laws::expansions_are_proved();
-    Ok(read_expansion(alloc, apex, records, name, labels, hasher)?)
+    hashed_chains_are_known();
+    // The count of labels is a usize, so that one more than fewer is.
+    let _count = name.count_labels();
+    let closer = name.last_labels(labels + 1);
+    match find_nsec3(alloc, apex, records, &closer, hasher)? {
+        Nsec3Found::Match(_) => Ok(Answer::NotProven),
+        Nsec3Found::NoMatch(cover) => Ok(next_answer(labels, opt_out_of(cover))),
+    }
 }

@@ -2,9 +2,8 @@
 ghost use Rattle.domain_nsec.specs.ChainView.{links_of};
 ghost use Rattle.domain_answer.specs.Found.{found_cover, found_match, IsCovered, IsFound};
 
-use crate::listed::{cover_of, is_match};
 use domain_base::ToName;
-use domain_checker::NsecRr;
+use domain_checker::{NsecRr, is_match, shared_if_covered};
 use domain_octets::Octets;
 
 /// A record that covers a name.
@@ -44,7 +43,13 @@ pub fn find_nsec<'a, A: ToName, O: Octets, N: ToName, M: ToName>(
         if cover.is_some() {
             continue;
         }
-        cover = cover_of(apex, listed, name);
+        let Some(shared) = shared_if_covered(apex, listed, name) else {
+            continue;
+        };
+        cover = Some(NsecCover {
+            record: listed,
+            shared,
+        });
     }
     NsecFound::NoMatch(cover)
 }

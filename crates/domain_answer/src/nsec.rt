@@ -1,26 +1,38 @@
 //! What records of an NSEC chain answer.
-ghost use Rattle.std.specs.Prelude.{◌≡◌, length};
+ghost use Rattle.std.specs.Prelude.{◌≡◌};
 ghost use Rattle.domain_nsec.specs.ChainView.{as_link, links_of};
-ghost use Rattle.domain_answer.specs.{ZoneAnswer.is_at_parent, Proved.{CountsWithin, IsAnswered}};
-ghost use Rattle.domain_answer.specs.{Proved.RestsOn, Reading.{owner_answer, reading}};
-ghost use Rattle.domain_answer.specs.Reading.{wildcard_answer, IsNameAnswer, wildcard_cover_answer};
+ghost use Rattle.domain_answer.specs.{Judged.IsJudged, ZoneAnswer.is_at_parent};
+ghost use Rattle.domain_answer.specs.Reading.{owner_answer, reading, tells_occluded, wildcard_answer, wildcard_cover_answer, IsNameAnswer};
 
 use crate::found::{NsecFound, find_nsec};
-use crate::listed::tells_occluded;
 use crate::of_types::{types_answer, wildcard_types_answer};
 use crate::wildcard::wildcard_below;
-use crate::{Answer, NameAnswer, laws};
+use crate::{Answer, NameAnswer};
 use domain_base::{MAX_NAME, ParsedName, Rtype, ToName};
 use domain_chain_rdata::Nsec;
+use domain_checker::laws::chains_are_known;
 use domain_checker::{NsecRr, is_at_cut, is_strictly_below};
 use domain_octets::Octets;
 use domain_record::Record;
 
 /// Whether the parent zone answers: the type is DS and the name is the apex.
-pub(crate) fn is_at_parent<A: ToName, M: ToName>(apex: &A, name: &M, rtype: Rtype) -> bool
+pub fn is_at_parent<A: ToName, M: ToName>(apex: &A, name: &M, rtype: Rtype) -> bool
     ensures { result ≡ is_at_parent (A.labels apex.now) (M.labels name.now) rtype }
 {
     rtype == Rtype::DS && name.name_eq(apex)
+}
+
+/// Whether the owner is a zone cut or owns a DNAME record, and the name is at or below it.
+fn tells_occluded<A: ToName, O: Octets, N: ToName, M: ToName>(
+    apex: &A,
+    listed: &NsecRr<O, N>,
+    name: &M,
+) -> bool
+    ensures { result ≡ tells_occluded (A.labels apex.now) (as_link N.labels listed.now)
+        (M.labels name.now) }
+{
+    name.ends_with(listed.owner())
+        && (is_at_cut(apex, listed) || listed.data().types().contains(Rtype::DNAME))
 }
 
 /// What a record whose owner is a zone cut or owns a DNAME record says of the names strictly below
@@ -120,26 +132,6 @@ pub fn judge_name<A: ToName, O: Octets, N: ToName, M: ToName>(
     NameAnswer::Absent(cover.shared)
 }
 
-/// What the records say of a name, with what they say of the wildcard where that decides.
-fn read<A: ToName, O: Octets, N: ToName, M: ToName>(
-    apex: &A,
-    chain: &[NsecRr<O, N>],
-    name: &M,
-    rtype: Rtype,
-) -> Answer
-    ensures { result ≡ reading (A.labels apex.now) (links_of N.labels chain.now)
-        (M.labels name.now) rtype }
-{
-    match judge_name(apex, chain, name, rtype) {
-        NameAnswer::Given(answer) => answer,
-        NameAnswer::Absent(count) => {
-            let mut buffer = [0; MAX_NAME];
-            let wildcard = wildcard_below(&mut buffer, name, count);
-            judge_wildcard(apex, chain, count, &wildcard, rtype)
-        }
-    }
-}
-
 /// What records of an NSEC chain answer to a question about a name and a type (RFC 4035, section
 /// 5.4; RFC 6840, sections 4.1, 4.3 and 4.4). Takes no memory, and goes over the records twice at
 /// most.
@@ -161,25 +153,18 @@ pub fn judge_nsec<A: ToName, O: Octets, N: ToName, M: ToName>(
     name: &M,
     rtype: Rtype,
 ) -> Answer
-    // For records of the chain of any zone, the answer of that zone, as far as they prove it.
-    ensures zone { IsAnswered (links_of N.labels chain.now) (A.labels apex.now) (M.labels name.now)
-        rtype result }
-
-    // For any list at all, the records that the answer rests on are there.
-    ensures proof { RestsOn (links_of N.labels chain.now) (A.labels apex.now) (M.labels name.now)
+    ensures { IsJudged (links_of N.labels chain.now) (A.labels apex.now) (M.labels name.now) rtype
         result }
-
-    // For any list at all, the answer is what its first match says, or else its first cover, of the
-    // name and, where that does not exist, of the wildcard.
-    ensures exact { result ≡ reading (A.labels apex.now) (links_of N.labels chain.now)
-        (M.labels name.now) rtype }
-
-    // For any list at all, the labels that the answer counts are labels of the name, and a closest
-    // encloser has fewer.
-    ensures within { CountsWithin (length (M.labels name.now)) result }
 {
     // By this law what the records say is what they prove, of a type of 16 bits.
-    laws::readings_are_proved();
+    chains_are_known();
     let _number = rtype.to_int();
-    read(apex, chain, name, rtype)
+    match judge_name(apex, chain, name, rtype) {
+        NameAnswer::Given(answer) => answer,
+        NameAnswer::Absent(count) => {
+            let mut buffer = [0; MAX_NAME];
+            let wildcard = wildcard_below(&mut buffer, name, count);
+            judge_wildcard(apex, chain, count, &wildcard, rtype)
+        }
+    }
 }

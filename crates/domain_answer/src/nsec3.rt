@@ -1,23 +1,21 @@
 //! What records of an NSEC3 chain answer.
-ghost use Rattle.std.specs.Prelude.{◌≡◌, ◌<◌, ◌≤◌, ◌⊎◌, ℕ, Ok, Err, true, false, length, IfOk};
-ghost use Rattle.std.specs.{Prelude.{IfErr, IsErrOf}, Option.option_map};
-ghost use Rattle.domain_names.specs.Name.{is_at_or_below, last_labels};
+ghost use Rattle.std.specs.{Prelude.{◌≡◌, ◌<◌, ◌⊎◌, ℕ, Err, length, IfErr, IfOk, IsErrOf}, Option.option_map};
+ghost use Rattle.domain_names.specs.Name.{last_labels};
 ghost use Rattle.domain_nsec3.specs.{Config.hash_name, View.as_hashed_link};
 ghost use Rattle.domain_hasher.specs.declared.error.Nsec3HashError.TheVariants as hash_error;
 ghost use Rattle.domain_checker.specs.HashedEncloser.{encloser_of};
 ghost use Rattle.domain_checker.specs.HashedPass.{found_cover, found_match};
-ghost use Rattle.domain_checker.specs.HashedView.{hash_with, hashed_records, parameters};
-ghost use Rattle.domain_answer.specs.HashedProved.{HashedRestsOn, IsHashedAnswered};
-ghost use Rattle.domain_answer.specs.HashedReading.{found_answer, lower_answer, next_answer, wildcard_told};
-ghost use Rattle.domain_answer.specs.HashedReading.{IsFirstOfRefusals, IsHashedRead, IsWildcardRead};
-ghost use Rattle.domain_answer.specs.Proved.{needs_no_records, CountsWithin};
-ghost use Rattle.domain_answer.specs.ZoneAnswer.{is_at_parent, wildcard_below};
+ghost use Rattle.domain_checker.specs.HashedView.{hash_with, hashed_records};
+ghost use Rattle.domain_answer.specs.HashedReading.{answer_by, flag_of, found_answer, next_by, wildcard_told, IsWildcardRead};
+ghost use Rattle.domain_answer.specs.{Judged.IsHashedJudged, ZoneAnswer.wildcard_below};
 
+use crate::Answer;
 use crate::nsec::is_at_parent;
 use crate::of_types::{types_answer, wildcard_types_answer};
 use crate::wildcard::wildcard_below;
-use crate::{Answer, laws};
 use domain_base::{MAX_NAME, Rtype, ToName};
+use domain_bitmap::RtypeBitmap;
+use domain_checker::laws::hashed_chains_are_known;
 use domain_checker::{Nsec3Encloser, Nsec3Found, Nsec3Rr, find_nsec3, find_nsec3_encloser};
 use domain_hasher::{Nsec3HashError, Nsec3Hasher};
 use domain_nsec3::Nsec3Records;
@@ -25,58 +23,66 @@ use domain_octets::Octets;
 use std::alloc::Global;
 
 /// What the first cover of the next closer name says, where the closest encloser has so many
-/// labels.
-pub(crate) fn next_answer<O: Octets, N: ToName>(
+/// labels: of the cover it is told whether it has the flag of opt-out.
+pub(crate) fn next_answer(count: usize, cover: Option<bool>) -> Answer
+    ensures { result ≡ next_by count cover }
+{
+    match cover {
+        Some(true) => Answer::MayBeUnsigned(count),
+        Some(false) => Answer::NoCloserName(count),
+        None => Answer::NotProven,
+    }
+}
+
+/// What that and the record of the closest encloser, which has so many labels, say of a name with
+/// `labels`; of one that does not exist no more than that. Of the record its types are told, and
+/// whether its name is a zone cut.
+pub fn encloser_answer<O: Octets>(
+    types: &RtypeBitmap<O>,
+    at_cut: bool,
     count: usize,
-    cover: Option<&Nsec3Rr<O, N>>,
+    cover: Option<bool>,
+    labels: usize,
+    rtype: Rtype,
 ) -> Answer
-    ensures { result ≡ next_answer count (option_map (λ k. as_hashed_link N.labels k.now)
-        cover.entry) }
+    ensures { result ≡ answer_by at_cut types.now count cover labels rtype }
 {
-    let Some(listed) = cover else {
-        return Answer::NotProven;
-    };
-    if listed.data().opt_out() {
-        return Answer::MayBeUnsigned(count);
+    if count == labels {
+        return types_answer(types, at_cut, count, rtype);
     }
-    Answer::NoCloserName(count)
+    if at_cut {
+        return Answer::Referral(count);
+    }
+    if types.contains(Rtype::DNAME) {
+        return Answer::Redirected(count);
+    }
+    next_answer(count, cover)
 }
 
-/// What that and the record of the closest encloser say of a name below it.
-fn lower_answer<A: ToName, O: Octets, N: ToName>(
-    apex: &A,
-    encloser: &Nsec3Encloser<'_, O, N>,
-) -> Answer
-    ensures { result ≡ lower_answer (A.labels apex.now) (encloser_of N.labels encloser.now) }
+/// Whether a record that covers a name, if one does, has the flag of opt-out.
+pub(crate) fn opt_out_of<O: Octets, N: ToName>(cover: Option<&Nsec3Rr<O, N>>) -> Option<bool>
+    ensures { result ≡ flag_of (option_map (λ k. as_hashed_link N.labels k.now) cover.entry) }
 {
-    if encloser.is_zone_cut(apex) {
-        return Answer::Referral(encloser.count);
-    }
-    if encloser.matching.data().types().contains(Rtype::DNAME) {
-        return Answer::Redirected(encloser.count);
-    }
-    next_answer(encloser.count, encloser.cover)
+    Some(cover?.data().opt_out())
 }
 
-/// What the records say of a name with so many labels, whose closest encloser they tell; of one
-/// that does not exist no more than that.
+/// What the records say of a name with so many labels, whose closest encloser they tell.
 fn found_answer<A: ToName, O: Octets, N: ToName>(
     apex: &A,
     found: Option<Nsec3Encloser<'_, O, N>>,
-    count: usize,
+    labels: usize,
     rtype: Rtype,
 ) -> Answer
     ensures { result ≡ found_answer (A.labels apex.now)
-        (option_map (encloser_of N.labels) found.entry) count rtype }
+        (option_map (encloser_of N.labels) found.entry) labels rtype }
 {
     let Some(encloser) = found else {
         return Answer::NotProven;
     };
-    if encloser.count != count {
-        return lower_answer(apex, &encloser);
-    }
     let types = encloser.matching.data().types();
-    types_answer(types, encloser.is_zone_cut(apex), count, rtype)
+    let at_cut = encloser.is_zone_cut(apex);
+    let cover = opt_out_of(encloser.cover);
+    encloser_answer(types, at_cut, encloser.count, cover, labels, rtype)
 }
 
 /// What the records say of a name that does not exist, by what they tell of the wildcard below its
@@ -127,35 +133,6 @@ fn read_wildcard<A: ToName, O: Octets, N: ToName, M: ToName, H: Nsec3Hasher>(
     Ok(wildcard_told(count, rtype, found))
 }
 
-/// What the records say of a name at or below the apex.
-fn read_nsec3<A: ToName, O: Octets, N: ToName, M: ToName, H: Nsec3Hasher>(
-    alloc: Global,
-    apex: &A,
-    records: &Nsec3Records<N, O>,
-    name: &M,
-    rtype: Rtype,
-    hasher: &H,
-) -> Result<Answer, Nsec3HashError>
-    ensures ok { IfOk result (IsHashedRead
-        (hashed_records (A.labels apex.now) N.labels (H.answer hasher.now) records.now)
-        (M.labels name.now) rtype) }
-    ensures refusal { (n : ℕ) → IsErrOf result (hash_error.Hasher n)
-        → IsFirstOfRefusals
-        (hashed_records (A.labels apex.now) N.labels (H.answer hasher.now) records.now)
-        (M.labels name.now) rtype n }
-    ensures errors { IfErr result (λ e. (e ≡ hash_error.OutOfMemory)
-        ⊎ ((n : ℕ) × (e ≡ hash_error.Hasher n))) }
-    ensures memory { IsErrOf result hash_error.OutOfMemory → H.takes_memory hasher.now }
-{
-    let found = find_nsec3_encloser(alloc, apex, records, name, hasher)?;
-    match found_answer(apex, found, name.count_labels(), rtype) {
-        Answer::NoCloserName(count) => {
-            read_wildcard(alloc, apex, records, name, rtype, count, hasher)
-        }
-        answer => Ok(answer),
-    }
-}
-
 /// What records of an NSEC3 chain answer to a question about a name and a type (RFC 5155, section
 /// 8; RFC 6840, sections 4.1, 4.3 and 4.4).
 ///
@@ -192,41 +169,9 @@ pub fn judge_nsec3<A: ToName, O: Octets, N: ToName, M: ToName, H: Nsec3Hasher>(
     limit: u16,
     hasher: &H,
 ) -> Result<Answer, Nsec3HashError>
-    ensures outside { is_at_or_below (M.labels name.now) (A.labels apex.now) ≡ false
-        → result ≡ Ok Answer.OutsideZone }
-    ensures parent { is_at_or_below (M.labels name.now) (A.labels apex.now) ≡ true
-        → is_at_parent (A.labels apex.now) (M.labels name.now) rtype ≡ true
-        → result ≡ Ok Answer.AtParent }
-    ensures iterations { needs_no_records (A.labels apex.now) (M.labels name.now) rtype ≡ false
-        → limit < (parameters records.now).iterations → result ≡ Ok Answer.TooManyIterations }
-
-    // For records of the chain of any zone, within the limit, the answer of that zone, as far as
-    // they prove it.
-    ensures zone { (parameters records.now).iterations ≤ limit
-        → IfOk result (IsHashedAnswered
+    ensures judged { IsHashedJudged
         (hashed_records (A.labels apex.now) N.labels (H.answer hasher.now) records.now)
-        (M.labels name.now) rtype) }
-
-    // For any list at all, the answer is what the records say by themselves, those that it rests on
-    // are there, and the labels that it counts are labels of the name.
-    ensures exact { needs_no_records (A.labels apex.now) (M.labels name.now) rtype ≡ false
-        → (parameters records.now).iterations ≤ limit
-        → IfOk result (IsHashedRead
-        (hashed_records (A.labels apex.now) N.labels (H.answer hasher.now) records.now)
-        (M.labels name.now) rtype) }
-    ensures proof { IfOk result (HashedRestsOn
-        (hashed_records (A.labels apex.now) N.labels (H.answer hasher.now) records.now)
-        (M.labels name.now)) }
-    ensures within { IfOk result (CountsWithin (length (M.labels name.now))) }
-
-    // An error is the first refusal, or want of memory; and an answer comes only where no name that
-    // is asked for is refused (`exact`).
-    ensures refusal { (n : ℕ) → IsErrOf result (hash_error.Hasher n)
-        → IsFirstOfRefusals
-        (hashed_records (A.labels apex.now) N.labels (H.answer hasher.now) records.now)
-        (M.labels name.now) rtype n }
-    ensures errors { IfErr result (λ e. (e ≡ hash_error.OutOfMemory)
-        ⊎ ((n : ℕ) × (e ≡ hash_error.Hasher n))) }
+        (M.labels name.now) rtype limit result }
     ensures memory { IsErrOf result hash_error.OutOfMemory → H.takes_memory hasher.now }
 {
     if !name.ends_with(apex) {
@@ -239,7 +184,13 @@ pub fn judge_nsec3<A: ToName, O: Octets, N: ToName, M: ToName, H: Nsec3Hasher>(
         return Ok(Answer::TooManyIterations);
     }
     // By this law what the records say is what they prove, of a type of 16 bits.
-    laws::hashed_readings_are_proved();
+    hashed_chains_are_known();
     let _number = rtype.to_int();
-    Ok(read_nsec3(alloc, apex, records, name, rtype, hasher)?)
+    let found = find_nsec3_encloser(alloc, apex, records, name, hasher)?;
+    match found_answer(apex, found, name.count_labels(), rtype) {
+        Answer::NoCloserName(count) => {
+            Ok(read_wildcard(alloc, apex, records, name, rtype, count, hasher)?)
+        }
+        answer => Ok(answer),
+    }
 }

@@ -1,15 +1,10 @@
 -- The first element that passes a test, looked for in a list to which one element is added.
-use Rattle.std.proofs.{Common.{◌≡◌, ℕ, Bool, true, false, cond, List, [], ◌∷◌, ◌++◌, Option, Some, None, sym, ◌∙◌, arith}}
+use Rattle.std.proofs.Common.{◌≡◌, ℕ, Bool, true, false, cond, List, [], ◌∷◌, ◌++◌, Option, Some, None, arith}
 use Rattle.std.proofs.lemmas.{List.Folds.find-append, Grind.common_steps}
-use Rattle.std.specs.{List.find, Option.{is_some, option_map, option_or, unwrap_or}, Ordering.is_eq}
-use Rattle.domain_names.specs.{Laws.same_name_ties, Order.{before, canonical_cmp}, Words.Name}
-use Rattle.domain_zone.{specs.Covering.matches, proofs.NameLemmas.same_is}
+use Rattle.std.specs.{List.find, Option.{is_some, option_map, option_or, unwrap_or}}
+use Rattle.domain_names.specs.Words.{Name}
 use Rattle.domain_nsec.specs.Chain.{Link}
 use Rattle.domain_checker.specs.{HandedIn.HasRead, Reading.list_verdict, declared.{nsec_check.NsecCheck.NsecCheck, verdict.Verdict.TheVariants.NotProven}}
-
--- an owner matches the names that the order can't tell from it
-pub match_is_tie : (x y : Name) → matches before x y ≡ is_eq (canonical_cmp x y)
-match_is_tie x y = sym (same_is x y) ∙ same_name_ties x y
 
 module _ {X V : Type 0} (p : X → Bool) (f : X → V) (xs : List X) (x : X) (found : Option V) (so : found ≡ option_map f (find p xs)) where
   found_more : option_or found (cond (p x) (Some (f x)) None) ≡ option_map f (find p (xs ++ x ∷ []))

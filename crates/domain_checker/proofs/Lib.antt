@@ -10,6 +10,7 @@ pub mod HashedEncloserLemmas
 pub mod CutLemmas
 pub mod FirstMatchedLemmas
 pub mod HashedVerdictLemmas
+pub mod CoveredLemmas
 pub mod HandedInLemmas
 pub mod PairedLemmas
 pub mod AlikeLemmas

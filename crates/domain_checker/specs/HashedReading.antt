@@ -1,16 +1,18 @@
 -- What NSEC3 records say by themselves of a name x, by what they tell of its closest encloser (RFC
 -- 5155, section 8); a is the apex.
-use Rattle.std.specs.Prelude.{ℕ, ◌≡◌, ◌≢◌, Bool, true, false, not, ◌&&◌, ◌==◌, [], ◌∷◌, length, Option, Some, None, if◌then◌else◌}
-use Rattle.domain_names.specs.Words.{Name}
+use Rattle.std.specs.Prelude.{ℕ, ◌≡◌, ◌≢◌, ◌⊎◌, Bool, true, false, not, ◌&&◌, ◌==◌, [], ◌∷◌, length, Option, Some, None}
+use Rattle.std.specs.Prelude.{Result, Ok, IfOk, IfErr, IsErrOf, if◌then◌else◌}
+use Rattle.domain_names.specs.{Name.is_at_or_below, Words.Name}
 use Rattle.domain_base.specs.Types.{ds, Rtypes}
 use Rattle.domain_bitmap.specs.Blocks.{contains_type, types_of}
 use Rattle.domain_chain_rdata.specs.OptOut.{is_opt_out}
+use Rattle.domain_hasher.specs.declared.error.Nsec3HashError.{Nsec3HashError, TheVariants.{Hasher, OutOfMemory}}
 use Rattle.domain_nsec3.specs.Chain.{HashedLink}
 use Rattle.domain_checker.specs.HashedEncloser.{Encloser, IsFoundEncloser, encloser_is_cut}
 pub use Rattle.domain_checker.specs.HashedEncloser.{IsNextHash, IsUnmatched}
-use Rattle.domain_checker.specs.HashedVerdict.{missing_verdict, IsHashedProved, HasHashedProof}
+use Rattle.domain_checker.specs.HashedVerdict.{missing_verdict, IsHashedProved, HasHashedProof, IsFirstRefusal}
 use Rattle.domain_checker.specs.{HashedView.HashedRecords, Verdict.IsWithin, declared.verdict.Verdict.Verdict}
-use Rattle.domain_checker.specs.declared.verdict.Verdict.TheVariants.{BelowDelegation, Has, NoType, EmptyName, NotProven}
+use Rattle.domain_checker.specs.declared.verdict.Verdict.TheVariants.{OutsideZone, BelowDelegation, Has, NoType, EmptyName, NotProven}
 
 abbrev pub is_none : Rtypes → Bool
 is_none [] = true
@@ -47,3 +49,21 @@ pub record WalksAreProved (R : HashedRecords) (x : Name) (t : ℕ) (verdict : Ve
   pub zone : IsHashedProved R x t verdict
   pub proof : verdict ≢ NotProven → HasHashedProof R x
   pub within : IsWithin (length x) verdict
+
+-- what is promised of the verdict on NSEC3 records, or of the error in its place
+pub record IsHashedChecked (R : HashedRecords) (x : Name) (t : ℕ)
+    (result : Result Verdict Nsec3HashError) : Type 0 where
+  pub outside : is_at_or_below x R.apex ≡ false → result ≡ Ok OutsideZone
+  -- for records of the chain of any zone, the verdict of that zone where they prove it, and else
+  -- `NotProven`
+  pub zone : IfOk result (IsHashedProved R x t)
+  -- for any list at all, the verdict is what the records say by themselves, there is none without a
+  -- proof, and a closest encloser has no more labels than the name
+  pub exact : is_at_or_below x R.apex ≡ true → IfOk result (IsWalked R x t)
+  pub proof : is_at_or_below x R.apex ≡ true
+      → IfOk result (λ verdict. verdict ≢ NotProven → HasHashedProof R x)
+  pub within : IfOk result (IsWithin (length x))
+  -- an error is the first refusal, or want of memory; and a verdict comes only where no name that
+  -- is asked for is refused (`exact`)
+  pub refusal : (n : ℕ) → IsErrOf result (Hasher n) → IsFirstRefusal R x n
+  pub errors : IfErr result (λ e. (e ≡ OutOfMemory) ⊎ ((n : ℕ) × (e ≡ Hasher n)))

@@ -27,7 +27,9 @@ mod verdict;
 
 pub use encloser::{Nsec3Encloser, find_nsec3, find_nsec3_encloser};
 pub use hashed::{Nsec3Found, Nsec3Rr};
-pub use listed::{NsecRr, is_at_cut, is_before, is_inside, is_strictly_below, longer_shared};
+pub use listed::{
+    NsecRr, is_at_cut, is_before, is_inside, is_match, is_strictly_below, shared_if_covered,
+};
 pub use nsec::check_nsec;
 pub use nsec_check::NsecCheck;
 pub use nsec3::check_nsec3;

@@ -1,55 +1,16 @@
 //! What records of an NSEC chain prove.
-ghost use Rattle.std.specs.Prelude.{◌≡◌};
-ghost use Rattle.domain_names.specs.{Order.canonical_cmp, Words.Name};
+ghost use Rattle.std.specs.Prelude.{◌≡◌, length};
+ghost use Rattle.domain_zone.specs.Enclosers.{longer, shared};
 ghost use Rattle.domain_nsec.specs.ChainView.{as_link, links_of};
-ghost use Rattle.domain_checker.specs.Reading.{cover_verdict, is_cover, is_match, match_verdict, IsChecked};
+ghost use Rattle.domain_checker.specs.Reading.{cover_verdict, match_verdict, IsChecked};
 
 use crate::Verdict;
-use crate::listed::{NsecRr, is_at_cut, is_before, is_inside, is_strictly_below, longer_shared};
+use crate::listed::{NsecRr, is_at_cut, is_strictly_below};
 use crate::nsec_check::NsecCheck;
 use domain_base::{Rtype, ToName};
 use domain_chain_rdata::Nsec;
 use domain_octets::Octets;
 use domain_record::Record;
-use std::cmp::Ordering;
-
-/// Whether the record is not passed over and its owner is the name, by the canonical order of the
-/// two.
-#[tactic(auto, using(crate::proofs::HandedInLemmas::match_is_tie))]
-pub(crate) fn is_match<A: ToName, O: Octets, N: ToName>(
-    apex: &A,
-    order: Ordering,
-    listed: &NsecRr<O, N>,
-) -> bool
-    ensures { (name : Name) → order ≡ canonical_cmp (N.labels listed.now.owner) name
-        → result ≡ is_match (A.labels apex.now) name (as_link N.labels listed.now) }
-{
-    order.is_eq() && is_inside(apex, listed)
-}
-
-/// Whether the record is not passed over and covers the name: it lies between the owner and the
-/// next name, or on either side of them where the next name is not after the owner. `order` is the
-/// canonical order of the owner and the name.
-#[tactic(auto, using(crate::proofs::HandedInLemmas::match_is_tie))]
-pub(crate) fn is_cover<A: ToName, O: Octets, N: ToName, M: ToName>(
-    apex: &A,
-    order: Ordering,
-    listed: &NsecRr<O, N>,
-    name: &M,
-) -> bool
-    requires { order ≡ canonical_cmp (N.labels listed.now.owner) (M.labels name.now) }
-    ensures { result ≡ is_cover (A.labels apex.now) (M.labels name.now)
-        (as_link N.labels listed.now) }
-{
-    let next = listed.data().next_name();
-    if order.is_eq() {
-        return false;
-    }
-    if is_before(listed.owner(), next) {
-        return order.is_lt() && is_before(name, next) && is_inside(apex, listed);
-    }
-    (order.is_lt() || is_before(name, next)) && is_inside(apex, listed)
-}
 
 /// What a record says of its owner.
 pub(crate) fn match_verdict<A: ToName, O: Octets, N: ToName>(
@@ -68,23 +29,27 @@ pub(crate) fn match_verdict<A: ToName, O: Octets, N: ToName>(
     Verdict::NoType
 }
 
-/// What a record says of a name that it covers.
+/// What a record says of a name that it covers, and that shares so many labels with its owner or
+/// its next name.
 pub(crate) fn cover_verdict<A: ToName, O: Octets, N: ToName, M: ToName>(
     apex: &A,
     listed: &NsecRr<O, N>,
     name: &M,
+    count: usize,
 ) -> Verdict
+    requires { count
+        ≡ length (longer (shared (M.labels name.now) (as_link N.labels listed.now).owner)
+        (shared (M.labels name.now) (as_link N.labels listed.now).next)) }
     ensures { result ≡ cover_verdict (A.labels apex.now) (as_link N.labels listed.now)
         (M.labels name.now) }
 {
-    let next = listed.data().next_name();
     if name.ends_with(listed.owner()) && is_at_cut(apex, listed) {
         return Verdict::BelowDelegation;
     }
-    if is_strictly_below(next, name) {
+    if is_strictly_below(listed.data().next_name(), name) {
         return Verdict::EmptyName;
     }
-    Verdict::NoName(longer_shared(name, listed.owner(), next))
+    Verdict::NoName(count)
 }
 
 /// What records of an NSEC chain prove of a name and a type (RFC 4035, section 5.4). Takes no

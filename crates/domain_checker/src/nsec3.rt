@@ -1,13 +1,9 @@
 //! What records of an NSEC3 chain prove.
-ghost use Rattle.std.specs.Prelude.{◌≡◌, ◌≢◌, ◌⊎◌, ℕ, Ok, true, false, length, IfOk, IfErr, IsErrOf};
-ghost use Rattle.std.specs.Option.{option_map};
-ghost use Rattle.domain_names.specs.Name.{is_at_or_below};
+ghost use Rattle.std.specs.{Prelude.{◌≡◌, IsErrOf}, Option.option_map};
 ghost use Rattle.domain_nsec3.specs.View.{as_hashed_link};
 ghost use Rattle.domain_hasher.specs.declared.error.Nsec3HashError.TheVariants as hash_error;
 ghost use Rattle.domain_checker.specs.HashedEncloser.{encloser_of};
-ghost use Rattle.domain_checker.specs.HashedReading.{found_verdict, hash_cover_verdict, IsWalked, own_verdict};
-ghost use Rattle.domain_checker.specs.HashedVerdict.{HasHashedProof, IsFirstRefusal, IsHashedProved};
-ghost use Rattle.domain_checker.specs.Verdict.{IsWithin};
+ghost use Rattle.domain_checker.specs.HashedReading.{found_verdict, hash_cover_verdict, IsHashedChecked, own_verdict};
 ghost use Rattle.domain_checker.specs.HashedView.{hashed_records};
 
 use crate::hashed::Nsec3Rr;
@@ -111,36 +107,9 @@ pub fn check_nsec3<A: ToName, O: Octets, N: ToName, M: ToName, H: Nsec3Hasher>(
     rtype: Rtype,
     hasher: &H,
 ) -> Result<Verdict, Nsec3HashError>
-    ensures outside { is_at_or_below (M.labels name.now) (A.labels apex.now) ≡ false
-        → result ≡ Ok Verdict.OutsideZone }
-
-    // For records of the chain of any zone, the verdict of that zone where they prove it, and else
-    // `NotProven`.
-    ensures zone { IfOk result (IsHashedProved
+    ensures checked { IsHashedChecked
         (hashed_records (A.labels apex.now) N.labels (H.answer hasher.now) records.now)
-        (M.labels name.now) rtype) }
-
-    // For any list at all, the verdict is what the records say by themselves, there is none without
-    // a proof, and a closest encloser has no more labels than the name.
-    ensures exact { is_at_or_below (M.labels name.now) (A.labels apex.now) ≡ true
-        → IfOk result (IsWalked
-        (hashed_records (A.labels apex.now) N.labels (H.answer hasher.now) records.now)
-        (M.labels name.now) rtype) }
-    ensures proof { is_at_or_below (M.labels name.now) (A.labels apex.now) ≡ true
-        → IfOk result (λ verdict. verdict ≢ Verdict.NotProven
-        → HasHashedProof
-        (hashed_records (A.labels apex.now) N.labels (H.answer hasher.now) records.now)
-        (M.labels name.now)) }
-    ensures within { IfOk result (IsWithin (length (M.labels name.now))) }
-
-    // An error is the first refusal, or want of memory; and a verdict comes only where no name that
-    // is asked for is refused (`exact`).
-    ensures refusal { (n : ℕ) → IsErrOf result (hash_error.Hasher n)
-        → IsFirstRefusal
-        (hashed_records (A.labels apex.now) N.labels (H.answer hasher.now) records.now)
-        (M.labels name.now) n }
-    ensures errors { IfErr result (λ e. (e ≡ hash_error.OutOfMemory)
-        ⊎ ((n : ℕ) × (e ≡ hash_error.Hasher n))) }
+        (M.labels name.now) rtype result }
     ensures memory { IsErrOf result hash_error.OutOfMemory → H.takes_memory hasher.now }
 {
     if !name.ends_with(apex) {

@@ -4,7 +4,8 @@ ghost use Rattle.domain_names.specs.Words.{Name};
 ghost use Rattle.domain_nsec.specs.{Chain.Link, ChainView.as_link};
 ghost use Rattle.domain_checker.specs.{HandedIn.HasRead, Reading.IsChecked};
 
-use crate::nsec::{cover_verdict, is_cover, is_match, match_verdict};
+use crate::listed::{is_match, shared_if_covered};
+use crate::nsec::{cover_verdict, match_verdict};
 use crate::{Verdict, laws};
 use domain_base::{ParsedName, Rtype, ToName};
 use domain_chain_rdata::Nsec;
@@ -45,13 +46,15 @@ impl<'a> NsecCheck<'a> {
         if self.matched.is_some() {
             return;
         }
-        let order = listed.owner().name_cmp(&self.name);
-        if is_match(&self.apex, order, listed) {
+        if is_match(&self.apex, listed, &self.name) {
             self.matched = Some(match_verdict(&self.apex, listed, self.rtype));
             return;
         }
-        if self.covered.is_none() && is_cover(&self.apex, order, listed, &self.name) {
-            self.covered = Some(cover_verdict(&self.apex, listed, &self.name));
+        if self.covered.is_some() {
+            return;
+        }
+        if let Some(count) = shared_if_covered(&self.apex, listed, &self.name) {
+            self.covered = Some(cover_verdict(&self.apex, listed, &self.name, count));
         }
     }
 

@@ -7,7 +7,7 @@ ghost use Rattle.domain_hasher.specs.declared.error.Nsec3HashError.TheVariants a
 ghost use Rattle.domain_zone.specs.Zone.{ZoneRecord};
 ghost use Rattle.domain_checker.specs.HashedView.{links_with};
 ghost use Rattle.domain_answer.specs.HashedProved.{AreAskedAlone};
-ghost use Rattle.domain_answer.specs.HashedReading.{encloser_answer, next_answer, IsHashedRead};
+ghost use Rattle.domain_answer.specs.HashedReading.{encloser_answer, flag_of, IsHashedRead};
 ghost use Rattle.domain_answer.specs.Proved.{needs_no_records};
 ghost use Rattle.domain_answer.specs.ZoneAnswer.{is_at_parent, wildcard_below};
 ghost use Rattle.domain_denier.specs.HashedPicked.{hashed_picked, without_records, AreHashedThere, ArePlaces, IsHashedDenial, IsHashedWhole, IsRefusedAbove};
@@ -15,8 +15,8 @@ ghost use Rattle.domain_denier.specs.HashedSteps.{encloser_at, link_at, next_rol
 
 use crate::encloser::{PlacedEncloser, find_encloser};
 use crate::hash_search::{HashPlace, look_up};
-use domain_answer::{Answer, types_answer, wildcard_of, wildcard_types_answer};
-use domain_base::{MAX_NAME, ParsedName, Rtype, ToName};
+use domain_answer::{Answer, encloser_answer, is_at_parent, wildcard_of, wildcard_types_answer};
+use domain_base::{MAX_NAME, Rtype, ToName};
 use domain_checker::laws::hashed_chains_are_known;
 use domain_hasher::{Nsec3HashError, Nsec3Hasher};
 use domain_nsec3::{BorrowedNsec3, Nsec3Chain};
@@ -76,13 +76,6 @@ fn without_records(answer: Answer) -> Nsec3Denial
     }
 }
 
-/// Whether the parent zone answers: the type is DS and the name is the apex.
-fn is_at_parent<M: ToName>(apex: &ParsedName<'_>, name: &M, rtype: Rtype) -> bool
-    ensures { result ≡ is_at_parent apex.now (M.labels name.now) rtype }
-{
-    rtype == Rtype::DS && name.name_eq(apex)
-}
-
 /// The record at a place of the chain.
 fn lend_at<'c, O: Octets>(chain: &'c Nsec3Chain<'_, O>, place: usize) -> BorrowedNsec3<'c>
     requires { place < length chain.now.links }
@@ -94,20 +87,12 @@ fn lend_at<'c, O: Octets>(chain: &'c Nsec3Chain<'_, O>, place: usize) -> Borrowe
     listed
 }
 
-/// What the record that covers the next closer name says, where the closest encloser has so many
-/// labels.
-fn next_answer<O: Octets>(chain: &Nsec3Chain<'_, O>, count: usize, cover: Option<usize>) -> Answer
-    requires { (place : ℕ) → cover ≡ Some place → place < length chain.now.links }
-    ensures { result ≡ next_answer count (link_at chain.now.links cover) }
+/// Whether the record at a place, where one is given, has the flag of opt-out.
+fn opt_out_at<O: Octets>(chain: &Nsec3Chain<'_, O>, place: Option<usize>) -> Option<bool>
+    requires { (at : ℕ) → place ≡ Some at → at < length chain.now.links }
+    ensures { result ≡ flag_of (link_at chain.now.links place) }
 {
-    let Some(place) = cover else {
-        return Answer::NotProven;
-    };
-    let listed = lend_at(chain, place);
-    if listed.data().opt_out() {
-        return Answer::MayBeUnsigned(count);
-    }
-    Answer::NoCloserName(count)
+    Some(lend_at(chain, place?).data().opt_out())
 }
 
 /// What the records of the closest encloser and of the next closer name say of a name with so many
@@ -134,16 +119,11 @@ fn first_answer<O: Octets>(
     let apex = chain.nsec3param().owner();
     // It is a zone cut where the record lists NS, and it is not the apex.
     let at_cut = (encloser.count != apex.count_labels()) & types.contains(Rtype::NS);
-    if encloser.count == count {
-        return (types_answer(types, at_cut, encloser.count, rtype), None);
+    let cover = opt_out_at(chain, encloser.cover);
+    let answer = encloser_answer(types, at_cut, encloser.count, cover, count, rtype);
+    if (encloser.count == count) | at_cut | types.contains(Rtype::DNAME) {
+        return (answer, None);
     }
-    if at_cut {
-        return (Answer::Referral(encloser.count), None);
-    }
-    if types.contains(Rtype::DNAME) {
-        return (Answer::Redirected(encloser.count), None);
-    }
-    let answer = next_answer(chain, encloser.count, encloser.cover);
     (answer, encloser.cover)
 }
 

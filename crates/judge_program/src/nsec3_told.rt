@@ -1,10 +1,10 @@
 //! What NSEC3 records answer to a question, and what they tell of the names that this rests on.
-ghost use Rattle.std.specs.{Prelude.{◌≡◌, None, Some, IfErr, IfOk}, Option.option_map};
+ghost use Rattle.std.specs.{Prelude.{◌≡◌, None, Some, Ok, IfErr, IfOk}, Option.option_map};
 ghost use Rattle.domain_nsec3.specs.View.{as_hashed_link, as_param_record};
 ghost use Rattle.domain_checker.specs.{HashedEncloser.encloser_of, HashedVerdict.IsFirstRefusal};
 ghost use Rattle.denial_program.specs.declared.fault.DenialFault.TheVariants.{OutOfMemory as Memory};
 ghost use Rattle.judge_program.specs.Inquiry.{records_of};
-ghost use Rattle.judge_program.specs.Judged.{IsAnswerAsked, IsRefusalAsked, IsRefusedWith};
+ghost use Rattle.judge_program.specs.Judged.{IsAsked, IsRefusalAsked, IsRefusedWith};
 ghost use Rattle.judge_program.specs.Needs.{rests_on_records, wildcard_count};
 ghost use Rattle.judge_program.specs.Told.{closer_told, encloser_role, encloser_told, expansion_tellings, finding, nsec3_told, telling_of, tellings_of, told_where, wildcard_asked, AnyLink.hashed, AreNsec3Told, AreWhole, IsRefusalBelow};
 
@@ -108,8 +108,8 @@ impl<'r, 'a, H: Nsec3Hasher> Inquiry<'r, 'a, H> {
     /// `Signing` where the hasher refuses a name that is asked for, with labels the next closer
     /// name, which has one label more; and `OutOfMemory`.
     pub fn answer(&self, asked: Nsec3Options) -> Result<Answer, DenialFault>
-        ensures ok { IfOk result (IsAnswerAsked asked.labels (records_of H.answer self.now)
-            self.now.question.now asked.limit) }
+        ensures ok { IfOk result (λ answer. IsAsked asked.labels (records_of H.answer self.now)
+            self.now.question.now asked.limit (Ok answer)) }
         ensures err { IfErr result (IsRefusedWith (IsRefusalAsked asked.labels
             (records_of H.answer self.now) self.now.question.now asked.limit)) }
     {

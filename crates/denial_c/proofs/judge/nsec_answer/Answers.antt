@@ -14,9 +14,8 @@ returns c = record {
   a = c.in_ok-apex.apex;
   x = c.in_ok-name.name;
   links = links_of (λ n. n) c.deref.result.now;
-  asked = grind (arith, common_steps);
-  zone = rw c.from_int-2.ensures at c.judge_nsec.ensures.zone;
-  proof = c.judge_nsec.ensures.proof;
-  exact = rw c.from_int-2.ensures at c.judge_nsec.ensures.exact;
-  within = c.judge_nsec.ensures.within;
+  apex_is = c.in_ok-apex.ensures.ok;
+  name_is = c.in_ok-name.ensures.ok;
+  are = grind (arith, common_steps);
+  holds = rw c.from_int-2.ensures at c.judge_nsec.ensures;
 }

@@ -1,21 +1,19 @@
 use Rattle.std.proofs.{Common.{arith, [], Err, sym, subst}, lemmas.{Grind.common_steps, Result.err_from_is_err_and}}
-use Rattle.denial_c.specs.{Among.AreNsecs, Result.{HasNsecVerdict, IsNsecResult}}
+use Rattle.denial_c.specs.{Among.AreNsecs, Result.IsNsecResult}
 use Rattle.denial_c.proofs.nsec.nsec_verdict.Goals as goal
 
 pub returns : goal.returns
 returns c =
     let handed = c.in_ok-hand_in.ensures.ok in
-    let checked = c.verdict.ensures _ _ _ _ (handed.2 _ _ _ [] c.new-check.ensures) in
-    subst (λ t. HasNsecVerdict c.args.apex.now c.args.name.now t c.args.class c.args.records.now c.verdict.result) c.from_int.ensures (record {
+    record {
       a = c.in_ok-apex.apex;
       x = c.in_ok-name.name;
       links = handed.0;
-      asked = grind (arith, common_steps);
-      zone = checked.zone;
-      proof = checked.proof;
-      exact = checked.exact;
-      within = checked.within;
-    })
+      apex_is = c.in_ok-apex.ensures.ok;
+      name_is = c.in_ok-name.ensures.ok;
+      are = grind (arith, common_steps);
+      holds = rw c.from_int.ensures at (c.verdict.ensures _ _ _ _ (handed.2 _ _ _ [] c.new-check.ensures));
+    }
 
 pub returns-in_err-hand_in : goal.returns-in_err-hand_in
 returns-in_err-hand_in c =

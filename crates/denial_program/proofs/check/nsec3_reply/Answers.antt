@@ -11,14 +11,12 @@ returns-clause-ok g c = record {
   are = c.in_ok-chain.ensures.nsec3s;
   verdict = c.in_ok-verdict.verdict;
   is = refl;
-  outside = λ off. let e = c.in_ok-verdict.ensures.outside off in cc;
-  zone = c.in_ok-verdict.ensures.zone;
-  exact = c.in_ok-verdict.ensures.exact;
-  proof = c.in_ok-verdict.ensures.proof;
+  checked = c.in_ok-verdict.ensures.checked;
 }
 
 pub returns-in_err-verdict-clause-err : goal.returns-in_err-verdict-clause-err
 returns-in_err-verdict-clause-err g c =
+    let are = c.in_err-verdict.ensures.checked in
     let r = err_from_is_err_and c.from_residual-in_err-verdict.result c.from_residual-in_err-verdict.ensures.1 in
     rw (r.1, r.2) (hash_refused _ _ c.args.question _ _ c.in_ok-chain.ensures.param c.in_ok-chain.ensures.nsec3s c.in_err-verdict.field-0.0
-    c.in_err-verdict.ensures.errors (λ n is. c.in_err-verdict.ensures.refusal n (ap (λ e. Err e) is)))
+    are.errors (λ n is. are.refusal n (ap (λ e. Err e) is)))

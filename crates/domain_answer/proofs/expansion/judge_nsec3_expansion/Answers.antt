@@ -1,4 +1,13 @@
+use Rattle.std.proofs.{Common.{arith, sym, ◌∙◌}, lemmas.Grind.common_steps}
+use Rattle.domain_answer.proofs.JudgedLemmas.{expansion_judged}
 use Rattle.domain_answer.proofs.expansion.judge_nsec3_expansion.Goals as goal
 
-pub returns-clause-zone : goal.returns-clause-zone
-returns-clause-zone g c = λ longer within. c.expansions_are_proved.ensures.zone _ _ _ _ longer c.in_ok-read_expansion.ensures.ok
+pub returns-in-Match-clause-judged : goal.returns-in-Match-clause-judged
+returns-in-Match-clause-judged g c =
+    expansion_judged c.hashed_chains_are_known.ensures _ _ c.args.limit _ (grind (arith, common_steps)) c.args.labels
+    (sym c.is_expanded.ensures ∙ c.if-not-is_expanded.false) (grind (arith, common_steps))
+
+pub returns-in-NoMatch-clause-judged : goal.returns-in-NoMatch-clause-judged
+returns-in-NoMatch-clause-judged g c =
+    expansion_judged c.hashed_chains_are_known.ensures _ _ c.args.limit _ (grind (arith, common_steps)) c.args.labels
+    (sym c.is_expanded.ensures ∙ c.if-not-is_expanded.false) (grind (arith, common_steps))

@@ -11,9 +11,16 @@ loop-listed-preserved-then-is_some g c = record {
   sharing = c.loop-listed.invariant.sharing;
 }
 
+pub loop-listed-preserved-in_default : goal.loop-listed-preserved-in_default
+loop-listed-preserved-in_default g c = record {
+  matching = grind (arith, common_steps);
+  covering = grind (arith, common_steps);
+  sharing = c.loop-listed.invariant.sharing;
+}
+
 pub loop-listed-preserved : goal.loop-listed-preserved
 loop-listed-preserved g c = record {
   matching = grind (arith, common_steps);
-  covering = rw c.cover_of-cover.ensures.cover (grind (arith, common_steps));
-  sharing = c.cover_of-cover.ensures.shared;
+  covering = grind (arith, common_steps);
+  sharing = c.in-Some.ensures.shared;
 }

@@ -1,13 +1,20 @@
-use Rattle.std.proofs.{Common.{◌<◌, subst, arith}, lemmas.Grind.common_steps}
+use Rattle.std.proofs.Common.{◌<◌, sym, ap, ◌∙◌, subst}
+use Rattle.domain_nsec.specs.ChainView.{links_of}
+use Rattle.domain_answer.{specs.Reading.wildcard_answer, proofs.{JudgedLemmas.judged, ProofLemmas.given_is}}
 use Rattle.domain_answer.proofs.nsec.judge_nsec.Goals as goal
 
-pub returns-clause-zone : goal.returns-clause-zone
-returns-clause-zone g c =
-    let short : c.args.rtype < 65536 = subst (λ n. n < 65536) c.to_int-number.ensures c.to_int-number.type_inv in
-    rw c.read.ensures (c.readings_are_proved.ensures.zone _ _ _ c.args.rtype short)
+pub returns-in-Given : goal.returns-in-Given
+returns-in-Given g c =
+    judged c.chains_are_known.ensures _ _ _ c.args.rtype (subst (λ n. n < 65536) c.to_int-number.ensures c.to_int-number.type_inv) _
+    (given_is _ _ (sym c.in-Given.is ∙ c.judge_name.ensures.exact))
 
-pub returns-clause-proof : goal.returns-clause-proof
-returns-clause-proof g c = grind (arith, common_steps)
+pub wildcard_below-wildcard-requires-clause-above : goal.wildcard_below-wildcard-requires-clause-above
+wildcard_below-wildcard-requires-clause-above g c = (c.judge_name.ensures.absent c.in-Absent.count c.in-Absent.is).1
 
-pub returns-clause-within : goal.returns-clause-within
-returns-clause-within g c = grind (arith, common_steps)
+pub returns-in-Absent : goal.returns-in-Absent
+returns-in-Absent g c =
+    judged c.chains_are_known.ensures _ _ _ c.args.rtype (subst (λ n. n < 65536) c.to_int-number.ensures c.to_int-number.type_inv) _
+    ((c.judge_name.ensures.absent c.in-Absent.count c.in-Absent.is).0
+    ∙ ap (λ w. wildcard_answer (g.A.ToName.labels c.args.apex.now) (links_of g.N.ToName.labels c.args.chain.now) c.in-Absent.count w c.args.rtype)
+    (sym c.wildcard_below-wildcard.ensures)
+    ∙ sym c.judge_wildcard.ensures)

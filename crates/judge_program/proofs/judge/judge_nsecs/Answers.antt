@@ -14,9 +14,7 @@ told g c = record {
   judged = record {
     links = links_of (λ n. n) c.in_ok-nsecs.nsecs.items;
     are = rw c.deref.ensures.value at c.in_ok-nsecs.ensures;
-    zone = rw c.deref-2.ensures.value at c.judge_nsec-answer.ensures.zone;
-    exact = rw c.deref-2.ensures.value at c.judge_nsec-answer.ensures.exact;
-    proof = rw c.deref-2.ensures.value at c.judge_nsec-answer.ensures.proof;
+    is = rw c.deref-2.ensures.value at c.judge_nsec-answer.ensures;
   };
   is = ap (λ t. first_line c.args.shown c.args.question.now.name c.judge_nsec-answer.result ++ below_text c.args.shown c.judge_nsec-answer.result t)
       (rw c.deref-3.ensures.value at c.nsec_parts-parts.ensures);

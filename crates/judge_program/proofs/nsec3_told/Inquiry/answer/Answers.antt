@@ -3,31 +3,13 @@ use Rattle.judge_program.proofs.ToldLemmas.{refused_with}
 use Rattle.judge_program.proofs.nsec3_told.Inquiry.answer.Goals as goal
 
 pub returns-in_default-clause-ok : goal.returns-in_default-clause-ok
-returns-in_default-clause-ok g c =
-    let are = c.in_ok-judge_nsec3.ensures in
-    rw c.in_default.is (record {
-      outside = λ off. let e = are.outside off in cc;
-      parent = λ low is. let e = are.parent low is in cc;
-      iterations = λ asks many. let e = are.iterations asks many in cc;
-      zone = are.zone;
-      exact = are.exact;
-      proof = are.proof;
-    })
+returns-in_default-clause-ok g c = rw c.in_default.is c.in_ok-judge_nsec3.ensures.judged
 
 pub returns-in_err-judge_nsec3-clause-err : goal.returns-in_err-judge_nsec3-clause-err
 returns-in_err-judge_nsec3-clause-err g c =
-    let are = c.in_err-judge_nsec3.ensures in
+    let are = c.in_err-judge_nsec3.ensures.judged in
     let r = err_from_is_err_and c.from_residual.result c.from_residual.ensures.1 in
     rw (r.1, r.2) (rw c.in_default.is (refused_with _ are.errors (λ n is. are.refusal n (ap (λ e. Err e) is))))
 
 pub returns-clause-ok : goal.returns-clause-ok
-returns-clause-ok g c =
-    let are = c.in_ok-judge_nsec3_expansion.ensures in
-    rw c.in-Some.is (record {
-      outside = λ off. let e = are.outside off in cc;
-      none = λ low short. let e = are.none low short in cc;
-      iterations = λ longer many. let e = are.iterations longer many in cc;
-      zone = are.zone;
-      exact = are.exact;
-      proof = are.proof;
-    })
+returns-clause-ok g c = rw c.in-Some.is c.in_ok-judge_nsec3_expansion.ensures.judged

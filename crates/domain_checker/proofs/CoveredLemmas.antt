@@ -1,16 +1,13 @@
--- Tests of one NSEC record, and what was found of a name.
-use Rattle.std.proofs.Common.{◌≡◌, ℕ, ◌≤◌, Bool, true, false, cond, not, ◌&&◌, ◌||◌, List, length, Option, Some, None, sym, arith, leb, max}
-use Rattle.std.{proofs.lemmas.{Bool.{le-leb, leb-true}, Grind.common_steps}}
-use Rattle.std.specs.{Ordering.{is_eq, is_gt, is_lt}}
-use Rattle.domain_names.specs.{Name.{is_at_or_below, same_name}, Order.{before, canonical_cmp, canonical_cmp_total, common_labels}, Words.Name}
-use Rattle.domain_zone.{specs.{Covering.{covers, matches}, Enclosers.{longer, shared}}, proofs.{FindLemmas.find_some, NameLemmas.{below_longer, below_trans}}}
-use Rattle.domain_zone.proofs.{NameLemmas.same_is, SharedLemmas.{either_way, shared_is, shared_length}}
-use Rattle.domain_checker.{specs.{Reading.is_cover}, proofs.HandedInLemmas.match_is_tie}
-use Rattle.domain_nsec.specs.Chain.{Link}
-use Rattle.domain_answer.specs.{Found.IsFound, Reading.{listed_both, reading}, ZoneAnswer.is_at_parent}
+-- Whether a record covers a name, by how the name compares with its owner and its next name and what it shares with them.
+use Rattle.std.proofs.Common.{◌≡◌, ℕ, ◌≤◌, Bool, true, cond, not, ◌&&◌, ◌||◌, length, sym, ◌∙◌, arith, leb, max}
+use Rattle.std.{proofs.lemmas.{Bool.{le-leb, leb-true}, Grind.common_steps}, specs.Ordering.{is_eq, is_gt, is_lt}}
+use Rattle.domain_names.specs.{Laws.same_name_ties, Name.is_at_or_below, Order.{before, canonical_cmp, canonical_cmp_total, common_labels}, Words.Name}
+use Rattle.domain_zone.{specs.{Covering.{covers, matches}, Enclosers.{longer, shared}}, proofs.NameLemmas.{below_longer, below_trans, same_is}}
+use Rattle.domain_zone.proofs.SharedLemmas.{either_way, shared_is, shared_length}
 
-pub match_is_same : (x y : Name) → matches before x y ≡ same_name x y
-match_is_same x y = sym (same_is x y)
+-- an owner matches the names that the order can't tell from it
+match_is_tie : (x y : Name) → matches before x y ≡ is_eq (canonical_cmp x y)
+match_is_tie x y = sym (same_is x y) ∙ same_name_ties x y
 
 -- ---- whether a name is covered, by its orders to the owner and to the next name
 
@@ -20,19 +17,6 @@ module _ (o n x : Name) where
 
   pub covers_is : covers before o n x ≡ covered_by (is_eq (canonical_cmp x o)) (is_gt (canonical_cmp x o)) (is_lt (canonical_cmp x n)) (before o n)
   covers_is = grind (arith, common_steps, (match_is_tie o x), (canonical_cmp_total.antisymm o x))
-
--- ---- one pass
-
--- so of a name at or below the apex the list says what is said of what was found
-pub found_reads : (a : Name) (listed : List Link) (x : Name) (t : ℕ) → is_at_or_below x a ≡ true → is_at_parent a x t ≡ false
-    → (matched covered : Option Link) → IsFound a listed x matched covered → reading a listed x t ≡ listed_both a listed x t matched covered
-found_reads a listed x t low apart None covered found = grind (arith, common_steps)
-found_reads a listed x t low apart (Some k) covered found = grind (arith, common_steps)
-
--- a cover that was found covers the name
-pub found_covers : (a : Name) (listed : List Link) (x : Name) (k : Link) → IsFound a listed x None (Some k)
-    → covers before k.owner k.next x ≡ true
-found_covers a listed x k found = grind (arith, common_steps, (find_some (is_cover a x) listed k))
 
 -- ---- what is at or below the apex, by the labels that a name at or below it shares
 

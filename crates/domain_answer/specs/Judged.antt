@@ -1,0 +1,67 @@
+-- What is promised of answers.
+use Rattle.std.specs.Prelude.{◌≡◌, ◌⊎◌, ◌<◌, ◌≤◌, ℕ, true, false, List, length, Result, Ok, Err, IfOk, IfErr, IsErrOf}
+use Rattle.domain_names.specs.{Name.is_at_or_below, Words.Name}
+use Rattle.domain_hasher.specs.declared.error.Nsec3HashError.{Nsec3HashError, TheVariants.{Hasher, OutOfMemory}}
+use Rattle.domain_nsec.specs.Chain.{Link}
+use Rattle.domain_nsec3.specs.Config.{hash_name}
+use Rattle.domain_checker.specs.HashedView.{HashedRecords}
+use Rattle.domain_answer.specs.Expansion.{closer_name, is_expanded, ExpansionRestsOn, IsExpansionAnswered, IsExpansionRead}
+use Rattle.domain_answer.specs.{HashedProved.{HashedRestsOn, IsHashedAnswered}, HashedReading.{IsFirstOfRefusals, IsHashedRead}}
+use Rattle.domain_answer.specs.{Proved.{needs_no_records, CountsWithin, IsAnswered, RestsOn}, Reading.reading, ZoneAnswer.is_at_parent}
+use Rattle.domain_answer.specs.declared.answer.Answer.{Answer, TheVariants.{OutsideZone, AtParent, TooManyIterations, NotProven}}
+
+-- of what a list of NSEC records answers to a question about x and t
+pub record IsJudged (listed : List Link) (a x : Name) (t : ℕ) (answer : Answer) : Type 0 where
+  -- for records of the chain of any zone, the answer of that zone, as far as they prove it
+  pub zone : IsAnswered listed a x t answer
+  -- for any list at all, the records that the answer rests on are there
+  pub proof : RestsOn listed a x answer
+  -- the answer is what its first match says, or else its first cover, of the name and, where that
+  -- does not exist, of the wildcard
+  pub exact : answer ≡ reading a listed x t
+  -- and the labels that it counts are labels of the name, and a closest encloser has fewer
+  pub within : CountsWithin (length x) answer
+
+-- of what NSEC3 records answer to it with at most so many iterations, or of the error in its place
+pub record IsHashedJudged (R : HashedRecords) (x : Name) (t limit : ℕ)
+    (result : Result Answer Nsec3HashError) : Type 0 where
+  pub outside : is_at_or_below x R.apex ≡ false → result ≡ Ok OutsideZone
+  pub parent : is_at_or_below x R.apex ≡ true → is_at_parent R.apex x t ≡ true
+      → result ≡ Ok AtParent
+  pub iterations : needs_no_records R.apex x t ≡ false → limit < R.parameters.iterations
+      → result ≡ Ok TooManyIterations
+  -- for records of the chain of any zone, within the limit, the answer of that zone, as far as they
+  -- prove it
+  pub zone : R.parameters.iterations ≤ limit → IfOk result (IsHashedAnswered R x t)
+  -- for any list at all, the answer is what the records say by themselves, those that it rests on
+  -- are there, and the labels that it counts are labels of the name
+  pub exact : needs_no_records R.apex x t ≡ false → R.parameters.iterations ≤ limit
+      → IfOk result (IsHashedRead R x t)
+  pub proof : IfOk result (HashedRestsOn R x)
+  pub within : IfOk result (CountsWithin (length x))
+  -- an error is the first refusal, or want of memory; and an answer comes only where no name that
+  -- is asked for is refused (`exact`)
+  pub refusal : (n : ℕ) → IsErrOf result (Hasher n) → IsFirstOfRefusals R x t n
+  pub errors : IfErr result (λ e. (e ≡ OutOfMemory) ⊎ ((n : ℕ) × (e ≡ Hasher n)))
+
+-- of what they answer of a name whose records were expanded from a wildcard, with signatures that
+-- tell n labels
+pub record IsExpansionJudged (R : HashedRecords) (x : Name) (n limit : ℕ)
+    (result : Result Answer Nsec3HashError) : Type 0 where
+  pub outside : is_at_or_below x R.apex ≡ false → result ≡ Ok OutsideZone
+  pub none : is_at_or_below x R.apex ≡ true → is_expanded R.apex x n ≡ false
+      → result ≡ Ok NotProven
+  pub iterations : is_expanded R.apex x n ≡ true → limit < R.parameters.iterations
+      → result ≡ Ok TooManyIterations
+  -- for records of the chain of any zone, within the limit, what they prove of the next closer name
+  pub zone : is_expanded R.apex x n ≡ true → R.parameters.iterations ≤ limit
+      → IfOk result (IsExpansionAnswered R x n)
+  -- for any list at all, the answer is what the records say by themselves, and those that it rests
+  -- on are there
+  pub exact : is_expanded R.apex x n ≡ true → R.parameters.iterations ≤ limit
+      → IfOk result (IsExpansionRead R x n)
+  pub proof : IfOk result (ExpansionRestsOn R x n)
+  pub within : IfOk result (CountsWithin (length x))
+  -- an error is the refusal of the one name that is hashed, or want of memory
+  pub refusal : (m : ℕ) → IsErrOf result (Hasher m) → hash_name R.hash (closer_name n x) ≡ Err m
+  pub errors : IfErr result (λ e. (e ≡ OutOfMemory) ⊎ ((m : ℕ) × (e ≡ Hasher m)))
