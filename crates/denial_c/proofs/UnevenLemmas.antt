@@ -1,144 +1,63 @@
 -- Records of one owner and type that differ in TTL.
-use Rattle.std.proofs.{lemmas.Grind.common_steps, Common.{◌≡◌, ℕ, ◌-◌, ◌<◌, ◌≤◌, Bool, true, false, cond, not, ◌&&◌, ◌||◌, List, [], ◌∷◌, ◌++◌, map, length}}
-use Rattle.std.proofs.Common.{refl, sym, ap, ◌∙◌, subst, inl, inr, arith, nat_eq, append_assoc, append-nil, length-append, is_some, Some, None, Option}
-use Rattle.std.proofs.lemmas.Bool.{and_from, and_parts, cases_Bool, eq-eqb, eqb-false, eqb-true, false≢true, not-false, not-true, or_left, or_parts, or_right}
-use Rattle.std.{proofs.lemmas.List.Folds.list_any-append, specs.{Prelude.{filter, Contains}, List.{AllByRecursion, flat_map, list_any}}}
-use Rattle.domain_alike.{specs.Covered.covered_names, proofs.KeptLemmas.{is_unsigned, kept_all, kept_more, kept_past, kept_start, stays, stays_by, AreKept}}
+use Rattle.std.proofs.{lemmas.Grind.common_steps, Common.{◌≡◌, ℕ, ◌-◌, true, false, ◌||◌, List, [], ◌∷◌, ◌++◌, map, length}}
+use Rattle.std.proofs.Common.{refl, sym, ap, ◌∙◌, subst, arith, nat_eq, append_assoc, append-nil, length-append, is_some, Some, None, Option}
+use Rattle.std.proofs.lemmas.Bool.{and_from, eqb-false, eqb-true, false≢true, not-false, not-true, or_left, or_right}
+use Rattle.std.{proofs.lemmas.List.Folds.list_any-append, specs.{Prelude.Contains, List.{AllByRecursion, flat_map, list_any}}}
 use Rattle.domain_names.specs.{Name.same_name, Words.Name}
-use Rattle.domain_dnssec.{specs.RawRecords.Sorts, proofs.AmongLemmas.{any_two, contains_in, in_contains}}
+use Rattle.domain_dnssec.{specs.RawRecords.Sorts, proofs.AmongLemmas.{contains_in, in_contains}}
 use Rattle.domain_borrowed.specs.{Data.{minimum_of, RawRecord, zone_of_raw}, Wire.{record_octets, IsRecord}}
-use Rattle.domain_zone.specs.{Owners.{OwnerRecords, owner_at, owners_with_records}, View.as_zone_record}
-use Rattle.domain_zone.specs.Zone.{ZoneRecord, clashes, has_clash, has_unequal_ttls, records_of, unoccluded_owners}
-use Rattle.domain_zone.proofs.{GivenLemmas.{name_of}, OwnerLemmas.in_any, PairLemmas.{In, all_in, all_from_in}}
-use Rattle.domain_zone.proofs.{TtlLemmas.{has_neighbour_clash, neighbours_tell, NeverDescend}, ZoneLemmas.{all_both, all_front, any_none, filter_whole, weaker}}
-use Rattle.domain_zone.proofs.FindLemmas.{in_filter, in_filtered, in_front, in_map, in_middle, from_map, in_either}
-use Rattle.denial_c.specs.{Given.AreGiven, Uneven.{is_in_set, is_other, set_of, IsFirstClash, IsFirstUneven, IsUnevenAt}}
+use Rattle.domain_zone.specs.{Owners.{OwnerRecords, owner_at}, View.as_zone_record}
+use Rattle.domain_zone.specs.Zone.{ZoneRecord, clashes, has_clash, has_unequal_ttls, records_of, IsFirstClash}
+use Rattle.domain_zone.proofs.{GivenLemmas.{all_known, name_of}, ListedLemmas.names_back, OwnerLemmas.any_two, PairLemmas.{In, all_in, all_from_in}}
+use Rattle.domain_zone.proofs.ZoneLemmas.{all_both, any_none, weaker}
+use Rattle.domain_zone.proofs.FindLemmas.{in_filter, in_filtered, in_map, from_map}
+use Rattle.denial_c.specs.{Given.AreGiven, Uneven.{is_in_set, is_other, set_of, IsFirstUneven, IsUnevenAt}}
 use Rattle.denial_c.proofs.AmongLemmas.{all_read, before_of_class, past_more, rest_given, IsPast}
 
 abbrev pub see : RawRecord → ZoneRecord
 see = as_zone_record (λ n. n) (λ d. d.rtype) minimum_of
 
--- ---- neighbours
-
--- a record that clashes with another is of its type, and both are of the records of that type
-clash_of_type : (zs : List ZoneRecord) (z w : ZoneRecord) → In z zs → In w zs → clashes z w ≡ true
-    → has_clash (filter (λ y. nat_eq y.rtype w.rtype) zs) ≡ true
-clash_of_type zs z w i j e =
-    let apart = and_parts (nat_eq z.rtype w.rtype && not (nat_eq z.rtype 46)) (not (nat_eq z.ttl w.ttl)) e in
-    let same = (and_parts (nat_eq z.rtype w.rtype) (not (nat_eq z.rtype 46)) apart.0).0 in
-    let q : ZoneRecord → Bool = λ y. nat_eq y.rtype w.rtype in
-    in_any _ _ z (in_filtered q zs z i same) (in_any _ _ w (in_filtered q zs w j (eq-eqb _ _ refl)) e)
-
--- those of a list whose types never descend, and what follows them
-descend_parts : (xs ys : List ZoneRecord) → NeverDescend (xs ++ ys) → NeverDescend xs × NeverDescend ys
-descend_parts [] ys h = (tt, h)
-descend_parts (x ∷ xs) ys h = let k = descend_parts xs ys h.1 in (((all_front _ xs ys h.0).0, k.0), k.1)
-
--- those of a lesser type than a record's stand before it, and clash with none where no neighbours there do
-lesser_even : (front back : List ZoneRecord) (r : ZoneRecord) → NeverDescend (front ++ r ∷ back) → has_neighbour_clash front ≡ false
-    → (t : ℕ) → t < r.rtype → has_clash (filter (λ y. nat_eq y.rtype t) (front ++ r ∷ back)) ≡ false
-lesser_even front back r order quiet t less =
-    let q : ZoneRecord → Bool = λ y. nat_eq y.rtype t in
-    let parts = descend_parts front (r ∷ back) order in
-    let even : has_clash front ≡ false = sym (neighbours_tell front parts.0) ∙ quiet in
-    elim (cases_Bool _) [
-      | inl h ↦ absurd (false≢true (sym even ∙ any_two clashes _ front (λ z i.
-          let f = in_filter q (front ++ r ∷ back) z i in
-          elim (in_either front (r ∷ back) z f.0) [
-            | inl j ↦ j
-            | inr j ↦
-                let low : r.rtype ≤ z.rtype = all_in (λ y. r.rtype ≤ y.rtype) (r ∷ back) z (omega arith, parts.1.0) j in
-                let same : z.rtype ≡ t = eqb-true z.rtype t f.1 in
-                absurd (omega (arith, less, low, same))
-          ]) h))
-      | inr h ↦ h
-    ]
-
-neighbours_push : (xs : List ZoneRecord) (p r : ZoneRecord) → has_neighbour_clash (xs ++ p ∷ []) ≡ false
-    → clashes p r ≡ false → has_neighbour_clash ((xs ++ p ∷ []) ++ r ∷ []) ≡ false
-neighbours_push [] p r h e = λ i. e i || false
-neighbours_push (x ∷ []) p r h e = let k = or_parts (clashes x p) false h in λ i. k.0 i || (e i || false)
-neighbours_push (x ∷ y ∷ xs) p r h e =
-    let k = or_parts _ (has_neighbour_clash (y ∷ xs ++ p ∷ [])) h in
-    λ i. k.0 i || neighbours_push (y ∷ xs) p r k.1 e i
-
--- no neighbours clash among the records up to one
-pub record IsBetween (zs : List ZoneRecord) (previous : ZoneRecord) (left : List ZoneRecord) : Type 0 where
-  pub passed : List ZoneRecord
-  pub all : zs ≡ (passed ++ previous ∷ []) ++ left
-  pub quiet : has_neighbour_clash (passed ++ previous ∷ []) ≡ false
-
-pub between_next : (zs : List ZoneRecord) (previous r : ZoneRecord) (left : List ZoneRecord) → IsBetween zs previous (r ∷ left)
-    → clashes previous r ≡ false → IsBetween zs r left
-between_next zs previous r left s e = record {
-  passed = s.passed ++ previous ∷ [];
-  all = s.all ∙ sym (append_assoc (s.passed ++ previous ∷ []) (r ∷ []) left);
-  quiet = neighbours_push s.passed previous r s.quiet e;
-}
-
-pub between_clash : (zs : List ZoneRecord) (previous r : ZoneRecord) (left : List ZoneRecord) → IsBetween zs previous (r ∷ left)
-    → NeverDescend zs → clashes previous r ≡ true → IsFirstClash zs r.rtype
-between_clash zs previous r left s order e =
-    let front = s.passed ++ previous ∷ [] in
-    subst (λ ys. IsFirstClash ys r.rtype) (sym s.all) (record {
-      clash = clash_of_type _ previous r (in_front front (r ∷ left) previous (in_middle s.passed previous [])) (in_middle front r left) e;
-      lesser = lesser_even front left r (subst NeverDescend s.all order) s.quiet;
-    })
-
-pub between_end : (zs : List ZoneRecord) (previous : ZoneRecord) → IsBetween zs previous [] → NeverDescend zs → has_clash zs ≡ false
-between_end zs previous s order = sym (neighbours_tell zs order) ∙ ap has_neighbour_clash (s.all ∙ append-nil (s.passed ++ previous ∷ [])) ∙ s.quiet
-
 -- ---- owners
 
--- these names, and those of the owners that are left and stay, are all, and none of these has unequal TTLs
-pub record IsWalked (excludes d : Bool) (L : List ZoneRecord) (a : Name) (left : List OwnerRecords) : Type 0 where
+-- these owners and those that are left are all, and none of these has unequal TTLs
+pub record IsWalked (L : List ZoneRecord) (a : Name) (all : List Name) (left : List OwnerRecords) : Type 0 where
   pub names : List Name
-  pub kept : AreKept excludes d L a left names
+  pub known : AllByRecursion (λ o. o ≡ owner_at L a o.name) left
+  pub are : all ≡ names ++ map name_of left
   pub even : has_unequal_ttls L names ≡ false
 
-module _ {excludes d : Bool} {L : List ZoneRecord} {a : Name} where
-  pub walked_start : {left : List OwnerRecords} → left ≡ owners_with_records d L a → IsWalked excludes d L a left
-  walked_start all = record { names = []; kept = kept_start all refl; even = refl }
+module _ {L : List ZoneRecord} {a : Name} {all : List Name} where
+  pub walked_start : {left : List OwnerRecords} → left ≡ map (owner_at L a) all → IsWalked L a all left
+  walked_start whole = record {
+    names = [];
+    known = subst (AllByRecursion _) (sym whole) (all_known L a all);
+    are = sym (ap (map name_of) whole ∙ names_back L a all);
+    even = refl;
+  }
 
   -- where an owner is next
-  module _ {ahead left : List OwnerRecords} {o : OwnerRecords} (s : IsWalked excludes d L a ahead) (next : ahead ≡ o ∷ left) where
+  module _ {ahead left : List OwnerRecords} {o : OwnerRecords} (s : IsWalked L a all ahead) (next : ahead ≡ o ∷ left) where
     pub walked_known : o ≡ owner_at L a o.name
-    walked_known = (subst (AllByRecursion (λ o. o ≡ owner_at L a o.name)) next s.kept.known).0
+    walked_known = (subst (AllByRecursion (λ o. o ≡ owner_at L a o.name)) next s.known).0
 
     pub walked_clash : (t : ℕ) → IsFirstClash o.records t → IsFirstClash (records_of L o.name) t
     walked_clash t h = subst (λ p. IsFirstClash p.records t) walked_known h
 
-    -- and it was asked whether it is an unsigned delegation
-    module _ {cut : Bool} (is : cut ≡ is_unsigned o) where
-      pub walked_past : (excludes && cut) ≡ true → IsWalked excludes d L a left
-      walked_past out = record { names = s.names; kept = kept_past s.kept next is out; even = s.even }
+    pub walked_even : has_clash o.records ≡ false → IsWalked L a all left
+    walked_even even =
+        let none : has_clash (records_of L o.name) ≡ false = ap (λ p. has_clash p.records) (sym walked_known) ∙ even in
+        record {
+          names = s.names ++ o.name ∷ [];
+          known = (subst (AllByRecursion (λ o. o ≡ owner_at L a o.name)) next s.known).1;
+          are = s.are ∙ ap (λ os. s.names ++ map name_of os) next ∙ sym (append_assoc s.names (o.name ∷ []) (map name_of left));
+          even = list_any-append (λ n. has_clash (records_of L n)) s.names (o.name ∷ []) ∙ (λ i. s.even i || (none i || false));
+        }
 
-      pub walked_even : (excludes && cut) ≡ false → has_clash o.records ≡ false → IsWalked excludes d L a left
-      walked_even stay even =
-          let none : has_clash (records_of L o.name) ≡ false = ap (λ p. has_clash p.records) (sym walked_known) ∙ even in
-          record {
-            names = s.names ++ o.name ∷ [];
-            kept = kept_more s.kept next is stay refl;
-            even = list_any-append (λ n. has_clash (records_of L n)) s.names (o.name ∷ []) ∙ (λ i. s.even i || (none i || false));
-          }
+    pub walked_first : IsFirstUneven L all o.name
+    walked_first = record { passed = s.names; rest = map name_of left; among = s.are ∙ ap (λ os. s.names ++ map name_of os) next; even = s.even }
 
-      pub walked_first : (excludes && cut) ≡ false → IsFirstUneven L (covered_names excludes d L a) o.name
-      walked_first stay =
-          let after = filter (stays excludes) left in
-          record {
-            passed = s.names;
-            rest = map name_of after;
-            among = s.kept.all ∙ ap (λ os. s.names ++ map name_of (filter (stays excludes) os)) next
-                ∙ (λ i. s.names ++ map name_of (cond (stays_by excludes o is stay i) (o ∷ after) after));
-            even = s.even;
-          }
-
-  pub walked_all : {left : List OwnerRecords} → IsWalked excludes d L a left → left ≡ [] → has_unequal_ttls L (covered_names excludes d L a) ≡ false
-  walked_all s none = ap (has_unequal_ttls L) (sym (kept_all s.kept none)) ∙ s.even
-
--- none is left out of an NSEC chain
-pub none_left_out : (d : Bool) (L : List ZoneRecord) (a : Name) → covered_names false d L a ≡ unoccluded_owners d L a
-none_left_out d L a = filter_whole _ (unoccluded_owners d L a) (all_from_in _ _ (λ n i. refl))
+  pub walked_all : {left : List OwnerRecords} → IsWalked L a all left → left ≡ [] → has_unequal_ttls L all ≡ false
+  walked_all s none = ap (has_unequal_ttls L) (s.are ∙ ap (λ os. s.names ++ map name_of os) none ∙ append-nil s.names) ∙ s.even
 
 -- ---- the records that were given
 

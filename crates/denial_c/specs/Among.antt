@@ -15,7 +15,8 @@ is_of rtype class r = (r.«data».rtype == rtype) && (r.class == class)
 
 -- an NSEC3PARAM record of the apex and the class
 abbrev pub is_param : Name → ℕ → RawRecord → Bool
-is_param a class r = is_of rtypes.nsec3param class r && same_name r.owner a
+is_param a class r =
+    ((r.«data».rtype == rtypes.nsec3param) && same_name r.owner a) && (r.class == class)
 
 -- the octets are records, one after another; those that are kept are these, in their order
 pub record AreAmong {K : Type 0} (is_kept : RawRecord → Bool) (raw : K → RawRecord)

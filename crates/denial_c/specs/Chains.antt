@@ -1,7 +1,6 @@
 -- What is answered where a chain is made of octets: the chain of the records that the octets are,
 -- octet for octet, or exactly why there is none.
 use Rattle.std.specs.Prelude.{◌≡◌, ℕ, ◌<◌, ◌≤◌, Bool, true, false, List, [], ◌++◌, length, drop, Result, Ok, Err, if◌then◌else◌}
-use Rattle.domain_alike.specs.Covered.{covered_names}
 use Rattle.domain_octets.specs.Words.{Octets}
 use Rattle.domain_names.specs.Words.{Name}
 use Rattle.domain_nsec.specs.{Chain.{Link, IsChain, IsFirstFault}, declared.config.GenerateNsecConfig.GenerateNsecConfig}
@@ -11,12 +10,12 @@ use Rattle.domain_hasher.specs.declared.error.Nsec3HashError.{Nsec3HashError}
 use Rattle.domain_hasher.specs.declared.error.Nsec3HashError.TheVariants as hash_error
 use Rattle.domain_records.specs.{Order.{IsInOrder, IsOneClass}, declared.error.SigningError.SigningError}
 use Rattle.domain_records.specs.declared.error.SigningError.TheVariants as signing_error
-use Rattle.domain_zone.specs.Zone.{records_of, ZoneRecord}
+use Rattle.domain_zone.specs.{Owners.covered_names, Zone.{records_of, IsFirstClash, ZoneRecord}}
 use Rattle.domain_sha1.specs.Iterated.{sha1_answer}
 use Rattle.domain_dnssec.specs.{RawRecords.Sorts, Wire.{nsecs_octets, nsec3s_octets}}
 use Rattle.domain_borrowed.specs.Data.{RawRecord, zone_of_raw}
 use Rattle.denial_c.specs.{Given.{AreGiven, HasNoRecordAt, HasOtherClassAt}, Numbers.chain_told, Result.{IsSpelled, Spells}}
-use Rattle.denial_c.specs.{Uneven.{IsFirstClash, IsFirstUneven, IsUnevenAt}, declared.{fault.Fault.Fault, nsec3_chain.Hashing.Hashing}}
+use Rattle.denial_c.specs.{Uneven.{IsFirstUneven, IsUnevenAt}, declared.{fault.Fault.Fault, nsec3_chain.Hashing.Hashing}}
 use Rattle.denial_c.specs.declared.fault.Fault.TheVariants as fault
 
 -- these are the records of the class that the octets are, sorted

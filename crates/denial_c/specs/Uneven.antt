@@ -1,9 +1,9 @@
 -- Where records of one owner and type differ in TTL (RFC 2181, section 5.2).
-use Rattle.std.specs.Prelude.{◌≡◌, ◌≢◌, ℕ, ◌<◌, ◌==◌, ◌&&◌, not, Bool, true, false, List, ◌∷◌, ◌++◌, filter, Option, Some, None}
+use Rattle.std.specs.Prelude.{◌≡◌, ◌≢◌, ℕ, ◌==◌, ◌&&◌, not, Bool, true, false, List, ◌∷◌, ◌++◌, filter, Option, Some, None}
 use Rattle.std.specs.List.{list_any, AllByRecursion}
 use Rattle.domain_octets.specs.Words.{Octets}
 use Rattle.domain_names.specs.{Name.same_name, Words.Name}
-use Rattle.domain_zone.specs.Zone.{ZoneRecord, has_clash, has_unequal_ttls, records_of}
+use Rattle.domain_zone.specs.Zone.{ZoneRecord, has_unequal_ttls, records_of}
 use Rattle.domain_borrowed.specs.{Data.RawRecord, Wire.{record_octets, IsRecord}}
 use Rattle.denial_c.specs.Given.{IsReadUpTo}
 
@@ -20,11 +20,6 @@ pub record IsFirstUneven (L : List ZoneRecord) (names : List Name) (owner : Name
   pub rest : List Name
   pub among : names ≡ passed ++ owner ∷ rest
   pub even : has_unequal_ttls L passed ≡ false
-
--- records of this type clash, and none of a lesser one do
-pub record IsFirstClash (records : List ZoneRecord) (t : ℕ) : Type 0 where
-  pub clash : has_clash (filter (λ z. z.rtype == t) records) ≡ true
-  pub lesser : (s : ℕ) → s < t → has_clash (filter (λ z. z.rtype == s) records) ≡ false
 
 -- there is a first TTL, and this is another
 abbrev pub is_other : Option ℕ → ℕ → Bool

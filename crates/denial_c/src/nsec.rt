@@ -9,7 +9,7 @@ use crate::among::{is_of, next_record};
 use crate::fault::Fault;
 use domain_base::laws::octets_begin_with_one_name;
 use domain_base::{Class, ParsedName, Rtype, ToName};
-use domain_borrowed::into_nsec;
+use domain_borrowed::{ReadAs, ReadNsec};
 use domain_checker::{NsecCheck, Verdict};
 use domain_octets::Parser;
 
@@ -43,7 +43,7 @@ fn hand_in(check: &mut NsecCheck<'_>, class: Class, octets: &[u8]) -> Result<(),
             return Err(Fault::Records);
         };
         if is_of(&record, Rtype::NSEC, class) {
-            let Some(nsec) = into_nsec(record) else {
+            let Some(nsec) = ReadNsec::read(record) else {
                 return Err(Fault::Records);
             };
             check.add(&nsec);

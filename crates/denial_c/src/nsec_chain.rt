@@ -20,7 +20,7 @@ use std::alloc::Global;
 /// # Errors
 ///
 /// `Soa` or `Ttls`, the first fault of the zone; and `OutOfMemory`, only where it has none.
-#[tactic(auto, using(crate::proofs::UnevenLemmas::none_left_out))]
+#[tactic(auto, using(domain_zone::proofs::GivenLemmas::none_left_out))]
 fn sorted_nsecs(
     alloc: Global,
     apex: &ParsedName<'_>,

@@ -1,20 +1,18 @@
 //! Where records of one owner and type differ in TTL.
-ghost use Rattle.std.specs.Prelude.{◌≡◌, ◌≤◌, List, true, false, IfNone, IfSome};
-ghost use Rattle.domain_alike.specs.Covered.{covered_names};
-ghost use Rattle.domain_borrowed.specs.Data.{minimum_of, RawRecord, zone_of_raw};
-ghost use Rattle.domain_records.specs.Order.{HoldsPairwise, IsInOrder};
-ghost use Rattle.domain_zone.specs.View.{as_zone_record};
-ghost use Rattle.domain_zone.specs.Zone.{clashes, has_clash, has_unequal_ttls, records_of};
+ghost use Rattle.std.specs.Prelude.{◌≡◌, List, true, false, IfNone, IfSome};
+ghost use Rattle.domain_borrowed.specs.Data.{RawRecord, zone_of_raw};
+ghost use Rattle.domain_records.specs.Order.{IsInOrder};
+ghost use Rattle.domain_zone.specs.{Owners.covered_names, Zone.{has_clash, has_unequal_ttls, records_of, IsFirstClash}};
 ghost use Rattle.denial_c.specs.Chains.{AreSorted, IsSortedUnevenAt};
 ghost use Rattle.denial_c.specs.Given.{AreGiven};
-ghost use Rattle.denial_c.specs.Uneven.{is_in_set, is_other, set_of, IsFirstClash, IsFirstUneven, IsUnevenAt};
+ghost use Rattle.denial_c.specs.Uneven.{is_in_set, is_other, set_of, IsFirstUneven, IsUnevenAt};
 
 use crate::among::next_record;
 use domain_base::{Class, ParsedName, Rtype, ToName, Ttl};
 use domain_borrowed::BorrowedRecord;
 use domain_octets::Parser;
-use domain_records::{RecordsIter, SliceRefsOrOwnedIterator};
-use domain_zone::UnoccludedOwners;
+use domain_records::RecordsIter;
+use domain_zone::{UnoccludedOwners, uneven_type};
 
 /// The records of one owner and one type.
 #[derive(Drop)]
@@ -25,40 +23,11 @@ pub(crate) struct RrsetKey<'a> {
     pub rtype: Rtype,
 }
 
-/// Whether two records of one type other than RRSIG differ in their TTLs.
-fn clash(first: &BorrowedRecord<'_>, second: &BorrowedRecord<'_>) -> bool
-    ensures { result ≡ clashes (as_zone_record (λ n. n) (λ d. d.rtype) minimum_of first.now)
-        (as_zone_record (λ n. n) (λ d. d.rtype) minimum_of second.now) }
-{
-    let rtype = first.rtype();
-    rtype == second.rtype() && rtype != Rtype::RRSIG && first.ttl() != second.ttl()
-}
-
-/// The first type of which two of these records differ in their TTLs, where their types never
-/// descend; None where there is none.
-fn clashing_type<'a>(mut records: SliceRefsOrOwnedIterator<'a, BorrowedRecord<'a>>) -> Option<Rtype>
-    requires { HoldsPairwise (λ r s. r.«data».rtype ≤ s.«data».rtype) records }
-    ensures some { IfSome result (IsFirstClash (zone_of_raw records.entry)) }
-    ensures none { IfNone result (has_clash (zone_of_raw records.entry) ≡ false) }
-{
-    let Some(first) = records.next() else {
-        return None;
-    };
-    let mut previous = first;
-    'neighbours: while let Some(record) = records.next() {
-        if clash(previous, record) {
-            return Some(record.rtype());
-        }
-        previous = record;
-    }
-    None
-}
-
 /// The first owner of a chain, in canonical order, with records of one type other than RRSIG that
 /// differ in TTL, and the first such type; None where there is none. Unsigned delegations are
 /// passed over where `excludes` says so, and names below the owner of a DNAME record where
 /// `below_dname` does.
-#[tactic(auto, using(std::proofs::lemmas::Grind::common_steps, crate::proofs::UnevenLemmas::walked_all, crate::proofs::UnevenLemmas::walked_clash, crate::proofs::UnevenLemmas::walked_first, crate::proofs::UnevenLemmas::walked_past, crate::proofs::UnevenLemmas::walked_start))]
+#[tactic(auto, using(std::proofs::lemmas::Grind::common_steps, crate::proofs::UnevenLemmas::walked_all, crate::proofs::UnevenLemmas::walked_clash, crate::proofs::UnevenLemmas::walked_first, crate::proofs::UnevenLemmas::walked_start))]
 fn uneven_set<'a>(
     apex: &'a ParsedName<'a>,
     sorted: &'a [BorrowedRecord<'a>],
@@ -74,12 +43,9 @@ fn uneven_set<'a>(
         (covered_names excludes below_dname (zone_of_raw sorted.now) apex.now) ≡ false) }
 {
     let records = RecordsIter::new_from_owned(sorted);
-    let mut left = UnoccludedOwners::new(apex, records, below_dname);
+    let mut left = UnoccludedOwners::new(apex, records, excludes, below_dname);
     'owners: while let Some(owner) = left.next() {
-        if excludes & owner.is_unsigned_cut() {
-            continue;
-        }
-        if let Some(rtype) = clashing_type(owner.records.records()) {
+        if let Some(rtype) = uneven_type(owner.records.records()) {
             let name = owner.name.as_parsed();
             return Some(RrsetKey { owner: name, rtype });
         }

@@ -1,15 +1,16 @@
 -- Records that are gone over one by one, of which some are kept.
 use Rattle.std.proofs.{lemmas.Grind.common_steps, Common.{◌≡◌, ◌∙◌, ℕ, ◌+◌, ◌<◌, List, [], ◌∷◌, ◌++◌, ap, arith, drop, get_or, length, refl, sym, subst, inr}}
-use Rattle.std.proofs.{Common.{append_assoc, append-nil}, lemmas.List.drop_more}
+use Rattle.std.{proofs.{Common.{append_assoc, append-nil}, lemmas.List.drop_more}, specs.Prelude.◌==◌}
 use Rattle.domain_names.specs.Words.{Name}
 use Rattle.domain_nsec.specs.Chain.{Link}
 use Rattle.domain_record.specs.RecordClone.{IsRecordClone}
-use Rattle.domain_borrowed.specs.Data.{RawRecord}
+use Rattle.domain_base.specs.Types as rtypes
+use Rattle.domain_borrowed.specs.{Data.RawRecord, Links.{nsec_record, IsNsec}}
 use Rattle.domain_checker.specs.{HandedIn.HasRead, declared.nsec_check.NsecCheck.NsecCheck}
 use Rattle.denial_program.specs.Check.{AreAmong, IsNsecOf}
 
 -- a copy is the record
-cloned : (r copy : RawRecord) → IsRecordClone (λ n m. m ≡ n) (λ d e. e ≡ d) r copy → r ≡ copy
+pub cloned : (r copy : RawRecord) → IsRecordClone (λ n m. m ≡ n) (λ d e. e ≡ d) r copy → r ≡ copy
 cloned r copy s = grind (arith, common_steps)
 
 -- the record at a place, which was copied, is the first of those that are left
@@ -34,6 +35,10 @@ module _ {K : Type 0} (Is : RawRecord → K → Type 0) where
   goes_end all left kept h e = subst (AreAmong Is all) (append-nil kept) (h [] (subst (λ rs. AreAmong Is rs []) (sym e) refl))
 
 -- ---- NSEC records, handed in one after another
+
+-- the record of a link counts
+pub nsec_of : (r : RawRecord) (k : Link) → r ≡ nsec_record k → IsNsec k → IsNsecOf r k
+nsec_of r k is fits = record { counted = ap (λ (q : RawRecord). q.«data».rtype == rtypes.nsec) is; is = is; fits = fits }
 
 -- the records that were handed in come after those that had been
 abbrev pub Adds : NsecCheck → NsecCheck → List Link → Type 0

@@ -165,7 +165,7 @@ Gives {K} rtype Is =
 pub nsec_given : Gives rtypes.nsec IsNsecOf
 nsec_given owner class ttl (Nsec d) sound e = (
   record { owner = owner; next = d.next_name; class = class; ttl = ttl; bits = d.types },
-  record { is = refl; fits = sound },
+  record { counted = refl; is = refl; fits = sound },
 )
 nsec_given owner class ttl (Unknown d) sound e = absurd (formless d.rtype rtypes.nsec next_by_name sound e refl)
 nsec_given owner class ttl d sound e = absurd (omega arith)
@@ -181,7 +181,7 @@ nsec3_given owner class ttl (Nsec3 d) sound e = (
     flags = d.flags;
     bits = d.types;
   },
-  record { is = refl; fits = sound },
+  record { counted = refl; is = refl; fits = sound },
 )
 nsec3_given owner class ttl (Unknown d) sound e = absurd (formless d.rtype rtypes.nsec3 next_by_hash sound e refl)
 nsec3_given owner class ttl d sound e = absurd (omega arith)

@@ -1,6 +1,7 @@
 -- What the records of a chain that were read prove of a name and a type.
-use Rattle.std.specs.Prelude.{ℕ, ◌≡◌, ◌≢◌, ◌⊎◌, true, List, [], ◌∷◌, ◌++◌, codes, length, Ok}
+use Rattle.std.specs.Prelude.{ℕ, ◌≡◌, ◌≢◌, ◌⊎◌, ◌&&◌, ◌==◌, Bool, true, List, [], ◌∷◌, ◌++◌, codes, length, Ok}
 use Rattle.domain_octets.specs.Words.{Octets}
+use Rattle.domain_base.specs.Types as rtypes
 use Rattle.domain_names.specs.{Name.{last_labels, same_name}, Text.name_text, Words.Name}
 use Rattle.domain_hasher.specs.declared.error.Nsec3HashError.TheVariants.{Hasher}
 use Rattle.domain_records.specs.declared.error.SigningError.{SigningError, TheVariants.Nsec3HashingError}
@@ -21,21 +22,23 @@ AreAmong {K} Is (r ∷ rs) kept =
     ((k : K) × (others : List K) × (kept ≡ k ∷ others) × Is r k × AreAmong Is rs others)
     ⊎ (((k : K) → Is r k → ⊥) × AreAmong Is rs kept)
 
--- the record is the NSEC record of the link
-pub record IsNsecOf (r : RawRecord) (k : Link) : Type 0 where
-  pub is : r ≡ nsec_record k
-  pub fits : IsNsec k
+-- the record counts, and is the one that says this
+pub record IsOf {K : Type 0} (counts : RawRecord → Bool) (raw : K → RawRecord) (IsFit : K → Type 0)
+    (r : RawRecord) (k : K) : Type 0 where
+  pub counted : counts r ≡ true
+  pub is : r ≡ raw k
+  pub fits : IsFit k
 
--- the record is the NSEC3 record of the link
-pub record IsNsec3Of (r : RawRecord) (k : HashedLink) : Type 0 where
-  pub is : r ≡ nsec3_record k
-  pub fits : IsNsec3 k
+-- the record is the NSEC record of the link, the NSEC3 record, this NSEC3PARAM record of the apex
+abbrev pub IsNsecOf : RawRecord → Link → Type 0
+IsNsecOf = IsOf (λ r. r.«data».rtype == rtypes.nsec) nsec_record IsNsec
 
--- the record is this NSEC3PARAM record of the apex
-pub record IsParamOf (apex : Name) (r : RawRecord) (k : ParamRecord) : Type 0 where
-  pub is : r ≡ param_record k
-  pub fits : IsParam k
-  pub owner : same_name k.owner apex ≡ true
+abbrev pub IsNsec3Of : RawRecord → HashedLink → Type 0
+IsNsec3Of = IsOf (λ r. r.«data».rtype == rtypes.nsec3) nsec3_record IsNsec3
+
+abbrev pub IsParamOf : Name → RawRecord → ParamRecord → Type 0
+IsParamOf apex =
+    IsOf (λ r. (r.«data».rtype == rtypes.nsec3param) && same_name r.owner apex) param_record IsParam
 
 -- the links of the NSEC records among these, in their order; of the NSEC3 records; the NSEC3PARAM
 -- records of the apex

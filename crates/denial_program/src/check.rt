@@ -13,7 +13,7 @@ use crate::command::Question;
 use crate::fault::DenialFault;
 use crate::line::ZoneName;
 use domain_base::ParsedName;
-use domain_borrowed::{BorrowedRecord, ReadNsec3param, into_nsec};
+use domain_borrowed::{BorrowedRecord, ReadAs, ReadNsec, ReadNsec3param};
 use domain_dnssec::{Nsec3Hasher, Nsec3Records, NsecCheck, check_nsec3};
 use std::alloc::Global;
 
@@ -25,7 +25,7 @@ fn hand_in<'a>(check: &mut NsecCheck<'_>, records: Vec<BorrowedRecord<'a>>)
 {
     let mut left = records.into_iter();
     'left: while let Some(record) = left.next() {
-        if let Some(nsec) = into_nsec(record) {
+        if let Some(nsec) = ReadNsec::read(record) {
             check.add(&nsec);
         }
     }

@@ -21,7 +21,7 @@ mod reading;
 mod store;
 mod verdict_text;
 
-pub use among::{ReadAs, records_among};
+pub use among::records_among;
 pub use answer::{Reply, nsecs_of};
 pub use check::chain_of;
 pub use command::{Nsec3Params, Question, name_of, parameters_of, question_of};

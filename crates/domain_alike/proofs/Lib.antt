@@ -1,3 +1,2 @@
-pub mod KeptLemmas
 pub mod GatherLemmas
 pub mod AlikeLemmas

@@ -1,17 +1,13 @@
 -- The names of a list that hash alike, and how they are found.
-use Rattle.std.specs.Prelude.{◌≡◌, ◌⊎◌, ℕ, Bool, false, List, [], ◌∷◌, ◌++◌, filter, length, nat_lt, Option, Some, None, Ok, Err, Vec, if◌then◌else◌}
+use Rattle.std.specs.Prelude.{◌≡◌, ◌⊎◌, ℕ, Bool, false, List, [], ◌∷◌, filter, Option, Some, None, Ok, Err, Vec}
 use Rattle.std.specs.BTreeMap as tree
 use Rattle.std.specs.{BTreeMap.BTreeMap, Cmp.Lexicographic.slice_cmp, List.{find, flat_map, AllByRecursion}, Ordering.{is_eq, nat_cmp}}
 use Rattle.domain_octets.specs.Words.{Octets}
 use Rattle.domain_names.specs.{Order.before, Words.Name}
 use Rattle.domain_hasher.specs.declared.error.Nsec3HashError.{Nsec3HashError}
 use Rattle.domain_hasher.specs.declared.error.Nsec3HashError.TheVariants as hash_error
-use Rattle.domain_nsec3.specs.{Ancestors.above_with_more, Config.{Hash, HashAnswer, hash_name}}
+use Rattle.domain_nsec3.specs.Config.{Hash, HashAnswer, hash_name}
 use Rattle.domain_alike.specs.Alike.{Pair}
-
--- a name and those above it that have more than so many labels, the shortest first
-abbrev pub up_with_more : ℕ → Name → List Name
-up_with_more n x = if nat_lt n (length x) then above_with_more n x ++ x ∷ [] else []
 
 -- the answer is this hash
 abbrev pub is_hash : HashAnswer → Octets → Bool

@@ -1,3 +1,2 @@
 pub mod Alike
-pub mod Covered
 pub mod AlikeSteps

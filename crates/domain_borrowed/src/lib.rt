@@ -4,9 +4,8 @@
 //! [`BorrowedRecord`] is a record of owner, class, TTL and such data, as a message has it, or an
 //! arena. Where the data are in canonical form, `SortedRecords` and the generators of chains take
 //! these records as they are: of data they look at the type, the order of the octets, and the
-//! MINIMUM of an SOA. The checkers want data of their own types, as which [`into_nsec`],
-//! [`into_nsec3`] and [`into_nsec3param`] read them. [`read_record`] reads a record as a message
-//! has it, and [`compose_record`] writes one.
+//! MINIMUM of an SOA. The checkers want data of their own types, as which [`ReadAs`] reads them.
+//! [`read_record`] reads a record as a message has it, and [`compose_record`] writes one.
 #![tactic(auto)]
 
 mod data;
@@ -15,7 +14,5 @@ mod record;
 mod wire;
 
 pub use data::BorrowedData;
-pub use record::{
-    BorrowedRecord, ReadNsec, ReadNsec3, ReadNsec3param, into_nsec, into_nsec3, into_nsec3param,
-};
+pub use record::{BorrowedRecord, ReadAs, ReadNsec, ReadNsec3, ReadNsec3param};
 pub use wire::{compose_parts, compose_record, read_record};

@@ -1,8 +1,8 @@
 -- Elements of lists, of what is mapped and of what passes a filter.
-use Rattle.std.proofs.{lemmas.Grind.common_steps, Common.{◌≡◌, ℕ, ◌<◌, zero, suc, Bool, true, List, [], ◌∷◌, length, refl, subst, inl, inr, arith}}
-use Rattle.std.specs.{Prelude.{Contains, slice_index_or}, List.list_any}
+use Rattle.std.proofs.Common.{◌≡◌, ℕ, ◌<◌, zero, suc, List, [], ◌∷◌, length, refl, subst, inl, inr, arith}
+use Rattle.std.specs.Prelude.{Contains, slice_index_or}
 use Rattle.domain_records.specs.Order.{HoldsPairwise}
-use Rattle.domain_zone.proofs.{OwnerLemmas.{any_in, in_any}, PairLemmas.{In, all_in, all_from_in}}
+use Rattle.domain_zone.proofs.PairLemmas.{In, all_in, all_from_in}
 
 module _ {X : Type 0} where
   in_place : (xs : List X) (k : ℕ) (x : X) → k < length xs → slice_index_or xs k x ≡ x → In x xs
@@ -17,11 +17,6 @@ module _ {X : Type 0} where
   in_contains [] x i = absurd i
   in_contains (y ∷ xs) x (inl e) = (0, omega arith, e)
   in_contains (y ∷ xs) x (inr i) = let c = in_contains xs x i in (suc c.0, omega (arith, c.1), c.2)
-
-  -- what passes a test twice over a list does so over one that has all of its elements
-  pub any_two : (c : X → X → Bool) (xs ys : List X) → ((x : X) → In x xs → In x ys) → list_any (λ x. list_any (c x) xs) xs ≡ true
-      → list_any (λ x. list_any (c x) ys) ys ≡ true
-  any_two c xs ys f h = grind (arith, common_steps, any_in, in_any)
 
   -- of a relation that is symmetric and holds of each element with itself
   module _ (P : X → X → Type 0) (itself : (x : X) → P x x) (turned : (x y : X) → P x y → P y x) where

@@ -7,10 +7,10 @@ use Rattle.domain_record.specs.{Record.record_cmp, declared.record.Record.Record
 use Rattle.domain_records.specs.Order.{IsOneClass}
 use Rattle.domain_zone.specs.{Soa.{is_soa, numbers_of, of_only, soa_of}, View.{as_zone_record, zone_of}, declared.soa.ApexSoa.ApexSoa}
 use Rattle.domain_zone.specs.Zone.{ZoneRecord, clashes, has_clash, has_type, records_of, is_occluded, is_unoccluded, owns}
-use Rattle.domain_zone.proofs.{NameLemmas.{one_lowered, lowered_below, same_lowered}, OwnerLemmas.any_filter, PairLemmas.In, SharedLemmas.either_way}
+use Rattle.domain_zone.proofs.{NameLemmas.{one_lowered, lowered_below, same_lowered}, OwnerLemmas.{any_filter, any_two}, PairLemmas.In, SharedLemmas.either_way}
 use Rattle.domain_zone.proofs.{ZoneLemmas.any_map, FindLemmas.{in_filter, in_filtered, in_map, from_map}}
 use Rattle.domain_base.specs.Types.{ns, dname}
-use Rattle.domain_dnssec.{specs.AnyOrder.Sorts, proofs.AmongLemmas.{contains_in, in_contains, any_two, pair_of_two, all_pairs}}
+use Rattle.domain_dnssec.{specs.AnyOrder.Sorts, proofs.AmongLemmas.{contains_in, in_contains, pair_of_two, all_pairs}}
 
 then_equal : (x y : Ordering) → ordering_then x y ≡ Equal → (x ≡ Equal) × (y ≡ Equal)
 then_equal x y e = grind (arith, common_steps)

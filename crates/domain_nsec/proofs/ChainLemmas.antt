@@ -8,7 +8,7 @@ use Rattle.domain_zone.specs.{Zone.{ZoneRecord, OwnersNeverDescend, owns, is_occ
 use Rattle.domain_zone.proofs.NameLemmas.{before_order, one_lowered, same_itself, same_is, before_left, before_right, below_from, same_lowered}
 use Rattle.domain_zone.proofs.OwnerLemmas.{any_owner, any_in, owners_are, owners_ascend, apex_unoccluded}
 use Rattle.domain_zone.proofs.{PairLemmas.{In, all_in, IsAscending, IsApart, one_matches_or_covers, gap, owner_in, next_is}, PlaceLemmas.one_place}
-use Rattle.domain_zone.proofs.{SoaLemmas.soa_owned, ZoneLemmas.{weaker, apart_right}, FindLemmas.in_at}
+use Rattle.domain_zone.proofs.{SoaLemmas.soa_owned, ZoneLemmas.{weaker, apart_right}, FindLemmas.{in_at, in_map}}
 use Rattle.domain_names.specs.{Name.{is_at_or_below, lowered, same_name}, Order.before, Words.Name}
 use Rattle.domain_nsec.specs.{Chain.{Link, link_of, links_in, nsec_lists, IsChain}, Meaning.{MirrorsZone, IsMatchedOrCoveredOnce, IsCycle, OwnersAscend}}
 use Rattle.domain_nsec.specs.{Meaning.last_next, declared.config.GenerateNsecConfig.GenerateNsecConfig}
@@ -80,11 +80,6 @@ count_pairs : (x : Name) (links : List Link) → count_by (λ k. matches_or_cove
 count_pairs x [] = refl
 count_pairs x (k ∷ links) = grind (arith, common_steps)
 
-in_map : (links : List Link) (k : Link) → In k links → In (pair_of k) (map pair_of links)
-in_map [] k i = i
-in_map (l ∷ links) k (inl e) = inl (ap pair_of e)
-in_map (l ∷ links) k (inr i) = inr (in_map links k i)
-
 -- ---- what the chain means
 
 module _ (d : Bool) (L : List ZoneRecord) (a : Name) (order : OwnersNeverDescend L) (apex : owns L a ≡ true) where
@@ -132,17 +127,17 @@ module _ (L : List ZoneRecord) (a : Name) (order : OwnersNeverDescend L) (config
       → IsApart {lt = before} before_order m (l.owner, l.next)
   owner_gap l m i j =
       let k = owners in
-      gap before_order _ _ a _ m k.up (subst (In _) (chain.names ∙ ap (λ ks. pairs ks a) k.are) (in_map links l i)) (subst (In m) k.are j)
+      gap before_order _ _ a _ m k.up (subst (In _) (chain.names ∙ ap (λ ks. pairs ks a) k.are) (in_map pair_of links l i)) (subst (In m) k.are j)
 
   pub link_owner : (l : Link) → In l links → In l.owner (unoccluded_owners config.occlude_below_dname L a)
   link_owner l i =
       let k = owners in
-      subst (In _) (sym k.are) (owner_in before_order _ _ a _ (subst (In _) (chain.names ∙ ap (λ ks. pairs ks a) k.are) (in_map links l i)))
+      subst (In _) (sym k.are) (owner_in before_order _ _ a _ (subst (In _) (chain.names ∙ ap (λ ks. pairs ks a) k.are) (in_map pair_of links l i)))
 
   pub link_next : (l : Link) → In l links → ((before l.owner l.next ≡ true) × In l.next (unoccluded_owners config.occlude_below_dname L a)) ⊎ (a ≡ l.next)
   link_next l i =
       let k = owners in
-      elim (next_is before_order _ _ a _ k.up (subst (In _) (chain.names ∙ ap (λ ks. pairs ks a) k.are) (in_map links l i))) [
+      elim (next_is before_order _ _ a _ k.up (subst (In _) (chain.names ∙ ap (λ ks. pairs ks a) k.are) (in_map pair_of links l i))) [
         | inl h ↦ inl (h.0, subst (In _) (sym k.are) h.1)
         | inr h ↦ inr h
       ]

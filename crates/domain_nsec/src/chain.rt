@@ -6,14 +6,13 @@ ghost use Rattle.domain_nsec.specs.Chain.{Link, links_in, IsChain, IsFaultless, 
 ghost use Rattle.domain_nsec.specs.ChainView.{as_link, links_of};
 
 use crate::GenerateNsecConfig;
-use crate::types::types_of;
 use domain_base::{MakeName, ParsedName, ToName};
 use domain_bitmap::{RtypeBitmap, RtypeBitmaps};
 use domain_chain_rdata::Nsec;
 use domain_octets::{EmptyBuilder, FromBuilder, GrowingBuilder, OctetsBuilder, OutOfMemory};
 use domain_record::{Record, ZoneData};
 use domain_records::{RecordsIter, SigningError};
-use domain_zone::{ApexSoa, ListedOwners, UnoccludedOwners, find_soa, has_unequal_ttls};
+use domain_zone::{ApexSoa, find_soa, list_owners};
 use std::alloc::Global;
 use std::marker::Model;
 
@@ -99,22 +98,8 @@ impl<'a, N: ToName> NsecChain<'a, N> {
         let Some(soa) = find_soa(apex, records.records()) else {
             return Err(SigningError::SoaRecordCouldNotBeDetermined);
         };
-        let mut left = UnoccludedOwners::new(apex, records, config.occlude_below_dname);
-        let mut owners = ListedOwners::new(alloc);
-        'owners: while let Some(owner) = left.next() {
-            if has_unequal_ttls(owner.records.records()) {
-                return Err(SigningError::MultipleTtlValues);
-            }
-            if owners.is_full {
-                continue;
-            }
-            let assumed = config.assume_dnskeys_will_be_added & owner.name.name_eq(apex);
-            let types = types_of(alloc, owner.records.records(), assumed, owner.is_zone_cut);
-            owners.add(owner.name.as_parsed(), types);
-        }
-        if owners.is_full {
-            return Err(SigningError::OutOfMemory);
-        }
+        let below_dname = config.occlude_below_dname;
+        let owners = list_owners(alloc, apex, records, false, below_dname, config)?;
         Ok(NsecChain::new(apex, soa, owners.names, owners.types))
     }
 

@@ -1,15 +1,14 @@
 //! The types that NSEC records list.
 ghost use Rattle.std.specs.Prelude.{◌≡◌, [], ℕ, Bool, ◌<◌, IfOk};
-ghost use Rattle.domain_bitmap.specs.{Bitmap.bitmap_octets, Builder.holds};
+ghost use Rattle.domain_bitmap.specs.Builder.{holds};
 ghost use Rattle.domain_nsec.specs.Chain.{is_listed};
-ghost use Rattle.domain_zone.specs.View.{zone_of};
 
+use crate::GenerateNsecConfig;
 use domain_base::{Rtype, ToName};
 use domain_bitmap::{RtypeBitmap, RtypeBitmapBuilder};
 use domain_octets::{EmptyBuilder, GrowingBuilder, OutOfMemory};
-use domain_record::{Record, ZoneData};
-use domain_records::SliceRefsOrOwnedIterator;
-use domain_zone::{add_type, add_types};
+use domain_record::ZoneData;
+use domain_zone::{ChainTypes, UnoccludedOwner, add_type, add_types};
 use std::alloc::Global;
 
 /// The types that each NSEC record lists, and DNSKEY where it is assumed.
@@ -32,17 +31,23 @@ where
 }
 
 /// The types of an owner's NSEC record.
-pub(crate) fn types_of<N: ToName, D: ZoneData>(
-    alloc: Global,
-    records: SliceRefsOrOwnedIterator<'_, Record<N, D>>,
-    assumed: bool,
-    at_cut: bool,
-) -> Result<RtypeBitmap<Vec<u8>>, OutOfMemory>
-    ensures { IfOk result (λ types. types
-        ≡ bitmap_octets (is_listed assumed at_cut
-        (zone_of N.labels D.rtype D.minimum records.entry))) }
-{
-    let mut types = common_types::<Vec<u8>>(alloc, assumed)?;
-    add_types(&mut types, records, at_cut)?;
-    Ok(types.finalize())
+impl ChainTypes for GenerateNsecConfig {
+    ghost use Rattle.std.specs.Prelude.{◌&&◌};
+    ghost use Rattle.domain_bitmap.specs.Bitmap.{bitmap_octets};
+    ghost use Rattle.domain_nsec.specs.Chain.{is_listed};
+
+    ghost bits = { λ config at_apex o. bitmap_octets (is_listed
+        (config.assume_dnskeys_will_be_added && at_apex) o.is_zone_cut o.records) };
+
+    fn types_of<N: ToName, D: ZoneData>(
+        &self,
+        alloc: Global,
+        owner: &UnoccludedOwner<'_, N, D>,
+        is_apex: bool,
+    ) -> Result<RtypeBitmap<Vec<u8>>, OutOfMemory> {
+        let assumed = self.assume_dnskeys_will_be_added & is_apex;
+        let mut types = common_types::<Vec<u8>>(alloc, assumed)?;
+        add_types(&mut types, owner.records.records(), owner.is_zone_cut)?;
+        Ok(types.finalize())
+    }
 }

@@ -10,7 +10,7 @@ use Rattle.domain_zone.specs.{Enclosers.is_empty_nonterminal, Soa.{chain_ttl, so
 use Rattle.domain_zone.{specs.declared.listed.ListedOwners.ListedOwners, proofs.{NameLemmas.same_itself, OwnerLemmas.{ascending_filter, in_any, owners_are}}}
 use Rattle.domain_zone.proofs.{OwnerLemmas.owners_ascend, PairLemmas.{IsAscending, all_from_in, ascending}, ZoneLemmas.{all_filter, weaker}}
 use Rattle.domain_nsec3.specs.{Chain.IsHashedChain, Config.ChainConfig, Faults.{AreAllHashed, IsFirstHashingFault, is_hashed_before, hash_fault}}
-use Rattle.domain_nsec3.specs.{Owners.{original_owners, is_original_owner, is_chain_name, is_empty, nsec3_lists}, Steps.{AreOrderedHashes, AreOriginalOwners}}
+use Rattle.domain_nsec3.specs.{Owners.{original_owners, is_original_owner, is_chain_name, is_empty, nsec3_lists}, Steps.AreOrderedHashes}
 use Rattle.domain_nsec3.specs.{Steps.{AreWithEmpty, AreUsable, Common, IsHashOf, IsHashingFault, links_in}, declared.chain.HashedChain.HashedChain}
 use Rattle.domain_nsec3.{specs.declared.hash.Hashed.Hashed, proofs.{ChainLemmas.{all_hashed, chain_of_zone, collides}, FaultLemmas.{all_apart, first_fault}}}
 use Rattle.domain_nsec3.proofs.{FaultLemmas.{hashed_in_order, hashing_fault}, ListLemmas.sorted, OwnerLemmas.{empty_are, is_own, names_are}}
@@ -40,7 +40,8 @@ front_told f (x ∷ xs) ys (suc i) none within = front_told f xs ys i none (omeg
 -- the names of a zone's chain: its owners, which stand in order, and their empty non-terminals
 pub record AreGathered (L : List ZoneRecord) (a : Name) (config : ChainConfig) (owners : ListedOwners) (names : List Name) : Type 0 where
   pub order : OwnersNeverDescend L
-  pub owned : AreOriginalOwners L a config owners
+  pub named : owners.names.items ≡ original_owners L a config
+  pub typed : owners.types ≡ map (λ n. bitmap_octets (nsec3_lists L a config n)) (original_owners L a config)
   pub joined : AreWithEmpty a owners.names.items names
 
 module _ {L : List ZoneRecord} {a : Name} {config : ChainConfig} {owners : ListedOwners} {names : List Name}
@@ -50,10 +51,10 @@ module _ {L : List ZoneRecord} {a : Name} {config : ChainConfig} {owners : Liste
 
   -- which names are empty
   is_listed : (x : Name) → list_any (λ n. same_name n x) empty ≡ is_empty_nonterminal (original_owners L a config) a x
-  is_listed x = known.joined.listed.exactly x ∙ ap (λ l. is_empty_nonterminal l a x) known.owned.names
+  is_listed x = known.joined.listed.exactly x ∙ ap (λ l. is_empty_nonterminal l a x) known.named
 
   joined_are : names ≡ original_owners L a config ++ empty
-  joined_are = known.joined.are ∙ ap (λ l. l ++ empty) known.owned.names
+  joined_are = known.joined.are ∙ ap (λ l. l ++ empty) known.named
 
   are : (x : Name) → list_any (λ n. same_name n x) names ≡ is_chain_name L a config x
   are x = ap (list_any (λ n. same_name n x)) joined_are ∙ names_are L a config empty is_listed x
@@ -76,7 +77,7 @@ module _ {L : List ZoneRecord} {a : Name} {config : ChainConfig} {owners : Liste
 
   typed : (i : ℕ) → i < length names → get_or owners.types i [] ≡ bitmap_octets (nsec3_lists L a config (get_or names i []))
   typed i within =
-      rw (known.owned.types, joined_are) (front_told (λ n. bitmap_octets (nsec3_lists L a config n)) (original_owners L a config) empty i
+      rw (known.typed, joined_are) (front_told (λ n. bitmap_octets (nsec3_lists L a config n)) (original_owners L a config) empty i
       (weaker _ _ (λ x e. unowned x (sym (empty_are L a config x) ∙ e)) empty all_empty) (subst (λ ns. i < length ns) joined_are within))
 
   pub outcome_chain : (chain : HashedChain) (p : Common) (numbers : ApexSoa) → soa_of L a ≡ Some numbers → p.ttl ≡ chain_ttl numbers

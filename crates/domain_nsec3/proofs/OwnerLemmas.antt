@@ -21,7 +21,7 @@ strictly_down x m c p s = grind (arith, common_steps, below_trans)
 same_or_below : (n x : Name) → is_at_or_below n x ≡ (same_name n x || is_strictly_below n x)
 same_or_below n x = grind (arith, common_steps, one_lowered, below_itself)
 
-any_at_or_below : (x : Name) (ks : List Name)
+pub any_at_or_below : (x : Name) (ks : List Name)
     → list_any (λ n. is_at_or_below n x) ks ≡ (list_any (λ n. same_name n x) ks || list_any (λ n. is_strictly_below n x) ks)
 any_at_or_below x [] = refl
 any_at_or_below x (k ∷ ks) = grind (arith, common_steps, same_or_below, (any_at_or_below x ks))

@@ -53,16 +53,11 @@ pub record IsReady (L : List ZoneRecord) (a : Name) (config : ChainConfig) : Typ
 
 -- the error is the first fault of hashing
 abbrev pub IsFirstHashingFault : List ZoneRecord → Name → ChainConfig → Nsec3HashError → Type 0
-IsFirstHashingFault L a config (hash_error.Hasher n) =
-    IsFirstHashFault L a config (hash_error.Hasher n)
-IsFirstHashingFault L a config hash_error.OwnerHashError =
-    IsFirstHashFault L a config hash_error.OwnerHashError
-IsFirstHashingFault L a config hash_error.Nsec3NameTooLong =
-    IsFirstHashFault L a config hash_error.Nsec3NameTooLong
 IsFirstHashingFault L a config hash_error.CollisionDetected =
     AreAllHashed L a config × HasCollision L a config
 IsFirstHashingFault L a config hash_error.AppendError = ⊥
 IsFirstHashingFault L a config hash_error.OutOfMemory = ⊥
+IsFirstHashingFault L a config e = IsFirstHashFault L a config e
 
 -- the error is the first fault that stands, or want of memory, which leaves open whether one of
 -- hashing stands: hashes take memory themselves

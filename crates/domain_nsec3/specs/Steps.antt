@@ -1,24 +1,16 @@
--- The steps of the generator: the owners with their types, their hashes, and the links that these
--- make.
+-- The steps of the generator: the empty non-terminals of owners, the hashes of all, and the links that
+-- these make.
 use Rattle.std.specs.Prelude.{◌≡◌, ℕ, ◌+◌, ◌<◌, List, [], ◌∷◌, ◌++◌, map, length, None, Some, Ok, ◌⊎◌, slice_index_or, All, IsPermutation}
 use Rattle.std.specs.{List.Sorted.IsStrictlySortedBy, Ordering.nat_cmp, Cmp.Lexicographic.slice_cmp}
 use Rattle.domain_octets.specs.Words.{Octets}
 use Rattle.domain_base.specs.Classes.{in_class}
-use Rattle.domain_bitmap.specs.Bitmap.{bitmap_octets}
 use Rattle.domain_chain_rdata.specs.declared.nsec3param.Nsec3param.{Nsec3param}
 use Rattle.domain_hasher.specs.declared.error.Nsec3HashError.{Nsec3HashError, TheVariants.{OutOfMemory, CollisionDetected}}
 use Rattle.domain_names.specs.Words.{Name}
-use Rattle.domain_zone.specs.{Enclosers.is_empty_nonterminal, Zone.ZoneRecord, declared.listed.ListedOwners.ListedOwners}
-use Rattle.domain_nsec3.specs.{Ancestors.IsListOf, Chain.{HashedLink, cycle, hashed_owner}, Config.{ChainConfig, Hash, HashAnswer, Parameters, hash_name}}
-use Rattle.domain_nsec3.specs.{Faults.hash_fault, Owners.{original_owners, nsec3_lists}, View.parameters_of}
+use Rattle.domain_zone.specs.Enclosers.{is_empty_nonterminal}
+use Rattle.domain_nsec3.specs.{Ancestors.IsListOf, Chain.{HashedLink, cycle, hashed_owner}, Config.{Hash, HashAnswer, Parameters, hash_name}}
+use Rattle.domain_nsec3.specs.{Faults.hash_fault, View.parameters_of}
 use Rattle.domain_nsec3.specs.declared.{chain.HashedChain.HashedChain, hash.Hashed.Hashed}
-
--- the original owner names of a chain that own records, with their types
-pub record AreOriginalOwners (L : List ZoneRecord) (a : Name) (config : ChainConfig)
-    (owners : ListedOwners) : Type 0 where
-  pub names : owners.names.items ≡ original_owners L a config
-  pub types : owners.types
-      ≡ map (λ n. bitmap_octets (nsec3_lists L a config n)) (original_owners L a config)
 
 -- owners, and then the empty non-terminals that they make
 pub record AreWithEmpty (a : Name) (owners names : List Name) : Type 0 where

@@ -14,9 +14,8 @@ ghost use Rattle.domain_nsec3.specs.View.{config_of, hash_by, parameters_of};
 ghost use Rattle.domain_nsec3.specs.declared.hash.Hashed.{Hashed};
 
 use crate::GenerateNsec3Config;
-use crate::empty::empty_nonterminals;
+use crate::empty::names_over;
 use crate::hash::{Hashed, hash_into};
-use crate::owners::list_owners;
 use domain_base::{ParsedName, ToName};
 use domain_bitmap::RtypeBitmaps;
 use domain_chain_rdata::Nsec3param;
@@ -24,7 +23,7 @@ use domain_hasher::{Nsec3HashError, Nsec3Hasher};
 use domain_octets::{Octets, OutOfMemory};
 use domain_record::ZoneData;
 use domain_records::{RecordsIter, SigningError, Sorter};
-use domain_zone::{ApexSoa, ListedOwners};
+use domain_zone::{ApexSoa, ListedOwners, list_owners};
 use std::alloc::Global;
 
 /// A chain before its records are made: the hashes of its names, and the types of those names that
@@ -127,7 +126,7 @@ fn with_empty<'a>(
     requires begins { list_any (λ n. same_name n apex.now) names.items ≡ true }
     ensures { IfOk result (λ all. AreWithEmpty apex.now names.entry.items all.items) }
 {
-    let mut empty = empty_nonterminals(alloc, apex, names.as_slice())?;
+    let mut empty = names_over(alloc, apex, names.as_slice(), false)?;
     names.append(&mut empty)?;
     Ok(names)
 }
@@ -154,7 +153,10 @@ pub(crate) fn chain_of_zone<S: Sorter, H: Nsec3Hasher, O: Octets, N: ToName, D: 
     ensures fault { IfErr result (IsFirstFault (zone_of N.labels D.rtype D.minimum records.entry)
         (N.labels apex.now) (config_of (H.answer hasher.now) config.now)) }
 {
-    let owners = list_owners(alloc, apex, records, config)?;
+    let without_unsigned = config.params.opt_out_flag()
+        & config.opt_out_exclude_owner_names_of_unsigned_delegations;
+    let below_dname = config.occlude_below_dname;
+    let owners = list_owners(alloc, apex, records, without_unsigned, below_dname, config)?;
     let ListedOwners { names, types, .. } = owners;
     let apex = apex.as_parsed();
     let names = with_empty(alloc, &apex, names)?;

@@ -20,11 +20,11 @@ pub mod laws;
 mod name_hash;
 mod nsec3;
 mod nsec3_chain;
-mod owners;
 mod types;
 
 pub use borrowed::BorrowedNsec3;
 pub use config::{GenerateNsec3Config, Nsec3ParamTtlMode};
+pub use empty::names_over;
 pub use hash::mk_hashed_nsec3_owner_name;
 pub use hashed_owner::HashedOwner;
 pub use nsec3::{Nsec3Records, generate_nsec3s};

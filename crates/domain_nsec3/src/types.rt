@@ -1,27 +1,14 @@
 //! The types that NSEC3 records list.
-ghost use Rattle.std.specs.Prelude.{◌≡◌, ◌||◌, ◌&&◌, ◌==◌, ℕ, ◌<◌, IfOk, OnOk};
-ghost use Rattle.domain_bitmap.specs.{Bitmap.bitmap_octets, Builder.holds};
-ghost use Rattle.domain_nsec3.specs.Owners.{is_listed};
-ghost use Rattle.domain_zone.specs.View.{zone_of};
+ghost use Rattle.std.specs.Prelude.{◌≡◌, ◌||◌, ◌&&◌, ◌==◌, ℕ, ◌<◌, OnOk};
+ghost use Rattle.domain_bitmap.specs.Builder.{holds};
 
+use crate::GenerateNsec3Config;
 use domain_base::{Rtype, ToName};
 use domain_bitmap::{RtypeBitmap, RtypeBitmapBuilder};
-use domain_octets::{GrowingBuilder, OutOfMemory};
-use domain_record::{Record, ZoneData};
-use domain_records::SliceRefsOrOwnedIterator;
-use domain_zone::{add_type, add_types};
+use domain_octets::{GrowingBuilder, Octets, OutOfMemory};
+use domain_record::ZoneData;
+use domain_zone::{ChainTypes, UnoccludedOwner, add_type, add_types};
 use std::alloc::Global;
-
-/// What an owner is to a chain, but for its records.
-#[derive(Clone, Copy, Debug)]
-pub(crate) struct OwnerKind {
-    /// Whether it is a zone cut.
-    pub(crate) is_zone_cut: bool,
-    /// Whether it is a zone cut that owns no DS record.
-    pub(crate) is_unsigned_cut: bool,
-    /// Whether it is the apex.
-    pub(crate) is_apex: bool,
-}
 
 /// Adds a type where it is wanted.
 fn add_wanted<B: GrowingBuilder>(
@@ -39,20 +26,29 @@ fn add_wanted<B: GrowingBuilder>(
 }
 
 /// The types of an owner's NSEC3 record (RFC 5155, section 7.1).
-pub(crate) fn types_of<N: ToName, D: ZoneData>(
-    alloc: Global,
-    records: SliceRefsOrOwnedIterator<'_, Record<N, D>>,
-    kind: OwnerKind,
-    assumed: bool,
-) -> Result<RtypeBitmap<Vec<u8>>, OutOfMemory>
-    ensures { IfOk result (λ types. types
-        ≡ bitmap_octets (is_listed kind.is_unsigned_cut kind.is_apex assumed kind.is_zone_cut
-        (zone_of N.labels D.rtype D.minimum records.entry))) }
-{
-    let mut types = RtypeBitmapBuilder::<Vec<u8>>::new(alloc);
-    add_wanted(&mut types, Rtype::RRSIG, !kind.is_unsigned_cut)?;
-    add_wanted(&mut types, Rtype::NSEC3PARAM, kind.is_apex)?;
-    add_wanted(&mut types, Rtype::DNSKEY, assumed)?;
-    add_types(&mut types, records, kind.is_zone_cut)?;
-    Ok(types.finalize())
+impl<O: Octets, S> ChainTypes for GenerateNsec3Config<O, S> {
+    ghost use Rattle.std.specs.Prelude.{not, ◌&&◌};
+    ghost use Rattle.domain_base.specs.Types.{ds};
+    ghost use Rattle.domain_bitmap.specs.Bitmap.{bitmap_octets};
+    ghost use Rattle.domain_zone.specs.Zone.{has_type};
+    ghost use Rattle.domain_nsec3.specs.Owners.{is_listed};
+
+    ghost bits = { λ config at_apex o. bitmap_octets (is_listed
+        (o.is_zone_cut && not (has_type o.records ds)) at_apex
+        (config.assume_dnskeys_will_be_added && at_apex) o.is_zone_cut o.records) };
+
+    fn types_of<N: ToName, D: ZoneData>(
+        &self,
+        alloc: Global,
+        owner: &UnoccludedOwner<'_, N, D>,
+        is_apex: bool,
+    ) -> Result<RtypeBitmap<Vec<u8>>, OutOfMemory> {
+        let assumed = self.assume_dnskeys_will_be_added & is_apex;
+        let mut types = RtypeBitmapBuilder::<Vec<u8>>::new(alloc);
+        add_wanted(&mut types, Rtype::RRSIG, !owner.is_unsigned_cut())?;
+        add_wanted(&mut types, Rtype::NSEC3PARAM, is_apex)?;
+        add_wanted(&mut types, Rtype::DNSKEY, assumed)?;
+        add_types(&mut types, owner.records.records(), owner.is_zone_cut)?;
+        Ok(types.finalize())
+    }
 }

@@ -1,11 +1,13 @@
 -- What is known of owners that an iterator gives.
-use Rattle.std.proofs.Common.{arith, ◌≡◌, ◌≤◌, Bool, true, List, [], ◌∷◌, map, refl, sym, ◌∙◌, Option, ℕ}
-use Rattle.std.{proofs.lemmas.{Grind.common_steps}, specs.List.{AllByRecursion}}
+use Rattle.std.proofs.Common.{arith, ◌≡◌, ◌≤◌, Bool, true, false, List, [], ◌∷◌, map, refl, sym, ◌∙◌, Option, ℕ}
+use Rattle.std.{proofs.lemmas.Grind.common_steps, specs.List.AllByRecursion}
 use Rattle.domain_names.specs.{Laws.same_name_same, Name.same_name, Words.Name}
 use Rattle.domain_record.specs.declared.record.Record.{Record}
 use Rattle.domain_records.specs.Order.{MayFollow, HoldsPairwise, IsInOrder}
-use Rattle.domain_zone.{specs.{Owners.{OwnerRecords, owner_at}, View.as_zone_record, Zone.{ZoneRecord, records_of, has_clash}}, proofs.NameLemmas.one_lowered}
-use Rattle.domain_zone.proofs.{NameLemmas.same_itself, OwnerLemmas.filter_passes, PairLemmas.all_from_in, TtlLemmas.NeverDescend, ZoneLemmas.{all_map, weaker}}
+use Rattle.domain_zone.specs.{Owners.{OwnerRecords, covered_names, owner_at}, View.as_zone_record, Zone.{ZoneRecord, records_of, has_clash, unoccluded_owners}}
+use Rattle.domain_zone.proofs.NameLemmas.{one_lowered}
+use Rattle.domain_zone.proofs.{NameLemmas.same_itself, OwnerLemmas.filter_passes, PairLemmas.all_from_in, TtlLemmas.NeverDescend, ZoneLemmas.all_map}
+use Rattle.domain_zone.proofs.ZoneLemmas.{filter_whole, weaker}
 
 abbrev pub name_of : OwnerRecords → Name
 name_of o = o.name
@@ -15,6 +17,10 @@ clashes_in o = has_clash o.records
 
 pub all_known : (L : List ZoneRecord) (a : Name) (ks : List Name) → AllByRecursion (λ o. o ≡ owner_at L a o.name) (map (owner_at L a) ks)
 all_known L a ks = all_map _ (owner_at L a) ks (all_from_in _ ks (λ k i. refl))
+
+-- where unsigned delegations stay, all that are not occluded do
+pub none_left_out : (d : Bool) (L : List ZoneRecord) (a : Name) → covered_names false d L a ≡ unoccluded_owners d L a
+none_left_out d L a = filter_whole _ (unoccluded_owners d L a) (all_from_in _ _ (λ n i. refl))
 
 -- ---- the types of an owner's records never descend
 

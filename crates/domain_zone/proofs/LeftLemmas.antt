@@ -1,11 +1,14 @@
 -- What an iterator over the owners that are not occluded has left to give.
-use Rattle.std.proofs.Common.{◌≡◌, Bool, false, ◌&&◌, ◌||◌, List, [], ◌∷◌, ◌++◌, map, refl, sym, ap, ◌∙◌, inl, inr, Option, None, append_assoc, ℕ, arith}
-use Rattle.std.{proofs.lemmas.{Bool.cases_Bool, Grind.common_steps, List.map-append}, specs.{Bool.then_some, Borrow.Bor, Option.option_map}}
+use Rattle.std.proofs.Common.{◌≡◌, Bool, true, false, cond, ◌&&◌, ◌||◌, List, [], ◌∷◌, ◌++◌, map, refl, sym, ap, ◌∙◌, inl, inr, Option, None, append_assoc, ℕ}
+use Rattle.std.proofs.Common.{arith}
+use Rattle.std.{proofs.lemmas.{Bool.cases_Bool, Grind.common_steps, List.map-append}, specs.{Bool.then_some, Borrow.Bor, Option.option_map, Prelude.filter}}
 use Rattle.domain_record.specs.declared.record.Record.{Record}
 use Rattle.domain_records.specs.{Groups.{same_owner, HasFirst}, Order.IsInOrder, Runs.runs}
-use Rattle.domain_names.specs.{Words.Name}
-use Rattle.domain_zone.specs.{Owners.{owner_at, owners_with_records}, View.as_zone_record, Walk.{is_passed_over, is_cut_group, occluder_from, left_owners}}
-use Rattle.domain_zone.{specs.Zone.{ZoneRecord, has_type}, proofs.{GroupLemmas.{front_group, owners_in_order}, WalkLemmas.{IsWalked, walk_start, walk_passed}}}
+use Rattle.domain_names.specs.Words.{Name}
+use Rattle.domain_zone.specs.{Owners.{OwnerRecords, covered_owners, owner_at, stays}, View.as_zone_record, Walk.{is_passed_over, is_cut_group, occluder_from}}
+use Rattle.domain_zone.specs.Walk.{left_owners}
+use Rattle.domain_zone.{specs.Zone.{ZoneRecord, has_type, unoccluded_owners}, proofs.{GroupLemmas.{front_group, owners_in_order}, WalkLemmas.IsWalked}}
+use Rattle.domain_zone.proofs.WalkLemmas.{walk_start, walk_passed}
 use Rattle.domain_zone.proofs.{WalkLemmas.{owner_is, walk_given}, ZoneLemmas.IsFront}
 use Rattle.domain_base.specs.Types.{dname}
 
@@ -53,8 +56,9 @@ module _ (d : Bool) (L : List ZoneRecord) (a : Name) where
   -- one group more, where what is left after it is known
   left_step : (rest G t : List ZoneRecord) (g : ZoneRecord) (gs : List (List ZoneRecord)) (o : Option Name) (ks : List Name)
       → IsWalked d L a rest o ks → IsFront rest g G t
-      → ((o : Option Name) (ks : List Name) → IsWalked d L a t o ks → map (owner_at L a) ks ++ left_owners d a o gs ≡ owners_with_records d L a)
-      → map (owner_at L a) ks ++ left_owners d a o (G ∷ gs) ≡ owners_with_records d L a
+      → ((o : Option Name) (ks : List Name) → IsWalked d L a t o ks
+      → map (owner_at L a) ks ++ left_owners d a o gs ≡ map (owner_at L a) (unoccluded_owners d L a))
+      → map (owner_at L a) ks ++ left_owners d a o (G ∷ gs) ≡ map (owner_at L a) (unoccluded_owners d L a)
   left_step rest G t g gs o ks w f after = rw f.are (elim (cases_Bool (is_passed_over a o g.owner)) [
     | inl e ↦ rw e (after o ks (walk_passed w g f.gs t f.split f.group e))
     | inr e ↦
@@ -71,7 +75,7 @@ module _ {N D : Type 0} (labels : N → Name) (rtype_of : D → ℕ) (minimum_of
   -- the owners found so far and those that are left are all
   left_all : (gs : List (List (Record N D))) (rest : List (Record N D)) (o : Option Name) (ks : List Name) → runs (same_owner labels) rest ≡ gs
       → IsWalked d L a (map see rest) o ks
-      → map (owner_at L a) ks ++ left_owners d a o (map (map see) gs) ≡ owners_with_records d L a
+      → map (owner_at L a) ks ++ left_owners d a o (map (map see) gs) ≡ map (owner_at L a) (unoccluded_owners d L a)
   left_all [] rest o ks e w = grind (arith, common_steps, runs_none)
   left_all (group ∷ gs) [] o ks e w = absurd (no_runs (same_owner labels) group gs e)
   left_all (group ∷ gs) (r ∷ rest) o ks e w =
@@ -86,10 +90,10 @@ module _ {N D : Type 0} (labels : N → Name) (rtype_of : D → ℕ) (minimum_of
       named (s ∷ h) i = ap (λ t. t.owner) i
 
 -- at first all are left
-pub left_first : {N D : Type 0} (labels : N → Name) (rtype_of : D → ℕ) (minimum_of : D
+left_first : {N D : Type 0} (labels : N → Name) (rtype_of : D → ℕ) (minimum_of : D
     → Option ℕ) (d : Bool) (a : Name) (rs : List (Record N D)) → IsInOrder labels rtype_of rs
     → left_owners d a None (map (map (as_zone_record labels rtype_of minimum_of)) (runs (same_owner labels) rs))
-    ≡ owners_with_records d (map (as_zone_record labels rtype_of minimum_of) rs) a
+    ≡ map (owner_at (map (as_zone_record labels rtype_of minimum_of) rs) a) (unoccluded_owners d (map (as_zone_record labels rtype_of minimum_of) rs) a)
 left_first labels rtype_of minimum_of d a rs h =
     left_all labels rtype_of minimum_of d _ a _ rs None [] refl (walk_start d _ a (owners_in_order labels rtype_of minimum_of rs h))
 
@@ -99,3 +103,23 @@ pub left_none : {N D : Type 0} (labels : N → Name) (rtype_of : D → ℕ) (min
     → left_owners d a o (map (map (as_zone_record labels rtype_of minimum_of)) (runs (same_owner labels) rs)) ≡ []
 unfolding runs
 left_none labels rtype_of minimum_of d a o rs e = grind (arith, common_steps)
+
+-- ---- with unsigned delegations or without
+
+covered : (b : Bool) (L : List ZoneRecord) (a : Name) (ks : List Name)
+    → filter (stays b) (map (owner_at L a) ks) ≡ map (owner_at L a) (filter (λ n. stays b (owner_at L a n)) ks)
+covered b L a [] = refl
+covered b L a (k ∷ ks) = grind (arith, common_steps, (covered b L a ks))
+
+pub covered_first : {N D : Type 0} (labels : N → Name) (rtype_of : D → ℕ) (minimum_of : D → Option ℕ) (b d : Bool) (a : Name)
+    (rs : List (Record N D)) → IsInOrder labels rtype_of rs
+    → filter (stays b) (left_owners d a None (map (map (as_zone_record labels rtype_of minimum_of)) (runs (same_owner labels) rs)))
+    ≡ covered_owners b d (map (as_zone_record labels rtype_of minimum_of) rs) a
+covered_first labels rtype_of minimum_of b d a rs h = ap (filter (stays b)) (left_first labels rtype_of minimum_of d a rs h) ∙ covered b _ a _
+
+-- one of those that are left stays, or not
+pub stays_on : (b : Bool) (o : OwnerRecords) (os : List OwnerRecords) → stays b o ≡ true → filter (stays b) (o ∷ os) ≡ o ∷ filter (stays b) os
+stays_on b o os e = λ i. cond (e i) (o ∷ filter (stays b) os) (filter (stays b) os)
+
+pub stays_off : (b : Bool) (o : OwnerRecords) (os : List OwnerRecords) → stays b o ≡ false → filter (stays b) (o ∷ os) ≡ filter (stays b) os
+stays_off b o os e = λ i. cond (e i) (o ∷ filter (stays b) os) (filter (stays b) os)

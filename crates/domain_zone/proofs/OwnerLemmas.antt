@@ -30,6 +30,11 @@ module _ {X : Type 0} where
   in_any p (y ∷ xs) x (inl f) e = λ j. (ap p f ∙ e) j || list_any p xs
   in_any p (y ∷ xs) x (inr i) e = or_right (p y) (list_any p xs) (in_any p xs x i e)
 
+  -- what passes a test twice over a list does so over one that has all of its elements
+  pub any_two : (c : X → X → Bool) (xs ys : List X) → ((x : X) → In x xs → In x ys) → list_any (λ x. list_any (c x) xs) xs ≡ true
+      → list_any (λ x. list_any (c x) ys) ys ≡ true
+  any_two c xs ys f h = grind (arith, common_steps, any_in, in_any)
+
   -- what passes a filter
   pub filter_passes : (P Q : X → Type 0) (q : X → Bool) → ((x : X) → P x → q x ≡ true → Q x) → (xs : List X) → AllByRecursion P xs
       → AllByRecursion Q (filter q xs)

@@ -1,11 +1,15 @@
 -- Where types never descend, two records of one type differ in TTL exactly where two neighbours do.
-use Rattle.std.proofs.Common.{◌≡◌, ◌≤◌, ℕ, Bool, true, false, ◌||◌, List, [], ◌∷◌, map, refl, sym, subst, ◌∙◌, inl, inr, arith, Option}
-use Rattle.std.{proofs.lemmas.{Bool.{cases_Bool, false≢true, or_parts, or_cases, Decides.nat_tests}, Grind.common_steps}, specs.List.{list_any, AllByRecursion}}
+use Rattle.std.proofs.Common.{◌≡◌, ◌≤◌, ◌<◌, ℕ, Bool, true, false, not, ◌&&◌, ◌||◌, List, [], ◌∷◌, ◌++◌, map, refl, sym, ap, subst, ◌∙◌, inl, inr, arith}
+use Rattle.std.proofs.{Common.{nat_eq, append_assoc, append-nil, is_some, IfSome, None, Option, Some}, lemmas.Bool.{and_parts, cases_Bool, eq-eqb, eqb-true}}
+use Rattle.std.proofs.lemmas.Bool.{false≢true, or_parts, or_cases}
+use Rattle.std.proofs.lemmas.Bool.Decides.{nat_tests}
+use Rattle.std.{proofs.lemmas.Grind.common_steps, specs.{Prelude.filter, List.{list_any, AllByRecursion}}}
 use Rattle.domain_record.specs.declared.record.Record.{Record}
 use Rattle.domain_records.specs.Order.{HoldsPairwise}
 use Rattle.domain_names.specs.Words.{Name}
-use Rattle.domain_zone.specs.{View.as_zone_record, Zone.{ZoneRecord, clashes, has_clash}}
-use Rattle.domain_zone.proofs.{FindLemmas.any_none, OwnerLemmas.in_any, PairLemmas.{In, all_in}, SharedLemmas.either_way, ZoneLemmas.all_map}
+use Rattle.domain_zone.specs.{View.as_zone_record, Zone.{ZoneRecord, clashes, has_clash, IsFirstClash}}
+use Rattle.domain_zone.proofs.{FindLemmas.{any_none, in_either, in_filter, in_filtered, in_front, in_middle}, OwnerLemmas.{any_two, in_any}}
+use Rattle.domain_zone.proofs.{PairLemmas.{In, all_in}, SharedLemmas.either_way, ZoneLemmas.{all_front, all_map}}
 
 -- two neighbours clash
 abbrev pub has_neighbour_clash : List ZoneRecord → Bool
@@ -79,3 +83,78 @@ module _ {N D : Type 0} (labels : N → Name) (rtype_of : D → ℕ) (minimum_of
   pub seen_never_descend : (rs : List (Record N D)) → HoldsPairwise (λ r s. rtype_of r.«data» ≤ rtype_of s.«data») rs → NeverDescend (map see rs)
   seen_never_descend [] h = tt
   seen_never_descend (r ∷ rs) h = (all_map _ see rs h.0, seen_never_descend rs h.1)
+
+-- ---- neighbours
+
+-- a record that clashes with another is of its type, and both are of the records of that type
+clash_of_type : (zs : List ZoneRecord) (z w : ZoneRecord) → In z zs → In w zs → clashes z w ≡ true
+    → has_clash (filter (λ y. nat_eq y.rtype w.rtype) zs) ≡ true
+clash_of_type zs z w i j e =
+    let apart = and_parts (nat_eq z.rtype w.rtype && not (nat_eq z.rtype 46)) (not (nat_eq z.ttl w.ttl)) e in
+    let same = (and_parts (nat_eq z.rtype w.rtype) (not (nat_eq z.rtype 46)) apart.0).0 in
+    let q : ZoneRecord → Bool = λ y. nat_eq y.rtype w.rtype in
+    in_any _ _ z (in_filtered q zs z i same) (in_any _ _ w (in_filtered q zs w j (eq-eqb _ _ refl)) e)
+
+-- those of a list whose types never descend, and what follows them
+descend_parts : (xs ys : List ZoneRecord) → NeverDescend (xs ++ ys) → NeverDescend xs × NeverDescend ys
+descend_parts [] ys h = (tt, h)
+descend_parts (x ∷ xs) ys h = let k = descend_parts xs ys h.1 in (((all_front _ xs ys h.0).0, k.0), k.1)
+
+-- those of a lesser type than a record's stand before it, and clash with none where no neighbours there do
+lesser_even : (front back : List ZoneRecord) (r : ZoneRecord) → NeverDescend (front ++ r ∷ back) → has_neighbour_clash front ≡ false
+    → (t : ℕ) → t < r.rtype → has_clash (filter (λ y. nat_eq y.rtype t) (front ++ r ∷ back)) ≡ false
+lesser_even front back r order quiet t less =
+    let q : ZoneRecord → Bool = λ y. nat_eq y.rtype t in
+    let parts = descend_parts front (r ∷ back) order in
+    let even : has_clash front ≡ false = sym (neighbours_tell front parts.0) ∙ quiet in
+    elim (cases_Bool _) [
+      | inl h ↦ absurd (false≢true (sym even ∙ any_two clashes _ front (λ z i.
+          let f = in_filter q (front ++ r ∷ back) z i in
+          elim (in_either front (r ∷ back) z f.0) [
+            | inl j ↦ j
+            | inr j ↦
+                let low : r.rtype ≤ z.rtype = all_in (λ y. r.rtype ≤ y.rtype) (r ∷ back) z (omega arith, parts.1.0) j in
+                let same : z.rtype ≡ t = eqb-true z.rtype t f.1 in
+                absurd (omega (arith, less, low, same))
+          ]) h))
+      | inr h ↦ h
+    ]
+
+neighbours_push : (xs : List ZoneRecord) (p r : ZoneRecord) → has_neighbour_clash (xs ++ p ∷ []) ≡ false
+    → clashes p r ≡ false → has_neighbour_clash ((xs ++ p ∷ []) ++ r ∷ []) ≡ false
+neighbours_push [] p r h e = λ i. e i || false
+neighbours_push (x ∷ []) p r h e = let k = or_parts (clashes x p) false h in λ i. k.0 i || (e i || false)
+neighbours_push (x ∷ y ∷ xs) p r h e =
+    let k = or_parts _ (has_neighbour_clash (y ∷ xs ++ p ∷ [])) h in
+    λ i. k.0 i || neighbours_push (y ∷ xs) p r k.1 e i
+
+-- no neighbours clash among the records up to one
+pub record IsBetween (zs : List ZoneRecord) (previous : ZoneRecord) (left : List ZoneRecord) : Type 0 where
+  pub passed : List ZoneRecord
+  pub all : zs ≡ (passed ++ previous ∷ []) ++ left
+  pub quiet : has_neighbour_clash (passed ++ previous ∷ []) ≡ false
+
+pub between_next : (zs : List ZoneRecord) (previous r : ZoneRecord) (left : List ZoneRecord) → IsBetween zs previous (r ∷ left)
+    → clashes previous r ≡ false → IsBetween zs r left
+between_next zs previous r left s e = record {
+  passed = s.passed ++ previous ∷ [];
+  all = s.all ∙ sym (append_assoc (s.passed ++ previous ∷ []) (r ∷ []) left);
+  quiet = neighbours_push s.passed previous r s.quiet e;
+}
+
+pub between_clash : (zs : List ZoneRecord) (previous r : ZoneRecord) (left : List ZoneRecord) → IsBetween zs previous (r ∷ left)
+    → NeverDescend zs → clashes previous r ≡ true → IsFirstClash zs r.rtype
+between_clash zs previous r left s order e =
+    let front = s.passed ++ previous ∷ [] in
+    subst (λ ys. IsFirstClash ys r.rtype) (sym s.all) (record {
+      clash = clash_of_type _ previous r (in_front front (r ∷ left) previous (in_middle s.passed previous [])) (in_middle front r left) e;
+      lesser = lesser_even front left r (subst NeverDescend s.all order) s.quiet;
+    })
+
+pub between_end : (zs : List ZoneRecord) (previous : ZoneRecord) → IsBetween zs previous [] → NeverDescend zs → has_clash zs ≡ false
+between_end zs previous s order = sym (neighbours_tell zs order) ∙ ap has_neighbour_clash (s.all ∙ append-nil (s.passed ++ previous ∷ [])) ∙ s.quiet
+
+-- where there is a type of which records clash, two of all do
+pub clash_told : (zs : List ZoneRecord) (found : Option ℕ) → is_some found ≡ true → IfSome found (IsFirstClash zs) → has_clash zs ≡ true
+clash_told zs None e h = absurd (false≢true e)
+clash_told zs (Some t) e h = any_two clashes _ zs (λ z i. (in_filter (λ y. nat_eq y.rtype t) zs z i).0) h.clash

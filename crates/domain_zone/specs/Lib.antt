@@ -5,4 +5,5 @@ pub mod Enclosers
 pub mod View
 pub mod Owners
 pub mod OwnerView
+pub mod Listed
 pub mod Walk

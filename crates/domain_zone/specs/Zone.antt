@@ -1,6 +1,6 @@
 -- What the records of a zone say: zone cuts, occluders, occluded names, owners and their types.
 -- Each definition filters the whole list L of records; a is the apex.
-use Rattle.std.specs.{Prelude.{ℕ, Bool, false, not, ◌&&◌, ◌||◌, ◌==◌, List, [], ◌∷◌, map, filter, Option, ◌≡◌}, List.{list_any, AllByRecursion}}
+use Rattle.std.specs.{Prelude.{ℕ, ◌<◌, Bool, true, false, not, ◌&&◌, ◌||◌, ◌==◌, List, [], ◌∷◌, map, filter, Option, ◌≡◌}, List.{list_any, AllByRecursion}}
 use Rattle.domain_base.specs.Types.{ns, ds, dname, rrsig}
 use Rattle.domain_names.specs.{Name.{is_at_or_below, is_strictly_below, same_name}, Order.before, Words.Name}
 
@@ -73,6 +73,11 @@ clashes r s = (r.rtype == s.rtype) && not (r.rtype == rrsig) && not (r.ttl == s.
 
 abbrev pub has_clash : List ZoneRecord → Bool
 has_clash rs = list_any (λ r. list_any (clashes r) rs) rs
+
+-- records of this type clash, and none of a lesser one do
+pub record IsFirstClash (rs : List ZoneRecord) (t : ℕ) : Type 0 where
+  pub clash : has_clash (filter (λ r. r.rtype == t) rs) ≡ true
+  pub lesser : (s : ℕ) → s < t → has_clash (filter (λ r. r.rtype == s) rs) ≡ false
 
 -- one of these names has records of one type other than RRSIG that differ in TTL
 abbrev pub has_unequal_ttls : List ZoneRecord → List Name → Bool

@@ -16,8 +16,8 @@ mod soa;
 mod ttl;
 mod types;
 
-pub use listed::ListedOwners;
+pub use listed::{ChainTypes, ListedOwners, list_owners};
 pub use owners::{UnoccludedOwner, UnoccludedOwners, has_type};
 pub use soa::{ApexSoa, find_soa};
-pub use ttl::has_unequal_ttls;
+pub use ttl::uneven_type;
 pub use types::{add_type, add_types};

@@ -58,44 +58,52 @@ impl<N: ToName, D: ZoneData> UnoccludedOwner<'_, N, D> {
     }
 }
 
-/// An iterator over the owners at or below an apex that are not occluded, in canonical order. The
-/// records of all others are passed over. Takes no memory; contracts see the list of the owners
-/// that are left.
+/// An iterator over the owners at or below an apex that are not occluded, in canonical order, with
+/// or without unsigned delegations. The records of all others are passed over. Takes no memory;
+/// contracts see the list of the owners that are left.
 #[derive(Drop)]
 pub struct UnoccludedOwners<'a, N: ToName, D: ZoneData> {
     apex: &'a N,
+    without_unsigned: bool,
     below_dname: bool,
     groups: RecordsIter<'a, N, D>,
     occluder: Option<&'a N>,
 }
 
 impl<'a, N: ToName, D: ZoneData> Model for UnoccludedOwners<'a, N, D> {
-    ghost use Rattle.std.specs.{Prelude.{List, map}, Option.option_map};
+    ghost use Rattle.std.specs.{Prelude.{List, filter, map}, Option.option_map};
     ghost use Rattle.domain_records.specs.{Groups.same_owner, Runs.runs};
-    ghost use Rattle.domain_zone.specs.{Owners.OwnerRecords, View.zone_of, Walk.left_owners};
+    ghost use Rattle.domain_zone.specs.{Owners.{stays, OwnerRecords}, View.zone_of, Walk.left_owners};
 
     ghost Value = { List OwnerRecords };
 
-    ghost view = { λ s. left_owners s.below_dname (N.labels s.apex.now)
-        (option_map (λ o. N.labels o.now) s.occluder)
-        (map (zone_of N.labels D.rtype D.minimum) (runs (same_owner N.labels) s.groups)) };
+    ghost view = { λ s. filter (stays s.without_unsigned) (left_owners s.below_dname
+        (N.labels s.apex.now) (option_map (λ o. N.labels o.now) s.occluder)
+        (map (zone_of N.labels D.rtype D.minimum) (runs (same_owner N.labels) s.groups))) };
 }
 
 impl<'a, N: ToName, D: ZoneData> UnoccludedOwners<'a, N, D> {
     ghost use Rattle.domain_records.specs.Order.{IsInOrder};
-    ghost use Rattle.domain_zone.specs.Owners.{owners_with_records};
+    ghost use Rattle.domain_zone.specs.Owners.{covered_owners};
 
-    /// Over the owners of records in order, at or below the apex and not strictly below a zone cut,
-    /// nor, where `below_dname` says so, strictly below a name at or below the apex that owns a
-    /// DNAME record.
-    #[tactic(auto, using(crate::proofs::LeftLemmas::left_first))]
-    pub fn new(apex: &'a N, records: RecordsIter<'a, N, D>, below_dname: bool) -> Self
+    /// Over the owners of records in order, at or below the apex and not strictly below a zone cut;
+    /// where `without_unsigned` says so, without the zone cuts that own no DS record (RFC 5155,
+    /// section 6), and where `below_dname` does, without those strictly below a name at or below
+    /// the apex that owns a DNAME record (RFC 6672, section 2.4).
+    #[tactic(auto, using(crate::proofs::LeftLemmas::covered_first))]
+    pub fn new(
+        apex: &'a N,
+        records: RecordsIter<'a, N, D>,
+        without_unsigned: bool,
+        below_dname: bool,
+    ) -> Self
         requires { IsInOrder N.labels D.rtype records }
-        ensures { result ≡ owners_with_records below_dname
+        ensures { result ≡ covered_owners without_unsigned below_dname
             (zone_of N.labels D.rtype D.minimum records.entry) (N.labels apex.now) }
     {
         UnoccludedOwners {
             apex,
+            without_unsigned,
             below_dname,
             groups: records,
             occluder: None,
@@ -122,11 +130,14 @@ impl<'a, N: ToName, D: ZoneData> Iterator for UnoccludedOwners<'a, N, D> {
             let is_zone_cut = records.is_zone_cut(self.apex);
             let owns_dname = has_type(records.records(), Rtype::DNAME);
             self.occluder = (is_zone_cut | (self.below_dname & owns_dname)).then_some(name);
-            return Some(UnoccludedOwner {
+            let owner = UnoccludedOwner {
                 name,
                 records,
                 is_zone_cut,
-            });
+            };
+            if !(self.without_unsigned & owner.is_unsigned_cut()) {
+                return Some(owner);
+            }
         }
         None
     }

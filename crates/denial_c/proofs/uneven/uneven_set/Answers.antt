@@ -4,8 +4,8 @@ use Rattle.domain_zone.{specs.{View.as_zone_record, Zone.has_clash}, proofs.{Giv
 use Rattle.denial_c.proofs.UnevenLemmas.{walked_even, walked_known}
 use Rattle.denial_c.proofs.uneven.uneven_set.Goals as goal
 
-pub clashing_type-requires : goal.clashing_type-requires
-clashing_type-requires c =
+pub uneven_type-requires : goal.uneven_type-requires
+uneven_type-requires c =
     raw_types (λ n. n) _ minimum_of _
     (subst (λ rs. NeverDescend (map (as_zone_record (λ n. n) (λ d. d.rtype) minimum_of) rs)) (sym c.records.ensures)
     (subst NeverDescend (sym (ap (λ p. p.records) (walked_known c.owners.invariant c.in-Some.ensures.steps)))
@@ -13,5 +13,5 @@ clashing_type-requires c =
 
 pub owners-preserved : goal.owners-preserved
 owners-preserved c =
-    walked_even c.owners.invariant c.in-Some.ensures.steps c.is_unsigned_cut.ensures c.if-excludes-is_unsigned_cut.false
-    (ap (λ rs. has_clash (zone_of_raw rs)) (sym c.records.ensures) ∙ c.in_default-clashing_type.ensures.none)
+    walked_even c.owners.invariant c.in-Some.ensures.steps
+    (ap (λ rs. has_clash (zone_of_raw rs)) (sym c.records.ensures) ∙ c.in_default-uneven_type.ensures.none)

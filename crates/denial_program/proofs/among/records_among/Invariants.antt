@@ -1,8 +1,8 @@
 use Rattle.std.proofs.Common.{drop, map}
-use Rattle.denial_program.proofs.AmongLemmas.{Goes}
+use Rattle.denial_program.{specs.Check.IsOf, proofs.AmongLemmas.Goes}
 use Rattle.denial_program.proofs.among.records_among.Given as goal
 
 abbrev pub invariant-loop-record : goal.invariant-loop-record
 invariant-loop-record g l =
     let k = g.K.ReadAs in
-    Goes (k.Is l.apex) l.records (drop l.record-index l.records) (map k.said l.kept.items)
+    Goes (IsOf (k.counts l.apex) k.raw k.IsFit) l.records (drop l.record-index l.records) (map k.said l.kept.items)

@@ -1,45 +1,58 @@
-use Rattle.std.proofs.{Common.{refl, arith}, lemmas.{Grind.common_steps, Result.err_from_is_err_and}}
-use Rattle.domain_zone.{specs.{Soa.chain_ttl, View.zone_of}, proofs.{GroupLemmas.owners_in_order, SoaLemmas.soa_owned}}
-use Rattle.domain_nsec3.{specs.{Faults.IsReady, Steps.common_of, View.config_of}, proofs.{FaultLemmas.apart_hashes, OutcomeLemmas.AreGathered}}
-use Rattle.domain_nsec3.proofs.OutcomeLemmas.{original_ascend, original_below, outcome_chain, outcome_hashed, outcome_fault, outcome_usable}
-use Rattle.domain_nsec3.proofs.{OwnerLemmas.apex_original, StateLemmas.ZoneToSign, chain.chain_of_zone.{Given.Over, Goals.{In_ok-owners, In_ok-names}}}
+use Rattle.std.proofs.{Common.{List, refl, ◌∙◌, arith}, lemmas.{Grind.common_steps, Result.err_from_is_err_and}}
+use Rattle.domain_zone.specs.{Listed.AreListed, Soa.chain_ttl, View.zone_of, Zone.ZoneRecord}
+use Rattle.domain_zone.proofs.{GroupLemmas.owners_in_order, SoaLemmas.soa_owned}
+use Rattle.domain_nsec3.specs.{Config.ChainConfig, Faults.IsReady, Owners.original_owners, Steps.common_of, View.config_of}
+use Rattle.domain_nsec3.proofs.{FaultLemmas.apart_hashes, OwnerLemmas.apex_original, StateLemmas.{bits, listing_fault, originals_typed}}
+use Rattle.domain_nsec3.proofs.OutcomeLemmas.{AreGathered, original_ascend, original_below, outcome_chain, outcome_hashed, outcome_fault, outcome_usable}
+use Rattle.domain_nsec3.proofs.chain.chain_of_zone.{Given.Over, Goals.{In_ok-owners, In_ok-names}}
 use Rattle.domain_nsec3.proofs.chain.chain_of_zone.Goals as goal
 
--- the zone to sign
-abbrev zone_in : (g : Over) → In_ok-owners g → ZoneToSign
-zone_in g c = record {
-  records = zone_of g.N.ToName.labels g.D.RecordData.rtype g.D.ZoneData.minimum c.args.records;
-  apex = g.N.ToName.labels c.args.apex.now;
-  config = config_of (g.H.Nsec3Hasher.answer c.args.hasher.now) c.args.config.now;
-}
+-- the zone to sign, and how
+abbrev zone : (g : Over) → In_ok-owners g → List ZoneRecord
+zone g c = zone_of g.N.ToName.labels g.D.RecordData.rtype g.D.ZoneData.minimum c.args.records
+
+abbrev how : (g : Over) → In_ok-owners g → ChainConfig
+how g c = config_of (g.H.Nsec3Hasher.answer c.args.hasher.now) c.args.config.now
+
+-- what is listed are its original owners
+listed : (g : Over) (c : In_ok-owners g) → AreListed (bits (zone g c) (g.N.ToName.labels c.args.apex.now) (how g c)) (zone g c)
+    (g.N.ToName.labels c.args.apex.now) (original_owners (zone g c) (g.N.ToName.labels c.args.apex.now) (how g c)) c.in_ok-owners.owners
+listed g c = rw c.opt_out_flag.ensures at c.in_ok-owners.ensures.owners
 
 -- none of the faults stands that come before those of hashing
-ready : (g : Over) (c : In_ok-owners g) → IsReady (zone_in g c).records (zone_in g c).apex (zone_in g c).config
-ready g c = grind (arith, common_steps)
+ready : (g : Over) (c : In_ok-owners g) → IsReady (zone g c) (g.N.ToName.labels c.args.apex.now) (how g c)
+ready g c = record { soa = λ e. cc c.requires.soa; ttls = (listed g c).even }
 
 pub returns-in_err-owners-clause-fault : goal.returns-in_err-owners-clause-fault
 returns-in_err-owners-clause-fault g c =
     let p = err_from_is_err_and c.from_residual.result c.from_residual.ensures.1 in
-    rw (p.1, p.2) (c.in_err-owners.ensures.fault (λ n. cc c.requires.soa) (g.H.Nsec3Hasher.answer c.args.hasher.now))
+    let L = zone_of g.N.ToName.labels g.D.RecordData.rtype g.D.ZoneData.minimum c.args.records in
+    let config = config_of (g.H.Nsec3Hasher.answer c.args.hasher.now) c.args.config.now in
+    rw (p.1, p.2) (listing_fault L (g.N.ToName.labels c.args.apex.now) config _ (λ e. cc c.requires.soa) (rw c.opt_out_flag.ensures at
+    c.in_err-owners.ensures.fault))
 
 -- the owners of the zone, in order, and then their empty non-terminals
 gathered : (g : Over) (c : In_ok-names g) → AreGathered
     (zone_of g.N.ToName.labels g.D.RecordData.rtype g.D.ZoneData.minimum c.args.records) (g.N.ToName.labels c.args.apex.now)
     (config_of (g.H.Nsec3Hasher.answer c.args.hasher.now) c.args.config.now) c.in_ok-owners.owners c.in_ok-names.names.items
-gathered g c = record {
-  order = owners_in_order g.N.ToName.labels g.D.RecordData.rtype g.D.ZoneData.minimum c.args.records c.requires.in_order;
-  owned = c.in_ok-owners.ensures.owners (g.H.Nsec3Hasher.answer c.args.hasher.now);
-  joined = rw c.as_parsed-apex.ensures at c.in_ok-names.ensures;
-}
+gathered g c =
+    let at = (goal.at.In_ok-names g c).In_ok-owners in
+    let owners = listed g at in
+    record {
+      order = owners_in_order g.N.ToName.labels g.D.RecordData.rtype g.D.ZoneData.minimum c.args.records c.requires.in_order;
+      named = owners.named;
+      typed = owners.typed ∙ originals_typed (zone g at) (g.N.ToName.labels c.args.apex.now) (how g at);
+      joined = rw c.as_parsed-apex.ensures at c.in_ok-names.ensures;
+    }
 
 pub with_empty-requires : goal.with_empty-requires
 with_empty-requires g c =
-    let zone = zone_in g (goal.at.with_empty-requires g c).In_ok-owners in
-    rw (c.as_parsed-apex.ensures, (c.in_ok-owners.ensures.owners (g.H.Nsec3Hasher.answer c.args.hasher.now)).names) (record {
-      ascend = original_ascend zone.records zone.apex zone.config
+    let at = (goal.at.with_empty-requires g c).In_ok-owners in
+    rw (c.as_parsed-apex.ensures, (listed g at).named) (record {
+      ascend = original_ascend (zone g at) _ (how g at)
           (owners_in_order g.N.ToName.labels g.D.RecordData.rtype g.D.ZoneData.minimum c.args.records c.requires.in_order);
-      in_zone = original_below zone.records zone.apex zone.config;
-      begins = apex_original zone.records zone.apex zone.config (soa_owned zone.records zone.apex c.args.soa.now c.requires.soa);
+      in_zone = original_below (zone g at) _ (how g at);
+      begins = apex_original (zone g at) _ (how g at) (soa_owned (zone g at) _ c.args.soa.now c.requires.soa);
     })
 
 pub returns-in_err-names-clause-fault : goal.returns-in_err-names-clause-fault

@@ -1,6 +1,0 @@
-use Rattle.std.proofs.Common.{◌≡◌, ◌++◌, drop}
-use Rattle.domain_nsec3.proofs.ListLemmas.{gathered}
-use Rattle.domain_nsec3.proofs.empty.empty_nonterminals.Given as goal
-
-abbrev pub invariant-loop-owner : goal.invariant-loop-owner
-invariant-loop-owner l = l.names.items ++ gathered l.previous (drop l.owner-index l.owners) ≡ gathered l.fn.apex l.owners

@@ -1,0 +1,27 @@
+use Rattle.std.proofs.{Common.{arith, sym, ap, map, subst, ◌∙◌}, lemmas.Grind.common_steps}
+use Rattle.domain_zone.{specs.{View.{as_zone_record, zone_of}, Zone.has_clash}, proofs.{GivenLemmas.{raw_types, types_at}, TtlLemmas.clash_told}}
+use Rattle.domain_zone.proofs.TtlLemmas.{NeverDescend}
+use Rattle.domain_zone.proofs.ListedLemmas.{at_start, next_known, next_listed, next_uneven}
+use Rattle.domain_zone.proofs.listed.list_owners.Goals as goal
+
+pub owners-init : goal.owners-init
+owners-init g c = at_start _ _ _ _ c.new-left.ensures c.new-owners.ensures.names c.new-owners.ensures.types
+
+pub uneven_type-requires : goal.uneven_type-requires
+uneven_type-requires g c =
+    let labels = g.N.ToName.labels in
+    let known = next_known c.owners.invariant c.in-Some.ensures.steps in
+    raw_types labels _ g.D.ZoneData.minimum _
+    (subst (λ rs. NeverDescend (map (as_zone_record labels g.D.RecordData.rtype g.D.ZoneData.minimum) rs)) (sym c.records.ensures)
+    (subst NeverDescend (sym (ap (λ p. p.records) known)) (types_at labels _ _ _ _ c.requires)))
+
+pub returns-then-is_some-clause-fault : goal.returns-then-is_some-clause-fault
+returns-then-is_some-clause-fault g c =
+    next_uneven c.owners.invariant c.in-Some.ensures.steps
+    (ap (λ rs. has_clash (zone_of g.N.ToName.labels g.D.RecordData.rtype g.D.ZoneData.minimum rs)) (sym c.records.ensures)
+    ∙ clash_told _ c.uneven_type.result (sym c.is_some.ensures ∙ c.if-is_some.true) c.uneven_type.ensures.some)
+
+pub owners-preserved : goal.owners-preserved
+owners-preserved g c =
+    next_listed c.owners.invariant c.in-Some.ensures.steps (grind (arith, common_steps)) c.add.ensures.room
+    (grind (arith, common_steps)) (grind (arith, common_steps))
