@@ -3,7 +3,7 @@ use Rattle.std.proofs.{lemmas.Grind.common_steps, Common.{◌≡◌, ◌≢◌, 
 use Rattle.std.proofs.{Common.{arith, inl, inr}, lemmas.{Fmt.decimal_is_IsNumeral, List.{append_assoc, append-nil, nil_from_length, length-append}}}
 use Rattle.std.{proofs.lemmas.{List.Elements.recursion_from_All, Bool.{cases_Bool, Decides.nat_tests}}, specs.Prelude.{◌^◌, Option, unwrap_or}}
 use Rattle.std.specs.{List.AllByRecursion, Fmt.decimal, Char.is_ascii_graphic}
-use Rattle.domain_octets.{specs.Line.{HasNoSpace, IsWord}, proofs.WordLemmas.{no_space-append, decimal_word}}
+use Rattle.domain_octets.{specs.Line.{HasNoBlank, IsWord}, proofs.WordLemmas.{no_blank-append, decimal_word}}
 use Rattle.domain_base.specs.Named.{Named, number_named, name_of, NumberText, by_name, by_number}
 use Rattle.domain_base.specs.{Numbers.{type_names, TypeText, type_text, class_names, ClassText, class_text}, Scan.IsNumber}
 use Rattle.domain_names.specs.{Name.{IsLabel, IsName}, Text.{symbol_at, is_special, octet_text, label_text, dotted_text, name_text, LabelText, ends, octet}}
@@ -94,19 +94,19 @@ name_back (label ∷ labels) some valid =
 
 -- ---- words
 
-octet_plain : (c : ℕ) → c < 256 → HasNoSpace (octet_text c)
+octet_plain : (c : ℕ) → c < 256 → HasNoBlank (octet_text c)
 unfolding octet_text
 octet_plain c small = grind (arith, common_steps)
 
-label_plain : (label : List ℕ) → AllByRecursion (λ c. c < 256) label → HasNoSpace (label_text label)
+label_plain : (label : List ℕ) → AllByRecursion (λ c. c < 256) label → HasNoBlank (label_text label)
 label_plain [] small = tt
-label_plain (c ∷ label) small = no_space-append (octet_text c) (label_text label) (octet_plain c small.0) (label_plain label small.1)
+label_plain (c ∷ label) small = no_blank-append (octet_text c) (label_text label) (octet_plain c small.0) (label_plain label small.1)
 
-dotted_plain : (labels : List (List ℕ)) → AllByRecursion IsLabel labels → HasNoSpace (dotted_text labels)
+dotted_plain : (labels : List (List ℕ)) → AllByRecursion IsLabel labels → HasNoBlank (dotted_text labels)
 dotted_plain [] valid = tt
 dotted_plain (label ∷ labels) valid = grind (arith, common_steps, label_plain, label_octets, (dotted_plain labels valid.1))
 
-name_plain : (name : List (List ℕ)) → AllByRecursion IsLabel name → HasNoSpace (name_text name)
+name_plain : (name : List (List ℕ)) → AllByRecursion IsLabel name → HasNoBlank (name_text name)
 name_plain [] valid = tt
 name_plain (label ∷ labels) valid = grind (arith, common_steps, label_plain, label_octets, dotted_plain)
 
@@ -125,7 +125,7 @@ number_word_by : (table : List Named) (prefix : List ℕ) (n : ℕ) → AreWords
     → (o : Option (List ℕ)) → name_of table n ≡ o → IsWord (unwrap_or o (prefix ++ decimal n))
 number_word_by table prefix n words word fits None is = record {
   some = λ none. word.some (nil_from_length prefix (omega (arith, length-append prefix (decimal n), ap length none)));
-  unbroken = no_space-append prefix (decimal n) word.unbroken (decimal_word n (omega (arith, fits))).unbroken;
+  unbroken = no_blank-append prefix (decimal n) word.unbroken (decimal_word n (omega (arith, fits))).unbroken;
 }
 number_word_by table prefix n words word fits (Some name) is = named_word table n name words is
 

@@ -4,7 +4,7 @@ use Rattle.std.proofs.{Common.{append_assoc, length}, lemmas.{Bool.Decides.nat_t
 use Rattle.std.specs.{Prelude.{◌==◌, ◌&&◌, filter}, List.{AllByRecursion, All, range_with_len, flat_map}}
 use Rattle.hex.specs.Hex.{encode_upper, encode_with}
 use Rattle.domain_octets.{specs.Line.{words_of, words_after, IsWord}, proofs.{WordLemmas.{one_word, next_word, last_space}, StdLemmas.and_true}}
-use Rattle.domain_codecs.proofs.{CodecBackLemmas.upper_back, NoSpaceLemmas.upper_hex_word}
+use Rattle.domain_codecs.proofs.{CodecBackLemmas.upper_back, NoBlankLemmas.upper_hex_word}
 use Rattle.domain_base.{specs.Numbers.type_text, proofs.{NamedLemmas.one_named, ReadBackLemmas.{type_back, type_word}}}
 use Rattle.domain_bitmap.specs.{Bits.has_bit, Bitmap.bitmap_octets}
 use Rattle.domain_bitmap.specs.Blocks.{Block, IsBlock, IsBitmap, IsShortest, blocks_of, block_types_from, types_of, types_below, contains_type}

@@ -1,7 +1,7 @@
 -- what NSEC and NSEC3 data and the parameters of hashes are written as is read back
 use Rattle.std.proofs.{lemmas.Grind.common_steps, Common.{◌≡◌, ◌≢◌, ℕ, List, [], ◌∷◌, ◌++◌, map, refl, sym, ap, subst, ◌∙◌, arith, append_assoc}}
 use Rattle.std.specs.Fmt.{decimal}
-use Rattle.domain_codecs.{specs.Base32.base32_upper, proofs.{ReadBackLemmas.upper_reads_back, NoSpaceLemmas.upper_base32_word}}
+use Rattle.domain_codecs.{specs.Base32.base32_upper, proofs.{ReadBackLemmas.upper_reads_back, NoBlankLemmas.upper_base32_word}}
 use Rattle.domain_octets.{specs.Line.words_of, proofs.WordLemmas.{one_word, next_word, decimal_word}}
 use Rattle.domain_names.specs.{Name.IsName, Text.name_text}
 use Rattle.domain_base.{specs.Numbers.type_text, proofs.ReadBackLemmas.{dotted_name_back, name_word}}

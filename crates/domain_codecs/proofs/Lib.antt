@@ -10,4 +10,4 @@ pub mod RoomLemmas
 pub mod Base64Lemmas
 pub mod Base16Lemmas
 pub mod JoinedLemmas
-pub mod NoSpaceLemmas
+pub mod NoBlankLemmas

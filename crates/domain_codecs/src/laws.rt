@@ -53,7 +53,7 @@ pub fn texts_stand_for_octets_once()
 {}
 
 /// A decimal number is one word, and so is what some octets are written as in a codec.
-#[tactic(auto, using(domain_octets::proofs::WordLemmas::decimal_word, crate::proofs::NoSpaceLemmas::lower_hex_word, crate::proofs::NoSpaceLemmas::upper_hex_word, crate::proofs::NoSpaceLemmas::lower_base32_word, crate::proofs::NoSpaceLemmas::upper_base32_word, crate::proofs::NoSpaceLemmas::base64_word))]
+#[tactic(auto, using(domain_octets::proofs::WordLemmas::decimal_word, crate::proofs::NoBlankLemmas::lower_hex_word, crate::proofs::NoBlankLemmas::upper_hex_word, crate::proofs::NoBlankLemmas::lower_base32_word, crate::proofs::NoBlankLemmas::upper_base32_word, crate::proofs::NoBlankLemmas::base64_word))]
 pub fn texts_are_words()
     ensures decimal { (n : ℕ) → n < 2 ^ 64 → IsWord (decimal n) }
     ensures base16_lower { (octets : Octets) → octets ≢ [] → IsWord (encode_lower octets) }

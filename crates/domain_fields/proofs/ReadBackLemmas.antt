@@ -2,7 +2,7 @@
 use Rattle.std.proofs.{lemmas.{Grind.common_steps, List.append-nil}, Common.{◌≡◌, ℕ, true, List, [], ◌∷◌, ◌++◌, refl, sym, subst, arith, append_assoc}}
 use Rattle.std.{proofs.{Common.{ap, ◌∙◌}, lemmas.Bool.and_parts}, specs.List.{AllByRecursion, join_with_byte}}
 use Rattle.domain_codecs.specs.{Codec.Decodes, declared.codec.Codec.Codec}
-use Rattle.domain_octets.{specs.Line.{IsWord, HasNoSpace, word_if_any, words_of}, proofs.WordLemmas.{decimal_word, one_word, first_word, joined_words}}
+use Rattle.domain_octets.{specs.Line.{IsWord, HasNoBlank, word_if_any, words_of}, proofs.WordLemmas.{decimal_word, one_word, first_word, joined_words}}
 use Rattle.domain_base.{proofs.ReadBackLemmas.{number_back, dotted_name_back, name_word}, specs.Scan.Grammar}
 use Rattle.domain_fields.specs.{Entry.Spells, Field.{Field, octet, short, long, rest, Value, FieldFits}, Layout.{Layout, one, ◌▸◌, Values, Fits}}
 use Rattle.domain_fields.specs.{Printed.{is_printed_field, is_printed, printed_field, printed}, Scan.{FieldText, Scans}}
@@ -52,7 +52,7 @@ pub fields_line : (l : Layout) (v : Values l) → is_printed l ≡ true → Fits
 fields_line l v is fits = fields_alone l v _ (joined_words (printed l v) (fields_words l v is fits)) is fits
 
 -- words, and then a text in one word or none
-pub words_and_text : (words : List (List ℕ)) (text : List ℕ) → AllByRecursion IsWord words → HasNoSpace text
+pub words_and_text : (words : List (List ℕ)) (text : List ℕ) → AllByRecursion IsWord words → HasNoBlank text
     → words_of (join_with_byte 32 (words ++ text ∷ [])) ≡ words ++ word_if_any text
 words_and_text [] [] all plain = joined_words [] tt
 words_and_text [] (c ∷ text) all plain = one_word (c ∷ text) (record { some = λ none. cc; unbroken = plain })
@@ -60,12 +60,12 @@ words_and_text (word ∷ []) text all plain = first_word word text all.0 ∙ ap 
 words_and_text (word ∷ next ∷ words) text all plain = first_word word _ all.0 ∙ ap (λ l. word ∷ l) (words_and_text (next ∷ words) text all.1 plain)
 
 pub entry_line : {V : Type 0} (G : Grammar V) (codec : Codec) (words : List (List ℕ)) (v : V) (text octets : List ℕ) → AllByRecursion IsWord words
-    → HasNoSpace text → G (words ++ word_if_any text) v (word_if_any text) → Decodes codec text octets
+    → HasNoBlank text → G (words ++ word_if_any text) v (word_if_any text) → Decodes codec text octets
     → Spells G codec (words_of (join_with_byte 32 (words ++ text ∷ []))) v octets
 entry_line G codec words v text octets all plain fields decoded =
     subst (λ tokens. Spells G codec tokens v octets) (sym (words_and_text words text all plain)) (entry_back G codec _ v text octets fields decoded)
 
-pub fields_entry_line : (l : Layout) (codec : Codec) (v : Values l) (text octets : List ℕ) → is_printed l ≡ true → Fits l v → HasNoSpace text
+pub fields_entry_line : (l : Layout) (codec : Codec) (v : Values l) (text octets : List ℕ) → is_printed l ≡ true → Fits l v → HasNoBlank text
     → Decodes codec text octets → Spells (Scans l) codec (words_of (join_with_byte 32 (printed l v ++ text ∷ []))) v octets
 fields_entry_line l codec v text octets is fits plain decoded =
     entry_line (Scans l) codec (printed l v) v text octets (fields_words l v is fits) plain (fields_back l v (word_if_any text) is fits) decoded

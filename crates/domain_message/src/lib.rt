@@ -8,7 +8,6 @@ mod line;
 mod name;
 mod parts;
 mod record;
-mod words;
 
 pub use error::MessageError;
 pub use line::{LineError, OwnedRecord, scan_entry, scan_record};

@@ -1,14 +1,13 @@
 //! Records in lines of a zone's text.
-ghost use Rattle.std.specs.Prelude.{◌↔◌, IsTrue, map, IfOk, IfErr, None, Some};
+ghost use Rattle.std.specs.Prelude.{◌↔◌, IsTrue, IfOk, IfErr, None, Some};
 ghost use Rattle.domain_message.specs.ErrorText.{line_error_text};
 ghost use Rattle.domain_octets.specs.Line.{words_of};
 ghost use Rattle.domain_message.specs.Entry.{HeadTaken, RefusesHead, EntryText, RefusesEntry, IsNoEntry, LineText, RefusesLine};
 
-use crate::words::words_of;
 use domain_base::{
     Class, FromToken, IterScanner, MakeName, Name, Rtype, ScanError, Scanner, ToName, Ttl,
 };
-use domain_octets::{EmptyBuilder, FreezeBuilder, FromBuilder, Octets, Truncate};
+use domain_octets::{EmptyBuilder, FreezeBuilder, FromBuilder, Octets, Truncate, words_of};
 use domain_rdata::ZoneRecordData;
 use domain_record::Record;
 use std::alloc::Global;
@@ -129,20 +128,23 @@ where
     Ok(Record::new(head.owner, head.class, head.ttl, data))
 }
 
-/// Whether a line with these words is blank, or a comment.
-fn is_no_entry(words: &[&str]) -> bool
-    ensures { IsTrue result ↔ IsNoEntry (map (λ w. w.now) words.now) }
+/// Whether a line is blank, or a comment: whether its first octet that is no space and no tab is a
+/// semicolon (RFC 1035, section 5.1).
+pub fn is_no_entry(line: &[u8]) -> bool
+    ensures { IsTrue result ↔ IsNoEntry (words_of line.now) }
 {
-    match words {
-        [] => true,
-        [first, ..] => matches!(first.as_bytes(), [b';', ..]),
+    for octet in line {
+        if *octet != b' ' && *octet != b'\t' {
+            return *octet == b';';
+        }
     }
+    true
 }
 
 /// The record that a line of a zone's text spells, in the form that this library prints (RFC 1035,
-/// section 5.1): owner, TTL, class, type and data, and one or more spaces between them. Names are
-/// absolute, with or without a last dot; a tab is no space, and is refused. For other octets, or
-/// tokens from elsewhere, there is `scan_entry`.
+/// section 5.1): owner, TTL, class, type and data, and spaces or tabs between them. Names are
+/// absolute, with or without a last dot. For other octets, or tokens from elsewhere, there is
+/// `scan_entry`.
 ///
 /// # Errors
 ///
@@ -155,12 +157,12 @@ pub fn scan_record(alloc: Global, line: &str) -> Result<OwnedRecord, LineError>
     ensures err { IfErr result (RefusesLine ⟦<Vec<u8> as Octets>⟧.octets
         ⟦<Name<Vec<u8>> as ToName>⟧.labels None line.now) }
 {
+    if is_no_entry(line.as_bytes()) {
+        return Err(LineError::NoEntry);
+    }
     let Ok(words) = words_of(alloc, line) else {
         return Err(LineError::OutOfMemory);
     };
-    if is_no_entry(words.as_slice()) {
-        return Err(LineError::NoEntry);
-    }
     let mut scanner = IterScanner::<Vec<u8>>::new(words.as_slice());
     scan_entry(alloc, &mut scanner)
 }

@@ -1,6 +1,14 @@
 -- the words of a text, as a reader of zone files takes them as tokens (RFC 1035, section 5.1)
-use Rattle.std.specs.{Prelude.{◌≡◌, ◌≢◌, ◌==◌, false, List, [], ◌∷◌, ◌++◌, if◌then◌else◌}, List.AllByRecursion}
-use Rattle.domain_octets.specs.{Words.Octets, Characters.space}
+use Rattle.std.specs.{Prelude.{◌≡◌, ◌≢◌, ℕ, ◌==◌, ◌||◌, Bool, not, false, List, [], ◌∷◌, ◌++◌, if◌then◌else◌}, List.AllByRecursion}
+use Rattle.domain_octets.specs.{Words.Octets, Characters.{space, tab}}
+
+-- spaces and tabs separate words
+abbrev pub is_blank : ℕ → Bool
+is_blank c = (c == space) || (c == tab)
+
+-- all others stand in words
+abbrev pub is_of_word : ℕ → Bool
+is_of_word c = not (is_blank c)
 
 -- a word, where any of its characters has come
 abbrev pub word_if_any : Octets → List Octets
@@ -11,18 +19,18 @@ word_if_any (c ∷ word) = (c ∷ word) ∷ []
 unfoldable pub words_after : Octets → Octets → List Octets
 words_after word [] = word_if_any word
 words_after word (c ∷ text) =
-    if c == space then word_if_any word ++ words_after [] text
+    if is_blank c then word_if_any word ++ words_after [] text
     else words_after (word ++ c ∷ []) text
 
--- what stands between the spaces of a text, where that is not empty
+-- what stands between the blanks of a text, where that is not empty
 abbrev pub words_of : Octets → List Octets
 words_of text = words_after [] text
 
--- the text has no spaces
-abbrev pub HasNoSpace : Octets → Type 0
-HasNoSpace text = AllByRecursion (λ c. (c == space) ≡ false) text
+-- the text has no blanks
+abbrev pub HasNoBlank : Octets → Type 0
+HasNoBlank text = AllByRecursion (λ c. is_blank c ≡ false) text
 
 -- the text is one word
 pub record IsWord (text : Octets) : Type 0 where
   pub some : text ≢ []
-  pub unbroken : HasNoSpace text
+  pub unbroken : HasNoBlank text

@@ -7,7 +7,7 @@
 //! - [`Parser`] reads from the front, numbers with the octet that weighs most first (RFC 1035,
 //!   section 2.3.2), and stands where it stood after a refusal.
 //! - An [`OctetSet`] is a set of octets, and [`prefix_len`] how many octets of it some octets begin
-//!   with, found eight at a time.
+//!   with, found eight at a time. [`words_of`] are the words of a line.
 //! - [`Formatter`] takes the pieces of a zone file's text, and [`ZonefileFmt`] is a value that has
 //!   some.
 //!
@@ -25,6 +25,7 @@ mod octet_set;
 mod octets;
 mod parser;
 mod small;
+mod words;
 mod zonefile;
 
 pub use array::ArrayBuilder;
@@ -38,4 +39,5 @@ pub use octet_set::{OctetSet, prefix_len};
 pub use octets::{Octets, TryClone};
 pub use parser::Parser;
 pub use small::{SmallBuilder, SmallOctets};
+pub use words::{LineWords, words_of};
 pub use zonefile::{DisplayKind, ZonefileFmt};

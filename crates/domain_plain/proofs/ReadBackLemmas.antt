@@ -3,7 +3,7 @@ use Rattle.std.proofs.{lemmas.Grind.common_steps, Common.{◌≡◌, ◌≢◌, 
 use Rattle.std.{proofs.lemmas.{Bool.Decides.nat_tests, List.append-nil}, specs.{Prelude.◌==◌, Fmt.decimal, List.AllByRecursion, Net.Text.ipv4_text}}
 use Rattle.std.specs.Net.Text.{dotted_text}
 use Rattle.hex.specs.Hex.{encode_upper, encode_with}
-use Rattle.domain_codecs.{specs.{Codec.Decodes, declared.codec.Codec.TheVariants.Base16}, proofs.{CodecBackLemmas.upper_back, NoSpaceLemmas.upper_hex_word}}
+use Rattle.domain_codecs.{specs.{Codec.Decodes, declared.codec.Codec.TheVariants.Base16}, proofs.{CodecBackLemmas.upper_back, NoBlankLemmas.upper_hex_word}}
 use Rattle.domain_octets.{specs.{Line.{words_of, IsWord}, Words.AreOctets}, proofs.WordLemmas.{one_word, decimal_word, joined_words}}
 use Rattle.domain_base.proofs.ReadBackLemmas.{number_back}
 use Rattle.domain_fields.{specs.Scan.Scans, proofs.ReadBackLemmas.entry_line}

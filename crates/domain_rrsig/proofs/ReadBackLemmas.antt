@@ -2,7 +2,7 @@
 use Rattle.std.proofs.{lemmas.{Grind.common_steps, Fmt.{decimal_is_IsNumeral, length-decimal-le}}, Common.{ℕ, ◌<◌, ◌≤◌, List, ◌∷◌, ◌++◌, length, refl, arith}}
 use Rattle.std.specs.{Prelude.◌^◌, Fmt.decimal, Str.Parse.without_leading_plus, List.AllByRecursion}
 use Rattle.base64.specs.{GeneralPurpose.encode_of, Engines.standard}
-use Rattle.domain_codecs.{specs.declared.codec.Codec.TheVariants.Base64, proofs.{CodecBackLemmas.base64_back, NoSpaceLemmas.base64_plain}}
+use Rattle.domain_codecs.{specs.declared.codec.Codec.TheVariants.Base64, proofs.{CodecBackLemmas.base64_back, NoBlankLemmas.base64_plain}}
 use Rattle.domain_octets.{specs.Line.{words_of, IsWord}, proofs.WordLemmas.decimal_word}
 use Rattle.domain_base.{specs.{Numbers.type_text, Scan.IsNumber}, proofs.ReadBackLemmas.{type_back, type_word, name_word}}
 use Rattle.domain_fields.{specs.Layout.Fits, proofs.ReadBackLemmas.{fields_back, entry_line}}

@@ -1,6 +1,6 @@
 use Rattle.std.proofs.Common.{length}
-use Rattle.domain_message.proofs.WordLemmas.{HasWords}
-use Rattle.domain_message.proofs.words.words_of.Given as goal
+use Rattle.domain_octets.proofs.WordLemmas.{HasWords}
+use Rattle.domain_octets.proofs.words.words_of.Given as goal
 
 abbrev pub invariant-words : goal.invariant-words
 invariant-words l = HasWords l.line l.rest l.words.items

@@ -1,20 +1,20 @@
--- what octets are written as has no spaces, and is one word where there are any octets
+-- what octets are written as has no blanks, and is one word where there are any octets
 use Rattle.std.proofs.{Common.{◌≡◌, ◌≢◌, ℕ, ◌+◌, ◌*◌, ◌/◌, ◌%◌, true, false, List, [], ◌∷◌, ◌++◌, map, get_or, refl, arith, rules}, lemmas.Grind.common_steps}
 use Rattle.std.specs.{Prelude.{◌==◌, replicate, not, zero, suc}, List.list_all}
 use Rattle.hex.specs.Hex.{encode_with, encode_lower, encode_upper, lower_digits, upper_digits}
 use Rattle.base64.specs.{GeneralPurpose.encode_of, Engines.standard, Rfc4648.encode_symbols}
 use Rattle.domain_codecs.specs.Base32.{base32_from, base32_upper, base32_lower}
-use Rattle.domain_octets.{specs.Line.{HasNoSpace, IsWord}, proofs.WordLemmas.no_space-append}
+use Rattle.domain_octets.{specs.Line.{HasNoBlank, IsWord, is_blank}, proofs.WordLemmas.no_blank-append}
 
--- no entry of a table is a space
-abbrev NoSpaceIn : List ℕ → Type 0
-NoSpaceIn table = (i : ℕ) → (get_or table i 0 == 32) ≡ false
+-- no entry of a table is a blank
+abbrev NoBlankIn : List ℕ → Type 0
+NoBlankIn table = (i : ℕ) → is_blank (get_or table i 0) ≡ false
 
 -- which a test finds
-table_plain : (table : List ℕ) → list_all (λ c. not (c == 32)) table ≡ true → NoSpaceIn table
+table_plain : (table : List ℕ) → list_all (λ c. not (is_blank c)) table ≡ true → NoBlankIn table
 table_plain table all i = grind (arith, common_steps)
 
-hex_plain : (table octets : List ℕ) → NoSpaceIn table → HasNoSpace (encode_with table octets)
+hex_plain : (table octets : List ℕ) → NoBlankIn table → HasNoBlank (encode_with table octets)
 unfolding encode_with
 hex_plain table [] plain = tt
 hex_plain table (octet ∷ octets) plain = (plain (octet / 16), (plain (octet % 16), hex_plain table octets plain))
@@ -30,7 +30,7 @@ upper_hex_word octets some = record { some = hex_some upper_digits octets some; 
 pub lower_hex_word : (octets : List ℕ) → octets ≢ [] → IsWord (encode_lower octets)
 lower_hex_word octets some = record { some = hex_some lower_digits octets some; unbroken = hex_plain lower_digits octets (table_plain lower_digits refl) }
 
-map_plain : (written : ℕ → ℕ) → ((n : ℕ) → (written n == 32) ≡ false) → (digits : List ℕ) → HasNoSpace (map written digits)
+map_plain : (written : ℕ → ℕ) → ((n : ℕ) → is_blank (written n) ≡ false) → (digits : List ℕ) → HasNoBlank (map written digits)
 map_plain written plain [] = tt
 map_plain written plain (digit ∷ digits) = (plain digit, map_plain written plain digits)
 
@@ -49,7 +49,7 @@ upper_base32_word octets some = grind (arith, common_steps, map_some, base32_som
 pub lower_base32_word : (octets : List ℕ) → octets ≢ [] → IsWord (base32_lower octets)
 lower_base32_word octets some = grind (arith, common_steps, map_some, base32_some, map_plain)
 
-symbols_plain : (table octets : List ℕ) → NoSpaceIn table → HasNoSpace (encode_symbols table octets)
+symbols_plain : (table octets : List ℕ) → NoBlankIn table → HasNoBlank (encode_symbols table octets)
 unfolding encode_symbols
 symbols_plain table [] plain = tt
 symbols_plain table (a ∷ []) plain = (plain (a / 4), (plain (a % 4 * 16), tt))
@@ -63,15 +63,15 @@ symbols_some table (a ∷ []) rest some = λ none. cc
 symbols_some table (a ∷ b ∷ []) rest some = λ none. cc
 symbols_some table (a ∷ b ∷ c ∷ octets) rest some = λ none. cc
 
-padding_plain : (n : ℕ) → HasNoSpace (replicate n 61)
+padding_plain : (n : ℕ) → HasNoBlank (replicate n 61)
 padding_plain zero = tt
 padding_plain (suc n) = (refl, padding_plain n)
 
 pub base64_word : (octets : List ℕ) → octets ≢ [] → IsWord (encode_of standard octets)
-base64_word octets some = search (rules, symbols_some, no_space-append, symbols_plain, table_plain, padding_plain)
+base64_word octets some = search (rules, symbols_some, no_blank-append, symbols_plain, table_plain, padding_plain)
 
-pub base64_plain : (octets : List ℕ) → HasNoSpace (encode_of standard octets)
-base64_plain octets = search (rules, no_space-append, symbols_plain, table_plain, padding_plain)
+pub base64_plain : (octets : List ℕ) → HasNoBlank (encode_of standard octets)
+base64_plain octets = search (rules, no_blank-append, symbols_plain, table_plain, padding_plain)
 
-pub lower_hex_plain : (octets : List ℕ) → HasNoSpace (encode_lower octets)
+pub lower_hex_plain : (octets : List ℕ) → HasNoBlank (encode_lower octets)
 lower_hex_plain octets = hex_plain lower_digits octets (table_plain lower_digits refl)
