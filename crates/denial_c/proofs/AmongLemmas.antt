@@ -129,9 +129,3 @@ module _ {class : ℕ} {octets left : List ℕ} {given before : List RawRecord} 
 
   pub before_of_class : AllByRecursion (IsOfClass class) before
   before_of_class = (all_front (IsOfClass class) before rest_given.rest (subst (AllByRecursion (IsOfClass class)) rest_given.all_are g.whole)).0
-
--- records of the class are of one class
-pub one_class_of : (class : ℕ) (given : List RawRecord) → AllByRecursion (IsOfClass class) given → IsOneClass given
-one_class_of class given h =
-    all_pairs (λ (r s : RawRecord). r.class ≡ s.class) (λ r. refl) (λ r s e. sym e) given
-    (λ r s i j. (all_in (IsOfClass class) given r h i).1 ∙ sym (all_in (IsOfClass class) given s h j).1)

@@ -2,15 +2,10 @@
 use Rattle.std.proofs.{Common.{arith, ◌≡◌, ℕ, ◌<◌, List, length, Option, Result, IfOk, IfErr}, lemmas.Grind.common_steps}
 use Rattle.domain_alike.specs.Alike.{IsFirstPair, Pair}
 use Rattle.domain_names.specs.Words.{Name}
-use Rattle.domain_dnssec.{specs.RawRecords.Sorts, proofs.KeptLemmas.classes_kept}
-use Rattle.domain_borrowed.specs.Data.{data_cmp, minimum_of, RawRecord, zone_of_raw}
+use Rattle.domain_borrowed.specs.Data.{RawRecord, zone_of_raw}
 use Rattle.domain_nsec3.specs.Config.{ChainConfig}
-use Rattle.domain_records.specs.Order.{IsOneClass}
 use Rattle.denial_c.specs.Chains.{AreSorted, IsChainFault, IsChainResult, IsFit, IsSortedFault, IsWritten, Making}
 use Rattle.denial_c.specs.{Collisions.HasFirstPair, Result.Spells, declared.fault.Fault.{Fault, TheVariants.ShortBuffer}}
-
-pub sorted_one_class : (given sorted : List RawRecord) → Sorts given sorted → IsOneClass given → IsOneClass sorted
-sorted_one_class given sorted sorts one = (classes_kept (λ n. n) (λ d. d.rtype) minimum_of data_cmp given sorted sorts).1 one
 
 module _ {apex : List ℕ} {class number : ℕ} {records : List ℕ} {a : Name} {listed sorted : List RawRecord} (spells : Spells apex a)
     (of_class : number ≡ class) (as_listed : listed ≡ sorted) (are : AreSorted number records sorted) where

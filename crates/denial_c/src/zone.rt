@@ -5,10 +5,10 @@ ghost use Rattle.denial_c.specs.{Chains.{AreSorted, IsGivenFault}, Given.AreGive
 
 use crate::among::next_record;
 use crate::fault::Fault;
-use domain_base::{Class, ParsedName};
-use domain_borrowed::{BorrowedData, BorrowedRecord};
+use domain_base::Class;
+use domain_borrowed::BorrowedRecord;
+use domain_dnssec::sort_one_class;
 use domain_octets::{OutOfMemory, Parser};
-use domain_records::SortedRecords;
 use std::alloc::Global;
 
 /// Refuses octets that are not records of the class, one after another. Gives their number, by
@@ -70,11 +70,8 @@ pub(crate) fn sorted_zone<'a>(
 {
     let count = check_records(class, octets)?;
     let records = read_records(alloc, class, octets, count)?;
-    let sorted: SortedRecords<ParsedName<'a>, BorrowedData<'a>> = match SortedRecords::from_vec(
-        records,
-    ) {
-        Ok(sorted) => sorted,
-        Err(_) => return Err(Fault::OutOfMemory),
-    };
-    Ok(sorted.into_inner())
+    match sort_one_class(records) {
+        Ok(sorted) => Ok(sorted.into_inner()),
+        Err(_) => Err(Fault::OutOfMemory),
+    }
 }

@@ -1,5 +1,5 @@
 -- How the program makes chains.
-use Rattle.std.proofs.{Common.{arith, ◌≡◌, ◌⊎◌, List, refl, subst, sym, inl, inr, Result, IfErr, IsErrOf, OnOk}, lemmas.Grind.common_steps}
+use Rattle.std.proofs.{Common.{arith, ◌≡◌, ◌⊎◌, List, refl, subst, sym, inl, inr, Result, IfErr}, lemmas.Grind.common_steps}
 use Rattle.std.specs.Result.{IsErrAnd}
 use Rattle.domain_octets.proofs.StdLemmas.{if_err_of}
 use Rattle.domain_names.specs.Words.{Name}
@@ -7,25 +7,13 @@ use Rattle.domain_nsec.specs.Chain.{Link, usual_config, IsChain, IsFirstFault}
 use Rattle.domain_nsec3.specs.{Chain.{ChainRecords, IsChainParam, IsHashedChain}, View.HasherAnswer, declared.config.Nsec3ParamTtlMode.TheVariants.Soa}
 use Rattle.domain_nsec3.specs.Faults as hashed
 use Rattle.domain_records.specs.{Order.IsOneClass, declared.error.SigningError.{SigningError, TheVariants.OutOfMemory as NoRoom}}
-use Rattle.domain_borrowed.specs.Data.{RawRecord, data_cmp, minimum_of, zone_of_raw}
-use Rattle.domain_dnssec.{specs.AnyOrder.AreMixed, proofs.KeptLemmas.classes_kept}
+use Rattle.domain_borrowed.specs.Data.{RawRecord, zone_of_raw}
+use Rattle.domain_dnssec.specs.AnyOrder.{AreMixed}
 use Rattle.domain_dnssec.specs.declared.chain.ChainError.{ChainError, TheVariants.{MixedClasses, OutOfMemory}}
-use Rattle.denial_program.specs.Answer.{fault_of_zone, usual_nsec3_config, HasNoAnswer, HasNone, HasNoNsecs, HasNoNsec3s, IsAnswer, IsNsecs, IsNsec3s}
-use Rattle.denial_program.specs.{Answer.{IsUnsorted, IsUnwritten, Sorts}, Command.Params, declared.answer.Reply.{Reply, TheVariants.{Nsecs, Nsec3s}}}
-use Rattle.denial_program.specs.declared.{command.Command.Command, fault.DenialFault.{DenialFault, TheVariants.{Write, OutOfMemory as NoMemory}}}
-
--- where writing failed there was an answer
-pub answer_unwritten : {X : Type 0} (answers : HasherAnswer) (command : Command) (given : List RawRecord) (r : Result X DenialFault)
-    → IfErr r (IsUnwritten (IsAnswer answers command given) (HasNoAnswer answers command given)) → IsErrOf r Write
-    → (x : Reply) × IsAnswer answers command given x
-answer_unwritten answers command given r h is = grind (arith, common_steps)
-
-pub on_ok : {X E P Q : Type 0} → (P → Q) → (r : Result X E) → OnOk r P → OnOk r Q
-on_ok f r h = grind (arith, common_steps)
-
--- the sorted set of records of one class is of one class
-pub sorted_one_class : (given sorted : List RawRecord) → Sorts given sorted → IsOneClass given → IsOneClass sorted
-sorted_one_class given sorted sorts one = (classes_kept (λ n. n) (λ d. d.rtype) minimum_of data_cmp given sorted sorts).1 one
+use Rattle.denial_program.specs.Answer.{fault_of_zone, usual_nsec3_config, HasNone, HasNoNsecs, HasNoNsec3s, IsNsecs, IsNsec3s}
+use Rattle.denial_program.specs.{Answer.{IsUnmade, IsUnsorted, Sorts}, Run.IsUnwritten, Command.Params}
+use Rattle.denial_program.specs.declared.answer.Reply.{Reply, TheVariants.{Nsecs, Nsec3s}}
+use Rattle.denial_program.specs.declared.fault.DenialFault.{DenialFault, TheVariants.{Write, OutOfMemory as NoMemory}}
 
 -- want of memory is told of no fault of a zone
 pub memory_told : (e : SigningError) → fault_of_zone e ≡ NoMemory → e ≡ NoRoom
@@ -54,12 +42,13 @@ module _ (given sorted : List RawRecord) (apex : Name) (sorts : Sorts given sort
 
 module _ {X : Type 0} (r : Result X DenialFault) (is_such : Reply → Type 0) (is_why : ChainError → Type 0) where
   -- there was memory for the chain, and not for writing it
-  pub unwritten : (x : Reply) → is_such x → is_why OutOfMemory → IfErr r (λ e. (e ≡ Write) ⊎ (e ≡ NoMemory)) → IfErr r (IsUnwritten is_such (HasNone is_why))
+  pub unwritten : (x : Reply) → is_such x → is_why OutOfMemory → IfErr r (λ e. (e ≡ Write) ⊎ (e ≡ NoMemory))
+      → IfErr r (IsUnwritten is_such (IsUnmade (HasNone is_why)))
   unwritten x is why h = grind (arith, common_steps)
 
   -- the records were not sorted
   pub unsorted : (given : List RawRecord) → (AreMixed given → is_why MixedClasses) → (e : DenialFault) → IsUnsorted given e → IsErrAnd r (λ f. f ≡ e)
-      → IfErr r (IsUnwritten is_such (HasNone is_why))
+      → IfErr r (IsUnwritten is_such (IsUnmade (HasNone is_why)))
   unsorted given mixed e (inl are) h =
-      if_err_of (IsUnwritten is_such (HasNone is_why)) e r h (inr (inr (subst (HasNone is_why) (sym are.0) (mixed are.1))))
-  unsorted given mixed e (inr are) h = if_err_of (IsUnwritten is_such (HasNone is_why)) e r h (inr (inl are.0))
+      if_err_of (IsUnwritten is_such (IsUnmade (HasNone is_why))) e r h (inr (inr (subst (HasNone is_why) (sym are.0) (mixed are.1))))
+  unsorted given mixed e (inr are) h = if_err_of (IsUnwritten is_such (IsUnmade (HasNone is_why))) e r h (inr (inl are.0))

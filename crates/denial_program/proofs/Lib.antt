@@ -1,5 +1,4 @@
 pub mod LineLemmas
-pub mod WordLemmas
 pub mod LineReading
 pub mod LineSteps
 pub mod ReadingLemmas

@@ -4,7 +4,7 @@ use Rattle.std.proofs.Common.{◌≡◌, ◌≢◌, ℕ, ◌+◌, ◌-◌, ◌<�
 use Rattle.std.proofs.{BufReadLemmas.take_through_nonempty, Common.{Option, append-nil, append_assoc}, lemmas.List.Elements.{All-nil, All-cons}}
 use Rattle.std.specs.{Str.Lines.{lines, strip_carriage_return}, Io.{BufRead.{take_through, drop_through, DropsThrough}, KnownBytes.IsAtEnd}}
 use Rattle.domain_borrowed.specs.Data.{RawRecord}
-use Rattle.denial_program.specs.{Words.{words, IsSkipped}, Listing.{Give, IsLineRecord, IsGood, IsBad, IsFirstBad}}
+use Rattle.denial_program.specs.Listing.{Give, IsLineRecord, IsGood, IsBad, IsFirstBad, IsSkipped}
 use Rattle.denial_program.proofs.{LineReading.known_so, LineSteps.line_once}
 
 -- what rest gives after these records, all gives; and rest begins with the line of this number
@@ -70,7 +70,7 @@ follows_end known now records number h e =
     (reading_end (λ all rest. Continues all rest records number) known now h e)
 
 pub follows_skip : (known now : Option (List ℕ)) (out : List ℕ) (records : List RawRecord) (number : ℕ)
-    → FollowsAt known now out records number → IsSkipped (words out) → Follows known now records (number + 1)
+    → FollowsAt known now out records number → IsSkipped out → Follows known now records (number + 1)
 follows_skip None now out records number h s = tt
 follows_skip (Some all) now out records number h s = (
   h.0,

@@ -1,5 +1,5 @@
 -- The answer to a command over the records that were read, in whatever order they came.
-use Rattle.std.specs.{Prelude.{◌≡◌, ◌⊎◌, true, false, List, Option}, Io.KnownBytes.Appends}
+use Rattle.std.specs.Prelude.{◌≡◌, ◌⊎◌, true, false, List}
 use Rattle.domain_octets.specs.Words.{Octets}
 use Rattle.domain_names.specs.Words.{Name, Tokens}
 use Rattle.domain_records.specs.{Order.IsOneClass, declared.error.SigningError.SigningError}
@@ -10,10 +10,10 @@ use Rattle.domain_borrowed.specs.Data.{RawRecord}
 use Rattle.domain_dnssec.specs.{AnyOrder.AreMixed, declared.chain.ChainError.ChainError}
 use Rattle.domain_dnssec.specs.declared.chain.ChainError.TheVariants as chain_error
 use Rattle.domain_dnssec.specs.RawRecords as raw
-use Rattle.denial_program.specs.{Check.{HasNoNsec3Verdict, IsNsec3Verdict, IsNsecVerdict}, Command.{Asks, Params}, Listing.Give, Text.answer_text}
+use Rattle.denial_program.specs.{Check.{HasNoNsec3Verdict, IsNsec3Verdict, IsNsecVerdict}, Command.{Asks, Params}, Run.IsOver}
 use Rattle.denial_program.specs.declared.{answer.Reply.{Reply, TheVariants.{Nsecs, Nsec3s}}, command.Command.Command}
 use Rattle.denial_program.specs.declared.{command.Command.TheVariants.{Nsec, Nsec3, CheckNsec, CheckNsec3}, fault.DenialFault.DenialFault}
-use Rattle.denial_program.specs.{declared.fault.DenialFault.TheVariants.{Unprepared, MixedClasses, Signing, Write, OutOfMemory}, Fault.prepare_error}
+use Rattle.denial_program.specs.{declared.fault.DenialFault.TheVariants.{Unprepared, MixedClasses, Signing, OutOfMemory}, Fault.prepare_error}
 
 -- sorted is the sorted set of the records, by owner, class, type and octets
 abbrev pub Sorts : List RawRecord → List RawRecord → Type 0
@@ -80,18 +80,9 @@ IsAnswer answers (Nsec3 apex p) given answer = IsNsec3s answers given apex p ans
 IsAnswer answers (CheckNsec q) given answer = IsNsecVerdict given q answer
 IsAnswer answers (CheckNsec3 q) given answer = IsNsec3Verdict answers given q answer
 
--- the text of an answer that is such has been appended
-pub record IsWritten (is_such : Reply → Type 0) (old new : Option Octets) : Type 0 where
-  pub answer : Reply
-  pub is : is_such answer
-  pub appends : Appends old new (answer_text answer)
-
--- there is such an answer, and the device failed; or there was no memory to make the records ready;
--- or there is none, for this reason
-abbrev pub IsUnwritten : (Reply → Type 0) → (DenialFault → Type 0) → DenialFault → Type 0
-IsUnwritten is_such has_none fault =
-    ((fault ≡ Write) × ((answer : Reply) × is_such answer))
-    ⊎ ((fault ≡ Unprepared prepare_error) ⊎ has_none fault)
+-- there was no memory to make the records ready; or there is no answer, for this reason
+abbrev pub IsUnmade : (DenialFault → Type 0) → DenialFault → Type 0
+IsUnmade has_none fault = (fault ≡ Unprepared prepare_error) ⊎ has_none fault
 
 -- why there is no answer
 abbrev pub HasNoAnswer : HasherAnswer → Command → List RawRecord → DenialFault → Type 0
@@ -100,20 +91,12 @@ HasNoAnswer answers (Nsec3 apex p) given fault = HasNoNsec3s answers given apex 
 HasNoAnswer answers (CheckNsec q) given fault = fault ≡ OutOfMemory
 HasNoAnswer answers (CheckNsec3 q) given fault = HasNoNsec3Verdict answers given q fault
 
--- the words are a command, the lines give records, and this is its answer over them
-pub record Answers (answers : HasherAnswer) (words : Tokens) (lines : List Octets) (answer : Reply)
-    : Type 0 where
-  pub command : Command
-  pub given : List RawRecord
-  pub asks : Asks words command
-  pub gives : Give lines given
-  pub is : IsAnswer answers command given answer
+-- the words are a command, the lines give records, and this is its answer over them; it has none
+-- over them, for this reason
+abbrev pub Answers : HasherAnswer → Tokens → List Octets → Reply → Type 0
+Answers answers words lines answer =
+    IsOver Asks (λ command given. IsAnswer answers command given answer) words lines
 
--- it has none over them, for this reason
-pub record GivesNoAnswer (answers : HasherAnswer) (words : Tokens) (lines : List Octets)
-    (fault : DenialFault) : Type 0 where
-  pub command : Command
-  pub given : List RawRecord
-  pub asks : Asks words command
-  pub gives : Give lines given
-  pub none : HasNoAnswer answers command given fault
+abbrev pub GivesNoAnswer : HasherAnswer → Tokens → List Octets → DenialFault → Type 0
+GivesNoAnswer answers words lines fault =
+    IsOver Asks (λ command given. HasNoAnswer answers command given fault) words lines

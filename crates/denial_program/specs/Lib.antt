@@ -1,10 +1,10 @@
 pub mod Fault
 pub mod FaultText
-pub mod Words
 pub mod Listing
 pub mod Said
 pub mod Text
 pub mod Answer
 pub mod Command
 pub mod Check
+pub mod Run
 pub mod Spelled

@@ -1,16 +1,28 @@
 -- What the lines of a text give.
-use Rattle.std.specs.Prelude.{◌≡◌, ◌⊎◌, ℕ, ◌+◌, List, [], ◌∷◌, ◌++◌, All, length}
-use Rattle.domain_octets.specs.Words.{Octets}
+use Rattle.std.specs.{Prelude.{◌≡◌, ◌⊎◌, ℕ, ◌+◌, Bool, nat_le, List, [], ◌∷◌, ◌++◌, All, length}, List.AllPass}
+use Rattle.domain_octets.specs.{Characters.tilde, Line.words_of, Words.Octets}
 use Rattle.domain_names.specs.Words.{Tokens}
 use Rattle.domain_borrowed.specs.Data.{RawRecord}
-use Rattle.denial_program.specs.{Spelled.{LineText, SpelledRecord, SpellsRecord}, Words.{words, IsPlain, IsSkipped}}
+use Rattle.domain_message.specs.Entry.{IsNoEntry}
+use Rattle.denial_program.specs.Spelled.{LineText, SpelledRecord, SpellsRecord}
+
+-- no octet is past `~`
+abbrev pub is_plain : ℕ → Bool
+is_plain octet = nat_le octet tilde
+
+abbrev pub IsPlain : Octets → Type 0
+IsPlain = AllPass is_plain
+
+-- the line says nothing: it is blank, or a comment
+abbrev pub IsSkipped : Octets → Type 0
+IsSkipped line = IsNoEntry (words_of line)
 
 -- the line is not skipped, holds no octet past `~`, and its words spell the record
 pub record IsLineOf {R : Type 0} (Spell : Tokens → R → Type 0) (line : Octets) (r : R) : Type 0
   where
-    pub seen : IsSkipped (words line) → ⊥
+    pub seen : IsSkipped line → ⊥
     pub plain : IsPlain line
-    pub spelled : Spell (words line) r
+    pub spelled : Spell (words_of line) r
 
 -- the same of a record of octets, and of one with data of all types
 abbrev pub IsLineRecord : Octets → RawRecord → Type 0
@@ -23,7 +35,7 @@ IsLineData = IsLineOf SpellsRecord
 abbrev pub AreGiven : {R : Type 0} → (Octets → R → Type 0) → List Octets → List R → Type 0
 AreGiven is_of [] given = given ≡ []
 AreGiven {R} is_of (line ∷ more) given =
-    (IsSkipped (words line) × AreGiven is_of more given)
+    (IsSkipped line × AreGiven is_of more given)
     ⊎ ((r : R) × (others : List R) × (given ≡ r ∷ others) × is_of line r
     × AreGiven is_of more others)
 
@@ -36,11 +48,11 @@ GiveData = AreGiven IsLineData
 
 -- the line is skipped, or spells a record
 abbrev pub IsGood : Octets → Type 0
-IsGood line = IsSkipped (words line) ⊎ ((r : RawRecord) × IsLineRecord line r)
+IsGood line = IsSkipped line ⊎ ((r : RawRecord) × IsLineRecord line r)
 
 -- the line is neither skipped nor a record
 pub record IsBad (line : Octets) : Type 0 where
-  pub seen : IsSkipped (words line) → ⊥
+  pub seen : IsSkipped line → ⊥
   pub none : (r : RawRecord) → IsLineRecord line r → ⊥
 
 -- the line of this number, counted from 1, is the lowest that is bad

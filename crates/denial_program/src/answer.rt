@@ -5,8 +5,8 @@ ghost use Rattle.domain_records.specs.Order.{IsInOrder, IsOneClass};
 ghost use Rattle.domain_nsec.specs.Chain.{usual_config, IsFaultless};
 ghost use Rattle.domain_nsec3.specs.Faults.{IsReady};
 ghost use Rattle.domain_borrowed.specs.Data.{RawRecord, zone_of_raw};
-ghost use Rattle.denial_program.specs.Answer.{usual_nsec3_config, HasNoAnswer, HasNoNsec3s, HasNoNsecs, IsAnswer, IsNsec3s, IsNsecs, IsUnwritten, IsWritten, Sorts};
-ghost use Rattle.denial_program.specs.Fault.{IsBeforeOutput};
+ghost use Rattle.denial_program.specs.Answer.{usual_nsec3_config, HasNoAnswer, HasNoNsec3s, HasNoNsecs, IsAnswer, IsNsec3s, IsNsecs, IsUnmade, Sorts};
+ghost use Rattle.denial_program.specs.{Fault.IsBeforeOutput, Run.{IsUnwritten, IsWritten}};
 ghost use Rattle.denial_program.specs.Text.{answer_text, lines_of, nsec_line, nsec3_line, nsec3s_text};
 ghost use Rattle.denial_program.specs.declared.fault.DenialFault.TheVariants.{OutOfMemory};
 
@@ -181,11 +181,11 @@ fn write_nsecs_of<'a, W: Write>(
     records: Vec<BorrowedRecord<'a>>,
     output: &mut W,
 ) -> Result<(), DenialFault>
-    ensures ok { OnOk result (IsWritten (IsNsecs records.entry.items apex.now)
+    ensures ok { OnOk result (IsWritten answer_text (IsNsecs records.entry.items apex.now)
         (W.contents output.old) (W.contents output.new)) }
     ensures err { IfErr result
         (IsUnwritten (IsNsecs records.entry.items apex.now)
-        (HasNoNsecs records.entry.items apex.now)) }
+        (IsUnmade (HasNoNsecs records.entry.items apex.now))) }
     ensures untouched { IfErr result (λ e. IsBeforeOutput e → output.new ≡ output.old) }
 {
     let sorted = sort_zone(records)?;
@@ -207,11 +207,13 @@ fn write_nsec3s_of<'a, W: Write, H: Nsec3Hasher>(
     output: &mut W,
 ) -> Result<(), DenialFault>
     ensures ok { OnOk result
-        (IsWritten (IsNsec3s (H.answer hasher.now) records.entry.items apex.now parameters)
+        (IsWritten answer_text
+        (IsNsec3s (H.answer hasher.now) records.entry.items apex.now parameters)
         (W.contents output.old) (W.contents output.new)) }
     ensures err { IfErr result
         (IsUnwritten (IsNsec3s (H.answer hasher.now) records.entry.items apex.now parameters)
-        (HasNoNsec3s (H.answer hasher.now) records.entry.items apex.now parameters)) }
+        (IsUnmade (HasNoNsec3s (H.answer hasher.now) records.entry.items apex.now
+        parameters))) }
     ensures untouched { IfErr result (λ e. IsBeforeOutput e → output.new ≡ output.old) }
 {
     let sorted = sort_zone(records)?;
@@ -238,11 +240,12 @@ pub fn write_answer<'a, W: Write, H: Nsec3Hasher>(
     hasher: &H,
     output: &mut W,
 ) -> Result<(), DenialFault>
-    ensures ok { OnOk result (IsWritten (IsAnswer (H.answer hasher.now) command records.entry.items)
+    ensures ok { OnOk result (IsWritten answer_text
+        (IsAnswer (H.answer hasher.now) command records.entry.items)
         (W.contents output.old) (W.contents output.new)) }
     ensures err { IfErr result
         (IsUnwritten (IsAnswer (H.answer hasher.now) command records.entry.items)
-        (HasNoAnswer (H.answer hasher.now) command records.entry.items)) }
+        (IsUnmade (HasNoAnswer (H.answer hasher.now) command records.entry.items))) }
     ensures untouched { IfErr result (λ e. IsBeforeOutput e → output.new ≡ output.old) }
 {
     match command {

@@ -1,29 +1,23 @@
 //! What a line of the input says.
-ghost use Rattle.std.specs.Prelude.{◌≡◌, ◌↔◌, [], ◌∷◌, ◌++◌, IsTrue, IfErr, IfOk, OnOk, map};
-ghost use Rattle.domain_names.specs.TextFault.{ScanFault};
-ghost use Rattle.domain_base.specs.Scan.{TakesToken, RefusesToken};
+ghost use Rattle.std.specs.Prelude.{◌≡◌, IfErr, IfNone, IfOk, IfSome};
 ghost use Rattle.denial_program.specs.Spelled.{LineText};
-ghost use Rattle.denial_program.specs.Words.{without_empty, words, is_blank, IsSkipped, IsPlain};
-ghost use Rattle.denial_program.specs.Said.{Says, SpellsNone, line_error_of};
-ghost use Rattle.denial_program.specs.declared.line.LineError.TheVariants.{OutOfMemory as memory};
+ghost use Rattle.denial_program.specs.Listing.{IsPlain};
+ghost use Rattle.denial_program.specs.Said.{Refuses, Says};
 
 use crate::store::Store;
-use domain_base::{Class, FromToken, IterScanner, Name, Rtype, ScanError, Scanner, Ttl};
+use domain_base::{IterScanner, Name, Scanner};
 use domain_borrowed::BorrowedRecord;
-use domain_octets::{OctetSet, OutOfMemory, SmallOctets, prefix_len};
+use domain_message::{LineError, is_no_entry, scan_behind_owner};
+use domain_octets::{OctetSet, OutOfMemory, SmallOctets, prefix_len, words_of};
 use domain_rdata::ZoneRecordData;
 use domain_record::Record;
-use smallvec::SmallVec;
-use std::alloc::{AllocError, Global};
+use std::alloc::Global;
 
 /// The octets of the program's names and data: most lie in the value itself, and take no memory.
 pub type ZoneOctets = SmallOctets;
 
 /// The names of the program: each in octets of its own.
 pub type ZoneName = Name<ZoneOctets>;
-
-/// The words of a line. Those of most records, up to eight, take no memory.
-type LineWords<'a> = SmallVec<&'a str, 8>;
 
 /// Data as they are read, before they are compacted into an arena.
 pub type ZoneData = ZoneRecordData<ZoneOctets, ZoneName>;
@@ -39,114 +33,33 @@ pub enum Line<'a> {
     Bad,
 }
 
-/// Whether the octet separates words.
-fn separates(octet: u8) -> bool
-    ensures { result ≡ is_blank octet }
-{
-    octet == b' ' || octet == b'\t'
-}
+/// The octets of lines that are read: none past `~`.
+struct Plain;
 
-/// Whether a line is blank, or a comment.
-fn is_skipped(line: &[u8]) -> bool
-    ensures { IsTrue result ↔ IsSkipped (words line.now) }
-{
-    for octet in line {
-        if !separates(*octet) {
-            return *octet == b';';
-        }
-    }
-    true
-}
+impl OctetSet for Plain {
+    ghost use Rattle.denial_program.specs.Listing.{is_plain};
 
-/// The octets that stand in words: those that are no blanks, and not past `~`.
-struct OfWords;
-
-impl OctetSet for OfWords {
-    ghost use Rattle.denial_program.specs.Words.{is_of_word};
-
-    ghost has = { is_of_word };
+    ghost has = { is_plain };
 
     fn contains(octet: u8) -> bool {
-        Self::is_usual(octet) || (octet <= b'~' && !separates(octet))
+        octet <= b'~'
     }
 
-    /// All but control characters.
     fn is_usual(octet: u8) -> bool {
-        octet > b' ' && octet <= b'~'
+        Self::contains(octet)
     }
 }
 
-/// Appends a word as text, if it has octets. That it is text is proved, so that it need not be
-/// looked through again.
-fn push_word<'a>(tokens: &mut LineWords<'a>, word: &'a [u8]) -> Result<(), AllocError>
-    requires { IsPlain word.now }
-    ensures { OnOk result (map (λ t. t.now) tokens.new.items
-        ≡ map (λ t. t.now) tokens.old.items ++ without_empty (word.now ∷ [])) }
+/// A line as text, where none of its octets is past `~`. That it is text is proved, so that it need
+/// not be looked through again.
+fn plain_text(line: &[u8]) -> Option<&str>
+    ensures some { IfSome result (λ text. (text.now ≡ line.now) × IsPlain line.now) }
+    ensures none { IfNone result (IsPlain line.now → ⊥) }
 {
-    if !word.is_empty() {
-        tokens.push(unsafe { str::from_utf8_unchecked(word) })?;
+    if prefix_len::<Plain>(line) < line.len() {
+        return None;
     }
-    Ok(())
-}
-
-/// Appends the words of a line as text. Answers false where one of their octets is past `~`.
-fn split_words<'a>(tokens: &mut LineWords<'a>, line: &'a [u8]) -> Result<bool, AllocError>
-    requires { map (λ t. t.now) tokens.old.items ≡ [] }
-    ensures same { IfOk result (λ plain. IsTrue plain
-        → map (λ t. t.now) tokens.new.items ≡ words line.now) }
-    ensures plain { IfOk result (λ plain. IsTrue plain ↔ IsPlain line.now) }
-{
-    let mut rest = line;
-    loop {
-        let (word, after) = rest.split_at(prefix_len::<OfWords>(rest));
-        push_word(tokens, word)?;
-        match after {
-            [] => return Ok(true),
-            [octet, ..] if *octet > b'~' => return Ok(false),
-            [_, next @ ..] => rest = next,
-        }
-    }
-}
-
-/// Why words are no record.
-#[derive(Clone, Copy, Debug, PartialEq, Eq)]
-pub enum LineError {
-    /// They spell none.
-    Bad,
-    /// There was no memory.
-    OutOfMemory,
-}
-
-impl From<ScanError> for LineError {
-    ghost from_gives = { λ error made. made ≡ line_error_of error };
-
-    fn from(error: ScanError) -> LineError {
-        match error {
-            ScanError::OutOfMemory => LineError::OutOfMemory,
-            _ => LineError::Bad,
-        }
-    }
-}
-
-impl From<OutOfMemory> for LineError {
-    ghost from_gives = { λ _ made. made ≡ memory };
-
-    fn from(_error: OutOfMemory) -> LineError {
-        LineError::OutOfMemory
-    }
-}
-
-/// The value that the next token spells.
-fn field<F: FromToken, S: Scanner>(scanner: &mut S) -> Result<F, LineError>
-    ensures ok { IfOk result (λ v.
-        TakesToken (λ token. F.spells token v) (S.tokens scanner.old) (S.tokens scanner.new)) }
-    ensures err { IfErr result (λ _. (fault : ScanFault)
-        × RefusesToken F.refuses (S.tokens scanner.old) (S.tokens scanner.new) fault) }
-{
-    match F::scan(scanner) {
-        Ok(value) => Ok(value),
-        Err(error) => Err(LineError::from(error)),
-    }
+    Some(unsafe { str::from_utf8_unchecked(line) })
 }
 
 /// The record that tokens spell: owner, TTL, class, type and data.
@@ -156,17 +69,12 @@ fn scan_record<'a, S: Scanner<Name = ZoneName, Octets = ZoneOctets>>(
     scanner: &mut S,
 ) -> Result<BorrowedRecord<'a>, LineError>
     ensures ok { IfOk result (LineText (S.tokens scanner.old)) }
-    ensures err { IfErr result (SpellsNone (S.tokens scanner.old)) }
+    ensures err { IfErr result (Refuses (S.tokens scanner.old)) }
 {
     let owner = store.scan_owner(alloc, scanner)?;
-    let ttl = field::<Ttl, S>(scanner)?;
-    let class = field::<Class, S>(scanner)?;
-    let rtype = field::<Rtype, S>(scanner)?;
-    let data = ZoneData::scan_rdata(alloc, rtype, scanner)?;
-    if scanner.continues() {
-        return Err(LineError::Bad);
-    }
-    let stored = store.data(rtype, &data)?;
+    let record = scan_behind_owner(alloc, scanner, owner)?;
+    let (owner, class, ttl, data) = record.into_parts();
+    let stored = store.data(&data)?;
     Ok(Record::new(owner, class, ttl, stored))
 }
 
@@ -178,18 +86,17 @@ pub fn read_line<'a>(
 ) -> Result<Line<'a>, OutOfMemory>
     ensures { IfOk result (Says line.now) }
 {
-    if is_skipped(line) {
+    if is_no_entry(line) {
         return Ok(Line::Nothing);
     }
-    let mut tokens = SmallVec::new(alloc);
-    let plain = split_words(&mut tokens, line)?;
-    if !plain {
+    let Some(text) = plain_text(line) else {
         return Ok(Line::Bad);
-    }
-    let mut scanner = IterScanner::<ZoneOctets>::new(tokens.as_slice());
+    };
+    let words = words_of(alloc, text)?;
+    let mut scanner = IterScanner::<ZoneOctets>::new(words.as_slice());
     match scan_record(alloc, store, &mut scanner) {
         Ok(record) => Ok(Line::Record(record)),
-        Err(LineError::OutOfMemory) => Err(OutOfMemory),
-        Err(LineError::Bad) => Ok(Line::Bad),
+        Err(error) if error.is_out_of_memory() => Err(OutOfMemory),
+        Err(_) => Ok(Line::Bad),
     }
 }

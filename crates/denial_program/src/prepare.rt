@@ -4,12 +4,12 @@
 //! Want of memory for these says nothing of the zone, and is told as `Unprepared`, whose value only
 //! this module makes. So who makes a chain has to answer `OutOfMemory` for the memory that it takes
 //! itself, and that says that the zone has no fault.
-ghost use Rattle.std.specs.Prelude.{◌≡◌, ◌⊎◌, ℕ, IfErr, IfOk, IfSome, IsErrOf, MatchResult, map};
+ghost use Rattle.std.specs.Prelude.{◌≡◌, ◌⊎◌, IfErr, IfOk, IfSome, map};
 ghost use Rattle.std.specs.{Prelude.string_bytes, Str.Lines.lines};
 ghost use Rattle.domain_records.specs.Order.{IsInOrder, IsOneClass};
 ghost use Rattle.denial_program.specs.{Answer.{IsUnsorted, Sorts}, Command.{Asks, IsNoCommand}};
-ghost use Rattle.denial_program.specs.Fault.{IsAfterInput, IsReadingFault, IsReadToEnd};
-ghost use Rattle.denial_program.specs.{Fault.prepare_error, Listing.{Give, IsFirstBad}};
+ghost use Rattle.denial_program.specs.{Fault.{IsReadingFault, prepare_error}, Listing.Give};
+ghost use Rattle.denial_program.specs.Run.{ReadsLines};
 
 use crate::arena::{compact_owners, store_name};
 use crate::command::{Command, command_of};
@@ -18,8 +18,8 @@ use crate::line::ZoneName;
 use crate::reading::read_lines;
 use bumpalo::Bump;
 use domain_base::ParsedName;
-use domain_borrowed::{BorrowedData, BorrowedRecord};
-use domain_dnssec::{RecordsIter, SortedRecords};
+use domain_borrowed::BorrowedRecord;
+use domain_dnssec::{ChainError, sort_one_class};
 use domain_octets::OutOfMemory;
 use std::alloc::Global;
 use std::io::BufRead;
@@ -72,12 +72,7 @@ pub fn read_records<'a, R: BufRead>(
     ensures ok { IfOk result (λ v.
         IfSome (R.remaining input.old) (λ all. Give (lines all) v.items)) }
     ensures err { IfErr result IsReadingFault }
-    ensures line { (n : ℕ) → IsErrOf result (DenialFault.Line n)
-        → IfSome (R.remaining input.old) (λ all. IsFirstBad (lines all) n) }
-    ensures end { MatchResult result
-        (λ _. IsReadToEnd (R.remaining input.old) (R.remaining input.new))
-        (λ e. IsAfterInput e
-        → IsReadToEnd (R.remaining input.old) (R.remaining input.new)) }
+    ensures reads { ReadsLines (R.remaining input.old) (R.remaining input.new) result }
 {
     match read_lines(alloc, arena, input) {
         Ok(records) => Ok(records),
@@ -99,16 +94,11 @@ pub fn sort_zone<'a>(
     ensures in_order { IfOk result (λ sorted. IsInOrder (λ n. n) (λ d. d.rtype) sorted.items) }
     ensures err { IfErr result (IsUnsorted records.entry.items) }
 {
-    if !RecordsIter::new_from_owned(records.as_slice()).is_one_class() {
-        return Err(DenialFault::MixedClasses);
+    match sort_one_class(records) {
+        Ok(sorted) => Ok(sorted.into_inner()),
+        Err(ChainError::MixedClasses) => Err(DenialFault::MixedClasses),
+        Err(_) => Err(unprepared()),
     }
-    let sorted: SortedRecords<ParsedName<'a>, BorrowedData<'a>> = match SortedRecords::from_vec(
-        records,
-    ) {
-        Ok(sorted) => sorted,
-        Err(_) => return Err(unprepared()),
-    };
-    Ok(sorted.into_inner())
 }
 
 /// A copy of the apex in the arena.

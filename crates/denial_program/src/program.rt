@@ -1,10 +1,9 @@
 //! The run of the program, over any reader and any writer.
-ghost use Rattle.std.specs.Prelude.{◌≡◌, ℕ, IfErr, MatchResult, OnOk, IsErrOf, IfSome, map};
-ghost use Rattle.std.specs.{Prelude.string_bytes, Str.Lines.lines, Io.KnownBytes.Appends};
+ghost use Rattle.std.specs.Prelude.{◌≡◌, IfErr, MatchResult, IsErrOf, IfSome, map, string_bytes};
+ghost use Rattle.std.specs.Str.Lines.{lines};
 ghost use Rattle.denial_program.specs.{Answer.{Answers, GivesNoAnswer}, Command.IsCommand};
-ghost use Rattle.denial_program.specs.Fault.{IsAfterInput, IsBeforeOutput, IsOfRecords};
-ghost use Rattle.denial_program.specs.{Fault.{IsReadToEnd, TellsUsage}, Listing.IsFirstBad};
-ghost use Rattle.denial_program.specs.{Text.answer_text, declared.answer.Reply.Reply};
+ghost use Rattle.denial_program.specs.{Fault.{IsBeforeOutput, IsReadToEnd, TellsUsage}, Run.IsRun};
+ghost use Rattle.denial_program.specs.Text.{answer_text};
 ghost use Rattle.denial_program.specs.declared.fault.DenialFault.TheVariants.{OutOfMemory};
 
 use crate::answer::write_answer;
@@ -35,35 +34,15 @@ pub fn run_denial<R: BufRead, W: Write, H: Nsec3Hasher>(
     input: &mut R,
     output: &mut W,
 ) -> Result<(), DenialFault>
-    // The text of the answer to the command, over the records that the lines give, and no more.
-    ensures ok { OnOk result (IfSome (R.remaining input.old) (λ bytes. (answer : Reply)
-        × Answers (H.answer hasher.now) (map string_bytes words.now) (lines bytes) answer
-        × Appends (W.contents output.old) (W.contents output.new) (answer_text answer))) }
+    // The answer to the command, over the records that the lines give.
+    ensures run { IsRun answer_text (Answers (H.answer hasher.now) (map string_bytes words.now))
+        (GivesNoAnswer (H.answer hasher.now) (map string_bytes words.now))
+        (R.remaining input.old) (R.remaining input.new) (W.contents output.old)
+        (W.contents output.new) result }
 
     // Usage is answered exactly where the words are no command, want of memory aside.
     ensures usage { MatchResult result (λ _. IsCommand (map string_bytes words.now))
         (TellsUsage (map string_bytes words.now)) }
-
-    // The lowest line that is neither skipped nor a record.
-    ensures line { (n : ℕ) → IsErrOf result (DenialFault.Line n)
-        → IfSome (R.remaining input.old) (λ bytes. IsFirstBad (lines bytes) n) }
-
-    // All of the input has been read before Ok, a bad line or a later fault is answered: a fault of
-    // the reader comes before them.
-    ensures end { MatchResult result
-        (λ _. IsReadToEnd (R.remaining input.old) (R.remaining input.new))
-        (λ e. IsAfterInput e
-        → IsReadToEnd (R.remaining input.old) (R.remaining input.new)) }
-
-    // The records that the lines give have no answer, for the reason that is told.
-    ensures records { IfErr result (λ e. IsOfRecords e → IfSome (R.remaining input.old)
-        (λ bytes. GivesNoAnswer (H.answer hasher.now) (map string_bytes words.now)
-        (lines bytes) e)) }
-
-    // Only where there is an answer is anything written.
-    ensures write { IsErrOf result DenialFault.Write
-        → IfSome (R.remaining input.old) (λ bytes. (answer : Reply)
-        × Answers (H.answer hasher.now) (map string_bytes words.now) (lines bytes) answer) }
 
     // Want of memory, once the records are read, hides no fault of theirs: it has a reason too.
     ensures memory { IsErrOf result OutOfMemory → IfSome (R.remaining input.old)

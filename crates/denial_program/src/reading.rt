@@ -1,11 +1,11 @@
 //! The lines of an input, read to the end.
-ghost use Rattle.std.specs.Prelude.{◌≡◌, ◌≢◌, ◌⊎◌, ℕ, ◌+◌, ◌-◌, [], ◌∷◌, ◌++◌, IfErr, IfOk};
-ghost use Rattle.std.specs.Prelude.{MatchResult, OnOk, IsErrOf, IfSome, length, slice_index};
+ghost use Rattle.std.specs.Prelude.{◌≡◌, ◌≢◌, ◌⊎◌, ◌+◌, ◌-◌, [], ◌∷◌, ◌++◌, IfErr, IfOk};
+ghost use Rattle.std.specs.Prelude.{MatchResult, OnOk, IfSome, length, slice_index};
 ghost use Rattle.std.specs.{Prelude.vec_len, Str.Lines.{lines, strip_carriage_return}};
 ghost use Rattle.std.specs.Io.{BufRead.{take_through, DropsThrough}, KnownBytes.IsAtEnd};
 ghost use Rattle.domain_octets.specs.{Words.Octets, Characters.line_feed};
-ghost use Rattle.denial_program.specs.Fault.{IsAfterInput, IsReadingFault, IsReadToEnd};
-ghost use Rattle.denial_program.specs.Listing.{Give, IsFirstBad};
+ghost use Rattle.denial_program.specs.Fault.{IsReadingFault, IsReadToEnd};
+ghost use Rattle.denial_program.specs.{Listing.Give, Run.ReadsLines};
 ghost use Rattle.denial_program.specs.declared.fault.DenialFault.TheVariants.{OutOfMemory};
 
 use crate::fault::{DenialFault, fault_of};
@@ -86,12 +86,7 @@ pub fn read_lines<'a, R: BufRead>(
     ensures ok { IfOk result (λ v.
         IfSome (R.remaining input.old) (λ all. Give (lines all) v.items)) }
     ensures err { IfErr result (λ e. (e ≡ OutOfMemory) ⊎ IsReadingFault e) }
-    ensures line { (n : ℕ) → IsErrOf result (DenialFault.Line n)
-        → IfSome (R.remaining input.old) (λ all. IsFirstBad (lines all) n) }
-    ensures end { MatchResult result
-        (λ _. IsReadToEnd (R.remaining input.old) (R.remaining input.new))
-        (λ e. IsAfterInput e
-        → IsReadToEnd (R.remaining input.old) (R.remaining input.new)) }
+    ensures reads { ReadsLines (R.remaining input.old) (R.remaining input.new) result }
 {
     let mut records = Vec::new(alloc);
     let mut line = Vec::new(alloc);

@@ -2,16 +2,17 @@
 ghost use Rattle.std.specs.Prelude.{◌≡◌, IfErr, IfNone, IfOk, IfSome, OnOk};
 ghost use Rattle.domain_base.specs.Scan.{TakesToken};
 ghost use Rattle.domain_names.specs.Text.{NameText};
-ghost use Rattle.domain_rdata.specs.Zone.{canonical_octets};
-ghost use Rattle.denial_program.specs.Said.{SpellsNoName};
+ghost use Rattle.domain_dnssec.specs.RawRecords.{raw_data};
+ghost use Rattle.denial_program.specs.Said.{Refuses};
 
 use crate::arena::store_name;
-use crate::line::{LineError, ZoneData, ZoneName, ZoneOctets};
+use crate::line::{ZoneData, ZoneName, ZoneOctets};
 use bumpalo::Bump;
-use domain_base::{ParsedName, Rtype, Scanner};
+use domain_base::{ParsedName, ScanError, Scanner};
 use domain_borrowed::BorrowedData;
+use domain_message::LineError;
 use domain_octets::{OutOfMemory, TryClone};
-use domain_record::ComposeRecordData;
+use domain_record::{ComposeRecordData, RecordData};
 use std::alloc::Global;
 use std::marker::Model;
 
@@ -57,19 +58,17 @@ impl<'a> Store<'a> {
         }
     }
 
-    /// A copy of the octets of data in canonical form (RFC 4034, section 6.2), as data of a type.
-    pub fn data(&mut self, rtype: Rtype, data: &ZoneData) -> Result<BorrowedData<'a>, OutOfMemory>
-        ensures { IfOk result (λ stored. stored ≡ record {
-          rtype = rtype;
-          octets = canonical_octets (λ o. o) (λ n. n) «data».now;
-        }) }
+    /// A copy of the octets of data in canonical form (RFC 4034, section 6.2), as data of their
+    /// type.
+    pub fn data(&mut self, data: &ZoneData) -> Result<BorrowedData<'a>, OutOfMemory>
+        ensures { IfOk result (λ stored. stored ≡ raw_data (λ o. o) (λ n. n) «data».now) }
     {
         self.octets.clear();
         let Ok(()) = data.compose_canonical_rdata(&mut self.octets) else {
             return Err(OutOfMemory);
         };
         let octets = self.arena.try_alloc_slice_copy(&self.octets)?;
-        Ok(BorrowedData::new(rtype, octets))
+        Ok(BorrowedData::new(data.rtype(), octets))
     }
 
     /// The owner, where the next word spells it: goes past that word then.
@@ -102,14 +101,17 @@ impl<'a> Store<'a> {
     ) -> Result<ParsedName<'a>, LineError>
         ensures ok { IfOk result (λ name. TakesToken (λ word. NameText word name)
             (S.tokens scanner.old) (S.tokens scanner.new)) }
-        ensures err { IfErr result (SpellsNoName (S.tokens scanner.old)) }
+        ensures err { IfErr result (Refuses (S.tokens scanner.old)) }
     {
         let Some(word) = scanner.first_token() else {
-            return Err(LineError::Bad);
+            return Err(LineError::Owner(ScanError::EndOfEntry));
         };
         self.owner = None;
         put_word(&mut self.word, word)?;
-        let name = scanner.scan_name(alloc)?;
+        let name = match scanner.scan_name(alloc) {
+            Ok(name) => name,
+            Err(error) => return Err(LineError::Owner(error)),
+        };
         let owner = store_name(self.arena, &name)?;
         self.owner = Some(owner.try_clone()?);
         Ok(owner)
@@ -123,7 +125,7 @@ impl<'a> Store<'a> {
     ) -> Result<ParsedName<'a>, LineError>
         ensures ok { IfOk result (λ name. TakesToken (λ word. NameText word name)
             (S.tokens scanner.old) (S.tokens scanner.new)) }
-        ensures err { IfErr result (SpellsNoName (S.tokens scanner.old)) }
+        ensures err { IfErr result (Refuses (S.tokens scanner.old)) }
     {
         match self.scan_known(scanner)? {
             Some(owner) => Ok(owner),

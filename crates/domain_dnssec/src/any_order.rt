@@ -20,7 +20,7 @@ use std::alloc::Global;
 /// # Errors
 ///
 /// `MixedClasses` where the records are not of one class, and else `Sort`.
-pub(crate) fn sort_one_class<N: ToName, D: ZoneData + CanonicalOrd>(
+pub fn sort_one_class<N: ToName, D: ZoneData + CanonicalOrd>(
     records: Vec<Record<N, D>>,
 ) -> Result<SortedRecords<N, D>, ChainError>
 where

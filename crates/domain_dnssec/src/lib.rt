@@ -26,7 +26,7 @@ pub mod laws;
 pub mod rdata;
 mod wire;
 
-pub use any_order::generate_nsecs_of_records;
+pub use any_order::{generate_nsecs_of_records, sort_one_class};
 pub use any_order_nsec3::generate_nsec3s_of_records;
 pub use chain::ChainError;
 pub use config::DenialConfig;
@@ -40,7 +40,8 @@ pub use domain_checker::{NsecCheck, Verdict, check_nsec, check_nsec3};
 pub use domain_denier::{Nsec3Denial, NsecDenial, NsecDenier, deny_nsec, deny_nsec3};
 pub use domain_hasher::{HasherError, Nsec3HashError, Nsec3Hasher};
 pub use domain_message::{
-    LineError, MessageError, OwnedRecord, read_name, read_record, scan_entry, scan_record,
+    LineError, MessageError, OwnedRecord, is_no_entry, read_name, read_record, scan_behind_owner,
+    scan_entry, scan_record,
 };
 pub use domain_nsec::{BorrowedNsec, GenerateNsecConfig, NsecChain, generate_nsecs};
 pub use domain_nsec3::{

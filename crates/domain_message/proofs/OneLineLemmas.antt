@@ -1,11 +1,15 @@
--- a line spells one record at most
+-- a line spells one record at most, and none where it is refused
 use Rattle.std.proofs.{Common.{arith, ◌≡◌, ℕ, List, [], sym, subst, ◌∙◌}, lemmas.Grind.common_steps}
 use Rattle.domain_octets.specs.{Line.words_of, Words.Octets}
-use Rattle.domain_base.{specs.{Numbers.{ClassText, TypeText}, Scan.{IsNumber}}, proofs.NamedLemmas.one_named}
-use Rattle.domain_names.{specs.{Words.{Name, Token, Tokens}}, proofs.SpellingLemmas.one_name}
+use Rattle.domain_base.{specs.{Numbers.{ClassText, TypeText}, Scan.{IsNumber}}, proofs.{NamedLemmas.one_named, RefusalLemmas.{name_excludes, token_excludes}}}
+use Rattle.domain_names.{specs.{TextFault.scan_fault_of, Words.{Name, Token, Tokens}}, proofs.SpellingLemmas.one_name}
 use Rattle.domain_record.specs.declared.record.Record.{Record}
-use Rattle.domain_rdata.{proofs.ScanLemmas.text_once, specs.{Scan.RdataText, Zone.rtype_of, declared.zone_record_data.ZoneRecordData.ZoneRecordData}}
-use Rattle.domain_message.specs.{Alike.AreAlike, Entry.{HeadTaken, EntryText, LineText}}
+use Rattle.domain_rdata.proofs.ScanLemmas.{none_spelled, text_once}
+use Rattle.domain_rdata.specs.{Scan.RdataText, Zone.rtype_of, declared.zone_record_data.ZoneRecordData.ZoneRecordData}
+use Rattle.domain_message.specs.{Alike.AreAlike}
+use Rattle.domain_message.specs.Entry.{NumbersTaken, OwnerTaken, BodyText, EntryText, IsOfLine, LineText, RefusesBody, RefusesEntry, RefusesLine, in_entry}
+use Rattle.domain_message.specs.Entry.{no_entry, no_memory}
+use Rattle.domain_message.specs.declared.line.LineError.{LineError, TheVariants.{Owner, Ttl, Class, Rtype, RecordData, Trailing}}
 
 same_number : (text : Token) (m n : ℕ) → IsNumber 32 text m → IsNumber 32 text n → m ≡ n
 same_number text m n p q = p.value ∙ sym q.value
@@ -16,29 +20,64 @@ same_class text m n p q = one_named _ _ text m n p q
 same_type : (text : Token) (m n : ℕ) → TypeText text m → TypeText text n → m ≡ n
 same_type text m n p q = one_named _ _ text m n p q
 
--- the first four tokens, and what follows them
-head_once : (owner other : Name) (ttl class rtype ttl' class' rtype' : ℕ) (tokens m n : Tokens) → HeadTaken owner ttl class rtype tokens m
-    → HeadTaken other ttl' class' rtype' tokens n → (owner ≡ other) × (ttl ≡ ttl') × (class ≡ class') × (rtype ≡ rtype') × (m ≡ n)
-head_once owner other ttl class rtype ttl' class' rtype' tokens m n x y = grind (arith, common_steps, one_name, same_number, same_class, same_type)
+-- the three numbers, and what follows them
+numbers_once : (ttl class rtype ttl' class' rtype' : ℕ) (tokens m n : Tokens) → NumbersTaken ttl class rtype tokens m
+    → NumbersTaken ttl' class' rtype' tokens n → (ttl ≡ ttl') × (class ≡ class') × (rtype ≡ rtype') × (m ≡ n)
+numbers_once ttl class rtype ttl' class' rtype' tokens m n x y = grind (arith, common_steps, same_number, same_class, same_type)
+
+owner_once : (owner other : Name) (tokens m n : Tokens) → OwnerTaken owner tokens m → OwnerTaken other tokens n → (owner ≡ other) × (m ≡ n)
+owner_once owner other tokens m n x y = grind (arith, common_steps, one_name)
 
 module _ {O N : Type 0} (octets : O → Octets) (labels : N → Name) where
   text_type : (rtype : ℕ) (old new : Tokens) (d : ZoneRecordData O N) → RdataText octets labels rtype old d new → rtype_of d ≡ rtype
   text_type rtype old new d h = grind (arith, common_steps)
 
-  one_entry : (tokens : Tokens) (r s : Record N (ZoneRecordData O N)) → EntryText octets labels tokens r → EntryText octets labels tokens s
-      → AreAlike octets labels r s
-  one_entry tokens r s x y =
-      let same = head_once _ _ _ _ _ _ _ _ tokens _ _ x.head y.head in
-      let other = subst (λ t. RdataText octets labels t x.data_tokens s.«data» []) (sym same.3)
-      (subst (λ ws. RdataText octets labels y.rtype ws s.«data» []) (sym same.4) y.spelled) in
-      record {
-        owners = same.0;
-        classes = same.2;
-        ttls = same.1;
-        types = text_type _ _ [] r.«data» x.spelled ∙ sym (text_type _ _ [] s.«data» other);
-        wires = (text_once octets labels _ _ [] [] r.«data» s.«data» x.spelled other).1;
-      }
+  -- data of the type that was taken, in the tokens that are left
+  moved : (rtype : ℕ) (after : Tokens) {ttl class ttl' class' : ℕ} {tokens : Tokens} (d : ZoneRecordData O N)
+      → NumbersTaken ttl class rtype tokens after
+      → BodyText octets labels tokens ttl' class' d → RdataText octets labels rtype after d []
+  moved rtype after d taken b =
+      let same = numbers_once _ _ _ _ _ _ _ _ _ b.numbers taken in
+      subst (λ t. RdataText octets labels t after d []) same.2 (subst (λ ws. RdataText octets labels b.rtype ws d []) same.3 b.spelled)
 
   pub one_line : (line : List ℕ) (r s : Record N (ZoneRecordData O N)) → LineText octets labels line r → LineText octets labels line s
       → AreAlike octets labels r s
-  one_line line r s x y = one_entry (words_of line) r s x.spelled y.spelled
+  one_line line r s x y =
+      let owned = owner_once _ _ _ _ _ x.spelled.owned y.spelled.owned in
+      let a = x.spelled.body in
+      let b = subst (λ ws. BodyText octets labels ws s.ttl s.class s.«data») (sym owned.1) y.spelled.body in
+      let same = numbers_once _ _ _ _ _ _ _ _ _ a.numbers b.numbers in
+      let other = moved a.rtype a.data_tokens s.«data» a.numbers b in
+      record {
+        owners = owned.0;
+        classes = same.1;
+        ttls = same.0;
+        types = text_type _ _ [] r.«data» a.spelled ∙ sym (text_type _ _ [] s.«data» other);
+        wires = (text_once octets labels _ _ [] [] r.«data» s.«data» a.spelled other).1;
+      }
+
+  -- ---- tokens that are refused spell nothing
+
+  pub none_behind : (limit : Option ℕ) (tokens : Tokens) (ttl class : ℕ) (d : ZoneRecordData O N) (e : LineError)
+      → RefusesBody octets labels limit tokens e
+      → IsOfLine limit e → BodyText octets labels tokens ttl class d → ⊥
+  unfolding RefusesBody
+  none_behind limit tokens ttl class d (Ttl e) why own b = ?
+  none_behind limit tokens ttl class d (Class e) why own b = ?
+  none_behind limit tokens ttl class d (Rtype e) why own b = ?
+  none_behind limit tokens ttl class d (RecordData e) (_, _, rtype, after, left, taken, why) own b =
+      none_spelled octets labels rtype after limit left (scan_fault_of e) why own d [] (moved rtype after d taken b)
+  none_behind limit tokens ttl class d Trailing (_, _, rtype, after, left, other, taken, text, some) own b =
+      some ((text_once octets labels rtype after left [] other d text (moved rtype after d taken b)).0)
+  none_behind limit tokens ttl class d _ why own b = absurd why
+
+  pub none_in : (limit : Option ℕ) (tokens : Tokens) (r : Record N (ZoneRecordData O N)) (e : LineError) → RefusesEntry octets labels limit tokens e
+      → IsOfLine limit e → EntryText octets labels tokens r → ⊥
+  none_in limit tokens r (Owner e) why own x = ?
+  none_in limit tokens r e why own x = ?
+
+  pub none_where_refused : (limit : Option ℕ) (line : List ℕ) (e : LineError) (r : Record N (ZoneRecordData O N))
+      → RefusesLine octets labels limit line e → IsOfLine limit e → LineText octets labels line r → ⊥
+  none_where_refused limit line e r (no_entry none is) own x = x.seen none
+  none_where_refused limit line e r (in_entry seen why) own x = none_in limit (words_of line) r e why own x.spelled
+  none_where_refused limit line e r (no_memory is) own x = subst (IsOfLine limit) is own

@@ -39,18 +39,20 @@ module _ {O N : Type 0} (octets : O → Octets) (labels : N → Name) (r : Recor
   line_back text spelled = record {
     seen = λ none. name_begins _ owned (subst IsNoEntry (line_words text) none);
     spelled = record {
-      rtype = rtype_of r.«data»;
-      data_tokens = words_of text;
-      head = record {
-        behind_owner = decimal r.ttl ∷ class_text r.class ∷ type_text (rtype_of r.«data») ∷ words_of text;
-        behind_ttl = class_text r.class ∷ type_text (rtype_of r.«data») ∷ words_of text;
-        behind_class = type_text (rtype_of r.«data») ∷ words_of text;
-        owned = record { token = owner_word; first = line_words text; holds = dotted_name_back _ owned };
-        timed = record { token = decimal r.ttl; first = refl; holds = number_back 32 _ timed (omega arith) };
-        classed = record { token = class_text r.class; first = refl; holds = class_back _ classed };
-        typed = record { token = type_text (rtype_of r.«data»); first = refl; holds = type_back _ typed };
+      behind = decimal r.ttl ∷ class_text r.class ∷ type_text (rtype_of r.«data») ∷ words_of text;
+      owned = record { token = owner_word; first = line_words text; holds = dotted_name_back _ owned };
+      body = record {
+        rtype = rtype_of r.«data»;
+        data_tokens = words_of text;
+        numbers = record {
+          behind_ttl = class_text r.class ∷ type_text (rtype_of r.«data») ∷ words_of text;
+          behind_class = type_text (rtype_of r.«data») ∷ words_of text;
+          timed = record { token = decimal r.ttl; first = refl; holds = number_back 32 _ timed (omega arith) };
+          classed = record { token = class_text r.class; first = refl; holds = class_back _ classed };
+          typed = record { token = type_text (rtype_of r.«data»); first = refl; holds = type_back _ typed };
+        };
+        spelled = spelled;
       };
-      spelled = spelled;
     };
   }
 

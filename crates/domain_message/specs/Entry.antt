@@ -3,7 +3,7 @@
 use Rattle.std.specs.Prelude.{◌≡◌, ◌≢◌, ℕ, Option, [], ◌∷◌, slice_index}
 use Rattle.domain_octets.specs.{Characters.semicolon, Line.words_of, Words.Octets}
 use Rattle.domain_base.specs.{Numbers.{ClassText, TypeText, IsNoClass, IsNoType}, Scan.{TakesToken, RefusesToken, IsNumber, IsNoNumber}}
-use Rattle.domain_names.specs.{TextFault.{NameTextFault, scan_fault_of}, Text.NameText, Words.{Name, Tokens}}
+use Rattle.domain_names.specs.{TextFault.{IsOfTokens, NameTextFault, scan_fault_of}, Text.NameText, Words.{Name, Tokens}}
 use Rattle.domain_record.specs.declared.record.Record.{Record}
 use Rattle.domain_rdata.specs.{Refusal.RefusesRdata, Scan.RdataText, declared.zone_record_data.ZoneRecordData.ZoneRecordData}
 use Rattle.domain_message.specs.declared.line.LineError.{LineError, TheVariants.{NoEntry, Owner, Ttl, Class, Rtype, RecordData, Trailing, OutOfMemory}}
@@ -21,23 +21,29 @@ ClassTaken class = TakesToken (λ token. ClassText token class)
 abbrev pub TypeTaken : ℕ → Tokens → Tokens → Type 0
 TypeTaken rtype = TakesToken (λ token. TypeText token rtype)
 
--- the tokens begin with these four, one after another
-pub record HeadTaken (owner : Name) (ttl class rtype : ℕ) (tokens after : Tokens) : Type 0 where
-  pub behind_owner : Tokens
+-- the tokens begin with the last three of these, one after another
+pub record NumbersTaken (ttl class rtype : ℕ) (tokens after : Tokens) : Type 0 where
   pub behind_ttl : Tokens
   pub behind_class : Tokens
-  pub owned : OwnerTaken owner tokens behind_owner
-  pub timed : TtlTaken ttl behind_owner behind_ttl
+  pub timed : TtlTaken ttl tokens behind_ttl
   pub classed : ClassTaken class behind_ttl behind_class
   pub typed : TypeTaken rtype behind_class after
 
--- the tokens spell a record: its owner, TTL, class, type and data, and nothing more
-pub record EntryText {O N : Type 0} (octets : O → Octets) (labels : N → Name) (tokens : Tokens)
-    (r : Record N (ZoneRecordData O N)) : Type 0 where
+-- the tokens spell what stands behind the owner of a record: its TTL, class, type and data, and
+-- nothing more
+pub record BodyText {O N : Type 0} (octets : O → Octets) (labels : N → Name) (tokens : Tokens)
+    (ttl class : ℕ) (d : ZoneRecordData O N) : Type 0 where
   pub rtype : ℕ
   pub data_tokens : Tokens
-  pub head : HeadTaken (labels r.owner) r.ttl r.class rtype tokens data_tokens
-  pub spelled : RdataText octets labels rtype data_tokens r.«data» []
+  pub numbers : NumbersTaken ttl class rtype tokens data_tokens
+  pub spelled : RdataText octets labels rtype data_tokens d []
+
+-- the tokens spell a record: its owner, and what stands behind it
+pub record EntryText {O N : Type 0} (octets : O → Octets) (labels : N → Name) (tokens : Tokens)
+    (r : Record N (ZoneRecordData O N)) : Type 0 where
+  pub behind : Tokens
+  pub owned : OwnerTaken (labels r.owner) tokens behind
+  pub body : BodyText octets labels behind r.ttl r.class r.«data»
 
 -- a line with these words is blank, or a comment
 abbrev pub IsNoEntry : Tokens → Type 0
@@ -50,34 +56,45 @@ pub record LineText {O N : Type 0} (octets : O → Octets) (labels : N → Name)
   pub seen : IsNoEntry (words_of line) → ⊥
   pub spelled : EntryText octets labels (words_of line) r
 
--- why the first four tokens are no owner, TTL, class and type
-abbrev pub RefusesHead : Option ℕ → Tokens → LineError → Type 0
-RefusesHead limit tokens (Owner e) =
-    (left : Tokens) × RefusesToken (NameTextFault limit) tokens left (scan_fault_of e)
-RefusesHead limit tokens (Ttl e) =
-    (owner : Name) × (behind left : Tokens) × OwnerTaken owner tokens behind
-    × RefusesToken (IsNoNumber 32) behind left (scan_fault_of e)
-RefusesHead limit tokens (Class e) =
-    (owner : Name) × (ttl : ℕ) × (between behind left : Tokens) × OwnerTaken owner tokens between
-    × TtlTaken ttl between behind × RefusesToken IsNoClass behind left (scan_fault_of e)
-RefusesHead limit tokens (Rtype e) =
-    (owner : Name) × (ttl class : ℕ) × (first second behind left : Tokens)
-    × OwnerTaken owner tokens first × TtlTaken ttl first second × ClassTaken class second behind
-    × RefusesToken IsNoType behind left (scan_fault_of e)
-RefusesHead limit tokens _ = ⊥
-
--- why tokens spell no record: one of the first four, their data, or tokens behind the data
-unfoldable pub RefusesEntry : {O N : Type 0} → (O → Octets) → (N → Name) → Option ℕ → Tokens
+-- why tokens spell nothing that stands behind an owner: one of the three numbers, the data, or
+-- tokens behind the data
+unfoldable pub RefusesBody : {O N : Type 0} → (O → Octets) → (N → Name) → Option ℕ → Tokens
     → LineError → Type 0
-RefusesEntry octets labels limit tokens (RecordData e) =
-    (owner : Name) × (ttl class rtype : ℕ) × (after left : Tokens)
-    × HeadTaken owner ttl class rtype tokens after
+RefusesBody octets labels limit tokens (Ttl e) =
+    (left : Tokens) × RefusesToken (IsNoNumber 32) tokens left (scan_fault_of e)
+RefusesBody octets labels limit tokens (Class e) =
+    (ttl : ℕ) × (behind left : Tokens) × TtlTaken ttl tokens behind
+    × RefusesToken IsNoClass behind left (scan_fault_of e)
+RefusesBody octets labels limit tokens (Rtype e) =
+    (ttl class : ℕ) × (between behind left : Tokens) × TtlTaken ttl tokens between
+    × ClassTaken class between behind × RefusesToken IsNoType behind left (scan_fault_of e)
+RefusesBody octets labels limit tokens (RecordData e) =
+    (ttl class rtype : ℕ) × (after left : Tokens) × NumbersTaken ttl class rtype tokens after
     × RefusesRdata limit rtype after left (scan_fault_of e)
-RefusesEntry {O} {N} octets labels limit tokens Trailing =
-    (owner : Name) × (ttl class rtype : ℕ) × (after left : Tokens) × (d : ZoneRecordData O N)
-    × HeadTaken owner ttl class rtype tokens after
+RefusesBody {O} {N} octets labels limit tokens Trailing =
+    (ttl class rtype : ℕ) × (after left : Tokens) × (d : ZoneRecordData O N)
+    × NumbersTaken ttl class rtype tokens after
     × RdataText octets labels rtype after d left × (left ≢ [])
-RefusesEntry octets labels limit tokens error = RefusesHead limit tokens error
+RefusesBody octets labels limit tokens _ = ⊥
+
+-- why tokens spell no record: their first is no owner, or what stands behind it
+abbrev pub RefusesEntry : {O N : Type 0} → (O → Octets) → (N → Name) → Option ℕ → Tokens
+    → LineError → Type 0
+RefusesEntry octets labels limit tokens (Owner e) =
+    (left : Tokens) × RefusesToken (NameTextFault limit) tokens left (scan_fault_of e)
+RefusesEntry octets labels limit tokens error =
+    (owner : Name) × (behind : Tokens) × OwnerTaken owner tokens behind
+    × RefusesBody octets labels limit behind error
+
+-- an error that is one of the tokens, and not of room or of memory
+abbrev pub IsOfLine : Option ℕ → LineError → Type 0
+IsOfLine limit (Owner e) = IsOfTokens limit (scan_fault_of e)
+IsOfLine limit (Ttl e) = IsOfTokens limit (scan_fault_of e)
+IsOfLine limit (Class e) = IsOfTokens limit (scan_fault_of e)
+IsOfLine limit (Rtype e) = IsOfTokens limit (scan_fault_of e)
+IsOfLine limit (RecordData e) = IsOfTokens limit (scan_fault_of e)
+IsOfLine limit OutOfMemory = ⊥
+IsOfLine limit _ = Unit {0}
 
 -- why a line spells no record
 pub data RefusesLine {O N : Type 0} (octets : O → Octets) (labels : N → Name) (limit : Option ℕ)

@@ -7,7 +7,8 @@ ghost use Rattle.domain_rdata.specs.{Exact.HasExactText, Zone.{data_text, rtype_
 ghost use Rattle.domain_rdata.specs.Scan.{AreData};
 ghost use Rattle.domain_rdata.specs.declared.zone_record_data.ZoneRecordData.{ZoneRecordData};
 ghost use Rattle.domain_message.specs.Written.{HasExactWire, record_octets};
-ghost use Rattle.domain_message.specs.{Alike.{AreAlike, IsOfMessage}, Entry.LineText};
+ghost use Rattle.domain_message.specs.{Alike.{AreAlike, IsOfMessage}, Entry.{IsOfLine, LineText, RefusesLine}};
+ghost use Rattle.domain_message.specs.declared.line.LineError.{LineError};
 ghost use Rattle.domain_message.specs.Record.{RecordAt, RefusesRecord};
 ghost use Rattle.domain_message.specs.{declared.error.MessageError.MessageError, Name.{LabelsFault, NameAt}};
 ghost use Rattle.domain_message.specs.declared.name.NameFault.{NameFault};
@@ -48,11 +49,15 @@ pub fn written_names_are_read_back()
         → NameAt message at name (at + length (wire_of name)) }
 {}
 
-/// A line spells one record at most.
+/// A line spells one record at most, and none where `scan_record` refuses it but for want of room
+/// or of memory.
 pub fn one_record_is_spelled_by_a_line<O: Octets, N: ToName>()
-    ensures { (line : Octets) (r s : Record N (ZoneRecordData O N))
+    ensures one { (line : Octets) (r s : Record N (ZoneRecordData O N))
         → LineText O.octets N.labels line r → LineText O.octets N.labels line s
         → AreAlike O.octets N.labels r s }
+    ensures none { (limit : Option ℕ) (line : Octets) (error : LineError)
+        (r : Record N (ZoneRecordData O N)) → RefusesLine O.octets N.labels limit line error
+        → IsOfLine limit error → LineText O.octets N.labels line r → ⊥ }
 {}
 
 /// What a record is written as is a line that spells it, if the text tells all of its data.

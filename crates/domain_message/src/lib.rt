@@ -10,6 +10,6 @@ mod parts;
 mod record;
 
 pub use error::MessageError;
-pub use line::{LineError, OwnedRecord, scan_entry, scan_record};
+pub use line::{LineError, OwnedRecord, is_no_entry, scan_behind_owner, scan_entry, scan_record};
 pub use name::{NameFault, read_name};
 pub use record::read_record;

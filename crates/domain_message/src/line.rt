@@ -1,13 +1,17 @@
 //! Records in lines of a zone's text.
-ghost use Rattle.std.specs.Prelude.{◌↔◌, IsTrue, IfOk, IfErr, None, Some};
+ghost use Rattle.std.specs.Prelude.{◌≡◌, ◌↔◌, IsTrue, false, IfOk, IfErr, None, Some};
 ghost use Rattle.domain_message.specs.ErrorText.{line_error_text};
 ghost use Rattle.domain_octets.specs.Line.{words_of};
-ghost use Rattle.domain_message.specs.Entry.{HeadTaken, RefusesHead, EntryText, RefusesEntry, IsNoEntry, LineText, RefusesLine};
+ghost use Rattle.domain_message.specs.declared.line.LineError.TheVariants as variant;
+ghost use Rattle.domain_message.specs.Entry.{BodyText, RefusesBody, EntryText, RefusesEntry};
+ghost use Rattle.domain_message.specs.Entry.{IsNoEntry, IsOfLine, LineText, RefusesLine};
 
 use domain_base::{
     Class, FromToken, IterScanner, MakeName, Name, Rtype, ScanError, Scanner, ToName, Ttl,
 };
-use domain_octets::{EmptyBuilder, FreezeBuilder, FromBuilder, Octets, Truncate, words_of};
+use domain_octets::{
+    EmptyBuilder, FreezeBuilder, FromBuilder, Octets, OutOfMemory, Truncate, words_of,
+};
 use domain_rdata::ZoneRecordData;
 use domain_record::Record;
 use std::alloc::Global;
@@ -58,28 +62,54 @@ impl fmt::Display for LineError {
 
 impl Error for LineError {}
 
-/// What stands before the data of a record.
-#[derive(Drop)]
-struct Head<N> {
-    owner: N,
-    ttl: Ttl,
-    class: Class,
-    rtype: Rtype,
+impl From<OutOfMemory> for LineError {
+    ghost from_gives = { λ _ made. made ≡ variant.OutOfMemory };
+
+    fn from(_error: OutOfMemory) -> LineError {
+        LineError::OutOfMemory
+    }
 }
 
-/// The owner, TTL, class and type that the tokens begin with.
-fn scan_head<O: FromBuilder, N: Drop, S: Scanner<Name = N, Octets = O>>(
+impl LineError {
+    /// Whether memory was wanting, so that it is not known whether there is a record. Of want of
+    /// room it says nothing, which octets without a limit never have.
+    pub fn is_out_of_memory(&self) -> bool
+        ensures { result ≡ false → IsOfLine None self.now }
+    {
+        match self {
+            LineError::NoEntry | LineError::Trailing => false,
+            LineError::OutOfMemory => true,
+            LineError::Owner(error)
+            | LineError::Ttl(error)
+            | LineError::Class(error)
+            | LineError::Rtype(error)
+            | LineError::RecordData(error) => matches!(error, ScanError::OutOfMemory),
+        }
+    }
+}
+
+/// The record of this owner whose TTL, class, type and data the tokens spell, all that are left.
+///
+/// # Errors
+///
+/// The first of these parts that is missing or refused, with what is said of it; `Trailing` where
+/// tokens are left behind the data.
+#[tactic(auto, unfolding(crate::specs::Entry::RefusesBody))]
+pub fn scan_behind_owner<W: Drop, O, N, S: Scanner<Name = N, Octets = O>>(
     alloc: Global,
     scanner: &mut S,
-) -> Result<Head<N>, LineError>
-    ensures ok { IfOk result (λ h. HeadTaken (N.labels h.owner) h.ttl h.class h.rtype
-        (S.tokens scanner.old) (S.tokens scanner.new)) }
-    ensures err { IfErr result (RefusesHead O.Builder.limit (S.tokens scanner.old)) }
+    owner: W,
+) -> Result<Record<W, ZoneRecordData<O, N>>, LineError>
+where
+    O: FromBuilder + Drop,
+    N: MakeName + Drop,
+    O::Builder: EmptyBuilder + Truncate + FreezeBuilder<Frozen = O> + Drop,
+    ensures owner { IfOk result (λ r. r.owner ≡ owner) }
+    ensures ok { IfOk result (λ r.
+        BodyText O.octets N.labels (S.tokens scanner.old) r.ttl r.class r.«data») }
+    ensures err { IfErr result (RefusesBody O.octets N.labels O.Builder.limit
+        (S.tokens scanner.old)) }
 {
-    let owner = match scanner.scan_name(alloc) {
-        Ok(owner) => owner,
-        Err(error) => return Err(LineError::Owner(error)),
-    };
     let ttl = match Ttl::scan(scanner) {
         Ok(ttl) => ttl,
         Err(error) => return Err(LineError::Ttl(error)),
@@ -88,15 +118,18 @@ fn scan_head<O: FromBuilder, N: Drop, S: Scanner<Name = N, Octets = O>>(
         Ok(class) => class,
         Err(error) => return Err(LineError::Class(error)),
     };
-    match Rtype::scan(scanner) {
-        Ok(rtype) => Ok(Head {
-            owner,
-            ttl,
-            class,
-            rtype,
-        }),
-        Err(error) => Err(LineError::Rtype(error)),
+    let rtype = match Rtype::scan(scanner) {
+        Ok(rtype) => rtype,
+        Err(error) => return Err(LineError::Rtype(error)),
+    };
+    let data = match ZoneRecordData::scan_rdata(alloc, rtype, scanner) {
+        Ok(data) => data,
+        Err(error) => return Err(LineError::RecordData(error)),
+    };
+    if scanner.continues() {
+        return Err(LineError::Trailing);
     }
+    Ok(Record::new(owner, class, ttl, data))
 }
 
 /// The record that tokens spell: its owner, TTL, class, type and data (RFC 1035, section 5.1), all
@@ -106,7 +139,6 @@ fn scan_head<O: FromBuilder, N: Drop, S: Scanner<Name = N, Octets = O>>(
 ///
 /// The first of these parts that is missing or refused, with what is said of it; `Trailing` where
 /// tokens are left behind the data.
-#[tactic(auto, unfolding(crate::specs::Entry::RefusesEntry))]
 pub fn scan_entry<O: FromBuilder + Drop, N: MakeName + Drop, S: Scanner<Name = N, Octets = O>>(
     alloc: Global,
     scanner: &mut S,
@@ -117,15 +149,11 @@ where
     ensures err { IfErr result (RefusesEntry O.octets N.labels O.Builder.limit
         (S.tokens scanner.old)) }
 {
-    let head = scan_head(alloc, scanner)?;
-    let data = match ZoneRecordData::scan_rdata(alloc, head.rtype, scanner) {
-        Ok(data) => data,
-        Err(error) => return Err(LineError::RecordData(error)),
+    let owner = match scanner.scan_name(alloc) {
+        Ok(owner) => owner,
+        Err(error) => return Err(LineError::Owner(error)),
     };
-    if scanner.continues() {
-        return Err(LineError::Trailing);
-    }
-    Ok(Record::new(head.owner, head.class, head.ttl, data))
+    scan_behind_owner(alloc, scanner, owner)
 }
 
 /// Whether a line is blank, or a comment: whether its first octet that is no space and no tab is a

@@ -1,8 +1,9 @@
 -- the words of a text
-use Rattle.std.proofs.{Common.{◌≡◌, ℕ, ◌<◌, List, [], ◌∷◌, ◌++◌, Bor, map, length, true, false, get_or, take, drop, refl, ap, sym, subst, ◌∙◌, arith, inl, inr}, lemmas.Fmt.decimal_is_IsNumeral}
-use Rattle.std.proofs.lemmas.{Grind.common_steps, List.{append_assoc, append-nil, take-append-drop, drop_more, get_or-drop, Elements.{All-weaker, recursion_from_All}}, Bool.{cases_Bool, Decides.nat_tests}}
+use Rattle.std.proofs.Common.{◌≡◌, ℕ, ◌<◌, List, [], ◌∷◌, ◌++◌, Bor, map, length, true, false, get_or, take, drop, refl, ap, sym, subst, ◌∙◌, arith, inl, inr}
+use Rattle.std.proofs.lemmas.{Fmt.decimal_is_IsNumeral, Grind.common_steps, Bool.{cases_Bool, Decides.nat_tests}}
+use Rattle.std.proofs.lemmas.List.{append_assoc, append-nil, take-append-drop, drop_more, get_or-drop, Elements.{All-weaker, recursion_from_All}}
 use Rattle.std.proofs.lemmas.Str.{IsCharBoundary-after_ascii, IsCharBoundary-before_ascii, IsUtf8-drop}
-use Rattle.std.specs.{Prelude.{◌^◌}, List.{AllByRecursion, AllPass, join_with_byte}, Fmt.decimal, Str.{IsUtf8, IsCharBoundary, Parse.AllDigits}}
+use Rattle.std.specs.{Prelude.◌^◌, List.{AllByRecursion, AllPass, join_with_byte}, Fmt.decimal, Str.{IsUtf8, IsCharBoundary, Parse.AllDigits}}
 use Rattle.domain_octets.specs.Line.{is_blank, is_of_word, word_if_any, words_after, words_of, HasNoBlank, IsWord}
 
 -- a blank ends a word, so that the words behind it are those of a text by itself

@@ -1,16 +1,16 @@
 -- What a run answers to its words and lines, and when each of its faults comes.
-use Rattle.std.specs.{Prelude.{◌≡◌, ◌⊎◌, List, ◌++◌, Option}, Io.KnownBytes.Appends}
+use Rattle.std.specs.Prelude.{◌≡◌, List, ◌++◌, Option}
 use Rattle.domain_octets.specs.Words.{Octets}
 use Rattle.domain_names.specs.Words.{Tokens}
 use Rattle.domain_nsec3.specs.View.{HasherAnswer}
 use Rattle.domain_borrowed.specs.Data.{RawRecord}
 use Rattle.domain_answer.specs.declared.answer.Answer.{Answer}
 use Rattle.domain_checker.specs.HashedView.{links_with}
-use Rattle.denial_program.specs.{Listing.Give, declared.{command.Question.Question, fault.DenialFault.DenialFault}}
-use Rattle.denial_program.specs.declared.fault.DenialFault.TheVariants.{Usage, Unprepared, Write, OutOfMemory}
+use Rattle.denial_program.specs.{Run.IsOver, declared.{command.Question.Question, fault.DenialFault.DenialFault}}
+use Rattle.denial_program.specs.declared.fault.DenialFault.TheVariants.{Usage, Unprepared, OutOfMemory}
 use Rattle.judge_program.specs.{Command.{Asks, IsCommand, IsNoCommand}, Judged.{IsNotNsec3Judged, IsNsec3Judged, IsNsecJudged}, Needs.rests_on_records}
 use Rattle.judge_program.specs.{Told.{below_text, nsec_tellings, AreNsec3Told, Tellings}, Text.first_line, declared.command.ChainKind.ChainKind}
-use Rattle.judge_program.specs.declared.{command.{ChainKind.TheVariants.{Nsec, Nsec3}, Command.Command, Nsec3Options.Nsec3Options}, shown.Shown.Shown}
+use Rattle.judge_program.specs.declared.{command.{ChainKind.TheVariants.{Nsec, Nsec3}, Nsec3Options.Nsec3Options}, shown.Shown.Shown}
 
 -- the text is that of what the NSEC records answer to the question, on one line, and below it,
 -- where they are asked for, of the records that it rests on, or of those that a server answers with
@@ -43,34 +43,17 @@ abbrev pub HasNoText : HasherAnswer → ChainKind → List RawRecord → Questio
 HasNoText hashes Nsec given q fault = fault ≡ OutOfMemory
 HasNoText hashes (Nsec3 asked) given q fault = IsNotNsec3Judged hashes given q asked fault
 
--- such a text has been appended
-pub record IsWritten (is_such : Octets → Type 0) (old new : Option Octets) : Type 0 where
-  pub text : Octets
-  pub is : is_such text
-  pub appends : Appends old new text
+-- the words are a command, the lines give records, and this is the text of their answer; they have
+-- none, for this reason
+abbrev pub Judges : HasherAnswer → Tokens → List Octets → Octets → Type 0
+Judges hashes words lines text =
+    IsOver Asks (λ command given. IsText hashes command.kind given command.question
+    command.shown text) words lines
 
--- there is such a text, and the device failed, or there is none for this reason
-abbrev pub IsUnwritten : (Octets → Type 0) → (DenialFault → Type 0) → DenialFault → Type 0
-IsUnwritten is_such has_none fault =
-    ((fault ≡ Write) × ((text : Octets) × is_such text)) ⊎ has_none fault
-
--- the words are a command, the lines give records, and this is the text of their answer
-pub record Judges (hashes : HasherAnswer) (words : Tokens) (lines : List Octets) (text : Octets)
-    : Type 0 where
-  pub command : Command
-  pub given : List RawRecord
-  pub asks : Asks words command
-  pub gives : Give lines given
-  pub is : IsText hashes command.kind given command.question command.shown text
-
--- they have none, for this reason
-pub record GivesNoJudgement (hashes : HasherAnswer) (words : Tokens) (lines : List Octets)
-    (fault : DenialFault) : Type 0 where
-  pub command : Command
-  pub given : List RawRecord
-  pub asks : Asks words command
-  pub gives : Give lines given
-  pub none : HasNoText hashes command.kind given command.question fault
+abbrev pub GivesNoJudgement : HasherAnswer → Tokens → List Octets → DenialFault → Type 0
+GivesNoJudgement hashes words lines fault =
+    IsOver Asks (λ command given. HasNoText hashes command.kind given command.question fault) words
+    lines
 
 -- a fault of usage says that the words are no command; any other but want of memory, that they are
 -- one

@@ -1,9 +1,9 @@
 //! What records of a chain that were read answer to a question.
 ghost use Rattle.std.specs.{Prelude.{◌≡◌, ◌++◌, IfErr, OnOk, option_map}, Io.KnownBytes.Appends};
-ghost use Rattle.denial_program.specs.Fault.{IsBeforeOutput};
+ghost use Rattle.denial_program.specs.{Fault.IsBeforeOutput, Run.{IsUnwritten, IsWritten}};
 ghost use Rattle.denial_program.specs.declared.fault.DenialFault.TheVariants.{OutOfMemory as Memory};
 ghost use Rattle.judge_program.specs.{Judged.IsNotNsec3Judged, Text.first_line, Told.{below_text, tellings_of}};
-ghost use Rattle.judge_program.specs.Run.{HasNoText, IsNsecText, IsNsec3Text, IsText, IsUnwritten, IsWritten};
+ghost use Rattle.judge_program.specs.Run.{HasNoText, IsNsecText, IsNsec3Text, IsText};
 
 use crate::command::{ChainKind, Command, Nsec3Options};
 use crate::nsec_told::nsec_parts;
@@ -44,7 +44,7 @@ fn judge_nsecs<'a, W: Write>(
     records: Vec<BorrowedRecord<'a>>,
     output: &mut W,
 ) -> Result<(), DenialFault>
-    ensures ok { OnOk result (IsWritten (IsNsecText records.entry.items question.now shown)
+    ensures ok { OnOk result (IsWritten (λ t. t) (IsNsecText records.entry.items question.now shown)
         (W.contents output.old) (W.contents output.new)) }
     ensures err { IfErr result (IsUnwritten (IsNsecText records.entry.items question.now shown)
         (λ e. e ≡ Memory)) }
@@ -69,7 +69,7 @@ fn judge_nsec3s<'a, W: Write, H: Nsec3Hasher>(
     hasher: &H,
     output: &mut W,
 ) -> Result<(), DenialFault>
-    ensures ok { OnOk result (IsWritten
+    ensures ok { OnOk result (IsWritten (λ t. t)
         (IsNsec3Text (H.answer hasher.now) records.entry.items question.now asked shown)
         (W.contents output.old) (W.contents output.new)) }
     ensures err { IfErr result (IsUnwritten
@@ -106,7 +106,7 @@ pub fn write_judged<'a, W: Write, H: Nsec3Hasher>(
     hasher: &H,
     output: &mut W,
 ) -> Result<(), DenialFault>
-    ensures ok { OnOk result (IsWritten (IsText (H.answer hasher.now) command.now.kind
+    ensures ok { OnOk result (IsWritten (λ t. t) (IsText (H.answer hasher.now) command.now.kind
         records.entry.items command.now.question command.now.shown)
         (W.contents output.old) (W.contents output.new)) }
     ensures err { IfErr result (IsUnwritten (IsText (H.answer hasher.now) command.now.kind

@@ -2,7 +2,7 @@
 use Rattle.std.proofs.{lemmas.Grind.common_steps, Common.{◌≡◌, ℕ, ◌+◌, List, [], ◌∷◌, ◌++◌, Option, Some, None, refl, append-nil, append_assoc, arith}}
 use Rattle.std.{proofs.Common.{inl, inr}, specs.{Prelude.IfSome, Str.Lines.lines, Io.KnownBytes.IsAtEnd}}
 use Rattle.domain_borrowed.specs.Data.{RawRecord}
-use Rattle.denial_program.specs.{Listing.{IsBad, IsLineRecord}, Words.{words, IsSkipped}}
+use Rattle.denial_program.specs.Listing.{IsBad, IsLineRecord, IsSkipped}
 use Rattle.denial_program.proofs.{LineReading.known_so, ReadingLemmas.{reading_end, IsReading}}
 use Rattle.lint_program.specs.Lines.{AreLinted}
 
@@ -27,7 +27,7 @@ follows_end known now bad numbers records number h e =
     (reading_end (λ all rest. Continues all rest bad numbers records number) known now h e)
 
 pub follows_nothing : (known now : Option (List ℕ)) (out bad numbers : List ℕ) (records : List RawRecord) (number : ℕ)
-    → FollowsAt known now out bad numbers records number → IsSkipped (words out) → Follows known now bad numbers records (number + 1)
+    → FollowsAt known now out bad numbers records number → IsSkipped out → Follows known now bad numbers records (number + 1)
 follows_nothing known now out bad numbers records number h said = grind (arith, common_steps)
 
 pub follows_record : (known now : Option (List ℕ)) (out bad numbers placed : List ℕ) (old new : List RawRecord) (r : RawRecord) (number : ℕ)

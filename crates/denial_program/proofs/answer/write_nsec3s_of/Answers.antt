@@ -1,7 +1,8 @@
 use Rattle.std.proofs.Common.{inr}
 use Rattle.domain_octets.proofs.StdLemmas.{if_err_of}
 use Rattle.domain_dnssec.specs.RawRecords.{HasNoHashedChain}
-use Rattle.denial_program.{specs.Answer.{usual_nsec3_config, HasNoNsec3s, IsNsec3s, IsUnwritten, Sorts}, proofs.AnswerLemmas.{on_ok, unsorted, unwritten}}
+use Rattle.denial_program.specs.{Answer.{usual_nsec3_config, HasNoNsec3s, IsNsec3s, IsUnmade, Sorts}, Run.IsUnwritten}
+use Rattle.denial_program.proofs.{AnswerLemmas.{unsorted, unwritten}, RunLemmas.on_ok}
 use Rattle.denial_program.proofs.answer.write_nsec3s_of.{Given.Over, Goals.After-nsec3s_of}
 use Rattle.denial_program.proofs.answer.write_nsec3s_of.Goals as goal
 
@@ -15,13 +16,13 @@ returns-in_err-answer-clause-err g c =
     let given = c.args.records.items in
     let p = c.args.parameters in
     let none = c.in_err-answer.ensures.err given (sorts g (goal.at.returns-in_err-answer-clause-err g c).After-nsec3s_of) in
-    if_err_of (IsUnwritten (IsNsec3s answers given c.args.apex.now p) (HasNoNsec3s answers given c.args.apex.now p)) _ _
+    if_err_of (IsUnwritten (IsNsec3s answers given c.args.apex.now p) (IsUnmade (HasNoNsec3s answers given c.args.apex.now p))) _ _
     c.from_residual-in_err-answer.ensures.1 (inr (inr (rw c.in_ok-apex.ensures.ok at none)))
 
 pub returns-clause-ok : goal.returns-clause-ok
 returns-clause-ok g c =
     let is = c.in_ok-answer.ensures.ok c.args.records.items (sorts g (goal.at.returns-clause-ok g c).After-nsec3s_of) in
-    on_ok (λ appends. record { answer = c.in_ok-answer.answer; is = rw c.in_ok-apex.ensures.ok at is; appends = appends }) c.send.result c.send.ensures.ok
+    on_ok (λ appends. record { made = c.in_ok-answer.answer; is = rw c.in_ok-apex.ensures.ok at is; appends = appends }) c.send.result c.send.ensures.ok
 
 pub returns-clause-err : goal.returns-clause-err
 returns-clause-err g c =

@@ -2,7 +2,7 @@ use Rattle.std.proofs.Common.{◌∙◌, inr}
 use Rattle.domain_octets.proofs.StdLemmas.{if_err_of}
 use Rattle.domain_nsec.specs.Chain.{usual_config}
 use Rattle.domain_dnssec.specs.RawRecords.{HasNoChain}
-use Rattle.denial_program.{specs.Answer.{HasNoNsecs, IsNsecs, IsUnwritten, Sorts}, proofs.AnswerLemmas.{on_ok, unsorted, unwritten}}
+use Rattle.denial_program.{specs.{Answer.{HasNoNsecs, IsNsecs, IsUnmade, Sorts}, Run.IsUnwritten}, proofs.{AnswerLemmas.{unsorted, unwritten}, RunLemmas.on_ok}}
 use Rattle.denial_program.proofs.answer.write_nsecs_of.{Given.Over, Goals.After-nsecs_of}
 use Rattle.denial_program.proofs.answer.write_nsecs_of.Goals as goal
 
@@ -14,13 +14,13 @@ pub returns-in_err-answer-clause-err : goal.returns-in_err-answer-clause-err
 returns-in_err-answer-clause-err g c =
     let given = c.args.records.items in
     let none = c.in_err-answer.ensures.err given (sorts g (goal.at.returns-in_err-answer-clause-err g c).After-nsecs_of) in
-    if_err_of (IsUnwritten (IsNsecs given c.args.apex.now) (HasNoNsecs given c.args.apex.now)) _ _ c.from_residual-in_err-answer.ensures.1
+    if_err_of (IsUnwritten (IsNsecs given c.args.apex.now) (IsUnmade (HasNoNsecs given c.args.apex.now))) _ _ c.from_residual-in_err-answer.ensures.1
     (inr (inr (rw c.in_ok-apex.ensures.ok at none)))
 
 pub returns-clause-ok : goal.returns-clause-ok
 returns-clause-ok g c =
     let is = c.in_ok-answer.ensures.ok c.args.records.items (sorts g (goal.at.returns-clause-ok g c).After-nsecs_of) in
-    on_ok (λ appends. record { answer = c.in_ok-answer.answer; is = rw c.in_ok-apex.ensures.ok at is; appends = appends }) c.send.result c.send.ensures.ok
+    on_ok (λ appends. record { made = c.in_ok-answer.answer; is = rw c.in_ok-apex.ensures.ok at is; appends = appends }) c.send.result c.send.ensures.ok
 
 pub returns-clause-err : goal.returns-clause-err
 returns-clause-err g c =

@@ -16,18 +16,18 @@ taken g c =
 pub returns-then-count-eq0-clause-ok : goal.returns-then-count-eq0-clause-ok
 returns-then-count-eq0-clause-ok g c = grind (arith, common_steps, follows_end)
 
-pub returns-then-count-eq0-clause-end : goal.returns-then-count-eq0-clause-end
-returns-then-count-eq0-clause-end g c = grind (arith, common_steps)
+pub returns-then-count-eq0-clause-reads : goal.returns-then-count-eq0-clause-reads
+returns-then-count-eq0-clause-reads g c = grind (arith, common_steps)
 
-pub returns-in-Bad-clause-end : goal.returns-in-Bad-clause-end
-returns-in-Bad-clause-end g c = grind (arith, common_steps)
-
-pub returns-in-Bad-clause-line : goal.returns-in-Bad-clause-line
-returns-in-Bad-clause-line g c =
-    λ n is. let here = follows_bad _ _ _ _ _ (taken g (goal.at.returns-in-Bad-clause-line g c).After-read_line)
-    (rw c.in-Bad.is at c.in_ok-read_line.ensures) in
-    let same : c.loop-number.number ≡ n = (let e = is in cc) in
-    subst (λ m. IfSome (g.R.Read.remaining c.args.input.now) (λ all. IsFirstBad (lines all) m)) same here
+pub returns-in-Bad-clause-reads : goal.returns-in-Bad-clause-reads
+returns-in-Bad-clause-reads g c = record {
+  line = λ n is.
+      let here = follows_bad _ _ _ _ _ (taken g (goal.at.returns-in-Bad-clause-reads g c).After-read_line)
+      (rw c.in-Bad.is at c.in_ok-read_line.ensures) in
+      let same : c.loop-number.number ≡ n = (let e = is in cc) in
+      subst (λ m. IfSome (g.R.Read.remaining c.args.input.now) (λ all. IsFirstBad (lines all) m)) same here;
+  end = grind (arith, common_steps);
+}
 
 pub loop-number-preserved : goal.loop-number-preserved
 loop-number-preserved g c =

@@ -9,7 +9,8 @@ pub range_from-rest-requires : goal.range_from-rest-requires
 range_from-rest-requires c =
     let some : 0 < length c.split_at.result.1.now = grind (arith, common_steps) in
     let other : is_of_word (get_or c.words.rest.now c.prefix_len.result 0) ≡ false = grind (arith, common_steps) in
-    λ _. cut_at _ _ _ _ (grind (arith, common_steps)) c.split_at.ensures.front c.split_at.ensures.back some other (grind (arith, common_steps)) c.words.invariant.text
+    λ _. cut_at _ _ _ _ (grind (arith, common_steps)) c.split_at.ensures.front c.split_at.ensures.back some other (grind (arith, common_steps))
+    c.words.invariant.text
 
 pub words-preserved : goal.words-preserved
 words-preserved c =

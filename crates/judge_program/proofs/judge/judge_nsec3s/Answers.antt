@@ -25,7 +25,7 @@ told g c = record {
 
 pub returns-in-Ok-clause-ok : goal.returns-in-Ok-clause-ok
 returns-in-Ok-clause-ok g c =
-    record { text = _; is = told g (goal.at.returns-in-Ok-clause-ok g c).After-write_answer; appends = c.in-Ok.ensures }
+    record { made = _; is = told g (goal.at.returns-in-Ok-clause-ok g c).After-write_answer; appends = c.in-Ok.ensures }
 
 pub returns-clause-err : goal.returns-clause-err
 returns-clause-err g c =

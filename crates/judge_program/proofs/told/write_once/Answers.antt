@@ -1,5 +1,5 @@
 use Rattle.std.{proofs.Common.{◌++◌, true, false, sym, subst, OnOk}, specs.{Option.{option_map, option_to_list}, Io.KnownBytes.Appends}}
-use Rattle.denial_program.proofs.AnswerLemmas.{on_ok}
+use Rattle.denial_program.proofs.RunLemmas.{on_ok}
 use Rattle.judge_program.{specs.Told.{any_of, line_once}, proofs.ToldLemmas.{appends_nothing, once}}
 use Rattle.judge_program.proofs.told.write_once.Goals as goal
 

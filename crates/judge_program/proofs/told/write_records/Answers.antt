@@ -1,7 +1,7 @@
 use Rattle.std.proofs.{Common.{◌≡◌, ◌++◌, ◌||◌, [], true, ap, sym, ◌∙◌, subst, codes, OnOk}, lemmas.Bool.cond-true}
 use Rattle.std.specs.{Option.{is_some, option_map}, Io.KnownBytes.Appends}
 use Rattle.domain_nsec3.specs.View.{as_param_record}
-use Rattle.denial_program.{specs.Text.nsec3param_line, proofs.AnswerLemmas.on_ok}
+use Rattle.denial_program.{specs.Text.nsec3param_line, proofs.RunLemmas.on_ok}
 use Rattle.judge_program.{specs.Told.{any_of, records_text}, proofs.ToldLemmas.{all_written, appends_nothing, is_some_mapped, no_param}}
 use Rattle.judge_program.proofs.told.write_records.Goals as goal
 

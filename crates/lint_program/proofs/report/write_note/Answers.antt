@@ -1,5 +1,5 @@
 use Rattle.std.proofs.{Common.arith, lemmas.Grind.common_steps}
-use Rattle.denial_program.proofs.AnswerLemmas.{on_ok}
+use Rattle.denial_program.proofs.RunLemmas.{on_ok}
 use Rattle.lint_program.proofs.report.write_note.Goals as goal
 
 pub returns-in-Some : goal.returns-in-Some
