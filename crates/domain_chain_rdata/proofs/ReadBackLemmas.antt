@@ -3,7 +3,7 @@ use Rattle.std.proofs.{lemmas.Grind.common_steps, Common.{◌≡◌, ◌≢◌, 
 use Rattle.std.specs.Fmt.{decimal}
 use Rattle.domain_codecs.{specs.Base32.base32_upper, proofs.{ReadBackLemmas.upper_reads_back, NoBlankLemmas.upper_base32_word}}
 use Rattle.domain_octets.{specs.Line.words_of, proofs.WordLemmas.{one_word, next_word, decimal_word}}
-use Rattle.domain_names.specs.{Name.IsName, Text.name_text}
+use Rattle.domain_names.specs.{Text.name_text}
 use Rattle.domain_base.{specs.Numbers.type_text, proofs.ReadBackLemmas.{dotted_name_back, name_word}}
 use Rattle.domain_bitmap.specs.{Bitmap.bitmap_octets, Blocks.{IsBitmap, IsShortest, types_of}, HashText.salt_text, Scan.is_among, Text.types_text}
 use Rattle.domain_bitmap.proofs.ReadBackLemmas.{are_types, texts_spell, types_after, spaced_words, bitmap_back, salt_back, salt_word}
@@ -21,7 +21,7 @@ types_read : (octets : List ℕ) → IsBitmap octets → BitmapText (map type_te
 types_read octets bitmap = record { types = types_of octets; spelled = texts_spell (types_of octets) (are_types octets bitmap); built = refl; all = refl }
 
 pub nsec_text_back : (labels : List (List ℕ)) (octets : List ℕ) → Fits nsec (labels, octets)
-    → NsecText (words_of (name_text labels ++ 46 ∷ 32 ∷ [] ++ types_text (types_of octets))) labels (rebuilt octets) []
+    → NsecText (words_of (name_text labels ++ 46 ∷ 32 ∷ [] ++ types_text (types_of octets))) (labels, rebuilt octets) []
 nsec_text_back labels octets (valid, bitmap) =
     let types = types_of octets in
     let name = name_text labels ++ 46 ∷ [] in
@@ -31,7 +31,7 @@ nsec_text_back labels octets (valid, bitmap) =
     (map type_text types, record { token = name; first = words; holds = dotted_name_back labels valid }, types_read octets bitmap)
 
 pub nsec_text_same : (labels : List (List ℕ)) (octets : List ℕ) → Fits nsec (labels, octets) → IsShortest octets
-    → NsecText (words_of (name_text labels ++ 46 ∷ 32 ∷ [] ++ types_text (types_of octets))) labels octets []
+    → NsecText (words_of (name_text labels ++ 46 ∷ 32 ∷ [] ++ types_text (types_of octets))) (labels, octets) []
 nsec_text_same labels octets fits shortest =
     grind (arith, common_steps, (bitmap_back octets fits.1 shortest), (nsec_text_back labels octets fits))
 

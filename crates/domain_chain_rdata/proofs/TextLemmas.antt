@@ -7,10 +7,11 @@ use Rattle.domain_base.{specs.Scan.RefusesToken, proofs.RefusalLemmas.{name_excl
 use Rattle.domain_bitmap.specs.{HashScan.{CountedFault, SaltTokenFault}, HashText.{SaltText, OwnerHashText}, Scan.RefusesTypes}
 use Rattle.domain_bitmap.proofs.{ReadBackLemmas.spelled_once, RefusalLemmas.{types_refused, types_one_fault, salt_once, salt_excludes, salt_one_fault}}
 use Rattle.domain_bitmap.proofs.RefusalLemmas.{hash_once, hash_excludes, counted_one_fault}
-use Rattle.domain_fields.{specs.{Layout.Values, Sequence.{OneToken, Both}}, proofs.GrammarLemmas.{ReadsOnce, IsExact, fields_exact, one_token, token_refused}}
+use Rattle.domain_fields.{specs.{Layout.Values, Sequence.OneToken}, proofs.GrammarLemmas.{ReadsOnce, IsExact, fields_exact, one_token, token_refused}}
 use Rattle.domain_fields.proofs.GrammarLemmas.{token_once_refused, both_once, both_exact}
-use Rattle.domain_chain_rdata.specs.{NsecText.{BitmapText, NsecText, RefusesNsec}, Rdata.hash_numbers, Nsec3paramText.{Nsec3paramText, RefusesNsec3param}}
-use Rattle.domain_chain_rdata.specs.{Nsec3paramText.hash_numbers_text, Nsec3Text.{HashText, RefusesHash, Nsec3Text, RefusesNsec3, params_before_hash}}
+use Rattle.domain_chain_rdata.specs.{NsecText.{BitmapText, NsecText, RefusesNsec}, Nsec3paramText.{Nsec3paramText, RefusesNsec3param}}
+use Rattle.domain_chain_rdata.specs.{Rdata.{nsec, hash_numbers}, Nsec3paramText.hash_numbers_text}
+use Rattle.domain_chain_rdata.specs.Nsec3Text.{HashText, RefusesHash, Nsec3Text, RefusesNsec3, params_before_hash}
 
 module _ (limit : Option ℕ) where
   name_exact : IsExact limit (OneToken NameText) (RefusesToken (NameTextFault limit))
@@ -51,7 +52,7 @@ module _ (limit : Option ℕ) where
   pub nsec3_exact : IsExact limit Nsec3Text (RefusesNsec3 limit)
   nsec3_exact = both_exact limit _ _ _ _ hashes_exact bitmap_exact
 
-pub nsec_once : ReadsOnce (Both (OneToken NameText) BitmapText)
+pub nsec_once : ReadsOnce NsecText
 nsec_once = both_once (OneToken NameText) BitmapText (name_exact None).once (bitmap_exact None).once
 
 pub params_once : ReadsOnce Nsec3paramText
@@ -62,12 +63,12 @@ hashes_once = (hashes_exact None).once
 
 -- refusals, over builders of names and of bitmaps
 module _ (names bitmaps : Option ℕ) (old : List (List ℕ)) where
-  pub nsec_refused : (new after : List (List ℕ)) (fault : ScanFault) (labels : List (List ℕ)) (octets : List ℕ)
-      → RefusesNsec names bitmaps old new fault → IsOfTokens names fault → IsOfTokens bitmaps fault → NsecText old labels octets after → ⊥
-  nsec_refused new after fault labels octets (inl why) own also is = (name_exact names).apart old new is.0 labels fault why is.1 own
-  nsec_refused new after fault labels octets (inr why) own also is =
-      let same = (name_exact names).once.left old is.0 why.1 labels why.0 is.1 why.2 in
-      (bitmap_exact bitmaps).apart why.1 new after octets fault why.3 (subst (λ t. BitmapText t octets after) same is.2) also
+  pub nsec_refused : (new after : List (List ℕ)) (fault : ScanFault) (v : Values nsec) → RefusesNsec names bitmaps old new fault
+      → IsOfTokens names fault → IsOfTokens bitmaps fault → NsecText old v after → ⊥
+  nsec_refused new after fault v (inl why) own also is = (name_exact names).apart old new is.0 v.0 fault why is.1 own
+  nsec_refused new after fault v (inr why) own also is =
+      let same = (name_exact names).once.left old is.0 why.1 v.0 why.0 is.1 why.2 in
+      (bitmap_exact bitmaps).apart why.1 new after v.1 fault why.3 (subst (λ t. BitmapText t v.1 after) same is.2) also
 
   pub nsec_one_fault : (m n : List (List ℕ)) (x y : ScanFault) → RefusesNsec names bitmaps old m x → RefusesNsec names bitmaps old n y
       → IsOfTokens names x → IsOfTokens bitmaps x → IsOfTokens names y → IsOfTokens bitmaps y → (x ≡ y) × (m ≡ n)

@@ -2,9 +2,10 @@
 use Rattle.std.specs.Prelude.{◌≡◌, ℕ, List, [], ◌∷◌, ◌++◌, codes, Option}
 use Rattle.domain_octets.specs.{Piece.{PieceText, token, opens, closes}, Words.Octets}
 use Rattle.domain_names.specs.{TextFault.NameTextFault, Text.{NameText, name_text}, Words.{Tokens, Name}}
-use Rattle.domain_base.specs.{Scan.{RefusesToken, Refusal}, Types.Rtypes}
+use Rattle.domain_base.specs.{Scan.{RefusesToken, Refusal, Grammar}, Types.Rtypes}
 use Rattle.domain_bitmap.specs.{Bitmap.bitmap_octets, Blocks.types_of, Pieces.type_pieces, Scan.{TypeTexts, RefusesTypes, is_among}}
-use Rattle.domain_fields.specs.Sequence.{OneToken, Both, RefusesBoth}
+use Rattle.domain_fields.specs.{Layout.Values, Sequence.{OneToken, Both, RefusesBoth}}
+use Rattle.domain_chain_rdata.specs.Rdata.{nsec}
 
 -- all tokens spell the types of a bitmap, one each
 pub record BitmapText (old : Tokens) (octets : Octets) (new : Tokens) : Type 0 where
@@ -14,8 +15,8 @@ pub record BitmapText (old : Tokens) (octets : Octets) (new : Tokens) : Type 0 w
   pub all : new ≡ []
 
 -- the tokens are a name, and then types to the end, one a token (RFC 4034, section 4.2)
-abbrev pub NsecText : Tokens → Name → Octets → Tokens → Type 0
-NsecText old labels octets new = Both (OneToken NameText) BitmapText old (labels, octets) new
+abbrev pub NsecText : Grammar (Values nsec)
+NsecText = Both (OneToken NameText) BitmapText
 
 -- the first token that is refused: the name's, where names have the first limit, or a type's, where
 -- bitmaps have the second

@@ -1,5 +1,5 @@
 //! The next name and the types at a name: written, compared, hashed, copied.
-ghost use Rattle.std.specs.Prelude.{◌≡◌, ◌⊎◌, ◌&&◌, Some, IfOk, IfErr, OnErr, IsNone, length};
+ghost use Rattle.std.specs.Prelude.{◌≡◌, ◌⊎◌, ◌&&◌, Some, IfOk, IsNone, length};
 ghost use Rattle.std.specs.Prelude.{refl, bytes_eq};
 ghost use Rattle.std.specs.Ordering.{on, nat_cmp, then_cmp, eq_of_both, ordering_then};
 ghost use Rattle.std.specs.Cmp.{on_equiv, on_total, then_total, and_equiv, partial_equiv_from_equiv, po};
@@ -11,7 +11,7 @@ ghost use Rattle.domain_names.specs.{Name.same_name, Laws.same_name_equiv, Fault
 ghost use Rattle.domain_names.specs.Order.{canonical_cmp as name_cmp, canonical_cmp_total};
 ghost use Rattle.domain_base.specs.Types as rtypes;
 ghost use Rattle.domain_fields.specs.{DataClone.same_values_tie, Laws.ties_of_both};
-ghost use Rattle.domain_fields.specs.Layout.{octets_of, canonical_of, Begins, FirstFault, GoesOn};
+ghost use Rattle.domain_fields.specs.Layout.{octets_of, canonical_of, Begins, FirstFault, Reads};
 ghost use Rattle.domain_chain_rdata.specs.Rdata.{nsec, nsec_values, nsec_hashed};
 ghost use Rattle.domain_chain_rdata.specs.{Laws.nsec_fed, NsecConvert.{IsNsecClone, IsSameNsec}};
 
@@ -100,11 +100,7 @@ impl<'a> Nsec<&'a [u8], ParsedName<'a>> {
     /// `ShortInput` and a block of no or over 32 octets `Form("invalid NSEC bitmap")`. The parser
     /// then stands where it stood.
     pub fn parse(parser: &mut Parser<'a>) -> Result<Self, ParseError>
-        ensures ok { IfOk result (λ d.
-            Begins nsec parser.old.left (nsec_values (λ name. name) d) parser.new.left) }
-        ensures err { IfErr result (λ e. FirstFault nsec parser.old.left (fault_of e)) }
-        ensures unmoved { OnErr result (parser.new ≡ parser.old) }
-        ensures goes_on { GoesOn parser.old parser.new }
+        ensures { Reads nsec (nsec_values (λ name. name)) fault_of parser.old parser.new result }
     {
         let (Spelled(next_name), types) = NsecFields::<'a>::read(parser)?;
         Ok(Nsec::new(next_name, types))

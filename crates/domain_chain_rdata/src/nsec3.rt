@@ -1,5 +1,5 @@
 //! The next hash and the types at a hashed name: written, compared, hashed, copied.
-ghost use Rattle.std.specs.Prelude.{◌≡◌, ◌↔◌, ◌⊎◌, Some, IsTrue, IfOk, IfErr, OnErr, IsNone};
+ghost use Rattle.std.specs.Prelude.{◌≡◌, ◌↔◌, ◌⊎◌, Some, IsTrue, IfOk, IsNone};
 ghost use Rattle.std.specs.Prelude.{length, refl, bytes_eq};
 ghost use Rattle.std.specs.{Ordering.{on, nat_cmp}, Cmp.{partial_equiv_from_equiv, po}};
 ghost use Rattle.std.specs.Cmp.Lexicographic.{slice_cmp, on_texts, on_texts_equal};
@@ -9,7 +9,7 @@ ghost use Rattle.domain_octets.specs.Limit.{IsOver};
 ghost use Rattle.domain_names.specs.Fault.{fault_of};
 ghost use Rattle.domain_base.specs.Types as rtypes;
 ghost use Rattle.domain_fields.specs.{DataClone.copies_tied, Laws.{fed_alike, tied_octets}};
-ghost use Rattle.domain_fields.specs.Layout.{Begins, FirstFault, Fits, GoesOn};
+ghost use Rattle.domain_fields.specs.Layout.{Begins, FirstFault, Fits, Reads};
 ghost use Rattle.domain_chain_rdata.specs.OptOut.{is_opt_out};
 ghost use Rattle.domain_chain_rdata.specs.Rdata.{nsec3, nsec3_values, nsec3_octets, nsec3param_values};
 
@@ -209,11 +209,7 @@ impl<'a> Nsec3<&'a [u8]> {
     /// no or over 32 octets is `Form("invalid NSEC bitmap")`. The parser then stands where it
     /// stood.
     pub fn parse(parser: &mut Parser<'a>) -> Result<Self, ParseError>
-        ensures ok { IfOk result (λ d.
-            Begins nsec3 parser.old.left (nsec3_values d) parser.new.left) }
-        ensures err { IfErr result (λ e. FirstFault nsec3 parser.old.left (fault_of e)) }
-        ensures unmoved { OnErr result (parser.new ≡ parser.old) }
-        ensures goes_on { GoesOn parser.old parser.new }
+        ensures { Reads nsec3 nsec3_values fault_of parser.old parser.new result }
     {
         let ((params, hash), types) = Nsec3Fields::<'a>::read(parser)?;
         let next_owner = OwnerHash::from_octets_unchecked(hash.as_slice());

@@ -1,11 +1,10 @@
 //! NSEC3 data as text (RFC 5155, section 3.3).
-ghost use Rattle.std.specs.Prelude.{◌≡◌, Some, IfOk, IfErr, IfSome};
-ghost use Rattle.domain_names.specs.TextFault.{scan_fault_of};
+ghost use Rattle.std.specs.Prelude.{◌≡◌, Some, IfOk, IfSome};
 ghost use Rattle.domain_bitmap.specs.{Blocks.types_of, Text.spaced_types};
 ghost use Rattle.domain_chain_rdata.specs.OptOut.{opt_out_comment};
 ghost use Rattle.domain_chain_rdata.specs.Rdata.{nsec3, nsec3_values};
 ghost use Rattle.domain_chain_rdata.specs.Nsec3Text.{Nsec3Text, RefusesNsec3, params_before_hash, nsec3_text, nsec3_pieces};
-ghost use Rattle.domain_fields.specs.Layout.{Fits};
+ghost use Rattle.domain_fields.specs.{Layout.Fits, Scan.ReadsTokens};
 
 use crate::nsec3param::HashNumbers;
 use crate::nsec3param_text::write_numbers;
@@ -33,12 +32,9 @@ where
     /// `Custom("unknown record type")`, `ShortBuf` and `OutOfMemory` where the bitmap has no room
     /// or no memory. The tokens left are then an end of those before.
     pub fn scan<S: Scanner<Octets = O>>(alloc: Global, scanner: &mut S) -> Result<Self, ScanError>
-        ensures ok { IfOk result (λ d.
-            Nsec3Text (S.tokens scanner.old) (nsec3_values d) (S.tokens scanner.new)) }
+        ensures read { ReadsTokens Nsec3Text nsec3_values (RefusesNsec3 O.Builder.limit)
+            (S.tokens scanner.old) (S.tokens scanner.new) result }
         ensures fits { IfOk result (λ d. Fits nsec3 (nsec3_values d)) }
-        ensures err { IfErr result (λ e.
-            RefusesNsec3 O.Builder.limit (S.tokens scanner.old) (S.tokens scanner.new)
-            (scan_fault_of e)) }
     {
         let params = Nsec3param::scan(alloc, scanner)?;
         let next_owner = OwnerHash::scan(alloc, scanner)?;

@@ -1,5 +1,5 @@
 //! The parameters of the hashes of a zone's names (RFC 5155, section 4).
-ghost use Rattle.std.specs.Prelude.{◌≡◌, ◌↔◌, [], Some, IsTrue, IfOk, IfErr, OnErr, length, refl};
+ghost use Rattle.std.specs.Prelude.{◌≡◌, ◌↔◌, [], Some, IsTrue, IfOk, length, refl};
 ghost use Rattle.std.specs.{Prelude.{bytes_eq, IsNone}, List.flat_map, Ordering.{on, nat_cmp}};
 ghost use Rattle.std.specs.Cmp.{partial_equiv_from_equiv, po};
 ghost use Rattle.std.specs.Cmp.Lexicographic.{slice_cmp, on_texts, on_texts_equal};
@@ -7,7 +7,7 @@ ghost use Rattle.std.specs.Hash as fed;
 ghost use Rattle.domain_octets.specs.Limit.{IsOver};
 ghost use Rattle.domain_names.specs.Fault.{fault_of};
 ghost use Rattle.domain_base.specs.Types as rtypes;
-ghost use Rattle.domain_fields.specs.{Layout.{Begins, Fits, FirstFault, GoesOn}, Laws.fed_alike};
+ghost use Rattle.domain_fields.specs.{Layout.{Begins, Fits, FirstFault, Reads}, Laws.fed_alike};
 ghost use Rattle.domain_fields.specs.{Laws.tied_octets, DataClone.copies_tied};
 ghost use Rattle.domain_chain_rdata.specs.OptOut.{is_opt_out, with_opt_out};
 ghost use Rattle.domain_chain_rdata.specs.Rdata.{nsec3param, nsec3param_values, nsec3param_octets, uncounted, uncounted_octets};
@@ -211,11 +211,7 @@ impl<'a> Nsec3param<&'a [u8]> {
     ///
     /// `ShortInput` where an octet is missing. The parser then stands where it stood.
     pub fn parse(parser: &mut Parser<'a>) -> Result<Self, ParseError>
-        ensures ok { IfOk result (λ d.
-            Begins nsec3param parser.old.left (nsec3param_values d) parser.new.left) }
-        ensures err { IfErr result (λ e. FirstFault nsec3param parser.old.left (fault_of e)) }
-        ensures unmoved { OnErr result (parser.new ≡ parser.old) }
-        ensures goes_on { GoesOn parser.old parser.new }
+        ensures { Reads nsec3param nsec3param_values fault_of parser.old parser.new result }
     {
         match ParamFields::<'a>::read(parser) {
             Ok(fields) => Ok(params_of(fields)),

@@ -1,7 +1,6 @@
 //! The parameters of the hashes of names as text (RFC 5155, section 4.3).
-ghost use Rattle.std.specs.Prelude.{◌≡◌, ◌++◌, Some, IfOk, IfErr, OnOk};
-ghost use Rattle.domain_names.specs.TextFault.{scan_fault_of};
-ghost use Rattle.domain_fields.specs.Layout.{Fits};
+ghost use Rattle.std.specs.Prelude.{◌≡◌, ◌++◌, Some, IfOk, OnOk};
+ghost use Rattle.domain_fields.specs.{Layout.Fits, Scan.ReadsTokens};
 ghost use Rattle.domain_chain_rdata.specs.Rdata.{nsec3param, nsec3param_values};
 ghost use Rattle.domain_chain_rdata.specs.Nsec3paramText.{Nsec3paramText, RefusesNsec3param, hash_numbers_text, nsec3param_text, number_pieces, nsec3param_pieces};
 
@@ -22,12 +21,10 @@ impl<O: FromBuilder + Drop> Nsec3param<O> {
     ///
     /// That of the first field that is refused. The tokens left are then an end of those before.
     pub fn scan<S: Scanner<Octets = O>>(alloc: Global, scanner: &mut S) -> Result<Self, ScanError>
-        ensures ok { IfOk result (λ d.
-            Nsec3paramText (S.tokens scanner.old) (nsec3param_values d) (S.tokens scanner.new)) }
+        ensures read { ReadsTokens Nsec3paramText nsec3param_values
+            (RefusesNsec3param O.Builder.limit) (S.tokens scanner.old) (S.tokens scanner.new)
+            result }
         ensures fits { IfOk result (λ d. Fits nsec3param (nsec3param_values d)) }
-        ensures err { IfErr result (λ e.
-            RefusesNsec3param O.Builder.limit (S.tokens scanner.old) (S.tokens scanner.new)
-            (scan_fault_of e)) }
     {
         let numbers = <HashNumbers as ScanFields<S>>::scan(alloc, scanner)?;
         let (hash_algorithm, (flags, iterations)) = numbers;

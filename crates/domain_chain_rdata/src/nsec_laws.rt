@@ -1,14 +1,14 @@
 //! What holds of the octets and the text of NSEC data (RFC 4034, section 4).
 //! A caller calls the law in its body.
 ghost use Rattle.std.specs.Prelude.{◌≡◌, ℕ, ◌++◌, [], Option, codes};
-ghost use Rattle.domain_octets.specs.{Line.words_of, Words.Octets};
+ghost use Rattle.domain_octets.specs.Line.{words_of};
 ghost use Rattle.domain_names.specs.{TextFault.{ScanFault, IsOfTokens}, Text.name_text};
-ghost use Rattle.domain_names.specs.Words.{Name, Tokens};
+ghost use Rattle.domain_names.specs.Words.{Tokens};
 ghost use Rattle.domain_bitmap.specs.{Bitmap.bitmap_octets, Blocks.{IsShortest, types_of}};
 ghost use Rattle.domain_bitmap.specs.{Scan.is_among, Text.types_text};
 ghost use Rattle.domain_chain_rdata.specs.NsecText.{NsecText, RefusesNsec};
 ghost use Rattle.domain_chain_rdata.specs.Rdata.{nsec, nsec_values};
-ghost use Rattle.domain_fields.specs.Layout.{ParsesBack};
+ghost use Rattle.domain_fields.specs.Layout.{ParsesBack, Values};
 
 use crate::Nsec;
 use domain_base::ToName;
@@ -29,12 +29,13 @@ pub fn nsec_parses_back<O: Octets, N: ToName>(value: &Nsec<O, N>)
 #[tactic(auto, using(crate::proofs::ReadBackLemmas::nsec_text_back, crate::proofs::ReadBackLemmas::nsec_text_same))]
 pub fn nsec_reads_back<O: Octets, N: ToName>(value: &Nsec<O, N>)
     ensures types { NsecText (words_of (name_text (N.labels value.now.next_name) ++ codes ". "
-        ++ types_text (types_of value.now.types))) (N.labels value.now.next_name)
-        (bitmap_octets (is_among (types_of value.now.types))) [] }
+        ++ types_text (types_of value.now.types))) (
+          N.labels value.now.next_name,
+          bitmap_octets (is_among (types_of value.now.types)),
+        ) [] }
     ensures same { IsShortest value.now.types
         → NsecText (words_of (name_text (N.labels value.now.next_name) ++ codes ". "
-        ++ types_text (types_of value.now.types))) (N.labels value.now.next_name)
-        value.now.types [] }
+        ++ types_text (types_of value.now.types))) (nsec_values N.labels value.now) [] }
 {
     value.fields().fits();
 }
@@ -43,9 +44,8 @@ pub fn nsec_reads_back<O: Octets, N: ToName>(value: &Nsec<O, N>)
 /// builders with any limit.
 pub fn refused_tokens_spell_no_nsec()
     ensures { (names bitmaps : Option ℕ) (old new after : Tokens) (fault : ScanFault)
-        (labels : Name) (octets : Octets) → RefusesNsec names bitmaps old new fault
-        → IsOfTokens names fault → IsOfTokens bitmaps fault → NsecText old labels octets after
-        → ⊥ }
+        (v : Values nsec) → RefusesNsec names bitmaps old new fault
+        → IsOfTokens names fault → IsOfTokens bitmaps fault → NsecText old v after → ⊥ }
 {}
 
 /// Tokens are refused as NSEC data, but for want of room or of memory, for one reason, and the

@@ -1,8 +1,10 @@
 //! NSEC data as text.
-ghost use Rattle.std.specs.Prelude.{◌++◌, Some, codes, IfOk, IfErr};
-ghost use Rattle.domain_names.specs.{TextFault.scan_fault_of, Text.name_text};
+ghost use Rattle.std.specs.Prelude.{◌++◌, Some, codes};
+ghost use Rattle.domain_names.specs.Text.{name_text};
 ghost use Rattle.domain_bitmap.specs.{Blocks.types_of, Text.types_text};
 ghost use Rattle.domain_chain_rdata.specs.NsecText.{NsecText, RefusesNsec, nsec_pieces};
+ghost use Rattle.domain_fields.specs.Scan.{ReadsTokens};
+ghost use Rattle.domain_chain_rdata.specs.Rdata.{nsec_values};
 
 use crate::Nsec;
 use domain_base::{ScanError, Scanner, ToName};
@@ -28,11 +30,9 @@ where
     pub fn scan<S: Scanner<Name = N>>(alloc: Global, scanner: &mut S) -> Result<Self, ScanError>
     where
         N: Drop,
-        ensures ok { IfOk result (λ d.
-            NsecText (S.tokens scanner.old) (N.labels d.next_name) d.types (S.tokens scanner.new)) }
-        ensures err { IfErr result (λ e.
-            RefusesNsec S.Octets.Builder.limit O.Builder.limit (S.tokens scanner.old)
-            (S.tokens scanner.new) (scan_fault_of e)) }
+        ensures { ReadsTokens NsecText (nsec_values N.labels)
+            (RefusesNsec S.Octets.Builder.limit O.Builder.limit) (S.tokens scanner.old)
+            (S.tokens scanner.new) result }
     {
         let next_name = scanner.scan_name(alloc)?;
         let types = RtypeBitmap::scan(alloc, scanner)?;

@@ -1,5 +1,6 @@
 -- data on the wire: fields in their order
-use Rattle.std.specs.{Prelude.{◌≡◌, ◌+◌, [], ◌++◌, length, Bool, true, false, ◌&&◌}, declared.cmp.Ordering.Ordering, Ordering.nat_cmp}
+use Rattle.std.specs.Prelude.{◌≡◌, ◌+◌, [], ◌++◌, length, Bool, true, false, ◌&&◌, Result, IfOk, IfErr, OnErr}
+use Rattle.std.specs.{declared.cmp.Ordering.Ordering, Ordering.nat_cmp}
 use Rattle.std.specs.Cmp.Lexicographic.{slice_cmp}
 use Rattle.domain_octets.specs.{Place.Place, Words.Octets}
 use Rattle.domain_names.specs.Fault.{Fault}
@@ -81,3 +82,12 @@ splits (a ▸ b) = is_delimited a && splits b
 -- it has gone on over what is no longer left
 pub record GoesOn (old new : Place) : Type 0 where
   pub whole : new.pos + length new.left ≡ old.pos + length old.left
+
+-- what is promised of reading data from a place: what they are, and that a refusal names the first
+-- fault and leaves the place
+pub record Reads {D E : Type 0} (l : Layout) (values : D → Values l) (fault : E → Fault)
+    (old new : Place) (result : Result D E) : Type 0 where
+  pub ok : IfOk result (λ d. Begins l old.left (values d) new.left)
+  pub err : IfErr result (λ e. FirstFault l old.left (fault e))
+  pub unmoved : OnErr result (new ≡ old)
+  pub goes_on : GoesOn old new

@@ -1,8 +1,7 @@
 //! The fields of record data, read from octets.
-ghost use Rattle.std.specs.Prelude.{◌≡◌, IfOk, IfErr, OnErr};
 ghost use Rattle.domain_fields.specs.WireFault.{wire_fault_of};
 ghost use Rattle.domain_fields.specs.Field.{octet, short, long, name, spelled_name, counted, exactly, at_most, rest, types};
-ghost use Rattle.domain_fields.specs.Layout.{Layout, one, ◌▸◌, Values, Begins, FirstFault, GoesOn};
+ghost use Rattle.domain_fields.specs.Layout.{Layout, one, ◌▸◌, Values, Reads};
 
 use crate::WireFault;
 use crate::counted::Counted;
@@ -24,11 +23,7 @@ pub trait ReadFields<'a>: Drop {
     fn read(parser: &mut Parser<'a>) -> Result<Self, WireFault>
     where
         Self: Sized,
-        ensures ok { IfOk result (λ fields.
-            Begins layout parser.old.left (values fields) parser.new.left) }
-        ensures err { IfErr result (λ e. FirstFault layout parser.old.left (wire_fault_of e)) }
-        ensures unmoved { OnErr result (parser.new ≡ parser.old) }
-        ensures goes_on { GoesOn parser.old parser.new };
+        ensures { Reads layout values wire_fault_of parser.old parser.new result };
 }
 
 impl<'a> ReadFields<'a> for u8 {

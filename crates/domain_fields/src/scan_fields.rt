@@ -1,9 +1,8 @@
 //! The fields of record data as tokens.
-ghost use Rattle.std.specs.{Prelude.{IfOk, IfErr}, Net.{Addr.ipv4_octets, Grammar.IsDotted}};
-ghost use Rattle.domain_names.specs.TextFault.{scan_fault_of};
+ghost use Rattle.std.specs.Net.{Addr.ipv4_octets, Grammar.IsDotted};
 ghost use Rattle.domain_fields.specs.Field.{octet, short, long, name, exactly};
 ghost use Rattle.domain_fields.specs.Layout.{Layout, one, ◌▸◌, Values};
-ghost use Rattle.domain_fields.specs.Scan.{Scans, Refuses, IsNoAddress};
+ghost use Rattle.domain_fields.specs.Scan.{Scans, Refuses, ReadsTokens, IsNoAddress};
 
 use domain_base::{FromToken, ScanError, Scanner, ToName};
 use std::alloc::Global;
@@ -22,11 +21,8 @@ pub trait ScanFields<S: Scanner> {
     fn scan(alloc: Global, scanner: &mut S) -> Result<Self, ScanError>
     where
         Self: Sized,
-        ensures ok { IfOk result (λ fields.
-            Scans layout (S.tokens scanner.old) (values fields) (S.tokens scanner.new)) }
-        ensures err { IfErr result (λ e.
-            Refuses S.Octets.Builder.limit layout (S.tokens scanner.old) (S.tokens scanner.new)
-            (scan_fault_of e)) };
+        ensures { ReadsTokens (Scans layout) values (Refuses S.Octets.Builder.limit layout)
+            (S.tokens scanner.old) (S.tokens scanner.new) result };
 }
 
 /// A name that was read from a token.

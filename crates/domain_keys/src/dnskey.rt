@@ -1,5 +1,5 @@
 //! Keys of zones (RFC 4034, section 2).
-ghost use Rattle.std.specs.Prelude.{◌≡◌, ◌≤◌, ◌↔◌, Some, IsTrue, IsOk, IfOk, IfErr, OnErr, length};
+ghost use Rattle.std.specs.Prelude.{◌≡◌, ◌≤◌, ◌↔◌, Some, IsTrue, IsOk, IfOk, length};
 ghost use Rattle.std.specs.{Prelude.{refl, bytes_eq, IsNone}, List.flat_map};
 ghost use Rattle.std.specs.{Ordering.{on, nat_cmp}, Cmp.{partial_equiv_from_equiv, po}};
 ghost use Rattle.std.specs.Cmp.Lexicographic.{slice_cmp, on_texts, on_texts_equal};
@@ -7,7 +7,7 @@ ghost use Rattle.std.specs.Hash as fed;
 ghost use Rattle.domain_octets.specs.Limit.{IsOver};
 ghost use Rattle.domain_names.specs.Fault.{fault_of};
 ghost use Rattle.domain_base.specs.Types as rtypes;
-ghost use Rattle.domain_fields.specs.Layout.{Begins, Fits, FirstFault, GoesOn};
+ghost use Rattle.domain_fields.specs.Layout.{Begins, Fits, FirstFault, Reads};
 ghost use Rattle.domain_fields.specs.{Laws.{fed_alike, tied_octets}, DataClone.copies_tied};
 ghost use Rattle.domain_keys.specs.Data.{dnskey_data, dnskey, dnskey_values, dnskey_octets};
 ghost use Rattle.domain_keys.specs.Flags.{is_revoked, is_secure_entry_point, is_zone_key};
@@ -233,11 +233,7 @@ impl<'a> Dnskey<&'a [u8]> {
     /// `ShortInput` for fewer than four octets, then `Form("record data too long")` for over
     /// 65,535. The parser then stands where it stood.
     pub fn parse(parser: &mut Parser<'a>) -> Result<Self, ParseError>
-        ensures ok { IfOk result (λ d.
-            Begins dnskey parser.old.left (dnskey_values d) parser.new.left) }
-        ensures err { IfErr result (λ e. FirstFault dnskey parser.old.left (fault_of e)) }
-        ensures unmoved { OnErr result (parser.new ≡ parser.old) }
-        ensures goes_on { GoesOn parser.old parser.new }
+        ensures { Reads dnskey dnskey_values fault_of parser.old parser.new result }
     {
         let (flags, (protocol, (algorithm, (AtMost, Rest(public_key))))) = KeyFields::read(parser)?;
         Ok(Dnskey {

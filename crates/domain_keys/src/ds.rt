@@ -1,5 +1,5 @@
 //! Digests of keys (RFC 4034, section 5).
-ghost use Rattle.std.specs.Prelude.{◌≡◌, ◌≤◌, ◌↔◌, Some, IsTrue, IsOk, IfOk, IfErr, OnErr, length};
+ghost use Rattle.std.specs.Prelude.{◌≡◌, ◌≤◌, ◌↔◌, Some, IsTrue, IsOk, IfOk, length};
 ghost use Rattle.std.specs.{Prelude.{refl, bytes_eq, IsNone}, List.flat_map};
 ghost use Rattle.std.specs.{Ordering.{on, nat_cmp}, Cmp.{partial_equiv_from_equiv, po}};
 ghost use Rattle.std.specs.Cmp.Lexicographic.{slice_cmp, on_texts, on_texts_equal};
@@ -7,7 +7,7 @@ ghost use Rattle.std.specs.Hash as fed;
 ghost use Rattle.domain_octets.specs.Limit.{IsOver};
 ghost use Rattle.domain_names.specs.Fault.{fault_of};
 ghost use Rattle.domain_base.specs.Types as rtypes;
-ghost use Rattle.domain_fields.specs.Layout.{Begins, Fits, FirstFault, GoesOn};
+ghost use Rattle.domain_fields.specs.Layout.{Begins, Fits, FirstFault, Reads};
 ghost use Rattle.domain_fields.specs.{Laws.{fed_alike, tied_octets}, DataClone.copies_tied};
 ghost use Rattle.domain_keys.specs.Data.{ds_data, ds, ds_values, ds_octets};
 
@@ -175,10 +175,7 @@ impl<'a> Ds<&'a [u8]> {
     /// `ShortInput` for fewer than four octets, then `Form("record data too long")` for over
     /// 65,535. The parser then stands where it stood.
     pub fn parse(parser: &mut Parser<'a>) -> Result<Self, ParseError>
-        ensures ok { IfOk result (λ d. Begins ds parser.old.left (ds_values d) parser.new.left) }
-        ensures err { IfErr result (λ e. FirstFault ds parser.old.left (fault_of e)) }
-        ensures unmoved { OnErr result (parser.new ≡ parser.old) }
-        ensures goes_on { GoesOn parser.old parser.new }
+        ensures { Reads ds ds_values fault_of parser.old parser.new result }
     {
         let (key_tag, (algorithm, (digest_type, (AtMost, Rest(digest))))) = KeyFields::read(
             parser,

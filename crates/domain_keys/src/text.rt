@@ -1,8 +1,8 @@
 //! Keys and digests of keys as text (RFC 4034, sections 2.2 and 5.3).
-ghost use Rattle.std.specs.Prelude.{◌≡◌, [], Some, IfOk, IfErr, OnOk};
-ghost use Rattle.domain_names.specs.TextFault.{scan_fault_of};
+ghost use Rattle.std.specs.Prelude.{Some};
 ghost use Rattle.domain_keys.specs.Pieces.{dnskey_text, dnskey_pieces, ds_text, ds_pieces};
 ghost use Rattle.domain_keys.specs.Scan.{DnskeyText, RefusesDnskey, DsText, RefusesDs};
+ghost use Rattle.domain_fields.specs.Scan.{AllTokens, ReadsTokens};
 
 use crate::entry::scan_entry;
 use crate::flags::FlagsComment;
@@ -25,11 +25,8 @@ impl<O: FromBuilder + Drop> Dnskey<O> {
     /// end of those before.
     #[tactic(auto, unfolding(domain_fields::specs::Layout::octets_of))]
     pub fn scan<S: Scanner<Octets = O>>(alloc: Global, scanner: &mut S) -> Result<Self, ScanError>
-        ensures ok { IfOk result (DnskeyText (S.tokens scanner.old)) }
-        ensures all { OnOk result (S.tokens scanner.new ≡ []) }
-        ensures err { IfErr result (λ e.
-            RefusesDnskey O.Builder.limit (S.tokens scanner.old) (S.tokens scanner.new)
-            (scan_fault_of e)) }
+        ensures { ReadsTokens (AllTokens DnskeyText) (λ d. d) (RefusesDnskey O.Builder.limit)
+            (S.tokens scanner.old) (S.tokens scanner.new) result }
     {
         let (numbers, public_key) = scan_entry(alloc, scanner, Codec::Base64)?;
         let (flags, (protocol, algorithm)) = numbers;
@@ -89,11 +86,8 @@ impl<O: FromBuilder + Drop> Ds<O> {
     /// end of those before.
     #[tactic(auto, unfolding(domain_fields::specs::Layout::octets_of))]
     pub fn scan<S: Scanner<Octets = O>>(alloc: Global, scanner: &mut S) -> Result<Self, ScanError>
-        ensures ok { IfOk result (DsText (S.tokens scanner.old)) }
-        ensures all { OnOk result (S.tokens scanner.new ≡ []) }
-        ensures err { IfErr result (λ e.
-            RefusesDs O.Builder.limit (S.tokens scanner.old) (S.tokens scanner.new)
-            (scan_fault_of e)) }
+        ensures { ReadsTokens (AllTokens DsText) (λ d. d) (RefusesDs O.Builder.limit)
+            (S.tokens scanner.old) (S.tokens scanner.new) result }
     {
         let (numbers, digest) = scan_entry(alloc, scanner, Codec::Base16)?;
         let (key_tag, (algorithm, digest_type)) = numbers;

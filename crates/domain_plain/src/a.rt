@@ -1,10 +1,10 @@
 //! Addresses of hosts.
-ghost use Rattle.std.specs.Prelude.{◌≡◌, refl, IfOk, IsOk, IfErr, OnErr, Some};
+ghost use Rattle.std.specs.Prelude.{◌≡◌, refl, IfOk, IsOk, Some};
 ghost use Rattle.std.specs.{Net.{Addr.ipv4_octets, Text.ipv4_text}, Ordering.{on, nat_cmp}};
 ghost use Rattle.std.specs.Cmp.Lexicographic.{slice_cmp, on_texts};
-ghost use Rattle.domain_names.specs.{TextFault.scan_fault_of, Fault.fault_of};
-ghost use Rattle.domain_fields.specs.{Scan.{Scans, Refuses}, Layout.{Begins, FirstFault, GoesOn}};
-ghost use Rattle.domain_fields.specs.{Layout.{octets_of, canonical_of}, DataClone.same_values_tie};
+ghost use Rattle.domain_names.specs.Fault.{fault_of};
+ghost use Rattle.domain_fields.specs.Layout.{Begins, FirstFault, Reads, octets_of, canonical_of};
+ghost use Rattle.domain_fields.specs.{Scan.{Scans, Refuses, ReadsTokens}, DataClone.same_values_tie};
 ghost use Rattle.domain_base.specs.Types as rtypes;
 ghost use Rattle.domain_plain.specs.Plain.{a, a_values};
 
@@ -39,10 +39,7 @@ impl A {
     ///
     /// `ShortInput` for fewer than four octets. The parser then stands where it stood.
     pub fn parse<'a>(parser: &mut Parser<'a>) -> Result<Self, ParseError>
-        ensures ok { IfOk result (λ d. Begins a parser.old.left (a_values d) parser.new.left) }
-        ensures err { IfErr result (λ e. FirstFault a parser.old.left (fault_of e)) }
-        ensures unmoved { OnErr result (parser.new ≡ parser.old) }
-        ensures goes_on { GoesOn parser.old parser.new }
+        ensures { Reads a a_values fault_of parser.old parser.new result }
     {
         let Exactly(octets) = Exactly::<4>::read(parser)?;
         Ok(A::new(Ipv4Addr::from(octets)))
@@ -50,11 +47,8 @@ impl A {
 
     /// The data that the tokens begin with: an address. A refusal leaves an end of the tokens.
     pub fn scan<S: Scanner>(alloc: Global, scanner: &mut S) -> Result<Self, ScanError>
-        ensures ok { IfOk result (λ d.
-            Scans a (S.tokens scanner.old) (a_values d) (S.tokens scanner.new)) }
-        ensures err { IfErr result (λ e.
-            Refuses S.Octets.Builder.limit a (S.tokens scanner.old) (S.tokens scanner.new)
-            (scan_fault_of e)) }
+        ensures { ReadsTokens (Scans a) a_values (Refuses S.Octets.Builder.limit a)
+            (S.tokens scanner.old) (S.tokens scanner.new) result }
     {
         let Address(addr) = <Address as ScanFields<S>>::scan(alloc, scanner)?;
         Ok(A { addr })

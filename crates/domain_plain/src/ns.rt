@@ -1,9 +1,9 @@
 //! Name servers.
-ghost use Rattle.std.specs.Prelude.{◌≡◌, ◌++◌, refl, IfOk, IfErr, OnErr, Some, codes};
+ghost use Rattle.std.specs.Prelude.{◌≡◌, ◌++◌, refl, IfOk, Some, codes};
 ghost use Rattle.std.specs.{Ordering.{on, nat_cmp}, Cmp.Lexicographic.{slice_cmp, on_texts}};
-ghost use Rattle.domain_names.specs.{TextFault.scan_fault_of, Text.name_text, Fault.fault_of};
-ghost use Rattle.domain_fields.specs.{Scan.{Scans, Refuses}, Layout.{Begins, FirstFault, GoesOn}};
-ghost use Rattle.domain_fields.specs.{Layout.{octets_of, canonical_of}, DataClone.same_values_tie};
+ghost use Rattle.domain_names.specs.{Text.name_text, Fault.fault_of};
+ghost use Rattle.domain_fields.specs.Layout.{Begins, FirstFault, Reads, octets_of, canonical_of};
+ghost use Rattle.domain_fields.specs.{Scan.{Scans, Refuses, ReadsTokens}, DataClone.same_values_tie};
 ghost use Rattle.domain_base.specs.Types as rtypes;
 ghost use Rattle.domain_plain.specs.Plain.{ns, ns_values};
 
@@ -93,11 +93,8 @@ impl<N: ToName> Ns<N> {
     pub fn scan<S: Scanner<Name = N>>(alloc: Global, scanner: &mut S) -> Result<Self, ScanError>
     where
         N: Drop,
-        ensures ok { IfOk result (λ d.
-            Scans ns (S.tokens scanner.old) (ns_values N.labels d) (S.tokens scanner.new)) }
-        ensures err { IfErr result (λ e.
-            Refuses S.Octets.Builder.limit ns (S.tokens scanner.old) (S.tokens scanner.new)
-            (scan_fault_of e)) }
+        ensures { ReadsTokens (Scans ns) (ns_values N.labels) (Refuses S.Octets.Builder.limit ns)
+            (S.tokens scanner.old) (S.tokens scanner.new) result }
     {
         let Scanned(nsdname) = <Scanned<N> as ScanFields<S>>::scan(alloc, scanner)?;
         Ok(Ns { nsdname })
@@ -120,11 +117,7 @@ impl<'a> Ns<ParsedName<'a>> {
     /// octet is `ShortInput`, a length over 63 or a pointer `Form("compressed or bad label")`, a
     /// name over 255 octets `Form("long domain name")`. The parser then stands where it stood.
     pub fn parse(parser: &mut Parser<'a>) -> Result<Self, ParseError>
-        ensures ok { IfOk result (λ d.
-            Begins ns parser.old.left (ns_values (λ name. name) d) parser.new.left) }
-        ensures err { IfErr result (λ e. FirstFault ns parser.old.left (fault_of e)) }
-        ensures unmoved { OnErr result (parser.new ≡ parser.old) }
-        ensures goes_on { GoesOn parser.old parser.new }
+        ensures { Reads ns (ns_values (λ name. name)) fault_of parser.old parser.new result }
     {
         Ok(Ns::new(<ParsedName<'a> as ReadFields<'a>>::read(parser)?))
     }

@@ -1,9 +1,9 @@
 //! Starts of zones.
-ghost use Rattle.std.specs.{Prelude.{◌≡◌, ◌⊎◌, refl, IfOk, IfErr, OnErr}, Ordering.{on, nat_cmp}};
+ghost use Rattle.std.specs.{Prelude.{◌≡◌, ◌⊎◌, refl, IfOk}, Ordering.{on, nat_cmp}};
 ghost use Rattle.std.specs.Cmp.Lexicographic.{slice_cmp, on_texts};
-ghost use Rattle.domain_names.specs.{TextFault.scan_fault_of, Fault.fault_of};
-ghost use Rattle.domain_fields.specs.{Scan.{Scans, Refuses}, Layout.{Begins, FirstFault, GoesOn}};
-ghost use Rattle.domain_fields.specs.{Layout.{octets_of, canonical_of}, DataClone.same_values_tie};
+ghost use Rattle.domain_names.specs.Fault.{fault_of};
+ghost use Rattle.domain_fields.specs.Layout.{Begins, FirstFault, Reads, octets_of, canonical_of};
+ghost use Rattle.domain_fields.specs.{Scan.{Scans, Refuses, ReadsTokens}, DataClone.same_values_tie};
 ghost use Rattle.domain_base.specs.Types as rtypes;
 ghost use Rattle.domain_plain.specs.{Plain.{soa, soa_values}, Soa.{IsSoaWith, soa_text}};
 
@@ -225,11 +225,8 @@ impl<N: ToName> Soa<N> {
     pub fn scan<S: Scanner<Name = N>>(alloc: Global, scanner: &mut S) -> Result<Self, ScanError>
     where
         N: Drop,
-        ensures ok { IfOk result (λ d.
-            Scans soa (S.tokens scanner.old) (soa_values N.labels d) (S.tokens scanner.new)) }
-        ensures err { IfErr result (λ e.
-            Refuses S.Octets.Builder.limit soa (S.tokens scanner.old) (S.tokens scanner.new)
-            (scan_fault_of e)) }
+        ensures { ReadsTokens (Scans soa) (soa_values N.labels) (Refuses S.Octets.Builder.limit soa)
+            (S.tokens scanner.old) (S.tokens scanner.new) result }
     {
         let ((Scanned(mname), Scanned(rname)), numbers) = <ScannedSoa<N> as ScanFields<S>>::scan(
             alloc, scanner,
@@ -264,11 +261,7 @@ impl<'a> Soa<ParsedName<'a>> {
     /// name over 255 octets `Form("long domain name")`; a missing octet of a number is
     /// `ShortInput`. The parser then stands where it stood.
     pub fn parse(parser: &mut Parser<'a>) -> Result<Self, ParseError>
-        ensures ok { IfOk result (λ d.
-            Begins soa parser.old.left (soa_values (λ name. name) d) parser.new.left) }
-        ensures err { IfErr result (λ e. FirstFault soa parser.old.left (fault_of e)) }
-        ensures unmoved { OnErr result (parser.new ≡ parser.old) }
-        ensures goes_on { GoesOn parser.old parser.new }
+        ensures { Reads soa (soa_values (λ name. name)) fault_of parser.old parser.new result }
     {
         let ((mname, rname), numbers) = SoaFields::read(parser)?;
         Ok(Soa::of_parts(mname, rname, numbers))

@@ -1,13 +1,13 @@
 //! Data of types that are not known, and their text (RFC 3597, section 5).
-ghost use Rattle.std.specs.Prelude.{◌≡◌, ◌≤◌, ◌↔◌, length, IsOk, IsNone, IfOk, IfErr, OnOk, OnErr, Some};
-ghost use Rattle.std.specs.{Prelude.{[]}, Ordering.{on, nat_cmp}};
+ghost use Rattle.std.specs.Prelude.{◌≡◌, ◌≤◌, ◌↔◌, length, IsOk, IsNone, IfOk, Some};
+ghost use Rattle.std.specs.Ordering.{on, nat_cmp};
 ghost use Rattle.std.specs.Cmp.Lexicographic.{slice_cmp, on_texts};
 ghost use Rattle.domain_octets.specs.{Limit.IsOver, Words.AreOctets};
-ghost use Rattle.domain_names.specs.{Fault.fault_of, TextFault.scan_fault_of};
+ghost use Rattle.domain_names.specs.Fault.{fault_of};
 ghost use Rattle.domain_plain.specs.Generic.{GenericText, GenericFault, IsNoMark, generic_mark, generic_text};
 ghost use Rattle.domain_plain.specs.Plain.{unknown, unknown_values};
-ghost use Rattle.domain_fields.specs.Layout.{Begins, FirstFault, GoesOn, octets_of, canonical_of};
-ghost use Rattle.domain_fields.specs.DataClone.{same_values_tie};
+ghost use Rattle.domain_fields.specs.Layout.{Begins, FirstFault, octets_of, canonical_of, Reads};
+ghost use Rattle.domain_fields.specs.{DataClone.same_values_tie, Scan.{AllTokens, ReadsTokens}};
 
 use domain_base::{CanonicalOrd, FromToken, Rtype, ScanError, Scanner};
 use domain_codecs::{Codec, base16};
@@ -134,12 +134,9 @@ impl<O: FromBuilder> UnknownRecordData<O> {
     ) -> Result<Self, ScanError>
     where
         O: Drop,
-        ensures ok { IfOk result (λ d. GenericText (S.tokens scanner.old) (O.octets d.«data»)) }
+        ensures read { ReadsTokens (AllTokens GenericText) (λ d. O.octets d.«data»)
+            (GenericFault O.Builder.limit) (S.tokens scanner.old) (S.tokens scanner.new) result }
         ensures rtype { IfOk result (λ d. d.rtype ≡ rtype) }
-        ensures all { OnOk result (S.tokens scanner.new ≡ []) }
-        ensures err { IfErr result (λ e.
-            GenericFault O.Builder.limit (S.tokens scanner.old) (S.tokens scanner.new)
-            (scan_fault_of e)) }
     {
         <GenericMark as FromToken>::scan(scanner)?;
         let count = <u16 as FromToken>::scan(scanner)?;
@@ -159,13 +156,9 @@ impl<'a> UnknownRecordData<&'a [u8]> {
     /// `Form("record data too long")` for over 65,535 octets. The parser then stands where it
     /// stood.
     pub fn parse(rtype: Rtype, parser: &mut Parser<'a>) -> Result<Self, ParseError>
-        ensures ok { IfOk result (λ d.
-            Begins unknown parser.old.left (unknown_values (λ octets. octets.now) d)
-            parser.new.left) }
+        ensures read { Reads unknown (unknown_values (λ octets. octets.now)) fault_of parser.old
+            parser.new result }
         ensures rtype { IfOk result (λ d. d.rtype ≡ rtype) }
-        ensures err { IfErr result (λ e. FirstFault unknown parser.old.left (fault_of e)) }
-        ensures unmoved { OnErr result (parser.new ≡ parser.old) }
-        ensures goes_on { GoesOn parser.old parser.new }
     {
         let (AtMost, Rest(data)) = <(AtMost<MAX_RDLEN>, Rest<'a>)>::read(parser)?;
         Ok(UnknownRecordData { rtype, data })

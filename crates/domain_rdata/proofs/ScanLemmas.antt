@@ -8,9 +8,9 @@ use Rattle.domain_keys.proofs.RefusalLemmas.{dnskey_once, ds_once, refused_dnske
 use Rattle.domain_rrsig.{specs.{Data.rrsig_values, Scan.RrsigText}, proofs.RefusalLemmas.{rrsig_once, refused_rrsig}}
 use Rattle.domain_chain_rdata.proofs.TextLemmas.{nsec_once, nsec_refused, params_exact, nsec3_exact}
 use Rattle.domain_rdata.specs.Kind.{Kind, plain, key, digest, signature, next_by_name, next_by_hash, params, layout_of, AreFields, FieldsText, dnskey_of, ds_of}
-use Rattle.domain_rdata.specs.{Kind.rrsig_of, Refusal.{RefusesKind, RefusesKnown, AreOfKind, OctetsFault, RefusesRdata, in_own, in_generic, in_octets}}
+use Rattle.domain_rdata.specs.{Kind.rrsig_of, Refusal.{RefusesKind, RefusesKnown, RefusesOwn, AreOfKind, OctetsFault, in_own, in_generic, in_octets}}
 use Rattle.domain_rdata.specs.{Scan.{RdataText, own, generic, ContentText, OwnText, AreContent, AreData, IsGeneric}, Zone.{kind_of, Content, fields, mere}}
-use Rattle.domain_rdata.specs.{Zone.{content_of, content_octets, IsOfKind, of_kind, wire_octets}, declared.zone_record_data.ZoneRecordData.ZoneRecordData}
+use Rattle.domain_rdata.specs.{Refusal.RefusesRdata, Zone.{content_of, content_octets, IsOfKind, of_kind, wire_octets}, declared.zone_record_data.ZoneRecordData.ZoneRecordData}
 
 -- all tokens spell data
 whole_once : {V D : Type 0} (G : List (List ℕ) → D → Type 0) (of : V → D) (values : D → V)
@@ -36,7 +36,7 @@ kind_refused (plain l) limit = fields_refused limit l
 kind_refused key limit = λ old new after v fault why is alone. refused_dnskey limit old new fault (dnskey_of v) why alone is.0
 kind_refused digest limit = λ old new after v fault why is alone. refused_ds limit old new fault (ds_of v) why alone is.0
 kind_refused signature limit = λ old new after v fault why is alone. refused_rrsig limit old new fault (rrsig_of v) why alone is.0
-kind_refused next_by_name limit = λ old new after v fault why is alone. nsec_refused limit limit old new after fault v.0 v.1 why alone alone is
+kind_refused next_by_name limit = λ old new after v fault why is alone. nsec_refused limit limit old new after fault v why alone alone is
 kind_refused next_by_hash limit = (nsec3_exact limit).apart
 kind_refused params limit = (params_exact limit).apart
 
@@ -65,6 +65,11 @@ own_refused : (known : Option Kind) (limit : Option ℕ) (old new after : List (
     → RefusesKnown limit known old new fault → IsOfTokens limit fault → Reads known old wire after → ⊥
 own_refused None limit old new after wire fault why alone read = read
 own_refused (Some k) limit old new after wire fault why alone read = kind_refused k limit old new after read.0 fault why read.1 alone
+
+-- what is refused as one type is refused as a type of that number
+pub refused_as : (limit : Option ℕ) (known rtype : ℕ) (old new : List (List ℕ)) (fault : ScanFault) → known ≡ rtype
+    → RefusesOwn limit known old new fault → RefusesOwn limit rtype old new fault
+refused_as limit known rtype old new fault same why = subst (λ t. RefusesOwn limit t old new fault) same why
 
 -- octets are data of a type of this kind, or of none, of which any octets are data
 abbrev pub AreOf : Option Kind → List ℕ → Type 0

@@ -1,8 +1,8 @@
 -- kinds of data: of what fields they are made up, and how these stand in octets and as tokens
-use Rattle.std.specs.Prelude.{◌≡◌, []}
+use Rattle.std.specs.Prelude.{[]}
 use Rattle.domain_octets.specs.Words.{Octets}
 use Rattle.domain_base.specs.Scan.{Grammar}
-use Rattle.domain_fields.specs.{Layout.{Layout, Values, Begins}, Scan.Scans}
+use Rattle.domain_fields.specs.{Layout.{Layout, Values, Begins}, Scan.{Scans, AllTokens}}
 use Rattle.domain_keys.specs.{Data.{DnskeyData, dnskey, dnskey_data, DsData, ds, ds_data}, Scan.{DnskeyText, DsText}}
 use Rattle.domain_rrsig.specs.{Data.{RrsigData, rrsig, rrsig_data, of_numbers}, Scan.RrsigText}
 use Rattle.domain_chain_rdata.specs.{NsecText.NsecText, Nsec3Text.Nsec3Text, Nsec3paramText.Nsec3paramText, Rdata.{nsec, nsec3, nsec3param}}
@@ -43,10 +43,10 @@ rrsig_of v = rrsig_data (of_numbers v.1.0.0 v.1.0.1) v.1.1
 
 -- the tokens begin with these values in the text form of the kind, and the last are left
 abbrev pub FieldsText : (k : Kind) → Grammar (Values (layout_of k))
-FieldsText (plain l) old v new = Scans l old v new
-FieldsText key old v new = DnskeyText old (dnskey_of v) × (new ≡ [])
-FieldsText digest old v new = DsText old (ds_of v) × (new ≡ [])
-FieldsText signature old v new = RrsigText old (rrsig_of v) × (new ≡ [])
-FieldsText next_by_name old v new = NsecText old v.0 v.1 new
-FieldsText next_by_hash old v new = Nsec3Text old v new
-FieldsText params old v new = Nsec3paramText old v new
+FieldsText (plain l) = Scans l
+FieldsText key = AllTokens (λ old v. DnskeyText old (dnskey_of v))
+FieldsText digest = AllTokens (λ old v. DsText old (ds_of v))
+FieldsText signature = AllTokens (λ old v. RrsigText old (rrsig_of v))
+FieldsText next_by_name = NsecText
+FieldsText next_by_hash = Nsec3Text
+FieldsText params = Nsec3paramText

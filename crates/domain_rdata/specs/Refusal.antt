@@ -1,8 +1,9 @@
 -- why record data are refused, in the text form of their type or in the generic form (RFC 1035,
 -- section 5.1, and RFC 3597, section 5)
-use Rattle.std.specs.Prelude.{◌≡◌, ◌⊎◌, ℕ, ◌<◌, ◌||◌, [], length, codes, Bool, true, false, IsTrue, Option, Some, None, IsNone}
+use Rattle.std.specs.Prelude.{◌≡◌, ◌⊎◌, ℕ, ◌<◌, ◌||◌, [], length, codes, Bool, true, false, IsTrue, Option, Some, None, IsNone, Result, IfOk, IfErr}
 use Rattle.domain_octets.specs.{Limit.IsOver, Words.Octets}
-use Rattle.domain_names.specs.{Fault.Fault, TextFault.{ScanFault, entry_ends, illegal, no_room, no_memory}, Words.Tokens}
+use Rattle.domain_names.specs.{Fault.Fault, TextFault.{ScanFault, entry_ends, illegal, no_room, no_memory, scan_fault_of}}
+use Rattle.domain_names.specs.{Words.Tokens, declared.error.ScanError.ScanError}
 use Rattle.domain_base.specs.Scan.{Refusal}
 use Rattle.domain_plain.specs.Generic.{GenericText, GenericFault}
 use Rattle.domain_fields.specs.{Field.{name, spelled_name, counted, rest, types}, Layout.{Layout, one, ◌▸◌, Values}, Scan.Refuses}
@@ -86,6 +87,12 @@ OctetsFault limit (Some kind) wire no_room =
 OctetsFault limit (Some kind) wire no_memory =
     (AreOfKind kind wire × IsTrue (has_name (layout_of kind)))
     ⊎ ((part : Octets) × IsPart wire kind part × IsNone limit)
+
+-- what is promised of the octets of a generic form as data of a kind
+pub record FromOctets {D : Type 0} (limit : Option ℕ) (kind : Kind)
+    (values : D → Values (layout_of kind)) (wire : Octets) (result : Result D ScanError) : Type 0 where
+  pub ok : IfOk result (λ d. AreFields kind wire (values d))
+  pub err : IfErr result (λ e. OctetsFault limit (Some kind) wire (scan_fault_of e))
 
 -- why tokens are refused as data of a type, where octets have this limit, and the tokens that are
 -- left then: the mark of the generic form at their head decides what they are held to; text in that

@@ -1,15 +1,15 @@
 //! Data of all types from the octets of their generic form.
+#![tactic(auto, using(crate::proofs::OctetsLemmas::made))]
+
 ghost use Rattle.std.specs.Prelude.{◌≡◌, ◌<◌, ◌≤◌, ◌⊎◌, [], Some, None, codes, length, IfOk, IfErr, OnOk};
 ghost use Rattle.domain_names.specs.TextFault.{illegal, scan_fault_of};
-ghost use Rattle.domain_fields.specs.Layout.{Begins};
 ghost use Rattle.domain_plain.specs.Plain.{a, a_values, ns, ns_values, soa, soa_values, mx, mx_values};
-ghost use Rattle.domain_keys.specs.Data.{dnskey, dnskey_values, ds, ds_values};
-ghost use Rattle.domain_rrsig.specs.Data.{rrsig, rrsig_values};
-ghost use Rattle.domain_chain_rdata.specs.Rdata.{nsec, nsec_values, nsec3, nsec3_values, nsec3param};
-ghost use Rattle.domain_chain_rdata.specs.Rdata.{nsec3param_values};
-ghost use Rattle.domain_rdata.specs.Kind.{plain, key, digest, signature, next_by_name};
-ghost use Rattle.domain_rdata.specs.{Kind.{next_by_hash, params}, Refusal.{CopyFault, IsNotWhole}};
-ghost use Rattle.domain_rdata.specs.{Refusal.OctetsFault, Scan.AreData, Zone.kind_of};
+ghost use Rattle.domain_keys.specs.Data.{dnskey_values, ds_values};
+ghost use Rattle.domain_rrsig.specs.Data.{rrsig_values};
+ghost use Rattle.domain_chain_rdata.specs.Rdata.{nsec_values, nsec3_values, nsec3param_values};
+ghost use Rattle.domain_rdata.specs.Kind.{plain, key, digest, signature, next_by_name, next_by_hash};
+ghost use Rattle.domain_rdata.specs.Refusal.{CopyFault, FromOctets, IsNotWhole, OctetsFault};
+ghost use Rattle.domain_rdata.specs.{Kind.params, Scan.AreData, Zone.kind_of};
 
 use crate::ZoneRecordData;
 use crate::zone_record_data::return_of_type;
@@ -77,19 +77,14 @@ fn whole<'a, D: ParseRecordData<'a> + Drop>(
 
 /// The address that octets are.
 fn a_of(octets: &[u8]) -> Result<A, ScanError>
-    ensures ok { IfOk result (λ d. Begins a octets.now (a_values d) []) }
-    ensures err { IfErr result (λ e.
-        OctetsFault None (Some (plain a)) octets.now (scan_fault_of e)) }
+    ensures { FromOctets None (plain a) a_values octets.now result }
 {
-    let data: A = whole(Rtype::A, octets)?;
-    Ok(data)
+    Ok(whole(Rtype::A, octets)?)
 }
 
 /// The name of a server that octets are.
 fn ns_of<N: MakeName>(alloc: Global, octets: &[u8]) -> Result<Ns<N>, ScanError>
-    ensures ok { IfOk result (λ d. Begins ns octets.now (ns_values N.labels d) []) }
-    ensures err { IfErr result (λ e.
-        OctetsFault None (Some (plain ns)) octets.now (scan_fault_of e)) }
+    ensures { FromOctets None (plain ns) (ns_values N.labels) octets.now result }
 {
     let data: Ns<ParsedName<'_>> = whole(Rtype::NS, octets)?;
     Ok(Ns::new(name_like(alloc, data.nsdname())?))
@@ -97,9 +92,7 @@ fn ns_of<N: MakeName>(alloc: Global, octets: &[u8]) -> Result<Ns<N>, ScanError>
 
 /// The start of a zone that octets are.
 fn soa_of<N: MakeName + Drop>(alloc: Global, octets: &[u8]) -> Result<Soa<N>, ScanError>
-    ensures ok { IfOk result (λ d. Begins soa octets.now (soa_values N.labels d) []) }
-    ensures err { IfErr result (λ e.
-        OctetsFault None (Some (plain soa)) octets.now (scan_fault_of e)) }
+    ensures { FromOctets None (plain soa) (soa_values N.labels) octets.now result }
 {
     let data: Soa<ParsedName<'_>> = whole(Rtype::SOA, octets)?;
     let mname = name_like(alloc, data.mname())?;
@@ -117,9 +110,7 @@ fn soa_of<N: MakeName + Drop>(alloc: Global, octets: &[u8]) -> Result<Soa<N>, Sc
 
 /// The mail exchange that octets are.
 fn mx_of<N: MakeName>(alloc: Global, octets: &[u8]) -> Result<Mx<N>, ScanError>
-    ensures ok { IfOk result (λ d. Begins mx octets.now (mx_values N.labels d) []) }
-    ensures err { IfErr result (λ e.
-        OctetsFault None (Some (plain mx)) octets.now (scan_fault_of e)) }
+    ensures { FromOctets None (plain mx) (mx_values N.labels) octets.now result }
 {
     let data: Mx<ParsedName<'_>> = whole(Rtype::MX, octets)?;
     Ok(Mx::new(data.preference(), name_like(alloc, data.exchange())?))
@@ -129,9 +120,7 @@ fn mx_of<N: MakeName>(alloc: Global, octets: &[u8]) -> Result<Mx<N>, ScanError>
 fn dnskey_of<O: FromBuilder + Drop>(alloc: Global, octets: &[u8]) -> Result<Dnskey<O>, ScanError>
 where
     O::Builder: EmptyBuilder + Drop,
-    ensures ok { IfOk result (λ d. Begins dnskey octets.now (dnskey_values d) []) }
-    ensures err { IfErr result (λ e.
-        OctetsFault O.Builder.limit (Some key) octets.now (scan_fault_of e)) }
+    ensures { FromOctets O.Builder.limit key dnskey_values octets.now result }
 {
     let data: Dnskey<&[u8]> = whole(Rtype::DNSKEY, octets)?;
     let key = octets_like(alloc, data.public_key())?;
@@ -142,9 +131,7 @@ where
 fn ds_of<O: FromBuilder + Drop>(alloc: Global, octets: &[u8]) -> Result<Ds<O>, ScanError>
 where
     O::Builder: EmptyBuilder + Drop,
-    ensures ok { IfOk result (λ d. Begins ds octets.now (ds_values d) []) }
-    ensures err { IfErr result (λ e.
-        OctetsFault O.Builder.limit (Some digest) octets.now (scan_fault_of e)) }
+    ensures { FromOctets O.Builder.limit digest ds_values octets.now result }
 {
     let data: Ds<&[u8]> = whole(Rtype::DS, octets)?;
     let digest = octets_like(alloc, data.digest())?;
@@ -158,9 +145,7 @@ fn nsec_of<O: FromBuilder + Drop, N: MakeName + Drop>(
 ) -> Result<Nsec<O, N>, ScanError>
 where
     O::Builder: EmptyBuilder + Drop,
-    ensures ok { IfOk result (λ d. Begins nsec octets.now (nsec_values N.labels d) []) }
-    ensures err { IfErr result (λ e.
-        OctetsFault O.Builder.limit (Some next_by_name) octets.now (scan_fault_of e)) }
+    ensures { FromOctets O.Builder.limit next_by_name (nsec_values N.labels) octets.now result }
 {
     let data: Nsec<&[u8], ParsedName<'_>> = whole(Rtype::NSEC, octets)?;
     let next_name = name_like(alloc, data.next_name())?;
@@ -175,9 +160,7 @@ fn rrsig_of<O: FromBuilder + Drop, N: MakeName + Drop>(
 ) -> Result<Rrsig<O, N>, ScanError>
 where
     O::Builder: EmptyBuilder + Drop,
-    ensures ok { IfOk result (λ d. Begins rrsig octets.now (rrsig_values d) []) }
-    ensures err { IfErr result (λ e.
-        OctetsFault O.Builder.limit (Some signature) octets.now (scan_fault_of e)) }
+    ensures { FromOctets O.Builder.limit signature rrsig_values octets.now result }
 {
     let data: Rrsig<&[u8], ParsedName<'_>> = whole(Rtype::RRSIG, octets)?;
     let signer_name = name_like(alloc, data.signer_name())?;
@@ -202,9 +185,7 @@ fn nsec3param_of<O: FromBuilder + Drop>(
 ) -> Result<Nsec3param<O>, ScanError>
 where
     O::Builder: EmptyBuilder + Drop,
-    ensures ok { IfOk result (λ d. Begins nsec3param octets.now (nsec3param_values d) []) }
-    ensures err { IfErr result (λ e.
-        OctetsFault O.Builder.limit (Some params) octets.now (scan_fault_of e)) }
+    ensures { FromOctets O.Builder.limit params nsec3param_values octets.now result }
 {
     let data: Nsec3param<&[u8]> = whole(Rtype::NSEC3PARAM, octets)?;
     let salt = octets_like(alloc, data.salt().as_slice())?;
@@ -220,9 +201,7 @@ where
 fn nsec3_of<O: FromBuilder + Drop>(alloc: Global, octets: &[u8]) -> Result<Nsec3<O>, ScanError>
 where
     O::Builder: EmptyBuilder + Drop,
-    ensures ok { IfOk result (λ d. Begins nsec3 octets.now (nsec3_values d) []) }
-    ensures err { IfErr result (λ e.
-        OctetsFault O.Builder.limit (Some next_by_hash) octets.now (scan_fault_of e)) }
+    ensures { FromOctets O.Builder.limit next_by_hash nsec3_values octets.now result }
 {
     let data: Nsec3<&[u8]> = whole(Rtype::NSEC3, octets)?;
     let salt = octets_like(alloc, data.salt().as_slice())?;

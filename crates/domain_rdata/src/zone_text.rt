@@ -1,9 +1,10 @@
 //! Data of all types from tokens.
-ghost use Rattle.std.specs.Prelude.{◌↔◌, IsTrue, IfOk, IfErr};
+ghost use Rattle.std.specs.Prelude.{◌↔◌, IsTrue, IfErr, IfOk};
 ghost use Rattle.domain_names.specs.{TextFault.{IsOfTokens, scan_fault_of}, Words.Tokens};
 ghost use Rattle.domain_rdata.specs.{Zone.data_text, Refusal.{RefusesOwn, RefusesRdata}};
 ghost use Rattle.domain_rdata.specs.Scan.{RdataText, OwnText, IsGeneric};
 ghost use Rattle.domain_rdata.specs.declared.zone_record_data.ZoneRecordData.{ZoneRecordData};
+ghost use Rattle.domain_fields.specs.Scan.{ReadsTokens};
 
 use crate::ZoneRecordData;
 use crate::zone_record_data::{return_of_type, with_data};
@@ -41,11 +42,9 @@ where
     where
         O: Drop,
         N: Drop,
-        ensures ok { IfOk result (λ d.
-            OwnText O.octets N.labels rtype (S.tokens scanner.old) d (S.tokens scanner.new)) }
-        ensures err { IfErr result (λ e.
-            RefusesOwn O.Builder.limit rtype (S.tokens scanner.old) (S.tokens scanner.new)
-            (scan_fault_of e)) }
+        ensures { ReadsTokens (OwnText O.octets N.labels rtype) (λ d. d)
+            (RefusesOwn O.Builder.limit rtype) (S.tokens scanner.old) (S.tokens scanner.new)
+            result }
     {
         return_of_type!(rtype;
             A => A(crate::A::scan(alloc, scanner)?),

@@ -1,12 +1,12 @@
 //! Signatures (RFC 4034, section 3).
-ghost use Rattle.std.specs.Prelude.{◌≡◌, ◌≤◌, ◌↔◌, Some, IsTrue, IsOk, IfOk, IfErr, OnErr, length};
+ghost use Rattle.std.specs.Prelude.{◌≡◌, ◌≤◌, ◌↔◌, Some, IsTrue, IsOk, IfOk, length};
 ghost use Rattle.std.specs.{Prelude.{refl, bytes_eq}, List.flat_map, Ordering.{on, nat_cmp}};
 ghost use Rattle.std.specs.Cmp.{partial_equiv_from_equiv, po};
 ghost use Rattle.std.specs.Cmp.Lexicographic.{slice_cmp, on_texts, on_texts_equal};
 ghost use Rattle.std.specs.Hash as fed;
 ghost use Rattle.domain_names.specs.Fault.{fault_of};
 ghost use Rattle.domain_base.specs.Types as rtypes;
-ghost use Rattle.domain_fields.specs.{Layout.{Begins, Fits, FirstFault, GoesOn}, Laws.fed_alike};
+ghost use Rattle.domain_fields.specs.{Layout.{Begins, Fits, FirstFault, Reads}, Laws.fed_alike};
 ghost use Rattle.domain_fields.specs.{Laws.tied_octets, DataClone.copies_tied};
 ghost use Rattle.domain_rrsig.specs.Data.{rrsig, rrsig_values, rrsig_octets, rrsig_canonical, rrsig_data, proto_rrsig_data, IsSameRrsig, rrsig_numbers_values};
 
@@ -245,11 +245,7 @@ impl<'a> Rrsig<&'a [u8], ParsedName<'a>> {
     /// `Form("compressed or bad label")`, a name over 255 octets `Form("long domain name")`. The
     /// parser then stands where it stood.
     pub fn parse(parser: &mut Parser<'a>) -> Result<Self, ParseError>
-        ensures ok { IfOk result (λ d.
-            Begins rrsig parser.old.left (rrsig_values d) parser.new.left) }
-        ensures err { IfErr result (λ e. FirstFault rrsig parser.old.left (fault_of e)) }
-        ensures unmoved { OnErr result (parser.new ≡ parser.old) }
-        ensures goes_on { GoesOn parser.old parser.new }
+        ensures { Reads rrsig rrsig_values fault_of parser.old parser.new result }
     {
         let (AtMost, ((numbers, signer_name), Rest(signature))) = RrsigFields::<'a>::read(parser)?;
         let fields = ProtoRrsig::of_parts(numbers, signer_name);

@@ -1,8 +1,8 @@
 //! Signatures as text (RFC 4034, section 3.2).
-ghost use Rattle.std.specs.Prelude.{◌≡◌, [], Some, IfOk, IfErr, OnOk};
-ghost use Rattle.domain_names.specs.TextFault.{scan_fault_of};
+ghost use Rattle.std.specs.Prelude.{Some};
 ghost use Rattle.domain_rrsig.specs.Pieces.{rrsig_text, rrsig_pieces};
 ghost use Rattle.domain_rrsig.specs.Scan.{rrsig_fields, rrsig_fields_text, RefusesRrsigFields, RrsigText, RefusesRrsig};
+ghost use Rattle.domain_fields.specs.Scan.{AllTokens, ReadsTokens};
 
 use crate::{ProtoRrsig, Rrsig, Timestamp};
 use domain_base::{FromToken, Rtype, ScanError, Scanner, SecurityAlgorithm, ToName, Ttl};
@@ -14,11 +14,9 @@ use std::fmt;
 
 /// All fields but the signature, one token each.
 fn scan_fields<S: Scanner>(alloc: Global, scanner: &mut S) -> Result<ProtoRrsig<S::Name>, ScanError>
-    ensures ok { IfOk result (λ d. rrsig_fields_text (S.tokens scanner.old) (rrsig_fields d)
-        (S.tokens scanner.new)) }
-    ensures err { IfErr result (λ e.
-        RefusesRrsigFields S.Octets.Builder.limit (S.tokens scanner.old) (S.tokens scanner.new)
-        (scan_fault_of e)) }
+    ensures { ReadsTokens rrsig_fields_text rrsig_fields
+        (RefusesRrsigFields S.Octets.Builder.limit) (S.tokens scanner.old) (S.tokens scanner.new)
+        result }
 {
     let type_covered = match Rtype::scan(scanner) {
         Ok(type_covered) => type_covered,
@@ -64,11 +62,8 @@ impl<O: FromBuilder + Drop, N: ToName + Drop> Rrsig<O, N> {
         alloc: Global,
         scanner: &mut S,
     ) -> Result<Self, ScanError>
-        ensures ok { IfOk result (RrsigText (S.tokens scanner.old)) }
-        ensures all { OnOk result (S.tokens scanner.new ≡ []) }
-        ensures err { IfErr result (λ e.
-            RefusesRrsig O.Builder.limit (S.tokens scanner.old) (S.tokens scanner.new)
-            (scan_fault_of e)) }
+        ensures { ReadsTokens (AllTokens RrsigText) (λ d. d) (RefusesRrsig O.Builder.limit)
+            (S.tokens scanner.old) (S.tokens scanner.new) result }
     {
         let fields = scan_fields(alloc, scanner)?;
         let signature = scanner.convert_entry(alloc, Codec::Base64)?;

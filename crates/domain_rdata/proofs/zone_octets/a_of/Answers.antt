@@ -3,5 +3,5 @@ use Rattle.domain_plain.specs.Plain.{a, a_values}
 use Rattle.domain_rdata.{specs.Kind.plain, proofs.OctetsLemmas.not_data}
 use Rattle.domain_rdata.proofs.zone_octets.a_of.Goals as goal
 
-pub returns-in_err-data-clause-err : goal.returns-in_err-data-clause-err
-returns-in_err-data-clause-err c = not_data (plain a) a_values None _ refl _ c.from_residual.ensures.1 c.in_err-data.ensures.err
+pub returns-in_err-whole : goal.returns-in_err-whole
+returns-in_err-whole c = not_data (plain a) a_values None _ refl _ _ c.from_residual.ensures.1 c.in_err-whole.ensures.err

@@ -3,5 +3,5 @@ use Rattle.domain_plain.specs.Plain.{ns}
 use Rattle.domain_rdata.{specs.Kind.plain, proofs.OctetsLemmas.not_data}
 use Rattle.domain_rdata.proofs.zone_octets.ns_of.Goals as goal
 
-pub returns-in_err-data-clause-err : goal.returns-in_err-data-clause-err
-returns-in_err-data-clause-err g c = not_data (plain ns) _ None _ refl _ c.from_residual.ensures.1 c.in_err-data.ensures.err
+pub returns-in_err-data : goal.returns-in_err-data
+returns-in_err-data g c = not_data (plain ns) _ None _ refl _ _ c.from_residual.ensures.1 c.in_err-data.ensures.err

@@ -1,5 +1,11 @@
+use Rattle.std.proofs.Common.{rules}
 use Rattle.domain_fields.proofs.ReadLemmas.{begins_both}
 use Rattle.domain_fields.proofs.read_fields.Tuple2ReadFields.read.Goals as goal
 
-pub returns-clause-ok : goal.returns-clause-ok
-returns-clause-ok g c = rw (← c.fork-ahead.ensures) (begins_both _ _ _ _ _ _ _ c.in_ok-first.ensures.ok c.in_ok-second.ensures.ok)
+pub returns : goal.returns
+returns g c = record {
+  ok = rw (← c.fork-ahead.ensures) (begins_both _ _ _ _ _ _ _ c.in_ok-first.ensures.ok c.in_ok-second.ensures.ok);
+  err = tt;
+  unmoved = tt;
+  goes_on = search rules;
+}
