@@ -1,52 +1,52 @@
--- the data of keys and of digests of keys, in the order of the wire
+-- the data of keys and of digests of keys
 use Rattle.std.specs.Prelude.{ℕ}
 use Rattle.domain_octets.specs.Words.{Octets}
 use Rattle.domain_fields.specs.{Field.{octet, short, at_most, rest}, Layout.{Layout, one, ◌▸◌, Values, octets_of}}
 
--- a number of 16 bits, two of 8 bits, and octets, where the data have at most 65,535
-abbrev pub numbers_and_octets : Layout
-numbers_and_octets = one short ▸ one octet ▸ one octet ▸ one (at_most 65531) ▸ one rest
+-- a number of 16 bits, two of 8 bits, and octets
+pub record KeyData : Type 0 where
+  pub number : ℕ
+  pub first : ℕ
+  pub second : ℕ
+  pub octets : Octets
 
--- a key of a zone
-pub record DnskeyData : Type 0 where
-  pub flags : ℕ
-  pub protocol : ℕ
-  pub algorithm : ℕ
-  pub public_key : Octets
+abbrev pub key_data : ℕ → ℕ → ℕ → Octets → KeyData
+key_data number first second octets =
+    record { number = number; first = first; second = second; octets = octets }
 
-abbrev pub dnskey_data : ℕ → ℕ → ℕ → Octets → DnskeyData
-dnskey_data flags protocol algorithm public_key =
-    record { flags = flags; protocol = protocol; algorithm = algorithm; public_key = public_key }
+-- these fields in the order of the wire, where the data have at most 65,535 octets
+abbrev pub key_fields : Layout
+key_fields = one short ▸ one octet ▸ one octet ▸ one (at_most 65531) ▸ one rest
 
--- flags, protocol, algorithm, and the key (RFC 4034, section 2.1)
-abbrev pub dnskey : Layout
-dnskey = numbers_and_octets
-
-abbrev pub dnskey_values : DnskeyData → Values dnskey
-dnskey_values d = (d.flags, (d.protocol, (d.algorithm, (tt, d.public_key))))
+abbrev pub key_values : KeyData → Values key_fields
+key_values d = (d.number, (d.first, (d.second, (tt, d.octets))))
 
 -- the octets, which are those of the canonical form too
-abbrev pub dnskey_octets : DnskeyData → Octets
-dnskey_octets d = octets_of dnskey (dnskey_values d)
+abbrev pub key_octets : KeyData → Octets
+key_octets d = octets_of key_fields (key_values d)
 
--- the digest of a key
-pub record DsData : Type 0 where
-  pub key_tag : ℕ
-  pub algorithm : ℕ
-  pub digest_type : ℕ
-  pub digest : Octets
+-- a key of a zone (RFC 4034, section 2.1)
+abbrev pub dnskey_flags : KeyData → ℕ
+dnskey_flags d = d.number
 
-abbrev pub ds_data : ℕ → ℕ → ℕ → Octets → DsData
-ds_data key_tag algorithm digest_type digest =
-    record { key_tag = key_tag; algorithm = algorithm; digest_type = digest_type; digest = digest }
+abbrev pub dnskey_protocol : KeyData → ℕ
+dnskey_protocol d = d.first
 
--- key tag, algorithm, type of the digest, and the digest (RFC 4034, section 5.1)
-abbrev pub ds : Layout
-ds = numbers_and_octets
+abbrev pub dnskey_algorithm : KeyData → ℕ
+dnskey_algorithm d = d.second
 
-abbrev pub ds_values : DsData → Values ds
-ds_values d = (d.key_tag, (d.algorithm, (d.digest_type, (tt, d.digest))))
+abbrev pub dnskey_public_key : KeyData → Octets
+dnskey_public_key d = d.octets
 
--- the octets, which are those of the canonical form too
-abbrev pub ds_octets : DsData → Octets
-ds_octets d = octets_of ds (ds_values d)
+-- the digest of a key (RFC 4034, section 5.1)
+abbrev pub ds_key_tag : KeyData → ℕ
+ds_key_tag d = d.number
+
+abbrev pub ds_algorithm : KeyData → ℕ
+ds_algorithm d = d.first
+
+abbrev pub ds_digest_type : KeyData → ℕ
+ds_digest_type d = d.second
+
+abbrev pub ds_digest : KeyData → Octets
+ds_digest d = d.octets

@@ -1,7 +1,7 @@
 -- the tag by which records name a key (RFC 4034, appendix B)
 use Rattle.std.specs.Prelude.{ℕ, ◌+◌, ◌-◌, ◌*◌, ◌/◌, ◌%◌, ◌==◌, nat_lt, [], ◌∷◌, length, slice_index, if◌then◌else◌}
 use Rattle.domain_octets.specs.Words.{Octets}
-use Rattle.domain_keys.specs.Data.{DnskeyData, dnskey_octets}
+use Rattle.domain_keys.specs.Data.{KeyData, key_octets, dnskey_algorithm, dnskey_public_key}
 
 -- octets at even places weigh 256, those at odd places 1
 abbrev pub weighed : Octets → ℕ
@@ -24,7 +24,7 @@ rsa_md5_tag key =
     if nat_lt (length key) 3 then 0
     else (256 * slice_index key (length key - 3) + slice_index key (length key - 2))
 
-abbrev pub key_tag_of : DnskeyData → ℕ
+abbrev pub key_tag_of : KeyData → ℕ
 key_tag_of d =
-    if d.algorithm == rsa_md5 then rsa_md5_tag d.public_key
-    else with_carry (weighed (dnskey_octets d))
+    if dnskey_algorithm d == rsa_md5 then rsa_md5_tag (dnskey_public_key d)
+    else with_carry (weighed (key_octets d))

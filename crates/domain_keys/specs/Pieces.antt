@@ -3,30 +3,31 @@ use Rattle.std.specs.{Prelude.{List, [], ◌∷◌, ◌++◌, codes}, Fmt.decima
 use Rattle.hex.specs.Hex.{encode_lower, encode_upper}
 use Rattle.base64.specs.{GeneralPurpose.encode_of, Engines.standard}
 use Rattle.domain_octets.specs.{Characters.space, Piece.{PieceText, token, comment, opens, closes}, Words.Octets}
-use Rattle.domain_keys.specs.{Data.{DnskeyData, DsData}, KeyTag.key_tag_of, Flags.flags_comment}
+use Rattle.domain_keys.specs.{KeyTag.key_tag_of, Flags.flags_comment, Data.{KeyData, ds_key_tag, ds_algorithm, ds_digest_type, ds_digest}}
+use Rattle.domain_keys.specs.Data.{dnskey_flags, dnskey_protocol, dnskey_algorithm, dnskey_public_key}
 
 -- flags, protocol, algorithm, and the key in Base 64
-abbrev pub dnskey_text : DnskeyData → Octets
+abbrev pub dnskey_text : KeyData → Octets
 dnskey_text d =
-    join_with_byte space (decimal d.flags ∷ decimal d.protocol ∷ decimal d.algorithm
-    ∷ encode_of standard d.public_key ∷ [])
+    join_with_byte space (decimal (dnskey_flags d) ∷ decimal (dnskey_protocol d)
+    ∷ decimal (dnskey_algorithm d) ∷ encode_of standard (dnskey_public_key d) ∷ [])
 
-abbrev pub dnskey_pieces : DnskeyData → List PieceText
+abbrev pub dnskey_pieces : KeyData → List PieceText
 dnskey_pieces d =
-    opens ∷ token (decimal d.flags) ∷ comment (flags_comment d.flags) ∷ token (decimal d.protocol)
-    ∷ comment (codes "protocol") ∷ token (decimal d.algorithm)
-    ∷ token (encode_of standard d.public_key)
+    opens ∷ token (decimal (dnskey_flags d)) ∷ comment (flags_comment (dnskey_flags d))
+    ∷ token (decimal (dnskey_protocol d)) ∷ comment (codes "protocol")
+    ∷ token (decimal (dnskey_algorithm d)) ∷ token (encode_of standard (dnskey_public_key d))
     ∷ comment (codes "key tag: " ++ decimal (key_tag_of d)) ∷ closes ∷ []
 
 -- key tag, algorithm, type of the digest, and the digest in Base 16, in lower case
-abbrev pub ds_text : DsData → Octets
+abbrev pub ds_text : KeyData → Octets
 ds_text d =
-    join_with_byte space (decimal d.key_tag ∷ decimal d.algorithm ∷ decimal d.digest_type
-    ∷ encode_lower d.digest ∷ [])
+    join_with_byte space (decimal (ds_key_tag d) ∷ decimal (ds_algorithm d)
+    ∷ decimal (ds_digest_type d) ∷ encode_lower (ds_digest d) ∷ [])
 
 -- the digest in upper case
-abbrev pub ds_pieces : DsData → List PieceText
+abbrev pub ds_pieces : KeyData → List PieceText
 ds_pieces d =
-    opens ∷ token (decimal d.key_tag) ∷ comment (codes "key tag") ∷ token (decimal d.algorithm)
-    ∷ token (decimal d.digest_type) ∷ token (encode_upper d.digest)
-    ∷ closes ∷ []
+    opens ∷ token (decimal (ds_key_tag d)) ∷ comment (codes "key tag")
+    ∷ token (decimal (ds_algorithm d)) ∷ token (decimal (ds_digest_type d))
+    ∷ token (encode_upper (ds_digest d)) ∷ closes ∷ []

@@ -2,36 +2,31 @@
 //! A caller calls the law in its body.
 ghost use Rattle.domain_octets.specs.Line.{words_of};
 ghost use Rattle.domain_fields.specs.Layout.{ParsesBack};
-ghost use Rattle.domain_keys.specs.Data.{dnskey, dnskey_values, ds, ds_values};
-ghost use Rattle.domain_keys.specs.{Pieces.{dnskey_text, ds_text}, Scan.{DnskeyText, DsText}};
+ghost use Rattle.domain_codecs.specs.declared.codec.Codec.TheVariants.{Base16, Base64};
+ghost use Rattle.domain_keys.specs.Data.{key_fields, key_values};
+ghost use Rattle.domain_keys.specs.{Pieces.{dnskey_text, ds_text}, Scan.KeyText};
 
-use crate::{Dnskey, Ds};
+use crate::{Dnskey, Ds, KeyData, KeyKind};
 use domain_octets::Octets;
 
-/// The octets of a key's data are read as these fields, in no other way, and nothing is left.
-pub fn dnskey_parses_back<O: Octets>(value: &Dnskey<O>)
-    ensures { ParsesBack dnskey (dnskey_values value.now) }
-{
-    let _fields = value.fields();
-}
-
-/// So are those of a digest's data.
-pub fn ds_parses_back<O: Octets>(value: &Ds<O>)
-    ensures { ParsesBack ds (ds_values value.now) }
+/// The octets of the data of a key or of a digest are read as these fields, in no other way, and
+/// nothing is left.
+pub fn keys_parse_back<O: Octets, K: KeyKind>(value: &KeyData<O, K>)
+    ensures { ParsesBack key_fields (key_values value.now) }
 {
     let _fields = value.fields();
 }
 
 /// The words of what a key's data are written as spell these data.
 pub fn dnskey_reads_back<O: Octets>(value: &Dnskey<O>)
-    ensures { DnskeyText (words_of (dnskey_text value.now)) value.now }
+    ensures { KeyText Base64 (words_of (dnskey_text value.now)) value.now }
 {
     let _fields = value.fields();
 }
 
 /// So do those of a digest's data.
 pub fn ds_reads_back<O: Octets>(value: &Ds<O>)
-    ensures { DsText (words_of (ds_text value.now)) value.now }
+    ensures { KeyText Base16 (words_of (ds_text value.now)) value.now }
 {
     let _fields = value.fields();
 }

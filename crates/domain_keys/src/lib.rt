@@ -3,6 +3,8 @@
 //! - [`Dnskey`] is a key of a zone (RFC 4034, section 2), with its flags and its key tag (RFC 4034,
 //!   appendix B).
 //! - [`Ds`] is the digest by which a parent zone names such a key (RFC 4034, section 5).
+//! - Both are [`KeyData`] of their kinds: three numbers and octets, with which all that does not
+//!   depend on what they mean is done once. `specs/Data.antt` says which number is which.
 //!
 //! The crates above may rely on this: data has at most 65,535 octets, by invariant, and is numbers
 //! and octets in clauses, whatever holds them. Its octets, what reads them, its tokens and its
@@ -13,11 +15,12 @@
 pub mod data_laws;
 mod dnskey;
 mod ds;
-mod entry;
 mod flags;
+mod key_data;
 mod key_tag;
 pub mod laws;
 mod text;
 
-pub use dnskey::Dnskey;
-pub use ds::Ds;
+pub use dnskey::{Dnskey, ZoneKey};
+pub use ds::{Digest, Ds};
+pub use key_data::{KeyData, KeyKind};

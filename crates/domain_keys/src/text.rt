@@ -1,39 +1,12 @@
 //! Keys and digests of keys as text (RFC 4034, sections 2.2 and 5.3).
 ghost use Rattle.std.specs.Prelude.{Some};
 ghost use Rattle.domain_keys.specs.Pieces.{dnskey_text, dnskey_pieces, ds_text, ds_pieces};
-ghost use Rattle.domain_keys.specs.Scan.{DnskeyText, RefusesDnskey, DsText, RefusesDs};
-ghost use Rattle.domain_fields.specs.Scan.{AllTokens, ReadsTokens};
 
-use crate::entry::scan_entry;
 use crate::flags::FlagsComment;
 use crate::{Dnskey, Ds};
-use domain_base::{DigestAlgorithm, ScanError, Scanner, SecurityAlgorithm};
-use domain_codecs::Codec;
 use domain_fields::{Block, Comment, InBase16, InBase64, InLowerBase16, Pieces, Token};
-use domain_octets::{Formatter, FromBuilder, Octets, OutOfMemory, ZonefileFmt};
-use std::alloc::Global;
+use domain_octets::{Formatter, Octets, OutOfMemory, ZonefileFmt};
 use std::fmt;
-
-impl<O: FromBuilder + Drop> Dnskey<O> {
-    /// The data that all tokens left spell: flags, protocol and algorithm in decimal, and the key
-    /// in Base 64, in as many tokens as one likes, or in none.
-    ///
-    /// # Errors
-    ///
-    /// That of the first of the numbers that is refused, then that of the codec, then
-    /// `Custom("record data too long")` for data of over 65,535 octets. The tokens left are then an
-    /// end of those before.
-    #[tactic(auto, unfolding(domain_fields::specs::Layout::octets_of))]
-    pub fn scan<S: Scanner<Octets = O>>(alloc: Global, scanner: &mut S) -> Result<Self, ScanError>
-        ensures { ReadsTokens (AllTokens DnskeyText) (λ d. d) (RefusesDnskey O.Builder.limit)
-            (S.tokens scanner.old) (S.tokens scanner.new) result }
-    {
-        let (numbers, public_key) = scan_entry(alloc, scanner, Codec::Base64)?;
-        let (flags, (protocol, algorithm)) = numbers;
-        let algorithm = SecurityAlgorithm::from_int(algorithm);
-        Ok(Dnskey::new_unchecked(flags, protocol, algorithm, public_key))
-    }
-}
 
 /// Flags, protocol, algorithm and the key in Base 64, with single spaces; the last one stays where
 /// the key is empty.
@@ -72,28 +45,6 @@ impl<O: Octets> ZonefileFmt for Dnskey<O> {
             Comment(format_args!("key tag: {}", self.key_tag())),
         );
         Block((flags, (protocol, (Token(algorithm), key)))).write(formatter)
-    }
-}
-
-impl<O: FromBuilder + Drop> Ds<O> {
-    /// The data that all tokens left spell: key tag, algorithm and type of the digest in decimal,
-    /// and the digest in Base 16, in as many tokens as one likes, or in none.
-    ///
-    /// # Errors
-    ///
-    /// That of the first of the numbers that is refused, then that of the codec, then
-    /// `Custom("record data too long")` for data of over 65,535 octets. The tokens left are then an
-    /// end of those before.
-    #[tactic(auto, unfolding(domain_fields::specs::Layout::octets_of))]
-    pub fn scan<S: Scanner<Octets = O>>(alloc: Global, scanner: &mut S) -> Result<Self, ScanError>
-        ensures { ReadsTokens (AllTokens DsText) (λ d. d) (RefusesDs O.Builder.limit)
-            (S.tokens scanner.old) (S.tokens scanner.new) result }
-    {
-        let (numbers, digest) = scan_entry(alloc, scanner, Codec::Base16)?;
-        let (key_tag, (algorithm, digest_type)) = numbers;
-        let algorithm = SecurityAlgorithm::from_int(algorithm);
-        let digest_type = DigestAlgorithm::from_int(digest_type);
-        Ok(Ds::new_unchecked(key_tag, algorithm, digest_type, digest))
     }
 }
 

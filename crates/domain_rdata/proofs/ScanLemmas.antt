@@ -3,14 +3,14 @@ use Rattle.std.proofs.{Common.{arith, ◌≡◌, ℕ, List, [], ◌∷◌, refl,
 use Rattle.domain_names.specs.TextFault.{ScanFault, IsOfTokens}
 use Rattle.domain_plain.{specs.Generic.GenericText, proofs.GenericLemmas.refused_is_no_text}
 use Rattle.domain_fields.{specs.Layout.{Values, octets_of}, proofs.GrammarLemmas.{ReadsOnce, Excludes, fields_once, fields_refused}}
-use Rattle.domain_keys.specs.{Data.{dnskey_values, ds_values}, Scan.{DnskeyText, DsText}}
-use Rattle.domain_keys.proofs.RefusalLemmas.{dnskey_once, ds_once, refused_dnskey, refused_ds}
+use Rattle.domain_codecs.specs.declared.codec.Codec.TheVariants.{Base16, Base64}
+use Rattle.domain_keys.{specs.{Data.key_values, Scan.KeyText}, proofs.RefusalLemmas.{key_once, key_refused}}
 use Rattle.domain_rrsig.{specs.{Data.rrsig_values, Scan.RrsigText}, proofs.RefusalLemmas.{rrsig_once, refused_rrsig}}
 use Rattle.domain_chain_rdata.proofs.TextLemmas.{nsec_once, nsec_refused, params_exact, nsec3_exact}
-use Rattle.domain_rdata.specs.Kind.{Kind, plain, key, digest, signature, next_by_name, next_by_hash, params, layout_of, AreFields, FieldsText, dnskey_of, ds_of}
-use Rattle.domain_rdata.specs.{Kind.rrsig_of, Refusal.{RefusesKind, RefusesKnown, RefusesOwn, AreOfKind, OctetsFault, in_own, in_generic, in_octets}}
+use Rattle.domain_rdata.specs.Kind.{Kind, plain, key, digest, signature, next_by_name, next_by_hash, params, layout_of, AreFields, FieldsText, key_of, rrsig_of}
+use Rattle.domain_rdata.specs.Refusal.{RefusesKind, RefusesKnown, RefusesOwn, AreOfKind, OctetsFault, RefusesRdata, in_own, in_generic, in_octets}
 use Rattle.domain_rdata.specs.{Scan.{RdataText, own, generic, ContentText, OwnText, AreContent, AreData, IsGeneric}, Zone.{kind_of, Content, fields, mere}}
-use Rattle.domain_rdata.specs.{Refusal.RefusesRdata, Zone.{content_of, content_octets, IsOfKind, of_kind, wire_octets}, declared.zone_record_data.ZoneRecordData.ZoneRecordData}
+use Rattle.domain_rdata.specs.{Zone.{content_of, content_octets, IsOfKind, of_kind, wire_octets}, declared.zone_record_data.ZoneRecordData.ZoneRecordData}
 
 -- all tokens spell data
 whole_once : {V D : Type 0} (G : List (List ℕ) → D → Type 0) (of : V → D) (values : D → V)
@@ -23,8 +23,8 @@ whole_once G of values once same = record {
 -- the values of a kind, and the tokens that are left, are told from the tokens
 kind_once : (k : Kind) → ReadsOnce (FieldsText k)
 kind_once (plain l) = fields_once l
-kind_once key = whole_once DnskeyText dnskey_of dnskey_values dnskey_once (λ v. refl)
-kind_once digest = whole_once DsText ds_of ds_values ds_once (λ v. refl)
+kind_once key = whole_once (KeyText Base64) key_of key_values (key_once Base64) (λ v. refl)
+kind_once digest = whole_once (KeyText Base16) key_of key_values (key_once Base16) (λ v. refl)
 kind_once signature = whole_once RrsigText rrsig_of rrsig_values rrsig_once (λ v. refl)
 kind_once next_by_name = nsec_once
 kind_once next_by_hash = (nsec3_exact None).once
@@ -33,8 +33,8 @@ kind_once params = (params_exact None).once
 -- what is refused, but for want of room or memory, are no data of the kind
 kind_refused : (k : Kind) (limit : Option ℕ) → Excludes limit (FieldsText k) (RefusesKind limit k)
 kind_refused (plain l) limit = fields_refused limit l
-kind_refused key limit = λ old new after v fault why is alone. refused_dnskey limit old new fault (dnskey_of v) why alone is.0
-kind_refused digest limit = λ old new after v fault why is alone. refused_ds limit old new fault (ds_of v) why alone is.0
+kind_refused key limit = λ old new after v fault why is alone. key_refused Base64 limit old new fault (key_of v) why alone is.0
+kind_refused digest limit = λ old new after v fault why is alone. key_refused Base16 limit old new fault (key_of v) why alone is.0
 kind_refused signature limit = λ old new after v fault why is alone. refused_rrsig limit old new fault (rrsig_of v) why alone is.0
 kind_refused next_by_name limit = λ old new after v fault why is alone. nsec_refused limit limit old new after fault v why alone alone is
 kind_refused next_by_hash limit = (nsec3_exact limit).apart

@@ -3,7 +3,8 @@ use Rattle.std.specs.Prelude.{[]}
 use Rattle.domain_octets.specs.Words.{Octets}
 use Rattle.domain_base.specs.Scan.{Grammar}
 use Rattle.domain_fields.specs.{Layout.{Layout, Values, Begins}, Scan.{Scans, AllTokens}}
-use Rattle.domain_keys.specs.{Data.{DnskeyData, dnskey, dnskey_data, DsData, ds, ds_data}, Scan.{DnskeyText, DsText}}
+use Rattle.domain_codecs.specs.declared.codec.Codec.TheVariants.{Base16, Base64}
+use Rattle.domain_keys.specs.{Data.{KeyData, key_fields, key_data}, Scan.KeyText}
 use Rattle.domain_rrsig.specs.{Data.{RrsigData, rrsig, rrsig_data, of_numbers}, Scan.RrsigText}
 use Rattle.domain_chain_rdata.specs.{NsecText.NsecText, Nsec3Text.Nsec3Text, Nsec3paramText.Nsec3paramText, Rdata.{nsec, nsec3, nsec3param}}
 
@@ -20,8 +21,8 @@ pub data Kind : Type 0 where
 -- the fields, in the order of the wire
 abbrev pub layout_of : Kind → Layout
 layout_of (plain l) = l
-layout_of key = dnskey
-layout_of digest = ds
+layout_of key = key_fields
+layout_of digest = key_fields
 layout_of signature = rrsig
 layout_of next_by_name = nsec
 layout_of next_by_hash = nsec3
@@ -32,11 +33,8 @@ abbrev pub AreFields : (k : Kind) → Octets → Values (layout_of k) → Type 0
 AreFields k wire v = Begins (layout_of k) wire v []
 
 -- data with these values
-abbrev pub dnskey_of : Values dnskey → DnskeyData
-dnskey_of v = dnskey_data v.0 v.1.0 v.1.1.0 v.1.1.1.1
-
-abbrev pub ds_of : Values ds → DsData
-ds_of v = ds_data v.0 v.1.0 v.1.1.0 v.1.1.1.1
+abbrev pub key_of : Values key_fields → KeyData
+key_of v = key_data v.0 v.1.0 v.1.1.0 v.1.1.1.1
 
 abbrev pub rrsig_of : Values rrsig → RrsigData
 rrsig_of v = rrsig_data (of_numbers v.1.0.0 v.1.0.1) v.1.1
@@ -44,8 +42,8 @@ rrsig_of v = rrsig_data (of_numbers v.1.0.0 v.1.0.1) v.1.1
 -- the tokens begin with these values in the text form of the kind, and the last are left
 abbrev pub FieldsText : (k : Kind) → Grammar (Values (layout_of k))
 FieldsText (plain l) = Scans l
-FieldsText key = AllTokens (λ old v. DnskeyText old (dnskey_of v))
-FieldsText digest = AllTokens (λ old v. DsText old (ds_of v))
+FieldsText key = AllTokens (λ old v. KeyText Base64 old (key_of v))
+FieldsText digest = AllTokens (λ old v. KeyText Base16 old (key_of v))
 FieldsText signature = AllTokens (λ old v. RrsigText old (rrsig_of v))
 FieldsText next_by_name = NsecText
 FieldsText next_by_hash = Nsec3Text

@@ -13,9 +13,7 @@ use domain_chain_rdata::nsec_laws::{nsec_parses_back, nsec_reads_back};
 use domain_chain_rdata::nsec3_laws::{
     nsec3_parses_back, nsec3_reads_back, nsec3param_parses_back, nsec3param_reads_back,
 };
-use domain_keys::data_laws::{
-    dnskey_parses_back, dnskey_reads_back, ds_parses_back, ds_reads_back,
-};
+use domain_keys::data_laws::{dnskey_reads_back, ds_reads_back, keys_parse_back};
 use domain_octets::Octets;
 use domain_octets::laws::slices_hold_octets;
 use domain_plain::laws::{
@@ -72,8 +70,8 @@ pub fn octets_are_read_back<O: Octets, N: ToName>(value: &ZoneRecordData<O, N>)
         ZoneRecordData::Ns(data) => ns_parses_back(data),
         ZoneRecordData::Soa(data) => soa_parses_back(data),
         ZoneRecordData::Mx(data) => mx_parses_back(data),
-        ZoneRecordData::Dnskey(data) => dnskey_parses_back(data),
-        ZoneRecordData::Ds(data) => ds_parses_back(data),
+        ZoneRecordData::Dnskey(data) => keys_parse_back(data),
+        ZoneRecordData::Ds(data) => keys_parse_back(data),
         ZoneRecordData::Rrsig(data) => rrsig_parses_back(data),
         ZoneRecordData::Nsec(data) => nsec_parses_back(data),
         ZoneRecordData::Nsec3(data) => nsec3_parses_back(data),

@@ -4,7 +4,7 @@
 ghost use Rattle.std.specs.Prelude.{◌≡◌, ◌<◌, ◌≤◌, ◌⊎◌, [], Some, None, codes, length, IfOk, IfErr, OnOk};
 ghost use Rattle.domain_names.specs.TextFault.{illegal, scan_fault_of};
 ghost use Rattle.domain_plain.specs.Plain.{a, a_values, ns, ns_values, soa, soa_values, mx, mx_values};
-ghost use Rattle.domain_keys.specs.Data.{dnskey_values, ds_values};
+ghost use Rattle.domain_keys.specs.Data.{key_values};
 ghost use Rattle.domain_rrsig.specs.Data.{rrsig_values};
 ghost use Rattle.domain_chain_rdata.specs.Rdata.{nsec_values, nsec3_values, nsec3param_values};
 ghost use Rattle.domain_rdata.specs.Kind.{plain, key, digest, signature, next_by_name, next_by_hash};
@@ -120,7 +120,7 @@ fn mx_of<N: MakeName>(alloc: Global, octets: &[u8]) -> Result<Mx<N>, ScanError>
 fn dnskey_of<O: FromBuilder + Drop>(alloc: Global, octets: &[u8]) -> Result<Dnskey<O>, ScanError>
 where
     O::Builder: EmptyBuilder + Drop,
-    ensures { FromOctets O.Builder.limit key dnskey_values octets.now result }
+    ensures { FromOctets O.Builder.limit key key_values octets.now result }
 {
     let data: Dnskey<&[u8]> = whole(Rtype::DNSKEY, octets)?;
     let key = octets_like(alloc, data.public_key())?;
@@ -131,7 +131,7 @@ where
 fn ds_of<O: FromBuilder + Drop>(alloc: Global, octets: &[u8]) -> Result<Ds<O>, ScanError>
 where
     O::Builder: EmptyBuilder + Drop,
-    ensures { FromOctets O.Builder.limit digest ds_values octets.now result }
+    ensures { FromOctets O.Builder.limit digest key_values octets.now result }
 {
     let data: Ds<&[u8]> = whole(Rtype::DS, octets)?;
     let digest = octets_like(alloc, data.digest())?;

@@ -7,6 +7,6 @@ use Rattle.domain_keys.proofs.data_laws.ds_reads_back.Goals as goal
 pub returns : goal.returns
 returns g c =
     let known = c.fields-fields.ensures in
-    let text = fields_entry_line three_numbers Base16 _ _ c.args.value.now.digest refl (known.fits.0, (known.fits.1.0, known.fits.1.1.0))
+    let text = fields_entry_line three_numbers Base16 _ _ c.args.value.now.octets refl (known.fits.0, (known.fits.1.0, known.fits.1.1.0))
     (lower_hex_plain _) (lower_back _ known.fits.1.1.1.1) in
     record { spelled = text; fits = known.limit }

@@ -1,5 +1,0 @@
-use Rattle.domain_keys.{specs.Data.ds_values, proofs.DataLemmas.parsed_back}
-use Rattle.domain_keys.proofs.data_laws.ds_parses_back.Goals as goal
-
-pub returns : goal.returns
-returns g c = parsed_back (ds_values c.args.value.now) c.fields-fields.ensures.fits c.fields-fields.ensures.limit

@@ -1,5 +1,0 @@
-use Rattle.domain_keys.proofs.DataLemmas.{limit_of_octets}
-use Rattle.domain_keys.proofs.ds.Ds+ref+slice+u8.parse.Goals as goal
-
-pub invariant_of-result : goal.invariant_of-result
-invariant_of-result c = limit_of_octets _ _ _ c.in_ok-key_tag.ensures.ok

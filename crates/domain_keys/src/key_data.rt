@@ -1,0 +1,373 @@
+//! What the data of keys and of digests of keys have in common: numbers, and then octets.
+ghost use Rattle.std.specs.Prelude.{◌≡◌, ◌≤◌, ◌↔◌, ℕ, Some, IsTrue, IsOk, IfOk, IsNone, length};
+ghost use Rattle.std.specs.{Prelude.{refl, bytes_eq}, List.flat_map};
+ghost use Rattle.std.specs.{Ordering.{on, nat_cmp}, Cmp.{partial_equiv_from_equiv, po}};
+ghost use Rattle.std.specs.Cmp.Lexicographic.{slice_cmp, on_texts, on_texts_equal};
+ghost use Rattle.std.specs.Hash as fed;
+ghost use Rattle.domain_octets.specs.Limit.{IsOver};
+ghost use Rattle.domain_names.specs.Fault.{fault_of};
+ghost use Rattle.domain_codecs.specs.declared.codec.Codec.{Codec};
+ghost use Rattle.domain_fields.specs.{Layout.{Begins, Fits, FirstFault, Reads}, DataClone.copies_tied};
+ghost use Rattle.domain_fields.specs.{Laws.{fed_alike, tied_octets}, Scan.{AllTokens, ReadsTokens}};
+ghost use Rattle.domain_keys.specs.Data.{key_data, key_fields, key_values, key_octets};
+ghost use Rattle.domain_keys.specs.Scan.{KeyText, RefusesKey};
+
+use domain_base::{CanonicalOrd, Rtype, ScanError, Scanner};
+use domain_codecs::Codec;
+use domain_fields::{AtMost, Fields, MAX_RDLEN, ReadFields, Rest, ScanFields};
+use domain_octets::{
+    AppendError, CopyOctets, FromBuilder, Octets, OctetsBuilder, OctetsFrom, OutOfMemory,
+    ParseError, Parser, TryClone, laws,
+};
+use domain_record::{
+    CloneRecordData, ComposeRecordData, LongRecordData, ParseRecordData, RecordData,
+};
+use std::alloc::Global;
+use std::cmp::Ordering;
+use std::hash::{Hash, Hasher};
+use std::marker::{Model, PhantomData};
+
+/// How many octets may follow the first four, in data of at most 65,535.
+const MOST: usize = 65531;
+
+/// A number of 16 bits, two of 8 bits, and all octets that are left, at most `MOST`.
+type KeyFields<'a> = (u16, (u8, (u8, (AtMost<MOST>, Rest<'a>))));
+
+/// A kind of data: a key or the digest of a key.
+pub trait KeyKind {
+    /// The number of the type of its records.
+    ghost rtype: { ℕ };
+
+    /// The codec in which its octets are written.
+    ghost codec: { Codec };
+
+    /// The type of its records.
+    fn rtype() -> Rtype
+        ensures { result ≡ rtype };
+
+    /// The codec in which its octets are written.
+    fn codec() -> Codec
+        ensures { result ≡ codec };
+}
+
+/// Numbers and octets of a kind, as data of at most 65,535 octets.
+#[derive(Drop)]
+pub struct KeyData<O: Octets, K: KeyKind> {
+    pub(crate) number: u16,
+    pub(crate) first: u8,
+    pub(crate) second: u8,
+    pub(crate) octets: O,
+    kind: PhantomData<K>,
+}
+
+impl<O: Octets, K: KeyKind> Model for KeyData<O, K> {
+    ghost use Rattle.std.specs.Prelude.{◌≤◌, length};
+    ghost use Rattle.domain_keys.specs.Data.{KeyData};
+
+    ghost Value = { KeyData };
+
+    ghost view = { λ d. record {
+      number = d.number;
+      first = d.first;
+      second = d.second;
+      octets = O.octets d.octets;
+    } };
+
+    ghost invariant = { λ d. length (O.octets d.octets) ≤ 65531 };
+}
+
+impl<O: Octets, K: KeyKind> KeyData<O, K> {
+    /// The data of these fields, if they have at most 65,535 octets.
+    #[tactic(auto, unfolding(domain_fields::specs::Layout::octets_of))]
+    pub(crate) fn from_fields(
+        number: u16,
+        first: u8,
+        second: u8,
+        octets: O,
+    ) -> Result<Self, LongRecordData>
+    where
+        O: Drop,
+        ensures ok { IsOk result ↔ (length
+            (key_octets (key_data number first second (O.octets octets))) ≤ 65535) }
+        ensures fields { IfOk result (λ d. d ≡ key_data number first second (O.octets octets)) }
+    {
+        if octets.as_slice().len() > MOST {
+            return Err(LongRecordData);
+        }
+        Ok(KeyData::from_fields_unchecked(number, first, second, octets))
+    }
+
+    /// The data of these fields, which have at most 65,535 octets.
+    #[tactic(auto, unfolding(domain_fields::specs::Layout::octets_of))]
+    pub(crate) fn from_fields_unchecked(number: u16, first: u8, second: u8, octets: O) -> Self
+        requires { length (key_octets (key_data number first second (O.octets octets))) ≤ 65535 }
+        ensures { result ≡ key_data number first second (O.octets octets) }
+    {
+        KeyData {
+            number,
+            first,
+            second,
+            octets,
+            kind: PhantomData,
+        }
+    }
+
+    /// The same over other octets, which are the same. Takes no memory.
+    #[tactic(auto, unfolding(domain_fields::specs::Layout::octets_of))]
+    pub fn with_octets<P: Octets>(&self, octets: P) -> KeyData<P, K>
+        requires { P.octets octets ≡ self.now.octets }
+        ensures { result ≡ self.now }
+    {
+        KeyData::from_fields_unchecked(self.number, self.first, self.second, octets)
+    }
+
+    /// A copy. Uses the allocator of the octets.
+    pub fn clone(&self) -> Result<Self, OutOfMemory>
+        ensures { IfOk result (λ copy. copy ≡ self.now) }
+    {
+        Ok(self.with_octets(self.octets.try_clone()?))
+    }
+
+    /// The octets alone.
+    pub(crate) fn into_octets(self) -> O
+        ensures { O.octets result ≡ self.octets }
+    {
+        let KeyData { octets, .. } = self;
+        octets
+    }
+
+    /// The same data, held otherwise. What `From` makes of the octets must be at most 65,531.
+    pub fn convert<P: Octets + From<O>>(self) -> KeyData<P, K>
+        requires { (octets : O) (made : P) → O.octets octets ≡ self.octets
+            → P.from_gives octets made → length (P.octets made) ≤ 65531 }
+        ensures octets { (octets : O) × (made : P) × (O.octets octets ≡ self.octets)
+            × P.from_gives octets made × (result.octets ≡ P.octets made) }
+        ensures numbers { (result.number ≡ self.number) × (result.first ≡ self.first)
+            × (result.second ≡ self.second) }
+    {
+        KeyData {
+            number: self.number,
+            first: self.first,
+            second: self.second,
+            octets: P::from(self.octets),
+            kind: PhantomData,
+        }
+    }
+
+    /// The fields, in the order of the wire.
+    pub(crate) fn fields(&self) -> KeyFields<'_>
+        ensures values { (result.0 ≡ self.now.number) × (result.1.0 ≡ self.now.first)
+            × (result.1.1.0 ≡ self.now.second) × (result.1.1.1.1.0.now ≡ self.now.octets) }
+        ensures fits { Fits key_fields (key_values self.now) }
+        ensures limit { length self.now.octets ≤ 65531 }
+    {
+        let octets = self.octets.as_slice();
+        laws::slices_hold_octets(octets);
+        let (number, first, second) = (self.number, self.first, self.second);
+        (number, (first, (second, (AtMost, Rest(octets)))))
+    }
+}
+
+impl<'a, K: KeyKind> KeyData<&'a [u8], K> {
+    /// All octets that are left, as data. Takes no memory.
+    ///
+    /// # Errors
+    ///
+    /// `ShortInput` for fewer than four octets, then `Form("record data too long")` for over
+    /// 65,535. The parser then stands where it stood.
+    pub fn parse(parser: &mut Parser<'a>) -> Result<Self, ParseError>
+        ensures { Reads key_fields key_values fault_of parser.old parser.new result }
+    {
+        let (number, (first, (second, (AtMost, Rest(octets))))) = KeyFields::read(parser)?;
+        Ok(KeyData {
+            number,
+            first,
+            second,
+            octets,
+            kind: PhantomData,
+        })
+    }
+}
+
+impl<O: FromBuilder + Drop, K: KeyKind> KeyData<O, K> {
+    /// The data that all tokens left spell: the numbers in decimal, and the octets in Base 64 for a
+    /// key, or in Base 16 for a digest, in as many tokens as one likes, or in none.
+    ///
+    /// # Errors
+    ///
+    /// That of the first of the numbers that is refused, then that of the codec, then
+    /// `Custom("record data too long")` for data of over 65,535 octets. The tokens left are then an
+    /// end of those before.
+    #[tactic(auto, unfolding(domain_fields::specs::Layout::octets_of))]
+    pub fn scan<S: Scanner<Octets = O>>(alloc: Global, scanner: &mut S) -> Result<Self, ScanError>
+        ensures { ReadsTokens (AllTokens (KeyText K.codec)) (λ d. d)
+            (RefusesKey K.codec O.Builder.limit) (S.tokens scanner.old) (S.tokens scanner.new)
+            result }
+    {
+        let (number, (first, second)) = <(u16, (u8, u8)) as ScanFields<S>>::scan(alloc, scanner)?;
+        let decoded = scanner.convert_entry(alloc, K::codec())?;
+        if decoded.as_slice().len() > MOST {
+            return Err(ScanError::Custom("record data too long"));
+        }
+        Ok(KeyData::from_fields_unchecked(number, first, second, decoded))
+    }
+}
+
+impl<'a, K: KeyKind> ParseRecordData<'a> for KeyData<&'a [u8], K> {
+    ghost is_read = { λ rtype. rtype ≡ K.rtype };
+
+    ghost begins = { λ octets d after. Begins key_fields octets (key_values d) after };
+
+    ghost faults = { FirstFault key_fields };
+
+    fn parse_rdata(rtype: Rtype, parser: &mut Parser<'a>) -> Result<Option<Self>, ParseError> {
+        if rtype != K::rtype() {
+            return Ok(None);
+        }
+        Ok(Some(Self::parse(parser)?))
+    }
+}
+
+impl<O: Octets, K: KeyKind> RecordData for KeyData<O, K> {
+    ghost rtype = { λ _. K.rtype };
+
+    fn rtype(&self) -> Rtype {
+        K::rtype()
+    }
+}
+
+impl<O: Octets, K: KeyKind> ComposeRecordData for KeyData<O, K> {
+    ghost octets = { key_octets };
+
+    ghost canonical = { key_octets };
+
+    fn fits_rdlen(&self) -> bool {
+        self.fields().room_after(MAX_RDLEN).is_some()
+    }
+
+    fn rdlen(&self, _compress: bool) -> Option<u16> {
+        Some(self.fields().count())
+    }
+
+    fn compose_rdata<B: OctetsBuilder>(&self, target: &mut B) -> Result<(), AppendError> {
+        self.fields().put(target)
+    }
+
+    fn compose_canonical_rdata<B: OctetsBuilder>(&self, target: &mut B) -> Result<(), AppendError> {
+        self.fields().put_canonical(target)
+    }
+
+    fn canonical_cmp_octets(&self, other: &[u8]) -> Ordering {
+        domain_fields::canonical_cmp_octets(&self.fields(), other)
+    }
+}
+
+impl<O: Octets, K: KeyKind> KeyData<O, K> {
+    /// Whether data over other octets are the same.
+    pub fn eq_to<P: Octets>(&self, other: &KeyData<P, K>) -> bool
+        ensures value { result ≡ bytes_eq (key_octets self.now) (key_octets other.now) }
+        ensures same { IsTrue result ↔ (self.now ≡ other.now) }
+    {
+        domain_fields::canonical_eq(&self.fields(), &other.fields())
+    }
+
+    /// The order to data over other octets: by one field after the other, which is the order of the
+    /// octets.
+    pub fn cmp_to<P: Octets>(&self, other: &KeyData<P, K>) -> Ordering
+        ensures { result ≡ slice_cmp nat_cmp (key_octets self.now) (key_octets other.now) }
+    {
+        self.fields().order(&other.fields())
+    }
+
+    /// The canonical order to data over other octets, which is `cmp_to`.
+    pub fn canonical_cmp_to<P: Octets>(&self, other: &KeyData<P, K>) -> Ordering
+        ensures { result ≡ slice_cmp nat_cmp (key_octets self.now) (key_octets other.now) }
+    {
+        self.cmp_to(other)
+    }
+}
+
+impl<O: Octets, K: KeyKind> CanonicalOrd for KeyData<O, K> {
+    ghost canonical_cmp = { on key_octets (slice_cmp nat_cmp) };
+
+    ghost total = { on_texts key_octets };
+
+    fn canonical_cmp(&self, other: &Self) -> Ordering {
+        self.cmp_to(other)
+    }
+}
+
+impl<O: Octets, K: KeyKind> PartialEq for KeyData<O, K> {
+    ghost eq = { on key_octets bytes_eq };
+
+    ghost laws = { partial_equiv_from_equiv (on_texts_equal key_octets) };
+
+    fn eq(&self, other: &Self) -> bool {
+        self.eq_to(other)
+    }
+}
+
+impl<O: Octets, K: KeyKind> Eq for KeyData<O, K> {
+    ghost laws = { on_texts_equal key_octets };
+}
+
+impl<O: Octets, K: KeyKind> PartialOrd for KeyData<O, K> {
+    ghost partial_cmp = { λ a b. Some (on key_octets (slice_cmp nat_cmp) a b) };
+
+    ghost laws = { po (on_texts key_octets) (tied_octets key_octets) };
+
+    fn partial_cmp(&self, other: &Self) -> Option<Ordering> {
+        Some(self.cmp_to(other))
+    }
+}
+
+impl<O: Octets, K: KeyKind> Ord for KeyData<O, K> {
+    ghost cmp = { on key_octets (slice_cmp nat_cmp) };
+
+    ghost total = { on_texts key_octets };
+
+    ghost matches_partial_cmp = { λ a b. refl };
+
+    ghost matches_eq = { tied_octets key_octets };
+
+    fn cmp(&self, other: &Self) -> Ordering {
+        self.cmp_to(other)
+    }
+}
+
+impl<O: Octets, K: KeyKind> Hash for KeyData<O, K> {
+    ghost hash_input = { λ d. flat_map fed.u8 (key_octets d) };
+
+    ghost respects_eq = { (fed_alike key_octets).fed };
+
+    fn hash<H: Hasher>(&self, state: &mut H) {
+        self.fields().feed(state);
+    }
+}
+
+impl<O: Octets, K: KeyKind> TryClone for KeyData<O, K> {
+    ghost is_clone = { λ d copy. copy ≡ d };
+
+    fn try_clone(&self) -> Result<Self, OutOfMemory> {
+        self.clone()
+    }
+}
+
+impl<O: Octets, K: KeyKind> CloneRecordData for KeyData<O, K> {
+    ghost clone_rtype = { λ d copy same. refl };
+
+    ghost clone_canonical = { copies_tied key_octets };
+}
+
+impl<S: Octets + Drop, O: CopyOctets, K: KeyKind> OctetsFrom<KeyData<S, K>> for KeyData<O, K> {
+    ghost is_same = { λ source made. made ≡ source };
+
+    ghost has_no_room = { λ source. IsOver O.capacity (length source.octets) };
+
+    ghost takes_memory = { IsNone O.capacity };
+
+    fn try_octets_from(alloc: Global, source: KeyData<S, K>) -> Result<Self, AppendError> {
+        let octets = O::copy_octets(alloc, source.octets.as_slice())?;
+        Ok(source.with_octets(octets))
+    }
+}
