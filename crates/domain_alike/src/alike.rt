@@ -1,18 +1,17 @@
 //! Which names of a chain hash alike.
-ghost use Rattle.std.specs.Prelude.{◌≡◌, ◌⊎◌, ℕ, ◌++◌, ◌∷◌, [], List, Ok, IfErr, IfOk, map, option_map};
+ghost use Rattle.std.specs.Prelude.{◌≡◌, ◌++◌, ◌∷◌, [], List, Ok, IfErr, IfOk, map, option_map};
 ghost use Rattle.domain_names.specs.Words.{Name};
 ghost use Rattle.domain_nsec3.specs.{Config.{Hash, hash_name}, View.config_of};
 ghost use Rattle.domain_records.specs.Order.{IsInOrder};
-ghost use Rattle.domain_hasher.specs.declared.error.Nsec3HashError.TheVariants as hash_error;
 ghost use Rattle.domain_borrowed.specs.Data.{zone_of_raw};
 ghost use Rattle.domain_alike.specs.Alike.{pair_of, AreAlike, IsFirstPair, IsFirstRefusal};
-ghost use Rattle.domain_alike.specs.AlikeSteps.{first_with, AreFirstNames};
+ghost use Rattle.domain_alike.specs.AlikeSteps.{first_with, AreFirstNames, IsRefusedBy};
 
 use crate::chain_names::chain_names;
 use domain_base::{MAX_NAME, ParsedName, ToName};
 use domain_borrowed::BorrowedRecord;
-use domain_hasher::{Nsec3HashError, Nsec3Hasher, hash_wire};
-use domain_nsec3::GenerateNsec3Config;
+use domain_hasher::{Nsec3HashError, Nsec3Hasher};
+use domain_nsec3::{GenerateNsec3Config, hash_wire};
 use domain_octets::{Octets, OutOfMemory, TryClone};
 use std::alloc::Global;
 use std::collections::BTreeMap;
@@ -63,23 +62,19 @@ pub fn alike_names<'a, O: Octets, S, H: Nsec3Hasher>(
     requires { IsInOrder (λ n. n) (λ d. d.rtype) sorted.now }
     ensures ok { IfOk result (λ pairs. AreAlike (zone_of_raw sorted.now) apex.now (config_of
         (H.answer hasher.now) config.now) (map pair_of pairs.items)) }
-    ensures err { IfErr result (λ e. (e ≡ hash_error.OutOfMemory) ⊎ ((n : ℕ) × (e
-        ≡ hash_error.Hasher n) × IsFirstRefusal (zone_of_raw sorted.now) apex.now (config_of
-        (H.answer hasher.now) config.now) n)) }
+    ensures err { IfErr result (IsRefusedBy (IsFirstRefusal (zone_of_raw sorted.now) apex.now
+        (config_of (H.answer hasher.now) config.now))) }
 {
     let without_unsigned = config.params.opt_out_flag()
         & config.opt_out_exclude_owner_names_of_unsigned_delegations;
     let below_dname = config.occlude_below_dname;
     let names = chain_names(alloc, apex, sorted, without_unsigned, below_dname)?;
-    let algorithm = config.params.hash_algorithm();
-    let iterations = config.params.iterations();
-    let salt = config.params.salt().as_slice();
     let mut firsts = BTreeMap::new(alloc);
     let mut pairs = Vec::new(alloc);
     for name in &names {
         let mut buffer = [0; MAX_NAME];
         let lowered = name.lower_wire(&mut buffer);
-        let hash = hash_wire(alloc, hasher, algorithm, iterations, salt, lowered)?;
+        let hash = hash_wire(alloc, hasher, &config.params, lowered)?;
         if let Some(first) = first_of_hash(&mut firsts, hash, name)? {
             let later = name.try_clone()?;
             pairs.push(Alike { later, first })?;
@@ -106,9 +101,8 @@ pub fn first_alike<'a, O: Octets, S, H: Nsec3Hasher>(
     requires { IsInOrder (λ n. n) (λ d. d.rtype) sorted.now }
     ensures ok { IfOk result (λ alike. IsFirstPair (zone_of_raw sorted.now) apex.now (config_of
         (H.answer hasher.now) config.now) (option_map pair_of alike)) }
-    ensures err { IfErr result (λ e. (e ≡ hash_error.OutOfMemory) ⊎ ((n : ℕ) × (e
-        ≡ hash_error.Hasher n) × IsFirstRefusal (zone_of_raw sorted.now) apex.now (config_of
-        (H.answer hasher.now) config.now) n)) }
+    ensures err { IfErr result (IsRefusedBy (IsFirstRefusal (zone_of_raw sorted.now) apex.now
+        (config_of (H.answer hasher.now) config.now))) }
 {
     let pairs = alike_names(alloc, apex, sorted, config, hasher)?;
     Ok(pairs.into_iter().next())

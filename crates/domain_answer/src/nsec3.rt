@@ -1,7 +1,7 @@
 //! What records of an NSEC3 chain answer.
-ghost use Rattle.std.specs.{Prelude.{◌≡◌, ◌<◌, ◌⊎◌, ℕ, Err, length, IfErr, IfOk, IsErrOf}, Option.option_map};
+ghost use Rattle.std.specs.{Prelude.{◌≡◌, ◌<◌, Err, length, IfErr, IfOk, IsErrOf}, Option.option_map};
 ghost use Rattle.domain_names.specs.Name.{last_labels};
-ghost use Rattle.domain_nsec3.specs.{Config.hash_name, View.as_hashed_link};
+ghost use Rattle.domain_nsec3.specs.{Config.hash_name, Faults.IsNoHash, View.as_hashed_link};
 ghost use Rattle.domain_hasher.specs.declared.error.Nsec3HashError.TheVariants as hash_error;
 ghost use Rattle.domain_checker.specs.HashedEncloser.{encloser_of};
 ghost use Rattle.domain_checker.specs.HashedPass.{found_cover, found_match};
@@ -120,12 +120,10 @@ fn read_wildcard<A: ToName, O: Octets, N: ToName, M: ToName, H: Nsec3Hasher>(
     ensures ok { IfOk result (IsWildcardRead
         (hashed_records (A.labels apex.now) N.labels (H.answer hasher.now) records.now)
         (M.labels name.now) rtype count) }
-    ensures refusal { (n : ℕ) → IsErrOf result (hash_error.Hasher n)
-        → hash_name (hash_with (H.answer hasher.now) records.now)
-        (wildcard_below (last_labels count (M.labels name.now))) ≡ Err n }
-    ensures errors { IfErr result (λ e. (e ≡ hash_error.OutOfMemory)
-        ⊎ ((n : ℕ) × (e ≡ hash_error.Hasher n))) }
-    ensures memory { IsErrOf result hash_error.OutOfMemory → H.takes_memory hasher.now }
+    ensures err { IfErr result (IsNoHash (λ n.
+        hash_name (hash_with (H.answer hasher.now) records.now)
+        (wildcard_below (last_labels count (M.labels name.now))) ≡ Err n)
+        (H.takes_memory hasher.now)) }
 {
     let mut buffer = [0; MAX_NAME];
     let wildcard = wildcard_below(&mut buffer, name, count);

@@ -2,7 +2,7 @@
 ghost use Rattle.std.specs.Prelude.{◌≡◌, ◌⊎◌, ℕ, Ok, Err, None, false, IfOk, IfErr, IsErrOf};
 ghost use Rattle.std.specs.Option.{option_map};
 ghost use Rattle.domain_names.specs.Name.{is_at_or_below, lowered, wire_of};
-ghost use Rattle.domain_nsec3.specs.Config.{hash_name};
+ghost use Rattle.domain_nsec3.specs.{Config.hash_name, Faults.IsNoHash};
 ghost use Rattle.domain_hasher.specs.declared.error.Nsec3HashError.TheVariants as hash_error;
 ghost use Rattle.domain_checker.specs.HashedEncloser.{encloser_is_cut, encloser_of, IsFoundEncloser};
 ghost use Rattle.domain_checker.specs.HashedPass.{found_cover, found_match, IsLookedUp};
@@ -13,8 +13,8 @@ use crate::Nsec3Found;
 use crate::hashed::find_hash;
 use domain_base::{MAX_NAME, Rtype, ToName};
 use domain_chain_rdata::Nsec3;
-use domain_hasher::{Nsec3HashError, Nsec3Hasher, hash_wire};
-use domain_nsec3::Nsec3Records;
+use domain_hasher::{Nsec3HashError, Nsec3Hasher};
+use domain_nsec3::{Nsec3Records, hash_wire};
 use domain_octets::Octets;
 use domain_record::Record;
 use std::alloc::Global;
@@ -54,15 +54,11 @@ fn look_up<'a, A: ToName, O: Octets, N: ToName, H: Nsec3Hasher>(
     ensures ok { IfOk result (λ found. IsLookedUp
         (hashed_records (A.labels apex.now) N.labels (H.answer hasher.now) records.now) wire.now
         (found_match N.labels found) (found_cover N.labels found)) }
-    ensures err { IfErr result (λ e. (e ≡ hash_error.OutOfMemory) ⊎ ((n : ℕ)
-        × (e ≡ hash_error.Hasher n)
-        × (hash_with (H.answer hasher.now) records.now wire.now ≡ Err n))) }
-    ensures memory { IsErrOf result hash_error.OutOfMemory → H.takes_memory hasher.now }
+    ensures err { IfErr result (IsNoHash (λ n.
+        hash_with (H.answer hasher.now) records.now wire.now ≡ Err n) (H.takes_memory hasher.now)) }
 {
     let param = records.nsec3param.data();
-    let (algorithm, iterations) = (param.hash_algorithm(), param.iterations());
-    let salt = param.salt().as_slice();
-    let hash = hash_wire(alloc, hasher, algorithm, iterations, salt, wire)?;
+    let hash = hash_wire(alloc, hasher, param, wire)?;
     Ok(find_hash(apex, param, records.nsec3s.as_slice(), hash.as_slice()))
 }
 
@@ -153,11 +149,9 @@ pub fn find_nsec3<'a, A: ToName, O: Octets, N: ToName, M: ToName, H: Nsec3Hasher
         (hashed_records (A.labels apex.now) N.labels (H.answer hasher.now) records.now)
         (wire_of (lowered (M.labels name.now)))
         (found_match N.labels found) (found_cover N.labels found)) }
-    ensures refusal { (n : ℕ) → IsErrOf result (hash_error.Hasher n)
-        → hash_name (hash_with (H.answer hasher.now) records.now) (M.labels name.now) ≡ Err n }
-    ensures errors { IfErr result (λ e. (e ≡ hash_error.OutOfMemory)
-        ⊎ ((n : ℕ) × (e ≡ hash_error.Hasher n))) }
-    ensures memory { IsErrOf result hash_error.OutOfMemory → H.takes_memory hasher.now }
+    ensures err { IfErr result (IsNoHash (λ n.
+        hash_name (hash_with (H.answer hasher.now) records.now) (M.labels name.now) ≡ Err n)
+        (H.takes_memory hasher.now)) }
 {
     let mut buffer = [0; MAX_NAME];
     let lowered = name.lower_wire(&mut buffer);

@@ -1,5 +1,6 @@
 -- What is picked of the NSEC3 chain of a zone is what its answer rests on, and no more.
-use Rattle.std.proofs.Common.{◌≡◌, ◌≢◌, ℕ, ◌<◌, Bool, true, false, cond, not, ◌&&◌, ◌||◌, List, [], length, Some, refl, sym, ap, subst, ◌∙◌, inl, inr, arith}
+use Rattle.std.proofs.Common.{◌≡◌, ◌≢◌, ℕ, ◌<◌, Bool, true, false, cond, not, ◌&&◌, ◌||◌, List, [], length, Ok, Some, refl, sym, ap, subst, ◌∙◌, inl}
+use Rattle.std.proofs.Common.{inr, arith}
 use Rattle.std.proofs.lemmas.{Option.{same_Some, slice_get_within}, Bool.{and_parts, cases_Bool, cases_eq, false≢true, or_left, or_right, true_from_ne_false}}
 use Rattle.std.proofs.lemmas.{Grind.common_steps, List.length-map}
 use Rattle.domain_names.specs.{Name.{is_at_or_below, same_name, last_labels}, Words.Name}
@@ -16,10 +17,11 @@ use Rattle.domain_answer.specs.{HashedZoneAnswer.{hashed_encloser, hashed_zone_a
 use Rattle.domain_answer.{specs.declared.answer.Answer.{Answer, TheVariants.{NoCloserName, NotProven}}, proofs.EncloserLemmas.{closest_last, exists_low}}
 use Rattle.domain_answer.proofs.{EncloserLemmas.strictly_other, HashedAnswerLemmas.read_proved}
 use Rattle.domain_answer.proofs.HashedWholeLemmas.{IsOfZone, encloser_told as whole_tells, whole_proves, zone_says}
-use Rattle.domain_denier.specs.HashedPicked.{AreHashedNeeded, IsHashedDenial, IsHashedWhole, TellOfTheirParts, hashed_picked, picked_without}
-use Rattle.domain_denier.{specs.{HashedSteps.{IsSoleOf, all_records}, Picked.at_place, declared.nsec3.Nsec3Denial.Nsec3Denial}, proofs.HashSearchLemmas.many}
-use Rattle.domain_denier.proofs.{HashedPickLemmas.IsPickedRead, SomeLemmas.{AreAmong, all_among, among_contained, contained, in_place, no_match, others_among}}
-use Rattle.domain_denier.proofs.SomeLemmas.{picked_among, read_is, without_others}
+use Rattle.domain_denier.specs.HashedPicked.{AreHashedNeeded, AreHashedThere, IsHashedDenial, IsHashedDenied, IsHashedWhole, TellOfTheirParts, all_records}
+use Rattle.domain_denier.specs.{HashedPicked.{hashed_picked, picked_without, without_records}, HashedSteps.{IsOfZone as IsOfSomeZone, IsSoleOf}}
+use Rattle.domain_denier.{specs.{Picked.at_place, declared.nsec3.Nsec3Denial.Nsec3Denial}, proofs.HashSearchLemmas.many}
+use Rattle.domain_denier.proofs.{HashedPickLemmas.{IsPickedRead, none_read}, SomeLemmas.{AreAmong, all_among, among_contained, contained, in_place}}
+use Rattle.domain_denier.proofs.SomeLemmas.{no_match, others_among, picked_among, read_is, without_others}
 
 -- the chain of a zone has a record
 pub some_links : (L : List ZoneRecord) (a : Name) (config : ChainConfig) (links : List HashedLink) → ChainFacts L a config links → links ≡ [] → ⊥
@@ -91,7 +93,7 @@ module _ (L : List ZoneRecord) (config : ChainConfig) (chain : ChainRecords) (x 
     encloser_matched = (and_parts (is_matched R en) (closes links) (whole_tells facts x low asked)).0
 
     -- so it is not that none is matched
-    pub never_unmatched : IsUnmatched (all_records hash chain) x → ⊥
+    never_unmatched : IsUnmatched (all_records hash chain) x → ⊥
     never_unmatched none =
         let here : IsUnmatched R x = subst (λ S. IsUnmatched S x) (sym (read_is L config hash chain whole)) none in
         false≢true (sym (here en closest.above (exists_low owners a en closest.found)).2 ∙ encloser_matched)
@@ -181,5 +183,29 @@ module _ (L : List ZoneRecord) (config : ChainConfig) (chain : ChainRecords) (x 
             needed = needed_is;
           }
 
-    pub denial_is : (d : Nsec3Denial) → IsPickedRead (all_records hash chain) x t d → IsHashedDenial L config chain x t d
+    denial_is : (d : Nsec3Denial) → IsPickedRead (all_records hash chain) x t d → IsHashedDenial L config chain x t d
     denial_is d read = denied d (subst (λ S. IsPickedRead S x t d) (sym (read_is L config hash chain whole)) read)
+
+-- ---- so it is as it is promised
+
+module _ (knows : ChainsAreKnown) (hash : Hash) (chain : ChainRecords) (x : Name) (t : ℕ) (small : t < 65536)
+    (low : is_at_or_below x chain.param.owner ≡ true) (parent : is_at_parent chain.param.owner x t ≡ false) where
+  pub denied_by : (d : Nsec3Denial) → (IsOfSomeZone hash chain → IsPickedRead (all_records hash chain) x t d) → AreHashedThere chain.links d
+      → IsHashedDenied hash chain x t (Ok d)
+  denied_by d read there = record {
+    outside = λ out. absurd (false≢true (sym out ∙ low));
+    parent = λ inside at. absurd (false≢true (sym parent ∙ at));
+    denial = λ L config whole asked. denial_is L config chain x t hash whole knows small low parent asked d (read (L, config, whole));
+    exact = λ needs L config whole. (read (L, config, whole)).picked;
+    there = there;
+  }
+
+  -- of the chain of no zone nothing is picked
+  pub denied_none : (IsOfSomeZone hash chain → IsUnmatched (all_records hash chain) x) → IsHashedDenied hash chain x t (Ok (without_records NotProven))
+  denied_none none = record {
+    outside = λ out. absurd (false≢true (sym out ∙ low));
+    parent = λ inside at. absurd (false≢true (sym parent ∙ at));
+    denial = λ L config whole asked. absurd (never_unmatched L config chain x t hash whole knows small low parent asked (none (L, config, whole)));
+    exact = λ needs L config whole. none_read (all_records hash chain) x t (none (L, config, whole));
+    there = grind (arith, common_steps);
+  }

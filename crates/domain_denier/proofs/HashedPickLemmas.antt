@@ -14,8 +14,8 @@ use Rattle.domain_checker.{specs.HashedView.{first_cover, first_match, with_link
 use Rattle.domain_answer.specs.HashedReading.{IsHashedRead, IsReadOn, IsWildcardRead, encloser_answer, next_answer, own_answer, wildcard_told}
 use Rattle.domain_answer.specs.{ZoneAnswer.wildcard_below, declared.answer.Answer.{Answer, TheVariants.{Referral, Redirected, NoCloserName, NotProven}}}
 use Rattle.domain_answer.proofs.{EncloserLemmas.last_above, ExpansionLemmas.last_low, HashedWayLemmas.closer_counts}
-use Rattle.domain_denier.specs.{HashedPicked.{IsRefusedAbove, TellsOfName, hashed_picked, picked_without}, HashedSteps.IsCoverAt}
-use Rattle.domain_denier.specs.HashedSteps.{IsPlaced, IsOfZone, IsSoleOf, all_records, encloser_at, link_at, next_role, rests_below, wildcard_told_by}
+use Rattle.domain_denier.specs.{HashedPicked.{IsRefusedAbove, TellsOfName, all_records, hashed_picked, picked_without}, HashedSteps.IsCoverAt}
+use Rattle.domain_denier.specs.HashedSteps.{IsPlaced, IsOfZone, IsSoleOf, encloser_at, link_at, next_role, rests_below, wildcard_told_by}
 use Rattle.domain_denier.specs.declared.{encloser.PlacedEncloser.PlacedEncloser, nsec3.Nsec3Denial.Nsec3Denial}
 use Rattle.domain_denier.proofs.SomeLemmas.{AreAmong, AreOthers, all_among, covered, in_picked, in_without, matched, no_cover, no_match, others_among}
 use Rattle.domain_denier.proofs.SomeLemmas.{picked_among, told_in, without_others}

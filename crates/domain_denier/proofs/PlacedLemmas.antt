@@ -8,7 +8,7 @@ use Rattle.domain_nsec3.specs.{Chain.ChainRecords, Config.Hash}
 use Rattle.domain_checker.{specs.{HashedReading.IsUnmatched, HashedView.{HashedRecords, first_cover}}, proofs.HashedWalkLemmas.IsMissed}
 use Rattle.domain_checker.proofs.HashedWalkLemmas.{IsPassed, none_first, none_left, passed_on}
 use Rattle.domain_answer.proofs.EncloserLemmas.{parent_below}
-use Rattle.domain_denier.specs.{HashedPicked.IsRefusedAbove, HashedSteps.{IsFoundAt, IsOfZone, IsReached, all_records}}
+use Rattle.domain_denier.specs.{HashedPicked.{IsRefusedAbove, all_records}, HashedSteps.{IsFoundAt, IsOfZone, IsReached}}
 use Rattle.domain_denier.proofs.SomeLemmas.{all_among, unmatched}
 
 module _ (hash : Hash) (chain : ChainRecords) (x : Name) where

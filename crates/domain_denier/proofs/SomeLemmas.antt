@@ -7,8 +7,9 @@ use Rattle.domain_zone.{specs.Zone.ZoneRecord, proofs.{PairLemmas.{In, all_from_
 use Rattle.domain_nsec3.specs.{Chain.{ChainRecords, HashedLink}, Config.{ChainConfig, Hash}}
 use Rattle.domain_checker.specs.{HashedList.{is_hash_cover, is_hash_match}, HashedView.{HashedRecords, chain_records, first_cover, first_match, with_links}}
 use Rattle.domain_answer.specs.HashedReading.{wildcard_told}
-use Rattle.domain_denier.specs.{Picked.{at_place, listed_option}, HashedPicked.{IsHashedWhole, IsPicked, hashed_picked, other_place, picked_without, without}}
-use Rattle.domain_denier.specs.{HashedSteps.{IsOfHash, all_records, tells_hash, wildcard_told_by}, declared.nsec3.Nsec3Denial.Nsec3Denial}
+use Rattle.domain_denier.specs.{Picked.{at_place, listed_option}, HashedPicked.{IsHashedWhole, IsPicked, all_records, hashed_picked, other_place}}
+use Rattle.domain_denier.specs.{HashedPicked.{picked_without, without}, HashedSteps.{IsOfHash, tells_hash, wildcard_told_by}}
+use Rattle.domain_denier.specs.declared.nsec3.Nsec3Denial.{Nsec3Denial}
 
 -- the records of a zone's chain are read as that chain tells
 pub read_is : (L : List ZoneRecord) (config : ChainConfig) (hash : Hash) (chain : ChainRecords) → IsHashedWhole L config hash chain

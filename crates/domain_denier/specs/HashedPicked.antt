@@ -1,12 +1,15 @@
 -- The records of an NSEC3 chain that a server answers a question with (RFC 5155, section 7.2).
-use Rattle.std.specs.{Prelude.{ℕ, ◌≡◌, ◌⊎◌, ◌<◌, ◌==◌, ◌++◌, true, List, length, Option, Some, None, Err, slice_get, if◌then◌else◌}, List.Contains}
+use Rattle.std.specs.Prelude.{ℕ, ◌≡◌, ◌⊎◌, ◌<◌, ◌==◌, ◌++◌, true, false, List, length, Option, Some, None, Result, Ok, Err, IfOk, slice_get}
+use Rattle.std.specs.{Prelude.if◌then◌else◌, List.Contains}
 use Rattle.domain_names.specs.{Name.is_at_or_below, Words.Name}
 use Rattle.domain_zone.specs.Zone.{ZoneRecord}
 use Rattle.domain_nsec3.specs.{Chain.{ChainRecords, HashedLink, IsHashedChain}, Config.{ChainConfig, Hash, hash_name}}
-use Rattle.domain_checker.specs.{HashedVerdict.{is_covered, is_matched, next_closer}, HashedView.chain_records}
-use Rattle.domain_answer.specs.HashedProved.{hashed_proved_answer, tells_wildcard}
-use Rattle.domain_answer.specs.{HashedZoneAnswer.{hashed_encloser, hashed_zone_answer}, Proved.LeavesOutBelowDname, ZoneAnswer.wildcard_below}
-use Rattle.domain_answer.specs.declared.answer.Answer.{Answer, TheVariants.{NoCloserName, NotProven}}
+use Rattle.domain_hasher.specs.declared.error.Nsec3HashError.{Nsec3HashError}
+use Rattle.domain_checker.specs.{HashedVerdict.{is_covered, is_matched, next_closer}, HashedView.{HashedRecords, chain_records, with_links}}
+use Rattle.domain_answer.specs.{HashedProved.{AreAskedAlone, hashed_proved_answer, tells_wildcard}, HashedReading.IsHashedRead}
+use Rattle.domain_answer.specs.{HashedZoneAnswer.{hashed_encloser, hashed_zone_answer}, Proved.{LeavesOutBelowDname, needs_no_records}}
+use Rattle.domain_answer.specs.{ZoneAnswer.{is_at_parent, wildcard_below}, declared.answer.Answer.Answer}
+use Rattle.domain_answer.specs.declared.answer.Answer.TheVariants.{AtParent, NoCloserName, NotProven, OutsideZone}
 use Rattle.domain_denier.specs.{Picked.at_place, declared.nsec3.Nsec3Denial.Nsec3Denial}
 
 -- the links are the NSEC3 chain of a zone, in which names below a DNAME are left out; they were
@@ -17,6 +20,16 @@ pub record IsHashedWhole (L : List ZoneRecord) (config : ChainConfig) (hash : Ha
   pub is : IsHashedChain L chain.param.owner config chain.links
   pub hashed : config.hash ≡ hash
   pub parameters : config.parameters ≡ chain.param.parameters
+
+-- all records of a chain, as they are read
+abbrev pub all_records : Hash → ChainRecords → HashedRecords
+all_records hash chain =
+    record {
+      links = chain.links;
+      apex = chain.param.owner;
+      parameters = chain.param.parameters;
+      hash = hash;
+    }
 
 -- an answer that rests on no record
 abbrev pub without_records : Answer → Nsec3Denial
@@ -94,6 +107,27 @@ pub record IsHashedDenial (L : List ZoneRecord) (config : ChainConfig) (chain : 
   -- each tells of its part, and each is needed
   pub parts : TellOfTheirParts L chain.param.owner config chain.links x d
   pub needed : AreHashedNeeded L chain.param.owner config chain.links x t d
+
+-- what is promised of what is picked of a chain whose names are hashed so, or of the error in its
+-- place
+pub record IsHashedDenied (hash : Hash) (chain : ChainRecords) (x : Name) (t : ℕ)
+    (result : Result Nsec3Denial Nsec3HashError) : Type 0 where
+  pub outside : is_at_or_below x chain.param.owner ≡ false
+      → result ≡ Ok (without_records OutsideZone)
+  pub parent : is_at_or_below x chain.param.owner ≡ true
+      → is_at_parent chain.param.owner x t ≡ true → result ≡ Ok (without_records AtParent)
+  -- of the chain of any zone in which no other name has a hash that is asked for, the answer is
+  -- what that zone says, the records prove it, each tells of its part, and each is needed
+  pub denial : IfOk result (λ d. (L : List ZoneRecord) (config : ChainConfig)
+      → IsHashedWhole L config hash chain → AreAskedAlone L chain.param.owner config x
+      → IsHashedDenial L config chain x t d)
+  -- of the chain of any zone at all, it is what `judge_nsec3` says of these records alone
+  pub exact : needs_no_records chain.param.owner x t ≡ false
+      → IfOk result (λ d. (L : List ZoneRecord) (config : ChainConfig)
+      → IsHashedWhole L config hash chain
+      → IsHashedRead (with_links (all_records hash chain) (hashed_picked chain.links d)) x t d.answer)
+  -- of any chain, the records are there
+  pub there : IfOk result (AreHashedThere chain.links)
 
 -- the hasher refuses x, an ancestor at or below the apex, or the wildcard right below one of these
 pub record IsRefusedAbove (a : Name) (hash : Hash) (x : Name) (n : ℕ) : Type 0 where

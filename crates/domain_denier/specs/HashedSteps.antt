@@ -9,22 +9,12 @@ use Rattle.domain_nsec3.specs.{Chain.{ChainRecords, HashedLink}, Config.{ChainCo
 use Rattle.domain_checker.specs.{HashedEncloser.{Encloser, encloser_is_cut}, HashedList.{is_hash_cover, is_hash_match}, HashedReading.IsUnmatched}
 use Rattle.domain_checker.specs.{HashedVerdict.{IsFirst, next_closer}, HashedView.HashedRecords}
 use Rattle.domain_answer.specs.{HashedReading.wildcard_told, ZoneAnswer.wildcard_below, declared.answer.Answer.Answer}
-use Rattle.domain_denier.specs.{HashedPicked.IsHashedWhole, declared.encloser.PlacedEncloser.PlacedEncloser}
+use Rattle.domain_denier.specs.{HashedPicked.{IsHashedWhole, all_records}, declared.encloser.PlacedEncloser.PlacedEncloser}
 
 -- the chain is that of some zone, made by this hash
 abbrev pub IsOfZone : Hash → ChainRecords → Type 0
 IsOfZone hash chain =
     (L : List ZoneRecord) × (config : ChainConfig) × IsHashedWhole L config hash chain
-
--- all records of a chain, as they are read
-abbrev pub all_records : Hash → ChainRecords → HashedRecords
-all_records hash chain =
-    record {
-      links = chain.links;
-      apex = chain.param.owner;
-      parameters = chain.param.parameters;
-      hash = hash;
-    }
 
 -- ---- the record of a hash
 

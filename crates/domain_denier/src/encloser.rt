@@ -1,8 +1,7 @@
 //! The closest encloser of a name, in an NSEC3 chain.
-ghost use Rattle.std.specs.Prelude.{◌≡◌, ◌<◌, ◌⊎◌, ℕ, true, length, IfOk, IfErr, IsErrOf};
+ghost use Rattle.std.specs.Prelude.{◌≡◌, ◌<◌, true, length, IfOk, IfErr};
 ghost use Rattle.domain_names.specs.Name.{is_at_or_below, lowered, wire_of};
-ghost use Rattle.domain_nsec3.specs.View.{hash_by};
-ghost use Rattle.domain_hasher.specs.declared.error.Nsec3HashError.TheVariants as hash_error;
+ghost use Rattle.domain_nsec3.specs.{Faults.IsNoHash, View.hash_by};
 ghost use Rattle.domain_denier.specs.{HashedPicked.IsRefusedAbove, HashedSteps.IsFoundPlaced};
 
 use crate::hash_search::look_up;
@@ -37,10 +36,9 @@ pub(crate) fn find_encloser<O: Octets, H: Nsec3Hasher>(
     requires wire { wire.now ≡ wire_of (lowered name.now) }
     ensures ok { IfOk result (IsFoundPlaced
         (hash_by (H.answer hasher.now) chain.now.param.parameters) chain.now name.now) }
-    ensures err { IfErr result (λ e. (e ≡ hash_error.OutOfMemory) ⊎ ((n : ℕ)
-        × (e ≡ hash_error.Hasher n) × IsRefusedAbove chain.now.param.owner
-        (hash_by (H.answer hasher.now) chain.now.param.parameters) name.now n)) }
-    ensures memory { IsErrOf result hash_error.OutOfMemory → H.takes_memory hasher.now }
+    ensures err { IfErr result (IsNoHash (IsRefusedAbove chain.now.param.owner
+        (hash_by (H.answer hasher.now) chain.now.param.parameters) name.now)
+        (H.takes_memory hasher.now)) }
 {
     let apex = chain.nsec3param().owner();
     let mut left = name.as_parsed();

@@ -1,12 +1,11 @@
 //! The record of a chain that says something of a hash.
-ghost use Rattle.std.specs.Prelude.{◌≡◌, ◌<◌, ◌⊎◌, ℕ, Err, length, IfOk, IfErr, IsErrOf};
-ghost use Rattle.domain_nsec3.specs.{Config.Hash, Meaning.octets_before, View.hash_by};
-ghost use Rattle.domain_hasher.specs.declared.error.Nsec3HashError.TheVariants as hash_error;
-ghost use Rattle.domain_denier.specs.HashedSteps.{all_records, IsFoundAt, IsOfHash, IsOfZone};
+ghost use Rattle.std.specs.Prelude.{◌≡◌, ◌<◌, Err, length, IfOk, IfErr};
+ghost use Rattle.domain_nsec3.specs.{Config.Hash, Faults.IsNoHash, Meaning.octets_before, View.hash_by};
+ghost use Rattle.domain_denier.specs.{HashedPicked.all_records, HashedSteps.{IsFoundAt, IsOfHash, IsOfZone}};
 
 use domain_checker::laws::hashed_chains_are_known;
-use domain_hasher::{Nsec3HashError, Nsec3Hasher, hash_wire};
-use domain_nsec3::Nsec3Chain;
+use domain_hasher::{Nsec3HashError, Nsec3Hasher};
+use domain_nsec3::{Nsec3Chain, hash_wire};
 use domain_octets::Octets;
 use std::alloc::Global;
 
@@ -70,14 +69,10 @@ pub(crate) fn look_up<O: Octets, H: Nsec3Hasher>(
     ensures ok { IfOk result (λ found. IsFoundAt
         (hash_by (H.answer hasher.now) chain.now.param.parameters) chain.now wire.now found.place
         found.matches) }
-    ensures err { IfErr result (λ e. (e ≡ hash_error.OutOfMemory) ⊎ ((n : ℕ)
-        × (e ≡ hash_error.Hasher n)
-        × (hash_by (H.answer hasher.now) chain.now.param.parameters wire.now ≡ Err n))) }
-    ensures memory { IsErrOf result hash_error.OutOfMemory → H.takes_memory hasher.now }
+    ensures err { IfErr result (IsNoHash (λ n.
+        hash_by (H.answer hasher.now) chain.now.param.parameters wire.now ≡ Err n)
+        (H.takes_memory hasher.now)) }
 {
-    let param = chain.nsec3param().data();
-    let (algorithm, iterations) = (param.hash_algorithm(), param.iterations());
-    let salt = param.salt().as_slice();
-    let hash = hash_wire(alloc, hasher, algorithm, iterations, salt, wire)?;
+    let hash = hash_wire(alloc, hasher, chain.nsec3param().data(), wire)?;
     Ok(find_hash(chain, hash.as_slice()))
 }

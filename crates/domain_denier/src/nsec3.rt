@@ -1,16 +1,10 @@
 //! What is picked of an NSEC3 chain.
-ghost use Rattle.std.specs.Prelude.{◌≡◌, ◌<◌, ◌⊎◌, ℕ, List, None, Some, Ok, Err, true, false, length, slice_get, IfOk, IfErr, IsErrOf};
-ghost use Rattle.domain_names.specs.Name.{is_at_or_below, last_labels};
-ghost use Rattle.domain_nsec3.specs.{Chain.HashedLink, Config.{ChainConfig, hash_name}};
-ghost use Rattle.domain_nsec3.specs.View.{hash_by};
-ghost use Rattle.domain_hasher.specs.declared.error.Nsec3HashError.TheVariants as hash_error;
-ghost use Rattle.domain_zone.specs.Zone.{ZoneRecord};
-ghost use Rattle.domain_checker.specs.HashedView.{links_with};
-ghost use Rattle.domain_answer.specs.HashedProved.{AreAskedAlone};
-ghost use Rattle.domain_answer.specs.HashedReading.{encloser_answer, flag_of, IsHashedRead};
-ghost use Rattle.domain_answer.specs.Proved.{needs_no_records};
-ghost use Rattle.domain_answer.specs.ZoneAnswer.{is_at_parent, wildcard_below};
-ghost use Rattle.domain_denier.specs.HashedPicked.{hashed_picked, without_records, AreHashedThere, ArePlaces, IsHashedDenial, IsHashedWhole, IsRefusedAbove};
+ghost use Rattle.std.specs.Prelude.{◌≡◌, ◌<◌, ℕ, None, Some, Err, length, slice_get, IfOk, IfErr};
+ghost use Rattle.domain_names.specs.Name.{last_labels};
+ghost use Rattle.domain_nsec3.specs.{Chain.HashedLink, Config.hash_name, Faults.IsNoHash, View.hash_by};
+ghost use Rattle.domain_answer.specs.HashedReading.{encloser_answer, flag_of};
+ghost use Rattle.domain_answer.specs.ZoneAnswer.{wildcard_below};
+ghost use Rattle.domain_denier.specs.HashedPicked.{without_records, ArePlaces, IsHashedDenied, IsRefusedAbove};
 ghost use Rattle.domain_denier.specs.HashedSteps.{encloser_at, link_at, next_role, wildcard_told_by, IsWildcardAnswer};
 
 use crate::encloser::{PlacedEncloser, find_encloser};
@@ -162,11 +156,10 @@ fn wildcard_answer<O: Octets, M: ToName, H: Nsec3Hasher>(
     ensures ok { IfOk result (IsWildcardAnswer
         (hash_by (H.answer hasher.now) chain.now.param.parameters) chain.now
         (M.labels name.now) rtype count) }
-    ensures err { IfErr result (λ e. (e ≡ hash_error.OutOfMemory) ⊎ ((n : ℕ)
-        × (e ≡ hash_error.Hasher n)
-        × (hash_name (hash_by (H.answer hasher.now) chain.now.param.parameters)
-        (wildcard_below (last_labels count (M.labels name.now))) ≡ Err n))) }
-    ensures memory { IsErrOf result hash_error.OutOfMemory → H.takes_memory hasher.now }
+    ensures err { IfErr result (IsNoHash (λ n.
+        hash_name (hash_by (H.answer hasher.now) chain.now.param.parameters)
+        (wildcard_below (last_labels count (M.labels name.now))) ≡ Err n)
+        (H.takes_memory hasher.now)) }
 {
     let mut buffer = [0; MAX_NAME];
     let Some(wildcard) = wildcard_of(&mut buffer, name, count) else {
@@ -217,37 +210,13 @@ pub fn deny_nsec3<O: Octets, M: ToName, H: Nsec3Hasher>(
     rtype: Rtype,
     hasher: &H,
 ) -> Result<Nsec3Denial, Nsec3HashError>
-    ensures outside { is_at_or_below (M.labels name.now) chain.now.param.owner ≡ false
-        → result ≡ Ok (without_records Answer.OutsideZone) }
-    ensures parent { is_at_or_below (M.labels name.now) chain.now.param.owner ≡ true
-        → is_at_parent chain.now.param.owner (M.labels name.now) rtype ≡ true
-        → result ≡ Ok (without_records Answer.AtParent) }
-
-    // Of the chain of any zone in which no other name has a hash that is asked for, the answer is
-    // what that zone says, the records prove it, each tells of its part, and each is needed.
-    ensures denial { IfOk result (λ d. (L : List ZoneRecord) (config : ChainConfig)
-        → IsHashedWhole L config (hash_by (H.answer hasher.now) chain.now.param.parameters)
-        chain.now → AreAskedAlone L chain.now.param.owner config (M.labels name.now)
-        → IsHashedDenial L config chain.now (M.labels name.now) rtype d) }
-
-    // Of the chain of any zone at all, it is what `judge_nsec3` says of these records alone.
-    ensures exact { needs_no_records chain.now.param.owner (M.labels name.now) rtype ≡ false
-        → IfOk result (λ d. (L : List ZoneRecord) (config : ChainConfig)
-        → IsHashedWhole L config (hash_by (H.answer hasher.now) chain.now.param.parameters)
-        chain.now → IsHashedRead (links_with chain.now.param.owner chain.now.param.parameters
-        (H.answer hasher.now) (hashed_picked chain.now.links d)) (M.labels name.now) rtype
-        d.answer) }
-
-    // Of any chain, the records are there.
-    ensures there { IfOk result (AreHashedThere chain.now.links) }
+    ensures denied { IsHashedDenied (hash_by (H.answer hasher.now) chain.now.param.parameters)
+        chain.now (M.labels name.now) rtype result }
 
     // An error is the refusal of a name that is asked for, or want of memory.
-    ensures refusal { (n : ℕ) → IsErrOf result (hash_error.Hasher n)
-        → IsRefusedAbove chain.now.param.owner
-        (hash_by (H.answer hasher.now) chain.now.param.parameters) (M.labels name.now) n }
-    ensures errors { IfErr result (λ e. (e ≡ hash_error.OutOfMemory)
-        ⊎ ((n : ℕ) × (e ≡ hash_error.Hasher n))) }
-    ensures memory { IsErrOf result hash_error.OutOfMemory → H.takes_memory hasher.now }
+    ensures err { IfErr result (IsNoHash (IsRefusedAbove chain.now.param.owner
+        (hash_by (H.answer hasher.now) chain.now.param.parameters) (M.labels name.now))
+        (H.takes_memory hasher.now)) }
 {
     let apex = chain.nsec3param().owner();
     if !name.ends_with(apex) {

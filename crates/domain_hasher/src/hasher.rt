@@ -1,9 +1,7 @@
 //! Hashes of owner names.
-ghost use Rattle.std.specs.Prelude.{◌≡◌, ◌⊎◌, ℕ, List, Result, Ok, Err, IfErr, IfOk, IsErrOf};
-ghost use Rattle.domain_hasher.specs.declared.error.Nsec3HashError.TheVariants as hash_error;
+ghost use Rattle.std.specs.Prelude.{◌≡◌, ℕ, List, Result, Ok, Err, IfOk, IsErrOf};
 ghost use Rattle.domain_hasher.specs.declared.hasher.HasherError.TheVariants as hasher_error;
 
-use crate::Nsec3HashError;
 use domain_base::Nsec3HashAlgorithm;
 use domain_octets::OutOfMemory;
 use std::alloc::{AllocError, AllocFailed, Global};
@@ -85,32 +83,4 @@ pub trait Nsec3Hasher {
         ensures refused { (n : ℕ) → IsErrOf result (HasherError.Refused n)
             → answer self.now name.now algorithm iterations salt.now ≡ Err n }
         ensures memory { IsErrOf result HasherError.OutOfMemory → takes_memory self.now };
-}
-
-/// The hash of a name, which is given by the octets of its wire form in lower case; a refusal of
-/// the hasher is one of the chain.
-///
-/// # Errors
-///
-/// `Hasher` with the number of the hasher's refusal, and `OutOfMemory` where it has none.
-pub fn hash_wire<H: Nsec3Hasher>(
-    alloc: Global,
-    hasher: &H,
-    algorithm: Nsec3HashAlgorithm,
-    iterations: u16,
-    salt: &[u8],
-    wire: &[u8],
-) -> Result<Vec<u8>, Nsec3HashError>
-    ensures ok { IfOk result (λ hash.
-        H.answer hasher.now wire.now algorithm iterations salt.now ≡ Ok hash.items) }
-    ensures err { IfErr result (λ e. (e ≡ hash_error.OutOfMemory) ⊎ ((n : ℕ)
-        × (e ≡ hash_error.Hasher n)
-        × (H.answer hasher.now wire.now algorithm iterations salt.now ≡ Err n))) }
-    ensures memory { IsErrOf result hash_error.OutOfMemory → H.takes_memory hasher.now }
-{
-    match hasher.hash(alloc, wire, algorithm, iterations, salt) {
-        Ok(hash) => Ok(hash),
-        Err(HasherError::Refused(reason)) => Err(Nsec3HashError::Hasher(reason)),
-        Err(HasherError::OutOfMemory) => Err(Nsec3HashError::OutOfMemory),
-    }
 }

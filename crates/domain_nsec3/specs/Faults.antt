@@ -1,5 +1,5 @@
 -- When a zone has no NSEC3 chain.
-use Rattle.std.specs.Prelude.{Bool, true, false, not, ◌&&◌, ◌||◌, ◌==◌, List, length, nat_lt, Option, Some, None, Ok, Err, ◌≡◌, ◌≢◌, if◌then◌else◌}
+use Rattle.std.specs.Prelude.{ℕ, ◌⊎◌, Bool, true, false, not, ◌&&◌, ◌||◌, ◌==◌, List, length, nat_lt, Option, Some, None, Ok, Err, ◌≡◌, ◌≢◌, if◌then◌else◌}
 use Rattle.domain_names.specs.{Name.{wire_of, same_name}, Order.before, Words.Name}
 use Rattle.domain_records.specs.declared.error.SigningError.{SigningError, TheVariants.{EmptyRecordSlice, SoaRecordCouldNotBeDetermined, MultipleTtlValues}}
 use Rattle.domain_records.specs.declared.error.SigningError.TheVariants.{Nsec3HashingError, OutOfMemory}
@@ -16,6 +16,11 @@ hash_fault a (Ok h) =
     if (length h == 0) || nat_lt 39 (length h) then Some hash_error.OwnerHashError
     else if nat_lt 255 (length (wire_of (hashed_owner a h))) then Some hash_error.Nsec3NameTooLong
     else None
+
+-- why there is no hash: no memory, of which this is said, or the refusal of a number
+abbrev pub IsNoHash : (ℕ → Type 0) → Type 0 → Nsec3HashError → Type 0
+IsNoHash refused memory e =
+    ((e ≡ hash_error.OutOfMemory) × memory) ⊎ ((n : ℕ) × (e ≡ hash_error.Hasher n) × refused n)
 
 -- x is hashed before y: owners before empty non-terminals, and both in canonical order
 abbrev pub is_hashed_before : List ZoneRecord → Name → ChainConfig → Name → Name → Bool

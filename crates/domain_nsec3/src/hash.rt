@@ -1,8 +1,8 @@
 //! The hashes of names, and the owners of their records.
-ghost use Rattle.std.specs.Prelude.{◌≡◌, ◌+◌, ◌<◌, ◌≤◌, ◌++◌, ◌∷◌, ◌⊎◌, [], Ok, Some, None, length, take, All, IfOk, IfErr, IsErrOf, OnOk, vec_capacity, vec_len};
+ghost use Rattle.std.specs.Prelude.{◌≡◌, ◌+◌, ◌<◌, ◌≤◌, ◌++◌, ◌∷◌, ◌⊎◌, [], Ok, Err, Some, None, length, take, All, IfOk, IfErr, IsErrOf, OnOk, vec_capacity, vec_len};
 ghost use Rattle.domain_octets.specs.Words.{Octets};
 ghost use Rattle.domain_hasher.specs.declared.error.Nsec3HashError.TheVariants as hash_error;
-ghost use Rattle.domain_nsec3.specs.{Chain.hashed_owner, Config.hash_name, Faults.hash_fault};
+ghost use Rattle.domain_nsec3.specs.{Chain.hashed_owner, Config.hash_name, Faults.{hash_fault, IsNoHash}};
 ghost use Rattle.domain_nsec3.specs.Steps.{AreHashesOf, IsFirstRefused, IsHashed, IsRefusal};
 ghost use Rattle.domain_nsec3.specs.View.{hash_by, parameters_of};
 
@@ -11,7 +11,7 @@ use crate::name_hash::{MAX_HASH, NameHash};
 use domain_base::{MAX_NAME, MakeName, Nsec3HashAlgorithm, ParsedName, ToName};
 use domain_bitmap::Nsec3Salt;
 use domain_chain_rdata::Nsec3param;
-use domain_hasher::{Nsec3HashError, Nsec3Hasher, hash_wire};
+use domain_hasher::{HasherError, Nsec3HashError, Nsec3Hasher};
 use domain_octets::{Octets, OutOfMemory};
 use std::alloc::Global;
 
@@ -39,6 +39,32 @@ fn check_hash(apex: &ParsedName<'_>, hash: &[u8]) -> Result<(), Nsec3HashError>
     Ok(())
 }
 
+/// The hash of a name by these parameters, of the octets of its wire form in lower case; a refusal
+/// of the hasher is one of the chain.
+///
+/// # Errors
+///
+/// `Hasher` with the number of the hasher's refusal, and `OutOfMemory` where it has none.
+pub fn hash_wire<H: Nsec3Hasher, O: Octets>(
+    alloc: Global,
+    hasher: &H,
+    params: &Nsec3param<O>,
+    wire: &[u8],
+) -> Result<Vec<u8>, Nsec3HashError>
+    ensures ok { IfOk result (λ hash.
+        hash_by (H.answer hasher.now) (parameters_of params.now) wire.now ≡ Ok hash.items) }
+    ensures err { IfErr result (IsNoHash (λ n.
+        hash_by (H.answer hasher.now) (parameters_of params.now) wire.now ≡ Err n)
+        (H.takes_memory hasher.now)) }
+{
+    let (algorithm, iterations) = (params.hash_algorithm(), params.iterations());
+    match hasher.hash(alloc, wire, algorithm, iterations, params.salt().as_slice()) {
+        Ok(hash) => Ok(hash),
+        Err(HasherError::Refused(reason)) => Err(Nsec3HashError::Hasher(reason)),
+        Err(HasherError::OutOfMemory) => Err(Nsec3HashError::OutOfMemory),
+    }
+}
+
 /// The hash of a name by these parameters, where it is of use.
 fn hash_checked<H: Nsec3Hasher, O: Octets>(
     alloc: Global,
@@ -55,10 +81,7 @@ fn hash_checked<H: Nsec3Hasher, O: Octets>(
 {
     let mut buffer = [0; MAX_NAME];
     let lowered = name.lower_wire(&mut buffer);
-    let algorithm = params.hash_algorithm();
-    let iterations = params.iterations();
-    let salt = params.salt().as_slice();
-    let hash = hash_wire(alloc, hasher, algorithm, iterations, salt, lowered)?;
+    let hash = hash_wire(alloc, hasher, params, lowered)?;
     check_hash(apex, hash.as_slice())?;
     Ok(hash)
 }

@@ -25,7 +25,7 @@ mod types;
 pub use borrowed::BorrowedNsec3;
 pub use config::{GenerateNsec3Config, Nsec3ParamTtlMode};
 pub use empty::names_over;
-pub use hash::mk_hashed_nsec3_owner_name;
+pub use hash::{hash_wire, mk_hashed_nsec3_owner_name};
 pub use hashed_owner::HashedOwner;
 pub use nsec3::{Nsec3Records, generate_nsec3s};
 pub use nsec3_chain::Nsec3Chain;

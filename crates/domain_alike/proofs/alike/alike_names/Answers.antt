@@ -43,7 +43,7 @@ returns-in_err-hash-clause-err g c =
     if_err_of (IsRefusedBy (IsFirstRefusal (zone_of_raw c.args.sorted.now) c.args.apex.now config)) c.in_err-hash.field-0.0
     c.from_residual-in_err-hash.result c.from_residual-in_err-hash.ensures.1
     (elim c.in_err-hash.ensures.err [
-      | inl none ↦ inl none
+      | inl none ↦ inl none.0
       | inr r ↦ inr (
         r.0,
         r.1,

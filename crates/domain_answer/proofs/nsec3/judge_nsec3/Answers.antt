@@ -41,7 +41,7 @@ returns-in_err-read_wildcard-in-NoCloserName-clause-judged g c =
       proof = tt;
       within = tt;
       refusal = λ n e. grind (arith, common_steps, wild);
-      errors = c.in_err-read_wildcard-in-NoCloserName.ensures.errors;
+      errors = grind (arith, common_steps);
     })
 
 pub returns-in_default : goal.returns-in_default
