@@ -86,7 +86,7 @@ module _ (L : List ZoneRecord) (a : Name) (config : ChainConfig) (listed : List 
           let k = known.itself s in
           let child : is_of_child (encloser_is_cut a e) e.link.bits ≡ false =
           (λ j. k.cut j && k.types soa (omega arith) j) ∙ soa_unlisted L a config x in
-          rw (child, k.closest.matched, k.closest.asked ∙ s, not_below L a config facts.cuts x k.there, k.there)
+          rw (child, k.closest.matched, k.closest.asked ∙ s, not_below L a config facts.means.cuts x k.there, k.there)
           (owned_alike (encloser_is_cut a e) (is_zone_cut L a x) (contains_type e.link.bits) (nsec3_lists L a config x) e.count (length x) t k.cut
           (λ c. k.types t bound) (k.types cname (omega arith)) (is.counts ∙ same_count is.name x s))
 

@@ -54,7 +54,7 @@ module _ {L : List ZoneRecord} {a : Name} {config : ChainConfig} {links : List H
   owners = original_owners L a config
 
   pub encloser_is : (x : Name) → is_at_or_below x a ≡ true → IsClosestEncloser owners a x (closest_encloser owners a x)
-  encloser_is x low = let e = facts.tells.encloser x low in closest_is owners a x (apex_from owners a e.0 e.1.found) low
+  encloser_is x low = let e = facts.means.enclosers.encloser x low in closest_is owners a x (apex_from owners a e.0 e.1.found) low
 
   -- a zone cut that exists is one of the chain
   pub cut_original : (d : Name) → is_at_or_below d a ≡ true → exists_over owners a d ≡ true → is_zone_cut L a d ≡ true → is_original_owner L a config d ≡ true
@@ -120,7 +120,7 @@ module _ {L : List ZoneRecord} {a : Name} {config : ChainConfig} {links : List H
       at_cut = λ s c.
           let zone_cut = sym cut ∙ c in
           let original = cut_original is.name is.first.within of_name.exists zone_cut in (
-            level (λ h. cut_apart L a config facts.cuts is.name en zone_cut original closest.found h),
+            level (λ h. cut_apart L a config facts.means.cuts is.name en zone_cut original closest.found h),
             below_cut L a config is.name x zone_cut original (strictly_from x is.name is.first.above (shorter_above x is.name is.first.above s)),
           );
       gone = λ s c k. record {
@@ -131,7 +131,7 @@ module _ {L : List ZoneRecord} {a : Name} {config : ChainConfig} {links : List H
         uncut = false_from_ne_true (is_below_chain_cut L a config x) (λ f.
             let r = cut_above L a config x f in
             let above = (and_parts (is_at_or_below x r.cut) _ r.under).0 in
-            let top = facts.cuts.each r.cut x r.is_cut r.original r.under in
+            let top = facts.means.cuts.each r.cut x r.is_cut r.original r.under in
             let l = closest.longest r.cut top.found above in
             let m = top.longest en closest.found closest.above in
             let one = same_length en r.cut (below_longer x en r.cut closest.above above l) m in
@@ -145,7 +145,7 @@ module _ {L : List ZoneRecord} {a : Name} {config : ChainConfig} {links : List H
           cover_denies facts next c.value next_low (alone next closer.above next_low c.value c.known) c.link (among c.link c.listed) c.covers in (
             level (λ g.
                 let far = strictly_longer en is.name g in
-                let up = below_longer x en next closest.above closer.above (omega (arith, closer.long)) in
+                let up = below_longer x en next closest.above closer.above (omega (arith, closer.longer)) in
                 false≢true (sym denial.absent ∙ exists_above owners a en next closest.found up next_low)),
             denial.flags,
           );

@@ -75,7 +75,7 @@ module _ {L : List ZoneRecord} {a : Name} {config : ChainConfig} {links : List H
   -- of the hash of d, where no other name of the chain has it
   module _ (d : Name) (low : is_at_or_below d a ≡ true) (v : Octets) (alone : IsAlone L a config d v) where
     one : IsMatchedOrCoveredOnce L a config links d v
-    one = facts.mirrors.each d v low alone
+    one = facts.means.denial.each d v low alone
 
     one_in : In one.link links
     one_in = in_at links one.place one.link one.is.there

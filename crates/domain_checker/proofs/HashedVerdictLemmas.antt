@@ -43,7 +43,7 @@ module _ {L : List ZoneRecord} {a : Name} {config : ChainConfig} {links : List H
             let closer = closer_is x en closest.above (shorter_above x en closest.above s) in
             let q_low = below_trans q en a (and_parts (is_at_or_below q en) _ closer.below).0 en_low in
             let of_q = free q closer.above q_low in
-            let gone = false_from_ne_true (exists_over owners a q) (λ h. let l = closest.longest q h closer.above in omega (arith, closer.long)) in
+            let gone = false_from_ne_true (exists_over owners a q) (λ h. let l = closest.longest q h closer.above in omega (arith, closer.longer)) in
             rw (told, whole_covers facts q q_low of_q.0 of_q.1 gone, or_true (same_name en x || is_zone_cut L a en)) refl
       ]
 
@@ -71,7 +71,7 @@ module _ {L : List ZoneRecord} {a : Name} {config : ChainConfig} {links : List H
       at_name s =
           let k = known.itself s in
           let none : is_none (types_of e.link.bits) ≡ not (is_original_owner L a config x) = emptied ∙ rw (one_lowered is.name x s) refl in
-          rw (k.closest.matched, k.closest.asked ∙ s, not_below L a config facts.cuts x k.there, k.there, k.types t bound, k.cut, none)
+          rw (k.closest.matched, k.closest.asked ∙ s, not_below L a config facts.means.cuts x k.there, k.there, k.types t bound, k.cut, none)
           (elim (cases_Bool (is_original_owner L a config x)) [
             | inl h ↦ rw (h, low) refl
             | inr h ↦

@@ -5,7 +5,7 @@ use Rattle.domain_octets.specs.Words.{Octets}
 use Rattle.domain_names.specs.{Name.{is_at_or_below, is_strictly_below, lowered, same_name, wire_of}, Words.{Label, Name}}
 use Rattle.domain_zone.proofs.NameLemmas.{one_lowered, same_itself, below_itself, below_trans, below_longer, below_length, below_parent, strictly_longer}
 use Rattle.domain_zone.proofs.{NameLemmas.{strictly_from, same_length}, OwnerLemmas.in_any, FindLemmas.{any_none, find_none, find_some}}
-use Rattle.domain_nsec3.specs.{Chain.HashedLink, Config.hash_name}
+use Rattle.domain_nsec3.specs.{Chain.HashedLink, Config.hash_name, Meaning.IsNextCloser}
 use Rattle.domain_checker.specs.{HashedList.is_hash_match, HashedView.{HashedRecords, first_cover, first_match}, HashedPass.IsLookedUp}
 use Rattle.domain_checker.specs.{HashedEncloser.{IsEncloser, IsNextHash, IsUnmatched, next_cover}, HashedVerdict.{IsFirst, IsFirstRefusal, is_matched}}
 use Rattle.domain_checker.{specs.HashedVerdict.{is_ok_with, next_closer}, proofs.{EncloserLemmas.same_count, HashedListLemmas.hash_same}}
@@ -16,18 +16,13 @@ below_drop (suc n) [] = below_itself []
 below_drop (suc n) (l ∷ x) = below_trans (l ∷ x) x (drop n x) (below_parent l x) (below_drop n x)
 
 -- the next closer name of x, where x is longer than d
-pub record IsCloser (x d : Name) : Type 0 where
-  pub above : is_at_or_below x (next_closer x d) ≡ true
-  pub long : length (next_closer x d) ≡ length d + 1
-  pub below : is_strictly_below (next_closer x d) d ≡ true
-
-pub closer_is : (x d : Name) → is_at_or_below x d ≡ true → length d < length x → IsCloser x d
+pub closer_is : (x d : Name) → is_at_or_below x d ≡ true → length d < length x → IsNextCloser x d (next_closer x d)
 closer_is x d p l =
     let up = below_drop _ x in
     let n : length (drop (length x - (length d + 1)) x) ≡ length d + 1 = omega (arith, length-drop (length x - (length d + 1)) x) in
     record {
       above = up;
-      long = n;
+      longer = n;
       below = strictly_from _ d (below_longer x _ d up p (omega (arith, n))) (omega (arith, n));
     }
 
@@ -107,8 +102,8 @@ module _ (R : HashedRecords) where
             closes = (
               grind (arith, common_steps, (same_count next x)),
               hash_same R.hash (next_closer x next) left (same_length (next_closer x next) left
-                  (below_longer x (next_closer x next) left closer.above missed.above (omega (arith, closer.long)))
-                  (omega (arith, closer.long))) ∙ missed.known,
+                  (below_longer x (next_closer x next) left closer.above missed.above (omega (arith, closer.longer)))
+                  (omega (arith, closer.longer))) ∙ missed.known,
             );
           }
         where

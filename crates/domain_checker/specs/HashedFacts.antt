@@ -6,16 +6,14 @@ use Rattle.domain_octets.specs.Words.{AreOctets, Octets}
 use Rattle.domain_names.specs.{Name.{is_at_or_below, same_name}, Words.Name}
 use Rattle.domain_bitmap.specs.{Bitmap.bitmap_octets, Blocks.{contains_type, types_below, types_of}}
 use Rattle.domain_zone.specs.{Enclosers.exists_over, Zone.{ZoneRecord, is_zone_cut}}
-use Rattle.domain_nsec3.specs.{Chain.{HashedLink, IsHashedChain}, Config.ChainConfig, Meaning.{CutsEnclose, MirrorsZone, TellsEncloser}}
+use Rattle.domain_nsec3.specs.{Chain.{HashedLink, IsHashedChain}, Config.ChainConfig, Meaning.MeansTheZone}
 use Rattle.domain_nsec3.specs.Owners.{is_chain_name, is_original_owner, nsec3_lists, original_owners}
 
 -- what is known of one chain
 pub record ChainFacts (L : List ZoneRecord) (a : Name) (config : ChainConfig)
     (links : List HashedLink) : Type 0 where
   pub chain : IsHashedChain L a config links
-  pub mirrors : MirrorsZone L a config links
-  pub tells : TellsEncloser L a config links
-  pub cuts : CutsEnclose L a config
+  pub means : MeansTheZone L a config links
   pub exist : (x : Name) → is_at_or_below x a ≡ true
       → exists_over (original_owners L a config) a x ≡ is_chain_name L a config x
   pub left_out : (c : Name) → is_zone_cut L a c ≡ true → is_original_owner L a config c ≡ false

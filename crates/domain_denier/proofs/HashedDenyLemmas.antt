@@ -27,7 +27,7 @@ use Rattle.domain_denier.proofs.SomeLemmas.{no_match, others_among, picked_among
 pub some_links : (L : List ZoneRecord) (a : Name) (config : ChainConfig) (links : List HashedLink) → ChainFacts L a config links → links ≡ [] → ⊥
 some_links L a config links facts none =
     let names = facts.chain.names in
-    let e = facts.tells.encloser a (below_itself a) in
+    let e = facts.means.enclosers.encloser a (below_itself a) in
     let low = exists_low (original_owners L a config) a e.0 e.1.found in
     let count : length links ≡ length facts.chain.names = many L a config links facts ∙ length-map names (λ (n : HashedName). n.hash) in
     let n = any_in (λ n. same_name n.name e.0) names (facts.chain.complete e.0 (sym (facts.exist e.0 low) ∙ e.1.found)) in

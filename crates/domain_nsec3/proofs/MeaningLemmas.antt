@@ -13,9 +13,10 @@ use Rattle.domain_octets.specs.Words.{Octets}
 use Rattle.domain_names.specs.{Name.{is_at_or_below, same_name}, Words.Name}
 use Rattle.domain_base.specs.Types.{ns}
 use Rattle.domain_nsec3.specs.{Chain.{HashedLink, HashedName, IsHashedChain, IsOfChain, cycle, ends, ends_of, hashed_owner}, Config.{ChainConfig, HashAnswer}}
-use Rattle.domain_nsec3.specs.{Config.hash_of, Meaning.{octets_before, IsAlone, AreAlone, IsRecordOf, IsMatchedOrCoveredOnce, MirrorsZone, TellsEncloserOf}}
-use Rattle.domain_nsec3.specs.{Meaning.{TellsEncloser, CoversExcluded}, Owners.{original_owners, is_empty, is_chain_name, nsec3_lists}}
-use Rattle.domain_nsec3.proofs.{ChainLemmas.cycle_owners, FaultLemmas.hash_same, OwnerLemmas.{apex_original, existing_are, out_flag, runs_to_encloser}}
+use Rattle.domain_nsec3.specs.{Config.hash_of, Meaning.{octets_before, IsAlone, AreAlone, IsRecordOf, IsMatchedOrCoveredOnce, MeansTheZone, TellsEncloserOf}}
+use Rattle.domain_nsec3.specs.Owners.{original_owners, is_empty, is_chain_name, nsec3_lists}
+use Rattle.domain_nsec3.proofs.{AscentLemmas.owners_ascend, ChainLemmas.cycle_owners, FaultLemmas.hash_same}
+use Rattle.domain_nsec3.proofs.OwnerLemmas.{apex_original, cut_encloses, existing_are, out_flag, runs_to_encloser}
 
 -- ---- the order of hashes
 
@@ -148,9 +149,6 @@ module _ (L : List ZoneRecord) (a : Name) (config : ChainConfig) where
           bits = λ c. p.bits ∙ bits_same p.name.name x (matched_name x v alone l.0 one.place l.1 (matched ∙ c));
         }
 
-    pub mirrors_zone : MirrorsZone L a config links
-    mirrors_zone = record { each = λ x v low alone. mirrored x v alone }
-
     -- ---- enclosers
 
     module _ (x e : Name) (alone : AreAlone L a config x) (c : IsClosestEncloser (original_owners L a config) a x e) where
@@ -197,14 +195,17 @@ module _ (L : List ZoneRecord) (a : Name) (config : ChainConfig) where
             };
       }
 
-    pub tells_encloser : TellsEncloser L a config links
-    tells_encloser = record {
-      encloser = an_encloser (original_owners L a config) a (existing_are L a config a (below_itself a) ∙ apex_named (soa_owned L a chain.numbers chain.soa));
-      each = λ x e low alone c. told_of x e alone c;
-    }
-
-    pub covers_excluded : CoversExcluded L a config links
-    covers_excluded = record {
-      flag = out_flag L a config;
-      each = λ c e d cut high out alone k n. (told_of c e alone k).next d n;
+    pub means_the_zone : MeansTheZone L a config links
+    means_the_zone = record {
+      ascent = owners_ascend L a config links chain;
+      denial = record { each = λ x v low alone. mirrored x v alone };
+      enclosers = record {
+        encloser = an_encloser (original_owners L a config) a (existing_are L a config a (below_itself a) ∙ apex_named (soa_owned L a chain.numbers chain.soa));
+        each = λ x e low alone c. told_of x e alone c;
+      };
+      cuts = cut_encloses L a config;
+      excluded = record {
+        flag = out_flag L a config;
+        each = λ c e d cut high out alone k n. (told_of c e alone k).next d n;
+      };
     }

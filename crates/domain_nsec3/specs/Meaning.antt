@@ -126,3 +126,12 @@ pub record CoversExcluded (L : List ZoneRecord) (a : Name) (config : ChainConfig
 -- the owners of the records ascend in canonical order, as their hashes do
 abbrev pub OwnersAscend : List HashedLink → Type 0
 OwnersAscend links = IsStrictlySortedBy canonical_cmp (map (λ k. k.owner) links)
+
+-- what the chain of a zone says of every name, with the order of its owners
+pub record MeansTheZone (L : List ZoneRecord) (a : Name) (config : ChainConfig)
+    (links : List HashedLink) : Type 0 where
+  pub ascent : OwnersAscend links
+  pub denial : MirrorsZone L a config links
+  pub enclosers : TellsEncloser L a config links
+  pub cuts : CutsEnclose L a config
+  pub excluded : CoversExcluded L a config links

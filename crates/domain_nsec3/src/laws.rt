@@ -5,7 +5,7 @@ ghost use Rattle.domain_zone.specs.Zone.{ZoneRecord, is_zone_cut};
 ghost use Rattle.domain_names.specs.{Name.{is_at_or_below, same_name}, Words.Name};
 ghost use Rattle.domain_nsec3.specs.Chain.{HashedLink, IsHashedChain};
 ghost use Rattle.domain_nsec3.specs.Config.{ChainConfig};
-ghost use Rattle.domain_nsec3.specs.Meaning.{CoversExcluded, CutsEnclose, MirrorsZone, OwnersAscend, TellsEncloser};
+ghost use Rattle.domain_nsec3.specs.Meaning.{CutsEnclose, MeansTheZone};
 ghost use Rattle.domain_nsec3.specs.Owners.{original_owners, is_original_owner, is_chain_name, is_empty, nsec3_lists};
 
 /// The names of the chain are those that exist over its original owner names that own records: so
@@ -41,15 +41,6 @@ pub fn types_ignore_case()
 
 /// What the chain says of every name follows from the chain alone, however it was made.
 pub fn chains_mean_the_zone()
-    ensures ascent { (L : List ZoneRecord) (a : Name) (config : ChainConfig)
-        (links : List HashedLink) → IsHashedChain L a config links → OwnersAscend links }
-    ensures denial { (L : List ZoneRecord) (a : Name) (config : ChainConfig)
-        (links : List HashedLink) → IsHashedChain L a config links
-        → MirrorsZone L a config links }
-    ensures enclosers { (L : List ZoneRecord) (a : Name) (config : ChainConfig)
-        (links : List HashedLink) → IsHashedChain L a config links
-        → TellsEncloser L a config links }
-    ensures excluded { (L : List ZoneRecord) (a : Name) (config : ChainConfig)
-        (links : List HashedLink) → IsHashedChain L a config links
-        → CoversExcluded L a config links }
+    ensures { (L : List ZoneRecord) (a : Name) (config : ChainConfig) (links : List HashedLink)
+        → IsHashedChain L a config links → MeansTheZone L a config links }
 {}

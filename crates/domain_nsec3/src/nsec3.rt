@@ -3,7 +3,7 @@ ghost use Rattle.std.specs.Prelude.{◌≡◌, IfOk, IfErr, OnOk};
 ghost use Rattle.domain_records.specs.Order.{IsOneClass, IsInOrder};
 ghost use Rattle.domain_nsec3.specs.Chain.{IsChainParam, IsHashedChain};
 ghost use Rattle.domain_nsec3.specs.Faults.{IsFaultless, IsFirstFault};
-ghost use Rattle.domain_nsec3.specs.Meaning.{CoversExcluded, CutsEnclose, MirrorsZone, OwnersAscend, TellsEncloser};
+ghost use Rattle.domain_nsec3.specs.Meaning.{MeansTheZone};
 ghost use Rattle.domain_zone.specs.View.{zone_of};
 ghost use Rattle.domain_nsec3.specs.View.{as_param_record, config_of, hashed_links_of};
 
@@ -90,20 +90,8 @@ where
     ensures fault { IfErr result (IsFirstFault (zone_of N.labels D.rtype D.minimum records.entry)
         (N.labels apex.now) (config_of (H.answer hasher.now) config.now)) }
 
-    // The owners of the chain ascend as their hashes do.
-    ensures ascent { IfOk result (λ made. OwnersAscend
-        (hashed_links_of N.labels made.nsec3s.items)) }
-
-    // What the chain says of every name of the zone.
-    ensures denial { IfOk result (λ made. MirrorsZone
-        (zone_of N.labels D.rtype D.minimum records.entry) (N.labels apex.now)
-        (config_of (H.answer hasher.now) config.now) (hashed_links_of N.labels made.nsec3s.items)) }
-    ensures enclosers { IfOk result (λ made. TellsEncloser
-        (zone_of N.labels D.rtype D.minimum records.entry) (N.labels apex.now)
-        (config_of (H.answer hasher.now) config.now) (hashed_links_of N.labels made.nsec3s.items)) }
-    ensures cuts { OnOk result (CutsEnclose (zone_of N.labels D.rtype D.minimum records.entry)
-        (N.labels apex.now) (config_of (H.answer hasher.now) config.now)) }
-    ensures excluded { IfOk result (λ made. CoversExcluded
+    // What the chain says of every name of the zone; its owners ascend as their hashes do.
+    ensures means { IfOk result (λ made. MeansTheZone
         (zone_of N.labels D.rtype D.minimum records.entry) (N.labels apex.now)
         (config_of (H.answer hasher.now) config.now) (hashed_links_of N.labels made.nsec3s.items)) }
 {

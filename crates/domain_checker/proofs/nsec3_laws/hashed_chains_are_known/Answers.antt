@@ -3,9 +3,7 @@ use Rattle.domain_checker.proofs.nsec3_laws.hashed_chains_are_known.Goals as goa
 pub returns : goal.returns
 returns c = λ L a config links chain. record {
   chain = chain;
-  mirrors = c.chains_mean_the_zone.ensures.denial L a config links chain;
-  tells = c.chains_mean_the_zone.ensures.enclosers L a config links chain;
-  cuts = c.names_end_at_the_encloser.ensures.cuts L a config;
+  means = c.chains_mean_the_zone.ensures L a config links chain;
   exist = c.names_exist.ensures.existing L a config;
   left_out = c.names_end_at_the_encloser.ensures.excluded L a config;
   alike = c.types_ignore_case.ensures L a config;
