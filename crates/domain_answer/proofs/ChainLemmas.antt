@@ -1,7 +1,7 @@
 -- What the records of a chain that leaves out the names below a DNAME tell of the zone, and that what they answer is what they prove.
 use Rattle.std.proofs.Common.{◌≡◌, ℕ, ◌<◌, Bool, true, false, cond, not, ◌&&◌, ◌||◌, List, [], ◌∷◌, length, refl, sym, ap, ◌∙◌, inl, inr}
 use Rattle.std.proofs.{Common.arith, lemmas.{Bool.{and_from, and_left, and_right, cases_Bool, false_from_ne_true, false≢true}, Grind.common_steps}}
-use Rattle.std.specs.List.{list_any}
+use Rattle.std.{proofs.lemmas.List.Elements.All-from_recursion, specs.{List.{Contains, list_any}, Prelude.All}}
 use Rattle.domain_bitmap.specs.Blocks.{contains_type}
 use Rattle.domain_names.specs.{Name.{is_at_or_below, is_strictly_below, lowered, same_name}, Order.before, Words.Name}
 use Rattle.domain_base.specs.Types.{cname, dname, soa}
@@ -13,13 +13,15 @@ use Rattle.domain_checker.{specs.{Reading.{is_at_cut}, Verdict.has_match_or_cove
 use Rattle.domain_checker.{specs.Facts.{NsecChainsAreKnown, NsecFacts}, proofs.EncloserLemmas.{owner_owns, same_count, strictly_trans, top_occluder}}
 use Rattle.domain_checker.proofs.MeantLemmas.{apex_exists, config_with, cut_at, ends, list_says, owner_low, type_at, covered_encloser}
 use Rattle.domain_checker.proofs.MeantLemmas.{covered_no_owner, covered_occluded, covered_under, covered_unowned, matched_high, matched_low, matched_same}
-use Rattle.domain_answer.specs.{Proved.{IsAnswered, LeavesOutBelowDname, is_missing, knows_wildcard}, Reading.{cover_answer, listed_answer, listed_both}}
-use Rattle.domain_answer.specs.{Reading.{match_answer, reading, tells_occluded, tells_occluder, wildcard_answer, wildcard_both}, TypesAnswer.is_of_child}
-use Rattle.domain_answer.specs.{TypesAnswer.owned_answer, ZoneAnswer.{asterisk, encloser, highest_occluder, inside_answer, is_at_parent, missing_answer}}
-use Rattle.domain_answer.specs.{ZoneAnswer.{name_exists, owns_type, wildcard_below}, declared.answer.Answer.{Answer, TheVariants.{OutsideZone, AtParent}}}
+use Rattle.domain_answer.specs.{Proved.{IsAnswered, LeavesOutBelowDname, is_missing, knows_wildcard, proved_answer}, Reading.{cover_answer, listed_answer}}
+use Rattle.domain_answer.specs.Reading.{listed_both, match_answer, reading, tells_occluded, tells_occluder, wildcard_answer, wildcard_both}
+use Rattle.domain_answer.specs.{TypesAnswer.{is_of_child, owned_answer}, ZoneAnswer.{asterisk, encloser, highest_occluder, inside_answer, is_at_parent}}
+use Rattle.domain_answer.specs.ZoneAnswer.{missing_answer, name_exists, owns_type, wildcard_below}
+use Rattle.domain_answer.specs.declared.answer.Answer.{Answer, TheVariants.{OutsideZone, AtParent}}
 use Rattle.domain_answer.specs.declared.answer.Answer.TheVariants.{Referral, Redirected, NoData, WildcardNoData, NameError, NoCloserName, NotProven}
 use Rattle.domain_answer.proofs.{ChoiceLemmas.{expanded_alike, owned_alike}, EncloserLemmas.{closest_last, cut_owns, none_above, parent_below}}
-use Rattle.domain_answer.proofs.{EncloserLemmas.{strictly_enclosed, wildcard_low}, KindLemmas.highest_of}
+use Rattle.domain_checker.{specs.Alike.IsAlike, proofs.PairedLemmas.paired_with_some}
+use Rattle.domain_answer.proofs.{AlikeLemmas.{proved_alike, reading_alike}, EncloserLemmas.{strictly_enclosed, wildcard_low}, KindLemmas.highest_of}
 
 -- a chain that leaves out what stands below a DNAME
 pub facts_leaving : NsecChainsAreKnown → (L : List ZoneRecord) (a : Name) (config : GenerateNsecConfig) (links : List Link)
@@ -223,9 +225,15 @@ module _ {L : List ZoneRecord} {a : Name} {assume : Bool} {links : List Link} (f
     list_proved =
         list_says facts listed among x (listed_both a listed x t) known of_match of_cover ∙ turned (has_match_or_cover listed x) known NotProven
 
--- what they answer is what they prove, of every name and type
+  -- what they answer is what they prove, of every name and type
+  reading_of : (listed : List Link) → All (Contains links) listed → (x : Name) (t : ℕ) → t < 65536 → reading a listed x t ≡ proved_answer L a assume listed x t
+  reading_of listed among x t b =
+      read_by (is_at_or_below x a) (is_at_parent a x t) (listed_answer a listed x t) _ (inside_answer L a assume x t (highest_occluder L a x))
+      (λ low apart. list_proved listed (stands_all links listed among) x low t b ∙ rw (low, apart))
+
 pub reading_proved : NsecChainsAreKnown → (listed : List Link) (a x : Name) (t : ℕ) → t < 65536 → IsAnswered listed a x t (reading a listed x t)
 reading_proved knows listed a x t b L config links leaves order chain among =
-    let assume = config.assume_dnskeys_will_be_added in
-    read_by (is_at_or_below x a) (is_at_parent a x t) (listed_answer a listed x t) _ (inside_answer L a assume x t (highest_occluder L a x)) (λ low apart.
-    list_proved (facts_leaving knows L a config links leaves order chain) listed (stands_all links listed among) x low t b ∙ rw (low, apart))
+    let some = paired_with_some IsAlike links listed among in
+    reading_alike a t listed some.some some.alike x
+    ∙ reading_of (facts_leaving knows L a config links leaves order chain) some.some (All-from_recursion (Contains links) some.some some.among) x t b
+    ∙ sym (proved_alike a t listed some.some some.alike L config.assume_dnskeys_will_be_added x)

@@ -1,6 +1,6 @@
 -- What NSEC3 records answer of a name whose records were expanded from a wildcard is what they prove of the zone.
 use Rattle.std.proofs.{Common.{Bool, cond, not, ◌≡◌, ℕ, ◌+◌, ◌≤◌, ◌<◌, true, false, List, length, sym, ap, ◌∙◌, subst, inl, inr, arith}, lemmas.Bool.cases_lt}
-use Rattle.std.{proofs.lemmas.{Bool.false≢true, Grind.common_steps, List.Elements.recursion_from_All}, specs.List.Contains}
+use Rattle.std.{proofs.lemmas.{Bool.false≢true, Grind.common_steps}, specs.List.Contains}
 use Rattle.domain_octets.specs.Words.{Octets}
 use Rattle.domain_names.specs.{Name.{is_at_or_below, last_labels}, Words.Name}
 use Rattle.domain_zone.{specs.Zone.ZoneRecord, proofs.{NameLemmas.{below_longer, below_parent}, PairLemmas.{In, all_in}}}
@@ -8,11 +8,12 @@ use Rattle.domain_nsec3.specs.{Chain.HashedLink, Config.ChainConfig, Meaning.IsA
 use Rattle.domain_checker.specs.{HashedFacts.{ChainFacts, ChainsAreKnown}, HashedVerdict.is_covered}
 use Rattle.domain_checker.{specs.HashedView.{HashedRecords, chain_records}, proofs.EncloserLemmas.{apex_from, closest_is}}
 use Rattle.domain_checker.proofs.{EncloserLemmas.exists_above, HashedEncloserLemmas.{cover_denies, match_is_of_name}}
-use Rattle.domain_checker.proofs.{HashedListLemmas.alone_by, HashedVerdictLemmas.as_chain}
+use Rattle.domain_checker.{specs.Alike.IsHashedAlike, proofs.{HashedListLemmas.alone_by, HashedVerdictLemmas.as_chain, PairedLemmas.paired_with_some}}
 use Rattle.domain_answer.specs.Expansion.{missing_closer, ExpansionRestsOn, IsExpansionAnswered, IsExpansionRead, closer_name, closer_told, is_expanded}
 use Rattle.domain_answer.specs.{Expansion.proved_expansion, HashedZoneAnswer.{hashed_encloser, hashed_exists}, Proved.CountsWithin, ZoneAnswer.asterisk}
 use Rattle.domain_answer.specs.{ZoneAnswer.wildcard_below, declared.answer.Answer.{Answer, TheVariants.NotProven}}
-use Rattle.domain_answer.proofs.{EncloserLemmas.{closest_last, last_above, last_count}, HashedWayLemmas.by_told}
+use Rattle.domain_answer.proofs.{EncloserLemmas.{closest_last, last_above, last_count}, HashedAlikeLemmas.{expansion_alike, proved_expansion_alike}}
+use Rattle.domain_answer.proofs.HashedWayLemmas.{by_told}
 
 -- what such a name is known of
 record IsLonger (a x : Name) (n : ℕ) : Type 0 where
@@ -76,9 +77,11 @@ module _ {L : List ZoneRecord} {a : Name} {config : ChainConfig} {links : List H
 pub expansion_proved : ChainsAreKnown → (R : HashedRecords) (x : Name) (n : ℕ) (answer : Answer)
     → is_expanded R.apex x n ≡ true → IsExpansionRead R x n answer → IsExpansionAnswered R x n answer
 expansion_proved knows R x n answer e read = λ L config links value hash parameters chain alone among.
-    told_proved (knows L R.apex config links chain) R.links
-    (λ k i. all_in (Contains links) R.links k (recursion_from_All (Contains links) R.links among) i)
-    x n (closer_low R.apex x n e) value alone answer (subst (λ S. IsExpansionRead S x n answer) (as_chain R config hash parameters) read)
+    let some = paired_with_some IsHashedAlike links R.links among in
+    told_proved (knows L R.apex config links chain) some.some (λ k i. all_in (Contains links) some.some k some.among i)
+    x n (closer_low R.apex x n e) value alone answer (expansion_alike (chain_records R.apex config R.links) some.some some.alike x n answer
+    (subst (λ S. IsExpansionRead S x n answer) (as_chain R config hash parameters) read))
+    ∙ sym (proved_expansion_alike L R.apex config x 0 R.links some.some some.alike n)
 
 -- ---- of any records
 

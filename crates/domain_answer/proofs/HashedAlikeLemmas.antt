@@ -5,7 +5,7 @@ use Rattle.domain_base.specs.Types.{dname}
 use Rattle.domain_chain_rdata.specs.OptOut.{is_opt_out}
 use Rattle.domain_zone.specs.Zone.{ZoneRecord, is_zone_cut}
 use Rattle.domain_nsec3.specs.{Chain.HashedLink, Config.ChainConfig, Owners.nsec3_lists}
-use Rattle.domain_checker.specs.{Alike.{ArePaired, IsHashedAlike}, HashedEncloser.{Encloser, IsFoundEncloser}}
+use Rattle.domain_checker.specs.{Alike.{ArePaired, IsHashedAlike}, HashedEncloser.Encloser}
 use Rattle.domain_checker.{specs.{HashedVerdict.next_closer, HashedView.{HashedRecords, chain_records, with_links}}, proofs.HashedAlikeLemmas.covered_alike}
 use Rattle.domain_checker.proofs.{HashedAlikeLemmas.{IsEncloserAlike, encloser_alike, matched_alike, matching, covering}, PairedLemmas.OptionsPaired}
 use Rattle.domain_answer.specs.{Expansion.{IsExpansionRead, closer_name, closer_told, proved_expansion}, HashedProved.{hashed_proved_answer, tells_encloser}}
@@ -41,15 +41,14 @@ module _ (R : HashedRecords) (ls : List HashedLink) (alike : ArePaired IsHashedA
     read_on : (first answer : Answer) → IsReadOn R x t first answer → IsReadOn S x t first answer
     read_on first answer r = grind (arith, common_steps, wildcard_alike, matching, covering)
 
-    pub read_alike : (answer : Answer) (found : Option Encloser) → IsFoundEncloser R x found
-        → IsReadOn R x t (found_answer R.apex found (length x) t) answer → IsHashedRead S x t answer
-    read_alike answer found is ends =
-        let other = encloser_alike R ls alike x found is in
+    pub read_alike : (answer : Answer) → IsHashedRead R x t answer → IsHashedRead S x t answer
+    read_alike answer read =
+        let other = encloser_alike R ls alike x read.found read.is in
         record {
           found = other.0;
           is = other.1;
-          ends = subst (λ f. IsReadOn S x t f answer) (found_answer_alike R.apex (length x) t found other.0 other.2)
-              (read_on (found_answer R.apex found (length x) t) answer ends);
+          ends = subst (λ f. IsReadOn S x t f answer) (found_answer_alike R.apex (length x) t read.found other.0 other.2)
+              (read_on (found_answer R.apex read.found (length x) t) answer read.ends);
         }
 
 module _ (L : List ZoneRecord) (a : Name) (config : ChainConfig) (x : Name) (t : ℕ) (ks ls : List HashedLink)

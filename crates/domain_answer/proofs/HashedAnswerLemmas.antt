@@ -1,7 +1,7 @@
 -- What the records of an NSEC3 chain answer by themselves is what they prove of the zone.
 use Rattle.std.proofs.Common.{◌≡◌, ℕ, ◌<◌, Bool, true, false, cond, not, ◌&&◌, List, length, sym, ap, ◌∙◌, subst, inl, inr, Option, Some, None, arith}
 use Rattle.std.proofs.lemmas.{Bool.{false_from_ne_true, or_left, or_right}, Grind.common_steps}
-use Rattle.std.{proofs.lemmas.List.Elements.recursion_from_All, specs.{List.Contains, Prelude.Ok}}
+use Rattle.std.specs.{List.Contains, Prelude.Ok}
 use Rattle.domain_octets.specs.Words.{Octets}
 use Rattle.domain_names.specs.{Name.{is_at_or_below, same_name}, Words.Name}
 use Rattle.domain_base.specs.Types.{cname, dname, ns, soa}
@@ -22,7 +22,8 @@ use Rattle.domain_answer.specs.{HashedZoneAnswer.{hashed_encloser, hashed_inside
 use Rattle.domain_answer.specs.{TypesAnswer.wildcard_types_answer, ZoneAnswer.{is_at_parent, wildcard_below}, declared.answer.Answer.Answer}
 use Rattle.domain_answer.specs.declared.answer.Answer.TheVariants.{Referral, Redirected, NameError, MayBeUnsigned, NoCloserName, NotProven}
 use Rattle.domain_answer.proofs.{ChoiceLemmas.{expanded_alike, owned_alike}, EncloserLemmas.{closest_last, dname_occludes, exists_low, none_below}}
-use Rattle.domain_answer.proofs.{EncloserLemmas.wildcard_low, HashedWayLemmas.{by_encloser, by_told}}
+use Rattle.domain_checker.{specs.Alike.IsHashedAlike, proofs.PairedLemmas.paired_with_some}
+use Rattle.domain_answer.proofs.{EncloserLemmas.wildcard_low, HashedAlikeLemmas.{proved_alike, read_alike}, HashedWayLemmas.{by_encloser, by_told}}
 
 -- of DNAME the chain lists what the name owns
 pub dname_owned : (L : List ZoneRecord) (a : Name) (config : ChainConfig) (d : Name) → nsec3_lists L a config d dname ≡ true
@@ -179,7 +180,9 @@ module _ (L : List ZoneRecord) (a : Name) (config : ChainConfig) (listed : List 
 pub read_proved : ChainsAreKnown → (R : HashedRecords) (x : Name) (t : ℕ) (answer : Answer) → t < 65536
     → is_at_or_below x R.apex ≡ true → is_at_parent R.apex x t ≡ false → IsHashedRead R x t answer → IsHashedAnswered R x t answer
 read_proved knows R x t answer b low apart read = λ L config links hash parameters leaves chain asked among.
-    let here = subst (λ S. IsHashedRead S x t answer) (as_chain R config hash parameters) read in
-    found_inside L R.apex config R.links x t links (knows L R.apex config links chain) leaves
-    (λ k i. all_in (Contains links) R.links k (recursion_from_All (Contains links) R.links among) i) low b asked here.found here.is answer here.ends
-    ∙ inside_is L R.apex config R.links x t low apart
+    let some = paired_with_some IsHashedAlike links R.links among in
+    let here = read_alike (chain_records R.apex config R.links) some.some some.alike x t answer
+    (subst (λ S. IsHashedRead S x t answer) (as_chain R config hash parameters) read) in
+    found_inside L R.apex config some.some x t links (knows L R.apex config links chain) leaves
+    (λ k i. all_in (Contains links) some.some k some.among i) low b asked here.found here.is answer here.ends
+    ∙ inside_is L R.apex config some.some x t low apart ∙ sym (proved_alike L R.apex config x t R.links some.some some.alike)

@@ -2,13 +2,12 @@
 -- its last n labels (RFC 5155, section 8.8; RFC 4035, section 5.3.4); a is the apex. As many labels
 -- as that the signatures of those records tell in their field Labels.
 use Rattle.std.specs.Prelude.{ℕ, ◌≡◌, ◌+◌, Bool, true, false, not, ◌&&◌, nat_le, nat_lt, List, All, length, Option, Some, None, if◌then◌else◌}
-use Rattle.std.specs.List.{Contains}
 use Rattle.domain_octets.specs.Words.{Octets}
 use Rattle.domain_names.specs.{Name.{is_at_or_below, last_labels}, Words.Name}
 use Rattle.domain_chain_rdata.specs.OptOut.{is_opt_out}
 use Rattle.domain_zone.specs.Zone.{ZoneRecord}
 use Rattle.domain_nsec3.specs.{Chain.{HashedLink, IsHashedChain}, Config.ChainConfig, Meaning.IsAlone}
-use Rattle.domain_checker.specs.{HashedVerdict.is_covered, HashedView.{HashedRecords, chain_records}}
+use Rattle.domain_checker.specs.{Alike.{IsHashedAlike, IsPairedIn}, HashedVerdict.is_covered, HashedView.{HashedRecords, chain_records}}
 use Rattle.domain_answer.specs.{HashedReading.{IsTold, next_answer}, HashedZoneAnswer.hashed_exists, declared.answer.Answer.Answer}
 use Rattle.domain_answer.specs.declared.answer.Answer.TheVariants.{OutsideZone, MayBeUnsigned, NoCloserName, TooManyIterations, NotProven}
 
@@ -43,13 +42,15 @@ proved_expansion L a config listed x n =
     (if not (is_covered (chain_records a config listed) closer) then NotProven else
     missing_closer config n)
 
--- the answer is what is proved of any zone of whose chain these are records, in any order, with
--- repeats, where no other name of the chain has the hash of the next closer name
+-- the answer is what is proved of any zone of whose chain these are records, but for TTLs, classes
+-- and the case of letters, in any order, with repeats, where no other name of the chain has the hash
+-- of the next closer name
 abbrev pub IsExpansionAnswered : HashedRecords → Name → ℕ → Answer → Type 0
 IsExpansionAnswered R x n answer =
     (L : List ZoneRecord) (config : ChainConfig) (links : List HashedLink) (value : Octets)
     → config.hash ≡ R.hash → config.parameters ≡ R.parameters → IsHashedChain L R.apex config links
-    → IsAlone L R.apex config (closer_name n x) value → All (Contains links) R.links
+    → IsAlone L R.apex config (closer_name n x) value
+    → All (IsPairedIn IsHashedAlike links) R.links
     → answer ≡ proved_expansion L R.apex config R.links x n
 
 -- it is about the last n labels of x, and a record covers the next closer name

@@ -1,5 +1,5 @@
 -- What a list of records of a zone's NSEC3 chain proves of what the zone says.
-use Rattle.std.specs.{List.Contains, Prelude.{ℕ, Bool, true, false, not, ◌&&◌, ◌||◌, List, ◌≡◌, All, length, if◌then◌else◌}}
+use Rattle.std.specs.Prelude.{ℕ, Bool, true, false, not, ◌&&◌, ◌||◌, List, ◌≡◌, All, length, if◌then◌else◌}
 use Rattle.domain_octets.specs.Words.{Octets}
 use Rattle.domain_names.specs.{Name.{same_name, last_labels}, Words.Name}
 use Rattle.domain_base.specs.Types.{dname}
@@ -7,7 +7,7 @@ use Rattle.domain_chain_rdata.specs.OptOut.{is_opt_out}
 use Rattle.domain_zone.specs.Zone.{ZoneRecord, is_zone_cut}
 use Rattle.domain_nsec3.specs.{Chain.{HashedLink, IsHashedChain}, Config.ChainConfig, Meaning.{AreAlone, IsAlone}, Owners.nsec3_lists}
 use Rattle.domain_checker.specs.{HashedVerdict.{is_below_chain_cut, is_covered, is_matched, next_closer, IsFirstMatched}, HashedView.HashedRecords}
-use Rattle.domain_checker.specs.HashedView.{chain_records}
+use Rattle.domain_checker.specs.{Alike.{IsHashedAlike, IsPairedIn}, HashedView.chain_records}
 use Rattle.domain_answer.specs.{HashedZoneAnswer.{hashed_encloser, hashed_exists, hashed_zone_answer}, Proved.{needs_no_records, LeavesOutBelowDname}}
 use Rattle.domain_answer.specs.{ZoneAnswer.wildcard_below, declared.answer.Answer.{Answer, TheVariants.{OutsideZone, AtParent, Referral, Redirected, Wildcard}}}
 use Rattle.domain_answer.specs.declared.answer.Answer.TheVariants.{WildcardAlias, WildcardNoData, NameError, MayBeUnsigned, NoCloserName, TooManyIterations}
@@ -54,14 +54,14 @@ pub record AreAskedAlone (L : List ZoneRecord) (a : Name) (config : ChainConfig)
   pub wildcard : hashed_exists L a config x ≡ false → (v : Octets)
       × IsAlone L a config (wildcard_below (hashed_encloser L a config x)) v
 
--- the answer is what is proved of any zone of whose chain these are records, in any order, with
--- repeats
+-- the answer is what is proved of any zone of whose chain these are records, but for TTLs, classes
+-- and the case of letters, in any order, with repeats
 abbrev pub IsHashedAnswered : HashedRecords → Name → ℕ → Answer → Type 0
 IsHashedAnswered R x t answer =
     (L : List ZoneRecord) (config : ChainConfig) (links : List HashedLink)
     → config.hash ≡ R.hash → config.parameters ≡ R.parameters
     → LeavesOutBelowDname L R.apex config.occlude_below_dname → IsHashedChain L R.apex config links
-    → AreAskedAlone L R.apex config x → All (Contains links) R.links
+    → AreAskedAlone L R.apex config x → All (IsPairedIn IsHashedAlike links) R.links
     → answer ≡ hashed_proved_answer L R.apex config R.links x t
 
 -- ---- lists from anywhere

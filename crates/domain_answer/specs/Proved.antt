@@ -1,9 +1,9 @@
 -- What a list of records of a zone's NSEC chain proves of what the zone says.
-use Rattle.std.specs.{List.Contains, Prelude.{ℕ, Bool, true, not, ◌&&◌, ◌||◌, ◌<◌, ◌≤◌, List, ◌≡◌, All, length, if◌then◌else◌}}
+use Rattle.std.specs.Prelude.{ℕ, Bool, true, not, ◌&&◌, ◌||◌, ◌<◌, ◌≤◌, List, ◌≡◌, All, length, if◌then◌else◌}
 use Rattle.domain_names.specs.{Name.{is_at_or_below, last_labels}, Words.Name}
 use Rattle.domain_zone.specs.Zone.{ZoneRecord, OwnersNeverDescend, is_unoccluded, unoccluded_owners}
 use Rattle.domain_nsec.specs.{Chain.{IsChain, Link}, declared.config.GenerateNsecConfig.GenerateNsecConfig}
-use Rattle.domain_checker.specs.Verdict.{has_match_or_cover, HasProof}
+use Rattle.domain_checker.specs.{Alike.{IsAlike, IsPairedIn}, Verdict.{has_match_or_cover, HasProof}}
 use Rattle.domain_answer.specs.{ZoneAnswer.{encloser, is_at_parent, name_exists, wildcard_below, zone_answer}, declared.answer.Answer.Answer}
 use Rattle.domain_answer.specs.declared.answer.Answer.TheVariants.{OutsideZone, AtParent, Referral, Redirected, Wildcard, WildcardAlias, WildcardNoData}
 use Rattle.domain_answer.specs.declared.answer.Answer.TheVariants.{NameError, MayBeUnsigned, NoCloserName, TooManyIterations, NotProven}
@@ -34,13 +34,13 @@ abbrev pub LeavesOutBelowDname : List ZoneRecord → Name → Bool → Type 0
 LeavesOutBelowDname L a below_dname =
     unoccluded_owners below_dname L a ≡ unoccluded_owners true L a
 
--- the answer is what is proved of any zone of whose chain these are records, in any order, with
--- repeats
+-- the answer is what is proved of any zone of whose chain these are records, but for TTLs, classes
+-- and the case of letters, in any order, with repeats
 abbrev pub IsAnswered : List Link → Name → Name → ℕ → Answer → Type 0
 IsAnswered listed a x t answer =
     (L : List ZoneRecord) (config : GenerateNsecConfig) (links : List Link)
     → LeavesOutBelowDname L a config.occlude_below_dname → OwnersNeverDescend L
-    → IsChain L a config links → All (Contains links) listed
+    → IsChain L a config links → All (IsPairedIn IsAlike links) listed
     → answer ≡ proved_answer L a config.assume_dnskeys_will_be_added listed x t
 
 -- a record that is not passed over matches or covers x, and one the wildcard below the last n

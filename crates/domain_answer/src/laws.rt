@@ -7,8 +7,8 @@ ghost use Rattle.domain_chain_rdata.specs.OptOut.{is_opt_out};
 ghost use Rattle.domain_zone.specs.Zone.{has_type, is_occluded, OwnersNeverDescend, ZoneRecord};
 ghost use Rattle.domain_nsec.specs.{Chain.{IsChain, Link}, declared.config.GenerateNsecConfig.GenerateNsecConfig};
 ghost use Rattle.domain_nsec3.specs.{Chain.{HashedLink, IsHashedChain}, Config.ChainConfig, Meaning.IsAlone};
-ghost use Rattle.domain_checker.specs.Alike.{ArePaired, IsAlike, IsHashedAlike, IsPairedIn};
-ghost use Rattle.domain_checker.specs.HashedView.{HashedRecords, chain_records, with_links};
+ghost use Rattle.domain_checker.specs.Alike.{ArePaired, IsAlike, IsHashedAlike};
+ghost use Rattle.domain_checker.specs.HashedView.{HashedRecords, with_links};
 ghost use Rattle.domain_answer.specs.Expansion.{closer_name, is_expanded, missing_closer, proved_expansion, ExpansionRestsOn, IsExpansionAnswered, IsExpansionRead};
 ghost use Rattle.domain_answer.specs.HashedProved.{hashed_proved_answer, AreAskedAlone, HashedRestsOn, IsHashedAnswered};
 ghost use Rattle.domain_answer.specs.HashedReading.{IsHashedRead};
@@ -44,22 +44,13 @@ pub fn readings_are_proved()
     chains_are_known();
 }
 
-/// What NSEC records answer and prove does not depend on TTLs, classes and the case of letters: so
-/// it is what the zone says, as far as they prove it, also where they are records of its chain but
-/// for these.
+/// What NSEC records answer does not depend on TTLs, classes and the case of letters; nor does what
+/// they prove of a zone (`readings_are_proved`).
+#[tactic(auto, using(crate::proofs::AlikeLemmas::reading_alike))]
 pub fn readings_ignore_case_and_ttl()
-    ensures alike { (listed other : List Link) (a x : Name) (t : ℕ)
+    ensures { (listed other : List Link) (a x : Name) (t : ℕ)
         → ArePaired IsAlike listed other → reading a listed x t ≡ reading a other x t }
-    ensures proved { (listed : List Link) (a x : Name) (t : ℕ) → t < 65536
-        → (L : List ZoneRecord) (config : GenerateNsecConfig) (links : List Link)
-        → LeavesOutBelowDname L a config.occlude_below_dname → OwnersNeverDescend L
-        → IsChain L a config links
-        → All (IsPairedIn IsAlike links) listed
-        → reading a listed x t
-        ≡ proved_answer L a config.assume_dnskeys_will_be_added listed x t }
-{
-    readings_are_proved();
-}
+{}
 
 /// The whole chain of a zone proves what the zone says of every name and type, and the zone says
 /// something of each, also of each wildcard.
@@ -130,39 +121,20 @@ pub fn expansions_are_proved()
     hashed_chains_are_known();
 }
 
-/// What NSEC3 records answer and prove does not depend on TTLs, classes and the case of letters: so
-/// it is what the zone says, as far as they prove it, also where they are records of its chain but
-/// for these.
+/// What NSEC3 records answer does not depend on TTLs, classes and the case of letters; nor does
+/// what they prove of a zone (`hashed_readings_are_proved`).
 pub fn hashed_readings_ignore_case_and_ttl()
-    ensures alike { (R : HashedRecords) (other : List HashedLink) (x : Name) (t : ℕ)
-        (answer : Answer) → ArePaired IsHashedAlike R.links other → IsHashedRead R x t answer
+    ensures { (R : HashedRecords) (other : List HashedLink) (x : Name) (t : ℕ) (answer : Answer)
+        → ArePaired IsHashedAlike R.links other → IsHashedRead R x t answer
         → IsHashedRead (with_links R other) x t answer }
-    ensures proved { (listed : List HashedLink) (a x : Name) (t : ℕ) (answer : Answer) → t < 65536
-        → is_at_or_below x a ≡ true → is_at_parent a x t ≡ false
-        → (L : List ZoneRecord) (config : ChainConfig) (links : List HashedLink)
-        → LeavesOutBelowDname L a config.occlude_below_dname → IsHashedChain L a config links
-        → AreAskedAlone L a config x → All (IsPairedIn IsHashedAlike links) listed
-        → IsHashedRead (chain_records a config listed) x t answer
-        → answer ≡ hashed_proved_answer L a config listed x t }
-{
-    hashed_readings_are_proved();
-}
+{}
 
-/// The same of a name whose records were expanded from a wildcard.
+/// The same of a name whose records were expanded from a wildcard (`expansions_are_proved`).
 pub fn expansions_ignore_case_and_ttl()
-    ensures alike { (R : HashedRecords) (other : List HashedLink) (x : Name) (n : ℕ)
-        (answer : Answer) → ArePaired IsHashedAlike R.links other → IsExpansionRead R x n answer
+    ensures { (R : HashedRecords) (other : List HashedLink) (x : Name) (n : ℕ) (answer : Answer)
+        → ArePaired IsHashedAlike R.links other → IsExpansionRead R x n answer
         → IsExpansionRead (with_links R other) x n answer }
-    ensures proved { (listed : List HashedLink) (a x : Name) (n : ℕ) (answer : Answer)
-        → is_expanded a x n ≡ true
-        → (L : List ZoneRecord) (config : ChainConfig) (links : List HashedLink) (value : Octets)
-        → IsHashedChain L a config links → IsAlone L a config (closer_name n x) value
-        → All (IsPairedIn IsHashedAlike links) listed
-        → IsExpansionRead (chain_records a config listed) x n answer
-        → answer ≡ proved_expansion L a config listed x n }
-{
-    expansions_are_proved();
-}
+{}
 
 /// The whole NSEC3 chain of a zone proves what the zone says of every name and type, where no other
 /// name of the chain has a hash that is asked for; and the zone says something of each.

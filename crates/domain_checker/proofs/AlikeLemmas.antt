@@ -1,12 +1,13 @@
 -- What NSEC records say does not depend on TTLs, classes and the case of letters.
 use Rattle.std.proofs.{Common.{◌≡◌, ℕ, Bool, cond, List, [], ◌∷◌, refl, Option, Some, None, arith}, lemmas.Grind.common_steps}
+use Rattle.std.specs.{List.Contains, Prelude.All}
 use Rattle.domain_names.specs.{Name.{is_at_or_below, lowered}, Order.before, Words.Name}
 use Rattle.domain_zone.specs.{Covering.{covers, matches_or_covers}, Enclosers.shared, Zone.ZoneRecord}
-use Rattle.domain_zone.proofs.NameLemmas.{before_left, before_right, lowered_below, one_lowered}
+use Rattle.domain_zone.proofs.NameLemmas.{before_left, before_right, lowered_below, one_lowered, same_itself}
 use Rattle.domain_nsec.specs.Chain.{Link}
-use Rattle.domain_checker.specs.{Alike.{ArePaired, IsAlike}, Reading.{is_cover, is_match, reading, verdict_of_both}}
+use Rattle.domain_checker.specs.{Alike.{ArePaired, IsAlike, IsPairedIn}, Reading.{is_cover, is_match, reading, verdict_of_both}}
 use Rattle.domain_checker.specs.{Verdict.{proved_verdict}, declared.verdict.Verdict.TheVariants.{OutsideZone}}
-use Rattle.domain_checker.proofs.PairedLemmas.{OptionsPaired, any_alike, find_alike}
+use Rattle.domain_checker.proofs.PairedLemmas.{OptionsPaired, any_alike, find_alike, paired_in}
 
 -- ---- one record
 
@@ -58,3 +59,7 @@ module _ (a x : Name) (t : ℕ) where
   pub proved_alike : (L : List ZoneRecord) (assume : Bool) (ks ls : List Link) → ArePaired IsAlike ks ls
       → proved_verdict L a assume ks x t ≡ proved_verdict L a assume ls x t
   proved_alike L assume ks ls h = grind (arith, common_steps, any_alike, says_alike)
+
+-- records of a list are, but for these, records of it
+pub contained_alike : (links ks : List Link) → All (Contains links) ks → All (IsPairedIn IsAlike links) ks
+contained_alike = paired_in IsAlike (λ k. record { owner = same_itself k.owner k.owner refl; next = same_itself k.next k.next refl; bits = refl })

@@ -1,16 +1,18 @@
 -- What NSEC3 records say does not depend on TTLs, classes and the case of letters.
 use Rattle.std.proofs.Common.{◌≡◌, ℕ, cond, List, [], ◌∷◌, length, map, refl, sym, ap, ◌∙◌, Option, Some, None, arith}
-use Rattle.std.{proofs.lemmas.{List.{length-map, Folds.list_all-map}, Simd.map-map, Grind.common_steps}, specs.{Char.to_ascii_lowercase}}
+use Rattle.std.{proofs.lemmas.{List.{length-map, Folds.list_all-map}, Simd.map-map, Grind.common_steps}, specs.{Char.to_ascii_lowercase, List.Contains}}
+use Rattle.std.specs.Prelude.{All}
 use Rattle.domain_codecs.specs.{Codec.{base32_value}}
 use Rattle.domain_octets.specs.Words.{Octets}
 use Rattle.domain_names.specs.{Name.{lowered}, Words.{Label, Name}}
-use Rattle.domain_zone.{specs.{Covering.{covers, matches}, Zone.{ZoneRecord}}, proofs.NameLemmas.{one_lowered}}
+use Rattle.domain_zone.{specs.{Covering.{covers, matches}, Zone.{ZoneRecord}}, proofs.NameLemmas.{one_lowered, same_itself}}
 use Rattle.domain_nsec3.specs.{Chain.HashedLink, Config.{ChainConfig, Parameters}, Meaning.octets_before, Owners.original_owners}
-use Rattle.domain_checker.specs.{Alike.{ArePaired, IsHashedAlike}, HashedList.{hash_in, is_hash_cover, is_hash_match, is_some_with, is_spelling, owner_hash}}
-use Rattle.domain_checker.specs.{HashedList.{read_label, same_parameters}, HashedView.{HashedRecords, chain_records, first_cover, first_match, with_links}}
+use Rattle.domain_checker.specs.{Alike.{ArePaired, IsHashedAlike, IsPairedIn}, HashedList.{hash_in, is_hash_cover, is_hash_match, is_some_with}}
+use Rattle.domain_checker.specs.HashedList.{is_spelling, owner_hash, read_label, same_parameters}
+use Rattle.domain_checker.specs.HashedView.{HashedRecords, chain_records, first_cover, first_match, with_links}
 use Rattle.domain_checker.specs.{HashedEncloser.{Encloser, IsFoundEncloser, next_cover}, HashedReading.{IsWalked, found_verdict}, HashedVerdict.IsFirst}
 use Rattle.domain_checker.specs.{HashedVerdict.{hashed_proved_verdict, is_covered, is_matched, next_closer}, Verdict.closest_encloser}
-use Rattle.domain_checker.{specs.declared.verdict.Verdict.Verdict, proofs.PairedLemmas.{OptionsPaired, any_alike, find_alike}}
+use Rattle.domain_checker.{specs.declared.verdict.Verdict.Verdict, proofs.PairedLemmas.{OptionsPaired, any_alike, find_alike, paired_in}}
 
 -- ---- labels
 
@@ -120,3 +122,8 @@ module _ (L : List ZoneRecord) (a : Name) (config : ChainConfig) (x : Name) (t :
   pub proved_alike : hashed_proved_verdict L a config ks x t ≡ hashed_proved_verdict L a config ls x t
   proved_alike =
       rw (matched_alike (chain_records a config ks) ls alike en, covered_alike (chain_records a config ks) ls alike (next_closer x en)) refl
+
+-- records of a list are, but for these, records of it
+pub contained_alike : (links ks : List HashedLink) → All (Contains links) ks → All (IsPairedIn IsHashedAlike links) ks
+contained_alike = paired_in IsHashedAlike
+    (λ k. record { owner = same_itself k.owner k.owner refl; next = refl; parameters = refl; flags = refl; bits = refl })

@@ -1,6 +1,6 @@
 -- What a list of records of an NSEC3 chain says is what it proves.
 use Rattle.std.proofs.Common.{rules, ◌≡◌, ◌≢◌, ℕ, ◌≤◌, ◌<◌, true, false, not, ◌&&◌, ◌||◌, List, length, refl, sym, ◌∙◌, subst, inl, inr, Option, Some, None}
-use Rattle.std.proofs.{Common.arith, lemmas.{Bool.{or_parts, cases_Bool, false_from_ne_true, false≢true, and_parts}, List.Elements.recursion_from_All}}
+use Rattle.std.proofs.{Common.arith, lemmas.{Bool.{or_parts, cases_Bool, false_from_ne_true, false≢true, and_parts}}}
 use Rattle.std.{proofs.lemmas.Grind.common_steps, specs.{List.{list_any, Contains}}}
 use Rattle.domain_octets.{proofs.StdLemmas.or_true}
 use Rattle.domain_names.specs.{Name.{is_at_or_below, same_name}, Words.Name}
@@ -16,6 +16,7 @@ use Rattle.domain_checker.specs.{HashedList.{is_hash_match}, HashedReading.{IsWa
 use Rattle.domain_checker.specs.{HashedView.{HashedRecords, chain_records, first_match}, HashedVerdict.{missing_verdict, hashed_zone_verdict, next_closer}}
 use Rattle.domain_checker.specs.HashedVerdict.{is_ok_with, is_covered, proves, hashed_proved_verdict, IsHashedProved, lists_ns, is_told_cut, HasHashedProof}
 use Rattle.domain_checker.specs.{Verdict.{closest_encloser, IsWithin}, declared.verdict.Verdict.{Verdict, TheVariants.{BelowDelegation, NotProven}}}
+use Rattle.domain_checker.{specs.Alike.IsHashedAlike, proofs.{HashedAlikeLemmas.{proved_alike, walked_alike}, PairedLemmas.paired_with_some}}
 use Rattle.domain_checker.proofs.{CutLemmas.not_below, ChoiceLemmas.{IsDefinite, choose_by}, EncloserLemmas.shorter_above}
 use Rattle.domain_checker.proofs.HashedEncloserLemmas.{IsClosed, by_way, cut_counted, empty_lists, match_is_empty}
 use Rattle.domain_checker.proofs.HashedListLemmas.{alone_at, whole_covers, whole_matches}
@@ -153,9 +154,11 @@ as_chain R config hash parameters = grind (arith, common_steps)
 pub walked_proved : ChainsAreKnown → (R : HashedRecords) (x : Name) (t : ℕ) (verdict : Verdict) → t < 65536
     → is_at_or_below x R.apex ≡ true → IsWalked R x t verdict → IsHashedProved R x t verdict
 walked_proved knows R x t verdict b low w = λ L config links hash parameters chain free among.
-    let here = subst (λ S. IsWalked S x t verdict) (as_chain R config hash parameters) w in
-    here.says ∙ found_proved (knows L R.apex config links chain) R.links
-    (λ k i. all_in (Contains links) R.links k (recursion_from_All (Contains links) R.links among) i) x low free t b here.found here.is
+    let some = paired_with_some IsHashedAlike links R.links among in
+    let here = walked_alike (chain_records R.apex config R.links) some.some some.alike x t verdict
+    (subst (λ S. IsWalked S x t verdict) (as_chain R config hash parameters) w) in
+    here.says ∙ found_proved (knows L R.apex config links chain) some.some (λ k i. all_in (Contains links) some.some k some.among i) x low free t b
+    here.found here.is ∙ sym (proved_alike L R.apex config x t R.links some.some some.alike)
 
 -- ---- the whole chain
 

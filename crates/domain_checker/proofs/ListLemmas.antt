@@ -1,6 +1,6 @@
 -- What a list of records of the chain says by itself is what it proves.
-use Rattle.std.proofs.Common.{rules, ◌≡◌, ◌≢◌, ℕ, ◌<◌, Bool, true, false, cond, not, ◌||◌, List, length, refl, subst}
-use Rattle.std.{proofs.{Common.arith, lemmas.Grind.common_steps}, specs.List.find}
+use Rattle.std.proofs.Common.{rules, ◌≡◌, ◌≢◌, ℕ, ◌<◌, Bool, true, false, cond, not, ◌||◌, List, length, refl, sym, ◌∙◌, subst}
+use Rattle.std.{proofs.{Common.arith, lemmas.{Grind.common_steps, List.Elements.All-from_recursion}}, specs.{List.{Contains, find}, Prelude.All}}
 use Rattle.domain_names.specs.{Name.{is_at_or_below}, Words.Name}
 use Rattle.domain_zone.specs.Zone.{ZoneRecord, OwnersNeverDescend}
 use Rattle.domain_zone.proofs.{OwnerLemmas.in_any, FindLemmas.{find_some, stands_all}, SharedLemmas.shared_within}
@@ -8,8 +8,8 @@ use Rattle.domain_nsec.specs.{Chain.{Link, IsChain}, declared.config.GenerateNse
 use Rattle.domain_checker.specs.{declared.verdict.Verdict.{Verdict, TheVariants.{OutsideZone, NotProven}}, Verdict.{zone_verdict, has_match_or_cover}}
 use Rattle.domain_checker.specs.{Verdict.{proved_verdict, IsProved, HasProof, IsWithin}, Reading.{is_match, is_cover, verdict_of_both, list_verdict}}
 use Rattle.domain_checker.specs.{Facts.{NsecChainsAreKnown, NsecFacts}, Reading.{IsChecked, reading}}
-use Rattle.domain_checker.proofs.ChoiceLemmas.{IsDefinite, choose_by, either_found}
-use Rattle.domain_checker.proofs.{MeantLemmas.{config_with, list_says, some_link}, VerdictLemmas.{matched, covers_told}}
+use Rattle.domain_checker.{specs.Alike.IsAlike, proofs.{AlikeLemmas.{proved_alike, reading_alike}, ChoiceLemmas.{IsDefinite, choose_by, either_found}}}
+use Rattle.domain_checker.proofs.{MeantLemmas.{config_with, list_says, some_link}, PairedLemmas.paired_with_some, VerdictLemmas.{matched, covers_told}}
 
 -- a chain that keeps what stands below a DNAME
 facts_keeping : NsecChainsAreKnown → (L : List ZoneRecord) (a : Name) (config : GenerateNsecConfig) (links : List Link)
@@ -26,13 +26,20 @@ read_by : (low has : Bool) (said zone : Verdict) → (low ≡ true → said ≡ 
 read_by low has said zone f g = grind (arith, common_steps)
 
 -- what records of a chain say is what they prove, of every name and type
-reading_proved : NsecChainsAreKnown → (listed : List Link) (a x : Name) (t : ℕ) → t < 65536 → IsProved listed a x t (reading a listed x t)
-reading_proved knows listed a x t b L config links keeps order chain among =
-    let facts = facts_keeping knows L a config links keeps order chain in
-    read_by (is_at_or_below x a) (has_match_or_cover listed x) (list_verdict a listed x t) _
+reading_of : {L : List ZoneRecord} {a : Name} {assume : Bool} {links : List Link} → NsecFacts L a (config_with false assume) links → (listed : List Link)
+    → All (Contains links) listed → (x : Name) (t : ℕ) → t < 65536 → reading a listed x t ≡ proved_verdict L a assume listed x t
+reading_of {L} {a} {assume} {links} facts listed among x t b =
+    read_by (is_at_or_below x a) (has_match_or_cover listed x) (list_verdict a listed x t) (zone_verdict L a assume x t)
     (λ low. list_says facts listed (stands_all links listed among) x (verdict_of_both a x t) _ (λ k i m. matched facts k i x m t b)
     (λ k s c. covers_told facts k s x low c t))
     (λ out. rw out refl)
+
+reading_proved : NsecChainsAreKnown → (listed : List Link) (a x : Name) (t : ℕ) → t < 65536 → IsProved listed a x t (reading a listed x t)
+reading_proved knows listed a x t b L config links keeps order chain among =
+    let some = paired_with_some IsAlike links listed among in
+    reading_alike a x t listed some.some some.alike
+    ∙ reading_of (facts_keeping knows L a config links keeps order chain) some.some (All-from_recursion (Contains links) some.some some.among) x t b
+    ∙ sym (proved_alike a x t L config.assume_dnskeys_will_be_added listed some.some some.alike)
 
 -- ---- any list
 

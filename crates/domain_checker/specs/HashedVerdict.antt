@@ -1,7 +1,7 @@
 -- What a zone with an NSEC3 chain says of a name and a type, and what a list of records proves of
 -- it (RFC 5155, section 8); a is the apex, x the name and t the type.
 use Rattle.std.specs.Prelude.{ℕ, Bool, true, false, not, ◌&&◌, ◌||◌, ◌==◌, ◌+◌, List, ◌≡◌, All, length, Option, Some, None, Ok, Err, if◌then◌else◌}
-use Rattle.std.specs.List.{list_any, Contains}
+use Rattle.std.specs.List.{list_any}
 use Rattle.domain_octets.specs.Words.{Octets}
 use Rattle.domain_names.specs.{Name.{is_at_or_below, is_strictly_below, last_labels, same_name}, Words.Name}
 use Rattle.domain_base.specs.Types.{ds, ns}
@@ -10,6 +10,7 @@ use Rattle.domain_chain_rdata.specs.OptOut.{is_opt_out}
 use Rattle.domain_zone.specs.{Enclosers.exists_over, Zone.{ZoneRecord, is_zone_cut}}
 use Rattle.domain_nsec3.specs.{Chain.{HashedLink, IsHashedChain}, Config.{ChainConfig, HashAnswer, hash_name}, Meaning.AreAlone}
 use Rattle.domain_nsec3.specs.Owners.{is_original_owner, nsec3_lists, original_owners}
+use Rattle.domain_checker.specs.Alike.{IsHashedAlike, IsPairedIn}
 use Rattle.domain_checker.specs.{HashedList.{is_hash_match, is_hash_cover}, HashedView.{HashedRecords, chain_records, first_match}, Verdict.closest_encloser}
 use Rattle.domain_checker.specs.declared.verdict.Verdict.{Verdict}
 use Rattle.domain_checker.specs.declared.verdict.Verdict.TheVariants.{OutsideZone, BelowDelegation, Has, NoType, EmptyName, OptOut, NoName, NotProven}
@@ -73,14 +74,14 @@ hashed_proved_verdict L a config listed x t =
     then hashed_zone_verdict L a config x t else NotProven
 
 -- the verdict is what these records, in any order, with repeats, prove of any zone of whose chain
--- they are, where no other name of the chain has the hash of x or of an ancestor at or below the
--- apex
+-- they are, but for TTLs, classes and the case of letters, where no other name of the chain has the
+-- hash of x or of an ancestor at or below the apex
 abbrev pub IsHashedProved : HashedRecords → Name → ℕ → Verdict → Type 0
 IsHashedProved R x t verdict =
     (L : List ZoneRecord) (config : ChainConfig) (links : List HashedLink)
     → config.hash ≡ R.hash → config.parameters ≡ R.parameters
     → IsHashedChain L R.apex config links → AreAlone L R.apex config x
-    → All (Contains links) R.links
+    → All (IsPairedIn IsHashedAlike links) R.links
     → verdict ≡ hashed_proved_verdict L R.apex config R.links x t
 
 -- ---- lists from anywhere

@@ -1,12 +1,12 @@
 -- What a zone with an NSEC chain says of a name and a type, and what a list of records of the chain
 -- proves of that (RFC 4035, section 5.4). The chain is one that keeps what stands below a DNAME.
-use Rattle.std.specs.{Prelude.{ℕ, Bool, true, false, not, ◌&&◌, ◌||◌, ◌==◌, List, [], ◌∷◌, ◌≡◌, ◌≤◌, All, length, if◌then◌else◌}, List.{list_any, Contains}}
+use Rattle.std.specs.{Prelude.{ℕ, Bool, true, false, not, ◌&&◌, ◌||◌, ◌==◌, List, [], ◌∷◌, ◌≡◌, ◌≤◌, All, length, if◌then◌else◌}, List.list_any}
 use Rattle.domain_names.specs.{Name.{is_at_or_below, same_name}, Order.before, Words.Name}
 use Rattle.domain_base.specs.Types.{ds}
 use Rattle.domain_zone.specs.{Covering.matches_or_covers, Enclosers.{exists_over, is_empty_nonterminal}}
 use Rattle.domain_zone.specs.Zone.{ZoneRecord, OwnersNeverDescend, is_occluded, is_zone_cut, unoccluded_owners}
 use Rattle.domain_nsec.specs.{Chain.{IsChain, Link, nsec_lists}, declared.config.GenerateNsecConfig.GenerateNsecConfig}
-use Rattle.domain_checker.specs.declared.verdict.Verdict.{Verdict}
+use Rattle.domain_checker.specs.{Alike.{IsAlike, IsPairedIn}, declared.verdict.Verdict.Verdict}
 use Rattle.domain_checker.specs.declared.verdict.Verdict.TheVariants.{OutsideZone, BelowDelegation, Has, NoType, EmptyName, OptOut, NoName, NotProven}
 
 -- the first of x and its ancestors that exists; `laws::closest_enclosers` says that it is the
@@ -50,13 +50,13 @@ proved_verdict L a assume listed x t =
     if not (is_at_or_below x a) || has_match_or_cover listed x
     then zone_verdict L a assume x t else NotProven
 
--- the verdict is what is proved of any zone of whose chain these are records, in any order, with
--- repeats
+-- the verdict is what is proved of any zone of whose chain these are records, but for TTLs, classes
+-- and the case of letters, in any order, with repeats
 abbrev pub IsProved : List Link → Name → Name → ℕ → Verdict → Type 0
 IsProved listed a x t verdict =
     (L : List ZoneRecord) (config : GenerateNsecConfig) (links : List Link)
     → config.occlude_below_dname ≡ false → OwnersNeverDescend L → IsChain L a config links
-    → All (Contains links) listed
+    → All (IsPairedIn IsAlike links) listed
     → verdict ≡ proved_verdict L a config.assume_dnskeys_will_be_added listed x t
 
 -- the owner and the next name are at or below the apex; other records are passed over

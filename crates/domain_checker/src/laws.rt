@@ -1,5 +1,5 @@
 //! What holds of verdicts, and of what records say. A caller calls the law in its body.
-ghost use Rattle.std.specs.Prelude.{◌≡◌, ◌≢◌, ◌<◌, ℕ, Bool, All, List, true, false};
+ghost use Rattle.std.specs.Prelude.{◌≡◌, ◌≢◌, ◌<◌, ℕ, Bool, List, true, false};
 ghost use Rattle.domain_names.specs.{Name.is_at_or_below, Words.Name};
 ghost use Rattle.domain_zone.specs.Enclosers.{exists_over, IsClosestEncloser};
 ghost use Rattle.domain_zone.specs.Zone.{OwnersNeverDescend, ZoneRecord};
@@ -10,9 +10,9 @@ ghost use Rattle.domain_nsec3.specs.Meaning.{AreAlone};
 ghost use Rattle.domain_checker.specs.Verdict.{closest_encloser, proved_verdict, zone_verdict};
 ghost use Rattle.domain_checker.specs.Facts.{NsecChainsAreKnown};
 ghost use Rattle.domain_checker.specs.{Reading.IsChecked, Alike.{ArePaired, IsAlike, IsHashedAlike}};
-ghost use Rattle.domain_checker.specs.{Alike.IsPairedIn, HashedVerdict.hashed_proved_verdict};
-ghost use Rattle.domain_checker.specs.{HashedVerdict.hashed_zone_verdict, HashedReading.IsWalked};
-ghost use Rattle.domain_checker.specs.HashedView.{HashedRecords, chain_records, with_links};
+ghost use Rattle.domain_checker.specs.HashedVerdict.{hashed_proved_verdict, hashed_zone_verdict};
+ghost use Rattle.domain_checker.specs.HashedReading.{IsWalked};
+ghost use Rattle.domain_checker.specs.HashedView.{HashedRecords, with_links};
 ghost use Rattle.domain_checker.specs.{Reading.reading, declared.verdict.Verdict.Verdict};
 ghost use Rattle.domain_checker.specs.declared.verdict.Verdict.TheVariants.{NotProven};
 
@@ -46,37 +46,21 @@ pub fn readings_are_proved()
     chains_are_known();
 }
 
-/// What NSEC records say and prove does not depend on TTLs, classes and the case of letters: so it
-/// is what the zone says, or that they do not prove it, also where they are records of its chain
-/// but for these.
+/// What NSEC records say does not depend on TTLs, classes and the case of letters; nor does what
+/// they prove of a zone (`readings_are_proved`).
+#[tactic(auto, using(crate::proofs::AlikeLemmas::reading_alike))]
 pub fn readings_ignore_case_and_ttl()
-    ensures alike { (listed other : List Link) (a x : Name) (t : ℕ)
+    ensures { (listed other : List Link) (a x : Name) (t : ℕ)
         → ArePaired IsAlike listed other → reading a listed x t ≡ reading a other x t }
-    ensures proved { (listed : List Link) (a x : Name) (t : ℕ) → t < 65536
-        → (L : List ZoneRecord) (config : GenerateNsecConfig) (links : List Link)
-        → config.occlude_below_dname ≡ false → OwnersNeverDescend L → IsChain L a config links
-        → All (IsPairedIn IsAlike links) listed
-        → reading a listed x t
-        ≡ proved_verdict L a config.assume_dnskeys_will_be_added listed x t }
-{
-    readings_are_proved();
-}
+{}
 
-/// The same of NSEC3 records.
+/// The same of NSEC3 records (`walks_are_proved`).
+#[tactic(auto, using(crate::proofs::HashedAlikeLemmas::walked_alike))]
 pub fn walks_ignore_case_and_ttl()
-    ensures alike { (R : HashedRecords) (other : List HashedLink) (x : Name) (t : ℕ)
+    ensures { (R : HashedRecords) (other : List HashedLink) (x : Name) (t : ℕ)
         (verdict : Verdict) → ArePaired IsHashedAlike R.links other → IsWalked R x t verdict
         → IsWalked (with_links R other) x t verdict }
-    ensures proved { (listed : List HashedLink) (a : Name) (x : Name) (t : ℕ) (verdict : Verdict)
-        → t < 65536 → is_at_or_below x a ≡ true
-        → (L : List ZoneRecord) (config : ChainConfig) (links : List HashedLink)
-        → IsHashedChain L a config links
-        → AreAlone L a config x → All (IsPairedIn IsHashedAlike links) listed
-        → IsWalked (chain_records a config listed) x t verdict
-        → verdict ≡ hashed_proved_verdict L a config listed x t }
-{
-    walks_are_proved();
-}
+{}
 
 /// The whole chain of a zone proves what the zone says of every name and type, and the zone says
 /// something of each.

@@ -11,7 +11,7 @@ use Rattle.domain_base.specs.Types.{dname}
 use Rattle.domain_checker.specs.{HashedFacts.{ChainFacts, ChainsAreKnown}, HashedList.is_hash_match, HashedReading.IsUnmatched}
 use Rattle.domain_checker.specs.{HashedVerdict.{is_covered, is_matched, next_closer}, HashedView.{HashedRecords, chain_records}}
 use Rattle.domain_checker.proofs.{EncloserLemmas.same_count, FirstMatchedLemmas.encloser_is, HashedEncloserLemmas.{match_is_of_name, unheard}}
-use Rattle.domain_checker.proofs.HashedListLemmas.{hash_same}
+use Rattle.domain_checker.proofs.{HashedAlikeLemmas.contained_alike, HashedListLemmas.hash_same}
 use Rattle.domain_answer.specs.{HashedProved.{AreAskedAlone, hashed_proved_answer, needs_wildcard, tells_encloser, tells_wildcard}, HashedReading.IsHashedRead}
 use Rattle.domain_answer.specs.{HashedZoneAnswer.{hashed_encloser, hashed_zone_answer}, ZoneAnswer.{is_at_parent, wildcard_below}}
 use Rattle.domain_answer.{specs.declared.answer.Answer.{Answer, TheVariants.{NoCloserName, NotProven}}, proofs.EncloserLemmas.{closest_last, exists_low}}
@@ -77,7 +77,7 @@ module _ (L : List ZoneRecord) (config : ChainConfig) (chain : ChainRecords) (x 
         → IsHashedRead (chain_records a config listed) x t answer → answer ≡ hashed_proved_answer L a config listed x t
     proved_is listed among answer read =
         read_proved knows (chain_records a config listed) x t answer small low parent read L config links refl refl whole.leaves_out whole.is asked
-        (among_contained links listed among)
+        (contained_alike links listed (among_contained links listed among))
 
     inside_proved : (listed : List HashedLink)
         → hashed_proved_answer L a config listed x t ≡ cond (not (tells_encloser L a config listed x)) NotProven (rest listed)

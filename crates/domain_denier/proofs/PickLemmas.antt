@@ -6,7 +6,7 @@ use Rattle.domain_names.specs.{Name.{is_at_or_below, last_labels}, Order.before,
 use Rattle.domain_zone.specs.{Covering.matches_or_covers, Zone.{ZoneRecord, is_unoccluded, unoccluded_owners}}
 use Rattle.domain_nsec.specs.{Chain.Link, declared.config.GenerateNsecConfig.GenerateNsecConfig}
 use Rattle.domain_checker.specs.{Facts.{NsecChainsAreKnown, NsecFacts}, Verdict.has_match_or_cover}
-use Rattle.domain_checker.proofs.{EncloserLemmas.closest_is, MeantLemmas.{apex_exists, config_with}}
+use Rattle.domain_checker.proofs.{AlikeLemmas.contained_alike, EncloserLemmas.closest_is, MeantLemmas.{apex_exists, config_with}}
 use Rattle.domain_answer.specs.{Proved.{IsAnswered, is_missing, knows_wildcard, proved_answer}, Reading.reading, ZoneAnswer.{encloser, is_at_parent}}
 use Rattle.domain_answer.specs.{ZoneAnswer.{name_exists, wildcard_below, zone_answer}, declared.answer.Answer.{Answer, TheVariants.{NoCloserName, NotProven}}}
 use Rattle.domain_answer.{specs.Kinds.IsSo, proofs.{KindLemmas.answer_so, ChainLemmas.facts_leaving, EncloserLemmas.{closest_last, free_parts, wildcard_low}}}
@@ -31,7 +31,7 @@ module _ (knows : NsecChainsAreKnown) (links : List Link) (L : List ZoneRecord) 
   facts = facts_leaving knows L a config links whole.leaves_out whole.order whole.chain
 
   proved : (listed : List Link) → All (Contains links) listed → reading a listed x t ≡ proved_answer L a config.assume_dnskeys_will_be_added listed x t
-  proved listed among = answered listed L config links whole.leaves_out whole.order whole.chain among
+  proved listed among = answered listed L config links whole.leaves_out whole.order whole.chain (contained_alike links listed among)
 
   -- what a list proves that has a record of x: what the zone says or, where it lacks one of the wildcard that decides, that there
   -- is no such name

@@ -3,7 +3,7 @@ ghost use Rattle.std.specs.Prelude.{◌≡◌, ◌↔◌, ℕ, ◌<◌, All, Boo
 ghost use Rattle.domain_record.specs.declared.record.Record.{Record};
 ghost use Rattle.domain_names.specs.Words.{Name};
 ghost use Rattle.domain_records.specs.Order.{IsOneClass};
-ghost use Rattle.domain_checker.specs.{Verdict.IsProved, declared.verdict.Verdict.Verdict};
+ghost use Rattle.domain_checker.specs.{Alike.{IsAlike, IsPairedIn}, Verdict.IsProved, declared.verdict.Verdict.Verdict};
 ghost use Rattle.domain_nsec.specs.Chain.{Link};
 ghost use Rattle.domain_nsec.specs.declared.config.GenerateNsecConfig.{GenerateNsecConfig};
 ghost use Rattle.domain_zone.specs.{Soa.{is_soa, numbers_of, soa_of}, Zone.OwnersNeverDescend};
@@ -83,7 +83,7 @@ pub fn verdicts_tell_of_records<N: ToName, D: ZoneData + CanonicalOrd>()
         (links listed : List Link) (x : Name) (t : ℕ) (verdict : Verdict)
         → config.occlude_below_dname ≡ false
         → IsChainOf N.labels D.rtype D.minimum D.canonical_cmp given apex config links
-        → All (Contains links) listed → IsProved listed apex x t verdict
+        → All (IsPairedIn IsAlike links) listed → IsProved listed apex x t verdict
         → IsProvedOf N.labels D.rtype D.minimum D.canonical_cmp given apex config listed x t
         verdict }
     ensures all { (given : List (Record N D)) (apex : Name) (config : GenerateNsecConfig)
@@ -106,7 +106,7 @@ pub fn answers_tell_of_records<N: ToName, D: ZoneData + CanonicalOrd>()
         (links listed : List Link) (x : Name) (t : ℕ) (answer : Answer)
         → config.occlude_below_dname ≡ true
         → IsChainOf N.labels D.rtype D.minimum D.canonical_cmp given apex config links
-        → All (Contains links) listed → IsAnswered listed apex x t answer
+        → All (IsPairedIn IsAlike links) listed → IsAnswered listed apex x t answer
         → IsProvedAnswerOf N.labels D.rtype D.minimum D.canonical_cmp given apex config listed x t
         answer }
     ensures all { (given : List (Record N D)) (apex : Name) (config : GenerateNsecConfig)

@@ -1,6 +1,7 @@
 use Rattle.std.proofs.{Common.{◌∙◌, subst}, lemmas.List.Elements.All-contains_itself}
 use Rattle.domain_answer.specs.Proved.{IsAnswered}
 use Rattle.domain_zone.specs.View.{zone_of}
+use Rattle.domain_checker.proofs.AlikeLemmas.{contained_alike}
 use Rattle.domain_dnssec.proofs.laws.answers_tell_of_records.Goals as goal
 
 pub returns-clause-some : goal.returns-clause-some
@@ -22,6 +23,7 @@ returns-clause-all g c = λ given apex config links listed x t answer leaves cha
       sorted = chain.sorted;
       sorts = chain.sorts;
       one_class = chain.one_class;
-      zone = subst (λ ls. IsAnswered ls apex x t answer) same proved _ config links out order chain.zone (All-contains_itself links)
+      zone = subst (λ ls. IsAnswered ls apex x t answer) same proved _ config links out order chain.zone
+          (contained_alike links links (All-contains_itself links))
           ∙ c.whole_chains_prove_all.ensures.zone _ apex config links x t out order chain.zone;
     }

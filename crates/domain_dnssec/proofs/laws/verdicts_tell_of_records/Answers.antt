@@ -1,5 +1,6 @@
 use Rattle.std.proofs.{Common.{◌∙◌, subst}, lemmas.List.Elements.All-contains_itself}
 use Rattle.domain_checker.specs.Verdict.{IsProved}
+use Rattle.domain_checker.proofs.AlikeLemmas.{contained_alike}
 use Rattle.domain_dnssec.proofs.laws.verdicts_tell_of_records.Goals as goal
 
 pub returns-clause-some : goal.returns-clause-some
@@ -19,6 +20,7 @@ returns-clause-all g c = λ given apex config links listed x t verdict keeps cha
       sorted = chain.sorted;
       sorts = chain.sorts;
       one_class = chain.one_class;
-      zone = subst (λ ls. IsProved ls apex x t verdict) same proved _ config links keeps order chain.zone (All-contains_itself links)
+      zone = subst (λ ls. IsProved ls apex x t verdict) same proved _ config links keeps order chain.zone
+          (contained_alike links links (All-contains_itself links))
           ∙ c.whole_chains_prove_all.ensures.zone _ apex config links x t keeps order chain.zone;
     }
