@@ -1,11 +1,11 @@
 //! The closest encloser of a name, in an NSEC3 chain.
 ghost use Rattle.std.specs.Prelude.{◌≡◌, ◌<◌, true, length, IfOk, IfErr};
-ghost use Rattle.domain_names.specs.Name.{is_at_or_below, lowered, wire_of};
+ghost use Rattle.domain_names.specs.Name.{is_at_or_below};
 ghost use Rattle.domain_nsec3.specs.{Faults.IsNoHash, View.hash_by};
 ghost use Rattle.domain_denier.specs.{HashedPicked.IsRefusedAbove, HashedSteps.IsFoundPlaced};
 
 use crate::hash_search::look_up;
-use domain_base::{ParsedName, ToName};
+use domain_base::{MAX_NAME, ToName};
 use domain_hasher::{Nsec3HashError, Nsec3Hasher};
 use domain_nsec3::Nsec3Chain;
 use domain_octets::Octets;
@@ -21,28 +21,27 @@ pub(crate) struct PlacedEncloser {
     pub(crate) cover: Option<usize>,
 }
 
-/// The closest encloser of a name at or below the apex, whose wire form in lower case is handed in:
-/// names are hashed from this one on, up to the first that a record matches, and each name above
-/// has an end of that form. Of a name that none matches the cover is kept for the name above it.
-pub(crate) fn find_encloser<O: Octets, H: Nsec3Hasher>(
+/// The closest encloser of a name at or below the apex: names are hashed from this one on, up to
+/// the first that a record matches, and the wire form of each name above is an end of its own. Of a
+/// name that none matches the cover is kept for the name above it.
+pub(crate) fn find_encloser<O: Octets, M: ToName, H: Nsec3Hasher>(
     alloc: Global,
     chain: &Nsec3Chain<'_, O>,
-    name: &ParsedName<'_>,
-    wire: &[u8],
+    name: &M,
     hasher: &H,
 ) -> Result<Option<PlacedEncloser>, Nsec3HashError>
     requires some { 0 < length chain.now.links }
-    requires below { is_at_or_below name.now chain.now.param.owner ≡ true }
-    requires wire { wire.now ≡ wire_of (lowered name.now) }
+    requires below { is_at_or_below (M.labels name.now) chain.now.param.owner ≡ true }
     ensures ok { IfOk result (IsFoundPlaced
-        (hash_by (H.answer hasher.now) chain.now.param.parameters) chain.now name.now) }
+        (hash_by (H.answer hasher.now) chain.now.param.parameters) chain.now (M.labels name.now)) }
     ensures err { IfErr result (IsNoHash (IsRefusedAbove chain.now.param.owner
-        (hash_by (H.answer hasher.now) chain.now.param.parameters) name.now)
+        (hash_by (H.answer hasher.now) chain.now.param.parameters) (M.labels name.now))
         (H.takes_memory hasher.now)) }
 {
     let apex = chain.nsec3param().owner();
+    let mut buffer = [0; MAX_NAME];
+    let mut octets = name.lower_wire(&mut buffer);
     let mut left = name.as_parsed();
-    let mut octets = wire;
     let mut cover = None;
     'names: loop {
         let found = look_up(alloc, chain, octets, hasher)?;

@@ -231,9 +231,7 @@ pub fn deny_nsec3<O: Octets, M: ToName, H: Nsec3Hasher>(
     if chain.is_empty() {
         return Ok(without_records(Answer::NotProven));
     }
-    let mut buffer = [0; MAX_NAME];
-    let wire = name.lower_wire(&mut buffer);
-    let found = find_encloser(alloc, chain, &name.as_parsed(), wire, hasher)?;
+    let found = find_encloser(alloc, chain, name, hasher)?;
     let Some(encloser) = found else {
         return Ok(without_records(Answer::NotProven));
     };

@@ -10,8 +10,8 @@ names-init g c =
     let same = sym c.as_parsed-left.ensures in
     let hash = hash_by (g.H.Nsec3Hasher.answer c.args.hasher.now) c.args.chain.now.param.parameters in
     record {
-      wire = c.requires.wire ∙ ap (λ n. wire_of (lowered n)) same;
-      reached = subst (λ n. IsReached hash c.args.chain.now c.args.name.now n None) same (reached_here _ _ _ c.requires.below);
+      wire = c.lower_wire-octets.ensures.octets ∙ ap (λ n. wire_of (lowered n)) same;
+      reached = subst (λ n. IsReached hash c.args.chain.now (g.M.ToName.labels c.args.name.now) n None) same (reached_here _ _ _ c.requires.below);
     }
 
 pub returns-in_err-found-clause-err : goal.returns-in_err-found-clause-err

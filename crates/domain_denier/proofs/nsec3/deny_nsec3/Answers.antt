@@ -31,14 +31,14 @@ pub returns-in_default-clause-denied : goal.returns-in_default-clause-denied
 returns-in_default-clause-denied g c =
     let here = (goal.at.returns-in_default-clause-denied g c).After-to_int-number in
     rw c.without_records-in_default.ensures (denied_none c.hashed_chains_are_known.ensures _ _ _ _ (small g here) (low g here) (parent g here)
-    (rw (c.as_parsed.ensures, c.in_default.is) at c.in_ok-found.ensures.ok))
+    (rw c.in_default.is at c.in_ok-found.ensures.ok))
 
 -- ---- where the closest encloser is found
 
 placed : (g : Over) (c : After-first_answer-answer g) → IsPlaced
     (hash_by (g.H.Nsec3Hasher.answer c.args.hasher.now) c.args.chain.now.param.parameters) c.args.chain.now
     (g.M.ToName.labels c.args.name.now) c.in-Some.encloser
-placed g c = rw (c.as_parsed.ensures, c.in-Some.is) at c.in_ok-found.ensures.ok
+placed g c = rw c.in-Some.is at c.in_ok-found.ensures.ok
 
 -- what its record and the cover say, by the labels of the name
 says : (g : Over) (c : After-first_answer-answer g) (k : HashedLink) → slice_get c.args.chain.now.links c.in-Some.encloser.place ≡ Some k
