@@ -1,14 +1,15 @@
 -- a line spells one record at most, and none where it is refused
-use Rattle.std.proofs.{Common.{arith, ◌≡◌, ℕ, List, [], sym, subst, ◌∙◌}, lemmas.Grind.common_steps}
+use Rattle.std.proofs.{Common.{arith, ◌≡◌, ℕ, List, Option, [], sym, subst, ◌∙◌}, lemmas.Grind.common_steps}
 use Rattle.domain_octets.specs.{Line.words_of, Words.Octets}
-use Rattle.domain_base.{specs.{Numbers.{ClassText, TypeText}, Scan.{IsNumber}}, proofs.{NamedLemmas.one_named, RefusalLemmas.{name_excludes, token_excludes}}}
-use Rattle.domain_names.{specs.{TextFault.scan_fault_of, Words.{Name, Token, Tokens}}, proofs.SpellingLemmas.one_name}
+use Rattle.domain_base.specs.{Numbers.{ClassText, IsNoClass, IsNoType, TypeText}, Scan.{IsNoNumber, IsNumber, RefusesToken, TakesToken}}
+use Rattle.domain_base.proofs.{NamedLemmas.one_named, RefusalLemmas.{name_excludes, token_excludes}}
+use Rattle.domain_names.specs.{Text.NameText, TextFault.{NameTextFault, scan_fault_of}, Words.{Name, Token, Tokens}}
+use Rattle.domain_names.proofs.SpellingLemmas.{one_name}
 use Rattle.domain_record.specs.declared.record.Record.{Record}
 use Rattle.domain_rdata.proofs.ScanLemmas.{none_spelled, text_once}
 use Rattle.domain_rdata.specs.{Scan.RdataText, Zone.rtype_of, declared.zone_record_data.ZoneRecordData.ZoneRecordData}
-use Rattle.domain_message.specs.{Alike.AreAlike}
-use Rattle.domain_message.specs.Entry.{NumbersTaken, OwnerTaken, BodyText, EntryText, IsOfLine, LineText, RefusesBody, RefusesEntry, RefusesLine, in_entry}
-use Rattle.domain_message.specs.Entry.{no_entry, no_memory}
+use Rattle.domain_message.specs.Entry.{NumbersTaken, OwnerTaken, ClassTaken, BodyText, EntryText, IsOfLine, LineText, RefusesBody, RefusesEntry, RefusesLine}
+use Rattle.domain_message.specs.{Alike.AreAlike, Entry.{in_entry, no_entry, no_memory}}
 use Rattle.domain_message.specs.declared.line.LineError.{LineError, TheVariants.{Owner, Ttl, Class, Rtype, RecordData, Trailing}}
 
 same_number : (text : Token) (m n : ℕ) → IsNumber 32 text m → IsNumber 32 text n → m ≡ n
@@ -19,6 +20,10 @@ same_class text m n p q = one_named _ _ text m n p q
 
 same_type : (text : Token) (m n : ℕ) → TypeText text m → TypeText text n → m ≡ n
 same_type text m n p q = one_named _ _ text m n p q
+
+-- tokens that two kinds of token are taken from are the same behind it
+taken_once : {P Q : Token → Type 0} (old m n : Tokens) → TakesToken P old m → TakesToken Q old n → m ≡ n
+taken_once old m n x y = let e = x.first in let f = y.first in cc
 
 -- the three numbers, and what follows them
 numbers_once : (ttl class rtype ttl' class' rtype' : ℕ) (tokens m n : Tokens) → NumbersTaken ttl class rtype tokens m
@@ -62,19 +67,36 @@ module _ {O N : Type 0} (octets : O → Octets) (labels : N → Name) where
       → RefusesBody octets labels limit tokens e
       → IsOfLine limit e → BodyText octets labels tokens ttl class d → ⊥
   unfolding RefusesBody
-  none_behind limit tokens ttl class d (Ttl e) why own b = ?
-  none_behind limit tokens ttl class d (Class e) why own b = ?
-  none_behind limit tokens ttl class d (Rtype e) why own b = ?
+  none_behind limit tokens ttl class d (Ttl e) (left, why) own b =
+      token_excludes (IsNumber 32) (IsNoNumber 32) limit (λ fault text v no yes known. no.none v yes) tokens left _ ttl (scan_fault_of e) why
+      b.numbers.timed own
+  none_behind limit tokens ttl class d (Class e) (_, behind, left, timed, why) own b =
+      token_excludes ClassText IsNoClass limit (λ fault text v no yes known. no.none v yes) b.numbers.behind_ttl left _ class (scan_fault_of e)
+      (subst (λ ws. RefusesToken IsNoClass ws left (scan_fault_of e)) (taken_once tokens _ _ timed b.numbers.timed) why) b.numbers.classed own
+  none_behind limit tokens ttl class d (Rtype e) (_, number, between, behind, left, timed, classed, why) own b =
+      let same = taken_once b.numbers.behind_ttl behind _ (subst (λ ws. ClassTaken number ws behind) (taken_once tokens between _ timed b.numbers.timed) classed)
+      b.numbers.classed in
+      token_excludes TypeText IsNoType limit (λ fault text v no yes known. no.none v yes) b.numbers.behind_class left _ b.rtype (scan_fault_of e)
+      (subst (λ ws. RefusesToken IsNoType ws left (scan_fault_of e)) same why) b.numbers.typed own
   none_behind limit tokens ttl class d (RecordData e) (_, _, rtype, after, left, taken, why) own b =
       none_spelled octets labels rtype after limit left (scan_fault_of e) why own d [] (moved rtype after d taken b)
   none_behind limit tokens ttl class d Trailing (_, _, rtype, after, left, other, taken, text, some) own b =
       some ((text_once octets labels rtype after left [] other d text (moved rtype after d taken b)).0)
   none_behind limit tokens ttl class d _ why own b = absurd why
 
-  pub none_in : (limit : Option ℕ) (tokens : Tokens) (r : Record N (ZoneRecordData O N)) (e : LineError) → RefusesEntry octets labels limit tokens e
+  none_in_body : (limit : Option ℕ) (tokens : Tokens) (r : Record N (ZoneRecordData O N)) (e : LineError)
+      → (owner : Name) × (behind : Tokens) × OwnerTaken owner tokens behind × RefusesBody octets labels limit behind e
       → IsOfLine limit e → EntryText octets labels tokens r → ⊥
-  none_in limit tokens r (Owner e) why own x = ?
-  none_in limit tokens r e why own x = ?
+  none_in_body limit tokens r e (owner, behind, owned, why) own x =
+      none_behind limit x.behind r.ttl r.class r.«data» e
+      (subst (λ ws. RefusesBody octets labels limit ws e) (taken_once tokens behind x.behind owned x.owned) why) own x.body
+
+  pub none_in : (limit : Option ℕ) (tokens : Tokens) (r : Record N (ZoneRecordData O N)) (e : LineError)
+      → RefusesEntry octets labels limit tokens e
+      → IsOfLine limit e → EntryText octets labels tokens r → ⊥
+  none_in limit tokens r (Owner e) (left, why) own x =
+      token_excludes NameText (NameTextFault limit) limit (name_excludes limit) tokens left _ (labels r.owner) (scan_fault_of e) why x.owned own
+  none_in limit tokens r _ why own x = none_in_body limit tokens r _ why own x
 
   pub none_where_refused : (limit : Option ℕ) (line : List ℕ) (e : LineError) (r : Record N (ZoneRecordData O N))
       → RefusesLine octets labels limit line e → IsOfLine limit e → LineText octets labels line r → ⊥

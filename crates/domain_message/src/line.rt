@@ -1,7 +1,7 @@
 //! Records in lines of a zone's text.
 ghost use Rattle.std.specs.Prelude.{◌≡◌, ◌↔◌, IsTrue, false, IfOk, IfErr, None, Some};
 ghost use Rattle.domain_message.specs.ErrorText.{line_error_text};
-ghost use Rattle.domain_octets.specs.Line.{words_of};
+ghost use Rattle.domain_octets.specs.Line.{is_blank, words_of};
 ghost use Rattle.domain_message.specs.declared.line.LineError.TheVariants as variant;
 ghost use Rattle.domain_message.specs.Entry.{BodyText, RefusesBody, EntryText, RefusesEntry};
 ghost use Rattle.domain_message.specs.Entry.{IsNoEntry, IsOfLine, LineText, RefusesLine};
@@ -156,13 +156,20 @@ where
     scan_behind_owner(alloc, scanner, owner)
 }
 
+/// Whether the octet separates words.
+fn is_blank(octet: u8) -> bool
+    ensures { result ≡ is_blank octet }
+{
+    octet == b' ' || octet == b'\t'
+}
+
 /// Whether a line is blank, or a comment: whether its first octet that is no space and no tab is a
 /// semicolon (RFC 1035, section 5.1).
 pub fn is_no_entry(line: &[u8]) -> bool
     ensures { IsTrue result ↔ IsNoEntry (words_of line.now) }
 {
     for octet in line {
-        if *octet != b' ' && *octet != b'\t' {
+        if !is_blank(*octet) {
             return *octet == b';';
         }
     }
