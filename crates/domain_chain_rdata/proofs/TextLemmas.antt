@@ -7,8 +7,8 @@ use Rattle.domain_base.{specs.Scan.RefusesToken, proofs.RefusalLemmas.{name_excl
 use Rattle.domain_bitmap.specs.{HashScan.{CountedFault, SaltTokenFault}, HashText.{SaltText, OwnerHashText}, Scan.RefusesTypes}
 use Rattle.domain_bitmap.proofs.{ReadBackLemmas.spelled_once, RefusalLemmas.{types_refused, types_one_fault, salt_once, salt_excludes, salt_one_fault}}
 use Rattle.domain_bitmap.proofs.RefusalLemmas.{hash_once, hash_excludes, counted_one_fault}
-use Rattle.domain_fields.{specs.{Layout.Values, Sequence.OneToken}, proofs.GrammarLemmas.{ReadsOnce, IsExact, fields_exact, one_token, token_refused}}
-use Rattle.domain_fields.proofs.GrammarLemmas.{token_once_refused, both_once, both_exact}
+use Rattle.domain_fields.specs.{Layout.Values, Sequence.{OneToken, ReadsOnce, IsExact}}
+use Rattle.domain_fields.proofs.GrammarLemmas.{fields_exact, one_token, token_refused, token_once_refused, both_once, both_exact}
 use Rattle.domain_chain_rdata.specs.{NsecText.{BitmapText, NsecText, RefusesNsec}, Nsec3paramText.{Nsec3paramText, RefusesNsec3param}}
 use Rattle.domain_chain_rdata.specs.{Rdata.{nsec, hash_numbers}, Nsec3paramText.hash_numbers_text}
 use Rattle.domain_chain_rdata.specs.Nsec3Text.{HashText, RefusesHash, Nsec3Text, RefusesNsec3, params_before_hash}
@@ -46,7 +46,7 @@ module _ (limit : Option ℕ) where
   pub params_exact : IsExact limit Nsec3paramText (RefusesNsec3param limit)
   params_exact = both_exact limit _ _ _ _ (fields_exact limit hash_numbers) salt_exact
 
-  hashes_exact : IsExact limit HashText (RefusesHash limit)
+  pub hashes_exact : IsExact limit HashText (RefusesHash limit)
   hashes_exact = both_exact limit _ _ _ _ params_exact hash_exact
 
   pub nsec3_exact : IsExact limit Nsec3Text (RefusesNsec3 limit)
@@ -54,12 +54,6 @@ module _ (limit : Option ℕ) where
 
 pub nsec_once : ReadsOnce NsecText
 nsec_once = both_once (OneToken NameText) BitmapText (name_exact None).once (bitmap_exact None).once
-
-pub params_once : ReadsOnce Nsec3paramText
-params_once = (params_exact None).once
-
-pub hashes_once : ReadsOnce HashText
-hashes_once = (hashes_exact None).once
 
 -- refusals, over builders of names and of bitmaps
 module _ (names bitmaps : Option ℕ) (old : List (List ℕ)) where

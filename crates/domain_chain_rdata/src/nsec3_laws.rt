@@ -1,14 +1,14 @@
 //! What holds of the octets and the tokens of hashed names (RFC 5155, sections 3 and 4).
 //! A caller calls the law in its body.
-ghost use Rattle.std.specs.Prelude.{◌≡◌, ◌≢◌, ℕ, [], Option};
+ghost use Rattle.std.specs.Prelude.{◌≢◌, ℕ, [], Option};
 ghost use Rattle.domain_octets.specs.Line.{words_of};
 ghost use Rattle.domain_bitmap.specs.{Bitmap.bitmap_octets, Blocks.{IsShortest, types_of}};
 ghost use Rattle.domain_bitmap.specs.Scan.{is_among};
-ghost use Rattle.domain_fields.specs.Layout.{ParsesBack, Values};
+ghost use Rattle.domain_fields.specs.{Layout.ParsesBack, Sequence.IsExact};
 ghost use Rattle.domain_chain_rdata.specs.Nsec3paramText.{Nsec3paramText, RefusesNsec3param, nsec3param_text};
 ghost use Rattle.domain_chain_rdata.specs.Nsec3Text.{HashText, Nsec3Text, RefusesNsec3, nsec3_text};
-ghost use Rattle.domain_chain_rdata.specs.Rdata.{hash_fields, nsec3, nsec3_values, nsec3param, nsec3param_values};
-ghost use Rattle.domain_names.specs.{TextFault.{ScanFault, IsOfTokens}, Words.Tokens};
+ghost use Rattle.domain_chain_rdata.specs.Rdata.{nsec3, nsec3_values, nsec3param, nsec3param_values};
+ghost use Rattle.domain_chain_rdata.specs.Nsec3Text.{RefusesHash};
 
 use crate::{Nsec3, Nsec3param};
 use domain_octets::Octets;
@@ -30,40 +30,13 @@ pub fn nsec3_parses_back<O: Octets>(value: &Nsec3<O>)
     let _fields = value.fields();
 }
 
-/// Tokens begin with parameters, or with parameters and a hash, in one way at most: the values and
-/// the tokens that are left are determined.
-#[tactic(auto, using(crate::proofs::TextLemmas::params_once, crate::proofs::TextLemmas::hashes_once))]
-pub fn hashes_are_spelled_once()
-    ensures params { (old m n : Tokens) (v w : Values nsec3param) → Nsec3paramText old v m
-        → Nsec3paramText old w n → v ≡ w }
-    ensures after_params { (old m n : Tokens) (v w : Values nsec3param) → Nsec3paramText old v m
-        → Nsec3paramText old w n → m ≡ n }
-    ensures hash { (old m n : Tokens) (v w : Values hash_fields) → HashText old v m
-        → HashText old w n → v ≡ w }
-    ensures after_hash { (old m n : Tokens) (v w : Values hash_fields) → HashText old v m
-        → HashText old w n → m ≡ n }
-{}
-
-/// Tokens that are refused as parameters or as NSEC3 data, but for want of room or of memory, spell
-/// none, over builders with any limit.
-pub fn refused_tokens_spell_no_hashes()
-    ensures params { (limit : Option ℕ) (old new after : Tokens) (v : Values nsec3param)
-        (fault : ScanFault) → RefusesNsec3param limit old new fault → IsOfTokens limit fault
-        → Nsec3paramText old v after → ⊥ }
-    ensures nsec3 { (limit : Option ℕ) (old new after : Tokens) (v : Values nsec3)
-        (fault : ScanFault) → RefusesNsec3 limit old new fault → IsOfTokens limit fault
-        → Nsec3Text old v after → ⊥ }
-{}
-
-/// Tokens are refused as parameters or as NSEC3 data, but for want of room or of memory, for one
-/// reason, and the tokens that are left then are determined, over builders with any limit.
-pub fn hashes_have_one_fault()
-    ensures params { (limit : Option ℕ) (old m n : Tokens) (x y : ScanFault)
-        → RefusesNsec3param limit old m x → RefusesNsec3param limit old n y → IsOfTokens limit x
-        → IsOfTokens limit y → (x ≡ y) × (m ≡ n) }
-    ensures nsec3 { (limit : Option ℕ) (old m n : Tokens) (x y : ScanFault)
-        → RefusesNsec3 limit old m x → RefusesNsec3 limit old n y → IsOfTokens limit x
-        → IsOfTokens limit y → (x ≡ y) × (m ≡ n) }
+/// Tokens begin with parameters, with parameters and a hash, or with NSEC3 data in one way at most:
+/// the values and the tokens that are left are determined. Those that are refused, but for want of
+/// room or of memory, spell none, and are refused for one reason, over builders with any limit.
+pub fn hash_texts_are_exact()
+    ensures params { (limit : Option ℕ) → IsExact limit Nsec3paramText (RefusesNsec3param limit) }
+    ensures hash { (limit : Option ℕ) → IsExact limit HashText (RefusesHash limit) }
+    ensures nsec3 { (limit : Option ℕ) → IsExact limit Nsec3Text (RefusesNsec3 limit) }
 {}
 
 /// The words of what parameters are written as spell them.

@@ -2,22 +2,10 @@
 use Rattle.std.proofs.{Common.{arith, ◌≡◌, ℕ, List, Option}, lemmas.Grind.common_steps}
 use Rattle.domain_codecs.specs.declared.codec.Codec.{Codec}
 use Rattle.domain_names.specs.TextFault.{ScanFault, IsOfTokens}
-use Rattle.domain_base.{specs.Scan.RefusesToken, proofs.RefusalLemmas.{token_excludes, token_one_fault}}
-use Rattle.domain_fields.specs.{Layout.Layout, Scan.{Scans, Refuses}, Sequence.{OneToken, Both, RefusesBoth}, Entry.{Spells, RefusesData}}
+use Rattle.domain_base.{specs.Scan.{RefusesToken, Grammar, Refusal}, proofs.RefusalLemmas.{token_excludes, token_one_fault}}
+use Rattle.domain_fields.specs.{Layout.Layout, Scan.{Scans, Refuses}, Entry.{Spells, RefusesData}}
+use Rattle.domain_fields.specs.Sequence.{OneToken, Both, RefusesBoth, ReadsOnce, Excludes, OneFault, IsExact}
 use Rattle.domain_fields.proofs.ScanLemmas.{refused_spells_none, one_first_fault, scans_left, scans_once}
-
--- a grammar that reads tokens in one way at most
-pub record ReadsOnce {V : Type 0} (G : List (List ℕ) → V → List (List ℕ) → Type 0) : Type 0 where
-  pub value : (old m n : List (List ℕ)) (v w : V) → G old v m → G old w n → v ≡ w
-  pub left : (old m n : List (List ℕ)) (v w : V) → G old v m → G old w n → m ≡ n
-
--- tokens that are refused, but for want of room or memory, are read as no value
-abbrev pub Excludes : {V : Type 0} → Option ℕ → (List (List ℕ) → V → List (List ℕ) → Type 0) → (List (List ℕ) → List (List ℕ) → ScanFault → Type 0) → Type 0
-Excludes {V} limit G R = (old new after : List (List ℕ)) (v : V) (fault : ScanFault) → R old new fault → G old v after → IsOfTokens limit fault → ⊥
-
--- tokens are refused, but for want of room or memory, for one reason, and one list of tokens is left
-abbrev pub OneFault : Option ℕ → (List (List ℕ) → List (List ℕ) → ScanFault → Type 0) → Type 0
-OneFault limit R = (old m n : List (List ℕ)) (x y : ScanFault) → R old m x → R old n y → IsOfTokens limit x → IsOfTokens limit y → (x ≡ y) × (m ≡ n)
 
 -- fields of one token each
 pub fields_once : (l : Layout) → ReadsOnce (Scans l)
@@ -43,24 +31,17 @@ pub token_once_refused : (limit : Option ℕ) (Why : ScanFault → List ℕ → 
 token_once_refused limit Why one = λ old m n x y p q own also. token_one_fault Why one old m n x y p q
 
 -- one grammar after another
-pub both_once : {V W : Type 0} (A : List (List ℕ) → V → List (List ℕ) → Type 0) (B : List (List ℕ) → W → List (List ℕ) → Type 0)
+pub both_once : {V W : Type 0} (A : Grammar V) (B : Grammar W)
     → ReadsOnce A → ReadsOnce B → ReadsOnce (Both A B)
 both_once A B first second = grind (arith, common_steps)
 
-module _ {V W : Type 0} (limit : Option ℕ) (A : List (List ℕ) → V → List (List ℕ) → Type 0) (B : List (List ℕ) → W → List (List ℕ) → Type 0)
-    (RA RB : List (List ℕ) → List (List ℕ) → ScanFault → Type 0) (once : ReadsOnce A) (first : Excludes limit A RA) where
+module _ {V W : Type 0} (limit : Option ℕ) (A : Grammar V) (B : Grammar W)
+    (RA RB : Refusal) (once : ReadsOnce A) (first : Excludes limit A RA) where
   pub both_refused : Excludes limit B RB → Excludes limit (Both A B) (RefusesBoth A RA RB)
   both_refused second old new after v fault h is own = grind (arith, common_steps)
 
   pub both_one_fault : OneFault limit RA → OneFault limit RB → OneFault limit (RefusesBoth A RA RB)
   both_one_fault one other old m n x y h h8 own also = grind (arith, common_steps)
-
--- a grammar that reads tokens in one way at most, and what it refuses it does not read, and refuses for one reason
-pub record IsExact {V : Type 0} (limit : Option ℕ) (G : List (List ℕ) → V → List (List ℕ) → Type 0)
-    (R : List (List ℕ) → List (List ℕ) → ScanFault → Type 0) : Type 0 where
-  pub once : ReadsOnce G
-  pub apart : Excludes limit G R
-  pub one_fault : OneFault limit R
 
 pub fields_exact : (limit : Option ℕ) (l : Layout) → IsExact limit (Scans l) (Refuses limit l)
 fields_exact limit l = record { once = fields_once l; apart = fields_refused limit l; one_fault = fields_one_fault limit l }
@@ -75,8 +56,8 @@ token_exact limit spells Why once none one = record {
   one_fault = token_once_refused limit Why one;
 }
 
-pub both_exact : {V W : Type 0} (limit : Option ℕ) (A : List (List ℕ) → V → List (List ℕ) → Type 0) (B : List (List ℕ) → W → List (List ℕ) → Type 0)
-    (RA RB : List (List ℕ) → List (List ℕ) → ScanFault → Type 0) → IsExact limit A RA → IsExact limit B RB → IsExact limit (Both A B) (RefusesBoth A RA RB)
+pub both_exact : {V W : Type 0} (limit : Option ℕ) (A : Grammar V) (B : Grammar W)
+    (RA RB : Refusal) → IsExact limit A RA → IsExact limit B RB → IsExact limit (Both A B) (RefusesBoth A RA RB)
 both_exact limit A B RA RB a b = record {
   once = both_once A B a.once b.once;
   apart = both_refused limit A B RA RB a.once a.apart b.apart;
@@ -84,7 +65,7 @@ both_exact limit A B RA RB a b = record {
 }
 
 -- fields and then octets, which all tokens that are left spell together
-module _ {V : Type 0} (G : List (List ℕ) → V → List (List ℕ) → Type 0) (once : ReadsOnce G) (codec : Codec) (old : List (List ℕ)) (v w : V) (x y : List ℕ)
+module _ {V : Type 0} (G : Grammar V) (once : ReadsOnce G) (codec : Codec) (old : List (List ℕ)) (v w : V) (x y : List ℕ)
     (first : Spells G codec old v x) (second : Spells G codec old w y) where
   pub same_fields : v ≡ w
   same_fields = once.value old first.entry second.entry v w first.fields second.fields
@@ -92,7 +73,7 @@ module _ {V : Type 0} (G : List (List ℕ) → V → List (List ℕ) → Type 0)
   pub same_octets : x ≡ y
   same_octets = grind (arith, common_steps)
 
-module _ {V : Type 0} (limit : Option ℕ) (G : List (List ℕ) → V → List (List ℕ) → Type 0) (R : List (List ℕ) → List (List ℕ) → ScanFault → Type 0)
+module _ {V : Type 0} (limit : Option ℕ) (G : Grammar V) (R : Refusal)
     (exact : IsExact limit G R) (Unfit : V → List ℕ → Type 0) (message : List ℕ) (codec : Codec) where
   module _ (old new : List (List ℕ)) (fault : ScanFault) (own : IsOfTokens limit fault) (v : V) (octets : List ℕ) (is : Spells G codec old v octets) where
     pub entry_refused : (Unfit v octets → ⊥) → RefusesData G R limit Unfit message codec old new fault → ⊥

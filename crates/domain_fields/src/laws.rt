@@ -3,11 +3,11 @@
 ghost use Rattle.std.specs.{Prelude.{◌≡◌, ℕ, ◌++◌, [], Option, true}, List.AllByRecursion};
 ghost use Rattle.std.specs.Ordering.{ordering_then};
 ghost use Rattle.domain_octets.specs.{Line.IsWord, Words.Octets};
-ghost use Rattle.domain_names.specs.{Fault.Fault, TextFault.{ScanFault, IsOfTokens}, Words.Tokens};
+ghost use Rattle.domain_names.specs.{Fault.Fault, TextFault.ScanFault, Words.Tokens};
 ghost use Rattle.domain_fields.specs.{Field.Field, Printed.{is_printed, printed}, Scan.Scans};
 ghost use Rattle.domain_fields.specs.{Scan.Refuses, Layout.{Layout, one, ◌▸◌, Values, Begins}};
 ghost use Rattle.domain_fields.specs.Layout.{FirstFault, Fits, Ends, ParsesBack, splits};
-ghost use Rattle.domain_fields.specs.Layout.{is_delimited, canonical_order};
+ghost use Rattle.domain_fields.specs.{Layout.{is_delimited, canonical_order}, Sequence.IsExact};
 
 /// Octets begin with data of given fields in one way at most, and in none where they have a fault.
 pub fn reading_is_exact()
@@ -41,31 +41,12 @@ pub fn fields_decide_in_order()
 {}
 
 /// Tokens begin with the values of a list of fields in one way at most: the values and the tokens
-/// that are left are determined (RFC 1035, section 5.1).
-#[tactic(auto, using(crate::proofs::ScanLemmas::scans_once, crate::proofs::ScanLemmas::scans_left))]
-pub fn tokens_spell_values_once()
-    ensures values { (l : Layout) (old m n : Tokens) (v w : Values l) → Scans l old v m
-        → Scans l old w n → v ≡ w }
-    ensures left { (l : Layout) (old m n : Tokens) (v w : Values l) → Scans l old v m
-        → Scans l old w n → m ≡ n }
-{}
-
-/// Tokens that are refused as a list of fields, but for want of room or of memory, begin with no
-/// values of it, over builders with any limit.
-#[tactic(auto, using(crate::proofs::ScanLemmas::refused_spells_none))]
-pub fn refused_tokens_spell_nothing()
-    ensures { (limit : Option ℕ) (l : Layout) (old new after : Tokens) (v : Values l)
-        (fault : ScanFault) → Refuses limit l old new fault → IsOfTokens limit fault
-        → Scans l old v after → ⊥ }
-{}
-
-/// A list of tokens has one first fault, but for want of room or of memory, and the tokens that are
-/// left then are determined, over builders with any limit. One field has one fault of any kind.
-#[tactic(auto, using(crate::proofs::ScanLemmas::one_first_fault, crate::proofs::ScanLemmas::one_field_one_fault))]
-pub fn tokens_have_one_first_fault()
-    ensures fields { (limit : Option ℕ) (l : Layout) (old m n : Tokens) (x y : ScanFault)
-        → Refuses limit l old m x → Refuses limit l old n y → IsOfTokens limit x
-        → IsOfTokens limit y → (x ≡ y) × (m ≡ n) }
+/// that are left are determined (RFC 1035, section 5.1). Those that are refused, but for want of
+/// room or of memory, begin with none, and have one first fault, over builders with any limit. One
+/// field has one fault of any kind.
+#[tactic(auto, using(crate::proofs::ScanLemmas::one_field_one_fault))]
+pub fn texts_of_fields_are_exact()
+    ensures fields { (limit : Option ℕ) (l : Layout) → IsExact limit (Scans l) (Refuses limit l) }
     ensures field { (limit : Option ℕ) (f : Field) (old m n : Tokens) (x y : ScanFault)
         → Refuses limit (one f) old m x → Refuses limit (one f) old n y → (x ≡ y) × (m ≡ n) }
 {}

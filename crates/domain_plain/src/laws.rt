@@ -1,10 +1,10 @@
 //! What holds of data of the types of this crate. A caller calls the law in its body.
-ghost use Rattle.std.specs.Prelude.{◌≡◌, ℕ, ◌<◌, ◌≤◌, ◌++◌, [], Option, IfSome, length, codes};
+ghost use Rattle.std.specs.Prelude.{ℕ, ◌<◌, ◌≤◌, ◌++◌, [], Option, IfSome, length, codes};
 ghost use Rattle.std.specs.{Fmt.decimal, Net.{Addr.ipv4_octets, Text.ipv4_text}};
 ghost use Rattle.domain_octets.specs.{Line.words_of, Words.{Octets, AreOctets}};
-ghost use Rattle.domain_names.specs.{TextFault.{ScanFault, IsOfTokens}, Text.name_text};
+ghost use Rattle.domain_names.specs.Text.{name_text};
 ghost use Rattle.domain_names.specs.Words.{Tokens};
-ghost use Rattle.domain_fields.specs.{Layout.ParsesBack, Scan.Scans};
+ghost use Rattle.domain_fields.specs.{Layout.ParsesBack, Scan.Scans, Sequence.IsExactEntry};
 ghost use Rattle.domain_plain.specs.Generic.{GenericText, GenericFault, generic_text};
 ghost use Rattle.domain_plain.specs.Plain.{a, a_values, ns, ns_values, soa, soa_values, mx};
 ghost use Rattle.domain_plain.specs.{Plain.{mx_values, unknown, unknown_values}, Soa.soa_text};
@@ -53,21 +53,10 @@ pub fn unknown_data_parses_back<O: Octets>(value: &UnknownRecordData<O>)
     let _fields = value.fields();
 }
 
-/// Tokens that are refused as the generic form, but for want of room or of memory, spell no data in
-/// that form, over builders with any limit.
-#[tactic(auto, using(std::proofs::lemmas::Grind::common_steps, crate::proofs::GenericLemmas::refused_is_no_text))]
-pub fn refused_tokens_spell_no_generic_data()
-    ensures { (limit : Option ℕ) (old new : Tokens) (fault : ScanFault) (octets : Octets)
-        → GenericFault limit old new fault → IsOfTokens limit fault → GenericText old octets → ⊥ }
-{}
-
-/// Tokens are refused as the generic form, but for want of room or of memory, for one reason, over
-/// builders with any limit.
-#[tactic(auto, using(std::proofs::lemmas::Grind::common_steps, crate::proofs::GenericLemmas::generic_one_fault))]
-pub fn generic_data_has_one_fault()
-    ensures { (limit : Option ℕ) (old m n : Tokens) (x y : ScanFault)
-        → GenericFault limit old m x → GenericFault limit old n y → IsOfTokens limit x
-        → IsOfTokens limit y → x ≡ y }
+/// Tokens spell octets in the generic form in one way at most, and in none where they are refused,
+/// but for want of room or of memory, which is for one reason, over builders with any limit.
+pub fn generic_text_is_exact()
+    ensures { (limit : Option ℕ) → IsExactEntry limit GenericText (GenericFault limit) }
 {}
 
 /// The words of what an address is written as spell it.

@@ -1,11 +1,13 @@
 -- Tokens that are refused as the data of a type spell no data of that type, and tokens spell data of a type in one way at most.
 use Rattle.std.proofs.{Common.{arith, ◌≡◌, ℕ, List, [], ◌∷◌, refl, sym, ap, ◌∙◌, subst, Option, Some, None}, lemmas.{Grind.common_steps, List.append-nil}}
 use Rattle.domain_names.specs.TextFault.{ScanFault, IsOfTokens}
-use Rattle.domain_plain.{specs.Generic.GenericText, proofs.GenericLemmas.refused_is_no_text}
-use Rattle.domain_fields.{specs.Layout.{Values, octets_of}, proofs.GrammarLemmas.{ReadsOnce, Excludes, fields_once, fields_refused}}
+use Rattle.domain_plain.{specs.Generic.GenericText, proofs.GenericLemmas.generic_exact}
+use Rattle.domain_fields.{specs.{Layout.{Values, octets_of}, Scan.AllTokens}, proofs.GrammarLemmas.{fields_once, fields_refused}}
+use Rattle.domain_fields.specs.Sequence.{ReadsOnce, Excludes, IsExactEntry}
+use Rattle.domain_base.specs.Scan.{Refusal}
 use Rattle.domain_codecs.specs.declared.codec.Codec.TheVariants.{Base16, Base64}
-use Rattle.domain_keys.{specs.{Data.key_values, Scan.KeyText}, proofs.RefusalLemmas.{key_once, key_refused}}
-use Rattle.domain_rrsig.{specs.{Data.rrsig_values, Scan.RrsigText}, proofs.RefusalLemmas.{rrsig_once, refused_rrsig}}
+use Rattle.domain_keys.{specs.{Data.key_values, Scan.KeyText}, proofs.RefusalLemmas.key_exact}
+use Rattle.domain_rrsig.{specs.{Data.rrsig_values, Scan.RrsigText}, proofs.RefusalLemmas.rrsig_exact}
 use Rattle.domain_chain_rdata.proofs.TextLemmas.{nsec_once, nsec_refused, params_exact, nsec3_exact}
 use Rattle.domain_rdata.specs.Kind.{Kind, plain, key, digest, signature, next_by_name, next_by_hash, params, layout_of, AreFields, FieldsText, key_of, rrsig_of}
 use Rattle.domain_rdata.specs.Refusal.{RefusesKind, RefusesKnown, RefusesOwn, AreOfKind, OctetsFault, RefusesRdata, in_own, in_generic, in_octets}
@@ -13,32 +15,26 @@ use Rattle.domain_rdata.specs.{Scan.{RdataText, own, generic, ContentText, OwnTe
 use Rattle.domain_rdata.specs.{Zone.{content_of, content_octets, IsOfKind, of_kind, wire_octets}, declared.zone_record_data.ZoneRecordData.ZoneRecordData}
 
 -- all tokens spell data
-whole_once : {V D : Type 0} (G : List (List ℕ) → D → Type 0) (of : V → D) (values : D → V)
-    → ((old : List (List ℕ)) (d e : D) → G old d → G old e → d ≡ e) → ((v : V) → values (of v) ≡ v) → ReadsOnce (λ old v new. G old (of v) × (new ≡ []))
-whole_once G of values once same = record {
-  value = λ old m n v w p q. sym (same v) ∙ ap values (once old (of v) (of w) p.0 q.0) ∙ same w;
-  left = λ old m n v w p q. p.1 ∙ sym q.1;
-}
+whole_exact : {V D : Type 0} (limit : Option ℕ) (spells : List (List ℕ) → D → Type 0) (R : Refusal) (of : V → D) (values : D → V)
+    → IsExactEntry limit spells R → ((v : V) → values (of v) ≡ v)
+    → ReadsOnce (AllTokens (λ old v. spells old (of v))) × Excludes limit (AllTokens (λ old v. spells old (of v))) R
+whole_exact limit spells R of values exact same = (
+  record {
+    value = λ old m n v w p q. sym (same v) ∙ ap values (exact.once old (of v) (of w) p.0 q.0) ∙ same w;
+    left = λ old m n v w p q. p.1 ∙ sym q.1;
+  },
+  λ old new after v fault why is own. exact.none old new fault (of v) why own is.0,
+)
 
--- the values of a kind, and the tokens that are left, are told from the tokens
-kind_once : (k : Kind) → ReadsOnce (FieldsText k)
-kind_once (plain l) = fields_once l
-kind_once key = whole_once (KeyText Base64) key_of key_values (key_once Base64) (λ v. refl)
-kind_once digest = whole_once (KeyText Base16) key_of key_values (key_once Base16) (λ v. refl)
-kind_once signature = whole_once RrsigText rrsig_of rrsig_values rrsig_once (λ v. refl)
-kind_once next_by_name = nsec_once
-kind_once next_by_hash = (nsec3_exact None).once
-kind_once params = (params_exact None).once
-
--- what is refused, but for want of room or memory, are no data of the kind
-kind_refused : (k : Kind) (limit : Option ℕ) → Excludes limit (FieldsText k) (RefusesKind limit k)
-kind_refused (plain l) limit = fields_refused limit l
-kind_refused key limit = λ old new after v fault why is alone. key_refused Base64 limit old new fault (key_of v) why alone is.0
-kind_refused digest limit = λ old new after v fault why is alone. key_refused Base16 limit old new fault (key_of v) why alone is.0
-kind_refused signature limit = λ old new after v fault why is alone. refused_rrsig limit old new fault (rrsig_of v) why alone is.0
-kind_refused next_by_name limit = λ old new after v fault why is alone. nsec_refused limit limit old new after fault v why alone alone is
-kind_refused next_by_hash limit = (nsec3_exact limit).apart
-kind_refused params limit = (params_exact limit).apart
+-- the values of a kind, and the tokens that are left, are told from the tokens; what is refused, but for want of room or memory, are no data of the kind
+kind_exact : (k : Kind) (limit : Option ℕ) → ReadsOnce (FieldsText k) × Excludes limit (FieldsText k) (RefusesKind limit k)
+kind_exact (plain l) limit = (fields_once l, fields_refused limit l)
+kind_exact key limit = whole_exact limit (KeyText Base64) _ key_of key_values (key_exact Base64 limit) (λ v. refl)
+kind_exact digest limit = whole_exact limit (KeyText Base16) _ key_of key_values (key_exact Base16 limit) (λ v. refl)
+kind_exact signature limit = whole_exact limit RrsigText _ rrsig_of rrsig_values (rrsig_exact limit) (λ v. refl)
+kind_exact next_by_name limit = (nsec_once, λ old new after v fault why is alone. nsec_refused limit limit old new after fault v why alone alone is)
+kind_exact next_by_hash limit = ((nsec3_exact limit).once, (nsec3_exact limit).apart)
+kind_exact params limit = ((params_exact limit).once, (params_exact limit).apart)
 
 -- the tokens begin with data of a type of this kind, which are these octets, and these are left
 abbrev pub Reads : Option Kind → List (List ℕ) → List ℕ → List (List ℕ) → Type 0
@@ -57,14 +53,14 @@ module _ {O N : Type 0} (octets : O → List ℕ) (labels : N → List (List ℕ
 pub one_read : (known : Option Kind) (old m n : List (List ℕ)) (x y : List ℕ) → Reads known old x m → Reads known old y n → (m ≡ n) × (x ≡ y)
 one_read None old m n x y p q = absurd p
 one_read (Some k) old m n x y p q =
-    let once = kind_once k in
+    let once = (kind_exact k None).0 in
     (once.left old m n p.0 q.0 p.1 q.1, p.2 ∙ ap (octets_of (layout_of k)) (once.value old m n p.0 q.0 p.1 q.1) ∙ sym q.2)
 
 -- what is refused as the text form of a type, but for want of room or memory, is not read
 own_refused : (known : Option Kind) (limit : Option ℕ) (old new after : List (List ℕ)) (wire : List ℕ) (fault : ScanFault)
     → RefusesKnown limit known old new fault → IsOfTokens limit fault → Reads known old wire after → ⊥
 own_refused None limit old new after wire fault why alone read = read
-own_refused (Some k) limit old new after wire fault why alone read = kind_refused k limit old new after read.0 fault why read.1 alone
+own_refused (Some k) limit old new after wire fault why alone read = (kind_exact k limit).1 old new after read.0 fault why read.1 alone
 
 -- what is refused as one type is refused as a type of that number
 pub refused_as : (limit : Option ℕ) (known rtype : ℕ) (old new : List (List ℕ)) (fault : ScanFault) → known ≡ rtype
@@ -107,7 +103,7 @@ module _ {O N : Type 0} (octets : O → List ℕ) (labels : N → List (List ℕ
   none_spelled limit new fault (in_own unmarked why) known d after (generic wire text are all) = unmarked (generic_begins old wire text)
   none_spelled limit new fault (in_generic marked why) known d after (own other text) = other marked
   none_spelled limit new fault (in_generic marked why) known d after (generic wire text are all) =
-      refused_is_no_text limit old new fault wire why text known
+      (generic_exact limit).none old new fault wire why known text
   none_spelled limit new fault (in_octets wire text all why) known d after spelled = grind (arith, common_steps)
 
   -- octets of generic text that are data, or are not

@@ -1,10 +1,10 @@
 //! What holds of the octets and the texts of signatures (RFC 4034, section 3).
 //! A caller calls the law in its body.
-ghost use Rattle.std.specs.{Prelude.{◌≡◌, ◌<◌, ◌^◌, ℕ, Option}, Fmt.decimal};
+ghost use Rattle.std.specs.{Prelude.{◌<◌, ◌^◌, ℕ, Option}, Fmt.decimal};
 ghost use Rattle.domain_octets.specs.Line.{words_of};
-ghost use Rattle.domain_names.specs.{TextFault.{ScanFault, IsOfTokens}, Words.Tokens};
-ghost use Rattle.domain_fields.specs.Layout.{ParsesBack};
-ghost use Rattle.domain_rrsig.specs.{Data.{RrsigData, rrsig, rrsig_values}, Pieces.rrsig_text};
+ghost use Rattle.domain_names.specs.Words.{Tokens};
+ghost use Rattle.domain_fields.specs.{Layout.ParsesBack, Sequence.IsExactEntry};
+ghost use Rattle.domain_rrsig.specs.{Data.{rrsig, rrsig_values}, Pieces.rrsig_text};
 ghost use Rattle.domain_rrsig.specs.{Scan.{RrsigText, RefusesRrsig}, Time.{TimeText, TimeToken}};
 
 use crate::Rrsig;
@@ -34,17 +34,8 @@ pub fn times_are_read_back()
     ensures text { (stamp : ℕ) → stamp < 2 ^ 32 → TimeText (decimal stamp) stamp }
 {}
 
-/// Tokens spell the data of one signature at most, and, where they are refused, but for want of
-/// room or of memory, of none, over builders with any limit.
-pub fn refused_tokens_spell_no_signature()
-    ensures once { (old : Tokens) (d e : RrsigData) → RrsigText old d → RrsigText old e → d ≡ e }
-    ensures none { (limit : Option ℕ) (old new : Tokens) (fault : ScanFault) (d : RrsigData)
-        → RefusesRrsig limit old new fault → IsOfTokens limit fault → RrsigText old d → ⊥ }
-{}
-
-/// Tokens are refused, but for want of room or of memory, for one reason, over builders with any
-/// limit.
-pub fn signatures_have_one_fault()
-    ensures { (limit : Option ℕ) (old m n : Tokens) (x y : ScanFault) → RefusesRrsig limit old m x
-        → RefusesRrsig limit old n y → IsOfTokens limit x → IsOfTokens limit y → x ≡ y }
+/// Tokens spell the data of one signature at most, and of none where they are refused, but for want
+/// of room or of memory, which is for one reason, over builders with any limit.
+pub fn signature_texts_are_exact()
+    ensures { (limit : Option ℕ) → IsExactEntry limit RrsigText (RefusesRrsig limit) }
 {}

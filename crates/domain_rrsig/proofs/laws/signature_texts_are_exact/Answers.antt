@@ -1,0 +1,5 @@
+use Rattle.domain_rrsig.proofs.RefusalLemmas.{rrsig_exact}
+use Rattle.domain_rrsig.proofs.laws.signature_texts_are_exact.Goals as goal
+
+pub returns : goal.returns
+returns c = rrsig_exact
