@@ -95,7 +95,7 @@ impl<O: Octets> Dnskey<O> {
     pub fn public_key(&self) -> &O
         ensures { O.octets result.now ≡ dnskey_public_key self.now }
     {
-        &self.octets
+        self.as_octets()
     }
 
     /// The key alone.
@@ -134,7 +134,7 @@ impl<O: Octets> Dnskey<O> {
     pub fn key_tag(&self) -> u16
         ensures { result ≡ key_tag_of self.now }
     {
-        let key = self.octets.as_slice();
+        let key = self.as_octets().as_slice();
         if self.algorithm() == SecurityAlgorithm::RSAMD5 {
             return key_tag::rsa_md5_tag(key);
         }

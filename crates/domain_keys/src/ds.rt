@@ -94,7 +94,7 @@ impl<O: Octets> Ds<O> {
     pub fn digest(&self) -> &O
         ensures { O.octets result.now ≡ ds_digest self.now }
     {
-        &self.octets
+        self.as_octets()
     }
 
     /// The digest alone.

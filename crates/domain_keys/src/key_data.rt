@@ -56,7 +56,7 @@ pub struct KeyData<O: Octets, K: KeyKind> {
     pub(crate) number: u16,
     pub(crate) first: u8,
     pub(crate) second: u8,
-    pub(crate) octets: O,
+    octets: O,
     kind: PhantomData<K>,
 }
 
@@ -128,8 +128,15 @@ impl<O: Octets, K: KeyKind> KeyData<O, K> {
         Ok(self.with_octets(self.octets.try_clone()?))
     }
 
+    /// The octets.
+    pub fn as_octets(&self) -> &O
+        ensures { O.octets result.now ≡ self.now.octets }
+    {
+        &self.octets
+    }
+
     /// The octets alone.
-    pub(crate) fn into_octets(self) -> O
+    pub fn into_octets(self) -> O
         ensures { O.octets result ≡ self.octets }
     {
         let KeyData { octets, .. } = self;

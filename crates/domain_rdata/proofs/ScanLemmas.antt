@@ -5,11 +5,10 @@ use Rattle.domain_plain.{specs.Generic.GenericText, proofs.GenericLemmas.generic
 use Rattle.domain_fields.{specs.{Layout.{Values, octets_of}, Scan.AllTokens}, proofs.GrammarLemmas.{fields_once, fields_refused}}
 use Rattle.domain_fields.specs.Sequence.{ReadsOnce, Excludes, IsExactEntry}
 use Rattle.domain_base.specs.Scan.{Refusal}
-use Rattle.domain_codecs.specs.declared.codec.Codec.TheVariants.{Base16, Base64}
 use Rattle.domain_keys.{specs.{Data.key_values, Scan.KeyText}, proofs.RefusalLemmas.key_exact}
 use Rattle.domain_rrsig.{specs.{Data.rrsig_values, Scan.RrsigText}, proofs.RefusalLemmas.rrsig_exact}
 use Rattle.domain_chain_rdata.proofs.TextLemmas.{nsec_once, nsec_refused, params_exact, nsec3_exact}
-use Rattle.domain_rdata.specs.Kind.{Kind, plain, key, digest, signature, next_by_name, next_by_hash, params, layout_of, AreFields, FieldsText, key_of, rrsig_of}
+use Rattle.domain_rdata.specs.Kind.{Kind, plain, key, signature, next_by_name, next_by_hash, params, layout_of, AreFields, FieldsText, key_of, rrsig_of}
 use Rattle.domain_rdata.specs.Refusal.{RefusesKind, RefusesKnown, RefusesOwn, AreOfKind, OctetsFault, RefusesRdata, in_own, in_generic, in_octets}
 use Rattle.domain_rdata.specs.{Scan.{RdataText, own, generic, ContentText, OwnText, AreContent, AreData, IsGeneric}, Zone.{kind_of, Content, fields, mere}}
 use Rattle.domain_rdata.specs.{Zone.{content_of, content_octets, IsOfKind, of_kind, wire_octets}, declared.zone_record_data.ZoneRecordData.ZoneRecordData}
@@ -29,8 +28,7 @@ whole_exact limit spells R of values exact same = (
 -- the values of a kind, and the tokens that are left, are told from the tokens; what is refused, but for want of room or memory, are no data of the kind
 kind_exact : (k : Kind) (limit : Option ℕ) → ReadsOnce (FieldsText k) × Excludes limit (FieldsText k) (RefusesKind limit k)
 kind_exact (plain l) limit = (fields_once l, fields_refused limit l)
-kind_exact key limit = whole_exact limit (KeyText Base64) _ key_of key_values (key_exact Base64 limit) (λ v. refl)
-kind_exact digest limit = whole_exact limit (KeyText Base16) _ key_of key_values (key_exact Base16 limit) (λ v. refl)
+kind_exact (key codec) limit = whole_exact limit (KeyText codec) _ key_of key_values (key_exact codec limit) (λ v. refl)
 kind_exact signature limit = whole_exact limit RrsigText _ rrsig_of rrsig_values (rrsig_exact limit) (λ v. refl)
 kind_exact next_by_name limit = (nsec_once, λ old new after v fault why is alone. nsec_refused limit limit old new after fault v why alone alone is)
 kind_exact next_by_hash limit = ((nsec3_exact limit).once, (nsec3_exact limit).apart)

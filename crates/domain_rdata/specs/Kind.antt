@@ -3,7 +3,7 @@ use Rattle.std.specs.Prelude.{[]}
 use Rattle.domain_octets.specs.Words.{Octets}
 use Rattle.domain_base.specs.Scan.{Grammar}
 use Rattle.domain_fields.specs.{Layout.{Layout, Values, Begins}, Scan.{Scans, AllTokens}}
-use Rattle.domain_codecs.specs.declared.codec.Codec.TheVariants.{Base16, Base64}
+use Rattle.domain_codecs.specs.declared.codec.Codec.{Codec}
 use Rattle.domain_keys.specs.{Data.{KeyData, key_fields, key_data}, Scan.KeyText}
 use Rattle.domain_rrsig.specs.{Data.{RrsigData, rrsig, rrsig_data, of_numbers}, Scan.RrsigText}
 use Rattle.domain_chain_rdata.specs.{NsecText.NsecText, Nsec3Text.Nsec3Text, Nsec3paramText.Nsec3paramText, Rdata.{nsec, nsec3, nsec3param}}
@@ -11,8 +11,7 @@ use Rattle.domain_chain_rdata.specs.{NsecText.NsecText, Nsec3Text.Nsec3Text, Nse
 -- of fields of one token each, or in a way of their own
 pub data Kind : Type 0 where
   plain : Layout → Kind
-  key : Kind
-  digest : Kind
+  key : Codec → Kind
   signature : Kind
   next_by_name : Kind
   next_by_hash : Kind
@@ -21,8 +20,7 @@ pub data Kind : Type 0 where
 -- the fields, in the order of the wire
 abbrev pub layout_of : Kind → Layout
 layout_of (plain l) = l
-layout_of key = key_fields
-layout_of digest = key_fields
+layout_of (key codec) = key_fields
 layout_of signature = rrsig
 layout_of next_by_name = nsec
 layout_of next_by_hash = nsec3
@@ -42,8 +40,7 @@ rrsig_of v = rrsig_data (of_numbers v.1.0.0 v.1.0.1) v.1.1
 -- the tokens begin with these values in the text form of the kind, and the last are left
 abbrev pub FieldsText : (k : Kind) → Grammar (Values (layout_of k))
 FieldsText (plain l) = Scans l
-FieldsText key = AllTokens (λ old v. KeyText Base64 old (key_of v))
-FieldsText digest = AllTokens (λ old v. KeyText Base16 old (key_of v))
+FieldsText (key codec) = AllTokens (λ old v. KeyText codec old (key_of v))
 FieldsText signature = AllTokens (λ old v. RrsigText old (rrsig_of v))
 FieldsText next_by_name = NsecText
 FieldsText next_by_hash = Nsec3Text

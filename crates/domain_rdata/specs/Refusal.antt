@@ -7,19 +7,17 @@ use Rattle.domain_names.specs.{Words.Tokens, declared.error.ScanError.ScanError}
 use Rattle.domain_base.specs.Scan.{Refusal}
 use Rattle.domain_plain.specs.Generic.{GenericText, GenericFault}
 use Rattle.domain_fields.specs.{Field.{name, spelled_name, counted, rest, types}, Layout.{Layout, one, ◌▸◌, Values}, Scan.Refuses}
-use Rattle.domain_codecs.specs.declared.codec.Codec.TheVariants.{Base16, Base64}
 use Rattle.domain_keys.specs.Scan.{RefusesKey}
 use Rattle.domain_rrsig.specs.Scan.{RefusesRrsig}
 use Rattle.domain_chain_rdata.specs.{NsecText.RefusesNsec, Nsec3Text.RefusesNsec3, Nsec3paramText.RefusesNsec3param}
-use Rattle.domain_rdata.specs.{Kind.{Kind, plain, key, digest, signature, next_by_name, next_by_hash, params, layout_of, AreFields}, Scan.IsGeneric}
+use Rattle.domain_rdata.specs.{Kind.{Kind, plain, key, signature, next_by_name, next_by_hash, params, layout_of, AreFields}, Scan.IsGeneric}
 use Rattle.domain_rdata.specs.Zone.{kind_of}
 
 -- the first field of that form that is refused, where octets have this limit, and the tokens that
 -- are left then
 abbrev pub RefusesKind : Option ℕ → Kind → Refusal
 RefusesKind limit (plain l) = Refuses limit l
-RefusesKind limit key = RefusesKey Base64 limit
-RefusesKind limit digest = RefusesKey Base16 limit
+RefusesKind limit (key codec) = RefusesKey codec limit
 RefusesKind limit signature = RefusesRrsig limit
 RefusesKind limit next_by_name = RefusesNsec limit limit
 RefusesKind limit next_by_hash = RefusesNsec3 limit

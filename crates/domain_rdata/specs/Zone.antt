@@ -8,10 +8,11 @@ use Rattle.domain_base.specs.Types as rtypes
 use Rattle.domain_bitmap.specs.{Blocks.types_of, Text.types_text}
 use Rattle.domain_fields.specs.Layout.{Values, octets_of, canonical_of}
 use Rattle.domain_plain.specs.{Generic.generic_text, Plain.{a, a_values, ns, ns_values, soa, soa_values, mx, mx_values, unknown}, Soa.soa_text}
+use Rattle.domain_codecs.specs.declared.codec.Codec.TheVariants.{Base16, Base64}
 use Rattle.domain_keys.specs.{Data.key_values, Pieces.{dnskey_text, ds_text}}
 use Rattle.domain_rrsig.specs.{Data.rrsig_values, Pieces.rrsig_text}
 use Rattle.domain_chain_rdata.specs.{Nsec3Text.nsec3_text, Nsec3paramText.nsec3param_text, Rdata.{nsec_values, nsec3_values, nsec3param_values}}
-use Rattle.domain_rdata.specs.Kind.{Kind, plain, key, digest, signature, next_by_name, next_by_hash, params, layout_of}
+use Rattle.domain_rdata.specs.Kind.{Kind, plain, key, signature, next_by_name, next_by_hash, params, layout_of}
 use Rattle.domain_rdata.specs.declared.zone_record_data.ZoneRecordData.{ZoneRecordData}
 use Rattle.domain_rdata.specs.declared.zone_record_data.ZoneRecordData.TheVariants.{A, Ns, Soa, Mx, Dnskey, Ds, Rrsig, Nsec, Nsec3, Nsec3param, Unknown}
 
@@ -23,8 +24,8 @@ kind_of rtype =
     else (if rtype == rtypes.ns then Some (plain ns)
     else (if rtype == rtypes.soa then Some (plain soa)
     else (if rtype == rtypes.mx then Some (plain mx)
-    else (if rtype == rtypes.dnskey then Some key
-    else (if rtype == rtypes.ds then Some digest
+    else (if rtype == rtypes.dnskey then Some (key Base64)
+    else (if rtype == rtypes.ds then Some (key Base16)
     else (if rtype == rtypes.rrsig then Some signature
     else (if rtype == rtypes.nsec then Some next_by_name
     else (if rtype == rtypes.nsec3 then Some next_by_hash
@@ -55,8 +56,8 @@ content_of octets labels (A d) = fields (plain a) (a_values d)
 content_of octets labels (Ns d) = fields (plain ns) (ns_values labels d)
 content_of octets labels (Soa d) = fields (plain soa) (soa_values labels d)
 content_of octets labels (Mx d) = fields (plain mx) (mx_values labels d)
-content_of octets labels (Dnskey d) = fields key (key_values d)
-content_of octets labels (Ds d) = fields digest (key_values d)
+content_of octets labels (Dnskey d) = fields (key Base64) (key_values d)
+content_of octets labels (Ds d) = fields (key Base16) (key_values d)
 content_of octets labels (Rrsig d) = fields signature (rrsig_values d)
 content_of octets labels (Nsec d) = fields next_by_name (nsec_values labels d)
 content_of octets labels (Nsec3 d) = fields next_by_hash (nsec3_values d)

@@ -7,7 +7,7 @@ ghost use Rattle.domain_plain.specs.Plain.{a, a_values, ns, ns_values, soa, soa_
 ghost use Rattle.domain_keys.specs.Data.{key_values};
 ghost use Rattle.domain_rrsig.specs.Data.{rrsig_values};
 ghost use Rattle.domain_chain_rdata.specs.Rdata.{nsec_values, nsec3_values, nsec3param_values};
-ghost use Rattle.domain_rdata.specs.Kind.{plain, key, digest, signature, next_by_name, next_by_hash};
+ghost use Rattle.domain_rdata.specs.Kind.{plain, key, signature, next_by_name, next_by_hash};
 ghost use Rattle.domain_rdata.specs.Refusal.{CopyFault, FromOctets, IsNotWhole, OctetsFault};
 ghost use Rattle.domain_rdata.specs.{Kind.params, Scan.AreData, Zone.kind_of};
 
@@ -15,7 +15,7 @@ use crate::ZoneRecordData;
 use crate::zone_record_data::return_of_type;
 use domain_base::{MakeName, ParsedName, Rtype, ScanError, ToName};
 use domain_chain_rdata::{Nsec, Nsec3, Nsec3param};
-use domain_keys::{Dnskey, Ds};
+use domain_keys::{KeyData, KeyKind};
 use domain_octets::{EmptyBuilder, FromBuilder, Octets, OctetsBuilder, OutOfMemory, Parser};
 use domain_plain::{A, Mx, Ns, Soa, UnknownRecordData};
 use domain_record::ParseRecordData;
@@ -116,26 +116,18 @@ fn mx_of<N: MakeName>(alloc: Global, octets: &[u8]) -> Result<Mx<N>, ScanError>
     Ok(Mx::new(data.preference(), name_like(alloc, data.exchange())?))
 }
 
-/// The key that octets are.
-fn dnskey_of<O: FromBuilder + Drop>(alloc: Global, octets: &[u8]) -> Result<Dnskey<O>, ScanError>
+/// The key, or the digest of a key, that octets are.
+fn key_of<O: FromBuilder + Drop, K: KeyKind>(
+    alloc: Global,
+    octets: &[u8],
+) -> Result<KeyData<O, K>, ScanError>
 where
     O::Builder: EmptyBuilder + Drop,
-    ensures { FromOctets O.Builder.limit key key_values octets.now result }
+    ensures { FromOctets O.Builder.limit (key K.codec) key_values octets.now result }
 {
-    let data: Dnskey<&[u8]> = whole(Rtype::DNSKEY, octets)?;
-    let key = octets_like(alloc, data.public_key())?;
+    let data: KeyData<&[u8], K> = whole(K::rtype(), octets)?;
+    let key = octets_like(alloc, data.as_octets())?;
     Ok(data.with_octets(key))
-}
-
-/// The digest of a key that octets are.
-fn ds_of<O: FromBuilder + Drop>(alloc: Global, octets: &[u8]) -> Result<Ds<O>, ScanError>
-where
-    O::Builder: EmptyBuilder + Drop,
-    ensures { FromOctets O.Builder.limit digest key_values octets.now result }
-{
-    let data: Ds<&[u8]> = whole(Rtype::DS, octets)?;
-    let digest = octets_like(alloc, data.digest())?;
-    Ok(data.with_octets(digest))
 }
 
 /// The next name and the types that octets are.
@@ -270,8 +262,8 @@ where
             NS => Ns(ns_of(alloc, octets)?),
             SOA => Soa(soa_of(alloc, octets)?),
             MX => Mx(mx_of(alloc, octets)?),
-            DNSKEY => Dnskey(dnskey_of(alloc, octets)?),
-            DS => Ds(ds_of(alloc, octets)?),
+            DNSKEY => Dnskey(key_of(alloc, octets)?),
+            DS => Ds(key_of(alloc, octets)?),
             RRSIG => Rrsig(rrsig_of(alloc, octets)?),
             NSEC => Nsec(nsec_of(alloc, octets)?),
             NSEC3 => Nsec3(nsec3_of(alloc, octets)?),
