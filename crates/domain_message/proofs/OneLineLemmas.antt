@@ -74,8 +74,8 @@ module _ {O N : Type 0} (octets : O → Octets) (labels : N → Name) where
       token_excludes ClassText IsNoClass limit (λ fault text v no yes known. no.none v yes) b.numbers.behind_ttl left _ class (scan_fault_of e)
       (subst (λ ws. RefusesToken IsNoClass ws left (scan_fault_of e)) (taken_once tokens _ _ timed b.numbers.timed) why) b.numbers.classed own
   none_behind limit tokens ttl class d (Rtype e) (_, number, between, behind, left, timed, classed, why) own b =
-      let same = taken_once b.numbers.behind_ttl behind _ (subst (λ ws. ClassTaken number ws behind) (taken_once tokens between _ timed b.numbers.timed) classed)
-      b.numbers.classed in
+      let first = taken_once tokens between _ timed b.numbers.timed in
+      let same = taken_once b.numbers.behind_ttl behind _ (subst (λ ws. ClassTaken number ws behind) first classed) b.numbers.classed in
       token_excludes TypeText IsNoType limit (λ fault text v no yes known. no.none v yes) b.numbers.behind_class left _ b.rtype (scan_fault_of e)
       (subst (λ ws. RefusesToken IsNoType ws left (scan_fault_of e)) same why) b.numbers.typed own
   none_behind limit tokens ttl class d (RecordData e) (_, _, rtype, after, left, taken, why) own b =
