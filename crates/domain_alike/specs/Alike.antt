@@ -1,6 +1,8 @@
 -- Names of an NSEC3 chain that hash alike (RFC 5155, section 7.1).
-use Rattle.std.specs.{Prelude.{◌≡◌, ℕ, true, false, All, List, Ok, Err, Option, Some, None, map}, List.{list_any, Sorted.IsStrictlySortedBy}}
+use Rattle.std.specs.{Prelude.{◌≡◌, ◌⊎◌, ℕ, true, false, All, List, Ok, Err, Option, Some, None, map}, List.{list_any, Sorted.IsStrictlySortedBy}}
 use Rattle.domain_octets.specs.Words.{Octets}
+use Rattle.domain_hasher.specs.declared.error.Nsec3HashError.{Nsec3HashError}
+use Rattle.domain_hasher.specs.declared.error.Nsec3HashError.TheVariants as hash_error
 use Rattle.domain_names.specs.{Name.same_name, Order.{before, canonical_cmp}, Words.Name}
 use Rattle.domain_nsec3.specs.{Config.{ChainConfig, hash_of}, Faults.HasCollision, Owners.is_chain_name}
 use Rattle.domain_zone.specs.Zone.{ZoneRecord}
@@ -53,3 +55,8 @@ pub record IsFirstRefusal (L : List ZoneRecord) (a : Name) (config : ChainConfig
   pub refused : hash_of config name ≡ Err number
   pub first : (y : Name) → is_chain_name L a config y ≡ true → before y name ≡ true
       → (h : Octets) × (hash_of config y ≡ Ok h)
+
+-- no memory, or the refusal of a number
+abbrev pub IsRefusedBy : (ℕ → Type 0) → Nsec3HashError → Type 0
+IsRefusedBy refused e =
+    (e ≡ hash_error.OutOfMemory) ⊎ ((n : ℕ) × (e ≡ hash_error.Hasher n) × refused n)

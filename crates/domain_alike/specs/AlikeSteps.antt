@@ -1,11 +1,9 @@
 -- The names of a list that hash alike, and how they are found.
-use Rattle.std.specs.Prelude.{◌≡◌, ◌⊎◌, ℕ, Bool, false, List, [], ◌∷◌, filter, Option, Some, None, Ok, Err, Vec}
+use Rattle.std.specs.Prelude.{◌≡◌, ℕ, Bool, false, List, [], ◌∷◌, filter, Option, Some, None, Ok, Err, Vec}
 use Rattle.std.specs.BTreeMap as tree
 use Rattle.std.specs.{BTreeMap.BTreeMap, Cmp.Lexicographic.slice_cmp, List.{find, flat_map, AllByRecursion}, Ordering.{is_eq, nat_cmp}}
 use Rattle.domain_octets.specs.Words.{Octets}
 use Rattle.domain_names.specs.{Order.before, Words.Name}
-use Rattle.domain_hasher.specs.declared.error.Nsec3HashError.{Nsec3HashError}
-use Rattle.domain_hasher.specs.declared.error.Nsec3HashError.TheVariants as hash_error
 use Rattle.domain_nsec3.specs.Config.{Hash, HashAnswer, hash_name}
 use Rattle.domain_alike.specs.Alike.{Pair}
 
@@ -41,8 +39,3 @@ IsHashed hash n = (h : Octets) × (hash_name hash n ≡ Ok h)
 pub record ArePairs (hash : Hash) (names some : List Name) (pairs : List Pair) : Type 0 where
   pub hashed : AllByRecursion (IsHashed hash) some
   pub are : pairs ≡ flat_map (λ n. pair_with n (first_before hash names n)) some
-
--- no memory, or the refusal of a number
-abbrev pub IsRefusedBy : (ℕ → Type 0) → Nsec3HashError → Type 0
-IsRefusedBy refused e =
-    (e ≡ hash_error.OutOfMemory) ⊎ ((n : ℕ) × (e ≡ hash_error.Hasher n) × refused n)

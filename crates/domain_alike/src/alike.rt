@@ -4,8 +4,8 @@ ghost use Rattle.domain_names.specs.Words.{Name};
 ghost use Rattle.domain_nsec3.specs.{Config.{Hash, hash_name}, View.config_of};
 ghost use Rattle.domain_records.specs.Order.{IsInOrder};
 ghost use Rattle.domain_borrowed.specs.Data.{zone_of_raw};
-ghost use Rattle.domain_alike.specs.Alike.{pair_of, AreAlike, IsFirstPair, IsFirstRefusal};
-ghost use Rattle.domain_alike.specs.AlikeSteps.{first_with, AreFirstNames, IsRefusedBy};
+ghost use Rattle.domain_alike.specs.Alike.{pair_of, AreAlike, IsFirstPair, IsFirstRefusal, IsRefusedBy};
+ghost use Rattle.domain_alike.specs.AlikeSteps.{first_with, AreFirstNames};
 
 use crate::chain_names::chain_names;
 use domain_base::{MAX_NAME, ParsedName, ToName};
