@@ -1,5 +1,5 @@
 -- How the program makes chains.
-use Rattle.std.proofs.{Common.{arith, ◌≡◌, ◌⊎◌, List, refl, subst, sym, inl, inr, Result, IfErr}, lemmas.Grind.common_steps}
+use Rattle.std.proofs.{Common.{arith, ◌≡◌, ◌⊎◌, ℕ, List, refl, subst, sym, inl, inr, Result, IfErr}, lemmas.Grind.common_steps}
 use Rattle.std.specs.Result.{IsErrAnd}
 use Rattle.domain_octets.proofs.StdLemmas.{if_err_of}
 use Rattle.domain_names.specs.Words.{Name}
@@ -9,11 +9,13 @@ use Rattle.domain_nsec3.specs.Faults as hashed
 use Rattle.domain_records.specs.{Order.IsOneClass, declared.error.SigningError.{SigningError, TheVariants.OutOfMemory as NoRoom}}
 use Rattle.domain_borrowed.specs.Data.{RawRecord, zone_of_raw}
 use Rattle.domain_dnssec.specs.AnyOrder.{AreMixed}
+use Rattle.denial_program.specs.Fault.{IsOfRecords}
 use Rattle.domain_dnssec.specs.declared.chain.ChainError.{ChainError, TheVariants.{MixedClasses, OutOfMemory}}
-use Rattle.denial_program.specs.Answer.{fault_of_zone, usual_nsec3_config, HasNone, HasNoNsecs, HasNoNsec3s, IsNsecs, IsNsec3s}
+use Rattle.denial_program.specs.Answer.{fault_of_zone, usual_nsec3_config, HasNoAnswer, HasNone, HasNoNsecs, HasNoNsec3s, IsNsecs, IsNsec3s}
 use Rattle.denial_program.specs.{Answer.{IsUnmade, IsUnsorted, Sorts}, Run.IsUnwritten, Command.Params}
 use Rattle.denial_program.specs.declared.answer.Reply.{Reply, TheVariants.{Nsecs, Nsec3s}}
-use Rattle.denial_program.specs.declared.fault.DenialFault.{DenialFault, TheVariants.{Write, OutOfMemory as NoMemory}}
+use Rattle.denial_program.specs.declared.command.Command.{Command, TheVariants.{Nsec, Nsec3, CheckNsec, CheckNsec3}}
+use Rattle.denial_program.specs.declared.fault.DenialFault.{DenialFault, TheVariants.{Line, Write, OutOfMemory as NoMemory}}
 
 -- want of memory is told of no fault of a zone
 pub memory_told : (e : SigningError) → fault_of_zone e ≡ NoMemory → e ≡ NoRoom
@@ -52,3 +54,23 @@ module _ {X : Type 0} (r : Result X DenialFault) (is_such : Reply → Type 0) (i
   unsorted given mixed e (inl are) h =
       if_err_of (IsUnwritten is_such (IsUnmade (HasNone is_why))) e r h (inr (inr (subst (HasNone is_why) (sym are.0) (mixed are.1))))
   unsorted given mixed e (inr are) h = if_err_of (IsUnwritten is_such (IsUnmade (HasNone is_why))) e r h (inr (inl are.0))
+
+-- ---- which faults these may be
+
+pub known_made : (none : DenialFault → Type 0) (e : DenialFault) → IsUnmade none e → IsOfRecords e → none e
+known_made none e (inl is) of = absurd (subst IsOfRecords is of)
+known_made none e (inr why) of = why
+
+pub no_line_unmade : (answers : HasherAnswer) (command : Command) (given : List RawRecord) (n : ℕ)
+    → IsUnmade (HasNoAnswer answers command given) (Line n) → ⊥
+no_line_unmade answers (Nsec apex) given n why = grind (arith, common_steps)
+no_line_unmade answers (Nsec3 apex p) given n why = grind (arith, common_steps)
+no_line_unmade answers (CheckNsec q) given n why = grind (arith, common_steps)
+no_line_unmade answers (CheckNsec3 q) given n why = grind (arith, common_steps)
+
+pub no_write_unmade : (answers : HasherAnswer) (command : Command) (given : List RawRecord)
+    → IsUnmade (HasNoAnswer answers command given) Write → ⊥
+no_write_unmade answers (Nsec apex) given why = grind (arith, common_steps)
+no_write_unmade answers (Nsec3 apex p) given why = grind (arith, common_steps)
+no_write_unmade answers (CheckNsec q) given why = grind (arith, common_steps)
+no_write_unmade answers (CheckNsec3 q) given why = grind (arith, common_steps)

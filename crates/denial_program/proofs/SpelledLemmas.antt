@@ -27,10 +27,6 @@ IsSpelled = RdataText (λ o. o) (λ n. n)
 abbrev see : SpelledRecord → RawRecord
 see = raw_record (λ o. o) (λ n. n)
 
-pub type_told : (rtype : ℕ) (old new : Tokens) (d : SpelledData) → IsSpelled rtype old d new → rtype ≡ rtype_of d
-type_told rtype old new d (own other text) = text.0
-type_told rtype old new d (generic wire text are end) = are.0
-
 -- ---- what texts spell has octets that are such
 
 spelled_name : (text : Octets) (labels : Name) → NameText text labels → IsName labels
@@ -138,7 +134,7 @@ given_spelled (line ∷ more) given (inr (r, others, is, said, g)) =
     let t = said.spelled in (
       t.spelled ∷ s.0,
       inr (t.spelled, s.0, refl, record { seen = said.seen; plain = said.plain; spelled = t.are }, s.1),
-      (minimum_told t.spelled.«data» (are_sound _ _ t.spelled.«data» t.are.spelled), s.2),
+      (minimum_told t.spelled.«data» (are_sound _ _ t.spelled.«data» t.are.body.spelled), s.2),
       (λ i. t.raw i ∷ s.3 i) ∙ sym is,
     )
 
@@ -206,4 +202,4 @@ pub line_gives : {K : Type 0} (rtype : ℕ) (Is : RawRecord → K → Type 0) �
 line_gives {K} rtype Is gives words r t e =
     let s = t.spelled in
     subst (λ (x : RawRecord). (k : K) × Is x k) t.raw
-    (gives s.owner s.class s.ttl s.«data» (are_sound _ _ s.«data» t.are.spelled) (ap (λ (x : RawRecord). x.«data».rtype) t.raw ∙ e))
+    (gives s.owner s.class s.ttl s.«data» (are_sound _ _ s.«data» t.are.body.spelled) (ap (λ (x : RawRecord). x.«data».rtype) t.raw ∙ e))
