@@ -72,10 +72,9 @@ fn scan_record<'a, S: Scanner<Name = ZoneName, Octets = ZoneOctets>>(
     ensures err { IfErr result (Refuses (S.tokens scanner.old)) }
 {
     let owner = store.scan_owner(alloc, scanner)?;
-    let record = scan_behind_owner(alloc, scanner, owner)?;
-    let (owner, class, ttl, data) = record.into_parts();
-    let stored = store.data(&data)?;
-    Ok(Record::new(owner, class, ttl, stored))
+    let record = scan_behind_owner(alloc, scanner, ())?;
+    let stored = store.data(record.data())?;
+    Ok(Record::new(owner, record.class(), record.ttl(), stored))
 }
 
 /// What a line says, with the record in the arena. The line stands without its end.
