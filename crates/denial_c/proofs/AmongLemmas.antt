@@ -4,8 +4,6 @@ use Rattle.std.{proofs.{Common.append-nil, lemmas.{Grind.common_steps, List.{map
 use Rattle.std.specs.List.{flat_map}
 use Rattle.domain_borrowed.{specs.{Data.RawRecord, Wire.{record_octets, IsRecord}}, proofs.WireLemmas.{same_record, some_octets}}
 use Rattle.domain_zone.proofs.{FindLemmas.{from_map, in_filtered, in_middle}, PairLemmas.{In, all_in}, ZoneLemmas.{all_both, all_front, weaker}}
-use Rattle.domain_dnssec.proofs.AmongLemmas.{all_pairs}
-use Rattle.domain_records.specs.Order.{IsOneClass}
 use Rattle.denial_c.specs.{Among.AreAmong, Given.{AreGiven, BeginsNone, IsOfClass}}
 
 -- ---- what was read, and what is left

@@ -1,9 +1,9 @@
 -- Records of one owner and type that differ in TTL.
 use Rattle.std.proofs.{lemmas.Grind.common_steps, Common.{◌≡◌, ℕ, ◌-◌, true, false, ◌||◌, List, [], ◌∷◌, ◌++◌, map, length}}
 use Rattle.std.proofs.Common.{refl, sym, ap, ◌∙◌, subst, arith, nat_eq, append_assoc, append-nil, length-append, is_some, Some, None, Option}
-use Rattle.std.proofs.lemmas.Bool.{and_from, eqb-false, eqb-true, false≢true, not-false, not-true, or_left, or_right}
-use Rattle.std.{proofs.lemmas.List.Folds.list_any-append, specs.{Prelude.Contains, List.{AllByRecursion, flat_map, list_any}}}
-use Rattle.domain_names.specs.{Name.same_name, Words.Name}
+use Rattle.std.proofs.lemmas.Bool.{eqb-false, eqb-true, false≢true, not-false, not-true, or_left, or_right}
+use Rattle.std.{proofs.lemmas.List.Folds.list_any-append, specs.{Prelude.{Contains, filter}, List.{AllByRecursion, flat_map, list_any}}}
+use Rattle.domain_names.specs.{Words.Name}
 use Rattle.domain_dnssec.{specs.RawRecords.Sorts, proofs.AmongLemmas.{contains_in, in_contains}}
 use Rattle.domain_borrowed.specs.{Data.{minimum_of, RawRecord, zone_of_raw}, Wire.{record_octets, IsRecord}}
 use Rattle.domain_zone.specs.{Owners.{OwnerRecords, owner_at}, View.as_zone_record}
@@ -11,7 +11,7 @@ use Rattle.domain_zone.specs.Zone.{ZoneRecord, clashes, has_clash, has_unequal_t
 use Rattle.domain_zone.proofs.{GivenLemmas.{all_known, name_of}, ListedLemmas.names_back, OwnerLemmas.any_two, PairLemmas.{In, all_in, all_from_in}}
 use Rattle.domain_zone.proofs.ZoneLemmas.{all_both, any_none, weaker}
 use Rattle.domain_zone.proofs.FindLemmas.{in_filter, in_filtered, in_map, from_map}
-use Rattle.denial_c.specs.{Given.AreGiven, Uneven.{is_in_set, is_other, set_of, IsFirstUneven, IsUnevenAt}}
+use Rattle.denial_c.specs.{Given.AreGiven, Uneven.{is_in_set, is_other, IsFirstUneven, IsUnevenAt}}
 use Rattle.denial_c.proofs.AmongLemmas.{all_read, before_of_class, past_more, rest_given, IsPast}
 
 abbrev pub see : RawRecord → ZoneRecord
@@ -61,18 +61,23 @@ module _ {L : List ZoneRecord} {a : Name} {all : List Name} where
 
 -- ---- the records that were given
 
+-- those of the owner and the type, as records of a zone
+set_of_raw : (rs : List RawRecord) (n : Name) (t : ℕ)
+    → filter (λ z. nat_eq z.rtype t) (records_of (zone_of_raw rs) n) ≡ zone_of_raw (filter (is_in_set n t) rs)
+set_of_raw [] n t = refl
+set_of_raw (r ∷ rs) n t = grind (arith, common_steps, (set_of_raw rs n t))
+
 -- those of the sorted set are among those that were given
-pub clash_given : (given sorted : List RawRecord) (n : Name) (t : ℕ) → Sorts given sorted → has_clash (set_of (zone_of_raw sorted) n t) ≡ true
-    → has_clash (set_of (zone_of_raw given) n t) ≡ true
+pub clash_given : (given sorted : List RawRecord) (n : Name) (t : ℕ) → Sorts given sorted
+    → IsFirstClash (records_of (zone_of_raw sorted) n) t → has_clash (zone_of_raw (filter (is_in_set n t) given)) ≡ true
 clash_given given sorted n t s h =
-    any_two clashes (set_of (zone_of_raw sorted) n t) (set_of (zone_of_raw given) n t) (λ z i.
-    let of_type = in_filter (λ y. nat_eq y.rtype t) (records_of (zone_of_raw sorted) n) z i in
-    let of_owner = in_filter (λ y. same_name y.owner n) (zone_of_raw sorted) z of_type.0 in
-    let raw = from_map see sorted z of_owner.0 in
-    let place = in_contains sorted raw.0 raw.1 in
+    any_two clashes (zone_of_raw (filter (is_in_set n t) sorted)) (zone_of_raw (filter (is_in_set n t) given)) (λ z i.
+    let raw = from_map see (filter (is_in_set n t) sorted) z i in
+    let of_set = in_filter (is_in_set n t) sorted raw.0 raw.1 in
+    let place = in_contains sorted raw.0 of_set.0 in
     let among = contains_in given raw.0 (subst (Contains given) place.2 (s.set.among place.0 raw.0 place.1)) in
-    in_filtered (λ y. nat_eq y.rtype t) (records_of (zone_of_raw given) n) z (in_filtered (λ y. same_name y.owner n) (zone_of_raw given) z
-    (subst (λ y. In y (zone_of_raw given)) raw.2 (in_map see given raw.0 among)) of_owner.1) of_type.1) h
+    subst (λ y. In y (zone_of_raw (filter (is_in_set n t) given))) raw.2 (in_map see _ raw.0 (in_filtered (is_in_set n t) given raw.0 among of_set.1)))
+    (ap has_clash (sym (set_of_raw sorted n t)) ∙ h.clash)
 
 apart : (z y : ZoneRecord) (w : ℕ) → z.ttl ≡ w → y.ttl ≡ w → clashes z y ≡ false
 apart z y w e f = grind (arith, common_steps)
@@ -99,22 +104,20 @@ ttl_or_0 (Some w) = w
 
 -- so their TTLs are equal
 even_given : (given : List RawRecord) (n : Name) (t : ℕ) (first : Option ℕ) → AllByRecursion (HasFirst n t first) given
-    → has_clash (set_of (zone_of_raw given) n t) ≡ false
+    → has_clash (zone_of_raw (filter (is_in_set n t) given)) ≡ false
 even_given given n t first h =
     one_is_even _ (ttl_or_0 first) (all_from_in _ _ (λ z i.
-    let of_type = in_filter (λ y. nat_eq y.rtype t) (records_of (zone_of_raw given) n) z i in
-    let of_owner = in_filter (λ y. same_name y.owner n) (zone_of_raw given) z of_type.0 in
-    let raw = from_map see given z of_owner.0 in
-    let among : is_in_set n t raw.0 ≡ true = and_from _ (nat_eq raw.0.«data».rtype t) (ap (λ y. same_name y.owner n) raw.2 ∙ of_owner.1)
-    (ap (λ y. nat_eq y.rtype t) raw.2 ∙ of_type.1) in
-    ap (λ y. y.ttl) (sym raw.2) ∙ sym (ap ttl_or_0 (all_in (HasFirst n t first) given raw.0 h raw.1 among))))
+    let raw = from_map see (filter (is_in_set n t) given) z i in
+    let of_set = in_filter (is_in_set n t) given raw.0 raw.1 in
+    ap (λ y. y.ttl) (sym raw.2) ∙ sym (ap ttl_or_0 (all_in (HasFirst n t first) given raw.0 h of_set.0 of_set.1))))
 
 not_other : (first : Option ℕ) (w u : ℕ) → is_other first w ≡ false → first ≡ Some u → Some w ≡ Some u
 not_other first w u same is = ap (λ v. Some v) (sym (eqb-true u w (not-false (nat_eq u w) (ap (λ o. is_other o w) (sym is) ∙ same))))
 
 module _ {octets left : List ℕ} {n : Name} {t : ℕ} {first : Option ℕ} (s : IsScanned octets n t left first) where
   -- all were read, though some of them clash
-  pub scanned_all : {class : ℕ} {given : List RawRecord} → AreGiven class octets given → has_clash (set_of (zone_of_raw given) n t) ≡ true → left ≡ [] → ⊥
+  pub scanned_all : {class : ℕ} {given : List RawRecord} → AreGiven class octets given
+      → has_clash (zone_of_raw (filter (is_in_set n t) given)) ≡ true → left ≡ [] → ⊥
   scanned_all g clash none =
       let read = all_read left s.before _ (rest_given g s.past) none in
       false≢true (sym (even_given _ n t first (subst (AllByRecursion (HasFirst n t first)) read s.same)) ∙ clash)

@@ -5,7 +5,7 @@ use Rattle.domain_octets.specs.Words.{Octets}
 use Rattle.domain_names.specs.Words.{Name}
 use Rattle.domain_nsec.specs.{Chain.{Link, IsChain, IsFirstFault}, declared.config.GenerateNsecConfig.GenerateNsecConfig}
 use Rattle.domain_nsec3.specs.{Chain.{ChainRecords, IsChainParam, IsHashedChain}, Config.{excludes, ChainConfig, Parameters}}
-use Rattle.domain_nsec3.specs.{Faults.IsFirstFault as IsFirstHashedFault, View.hash_by, declared.config.Nsec3ParamTtlMode.{Nsec3ParamTtlMode, TheVariants.Soa}}
+use Rattle.domain_nsec3.specs.{Faults.IsFirstFault as IsFirstHashedFault, View.hash_by, declared.config.Nsec3ParamTtlMode.Nsec3ParamTtlMode}
 use Rattle.domain_hasher.specs.declared.error.Nsec3HashError.{Nsec3HashError}
 use Rattle.domain_hasher.specs.declared.error.Nsec3HashError.TheVariants as hash_error
 use Rattle.domain_records.specs.{Order.{IsInOrder, IsOneClass}, declared.error.SigningError.SigningError}
@@ -14,7 +14,7 @@ use Rattle.domain_zone.specs.{Owners.covered_names, Zone.{records_of, IsFirstCla
 use Rattle.domain_sha1.specs.Iterated.{sha1_answer}
 use Rattle.domain_dnssec.specs.{RawRecords.Sorts, Wire.{nsecs_octets, nsec3s_octets}}
 use Rattle.domain_borrowed.specs.Data.{RawRecord, zone_of_raw}
-use Rattle.denial_c.specs.{Given.{AreGiven, HasNoRecordAt, HasOtherClassAt}, Numbers.chain_told, Result.{IsSpelled, Spells}}
+use Rattle.denial_c.specs.{Given.{AreGiven, HasNoRecordAt, HasOtherClassAt}, Result.{IsSpelled, Spells}}
 use Rattle.denial_c.specs.{Uneven.{IsFirstUneven, IsUnevenAt}, declared.{fault.Fault.Fault, nsec3_chain.Hashing.Hashing}}
 use Rattle.denial_c.specs.declared.fault.Fault.TheVariants as fault
 
@@ -77,8 +77,8 @@ nsec_making config =
       names = covered_names false config.occlude_below_dname;
     }
 
--- NSEC3 records and their NSEC3PARAM record; want of memory leaves open whether a fault of hashing
--- stands
+-- NSEC3 records and their NSEC3PARAM record, which by `Soa` has the TTL of the SOA record; want of
+-- memory leaves open whether a fault of hashing stands
 abbrev pub nsec3_making : Nsec3ParamTtlMode → ChainConfig → Making
 nsec3_making mode config =
     record {
@@ -178,21 +178,3 @@ IsChainResult making apex class records (Ok count) old new =
     × making.is_chain a sorted written × IsWritten written old new count)
 IsChainResult making apex class records (Err e) old new =
     IsChainFault making apex class records old e × (new ≡ old)
-
-abbrev pub IsNsecChainResult : Octets → ℕ → GenerateNsecConfig → Octets → Result ℕ Fault
-    → Octets → Octets → Type 0
-IsNsecChainResult apex class config = IsChainResult (nsec_making config) apex class
-
--- the NSEC3PARAM record has the TTL of the SOA record
-abbrev pub IsNsec3ChainResult : Octets → ℕ → ChainConfig → Octets → Result ℕ Fault → Octets
-    → Octets → Type 0
-IsNsec3ChainResult apex class config = IsChainResult (nsec3_making Soa config) apex class
-
--- ---- what C is told
-
--- the numbers are those of a result with this property
-pub record IsChainTold (IsResult : Result ℕ Fault → Octets → Octets → Type 0) (number : ℕ)
-    (count : ℕ) (old new : Octets) : Type 0 where
-  pub answer : Result ℕ Fault
-  pub is : IsResult answer old new
-  pub tells : (number, count) ≡ chain_told answer

@@ -6,7 +6,7 @@ use Rattle.domain_names.specs.{Name.{lowered, wire_of}, Words.Name}
 use Rattle.domain_alike.specs.Alike.{IsFirstPair, Pair}
 use Rattle.domain_borrowed.specs.Data.{zone_of_raw}
 use Rattle.domain_nsec3.specs.Config.{ChainConfig}
-use Rattle.denial_c.specs.{Chains.{HasZone, IsChainFault, IsFit, Making}, Numbers.collision_number, declared.fault.Fault.Fault}
+use Rattle.denial_c.specs.{Chains.{HasZone, IsChainFault, IsFit, Making}, declared.fault.Fault.Fault}
 
 -- of the chain of the records, in whatever order they stand, this is the first pair of names that
 -- hash alike, or it has none
@@ -50,11 +50,3 @@ IsCollisionResult apex class config records (Ok false) earlier later =
 IsCollisionResult apex class config records (Err e) earlier later =
     IsChainFault (pair_making config) apex class records earlier.old e × IsKept earlier
     × IsKept later
-
--- ---- what C is told
-
--- the number is that of a result with this property
-pub record IsCollisionTold (IsResult : Result Bool Fault → Type 0) (number : ℕ) : Type 0 where
-  pub answer : Result Bool Fault
-  pub is : IsResult answer
-  pub tells : number ≡ collision_number answer

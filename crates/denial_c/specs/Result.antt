@@ -9,7 +9,7 @@ use Rattle.domain_sha1.specs.Iterated.{sha1_answer}
 use Rattle.domain_hasher.specs.declared.error.Nsec3HashError.{Nsec3HashError}
 use Rattle.domain_hasher.specs.declared.error.Nsec3HashError.TheVariants as hash_error
 use Rattle.domain_checker.specs.{HashedReading.IsHashedChecked, HashedView.{HashedRecords, links_with}, Reading.IsChecked, declared.verdict.Verdict.Verdict}
-use Rattle.denial_c.specs.{Among.{AreNsecs, AreNsec3s, AreParams, HasNone, IsReadFault}, Numbers.told_by, declared.fault.Fault.Fault}
+use Rattle.denial_c.specs.{Among.{AreNsecs, AreNsec3s, AreParams, HasNone, IsReadFault}, declared.fault.Fault.Fault}
 use Rattle.denial_c.specs.declared.fault.Fault.TheVariants as fault
 use Rattle.denial_c.specs.declared.nsec3.Telling.{Telling}
 use Rattle.denial_c.specs.declared.nsec3.Telling.TheVariants as telling
@@ -96,11 +96,9 @@ IsParamFault a class records e = IsReadFault (AreParams a class records) e
 
 -- why not both are there
 abbrev pub IsChainFault : ℕ → Octets → Name → Fault → Type 0
-IsChainFault class records a fault.Records =
-    HasNone (AreNsec3s class records) ⊎ HasNone (AreParams a class records)
-IsChainFault class records a fault.Param =
-    (links : List HashedLink) × AreNsec3s class records links × HasNoParam a class records
-IsChainFault class records a e = IsReadFault (AreNsec3s class records) e
+IsChainFault class records a e =
+    IsReadFault (AreNsec3s class records) e
+    ⊎ (((links : List HashedLink) × AreNsec3s class records links) × IsParamFault a class records e)
 
 -- the NSEC3 records of a class, and the one NSEC3PARAM record of the apex
 pub record AreWithParam (class : ℕ) (records : Octets) (a : Name) (links : List HashedLink)
@@ -165,10 +163,11 @@ IsNsec3Fault source apex name refused fault.Hasher = refused
 IsNsec3Fault source apex name refused fault.OutOfMemory = Unit {0}
 IsNsec3Fault source apex name refused _ = ⊥
 
--- the fault that an error of a check is
-abbrev pub fault_of : Nsec3HashError → Fault
-fault_of hash_error.OutOfMemory = fault.OutOfMemory
-fault_of e = fault.Hasher
+-- what a check tells, with the fault in place of its error
+abbrev pub told_or_fault : {V : Type 0} → Result V Nsec3HashError → Result V Fault
+told_or_fault (Ok told) = Ok told
+told_or_fault (Err hash_error.OutOfMemory) = Err fault.OutOfMemory
+told_or_fault (Err e) = Err fault.Hasher
 
 -- what the library tells of a question, which may be the hasher's refusal, or why nothing is told
 abbrev pub IsHashedResult : {V : Type 0} → Source → Octets → Octets
@@ -185,8 +184,7 @@ IsNsec3Result source apex name t =
 -- ---- what C is told
 
 -- the numbers are those of an answer with this property
-pub record IsTold {V : Type 0} (told : V → ℕ × ℕ) (IsAnswer : Result V Fault → Type 0)
-    (number labels : ℕ) : Type 0 where
-  pub answer : Result V Fault
+pub record IsTold {A N : Type 0} (told : A → N) (numbers : N) (IsAnswer : A → Type 0) : Type 0 where
+  pub answer : A
   pub is : IsAnswer answer
-  pub tells : (number, labels) ≡ told_by told answer
+  pub tells : numbers ≡ told answer

@@ -1,18 +1,15 @@
 -- Where records of one owner and type differ in TTL (RFC 2181, section 5.2).
-use Rattle.std.specs.Prelude.{◌≡◌, ◌≢◌, ℕ, ◌==◌, ◌&&◌, not, Bool, true, false, List, ◌∷◌, ◌++◌, filter, Option, Some, None}
+use Rattle.std.specs.Prelude.{◌≡◌, ◌≢◌, ℕ, ◌==◌, ◌&&◌, not, Bool, true, false, List, ◌∷◌, ◌++◌, Option, Some, None}
 use Rattle.std.specs.List.{list_any, AllByRecursion}
 use Rattle.domain_octets.specs.Words.{Octets}
 use Rattle.domain_names.specs.{Name.same_name, Words.Name}
-use Rattle.domain_zone.specs.Zone.{ZoneRecord, has_unequal_ttls, records_of}
+use Rattle.domain_zone.specs.Zone.{ZoneRecord, has_unequal_ttls}
 use Rattle.domain_borrowed.specs.{Data.RawRecord, Wire.{record_octets, IsRecord}}
 use Rattle.denial_c.specs.Given.{IsReadUpTo}
 
 -- of the owner and the type
 abbrev pub is_in_set : Name → ℕ → RawRecord → Bool
 is_in_set n t r = same_name r.owner n && (r.«data».rtype == t)
-
-abbrev pub set_of : List ZoneRecord → Name → ℕ → List ZoneRecord
-set_of L n t = filter (λ z. z.rtype == t) (records_of L n)
 
 -- of these names the owner is the first of which records clash
 pub record IsFirstUneven (L : List ZoneRecord) (names : List Name) (owner : Name) : Type 0 where

@@ -1,10 +1,10 @@
 //! The records that octets are, one after another, and those among them that count.
 ghost use Rattle.std.specs.Prelude.{◌≡◌, ◌<◌, ◌++◌, ◌&&◌, ◌==◌, map, length, IfErr, IfNone, IfOk, IfSome, OnSome};
 ghost use Rattle.domain_borrowed.specs.Wire.{record_octets, IsRecord};
-ghost use Rattle.denial_c.specs.{Among.{is_of, AreAmong, IsReadFault}, Given.BeginsNone};
+ghost use Rattle.denial_c.specs.{Among.{AreAmong, IsReadFault}, Given.BeginsNone};
 
 use crate::fault::Fault;
-use domain_base::{Class, ParsedName, Rtype};
+use domain_base::{Class, ParsedName};
 use domain_borrowed::{BorrowedRecord, ReadAs, read_record};
 use domain_octets::Parser;
 use std::alloc::Global;
@@ -24,15 +24,8 @@ pub(crate) fn next_record<'a>(parser: &mut Parser<'a>) -> Option<BorrowedRecord<
     Some(next)
 }
 
-/// Whether the record is of the type and the class.
-pub(crate) fn is_of(borrowed: &BorrowedRecord<'_>, rtype: Rtype, class: Class) -> bool
-    ensures { result ≡ is_of rtype class borrowed.now }
-{
-    (borrowed.rtype() == rtype) & (borrowed.class() == class)
-}
-
 /// Whether a record counts where this apex is asked for, and is of the class.
-fn is_kept<'a, K: ReadAs<'a>>(
+pub(crate) fn is_kept<'a, K: ReadAs<'a>>(
     borrowed: &BorrowedRecord<'a>,
     apex: &ParsedName<'_>,
     class: Class,

@@ -53,6 +53,7 @@ fn first_pair<'a>(
 /// The first that stands: `Apex`; `LongSalt`; `NoRecord` or `Class`, whichever comes first in the
 /// octets; and `OutOfMemory`. Other faults of the zone are not looked for. Without an answer both
 /// buffers stay as they were.
+#[tactic(auto, using(std::proofs::lemmas::Grind::common_steps, crate::proofs::ChainLemmas::pair_found))]
 pub(crate) fn collision(
     alloc: Global,
     apex: &[u8],

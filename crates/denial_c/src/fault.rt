@@ -1,6 +1,6 @@
 //! Why there is no answer, no verdict or no chain, and the numbers of that.
 ghost use Rattle.std.specs.Prelude.{◌≡◌};
-ghost use Rattle.denial_c.specs.{Numbers.{fault_number, fault_told}, Result.fault_of};
+ghost use Rattle.denial_c.specs.{Numbers.{fault_number, fault_told}, Result.told_or_fault};
 ghost use Rattle.denial_c.specs.declared.fault.Fault.TheVariants.{OutOfMemory as memory};
 
 use domain_hasher::Nsec3HashError;
@@ -41,15 +41,15 @@ pub(crate) enum Fault {
     Collision,
 }
 
-/// Names that the hasher refuses, and want of memory; a verdict has no other error.
-impl From<Nsec3HashError> for Fault {
-    ghost from_gives = { λ error fault. fault ≡ fault_of error };
-
-    fn from(error: Nsec3HashError) -> Fault {
-        match error {
-            Nsec3HashError::OutOfMemory => Fault::OutOfMemory,
-            _ => Fault::Hasher,
-        }
+/// What a check tells. Its errors are want of memory, and names that the hasher refuses; it has no
+/// others.
+pub(crate) fn told_or_fault<V>(told: Result<V, Nsec3HashError>) -> Result<V, Fault>
+    ensures { result ≡ told_or_fault told }
+{
+    match told {
+        Ok(told) => Ok(told),
+        Err(Nsec3HashError::OutOfMemory) => Err(Fault::OutOfMemory),
+        Err(_) => Err(Fault::Hasher),
     }
 }
 

@@ -3,7 +3,7 @@ ghost use Rattle.denial_c.specs.Result.{source_of};
 ghost use Rattle.denial_c.specs.Judged.{IsExpansionAnswer, IsNsecAnswer, IsNsec3Answer};
 
 use crate::among::records_among;
-use crate::fault::Fault;
+use crate::fault::{Fault, told_or_fault};
 use crate::nsec::read_name;
 use crate::nsec3::Telling;
 use crate::question::{Question, read_question};
@@ -33,6 +33,7 @@ pub(crate) fn nsec_answer(
 
 /// What the NSEC3 records of the class among the records that the octets are answer to the name and
 /// the type, with at most so many iterations.
+#[tactic(auto, using(std::proofs::lemmas::Grind::common_steps))]
 pub(crate) fn nsec3_answer(
     alloc: Global,
     telling: Telling,
@@ -48,13 +49,13 @@ pub(crate) fn nsec3_answer(
 {
     let Question { apex, name, chain } = read_question(alloc, telling, apex, name, class, records)?;
     let rtype = Rtype::from_int(rtype);
-    let answer = judge_nsec3(alloc, &apex, &chain, &name, rtype, limit, &Sha1Hasher)?;
-    Ok(answer)
+    told_or_fault(judge_nsec3(alloc, &apex, &chain, &name, rtype, limit, &Sha1Hasher))
 }
 
 /// What the NSEC3 records of the class among the records that the octets are answer of the name,
 /// whose records were expanded from a wildcard and have signatures with so many labels, with at
 /// most so many iterations.
+#[tactic(auto, using(std::proofs::lemmas::Grind::common_steps))]
 pub(crate) fn expansion_answer(
     alloc: Global,
     telling: Telling,
@@ -70,6 +71,5 @@ pub(crate) fn expansion_answer(
 {
     let Question { apex, name, chain } = read_question(alloc, telling, apex, name, class, records)?;
     let labels = usize::from(rrsig_labels);
-    let answer = judge_nsec3_expansion(alloc, &apex, &chain, &name, labels, limit, &Sha1Hasher)?;
-    Ok(answer)
+    told_or_fault(judge_nsec3_expansion(alloc, &apex, &chain, &name, labels, limit, &Sha1Hasher))
 }

@@ -9,10 +9,11 @@
 #![tactic(auto)]
 
 ghost use Rattle.std.specs.Prelude.{◌≡◌, false};
-ghost use Rattle.denial_c.specs.Chains.{hashed_config, IsChainTold, IsNsecChainResult, IsNsec3ChainResult};
-ghost use Rattle.denial_c.specs.Collisions.{IsCollisionResult, IsCollisionTold};
+ghost use Rattle.domain_nsec3.specs.declared.config.Nsec3ParamTtlMode.TheVariants.{Soa};
+ghost use Rattle.denial_c.specs.Chains.{hashed_config, nsec_making, nsec3_making, IsChainResult};
+ghost use Rattle.denial_c.specs.Collisions.{IsCollisionResult};
 ghost use Rattle.denial_c.specs.Judged.{IsExpansionAnswer, IsNsecAnswer, IsNsec3Answer};
-ghost use Rattle.denial_c.specs.Numbers.{answer_told, verdict_told};
+ghost use Rattle.denial_c.specs.Numbers.{answer_told, chain_told, collision_number, told_by, verdict_told};
 ghost use Rattle.denial_c.specs.Result.{alone, with_param, IsNsecResult, IsNsec3Result, IsTold};
 ghost use Rattle.denial_c.specs.Texts.{text_of, IsText};
 
@@ -71,8 +72,8 @@ pub extern "C" fn denial_judge_nsec(
     records: &[u8],
     labels: &mut usize,
 ) -> u32
-    ensures { IsTold answer_told
-        (IsNsecAnswer apex.now name.now rtype class records.now) result labels.new }
+    ensures { IsTold (told_by answer_told) (result, labels.new)
+        (IsNsecAnswer apex.now name.now rtype class records.now) }
 {
     let answer = judge::nsec_answer(alloc, apex, name, rtype, class, records);
     tell(answer_told(answer), labels)
@@ -95,9 +96,8 @@ pub extern "C" fn denial_judge_nsec3(
     records: &[u8],
     labels: &mut usize,
 ) -> u32
-    ensures { IsTold answer_told
-        (IsNsec3Answer (with_param class records.now) apex.now name.now rtype limit)
-        result labels.new }
+    ensures { IsTold (told_by answer_told) (result, labels.new)
+        (IsNsec3Answer (with_param class records.now) apex.now name.now rtype limit) }
 {
     let told = Telling::ByRecord;
     let answer = judge::nsec3_answer(alloc, told, apex, name, rtype, class, limit, records);
@@ -123,8 +123,8 @@ pub extern "C" fn denial_judge_nsec3_alone(
     records: &[u8],
     labels: &mut usize,
 ) -> u32
-    ensures { IsTold answer_told
-        (IsNsec3Answer (alone class records.now) apex.now name.now rtype limit) result labels.new }
+    ensures { IsTold (told_by answer_told) (result, labels.new)
+        (IsNsec3Answer (alone class records.now) apex.now name.now rtype limit) }
 {
     let told = Telling::ByFirst;
     let answer = judge::nsec3_answer(alloc, told, apex, name, rtype, class, limit, records);
@@ -149,9 +149,8 @@ pub extern "C" fn denial_judge_nsec3_expansion(
     records: &[u8],
     labels: &mut usize,
 ) -> u32
-    ensures { IsTold answer_told
-        (IsExpansionAnswer (with_param class records.now) apex.now name.now rrsig_labels limit)
-        result labels.new }
+    ensures { IsTold (told_by answer_told) (result, labels.new)
+        (IsExpansionAnswer (with_param class records.now) apex.now name.now rrsig_labels limit) }
 {
     let told = Telling::ByRecord;
     let answer = expansion_answer(alloc, told, apex, name, rrsig_labels, class, limit, records);
@@ -175,9 +174,8 @@ pub extern "C" fn denial_judge_nsec3_expansion_alone(
     records: &[u8],
     labels: &mut usize,
 ) -> u32
-    ensures { IsTold answer_told
-        (IsExpansionAnswer (alone class records.now) apex.now name.now rrsig_labels limit)
-        result labels.new }
+    ensures { IsTold (told_by answer_told) (result, labels.new)
+        (IsExpansionAnswer (alone class records.now) apex.now name.now rrsig_labels limit) }
 {
     let told = Telling::ByFirst;
     let answer = expansion_answer(alloc, told, apex, name, rrsig_labels, class, limit, records);
@@ -197,8 +195,8 @@ pub extern "C" fn denial_check_nsec(
     records: &[u8],
     labels: &mut usize,
 ) -> u32
-    ensures { IsTold verdict_told
-        (IsNsecResult apex.now name.now rtype class records.now) result labels.new }
+    ensures { IsTold (told_by verdict_told) (result, labels.new)
+        (IsNsecResult apex.now name.now rtype class records.now) }
 {
     let verdict = nsec::nsec_verdict(apex, name, rtype, class, records);
     tell(verdict_told(verdict), labels)
@@ -219,8 +217,8 @@ pub extern "C" fn denial_check_nsec3(
     records: &[u8],
     labels: &mut usize,
 ) -> u32
-    ensures { IsTold verdict_told
-        (IsNsec3Result (with_param class records.now) apex.now name.now rtype) result labels.new }
+    ensures { IsTold (told_by verdict_told) (result, labels.new)
+        (IsNsec3Result (with_param class records.now) apex.now name.now rtype) }
 {
     let verdict = nsec3::nsec3_verdict(alloc, Telling::ByRecord, apex, name, rtype, class, records);
     tell(verdict_told(verdict), labels)
@@ -242,8 +240,8 @@ pub extern "C" fn denial_check_nsec3_alone(
     records: &[u8],
     labels: &mut usize,
 ) -> u32
-    ensures { IsTold verdict_told
-        (IsNsec3Result (alone class records.now) apex.now name.now rtype) result labels.new }
+    ensures { IsTold (told_by verdict_told) (result, labels.new)
+        (IsNsec3Result (alone class records.now) apex.now name.now rtype) }
 {
     let verdict = nsec3::nsec3_verdict(alloc, Telling::ByFirst, apex, name, rtype, class, records);
     tell(verdict_told(verdict), labels)
@@ -266,11 +264,11 @@ pub extern "C" fn denial_nsec_chain(
     chain: &mut [u8],
     count: &mut usize,
 ) -> u32
-    ensures { IsChainTold
-        (IsNsecChainResult apex.now class (record {
+    ensures { IsTold chain_told (result, count.new)
+        (λ made. IsChainResult (nsec_making (record {
           assume_dnskeys_will_be_added = assume_dnskey;
           occlude_below_dname = occlude_below_dname;
-        }) records.now) result count.new chain.old chain.new }
+        })) apex.now class records.now made chain.old chain.new) }
 {
     let config = GenerateNsecConfig {
         assume_dnskeys_will_be_added: assume_dnskey,
@@ -301,10 +299,10 @@ pub extern "C" fn denial_nsec3_chain(
     chain: &mut [u8],
     count: &mut usize,
 ) -> u32
-    ensures { IsChainTold
-        (IsNsec3ChainResult apex.now class
-        (hashed_config iterations salt.now opt_out assume_dnskey occlude_below_dname) records.now)
-        result count.new chain.old chain.new }
+    ensures { IsTold chain_told (result, count.new)
+        (λ made. IsChainResult (nsec3_making Soa
+        (hashed_config iterations salt.now opt_out assume_dnskey occlude_below_dname))
+        apex.now class records.now made chain.old chain.new) }
 {
     let hashing = Hashing {
         iterations,
@@ -337,11 +335,11 @@ pub extern "C" fn denial_nsec3_collision(
     earlier: &mut [u8; MAX_NAME],
     later: &mut [u8; MAX_NAME],
 ) -> u32
-    ensures { IsCollisionTold
+    ensures { IsTold collision_number result
         (λ answer. IsCollisionResult apex.now class
         (hashed_config iterations salt.now opt_out false occlude_below_dname) records.now answer
         (record { old = earlier.old; new = earlier.new })
-        (record { old = later.old; new = later.new })) result }
+        (record { old = later.old; new = later.new })) }
 {
     let hashing = Hashing {
         iterations,

@@ -3,9 +3,9 @@ ghost use Rattle.std.specs.Prelude.{◌≡◌, ℕ, List, ◌++◌, IfErr, IfOk}
 ghost use Rattle.domain_names.specs.Words.{Name};
 ghost use Rattle.domain_nsec.specs.Chain.{Link};
 ghost use Rattle.domain_checker.specs.HandedIn.{HasRead};
-ghost use Rattle.denial_c.specs.{Among.AreNsecs, Result.{IsNsecResult, Spells, IsSpelled}};
+ghost use Rattle.denial_c.specs.{Among.{AreNsecs, HasNone}, Result.{IsNsecResult, Spells, IsSpelled}};
 
-use crate::among::{is_of, next_record};
+use crate::among::{is_kept, next_record};
 use crate::fault::Fault;
 use domain_base::laws::octets_begin_with_one_name;
 use domain_base::{Class, ParsedName, Rtype, ToName};
@@ -30,19 +30,24 @@ pub(crate) fn read_name(octets: &[u8], fault: Fault) -> Result<ParsedName<'_>, F
 
 /// Hands in the NSEC records of the class among the records that the octets are. Refuses octets
 /// that are no records, and NSEC records whose data are none; some are handed in then.
-fn hand_in(check: &mut NsecCheck<'_>, class: Class, octets: &[u8]) -> Result<(), Fault>
+fn hand_in(
+    check: &mut NsecCheck<'_>,
+    apex: &ParsedName<'_>,
+    class: Class,
+    octets: &[u8],
+) -> Result<(), Fault>
     ensures ok { IfOk result (λ _. (links : List Link) × AreNsecs class octets.now links
         × ((a x : Name) (t : ℕ) (before : List Link) → HasRead a x t before check.old
         → HasRead a x t (before ++ links) check.new)) }
     ensures err { IfErr result (λ e. (e ≡ Fault.Records)
-        × ((links : List Link) → AreNsecs class octets.now links → ⊥)) }
+        × HasNone (AreNsecs class octets.now)) }
 {
     let mut parser = Parser::new(octets);
     'records: while parser.remaining() > 0 {
         let Some(record) = next_record(&mut parser) else {
             return Err(Fault::Records);
         };
-        if is_of(&record, Rtype::NSEC, class) {
+        if is_kept::<ReadNsec<'_>>(&record, apex, class) {
             let Some(nsec) = ReadNsec::read(record) else {
                 return Err(Fault::Records);
             };
@@ -66,6 +71,6 @@ pub(crate) fn nsec_verdict(
     let apex = read_name(apex, Fault::Apex)?;
     let name = read_name(name, Fault::Name)?;
     let mut check = NsecCheck::new(&apex, &name, Rtype::from_int(rtype));
-    hand_in(&mut check, Class::from_int(class), records)?;
+    hand_in(&mut check, &apex, Class::from_int(class), records)?;
     Ok(check.verdict())
 }

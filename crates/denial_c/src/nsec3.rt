@@ -6,7 +6,7 @@ ghost use Rattle.domain_checker.specs.HashedView.{links};
 ghost use Rattle.denial_c.specs.Result.{first_parameters, is_known, source_of, AreAlone, AreWithParam, IsChainFault, IsNsec3Result, IsParamFault};
 
 use crate::among::records_among;
-use crate::fault::Fault;
+use crate::fault::{Fault, told_or_fault};
 use crate::question::{Question, read_question};
 use domain_base::{Class, Nsec3HashAlgorithm, ParsedName, Rtype, ToName, Ttl};
 use domain_borrowed::{ReadNsec3, ReadNsec3param};
@@ -147,6 +147,7 @@ pub(crate) fn chain_told<'a>(
 
 /// What the NSEC3 records of the class among the records that the octets are prove of the name and
 /// the type.
+#[tactic(auto, using(std::proofs::lemmas::Grind::common_steps))]
 pub(crate) fn nsec3_verdict(
     alloc: Global,
     telling: Telling,
@@ -160,6 +161,5 @@ pub(crate) fn nsec3_verdict(
 {
     let Question { apex, name, chain } = read_question(alloc, telling, apex, name, class, records)?;
     let rtype = Rtype::from_int(rtype);
-    let verdict = check_nsec3(alloc, &apex, &chain, &name, rtype, &Sha1Hasher)?;
-    Ok(verdict)
+    told_or_fault(check_nsec3(alloc, &apex, &chain, &name, rtype, &Sha1Hasher))
 }

@@ -3,7 +3,7 @@ ghost use Rattle.std.specs.Prelude.{◌≡◌, ◌≤◌, ◌<◌, length, IfErr
 ghost use Rattle.domain_nsec3.specs.View.{config_of};
 ghost use Rattle.domain_nsec3.specs.declared.config.Nsec3ParamTtlMode.TheVariants.{Soa};
 ghost use Rattle.domain_sha1.specs.Iterated.{sha1_answer};
-ghost use Rattle.denial_c.specs.Chains.{config_by, hashing_fault, nsec3_making, AreSorted, IsNsec3ChainResult, IsSortedFault};
+ghost use Rattle.denial_c.specs.Chains.{config_by, hashing_fault, nsec3_making, AreSorted, IsChainResult, IsSortedFault};
 ghost use Rattle.denial_c.specs.declared.fault.Fault.TheVariants as fault;
 
 use crate::fault::Fault;
@@ -130,6 +130,7 @@ fn sorted_nsec3s(
 /// The first that stands: `Apex`; `LongSalt`; `NoRecord` or `Class`, whichever comes first in the
 /// octets; `Soa`, `Ttls`, `LongOwner` or `Collision`, the first fault of the zone; `OutOfMemory`,
 /// which leaves the last four open; and `ShortBuffer`. The buffer stays as it was.
+#[tactic(auto, using(std::proofs::lemmas::Grind::common_steps, crate::proofs::ChainLemmas::chain_fault, crate::proofs::ChainLemmas::chain_result))]
 pub(crate) fn nsec3_chain(
     alloc: Global,
     apex: &[u8],
@@ -138,8 +139,8 @@ pub(crate) fn nsec3_chain(
     records: &[u8],
     buffer: &mut [u8],
 ) -> Result<usize, Fault>
-    ensures { IsNsec3ChainResult apex.now class (config_by hashing.entry) records.now result
-        buffer.old buffer.new }
+    ensures { IsChainResult (nsec3_making Soa (config_by hashing.entry)) apex.now class records.now
+        result buffer.old buffer.new }
 {
     let apex = read_name(apex, Fault::Apex)?;
     let config = config_with(hashing)?;

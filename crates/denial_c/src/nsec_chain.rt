@@ -1,6 +1,6 @@
 //! The NSEC chain of the records in octets.
 ghost use Rattle.std.specs.Prelude.{◌≡◌, ◌<◌, length, IfErr, IfOk};
-ghost use Rattle.denial_c.specs.Chains.{nsec_making, AreSorted, IsNsecChainResult, IsSortedFault, IsWritten};
+ghost use Rattle.denial_c.specs.Chains.{nsec_making, AreSorted, IsChainResult, IsSortedFault, IsWritten};
 ghost use Rattle.denial_c.specs.declared.fault.Fault.TheVariants as fault;
 
 use crate::fault::Fault;
@@ -86,6 +86,7 @@ pub(crate) fn write_octets(octets: &[u8], buffer: &mut [u8]) -> Result<usize, Fa
 /// The first that stands: `Apex`; `NoRecord` or `Class`, whichever comes first in the octets; `Soa`
 /// or `Ttls`, the first fault of the zone; `OutOfMemory`, which leaves the last two open; and
 /// `ShortBuffer`. The buffer stays as it was.
+#[tactic(auto, using(std::proofs::lemmas::Grind::common_steps, crate::proofs::ChainLemmas::chain_fault, crate::proofs::ChainLemmas::chain_result))]
 pub(crate) fn nsec_chain(
     alloc: Global,
     apex: &[u8],
@@ -94,7 +95,8 @@ pub(crate) fn nsec_chain(
     records: &[u8],
     buffer: &mut [u8],
 ) -> Result<usize, Fault>
-    ensures { IsNsecChainResult apex.now class config.now records.now result buffer.old buffer.new }
+    ensures { IsChainResult (nsec_making config.now) apex.now class records.now result buffer.old
+        buffer.new }
 {
     let apex = read_name(apex, Fault::Apex)?;
     let class = Class::from_int(class);

@@ -1,11 +1,11 @@
 //! Where records of one owner and type differ in TTL.
-ghost use Rattle.std.specs.Prelude.{◌≡◌, List, true, false, IfNone, IfSome};
+ghost use Rattle.std.specs.Prelude.{◌≡◌, List, filter, true, false, IfNone, IfSome};
 ghost use Rattle.domain_borrowed.specs.Data.{RawRecord, zone_of_raw};
 ghost use Rattle.domain_records.specs.Order.{IsInOrder};
 ghost use Rattle.domain_zone.specs.{Owners.covered_names, Zone.{has_clash, has_unequal_ttls, records_of, IsFirstClash}};
 ghost use Rattle.denial_c.specs.Chains.{AreSorted, IsSortedUnevenAt};
 ghost use Rattle.denial_c.specs.Given.{AreGiven};
-ghost use Rattle.denial_c.specs.Uneven.{is_in_set, is_other, set_of, IsFirstUneven, IsUnevenAt};
+ghost use Rattle.denial_c.specs.Uneven.{is_in_set, is_other, IsFirstUneven, IsUnevenAt};
 
 use crate::among::next_record;
 use domain_base::{Class, ParsedName, Rtype, ToName, Ttl};
@@ -74,8 +74,8 @@ fn is_other(first: Option<Ttl>, ttl: Ttl) -> bool
 /// before it.
 #[tactic(auto, using(std::proofs::lemmas::Grind::common_steps, crate::proofs::UnevenLemmas::scanned_other, crate::proofs::UnevenLemmas::scanned_same))]
 fn uneven_offset(class: Class, octets: &[u8], set: &RrsetKey<'_>) -> usize
-    requires { (given : List RawRecord) × AreGiven class octets.now given × (has_clash (set_of
-        (zone_of_raw given) set.now.owner set.now.rtype) ≡ true) }
+    requires { (given : List RawRecord) × AreGiven class octets.now given × (has_clash (zone_of_raw
+        (filter (is_in_set set.now.owner set.now.rtype) given)) ≡ true) }
     ensures { IsUnevenAt class octets.now set.now.owner set.now.rtype result }
 {
     let mut first: Option<Ttl> = None;

@@ -1,21 +1,9 @@
-use Rattle.std.proofs.{Common.arith, lemmas.{Grind.common_steps, Result.err_from_is_err_and}}
 use Rattle.domain_answer.specs.Judged.{IsHashedJudged}
-use Rattle.denial_c.{specs.{Question.as_question, Result.sha1_records}, proofs.Nsec3Lemmas.hash_fault}
+use Rattle.denial_c.{specs.Result.sha1_records, proofs.Nsec3Lemmas.hashed_told}
 use Rattle.denial_c.proofs.judge.nsec3_answer.Goals as goal
 
-pub returns-in_err-apex : goal.returns-in_err-apex
-returns-in_err-apex c = grind (arith, common_steps)
-
 pub returns : goal.returns
-returns c = record {
-  q = as_question c.in_ok-apex.field-0;
-  asked = c.in_ok-apex.ensures.ok;
-  holds = rw c.from_int-rtype.ensures at c.in_ok-answer.ensures.judged;
-}
-
-pub returns-in_err-answer : goal.returns-in_err-answer
-returns-in_err-answer c =
-    let are = rw c.from_int-rtype.ensures at c.in_err-answer.ensures.judged in
-    let r = err_from_is_err_and c.from_residual-in_err-answer.result c.from_residual-in_err-answer.ensures.1 in
-    rw (r.1, r.2) (hash_fault c.in_ok-apex.ensures.ok (λ q. IsHashedJudged (sha1_records q) q.name c.args.rtype c.args.limit)
-    c.in_err-answer.field-0.0 are.errors are)
+returns c =
+    let are = rw c.from_int-rtype.ensures at c.judge_nsec3.ensures.judged in
+    rw c.told_or_fault.ensures
+    (hashed_told c.in_ok-apex.ensures.ok (λ q. IsHashedJudged (sha1_records q) q.name c.args.rtype c.args.limit) _ are.errors are)
