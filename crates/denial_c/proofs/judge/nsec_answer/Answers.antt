@@ -1,5 +1,4 @@
 use Rattle.std.proofs.{Common.arith, lemmas.{Grind.common_steps, Result.err_from_is_err_and}}
-use Rattle.domain_nsec.specs.ChainView.{links_of}
 use Rattle.denial_c.proofs.JudgeLemmas.{nsecs_fault}
 use Rattle.denial_c.proofs.judge.nsec_answer.Goals as goal
 
@@ -10,12 +9,4 @@ returns-in_err-nsecs c =
     (c.in_ok-name.name, c.in_ok-name.ensures.ok) c.in_err-nsecs.field-0.0 (rw c.from_int.ensures at c.in_err-nsecs.ensures.err))
 
 pub returns : goal.returns
-returns c = record {
-  a = c.in_ok-apex.apex;
-  x = c.in_ok-name.name;
-  links = links_of (λ n. n) c.deref.result.now;
-  apex_is = c.in_ok-apex.ensures.ok;
-  name_is = c.in_ok-name.ensures.ok;
-  are = grind (arith, common_steps);
-  holds = rw c.from_int-2.ensures at c.judge_nsec.ensures;
-}
+returns c = grind (arith, common_steps)
