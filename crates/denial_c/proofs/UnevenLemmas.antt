@@ -79,9 +79,6 @@ clash_given given sorted n t s h =
     subst (λ y. In y (zone_of_raw (filter (is_in_set n t) given))) raw.2 (in_map see _ raw.0 (in_filtered (is_in_set n t) given raw.0 among of_set.1)))
     (ap has_clash (sym (set_of_raw sorted n t)) ∙ h.clash)
 
-apart : (z y : ZoneRecord) (w : ℕ) → z.ttl ≡ w → y.ttl ≡ w → clashes z y ≡ false
-apart z y w e f = grind (arith, common_steps)
-
 one_is_even : (zs : List ZoneRecord) (w : ℕ) → AllByRecursion (λ z. z.ttl ≡ w) zs → has_clash zs ≡ false
 one_is_even zs w h = grind (arith, common_steps, any_none, all_from_in, all_in)
 

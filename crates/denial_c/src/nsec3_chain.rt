@@ -80,6 +80,7 @@ fn hashing_fault(error: Nsec3HashError) -> Fault
 ///
 /// The first fault of the zone: `Soa`, `Ttls`, `LongOwner` or `Collision`; and `OutOfMemory`, only
 /// where neither of the first two stands.
+#[tactic(auto, using(std::proofs::lemmas::Grind::common_steps))]
 fn sorted_nsec3s(
     alloc: Global,
     apex: &ParsedName<'_>,

@@ -3,17 +3,7 @@ use Rattle.denial_c.specs.{Among.AreNsecs, Result.IsNsecResult}
 use Rattle.denial_c.proofs.nsec.nsec_verdict.Goals as goal
 
 pub returns : goal.returns
-returns c =
-    let handed = c.in_ok-hand_in.ensures.ok in
-    record {
-      a = c.in_ok-apex.apex;
-      x = c.in_ok-name.name;
-      links = handed.0;
-      apex_is = c.in_ok-apex.ensures.ok;
-      name_is = c.in_ok-name.ensures.ok;
-      are = grind (arith, common_steps);
-      holds = rw c.from_int.ensures at (c.verdict.ensures _ _ _ _ (handed.2 _ _ _ [] c.new-check.ensures));
-    }
+returns c = grind (arith, common_steps, (c.verdict.ensures _ _ _ _ (c.in_ok-hand_in.ensures.ok.2 _ _ _ [] c.new-check.ensures)))
 
 pub returns-in_err-hand_in : goal.returns-in_err-hand_in
 returns-in_err-hand_in c =

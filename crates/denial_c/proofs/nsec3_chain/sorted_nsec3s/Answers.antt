@@ -1,14 +1,8 @@
-use Rattle.std.proofs.{Common.{arith, ◌≡◌, refl}, lemmas.Grind.common_steps}
+use Rattle.std.proofs.{Common.{◌≡◌, refl}}
 use Rattle.domain_nsec3.specs.View.{config_of}
 use Rattle.domain_sha1.specs.Iterated.{sha1_answer}
 use Rattle.denial_c.{specs.Chains.hashing_fault, proofs.HashLemmas.hashing_faulty}
 use Rattle.denial_c.proofs.nsec3_chain.sorted_nsec3s.Goals as goal
-
-pub uneven_at-offset-requires-clause-uneven : goal.uneven_at-offset-requires-clause-uneven
-uneven_at-offset-requires-clause-uneven c = grind (arith, common_steps)
-
-pub returns-in-Err-MultipleTtlValues-clause-err : goal.returns-in-Err-MultipleTtlValues-clause-err
-returns-in-Err-MultipleTtlValues-clause-err c = grind (arith, common_steps)
 
 pub returns-in-Err-Nsec3HashingError-clause-err : goal.returns-in-Err-Nsec3HashingError-clause-err
 returns-in-Err-Nsec3HashingError-clause-err c =
