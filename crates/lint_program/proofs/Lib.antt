@@ -3,4 +3,3 @@ pub mod ReportLemmas
 pub mod NoteLemmas
 pub mod NoteLaws
 pub mod FirstLemmas
-pub mod ToldLemmas

@@ -1,7 +1,7 @@
 //! What is looked for in the records of a zone. Each record is looked at beside the first before it
 //! in its group, and found to deserve a note or not.
 ghost use Rattle.std.specs.Prelude.{◌≡◌, IfNone, IfSome, option_map};
-ghost use Rattle.lint_program.specs.Notes.{bit, fails, group_of, is_apex_soa, look_of, stands_beside_alias, Deserves, FindsNothing};
+ghost use Rattle.lint_program.specs.Notes.{fails, group_of, is_apex_soa, look_of, stands_beside_alias, Deserves, FindsNothing};
 
 use crate::odd::{has_extras, is_such, shape_of};
 use crate::reading::Place;
@@ -82,13 +82,6 @@ fn named<'z>(name: &'z ParsedName<'_>) -> Name<&'z [u8]>
     named
 }
 
-/// The number that a test is.
-fn bit(is_so: bool) -> u16
-    ensures { result ≡ bit is_so }
-{
-    if is_so { 1 } else { 0 }
-}
-
 /// Whether it is an SOA record of the apex.
 pub fn is_apex_soa(apex: &ParsedName<'_>, borrowed: &BorrowedRecord<'_>) -> bool
     ensures { result ≡ is_apex_soa apex.now borrowed.now }
@@ -114,9 +107,12 @@ pub fn group_of<'z>(
 {
     let rtype = borrowed.rtype();
     match look {
-        Look::Soas => (named(apex), bit(is_apex_soa(apex, borrowed))),
+        Look::Soas => (named(apex), u16::from(is_apex_soa(apex, borrowed))),
         Look::Ttls => (named(borrowed.owner()), rtype.to_int()),
-        Look::Aliases => (named(borrowed.owner()), bit(stands_beside_alias(rtype))),
+        Look::Aliases => (
+            named(borrowed.owner()),
+            u16::from(stands_beside_alias(rtype)),
+        ),
         Look::Classes | Look::Outside | Look::Data => (named(apex), 0),
     }
 }

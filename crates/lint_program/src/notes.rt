@@ -83,14 +83,13 @@ fn has_soa(apex: &ParsedName<'_>, records: &[BorrowedRecord<'_>]) -> bool
 fn note_no_soa(
     alloc: Global,
     apex: &ParsedName<'_>,
-    records: &[BorrowedRecord<'_>],
-    are_whole: bool,
+    lines: &Lines<'_>,
     notes: &mut Vec<Note>,
 ) -> Result<(), AllocError>
-    ensures { OnOk result (map mark_of notes.new.items
-        ≡ map mark_of notes.old.items ++ missing_soa are_whole apex.now records.now) }
+    ensures { OnOk result (map mark_of notes.new.items ≡ map mark_of notes.old.items
+        ++ missing_soa (length lines.now.bad.items == 0) apex.now lines.now.records.items) }
 {
-    if !are_whole || has_soa(apex, records) {
+    if !lines.bad.is_empty() || has_soa(apex, &lines.records) {
         return Ok(());
     }
     let apex = apex.fmt_with_dot();
@@ -115,13 +114,7 @@ pub fn notes_of(
 {
     let mut notes = Vec::new(alloc);
     note_each(alloc, Look::Soas, apex, lines, &mut notes)?;
-    note_no_soa(
-        alloc,
-        apex,
-        &lines.records,
-        lines.bad.is_empty(),
-        &mut notes,
-    )?;
+    note_no_soa(alloc, apex, lines, &mut notes)?;
     note_each(alloc, Look::Classes, apex, lines, &mut notes)?;
     note_each(alloc, Look::Ttls, apex, lines, &mut notes)?;
     note_each(alloc, Look::Outside, apex, lines, &mut notes)?;

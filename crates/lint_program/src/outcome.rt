@@ -30,9 +30,6 @@ impl Outcome {
     pub fn is_faulty(&self) -> bool
         ensures { result ≡ is_faulty self.now }
     {
-        match self {
-            Outcome::Clean | Outcome::Warned => false,
-            Outcome::Faulty => true,
-        }
+        *self == Outcome::Faulty
     }
 }

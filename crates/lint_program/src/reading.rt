@@ -43,14 +43,9 @@ pub struct Lines<'a> {
 
 /// Whether the first word of a line ends with a dot.
 fn has_dot(line: &[u8]) -> bool {
-    let mut last = b' ';
-    for octet in line {
-        if *octet <= b' ' && last > b' ' {
-            return last == b'.';
-        }
-        last = *octet;
-    }
-    last == b'.'
+    let mut words = line.split(|octet| *octet <= b' ');
+    let first = words.find(|word| !word.is_empty());
+    first.unwrap_or(line).ends_with(b".")
 }
 
 /// The lines that are no records, and the records of the others, with their octets in the arena.

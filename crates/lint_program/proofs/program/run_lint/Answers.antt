@@ -1,20 +1,22 @@
 use Rattle.std.proofs.{lemmas.{Grind.common_steps, List.length-map}, Common.{◌≡◌, ◌∙◌, ◌++◌, ap, arith, inl, inr, map, refl, string_bytes, IsErrAnd, IsErrOf}}
-use Rattle.std.{proofs.Common.{MatchResult, Option, Result}, specs.{Str.Lines.lines, Io.KnownBytes.Appends}}
-use Rattle.domain_names.specs.Words.{Name}
+use Rattle.std.{proofs.Common.{ℕ, List, Option, Result}, specs.{Str.Lines.lines, Io.KnownBytes.Appends}}
+use Rattle.domain_names.specs.Words.{Name, Tokens}
+use Rattle.domain_borrowed.specs.Data.{RawRecord}
+use Rattle.domain_nsec3.specs.View.{HasherAnswer}
 use Rattle.domain_octets.specs.Words.{Octets}
 use Rattle.domain_hasher.specs.declared.error.Nsec3HashError.TheVariants as hash_error
 use Rattle.domain_records.specs.declared.error.SigningError.TheVariants as signing_error
 use Rattle.denial_program.specs.{Command.Params, declared.fault.DenialFault.{DenialFault, TheVariants.{OutOfMemory as Memory, Signing}}}
 use Rattle.denial_program.proofs.LineReading.{known_so}
 use Rattle.domain_alike.specs.Alike.{pair_of}
-use Rattle.lint_program.specs.{Alike.{alike_text, outcome_with}, Command.Asks, Notes.mark_of, Report.{IsRefused, IsTold}, declared.reading.BadLine.BadLine}
-use Rattle.lint_program.{specs.declared.reading.Place.Place, proofs.ToldLemmas.hashed_command}
+use Rattle.lint_program.specs.{Alike.{alike_text, outcome_with, IsRefusalBy}, Command.{Asks, IsHashedCommand}, Notes.mark_of, Report.{IsRefused, IsTold}}
+use Rattle.lint_program.specs.declared.reading.{BadLine.BadLine, Place.Place}
 use Rattle.lint_program.proofs.program.run_lint.Goals as goal
 
--- what holds of an error that is handed on
-of_error : {X : Type 0} (P : X → Type 0) (Q : DenialFault → Type 0) (e : DenialFault) (r : Result X DenialFault) → IsErrAnd r (λ f. f ≡ e) → Q e
-    → MatchResult r P Q
-of_error P Q e r h q = grind (arith, common_steps)
+-- where a hash is refused the words ask for parameters
+hashed_command : (answers : HasherAnswer) (words : Tokens) (given : List RawRecord) (apex : Name) (o : Option Params) (n : ℕ)
+    → Asks words apex o → IsRefusalBy answers given apex o n → IsHashedCommand words
+hashed_command answers words given apex o n asks refusal = grind (arith, common_steps)
 
 the_error : {X : Type 0} (e f : DenialFault) (r : Result X DenialFault) → IsErrAnd r (λ g. g ≡ e) → IsErrOf r f → f ≡ e
 the_error e f r h is = grind (arith, common_steps)
@@ -59,8 +61,7 @@ returns-in-Ok-clause-ok g c =
 
 pub returns-in_err-outcome-clause-usage : goal.returns-in_err-outcome-clause-usage
 returns-in_err-outcome-clause-usage g c =
-    of_error _ _ _ _ c.from_residual-in_err-outcome.ensures.1
-    (grind (arith, common_steps, hashed_command, c.in_err-outcome.ensures.err, c.in_ok-apex.ensures.ok))
+    grind (arith, common_steps, hashed_command, c.from_residual-in_err-outcome.ensures.1, c.in_err-outcome.ensures.err, c.in_ok-apex.ensures.ok)
 
 pub returns-in_err-outcome-clause-refused : goal.returns-in_err-outcome-clause-refused
 returns-in_err-outcome-clause-refused g c = λ error is.
