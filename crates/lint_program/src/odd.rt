@@ -1,6 +1,5 @@
 //! Data that records may have and seldom are meant to.
 ghost use Rattle.std.specs.Prelude.{◌≡◌, ◌↔◌, IsTrue};
-ghost use Rattle.domain_names.specs.Wire.{IsWire};
 ghost use Rattle.lint_program.specs.Odd.{has_extras, shape_of, AreTexts, IsSuch};
 
 use domain_base::{Name, Rtype};
@@ -55,13 +54,6 @@ pub fn shape_of(rtype: Rtype) -> Shape
     }
 }
 
-/// Whether the octets are one name and nothing more.
-fn is_name(octets: &[u8]) -> bool
-    ensures { IsTrue result ↔ IsWire octets.now }
-{
-    Name::from_octets(octets).is_ok()
-}
-
 /// Whether the octets are texts, each after an octet with its length, and at least one.
 fn are_texts(octets: &[u8]) -> bool
     ensures { IsTrue result ↔ AreTexts octets.now }
@@ -82,10 +74,10 @@ pub fn is_such(shape: Shape, octets: &[u8]) -> bool
     ensures { IsTrue result ↔ IsSuch shape octets.now }
 {
     match shape {
-        Shape::OneName => is_name(octets),
+        Shape::OneName => Name::from_octets(octets).is_ok(),
         Shape::Texts => are_texts(octets),
         Shape::LongAddress => octets.len() == 16,
-        Shape::Service => octets.len() > 6 && is_name(&octets[6..]),
+        Shape::Service => octets.len() > 6 && Name::from_octets(&octets[6..]).is_ok(),
         Shape::Certificate => octets.len() > 3,
         Shape::Issuers => octets.len() > 2,
         Shape::Whatever => true,
