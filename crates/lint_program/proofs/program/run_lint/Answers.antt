@@ -1,12 +1,12 @@
-use Rattle.std.proofs.{lemmas.{Grind.common_steps, List.length-map}, Common.{◌≡◌, ◌∙◌, ◌++◌, ap, arith, inl, inr, map, refl, string_bytes, IsErrAnd, IsErrOf}}
-use Rattle.std.{proofs.Common.{ℕ, List, Option, Result}, specs.{Str.Lines.lines, Io.KnownBytes.Appends}}
+use Rattle.std.proofs.{lemmas.{Grind.common_steps, List.length-map}, Common.{◌≡◌, ◌∙◌, ◌++◌, ap, arith, inl, inr, map, refl, string_bytes}}
+use Rattle.std.{proofs.Common.{ℕ, List, Option}, specs.{Str.Lines.lines, Io.KnownBytes.Appends}}
 use Rattle.domain_names.specs.Words.{Name, Tokens}
 use Rattle.domain_borrowed.specs.Data.{RawRecord}
 use Rattle.domain_nsec3.specs.View.{HasherAnswer}
 use Rattle.domain_octets.specs.Words.{Octets}
 use Rattle.domain_hasher.specs.declared.error.Nsec3HashError.TheVariants as hash_error
 use Rattle.domain_records.specs.declared.error.SigningError.TheVariants as signing_error
-use Rattle.denial_program.specs.{Command.Params, declared.fault.DenialFault.{DenialFault, TheVariants.{OutOfMemory as Memory, Signing}}}
+use Rattle.denial_program.specs.{Command.Params, declared.fault.DenialFault.TheVariants.{OutOfMemory as Memory, Signing}}
 use Rattle.denial_program.proofs.LineReading.{known_so}
 use Rattle.domain_alike.specs.Alike.{pair_of}
 use Rattle.lint_program.specs.{Alike.{alike_text, outcome_with, IsRefusalBy}, Command.{Asks, IsHashedCommand}, Notes.mark_of, Report.{IsRefused, IsTold}}
@@ -17,9 +17,6 @@ use Rattle.lint_program.proofs.program.run_lint.Goals as goal
 hashed_command : (answers : HasherAnswer) (words : Tokens) (given : List RawRecord) (apex : Name) (o : Option Params) (n : ℕ)
     → Asks words apex o → IsRefusalBy answers given apex o n → IsHashedCommand words
 hashed_command answers words given apex o n asks refusal = grind (arith, common_steps)
-
-the_error : {X : Type 0} (e f : DenialFault) (r : Result X DenialFault) → IsErrAnd r (λ g. g ≡ e) → IsErrOf r f → f ≡ e
-the_error e f r h is = grind (arith, common_steps)
 
 pub returns-in-Ok-clause-ok : goal.returns-in-Ok-clause-ok
 returns-in-Ok-clause-ok g c =
@@ -66,7 +63,7 @@ returns-in_err-outcome-clause-usage g c =
 pub returns-in_err-outcome-clause-refused : goal.returns-in_err-outcome-clause-refused
 returns-in_err-outcome-clause-refused g c = λ error is.
     let read = c.in_ok-lines.lines in
-    let same = the_error _ _ _ c.from_residual-in_err-outcome.ensures.1 is in
+    let same : Signing error ≡ c.in_err-outcome.field-0.0 = grind (arith, common_steps, c.from_residual-in_err-outcome.ensures.1, is) in
     elim c.in_err-outcome.ensures.err [
       | inl none ↦ absurd (let other : Signing error ≡ Memory = same ∙ none in cc)
       | inr r ↦
