@@ -3,7 +3,7 @@ ghost use Rattle.std.specs.{Prelude.{◌≡◌, ◌++◌, All, OnOk, map}, Io.Kn
 ghost use Rattle.domain_octets.specs.Words.{Octets};
 ghost use Rattle.domain_alike.specs.Alike.{pair_of};
 ghost use Rattle.lint_program.specs.{Alike.alike_text, Notes.mark_of, Outcomes.is_faulty};
-ghost use Rattle.lint_program.specs.Report.{kind_of, AreFaults, AreNotes, IsFault, IsNote, IsPrinted};
+ghost use Rattle.lint_program.specs.Report.{AreFaults, AreNotes, IsFault, IsNote, IsPrinted};
 
 use crate::explain::explain;
 use crate::notes::Note;
@@ -51,19 +51,13 @@ fn write_faults<W: Write>(alloc: Global, bad: &[BadLine<'_>], output: &mut W) ->
     Ok(())
 }
 
-/// How a line that is of no bad line begins.
-fn kind_of(is_fault: bool) -> &'static str
-    ensures { result.now ≡ kind_of is_fault }
-{
-    if is_fault { "zone: " } else { "warning: " }
-}
-
 /// Writes a note: as a fault of the zone where it is one for which the records are refused.
 fn write_note<W: Write>(note: &Note, are_refused: bool, output: &mut W) -> io::Result<()>
     ensures { OnOk result ((text : Octets) × IsNote are_refused (mark_of note.now) text
         × Appends (W.contents output.old) (W.contents output.new) text) }
 {
-    let kind = kind_of(note.reason.fails() & are_refused);
+    let is_fault = note.reason.fails() & are_refused;
+    let kind = if is_fault { "zone: " } else { "warning: " };
     let (opening, closing) = note.reason.frame();
     let told = printed(note.text.as_str());
     match note.place {
