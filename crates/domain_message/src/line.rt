@@ -74,7 +74,7 @@ impl LineError {
     /// Whether memory was wanting, so that it is not known whether there is a record. Of want of
     /// room it says nothing, which octets without a limit never have.
     pub fn is_out_of_memory(&self) -> bool
-        ensures { result ≡ false → IsOfLine None self.now }
+        ensures { (result ≡ false) ↔ IsOfLine None self.now }
     {
         match self {
             LineError::NoEntry | LineError::Trailing => false,
