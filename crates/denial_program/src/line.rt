@@ -8,7 +8,7 @@ use crate::store::Store;
 use domain_base::{IterScanner, Name, Scanner};
 use domain_borrowed::BorrowedRecord;
 use domain_message::{LineError, is_no_entry, scan_behind_owner};
-use domain_octets::{OctetSet, OutOfMemory, SmallOctets, prefix_len, words_of};
+use domain_octets::{LineWords, OctetSet, OutOfMemory, SmallOctets, are_all, push_words};
 use domain_rdata::ZoneRecordData;
 use domain_record::Record;
 use std::alloc::Global;
@@ -56,7 +56,7 @@ fn plain_text(line: &[u8]) -> Option<&str>
     ensures some { IfSome result (λ text. (text.now ≡ line.now) × IsPlain line.now) }
     ensures none { IfNone result (IsPlain line.now → ⊥) }
 {
-    if prefix_len::<Plain>(line) < line.len() {
+    if !are_all::<Plain>(line) {
         return None;
     }
     Some(unsafe { str::from_utf8_unchecked(line) })
@@ -91,7 +91,8 @@ pub fn read_line<'a>(
     let Some(text) = plain_text(line) else {
         return Ok(Line::Bad);
     };
-    let words = words_of(alloc, text)?;
+    let mut words = LineWords::new(alloc);
+    push_words(&mut words, text)?;
     let mut scanner = IterScanner::<ZoneOctets>::new(words.as_slice());
     match scan_record(alloc, store, &mut scanner) {
         Ok(record) => Ok(Line::Record(record)),

@@ -10,7 +10,7 @@ use domain_base::{
     Class, FromToken, IterScanner, MakeName, Name, Rtype, ScanError, Scanner, ToName, Ttl,
 };
 use domain_octets::{
-    EmptyBuilder, FreezeBuilder, FromBuilder, Octets, OutOfMemory, Truncate, words_of,
+    EmptyBuilder, FreezeBuilder, FromBuilder, LineWords, Octets, OutOfMemory, Truncate, push_words,
 };
 use domain_rdata::ZoneRecordData;
 use domain_record::Record;
@@ -195,9 +195,8 @@ pub fn scan_record(alloc: Global, line: &str) -> Result<OwnedRecord, LineError>
     if is_no_entry(line.as_bytes()) {
         return Err(LineError::NoEntry);
     }
-    let Ok(words) = words_of(alloc, line) else {
-        return Err(LineError::OutOfMemory);
-    };
+    let mut words = LineWords::new(alloc);
+    push_words(&mut words, line)?;
     let mut scanner = IterScanner::<Vec<u8>>::new(words.as_slice());
     scan_entry(alloc, &mut scanner)
 }

@@ -1,6 +1,6 @@
 -- texts whose first octets are all of one set
-use Rattle.std.proofs.{Common.{◌≡◌, ℕ, Bool, true, List, ◌++◌, take, drop, sym, ap, ◌∙◌}, lemmas.List.{append_assoc, take-append-drop}}
-use Rattle.std.{proofs.lemmas.List.Elements.All-append, specs.List.AllPass}
+use Rattle.std.proofs.{Common.{◌≡◌, ℕ, ◌-◌, ◌≤◌, Bool, true, List, ◌++◌, length, length-append, take, drop, sym, ap, subst, ◌∙◌, arith}, lemmas.List.{append_assoc, take-append-drop, take-append-le}}
+use Rattle.std.{proofs.lemmas.List.Elements.{All-append, All-take}, specs.List.AllPass}
 
 -- these octets are left of the text, and those before them are of the set
 pub record Searched (has : ℕ → Bool) (text left : List ℕ) : Type 0 where
@@ -17,7 +17,18 @@ module _ (has : ℕ → Bool) where
     pass = All-append (λ c. has c ≡ true) so_far.front piece so_far.pass pass;
   }
 
-  pub searched_eight : (text left eight after : List ℕ) → Searched has text left → eight ≡ take 8 left → after ≡ drop 8 left
-      → AllPass has eight → Searched has text after
-  searched_eight text left eight after so_far front back pass =
-      searched_more text left eight after so_far (let whole = take-append-drop 8 left in cc) pass
+  pub searched_first : (n : ℕ) (text left first after : List ℕ) → Searched has text left → first ≡ take n left → after ≡ drop n left
+      → AllPass has first → Searched has text after
+  searched_first n text left first after so_far front back pass =
+      searched_more text left first after so_far (let whole = take-append-drop n left in cc) pass
+
+  -- those that are left are among the last, which are of the set too
+  pub searched_whole : (text left : List ℕ) (n : ℕ) → Searched has text left → length left ≤ n → n ≤ length text
+      → AllPass has (drop (length text - n) text) → AllPass has text
+  searched_whole text left n so_far short within last =
+      let size = ap length so_far.parts ∙ length-append so_far.front left in
+      let begin : take (length text - n) text ≡ take (length text - n) so_far.front =
+          ap (take (length text - n)) so_far.parts ∙ take-append-le (length text - n) so_far.front left (omega (arith, size, short)) in
+      subst (AllPass has) (take-append-drop (length text - n) text)
+      (All-append (λ c. has c ≡ true) (take (length text - n) text) (drop (length text - n) text)
+      (subst (AllPass has) (sym begin) (All-take (λ c. has c ≡ true) (length text - n) so_far.front so_far.pass)) last)

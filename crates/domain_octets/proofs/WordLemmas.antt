@@ -1,10 +1,11 @@
 -- the words of a text
-use Rattle.std.proofs.Common.{◌≡◌, ℕ, ◌<◌, List, [], ◌∷◌, ◌++◌, Bor, map, length, true, false, get_or, take, drop, refl, ap, sym, subst, ◌∙◌, arith, inl, inr}
+use Rattle.std.proofs.Common.{◌≡◌, ℕ, ◌<◌, List, [], ◌∷◌, ◌++◌, Bor, map, length, true, false, get_or, slice_index, take, drop, zero, suc, ◌+◌, ◌-◌, ◌≤◌, refl, ap, sym, subst, ◌∙◌, arith, inl, inr}
 use Rattle.std.proofs.lemmas.{Fmt.decimal_is_IsNumeral, Grind.common_steps, Bool.{cases_Bool, Decides.nat_tests}}
-use Rattle.std.proofs.lemmas.List.{append_assoc, append-nil, take-append-drop, drop_more, get_or-drop, Elements.{All-weaker, recursion_from_All}}
-use Rattle.std.proofs.lemmas.Str.{IsCharBoundary-after_ascii, IsCharBoundary-before_ascii, IsUtf8-drop}
-use Rattle.std.specs.{Prelude.◌^◌, List.{AllByRecursion, AllPass, join_with_byte}, Fmt.decimal, Str.{IsUtf8, IsCharBoundary, Parse.AllDigits}}
-use Rattle.domain_octets.specs.Line.{is_blank, is_of_word, word_if_any, words_after, words_of, HasNoBlank, IsWord}
+use Rattle.std.proofs.lemmas.List.{append_assoc, append-nil, length-drop, drop-drop, take_all, take-append-drop, drop_more}
+use Rattle.std.proofs.lemmas.Str.{IsCharBoundary-after_ascii, IsCharBoundary-before_ascii}
+use Rattle.std.specs.{Prelude.◌^◌, List.{AllByRecursion, join_with_byte}, Fmt.decimal, Str.{IsUtf8, IsCharBoundary, Parse.AllDigits}}
+use Rattle.domain_octets.specs.Line.{is_blank, word_if_any, words_after, words_of, HasNoBlank, HasWords, IsWord}
+use Rattle.memchr.specs.Find.{places_between, places_from, NoneBefore, Nowhere, Passes}
 
 -- a blank ends a word, so that the words behind it are those of a text by itself
 words_apart : (word front : List ℕ) (blank : ℕ) (text : List ℕ) → is_blank blank ≡ true
@@ -66,56 +67,114 @@ decimal_word n small =
     let numeral = (decimal_is_IsNumeral n small).0 in
     record { some = λ none. omega (arith, numeral.0, ap length none); unbroken = digits_plain (decimal n) numeral.1 }
 
--- ---- the words of a line, one after another
+-- ---- the words of a line, from blank to blank
 
-last_words : (text : List ℕ) → HasNoBlank text → words_of text ≡ word_if_any text
-last_words text plain = word_goes_on [] text plain
+no_blank : (text : List ℕ) (i n : ℕ) → i + n ≤ length text → Nowhere (Passes is_blank text) i (i + n) → HasNoBlank (take n (drop i text))
+no_blank text i zero le none = tt
+no_blank text i (suc n) le none =
+    rw (drop_more text i 0 (omega arith)) (grind (arith, common_steps, none i), no_blank text (i + 1) n (omega arith) (λ k low high. none k (omega arith) (omega arith)))
 
-no_blank : (text : List ℕ) → AllPass is_of_word text → HasNoBlank text
-no_blank text all =
-    recursion_from_All _ text (All-weaker (λ c. is_of_word c ≡ true) (λ c. is_blank c ≡ false) (λ c has. grind (arith, common_steps)) text all)
+-- it is at no place from here on, where it is not here, and at none behind
+not_here : (P : ℕ → Type 0) (i j : ℕ) → (P i → ⊥) → Nowhere P (i + 1) j → Nowhere P i j
+not_here P i j here after k low high has =
+    let other : k ≡ i → ⊥ = λ same. here (subst P same has) in
+    after k (let o = other in omega (arith, low)) high has
 
--- the words that were found, and those of the rest
-pub record HasWords (line rest : List ℕ) (words : List (Bor (List ℕ))) : Type 0 where
-  pub text : IsUtf8 rest
-  pub same : map (λ w. w.now) words ++ words_of rest ≡ words_of line
+no_place : (text : List ℕ) (i n : ℕ) → places_from is_blank text i n ≡ [] → Nowhere (Passes is_blank text) i (i + n)
+unfolding places_from
+no_place text i zero none = λ k low high. absurd (omega (arith, low, high))
+no_place text i (suc n) none = elim (cases_Bool (is_blank (slice_index text i))) [
+  | inl here ↦ absurd (let n = none in grind (arith, common_steps))
+  | inr other ↦
+    let after = no_place text (i + 1) n (let n = none in grind (arith, common_steps)) in
+    not_here (Passes is_blank text) i (i + suc n) (λ is. absurd (grind (arith, common_steps))) (λ k low high. after k low (omega (arith, high)))
+]
 
--- a word that the rest begins with, and what stands behind it
-module _ (rest : List ℕ) (n : ℕ) (word after : List ℕ) (has : AllPass is_of_word (take n rest)) (front : word ≡ take n rest)
-    (back : after ≡ drop n rest) where
-  whole : rest ≡ word ++ after
-  whole = sym (take-append-drop n rest) ∙ (λ i. sym front i ++ sym back i)
+-- the first of the places of blanks, and those behind it
+first_place : (text : List ℕ) (i n at : ℕ) (later : List ℕ) → places_from is_blank text i n ≡ at ∷ later
+    → NoneBefore (Passes is_blank text) i (i + n) at × Passes is_blank text at × (later ≡ places_between is_blank text (at + 1) (i + n))
+unfolding places_from
+first_place text i zero at later same = absurd (let s = same in cc)
+first_place text i (suc n) at later same = elim (cases_Bool (is_blank (slice_index text i))) [
+  | inl here ↦
+    let is : i ≡ at = (let s = same in grind (arith, common_steps)) in
+    let rest : later ≡ places_from is_blank text (i + 1) n = (let s = same in grind (arith, common_steps)) in
+    let count : n ≡ i + suc n - (i + 1) = omega arith in
+    subst (λ k. NoneBefore (Passes is_blank text) i (i + suc n) k × Passes is_blank text k × (later ≡ places_between is_blank text (k + 1) (i + suc n))) is
+    (record { low = omega arith; high = omega arith; before = λ k low high. absurd (omega (arith, low, high)) }, here,
+    rest ∙ ap (places_from is_blank text (i + 1)) count)
+  | inr other ↦
+    let after = first_place text (i + 1) n at later (let s = same in grind (arith, common_steps)) in
+    let end : i + 1 + n ≡ i + suc n = omega arith in
+    (record {
+      low = let low = after.0.low in omega (arith, low); high = let high = after.0.high in omega (arith, high);
+      before = not_here (Passes is_blank text) i at (λ is. absurd (grind (arith, common_steps))) after.0.before;
+    }, after.1, after.2 ∙ ap (places_between is_blank text (at + 1)) end)
+]
 
-  plain : HasNoBlank word
-  plain = subst HasNoBlank (sym front) (no_blank (take n rest) has)
+-- the words before a place, which come behind others, and the blanks that are still to come
+pub record ArePushed (old : List (Bor (List ℕ))) (text : List ℕ) (begin : ℕ) (blanks : List ℕ) (words : List (Bor (List ℕ))) : Type 0 where
+  pub within : begin ≤ length text
+  pub boundary : 0 < begin → IsCharBoundary text begin
+  pub ahead : blanks ≡ places_between is_blank text begin (length text)
+  pub same : map (λ w. w.now) words ++ words_of (drop begin text) ≡ map (λ w. w.now) old ++ words_of text
 
-  blank : is_of_word (get_or rest n 0) ≡ false → is_blank (get_or after 0 0) ≡ true
-  blank other = let at = ap (λ l. get_or l 0 0) back ∙ get_or-drop n rest 0 0 in grind (arith, common_steps)
+module _ (text : List ℕ) (begin : ℕ) (within : begin ≤ length text) where
+  -- no blank is left
+  last_word : places_between is_blank text begin (length text) ≡ [] → words_of (drop begin text) ≡ word_if_any (drop begin text)
+  last_word none =
+      let all : take (length text - begin) (drop begin text) ≡ drop begin text = take_all (length text - begin) (drop begin text) (omega (arith, length-drop begin text)) in
+      word_goes_on [] (drop begin text) (subst HasNoBlank all (no_blank text begin (length text - begin) (omega (arith, within)) (no_place text begin (length text - begin) none)))
 
-  -- a text may be cut behind the blank
-  pub cut_at : 0 < length after → is_of_word (get_or rest n 0) ≡ false → n < length rest → IsUtf8 rest → IsCharBoundary after 1
-  cut_at some other below text =
-      let small : get_or after 0 0 < 128 = let is = blank other in grind (arith, nat_tests, common_steps) in
-      let at : get_or rest n 0 < 128 = let same = ap (λ l. get_or l 0 0) back ∙ get_or-drop n rest 0 0 in grind (arith, common_steps) in
-      IsCharBoundary-after_ascii after 0 (subst IsUtf8 (sym back) (IsUtf8-drop rest n text (IsCharBoundary-before_ascii rest n below at))) some small
+  -- a word, and the words behind the blank that ends it
+  word_before : (at : ℕ) → NoneBefore (Passes is_blank text) begin (length text) at → Passes is_blank text at
+      → words_of (drop begin text) ≡ word_if_any (take (at - begin) (drop begin text)) ++ words_of (drop (at + 1) text)
+  word_before at first blank =
+      let word = take (at - begin) (drop begin text) in
+      let low = first.low in let high = first.high in
+      let plain : HasNoBlank word = no_blank text begin (at - begin) (omega (arith, low, high)) (λ k from to. first.before k from (omega (arith, low, to))) in
+      let behind : drop (at - begin) (drop begin text) ≡ get_or text at 0 ∷ drop (at + 1) text =
+          drop-drop (at - begin) begin text ∙ ap (λ k. drop k text) (omega (arith, low)) ∙ drop_more text at 0 high in
+      ap words_of (sym (take-append-drop (at - begin) (drop begin text)) ∙ ap (λ l. word ++ l) behind)
+      ∙ words_apart [] word (get_or text at 0) (drop (at + 1) text) blank ∙ ap (λ l. l ++ words_of (drop (at + 1) text)) (word_goes_on [] word plain)
 
-  cut : (next : List ℕ) → 0 < length after → is_of_word (get_or rest n 0) ≡ false → next ≡ drop 1 after
-      → words_of rest ≡ word_if_any word ++ words_of next
-  cut next some other is =
-      ap words_of (whole ∙ ap (λ l. word ++ l) (drop_more after 0 0 some ∙ (λ i. get_or after 0 0 ∷ sym is i)))
-      ∙ words_apart [] word (get_or after 0 0) next (blank other) ∙ ap (λ l. l ++ words_of next) (last_words word plain)
+  -- the blank that comes next, and those behind it
+  next_blank : (at : ℕ) (later : List ℕ) → places_between is_blank text begin (length text) ≡ at ∷ later
+      → NoneBefore (Passes is_blank text) begin (length text) at × Passes is_blank text at × (later ≡ places_between is_blank text (at + 1) (length text))
+  next_blank at later same =
+      subst (λ j. NoneBefore (Passes is_blank text) begin j at × Passes is_blank text at × (later ≡ places_between is_blank text (at + 1) j))
+      (omega (arith, within)) (first_place text begin (length text - begin) at later same)
 
-  cut_last : length after ≡ 0 → words_of rest ≡ word_if_any word ++ words_of []
-  cut_last none = grind (arith, common_steps, no_words, last_words, whole, plain)
+module _ {old words : List (Bor (List ℕ))} {text : List ℕ} {begin : ℕ} {blanks : List ℕ} (so_far : ArePushed old text begin blanks words) where
+  -- words were appended, and those from here on are left
+  pub some_pushed : HasWords old text words
+  some_pushed = record { left = words_of (drop begin text); same = so_far.same }
 
-  module _ {line : List ℕ} {words : List (Bor (List ℕ))} (so_far : HasWords line rest words) (more : List (Bor (List ℕ)))
-      (pushed : map (λ w. w.now) more ≡ map (λ w. w.now) words ++ word_if_any word) where
-    pub all_words : length after ≡ 0 → map (λ w. w.now) more ≡ words_of line
-    all_words none = let same = so_far.same in grind (arith, common_steps, cut_last, no_words)
+  pub last_pushed : (more : List (Bor (List ℕ))) (word : List ℕ) → blanks ≡ [] → word ≡ drop begin text
+      → map (λ w. w.now) more ≡ map (λ w. w.now) words ++ word_if_any word → map (λ w. w.now) more ≡ map (λ w. w.now) old ++ words_of text
+  last_pushed more word none is pushed =
+      pushed ∙ ap (λ l. map (λ w. w.now) words ++ l) (ap word_if_any is ∙ sym (last_word text begin so_far.within (sym so_far.ahead ∙ none))) ∙ so_far.same
 
-    pub next_words : (next : List ℕ) → 0 < length after → is_of_word (get_or rest n 0) ≡ false → next ≡ drop 1 after → IsUtf8 next
-        → HasWords line next more
-    next_words next some other is text = let same = so_far.same in grind (arith, common_steps, (cut next some other is))
+  module _ (at : ℕ) (later : List ℕ) (next : blanks ≡ at ∷ later) where
+    pub found : NoneBefore (Passes is_blank text) begin (length text) at × Passes is_blank text at × (later ≡ places_between is_blank text (at + 1) (length text))
+    found = next_blank text begin so_far.within at later (sym so_far.ahead ∙ next)
+
+    low : get_or text at 0 < 128
+    low = let is = found.1 in grind (arith, nat_tests, common_steps)
+
+    pub ends_word : IsCharBoundary text at
+    ends_word = IsCharBoundary-before_ascii text at found.0.high low
+
+    pub more_pushed : (more : List (Bor (List ℕ))) (word : List ℕ) → IsUtf8 text → word ≡ take (at - begin) (drop begin text)
+        → map (λ w. w.now) more ≡ map (λ w. w.now) words ++ word_if_any word → ArePushed old text (at + 1) later more
+    more_pushed more word utf8 is pushed = record {
+      within = let high = found.0.high in omega (arith, high);
+      boundary = λ _. IsCharBoundary-after_ascii text at utf8 found.0.high low;
+      ahead = found.2;
+      same = ap (λ l. l ++ words_of (drop (at + 1) text)) (pushed ∙ ap (λ w. map (λ w. w.now) words ++ word_if_any w) is)
+          ∙ append_assoc (map (λ w. w.now) words) (word_if_any (take (at - begin) (drop begin text))) (words_of (drop (at + 1) text))
+          ∙ ap (λ l. map (λ w. w.now) words ++ l) (sym (word_before text begin so_far.within at found.0 found.1)) ∙ so_far.same;
+    }
 
 -- ---- the first word
 

@@ -1,14 +1,10 @@
 -- the words of a text, as a reader of zone files takes them as tokens (RFC 1035, section 5.1)
-use Rattle.std.specs.{Prelude.{◌≡◌, ◌≢◌, ℕ, ◌==◌, ◌||◌, Bool, not, false, List, [], ◌∷◌, ◌++◌, if◌then◌else◌}, List.AllByRecursion}
+use Rattle.std.specs.{Prelude.{◌≡◌, ◌≢◌, ℕ, ◌==◌, ◌||◌, Bool, false, List, [], ◌∷◌, ◌++◌, map, if◌then◌else◌}, List.AllByRecursion, Borrow.Bor}
 use Rattle.domain_octets.specs.{Words.Octets, Characters.{space, tab}}
 
 -- spaces and tabs separate words
 abbrev pub is_blank : ℕ → Bool
 is_blank c = (c == space) || (c == tab)
-
--- all others stand in words
-abbrev pub is_of_word : ℕ → Bool
-is_of_word c = not (is_blank c)
 
 -- a word, where any of its characters has come
 abbrev pub word_if_any : Octets → List Octets
@@ -25,6 +21,11 @@ words_after word (c ∷ text) =
 -- what stands between the blanks of a text, where that is not empty
 abbrev pub words_of : Octets → List Octets
 words_of text = words_after [] text
+
+-- words were appended of a text, from its first on, and these are left
+pub record HasWords (old : List (Bor Octets)) (text : Octets) (new : List (Bor Octets)) : Type 0 where
+  pub left : List Octets
+  pub same : map (λ w. w.now) new ++ left ≡ map (λ w. w.now) old ++ words_of text
 
 -- the text has no blanks
 abbrev pub HasNoBlank : Octets → Type 0

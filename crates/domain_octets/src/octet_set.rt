@@ -1,5 +1,5 @@
 //! Octets of a set, found eight at a time.
-ghost use Rattle.std.specs.Prelude.{◌≡◌, ℕ, ◌<◌, ◌≤◌, Bool, false, IsTrue, length, slice_index, take};
+ghost use Rattle.std.specs.Prelude.{◌≡◌, ◌↔◌, ℕ, ◌<◌, ◌≤◌, Bool, false, IsTrue, length, slice_index, take};
 ghost use Rattle.std.specs.List.{AllPass};
 
 /// A set of octets.
@@ -17,15 +17,32 @@ pub trait OctetSet {
         ensures { IsTrue result → IsTrue (has octet) };
 }
 
-/// Whether eight octets are usual in the set. All are looked at, so that it is done in one piece.
-fn are_usual<S: OctetSet>(eight: &[u8; 8]) -> bool
-    ensures { IsTrue result → AllPass S.has eight.now }
+/// Whether some octets are usual in the set. All are looked at, so that it is done in one piece.
+fn are_usual<S: OctetSet, const N: usize>(octets: &[u8; N]) -> bool
+    ensures { IsTrue result → AllPass S.has octets.now }
 {
     let mut all = true;
-    for octet in eight {
+    for octet in octets {
         all &= S::is_usual(*octet);
     }
     all
+}
+
+/// Whether all octets are usual in the set, and at least 32: 32 after 32, and the last 32.
+fn are_many_usual<S: OctetSet>(octets: &[u8]) -> bool
+    ensures { IsTrue result → AllPass S.has octets.now }
+{
+    let Some(last) = octets.last_chunk::<32>() else {
+        return false;
+    };
+    let mut rest = octets;
+    while let Some((front, after)) = rest.split_first_chunk::<32>() {
+        if !are_usual::<S, 32>(front) {
+            return false;
+        }
+        rest = after;
+    }
+    are_usual::<S, 32>(last)
 }
 
 /// How many octets of the set some octets begin with, as far as eight after eight are usual in
@@ -36,7 +53,7 @@ fn eights_len<S: OctetSet>(octets: &[u8]) -> usize
 {
     let mut rest = octets;
     while let Some((eight, after)) = rest.split_first_chunk::<8>() {
-        if !are_usual::<S>(eight) {
+        if !are_usual::<S, 8>(eight) {
             break;
         }
         rest = after;
@@ -56,4 +73,11 @@ pub fn prefix_len<S: OctetSet>(octets: &[u8]) -> usize
         }
     }
     octets.len()
+}
+
+/// Whether all octets are of the set.
+pub fn are_all<S: OctetSet>(octets: &[u8]) -> bool
+    ensures { IsTrue result ↔ AllPass S.has octets.now }
+{
+    are_many_usual::<S>(octets) || prefix_len::<S>(octets) == octets.len()
 }

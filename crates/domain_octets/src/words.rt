@@ -1,36 +1,19 @@
 //! The words of a line.
-ghost use Rattle.std.specs.Prelude.{◌≡◌, ◌++◌, map, IfOk, OnOk};
-ghost use Rattle.domain_octets.specs.Line.{word_if_any, words_of};
+ghost use Rattle.std.specs.Prelude.{◌≡◌, ◌++◌, map, OnErr, OnOk};
+ghost use Rattle.domain_octets.specs.Line.{word_if_any, words_of, HasWords};
 
-use crate::{OctetSet, prefix_len};
+use crate::OutOfMemory;
+use memchr::memchr2_iter;
 use smallvec::SmallVec;
-use std::alloc::{AllocError, Global};
 
 /// The words of a line. Those of most records, up to eight, take no memory.
 pub type LineWords<'a> = SmallVec<&'a str, 8>;
 
-/// The octets that stand in words: all but spaces and tabs.
-struct OfWords;
-
-impl OctetSet for OfWords {
-    ghost use Rattle.domain_octets.specs.Line.{is_of_word};
-
-    ghost has = { is_of_word };
-
-    fn contains(octet: u8) -> bool {
-        octet != b' ' && octet != b'\t'
-    }
-
-    /// All but control characters and spaces.
-    fn is_usual(octet: u8) -> bool {
-        octet > b' '
-    }
-}
-
 /// Appends a word, if it has octets.
-fn push_word<'a>(words: &mut LineWords<'a>, word: &'a str) -> Result<(), AllocError>
-    ensures { OnOk result (map (λ w. w.now) words.new.items
+fn push_word<'a>(words: &mut LineWords<'a>, word: &'a str) -> Result<(), OutOfMemory>
+    ensures ok { OnOk result (map (λ w. w.now) words.new.items
         ≡ map (λ w. w.now) words.old.items ++ word_if_any word.now) }
+    ensures err { OnErr result (words.new ≡ words.old) }
 {
     if !word.is_empty() {
         words.push(word)?;
@@ -38,23 +21,22 @@ fn push_word<'a>(words: &mut LineWords<'a>, word: &'a str) -> Result<(), AllocEr
     Ok(())
 }
 
-/// The words of a line: what stands between its spaces and tabs, where that is not empty (RFC 1035,
-/// section 5.1).
+/// Appends the words of a line: what stands between its spaces and tabs, where that is not empty
+/// (RFC 1035, section 5.1).
 ///
 /// # Errors
 ///
-/// `AllocError` where there is no memory for more than eight words.
-pub fn words_of(alloc: Global, line: &str) -> Result<LineWords<'_>, AllocError>
-    ensures { IfOk result (λ words. map (λ w. w.now) words.items ≡ words_of line.now) }
+/// `OutOfMemory` where there is no memory for more than eight words. Some of them, from the first
+/// on, then stand in the list.
+pub fn push_words<'a>(words: &mut LineWords<'a>, line: &'a str) -> Result<(), OutOfMemory>
+    ensures ok { OnOk result (map (λ w. w.now) words.new.items
+        ≡ map (λ w. w.now) words.old.items ++ words_of line.now) }
+    ensures err { OnErr result (HasWords words.old.items line.now words.new.items) }
 {
-    let mut words = SmallVec::new(alloc);
-    let mut rest = line;
-    'words: loop {
-        let (word, after) = rest.split_at(prefix_len::<OfWords>(rest.as_bytes()));
-        push_word(&mut words, word)?;
-        if after.is_empty() {
-            return Ok(words);
-        }
-        rest = &after[1..];
+    let mut start = 0;
+    for blank in memchr2_iter(b' ', b'\t', line.as_bytes()) {
+        push_word(words, &line[start..blank])?;
+        start = blank + 1;
     }
+    push_word(words, &line[start..])
 }

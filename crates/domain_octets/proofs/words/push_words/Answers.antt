@@ -1,0 +1,30 @@
+use Rattle.std.proofs.{Common.{ap, arith, length, refl, ◌∙◌}, lemmas.Result.on_ok_weaker}
+use Rattle.memchr.specs.Find.{places_between}
+use Rattle.domain_octets.specs.Line.{is_blank}
+use Rattle.domain_octets.proofs.WordLemmas.{ends_word, found, last_pushed, more_pushed}
+use Rattle.domain_octets.proofs.words.push_words.Goals as goal
+
+pub loop-blank-init : goal.loop-blank-init
+loop-blank-init c = record {
+  within = omega arith;
+  boundary = λ some. absurd (omega (arith, some));
+  ahead = c.into_iter-blank-iterator.ensures.into_iter_gives ∙ c.memchr2_iter-blank-items.ensures.value
+      ∙ ap (λ text. places_between is_blank text 0 (length text)) c.as_bytes.ensures.value;
+  same = refl;
+}
+
+pub range-requires-clause-start_le_end : goal.range-requires-clause-start_le_end
+range-requires-clause-start_le_end c = (found c.loop-blank.invariant c.in-Some.blank c.next.new.self c.in-Some.ensures.steps).0.low
+
+pub range-requires-clause-end_boundary : goal.range-requires-clause-end_boundary
+range-requires-clause-end_boundary c = ends_word c.loop-blank.invariant c.in-Some.blank c.next.new.self c.in-Some.ensures.steps
+
+pub loop-blank-preserved : goal.loop-blank-preserved
+loop-blank-preserved c =
+    more_pushed c.loop-blank.invariant c.in-Some.blank c.next.new.self c.in-Some.ensures.steps c.push_word.new.words.items
+    c.range.result.now c.utf8.line c.range.ensures.value c.in_ok-push_word.ensures.ok
+
+pub returns-clause-ok : goal.returns-clause-ok
+returns-clause-ok c =
+    on_ok_weaker _ (last_pushed c.loop-blank.invariant c.push_word-2.new.words.items c.range_from.result.now c.in-None.ensures.steps.0 c.range_from.ensures.value)
+    c.push_word-2.ensures.ok
