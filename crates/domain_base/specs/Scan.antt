@@ -1,8 +1,8 @@
 -- the tokens of an entry, and what is read from them
-use Rattle.std.specs.{Prelude.{◌≡◌, ℕ, ◌<◌, ◌^◌, [], ◌∷◌, ◌++◌, codes, Option, IsNone}, Str.Parse.{IsNumeral, digits_value}, List.concat}
+use Rattle.std.specs.{Prelude.{◌≡◌, ℕ, ◌<◌, ◌^◌, [], ◌∷◌, ◌++◌, codes, Option, IsNone, Result, IfOk, IfErr}, Str.Parse.{IsNumeral, digits_value}, List.concat}
 use Rattle.domain_codecs.specs.{Codec.{Decodes, IsText, HasNoRoom}, declared.codec.Codec.Codec}
 use Rattle.domain_octets.specs.Words.{Octets}
-use Rattle.domain_names.specs.{TextFault.{ScanFault, entry_ends, illegal, no_room, no_memory}, Words.{Tokens, Token}}
+use Rattle.domain_names.specs.{TextFault.{ScanFault, entry_ends, illegal, no_room, no_memory, scan_fault_of}, Words.{Tokens, Token}, declared.error.ScanError.ScanError}
 
 -- the first token was taken, and P holds of it
 pub record TakesToken (P : Token → Type 0) (old new : Tokens) : Type 0 where
@@ -59,3 +59,14 @@ Grammar V = Tokens → V → Tokens → Type 0
 -- tokens are refused for a reason, and others are left
 abbrev pub Refusal : Type 1
 Refusal = Tokens → Tokens → ScanFault → Type 0
+
+-- the tokens begin with one that spells the value, and the others are left
+abbrev pub OneToken : {V : Type 0} → (Token → V → Type 0) → Grammar V
+OneToken spells old v new = TakesToken (λ text. spells text v) old new
+
+-- what is promised of reading a value from tokens: what it is, or why they are refused, and the
+-- tokens that are left then
+pub record ReadsTokens {D V : Type 0} (G : Grammar V) (value : D → V) (R : Refusal)
+    (old new : Tokens) (result : Result D ScanError) : Type 0 where
+  pub ok : IfOk result (λ d. G old (value d) new)
+  pub err : IfErr result (λ e. R old new (scan_fault_of e))

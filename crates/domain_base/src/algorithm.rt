@@ -1,7 +1,6 @@
 //! The numbers of algorithms.
-ghost use Rattle.std.specs.{Prelude.{◌≡◌, ℕ, Some, IfOk, IfErr}, Fmt.decimal};
-ghost use Rattle.domain_names.specs.TextFault.{scan_fault_of};
-ghost use Rattle.domain_base.specs.Scan.{IsNumber, IsNoNumber, RefusesToken, TakesToken};
+ghost use Rattle.std.specs.{Prelude.{◌≡◌, ℕ, Some}, Fmt.decimal};
+ghost use Rattle.domain_base.specs.Scan.{IsNumber, IsNoNumber, OneToken, ReadsTokens, RefusesToken};
 
 use crate::{FromToken, Scanner};
 use domain_names::ScanError;
@@ -39,10 +38,8 @@ impl<K> Algorithm<K> {
     /// other token as `Custom("decimal number expected")`, and a missing one as `EndOfEntry`. A
     /// token that is refused is gone past too.
     pub fn scan<S: Scanner>(scanner: &mut S) -> Result<Algorithm<K>, ScanError>
-        ensures ok { IfOk result (λ value. TakesToken (λ token. IsNumber 8 token value)
-            (S.tokens scanner.old) (S.tokens scanner.new)) }
-        ensures err { IfErr result (λ e. RefusesToken (IsNoNumber 8) (S.tokens scanner.old)
-            (S.tokens scanner.new) (scan_fault_of e)) }
+        ensures { ReadsTokens (OneToken (IsNumber 8)) (λ value. value) (RefusesToken (IsNoNumber 8))
+            (S.tokens scanner.old) (S.tokens scanner.new) result }
     {
         <Algorithm<K> as FromToken>::scan(scanner)
     }

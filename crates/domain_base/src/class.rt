@@ -1,8 +1,7 @@
 //! Classes of records.
-ghost use Rattle.std.specs.Prelude.{◌≡◌, ℕ, Some, IfOk, IfErr};
-ghost use Rattle.domain_names.specs.TextFault.{scan_fault_of};
+ghost use Rattle.std.specs.Prelude.{◌≡◌, ℕ, Some};
 ghost use Rattle.domain_base.specs.Numbers.{class_names, ClassText, IsNoClass, class_text};
-ghost use Rattle.domain_base.specs.{Named.entries, Scan.{RefusesToken, TakesToken}};
+ghost use Rattle.domain_base.specs.{Named.entries, Scan.{OneToken, ReadsTokens, RefusesToken}};
 
 use crate::{FromToken, Scanner, named};
 use domain_names::ScanError;
@@ -49,10 +48,8 @@ impl Class {
     /// (RFC 3597, section 5). Refuses every other token as `Custom("unknown class")`, and a missing
     /// one as `EndOfEntry`. A token that is refused is gone past too.
     pub fn scan<S: Scanner>(scanner: &mut S) -> Result<Class, ScanError>
-        ensures ok { IfOk result (λ value. TakesToken (λ token. ClassText token value)
-            (S.tokens scanner.old) (S.tokens scanner.new)) }
-        ensures err { IfErr result (λ e. RefusesToken IsNoClass (S.tokens scanner.old)
-            (S.tokens scanner.new) (scan_fault_of e)) }
+        ensures { ReadsTokens (OneToken ClassText) (λ value. value) (RefusesToken IsNoClass)
+            (S.tokens scanner.old) (S.tokens scanner.new) result }
     {
         <Class as FromToken>::scan(scanner)
     }

@@ -1,8 +1,7 @@
 //! Types of records.
-ghost use Rattle.std.specs.Prelude.{◌≡◌, ◌<◌, ℕ, Some, IfOk, IfErr};
-ghost use Rattle.domain_names.specs.TextFault.{scan_fault_of};
+ghost use Rattle.std.specs.Prelude.{◌≡◌, ◌<◌, ℕ, Some};
 ghost use Rattle.domain_base.specs.Numbers.{type_names, TypeText, IsNoType, type_text};
-ghost use Rattle.domain_base.specs.{Named.entries, Scan.{RefusesToken, TakesToken}};
+ghost use Rattle.domain_base.specs.{Named.entries, Scan.{OneToken, ReadsTokens, RefusesToken}};
 
 use crate::{FromToken, Scanner, named};
 use domain_names::ScanError;
@@ -126,10 +125,8 @@ impl Rtype {
     /// (RFC 3597, section 5). Refuses every other token as `Custom("unknown record type")`, and a
     /// missing one as `EndOfEntry`. A token that is refused is gone past too.
     pub fn scan<S: Scanner>(scanner: &mut S) -> Result<Rtype, ScanError>
-        ensures ok { IfOk result (λ value. TakesToken (λ token. TypeText token value)
-            (S.tokens scanner.old) (S.tokens scanner.new)) }
-        ensures err { IfErr result (λ e. RefusesToken IsNoType (S.tokens scanner.old)
-            (S.tokens scanner.new) (scan_fault_of e)) }
+        ensures { ReadsTokens (OneToken TypeText) (λ value. value) (RefusesToken IsNoType)
+            (S.tokens scanner.old) (S.tokens scanner.new) result }
     {
         <Rtype as FromToken>::scan(scanner)
     }

@@ -4,7 +4,7 @@ ghost use Rattle.std.specs.Prelude.{IfOk, IfErr, IsErrOf, IsOkAnd, OnOk, MatchOp
 ghost use Rattle.std.specs.{Fn.FnOnceReturnsAt, List.concat};
 ghost use Rattle.domain_names.specs.TextFault.{ScanFault, scan_fault_of, NameTextFault};
 ghost use Rattle.domain_names.specs.{Text.NameText, Words.{Tokens, Token}};
-ghost use Rattle.domain_base.specs.Scan.{TakesToken, RefusesToken, CodecFault, TokenHasNoRoom};
+ghost use Rattle.domain_base.specs.Scan.{OneToken, ReadsTokens, RefusesToken, CodecFault, TokenHasNoRoom};
 ghost use Rattle.domain_base.specs.Scan.{EntryFault, IsEnd};
 ghost use Rattle.domain_codecs.specs.Codec.{Decodes, DecodeFault};
 ghost use Rattle.domain_octets.specs.{Limit.HasRoom, Words.Octets};
@@ -61,12 +61,9 @@ pub trait Scanner {
     /// Refuses a token that is no name as `Custom("illegal name")`, and a name for which the
     /// builder has no room or no memory.
     fn scan_name(&mut self, alloc: Global) -> Result<Self::Name, ScanError>
-        ensures ok { IfOk result (λ name.
-            TakesToken (λ token. NameText token (Self.Name.labels name)) (tokens self.old)
-            (tokens self.new)) }
-        ensures err { IfErr result (λ e.
-            RefusesToken (NameTextFault Self.Octets.Builder.limit) (tokens self.old)
-            (tokens self.new) (scan_fault_of e)) };
+        ensures { ReadsTokens (OneToken NameText) Self.Name.labels
+            (RefusesToken (NameTextFault Self.Octets.Builder.limit)) (tokens self.old)
+            (tokens self.new) result };
 
     /// An empty builder of octets.
     fn octets_builder(&self, alloc: Global) -> <Self::Octets as FromBuilder>::Builder
@@ -77,12 +74,9 @@ pub trait Scanner {
     /// Refuses a token that stands for none as `Custom("illegal data")`, and then octets for which
     /// the builder has no room or no memory.
     fn convert_token(&mut self, alloc: Global, codec: Codec) -> Result<Self::Octets, ScanError>
-        ensures ok { IfOk result (λ octets.
-            TakesToken (λ token. Decodes codec token (Self.Octets.octets octets)) (tokens self.old)
-            (tokens self.new)) }
-        ensures err { IfErr result (λ e.
-            RefusesToken (CodecFault codec Self.Octets.Builder.limit) (tokens self.old)
-            (tokens self.new) (scan_fault_of e)) }
+        ensures read { ReadsTokens (OneToken (Decodes codec)) Self.Octets.octets
+            (RefusesToken (CodecFault codec Self.Octets.Builder.limit)) (tokens self.old)
+            (tokens self.new) result }
         ensures room { IsErrOf result ScanError.ShortBuf
             ↔ TokenHasNoRoom codec Self.Octets.Builder.limit (tokens self.old) };
 
@@ -225,11 +219,8 @@ pub trait FromToken {
     final fn scan<S: Scanner>(scanner: &mut S) -> Result<Self, ScanError>
     where
         Self: Sized,
-        ensures ok { IfOk result (λ value.
-            TakesToken (λ token. spells token value) (S.tokens scanner.old)
-            (S.tokens scanner.new)) }
-        ensures err { IfErr result (λ e.
-            RefusesToken refuses (S.tokens scanner.old) (S.tokens scanner.new) (scan_fault_of e)) }
+        ensures { ReadsTokens (OneToken spells) (λ value. value) (RefusesToken refuses)
+            (S.tokens scanner.old) (S.tokens scanner.new) result }
     {
         let Some(token) = scanner.first_token() else {
             return Err(ScanError::EndOfEntry);

@@ -1,7 +1,6 @@
 //! Times to live.
-ghost use Rattle.std.specs.{Prelude.{◌≡◌, ◌*◌, ℕ, Some, IfOk, IfErr}, Fmt.decimal};
-ghost use Rattle.domain_names.specs.TextFault.{scan_fault_of};
-ghost use Rattle.domain_base.specs.Scan.{IsNumber, IsNoNumber, RefusesToken, TakesToken};
+ghost use Rattle.std.specs.{Prelude.{◌≡◌, ◌*◌, ℕ, Some}, Fmt.decimal};
+ghost use Rattle.domain_base.specs.Scan.{IsNumber, IsNoNumber, OneToken, ReadsTokens, RefusesToken};
 
 use crate::{FromToken, Scanner};
 use domain_names::ScanError;
@@ -54,10 +53,8 @@ impl Ttl {
     /// other token as `Custom("decimal number expected")`, and a missing one as `EndOfEntry`. A
     /// token that is refused is gone past too.
     pub fn scan<S: Scanner>(scanner: &mut S) -> Result<Ttl, ScanError>
-        ensures ok { IfOk result (λ value. TakesToken (λ token. IsNumber 32 token value)
-            (S.tokens scanner.old) (S.tokens scanner.new)) }
-        ensures err { IfErr result (λ e. RefusesToken (IsNoNumber 32) (S.tokens scanner.old)
-            (S.tokens scanner.new) (scan_fault_of e)) }
+        ensures { ReadsTokens (OneToken (IsNumber 32)) (λ value. value) (RefusesToken (IsNoNumber 32))
+            (S.tokens scanner.old) (S.tokens scanner.new) result }
     {
         <Ttl as FromToken>::scan(scanner)
     }

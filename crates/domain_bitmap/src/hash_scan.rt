@@ -1,9 +1,8 @@
 //! Salts and hashes of owner names from tokens (RFC 5155, section 3.3).
-ghost use Rattle.std.specs.Prelude.{◌≡◌, ◌≤◌, ◌↔◌, IfOk, IfErr, IsTrue, codes, length};
+ghost use Rattle.std.specs.Prelude.{◌≡◌, ◌≤◌, ◌↔◌, IfOk, IsTrue, codes, length};
 ghost use Rattle.domain_codecs.specs.Codec.{Decodes};
 ghost use Rattle.domain_codecs.specs.declared.codec.Codec.TheVariants as codec;
-ghost use Rattle.domain_names.specs.TextFault.{scan_fault_of};
-ghost use Rattle.domain_base.specs.Scan.{TakesToken, RefusesToken};
+ghost use Rattle.domain_base.specs.Scan.{OneToken, ReadsTokens, RefusesToken};
 ghost use Rattle.domain_bitmap.specs.HashText.{OwnerHashText, SaltText};
 ghost use Rattle.domain_bitmap.specs.HashScan.{CountedFault, SaltTokenFault, BeginsWithDash};
 
@@ -21,13 +20,10 @@ impl<O: FromBuilder + Drop, E: Default + Drop> CountedOctets<O, E> {
         kind: Codec,
         long: &'static str,
     ) -> Result<Self, ScanError>
-        ensures ok { IfOk result (λ counted.
-            TakesToken (λ token. Decodes kind token counted)
-            (S.tokens scanner.old) (S.tokens scanner.new)) }
+        ensures read { ReadsTokens (OneToken (Decodes kind)) (λ counted. counted)
+            (RefusesToken (CountedFault kind long.now O.Builder.limit)) (S.tokens scanner.old)
+            (S.tokens scanner.new) result }
         ensures counted { IfOk result (λ counted. length counted ≤ 255) }
-        ensures err { IfErr result (λ e.
-            RefusesToken (CountedFault kind long.now O.Builder.limit)
-            (S.tokens scanner.old) (S.tokens scanner.new) (scan_fault_of e)) }
     {
         let octets = match scanner.convert_token(alloc, kind) {
             Ok(octets) => octets,
@@ -49,12 +45,9 @@ impl<O: FromBuilder + Drop> OwnerHash<O> {
     /// `Custom("illegal data")` where the token is not in Base 32 hex, else want of room or of
     /// memory, else `Custom("illegal owner name hash")` where it stands for over 255 octets.
     pub fn scan<S: Scanner<Octets = O>>(alloc: Global, scanner: &mut S) -> Result<Self, ScanError>
-        ensures ok { IfOk result (λ hash.
-            TakesToken (λ token. OwnerHashText token hash) (S.tokens scanner.old)
-            (S.tokens scanner.new)) }
-        ensures err { IfErr result (λ e.
-            RefusesToken (CountedFault codec.Base32Hex (codes "illegal owner name hash")
-            O.Builder.limit) (S.tokens scanner.old) (S.tokens scanner.new) (scan_fault_of e)) }
+        ensures { ReadsTokens (OneToken OwnerHashText) (λ hash. hash)
+            (RefusesToken (CountedFault codec.Base32Hex (codes "illegal owner name hash")
+            O.Builder.limit)) (S.tokens scanner.old) (S.tokens scanner.new) result }
     {
         OwnerHash::scan_token(alloc, scanner, Codec::Base32Hex, "illegal owner name hash")
     }
@@ -83,12 +76,9 @@ impl<O: FromBuilder + Drop> Nsec3Salt<O> {
     /// `Custom("illegal NSEC3 salt")` where it stands for over 255 octets.
     #[tactic(auto, using(std::proofs::lemmas::Grind::common_steps, crate::proofs::SaltLemmas::salt_steps))]
     pub fn scan<S: Scanner<Octets = O>>(alloc: Global, scanner: &mut S) -> Result<Self, ScanError>
-        ensures ok { IfOk result (λ salt.
-            TakesToken (λ token. SaltText token salt) (S.tokens scanner.old)
-            (S.tokens scanner.new)) }
-        ensures err { IfErr result (λ e.
-            RefusesToken (SaltTokenFault O.Builder.limit) (S.tokens scanner.old)
-            (S.tokens scanner.new) (scan_fault_of e)) }
+        ensures { ReadsTokens (OneToken SaltText) (λ salt. salt)
+            (RefusesToken (SaltTokenFault O.Builder.limit)) (S.tokens scanner.old)
+            (S.tokens scanner.new) result }
     {
         let Some(token) = scanner.first_token() else {
             return Err(ScanError::EndOfEntry);

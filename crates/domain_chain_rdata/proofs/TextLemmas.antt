@@ -3,11 +3,11 @@ use Rattle.std.proofs.Common.{◌≡◌, ℕ, ◌+◌, ◌<◌, true, List, [], 
 use Rattle.std.{proofs.lemmas.{Bool.Decides.nat_tests, Fmt.decimal_digit, Grind.common_steps}, specs.Prelude.{◌==◌, codes}}
 use Rattle.domain_codecs.specs.declared.codec.Codec.TheVariants.{Base32Hex}
 use Rattle.domain_names.{specs.{TextFault.{ScanFault, IsOfTokens, NameTextFault}, Text.NameText}, proofs.SpellingLemmas.one_name}
-use Rattle.domain_base.{specs.Scan.RefusesToken, proofs.RefusalLemmas.{name_excludes, name_one_fault}}
+use Rattle.domain_base.{specs.Scan.{OneToken, RefusesToken}, proofs.RefusalLemmas.{name_excludes, name_one_fault}}
 use Rattle.domain_bitmap.specs.{HashScan.{CountedFault, SaltTokenFault}, HashText.{SaltText, OwnerHashText}, Scan.RefusesTypes}
 use Rattle.domain_bitmap.proofs.{ReadBackLemmas.spelled_once, RefusalLemmas.{types_refused, types_one_fault, salt_once, salt_excludes, salt_one_fault}}
 use Rattle.domain_bitmap.proofs.RefusalLemmas.{hash_once, hash_excludes, counted_one_fault}
-use Rattle.domain_fields.specs.{Layout.Values, Sequence.{OneToken, ReadsOnce, IsExact}}
+use Rattle.domain_fields.specs.{Layout.Values, Sequence.{ReadsOnce, IsExact}}
 use Rattle.domain_fields.proofs.GrammarLemmas.{fields_exact, one_token, token_refused, token_once_refused, both_once, both_exact}
 use Rattle.domain_chain_rdata.specs.{NsecText.{BitmapText, NsecText, RefusesNsec}, Nsec3paramText.{Nsec3paramText, RefusesNsec3param}}
 use Rattle.domain_chain_rdata.specs.{Rdata.{nsec, hash_numbers}, Nsec3paramText.hash_numbers_text}

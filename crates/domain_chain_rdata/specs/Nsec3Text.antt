@@ -2,10 +2,10 @@
 use Rattle.std.specs.Prelude.{ℕ, List, [], ◌∷◌, ◌++◌, codes, Option}
 use Rattle.domain_codecs.specs.{Base32.base32_upper, declared.codec.Codec.TheVariants.Base32Hex}
 use Rattle.domain_octets.specs.{Piece.{PieceText, token, opens, closes}, Words.Octets}
-use Rattle.domain_base.specs.Scan.{RefusesToken, Refusal, Grammar}
+use Rattle.domain_base.specs.Scan.{OneToken, RefusesToken, Refusal, Grammar}
 use Rattle.domain_bitmap.specs.{Blocks.types_of, HashScan.CountedFault, HashText.{OwnerHashText, salt_text}}
 use Rattle.domain_bitmap.specs.{Pieces.{type_pieces, salt_pieces}, Scan.RefusesTypes, Text.spaced_types}
-use Rattle.domain_fields.specs.{Layout.Values, Sequence.{OneToken, Both, RefusesBoth}}
+use Rattle.domain_fields.specs.{Layout.Values, Sequence.{Both, RefusesBoth}}
 use Rattle.domain_chain_rdata.specs.{OptOut.opt_out_comment, Nsec3paramText.{Nsec3paramText, RefusesNsec3param, hash_numbers_text, number_pieces}}
 use Rattle.domain_chain_rdata.specs.{NsecText.BitmapText, Rdata.{hash_numbers, hash_fields, nsec3}}
 

@@ -2,9 +2,9 @@
 -- zone file
 use Rattle.std.specs.{Prelude.{ℕ, List, [], ◌∷◌, ◌++◌, codes, Option}, Fmt.decimal}
 use Rattle.domain_octets.specs.{Piece.{PieceText, token, comment, opens, closes}, Words.Octets}
-use Rattle.domain_base.specs.Scan.{RefusesToken, Refusal, Grammar}
+use Rattle.domain_base.specs.Scan.{OneToken, RefusesToken, Refusal, Grammar}
 use Rattle.domain_bitmap.specs.{HashText.{SaltText, salt_text}, HashScan.SaltTokenFault, Pieces.salt_pieces}
-use Rattle.domain_fields.specs.{Layout.Values, Scan.{Scans, Refuses}, Sequence.{OneToken, Both, RefusesBoth}}
+use Rattle.domain_fields.specs.{Layout.Values, Scan.{Scans, Refuses}, Sequence.{Both, RefusesBoth}}
 use Rattle.domain_chain_rdata.specs.Rdata.{hash_numbers, nsec3param}
 
 -- the tokens begin with three numbers and a salt, and these are left

@@ -2,9 +2,9 @@
 use Rattle.std.specs.Prelude.{◌≡◌, ℕ, List, [], ◌∷◌, ◌++◌, codes, Option}
 use Rattle.domain_octets.specs.{Piece.{PieceText, token, opens, closes}, Words.Octets}
 use Rattle.domain_names.specs.{TextFault.NameTextFault, Text.{NameText, name_text}, Words.{Tokens, Name}}
-use Rattle.domain_base.specs.{Scan.{RefusesToken, Refusal, Grammar}, Types.Rtypes}
+use Rattle.domain_base.specs.{Scan.{OneToken, RefusesToken, Refusal, Grammar}, Types.Rtypes}
 use Rattle.domain_bitmap.specs.{Bitmap.bitmap_octets, Blocks.types_of, Pieces.type_pieces, Scan.{TypeTexts, RefusesTypes, is_among}}
-use Rattle.domain_fields.specs.{Layout.Values, Sequence.{OneToken, Both, RefusesBoth}}
+use Rattle.domain_fields.specs.{Layout.Values, Sequence.{Both, RefusesBoth}}
 use Rattle.domain_chain_rdata.specs.Rdata.{nsec}
 
 -- all tokens spell the types of a bitmap, one each

@@ -4,7 +4,8 @@ ghost use Rattle.domain_bitmap.specs.{Blocks.types_of, Text.spaced_types};
 ghost use Rattle.domain_chain_rdata.specs.OptOut.{opt_out_comment};
 ghost use Rattle.domain_chain_rdata.specs.Rdata.{nsec3, nsec3_values};
 ghost use Rattle.domain_chain_rdata.specs.Nsec3Text.{Nsec3Text, RefusesNsec3, params_before_hash, nsec3_text, nsec3_pieces};
-ghost use Rattle.domain_fields.specs.{Layout.Fits, Scan.ReadsTokens};
+ghost use Rattle.domain_base.specs.Scan.{ReadsTokens};
+ghost use Rattle.domain_fields.specs.Layout.{Fits};
 
 use crate::nsec3param::HashNumbers;
 use crate::nsec3param_text::write_numbers;

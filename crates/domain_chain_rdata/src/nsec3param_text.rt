@@ -1,6 +1,7 @@
 //! The parameters of the hashes of names as text (RFC 5155, section 4.3).
 ghost use Rattle.std.specs.Prelude.{◌≡◌, ◌++◌, Some, IfOk, OnOk};
-ghost use Rattle.domain_fields.specs.{Layout.Fits, Scan.ReadsTokens};
+ghost use Rattle.domain_base.specs.Scan.{ReadsTokens};
+ghost use Rattle.domain_fields.specs.Layout.{Fits};
 ghost use Rattle.domain_chain_rdata.specs.Rdata.{nsec3param, nsec3param_values};
 ghost use Rattle.domain_chain_rdata.specs.Nsec3paramText.{Nsec3paramText, RefusesNsec3param, hash_numbers_text, nsec3param_text, number_pieces, nsec3param_pieces};
 

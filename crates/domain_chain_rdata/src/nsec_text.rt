@@ -3,7 +3,7 @@ ghost use Rattle.std.specs.Prelude.{◌++◌, Some, codes};
 ghost use Rattle.domain_names.specs.Text.{name_text};
 ghost use Rattle.domain_bitmap.specs.{Blocks.types_of, Text.types_text};
 ghost use Rattle.domain_chain_rdata.specs.NsecText.{NsecText, RefusesNsec, nsec_pieces};
-ghost use Rattle.domain_fields.specs.Scan.{ReadsTokens};
+ghost use Rattle.domain_base.specs.Scan.{ReadsTokens};
 ghost use Rattle.domain_chain_rdata.specs.Rdata.{nsec_values};
 
 use crate::Nsec;

@@ -2,9 +2,9 @@
 use Rattle.std.proofs.{Common.{arith, ◌≡◌, ℕ, List, Option}, lemmas.Grind.common_steps}
 use Rattle.domain_codecs.specs.declared.codec.Codec.{Codec}
 use Rattle.domain_names.specs.TextFault.{ScanFault, IsOfTokens}
-use Rattle.domain_base.{specs.Scan.{RefusesToken, Grammar, Refusal}, proofs.RefusalLemmas.{token_excludes, token_one_fault}}
+use Rattle.domain_base.{specs.Scan.{OneToken, RefusesToken, Grammar, Refusal}, proofs.RefusalLemmas.{token_excludes, token_one_fault}}
 use Rattle.domain_fields.specs.{Layout.Layout, Scan.{Scans, Refuses}, Entry.{Spells, RefusesData}}
-use Rattle.domain_fields.specs.Sequence.{OneToken, Both, RefusesBoth, ReadsOnce, Excludes, OneFault, IsExact}
+use Rattle.domain_fields.specs.Sequence.{Both, RefusesBoth, ReadsOnce, Excludes, OneFault, IsExact}
 use Rattle.domain_fields.proofs.ScanLemmas.{refused_spells_none, one_first_fault, scans_left, scans_once}
 
 -- fields of one token each

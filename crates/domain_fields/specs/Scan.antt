@@ -1,8 +1,8 @@
 -- record data as tokens: fields in their order, each as one token
-use Rattle.std.specs.{Prelude.{◌≡◌, ◌⊎◌, ℕ, [], codes, length, Option, Result, IfOk, IfErr}, Net.Grammar.IsDotted}
+use Rattle.std.specs.{Prelude.{◌≡◌, ◌⊎◌, ℕ, [], codes, length, Option}, Net.Grammar.IsDotted}
 use Rattle.domain_octets.specs.Words.{Octets}
-use Rattle.domain_names.specs.{Text.NameText, TextFault.{ScanFault, illegal, NameTextFault, scan_fault_of}}
-use Rattle.domain_names.specs.{Words.{Tokens, Token}, declared.error.ScanError.ScanError}
+use Rattle.domain_names.specs.{Text.NameText, TextFault.{ScanFault, illegal, NameTextFault}}
+use Rattle.domain_names.specs.{Words.{Tokens, Token}}
 use Rattle.domain_base.specs.Scan.{TakesToken, RefusesToken, IsNumber, IsNoNumber, Grammar, Refusal}
 use Rattle.domain_fields.specs.{Field.{Field, octet, short, long, name, spelled_name, exactly, Value}, Layout.{Layout, one, ◌▸◌, Values}}
 
@@ -47,10 +47,3 @@ Refuses limit (a ▸ b) old new fault =
 -- all tokens spell the value
 abbrev pub AllTokens : {V : Type 0} → (Tokens → V → Type 0) → Grammar V
 AllTokens spells old v new = spells old v × (new ≡ [])
-
--- what is promised of reading data from tokens: what they are, or why they are refused, and the
--- tokens that are left then
-pub record ReadsTokens {D V : Type 0} (G : Grammar V) (values : D → V) (R : Refusal)
-    (old new : Tokens) (result : Result D ScanError) : Type 0 where
-  pub ok : IfOk result (λ d. G old (values d) new)
-  pub err : IfErr result (λ e. R old new (scan_fault_of e))

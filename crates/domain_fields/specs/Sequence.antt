@@ -1,11 +1,7 @@
 -- grammars of tokens: of one token, and one grammar after another
 use Rattle.std.specs.Prelude.{◌≡◌, ◌⊎◌, ℕ, Option}
-use Rattle.domain_base.specs.Scan.{Refusal, Grammar, TakesToken}
-use Rattle.domain_names.specs.{TextFault.{ScanFault, IsOfTokens}, Words.{Tokens, Token}}
-
--- the tokens begin with one that spells the value, and the others are left
-abbrev pub OneToken : {V : Type 0} → (Token → V → Type 0) → Grammar V
-OneToken spells old v new = TakesToken (λ text. spells text v) old new
+use Rattle.domain_base.specs.Scan.{Refusal, Grammar}
+use Rattle.domain_names.specs.{TextFault.{ScanFault, IsOfTokens}, Words.{Tokens}}
 
 -- one grammar after another
 abbrev pub Both : {V W : Type 0} → Grammar V → Grammar W → Grammar (V × W)

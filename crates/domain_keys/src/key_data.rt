@@ -8,7 +8,8 @@ ghost use Rattle.domain_octets.specs.Limit.{IsOver};
 ghost use Rattle.domain_names.specs.Fault.{fault_of};
 ghost use Rattle.domain_codecs.specs.declared.codec.Codec.{Codec};
 ghost use Rattle.domain_fields.specs.{Layout.{Begins, Fits, FirstFault, Reads}, DataClone.copies_tied};
-ghost use Rattle.domain_fields.specs.{Laws.{fed_alike, tied_octets}, Scan.{AllTokens, ReadsTokens}};
+ghost use Rattle.domain_base.specs.Scan.{ReadsTokens};
+ghost use Rattle.domain_fields.specs.{Laws.{fed_alike, tied_octets}, Scan.AllTokens};
 ghost use Rattle.domain_keys.specs.Data.{key_data, key_fields, key_values, key_octets};
 ghost use Rattle.domain_keys.specs.Scan.{KeyText, RefusesKey};
 

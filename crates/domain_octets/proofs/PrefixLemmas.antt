@@ -28,7 +28,7 @@ module _ (has : ℕ → Bool) where
   searched_whole text left n so_far short within last =
       let size = ap length so_far.parts ∙ length-append so_far.front left in
       let begin : take (length text - n) text ≡ take (length text - n) so_far.front =
-          ap (take (length text - n)) so_far.parts ∙ take-append-le (length text - n) so_far.front left (omega (arith, size, short)) in
+      ap (take (length text - n)) so_far.parts ∙ take-append-le (length text - n) so_far.front left (omega (arith, size, short)) in
       subst (AllPass has) (take-append-drop (length text - n) text)
       (All-append (λ c. has c ≡ true) (take (length text - n) text) (drop (length text - n) text)
       (subst (AllPass has) (sym begin) (All-take (λ c. has c ≡ true) (length text - n) so_far.front so_far.pass)) last)

@@ -86,8 +86,8 @@ no_place text i zero none = λ k low high. absurd (omega (arith, low, high))
 no_place text i (suc n) none = elim (cases_Bool (is_blank (slice_index text i))) [
   | inl here ↦ absurd (let n = none in grind (arith, common_steps))
   | inr other ↦
-    let after = no_place text (i + 1) n (let n = none in grind (arith, common_steps)) in
-    not_here (Passes is_blank text) i (i + suc n) (λ is. absurd (grind (arith, common_steps))) (λ k low high. after k low (omega (arith, high)))
+      let after = no_place text (i + 1) n (let n = none in grind (arith, common_steps)) in
+      not_here (Passes is_blank text) i (i + suc n) (λ is. absurd (grind (arith, common_steps))) (λ k low high. after k low (omega (arith, high)))
 ]
 
 -- the first of the places of blanks, and those behind it
@@ -97,19 +97,25 @@ unfolding places_from
 first_place text i zero at later same = absurd (let s = same in cc)
 first_place text i (suc n) at later same = elim (cases_Bool (is_blank (slice_index text i))) [
   | inl here ↦
-    let is : i ≡ at = (let s = same in grind (arith, common_steps)) in
-    let rest : later ≡ places_from is_blank text (i + 1) n = (let s = same in grind (arith, common_steps)) in
-    let count : n ≡ i + suc n - (i + 1) = omega arith in
-    subst (λ k. NoneBefore (Passes is_blank text) i (i + suc n) k × Passes is_blank text k × (later ≡ places_between is_blank text (k + 1) (i + suc n))) is
-    (record { low = omega arith; high = omega arith; before = λ k low high. absurd (omega (arith, low, high)) }, here,
-    rest ∙ ap (places_from is_blank text (i + 1)) count)
+      let is : i ≡ at = (let s = same in grind (arith, common_steps)) in
+      let rest : later ≡ places_from is_blank text (i + 1) n = (let s = same in grind (arith, common_steps)) in
+      let count : n ≡ i + suc n - (i + 1) = omega arith in
+      subst (λ k. NoneBefore (Passes is_blank text) i (i + suc n) k × Passes is_blank text k × (later ≡ places_between is_blank text (k + 1) (i + suc n))) is (
+        record { low = omega arith; high = omega arith; before = λ k low high. absurd (omega (arith, low, high)) },
+        here,
+        rest ∙ ap (places_from is_blank text (i + 1)) count,
+      )
   | inr other ↦
-    let after = first_place text (i + 1) n at later (let s = same in grind (arith, common_steps)) in
-    let end : i + 1 + n ≡ i + suc n = omega arith in
-    (record {
-      low = let low = after.0.low in omega (arith, low); high = let high = after.0.high in omega (arith, high);
-      before = not_here (Passes is_blank text) i at (λ is. absurd (grind (arith, common_steps))) after.0.before;
-    }, after.1, after.2 ∙ ap (places_between is_blank text (at + 1)) end)
+      let after = first_place text (i + 1) n at later (let s = same in grind (arith, common_steps)) in
+      let end : i + 1 + n ≡ i + suc n = omega arith in (
+        record {
+          low = let low = after.0.low in omega (arith, low);
+          high = let high = after.0.high in omega (arith, high);
+          before = not_here (Passes is_blank text) i at (λ is. absurd (grind (arith, common_steps))) after.0.before;
+        },
+        after.1,
+        after.2 ∙ ap (places_between is_blank text (at + 1)) end,
+      )
 ]
 
 -- the words before a place, which come behind others, and the blanks that are still to come
@@ -134,7 +140,7 @@ module _ (text : List ℕ) (begin : ℕ) (within : begin ≤ length text) where
       let low = first.low in let high = first.high in
       let plain : HasNoBlank word = no_blank text begin (at - begin) (omega (arith, low, high)) (λ k from to. first.before k from (omega (arith, low, to))) in
       let behind : drop (at - begin) (drop begin text) ≡ get_or text at 0 ∷ drop (at + 1) text =
-          drop-drop (at - begin) begin text ∙ ap (λ k. drop k text) (omega (arith, low)) ∙ drop_more text at 0 high in
+      drop-drop (at - begin) begin text ∙ ap (λ k. drop k text) (omega (arith, low)) ∙ drop_more text at 0 high in
       ap words_of (sym (take-append-drop (at - begin) (drop begin text)) ∙ ap (λ l. word ++ l) behind)
       ∙ words_apart [] word (get_or text at 0) (drop (at + 1) text) blank ∙ ap (λ l. l ++ words_of (drop (at + 1) text)) (word_goes_on [] word plain)
 

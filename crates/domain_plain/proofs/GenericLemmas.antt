@@ -1,8 +1,8 @@
 -- generic text that is refused
 use Rattle.std.proofs.Common.{ℕ, refl, sym, ◌∙◌, Option}
 use Rattle.domain_codecs.specs.declared.codec.Codec.TheVariants.{Base16}
-use Rattle.domain_base.specs.Scan.{IsNumber, IsNoNumber, RefusesToken}
-use Rattle.domain_fields.specs.Sequence.{OneToken, RefusesBoth, IsExact, IsExactEntry}
+use Rattle.domain_base.specs.Scan.{OneToken, IsNumber, IsNoNumber, RefusesToken}
+use Rattle.domain_fields.specs.Sequence.{RefusesBoth, IsExact, IsExactEntry}
 use Rattle.domain_fields.proofs.GrammarLemmas.{token_exact, both_exact, same_octets, entry_refused, entry_refused_once}
 use Rattle.domain_plain.specs.Generic.{IsMark, generic_head, GenericText, GenericFault, IsNoMark}
 

@@ -4,8 +4,8 @@ use Rattle.hex.specs.Hex.{encode_upper}
 use Rattle.domain_octets.specs.{Words.Octets, Characters.space}
 use Rattle.domain_codecs.specs.declared.codec.Codec.TheVariants.{Base16}
 use Rattle.domain_names.specs.{TextFault.{ScanFault, illegal}, Words.{Tokens, Token}}
-use Rattle.domain_base.specs.Scan.{Grammar, Refusal, IsNumber, IsNoNumber, RefusesToken}
-use Rattle.domain_fields.specs.{Entry.{Spells, RefusesData}, Sequence.{OneToken, Both, RefusesBoth}}
+use Rattle.domain_base.specs.Scan.{OneToken, Grammar, Refusal, IsNumber, IsNoNumber, RefusesToken}
+use Rattle.domain_fields.specs.{Entry.{Spells, RefusesData}, Sequence.{Both, RefusesBoth}}
 
 -- what generic text begins with
 abbrev pub generic_mark : Token

@@ -7,7 +7,8 @@ ghost use Rattle.domain_names.specs.Fault.{fault_of};
 ghost use Rattle.domain_plain.specs.Generic.{GenericText, GenericFault, IsNoMark, generic_mark, generic_text};
 ghost use Rattle.domain_plain.specs.Plain.{unknown, unknown_values};
 ghost use Rattle.domain_fields.specs.Layout.{Begins, FirstFault, octets_of, canonical_of, Reads};
-ghost use Rattle.domain_fields.specs.{DataClone.same_values_tie, Scan.{AllTokens, ReadsTokens}};
+ghost use Rattle.domain_base.specs.Scan.{ReadsTokens};
+ghost use Rattle.domain_fields.specs.{DataClone.same_values_tie, Scan.AllTokens};
 
 use domain_base::{CanonicalOrd, FromToken, Rtype, ScanError, Scanner};
 use domain_codecs::{Codec, base16};

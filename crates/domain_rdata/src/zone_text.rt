@@ -4,7 +4,7 @@ ghost use Rattle.domain_names.specs.{TextFault.{IsOfTokens, scan_fault_of}, Word
 ghost use Rattle.domain_rdata.specs.{Zone.data_text, Refusal.{RefusesOwn, RefusesRdata}};
 ghost use Rattle.domain_rdata.specs.Scan.{RdataText, OwnText, IsGeneric};
 ghost use Rattle.domain_rdata.specs.declared.zone_record_data.ZoneRecordData.{ZoneRecordData};
-ghost use Rattle.domain_fields.specs.Scan.{ReadsTokens};
+ghost use Rattle.domain_base.specs.Scan.{ReadsTokens};
 
 use crate::ZoneRecordData;
 use crate::zone_record_data::{return_of_type, with_data};

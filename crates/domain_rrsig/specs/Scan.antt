@@ -2,10 +2,10 @@
 -- left spell together
 use Rattle.std.specs.Prelude.{ℕ, ◌+◌, ◌<◌, ◌≤◌, length, codes, Option}
 use Rattle.domain_codecs.specs.declared.codec.Codec.TheVariants.{Base64}
-use Rattle.domain_base.specs.{Scan.{Refusal, Grammar, RefusesToken}, Numbers.{TypeText, IsNoType}}
+use Rattle.domain_base.specs.{Scan.{OneToken, Refusal, Grammar, RefusesToken}, Numbers.{TypeText, IsNoType}}
 use Rattle.domain_names.specs.{Name.wire_of, Words.Tokens}
 use Rattle.domain_fields.specs.{Entry.{Spells, RefusesData}, Field.{octet, short, long, name}, Layout.{Layout, one, ◌▸◌, Values}, Scan.{Scans, Refuses}}
-use Rattle.domain_fields.specs.Sequence.{OneToken, Both, RefusesBoth}
+use Rattle.domain_fields.specs.Sequence.{Both, RefusesBoth}
 use Rattle.domain_rrsig.specs.{Data.{ProtoRrsigData, RrsigData, rrsig_octets}, Time.{TimeToken, IsNoTime}}
 
 -- algorithm, labels and the TTL

@@ -2,7 +2,8 @@
 ghost use Rattle.std.specs.Prelude.{Some};
 ghost use Rattle.domain_rrsig.specs.Pieces.{rrsig_text, rrsig_pieces};
 ghost use Rattle.domain_rrsig.specs.Scan.{rrsig_fields, rrsig_fields_text, RefusesRrsigFields, RrsigText, RefusesRrsig};
-ghost use Rattle.domain_fields.specs.Scan.{AllTokens, ReadsTokens};
+ghost use Rattle.domain_base.specs.Scan.{ReadsTokens};
+ghost use Rattle.domain_fields.specs.Scan.{AllTokens};
 
 use crate::{ProtoRrsig, Rrsig, Timestamp};
 use domain_base::{FromToken, Rtype, ScanError, Scanner, SecurityAlgorithm, ToName, Ttl};

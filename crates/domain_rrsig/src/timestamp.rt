@@ -4,8 +4,7 @@ ghost use Rattle.std.specs.Prelude.{Some, IfSome, IsNone, IsErr, IfOk, IfErr, On
 ghost use Rattle.std.specs.{Fmt.decimal, Int.{w32, to_be_bytes}, Ordering.nat_cmp};
 ghost use Rattle.std.specs.Cmp.{nat_cmp_total};
 ghost use Rattle.domain_octets.specs.{Limit.IsOver, Piece.token, Place.Takes};
-ghost use Rattle.domain_names.specs.TextFault.{scan_fault_of};
-ghost use Rattle.domain_base.specs.{Scan.{RefusesToken, TakesToken}, Serial.serial_cmp};
+ghost use Rattle.domain_base.specs.{Scan.{OneToken, ReadsTokens, RefusesToken}, Serial.serial_cmp};
 ghost use Rattle.domain_rrsig.specs.Time.{IsNear, TimeAt, TimeToken, IsNoTime, ReadsTime};
 
 use domain_base::{CanonicalOrd, FromToken, ParseError, ScanError, Scanner, Serial};
@@ -129,10 +128,8 @@ impl Timestamp {
     /// `Custom("illegal signature time")`, and a missing token as `EndOfEntry`. A token that is
     /// refused is gone past too.
     pub fn scan<S: Scanner>(scanner: &mut S) -> Result<Timestamp, ScanError>
-        ensures ok { IfOk result (λ value. TakesToken (λ token. TimeToken token value)
-            (S.tokens scanner.old) (S.tokens scanner.new)) }
-        ensures err { IfErr result (λ e. RefusesToken IsNoTime (S.tokens scanner.old)
-            (S.tokens scanner.new) (scan_fault_of e)) }
+        ensures { ReadsTokens (OneToken TimeToken) (λ value. value) (RefusesToken IsNoTime)
+            (S.tokens scanner.old) (S.tokens scanner.new) result }
     {
         <Timestamp as FromToken>::scan(scanner)
     }

@@ -15,5 +15,5 @@ returns g c = λ all.
     let short = c.in_default-split_first_chunk.ensures.cases in
     let last = c.in-Some.ensures.cases in
     let whole : AllPass g.S.OctetSet.has (drop (length c.args.octets.now - 32) c.args.octets.now) =
-        subst (AllPass g.S.OctetSet.has) last.1.same (c.are_usual-2.ensures all) in
+    subst (AllPass g.S.OctetSet.has) last.1.same (c.are_usual-2.ensures all) in
     searched_whole g.S.OctetSet.has c.args.octets.now c.loop-front.rest.now 32 c.loop-front.invariant (omega (arith, short)) last.0 whole
