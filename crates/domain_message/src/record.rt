@@ -10,21 +10,17 @@ use crate::MessageError;
 use crate::header::header_at;
 use crate::parts::{expand, parts_of};
 use domain_base::{MakeName, Rtype, ScanError};
-use domain_octets::{ArrayBuilder, EmptyBuilder, FromBuilder, Octets, OctetsBuilder};
+use domain_octets::{ArrayBuilder, FromBuilder, Octets};
 use domain_rdata::ZoneRecordData;
 use domain_record::Record;
 use std::alloc::Global;
 
 /// A copy of octets.
 fn copied<O: FromBuilder>(alloc: Global, octets: &[u8]) -> Result<O, MessageError>
-where
-    O::Builder: EmptyBuilder + Drop,
     ensures ok { IfOk result (λ made. O.octets made ≡ octets.now) }
     ensures err { IfErr result (CopyRefusal O.Builder.limit octets.now) }
 {
-    let mut builder = O::Builder::empty(alloc);
-    builder.append_slice(octets)?;
-    Ok(O::from_builder(builder))
+    Ok(O::from_octets(alloc, octets)?)
 }
 
 /// The octets of data of a type that stand at a place, without compression.
@@ -35,8 +31,6 @@ fn octets_at<O: FromBuilder>(
     place: usize,
     count: usize,
 ) -> Result<O, MessageError>
-where
-    O::Builder: EmptyBuilder + Drop,
     requires inside { place + count ≤ length message.now }
     requires short { count < 65536 }
     ensures ok { IfOk result (λ o. DataAt message.now rtype place count (O.octets o)) }
@@ -76,8 +70,6 @@ fn data_at<O: FromBuilder + Drop, N: MakeName + Drop>(
     place: usize,
     count: usize,
 ) -> Result<ZoneRecordData<O, N>, MessageError>
-where
-    O::Builder: EmptyBuilder + Drop,
     requires inside { place ≤ length message.now }
     requires short { count < 65536 }
     ensures ok { IfOk result (IsDataAt O.octets N.labels message.now rtype place count) }
@@ -113,8 +105,6 @@ pub fn read_record<O: FromBuilder + Drop, N: MakeName + Drop>(
     message: &[u8],
     at: usize,
 ) -> Result<(Record<N, ZoneRecordData<O, N>>, usize), MessageError>
-where
-    O::Builder: EmptyBuilder + Drop,
     ensures ok { IfOk result (λ r. RecordAt O.octets N.labels message.now at r.0 r.1) }
     ensures inside { IfOk result (λ r. r.1 ≤ length message.now) }
     ensures err { IfErr result (RefusesRecord O.Builder.limit message.now at) }

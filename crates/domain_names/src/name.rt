@@ -11,8 +11,7 @@ ghost use Rattle.domain_names.specs.{Wire.{labels_of, IsWire}, Words.Name};
 
 use crate::{MakeName, ParseError, ScanError, ToName, text, wire};
 use domain_octets::{
-    ArrayBuilder, EmptyBuilder, FromBuilder, Octets, OctetsBuilder, OutOfMemory, SmallOctets,
-    TryClone,
+    ArrayBuilder, FromBuilder, Octets, OctetsBuilder, OutOfMemory, SmallOctets, TryClone,
 };
 use std::alloc::Global;
 use std::cmp::Ordering;
@@ -80,10 +79,7 @@ impl<O: Octets> Name<O> {
     }
 }
 
-impl<O: FromBuilder> Name<O>
-where
-    O::Builder: EmptyBuilder + Drop,
-{
+impl<O: FromBuilder> Name<O> {
     /// The name that a text spells (RFC 1035, section 5.1), with or without a last dot: in either
     /// case it is absolute. Reads no further than the first character that no name has there.
     ///

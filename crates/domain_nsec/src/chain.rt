@@ -7,9 +7,9 @@ ghost use Rattle.domain_nsec.specs.ChainView.{as_link, links_of};
 
 use crate::GenerateNsecConfig;
 use domain_base::{MakeName, ParsedName, ToName};
-use domain_bitmap::{RtypeBitmap, RtypeBitmaps};
+use domain_bitmap::RtypeBitmaps;
 use domain_chain_rdata::Nsec;
-use domain_octets::{EmptyBuilder, FromBuilder, GrowingBuilder, OctetsBuilder, OutOfMemory};
+use domain_octets::{FromBuilder, GrowingBuilder, OutOfMemory};
 use domain_record::{Record, ZoneData};
 use domain_records::{RecordsIter, SigningError};
 use domain_zone::{ApexSoa, find_soa, list_owners};
@@ -149,22 +149,6 @@ impl<'a, N: ToName> NsecChain<'a, N> {
     }
 }
 
-/// A copy of types in octets of their own.
-fn copy_types<O: FromBuilder>(
-    alloc: Global,
-    types: &RtypeBitmap<&[u8]>,
-) -> Result<RtypeBitmap<O>, OutOfMemory>
-where
-    O::Builder: GrowingBuilder + EmptyBuilder + Drop,
-    ensures { IfOk result (λ copy. copy ≡ types.now) }
-{
-    let mut builder = O::Builder::empty(alloc);
-    builder
-        .append_slice(types.as_slice())
-        .map_err(|_| OutOfMemory)?;
-    Ok(types.with_octets(O::from_builder(builder)))
-}
-
 /// The record in octets of its own.
 fn copy_record<O: FromBuilder, N: MakeName>(
     alloc: Global,
@@ -173,18 +157,15 @@ fn copy_record<O: FromBuilder, N: MakeName>(
 where
     N: Drop,
     O: Drop,
-    O::Builder: GrowingBuilder + EmptyBuilder + Drop,
+    O::Builder: GrowingBuilder,
     ensures { IfOk result (λ made. as_link N.labels made ≡ as_link (λ n. n) borrowed.now) }
 {
     let owner = N::make(alloc, borrowed.owner().as_wire())?;
     let next = N::make(alloc, borrowed.data().next_name().as_wire())?;
-    let types = copy_types(alloc, borrowed.data().types())?;
-    Ok(Record::new(
-        owner,
-        borrowed.class(),
-        borrowed.ttl(),
-        Nsec::new(next, types),
-    ))
+    let types = borrowed.data().types();
+    let octets = O::from_octets(alloc, types.as_slice()).map_err(|_| OutOfMemory)?;
+    let data = Nsec::new(next, types.with_octets(octets));
+    Ok(Record::new(owner, borrowed.class(), borrowed.ttl(), data))
 }
 
 impl<'a, N: MakeName> NsecChain<'a, N> {
@@ -196,7 +177,7 @@ impl<'a, N: MakeName> NsecChain<'a, N> {
     where
         N: Drop,
         O: Drop,
-        O::Builder: GrowingBuilder + EmptyBuilder + Drop,
+        O::Builder: GrowingBuilder,
         ensures { IfOk result (λ nsecs. links_of N.labels nsecs.items ≡ self.now) }
     {
         let mut nsecs = Vec::with_capacity(alloc, self.len())?;

@@ -5,21 +5,17 @@ ghost use Rattle.domain_nsec3.specs.View.{as_hashed_link, as_param_record};
 use crate::borrowed::BorrowedNsec3;
 use domain_base::{Class, MakeName, ParsedName, ToName};
 use domain_chain_rdata::{Nsec3, Nsec3param};
-use domain_octets::{
-    EmptyBuilder, FromBuilder, GrowingBuilder, Octets, OctetsBuilder, OutOfMemory,
-};
+use domain_octets::{FromBuilder, GrowingBuilder, Octets, OutOfMemory};
 use domain_record::Record;
 use std::alloc::Global;
 
 /// A copy of octets.
 fn copy_octets<O: FromBuilder>(alloc: Global, octets: &[u8]) -> Result<O, OutOfMemory>
 where
-    O::Builder: GrowingBuilder + EmptyBuilder + Drop,
+    O::Builder: GrowingBuilder,
     ensures { IfOk result (λ copy. O.octets copy ≡ octets.now) }
 {
-    let mut builder = O::Builder::empty(alloc);
-    builder.append_slice(octets).map_err(|_| OutOfMemory)?;
-    Ok(O::from_builder(builder))
+    O::from_octets(alloc, octets).map_err(|_| OutOfMemory)
 }
 
 /// A copy of a record.
@@ -30,7 +26,7 @@ pub(crate) fn copy_record<O: FromBuilder, N: MakeName>(
 where
     O: Drop,
     N: Drop,
-    O::Builder: GrowingBuilder + EmptyBuilder + Drop,
+    O::Builder: GrowingBuilder,
     ensures { IfOk result (λ made. as_hashed_link N.labels made ≡ borrowed.now) }
 {
     let owner = borrowed.owner().make(alloc)?;

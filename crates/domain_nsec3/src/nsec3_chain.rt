@@ -15,7 +15,7 @@ use crate::copy::copy_record;
 use domain_base::{Class, MakeName, ParsedName, ToName, Ttl};
 use domain_chain_rdata::{Nsec3, Nsec3param};
 use domain_hasher::Nsec3Hasher;
-use domain_octets::{EmptyBuilder, FromBuilder, GrowingBuilder, Octets, OutOfMemory};
+use domain_octets::{FromBuilder, GrowingBuilder, Octets, OutOfMemory};
 use domain_record::{Record, ZoneData};
 use domain_records::{RecordsIter, SigningError, Sorter};
 use domain_zone::{ApexSoa, find_soa};
@@ -184,7 +184,7 @@ impl<'a, O: FromBuilder> Nsec3Chain<'a, O> {
     where
         O: Drop,
         N: Drop,
-        O::Builder: GrowingBuilder + EmptyBuilder + Drop,
+        O::Builder: GrowingBuilder,
         ensures { IfOk result (λ nsec3s.
             hashed_links_of N.labels nsec3s.items ≡ self.now.links) }
     {

@@ -16,7 +16,7 @@ use crate::zone_record_data::return_of_type;
 use domain_base::{MakeName, ParsedName, Rtype, ScanError, ToName};
 use domain_chain_rdata::{Nsec, Nsec3, Nsec3param};
 use domain_keys::{KeyData, KeyKind};
-use domain_octets::{EmptyBuilder, FromBuilder, Octets, OctetsBuilder, OutOfMemory, Parser};
+use domain_octets::{FromBuilder, Octets, OutOfMemory, Parser};
 use domain_plain::{A, Mx, Ns, Soa, UnknownRecordData};
 use domain_record::ParseRecordData;
 use domain_rrsig::Rrsig;
@@ -31,14 +31,10 @@ fn name_like<N: MakeName, M: ToName>(alloc: Global, name: &M) -> Result<N, OutOf
 
 /// A copy of octets. Refuses with `ShortBuf` or `OutOfMemory` alone.
 fn octets_like<O: FromBuilder>(alloc: Global, octets: &[u8]) -> Result<O, ScanError>
-where
-    O::Builder: EmptyBuilder + Drop,
     ensures ok { IfOk result (λ made. O.octets made ≡ octets.now) }
     ensures err { IfErr result (λ e. CopyFault O.Builder.limit octets.now (scan_fault_of e)) }
 {
-    let mut builder = O::Builder::empty(alloc);
-    builder.append_slice(octets)?;
-    Ok(O::from_builder(builder))
+    Ok(O::from_octets(alloc, octets)?)
 }
 
 /// Octets are no data of the type that is asked, or go on after them.
@@ -121,8 +117,6 @@ fn key_of<O: FromBuilder + Drop, K: KeyKind>(
     alloc: Global,
     octets: &[u8],
 ) -> Result<KeyData<O, K>, ScanError>
-where
-    O::Builder: EmptyBuilder + Drop,
     ensures { FromOctets O.Builder.limit (key K.codec) key_values octets.now result }
 {
     let data: KeyData<&[u8], K> = whole(K::rtype(), octets)?;
@@ -135,8 +129,6 @@ fn nsec_of<O: FromBuilder + Drop, N: MakeName + Drop>(
     alloc: Global,
     octets: &[u8],
 ) -> Result<Nsec<O, N>, ScanError>
-where
-    O::Builder: EmptyBuilder + Drop,
     ensures { FromOctets O.Builder.limit next_by_name (nsec_values N.labels) octets.now result }
 {
     let data: Nsec<&[u8], ParsedName<'_>> = whole(Rtype::NSEC, octets)?;
@@ -150,8 +142,6 @@ fn rrsig_of<O: FromBuilder + Drop, N: MakeName + Drop>(
     alloc: Global,
     octets: &[u8],
 ) -> Result<Rrsig<O, N>, ScanError>
-where
-    O::Builder: EmptyBuilder + Drop,
     ensures { FromOctets O.Builder.limit signature rrsig_values octets.now result }
 {
     let data: Rrsig<&[u8], ParsedName<'_>> = whole(Rtype::RRSIG, octets)?;
@@ -175,8 +165,6 @@ fn nsec3param_of<O: FromBuilder + Drop>(
     alloc: Global,
     octets: &[u8],
 ) -> Result<Nsec3param<O>, ScanError>
-where
-    O::Builder: EmptyBuilder + Drop,
     ensures { FromOctets O.Builder.limit params nsec3param_values octets.now result }
 {
     let data: Nsec3param<&[u8]> = whole(Rtype::NSEC3PARAM, octets)?;
@@ -191,8 +179,6 @@ where
 
 /// The next hash and the types that octets are.
 fn nsec3_of<O: FromBuilder + Drop>(alloc: Global, octets: &[u8]) -> Result<Nsec3<O>, ScanError>
-where
-    O::Builder: EmptyBuilder + Drop,
     ensures { FromOctets O.Builder.limit next_by_hash nsec3_values octets.now result }
 {
     let data: Nsec3<&[u8]> = whole(Rtype::NSEC3, octets)?;
@@ -209,10 +195,7 @@ where
     ))
 }
 
-impl<O: FromBuilder, N: ToName> ZoneRecordData<O, N>
-where
-    O::Builder: EmptyBuilder + Drop,
-{
+impl<O: FromBuilder, N: ToName> ZoneRecordData<O, N> {
     /// The data of a type that these octets are on the wire, as a message has them but without
     /// compressed names (RFC 1035, section 3.3; RFC 3597, section 4). Data of a type that is not
     /// known are any octets, at most 65,535.
