@@ -53,11 +53,11 @@ module _ {L : List ZoneRecord} {a : Name} {config : GenerateNsecConfig} {links :
       elim (cases_Bool _) [
         | inl e ↦
             let top = top_occluder below_dname L a x e in
-            let r = facts.occluded.each top.0.name x top.0.over top.1 top.0.under in
+            let r = facts.means.occluded.each top.0.name x top.0.over top.1 top.0.under in
             in_any _ links r.link (in_at links r.place _ r.there)
             (or_right (matches before r.link.owner x) (covers before r.link.owner r.link.next x) r.covered)
         | inr e ↦
-            let r = facts.denial.each x low e in
+            let r = facts.means.denial.each x low e in
             in_any _ links r.link (in_at links r.place _ r.there) r.says
       ]
 
@@ -127,7 +127,7 @@ module _ {L : List ZoneRecord} {a : Name} {config : GenerateNsecConfig} {links :
     pub covered_encloser : length (longer (shared x k.owner) (shared x k.next)) ≡ length (closest_encloser (unoccluded_owners below_dname L a) a x)
     covered_encloser =
         closest_alike owners a x (longer (shared x k.owner) (shared x k.next)) (closest_encloser owners a x)
-        (facts.enclosers.each x low stands.place k stands.there c)
+        (facts.means.enclosers.each x low stands.place k stands.there c)
         (closest_is owners a x apex_exists low)
 
   -- ---- what is found of a name among records of the chain

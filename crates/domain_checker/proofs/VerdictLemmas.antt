@@ -29,5 +29,5 @@ module _ {L : List ZoneRecord} {a : Name} {assume : Bool} {links : List Link} (f
   covers_told k stands x low c t =
       let cut = cut_at facts k (in_at links stands.place k stands.there) ∙ sym (or_false _) in
       let over = covered_occluded facts k stands x low c (is_at_cut a k) cut in
-      let empty = facts.nonterminals.each x low stands.place k stands.there c in
+      let empty = facts.means.nonterminals.each x low stands.place k stands.there c in
       rw (over, ← empty, low, covered_no_owner facts k stands x low c, covered_encloser facts k stands x low c) refl

@@ -3,18 +3,14 @@ use Rattle.std.specs.Prelude.{◌≡◌, ◌<◌, ℕ, Bool, true, List}
 use Rattle.domain_names.specs.{Name.same_name, Words.Name}
 use Rattle.domain_bitmap.specs.{Bitmap.bitmap_octets, Blocks.contains_type}
 use Rattle.domain_zone.specs.Zone.{OwnersNeverDescend, ZoneRecord}
-use Rattle.domain_nsec.specs.{Chain.{IsChain, Link, nsec_lists}, declared.config.GenerateNsecConfig.GenerateNsecConfig}
-use Rattle.domain_nsec.specs.Meaning.{CoversBelowOccluders, IsCycle, MirrorsZone, TellsEmpty, TellsEncloser}
+use Rattle.domain_nsec.specs.{Chain.{IsChain, Link, nsec_lists}, Meaning.MeansTheZone}
+use Rattle.domain_nsec.specs.declared.config.GenerateNsecConfig.{GenerateNsecConfig}
 
 -- what is known of one chain
 pub record NsecFacts (L : List ZoneRecord) (a : Name) (config : GenerateNsecConfig)
     (links : List Link) : Type 0 where
   pub chain : IsChain L a config links
-  pub cycle : IsCycle a links
-  pub denial : MirrorsZone L a config links
-  pub nonterminals : TellsEmpty L a config links
-  pub enclosers : TellsEncloser L a config links
-  pub occluded : CoversBelowOccluders L a config links
+  pub means : MeansTheZone L a config links
   pub alike : (x y : Name) → same_name x y ≡ true → (t : ℕ)
       → nsec_lists L a config.assume_dnskeys_will_be_added x t
       ≡ nsec_lists L a config.assume_dnskeys_will_be_added y t

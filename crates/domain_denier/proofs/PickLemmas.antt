@@ -106,7 +106,7 @@ module _ (knows : NsecChainsAreKnown) (links : List Link) (L : List ZoneRecord) 
         other : matches_or_covers before of_w.link.owner of_w.link.next x ≡ false
         other = false_from_ne_true (matches_or_covers before of_w.link.owner of_w.link.next x) (λ e.
             let free = (and_parts (is_unoccluded true L a x) (not (name_exists L a x)) only_half.missing).0 in
-            let once = facts.denial.each x under (free_parts L a x free).1 in
+            let once = facts.means.denial.each x under (free_parts L a x free).1 in
             let same : p ≡ q = once.only p of.link of.there of.says ∙ sym (once.only q of_w.link of_w.there e) in
             false≢true (sym only_half.unknown ∙ (λ i. knows_wildcard L a (at_place links (Some (same i))) x) ∙ (λ i. knows_wildcard L a (there_w i) x)
             ∙ first_has (wildcard_below (encloser L a x)) of_w.link [] says_w))

@@ -25,7 +25,7 @@ module _ (knows : NsecChainsAreKnown) (links : List Link) (x : Name) (low high :
   found L a config whole under =
       let owners = unoccluded_owners config.occlude_below_dname L a in
       let names = whole.chain.names in
-      let cycle = (knows L a config links whole.order whole.chain).cycle in
+      let cycle = (knows L a config links whole.order whole.chain).means.cycle in
       let d = cycle.first in
       let k = get_or links low d in
       let there : slice_get links low ≡ Some k = slice_get-get_or links low d (omega (arith, at_ends.within, at_ends.inside)) in

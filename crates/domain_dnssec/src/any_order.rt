@@ -9,7 +9,7 @@ use crate::chain::ChainError;
 use crate::laws::sorting_keeps_classes_and_records;
 use domain_base::{CanonicalOrd, MakeName, ToName};
 use domain_nsec::{GenerateNsecConfig, generate_nsecs};
-use domain_octets::{EmptyBuilder, FreezeBuilder, FromBuilder, GrowingBuilder, Truncate};
+use domain_octets::{FromBuilder, GrowingBuilder};
 use domain_rdata::Nsec;
 use domain_record::{Record, ZoneData};
 use domain_records::{RecordsIter, SortedRecords};
@@ -54,7 +54,7 @@ where
     N: Drop,
     D: Drop,
     O: FromBuilder + Drop,
-    O::Builder: GrowingBuilder + EmptyBuilder + Truncate + FreezeBuilder<Frozen = O> + Drop,
+    O::Builder: GrowingBuilder,
     requires { IsOneClass sorted.now }
     ensures ok { IfOk result (λ nsecs. IsChain (zone_of N.labels D.rtype D.minimum sorted.now)
         (N.labels apex.now) config.now (links_of N.labels nsecs.items)) }
@@ -83,7 +83,7 @@ where
     N: Drop,
     D: Drop,
     O: FromBuilder + Drop,
-    O::Builder: GrowingBuilder + EmptyBuilder + Truncate + FreezeBuilder<Frozen = O> + Drop,
+    O::Builder: GrowingBuilder,
     ensures ok { IfOk result (λ nsecs. IsChainOf N.labels D.rtype D.minimum D.canonical_cmp
         records.items (N.labels apex.now) config.now (links_of N.labels nsecs.items)) }
     ensures err { IfErr result (HasNoChain N.labels D.rtype D.minimum D.canonical_cmp records.items

@@ -10,7 +10,7 @@ use crate::chain::ChainError;
 use domain_base::{CanonicalOrd, MakeName};
 use domain_hasher::Nsec3Hasher;
 use domain_nsec3::{GenerateNsec3Config, Nsec3Records, generate_nsec3s};
-use domain_octets::{EmptyBuilder, FreezeBuilder, FromBuilder, GrowingBuilder, Truncate};
+use domain_octets::{FromBuilder, GrowingBuilder};
 use domain_record::{Record, ZoneData};
 use domain_records::{SortedRecords, Sorter};
 use std::alloc::Global;
@@ -32,7 +32,7 @@ where
     N: Drop,
     D: Drop,
     O: FromBuilder + Drop,
-    O::Builder: GrowingBuilder + EmptyBuilder + Truncate + FreezeBuilder<Frozen = O> + Drop,
+    O::Builder: GrowingBuilder,
     requires { IsOneClass sorted.now }
     ensures ok { IfOk result (λ made. IsWholeHashedChain (zone_of N.labels D.rtype D.minimum
         sorted.now) (N.labels apex.now) (config_of (H.answer hasher.now) config.now)
@@ -71,7 +71,7 @@ where
     N: Drop,
     D: Drop,
     O: FromBuilder + Drop,
-    O::Builder: GrowingBuilder + EmptyBuilder + Truncate + FreezeBuilder<Frozen = O> + Drop,
+    O::Builder: GrowingBuilder,
     ensures ok { IfOk result (λ made. IsHashedChainOf N.labels D.rtype D.minimum D.canonical_cmp
         records.items (N.labels apex.now) (config_of (H.answer hasher.now) config.now)
         config.now.nsec3param_ttl_mode (hashed_links_of N.labels made.nsec3s.items)

@@ -8,8 +8,8 @@ use Rattle.domain_zone.proofs.NameLemmas.{below_between, below_longer, lowered_b
 use Rattle.domain_zone.proofs.{OwnerLemmas.{any_owner, any_in, in_any, owners_are, below_occluder, occluder_owns}, PairLemmas.{In, all_in, le_lt}}
 use Rattle.domain_zone.proofs.{PlaceLemmas.one_place, SharedLemmas.{either_way, shared_is}, ZoneLemmas.apart_right, FindLemmas.in_at}
 use Rattle.domain_names.specs.{Name.{is_at_or_below, is_strictly_below, lowered, same_name}, Order.before, Words.Name}
-use Rattle.domain_nsec.specs.{Chain.{Link, IsChain}, Meaning.{TellsEmpty, TellsEncloser, IsCoveredBy, CoversBelowOccluders}}
-use Rattle.domain_nsec.{specs.declared.config.GenerateNsecConfig.GenerateNsecConfig, proofs.ChainLemmas.{answered_once, owner_gap, link_owner, link_next}}
+use Rattle.domain_nsec.specs.{Chain.{Link, IsChain}, Meaning.{TellsEmpty, TellsEncloser, IsCoveredBy, CoversBelowOccluders, MeansTheZone}}
+use Rattle.domain_nsec.{specs.declared.config.GenerateNsecConfig.GenerateNsecConfig, proofs.ChainLemmas.{answered_once, chain_cycle, mirrors_zone, owner_gap, link_owner, link_next}}
 
 -- what both names are, the longer of them is
 of_longer : (P : Name → Type 0) (e f : Name) → P e → P f → P (longer e f)
@@ -74,7 +74,7 @@ module _ (L : List ZoneRecord) (a : Name) (order : OwnersNeverDescend L) (config
       back : Covered x l → is_strictly_below l.next x ≡ true → is_empty_nonterminal owners a x ≡ true
       back v h = grind (arith, common_steps, any_in, (apart x l v), in_any, (same_is a x), (below_from a x), (below_from x a low))
 
-  pub tells_empty : TellsEmpty L a config links
+  tells_empty : TellsEmpty L a config links
   tells_empty = record { each = told_empty }
 
   -- an owner tells of a name that it is at or below, which the apex is above, that this exists
@@ -113,7 +113,7 @@ module _ (L : List ZoneRecord) (a : Name) (order : OwnersNeverDescend L) (config
                 (before_order.chain l.next x d (before_order.one_way x l.next k.0) (below_from x d h)) k.1))
           ]
 
-  pub tells_encloser : TellsEncloser L a config links
+  tells_encloser : TellsEncloser L a config links
   tells_encloser = grind (arith, common_steps, tells_by_shared, shared_is)
 
   covered_below : (c x : Name) → occludes config.occlude_below_dname L a c ≡ true
@@ -162,5 +162,15 @@ module _ (L : List ZoneRecord) (a : Name) (order : OwnersNeverDescend L) (config
             (below_occluder config.occlude_below_dname L a c l.owner cut),
           )
 
-  pub covers_below_occluders : CoversBelowOccluders L a config links
+  covers_below_occluders : CoversBelowOccluders L a config links
   covers_below_occluders = record { each = covered_below }
+
+  -- all that the chain says
+  pub means_the_zone : MeansTheZone L a config links
+  means_the_zone = record {
+    cycle = chain_cycle L a order config links chain;
+    denial = mirrors_zone L a order config links chain;
+    nonterminals = tells_empty;
+    enclosers = tells_encloser;
+    occluded = covers_below_occluders;
+  }

@@ -83,3 +83,12 @@ pub record IsCycle (a : Name) (links : List Link) : Type 0 where
   pub begins : same_name first.owner a ≡ true
   pub ascends : OwnersAscend links
   pub ends : last_next first.next later ≡ a
+
+-- what the chain of a zone says of every name, with the order of its owners
+pub record MeansTheZone (L : List ZoneRecord) (a : Name) (config : GenerateNsecConfig)
+    (links : List Link) : Type 0 where
+  pub cycle : IsCycle a links
+  pub denial : MirrorsZone L a config links
+  pub nonterminals : TellsEmpty L a config links
+  pub enclosers : TellsEncloser L a config links
+  pub occluded : CoversBelowOccluders L a config links

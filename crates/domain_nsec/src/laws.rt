@@ -3,7 +3,7 @@ ghost use Rattle.std.specs.Prelude.{◌≡◌, ℕ, Bool, List, true};
 ghost use Rattle.domain_names.specs.{Name.same_name, Words.Name};
 ghost use Rattle.domain_zone.specs.Zone.{OwnersNeverDescend, ZoneRecord};
 ghost use Rattle.domain_nsec.specs.Chain.{nsec_lists, IsChain, Link};
-ghost use Rattle.domain_nsec.specs.Meaning.{CoversBelowOccluders, IsCycle, MirrorsZone, TellsEmpty, TellsEncloser};
+ghost use Rattle.domain_nsec.specs.Meaning.{MeansTheZone};
 ghost use Rattle.domain_nsec.specs.declared.config.GenerateNsecConfig.{GenerateNsecConfig};
 
 /// The NSEC record of an owner lists the same types for each spelling of the name.
@@ -15,19 +15,6 @@ pub fn types_ignore_case()
 /// What the chain of records in order says of every name follows from the chain alone, however it
 /// was made.
 pub fn chains_mean_the_zone()
-    ensures cycle { (L : List ZoneRecord) (a : Name) (config : GenerateNsecConfig)
-        (links : List Link) → OwnersNeverDescend L → IsChain L a config links
-        → IsCycle a links }
-    ensures denial { (L : List ZoneRecord) (a : Name) (config : GenerateNsecConfig)
-        (links : List Link) → OwnersNeverDescend L → IsChain L a config links
-        → MirrorsZone L a config links }
-    ensures nonterminals { (L : List ZoneRecord) (a : Name) (config : GenerateNsecConfig)
-        (links : List Link) → OwnersNeverDescend L → IsChain L a config links
-        → TellsEmpty L a config links }
-    ensures enclosers { (L : List ZoneRecord) (a : Name) (config : GenerateNsecConfig)
-        (links : List Link) → OwnersNeverDescend L → IsChain L a config links
-        → TellsEncloser L a config links }
-    ensures occluded { (L : List ZoneRecord) (a : Name) (config : GenerateNsecConfig)
-        (links : List Link) → OwnersNeverDescend L → IsChain L a config links
-        → CoversBelowOccluders L a config links }
+    ensures { (L : List ZoneRecord) (a : Name) (config : GenerateNsecConfig) (links : List Link)
+        → OwnersNeverDescend L → IsChain L a config links → MeansTheZone L a config links }
 {}

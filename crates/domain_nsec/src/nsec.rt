@@ -2,14 +2,14 @@
 ghost use Rattle.std.specs.Prelude.{IfOk, IfErr, OnOk};
 ghost use Rattle.domain_records.specs.Order.{IsOneClass, IsInOrder};
 ghost use Rattle.domain_nsec.specs.Chain.{IsChain, IsFaultless, IsFirstFault};
-ghost use Rattle.domain_nsec.specs.Meaning.{CoversBelowOccluders, IsCycle, MirrorsZone, TellsEmpty, TellsEncloser};
+ghost use Rattle.domain_nsec.specs.Meaning.{MeansTheZone};
 ghost use Rattle.domain_zone.specs.View.{zone_of};
 ghost use Rattle.domain_nsec.specs.ChainView.{links_of};
 
 use crate::{GenerateNsecConfig, NsecChain};
 use domain_base::MakeName;
 use domain_chain_rdata::Nsec;
-use domain_octets::{EmptyBuilder, FreezeBuilder, FromBuilder, GrowingBuilder, Truncate};
+use domain_octets::{FromBuilder, GrowingBuilder};
 use domain_record::{Record, ZoneData};
 use domain_records::{RecordsIter, SigningError};
 use std::alloc::Global;
@@ -43,7 +43,7 @@ pub fn generate_nsecs<O, N: MakeName, D: ZoneData>(
 where
     N: Drop,
     O: FromBuilder + Drop,
-    O::Builder: GrowingBuilder + EmptyBuilder + Truncate + FreezeBuilder<Frozen = O> + Drop,
+    O::Builder: GrowingBuilder,
     requires one_class { IsOneClass records }
     requires in_order { IsInOrder N.labels D.rtype records }
 
@@ -55,21 +55,9 @@ where
     ensures fault { IfErr result (IsFirstFault (zone_of N.labels D.rtype D.minimum records.entry)
         (N.labels apex.now) config.now) }
 
-    // The chain begins and ends at the apex, and its owners ascend.
-    ensures cycle { IfOk result (λ nsecs.
-        IsCycle (N.labels apex.now) (links_of N.labels nsecs.items)) }
-
-    // What the chain says of every name of the zone.
-    ensures denial { IfOk result (λ nsecs. MirrorsZone
-        (zone_of N.labels D.rtype D.minimum records.entry) (N.labels apex.now) config.now
-        (links_of N.labels nsecs.items)) }
-    ensures nonterminals { IfOk result (λ nsecs. TellsEmpty
-        (zone_of N.labels D.rtype D.minimum records.entry) (N.labels apex.now) config.now
-        (links_of N.labels nsecs.items)) }
-    ensures enclosers { IfOk result (λ nsecs. TellsEncloser
-        (zone_of N.labels D.rtype D.minimum records.entry) (N.labels apex.now) config.now
-        (links_of N.labels nsecs.items)) }
-    ensures occluded { IfOk result (λ nsecs. CoversBelowOccluders
+    // What the chain says of every name of the zone; it begins and ends at the apex, and its
+    // owners ascend.
+    ensures means { IfOk result (λ nsecs. MeansTheZone
         (zone_of N.labels D.rtype D.minimum records.entry) (N.labels apex.now) config.now
         (links_of N.labels nsecs.items)) }
 {

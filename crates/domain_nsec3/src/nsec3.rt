@@ -13,7 +13,7 @@ use crate::nsec3_chain::Nsec3Chain;
 use domain_base::MakeName;
 use domain_chain_rdata::{Nsec3, Nsec3param};
 use domain_hasher::Nsec3Hasher;
-use domain_octets::{EmptyBuilder, FreezeBuilder, FromBuilder, GrowingBuilder, Octets, Truncate};
+use domain_octets::{FromBuilder, GrowingBuilder, Octets};
 use domain_record::{Record, ZoneData};
 use domain_records::{RecordsIter, SigningError, Sorter};
 use std::alloc::Global;
@@ -73,7 +73,7 @@ pub fn generate_nsec3s<S: Sorter, H: Nsec3Hasher, O, N: MakeName, D: ZoneData>(
 where
     N: Drop,
     O: FromBuilder + Drop,
-    O::Builder: GrowingBuilder + EmptyBuilder + Truncate + FreezeBuilder<Frozen = O> + Drop,
+    O::Builder: GrowingBuilder,
     requires one_class { IsOneClass records }
     requires in_order { IsInOrder N.labels D.rtype records }
 

@@ -11,7 +11,7 @@ pub returns-then-is_empty : goal.returns-then-is_empty
 returns-then-is_empty g c =
     let none = c.judge_none.ensures in
     none_picked _ _ _ _ _ none.answer none.name none.wildcard (λ L config whole.
-    let cycle = (c.chains_are_known.ensures L _ config c.args.chain.now whole.order whole.chain).cycle in
+    let cycle = (c.chains_are_known.ensures L _ config c.args.chain.now whole.order whole.chain).means.cycle in
     let empty = c.is_empty.ensures.0 c.if-is_empty.true in let some = cycle.are in absurd (cc))
 
 pub returns-then-is_outside : goal.returns-then-is_outside
