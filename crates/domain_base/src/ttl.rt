@@ -53,8 +53,8 @@ impl Ttl {
     /// other token as `Custom("decimal number expected")`, and a missing one as `EndOfEntry`. A
     /// token that is refused is gone past too.
     pub fn scan<S: Scanner>(scanner: &mut S) -> Result<Ttl, ScanError>
-        ensures { ReadsTokens (OneToken (IsNumber 32)) (λ value. value) (RefusesToken (IsNoNumber 32))
-            (S.tokens scanner.old) (S.tokens scanner.new) result }
+        ensures { ReadsTokens (OneToken (IsNumber 32)) (λ value. value)
+            (RefusesToken (IsNoNumber 32)) (S.tokens scanner.old) (S.tokens scanner.new) result }
     {
         <Ttl as FromToken>::scan(scanner)
     }

@@ -9,7 +9,8 @@ use Rattle.domain_zone.proofs.{OwnerLemmas.{any_owner, any_in, in_any, owners_ar
 use Rattle.domain_zone.proofs.{PlaceLemmas.one_place, SharedLemmas.{either_way, shared_is}, ZoneLemmas.apart_right, FindLemmas.in_at}
 use Rattle.domain_names.specs.{Name.{is_at_or_below, is_strictly_below, lowered, same_name}, Order.before, Words.Name}
 use Rattle.domain_nsec.specs.{Chain.{Link, IsChain}, Meaning.{TellsEmpty, TellsEncloser, IsCoveredBy, CoversBelowOccluders, MeansTheZone}}
-use Rattle.domain_nsec.{specs.declared.config.GenerateNsecConfig.GenerateNsecConfig, proofs.ChainLemmas.{answered_once, chain_cycle, mirrors_zone, owner_gap, link_owner, link_next}}
+use Rattle.domain_nsec.specs.declared.config.GenerateNsecConfig.{GenerateNsecConfig}
+use Rattle.domain_nsec.proofs.ChainLemmas.{answered_once, chain_cycle, mirrors_zone, owner_gap, link_owner, link_next}
 
 -- what both names are, the longer of them is
 of_longer : (P : Name → Type 0) (e f : Name) → P e → P f → P (longer e f)

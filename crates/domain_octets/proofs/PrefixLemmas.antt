@@ -1,5 +1,6 @@
 -- texts whose first octets are all of one set
-use Rattle.std.proofs.{Common.{◌≡◌, ℕ, ◌-◌, ◌≤◌, Bool, true, List, ◌++◌, length, length-append, take, drop, sym, ap, subst, ◌∙◌, arith}, lemmas.List.{append_assoc, take-append-drop, take-append-le}}
+use Rattle.std.proofs.Common.{◌≡◌, ℕ, ◌-◌, ◌≤◌, Bool, true, List, ◌++◌, length, length-append, take, drop, sym, ap, subst, ◌∙◌, arith}
+use Rattle.std.proofs.lemmas.List.{append_assoc, take-append-drop, take-append-le}
 use Rattle.std.{proofs.lemmas.List.Elements.{All-append, All-take}, specs.List.AllPass}
 
 -- these octets are left of the text, and those before them are of the set

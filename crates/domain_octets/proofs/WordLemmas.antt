@@ -1,10 +1,11 @@
 -- the words of a text
-use Rattle.std.proofs.Common.{◌≡◌, ℕ, ◌<◌, List, [], ◌∷◌, ◌++◌, Bor, map, length, true, false, get_or, slice_index, take, drop, zero, suc, ◌+◌, ◌-◌, ◌≤◌, refl, ap, sym, subst, ◌∙◌, arith, inl, inr}
+use Rattle.std.proofs.Common.{◌≡◌, ℕ, zero, suc, ◌+◌, ◌-◌, ◌<◌, ◌≤◌, List, [], ◌∷◌, ◌++◌, Bor, map, length, true, false, get_or, slice_index, take, drop}
+use Rattle.std.proofs.Common.{refl, ap, sym, subst, ◌∙◌, arith, inl, inr}
 use Rattle.std.proofs.lemmas.{Fmt.decimal_is_IsNumeral, Grind.common_steps, Bool.{cases_Bool, Decides.nat_tests}}
 use Rattle.std.proofs.lemmas.List.{append_assoc, append-nil, length-drop, drop-drop, take_all, take-append-drop, drop_more}
 use Rattle.std.proofs.lemmas.Str.{IsCharBoundary-after_ascii, IsCharBoundary-before_ascii}
 use Rattle.std.specs.{Prelude.◌^◌, List.{AllByRecursion, join_with_byte}, Fmt.decimal, Str.{IsUtf8, IsCharBoundary, Parse.AllDigits}}
-use Rattle.domain_octets.specs.Line.{is_blank, word_if_any, words_after, words_of, HasNoBlank, HasWords, IsWord}
+use Rattle.domain_octets.specs.Line.{is_blank, word_if_any, words_after, words_of, HasNoBlank, IsWord}
 use Rattle.memchr.specs.Find.{places_between, places_from, NoneBefore, Nowhere, Passes}
 
 -- a blank ends a word, so that the words behind it are those of a text by itself
@@ -72,7 +73,8 @@ decimal_word n small =
 no_blank : (text : List ℕ) (i n : ℕ) → i + n ≤ length text → Nowhere (Passes is_blank text) i (i + n) → HasNoBlank (take n (drop i text))
 no_blank text i zero le none = tt
 no_blank text i (suc n) le none =
-    rw (drop_more text i 0 (omega arith)) (grind (arith, common_steps, none i), no_blank text (i + 1) n (omega arith) (λ k low high. none k (omega arith) (omega arith)))
+    rw (drop_more text i 0 (omega arith))
+    (grind (arith, common_steps, none i), no_blank text (i + 1) n (omega arith) (λ k low high. none k (omega arith) (omega arith)))
 
 -- it is at no place from here on, where it is not here, and at none behind
 not_here : (P : ℕ → Type 0) (i j : ℕ) → (P i → ⊥) → Nowhere P (i + 1) j → Nowhere P i j
@@ -90,9 +92,12 @@ no_place text i (suc n) none = elim (cases_Bool (is_blank (slice_index text i)))
       not_here (Passes is_blank text) i (i + suc n) (λ is. absurd (grind (arith, common_steps))) (λ k low high. after k low (omega (arith, high)))
 ]
 
--- the first of the places of blanks, and those behind it
-first_place : (text : List ℕ) (i n at : ℕ) (later : List ℕ) → places_from is_blank text i n ≡ at ∷ later
-    → NoneBefore (Passes is_blank text) i (i + n) at × Passes is_blank text at × (later ≡ places_between is_blank text (at + 1) (i + n))
+-- the first of the places of blanks from i up to j, and those behind it
+abbrev IsNextBlank : List ℕ → ℕ → ℕ → ℕ → List ℕ → Type 0
+IsNextBlank text i j at later =
+    NoneBefore (Passes is_blank text) i j at × Passes is_blank text at × (later ≡ places_between is_blank text (at + 1) j)
+
+first_place : (text : List ℕ) (i n at : ℕ) (later : List ℕ) → places_from is_blank text i n ≡ at ∷ later → IsNextBlank text i (i + n) at later
 unfolding places_from
 first_place text i zero at later same = absurd (let s = same in cc)
 first_place text i (suc n) at later same = elim (cases_Bool (is_blank (slice_index text i))) [
@@ -100,7 +105,7 @@ first_place text i (suc n) at later same = elim (cases_Bool (is_blank (slice_ind
       let is : i ≡ at = (let s = same in grind (arith, common_steps)) in
       let rest : later ≡ places_from is_blank text (i + 1) n = (let s = same in grind (arith, common_steps)) in
       let count : n ≡ i + suc n - (i + 1) = omega arith in
-      subst (λ k. NoneBefore (Passes is_blank text) i (i + suc n) k × Passes is_blank text k × (later ≡ places_between is_blank text (k + 1) (i + suc n))) is (
+      subst (λ k. IsNextBlank text i (i + suc n) k later) is (
         record { low = omega arith; high = omega arith; before = λ k low high. absurd (omega (arith, low, high)) },
         here,
         rest ∙ ap (places_from is_blank text (i + 1)) count,
@@ -129,8 +134,9 @@ module _ (text : List ℕ) (begin : ℕ) (within : begin ≤ length text) where
   -- no blank is left
   last_word : places_between is_blank text begin (length text) ≡ [] → words_of (drop begin text) ≡ word_if_any (drop begin text)
   last_word none =
-      let all : take (length text - begin) (drop begin text) ≡ drop begin text = take_all (length text - begin) (drop begin text) (omega (arith, length-drop begin text)) in
-      word_goes_on [] (drop begin text) (subst HasNoBlank all (no_blank text begin (length text - begin) (omega (arith, within)) (no_place text begin (length text - begin) none)))
+      let size = length text - begin in
+      let plain = no_blank text begin size (omega (arith, within)) (no_place text begin size none) in
+      word_goes_on [] (drop begin text) (subst HasNoBlank (take_all size (drop begin text) (omega (arith, length-drop begin text))) plain)
 
   -- a word, and the words behind the blank that ends it
   word_before : (at : ℕ) → NoneBefore (Passes is_blank text) begin (length text) at → Passes is_blank text at
@@ -146,23 +152,18 @@ module _ (text : List ℕ) (begin : ℕ) (within : begin ≤ length text) where
 
   -- the blank that comes next, and those behind it
   next_blank : (at : ℕ) (later : List ℕ) → places_between is_blank text begin (length text) ≡ at ∷ later
-      → NoneBefore (Passes is_blank text) begin (length text) at × Passes is_blank text at × (later ≡ places_between is_blank text (at + 1) (length text))
+      → IsNextBlank text begin (length text) at later
   next_blank at later same =
-      subst (λ j. NoneBefore (Passes is_blank text) begin j at × Passes is_blank text at × (later ≡ places_between is_blank text (at + 1) j))
-      (omega (arith, within)) (first_place text begin (length text - begin) at later same)
+      subst (λ j. IsNextBlank text begin j at later) (omega (arith, within)) (first_place text begin (length text - begin) at later same)
 
 module _ {old words : List (Bor (List ℕ))} {text : List ℕ} {begin : ℕ} {blanks : List ℕ} (so_far : ArePushed old text begin blanks words) where
-  -- words were appended, and those from here on are left
-  pub some_pushed : HasWords old text words
-  some_pushed = record { left = words_of (drop begin text); same = so_far.same }
-
   pub last_pushed : (more : List (Bor (List ℕ))) (word : List ℕ) → blanks ≡ [] → word ≡ drop begin text
       → map (λ w. w.now) more ≡ map (λ w. w.now) words ++ word_if_any word → map (λ w. w.now) more ≡ map (λ w. w.now) old ++ words_of text
   last_pushed more word none is pushed =
       pushed ∙ ap (λ l. map (λ w. w.now) words ++ l) (ap word_if_any is ∙ sym (last_word text begin so_far.within (sym so_far.ahead ∙ none))) ∙ so_far.same
 
   module _ (at : ℕ) (later : List ℕ) (next : blanks ≡ at ∷ later) where
-    pub found : NoneBefore (Passes is_blank text) begin (length text) at × Passes is_blank text at × (later ≡ places_between is_blank text (at + 1) (length text))
+    pub found : IsNextBlank text begin (length text) at later
     found = next_blank text begin so_far.within at later (sym so_far.ahead ∙ next)
 
     low : get_or text at 0 < 128

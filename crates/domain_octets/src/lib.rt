@@ -6,9 +6,9 @@
 //!   [`ArrayBuilder`] has room in the value itself alone.
 //! - [`Parser`] reads from the front, numbers with the octet that weighs most first (RFC 1035,
 //!   section 2.3.2), and stands where it stood after a refusal.
-//! - An [`OctetSet`] is a set of octets, [`prefix_len`] how many octets of it some octets begin with,
-//!   and [`are_all`] whether all are of it, found many at a time. [`push_words`] takes the words of a
-//!   line.
+//! - An [`OctetSet`] is a set of octets, [`prefix_len`] how many octets of it some octets begin
+//!   with, and [`are_all`] whether all are of it, found many at a time. [`push_words`] takes the
+//!   words of a line.
 //! - [`Formatter`] takes the pieces of a zone file's text, and [`ZonefileFmt`] is a value that has
 //!   some.
 //!

@@ -26,5 +26,6 @@ loop-blank-preserved c =
 
 pub returns-clause-ok : goal.returns-clause-ok
 returns-clause-ok c =
-    on_ok_weaker _ (last_pushed c.loop-blank.invariant c.push_word-2.new.words.items c.range_from.result.now c.in-None.ensures.steps.0 c.range_from.ensures.value)
+    on_ok_weaker _
+    (last_pushed c.loop-blank.invariant c.push_word-2.new.words.items c.range_from.result.now c.in-None.ensures.steps.0 c.range_from.ensures.value)
     c.push_word-2.ensures.ok
