@@ -1,12 +1,12 @@
 -- the words of a text
 use Rattle.std.proofs.Common.{◌≡◌, ℕ, zero, suc, ◌+◌, ◌-◌, ◌<◌, ◌≤◌, List, [], ◌∷◌, ◌++◌, Bor, map, length, true, false, get_or, slice_index, take, drop}
-use Rattle.std.proofs.Common.{refl, ap, sym, subst, ◌∙◌, arith, inl, inr}
+use Rattle.std.proofs.Common.{length-append, refl, ap, sym, subst, ◌∙◌, arith, inl, inr}
 use Rattle.std.proofs.lemmas.{Fmt.decimal_is_IsNumeral, Grind.common_steps, Bool.{cases_Bool, Decides.nat_tests}}
-use Rattle.std.proofs.lemmas.List.{append_assoc, append-nil, length-drop, drop-drop, take_all, take-append-drop, drop_more}
+use Rattle.std.proofs.lemmas.List.{append_assoc, append-nil, length-drop, length-map, drop-drop, take_all, take-append-drop, drop_more}
 use Rattle.std.proofs.lemmas.Str.{IsCharBoundary-after_ascii, IsCharBoundary-before_ascii}
 use Rattle.std.specs.{Prelude.◌^◌, List.{AllByRecursion, join_with_byte}, Fmt.decimal, Str.{IsUtf8, IsCharBoundary, Parse.AllDigits}}
 use Rattle.domain_octets.specs.Line.{is_blank, word_if_any, words_after, words_of, HasNoBlank, IsWord}
-use Rattle.memchr.specs.Find.{places_between, places_from, NoneBefore, Nowhere, Passes}
+use Rattle.{memchr.specs.Find.{places_between, places_from, NoneBefore, Nowhere, Passes}, smallvec.specs.SmallVec.{SmallVec, HasRoomFor}}
 
 -- a blank ends a word, so that the words behind it are those of a text by itself
 words_apart : (word front : List ℕ) (blank : ℕ) (text : List ℕ) → is_blank blank ≡ true
@@ -123,12 +123,16 @@ first_place text i (suc n) at later same = elim (cases_Bool (is_blank (slice_ind
       )
 ]
 
+abbrev texts : SmallVec (Bor (List ℕ)) → List (List ℕ)
+texts words = map (λ w. w.now) words.items
+
 -- the words before a place, which come behind others, and the blanks that are still to come
-pub record ArePushed (old : List (Bor (List ℕ))) (text : List ℕ) (begin : ℕ) (blanks : List ℕ) (words : List (Bor (List ℕ))) : Type 0 where
+pub record ArePushed (old : SmallVec (Bor (List ℕ))) (text : List ℕ) (begin : ℕ) (blanks : List ℕ) (words : SmallVec (Bor (List ℕ))) : Type 0 where
   pub within : begin ≤ length text
   pub boundary : 0 < begin → IsCharBoundary text begin
   pub ahead : blanks ≡ places_between is_blank text begin (length text)
-  pub same : map (λ w. w.now) words ++ words_of (drop begin text) ≡ map (λ w. w.now) old ++ words_of text
+  pub same : texts words ++ words_of (drop begin text) ≡ texts old ++ words_of text
+  pub grown : old.capacity ≤ words.capacity
 
 module _ (text : List ℕ) (begin : ℕ) (within : begin ≤ length text) where
   -- no blank is left
@@ -156,11 +160,37 @@ module _ (text : List ℕ) (begin : ℕ) (within : begin ≤ length text) where
   next_blank at later same =
       subst (λ j. IsNextBlank text begin j at later) (omega (arith, within)) (first_place text begin (length text - begin) at later same)
 
-module _ {old words : List (Bor (List ℕ))} {text : List ℕ} {begin : ℕ} {blanks : List ℕ} (so_far : ArePushed old text begin blanks words) where
-  pub last_pushed : (more : List (Bor (List ℕ))) (word : List ℕ) → blanks ≡ [] → word ≡ drop begin text
-      → map (λ w. w.now) more ≡ map (λ w. w.now) words ++ word_if_any word → map (λ w. w.now) more ≡ map (λ w. w.now) old ++ words_of text
-  last_pushed more word none is pushed =
-      pushed ∙ ap (λ l. map (λ w. w.now) words ++ l) (ap word_if_any is ∙ sym (last_word text begin so_far.within (sym so_far.ahead ∙ none))) ∙ so_far.same
+module _ {old words : SmallVec (Bor (List ℕ))} {text : List ℕ} {begin : ℕ} {blanks : List ℕ} (so_far : ArePushed old text begin blanks words) where
+  -- where there was room for all, there is room for the first of those that are left
+  room_for : (word : List ℕ) (behind : List (List ℕ)) → words_of (drop begin text) ≡ word_if_any word ++ behind
+      → HasRoomFor old (length (words_of text)) → HasRoomFor words (length (word_if_any word))
+  room_for word behind parts room =
+      let grown = so_far.grown in
+      let now : length (texts words) ≡ length words.items = length-map words.items (λ w. w.now) in
+      let before : length (texts old) ≡ length old.items = length-map old.items (λ w. w.now) in
+      omega (
+        arith,
+        room,
+        grown,
+        now,
+        before,
+        (ap length so_far.same),
+        (ap length parts),
+        length-append (word_if_any word) behind,
+        length-append (texts words) (words_of (drop begin text)),
+        length-append (texts old) (words_of text),
+      )
+
+  module _ (none : blanks ≡ []) where
+    is_last : words_of (drop begin text) ≡ word_if_any (drop begin text)
+    is_last = last_word text begin so_far.within (sym so_far.ahead ∙ none)
+
+    pub last_pushed : (more : SmallVec (Bor (List ℕ))) (word : List ℕ) → word ≡ drop begin text
+        → texts more ≡ texts words ++ word_if_any word → texts more ≡ texts old ++ words_of text
+    last_pushed more word is pushed = pushed ∙ ap (λ l. texts words ++ l) (ap word_if_any is ∙ sym is_last) ∙ so_far.same
+
+    pub last_room : (word : List ℕ) → word ≡ drop begin text → HasRoomFor old (length (words_of text)) → HasRoomFor words (length (word_if_any word))
+    last_room word is = room_for word [] (is_last ∙ ap word_if_any (sym is) ∙ sym (append-nil (word_if_any word)))
 
   module _ (at : ℕ) (later : List ℕ) (next : blanks ≡ at ∷ later) where
     pub found : IsNextBlank text begin (length text) at later
@@ -172,16 +202,23 @@ module _ {old words : List (Bor (List ℕ))} {text : List ℕ} {begin : ℕ} {bl
     pub ends_word : IsCharBoundary text at
     ends_word = IsCharBoundary-before_ascii text at found.0.high low
 
-    pub more_pushed : (more : List (Bor (List ℕ))) (word : List ℕ) → IsUtf8 text → word ≡ take (at - begin) (drop begin text)
-        → map (λ w. w.now) more ≡ map (λ w. w.now) words ++ word_if_any word → ArePushed old text (at + 1) later more
-    more_pushed more word utf8 is pushed = record {
-      within = let high = found.0.high in omega (arith, high);
-      boundary = λ _. IsCharBoundary-after_ascii text at utf8 found.0.high low;
-      ahead = found.2;
-      same = ap (λ l. l ++ words_of (drop (at + 1) text)) (pushed ∙ ap (λ w. map (λ w. w.now) words ++ word_if_any w) is)
-          ∙ append_assoc (map (λ w. w.now) words) (word_if_any (take (at - begin) (drop begin text))) (words_of (drop (at + 1) text))
-          ∙ ap (λ l. map (λ w. w.now) words ++ l) (sym (word_before text begin so_far.within at found.0 found.1)) ∙ so_far.same;
-    }
+    module _ (word : List ℕ) (is : word ≡ take (at - begin) (drop begin text)) where
+      parts : words_of (drop begin text) ≡ word_if_any word ++ words_of (drop (at + 1) text)
+      parts = word_before text begin so_far.within at found.0 found.1 ∙ ap (λ w. word_if_any w ++ words_of (drop (at + 1) text)) (sym is)
+
+      pub next_room : HasRoomFor old (length (words_of text)) → HasRoomFor words (length (word_if_any word))
+      next_room = room_for word (words_of (drop (at + 1) text)) parts
+
+      pub more_pushed : (more : SmallVec (Bor (List ℕ))) → IsUtf8 text → texts more ≡ texts words ++ word_if_any word
+          → words.capacity ≤ more.capacity → ArePushed old text (at + 1) later more
+      more_pushed more utf8 pushed grown = record {
+        within = let high = found.0.high in omega (arith, high);
+        boundary = λ _. IsCharBoundary-after_ascii text at utf8 found.0.high low;
+        ahead = found.2;
+        same = ap (λ l. l ++ words_of (drop (at + 1) text)) pushed
+            ∙ append_assoc (texts words) (word_if_any word) (words_of (drop (at + 1) text)) ∙ ap (λ l. texts words ++ l) (sym parts) ∙ so_far.same;
+        grown = let before = so_far.grown in omega (arith, before, grown);
+      }
 
 -- ---- the first word
 

@@ -1,5 +1,6 @@
 //! The words of a line.
-ghost use Rattle.std.specs.Prelude.{◌≡◌, ◌++◌, map, OnErr, OnOk};
+ghost use Rattle.std.specs.Prelude.{◌≡◌, ◌≤◌, ◌++◌, length, map, IsOk, OnErr, OnOk};
+ghost use Rattle.smallvec.specs.SmallVec.{HasRoomFor};
 ghost use Rattle.domain_octets.specs.Line.{word_if_any, words_of, HasWords};
 
 use crate::OutOfMemory;
@@ -14,6 +15,8 @@ fn push_word<'a>(words: &mut LineWords<'a>, word: &'a str) -> Result<(), OutOfMe
     ensures ok { OnOk result (map (λ w. w.now) words.new.items
         ≡ map (λ w. w.now) words.old.items ++ word_if_any word.now) }
     ensures err { OnErr result (words.new ≡ words.old) }
+    ensures room { HasRoomFor words.old (length (word_if_any word.now)) → IsOk result }
+    ensures capacity { words.old.capacity ≤ words.new.capacity }
 {
     if !word.is_empty() {
         words.push(word)?;
@@ -26,12 +29,13 @@ fn push_word<'a>(words: &mut LineWords<'a>, word: &'a str) -> Result<(), OutOfMe
 ///
 /// # Errors
 ///
-/// `OutOfMemory` where there is no memory for more than eight words. Some of them, from the first
-/// on, then stand in the list.
+/// `OutOfMemory` where the list has no room for them and there is no memory for more. Some of them,
+/// from the first on, then stand there.
 pub fn push_words<'a>(words: &mut LineWords<'a>, line: &'a str) -> Result<(), OutOfMemory>
     ensures ok { OnOk result (map (λ w. w.now) words.new.items
         ≡ map (λ w. w.now) words.old.items ++ words_of line.now) }
     ensures err { OnErr result (HasWords words.old.items line.now words.new.items) }
+    ensures room { HasRoomFor words.old (length (words_of line.now)) → IsOk result }
 {
     let mut start = 0;
     for blank in memchr2_iter(b' ', b'\t', line.as_bytes()) {

@@ -1,7 +1,7 @@
 use Rattle.std.proofs.{Common.{ap, arith, length, refl, ◌∙◌}, lemmas.Result.on_ok_weaker}
 use Rattle.memchr.specs.Find.{places_between}
 use Rattle.domain_octets.specs.Line.{is_blank}
-use Rattle.domain_octets.proofs.WordLemmas.{ends_word, found, last_pushed, more_pushed}
+use Rattle.domain_octets.proofs.WordLemmas.{ends_word, found, last_pushed, last_room, more_pushed, next_room}
 use Rattle.domain_octets.proofs.words.push_words.Goals as goal
 
 pub loop-blank-init : goal.loop-blank-init
@@ -11,6 +11,7 @@ loop-blank-init c = record {
   ahead = c.into_iter-blank-iterator.ensures.into_iter_gives ∙ c.memchr2_iter-blank-items.ensures.value
       ∙ ap (λ text. places_between is_blank text 0 (length text)) c.as_bytes.ensures.value;
   same = refl;
+  grown = omega arith;
 }
 
 pub range-requires-clause-start_le_end : goal.range-requires-clause-start_le_end
@@ -21,11 +22,18 @@ range-requires-clause-end_boundary c = ends_word c.loop-blank.invariant c.in-Som
 
 pub loop-blank-preserved : goal.loop-blank-preserved
 loop-blank-preserved c =
-    more_pushed c.loop-blank.invariant c.in-Some.blank c.next.new.self c.in-Some.ensures.steps c.push_word.new.words.items
-    c.range.result.now c.utf8.line c.range.ensures.value c.in_ok-push_word.ensures.ok
+    more_pushed c.loop-blank.invariant c.in-Some.blank c.next.new.self c.in-Some.ensures.steps c.range.result.now c.range.ensures.value
+    c.push_word.new.words c.utf8.line c.in_ok-push_word.ensures.ok c.push_word.ensures.capacity
+
+pub returns-in_err-push_word-clause-room : goal.returns-in_err-push_word-clause-room
+returns-in_err-push_word-clause-room c = λ room. absurd (c.in_err-push_word.ensures.room
+    (next_room c.loop-blank.invariant c.in-Some.blank c.next.new.self c.in-Some.ensures.steps c.range.result.now c.range.ensures.value room))
 
 pub returns-clause-ok : goal.returns-clause-ok
 returns-clause-ok c =
-    on_ok_weaker _
-    (last_pushed c.loop-blank.invariant c.push_word-2.new.words.items c.range_from.result.now c.in-None.ensures.steps.0 c.range_from.ensures.value)
+    on_ok_weaker _ (last_pushed c.loop-blank.invariant c.in-None.ensures.steps.0 c.push_word-2.new.words c.range_from.result.now c.range_from.ensures.value)
     c.push_word-2.ensures.ok
+
+pub returns-clause-room : goal.returns-clause-room
+returns-clause-room c = λ room. c.push_word-2.ensures.room
+    (last_room c.loop-blank.invariant c.in-None.ensures.steps.0 c.range_from.result.now c.range_from.ensures.value room)
