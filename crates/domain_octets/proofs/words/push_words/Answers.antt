@@ -1,4 +1,4 @@
-use Rattle.std.proofs.{Common.{ap, arith, length, refl, ◌∙◌}, lemmas.Result.on_ok_weaker}
+use Rattle.std.proofs.{Common.{ap, arith, length, refl, ◌∙◌}, lemmas.{Bool.false≢true, Result.on_ok_weaker}
 use Rattle.memchr.specs.Find.{places_between}
 use Rattle.domain_octets.specs.Line.{is_blank}
 use Rattle.domain_octets.proofs.WordLemmas.{ends_word, found, last_pushed, last_room, more_pushed, next_room}
@@ -26,8 +26,8 @@ loop-blank-preserved c =
     c.push_word.new.words c.utf8.line c.in_ok-push_word.ensures.ok c.push_word.ensures.capacity
 
 pub returns-in_err-push_word-clause-room : goal.returns-in_err-push_word-clause-room
-returns-in_err-push_word-clause-room c = λ room. absurd (c.in_err-push_word.ensures.room
-    (next_room c.loop-blank.invariant c.in-Some.blank c.next.new.self c.in-Some.ensures.steps c.range.result.now c.range.ensures.value room))
+returns-in_err-push_word-clause-room c = λ room. absurd (false≢true (c.in_err-push_word.ensures.room
+    (next_room c.loop-blank.invariant c.in-Some.blank c.next.new.self c.in-Some.ensures.steps c.range.result.now c.range.ensures.value room)))
 
 pub returns-clause-ok : goal.returns-clause-ok
 returns-clause-ok c =
