@@ -1,4 +1,4 @@
-use Rattle.std.proofs.{Common.{ap, arith, length, refl, ◌∙◌}, lemmas.{Bool.false≢true, Result.on_ok_weaker}
+use Rattle.std.proofs.{Common.{ap, arith, length, refl, ◌∙◌}, lemmas.{Bool.false≢true, Result.on_ok_weaker}}
 use Rattle.memchr.specs.Find.{places_between}
 use Rattle.domain_octets.specs.Line.{is_blank}
 use Rattle.domain_octets.proofs.WordLemmas.{ends_word, found, last_pushed, last_room, more_pushed, next_room}
