@@ -5,15 +5,16 @@ use Rattle.domain_base.specs.Scan.{TakesToken, RefusesToken}
 
 -- ---- one token
 
-pub token_excludes : {V : Type 0} (spells : List ℕ → V → Type 0) (Why : ScanFault → List ℕ → Type 0) (limit : Option ℕ)
-    → ((fault : ScanFault) (text : List ℕ) (v : V) → Why fault text → spells text v → IsOfTokens limit fault → ⊥)
-    → (old new after : List (List ℕ)) (v : V) (fault : ScanFault) → RefusesToken Why old new fault
-    → TakesToken (λ text. spells text v) old after → IsOfTokens limit fault → ⊥
-token_excludes spells Why limit none old new after v fault why takes own = grind (arith, common_steps)
+module _ (Why : ScanFault → List ℕ → Type 0) (IsOwn : ScanFault → Type 0) where
+  pub token_excludes : {V : Type 0} (spells : List ℕ → V → Type 0)
+      → ((fault : ScanFault) (text : List ℕ) (v : V) → Why fault text → spells text v → IsOwn fault → ⊥)
+      → (old new after : List (List ℕ)) (v : V) (fault : ScanFault) → RefusesToken Why old new fault
+      → TakesToken (λ text. spells text v) old after → IsOwn fault → ⊥
+  token_excludes spells none old new after v fault why takes own = grind (arith, common_steps)
 
-pub token_one_fault : (Why : ScanFault → List ℕ → Type 0) → ((x y : ScanFault) (text : List ℕ) → Why x text → Why y text → x ≡ y)
-    → (old m n : List (List ℕ)) (x y : ScanFault) → RefusesToken Why old m x → RefusesToken Why old n y → (x ≡ y) × (m ≡ n)
-token_one_fault Why one old m n x y first second = grind (arith, common_steps, (one x y))
+  pub token_one_fault : ((x y : ScanFault) (text : List ℕ) → Why x text → Why y text → IsOwn x → IsOwn y → x ≡ y)
+      → (old m n : List (List ℕ)) (x y : ScanFault) → RefusesToken Why old m x → RefusesToken Why old n y → IsOwn x → IsOwn y → (x ≡ y) × (m ≡ n)
+  token_one_fault one old m n x y first second own also = grind (arith, common_steps, (one x y))
 
 -- ---- names
 

@@ -2,6 +2,7 @@
 //! A caller calls the law in its body.
 ghost use Rattle.std.specs.Prelude.{◌≢◌, ℕ, [], Option};
 ghost use Rattle.domain_octets.specs.Line.{words_of};
+ghost use Rattle.domain_names.specs.TextFault.{IsOfTokens};
 ghost use Rattle.domain_bitmap.specs.{Bitmap.bitmap_octets, Blocks.{IsShortest, types_of}};
 ghost use Rattle.domain_bitmap.specs.Scan.{is_among};
 ghost use Rattle.domain_fields.specs.{Layout.ParsesBack, Sequence.IsExact};
@@ -34,9 +35,11 @@ pub fn nsec3_parses_back<O: Octets>(value: &Nsec3<O>)
 /// the values and the tokens that are left are determined. Those that are refused, but for want of
 /// room or of memory, spell none, and are refused for one reason, over builders with any limit.
 pub fn hash_texts_are_exact()
-    ensures params { (limit : Option ℕ) → IsExact limit Nsec3paramText (RefusesNsec3param limit) }
-    ensures hash { (limit : Option ℕ) → IsExact limit HashText (RefusesHash limit) }
-    ensures nsec3 { (limit : Option ℕ) → IsExact limit Nsec3Text (RefusesNsec3 limit) }
+    ensures params { (limit : Option ℕ) → IsExact (IsOfTokens limit) Nsec3paramText
+        (RefusesNsec3param limit) }
+    ensures hash { (limit : Option ℕ) → IsExact (IsOfTokens limit) HashText (RefusesHash limit) }
+    ensures nsec3 { (limit : Option ℕ) → IsExact (IsOfTokens limit) Nsec3Text
+        (RefusesNsec3 limit) }
 {}
 
 /// The words of what parameters are written as spell them.

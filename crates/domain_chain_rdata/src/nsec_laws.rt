@@ -1,14 +1,13 @@
 //! What holds of the octets and the text of NSEC data (RFC 4034, section 4).
 //! A caller calls the law in its body.
-ghost use Rattle.std.specs.Prelude.{◌≡◌, ℕ, ◌++◌, [], Option, codes};
+ghost use Rattle.std.specs.Prelude.{ℕ, ◌++◌, [], Option, codes};
 ghost use Rattle.domain_octets.specs.Line.{words_of};
-ghost use Rattle.domain_names.specs.{TextFault.{ScanFault, IsOfTokens}, Text.name_text};
-ghost use Rattle.domain_names.specs.Words.{Tokens};
+ghost use Rattle.domain_names.specs.Text.{name_text};
 ghost use Rattle.domain_bitmap.specs.{Bitmap.bitmap_octets, Blocks.{IsShortest, types_of}};
 ghost use Rattle.domain_bitmap.specs.{Scan.is_among, Text.types_text};
-ghost use Rattle.domain_chain_rdata.specs.NsecText.{NsecText, RefusesNsec};
+ghost use Rattle.domain_chain_rdata.specs.NsecText.{NsecText, IsOfNsec, RefusesNsec};
 ghost use Rattle.domain_chain_rdata.specs.Rdata.{nsec, nsec_values};
-ghost use Rattle.domain_fields.specs.Layout.{ParsesBack, Values};
+ghost use Rattle.domain_fields.specs.{Layout.ParsesBack, Sequence.IsExact};
 
 use crate::Nsec;
 use domain_base::ToName;
@@ -40,19 +39,9 @@ pub fn nsec_reads_back<O: Octets, N: ToName>(value: &Nsec<O, N>)
     value.fields().fits();
 }
 
-/// Tokens that are refused as NSEC data, but for want of room or of memory, spell none, over
-/// builders with any limit.
-pub fn refused_tokens_spell_no_nsec()
-    ensures { (names bitmaps : Option ℕ) (old new after : Tokens) (fault : ScanFault)
-        (v : Values nsec) → RefusesNsec names bitmaps old new fault
-        → IsOfTokens names fault → IsOfTokens bitmaps fault → NsecText old v after → ⊥ }
-{}
-
-/// Tokens are refused as NSEC data, but for want of room or of memory, for one reason, and the
-/// tokens that are left then are determined, over builders with any limit.
-pub fn nsec_has_one_fault()
-    ensures { (names bitmaps : Option ℕ) (old m n : Tokens) (x y : ScanFault)
-        → RefusesNsec names bitmaps old m x → RefusesNsec names bitmaps old n y
-        → IsOfTokens names x → IsOfTokens bitmaps x → IsOfTokens names y → IsOfTokens bitmaps y
-        → (x ≡ y) × (m ≡ n) }
+/// Tokens begin with NSEC data in one way at most, and those that are refused, but for want of room
+/// or of memory, spell none, and are refused for one reason, over builders with any limit.
+pub fn nsec_texts_are_exact()
+    ensures { (names bitmaps : Option ℕ) → IsExact (IsOfNsec names bitmaps) NsecText
+        (RefusesNsec names bitmaps) }
 {}

@@ -3,65 +3,38 @@ use Rattle.std.proofs.{Common.{arith, ◌≡◌, ℕ, List, Option}, lemmas.Grin
 use Rattle.domain_codecs.specs.declared.codec.Codec.{Codec}
 use Rattle.domain_names.specs.TextFault.{ScanFault, IsOfTokens}
 use Rattle.domain_base.{specs.Scan.{OneToken, RefusesToken, Grammar, Refusal}, proofs.RefusalLemmas.{token_excludes, token_one_fault}}
-use Rattle.domain_fields.specs.{Layout.Layout, Scan.{Scans, Refuses}, Entry.{Spells, RefusesData}}
-use Rattle.domain_fields.specs.Sequence.{Both, RefusesBoth, ReadsOnce, Excludes, OneFault, IsExact}
-use Rattle.domain_fields.proofs.ScanLemmas.{refused_spells_none, one_first_fault, scans_left, scans_once}
-
--- fields of one token each
-pub fields_once : (l : Layout) → ReadsOnce (Scans l)
-fields_once l = record { value = scans_once l; left = scans_left l }
-
-pub fields_refused : (limit : Option ℕ) (l : Layout) → Excludes limit (Scans l) (Refuses limit l)
-fields_refused limit l = λ old new after v fault why is own. refused_spells_none l limit old new after v fault why is own
-
-pub fields_one_fault : (limit : Option ℕ) (l : Layout) → OneFault limit (Refuses limit l)
-fields_one_fault limit l = λ old m n x y p q own also. one_first_fault l limit old m n x y p q own also
-
--- one token
-pub one_token : {V : Type 0} (spells : List ℕ → V → Type 0) → ((text : List ℕ) (v w : V) → spells text v → spells text w → v ≡ w) → ReadsOnce (OneToken spells)
-one_token spells once = grind (arith, common_steps)
-
-module _ {V : Type 0} (limit : Option ℕ) (spells : List ℕ → V → Type 0) (Why : ScanFault → List ℕ → Type 0) where
-  pub token_refused : ((fault : ScanFault) (text : List ℕ) (v : V) → Why fault text → spells text v → IsOfTokens limit fault → ⊥)
-      → Excludes limit (OneToken spells) (RefusesToken Why)
-  token_refused none = λ old new after v fault why takes own. token_excludes spells Why limit none old new after v fault why takes own
-
-pub token_once_refused : (limit : Option ℕ) (Why : ScanFault → List ℕ → Type 0)
-    → ((x y : ScanFault) (text : List ℕ) → Why x text → Why y text → x ≡ y) → OneFault limit (RefusesToken Why)
-token_once_refused limit Why one = λ old m n x y p q own also. token_one_fault Why one old m n x y p q
-
--- one grammar after another
-pub both_once : {V W : Type 0} (A : Grammar V) (B : Grammar W)
-    → ReadsOnce A → ReadsOnce B → ReadsOnce (Both A B)
-both_once A B first second = grind (arith, common_steps)
-
-module _ {V W : Type 0} (limit : Option ℕ) (A : Grammar V) (B : Grammar W)
-    (RA RB : Refusal) (once : ReadsOnce A) (first : Excludes limit A RA) where
-  pub both_refused : Excludes limit B RB → Excludes limit (Both A B) (RefusesBoth A RA RB)
-  both_refused second old new after v fault h is own = grind (arith, common_steps)
-
-  pub both_one_fault : OneFault limit RA → OneFault limit RB → OneFault limit (RefusesBoth A RA RB)
-  both_one_fault one other old m n x y h h8 own also = grind (arith, common_steps)
-
-pub fields_exact : (limit : Option ℕ) (l : Layout) → IsExact limit (Scans l) (Refuses limit l)
-fields_exact limit l = record { once = fields_once l; apart = fields_refused limit l; one_fault = fields_one_fault limit l }
+use Rattle.domain_fields.specs.{Entry.{Spells, RefusesData}}
+use Rattle.domain_fields.specs.Sequence.{Both, RefusesBoth, ReadsOnce, IsExact}
 
 -- a token that spells one value, or is refused for one reason
-pub token_exact : {V : Type 0} (limit : Option ℕ) (spells : List ℕ → V → Type 0) (Why : ScanFault → List ℕ → Type 0)
-    → ((text : List ℕ) (v w : V) → spells text v → spells text w → v ≡ w) → ((fault : ScanFault) (text : List ℕ) (v : V) → Why fault text → spells text v → ⊥)
-    → ((x y : ScanFault) (text : List ℕ) → Why x text → Why y text → x ≡ y) → IsExact limit (OneToken spells) (RefusesToken Why)
-token_exact limit spells Why once none one = record {
-  once = one_token spells once;
-  apart = token_refused limit spells Why (λ fault text v why is own. none fault text v why is);
-  one_fault = token_once_refused limit Why one;
+pub token_exact : {V : Type 0} (IsOwn : ScanFault → Type 0) (spells : List ℕ → V → Type 0) (Why : ScanFault → List ℕ → Type 0)
+    → ((text : List ℕ) (v w : V) → spells text v → spells text w → v ≡ w)
+    → ((fault : ScanFault) (text : List ℕ) (v : V) → Why fault text → spells text v → IsOwn fault → ⊥)
+    → ((x y : ScanFault) (text : List ℕ) → Why x text → Why y text → IsOwn x → IsOwn y → x ≡ y) → IsExact IsOwn (OneToken spells) (RefusesToken Why)
+token_exact IsOwn spells Why once none one = record {
+  once = grind (arith, common_steps);
+  apart = token_excludes Why IsOwn spells none;
+  one_fault = token_one_fault Why IsOwn one;
 }
 
-pub both_exact : {V W : Type 0} (limit : Option ℕ) (A : Grammar V) (B : Grammar W)
-    (RA RB : Refusal) → IsExact limit A RA → IsExact limit B RB → IsExact limit (Both A B) (RefusesBoth A RA RB)
-both_exact limit A B RA RB a b = record {
-  once = both_once A B a.once b.once;
-  apart = both_refused limit A B RA RB a.once a.apart b.apart;
-  one_fault = both_one_fault limit A B RA RB a.once a.apart a.one_fault b.one_fault;
+-- one grammar after another
+pub both_exact : {V W : Type 0} (IsOwn : ScanFault → Type 0) (A : Grammar V) (B : Grammar W) (RA RB : Refusal)
+    → IsExact IsOwn A RA → IsExact IsOwn B RB → IsExact IsOwn (Both A B) (RefusesBoth A RA RB)
+both_exact IsOwn A B RA RB a b =
+    let first = a.apart in let second = b.apart in let once = a.once in let then = b.once in let one = a.one_fault in let other = b.one_fault in
+    record {
+      once = grind (arith, common_steps);
+      apart = λ old new after v fault h is own. grind (arith, common_steps);
+      one_fault = λ old m n x y h h8 own also. grind (arith, common_steps);
+    }
+
+-- where fewer reasons count as their own
+pub exact_for : {V : Type 0} {IsOwn Fewer : ScanFault → Type 0} (G : Grammar V) (R : Refusal) → ((fault : ScanFault) → Fewer fault → IsOwn fault)
+    → IsExact IsOwn G R → IsExact Fewer G R
+exact_for G R own exact = record {
+  once = exact.once;
+  apart = λ old new after v fault why is fewer. exact.apart old new after v fault why is (own fault fewer);
+  one_fault = λ old m n x y p q fewer also. exact.one_fault old m n x y p q (own x fewer) (own y also);
 }
 
 -- fields and then octets, which all tokens that are left spell together
@@ -74,7 +47,7 @@ module _ {V : Type 0} (G : Grammar V) (once : ReadsOnce G) (codec : Codec) (old 
   same_octets = grind (arith, common_steps)
 
 module _ {V : Type 0} (limit : Option ℕ) (G : Grammar V) (R : Refusal)
-    (exact : IsExact limit G R) (Unfit : V → List ℕ → Type 0) (message : List ℕ) (codec : Codec) where
+    (exact : IsExact (IsOfTokens limit) G R) (Unfit : V → List ℕ → Type 0) (message : List ℕ) (codec : Codec) where
   module _ (old new : List (List ℕ)) (fault : ScanFault) (own : IsOfTokens limit fault) (v : V) (octets : List ℕ) (is : Spells G codec old v octets) where
     pub entry_refused : (Unfit v octets → ⊥) → RefusesData G R limit Unfit message codec old new fault → ⊥
     entry_refused fits h = grind (arith, common_steps)

@@ -1,10 +1,11 @@
 -- record data as tokens: fields in their order, each as one token
-use Rattle.std.specs.{Prelude.{◌≡◌, ◌⊎◌, ℕ, [], codes, length, Option}, Net.Grammar.IsDotted}
+use Rattle.std.specs.{Prelude.{◌≡◌, ℕ, [], codes, length, Option}, Net.Grammar.IsDotted}
 use Rattle.domain_octets.specs.Words.{Octets}
 use Rattle.domain_names.specs.{Text.NameText, TextFault.{ScanFault, illegal, NameTextFault}}
 use Rattle.domain_names.specs.{Words.{Tokens, Token}}
-use Rattle.domain_base.specs.Scan.{TakesToken, RefusesToken, IsNumber, IsNoNumber, Grammar, Refusal}
-use Rattle.domain_fields.specs.{Field.{Field, octet, short, long, name, spelled_name, exactly, Value}, Layout.{Layout, one, ◌▸◌, Values}}
+use Rattle.domain_base.specs.Scan.{OneToken, RefusesToken, IsNumber, IsNoNumber, Grammar, Refusal}
+use Rattle.domain_fields.specs.Field.{Field, octet, short, long, name, spelled_name, exactly, Value}
+use Rattle.domain_fields.specs.{Layout.{Layout, one, ◌▸◌, Values}, Sequence.{Both, RefusesBoth}}
 
 -- the text of a value; kinds of fields that are not read as one token have none
 abbrev pub FieldText : (f : Field) → Token → Value f → Type 0
@@ -33,16 +34,13 @@ FieldTextFault limit _ = λ fault text. ⊥
 
 -- the tokens begin with the values of a layout, and these are left
 abbrev pub Scans : (l : Layout) → Grammar (Values l)
-Scans (one f) old v new = TakesToken (λ text. FieldText f text v) old new
-Scans (a ▸ b) old v new = (between : Tokens) × Scans a old v.0 between × Scans b between v.1 new
+Scans (one f) = OneToken (FieldText f)
+Scans (a ▸ b) = Both (Scans a) (Scans b)
 
 -- the first field that is refused, and the tokens that are left then
 abbrev pub Refuses : Option ℕ → Layout → Refusal
-Refuses limit (one f) old new fault = RefusesToken (FieldTextFault limit f) old new fault
-Refuses limit (a ▸ b) old new fault =
-    Refuses limit a old new fault
-    ⊎ ((v : Values a) × (between : Tokens) × Scans a old v between
-    × Refuses limit b between new fault)
+Refuses limit (one f) = RefusesToken (FieldTextFault limit f)
+Refuses limit (a ▸ b) = RefusesBoth (Scans a) (Refuses limit a) (Refuses limit b)
 
 -- all tokens spell the value
 abbrev pub AllTokens : {V : Type 0} → (Tokens → V → Type 0) → Grammar V

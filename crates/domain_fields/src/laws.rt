@@ -3,7 +3,7 @@
 ghost use Rattle.std.specs.{Prelude.{◌≡◌, ℕ, ◌++◌, [], Option, true}, List.AllByRecursion};
 ghost use Rattle.std.specs.Ordering.{ordering_then};
 ghost use Rattle.domain_octets.specs.{Line.IsWord, Words.Octets};
-ghost use Rattle.domain_names.specs.{Fault.Fault, TextFault.ScanFault, Words.Tokens};
+ghost use Rattle.domain_names.specs.{Fault.Fault, TextFault.{ScanFault, IsOfTokens}, Words.Tokens};
 ghost use Rattle.domain_fields.specs.{Field.Field, Printed.{is_printed, printed}, Scan.Scans};
 ghost use Rattle.domain_fields.specs.{Scan.Refuses, Layout.{Layout, one, ◌▸◌, Values, Begins}};
 ghost use Rattle.domain_fields.specs.Layout.{FirstFault, Fits, Ends, ParsesBack, splits};
@@ -46,7 +46,8 @@ pub fn fields_decide_in_order()
 /// field has one fault of any kind.
 #[tactic(auto, using(crate::proofs::ScanLemmas::one_field_one_fault))]
 pub fn texts_of_fields_are_exact()
-    ensures fields { (limit : Option ℕ) (l : Layout) → IsExact limit (Scans l) (Refuses limit l) }
+    ensures fields { (limit : Option ℕ) (l : Layout) → IsExact (IsOfTokens limit) (Scans l)
+        (Refuses limit l) }
     ensures field { (limit : Option ℕ) (f : Field) (old m n : Tokens) (x y : ScanFault)
         → Refuses limit (one f) old m x → Refuses limit (one f) old n y → (x ≡ y) × (m ≡ n) }
 {}

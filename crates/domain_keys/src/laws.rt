@@ -1,6 +1,7 @@
 //! What holds of the texts of keys and digests. A caller calls the law in its body.
 ghost use Rattle.std.specs.Prelude.{ℕ, Option};
 ghost use Rattle.domain_codecs.specs.declared.codec.Codec.{Codec};
+ghost use Rattle.domain_names.specs.TextFault.{IsOfTokens};
 ghost use Rattle.domain_fields.specs.Sequence.{IsExactEntry};
 ghost use Rattle.domain_keys.specs.Scan.{KeyText, RefusesKey};
 
@@ -8,5 +9,5 @@ ghost use Rattle.domain_keys.specs.Scan.{KeyText, RefusesKey};
 /// of memory, which is for one reason, over builders with any limit and in either codec.
 pub fn key_texts_are_exact()
     ensures { (codec : Codec) (limit : Option ℕ)
-        → IsExactEntry limit (KeyText codec) (RefusesKey codec limit) }
+        → IsExactEntry (IsOfTokens limit) (KeyText codec) (RefusesKey codec limit) }
 {}

@@ -68,15 +68,15 @@ module _ {O N : Type 0} (octets : O → Octets) (labels : N → Name) where
       → IsOfLine limit e → BodyText octets labels tokens ttl class d → ⊥
   unfolding RefusesBody
   none_behind limit tokens ttl class d (Ttl e) (left, why) own b =
-      token_excludes (IsNumber 32) (IsNoNumber 32) limit (λ fault text v no yes known. no.none v yes) tokens left _ ttl (scan_fault_of e) why
+      token_excludes (IsNoNumber 32) (IsOfTokens limit) (IsNumber 32) (λ fault text v no yes known. no.none v yes) tokens left _ ttl (scan_fault_of e) why
       b.numbers.timed own
   none_behind limit tokens ttl class d (Class e) (_, behind, left, timed, why) own b =
-      token_excludes ClassText IsNoClass limit (λ fault text v no yes known. no.none v yes) b.numbers.behind_ttl left _ class (scan_fault_of e)
+      token_excludes IsNoClass (IsOfTokens limit) ClassText (λ fault text v no yes known. no.none v yes) b.numbers.behind_ttl left _ class (scan_fault_of e)
       (subst (λ ws. RefusesToken IsNoClass ws left (scan_fault_of e)) (taken_once tokens _ _ timed b.numbers.timed) why) b.numbers.classed own
   none_behind limit tokens ttl class d (Rtype e) (_, number, between, behind, left, timed, classed, why) own b =
       let first = taken_once tokens between _ timed b.numbers.timed in
       let same = taken_once b.numbers.behind_ttl behind _ (subst (λ ws. ClassTaken number ws behind) first classed) b.numbers.classed in
-      token_excludes TypeText IsNoType limit (λ fault text v no yes known. no.none v yes) b.numbers.behind_class left _ b.rtype (scan_fault_of e)
+      token_excludes IsNoType (IsOfTokens limit) TypeText (λ fault text v no yes known. no.none v yes) b.numbers.behind_class left _ b.rtype (scan_fault_of e)
       (subst (λ ws. RefusesToken IsNoType ws left (scan_fault_of e)) same why) b.numbers.typed own
   none_behind limit tokens ttl class d (RecordData e) (_, _, rtype, after, left, taken, why) own b =
       none_spelled octets labels rtype after limit left (scan_fault_of e) why own d [] (moved rtype after d taken b)
@@ -95,7 +95,7 @@ module _ {O N : Type 0} (octets : O → Octets) (labels : N → Name) where
       → RefusesEntry octets labels limit tokens e
       → IsOfLine limit e → EntryText octets labels tokens r → ⊥
   none_in limit tokens r (Owner e) (left, why) own x =
-      token_excludes NameText (NameTextFault limit) limit (name_excludes limit) tokens left _ (labels r.owner) (scan_fault_of e) why x.owned own
+      token_excludes (NameTextFault limit) (IsOfTokens limit) NameText (name_excludes limit) tokens left _ (labels r.owner) (scan_fault_of e) why x.owned own
   none_in limit tokens r _ why own x = none_in_body limit tokens r _ why own x
 
   pub none_where_refused : (limit : Option ℕ) (line : List ℕ) (e : LineError) (r : Record N (ZoneRecordData O N))

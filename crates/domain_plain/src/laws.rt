@@ -2,7 +2,7 @@
 ghost use Rattle.std.specs.Prelude.{ℕ, ◌<◌, ◌≤◌, ◌++◌, [], Option, IfSome, length, codes};
 ghost use Rattle.std.specs.{Fmt.decimal, Net.{Addr.ipv4_octets, Text.ipv4_text}};
 ghost use Rattle.domain_octets.specs.{Line.words_of, Words.{Octets, AreOctets}};
-ghost use Rattle.domain_names.specs.Text.{name_text};
+ghost use Rattle.domain_names.specs.{Text.name_text, TextFault.IsOfTokens};
 ghost use Rattle.domain_names.specs.Words.{Tokens};
 ghost use Rattle.domain_fields.specs.{Layout.ParsesBack, Scan.Scans, Sequence.IsExactEntry};
 ghost use Rattle.domain_plain.specs.Generic.{GenericText, GenericFault, generic_text};
@@ -56,7 +56,8 @@ pub fn unknown_data_parses_back<O: Octets>(value: &UnknownRecordData<O>)
 /// Tokens spell octets in the generic form in one way at most, and in none where they are refused,
 /// but for want of room or of memory, which is for one reason, over builders with any limit.
 pub fn generic_text_is_exact()
-    ensures { (limit : Option ℕ) → IsExactEntry limit GenericText (GenericFault limit) }
+    ensures { (limit : Option ℕ) → IsExactEntry (IsOfTokens limit) GenericText
+        (GenericFault limit) }
 {}
 
 /// The words of what an address is written as spell it.

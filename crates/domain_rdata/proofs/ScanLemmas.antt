@@ -2,12 +2,12 @@
 use Rattle.std.proofs.{Common.{arith, ◌≡◌, ℕ, List, [], ◌∷◌, refl, sym, ap, ◌∙◌, subst, Option, Some, None}, lemmas.{Grind.common_steps, List.append-nil}}
 use Rattle.domain_names.specs.TextFault.{ScanFault, IsOfTokens}
 use Rattle.domain_plain.{specs.Generic.GenericText, proofs.GenericLemmas.generic_exact}
-use Rattle.domain_fields.{specs.{Layout.{Values, octets_of}, Scan.AllTokens}, proofs.GrammarLemmas.{fields_once, fields_refused}}
+use Rattle.domain_fields.{specs.{Layout.{Values, octets_of}, Scan.AllTokens}, proofs.ScanLemmas.fields_exact}
 use Rattle.domain_fields.specs.Sequence.{ReadsOnce, Excludes, IsExactEntry}
 use Rattle.domain_base.specs.Scan.{Refusal}
 use Rattle.domain_keys.{specs.{Data.key_values, Scan.KeyText}, proofs.RefusalLemmas.key_exact}
 use Rattle.domain_rrsig.{specs.{Data.rrsig_values, Scan.RrsigText}, proofs.RefusalLemmas.rrsig_exact}
-use Rattle.domain_chain_rdata.proofs.TextLemmas.{nsec_once, nsec_refused, params_exact, nsec3_exact}
+use Rattle.domain_chain_rdata.proofs.TextLemmas.{nsec_exact, params_exact, nsec3_exact}
 use Rattle.domain_rdata.specs.Kind.{Kind, plain, key, signature, next_by_name, next_by_hash, params, layout_of, AreFields, FieldsText, key_of, rrsig_of}
 use Rattle.domain_rdata.specs.Refusal.{RefusesKind, RefusesKnown, RefusesOwn, AreOfKind, OctetsFault, RefusesRdata, in_own, in_generic, in_octets}
 use Rattle.domain_rdata.specs.{Scan.{RdataText, own, generic, ContentText, OwnText, AreContent, AreData, IsGeneric}, Zone.{kind_of, Content, fields, mere}}
@@ -15,8 +15,8 @@ use Rattle.domain_rdata.specs.{Zone.{content_of, content_octets, IsOfKind, of_ki
 
 -- all tokens spell data
 whole_exact : {V D : Type 0} (limit : Option ℕ) (spells : List (List ℕ) → D → Type 0) (R : Refusal) (of : V → D) (values : D → V)
-    → IsExactEntry limit spells R → ((v : V) → values (of v) ≡ v)
-    → ReadsOnce (AllTokens (λ old v. spells old (of v))) × Excludes limit (AllTokens (λ old v. spells old (of v))) R
+    → IsExactEntry (IsOfTokens limit) spells R → ((v : V) → values (of v) ≡ v)
+    → ReadsOnce (AllTokens (λ old v. spells old (of v))) × Excludes (IsOfTokens limit) (AllTokens (λ old v. spells old (of v))) R
 whole_exact limit spells R of values exact same = (
   record {
     value = λ old m n v w p q. sym (same v) ∙ ap values (exact.once old (of v) (of w) p.0 q.0) ∙ same w;
@@ -26,11 +26,12 @@ whole_exact limit spells R of values exact same = (
 )
 
 -- the values of a kind, and the tokens that are left, are told from the tokens; what is refused, but for want of room or memory, are no data of the kind
-kind_exact : (k : Kind) (limit : Option ℕ) → ReadsOnce (FieldsText k) × Excludes limit (FieldsText k) (RefusesKind limit k)
-kind_exact (plain l) limit = (fields_once l, fields_refused limit l)
+kind_exact : (k : Kind) (limit : Option ℕ) → ReadsOnce (FieldsText k) × Excludes (IsOfTokens limit) (FieldsText k) (RefusesKind limit k)
+kind_exact (plain l) limit = ((fields_exact limit l).once, (fields_exact limit l).apart)
 kind_exact (key codec) limit = whole_exact limit (KeyText codec) _ key_of key_values (key_exact codec limit) (λ v. refl)
 kind_exact signature limit = whole_exact limit RrsigText _ rrsig_of rrsig_values (rrsig_exact limit) (λ v. refl)
-kind_exact next_by_name limit = (nsec_once, λ old new after v fault why is alone. nsec_refused limit limit old new after fault v why alone alone is)
+kind_exact next_by_name limit =
+    ((nsec_exact limit limit).once, λ old new after v fault why is own. (nsec_exact limit limit).apart old new after v fault why is (own, own))
 kind_exact next_by_hash limit = ((nsec3_exact limit).once, (nsec3_exact limit).apart)
 kind_exact params limit = ((params_exact limit).once, (params_exact limit).apart)
 

@@ -2,7 +2,7 @@
 //! A caller calls the law in its body.
 ghost use Rattle.std.specs.{Prelude.{◌<◌, ◌^◌, ℕ, Option}, Fmt.decimal};
 ghost use Rattle.domain_octets.specs.Line.{words_of};
-ghost use Rattle.domain_names.specs.Words.{Tokens};
+ghost use Rattle.domain_names.specs.{TextFault.IsOfTokens, Words.Tokens};
 ghost use Rattle.domain_fields.specs.{Layout.ParsesBack, Sequence.IsExactEntry};
 ghost use Rattle.domain_rrsig.specs.{Data.{rrsig, rrsig_values}, Pieces.rrsig_text};
 ghost use Rattle.domain_rrsig.specs.{Scan.{RrsigText, RefusesRrsig}, Time.{TimeText, TimeToken}};
@@ -37,5 +37,6 @@ pub fn times_are_read_back()
 /// Tokens spell the data of one signature at most, and of none where they are refused, but for want
 /// of room or of memory, which is for one reason, over builders with any limit.
 pub fn signature_texts_are_exact()
-    ensures { (limit : Option ℕ) → IsExactEntry limit RrsigText (RefusesRrsig limit) }
+    ensures { (limit : Option ℕ) → IsExactEntry (IsOfTokens limit) RrsigText
+        (RefusesRrsig limit) }
 {}

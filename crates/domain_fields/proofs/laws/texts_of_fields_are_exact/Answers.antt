@@ -1,4 +1,4 @@
-use Rattle.domain_fields.proofs.GrammarLemmas.{fields_exact}
+use Rattle.domain_fields.proofs.ScanLemmas.{fields_exact}
 use Rattle.domain_fields.proofs.laws.texts_of_fields_are_exact.Goals as goal
 
 pub returns-clause-fields : goal.returns-clause-fields
