@@ -1,5 +1,5 @@
-use Rattle.domain_base.proofs.ScanLemmas.{refused_token}
+use Rattle.domain_base.proofs.ScanLemmas.{token_read}
 use Rattle.domain_base.proofs.scanner.IterScannerScanner.scan_name.Goals as goal
 
-pub returns-clause-err : goal.returns-clause-err
-returns-clause-err g c = refused_token _ _ _ _ _ c.in-Some.ensures c.skip_token.ensures c.from_str-name.ensures.err
+pub returns : goal.returns
+returns g c = token_read _ _ _ _ _ _ _ c.in-Some.ensures c.skip_token.ensures c.from_str-name.ensures.ok c.from_str-name.ensures.err
