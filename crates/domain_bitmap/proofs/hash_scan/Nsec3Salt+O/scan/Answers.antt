@@ -1,11 +1,23 @@
 use Rattle.std.proofs.{Common.arith, lemmas.Grind.common_steps}
-use Rattle.domain_bitmap.proofs.SaltLemmas.{refused_dash, took_digits}
+use Rattle.domain_bitmap.proofs.SaltLemmas.{refused_dash, took_dash, took_digits}
 use Rattle.domain_bitmap.proofs.hash_scan.Nsec3Salt+O.scan.Goals as goal
 
-pub returns-then-begins-clause-err : goal.returns-then-begins-clause-err
-returns-then-begins-clause-err g c =
-    refused_dash _ _ _ _ c.in-Some.ensures c.skip_token.ensures (c.dash-begins.ensures.begins.0 c.if-begins.true)
-    (λ is. let alone = c.dash-begins.ensures.alone.1 is in cc (alone, c.if-alone.false))
+pub returns-then-alone : goal.returns-then-alone
+returns-then-alone g c = record {
+  ok = took_dash _ _ _ _ c.in-Some.ensures c.skip_token.ensures (c.dash-begins.ensures.alone.0 c.if-alone.true) (grind (arith, common_steps));
+  err = tt;
+}
 
-pub returns-in-Ok-clause-ok : goal.returns-in-Ok-clause-ok
-returns-in-Ok-clause-ok g c = grind (arith, common_steps, took_digits)
+pub returns-then-begins : goal.returns-then-begins
+returns-then-begins g c = record {
+  ok = tt;
+  err = refused_dash _ _ _ _ c.in-Some.ensures c.skip_token.ensures (c.dash-begins.ensures.begins.0 c.if-begins.true)
+      (λ is. let alone = c.dash-begins.ensures.alone.1 is in cc (alone, c.if-alone.false));
+}
+
+pub returns-in-Ok : goal.returns-in-Ok
+returns-in-Ok g c = record {
+  ok = took_digits _ _ _ _ c.in-Some.ensures (λ is. let begins = c.dash-begins.ensures.begins.1 is in cc (begins, c.if-begins.false))
+      c.in-Ok.ensures.read.ok c.in-Ok.ensures.counted;
+  err = tt;
+}
