@@ -4,7 +4,8 @@ ghost use Rattle.std.specs.{Ordering.{on, nat_cmp}, Cmp.Lexicographic.{slice_cmp
 ghost use Rattle.domain_names.specs.{Text.name_text, Fault.fault_of};
 ghost use Rattle.domain_fields.specs.Layout.{Begins, FirstFault, Reads, octets_of, canonical_of};
 ghost use Rattle.domain_fields.specs.{Scan.{Scans, Refuses}, DataClone.same_values_tie};
-ghost use Rattle.domain_base.specs.{Scan.ReadsTokens, Types as rtypes};
+ghost use Rattle.domain_base.specs.Scan.{ReadsTokens};
+ghost use Rattle.domain_base.specs.Types as rtypes;
 ghost use Rattle.domain_plain.specs.Plain.{ns, ns_values};
 
 use domain_base::{CanonicalOrd, ParsedName, Rtype, ScanError, Scanner, ToName};
