@@ -3,7 +3,7 @@ use Rattle.std.proofs.{Common.{arith, ◌≡◌, ℕ, List, Option, [], sym, sub
 use Rattle.domain_octets.specs.{Line.words_of, Words.Octets}
 use Rattle.domain_base.specs.{Numbers.{ClassText, IsNoClass, IsNoType, TypeText}, Scan.{IsNoNumber, IsNumber, RefusesToken, TakesToken}}
 use Rattle.domain_base.proofs.{NamedLemmas.one_named, RefusalLemmas.{name_excludes, token_excludes}}
-use Rattle.domain_names.specs.{Text.NameText, TextFault.{NameTextFault, scan_fault_of}, Words.{Name, Token, Tokens}}
+use Rattle.domain_names.specs.{Text.NameText, TextFault.{IsOfTokens, NameTextFault, scan_fault_of}, Words.{Name, Token, Tokens}}
 use Rattle.domain_names.proofs.SpellingLemmas.{one_name}
 use Rattle.domain_record.specs.declared.record.Record.{Record}
 use Rattle.domain_rdata.proofs.ScanLemmas.{none_spelled, text_once}
