@@ -1,8 +1,7 @@
 -- The record that a line spells, and lines that spell none.
-use Rattle.std.proofs.Common.{arith, ◌≡◌, ◌↔◌, ◌<◌, ◌≤◌, IsTrue, Bool, true, false, ℕ, List, length, take, ap, ◌∙◌, sym, subst, inl, inr, None}
+use Rattle.std.proofs.Common.{arith, ◌≡◌, ◌↔◌, ◌≤◌, IsTrue, Bool, true, false, ℕ, List, sym, subst, inl, inr, None}
 use Rattle.std.proofs.lemmas.{Bool.Decides.nat_tests, Grind.common_steps, List.Elements.{All-weaker}, Str.IsUtf8-from_ascii}
-use Rattle.std.proofs.Math.Seq.{take-length}
-use Rattle.std.specs.{List.{All, AllPass}, Str.IsUtf8}
+use Rattle.std.specs.{List.{All}, Str.IsUtf8}
 use Rattle.domain_names.specs.Words.{Name, Tokens}
 use Rattle.domain_octets.specs.{Line.words_of, Words.Octets}
 use Rattle.domain_message.specs.{Entry.{EntryText, IsOfLine, OwnerTaken, RefusesBody}, declared.line.LineError.LineError}
@@ -16,11 +15,6 @@ plain_is_low line plain = All-weaker (λ c. is_plain c ≡ true) (λ c. c ≤ 12
 
 pub plain_is_text : (line : List ℕ) → IsPlain line → IsUtf8 line
 plain_is_text line plain = let low = plain_is_low line plain in grind (arith, common_steps, IsUtf8-from_ascii)
-
-pub plain_whole : (line : List ℕ) (n : ℕ) → AllPass is_plain (take n line) → n ≤ length line → (n < length line → ⊥) → IsPlain line
-plain_whole line n plain within whole =
-    let all : n ≡ length line = (let e = whole in omega (arith, within)) in
-    subst IsPlain (ap (λ k. take k line) all ∙ take-length line) plain
 
 -- ---- words that spell no record
 
