@@ -12,8 +12,7 @@ const NOT_TAKEN: ScanError = ScanError::Custom("unknown record data");
 /// The part of a record that words do not have, and what is said of it; None where memory was
 /// wanting.
 fn part_of(words: &[&str], error: LineError) -> Option<(Part, ScanError)> {
-    let named = words.get(3).map(|word| Rtype::from_token(word));
-    let rtype = named.and_then(Result::ok).unwrap_or(Rtype::A);
+    let rtype = Rtype::from_token(words.get(3).copied().unwrap_or("")).unwrap_or(Rtype::A);
     match error {
         LineError::Owner(error) => Some((Part::Owner, error)),
         LineError::Ttl(error) => Some((Part::Ttl, error)),
