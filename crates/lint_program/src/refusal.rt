@@ -1,48 +1,61 @@
 //! The first word of a line that can't be read as what stands there.
 
 use crate::wanted::Part;
-use denial_program::ZoneOctets;
-use domain_base::{FromToken, IterScanner, Rtype, ScanError, Scanner};
-use domain_dnssec::{LineError, scan_entry};
+use denial_program::{ZoneName, ZoneOctets};
+use domain_base::{Class, FromToken, IterScanner, Rtype, ScanError, Scanner, Ttl};
+use domain_rdata::ZoneRecordData;
 use std::alloc::{AllocError, Global};
 
 /// The refusal of a word that is not taken.
 const NOT_TAKEN: ScanError = ScanError::Custom("unknown record data");
 
-/// The part of a record that words do not have, and what is said of it; None where memory was
-/// wanting.
-fn part_of(words: &[&str], error: LineError) -> Option<(Part, ScanError)> {
-    let rtype = Rtype::from_token(words.get(3).copied().unwrap_or("")).unwrap_or(Rtype::A);
-    match error {
-        LineError::Owner(error) => Some((Part::Owner, error)),
-        LineError::Ttl(error) => Some((Part::Ttl, error)),
-        LineError::Class(error) => Some((Part::Class, error)),
-        LineError::Rtype(error) => Some((Part::Type, error)),
-        LineError::RecordData(error) => Some((Part::Data(rtype), error)),
-        LineError::Trailing => Some((Part::Nothing(rtype), NOT_TAKEN)),
-        LineError::NoEntry | LineError::OutOfMemory => None,
-    }
-}
-
-/// The number of the first of these words that can't be read, where there is one, and what it was
-/// to be. Numbers are counted from 1; where a word is missing it is one more than there are.
-pub fn refusal_of(alloc: Global, words: &[&str]) -> Result<Option<(usize, Part)>, AllocError> {
-    let mut scanner = IterScanner::<ZoneOctets>::new(words);
-    let Err(error) = scan_entry(alloc, &mut scanner) else {
-        return Ok(None);
-    };
-    let mut taken = words.len();
-    for _word in words {
+/// A refusal of one of so many words: of the last that was taken, or of the next where none was.
+fn refusal_at<S: Scanner>(
+    scanner: &mut S,
+    count: usize,
+    part: Part,
+    error: ScanError,
+) -> Result<Option<(usize, Part)>, AllocError> {
+    let mut taken = count;
+    for _word in 0..count {
         if scanner.continues() {
             scanner.skip_token();
             taken = taken.saturating_sub(1);
         }
     }
-    let number = match part_of(words, error) {
-        None | Some((_, ScanError::OutOfMemory)) => return Err(AllocError),
-        Some((part, ScanError::EndOfEntry)) => (words.len().saturating_add(1), part),
-        Some((part, ScanError::Custom("unknown record data"))) => (taken.saturating_add(1), part),
-        Some((part, _)) => (taken, part),
+    let number = match error {
+        ScanError::OutOfMemory => return Err(AllocError),
+        ScanError::EndOfEntry => count.saturating_add(1),
+        ScanError::Custom("unknown record data") => taken.saturating_add(1),
+        _ => taken,
     };
-    Ok(Some(number))
+    Ok(Some((number, part)))
+}
+
+/// The number of the first of these words that can't be read, where there is one, and what it was
+/// to be. Numbers are counted from 1; where a word is missing it is one more than there are.
+pub fn refusal_of(alloc: Global, words: &[&str]) -> Result<Option<(usize, Part)>, AllocError> {
+    let count = words.len();
+    let mut scanner = IterScanner::<ZoneOctets>::new(words);
+    if let Err(error) = scanner.scan_name(alloc) {
+        return refusal_at(&mut scanner, count, Part::Owner, error);
+    }
+    if let Err(error) = Ttl::scan(&mut scanner) {
+        return refusal_at(&mut scanner, count, Part::Ttl, error);
+    }
+    if let Err(error) = Class::scan(&mut scanner) {
+        return refusal_at(&mut scanner, count, Part::Class, error);
+    }
+    let rtype = match Rtype::scan(&mut scanner) {
+        Ok(rtype) => rtype,
+        Err(error) => return refusal_at(&mut scanner, count, Part::Type, error),
+    };
+    let data = ZoneRecordData::<ZoneOctets, ZoneName>::scan_rdata(alloc, rtype, &mut scanner);
+    if let Err(error) = data {
+        return refusal_at(&mut scanner, count, Part::Data(rtype), error);
+    }
+    if scanner.continues() {
+        return refusal_at(&mut scanner, count, Part::Nothing(rtype), NOT_TAKEN);
+    }
+    Ok(None)
 }
