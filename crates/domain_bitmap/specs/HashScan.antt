@@ -1,6 +1,6 @@
 -- salts and hashes of owner names from tokens (RFC 5155, section 3.3)
 use Rattle.std.specs.Prelude.{◌≡◌, ◌≢◌, ℕ, ◌⊎◌, [], ◌∷◌, codes, Option}
-use Rattle.domain_octets.specs.{Words.Octets, Characters.dash}
+use Rattle.domain_octets.specs.{Words.Octets, Characters.dash as dash_character}
 use Rattle.domain_codecs.specs.{declared.codec.Codec.{Codec, TheVariants.Base16}}
 use Rattle.domain_names.specs.{TextFault.{ScanFault, illegal}, Words.Token}
 use Rattle.domain_base.specs.Scan.{CodecFault}
@@ -17,7 +17,7 @@ CountedFault codec long limit fault token = CodecFault codec limit fault token
 -- the token begins with a dash
 abbrev pub BeginsWithDash : Token → Type 0
 BeginsWithDash [] = ⊥
-BeginsWithDash (c ∷ rest) = c ≡ dash
+BeginsWithDash (c ∷ rest) = c ≡ dash_character
 
 -- why a token is no salt: a dash may not have anything after it, and all else is Base 16
 pub data SaltTokenFault (limit : Option ℕ) : ScanFault → Token → Type 0 where

@@ -4,7 +4,7 @@ use Rattle.std.proofs.lemmas.{List.{Elements.{All-map, All-weaker, recursion_fro
 use Rattle.std.{proofs.lemmas.Grind.common_steps, specs.{Prelude.{All, None, Ok, nat_lt, true, false, if◌then◌else◌}, Char.to_ascii_lowercase}}
 use Rattle.std.specs.{List.AllByRecursion, Str.IsAscii}
 use Rattle.domain_codecs.{specs.Base32.{base32_from, base32_lower, lower_digit}, proofs.{Base32Lemmas.many_digits, ReadBackLemmas.are_small}}
-use Rattle.domain_octets.proofs.OctetLemmas.{octets_from_type}
+use Rattle.domain_octets.{specs.Words.AreOctets, proofs.OctetLemmas.octets_from_type}
 use Rattle.domain_names.{specs.{Name.{wire_of, IsName}, Text.{label_text, name_text}, Wire.{labels_of, IsWire}, Words.Name}, proofs.TextLemmas.ordinary_octet}
 use Rattle.domain_names.proofs.WireLemmas.{IsWire-wire_of, labels_of-wire_of, wire_is}
 use Rattle.domain_nsec3.specs.{Chain.hashed_owner, Faults.hash_fault}
@@ -12,9 +12,6 @@ use Rattle.domain_nsec3.specs.{Chain.hashed_owner, Faults.hash_fault}
 -- how many digits a hash has
 pub text_length : (h : List ℕ) → length (base32_lower h) ≡ (8 * length h + 4) / 5
 text_length h = length-map (base32_from 1 0 h) lower_digit ∙ many_digits h
-
-abbrev AreOctets : List ℕ → Type 0
-AreOctets h = All (λ o. o < 256) h
 
 -- what holds of each digit
 each_digit : (P : ℕ → Type 0) → ((d : ℕ) → d < 32 → P (lower_digit d)) → (h : List ℕ) → AreOctets h → All P (base32_lower h)
