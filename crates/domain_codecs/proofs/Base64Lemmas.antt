@@ -1,12 +1,12 @@
 -- texts in Base 64, 64 characters at a time
 use Rattle.std.{specs.Prelude.{◌-◌, ◌/◌, ◌%◌}, proofs.Common.{◌≡◌, ℕ, zero, suc, ◌+◌, ◌*◌, ◌<◌, ◌≤◌, List, [], ◌∷◌, ◌++◌, length, take, drop, slice_index}}
-use Rattle.std.proofs.Common.{length-drop, length-take, refl, sym, ap, subst, ◌∙◌, arith, ◌⊎◌, inl, inr, Option, None, Result, Ok, Err, true}
+use Rattle.std.proofs.Common.{length-append, length-drop, length-take, refl, sym, ap, subst, ◌∙◌, arith, ◌⊎◌, inl, inr, Option, None, Result, Ok, Err, true}
 use Rattle.std.proofs.lemmas.{Bool.cases_lt, List.{nil_from_length, take_at, drop_at, take-append-drop}, Grind.common_steps}
 use Rattle.base64.specs.{GeneralPurpose.{decode_of, encode_of, IsBytes}, Engines.standard, Tables.is_inverse}
 use Rattle.base64.specs.Decode.{IsDecodeTable, decode_outcome, decoded_bytes, decode_group, groups_error, groups_bytes, groups_before_last, leftover_bytes}
 use Rattle.base64.specs.{Decode.{lone_error, no_leftover, or_else, scan_bytes, scan_last, symbol_error}, declared.decode.DecodeError.DecodeError}
 use Rattle.base64.proofs.{RoundTrip.length-encode_symbols, Canonical.{IsScanned-scan, decoded_bytes-nil}}
-use Rattle.base64.proofs.{EngineFacts.{decode_of-encode_of, decode_of_strict, encode_of-append, encode_of-nil}, Tables.{IsDecodeTable_from, are_tables_inverse}}
+use Rattle.base64.proofs.{EngineFacts.{decode_of-encode_of, decode_of_strict, encode_of-append}, Tables.{IsDecodeTable_from, are_tables_inverse}}
 
 -- ---- what is decoded are octets
 
@@ -120,70 +120,28 @@ encoded_length octets = grind (arith, common_steps, length-encode_symbols)
 pub decoded_length : (text octets : List ℕ) → IsBytes text → DecodesTo text octets → length text ≡ (4 * length octets + 2) / 3 + (3 - length octets % 3) % 3
 decoded_length text octets bytes decoded = ap length (encoding text octets bytes decoded) ∙ encoded_length octets
 
--- what a text of over 64 characters stands for: 48 octets by the first 64, and others
-pub record Pieces (text octets : List ℕ) : Type 0 where
-  pub first : DecodesTo (take 64 text) (take 48 octets)
-  pub others : DecodesTo (drop 64 text) (drop 48 octets)
+-- what 64 characters with others after them stand for: 48 octets by the first 64, and others
+pub record Pieces (piece after octets : List ℕ) : Type 0 where
+  pub first : DecodesTo piece (take 48 octets)
+  pub others : DecodesTo after (drop 48 octets)
   pub full : length (take 48 octets) ≡ 48
 
-pub split_pieces : (text octets : List ℕ) → IsBytes text → 64 < length text → DecodesTo text octets → Pieces text octets
-split_pieces text octets bytes long decoded =
+pub split_pieces : (piece after octets : List ℕ) → IsBytes (piece ++ after) → length piece ≡ 64 → 0 < length after
+    → DecodesTo (piece ++ after) octets → Pieces piece after octets
+split_pieces piece after octets bytes size some decoded =
     let a : List ℕ = take 48 octets in
     let b : List ℕ = drop 48 octets in
-    let is : text ≡ encode_of standard octets = encoding text octets bytes decoded in
-    let small = decoded_small text octets bytes decoded in
-    let many : 48 < length octets = omega (arith, ap length is, encoded_length octets) in
+    let is = encoding (piece ++ after) octets bytes decoded in
+    let small = decoded_small (piece ++ after) octets bytes decoded in
+    let many : 48 < length octets = omega (arith, ap length is, encoded_length octets, length-append piece after) in
     let full : length a ≡ 48 = omega (arith, length-take 48 octets) in
-    let parts : text ≡ encode_of standard a ++ encode_of standard b =
+    let parts : piece ++ after ≡ encode_of standard a ++ encode_of standard b =
     is ∙ ap (encode_of standard) (sym (take-append-drop 48 octets)) ∙ encode_of-append standard a b (omega arith) in
-    let size : length (encode_of standard a) ≡ 64 = omega (arith, encoded_length a) in
-    let front : take 64 text ≡ encode_of standard a = ap (take 64) parts ∙ take_at _ _ 64 size in
-    let back : drop 64 text ≡ encode_of standard b = ap (drop 64) parts ∙ drop_at _ _ 64 size in
+    let long : length (encode_of standard a) ≡ 64 = omega (arith, encoded_length a) in
+    let front : piece ≡ encode_of standard a = sym (take_at piece after 64 size) ∙ ap (take 64) parts ∙ take_at _ _ 64 long in
+    let back : after ≡ encode_of standard b = sym (drop_at piece after 64 size) ∙ ap (drop 64) parts ∙ drop_at _ _ 64 long in
     record {
       first = subst (λ t. DecodesTo t a) (sym front) (decode_of-encode_of standard a refl (bytes-take 48 octets small));
       others = subst (λ t. DecodesTo t b) (sym back) (decode_of-encode_of standard b refl (bytes-drop 48 octets small));
       full = full;
     }
-
--- no characters stand for no octets
-pub nothing_decodes : (octets : List ℕ) → DecodesTo [] octets → octets ≡ []
-nothing_decodes octets decoded = let none : DecodesTo [] [] =
-    subst (λ t. DecodesTo t []) (encode_of-nil standard) (decode_of-encode_of standard [] refl (λ i. omega arith)) in cc
-
--- ---- a text that is gone through piece by piece
-
--- some pieces of the text have passed, and these characters are left: what they stand for decides
-pub record Passed (text left : List ℕ) : Type 0 where
-  pub back : (octets : List ℕ) → DecodesTo left octets → (whole : List ℕ) × DecodesTo text whole
-  pub forth : (whole : List ℕ) → DecodesTo text whole → (octets : List ℕ) × DecodesTo left octets
-  pub bytes : IsBytes left
-
-pub passed_none : (text : List ℕ) → IsBytes text → Passed text text
-passed_none text bytes = record { back = λ octets decoded. (octets, decoded); forth = λ whole decoded. (whole, decoded); bytes = bytes }
-
--- one piece more
-pub passed_more : (text left piece : List ℕ) → Passed text left → 64 < length left → DecodesTo (take 64 left) piece
-    → length piece ≡ 48 → Passed text (drop 64 left)
-passed_more text left piece so_far long first full =
-    let bytes = bytes-drop 64 left so_far.bytes in
-    record {
-      back = λ octets decoded.
-          so_far.back (piece ++ octets)
-          (subst (λ t. DecodesTo t (piece ++ octets)) (take-append-drop 64 left)
-          (joined_groups _ _ piece octets (bytes-take 64 left so_far.bytes) bytes
-          (omega arith) first decoded));
-      forth = λ whole decoded.
-          let here = so_far.forth whole decoded in
-          (drop 48 here.0, (split_pieces left here.0 so_far.bytes long here.1).others);
-      bytes = bytes;
-    }
-
--- a piece that stands for fewer octets is the last of no text
-module _ (text left : List ℕ) (so_far : Passed text left) (long : 64 < length left) (whole : List ℕ) (decoded : DecodesTo text whole) where
-  pub short_piece : (piece : List ℕ) → DecodesTo (take 64 left) piece → length piece < 48 → ⊥
-  short_piece piece read short =
-      let here = so_far.forth whole decoded in
-      let pieces = split_pieces left _ so_far.bytes long here.1 in
-      let first : DecodesTo (take 64 left) (take 48 here.0) = pieces.first in
-      let same : piece ≡ take 48 here.0 = cc in
-      omega (arith, pieces.full, ap length same)

@@ -34,45 +34,24 @@ groups_more y ys b up = record {
   whole = λ r small. grind (arith, common_steps, (up.three ((256 * r + y) % 8) (omega arith)), (fill_same 3 0 (length ys) (length (y ∷ ys)) (omega arith)));
   three = λ r small.
       let rest : ((256 * r + y) % 64 % 2) < 2 = omega arith in
-      let same : (1 + 8 * length ys) % 5 ≡ (3 + 8 * length (y ∷ ys)) % 5 = omega arith in
-      let e0 : ((256 * r + y) / 64) / 16 % 2 ≡ r / 4 % 2 = omega arith in
-      let e1 : ((256 * r + y) / 64) / 8 % 2 ≡ r / 2 % 2 = omega arith in
-      let e2 : ((256 * r + y) / 64) / 4 % 2 ≡ r % 2 = omega arith in
-      let e3 : ((256 * r + y) / 64) / 2 % 2 ≡ y / 128 % 2 = omega arith in
-      let e4 : ((256 * r + y) / 64) % 2 ≡ y / 64 % 2 = omega arith in
-      let e5 : ((256 * r + y) % 64 / 2) / 16 % 2 ≡ y / 32 % 2 = omega arith in
-      let e6 : ((256 * r + y) % 64 / 2) / 8 % 2 ≡ y / 16 % 2 = omega arith in
-      let e7 : ((256 * r + y) % 64 / 2) / 4 % 2 ≡ y / 8 % 2 = omega arith in
-      let e8 : ((256 * r + y) % 64 / 2) / 2 % 2 ≡ y / 4 % 2 = omega arith in
-      let e9 : ((256 * r + y) % 64 / 2) % 2 ≡ y / 2 % 2 = omega arith in
-      let e10 : ((256 * r + y) % 64 % 2) % 2 ≡ y % 2 = omega arith in
-      ap (λ l. (((256 * r + y) / 64) / 16 % 2) ∷ (((256 * r + y) / 64) / 8 % 2) ∷ (((256 * r + y) / 64) / 4 % 2) ∷
-      (((256 * r + y) / 64) / 2 % 2) ∷ (((256 * r + y) / 64) % 2) ∷ (((256 * r + y) % 64 / 2) / 16 % 2) ∷
-      (((256 * r + y) % 64 / 2) / 8 % 2) ∷ (((256 * r + y) % 64 / 2) / 4 % 2) ∷ (((256 * r + y) % 64 / 2) / 2 % 2) ∷
-      (((256 * r + y) % 64 / 2) % 2) ∷ l) (up.one ((256 * r + y) % 64 % 2) rest)
-      ∙ (λ i. e0 i ∷ e1 i ∷ e2 i ∷ e3 i ∷ e4 i ∷ e5 i ∷ e6 i ∷ e7 i ∷ e8 i ∷ e9 i ∷ e10 i ∷ (bits ys ++ fill_same 1 3 _ _ same i));
+      let first : digit_bits ((256 * r + y) / 64) ≡ (r / 4 % 2) ∷ (r / 2 % 2) ∷ (r % 2) ∷ (y / 128 % 2) ∷ (y / 64 % 2) ∷ [] = grind (arith, common_steps) in
+      let second : digit_bits ((256 * r + y) % 64 / 2) ≡ (y / 32 % 2) ∷ (y / 16 % 2) ∷ (y / 8 % 2) ∷ (y / 4 % 2) ∷ (y / 2 % 2) ∷ [] =
+      grind (arith, common_steps) in
+      let last : ((256 * r + y) % 64 % 2) % 2 ≡ y % 2 = omega arith in
+      let more = up.one ((256 * r + y) % 64 % 2) rest in
+      let filled = fill_same 1 3 (length ys) (length (y ∷ ys)) (omega arith) in
+      cc;
   one = λ r small. grind (arith, common_steps, (up.four ((256 * r + y) % 16) (omega arith)), (fill_same 4 1 (length ys) (length (y ∷ ys)) (omega arith)));
   four = λ r small.
       let rest : ((256 * r + y) % 128 % 4) < 4 = omega arith in
-      let same : (2 + 8 * length ys) % 5 ≡ (4 + 8 * length (y ∷ ys)) % 5 = omega arith in
-      let e0 : ((256 * r + y) / 128) / 16 % 2 ≡ r / 8 % 2 = omega arith in
-      let e1 : ((256 * r + y) / 128) / 8 % 2 ≡ r / 4 % 2 = omega arith in
-      let e2 : ((256 * r + y) / 128) / 4 % 2 ≡ r / 2 % 2 = omega arith in
-      let e3 : ((256 * r + y) / 128) / 2 % 2 ≡ r % 2 = omega arith in
-      let e4 : ((256 * r + y) / 128) % 2 ≡ y / 128 % 2 = omega arith in
-      let e5 : ((256 * r + y) % 128 / 4) / 16 % 2 ≡ y / 64 % 2 = omega arith in
-      let e6 : ((256 * r + y) % 128 / 4) / 8 % 2 ≡ y / 32 % 2 = omega arith in
-      let e7 : ((256 * r + y) % 128 / 4) / 4 % 2 ≡ y / 16 % 2 = omega arith in
-      let e8 : ((256 * r + y) % 128 / 4) / 2 % 2 ≡ y / 8 % 2 = omega arith in
-      let e9 : ((256 * r + y) % 128 / 4) % 2 ≡ y / 4 % 2 = omega arith in
-      let e10 : ((256 * r + y) % 128 % 4) / 2 % 2 ≡ y / 2 % 2 = omega arith in
-      let e11 : ((256 * r + y) % 128 % 4) % 2 ≡ y % 2 = omega arith in
-      ap (λ l. (((256 * r + y) / 128) / 16 % 2) ∷ (((256 * r + y) / 128) / 8 % 2) ∷ (((256 * r + y) / 128) / 4 % 2) ∷
-      (((256 * r + y) / 128) / 2 % 2) ∷ (((256 * r + y) / 128) % 2) ∷ (((256 * r + y) % 128 / 4) / 16 % 2) ∷
-      (((256 * r + y) % 128 / 4) / 8 % 2) ∷ (((256 * r + y) % 128 / 4) / 4 % 2) ∷ (((256 * r + y) % 128 / 4) / 2 % 2) ∷
-      (((256 * r + y) % 128 / 4) % 2) ∷ l) (up.two ((256 * r + y) % 128 % 4) rest)
-      ∙ (λ i. e0 i ∷ e1 i ∷ e2 i ∷ e3 i ∷ e4 i ∷ e5 i ∷ e6 i ∷ e7 i ∷ e8 i ∷ e9 i ∷ e10 i ∷ e11 i ∷ (bits ys
-      ++ fill_same 2 4 _ _ same i));
+      let first : digit_bits ((256 * r + y) / 128) ≡ (r / 8 % 2) ∷ (r / 4 % 2) ∷ (r / 2 % 2) ∷ (r % 2) ∷ (y / 128 % 2) ∷ [] = grind (arith, common_steps) in
+      let second : digit_bits ((256 * r + y) % 128 / 4) ≡ (y / 64 % 2) ∷ (y / 32 % 2) ∷ (y / 16 % 2) ∷ (y / 8 % 2) ∷ (y / 4 % 2) ∷ [] =
+      grind (arith, common_steps) in
+      let third : ((256 * r + y) % 128 % 4) / 2 % 2 ≡ y / 2 % 2 = omega arith in
+      let last : ((256 * r + y) % 128 % 4) % 2 ≡ y % 2 = omega arith in
+      let more = up.two ((256 * r + y) % 128 % 4) rest in
+      let filled = fill_same 2 4 (length ys) (length (y ∷ ys)) (omega arith) in
+      cc;
   two = λ r small. grind (arith, common_steps, (up.whole ((256 * r + y) % 32 % 1) (omega arith)), (fill_same 0 2 (length ys) (length (y ∷ ys)) (omega arith)));
 }
 

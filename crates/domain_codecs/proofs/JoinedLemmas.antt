@@ -1,16 +1,16 @@
 -- texts that are gone through in pieces of 64 characters, and what each piece stands for
 use Rattle.std.proofs.Common.{◌≡◌, ◌≢◌, ℕ, zero, suc, ◌+◌, ◌*◌, ◌%◌, ◌<◌, ◌≤◌, true, false, List, [], ◌∷◌, ◌++◌, length, take, drop, get_or, length-append}
-use Rattle.std.proofs.{Common.{nat_eq, refl, sym, ap, subst, ◌∙◌, arith, Ok, Err}, Math.ListN.get_or-append, lemmas.List.{take_all, take_at, drop_at}}
+use Rattle.std.proofs.{Common.{add-zero, nat_eq, refl, ap, subst, ◌∙◌, arith, Option, Result, Ok, Err}, Math.ListN.get_or-append, lemmas.List.{take_all, drop_at}}
 use Rattle.std.{proofs.lemmas.{List.{append-nil, map-append, length-map, get_or-append-add, take-append-drop}, Grind.common_steps}, specs.Prelude.{◌↔◌, Bool}}
 use Rattle.std.specs.{Prelude.IsTrue, List.AllPass}
 use Rattle.base64.specs.{GeneralPurpose.IsBytes, Engines.standard, declared.decode.DecodeError.DecodeError}
-use Rattle.base64.proofs.EngineFacts.{decode_of-encode_of, encode_of-nil}
+use Rattle.base64.proofs.EngineFacts.{decode_of-encode_of, encode_of-nil, front_bytes}
 use Rattle.base64.specs.GeneralPurpose as base64
-use Rattle.hex.{specs.Hex.{decode_of, decode_pairs, pair_value}, proofs.{HexLemmas.{decode_of-even, decode_of-ok}, Pairs.{cons_byte, decode_pairs-ok_pair}}}
+use Rattle.hex.{specs.{Hex.{decode_of, decode_pairs, digit_or_error, hex_digit_value, pair_value, ◌>>=◌}, declared.error.FromHexError.FromHexError}}
+use Rattle.hex.proofs.{HexLemmas.{decode_of-even, decode_of-ok, decode_of-same, decode_pairs-digits}, Pairs.{cons_byte, decode_pairs-ok_pair}}
 use Rattle.domain_codecs.specs.{declared.codec.Codec.{Codec, TheVariants.{Base16, Base32Hex, Base64}}, Codec.{Decodes, IsText, IsFirstOther, is_digit}}
-use Rattle.domain_codecs.{specs.{Codec.{base32_octets, base32_digits, IsBase32}, Cut.Cut}, proofs.{CodecBackLemmas.decodes_once, Base16Lemmas.First}}
-use Rattle.domain_codecs.proofs.{Base16Lemmas.pairs_first, Base64Lemmas.{DecodesTo, split_pieces, nothing_decodes, bytes-drop, Passed, passed_none}}
-use Rattle.domain_codecs.proofs.Base64Lemmas.{passed_more, short_piece, decoded_length}
+use Rattle.domain_codecs.specs.{Codec.{base32_octets, base32_digits, IsBase32}, Cut.Cut}
+use Rattle.domain_codecs.proofs.{CodecBackLemmas.decodes_once, Base64Lemmas.{DecodesTo, split_pieces, bytes-drop, joined_groups, decoded_length}}
 use Rattle.domain_octets.{specs.{Words.AreOctets}, proofs.PrefixLemmas.{Searched, searched_more}}
 
 -- octets are what the library `base64` takes for bytes
@@ -69,51 +69,48 @@ all_in_front : (codec : Codec) (text piece after octets : List ℕ) → Cut text
     → Halves codec piece after octets
 all_in_front codec text piece after octets cut none decoded = grind (arith, common_steps, nothing)
 
--- a pair of digits in Base 16, and those after it
-pair_more : (i a b octet : ℕ) (text rest : List ℕ) → pair_value a b i ≡ Ok octet → decode_pairs (i + 2) text ≡ Ok rest
-    → decode_pairs i (a ∷ b ∷ text) ≡ Ok (octet ∷ rest)
-pair_more i a b octet text rest pair read = decode_pairs-ok_pair i a b octet text pair ∙ ap (cons_byte octet) read
+-- the first octet, which two digits stand for, and the others
+record First (a b : ℕ) (others : Result (List ℕ) FromHexError) (octets : List ℕ) : Type 0 where
+  octet : ℕ
+  digits : decode_pairs 0 (a ∷ b ∷ []) ≡ Ok (octet ∷ [])
+  pair : (place : ℕ) → pair_value a b place ≡ Ok octet
+  rest : List ℕ
+  read : others ≡ Ok rest
+  parts : octets ≡ octet ∷ rest
 
--- pairs of digits, wherever they stand
-anywhere : (i j : ℕ) (text octets : List ℕ) → decode_pairs i text ≡ Ok octets → decode_pairs j text ≡ Ok octets
+first_octet : (high low : Option ℕ) (a b i j : ℕ) (others : Result (List ℕ) FromHexError) (octets : List ℕ) → hex_digit_value a ≡ high → hex_digit_value b ≡ low
+    → ((digit_or_error a i high >>= (λ h. digit_or_error b j low >>= (λ l. Ok (h * 16 + l)))) >>= (λ octet. others >>= (λ rest. Ok (octet ∷ rest)))) ≡ Ok octets
+    → First a b others octets
 unfolding decode_pairs
-anywhere i j [] octets is = is
-anywhere i j (a ∷ []) octets is = cc is
-anywhere i j (a ∷ b ∷ text) octets is =
-    let first = pairs_first i a b text octets is in
-    pair_more j a b _ text _ (first.pair j) (anywhere (i + 2) (j + 2) text first.rest first.read) ∙ ap (λ o. Ok o) (sym first.parts)
+first_octet high low a b i j others octets first second is = grind (arith, common_steps)
 
--- the pairs of two texts
-record PairsOfTwo (i j : ℕ) (front back octets : List ℕ) : Type 0 where
-  first : List ℕ
-  second : List ℕ
-  read : decode_pairs i front ≡ Ok first
-  others : decode_pairs j back ≡ Ok second
-  parts : octets ≡ first ++ second
-
-pairs_after : (i j a b : ℕ) (front back octets : List ℕ) (here : First a b (decode_pairs (i + 2) (front ++ back)) octets)
-    → PairsOfTwo (i + 2) j front back here.rest → PairsOfTwo i j (a ∷ b ∷ front) back octets
-pairs_after i j a b front back octets here more = grind (arith, common_steps, (pair_more i a b here.octet front more.first (here.pair i) more.read))
-
-pairs-append : (i j : ℕ) (front back octets : List ℕ) → length front % 2 ≡ 0 → decode_pairs i (front ++ back) ≡ Ok octets → PairsOfTwo i j front back octets
+-- pairs of digits that are read, wherever they stand, and those after them
+pairs_then : (i j : ℕ) (front back octets others : List ℕ) → decode_pairs i front ≡ Ok octets → decode_pairs (j + length front) back ≡ Ok others
+    → decode_pairs j (front ++ back) ≡ Ok (octets ++ others)
 unfolding decode_pairs
-pairs-append i j [] back octets even is = record { first = []; second = octets; read = refl; others = anywhere i j back octets is; parts = refl }
-pairs-append i j (a ∷ []) back octets even is = absurd (omega arith)
-pairs-append i j (a ∷ b ∷ front) back octets even is =
-    let here = pairs_first i a b (front ++ back) octets is in
-    pairs_after i j a b front back octets here (pairs-append (i + 2) j front back here.rest (omega arith) here.read)
+pairs_then i j [] back octets others is after = let none : [] ≡ octets = cc is in rw (← none) (rw add-zero at after)
+pairs_then i j (a ∷ []) back octets others is after = cc is
+pairs_then i j (a ∷ b ∷ front) back octets others is after =
+    let here = first_octet (hex_digit_value a) (hex_digit_value b) a b i (i + 1) (decode_pairs (i + 2) front) octets refl refl is in
+    let place : j + length (a ∷ b ∷ front) ≡ j + 2 + length front = omega arith in
+    let more = pairs_then (i + 2) (j + 2) front back here.rest others here.read (rw place at after) in
+    rw here.parts (decode_pairs-ok_pair j a b here.octet (front ++ back) (here.pair j) ∙ ap (cons_byte here.octet) more)
 
 halves16 : (piece after octets : List ℕ) → length piece ≡ 64 → decode_of (piece ++ after) ≡ Ok octets → Halves Base16 piece after octets
+unfolding decode_pairs
 halves16 piece after octets full decoded =
-    let even = (decode_of-ok _ octets decoded).0 in
-    let size = length-append piece after in
-    let here = pairs-append 0 0 piece after octets (omega arith) (sym (decode_of-even _ even) ∙ decoded) in
+    let whole = decode_of-ok (piece ++ after) octets decoded in
+    let even : length after % 2 ≡ 0 = omega (arith, whole.0, length-append piece after) in
+    let first = decode_pairs-digits 0 piece (omega (arith, full)) (pass_front Base16 piece after whole.1) in
+    let others = decode_pairs-digits 0 after even (pass_back Base16 piece after whole.1) in
+    let moved = rw (append-nil after, append-nil others.0) at (pairs_then 0 (0 + length piece) after [] others.0 [] others.1 refl) in
     record {
-      front = here.first;
-      back = here.second;
-      first = decode_of-even piece (omega arith) ∙ here.read;
-      others = decode_of-even after (omega arith) ∙ here.others;
-      parts = here.parts;
+      front = first.0;
+      back = others.0;
+      first = decode_of-even piece (omega (arith, full)) ∙ first.1;
+      others = decode_of-even after even ∙ others.1;
+      parts = decode_of-same (piece ++ after) _ _ decoded
+          (decode_of-even (piece ++ after) whole.0 ∙ pairs_then 0 0 piece after first.0 others.0 first.1 moved);
     }
 
 -- eight digits are five octets
@@ -151,14 +148,7 @@ halves32 piece after octets full decoded =
 halves64 : (piece after octets : List ℕ) (c : ℕ) → IsBytes (piece ++ c ∷ after) → length piece ≡ 64
     → DecodesTo (piece ++ c ∷ after) octets → Halves Base64 piece (c ∷ after) octets
 halves64 piece after octets c bytes full decoded =
-    grind (
-      arith,
-      common_steps,
-      (split_pieces (piece ++ c ∷ after) octets bytes (omega (arith, length-append piece (c ∷ after))) decoded),
-      (take_at piece (c ∷ after) 64 full),
-      (drop_at piece (c ∷ after) 64 full),
-      (take-append-drop 48 octets),
-    )
+    grind (arith, common_steps, (split_pieces piece (c ∷ after) octets bytes full (omega arith) decoded), (take-append-drop 48 octets))
 
 of_two : (codec : Codec) (piece after octets : List ℕ) (c : ℕ) → IsBytes (piece ++ c ∷ after) → length piece ≡ 64
     → Decodes codec (piece ++ c ∷ after) octets → Halves codec piece (c ∷ after) octets
@@ -208,55 +198,66 @@ pieces_end codec text left built so_far none =
 
 -- ---- the pieces of a text in Base 64
 
-long_cut : (left piece after : List ℕ) (c : ℕ) → Cut left piece (c ∷ after) → length piece ≡ 64
-long_cut left piece after c cut = grind (arith, common_steps)
+-- some pieces of the text have passed, and these characters are left: they decide
+pub record Passed (text left : List ℕ) : Type 0 where
+  pub decides : IsText Base64 left ↔ IsText Base64 text
+  pub bytes : IsBytes left
 
 pub passed_begin : (text left : List ℕ) → left ≡ text → AreOctets text → Passed text left
-passed_begin text left is all = subst (Passed text) (sym is) (passed_none text (bytes_of text all))
+passed_begin text left is all = rw is (record { decides = (λ h. h, λ h. h); bytes = bytes_of text all })
 
 -- a text has groups of four characters
 pub no_group : (text : List ℕ) (over : ℕ) → AreOctets text → over ≡ length text % 8 → over % 4 ≢ 0 → IsText Base64 text → ⊥
 no_group text over all is broken decoded = broken (omega (arith, decoded_length text decoded.0 (bytes_of text all) decoded.1))
 
+long_cut : (left piece after : List ℕ) → Cut left piece after → 0 < length after → length piece ≡ 64
+long_cut left piece after cut some = grind (arith, common_steps)
+
 module _ (text left piece after : List ℕ) (so_far : Passed text left) (cut : Cut left piece after) where
+  parted : IsText Base64 text → (octets : List ℕ) × Halves Base64 piece after octets
+  parted is = let here = so_far.decides.1 is in (here.0, halves Base64 left piece after here.0 so_far.bytes cut here.1)
+
   -- a piece that stands for nothing is part of no text
   pub refused_piece : (e : DecodeError) → base64.decode_of standard piece ≡ Err e → IsText Base64 text → ⊥
-  refused_piece e refused is =
-      let here = so_far.forth is.0 is.1 in
-      let two = halves Base64 left piece after here.0 so_far.bytes cut here.1 in
-      let first = two.first in
-      cc
+  refused_piece e refused is = let first = (parted is).1.first in cc
 
--- one that stands for fewer than 48 octets is the last
-pub short_ends : (text left piece after rest octets : List ℕ) (c : ℕ) → Passed text left → Cut left piece after → after ≡ c ∷ rest
-    → DecodesTo piece octets → length octets < 48 → IsText Base64 text → ⊥
-short_ends text left piece after rest octets c so_far cut more read short is =
-    let there : Cut left piece (c ∷ rest) = subst (λ a. Cut left piece a) more cut in
-    let full = long_cut left piece rest c there in
-    let long : 64 < length left = omega (arith, ap length there.parts, length-append piece (c ∷ rest)) in
-    let front : take 64 left ≡ piece = ap (take 64) there.parts ∙ take_at piece _ 64 full in
-    short_piece text left so_far long is.0 is.1 octets (subst (λ t. DecodesTo t octets) (sym front) read) short
+  module _ (octets : List ℕ) (read : DecodesTo piece octets) where
+    -- one that stands for fewer than 48 octets is the last
+    short_ends : length octets < 48 → 0 < length after → IsText Base64 text → ⊥
+    short_ends short some is =
+        let here = so_far.decides.1 is in
+        let pieces = split_pieces piece after here.0 (subst IsBytes cut.parts so_far.bytes) (long_cut left piece after cut some) some
+        (subst (λ t. DecodesTo t here.0) cut.parts here.1) in
+        let first : DecodesTo piece (take 48 here.0) = pieces.first in
+        let same : octets ≡ take 48 here.0 = cc in
+        omega (arith, pieces.full, ap length same)
 
--- so whether anything is left says whether it is a text
-pub short_decides : (text left piece after next rest octets : List ℕ) (none : Bool) → Passed text left → Cut left piece after → Cut after next rest
-    → none ≡ nat_eq (length next) 0 → DecodesTo piece octets → length octets < 48 → IsTrue none ↔ IsText Base64 text
-short_decides text left piece after [] rest octets none so_far cut more told read short = grind (arith, common_steps, none_after)
-short_decides text left piece after (c ∷ next) rest octets true so_far cut more told read short = grind (arith, common_steps)
-short_decides text left piece after (c ∷ next) rest octets false so_far cut more told read short =
-    (λ no. cc no, λ is. absurd (short_ends text left piece after (next ++ rest) octets c so_far cut more.parts read short is))
+    -- so whether anything is left says whether it is a text
+    pub short_decides : length octets < 48 → (next rest : List ℕ) (none : Bool) → Cut after next rest → none ≡ nat_eq (length next) 0
+        → IsTrue none ↔ IsText Base64 text
+    short_decides short [] rest none more told =
+        (λ yes. so_far.decides.0 (octets, rw (cut.parts, none_after after [] rest more refl, append-nil) read), λ is. rw told refl)
+    short_decides short (c ∷ next) rest true more told = grind (arith, common_steps)
+    short_decides short (c ∷ next) rest false more told = (λ no. cc no, λ is. absurd (short_ends short (rw more.parts (omega arith)) is))
 
--- one that stands for 48 octets may be followed by others
-pub full_goes_on : (text left piece after octets : List ℕ) → Passed text left → Cut left piece after → DecodesTo piece octets
-    → length octets ≡ 48 → Passed text after
-full_goes_on text left piece [] octets so_far cut read full = grind (arith, common_steps, (nothing Base64))
-full_goes_on text left piece (c ∷ after) octets so_far cut read full =
-    let size = long_cut left piece after c cut in
-    let long : 64 < length left = omega (arith, ap length cut.parts, length-append piece (c ∷ after)) in
-    let front : take 64 left ≡ piece = ap (take 64) cut.parts ∙ take_at piece _ 64 size in
-    let back : drop 64 left ≡ c ∷ after = ap (drop 64) cut.parts ∙ drop_at piece _ 64 size in
-    subst (λ l. Passed text l) back (passed_more text left octets so_far long (subst (λ t. DecodesTo t octets) (sym front) read) full)
+    -- one that stands for 48 octets may be followed by others
+    pub full_goes_on : length octets ≡ 48 → Passed text after
+    full_goes_on full = record {
+      decides = (
+        λ is. so_far.decides.0 (
+          octets ++ is.0,
+          rw cut.parts (joined_groups piece after octets is.0 (front_bytes piece after (subst IsBytes cut.parts so_far.bytes))
+              (bytes_after left piece after cut.parts so_far.bytes) (omega arith) read is.1),
+        ),
+        λ is. let two = (parted is).1 in (two.back, two.others),
+      );
+      bytes = bytes_after left piece after cut.parts so_far.bytes;
+    }
 
 -- and is no empty piece
 pub full_is_some : (left piece after octets : List ℕ) → Cut left piece after → DecodesTo piece octets → length octets ≡ 48 → length after < length left
-full_is_some left [] after octets cut read full = let none : octets ≡ [] = nothing_decodes octets read in absurd (omega (arith, ap length none))
+full_is_some left [] after octets cut read full =
+    let none = decodes_once Base64 [] octets [] read (nothing Base64) in absurd (omega (arith, ap length none))
 full_is_some left (c ∷ piece) after octets cut read full = omega (arith, ap length cut.parts, length-append (c ∷ piece) after)
+
+pub ruleset base64_steps = (common_steps, passed_begin, no_group, full_is_some)

@@ -8,6 +8,5 @@ pub mod CodecBackLemmas
 pub mod BitGroupLemmas
 pub mod RoomLemmas
 pub mod Base64Lemmas
-pub mod Base16Lemmas
 pub mod JoinedLemmas
 pub mod NoBlankLemmas

@@ -1,6 +1,6 @@
 -- what octets are written as has no blanks, and is one word where there are any octets
 use Rattle.std.proofs.{Common.{◌≡◌, ◌≢◌, ℕ, ◌+◌, ◌*◌, ◌/◌, ◌%◌, true, false, List, [], ◌∷◌, ◌++◌, map, get_or, refl, arith, rules}, lemmas.Grind.common_steps}
-use Rattle.std.specs.{Prelude.{◌==◌, replicate, not, zero, suc}, List.list_all}
+use Rattle.std.specs.{Prelude.{replicate, not, zero, suc}, List.list_all}
 use Rattle.hex.specs.Hex.{encode_with, encode_lower, encode_upper, lower_digits, upper_digits}
 use Rattle.base64.specs.{GeneralPurpose.encode_of, Engines.standard, Rfc4648.encode_symbols}
 use Rattle.domain_codecs.specs.Base32.{base32_from, base32_upper, base32_lower}

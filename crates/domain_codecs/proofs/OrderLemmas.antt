@@ -3,9 +3,9 @@ use Rattle.std.proofs.Common.{◌≡◌, Ordering, ℕ, ◌-◌, zero, suc, ◌*
 use Rattle.std.proofs.lemmas.{Bool.Decides.nat_tests, Grind.common_steps, List.{append_assoc, Elements.recursion_from_All}}
 use Rattle.std.specs.{Prelude.{All, replicate}, List.{AllByRecursion, flat_map}, declared.cmp.Ordering.TheVariants.{Less, Equal, Greater}}
 use Rattle.std.specs.Ordering.{nat_cmp, ordering_then, ordering_reverse}
-use Rattle.std.specs.{Cmp.{tied_itself, Lexicographic.{slice_cmp, nat_list_cmp_total}}, FinMap.{nat_cmp-IsAntisymmetric, slice_cmp-IsAntisymmetric}}
-use Rattle.domain_codecs.proofs.{BitGroupLemmas.digits_are_groups, ReadBackLemmas.are_small}
-use Rattle.domain_codecs.specs.{Base32.{base32_from, lower_digit, upper_digit, base32_lower, base32_upper}, BitGroups.{octet_bits, digit_bits}}
+use Rattle.std.specs.{Cmp.{tied_itself, Lexicographic.{slice_cmp, nat_list_cmp_total}}}
+use Rattle.domain_codecs.proofs.{BitGroupLemmas.digits_are_groups, ReadBackLemmas.{are_small, lower_reads_back, upper_reads_back}}
+use Rattle.domain_codecs.specs.{Codec.{base32_octets, base32_digits, IsBase32}, Base32.{base32_from, lower_digit, upper_digit, base32_lower, base32_upper}, BitGroups.{octet_bits, digit_bits}}
 
 abbrev AreOctets : List ℕ → Type 0
 AreOctets xs = All (λ octet. octet < 256) xs
@@ -111,14 +111,12 @@ pub upper_keeps : (xs ys : List ℕ) → AreOctets xs → AreOctets ys → slice
 upper_keeps xs ys xs_small ys_small = map_keeps upper_digit (digit_keeps upper_digit upper_grows) (base32_from 1 0 xs)
     (base32_from 1 0 ys) ∙ digits_keep_order xs ys xs_small ys_small
 
--- what keeps the order tells octets apart
-apart_by : (f : List ℕ → List ℕ) (xs ys : List ℕ) → slice_cmp nat_cmp (f xs) (f ys) ≡ slice_cmp nat_cmp xs ys → f xs ≡ f ys → xs ≡ ys
-apart_by f xs ys keep same =
-    let tied : slice_cmp nat_cmp (f xs) (f ys) ≡ Equal = rw same (tied_itself nat_list_cmp_total (f ys)) in
-    slice_cmp-IsAntisymmetric nat_cmp-IsAntisymmetric xs ys (sym keep ∙ tied)
+-- what is read back tells octets apart
+apart : (s t xs ys : List ℕ) → s ≡ t → IsBase32 s xs → IsBase32 t ys → xs ≡ ys
+apart s t xs ys same x y = x.value ∙ ap (λ l. base32_octets 1 0 (base32_digits l)) same ∙ sym y.value
 
 pub lower_apart : (xs ys : List ℕ) → AreOctets xs → AreOctets ys → base32_lower xs ≡ base32_lower ys → xs ≡ ys
-lower_apart xs ys xs_small ys_small = apart_by base32_lower xs ys (lower_keeps xs ys xs_small ys_small)
+lower_apart xs ys xs_small ys_small same = apart _ _ xs ys same (lower_reads_back xs xs_small) (lower_reads_back ys ys_small)
 
 pub upper_apart : (xs ys : List ℕ) → AreOctets xs → AreOctets ys → base32_upper xs ≡ base32_upper ys → xs ≡ ys
-upper_apart xs ys xs_small ys_small = apart_by base32_upper xs ys (upper_keeps xs ys xs_small ys_small)
+upper_apart xs ys xs_small ys_small same = apart _ _ xs ys same (upper_reads_back xs xs_small) (upper_reads_back ys ys_small)

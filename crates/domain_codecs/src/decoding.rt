@@ -13,6 +13,7 @@ use domain_octets::{AppendError, EmptyBuilder, FromBuilder};
 use std::alloc::Global;
 
 /// Writes the octets that digits of Base 32 hex stand for to a buffer, and gives their number.
+#[tactic(auto, using(crate::proofs::CodecLemmas::digits_begin))]
 fn decode_base32(digits: &[u8], octets: &mut [u8; 64]) -> usize
     requires text { IsText Codec.Base32Hex digits.now }
     requires small { length digits.now ≤ 64 }
@@ -65,6 +66,7 @@ fn decode_piece(codec: Codec, piece: &[u8], octets: &mut [u8; 64]) -> usize
 
 /// A builder of the octets that texts stand for when they are joined: 64 characters after 64, which
 /// stand for whole octets in each codec.
+#[tactic(auto, using(std::proofs::lemmas::Grind::common_steps, crate::proofs::JoinedLemmas::pieces_end))]
 fn build<B: EmptyBuilder + Drop>(
     alloc: Global,
     codec: Codec,

@@ -77,6 +77,7 @@ fn first_other(codec: Codec, text: &Joined<'_>) -> Option<u8>
 
 /// Whether texts stand for octets in Base 64 when they are joined: every 64 characters for 48
 /// octets, and the last for at most as many. So many are over a multiple of 8.
+#[tactic(auto, using(crate::proofs::JoinedLemmas::base64_steps))]
 fn is_base64(over: usize, text: &Joined<'_>) -> bool
     requires over { over ≡ length text.now % 8 }
     requires octets { AreOctets text.now }
@@ -99,66 +100,33 @@ fn is_base64(over: usize, text: &Joined<'_>) -> bool
     }
 }
 
-/// Refuses what is no text in Base 16: an odd number of digits, and then what is no digit. So many
-/// characters are over a multiple of 8.
-fn judge_base16(over: usize, text: &Joined<'_>) -> Result<(), DecodeError>
-    requires { over ≡ length text.now % 8 }
-    ensures ok { OnOk result (IsText Codec.Base16 text.now) }
-    ensures err { IfErr result (TextFault Codec.Base16 text.now) }
-{
-    if over % 2 == 1 {
-        return Err(DecodeError::ShortInput);
-    }
-    match first_other(Codec::Base16, text) {
-        Some(c) => Err(DecodeError::IllegalChar(char::from(c))),
-        None => Ok(()),
-    }
-}
-
-/// Refuses what is no text in Base 32 hex: what is no digit, and then a number of digits that no
-/// octets have. So many characters are over a multiple of 8.
-fn judge_base32(over: usize, text: &Joined<'_>) -> Result<(), DecodeError>
-    requires { over ≡ length text.now % 8 }
-    ensures ok { OnOk result (IsText Codec.Base32Hex text.now) }
-    ensures err { IfErr result (TextFault Codec.Base32Hex text.now) }
-{
-    if let Some(c) = first_other(Codec::Base32Hex, text) {
-        return Err(DecodeError::IllegalChar(char::from(c)));
-    }
-    if over == 1 || over == 3 || over == 6 {
-        return Err(DecodeError::ShortInput);
-    }
-    Ok(())
-}
-
-/// Refuses what is no text in Base 64, with its first character that no such text has, if any. So
-/// many characters are over a multiple of 8.
-fn judge_base64(over: usize, text: &Joined<'_>) -> Result<(), DecodeError>
-    requires over { over ≡ length text.now % 8 }
-    requires octets { AreOctets text.now }
-    ensures ok { OnOk result (IsText Codec.Base64 text.now) }
-    ensures err { IfErr result (TextFault Codec.Base64 text.now) }
-{
-    if is_base64(over, text) {
-        return Ok(());
-    }
-    match first_other(Codec::Base64, text) {
-        Some(c) => Err(DecodeError::IllegalChar(char::from(c))),
-        None => Err(DecodeError::ShortInput),
-    }
-}
-
-/// Refuses what is no text of the codec. So many characters are over a multiple of 8. Takes no
-/// memory.
+/// Refuses what is no text of the codec: in Base 16 an odd number of digits, and then what is no
+/// digit; in Base 32 hex what is no digit, and then a number of digits that no octets have; and in
+/// Base 64 the first character that no such text has, if any. So many characters are over a
+/// multiple of 8. Takes no memory.
 pub(crate) fn judge(codec: Codec, over: usize, text: &Joined<'_>) -> Result<(), DecodeError>
     requires over { over ≡ length text.now % 8 }
     requires octets { AreOctets text.now }
     ensures ok { OnOk result (IsText codec text.now) }
     ensures err { IfErr result (TextFault codec text.now) }
 {
+    if codec == Codec::Base16 && over % 2 == 1 {
+        return Err(DecodeError::ShortInput);
+    }
+    if codec == Codec::Base64 && is_base64(over, text) {
+        return Ok(());
+    }
+    if let Some(c) = first_other(codec, text) {
+        return Err(DecodeError::IllegalChar(char::from(c)));
+    }
     match codec {
-        Codec::Base16 => judge_base16(over, text),
-        Codec::Base32Hex => judge_base32(over, text),
-        Codec::Base64 => judge_base64(over, text),
+        Codec::Base16 => Ok(()),
+        Codec::Base32Hex => {
+            if over == 1 || over == 3 || over == 6 {
+                return Err(DecodeError::ShortInput);
+            }
+            Ok(())
+        }
+        Codec::Base64 => Err(DecodeError::ShortInput),
     }
 }

@@ -1,10 +1,7 @@
 use Rattle.std.proofs.{Common.{◌++◌, take, arith}, lemmas.Grind.common_steps}
-use Rattle.domain_codecs.proofs.{RoomLemmas.{build_stops, handed_on}, JoinedLemmas.{ReadPieces, pieces_next, pieces_end}, CodecBackLemmas.decodes_once}
+use Rattle.domain_codecs.proofs.{RoomLemmas.{build_stops, handed_on}, JoinedLemmas.{ReadPieces, pieces_next}, CodecBackLemmas.decodes_once}
 use Rattle.domain_codecs.proofs.decoding.build.{Given.Over, Goals.After-decode_piece-count}
 use Rattle.domain_codecs.proofs.decoding.build.Goals as goal
-
-pub returns-then-is_empty-clause-ok : goal.returns-then-is_empty-clause-ok
-returns-then-is_empty-clause-ok g c = grind (arith, common_steps, pieces_end)
 
 pub decode_piece-count-requires-clause-text : goal.decode_piece-count-requires-clause-text
 decode_piece-count-requires-clause-text g c =

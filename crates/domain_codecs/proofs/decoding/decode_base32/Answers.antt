@@ -1,10 +1,7 @@
 use Rattle.std.proofs.{Common.{◌<◌, ◌+◌, ◌*◌, arith}, lemmas.{Grind.common_steps}}
-use Rattle.domain_codecs.proofs.CodecLemmas.{digits_begin, digits_narrow, digits_wide, digits_all, digit_at, widens}
+use Rattle.domain_codecs.proofs.CodecLemmas.{digits_narrow, digits_wide, digits_all, digit_at, widens}
 use Rattle.domain_codecs.proofs.decoding.decode_base32.Goals.{After-digit_or_zero, then-wider-lt256, else-wider-lt256}
 use Rattle.domain_codecs.proofs.decoding.decode_base32.Goals as goal
-
-pub loop-c-init : goal.loop-c-init
-loop-c-init c = grind (arith, common_steps, digits_begin)
 
 pub overflow_add-value : goal.overflow_add-value
 overflow_add-value c =

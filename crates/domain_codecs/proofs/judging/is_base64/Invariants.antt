@@ -1,5 +1,5 @@
 use Rattle.std.{proofs.Common.{length}}
-use Rattle.domain_codecs.proofs.Base64Lemmas.{Passed}
+use Rattle.domain_codecs.proofs.JoinedLemmas.{Passed}
 use Rattle.domain_codecs.proofs.judging.is_base64.Given as goal
 
 abbrev pub invariant-loop-full : goal.invariant-loop-full

@@ -1,7 +1,7 @@
 use Rattle.std.proofs.{Common.{rules, arith}, lemmas.Grind.common_steps}
 use Rattle.hex.specs.Hex.{encode_with}
 use Rattle.domain_codecs.proofs.CodecLemmas.{encode_more}
-use Rattle.domain_codecs.proofs.base16.display_lower.Goals as goal
+use Rattle.domain_codecs.proofs.base16.write.Goals as goal
 
 pub loop-octet-init : goal.loop-octet-init
 unfolding encode_with
