@@ -5,16 +5,12 @@ use Rattle.std.proofs.lemmas.{List.{Sums.{fails_before_first, passes_at_first}, 
 use Rattle.std.{proofs.lemmas.Map.Keys.{Less-from_sorted, sorted_from_all_adjacent}, specs.Cmp.{IsTotalOrder, then_total, on_total, nat_cmp_total, alike_right}}
 use Rattle.std.specs.{Cmp.{tied_back, Equal-is}, List.{position_or_len, find, slice_get, Sorted.IsPermutation}, Ordering.is_eq, declared.cmp.Ordering.Ordering}
 use Rattle.std.specs.declared.cmp.Ordering.TheVariants.{Less, Equal}
-use Rattle.domain_records.specs.{declared.owner_runs.Run.Run, OwnerOrder.compared_runs, Places.{AreInOrder, IsArranged, compared_places}}
+use Rattle.domain_records.specs.{Places.{AreInOrder, IsArranged, compared_places}}
 use Rattle.domain_records.specs.SortedSet.{IsSortOf, first_equal}
 
 pub places_total : {X : Type 0} {R : X → X → Ordering} → IsTotalOrder R → (xs : List X) (d : X) → IsTotalOrder (compared_places R xs d)
 unfolding compared_places
 places_total o xs d = then_total (on_total (λ k. get_or xs k d) o) nat_cmp_total
-
-pub runs_total : {X : Type 0} {R : X → X → Ordering} → IsTotalOrder R → (xs : List X) (d : X) → IsTotalOrder (compared_runs R xs d)
-unfolding compared_runs
-runs_total o xs d = then_total (on_total (λ (r : Run). r.key) nat_cmp_total) (on_total (λ (r : Run). get_or xs r.start d) o)
 
 module _ {X : Type 0} {R : X → X → Ordering} (o : IsTotalOrder R) (xs : List X) (d : X) (places inverse : List ℕ) (h : AreInOrder R xs d places inverse) where
   abbrev key : ℕ → X

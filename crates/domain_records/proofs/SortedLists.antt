@@ -1,14 +1,14 @@
 -- Sorted sets as lists: where an element stands or goes, and what a sort and a dedup leave.
-use Rattle.std.proofs.Common.{◌≡◌, ℕ, ◌+◌, ◌<◌, Bool, false, not, ◌&&◌, List, [], ◌∷◌, ◌++◌, length, get_or, take, drop, Result, Ok, Err, IfOk, IfErr, refl}
+use Rattle.std.proofs.Common.{◌≡◌, ℕ, ◌+◌, ◌<◌, ◌≤◌, Bool, false, not, ◌&&◌, List, [], ◌∷◌, ◌++◌, length, get_or, take, drop, Result, Ok, Err, IfOk, IfErr, refl}
 use Rattle.std.proofs.{Common.{sym, ◌∙◌, ap, subst, arith, is_lt}, lemmas.{Map.Keys.{Less-from_sorted, sorted_from_all_adjacent}, List.take-append-drop}}
 use Rattle.std.proofs.lemmas.List.{get_or-take, get_or-drop, get_or_default, length-take-le, length-drop, Filters.All-dedup, Elements.All-contains_itself}
 use Rattle.std.proofs.lemmas.List.{Elements.{AllZip-get_or, filter_agree, recursion_from_All}, Kept.{IsStrictlySortedBy-dedup, Any-dedup}}
 use Rattle.std.proofs.lemmas.List.{Quantifiers.all_pairs_remove, Sorted.{searchable_from_sorted, IsPermutation-insert, Contains-permutation, All-permutation}}
 use Rattle.std.{proofs.lemmas.{Grind.common_steps, Slice.Zip.AllZip-long}, specs.List.{AllByRecursion, AllZip, slice_get, Contains, dedup, dedup_from, filter}}
-use Rattle.std.specs.List.{find, insert, remove, Sorted.{IsStrictlySortedBy, IsSorted, IsStable, IsPermutation, ties, IsSearchInRange, IsBinarySearchResult}}
+use Rattle.std.specs.List.{find, remove, Sorted.{IsStrictlySortedBy, IsSorted, IsStable, IsPermutation, ties, IsSearchInRange, IsBinarySearchResult}}
 use Rattle.std.specs.{List.Sorted.IsNonDecreasingBy, Cmp.{IsTotalOrder, IsEquivalence, eq_by_cmp_equiv, alike_right, tied_back, Equal-is}, Ordering.eq_by_cmp}
 use Rattle.std.specs.{Ordering.{is_eq, ordering_index, ordering_reverse}, declared.cmp.Ordering.{Ordering, TheVariants.{Less, Equal, Greater}}}
-use Rattle.domain_records.specs.SortedSet.{IsAt, IsGapFor, Holds, IsSortedSetOf, IsSortOf, IsUnion, KeepsEarliest, Adds}
+use Rattle.domain_records.specs.SortedSet.{Holds, GoesTo, IsSortedSetOf, IsSortOf, IsUnion, KeepsEarliest}
 
 module _ {X : Type 0} where
   -- the first that passes is the first of those that pass
@@ -37,8 +37,17 @@ module _ {X : Type 0} where
 tied : (s : Ordering) → not (is_lt (ordering_reverse s)) && not (is_lt s) ≡ is_eq s
 tied s = grind (arith, common_steps)
 
+-- x would go at place i: lesser elements before it, and greater ones from it on
+record IsGapFor {X : Type 0} (R : X → X → Ordering) (xs : List X) (x : X) (i : ℕ) : Type 0 where
+  in_range : i ≤ length xs
+  lesser : (k : ℕ) (d : X) → k < i → R (get_or xs k d) x ≡ Less
+  greater : (k : ℕ) (d : X) → i ≤ k → k < length xs → R (get_or xs k d) x ≡ Greater
+
+none_in_gap : {X : Type 0} {R : X → X → Ordering} (xs : List X) (x : X) (i : ℕ) → IsGapFor R xs x i → Holds R xs x → ⊥
+none_in_gap xs x i gap h = grind (arith, common_steps)
+
 module _ {X : Type 0} {R : X → X → Ordering} (o : IsTotalOrder R) where
-  pub sorted_join : (xs : List X) (x : X) (ys : List X) → IsStrictlySortedBy R (xs ++ ys) → AllByRecursion (λ y. R y x ≡ Less) xs
+  sorted_join : (xs : List X) (x : X) (ys : List X) → IsStrictlySortedBy R (xs ++ ys) → AllByRecursion (λ y. R y x ≡ Less) xs
       → AllByRecursion (λ y. R x y ≡ Less) ys → IsStrictlySortedBy R (xs ++ x ∷ ys)
   unfolding IsStrictlySortedBy
   sorted_join [] x ys s l g = (g, s)
@@ -51,14 +60,8 @@ module _ {X : Type 0} {R : X → X → Ordering} (o : IsTotalOrder R) where
   greater x y h = o.antisymm x y ∙ ap ordering_reverse h
 
   -- the answers at x rise along a sorted list, as a binary search asks
-  pub answers_rise : (xs : List X) (x : X) → IsStrictlySortedBy R xs → IsNonDecreasingBy (λ y. ordering_index (R y x)) xs
+  answers_rise : (xs : List X) (x : X) → IsStrictlySortedBy R xs → IsNonDecreasingBy (λ y. ordering_index (R y x)) xs
   answers_rise xs x s = searchable_from_sorted o (λ y. y) xs x (λ k d le lt. turned _ _ (Less-from_sorted R xs k (k + 1) d s (omega arith) lt))
-
-  -- where a binary search ends
-  pub searched : (xs : List X) (x : X) (r : Result ℕ ℕ) → IsStrictlySortedBy R xs → IsSearchInRange r (length xs)
-      → IsBinarySearchResult (λ y. R y x) xs r → IfOk r (IsAt R xs x) × IfErr r (IsGapFor R xs x)
-  searched xs x (Ok i) s bound at = (record { in_range = bound; equal = at }, tt)
-  searched xs x (Err i) s bound parted = grind (arith, common_steps, (answers_rise xs x s))
 
   -- a dedup keeps the earliest of equals
   pub dedup_earliest : (xs ys : List X) → KeepsEarliest R xs ys → KeepsEarliest R xs (dedup (eq_by_cmp R) ys)
@@ -86,32 +89,33 @@ module _ {X : Type 0} {R : X → X → Ordering} (o : IsTotalOrder R) where
   union_of stable xs ys h = record { set = sorted_set xs ys h.moved h.sorted; earliest = λ on. dedup_earliest xs ys (h.earliest on) }
 
   -- a new element in its gap
-  pub sorted_insert : (xs : List X) (x : X) (i : ℕ) → IsStrictlySortedBy R xs → IsGapFor R xs x i → Adds R xs x (insert xs i x)
-  sorted_insert xs x i s gap = record {
-    sorted = sorted_join (take i xs) x (drop i xs) (subst (IsStrictlySortedBy R) (sym (take-append-drop i xs)) s)
-        (recursion_from_All _ (take i xs) (λ k d lt.
-        let below : k < i = omega (arith, length-take-le i xs gap.in_range) in
-        rw (get_or-take i xs k d below) (gap.lesser k d below)))
-        (recursion_from_All _ (drop i xs) (λ k d lt.
-        rw (get_or-drop i xs k d) (greater x _ (gap.greater (i + k) d (omega arith) (omega (arith, length-drop i xs))))));
-    moved = IsPermutation-insert xs i x;
+  goes_to : (xs : List X) (x : X) (i : ℕ) → IsStrictlySortedBy R xs → IsGapFor R xs x i → GoesTo R xs x i
+  goes_to xs x i s gap = record {
+    in_range = gap.in_range;
+    absent = none_in_gap xs x i gap;
+    adds = record {
+      sorted = sorted_join (take i xs) x (drop i xs) (subst (IsStrictlySortedBy R) (sym (take-append-drop i xs)) s)
+          (recursion_from_All _ (take i xs) (λ k d lt.
+          let below : k < i = omega (arith, length-take-le i xs gap.in_range) in
+          rw (get_or-take i xs k d below) (gap.lesser k d below)))
+          (recursion_from_All _ (drop i xs) (λ k d lt.
+          rw (get_or-drop i xs k d) (greater x _ (gap.greater (i + k) d (omega arith) (omega (arith, length-drop i xs))))));
+      moved = IsPermutation-insert xs i x;
+    };
   }
+
+  -- where a binary search ends
+  pub searched : (xs : List X) (x : X) (r : Result ℕ ℕ) → IsStrictlySortedBy R xs → IsSearchInRange r (length xs)
+      → IsBinarySearchResult (λ y. R y x) xs r → IfOk r (λ _. Holds R xs x) × IfErr r (GoesTo R xs x)
+  searched [] x (Ok i) s bound at = absurd (omega arith)
+  searched (d ∷ ys) x (Ok i) s bound at = ((i, get_or (d ∷ ys) i d, bound, get_or_default (d ∷ ys) i _ d bound, at d), tt)
+  searched xs x (Err i) s bound parted = (tt, goes_to xs x i s (grind (arith, common_steps, (answers_rise xs x s))))
 
   -- one that is taken out
   pub sorted_remove : (xs : List X) (i : ℕ) → i < length xs → IsStrictlySortedBy R xs → IsStrictlySortedBy R (remove xs i)
   sorted_remove [] i lt s = absurd (omega arith)
   sorted_remove (d ∷ ys) i lt s = sorted_from_all_adjacent o (remove (d ∷ ys) i) d (λ k. all_pairs_remove (λ x y. R x y ≡ Less) (d ∷ ys) i lt
       (λ j k e. Less-from_sorted R (d ∷ ys) j k e s) k (k + 1) d (omega arith))
-
-module _ {X : Type 0} {R : X → X → Ordering} where
-  -- where an equal one stands
-  pub holds_at : (xs : List X) (x : X) (i : ℕ) → IsAt R xs x i → Holds R xs x
-  holds_at [] x i at = absurd (let h = at.in_range in omega arith)
-  holds_at (d ∷ ys) x i at = (i, get_or (d ∷ ys) i d, at.in_range, get_or_default (d ∷ ys) i _ d at.in_range, at.equal d)
-
-  -- and where none does
-  pub none_in_gap : (xs : List X) (x : X) (i : ℕ) → IsGapFor R xs x i → Holds R xs x → ⊥
-  none_in_gap xs x i gap h = grind (arith, common_steps)
 
 pub sorted_nil : {X : Type 0} (R : X → X → Ordering) (xs : List X) → xs ≡ [] → IsStrictlySortedBy R xs
 unfolding IsStrictlySortedBy

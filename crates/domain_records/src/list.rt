@@ -2,17 +2,17 @@
 ghost use Rattle.std.specs.Prelude.{◌≡◌, ◌<◌, ◌++◌, List, IfOk, IfErr, OnOk, OnErr};
 ghost use Rattle.std.specs.Prelude.{vec_len, vec_capacity};
 ghost use Rattle.std.specs.{List.{AllZip, Sorted.IsStrictlySortedBy}, Iterator.IsFiniteIterable};
-ghost use Rattle.domain_records.specs.{Edits.{Gives, AddsIfAbsent}, SortedSet.{IsAt, IsGapFor}};
+ghost use Rattle.domain_records.specs.{Edits.{Gives, AddsIfAbsent}, SortedSet.{Holds, GoesTo}};
 
 use domain_base::CanonicalOrd;
 use domain_octets::{OutOfMemory, TryClone};
 use std::alloc::Global;
 
-/// Where an equal element stands, or where `item` would go, by a binary search.
+/// Where an equal element stands, or where `item` goes, by a binary search.
 pub(crate) fn search<T: CanonicalOrd>(items: &[T], item: &T) -> Result<usize, usize>
     requires { IsStrictlySortedBy T.canonical_cmp items.now }
-    ensures found { IfOk result (IsAt T.canonical_cmp items.now item.now) }
-    ensures absent { IfErr result (IsGapFor T.canonical_cmp items.now item.now) }
+    ensures found { IfOk result (λ _. Holds T.canonical_cmp items.now item.now) }
+    ensures absent { IfErr result (GoesTo T.canonical_cmp items.now item.now) }
 {
     items.binary_search_by(|stored| stored.canonical_cmp(item))
 }

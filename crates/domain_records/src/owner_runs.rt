@@ -1,9 +1,5 @@
 //! Runs: neighbours of one owner, and the order of records that they lead to. It is a hint, which
 //! `sort` checks: nothing is promised of it.
-ghost use Rattle.std.specs.Prelude.{◌≡◌};
-ghost use Rattle.domain_record.specs.Record.{record_cmp};
-ghost use Rattle.domain_records.specs.OwnerOrder.{compared_runs};
-
 use crate::key::owner_key;
 use crate::owner_order::{is_one_owner, item_at, rest_cmp};
 use crate::sorter::Sorter;
@@ -11,7 +7,6 @@ use domain_base::{CanonicalOrd, ToName};
 use domain_octets::OutOfMemory;
 use domain_record::{Record, RecordData};
 use std::alloc::Global;
-use std::cmp::Ordering;
 
 /// The records from `start` up to `end`, which have one owner, with its key.
 #[derive(Clone, Copy)]
@@ -56,22 +51,6 @@ fn give_keys<N: ToName, D>(records: &[Record<N, D>], first: &Record<N, D>, runs:
     for run in runs.iter_mut() {
         run.key = owner_key(item_at(records, run.start, first).owner(), shared);
     }
-}
-
-/// Compares the keys of two runs, and the first record of each where the keys are the same.
-#[tactic(auto, unfolding(crate::specs::OwnerOrder::compared_runs))]
-fn compare_runs<N: ToName, D: RecordData + CanonicalOrd>(
-    records: &[Record<N, D>],
-    first: &Record<N, D>,
-    a: Run,
-    b: Run,
-) -> Ordering
-    ensures { result ≡ compared_runs (record_cmp N.labels D.rtype D.canonical_cmp) records.now
-        first.now a b }
-{
-    a.key.cmp(&b.key).then_with(|| {
-        item_at(records, a.start, first).canonical_cmp(item_at(records, b.start, first))
-    })
 }
 
 /// Puts the places of a run at the end, and those from `start` on into the order of their records,
@@ -121,6 +100,10 @@ pub(crate) fn likely_places<N: ToName, D: RecordData + CanonicalOrd, S: Sorter>(
 ) -> Result<Vec<usize>, OutOfMemory> {
     let mut runs = runs_of(alloc, records)?;
     give_keys(records, first, &mut runs);
-    S::sort_by(&mut runs, |a, b| compare_runs(records, first, *a, *b))?;
+    S::sort_by(&mut runs, |a, b| {
+        a.key.cmp(&b.key).then_with(|| {
+            item_at(records, a.start, first).canonical_cmp(item_at(records, b.start, first))
+        })
+    })?;
     places_of(alloc, records, first, &runs)
 }

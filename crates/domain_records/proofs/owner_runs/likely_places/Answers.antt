@@ -1,11 +1,14 @@
-use Rattle.std.proofs.{Common.rules, lemmas.Fn.always_returns_same}
+use Rattle.std.{proofs.{Common.{rules, get_or}, lemmas.Fn.always_returns_same}, specs.{Cmp.{then_total, on_total, nat_cmp_total}, Ordering.{nat_cmp, on, then_cmp}}}
 use Rattle.domain_record.specs.Record.{record_cmp, record_cmp_total}
-use Rattle.domain_records.{specs.OwnerOrder.compared_runs, proofs.Placing.runs_total}
+use Rattle.domain_records.specs.declared.owner_runs.Run.{Run}
 use Rattle.domain_records.proofs.owner_runs.likely_places.Goals as goal
 
+-- runs are ordered by key, and then by the records that they begin with
 pub sort_by-requires-clause-order : goal.sort_by-requires-clause-order
-sort_by-requires-clause-order g c = (
-  compared_runs (record_cmp g.N.ToName.labels g.D.RecordData.rtype g.D.CanonicalOrd.canonical_cmp) c.args.records.now c.args.first.now,
-  runs_total (record_cmp_total g.N.ToName.labels g.D.RecordData.rtype g.D.CanonicalOrd.canonical_cmp g.met.D.CanonicalOrd.total) _ _,
-  always_returns_same _ _ _ (λ a r h called. search rules),
-)
+sort_by-requires-clause-order g c =
+    let first = λ (r : Run). get_or c.args.records.now r.start c.args.first.now in (
+      then_cmp (on (λ r. r.key) nat_cmp) (on first (record_cmp g.N.ToName.labels g.D.RecordData.rtype g.D.CanonicalOrd.canonical_cmp)),
+      then_total (on_total (λ (r : Run). r.key) nat_cmp_total)
+          (on_total first (record_cmp_total g.N.ToName.labels g.D.RecordData.rtype g.D.CanonicalOrd.canonical_cmp g.met.D.CanonicalOrd.total)),
+      always_returns_same _ _ _ (λ a r h called. search rules),
+    )
