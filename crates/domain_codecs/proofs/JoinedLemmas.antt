@@ -1,8 +1,8 @@
 -- texts that are gone through in pieces of 64 characters, and what each piece stands for
 use Rattle.std.proofs.Common.{◌≡◌, ◌≢◌, ℕ, zero, suc, ◌+◌, ◌*◌, ◌%◌, ◌<◌, ◌≤◌, true, false, List, [], ◌∷◌, ◌++◌, length, take, drop, get_or, length-append}
-use Rattle.std.proofs.{Common.{add-zero, nat_eq, refl, ap, subst, ◌∙◌, arith, Option, Result, Ok, Err}, Math.ListN.get_or-append, lemmas.List.{take_all, drop_at}}
+use Rattle.std.proofs.{Common.{add-zero, nat_eq, refl, ap, subst, ◌∙◌, arith, Ok, Err}, Math.ListN.get_or-append, lemmas.List.{take_all, drop_at}}
 use Rattle.std.{proofs.lemmas.{List.{append-nil, map-append, length-map, get_or-append-add, take-append-drop}, Grind.common_steps}, specs.Prelude.{◌↔◌, Bool}}
-use Rattle.std.specs.{Prelude.IsTrue, List.AllPass}
+use Rattle.std.specs.{Prelude.{IsTrue, Option, Result}, List.AllPass}
 use Rattle.base64.specs.{GeneralPurpose.IsBytes, Engines.standard, declared.decode.DecodeError.DecodeError}
 use Rattle.base64.proofs.EngineFacts.{decode_of-encode_of, encode_of-nil, front_bytes}
 use Rattle.base64.specs.GeneralPurpose as base64

@@ -5,7 +5,8 @@ use Rattle.std.specs.{Prelude.{All, replicate}, List.{AllByRecursion, flat_map},
 use Rattle.std.specs.Ordering.{nat_cmp, ordering_then, ordering_reverse}
 use Rattle.std.specs.{Cmp.{tied_itself, Lexicographic.{slice_cmp, nat_list_cmp_total}}}
 use Rattle.domain_codecs.proofs.{BitGroupLemmas.digits_are_groups, ReadBackLemmas.{are_small, lower_reads_back, upper_reads_back}}
-use Rattle.domain_codecs.specs.{Codec.{base32_octets, base32_digits, IsBase32}, Base32.{base32_from, lower_digit, upper_digit, base32_lower, base32_upper}, BitGroups.{octet_bits, digit_bits}}
+use Rattle.domain_codecs.specs.{Base32.{base32_from, lower_digit, upper_digit, base32_lower, base32_upper}, BitGroups.{octet_bits, digit_bits}}
+use Rattle.domain_codecs.specs.Codec.{base32_octets, base32_digits, IsBase32}
 
 abbrev AreOctets : List ℕ → Type 0
 AreOctets xs = All (λ octet. octet < 256) xs

@@ -1,7 +1,8 @@
 -- what octets are written as in Base 32 hex, in either case, is read back
-use Rattle.std.proofs.Common.{◌≡◌, ℕ, ◌+◌, ◌*◌, ◌/◌, ◌%◌, ◌<◌, true, All, List, [], ◌∷◌, map, length, refl, ap, sym, ◌∙◌, arith, lit<, Some}
+use Rattle.std.proofs.Common.{◌≡◌, ℕ, ◌+◌, ◌*◌, ◌/◌, ◌%◌, ◌<◌, true, All, List, [], ◌∷◌, map, length, refl, ap, sym, ◌∙◌, arith, Some}
 use Rattle.std.proofs.lemmas.{Bool.Decides.nat_tests, List.{length-map, Sums.AllPass-from_list_all, Elements.{recursion_from_All, All-from_recursion}}}
 use Rattle.std.{proofs.lemmas.Grind.common_steps, specs.List.{list_all, AllByRecursion}}
+use Rattle.domain_codecs.proofs.Base32Lemmas.{many_digits}
 use Rattle.domain_codecs.specs.{declared.codec.Codec.TheVariants.Base32Hex, Base32.{base32_from, base32_lower, base32_upper, lower_digit, upper_digit}}
 use Rattle.domain_codecs.specs.Codec.{base32_value, is_digit, is_base32_length, base32_octets, base32_digits, IsBase32}
 
@@ -36,38 +37,21 @@ back (y ∷ ys) h = back_more y ys h.0 (back ys h.1)
 abbrev AreSmall : List ℕ → Type 0
 AreSmall = AllByRecursion (λ d. d < 32)
 
--- digits that go on after n others are some number of digits that octets have
-abbrev IsCount : ℕ → List ℕ → Type 0
-IsCount n ds = is_base32_length (n + length ds) ≡ true
-
-pub record Digits (xs : List ℕ) : Type 0 where
-  pub whole : (r n : ℕ) → r < 1 → n % 8 ≡ 0 → AreSmall (base32_from 1 r xs) × IsCount n (base32_from 1 r xs)
-  pub three : (r n : ℕ) → r < 8 → n % 8 ≡ 1 → AreSmall (base32_from 8 r xs) × IsCount n (base32_from 8 r xs)
-  pub one : (r n : ℕ) → r < 2 → n % 8 ≡ 3 → AreSmall (base32_from 2 r xs) × IsCount n (base32_from 2 r xs)
-  pub four : (r n : ℕ) → r < 16 → n % 8 ≡ 4 → AreSmall (base32_from 16 r xs) × IsCount n (base32_from 16 r xs)
-  pub two : (r n : ℕ) → r < 4 → n % 8 ≡ 6 → AreSmall (base32_from 4 r xs) × IsCount n (base32_from 4 r xs)
-
-digits_none : Digits []
+small : (xs : List ℕ) → AllByRecursion (λ octet. octet < 256) xs → AreSmall (base32_from 1 0 xs)
 unfolding base32_from
-digits_none = grind (arith, common_steps)
+small [] h = tt
+small (a ∷ []) h = grind (arith, common_steps)
+small (a ∷ b ∷ []) h = grind (arith, common_steps)
+small (a ∷ b ∷ c ∷ []) h = grind (arith, common_steps)
+small (a ∷ b ∷ c ∷ d ∷ []) h = grind (arith, common_steps)
+small (a ∷ b ∷ c ∷ d ∷ e ∷ xs) h = grind (arith, common_steps, (small xs h.1.1.1.1.1))
 
-digits_more : (y : ℕ) (ys : List ℕ) → y < 256 → Digits ys → Digits (y ∷ ys)
-unfolding base32_from
-digits_more y ys b up = record {
-  whole = λ r n l e. grind (arith, common_steps, (up.three ((256 * r + y) % 8) (n + 1) (omega arith) (omega arith)));
-  three = λ r n l e. grind (arith, common_steps, (up.one ((256 * r + y) % 64 % 2) (n + 2) (omega arith) (omega arith)));
-  one = λ r n l e. grind (arith, common_steps, (up.four ((256 * r + y) % 16) (n + 1) (omega arith) (omega arith)));
-  four = λ r n l e. grind (arith, common_steps, (up.two ((256 * r + y) % 128 % 4) (n + 2) (omega arith) (omega arith)));
-  two = λ r n l e. grind (arith, common_steps, (up.whole ((256 * r + y) % 32 % 1) (n + 2) (omega arith) (omega arith)));
-}
-
-digits : (xs : List ℕ) → AllByRecursion (λ octet. octet < 256) xs → Digits xs
-digits [] h = digits_none
-digits (y ∷ ys) h = digits_more y ys h.0 (digits ys h.1)
+counts : (n : ℕ) → is_base32_length ((8 * n + 4) / 5) ≡ true
+counts n = grind (arith, nat_tests)
 
 pub are_small : (octets : List ℕ) → All (λ octet. octet < 256) octets → All (λ digit. digit < 32) (base32_from 1 0 octets)
 are_small octets h =
-    All-from_recursion _ _ ((digits octets (recursion_from_All (λ octet. octet < 256) octets h)).whole 0 0 (lit< tt) refl).0
+    All-from_recursion _ _ (small octets (recursion_from_All (λ octet. octet < 256) octets h))
 
 value_of_digit : (n : ℕ) → n < 32 → base32_value (lower_digit n) ≡ Some n
 value_of_digit n l = grind (arith, nat_tests)
@@ -83,17 +67,13 @@ module _ (written : ℕ → ℕ) (back_to : (n : ℕ) → n < 32 → base32_valu
 
   reads_back : (octets : List ℕ) → All (λ octet. octet < 256) octets → IsBase32 (map written (base32_from 1 0 octets)) octets
   reads_back octets h =
-      let small = recursion_from_All (λ octet. octet < 256) octets h in
-      let d = (digits octets small).whole 0 0 (omega arith) refl in
-      let r = are_digits (base32_from 1 0 octets) d.0 in
+      let bytes = recursion_from_All (λ octet. octet < 256) octets h in
+      let r = are_digits (base32_from 1 0 octets) (small octets bytes) in
       record {
         digits = AllPass-from_list_all (is_digit Base32Hex) (map written (base32_from 1 0 octets)) r.0;
-        whole = ap is_base32_length (length-map (base32_from 1 0 octets) written) ∙ counts d.1;
-        value = sym (ap (base32_octets 1 0) r.1 ∙ (back octets small).whole);
+        whole = ap is_base32_length (length-map (base32_from 1 0 octets) written ∙ many_digits octets) ∙ counts (length octets);
+        value = sym (ap (base32_octets 1 0) r.1 ∙ (back octets bytes).whole);
       }
-    where
-      counts : is_base32_length (0 + length (base32_from 1 0 octets)) ≡ true → is_base32_length (length (base32_from 1 0 octets)) ≡ true
-      counts k = let e : length (base32_from 1 0 octets) ≡ 0 + length (base32_from 1 0 octets) = omega arith in ap is_base32_length e ∙ k
 
 pub lower_reads_back : (octets : List ℕ) → All (λ octet. octet < 256) octets → IsBase32 (base32_lower octets) octets
 lower_reads_back = reads_back lower_digit value_of_digit

@@ -154,8 +154,6 @@ fn split_plain_label(text: &[u8]) -> Option<(&[u8], &[u8])>
 #[tactic(auto, using(crate::proofs::SpellingLemmas::measuring_steps))]
 fn put_lengths(octets: &mut [u8], text: &[u8]) -> Option<usize>
     requires { (first : ℕ) × (octets.old ≡ first ∷ text.now) }
-    ensures within { IfSome result (λ n. n ≤ length octets.new) }
-    ensures dot { IfSome result (λ n. length octets.new ≤ n + 1) }
     ensures size { length octets.new ≡ length octets.old }
     ensures labels { IfSome result (λ n. (labels : Name) × LabelTexts text.now labels
         × (take n octets.new ++ 0 ∷ [] ≡ wire_of labels)) }
@@ -180,22 +178,6 @@ fn push_root(wire: &mut ArrayBuilder<MAX_NAME>) -> Option<()>
     wire.append_slice(&[0]).ok()
 }
 
-/// Puts the root after the first octets, so many: in the place of the last, where these are all but
-/// one.
-fn put_root(wire: &mut ArrayBuilder<MAX_NAME>, len: usize) -> Option<()>
-    requires within { len ≤ length wire.old }
-    requires dot { length wire.old ≤ len + 1 }
-    requires fits { length wire.old ≤ 255 }
-    ensures root { OnSome result (wire.new ≡ take len wire.old ++ 0 ∷ []) }
-    ensures room { IsSome result → len < 255 }
-{
-    if len == wire.as_slice().len() {
-        return push_root(wire);
-    }
-    wire.as_mut_slice()[len] = 0;
-    Some(())
-}
-
 /// Puts the wire form of the name that a text spells into an empty builder, if all characters of
 /// its labels stand for themselves, as those of most names. What is left there of another text
 /// means nothing.
@@ -207,7 +189,8 @@ fn read_plain_name(wire: &mut ArrayBuilder<MAX_NAME>, text: &[u8]) -> Option<()>
     wire.append_slice(&[0]).ok()?;
     wire.append_slice(text).ok()?;
     let len = put_lengths(wire.as_mut_slice(), text)?;
-    put_root(wire, len)
+    wire.truncate(len);
+    push_root(wire)
 }
 
 /// Puts the wire form of the name that a text spells into an empty builder. Stops at the first
