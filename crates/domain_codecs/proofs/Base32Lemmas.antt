@@ -1,7 +1,7 @@
 -- digits of five bits, one after another
-use Rattle.std.proofs.Common.{◌≡◌, ℕ, min, zero, suc, ◌+◌, ◌*◌, ◌/◌, ◌%◌, ◌<◌, ◌≤◌, zero-add, Bool, nat_lt, if◌then◌else◌, List, [], ◌∷◌, ◌++◌, length, get_or}
+use Rattle.std.proofs.Common.{◌≡◌, ℕ, min, ◌+◌, ◌*◌, ◌/◌, ◌%◌, ◌<◌, ◌≤◌, zero-add, List, [], ◌∷◌, ◌++◌, length, get_or}
 use Rattle.std.proofs.{Common.{map, take, drop, refl, sym, ap, ◌∙◌, arith, lit<}, lemmas.List.{append-nil, take_all, drop_all, take-map}}
-use Rattle.std.proofs.lemmas.{List.{Elements.recursion_from_All, FromFn.get_or-range_with_len}, Grind.common_steps}
+use Rattle.std.proofs.lemmas.{List.{Elements.{recursion_from_All, All-map, All-weaker}, FromFn.get_or-range_with_len}, Grind.common_steps, Bool.Decides.nat_tests, Str.Ascii.IsAscii-from_all}
 use Rattle.std.specs.{List.{AllByRecursion as ByRecursion, range_with_len}, Str.IsAscii}
 use Rattle.domain_codecs.specs.Base32.{base32_from, lower_digit, upper_digit, AreDigits}
 
@@ -81,36 +81,24 @@ abbrev upper_alphabet : List ℕ
 upper_alphabet = 48 ∷ 49 ∷ 50 ∷ 51 ∷ 52 ∷ 53 ∷ 54 ∷ 55 ∷ 56 ∷ 57 ∷ 65 ∷ 66 ∷ 67 ∷ 68 ∷ 69 ∷ 70 ∷ 71 ∷ 72 ∷ 73 ∷ 74 ∷ 75 ∷ 76 ∷ 77
     ∷ 78 ∷ 79 ∷ 80 ∷ 81 ∷ 82 ∷ 83 ∷ 84 ∷ 85 ∷ 86 ∷ []
 
-spelled : (f : ℕ → ℕ) (alphabet : List ℕ) → alphabet ≡ map f (range_with_len 0 32) → (n : ℕ) → n < 32 → get_or alphabet n 0 ≡ f n
-spelled f alphabet is n lt = grind (arith, common_steps, (get_or-range_with_len 0 32 n 0 lt), (zero-add n))
+-- characters of an alphabet that spells each digit as a function does
+module _ (f : ℕ → ℕ) (alphabet : List ℕ) (is : alphabet ≡ map f (range_with_len 0 32)) where
+  spelled : (n : ℕ) → n < 32 → get_or alphabet n 0 ≡ f n
+  spelled n lt = grind (arith, common_steps, (get_or-range_with_len 0 32 n 0 lt), (zero-add n))
 
-pub spelled_lower : (n : ℕ) → n < 32 → get_or lower_alphabet n 0 ≡ lower_digit n
-spelled_lower = spelled lower_digit lower_alphabet refl
-
-pub spelled_upper : (n : ℕ) → n < 32 → get_or upper_alphabet n 0 ≡ upper_digit n
-spelled_upper = spelled upper_digit upper_alphabet refl
-
-small_digit : (b : Bool) (n k : ℕ) → n < 32 → k < 96 → (if b then 48 + n else (k + n)) < 128
-small_digit b n k lt below = grind (arith, common_steps)
-
-pub upper_is_ascii : (n : ℕ) → n < 32 → upper_digit n < 128
-upper_is_ascii n lt = small_digit (nat_lt n 10) n 55 lt (lit< tt)
-
--- the same characters, where digits are spelled by another function
-map_digits : (f g : ℕ → ℕ) → ((n : ℕ) → n < 32 → f n ≡ g n) → (digits : List ℕ) → ByRecursion (λ digit. digit < 32) digits → map f digits ≡ map g digits
-map_digits f g same [] small = refl
-map_digits f g same (n ∷ digits) small = ap (λ l. f n ∷ l) (map_digits f g same digits small.1) ∙ ap (λ m. m ∷ map g digits) (same n small.0)
+  map_digits : (digits : List ℕ) → ByRecursion (λ digit. digit < 32) digits → map (λ n. get_or alphabet n 0) digits ≡ map f digits
+  map_digits [] small = refl
+  map_digits (n ∷ digits) small = rw (spelled n small.0, map_digits digits small.1) refl
 
 pub lower_digits : (digits : List ℕ) → AreDigits digits → map (λ n. get_or lower_alphabet n 0) digits ≡ map lower_digit digits
-lower_digits digits small = map_digits (λ n. get_or lower_alphabet n 0) lower_digit spelled_lower digits (recursion_from_All (λ digit. digit < 32) digits small)
+lower_digits digits small = map_digits lower_digit lower_alphabet refl digits (recursion_from_All (λ digit. digit < 32) digits small)
 
 pub upper_digits : (digits : List ℕ) → AreDigits digits → map (λ n. get_or upper_alphabet n 0) digits ≡ map upper_digit digits
-upper_digits digits small = map_digits (λ n. get_or upper_alphabet n 0) upper_digit spelled_upper digits (recursion_from_All (λ digit. digit < 32) digits small)
+upper_digits digits small = map_digits upper_digit upper_alphabet refl digits (recursion_from_All (λ digit. digit < 32) digits small)
 
-ascii_rec : (digits : List ℕ) → ByRecursion (λ digit. digit < 32) digits → (i : ℕ) → get_or (map upper_digit digits) i 0 < 128
-ascii_rec [] small i = lit< tt
-ascii_rec (n ∷ digits) small zero = upper_is_ascii n small.0
-ascii_rec (n ∷ digits) small (suc i) = ascii_rec digits small.1 i
+upper_is_ascii : (n : ℕ) → n < 32 → upper_digit n < 128
+upper_is_ascii n lt = grind (arith, nat_tests)
 
 pub upper_are_ascii : (digits : List ℕ) → AreDigits digits → IsAscii (map upper_digit digits)
-upper_are_ascii digits small = ascii_rec digits (recursion_from_All (λ digit. digit < 32) digits small)
+upper_are_ascii digits small =
+    IsAscii-from_all _ (All-map (λ c. c < 128) upper_digit digits (All-weaker _ (λ n. upper_digit n < 128) upper_is_ascii digits small))

@@ -1,7 +1,7 @@
 -- texts in Base 64, 64 characters at a time
 use Rattle.std.{specs.Prelude.{◌-◌, ◌/◌, ◌%◌}, proofs.Common.{◌≡◌, ℕ, zero, suc, ◌+◌, ◌*◌, ◌<◌, ◌≤◌, List, [], ◌∷◌, ◌++◌, length, take, drop, slice_index}}
 use Rattle.std.proofs.Common.{length-append, length-drop, length-take, refl, sym, ap, subst, ◌∙◌, arith, ◌⊎◌, inl, inr, Option, None, Result, Ok, Err, true}
-use Rattle.std.proofs.lemmas.{Bool.cases_lt, List.{nil_from_length, take_at, drop_at, take-append-drop}, Grind.common_steps}
+use Rattle.std.proofs.lemmas.{Bool.cases_lt, List.{places, nil_from_length, take_at, drop_at, take-append-drop}, Grind.common_steps}
 use Rattle.base64.specs.{GeneralPurpose.{decode_of, encode_of, IsBytes}, Engines.standard, Tables.is_inverse}
 use Rattle.base64.specs.Decode.{IsDecodeTable, decode_outcome, decoded_bytes, decode_group, groups_error, groups_bytes, groups_before_last, leftover_bytes}
 use Rattle.base64.specs.{Decode.{lone_error, no_leftover, or_else, scan_bytes, scan_last, symbol_error}, declared.decode.DecodeError.DecodeError}
@@ -11,26 +11,16 @@ use Rattle.base64.proofs.{EngineFacts.{decode_of-encode_of, decode_of_strict, en
 -- ---- what is decoded are octets
 
 bytes-append : (a b : List ℕ) → IsBytes a → IsBytes b → IsBytes (a ++ b)
-bytes-append [] b front back i = back i
-bytes-append (x ∷ a) b front back zero = front 0
-bytes-append (x ∷ a) b front back (suc i) = bytes-append a b (λ k. front (suc k)) back i
+bytes-append a b front back i = grind (arith, places, (front i), (back (i - length a)))
 
-pub bytes-take : (n : ℕ) (xs : List ℕ) → IsBytes xs → IsBytes (take n xs)
-bytes-take zero xs all i = omega arith
-bytes-take (suc n) [] all i = omega arith
-bytes-take (suc n) (x ∷ xs) all zero = all 0
-bytes-take (suc n) (x ∷ xs) all (suc i) = bytes-take n xs (λ k. all (suc k)) i
+bytes-take : (n : ℕ) (xs : List ℕ) → IsBytes xs → IsBytes (take n xs)
+bytes-take n xs all i = grind (arith, places, (all i))
 
 pub bytes-drop : (n : ℕ) (xs : List ℕ) → IsBytes xs → IsBytes (drop n xs)
-bytes-drop zero xs all i = all i
-bytes-drop (suc n) [] all i = omega arith
-bytes-drop (suc n) (x ∷ xs) all i = bytes-drop n xs (λ k. all (suc k)) i
-
-three_bytes : (a b c : ℕ) → a < 256 → b < 256 → c < 256 → IsBytes (a ∷ b ∷ c ∷ [])
-three_bytes a b c ha hb hc h = grind (arith, common_steps)
+bytes-drop n xs all i = grind (arith, places, (all (n + i)))
 
 group_small : (m0 m1 m2 m3 : ℕ) → m0 < 64 → m1 < 64 → m2 < 64 → m3 < 64 → IsBytes (decode_group m0 m1 m2 m3)
-group_small m0 m1 m2 m3 l0 l1 l2 l3 = three_bytes _ _ _ (omega arith) (omega arith) (omega arith)
+group_small m0 m1 m2 m3 l0 l1 l2 l3 h = grind (arith, common_steps)
 
 no_error : (x y : Option DecodeError) → or_else x y ≡ None → (x ≡ None) × (y ≡ None)
 no_error x y none = grind (arith, common_steps)

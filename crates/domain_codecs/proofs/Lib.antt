@@ -6,7 +6,6 @@ pub mod OrderLemmas
 pub mod ReadBackLemmas
 pub mod CodecBackLemmas
 pub mod BitGroupLemmas
-pub mod RoomLemmas
 pub mod Base64Lemmas
 pub mod JoinedLemmas
 pub mod NoBlankLemmas

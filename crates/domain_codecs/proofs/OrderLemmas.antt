@@ -1,7 +1,7 @@
 -- Base 32 hex keeps the order of octets: the order of numbers of one width is that of their bits
 use Rattle.std.proofs.Common.{◌≡◌, Ordering, ℕ, ◌-◌, zero, suc, ◌*◌, ◌/◌, ◌%◌, ◌<◌, List, [], ◌∷◌, ◌++◌, length, map, refl, sym, ap, ap₂, ◌∙◌, arith}
 use Rattle.std.proofs.lemmas.{Bool.Decides.nat_tests, Grind.common_steps, List.{append_assoc, Elements.recursion_from_All}}
-use Rattle.std.specs.{Prelude.{All, replicate}, List.{AllByRecursion, flat_map}, declared.cmp.Ordering.TheVariants.{Less, Equal, Greater}}
+use Rattle.std.specs.{Prelude.{All, replicate}, List.{AllByRecursion, flat_map}, declared.cmp.Ordering.TheVariants.{Less}}
 use Rattle.std.specs.Ordering.{nat_cmp, ordering_then, ordering_reverse}
 use Rattle.std.specs.{Cmp.{tied_itself, Lexicographic.{slice_cmp, nat_list_cmp_total}}}
 use Rattle.domain_codecs.proofs.{BitGroupLemmas.digits_are_groups, ReadBackLemmas.{are_small, lower_reads_back, upper_reads_back}}
@@ -24,9 +24,7 @@ halves : (a b : ℕ) → nat_cmp a b ≡ ordering_then (nat_cmp (a / 2) (b / 2))
 halves a b = grind (arith, common_steps)
 
 then_both : (o p q : Ordering) → ordering_then (ordering_then o p) q ≡ ordering_then o (ordering_then p q)
-then_both Less p q = refl
-then_both Equal p q = refl
-then_both Greater p q = refl
+then_both o p q = grind (arith, common_steps)
 
 bits_keep : (count a b : ℕ) (xs ys : List ℕ) → a < limit count → b < limit count
     → slice_cmp nat_cmp (bits count a ++ xs) (bits count b ++ ys) ≡ ordering_then (nat_cmp a b) (slice_cmp nat_cmp xs ys)

@@ -1,36 +1,19 @@
 -- what octets are written as in Base 32 hex, in either case, is read back
-use Rattle.std.proofs.Common.{◌≡◌, ℕ, ◌+◌, ◌*◌, ◌/◌, ◌%◌, ◌<◌, true, All, List, [], ◌∷◌, map, length, refl, ap, sym, ◌∙◌, arith, Some}
+use Rattle.std.proofs.Common.{◌≡◌, ℕ, ◌+◌, ◌*◌, ◌/◌, ◌<◌, true, All, List, [], ◌∷◌, map, length, refl, ap, sym, ◌∙◌, arith, Some}
 use Rattle.std.proofs.lemmas.{Bool.Decides.nat_tests, List.{length-map, Sums.AllPass-from_list_all, Elements.{recursion_from_All, All-from_recursion}}}
 use Rattle.std.{proofs.lemmas.Grind.common_steps, specs.List.{list_all, AllByRecursion}}
 use Rattle.domain_codecs.proofs.Base32Lemmas.{many_digits}
 use Rattle.domain_codecs.specs.{declared.codec.Codec.TheVariants.Base32Hex, Base32.{base32_from, base32_lower, base32_upper, lower_digit, upper_digit}}
 use Rattle.domain_codecs.specs.Codec.{base32_value, is_digit, is_base32_length, base32_octets, base32_digits, IsBase32}
 
--- the digits that go on from the bits left over of the last octet, after those that are read, are that octet and those that follow
-pub record Back (xs : List ℕ) : Type 0 where
-  pub whole : base32_octets 1 0 (base32_from 1 0 xs) ≡ xs
-  pub three : (a : ℕ) → a < 256 → base32_octets 32 (a / 8) (base32_from 8 (a % 8) xs) ≡ a ∷ xs
-  pub one : (b : ℕ) → b < 256 → base32_octets 128 (32 * (b / 64) + b % 64 / 2) (base32_from 2 (b % 64 % 2) xs) ≡ b ∷ xs
-  pub four : (c : ℕ) → c < 256 → base32_octets 16 (c / 16) (base32_from 16 (c % 16) xs) ≡ c ∷ xs
-  pub two : (d : ℕ) → d < 256 → base32_octets 64 (32 * (d / 128) + d % 128 / 4) (base32_from 4 (d % 128 % 4) xs) ≡ d ∷ xs
-
-back_none : Back []
+back : (xs : List ℕ) → AllByRecursion (λ octet. octet < 256) xs → base32_octets 1 0 (base32_from 1 0 xs) ≡ xs
 unfolding base32_octets base32_from
-back_none = grind (arith, common_steps)
-
-back_more : (y : ℕ) (ys : List ℕ) → y < 256 → Back ys → Back (y ∷ ys)
-unfolding base32_octets base32_from
-back_more y ys l up = record {
-  whole = grind (arith, common_steps, (up.three y l));
-  three = λ a h. grind (arith, common_steps, (up.one y l));
-  one = λ b h. grind (arith, common_steps, (up.four y l));
-  four = λ c h. grind (arith, common_steps, (up.two y l));
-  two = λ d h. grind (arith, common_steps, up.whole);
-}
-
-pub back : (xs : List ℕ) → AllByRecursion (λ octet. octet < 256) xs → Back xs
-back [] h = back_none
-back (y ∷ ys) h = back_more y ys h.0 (back ys h.1)
+back [] h = refl
+back (a ∷ []) h = grind (arith, common_steps)
+back (a ∷ b ∷ []) h = grind (arith, common_steps)
+back (a ∷ b ∷ c ∷ []) h = grind (arith, common_steps)
+back (a ∷ b ∷ c ∷ d ∷ []) h = grind (arith, common_steps)
+back (a ∷ b ∷ c ∷ d ∷ e ∷ xs) h = grind (arith, common_steps, (back xs h.1.1.1.1.1))
 
 -- ---- the digits, and how many there are
 
@@ -72,7 +55,7 @@ module _ (written : ℕ → ℕ) (back_to : (n : ℕ) → n < 32 → base32_valu
       record {
         digits = AllPass-from_list_all (is_digit Base32Hex) (map written (base32_from 1 0 octets)) r.0;
         whole = ap is_base32_length (length-map (base32_from 1 0 octets) written ∙ many_digits octets) ∙ counts (length octets);
-        value = sym (ap (base32_octets 1 0) r.1 ∙ (back octets bytes).whole);
+        value = sym (ap (base32_octets 1 0) r.1 ∙ back octets bytes);
       }
 
 pub lower_reads_back : (octets : List ℕ) → All (λ octet. octet < 256) octets → IsBase32 (base32_lower octets) octets

@@ -1,5 +1,5 @@
 use Rattle.std.proofs.{Common.{◌++◌, take, arith}, lemmas.Grind.common_steps}
-use Rattle.domain_codecs.proofs.{RoomLemmas.{build_stops, handed_on}, JoinedLemmas.{ReadPieces, pieces_next}, CodecBackLemmas.decodes_once}
+use Rattle.domain_codecs.proofs.{JoinedLemmas.{ReadPieces, pieces_next}, CodecBackLemmas.decodes_once}
 use Rattle.domain_codecs.proofs.decoding.build.{Given.Over, Goals.After-decode_piece-count}
 use Rattle.domain_codecs.proofs.decoding.build.Goals as goal
 
@@ -26,5 +26,4 @@ loop-left-preserved g c =
 pub returns-in_err-append_slice-clause-err : goal.returns-in_err-append_slice-clause-err
 returns-in_err-append_slice-clause-err g c =
     let read = piece_read g (goal.at.returns-in_err-append_slice-clause-err g c).After-decode_piece-count in
-    handed_on _ _ _ c.from_residual.ensures.1
-    (build_stops _ _ _ _ _ read.rest _ _ c.in_err-append_slice.was read.whole c.append_slice.ensures.short c.append_slice.ensures.memory)
+    grind (arith, common_steps, read.whole)
