@@ -1,8 +1,8 @@
 -- digits of five bits, one after another
 use Rattle.std.proofs.Common.{◌≡◌, ℕ, min, ◌+◌, ◌*◌, ◌/◌, ◌%◌, ◌<◌, ◌≤◌, zero-add, List, [], ◌∷◌, ◌++◌, length, get_or}
 use Rattle.std.proofs.{Common.{map, take, drop, refl, sym, ap, ◌∙◌, arith, lit<}, lemmas.List.{append-nil, take_all, drop_all, take-map}}
-use Rattle.std.proofs.lemmas.{List.{Elements.{recursion_from_All, All-map, All-weaker}, FromFn.get_or-range_with_len}, Grind.common_steps, Bool.Decides.nat_tests, Str.Ascii.IsAscii-from_all}
-use Rattle.std.specs.{List.{AllByRecursion as ByRecursion, range_with_len}, Str.IsAscii}
+use Rattle.std.proofs.lemmas.{List.{Elements.{recursion_from_All, All-map, All-weaker}, FromFn.get_or-range_with_len}, Grind.common_steps}
+use Rattle.std.{proofs.lemmas.{Bool.Decides.nat_tests, Str.Ascii.IsAscii-from_all}, specs.{List.{AllByRecursion as ByRecursion, range_with_len}, Str.IsAscii}}
 use Rattle.domain_codecs.specs.Base32.{base32_from, lower_digit, upper_digit, AreDigits}
 
 -- the digits of five octets, and then those of the octets after them

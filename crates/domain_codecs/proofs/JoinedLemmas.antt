@@ -210,9 +210,6 @@ passed_begin text left is all = rw is (record { decides = (λ h. h, λ h. h); by
 pub no_group : (text : List ℕ) (over : ℕ) → AreOctets text → over ≡ length text % 8 → over % 4 ≢ 0 → IsText Base64 text → ⊥
 no_group text over all is broken decoded = broken (omega (arith, decoded_length text decoded.0 (bytes_of text all) decoded.1))
 
-long_cut : (left piece after : List ℕ) → Cut left piece after → 0 < length after → length piece ≡ 64
-long_cut left piece after cut some = grind (arith, common_steps)
-
 module _ (text left piece after : List ℕ) (so_far : Passed text left) (cut : Cut left piece after) where
   parted : IsText Base64 text → (octets : List ℕ) × Halves Base64 piece after octets
   parted is = let here = so_far.decides.1 is in (here.0, halves Base64 left piece after here.0 so_far.bytes cut here.1)
@@ -226,7 +223,7 @@ module _ (text left piece after : List ℕ) (so_far : Passed text left) (cut : C
     short_ends : length octets < 48 → 0 < length after → IsText Base64 text → ⊥
     short_ends short some is =
         let here = so_far.decides.1 is in
-        let pieces = split_pieces piece after here.0 (subst IsBytes cut.parts so_far.bytes) (long_cut left piece after cut some) some
+        let pieces = split_pieces piece after here.0 (subst IsBytes cut.parts so_far.bytes) (grind (arith, common_steps)) some
         (subst (λ t. DecodesTo t here.0) cut.parts here.1) in
         let first : DecodesTo piece (take 48 here.0) = pieces.first in
         let same : octets ≡ take 48 here.0 = cc in

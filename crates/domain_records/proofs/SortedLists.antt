@@ -1,6 +1,6 @@
 -- Sorted sets as lists: where an element stands or goes, and what a sort and a dedup leave.
-use Rattle.std.proofs.Common.{◌≡◌, ℕ, ◌+◌, ◌<◌, ◌≤◌, Bool, false, not, ◌&&◌, List, [], ◌∷◌, ◌++◌, length, get_or, take, drop, Result, Ok, Err, IfOk, IfErr, refl}
-use Rattle.std.proofs.{Common.{sym, ◌∙◌, ap, subst, arith, is_lt}, lemmas.{Map.Keys.{Less-from_sorted, sorted_from_all_adjacent}, List.take-append-drop}}
+use Rattle.std.proofs.Common.{◌≡◌, ℕ, ◌+◌, ◌<◌, ◌≤◌, Bool, false, not, ◌&&◌, List, [], ◌∷◌, ◌++◌, length, get_or, take, drop, Result, Ok, Err, IfOk, IfErr}
+use Rattle.std.proofs.{Common.{refl, sym, ◌∙◌, ap, subst, arith, is_lt}, lemmas.{Map.Keys.{Less-from_sorted, sorted_from_all_adjacent}, List.take-append-drop}}
 use Rattle.std.proofs.lemmas.List.{get_or-take, get_or-drop, get_or_default, length-take-le, length-drop, Filters.All-dedup, Elements.All-contains_itself}
 use Rattle.std.proofs.lemmas.List.{Elements.{AllZip-get_or, filter_agree, recursion_from_All}, Kept.{IsStrictlySortedBy-dedup, Any-dedup}}
 use Rattle.std.proofs.lemmas.List.{Quantifiers.all_pairs_remove, Sorted.{searchable_from_sorted, IsPermutation-insert, Contains-permutation, All-permutation}}

@@ -1,4 +1,5 @@
-use Rattle.std.{proofs.{Common.{rules, get_or}, lemmas.Fn.always_returns_same}, specs.{Cmp.{then_total, on_total, nat_cmp_total}, Ordering.{nat_cmp, on, then_cmp}}}
+use Rattle.std.{proofs.{Common.{rules, get_or}, lemmas.Fn.always_returns_same}, specs.Ordering.{nat_cmp, on, then_cmp}}
+use Rattle.std.specs.Cmp.{then_total, on_total, nat_cmp_total}
 use Rattle.domain_record.specs.Record.{record_cmp, record_cmp_total}
 use Rattle.domain_records.specs.declared.owner_runs.Run.{Run}
 use Rattle.domain_records.proofs.owner_runs.likely_places.Goals as goal
