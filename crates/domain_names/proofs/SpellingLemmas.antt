@@ -137,8 +137,7 @@ no_name text other none labels spelled = grind (arith, common_steps)
 
 -- a text of labels begins with an octet of the first
 no_labels : (text : List ℕ) (labels : Name) → IsBefore [] text → LabelTexts text labels → ⊥
-no_labels text labels before (last t l a s v e) = grind (arith, common_steps, one_label, (ends text (before_stops [] text before)))
-no_labels text labels before (dotted t l end more s v others) = grind (arith, common_steps, one_label, (ends text (before_stops [] text before)))
+no_labels text labels before spelled = grind (arith, common_steps, one_label, (ends text (before_stops [] text before)))
 
 -- a text spells one list of labels at most
 same_labels : (text : List ℕ) (xs ys : Name) → LabelTexts text xs → LabelTexts text ys → xs ≡ ys

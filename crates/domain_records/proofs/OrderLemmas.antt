@@ -106,6 +106,12 @@ pub clone_tied : {N D : Type 0} (labels : N → List (List ℕ)) (rtype : D → 
     → ((a b : D) → is_data_clone a b → data_cmp a b ≡ Equal)
     → (r copy : Record N D) → IsRecordClone is_owner_clone is_data_clone r copy → record_cmp labels rtype data_cmp r copy ≡ Equal
 clone_tied labels rtype data_cmp is_owner_clone is_data_clone by_owner by_type by_data r copy h =
-    rw (h.class, by_owner r.owner copy.owner h.owner, by_type r.«data» copy.«data» h.«data», tied_itself nat_cmp_total r.class,
-    tied_itself canonical_cmp_total (labels r.owner), tied_itself nat_cmp_total (rtype r.«data»))
+    rw (
+      h.class,
+      by_owner r.owner copy.owner h.owner,
+      by_type r.«data» copy.«data» h.«data»,
+      tied_itself nat_cmp_total r.class,
+      tied_itself canonical_cmp_total (labels r.owner),
+      tied_itself nat_cmp_total (rtype r.«data»),
+    )
     (by_data r.«data» copy.«data» h.«data»)

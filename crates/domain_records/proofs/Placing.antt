@@ -1,6 +1,6 @@
 -- A list in the order of places that ascend is sorted, and of equals the earliest comes first.
 use Rattle.std.proofs.{lemmas.{Grind.common_steps, Bool.Decides.nat_tests}, Common.{◌≡◌, ◌∙◌, ℕ, ◌+◌, ◌<◌, ◌≤◌, Some, Bool, true, false, List, length, get_or}}
-use Rattle.std.proofs.{Common.{sym, ap, arith, is_lt, inl, inr}, lemmas.{Bool.{cases_Bool, cases_order}, List.{Folds.find_at, Sums.position_or_len_is}}}
+use Rattle.std.proofs.{Common.{sym, ap, arith, is_lt, inl, inr}, lemmas.{Bool.{cases_Bool, cases_lt}, List.{Folds.find_at, Sums.position_or_len_is}}}
 use Rattle.std.proofs.lemmas.{List.{Sums.{fails_before_first, passes_at_first}, get_or_default}, Option.{slice_get-get_or, slice_get_past}}
 use Rattle.std.{proofs.lemmas.Map.Keys.{Less-from_sorted, sorted_from_all_adjacent}, specs.Cmp.{IsTotalOrder, then_total, on_total, nat_cmp_total, alike_right}}
 use Rattle.std.specs.{Cmp.{tied_back, Equal-is}, List.{position_or_len, find, slice_get, Sorted.IsPermutation}, Ordering.is_eq, declared.cmp.Ordering.Ordering}
@@ -75,7 +75,7 @@ module _ {X : Type 0} {R : X → X → Ordering} (o : IsTotalOrder R) (xs : List
           let placed : first < length xs → find passes ys ≡ find passes xs = λ lt.
           let s = h.inverse.rank first (omega arith) in
           found_at (get_or inverse first 0) (omega (arith, s.0)) s.1 in
-          elim (cases_order first (length xs)) [ inl e ↦ found_past (omega arith) | inr w ↦ elim w [ inl lt ↦ placed lt | inr gt ↦ found_past (omega arith) ] ]
+          elim (cases_lt first (length xs)) [ inl lt ↦ placed lt | inr ge ↦ found_past ge ]
 
     pub arranged_sort : (stable : Bool) → IsPermutation xs ys → IsSortOf stable R xs ys
     arranged_sort stable moved = record {
