@@ -1,8 +1,8 @@
--- The first element of a list, of what is left of it, and of those at which a closure answers true.
-use Rattle.std.proofs.Common.{◌≡◌, ◌↔◌, ℕ, ◌+◌, ◌<◌, zero, suc, Bool, false, IsTrue, Bor, List, [], ◌∷◌, length, get_or, drop, Option, Some, None}
+-- The first element of a list, of what is left of it, of those that pass a test, and of those at which a closure answers true.
+use Rattle.std.proofs.Common.{◌≡◌, ◌↔◌, ℕ, ◌+◌, ◌<◌, zero, suc, Bool, true, false, not, IsTrue, Bor, List, [], ◌∷◌, length, get_or, drop, Option, Some, None}
 use Rattle.std.proofs.{Common.{refl, sym, ap, subst, below_more, arith}, lemmas.{Fn.says_at, Option.get_or_from_slice_get, List.get_or_default}}
-use Rattle.std.specs.{Fn.{Shared, FnReturnsAt}, List.{Any, slice_get}, Option.{is_some, unwrap_or}}
-use Rattle.domain_records.specs.{Groups.{HasFirst, SkipsTo}, Lookup.IsFirst}
+use Rattle.std.specs.{Fn.{Shared, FnReturnsAt}, List.{Any, slice_get, filter, list_any, remove}, Option.{is_some, unwrap_or}}
+use Rattle.domain_records.specs.{Edits.without_first, Groups.{HasFirst, SkipsTo}, Lookup.{IsFirst, IsFirstPlace}}
 
 pub has_first_weaker : {X : Type 0} (P Q : X → Type 0) → ((x : X) → P x → Q x) → (xs : List X) → HasFirst P xs → HasFirst Q xs
 has_first_weaker P Q f [] h = h
@@ -49,3 +49,21 @@ module _ {X : Type 0} (Q : X → Type 0) where
   skips_first (x ∷ xs) (Some zero) h = record { skipped = []; joined = refl; before = tt; begins = (h.1 x).0 refl }
   skips_first (x ∷ xs) (Some (suc i)) h = skip_more x xs _ (h.2 0 x (omega arith))
       (skips_first xs (Some i) (let lt = h.0 in omega arith, λ d. h.1 d, λ k d lt. h.2 (suc k) d (omega arith)))
+
+-- ---- what is left without the elements that pass a test
+
+module _ {X : Type 0} (p : X → Bool) where
+  -- where none passes, all are left
+  pub none_left : (xs : List X) → IsFirstPlace p xs None → (filter (λ x. not (p x)) xs ≡ xs) × (without_first p xs ≡ xs) × (list_any p xs ≡ false)
+  none_left [] h = (refl, refl, refl)
+  none_left (x ∷ xs) h =
+      let rest = none_left xs (λ k d lt. h (suc k) d (omega arith)) in
+      rw (h 0 x (omega arith), rest.0, rest.1, rest.2) (refl, refl, refl)
+
+  -- the first that passes is the one at its place
+  pub first_left : (xs : List X) (i : ℕ) → IsFirstPlace p xs (Some i) → (without_first p xs ≡ remove xs i) × (list_any p xs ≡ true)
+  first_left [] i h = absurd (let lt = h.0 in omega arith)
+  first_left (x ∷ xs) zero h = rw (h.1 x) (refl, refl)
+  first_left (x ∷ xs) (suc i) h =
+      let rest = first_left xs i (let lt = h.0 in omega arith, λ d. h.1 d, λ k d lt. h.2 (suc k) d (omega arith)) in
+      rw (h.2 0 x (omega arith), rest.0, rest.1) (refl, refl)

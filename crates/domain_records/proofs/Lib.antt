@@ -1,9 +1,7 @@
 pub mod Arranging
 pub mod Firsts
-pub mod FoundGroups
 pub mod Lookups
 pub mod OrderLemmas
-pub mod Removals
 pub mod Placing
 pub mod Runs
 pub mod SortedLists

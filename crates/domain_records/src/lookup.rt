@@ -122,7 +122,7 @@ pub(crate) fn first_of_type<N, D: RecordData>(
 }
 
 /// The records of one owner and one type that begin at a place.
-#[tactic(auto, using(crate::proofs::FoundGroups::taken_group))]
+#[tactic(auto, using(crate::proofs::Runs::taken_group))]
 pub(crate) fn rrset_at<N: ToName, D: RecordData>(
     records: &[Record<N, D>],
     place: Option<usize>,

@@ -273,7 +273,7 @@ impl<N: ToName, D: RecordData + CanonicalOrd, Sort: Sorter> SortedRecords<N, D, 
     /// # Errors
     ///
     /// `MultipleTtlValues` where the TTLs of that group differ.
-    #[tactic(auto, using(crate::proofs::FoundGroups::found_by))]
+    #[tactic(auto, using(crate::proofs::Runs::found_by))]
     pub fn find_soa(&self) -> Result<Option<Rrset<'_, N, D>>, SigningError>
         ensures { IsFound D.rtype
             (find (begins_with (λ r. D.rtype r.«data» == soa))
