@@ -2,7 +2,6 @@ pub mod WireLemmas
 pub mod OrderLemmas
 pub mod PartingLemmas
 pub mod CaseLemmas
-pub mod BelowLemmas
 pub mod FaultLemmas
 pub mod TextLemmas
 pub mod SpellingLemmas

@@ -2,9 +2,10 @@
 use Rattle.std.proofs.Common.{w8, w64, Fits, ◌≡◌, ℕ, zero, suc, ◌≤◌, ◌<◌, ◌+◌, ◌-◌, ◌⊎◌, List, [], ◌∷◌, ◌++◌, length, min, take, drop, get_or, map, refl, sym}
 use Rattle.std.proofs.{Common.{ap, subst, ◌∙◌, arith, Bool, nat_eq, Option, None, Some}, lemmas.List.{append-nil, append_assoc, get_or-drop, take-append-drop}}
 use Rattle.std.{proofs.lemmas.{Nat.le_bytes_8, Grind.common_steps}, specs.{declared.cmp.Ordering.{Ordering, TheVariants.Equal}, Char.to_ascii_lowercase}}
-use Rattle.std.specs.{Cmp.{tied_itself, Lexicographic.{slice_cmp, pointwise, nat_list_cmp_total, texts_ties, bytes_decides}}, Ordering.nat_cmp}
+use Rattle.std.specs.{Cmp.{both_ways, tied_itself, Lexicographic.{slice_cmp, pointwise, nat_list_cmp_total, texts_ties, bytes_decides}}, Ordering.nat_cmp}
 use Rattle.std.specs.{Array.IsWholeChunk, Int.{from_le_bytes, to_le_bytes}, List.common_prefix_len}
-use Rattle.domain_names.specs.{Name.wire_of, Wire.{labels_of, IsWire}, Order.{canonical_cmp, common_labels, from_root}, Words.{Name, Label}}
+use Rattle.domain_names.specs.{Name.{wire_of, lowered, IsSame, IsAtOrBelow, is_at_or_below, same_name}, Wire.{labels_of, IsWire}, Words.{Name, Label}}
+use Rattle.domain_names.{specs.{Laws.same_name_same, Order.{canonical_cmp, common_labels, from_root}}, proofs.CaseLemmas.{at_or_below_test, lowered_size}}
 use Rattle.domain_names.{specs.Parting.{EndAlike, EndsIn, Part, order_below}, proofs.WireLemmas.{wire_is, length-wire}}
 
 -- the next label is the one right below the rest
@@ -138,3 +139,40 @@ lengths_decide (x ∷ a) (y ∷ b) zero is = absurd (omega arith)
 lengths_decide (x ∷ a) (y ∷ b) (suc i) is = grind (arith, common_steps, (lengths_decide a b i (omega arith)))
 
 pub ruleset alike_steps = (common_steps, length-wire, alike_root, alike_more)
+
+-- ---- the end of a name that decides whether it is at or below another
+
+-- a name with more octets than the other is at or below it where the name above it is
+above_is_below : (end above label : List ℕ) (rest : Name) → IsWire end → IsWire above → labels_of end ≡ label ∷ rest
+    → length above < length end → IsAtOrBelow (labels_of end) (labels_of above) → IsAtOrBelow rest (labels_of above)
+above_is_below end above label rest end_wire above_wire is longer below = go below.front below.joined where
+  go : (front : Name) → lowered (labels_of end) ≡ front ++ lowered (labels_of above) → IsAtOrBelow rest (labels_of above)
+  go [] joined = absurd (omega (arith, longer, lowered_size end end_wire, lowered_size above above_wire, ap (λ l. length (wire_of l)) joined))
+  go (f ∷ front) joined = record { front = front; joined = ap (drop 1) (sym (ap lowered is) ∙ joined) }
+
+pub longer_below : (end above label : List ℕ) (rest : Name) → IsWire end → IsWire above → labels_of end ≡ label ∷ rest
+    → length above < length end → is_at_or_below (labels_of end) (labels_of above) ≡ is_at_or_below rest (labels_of above)
+longer_below end above label rest end_wire above_wire is longer =
+    let whole = at_or_below_test (labels_of end) (labels_of above) in
+    let part = at_or_below_test rest (labels_of above) in
+    both_ways _ _ (λ e. part.1 (above_is_below end above label rest end_wire above_wire is longer (whole.0 e)))
+    (λ e. let below = part.0 e in whole.1 (record {
+      front = map to_ascii_lowercase label ∷ below.front;
+      joined = ap lowered is ∙ ap (λ l. map to_ascii_lowercase label ∷ l) below.joined;
+    }))
+
+-- a name with no more octets than the other is at or below it where they are the same
+pub same_below : (end above : List ℕ) → IsWire end → IsWire above → length end ≤ length above
+    → is_at_or_below (labels_of end) (labels_of above) ≡ same_name (labels_of end) (labels_of above)
+same_below end above end_wire above_wire within =
+    let same = same_name_same (labels_of end) (labels_of above) in
+    let below = at_or_below_test (labels_of end) (labels_of above) in
+    both_ways _ _ (λ e. same.1 (go (below.0 e).front (below.0 e).joined)) (λ e. below.1 (record { front = []; joined = same.0 e }))
+  where
+    go : (front : Name) → lowered (labels_of end) ≡ front ++ lowered (labels_of above) → IsSame (labels_of end) (labels_of above)
+    go [] joined = joined
+    go (f ∷ front) joined =
+        let sizes = sym (lowered_size end end_wire) ∙ ap (λ l. length (wire_of l)) joined in
+        absurd (grind (arith, common_steps, (lowered_size above above_wire), (wire_of-end front (lowered (labels_of above)))))
+
+pub ruleset below_steps = (common_steps, longer_below, same_below, at_or_below_test, length-wire)

@@ -275,7 +275,7 @@ pub fn is_same(a: &[u8], b: &[u8]) -> bool
 }
 
 /// Whether a name is at or below another. Its end that has no more octets than the other decides.
-#[tactic(auto, using(crate::proofs::BelowLemmas::below_steps))]
+#[tactic(auto, using(crate::proofs::PartingLemmas::below_steps))]
 pub fn is_at_or_below(name: &[u8], above: &[u8]) -> bool
     requires name { IsWire name.now }
     requires above { IsWire above.now }
