@@ -1,13 +1,22 @@
--- What NSEC records answer does not depend on TTLs, classes and the case of letters.
-use Rattle.std.{proofs.{Common.{◌≡◌, ℕ, Bool, List, Option, Some, None, arith}, lemmas.Grind.common_steps}, specs.List.find}
-use Rattle.domain_names.specs.{Words.Name}
-use Rattle.domain_zone.{specs.{Zone.ZoneRecord}}
+-- What records answer does not depend on TTLs, classes and the case of letters.
+use Rattle.std.proofs.{Common.{◌≡◌, ℕ, Bool, List, Option, Some, None, arith, cond, not, ◌&&◌, ◌||◌, length, subst}, lemmas.Grind.common_steps}
+use Rattle.std.specs.List.{find}
+use Rattle.domain_names.specs.{Name.same_name, Words.Name}
+use Rattle.domain_base.specs.Types.{dname}
+use Rattle.domain_chain_rdata.specs.OptOut.{is_opt_out}
+use Rattle.domain_zone.specs.Zone.{ZoneRecord, is_zone_cut}
 use Rattle.domain_nsec.specs.Chain.{Link}
-use Rattle.domain_checker.{specs.{Alike.{ArePaired, IsAlike}, Reading.{is_cover, is_match}}, proofs.AlikeLemmas.{is_cover_alike, is_match_alike}}
-use Rattle.domain_checker.proofs.{AlikeLemmas.{nexts, owners, says_alike, shared_alike}, EncloserLemmas.same_count}
-use Rattle.domain_checker.proofs.PairedLemmas.{OptionsPaired, any_alike, find_alike}
-use Rattle.domain_answer.specs.{Proved.proved_answer, Reading.{absent_answer, cover_answer, listed_both, reading}}
-use Rattle.domain_answer.specs.{Reading.{wildcard_both}}
+use Rattle.domain_nsec3.specs.{Chain.HashedLink, Config.ChainConfig, Owners.nsec3_lists}
+use Rattle.domain_checker.proofs.AlikeLemmas.{is_cover_alike, is_match_alike, nexts, owners, says_alike, shared_alike, OptionsPaired, any_alike, find_alike}
+use Rattle.domain_checker.proofs.AlikeLemmas.{covered_alike, IsEncloserAlike, encloser_alike, matched_alike, matching, covering}
+use Rattle.domain_checker.{proofs.EncloserLemmas.same_count, specs.{Alike.{ArePaired, IsAlike, IsHashedAlike}, HashedEncloser.Encloser}}
+use Rattle.domain_checker.specs.{HashedVerdict.next_closer, HashedView.{HashedRecords, chain_records, with_links}, Reading.{is_cover, is_match}}
+use Rattle.domain_answer.specs.{Expansion.{IsExpansionRead, closer_name, closer_told, proved_expansion}, declared.answer.Answer.Answer}
+use Rattle.domain_answer.specs.HashedProved.{hashed_proved_answer, tells_encloser, tells_wildcard}
+use Rattle.domain_answer.specs.HashedReading.{IsHashedRead, IsReadOn, found_answer, wildcard_told}
+use Rattle.domain_answer.specs.{HashedZoneAnswer.{hashed_encloser, hashed_exists, hashed_zone_answer}, Proved.proved_answer}
+use Rattle.domain_answer.specs.{Reading.{absent_answer, cover_answer, listed_both, reading, wildcard_both}, ZoneAnswer.wildcard_below}
+use Rattle.domain_answer.specs.declared.answer.Answer.TheVariants.{MayBeUnsigned, NoCloserName, NotProven}
 
 module _ (a : Name) (t : ℕ) where
   wildcard_both_alike : (n : ℕ) (w : Name) (m p c d : Option Link) → OptionsPaired IsAlike m p → OptionsPaired IsAlike c d
@@ -17,14 +26,14 @@ module _ (a : Name) (t : ℕ) where
   wildcard_both_alike n w m p c d h i = grind (arith, common_steps)
 
   module _ (ks ls : List Link) (all : ArePaired IsAlike ks ls) where
-    matching : (y : Name) → OptionsPaired IsAlike (find (is_match a y) ks) (find (is_match a y) ls)
-    matching y = find_alike IsAlike (is_match a y) (is_match_alike a y) ks ls all
+    matches_alike : (y : Name) → OptionsPaired IsAlike (find (is_match a y) ks) (find (is_match a y) ls)
+    matches_alike y = find_alike IsAlike (is_match a y) (is_match_alike a y) ks ls all
 
-    covering : (y : Name) → OptionsPaired IsAlike (find (is_cover a y) ks) (find (is_cover a y) ls)
-    covering y = find_alike IsAlike (is_cover a y) (is_cover_alike a y) ks ls all
+    covers_alike : (y : Name) → OptionsPaired IsAlike (find (is_cover a y) ks) (find (is_cover a y) ls)
+    covers_alike y = find_alike IsAlike (is_cover a y) (is_cover_alike a y) ks ls all
 
     absent_alike : (n : ℕ) (x : Name) → absent_answer a ks n x t ≡ absent_answer a ls n x t
-    absent_alike n x = grind (arith, common_steps, wildcard_both_alike, matching, covering)
+    absent_alike n x = grind (arith, common_steps, wildcard_both_alike, matches_alike, covers_alike)
 
     cover_alike : (k l : Link) (x : Name) → IsAlike k l → cover_answer a ks k x t ≡ cover_answer a ls l x t
     cover_alike k l x alike = grind (arith, common_steps, (owners alike), (nexts alike), (same_count k.owner l.owner alike.owner), shared_alike, absent_alike)
@@ -36,7 +45,75 @@ module _ (a : Name) (t : ℕ) where
     both_alike x m n c d h i = grind (arith, common_steps)
 
     pub reading_alike : (x : Name) → reading a ks x t ≡ reading a ls x t
-    reading_alike x = grind (arith, common_steps, both_alike, matching, covering)
+    reading_alike x = grind (arith, common_steps, both_alike, matches_alike, covers_alike)
 
     pub proved_alike : (L : List ZoneRecord) (assume : Bool) (x : Name) → proved_answer L a assume ks x t ≡ proved_answer L a assume ls x t
     proved_alike L assume x = grind (arith, common_steps, any_alike, says_alike)
+
+-- ---- NSEC3 records
+
+-- ---- what records say that were found
+
+abbrev BothAlike : Option HashedLink → Option HashedLink → Type 0
+BothAlike = OptionsPaired IsHashedAlike
+
+wildcard_alike : (n t : ℕ) (m o c d : Option HashedLink) → BothAlike m o → BothAlike c d → wildcard_told n t m c ≡ wildcard_told n t o d
+wildcard_alike n t m o c d h h7 = grind (arith, common_steps)
+
+closer_alike : (n : ℕ) (m o c d : Option HashedLink) → BothAlike m o → BothAlike c d → closer_told n m c ≡ closer_told n o d
+closer_alike n m o c d h h6 = grind (arith, common_steps)
+
+found_answer_alike : (a : Name) (n t : ℕ) (e f : Option Encloser) → OptionsPaired IsEncloserAlike e f → found_answer a e n t ≡ found_answer a f n t
+found_answer_alike a n t e f h = grind (arith, common_steps)
+
+-- ---- lists
+
+-- other records, each like the one at its place
+module _ (R : HashedRecords) (ls : List HashedLink) (alike : ArePaired IsHashedAlike R.links ls) where
+  abbrev S : HashedRecords
+  S = with_links R ls
+
+  pub expansion_alike : (x : Name) (n : ℕ) (answer : Answer) → IsExpansionRead R x n answer → IsExpansionRead S x n answer
+  expansion_alike x n answer r = grind (arith, common_steps, closer_alike, matching, covering)
+
+  module _ (x : Name) (t : ℕ) where
+    read_on : (first answer : Answer) → IsReadOn R x t first answer → IsReadOn S x t first answer
+    read_on first answer r = grind (arith, common_steps, wildcard_alike, matching, covering)
+
+    pub read_alike : (answer : Answer) → IsHashedRead R x t answer → IsHashedRead S x t answer
+    read_alike answer read =
+        let other = encloser_alike R ls alike x read.found read.is in
+        record {
+          found = other.0;
+          is = other.1;
+          ends = subst (λ f. IsReadOn S x t f answer) (found_answer_alike R.apex (length x) t read.found other.0 other.2)
+              (read_on (found_answer R.apex read.found (length x) t) answer read.ends);
+        }
+
+module _ (L : List ZoneRecord) (a : Name) (config : ChainConfig) (x : Name) (t : ℕ) (ks ls : List HashedLink)
+    (alike : ArePaired IsHashedAlike ks ls) where
+  abbrev en : Name
+  en = hashed_encloser L a config x
+
+  abbrev zone : Answer
+  zone = hashed_zone_answer L a config x t
+
+  encloser_told : tells_encloser L a config ks x ≡ tells_encloser L a config ls x
+  encloser_told =
+      λ i. matched_alike (chain_records a config ks) ls alike en i
+      && (((same_name en x || is_zone_cut L a en) || nsec3_lists L a config en dname)
+      || covered_alike (chain_records a config ks) ls alike (next_closer x en) i)
+
+  wildcard_said : tells_wildcard L a config ks x ≡ tells_wildcard L a config ls x
+  wildcard_said =
+      λ i. matched_alike (chain_records a config ks) ls alike (wildcard_below en) i
+      || covered_alike (chain_records a config ks) ls alike (wildcard_below en) i
+
+  pub hashed_proved_alike : hashed_proved_answer L a config ks x t ≡ hashed_proved_answer L a config ls x t
+  hashed_proved_alike = grind (arith, common_steps, encloser_told, wildcard_said)
+
+  pub proved_expansion_alike : (n : ℕ) → proved_expansion L a config ks x n ≡ proved_expansion L a config ls x n
+  proved_expansion_alike n =
+      λ i. cond (hashed_exists L a config (closer_name n x)) NotProven
+      (cond (not (covered_alike (chain_records a config ks) ls alike (closer_name n x) i)) NotProven
+      (cond (is_opt_out config.flags) (MayBeUnsigned n) (NoCloserName n)))

@@ -1,27 +1,33 @@
--- What the records of a chain that leaves out the names below a DNAME tell of the zone, and that what they answer is what they prove.
-use Rattle.std.proofs.Common.{◌≡◌, ℕ, ◌<◌, Bool, true, false, cond, not, ◌&&◌, ◌||◌, List, [], ◌∷◌, length, refl, sym, ap, ◌∙◌, inl, inr}
-use Rattle.std.proofs.{Common.arith, lemmas.{Bool.{and_from, and_left, and_right, cases_Bool, false_from_ne_true, false≢true}, Grind.common_steps}}
-use Rattle.std.{proofs.lemmas.List.Elements.All-from_recursion, specs.{List.{Contains, list_any}, Prelude.All}}
-use Rattle.domain_bitmap.specs.Blocks.{contains_type}
-use Rattle.domain_names.specs.{Name.{is_at_or_below, is_strictly_below, lowered, same_name}, Order.before, Words.Name}
+-- What the records of a chain that leaves out the names below a DNAME tell of the zone; what they answer is what they prove, and the whole chain
+-- proves all; and of any records at all those that an answer rests on are there.
+use Rattle.std.proofs.Common.{◌≡◌, ℕ, ◌<◌, Bool, true, false, cond, not, ◌&&◌, ◌||◌, List, [], ◌∷◌, length, refl, sym, ap, ◌∙◌, inl, inr, arith, rules, ◌≢◌}
+use Rattle.std.proofs.{Common.{◌≤◌, Option, Some, None, map}, lemmas.List.Elements.{All-from_recursion, recursion_from_All}}
+use Rattle.std.proofs.lemmas.{Bool.{and_from, and_left, and_right, cases_Bool, false_from_ne_true, false≢true, and_parts}, Grind.common_steps}
+use Rattle.std.specs.{List.{Contains, list_any, find, AllByRecursion}, Prelude.{All, filter}}
+use Rattle.domain_octets.proofs.StdLemmas.{and_false}
+use Rattle.domain_names.specs.{Name.{is_at_or_below, is_strictly_below, lowered, same_name, last_labels}, Order.before, Words.Name}
 use Rattle.domain_base.specs.Types.{cname, dname, soa}
-use Rattle.domain_zone.specs.{Covering.{matches, covers, pairs}, Enclosers.IsClosestEncloser, Zone.{ZoneRecord, OwnersNeverDescend, has_type, is_occluded}}
-use Rattle.domain_zone.{specs.Zone.{is_unoccluded, is_zone_cut, occludes, owns, records_of, unoccluded_owners}, proofs.FindLemmas.{Stands, in_at, stands_all}}
-use Rattle.domain_zone.proofs.{NameLemmas.{one_lowered, below_itself, lowered_below}, OwnerLemmas.{below_occluder, in_any}, PairLemmas.In}
+use Rattle.domain_bitmap.specs.Blocks.{contains_type}
+use Rattle.domain_zone.proofs.{FindLemmas.{Stands, in_at, stands_all, find_some, any_none, in_filter}, PairLemmas.In}
+use Rattle.domain_zone.proofs.{NameLemmas.{one_lowered, below_itself, lowered_below, below_length, same_is}, OwnerLemmas.{below_occluder, in_any}}
+use Rattle.domain_zone.{proofs.ZoneLemmas.{all_distinct, all_map, weaker}, specs.Covering.{matches, covers, pairs}}
+use Rattle.domain_zone.specs.{Enclosers.{IsClosestEncloser, longer, shared}, Zone.{ZoneRecord, OwnersNeverDescend, has_type, is_occluded, is_unoccluded}}
+use Rattle.domain_zone.specs.Zone.{is_zone_cut, occludes, owns, records_of, unoccluded_owners, distinct}
 use Rattle.domain_nsec.specs.{Chain.{Link, IsChain, is_listed, nsec_lists}, declared.config.GenerateNsecConfig.GenerateNsecConfig}
-use Rattle.domain_checker.{specs.{Reading.{is_at_cut}, Verdict.has_match_or_cover}, proofs.EncloserLemmas.{closest_is, cut_same}}
-use Rattle.domain_checker.{specs.Facts.{NsecChainsAreKnown, NsecFacts}, proofs.EncloserLemmas.{owner_owns, same_count, strictly_trans, top_occluder}}
-use Rattle.domain_checker.proofs.MeantLemmas.{apex_exists, config_with, cut_at, ends, list_says, owner_low, type_at, covered_encloser}
-use Rattle.domain_checker.proofs.MeantLemmas.{covered_no_owner, covered_occluded, covered_under, covered_unowned, matched_high, matched_low, matched_same}
-use Rattle.domain_answer.specs.{Proved.{IsAnswered, LeavesOutBelowDname, is_missing, knows_wildcard, proved_answer}, Reading.{cover_answer, listed_answer}}
-use Rattle.domain_answer.specs.Reading.{listed_both, match_answer, reading, tells_occluded, tells_occluder, wildcard_answer, wildcard_both}
-use Rattle.domain_answer.specs.{TypesAnswer.{is_of_child, owned_answer}, ZoneAnswer.{asterisk, encloser, highest_occluder, inside_answer, is_at_parent}}
-use Rattle.domain_answer.specs.ZoneAnswer.{missing_answer, name_exists, owns_type, wildcard_below}
-use Rattle.domain_answer.specs.declared.answer.Answer.{Answer, TheVariants.{OutsideZone, AtParent}}
-use Rattle.domain_answer.specs.declared.answer.Answer.TheVariants.{Referral, Redirected, NoData, WildcardNoData, NameError, NoCloserName, NotProven}
-use Rattle.domain_answer.proofs.{ChoiceLemmas.{expanded_alike, owned_alike}, EncloserLemmas.{closest_last, cut_owns, none_above, parent_below}}
-use Rattle.domain_checker.{specs.Alike.IsAlike, proofs.PairedLemmas.paired_with_some}
-use Rattle.domain_answer.proofs.{AlikeLemmas.{proved_alike, reading_alike}, EncloserLemmas.{strictly_enclosed, wildcard_low}, KindLemmas.highest_of}
+use Rattle.domain_checker.{proofs.AlikeLemmas.paired_with_some, specs.{Alike.IsAlike, Facts.{NsecChainsAreKnown, NsecFacts}}}
+use Rattle.domain_checker.proofs.EncloserLemmas.{closest_is, cut_same, owner_owns, same_count, strictly_trans, top_occluder, choose_by, either_found}
+use Rattle.domain_checker.proofs.MeantLemmas.{apex_exists, config_with, cut_at, ends, list_says, owner_low, type_at, covered_encloser, covered_no_owner}
+use Rattle.domain_checker.proofs.MeantLemmas.{covered_occluded, covered_under, covered_unowned, matched_high, matched_low, matched_same, some_link}
+use Rattle.domain_checker.specs.{Reading.{is_at_cut, is_cover, is_match}, Verdict.{has_match_or_cover, HasProof, is_inside}}
+use Rattle.domain_answer.proofs.{AlikeLemmas.{proved_alike, reading_alike}, EncloserLemmas.{expanded_alike, owned_alike, closest_last, cut_owns, none_above}}
+use Rattle.domain_answer.{proofs.EncloserLemmas.{parent_below, strictly_enclosed, wildcard_low, highest_of, encloser_less, all_told}, specs.Found.IsFound}
+use Rattle.domain_answer.specs.Proved.{IsAnswered, LeavesOutBelowDname, is_missing, knows_wildcard, proved_answer, CountsWithin, RestsOn}
+use Rattle.domain_answer.specs.Reading.{cover_answer, listed_answer, listed_both, match_answer, reading, tells_occluded, tells_occluder, wildcard_answer}
+use Rattle.domain_answer.specs.{Reading.{wildcard_both, IsNameAnswer, absent_answer, name_answer, owner_answer}, TypesAnswer.{is_of_child, owned_answer}}
+use Rattle.domain_answer.specs.ZoneAnswer.{asterisk, encloser, highest_occluder, inside_answer, is_at_parent, missing_answer, name_exists, owns_type}
+use Rattle.domain_answer.specs.{ZoneAnswer.{wildcard_below, zone_answer}, declared.answer.Answer.{Answer, TheVariants.{OutsideZone, AtParent, Referral}}}
+use Rattle.domain_answer.specs.declared.answer.Answer.TheVariants.{Redirected, NoData, WildcardNoData, NameError, NoCloserName, NotProven}
+use Rattle.domain_answer.specs.declared.answer.NameAnswer.TheVariants.{Absent, Given}
 
 -- a chain that leaves out what stands below a DNAME
 pub facts_leaving : NsecChainsAreKnown → (L : List ZoneRecord) (a : Name) (config : GenerateNsecConfig) (links : List Link)
@@ -237,3 +243,135 @@ reading_proved knows listed a x t b L config links leaves order chain among =
     reading_alike a t listed some.some some.alike x
     ∙ reading_of (facts_leaving knows L a config links leaves order chain) some.some (All-from_recursion (Contains links) some.some some.among) x t b
     ∙ sym (proved_alike a t listed some.some some.alike L config.assume_dnskeys_will_be_added x)
+
+-- ---- of any records at all: those that an answer rests on are there, and what it counts is within the name
+
+module _ (a : Name) (listed : List Link) where
+  match_proves : (y : Name) (k : Link) → find (is_match a y) listed ≡ Some k → HasProof listed a y
+  match_proves y k e = grind (arith, common_steps, in_any, (find_some (is_match a y) listed k e))
+
+  cover_proves : (y : Name) (k : Link) → find (is_cover a y) listed ≡ Some k → HasProof listed a y
+  cover_proves y k e = grind (arith, common_steps, in_any, (find_some (is_cover a y) listed k e))
+
+  matched_within : (x : Name) (k : Link) → is_match a x k ≡ true → length k.owner ≤ length x
+  matched_within x k m = grind (arith, common_steps, same_count, same_is)
+
+  module _ (x : Name) (t : ℕ) where
+    -- the records are there, and the count is within the name
+    abbrev pub Fits : Answer → Type 0
+    Fits v = RestsOn listed a x v × CountsWithin (length x) v
+
+    absent_fits : (n : ℕ) → n < length x → HasProof listed a x → Fits (absent_answer a listed n x t)
+    absent_fits n less has =
+        let w = wildcard_below (last_labels n x) in
+        either_found (λ m c. Fits (wildcard_both a n w t m c)) (find (is_match a w) listed) (find (is_cover a w) listed) (λ e f. (has, less))
+        (λ k e. let both = match_proves w k e in grind (arith, common_steps)) (λ k f. let both = cover_proves w k f in grind (arith, common_steps))
+
+    match_fits : (k : Link) → HasProof listed a x → length k.owner ≤ length x → Fits (match_answer a k t)
+    match_fits k has within = grind (arith, common_steps)
+
+    cover_fits : (k : Link) → HasProof listed a x → covers before k.owner k.next x ≡ true → Fits (cover_answer a listed k x t)
+    cover_fits k has c =
+        let within : tells_occluded a k x ≡ true → length k.owner ≤ length x =
+        λ o. below_length x k.owner (and_parts (is_at_or_below x k.owner) (tells_occluder a k) o).0 in
+        search (rules, (choose_by Fits), absent_fits, (encloser_less k.owner k.next x c)) depth 12
+
+    listed_fits : Fits (listed_answer a listed x t)
+    listed_fits =
+        either_found (λ m c. Fits (listed_both a listed x t m c)) (find (is_match a x) listed) (find (is_cover a x) listed) (λ e f. (tt, tt))
+        (λ k e. let m = (find_some (is_match a x) listed k e).1 in match_fits k (match_proves x k e) (matched_within x k m))
+        (λ k f. let c = (find_some (is_cover a x) listed k f).1 in
+        cover_fits k (cover_proves x k f) (and_parts (covers before k.owner k.next x) (is_inside a k) c).0)
+
+    pub reading_fits : Fits (reading a listed x t)
+    reading_fits = grind (arith, common_steps, listed_fits)
+
+-- ---- what one pass finds
+
+-- of a name at or below the apex the list says what is said of what was found
+pub found_reads : (a : Name) (listed : List Link) (x : Name) (t : ℕ) → is_at_or_below x a ≡ true → is_at_parent a x t ≡ false
+    → (matched covered : Option Link) → IsFound a listed x matched covered → reading a listed x t ≡ listed_both a listed x t matched covered
+found_reads a listed x t low apart None covered found = grind (arith, common_steps)
+found_reads a listed x t low apart (Some k) covered found = grind (arith, common_steps)
+
+-- a cover that was found covers the name
+pub found_covers : (a : Name) (listed : List Link) (x : Name) (k : Link) → IsFound a listed x None (Some k)
+    → covers before k.owner k.next x ≡ true
+found_covers a listed x k found = grind (arith, common_steps, (find_some (is_cover a x) listed k))
+
+-- ---- what a record says of its owner, or of what is below it, rests on no wildcard; what is said of a wildcard does
+
+pub match_own : (a : Name) (k : Link) (t : ℕ) → name_answer (match_answer a k t) ≡ Given (match_answer a k t)
+match_own a k t = grind (arith, common_steps)
+
+wildcard_own : (a : Name) (listed : List Link) (n : ℕ) (w : Name) (t : ℕ) → name_answer (wildcard_answer a listed n w t) ≡ Absent n
+wildcard_own a listed n w t =
+    either_found (λ m c. name_answer (wildcard_both a n w t m c) ≡ Absent n) (find (is_match a w) listed) (find (is_cover a w) listed)
+    (λ e f. refl) (λ k e. grind (arith, common_steps)) (λ k f. grind (arith, common_steps))
+
+module _ (a : Name) (listed : List Link) (x : Name) (t : ℕ) (whole : Answer) where
+  given_told : (said : Answer) → whole ≡ said → name_answer said ≡ Given said → IsNameAnswer whole a listed x t (Given said)
+  given_told said is own = grind (arith, common_steps)
+
+  pub match_told : (k : Link) (said : Answer) → whole ≡ match_answer a k t → said ≡ match_answer a k t → IsNameAnswer whole a listed x t (Given said)
+  match_told k said is same = given_told said (is ∙ sym same) (rw same (match_own a k t))
+
+  pub cover_told : (k : Link) (n : ℕ) → whole ≡ cover_answer a listed k x t → tells_occluded a k x ≡ false → is_strictly_below k.next x ≡ false
+      → n ≡ length (longer (shared x k.owner) (shared x k.next)) → covers before k.owner k.next x ≡ true → IsNameAnswer whole a listed x t (Absent n)
+  cover_told k n is free none counts c =
+      let less : n < length x = rw counts (encloser_less k.owner k.next x c none) in
+      let said : whole ≡ absent_answer a listed n x t =
+      is ∙ (λ j. cond (free j) (owner_answer a k) (cond (none j) NoData (absent_answer a listed (sym counts j) x t))) in
+      grind (arith, common_steps, wildcard_own)
+
+-- ---- what is given is the whole answer, and no wildcard is asked for
+
+pub given_is : (whole said : Answer) → Given said ≡ name_answer whole → whole ≡ said
+given_is whole said e = grind (arith, common_steps)
+
+pub given_never : (whole said : Answer) → Given said ≡ name_answer whole → (n : ℕ) → said ≢ NoCloserName n
+given_never whole said e n f = grind (arith, common_steps)
+
+-- ---- the whole chain proves all that the zone says
+
+pub whole_proves : NsecChainsAreKnown → (L : List ZoneRecord) (a : Name) (config : GenerateNsecConfig) (links : List Link) (x : Name)
+    (t : ℕ) → LeavesOutBelowDname L a config.occlude_below_dname → OwnersNeverDescend L → IsChain L a config links
+    → proved_answer L a config.assume_dnskeys_will_be_added links x t ≡ zone_answer L a config.assume_dnskeys_will_be_added x t
+whole_proves knows L a config links x t leaves order chain =
+    let assume = config.assume_dnskeys_will_be_added in
+    let en = encloser L a x in
+    let facts = facts_leaving knows L a config links leaves order chain in
+    all_told (is_at_or_below x a) (is_at_parent a x t) (has_match_or_cover links x) (is_missing L a x && not (knows_wildcard L a links x))
+    (zone_answer L a assume x t) (NoCloserName (length en)) (some_link facts x) (λ low.
+    let closest = closest_is (unoccluded_owners true L a) a x (apex_exists facts) low in
+    let wild = some_link facts (wildcard_below en) (wildcard_low (unoccluded_owners true L a) a x en closest) in
+    and_right (is_missing L a x) (not (knows_wildcard L a links x)) (ap not wild))
+
+-- ---- chains that leave out the names below a DNAME
+
+filter_same : {X : Type 0} (p q : X → Bool) (xs : List X) → AllByRecursion (λ x. p x ≡ q x) xs → filter p xs ≡ filter q xs
+filter_same p q [] h = refl
+filter_same p q (x ∷ xs) h = λ i. cond (h.0 i) (x ∷ filter_same p q xs h.1 i) (filter_same p q xs h.1 i)
+
+pub none_left_out : (L : List ZoneRecord) (a : Name) → All (λ r. is_occluded true L a r.owner ≡ is_occluded false L a r.owner) L
+    → (b : Bool) → unoccluded_owners b L a ≡ unoccluded_owners true L a
+none_left_out L a none true = refl
+none_left_out L a none false =
+    let Same : Name → Type 0 = λ n. is_unoccluded false L a n ≡ is_unoccluded true L a n in
+    filter_same _ _ _ (all_distinct Same _ (all_map Same (λ r. r.owner) L
+    (weaker (λ r. is_occluded true L a r.owner ≡ is_occluded false L a r.owner) (λ r. Same r.owner) (λ r e i. is_at_or_below r.owner a && not (sym e i))
+    L (recursion_from_All _ L none))))
+
+-- in a zone without DNAME records no more names are occluded
+module _ (L : List ZoneRecord) (a : Name) (none : has_type L dname ≡ false) where
+  no_dname : (n : Name) → has_type (records_of L n) dname ≡ false
+  no_dname n = grind (arith, common_steps, any_none, in_any, in_filter)
+
+  same_occluders : (n : Name) → occludes false L a n ≡ occludes true L a n
+  same_occluders n = sym ((λ i. is_zone_cut L a n || (is_at_or_below n a && no_dname n i)) ∙ (λ i. is_zone_cut L a n || and_false (is_at_or_below n a) i))
+
+  pub left_out_without_dname : (b : Bool) → unoccluded_owners b L a ≡ unoccluded_owners true L a
+  left_out_without_dname true = refl
+  left_out_without_dname false =
+      λ i. filter (λ n. is_at_or_below n a && not (list_any (λ r. same_occluders r.owner i && is_strictly_below n r.owner) L))
+      (distinct (map (λ r. r.owner) L))

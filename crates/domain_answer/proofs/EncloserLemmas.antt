@@ -1,17 +1,37 @@
--- Names above a name: its last labels, its closest encloser, the wildcard below that, and the names that occlude it.
-use Rattle.std.proofs.Common.{◌≡◌, ℕ, ◌≤◌, ◌<◌, ◌-◌, suc, Bool, true, false, cond, not, ◌&&◌, ◌||◌, List, [], ◌∷◌, drop, length, refl, sym, ap, ◌∙◌, inl, inr}
-use Rattle.std.proofs.{Common.{Some, None, arith}, lemmas.Bool.{and_from, and_parts, cases_Bool, false_from_ne_true, false≢true, or_left}}
-use Rattle.std.{proofs.lemmas.{Grind.common_steps, List.length-drop}, specs.{List.list_any, Option.option_or}}
+-- Names above a name: its last labels, its closest encloser, the wildcard below that, and the names that occlude it; and that each kind of answer
+-- is the zone's exactly where what it says is so.
+use Rattle.std.proofs.Common.{◌≡◌, ℕ, Bool, true, false, cond, not, ◌&&◌, ◌||◌, arith, ◌≤◌, ◌<◌, ◌-◌, suc, List, [], ◌∷◌, drop, length, refl, sym, ap, ◌∙◌}
+use Rattle.std.{proofs.{Common.{inl, inr, Some, None, rules, Option}, lemmas.{Grind.common_steps, List.length-drop}}, specs.{List.list_any, Option.option_or}}
+use Rattle.std.proofs.lemmas.Bool.{and_from, and_parts, cases_Bool, false_from_ne_true, false≢true, or_left, and_right, not-false, not-true}
+use Rattle.std.specs.Prelude.{◌==◌}
 use Rattle.domain_names.specs.{Name.{is_at_or_below, is_strictly_below, lowered, same_name, last_labels}, Order.before, Words.{Label, Name}}
-use Rattle.domain_base.specs.Types.{dname}
-use Rattle.domain_zone.specs.{Covering.{covers, matches}, Enclosers.{IsClosestEncloser, exists_over, longer, shared}, Zone.{ZoneRecord, has_type, is_occluded}}
-use Rattle.domain_zone.{specs.Zone.{is_unoccluded, is_zone_cut, occludes, owns, records_of}, proofs.NameLemmas.{before_right, before_order, below_between}}
-use Rattle.domain_zone.proofs.NameLemmas.{below_from, below_length, below_longer, below_parent, below_root, below_trans, strictly_longer}
-use Rattle.domain_zone.proofs.{NameLemmas.{strictly_from, lowered_below, one_lowered, same_lowered}, OwnerLemmas.{any_in, below_occluder, occluder_owns}}
-use Rattle.domain_zone.proofs.{PairLemmas.In, SharedLemmas.{exists_same, shared_within}}
-use Rattle.domain_checker.{specs.Verdict.closest_encloser, proofs.EncloserLemmas.{occluded_same, occludes_same, strictly_trans, top_occluder}}
-use Rattle.domain_checker.proofs.HashedWalkLemmas.{below_drop}
-use Rattle.domain_answer.specs.ZoneAnswer.{asterisk, highest_occluder, wildcard_below}
+use Rattle.domain_base.specs.Types.{cname, ds, dname}
+use Rattle.domain_zone.proofs.NameLemmas.{before_right, before_order, below_between, below_from, below_length, below_longer, below_parent, below_root}
+use Rattle.domain_zone.proofs.NameLemmas.{below_trans, strictly_longer, strictly_from, lowered_below, one_lowered, same_lowered, below_itself, same_itself}
+use Rattle.domain_zone.proofs.{OwnerLemmas.{any_in, below_occluder, occluder_owns, any_owner}, PairLemmas.In, SharedLemmas.{exists_same, shared_within}}
+use Rattle.domain_zone.specs.{Covering.{covers, matches}, Enclosers.{IsClosestEncloser, exists_over, longer, shared}}
+use Rattle.domain_zone.specs.Zone.{ZoneRecord, has_type, is_occluded, is_unoccluded, is_zone_cut, occludes, owns, records_of, unoccluded_owners}
+use Rattle.domain_nsec.specs.Chain.{nsec_lists}
+use Rattle.domain_checker.proofs.EncloserLemmas.{occluded_same, occludes_same, strictly_trans, top_occluder, choose_by, cut_same, same_count}
+use Rattle.domain_checker.{proofs.HashedListLemmas.below_drop, specs.Verdict.closest_encloser}
+use Rattle.domain_answer.specs.{Kinds.{IsAbsent, IsHere, IsRedirected, IsReferred, IsSo, wildcard_of}, TypesAnswer.{expanded_answer, owned_answer}}
+use Rattle.domain_answer.specs.ZoneAnswer.{asterisk, highest_occluder, wildcard_below, encloser, inside_answer, is_at_parent, missing_answer, name_exists}
+use Rattle.domain_answer.specs.{ZoneAnswer.{occluded_answer, owns_type, unoccluded_answer, zone_answer}, declared.answer.Answer.Answer}
+use Rattle.domain_answer.specs.declared.answer.Answer.TheVariants.{NotProven, OutsideZone, AtParent, Referral, Redirected, Has, NoDs, Alias, NoData, Wildcard}
+use Rattle.domain_answer.specs.declared.answer.Answer.TheVariants.{WildcardAlias, WildcardNoData, NameError, MayBeUnsigned, NoCloserName, TooManyIterations}
+
+pub owned_alike : (c d : Bool) (p q : ℕ → Bool) (m n t : ℕ) → c ≡ d → ((c && not (t == ds)) ≡ false → p t ≡ q t) → p cname ≡ q cname → m ≡ n
+    → owned_answer c p m t ≡ owned_answer d q n t
+owned_alike c d p q m n t cut types alias count = grind (arith, common_steps)
+
+pub expanded_alike : (c d : Bool) (p q : ℕ → Bool) (n t : ℕ) → c ≡ d → (c ≡ false → p t ≡ q t) → p cname ≡ q cname
+    → expanded_answer c p n t ≡ expanded_answer d q n t
+expanded_alike c d p q n t cut types alias = grind (arith, common_steps)
+
+-- where all is told that is needed, the answer v is proved
+pub all_told : (low parent told lacks : Bool) (v less : Answer) → (low ≡ true → told ≡ true) → (low ≡ true → lacks ≡ false)
+    → cond (not low || parent) v (cond (not told) NotProven (cond lacks less v)) ≡ v
+all_told low parent told lacks v less f g = grind (arith, common_steps)
 
 -- ---- names that are the same, and names below each other
 
@@ -158,3 +178,153 @@ module _ (L : List ZoneRecord) (a : Name) where
             let up = highest_is x c h f (strictly_other x c (parent_below l x c s) e) in
             (up.0, ap (λ o. option_or o (cond (occludes true L a x) (Some x) None)) up.1, up.2)
       ]
+
+-- ---- each kind of answer is the zone's exactly where what it says is so
+
+module _ (L : List ZoneRecord) (a : Name) where
+  -- what is the same as a name that is not occluded isn't either
+  free_same : (m n : Name) → same_name m n ≡ true → is_unoccluded true L a m ≡ is_unoccluded true L a n
+  free_same m n s = λ j. lowered_below (one_lowered m n s j) (lowered a) && not (occluded_same true L a m n s j)
+
+  -- an owner that is not occluded exists
+  pub owner_exists : (x : Name) → owns L x ≡ true → is_unoccluded true L a x ≡ true → name_exists L a x ≡ true
+  owner_exists x own free =
+      and_from (is_at_or_below x a) (list_any (λ n. is_at_or_below n x) (unoccluded_owners true L a)) (free_parts L a x free).0
+      (any_owner true L a x (λ k. lowered_below k (lowered x)) own free (below_itself x))
+
+  -- ---- the highest occluder
+
+  pub record IsHighest (x o : Name) : Type 0 where
+    pub over : occludes true L a o ≡ true
+    pub free : is_unoccluded true L a o ≡ true
+    pub under : is_strictly_below x o ≡ true
+
+  pub highest_of : (x : Name) → is_occluded true L a x ≡ true → (d : Name) × (highest_occluder L a x ≡ Some d) × IsHighest x d
+  highest_of x e =
+      let top = top_occluder true L a x e in
+      let r = highest_is L a x top.0.name top.0.over (free_parts L a top.0.name top.1).1 top.0.under in (
+        r.0,
+        r.1,
+        record {
+          over = occludes_same true L a r.0 top.0.name r.2 ∙ top.0.over;
+          free = free_same r.0 top.0.name r.2 ∙ top.1;
+          under = strictly_same x r.0 top.0.name r.2 ∙ top.0.under;
+        },
+      )
+
+  some_highest : (x o : Name) → highest_occluder L a x ≡ Some o → IsHighest x o
+  some_highest x o e = grind (arith, common_steps, highest_of, none_above)
+
+  none_highest : (x : Name) → highest_occluder L a x ≡ None → is_occluded true L a x ≡ false
+  none_highest x e = grind (arith, common_steps, highest_of)
+
+  module _ (assume : Bool) (x : Name) (t : ℕ) where
+    abbrev So : Answer → Type 0
+    So = IsSo L a assume x t
+
+    abbrev w : Name
+    w = wildcard_of L a x
+
+    -- ---- what the zone's answer says is so
+
+    module _ (here : IsHere L a x t) where
+      existing_so : name_exists L a x ≡ true → So (owned_answer (is_zone_cut L a x) (owns_type L a assume x) (length x) t)
+      existing_so there = grind (arith, common_steps, (choose_by So), and_parts, same_itself, not-true, not-false)
+
+      missing_so : name_exists L a x ≡ false → So (missing_answer L a assume (length (encloser L a x)) w t)
+      missing_so gone =
+          let absent : IsAbsent L a x t (length (encloser L a x)) = record {
+            missing = and_from (is_unoccluded true L a x) (not (name_exists L a x)) here.free (ap not gone);
+            child = here.child;
+            count = refl;
+          } in
+          search (rules, (choose_by So), not-true, not-false) depth 12
+
+    module _ (low : is_at_or_below x a ≡ true) (child : is_at_parent a x t ≡ false) where
+      occluded_so : (o : Name) → highest_occluder L a x ≡ Some o → So (occluded_answer L a o)
+      occluded_so o e =
+          let h = some_highest x o e in
+          choose_by So (is_zone_cut L a o) (Referral (length o)) (Redirected (length o))
+          (λ c. record { cut = o; count = refl; is_cut = c; free = h.free; below = inl h.under })
+          (λ c. let d = (and_parts (is_at_or_below o a) (has_type (records_of L o) dname) (rw c at h.over)).1 in
+          record { owner = o; count = refl; no_cut = c; owns_dname = d; free = h.free; below = h.under })
+
+      free_here : highest_occluder L a x ≡ None → IsHere L a x t
+      free_here none =
+          record { free = and_from (is_at_or_below x a) (not (is_occluded true L a x)) low (ap not (none_highest x none)); child = child }
+
+      inside_so : (o : Option Name) → highest_occluder L a x ≡ o → So (inside_answer L a assume x t o)
+      inside_so None e = let here = free_here e in search (rules, (choose_by So), (existing_so here), (missing_so here))
+      inside_so (Some o) e = occluded_so o e
+
+    pub answer_so : So (zone_answer L a assume x t)
+    answer_so = search (rules, (choose_by So), not-true, not-false, inside_so) depth 12
+
+    -- ---- and where it is so, that is the answer
+
+    at_inside : is_at_or_below x a ≡ true → is_at_parent a x t ≡ false
+        → zone_answer L a assume x t ≡ inside_answer L a assume x t (highest_occluder L a x)
+    at_inside low child = λ j. cond (not (low j)) OutsideZone (cond (child j) AtParent (inside_answer L a assume x t (highest_occluder L a x)))
+
+    -- below a name of the zone there is no apex
+    apart : (o : Name) → is_strictly_below x o ≡ true → is_at_or_below o a ≡ true → is_at_parent a x t ≡ false
+    apart o under low =
+        let p = and_parts (is_at_or_below x a) (not (same_name x a)) (strictly_trans x o a under low) in
+        and_right (t == ds) (same_name x a) (not-true (same_name x a) p.1)
+
+    at_highest : (o : Name) → IsHighest x o → zone_answer L a assume x t ≡ occluded_answer L a o
+    at_highest o h =
+        let up = free_parts L a o h.free in
+        let low = below_strictly x a (strictly_trans x o a h.under up.0) in
+        let r = highest_is L a x o h.over up.1 h.under in
+        at_inside low (apart o h.under up.0) ∙ ap (inside_answer L a assume x t) r.1
+        ∙ (λ j. cond (cut_same L a r.0 o r.2 j) (Referral (same_count r.0 o r.2 j)) (Redirected (same_count r.0 o r.2 j)))
+
+    at_free : IsHere L a x t → zone_answer L a assume x t ≡ unoccluded_answer L a assume x t
+    at_free h = grind (arith, common_steps, at_inside, and_parts, none_above, free_parts)
+
+    at_existing : IsHere L a x t → name_exists L a x ≡ true
+        → zone_answer L a assume x t ≡ owned_answer (is_zone_cut L a x) (owns_type L a assume x) (length x) t
+    at_existing h there = grind (arith, common_steps, at_free)
+
+    at_missing : (n : ℕ) → IsAbsent L a x t n → zone_answer L a assume x t ≡ missing_answer L a assume (length (encloser L a x)) w t
+    at_missing n h = grind (arith, common_steps, at_free)
+
+    owned_exists : IsHere L a x t → (s : ℕ) → owns_type L a assume x s ≡ true → name_exists L a x ≡ true
+    owned_exists h s o = owner_exists x (and_parts (owns L x) (nsec_lists L a assume x s) o).0 h.free
+
+    referred : (n : ℕ) → IsReferred L a x t n → zone_answer L a assume x t ≡ Referral n
+    referred n h =
+        elim h.below [
+          | inl under ↦
+              at_highest h.cut (record { over = cut_occludes L a h.cut h.is_cut; free = h.free; under = under })
+              ∙ rw h.is_cut (ap Referral (sym h.count))
+          | inr same ↦
+              let free = free_same x h.cut same.0 ∙ h.free in
+              let cut = cut_same L a x h.cut same.0 ∙ h.is_cut in
+              let here : IsHere L a x t = record { free = free; child = λ j. same.1 j && same_name x a } in
+              at_existing here (owner_exists x (cut_owns L a x cut) free) ∙ rw (cut, same.1) (ap Referral (same_count x h.cut same.0 ∙ sym h.count))
+        ]
+
+    redirected : (n : ℕ) → IsRedirected L a x n → zone_answer L a assume x t ≡ Redirected n
+    redirected n h =
+        let over = dname_occludes L a h.owner (free_parts L a h.owner h.free).0 h.owns_dname in
+        at_highest h.owner (record { over = over; free = h.free; under = h.below }) ∙ rw h.no_cut (ap Redirected (sym h.count))
+
+    pub so_answer : (v : Answer) → So v → zone_answer L a assume x t ≡ v
+    so_answer OutsideZone e = rw e
+    so_answer AtParent e = grind (arith, common_steps, one_lowered)
+    so_answer (Referral n) h = referred n h
+    so_answer (Redirected n) h = redirected n h
+    so_answer Has h = grind (arith, common_steps, at_existing, owned_exists)
+    so_answer NoDs h = grind (arith, common_steps, at_existing, owner_exists, cut_owns)
+    so_answer Alias h = at_existing h.0 (owned_exists h.0 cname h.3) ∙ rw (h.1, h.3, h.2)
+    so_answer NoData h = grind (arith, common_steps, at_existing)
+    so_answer (Wildcard n) h = at_missing n h.0 ∙ rw (h.1, h.2) (ap Wildcard (sym h.0.count))
+    so_answer (WildcardAlias n) h = at_missing n h.0 ∙ rw (h.1, h.2, h.3) (ap WildcardAlias (sym h.0.count))
+    so_answer (WildcardNoData n) h = at_missing n h.0 ∙ rw (h.1, h.2, h.3) (ap WildcardNoData (sym h.0.count))
+    so_answer (NameError n) h = at_missing n h.0 ∙ rw h.1 (ap NameError (sym h.0.count))
+    so_answer (MayBeUnsigned n) h = absurd h
+    so_answer (NoCloserName n) h = absurd h
+    so_answer TooManyIterations h = absurd h
+    so_answer NotProven h = absurd h

@@ -1,29 +1,124 @@
--- What the records of an NSEC3 chain answer by themselves is what they prove of the zone.
-use Rattle.std.proofs.Common.{◌≡◌, ℕ, ◌<◌, Bool, true, false, cond, not, ◌&&◌, List, length, sym, ap, ◌∙◌, subst, inl, inr, Option, Some, None, arith}
-use Rattle.std.proofs.lemmas.{Bool.{false_from_ne_true, or_left, or_right}, Grind.common_steps}
-use Rattle.std.specs.{List.Contains, Prelude.Ok}
+-- What the records of an NSEC3 chain answer by themselves is what they prove of the zone, and the whole chain proves all; a zone whose chain leaves
+-- out nothing answers as it does with an NSEC chain; and what records answer is as it is promised.
+use Rattle.std.proofs.Common.{◌≡◌, ℕ, ◌<◌, true, false, cond, length, refl, sym, ap, ◌∙◌, subst, nat_eq, Option, Some, None, arith, Bool, not, ◌&&◌, List}
+use Rattle.std.proofs.lemmas.Bool.{eqb-false, false_from_ne_true, or_left, or_right, cases_lt, false≢true, cases_Bool, and_from, and_parts}
+use Rattle.std.proofs.{Common.{inl, inr, ◌≤◌, ◌+◌, rules, ◌||◌, [], ◌∷◌}, lemmas.{Bool.true_from_ne_false, Grind.common_steps}}
+use Rattle.std.specs.{List.{Contains, list_any}, Prelude.{Ok, ◌==◌, filter}}
 use Rattle.domain_octets.specs.Words.{Octets}
-use Rattle.domain_names.specs.{Name.{is_at_or_below, same_name}, Words.Name}
-use Rattle.domain_base.specs.Types.{cname, dname, ns, soa}
+use Rattle.domain_names.specs.{Name.{same_name, is_at_or_below, last_labels, is_strictly_below}, Words.Name}
+use Rattle.domain_base.specs.Types.{dname, cname, ns, soa, ds, rrsig}
 use Rattle.domain_bitmap.specs.Blocks.{contains_type}
 use Rattle.domain_chain_rdata.specs.OptOut.{is_opt_out}
-use Rattle.domain_zone.{specs.{Enclosers.IsClosestEncloser, Zone.{ZoneRecord, has_type, is_occluded, is_zone_cut, records_of}}, proofs.FindLemmas.in_filter}
-use Rattle.domain_zone.proofs.{NameLemmas.below_length, PairLemmas.{In, all_in}}
-use Rattle.domain_nsec3.specs.{Chain.HashedLink, Config.{ChainConfig, hash_name}, Meaning.IsAlone, Owners.{nsec3_lists, original_owners}}
+use Rattle.domain_zone.proofs.{NameLemmas.{below_length, below_longer, below_parent}, OwnerLemmas.{in_any, below_occluder, occluder_owns}}
+use Rattle.domain_zone.{proofs.FindLemmas.{in_filter, any_none}, specs.Enclosers.{IsClosestEncloser, exists_over}}
+use Rattle.domain_zone.{proofs.PairLemmas.{In, all_in}, specs.Zone.{ZoneRecord, has_type, is_occluded, is_zone_cut, records_of, occludes, unoccluded_owners}}
+use Rattle.domain_nsec.specs.Chain.{Link}
+use Rattle.domain_nsec3.specs.{Chain.{HashedLink, IsHashedChain}, Config.{hash_name, ChainConfig}, Meaning.IsAlone, Owners.{nsec3_lists, original_owners}}
+use Rattle.domain_checker.proofs.EncloserLemmas.{choose_by, either_found, not_below, owner_unoccluded, same_count, apex_from, closest_is, exists_above}
+use Rattle.domain_checker.proofs.HashedListLemmas.{IsClosed, by_way, heard, itself_counted, unheard, cover_denies, match_is_of_name, alone_by, matched_same}
+use Rattle.domain_checker.proofs.HashedVerdictLemmas.{IsGone, IsKnown, IsOfClosest, encloser_is, known_of_first, as_chain, whole_proves as proves_all}
+use Rattle.domain_checker.specs.Alike.{IsHashedAlike}
 use Rattle.domain_checker.specs.{HashedEncloser.{Encloser, IsEncloser, IsFoundEncloser, encloser_is_cut}, HashedFacts.{ChainFacts, ChainsAreKnown}}
-use Rattle.domain_checker.{specs.{HashedVerdict.{is_covered, is_matched, next_closer}, HashedView.{HashedRecords, chain_records}}, proofs.CutLemmas.not_below}
-use Rattle.domain_checker.proofs.{EncloserLemmas.{owner_unoccluded, same_count}, HashedEncloserLemmas.{IsClosed, cover_denies, match_is_of_name}}
-use Rattle.domain_checker.proofs.{HashedListLemmas.alone_by, HashedVerdictLemmas.as_chain}
-use Rattle.domain_checker.proofs.FirstMatchedLemmas.{IsGone, IsKnown, IsOfClosest, encloser_is, known_of_first}
+use Rattle.domain_checker.specs.{HashedList.{is_hash_cover, is_hash_match}, HashedVerdict.{is_covered, is_matched, next_closer, is_below_chain_cut, proves}}
+use Rattle.domain_checker.{proofs.HashedListLemmas.{whole_covers, whole_matches}, specs.HashedView.{HashedRecords, first_cover, first_match, chain_records}}
+use Rattle.domain_checker.{proofs.{AlikeLemmas.paired_with_some, EncloserLemmas.{cut_same, owner_high}}, specs.Facts.NsecChainsAreKnown}
+use Rattle.domain_answer.proofs.EncloserLemmas.{expanded_alike, owned_alike, closest_last, dname_occludes, exists_low, none_below, wildcard_low, last_above}
+use Rattle.domain_answer.proofs.EncloserLemmas.{last_count, all_told, below_strictly, cut_occludes, cut_owns, name_of, none_above, strictly_enclosed}
+use Rattle.domain_answer.proofs.{ChainLemmas.{reading_proved, reading_fits}, EncloserLemmas.{strictly_other, strictly_same, highest_of, owner_exists}}
+use Rattle.domain_answer.specs.Expansion.{missing_closer, ExpansionRestsOn, IsExpansionAnswered, IsExpansionRead, closer_name, closer_told, is_expanded}
 use Rattle.domain_answer.specs.HashedProved.{AreAskedAlone, IsHashedAnswered, hashed_proved_answer, needs_wildcard, tells_encloser, tells_wildcard}
-use Rattle.domain_answer.specs.HashedReading.{IsHashedRead, IsReadOn, IsTold, IsWildcardRead, found_answer, own_answer, wildcard_told}
-use Rattle.domain_answer.specs.Proved.{LeavesOutBelowDname}
-use Rattle.domain_answer.specs.{HashedZoneAnswer.{hashed_encloser, hashed_inside_answer, hashed_wildcard_answer}, TypesAnswer.is_of_child}
-use Rattle.domain_answer.specs.{TypesAnswer.wildcard_types_answer, ZoneAnswer.{is_at_parent, wildcard_below}, declared.answer.Answer.Answer}
-use Rattle.domain_answer.specs.declared.answer.Answer.TheVariants.{Referral, Redirected, NameError, MayBeUnsigned, NoCloserName, NotProven}
-use Rattle.domain_answer.proofs.{ChoiceLemmas.{expanded_alike, owned_alike}, EncloserLemmas.{closest_last, dname_occludes, exists_low, none_below}}
-use Rattle.domain_checker.{specs.Alike.IsHashedAlike, proofs.PairedLemmas.paired_with_some}
-use Rattle.domain_answer.proofs.{EncloserLemmas.wildcard_low, HashedAlikeLemmas.{proved_alike, read_alike}, HashedWayLemmas.{by_encloser, by_told}}
+use Rattle.domain_answer.specs.HashedReading.{IsReadOn, IsTold, IsWildcardRead, encloser_answer, found_answer, next_answer, own_answer, IsHashedRead}
+use Rattle.domain_answer.specs.HashedZoneAnswer.{hashed_encloser, hashed_inside_answer, hashed_wildcard_answer, hashed_exists, hashed_zone_answer}
+use Rattle.domain_answer.specs.ZoneAnswer.{is_at_parent, wildcard_below, asterisk, encloser, highest_occluder, inside_answer, missing_answer, name_exists}
+use Rattle.domain_answer.specs.declared.answer.Answer.TheVariants.{Referral, Redirected, MayBeUnsigned, NoCloserName, NotProven, NameError, TooManyIterations}
+use Rattle.domain_answer.specs.{Expansion.proved_expansion, Reading.reading, ZoneAnswer.{owns_type, zone_answer}}
+use Rattle.domain_answer.specs.{HashedProved.{HasCloserProof, HasEncloserProof, HashedRestsOn}, declared.answer.Answer.TheVariants.{OutsideZone, AtParent}}
+use Rattle.domain_answer.specs.{HashedReading.wildcard_told, Judged.{IsExpansionJudged, IsHashedJudged, IsJudged}, Proved.{LeavesOutBelowDname, CountsWithin}}
+use Rattle.domain_answer.specs.{HashedZoneAnswer.{hashed_missing_answer, is_of_one_chain}, TypesAnswer.{is_of_child, wildcard_types_answer, owned_answer}}
+use Rattle.domain_answer.{proofs.AlikeLemmas.{hashed_proved_alike, read_alike, expansion_alike, proved_expansion_alike}, specs.declared.answer.Answer.Answer}
+
+own_never : (a : Name) (e : Encloser) (t n : ℕ) → own_answer a e t ≡ NoCloserName n → ⊥
+own_never a e t n h = grind (arith, common_steps)
+
+-- P holds of the answer
+module _ (R : HashedRecords) (x : Name) (t : ℕ) (answer : Answer) (P : Answer → Type 0) where
+  -- where it does of what is first said or, if that leaves the wildcard to be asked, of what is read on
+  abbrev Then : Answer → Type 0
+  Then (NoCloserName n) = IsWildcardRead R x t n answer → P answer
+  Then first = P first
+
+  read_then : (first : Answer) → IsReadOn R x t first answer → Then first → P answer
+  read_then (NoCloserName n) read then = then read
+  read_then first read then = subst P (sym read) then
+
+  plain : (v : Answer) → ((n : ℕ) → v ≡ NoCloserName n → ⊥) → P v → Then v
+  plain (NoCloserName n) never p = absurd (never n refl)
+  plain v never p = p
+
+  -- so where it does by each way that leads to an answer
+  pub by_encloser : (e : Encloser) (is : IsEncloser R x e) → IsReadOn R x t (encloser_answer R.apex e (length x) t) answer
+      → (same_name is.name x ≡ true → P (own_answer R.apex e t))
+      → (same_name is.name x ≡ false → encloser_is_cut R.apex e ≡ true → P (Referral e.count))
+      → (same_name is.name x ≡ false → encloser_is_cut R.apex e ≡ false → contains_type e.link.bits dname ≡ true → P (Redirected e.count))
+      → (same_name is.name x ≡ false → encloser_is_cut R.apex e ≡ false → contains_type e.link.bits dname ≡ false
+      → is_covered R (next_closer x is.name) ≡ false → P NotProven)
+      → ((c : IsClosed R x e is.name) → contains_type e.link.bits dname ≡ false → is_opt_out c.link.flags ≡ true → P (MayBeUnsigned e.count))
+      → ((c : IsClosed R x e is.name) → contains_type e.link.bits dname ≡ false → is_opt_out c.link.flags ≡ false → IsWildcardRead R x t e.count answer
+      → P answer) → P answer
+  by_encloser e is read own cut directed gap out wildcard =
+      let redirects = contains_type e.link.bits dname in
+      read_then (encloser_answer R.apex e (length x) t) read
+      (by_way is Then (own_answer R.apex e t) (Referral e.count) (λ o. cond redirects (Redirected e.count) (next_answer e.count o))
+      (λ s. plain (own_answer R.apex e t) (own_never R.apex e t) (own s)) cut
+      (λ s c u. choose_by Then redirects (Redirected e.count) NotProven (directed s c) (λ d. gap s c d u))
+      (λ c. choose_by Then redirects (Redirected e.count) (next_answer e.count (Some c.link)) (directed c.other c.uncut)
+      (λ d. choose_by Then (is_opt_out c.link.flags) (MayBeUnsigned e.count) (NoCloserName e.count) (out c d) (wildcard c d))))
+
+-- and so where it does by each way that a name y is told of
+pub by_told : (R : HashedRecords) (y : Name) (told : Option HashedLink → Option HashedLink → Answer) (answer : Answer) (P : Answer → Type 0)
+    → IsTold R y told answer
+    → ((v : Octets) → hash_name R.hash y ≡ Ok v → (k : HashedLink) → In k R.links → is_hash_match R.apex R.parameters v k ≡ true
+    → is_matched R y ≡ true → P (told (Some k) (first_cover R v)))
+    → ((v : Octets) → hash_name R.hash y ≡ Ok v → (k : HashedLink) → In k R.links → is_hash_cover R.apex R.parameters v k ≡ true
+    → is_covered R y ≡ true → P (told None (Some k)))
+    → (is_matched R y ≡ false → is_covered R y ≡ false → P (told None None)) → P answer
+by_told R y told answer P r match cover none =
+    subst P (sym r.says) (either_found (λ m c. P (told m c)) (first_match R r.value) (first_cover R r.value)
+    (λ f g. none (unheard R.hash (is_hash_match R.apex R.parameters) R.links y r.value r.known f)
+    (unheard R.hash (is_hash_cover R.apex R.parameters) R.links y r.value r.known g))
+    (λ k f. let h = heard R.hash (is_hash_match R.apex R.parameters) R.links y r.value r.known k f in match r.value r.known k h.0 h.1 h.2)
+    (λ k f. let h = heard R.hash (is_hash_cover R.apex R.parameters) R.links y r.value r.known k f in cover r.value r.known k h.0 h.1 h.2))
+
+-- ---- how many labels the closest encloser has
+
+-- fewer than x, if it is another name
+pub shorter : {R : HashedRecords} {x : Name} {e : Encloser} (is : IsEncloser R x e) → same_name is.name x ≡ false → e.count < length x
+shorter {R} {x} {e} is s =
+    let other = eqb-false e.count (length x) (itself_counted is ∙ s) in
+    omega (arith, is.counts, other, below_length x is.name is.first.above)
+
+-- where no more is left to ask than the wildcard
+
+pub closer_counts : (a : Name) (e : Encloser) (m t n : ℕ) → encloser_answer a e m t ≡ NoCloserName n → (n ≡ e.count) × (nat_eq e.count m ≡ false)
+closer_counts a e m t n h = grind (arith, common_steps)
+
+-- the wildcard is told below the closest encloser
+pub record IsAsked (R : HashedRecords) (x : Name) (t n : ℕ) : Type 0 where
+  pub encloser : Encloser
+  pub is : IsEncloser R x encloser
+  pub asks : encloser_answer R.apex encloser (length x) t ≡ NoCloserName encloser.count
+  pub counts : n ≡ encloser.count
+  pub less : n < length x
+
+pub asked_below : (R : HashedRecords) (x : Name) (t n : ℕ) (found : Option Encloser)
+    → IsFoundEncloser R x found → found_answer R.apex found (length x) t ≡ NoCloserName n → IsAsked R x t n
+asked_below R x t n None is e = absurd (cc)
+asked_below R x t n (Some f) is e =
+    let c = closer_counts R.apex f (length x) t n e in
+    let less = shorter is (sym (itself_counted is) ∙ c.1) in
+    record { encloser = f; is = is; asks = e ∙ ap NoCloserName c.0; counts = c.0; less = omega (arith, c.0, less) }
+
+-- ---- what they answer is what they prove
 
 -- of DNAME the chain lists what the name owns
 pub dname_owned : (L : List ZoneRecord) (a : Name) (config : ChainConfig) (d : Name) → nsec3_lists L a config d dname ≡ true
@@ -36,9 +131,9 @@ soa_unlisted L a config n = grind (arith, common_steps)
 
 -- ---- names of the chain
 
-owner_high : (L : List ZoneRecord) (a : Name) (config : ChainConfig) → LeavesOutBelowDname L a config.occlude_below_dname
+original_high : (L : List ZoneRecord) (a : Name) (config : ChainConfig) → LeavesOutBelowDname L a config.occlude_below_dname
     → (o : Name) → In o (original_owners L a config) → is_occluded true L a o ≡ false
-owner_high L a config leaves o i = grind (arith, common_steps, in_filter, owner_unoccluded)
+original_high L a config leaves o i = grind (arith, common_steps, in_filter, owner_unoccluded)
 
 -- ---- what records of the chain tell of a name x at or below the apex
 
@@ -102,7 +197,7 @@ module _ (L : List ZoneRecord) (a : Name) (config : ChainConfig) (listed : List 
       at_dname s c h =
           let owned = dname_owned L a config is.name (sym (known.of_name.types dname (omega arith)) ∙ h) in
           let over = dname_occludes L a is.name is.first.within owned in
-          let k = known.level (none_below L a owners (owner_high L a config leaves) is.name en over closest.found) in
+          let k = known.level (none_below L a owners (original_high L a config leaves) is.name en over closest.found) in
           let g = known.gone s c k in
           rw (k.matched, k.asked ∙ s, k.types dname (omega arith) ∙ h, k.cut ∙ c, g.uncut, g.gone) (ap Redirected k.labels)
 
@@ -185,4 +280,356 @@ read_proved knows R x t answer b low apart read = λ L config links hash paramet
     (subst (λ S. IsHashedRead S x t answer) (as_chain R config hash parameters) read) in
     found_inside L R.apex config some.some x t links (knows L R.apex config links chain) leaves
     (λ k i. all_in (Contains links) some.some k some.among i) low b asked here.found here.is answer here.ends
-    ∙ inside_is L R.apex config some.some x t low apart ∙ sym (proved_alike L R.apex config x t R.links some.some some.alike)
+    ∙ inside_is L R.apex config some.some x t low apart ∙ sym (hashed_proved_alike L R.apex config x t R.links some.some some.alike)
+
+-- ---- the records that an answer rests on are there, and what it counts are labels of the name
+
+module _ (R : HashedRecords) (x : Name) (t : ℕ) (answer : Answer) where
+  abbrev pub Fits : Answer → Type 0
+  Fits v = HashedRestsOn R x v × CountsWithin (length x) v
+
+  wildcard_fits : (n : ℕ) → HasCloserProof R x n → n < length x → IsWildcardRead R x t n answer → Fits answer
+  wildcard_fits n closer less read =
+      by_told R _ (wildcard_told n t) answer Fits read (λ v known k i match there. grind (arith, common_steps))
+      (λ v known k i cover there. ((closer, there), less)) (λ unmatched uncovered. (closer, less))
+
+  fits : (found : Option Encloser) → IsFoundEncloser R x found → IsReadOn R x t (found_answer R.apex found (length x) t) answer → Fits answer
+  fits None is ends = subst Fits (sym ends) (tt, tt)
+  fits (Some e) is ends =
+      let encloser : HasEncloserProof R x e.count = record { longest = is.name; first = is.first; counts = is.counts } in
+      let within : e.count ≤ length x = let l = below_length x is.name is.first.above in let n = is.counts in omega arith in
+      let less : same_name is.name x ≡ false → e.count < length x = shorter is in
+      let closer : is_covered R (next_closer x is.name) ≡ true → HasCloserProof R x e.count = λ c. record { encloser = encloser; covered = c } in
+      by_encloser R x t answer Fits e is ends
+      (λ s. let itself : is_matched R x ≡ true = sym (matched_same R is.name x s) ∙ is.first.found in grind (arith, common_steps))
+      (λ s c. (encloser, within)) (λ s c d. (encloser, within)) (λ s c d u. (tt, tt)) (λ c d out. (closer c.covered, less c.other))
+      (λ c d out read. wildcard_fits e.count (closer c.covered) (less c.other) read)
+
+  pub read_fits : IsHashedRead R x t answer → Fits answer
+  read_fits read = fits read.found read.is read.ends
+
+-- ---- of a name whose records were expanded from a wildcard
+
+-- what such a name is known of
+record IsLonger (a x : Name) (n : ℕ) : Type 0 where
+  below : is_at_or_below x a ≡ true
+  within : length a ≤ n
+  fewer : n < length x
+
+longer : (a x : Name) (n : ℕ) → is_expanded a x n ≡ true → IsLonger a x n
+longer a x n e = grind (arith, common_steps)
+
+-- its last labels, so many and more, are a name at or below the apex
+pub last_low : (a x : Name) (m : ℕ) → is_at_or_below x a ≡ true → length a ≤ m → m ≤ length x → is_at_or_below (last_labels m x) a ≡ true
+last_low a x m low many few = let count = last_count x m few in below_longer x (last_labels m x) a (last_above x m) low (omega arith)
+
+pub closer_low : (a x : Name) (n : ℕ) → is_expanded a x n ≡ true → is_at_or_below (closer_name n x) a ≡ true
+closer_low a x n e = let l = longer a x n e in last_low a x (n + 1) l.below (omega (arith, l.within)) (omega (arith, l.fewer))
+
+-- where the wildcard exists that x is expanded from, and the next closer name doesn't, that is below the closest encloser
+pub expansion_encloser : (L : List ZoneRecord) (a : Name) (config : ChainConfig) (x : Name) (n : ℕ) → is_expanded a x n ≡ true
+    → hashed_exists L a config (wildcard_below (last_labels n x)) ≡ true → hashed_exists L a config (closer_name n x) ≡ false
+    → hashed_encloser L a config x ≡ last_labels n x
+expansion_encloser L a config x n e there gone =
+    let names = original_owners L a config in
+    let base = last_labels n x in
+    let q = closer_name n x in
+    let en = hashed_encloser L a config x in
+    let l = longer a x n e in
+    let fewer : n < length x = l.fewer in
+    let closest = closest_is names a x (apex_from names a (wildcard_below base) there) l.below in
+    let base_low = last_low a x n l.below l.within (omega arith) in
+    let longest = closest.longest base (exists_above names a (wildcard_below base) base there (below_parent asterisk base) base_low) (last_above x n) in
+    let count = last_count x n (omega arith) in
+    let more = last_count x (n + 1) (omega arith) in
+    let labels : length (hashed_encloser L a config x) ≡ n = elim (cases_lt n (length en)) [
+      | inl g ↦
+          let up = below_longer x en q closest.above (last_above x (n + 1)) (omega arith) in
+          absurd (false≢true (sym gone ∙ exists_above names a en q closest.found up (closer_low a x n e)))
+      | inr g ↦ omega arith
+    ] in
+    sym (closest_last names a x) ∙ ap (λ k. last_labels k x) labels
+
+-- ---- what records of a chain answer is what they prove
+
+unproven : (there covered : Bool) (v : Answer) → covered ≡ false → NotProven ≡ cond there NotProven (cond (not covered) NotProven v)
+unproven there covered v e = grind (arith, common_steps)
+
+module _ {L : List ZoneRecord} {a : Name} {config : ChainConfig} {links : List HashedLink}
+    (facts : ChainFacts L a config links) (listed : List HashedLink) (among : (k : HashedLink) → In k listed → Contains links k)
+    (x : Name) (n : ℕ) (low : is_at_or_below (closer_name n x) a ≡ true) (u : Octets) (alone : IsAlone L a config (closer_name n x) u) where
+  told_proved : (answer : Answer) → IsExpansionRead (chain_records a config listed) x n answer → answer ≡ proved_expansion L a config listed x n
+  told_proved answer read =
+      let y = closer_name n x in
+      let R = chain_records a config listed in
+      by_told R y (closer_told n) answer (λ v. v ≡ proved_expansion L a config listed x n) read
+      (λ v known k i matches there. rw ((match_is_of_name facts y v low (alone_by L a config y u v alone known) k (among k i) matches).exists))
+      (λ v known k i covers there.
+      let denial = cover_denies facts y v low (alone_by L a config y u v alone known) k (among k i) covers in
+      rw (denial.flags, denial.absent, there))
+      (λ unmatched uncovered. unproven (hashed_exists L a config y) (is_covered R y) (missing_closer config n) uncovered)
+
+pub expansion_proved : ChainsAreKnown → (R : HashedRecords) (x : Name) (n : ℕ) (answer : Answer)
+    → is_expanded R.apex x n ≡ true → IsExpansionRead R x n answer → IsExpansionAnswered R x n answer
+expansion_proved knows R x n answer e read = λ L config links value hash parameters chain alone among.
+    let some = paired_with_some IsHashedAlike links R.links among in
+    told_proved (knows L R.apex config links chain) some.some (λ k i. all_in (Contains links) some.some k some.among i)
+    x n (closer_low R.apex x n e) value alone answer (expansion_alike (chain_records R.apex config R.links) some.some some.alike x n answer
+    (subst (λ S. IsExpansionRead S x n answer) (as_chain R config hash parameters) read))
+    ∙ sym (proved_expansion_alike L R.apex config x 0 R.links some.some some.alike n)
+
+-- ---- of any records
+
+module _ (R : HashedRecords) (x : Name) (n : ℕ) (answer : Answer) (read : IsExpansionRead R x n answer) where
+  pub expansion_rests : ExpansionRestsOn R x n answer
+  expansion_rests =
+      by_told R (closer_name n x) (closer_told n) answer (ExpansionRestsOn R x n) read (λ v known k i match there. tt)
+      (λ v known k i cover there. grind (arith, common_steps)) (λ unmatched uncovered. tt)
+
+  pub expansion_counts : is_expanded R.apex x n ≡ true → CountsWithin (length x) answer
+  expansion_counts e = grind (arith, common_steps)
+
+-- ---- what records answer by themselves is as it is promised
+
+pub judged : NsecChainsAreKnown → (listed : List Link) (a x : Name) (t : ℕ) → t < 65536 → (answer : Answer) → reading a listed x t ≡ answer
+    → IsJudged listed a x t answer
+judged knows listed a x t small answer is = subst (IsJudged listed a x t) is (record {
+  zone = reading_proved knows listed a x t small;
+  proof = (reading_fits a listed x t).0;
+  exact = refl;
+  within = (reading_fits a listed x t).1;
+})
+
+module _ (knows : ChainsAreKnown) (R : HashedRecords) (x : Name) (limit : ℕ) (answer : Answer) (few : R.parameters.iterations ≤ limit) where
+  pub hashed_judged : (t : ℕ) → t < 65536 → is_at_or_below x R.apex ≡ true → is_at_parent R.apex x t ≡ false → IsHashedRead R x t answer
+      → IsHashedJudged R x t limit (Ok answer)
+  hashed_judged t small low apart read = record {
+    outside = λ off. absurd (false≢true (sym off ∙ low));
+    parent = λ inside at. absurd (false≢true (sym apart ∙ at));
+    iterations = λ asks over. absurd (omega (arith, few, over));
+    zone = λ within. read_proved knows R x t answer small low apart read;
+    exact = λ asks within. read;
+    proof = (read_fits R x t answer read).0;
+    within = (read_fits R x t answer read).1;
+    refusal = grind (arith, common_steps);
+    errors = tt;
+  }
+
+  pub expansion_judged : (n : ℕ) → is_expanded R.apex x n ≡ true → IsExpansionRead R x n answer → IsExpansionJudged R x n limit (Ok answer)
+  expansion_judged n longer read = record {
+    outside = grind (arith, common_steps);
+    none = λ low short. absurd (false≢true (sym short ∙ longer));
+    iterations = λ some over. absurd (omega (arith, few, over));
+    zone = λ some within. expansion_proved knows R x n answer longer read;
+    exact = λ some within. read;
+    proof = expansion_rests R x n answer read;
+    within = expansion_counts R x n answer read longer;
+    refusal = grind (arith, common_steps);
+    errors = tt;
+  }
+
+-- ---- the whole chain proves all that the zone says
+
+-- of a proof that has a record of m, one of m is left, and what closes it
+closed : (m s c d v : Bool) → (m && ((s || c) || v)) ≡ true → (m && (((s || c) || d) || v)) ≡ true
+closed m s c d v e = grind (arith, common_steps)
+
+-- where the wildcard decides, x does not exist
+needs_none : (u g d o w : Bool) → (g ≡ false → w ≡ true) → ((((not u && not g) && not d) && not o) && not w) ≡ false
+needs_none u g d o w f = grind (arith, common_steps)
+
+module _ {L : List ZoneRecord} {a : Name} {config : ChainConfig} {links : List HashedLink} (facts : ChainFacts L a config links) where
+  module _ (x : Name) (low : is_at_or_below x a ≡ true) (asked : AreAskedAlone L a config x) where
+    pub encloser_told : tells_encloser L a config links x ≡ true
+    encloser_told =
+        let told : proves L a config links x ≡ true = proves_all facts x low asked.ancestors in
+        grind (arith, common_steps, closed)
+
+    w_told : hashed_exists L a config x ≡ false → tells_wildcard L a config links x ≡ true
+    w_told gone =
+        let w = wildcard_below (hashed_encloser L a config x) in
+        let low_w = wildcard_low (original_owners L a config) a x (hashed_encloser L a config x) (encloser_is facts x low) in
+        let g = asked.wildcard gone in
+        elim (cases_Bool (hashed_exists L a config w)) [
+          | inl e ↦ or_left (is_matched (chain_records a config links) w) _ (whole_matches facts w low_w g.0 g.1 e)
+          | inr e ↦ or_right (is_matched (chain_records a config links) w) _ (whole_covers facts w low_w g.0 g.1 e)
+        ]
+
+    -- what is needed is told
+    needed_told : (needs_wildcard L a config x && not (tells_wildcard L a config links x)) ≡ false
+    needed_told =
+        needs_none (is_below_chain_cut L a config x) (hashed_exists L a config x) (nsec3_lists L a config (hashed_encloser L a config x) dname)
+        (is_opt_out config.flags) (tells_wildcard L a config links x) w_told
+
+pub whole_proves : ChainsAreKnown → (L : List ZoneRecord) (a : Name) (config : ChainConfig) (links : List HashedLink)
+    (x : Name) (t : ℕ) → LeavesOutBelowDname L a config.occlude_below_dname → IsHashedChain L a config links → AreAskedAlone L a config x
+    → hashed_proved_answer L a config links x t ≡ hashed_zone_answer L a config x t
+whole_proves knows L a config links x t leaves chain asked =
+    let facts = knows L a config links chain in
+    all_told (is_at_or_below x a) (is_at_parent a x t) (tells_encloser L a config links x)
+    (needs_wildcard L a config x && not (tells_wildcard L a config links x)) (hashed_zone_answer L a config x t)
+    (NoCloserName (length (hashed_encloser L a config x)))
+    (λ low. encloser_told facts x low asked) (λ low. needed_told facts x low asked)
+
+-- of names whose records were expanded from a wildcard
+pub whole_closer : ChainsAreKnown → (L : List ZoneRecord) (a : Name) (config : ChainConfig) (links : List HashedLink) (x : Name) (n : ℕ) (v : Octets)
+    → IsHashedChain L a config links → is_expanded a x n ≡ true → IsAlone L a config (closer_name n x) v
+    → hashed_exists L a config (closer_name n x) ≡ false → proved_expansion L a config links x n ≡ missing_closer config n
+whole_closer knows L a config links x n v chain e alone gone =
+    let covered = whole_covers (knows L a config links chain) (closer_name n x) (closer_low a x n e) v alone gone in
+    λ j. cond (gone j) NotProven (cond (not (covered j)) NotProven (missing_closer config n))
+
+-- ---- a zone says something of each name: records give more answers
+
+abbrev pub IsOfZone : Answer → Type 0
+IsOfZone (NoCloserName n) = ⊥
+IsOfZone TooManyIterations = ⊥
+IsOfZone NotProven = ⊥
+IsOfZone _ = Unit {0}
+
+pub zone_says : (L : List ZoneRecord) (a : Name) (config : ChainConfig) (x : Name) (t : ℕ) → IsOfZone (hashed_zone_answer L a config x t)
+zone_says L a config x t = search (rules, (choose_by IsOfZone)) depth 12
+
+-- ---- a zone whose NSEC3 chain leaves out nothing answers as it does with an NSEC chain
+
+all_kept : {X : Type 0} (xs : List X) → filter (λ x. true) xs ≡ xs
+all_kept [] = refl
+all_kept (x ∷ xs) = ap (λ ys. x ∷ ys) (all_kept xs)
+
+-- at a zone cut the chains don't list RRSIG alike, where there is no DS record, and nothing is asked of that
+signed_at : (t : ℕ) (cut : Bool) → (cut && not (t == ds)) ≡ false → ((t == rrsig) && cut) ≡ false
+signed_at t cut e = grind (arith, common_steps)
+
+wildcard_apart : (a x e : Name) (t : ℕ) → is_at_or_below e a ≡ true → is_of_one_chain a x t ≡ false → is_of_one_chain a (wildcard_below e) t ≡ false
+wildcard_apart a x e t low apart = grind (arith, common_steps)
+
+module _ (L : List ZoneRecord) (a : Name) (config : ChainConfig) where
+  -- types that both chains list alike
+  types_alike : (y : Name) (t : ℕ) → is_of_one_chain a y t ≡ false → ((t == rrsig) && is_zone_cut L a y) ≡ false
+      → nsec3_lists L a config y t ≡ owns_type L a config.assume_dnskeys_will_be_added y t
+  types_alike y t apart free = grind (arith, common_steps)
+
+  -- the chain lists the same types for each spelling of a name
+  abbrev pub IgnoresSpelling : Type 0
+  IgnoresSpelling = (x y : Name) → same_name x y ≡ true → (t : ℕ) → nsec3_lists L a config x t ≡ nsec3_lists L a config y t
+
+  -- names, where nothing is left out
+  module _ (out : is_opt_out config.flags ≡ false) (leaves : LeavesOutBelowDname L a config.occlude_below_dname) where
+    owners_are : original_owners L a config ≡ unoccluded_owners true L a
+    owners_are = grind (arith, common_steps, (all_kept (unoccluded_owners true L a)))
+
+    -- where some name has a zone_closest encloser, the apex exists
+    pub apex_of_chain : (e : Name) → IsClosestEncloser (original_owners L a config) a a e → name_exists L a a ≡ true
+    apex_of_chain e zone_closest = ap (λ names. exists_over names a a) (sym owners_are) ∙ apex_from (original_owners L a config) a e zone_closest.found
+
+-- ---- a name of the zone
+
+module _ (L : List ZoneRecord) (a : Name) (config : ChainConfig) (x : Name) (t : ℕ) where
+  abbrev assume : Bool
+  assume = config.assume_dnskeys_will_be_added
+
+  abbrev zone_owners : List Name
+  zone_owners = unoccluded_owners true L a
+
+  abbrev zone_encloser : Name
+  zone_encloser = encloser L a x
+
+  abbrev wild : Name
+  wild = wildcard_below zone_encloser
+
+  -- a zone cut that is not occluded is above x
+  abbrev under_cut : Bool
+  under_cut = list_any (λ n. is_zone_cut L a n && is_strictly_below x n) zone_owners
+
+  -- a zone cut above x that exists is one
+  cut_over : (d : Name) → name_exists L a d ≡ true → is_zone_cut L a d ≡ true → is_strictly_below x d ≡ true → under_cut ≡ true
+  cut_over d there c under =
+      let m = name_of zone_owners a d there in
+      let same = true_from_ne_false (same_name m.0 d) (λ s.
+      false≢true (sym (owner_high true L a m.0 m.1) ∙ below_occluder true L a d m.0 (cut_occludes L a d c) (strictly_other m.0 d m.2 s))) in
+      in_any (λ n. is_zone_cut L a n && is_strictly_below x n) zone_owners m.0 m.1
+      (and_from (is_zone_cut L a m.0) (is_strictly_below x m.0) (cut_same L a m.0 d same ∙ c) (strictly_same x m.0 d same ∙ under))
+
+  module _ (out : is_opt_out config.flags ≡ false) (leaves : LeavesOutBelowDname L a config.occlude_below_dname) (apex : name_exists L a a ≡ true)
+      (low : is_at_or_below x a ≡ true) (apart : is_of_one_chain a x t ≡ false) (alike : IgnoresSpelling L a config) where
+    zone_closest : IsClosestEncloser zone_owners a x zone_encloser
+    zone_closest = closest_is zone_owners a x apex low
+
+    encloser_low : is_at_or_below zone_encloser a ≡ true
+    encloser_low = exists_low zone_owners a zone_encloser zone_closest.found
+
+    -- a name that occludes, and that exists above x, is its zone_closest encloser
+    en_same : (d : Name) → occludes true L a d ≡ true → name_exists L a d ≡ true → is_strictly_below x d ≡ true → same_name zone_encloser d ≡ true
+    en_same d over there under =
+        let up = below_strictly x d under in
+        let down = below_longer x zone_encloser d zone_closest.above up (zone_closest.longest d there up) in
+        true_from_ne_false (same_name zone_encloser d) (λ s.
+        none_below L a zone_owners (owner_high true L a) d zone_encloser over zone_closest.found (strictly_other zone_encloser d down s))
+
+    existing : owned_answer (is_zone_cut L a x) (nsec3_lists L a config x) (length x) t ≡ owned_answer (is_zone_cut L a x) (owns_type L a assume x) (length x) t
+    existing =
+        owned_alike (is_zone_cut L a x) (is_zone_cut L a x) (nsec3_lists L a config x) (owns_type L a assume x) (length x) (length x) t refl
+        (λ e. types_alike L a config x t apart (signed_at t (is_zone_cut L a x) e)) (types_alike L a config x cname refl refl) refl
+
+    wildcard : hashed_wildcard_answer L a config (length zone_encloser) wild t ≡ missing_answer L a assume (length zone_encloser) wild t
+    wildcard = λ i. cond (not (exists_over (owners_are L a config out leaves i) a wild)) (NameError (length zone_encloser))
+        (expanded_alike (is_zone_cut L a wild) (is_zone_cut L a wild) (nsec3_lists L a config wild) (owns_type L a assume wild) (length zone_encloser) t refl
+        (λ e. types_alike L a config wild t (wildcard_apart a x zone_encloser t encloser_low apart)
+        (signed_at t (is_zone_cut L a wild) (ap (λ c. c && not (t == ds)) e)))
+        (types_alike L a config wild cname refl refl) i)
+
+    hashed_inside_is : hashed_inside_answer L a config x t
+        ≡ cond under_cut (Referral (length zone_encloser)) (cond (name_exists L a x) (owned_answer (is_zone_cut L a x) (nsec3_lists L a config x) (length x) t)
+        (hashed_missing_answer L a config zone_encloser t))
+    hashed_inside_is = grind (arith, common_steps, owners_are)
+
+    -- what is occluded is below its zone_closest encloser, a zone cut or an owner of a DNAME record
+    at_occluded : is_occluded true L a x ≡ true → hashed_inside_answer L a config x t ≡ inside_answer L a assume x t (highest_occluder L a x)
+    at_occluded e =
+        let top = highest_of L a x e in
+        let d = top.0 in
+        let there = owner_exists L a d (occluder_owns true L a d top.2.over) top.2.free in
+        let same = en_same d top.2.over there top.2.under in
+        elim (cases_Bool (is_zone_cut L a d)) [
+          | inl c ↦ rw (hashed_inside_is, cut_over d there c top.2.under, top.1, c) (ap Referral (same_count zone_encloser d same))
+          | inr c ↦
+              let uncut : under_cut ≡ false = any_none (λ n. is_zone_cut L a n && is_strictly_below x n) zone_owners (λ n i.
+              false_from_ne_true (is_zone_cut L a n && is_strictly_below x n) (λ f.
+              let p = and_parts (is_zone_cut L a n) (is_strictly_below x n) f in
+              let n_there = owner_exists L a n (cut_owns L a n p.0) (owner_unoccluded true L a n i) in
+              let n_same = en_same n (cut_occludes L a n p.0) n_there p.1 in
+              false≢true (sym c ∙ sym (cut_same L a zone_encloser d same) ∙ cut_same L a zone_encloser n n_same ∙ p.0))) in
+              let gone = false_from_ne_true (name_exists L a x) (λ h. none_below L a zone_owners (owner_high true L a) d x top.2.over h top.2.under) in
+              let owned : has_type (records_of L d) dname ≡ true = grind (arith, common_steps, and_parts) in
+              let listed : nsec3_lists L a config d dname ≡ true = grind (arith, common_steps, (occluder_owns true L a d top.2.over)) in
+              rw (hashed_inside_is, uncut, gone, alike zone_encloser d same dname ∙ listed, top.1, c) (ap Redirected (same_count zone_encloser d same))
+        ]
+
+    -- what is not is below no zone cut, and its zone_closest encloser owns no DNAME record
+    at_free : is_occluded true L a x ≡ false → hashed_inside_answer L a config x t ≡ inside_answer L a assume x t (highest_occluder L a x)
+    at_free e =
+        let uncut : under_cut ≡ false = any_none (λ n. is_zone_cut L a n && is_strictly_below x n) zone_owners (λ n i.
+        grind (arith, common_steps, (below_occluder true L a n x), (cut_occludes L a n))) in
+        elim (cases_Bool (name_exists L a x)) [
+          | inl there ↦ rw (hashed_inside_is, uncut, there, none_above L a x e, there) existing
+          | inr gone ↦
+              let undirected = false_from_ne_true (nsec3_lists L a config zone_encloser dname) (λ h.
+              let over = dname_occludes L a zone_encloser encloser_low (dname_owned L a config zone_encloser h) in
+              false≢true (sym e ∙ below_occluder true L a zone_encloser x over (strictly_enclosed zone_owners a x zone_encloser zone_closest gone))) in
+              rw (hashed_inside_is, uncut, gone, undirected, none_above L a x e, gone)
+              ((λ i. cond (out i) (MayBeUnsigned (length zone_encloser)) (hashed_wildcard_answer L a config (length zone_encloser) wild t)) ∙ wildcard)
+        ]
+
+    zone_inside : hashed_inside_answer L a config x t ≡ inside_answer L a assume x t (highest_occluder L a x)
+    zone_inside = elim (cases_Bool (is_occluded true L a x)) [ inl e ↦ at_occluded e | inr e ↦ at_free e ]
+
+-- of other names it says the same
+inside_alone : (low parent : Bool) (u v : Answer) → (low ≡ true → u ≡ v)
+    → cond (not low) OutsideZone (cond parent AtParent u) ≡ cond (not low) OutsideZone (cond parent AtParent v)
+inside_alone low parent u v f = grind (arith, common_steps)
+
+pub zone_alike : (L : List ZoneRecord) (a : Name) (config : ChainConfig) → is_opt_out config.flags ≡ false → LeavesOutBelowDname L a config.occlude_below_dname
+    → IgnoresSpelling L a config → name_exists L a a ≡ true → (x : Name) (t : ℕ) → is_of_one_chain a x t ≡ false
+    → hashed_zone_answer L a config x t ≡ zone_answer L a config.assume_dnskeys_will_be_added x t
+zone_alike L a config out leaves alike apex x t apart =
+    inside_alone (is_at_or_below x a) (is_at_parent a x t) _ _ (λ low. zone_inside L a config x t out leaves apex low apart alike)

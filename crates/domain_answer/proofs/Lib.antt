@@ -1,15 +1,4 @@
-pub mod ChoiceLemmas
-pub mod EncloserLemmas
 pub mod ChainLemmas
-pub mod ProofLemmas
+pub mod EncloserLemmas
 pub mod AlikeLemmas
-pub mod WholeLemmas
-pub mod KindLemmas
-pub mod HashedWayLemmas
 pub mod HashedAnswerLemmas
-pub mod HashedProofLemmas
-pub mod HashedAlikeLemmas
-pub mod HashedWholeLemmas
-pub mod HashedZoneLemmas
-pub mod ExpansionLemmas
-pub mod JudgedLemmas

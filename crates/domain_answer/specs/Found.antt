@@ -10,13 +10,11 @@ use Rattle.domain_answer.specs.declared.found.{NsecCover.NsecCover, NsecFound.{N
 abbrev pub cover_link : {O N : Type 0} → (N → Name) → NsecCover O N → Link
 cover_link labels c = as_link labels c.record.now
 
--- the longer of the names that x shares with the owner and the next name
-abbrev pub longer_shared : Link → Name → Name
-longer_shared k x = longer (shared x k.owner) (shared x k.next)
-
--- it has so many labels
+-- the longer of the names that x shares with its owner and its next name has so many labels
 abbrev pub IsSharing : {O N : Type 0} → (N → Name) → Name → NsecCover O N → Type 0
-IsSharing labels x c = c.shared ≡ length (longer_shared (cover_link labels c) x)
+IsSharing labels x c =
+    let k = cover_link labels c in
+    c.shared ≡ length (longer (shared x k.owner) (shared x k.next))
 
 -- the match that was found; the cover, which is looked for where there is no match
 abbrev pub found_match : {O N : Type 0} → (N → Name) → NsecFound O N → Option Link

@@ -82,11 +82,6 @@ abbrev pub HasWildcardProof : HashedRecords → Name → ℕ → Type 0
 HasWildcardProof R x n =
     HasCloserProof R x n × (is_matched R (wildcard_below (last_labels n x)) ≡ true)
 
--- or covers it
-abbrev pub HasDenialProof : HashedRecords → Name → ℕ → Type 0
-HasDenialProof R x n =
-    HasCloserProof R x n × (is_covered R (wildcard_below (last_labels n x)) ≡ true)
-
 -- the records that an answer rests on are there, whatever else the list has
 abbrev pub HashedRestsOn : HashedRecords → Name → Answer → Type 0
 HashedRestsOn R x OutsideZone = Unit {0}
@@ -96,7 +91,8 @@ HashedRestsOn R x (Redirected n) = HasEncloserProof R x n
 HashedRestsOn R x (Wildcard n) = HasWildcardProof R x n
 HashedRestsOn R x (WildcardAlias n) = HasWildcardProof R x n
 HashedRestsOn R x (WildcardNoData n) = HasWildcardProof R x n
-HashedRestsOn R x (NameError n) = HasDenialProof R x n
+HashedRestsOn R x (NameError n) =
+    HasCloserProof R x n × (is_covered R (wildcard_below (last_labels n x)) ≡ true)
 HashedRestsOn R x (MayBeUnsigned n) = HasCloserProof R x n
 HashedRestsOn R x (NoCloserName n) = HasCloserProof R x n
 HashedRestsOn R x TooManyIterations = Unit {0}

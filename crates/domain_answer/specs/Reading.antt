@@ -28,12 +28,8 @@ owner_answer a k =
 abbrev pub match_answer : Name → Link → ℕ → Answer
 match_answer a k t = types_answer (is_at_cut a k) k.bits (length k.owner) t
 
--- what the record of a wildcard says of a name whose closest encloser, right above the wildcard,
--- has n labels
-abbrev pub wildcard_match_answer : Name → ℕ → Link → ℕ → Answer
-wildcard_match_answer a n k t = wildcard_types_answer (is_at_cut a k) k.bits n t
-
--- what a record that covers the wildcard w says of such a name
+-- what a record that covers the wildcard w says of a name whose closest encloser, right above the
+-- wildcard, has n labels
 abbrev pub wildcard_cover_answer : Name → ℕ → Link → Name → Answer
 wildcard_cover_answer a n k w =
     if tells_occluded a k w then NoCloserName n else
@@ -41,7 +37,7 @@ wildcard_cover_answer a n k w =
 
 -- a match counts before a cover
 abbrev pub wildcard_both : Name → ℕ → Name → ℕ → Option Link → Option Link → Answer
-wildcard_both a n w t (Some k) covering = wildcard_match_answer a n k t
+wildcard_both a n w t (Some k) covering = wildcard_types_answer (is_at_cut a k) k.bits n t
 wildcard_both a n w t None (Some k) = wildcard_cover_answer a n k w
 wildcard_both a n w t None None = NoCloserName n
 

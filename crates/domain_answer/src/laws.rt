@@ -7,15 +7,12 @@ ghost use Rattle.domain_chain_rdata.specs.OptOut.{is_opt_out};
 ghost use Rattle.domain_zone.specs.Zone.{has_type, is_occluded, OwnersNeverDescend, ZoneRecord};
 ghost use Rattle.domain_nsec.specs.{Chain.{IsChain, Link}, declared.config.GenerateNsecConfig.GenerateNsecConfig};
 ghost use Rattle.domain_nsec3.specs.{Chain.{HashedLink, IsHashedChain}, Config.ChainConfig, Meaning.IsAlone};
-ghost use Rattle.domain_checker.specs.Alike.{ArePaired, IsAlike, IsHashedAlike};
-ghost use Rattle.domain_checker.specs.HashedView.{HashedRecords, with_links};
-ghost use Rattle.domain_answer.specs.Expansion.{closer_name, is_expanded, missing_closer, proved_expansion, ExpansionRestsOn, IsExpansionAnswered, IsExpansionRead};
-ghost use Rattle.domain_answer.specs.HashedProved.{hashed_proved_answer, AreAskedAlone, HashedRestsOn, IsHashedAnswered};
-ghost use Rattle.domain_answer.specs.HashedReading.{IsHashedRead};
-ghost use Rattle.domain_answer.specs.HashedZoneAnswer.{hashed_encloser, hashed_exists, hashed_zone_answer, is_of_one_chain};
-ghost use Rattle.domain_answer.specs.Proved.{proved_answer, CountsWithin, IsAnswered, LeavesOutBelowDname, RestsOn};
-ghost use Rattle.domain_answer.specs.ZoneAnswer.{is_at_parent, name_exists, wildcard_below, zone_answer};
-ghost use Rattle.domain_answer.specs.{Kinds.IsSo, Reading.reading, declared.answer.Answer.Answer};
+ghost use Rattle.domain_checker.specs.{Alike.{ArePaired, IsAlike, IsHashedAlike}, HashedView.{HashedRecords, with_links}};
+ghost use Rattle.domain_answer.specs.Expansion.{closer_name, is_expanded, missing_closer, proved_expansion, ExpansionRestsOn, IsExpansionAnswered};
+ghost use Rattle.domain_answer.specs.{Expansion.IsExpansionRead, HashedProved.{hashed_proved_answer, AreAskedAlone, HashedRestsOn, IsHashedAnswered}};
+ghost use Rattle.domain_answer.specs.{HashedReading.IsHashedRead, HashedZoneAnswer.{hashed_encloser, hashed_exists, hashed_zone_answer, is_of_one_chain}};
+ghost use Rattle.domain_answer.specs.{Kinds.IsSo, Proved.{proved_answer, CountsWithin, IsAnswered, LeavesOutBelowDname, RestsOn}, Reading.reading};
+ghost use Rattle.domain_answer.specs.{ZoneAnswer.{is_at_parent, name_exists, wildcard_below, zone_answer}, declared.answer.Answer.Answer};
 ghost use Rattle.domain_answer.specs.declared.answer.Answer.TheVariants.{NoCloserName, NotProven, TooManyIterations};
 
 use domain_checker::laws::{chains_are_known, hashed_chains_are_known};
@@ -23,7 +20,7 @@ use domain_nsec3::laws as nsec3_laws;
 
 /// Each kind of answer is the zone's exactly where what it says is so; of each name and type
 /// exactly one kind holds.
-#[tactic(auto, using(crate::proofs::KindLemmas::answer_so, crate::proofs::KindLemmas::so_answer))]
+#[tactic(auto, using(crate::proofs::EncloserLemmas::answer_so, crate::proofs::EncloserLemmas::so_answer))]
 pub fn one_kind_of_answer_holds()
     ensures so { (L : List ZoneRecord) (a : Name) (assume : Bool) (x : Name) (t : ℕ)
         → IsSo L a assume x t (zone_answer L a assume x t) }
@@ -54,7 +51,7 @@ pub fn readings_ignore_case_and_ttl()
 
 /// The whole chain of a zone proves what the zone says of every name and type, and the zone says
 /// something of each, also of each wildcard.
-#[tactic(auto, using(crate::proofs::WholeLemmas::whole_proves, crate::proofs::KindLemmas::answer_so))]
+#[tactic(auto, using(crate::proofs::ChainLemmas::whole_proves, crate::proofs::EncloserLemmas::answer_so))]
 pub fn whole_chains_prove_all()
     ensures zone { (L : List ZoneRecord) (a : Name) (config : GenerateNsecConfig)
         (links : List Link) (x : Name) (t : ℕ) → LeavesOutBelowDname L a config.occlude_below_dname
@@ -72,7 +69,7 @@ pub fn whole_chains_prove_all()
 /// A chain, NSEC or NSEC3, leaves out the names below an owner of a DNAME record where that was
 /// chosen, where the zone has no such record, and where it has none below one that is not below a
 /// zone cut too.
-#[tactic(auto, using(crate::proofs::WholeLemmas::left_out_without_dname, crate::proofs::WholeLemmas::none_left_out))]
+#[tactic(auto, using(crate::proofs::ChainLemmas::left_out_without_dname, crate::proofs::ChainLemmas::none_left_out))]
 pub fn chains_leave_out_names_below_dname()
     ensures chosen { (L : List ZoneRecord) (a : Name) (below_dname : Bool) → below_dname ≡ true
         → LeavesOutBelowDname L a below_dname }
@@ -138,7 +135,7 @@ pub fn expansions_ignore_case_and_ttl()
 
 /// The whole NSEC3 chain of a zone proves what the zone says of every name and type, where no other
 /// name of the chain has a hash that is asked for; and the zone says something of each.
-#[tactic(auto, using(crate::proofs::HashedWholeLemmas::whole_proves, crate::proofs::HashedWholeLemmas::zone_says))]
+#[tactic(auto, using(crate::proofs::HashedAnswerLemmas::whole_proves, crate::proofs::HashedAnswerLemmas::zone_says))]
 pub fn hashed_whole_chains_prove_all()
     ensures zone { (L : List ZoneRecord) (a : Name) (config : ChainConfig)
         (links : List HashedLink) (x : Name) (t : ℕ)
@@ -158,7 +155,7 @@ pub fn hashed_whole_chains_prove_all()
 /// The whole NSEC3 chain of a zone proves of each name that was expanded from a wildcard that the
 /// zone does not have the next closer name, where it does not and no name of the chain has the hash
 /// of that.
-#[tactic(auto, using(crate::proofs::HashedWholeLemmas::whole_closer))]
+#[tactic(auto, using(crate::proofs::HashedAnswerLemmas::whole_closer))]
 pub fn hashed_whole_chains_prove_expansions()
     ensures { (L : List ZoneRecord) (a : Name) (config : ChainConfig) (links : List HashedLink)
         (x : Name) (n : ℕ) (value : Octets) → IsHashedChain L a config links

@@ -1,8 +1,7 @@
 //! What records of an NSEC chain answer.
 ghost use Rattle.std.specs.Prelude.{◌≡◌};
 ghost use Rattle.domain_nsec.specs.ChainView.{as_link, links_of};
-ghost use Rattle.domain_answer.specs.{Judged.IsJudged, ZoneAnswer.is_at_parent};
-ghost use Rattle.domain_answer.specs.Reading.{owner_answer, reading, tells_occluded, wildcard_answer, wildcard_cover_answer, IsNameAnswer};
+ghost use Rattle.domain_answer.specs.{Judged.IsJudged, Reading.{reading, tells_occluded, wildcard_answer, IsNameAnswer}, ZoneAnswer.is_at_parent};
 
 use crate::found::{NsecFound, find_nsec};
 use crate::of_types::{types_answer, wildcard_types_answer};
@@ -35,38 +34,6 @@ fn tells_occluded<A: ToName, O: Octets, N: ToName, M: ToName>(
         && (is_at_cut(apex, listed) || listed.data().types().contains(Rtype::DNAME))
 }
 
-/// What a record whose owner is a zone cut or owns a DNAME record says of the names strictly below
-/// the owner.
-fn owner_answer<A: ToName, O: Octets, N: ToName>(apex: &A, listed: &NsecRr<O, N>) -> Answer
-    ensures { result ≡ owner_answer (A.labels apex.now) (as_link N.labels listed.now) }
-{
-    let count = listed.owner().count_labels();
-    if is_at_cut(apex, listed) {
-        return Answer::Referral(count);
-    }
-    Answer::Redirected(count)
-}
-
-/// What a record that covers a wildcard says of a name whose closest encloser, right above the
-/// wildcard, has so many labels.
-fn wildcard_cover_answer<A: ToName, O: Octets, N: ToName>(
-    apex: &A,
-    count: usize,
-    listed: &NsecRr<O, N>,
-    wildcard: &ParsedName<'_>,
-) -> Answer
-    ensures { result ≡ wildcard_cover_answer (A.labels apex.now) count
-        (as_link N.labels listed.now) wildcard.now }
-{
-    if tells_occluded(apex, listed, wildcard) {
-        return Answer::NoCloserName(count);
-    }
-    if is_strictly_below(listed.data().next_name(), wildcard) {
-        return Answer::WildcardNoData(count);
-    }
-    Answer::NameError(count)
-}
-
 /// What records of an NSEC chain answer to a question about a type and a name that is known not to
 /// exist, whose closest encloser has so many labels: what they say of the wildcard right below that
 /// one (RFC 4035, section 3.1.3.4), which is handed in. `NoCloserName` where they don't say.
@@ -86,7 +53,14 @@ pub fn judge_wildcard<A: ToName, O: Octets, N: ToName>(
             wildcard_types_answer(listed.data().types(), at_cut, count, rtype)
         }
         NsecFound::NoMatch(Some(cover)) => {
-            wildcard_cover_answer(apex, count, cover.record, wildcard)
+            let listed = cover.record;
+            if tells_occluded(apex, listed, wildcard) {
+                return Answer::NoCloserName(count);
+            }
+            if is_strictly_below(listed.data().next_name(), wildcard) {
+                return Answer::WildcardNoData(count);
+            }
+            Answer::NameError(count)
         }
         NsecFound::NoMatch(None) => Answer::NoCloserName(count),
     }
@@ -124,7 +98,11 @@ pub fn judge_name<A: ToName, O: Octets, N: ToName, M: ToName>(
     };
     let listed = cover.record;
     if tells_occluded(apex, listed, name) {
-        return NameAnswer::Given(owner_answer(apex, listed));
+        let count = listed.owner().count_labels();
+        if is_at_cut(apex, listed) {
+            return NameAnswer::Given(Answer::Referral(count));
+        }
+        return NameAnswer::Given(Answer::Redirected(count));
     }
     if is_strictly_below(listed.data().next_name(), name) {
         return NameAnswer::Given(Answer::NoData);

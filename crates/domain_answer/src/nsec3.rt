@@ -1,13 +1,11 @@
 //! What records of an NSEC3 chain answer.
-ghost use Rattle.std.specs.{Prelude.{◌≡◌, ◌<◌, Err, length, IfErr, IfOk, IsErrOf}, Option.option_map};
+ghost use Rattle.std.specs.{Option.option_map, Prelude.{◌≡◌, ◌<◌, Err, length, IfErr, IfOk, IsErrOf}};
 ghost use Rattle.domain_names.specs.Name.{last_labels};
 ghost use Rattle.domain_nsec3.specs.{Config.hash_name, Faults.IsNoHash, View.as_hashed_link};
+ghost use Rattle.domain_checker.specs.{HashedEncloser.encloser_of, HashedPass.{found_cover, found_match}, HashedView.{hash_with, hashed_records}};
+ghost use Rattle.domain_answer.specs.{HashedReading.{answer_by, flag_of, found_answer, next_by, wildcard_told, IsWildcardRead}, Judged.IsHashedJudged};
+ghost use Rattle.domain_answer.specs.ZoneAnswer.{wildcard_below};
 ghost use Rattle.domain_hasher.specs.declared.error.Nsec3HashError.TheVariants as hash_error;
-ghost use Rattle.domain_checker.specs.HashedEncloser.{encloser_of};
-ghost use Rattle.domain_checker.specs.HashedPass.{found_cover, found_match};
-ghost use Rattle.domain_checker.specs.HashedView.{hash_with, hashed_records};
-ghost use Rattle.domain_answer.specs.HashedReading.{answer_by, flag_of, found_answer, next_by, wildcard_told, IsWildcardRead};
-ghost use Rattle.domain_answer.specs.{Judged.IsHashedJudged, ZoneAnswer.wildcard_below};
 
 use crate::Answer;
 use crate::nsec::is_at_parent;

@@ -1,12 +1,28 @@
--- The first of a name and its ancestors that exists is its closest encloser, and an occluded name is below a name that occludes and is not occluded itself.
-use Rattle.std.proofs.Common.{◌≡◌, ℕ, ◌<◌, ◌≤◌, Bool, zero, suc, true, false, not, List, [], ◌∷◌, map, length, sym, ap, ◌∙◌, inl, inr, arith}
-use Rattle.std.{proofs.lemmas.{Bool.{cases_Bool, and_parts, and_from}, List.length-map, Grind.common_steps}, specs.Char.to_ascii_lowercase}
+-- What holds of several values holds of the one that is chosen; closest enclosers, names that occlude, and zone cuts of NSEC3 chains.
+use Rattle.std.proofs.Common.{◌≡◌, Bool, true, false, cond, refl, Option, Some, None, arith, ℕ, ◌<◌, ◌≤◌, zero, suc, not, List, [], ◌∷◌, map, length, sym, ap}
+use Rattle.std.proofs.{Common.{◌∙◌, inl, inr}, lemmas.{Bool.{cases_Bool, and_parts, and_from, false_from_ne_true}, Grind.common_steps, List.length-map}}
+use Rattle.std.specs.Char.{to_ascii_lowercase}
 use Rattle.domain_names.specs.{Name.{is_at_or_below, is_strictly_below, same_name}, Words.Name}
-use Rattle.domain_zone.specs.{Enclosers.{IsClosestEncloser, exists_over}, Zone.{ZoneRecord, is_zone_cut, occludes, is_occluded, is_unoccluded, distinct}}
-use Rattle.domain_zone.{specs.Zone.{unoccluded_owners, owns}, proofs.NameLemmas.{one_lowered, below_itself, below_trans, below_length, strictly_longer}}
-use Rattle.domain_zone.proofs.{NameLemmas.same_length, PairLemmas.{In, all_in}, OwnerLemmas.{any_in, in_any, occluder_below, owners_are}, FindLemmas.in_filter}
-use Rattle.domain_zone.proofs.{SharedLemmas.{closest_above, parent_below}, ZoneLemmas.same_back}
-use Rattle.domain_checker.specs.Verdict.{closest_encloser}
+use Rattle.domain_zone.proofs.NameLemmas.{one_lowered, below_itself, below_trans, below_length, strictly_longer, same_length, same_itself}
+use Rattle.domain_zone.proofs.{OwnerLemmas.{any_in, in_any, occluder_below, owners_are}, PairLemmas.{In, all_in}, SharedLemmas.{closest_above, parent_below}}
+use Rattle.domain_zone.{proofs.ZoneLemmas.same_back, specs.Enclosers.{IsClosestEncloser, exists_over}}
+use Rattle.domain_zone.specs.Zone.{ZoneRecord, is_zone_cut, occludes, is_occluded, is_unoccluded, unoccluded_owners, owns}
+use Rattle.domain_nsec3.specs.{Config.ChainConfig, Meaning.CutsEnclose, Owners.{is_original_owner, original_owners}}
+use Rattle.domain_checker.specs.{HashedVerdict.is_below_chain_cut, Verdict.closest_encloser, declared.verdict.Verdict.{Verdict, TheVariants.NotProven}}
+
+pub choose_by : {V : Type 0} (P : V → Type 0) (b : Bool) (u v : V) → (b ≡ true → P u) → (b ≡ false → P v) → P (cond b u v)
+choose_by P b u v p q = grind (arith, common_steps)
+
+-- of a match, and of a cover where there is none
+pub either_found : {X : Type 0} (T : Option X → Option X → Type 0) (m c : Option X) → (m ≡ None → c ≡ None → T None None)
+    → ((k : X) → m ≡ Some k → T (Some k) c) → ((k : X) → c ≡ Some k → T None (Some k)) → T m c
+either_found T None None none match cover = none refl refl
+either_found T None (Some k) none match cover = cover k refl
+either_found T (Some k) c none match cover = match k refl
+
+abbrev pub IsDefinite : Verdict → Type 0
+IsDefinite NotProven = ⊥
+IsDefinite _ = Unit {0}
 
 -- ---- names at or below each other
 
@@ -50,11 +66,6 @@ module _ (names : List Name) (a : Name) where
       omega arith
 
 -- ---- names that occlude
-
-pub in_distinct : (xs : List Name) (n : Name) → In n (distinct xs) → In n xs
-in_distinct [] n i = i
-in_distinct (x ∷ xs) n (inl e) = inl e
-in_distinct (x ∷ xs) n (inr i) = inr (in_distinct xs n (in_filter (λ y. not (same_name x y)) (distinct xs) n i).0)
 
 module _ (below_dname : Bool) (L : List ZoneRecord) (a : Name) where
   -- a name that occludes, and that x is strictly below
@@ -109,3 +120,32 @@ module _ (below_dname : Bool) (L : List ZoneRecord) (a : Name) where
 
 pub cut_same : (L : List ZoneRecord) (a m n : Name) → same_name m n ≡ true → is_zone_cut L a m ≡ is_zone_cut L a n
 cut_same L a m n s = grind (arith, common_steps, one_lowered)
+
+-- ---- the zone cuts that an NSEC3 chain holds: what exists is not strictly below one
+
+module _ (L : List ZoneRecord) (a : Name) (config : ChainConfig) where
+  -- a zone cut of the chain that y is strictly below
+  pub record CutAbove (y : Name) : Type 0 where
+    pub cut : Name
+    pub is_cut : is_zone_cut L a cut ≡ true
+    pub original : is_original_owner L a config cut ≡ true
+    pub under : is_strictly_below y cut ≡ true
+
+  pub cut_above : (y : Name) → is_below_chain_cut L a config y ≡ true → CutAbove y
+  cut_above y h = grind (arith, common_steps, any_in, in_any, same_itself)
+
+  pub below_cut : (c y : Name) → is_zone_cut L a c ≡ true → is_original_owner L a config c ≡ true → is_strictly_below y c ≡ true
+      → is_below_chain_cut L a config y ≡ true
+  below_cut c y cut original s = grind (arith, common_steps, any_in, in_any, one_lowered)
+
+  module _ (cuts : CutsEnclose L a config) where
+    pub cut_apart : (c y : Name) → is_zone_cut L a c ≡ true → is_original_owner L a config c ≡ true
+        → exists_over (original_owners L a config) a y ≡ true → is_strictly_below y c ≡ true → ⊥
+    cut_apart c y cut original there s =
+        let l = (cuts.each c y cut original s).longest y there (below_itself y) in
+        let m = strictly_longer y c s in
+        omega arith
+
+    pub not_below : (y : Name) → exists_over (original_owners L a config) a y ≡ true → is_below_chain_cut L a config y ≡ false
+    not_below y there =
+        false_from_ne_true (is_below_chain_cut L a config y) (λ f. let c = cut_above y f in cut_apart c.cut y c.is_cut c.original there c.under)

@@ -1,27 +1,72 @@
--- What a record of an NSEC3 chain says of the hash of a name that no other name of the chain has.
-use Rattle.std.proofs.Common.{◌≡◌, Bool, true, false, not, ◌&&◌, ◌||◌, List, [], ◌∷◌, map, refl, sym, ap, ◌∙◌, subst, eq-eqb, Some, slice_get, arith}
-use Rattle.std.proofs.lemmas.{Bool.{and_parts, not-true, or_left, or_right}, List.{Elements.recursion_from_All, Sums.list_all-from_AllPass}, Grind.common_steps}
-use Rattle.std.specs.{Prelude.Ok, List.{AllByRecursion, Contains}, Cmp.Lexicographic.{nat_list_cmp_total, slice_cmp, bytes_decides}, Ordering.{nat_cmp, is_eq}}
-use Rattle.domain_codecs.specs.{Base32.base32_lower, Codec.IsBase32}
+-- What the records of an NSEC3 chain say of the hash of a name that no other name of the chain has, and of the names from it up to the apex.
+use Rattle.std.proofs.Common.{◌≡◌, ℕ, ◌+◌, ◌*◌, ◌/◌, ◌%◌, ◌<◌, ◌≤◌, true, false, [], ◌∷◌, length, drop, arith, Bool, not, ◌&&◌, ◌||◌, List, map, refl, sym}
+use Rattle.std.proofs.Common.{ap, ◌∙◌, subst, eq-eqb, Some, slice_get, ◌-◌, zero, suc, inl, inr, Option, None, ◌⊎◌, cond, nat_eq}
+use Rattle.std.proofs.lemmas.{Bool.{and_parts, not-true, or_left, or_right, cases_Bool, and_from, false≢true}, Grind.common_steps}
+use Rattle.std.{proofs.lemmas.List.{drop_all, length-drop, Elements.recursion_from_All, Sums.list_all-from_AllPass}, specs.Option.option_map_or}
+use Rattle.std.specs.{Cmp.Lexicographic.{slice_cmp, nat_list_cmp_total, bytes_decides}, List.{AllByRecursion, Contains, list_any, find, range_with_len}}
+use Rattle.std.specs.{Ordering.{is_ne, nat_cmp, is_eq}, Prelude.{Ok, Err, filter}, declared.cmp.Ordering.TheVariants.Greater}
+use Rattle.domain_codecs.{proofs.{CodecLemmas.{digit_at, widens}, Scale.IsScale}, specs.{Base32.base32_lower, Codec.{base32_octets, base32_digits, IsBase32}}}
 use Rattle.domain_octets.specs.Words.{Octets, AreOctets}
-use Rattle.domain_names.specs.{Name.{is_at_or_below, same_name, wire_of}, Words.Name}
-use Rattle.domain_bitmap.specs.Bitmap.{bitmap_octets}
-use Rattle.domain_zone.specs.{Covering.{matches, covers, matches_or_covers}, Enclosers.exists_over, Zone.ZoneRecord}
-use Rattle.domain_zone.proofs.{NameLemmas.{same_itself, one_lowered}, PairLemmas.In}
-use Rattle.domain_zone.proofs.{PairLemmas.all_in, OwnerLemmas.in_any, FindLemmas.{from_map, in_at, in_map, in_pairs, stands_from, Stands}}
-use Rattle.domain_nsec3.specs.{Chain.{HashedLink, HashedName, IsOfChain, cycle, ends, ends_of, hashed_owner}, Config.{ChainConfig, Parameters, Hash, hash_name}}
-use Rattle.domain_nsec3.specs.Meaning.{AreAlone, IsAlone, IsMatchedOrCoveredOnce, IsRecordOf, octets_before}
-use Rattle.domain_nsec3.specs.Owners.{is_chain_name, nsec3_lists, original_owners}
-use Rattle.domain_checker.specs.{HashedFacts.ChainFacts, HashedList.{same_parameters, is_spelling, owner_hash, is_some_with, is_hash_match, is_hash_cover}}
-use Rattle.domain_checker.specs.{HashedView.chain_records, HashedVerdict.{is_covered, is_matched}}
+use Rattle.domain_names.specs.{Name.{is_at_or_below, same_name, wire_of, is_strictly_below, lowered}, Words.{Name, Label}}
+use Rattle.domain_base.specs.Types.{ns, rrsig}
+use Rattle.domain_bitmap.{proofs.RangeLemmas.{any_at, any_none as any_missing}, specs.{Bitmap.bitmap_octets, Blocks.{contains_type, types_of, types_below}}}
+use Rattle.domain_zone.proofs.FindLemmas.{from_map, in_at, in_map, in_pairs, stands_from, Stands, any_none, find_none, find_some, in_filter}
+use Rattle.domain_zone.proofs.NameLemmas.{same_itself, one_lowered, below_itself, below_trans, below_longer, below_length, below_parent, strictly_longer}
+use Rattle.domain_zone.proofs.{NameLemmas.{strictly_from, same_length}, OwnerLemmas.{in_any, any_in, typed_owns}, PairLemmas.{In, all_in}}
+use Rattle.domain_zone.specs.{Covering.{matches, covers, matches_or_covers}, Enclosers.exists_over, Zone.{ZoneRecord, has_type, owns, records_of}}
+use Rattle.domain_nsec3.{proofs.FaultLemmas.hash_same, specs.Chain.{HashedLink, HashedName, IsOfChain, cycle, ends, ends_of, hashed_owner}}
+use Rattle.domain_nsec3.specs.{Config.{ChainConfig, Parameters, Hash, hash_name}, Owners.{is_chain_name, nsec3_lists, original_owners, is_original_owner}}
+use Rattle.domain_nsec3.specs.Meaning.{AreAlone, IsAlone, IsMatchedOrCoveredOnce, IsRecordOf, octets_before, IsNextCloser}
+use Rattle.domain_checker.{proofs.EncloserLemmas.{same_count, owner_owns}, specs.{HashedFacts.ChainFacts, HashedReading.is_none}}
+use Rattle.domain_checker.specs.HashedEncloser.{IsEncloser, IsNextHash, IsUnmatched, next_cover, Encloser, IsDenial, IsOfName, encloser_is_cut, tells_cut}
+use Rattle.domain_checker.specs.{HashedList.{read_label, same_parameters, is_spelling, owner_hash, is_hash_match, is_hash_cover}, HashedPass.IsLookedUp}
+use Rattle.domain_checker.specs.HashedVerdict.{is_covered, is_matched, IsFirst, IsFirstRefusal, is_ok_with, next_closer}
+use Rattle.domain_checker.specs.HashedView.{chain_records, HashedRecords, first_cover, first_match}
+
+-- a label is read up to a place, and what it spells from there on stands to what is left of the
+-- hash as all of it to the whole hash
+pub record IsCompared (label hash left : Octets) (scale rest at : ℕ) : Type 0 where
+  pub scale_is : IsScale scale
+  pub below : rest < scale
+  pub order : slice_cmp nat_cmp (base32_octets scale rest (base32_digits (drop at label))) left ≡ slice_cmp nat_cmp (read_label label) hash
+
+-- the digit d there
+module _ (label hash left : Octets) (scale rest at d : ℕ) (inside : at < length label) (is : d ≡ digit_at label at) (small : d < 32)
+    (so_far : IsCompared label hash left scale rest at) where
+  pub compared_narrow : 32 * scale < 256 → IsCompared label hash left (32 * scale) (32 * rest + d) (at + 1)
+  unfolding base32_octets
+  compared_narrow low = grind (arith, common_steps, widens)
+
+  module _ (high : 256 ≤ 32 * scale) where
+    -- the next octet, and those after it
+    pub compared_octet : slice_cmp nat_cmp ((32 * rest + d) / (32 * scale / 256) ∷ base32_octets (32 * scale / 256)
+        ((32 * rest + d) % (32 * scale / 256)) (base32_digits (drop (at + 1) label))) left ≡ slice_cmp nat_cmp (read_label label) hash
+    unfolding base32_octets
+    compared_octet = grind (arith, common_steps)
+
+    pub compared_none : left ≡ [] → Greater ≡ slice_cmp nat_cmp (read_label label) hash
+    compared_none none = rw none at compared_octet
+
+    module _ (octet : ℕ) (after : Octets) (first : left ≡ octet ∷ after) where
+      pub compared_apart : is_ne (nat_cmp ((32 * rest + d) / (32 * scale / 256)) octet) ≡ true
+          → nat_cmp ((32 * rest + d) / (32 * scale / 256)) octet ≡ slice_cmp nat_cmp (read_label label) hash
+      compared_apart other = grind (arith, common_steps, compared_octet)
+
+      pub compared_wide : is_ne (nat_cmp ((32 * rest + d) / (32 * scale / 256)) octet) ≡ false
+          → IsCompared label hash after (32 * scale / 256) ((32 * rest + d) % (32 * scale / 256)) (at + 1)
+      compared_wide tie = grind (arith, common_steps, widens, compared_octet)
+
+-- a label that is read to its end
+pub compared_end : (label hash left : Octets) (scale rest at : ℕ) → length label ≤ at → IsCompared label hash left scale rest at
+    → slice_cmp nat_cmp [] left ≡ slice_cmp nat_cmp (read_label label) hash
+unfolding base32_octets
+compared_end label hash left scale rest at done so_far = rw (drop_all at label done) at so_far.order
+
+-- ---- the hash of a name that no other name of the chain has
 
 -- octets that the order cannot tell apart
 pub tied_is : (u v : Octets) → matches octets_before u v ≡ is_eq (slice_cmp nat_cmp u v)
 tied_is u v = grind (arith, common_steps, (nat_list_cmp_total.antisymm v u))
-
--- names that are the same have one hash
-pub hash_same : (hash : Hash) (m n : Name) → same_name m n ≡ true → hash_name hash m ≡ hash_name hash n
-hash_same hash m n s = ap (λ l. hash (wire_of l)) (one_lowered m n s)
 
 -- a name that no other of the chain has the hash of is so by the hash that is known
 pub alone_by : (L : List ZoneRecord) (a : Name) (config : ChainConfig) (y : Name) (u v : Octets) → IsAlone L a config y u → hash_name config.hash y ≡ Ok v
@@ -113,8 +158,8 @@ module _ {L : List ZoneRecord} {a : Name} {config : ChainConfig} {links : List H
           let text : base32_lower (record_at k at).0 ≡ base32_lower one.hash = cc in
           (same, facts.tells_apart (record_at k at).0 one.hash r.octets one.is.octets text)
 
-      says : (test : Octets → Bool) → is_some_with test (owner_hash a config.parameters k) ≡ test (record_at k at).0
-      says test = let r = (record_at k at).1 in ap (is_some_with test) (hash_at k within (record_at k at).0 r.octets r.spelled)
+      says : (test : Octets → Bool) → option_map_or test (owner_hash a config.parameters k) false ≡ test (record_at k at).0
+      says test = let r = (record_at k at).1 in ap (λ o. option_map_or test o false) (hash_at k within (record_at k at).0 r.octets r.spelled)
 
       -- if it matches the hash, it is that of d, which is a name of the chain
       pub matched_once : is_hash_match a config.parameters v k ≡ true
@@ -132,3 +177,271 @@ module _ {L : List ZoneRecord} {a : Name} {config : ChainConfig} {links : List H
           let is = record_is (or_right (matches octets_before (record_at k at).0 v) (covers octets_before (record_at k at).0 k.next v) c) in
           let other = not-true (matches octets_before (record_at k at).0 v) (and_parts (not (matches octets_before (record_at k at).0 v)) _ c).0 in
           sym one.matched ∙ ap (λ u. matches octets_before u v) (sym is.1) ∙ other
+
+-- ---- the names from x up to the apex: which of them are passed, and the hash of the next closer name
+
+pub below_drop : (n : ℕ) (x : Name) → is_at_or_below x (drop n x) ≡ true
+below_drop zero x = below_itself x
+below_drop (suc n) [] = below_itself []
+below_drop (suc n) (l ∷ x) = below_trans (l ∷ x) x (drop n x) (below_parent l x) (below_drop n x)
+
+-- the next closer name of x, where x is longer than d
+pub closer_is : (x d : Name) → is_at_or_below x d ≡ true → length d < length x → IsNextCloser x d (next_closer x d)
+closer_is x d p l =
+    let up = below_drop _ x in
+    let n : length (drop (length x - (length d + 1)) x) ≡ length d + 1 = omega (arith, length-drop (length x - (length d + 1)) x) in
+    record {
+      above = up;
+      longer = n;
+      below = strictly_from _ d (below_longer x _ d up p (omega (arith, n))) (omega (arith, n));
+    }
+
+-- ---- wire forms
+
+pub wire_above : (l : Label) (x : Name) → drop (length l + 1) (wire_of (lowered (l ∷ x))) ≡ wire_of (lowered x)
+wire_above l x = grind (arith, common_steps)
+
+-- ---- what the first record that passes a test of the hash of y tells of the list
+
+module _ (hash : Hash) (test : Octets → HashedLink → Bool) (listed : List HashedLink) (y : Name) (v : Octets) (known : hash_name hash y ≡ Ok v) where
+  pub heard : (k : HashedLink) → find (test v) listed ≡ Some k
+      → In k listed × (test v k ≡ true) × (is_ok_with (λ u. list_any (test u) listed) (hash_name hash y) ≡ true)
+  heard k e =
+      let f = find_some (test v) listed k e in
+      (f.0, f.1, ap (is_ok_with (λ u. list_any (test u) listed)) known ∙ in_any (test v) listed k f.0 f.1)
+
+  pub unheard : find (test v) listed ≡ None → is_ok_with (λ u. list_any (test u) listed) (hash_name hash y) ≡ false
+  unheard e = ap (is_ok_with (λ u. list_any (test u) listed)) known ∙ any_none (test v) listed (find_none (test v) listed e)
+
+-- ---- names that are passed
+
+module _ (R : HashedRecords) where
+  none_matched : (d : Name) (v : Octets) → hash_name R.hash d ≡ Ok v → first_match R v ≡ None → is_matched R d ≡ false
+  none_matched = unheard R.hash (is_hash_match R.apex R.parameters) R.links
+
+  pub matched_same : (m n : Name) → same_name m n ≡ true → is_matched R m ≡ is_matched R n
+  matched_same m n s = ap (is_ok_with (λ v. list_any (is_hash_match R.apex R.parameters v) R.links)) (hash_same R.hash m n s)
+
+  module _ (x : Name) where
+    -- at the name itself none is passed
+    pub none_first : IsFirst R x x
+    none_first y above below = let l = strictly_longer y x below in let m = below_length x y above in absurd (omega arith)
+
+    -- what is known of a name that the way comes to, by the hash of the next closer name
+    pub record IsPassedTo (left : Name) (next : Option Octets) : Type 0 where
+      pub above : is_at_or_below x left ≡ true
+      pub within : is_at_or_below left R.apex ≡ true
+      pub first : IsFirst R x left
+      pub closes : IsNextHash R.hash x left next
+
+    abbrev pub IsPassed : Name → Octets → Type 0
+    IsPassed left v = IsPassedTo left (Some v)
+
+    -- the same with the first cover of that name
+    pub record IsReached (left : Name) (cover : Option HashedLink) : Type 0 where
+      pub next : Option Octets
+      pub passed : IsPassedTo left next
+      pub covers : cover ≡ next_cover R next
+
+    pub reached_first : is_at_or_below x R.apex ≡ true → IsReached x None
+    reached_first low = record {
+      next = None;
+      passed = record { above = below_itself x; within = low; first = none_first; closes = same_itself x x refl };
+      covers = refl;
+    }
+
+    -- what is known of a name that no record matches, with the first cover of its hash
+    pub record IsMissed (left : Name) (cover : Option HashedLink) : Type 0 where
+      pub above : is_at_or_below x left ≡ true
+      pub within : is_at_or_below left R.apex ≡ true
+      pub first : IsFirst R x left
+      pub value : Octets
+      pub known : hash_name R.hash left ≡ Ok value
+      pub none : first_match R value ≡ None
+      pub covered : cover ≡ first_cover R value
+
+    module _ (left : Name) (cover : Option HashedLink) (missed : IsMissed left cover) where
+      -- with the last one none is left
+      pub none_left : same_name left R.apex ≡ true → IsUnmatched R x
+      none_left s y up low = grind (arith, common_steps, matched_same, none_matched, one_lowered)
+
+      pub passed_on : (l : Label) (next : Name) → left ≡ l ∷ next → same_name left R.apex ≡ false → IsPassed next missed.value
+      passed_on l next e other =
+          let parent : is_at_or_below left next ≡ true = ap (λ n. is_at_or_below n next) e ∙ below_parent l next in
+          let count : length left ≡ length next + 1 = ap length e ∙ omega arith in
+          let up : is_at_or_below x next ≡ true = below_trans x left next missed.above parent in
+          let long : length left ≤ length x = below_length x left missed.above in
+          let short : length R.apex ≤ length next = grind (arith, common_steps, (same_length left R.apex missed.within)) in
+          let closer = closer_is x next up (omega arith) in
+          record {
+            above = up;
+            within = below_longer left next R.apex parent missed.within short;
+            first = λ y g h. on y g h count parent;
+            closes = (
+              grind (arith, common_steps, (same_count next x)),
+              hash_same R.hash (next_closer x next) left (same_length (next_closer x next) left
+                  (below_longer x (next_closer x next) left closer.above missed.above (omega (arith, closer.longer)))
+                  (omega (arith, closer.longer))) ∙ missed.known,
+            );
+          }
+        where
+          on : (y : Name) → is_at_or_below x y ≡ true → is_strictly_below y next ≡ true → length left ≡ length next + 1
+              → is_at_or_below left next ≡ true → (w : Octets) × (hash_name R.hash y ≡ Ok w)
+              × (is_matched R y ≡ false)
+          on y g h count parent =
+              let longer = strictly_longer y next h in
+              let down = below_longer x y left g missed.above (omega arith) in
+              elim (cases_Bool (same_name y left)) [
+                | inl s ↦ (
+                  missed.value,
+                  hash_same R.hash y left s ∙ missed.known,
+                  matched_same y left s ∙ none_matched left missed.value missed.known missed.none,
+                )
+                | inr s ↦ missed.first y g (and_from (is_at_or_below y left) (not (same_name y left)) down (ap not s))
+              ]
+
+      pub reached_on : (l : Label) (next : Name) → left ≡ l ∷ next → same_name left R.apex ≡ false → IsReached next cover
+      reached_on l next e other = record { next = Some missed.value; passed = passed_on l next e other; covers = missed.covered }
+
+    -- what is found of a name that the way comes to
+    module _ (left : Name) (cover : Option HashedLink) (reached : IsReached left cover) (wire : Octets) (e : wire ≡ wire_of (lowered left)) where
+      pub missed_there : (covering : Option HashedLink) → IsLookedUp R wire None covering → IsMissed left covering
+      missed_there covering looked = grind (arith, common_steps)
+
+      pub refused_there : (n : ℕ) → R.hash wire ≡ Err n → IsFirstRefusal R x n
+      refused_there n refused = grind (arith, common_steps)
+
+      -- a match is that of the closest encloser
+      pub encloser_there : (k : HashedLink) (covering : Option HashedLink) → IsLookedUp R wire (Some k) covering → (n : ℕ) → n ≡ length left
+          → IsEncloser R x (record { count = n; link = k; cover = cover })
+      encloser_there k covering looked n counts =
+          let known = ap R.hash (sym e) ∙ looked.known in
+          let found = sym looked.found.matching in
+          record {
+            name = left;
+            counts = counts;
+            first = record {
+              above = reached.passed.above;
+              within = reached.passed.within;
+              found = (heard R.hash (is_hash_match R.apex R.parameters) R.links left looked.value known k found).2;
+              first = reached.passed.first;
+            };
+            value = looked.value;
+            known = known;
+            found = found;
+            next = reached.next;
+            closes = reached.passed.closes;
+            covers = reached.covers;
+          }
+
+-- ---- what a record of a zone's chain tells of a name, and the record of a closest encloser
+
+-- ---- by what the way from x to the apex ends at
+
+-- the name d that is matched is another than x, its record tells of no zone cut, and one covers the next closer name
+pub record IsClosed (R : HashedRecords) (x : Name) (e : Encloser) (d : Name) : Type 0 where
+  pub other : same_name d x ≡ false
+  pub uncut : encloser_is_cut R.apex e ≡ false
+  pub value : Octets
+  pub known : hash_name R.hash (next_closer x d) ≡ Ok value
+  pub link : HashedLink
+  pub listed : In link R.links
+  pub covers : is_hash_cover R.apex R.parameters value link ≡ true
+  pub covered : is_covered R (next_closer x d) ≡ true
+
+module _ {R : HashedRecords} {x : Name} {e : Encloser} (is : IsEncloser R x e) where
+  -- whether it is x itself
+  pub itself_counted : nat_eq e.count (length x) ≡ same_name is.name x
+  itself_counted = grind (arith, common_steps)
+
+  -- whether it is a zone cut
+  pub cut_counted : encloser_is_cut R.apex e ≡ tells_cut R.apex is.name e.link
+  cut_counted = grind (arith, common_steps, same_length)
+
+  -- what holds of each that may be told, by the way that leads there, holds of what is told
+  pub by_way : {V : Type 0} (P : V → Type 0) (own cut : V) (told : Option HashedLink → V) → (same_name is.name x ≡ true → P own)
+      → (same_name is.name x ≡ false → encloser_is_cut R.apex e ≡ true → P cut)
+      → (same_name is.name x ≡ false → encloser_is_cut R.apex e ≡ false → is_covered R (next_closer x is.name) ≡ false → P (told None))
+      → ((c : IsClosed R x e is.name) → P (told (Some c.link)))
+      → P (cond (nat_eq e.count (length x)) own (cond (encloser_is_cut R.apex e) cut (told e.cover)))
+  by_way P own cut told itself at_cut gap closed = rw itself_counted (by e.cover is.next is.closes is.covers)
+    where
+      by : (o : Option HashedLink) (next : Option Octets) → IsNextHash R.hash x is.name next → o ≡ next_cover R next
+          → P (cond (same_name is.name x) own (cond (encloser_is_cut R.apex e) cut (told o)))
+      by o None s f = rw s (itself s)
+      by o (Some v) n f = rw n.0 (elim (cases_Bool (encloser_is_cut R.apex e)) [ inl c ↦ rw c (at_cut n.0 c) | inr c ↦ rw c (apart o f c) ])
+        where
+          apart : (o : Option HashedLink) → o ≡ first_cover R v → encloser_is_cut R.apex e ≡ false → P (told o)
+          apart None f c = gap n.0 c (unheard R.hash (is_hash_cover R.apex R.parameters) R.links (next_closer x is.name) v n.1 (sym f))
+          apart (Some k) f c =
+              let h = heard R.hash (is_hash_cover R.apex R.parameters) R.links (next_closer x is.name) v n.1 k (sym f) in
+              closed (record { other = n.0; uncut = c; value = v; known = n.1; link = k; listed = h.0; covers = h.1; covered = h.2 })
+
+-- a name that is not at or below the apex has no ancestor there
+pub outside_unmatched : (R : HashedRecords) (x : Name) → is_at_or_below x R.apex ≡ false → IsUnmatched R x
+outside_unmatched R x out = λ y up low. absurd (false≢true (sym out ∙ below_trans x y R.apex up low))
+
+-- ---- a bitmap without types
+
+none_kept : (p : ℕ → Bool) (ts : List ℕ) → is_none (filter p ts) ≡ not (list_any p ts)
+none_kept p [] = refl
+none_kept p (t ∷ ts) = grind (arith, common_steps, (none_kept p ts))
+
+none_given : (types : ℕ → Bool) → types_of (bitmap_octets types) ≡ types_below 65536 types
+    → is_none (types_of (bitmap_octets types)) ≡ not (list_any types (range_with_len 0 65536))
+unfolding types_below
+none_given types gives = ap is_none gives ∙ none_kept types (range_with_len 0 65536)
+
+-- ---- the types of a name
+
+module _ (L : List ZoneRecord) (a : Name) (config : ChainConfig) where
+  -- NS is listed where the name owns NS records
+  ns_listed : (n : Name) → nsec3_lists L a config n ns ≡ has_type (records_of L n) ns
+  ns_listed n = grind (arith, common_steps, typed_owns)
+
+  -- an original owner name has RRSIG or NS
+  some_listed : (x : Name) → is_original_owner L a config x ≡ true → (nsec3_lists L a config x rrsig ≡ true) ⊎ (nsec3_lists L a config x ns ≡ true)
+  some_listed x h =
+      let m = any_in _ _ h in
+      let owned : owns L x ≡ true = owner_owns _ L a m.0 x (in_filter _ _ m.0 m.1).0 m.2 in
+      grind (arith, common_steps)
+
+  -- a name of the chain that is no original owner lists nothing
+  pub empty_lists : (x : Name) → is_chain_name L a config x ≡ true → is_original_owner L a config x ≡ false → (t : ℕ) → nsec3_lists L a config x t ≡ false
+  empty_lists x h out t = grind (arith, common_steps)
+
+  any_listed : (x : Name) → is_chain_name L a config x ≡ true
+      → list_any (nsec3_lists L a config x) (range_with_len 0 65536) ≡ is_original_owner L a config x
+  any_listed x known = by (is_original_owner L a config x) refl
+    where
+      by : (b : Bool) → is_original_owner L a config x ≡ b → list_any (nsec3_lists L a config x) (range_with_len 0 65536) ≡ b
+      by true e = elim (some_listed x e) [
+        | inl h ↦ any_at (nsec3_lists L a config x) 65536 rrsig (omega arith) h
+        | inr h ↦ any_at (nsec3_lists L a config x) 65536 ns (omega arith) h
+      ]
+      by false e = any_missing (nsec3_lists L a config x) 65536 (λ t b. empty_lists x known e t)
+
+-- ---- one record of a zone's chain
+
+module _ {L : List ZoneRecord} {a : Name} {config : ChainConfig} {links : List HashedLink} (facts : ChainFacts L a config links)
+    (x : Name) (v : Octets) (low : is_at_or_below x a ≡ true) (alone : IsAlone L a config x v) (k : HashedLink)
+    (there : Contains links k) where
+  pub match_is_of_name : is_hash_match a config.parameters v k ≡ true → IsOfName L a config x k
+  match_is_of_name h =
+      let m = matched_once facts x low v alone k there h in
+      let types : (t : ℕ) → t < 65536 → contains_type k.bits t ≡ nsec3_lists L a config x t =
+      λ t b. ap (λ o. contains_type o t) m.1 ∙ facts.contains (nsec3_lists L a config x) t b in
+      record { exists = facts.exist x low ∙ m.0; types = types; cut = rw (low, types ns (omega arith), ns_listed L a config x) refl }
+
+  -- it has types where x is an original owner name
+  pub match_is_empty : is_hash_match a config.parameters v k ≡ true → is_none (types_of k.bits) ≡ not (is_original_owner L a config x)
+  match_is_empty h =
+      let m = matched_once facts x low v alone k there h in
+      ap (λ o. is_none (types_of o)) m.1 ∙ none_given (nsec3_lists L a config x) (facts.gives (nsec3_lists L a config x))
+      ∙ ap not (any_listed L a config x m.0)
+
+  pub cover_denies : is_hash_cover a config.parameters v k ≡ true → IsDenial L a config x k
+  cover_denies h = record {
+    absent = facts.exist x low ∙ covered_never facts x low v alone k there h;
+    flags = (told_at facts k (within facts x low v alone k there)).1;
+  }

@@ -1,39 +1,82 @@
--- What a list of records of an NSEC3 chain says is what it proves.
-use Rattle.std.proofs.Common.{rules, ◌≡◌, ◌≢◌, ℕ, ◌≤◌, ◌<◌, true, false, not, ◌&&◌, ◌||◌, List, length, refl, sym, ◌∙◌, subst, inl, inr, Option, Some, None}
-use Rattle.std.proofs.{Common.arith, lemmas.{Bool.{or_parts, cases_Bool, false_from_ne_true, false≢true, and_parts}}}
-use Rattle.std.{proofs.lemmas.Grind.common_steps, specs.{List.{list_any, Contains}}}
-use Rattle.domain_octets.{proofs.StdLemmas.or_true}
-use Rattle.domain_names.specs.{Name.{is_at_or_below, same_name}, Words.Name}
-use Rattle.domain_bitmap.specs.Blocks.{types_of}
+-- What is known of a name and its closest encloser where, of the name and its ancestors, one is the first that a record of a zone's chain matches;
+-- and that what a list of records of an NSEC3 chain says is what it proves.
+use Rattle.std.proofs.Common.{◌≡◌, ℕ, ◌+◌, ◌<◌, true, false, not, List, length, sym, ap, ◌∙◌, inl, inr, ◌⊎◌, arith, rules, ◌≢◌, ◌≤◌, ◌&&◌, ◌||◌, refl, subst}
+use Rattle.std.{proofs.Common.{Option, Some, None}, specs.{List.{Contains, list_any}, Option.option_map_or, Prelude.Ok}}
+use Rattle.std.proofs.lemmas.{Bool.{cases_Bool, false_from_ne_true, false≢true, true_from_ne_false, and_parts, and_from, or_parts}, Grind.common_steps}
+use Rattle.domain_octets.{proofs.StdLemmas.or_true, specs.Words.Octets}
+use Rattle.domain_names.specs.{Name.{is_at_or_below, is_strictly_below, last_labels, lowered, same_name}, Words.Name}
+use Rattle.domain_base.specs.Types.{ns}
+use Rattle.domain_bitmap.specs.Blocks.{contains_type, types_of}
 use Rattle.domain_chain_rdata.specs.OptOut.{is_opt_out}
-use Rattle.domain_zone.specs.{Enclosers.exists_over, Zone.{ZoneRecord, is_zone_cut}}
-use Rattle.domain_zone.proofs.{NameLemmas.{one_lowered, below_length, below_trans}, PairLemmas.{In, all_in}}
-use Rattle.domain_zone.proofs.FindLemmas.{find_some}
-use Rattle.domain_nsec3.specs.{Chain.{HashedLink, IsHashedChain}, Config.{ChainConfig}, Meaning.{AreAlone}}
-use Rattle.domain_nsec3.specs.Owners.{is_empty, is_original_owner, original_owners}
-use Rattle.domain_checker.specs.{HashedEncloser.{Encloser, IsEncloser, IsFoundEncloser, encloser_is_cut}, HashedFacts.{ChainFacts, ChainsAreKnown}}
-use Rattle.domain_checker.specs.{HashedList.{is_hash_match}, HashedReading.{IsWalked, found_verdict, hash_cover_verdict, is_none, own_verdict}}
-use Rattle.domain_checker.specs.{HashedView.{HashedRecords, chain_records, first_match}, HashedVerdict.{missing_verdict, hashed_zone_verdict, next_closer}}
-use Rattle.domain_checker.specs.HashedVerdict.{is_ok_with, is_covered, proves, hashed_proved_verdict, IsHashedProved, lists_ns, is_told_cut, HasHashedProof}
-use Rattle.domain_checker.specs.{Verdict.{closest_encloser, IsWithin}, declared.verdict.Verdict.{Verdict, TheVariants.{BelowDelegation, NotProven}}}
-use Rattle.domain_checker.{specs.Alike.IsHashedAlike, proofs.{HashedAlikeLemmas.{proved_alike, walked_alike}, PairedLemmas.paired_with_some}}
-use Rattle.domain_checker.proofs.{CutLemmas.not_below, ChoiceLemmas.{IsDefinite, choose_by}, EncloserLemmas.shorter_above}
-use Rattle.domain_checker.proofs.HashedEncloserLemmas.{IsClosed, by_way, cut_counted, empty_lists, match_is_empty}
-use Rattle.domain_checker.proofs.HashedListLemmas.{alone_at, whole_covers, whole_matches}
-use Rattle.domain_checker.proofs.{HashedWalkLemmas.closer_is, FirstMatchedLemmas.{IsKnown, cut_original, encloser_is, known_of_first}}
+use Rattle.domain_zone.proofs.{FindLemmas.find_some, NameLemmas.{one_lowered, same_lowered, below_itself, below_trans, below_longer, below_length}}
+use Rattle.domain_zone.proofs.{NameLemmas.{same_length, strictly_from, strictly_longer}, PairLemmas.{In, all_in}, SharedLemmas.exists_same}
+use Rattle.domain_zone.specs.{Enclosers.{exists_over, IsClosestEncloser}, Zone.{ZoneRecord, is_zone_cut}}
+use Rattle.domain_nsec3.specs.{Chain.{HashedLink, IsHashedChain}, Config.{ChainConfig, hash_name}, Meaning.{AreAlone, IsAlone}}
+use Rattle.domain_nsec3.specs.Owners.{is_original_owner, nsec3_lists, original_owners, is_empty}
+use Rattle.domain_checker.proofs.{AlikeLemmas.{hashed_proved_alike, walked_alike, paired_with_some}, EncloserLemmas.{below_cut, cut_above, cut_apart}}
+use Rattle.domain_checker.proofs.EncloserLemmas.{apex_from, closest_is, cut_same, exists_above, same_count, shorter_above, IsDefinite, choose_by, not_below}
+use Rattle.domain_checker.proofs.HashedListLemmas.{IsClosed, cover_denies, cut_counted, match_is_of_name, alone_at, closer_is, matched_same, by_way}
+use Rattle.domain_checker.{proofs.HashedListLemmas.{empty_lists, match_is_empty, whole_covers, whole_matches}, specs.Alike.IsHashedAlike}
+use Rattle.domain_checker.specs.{HashedEncloser.{Encloser, IsEncloser, IsOfName, encloser_is_cut, IsFoundEncloser}, HashedFacts.{ChainFacts, ChainsAreKnown}}
+use Rattle.domain_checker.specs.{HashedList.is_hash_match, HashedReading.{IsWalked, found_verdict, hash_cover_verdict, is_none, own_verdict}}
+use Rattle.domain_checker.specs.HashedVerdict.{is_below_chain_cut, is_covered, is_matched, next_closer, missing_verdict, hashed_zone_verdict, is_ok_with}
+use Rattle.domain_checker.specs.{HashedVerdict.{proves, hashed_proved_verdict, IsHashedProved, is_told_cut, HasHashedProof}, declared.verdict.Verdict.Verdict}
+use Rattle.domain_checker.specs.{HashedView.{HashedRecords, chain_records, first_match}, Verdict.{closest_encloser, IsWithin}}
+use Rattle.domain_checker.specs.declared.verdict.Verdict.TheVariants.{BelowDelegation, NotProven}
+
+module _ (L : List ZoneRecord) (a : Name) (config : ChainConfig) where
+  -- the name is the closest encloser en of x, and matched by the record of e
+  pub record IsOfClosest (R : HashedRecords) (x en : Name) (e : Encloser) (name : Name) : Type 0 where
+    pub matched : is_matched R en ≡ true
+    pub labels : e.count ≡ length en
+    pub asked : same_name en x ≡ same_name name x
+    pub cut : is_zone_cut L a en ≡ encloser_is_cut a e
+    pub types : (u : ℕ) → u < 65536 → nsec3_lists L a config en u ≡ contains_type e.link.bits u
+    pub next : is_covered R (next_closer x en) ≡ is_covered R (next_closer x name)
+
+  -- x is the name that is matched
+  pub record IsItself (R : HashedRecords) (x en : Name) (e : Encloser) (name : Name) : Type 0 where
+    pub closest : IsOfClosest R x en e name
+    pub there : exists_over (original_owners L a config) a x ≡ true
+    pub cut : encloser_is_cut a e ≡ is_zone_cut L a x
+    pub types : (u : ℕ) → u < 65536 → contains_type e.link.bits u ≡ nsec3_lists L a config x u
+
+  -- x does not exist, and is below no zone cut of the chain
+  pub record IsGone (x : Name) : Type 0 where
+    pub gone : exists_over (original_owners L a config) a x ≡ false
+    pub uncut : is_below_chain_cut L a config x ≡ false
+
+  -- what is known of x where the name is the first that a record matches, and its closest encloser is en: another name than that is
+  -- above it, and then no record matches en
+  pub record IsKnown (R : HashedRecords) (x en : Name) (e : Encloser) (name : Name) : Type 0 where
+    pub of_name : IsOfName L a config name e.link
+    pub level : (is_strictly_below en name ≡ true → ⊥) → IsOfClosest R x en e name
+    pub either : IsOfClosest R x en e name ⊎ (is_matched R en ≡ false)
+    pub itself : same_name name x ≡ true → IsItself R x en e name
+    pub at_cut : same_name name x ≡ false → encloser_is_cut a e ≡ true → IsOfClosest R x en e name × (is_below_chain_cut L a config x ≡ true)
+    pub gone : same_name name x ≡ false → encloser_is_cut a e ≡ false → IsOfClosest R x en e name → IsGone x
+    pub denied : (c : IsClosed R x e name) → IsOfClosest R x en e name × (c.link.flags ≡ config.flags)
 
 module _ {L : List ZoneRecord} {a : Name} {config : ChainConfig} {links : List HashedLink} (facts : ChainFacts L a config links) where
   abbrev owners : List Name
   owners = original_owners L a config
 
+  pub encloser_is : (x : Name) → is_at_or_below x a ≡ true → IsClosestEncloser owners a x (closest_encloser owners a x)
+  encloser_is x low = let e = facts.means.enclosers.encloser x low in closest_is owners a x (apex_from owners a e.0 e.1.found) low
+
+  -- a zone cut that exists is one of the chain
+  pub cut_original : (d : Name) → is_at_or_below d a ≡ true → exists_over owners a d ≡ true → is_zone_cut L a d ≡ true → is_original_owner L a config d ≡ true
+  cut_original d low there c =
+      true_from_ne_false (is_original_owner L a config d) (λ h. false≢true (sym (facts.left_out d c h) ∙ sym (facts.exist d low) ∙ there))
+
   closest_low : (x : Name) → is_at_or_below x a ≡ true → is_at_or_below (closest_encloser owners a x) a ≡ true
-  closest_low x low = (and_parts _ (list_any (λ n. is_at_or_below n (closest_encloser owners a x)) owners) (encloser_is facts x low).found).0
+  closest_low x low = (and_parts _ (list_any (λ n. is_at_or_below n (closest_encloser owners a x)) owners) (encloser_is x low).found).0
 
   -- the whole chain proves all
   pub whole_proves : (x : Name) → is_at_or_below x a ≡ true → AreAlone L a config x → proves L a config links x ≡ true
   whole_proves x low free =
       let en = closest_encloser owners a x in
-      let closest = encloser_is facts x low in
+      let closest = encloser_is x low in
       let en_low = closest_low x low in
       let of_en = free en closest.above en_low in
       let told = whole_matches facts en en_low of_en.0 of_en.1 closest.found in
@@ -51,65 +94,146 @@ module _ {L : List ZoneRecord} {a : Name} {config : ChainConfig} {links : List H
   -- ---- what records of the chain tell of a name at or below the apex
 
   module _ (listed : List HashedLink) (among : (k : HashedLink) → In k listed → Contains links k) (x : Name) (low : is_at_or_below x a ≡ true)
-      (free : AreAlone L a config x) (t : ℕ) (bound : t < 65536) where
+      (free : AreAlone L a config x) where
     abbrev en : Name
-    en = closest_encloser (original_owners L a config) a x
+    en = closest_encloser owners a x
 
     abbrev R : HashedRecords
     R = chain_records a config listed
 
-    abbrev proved : Verdict
-    proved = hashed_proved_verdict L a config listed x t
+    abbrev proved : ℕ → Verdict
+    proved t = hashed_proved_verdict L a config listed x t
 
-    -- where a record matches x or an ancestor, and that of e is the first
+    closest : IsClosestEncloser owners a x en
+    closest = encloser_is x low
 
-    module _ (e : Encloser) (is : IsEncloser R x e) where
-      known : IsKnown L a config R x en e is.name
-      known = known_of_first facts listed among x low free e is
+    alone : (y : Name) → is_at_or_below x y ≡ true → is_at_or_below y a ≡ true → (v : Octets) → hash_name config.hash y ≡ Ok v → IsAlone L a config y v
+    alone = alone_at L a config x free
 
-      -- x itself
-      at_name : same_name is.name x ≡ true → own_verdict a e t ≡ proved
-      at_name s =
-          let k = known.itself s in
-          let none : is_none (types_of e.link.bits) ≡ not (is_original_owner L a config x) = emptied ∙ rw (one_lowered is.name x s) refl in
-          rw (k.closest.matched, k.closest.asked ∙ s, not_below L a config facts.means.cuts x k.there, k.there, k.types t bound, k.cut, none)
-          (elim (cases_Bool (is_original_owner L a config x)) [
-            | inl h ↦ rw (h, low) refl
-            | inr h ↦
-                let no_cut = false_from_ne_true (is_zone_cut L a x)
-                (λ c. false≢true (sym h ∙ cut_original facts x low k.there c)) in
-                rw (h, empty_lists L a config x (sym (facts.exist x low) ∙ k.there) h t, no_cut, low) refl
-          ])
-        where
-          emptied : is_none (types_of e.link.bits) ≡ not (is_original_owner L a config is.name)
-          emptied =
-              let f = find_some (is_hash_match a config.parameters is.value) listed e.link is.found in
-              match_is_empty facts is.name is.value is.first.within (alone_at L a config x free is.name is.first.above is.first.within is.value is.known)
-              e.link (among e.link f.0) f.1
+    module _ (e : Encloser) (is : IsEncloser (chain_records a config listed) x e) where
+      matches : In e.link listed × (is_hash_match a config.parameters is.value e.link ≡ true)
+      matches = find_some (is_hash_match a config.parameters is.value) listed e.link is.found
 
-      -- below a zone cut
-      at_cut : same_name is.name x ≡ false → encloser_is_cut a e ≡ true → BelowDelegation ≡ proved
-      at_cut s c = let k = known.at_cut s c in rw (low, k.0.matched, k.0.asked ∙ s, k.0.cut ∙ c, k.1) refl
+      alone_is : IsAlone L a config is.name is.value
+      alone_is = alone is.name is.first.above is.first.within is.value is.known
 
-      -- no cover
-      at_gap : same_name is.name x ≡ false → encloser_is_cut a e ≡ false → is_covered R (next_closer x is.name) ≡ false → NotProven ≡ proved
-      at_gap s c uncovered = elim known.either [
-        | inl k ↦ rw (low, k.matched, k.asked ∙ s, k.cut ∙ c, k.next ∙ uncovered) refl
-        | inr unmatched ↦ rw (low, unmatched) refl
+      of_name : IsOfName L a config is.name e.link
+      of_name = match_is_of_name facts is.name is.value is.first.within alone_is e.link (among e.link matches.0) matches.1
+
+      emptied : is_none (types_of e.link.bits) ≡ not (is_original_owner L a config is.name)
+      emptied = match_is_empty facts is.name is.value is.first.within alone_is e.link (among e.link matches.0) matches.1
+
+      cut : encloser_is_cut a e ≡ is_zone_cut L a is.name
+      cut = cut_counted is ∙ of_name.cut
+
+      of_closest : same_name en is.name ≡ true → IsOfClosest L a config R x en e is.name
+      of_closest same = record {
+        matched = matched_same R en is.name same ∙ is.first.found;
+        labels = is.counts ∙ sym (same_count en is.name same);
+        asked = ap (λ k. same_lowered k (lowered x)) (one_lowered en is.name same);
+        cut = cut_same L a en is.name same ∙ sym cut;
+        types = λ u b. facts.alike en is.name same u ∙ sym (of_name.types u b);
+        next = ap (λ n. is_covered R (last_labels (n + 1) x)) (same_count en is.name same);
+      }
+
+      closest_or_above : IsOfClosest L a config R x en e is.name ⊎ (is_strictly_below en is.name ≡ true)
+      closest_or_above = elim (cases_Bool (same_name en is.name)) [
+        | inl same ↦ inl (of_closest same)
+        | inr apart ↦ inr (and_from (is_at_or_below en is.name) _
+            (below_longer x en is.name closest.above is.first.above (closest.longest is.name of_name.exists is.first.above)) (ap not apart))
       ]
 
-      -- a cover: x does not exist, and the name is its closest encloser
-      at_cover : (c : IsClosed R x e is.name) → missing_verdict (is_opt_out c.link.flags) e.count ≡ proved
-      at_cover c =
-          let d = known.denied c in
-          let g = known.gone c.other c.uncut d.0 in
-          let other = (or_parts (is_original_owner L a config x) (is_empty L a config x) (sym (facts.exist x low) ∙ g.gone)).0 in
-          rw (d.0.matched, d.0.asked ∙ c.other, d.0.cut ∙ c.uncut, d.0.next ∙ c.covered, g.uncut, other, g.gone, d.1, d.0.labels, low) refl
+      level : (is_strictly_below en is.name ≡ true → ⊥) → IsOfClosest L a config R x en e is.name
+      level never = elim closest_or_above [ inl c ↦ c | inr below ↦ absurd (never below) ]
 
-    found_proved : (found : Option Encloser) → IsFoundEncloser R x found → found_verdict a found (length x) t ≡ proved
-    found_proved None is = rw (low, (is en (encloser_is facts x low).above (closest_low x low)).2) refl
-    found_proved (Some e) is =
-        by_way is (λ v. v ≡ proved) (own_verdict a e t) BelowDelegation (hash_cover_verdict e.count) (at_name e is) (at_cut e is) (at_gap e is) (at_cover e is)
+      pub known_of_first : IsKnown L a config R x en e is.name
+      known_of_first = record {
+        of_name = of_name;
+        level = level;
+        either = elim closest_or_above [ inl c ↦ inl c | inr below ↦ inr (is.first.first en closest.above below).2 ];
+        itself = λ s. record {
+          closest = level (λ h. let far = strictly_longer en is.name h in let near = below_length x en closest.above in
+              let n = same_count is.name x s in omega arith);
+          there = sym (exists_same owners a is.name x s) ∙ of_name.exists;
+          cut = cut ∙ cut_same L a is.name x s;
+          types = λ u b. of_name.types u b ∙ facts.alike is.name x s u;
+        };
+        at_cut = λ s c.
+            let zone_cut = sym cut ∙ c in
+            let original = cut_original is.name is.first.within of_name.exists zone_cut in (
+              level (λ h. cut_apart L a config facts.means.cuts is.name en zone_cut original closest.found h),
+              below_cut L a config is.name x zone_cut original (strictly_from x is.name is.first.above (shorter_above x is.name is.first.above s)),
+            );
+        gone = λ s c k. record {
+          gone = false_from_ne_true (exists_over owners a x) (λ h.
+              let l = closest.longest x h (below_itself x) in
+              let m = shorter_above x is.name is.first.above s in
+              omega (arith, sym is.counts ∙ k.labels));
+          uncut = false_from_ne_true (is_below_chain_cut L a config x) (λ f.
+              let r = cut_above L a config x f in
+              let above = (and_parts (is_at_or_below x r.cut) _ r.under).0 in
+              let top = facts.means.cuts.each r.cut x r.is_cut r.original r.under in
+              let l = closest.longest r.cut top.found above in
+              let m = top.longest en closest.found closest.above in
+              let one = same_length en r.cut (below_longer x en r.cut closest.above above l) m in
+              false≢true (sym (k.cut ∙ c) ∙ cut_same L a en r.cut one ∙ r.is_cut));
+        };
+        denied = λ c.
+            let next = next_closer x is.name in
+            let closer = closer_is x is.name is.first.above (shorter_above x is.name is.first.above c.other) in
+            let next_low = below_trans next is.name a (and_parts (is_at_or_below next is.name) _ closer.below).0 is.first.within in
+            let denial =
+            cover_denies facts next c.value next_low (alone next closer.above next_low c.value c.known) c.link (among c.link c.listed) c.covers in (
+              level (λ g.
+                  let far = strictly_longer en is.name g in
+                  let up = below_longer x en next closest.above closer.above (omega (arith, closer.longer)) in
+                  false≢true (sym denial.absent ∙ exists_above owners a en next closest.found up next_low)),
+              denial.flags,
+            );
+      }
+
+      -- so what they say is what they prove
+
+      module _ (t : ℕ) (bound : t < 65536) where
+        -- x itself
+        at_name : same_name is.name x ≡ true → own_verdict a e t ≡ proved t
+        at_name s =
+            let k = known_of_first.itself s in
+            let none : is_none (types_of e.link.bits) ≡ not (is_original_owner L a config x) = emptied ∙ rw (one_lowered is.name x s) refl in
+            rw (k.closest.matched, k.closest.asked ∙ s, not_below L a config facts.means.cuts x k.there, k.there, k.types t bound, k.cut, none)
+            (elim (cases_Bool (is_original_owner L a config x)) [
+              | inl h ↦ rw (h, low) refl
+              | inr h ↦
+                  let no_cut = false_from_ne_true (is_zone_cut L a x)
+                  (λ c. false≢true (sym h ∙ cut_original x low k.there c)) in
+                  rw (h, empty_lists L a config x (sym (facts.exist x low) ∙ k.there) h t, no_cut, low) refl
+            ])
+
+        -- below a zone cut
+        at_cut : same_name is.name x ≡ false → encloser_is_cut a e ≡ true → BelowDelegation ≡ proved t
+        at_cut s c = let k = known_of_first.at_cut s c in rw (low, k.0.matched, k.0.asked ∙ s, k.0.cut ∙ c, k.1) refl
+
+        -- no cover
+        at_gap : same_name is.name x ≡ false → encloser_is_cut a e ≡ false → is_covered R (next_closer x is.name) ≡ false → NotProven ≡ proved t
+        at_gap s c uncovered = elim known_of_first.either [
+          | inl k ↦ rw (low, k.matched, k.asked ∙ s, k.cut ∙ c, k.next ∙ uncovered) refl
+          | inr unmatched ↦ rw (low, unmatched) refl
+        ]
+
+        -- a cover: x does not exist, and the name is its closest encloser
+        at_cover : (c : IsClosed R x e is.name) → missing_verdict (is_opt_out c.link.flags) e.count ≡ proved t
+        at_cover c =
+            let d = known_of_first.denied c in
+            let g = known_of_first.gone c.other c.uncut d.0 in
+            let other = (or_parts (is_original_owner L a config x) (is_empty L a config x) (sym (facts.exist x low) ∙ g.gone)).0 in
+            rw (d.0.matched, d.0.asked ∙ c.other, d.0.cut ∙ c.uncut, d.0.next ∙ c.covered, g.uncut, other, g.gone, d.1, d.0.labels, low) refl
+
+    module _ (t : ℕ) (bound : t < 65536) where
+      found_proved : (found : Option Encloser) → IsFoundEncloser R x found → found_verdict a found (length x) t ≡ proved t
+      found_proved None is = rw (low, (is en closest.above (closest_low x low)).2) refl
+      found_proved (Some e) is =
+          by_way is (λ v. v ≡ proved t) (own_verdict a e t) BelowDelegation (hash_cover_verdict e.count) (at_name e is t bound) (at_cut e is t bound)
+          (at_gap e is t bound) (at_cover e is t bound)
 
 -- ---- lists from anywhere
 
@@ -120,8 +244,8 @@ module _ (R : HashedRecords) (x : Name) (t : ℕ) where
     where
       cut_told : is_told_cut R is.name ≡ encloser_is_cut R.apex e
       cut_told =
-          (λ i. not (same_name is.name R.apex) && is_ok_with (λ v. lists_ns (first_match R v)) (is.known i))
-          ∙ (λ i. not (same_name is.name R.apex) && lists_ns (is.found i)) ∙ sym (cut_counted is)
+          (λ i. not (same_name is.name R.apex) && is_ok_with (λ v. option_map_or (λ k. contains_type k.bits ns) (first_match R v) false) (is.known i))
+          ∙ (λ i. not (same_name is.name R.apex) && option_map_or (λ k. contains_type k.bits ns) (is.found i) false) ∙ sym (cut_counted is)
 
       closes : found_verdict R.apex (Some e) (length x) t ≢ NotProven
           → (same_name is.name x || is_told_cut R is.name || is_covered R (next_closer x is.name)) ≡ true
@@ -158,7 +282,7 @@ walked_proved knows R x t verdict b low w = λ L config links hash parameters ch
     let here = walked_alike (chain_records R.apex config R.links) some.some some.alike x t verdict
     (subst (λ S. IsWalked S x t verdict) (as_chain R config hash parameters) w) in
     here.says ∙ found_proved (knows L R.apex config links chain) some.some (λ k i. all_in (Contains links) some.some k some.among i) x low free t b
-    here.found here.is ∙ sym (proved_alike L R.apex config x t R.links some.some some.alike)
+    here.found here.is ∙ sym (hashed_proved_alike L R.apex config x t R.links some.some some.alike)
 
 -- ---- the whole chain
 

@@ -3,8 +3,7 @@ use Rattle.std.specs.Prelude.{◌≡◌, ◌<◌, ℕ, Bool, true, List}
 use Rattle.domain_names.specs.{Name.same_name, Words.Name}
 use Rattle.domain_bitmap.specs.{Bitmap.bitmap_octets, Blocks.contains_type}
 use Rattle.domain_zone.specs.Zone.{OwnersNeverDescend, ZoneRecord}
-use Rattle.domain_nsec.specs.{Chain.{IsChain, Link, nsec_lists}, Meaning.MeansTheZone}
-use Rattle.domain_nsec.specs.declared.config.GenerateNsecConfig.{GenerateNsecConfig}
+use Rattle.domain_nsec.specs.{Chain.{IsChain, Link, nsec_lists}, Meaning.MeansTheZone, declared.config.GenerateNsecConfig.GenerateNsecConfig}
 
 -- what is known of one chain
 pub record NsecFacts (L : List ZoneRecord) (a : Name) (config : GenerateNsecConfig)

@@ -1,5 +1,5 @@
 -- What NSEC3 records say of hashes, whoever sent them (RFC 5155, section 3); a is the apex.
-use Rattle.std.specs.{Prelude.{Bool, false, ◌&&◌, ◌==◌, [], ◌∷◌, length, bytes_eq, Option, Some, None, if◌then◌else◌}, List.list_all}
+use Rattle.std.specs.{List.list_all, Option.option_map_or, Prelude.{Bool, false, ◌&&◌, ◌==◌, [], ◌∷◌, length, bytes_eq, Option, Some, None, if◌then◌else◌}}
 use Rattle.domain_codecs.specs.{Codec.{is_digit, is_base32_length, base32_octets, base32_digits}, declared.codec.Codec.TheVariants.Base32Hex}
 use Rattle.domain_octets.specs.Words.{Octets}
 use Rattle.domain_names.specs.{Name.same_name, Words.{Label, Name}}
@@ -30,13 +30,10 @@ hash_in a (label ∷ above) =
 abbrev pub owner_hash : Name → Parameters → HashedLink → Option Octets
 owner_hash a p k = if same_parameters k.parameters p then hash_in a k.owner else None
 
-abbrev pub is_some_with : (Octets → Bool) → Option Octets → Bool
-is_some_with test None = false
-is_some_with test (Some h) = test h
-
 -- a record that is not passed over matches the hash v; covers it
 abbrev pub is_hash_match : Name → Parameters → Octets → HashedLink → Bool
-is_hash_match a p v k = is_some_with (λ h. matches octets_before h v) (owner_hash a p k)
+is_hash_match a p v k = option_map_or (λ h. matches octets_before h v) (owner_hash a p k) false
 
 abbrev pub is_hash_cover : Name → Parameters → Octets → HashedLink → Bool
-is_hash_cover a p v k = is_some_with (λ h. covers octets_before h k.next v) (owner_hash a p k)
+is_hash_cover a p v k =
+    option_map_or (λ h. covers octets_before h k.next v) (owner_hash a p k) false

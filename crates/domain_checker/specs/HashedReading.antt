@@ -1,18 +1,17 @@
 -- What NSEC3 records say by themselves of a name x, by what they tell of its closest encloser (RFC
 -- 5155, section 8); a is the apex.
-use Rattle.std.specs.Prelude.{ℕ, ◌≡◌, ◌≢◌, ◌⊎◌, Bool, true, false, not, ◌&&◌, ◌==◌, [], ◌∷◌, length, Option, Some, None}
-use Rattle.std.specs.Prelude.{Result, Ok, IfOk, IfErr, IsErrOf, if◌then◌else◌}
+use Rattle.std.specs.Prelude.{ℕ, ◌≡◌, ◌≢◌, ◌⊎◌, Bool, true, false, not, ◌&&◌, ◌==◌, [], ◌∷◌, length, Option, Some, None, Result, Ok, IfOk, IfErr, IsErrOf}
+use Rattle.std.specs.Prelude.{if◌then◌else◌}
 use Rattle.domain_names.specs.{Name.is_at_or_below, Words.Name}
 use Rattle.domain_base.specs.Types.{ds, Rtypes}
+use Rattle.domain_hasher.specs.declared.error.Nsec3HashError.{Nsec3HashError, TheVariants.{Hasher, OutOfMemory}}
 use Rattle.domain_bitmap.specs.Blocks.{contains_type, types_of}
 use Rattle.domain_chain_rdata.specs.OptOut.{is_opt_out}
-use Rattle.domain_hasher.specs.declared.error.Nsec3HashError.{Nsec3HashError, TheVariants.{Hasher, OutOfMemory}}
 use Rattle.domain_nsec3.specs.Chain.{HashedLink}
-use Rattle.domain_checker.specs.HashedEncloser.{Encloser, IsFoundEncloser, encloser_is_cut}
-pub use Rattle.domain_checker.specs.HashedEncloser.{IsNextHash, IsUnmatched}
-use Rattle.domain_checker.specs.HashedVerdict.{missing_verdict, IsHashedProved, HasHashedProof, IsFirstRefusal}
-use Rattle.domain_checker.specs.{HashedView.HashedRecords, Verdict.IsWithin, declared.verdict.Verdict.Verdict}
+use Rattle.domain_checker.specs.{HashedEncloser.{Encloser, IsFoundEncloser, encloser_is_cut}, declared.verdict.Verdict.Verdict}
+use Rattle.domain_checker.specs.{HashedVerdict.{missing_verdict, IsHashedProved, HasHashedProof, IsFirstRefusal}, HashedView.HashedRecords, Verdict.IsWithin}
 use Rattle.domain_checker.specs.declared.verdict.Verdict.TheVariants.{OutsideZone, BelowDelegation, Has, NoType, EmptyName, NotProven}
+pub use Rattle.domain_checker.specs.HashedEncloser.{IsNextHash, IsUnmatched}
 
 abbrev pub is_none : Rtypes → Bool
 is_none [] = true

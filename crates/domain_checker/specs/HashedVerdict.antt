@@ -1,30 +1,23 @@
 -- What a zone with an NSEC3 chain says of a name and a type, and what a list of records proves of
 -- it (RFC 5155, section 8); a is the apex, x the name and t the type.
-use Rattle.std.specs.Prelude.{ℕ, Bool, true, false, not, ◌&&◌, ◌||◌, ◌==◌, ◌+◌, List, ◌≡◌, All, length, Option, Some, None, Ok, Err, if◌then◌else◌}
-use Rattle.std.specs.List.{list_any}
+use Rattle.std.specs.{List.list_any, Option.option_map_or}
+use Rattle.std.specs.Prelude.{ℕ, Bool, true, false, not, ◌&&◌, ◌||◌, ◌+◌, List, ◌≡◌, All, length, Ok, Err, if◌then◌else◌}
 use Rattle.domain_octets.specs.Words.{Octets}
 use Rattle.domain_names.specs.{Name.{is_at_or_below, is_strictly_below, last_labels, same_name}, Words.Name}
-use Rattle.domain_base.specs.Types.{ds, ns}
+use Rattle.domain_base.specs.Types.{ns}
 use Rattle.domain_bitmap.specs.Blocks.{contains_type}
 use Rattle.domain_chain_rdata.specs.OptOut.{is_opt_out}
 use Rattle.domain_zone.specs.{Enclosers.exists_over, Zone.{ZoneRecord, is_zone_cut}}
 use Rattle.domain_nsec3.specs.{Chain.{HashedLink, IsHashedChain}, Config.{ChainConfig, HashAnswer, hash_name}, Meaning.AreAlone}
 use Rattle.domain_nsec3.specs.Owners.{is_original_owner, nsec3_lists, original_owners}
-use Rattle.domain_checker.specs.Alike.{IsHashedAlike, IsPairedIn}
-use Rattle.domain_checker.specs.{HashedList.{is_hash_match, is_hash_cover}, HashedView.{HashedRecords, chain_records, first_match}, Verdict.closest_encloser}
-use Rattle.domain_checker.specs.declared.verdict.Verdict.{Verdict}
-use Rattle.domain_checker.specs.declared.verdict.Verdict.TheVariants.{OutsideZone, BelowDelegation, Has, NoType, EmptyName, OptOut, NoName, NotProven}
+use Rattle.domain_checker.specs.{Alike.{IsHashedAlike, IsPairedIn}, HashedList.{is_hash_match, is_hash_cover}, declared.verdict.Verdict.Verdict}
+use Rattle.domain_checker.specs.{HashedView.{HashedRecords, chain_records, first_match}, Verdict.{closest_encloser, types_verdict}}
+use Rattle.domain_checker.specs.declared.verdict.Verdict.TheVariants.{OutsideZone, BelowDelegation, EmptyName, OptOut, NoName, NotProven}
 
 -- x is strictly below a zone cut that the chain holds
 abbrev pub is_below_chain_cut : List ZoneRecord → Name → ChainConfig → Name → Bool
 is_below_chain_cut L a config x =
     list_any (λ n. is_zone_cut L a n && is_strictly_below x n) (original_owners L a config)
-
--- of an original owner name
-abbrev pub original_verdict : List ZoneRecord → Name → ChainConfig → Name → ℕ → Verdict
-original_verdict L a config x t =
-    if nsec3_lists L a config x t then Has
-    else if is_zone_cut L a x && not (t == ds) then BelowDelegation else NoType
 
 -- of a name whose next closer name is covered; the number counts the labels of its closest encloser
 abbrev pub missing_verdict : Bool → ℕ → Verdict
@@ -36,7 +29,8 @@ abbrev pub hashed_zone_verdict : List ZoneRecord → Name → ChainConfig → Na
 hashed_zone_verdict L a config x t =
     if not (is_at_or_below x a) then OutsideZone
     else if is_below_chain_cut L a config x then BelowDelegation
-    else if is_original_owner L a config x then original_verdict L a config x t
+    else if is_original_owner L a config x
+    then types_verdict (is_zone_cut L a x) (nsec3_lists L a config x) t
     else if exists_over (original_owners L a config) a x then EmptyName
     else missing_verdict (is_opt_out config.flags)
     (length (closest_encloser (original_owners L a config) a x))
@@ -99,14 +93,12 @@ pub record IsFirstMatched (R : HashedRecords) (x d : Name) : Type 0 where
   pub found : is_matched R d ≡ true
   pub first : IsFirst R x d
 
-abbrev pub lists_ns : Option HashedLink → Bool
-lists_ns None = false
-lists_ns (Some k) = contains_type k.bits ns
-
 -- d is not the apex, and the first record that matches it lists NS
 abbrev pub is_told_cut : HashedRecords → Name → Bool
 is_told_cut R d =
-    not (same_name d R.apex) && is_ok_with (λ v. lists_ns (first_match R v)) (hash_name R.hash d)
+    not (same_name d R.apex)
+    && is_ok_with (λ v. option_map_or (λ k. contains_type k.bits ns) (first_match R v) false)
+    (hash_name R.hash d)
 
 -- a record matches x or an ancestor at or below the apex and, unless the first such name is x or is
 -- told to be a zone cut, one covers the name one label longer

@@ -1,12 +1,12 @@
 -- What NSEC records say by themselves (RFC 4035, section 5.4; RFC 6840, section 4.1).
-use Rattle.std.specs.{Prelude.{◌≡◌, ◌≢◌, ℕ, Bool, true, not, ◌&&◌, ◌==◌, List, Option, Some, None, length, if◌then◌else◌}, List.find}
+use Rattle.std.specs.{Prelude.{◌≡◌, ◌≢◌, ℕ, Bool, true, not, ◌&&◌, List, Option, Some, None, length, if◌then◌else◌}, List.find}
 use Rattle.domain_bitmap.specs.Blocks.{contains_type}
 use Rattle.domain_names.specs.{Name.{is_at_or_below, is_strictly_below, same_name}, Order.before, Words.Name}
-use Rattle.domain_base.specs.Types.{ds, ns}
+use Rattle.domain_base.specs.Types.{ns}
 use Rattle.domain_zone.specs.{Covering.{matches, covers}, Enclosers.{longer, shared}}
 use Rattle.domain_nsec.specs.Chain.{Link}
-use Rattle.domain_checker.specs.{Verdict.{HasProof, IsProved, IsWithin, is_inside}, declared.verdict.Verdict.Verdict}
-use Rattle.domain_checker.specs.declared.verdict.Verdict.TheVariants.{OutsideZone, BelowDelegation, Has, NoType, EmptyName, NoName, NotProven}
+use Rattle.domain_checker.specs.{Verdict.{HasProof, IsProved, IsWithin, is_inside, types_verdict}, declared.verdict.Verdict.Verdict}
+use Rattle.domain_checker.specs.declared.verdict.Verdict.TheVariants.{OutsideZone, BelowDelegation, EmptyName, NoName, NotProven}
 
 -- the owner is a zone cut: the record lists NS, and the owner is not the apex
 abbrev pub is_at_cut : Name → Link → Bool
@@ -14,9 +14,7 @@ is_at_cut a k = not (same_name k.owner a) && contains_type k.bits ns
 
 -- what a record says of its owner
 abbrev pub match_verdict : Name → Link → ℕ → Verdict
-match_verdict a k t =
-    if contains_type k.bits t then Has else
-    (if is_at_cut a k && not (t == ds) then BelowDelegation else NoType)
+match_verdict a k t = types_verdict (is_at_cut a k) (contains_type k.bits) t
 
 -- what a record says of a name that it covers: below its owner, a zone cut, all belongs to the
 -- child; a next name below x makes x an empty non-terminal; else there is no x, and its closest

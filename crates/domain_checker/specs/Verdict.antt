@@ -16,28 +16,23 @@ closest_encloser names a [] = []
 closest_encloser names a (l ∷ x) =
     if exists_over names a (l ∷ x) then l ∷ x else closest_encloser names a x
 
--- of an owner of the chain: it has the types that its record lists, and at a zone cut the zone
--- tells of DS alone
-abbrev pub owner_verdict : List ZoneRecord → Name → Bool → Name → ℕ → Verdict
-owner_verdict L a assume x t =
-    if nsec_lists L a assume x t then Has else
-    (if is_zone_cut L a x && not (t == ds) then BelowDelegation else NoType)
-
--- of a name that is no owner of the chain
-abbrev pub other_verdict : List Name → Name → Name → Verdict
-other_verdict owners a x =
-    if is_empty_nonterminal owners a x then EmptyName else
-    NoName (length (closest_encloser owners a x))
+-- of a name that owns records, by the types that its record lists, of which a zone tells DS alone
+-- at a zone cut
+abbrev pub types_verdict : Bool → (ℕ → Bool) → ℕ → Verdict
+types_verdict at_cut lists t =
+    if lists t then Has else
+    (if at_cut && not (t == ds) then BelowDelegation else NoType)
 
 -- the first that holds: x isn't at or below the apex, is strictly below a zone cut, is an owner of
--- the chain, or none of these
+-- the chain, an empty non-terminal, or none of these
 abbrev pub zone_verdict : List ZoneRecord → Name → Bool → Name → ℕ → Verdict
 zone_verdict L a assume x t =
     if not (is_at_or_below x a) then OutsideZone else
     (if is_occluded false L a x then BelowDelegation else
     (if list_any (λ n. same_name n x) (unoccluded_owners false L a)
-    then owner_verdict L a assume x t
-    else other_verdict (unoccluded_owners false L a) a x))
+    then types_verdict (is_zone_cut L a x) (nsec_lists L a assume x) t
+    else if is_empty_nonterminal (unoccluded_owners false L a) a x then EmptyName
+    else NoName (length (closest_encloser (unoccluded_owners false L a) a x))))
 
 -- a record of the list matches or covers x
 abbrev pub has_match_or_cover : List Link → Name → Bool

@@ -1,24 +1,20 @@
 //! What holds of verdicts, and of what records say. A caller calls the law in its body.
-ghost use Rattle.std.specs.Prelude.{◌≡◌, ◌≢◌, ◌<◌, ℕ, Bool, List, true, false};
+ghost use Rattle.std.specs.{List.Contains, Prelude.{◌≡◌, ◌≢◌, ◌<◌, ℕ, Bool, List, true, false}};
+ghost use Rattle.domain_octets.specs.Words.{Octets};
 ghost use Rattle.domain_names.specs.{Name.is_at_or_below, Words.Name};
-ghost use Rattle.domain_zone.specs.Enclosers.{exists_over, IsClosestEncloser};
-ghost use Rattle.domain_zone.specs.Zone.{OwnersNeverDescend, ZoneRecord};
-ghost use Rattle.domain_nsec.specs.Chain.{IsChain, Link};
-ghost use Rattle.domain_nsec.specs.declared.config.GenerateNsecConfig.{GenerateNsecConfig};
-ghost use Rattle.domain_nsec3.specs.{Chain.{HashedLink, IsHashedChain}, Config.ChainConfig};
-ghost use Rattle.domain_nsec3.specs.Meaning.{AreAlone};
-ghost use Rattle.domain_checker.specs.Verdict.{closest_encloser, proved_verdict, zone_verdict};
-ghost use Rattle.domain_checker.specs.Facts.{NsecChainsAreKnown};
-ghost use Rattle.domain_checker.specs.{Reading.IsChecked, Alike.{ArePaired, IsAlike, IsHashedAlike}};
-ghost use Rattle.domain_checker.specs.HashedVerdict.{hashed_proved_verdict, hashed_zone_verdict};
-ghost use Rattle.domain_checker.specs.HashedReading.{IsWalked};
-ghost use Rattle.domain_checker.specs.HashedView.{HashedRecords, with_links};
-ghost use Rattle.domain_checker.specs.{Reading.reading, declared.verdict.Verdict.Verdict};
-ghost use Rattle.domain_checker.specs.declared.verdict.Verdict.TheVariants.{NotProven};
+ghost use Rattle.domain_zone.specs.{Enclosers.{exists_over, IsClosestEncloser}, Zone.{OwnersNeverDescend, ZoneRecord}};
+ghost use Rattle.domain_nsec.specs.{Chain.{IsChain, Link}, declared.config.GenerateNsecConfig.GenerateNsecConfig};
+ghost use Rattle.domain_nsec3.specs.{Chain.{HashedLink, IsHashedChain}, Config.ChainConfig, Meaning.{AreAlone, IsAlone}};
+ghost use Rattle.domain_checker.specs.{Alike.{ArePaired, IsAlike, IsHashedAlike}, Facts.NsecChainsAreKnown, HashedEncloser.{IsDenial, IsOfName}};
+ghost use Rattle.domain_checker.specs.{HashedFacts.ChainsAreKnown, HashedList.{is_hash_cover, is_hash_match}, HashedReading.{IsWalked, WalksAreProved}};
+ghost use Rattle.domain_checker.specs.{HashedVerdict.{hashed_proved_verdict, hashed_zone_verdict}, HashedView.{HashedRecords, with_links}};
+ghost use Rattle.domain_checker.specs.{Reading.{IsChecked, reading}, Verdict.{closest_encloser, proved_verdict, zone_verdict}};
+ghost use Rattle.domain_checker.specs.declared.verdict.Verdict.{Verdict, TheVariants.NotProven};
 
-pub use crate::nsec3_laws::{hashed_chains_are_known, hashes_tell_of_names, walks_are_proved};
 use domain_bitmap::laws::built_bitmaps_give_their_types;
+use domain_codecs::laws::{base32_reads_back, base32_tells_apart};
 use domain_nsec::laws::{chains_mean_the_zone, types_ignore_case};
+use domain_nsec3::laws as nsec3_laws;
 
 /// Where the apex exists, a name at or below it has a closest encloser, which is the first of the
 /// name and its ancestors that exists.
@@ -38,7 +34,7 @@ pub fn chains_are_known()
 
 /// What any records say by themselves is what they prove of the zone of whose chain they are, and
 /// of any records at all no verdict comes without a proof.
-#[tactic(auto, using(crate::proofs::ListLemmas::reading_checked))]
+#[tactic(auto, using(crate::proofs::MeantLemmas::reading_checked))]
 pub fn readings_are_proved()
     ensures { (listed : List Link) (a x : Name) (t : ℕ) → t < 65536
         → IsChecked listed a x t (reading a listed x t) }
@@ -55,7 +51,7 @@ pub fn readings_ignore_case_and_ttl()
 {}
 
 /// The same of NSEC3 records (`walks_are_proved`).
-#[tactic(auto, using(crate::proofs::HashedAlikeLemmas::walked_alike))]
+#[tactic(auto, using(crate::proofs::AlikeLemmas::walked_alike))]
 pub fn walks_ignore_case_and_ttl()
     ensures { (R : HashedRecords) (other : List HashedLink) (x : Name) (t : ℕ)
         (verdict : Verdict) → ArePaired IsHashedAlike R.links other → IsWalked R x t verdict
@@ -64,7 +60,7 @@ pub fn walks_ignore_case_and_ttl()
 
 /// The whole chain of a zone proves what the zone says of every name and type, and the zone says
 /// something of each.
-#[tactic(auto, using(crate::proofs::ListLemmas::whole_proves, crate::proofs::ListLemmas::zone_says))]
+#[tactic(auto, using(crate::proofs::MeantLemmas::whole_proves, crate::proofs::MeantLemmas::zone_says))]
 pub fn whole_chains_prove_all()
     ensures zone { (L : List ZoneRecord) (a : Name) (config : GenerateNsecConfig)
         (links : List Link) (x : Name) (t : ℕ) → config.occlude_below_dname ≡ false
@@ -88,6 +84,48 @@ pub fn whole_hashed_chains_prove_all()
         → hashed_proved_verdict L a config links x t ≡ hashed_zone_verdict L a config x t }
     ensures definite { (L : List ZoneRecord) (a : Name) (config : ChainConfig) (x : Name) (t : ℕ)
         → hashed_zone_verdict L a config x t ≢ NotProven }
+{
+    hashed_chains_are_known();
+}
+
+/// What the laws of NSEC3 chains, of names, of bitmaps and of Base 32 say, put together for each
+/// chain.
+pub fn hashed_chains_are_known()
+    ensures { ChainsAreKnown }
+{
+    nsec3_laws::chains_mean_the_zone();
+    nsec3_laws::names_exist();
+    nsec3_laws::names_end_at_the_encloser();
+    nsec3_laws::types_ignore_case();
+    built_bitmaps_give_their_types();
+    base32_reads_back();
+    base32_tells_apart();
+}
+
+/// What NSEC3 records say on the way from a name to the apex is what they prove of any zone of
+/// whose chain they are; and of any records at all no verdict comes without a proof.
+pub fn walks_are_proved()
+    ensures { (R : HashedRecords) (x : Name) (t : ℕ) (verdict : Verdict)
+        → t < 65536 → is_at_or_below x R.apex ≡ true
+        → IsWalked R x t verdict → WalksAreProved R x t verdict }
+{
+    hashed_chains_are_known();
+}
+
+/// A record of a chain that matches the hash of a name says that the name exists, and lists its
+/// types; one that covers it says that there is no such name. That holds of each name whose hash no
+/// other name of the chain has.
+pub fn hashes_tell_of_names()
+    ensures matches { (L : List ZoneRecord) (a : Name) (config : ChainConfig)
+        (links : List HashedLink) → IsHashedChain L a config links
+        → (x : Name) (v : Octets) → is_at_or_below x a ≡ true → IsAlone L a config x v
+        → (k : HashedLink) → Contains links k → is_hash_match a config.parameters v k ≡ true
+        → IsOfName L a config x k }
+    ensures covers { (L : List ZoneRecord) (a : Name) (config : ChainConfig)
+        (links : List HashedLink) → IsHashedChain L a config links
+        → (x : Name) (v : Octets) → is_at_or_below x a ≡ true → IsAlone L a config x v
+        → (k : HashedLink) → Contains links k → is_hash_cover a config.parameters v k ≡ true
+        → IsDenial L a config x k }
 {
     hashed_chains_are_known();
 }

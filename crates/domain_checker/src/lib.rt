@@ -20,7 +20,6 @@ pub mod laws;
 mod listed;
 mod nsec;
 mod nsec3;
-mod nsec3_laws;
 mod nsec_check;
 mod spelled;
 mod verdict;

@@ -50,7 +50,7 @@ struct Shares {
 
 /// Whether the owner and the next name cover the name: it lies between the two, or on either side
 /// of them where the next name is not after the owner. If so, how many labels it shares with them.
-#[tactic(auto, using(crate::proofs::CoveredLemmas::covers_is, std::proofs::lemmas::Grind::common_steps))]
+#[tactic(auto, using(crate::proofs::MeantLemmas::covers_is, std::proofs::lemmas::Grind::common_steps))]
 fn covered<N: ToName, M: ToName>(owner: &N, next: &N, name: &M) -> Option<Shares>
     ensures covers { is_some result
         ≡ covers before (N.labels owner.now) (N.labels next.now) (M.labels name.now) }
@@ -76,7 +76,7 @@ fn covered<N: ToName, M: ToName>(owner: &N, next: &N, name: &M) -> Option<Shares
 
 /// Whether the owner and the next name are at or below the apex, by what a name shares with them:
 /// where it is at or below the apex, as many labels as that has.
-#[tactic(auto, using(crate::proofs::CoveredLemmas::below_by_shared, crate::proofs::CoveredLemmas::below_is))]
+#[tactic(auto, using(crate::proofs::MeantLemmas::below_by_shared, crate::proofs::MeantLemmas::below_is))]
 fn shares_apex<A: ToName, O: Octets, N: ToName, M: ToName>(
     apex: &A,
     listed: &NsecRr<O, N>,
@@ -112,7 +112,7 @@ pub fn is_match<A: ToName, O: Octets, N: ToName, M: ToName>(
 /// How many labels the longer has of the names that a name shares with the owner and with the next
 /// name of a record, where that is not passed over and covers the name: those of the closest
 /// encloser, where there is no such name.
-#[tactic(auto, using(crate::proofs::CoveredLemmas::longer_is))]
+#[tactic(auto, using(crate::proofs::MeantLemmas::longer_is))]
 pub fn shared_if_covered<A: ToName, O: Octets, N: ToName, M: ToName>(
     apex: &A,
     listed: &NsecRr<O, N>,

@@ -1,40 +1,18 @@
 //! What records of an NSEC3 chain prove.
-ghost use Rattle.std.specs.{Prelude.{◌≡◌, IsErrOf}, Option.option_map};
+ghost use Rattle.std.specs.{Option.option_map, Prelude.{◌≡◌, IsErrOf}};
 ghost use Rattle.domain_nsec3.specs.View.{as_hashed_link};
-ghost use Rattle.domain_hasher.specs.declared.error.Nsec3HashError.TheVariants as hash_error;
-ghost use Rattle.domain_checker.specs.HashedEncloser.{encloser_of};
-ghost use Rattle.domain_checker.specs.HashedReading.{found_verdict, hash_cover_verdict, IsHashedChecked, own_verdict};
+ghost use Rattle.domain_checker.specs.{HashedEncloser.encloser_of, HashedReading.{found_verdict, hash_cover_verdict, IsHashedChecked}};
 ghost use Rattle.domain_checker.specs.HashedView.{hashed_records};
+ghost use Rattle.domain_hasher.specs.declared.error.Nsec3HashError.TheVariants as hash_error;
 
 use crate::hashed::Nsec3Rr;
-use crate::nsec3_laws::walks_are_proved;
+use crate::laws::walks_are_proved;
 use crate::{Nsec3Encloser, Verdict, find_nsec3_encloser};
 use domain_base::{Rtype, ToName};
 use domain_hasher::{Nsec3HashError, Nsec3Hasher};
 use domain_nsec3::Nsec3Records;
 use domain_octets::Octets;
 use std::alloc::Global;
-
-/// What the record that matches a name says of it.
-fn own_verdict<A: ToName, O: Octets, N: ToName>(
-    apex: &A,
-    encloser: &Nsec3Encloser<'_, O, N>,
-    rtype: Rtype,
-) -> Verdict
-    ensures { result ≡ own_verdict (A.labels apex.now) (encloser_of N.labels encloser.now) rtype }
-{
-    let types = encloser.matching.data().types();
-    if types.contains(rtype) {
-        return Verdict::Has;
-    }
-    if encloser.is_zone_cut(apex) && rtype != Rtype::DS {
-        return Verdict::BelowDelegation;
-    }
-    if types.is_empty() {
-        return Verdict::EmptyName;
-    }
-    Verdict::NoType
-}
 
 /// What the first cover of the next closer name says of a name. The number counts the labels of its
 /// closest encloser.
@@ -64,13 +42,23 @@ fn found_verdict<A: ToName, O: Octets, N: ToName>(
 {
     match found {
         Some(encloser) => {
-            if encloser.count == count {
-                own_verdict(apex, &encloser, rtype)
-            } else if encloser.is_zone_cut(apex) {
-                Verdict::BelowDelegation
-            } else {
-                cover_verdict(encloser.cover, encloser.count)
+            if encloser.count != count {
+                if encloser.is_zone_cut(apex) {
+                    return Verdict::BelowDelegation;
+                }
+                return cover_verdict(encloser.cover, encloser.count);
             }
+            let types = encloser.matching.data().types();
+            if types.contains(rtype) {
+                return Verdict::Has;
+            }
+            if encloser.is_zone_cut(apex) && rtype != Rtype::DS {
+                return Verdict::BelowDelegation;
+            }
+            if types.is_empty() {
+                return Verdict::EmptyName;
+            }
+            Verdict::NoType
         }
         None => Verdict::NotProven,
     }

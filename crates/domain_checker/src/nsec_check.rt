@@ -38,7 +38,7 @@ impl<'a> NsecCheck<'a> {
     }
 
     /// Hands in a record, which comes after those that were handed in before.
-    #[tactic(auto, using(crate::proofs::HandedInLemmas::found_stays, crate::proofs::HandedInLemmas::found_last, crate::proofs::HandedInLemmas::found_before))]
+    #[tactic(auto, using(crate::proofs::MeantLemmas::found_stays, crate::proofs::MeantLemmas::found_last, crate::proofs::MeantLemmas::found_before))]
     pub fn add<O: Octets, N: ToName>(&mut self, listed: &Record<N, Nsec<O, N>>)
         ensures { (a x : Name) (t : ℕ) (before : List Link) → HasRead a x t before self.old
             → HasRead a x t (before ++ as_link N.labels listed.now ∷ []) self.new }

@@ -1,6 +1,5 @@
 //! Hashes that labels spell in Base 32 hex.
-ghost use Rattle.std.specs.{Prelude.{◌≡◌}, Ordering.nat_cmp};
-ghost use Rattle.std.specs.{Cmp.Lexicographic.slice_cmp, List.list_all};
+ghost use Rattle.std.specs.{Cmp.Lexicographic.slice_cmp, List.list_all, Ordering.nat_cmp, Prelude.{◌≡◌}};
 ghost use Rattle.domain_codecs.specs.Codec.{is_digit};
 ghost use Rattle.domain_checker.specs.HashedList.{is_spelling, read_label};
 

@@ -1,24 +1,207 @@
 -- What is picked of an NSEC3 chain answers as the whole chain does, and less without one of its records.
-use Rattle.std.proofs.Common.{◌≡◌, ℕ, ◌<◌, Bool, true, false, cond, not, ◌&&◌, List, [], length, Some, None, Option, slice_get, nat_eq, refl, sym, ap, ◌∙◌}
-use Rattle.std.proofs.{Common.{subst, inl, inr, ◌⊎◌, arith}, lemmas.{Option.same_Some, Bool.{eqb-false, false_from_ne_true, false≢true}, Grind.common_steps}}
-use Rattle.std.specs.{List.list_any, Prelude.{Ok, Err}}
-use Rattle.domain_octets.{specs.Words.Octets, proofs.StdLemmas.none_some}
-use Rattle.domain_names.specs.{Name.{is_at_or_below, last_labels}, Words.Name}
+use Rattle.std.proofs.Common.{◌≡◌, ℕ, Bool, true, false, List, [], ◌∷◌, ◌++◌, Some, None, Option, slice_get, length, refl, sym, ap, ◌∙◌, subst, inl, inr, ◌<◌}
+use Rattle.std.{proofs.{Common.{arith, not, cond, ◌&&◌, nat_eq, ◌⊎◌}, lemmas.List.Elements.All-from_recursion}, specs.Prelude.{All, Err, Ok, option_to_list}}
+use Rattle.std.proofs.lemmas.{Bool.{ne_eqb, or_left, or_right, and_from, eqb-false, false_from_ne_true, false≢true}, Grind.common_steps}
+use Rattle.std.{proofs.lemmas.Option.{slice_get_cases, slice_get_within, get_or_from_slice_get, same_Some}, specs.List.{Contains, find, list_any}}
+use Rattle.domain_octets.{proofs.StdLemmas.none_some, specs.Words.Octets}
+use Rattle.domain_names.specs.{Name.{is_at_or_below, is_strictly_below, lowered, same_name, wire_of, last_labels}, Words.{Label, Name}}
 use Rattle.domain_base.specs.Types.{dname}
 use Rattle.domain_bitmap.specs.Blocks.{contains_type}
-use Rattle.domain_zone.proofs.{FindLemmas.{any_none, in_at}, NameLemmas.below_length, OwnerLemmas.in_any, PairLemmas.In}
-use Rattle.domain_nsec3.specs.{Chain.{ChainRecords, HashedLink}, Config.{Hash, hash_name}}
-use Rattle.domain_checker.specs.{HashedEncloser.{Encloser, IsEncloser, encloser_is_cut, next_cover}, HashedList.is_hash_match, HashedReading.IsNextHash}
-use Rattle.domain_checker.specs.{HashedReading.IsUnmatched, HashedVerdict.{IsFirst, is_matched, is_ok_with, next_closer}, HashedView.HashedRecords}
-use Rattle.domain_checker.{specs.HashedView.{first_cover, first_match, with_links}, proofs.HashedWalkLemmas.some_matched}
-use Rattle.domain_answer.specs.HashedReading.{IsHashedRead, IsReadOn, IsWildcardRead, encloser_answer, next_answer, own_answer, wildcard_told}
-use Rattle.domain_answer.specs.{ZoneAnswer.wildcard_below, declared.answer.Answer.{Answer, TheVariants.{Referral, Redirected, NoCloserName, NotProven}}}
-use Rattle.domain_answer.proofs.{EncloserLemmas.last_above, ExpansionLemmas.last_low, HashedWayLemmas.closer_counts}
-use Rattle.domain_denier.specs.{HashedPicked.{IsRefusedAbove, TellsOfName, all_records, hashed_picked, picked_without}, HashedSteps.IsCoverAt}
-use Rattle.domain_denier.specs.HashedSteps.{IsPlaced, IsOfZone, IsSoleOf, encloser_at, link_at, next_role, rests_below, wildcard_told_by}
+use Rattle.domain_zone.proofs.{FindLemmas.{in_front, stands_in, any_none, in_at}, PairLemmas.{In, all_from_in}}
+use Rattle.domain_zone.{proofs.{NameLemmas.{below_itself, below_parent, below_trans, same_itself, below_length}, OwnerLemmas.in_any}, specs.Zone.ZoneRecord}
+use Rattle.domain_nsec3.specs.{Chain.{ChainRecords, HashedLink}, Config.{ChainConfig, Hash, hash_name}}
+use Rattle.domain_checker.proofs.HashedListLemmas.{IsMissed, IsPassed, none_first, none_left, passed_on, heard}
+use Rattle.domain_checker.specs.{HashedEncloser.{Encloser, IsEncloser, encloser_is_cut, next_cover}, HashedList.{is_hash_cover, is_hash_match}}
+use Rattle.domain_checker.specs.{HashedReading.{IsUnmatched, IsNextHash}, HashedVerdict.{IsFirst, is_matched, is_ok_with, next_closer}}
+use Rattle.domain_checker.specs.HashedView.{HashedRecords, chain_records, first_cover, first_match, with_links}
+use Rattle.domain_answer.{proofs.{EncloserLemmas.{parent_below, last_above}, HashedAnswerLemmas.{last_low, closer_counts}}, specs.ZoneAnswer.wildcard_below}
+use Rattle.domain_answer.specs.HashedReading.{wildcard_told, IsHashedRead, IsReadOn, IsWildcardRead, encloser_answer, next_answer, own_answer}
+use Rattle.domain_answer.specs.declared.answer.Answer.{Answer, TheVariants.{Referral, Redirected, NoCloserName, NotProven}}
+use Rattle.domain_denier.specs.HashedPicked.{IsHashedWhole, IsPicked, all_records, hashed_picked, other_place, picked_without, without, IsRefusedAbove}
+use Rattle.domain_denier.specs.{HashedPicked.TellsOfName, HashedSteps.{IsOfHash, tells_hash, wildcard_told_by, IsFoundAt, IsOfZone, IsReached, IsCoverAt}}
+use Rattle.domain_denier.specs.{HashedSteps.{IsFirstAnswer, IsPlaced, IsSoleOf, encloser_at, next_role, rests_below}, Picked.{link_at, at_place}}
 use Rattle.domain_denier.specs.declared.{encloser.PlacedEncloser.PlacedEncloser, nsec3.Nsec3Denial.Nsec3Denial}
-use Rattle.domain_denier.proofs.SomeLemmas.{AreAmong, AreOthers, all_among, covered, in_picked, in_without, matched, no_cover, no_match, others_among}
-use Rattle.domain_denier.proofs.SomeLemmas.{picked_among, told_in, without_others}
+
+-- the records of a zone's chain are read as that chain tells
+pub read_is : (L : List ZoneRecord) (config : ChainConfig) (hash : Hash) (chain : ChainRecords) → IsHashedWhole L config hash chain
+    → chain_records chain.param.owner config chain.links ≡ all_records hash chain
+read_is L config hash chain whole = grind (arith, common_steps)
+
+-- ---- finding
+
+module _ {X : Type 0} (f : X → Bool) where
+  none_found : (xs : List X) → ((x : X) → In x xs → f x ≡ true → ⊥) → find f xs ≡ None
+  none_found [] g = refl
+  none_found (x ∷ xs) g = grind (arith, common_steps, (none_found xs (λ y i. g y (inr i))), (g x (inl refl)))
+
+  sole_found : (xs : List X) (x : X) → In x xs → f x ≡ true → ((y : X) → In y xs → f y ≡ true → y ≡ x) → find f xs ≡ Some x
+  sole_found [] x i h g = absurd i
+  sole_found (y ∷ xs) x i h g = grind (arith, common_steps, (sole_found xs x), (g y (inl refl)))
+
+-- ---- some of the links
+
+-- each of the listed ones stands among all, at a place that is not this one
+abbrev pub AreOthers : List HashedLink → ℕ → List HashedLink → Type 0
+AreOthers links gone listed =
+    (k : HashedLink) → In k listed → (j : ℕ) × (slice_get links j ≡ Some k) × (j ≡ gone → ⊥)
+
+-- each stands among all
+abbrev pub AreAmong : List HashedLink → List HashedLink → Type 0
+AreAmong links listed = (k : HashedLink) → In k listed → (j : ℕ) × (slice_get links j ≡ Some k)
+
+-- all do
+pub all_among : (links : List HashedLink) → AreAmong links links
+all_among links = λ k i. let s = stands_in links k i in (s.place, s.there)
+
+pub contained : {X : Type 0} (links : List X) (place : ℕ) (k : X) → slice_get links place ≡ Some k → Contains links k
+contained links place k e = (place, slice_get_within links place k e, get_or_from_slice_get links place k k e)
+
+pub record_there : {X : Type 0} (links : List X) (place : ℕ) → place < length links → (k : X) × (slice_get links place ≡ Some k)
+record_there links place h = elim (slice_get_cases links place).1 [ inl some ↦ (some.0, some.2) | inr none ↦ absurd (omega (arith, h, none.0)) ]
+
+pub among_contained : (links listed : List HashedLink) → AreAmong links listed → All (Contains links) listed
+among_contained links listed among =
+    All-from_recursion (Contains links) listed (all_from_in (Contains links) listed (λ k i. let m = among k i in contained links m.0 k m.1))
+
+pub others_among : (links : List HashedLink) (gone : ℕ) (listed : List HashedLink) → AreOthers links gone listed → AreAmong links listed
+others_among links gone listed others = λ k i. let o = others k i in (o.0, o.1)
+
+module _ (R : HashedRecords) (v : Octets) (place : ℕ) (is_match : Bool) (of : IsOfHash R v place is_match) where
+  abbrev match_of : HashedLink → Bool
+  match_of k = is_hash_match R.apex R.parameters v k
+
+  abbrev cover_of : HashedLink → Bool
+  cover_of k = is_hash_cover R.apex R.parameters v k
+
+  by_match : (k : HashedLink) → is_hash_match R.apex R.parameters v k ≡ true → tells_hash R.apex R.parameters v k ≡ true
+  by_match k e = or_left (match_of k) (cover_of k) e
+
+  by_cover : (k : HashedLink) → is_hash_cover R.apex R.parameters v k ≡ true → tells_hash R.apex R.parameters v k ≡ true
+  by_cover k e = or_right (match_of k) (cover_of k) e
+
+  -- none of them but that at the place tells
+  module _ (listed : List HashedLink) (others : AreOthers R.links place listed) where
+    pub no_match : first_match (with_links R listed) v ≡ None
+    no_match = none_found (is_hash_match R.apex R.parameters v) listed (λ k i e. let o = others k i in o.2 (of.only o.0 k o.1 (by_match k e)))
+
+    pub no_cover : first_cover (with_links R listed) v ≡ None
+    no_cover = none_found (is_hash_cover R.apex R.parameters v) listed (λ k i e. let o = others k i in o.2 (of.only o.0 k o.1 (by_cover k e)))
+
+  module _ (listed : List HashedLink) (among : AreAmong R.links listed) where
+    is_link : (k : HashedLink) → In k listed → tells_hash R.apex R.parameters v k ≡ true → k ≡ of.link
+    is_link k i e = grind (arith, common_steps)
+
+    -- a record that covers is no match
+    pub unmatched : is_match ≡ false → first_match (with_links R listed) v ≡ None
+    unmatched other = grind (arith, common_steps, none_found, is_link, by_match)
+
+    pub matched : In of.link listed → is_match ≡ true → first_match (with_links R listed) v ≡ Some of.link
+    matched i sure = grind (arith, common_steps, sole_found, is_link, by_match)
+
+    pub covered : In of.link listed → is_match ≡ false → first_cover (with_links R listed) v ≡ Some of.link
+    covered i other = grind (arith, common_steps, sole_found, is_link, by_cover)
+
+-- what they say of a wildcard with that hash
+pub told_in : (R : HashedRecords) (v : Octets) (place : ℕ) (m : Bool) (of : IsOfHash R v place m) (listed : List HashedLink) → AreAmong R.links listed
+    → In of.link listed → (n t : ℕ)
+    → wildcard_told_by n t of.link m ≡ wildcard_told n t (first_match (with_links R listed) v) (first_cover (with_links R listed) v)
+told_in R v place true of listed among has n t =
+    λ i. wildcard_told n t (sym (matched R v place true of listed among has refl) i) (first_cover (with_links R listed) v)
+told_in R v place false of listed among has n t =
+    λ i. wildcard_told n t (sym (unmatched R v place false of listed among refl) i) (sym (covered R v place false of listed among has refl) i)
+
+-- ---- the links at places
+
+in_back : {X : Type 0} (xs ys : List X) (x : X) → In x ys → In x (xs ++ ys)
+in_back [] ys x i = i
+in_back (y ∷ xs) ys x i = inr (in_back xs ys x i)
+
+-- the link at a place is listed there
+pub in_place : (links : List HashedLink) (o : Option ℕ) (place : ℕ) (k : HashedLink) → o ≡ Some place → slice_get links place ≡ Some k
+    → In k (at_place links o)
+in_place links o place k e g = subst (λ ls. In k ls) (sym (ap (at_place links) e ∙ ap option_to_list g)) (inl refl)
+
+-- ---- the links that were picked
+
+module _ (links : List HashedLink) (d : Nsec3Denial) where
+  from_picked : (k : HashedLink) → In k (hashed_picked links d) → (place : ℕ) × IsPicked d place × (slice_get links place ≡ Some k)
+  from_picked k i = grind (arith, common_steps)
+
+  pub picked_among : AreAmong links (hashed_picked links d)
+  picked_among = λ k i. let f = from_picked k i in (f.0, f.2)
+
+  pub in_picked : (place : ℕ) (k : HashedLink) → slice_get links place ≡ Some k → IsPicked d place → In k (hashed_picked links d)
+  in_picked place k there is = grind (arith, common_steps, in_front, in_back, in_place)
+
+-- but for the one at a place
+from_other : (gone : ℕ) (o : Option ℕ) (place : ℕ) → other_place gone o ≡ Some place → (o ≡ Some place) × (place ≡ gone → ⊥)
+from_other gone o place e = grind (arith, common_steps)
+
+kept_place : (gone : ℕ) (o : Option ℕ) (place : ℕ) → o ≡ Some place → (place ≡ gone → ⊥) → other_place gone o ≡ Some place
+kept_place gone o place e other = grind (arith, common_steps, ne_eqb)
+
+module _ (links : List HashedLink) (d : Nsec3Denial) (gone : ℕ) where
+  never_gone : (place : ℕ) → IsPicked (without gone d) place → place ≡ gone → ⊥
+  never_gone place is = grind (arith, common_steps, from_other)
+
+  pub without_others : AreOthers links gone (picked_without links gone d)
+  without_others = λ k i. let f = from_picked links (without gone d) k i in (f.0, f.2, never_gone f.0 f.1)
+
+  pub in_without : (place : ℕ) (k : HashedLink) → slice_get links place ≡ Some k → IsPicked d place → (place ≡ gone → ⊥)
+      → In k (picked_without links gone d)
+  in_without place k there is other = grind (arith, common_steps, kept_place, in_picked)
+
+-- ---- the names from x up to the apex, by the places of the records that match or cover them
+
+module _ (hash : Hash) (chain : ChainRecords) (x : Name) where
+  abbrev R : HashedRecords
+  R = all_records hash chain
+
+  pub reached_here : is_at_or_below x chain.param.owner ≡ true → IsReached hash chain x x None
+  reached_here low = grind (arith, common_steps, below_itself, none_first, same_itself)
+
+  module _ (left : Name) (cover : Option ℕ) (reached : IsReached hash chain x left cover) where
+    pub refused_at : (n : ℕ) (wire : Octets) → wire ≡ wire_of (lowered left) → hash wire ≡ Err n → IsRefusedAbove chain.param.owner hash x n
+    refused_at n wire e refused = grind (arith, common_steps)
+
+    module _ (place : ℕ) (found : IsFoundAt hash chain (wire_of (lowered left)) place false) where
+      -- of the chain of a zone no record matches it
+      abbrev missed : (zone : IsOfZone hash chain) → IsMissed (all_records hash chain) x left (first_cover (all_records hash chain) (found.sole zone).value)
+      missed zone =
+          let sole = found.sole zone in
+          record {
+            above = reached.above;
+            within = reached.within;
+            first = reached.first zone;
+            value = sole.value;
+            known = sole.known;
+            none = unmatched R sole.value place false sole.of chain.links (all_among chain.links) refl;
+            covered = refl;
+          }
+
+      pub none_placed : same_name left chain.param.owner ≡ true → IsOfZone hash chain → IsUnmatched (all_records hash chain) x
+      none_placed s zone = none_left R x left (first_cover R (found.sole zone).value) (missed zone) s
+
+      module _ (label : Label) (next : Name) (parts : left ≡ label ∷ next) (other : same_name left chain.param.owner ≡ false) where
+        passed : (zone : IsOfZone hash chain) → IsPassed (all_records hash chain) x next (found.sole zone).value
+        passed zone = passed_on R x left (first_cover R (found.sole zone).value) (missed zone) label next parts other
+
+        pub reached_above : IsReached hash chain x next (Some place)
+        reached_above =
+            let a = chain.param.owner in
+            let up : is_at_or_below left next ≡ true = ap (λ n. is_at_or_below n next) parts ∙ below_parent label next in
+            let strictly : is_strictly_below (label ∷ next) chain.param.owner ≡ true = ap (λ n. is_strictly_below n a) (sym parts)
+            ∙ and_from (is_at_or_below left a) (not (same_name left a)) reached.within (ap not other) in
+            record {
+              above = below_trans x left next reached.above up;
+              within = parent_below label next a strictly;
+              there = λ q e. subst (λ n. n < length chain.links) (same_Some place q e) found.inside;
+              first = λ zone. (passed zone).first;
+              closes = λ zone. let p = passed zone in
+                  (p.closes.0, record { value = (found.sole zone).value; known = p.closes.1; of = (found.sole zone).of });
+            }
+
+-- ---- what is picked answers as all links do, and less without one
 
 -- what no link of all matches none of some does
 unmatched_among : (R : HashedRecords) (listed : List HashedLink) → AreAmong R.links listed → (y : Name) (v : Octets)
@@ -115,7 +298,7 @@ module _ (R : HashedRecords) (x : Name) (f : PlacedEncloser) (t : ℕ) (at : IsE
           first = record {
             above = at.above;
             within = at.within;
-            found = some_matched (with_links R listed) at.name at.sole.value k at.sole.known found;
+            found = (heard R.hash (is_hash_match R.apex R.parameters) listed at.name at.sole.value at.sole.known k found).2;
             first = λ y up down. let r = at.first y up down in (r.0, r.1, unmatched_among R listed among y r.0 r.1 r.2);
           };
           value = at.sole.value;
@@ -214,9 +397,7 @@ module _ (R : HashedRecords) (x : Name) (f : PlacedEncloser) (t : ℕ) (at : IsE
 
     -- the wildcard is not asked for
     pub plain_read : d.of_wildcard ≡ None → d.answer ≡ said → ((n : ℕ) → d.answer ≡ NoCloserName n → ⊥) → IsPickedRead R x t d
-    plain_read none is other =
-        picked_read (λ listed among keeps. subst (λ v. IsReadOn (with_links R listed) x t v d.answer) is (plain_on (with_links R listed) x t d.answer other))
-        (λ q e. absurd (none_some q (sym none ∙ e))) (λ q e. absurd (none_some q (sym none ∙ e)))
+    plain_read none is other = grind (arith, common_steps, picked_read, plain_on, none_some)
 
     -- or it is, and this is its record
     module _ (n : ℕ) (closer : said ≡ NoCloserName n) (place : ℕ) (part : d.of_wildcard ≡ Some place) (m : Bool)
@@ -265,34 +446,25 @@ none_read R x t none = record {
 
 -- ---- the wildcard lies below an ancestor
 
-module _ (hash : Hash) (chain : ChainRecords) (x : Name) (f : PlacedEncloser) (placed : IsPlaced hash chain x f) (k : HashedLink) where
-  abbrev Asks : ℕ → ℕ → Type 0
-  Asks t n = encloser_answer chain.param.owner (encloser_at chain.links f k) (length x) t ≡ NoCloserName n
+module _ (hash : Hash) (chain : ChainRecords) (x : Name) (f : PlacedEncloser) (placed : IsPlaced hash chain x f) (t : ℕ) (told : Answer × Option ℕ)
+    (says : (k : HashedLink) → slice_get chain.links f.place ≡ Some k → IsFirstAnswer chain f (length x) t k told) where
+  first : (k : HashedLink) × IsFirstAnswer chain f (length x) t k told
+  first = let k = record_there chain.links f.place placed.found.inside in (k.0, says k.0 k.1)
 
-  pub asked_less : (t n : ℕ) → Asks t n → n < length x
-  asked_less t n asks =
-      let c = closer_counts chain.param.owner (encloser_at chain.links f k) (length x) t n asks in
-      let short = below_length x placed.name placed.reached.above in
-      grind (arith, common_steps, eqb-false)
+  asked_counts : (n : ℕ) → told.0 ≡ NoCloserName n → (n ≡ f.count) × (nat_eq f.count (length x) ≡ false)
+  asked_counts n asks = closer_counts chain.param.owner (encloser_at chain.links f first.0) (length x) t n (sym first.1.0 ∙ asks)
 
-  pub refused_below : (t n : ℕ) → Asks t n → is_at_or_below x chain.param.owner ≡ true → (r : ℕ) → hash_name hash (wildcard_below (last_labels n x)) ≡ Err r
-      → IsRefusedAbove chain.param.owner hash x r
-  refused_below t n asks low r refused =
-      let c = closer_counts chain.param.owner (encloser_at chain.links f k) (length x) t n asks in
-      let long = below_length placed.name chain.param.owner placed.reached.within in
-      record {
-        name = last_labels n x;
-        above = last_above x n;
-        within = last_low chain.param.owner x n low (omega (arith, c.0, placed.counts, long))
-            (omega (arith, c.0, placed.counts, below_length x placed.name placed.reached.above));
-        refused = inr refused;
-      }
+  pub asked_less : (n : ℕ) → told.0 ≡ NoCloserName n → n < length x
+  asked_less n asks = let c = asked_counts n asks in let short = below_length x placed.name placed.reached.above in grind (arith, common_steps, eqb-false)
+
+  pub refused_below : (n : ℕ) → told.0 ≡ NoCloserName n → is_at_or_below x chain.param.owner ≡ true → (r : ℕ)
+      → hash_name hash (wildcard_below (last_labels n x)) ≡ Err r → IsRefusedAbove chain.param.owner hash x r
+  refused_below n asks low r refused = grind (arith, common_steps, asked_counts, below_length, last_above, last_low)
 
   -- the places are places of the chain
-  pub all_there : (role part : Option ℕ) → role ≡ next_role chain.param.owner (encloser_at chain.links f k) (length x) f.cover
-      → ((q : ℕ) → part ≡ Some q → q < length chain.links) → (place : ℕ)
-      → ((Some f.place ≡ Some place) ⊎ (role ≡ Some place)) ⊎ (part ≡ Some place) → place < length chain.links
-  all_there role part is wild place (inl (inl e)) = subst (λ n. n < length chain.links) (same_Some f.place place e) placed.found.inside
-  all_there role part is wild place (inl (inr e)) =
-      placed.reached.there place (role_by (rests_below chain.param.owner (encloser_at chain.links f k) (length x)) f.cover place (sym is ∙ e)).1
-  all_there role part is wild place (inr e) = wild place e
+  pub all_there : (part : Option ℕ) → ((q : ℕ) → part ≡ Some q → q < length chain.links) → (place : ℕ)
+      → ((Some f.place ≡ Some place) ⊎ (told.1 ≡ Some place)) ⊎ (part ≡ Some place) → place < length chain.links
+  all_there part wild place (inl (inl e)) = subst (λ n. n < length chain.links) (same_Some f.place place e) placed.found.inside
+  all_there part wild place (inl (inr e)) = placed.reached.there place
+      (role_by (rests_below chain.param.owner (encloser_at chain.links f first.0) (length x)) f.cover place (sym first.1.1 ∙ e)).1
+  all_there part wild place (inr e) = wild place e

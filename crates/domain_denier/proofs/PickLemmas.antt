@@ -1,17 +1,184 @@
--- What is picked of the chain of a zone is what its answer rests on, and no more.
-use Rattle.std.proofs.Common.{◌≡◌, ◌≢◌, ℕ, ◌<◌, arith, Bool, true, false, cond, not, ◌&&◌, ◌||◌, List, [], ◌∷◌, ◌++◌, length, Some, None, sym, ap, ◌∙◌, subst}
-use Rattle.std.proofs.{Common.{inl, inr, ◌⊎◌}, lemmas.{Bool.{and_parts, false_from_ne_true, false≢true, or_right}, Grind.common_steps, List.Elements.All-nil}}
-use Rattle.std.{proofs.lemmas.List.Elements.All-push, specs.{List.Contains, Prelude.All}}
-use Rattle.domain_names.specs.{Name.{is_at_or_below, last_labels}, Order.before, Words.Name}
-use Rattle.domain_zone.specs.{Covering.matches_or_covers, Zone.{ZoneRecord, is_unoccluded, unoccluded_owners}}
+-- What is picked of the chain of a zone is found where a search ends, is what its answer rests on, and no more.
+use Rattle.std.proofs.Common.{◌≡◌, ℕ, suc, ◌-◌, ◌≤◌, true, false, List, map, length, get_or, slice_get, Some, sym, ap, ◌∙◌, subst, arith, inl, inr, ◌⊎◌, ◌≢◌}
+use Rattle.std.{proofs.{Common.{◌<◌, Bool, cond, not, [], ◌∷◌, ◌++◌, Option, None, refl, ◌&&◌, ◌||◌}, lemmas.Grind.common_steps}, specs.List.Contains}
+use Rattle.std.proofs.lemmas.Bool.{cases_lt, and_parts, and_left, or_parts, true_from_ne_false, false_from_ne_true, false≢true, or_right}
+use Rattle.std.proofs.lemmas.{List.{get_or_past, length-map, Elements.{All-nil, All-push}}, Option.{get_or_from_slice_get, slice_get-get_or, slice_get-map}}
+use Rattle.std.specs.{Option.option_map, Prelude.{All, option_to_list}}
+use Rattle.domain_names.specs.{Name.{is_at_or_below, is_strictly_below, same_name, last_labels}, Order.before, Words.Name}
+use Rattle.domain_zone.proofs.{FindLemmas.{in_at, pair_is, pairs_length, find_none}, NameLemmas.{below_from, before_right, one_lowered, same_is}}
+use Rattle.domain_zone.{proofs.PairLemmas.said, specs.{Covering.{pairs, matches_or_covers}, Enclosers.{longer, shared}}}
+use Rattle.domain_zone.specs.Zone.{ZoneRecord, unoccluded_owners, is_unoccluded}
 use Rattle.domain_nsec.specs.{Chain.Link, declared.config.GenerateNsecConfig.GenerateNsecConfig}
-use Rattle.domain_checker.specs.{Facts.{NsecChainsAreKnown, NsecFacts}, Verdict.has_match_or_cover}
-use Rattle.domain_checker.proofs.{AlikeLemmas.contained_alike, EncloserLemmas.closest_is, MeantLemmas.{apex_exists, config_with}}
-use Rattle.domain_answer.specs.{Proved.{IsAnswered, is_missing, knows_wildcard, proved_answer}, Reading.reading, ZoneAnswer.{encloser, is_at_parent}}
-use Rattle.domain_answer.specs.{ZoneAnswer.{name_exists, wildcard_below, zone_answer}, declared.answer.Answer.{Answer, TheVariants.{NoCloserName, NotProven}}}
-use Rattle.domain_answer.{specs.Kinds.IsSo, proofs.{KindLemmas.answer_so, ChainLemmas.facts_leaving, EncloserLemmas.{closest_last, free_parts, wildcard_low}}}
-use Rattle.domain_denier.specs.Picked.{IsDenial, IsFound, IsOf, IsWhole, at_place, listed_option}
-use Rattle.domain_denier.{specs.declared.nsec.NsecDenial.NsecDenial, proofs.SomeLemmas.contained}
+use Rattle.domain_checker.proofs.{AlikeLemmas.contained_alike, EncloserLemmas.closest_is, MeantLemmas.{inside, apex_exists, config_with}}
+use Rattle.domain_checker.specs.{Facts.{NsecChainsAreKnown, NsecFacts}, Reading.{is_cover, is_match}, Verdict.has_match_or_cover}
+use Rattle.domain_answer.proofs.{ChainLemmas.{facts_leaving, given_never, match_own}, EncloserLemmas.{closest_last, free_parts, wildcard_low, answer_so}}
+use Rattle.domain_answer.specs.{Kinds.IsSo, Proved.{IsAnswered, is_missing, knows_wildcard, proved_answer}, declared.answer.NameAnswer.TheVariants.Given}
+use Rattle.domain_answer.specs.Reading.{IsNameAnswer, name_answer, absent_answer, listed_both, reading, tells_occluded, wildcard_answer}
+use Rattle.domain_answer.specs.{ZoneAnswer.{is_at_parent, wildcard_below, encloser, name_exists, zone_answer}, declared.answer.Answer.Answer}
+use Rattle.domain_answer.specs.declared.answer.{Answer.TheVariants.{AtParent, NoCloserName, OutsideZone, NotProven}, NameAnswer.NameAnswer}
+use Rattle.domain_denier.{proofs.HashedPickLemmas.{record_there, contained}, specs.Judged.{IsOfWildcard, IsSilent, IsTold, Tells}}
+use Rattle.domain_denier.specs.{Picked.{IsOf, IsWhole, at_place, IsDenial, IsFound}, Search.AreEnds, declared.judged.OfWildcard.TheVariants.{Told, Untold}}
+use Rattle.domain_denier.specs.declared.nsec.NsecDenial.{NsecDenial}
+
+abbrev pub ends : Link → Name × Name
+ends k = (k.owner, k.next)
+
+-- the record at a place has the owner at that place, and points to the owner after it, the last one to the apex
+ends_at : (links : List Link) (owners : List Name) (a : Name) → map ends links ≡ pairs owners a → (i : ℕ) (k : Link) → slice_get links i ≡ Some k
+    → (slice_get owners i ≡ Some k.owner) × (k.next ≡ get_or owners (suc i) a)
+ends_at links owners a are i k there =
+    pair_is owners a i (ends k) (ap (λ ps. slice_get ps i) (sym are) ∙ slice_get-map ends links i ∙ ap (option_map ends) there)
+
+module _ (knows : NsecChainsAreKnown) (links : List Link) (x : Name) (low high : ℕ) (at_ends : AreEnds links x low high) (near : high - low ≤ 1) where
+  pub found : (L : List ZoneRecord) (a : Name) (config : GenerateNsecConfig) → IsWhole L a config links
+      → is_at_or_below x a ≡ true → IsOf links low x
+  found L a config whole under =
+      let owners = unoccluded_owners config.occlude_below_dname L a in
+      let names = whole.chain.names in
+      let cycle = (knows L a config links whole.order whole.chain).means.cycle in
+      let d = cycle.first in
+      let k = get_or links low d in
+      let there : slice_get links low ≡ Some k = slice_get-get_or links low d (omega (arith, at_ends.within, at_ends.inside)) in
+      let k_ends = ends_at links owners a names low k there in
+      let low_owner : before x k.owner ≡ false = elim at_ends.behind [
+        | inl e ↦
+            (λ i. before x (get_or links (e i) d).owner) ∙ ap (λ ls. before x (get_or ls 0 d).owner) cycle.are
+            ∙ before_right x cycle.first.owner a (one_lowered cycle.first.owner a cycle.begins) ∙ below_from x a under
+        | inr f ↦ f d
+      ] in
+      let facts = facts_leaving knows L a config links whole.leaves_out whole.order whole.chain in
+      let owner_low : is_at_or_below k.owner a ≡ true = (and_parts (is_at_or_below k.owner a) (is_at_or_below k.next a)
+      (inside facts k (in_at links low k there))).0 in
+      let is_high : high ≡ suc low = omega (arith, at_ends.within, near) in
+      let is_next : (before x k.next ≡ true) ⊎ (before k.owner k.next ≡ false) = elim (cases_lt (suc low) (length links)) [
+        | inl more ↦
+            let m = get_or links (suc low) d in
+            let m_ends = ends_at links owners a names (suc low) m (slice_get-get_or links (suc low) d more) in
+            let next : k.next ≡ m.owner = k_ends.1 ∙ get_or_from_slice_get owners (suc low) m.owner a m_ends.0 in
+            inl (ap (before x) next ∙ elim at_ends.ahead [
+              | inl e ↦ absurd (omega (arith, more, e, is_high))
+              | inr f ↦ subst (λ h. before x (get_or links h d).owner ≡ true) is_high (f d)
+            ])
+        | inr none ↦
+            let many : length links ≡ length owners = sym (length-map links ends) ∙ ap length names ∙ pairs_length owners a in
+            inr (ap (before k.owner) (k_ends.1 ∙ get_or_past owners (suc low) a (omega (arith, none, many))) ∙ below_from k.owner a owner_low)
+      ] in
+      record { link = k; there = there; says = said before k.owner k.next x (inl (low_owner, is_next)) }
+
+-- ---- what one record, or two of which the first denies a name alone, tell by what they are judged to say
+
+-- a record that neither matches nor covers is found by neither test
+silent_tests : (a x : Name) (k : Link) → matches_or_covers before k.owner k.next x ≡ false → (is_match a x k ≡ false) × (is_cover a x k ≡ false)
+silent_tests a x k e = grind (arith, common_steps, and_left, or_parts)
+
+-- where nothing is said of a wildcard, the count is the one that was handed in
+pub count_kept : (a : Name) (listed : List Link) (n m : ℕ) (w : Name) (t : ℕ) → wildcard_answer a listed n w t ≡ NoCloserName m → n ≡ m
+count_kept a listed n m w t e = grind (arith, common_steps)
+
+-- a record that says something of it matches or covers it
+wildcard_tells : (a w : Name) (n t : ℕ) (l : Link) → ((m : ℕ) → wildcard_answer a (l ∷ []) n w t ≢ NoCloserName m)
+    → matches_or_covers before l.owner l.next w ≡ true
+wildcard_tells a w n t l some =
+    true_from_ne_false (matches_or_covers before l.owner l.next w) (λ e. let tests = silent_tests a w l e in some n (rw (tests.0, tests.1) refl))
+
+-- before another record one that is silent leaves what that says of a wildcard
+unasked : (a w : Name) (n t : ℕ) (k l : Link) → IsSilent a (k ∷ []) w → wildcard_answer a (l ∷ []) n w t ≡ wildcard_answer a (k ∷ l ∷ []) n w t
+unasked a w n t k l silent =
+    rw (find_none (is_match a w) (k ∷ []) silent.matching k (inl refl), find_none (is_cover a w) (k ∷ []) silent.covering k (inl refl)) refl
+
+-- a record whose owner is another name does not match
+pub unmatched : (a x : Name) (k : Link) → same_name k.owner x ≡ false → is_match a x k ≡ false
+unmatched a x k e = grind (arith, common_steps, same_is)
+
+-- ---- what is said of a wildcard tells that the name is denied
+
+module _ (a w : Name) (n t : ℕ) where
+  pub told_wildcard : (listed : List Link) → IsTold (wildcard_answer a listed n w t)
+  told_wildcard listed = grind (arith, common_steps)
+
+-- so both forms of an answer of the name tell it
+pub told_whole : (a : Name) (listed : List Link) (x : Name) (t : ℕ) (whole : Answer) (told : NameAnswer) → IsNameAnswer whole a listed x t told
+    → Tells told → IsTold whole
+told_whole a listed x t whole told is tells = grind (arith, common_steps)
+
+-- ---- only of a name outside the zone is it said that it is
+
+-- what is given for it would be no wildcard's, nor a record's
+listed_inside : (a : Name) (listed : List Link) (x : Name) (t : ℕ) (m c : Option Link) → listed_both a listed x t m c ≢ OutsideZone
+listed_inside a listed x t (Some k) c e = grind (arith, common_steps)
+listed_inside a listed x t None (Some k) e =
+    let n = length (longer (shared x k.owner) (shared x k.next)) in
+    let told = told_wildcard a (wildcard_below (last_labels n x)) n t listed in grind (arith, common_steps)
+listed_inside a listed x t None None e = absurd (cc)
+
+pub outside_only : (a : Name) (listed : List Link) (x : Name) (t : ℕ) → reading a listed x t ≡ OutsideZone → is_at_or_below x a ≡ false
+outside_only a listed x t e = grind (arith, common_steps, listed_inside)
+
+-- of every other name something else is said
+pub said_inside : (a : Name) (listed : List Link) (x : Name) (t : ℕ) (told : NameAnswer) → told ≡ name_answer (reading a listed x t)
+    → told ≢ Given OutsideZone → is_at_or_below x a ≡ true
+said_inside a listed x t told is some = grind (arith, common_steps)
+
+-- ---- one record
+
+module _ (a x : Name) (t : ℕ) (k : Link) where
+  -- by whether the name is inside, the type the parent's, and the record matches or covers
+  abbrev chosen : Bool → Bool → Bool → Bool → Answer
+  chosen u p m c =
+      cond (not u) OutsideZone (cond p AtParent (listed_both a (k ∷ []) x t (cond m (Some k) None) (cond c (Some k) None)))
+
+  unproven : (u p : Bool) → IsTold (chosen u p false false) → ⊥
+  unproven u p told = grind (arith, common_steps)
+
+  pub told_by_one : IsTold (reading a (k ∷ []) x t) → matches_or_covers before k.owner k.next x ≡ true
+  told_by_one told = grind (arith, common_steps, (silent_tests a x k), unproven, true_from_ne_false)
+
+  -- what leaves no more to ask than the wildcard, by the tests of the name
+  chosen_parts : (u p m c : Bool) (n : ℕ) → chosen u p m c ≡ NoCloserName n
+      → (u ≡ true) × (p ≡ false) × (m ≡ false) × (c ≡ true) × (tells_occluded a k x ≡ false) × (is_strictly_below k.next x ≡ false)
+      × (absent_answer a (k ∷ []) (length (longer (shared x k.owner) (shared x k.next))) x t ≡ NoCloserName n)
+  chosen_parts u p m c n e = grind (arith, common_steps, (match_own a k t), given_never)
+
+  -- with another record, of another name, it says of the name what they say of the wildcard
+  pub both_read : (n : ℕ) → reading a (k ∷ []) x t ≡ NoCloserName n → (l : Link) → is_match a x l ≡ false
+      → reading a (k ∷ l ∷ []) x t ≡ wildcard_answer a (k ∷ l ∷ []) n (wildcard_below (last_labels n x)) t
+  both_read n e l other =
+      let N = length (longer (shared x k.owner) (shared x k.next)) in
+      let q = chosen_parts (is_at_or_below x a) (is_at_parent a x t) (is_match a x k) (is_cover a x k) n e in
+      let counts = count_kept a (k ∷ []) N n (wildcard_below (last_labels N x)) t q.6 in
+      grind (arith, common_steps)
+
+-- ---- records at places of a chain
+
+module _ (links : List Link) (a x : Name) (t : ℕ) where
+  pub one_at : (p : ℕ) → p < length links → IsTold (reading a (at_place links (Some p)) x t) → IsOf links p x
+  one_at p inside told =
+      let some = record_there links p inside in
+      let here = ap option_to_list some.1 in grind (arith, common_steps, (told_by_one a x t some.0))
+
+  -- where the first record denies the name and says nothing of the wildcard, the second alone says of that what both do
+  module _ (p q n : ℕ) (l : Link) (l_there : slice_get links q ≡ Some l) (says : reading a (at_place links (Some p)) x t ≡ NoCloserName n)
+      (apart : same_name l.owner x ≡ false) (w : Name) (w_is : w ≡ wildcard_below (last_labels n x)) (silent : IsSilent a (at_place links (Some p)) w)
+      (some : (m : ℕ) → wildcard_answer a (l ∷ []) n w t ≢ NoCloserName m) where
+    pub both_at : p < length links
+        → (wildcard_answer a (l ∷ []) n w t ≡ reading a (at_place links (Some p) ++ at_place links (Some q)) x t) × IsOf links q w
+    both_at in_p =
+        let first = record_there links p in_p in
+        let k = first.0 in
+        let at_p : at_place links (Some p) ≡ first.0 ∷ [] = ap option_to_list first.1 in
+        let second_alone = unasked a w n t k l (rw at_p at silent) in
+        let both = both_read a x t k n (rw at_p at says) l (unmatched a x l apart) in
+        (grind (arith, common_steps), record { link = l; there = l_there; says = wildcard_tells a w n t l some })
+
+-- what is told of the wildcard is the whole answer, and else the name is denied alone
+module _ (a : Name) (listed : List Link) (n : ℕ) (w v : Name) (t : ℕ) (whole : Answer) (absent : whole ≡ wildcard_answer a listed n v t) (w_is : w ≡ v) where
+  pub told_of : (answer : Answer) → IsOfWildcard a listed n w t (Told answer) → (whole ≡ answer) × ((m : ℕ) → answer ≢ NoCloserName m)
+  told_of answer says = (absent ∙ ap (λ y. wildcard_answer a listed n y t) (sym w_is) ∙ sym says.0, says.1)
+
+  pub untold_of : (is_silent : Bool) → IsOfWildcard a listed n w t (Untold is_silent) → whole ≡ NoCloserName n
+  untold_of is_silent says = absent ∙ ap (λ y. wildcard_answer a listed n y t) (sym w_is) ∙ says.0
+
+-- ---- what is picked is what the answer rests on, and no more
 
 -- where none is picked
 pub none_picked : (links : List Link) (a x : Name) (t : ℕ) (d : NsecDenial) → d.answer ≡ reading a [] x t → d.of_name ≡ None → d.of_wildcard ≡ None
@@ -61,7 +228,7 @@ module _ (knows : NsecChainsAreKnown) (links : List Link) (L : List ZoneRecord) 
 
   module _ (p : ℕ) (of : IsOf links p x) where
     here : at_place links (Some p) ≡ of.link ∷ []
-    here = ap listed_option of.there
+    here = ap option_to_list of.there
 
     half_here : (reading a (at_place links (Some p)) x t ≡ zone) ⊎ IsHalf (at_place links (Some p))
     half_here = subst (λ ls. (reading a ls x t ≡ zone) ⊎ IsHalf ls) (sym here)
@@ -87,7 +254,7 @@ module _ (knows : NsecChainsAreKnown) (links : List Link) (L : List ZoneRecord) 
 
       module _ (q : ℕ) (of_w : IsOf links q (wildcard_below (last_labels count x))) where
         there_w : at_place links (Some q) ≡ of_w.link ∷ []
-        there_w = ap listed_option of_w.there
+        there_w = ap option_to_list of_w.there
 
         says_w : matches_or_covers before of_w.link.owner of_w.link.next (wildcard_below (encloser L a x)) ≡ true
         says_w = (λ i. matches_or_covers before of_w.link.owner of_w.link.next (sym wildcard_is i)) ∙ of_w.says

@@ -1,15 +1,14 @@
 -- The records of an NSEC3 chain that a server answers a question with (RFC 5155, section 7.2).
-use Rattle.std.specs.Prelude.{ℕ, ◌≡◌, ◌⊎◌, ◌<◌, ◌==◌, ◌++◌, true, false, List, length, Option, Some, None, Result, Ok, Err, IfOk, slice_get}
-use Rattle.std.specs.{Prelude.if◌then◌else◌, List.Contains}
+use Rattle.std.specs.List.{Contains}
+use Rattle.std.specs.Prelude.{ℕ, ◌≡◌, ◌⊎◌, ◌<◌, ◌==◌, ◌++◌, true, false, List, length, Option, Some, None, Result, Ok, Err, IfOk, slice_get, if◌then◌else◌}
 use Rattle.domain_names.specs.{Name.is_at_or_below, Words.Name}
+use Rattle.domain_hasher.specs.declared.error.Nsec3HashError.{Nsec3HashError}
 use Rattle.domain_zone.specs.Zone.{ZoneRecord}
 use Rattle.domain_nsec3.specs.{Chain.{ChainRecords, HashedLink, IsHashedChain}, Config.{ChainConfig, Hash, hash_name}}
-use Rattle.domain_hasher.specs.declared.error.Nsec3HashError.{Nsec3HashError}
 use Rattle.domain_checker.specs.{HashedVerdict.{is_covered, is_matched, next_closer}, HashedView.{HashedRecords, chain_records, with_links}}
-use Rattle.domain_answer.specs.{HashedProved.{AreAskedAlone, hashed_proved_answer, tells_wildcard}, HashedReading.IsHashedRead}
-use Rattle.domain_answer.specs.{HashedZoneAnswer.{hashed_encloser, hashed_zone_answer}, Proved.{LeavesOutBelowDname, needs_no_records}}
-use Rattle.domain_answer.specs.{ZoneAnswer.{is_at_parent, wildcard_below}, declared.answer.Answer.Answer}
-use Rattle.domain_answer.specs.declared.answer.Answer.TheVariants.{AtParent, NoCloserName, NotProven, OutsideZone}
+use Rattle.domain_answer.specs.{HashedProved.{AreAskedAlone, hashed_proved_answer, tells_wildcard}, HashedZoneAnswer.{hashed_encloser, hashed_zone_answer}}
+use Rattle.domain_answer.specs.{HashedReading.IsHashedRead, declared.answer.Answer.TheVariants.{AtParent, NoCloserName, NotProven, OutsideZone}}
+use Rattle.domain_answer.specs.{Proved.{LeavesOutBelowDname, needs_no_records}, ZoneAnswer.{is_at_parent, wildcard_below}, declared.answer.Answer.Answer}
 use Rattle.domain_denier.specs.{Picked.at_place, declared.nsec3.Nsec3Denial.Nsec3Denial}
 
 -- the links are the NSEC3 chain of a zone, in which names below a DNAME are left out; they were

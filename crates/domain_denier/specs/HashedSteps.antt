@@ -8,8 +8,8 @@ use Rattle.domain_zone.specs.Zone.{ZoneRecord}
 use Rattle.domain_nsec3.specs.{Chain.{ChainRecords, HashedLink}, Config.{ChainConfig, Hash, Parameters}}
 use Rattle.domain_checker.specs.{HashedEncloser.{Encloser, encloser_is_cut}, HashedList.{is_hash_cover, is_hash_match}, HashedReading.IsUnmatched}
 use Rattle.domain_checker.specs.{HashedVerdict.{IsFirst, next_closer}, HashedView.HashedRecords}
-use Rattle.domain_answer.specs.{HashedReading.wildcard_told, ZoneAnswer.wildcard_below, declared.answer.Answer.Answer}
-use Rattle.domain_denier.specs.{HashedPicked.{IsHashedWhole, all_records}, declared.encloser.PlacedEncloser.PlacedEncloser}
+use Rattle.domain_answer.specs.{HashedReading.{encloser_answer, wildcard_told}, ZoneAnswer.wildcard_below, declared.answer.Answer.Answer}
+use Rattle.domain_denier.specs.{HashedPicked.{IsHashedWhole, all_records}, Picked.link_at, declared.encloser.PlacedEncloser.PlacedEncloser}
 
 -- the chain is that of some zone, made by this hash
 abbrev pub IsOfZone : Hash → ChainRecords → Type 0
@@ -80,10 +80,6 @@ IsFoundPlaced hash chain x (Some f) = IsPlaced hash chain x f
 
 -- ---- what is picked
 
-abbrev pub link_at : List HashedLink → Option ℕ → Option HashedLink
-link_at links None = None
-link_at links (Some place) = slice_get links place
-
 -- an encloser by its places, whose record is k
 abbrev pub encloser_at : List HashedLink → PlacedEncloser → HashedLink → Encloser
 encloser_at links f k = record { count = f.count; link = k; cover = link_at links f.cover }
@@ -95,6 +91,15 @@ rests_below a e n =
 
 abbrev pub next_role : Name → Encloser → ℕ → Option ℕ → Option ℕ
 next_role a e n cover = if rests_below a e n then cover else None
+
+-- what the record k of an encloser at these places, and the cover, say of a name with n labels, and
+-- the place of the cover, where that rests on it
+abbrev pub IsFirstAnswer : ChainRecords → PlacedEncloser → ℕ → ℕ → HashedLink → Answer × Option ℕ
+    → Type 0
+IsFirstAnswer chain f n t k told =
+    let e = encloser_at chain.links f k in
+    (told.0 ≡ encloser_answer chain.param.owner e n t)
+    × (told.1 ≡ next_role chain.param.owner e n f.cover)
 
 -- what the record k says of the wildcard, which it matches or covers
 abbrev pub wildcard_told_by : ℕ → ℕ → HashedLink → Bool → Answer

@@ -1,5 +1,5 @@
 -- The records of an NSEC chain that a server answers a question with (RFC 4035, section 3.1.3).
-use Rattle.std.specs.Prelude.{ℕ, ◌≡◌, ◌≢◌, true, false, List, [], ◌∷◌, ◌++◌, ◌<◌, length, Option, Some, None, slice_get}
+use Rattle.std.specs.Prelude.{ℕ, ◌≡◌, ◌≢◌, true, false, List, ◌++◌, ◌<◌, length, Option, Some, None, slice_get, option_to_list, option_and_then}
 use Rattle.domain_names.specs.{Name.is_at_or_below, Order.before, Words.Name}
 use Rattle.domain_zone.specs.{Covering.matches_or_covers, Zone.{OwnersNeverDescend, ZoneRecord}}
 use Rattle.domain_nsec.specs.{Chain.{IsChain, Link}, declared.config.GenerateNsecConfig.GenerateNsecConfig}
@@ -14,13 +14,11 @@ pub record IsOf (links : List Link) (place : ℕ) (x : Name) : Type 0 where
   pub says : matches_or_covers before link.owner link.next x ≡ true
 
 -- the link at a place, where one is given
-abbrev pub listed_option : {X : Type 0} → Option X → List X
-listed_option None = []
-listed_option (Some k) = k ∷ []
+abbrev pub link_at : {X : Type 0} → List X → Option ℕ → Option X
+link_at links place = option_and_then (slice_get links) place
 
 abbrev pub at_place : {X : Type 0} → List X → Option ℕ → List X
-at_place links None = []
-at_place links (Some place) = listed_option (slice_get links place)
+at_place links place = option_to_list (link_at links place)
 
 -- the links that were picked: that of the name, and that of the wildcard
 abbrev pub picked : List Link → NsecDenial → List Link

@@ -2,8 +2,7 @@
 ghost use Rattle.std.specs.Prelude.{◌≡◌, List};
 ghost use Rattle.domain_names.specs.Words.{Name};
 ghost use Rattle.domain_zone.specs.Zone.{ZoneRecord};
-ghost use Rattle.domain_nsec3.specs.Chain.{ChainRecords, IsChainParam, IsHashedChain};
-ghost use Rattle.domain_nsec3.specs.{Config.ChainConfig, View.{hash_by, HasherAnswer}};
+ghost use Rattle.domain_nsec3.specs.{Chain.{ChainRecords, IsChainParam, IsHashedChain}, Config.ChainConfig, View.{hash_by, HasherAnswer}};
 ghost use Rattle.domain_nsec3.specs.declared.config.Nsec3ParamTtlMode.{Nsec3ParamTtlMode};
 ghost use Rattle.domain_answer.specs.Proved.{LeavesOutBelowDname};
 ghost use Rattle.domain_denier.specs.HashedPicked.{IsHashedWhole};

@@ -1,9 +1,7 @@
 //! What is picked of an NSEC chain.
 ghost use Rattle.std.specs.Prelude.{◌≡◌, ◌↔◌, [], None, Some, IfOk, IsTrue};
-ghost use Rattle.domain_answer.specs.Reading.{reading};
+ghost use Rattle.domain_answer.specs.{Reading.reading, declared.answer.{Answer.TheVariants.OutsideZone, NameAnswer.TheVariants.Given}};
 ghost use Rattle.domain_denier.specs.Picked.{IsDenial};
-ghost use Rattle.domain_answer.specs.declared.answer.Answer.TheVariants.{OutsideZone};
-ghost use Rattle.domain_answer.specs.declared.answer.NameAnswer.TheVariants.{Given};
 
 use crate::judged::{OfWildcard, first_of, of_wildcard, second_of};
 use crate::owner_keys::OwnerKeys;

@@ -2,10 +2,9 @@
 ghost use Rattle.std.specs.Prelude.{◌≡◌, ◌<◌, ℕ, None, Some, Err, length, slice_get, IfOk, IfErr};
 ghost use Rattle.domain_names.specs.Name.{last_labels};
 ghost use Rattle.domain_nsec3.specs.{Chain.HashedLink, Config.hash_name, Faults.IsNoHash, View.hash_by};
-ghost use Rattle.domain_answer.specs.HashedReading.{encloser_answer, flag_of};
-ghost use Rattle.domain_answer.specs.ZoneAnswer.{wildcard_below};
+ghost use Rattle.domain_answer.specs.{HashedReading.flag_of, ZoneAnswer.wildcard_below};
 ghost use Rattle.domain_denier.specs.HashedPicked.{without_records, ArePlaces, IsHashedDenied, IsRefusedAbove};
-ghost use Rattle.domain_denier.specs.HashedSteps.{encloser_at, link_at, next_role, wildcard_told_by, IsWildcardAnswer};
+ghost use Rattle.domain_denier.specs.{HashedSteps.{wildcard_told_by, IsFirstAnswer, IsWildcardAnswer}, Picked.link_at};
 
 use crate::encloser::{PlacedEncloser, find_encloser};
 use crate::hash_search::{HashPlace, look_up};
@@ -89,25 +88,21 @@ fn opt_out_at<O: Octets>(chain: &Nsec3Chain<'_, O>, place: Option<usize>) -> Opt
     Some(lend_at(chain, place?).data().opt_out())
 }
 
-/// What the records of the closest encloser and of the next closer name say of a name with so many
-/// labels, of one that does not exist no more than that; and the place of the second, where that
-/// rests on it.
-fn first_answer<O: Octets>(
+/// What the records of the closest encloser and of the next closer name say of a name, of one that
+/// does not exist no more than that; and the place of the second, where that rests on it.
+fn first_answer<O: Octets, M: ToName>(
     chain: &Nsec3Chain<'_, O>,
     encloser: PlacedEncloser,
-    count: usize,
+    name: &M,
     rtype: Rtype,
 ) -> (Answer, Option<usize>)
     requires place { encloser.place < length chain.now.links }
     requires cover { (place : ℕ) → encloser.cover ≡ Some place
         → place < length chain.now.links }
-    ensures says { (k : HashedLink) → slice_get chain.now.links encloser.place ≡ Some k
-        → result.0 ≡ encloser_answer chain.now.param.owner
-        (encloser_at chain.now.links encloser k) count rtype }
-    ensures rests { (k : HashedLink) → slice_get chain.now.links encloser.place ≡ Some k
-        → result.1 ≡ next_role chain.now.param.owner
-        (encloser_at chain.now.links encloser k) count encloser.cover }
+    ensures { (k : HashedLink) → slice_get chain.now.links encloser.place ≡ Some k
+        → IsFirstAnswer chain.now encloser (length (M.labels name.now)) rtype k result }
 {
+    let count = name.count_labels();
     let listed = lend_at(chain, encloser.place);
     let types = listed.data().types();
     let apex = chain.nsec3param().owner();
@@ -235,7 +230,7 @@ pub fn deny_nsec3<O: Octets, M: ToName, H: Nsec3Hasher>(
     let Some(encloser) = found else {
         return Ok(without_records(Answer::NotProven));
     };
-    let (answer, of_next_closer) = first_answer(chain, encloser, name.count_labels(), rtype);
+    let (answer, of_next_closer) = first_answer(chain, encloser, name, rtype);
     let first = Nsec3Denial {
         answer,
         of_encloser: Some(encloser.place),

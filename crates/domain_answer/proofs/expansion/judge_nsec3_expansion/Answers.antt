@@ -1,5 +1,5 @@
 use Rattle.std.proofs.{Common.{arith, sym, ◌∙◌}, lemmas.Grind.common_steps}
-use Rattle.domain_answer.proofs.JudgedLemmas.{expansion_judged}
+use Rattle.domain_answer.proofs.HashedAnswerLemmas.{expansion_judged}
 use Rattle.domain_answer.proofs.expansion.judge_nsec3_expansion.Goals as goal
 
 pub returns-in-Match-clause-judged : goal.returns-in-Match-clause-judged

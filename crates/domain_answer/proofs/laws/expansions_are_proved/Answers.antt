@@ -1,4 +1,4 @@
-use Rattle.domain_answer.proofs.ExpansionLemmas.{expansion_counts, expansion_encloser, expansion_proved, expansion_rests}
+use Rattle.domain_answer.proofs.HashedAnswerLemmas.{expansion_counts, expansion_encloser, expansion_proved, expansion_rests}
 use Rattle.domain_answer.proofs.laws.expansions_are_proved.Goals as goal
 
 pub returns-clause-zone : goal.returns-clause-zone

@@ -1,4 +1,4 @@
-use Rattle.domain_answer.proofs.HashedAlikeLemmas.{expansion_alike}
+use Rattle.domain_answer.proofs.AlikeLemmas.{expansion_alike}
 use Rattle.domain_answer.proofs.laws.expansions_ignore_case_and_ttl.Goals as goal
 
 pub returns : goal.returns

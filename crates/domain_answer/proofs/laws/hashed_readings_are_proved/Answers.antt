@@ -1,4 +1,4 @@
-use Rattle.domain_answer.proofs.{HashedAnswerLemmas.read_proved, HashedProofLemmas.read_fits}
+use Rattle.domain_answer.proofs.HashedAnswerLemmas.{read_proved, read_fits}
 use Rattle.domain_answer.proofs.laws.hashed_readings_are_proved.Goals as goal
 
 pub returns-clause-zone : goal.returns-clause-zone

@@ -1,4 +1,4 @@
-use Rattle.domain_answer.proofs.HashedAlikeLemmas.{read_alike}
+use Rattle.domain_answer.proofs.AlikeLemmas.{read_alike}
 use Rattle.domain_answer.proofs.laws.hashed_readings_ignore_case_and_ttl.Goals as goal
 
 pub returns : goal.returns

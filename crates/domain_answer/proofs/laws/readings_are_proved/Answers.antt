@@ -1,4 +1,4 @@
-use Rattle.domain_answer.proofs.{ChainLemmas.reading_proved, ProofLemmas.reading_fits}
+use Rattle.domain_answer.proofs.ChainLemmas.{reading_proved, reading_fits}
 use Rattle.domain_answer.proofs.laws.readings_are_proved.Goals as goal
 
 pub returns-clause-zone : goal.returns-clause-zone

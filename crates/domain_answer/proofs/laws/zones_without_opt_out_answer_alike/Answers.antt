@@ -1,6 +1,6 @@
 use Rattle.std.proofs.{Common.arith, lemmas.Grind.common_steps}
 use Rattle.domain_zone.proofs.NameLemmas.{below_itself}
-use Rattle.domain_answer.proofs.HashedZoneLemmas.{apex_of_chain, zone_alike}
+use Rattle.domain_answer.proofs.HashedAnswerLemmas.{apex_of_chain, zone_alike}
 use Rattle.domain_answer.proofs.laws.zones_without_opt_out_answer_alike.Goals as goal
 
 pub returns-clause-zone : goal.returns-clause-zone

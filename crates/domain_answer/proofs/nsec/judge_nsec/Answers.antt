@@ -1,6 +1,6 @@
 use Rattle.std.proofs.Common.{◌<◌, sym, ap, ◌∙◌, subst}
 use Rattle.domain_nsec.specs.ChainView.{links_of}
-use Rattle.domain_answer.{specs.Reading.wildcard_answer, proofs.{JudgedLemmas.judged, ProofLemmas.given_is}}
+use Rattle.domain_answer.{proofs.{ChainLemmas.given_is, HashedAnswerLemmas.judged}, specs.Reading.wildcard_answer}
 use Rattle.domain_answer.proofs.nsec.judge_nsec.Goals as goal
 
 pub returns-in-Given : goal.returns-in-Given

@@ -1,4 +1,4 @@
-use Rattle.std.proofs.{Common.{arith}, lemmas.Grind.common_steps}
+use Rattle.std.proofs.{Common.arith, lemmas.Grind.common_steps}
 use Rattle.domain_checker.proofs.HashedListLemmas.{tied_is}
 use Rattle.domain_checker.proofs.hashed.find_hash.Goals as goal
 

@@ -1,4 +1,4 @@
-use Rattle.domain_checker.proofs.SpelledLemmas.{IsCompared}
+use Rattle.domain_checker.proofs.HashedListLemmas.{IsCompared}
 use Rattle.domain_checker.proofs.spelled.spelled_cmp.Given as goal
 
 abbrev pub invariant-loop-c : goal.invariant-loop-c

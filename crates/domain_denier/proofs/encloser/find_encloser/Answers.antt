@@ -1,8 +1,8 @@
 use Rattle.std.proofs.{Common.{◌≡◌, false, sym, ap, subst, ◌∙◌, inl, inr, arith, None}, lemmas.{Grind.common_steps, Result.err_from_is_err_and}}
 use Rattle.domain_names.specs.Name.{lowered, same_name, wire_of}
 use Rattle.domain_nsec3.specs.View.{hash_by}
-use Rattle.domain_checker.proofs.HashedWalkLemmas.{wire_above}
-use Rattle.domain_denier.{specs.HashedSteps.IsReached, proofs.PlacedLemmas.{none_placed, reached_above, reached_here, refused_at}}
+use Rattle.domain_checker.proofs.HashedListLemmas.{wire_above}
+use Rattle.domain_denier.{proofs.HashedPickLemmas.{none_placed, reached_above, reached_here, refused_at}, specs.HashedSteps.IsReached}
 use Rattle.domain_denier.proofs.encloser.find_encloser.Goals as goal
 
 pub names-init : goal.names-init
@@ -23,12 +23,7 @@ returns-in_err-found-clause-err g c =
     ])
 
 pub returns-then-found-clause-ok : goal.returns-then-found-clause-ok
-returns-then-found-clause-ok g c = record {
-  name = c.names.left;
-  counts = c.count_labels.ensures.count;
-  reached = c.names.invariant.reached;
-  found = rw (c.names.invariant.wire, c.if-found.true) at c.in_ok-found.ensures.ok;
-}
+returns-then-found-clause-ok g c = grind (arith, common_steps)
 
 pub returns-then-name_eq-clause-ok : goal.returns-then-name_eq-clause-ok
 returns-then-name_eq-clause-ok g c =
@@ -37,8 +32,7 @@ returns-then-name_eq-clause-ok g c =
 
 pub names-preserved : goal.names-preserved
 names-preserved g c =
-    let other : same_name c.names.left c.args.chain.now.param.owner ≡ false =
-    ap (same_name c.names.left) (sym (c.owner-apex.ensures ∙ ap (λ r. r.owner) c.nsec3param.ensures)) ∙ sym c.name_eq.ensures.value ∙ c.if-name_eq.false in
+    let other : same_name c.names.left c.args.chain.now.param.owner ≡ false = grind (arith, common_steps) in
     record {
       wire = grind (arith, common_steps, wire_above);
       reached = reached_above _ _ _ _ _ c.names.invariant.reached _

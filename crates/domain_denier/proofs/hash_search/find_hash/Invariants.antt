@@ -1,5 +1,5 @@
 use Rattle.std.proofs.Common.{◌-◌, ◌<◌, ◌≤◌, length}
-use Rattle.domain_denier.proofs.HashSearchLemmas.{IsAhead, IsBehind}
+use Rattle.domain_denier.proofs.HashedDenyLemmas.{IsAhead, IsBehind}
 use Rattle.domain_denier.proofs.hash_search.find_hash.Given as goal
 
 abbrev pub invariant-search : goal.invariant-search

@@ -1,6 +1,6 @@
-use Rattle.domain_denier.{proofs.JudgedLemmas.{one_at, told_whole}, specs.Picked.at_place}
-use Rattle.domain_denier.proofs.judged.first_of.Goals as goal
 use Rattle.std.proofs.Common.{Some}
+use Rattle.domain_denier.{proofs.PickLemmas.{one_at, told_whole}, specs.Picked.at_place}
+use Rattle.domain_denier.proofs.judged.first_of.Goals as goal
 
 -- what it tells, it tells of the name, whatever the zone
 pub returns-then-is_told-clause-found : goal.returns-then-is_told-clause-found

@@ -1,7 +1,7 @@
 use Rattle.std.proofs.Common.{◌≡◌, false, sym, ap, ◌∙◌}
 use Rattle.domain_names.specs.Name.{same_name}
 use Rattle.domain_nsec.specs.ChainView.{as_link}
-use Rattle.domain_denier.proofs.JudgedLemmas.{both_at}
+use Rattle.domain_denier.proofs.PickLemmas.{both_at}
 use Rattle.domain_denier.proofs.judged.second_of.Goals as goal
 
 pub returns-in_default-judge_wildcard : goal.returns-in_default-judge_wildcard

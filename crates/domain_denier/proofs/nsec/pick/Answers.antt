@@ -1,10 +1,10 @@
 use Rattle.std.proofs.{Common.{List, ◌≡◌, ◌<◌, true, refl, sym, ◌∙◌, subst, Some, arith}, lemmas.{Bool.false≢true, Grind.common_steps}}
 use Rattle.domain_names.specs.Name.{is_at_or_below}
 use Rattle.domain_nsec.specs.Chain.{Link}
-use Rattle.domain_answer.specs.{Proved.IsAnswered, Reading.reading, declared.answer.Answer.TheVariants.NoCloserName}
-use Rattle.domain_answer.proofs.ProofLemmas.{given_is, given_never}
-use Rattle.domain_denier.{specs.Picked.at_place, proofs.{JudgedLemmas.{outside_only, said_inside, told_of, untold_of}, PickLemmas.denied_by_both}}
-use Rattle.domain_denier.proofs.{PickLemmas.{denied_by_one, none_picked}, nsec.pick.{Given.Over, Goals.{Else-is_outside, In-Untold}}}
+use Rattle.domain_answer.{proofs.ChainLemmas.{given_is, given_never}, specs.{Proved.IsAnswered, Reading.reading}}
+use Rattle.domain_answer.specs.declared.answer.Answer.TheVariants.{NoCloserName}
+use Rattle.domain_denier.proofs.PickLemmas.{outside_only, said_inside, told_of, untold_of, denied_by_both, denied_by_one, none_picked}
+use Rattle.domain_denier.{proofs.nsec.pick.{Given.Over, Goals.{Else-is_outside, In-Untold}}, specs.Picked.at_place}
 use Rattle.domain_denier.proofs.nsec.pick.Goals as goal
 
 pub returns-then-is_empty : goal.returns-then-is_empty

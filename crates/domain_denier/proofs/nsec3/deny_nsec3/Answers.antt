@@ -1,13 +1,12 @@
-use Rattle.std.proofs.{Common.{◌≡◌, ◌<◌, true, false, length, slice_get, Some, refl, sym, ap, subst, ◌∙◌, inl, inr, arith}, lemmas.Option.same_Some}
-use Rattle.std.proofs.lemmas.{Grind.common_steps, Result.err_from_is_err_and}
+use Rattle.std.proofs.{Common.{◌≡◌, ◌<◌, true, false, length, refl, sym, ap, subst, ◌∙◌, inl, inr, arith}, lemmas.{Grind.common_steps, Option.same_Some}}
+use Rattle.std.proofs.lemmas.Result.{err_from_is_err_and}
 use Rattle.domain_octets.proofs.StdLemmas.{none_some}
 use Rattle.domain_names.specs.Name.{is_at_or_below}
-use Rattle.domain_nsec3.specs.{Chain.HashedLink, View.hash_by}
-use Rattle.domain_answer.specs.{HashedReading.encloser_answer, ZoneAnswer.is_at_parent}
-use Rattle.domain_denier.{specs.HashedSteps.{IsPlaced, encloser_at, next_role}, proofs.HashedDenyLemmas.{denied_by, denied_none, some_links}}
-use Rattle.domain_denier.proofs.{SomeLemmas.record_there, nsec3.deny_nsec3.Given.Over, HashedPickLemmas.{all_there, asked_less, placed_at}}
-use Rattle.domain_denier.proofs.{HashedPickLemmas.{plain_read, refused_below, wildcard_read}, nsec3.deny_nsec3.Goals.After-first_answer-answer}
-use Rattle.domain_denier.proofs.nsec3.deny_nsec3.Goals.{After-to_int-number}
+use Rattle.domain_nsec3.specs.View.{hash_by}
+use Rattle.domain_answer.specs.ZoneAnswer.{is_at_parent}
+use Rattle.domain_denier.proofs.HashedDenyLemmas.{denied_by, denied_none, some_links}
+use Rattle.domain_denier.proofs.{HashedPickLemmas.{all_there, asked_less, placed_at, plain_read, refused_below, wildcard_read}, nsec3.deny_nsec3.Given.Over}
+use Rattle.domain_denier.{proofs.nsec3.deny_nsec3.Goals.{After-first_answer-answer, After-to_int-number}, specs.HashedSteps.IsPlaced}
 use Rattle.domain_denier.proofs.nsec3.deny_nsec3.Goals as goal
 
 -- the name lies in the zone, whose parent does not answer
@@ -40,48 +39,31 @@ placed : (g : Over) (c : After-first_answer-answer g) → IsPlaced
     (g.M.ToName.labels c.args.name.now) c.in-Some.encloser
 placed g c = rw c.in-Some.is at c.in_ok-found.ensures.ok
 
--- what its record and the cover say, by the labels of the name
-says : (g : Over) (c : After-first_answer-answer g) (k : HashedLink) → slice_get c.args.chain.now.links c.in-Some.encloser.place ≡ Some k
-    → (c.first_answer-answer.result.0
-    ≡ encloser_answer c.args.chain.now.param.owner (encloser_at c.args.chain.now.links c.in-Some.encloser k) (length (g.M.ToName.labels c.args.name.now))
-    c.args.rtype)
-    × (c.first_answer-answer.result.1
-    ≡ next_role c.args.chain.now.param.owner (encloser_at c.args.chain.now.links c.in-Some.encloser k) (length (g.M.ToName.labels c.args.name.now))
-    c.in-Some.encloser.cover)
-says g c k there =
-    let first = c.first_answer-answer.ensures in
-    (rw c.count_labels.ensures.count at (first.says k there), rw c.count_labels.ensures.count at (first.rests k there))
-
 -- the wildcard is not asked for
 pub returns-in_default-answer-clause-denied : goal.returns-in_default-answer-clause-denied
 returns-in_default-answer-clause-denied g c =
     let at = goal.at.returns-in_default-answer-clause-denied g c in
     let here = at.After-to_int-number in
     let p = placed g at.After-first_answer-answer in
-    let says = says g at.After-first_answer-answer in
-    let k = record_there c.args.chain.now.links _ p.found.inside in
+    let says = c.first_answer-answer.ensures in
     denied_by c.hashed_chains_are_known.ensures _ _ _ _ (small g here) (low g here) (parent g here) _
     (λ zone.
     let e = placed_at _ _ _ _ p zone in
     let s = says e.sole.of.link e.sole.of.there in
     plain_read _ _ _ _ e _ refl s.1 refl s.0 c.in_default-answer.not-NoCloserName)
-    (all_there _ _ _ _ p k.0 _ _ (says k.0 k.1).1 (λ q e. absurd (none_some q e)))
+    (all_there _ _ _ _ p _ _ says _ (λ q e. absurd (none_some q e)))
 
 -- ---- where it is
 
 pub wildcard_answer-requires-clause-counts : goal.wildcard_answer-requires-clause-counts
 wildcard_answer-requires-clause-counts g c =
-    let at = (goal.at.wildcard_answer-requires-clause-counts g c).After-first_answer-answer in
-    let p = placed g at in
-    let k = record_there c.args.chain.now.links _ p.found.inside in
-    asked_less _ _ _ _ p k.0 c.args.rtype _ (sym (says g at k.0 k.1).0 ∙ c.in-NoCloserName.is)
+    asked_less _ _ _ _ (placed g (goal.at.wildcard_answer-requires-clause-counts g c).After-first_answer-answer) _ _ c.first_answer-answer.ensures _
+    c.in-NoCloserName.is
 
 pub returns-in_err-answer-clause-err : goal.returns-in_err-answer-clause-err
 returns-in_err-answer-clause-err g c =
     let at = goal.at.returns-in_err-answer-clause-err g c in
-    let p = placed g at.After-first_answer-answer in
-    let k = record_there c.args.chain.now.links _ p.found.inside in
-    let below = refused_below _ _ _ _ p k.0 c.args.rtype _ (sym (says g at.After-first_answer-answer k.0 k.1).0 ∙ c.in-NoCloserName.is)
+    let below = refused_below _ _ _ _ (placed g at.After-first_answer-answer) _ _ c.first_answer-answer.ensures _ c.in-NoCloserName.is
     (low g at.After-to_int-number) in
     let q = err_from_is_err_and c.from_residual-in_err-answer.result c.from_residual-in_err-answer.ensures.1 in
     rw (q.1, q.2) (elim c.in_err-answer.ensures.err [ inl full ↦ inl full | inr r ↦ inr (r.0, r.1, below r.0 r.2) ])
@@ -91,8 +73,7 @@ returns-clause-denied g c =
     let at = goal.at.returns-clause-denied g c in
     let here = at.After-to_int-number in
     let p = placed g at.After-first_answer-answer in
-    let says = says g at.After-first_answer-answer in
-    let k = record_there c.args.chain.now.links _ p.found.inside in
+    let says = c.first_answer-answer.ensures in
     let w = c.in_ok-answer.ensures.ok in
     denied_by c.hashed_chains_are_known.ensures _ _ _ _ (small g here) (low g here) (parent g here) _
     (λ zone.
@@ -100,4 +81,4 @@ returns-clause-denied g c =
     let s = says e.sole.of.link e.sole.of.there in
     let sole = w.found.sole zone in
     wildcard_read _ _ _ _ e _ refl s.1 _ (sym s.0 ∙ c.in-NoCloserName.is) _ refl w.is_match sole (w.answer sole.of.link sole.of.there))
-    (all_there _ _ _ _ p k.0 _ _ (says k.0 k.1).1 (λ q e. subst (λ n. n < length c.args.chain.now.links) (same_Some _ q e) w.found.inside))
+    (all_there _ _ _ _ p _ _ says _ (λ q e. subst (λ n. n < length c.args.chain.now.links) (same_Some _ q e) w.found.inside))

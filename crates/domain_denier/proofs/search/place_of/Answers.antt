@@ -1,5 +1,5 @@
 use Rattle.std.proofs.Common.{arith}
-use Rattle.domain_denier.proofs.SearchLemmas.{found}
+use Rattle.domain_denier.proofs.PickLemmas.{found}
 use Rattle.domain_denier.proofs.search.place_of.Goals as goal
 
 pub returns-clause-of_name : goal.returns-clause-of_name

@@ -1,4 +1,4 @@
-use Rattle.domain_checker.proofs.nsec3_laws.hashed_chains_are_known.Goals as goal
+use Rattle.domain_checker.proofs.laws.hashed_chains_are_known.Goals as goal
 
 pub returns : goal.returns
 returns c = λ L a config links chain. record {

@@ -1,5 +1,5 @@
 use Rattle.domain_checker.proofs.HashedVerdictLemmas.{walked_proved, walked_has_proof, walked_within}
-use Rattle.domain_checker.proofs.nsec3_laws.walks_are_proved.Goals as goal
+use Rattle.domain_checker.proofs.laws.walks_are_proved.Goals as goal
 
 pub returns : goal.returns
 returns c = λ R x t verdict b low w. record {

@@ -1,5 +1,5 @@
-use Rattle.domain_checker.proofs.HashedEncloserLemmas.{cover_denies, match_is_of_name}
-use Rattle.domain_checker.proofs.nsec3_laws.hashes_tell_of_names.Goals as goal
+use Rattle.domain_checker.proofs.HashedListLemmas.{cover_denies, match_is_of_name}
+use Rattle.domain_checker.proofs.laws.hashes_tell_of_names.Goals as goal
 
 pub returns-clause-matches : goal.returns-clause-matches
 returns-clause-matches c = λ L a config links chain. match_is_of_name (c.hashed_chains_are_known.ensures L a config links chain)
