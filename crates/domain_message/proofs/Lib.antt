@@ -1,10 +1,6 @@
 pub mod NameLemmas
-pub mod OneNameLemmas
-pub mod PartLemmas
-pub mod HeaderLemmas
 pub mod RecordLemmas
 pub mod LineLemmas
 pub mod ReadBackLemmas
-pub mod OneRecordLemmas
 pub mod WrittenLemmas
 pub mod OneLineLemmas

@@ -9,7 +9,7 @@ use Rattle.domain_record.specs.declared.record.Record.{Record}
 use Rattle.domain_rdata.proofs.ScanLemmas.{none_spelled, text_once}
 use Rattle.domain_rdata.specs.{Scan.RdataText, Zone.rtype_of, declared.zone_record_data.ZoneRecordData.ZoneRecordData}
 use Rattle.domain_message.specs.Entry.{NumbersTaken, OwnerTaken, ClassTaken, BodyText, EntryText, IsOfLine, LineText, RefusesBody, RefusesEntry, RefusesLine}
-use Rattle.domain_message.specs.{Alike.AreAlike, Entry.{in_entry, no_entry, no_memory}}
+use Rattle.domain_message.specs.{Record.AreAlike, Entry.{in_entry, no_entry, no_memory}}
 use Rattle.domain_message.specs.declared.line.LineError.{LineError, TheVariants.{Owner, Ttl, Class, Rtype, RecordData, Trailing}}
 
 same_number : (text : Token) (m n : ℕ) → IsNumber 32 text m → IsNumber 32 text n → m ≡ n

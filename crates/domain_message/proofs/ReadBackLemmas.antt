@@ -1,6 +1,6 @@
 -- what a record is written as is a line that spells it
 use Rattle.std.proofs.{lemmas.Grind.common_steps, Common.{◌≡◌, ℕ, ◌<◌, ◌^◌, List, [], ◌∷◌, ◌++◌, refl, subst, arith}}
-use Rattle.std.specs.{Prelude.{Option, Some, None, IfSome, slice_index}, Fmt.{decimal, ◌++?◌}}
+use Rattle.std.specs.{Prelude.{Option, Some, None, IfSome, slice_index}, Fmt.{decimal}}
 use Rattle.domain_octets.{specs.{Line.words_of, Words.Octets}, proofs.WordLemmas.{first_word, decimal_word}}
 use Rattle.domain_names.specs.{Name.{IsName, IsLabel}, Text.{name_text, label_text, octet_text}, Words.Name}
 use Rattle.domain_base.{specs.Numbers.{class_text, type_text}, proofs.ReadBackLemmas.{number_back, type_back, class_back, dotted_name_back, name_word}}
@@ -56,11 +56,8 @@ module _ {O N : Type 0} (octets : O → Octets) (labels : N → Name) (r : Recor
     };
   }
 
-  back_if : (text : Option Octets)
-      → IfSome text (λ t. RdataText octets labels (rtype_of r.«data») (words_of t) r.«data» [])
-      → IfSome (Some owner_word ++? Some (32 ∷ []) ++? Some (decimal r.ttl) ++? Some (32 ∷ []) ++? Some (class_text r.class) ++? Some
-      (32 ∷ [])
-      ++? Some (type_text (rtype_of r.«data»)) ++? Some (32 ∷ []) ++? text) (λ line. LineText octets labels line r)
+  back_if : (text : Option Octets) → IfSome text (λ t. RdataText octets labels (rtype_of r.«data») (words_of t) r.«data» [])
+      → IfSome (record_text labels rtype_of (λ d. text) r) (λ line. LineText octets labels line r)
   back_if None spelled = tt
   back_if (Some text) spelled = line_back text spelled
 

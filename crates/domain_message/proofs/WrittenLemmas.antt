@@ -7,56 +7,52 @@ use Rattle.domain_fields.specs.Layout.{octets_of}
 use Rattle.domain_record.specs.declared.record.Record.{Record}
 use Rattle.domain_rdata.specs.{Scan.AreData, Zone.{rtype_of, wire_octets}, declared.zone_record_data.ZoneRecordData.ZoneRecordData}
 use Rattle.domain_rdata.specs.declared.zone_record_data.ZoneRecordData.TheVariants.{Ns, Soa, Mx, Unknown}
-use Rattle.domain_message.specs.{Data.{PartsAt, DataAt, OctetsAt}, Header.numbers, Record.RecordAt, Written.{HasExactWire, record_octets}}
-use Rattle.domain_message.{specs.declared.parts.Part.Part, proofs.OneNameLemmas.{in_full_at, past}}
+use Rattle.domain_message.specs.{Data.{PartAt, PartsAt, DataAt, OctetsAt}, Record.{numbers, RecordAt}, Written.{HasExactWire, record_octets}}
+use Rattle.domain_message.{specs.declared.parts.Part.Part, proofs.NameLemmas.{in_full_at, past}}
 use Rattle.domain_message.specs.declared.parts.Part.TheVariants as part
+
+-- octets are those of a part, and of parts one after another
+abbrev IsPart : Part → List ℕ → Type 0
+IsPart (part.Plain count) octets = length octets ≡ count
+IsPart part.Name octets = (name : Name) × IsName name × (octets ≡ wire_of name)
+
+abbrev AreParts : List Part → List ℕ → Type 0
+AreParts [] octets = octets ≡ []
+AreParts (first ∷ parts) octets = (front back : List ℕ) × IsPart first front × AreParts parts back × (octets ≡ front ++ back)
+
+start_parts : (m r : Name) (numbers : List ℕ) → IsName m → IsName r → length numbers ≡ 20
+    → AreParts (part.Name ∷ part.Name ∷ part.Plain 20 ∷ []) ((wire_of m ++ wire_of r) ++ numbers)
+start_parts m r numbers m_is r_is twenty = (
+  wire_of m,
+  wire_of r ++ numbers,
+  (m, m_is, refl),
+  (wire_of r, numbers, (r, r_is, refl), (numbers, [], twenty, refl, sym (append-nil numbers)), refl),
+  append_assoc (wire_of m) (wire_of r) numbers,
+)
 
 module _ (message : List ℕ) where
   -- octets stand where they are
   octets_stand : (at count : ℕ) (front rest : List ℕ) → at ≤ length message → length front ≡ count → drop at message ≡ front ++ rest
-      → OctetsAt message at count front (at + count)
+      → OctetsAt message at count front (at + length front)
   octets_stand at count front rest within long is =
       grind (arith, common_steps, length-drop, take_at, (length-append front rest), (take_at front rest count long))
 
-  within_past : (at : ℕ) (front rest : List ℕ) → at ≤ length message → drop at message ≡ front ++ rest → at + length front ≤ length message
-  within_past at front rest within is = omega (arith, within, ap length is, length-append front rest, length-drop at message)
+  part_stands : (p : Part) (at : ℕ) (octets rest : List ℕ) → at ≤ length message → IsPart p octets → drop at message ≡ octets ++ rest
+      → PartAt message p at octets (at + length octets)
+  part_stands (part.Plain count) at octets rest within long is = octets_stand at count octets rest within long is
+  part_stands part.Name at octets rest within (name, valid, same) is =
+      (name, rw same (in_full_at message at name rest valid (is ∙ ap (λ o. o ++ rest) same)), same)
 
-  name_parts : (at : ℕ) (name : Name) (rest : List ℕ) (end : ℕ) → IsName name → drop at message ≡ wire_of name ++ rest
-      → end ≡ at + length (wire_of name)
-      → PartsAt message (part.Name ∷ []) at (wire_of name) end
-  name_parts at name rest end valid is end_is = grind (arith, common_steps, in_full_at)
-
-  name_then : (at : ℕ) (name : Name) (rest back : List ℕ) (parts : List Part) (end : ℕ) → IsName name → drop at message ≡ wire_of name ++ rest
-      → PartsAt message parts (at + length (wire_of name)) back end → PartsAt message (part.Name ∷ parts) at (wire_of name ++ back) end
-  name_then at name rest back parts end valid is more =
-      (wire_of name, back, at + length (wire_of name), (name, in_full_at message at name rest valid is, refl), more, refl)
-
-  exchange_parts : (at : ℕ) (preference : List ℕ) (name : Name) (rest : List ℕ) → at ≤ length message → length preference ≡ 2 → IsName name
-      → drop at message ≡ (preference ++ wire_of name) ++ rest
-      → PartsAt message (part.Plain 2 ∷ part.Name ∷ []) at (preference ++ wire_of name) (at + length (preference ++ wire_of name))
-  exchange_parts at preference name rest within two valid is =
-      let joined : drop at message ≡ preference ++ (wire_of name ++ rest) = is ∙ append_assoc preference _ rest in
-      let next = subst (λ n. drop (at + n) message ≡ wire_of name ++ rest) two (past message at preference (wire_of name ++ rest) joined) in
-      let end_is : at + length (preference ++ wire_of name) ≡ at + 2 + length (wire_of name) = omega (arith, two, length-append preference (wire_of name)) in
-      (preference, wire_of name, at + 2, octets_stand at 2 preference _ within two joined, name_parts (at + 2) name rest _ valid next end_is, refl)
-
-  start_parts : (at : ℕ) (m r : Name) (numbers rest : List ℕ) → at ≤ length message → length numbers ≡ 20 → IsName m → IsName r
-      → drop at message ≡ ((wire_of m ++ wire_of r) ++ numbers) ++ rest
-      → PartsAt message (part.Name ∷ part.Name ∷ part.Plain 20 ∷ []) at ((wire_of m ++ wire_of r) ++ numbers)
-      (at + length ((wire_of m ++ wire_of r) ++ numbers))
-  start_parts at m r numbers rest within twenty m_is r_is is =
-      let joined : drop at message ≡ wire_of m ++ (wire_of r ++ (numbers ++ rest)) =
-      is ∙ append_assoc _ numbers rest ∙ append_assoc (wire_of m) (wire_of r) (numbers ++ rest) in
-      let second = past message at (wire_of m) (wire_of r ++ (numbers ++ rest)) joined in
-      let within_third = within_past _ (wire_of r) (numbers ++ rest) (within_past at (wire_of m) _ within joined) second in
-      let last = octets_stand _ 20 numbers rest within_third twenty (past message _ (wire_of r) (numbers ++ rest) second) in
-      let end = at + length (wire_of m ++ (wire_of r ++ numbers)) in
-      let end_is : end ≡ at + length (wire_of m) + length (wire_of r) + 20 =
-      omega (arith, twenty, length-append (wire_of m) (wire_of r ++ numbers), length-append (wire_of r) numbers) in
-      let ends : PartsAt message (part.Plain 20 ∷ []) (at + length (wire_of m) + length (wire_of r)) numbers end =
-      (numbers, [], at + length (wire_of m) + length (wire_of r) + 20, last, (refl, end_is), sym (append-nil numbers)) in
-      let later = name_then _ r (numbers ++ rest) numbers (part.Plain 20 ∷ []) end r_is second ends in
-      rw (append_assoc (wire_of m) (wire_of r) numbers) (name_then at m _ _ (part.Name ∷ part.Plain 20 ∷ []) end m_is joined later)
+  parts_stand : (ps : List Part) (at : ℕ) (octets rest : List ℕ) → at ≤ length message → AreParts ps octets → drop at message ≡ octets ++ rest
+      → PartsAt message ps at octets (at + length octets)
+  parts_stand [] at octets rest within none is = (none, omega (arith, ap length none))
+  parts_stand (p ∷ ps) at octets rest within (front, back, first, more, joined) is =
+      let split : drop at message ≡ front ++ (back ++ rest) = is ∙ ap (λ o. o ++ rest) joined ∙ append_assoc front back rest in
+      let inside : at + length front ≤ length message =
+      omega (arith, within, ap length split, length-append front (back ++ rest), length-drop at message) in
+      let later = parts_stand ps (at + length front) back rest inside more (past message at front (back ++ rest) split) in
+      let end : at + length front + length back ≡ at + length octets = omega (arith, ap length joined, length-append front back) in
+      (front, back, at + length front, part_stands p at front (back ++ rest) within first split, rw end at later, joined)
 
 module _ {O N : Type 0} (octets : O → Octets) (labels : N → Name) (message : List ℕ) (place : ℕ) (after : List ℕ)
     (within : place ≤ length message) where
@@ -64,9 +60,12 @@ module _ {O N : Type 0} (octets : O → Octets) (labels : N → Name) (message :
       → drop place message ≡ wire_octets octets labels d ++ after
       → DataAt message (rtype_of d) place (length (wire_octets octets labels d)) (wire_octets octets labels d)
   unfolding octets_of
-  placed (Ns d) exact are is = name_parts message place (labels d.nsdname) after _ are.1.fits is refl
-  placed (Soa d) exact are is = start_parts message place _ _ _ after within refl are.1.fits.0.0 are.1.fits.0.1 is
-  placed (Mx d) exact are is = exchange_parts message place (to_be_bytes w16 d.preference) _ after within refl are.1.fits.1 is
+  placed (Ns d) exact are is =
+      parts_stand message (part.Name ∷ []) place _ after within (wire_of (labels d.nsdname), [], (_, are.1.fits, refl), refl, sym (append-nil _)) is
+  placed (Soa d) exact are is =
+      parts_stand message (part.Name ∷ part.Name ∷ part.Plain 20 ∷ []) place _ after within (start_parts _ _ _ are.1.fits.0.0 are.1.fits.0.1 refl) is
+  placed (Mx d) exact are is = parts_stand message (part.Plain 2 ∷ part.Name ∷ []) place _ after within
+      (to_be_bytes w16 d.preference, _, refl, (wire_of (labels d.exchange), [], (_, are.1.fits.1, refl), refl, sym (append-nil _)), refl) is
   placed (Unknown d) exact are is = grind (arith, common_steps)
   placed d exact are is = octets_stand message place (length (wire_octets octets labels d)) _ after within refl is
 

@@ -1,10 +1,7 @@
 pub mod Name
 pub mod Steps
 pub mod ErrorText
-pub mod Refusal
 pub mod Data
-pub mod Header
 pub mod Record
 pub mod Entry
-pub mod Alike
 pub mod Written

@@ -1,13 +1,57 @@
--- records in a message (RFC 1035, section 4.1.3), and why none is read at a place
-use Rattle.std.specs.Prelude.{◌≡◌, ◌⊎◌, ℕ, ◌+◌, ◌<◌, ◌≤◌, List, length, Option, Some}
-use Rattle.domain_octets.specs.{Limit.IsOver, Words.Octets}
+-- records in a message (RFC 1035, section 4.1.3), when two are alike, and why none is read at a place
+use Rattle.std.specs.Prelude.{◌≡◌, ◌≢◌, ◌⊎◌, ℕ, ◌+◌, ◌<◌, ◌≤◌, List, length, drop, Option, Some}
+use Rattle.domain_octets.specs.{Limit.IsOver, Words.Octets, declared.error.AppendError.AppendError}
+use Rattle.domain_octets.specs.declared.error.AppendError.TheVariants as append_error
 use Rattle.domain_names.specs.Words.{Name}
-use Rattle.domain_fields.specs.Layout.{Values}
+use Rattle.domain_fields.specs.{Field.{short, long}, Layout.{Layout, one, ◌▸◌, Values, Begins}}
 use Rattle.domain_record.specs.declared.record.Record.{Record}
-use Rattle.domain_rdata.specs.{Kind.Kind, Refusal.{AreOfKind, IsPart}, Scan.AreData, Zone.kind_of, declared.zone_record_data.ZoneRecordData.ZoneRecordData}
-use Rattle.domain_message.specs.{Data.{parts_of, PartsAt, PartsFault, DataAt}, Header.{numbers, HeaderAt}, Refusal.{HeaderFault, message_error_of}}
-use Rattle.domain_message.specs.declared.{parts.Part.Part, name.NameFault.NameFault, error.MessageError.{MessageError, TheVariants.{ShortInput, DataLength}}}
+use Rattle.domain_rdata.specs.{Kind.Kind, Refusal.{AreOfKind, IsPart}, Scan.AreData, Zone.{kind_of, rtype_of, wire_octets}}
+use Rattle.domain_rdata.specs.declared.zone_record_data.ZoneRecordData.{ZoneRecordData}
+use Rattle.domain_message.specs.{Data.{parts_of, PartsAt, PartsFault, DataAt}, Name.{NameAt, LabelsFault}, declared.{parts.Part.Part, name.NameFault.NameFault}}
+use Rattle.domain_message.specs.declared.error.MessageError.{MessageError, TheVariants.{ShortInput, BadLabelType, ForwardPointer, LongName, DataLength}}
 use Rattle.domain_message.specs.declared.error.MessageError.TheVariants.{IllegalData, ShortBuf, OutOfMemory}
+use Rattle.domain_message.specs.declared.name.NameFault.TheVariants as name_fault
+
+-- the type, the class, the TTL and the length of the data
+abbrev pub numbers : Layout
+numbers = one short ▸ one short ▸ one long ▸ one short
+
+-- the owner and these numbers stand at a place, up to another
+pub record HeaderAt (message : Octets) (at : ℕ) (owner : Name) (v : Values numbers)
+    (place : ℕ) : Type 0 where
+  pub owner_end : ℕ
+  pub behind : Octets
+  pub owned : NameAt message at owner owner_end
+  pub numbered : Begins numbers (drop owner_end message) v behind
+  pub place_is : place ≡ owner_end + 10
+
+-- the fault of a name as the error of a message
+abbrev pub message_error_of : NameFault → MessageError
+message_error_of name_fault.ShortInput = ShortInput
+message_error_of name_fault.BadLabelType = BadLabelType
+message_error_of name_fault.ForwardPointer = ForwardPointer
+message_error_of name_fault.LongName = LongName
+
+-- why a builder did not take octets
+abbrev pub append_refusal_of : AppendError → MessageError
+append_refusal_of append_error.ShortBuf = ShortBuf
+append_refusal_of append_error.OutOfMemory = OutOfMemory
+
+-- why no name is read: its first fault, or a name stands there, and there is no memory for it
+abbrev pub RefusesName : Octets → ℕ → MessageError → Type 0
+RefusesName message at ShortInput = LabelsFault message at 0 name_fault.ShortInput
+RefusesName message at BadLabelType = LabelsFault message at 0 name_fault.BadLabelType
+RefusesName message at ForwardPointer = LabelsFault message at 0 name_fault.ForwardPointer
+RefusesName message at LongName = LabelsFault message at 0 name_fault.LongName
+RefusesName message at OutOfMemory = (name : Name) × (end : ℕ) × NameAt message at name end
+RefusesName message at _ = ⊥
+
+-- the first fault of the owner, or the message ends within the numbers behind it
+pub data HeaderFault (message : Octets) (at : ℕ) (fault : NameFault) : Type 0 where
+  in_owner : LabelsFault message at 0 fault → HeaderFault message at fault
+  cut_numbers : (owner : Name) (owner_end : ℕ) → NameAt message at owner owner_end
+      → length message < owner_end + 10 → fault ≡ name_fault.ShortInput
+      → HeaderFault message at fault
 
 -- so many octets at a place are these data, and have these octets without compression
 pub record IsDataAt {O N : Type 0} (octets : O → Octets) (labels : N → Name) (message : Octets)
@@ -64,3 +108,19 @@ pub data RefusesRecord (limit : Option ℕ) (message : Octets) (at : ℕ)
       → RefusesRecord limit message at error
   in_data : (owner : Name) (v : Values numbers) (place : ℕ) → HeaderAt message at owner v place
       → RefusesData limit message v.0 place v.1.1.1 error → RefusesRecord limit message at error
+
+-- ---- records that differ at most in how their octets are held
+
+-- the same owner, spelled alike, class, TTL, type and octets of data
+pub record AreAlike {O N : Type 0} (octets : O → Octets) (labels : N → Name)
+    (r s : Record N (ZoneRecordData O N)) : Type 0 where
+  pub owners : labels r.owner ≡ labels s.owner
+  pub classes : r.class ≡ s.class
+  pub ttls : r.ttl ≡ s.ttl
+  pub types : rtype_of r.«data» ≡ rtype_of s.«data»
+  pub wires : wire_octets octets labels r.«data» ≡ wire_octets octets labels s.«data»
+
+-- an error that is one of the message, and not of room or of memory
+pub record IsOfMessage (error : MessageError) : Type 0 where
+  pub not_room : error ≢ ShortBuf
+  pub not_memory : error ≢ OutOfMemory

@@ -1,7 +1,7 @@
 //! Why no record was read.
 ghost use Rattle.std.specs.Prelude.{◌≡◌, Some};
 ghost use Rattle.domain_message.specs.ErrorText.{message_error_text};
-ghost use Rattle.domain_message.specs.Refusal.{append_refusal_of, message_error_of};
+ghost use Rattle.domain_message.specs.Record.{append_refusal_of, message_error_of};
 ghost use Rattle.domain_message.specs.declared.error.MessageError.TheVariants as message_error;
 
 use crate::NameFault;

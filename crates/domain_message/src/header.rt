@@ -3,7 +3,7 @@ ghost use Rattle.std.specs.Prelude.{◌≡◌, ◌+◌, ◌<◌, ◌≤◌, leng
 ghost use Rattle.domain_names.specs.{Name.wire_of, Words.Name};
 ghost use Rattle.domain_octets.specs.Words.{Octets};
 ghost use Rattle.domain_fields.specs.Layout.{Begins};
-ghost use Rattle.domain_message.specs.{Header.{numbers, HeaderAt}, Refusal.HeaderFault};
+ghost use Rattle.domain_message.specs.Record.{numbers, HeaderAt, HeaderFault};
 
 use crate::NameFault;
 use crate::name::{NameOctets, name_at};
@@ -32,6 +32,7 @@ pub(crate) struct Header {
 type Numbers = (u16, (u16, (u32, u16)));
 
 /// The numbers that octets begin with. Refuses exactly fewer than ten octets.
+#[tactic(auto, using(crate::proofs::RecordLemmas::begins_count, crate::proofs::RecordLemmas::numbers_cut))]
 fn read_numbers(octets: &[u8]) -> Result<Numbers, NameFault>
     ensures ok { IfOk result (λ n. (behind : Octets) × Begins numbers octets.now n behind) }
     ensures whole { IfOk result (λ n. 10 ≤ length octets.now) }

@@ -7,9 +7,9 @@ ghost use Rattle.domain_rdata.specs.{Exact.HasExactText, Zone.{data_text, rtype_
 ghost use Rattle.domain_rdata.specs.Scan.{AreData};
 ghost use Rattle.domain_rdata.specs.declared.zone_record_data.ZoneRecordData.{ZoneRecordData};
 ghost use Rattle.domain_message.specs.Written.{HasExactWire, record_octets};
-ghost use Rattle.domain_message.specs.{Alike.{AreAlike, IsOfMessage}, Entry.{IsOfLine, LineText, RefusesLine}};
+ghost use Rattle.domain_message.specs.Entry.{IsOfLine, LineText, RefusesLine};
 ghost use Rattle.domain_message.specs.declared.line.LineError.{LineError};
-ghost use Rattle.domain_message.specs.Record.{RecordAt, RefusesRecord};
+ghost use Rattle.domain_message.specs.Record.{AreAlike, IsOfMessage, RecordAt, RefusesRecord};
 ghost use Rattle.domain_message.specs.{declared.error.MessageError.MessageError, Name.{LabelsFault, NameAt}};
 ghost use Rattle.domain_message.specs.declared.name.NameFault.{NameFault};
 
@@ -21,7 +21,7 @@ use domain_record::{Record, RecordData};
 
 /// At a place of a message stands one name at most, and none where labels have a fault (RFC 1035,
 /// section 4.1.4).
-#[tactic(auto, using(crate::proofs::OneNameLemmas::one_name, crate::proofs::OneNameLemmas::no_fault))]
+#[tactic(auto, using(crate::proofs::NameLemmas::one_name, crate::proofs::NameLemmas::no_fault))]
 pub fn one_name_stands_at_a_place()
     ensures one { (message : Octets) (at : ℕ) (x y : Name) (end far : ℕ) → NameAt message at x end
         → NameAt message at y far → (x ≡ y) × (end ≡ far) }
@@ -42,7 +42,7 @@ pub fn one_record_stands_at_a_place<O: Octets, N: ToName>()
 
 /// A name that is written without compression stands where it was written, up to where its octets
 /// end.
-#[tactic(auto, using(crate::proofs::OneNameLemmas::in_full_at))]
+#[tactic(auto, using(crate::proofs::NameLemmas::in_full_at))]
 pub fn written_names_are_read_back()
     ensures { (message after : Octets) (at : ℕ) (name : Name) → IsName name
         → drop at message ≡ wire_of name ++ after

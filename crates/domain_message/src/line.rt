@@ -165,6 +165,7 @@ fn is_blank(octet: u8) -> bool
 
 /// Whether a line is blank, or a comment: whether its first octet that is no space and no tab is a
 /// semicolon (RFC 1035, section 5.1).
+#[tactic(auto, using(crate::proofs::LineLemmas::blank_passed, crate::proofs::LineLemmas::entry_begins))]
 pub fn is_no_entry(line: &[u8]) -> bool
     ensures { IsTrue result ↔ IsNoEntry (words_of line.now) }
 {

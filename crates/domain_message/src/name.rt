@@ -1,7 +1,7 @@
 //! Names in a message, whose ends may stand at earlier places (RFC 1035, section 4.1.4).
 ghost use Rattle.std.specs.Prelude.{◌≡◌, ℕ, ◌+◌, ◌<◌, ◌≤◌, [], None, Err, length, IfOk, IfErr, IfSome};
 ghost use Rattle.domain_names.specs.{Name.wire_of, Words.Name};
-ghost use Rattle.domain_message.specs.{Name.{up_to, ComesTo, LabelsFault, NameAt, Outcome}, Refusal.RefusesName};
+ghost use Rattle.domain_message.specs.{Name.{up_to, ComesTo, LabelsFault, NameAt, Outcome}, Record.RefusesName};
 ghost use Rattle.domain_message.specs.Steps.{GoesOn, LabelsBetween, Stops, RunRead};
 
 use crate::MessageError;
@@ -121,10 +121,13 @@ fn read_run(message: &[u8], start: usize, wire: &mut NameOctets) -> Result<Run, 
     Ok(run)
 }
 
-/// The octets of all labels of the name that stands at a place, and the place after it.
+/// The name that stands at a place of a message, as its octets without compression, and the place
+/// after it.
 #[tactic(auto, using(crate::proofs::NameLemmas::run_next))]
-fn read_labels(message: &[u8], at: usize) -> Result<(NameOctets, usize), NameFault>
-    ensures ok { IfOk result (λ r. RunRead message.now at [] r.0 None r.1) }
+pub(crate) fn name_at(message: &[u8], at: usize) -> Result<(NameOctets, usize), NameFault>
+    ensures ok { IfOk result (λ r. (name : Name) × NameAt message.now at name r.1
+        × (r.0 ≡ wire_of name)) }
+    ensures inside { IfOk result (λ r. r.1 ≤ length message.now) }
     ensures err { IfErr result (LabelsFault message.now at 0) }
 {
     let mut wire = ArrayBuilder::new();
@@ -132,19 +135,6 @@ fn read_labels(message: &[u8], at: usize) -> Result<(NameOctets, usize), NameFau
     'runs: while let Some(start) = target {
         target = read_run(message, start, &mut wire)?.target;
     }
-    Ok((wire, end))
-}
-
-/// The name that stands at a place of a message, as its octets without compression, and the place
-/// after it.
-#[tactic(auto, using(crate::proofs::OneNameLemmas::read_inside))]
-pub(crate) fn name_at(message: &[u8], at: usize) -> Result<(NameOctets, usize), NameFault>
-    ensures ok { IfOk result (λ r. (name : Name) × NameAt message.now at name r.1
-        × (r.0 ≡ wire_of name)) }
-    ensures inside { IfOk result (λ r. r.1 ≤ length message.now) }
-    ensures err { IfErr result (LabelsFault message.now at 0) }
-{
-    let (mut wire, end) = read_labels(message, at)?;
     if wire.append_slice(&[0]).is_err() {
         return Err(NameFault::LongName);
     }

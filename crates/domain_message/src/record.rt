@@ -3,7 +3,7 @@ ghost use Rattle.std.specs.Prelude.{◌≡◌, ◌≤◌, ◌<◌, ◌+◌, ℕ,
 ghost use Rattle.domain_octets.specs.Words.{Octets};
 ghost use Rattle.domain_names.specs.TextFault.{scan_fault_of};
 ghost use Rattle.domain_rdata.specs.{Kind.Kind, Refusal.OctetsFault};
-ghost use Rattle.domain_message.specs.{Data.DataAt, Refusal.CopyRefusal, Record.IsDataAt};
+ghost use Rattle.domain_message.specs.{Data.DataAt, Record.IsDataAt};
 ghost use Rattle.domain_message.specs.Record.{RecordAt, OctetsRefusal, RefusesData, RefusesRecord};
 
 use crate::MessageError;
@@ -18,7 +18,8 @@ use std::alloc::Global;
 /// A copy of octets.
 fn copied<O: FromBuilder>(alloc: Global, octets: &[u8]) -> Result<O, MessageError>
     ensures ok { IfOk result (λ made. O.octets made ≡ octets.now) }
-    ensures err { IfErr result (CopyRefusal O.Builder.limit octets.now) }
+    ensures err { IfErr result (λ e. (known : Option Kind)
+        → OctetsRefusal O.Builder.limit known octets.now e) }
 {
     Ok(O::from_octets(alloc, octets)?)
 }

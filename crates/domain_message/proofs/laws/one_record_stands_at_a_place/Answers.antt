@@ -1,4 +1,4 @@
-use Rattle.domain_message.proofs.OneRecordLemmas.{one_record, no_record}
+use Rattle.domain_message.proofs.RecordLemmas.{one_record, no_record}
 use Rattle.domain_message.proofs.laws.one_record_stands_at_a_place.Goals as goal
 
 pub returns-clause-one : goal.returns-clause-one

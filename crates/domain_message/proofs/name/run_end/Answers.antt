@@ -1,22 +1,11 @@
-use Rattle.std.proofs.{Common.{◌≡◌, ℕ, ◌+◌, get_or, Fits, w8, arith}, lemmas.Grind.common_steps}
+use Rattle.std.proofs.{Common.{ℕ, ◌+◌, get_or, Fits, w8, arith}, lemmas.Grind.common_steps}
 use Rattle.domain_message.proofs.{NameLemmas.{Pointer, forward_fault, pointer_ends}, name.run_end.Goals.After-from-2}
 use Rattle.domain_message.proofs.name.run_end.Goals as goal
 
 -- the two octets that were read are a pointer's
 pointer_read : (c : After-from-2) → ((i : ℕ) → Fits w8 (get_or c.args.message.now i 0))
     → Pointer c.args.message.now c.args.at c.from.result c.from-2.result
-pointer_read c fits =
-    let high = fits c.args.at in
-    let low = fits (c.args.at + 1) in
-    let high_is : get_or c.args.message.now c.args.at 0 ≡ 192 + c.from.result = grind (arith, common_steps) in
-    let low_is : get_or c.args.message.now (c.args.at + 1) 0 ≡ c.from-2.result = grind (arith, common_steps) in
-    record {
-      inside = grind (arith, common_steps);
-      high_is = high_is;
-      low_is = low_is;
-      high_fits = omega (arith, high);
-      low_fits = omega (arith, low);
-    }
+pointer_read c fits = grind (arith, common_steps, (fits c.args.at), (fits (c.args.at + 1)))
 
 pub returns-then-target-start-clause-err : goal.returns-then-target-start-clause-err
 returns-then-target-start-clause-err c = λ used.

@@ -1,6 +1,6 @@
 use Rattle.std.proofs.Common.{[]}
 use Rattle.domain_message.{specs.Steps.RunRead, proofs.NameLemmas.to_go}
-use Rattle.domain_message.proofs.name.read_labels.Given as goal
+use Rattle.domain_message.proofs.name.name_at.Given as goal
 
 abbrev pub invariant-runs : goal.invariant-runs
 invariant-runs l = RunRead l.message l.at [] l.wire l.target l.end
