@@ -3,25 +3,19 @@ use Rattle.std.{proofs.{Common.{arith, List, ℕ, Option}, lemmas.Grind.common_s
 use Rattle.domain_record.specs.declared.record.Record.{Record}
 use Rattle.domain_names.specs.Words.{Name}
 use Rattle.domain_nsec.specs.{declared.config.GenerateNsecConfig.GenerateNsecConfig, Chain.IsFirstFault}
-use Rattle.domain_nsec3.specs.Config.{ChainConfig}
-use Rattle.domain_dnssec.specs.{AnyOrder.{Sorts, HasNoChain, ZoneHasNoChain, chain_error_of}, AnyOrderNsec3.{HasNoHashedChain, ZoneHasNoHashedChain}}
-use Rattle.domain_dnssec.specs.declared.chain.ChainError.{ChainError}
+use Rattle.domain_nsec3.specs.{Config.ChainConfig, Faults.IsFirstFault as IsFirstHashedFault}
+use Rattle.domain_dnssec.specs.AnyOrder.{Sorts, HasNoChain, HasNoHashedChain, chain_error_of}
 use Rattle.domain_records.specs.{Order.IsOneClass, declared.error.SigningError.SigningError}
-use Rattle.domain_zone.specs.{View.zone_of, Zone.ZoneRecord}
+use Rattle.domain_zone.specs.View.{zone_of}
 
--- a fault of the zone is why it has no chain
-pub no_chain_of_zone : (L : List ZoneRecord) (apex : Name) (config : GenerateNsecConfig) (e : SigningError) → IsFirstFault L apex config e
-    → ZoneHasNoChain L apex config (chain_error_of e)
-no_chain_of_zone L apex config e h = grind (arith, common_steps)
-
--- where the zone of the sorted set has none, the given records have none
+-- where the zone of the sorted set has a fault, that is why the given records have no chain
 module _ {N D : Type 0} (labels : N → Name) (rtype_of : D → ℕ) (minimum_of : D → Option ℕ) (data_cmp : D → D → Ordering)
     (given : List (Record N D)) (apex : Name) (sorted : List (Record N D)) (sorts : Sorts labels rtype_of data_cmp given sorted)
     (one : IsOneClass sorted) where
-  pub no_chain : (config : GenerateNsecConfig) (e : ChainError) → ZoneHasNoChain (zone_of labels rtype_of minimum_of sorted) apex config e
-      → HasNoChain labels rtype_of minimum_of data_cmp given apex config e
+  pub no_chain : (config : GenerateNsecConfig) (e : SigningError) → IsFirstFault (zone_of labels rtype_of minimum_of sorted) apex config e
+      → HasNoChain labels rtype_of minimum_of data_cmp given apex config (chain_error_of e)
   no_chain config e h = grind (arith, common_steps)
 
-  pub no_hashed_chain : (config : ChainConfig) (e : ChainError) → ZoneHasNoHashedChain (zone_of labels rtype_of minimum_of sorted) apex config e
-      → HasNoHashedChain labels rtype_of minimum_of data_cmp given apex config e
+  pub no_hashed_chain : (config : ChainConfig) (e : SigningError) → IsFirstHashedFault (zone_of labels rtype_of minimum_of sorted) apex config e
+      → HasNoHashedChain labels rtype_of minimum_of data_cmp given apex config (chain_error_of e)
   no_hashed_chain config e h = grind (arith, common_steps)

@@ -19,14 +19,15 @@ abbrev alike : {N D : Type 0} → Record N D → Record N D → Type 0
 alike r t = r.class ≡ t.class
 
 module _ {N D : Type 0} (labels : N → Name) (rtype_of : D → ℕ) (minimum_of : D → Option ℕ) (data_cmp : D → D → Ordering) where
-  -- records that are equal under the canonical order have one owner and one type
+  -- records that are equal under the canonical order have one class, one owner and one type
   tied : (r s : Record N D) → record_cmp labels rtype_of data_cmp r s ≡ Equal
-      → (lowered (labels r.owner) ≡ lowered (labels s.owner)) × (rtype_of r.«data» ≡ rtype_of s.«data»)
+      → (r.class ≡ s.class) × (lowered (labels r.owner) ≡ lowered (labels s.owner)) × (rtype_of r.«data» ≡ rtype_of s.«data»)
   tied r s e =
       let class = then_equal (nat_cmp r.class s.class) (ordering_then (canonical_cmp (labels r.owner) (labels s.owner))
       (ordering_then (nat_cmp (rtype_of r.«data») (rtype_of s.«data»)) (data_cmp r.«data» s.«data»))) e in
       let owner = then_equal _ (ordering_then (nat_cmp (rtype_of r.«data») (rtype_of s.«data»)) (data_cmp r.«data» s.«data»)) class.1 in
       let type = then_equal _ (data_cmp r.«data» s.«data») owner.1 in (
+        nat_cmp-IsAntisymmetric r.class s.class class.0,
         one_lowered _ _ (same_name_ties (labels r.owner) (labels s.owner) ∙ ap is_eq owner.0),
         nat_cmp-IsAntisymmetric (rtype_of r.«data») (rtype_of s.«data») type.0,
       )
@@ -59,7 +60,7 @@ module _ {N D : Type 0} (labels : N → Name) (rtype_of : D → ℕ) (minimum_of
             let f = Any-from_list_any q given h in
             let c = s.set.each f.1 (f.0, f.2, f.3) in
             let t = tied c.1 f.1 c.4 in
-            list_any-from_Any q sorted (c.0, c.1, c.2, c.3, (λ i. p (t.0 i) (t.1 i)) ∙ f.4)
+            list_any-from_Any q sorted (c.0, c.1, c.2, c.3, (λ i. p (t.1 i) (t.2 i)) ∙ f.4)
 
     types_kept : (k : Name) (t : ℕ) → has_type (filter (λ r. same_lowered (lowered r.owner) k) zone) t
         ≡ has_type (filter (λ r. same_lowered (lowered r.owner) k) whole) t
@@ -123,9 +124,7 @@ module _ {N D : Type 0} (labels : N → Name) (rtype_of : D → ℕ) (minimum_of
     kept_class : (r : Record N D) → In r given → (t : Record N D) × In t sorted × (t.class ≡ r.class)
     kept_class r i =
         let c = s.set.each r (in_contains given r i) in
-        let first = then_equal (nat_cmp c.1.class r.class) (ordering_then (canonical_cmp (labels c.1.owner) (labels r.owner))
-        (ordering_then (nat_cmp (rtype_of c.1.«data») (rtype_of r.«data»)) (data_cmp c.1.«data» r.«data»))) c.4 in
-        (c.1, contains_in sorted c.1 (c.0, c.2, c.3), nat_cmp-IsAntisymmetric c.1.class r.class first.0)
+        (c.1, contains_in sorted c.1 (c.0, c.2, c.3), (tied c.1 r c.4).0)
 
     pub classes_kept : IsOneClass sorted ↔ IsOneClass given
     classes_kept = (

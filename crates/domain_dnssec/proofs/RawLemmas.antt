@@ -1,18 +1,19 @@
 -- Records whose data are octets in canonical form say what the records say whose data these are.
 use Rattle.std.proofs.{Common.{◌≡◌, ℕ, List, [], ◌∷◌, map, refl, sym, ap, ◌∙◌, subst, arith}, lemmas.{Grind.common_steps, List.Elements.recursion_from_All}}
-use Rattle.std.specs.{Prelude.Contains, List.AllByRecursion}
+use Rattle.std.specs.{Prelude.{◌≢◌, Contains}, List.AllByRecursion}
 use Rattle.domain_octets.specs.Words.{Octets}
 use Rattle.domain_names.specs.Words.{Name}
 use Rattle.domain_record.specs.{Record.{record_cmp, record_cmp_total}, declared.record.Record.Record}
 use Rattle.domain_rdata.specs.{Zone.{data_cmp, minimum_of, rtype_of}, declared.zone_record_data.ZoneRecordData.{ZoneRecordData, TheVariants.{Soa, Unknown}}}
-use Rattle.domain_records.specs.Order.{IsOneClass}
+use Rattle.domain_records.specs.{Order.IsOneClass, declared.error.SigningError.{SigningError, TheVariants.OutOfMemory as NoRoom}}
 use Rattle.domain_zone.{specs.{View.zone_of, Zone.ZoneRecord}, proofs.PairLemmas.{all_in, all_from_in}}
 use Rattle.domain_borrowed.specs.Data.{RawRecord, zone_of_raw, data_cmp as raw_cmp, data_cmp_total as raw_cmp_total, minimum_of as raw_minimum}
 use Rattle.domain_borrowed.proofs.MinimumLemmas.{minimum_last}
-use Rattle.domain_dnssec.specs.{RawRecords.{HaveOneChain, TellMinima, TellsMinimum, raw_data, raw_record}, AnyOrder.{HasNone, OfZone, ZoneHasNoChain}}
-use Rattle.domain_dnssec.specs.{AnyOrderNsec3.{IsWholeHashedChain, ZoneHasNoHashedChain}, declared.chain.ChainError.{ChainError, TheVariants.MixedClasses}}
+use Rattle.domain_dnssec.specs.{RawRecords.{HaveOneChain, TellMinima, TellsMinimum, raw_data, raw_record}, AnyOrder.{HasNone, IsWholeHashedChain, OfZone}}
+use Rattle.domain_dnssec.specs.declared.chain.ChainError.{ChainError, TheVariants.MixedClasses}
 use Rattle.domain_dnssec.{specs.declared.chain.ChainError.TheVariants.{Sort, Signing, OutOfMemory}, proofs.{AmongLemmas.contains_in, MappedLemmas.sets_back}}
-use Rattle.domain_nsec.specs.Chain.{IsChain}
+use Rattle.domain_nsec.specs.Chain.{IsChain, IsFaultless, IsFirstFault}
+use Rattle.domain_nsec3.specs.Faults.{IsReady, IsFirstFault as IsFirstHashedFault}
 
 module _ {O N : Type 0} (octets : O → Octets) (labels : N → Name) where
   abbrev see : Record N (ZoneRecordData O N) → RawRecord
@@ -60,19 +61,19 @@ module _ {O N : Type 0} (octets : O → Octets) (labels : N → Name) where
           zone = subst is (ap zone_of_raw (sym s.2) ∙ zone_same s.0 told) u.zone;
         }
 
-    -- why they have no chain, where these are the reasons why their zone has none
-    has_none : (none : List ZoneRecord → ChainError → Type 0) (e : ChainError)
-        → HasNone (λ n. n) (λ d. d.rtype) raw_minimum raw_cmp (map see given) none e
-        → HasNone labels rtype_of minimum_of (data_cmp octets labels) given none e
-    has_none none MixedClasses h = λ one. h (subst (λ (T : Type 0). T) (sym (classes_seen given)) one)
-    has_none none (Sort e) h = subst (λ (T : Type 0). T) (classes_seen given) h
-    has_none none (Signing e) h = of_zone (λ L. none L (Signing e)) h
-    has_none none OutOfMemory h = of_zone (λ L. none L OutOfMemory) h
+    -- why they have no chain, where these are the faults of their zone, and this holds where memory is wanting
+    has_none : (is_fault : List ZoneRecord → SigningError → Type 0) (without : List ZoneRecord → Type 0) (e : ChainError)
+        → HasNone (λ n. n) (λ d. d.rtype) raw_minimum raw_cmp (map see given) is_fault without e
+        → HasNone labels rtype_of minimum_of (data_cmp octets labels) given is_fault without e
+    has_none is_fault without MixedClasses h = λ one. h (subst (λ (T : Type 0). T) (sym (classes_seen given)) one)
+    has_none is_fault without (Sort e) h = subst (λ (T : Type 0). T) (classes_seen given) h
+    has_none is_fault without (Signing e) h = of_zone (λ L. is_fault L e × (e ≢ NoRoom)) h
+    has_none is_fault without OutOfMemory h = of_zone without h
 
     pub one_chain : HaveOneChain octets labels (map see given) given
     one_chain = record {
       nsecs = λ apex config links. of_zone (λ L. IsChain L apex config links);
-      no_nsecs = λ apex config. has_none (λ L. ZoneHasNoChain L apex config);
+      no_nsecs = λ apex config. has_none (λ L. IsFirstFault L apex config) (λ L. IsFaultless L apex config);
       nsec3s = λ apex config mode links param. of_zone (λ L. IsWholeHashedChain L apex config mode links param);
-      no_nsec3s = λ apex config. has_none (λ L. ZoneHasNoHashedChain L apex config);
+      no_nsec3s = λ apex config. has_none (λ L. IsFirstHashedFault L apex config) (λ L. IsReady L apex config);
     }

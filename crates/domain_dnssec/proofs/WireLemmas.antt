@@ -1,12 +1,10 @@
 -- Chains as octets, record by record.
-use Rattle.std.proofs.{lemmas.Grind.common_steps, Common.{◌≡◌, ℕ, ◌+◌, ◌<◌, ◌≤◌, List, ◌∷◌, ◌++◌, length, take, get_or, arith, length-append, ◌⊎◌}}
+use Rattle.std.proofs.{lemmas.Grind.common_steps, Common.{◌≡◌, ℕ, ◌+◌, ◌<◌, ◌≤◌, List, ◌∷◌, ◌++◌, length, take, get_or, arith, length-append}}
 use Rattle.std.specs.List.{flat_map}
 use Rattle.domain_fields.specs.Layout.{octets_of, Values}
 use Rattle.domain_chain_rdata.specs.Rdata.{hash_numbers, nsec3param}
-use Rattle.domain_nsec.specs.Chain.{Link}
-use Rattle.domain_nsec3.specs.Chain.{HashedLink}
-use Rattle.domain_borrowed.specs.Links.{nsec_record, nsec3_record}
-use Rattle.domain_dnssec.specs.{Wire.{HasLongNsec, HasLongNsec3}, declared.error.Error.{Error, TheVariants.{LongRecordData, OutOfMemory}}}
+use Rattle.domain_borrowed.specs.Data.{RawRecord}
+use Rattle.domain_dnssec.specs.{Wire.{HasLong, IsUncomposed}, declared.error.Error.Error}
 
 -- one more item after what stood
 pub onward : {T : Type 0} (octets : T → List ℕ) (old : List ℕ) (items : List T) (i : ℕ) (d : T) → i < length items
@@ -19,12 +17,6 @@ unfolding octets_of
 param_short v salted = let c = length-append (octets_of hash_numbers v.0) (length v.1 ∷ v.1) in omega arith
 
 -- a record of a chain whose data are too long
-pub long_nsec : (links : List Link) (i : ℕ) (k : Link) → i < length links → k ≡ get_or links i k → (e y : Error) → y ≡ e
-    → (e ≡ OutOfMemory) ⊎ ((e ≡ LongRecordData) × (65535 < length (nsec_record k).«data».octets))
-    → (y ≡ OutOfMemory) ⊎ ((y ≡ LongRecordData) × HasLongNsec links)
-long_nsec links i k l is e y same h = grind (arith, common_steps)
-
-pub long_nsec3 : (links : List HashedLink) (i : ℕ) (k : HashedLink) → i < length links → k ≡ get_or links i k → (e y : Error) → y ≡ e
-    → (e ≡ OutOfMemory) ⊎ ((e ≡ LongRecordData) × (65535 < length (nsec3_record k).«data».octets))
-    → (y ≡ OutOfMemory) ⊎ ((y ≡ LongRecordData) × HasLongNsec3 links)
-long_nsec3 links i k l is e y same h = grind (arith, common_steps)
+pub long_record : {K : Type 0} (raw : K → RawRecord) (links : List K) (i : ℕ) (k : K) → i < length links → k ≡ get_or links i k → (e y : Error)
+    → y ≡ e → IsUncomposed (65535 < length (raw k).«data».octets) e → IsUncomposed (HasLong raw links) y
+long_record raw links i k l is e y same h = grind (arith, common_steps)

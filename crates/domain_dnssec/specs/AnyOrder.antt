@@ -1,11 +1,16 @@
--- The chain of a zone whose records are given in any order, and when there is none.
-use Rattle.std.specs.{Prelude.{◌≢◌, ℕ, List, Option, true}, declared.cmp.Ordering.Ordering}
+-- The chain of a zone whose records are given in any order, when there is none, and what a verdict or an
+-- answer over its records tells of them.
+use Rattle.std.specs.{Prelude.{◌≡◌, ◌≢◌, ℕ, List, Option, true}, declared.cmp.Ordering.Ordering}
 use Rattle.domain_record.specs.{Record.record_cmp, declared.record.Record.Record}
 use Rattle.domain_records.specs.{Order.IsOneClass, SortedSet.IsUnion, declared.error.SigningError.SigningError}
 use Rattle.domain_records.specs.declared.error.SigningError.TheVariants as signing_error
 use Rattle.domain_names.specs.Words.{Name}
 use Rattle.domain_nsec.specs.{Chain.{Link, IsChain, IsFaultless, IsFirstFault}, declared.config.GenerateNsecConfig.GenerateNsecConfig}
+use Rattle.domain_nsec3.specs.{Chain.{HashedLink, IsChainParam, IsHashedChain, ParamRecord}, Config.ChainConfig, Faults.IsReady}
+use Rattle.domain_nsec3.specs.{Faults.IsFirstFault as IsFirstHashedFault, declared.config.Nsec3ParamTtlMode.Nsec3ParamTtlMode}
 use Rattle.domain_zone.specs.{View.zone_of, Zone.ZoneRecord}
+use Rattle.domain_checker.specs.{Verdict.{proved_verdict, zone_verdict}, declared.verdict.Verdict.Verdict}
+use Rattle.domain_answer.specs.{Proved.proved_answer, ZoneAnswer.zone_answer, declared.answer.Answer.Answer}
 use Rattle.domain_dnssec.specs.declared.chain.ChainError.{ChainError, TheVariants.{MixedClasses, Sort, Signing, OutOfMemory}}
 
 -- a fault of a zone as the reason why records have no chain
@@ -25,16 +30,11 @@ HasNoSet given (Sort e) = IsOneClass given
 HasNoSet given (Signing e) = ⊥
 HasNoSet given OutOfMemory = ⊥
 
--- why a zone of one class has no chain: its first fault; and want of memory says what then holds
-abbrev pub ZoneHasNone : (SigningError → Type 0) → Type 0 → ChainError → Type 0
-ZoneHasNone is_fault without_memory MixedClasses = ⊥
-ZoneHasNone is_fault without_memory (Sort e) = ⊥
-ZoneHasNone is_fault without_memory (Signing e) = is_fault e × (e ≢ signing_error.OutOfMemory)
-ZoneHasNone is_fault without_memory OutOfMemory = without_memory
-
--- the zone has no NSEC chain for this reason; want of memory says that it has no fault
-abbrev pub ZoneHasNoChain : List ZoneRecord → Name → GenerateNsecConfig → ChainError → Type 0
-ZoneHasNoChain L apex config = ZoneHasNone (IsFirstFault L apex config) (IsFaultless L apex config)
+-- these are the chain and the NSEC3PARAM record of the zone
+abbrev pub IsWholeHashedChain : List ZoneRecord → Name → ChainConfig → Nsec3ParamTtlMode
+    → List HashedLink → ParamRecord → Type 0
+IsWholeHashedChain L apex config mode links param =
+    IsHashedChain L apex config links × IsChainParam L apex config mode param
 
 module _ {N D : Type 0} (labels : N → Name) (rtype_of : D → ℕ) (data_cmp : D → D → Ordering) where
   -- sorted is the sorted set of the records that were given, with the earliest of equal ones
@@ -50,18 +50,53 @@ module _ {N D : Type 0} (labels : N → Name) (rtype_of : D → ℕ) (minimum_of
     pub one_class : IsOneClass sorted
     pub zone : is (zone_of labels rtype_of minimum_of sorted)
 
-  -- why the given records have no chain, where these are the reasons why their zone has none
-  abbrev pub HasNone : List (Record N D) → (List ZoneRecord → ChainError → Type 0) → ChainError
-      → Type 0
-  HasNone given has_none MixedClasses = AreMixed given
-  HasNone given has_none (Sort e) = IsOneClass given
-  HasNone given has_none (Signing e) = OfZone given (λ L. has_none L (Signing e))
-  HasNone given has_none OutOfMemory = OfZone given (λ L. has_none L OutOfMemory)
+  -- why the given records have no chain: they are not of one class, or else their zone has this
+  -- first fault; and want of memory says what then holds of it
+  abbrev pub HasNone : List (Record N D) → (List ZoneRecord → SigningError → Type 0)
+      → (List ZoneRecord → Type 0) → ChainError → Type 0
+  HasNone given is_fault without_memory MixedClasses = AreMixed given
+  HasNone given is_fault without_memory (Sort e) = IsOneClass given
+  HasNone given is_fault without_memory (Signing e) =
+      OfZone given (λ L. is_fault L e × (e ≢ signing_error.OutOfMemory))
+  HasNone given is_fault without_memory OutOfMemory = OfZone given without_memory
 
   -- this is the chain of the given records
   abbrev pub IsChainOf : List (Record N D) → Name → GenerateNsecConfig → List Link → Type 0
   IsChainOf given apex config links = OfZone given (λ L. IsChain L apex config links)
 
-  -- why the given records have no chain
+  -- why the given records have none; want of memory says that their zone has no fault
   abbrev pub HasNoChain : List (Record N D) → Name → GenerateNsecConfig → ChainError → Type 0
-  HasNoChain given apex config = HasNone given (λ L. ZoneHasNoChain L apex config)
+  HasNoChain given apex config =
+      HasNone given (λ L. IsFirstFault L apex config) (λ L. IsFaultless L apex config)
+
+  -- these are the chain and the NSEC3PARAM record of the given records
+  abbrev pub IsHashedChainOf : List (Record N D) → Name → ChainConfig → Nsec3ParamTtlMode
+      → List HashedLink → ParamRecord → Type 0
+  IsHashedChainOf given apex config mode links param =
+      OfZone given (λ L. IsWholeHashedChain L apex config mode links param)
+
+  -- why they have none; want of memory says that their zone has no fault but, where it has one, a
+  -- fault of hashing
+  abbrev pub HasNoHashedChain : List (Record N D) → Name → ChainConfig → ChainError → Type 0
+  HasNoHashedChain given apex config =
+      HasNone given (λ L. IsFirstHashedFault L apex config) (λ L. IsReady L apex config)
+
+  module _ (given : List (Record N D)) (apex : Name) (config : GenerateNsecConfig) where
+    -- the verdict is what some records of the chain of the given records prove of a name and a type
+    abbrev pub IsProvedOf : List Link → Name → ℕ → Verdict → Type 0
+    IsProvedOf listed x t verdict = OfZone given
+        (λ L. verdict ≡ proved_verdict L apex config.assume_dnskeys_will_be_added listed x t)
+
+    -- the verdict is what the zone of the given records says of a name and a type
+    abbrev pub IsSaidOf : Name → ℕ → Verdict → Type 0
+    IsSaidOf x t verdict = OfZone given
+        (λ L. verdict ≡ zone_verdict L apex config.assume_dnskeys_will_be_added x t)
+
+    -- the same of whole answers
+    abbrev pub IsProvedAnswerOf : List Link → Name → ℕ → Answer → Type 0
+    IsProvedAnswerOf listed x t answer = OfZone given
+        (λ L. answer ≡ proved_answer L apex config.assume_dnskeys_will_be_added listed x t)
+
+    abbrev pub IsAnswerOf : Name → ℕ → Answer → Type 0
+    IsAnswerOf x t answer = OfZone given
+        (λ L. answer ≡ zone_answer L apex config.assume_dnskeys_will_be_added x t)

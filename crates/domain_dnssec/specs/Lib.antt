@@ -1,6 +1,4 @@
 pub mod AnyOrder
-pub mod AnyOrderNsec3
-pub mod Told
 pub mod ZoneRecords
 pub mod RawRecords
 pub mod Error

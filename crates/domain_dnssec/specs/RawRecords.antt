@@ -9,7 +9,6 @@ use Rattle.domain_nsec.specs.{Chain.Link, declared.config.GenerateNsecConfig.Gen
 use Rattle.domain_nsec3.specs.{Chain.{HashedLink, ParamRecord}, Config.ChainConfig, declared.config.Nsec3ParamTtlMode.Nsec3ParamTtlMode}
 use Rattle.domain_borrowed.specs.Data.{RawData, RawRecord, data_cmp, minimum_of}
 use Rattle.domain_dnssec.specs.AnyOrder as any_order
-use Rattle.domain_dnssec.specs.AnyOrderNsec3 as any_order_nsec3
 use Rattle.domain_dnssec.specs.ZoneRecords as zone
 use Rattle.domain_dnssec.specs.declared.chain.ChainError.{ChainError}
 
@@ -36,7 +35,7 @@ module _ {O N : Type 0} (octets : O → Octets) (labels : N → Name) where
         «data» = raw_data r.«data»;
       }
 
--- ---- the definitions of `AnyOrder` and `AnyOrderNsec3` for records whose data are octets
+-- ---- the definitions of `AnyOrder` for records whose data are octets
 
 abbrev pub Sorts : List RawRecord → List RawRecord → Type 0
 Sorts = any_order.Sorts (λ n. n) (λ d. d.rtype) data_cmp
@@ -49,10 +48,10 @@ HasNoChain = any_order.HasNoChain (λ n. n) (λ d. d.rtype) minimum_of data_cmp
 
 abbrev pub IsHashedChainOf : List RawRecord → Name → ChainConfig → Nsec3ParamTtlMode
     → List HashedLink → ParamRecord → Type 0
-IsHashedChainOf = any_order_nsec3.IsHashedChainOf (λ n. n) (λ d. d.rtype) minimum_of data_cmp
+IsHashedChainOf = any_order.IsHashedChainOf (λ n. n) (λ d. d.rtype) minimum_of data_cmp
 
 abbrev pub HasNoHashedChain : List RawRecord → Name → ChainConfig → ChainError → Type 0
-HasNoHashedChain = any_order_nsec3.HasNoHashedChain (λ n. n) (λ d. d.rtype) minimum_of data_cmp
+HasNoHashedChain = any_order.HasNoHashedChain (λ n. n) (λ d. d.rtype) minimum_of data_cmp
 
 -- the chain of records of octets is that of these records too, and where there is none, these have
 -- none either, for the same reason

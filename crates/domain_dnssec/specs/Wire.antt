@@ -1,9 +1,10 @@
 -- Chains as octets.
-use Rattle.std.specs.{Prelude.{◌++◌, ◌<◌, length, List}, List.{Contains, flat_map}}
+use Rattle.std.specs.{Prelude.{◌≡◌, ◌⊎◌, ◌++◌, ◌<◌, length, List}, List.{Contains, flat_map}}
 use Rattle.domain_octets.specs.Words.{Octets}
 use Rattle.domain_nsec.specs.Chain.{Link}
-use Rattle.domain_nsec3.specs.Chain.{ChainRecords, HashedLink}
-use Rattle.domain_borrowed.specs.{Links.{nsec_record, nsec3_record, param_record}, Wire.record_octets}
+use Rattle.domain_nsec3.specs.Chain.{ChainRecords}
+use Rattle.domain_borrowed.specs.{Data.RawRecord, Links.{nsec_record, nsec3_record, param_record}, Wire.record_octets}
+use Rattle.domain_dnssec.specs.declared.error.Error.{Error, TheVariants.{LongRecordData, OutOfMemory}}
 
 -- the octets of the records of an NSEC chain, one after another
 abbrev pub nsecs_octets : List Link → Octets
@@ -15,11 +16,10 @@ nsec3s_octets made =
     flat_map (λ k. record_octets (nsec3_record k)) made.links
     ++ record_octets (param_record made.param)
 
--- the data of one of the records have more octets than the length of data can say
-abbrev pub HasLongNsec : List Link → Type 0
-HasLongNsec links =
-    (k : Link) × Contains links k × (65535 < length (nsec_record k).«data».octets)
+-- the data of one of these records have more octets than the length of data can say
+abbrev pub HasLong : {K : Type 0} → (K → RawRecord) → List K → Type 0
+HasLong {K} raw links = (k : K) × Contains links k × (65535 < length (raw k).«data».octets)
 
-abbrev pub HasLongNsec3 : List HashedLink → Type 0
-HasLongNsec3 links =
-    (k : HashedLink) × Contains links k × (65535 < length (nsec3_record k).«data».octets)
+-- why records were not composed: there was no memory, or the data of one are so long
+abbrev pub IsUncomposed : Type 0 → Error → Type 0
+IsUncomposed is_long error = (error ≡ OutOfMemory) ⊎ ((error ≡ LongRecordData) × is_long)

@@ -1,5 +1,4 @@
--- The definitions of `AnyOrder`, `AnyOrderNsec3` and `Told` for records whose data are
--- `ZoneRecordData`.
+-- The definitions of `AnyOrder` for records whose data are `ZoneRecordData`.
 use Rattle.std.specs.Prelude.{ℕ, List}
 use Rattle.domain_octets.specs.Words.{Octets}
 use Rattle.domain_names.specs.Words.{Name}
@@ -10,8 +9,6 @@ use Rattle.domain_nsec3.specs.{Chain.{HashedLink, ParamRecord}, Config.ChainConf
 use Rattle.domain_checker.specs.declared.verdict.Verdict.{Verdict}
 use Rattle.domain_answer.specs.declared.answer.Answer.{Answer}
 use Rattle.domain_dnssec.specs.AnyOrder as any_order
-use Rattle.domain_dnssec.specs.AnyOrderNsec3 as any_order_nsec3
-use Rattle.domain_dnssec.specs.Told as told
 use Rattle.domain_dnssec.specs.declared.chain.ChainError.{ChainError}
 
 module _ {O N : Type 0} (octets : O → Octets) (labels : N → Name) where
@@ -30,17 +27,17 @@ module _ {O N : Type 0} (octets : O → Octets) (labels : N → Name) where
   abbrev pub IsHashedChainOf : List (Record N (ZoneRecordData O N)) → Name → ChainConfig
       → Nsec3ParamTtlMode → List HashedLink → ParamRecord → Type 0
   IsHashedChainOf =
-      any_order_nsec3.IsHashedChainOf labels rtype_of minimum_of (data_cmp octets labels)
+      any_order.IsHashedChainOf labels rtype_of minimum_of (data_cmp octets labels)
 
   abbrev pub HasNoHashedChain : List (Record N (ZoneRecordData O N)) → Name → ChainConfig
       → ChainError → Type 0
   HasNoHashedChain =
-      any_order_nsec3.HasNoHashedChain labels rtype_of minimum_of (data_cmp octets labels)
+      any_order.HasNoHashedChain labels rtype_of minimum_of (data_cmp octets labels)
 
   abbrev pub IsSaidOf : List (Record N (ZoneRecordData O N)) → Name → GenerateNsecConfig
       → Name → ℕ → Verdict → Type 0
-  IsSaidOf = told.IsSaidOf labels rtype_of minimum_of (data_cmp octets labels)
+  IsSaidOf = any_order.IsSaidOf labels rtype_of minimum_of (data_cmp octets labels)
 
   abbrev pub IsAnswerOf : List (Record N (ZoneRecordData O N)) → Name → GenerateNsecConfig
       → Name → ℕ → Answer → Type 0
-  IsAnswerOf = told.IsAnswerOf labels rtype_of minimum_of (data_cmp octets labels)
+  IsAnswerOf = any_order.IsAnswerOf labels rtype_of minimum_of (data_cmp octets labels)

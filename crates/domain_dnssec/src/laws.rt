@@ -11,9 +11,9 @@ ghost use Rattle.domain_zone.specs.Zone.{ZoneRecord, has_clash, has_type, is_uno
 ghost use Rattle.domain_zone.specs.{Zone.records_of, declared.soa.ApexSoa.ApexSoa, View.zone_of};
 ghost use Rattle.domain_answer.specs.{Proved.IsAnswered, declared.answer.Answer.Answer};
 ghost use Rattle.domain_rdata.specs.declared.zone_record_data.ZoneRecordData.{ZoneRecordData};
-ghost use Rattle.domain_dnssec.specs.AnyOrder.{IsChainOf, Sorts};
+ghost use Rattle.domain_dnssec.specs.AnyOrder.{IsAnswerOf, IsChainOf, IsProvedAnswerOf, IsProvedOf};
+ghost use Rattle.domain_dnssec.specs.AnyOrder.{IsSaidOf, Sorts};
 ghost use Rattle.domain_dnssec.specs.RawRecords.{raw_record, HaveOneChain, TellMinima};
-ghost use Rattle.domain_dnssec.specs.Told.{IsAnswerOf, IsProvedAnswerOf, IsProvedOf, IsSaidOf};
 
 use domain_answer::laws as answers;
 pub use domain_answer::laws::chains_leave_out_names_below_dname;

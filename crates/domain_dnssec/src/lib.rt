@@ -18,7 +18,6 @@
 #![tactic(auto)]
 
 mod any_order;
-mod any_order_nsec3;
 mod chain;
 mod config;
 mod error;
@@ -26,8 +25,7 @@ pub mod laws;
 pub mod rdata;
 mod wire;
 
-pub use any_order::{generate_nsecs_of_records, sort_one_class};
-pub use any_order_nsec3::generate_nsec3s_of_records;
+pub use any_order::{generate_nsec3s_of_records, generate_nsecs_of_records, sort_one_class};
 pub use chain::ChainError;
 pub use config::DenialConfig;
 pub use domain_answer::{Answer, judge_nsec, judge_nsec3, judge_nsec3_expansion};

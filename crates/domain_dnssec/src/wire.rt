@@ -1,11 +1,10 @@
 //! Chains as messages have their records.
-ghost use Rattle.std.specs.Prelude.{◌≡◌, ◌⊎◌, ◌<◌, ◌++◌, length, IfErr, OnOk};
+ghost use Rattle.std.specs.Prelude.{◌≡◌, ◌<◌, ◌++◌, length, IfErr, OnOk};
 ghost use Rattle.domain_nsec.specs.ChainView.{as_link};
 ghost use Rattle.domain_nsec3.specs.View.{as_param_record};
 ghost use Rattle.domain_borrowed.specs.Links.{nsec_record, nsec3_record, param_record};
 ghost use Rattle.domain_borrowed.specs.Wire.{record_octets};
-ghost use Rattle.domain_dnssec.specs.Wire.{nsecs_octets, nsec3s_octets, HasLongNsec, HasLongNsec3};
-ghost use Rattle.domain_dnssec.specs.declared.error.Error.TheVariants as variant;
+ghost use Rattle.domain_dnssec.specs.Wire.{nsecs_octets, nsec3s_octets, HasLong, IsUncomposed};
 
 use crate::Error;
 use domain_base::{Class, Name, ParsedName, ToName};
@@ -21,8 +20,8 @@ use std::alloc::Global;
 fn add_nsec(nsec: &BorrowedNsec<'_>, octets: &mut Vec<u8>) -> Result<(), Error>
     ensures ok { OnOk result (octets.new.items
         ≡ octets.old.items ++ record_octets (nsec_record (as_link (λ n. n) nsec.now))) }
-    ensures err { IfErr result (λ e. (e ≡ variant.OutOfMemory) ⊎ ((e ≡ variant.LongRecordData)
-        × (65535 < length (nsec_record (as_link (λ n. n) nsec.now)).«data».octets))) }
+    ensures err { IfErr result (IsUncomposed
+        (65535 < length (nsec_record (as_link (λ n. n) nsec.now)).«data».octets)) }
 {
     if !nsec.data().fits_rdlen() {
         return Err(Error::LongRecordData);
@@ -42,8 +41,7 @@ fn add_nsec(nsec: &BorrowedNsec<'_>, octets: &mut Vec<u8>) -> Result<(), Error>
 /// record of a zone's chain has. Both leave what stood, and some records.
 pub fn compose_nsecs<N: ToName>(chain: &NsecChain<'_, N>, octets: &mut Vec<u8>) -> Result<(), Error>
     ensures ok { OnOk result (octets.new.items ≡ octets.old.items ++ nsecs_octets chain.now) }
-    ensures err { IfErr result (λ e. (e ≡ variant.OutOfMemory) ⊎ ((e ≡ variant.LongRecordData)
-        × HasLongNsec chain.now)) }
+    ensures err { IfErr result (IsUncomposed (HasLong nsec_record chain.now)) }
 {
     for place in 0..chain.len() {
         let Some(nsec) = chain.lend(place) else {
@@ -58,8 +56,8 @@ pub fn compose_nsecs<N: ToName>(chain: &NsecChain<'_, N>, octets: &mut Vec<u8>) 
 fn add_nsec3(alloc: Global, nsec3: &BorrowedNsec3<'_>, octets: &mut Vec<u8>) -> Result<(), Error>
     ensures ok { OnOk result (octets.new.items
         ≡ octets.old.items ++ record_octets (nsec3_record nsec3.now)) }
-    ensures err { IfErr result (λ e. (e ≡ variant.OutOfMemory) ⊎ ((e ≡ variant.LongRecordData)
-        × (65535 < length (nsec3_record nsec3.now).«data».octets))) }
+    ensures err { IfErr result (IsUncomposed
+        (65535 < length (nsec3_record nsec3.now).«data».octets)) }
 {
     let hashed = nsec3.data();
     if !hashed.fits_rdlen() {
@@ -103,8 +101,7 @@ pub fn compose_nsec3s<O: Octets>(
     octets: &mut Vec<u8>,
 ) -> Result<(), Error>
     ensures ok { OnOk result (octets.new.items ≡ octets.old.items ++ nsec3s_octets chain.now) }
-    ensures err { IfErr result (λ e. (e ≡ variant.OutOfMemory) ⊎ ((e ≡ variant.LongRecordData)
-        × HasLongNsec3 chain.now.links)) }
+    ensures err { IfErr result (IsUncomposed (HasLong nsec3_record chain.now.links)) }
 {
     for place in 0..chain.len() {
         let Some(nsec3) = chain.lend(place) else {

@@ -1,0 +1,11 @@
+use Rattle.domain_dnssec.proofs.any_order.generate_nsec3s_of_records.Goals as goal
+
+pub returns-clause-ok : goal.returns-clause-ok
+returns-clause-ok g c =
+    let made = c.in_ok-generate_nsec3s.ensures in
+    record {
+      sorted = c.in_ok-sorted.sorted;
+      sorts = c.in_ok-sorted.ensures.sorts;
+      one_class = c.in_ok-sorted.ensures.one_class;
+      zone = (rw c.owner_rrs.ensures.records at made.chain, rw c.owner_rrs.ensures.records at made.param);
+    }
