@@ -1,10 +1,25 @@
--- Records that are read one after another, of which some are kept.
+-- Records that are read one after another, and what is answered of those that are kept.
 use Rattle.std.proofs.Common.{◌≡◌, ℕ, ◌≤◌, Bool, true, false, cond, List, [], ◌∷◌, ◌++◌, map, length, refl, sym, ap, ◌∙◌, subst, arith, append_assoc}
-use Rattle.std.{proofs.{Common.append-nil, lemmas.{Grind.common_steps, List.{map-append, Elements.filter-append}}}, specs.{Prelude.filter, List.AllByRecursion}}
-use Rattle.std.specs.List.{flat_map}
-use Rattle.domain_borrowed.{specs.{Data.RawRecord, Wire.{record_octets, IsRecord}}, proofs.WireLemmas.{same_record, some_octets}}
-use Rattle.domain_zone.proofs.{FindLemmas.{from_map, in_filtered, in_middle}, PairLemmas.{In, all_in}, ZoneLemmas.{all_both, all_front, weaker}}
-use Rattle.denial_c.specs.{Among.AreAmong, Given.{AreGiven, BeginsNone, IsOfClass}}
+use Rattle.std.proofs.{Common.{append-nil, ◌<◌, Option, Result, IfOk, IfErr, zero, suc, ◌*◌, Ok, ◌⊎◌, Err, inl, inr}, lemmas.Grind.common_steps}
+use Rattle.std.{proofs.lemmas.List.{map-append, Elements.filter-append}, specs.{Prelude.filter, List.{AllByRecursion, flat_map}}}
+use Rattle.domain_borrowed.{specs.Data.{RawRecord, zone_of_raw, record_octets, IsRecord}, proofs.DataLemmas.{same_record, some_octets}}
+use Rattle.domain_zone.{proofs.{PairLemmas.{from_map, in_filtered, in_middle, In, all_in}, WalkLemmas.{all_both, all_front, weaker}}, specs.Zone.ZoneRecord}
+use Rattle.denial_c.specs.Result.{AreAmong, AreNsecs, IsReadFault, Spells, first_parameters, is_known, told_or_fault, AreAsked, HashedQuestion}
+use Rattle.denial_c.specs.{Result.{IsHashedResult, Source, IsSpelled, IsNsecAnswer}, Chains.{AreGiven, BeginsNone, IsOfClass, AreSorted, IsChainFault}}
+use Rattle.denial_c.specs.Chains.{IsChainResult, IsFit, IsSortedFault, IsWritten, Making, hashing_fault, nsec3_making, HasFirstPair}
+use Rattle.denial_c.specs.declared.fault.Fault.{Fault, TheVariants.ShortBuffer}
+use Rattle.domain_alike.specs.Alike.{IsFirstPair, Pair}
+use Rattle.domain_names.specs.Name.{Name, lowered, wire_of}
+use Rattle.domain_nsec3.specs.{Chain.{ChainConfig, Parameters, hash_of, IsFirstHashFault, IsFirstFault, HashedLink}, View.hash_by}
+use Rattle.domain_nsec3.specs.declared.config.Nsec3ParamTtlMode.{Nsec3ParamTtlMode}
+use Rattle.sha1.specs.Sha1.{digest_bytes, sha1}
+use Rattle.domain_hasher.specs.declared.error.Nsec3HashError.{Nsec3HashError, TheVariants.{Hasher, AppendError, OwnerHashError, Nsec3NameTooLong}}
+use Rattle.domain_hasher.specs.declared.error.Nsec3HashError.TheVariants.{CollisionDetected, OutOfMemory}
+use Rattle.domain_sha1.specs.Iterated.{iterated, sha1_answer}
+use Rattle.domain_records.specs.declared.error.SigningError.TheVariants as signing_error
+use Rattle.domain_hasher.specs.declared.error.Nsec3HashError.TheVariants as hash_error
+
+-- ---- Records that are read one after another, of which some are kept.
 
 -- ---- what was read, and what is left
 
@@ -127,3 +142,83 @@ module _ {class : ℕ} {octets left : List ℕ} {given before : List RawRecord} 
 
   pub before_of_class : AllByRecursion (IsOfClass class) before
   before_of_class = (all_front (IsOfClass class) before rest_given.rest (subst (AllByRecursion (IsOfClass class)) rest_given.all_are g.whole)).0
+
+-- ---- What is answered of sorted records of a class, where the octets are an apex and these records.
+
+module _ {apex : List ℕ} {class number : ℕ} {records : List ℕ} {a : Name} {listed sorted : List RawRecord} (spells : Spells apex a)
+    (of_class : number ≡ class) (as_listed : listed ≡ sorted) (are : AreSorted number records sorted) where
+  pub chain_fault : (making : Making) (old : List ℕ) (e : Fault) → IsFit making → IsSortedFault making number records a listed e
+      → IsChainFault making apex class records old e
+  chain_fault making old e fit h = grind (arith, common_steps)
+
+  -- octets that are a chain, written or not
+  pub chain_result : (making : Making) (written shown old new : List ℕ) → IsFit making → making.is_chain a listed written → shown ≡ written
+      → (r : Result ℕ Fault) → IfOk r (IsWritten shown old new)
+      → IfErr r (λ e. (e ≡ ShortBuffer (length shown)) × (length old < length shown) × (new ≡ old)) → IsChainResult making apex class records r old new
+  chain_result making written shown old new fit is as_shown r ok err = grind (arith, common_steps)
+
+  pub pair_found : (config : ChainConfig) (pair : Option Pair) → IsFirstPair (zone_of_raw listed) a config pair
+      → HasFirstPair apex class config records pair
+  pair_found config pair first = grind (arith, common_steps)
+
+-- ---- Hashes by SHA-1: no name is refused, and each hash has 20 octets.
+
+digest_long : (h : List ℕ) (n : ℕ) → length (digest_bytes h n) ≡ 4 * n
+unfolding digest_bytes
+digest_long h zero = refl
+digest_long h (suc n) = grind (arith, common_steps, (digest_long h n))
+
+sha1_long : (m : List ℕ) → length (sha1 m) ≡ 20
+unfolding sha1
+sha1_long m = digest_long _ 5
+
+iterated_long : (salt octets : List ℕ) (n : ℕ) → length (iterated salt octets n) ≡ 20
+unfolding iterated
+iterated_long salt octets n = grind (arith, common_steps, sha1_long)
+
+module _ (L : List ZoneRecord) (a : Name) (config : ChainConfig) (p : Parameters) (by : config.hash ≡ hash_by sha1_answer p) (sha1 : p.algorithm ≡ 1) where
+  hashed : (n : Name) → hash_of config n ≡ Ok (iterated p.salt (wire_of (lowered n)) p.iterations)
+  hashed n = grind (arith, common_steps)
+
+  first_is_long : (e : Nsec3HashError) → IsFirstHashFault L a config e → Nsec3NameTooLong ≡ e
+  first_is_long e h = grind (arith, common_steps, iterated_long)
+
+-- so a fault of hashing is one of two
+pub hashing_faulty : (mode : Nsec3ParamTtlMode) (class : ℕ) (octets : List ℕ) (sorted : List RawRecord) (a : Name) (config : ChainConfig) (p : Parameters)
+    → config.hash ≡ hash_by sha1_answer p → p.algorithm ≡ 1
+    → (e : Nsec3HashError) → IsFirstFault (zone_of_raw sorted) a config (signing_error.Nsec3HashingError e)
+    → IsSortedFault (nsec3_making mode config) class octets a sorted (hashing_fault e)
+hashing_faulty mode class octets sorted a config p by sha1 (Hasher n) h = grind (arith, common_steps)
+hashing_faulty mode class octets sorted a config p by sha1 AppendError h = absurd h.1
+hashing_faulty mode class octets sorted a config p by sha1 OwnerHashError h =
+    let wrong = first_is_long _ a config p by sha1 OwnerHashError h.1 in absurd (cc)
+hashing_faulty mode class octets sorted a config p by sha1 Nsec3NameTooLong h = h
+hashing_faulty mode class octets sorted a config p by sha1 CollisionDetected h = h
+hashing_faulty mode class octets sorted a config p by sha1 OutOfMemory h = absurd h.1
+
+-- ---- Faults of NSEC3 records.
+
+-- what a check tells of a question that was asked; its error is want of memory, or of a name that is refused
+pub hashed_told : {V : Type 0} {source : Source} {apex name : List ℕ} {q : HashedQuestion} (asked : AreAsked source apex name q)
+    (Tells : HashedQuestion → Result V Nsec3HashError → Type 0) (r : Result V Nsec3HashError)
+    → IfErr r (λ e. (e ≡ hash_error.OutOfMemory) ⊎ ((n : ℕ) × (e ≡ hash_error.Hasher n))) → Tells q r
+    → IsHashedResult source apex name Tells (told_or_fault r)
+hashed_told {q = q} asked Tells (Ok told) errors tells = record { q = q; asked = asked; holds = tells }
+hashed_told asked Tells (Err e) (inl full) tells = rw full tt
+hashed_told {q = q} asked Tells (Err e) (inr r) tells = rw r.1 (record { q = q; asked = asked; holds = (r.0, rw r.1 at tells) })
+
+-- what is mapped and passes a test, tested before
+pub map_filter : {X Y : Type 0} (f : X → Y) (q : Y → Bool) (xs : List X) → map f (filter (λ x. q (f x)) xs) ≡ filter q (map f xs)
+map_filter f q [] = refl
+map_filter f q (x ∷ xs) = grind (arith, common_steps, (map_filter f q xs))
+
+-- the first of the records that are not to be ignored is by SHA-1, and so is what is taken without one
+pub first_by_sha1 : (a : Name) (ks : List HashedLink) → (first_parameters (filter (is_known a) ks)).algorithm ≡ 1
+first_by_sha1 a [] = refl
+first_by_sha1 a (k ∷ ks) = grind (arith, common_steps, (first_by_sha1 a ks))
+
+-- ---- Faults of whole answers.
+
+pub nsecs_fault : (apex name : List ℕ) (t class : ℕ) (octets : List ℕ) → IsSpelled apex → IsSpelled name → (e : Fault)
+    → IsReadFault (AreNsecs class octets) e → IsNsecAnswer apex name t class octets (Err e)
+nsecs_fault apex name t class octets spells spelled e h = grind (arith, common_steps)

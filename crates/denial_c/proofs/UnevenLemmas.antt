@@ -3,16 +3,14 @@ use Rattle.std.proofs.{lemmas.Grind.common_steps, Common.{◌≡◌, ℕ, ◌-�
 use Rattle.std.proofs.Common.{refl, sym, ap, ◌∙◌, subst, arith, nat_eq, append_assoc, append-nil, length-append, is_some, Some, None, Option}
 use Rattle.std.proofs.lemmas.Bool.{eqb-false, eqb-true, false≢true, not-false, not-true, or_left, or_right}
 use Rattle.std.{proofs.lemmas.List.Folds.list_any-append, specs.{Prelude.{Contains, filter}, List.{AllByRecursion, flat_map, list_any}}}
-use Rattle.domain_names.specs.{Words.Name}
+use Rattle.domain_names.specs.Name.{Name}
 use Rattle.domain_dnssec.{specs.RawRecords.Sorts, proofs.AmongLemmas.{contains_in, in_contains}}
-use Rattle.domain_borrowed.specs.{Data.{minimum_of, RawRecord, zone_of_raw}, Wire.{record_octets, IsRecord}}
-use Rattle.domain_zone.specs.{Owners.{OwnerRecords, owner_at}, View.as_zone_record}
-use Rattle.domain_zone.specs.Zone.{ZoneRecord, clashes, has_clash, has_unequal_ttls, records_of, IsFirstClash}
-use Rattle.domain_zone.proofs.{GivenLemmas.{all_known, name_of}, ListedLemmas.names_back, OwnerLemmas.any_two, PairLemmas.{In, all_in, all_from_in}}
-use Rattle.domain_zone.proofs.ZoneLemmas.{all_both, any_none, weaker}
-use Rattle.domain_zone.proofs.FindLemmas.{in_filter, in_filtered, in_map, from_map}
-use Rattle.denial_c.specs.{Given.AreGiven, Uneven.{is_in_set, is_other, IsFirstUneven, IsUnevenAt}}
-use Rattle.denial_c.proofs.AmongLemmas.{all_read, before_of_class, past_more, rest_given, IsPast}
+use Rattle.domain_borrowed.specs.Data.{minimum_of, RawRecord, zone_of_raw, record_octets, IsRecord}
+use Rattle.domain_zone.specs.Zone.{OwnerRecords, owner_at, as_zone_record, ZoneRecord, clashes, has_clash, has_unequal_ttls, records_of, IsFirstClash}
+use Rattle.domain_zone.proofs.{GivenLemmas.{all_known, name_of, names_back}, WalkLemmas.{any_two, all_both, any_none, weaker}, PairLemmas.{In, all_in}}
+use Rattle.domain_zone.proofs.PairLemmas.{all_from_in, in_filter, in_filtered, in_map, from_map}
+use Rattle.denial_c.{specs.Chains.{AreGiven, is_in_set, is_other, IsFirstUneven, IsUnevenAt}, proofs.AmongLemmas.{all_read, before_of_class, past_more}}
+use Rattle.denial_c.proofs.AmongLemmas.{rest_given, IsPast}
 
 abbrev pub see : RawRecord → ZoneRecord
 see = as_zone_record (λ n. n) (λ d. d.rtype) minimum_of

@@ -1,22 +1,94 @@
--- What is answered where a chain is made of octets: the chain of the records that the octets are,
--- octet for octet, or exactly why there is none.
-use Rattle.std.specs.Prelude.{◌≡◌, ℕ, ◌<◌, ◌≤◌, Bool, true, false, List, [], ◌++◌, length, drop, Result, Ok, Err, if◌then◌else◌}
-use Rattle.domain_octets.specs.Words.{Octets}
-use Rattle.domain_names.specs.Words.{Name}
+-- What is answered where a chain is made of octets.
+use Rattle.std.specs.Prelude.{◌≡◌, ◌≢◌, ℕ, List, [], ◌++◌, length, ◌==◌, ◌&&◌, not, Bool, true, false, ◌∷◌, Option, Some, None, ◌<◌, ◌≤◌}
+use Rattle.std.specs.{Prelude.{drop, Result, Ok, Err, if◌then◌else◌}, List.{AllByRecursion, flat_map, list_any}}
+use Rattle.domain_octets.specs.Octets.{Octets}
+use Rattle.domain_borrowed.specs.Data.{RawRecord, zone_of_raw, record_octets, IsRecord}
+use Rattle.domain_names.specs.Name.{same_name, lowered, wire_of, Name}
+use Rattle.domain_zone.specs.Zone.{ZoneRecord, has_unequal_ttls, records_of, IsFirstClash, covered_names}
 use Rattle.domain_nsec.specs.{Chain.{Link, IsChain, IsFirstFault}, declared.config.GenerateNsecConfig.GenerateNsecConfig}
-use Rattle.domain_nsec3.specs.{Chain.{ChainRecords, IsChainParam, IsHashedChain}, Config.{excludes, ChainConfig, Parameters}}
-use Rattle.domain_nsec3.specs.{Faults.IsFirstFault as IsFirstHashedFault, View.hash_by, declared.config.Nsec3ParamTtlMode.Nsec3ParamTtlMode}
+use Rattle.domain_nsec3.specs.Chain.{ChainRecords, IsChainParam, IsHashedChain, excludes, ChainConfig, Parameters}
+use Rattle.domain_nsec3.specs.{Chain.IsFirstFault as IsFirstHashedFault, View.hash_by, declared.config.Nsec3ParamTtlMode.Nsec3ParamTtlMode}
 use Rattle.domain_hasher.specs.declared.error.Nsec3HashError.{Nsec3HashError}
-use Rattle.domain_hasher.specs.declared.error.Nsec3HashError.TheVariants as hash_error
 use Rattle.domain_records.specs.{Order.{IsInOrder, IsOneClass}, declared.error.SigningError.SigningError}
-use Rattle.domain_records.specs.declared.error.SigningError.TheVariants as signing_error
-use Rattle.domain_zone.specs.{Owners.covered_names, Zone.{records_of, IsFirstClash, ZoneRecord}}
 use Rattle.domain_sha1.specs.Iterated.{sha1_answer}
 use Rattle.domain_dnssec.specs.{RawRecords.Sorts, Wire.{nsecs_octets, nsec3s_octets}}
-use Rattle.domain_borrowed.specs.Data.{RawRecord, zone_of_raw}
-use Rattle.denial_c.specs.{Given.{AreGiven, HasNoRecordAt, HasOtherClassAt}, Result.{IsSpelled, Spells}}
-use Rattle.denial_c.specs.{Uneven.{IsFirstUneven, IsUnevenAt}, declared.{fault.Fault.Fault, nsec3_chain.Hashing.Hashing}}
+use Rattle.denial_c.specs.{Result.{IsSpelled, Spells}, declared.{fault.Fault.Fault, nsec3_chain.Hashing.Hashing}}
+use Rattle.domain_alike.specs.Alike.{IsFirstPair, Pair}
+use Rattle.domain_hasher.specs.declared.error.Nsec3HashError.TheVariants as hash_error
+use Rattle.domain_records.specs.declared.error.SigningError.TheVariants as signing_error
 use Rattle.denial_c.specs.declared.fault.Fault.TheVariants as fault
+
+-- ---- Octets as the records of a zone, which are all of one class, or the first place where they are
+-- not.
+
+-- a record of the class that has octets
+abbrev pub IsOfClass : ℕ → RawRecord → Type 0
+IsOfClass class r = IsRecord r × (r.class ≡ class)
+
+-- the octets are these records of the class, one after another
+pub record AreGiven (class : ℕ) (octets : Octets) (given : List RawRecord) : Type 0 where
+  pub are : octets ≡ flat_map record_octets given
+  pub whole : AllByRecursion (IsOfClass class) given
+
+-- records of the class stand before an offset, and these octets from it on
+pub record IsReadUpTo (class : ℕ) (octets : Octets) (offset : ℕ) (left : Octets) : Type 0 where
+  pub before : List RawRecord
+  pub are : octets ≡ flat_map record_octets before ++ left
+  pub whole : AllByRecursion (IsOfClass class) before
+  pub far : offset ≡ length (flat_map record_octets before)
+
+-- octets, but such as begin with no record
+pub record BeginsNone (octets : Octets) : Type 0 where
+  pub some : octets ≢ []
+  pub none : (r : RawRecord) (after : Octets) → IsRecord r → octets ≡ record_octets r ++ after → ⊥
+
+-- after records of the class come octets that begin with no record
+pub record HasNoRecordAt (class : ℕ) (octets : Octets) (offset : ℕ) : Type 0 where
+  pub left : Octets
+  pub read : IsReadUpTo class octets offset left
+  pub none : BeginsNone left
+
+-- after records of the class comes one of another class
+pub record HasOtherClassAt (class : ℕ) (octets : Octets) (offset : ℕ) : Type 0 where
+  pub first : RawRecord
+  pub after : Octets
+  pub read : IsReadUpTo class octets offset (record_octets first ++ after)
+  pub fits : IsRecord first
+  pub other : first.class ≢ class
+
+-- ---- Where records of one owner and type differ in TTL (RFC 2181, section 5.2).
+
+-- of the owner and the type
+abbrev pub is_in_set : Name → ℕ → RawRecord → Bool
+is_in_set n t r = same_name r.owner n && (r.«data».rtype == t)
+
+-- of these names the owner is the first of which records clash
+pub record IsFirstUneven (L : List ZoneRecord) (names : List Name) (owner : Name) : Type 0 where
+  pub passed : List Name
+  pub rest : List Name
+  pub among : names ≡ passed ++ owner ∷ rest
+  pub even : has_unequal_ttls L passed ≡ false
+
+-- there is a first TTL, and this is another
+abbrev pub is_other : Option ℕ → ℕ → Bool
+is_other (Some first) ttl = not (first == ttl)
+is_other None ttl = false
+
+-- at the offset stands a record of the owner and the type, after others of these that all have
+-- another TTL, and one
+pub record IsUnevenAt (class : ℕ) (octets : Octets) (n : Name) (t : ℕ) (offset : ℕ) : Type 0 where
+  pub first : RawRecord
+  pub after : Octets
+  pub read : IsReadUpTo class octets offset (record_octets first ++ after)
+  pub fits : IsRecord first
+  pub among : is_in_set n t first ≡ true
+  pub ttl : ℕ
+  pub other : first.ttl ≢ ttl
+  pub some : list_any (is_in_set n t) read.before ≡ true
+  pub one_ttl : AllByRecursion (λ r. is_in_set n t r ≡ true → r.ttl ≡ ttl) read.before
+
+-- ---- What is answered where a chain is made of octets: the chain of the records that the octets are,
+-- octet for octet, or exactly why there is none.
 
 -- these are the records of the class that the octets are, sorted
 pub record AreSorted (class : ℕ) (octets : Octets) (sorted : List RawRecord) : Type 0 where
@@ -178,3 +250,49 @@ IsChainResult making apex class records (Ok count) old new =
     × making.is_chain a sorted written × IsWritten written old new count)
 IsChainResult making apex class records (Err e) old new =
     IsChainFault making apex class records old e × (new ≡ old)
+
+-- ---- What is answered where two names of an NSEC3 chain hash alike: both names, or exactly why there
+-- is no such answer.
+
+-- of the chain of the records, in whatever order they stand, this is the first pair of names that
+-- hash alike, or it has none
+abbrev pub HasFirstPair : Octets → ℕ → ChainConfig → Octets → Option Pair → Type 0
+HasFirstPair apex class config records pair =
+    HasZone apex class records (λ a sorted. IsFirstPair (zone_of_raw sorted) a config pair)
+
+-- a buffer, before and after a call
+pub record Written : Type 0 where
+  pub old : Octets
+  pub new : Octets
+
+-- the wire form of the name, in lower case, was written to the beginning of the buffer
+abbrev pub IsNamed : Name → Written → Type 0
+IsNamed n buffer = buffer.new ≡ wire_of (lowered n) ++ drop (length (wire_of n)) buffer.old
+
+abbrev pub IsKept : Written → Type 0
+IsKept buffer = buffer.new ≡ buffer.old
+
+-- of names that hash alike no chain is made, and no fault of a zone counts
+abbrev pub pair_making : ChainConfig → Making
+pair_making config =
+    record {
+      salt = config.parameters.salt;
+      is_chain = λ a sorted written. ⊥;
+      is_fault = λ a sorted error. ⊥;
+      names = λ L a. [];
+    }
+
+-- what is answered, and what both buffers have then: the earlier name of the pair and the later
+-- one, or what they had
+abbrev pub IsCollisionResult : Octets → ℕ → ChainConfig → Octets → Result Bool Fault → Written
+    → Written → Type 0
+IsCollisionResult apex class config records (Ok true) earlier later =
+    IsFit (pair_making config)
+    × ((pair : Pair) × HasFirstPair apex class config records (Some pair) × IsNamed pair.1 earlier
+    × IsNamed pair.0 later)
+IsCollisionResult apex class config records (Ok false) earlier later =
+    IsFit (pair_making config) × HasFirstPair apex class config records None
+    × IsKept earlier × IsKept later
+IsCollisionResult apex class config records (Err e) earlier later =
+    IsChainFault (pair_making config) apex class records earlier.old e × IsKept earlier
+    × IsKept later

@@ -1,10 +1,3 @@
-pub mod Among
-pub mod Numbers
 pub mod Result
-pub mod Question
-pub mod Judged
-pub mod Given
-pub mod Uneven
+pub mod Numbers
 pub mod Chains
-pub mod Collisions
-pub mod Texts

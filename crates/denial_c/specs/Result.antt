@@ -1,18 +1,67 @@
--- What is answered of octets: a verdict, which is that of the library over the records that the
--- octets are, or exactly why there is none.
-use Rattle.std.specs.Prelude.{◌≡◌, ◌≢◌, ◌⊎◌, ◌&&◌, ◌==◌, nat_lt, ℕ, Bool, List, [], ◌∷◌, filter, length, Result, Ok, Err}
-use Rattle.domain_octets.specs.Words.{Octets}
-use Rattle.domain_names.specs.{Name.{is_at_or_below, wire_of, IsName}, Words.Name}
+-- What is answered of octets: a verdict or a whole answer over the records that the octets are.
+use Rattle.std.specs.Prelude.{◌≡◌, ℕ, Bool, ◌&&◌, ◌==◌, List, filter, map, ◌≢◌, ◌⊎◌, nat_lt, [], ◌∷◌, length, Result, Ok, Err}
+use Rattle.std.specs.List.{AllByRecursion, flat_map}
+use Rattle.domain_octets.specs.Octets.{Octets}
+use Rattle.domain_names.specs.Name.{same_name, is_at_or_below, wire_of, IsName, Name}
 use Rattle.domain_nsec.specs.Chain.{Link}
-use Rattle.domain_nsec3.specs.{Chain.{HashedLink, ParamRecord}, Config.Parameters}
+use Rattle.domain_nsec3.specs.{Chain.{HashedLink, ParamRecord, Parameters}, View.as_param_record}
+use Rattle.domain_borrowed.specs.Data.{RawRecord, nsec_record, nsec3_record, param_record, IsNsec, IsNsec3, IsParam, record_octets}
+use Rattle.domain_borrowed.specs.Data.{IsRecord}
+use Rattle.denial_c.specs.declared.{fault.Fault.{Fault, TheVariants.{Records, OutOfMemory}}, nsec3.Telling.Telling}
+use Rattle.denial_c.specs.declared.question.Question.{Question}
 use Rattle.domain_sha1.specs.Iterated.{sha1_answer}
 use Rattle.domain_hasher.specs.declared.error.Nsec3HashError.{Nsec3HashError}
+use Rattle.domain_checker.specs.{HashedReading.IsHashedChecked, HashedVerdict.{HashedRecords, links_with, links}, Reading.IsChecked}
+use Rattle.domain_checker.specs.declared.verdict.Verdict.{Verdict}
+use Rattle.domain_answer.specs.{Judged.{IsExpansionJudged, IsHashedJudged, IsJudged}, declared.answer.Answer.Answer}
+use Rattle.domain_base.specs.Types as rtypes
 use Rattle.domain_hasher.specs.declared.error.Nsec3HashError.TheVariants as hash_error
-use Rattle.domain_checker.specs.{HashedReading.IsHashedChecked, HashedView.{HashedRecords, links_with}, Reading.IsChecked, declared.verdict.Verdict.Verdict}
-use Rattle.denial_c.specs.{Among.{AreNsecs, AreNsec3s, AreParams, HasNone, IsReadFault}, declared.fault.Fault.Fault}
 use Rattle.denial_c.specs.declared.fault.Fault.TheVariants as fault
-use Rattle.denial_c.specs.declared.nsec3.Telling.{Telling}
 use Rattle.denial_c.specs.declared.nsec3.Telling.TheVariants as telling
+
+-- ---- The NSEC, NSEC3 and NSEC3PARAM records of a class among the records that octets are. Records of
+-- other types and classes are passed over, whatever their data.
+
+-- of the type and the class
+abbrev pub is_of : ℕ → ℕ → RawRecord → Bool
+is_of rtype class r = (r.«data».rtype == rtype) && (r.class == class)
+
+-- an NSEC3PARAM record of the apex and the class
+abbrev pub is_param : Name → ℕ → RawRecord → Bool
+is_param a class r =
+    ((r.«data».rtype == rtypes.nsec3param) && same_name r.owner a) && (r.class == class)
+
+-- the octets are records, one after another; those that are kept are these, in their order
+pub record AreAmong {K : Type 0} (is_kept : RawRecord → Bool) (raw : K → RawRecord)
+    (IsKept : K → Type 0) (octets : Octets) (kept : List K) : Type 0 where
+  pub records : List RawRecord
+  pub are : octets ≡ flat_map record_octets records
+  pub whole : AllByRecursion IsRecord records
+  pub those : filter is_kept records ≡ map raw kept
+  pub fit : AllByRecursion IsKept kept
+
+abbrev pub AreNsecs : ℕ → Octets → List Link → Type 0
+AreNsecs class = AreAmong (is_of rtypes.nsec class) nsec_record IsNsec
+
+abbrev pub AreNsec3s : ℕ → Octets → List HashedLink → Type 0
+AreNsec3s class = AreAmong (is_of rtypes.nsec3 class) nsec3_record IsNsec3
+
+-- those of the apex alone
+abbrev pub AreParams : Name → ℕ → Octets → List ParamRecord → Type 0
+AreParams a class = AreAmong (is_param a class) param_record IsParam
+
+-- the octets are no records, or the data of one that is to be kept are none
+abbrev pub HasNone : {K : Type 0} → (List K → Type 0) → Type 0
+HasNone Are = (kept : List _) → Are kept → ⊥
+
+-- why no records that are such were kept
+abbrev pub IsReadFault : {K : Type 0} → (List K → Type 0) → Fault → Type 0
+IsReadFault Are Records = HasNone Are
+IsReadFault Are OutOfMemory = Unit {0}
+IsReadFault Are _ = ⊥
+
+-- ---- What is answered of octets: a verdict, which is that of the library over the records that the
+-- octets are, or exactly why there is none.
 
 -- ---- names
 
@@ -188,3 +237,36 @@ pub record IsTold {A N : Type 0} (told : A → N) (numbers : N) (IsAnswer : A �
   pub answer : A
   pub is : IsAnswer answer
   pub tells : numbers ≡ told answer
+
+-- ---- What a question that was read says.
+
+abbrev pub as_question : Question → HashedQuestion
+as_question q =
+    record {
+      apex = q.apex;
+      name = q.name;
+      links = links (λ n. n) q.chain;
+      param = as_param_record (λ n. n) q.chain.nsec3param;
+    }
+
+-- ---- What is answered of octets as a whole: the answer of `domain_answer` over the records that the
+-- octets are, or exactly why there is none.
+
+-- the answer to the name and the type t, over the NSEC records of a class; of faults the first that
+-- stands is told, but for want of memory, which may come before others
+abbrev pub IsNsecAnswer : Octets → Octets → ℕ → ℕ → Octets → Result Answer Fault → Type 0
+IsNsecAnswer apex name t class records (Ok answer) =
+    AsksNsecs apex name class records (λ links a x. IsJudged links a x t answer)
+IsNsecAnswer apex name t class records (Err fault.OutOfMemory) = Unit {0}
+IsNsecAnswer apex name t class records (Err e) = IsNsecFault apex name class records e
+
+-- the answer to them over NSEC3 records, with at most so many iterations
+abbrev pub IsNsec3Answer : Source → Octets → Octets → ℕ → ℕ → Result Answer Fault → Type 0
+IsNsec3Answer source apex name t limit =
+    IsHashedResult source apex name (λ q. IsHashedJudged (sha1_records q) q.name t limit)
+
+-- that of a name whose records were expanded from a wildcard, where n is the field Labels of their
+-- signatures
+abbrev pub IsExpansionAnswer : Source → Octets → Octets → ℕ → ℕ → Result Answer Fault → Type 0
+IsExpansionAnswer source apex name n limit =
+    IsHashedResult source apex name (λ q. IsExpansionJudged (sha1_records q) q.name n limit)

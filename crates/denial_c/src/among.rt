@@ -1,7 +1,7 @@
 //! The records that octets are, one after another, and those among them that count.
 ghost use Rattle.std.specs.Prelude.{◌≡◌, ◌<◌, ◌++◌, ◌&&◌, ◌==◌, map, length, IfErr, IfNone, IfOk, IfSome, OnSome};
-ghost use Rattle.domain_borrowed.specs.Wire.{record_octets, IsRecord};
-ghost use Rattle.denial_c.specs.{Among.{AreAmong, IsReadFault}, Given.BeginsNone};
+ghost use Rattle.domain_borrowed.specs.Data.{record_octets, IsRecord};
+ghost use Rattle.denial_c.specs.{Result.{AreAmong, IsReadFault}, Chains.BeginsNone};
 
 use crate::fault::Fault;
 use domain_base::{Class, ParsedName};
@@ -10,7 +10,7 @@ use domain_octets::Parser;
 use std::alloc::Global;
 
 /// The record that comes next, as `read_record` has it; less is left after it.
-#[tactic(auto, using(domain_borrowed::proofs::WireLemmas::shorter))]
+#[tactic(auto, using(domain_borrowed::proofs::DataLemmas::shorter))]
 pub(crate) fn next_record<'a>(parser: &mut Parser<'a>) -> Option<BorrowedRecord<'a>>
     requires { 0 < length parser.old.left }
     ensures some { IfSome result (λ r. (parser.old.left ≡ record_octets r ++ parser.new.left)

@@ -1,7 +1,6 @@
 //! The names of an NSEC3 chain of the records in octets that hash alike.
 ghost use Rattle.std.specs.Prelude.{◌≡◌};
-ghost use Rattle.denial_c.specs.{Numbers.collision_number, Chains.config_by};
-ghost use Rattle.denial_c.specs.Collisions.{IsCollisionResult};
+ghost use Rattle.denial_c.specs.{Numbers.collision_number, Chains.{config_by, IsCollisionResult}};
 
 use crate::fault::{Fault, fault_number};
 use crate::nsec::read_name;
@@ -23,7 +22,7 @@ use std::alloc::Global;
 /// The first that stands: `Apex`; `LongSalt`; `NoRecord` or `Class`, whichever comes first in the
 /// octets; and `OutOfMemory`. Other faults of the zone are not looked for. Without an answer both
 /// buffers stay as they were.
-#[tactic(auto, using(std::proofs::lemmas::Grind::common_steps, crate::proofs::ChainLemmas::pair_found))]
+#[tactic(auto, using(std::proofs::lemmas::Grind::common_steps, crate::proofs::AmongLemmas::pair_found))]
 pub(crate) fn collision(
     alloc: Global,
     apex: &[u8],

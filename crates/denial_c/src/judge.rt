@@ -1,6 +1,5 @@
 //! What the NSEC or NSEC3 records in octets answer as a whole.
-ghost use Rattle.denial_c.specs.Result.{source_of};
-ghost use Rattle.denial_c.specs.Judged.{IsExpansionAnswer, IsNsecAnswer, IsNsec3Answer};
+ghost use Rattle.denial_c.specs.Result.{source_of, IsExpansionAnswer, IsNsecAnswer, IsNsec3Answer};
 
 use crate::among::records_among;
 use crate::fault::{Fault, told_or_fault};

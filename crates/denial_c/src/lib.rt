@@ -11,11 +11,10 @@
 ghost use Rattle.std.specs.Prelude.{◌≡◌, false};
 ghost use Rattle.domain_nsec3.specs.declared.config.Nsec3ParamTtlMode.TheVariants.{Soa};
 ghost use Rattle.denial_c.specs.Chains.{hashed_config, nsec_making, nsec3_making, IsChainResult};
-ghost use Rattle.denial_c.specs.Collisions.{IsCollisionResult};
-ghost use Rattle.denial_c.specs.Judged.{IsExpansionAnswer, IsNsecAnswer, IsNsec3Answer};
+ghost use Rattle.denial_c.specs.{Chains.IsCollisionResult, Result.{IsExpansionAnswer, IsNsecAnswer}};
+ghost use Rattle.denial_c.specs.Result.{IsNsec3Answer, alone, with_param, IsNsecResult, IsNsec3Result, IsTold};
 ghost use Rattle.denial_c.specs.Numbers.{answer_told, chain_told, collision_number, told_by, verdict_told};
-ghost use Rattle.denial_c.specs.Result.{alone, with_param, IsNsecResult, IsNsec3Result, IsTold};
-ghost use Rattle.denial_c.specs.Texts.{text_of, IsText};
+ghost use Rattle.denial_c.specs.Numbers.{text_of, IsText};
 
 mod among;
 mod answer;

@@ -1,9 +1,9 @@
 //! What the NSEC records in octets prove.
 ghost use Rattle.std.specs.Prelude.{◌≡◌, ℕ, List, ◌++◌, IfErr, IfOk};
-ghost use Rattle.domain_names.specs.Words.{Name};
+ghost use Rattle.domain_names.specs.Name.{Name};
 ghost use Rattle.domain_nsec.specs.Chain.{Link};
-ghost use Rattle.domain_checker.specs.HandedIn.{HasRead};
-ghost use Rattle.denial_c.specs.{Among.{AreNsecs, HasNone}, Result.{IsNsecResult, Spells, IsSpelled}};
+ghost use Rattle.domain_checker.specs.Reading.{HasRead};
+ghost use Rattle.denial_c.specs.Result.{AreNsecs, HasNone, IsNsecResult, Spells, IsSpelled};
 
 use crate::among::{is_kept, next_record};
 use crate::fault::Fault;

@@ -1,9 +1,10 @@
 //! What the NSEC3 records in octets prove.
 ghost use Rattle.std.specs.Prelude.{◌≡◌, [], ◌∷◌, filter, IfErr, IfOk};
 ghost use Rattle.domain_nsec3.specs.View.{as_hashed_link, as_param_record, hashed_links_of, parameters_of};
-ghost use Rattle.denial_c.specs.Among.{AreNsec3s, AreParams, IsReadFault};
-ghost use Rattle.domain_checker.specs.HashedView.{links};
-ghost use Rattle.denial_c.specs.Result.{first_parameters, is_known, source_of, AreAlone, AreWithParam, IsChainFault, IsNsec3Result, IsParamFault};
+ghost use Rattle.denial_c.specs.Result.{AreNsec3s, AreParams, IsReadFault, first_parameters, is_known};
+ghost use Rattle.denial_c.specs.Result.{source_of, AreAlone, AreWithParam, IsChainFault, IsNsec3Result};
+ghost use Rattle.denial_c.specs.Result.{IsParamFault};
+ghost use Rattle.domain_checker.specs.HashedVerdict.{links};
 
 use crate::among::records_among;
 use crate::fault::{Fault, told_or_fault};
@@ -104,7 +105,7 @@ fn first_params<'a>(
 
 /// The NSEC3 records of the class among the records that the octets are, but for those that are to
 /// be ignored, with an NSEC3PARAM record of the apex that repeats the parameters of the first.
-#[tactic(auto, using(crate::proofs::Nsec3Lemmas::first_by_sha1))]
+#[tactic(auto, using(crate::proofs::AmongLemmas::first_by_sha1))]
 fn alone_among<'a>(
     alloc: Global,
     apex: &ParsedName<'a>,

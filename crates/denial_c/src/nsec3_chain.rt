@@ -131,7 +131,7 @@ fn sorted_nsec3s(
 /// The first that stands: `Apex`; `LongSalt`; `NoRecord` or `Class`, whichever comes first in the
 /// octets; `Soa`, `Ttls`, `LongOwner` or `Collision`, the first fault of the zone; `OutOfMemory`,
 /// which leaves the last four open; and `ShortBuffer`. The buffer stays as it was.
-#[tactic(auto, using(std::proofs::lemmas::Grind::common_steps, crate::proofs::ChainLemmas::chain_fault, crate::proofs::ChainLemmas::chain_result))]
+#[tactic(auto, using(std::proofs::lemmas::Grind::common_steps, crate::proofs::AmongLemmas::chain_fault, crate::proofs::AmongLemmas::chain_result))]
 pub(crate) fn nsec3_chain(
     alloc: Global,
     apex: &[u8],

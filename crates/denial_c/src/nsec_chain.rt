@@ -86,7 +86,7 @@ pub(crate) fn write_octets(octets: &[u8], buffer: &mut [u8]) -> Result<usize, Fa
 /// The first that stands: `Apex`; `NoRecord` or `Class`, whichever comes first in the octets; `Soa`
 /// or `Ttls`, the first fault of the zone; `OutOfMemory`, which leaves the last two open; and
 /// `ShortBuffer`. The buffer stays as it was.
-#[tactic(auto, using(std::proofs::lemmas::Grind::common_steps, crate::proofs::ChainLemmas::chain_fault, crate::proofs::ChainLemmas::chain_result))]
+#[tactic(auto, using(std::proofs::lemmas::Grind::common_steps, crate::proofs::AmongLemmas::chain_fault, crate::proofs::AmongLemmas::chain_result))]
 pub(crate) fn nsec_chain(
     alloc: Global,
     apex: &[u8],

@@ -1,6 +1,6 @@
 //! A question to NSEC3 records, as octets.
 ghost use Rattle.std.specs.Prelude.{IfErr, IfOk};
-ghost use Rattle.denial_c.specs.{Question.as_question, Result.{source_of, AreAsked, IsNsec3Fault}};
+ghost use Rattle.denial_c.specs.Result.{as_question, source_of, AreAsked, IsNsec3Fault};
 
 use crate::fault::Fault;
 use crate::nsec::read_name;

@@ -1,5 +1,5 @@
 //! The texts of numbers.
-ghost use Rattle.denial_c.specs.Texts.{text_of, IsText};
+ghost use Rattle.denial_c.specs.Numbers.{text_of, IsText};
 
 /// How many octets a text has, with the octets 0 after it.
 pub(crate) const ROOM: usize = 32;

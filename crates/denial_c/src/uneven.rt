@@ -2,10 +2,9 @@
 ghost use Rattle.std.specs.Prelude.{◌≡◌, List, filter, true, false, IfNone, IfSome};
 ghost use Rattle.domain_borrowed.specs.Data.{RawRecord, zone_of_raw};
 ghost use Rattle.domain_records.specs.Order.{IsInOrder};
-ghost use Rattle.domain_zone.specs.{Owners.covered_names, Zone.{has_clash, has_unequal_ttls, records_of, IsFirstClash}};
-ghost use Rattle.denial_c.specs.Chains.{AreSorted, IsSortedUnevenAt};
-ghost use Rattle.denial_c.specs.Given.{AreGiven};
-ghost use Rattle.denial_c.specs.Uneven.{is_in_set, is_other, IsFirstUneven, IsUnevenAt};
+ghost use Rattle.domain_zone.specs.Zone.{covered_names, has_clash, has_unequal_ttls, records_of, IsFirstClash};
+ghost use Rattle.denial_c.specs.Chains.{AreSorted, IsSortedUnevenAt, AreGiven, is_in_set, is_other};
+ghost use Rattle.denial_c.specs.Chains.{IsFirstUneven, IsUnevenAt};
 
 use crate::among::next_record;
 use domain_base::{Class, ParsedName, Rtype, ToName, Ttl};

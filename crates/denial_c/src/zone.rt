@@ -1,7 +1,7 @@
 //! The records of a zone, as octets have them and sorted.
 ghost use Rattle.std.specs.Prelude.{List, IfErr, IfOk, OnOk};
 ghost use Rattle.domain_borrowed.specs.Data.{RawRecord};
-ghost use Rattle.denial_c.specs.{Chains.{AreSorted, IsGivenFault}, Given.AreGiven};
+ghost use Rattle.denial_c.specs.Chains.{AreSorted, IsGivenFault, AreGiven};
 
 use crate::among::next_record;
 use crate::fault::Fault;

@@ -1,9 +1,9 @@
 -- What a hasher refuses.
 use Rattle.std.proofs.{Common.{arith, ◌≡◌, ℕ, List, [], ◌∷◌, ◌⊎◌}, lemmas.Grind.common_steps}
 use Rattle.domain_nsec3.specs.{Chain.{HashedLink, ParamRecord}, View.HasherAnswer}
-use Rattle.domain_records.specs.ErrorText.{signing_error_of}
+use Rattle.domain_records.specs.Text.{signing_error_of}
 use Rattle.domain_borrowed.specs.Data.{RawRecord}
-use Rattle.domain_checker.specs.{HashedVerdict.IsFirstRefusal, HashedView.links_with}
+use Rattle.domain_checker.specs.HashedVerdict.{IsFirstRefusal, links_with}
 use Rattle.domain_hasher.specs.declared.error.Nsec3HashError.{Nsec3HashError, TheVariants.{Hasher, OutOfMemory}}
 use Rattle.denial_program.specs.{Answer.fault_of_zone, Check.{AreNsec3s, AreParams, HasNoNsec3Verdict}, declared.command.Question.Question}
 

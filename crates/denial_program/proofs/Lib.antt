@@ -1,10 +1,4 @@
 pub mod LineLemmas
-pub mod LineReading
-pub mod LineSteps
-pub mod ReadingLemmas
 pub mod RunLemmas
-pub mod CommandLemmas
-pub mod AnswerLemmas
 pub mod CheckLemmas
-pub mod AmongLemmas
 pub mod SpelledLemmas

@@ -1,12 +1,20 @@
--- The record that a line spells, and lines that spell none.
-use Rattle.std.proofs.Common.{arith, ◌≡◌, ◌↔◌, ◌≤◌, IsTrue, Bool, true, false, ℕ, List, sym, subst, inl, inr, None}
-use Rattle.std.proofs.lemmas.{Bool.Decides.nat_tests, Grind.common_steps, List.Elements.{All-weaker}, Str.IsUtf8-from_ascii}
-use Rattle.std.specs.{List.{All}, Str.IsUtf8}
-use Rattle.domain_names.specs.Words.{Name, Tokens}
-use Rattle.domain_octets.specs.{Line.words_of, Words.Octets}
-use Rattle.domain_message.specs.{Entry.{EntryText, IsOfLine, OwnerTaken, RefusesBody}, declared.line.LineError.LineError}
-use Rattle.domain_message.proofs.{LineLemmas.in_body, OneLineLemmas.none_in}
-use Rattle.denial_program.specs.{Listing.{IsBad, IsPlain, IsSkipped, is_plain}, Said.Refuses}
+-- Lines: the record that each spells, and how a reader finds them.
+use Rattle.std.proofs.Common.{arith, ◌≡◌, ◌↔◌, ◌≤◌, IsTrue, Bool, true, false, ℕ, List, sym, subst, inl, inr, None, ◌≢◌, ◌+◌, ◌-◌, ◌<◌, [], length, take}
+use Rattle.std.proofs.Common.{get_or, ap, ◌∙◌, IfSome, Option, length-take-le, ◌∷◌, ◌++◌, refl, eqb, cond, ◌⊎◌, Some, append-nil, append_assoc}
+use Rattle.std.proofs.lemmas.{Bool.Decides.nat_tests, Grind.common_steps, List.Elements.{All-weaker, All-nil, All-from_get_or, All-cons}}
+use Rattle.std.{proofs.{lemmas.Str.IsUtf8-from_ascii, KnownBytes.Consumes-nil, BufReadLemmas.Consumes_through}, specs.{List.{All, slice_split}, Str.IsUtf8}}
+use Rattle.std.{proofs.{BufReadLemmas.take_through_nonempty, lemmas.List.get_or-take}, specs.Io.BufRead.{take_through, DropsThrough, drop_through}}
+use Rattle.std.{specs.{Io.KnownBytes.{Consumes, IsAtEnd}, Str.Lines.{lines, lines_of_parts}}, proofs.lemmas.List.Splits.length-slice_split}
+use Rattle.std.specs.Str.Lines.{strip_carriage_return}
+use Rattle.domain_names.specs.Name.{Name, Tokens}
+use Rattle.domain_octets.specs.{Text.words_of, Octets.Octets}
+use Rattle.domain_message.{specs.{Entry.{EntryText, IsOfLine, OwnerTaken, RefusesBody}, declared.line.LineError.LineError}, proofs.LineLemmas.in_body}
+use Rattle.domain_message.proofs.OneLineLemmas.{none_in}
+use Rattle.denial_program.specs.Listing.{IsBad, IsPlain, IsSkipped, is_plain, Give, IsLineRecord, IsGood, IsFirstBad, Refuses}
+use lib.Dec.{eqb-suc-zero}
+use Rattle.domain_borrowed.specs.Data.{RawRecord}
+
+-- ---- The record that a line spells, and lines that spell none.
 
 -- ---- lines as text
 
@@ -32,3 +40,181 @@ is_bad line tokens skipped e same test off own (inr why) = record {
   none = λ r h. none_in (λ o. o) (λ n. n) None tokens h.spelled.spelled e why own
       (subst (λ ws. EntryText (λ o. o) (λ n. n) ws h.spelled.spelled) (sym same) h.spelled.are);
 }
+
+-- ---- A line that was found in what the reader holds, and one that the reader found.
+
+-- what is known of octets follows from what else is known of them
+pub known_so : (P Q : List ℕ → Type 0) (known : Option (List ℕ)) → ((xs : List ℕ) → P xs → Q xs) → IfSome known P → IfSome known Q
+known_so P Q known more h = grind (arith, common_steps)
+
+-- the octets up to the first line feed were taken
+pub line_taken : (known now : Option (List ℕ)) (held : List ℕ) (place : ℕ) → place < length held
+    → ((k : ℕ) → k < place → get_or held k 0 ≢ 10) → get_or held place 0 ≡ 10
+    → Consumes known now (take (place + 1) held)
+    → IfSome known (λ xs. take (place + 1) held ≡ take_through 10 xs) × DropsThrough known now 10
+line_taken known now held place within before here taken =
+    let part = take (place + 1) held in
+    let long : length part ≡ place + 1 = length-take-le _ held (omega arith) in
+    let end : length part - 1 ≡ place = omega (arith, long) in
+    let last : get_or part (length part - 1) 0 ≡ 10 = ap (λ n. get_or part n 0) end ∙ get_or-take _ held place 0 (omega arith) ∙ here in
+    Consumes_through 10 known known now [] part (Consumes-nil known) (All-nil _) taken (All-from_get_or (λ x. x ≢ 10) _ 0 (λ k lt.
+    let low : k < length part - 1 = omega (arith, length-take-le (length part - 1) part (omega arith)) in
+    subst (λ x. x ≢ 10) (sym (get_or-take _ part k 0 low ∙ get_or-take _ held k 0 (omega (arith, long)))) (before k (omega (arith, long)))))
+    (λ some. last) (λ none. absurd (omega (arith, long)))
+
+-- ---- The first line of some bytes, by what is read up to the first line feed.
+
+abbrev parts : List ℕ → List (List ℕ)
+parts bs = slice_split (λ b. eqb b 10) bs
+
+-- the last line, with no line feed
+record IsLast (bs : List ℕ) : Type 0 where
+  only : parts bs ≡ bs ∷ []
+  taken : take_through 10 bs ≡ bs
+  left : drop_through 10 bs ≡ []
+  none : (i : ℕ) → get_or bs i 0 ≢ 10
+
+-- a line with its line feed
+record IsEnded (bs : List ℕ) : Type 0 where
+  front : List ℕ
+  split : parts bs ≡ front ∷ parts (drop_through 10 bs)
+  taken : take_through 10 bs ≡ front ++ 10 ∷ []
+
+first_of_cons : (x : ℕ) (xs : List ℕ) (b : Bool) → eqb x 10 ≡ b → IsLast xs ⊎ IsEnded xs → IsLast (x ∷ xs) ⊎ IsEnded (x ∷ xs)
+first_of_cons x xs b e h = grind (arith, common_steps)
+
+first_of : (bs : List ℕ) → IsLast bs ⊎ IsEnded bs
+first_of [] = inl (record { only = refl; taken = refl; left = refl; none = λ i p. omega arith })
+first_of (x ∷ xs) = first_of_cons x xs (eqb x 10) refl (first_of xs)
+
+lines_of_parts-cons : (front : List ℕ) (more : List (List ℕ)) → 0 < length more
+    → lines_of_parts (front ∷ more) ≡ strip_carriage_return front ∷ lines_of_parts more
+lines_of_parts-cons front [] h = absurd (omega arith)
+lines_of_parts-cons front (y ∷ more) h = refl
+
+lines_of_parts-only : (bs : List ℕ) → 0 < length bs → lines_of_parts (bs ∷ []) ≡ bs ∷ []
+lines_of_parts-only [] h = absurd (omega arith)
+lines_of_parts-only (x ∷ xs) h = ap (λ v. cond v [] ((x ∷ xs) ∷ [])) (eqb-suc-zero (length xs))
+
+-- the first line is what is left where the end of the octets up to its end is left away
+pub line_once : (bs : List ℕ) → 0 < length bs
+    → (out : List ℕ) × (lines bs ≡ out ∷ lines (drop_through 10 bs))
+    × ((left : List ℕ) → ((front : List ℕ) → take_through 10 bs ≡ front ++ 10 ∷ [] → left ≡ strip_carriage_return front)
+    → (get_or (take_through 10 bs) (length (take_through 10 bs) - 1) 0 ≢ 10 → left ≡ take_through 10 bs) → left ≡ out)
+line_once bs some =
+    elim (first_of bs) [
+      | inl h ↦
+          let one : lines bs ≡ bs ∷ [] = ap lines_of_parts h.only ∙ lines_of_parts-only bs some in (
+            bs,
+            one ∙ ap (λ r. bs ∷ lines r) (sym h.left),
+            λ left ended last. last (subst (λ t. get_or t (length t - 1) 0 ≢ 10) (sym h.taken) (h.none (length bs - 1))) ∙ h.taken,
+          )
+      | inr h ↦ (
+        strip_carriage_return h.front,
+        ap lines_of_parts h.split
+            ∙ lines_of_parts-cons h.front _ (omega (arith, length-slice_split (λ b. eqb b 10) (drop_through 10 bs))),
+        λ left ended last. ended h.front h.taken,
+      )
+    ]
+
+-- ---- How far a reader has come, where it tells its octets.
+
+-- what rest gives after these records, all gives; and rest begins with the line of this number
+pub record Continues (all rest : List (List ℕ)) (records : List RawRecord) (number : ℕ) : Type 0 where
+  pub gives : (more : List RawRecord) → Give rest more → Give all (records ++ more)
+  pub bad : (k n : ℕ) → n + 1 ≡ k + number → IsFirstBad rest k → IsFirstBad all n
+
+pub first_bad_here : (line : List ℕ) (more : List (List ℕ)) → IsBad line → IsFirstBad (line ∷ more) 1
+first_bad_here line more bad = record { before = []; line = line; after = more; are = refl; place = refl; good = All-nil IsGood; bad = bad }
+
+pub first_bad_later : (line : List ℕ) (more : List (List ℕ)) (k : ℕ) → IsGood line → IsFirstBad more k → IsFirstBad (line ∷ more) (k + 1)
+first_bad_later line more k good h = record {
+  before = line ∷ h.before;
+  line = h.line;
+  after = h.after;
+  are = ap (λ ls. line ∷ ls) h.are;
+  place = omega (arith, h.place);
+  good = All-cons IsGood line _ good h.good;
+  bad = h.bad;
+}
+
+-- of known octets the reader has these left, and this holds of the lines of both
+abbrev pub IsReading : (List (List ℕ) → List (List ℕ) → Type 0) → Option (List ℕ) → Option (List ℕ) → Type 0
+IsReading Holds known now = IfSome known (λ all. (rest : List ℕ) × (now ≡ Some rest) × Holds (lines all) (lines rest))
+
+module _ (Holds : List (List ℕ) → List (List ℕ) → Type 0) where
+  pub reading_end : (known now : Option (List ℕ)) → IsReading Holds known now → IsAtEnd now → IfSome known (λ all. Holds (lines all) [])
+  reading_end None now h e = tt
+  reading_end (Some all) None h e = absurd (let w = h.1 in cc)
+  reading_end (Some all) (Some xs) h e = let same : h.0 ≡ [] = (let w = h.1 in cc) in subst (λ (r : List ℕ). Holds (lines all) (lines r)) same h.2
+
+  -- a line was read into a buffer that was empty, and without its end it is this
+  pub reading_next : (known old new : Option (List ℕ)) (was buf view out : List ℕ) → IsReading Holds known old
+      → DropsThrough old new 10 → was ≡ [] → IfSome old (λ xs. buf ≡ was ++ take_through 10 xs) → 0 < length buf → view ≡ buf
+      → ((front : List ℕ) → view ≡ front ++ 10 ∷ [] → out ≡ strip_carriage_return front)
+      → (get_or view (length view - 1) 0 ≢ 10 → out ≡ view)
+      → IsReading (λ all rest. Holds all (out ∷ rest)) known new
+  reading_next None old new was buf view out h drops empty filled some same ended last = tt
+  reading_next (Some all) old new was buf view out h drops empty filled some same ended last =
+      let rest = h.0 in
+      let dropped : new ≡ Some (drop_through 10 rest) = subst (λ o. DropsThrough o new 10) h.1 drops in
+      let held : buf ≡ was ++ take_through 10 rest = subst (λ o. IfSome o (λ xs. buf ≡ was ++ take_through 10 xs)) h.1 filled in
+      let taken : buf ≡ take_through 10 rest = held ∙ ap (λ (w : List ℕ). w ++ take_through 10 rest) empty in
+      let seen : view ≡ take_through 10 rest = same ∙ taken in
+      let once = line_once rest (take_through_nonempty 10 rest (subst (λ (t : List ℕ). 0 < length t) taken some)) in
+      let kept : out ≡ once.0 =
+      once.2 out (λ front e. ended front (seen ∙ e)) (λ p. last (subst (λ (t : List ℕ). get_or t (length t - 1) 0 ≢ 10) (sym seen) p) ∙ seen) in
+      let step : lines rest ≡ out ∷ lines (drop_through 10 rest) = once.1 ∙ ap (λ l. l ∷ lines (drop_through 10 rest)) (sym kept) in
+      (drop_through 10 rest, dropped, subst (Holds (lines all)) step h.2)
+
+-- the lines before this number gave these records
+abbrev pub Follows : Option (List ℕ) → Option (List ℕ) → List RawRecord → ℕ → Type 0
+Follows known now records number = IsReading (λ all rest. Continues all rest records number) known now
+
+-- the same where the line of this number was taken
+abbrev pub FollowsAt : Option (List ℕ) → Option (List ℕ) → List ℕ → List RawRecord → ℕ → Type 0
+FollowsAt known now out records number = IsReading (λ all rest. Continues all (out ∷ rest) records number) known now
+
+pub follows_end : (known now : Option (List ℕ)) (records : List RawRecord) (number : ℕ)
+    → Follows known now records number → IsAtEnd now → IfSome known (λ all. Give (lines all) records)
+follows_end known now records number h e =
+    known_so _ (λ all. Give (lines all) records) known (λ all c. subst (Give (lines all)) (append-nil records) (c.gives [] refl))
+    (reading_end (λ all rest. Continues all rest records number) known now h e)
+
+pub follows_skip : (known now : Option (List ℕ)) (out : List ℕ) (records : List RawRecord) (number : ℕ)
+    → FollowsAt known now out records number → IsSkipped out → Follows known now records (number + 1)
+follows_skip None now out records number h s = tt
+follows_skip (Some all) now out records number h s = (
+  h.0,
+  h.1,
+  record {
+    gives = λ more g. h.2.gives more (inl (s, g));
+    bad = λ k n p b. h.2.bad (k + 1) n (omega arith) (first_bad_later out _ k (inl s) b);
+  },
+)
+
+pub follows_record : (known now : Option (List ℕ)) (out : List ℕ) (old new : List RawRecord) (r : RawRecord) (number : ℕ) → FollowsAt known now out old number
+    → new ≡ old ++ r ∷ [] → IsLineRecord out r → Follows known now new (number + 1)
+follows_record None now out old new r number h e s = tt
+follows_record (Some all) now out old new r number h e s = (
+  h.0,
+  h.1,
+  record {
+    gives = λ more g. subst (λ rs. Give (lines all) (rs ++ more)) (sym e)
+        (subst (Give (lines all)) (sym (append_assoc old (r ∷ []) more)) (h.2.gives (r ∷ more) (inr (r, more, refl, s, g))));
+    bad = λ k n p b. h.2.bad (k + 1) n (omega arith) (first_bad_later out _ k (inr (r, s)) b);
+  },
+)
+
+-- the line that was taken is bad
+pub follows_bad : (known now : Option (List ℕ)) (out : List ℕ) (records : List RawRecord) (number : ℕ)
+    → FollowsAt known now out records number → IsBad out → IfSome known (λ all. IsFirstBad (lines all) number)
+follows_bad None now out records number h b = tt
+follows_bad (Some all) now out records number h b = h.2.bad 1 number (omega arith) (first_bad_here out (lines h.0) b)
+
+-- where the octets of the input were known, those that are left are too
+abbrev pub StaysKnown : Option (List ℕ) → Option (List ℕ) → Type 0
+StaysKnown known now = IfSome known (λ all. (rest : List ℕ) × (now ≡ Some rest))
+
+pub known_start : (known : Option (List ℕ)) → StaysKnown known known
+known_start known = grind (arith, common_steps)

@@ -3,18 +3,18 @@ use Rattle.std.proofs.Common.{◌≡◌, ℕ, ◌*◌, ◌+◌, ◌/◌, ◌%◌
 use Rattle.std.proofs.{Common.{inr, arith}, lemmas.{Bool.Decides.nat_tests, Grind.common_steps, List.Elements.{All-from_get_or, All-from_recursion}}}
 use Rattle.std.specs.List.{AllByRecursion}
 use Rattle.hex.proofs.HexLemmas.{decode_of-ok}
-use Rattle.domain_octets.specs.Words.{AreOctets, Octets}
-use Rattle.domain_names.specs.{Name.IsName, Text.{NameText, root, of_labels}, Words.{Name, Tokens}}
+use Rattle.domain_octets.specs.Octets.{AreOctets, Octets}
+use Rattle.domain_names.specs.{Name.{IsName, Name, Tokens}, Text.{NameText, root, of_labels}}
 use Rattle.domain_base.specs.Scan.{IsNumber}
 use Rattle.domain_base.specs.Types as rtypes
-use Rattle.domain_codecs.{specs.Codec.{base32_digits, base32_octets, base32_value}, proofs.{CodecLemmas.widens, Scale.{IsScale, no_bits}}}
-use Rattle.domain_bitmap.{specs.{Blocks.IsBitmap, HashText.{OwnerHashText, SaltText, dash, digits}, Scan.is_among}, proofs.BitmapLemmas.IsBitmap-bitmap_octets}
+use Rattle.domain_codecs.{specs.Codec.{base32_digits, base32_octets, base32_value}, proofs.{CodecLemmas.widens, Base32Lemmas.{IsScale, no_bits}}}
+use Rattle.domain_bitmap.{specs.{Blocks.IsBitmap, Text.{OwnerHashText, SaltText, dash, digits, is_among}}, proofs.BitmapLemmas.IsBitmap-bitmap_octets}
 use Rattle.domain_fields.specs.Layout.{Fits, Values}
-use Rattle.domain_chain_rdata.specs.{Nsec3paramText.Nsec3paramText, Rdata.{hash_fields, nsec3param, nsec3_values, nsec3param_values}}
-use Rattle.domain_rdata.specs.{Kind.{Kind, next_by_name, next_by_hash, params, plain}, Scan.{RdataText, own, generic}, Zone.{kind_of, rtype_of}}
+use Rattle.domain_chain_rdata.specs.{Text.Nsec3paramText, Rdata.{hash_fields, nsec3param, nsec3_values, nsec3param_values}}
+use Rattle.domain_rdata.specs.{Zone.{Kind, next_by_name, next_by_hash, params, plain, kind_of, rtype_of}, Scan.{RdataText, own, generic}}
 use Rattle.domain_rdata.specs.declared.zone_record_data.ZoneRecordData.{ZoneRecordData, TheVariants.{Soa, Nsec, Nsec3, Nsec3param, Unknown}}
 use Rattle.domain_plain.specs.Plain.{soa}
-use Rattle.domain_borrowed.specs.{Data.RawRecord, Links.{IsParam, param_record}}
+use Rattle.domain_borrowed.specs.Data.{RawRecord, IsParam, param_record}
 use Rattle.domain_dnssec.{specs.RawRecords.{HaveOneChain, TellsMinimum, raw_record}, proofs.RawLemmas.one_chain}
 use Rattle.denial_program.specs.{Check.{IsNsecOf, IsNsec3Of}, Listing.{Give, GiveData}, Spelled.{LineText, SpelledRecord}}
 

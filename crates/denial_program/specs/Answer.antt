@@ -1,11 +1,12 @@
 -- The answer to a command over the records that were read, in whatever order they came.
 use Rattle.std.specs.Prelude.{◌≡◌, ◌⊎◌, true, false, List}
-use Rattle.domain_octets.specs.Words.{Octets}
-use Rattle.domain_names.specs.Words.{Name, Tokens}
+use Rattle.domain_octets.specs.Octets.{Octets}
+use Rattle.domain_names.specs.Name.{Name, Tokens}
 use Rattle.domain_records.specs.{Order.IsOneClass, declared.error.SigningError.SigningError}
 use Rattle.domain_records.specs.declared.error.SigningError.TheVariants as signing_error
 use Rattle.domain_nsec.specs.Chain.{usual_config}
-use Rattle.domain_nsec3.specs.{Config.ChainConfig, View.{HasherAnswer, hash_by, parameters_of}, declared.config.Nsec3ParamTtlMode.TheVariants.Soa}
+use Rattle.domain_nsec3.specs.{Chain.ChainConfig, View.{HasherAnswer, hash_by, parameters_of}}
+use Rattle.domain_nsec3.specs.declared.config.Nsec3ParamTtlMode.TheVariants.{Soa}
 use Rattle.domain_borrowed.specs.Data.{RawRecord}
 use Rattle.domain_dnssec.specs.{AnyOrder.AreMixed, declared.chain.ChainError.ChainError}
 use Rattle.domain_dnssec.specs.declared.chain.ChainError.TheVariants as chain_error

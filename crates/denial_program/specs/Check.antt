@@ -1,16 +1,16 @@
 -- What the records of a chain that were read prove of a name and a type.
 use Rattle.std.specs.Prelude.{ℕ, ◌≡◌, ◌≢◌, ◌⊎◌, ◌&&◌, ◌==◌, Bool, true, List, [], ◌∷◌, ◌++◌, codes, length, Ok}
-use Rattle.domain_octets.specs.Words.{Octets}
+use Rattle.domain_octets.specs.Octets.{Octets}
 use Rattle.domain_base.specs.Types as rtypes
-use Rattle.domain_names.specs.{Name.{last_labels, same_name}, Text.name_text, Words.Name}
+use Rattle.domain_names.specs.{Name.{last_labels, same_name, Name}, Text.name_text}
 use Rattle.domain_hasher.specs.declared.error.Nsec3HashError.TheVariants.{Hasher}
 use Rattle.domain_records.specs.declared.error.SigningError.{SigningError, TheVariants.Nsec3HashingError}
 use Rattle.domain_nsec.specs.Chain.{Link}
 use Rattle.domain_nsec3.specs.{Chain.{HashedLink, ParamRecord}, View.HasherAnswer}
-use Rattle.domain_checker.specs.{HashedReading.IsHashedChecked, HashedVerdict.IsFirstRefusal, HashedView.{links_with, HashedRecords}}
+use Rattle.domain_checker.specs.{HashedReading.IsHashedChecked, HashedVerdict.{IsFirstRefusal, links_with, HashedRecords}}
 use Rattle.domain_checker.specs.{Reading.IsChecked, declared.verdict.Verdict.Verdict}
 use Rattle.domain_checker.specs.declared.verdict.Verdict.TheVariants as verdicts
-use Rattle.domain_borrowed.specs.{Data.RawRecord, Links.{nsec_record, nsec3_record, param_record, IsNsec, IsNsec3, IsParam}}
+use Rattle.domain_borrowed.specs.Data.{RawRecord, nsec_record, nsec3_record, param_record, IsNsec, IsNsec3, IsParam}
 use Rattle.denial_program.specs.declared.{answer.Reply.Reply, command.Question.Question, fault.DenialFault.{DenialFault, TheVariants.{Signing, Param}}}
 use Rattle.denial_program.specs.declared.fault.DenialFault.TheVariants.{OutOfMemory}
 use Rattle.denial_program.specs.declared.answer.Reply.TheVariants as answers

@@ -1,9 +1,9 @@
 -- What the words after the program's name ask for.
 use Rattle.std.specs.Prelude.{◌≡◌, ℕ, [], ◌∷◌, codes}
-use Rattle.domain_octets.specs.Words.{Octets}
+use Rattle.domain_octets.specs.Octets.{Octets}
 use Rattle.domain_base.specs.{Numbers.TypeText, Scan.IsNumber}
-use Rattle.domain_names.specs.{Text.NameText, Words.{Name, Token, Tokens}}
-use Rattle.domain_bitmap.specs.HashText.{SaltText}
+use Rattle.domain_names.specs.{Text.NameText, Name.{Name, Token, Tokens}}
+use Rattle.domain_bitmap.specs.Text.{SaltText}
 use Rattle.domain_chain_rdata.specs.declared.nsec3param.Nsec3param.{Nsec3param}
 use Rattle.denial_program.specs.declared.command.{Command.{Command, TheVariants.{Nsec, Nsec3, CheckNsec, CheckNsec3}}, Question.Question}
 

@@ -1,9 +1,13 @@
--- When each fault comes.
-use Rattle.std.specs.Prelude.{◌≡◌, ℕ, [], Option, Some, IfSome}
-use Rattle.domain_octets.specs.Words.{Octets}
-use Rattle.domain_names.specs.Words.{Tokens}
-use Rattle.denial_program.specs.{Command.{IsCommand, IsNoCommand}, declared.fault.DenialFault.{DenialFault, TheVariants.{Usage, Read, Line, Unprepared}}}
-use Rattle.denial_program.specs.declared.{fault.DenialFault.TheVariants.{MixedClasses, Signing, Param, Write, OutOfMemory}, prepare.PrepareError.PrepareError}
+-- When each fault comes, and what is printed of it.
+use Rattle.std.specs.{Prelude.{◌≡◌, ℕ, [], Option, Some, IfSome, ◌++◌, codes}, Fmt.decimal}
+use Rattle.domain_octets.specs.Octets.{Octets}
+use Rattle.domain_names.specs.Name.{Tokens}
+use Rattle.denial_program.specs.{Command.{IsCommand, IsNoCommand}, declared.fault.DenialFault.{DenialFault, TheVariants.{Usage, Read}}}
+use Rattle.denial_program.specs.declared.fault.DenialFault.TheVariants.{Line, Unprepared, MixedClasses, Signing, Param, Write, OutOfMemory}
+use Rattle.denial_program.specs.declared.prepare.PrepareError.{PrepareError}
+use Rattle.domain_records.specs.Text.{signing_error_text}
+
+-- ---- When each fault comes.
 
 -- the one value of its type
 abbrev pub prepare_error : PrepareError
@@ -52,3 +56,19 @@ IsOfRecords MixedClasses = Unit {0}
 IsOfRecords (Signing e) = Unit {0}
 IsOfRecords Param = Unit {0}
 IsOfRecords _ = ⊥
+
+-- ---- What the program prints on standard error.
+
+-- of any fault
+abbrev pub fault_text : DenialFault → Octets
+fault_text Usage =
+    codes "usage: denial nsec APEX | denial nsec3 APEX ITERATIONS SALT [optout]"
+    ++ codes " | denial check nsec APEX NAME TYPE | denial check nsec3 APEX NAME TYPE"
+fault_text Read = codes "denial: cannot read input"
+fault_text (Line n) = codes "denial: line " ++ decimal n ++ codes ": bad record"
+fault_text (Unprepared e) = codes "denial: out of memory"
+fault_text MixedClasses = codes "denial: more than one class"
+fault_text (Signing e) = codes "denial: " ++ signing_error_text e
+fault_text Param = codes "denial: no single NSEC3PARAM at the apex"
+fault_text Write = codes "denial: cannot write output"
+fault_text OutOfMemory = codes "denial: out of memory"

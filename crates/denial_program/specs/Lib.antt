@@ -1,7 +1,5 @@
 pub mod Fault
-pub mod FaultText
 pub mod Listing
-pub mod Said
 pub mod Text
 pub mod Answer
 pub mod Command

@@ -1,10 +1,13 @@
--- What the lines of a text give.
-use Rattle.std.specs.{Prelude.{◌≡◌, ◌⊎◌, ℕ, ◌+◌, Bool, nat_le, List, [], ◌∷◌, ◌++◌, All, length}, List.AllPass}
-use Rattle.domain_octets.specs.{Characters.tilde, Line.words_of, Words.Octets}
-use Rattle.domain_names.specs.Words.{Tokens}
+-- What the lines of a text give, and what is read of one.
+use Rattle.std.specs.{Prelude.{◌≡◌, ◌⊎◌, ℕ, ◌+◌, Bool, nat_le, List, [], ◌∷◌, ◌++◌, All, length, None}, List.AllPass}
+use Rattle.domain_octets.specs.{Text.{tilde, words_of}, Octets.Octets}
+use Rattle.domain_names.specs.Name.{Tokens, Name}
 use Rattle.domain_borrowed.specs.Data.{RawRecord}
-use Rattle.domain_message.specs.Entry.{IsNoEntry}
-use Rattle.denial_program.specs.Spelled.{LineText, SpelledRecord, SpellsRecord}
+use Rattle.domain_message.specs.{Entry.{IsNoEntry, RefusesEntry}, declared.line.LineError.{LineError, TheVariants.OutOfMemory}}
+use Rattle.denial_program.specs.{Spelled.{LineText, SpelledRecord, SpellsRecord}, declared.line.Line.{Line, TheVariants.{Nothing, Record}}}
+use Rattle.denial_program.specs.declared.line.Line.TheVariants.{Bad}
+
+-- ---- What the lines of a text give.
 
 -- no octet is past `~`
 abbrev pub is_plain : ℕ → Bool
@@ -64,3 +67,15 @@ pub record IsFirstBad (lines : List Octets) (number : ℕ) : Type 0 where
   pub place : number ≡ length before + 1
   pub good : All IsGood before
   pub bad : IsBad line
+
+-- ---- What was read of a line.
+
+abbrev pub Says : Octets → Line → Type 0
+Says line Nothing = IsSkipped line
+Says line (Record r) = IsLineRecord line r
+Says line Bad = IsBad line
+
+-- why words are no record: there was no memory to tell, or what is missing or refused
+abbrev pub Refuses : Tokens → LineError → Type 0
+Refuses ws error = (error ≡ OutOfMemory)
+    ⊎ RefusesEntry (λ (o : Octets). o) (λ (n : Name). n) None ws error

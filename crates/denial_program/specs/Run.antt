@@ -1,7 +1,7 @@
 -- What a run promises that reads records, one a line, and prints what its words ask of them.
 use Rattle.std.specs.{Prelude.{◌≡◌, ◌⊎◌, ℕ, List, Option, Result, IfErr, IfSome, IsErrOf, MatchResult, OnOk}, Io.KnownBytes.Appends, Str.Lines.lines}
-use Rattle.domain_octets.specs.Words.{Octets}
-use Rattle.domain_names.specs.Words.{Tokens}
+use Rattle.domain_octets.specs.Octets.{Octets}
+use Rattle.domain_names.specs.Name.{Tokens}
 use Rattle.domain_borrowed.specs.Data.{RawRecord}
 use Rattle.denial_program.specs.{Fault.{IsAfterInput, IsOfRecords, IsReadToEnd}, Listing.{Give, IsFirstBad}}
 use Rattle.denial_program.specs.declared.fault.DenialFault.{DenialFault, TheVariants.{Line, Write}}

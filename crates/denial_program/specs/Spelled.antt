@@ -1,7 +1,7 @@
 -- The record that words spell.
 use Rattle.std.specs.Prelude.{◌≡◌}
-use Rattle.domain_octets.specs.Words.{Octets}
-use Rattle.domain_names.specs.Words.{Name, Tokens}
+use Rattle.domain_octets.specs.Octets.{Octets}
+use Rattle.domain_names.specs.Name.{Name, Tokens}
 use Rattle.domain_record.specs.declared.record.Record.{Record}
 use Rattle.domain_rdata.specs.declared.zone_record_data.ZoneRecordData.{ZoneRecordData}
 use Rattle.domain_message.specs.Entry.{EntryText}

@@ -1,11 +1,11 @@
 -- The text of an answer.
 use Rattle.std.specs.{Prelude.{ℕ, List, ◌++◌, codes}, List.flat_map, Fmt.decimal}
-use Rattle.domain_octets.specs.Words.{Octets}
-use Rattle.domain_names.specs.{Text.name_text, Words.Name}
+use Rattle.domain_octets.specs.Octets.{Octets}
+use Rattle.domain_names.specs.{Text.name_text, Name.Name}
 use Rattle.domain_base.specs.{Numbers.{class_text, type_text}, Types.{nsec, nsec3, nsec3param}}
 use Rattle.domain_bitmap.specs.{Blocks.types_of, Text.types_text}
 use Rattle.domain_record.specs.declared.record.Record.{Record}
-use Rattle.domain_chain_rdata.specs.{Nsec3Text.nsec3_text, Nsec3paramText.nsec3param_text, Rdata.nsec3 as nsec3_fields}
+use Rattle.domain_chain_rdata.specs.{Text.{nsec3_text, nsec3param_text}, Rdata.nsec3 as nsec3_fields}
 use Rattle.domain_fields.specs.Layout.{Values}
 use Rattle.domain_nsec.specs.Chain.{Link}
 use Rattle.domain_nsec3.specs.Chain.{ChainRecords, HashedLink, ParamRecord}

@@ -9,7 +9,7 @@ use std::alloc::Global;
 
 /// The records of a type among these, in their order; where such records tell of the apex alone,
 /// those of this one.
-#[tactic(auto, using(crate::proofs::AmongLemmas::goes_past, crate::proofs::AmongLemmas::next_left))]
+#[tactic(auto, using(crate::proofs::RunLemmas::goes_past, crate::proofs::RunLemmas::next_left))]
 pub fn records_among<'a, K: ReadAs<'a>>(
     alloc: Global,
     apex: &ZoneName,

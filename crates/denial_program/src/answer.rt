@@ -3,7 +3,7 @@ ghost use Rattle.std.specs.Prelude.{◌≡◌, ◌⊎◌, List, IfErr, IfOk, IsE
 ghost use Rattle.std.specs.Io.KnownBytes.{Appends};
 ghost use Rattle.domain_records.specs.Order.{IsInOrder, IsOneClass};
 ghost use Rattle.domain_nsec.specs.Chain.{usual_config, IsFaultless};
-ghost use Rattle.domain_nsec3.specs.Faults.{IsReady};
+ghost use Rattle.domain_nsec3.specs.Chain.{IsReady};
 ghost use Rattle.domain_borrowed.specs.Data.{RawRecord, zone_of_raw};
 ghost use Rattle.denial_program.specs.Answer.{usual_nsec3_config, HasNoAnswer, HasNoNsec3s, HasNoNsecs, IsAnswer, IsNsec3s, IsNsecs, IsUnmade, Sorts};
 ghost use Rattle.denial_program.specs.{Fault.IsBeforeOutput, Run.{IsUnwritten, IsWritten}};

@@ -1,9 +1,9 @@
 //! What a chain that was read proves of a name and a type.
 ghost use Rattle.std.specs.Prelude.{◌≡◌, ◌⊎◌, ℕ, List, [], ◌∷◌, ◌++◌, IfErr, IfOk};
-ghost use Rattle.domain_names.specs.Words.{Name};
+ghost use Rattle.domain_names.specs.Name.{Name};
 ghost use Rattle.domain_nsec.specs.Chain.{Link};
 ghost use Rattle.domain_nsec3.specs.View.{as_param_record, hashed_links_of};
-ghost use Rattle.domain_checker.specs.HandedIn.{HasRead};
+ghost use Rattle.domain_checker.specs.Reading.{HasRead};
 ghost use Rattle.denial_program.specs.Check.{AreNsecs, AreNsec3s, AreParams, HasNoNsec3Verdict, HasNoParam, IsNsec3Verdict, IsNsecVerdict};
 ghost use Rattle.denial_program.specs.declared.fault.DenialFault.TheVariants.{OutOfMemory as Memory};
 

@@ -1,8 +1,8 @@
 //! What the words after the program's name ask for.
 ghost use Rattle.std.specs.Prelude.{◌≡◌, ◌⊎◌, ℕ, ◌∷◌, codes, IfErr, IfNone, IfOk, IfSome, map, string_bytes};
-ghost use Rattle.domain_names.specs.{Text.{NameText, IsNoName}, TextFault.ScanFault};
-ghost use Rattle.domain_bitmap.specs.HashText.{SaltText};
-ghost use Rattle.domain_octets.specs.Words.{Octets};
+ghost use Rattle.domain_names.specs.Text.{NameText, IsNoName, ScanFault};
+ghost use Rattle.domain_bitmap.specs.Text.{SaltText};
+ghost use Rattle.domain_octets.specs.Octets.{Octets};
 ghost use Rattle.denial_program.specs.Command.{Asks, FlagsText, IsNoCommand, Params, Spell, SpellQuestion};
 ghost use Rattle.denial_program.specs.declared.command.Question.{Question};
 ghost use Rattle.denial_program.specs.declared.fault.DenialFault.TheVariants.{OutOfMemory};
@@ -71,7 +71,7 @@ fn value_of<T: FromToken>(word: &str) -> Result<T, DenialFault>
 }
 
 /// A salt that a word spells (RFC 5155, section 4.3).
-#[tactic(auto, using(domain_bitmap::proofs::RefusalLemmas::salt_excludes))]
+#[tactic(auto, using(domain_bitmap::proofs::TextLemmas::salt_excludes))]
 fn salt_of(alloc: Global, word: &str) -> Result<Nsec3Salt<ZoneOctets>, DenialFault>
     ensures ok { IfOk result (SaltText word.now) }
     ensures err { IfErr result (λ e. ((e ≡ DenialFault.Usage)
@@ -88,7 +88,7 @@ fn salt_of(alloc: Global, word: &str) -> Result<Nsec3Salt<ZoneOctets>, DenialFau
 }
 
 /// The flags that a last word asks for (RFC 5155, section 3.1.2).
-#[tactic(auto, using(std::proofs::lemmas::Grind::common_steps, crate::proofs::CommandLemmas::same_text))]
+#[tactic(auto, using(std::proofs::lemmas::Grind::common_steps, crate::proofs::RunLemmas::same_text))]
 fn flags_of(words: &[String]) -> Option<u8>
     ensures some { IfSome result (FlagsText (map string_bytes words.now)) }
     ensures none { IfNone result

@@ -47,12 +47,12 @@ impl DenialFault {
 }
 
 impl fmt::Display for DenialFault {
-    ghost use Rattle.denial_program.specs.FaultText.{fault_text};
+    ghost use Rattle.denial_program.specs.Fault.{fault_text};
 
     ghost output = { λ e. Some (fault_text e) };
 
     fn fmt<W: fmt::Write>(&self, f: &mut fmt::Formatter<W>) -> fmt::Result {
-        // The other half of each text stands in `fault_text`, `specs/FaultText.antt`.
+        // The other half of each text stands in `fault_text`, `specs/Fault.antt`.
         match *self {
             DenialFault::Usage => f.write_str(USAGE),
             DenialFault::Read => f.write_str("denial: cannot read input"),
@@ -97,7 +97,7 @@ impl From<SigningError> for DenialFault {
 }
 
 impl From<Nsec3HashError> for DenialFault {
-    ghost use Rattle.domain_records.specs.ErrorText.{signing_error_of};
+    ghost use Rattle.domain_records.specs.Text.{signing_error_of};
     ghost use Rattle.denial_program.specs.Answer.{fault_of_zone};
 
     ghost from_gives = { λ error e. e ≡ fault_of_zone (signing_error_of error) };

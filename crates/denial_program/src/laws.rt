@@ -1,15 +1,15 @@
 //! What the program's contract says of the data that lines spell. A caller calls the law in its
 //! body.
 ghost use Rattle.std.specs.Prelude.{◌≡◌, List};
-ghost use Rattle.domain_octets.specs.Words.{Octets};
+ghost use Rattle.domain_octets.specs.Octets.{Octets};
 ghost use Rattle.domain_base.specs.Types as rtypes;
 ghost use Rattle.domain_nsec.specs.Chain.{Link};
 ghost use Rattle.domain_nsec3.specs.Chain.{HashedLink, ParamRecord};
-ghost use Rattle.domain_borrowed.specs.{Data.RawRecord, Links.{param_record, IsParam}};
+ghost use Rattle.domain_borrowed.specs.Data.{RawRecord, param_record, IsParam};
 ghost use Rattle.domain_dnssec.specs.RawRecords.{HaveOneChain};
 ghost use Rattle.denial_program.specs.{Check.{IsNsecOf, IsNsec3Of}, Listing.{Give, GiveData}};
 ghost use Rattle.denial_program.specs.Spelled.{LineText, SpelledRecord};
-ghost use Rattle.domain_names.specs.Words.{Tokens};
+ghost use Rattle.domain_names.specs.Name.{Tokens};
 
 /// The program keeps of a line's data the octets of their canonical form. The chain of the records
 /// that lines give so is that of the records that the lines spell, with data of all types; and

@@ -1,8 +1,6 @@
 //! What a line of the input says.
 ghost use Rattle.std.specs.Prelude.{◌≡◌, IfErr, IfNone, IfOk, IfSome};
-ghost use Rattle.denial_program.specs.Spelled.{LineText};
-ghost use Rattle.denial_program.specs.Listing.{IsPlain};
-ghost use Rattle.denial_program.specs.Said.{Refuses, Says};
+ghost use Rattle.denial_program.specs.{Spelled.LineText, Listing.{IsPlain, Refuses, Says}};
 
 use crate::store::Store;
 use domain_base::{IterScanner, Name, Scanner};

@@ -3,7 +3,7 @@ ghost use Rattle.std.specs.Prelude.{◌≡◌, ◌≢◌, ◌⊎◌, ◌+◌, �
 ghost use Rattle.std.specs.Prelude.{MatchResult, OnOk, IfSome, length, slice_index};
 ghost use Rattle.std.specs.{Prelude.vec_len, Str.Lines.{lines, strip_carriage_return}};
 ghost use Rattle.std.specs.Io.{BufRead.{take_through, DropsThrough}, KnownBytes.IsAtEnd};
-ghost use Rattle.domain_octets.specs.{Words.Octets, Characters.line_feed};
+ghost use Rattle.domain_octets.specs.{Octets.Octets, Text.line_feed};
 ghost use Rattle.denial_program.specs.Fault.{IsReadingFault, IsReadToEnd};
 ghost use Rattle.denial_program.specs.{Listing.Give, Run.ReadsLines};
 ghost use Rattle.denial_program.specs.declared.fault.DenialFault.TheVariants.{OutOfMemory};

@@ -4,16 +4,15 @@ use Rattle.std.proofs.{Common.{is_some, option_map, Ok, Err, get_or, length, tak
 use Rattle.std.proofs.lemmas.{Option.slice_get-get_or, List.{map-append, take_more, Elements.{All-from_recursion, recursion_from_All}}}
 use Rattle.std.specs.{Cmp.Lexicographic.{bytes_decides, nat_list_cmp_total, texts_ties}, List.{find, flat_map, list_any, AllByRecursion}, Prelude.filter}
 use Rattle.std.specs.{Prelude.slice_get, Ordering.is_eq}
-use Rattle.domain_octets.{specs.Words.Octets}
-use Rattle.domain_names.specs.{Name.same_name, Order.{before, canonical_cmp}, Words.Name}
-use Rattle.domain_zone.{specs.Zone.ZoneRecord, proofs.{FindLemmas.{in_at, in_filter, in_filtered, find_none, find_some}, NameLemmas.before_left}}
-use Rattle.domain_zone.proofs.{NameLemmas.{before_order, before_right, one_lowered, same_itself}, OwnerLemmas.{any_in, ascending_filter, in_any}, PairLemmas.In}
-use Rattle.domain_zone.proofs.PairLemmas.{IsAscending, all_from_in, all_in, ascending, irreflexive}
-use Rattle.domain_zone.proofs.ZoneLemmas.{after_or, all_both, any_map, filter_none, weaker}
-use Rattle.domain_nsec3.specs.{Ancestors.IsListOf, Config.{ChainConfig, HashAnswer, hash_of}, Faults.HasCollision, Owners.is_chain_name}
-use Rattle.domain_nsec3.proofs.{FaultLemmas.hash_same, ListLemmas.{sorted}}
-use Rattle.domain_alike.specs.{Alike.{pair_of, AreAlike, IsAlike, IsFirstAlike, IsFirstPair, IsFirstRefusal, Pair}, declared.alike.Alike.Alike}
-use Rattle.domain_alike.specs.AlikeSteps.{first_before, first_with, is_hash, pair_with, ArePairs, IsHashed}
+use Rattle.domain_octets.specs.Octets.{Octets}
+use Rattle.domain_names.specs.Name.{same_name, before, canonical_cmp, Name}
+use Rattle.domain_zone.{specs.Zone.ZoneRecord, proofs.PairLemmas.{in_at, in_filter, in_filtered, find_none, find_some, In, IsAscending, all_from_in, all_in}}
+use Rattle.domain_zone.proofs.{PairLemmas.{ascending, irreflexive}, NameLemmas.{before_left, before_order, before_right, one_lowered, same_itself}}
+use Rattle.domain_zone.proofs.WalkLemmas.{any_in, ascending_filter, in_any, after_or, all_both, any_map, filter_none, weaker}
+use Rattle.domain_nsec3.{specs.{Steps.IsListOf, Chain.{ChainConfig, HashAnswer, hash_of, HasCollision, is_chain_name}}, proofs.ChainLemmas.hash_same}
+use Rattle.domain_nsec3.proofs.OwnerLemmas.{sorted}
+use Rattle.domain_alike.specs.Alike.{pair_of, AreAlike, IsAlike, IsFirstAlike, IsFirstPair, IsFirstRefusal, Pair, first_before, first_with, is_hash}
+use Rattle.domain_alike.specs.{Alike.{pair_with, ArePairs, IsHashed}, declared.alike.Alike.Alike}
 
 -- ---- hashes
 

@@ -2,12 +2,11 @@
 use Rattle.std.proofs.Common.{◌≡◌, Bool, true, false, List, [], ◌∷◌, Some, None, slice_get, refl, sym, ap, ◌∙◌, arith}
 use Rattle.std.{proofs.lemmas.{Bool.or_left, Grind.common_steps}, specs.{List.list_any, Prelude.if◌then◌else◌}}
 use Rattle.std.{proofs.lemmas.List.Elements.recursion_from_All, specs.List.{AllByRecursion, Sorted.IsStrictlySortedBy}}
-use Rattle.domain_names.specs.{Name.{is_at_or_below, same_name}, Order.{before, canonical_cmp}, Words.Name}
+use Rattle.domain_names.specs.Name.{is_at_or_below, same_name, before, canonical_cmp, Name}
 use Rattle.domain_zone.{specs.{Enclosers.exists_over, Zone.ZoneRecord}, proofs.NameLemmas.{before_order, below_from, below_itself, below_trans, one_lowered}}
-use Rattle.domain_zone.proofs.NameLemmas.{same_itself}
-use Rattle.domain_zone.proofs.{OwnerLemmas.any_in, PairLemmas.{all_in, ascending, lt_trans}, ZoneLemmas.{after_or, weaker}}
-use Rattle.domain_nsec3.specs.{Ancestors.IsListOf, Config.ChainConfig, Owners.{is_chain_name, original_owners}}
-use Rattle.domain_nsec3.proofs.{ListLemmas.sorted, OutcomeLemmas.original_below, OwnerLemmas.existing_are}
+use Rattle.domain_zone.proofs.{NameLemmas.same_itself, WalkLemmas.{any_in, after_or, weaker}, PairLemmas.{all_in, ascending, lt_trans}}
+use Rattle.domain_nsec3.{specs.{Steps.IsListOf, Chain.{ChainConfig, is_chain_name, original_owners}}, proofs.OwnerLemmas.{sorted, existing_are}}
+use Rattle.domain_nsec3.proofs.OutcomeLemmas.{original_below}
 
 module _ (L : List ZoneRecord) (a : Name) (config : ChainConfig) where
   -- no name outside of the zone is one

@@ -1,2 +1,1 @@
 pub mod Alike
-pub mod AlikeSteps

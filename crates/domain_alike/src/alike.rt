@@ -1,11 +1,11 @@
 //! Which names of a chain hash alike.
 ghost use Rattle.std.specs.Prelude.{◌≡◌, ◌++◌, ◌∷◌, [], List, Ok, IfErr, IfOk, map, option_map};
-ghost use Rattle.domain_names.specs.Words.{Name};
-ghost use Rattle.domain_nsec3.specs.{Config.{Hash, hash_name}, View.config_of};
+ghost use Rattle.domain_names.specs.Name.{Name};
+ghost use Rattle.domain_nsec3.specs.{Chain.{Hash, hash_name}, View.config_of};
 ghost use Rattle.domain_records.specs.Order.{IsInOrder};
 ghost use Rattle.domain_borrowed.specs.Data.{zone_of_raw};
 ghost use Rattle.domain_alike.specs.Alike.{pair_of, AreAlike, IsFirstPair, IsFirstRefusal, IsRefusedBy};
-ghost use Rattle.domain_alike.specs.AlikeSteps.{first_with, AreFirstNames};
+ghost use Rattle.domain_alike.specs.Alike.{first_with, AreFirstNames};
 
 use crate::chain_names::chain_names;
 use domain_base::{MAX_NAME, ParsedName, ToName};

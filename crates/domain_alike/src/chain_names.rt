@@ -1,10 +1,9 @@
 //! The names of the NSEC3 chain of a zone.
 ghost use Rattle.std.specs.Prelude.{◌≡◌, IfOk};
-ghost use Rattle.domain_nsec3.specs.{Ancestors.IsListOf, Config.{excludes, ChainConfig}};
-ghost use Rattle.domain_nsec3.specs.Owners.{is_chain_name};
+ghost use Rattle.domain_nsec3.specs.{Steps.IsListOf, Chain.{excludes, ChainConfig, is_chain_name}};
 ghost use Rattle.domain_records.specs.Order.{IsInOrder};
 ghost use Rattle.domain_borrowed.specs.Data.{zone_of_raw};
-ghost use Rattle.domain_zone.specs.Owners.{covered_names};
+ghost use Rattle.domain_zone.specs.Zone.{covered_names};
 
 use domain_base::{ParsedName, ToName};
 use domain_borrowed::BorrowedRecord;

@@ -5,29 +5,27 @@ use Rattle.std.proofs.{Common.{◌≤◌, Option, Some, None, map}, lemmas.List.
 use Rattle.std.proofs.lemmas.{Bool.{and_from, and_left, and_right, cases_Bool, false_from_ne_true, false≢true, and_parts}, Grind.common_steps}
 use Rattle.std.specs.{List.{Contains, list_any, find, AllByRecursion}, Prelude.{All, filter}}
 use Rattle.domain_octets.proofs.StdLemmas.{and_false}
-use Rattle.domain_names.specs.{Name.{is_at_or_below, is_strictly_below, lowered, same_name, last_labels}, Order.before, Words.Name}
+use Rattle.domain_names.specs.Name.{is_at_or_below, is_strictly_below, lowered, same_name, last_labels, before, Name}
 use Rattle.domain_base.specs.Types.{cname, dname, soa}
 use Rattle.domain_bitmap.specs.Blocks.{contains_type}
-use Rattle.domain_zone.proofs.{FindLemmas.{Stands, in_at, stands_all, find_some, any_none, in_filter}, PairLemmas.In}
-use Rattle.domain_zone.proofs.{NameLemmas.{one_lowered, below_itself, lowered_below, below_length, same_is}, OwnerLemmas.{below_occluder, in_any}}
-use Rattle.domain_zone.{proofs.ZoneLemmas.{all_distinct, all_map, weaker}, specs.Covering.{matches, covers, pairs}}
-use Rattle.domain_zone.specs.{Enclosers.{IsClosestEncloser, longer, shared}, Zone.{ZoneRecord, OwnersNeverDescend, has_type, is_occluded, is_unoccluded}}
-use Rattle.domain_zone.specs.Zone.{is_zone_cut, occludes, owns, records_of, unoccluded_owners, distinct}
+use Rattle.domain_zone.proofs.{PairLemmas.{Stands, in_at, stands_all, find_some, any_none, in_filter, In}, NameLemmas.{one_lowered, below_itself}}
+use Rattle.domain_zone.proofs.{NameLemmas.{lowered_below, below_length, same_is}, WalkLemmas.{below_occluder, in_any, all_distinct, all_map, weaker}}
+use Rattle.domain_zone.specs.{Covering.{matches, covers, pairs}, Enclosers.{IsClosestEncloser, longer, shared}, Zone.{ZoneRecord, OwnersNeverDescend}}
+use Rattle.domain_zone.specs.Zone.{has_type, is_occluded, is_unoccluded, is_zone_cut, occludes, owns, records_of, unoccluded_owners, distinct}
 use Rattle.domain_nsec.specs.{Chain.{Link, IsChain, is_listed, nsec_lists}, declared.config.GenerateNsecConfig.GenerateNsecConfig}
-use Rattle.domain_checker.{proofs.AlikeLemmas.paired_with_some, specs.{Alike.IsAlike, Facts.{NsecChainsAreKnown, NsecFacts}}}
-use Rattle.domain_checker.proofs.EncloserLemmas.{closest_is, cut_same, owner_owns, same_count, strictly_trans, top_occluder, choose_by, either_found}
-use Rattle.domain_checker.proofs.MeantLemmas.{apex_exists, config_with, cut_at, ends, list_says, owner_low, type_at, covered_encloser, covered_no_owner}
-use Rattle.domain_checker.proofs.MeantLemmas.{covered_occluded, covered_under, covered_unowned, matched_high, matched_low, matched_same, some_link}
-use Rattle.domain_checker.specs.{Reading.{is_at_cut, is_cover, is_match}, Verdict.{has_match_or_cover, HasProof, is_inside}}
+use Rattle.domain_checker.{proofs.AlikeLemmas.paired_with_some, specs.Verdict.{IsAlike, NsecChainsAreKnown, NsecFacts, has_match_or_cover, HasProof}}
+use Rattle.domain_checker.{specs.Verdict.is_inside, proofs.EncloserLemmas.{closest_is, cut_same, owner_owns, same_count, strictly_trans, top_occluder}}
+use Rattle.domain_checker.proofs.{EncloserLemmas.{choose_by, either_found}, MeantLemmas.{apex_exists, config_with, cut_at, ends, list_says, owner_low}}
+use Rattle.domain_checker.proofs.MeantLemmas.{type_at, covered_encloser, covered_no_owner, covered_occluded, covered_under, covered_unowned, matched_high}
+use Rattle.domain_checker.{proofs.MeantLemmas.{matched_low, matched_same, some_link}, specs.Reading.{is_at_cut, is_cover, is_match}}
 use Rattle.domain_answer.proofs.{AlikeLemmas.{proved_alike, reading_alike}, EncloserLemmas.{expanded_alike, owned_alike, closest_last, cut_owns, none_above}}
-use Rattle.domain_answer.{proofs.EncloserLemmas.{parent_below, strictly_enclosed, wildcard_low, highest_of, encloser_less, all_told}, specs.Found.IsFound}
-use Rattle.domain_answer.specs.Proved.{IsAnswered, LeavesOutBelowDname, is_missing, knows_wildcard, proved_answer, CountsWithin, RestsOn}
-use Rattle.domain_answer.specs.Reading.{cover_answer, listed_answer, listed_both, match_answer, reading, tells_occluded, tells_occluder, wildcard_answer}
-use Rattle.domain_answer.specs.{Reading.{wildcard_both, IsNameAnswer, absent_answer, name_answer, owner_answer}, TypesAnswer.{is_of_child, owned_answer}}
-use Rattle.domain_answer.specs.ZoneAnswer.{asterisk, encloser, highest_occluder, inside_answer, is_at_parent, missing_answer, name_exists, owns_type}
-use Rattle.domain_answer.specs.{ZoneAnswer.{wildcard_below, zone_answer}, declared.answer.Answer.{Answer, TheVariants.{OutsideZone, AtParent, Referral}}}
-use Rattle.domain_answer.specs.declared.answer.Answer.TheVariants.{Redirected, NoData, WildcardNoData, NameError, NoCloserName, NotProven}
-use Rattle.domain_answer.specs.declared.answer.NameAnswer.TheVariants.{Absent, Given}
+use Rattle.domain_answer.{proofs.EncloserLemmas.{parent_below, strictly_enclosed, wildcard_low, highest_of, encloser_less, all_told}, specs.Reading.IsFound}
+use Rattle.domain_answer.specs.Reading.{IsAnswered, LeavesOutBelowDname, is_missing, knows_wildcard, proved_answer, CountsWithin, RestsOn, cover_answer}
+use Rattle.domain_answer.specs.Reading.{listed_answer, listed_both, match_answer, reading, tells_occluded, tells_occluder, wildcard_answer, wildcard_both}
+use Rattle.domain_answer.specs.{Reading.{IsNameAnswer, absent_answer, name_answer, owner_answer}, ZoneAnswer.{is_of_child, owned_answer, asterisk, encloser}}
+use Rattle.domain_answer.specs.ZoneAnswer.{highest_occluder, inside_answer, is_at_parent, missing_answer, name_exists, owns_type, wildcard_below, zone_answer}
+use Rattle.domain_answer.specs.declared.answer.Answer.{Answer, TheVariants.{OutsideZone, AtParent, Referral, Redirected, NoData, WildcardNoData, NameError}}
+use Rattle.domain_answer.specs.declared.answer.{Answer.TheVariants.{NoCloserName, NotProven}, NameAnswer.TheVariants.{Absent, Given}}
 
 -- a chain that leaves out what stands below a DNAME
 pub facts_leaving : NsecChainsAreKnown → (L : List ZoneRecord) (a : Name) (config : GenerateNsecConfig) (links : List Link)

@@ -4,18 +4,18 @@ use Rattle.std.proofs.Common.{◌≡◌, ℕ, Bool, true, false, cond, not, ◌&
 use Rattle.std.{proofs.{Common.{inl, inr, Some, None, rules, Option}, lemmas.{Grind.common_steps, List.length-drop}}, specs.{List.list_any, Option.option_or}}
 use Rattle.std.proofs.lemmas.Bool.{and_from, and_parts, cases_Bool, false_from_ne_true, false≢true, or_left, and_right, not-false, not-true}
 use Rattle.std.specs.Prelude.{◌==◌}
-use Rattle.domain_names.specs.{Name.{is_at_or_below, is_strictly_below, lowered, same_name, last_labels}, Order.before, Words.{Label, Name}}
+use Rattle.domain_names.specs.Name.{is_at_or_below, is_strictly_below, lowered, same_name, last_labels, before, Label, Name}
 use Rattle.domain_base.specs.Types.{cname, ds, dname}
 use Rattle.domain_zone.proofs.NameLemmas.{before_right, before_order, below_between, below_from, below_length, below_longer, below_parent, below_root}
 use Rattle.domain_zone.proofs.NameLemmas.{below_trans, strictly_longer, strictly_from, lowered_below, one_lowered, same_lowered, below_itself, same_itself}
-use Rattle.domain_zone.proofs.{OwnerLemmas.{any_in, below_occluder, occluder_owns, any_owner}, PairLemmas.In, SharedLemmas.{exists_same, shared_within}}
-use Rattle.domain_zone.specs.{Covering.{covers, matches}, Enclosers.{IsClosestEncloser, exists_over, longer, shared}}
-use Rattle.domain_zone.specs.Zone.{ZoneRecord, has_type, is_occluded, is_unoccluded, is_zone_cut, occludes, owns, records_of, unoccluded_owners}
+use Rattle.domain_zone.proofs.{NameLemmas.{exists_same, shared_within}, WalkLemmas.{any_in, below_occluder, occluder_owns, any_owner}, PairLemmas.In}
+use Rattle.domain_zone.specs.{Covering.{covers, matches}, Enclosers.{IsClosestEncloser, exists_over, longer, shared}, Zone.{ZoneRecord, has_type}}
+use Rattle.domain_zone.specs.Zone.{is_occluded, is_unoccluded, is_zone_cut, occludes, owns, records_of, unoccluded_owners}
 use Rattle.domain_nsec.specs.Chain.{nsec_lists}
 use Rattle.domain_checker.proofs.EncloserLemmas.{occluded_same, occludes_same, strictly_trans, top_occluder, choose_by, cut_same, same_count}
 use Rattle.domain_checker.{proofs.HashedListLemmas.below_drop, specs.Verdict.closest_encloser}
-use Rattle.domain_answer.specs.{Kinds.{IsAbsent, IsHere, IsRedirected, IsReferred, IsSo, wildcard_of}, TypesAnswer.{expanded_answer, owned_answer}}
-use Rattle.domain_answer.specs.ZoneAnswer.{asterisk, highest_occluder, wildcard_below, encloser, inside_answer, is_at_parent, missing_answer, name_exists}
+use Rattle.domain_answer.specs.{Reading.{IsAbsent, IsHere, IsRedirected, IsReferred, IsSo, wildcard_of}, ZoneAnswer.{expanded_answer, owned_answer, asterisk}}
+use Rattle.domain_answer.specs.ZoneAnswer.{highest_occluder, wildcard_below, encloser, inside_answer, is_at_parent, missing_answer, name_exists}
 use Rattle.domain_answer.specs.{ZoneAnswer.{occluded_answer, owns_type, unoccluded_answer, zone_answer}, declared.answer.Answer.Answer}
 use Rattle.domain_answer.specs.declared.answer.Answer.TheVariants.{NotProven, OutsideZone, AtParent, Referral, Redirected, Has, NoDs, Alias, NoData, Wildcard}
 use Rattle.domain_answer.specs.declared.answer.Answer.TheVariants.{WildcardAlias, WildcardNoData, NameError, MayBeUnsigned, NoCloserName, TooManyIterations}

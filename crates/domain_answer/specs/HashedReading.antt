@@ -1,16 +1,72 @@
--- What NSEC3 records answer by themselves (RFC 5155, section 8; RFC 6840, sections 4.1, 4.3 and
--- 4.4).
-use Rattle.std.specs.{Prelude.{ℕ, Bool, ◌==◌, ◌≡◌, ◌⊎◌, Option, Some, None, Ok, Err, length, if◌then◌else◌}, Option.option_map}
-use Rattle.domain_octets.specs.Words.{Octets}
-use Rattle.domain_base.specs.Types.{dname, ns}
-use Rattle.domain_names.specs.{Words.Name, Name.last_labels}
+-- What NSEC3 records answer by themselves, and what they prove of what the zone says.
+use Rattle.std.specs.Prelude.{ℕ, Bool, not, ◌&&◌, ◌||◌, ◌==◌, List, length, if◌then◌else◌, ◌≡◌, ◌⊎◌, Option, Some, None, Ok, Err, true}
+use Rattle.std.specs.{Prelude.{false, All, ◌+◌, nat_le, nat_lt}, Option.option_map}
+use Rattle.domain_names.specs.Name.{is_at_or_below, same_name, last_labels, Name}
+use Rattle.domain_base.specs.Types.{dname, nsec, nsec3param, ns}
+use Rattle.domain_chain_rdata.specs.Rdata.{is_opt_out}
+use Rattle.domain_zone.specs.{Enclosers.exists_over, Zone.{ZoneRecord, is_zone_cut}}
+use Rattle.domain_nsec3.specs.{Chain.{ChainConfig, hash_name, nsec3_lists, original_owners, HashedLink, IsHashedChain}, Meaning.AreAlone}
+use Rattle.domain_nsec3.specs.Meaning.{IsAlone}
+use Rattle.domain_checker.specs.HashedVerdict.{is_below_chain_cut, IsFirstRefusal, is_covered, is_matched, next_closer, IsFirstMatched}
+use Rattle.domain_checker.specs.{HashedVerdict.{HashedRecords, first_cover, first_match, chain_records}, Verdict.closest_encloser}
+use Rattle.domain_checker.specs.{Verdict.{IsHashedAlike, IsPairedIn}, HashedReading.{Encloser, encloser_is_cut, IsEncloser}}
+use Rattle.domain_checker.specs.HashedReading.{IsFoundEncloser}
+use Rattle.domain_answer.specs.ZoneAnswer.{expanded_answer, owned_answer, types_answer, wildcard_types_answer, is_at_parent, wildcard_below}
+use Rattle.domain_answer.specs.declared.answer.Answer.{Answer, TheVariants.{OutsideZone, AtParent, Referral, Redirected, NameError}}
+use Rattle.domain_answer.specs.declared.answer.Answer.TheVariants.{MayBeUnsigned, NoCloserName, NotProven, Wildcard, WildcardAlias}
+use Rattle.domain_answer.specs.{declared.answer.Answer.TheVariants.{WildcardNoData, TooManyIterations}, Reading.needs_no_records}
+use Rattle.domain_answer.specs.Reading.{LeavesOutBelowDname}
+use Rattle.domain_octets.specs.Octets.{Octets}
 use Rattle.domain_bitmap.specs.Blocks.{contains_type}
-use Rattle.domain_chain_rdata.specs.OptOut.{is_opt_out}
-use Rattle.domain_nsec3.specs.{Chain.HashedLink, Config.hash_name}
-use Rattle.domain_checker.specs.{HashedEncloser.{Encloser, encloser_is_cut, IsEncloser, IsFoundEncloser}, HashedVerdict.IsFirstRefusal}
-use Rattle.domain_checker.specs.HashedView.{HashedRecords, first_cover, first_match}
-use Rattle.domain_answer.specs.{TypesAnswer.{types_answer, wildcard_types_answer}, ZoneAnswer.wildcard_below, declared.answer.Answer.Answer}
-use Rattle.domain_answer.specs.declared.answer.Answer.TheVariants.{Referral, Redirected, NameError, MayBeUnsigned, NoCloserName, NotProven}
+
+-- ---- What a zone with an NSEC3 chain says of a name x and a type t (RFC 5155, sections 6 and 8; RFC
+-- 4592, section 3.3; RFC 6672, section 3.2); a is the apex. The zone's names are those of the
+-- chain: its original owner names and their ancestors at or below the apex.
+
+-- x is a name of the chain
+abbrev pub hashed_exists : List ZoneRecord → Name → ChainConfig → Name → Bool
+hashed_exists L a config x = exists_over (original_owners L a config) a x
+
+-- the longest such name that x is at or below
+abbrev pub hashed_encloser : List ZoneRecord → Name → ChainConfig → Name → Name
+hashed_encloser L a config x = closest_encloser (original_owners L a config) a x
+
+-- of a name that does not exist, whose closest encloser, right above the wildcard w, has n labels
+abbrev pub hashed_wildcard_answer : List ZoneRecord → Name → ChainConfig → ℕ → Name → ℕ → Answer
+hashed_wildcard_answer L a config n w t =
+    if not (hashed_exists L a config w) then NameError n else
+    expanded_answer (is_zone_cut L a w) (nsec3_lists L a config w) n t
+
+-- of a name that does not exist, by its closest encloser e; where unsigned delegations may be left
+-- out, it may be one of them or below one
+abbrev pub hashed_missing_answer : List ZoneRecord → Name → ChainConfig → Name → ℕ → Answer
+hashed_missing_answer L a config e t =
+    if nsec3_lists L a config e dname then Redirected (length e) else
+    (if is_opt_out config.flags then MayBeUnsigned (length e) else
+    hashed_wildcard_answer L a config (length e) (wildcard_below e) t)
+
+-- of a name at or below the apex; a zone cut of the chain is the closest encloser of what is
+-- strictly below it
+abbrev pub hashed_inside_answer : List ZoneRecord → Name → ChainConfig → Name → ℕ → Answer
+hashed_inside_answer L a config x t =
+    if is_below_chain_cut L a config x then Referral (length (hashed_encloser L a config x)) else
+    (if hashed_exists L a config x
+    then owned_answer (is_zone_cut L a x) (nsec3_lists L a config x) (length x) t
+    else hashed_missing_answer L a config (hashed_encloser L a config x) t)
+
+-- the first that holds
+abbrev pub hashed_zone_answer : List ZoneRecord → Name → ChainConfig → Name → ℕ → Answer
+hashed_zone_answer L a config x t =
+    if not (is_at_or_below x a) then OutsideZone else
+    (if is_at_parent a x t then AtParent else hashed_inside_answer L a config x t)
+
+-- a type that of the two chains of a zone one lists for x, whatever x owns: NSEC, and at the apex
+-- NSEC3PARAM
+abbrev pub is_of_one_chain : Name → Name → ℕ → Bool
+is_of_one_chain a x t = (t == nsec) || ((t == nsec3param) && same_name x a)
+
+-- ---- What NSEC3 records answer by themselves (RFC 5155, section 8; RFC 6840, sections 4.1, 4.3 and
+-- 4.4).
 
 -- the record of the closest encloser says of its own name
 abbrev pub own_answer : Name → Encloser → ℕ → Answer
@@ -83,3 +139,150 @@ pub record IsWildcardRefusal (R : HashedRecords) (x : Name) (t reason : ℕ) : T
 -- it is the first refusal among the names that are asked for
 abbrev pub IsFirstOfRefusals : HashedRecords → Name → ℕ → ℕ → Type 0
 IsFirstOfRefusals R x t reason = IsFirstRefusal R x reason ⊎ IsWildcardRefusal R x t reason
+
+-- ---- What a list of records of a zone's NSEC3 chain proves of what the zone says.
+
+-- a record matches the closest encloser of x and, unless that is x, a zone cut or an owner of a
+-- DNAME record, one covers the next closer name
+abbrev pub tells_encloser : List ZoneRecord → Name → ChainConfig → List HashedLink → Name → Bool
+tells_encloser L a config listed x =
+    let e = hashed_encloser L a config x in
+    is_matched (chain_records a config listed) e
+    && (same_name e x || is_zone_cut L a e || nsec3_lists L a config e dname
+    || is_covered (chain_records a config listed) (next_closer x e))
+
+-- the wildcard below the closest encloser of x decides
+abbrev pub needs_wildcard : List ZoneRecord → Name → ChainConfig → Name → Bool
+needs_wildcard L a config x =
+    not (is_below_chain_cut L a config x) && not (hashed_exists L a config x)
+    && not (nsec3_lists L a config (hashed_encloser L a config x) dname)
+    && not (is_opt_out config.flags)
+
+-- a record of the list matches or covers that wildcard
+abbrev pub tells_wildcard : List ZoneRecord → Name → ChainConfig → List HashedLink → Name → Bool
+tells_wildcard L a config listed x =
+    let w = wildcard_below (hashed_encloser L a config x) in
+    is_matched (chain_records a config listed) w || is_covered (chain_records a config listed) w
+
+-- the answer of the zone, where records tell of the closest encloser and, if the wildcard decides,
+-- of that; without the second no more than that there is no x
+abbrev pub hashed_proved_answer : List ZoneRecord → Name → ChainConfig → List HashedLink → Name → ℕ
+    → Answer
+hashed_proved_answer L a config listed x t =
+    if needs_no_records a x t then hashed_zone_answer L a config x t else
+    (if not (tells_encloser L a config listed x) then NotProven else
+    (if needs_wildcard L a config x && not (tells_wildcard L a config listed x)
+    then NoCloserName (length (hashed_encloser L a config x))
+    else hashed_zone_answer L a config x t))
+
+-- no other name of the chain has the hash of x, of an ancestor at or below the apex or, where there
+-- is no x, of the wildcard below its closest encloser
+pub record AreAskedAlone (L : List ZoneRecord) (a : Name) (config : ChainConfig) (x : Name)
+    : Type 0 where
+  pub ancestors : AreAlone L a config x
+  pub wildcard : hashed_exists L a config x ≡ false → (v : Octets)
+      × IsAlone L a config (wildcard_below (hashed_encloser L a config x)) v
+
+-- the answer is what is proved of any zone of whose chain these are records, but for TTLs, classes
+-- and the case of letters, in any order, with repeats
+abbrev pub IsHashedAnswered : HashedRecords → Name → ℕ → Answer → Type 0
+IsHashedAnswered R x t answer =
+    (L : List ZoneRecord) (config : ChainConfig) (links : List HashedLink)
+    → config.hash ≡ R.hash → config.parameters ≡ R.parameters
+    → LeavesOutBelowDname L R.apex config.occlude_below_dname → IsHashedChain L R.apex config links
+    → AreAskedAlone L R.apex config x → All (IsPairedIn IsHashedAlike links) R.links
+    → answer ≡ hashed_proved_answer L R.apex config R.links x t
+
+-- ---- lists from anywhere
+
+-- of x and its ancestors at or below the apex the first that a record matches has n labels
+pub record HasEncloserProof (R : HashedRecords) (x : Name) (n : ℕ) : Type 0 where
+  pub longest : Name
+  pub first : IsFirstMatched R x longest
+  pub counts : n ≡ length longest
+
+-- and a record covers the name one label longer
+pub record HasCloserProof (R : HashedRecords) (x : Name) (n : ℕ) : Type 0 where
+  pub encloser : HasEncloserProof R x n
+  pub covered : is_covered R (next_closer x encloser.longest) ≡ true
+
+-- and a record matches the wildcard below the last n labels of x
+abbrev pub HasWildcardProof : HashedRecords → Name → ℕ → Type 0
+HasWildcardProof R x n =
+    HasCloserProof R x n × (is_matched R (wildcard_below (last_labels n x)) ≡ true)
+
+-- the records that an answer rests on are there, whatever else the list has
+abbrev pub HashedRestsOn : HashedRecords → Name → Answer → Type 0
+HashedRestsOn R x OutsideZone = Unit {0}
+HashedRestsOn R x AtParent = Unit {0}
+HashedRestsOn R x (Referral n) = HasEncloserProof R x n
+HashedRestsOn R x (Redirected n) = HasEncloserProof R x n
+HashedRestsOn R x (Wildcard n) = HasWildcardProof R x n
+HashedRestsOn R x (WildcardAlias n) = HasWildcardProof R x n
+HashedRestsOn R x (WildcardNoData n) = HasWildcardProof R x n
+HashedRestsOn R x (NameError n) =
+    HasCloserProof R x n × (is_covered R (wildcard_below (last_labels n x)) ≡ true)
+HashedRestsOn R x (MayBeUnsigned n) = HasCloserProof R x n
+HashedRestsOn R x (NoCloserName n) = HasCloserProof R x n
+HashedRestsOn R x TooManyIterations = Unit {0}
+HashedRestsOn R x NotProven = Unit {0}
+HashedRestsOn R x _ = is_matched R x ≡ true
+
+-- ---- What NSEC3 records answer of a name x whose records were expanded from the wildcard right below
+-- its last n labels (RFC 5155, section 8.8; RFC 4035, section 5.3.4); a is the apex. As many labels
+-- as that the signatures of those records tell in their field Labels.
+
+-- x is longer than its last n labels, and these are a name at or below the apex
+abbrev pub is_expanded : Name → Name → ℕ → Bool
+is_expanded a x n = is_at_or_below x a && nat_le (length a) n && nat_lt n (length x)
+
+-- the next closer name, which is one label longer
+abbrev pub closer_name : ℕ → Name → Name
+closer_name n x = last_labels (n + 1) x
+
+-- what the first match of that name says, or else its first cover
+abbrev pub closer_told : ℕ → Option HashedLink → Option HashedLink → Answer
+closer_told n (Some k) covering = NotProven
+closer_told n None covering = next_answer n covering
+
+-- the answer is what the list says of that name
+abbrev pub IsExpansionRead : HashedRecords → Name → ℕ → Answer → Type 0
+IsExpansionRead R x n = IsTold R (closer_name n x) (closer_told n)
+
+-- of a name that the zone does not have: where the chain has the flag of opt-out, it may be an
+-- unsigned delegation
+abbrev pub missing_closer : ChainConfig → ℕ → Answer
+missing_closer config n = if is_opt_out config.flags then MayBeUnsigned n else NoCloserName n
+
+-- what records of a zone's chain prove: that the zone does not have that name, where one covers it
+abbrev pub proved_expansion : List ZoneRecord → Name → ChainConfig → List HashedLink → Name → ℕ
+    → Answer
+proved_expansion L a config listed x n =
+    let closer = closer_name n x in
+    if hashed_exists L a config closer then NotProven else
+    (if not (is_covered (chain_records a config listed) closer) then NotProven else
+    missing_closer config n)
+
+-- the answer is what is proved of any zone of whose chain these are records, but for TTLs, classes
+-- and the case of letters, in any order, with repeats, where no other name of the chain has the hash
+-- of the next closer name
+abbrev pub IsExpansionAnswered : HashedRecords → Name → ℕ → Answer → Type 0
+IsExpansionAnswered R x n answer =
+    (L : List ZoneRecord) (config : ChainConfig) (links : List HashedLink) (value : Octets)
+    → config.hash ≡ R.hash → config.parameters ≡ R.parameters → IsHashedChain L R.apex config links
+    → IsAlone L R.apex config (closer_name n x) value
+    → All (IsPairedIn IsHashedAlike links) R.links
+    → answer ≡ proved_expansion L R.apex config R.links x n
+
+-- it is about the last n labels of x, and a record covers the next closer name
+abbrev pub HasCoveredCloser : HashedRecords → Name → ℕ → ℕ → Type 0
+HasCoveredCloser R x n count = (count ≡ n) × (is_covered R (closer_name n x) ≡ true)
+
+-- the records that an answer rests on are there, whatever else the list has
+abbrev pub ExpansionRestsOn : HashedRecords → Name → ℕ → Answer → Type 0
+ExpansionRestsOn R x n OutsideZone = is_at_or_below x R.apex ≡ false
+ExpansionRestsOn R x n (MayBeUnsigned count) = HasCoveredCloser R x n count
+ExpansionRestsOn R x n (NoCloserName count) = HasCoveredCloser R x n count
+ExpansionRestsOn R x n TooManyIterations = Unit {0}
+ExpansionRestsOn R x n NotProven = Unit {0}
+ExpansionRestsOn R x n _ = ⊥

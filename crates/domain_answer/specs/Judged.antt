@@ -1,13 +1,13 @@
 -- What is promised of answers.
 use Rattle.std.specs.Prelude.{◌≡◌, ◌⊎◌, ◌<◌, ◌≤◌, ℕ, true, false, List, length, Result, Ok, Err, IfOk, IfErr, IsErrOf}
-use Rattle.domain_names.specs.{Name.is_at_or_below, Words.Name}
+use Rattle.domain_names.specs.Name.{is_at_or_below, Name}
 use Rattle.domain_hasher.specs.declared.error.Nsec3HashError.{Nsec3HashError, TheVariants.{Hasher, OutOfMemory}}
 use Rattle.domain_nsec.specs.Chain.{Link}
-use Rattle.domain_nsec3.specs.Config.{hash_name}
-use Rattle.domain_checker.specs.HashedView.{HashedRecords}
-use Rattle.domain_answer.specs.Expansion.{closer_name, is_expanded, ExpansionRestsOn, IsExpansionAnswered, IsExpansionRead}
-use Rattle.domain_answer.specs.{HashedProved.{HashedRestsOn, IsHashedAnswered}, HashedReading.{IsFirstOfRefusals, IsHashedRead}}
-use Rattle.domain_answer.specs.{Proved.{needs_no_records, CountsWithin, IsAnswered, RestsOn}, Reading.reading, ZoneAnswer.is_at_parent}
+use Rattle.domain_nsec3.specs.Chain.{hash_name}
+use Rattle.domain_checker.specs.HashedVerdict.{HashedRecords}
+use Rattle.domain_answer.specs.HashedReading.{closer_name, is_expanded, ExpansionRestsOn, IsExpansionAnswered, IsExpansionRead}
+use Rattle.domain_answer.specs.{HashedReading.{HashedRestsOn, IsHashedAnswered, IsFirstOfRefusals, IsHashedRead}, Reading.needs_no_records}
+use Rattle.domain_answer.specs.{Reading.{CountsWithin, IsAnswered, RestsOn, reading}, ZoneAnswer.is_at_parent}
 use Rattle.domain_answer.specs.declared.answer.Answer.{Answer, TheVariants.{OutsideZone, AtParent, TooManyIterations, NotProven}}
 
 -- of what a list of NSEC records answers to a question about x and t

@@ -1,15 +1,53 @@
--- What NSEC records answer by themselves (RFC 4035, section 5.4; RFC 6840, sections 4.1, 4.3 and
--- 4.4).
-use Rattle.std.specs.{List.find, Prelude.{ℕ, Bool, not, ◌≡◌, ◌<◌, ◌&&◌, ◌||◌, List, Option, Some, None, length, if◌then◌else◌}}
+-- What NSEC records answer by themselves, and what they prove of what the zone says.
+use Rattle.std.specs.Prelude.{◌≡◌, List, Option, Some, None, IfSome, length, ℕ, Bool, not, ◌<◌, ◌&&◌, ◌||◌, if◌then◌else◌, true, ◌≤◌, All}
+use Rattle.std.specs.{Prelude.{false, ◌==◌, ◌⊎◌}, List.find, Option.option_map}
+use Rattle.domain_names.specs.Name.{Name, is_at_or_below, is_strictly_below, last_labels, same_name}
+use Rattle.domain_zone.specs.{Enclosers.{longer, shared}, Zone.{ZoneRecord, OwnersNeverDescend, is_unoccluded, unoccluded_owners, has_type}}
+use Rattle.domain_zone.specs.Zone.{is_zone_cut, records_of}
+use Rattle.domain_nsec.specs.{Chain.{Link, IsChain, as_link}, declared.config.GenerateNsecConfig.GenerateNsecConfig}
+use Rattle.domain_checker.specs.{Reading.{is_cover, is_match, is_at_cut}, Verdict.{IsAlike, IsPairedIn, has_match_or_cover, HasProof}}
+use Rattle.domain_answer.specs.declared.found.{NsecCover.NsecCover, NsecFound.{NsecFound, TheVariants.{Match, NoMatch}}}
+use Rattle.domain_answer.specs.ZoneAnswer.{types_answer, wildcard_types_answer, is_at_parent, wildcard_below, encloser, name_exists}
+use Rattle.domain_answer.specs.{ZoneAnswer.{zone_answer, owns_type}, declared.answer.Answer.{Answer, TheVariants.{OutsideZone, AtParent}}}
+use Rattle.domain_answer.specs.declared.answer.Answer.TheVariants.{Referral, Redirected, NoData, Wildcard, WildcardAlias, WildcardNoData}
+use Rattle.domain_answer.specs.declared.answer.Answer.TheVariants.{NameError, NoCloserName, NotProven, MayBeUnsigned, TooManyIterations}
+use Rattle.domain_answer.specs.declared.answer.{Answer.TheVariants.{Has, NoDs, Alias}, NameAnswer.{NameAnswer, TheVariants.{Given, Absent}}}
 use Rattle.domain_bitmap.specs.Blocks.{contains_type}
-use Rattle.domain_names.specs.{Name.{is_at_or_below, is_strictly_below, last_labels}, Words.Name}
-use Rattle.domain_base.specs.Types.{dname}
-use Rattle.domain_zone.specs.Enclosers.{longer, shared}
-use Rattle.domain_nsec.specs.Chain.{Link}
-use Rattle.domain_checker.specs.Reading.{is_at_cut, is_cover, is_match}
-use Rattle.domain_answer.specs.{TypesAnswer.{types_answer, wildcard_types_answer}, ZoneAnswer.{is_at_parent, wildcard_below}, declared.answer.Answer.Answer}
-use Rattle.domain_answer.specs.declared.answer.Answer.TheVariants.{OutsideZone, AtParent, Referral, Redirected, NoData, Wildcard, WildcardAlias, WildcardNoData}
-use Rattle.domain_answer.specs.declared.answer.{Answer.TheVariants.{NameError, NoCloserName, NotProven}, NameAnswer.{NameAnswer, TheVariants.{Given, Absent}}}
+use Rattle.domain_base.specs.Types.{dname, cname, ds}
+
+-- ---- What one pass over NSEC records finds of a name; a is the apex.
+
+-- the record that covers
+abbrev pub cover_link : {O N : Type 0} → (N → Name) → NsecCover O N → Link
+cover_link labels c = as_link labels c.record.now
+
+-- the longer of the names that x shares with its owner and its next name has so many labels
+abbrev pub IsSharing : {O N : Type 0} → (N → Name) → Name → NsecCover O N → Type 0
+IsSharing labels x c =
+    let k = cover_link labels c in
+    c.shared ≡ length (longer (shared x k.owner) (shared x k.next))
+
+-- the match that was found; the cover, which is looked for where there is no match
+abbrev pub found_match : {O N : Type 0} → (N → Name) → NsecFound O N → Option Link
+found_match labels (Match k) = Some (as_link labels k.now)
+found_match labels (NoMatch cover) = None
+
+abbrev pub found_cover : {O N : Type 0} → (N → Name) → NsecFound O N → Option Link
+found_cover labels (Match k) = None
+found_cover labels (NoMatch cover) = option_map (cover_link labels) cover
+
+abbrev pub IsCovered : {O N : Type 0} → (N → Name) → Name → NsecFound O N → Type 0
+IsCovered labels x (Match k) = Unit {0}
+IsCovered labels x (NoMatch cover) = IfSome cover (IsSharing labels x)
+
+-- the first match of x and, where there is none, the first cover
+pub record IsFound (a : Name) (listed : List Link) (x : Name) (matched covered : Option Link)
+    : Type 0 where
+  pub matching : matched ≡ find (is_match a x) listed
+  pub covering : matched ≡ None → covered ≡ find (is_cover a x) listed
+
+-- ---- What NSEC records answer by themselves (RFC 4035, section 5.4; RFC 6840, sections 4.1, 4.3 and
+-- 4.4).
 
 -- the record's owner is a zone cut or owns a DNAME record
 abbrev pub tells_occluder : Name → Link → Bool
@@ -92,3 +130,141 @@ pub record IsNameAnswer (whole : Answer) (a : Name) (listed : List Link) (x : Na
   pub exact : told ≡ name_answer whole
   pub absent : (n : ℕ) → told ≡ Absent n
       → (whole ≡ absent_answer a listed n x t) × (n < length x)
+
+-- ---- What a list of records of a zone's NSEC chain proves of what the zone says.
+
+-- the zone's answer follows from the name and the type alone
+abbrev pub needs_no_records : Name → Name → ℕ → Bool
+needs_no_records a x t = not (is_at_or_below x a) || is_at_parent a x t
+
+-- x is not occluded and does not exist, so that the wildcard below its closest encloser decides
+abbrev pub is_missing : List ZoneRecord → Name → Name → Bool
+is_missing L a x = is_unoccluded true L a x && not (name_exists L a x)
+
+-- a record of the list says something of that wildcard
+abbrev pub knows_wildcard : List ZoneRecord → Name → List Link → Name → Bool
+knows_wildcard L a listed x = has_match_or_cover listed (wildcard_below (encloser L a x))
+
+-- the answer of the zone, where a record matches or covers x and, if the wildcard decides, one
+-- matches or covers that; without the second no more than that there is no x
+abbrev pub proved_answer : List ZoneRecord → Name → Bool → List Link → Name → ℕ → Answer
+proved_answer L a assume listed x t =
+    if needs_no_records a x t then zone_answer L a assume x t else
+    (if not (has_match_or_cover listed x) then NotProven else
+    (if is_missing L a x && not (knows_wildcard L a listed x)
+    then NoCloserName (length (encloser L a x)) else zone_answer L a assume x t))
+
+-- a chain with this choice leaves out what stands below a DNAME, or nothing stands there
+abbrev pub LeavesOutBelowDname : List ZoneRecord → Name → Bool → Type 0
+LeavesOutBelowDname L a below_dname =
+    unoccluded_owners below_dname L a ≡ unoccluded_owners true L a
+
+-- the answer is what is proved of any zone of whose chain these are records, but for TTLs, classes
+-- and the case of letters, in any order, with repeats
+abbrev pub IsAnswered : List Link → Name → Name → ℕ → Answer → Type 0
+IsAnswered listed a x t answer =
+    (L : List ZoneRecord) (config : GenerateNsecConfig) (links : List Link)
+    → LeavesOutBelowDname L a config.occlude_below_dname → OwnersNeverDescend L
+    → IsChain L a config links → All (IsPairedIn IsAlike links) listed
+    → answer ≡ proved_answer L a config.assume_dnskeys_will_be_added listed x t
+
+-- a record that is not passed over matches or covers x, and one the wildcard below the last n
+-- labels of x
+abbrev pub HasBothProofs : List Link → Name → Name → ℕ → Type 0
+HasBothProofs listed a x n =
+    HasProof listed a x × HasProof listed a (wildcard_below (last_labels n x))
+
+-- the records that an answer rests on are there, whatever else the list has; NSEC records leave
+-- nothing out, and hash no name
+abbrev pub RestsOn : List Link → Name → Name → Answer → Type 0
+RestsOn listed a x OutsideZone = Unit {0}
+RestsOn listed a x AtParent = Unit {0}
+RestsOn listed a x (Wildcard n) = HasBothProofs listed a x n
+RestsOn listed a x (WildcardAlias n) = HasBothProofs listed a x n
+RestsOn listed a x (WildcardNoData n) = HasBothProofs listed a x n
+RestsOn listed a x (NameError n) = HasBothProofs listed a x n
+RestsOn listed a x (MayBeUnsigned n) = ⊥
+RestsOn listed a x TooManyIterations = ⊥
+RestsOn listed a x NotProven = Unit {0}
+RestsOn listed a x _ = HasProof listed a x
+
+-- what an answer counts are labels of a name that has n; a closest encloser has fewer
+abbrev pub CountsWithin : ℕ → Answer → Type 0
+CountsWithin n (Referral count) = count ≤ n
+CountsWithin n (Redirected count) = count ≤ n
+CountsWithin n (Wildcard count) = count < n
+CountsWithin n (WildcardAlias count) = count < n
+CountsWithin n (WildcardNoData count) = count < n
+CountsWithin n (NameError count) = count < n
+CountsWithin n (MayBeUnsigned count) = count < n
+CountsWithin n (NoCloserName count) = count < n
+CountsWithin n _ = Unit {0}
+
+-- ---- When each kind of answer is the zone's, each by itself and in any order; L are the zone's records
+-- and a is the apex.
+
+-- a zone cut o of n labels that is not occluded: x is strictly below it, or is it and the type is
+-- not DS
+pub record IsReferred (L : List ZoneRecord) (a x : Name) (t n : ℕ) : Type 0 where
+  pub cut : Name
+  pub count : n ≡ length cut
+  pub is_cut : is_zone_cut L a cut ≡ true
+  pub free : is_unoccluded true L a cut ≡ true
+  pub below : (is_strictly_below x cut ≡ true) ⊎ ((same_name x cut ≡ true) × ((t == ds) ≡ false))
+
+-- an owner of n labels of a DNAME record that is no zone cut and not occluded, and that x is
+-- strictly below
+pub record IsRedirected (L : List ZoneRecord) (a x : Name) (n : ℕ) : Type 0 where
+  pub owner : Name
+  pub count : n ≡ length owner
+  pub no_cut : is_zone_cut L a owner ≡ false
+  pub owns_dname : has_type (records_of L owner) dname ≡ true
+  pub free : is_unoccluded true L a owner ≡ true
+  pub below : is_strictly_below x owner ≡ true
+
+-- x is not occluded, and its parent zone is not the one to answer
+pub record IsHere (L : List ZoneRecord) (a x : Name) (t : ℕ) : Type 0 where
+  pub free : is_unoccluded true L a x ≡ true
+  pub child : is_at_parent a x t ≡ false
+
+-- x does not exist, and its closest encloser has n labels
+pub record IsAbsent (L : List ZoneRecord) (a x : Name) (t n : ℕ) : Type 0 where
+  pub missing : is_missing L a x ≡ true
+  pub child : is_at_parent a x t ≡ false
+  pub count : n ≡ length (encloser L a x)
+
+abbrev pub wildcard_of : List ZoneRecord → Name → Name → Name
+wildcard_of L a x = wildcard_below (encloser L a x)
+
+-- what is so where this is the zone's answer
+abbrev pub IsSo : List ZoneRecord → Name → Bool → Name → ℕ → Answer → Type 0
+IsSo L a assume x t OutsideZone = is_at_or_below x a ≡ false
+IsSo L a assume x t AtParent = is_at_parent a x t ≡ true
+IsSo L a assume x t (Referral n) = IsReferred L a x t n
+IsSo L a assume x t (Redirected n) = IsRedirected L a x n
+IsSo L a assume x t Has =
+    IsHere L a x t × (owns_type L a assume x t ≡ true)
+    × ((is_zone_cut L a x && not (t == ds)) ≡ false)
+IsSo L a assume x t NoDs =
+    IsHere L a x t × (owns_type L a assume x t ≡ false) × (is_zone_cut L a x ≡ true)
+    × ((t == ds) ≡ true)
+IsSo L a assume x t Alias =
+    IsHere L a x t × (owns_type L a assume x t ≡ false) × (is_zone_cut L a x ≡ false)
+    × (owns_type L a assume x cname ≡ true)
+IsSo L a assume x t NoData =
+    IsHere L a x t × (owns_type L a assume x t ≡ false) × (is_zone_cut L a x ≡ false)
+    × (owns_type L a assume x cname ≡ false) × (name_exists L a x ≡ true)
+IsSo L a assume x t (Wildcard n) =
+    IsAbsent L a x t n × (name_exists L a (wildcard_of L a x) ≡ true)
+    × ((owns_type L a assume (wildcard_of L a x) t || is_zone_cut L a (wildcard_of L a x)) ≡ true)
+IsSo L a assume x t (WildcardAlias n) =
+    IsAbsent L a x t n × (name_exists L a (wildcard_of L a x) ≡ true)
+    × ((owns_type L a assume (wildcard_of L a x) t || is_zone_cut L a (wildcard_of L a x)) ≡ false)
+    × (owns_type L a assume (wildcard_of L a x) cname ≡ true)
+IsSo L a assume x t (WildcardNoData n) =
+    IsAbsent L a x t n × (name_exists L a (wildcard_of L a x) ≡ true)
+    × ((owns_type L a assume (wildcard_of L a x) t || is_zone_cut L a (wildcard_of L a x)) ≡ false)
+    × (owns_type L a assume (wildcard_of L a x) cname ≡ false)
+IsSo L a assume x t (NameError n) =
+    IsAbsent L a x t n × (name_exists L a (wildcard_of L a x) ≡ false)
+IsSo L a assume x t _ = ⊥

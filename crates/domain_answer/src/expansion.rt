@@ -1,8 +1,8 @@
 //! What NSEC3 records answer of a name whose records were expanded from a wildcard.
 ghost use Rattle.std.specs.Prelude.{◌≡◌, IsErrOf};
 ghost use Rattle.domain_hasher.specs.declared.error.Nsec3HashError.TheVariants as hash_error;
-ghost use Rattle.domain_checker.specs.HashedView.{hashed_records};
-ghost use Rattle.domain_answer.specs.{Expansion.is_expanded, Judged.IsExpansionJudged};
+ghost use Rattle.domain_checker.specs.HashedVerdict.{hashed_records};
+ghost use Rattle.domain_answer.specs.{HashedReading.is_expanded, Judged.IsExpansionJudged};
 
 use crate::Answer;
 use crate::nsec3::{next_answer, opt_out_of};

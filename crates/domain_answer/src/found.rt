@@ -1,6 +1,6 @@
 //! What one pass over NSEC records finds of a name.
-ghost use Rattle.domain_nsec.specs.ChainView.{links_of};
-ghost use Rattle.domain_answer.specs.Found.{found_cover, found_match, IsCovered, IsFound};
+ghost use Rattle.domain_nsec.specs.Chain.{links_of};
+ghost use Rattle.domain_answer.specs.Reading.{found_cover, found_match, IsCovered, IsFound};
 
 use domain_base::ToName;
 use domain_checker::{NsecRr, is_match, shared_if_covered};

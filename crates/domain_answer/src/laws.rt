@@ -1,19 +1,24 @@
 //! What holds of answers, and of what records say. A caller calls the law in its body.
 ghost use Rattle.std.specs.Prelude.{◌≡◌, ◌≢◌, ◌<◌, ℕ, Bool, All, List, length, true, false};
-ghost use Rattle.domain_octets.specs.Words.{Octets};
-ghost use Rattle.domain_names.specs.{Name.{is_at_or_below, last_labels}, Words.Name};
+ghost use Rattle.domain_octets.specs.Octets.{Octets};
+ghost use Rattle.domain_names.specs.Name.{is_at_or_below, last_labels, Name};
 ghost use Rattle.domain_base.specs.Types.{dname};
-ghost use Rattle.domain_chain_rdata.specs.OptOut.{is_opt_out};
+ghost use Rattle.domain_chain_rdata.specs.Rdata.{is_opt_out};
 ghost use Rattle.domain_zone.specs.Zone.{has_type, is_occluded, OwnersNeverDescend, ZoneRecord};
 ghost use Rattle.domain_nsec.specs.{Chain.{IsChain, Link}, declared.config.GenerateNsecConfig.GenerateNsecConfig};
-ghost use Rattle.domain_nsec3.specs.{Chain.{HashedLink, IsHashedChain}, Config.ChainConfig, Meaning.IsAlone};
-ghost use Rattle.domain_checker.specs.{Alike.{ArePaired, IsAlike, IsHashedAlike}, HashedView.{HashedRecords, with_links}};
-ghost use Rattle.domain_answer.specs.Expansion.{closer_name, is_expanded, missing_closer, proved_expansion, ExpansionRestsOn, IsExpansionAnswered};
-ghost use Rattle.domain_answer.specs.{Expansion.IsExpansionRead, HashedProved.{hashed_proved_answer, AreAskedAlone, HashedRestsOn, IsHashedAnswered}};
-ghost use Rattle.domain_answer.specs.{HashedReading.IsHashedRead, HashedZoneAnswer.{hashed_encloser, hashed_exists, hashed_zone_answer, is_of_one_chain}};
-ghost use Rattle.domain_answer.specs.{Kinds.IsSo, Proved.{proved_answer, CountsWithin, IsAnswered, LeavesOutBelowDname, RestsOn}, Reading.reading};
-ghost use Rattle.domain_answer.specs.{ZoneAnswer.{is_at_parent, name_exists, wildcard_below, zone_answer}, declared.answer.Answer.Answer};
-ghost use Rattle.domain_answer.specs.declared.answer.Answer.TheVariants.{NoCloserName, NotProven, TooManyIterations};
+ghost use Rattle.domain_nsec3.specs.{Chain.{HashedLink, IsHashedChain, ChainConfig}, Meaning.IsAlone};
+ghost use Rattle.domain_checker.specs.Verdict.{ArePaired, IsAlike, IsHashedAlike};
+ghost use Rattle.domain_checker.specs.HashedVerdict.{HashedRecords, with_links};
+ghost use Rattle.domain_answer.specs.HashedReading.{closer_name, is_expanded, missing_closer, proved_expansion};
+ghost use Rattle.domain_answer.specs.HashedReading.{ExpansionRestsOn, IsExpansionAnswered, IsExpansionRead};
+ghost use Rattle.domain_answer.specs.HashedReading.{hashed_proved_answer, AreAskedAlone, HashedRestsOn};
+ghost use Rattle.domain_answer.specs.HashedReading.{IsHashedAnswered, IsHashedRead, hashed_encloser};
+ghost use Rattle.domain_answer.specs.HashedReading.{hashed_exists, hashed_zone_answer, is_of_one_chain};
+ghost use Rattle.domain_answer.specs.Reading.{IsSo, proved_answer, CountsWithin, IsAnswered};
+ghost use Rattle.domain_answer.specs.{Reading.{LeavesOutBelowDname, RestsOn, reading}, ZoneAnswer.is_at_parent};
+ghost use Rattle.domain_answer.specs.ZoneAnswer.{name_exists, wildcard_below, zone_answer};
+ghost use Rattle.domain_answer.specs.declared.answer.Answer.{Answer, TheVariants.{NoCloserName, NotProven}};
+ghost use Rattle.domain_answer.specs.declared.answer.Answer.TheVariants.{TooManyIterations};
 
 use domain_checker::laws::{chains_are_known, hashed_chains_are_known};
 use domain_nsec3::laws as nsec3_laws;

@@ -1,6 +1,6 @@
 //! What records of an NSEC chain answer.
 ghost use Rattle.std.specs.Prelude.{◌≡◌};
-ghost use Rattle.domain_nsec.specs.ChainView.{as_link, links_of};
+ghost use Rattle.domain_nsec.specs.Chain.{as_link, links_of};
 ghost use Rattle.domain_answer.specs.{Judged.IsJudged, Reading.{reading, tells_occluded, wildcard_answer, IsNameAnswer}, ZoneAnswer.is_at_parent};
 
 use crate::found::{NsecFound, find_nsec};

@@ -1,8 +1,9 @@
 //! What records of an NSEC3 chain answer.
 ghost use Rattle.std.specs.{Option.option_map, Prelude.{◌≡◌, ◌<◌, Err, length, IfErr, IfOk, IsErrOf}};
 ghost use Rattle.domain_names.specs.Name.{last_labels};
-ghost use Rattle.domain_nsec3.specs.{Config.hash_name, Faults.IsNoHash, View.as_hashed_link};
-ghost use Rattle.domain_checker.specs.{HashedEncloser.encloser_of, HashedPass.{found_cover, found_match}, HashedView.{hash_with, hashed_records}};
+ghost use Rattle.domain_nsec3.specs.{Chain.{hash_name, IsNoHash}, View.as_hashed_link};
+ghost use Rattle.domain_checker.specs.HashedReading.{encloser_of, found_cover, found_match};
+ghost use Rattle.domain_checker.specs.HashedVerdict.{hash_with, hashed_records};
 ghost use Rattle.domain_answer.specs.{HashedReading.{answer_by, flag_of, found_answer, next_by, wildcard_told, IsWildcardRead}, Judged.IsHashedJudged};
 ghost use Rattle.domain_answer.specs.ZoneAnswer.{wildcard_below};
 ghost use Rattle.domain_hasher.specs.declared.error.Nsec3HashError.TheVariants as hash_error;

@@ -1,6 +1,6 @@
 //! What the types that a record lists say of the name that owns them.
 ghost use Rattle.std.specs.Prelude.{◌≡◌};
-ghost use Rattle.domain_answer.specs.TypesAnswer.{types_answer, wildcard_types_answer};
+ghost use Rattle.domain_answer.specs.ZoneAnswer.{types_answer, wildcard_types_answer};
 
 use crate::Answer;
 use domain_base::Rtype;

@@ -1,9 +1,60 @@
--- types and classes of records as text
-use Rattle.std.specs.Prelude.{◌≡◌, ℕ, List, [], ◌∷◌, codes}
-use Rattle.domain_octets.specs.Words.{Octets}
-use Rattle.domain_base.specs.{Named.{Named, NumberText, number_text}, Classes.{in_class, ch_class, hs_class}}
-use Rattle.domain_names.specs.TextFault.{ScanFault, illegal}
+-- Numbers that have names, types and classes of records as text, and serial numbers.
+use Rattle.std.specs.Prelude.{◌≡◌, ℕ, ◌==◌, List, [], ◌∷◌, ◌++◌, map, Bool, if◌then◌else◌, Option, Some, None, unwrap_or, nat_eq, codes}
+use Rattle.std.specs.{Prelude.{◌+◌, ◌-◌, ◌%◌, ◌^◌, nat_lt, Result, MatchResult}, Char.to_ascii_lowercase, Cmp.Lexicographic.pointwise}
+use Rattle.std.specs.{Fmt.decimal, Borrow.Bor, Str.Parse.without_leading_plus, declared.cmp.Ordering.{Ordering, TheVariants.{Less, Equal}}}
+use Rattle.std.specs.declared.cmp.Ordering.TheVariants.{Greater}
+use Rattle.domain_octets.specs.Octets.{Octets}
+use Rattle.domain_base.specs.{Scan.{IsNumber, IsNoNumber}, Classes.{in_class, ch_class, hs_class}}
+use Rattle.domain_names.specs.{Text.{ScanFault, illegal, scan_fault_of}, declared.error.ScanError.ScanError}
 use Rattle.domain_base.specs.Types as rtypes
+
+-- ---- numbers that have names of their own, and all others
+
+-- a number and its name
+pub record Named : Type 0 where
+  pub number : ℕ
+  pub name : Octets
+
+-- the texts differ in the case of letters at most
+abbrev pub same_text : Octets → Octets → Bool
+same_text a b = pointwise nat_eq (map to_ascii_lowercase a) (map to_ascii_lowercase b)
+
+-- the number that the table has for a name, in either case
+abbrev pub number_named : List Named → Octets → Option ℕ
+number_named [] text = None
+number_named (entry ∷ table) text =
+    if same_text entry.name text then Some entry.number else number_named table text
+
+-- the name that the table has for a number
+abbrev pub name_of : List Named → ℕ → Option Octets
+name_of [] n = None
+name_of (entry ∷ table) n = if entry.number == n then Some entry.name else name_of table n
+
+-- the text is the prefix, in either case, and the rest
+pub record HasPrefix (prefix text rest : Octets) : Type 0 where
+  pub front : Octets
+  pub parts : text ≡ front ++ rest
+  pub same : map to_ascii_lowercase front ≡ map to_ascii_lowercase prefix
+
+abbrev pub IsWithoutPrefix : Octets → Octets → Type 0
+IsWithoutPrefix prefix text = (rest : Octets) → HasPrefix prefix text rest → ⊥
+
+-- a name in either case, or the prefix in either case with a decimal number of 16 bits after it
+pub data NumberText (table : List Named) (prefix : Octets) : Octets → ℕ → Type 0 where
+  by_name : (text : Octets) (n : ℕ) → number_named table text ≡ Some n
+      → NumberText table prefix text n
+  by_number : (text digits : Octets) (n : ℕ) → number_named table text ≡ None
+      → HasPrefix prefix text digits → IsNumber 16 digits n → NumberText table prefix text n
+
+-- its name, or the prefix and its decimal digits
+abbrev pub number_text : List Named → Octets → ℕ → Octets
+number_text table prefix n = unwrap_or (name_of table n) (prefix ++ decimal n)
+
+-- a table as the program has it
+abbrev pub entries : List (ℕ × Bor Octets) → List Named
+entries = map (λ entry. record { number = entry.0; name = entry.1.now })
+
+-- ---- types and classes of records as text
 
 -- the types that are known by a name, in the order of the code's table
 abbrev pub type_names : List Named
@@ -69,3 +120,23 @@ class_text = number_text class_names (codes "CLASS")
 pub record IsNoClass (fault : ScanFault) (text : Octets) : Type 0 where
   pub said : fault ≡ illegal (codes "unknown class")
   pub none : (n : ℕ) → ClassText text n → ⊥
+
+-- ---- serial numbers (RFC 1982)
+
+-- how far the second number is ahead of the first
+abbrev pub serial_distance : ℕ → ℕ → ℕ
+serial_distance a b = (b + 2 ^ 32 - a) % 2 ^ 32
+
+-- ahead by less than half of all numbers is after; by just half is neither (RFC 1982, section 3.2)
+abbrev pub serial_cmp : ℕ → ℕ → Option Ordering
+serial_cmp a b =
+    let ahead = serial_distance a b in
+    if ahead == 0 then Some Equal
+    else (if nat_lt ahead (2 ^ 31) then Some Less
+    else (if ahead == 2 ^ 31 then None else Some Greater))
+
+-- the number of a text, which may have a plus sign before it, or a refusal of a text that has none
+abbrev pub ReadsSerial : Octets → Result ℕ ScanError → Type 0
+ReadsSerial text result =
+    MatchResult result (IsNumber 32 (without_leading_plus text))
+    (λ e. IsNoNumber 32 (scan_fault_of e) (without_leading_plus text))

@@ -1,9 +1,9 @@
 -- the tokens of an entry, and what is read from them
 use Rattle.std.specs.{Prelude.{◌≡◌, ℕ, ◌<◌, ◌^◌, [], ◌∷◌, ◌++◌, codes, Option, IsNone, Result, IfOk, IfErr}, Str.Parse.{IsNumeral, digits_value}, List.concat}
 use Rattle.domain_codecs.specs.{Codec.{Decodes, IsText, HasNoRoom}, declared.codec.Codec.Codec}
-use Rattle.domain_octets.specs.Words.{Octets}
-use Rattle.domain_names.specs.TextFault.{ScanFault, entry_ends, illegal, no_room, no_memory, scan_fault_of}
-use Rattle.domain_names.specs.{Words.{Tokens, Token}, declared.error.ScanError.ScanError}
+use Rattle.domain_octets.specs.Octets.{Octets}
+use Rattle.domain_names.specs.{Text.{ScanFault, entry_ends, illegal, no_room, no_memory, scan_fault_of}, Name.{Tokens, Token}}
+use Rattle.domain_names.specs.declared.error.ScanError.{ScanError}
 
 -- the first token was taken, and P holds of it
 pub record TakesToken (P : Token → Type 0) (old new : Tokens) : Type 0 where

@@ -1,7 +1,7 @@
 //! Classes of records.
 ghost use Rattle.std.specs.Prelude.{◌≡◌, ℕ, Some};
-ghost use Rattle.domain_base.specs.Numbers.{class_names, ClassText, IsNoClass, class_text};
-ghost use Rattle.domain_base.specs.{Named.entries, Scan.{OneToken, ReadsTokens, RefusesToken}};
+ghost use Rattle.domain_base.specs.Numbers.{class_names, ClassText, IsNoClass, class_text, entries};
+ghost use Rattle.domain_base.specs.Scan.{OneToken, ReadsTokens, RefusesToken};
 
 use crate::{FromToken, Scanner, named};
 use domain_names::ScanError;

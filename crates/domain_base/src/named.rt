@@ -1,14 +1,14 @@
 //! Numbers that have names of their own.
 ghost use Rattle.std.specs.Prelude.{◌≡◌, ◌<◌, ℕ, length, IfSome, IfNone, MatchOption};
 ghost use Rattle.std.specs.{Option.option_map, Str.IsAscii, Fmt.WritesOnOk};
-ghost use Rattle.domain_base.specs.Named.{entries, number_named, name_of, HasPrefix};
-ghost use Rattle.domain_base.specs.Named.{IsWithoutPrefix, NumberText, number_text};
+ghost use Rattle.domain_base.specs.Numbers.{entries, number_named, name_of, HasPrefix, IsWithoutPrefix};
+ghost use Rattle.domain_base.specs.Numbers.{NumberText, number_text};
 
 use crate::FromToken;
 use std::fmt;
 
 /// The number that the table has for a name, in either case.
-#[tactic(auto, using(crate::proofs::NamedLemmas::same_yes, crate::proofs::NamedLemmas::same_no, std::proofs::lemmas::List::drop_more))]
+#[tactic(auto, using(crate::proofs::TextLemmas::same_yes, crate::proofs::TextLemmas::same_no, std::proofs::lemmas::List::drop_more))]
 pub fn number_named(table: &[(u16, &str)], text: &str) -> Option<u16>
     ensures { result ≡ number_named (entries table.now) text.now }
 {
@@ -49,7 +49,7 @@ fn after_prefix<'a>(text: &'a str, prefix: &str) -> Option<&'a str>
 }
 
 /// The number that a text stands for: by its name, or by the prefix and decimal digits.
-#[tactic(auto, using(crate::specs::Named::by_name, crate::specs::Named::by_number, crate::proofs::NamedLemmas::no_number, crate::proofs::NamedLemmas::no_digits))]
+#[tactic(auto, using(crate::specs::Numbers::by_name, crate::specs::Numbers::by_number, crate::proofs::TextLemmas::no_number, crate::proofs::TextLemmas::no_digits))]
 pub fn read_number(table: &[(u16, &str)], prefix: &str, text: &str) -> Option<u16>
     requires ascii { IsAscii prefix.now }
     requires some { 0 < length prefix.now }

@@ -2,12 +2,12 @@
 ghost use Rattle.std.specs.Prelude.{◌≡◌, ◌≢◌, ◌↔◌, ◌∷◌, [], ℕ, Option, drop, length, map, IsTrue};
 ghost use Rattle.std.specs.Prelude.{IfOk, IfErr, IsErrOf, IsOkAnd, OnOk, MatchOption};
 ghost use Rattle.std.specs.{Fn.FnOnceReturnsAt, List.concat};
-ghost use Rattle.domain_names.specs.TextFault.{ScanFault, scan_fault_of, NameTextFault};
-ghost use Rattle.domain_names.specs.{Text.NameText, Words.{Tokens, Token}};
+ghost use Rattle.domain_names.specs.{Text.{ScanFault, scan_fault_of, NameTextFault, NameText}, Name.Tokens};
+ghost use Rattle.domain_names.specs.Name.{Token};
 ghost use Rattle.domain_base.specs.Scan.{OneToken, ReadsTokens, RefusesToken, CodecFault, TokenHasNoRoom};
 ghost use Rattle.domain_base.specs.Scan.{EntryFault, IsEnd};
 ghost use Rattle.domain_codecs.specs.Codec.{Decodes, DecodeFault};
-ghost use Rattle.domain_octets.specs.{Limit.HasRoom, Words.Octets};
+ghost use Rattle.domain_octets.specs.Octets.{HasRoom, Octets};
 
 use domain_codecs::{Codec, DecodeError};
 use domain_names::{Name, ScanError, ToName};
@@ -154,7 +154,7 @@ where
         }
     }
 
-    #[tactic(auto, using(crate::proofs::ScanLemmas::no_token))]
+    #[tactic(auto, using(crate::proofs::TextLemmas::no_token))]
     fn scan_name(&mut self, alloc: Global) -> Result<Name<O>, ScanError> {
         let Some(token) = self.first_token() else {
             return Err(ScanError::EndOfEntry);
@@ -168,7 +168,7 @@ where
         O::Builder::empty(alloc)
     }
 
-    #[tactic(auto, using(crate::proofs::ScanLemmas::no_token))]
+    #[tactic(auto, using(crate::proofs::TextLemmas::no_token))]
     fn convert_token(&mut self, alloc: Global, codec: Codec) -> Result<O, ScanError> {
         let Some(token) = self.first_token() else {
             return Err(ScanError::EndOfEntry);
@@ -215,7 +215,7 @@ pub trait FromToken {
         ensures err { IfErr result (λ e. refuses (scan_fault_of e) token.now) };
 
     /// The value that the next token spells. A token that is refused is gone past too.
-    #[tactic(auto, using(crate::proofs::ScanLemmas::no_token))]
+    #[tactic(auto, using(crate::proofs::TextLemmas::no_token))]
     final fn scan<S: Scanner>(scanner: &mut S) -> Result<Self, ScanError>
     where
         Self: Sized,

@@ -2,8 +2,8 @@
 ghost use Rattle.std.specs.Prelude.{◌≡◌, ◌<◌, ◌+◌, ◌++◌, ◌↔◌, ℕ, length, Some, IsNone, IsErr, IfOk};
 ghost use Rattle.std.specs.{Prelude.{IfErr, OnOk, OnErr, IsErrOf}, Fmt.decimal};
 ghost use Rattle.std.specs.{Int.{w32, to_be_bytes}, Ordering.nat_cmp, Cmp.nat_cmp_total};
-ghost use Rattle.domain_octets.specs.{Limit.IsOver, Place.Takes};
-ghost use Rattle.domain_base.specs.Serial.{ReadsSerial, serial_cmp};
+ghost use Rattle.domain_octets.specs.Octets.{IsOver, Takes};
+ghost use Rattle.domain_base.specs.Numbers.{ReadsSerial, serial_cmp};
 
 use domain_names::{CanonicalOrd, ParseError, ScanError};
 use domain_octets::{AppendError, OctetsBuilder, Parser};

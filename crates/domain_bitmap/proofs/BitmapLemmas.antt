@@ -1,12 +1,114 @@
--- the octets of a set of types, and that they are the one spelling of it
-use Rattle.std.proofs.Common.{◌≡◌, ◌≢◌, ℕ, zero, suc, ◌+◌, ◌*◌, ◌/◌, ◌%◌, ◌<◌, ◌≤◌, Bool, false, List, [], ◌∷◌, ◌++◌, length, get_or, refl, sym, ap, ◌∙◌, inl}
-use Rattle.std.proofs.{Common.{inr, arith, zero-add}, lemmas.{Bool.Decides.{eqb_tells, leb_tells}, Grind.common_steps, List.FromFn.length-map-range_with_len}}
-use Rattle.std.{proofs.lemmas.List.FromFn.get_or-map-range_with_len, specs.{Prelude.{◌==◌, if◌then◌else◌}, List.AllByRecursion}}
-use Rattle.domain_bitmap.specs.{Bits.{has_bit, octet_with}, Bitmap.{window_octets, trimmed, block_if_any, blocks_with, bitmap_octets}}
-use Rattle.domain_bitmap.specs.Blocks.{Block, IsBlock, IsBitmap, AreShortest, IsShortest, last_octet, octets_of_blocks, in_first_block, contains_type}
-use Rattle.domain_bitmap.proofs.{BitLemmas.{octet_with-lt, bit_of-octet_with, bit_of-zero, octets_same}, RangeLemmas.range_more}
-use Rattle.domain_bitmap.proofs.BlockLemmas.{IsBitmap-octets_of_blocks, blocks_of-octets_of_blocks}
-use Rattle.domain_bitmap.proofs.TrimLemmas.{IsCut, none_cut, cut-trimmed, cut_same, get_or-trimmed, length-trimmed}
+-- Sets of types as octets, how these are put together, and that they are the one spelling of a set.
+use Rattle.std.proofs.Common.{◌≡◌, ℕ, ◌+◌, ◌-◌, ◌*◌, ◌/◌, ◌%◌, ◌^◌, ◌<◌, ◌≢◌, true, false, List, ◌∷◌, ◌++◌, length, get_or, inl, inr, arith, length-append}
+use Rattle.std.proofs.Common.{set, get_or-set_other, rules, zero, suc, ◌≤◌, Bool, [], refl, sym, ap, ◌∙◌, zero-add, take, drop, add-one, add_comm}
+use Rattle.std.{proofs.lemmas.{Bool.Decides.{nat_tests, eqb_tells, leb_tells}, Grind.common_steps}, specs.Prelude.{◌||◌, ◌==◌, bit_or, replicate}}
+use Rattle.std.{specs.Prelude.{if◌then◌else◌, nat_lt, slice_range}, proofs.lemmas.List.FromFn.{length-map-range_with_len, get_or-map-range_with_len}}
+use Rattle.std.{specs.List.{AllByRecursion, range_with_len, list_any, filter, flat_map}, proofs.{lemmas.List.{append-nil, get_or-drop}, Math.Nat.mul-suc}}
+use Rattle.std.proofs.lemmas.List.Concat.{flat_map-append}
+use Rattle.domain_octets.{proofs.StdLemmas.and_false, specs.Octets.AreOctets}
+use Rattle.domain_bitmap.specs.Blocks.{bit_of, has_bit, octet_with, is_of_window, block_holds, has_window, holds, merged_octet, Block, IsBlock, IsBitmap}
+use Rattle.domain_bitmap.specs.Blocks.{AreShortest, IsShortest, last_octet, octets_of_blocks, in_first_block, contains_type, block_types_from, types_of}
+use Rattle.domain_bitmap.{specs.Blocks.types_below, proofs.BitLemmas.{any_more, any_same, any_at, any_none, any_with, range_more, filter_none, filter_at}}
+use Rattle.domain_bitmap.proofs.BitLemmas.{any_suc, filter_same, filter_append, bit_of-set, bit_of-zero, octet_with-lt, bit_of-octet_with, octets_same}
+use Rattle.domain_bitmap.proofs.BitLemmas.{bit_of-or, IsCut, none_cut, cut-trimmed, cut_same, get_or-trimmed, length-trimmed, trimmed-take}
+use Rattle.domain_bitmap.{specs.Bitmap.{window_octets, trimmed, block_if_any, blocks_with, bitmap_octets}, proofs.BlockLemmas.IsBitmap-octets_of_blocks}
+use Rattle.domain_bitmap.proofs.BlockLemmas.{blocks_of-octets_of_blocks}
+
+-- ---- the blocks of 34 octets that a builder holds
+
+-- a block is found
+pub window_found : (value : List ℕ) (window j : ℕ) → j < length value / 34 → get_or value (34 * j) 0 ≡ window → has_window value window ≡ true
+unfolding has_window
+window_found value window j inside is = any_at (is_of_window value window) (length value / 34) j inside (grind (arith, nat_tests))
+
+pub window_absent : (value : List ℕ) (window : ℕ) → ((j : ℕ) → j < length value / 34 → get_or value (34 * j) 0 ≢ window) → has_window value window ≡ false
+unfolding has_window
+window_absent value window other = grind (arith, common_steps, any_none)
+
+same_type : (t r : ℕ) → t / 256 ≡ r / 256 → t % 256 / 8 ≡ r % 256 / 8 → (t == r) ≡ (t % 8 == r % 8)
+same_type t r window octet = grind (arith, nat_tests)
+
+other_octet : (t r : ℕ) → t % 256 / 8 ≢ r % 256 / 8 → (t == r) ≡ false
+other_octet t r octet = grind (arith, nat_tests)
+
+-- a bit set in a block of the type's window
+module _ (value : List ℕ) (p r : ℕ) (inside : p < length value / 34) (window : get_or value (34 * p) 0 ≡ r / 256) where
+  abbrev at : ℕ
+  at = 34 * p + 2 + r % 256 / 8
+
+  abbrev more : ℕ
+  more = bit_or (get_or value at 0) (2 ^ (7 - r % 8))
+
+  abbrev after : List ℕ
+  after = set value at more
+
+  at_inside : at < length value
+  at_inside = omega (arith, inside)
+
+  kept : (k : ℕ) → k ≢ at → get_or after k 0 ≡ get_or value k 0
+  kept k other = get_or-set_other value at k more 0 other
+
+  elsewhere : (t j : ℕ) → j ≢ p → block_holds after t j ≡ block_holds value t j
+  elsewhere t j other = grind (arith, common_steps, kept)
+
+  -- the bit of a type in the block
+  bit_after : (t : ℕ) → t / 256 ≡ r / 256 → bit_of (get_or after (34 * p + 2 + t % 256 / 8) 0) (t % 8)
+      ≡ ((t == r) || bit_of (get_or value (34 * p + 2 + t % 256 / 8) 0) (t % 8))
+  bit_after t of_window =
+      elim (eqb_tells (t % 256 / 8) (r % 256 / 8)) [
+        | inl h ↦ grind (arith, common_steps, same_type, bit_of-set, at_inside)
+        | inr h ↦ grind (arith, common_steps, kept, other_octet)
+      ]
+
+  here : (t : ℕ) → block_holds after t p ≡ ((t == r) || block_holds value t p)
+  here t = grind (arith, common_steps, bit_after)
+
+  pub holds-set_bit : (t : ℕ) → holds after t ≡ ((t == r) || holds value t)
+  unfolding holds
+  holds-set_bit t = search (rules, any_with, elsewhere, here)
+
+  pub has_window-set_bit : (w : ℕ) → has_window after w ≡ has_window value w
+  unfolding has_window
+  has_window-set_bit w = grind (arith, common_steps, any_same)
+
+pub ruleset set_steps = (holds-set_bit, has_window-set_bit)
+
+-- zero octets
+pub zeros_at : (n k : ℕ) → get_or {A = ℕ} (replicate n 0) k 0 ≡ 0
+zeros_at n k = grind (arith, common_steps)
+
+pub same_at : {X : Type 0} (n : ℕ) (x : X) (k : ℕ) → get_or (replicate n x) k x ≡ x
+same_at n x k = grind (arith, common_steps)
+
+-- a block of a window without types is appended
+module _ (value rest : List ℕ) (window : ℕ) (whole : length value % 34 ≡ 0) (long : length rest ≡ 33) (zeros : (k : ℕ) → get_or rest k 0 ≡ 0) where
+  abbrev grown : List ℕ
+  grown = value ++ (window ∷ rest)
+
+  one_more : length grown / 34 ≡ length value / 34 + 1
+  one_more = omega (arith, length-append value (window ∷ rest), long)
+
+  zero_last : (k : ℕ) → get_or grown (34 * (length value / 34) + 2 + k) 0 ≡ 0
+  zero_last k = grind (arith, common_steps)
+
+  pub has_window-grown : (w : ℕ) → has_window grown w ≡ ((w == window) || has_window value w)
+  unfolding has_window
+  has_window-grown w = grind (arith, common_steps, one_more, any_more, any_same)
+
+  block_last : (t : ℕ) → block_holds grown t (length value / 34) ≡ false
+  block_last t = rw (zero_last (t % 256 / 8), bit_of-zero (t % 8)) (and_false (is_of_window grown (t / 256) (length value / 34)))
+
+  pub holds-grown : (t : ℕ) → holds grown t ≡ holds value t
+  unfolding holds
+  holds-grown t = grind (arith, common_steps, one_more, any_more, block_last, any_same)
+
+-- a window that has a block already
+pub window_known : (value : List ℕ) (window w : ℕ) → has_window value window ≡ true → ((w == window) || has_window value w) ≡ has_window value w
+window_known value window w known = grind (arith, common_steps)
+
+pub ruleset block_steps = (window_known, holds-grown, has_window-grown)
+
+-- ---- the octets of a set of types, and that they are the one spelling of it
 
 -- ---- blocks in the one form that a builder gives, from a window on
 
@@ -230,3 +332,152 @@ unfolding bitmap_octets
 length-bitmap_octets types = length-blocks_with (window_octets types) 0 256 (are_windows types)
 
 pub ruleset built_steps = (bitmap_octets-same, IsBitmap-bitmap_octets)
+
+-- ---- blocks put in order
+
+-- how many windows below n have a block
+abbrev pub count : List ℕ → ℕ → ℕ
+count value n = length (filter (has_window value) (range_with_len 0 n))
+
+-- k blocks are of k windows at most
+abbrev within : List ℕ → ℕ → ℕ → Bool
+within value k w = list_any (is_of_window value w) (range_with_len 0 k)
+
+count-blocks : (value : List ℕ) (k n : ℕ) → length (filter (within value k) (range_with_len 0 n)) ≤ k
+count-blocks value zero n = omega (arith, ap length (filter_none (within value 0) 0 n (λ j low high. refl)))
+count-blocks value (suc k) n =
+    let more = filter_at (within value k) (within value (suc k)) (get_or value (34 * k) 0) n (λ w other. grind (arith, common_steps, any_suc)) in
+    grind (arith, common_steps, more, (count-blocks value k n))
+
+pub count-has_window : (value : List ℕ) (n : ℕ) → count value n ≤ length value / 34
+unfolding has_window
+count-has_window value n = count-blocks value (length value / 34) n
+
+-- the octets after the first i of a block are merged
+abbrev pub merged_at : List ℕ → List ℕ → ℕ → ℕ → ℕ → ℕ
+merged_at initial slots j i p = if nat_lt (p % 32) i then merged_octet initial slots j p else get_or initial p 0
+
+-- the table after the block at a place
+pub types_more : (octets after slots : List ℕ) (j t : ℕ) → ((p : ℕ) → get_or after p 0 ≡ merged_octet octets slots j p)
+    → bit_of (get_or octets (t / 8) 0) (t % 8) ≡ list_any (block_holds slots t) (range_with_len 0 j)
+    → bit_of (get_or after (t / 8) 0) (t % 8) ≡ list_any (block_holds slots t) (range_with_len 0 (j + 1))
+types_more octets after slots j t merged before = grind (arith, common_steps, any_more, bit_of-or)
+
+pub windows_more : (present : List Bool) (slots : List ℕ) (j w : ℕ) → get_or slots (34 * j) 0 < length present
+    → get_or present w false ≡ list_any (is_of_window slots w) (range_with_len 0 j)
+    → get_or (set present (get_or slots (34 * j) 0) true) w false ≡ list_any (is_of_window slots w) (range_with_len 0 (j + 1))
+windows_more present slots j w inside before = grind (arith, common_steps, any_more)
+
+pub absent_more : (octets after slots : List ℕ) (present : List Bool) (j i : ℕ) → get_or slots (34 * j) 0 < length present
+    → ((p : ℕ) → get_or after p 0 ≡ merged_octet octets slots j p)
+    → (get_or present (i / 32) false ≡ false → get_or octets i 0 ≡ 0)
+    → get_or (set present (get_or slots (34 * j) 0) true) (i / 32) false ≡ false → get_or after i 0 ≡ 0
+absent_more octets after slots present j i inside merged before absent = grind (arith, common_steps)
+
+-- the octets of a window in the table
+abbrev pub windows_of : List ℕ → ℕ → List ℕ
+windows_of table w = slice_range table (32 * w) (32 * w + 32)
+
+-- a window that has no block
+pub skipped : (table : List ℕ) (w : ℕ) → ((i : ℕ) → i / 32 ≡ w → get_or table i 0 ≡ 0)
+    → octets_of_blocks (blocks_with (windows_of table) 0 (w + 1)) ≡ octets_of_blocks (blocks_with (windows_of table) 0 w)
+skipped table w zeros =
+    let none : trimmed (windows_of table w) ≡ [] =
+    trimmed-take (windows_of table w) 0 (omega arith) (λ k _. grind (arith, common_steps, (zeros (32 * w + k)))) (λ some. absurd (omega (arith, some))) in
+    octets-more (windows_of table) w ∙ rw none (append-nil _)
+
+table_bit : (table : List ℕ) (t : ℕ) → has_bit (windows_of table (t / 256)) t ≡ bit_of (get_or table (t / 8) 0) (t % 8)
+unfolding has_bit
+table_bit table t = let place : 32 * (t / 256) + t % 256 / 8 ≡ t / 8 = omega arith in grind (arith, common_steps)
+
+small_at : (value : List ℕ) → AreOctets value → (i : ℕ) → get_or value i 0 < 256
+small_at value small i = grind (arith, common_steps, (small i 0))
+
+are_packed : (table : List ℕ) → AreOctets table → AreWindows (windows_of table)
+are_packed table small = record { fits = λ w. grind (arith, common_steps); small = λ w i. grind (arith, common_steps, (small_at table small)) }
+
+-- the table has the types that are held
+pub table_spelled : (table value : List ℕ) (n : ℕ) → n ≡ 256 → AreOctets table
+    → ((t : ℕ) → t < 65536 → bit_of (get_or table (t / 8) 0) (t % 8) ≡ holds value t)
+    → octets_of_blocks (blocks_with (windows_of table) 0 n) ≡ bitmap_octets (holds value)
+table_spelled table value n all small bits =
+    rw all (spelling_is (holds value) _ (windows_spell (holds value) (windows_of table) (are_packed table small) (λ t fits. table_bit table t ∙ bits t fits)))
+
+-- ---- a builder without blocks, and one with one block
+
+pub holds_nothing : (value : List ℕ) → length value ≡ 0 → bitmap_octets (holds value) ≡ []
+unfolding holds
+holds_nothing value none = sym (spelling_is (holds value) _ (blocks_spell (holds value) [] (none_in_form 0) (λ t small. grind (arith, common_steps))))
+
+one_bit : (value : List ℕ) (t : ℕ) → length value ≡ 34
+    → holds value t ≡ (if get_or value 0 0 == t / 256 then has_bit (drop 2 value) t else false)
+unfolding holds has_bit
+one_bit value t one = grind (arith, common_steps)
+
+one_spelled : (value : List ℕ) → length value ≡ 34 → ((i : ℕ) → get_or value i 0 < 256)
+    → bitmap_octets (holds value) ≡ octets_of_blocks (block_if_any (get_or value 0 0) (trimmed (drop 2 value)))
+one_spelled value one small =
+    let w = get_or value 0 0 in
+    let of_window = of_window-trimmed (drop 2 value) (grind (arith, common_steps)) (λ i. rw (get_or-drop 2 value i 0) (small (2 + i))) in
+    rw (← append-nil (block_if_any w (trimmed (drop 2 value)))) (sym (spelling_is (holds value) _ (blocks_spell (holds value) _
+    (form-lower 0 w _ (omega arith) (form-more w _ [] (small 0) of_window (none_in_form (w + 1))))
+    (λ t fits. in-more w _ [] t tt ∙ rw (has_bit-trimmed (drop 2 value) t) (sym (one_bit value t one))))))
+
+pub block_written : (w : ℕ) (octets : List ℕ) → 0 < length octets → octets_of_blocks (block_if_any w octets) ≡ w ∷ length octets ∷ octets
+block_written w [] some = absurd (omega (arith, some))
+block_written w (x ∷ xs) some = ap (λ l. w ∷ length (x ∷ xs) ∷ x ∷ l) (append-nil xs)
+
+pub no_types : (value : List ℕ) → length value ≡ 34 → AreOctets value → trimmed (drop 2 value) ≡ [] → bitmap_octets (holds value) ≡ []
+no_types value one small none = rw (one_spelled value one (small_at value small), none) refl
+
+pub one_block : (value : List ℕ) (len : ℕ) → length value ≡ 34 → AreOctets value → 0 < len → len ≤ 32
+    → trimmed (drop 2 value) ≡ take len (drop 2 value) → bitmap_octets (holds value) ≡ get_or value 0 0 ∷ len ∷ take len (drop 2 value)
+one_block value len one small some fits is =
+    let long : length (take len (drop 2 value)) ≡ len = grind (arith, common_steps) in
+    one_spelled value one (small_at value small) ∙ rw is (block_written _ _ (omega (arith, long)) ∙ rw long refl)
+
+pub ruleset one_steps = (no_types, one_block)
+
+-- ---- the types of a built bitmap, one after another
+
+window_in : (m w t : ℕ) → m ≡ 256 → m * w ≤ t → t < m * w + m → t / 256 ≡ w
+window_in m w t all low high = grind (arith, common_steps)
+
+-- the types of a block whose bits are those of a set
+block_types_from-is : (types : ℕ → Bool) (block : Block) (place m : ℕ) → place ≡ 0 → m ≡ 256
+    → ((t : ℕ) → t / 256 ≡ block.window → has_bit block.octets t ≡ types t)
+    → block_types_from block place ≡ filter types (range_with_len (m * block.window) m)
+unfolding block_types_from
+block_types_from-is types block place m start all same =
+    let count : 256 - place ≡ m = omega arith in
+    let from : 256 * block.window + place ≡ m * block.window = rw (start, all) (omega arith) in
+    rw (count, from) (filter_same (has_bit block.octets) types (m * block.window) m (λ t low high. same t (window_in m block.window t all low high)))
+
+types_of_list : (types : ℕ → Bool) (w m : ℕ) (xs : List ℕ) → m ≡ 256 → ((t : ℕ) → t / 256 ≡ w → has_bit xs t ≡ types t)
+    → flat_map (λ b. block_types_from b 0) (block_if_any w xs) ≡ filter types (range_with_len (m * w) m)
+types_of_list types w m [] all same = sym (filter_none types (m * w) m (λ t low high. sym (same t (window_in m w t all low high)) ∙ has_bit-none t))
+types_of_list types w m (x ∷ xs) all same = append-nil (block_types_from (record { window = w; octets = x ∷ xs }) 0)
+    ∙ block_types_from-is types (record { window = w; octets = x ∷ xs }) 0 m refl all same
+
+types_of_blocks : (types : ℕ → Bool) (m a n : ℕ) → m ≡ 256 → flat_map (λ b. block_types_from b 0) (blocks_with (window_octets types) a n)
+    ≡ filter types (range_with_len (m * a) (m * n))
+unfolding blocks_with
+types_of_blocks types m a zero all = grind (arith, common_steps)
+types_of_blocks types m a (suc n) all =
+    let xs = trimmed (window_octets types a) in
+    let count : m * suc n ≡ m + m * n = mul-suc m n ∙ add_comm _ m in
+    let next : m * (a + 1) ≡ m * a + m = ap (λ k. m * k) (add-one a) ∙ mul-suc m a in
+    let list = types_of_list types a m xs all (λ t window. has_bit-trimmed (window_octets types a) t ∙ rw (← window) (has_bit-window types t)) in
+    let rest : flat_map (λ b. block_types_from b 0) (blocks_with (window_octets types) (a + 1) n)
+    ≡ filter types (range_with_len (m * a + m) (m * n)) = rw (← next) (types_of_blocks types m (a + 1) n all) in
+    flat_map-append _ (block_if_any a xs) (blocks_with (window_octets types) (a + 1) n) ∙ rw (list, rest, count) (filter_append types (m * a) m (m * n))
+
+-- the bits of a built bitmap are its types in ascending order
+pub types_of-bitmap_octets : (types : ℕ → Bool) (m n : ℕ) → m ≡ 256 → n ≡ m * m → types_of (bitmap_octets types) ≡ types_below n types
+unfolding types_of types_below bitmap_octets
+types_of-bitmap_octets types m n all whole =
+    let none : m * 0 ≡ 0 = omega arith in
+    ap (flat_map (λ b. block_types_from b 0)) (blocks_of-octets_of_blocks _ ∙ ap (blocks_with (window_octets types) 0) (sym all))
+    ∙ types_of_blocks types m 0 m all ∙ rw (none, whole) refl
+
+pub ruleset type_laws = (contains_type-bitmap_octets, types_of-bitmap_octets, length-bitmap_octets)

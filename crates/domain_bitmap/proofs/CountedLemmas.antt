@@ -1,11 +1,11 @@
 -- octets after an octet that counts them
 use Rattle.std.proofs.{Common.{true, false, inr, ◌≤◌, ◌≡◌, ℕ, ◌<◌, List, length, ap, refl, arith}}
 use Rattle.std.{proofs.lemmas.Grind.common_steps, specs.Prelude.{◌↔◌, Option, Result, Ok, IsErrOf}}
-use Rattle.domain_names.specs.{declared.error.ScanError.{ScanError, TheVariants.ShortBuf}, TextFault.{ScanFault, illegal}}
-use Rattle.domain_octets.specs.Limit.{HasRoom}
+use Rattle.domain_names.specs.{declared.error.ScanError.{ScanError, TheVariants.ShortBuf}, Text.{ScanFault, illegal}}
+use Rattle.domain_octets.specs.Octets.{HasRoom}
 use Rattle.domain_codecs.specs.{Codec.Decodes, declared.codec.Codec.Codec}
 use Rattle.domain_base.specs.Scan.{CodecFault, TokenHasNoRoom, TakesToken, RefusesToken, ended, refused}
-use Rattle.domain_bitmap.specs.{HashScan.CountedFault, Counted.IsCutShort}
+use Rattle.domain_bitmap.specs.Text.{CountedFault, IsCutShort}
 
 -- there is no length
 pub cut_at_length : (left : List ℕ) → length left < 1 → IsCutShort left

@@ -1,15 +1,6 @@
-pub mod RangeLemmas
 pub mod BitLemmas
-pub mod TrimLemmas
-pub mod SlotLemmas
-pub mod BlockLemmas
 pub mod BitmapLemmas
-pub mod PackLemmas
-pub mod MeaningLemmas
-pub mod FaultLemmas
-pub mod ScanLemmas
+pub mod BlockLemmas
+pub mod TextLemmas
 pub mod CountedLemmas
-pub mod SaltLemmas
-pub mod ReadBackLemmas
-pub mod RefusalLemmas
 pub mod ListLemmas

@@ -2,7 +2,7 @@
 use Rattle.std.proofs.Common.{subst, ◌≡◌, ℕ, ◌+◌, ◌<◌, ◌≤◌, List, [], ◌∷◌, ◌++◌, length, get_or, refl, sym, ap, ◌∙◌, inl, inr, arith, length-append}
 use Rattle.std.proofs.lemmas.{List.get_or_append_left, Bool.Decides.leb_tells, Grind.common_steps}
 use Rattle.std.proofs.lemmas.List.FromFn.{length-map-range_with_len, get_or-map-range_with_len, fill_by_all}
-use Rattle.domain_bitmap.specs.{Blocks.IsBitmap, List.{part_at, parts_of, IsPart, AreBitmaps}}
+use Rattle.domain_bitmap.specs.Blocks.{IsBitmap, part_at, parts_of, IsPart, AreBitmaps}
 
 -- there are as many as there are ends
 pub length-parts_of : (ends octets : List ℕ) → length (parts_of ends octets) ≡ length ends

@@ -1,7 +1,7 @@
 -- the octets of a set of types (RFC 4034, section 4.1.2)
 use Rattle.std.specs.{Prelude.{ℕ, ◌+◌, ◌*◌, ◌==◌, ◌&&◌, if◌then◌else◌, Bool, List, [], ◌∷◌, length, map}, List.{range_with_len, flat_map}}
-use Rattle.domain_octets.specs.Words.{Octets}
-use Rattle.domain_bitmap.specs.{Bits.octet_with, Blocks.{Block, octets_of_blocks}}
+use Rattle.domain_octets.specs.Octets.{Octets}
+use Rattle.domain_bitmap.specs.Blocks.{octet_with, Block, octets_of_blocks}
 
 -- the 32 octets of a window: bit b of octet i is that of the type 256 * window + 8 * i + b
 unfoldable pub window_octets : (ℕ → Bool) → ℕ → Octets

@@ -1,13 +1,4 @@
-pub mod Bits
-pub mod Bitmap
 pub mod Blocks
-pub mod Builder
+pub mod Bitmap
 pub mod Text
-pub mod Fault
-pub mod Laws
-pub mod Scan
-pub mod Counted
-pub mod HashText
-pub mod HashScan
 pub mod Pieces
-pub mod List

@@ -1,9 +1,9 @@
 -- sets of types and salts in the pieces of a zone file (RFC 4034, section 4.2; RFC 5155,
 -- section 3.3)
 use Rattle.std.specs.{Prelude.{ℕ, List, [], ◌∷◌, ◌++◌, map, length, codes}, Fmt.decimal}
-use Rattle.domain_octets.specs.{Piece.{PieceText, token, comment, opens, closes}, Words.Octets}
+use Rattle.domain_octets.specs.{Text.{PieceText, token, comment, opens, closes}, Octets.Octets}
 use Rattle.domain_base.specs.{Numbers.type_text, Types.Rtypes}
-use Rattle.domain_bitmap.specs.HashText.{salt_text}
+use Rattle.domain_bitmap.specs.Text.{salt_text}
 
 -- a token for each type
 unfoldable pub type_pieces : Rtypes → List PieceText

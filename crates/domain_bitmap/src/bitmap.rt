@@ -2,10 +2,9 @@
 ghost use Rattle.std.specs.Prelude.{◌≡◌, ◌↔◌, ◌<◌, ◌^◌, ◌++◌, ◌+◌, length, [], IsTrue, IsOk, IfOk, IfErr};
 ghost use Rattle.std.specs.Prelude.{OnOk, OnErr, IsErrOf, IsNone};
 ghost use Rattle.std.specs.{Ordering.nat_cmp, Cmp.Lexicographic.{slice_cmp, nat_list_cmp_total}};
-ghost use Rattle.domain_octets.specs.{Limit.IsOver, Place.Takes};
-ghost use Rattle.domain_names.specs.Fault.{fault_of};
-ghost use Rattle.domain_bitmap.specs.Blocks.{IsBitmap, contains_type, types_of};
-ghost use Rattle.domain_bitmap.specs.Fault.{BitmapFault, FirstBlockFault};
+ghost use Rattle.domain_octets.specs.Octets.{IsOver, Takes};
+ghost use Rattle.domain_names.specs.Wire.{fault_of};
+ghost use Rattle.domain_bitmap.specs.Blocks.{IsBitmap, contains_type, types_of, BitmapFault, FirstBlockFault};
 
 use crate::blocks::{check, is_set, split_block, split_rtype};
 use crate::{CheckedOctets, OctetsKind, RtypeBitmapBuilder, RtypeBitmapError};
@@ -42,7 +41,7 @@ impl<O: Octets> RtypeBitmap<O> {
     ///
     /// The first fault: at each block `ShortInput` where its length is missing, `BadRtypeBitmap`
     /// where that is not 1 to 32, then `ShortInput` where octets are missing.
-    #[tactic(auto, using(crate::proofs::FaultLemmas::no_fault))]
+    #[tactic(auto, using(crate::proofs::BlockLemmas::no_fault))]
     pub fn from_octets(octets: O) -> Result<Self, RtypeBitmapError>
     where
         O: Drop,
@@ -116,7 +115,7 @@ impl<'a> RtypeBitmap<&'a [u8]> {
     /// # Errors
     ///
     /// That of the first fault, as `from_octets`. The parser then stands where it stood.
-    #[tactic(auto, using(crate::proofs::FaultLemmas::parse_steps))]
+    #[tactic(auto, using(crate::proofs::BlockLemmas::parse_steps))]
     pub fn parse(parser: &mut Parser<'a>) -> Result<Self, ParseError>
         ensures ok { IsOk result ↔ IsBitmap parser.old.left }
         ensures octets { IfOk result (λ bitmap. Takes bitmap parser.old parser.new

@@ -1,7 +1,6 @@
 //! Octets read as blocks.
 ghost use Rattle.std.specs.Prelude.{◌≡◌, ℕ, ◌+◌, ◌*◌, ◌/◌, ◌%◌, ◌<◌, ◌≤◌, ◌∷◌, [], length, IfSome, IfNone, MatchResult};
-ghost use Rattle.domain_bitmap.specs.{Bits.has_bit, Blocks.{IsBitmap, blocks_of, block_types_from}};
-ghost use Rattle.domain_bitmap.specs.Fault.{FirstBlockFault};
+ghost use Rattle.domain_bitmap.specs.Blocks.{has_bit, IsBitmap, blocks_of, block_types_from, FirstBlockFault};
 
 use crate::RtypeBitmapError;
 use domain_base::Rtype;
@@ -19,7 +18,7 @@ pub(crate) struct Window<'a> {
 }
 
 /// Checks that octets are a list of blocks.
-#[tactic(auto, using(std::proofs::lemmas::Grind::common_steps, crate::proofs::FaultLemmas::check_steps))]
+#[tactic(auto, using(std::proofs::lemmas::Grind::common_steps, crate::proofs::BlockLemmas::check_steps))]
 pub(crate) fn check(octets: &[u8]) -> Result<(), RtypeBitmapError>
     ensures { MatchResult result (λ _. IsBitmap octets.now) (λ e. FirstBlockFault octets.now e) }
 {
@@ -79,7 +78,7 @@ pub(crate) fn split_rtype(rtype: Rtype) -> (u8, usize, u8)
 }
 
 /// Whether an octet of a window has a bit set, the most significant bit being the first.
-#[tactic(auto, using(crate::proofs::BitLemmas::bit_reads), unfolding(crate::specs::Bits::has_bit))]
+#[tactic(auto, using(crate::proofs::BitLemmas::bit_reads), unfolding(crate::specs::Blocks::has_bit))]
 pub(crate) fn is_set(octets: &[u8], octet: usize, bit: u8) -> bool
     requires { bit < 8 }
     ensures { (t : ℕ) → t % 256 / 8 ≡ octet → t % 8 ≡ bit → result ≡ has_bit octets.now t }

@@ -1,19 +1,82 @@
-//! Builds sets of types.
-ghost use Rattle.std.specs.Prelude.{◌≡◌, ℕ, ◌+◌, ◌/◌, ◌%◌, ◌<◌, ◌||◌, ◌==◌, ◌↔◌, [], false, length, OnOk, OnErr, IfOk, slice_index, ◌*◌, if◌then◌else◌, IsErrOf, IsNone};
-ghost use Rattle.domain_octets.specs.{Limit.IsOver, Words.Octets};
-ghost use Rattle.domain_bitmap.specs.{Builder.{holds, has_window}, Bitmap.bitmap_octets};
+//! The blocks that a builder holds: 34 octets each, at multiples of 34.
+ghost use Rattle.std.specs.Prelude.{◌≡◌, ◌+◌, ◌*◌, ◌/◌, ◌<◌, ◌≤◌, ◌++◌, ◌↔◌, false, length, take, drop, IfSome};
+ghost use Rattle.std.specs.Prelude.{IsSome, IsTrue, IfNone, ◌-◌, ◌^◌, slice_index, slice_set, bit_or, ℕ, ◌%◌};
+ghost use Rattle.std.specs.Prelude.{◌||◌, ◌==◌, [], OnOk, OnErr, IfOk, if◌then◌else◌, IsErrOf, IsNone};
+ghost use Rattle.std.specs.Prelude.{slice_index_or};
+ghost use Rattle.domain_bitmap.specs.Blocks.{has_window, is_of_window, holds, merged_octet, bit_of};
+ghost use Rattle.domain_bitmap.specs.{Blocks.octets_of_blocks, Bitmap.{trimmed, bitmap_octets, block_if_any}};
+ghost use Rattle.domain_octets.specs.Octets.{IsOver, Octets};
 
 use crate::RtypeBitmap;
 use crate::blocks::split_rtype;
-use crate::pack::pack;
-use crate::slots::{SLOT, find_slot, set_bit};
 use domain_base::Rtype;
 use domain_octets::{
     AppendError, EmptyBuilder, FreezeBuilder, Octets, OctetsBuilder, OutOfMemory, Truncate,
-    TryClone,
+    TryClone, laws,
 };
 use std::alloc::Global;
 use std::marker::Model;
+
+/// The octets of a block in a builder: its window, its length, and the 32 octets of the window.
+pub(crate) const SLOT: usize = 34;
+
+#[tactic(auto, using(crate::proofs::BitmapLemmas::window_found, crate::proofs::BitmapLemmas::window_absent))]
+/// The first block of a window, if there is one.
+pub(crate) fn find_slot(slots: &[u8], window: u8) -> Option<usize>
+    ensures found { IfSome result (λ j. (j < length slots.now / 34)
+        × IsTrue (is_of_window slots.now window j)) }
+    ensures none { IfNone result (has_window slots.now window ≡ false) }
+    ensures variant { IsSome result ↔ IsTrue (has_window slots.now window) }
+{
+    for j in 0..slots.len() / SLOT {
+        if slots[SLOT * j] == window {
+            return Some(j);
+        }
+    }
+    None
+}
+
+#[tactic(auto, using(crate::proofs::BitLemmas::trim_steps))]
+/// How many octets are left without the zero octets at the end.
+pub(crate) fn used_len(octets: &[u8]) -> usize
+    ensures trimmed { trimmed octets.now ≡ take result octets.now }
+    ensures within { result ≤ length octets.now }
+{
+    let mut len = octets.len();
+    while len > 0 && octets[len - 1] == 0 {
+        len -= 1;
+    }
+    len
+}
+
+#[tactic(auto, using(std::proofs::lemmas::Grind::common_steps))]
+/// Writes octets in place of as many that stand from a place on. Takes no memory.
+pub(crate) fn write_at<B: OctetsBuilder>(buffer: &mut B, at: usize, octets: &[u8])
+    requires { at + length octets.now ≤ length (B.octets buffer.old) }
+    ensures written { B.octets buffer.new
+        ≡ take at (B.octets buffer.old)
+        ++ (octets.now ++ drop (at + length octets.now) (B.octets buffer.old)) }
+    ensures front { take (at + length octets.now) (B.octets buffer.new)
+        ≡ take at (B.octets buffer.old) ++ octets.now }
+{
+    let held = buffer.as_mut_slice();
+    let end = at + octets.len();
+    held[at..end].copy_from_slice(octets);
+}
+
+/// Sets a bit of an octet of the block at a place, the most significant bit being the first. Takes
+/// no memory.
+#[tactic(auto, using(std::proofs::lemmas::Nat::one_shl))]
+pub(crate) fn set_bit<B: OctetsBuilder>(buffer: &mut B, j: usize, octet: usize, bit: u8)
+    requires block { j < length (B.octets buffer.old) / 34 }
+    requires octet { octet < 32 }
+    requires bit { bit < 8 }
+    ensures { B.octets buffer.new ≡ slice_set (B.octets buffer.old) (34 * j + 2 + octet)
+        (bit_or (slice_index (B.octets buffer.old) (34 * j + 2 + octet)) (2 ^ (7 - bit))) }
+{
+    let slots = buffer.as_mut_slice();
+    slots[SLOT * j + 2 + octet] |= 1 << (7 - bit);
+}
 
 /// A set of types to which types are added. It is seen as the octets of its buffer: what it holds
 /// is told by `holds` and `has_window`.
@@ -78,7 +141,7 @@ impl<B: OctetsBuilder> RtypeBitmapBuilder<B> {
     }
 
     /// The place of the first block of a window; where there is none, one without types is added.
-    #[tactic(auto, using(crate::proofs::SlotLemmas::block_steps))]
+    #[tactic(auto, using(crate::proofs::BitmapLemmas::block_steps))]
     fn window_block(&mut self, window: u8) -> Result<usize, AppendError>
         ensures place { IfOk result (λ j. (j < length self.new / 34)
             × (slice_index self.new (34 * j) ≡ window)) }
@@ -111,7 +174,7 @@ impl<B: OctetsBuilder> RtypeBitmapBuilder<B> {
     ///
     /// `ShortBuf` where there is no block of the type's window, and the buffer has no place for
     /// another 34 octets. `OutOfMemory` where there was no memory for them.
-    #[tactic(auto, using(std::proofs::lemmas::Grind::common_steps, crate::proofs::SlotLemmas::set_steps))]
+    #[tactic(auto, using(std::proofs::lemmas::Grind::common_steps, crate::proofs::BitmapLemmas::set_steps))]
     pub fn add(&mut self, rtype: Rtype) -> Result<(), AppendError>
         ensures ok { OnOk result ((t : ℕ) → t < 65536
             → holds self.new t ≡ (t == rtype || holds self.old t)) }
@@ -144,5 +207,122 @@ impl<B: OctetsBuilder> RtypeBitmapBuilder<B> {
         let len = pack(&mut buffer);
         buffer.truncate(len);
         RtypeBitmap::from_octets_unchecked(buffer.freeze())
+    }
+}
+
+/// How many windows there are.
+const WINDOWS: usize = 256;
+
+/// How many octets all windows have, 32 each.
+const TABLE: usize = 8192;
+
+/// Sets in the octets of all windows the bits of a builder's block at a place.
+fn merge(octets: &mut [u8], slots: &[u8], j: usize)
+    requires all { length octets.old ≡ 8192 }
+    requires inside { j < length slots.now / 34 }
+    ensures merged { (i : ℕ) → slice_index octets.new i ≡ merged_octet octets.old slots.now j i }
+    ensures size { length octets.new ≡ length octets.old }
+{
+    let start = slots[SLOT * j] as usize * 32;
+    for i in 0..32 {
+        octets[start + i] |= slots[SLOT * j + 2 + i];
+    }
+}
+
+/// Puts the types of a builder's blocks into the octets of all windows, which are zeros, and tells
+/// which windows have a block.
+#[tactic(auto, using(std::proofs::lemmas::Grind::common_steps, crate::proofs::BitLemmas::bit_reads), unfolding(crate::specs::Blocks::holds, crate::specs::Blocks::has_window))]
+fn fill(octets: &mut [u8], present: &mut [bool], slots: &[u8])
+    requires octets { (i : ℕ) → slice_index octets.old i ≡ 0 }
+    requires all { length octets.old ≡ 8192 }
+    requires present { (w : ℕ) → slice_index_or present.old w false ≡ false }
+    requires windows { length present.old ≡ 256 }
+    ensures types { (t : ℕ) → t < 65536 → bit_of (slice_index octets.new (t / 8)) (t % 8)
+        ≡ holds slots.now t }
+    ensures windows { (w : ℕ) → slice_index_or present.new w false ≡ has_window slots.now w }
+    ensures absent { (i : ℕ) → slice_index_or present.new (i / 32) false ≡ false
+        → slice_index octets.new i ≡ 0 }
+    ensures size { length octets.new ≡ length octets.old }
+    ensures count { length present.new ≡ length present.old }
+{
+    for j in 0..slots.len() / SLOT {
+        merge(octets, slots, j);
+        present[slots[SLOT * j] as usize] = true;
+    }
+}
+
+/// Writes the block of a window where it has types, and says where the blocks end then.
+#[tactic(auto, using(std::proofs::lemmas::Grind::common_steps, crate::proofs::BitmapLemmas::block_written))]
+fn write_block<B: OctetsBuilder>(buffer: &mut B, end: usize, window: u8, octets: &[u8]) -> usize
+    requires room { end + 34 ≤ length (B.octets buffer.old) }
+    requires small { end + 34 < 2 ^ 64 }
+    requires fits { length octets.now ≤ 32 }
+    ensures written { take result (B.octets buffer.new) ≡ take end (B.octets buffer.old)
+        ++ octets_of_blocks (block_if_any window (trimmed octets.now)) }
+    ensures size { length (B.octets buffer.new) ≡ length (B.octets buffer.old) }
+    ensures grows { result ≤ end + 34 }
+{
+    let len = used_len(octets);
+    if len == 0 {
+        return end;
+    }
+    write_at(buffer, end, &[window, len as u8]);
+    write_at(buffer, end + 2, &octets[..len]);
+    end + 2 + len
+}
+
+/// Writes the blocks in the order of their windows, and says where they end.
+fn pack_all<B: OctetsBuilder>(buffer: &mut B) -> usize
+    requires { length (B.octets buffer.old) % 34 ≡ 0 }
+    ensures { take result (B.octets buffer.new) ≡ bitmap_octets (holds (B.octets buffer.old)) }
+{
+    let slots = buffer.as_slice();
+    let size = slots.len();
+    let mut octets = [0; TABLE];
+    let mut present = [false; WINDOWS];
+    fill(&mut octets, &mut present, slots);
+    laws::slices_hold_octets(&octets);
+    let mut end = 0;
+    for window in 0..WINDOWS {
+        if !present[window] {
+            continue;
+        }
+        let own = &octets[32 * window..32 * window + 32];
+        end = write_block(buffer, end, window as u8, own);
+    }
+    end
+}
+
+/// Cuts the only block, and says where it ends.
+#[tactic(auto, using(std::proofs::lemmas::Grind::common_steps, crate::proofs::BitmapLemmas::one_steps))]
+fn pack_one<B: OctetsBuilder>(buffer: &mut B) -> usize
+    requires { length (B.octets buffer.old) ≡ 34 }
+    ensures { take result (B.octets buffer.new) ≡ bitmap_octets (holds (B.octets buffer.old)) }
+{
+    let slots = buffer.as_slice();
+    laws::slices_hold_octets(slots);
+    let len = used_len(&slots[2..]);
+    if len == 0 {
+        return 0;
+    }
+    write_at(buffer, 1, &[len as u8]);
+    len + 2
+}
+
+/// Writes a builder's blocks in the order of their windows, each cut after its last octet with a
+/// type, and says where they end. Takes no memory.
+#[tactic(auto, using(crate::proofs::BitmapLemmas::holds_nothing))]
+pub(crate) fn pack<B: OctetsBuilder>(buffer: &mut B) -> usize
+    requires { length (B.octets buffer.old) % 34 ≡ 0 }
+    ensures { take result (B.octets buffer.new) ≡ bitmap_octets (holds (B.octets buffer.old)) }
+{
+    let len = buffer.as_slice().len();
+    if len == 0 {
+        return 0;
+    }
+    if len == SLOT {
+        pack_one(buffer)
+    } else {
+        pack_all(buffer)
     }
 }

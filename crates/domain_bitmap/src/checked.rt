@@ -4,8 +4,8 @@ ghost use Rattle.std.specs.{declared.cmp.Ordering.Ordering, Ordering.nat_cmp};
 ghost use Rattle.std.specs.Cmp.{IsTotalOrder, partial_equiv_from_equiv, po};
 ghost use Rattle.std.specs.Cmp.Lexicographic.{slice_cmp, nat_list_cmp_total, nat_list_eq_equiv, texts_ties};
 ghost use Rattle.std.specs.Hash as fed;
-ghost use Rattle.domain_octets.specs.{Limit.IsOver, Words.Octets};
-ghost use Rattle.domain_bitmap.specs.Laws.{octets_fed};
+ghost use Rattle.domain_octets.specs.Octets.{IsOver, Octets};
+ghost use Rattle.domain_bitmap.specs.Blocks.{octets_fed};
 
 use domain_base::CanonicalOrd;
 use domain_octets::{AppendError, CopyOctets, Octets, OctetsFrom, OutOfMemory, TryClone};

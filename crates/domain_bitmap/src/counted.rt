@@ -1,8 +1,8 @@
 //! Octets that an octet counts: salts and hashes of owner names (RFC 5155, sections 3.1.5 and
 //! 3.1.7).
 ghost use Rattle.std.specs.Prelude.{◌≡◌, ◌≤◌, ◌↔◌, ◌∷◌, [], length, IsOk, IfOk, IfErr, OnErr};
-ghost use Rattle.domain_octets.specs.{Place.Takes};
-ghost use Rattle.domain_bitmap.specs.Counted.{by_length, by_length_total, IsCutShort};
+ghost use Rattle.domain_octets.specs.Octets.{Takes};
+ghost use Rattle.domain_bitmap.specs.Text.{by_length, by_length_total, IsCutShort};
 
 use crate::{CheckedOctets, OctetsKind};
 use bytes::Bytes;

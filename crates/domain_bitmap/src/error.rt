@@ -1,7 +1,7 @@
 //! Why octets are no list of blocks.
 ghost use Rattle.std.specs.Prelude.{◌≡◌, Some};
-ghost use Rattle.domain_names.specs.Fault.{fault_of};
-ghost use Rattle.domain_bitmap.specs.Fault.{bitmap_fault_of, bitmap_error_text};
+ghost use Rattle.domain_names.specs.Wire.{fault_of};
+ghost use Rattle.domain_bitmap.specs.Blocks.{bitmap_fault_of, bitmap_error_text};
 
 use domain_base::ParseError;
 use std::error::Error;
@@ -17,7 +17,7 @@ pub enum RtypeBitmapError {
 }
 
 impl fmt::Display for RtypeBitmapError {
-    // These texts stand once more in specs/Fault.antt: both change together.
+    // These texts stand once more in specs/Blocks.antt: both change together.
     ghost output = { λ e. Some (bitmap_error_text e) };
 
     fn fmt<W: fmt::Write>(&self, f: &mut fmt::Formatter<W>) -> fmt::Result {

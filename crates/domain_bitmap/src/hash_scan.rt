@@ -3,8 +3,8 @@ ghost use Rattle.std.specs.Prelude.{◌≡◌, ◌≤◌, ◌↔◌, IfOk, IsTru
 ghost use Rattle.domain_codecs.specs.Codec.{Decodes};
 ghost use Rattle.domain_codecs.specs.declared.codec.Codec.TheVariants as codec;
 ghost use Rattle.domain_base.specs.Scan.{OneToken, ReadsTokens, RefusesToken};
-ghost use Rattle.domain_bitmap.specs.HashText.{OwnerHashText, SaltText};
-ghost use Rattle.domain_bitmap.specs.HashScan.{CountedFault, SaltTokenFault, BeginsWithDash};
+ghost use Rattle.domain_bitmap.specs.Text.{OwnerHashText, SaltText, CountedFault, SaltTokenFault};
+ghost use Rattle.domain_bitmap.specs.Text.{BeginsWithDash};
 
 use crate::{CountedOctets, Nsec3Salt, OwnerHash};
 use domain_base::{ScanError, Scanner};
@@ -74,7 +74,7 @@ impl<O: FromBuilder + Drop> Nsec3Salt<O> {
     /// `Custom("illegal NSEC3 salt")` for a dash with something after it, `Custom("illegal data")`
     /// for another token that is not in Base 16, else want of room or of memory, else
     /// `Custom("illegal NSEC3 salt")` where it stands for over 255 octets.
-    #[tactic(auto, using(std::proofs::lemmas::Grind::common_steps, crate::proofs::SaltLemmas::salt_steps))]
+    #[tactic(auto, using(std::proofs::lemmas::Grind::common_steps, crate::proofs::TextLemmas::salt_steps))]
     pub fn scan<S: Scanner<Octets = O>>(alloc: Global, scanner: &mut S) -> Result<Self, ScanError>
         ensures { ReadsTokens (OneToken SaltText) (λ salt. salt)
             (RefusesToken (SaltTokenFault O.Builder.limit)) (S.tokens scanner.old)

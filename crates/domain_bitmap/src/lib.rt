@@ -38,11 +38,8 @@ mod iter;
 pub mod laws;
 mod list;
 mod owner_hash;
-mod pack;
 mod salt;
 mod scan;
-mod slots;
-mod text;
 
 pub use bitmap::{Blocks, RtypeBitmap};
 pub use builder::RtypeBitmapBuilder;

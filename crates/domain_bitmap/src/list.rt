@@ -1,6 +1,6 @@
 //! Many sets of types in little memory.
 ghost use Rattle.std.specs.Prelude.{◌≡◌, ◌≤◌, ◌∷◌, ◌++◌, ◌↔◌, [], length, slice_index, slice_index_or, IsTrue, IfSome, IfNone, OnOk, OnErr};
-ghost use Rattle.domain_octets.specs.Words.{Octets};
+ghost use Rattle.domain_octets.specs.Octets.{Octets};
 
 use crate::RtypeBitmap;
 use domain_octets::{Octets, OutOfMemory};
@@ -18,8 +18,8 @@ pub struct RtypeBitmaps {
 
 impl Model for RtypeBitmaps {
     ghost use Rattle.std.specs.Prelude.{List};
-    ghost use Rattle.domain_octets.specs.Words.{Octets};
-    ghost use Rattle.domain_bitmap.specs.List.{parts_of, AreBitmaps};
+    ghost use Rattle.domain_octets.specs.Octets.{Octets};
+    ghost use Rattle.domain_bitmap.specs.Blocks.{parts_of, AreBitmaps};
 
     ghost Value = { List Octets };
 

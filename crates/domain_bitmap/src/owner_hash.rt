@@ -1,7 +1,7 @@
 //! Hashed owner names (RFC 5155, section 3.1.7), and their text (section 3.3).
 ghost use Rattle.std.specs.Prelude.{IfOk, IfErr, Some, codes};
 ghost use Rattle.domain_codecs.specs.Base32.{base32_upper};
-ghost use Rattle.domain_bitmap.specs.HashText.{HashFault, OwnerHashText};
+ghost use Rattle.domain_bitmap.specs.Text.{HashFault, OwnerHashText};
 
 use crate::CountedOctets;
 use domain_codecs::{DecodeError, base32};

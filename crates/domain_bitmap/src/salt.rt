@@ -1,6 +1,6 @@
 //! The salt of hashed owner names (RFC 5155, section 3.1.5), and its text (section 3.3).
 ghost use Rattle.std.specs.Prelude.{IfOk, IfErr, Some, codes};
-ghost use Rattle.domain_bitmap.specs.HashText.{SaltText, SaltFault, salt_error_text, salt_text};
+ghost use Rattle.domain_bitmap.specs.Text.{SaltText, SaltFault, salt_error_text, salt_text};
 ghost use Rattle.domain_bitmap.specs.Pieces.{salt_comment, salt_pieces};
 
 use crate::CountedOctets;

@@ -1,14 +1,18 @@
 //! Sets of types from tokens.
-ghost use Rattle.std.specs.Prelude.{◌≡◌, ℕ, ◌<◌, [], IfOk, IfErr};
-ghost use Rattle.domain_names.specs.TextFault.{scan_fault_of};
+ghost use Rattle.std.specs.Prelude.{◌≡◌, ℕ, ◌<◌, [], IfOk, IfErr, Some};
+ghost use Rattle.domain_names.specs.Text.{scan_fault_of};
 ghost use Rattle.domain_base.specs.Types.{Rtypes};
-ghost use Rattle.domain_bitmap.specs.{Bitmap.bitmap_octets, Builder.holds};
-ghost use Rattle.domain_bitmap.specs.Scan.{TypeTexts, RefusesTypes, is_among};
+ghost use Rattle.domain_bitmap.specs.{Bitmap.bitmap_octets, Blocks.{holds, types_of}, Text.TypeTexts};
+ghost use Rattle.domain_bitmap.specs.{Text.{RefusesTypes, is_among, types_text}, Pieces.type_pieces};
 
 use crate::{RtypeBitmap, RtypeBitmapBuilder};
 use domain_base::{FromToken, Rtype, ScanError, Scanner};
-use domain_octets::{EmptyBuilder, FreezeBuilder, FromBuilder, OctetsBuilder, Truncate};
+use domain_octets::{
+    EmptyBuilder, Formatter, FreezeBuilder, FromBuilder, Octets, OctetsBuilder, OutOfMemory,
+    Truncate, ZonefileFmt,
+};
 use std::alloc::Global;
+use std::fmt::{self, Display};
 
 /// Adds the types that all tokens that are left spell.
 fn add_all<B: OctetsBuilder, S: Scanner>(
@@ -56,5 +60,42 @@ where
         let mut builder = RtypeBitmapBuilder::<O::Builder>::new(alloc);
         add_all(&mut builder, scanner)?;
         Ok(builder.finalize())
+    }
+}
+
+/// The types with one space between them (RFC 4034, section 4.2).
+impl<O: Octets> Display for RtypeBitmap<O> {
+    ghost output = { λ b. Some (types_text (types_of b)) };
+
+    fn fmt<W: fmt::Write>(&self, f: &mut fmt::Formatter<W>) -> fmt::Result {
+        let mut types = self.iter();
+        let Some(first) = types.next() else {
+            return Ok(());
+        };
+        write!(f, "{first}")?;
+        while let Some(rtype) = types.next() {
+            write!(f, " {rtype}")?;
+        }
+        Ok(())
+    }
+}
+
+impl<O: Octets> fmt::Debug for RtypeBitmap<O> {
+    fn fmt<W: fmt::Write>(&self, f: &mut fmt::Formatter<W>) -> fmt::Result {
+        write!(f, "RtypeBitmap({self})")
+    }
+}
+
+/// A token for each type.
+impl<O: Octets> ZonefileFmt for RtypeBitmap<O> {
+    ghost pieces = { λ b. type_pieces (types_of b) };
+
+    #[tactic(auto, using(std::proofs::lemmas::Grind::common_steps), unfolding(crate::specs::Pieces::type_pieces))]
+    fn fmt<F: Formatter>(&self, formatter: &mut F) -> Result<(), OutOfMemory> {
+        let mut types = self.iter();
+        while let Some(rtype) = types.next() {
+            formatter.write_token(&rtype)?;
+        }
+        Ok(())
     }
 }

@@ -1,11 +1,15 @@
--- The data of records, read whole.
-use Rattle.std.proofs.{Common.{arith, ◌≡◌, ℕ, List, []}, lemmas.Grind.common_steps}
-use Rattle.domain_names.specs.Fault.{Fault}
-use Rattle.domain_fields.specs.Layout.{Values, Begins, FirstFault}
+-- Records whose data are octets.
+use Rattle.std.proofs.Common.{arith, ◌≡◌, ℕ, List, [], ◌<◌, ◌+◌, ◌∷◌, ◌++◌, length, take, drop, refl, sym, ap, ◌∙◌, append_assoc, length-append}
+use Rattle.std.proofs.lemmas.{Grind.common_steps, List.{take_at, drop_at}}
+use Rattle.domain_names.specs.{Wire.Fault, Name.wire_of}
+use Rattle.domain_fields.{specs.Layout.{Values, Begins, FirstFault, octets_of}, proofs.{ExactLemmas.fault_excludes, LayoutLemmas.{same_data, Same}}}
 use Rattle.domain_chain_rdata.{specs.Rdata.{nsec, nsec3, nsec3param}, proofs.DataLemmas.{nsec_back, nsec3_back, params_back}}
 use Rattle.domain_nsec.specs.Chain.{Link}
 use Rattle.domain_nsec3.specs.Chain.{HashedLink, ParamRecord}
-use Rattle.domain_borrowed.specs.{Data.RawRecord, Links.{nsec_record, nsec3_record, param_record, IsNsec, IsNsec3, IsParam}}
+use Rattle.domain_borrowed.specs.Data.{RawRecord, nsec_record, nsec3_record, param_record, IsNsec, IsNsec3, IsParam, header, header_of, record_octets}
+use Rattle.domain_borrowed.specs.Data.{IsOneRecord, IsRecord}
+
+-- ---- The data of records, read whole.
 
 -- octets with a fault are no such data
 pub no_nsec : (q : RawRecord) (fault : Fault) → FirstFault nsec q.«data».octets fault → (k : Link) → q ≡ nsec_record k → IsNsec k → ⊥
@@ -21,3 +25,66 @@ no_param q fault found k e is = grind (arith, common_steps, params_back)
 pub no_whole_param : (q : RawRecord) (v : Values nsec3param) (after : List ℕ) → Begins nsec3param q.«data».octets v after → (after ≡ [] → ⊥)
     → (k : ParamRecord) → q ≡ param_record k → IsParam k → ⊥
 no_whole_param q v after b some k e is = grind (arith, common_steps, params_back)
+
+-- ---- Octets begin with one record at most.
+
+-- the header of a record stands before its data
+header_first : (r : RawRecord) (after : List ℕ) → record_octets r ++ after ≡ octets_of header (header_of r) ++ (r.«data».octets ++ after)
+header_first r after = append_assoc (octets_of header (header_of r)) r.«data».octets after
+
+begins_header : (r : RawRecord) (octets after : List ℕ) → IsRecord r → octets ≡ record_octets r ++ after
+    → Begins header octets (header_of r) (r.«data».octets ++ after)
+begins_header r octets after fits e = grind (arith, common_steps)
+
+-- a header with a fault begins no record
+pub faulty_header : (octets : List ℕ) (fault : Fault) → FirstFault header octets fault
+    → (r : RawRecord) (after : List ℕ) → IsRecord r → octets ≡ record_octets r ++ after → ⊥
+faulty_header octets fault found r after fits e = grind (arith, common_steps, fault_excludes)
+
+same_header : (v : Values header) (octets left : List ℕ) → Begins header octets v left
+    → (r : RawRecord) (after : List ℕ) → IsRecord r → octets ≡ record_octets r ++ after → Same v (header_of r) left (r.«data».octets ++ after)
+same_header v octets left front r after fits e =
+    same_data header v _ left _ refl front.fits fits (sym front.parts ∙ e ∙ header_first r after)
+
+-- nor does one whose data are cut
+pub cut_data : (v : Values header) (octets left : List ℕ) → Begins header octets v left → length left < v.1.1.1.1
+    → (r : RawRecord) (after : List ℕ) → IsRecord r → octets ≡ record_octets r ++ after → ⊥
+cut_data v octets left front short r after fits e =
+    let s = same_header v octets left front r after fits e in
+    let count : v.1.1.1.1 ≡ length r.«data».octets = ap (λ (u : Values header). u.1.1.1.1) s.values in
+    let long : length left ≡ length r.«data».octets + length after = ap length s.after ∙ length-append _ after in
+    absurd (omega arith)
+
+pub same_record : (q r : RawRecord) (x y : List ℕ) → IsRecord q → IsRecord r → record_octets q ++ x ≡ record_octets r ++ y → IsOneRecord q r x y
+same_record q r x y fits_q fits_r e =
+    let s = same_header _ _ _ (begins_header q _ x fits_q refl) r y fits_r e in
+    let as_long : length q.«data».octets ≡ length r.«data».octets = ap (λ (u : Values header). u.1.1.1.1) s.values in
+    let same : q.«data».octets ≡ r.«data».octets = sym (take_at _ x _ refl)
+    ∙ ap (take (length q.«data».octets)) s.after ∙ take_at _ y _ (sym as_long) in
+    record {
+      records = λ i. record {
+        owner = (s.values i).0;
+        class = (s.values i).1.1.0;
+        ttl = (s.values i).1.1.1.0;
+        «data» = record { rtype = (s.values i).1.0; octets = same i };
+      };
+      after = sym (drop_at q.«data».octets x _ refl) ∙ ap (drop (length q.«data».octets)) s.after
+          ∙ drop_at _ y _ (sym as_long);
+    }
+
+named_octets : (labels : List (List ℕ)) (after : List ℕ) → wire_of labels ++ after ≡ [] → ⊥
+named_octets [] after e = absurd (cc)
+named_octets (label ∷ labels) after e = absurd (cc)
+
+-- a record has octets
+pub some_octets : (r : RawRecord) (after : List ℕ) → record_octets r ++ after ≡ [] → ⊥
+unfolding octets_of
+some_octets r after e = named_octets r.owner _ (sym (append_assoc (wire_of r.owner) _ _) ∙ sym (header_first r after) ∙ e)
+
+not_empty : (octets : List ℕ) → (octets ≡ [] → ⊥) → 0 < length octets
+not_empty [] some = absurd (some refl)
+not_empty (octet ∷ octets) some = omega arith
+
+-- less is left after a record
+pub shorter : (r : RawRecord) (left after : List ℕ) → left ≡ record_octets r ++ after → length after < length left
+shorter r left after e = grind (arith, common_steps, some_octets)

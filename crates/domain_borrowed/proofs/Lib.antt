@@ -1,3 +1,2 @@
 pub mod DataLemmas
 pub mod MinimumLemmas
-pub mod WireLemmas

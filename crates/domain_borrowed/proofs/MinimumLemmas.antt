@@ -1,7 +1,7 @@
 -- The MINIMUM of an SOA as the last of its octets.
 use Rattle.std.proofs.{lemmas.Grind.common_steps, Common.{◌≡◌, ℕ, ◌<◌, ◌^◌, List, ◌++◌, Some, sym, ap, ◌∙◌, arith, append_assoc}}
 use Rattle.std.specs.Int.{w32, to_be_bytes}
-use Rattle.domain_fields.specs.{Field.{long, name}, Layout.{Values, octets_of, one, ◌▸◌}}
+use Rattle.domain_fields.specs.Layout.{long, name, Values, octets_of, one, ◌▸◌}
 use Rattle.domain_borrowed.specs.Data.{last_long}
 use Rattle.domain_plain.specs.Plain.{soa}
 

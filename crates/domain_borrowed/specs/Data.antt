@@ -1,12 +1,18 @@
--- Records whose data are octets.
-use Rattle.std.specs.{Prelude.{ℕ, ◌==◌, ◌-◌, List, length, drop, nat_lt, Option, Some, None, if◌then◌else◌}, Int.{w32, from_be_bytes}}
-use Rattle.std.specs.{declared.cmp.Ordering.Ordering, Ordering.{nat_cmp, on, then_cmp}, Cmp.{IsTotalOrder, on_total, then_total, nat_cmp_total}}
-use Rattle.std.specs.Cmp.Lexicographic.{slice_cmp, on_texts}
-use Rattle.domain_octets.specs.Words.{Octets}
-use Rattle.domain_base.specs.Types as rtypes
-use Rattle.domain_names.specs.Words.{Name}
+-- Records whose data are octets: as links of chains, and as they stand in a message.
+use Rattle.std.specs.{Prelude.{ℕ, ◌==◌, ◌-◌, List, length, drop, nat_lt, Option, Some, None, if◌then◌else◌, ◌≡◌, ◌++◌}, Int.w32}
+use Rattle.std.specs.{Int.from_be_bytes, declared.cmp.Ordering.Ordering, Ordering.{nat_cmp, on, then_cmp}, Cmp.{IsTotalOrder, on_total}}
+use Rattle.std.specs.Cmp.{then_total, nat_cmp_total, Lexicographic.{slice_cmp, on_texts}}
+use Rattle.domain_octets.specs.Octets.{Octets}
+use Rattle.domain_names.specs.Name.{Name}
 use Rattle.domain_record.specs.declared.record.Record.{Record}
-use Rattle.domain_zone.specs.{Zone.ZoneRecord, View.zone_of}
+use Rattle.domain_zone.specs.Zone.{ZoneRecord, zone_of}
+use Rattle.domain_fields.specs.Layout.{Values, Fits, octets_of, Layout, one, ◌▸◌, name, short, long}
+use Rattle.domain_chain_rdata.specs.Rdata.{nsec, nsec3, nsec3param}
+use Rattle.domain_nsec.specs.Chain.{Link}
+use Rattle.domain_nsec3.specs.Chain.{HashedLink, ParamRecord}
+use Rattle.domain_base.specs.Types as rtypes
+
+-- ---- Records whose data are octets.
 
 -- data of a type as octets
 pub record RawData : Type 0 where
@@ -37,3 +43,103 @@ data_cmp = then_cmp (on (λ d. d.rtype) nat_cmp) (on (λ d. d.octets) (slice_cmp
 
 pub data_cmp_total : IsTotalOrder data_cmp
 data_cmp_total = then_total (on_total (λ d. d.rtype) nat_cmp_total) (on_texts (λ d. d.octets))
+
+-- ---- Records of chains as octets.
+
+-- ---- NSEC
+
+abbrev pub next_values : Link → Values nsec
+next_values k = (k.next, k.bits)
+
+-- the record of a link (RFC 4034, section 4.1)
+abbrev pub nsec_record : Link → RawRecord
+nsec_record k =
+    record {
+      owner = k.owner;
+      class = k.class;
+      ttl = k.ttl;
+      «data» = record { rtype = rtypes.nsec; octets = octets_of nsec (next_values k) };
+    }
+
+-- the next name and the bitmap have such octets
+abbrev pub IsNsec : Link → Type 0
+IsNsec k = Fits nsec (next_values k)
+
+-- ---- NSEC3
+
+abbrev pub hash_values : HashedLink → Values nsec3
+hash_values k =
+    let p = k.parameters in
+    ((((p.algorithm, (k.flags, p.iterations)), p.salt), k.next), k.bits)
+
+-- the record of a link (RFC 5155, section 3.2)
+abbrev pub nsec3_record : HashedLink → RawRecord
+nsec3_record k =
+    record {
+      owner = k.owner;
+      class = k.class;
+      ttl = k.ttl;
+      «data» = record { rtype = rtypes.nsec3; octets = octets_of nsec3 (hash_values k) };
+    }
+
+-- the fields and the bitmap have such octets
+abbrev pub IsNsec3 : HashedLink → Type 0
+IsNsec3 k = Fits nsec3 (hash_values k)
+
+-- ---- NSEC3PARAM
+
+abbrev pub param_values : ParamRecord → Values nsec3param
+param_values k =
+    let p = k.parameters in
+    ((p.algorithm, (k.flags, p.iterations)), p.salt)
+
+-- the record of parameters (RFC 5155, section 4.2)
+abbrev pub param_record : ParamRecord → RawRecord
+param_record k =
+    record {
+      owner = k.owner;
+      class = k.class;
+      ttl = k.ttl;
+      «data» = record { rtype = rtypes.nsec3param; octets = octets_of nsec3param (param_values k) };
+    }
+
+-- the fields have such octets
+abbrev pub IsParam : ParamRecord → Type 0
+IsParam k = Fits nsec3param (param_values k)
+
+-- ---- Records as they stand in a message, without compression (RFC 1035, sections 3.2.1 and 4.1.3).
+
+-- owner, type, class, TTL and the length of the data
+abbrev pub header : Layout
+header = one name ▸ one short ▸ one short ▸ one long ▸ one short
+
+abbrev pub header_of : RawRecord → Values header
+header_of r = (r.owner, (r.«data».rtype, (r.class, (r.ttl, length r.«data».octets))))
+
+abbrev pub record_octets : RawRecord → Octets
+record_octets r = octets_of header (header_of r) ++ r.«data».octets
+
+-- its parts have such octets
+abbrev pub IsRecord : RawRecord → Type 0
+IsRecord r = Fits header (header_of r)
+
+-- a record of an owner and data of any kind, with the octets of the data
+abbrev pub raw_record : {N D : Type 0} → (N → Name) → (D → ℕ) → (D → Octets) → N → ℕ → ℕ → D
+    → RawRecord
+raw_record labels rtype octets owner class ttl d =
+    record {
+      owner = labels owner;
+      class = class;
+      ttl = ttl;
+      «data» = record { rtype = rtype d; octets = octets d };
+    }
+
+abbrev pub raw_record_of : {N D : Type 0} → (N → Name) → (D → ℕ) → (D → Octets) → Record N D
+    → RawRecord
+raw_record_of labels rtype octets r =
+    raw_record labels rtype octets r.owner r.class r.ttl r.«data»
+
+-- octets that begin with both records begin with one record, and what follows it is the same
+pub record IsOneRecord (q r : RawRecord) (x y : Octets) : Type 0 where
+  pub records : q ≡ r
+  pub after : x ≡ y

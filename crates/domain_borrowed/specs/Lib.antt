@@ -1,3 +1,1 @@
 pub mod Data
-pub mod Links
-pub mod Wire

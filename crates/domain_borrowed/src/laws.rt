@@ -1,10 +1,9 @@
 //! What holds of records and data as octets. A caller calls the law in its body.
 ghost use Rattle.std.specs.Prelude.{◌≡◌, ◌<◌, ◌^◌, ◌++◌, Some};
-ghost use Rattle.domain_octets.specs.Words.{Octets};
+ghost use Rattle.domain_octets.specs.Octets.{Octets};
 ghost use Rattle.domain_base.specs.Types as rtypes;
 ghost use Rattle.domain_fields.specs.Layout.{canonical_of};
-ghost use Rattle.domain_borrowed.specs.Data.{minimum_of, RawRecord};
-ghost use Rattle.domain_borrowed.specs.Wire.{record_octets, IsOneRecord, IsRecord};
+ghost use Rattle.domain_borrowed.specs.Data.{minimum_of, RawRecord, record_octets, IsOneRecord, IsRecord};
 ghost use Rattle.domain_plain.specs.{Plain.{soa, soa_values}, declared.soa.Soa.Soa};
 
 use domain_base::ToName;

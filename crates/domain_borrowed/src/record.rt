@@ -1,12 +1,12 @@
 //! Records that lie in octets, and their data as those of chains.
 ghost use Rattle.std.specs.Prelude.{◌≡◌, ◌==◌, ◌&&◌, ℕ, Bool, IfNone, IfSome};
 ghost use Rattle.domain_base.specs.Types as rtypes;
-ghost use Rattle.domain_names.specs.{Name.same_name, Words.Name};
-ghost use Rattle.domain_nsec.specs.{Chain.Link, ChainView.as_link};
+ghost use Rattle.domain_names.specs.Name.{same_name, Name};
+ghost use Rattle.domain_nsec.specs.Chain.{Link, as_link};
 ghost use Rattle.domain_nsec3.specs.Chain.{HashedLink, ParamRecord};
 ghost use Rattle.domain_nsec3.specs.View.{as_hashed_link, as_param_record};
-ghost use Rattle.domain_borrowed.specs.Data.{RawRecord};
-ghost use Rattle.domain_borrowed.specs.Links.{nsec_record, nsec3_record, param_record, IsNsec, IsNsec3, IsParam};
+ghost use Rattle.domain_borrowed.specs.Data.{RawRecord, nsec_record, nsec3_record, param_record, IsNsec};
+ghost use Rattle.domain_borrowed.specs.Data.{IsNsec3, IsParam};
 
 use crate::BorrowedData;
 use domain_base::{ParsedName, Rtype, ToName};

@@ -1,9 +1,8 @@
 //! Records as they lie in a message (RFC 1035, section 4.1.3).
 ghost use Rattle.std.specs.Prelude.{◌≡◌, ◌≤◌, ◌++◌, length, IfNone, IfSome};
-ghost use Rattle.domain_octets.specs.Words.{Octets};
-ghost use Rattle.domain_fields.specs.Target.{Appends};
-ghost use Rattle.domain_borrowed.specs.Data.{RawRecord};
-ghost use Rattle.domain_borrowed.specs.Wire.{raw_record, raw_record_of, record_octets, IsRecord};
+ghost use Rattle.domain_octets.specs.Octets.{Octets};
+ghost use Rattle.domain_fields.specs.Layout.{Appends};
+ghost use Rattle.domain_borrowed.specs.Data.{RawRecord, raw_record, raw_record_of, record_octets, IsRecord};
 
 use crate::{BorrowedData, BorrowedRecord};
 use domain_base::{Class, ParsedName, Rtype, ToName, Ttl};
@@ -46,7 +45,7 @@ pub fn read_record<'a>(parser: &mut Parser<'a>) -> Option<BorrowedRecord<'a>>
 ///
 /// `ShortBuf` exactly where the octets would pass the limit of the builder; and `OutOfMemory`. Both
 /// leave what stood, and a beginning of the octets.
-#[tactic(auto, using(domain_fields::proofs::TargetLemmas::appends_more))]
+#[tactic(auto, using(domain_fields::proofs::LayoutLemmas::appends_more))]
 pub fn compose_parts<N: ToName, D: ComposeRecordData, B: OctetsBuilder>(
     owner: &N,
     class: Class,

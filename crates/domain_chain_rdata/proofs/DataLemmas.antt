@@ -1,10 +1,10 @@
 -- data of chains: their octets are read back, and how they are written
 use Rattle.std.proofs.{Common.{arith, ◌≡◌, ℕ, List, [], ◌∷◌, ◌++◌, refl}, lemmas.Grind.common_steps}
 use Rattle.std.specs.{Prelude.codes, Fmt.decimal}
-use Rattle.domain_octets.specs.Piece.{PieceText, token, comment}
+use Rattle.domain_octets.specs.Text.{PieceText, token, comment}
 use Rattle.domain_bitmap.specs.Text.{types_text, spaced_types}
 use Rattle.domain_fields.{specs.Layout.{Values, Fits, ParsesBack}, proofs.ExactLemmas.parses_back}
-use Rattle.domain_chain_rdata.specs.{Rdata.{nsec, nsec3param, nsec3}, Nsec3paramText.number_pieces}
+use Rattle.domain_chain_rdata.specs.{Rdata.{nsec, nsec3param, nsec3}, Text.number_pieces}
 
 -- octets of fields that fit are read as them alone
 pub nsec_back : (v : Values nsec) → Fits nsec v → ParsesBack nsec v

@@ -1,3 +1,2 @@
 pub mod DataLemmas
 pub mod TextLemmas
-pub mod ReadBackLemmas

@@ -1,7 +1,3 @@
 pub mod Rdata
-pub mod Laws
-pub mod NsecText
+pub mod Text
 pub mod NsecConvert
-pub mod OptOut
-pub mod Nsec3paramText
-pub mod Nsec3Text

@@ -1,8 +1,14 @@
--- the fields of record data, in the order of the wire
-use Rattle.domain_octets.specs.Words.{Octets}
-use Rattle.domain_fields.specs.{Field.{octet, short, name, spelled_name, counted, rest, types}, Layout.{Layout, one, ◌▸◌, Values, octets_of}}
+-- The data of chains: their fields in the order of the wire, and the flag of opt-out.
+use Rattle.std.{proofs.Common.{bytes_eq, refl}, specs.{List.flat_map, Ordering.{on, eq_of_both}, Hash.Alike, Cmp.{first_so, second_so}}}
+use Rattle.std.specs.{Cmp.Lexicographic.bytes_decides, Prelude.{ℕ, Bool, bit_or, codes, if◌then◌else◌}}
+use Rattle.domain_octets.specs.Octets.{Octets}
+use Rattle.domain_fields.specs.Layout.{octet, short, name, spelled_name, counted, rest, types, Layout, one, ◌▸◌, Values, octets_of}
+use Rattle.domain_fields.specs.Layout.{canonical_of, has_flag}
 use Rattle.domain_chain_rdata.specs.declared.{nsec.Nsec.Nsec, nsec3.Nsec3.Nsec3, nsec3param.Nsec3param.Nsec3param}
-use Rattle.domain_names.specs.Words.{Name}
+use Rattle.domain_names.specs.{Name.{Name, same_name}, Laws.same_name_same}
+use Rattle.std.specs.Hash as fed
+
+-- ---- the fields of record data, in the order of the wire
 
 -- the next name, whose case the canonical form keeps (RFC 6840, section 5.1), and the type bitmap
 -- (RFC 4034, section 4.1)
@@ -50,3 +56,29 @@ nsec3_values d = ((((d.hash_algorithm, (d.flags, d.iterations)), d.salt), d.next
 
 abbrev pub nsec3_octets : {O : Type 0} → Nsec3 O → Octets
 nsec3_octets d = octets_of nsec3 (nsec3_values d)
+
+-- ---- what the impls of comparisons cite
+
+-- names that are the same and equal octets are fed alike
+pub nsec_fed : {D : Type 0} (labels : D → Name) (octets : D → Octets)
+    → Alike (eq_of_both (on labels same_name) (on octets bytes_eq))
+    (λ d. flat_map fed.u8 (canonical_of nsec_hashed (labels d, octets d)))
+nsec_fed labels octets = record {
+  fed = λ x y e.
+      let names = (same_name_same (labels x) (labels y)).0 (first_so _ _ e) in
+      let same = (bytes_decides (octets x) (octets y)).0
+      (second_so (same_name (labels x) (labels y)) (bytes_eq (octets x) (octets y)) e) in
+      rw names (rw same refl);
+}
+
+-- ---- the flag of NSEC3 and NSEC3PARAM data (RFC 5155, section 3.1.2)
+
+-- unsigned delegations may be left out of the chain
+abbrev pub is_opt_out : ℕ → Bool
+is_opt_out = has_flag 1
+
+abbrev pub with_opt_out : ℕ → ℕ
+with_opt_out flags = bit_or flags 1
+
+abbrev pub opt_out_comment : ℕ → Octets
+opt_out_comment flags = if is_opt_out flags then codes "flags: opt-out" else codes "flags: <none>"

@@ -4,20 +4,16 @@
 //! sections 3 and 4.
 //!
 //! The crates above may rely on this: data is its fields, of which the last may be a type bitmap.
-//! Its tokens and its pieces are grammars (`specs/NsecText.antt`, `Nsec3Text.antt`,
-//! `Nsec3paramText.antt`); what was composed parses back (`nsec_laws`, `nsec3_laws`). The canonical
-//! order is the lexicographic one of the canonical octets, equality and `Hash` agree with `cmp`,
-//! and no order takes memory.
+//! Its tokens and its pieces are grammars (`specs/Text.antt`); what was composed parses back
+//! (`nsec_laws`, `nsec3_laws`). The canonical order is the lexicographic one of the canonical
+//! octets, equality and `Hash` agree with `cmp`, and no order takes memory.
 #![tactic(auto)]
 
 mod nsec;
 mod nsec3;
 pub mod nsec3_laws;
-mod nsec3_text;
 mod nsec3param;
-mod nsec3param_text;
 pub mod nsec_laws;
-mod nsec_text;
 
 pub use nsec::Nsec;
 pub use nsec3::Nsec3;

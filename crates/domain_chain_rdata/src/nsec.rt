@@ -1,30 +1,34 @@
 //! The next name and the types at a name: written, compared, hashed, copied.
-ghost use Rattle.std.specs.Prelude.{◌≡◌, ◌⊎◌, ◌&&◌, Some, IfOk, IsNone, length};
-ghost use Rattle.std.specs.Prelude.{refl, bytes_eq};
-ghost use Rattle.std.specs.Ordering.{on, nat_cmp, then_cmp, eq_of_both, ordering_then};
-ghost use Rattle.std.specs.Cmp.{on_equiv, on_total, then_total, and_equiv, partial_equiv_from_equiv, po};
+ghost use Rattle.std.specs.Prelude.{◌≡◌, ◌⊎◌, ◌&&◌, Some, IfOk, IsNone, length, refl, bytes_eq, ◌++◌, codes};
+ghost use Rattle.std.specs.{Ordering.{on, nat_cmp, then_cmp, eq_of_both, ordering_then}, Cmp.on_equiv};
+ghost use Rattle.std.specs.Cmp.{on_total, then_total, and_equiv, partial_equiv_from_equiv, po};
 ghost use Rattle.std.specs.Cmp.Lexicographic.{slice_cmp, on_texts, nat_list_cmp_total, nat_list_eq_equiv};
 ghost use Rattle.std.specs.List.{flat_map};
+ghost use Rattle.domain_octets.specs.Octets.{IsOver};
+ghost use Rattle.domain_names.specs.Name.{same_name, canonical_cmp as name_cmp, canonical_cmp_total};
+ghost use Rattle.domain_names.specs.{Laws.same_name_equiv, Wire.fault_of, Text.name_text};
+ghost use Rattle.domain_fields.specs.Layout.{same_values_tie, ties_of_both, octets_of, canonical_of, Begins};
+ghost use Rattle.domain_fields.specs.Layout.{FirstFault, Reads};
+ghost use Rattle.domain_chain_rdata.specs.Rdata.{nsec, nsec_values, nsec_hashed, nsec_fed};
+ghost use Rattle.domain_chain_rdata.specs.{NsecConvert.{IsNsecClone, IsSameNsec}, Text.{NsecText, RefusesNsec}};
+ghost use Rattle.domain_chain_rdata.specs.Text.{nsec_pieces};
+ghost use Rattle.domain_bitmap.specs.{Blocks.types_of, Text.types_text};
+ghost use Rattle.domain_base.specs.Scan.{ReadsTokens};
 ghost use Rattle.std.specs.Hash as fed;
-ghost use Rattle.domain_octets.specs.Limit.{IsOver};
-ghost use Rattle.domain_names.specs.{Name.same_name, Laws.same_name_equiv, Fault.fault_of};
-ghost use Rattle.domain_names.specs.Order.{canonical_cmp as name_cmp, canonical_cmp_total};
 ghost use Rattle.domain_base.specs.Types as rtypes;
-ghost use Rattle.domain_fields.specs.{DataClone.same_values_tie, Laws.ties_of_both};
-ghost use Rattle.domain_fields.specs.Layout.{octets_of, canonical_of, Begins, FirstFault, Reads};
-ghost use Rattle.domain_chain_rdata.specs.Rdata.{nsec, nsec_values, nsec_hashed};
-ghost use Rattle.domain_chain_rdata.specs.{Laws.nsec_fed, NsecConvert.{IsNsecClone, IsSameNsec}};
 
-use domain_base::{CanonicalOrd, ParsedName, Rtype, ToName};
+use domain_base::{CanonicalOrd, ParsedName, Rtype, ScanError, Scanner, ToName};
 use domain_bitmap::RtypeBitmap;
 use domain_fields::{Fields, MAX_RDLEN, ReadFields, Spelled};
 use domain_octets::{
-    AppendError, CopyOctets, FlattenInto, Octets, OctetsBuilder, OctetsFrom, OutOfMemory,
-    ParseError, Parser, TryClone,
+    AppendError, CopyOctets, EmptyBuilder, FlattenInto, Formatter, FreezeBuilder, FromBuilder,
+    Octets, OctetsBuilder, OctetsFrom, OutOfMemory, ParseError, Parser, Truncate, TryClone,
+    ZonefileFmt,
 };
 use domain_record::{CloneRecordData, ComposeRecordData, ParseRecordData, RecordData, both};
 use std::alloc::Global;
 use std::cmp::Ordering;
+use std::fmt;
 use std::hash::{Hash, Hasher};
 
 /// The next name and the types.
@@ -311,5 +315,55 @@ impl<O: Octets, N, T: OctetsFrom<Nsec<O, N>>> FlattenInto<T> for Nsec<O, N> {
 
     fn try_flatten_into(self, alloc: Global) -> Result<T, AppendError> {
         T::try_octets_from(alloc, self)
+    }
+}
+
+impl<O: FromBuilder, N: ToName> Nsec<O, N>
+where
+    O::Builder: EmptyBuilder + Truncate + FreezeBuilder<Frozen = O> + Drop,
+{
+    /// The data that all tokens that are left spell: a name, and then types, one each (RFC 4034,
+    /// section 4.2).
+    ///
+    /// # Errors
+    ///
+    /// As the first token that is refused says: `EndOfEntry` where there is none,
+    /// `Custom("illegal name")`, `Custom("unknown record type")`, `ShortBuf` and `OutOfMemory`
+    /// where a name or the bitmap has no room or no memory. A refusal leaves an end of the tokens.
+    pub fn scan<S: Scanner<Name = N>>(alloc: Global, scanner: &mut S) -> Result<Self, ScanError>
+    where
+        N: Drop,
+        ensures { ReadsTokens NsecText (nsec_values N.labels)
+            (RefusesNsec S.Octets.Builder.limit O.Builder.limit) (S.tokens scanner.old)
+            (S.tokens scanner.new) result }
+    {
+        let next_name = scanner.scan_name(alloc)?;
+        let types = RtypeBitmap::scan(alloc, scanner)?;
+        Ok(Nsec::new(next_name, types))
+    }
+}
+
+/// The next name with its last dot, a space, and the types with single spaces; the space stays
+/// where there are no types.
+impl<O: Octets, N: ToName> fmt::Display for Nsec<O, N> {
+    ghost output = { λ d. Some (name_text (N.labels d.next_name) ++ codes ". "
+        ++ types_text (types_of d.types)) };
+
+    fn fmt<W: fmt::Write>(&self, f: &mut fmt::Formatter<W>) -> fmt::Result {
+        let next_name = self.next_name().fmt_with_dot();
+        let types = self.types();
+        write!(f, "{next_name} {types}")
+    }
+}
+
+/// A block of the next name with its last dot and a token for each type.
+impl<O: Octets, N: ToName> ZonefileFmt for Nsec<O, N> {
+    ghost pieces = { λ d. nsec_pieces (N.labels d.next_name) d.types };
+
+    fn fmt<F: Formatter>(&self, formatter: &mut F) -> Result<(), OutOfMemory> {
+        formatter.begin_block()?;
+        formatter.write_token(&self.next_name().fmt_with_dot())?;
+        self.types().fmt(formatter)?;
+        formatter.end_block()
     }
 }

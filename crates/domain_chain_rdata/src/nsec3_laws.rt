@@ -1,15 +1,13 @@
 //! What holds of the octets and the tokens of hashed names (RFC 5155, sections 3 and 4).
 //! A caller calls the law in its body.
 ghost use Rattle.std.specs.Prelude.{◌≢◌, ℕ, [], Option};
-ghost use Rattle.domain_octets.specs.Line.{words_of};
-ghost use Rattle.domain_names.specs.TextFault.{IsOfTokens};
-ghost use Rattle.domain_bitmap.specs.{Bitmap.bitmap_octets, Blocks.{IsShortest, types_of}};
-ghost use Rattle.domain_bitmap.specs.Scan.{is_among};
-ghost use Rattle.domain_fields.specs.{Layout.ParsesBack, Sequence.IsExact};
-ghost use Rattle.domain_chain_rdata.specs.Nsec3paramText.{Nsec3paramText, RefusesNsec3param, nsec3param_text};
-ghost use Rattle.domain_chain_rdata.specs.Nsec3Text.{HashText, Nsec3Text, RefusesNsec3, nsec3_text};
+ghost use Rattle.domain_octets.specs.Text.{words_of};
+ghost use Rattle.domain_names.specs.Text.{IsOfTokens};
+ghost use Rattle.domain_bitmap.specs.{Bitmap.bitmap_octets, Blocks.{IsShortest, types_of}, Text.is_among};
+ghost use Rattle.domain_fields.specs.{Layout.ParsesBack, Scan.IsExact};
+ghost use Rattle.domain_chain_rdata.specs.Text.{Nsec3paramText, RefusesNsec3param, nsec3param_text, HashText};
+ghost use Rattle.domain_chain_rdata.specs.Text.{Nsec3Text, RefusesNsec3, nsec3_text, RefusesHash};
 ghost use Rattle.domain_chain_rdata.specs.Rdata.{nsec3, nsec3_values, nsec3param, nsec3param_values};
-ghost use Rattle.domain_chain_rdata.specs.Nsec3Text.{RefusesHash};
 
 use crate::{Nsec3, Nsec3param};
 use domain_octets::Octets;

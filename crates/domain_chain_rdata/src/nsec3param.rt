@@ -1,27 +1,30 @@
 //! The parameters of the hashes of a zone's names (RFC 5155, section 4).
-ghost use Rattle.std.specs.Prelude.{◌≡◌, ◌↔◌, [], Some, IsTrue, IfOk, length, refl};
-ghost use Rattle.std.specs.{Prelude.{bytes_eq, IsNone}, List.flat_map, Ordering.{on, nat_cmp}};
-ghost use Rattle.std.specs.Cmp.{partial_equiv_from_equiv, po};
-ghost use Rattle.std.specs.Cmp.Lexicographic.{slice_cmp, on_texts, on_texts_equal};
+ghost use Rattle.std.specs.Prelude.{◌≡◌, ◌↔◌, [], Some, IsTrue, IfOk, length, refl, bytes_eq, IsNone, ◌++◌};
+ghost use Rattle.std.specs.{Prelude.OnOk, List.flat_map, Ordering.{on, nat_cmp}, Cmp.partial_equiv_from_equiv};
+ghost use Rattle.std.specs.Cmp.{po, Lexicographic.{slice_cmp, on_texts, on_texts_equal}};
+ghost use Rattle.domain_octets.specs.Octets.{IsOver};
+ghost use Rattle.domain_names.specs.Wire.{fault_of};
+ghost use Rattle.domain_fields.specs.Layout.{Begins, Fits, FirstFault, Reads, fed_alike, tied_octets};
+ghost use Rattle.domain_fields.specs.Layout.{copies_tied};
+ghost use Rattle.domain_chain_rdata.specs.Rdata.{is_opt_out, with_opt_out, nsec3param, nsec3param_values};
+ghost use Rattle.domain_chain_rdata.specs.Rdata.{nsec3param_octets, uncounted, uncounted_octets};
+ghost use Rattle.domain_chain_rdata.specs.Text.{Nsec3paramText, RefusesNsec3param, hash_numbers_text};
+ghost use Rattle.domain_chain_rdata.specs.Text.{nsec3param_text, number_pieces, nsec3param_pieces};
+ghost use Rattle.domain_base.specs.Scan.{ReadsTokens};
 ghost use Rattle.std.specs.Hash as fed;
-ghost use Rattle.domain_octets.specs.Limit.{IsOver};
-ghost use Rattle.domain_names.specs.Fault.{fault_of};
 ghost use Rattle.domain_base.specs.Types as rtypes;
-ghost use Rattle.domain_fields.specs.{Layout.{Begins, Fits, FirstFault, Reads}, Laws.fed_alike};
-ghost use Rattle.domain_fields.specs.{Laws.tied_octets, DataClone.copies_tied};
-ghost use Rattle.domain_chain_rdata.specs.OptOut.{is_opt_out, with_opt_out};
-ghost use Rattle.domain_chain_rdata.specs.Rdata.{nsec3param, nsec3param_values, nsec3param_octets, uncounted, uncounted_octets};
 
-use domain_base::{CanonicalOrd, Nsec3HashAlgorithm, Rtype};
+use domain_base::{CanonicalOrd, Nsec3HashAlgorithm, Rtype, ScanError, Scanner};
 use domain_bitmap::Nsec3Salt;
-use domain_fields::{Counted, Fields, MAX_RDLEN, ReadFields, Rest};
+use domain_fields::{Counted, Fields, MAX_RDLEN, ReadFields, Rest, ScanFields};
 use domain_octets::{
-    AppendError, CopyOctets, EmptyOctets, Octets, OctetsBuilder, OctetsFrom, OutOfMemory,
-    ParseError, Parser, TryClone, laws,
+    AppendError, CopyOctets, EmptyOctets, Formatter, FromBuilder, Octets, OctetsBuilder,
+    OctetsFrom, OutOfMemory, ParseError, Parser, TryClone, ZonefileFmt, laws,
 };
 use domain_record::{CloneRecordData, ComposeRecordData, ParseRecordData, RecordData};
 use std::alloc::Global;
 use std::cmp::Ordering;
+use std::fmt;
 use std::hash::{Hash, Hasher};
 
 /// The bit of the flags that says that unsigned delegations may be left out of the chain (RFC 5155,
@@ -385,5 +388,70 @@ impl<S: Octets + Drop, O: CopyOctets> OctetsFrom<Nsec3param<S>> for Nsec3param<O
         let (hash_algorithm, flags, iterations, salt) = source.into_parts();
         let salt = Nsec3Salt::try_octets_from(alloc, salt)?;
         Ok(Nsec3param::new(hash_algorithm, flags, iterations, salt))
+    }
+}
+
+impl<O: FromBuilder + Drop> Nsec3param<O> {
+    /// The data that the tokens begin with: hash algorithm, flags and iterations in decimal, and
+    /// the salt in Base 16 or as a dash.
+    ///
+    /// # Errors
+    ///
+    /// That of the first field that is refused. The tokens left are then an end of those before.
+    pub fn scan<S: Scanner<Octets = O>>(alloc: Global, scanner: &mut S) -> Result<Self, ScanError>
+        ensures read { ReadsTokens Nsec3paramText nsec3param_values
+            (RefusesNsec3param O.Builder.limit) (S.tokens scanner.old) (S.tokens scanner.new)
+            result }
+        ensures fits { IfOk result (λ d. Fits nsec3param (nsec3param_values d)) }
+    {
+        let numbers = <HashNumbers as ScanFields<S>>::scan(alloc, scanner)?;
+        let (hash_algorithm, (flags, iterations)) = numbers;
+        let hash_algorithm = Nsec3HashAlgorithm::from_int(hash_algorithm);
+        let salt = Nsec3Salt::scan(alloc, scanner)?;
+        let data = Nsec3param::new(hash_algorithm, flags, iterations, salt);
+        let _fields = data.fields();
+        Ok(data)
+    }
+}
+
+/// Hash algorithm, flags, iterations and salt, with single spaces.
+impl<O: Octets> fmt::Display for Nsec3param<O> {
+    ghost output = { λ d. Some (nsec3param_text (nsec3param_values d)) };
+
+    #[tactic(auto, unfolding(crate::specs::Text::hash_numbers_text))]
+    fn fmt<W: fmt::Write>(&self, f: &mut fmt::Formatter<W>) -> fmt::Result {
+        let (hash_algorithm, (flags, iterations)) = self.numbers();
+        let salt = self.salt();
+        write!(f, "{hash_algorithm} {flags} {iterations} {salt}")
+    }
+}
+
+/// The pieces of the numbers, where this is the comment on the flags.
+#[tactic(auto, using(std::proofs::lemmas::Grind::common_steps, crate::proofs::DataLemmas::numbers_written))]
+pub fn write_numbers<F: Formatter>(
+    numbers: HashNumbers,
+    flags_comment: &str,
+    formatter: &mut F,
+) -> Result<(), OutOfMemory>
+    ensures { OnOk result (F.pieces formatter.new ≡ F.pieces formatter.old
+        ++ number_pieces flags_comment.now numbers) }
+{
+    let (hash_algorithm, (flags, iterations)) = numbers;
+    formatter.write_token(&hash_algorithm)?;
+    formatter.write_token(&flags)?;
+    formatter.write_comment(&flags_comment)?;
+    formatter.write_token(&iterations)?;
+    formatter.write_comment(&"iterations")
+}
+
+/// The fields, with comments on the flags, the iterations and the salt.
+impl<O: Octets> ZonefileFmt for Nsec3param<O> {
+    ghost pieces = { λ d. nsec3param_pieces (nsec3param_values d) };
+
+    fn fmt<F: Formatter>(&self, formatter: &mut F) -> Result<(), OutOfMemory> {
+        formatter.begin_block()?;
+        write_numbers(self.numbers(), "flags", formatter)?;
+        self.salt().fmt(formatter)?;
+        formatter.end_block()
     }
 }

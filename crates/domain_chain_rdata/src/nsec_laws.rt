@@ -1,13 +1,12 @@
 //! What holds of the octets and the text of NSEC data (RFC 4034, section 4).
 //! A caller calls the law in its body.
 ghost use Rattle.std.specs.Prelude.{ℕ, ◌++◌, [], Option, codes};
-ghost use Rattle.domain_octets.specs.Line.{words_of};
+ghost use Rattle.domain_octets.specs.Text.{words_of};
 ghost use Rattle.domain_names.specs.Text.{name_text};
-ghost use Rattle.domain_bitmap.specs.{Bitmap.bitmap_octets, Blocks.{IsShortest, types_of}};
-ghost use Rattle.domain_bitmap.specs.{Scan.is_among, Text.types_text};
-ghost use Rattle.domain_chain_rdata.specs.NsecText.{NsecText, IsOfNsec, RefusesNsec};
-ghost use Rattle.domain_chain_rdata.specs.Rdata.{nsec, nsec_values};
-ghost use Rattle.domain_fields.specs.{Layout.ParsesBack, Sequence.IsExact};
+ghost use Rattle.domain_bitmap.specs.{Bitmap.bitmap_octets, Blocks.{IsShortest, types_of}, Text.is_among};
+ghost use Rattle.domain_bitmap.specs.Text.{types_text};
+ghost use Rattle.domain_chain_rdata.specs.{Text.{NsecText, IsOfNsec, RefusesNsec}, Rdata.{nsec, nsec_values}};
+ghost use Rattle.domain_fields.specs.{Layout.ParsesBack, Scan.IsExact};
 
 use crate::Nsec;
 use domain_base::ToName;
@@ -25,7 +24,7 @@ pub fn nsec_parses_back<O: Octets, N: ToName>(value: &Nsec<O, N>)
 
 /// The words of what NSEC data are written as spell the same name and the same types. They spell
 /// the same bitmap too, if its windows ascend strictly and no block ends in a zero octet.
-#[tactic(auto, using(crate::proofs::ReadBackLemmas::nsec_text_back, crate::proofs::ReadBackLemmas::nsec_text_same))]
+#[tactic(auto, using(crate::proofs::TextLemmas::nsec_text_back, crate::proofs::TextLemmas::nsec_text_same))]
 pub fn nsec_reads_back<O: Octets, N: ToName>(value: &Nsec<O, N>)
     ensures types { NsecText (words_of (name_text (N.labels value.now.next_name) ++ codes ". "
         ++ types_text (types_of value.now.types))) (

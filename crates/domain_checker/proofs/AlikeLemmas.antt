@@ -3,17 +3,17 @@ use Rattle.std.{proofs.Common.{◌≡◌, Bool, ◌||◌, List, [], ◌∷◌, r
 use Rattle.std.{proofs.lemmas.List.{Elements.{All-weaker, recursion_from_All}, Folds.list_all-map}, specs.List.{find, list_any, Contains, AllByRecursion}}
 use Rattle.std.{proofs.lemmas.{Grind.common_steps, List.length-map, Simd.map-map}, specs.{Char.to_ascii_lowercase, Option.option_map_or}}
 use Rattle.domain_codecs.specs.Codec.{base32_value}
-use Rattle.domain_octets.specs.Words.{Octets}
-use Rattle.domain_names.specs.{Name.{is_at_or_below, lowered}, Order.before, Words.{Name, Label}}
+use Rattle.domain_octets.specs.Octets.{Octets}
+use Rattle.domain_names.specs.Name.{is_at_or_below, lowered, before, Name, Label}
 use Rattle.domain_zone.specs.Covering.{covers, matches_or_covers, matches}
 use Rattle.domain_zone.{proofs.NameLemmas.{before_left, before_right, lowered_below, one_lowered, same_itself}, specs.{Enclosers.shared, Zone.ZoneRecord}}
 use Rattle.domain_nsec.specs.Chain.{Link}
-use Rattle.domain_nsec3.specs.{Chain.HashedLink, Config.{ChainConfig, Parameters}, Meaning.octets_before, Owners.original_owners}
-use Rattle.domain_checker.specs.HashedList.{hash_in, is_hash_cover, is_hash_match, is_spelling, owner_hash, read_label, same_parameters}
-use Rattle.domain_checker.specs.{Alike.{ArePaired, IsPairedIn, IsAlike, IsHashedAlike}, declared.verdict.Verdict.{Verdict, TheVariants.OutsideZone}}
-use Rattle.domain_checker.specs.{HashedEncloser.{Encloser, IsFoundEncloser, next_cover}, Reading.{is_cover, is_match, reading, verdict_of_both}}
-use Rattle.domain_checker.specs.{HashedReading.{IsWalked, found_verdict}, HashedVerdict.{IsFirst, hashed_proved_verdict, is_covered, is_matched, next_closer}}
-use Rattle.domain_checker.specs.{HashedView.{HashedRecords, chain_records, first_cover, first_match, with_links}, Verdict.{proved_verdict, closest_encloser}}
+use Rattle.domain_nsec3.specs.{Chain.{HashedLink, ChainConfig, Parameters, original_owners}, Meaning.octets_before}
+use Rattle.domain_checker.specs.HashedVerdict.{hash_in, is_hash_cover, is_hash_match, is_spelling, owner_hash, read_label, same_parameters, IsFirst}
+use Rattle.domain_checker.specs.HashedVerdict.{hashed_proved_verdict, is_covered, is_matched, next_closer, HashedRecords, chain_records, first_cover}
+use Rattle.domain_checker.specs.{HashedVerdict.{first_match, with_links}, Verdict.{ArePaired, IsPairedIn, IsAlike, IsHashedAlike, proved_verdict}}
+use Rattle.domain_checker.specs.{Verdict.closest_encloser, declared.verdict.Verdict.{Verdict, TheVariants.OutsideZone}, HashedReading.Encloser}
+use Rattle.domain_checker.specs.{HashedReading.{IsFoundEncloser, next_cover, IsWalked, found_verdict}, Reading.{is_cover, is_match, reading, verdict_of_both}}
 
 module _ {X : Type 0} (R : X → X → Type 0) where
   -- both are none, or stand so

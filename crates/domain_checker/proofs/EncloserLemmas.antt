@@ -2,12 +2,12 @@
 use Rattle.std.proofs.Common.{◌≡◌, Bool, true, false, cond, refl, Option, Some, None, arith, ℕ, ◌<◌, ◌≤◌, zero, suc, not, List, [], ◌∷◌, map, length, sym, ap}
 use Rattle.std.proofs.{Common.{◌∙◌, inl, inr}, lemmas.{Bool.{cases_Bool, and_parts, and_from, false_from_ne_true}, Grind.common_steps, List.length-map}}
 use Rattle.std.specs.Char.{to_ascii_lowercase}
-use Rattle.domain_names.specs.{Name.{is_at_or_below, is_strictly_below, same_name}, Words.Name}
-use Rattle.domain_zone.proofs.NameLemmas.{one_lowered, below_itself, below_trans, below_length, strictly_longer, same_length, same_itself}
-use Rattle.domain_zone.proofs.{OwnerLemmas.{any_in, in_any, occluder_below, owners_are}, PairLemmas.{In, all_in}, SharedLemmas.{closest_above, parent_below}}
-use Rattle.domain_zone.{proofs.ZoneLemmas.same_back, specs.Enclosers.{IsClosestEncloser, exists_over}}
-use Rattle.domain_zone.specs.Zone.{ZoneRecord, is_zone_cut, occludes, is_occluded, is_unoccluded, unoccluded_owners, owns}
-use Rattle.domain_nsec3.specs.{Config.ChainConfig, Meaning.CutsEnclose, Owners.{is_original_owner, original_owners}}
+use Rattle.domain_names.specs.Name.{is_at_or_below, is_strictly_below, same_name, Name}
+use Rattle.domain_zone.proofs.NameLemmas.{one_lowered, below_itself, below_trans, below_length, strictly_longer, same_length, same_itself, closest_above}
+use Rattle.domain_zone.proofs.{NameLemmas.parent_below, WalkLemmas.{any_in, in_any, occluder_below, owners_are, same_back}, PairLemmas.{In, all_in}}
+use Rattle.domain_zone.specs.{Enclosers.{IsClosestEncloser, exists_over}, Zone.{ZoneRecord, is_zone_cut, occludes, is_occluded, is_unoccluded}}
+use Rattle.domain_zone.specs.Zone.{unoccluded_owners, owns}
+use Rattle.domain_nsec3.specs.{Chain.{ChainConfig, is_original_owner, original_owners}, Meaning.CutsEnclose}
 use Rattle.domain_checker.specs.{HashedVerdict.is_below_chain_cut, Verdict.closest_encloser, declared.verdict.Verdict.{Verdict, TheVariants.NotProven}}
 
 pub choose_by : {V : Type 0} (P : V → Type 0) (b : Bool) (u v : V) → (b ≡ true → P u) → (b ≡ false → P v) → P (cond b u v)

@@ -5,23 +5,23 @@ use Rattle.std.proofs.lemmas.{Bool.{and_parts, not-true, or_left, or_right, case
 use Rattle.std.{proofs.lemmas.List.{drop_all, length-drop, Elements.recursion_from_All, Sums.list_all-from_AllPass}, specs.Option.option_map_or}
 use Rattle.std.specs.{Cmp.Lexicographic.{slice_cmp, nat_list_cmp_total, bytes_decides}, List.{AllByRecursion, Contains, list_any, find, range_with_len}}
 use Rattle.std.specs.{Ordering.{is_ne, nat_cmp, is_eq}, Prelude.{Ok, Err, filter}, declared.cmp.Ordering.TheVariants.Greater}
-use Rattle.domain_codecs.{proofs.{CodecLemmas.{digit_at, widens}, Scale.IsScale}, specs.{Base32.base32_lower, Codec.{base32_octets, base32_digits, IsBase32}}}
-use Rattle.domain_octets.specs.Words.{Octets, AreOctets}
-use Rattle.domain_names.specs.{Name.{is_at_or_below, same_name, wire_of, is_strictly_below, lowered}, Words.{Name, Label}}
+use Rattle.domain_codecs.{proofs.{CodecLemmas.{digit_at, widens}, Base32Lemmas.IsScale}, specs.{Base32.base32_lower, Codec.{base32_octets, base32_digits}}}
+use Rattle.domain_codecs.specs.Codec.{IsBase32}
+use Rattle.domain_octets.specs.Octets.{Octets, AreOctets}
+use Rattle.domain_names.specs.Name.{is_at_or_below, same_name, wire_of, is_strictly_below, lowered, Name, Label}
 use Rattle.domain_base.specs.Types.{ns, rrsig}
-use Rattle.domain_bitmap.{proofs.RangeLemmas.{any_at, any_none as any_missing}, specs.{Bitmap.bitmap_octets, Blocks.{contains_type, types_of, types_below}}}
-use Rattle.domain_zone.proofs.FindLemmas.{from_map, in_at, in_map, in_pairs, stands_from, Stands, any_none, find_none, find_some, in_filter}
+use Rattle.domain_bitmap.{proofs.BitLemmas.{any_at, any_none as any_missing}, specs.{Bitmap.bitmap_octets, Blocks.{contains_type, types_of, types_below}}}
+use Rattle.domain_zone.proofs.PairLemmas.{from_map, in_at, in_map, in_pairs, stands_from, Stands, any_none, find_none, find_some, in_filter, In, all_in}
 use Rattle.domain_zone.proofs.NameLemmas.{same_itself, one_lowered, below_itself, below_trans, below_longer, below_length, below_parent, strictly_longer}
-use Rattle.domain_zone.proofs.{NameLemmas.{strictly_from, same_length}, OwnerLemmas.{in_any, any_in, typed_owns}, PairLemmas.{In, all_in}}
-use Rattle.domain_zone.specs.{Covering.{matches, covers, matches_or_covers}, Enclosers.exists_over, Zone.{ZoneRecord, has_type, owns, records_of}}
-use Rattle.domain_nsec3.{proofs.FaultLemmas.hash_same, specs.Chain.{HashedLink, HashedName, IsOfChain, cycle, ends, ends_of, hashed_owner}}
-use Rattle.domain_nsec3.specs.{Config.{ChainConfig, Parameters, Hash, hash_name}, Owners.{is_chain_name, nsec3_lists, original_owners, is_original_owner}}
-use Rattle.domain_nsec3.specs.Meaning.{AreAlone, IsAlone, IsMatchedOrCoveredOnce, IsRecordOf, octets_before, IsNextCloser}
-use Rattle.domain_checker.{proofs.EncloserLemmas.{same_count, owner_owns}, specs.{HashedFacts.ChainFacts, HashedReading.is_none}}
-use Rattle.domain_checker.specs.HashedEncloser.{IsEncloser, IsNextHash, IsUnmatched, next_cover, Encloser, IsDenial, IsOfName, encloser_is_cut, tells_cut}
-use Rattle.domain_checker.specs.{HashedList.{read_label, same_parameters, is_spelling, owner_hash, is_hash_match, is_hash_cover}, HashedPass.IsLookedUp}
-use Rattle.domain_checker.specs.HashedVerdict.{is_covered, is_matched, IsFirst, IsFirstRefusal, is_ok_with, next_closer}
-use Rattle.domain_checker.specs.HashedView.{chain_records, HashedRecords, first_cover, first_match}
+use Rattle.domain_zone.{proofs.{NameLemmas.{strictly_from, same_length}, WalkLemmas.{in_any, any_in, typed_owns}}, specs.Covering.{matches, covers}}
+use Rattle.domain_zone.specs.{Covering.matches_or_covers, Enclosers.exists_over, Zone.{ZoneRecord, has_type, owns, records_of}}
+use Rattle.domain_nsec3.{proofs.ChainLemmas.hash_same, specs.Chain.{HashedLink, HashedName, IsOfChain, cycle, ends, ends_of, hashed_owner, ChainConfig}}
+use Rattle.domain_nsec3.specs.{Chain.{Parameters, Hash, hash_name, is_chain_name, nsec3_lists, original_owners, is_original_owner}, Meaning.AreAlone}
+use Rattle.domain_nsec3.specs.Meaning.{IsAlone, IsMatchedOrCoveredOnce, IsRecordOf, octets_before, IsNextCloser}
+use Rattle.domain_checker.{proofs.EncloserLemmas.{same_count, owner_owns}, specs.HashedVerdict.{ChainFacts, read_label, same_parameters, is_spelling}}
+use Rattle.domain_checker.specs.HashedVerdict.{owner_hash, is_hash_match, is_hash_cover, is_covered, is_matched, IsFirst, IsFirstRefusal, is_ok_with}
+use Rattle.domain_checker.specs.{HashedVerdict.{next_closer, chain_records, HashedRecords, first_cover, first_match}, HashedReading.{is_none, IsEncloser}}
+use Rattle.domain_checker.specs.HashedReading.{IsNextHash, IsUnmatched, next_cover, Encloser, IsDenial, IsOfName, encloser_is_cut, tells_cut, IsLookedUp}
 
 -- a label is read up to a place, and what it spells from there on stands to what is left of the
 -- hash as all of it to the whole hash

@@ -3,26 +3,26 @@
 use Rattle.std.proofs.Common.{◌≡◌, ℕ, ◌+◌, ◌<◌, true, false, not, List, length, sym, ap, ◌∙◌, inl, inr, ◌⊎◌, arith, rules, ◌≢◌, ◌≤◌, ◌&&◌, ◌||◌, refl, subst}
 use Rattle.std.{proofs.Common.{Option, Some, None}, specs.{List.{Contains, list_any}, Option.option_map_or, Prelude.Ok}}
 use Rattle.std.proofs.lemmas.{Bool.{cases_Bool, false_from_ne_true, false≢true, true_from_ne_false, and_parts, and_from, or_parts}, Grind.common_steps}
-use Rattle.domain_octets.{proofs.StdLemmas.or_true, specs.Words.Octets}
-use Rattle.domain_names.specs.{Name.{is_at_or_below, is_strictly_below, last_labels, lowered, same_name}, Words.Name}
+use Rattle.domain_octets.{proofs.StdLemmas.or_true, specs.Octets.Octets}
+use Rattle.domain_names.specs.Name.{is_at_or_below, is_strictly_below, last_labels, lowered, same_name, Name}
 use Rattle.domain_base.specs.Types.{ns}
 use Rattle.domain_bitmap.specs.Blocks.{contains_type, types_of}
-use Rattle.domain_chain_rdata.specs.OptOut.{is_opt_out}
-use Rattle.domain_zone.proofs.{FindLemmas.find_some, NameLemmas.{one_lowered, same_lowered, below_itself, below_trans, below_longer, below_length}}
-use Rattle.domain_zone.proofs.{NameLemmas.{same_length, strictly_from, strictly_longer}, PairLemmas.{In, all_in}, SharedLemmas.exists_same}
-use Rattle.domain_zone.specs.{Enclosers.{exists_over, IsClosestEncloser}, Zone.{ZoneRecord, is_zone_cut}}
-use Rattle.domain_nsec3.specs.{Chain.{HashedLink, IsHashedChain}, Config.{ChainConfig, hash_name}, Meaning.{AreAlone, IsAlone}}
-use Rattle.domain_nsec3.specs.Owners.{is_original_owner, nsec3_lists, original_owners, is_empty}
+use Rattle.domain_chain_rdata.specs.Rdata.{is_opt_out}
+use Rattle.domain_zone.proofs.{PairLemmas.{find_some, In, all_in}, NameLemmas.{one_lowered, same_lowered, below_itself, below_trans, below_longer}}
+use Rattle.domain_zone.{proofs.NameLemmas.{below_length, same_length, strictly_from, strictly_longer, exists_same}, specs.Enclosers.exists_over}
+use Rattle.domain_zone.specs.{Enclosers.IsClosestEncloser, Zone.{ZoneRecord, is_zone_cut}}
+use Rattle.domain_nsec3.specs.Chain.{HashedLink, IsHashedChain, ChainConfig, hash_name, is_original_owner, nsec3_lists, original_owners, is_empty}
+use Rattle.domain_nsec3.specs.Meaning.{AreAlone, IsAlone}
 use Rattle.domain_checker.proofs.{AlikeLemmas.{hashed_proved_alike, walked_alike, paired_with_some}, EncloserLemmas.{below_cut, cut_above, cut_apart}}
 use Rattle.domain_checker.proofs.EncloserLemmas.{apex_from, closest_is, cut_same, exists_above, same_count, shorter_above, IsDefinite, choose_by, not_below}
 use Rattle.domain_checker.proofs.HashedListLemmas.{IsClosed, cover_denies, cut_counted, match_is_of_name, alone_at, closer_is, matched_same, by_way}
-use Rattle.domain_checker.{proofs.HashedListLemmas.{empty_lists, match_is_empty, whole_covers, whole_matches}, specs.Alike.IsHashedAlike}
-use Rattle.domain_checker.specs.{HashedEncloser.{Encloser, IsEncloser, IsOfName, encloser_is_cut, IsFoundEncloser}, HashedFacts.{ChainFacts, ChainsAreKnown}}
-use Rattle.domain_checker.specs.{HashedList.is_hash_match, HashedReading.{IsWalked, found_verdict, hash_cover_verdict, is_none, own_verdict}}
-use Rattle.domain_checker.specs.HashedVerdict.{is_below_chain_cut, is_covered, is_matched, next_closer, missing_verdict, hashed_zone_verdict, is_ok_with}
-use Rattle.domain_checker.specs.{HashedVerdict.{proves, hashed_proved_verdict, IsHashedProved, is_told_cut, HasHashedProof}, declared.verdict.Verdict.Verdict}
-use Rattle.domain_checker.specs.{HashedView.{HashedRecords, chain_records, first_match}, Verdict.{closest_encloser, IsWithin}}
-use Rattle.domain_checker.specs.declared.verdict.Verdict.TheVariants.{BelowDelegation, NotProven}
+use Rattle.domain_checker.{proofs.HashedListLemmas.{empty_lists, match_is_empty, whole_covers, whole_matches}, specs.Verdict.IsHashedAlike}
+use Rattle.domain_checker.specs.{Verdict.{closest_encloser, IsWithin}, HashedReading.{Encloser, IsEncloser, IsOfName, encloser_is_cut, IsFoundEncloser}}
+use Rattle.domain_checker.specs.{HashedReading.{IsWalked, found_verdict, hash_cover_verdict, is_none, own_verdict}, HashedVerdict.ChainFacts}
+use Rattle.domain_checker.specs.HashedVerdict.{ChainsAreKnown, is_hash_match, is_below_chain_cut, is_covered, is_matched, next_closer, missing_verdict}
+use Rattle.domain_checker.specs.HashedVerdict.{hashed_zone_verdict, is_ok_with, proves, hashed_proved_verdict, IsHashedProved, is_told_cut, HasHashedProof}
+use Rattle.domain_checker.specs.{HashedVerdict.{HashedRecords, chain_records, first_match}, declared.verdict.Verdict.{Verdict, TheVariants.BelowDelegation}}
+use Rattle.domain_checker.specs.declared.verdict.Verdict.TheVariants.{NotProven}
 
 module _ (L : List ZoneRecord) (a : Name) (config : ChainConfig) where
   -- the name is the closest encloser en of x, and matched by the record of e

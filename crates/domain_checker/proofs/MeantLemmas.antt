@@ -5,21 +5,21 @@ use Rattle.std.proofs.lemmas.{Bool.{cases_Bool, false≢true, and_parts, and_fro
 use Rattle.std.{proofs.lemmas.List.Folds.find-append, specs.{List.{find, list_any, Contains}, Option.{is_some, option_map, option_or, unwrap_or}}}
 use Rattle.std.specs.{Ordering.{is_eq, is_gt, is_lt}, Prelude.All}
 use Rattle.domain_octets.proofs.StdLemmas.{or_false}
-use Rattle.domain_names.specs.{Laws.same_name_ties, Name.{is_at_or_below, is_strictly_below, lowered, same_name}}
-use Rattle.domain_names.specs.{Order.{before, canonical_cmp, canonical_cmp_total, common_labels}, Words.Name}
+use Rattle.domain_names.specs.{Laws.same_name_ties, Name.{is_at_or_below, is_strictly_below, lowered, same_name, before, canonical_cmp, canonical_cmp_total}}
+use Rattle.domain_names.specs.Name.{common_labels, Name}
 use Rattle.domain_base.specs.Types.{ns}
 use Rattle.domain_bitmap.specs.{Bitmap.bitmap_octets, Blocks.contains_type}
-use Rattle.domain_zone.proofs.{FindLemmas.{Stands, any_none, find_none, find_some, in_at, in_map, in_pairs, stands_all}, PairLemmas.{In, all_in}}
-use Rattle.domain_zone.proofs.{NameLemmas.{same_is, one_lowered, same_itself, below_itself, lowered_below}, OwnerLemmas.{any_in, in_any, below_occluder}}
-use Rattle.domain_zone.{proofs.SharedLemmas.{either_way, shared_length, shared_within, common_shares}, specs.Covering.{covers, matches, matches_or_covers}}
-use Rattle.domain_zone.specs.Enclosers.{longer, shared, exists_over}
-use Rattle.domain_zone.specs.Zone.{ZoneRecord, has_type, is_zone_cut, occludes, owns, is_occluded, is_unoccluded, unoccluded_owners, OwnersNeverDescend}
+use Rattle.domain_zone.proofs.{PairLemmas.{Stands, any_none, find_none, find_some, in_at, in_map, in_pairs, stands_all, In, all_in}, NameLemmas.same_is}
+use Rattle.domain_zone.proofs.NameLemmas.{one_lowered, same_itself, below_itself, lowered_below, either_way, shared_length, shared_within, common_shares}
+use Rattle.domain_zone.{proofs.WalkLemmas.{any_in, in_any, below_occluder}, specs.{Covering.{covers, matches, matches_or_covers}, Enclosers.{longer, shared}}}
+use Rattle.domain_zone.specs.{Enclosers.exists_over, Zone.{ZoneRecord, has_type, is_zone_cut, occludes, owns, is_occluded, is_unoccluded, unoccluded_owners}}
+use Rattle.domain_zone.specs.Zone.{OwnersNeverDescend}
 use Rattle.domain_nsec.specs.{Chain.{Link, is_listed, nsec_lists, IsChain}, declared.config.GenerateNsecConfig.GenerateNsecConfig}
 use Rattle.domain_checker.proofs.{AlikeLemmas.{proved_alike, reading_alike, paired_with_some}, EncloserLemmas.{either_found, closest_is, closest_alike}}
 use Rattle.domain_checker.proofs.EncloserLemmas.{top_occluder, occluded_same, occludes_same, owner_high, owner_unoccluded, owner_owns, cut_same, IsDefinite}
-use Rattle.domain_checker.{proofs.EncloserLemmas.choose_by, specs.{Alike.IsAlike, Facts.{NsecFacts, NsecChainsAreKnown}, HandedIn.HasRead}}
-use Rattle.domain_checker.specs.Reading.{is_at_cut, is_cover, is_match, match_verdict, cover_verdict, verdict_of_both, list_verdict, IsChecked, reading}
-use Rattle.domain_checker.specs.Verdict.{closest_encloser, has_match_or_cover, is_inside, zone_verdict, proved_verdict, IsProved, HasProof, IsWithin}
+use Rattle.domain_checker.{proofs.EncloserLemmas.choose_by, specs.Verdict.{IsAlike, NsecFacts, NsecChainsAreKnown, closest_encloser, has_match_or_cover}}
+use Rattle.domain_checker.specs.{Verdict.{is_inside, zone_verdict, proved_verdict, IsProved, HasProof, IsWithin}, Reading.{HasRead, is_at_cut, is_cover}}
+use Rattle.domain_checker.specs.Reading.{is_match, match_verdict, cover_verdict, verdict_of_both, list_verdict, IsChecked, reading}
 use Rattle.domain_checker.specs.declared.{nsec_check.NsecCheck.NsecCheck, verdict.Verdict.{Verdict, TheVariants.{OutsideZone, NotProven}}}
 
 -- an owner matches the names that the order can't tell from it

@@ -1,18 +1,113 @@
--- What a zone with an NSEC3 chain says of a name and a type, and what a list of records proves of
--- it (RFC 5155, section 8); a is the apex, x the name and t the type.
-use Rattle.std.specs.{List.list_any, Option.option_map_or}
-use Rattle.std.specs.Prelude.{ℕ, Bool, true, false, not, ◌&&◌, ◌||◌, ◌+◌, List, ◌≡◌, All, length, Ok, Err, if◌then◌else◌}
-use Rattle.domain_octets.specs.Words.{Octets}
-use Rattle.domain_names.specs.{Name.{is_at_or_below, is_strictly_below, last_labels, same_name}, Words.Name}
+-- What a zone with an NSEC3 chain says of a name and a type, and what a few of its records prove.
+use Rattle.std.specs.{List.{list_all, find, list_any}, Option.option_map_or, Prelude.{Bool, false, ◌&&◌, ◌==◌, [], ◌∷◌, length, bytes_eq}}
+use Rattle.std.specs.Prelude.{Option, Some, None, if◌then◌else◌, List, ℕ, true, not, ◌||◌, ◌+◌, ◌≡◌, All, Ok, Err, ◌<◌}
+use Rattle.domain_codecs.specs.Codec.{is_digit, is_base32_length, base32_octets, base32_digits, IsBase32}
+use Rattle.domain_codecs.specs.{declared.codec.Codec.TheVariants.Base32Hex, Base32.base32_lower}
+use Rattle.domain_octets.specs.Octets.{Octets, AreOctets}
+use Rattle.domain_names.specs.Name.{same_name, is_at_or_below, is_strictly_below, last_labels, Label, Name}
+use Rattle.domain_zone.specs.{Covering.{matches, covers}, Enclosers.exists_over, Zone.{ZoneRecord, is_zone_cut}}
+use Rattle.domain_nsec3.specs.Chain.{HashedLink, IsHashedChain, Parameters, ChainConfig, Hash, HashAnswer, hash_name, is_original_owner}
+use Rattle.domain_nsec3.specs.{Chain.{nsec3_lists, original_owners, is_chain_name}, Meaning.{octets_before, AreAlone, MeansTheZone}}
+use Rattle.domain_nsec3.specs.{View.{HasherAnswer, hash_by, hashed_links_of, parameters_of}, declared.nsec3.Nsec3Records.Nsec3Records}
 use Rattle.domain_base.specs.Types.{ns}
-use Rattle.domain_bitmap.specs.Blocks.{contains_type}
-use Rattle.domain_chain_rdata.specs.OptOut.{is_opt_out}
-use Rattle.domain_zone.specs.{Enclosers.exists_over, Zone.{ZoneRecord, is_zone_cut}}
-use Rattle.domain_nsec3.specs.{Chain.{HashedLink, IsHashedChain}, Config.{ChainConfig, HashAnswer, hash_name}, Meaning.AreAlone}
-use Rattle.domain_nsec3.specs.Owners.{is_original_owner, nsec3_lists, original_owners}
-use Rattle.domain_checker.specs.{Alike.{IsHashedAlike, IsPairedIn}, HashedList.{is_hash_match, is_hash_cover}, declared.verdict.Verdict.Verdict}
-use Rattle.domain_checker.specs.{HashedView.{HashedRecords, chain_records, first_match}, Verdict.{closest_encloser, types_verdict}}
+use Rattle.domain_bitmap.specs.{Blocks.{contains_type, types_below, types_of}, Bitmap.bitmap_octets}
+use Rattle.domain_chain_rdata.specs.Rdata.{is_opt_out}
+use Rattle.domain_checker.specs.{Verdict.{IsHashedAlike, IsPairedIn, closest_encloser, types_verdict}, declared.verdict.Verdict.Verdict}
 use Rattle.domain_checker.specs.declared.verdict.Verdict.TheVariants.{OutsideZone, BelowDelegation, EmptyName, OptOut, NoName, NotProven}
+
+-- ---- What NSEC3 records say of hashes, whoever sent them (RFC 5155, section 3); a is the apex.
+
+-- the same algorithm, iterations and salt
+abbrev pub same_parameters : Parameters → Parameters → Bool
+same_parameters p q =
+    (p.algorithm == q.algorithm) && (p.iterations == q.iterations) && bytes_eq p.salt q.salt
+
+-- a label is a text in Base 32 hex, in either case (RFC 4648, section 7)
+abbrev pub is_spelling : Label → Bool
+is_spelling label = list_all (is_digit Base32Hex) label && is_base32_length (length label)
+
+-- the octets that such digits stand for
+abbrev pub read_label : Label → Octets
+read_label label = base32_octets 1 0 (base32_digits label)
+
+-- the hash that an owner spells by its one label before the apex
+abbrev pub hash_in : Name → Name → Option Octets
+hash_in a [] = None
+hash_in a (label ∷ above) =
+    if same_name above a && is_spelling label then Some (read_label label) else None
+
+-- the hash at which a record stands; None where it has other parameters, or an owner of another
+-- form, and is passed over
+abbrev pub owner_hash : Name → Parameters → HashedLink → Option Octets
+owner_hash a p k = if same_parameters k.parameters p then hash_in a k.owner else None
+
+-- a record that is not passed over matches the hash v; covers it
+abbrev pub is_hash_match : Name → Parameters → Octets → HashedLink → Bool
+is_hash_match a p v k = option_map_or (λ h. matches octets_before h v) (owner_hash a p k) false
+
+abbrev pub is_hash_cover : Name → Parameters → Octets → HashedLink → Bool
+is_hash_cover a p v k =
+    option_map_or (λ h. covers octets_before h k.next v) (owner_hash a p k) false
+
+-- ---- How NSEC3 records and their parameters are seen.
+
+-- what is read of NSEC3 records: what they link, the apex of their zone, the parameters that they
+-- are to have, and what the hasher answers by these
+pub record HashedRecords : Type 0 where
+  pub links : List HashedLink
+  pub apex : Name
+  pub parameters : Parameters
+  pub hash : Hash
+
+-- other links, read in the same way
+abbrev pub with_links : HashedRecords → List HashedLink → HashedRecords
+with_links R links = record R { links = links }
+
+-- the first record that matches the hash v; that covers it
+abbrev pub first_match : HashedRecords → Octets → Option HashedLink
+first_match R v = find (is_hash_match R.apex R.parameters v) R.links
+
+abbrev pub first_cover : HashedRecords → Octets → Option HashedLink
+first_cover R v = find (is_hash_cover R.apex R.parameters v) R.links
+
+abbrev pub parameters : {N O : Type 0} → Nsec3Records N O → Parameters
+parameters records = parameters_of records.nsec3param.«data»
+
+abbrev pub links : {N O : Type 0} → (N → Name) → Nsec3Records N O → List HashedLink
+links labels records = hashed_links_of labels records.nsec3s.items
+
+-- a hasher with the parameters of these records
+abbrev pub hash_with : {N O : Type 0} → HasherAnswer → Nsec3Records N O → Hash
+hash_with answer records = hash_by answer (parameters records)
+
+-- links that are read by a hasher with these parameters
+abbrev pub links_with : Name → Parameters → HasherAnswer → List HashedLink → HashedRecords
+links_with a p answer listed =
+    record {
+      links = listed;
+      apex = a;
+      parameters = p;
+      hash = hash_by answer p;
+    }
+
+-- records that are handed in, by how names are read and what the hasher answers
+abbrev pub hashed_records : {N O : Type 0} → Name → (N → Name) → HasherAnswer → Nsec3Records N O
+    → HashedRecords
+hashed_records a labels answer records =
+    links_with a (parameters records) answer (links labels records)
+
+-- records of a zone's chain
+abbrev pub chain_records : Name → ChainConfig → List HashedLink → HashedRecords
+chain_records a config listed =
+    record {
+      links = listed;
+      apex = a;
+      parameters = config.parameters;
+      hash = config.hash;
+    }
+
+-- ---- What a zone with an NSEC3 chain says of a name and a type, and what a list of records proves of
+-- it (RFC 5155, section 8); a is the apex, x the name and t the type.
 
 -- x is strictly below a zone cut that the chain holds
 abbrev pub is_below_chain_cut : List ZoneRecord → Name → ChainConfig → Name → Bool
@@ -116,3 +211,30 @@ pub record IsFirstRefusal (R : HashedRecords) (x : Name) (reason : ℕ) : Type 0
   pub within : is_at_or_below name R.apex ≡ true
   pub refused : hash_name R.hash name ≡ Err reason
   pub first : IsFirst R x name
+
+-- ---- What is known of each NSEC3 chain: the laws of chains, of their names and of Base 32, put
+-- together.
+
+-- what is known of one chain
+pub record ChainFacts (L : List ZoneRecord) (a : Name) (config : ChainConfig)
+    (links : List HashedLink) : Type 0 where
+  pub chain : IsHashedChain L a config links
+  pub means : MeansTheZone L a config links
+  pub exist : (x : Name) → is_at_or_below x a ≡ true
+      → exists_over (original_owners L a config) a x ≡ is_chain_name L a config x
+  pub left_out : (c : Name) → is_zone_cut L a c ≡ true → is_original_owner L a config c ≡ false
+      → is_chain_name L a config c ≡ false
+  pub alike : (x y : Name) → same_name x y ≡ true → (t : ℕ)
+      → nsec3_lists L a config x t ≡ nsec3_lists L a config y t
+  pub reads_back : (octets : Octets) → AreOctets octets → IsBase32 (base32_lower octets) octets
+  pub contains : (types : ℕ → Bool) (t : ℕ) → t < 65536
+      → contains_type (bitmap_octets types) t ≡ types t
+  pub gives : (types : ℕ → Bool) → types_of (bitmap_octets types) ≡ types_below 65536 types
+  pub tells_apart : (u v : Octets) → AreOctets u → AreOctets v
+      → base32_lower u ≡ base32_lower v → u ≡ v
+
+-- and so of every chain
+abbrev pub ChainsAreKnown : Type 0
+ChainsAreKnown =
+    (L : List ZoneRecord) (a : Name) (config : ChainConfig) (links : List HashedLink)
+    → IsHashedChain L a config links → ChainFacts L a config links

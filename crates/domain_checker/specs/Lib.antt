@@ -1,12 +1,4 @@
 pub mod Verdict
 pub mod Reading
-pub mod HashedList
-pub mod HashedView
 pub mod HashedVerdict
-pub mod HashedPass
-pub mod HashedEncloser
 pub mod HashedReading
-pub mod Facts
-pub mod HashedFacts
-pub mod HandedIn
-pub mod Alike

@@ -1,12 +1,14 @@
 -- What NSEC records say by themselves (RFC 4035, section 5.4; RFC 6840, section 4.1).
 use Rattle.std.specs.{Prelude.{◌≡◌, ◌≢◌, ℕ, Bool, true, not, ◌&&◌, List, Option, Some, None, length, if◌then◌else◌}, List.find}
+use Rattle.std.specs.Option.{option_map}
 use Rattle.domain_bitmap.specs.Blocks.{contains_type}
-use Rattle.domain_names.specs.{Name.{is_at_or_below, is_strictly_below, same_name}, Order.before, Words.Name}
+use Rattle.domain_names.specs.Name.{is_at_or_below, is_strictly_below, same_name, before, Name}
 use Rattle.domain_base.specs.Types.{ns}
 use Rattle.domain_zone.specs.{Covering.{matches, covers}, Enclosers.{longer, shared}}
 use Rattle.domain_nsec.specs.Chain.{Link}
 use Rattle.domain_checker.specs.{Verdict.{HasProof, IsProved, IsWithin, is_inside, types_verdict}, declared.verdict.Verdict.Verdict}
 use Rattle.domain_checker.specs.declared.verdict.Verdict.TheVariants.{OutsideZone, BelowDelegation, EmptyName, NoName, NotProven}
+use Rattle.domain_checker.specs.declared.nsec_check.NsecCheck.{NsecCheck}
 
 -- the owner is a zone cut: the record lists NS, and the owner is not the apex
 abbrev pub is_at_cut : Name → Link → Bool
@@ -62,3 +64,15 @@ pub record IsChecked (listed : List Link) (a x : Name) (t : ℕ) (verdict : Verd
   pub exact : verdict ≡ reading a listed x t
   -- and the number of a closest encloser's labels is none that the name lacks
   pub within : IsWithin (length x) verdict
+
+-- ---- What has been found out of a name where NSEC records are handed in one after another.
+
+-- these records have been handed in for the apex a, the name x and the type t: what the first match
+-- says is known and, with none, what the first cover says
+pub record HasRead (a x : Name) (t : ℕ) (listed : List Link) (check : NsecCheck) : Type 0 where
+  pub apex : check.apex ≡ a
+  pub name : check.name ≡ x
+  pub rtype : check.rtype ≡ t
+  pub matching : check.matched ≡ option_map (λ k. match_verdict a k t) (find (is_match a x) listed)
+  pub covering : check.matched ≡ None
+      → check.covered ≡ option_map (λ k. cover_verdict a k x) (find (is_cover a x) listed)

@@ -1,13 +1,69 @@
--- What a zone with an NSEC chain says of a name and a type, and what a list of records of the chain
--- proves of that (RFC 4035, section 5.4). The chain is one that keeps what stands below a DNAME.
-use Rattle.std.specs.{Prelude.{ℕ, Bool, true, false, not, ◌&&◌, ◌||◌, ◌==◌, List, [], ◌∷◌, ◌≡◌, ◌≤◌, All, length, if◌then◌else◌}, List.list_any}
-use Rattle.domain_names.specs.{Name.{is_at_or_below, same_name}, Order.before, Words.Name}
-use Rattle.domain_base.specs.Types.{ds}
+-- What a zone with an NSEC chain says of a name and a type, what is known of each chain, and records
+-- that are alike.
+use Rattle.std.specs.Prelude.{◌≡◌, ◌<◌, ℕ, Bool, true, List, [], ◌∷◌, false, not, ◌&&◌, ◌||◌, ◌==◌, ◌≤◌, All, length, if◌then◌else◌}
+use Rattle.std.specs.List.{Contains, list_any}
+use Rattle.domain_names.specs.Name.{same_name, is_at_or_below, Name, before}
+use Rattle.domain_bitmap.specs.{Bitmap.bitmap_octets, Blocks.contains_type}
+use Rattle.domain_zone.specs.Zone.{OwnersNeverDescend, ZoneRecord, is_occluded, is_zone_cut, unoccluded_owners}
 use Rattle.domain_zone.specs.{Covering.matches_or_covers, Enclosers.{exists_over, is_empty_nonterminal}}
-use Rattle.domain_zone.specs.Zone.{ZoneRecord, OwnersNeverDescend, is_occluded, is_zone_cut, unoccluded_owners}
-use Rattle.domain_nsec.specs.{Chain.{IsChain, Link, nsec_lists}, declared.config.GenerateNsecConfig.GenerateNsecConfig}
-use Rattle.domain_checker.specs.{Alike.{IsAlike, IsPairedIn}, declared.verdict.Verdict.Verdict}
-use Rattle.domain_checker.specs.declared.verdict.Verdict.TheVariants.{OutsideZone, BelowDelegation, Has, NoType, EmptyName, OptOut, NoName, NotProven}
+use Rattle.domain_nsec.specs.{Chain.{IsChain, Link, nsec_lists}, Meaning.MeansTheZone}
+use Rattle.domain_nsec.specs.declared.config.GenerateNsecConfig.{GenerateNsecConfig}
+use Rattle.domain_nsec3.specs.Chain.{HashedLink}
+use Rattle.domain_base.specs.Types.{ds}
+use Rattle.domain_checker.specs.declared.verdict.Verdict.{Verdict, TheVariants.{OutsideZone, BelowDelegation, Has, NoType, EmptyName}}
+use Rattle.domain_checker.specs.declared.verdict.Verdict.TheVariants.{OptOut, NoName, NotProven}
+
+-- ---- What is known of each NSEC chain: the laws of chains, of their types and of bitmaps, put together.
+
+-- what is known of one chain
+pub record NsecFacts (L : List ZoneRecord) (a : Name) (config : GenerateNsecConfig)
+    (links : List Link) : Type 0 where
+  pub chain : IsChain L a config links
+  pub means : MeansTheZone L a config links
+  pub alike : (x y : Name) → same_name x y ≡ true → (t : ℕ)
+      → nsec_lists L a config.assume_dnskeys_will_be_added x t
+      ≡ nsec_lists L a config.assume_dnskeys_will_be_added y t
+  pub contains : (types : ℕ → Bool) (t : ℕ) → t < 65536
+      → contains_type (bitmap_octets types) t ≡ types t
+
+-- and so of every chain
+abbrev pub NsecChainsAreKnown : Type 0
+NsecChainsAreKnown =
+    (L : List ZoneRecord) (a : Name) (config : GenerateNsecConfig) (links : List Link)
+    → OwnersNeverDescend L → IsChain L a config links → NsecFacts L a config links
+
+-- ---- Records as they come: a cache lowers their TTLs, and servers and signers write names in either
+-- case. What the records prove does not depend on that.
+
+-- NSEC records: the same owner and next name but for the case of letters, and the same types
+pub record IsAlike (k l : Link) : Type 0 where
+  pub owner : same_name k.owner l.owner ≡ true
+  pub next : same_name k.next l.next ≡ true
+  pub bits : k.bits ≡ l.bits
+
+-- NSEC3 records: the same owner but for the case of letters, and the same data
+pub record IsHashedAlike (k l : HashedLink) : Type 0 where
+  pub owner : same_name k.owner l.owner ≡ true
+  pub next : k.next ≡ l.next
+  pub parameters : k.parameters ≡ l.parameters
+  pub flags : k.flags ≡ l.flags
+  pub bits : k.bits ≡ l.bits
+
+-- lists of which each record stands so to that at the same place of the other
+abbrev pub ArePaired : {X : Type 0} → (X → X → Type 0) → List X → List X → Type 0
+ArePaired R [] [] = Unit {0}
+ArePaired R [] (l ∷ ls) = ⊥
+ArePaired R (k ∷ ks) [] = ⊥
+ArePaired R (k ∷ ks) (l ∷ ls) = R k l × ArePaired R ks ls
+
+-- the record stands so to one of these
+pub record IsPairedIn {X : Type 0} (R : X → X → Type 0) (links : List X) (k : X) : Type 0 where
+  pub link : X
+  pub there : Contains links link
+  pub alike : R k link
+
+-- ---- What a zone with an NSEC chain says of a name and a type, and what a list of records of the chain
+-- proves of that (RFC 4035, section 5.4). The chain is one that keeps what stands below a DNAME.
 
 -- the first of x and its ancestors that exists; `laws::closest_enclosers` says that it is the
 -- closest encloser

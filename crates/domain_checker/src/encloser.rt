@@ -1,9 +1,10 @@
 //! The closest encloser of a name, as NSEC3 records tell it.
 ghost use Rattle.std.specs.{Option.option_map, Prelude.{◌≡◌, ◌⊎◌, ℕ, Ok, Err, None, false, IfOk, IfErr, IsErrOf}};
 ghost use Rattle.domain_names.specs.Name.{is_at_or_below, lowered, wire_of};
-ghost use Rattle.domain_nsec3.specs.{Config.hash_name, Faults.IsNoHash};
-ghost use Rattle.domain_checker.specs.{HashedEncloser.{encloser_is_cut, encloser_of, IsFoundEncloser}, HashedPass.{found_cover, found_match, IsLookedUp}};
-ghost use Rattle.domain_checker.specs.{HashedVerdict.IsFirstRefusal, HashedView.{hash_with, hashed_records}};
+ghost use Rattle.domain_nsec3.specs.Chain.{hash_name, IsNoHash};
+ghost use Rattle.domain_checker.specs.HashedReading.{encloser_is_cut, encloser_of, IsFoundEncloser};
+ghost use Rattle.domain_checker.specs.HashedReading.{found_cover, found_match, IsLookedUp};
+ghost use Rattle.domain_checker.specs.HashedVerdict.{IsFirstRefusal, hash_with, hashed_records};
 ghost use Rattle.domain_hasher.specs.declared.error.Nsec3HashError.TheVariants as hash_error;
 
 use crate::Nsec3Found;

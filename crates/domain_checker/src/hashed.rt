@@ -2,7 +2,8 @@
 ghost use Rattle.std.specs.{Option.option_map, Prelude.◌≡◌};
 ghost use Rattle.domain_zone.specs.Covering.{covers};
 ghost use Rattle.domain_nsec3.specs.{Meaning.octets_before, View.{as_hashed_link, hashed_links_of, parameters_of}};
-ghost use Rattle.domain_checker.specs.{HashedList.{read_label, owner_hash}, HashedPass.{found_match, found_cover, IsFound}};
+ghost use Rattle.domain_checker.specs.{HashedVerdict.{read_label, owner_hash}, HashedReading.found_match};
+ghost use Rattle.domain_checker.specs.HashedReading.{found_cover, IsFound};
 
 use crate::spelled::{is_spelling, spelled_cmp};
 use domain_base::ToName;

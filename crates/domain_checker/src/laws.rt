@@ -1,14 +1,17 @@
 //! What holds of verdicts, and of what records say. A caller calls the law in its body.
 ghost use Rattle.std.specs.{List.Contains, Prelude.{◌≡◌, ◌≢◌, ◌<◌, ℕ, Bool, List, true, false}};
-ghost use Rattle.domain_octets.specs.Words.{Octets};
-ghost use Rattle.domain_names.specs.{Name.is_at_or_below, Words.Name};
+ghost use Rattle.domain_octets.specs.Octets.{Octets};
+ghost use Rattle.domain_names.specs.Name.{is_at_or_below, Name};
 ghost use Rattle.domain_zone.specs.{Enclosers.{exists_over, IsClosestEncloser}, Zone.{OwnersNeverDescend, ZoneRecord}};
 ghost use Rattle.domain_nsec.specs.{Chain.{IsChain, Link}, declared.config.GenerateNsecConfig.GenerateNsecConfig};
-ghost use Rattle.domain_nsec3.specs.{Chain.{HashedLink, IsHashedChain}, Config.ChainConfig, Meaning.{AreAlone, IsAlone}};
-ghost use Rattle.domain_checker.specs.{Alike.{ArePaired, IsAlike, IsHashedAlike}, Facts.NsecChainsAreKnown, HashedEncloser.{IsDenial, IsOfName}};
-ghost use Rattle.domain_checker.specs.{HashedFacts.ChainsAreKnown, HashedList.{is_hash_cover, is_hash_match}, HashedReading.{IsWalked, WalksAreProved}};
-ghost use Rattle.domain_checker.specs.{HashedVerdict.{hashed_proved_verdict, hashed_zone_verdict}, HashedView.{HashedRecords, with_links}};
-ghost use Rattle.domain_checker.specs.{Reading.{IsChecked, reading}, Verdict.{closest_encloser, proved_verdict, zone_verdict}};
+ghost use Rattle.domain_nsec3.specs.{Chain.{HashedLink, IsHashedChain, ChainConfig}, Meaning.AreAlone};
+ghost use Rattle.domain_nsec3.specs.Meaning.{IsAlone};
+ghost use Rattle.domain_checker.specs.Verdict.{ArePaired, IsAlike, IsHashedAlike, NsecChainsAreKnown};
+ghost use Rattle.domain_checker.specs.Verdict.{closest_encloser, proved_verdict, zone_verdict};
+ghost use Rattle.domain_checker.specs.HashedReading.{IsDenial, IsOfName, IsWalked, WalksAreProved};
+ghost use Rattle.domain_checker.specs.HashedVerdict.{ChainsAreKnown, is_hash_cover, is_hash_match};
+ghost use Rattle.domain_checker.specs.HashedVerdict.{hashed_proved_verdict, hashed_zone_verdict, HashedRecords};
+ghost use Rattle.domain_checker.specs.{HashedVerdict.with_links, Reading.{IsChecked, reading}};
 ghost use Rattle.domain_checker.specs.declared.verdict.Verdict.{Verdict, TheVariants.NotProven};
 
 use domain_bitmap::laws::built_bitmaps_give_their_types;

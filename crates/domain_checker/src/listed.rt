@@ -1,8 +1,8 @@
 //! What one NSEC record tells, and how a name stands to another.
 ghost use Rattle.std.specs.{Prelude.{◌≡◌, IfSome, length}, Option.is_some};
-ghost use Rattle.domain_names.specs.{Name.is_strictly_below, Order.{before, common_labels}};
+ghost use Rattle.domain_names.specs.Name.{is_strictly_below, before, common_labels};
 ghost use Rattle.domain_zone.specs.{Covering.covers, Enclosers.{longer, shared}};
-ghost use Rattle.domain_nsec.specs.ChainView.{as_link};
+ghost use Rattle.domain_nsec.specs.Chain.{as_link};
 ghost use Rattle.domain_checker.specs.{Reading.{is_at_cut, is_cover, is_match}, Verdict.is_inside};
 
 use domain_base::{Rtype, ToName};

@@ -1,7 +1,7 @@
 //! What records of an NSEC chain prove.
 ghost use Rattle.std.specs.Prelude.{◌≡◌, length};
 ghost use Rattle.domain_zone.specs.Enclosers.{longer, shared};
-ghost use Rattle.domain_nsec.specs.ChainView.{as_link, links_of};
+ghost use Rattle.domain_nsec.specs.Chain.{as_link, links_of};
 ghost use Rattle.domain_checker.specs.Reading.{cover_verdict, match_verdict, IsChecked};
 
 use crate::Verdict;

@@ -1,8 +1,8 @@
 //! What records of an NSEC3 chain prove.
 ghost use Rattle.std.specs.{Option.option_map, Prelude.{◌≡◌, IsErrOf}};
 ghost use Rattle.domain_nsec3.specs.View.{as_hashed_link};
-ghost use Rattle.domain_checker.specs.{HashedEncloser.encloser_of, HashedReading.{found_verdict, hash_cover_verdict, IsHashedChecked}};
-ghost use Rattle.domain_checker.specs.HashedView.{hashed_records};
+ghost use Rattle.domain_checker.specs.HashedReading.{encloser_of, found_verdict, hash_cover_verdict};
+ghost use Rattle.domain_checker.specs.{HashedReading.IsHashedChecked, HashedVerdict.hashed_records};
 ghost use Rattle.domain_hasher.specs.declared.error.Nsec3HashError.TheVariants as hash_error;
 
 use crate::hashed::Nsec3Rr;

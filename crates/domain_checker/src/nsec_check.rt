@@ -1,8 +1,8 @@
 //! Records of an NSEC chain that are handed in one after another.
 ghost use Rattle.std.specs.Prelude.{ℕ, List, [], ◌∷◌, ◌++◌};
-ghost use Rattle.domain_names.specs.Words.{Name};
-ghost use Rattle.domain_nsec.specs.{Chain.Link, ChainView.as_link};
-ghost use Rattle.domain_checker.specs.{HandedIn.HasRead, Reading.IsChecked};
+ghost use Rattle.domain_names.specs.Name.{Name};
+ghost use Rattle.domain_nsec.specs.Chain.{Link, as_link};
+ghost use Rattle.domain_checker.specs.Reading.{HasRead, IsChecked};
 
 use crate::listed::{is_match, shared_if_covered};
 use crate::nsec::{cover_verdict, match_verdict};

@@ -1,7 +1,7 @@
 //! Hashes that labels spell in Base 32 hex.
 ghost use Rattle.std.specs.{Cmp.Lexicographic.slice_cmp, List.list_all, Ordering.nat_cmp, Prelude.{◌≡◌}};
 ghost use Rattle.domain_codecs.specs.Codec.{is_digit};
-ghost use Rattle.domain_checker.specs.HashedList.{is_spelling, read_label};
+ghost use Rattle.domain_checker.specs.HashedVerdict.{is_spelling, read_label};
 
 use domain_codecs::Codec;
 use domain_codecs::base32::{digit_or_zero, digit_value};

@@ -9,9 +9,9 @@ use Rattle.base64.specs.GeneralPurpose as base64
 use Rattle.hex.{specs.{Hex.{decode_of, decode_pairs, digit_or_error, hex_digit_value, pair_value, ◌>>=◌}, declared.error.FromHexError.FromHexError}}
 use Rattle.hex.proofs.{HexLemmas.{decode_of-even, decode_of-ok, decode_of-same, decode_pairs-digits}, Pairs.{cons_byte, decode_pairs-ok_pair}}
 use Rattle.domain_codecs.specs.{declared.codec.Codec.{Codec, TheVariants.{Base16, Base32Hex, Base64}}, Codec.{Decodes, IsText, IsFirstOther, is_digit}}
-use Rattle.domain_codecs.specs.{Codec.{base32_octets, base32_digits, IsBase32}, Cut.Cut}
-use Rattle.domain_codecs.proofs.{CodecBackLemmas.decodes_once, Base64Lemmas.{DecodesTo, split_pieces, bytes-drop, joined_groups, decoded_length}}
-use Rattle.domain_octets.{specs.{Words.AreOctets}, proofs.PrefixLemmas.{Searched, searched_more}}
+use Rattle.domain_codecs.{specs.Codec.{base32_octets, base32_digits, IsBase32, Cut}, proofs.{CodecBackLemmas.decodes_once, Base64Lemmas.DecodesTo}}
+use Rattle.domain_codecs.proofs.Base64Lemmas.{split_pieces, bytes-drop, joined_groups, decoded_length}
+use Rattle.domain_octets.{specs.Octets.AreOctets, proofs.WordLemmas.{Searched, searched_more}}
 
 -- octets are what the library `base64` takes for bytes
 pub bytes_of : (text : List ℕ) → AreOctets text → IsBytes text

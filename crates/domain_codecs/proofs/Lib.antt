@@ -1,11 +1,6 @@
 pub mod CodecLemmas
-pub mod Scale
 pub mod Base32Lemmas
 pub mod RefusalLemmas
-pub mod OrderLemmas
-pub mod ReadBackLemmas
 pub mod CodecBackLemmas
-pub mod BitGroupLemmas
 pub mod Base64Lemmas
 pub mod JoinedLemmas
-pub mod NoBlankLemmas

@@ -1,7 +1,28 @@
--- octets written in Base 32 with the extended hex alphabet, without padding (RFC 4648, sections 6
+-- numbers as bits, the one that weighs most first
+use Rattle.std.specs.Prelude.{ℕ, ◌-◌, ◌*◌, ◌/◌, ◌%◌, [], ◌∷◌, ◌++◌, length, replicate, ◌+◌, ◌<◌, ◌==◌, nat_le, nat_lt, All, map}
+use Rattle.std.specs.{Prelude.if◌then◌else◌, List.flat_map}
+use Rattle.domain_octets.specs.Octets.{Octets}
+
+-- the eight bits of an octet
+abbrev pub octet_bits : ℕ → Octets
+octet_bits n =
+    (n / 128 % 2) ∷ (n / 64 % 2) ∷ (n / 32 % 2) ∷ (n / 16 % 2) ∷ (n / 8 % 2) ∷ (n / 4 % 2)
+    ∷ (n / 2 % 2) ∷ (n % 2) ∷ []
+
+-- the five bits of a digit
+abbrev pub digit_bits : ℕ → Octets
+digit_bits n = (n / 16 % 2) ∷ (n / 8 % 2) ∷ (n / 4 % 2) ∷ (n / 2 % 2) ∷ (n % 2) ∷ []
+
+-- how many zero bits fill the last of the groups of five that so many octets need
+abbrev pub filling : ℕ → ℕ
+filling count = (5 - 8 * count % 5) % 5
+
+-- the bits of octets, and zero bits up to a multiple of five
+abbrev pub filled_bits : Octets → Octets
+filled_bits octets = flat_map octet_bits octets ++ replicate (filling (length octets)) 0
+
+-- ---- octets written in Base 32 with the extended hex alphabet, without padding (RFC 4648, sections 6
 -- and 7)
-use Rattle.std.specs.Prelude.{ℕ, ◌+◌, ◌*◌, ◌/◌, ◌%◌, ◌<◌, ◌==◌, nat_le, nat_lt, [], ◌∷◌, All, map, if◌then◌else◌}
-use Rattle.domain_octets.specs.Words.{Octets}
 
 -- The digits of octets, five bits each, first bits first, after bits that are left over: a number
 -- below `scale`. Zero bits fill the last digit.

@@ -1,13 +1,15 @@
 -- octets as text: Base 16, Base 32 with the extended hex alphabet, and Base 64 (RFC 4648)
-use Rattle.std.specs.Prelude.{◌≡◌, ℕ, ◌+◌, ◌-◌, ◌*◌, ◌/◌, ◌%◌, ◌<◌, ◌==◌, ◌||◌, ◌&&◌, nat_le, Bool, true, false, not, [], ◌∷◌, map, length, slice_index, take}
-use Rattle.std.specs.{Prelude.{Ok, if◌then◌else◌, Option, Some, None, IsNone, is_some, unwrap_or}, List.AllPass}
-use Rattle.hex.specs.Hex as hex
+use Rattle.std.specs.Prelude.{◌≡◌, ℕ, ◌+◌, ◌-◌, ◌*◌, ◌/◌, ◌%◌, ◌<◌, ◌==◌, ◌||◌, ◌&&◌, nat_le, Bool, true, false, not, [], ◌∷◌, map, length}
+use Rattle.std.specs.Prelude.{slice_index, take, Ok, if◌then◌else◌, Option, Some, None, IsNone, is_some, unwrap_or, ◌≤◌, ◌++◌, codes}
+use Rattle.std.specs.{List.AllPass, Char.encode_utf8}
 use Rattle.base64.specs.Engines.{standard}
-use Rattle.base64.specs.GeneralPurpose as base64
 use Rattle.domain_codecs.specs.declared.codec.{Codec.{Codec, TheVariants.{Base16, Base32Hex, Base64}}, DecodeError.DecodeError}
 use Rattle.domain_codecs.specs.declared.codec.DecodeError.TheVariants.{IllegalChar, ShortInput, ShortBuf, OutOfMemory}
-use Rattle.domain_octets.specs.{declared.error.AppendError.AppendError, Limit.IsOver, Words.Octets, Characters.{plus, slash, equals_sign}}
+use Rattle.domain_octets.specs.{declared.error.AppendError.AppendError, Octets.{IsOver, Octets}, Text.{plus, slash, equals_sign}}
+use Rattle.hex.specs.Hex as hex
+use Rattle.base64.specs.GeneralPurpose as base64
 use Rattle.domain_octets.specs.declared.error.AppendError.TheVariants as append_error
+use Rattle.domain_codecs.specs.declared.codec.DecodeError.TheVariants as decode_error
 
 -- the value of a digit of Base 32 hex, in either case: 0 to 9, and A to V for 10 to 31; as octets
 -- the characters 0, A and a are 48, 65 and 97
@@ -116,3 +118,20 @@ DecodeFault codec limit text (IllegalChar c) = HasBadChar codec text c
 DecodeFault codec limit text ShortInput = HasBadLength codec text
 DecodeFault codec limit text ShortBuf = HasNoRoom codec limit text
 DecodeFault codec limit text OutOfMemory = IsText codec text × IsNone limit
+
+-- ---- texts that are read in pieces
+
+-- a text is a piece of 64 characters, or of all where there are fewer, and what stands after it
+pub record Cut (text piece after : Octets) : Type 0 where
+  pub parts : text ≡ piece ++ after
+  pub small : length piece ≤ 64
+  pub full : length piece < 64 → after ≡ []
+
+-- ---- what errors say
+
+abbrev pub decode_error_text : DecodeError → Octets
+decode_error_text (decode_error.IllegalChar c) =
+    codes "illegal character '" ++ encode_utf8 c ++ codes "'"
+decode_error_text decode_error.ShortInput = codes "incomplete input"
+decode_error_text decode_error.ShortBuf = codes "buffer size exceeded"
+decode_error_text decode_error.OutOfMemory = codes "out of memory"

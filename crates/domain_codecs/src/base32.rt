@@ -4,7 +4,7 @@ ghost use Rattle.std.specs.Fmt.{WritesOnOk};
 ghost use Rattle.domain_codecs.specs.Base32.{AreDigits, base32_from, base32_upper, base32_lower, upper_digit, lower_digit};
 ghost use Rattle.domain_codecs.specs.declared.codec.Codec.TheVariants as codec;
 ghost use Rattle.domain_codecs.specs.Codec.{base32_value, Decodes, DecodeFault, HasNoRoom};
-ghost use Rattle.domain_octets.specs.Words.{Octets};
+ghost use Rattle.domain_octets.specs.Octets.{Octets};
 
 use crate::joined::put;
 use crate::{Codec, DecodeError};
@@ -109,7 +109,7 @@ pub struct Digits<'a> {
 
 impl<'a> Model for Digits<'a> {
     ghost use Rattle.domain_codecs.specs.Base32.{base32_from};
-    ghost use Rattle.domain_octets.specs.Words.{Octets};
+    ghost use Rattle.domain_octets.specs.Octets.{Octets};
 
     ghost Value = { Octets };
 

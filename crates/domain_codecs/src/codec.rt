@@ -1,6 +1,6 @@
 //! Octets as text: Base 16, Base 32 hex and Base 64 (RFC 4648).
 ghost use Rattle.std.specs.Prelude.{◌≡◌, Some};
-ghost use Rattle.domain_codecs.specs.Texts.{decode_error_text};
+ghost use Rattle.domain_codecs.specs.Codec.{decode_error_text};
 ghost use Rattle.domain_codecs.specs.declared.codec.DecodeError.TheVariants as decode_error;
 
 use domain_octets::AppendError;

@@ -2,7 +2,7 @@
 ghost use Rattle.std.specs.Prelude.{◌≤◌, ◌↔◌, length, map, take, Ok, IfOk, IfErr, IfSome, IsErrOf};
 ghost use Rattle.std.specs.List.{concat};
 ghost use Rattle.domain_codecs.specs.Codec.{Decodes, IsText, HasNoRoom, BuildFault, DecodeFault};
-ghost use Rattle.domain_octets.specs.{Limit.HasRoom, Words.AreOctets};
+ghost use Rattle.domain_octets.specs.Octets.{HasRoom, AreOctets};
 
 use crate::base32::digit_or_zero;
 use crate::joined::{Joined, over_eight};

@@ -1,8 +1,8 @@
 //! Texts that are read one after another, as one text.
 ghost use Rattle.std.specs.Prelude.{◌≡◌, IsTrue, ◌+◌, ◌≤◌, ◌%◌, ◌++◌, [], ℕ, length, map, take};
 ghost use Rattle.std.specs.List.{concat};
-ghost use Rattle.domain_codecs.specs.Cut.{Cut};
-ghost use Rattle.domain_octets.specs.Words.{Octets, AreOctets};
+ghost use Rattle.domain_codecs.specs.Codec.{Cut};
+ghost use Rattle.domain_octets.specs.Octets.{Octets, AreOctets};
 
 use std::marker::Model;
 

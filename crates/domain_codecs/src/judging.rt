@@ -2,7 +2,7 @@
 ghost use Rattle.std.specs.Prelude.{◌≡◌, ◌<◌, ◌≤◌, ◌%◌, ◌↔◌, false, IsTrue, IfErr, IfSome, IfNone, OnOk, Some, length, slice_index, take};
 ghost use Rattle.std.specs.List.{AllPass};
 ghost use Rattle.domain_codecs.specs.Codec.{is_digit, IsFirstOther, IsText, TextFault};
-ghost use Rattle.domain_octets.specs.Words.{AreOctets};
+ghost use Rattle.domain_octets.specs.Octets.{AreOctets};
 
 use crate::joined::Joined;
 use crate::{Codec, DecodeError, base32};

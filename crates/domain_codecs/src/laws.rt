@@ -2,18 +2,17 @@
 //! A caller calls the law in its body.
 ghost use Rattle.std.specs.{Prelude.{◌≡◌, ◌≢◌, ◌<◌, ◌^◌, ℕ, []}, Fmt.decimal, List.flat_map};
 ghost use Rattle.std.specs.{Ordering.nat_cmp, Cmp.Lexicographic.slice_cmp};
-ghost use Rattle.domain_codecs.specs.Base32.{base32_from, base32_lower, base32_upper};
+ghost use Rattle.domain_codecs.specs.Base32.{base32_from, base32_lower, base32_upper, digit_bits, filled_bits};
 ghost use Rattle.domain_codecs.specs.{Codec.{IsBase32, Decodes}, declared.codec.Codec.Codec};
 ghost use Rattle.domain_codecs.specs.declared.codec.Codec.TheVariants as codec;
 ghost use Rattle.hex.specs.Hex.{encode_lower, encode_upper};
 ghost use Rattle.base64.specs.{GeneralPurpose.encode_of, Engines.standard};
-ghost use Rattle.domain_codecs.specs.BitGroups.{digit_bits, filled_bits};
-ghost use Rattle.domain_octets.specs.{Line.IsWord, Words.{Octets, AreOctets}};
+ghost use Rattle.domain_octets.specs.{Text.IsWord, Octets.{Octets, AreOctets}};
 
 /// Texts are in the lexicographic order of their octets, of whatever lengths those are (RFC 4648,
 /// section 7). So the owners of NSEC3 records are in the order of their hashes (RFC 5155,
 /// section 3).
-#[tactic(auto, using(crate::proofs::OrderLemmas::lower_keeps, crate::proofs::OrderLemmas::upper_keeps))]
+#[tactic(auto, using(crate::proofs::Base32Lemmas::lower_keeps, crate::proofs::Base32Lemmas::upper_keeps))]
 pub fn base32_keeps_order()
     ensures lower { (x y : Octets) → AreOctets x → AreOctets y
         → slice_cmp nat_cmp (base32_lower x) (base32_lower y) ≡ slice_cmp nat_cmp x y }
@@ -53,7 +52,7 @@ pub fn texts_stand_for_octets_once()
 {}
 
 /// A decimal number is one word, and so is what some octets are written as in a codec.
-#[tactic(auto, using(domain_octets::proofs::WordLemmas::decimal_word, crate::proofs::NoBlankLemmas::lower_hex_word, crate::proofs::NoBlankLemmas::upper_hex_word, crate::proofs::NoBlankLemmas::lower_base32_word, crate::proofs::NoBlankLemmas::upper_base32_word, crate::proofs::NoBlankLemmas::base64_word))]
+#[tactic(auto, using(domain_octets::proofs::WordLemmas::decimal_word, crate::proofs::CodecLemmas::lower_hex_word, crate::proofs::CodecLemmas::upper_hex_word, crate::proofs::CodecLemmas::lower_base32_word, crate::proofs::CodecLemmas::upper_base32_word, crate::proofs::CodecLemmas::base64_word))]
 pub fn texts_are_words()
     ensures decimal { (n : ℕ) → n < 2 ^ 64 → IsWord (decimal n) }
     ensures base16_lower { (octets : Octets) → octets ≢ [] → IsWord (encode_lower octets) }
@@ -65,7 +64,7 @@ pub fn texts_are_words()
 
 /// The digits that texts in Base 32 are made of are the groups of five of the bits of the octets,
 /// the last filled with zero bits (RFC 4648, section 6).
-#[tactic(auto, using(crate::proofs::BitGroupLemmas::digits_are_groups))]
+#[tactic(auto, using(crate::proofs::Base32Lemmas::digits_are_groups))]
 pub fn base32_digits_are_groups_of_bits()
     ensures { (octets : Octets) → AreOctets octets
         → flat_map digit_bits (base32_from 1 0 octets) ≡ filled_bits octets }

@@ -6,28 +6,28 @@ use Rattle.std.specs.Option.{option_map_or}
 use Rattle.std.{proofs.Common.{◌∙◌, arith, inl, inr, ◌⊎◌, ◌≢◌, cond, not, ◌&&◌, Ok, subst}, specs.Cmp.Lexicographic.{nat_list_cmp_total, slice_cmp}}
 use Rattle.std.{proofs.lemmas.Grind.common_steps, specs.{Cmp.IsStrictWeakOrder, List.Sorted.IsStrictlySortedBy, Ordering.{is_eq, nat_cmp}}}
 use Rattle.domain_codecs.specs.Base32.{base32_lower}
-use Rattle.domain_octets.specs.Words.{AreOctets, Octets}
-use Rattle.domain_names.specs.{Name.{is_at_or_below, same_name, last_labels}, Words.Name}
+use Rattle.domain_octets.specs.Octets.{AreOctets, Octets}
+use Rattle.domain_names.specs.Name.{is_at_or_below, same_name, last_labels, Name}
 use Rattle.domain_base.specs.Types.{dname}
-use Rattle.domain_zone.proofs.{FindLemmas.{in_at, mapped_at, pair_is, stands_in}, PairLemmas.{In, all_in, ascending, first_least, one_of_ring, said}}
-use Rattle.domain_zone.proofs.{NameLemmas.{below_itself, below_longer}, OwnerLemmas.{any_in, in_any}, PlaceLemmas.IsOnly}
-use Rattle.domain_zone.specs.{Covering.{covers, matches, matches_or_covers}, Enclosers.{IsClosestEncloser, exists_over}, Zone.{ZoneRecord, is_zone_cut}}
-use Rattle.domain_nsec3.specs.{Chain.{HashedLink, IsOfChain, cycle, ends, ends_of, ChainRecords, HashedName}, Meaning.{IsRecordOf, octets_before, IsAlone}}
-use Rattle.domain_nsec3.{proofs.{ChainLemmas.cycle_length, FaultLemmas.hash_same}, specs.{Config.{ChainConfig, Hash}, Owners.{nsec3_lists, original_owners}}}
-use Rattle.domain_checker.proofs.AlikeLemmas.{hashed_contained_alike}
-use Rattle.domain_checker.proofs.{HashedListLemmas.{tied_is, hash_at, hashes_octets, record_at, match_is_of_name, unheard}, HashedVerdictLemmas.encloser_is}
-use Rattle.domain_checker.specs.{HashedReading.IsUnmatched, HashedVerdict.{is_covered, is_matched, next_closer}, HashedView.{chain_records, HashedRecords}}
-use Rattle.domain_checker.{proofs.EncloserLemmas.same_count, specs.{HashedFacts.{ChainFacts, ChainsAreKnown}, HashedList.{owner_hash, is_hash_match}}}
+use Rattle.domain_zone.proofs.PairLemmas.{in_at, mapped_at, pair_is, stands_in, In, all_in, ascending, first_least, one_of_ring, said, IsOnly}
+use Rattle.domain_zone.{proofs.{NameLemmas.{below_itself, below_longer}, WalkLemmas.{any_in, in_any}}, specs.Covering.{covers, matches, matches_or_covers}}
+use Rattle.domain_zone.specs.{Enclosers.{IsClosestEncloser, exists_over}, Zone.{ZoneRecord, is_zone_cut}}
+use Rattle.domain_nsec3.specs.Chain.{HashedLink, IsOfChain, cycle, ends, ends_of, ChainRecords, HashedName, ChainConfig, Hash, nsec3_lists, original_owners}
+use Rattle.domain_nsec3.{specs.Meaning.{IsRecordOf, octets_before, IsAlone}, proofs.ChainLemmas.{cycle_length, hash_same}}
+use Rattle.domain_checker.proofs.{AlikeLemmas.hashed_contained_alike, HashedListLemmas.{tied_is, hash_at, hashes_octets, record_at, match_is_of_name}}
+use Rattle.domain_checker.{proofs.{HashedListLemmas.unheard, HashedVerdictLemmas.encloser_is}, specs.{HashedReading.IsUnmatched, HashedVerdict.is_covered}}
+use Rattle.domain_checker.specs.HashedVerdict.{is_matched, next_closer, chain_records, HashedRecords, ChainFacts, ChainsAreKnown, owner_hash, is_hash_match}
+use Rattle.domain_checker.proofs.EncloserLemmas.{same_count}
 use Rattle.domain_answer.proofs.HashedAnswerLemmas.{read_proved, IsOfZone, encloser_told as whole_tells, whole_proves, zone_says}
-use Rattle.domain_answer.specs.HashedProved.{AreAskedAlone, hashed_proved_answer, needs_wildcard, tells_encloser, tells_wildcard}
-use Rattle.domain_answer.specs.HashedReading.{IsHashedRead}
-use Rattle.domain_answer.specs.{ZoneAnswer.{is_at_parent, wildcard_below}, declared.answer.Answer.{Answer, TheVariants.{NoCloserName, NotProven}}}
-use Rattle.domain_answer.{proofs.EncloserLemmas.{closest_last, exists_low, strictly_other}, specs.HashedZoneAnswer.{hashed_encloser, hashed_zone_answer}}
+use Rattle.domain_answer.specs.HashedReading.{AreAskedAlone, hashed_proved_answer, needs_wildcard, tells_encloser, tells_wildcard, IsHashedRead}
+use Rattle.domain_answer.specs.{HashedReading.{hashed_encloser, hashed_zone_answer}, ZoneAnswer.{is_at_parent, wildcard_below}, declared.answer.Answer.Answer}
+use Rattle.domain_answer.{specs.declared.answer.Answer.TheVariants.{NoCloserName, NotProven}, proofs.EncloserLemmas.{closest_last, exists_low}}
+use Rattle.domain_answer.proofs.EncloserLemmas.{strictly_other}
 use Rattle.domain_denier.proofs.HashedPickLemmas.{IsPickedRead, none_read, AreAmong, all_among, among_contained, contained, in_place, no_match, others_among}
-use Rattle.domain_denier.specs.HashedPicked.{AreHashedNeeded, AreHashedThere, IsHashedDenial, IsHashedDenied, IsHashedWhole, TellOfTheirParts, all_records}
-use Rattle.domain_denier.specs.HashedPicked.{hashed_picked, picked_without, without_records}
-use Rattle.domain_denier.specs.{HashedSteps.{IsOfHash, tells_hash, IsOfZone as IsOfSomeZone, IsSoleOf}, declared.nsec3.Nsec3Denial.Nsec3Denial}
-use Rattle.domain_denier.{proofs.HashedPickLemmas.{picked_among, read_is, without_others}, specs.Picked.at_place}
+use Rattle.domain_denier.{proofs.HashedPickLemmas.{picked_among, read_is, without_others}, specs.HashedPicked.{AreHashedNeeded, AreHashedThere}}
+use Rattle.domain_denier.specs.HashedPicked.{IsHashedDenial, IsHashedDenied, IsHashedWhole, TellOfTheirParts, all_records, hashed_picked, picked_without}
+use Rattle.domain_denier.specs.HashedPicked.{without_records, IsOfHash, tells_hash, IsOfZone as IsOfSomeZone, IsSoleOf}
+use Rattle.domain_denier.specs.{declared.nsec3.Nsec3Denial.Nsec3Denial, Picked.at_place}
 
 -- ---- lists of hashes that ascend
 

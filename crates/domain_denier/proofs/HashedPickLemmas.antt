@@ -3,23 +3,22 @@ use Rattle.std.proofs.Common.{◌≡◌, ℕ, Bool, true, false, List, [], ◌�
 use Rattle.std.{proofs.{Common.{arith, not, cond, ◌&&◌, nat_eq, ◌⊎◌}, lemmas.List.Elements.All-from_recursion}, specs.Prelude.{All, Err, Ok, option_to_list}}
 use Rattle.std.proofs.lemmas.{Bool.{ne_eqb, or_left, or_right, and_from, eqb-false, false_from_ne_true, false≢true}, Grind.common_steps}
 use Rattle.std.{proofs.lemmas.Option.{slice_get_cases, slice_get_within, get_or_from_slice_get, same_Some}, specs.List.{Contains, find, list_any}}
-use Rattle.domain_octets.{proofs.StdLemmas.none_some, specs.Words.Octets}
-use Rattle.domain_names.specs.{Name.{is_at_or_below, is_strictly_below, lowered, same_name, wire_of, last_labels}, Words.{Label, Name}}
+use Rattle.domain_octets.{proofs.StdLemmas.none_some, specs.Octets.Octets}
+use Rattle.domain_names.specs.Name.{is_at_or_below, is_strictly_below, lowered, same_name, wire_of, last_labels, Label, Name}
 use Rattle.domain_base.specs.Types.{dname}
 use Rattle.domain_bitmap.specs.Blocks.{contains_type}
-use Rattle.domain_zone.proofs.{FindLemmas.{in_front, stands_in, any_none, in_at}, PairLemmas.{In, all_from_in}}
-use Rattle.domain_zone.{proofs.{NameLemmas.{below_itself, below_parent, below_trans, same_itself, below_length}, OwnerLemmas.in_any}, specs.Zone.ZoneRecord}
-use Rattle.domain_nsec3.specs.{Chain.{ChainRecords, HashedLink}, Config.{ChainConfig, Hash, hash_name}}
-use Rattle.domain_checker.proofs.HashedListLemmas.{IsMissed, IsPassed, none_first, none_left, passed_on, heard}
-use Rattle.domain_checker.specs.{HashedEncloser.{Encloser, IsEncloser, encloser_is_cut, next_cover}, HashedList.{is_hash_cover, is_hash_match}}
-use Rattle.domain_checker.specs.{HashedReading.{IsUnmatched, IsNextHash}, HashedVerdict.{IsFirst, is_matched, is_ok_with, next_closer}}
-use Rattle.domain_checker.specs.HashedView.{HashedRecords, chain_records, first_cover, first_match, with_links}
+use Rattle.domain_zone.proofs.{PairLemmas.{in_front, stands_in, any_none, in_at, In, all_from_in}, NameLemmas.{below_itself, below_parent, below_trans}}
+use Rattle.domain_zone.{proofs.{NameLemmas.{same_itself, below_length}, WalkLemmas.in_any}, specs.Zone.ZoneRecord}
+use Rattle.domain_nsec3.specs.Chain.{ChainRecords, HashedLink, ChainConfig, Hash, hash_name}
+use Rattle.domain_checker.{proofs.HashedListLemmas.{IsMissed, IsPassed, none_first, none_left, passed_on, heard}, specs.HashedReading.{Encloser, IsEncloser}}
+use Rattle.domain_checker.specs.{HashedReading.{encloser_is_cut, next_cover, IsUnmatched, IsNextHash}, HashedVerdict.{is_hash_cover, is_hash_match, IsFirst}}
+use Rattle.domain_checker.specs.HashedVerdict.{is_matched, is_ok_with, next_closer, HashedRecords, chain_records, first_cover, first_match, with_links}
 use Rattle.domain_answer.{proofs.{EncloserLemmas.{parent_below, last_above}, HashedAnswerLemmas.{last_low, closer_counts}}, specs.ZoneAnswer.wildcard_below}
 use Rattle.domain_answer.specs.HashedReading.{wildcard_told, IsHashedRead, IsReadOn, IsWildcardRead, encloser_answer, next_answer, own_answer}
 use Rattle.domain_answer.specs.declared.answer.Answer.{Answer, TheVariants.{Referral, Redirected, NoCloserName, NotProven}}
 use Rattle.domain_denier.specs.HashedPicked.{IsHashedWhole, IsPicked, all_records, hashed_picked, other_place, picked_without, without, IsRefusedAbove}
-use Rattle.domain_denier.specs.{HashedPicked.TellsOfName, HashedSteps.{IsOfHash, tells_hash, wildcard_told_by, IsFoundAt, IsOfZone, IsReached, IsCoverAt}}
-use Rattle.domain_denier.specs.{HashedSteps.{IsFirstAnswer, IsPlaced, IsSoleOf, encloser_at, next_role, rests_below}, Picked.{link_at, at_place}}
+use Rattle.domain_denier.specs.HashedPicked.{TellsOfName, IsOfHash, tells_hash, wildcard_told_by, IsFoundAt, IsOfZone, IsReached, IsCoverAt, IsFirstAnswer}
+use Rattle.domain_denier.specs.{HashedPicked.{IsPlaced, IsSoleOf, encloser_at, next_role, rests_below}, Picked.{link_at, at_place}}
 use Rattle.domain_denier.specs.declared.{encloser.PlacedEncloser.PlacedEncloser, nsec3.Nsec3Denial.Nsec3Denial}
 
 -- the records of a zone's chain are read as that chain tells

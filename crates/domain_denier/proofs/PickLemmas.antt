@@ -4,21 +4,19 @@ use Rattle.std.{proofs.{Common.{◌<◌, Bool, cond, not, [], ◌∷◌, ◌++�
 use Rattle.std.proofs.lemmas.Bool.{cases_lt, and_parts, and_left, or_parts, true_from_ne_false, false_from_ne_true, false≢true, or_right}
 use Rattle.std.proofs.lemmas.{List.{get_or_past, length-map, Elements.{All-nil, All-push}}, Option.{get_or_from_slice_get, slice_get-get_or, slice_get-map}}
 use Rattle.std.specs.{Option.option_map, Prelude.{All, option_to_list}}
-use Rattle.domain_names.specs.{Name.{is_at_or_below, is_strictly_below, same_name, last_labels}, Order.before, Words.Name}
-use Rattle.domain_zone.proofs.{FindLemmas.{in_at, pair_is, pairs_length, find_none}, NameLemmas.{below_from, before_right, one_lowered, same_is}}
-use Rattle.domain_zone.{proofs.PairLemmas.said, specs.{Covering.{pairs, matches_or_covers}, Enclosers.{longer, shared}}}
-use Rattle.domain_zone.specs.Zone.{ZoneRecord, unoccluded_owners, is_unoccluded}
+use Rattle.domain_names.specs.Name.{is_at_or_below, is_strictly_below, same_name, last_labels, before, Name}
+use Rattle.domain_zone.proofs.{PairLemmas.{in_at, pair_is, pairs_length, find_none, said}, NameLemmas.{below_from, before_right, one_lowered, same_is}}
+use Rattle.domain_zone.specs.{Covering.{pairs, matches_or_covers}, Enclosers.{longer, shared}, Zone.{ZoneRecord, unoccluded_owners, is_unoccluded}}
 use Rattle.domain_nsec.specs.{Chain.Link, declared.config.GenerateNsecConfig.GenerateNsecConfig}
 use Rattle.domain_checker.proofs.{AlikeLemmas.contained_alike, EncloserLemmas.closest_is, MeantLemmas.{inside, apex_exists, config_with}}
-use Rattle.domain_checker.specs.{Facts.{NsecChainsAreKnown, NsecFacts}, Reading.{is_cover, is_match}, Verdict.has_match_or_cover}
+use Rattle.domain_checker.specs.{Verdict.{NsecChainsAreKnown, NsecFacts, has_match_or_cover}, Reading.{is_cover, is_match}}
 use Rattle.domain_answer.proofs.{ChainLemmas.{facts_leaving, given_never, match_own}, EncloserLemmas.{closest_last, free_parts, wildcard_low, answer_so}}
-use Rattle.domain_answer.specs.{Kinds.IsSo, Proved.{IsAnswered, is_missing, knows_wildcard, proved_answer}, declared.answer.NameAnswer.TheVariants.Given}
-use Rattle.domain_answer.specs.Reading.{IsNameAnswer, name_answer, absent_answer, listed_both, reading, tells_occluded, wildcard_answer}
-use Rattle.domain_answer.specs.{ZoneAnswer.{is_at_parent, wildcard_below, encloser, name_exists, zone_answer}, declared.answer.Answer.Answer}
-use Rattle.domain_answer.specs.declared.answer.{Answer.TheVariants.{AtParent, NoCloserName, OutsideZone, NotProven}, NameAnswer.NameAnswer}
-use Rattle.domain_denier.{proofs.HashedPickLemmas.{record_there, contained}, specs.Judged.{IsOfWildcard, IsSilent, IsTold, Tells}}
-use Rattle.domain_denier.specs.{Picked.{IsOf, IsWhole, at_place, IsDenial, IsFound}, Search.AreEnds, declared.judged.OfWildcard.TheVariants.{Told, Untold}}
-use Rattle.domain_denier.specs.declared.nsec.NsecDenial.{NsecDenial}
+use Rattle.domain_answer.specs.Reading.{IsSo, IsAnswered, is_missing, knows_wildcard, proved_answer, IsNameAnswer, name_answer, absent_answer, listed_both}
+use Rattle.domain_answer.specs.{Reading.{reading, tells_occluded, wildcard_answer}, declared.answer.NameAnswer.TheVariants.Given, ZoneAnswer.is_at_parent}
+use Rattle.domain_answer.specs.{ZoneAnswer.{wildcard_below, encloser, name_exists, zone_answer}, declared.answer.Answer.{Answer, TheVariants.AtParent}}
+use Rattle.domain_answer.specs.declared.answer.{Answer.TheVariants.{NoCloserName, OutsideZone, NotProven}, NameAnswer.NameAnswer}
+use Rattle.domain_denier.{proofs.HashedPickLemmas.{record_there, contained}, specs.Picked.{IsOfWildcard, IsSilent, IsTold, Tells, IsOf, IsWhole, at_place}}
+use Rattle.domain_denier.specs.{Picked.{IsDenial, IsFound, AreEnds}, declared.{judged.OfWildcard.TheVariants.{Told, Untold}, nsec.NsecDenial.NsecDenial}}
 
 abbrev pub ends : Link → Name × Name
 ends k = (k.owner, k.next)

@@ -1,11 +1,26 @@
 -- The records of an NSEC chain that a server answers a question with (RFC 4035, section 3.1.3).
-use Rattle.std.specs.Prelude.{ℕ, ◌≡◌, ◌≢◌, true, false, List, ◌++◌, ◌<◌, length, Option, Some, None, slice_get, option_to_list, option_and_then}
-use Rattle.domain_names.specs.{Name.is_at_or_below, Order.before, Words.Name}
+use Rattle.std.specs.Prelude.{ℕ, ◌≡◌, ◌⊎◌, ◌<◌, ◌≤◌, true, false, List, length, slice_index_or, ◌≢◌, ◌++◌, Option, Some, None, slice_get}
+use Rattle.std.specs.{Prelude.{option_to_list, option_and_then, ⊤, IsTrue}, List.find}
+use Rattle.domain_names.specs.Name.{before, Name, is_at_or_below}
+use Rattle.domain_nsec.specs.{Chain.{Link, IsChain}, declared.config.GenerateNsecConfig.GenerateNsecConfig}
 use Rattle.domain_zone.specs.{Covering.matches_or_covers, Zone.{OwnersNeverDescend, ZoneRecord}}
-use Rattle.domain_nsec.specs.{Chain.{IsChain, Link}, declared.config.GenerateNsecConfig.GenerateNsecConfig}
-use Rattle.domain_answer.specs.{Proved.LeavesOutBelowDname, Reading.reading, ZoneAnswer.{is_at_parent, zone_answer}}
-use Rattle.domain_answer.specs.declared.answer.Answer.TheVariants.{NoCloserName, NotProven}
-use Rattle.domain_denier.specs.declared.nsec.NsecDenial.{NsecDenial}
+use Rattle.domain_answer.specs.{Reading.{LeavesOutBelowDname, reading, wildcard_answer}, ZoneAnswer.{is_at_parent, zone_answer}}
+use Rattle.domain_answer.specs.declared.answer.Answer.{TheVariants.{NoCloserName, NotProven, AtParent, OutsideZone}, Answer}
+use Rattle.domain_answer.specs.declared.answer.NameAnswer.{NameAnswer, TheVariants.{Given, Absent}}
+use Rattle.domain_denier.specs.declared.{nsec.NsecDenial.NsecDenial, judged.OfWildcard.{OfWildcard, TheVariants.{Told, Untold}}}
+use Rattle.domain_checker.specs.Reading.{is_cover, is_match}
+
+-- ---- Between which records of a chain a search for a name may go.
+
+-- the owner at the low end is not after x, and that at the high one is, where the list has one there
+pub record AreEnds (links : List Link) (x : Name) (low high : ℕ) : Type 0 where
+  pub within : low < high
+  pub inside : high ≤ length links
+  pub behind : (low ≡ 0) ⊎ ((d : Link) → before x (slice_index_or links low d).owner ≡ false)
+  pub ahead : (high ≡ length links)
+      ⊎ ((d : Link) → before x (slice_index_or links high d).owner ≡ true)
+
+-- ---- The records of an NSEC chain that a server answers a question with (RFC 4035, section 3.1.3).
 
 -- the link at this place matches or covers x
 pub record IsOf (links : List Link) (place : ℕ) (x : Name) : Type 0 where
@@ -63,3 +78,28 @@ pub record IsDenial (links : List Link) (a x : Name) (t : ℕ) (d : NsecDenial) 
   pub exact : d.answer ≡ reading a (picked links d) x t
   -- of a name outside the zone there are none
   pub outside : is_at_or_below x a ≡ false → (d.of_name ≡ None) × (d.of_wildcard ≡ None)
+
+-- ---- What an answer tells of the records that it comes of.
+
+-- one of them matches or covers the name, which is inside the zone
+pub record IsTold (answer : Answer) : Type 0 where
+  pub inside : answer ≢ OutsideZone
+  pub here : answer ≢ AtParent
+  pub proven : answer ≢ NotProven
+
+-- and so where the name is denied
+abbrev pub Tells : NameAnswer → Type 0
+Tells (Given answer) = IsTold answer
+Tells (Absent n) = ⊤
+
+-- no record of the list matches or covers the wildcard w
+pub record IsSilent (a : Name) (listed : List Link) (w : Name) : Type 0 where
+  pub matching : find (is_match a w) listed ≡ None
+  pub covering : find (is_cover a w) listed ≡ None
+
+-- what the list says of the wildcard w of a name whose closest encloser has n labels
+abbrev pub IsOfWildcard : Name → List Link → ℕ → Name → ℕ → OfWildcard → Type 0
+IsOfWildcard a listed n w t (Told answer) =
+    (answer ≡ wildcard_answer a listed n w t) × ((m : ℕ) → answer ≢ NoCloserName m)
+IsOfWildcard a listed n w t (Untold is_silent) =
+    (wildcard_answer a listed n w t ≡ NoCloserName n) × (IsTrue is_silent → IsSilent a listed w)

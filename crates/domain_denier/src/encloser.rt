@@ -1,8 +1,8 @@
 //! The closest encloser of a name, in an NSEC3 chain.
 ghost use Rattle.std.specs.Prelude.{◌≡◌, ◌<◌, true, length, IfOk, IfErr};
 ghost use Rattle.domain_names.specs.Name.{is_at_or_below};
-ghost use Rattle.domain_nsec3.specs.{Faults.IsNoHash, View.hash_by};
-ghost use Rattle.domain_denier.specs.{HashedPicked.IsRefusedAbove, HashedSteps.IsFoundPlaced};
+ghost use Rattle.domain_nsec3.specs.{Chain.IsNoHash, View.hash_by};
+ghost use Rattle.domain_denier.specs.HashedPicked.{IsRefusedAbove, IsFoundPlaced};
 
 use crate::hash_search::look_up;
 use domain_base::{MAX_NAME, ToName};

@@ -1,7 +1,7 @@
 //! The record of a chain that says something of a hash.
 ghost use Rattle.std.specs.Prelude.{◌≡◌, ◌<◌, Err, length, IfOk, IfErr};
-ghost use Rattle.domain_nsec3.specs.{Config.Hash, Faults.IsNoHash, Meaning.octets_before, View.hash_by};
-ghost use Rattle.domain_denier.specs.{HashedPicked.all_records, HashedSteps.{IsFoundAt, IsOfHash, IsOfZone}};
+ghost use Rattle.domain_nsec3.specs.{Chain.{Hash, IsNoHash}, Meaning.octets_before, View.hash_by};
+ghost use Rattle.domain_denier.specs.HashedPicked.{all_records, IsFoundAt, IsOfHash, IsOfZone};
 
 use domain_checker::laws::hashed_chains_are_known;
 use domain_hasher::{Nsec3HashError, Nsec3Hasher};

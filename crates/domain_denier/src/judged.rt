@@ -1,9 +1,9 @@
 //! What records at places of an NSEC chain say.
 ghost use Rattle.std.specs.Prelude.{◌≡◌, ◌<◌, ◌++◌, Some, length, slice_get, IsTrue};
 ghost use Rattle.domain_names.specs.Name.{last_labels};
-ghost use Rattle.domain_nsec.specs.ChainView.{as_link};
+ghost use Rattle.domain_nsec.specs.Chain.{as_link};
 ghost use Rattle.domain_answer.specs.{Reading.{reading, IsNameAnswer}, ZoneAnswer.wildcard_below, declared.answer.Answer.TheVariants.NoCloserName};
-ghost use Rattle.domain_denier.specs.{Judged.{IsOfWildcard, IsSilent, Tells}, Picked.{at_place, IsFound}};
+ghost use Rattle.domain_denier.specs.Picked.{IsOfWildcard, IsSilent, Tells, at_place, IsFound};
 
 use crate::owner_keys::OwnerKeys;
 use crate::search::{place_of, suggested};

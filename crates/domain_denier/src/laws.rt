@@ -1,10 +1,11 @@
 //! What holds of the NSEC3 chains that records are picked of. A caller calls the law in its body.
 ghost use Rattle.std.specs.Prelude.{◌≡◌, List};
-ghost use Rattle.domain_names.specs.Words.{Name};
+ghost use Rattle.domain_names.specs.Name.{Name};
 ghost use Rattle.domain_zone.specs.Zone.{ZoneRecord};
-ghost use Rattle.domain_nsec3.specs.{Chain.{ChainRecords, IsChainParam, IsHashedChain}, Config.ChainConfig, View.{hash_by, HasherAnswer}};
+ghost use Rattle.domain_nsec3.specs.Chain.{ChainRecords, IsChainParam, IsHashedChain, ChainConfig};
+ghost use Rattle.domain_nsec3.specs.View.{hash_by, HasherAnswer};
 ghost use Rattle.domain_nsec3.specs.declared.config.Nsec3ParamTtlMode.{Nsec3ParamTtlMode};
-ghost use Rattle.domain_answer.specs.Proved.{LeavesOutBelowDname};
+ghost use Rattle.domain_answer.specs.Reading.{LeavesOutBelowDname};
 ghost use Rattle.domain_denier.specs.HashedPicked.{IsHashedWhole};
 
 /// A chain that `Nsec3Chain::generate` gives is one that `deny_nsec3` may be asked of: its

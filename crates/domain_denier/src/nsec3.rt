@@ -1,10 +1,11 @@
 //! What is picked of an NSEC3 chain.
 ghost use Rattle.std.specs.Prelude.{◌≡◌, ◌<◌, ℕ, None, Some, Err, length, slice_get, IfOk, IfErr};
 ghost use Rattle.domain_names.specs.Name.{last_labels};
-ghost use Rattle.domain_nsec3.specs.{Chain.HashedLink, Config.hash_name, Faults.IsNoHash, View.hash_by};
+ghost use Rattle.domain_nsec3.specs.{Chain.{HashedLink, hash_name, IsNoHash}, View.hash_by};
 ghost use Rattle.domain_answer.specs.{HashedReading.flag_of, ZoneAnswer.wildcard_below};
 ghost use Rattle.domain_denier.specs.HashedPicked.{without_records, ArePlaces, IsHashedDenied, IsRefusedAbove};
-ghost use Rattle.domain_denier.specs.{HashedSteps.{wildcard_told_by, IsFirstAnswer, IsWildcardAnswer}, Picked.link_at};
+ghost use Rattle.domain_denier.specs.HashedPicked.{wildcard_told_by, IsFirstAnswer, IsWildcardAnswer};
+ghost use Rattle.domain_denier.specs.Picked.{link_at};
 
 use crate::encloser::{PlacedEncloser, find_encloser};
 use crate::hash_search::{HashPlace, look_up};

@@ -1,6 +1,6 @@
 //! The record of a chain that says something of a name.
 ghost use Rattle.std.specs.Prelude.{◌<◌, length, IfSome};
-ghost use Rattle.domain_denier.specs.{Picked.IsFound, Search.AreEnds};
+ghost use Rattle.domain_denier.specs.Picked.{IsFound, AreEnds};
 
 use crate::owner_keys::OwnerKeys;
 use domain_base::ToName;

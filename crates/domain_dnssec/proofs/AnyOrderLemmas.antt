@@ -1,12 +1,12 @@
 -- What sorted records tell of the records that were given.
 use Rattle.std.{proofs.{Common.{arith, List, ℕ, Option}, lemmas.Grind.common_steps}, specs.declared.cmp.Ordering.Ordering}
 use Rattle.domain_record.specs.declared.record.Record.{Record}
-use Rattle.domain_names.specs.Words.{Name}
+use Rattle.domain_names.specs.Name.{Name}
 use Rattle.domain_nsec.specs.{declared.config.GenerateNsecConfig.GenerateNsecConfig, Chain.IsFirstFault}
-use Rattle.domain_nsec3.specs.{Config.ChainConfig, Faults.IsFirstFault as IsFirstHashedFault}
+use Rattle.domain_nsec3.specs.Chain.{ChainConfig, IsFirstFault as IsFirstHashedFault}
 use Rattle.domain_dnssec.specs.AnyOrder.{Sorts, HasNoChain, HasNoHashedChain, chain_error_of}
 use Rattle.domain_records.specs.{Order.IsOneClass, declared.error.SigningError.SigningError}
-use Rattle.domain_zone.specs.View.{zone_of}
+use Rattle.domain_zone.specs.Zone.{zone_of}
 
 -- where the zone of the sorted set has a fault, that is why the given records have no chain
 module _ {N D : Type 0} (labels : N → Name) (rtype_of : D → ℕ) (minimum_of : D → Option ℕ) (data_cmp : D → D → Ordering)

@@ -2,13 +2,13 @@
 use Rattle.std.proofs.Common.{arith, ◌≡◌, ◌↔◌, ℕ, Bool, true, not, ◌&&◌, ◌||◌, List, [], ◌∷◌, Option, Some, inl, nat_eq, refl, sym, ap, ◌∙◌, subst}
 use Rattle.std.{proofs.lemmas.{Grind.common_steps, List.Folds.{Any-from_list_any, list_any-from_Any}}, specs.{Prelude.{filter, Contains}, List.list_any}}
 use Rattle.std.specs.{FinMap.nat_cmp-IsAntisymmetric, Ordering.{is_eq, ordering_then, nat_cmp}, declared.cmp.Ordering.{Ordering, TheVariants.Equal}}
-use Rattle.domain_names.specs.{Laws.same_name_ties, Order.canonical_cmp, Name.{is_at_or_below, lowered, same_name}, Words.Name}
+use Rattle.domain_names.specs.{Laws.same_name_ties, Name.{canonical_cmp, is_at_or_below, lowered, same_name, Name}}
 use Rattle.domain_record.specs.{Record.record_cmp, declared.record.Record.Record}
 use Rattle.domain_records.specs.Order.{IsOneClass}
-use Rattle.domain_zone.specs.{Soa.{is_soa, numbers_of, of_only, soa_of}, View.{as_zone_record, zone_of}, declared.soa.ApexSoa.ApexSoa}
-use Rattle.domain_zone.specs.Zone.{ZoneRecord, clashes, has_clash, has_type, records_of, is_occluded, is_unoccluded, owns}
-use Rattle.domain_zone.proofs.{NameLemmas.{one_lowered, lowered_below, same_lowered}, OwnerLemmas.{any_filter, any_two}, PairLemmas.In, SharedLemmas.either_way}
-use Rattle.domain_zone.proofs.{ZoneLemmas.any_map, FindLemmas.{in_filter, in_filtered, in_map, from_map}}
+use Rattle.domain_zone.specs.Zone.{is_soa, numbers_of, of_only, soa_of, as_zone_record, zone_of, ZoneRecord, clashes, has_clash, has_type, records_of}
+use Rattle.domain_zone.{specs.{Zone.{is_occluded, is_unoccluded, owns}, declared.soa.ApexSoa.ApexSoa}, proofs.NameLemmas.{one_lowered, lowered_below}}
+use Rattle.domain_zone.proofs.{NameLemmas.{same_lowered, either_way}, WalkLemmas.{any_filter, any_two, any_map}, PairLemmas.{In, in_filter, in_filtered}}
+use Rattle.domain_zone.proofs.PairLemmas.{in_map, from_map}
 use Rattle.domain_base.specs.Types.{ns, dname}
 use Rattle.domain_dnssec.{specs.AnyOrder.Sorts, proofs.AmongLemmas.{contains_in, in_contains, pair_of_two, all_pairs}}
 

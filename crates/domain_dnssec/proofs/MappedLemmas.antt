@@ -2,8 +2,8 @@
 use Rattle.std.proofs.{Common.{◌≡◌, true, List, [], ◌∷◌, map, Option, Some, None, refl, sym, ap, ◌∙◌, subst, inl, inr, arith}, lemmas.Grind.common_steps}
 use Rattle.std.{proofs.lemmas.List.Elements.All-from_recursion, specs.{Prelude.{Any, Contains, find}, Option.option_map, Cmp.{IsTotalOrder, Equal-is}}}
 use Rattle.std.specs.{List.Sorted.IsStrictlySortedBy, Ordering.{is_eq, ordering_reverse}, declared.cmp.Ordering.{Ordering, TheVariants.{Less, Equal, Greater}}}
-use Rattle.domain_records.specs.SortedSet.{IsUnion, first_equal}
-use Rattle.domain_zone.proofs.{PairLemmas.{In, all_in, all_from_in}, FindLemmas.{in_map, from_map, find_some}}
+use Rattle.domain_records.specs.Order.{IsUnion, first_equal}
+use Rattle.domain_zone.proofs.PairLemmas.{In, all_in, all_from_in, in_map, from_map, find_some}
 use Rattle.domain_dnssec.proofs.AmongLemmas.{contains_in, in_contains}
 
 itself : (o : Ordering) → o ≡ ordering_reverse o → o ≡ Equal

@@ -1,19 +1,19 @@
 -- Records whose data are octets in canonical form say what the records say whose data these are.
 use Rattle.std.proofs.{Common.{◌≡◌, ℕ, List, [], ◌∷◌, map, refl, sym, ap, ◌∙◌, subst, arith}, lemmas.{Grind.common_steps, List.Elements.recursion_from_All}}
 use Rattle.std.specs.{Prelude.{◌≢◌, Contains}, List.AllByRecursion}
-use Rattle.domain_octets.specs.Words.{Octets}
-use Rattle.domain_names.specs.Words.{Name}
+use Rattle.domain_octets.specs.Octets.{Octets}
+use Rattle.domain_names.specs.Name.{Name}
 use Rattle.domain_record.specs.{Record.{record_cmp, record_cmp_total}, declared.record.Record.Record}
 use Rattle.domain_rdata.specs.{Zone.{data_cmp, minimum_of, rtype_of}, declared.zone_record_data.ZoneRecordData.{ZoneRecordData, TheVariants.{Soa, Unknown}}}
 use Rattle.domain_records.specs.{Order.IsOneClass, declared.error.SigningError.{SigningError, TheVariants.OutOfMemory as NoRoom}}
-use Rattle.domain_zone.{specs.{View.zone_of, Zone.ZoneRecord}, proofs.PairLemmas.{all_in, all_from_in}}
+use Rattle.domain_zone.{specs.Zone.{zone_of, ZoneRecord}, proofs.PairLemmas.{all_in, all_from_in}}
 use Rattle.domain_borrowed.specs.Data.{RawRecord, zone_of_raw, data_cmp as raw_cmp, data_cmp_total as raw_cmp_total, minimum_of as raw_minimum}
 use Rattle.domain_borrowed.proofs.MinimumLemmas.{minimum_last}
 use Rattle.domain_dnssec.specs.{RawRecords.{HaveOneChain, TellMinima, TellsMinimum, raw_data, raw_record}, AnyOrder.{HasNone, IsWholeHashedChain, OfZone}}
 use Rattle.domain_dnssec.specs.declared.chain.ChainError.{ChainError, TheVariants.MixedClasses}
 use Rattle.domain_dnssec.{specs.declared.chain.ChainError.TheVariants.{Sort, Signing, OutOfMemory}, proofs.{AmongLemmas.contains_in, MappedLemmas.sets_back}}
 use Rattle.domain_nsec.specs.Chain.{IsChain, IsFaultless, IsFirstFault}
-use Rattle.domain_nsec3.specs.Faults.{IsReady, IsFirstFault as IsFirstHashedFault}
+use Rattle.domain_nsec3.specs.Chain.{IsReady, IsFirstFault as IsFirstHashedFault}
 
 module _ {O N : Type 0} (octets : O → Octets) (labels : N → Name) where
   abbrev see : Record N (ZoneRecordData O N) → RawRecord

@@ -2,15 +2,15 @@
 -- answer over its records tells of them.
 use Rattle.std.specs.{Prelude.{◌≡◌, ◌≢◌, ℕ, List, Option, true}, declared.cmp.Ordering.Ordering}
 use Rattle.domain_record.specs.{Record.record_cmp, declared.record.Record.Record}
-use Rattle.domain_records.specs.{Order.IsOneClass, SortedSet.IsUnion, declared.error.SigningError.SigningError}
+use Rattle.domain_records.specs.{Order.{IsOneClass, IsUnion}, declared.error.SigningError.SigningError}
 use Rattle.domain_records.specs.declared.error.SigningError.TheVariants as signing_error
-use Rattle.domain_names.specs.Words.{Name}
+use Rattle.domain_names.specs.Name.{Name}
 use Rattle.domain_nsec.specs.{Chain.{Link, IsChain, IsFaultless, IsFirstFault}, declared.config.GenerateNsecConfig.GenerateNsecConfig}
-use Rattle.domain_nsec3.specs.{Chain.{HashedLink, IsChainParam, IsHashedChain, ParamRecord}, Config.ChainConfig, Faults.IsReady}
-use Rattle.domain_nsec3.specs.{Faults.IsFirstFault as IsFirstHashedFault, declared.config.Nsec3ParamTtlMode.Nsec3ParamTtlMode}
-use Rattle.domain_zone.specs.{View.zone_of, Zone.ZoneRecord}
+use Rattle.domain_nsec3.specs.Chain.{HashedLink, IsChainParam, IsHashedChain, ParamRecord, ChainConfig, IsReady}
+use Rattle.domain_nsec3.specs.{Chain.IsFirstFault as IsFirstHashedFault, declared.config.Nsec3ParamTtlMode.Nsec3ParamTtlMode}
+use Rattle.domain_zone.specs.Zone.{zone_of, ZoneRecord}
 use Rattle.domain_checker.specs.{Verdict.{proved_verdict, zone_verdict}, declared.verdict.Verdict.Verdict}
-use Rattle.domain_answer.specs.{Proved.proved_answer, ZoneAnswer.zone_answer, declared.answer.Answer.Answer}
+use Rattle.domain_answer.specs.{Reading.proved_answer, ZoneAnswer.zone_answer, declared.answer.Answer.Answer}
 use Rattle.domain_dnssec.specs.declared.chain.ChainError.{ChainError, TheVariants.{MixedClasses, Sort, Signing, OutOfMemory}}
 
 -- a fault of a zone as the reason why records have no chain

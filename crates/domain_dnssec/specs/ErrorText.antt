@@ -1,7 +1,7 @@
 -- What the errors of this crate say.
 use Rattle.std.specs.Prelude.{codes}
-use Rattle.domain_octets.specs.Words.{Octets}
-use Rattle.domain_records.specs.ErrorText.{signing_error_text}
+use Rattle.domain_octets.specs.Octets.{Octets}
+use Rattle.domain_records.specs.Text.{signing_error_text}
 use Rattle.domain_dnssec.specs.declared.{chain.ChainError.ChainError, error.Error.Error}
 use Rattle.domain_dnssec.specs.declared.chain.ChainError.TheVariants as chain_error
 use Rattle.domain_dnssec.specs.declared.error.Error.TheVariants as variant

@@ -8,15 +8,11 @@ pub mod ZoneData
 pub mod Wire
 pub use Rattle.domain_zone.specs.Covering
 pub use Rattle.domain_zone.specs.Zone
-pub use Rattle.domain_zone.specs.Soa
 pub use Rattle.domain_zone.specs.Enclosers
-pub use Rattle.domain_zone.specs.View
 pub use Rattle.domain_nsec.specs.Chain
 pub use Rattle.domain_nsec.specs.Meaning
-pub use Rattle.domain_nsec.specs.ChainView
 pub use Rattle.domain_bitmap.specs.Blocks
-pub use Rattle.domain_bitmap.specs.Builder
-pub use Rattle.domain_keys.specs.KeyTag
+pub use Rattle.domain_keys.specs.Keys
 pub use Rattle.domain_records.specs.Order
 pub use Rattle.domain_message.specs.Entry
 pub use Rattle.domain_message.specs.Record

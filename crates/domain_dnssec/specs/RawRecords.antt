@@ -1,12 +1,12 @@
 -- Records whose data are of all types, as records whose data are octets.
 use Rattle.std.specs.Prelude.{◌≢◌, ◌<◌, ◌^◌, List, All}
-use Rattle.domain_octets.specs.Words.{Octets}
-use Rattle.domain_names.specs.Words.{Name}
+use Rattle.domain_octets.specs.Octets.{Octets}
+use Rattle.domain_names.specs.Name.{Name}
 use Rattle.domain_base.specs.Types as rtypes
 use Rattle.domain_record.specs.declared.record.Record.{Record}
 use Rattle.domain_rdata.specs.{Zone.{canonical_octets, rtype_of}, declared.zone_record_data.ZoneRecordData.{ZoneRecordData, TheVariants.{Soa, Unknown}}}
 use Rattle.domain_nsec.specs.{Chain.Link, declared.config.GenerateNsecConfig.GenerateNsecConfig}
-use Rattle.domain_nsec3.specs.{Chain.{HashedLink, ParamRecord}, Config.ChainConfig, declared.config.Nsec3ParamTtlMode.Nsec3ParamTtlMode}
+use Rattle.domain_nsec3.specs.{Chain.{HashedLink, ParamRecord, ChainConfig}, declared.config.Nsec3ParamTtlMode.Nsec3ParamTtlMode}
 use Rattle.domain_borrowed.specs.Data.{RawData, RawRecord, data_cmp, minimum_of}
 use Rattle.domain_dnssec.specs.AnyOrder as any_order
 use Rattle.domain_dnssec.specs.ZoneRecords as zone

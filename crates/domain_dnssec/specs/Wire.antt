@@ -1,9 +1,9 @@
 -- Chains as octets.
 use Rattle.std.specs.{Prelude.{◌≡◌, ◌⊎◌, ◌++◌, ◌<◌, length, List}, List.{Contains, flat_map}}
-use Rattle.domain_octets.specs.Words.{Octets}
+use Rattle.domain_octets.specs.Octets.{Octets}
 use Rattle.domain_nsec.specs.Chain.{Link}
 use Rattle.domain_nsec3.specs.Chain.{ChainRecords}
-use Rattle.domain_borrowed.specs.{Data.RawRecord, Links.{nsec_record, nsec3_record, param_record}, Wire.record_octets}
+use Rattle.domain_borrowed.specs.Data.{RawRecord, nsec_record, nsec3_record, param_record, record_octets}
 use Rattle.domain_dnssec.specs.declared.error.Error.{Error, TheVariants.{LongRecordData, OutOfMemory}}
 
 -- the octets of the records of an NSEC chain, one after another

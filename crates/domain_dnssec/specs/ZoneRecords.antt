@@ -1,11 +1,11 @@
 -- The definitions of `AnyOrder` for records whose data are `ZoneRecordData`.
 use Rattle.std.specs.Prelude.{ℕ, List}
-use Rattle.domain_octets.specs.Words.{Octets}
-use Rattle.domain_names.specs.Words.{Name}
+use Rattle.domain_octets.specs.Octets.{Octets}
+use Rattle.domain_names.specs.Name.{Name}
 use Rattle.domain_record.specs.declared.record.Record.{Record}
 use Rattle.domain_rdata.specs.{Zone.{data_cmp, minimum_of, rtype_of}, declared.zone_record_data.ZoneRecordData.ZoneRecordData}
 use Rattle.domain_nsec.specs.{Chain.Link, declared.config.GenerateNsecConfig.GenerateNsecConfig}
-use Rattle.domain_nsec3.specs.{Chain.{HashedLink, ParamRecord}, Config.ChainConfig, declared.config.Nsec3ParamTtlMode.Nsec3ParamTtlMode}
+use Rattle.domain_nsec3.specs.{Chain.{HashedLink, ParamRecord, ChainConfig}, declared.config.Nsec3ParamTtlMode.Nsec3ParamTtlMode}
 use Rattle.domain_checker.specs.declared.verdict.Verdict.{Verdict}
 use Rattle.domain_answer.specs.declared.answer.Answer.{Answer}
 use Rattle.domain_dnssec.specs.AnyOrder as any_order

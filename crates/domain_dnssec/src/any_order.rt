@@ -1,7 +1,7 @@
 //! Chains of records that are sorted first.
 ghost use Rattle.std.specs.Prelude.{IfErr, IfOk};
 ghost use Rattle.domain_records.specs.Order.{IsOneClass};
-ghost use Rattle.domain_nsec.specs.ChainView.{links_of};
+ghost use Rattle.domain_nsec.specs.Chain.{links_of};
 ghost use Rattle.domain_nsec3.specs.View.{as_param_record, config_of, hashed_links_of};
 ghost use Rattle.domain_dnssec.specs.AnyOrder.{HasNoChain, HasNoHashedChain, HasNoSet, IsChainOf, IsHashedChainOf, Sorts};
 

@@ -1,15 +1,16 @@
 //! What callers may take from names, chains and sorting. A caller calls the law in its body.
 ghost use Rattle.std.specs.Prelude.{◌≡◌, ◌↔◌, ℕ, ◌<◌, All, Bool, false, true, Contains, List, Some, map};
 ghost use Rattle.domain_record.specs.declared.record.Record.{Record};
-ghost use Rattle.domain_names.specs.Words.{Name};
+ghost use Rattle.domain_names.specs.Name.{Name};
 ghost use Rattle.domain_records.specs.Order.{IsOneClass};
-ghost use Rattle.domain_checker.specs.{Alike.{IsAlike, IsPairedIn}, Verdict.IsProved, declared.verdict.Verdict.Verdict};
+ghost use Rattle.domain_checker.specs.Verdict.{IsAlike, IsPairedIn, IsProved};
+ghost use Rattle.domain_checker.specs.declared.verdict.Verdict.{Verdict};
 ghost use Rattle.domain_nsec.specs.Chain.{Link};
 ghost use Rattle.domain_nsec.specs.declared.config.GenerateNsecConfig.{GenerateNsecConfig};
-ghost use Rattle.domain_zone.specs.{Soa.{is_soa, numbers_of, soa_of}, Zone.OwnersNeverDescend};
-ghost use Rattle.domain_zone.specs.Zone.{ZoneRecord, has_clash, has_type, is_unoccluded, owns};
-ghost use Rattle.domain_zone.specs.{Zone.records_of, declared.soa.ApexSoa.ApexSoa, View.zone_of};
-ghost use Rattle.domain_answer.specs.{Proved.IsAnswered, declared.answer.Answer.Answer};
+ghost use Rattle.domain_zone.specs.Zone.{is_soa, numbers_of, soa_of, OwnersNeverDescend, ZoneRecord, has_clash};
+ghost use Rattle.domain_zone.specs.Zone.{has_type, is_unoccluded, owns, records_of, zone_of};
+ghost use Rattle.domain_zone.specs.declared.soa.ApexSoa.{ApexSoa};
+ghost use Rattle.domain_answer.specs.{Reading.IsAnswered, declared.answer.Answer.Answer};
 ghost use Rattle.domain_rdata.specs.declared.zone_record_data.ZoneRecordData.{ZoneRecordData};
 ghost use Rattle.domain_dnssec.specs.AnyOrder.{IsAnswerOf, IsChainOf, IsProvedAnswerOf, IsProvedOf};
 ghost use Rattle.domain_dnssec.specs.AnyOrder.{IsSaidOf, Sorts};

@@ -1,9 +1,8 @@
 //! Chains as messages have their records.
 ghost use Rattle.std.specs.Prelude.{◌≡◌, ◌<◌, ◌++◌, length, IfErr, OnOk};
-ghost use Rattle.domain_nsec.specs.ChainView.{as_link};
+ghost use Rattle.domain_nsec.specs.Chain.{as_link};
 ghost use Rattle.domain_nsec3.specs.View.{as_param_record};
-ghost use Rattle.domain_borrowed.specs.Links.{nsec_record, nsec3_record, param_record};
-ghost use Rattle.domain_borrowed.specs.Wire.{record_octets};
+ghost use Rattle.domain_borrowed.specs.Data.{nsec_record, nsec3_record, param_record, record_octets};
 ghost use Rattle.domain_dnssec.specs.Wire.{nsecs_octets, nsec3s_octets, HasLong, IsUncomposed};
 
 use crate::Error;

@@ -1,12 +1,12 @@
 -- what is read is determined by the octets
 use Rattle.std.proofs.{lemmas.Grind.common_steps, Common.{◌≡◌, ℕ, true, List, [], ◌++◌, length, refl, sym, ap, subst, ◌∙◌, arith, length-append}}
 use Rattle.std.{proofs.Common.{append_assoc, append-nil}, specs.Cmp.{first_so, second_so}}
-use Rattle.domain_names.{specs.Fault.Fault, proofs.FaultLemmas.no_name_fault}
-use Rattle.domain_bitmap.{specs.Blocks.IsBitmap, proofs.FaultLemmas.no_bitmap_fault}
-use Rattle.domain_fields.specs.Field.{Field, rest, types, Value, field_octets, FieldFits, FieldEnds, FieldFault, cut_octet, cut_short, cut_long, no_name}
-use Rattle.domain_fields.specs.Field.{no_spelled_name, no_count, cut_counted, cut_exactly, no_types, too_long}
-use Rattle.domain_fields.specs.Layout.{Layout, one, ◌▸◌, Values, octets_of, Fits, Ends, Begins, ParsesBack, is_delimited, splits, FirstFault, in_field}
-use Rattle.domain_fields.{specs.Layout.{in_first, in_later}, proofs.OrderLemmas.{Same, same_field, same_data}}
+use Rattle.domain_names.{specs.Wire.Fault, proofs.WireLemmas.no_name_fault}
+use Rattle.domain_bitmap.{specs.Blocks.IsBitmap, proofs.BlockLemmas.no_bitmap_fault}
+use Rattle.domain_fields.specs.Layout.{Field, rest, types, Value, field_octets, FieldFits, FieldEnds, FieldFault, cut_octet, cut_short, cut_long, no_name}
+use Rattle.domain_fields.specs.Layout.{no_spelled_name, no_count, cut_counted, cut_exactly, no_types, too_long, Layout, one, ◌▸◌, Values, octets_of, Fits}
+use Rattle.domain_fields.{specs.Layout.{Ends, Begins, ParsesBack, is_delimited, splits, FirstFault, in_field, in_first, in_later}, proofs.LayoutLemmas.Same}
+use Rattle.domain_fields.proofs.LayoutLemmas.{same_field, same_data}
 
 last_field : (f : Field) (v w : Value f) (r s : List ℕ) → FieldFits f v → FieldFits f w → FieldEnds f r → FieldEnds f s
     → field_octets f v ++ r ≡ field_octets f w ++ s → Same v w r s

@@ -1,11 +1,11 @@
 -- octets have one first fault at most
 use Rattle.std.proofs.{lemmas.Grind.common_steps, Common.{◌≡◌, ℕ, zero, suc, ◌+◌, ◌<◌, true, List, [], ◌∷◌, length, drop, refl, sym, ap, subst, ◌∙◌, arith}}
 use Rattle.std.{proofs.{Common.length-append, lemmas.Bool.Decides.nat_tests}, specs.{Prelude.{nat_lt, if◌then◌else◌, codes}, Cmp.{first_so, second_so}}}
-use Rattle.domain_names.specs.Fault.{Fault, ends_early, malformed, NameFault, no_octet, bad_label, long_name, cut_label, past_label}
-use Rattle.domain_bitmap.{specs.Fault.bitmap_fault_of, proofs.FaultLemmas.one_block_fault}
-use Rattle.domain_fields.specs.{Field.{Field, FieldFault, no_types, too_long}, Layout.{Layout, is_delimited, splits, FirstFault, in_field, in_first}}
-use Rattle.domain_fields.specs.Field.{cut_octet, cut_short, cut_long, no_name, no_spelled_name, no_count, cut_counted, cut_exactly}
-use Rattle.domain_fields.{specs.Layout.in_later, proofs.{OrderLemmas.one_reading, ExactLemmas.{fault_excludes, delimited_splits}}}
+use Rattle.domain_names.specs.Wire.{Fault, ends_early, malformed, NameFault, no_octet, bad_label, long_name, cut_label, past_label}
+use Rattle.domain_bitmap.{specs.Blocks.bitmap_fault_of, proofs.BlockLemmas.one_block_fault}
+use Rattle.domain_fields.specs.Layout.{Field, FieldFault, no_types, too_long, Layout, is_delimited, splits, FirstFault, in_field, in_first, cut_octet}
+use Rattle.domain_fields.specs.Layout.{cut_short, cut_long, no_name, no_spelled_name, no_count, cut_counted, cut_exactly, in_later}
+use Rattle.domain_fields.proofs.{LayoutLemmas.one_reading, ExactLemmas.{fault_excludes, delimited_splits}}
 
 -- the fault that a name has, if it has one
 name_fault : ℕ → ℕ → List ℕ → Fault

@@ -1,10 +1,9 @@
 -- grammars of tokens: which of them read tokens in one way at most, and that what they refuse they do not read
 use Rattle.std.proofs.{Common.{arith, ◌≡◌, ℕ, List, Option}, lemmas.Grind.common_steps}
 use Rattle.domain_codecs.specs.declared.codec.Codec.{Codec}
-use Rattle.domain_names.specs.TextFault.{ScanFault, IsOfTokens}
-use Rattle.domain_base.{specs.Scan.{OneToken, RefusesToken, Grammar, Refusal}, proofs.RefusalLemmas.{token_excludes, token_one_fault}}
-use Rattle.domain_fields.specs.{Entry.{Spells, RefusesData}}
-use Rattle.domain_fields.specs.Sequence.{Both, RefusesBoth, ReadsOnce, IsExact}
+use Rattle.domain_names.specs.Text.{ScanFault, IsOfTokens}
+use Rattle.domain_base.{specs.Scan.{OneToken, RefusesToken, Grammar, Refusal}, proofs.TextLemmas.{token_excludes, token_one_fault}}
+use Rattle.domain_fields.specs.Scan.{Spells, RefusesData, Both, RefusesBoth, ReadsOnce, IsExact}
 
 -- a token that spells one value, or is refused for one reason
 pub token_exact : {V : Type 0} (IsOwn : ScanFault → Type 0) (spells : List ℕ → V → Type 0) (Why : ScanFault → List ℕ → Type 0)

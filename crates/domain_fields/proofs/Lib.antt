@@ -1,10 +1,5 @@
-pub mod NameLemmas
-pub mod TargetLemmas
-pub mod ReadLemmas
-pub mod OrderLemmas
+pub mod LayoutLemmas
 pub mod ExactLemmas
-pub mod SameLemmas
 pub mod FaultLemmas
 pub mod ScanLemmas
 pub mod GrammarLemmas
-pub mod ReadBackLemmas

@@ -1,10 +1,129 @@
--- data on the wire: fields in their order
-use Rattle.std.specs.Prelude.{◌≡◌, ◌+◌, [], ◌++◌, length, Bool, true, false, ◌&&◌, Result, IfOk, IfErr, OnErr}
-use Rattle.std.specs.{declared.cmp.Ordering.Ordering, Ordering.nat_cmp}
-use Rattle.std.specs.Cmp.Lexicographic.{slice_cmp}
-use Rattle.domain_octets.specs.{Place.Place, Words.Octets}
-use Rattle.domain_names.specs.Fault.{Fault}
-use Rattle.domain_fields.specs.Field.{Field, rest, types, Value, field_octets, FieldFits, FieldEnds, lower_field, FieldFault}
+-- Data on the wire: fields of some kinds, in their order.
+use Rattle.std.{proofs.Common.{◌≡◌, sym, subst}, specs.Prelude.{ℕ, ◌<◌, ◌≤◌, ◌^◌, [], ◌∷◌, length, codes, ◌+◌, ◌++◌, Bool, true, false}}
+use Rattle.std.specs.{Prelude.{◌&&◌, Result, IfOk, IfErr, OnErr, Option, IsNone, Ok, Err, bytes_eq, ◌==◌, not, bit_and}, Int.{w16, w32}}
+use Rattle.std.specs.{Int.to_be_bytes, declared.cmp.Ordering.Ordering, Ordering.{nat_cmp, on, eq_by_cmp, then_cmp, eq_of_both}}
+use Rattle.std.specs.{Cmp.{Lexicographic.{slice_cmp, bytes_decides, texts_ties, nat_list_cmp_total, on_texts}, both_tied}, List.flat_map}
+use Rattle.std.specs.{Cmp.tied_itself, Hash.{Alike, same_Alike, on_Alike}, declared.cmp.Ordering.TheVariants.Equal}
+use Rattle.domain_octets.specs.{Octets.{Octets, AreOctets, Place, IsOver}, declared.error.AppendError.{AppendError, TheVariants.ShortBuf}}
+use Rattle.domain_octets.specs.declared.error.AppendError.TheVariants.{OutOfMemory}
+use Rattle.domain_names.specs.{Name.{wire_of, lowered, IsName, same_name, Name, canonical_cmp}, Wire.{Fault, ends_early, malformed}}
+use Rattle.domain_names.specs.{Wire.NameFault, Laws.same_name_ties}
+use Rattle.domain_bitmap.specs.Blocks.{IsBitmap, BitmapFault}
+use Rattle.domain_fields.specs.declared.wire_fault.WireFault.{WireFault, TheVariants.{ShortInput, BadLabel, LongName, LongData, BadBitmap}}
+use Rattle.std.specs.Hash as fed
+
+-- ---- the kinds of fields of data on the wire
+
+-- octet, short, long: numbers of 8, 16 and 32 bits
+-- name, spelled_name: a name, which the canonical form lowers, or keeps as it is spelled (RFC 4034,
+-- section 6.2; RFC 6840, section 5.1)
+-- counted: a length octet and so many octets
+-- exactly: so many octets
+-- at_most: no octets, and at most so many after it
+-- rest: all octets that are left
+-- types: a type bitmap, which all octets that are left are (RFC 4034, section 4.1.2)
+pub data Field : Type 0 where
+  octet : Field
+  short : Field
+  long : Field
+  name : Field
+  spelled_name : Field
+  counted : Field
+  exactly : ℕ → Field
+  at_most : ℕ → Field
+  rest : Field
+  types : Field
+
+abbrev pub Value : Field → Type 0
+Value octet = ℕ
+Value short = ℕ
+Value long = ℕ
+Value name = Name
+Value spelled_name = Name
+Value counted = Octets
+Value (exactly count) = Octets
+Value (at_most limit) = Unit {0}
+Value rest = Octets
+Value types = Octets
+
+abbrev pub field_octets : (f : Field) → Value f → Octets
+field_octets octet n = n ∷ []
+field_octets short n = to_be_bytes w16 n
+field_octets long n = to_be_bytes w32 n
+field_octets name labels = wire_of labels
+field_octets spelled_name labels = wire_of labels
+field_octets counted octets = length octets ∷ octets
+field_octets (exactly count) octets = octets
+field_octets (at_most limit) v = []
+field_octets rest octets = octets
+field_octets types octets = octets
+
+-- the values that have octets
+abbrev pub FieldFits : (f : Field) → Value f → Type 0
+FieldFits octet n = n < 2 ^ 8
+FieldFits short n = n < 2 ^ 16
+FieldFits long n = n < 2 ^ 32
+FieldFits name labels = IsName labels
+FieldFits spelled_name labels = IsName labels
+FieldFits counted octets = (length octets < 2 ^ 8) × AreOctets octets
+FieldFits (exactly count) octets = (length octets ≡ count) × AreOctets octets
+FieldFits (at_most limit) v = Unit {0}
+FieldFits rest octets = AreOctets octets
+FieldFits types octets = IsBitmap octets
+
+-- what may stand after the field
+abbrev pub FieldEnds : Field → Octets → Type 0
+FieldEnds (at_most limit) after = length after ≤ limit
+FieldEnds rest after = after ≡ []
+FieldEnds types after = after ≡ []
+FieldEnds _ after = Unit {0}
+
+-- the value in the canonical form
+abbrev pub lower_field : (f : Field) → Value f → Value f
+lower_field name labels = lowered labels
+lower_field _ v = v
+
+-- octets do not begin with so many
+pub record IsCut (octets : Octets) (count : ℕ) (fault : Fault) : Type 0 where
+  pub short : length octets < count
+  pub early : fault ≡ ends_early
+
+-- more octets than so many
+pub record IsLong (octets : Octets) (limit : ℕ) (fault : Fault) : Type 0 where
+  pub long : limit < length octets
+  pub said : fault ≡ malformed (codes "record data too long")
+
+-- why octets begin with no value of the field
+pub data FieldFault : Field → Octets → Fault → Type 0 where
+  cut_octet : (octets : Octets) (fault : Fault) → IsCut octets 1 fault
+      → FieldFault octet octets fault
+  cut_short : (octets : Octets) (fault : Fault) → IsCut octets 2 fault
+      → FieldFault short octets fault
+  cut_long : (octets : Octets) (fault : Fault) → IsCut octets 4 fault → FieldFault long octets fault
+  no_name : (octets : Octets) (fault : Fault) → NameFault 0 octets fault
+      → FieldFault name octets fault
+  no_spelled_name : (octets : Octets) (fault : Fault) → NameFault 0 octets fault
+      → FieldFault spelled_name octets fault
+  no_count : FieldFault counted [] ends_early
+  cut_counted : (count : ℕ) (after : Octets) → length after < count
+      → FieldFault counted (count ∷ after) ends_early
+  cut_exactly : (count : ℕ) (octets : Octets) (fault : Fault) → IsCut octets count fault
+      → FieldFault (exactly count) octets fault
+  no_types : (octets : Octets) (fault : Fault) → BitmapFault octets fault
+      → FieldFault types octets fault
+  too_long : (limit : ℕ) (octets : Octets) (fault : Fault) → IsLong octets limit fault
+      → FieldFault (at_most limit) octets fault
+
+-- ---- what a fault of octets is called
+
+abbrev pub wire_fault_of : WireFault → Fault
+wire_fault_of ShortInput = ends_early
+wire_fault_of BadLabel = malformed (codes "compressed or bad label")
+wire_fault_of LongName = malformed (codes "long domain name")
+wire_fault_of LongData = malformed (codes "record data too long")
+wire_fault_of BadBitmap = malformed (codes "invalid NSEC bitmap")
+
+-- ---- data on the wire: fields in their order
 
 infixr 5 ◌▸◌
 pub data Layout : Type 0 where
@@ -91,3 +210,73 @@ pub record Reads {D E : Type 0} (l : Layout) (values : D → Values l) (fault : 
   pub err : IfErr result (λ e. FirstFault l old.left (fault e))
   pub unmoved : OnErr result (new ≡ old)
   pub goes_on : GoesOn old new
+
+-- ---- octets appended to a builder
+
+-- all of the octets were appended, and had room
+pub record Appended (limit : Option ℕ) (old new octets : Octets) : Type 0 where
+  pub all : new ≡ old ++ octets
+  pub room : IsOver limit (length old + length octets) → ⊥
+
+-- a beginning of the octets was appended
+pub record Began (old new octets : Octets) : Type 0 where
+  pub front : Octets
+  pub back : Octets
+  pub parts : octets ≡ front ++ back
+  pub new_is : new ≡ old ++ front
+
+-- what a refusal leaves, and why it came
+abbrev pub Stops : Option ℕ → AppendError → Octets → Octets → Octets → Type 0
+Stops limit ShortBuf old new octets =
+    Began old new octets × IsOver limit (length old + length octets)
+Stops limit OutOfMemory old new octets = Began old new octets × IsNone limit
+
+-- what appending octets to a builder answers and leaves
+abbrev pub Appends : {X : Type 0} → Option ℕ → Result X AppendError → Octets → Octets
+    → Octets → Type 0
+Appends limit (Ok x) old new octets = Appended limit old new octets
+Appends limit (Err e) old new octets = Stops limit e old new octets
+
+-- ---- what the impls of comparisons cite
+
+-- equal octets are fed alike
+pub fed_alike : {D : Type 0} (octets : D → Octets)
+    → Alike (on octets bytes_eq) (λ d. flat_map fed.u8 (octets d))
+fed_alike octets = on_Alike octets (same_Alike (flat_map fed.u8) bytes_decides)
+
+-- octets that the order does not tell apart are equal
+pub tied_octets : {D : Type 0} (octets : D → Octets) (x y : D)
+    → on octets bytes_eq x y ≡ eq_by_cmp (on octets (slice_cmp nat_cmp)) x y
+tied_octets octets x y = texts_ties (octets x) (octets y)
+
+pub both_true : {a b : Bool} → a ≡ true → b ≡ true → (a && b) ≡ true
+both_true p q = λ i. p i && q i
+
+-- equality and order of a name and octets agree
+pub ties_of_both : {D : Type 0} (labels : D → Name) (octets : D → Octets) (x y : D)
+    → eq_of_both (on labels same_name) (on octets bytes_eq) x y
+    ≡ eq_by_cmp (then_cmp (on labels canonical_cmp) (on octets (slice_cmp nat_cmp))) x y
+ties_of_both labels octets x y =
+    both_tied _ _ _ _ (same_name_ties (labels x) (labels y)) (texts_ties (octets x) (octets y))
+
+-- ---- Copies of data are equal under the canonical order.
+
+-- data with the same fields are equal
+pub same_values_tie : {D : Type 0} (l : Layout) (values : D → Values l) (d copy : D)
+    → values copy ≡ values d
+    → on (λ x. canonical_of l (values x)) (slice_cmp nat_cmp) d copy ≡ Equal
+same_values_tie l values d copy same =
+    rw same (tied_itself nat_list_cmp_total (canonical_of l (values d)))
+
+-- a copy stands at the place of its original in the order of octets
+pub copies_tied : {D : Type 0} (octets : D → Octets) (value copy : D) → copy ≡ value
+    → on octets (slice_cmp nat_cmp) value copy ≡ Equal
+copies_tied octets value copy same =
+    subst (λ d. on octets (slice_cmp nat_cmp) value d ≡ Equal) (sym same)
+    (tied_itself (on_texts octets) value)
+
+-- ---- numbers whose bits are flags
+
+-- the flags have this bit
+abbrev pub has_flag : ℕ → ℕ → Bool
+has_flag flag flags = not (bit_and flags flag == 0)

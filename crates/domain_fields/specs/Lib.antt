@@ -1,12 +1,2 @@
-pub mod Field
-pub mod WireFault
 pub mod Layout
-pub mod Target
-pub mod Laws
 pub mod Scan
-pub mod DataClone
-pub mod Sequence
-pub mod Entry
-pub mod Flag
-pub mod Printed
-pub mod Pieces

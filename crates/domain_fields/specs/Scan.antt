@@ -1,11 +1,57 @@
--- record data as tokens: fields in their order, each as one token
-use Rattle.std.specs.{Prelude.{◌≡◌, ℕ, [], codes, length, Option}, Net.Grammar.IsDotted}
-use Rattle.domain_octets.specs.Words.{Octets}
-use Rattle.domain_names.specs.{Text.NameText, TextFault.{ScanFault, illegal, NameTextFault}}
-use Rattle.domain_names.specs.{Words.{Tokens, Token}}
-use Rattle.domain_base.specs.Scan.{OneToken, RefusesToken, IsNumber, IsNoNumber, Grammar, Refusal}
-use Rattle.domain_fields.specs.Field.{Field, octet, short, long, name, spelled_name, exactly, Value}
-use Rattle.domain_fields.specs.{Layout.{Layout, one, ◌▸◌, Values}, Sequence.{Both, RefusesBoth}}
+-- Data as text: fields in their order, each as one token, and octets that the rest spells.
+use Rattle.std.specs.Prelude.{◌≡◌, ◌⊎◌, ℕ, [], codes, length, Option, Bool, true, false, ◌∷◌, ◌++◌, ◌&&◌, List, Some, None}
+use Rattle.std.specs.{Net.Grammar.IsDotted, List.concat, Fmt.decimal}
+use Rattle.domain_base.specs.Scan.{Refusal, Grammar, OneToken, RefusesToken, IsNumber, IsNoNumber, EntryFault, IsEnd}
+use Rattle.domain_names.specs.{Text.{ScanFault, illegal, NameTextFault, NameText, name_text}, Name.{Tokens, Token}}
+use Rattle.domain_octets.specs.{Octets.{Octets, HasRoom}, Text.{dot, PieceText}}
+use Rattle.domain_fields.specs.Layout.{Field, octet, short, long, name, spelled_name, exactly, Value, Layout, one, ◌▸◌, Values}
+use Rattle.domain_codecs.specs.{Codec.Decodes, declared.codec.Codec.Codec}
+
+-- ---- grammars of tokens: of one token, and one grammar after another
+
+-- one grammar after another
+abbrev pub Both : {V W : Type 0} → Grammar V → Grammar W → Grammar (V × W)
+Both A B old v new = (between : Tokens) × A old v.0 between × B between v.1 new
+
+-- the first is refused, or it is read and the second refused
+abbrev pub RefusesBoth : {V : Type 0} → Grammar V → Refusal → Refusal → Refusal
+RefusesBoth {V} A RA RB old new fault =
+    RA old new fault ⊎ ((v : V) × (between : Tokens) × A old v between × RB between new fault)
+
+-- a grammar that reads tokens in one way at most
+pub record ReadsOnce {V : Type 0} (G : Grammar V) : Type 0 where
+  pub value : (old m n : Tokens) (v w : V) → G old v m → G old w n → v ≡ w
+  pub left : (old m n : Tokens) (v w : V) → G old v m → G old w n → m ≡ n
+
+-- tokens that are refused for a reason of their own, not for want of room or memory, are read as no
+-- value
+abbrev pub Excludes : {V : Type 0} → (ScanFault → Type 0) → Grammar V → Refusal → Type 0
+Excludes {V} IsOwn G R =
+    (old new after : Tokens) (v : V) (fault : ScanFault) → R old new fault → G old v after
+    → IsOwn fault → ⊥
+
+-- they are refused for one reason, and one list of tokens is left
+abbrev pub OneFault : (ScanFault → Type 0) → Refusal → Type 0
+OneFault IsOwn R =
+    (old m n : Tokens) (x y : ScanFault) → R old m x → R old n y → IsOwn x → IsOwn y
+    → (x ≡ y) × (m ≡ n)
+
+pub record IsExact {V : Type 0} (IsOwn : ScanFault → Type 0) (G : Grammar V) (R : Refusal) : Type 0 where
+  pub once : ReadsOnce G
+  pub apart : Excludes IsOwn G R
+  pub one_fault : OneFault IsOwn R
+
+-- all tokens spell one value at most, and none where they are refused, which is for one reason,
+-- whatever is left then
+pub record IsExactEntry {V : Type 0} (IsOwn : ScanFault → Type 0) (spells : Tokens → V → Type 0)
+    (R : Refusal) : Type 0 where
+  pub once : (old : Tokens) (v w : V) → spells old v → spells old w → v ≡ w
+  pub none : (old new : Tokens) (fault : ScanFault) (v : V) → R old new fault → IsOwn fault
+      → spells old v → ⊥
+  pub one_fault : (old m n : Tokens) (x y : ScanFault) → R old m x → R old n y → IsOwn x
+      → IsOwn y → x ≡ y
+
+-- ---- record data as tokens: fields in their order, each as one token
 
 -- the text of a value; kinds of fields that are not read as one token have none
 abbrev pub FieldText : (f : Field) → Token → Value f → Type 0
@@ -45,3 +91,79 @@ Refuses limit (a ▸ b) = RefusesBoth (Scans a) (Refuses limit a) (Refuses limit
 -- all tokens spell the value
 abbrev pub AllTokens : {V : Type 0} → (Tokens → V → Type 0) → Grammar V
 AllTokens spells old v new = spells old v × (new ≡ [])
+
+-- ---- data as tokens: fields, and then octets, which all tokens that are left spell together
+
+-- the tokens spell these fields, in a grammar, and then these octets
+pub record Spells {V : Type 0} (G : Grammar V) (codec : Codec) (tokens : Tokens) (v : V)
+    (octets : Octets) : Type 0 where
+  pub entry : Tokens
+  pub fields : G tokens v entry
+  pub decoded : Decodes codec (concat entry) octets
+
+-- the fields were read, but not the octets, for which the builder has this limit
+pub record RefusesEntry {V : Type 0} (G : Grammar V) (limit : Option ℕ) (codec : Codec)
+    (old new : Tokens) (fault : ScanFault) : Type 0 where
+  pub value : V
+  pub entry : Tokens
+  pub fields : G old value entry
+  pub end_of : IsEnd new entry
+  pub why : EntryFault codec limit fault entry
+
+-- fields and octets were read, for which the builder had room, but these octets may not follow
+-- these fields
+pub record IsUnfit {V : Type 0} (G : Grammar V) (limit : Option ℕ) (Unfit : V → Octets → Type 0)
+    (message : Octets) (codec : Codec) (old new : Tokens) (fault : ScanFault) : Type 0 where
+  pub value : V
+  pub octets : Octets
+  pub spelled : Spells G codec old value octets
+  pub room : HasRoom limit (length octets)
+  pub unfit : Unfit value octets
+  pub all : new ≡ []
+  pub said : fault ≡ illegal message
+
+-- the first field that is refused, and the tokens that are left then; octets that may not follow
+-- are refused with this message
+pub data RefusesData {V : Type 0} (G : Grammar V) (R : Refusal) (limit : Option ℕ)
+    (Unfit : V → Octets → Type 0) (message : Octets) (codec : Codec)
+    (old new : Tokens) (fault : ScanFault) : Type 0 where
+  in_field : R old new fault → RefusesData G R limit Unfit message codec old new fault
+  in_entry : RefusesEntry G limit codec old new fault
+      → RefusesData G R limit Unfit message codec old new fault
+  unfit : IsUnfit G limit Unfit message codec old new fault
+      → RefusesData G R limit Unfit message codec old new fault
+
+-- ---- record data as they are written: fields in their order, each as one token
+
+-- numbers and names are
+abbrev pub is_printed_field : Field → Bool
+is_printed_field octet = true
+is_printed_field short = true
+is_printed_field long = true
+is_printed_field name = true
+is_printed_field spelled_name = true
+is_printed_field _ = false
+
+abbrev pub is_printed : Layout → Bool
+is_printed (one f) = is_printed_field f
+is_printed (a ▸ b) = is_printed a && is_printed b
+
+-- a number in decimal digits, and a name with its last dot
+abbrev pub printed_field : (f : Field) → Value f → Token
+printed_field octet n = decimal n
+printed_field short n = decimal n
+printed_field long n = decimal n
+printed_field name labels = name_text labels ++ dot ∷ []
+printed_field spelled_name labels = name_text labels ++ dot ∷ []
+printed_field _ v = []
+
+abbrev pub printed : (l : Layout) → Values l → Tokens
+printed (one f) v = printed_field f v ∷ []
+printed (a ▸ b) v = printed a v.0 ++ printed b v.1
+
+-- ---- pieces of a zone file, where all of them have a text
+
+-- some pieces and then others
+abbrev pub both_pieces : Option (List PieceText) → Option (List PieceText) → Option (List PieceText)
+both_pieces (Some first) (Some second) = Some (first ++ second)
+both_pieces _ _ = None

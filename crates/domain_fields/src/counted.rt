@@ -1,6 +1,6 @@
 //! Octets that are counted.
 ghost use Rattle.std.specs.Prelude.{◌≡◌, ◌≤◌, refl, length};
-ghost use Rattle.domain_fields.specs.{Field.counted, Layout.one};
+ghost use Rattle.domain_fields.specs.Layout.{counted, one};
 
 use crate::fields::{Delimited, Fields, Rest};
 use domain_octets::{AppendError, OctetsBuilder, laws};

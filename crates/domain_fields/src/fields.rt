@@ -3,10 +3,10 @@ ghost use Rattle.std.specs.Prelude.{◌≡◌, ◌≤◌, ◌-◌, ◌↔◌, So
 ghost use Rattle.std.specs.{Prelude.{drop, fold, map, bytes_eq}, List.flat_map};
 ghost use Rattle.std.specs.{Char.to_ascii_lowercase, Ordering.nat_cmp, Cmp.Lexicographic.slice_cmp};
 ghost use Rattle.std.specs.Hash as fed;
-ghost use Rattle.domain_fields.specs.Field.{Field, Value, field_octets, lower_field, FieldFits, octet, short, long, name, spelled_name, exactly, at_most, rest, types};
-ghost use Rattle.domain_fields.specs.Layout.{Layout, one, ◌▸◌, Values, Fits, octets_of, canonical_of, canonical_order, lower, is_delimited, splits};
-ghost use Rattle.domain_fields.specs.Laws.{both_true};
-ghost use Rattle.domain_fields.specs.Target.{Appends};
+ghost use Rattle.domain_fields.specs.Layout.{Field, Value, field_octets, lower_field, FieldFits, octet, short};
+ghost use Rattle.domain_fields.specs.Layout.{long, name, spelled_name, exactly, at_most, rest, types, Layout};
+ghost use Rattle.domain_fields.specs.Layout.{one, ◌▸◌, Values, Fits, octets_of, canonical_of, canonical_order};
+ghost use Rattle.domain_fields.specs.Layout.{lower, is_delimited, splits, both_true, Appends};
 
 use domain_base::{ParsedName, ToName};
 use domain_bitmap::RtypeBitmap;
@@ -108,7 +108,7 @@ fn feed_octets<H: Hasher>(octets: &[u8], state: &mut H)
 }
 
 /// The lexicographic order of the canonical octets of fields and of other octets.
-#[tactic(auto, using(crate::proofs::OrderLemmas::whole_cmp))]
+#[tactic(auto, using(crate::proofs::LayoutLemmas::whole_cmp))]
 pub fn canonical_cmp_octets<F: Fields>(fields: &F, octets: &[u8]) -> Ordering
     ensures { result ≡ slice_cmp nat_cmp (canonical_of F.layout (F.values fields.now)) octets.now }
 {
@@ -118,7 +118,7 @@ pub fn canonical_cmp_octets<F: Fields>(fields: &F, octets: &[u8]) -> Ordering
 }
 
 /// Whether the canonical octets of fields are the same.
-#[tactic(auto, using(crate::proofs::SameLemmas::equal_octets))]
+#[tactic(auto, using(crate::proofs::LayoutLemmas::equal_octets))]
 pub fn canonical_eq<F: Fields>(fields: &F, other: &F) -> bool
     ensures octets { result ≡ bytes_eq (canonical_of F.layout (F.values fields.now))
         (canonical_of F.layout (F.values other.now)) }
@@ -200,7 +200,7 @@ impl<'a> Octeted for Spelled<ParsedName<'a>> {
 
     ghost keeps = { λ v. refl };
 
-    #[tactic(auto, using(domain_names::proofs::WireLemmas::wire_is, crate::proofs::NameLemmas::name_fits))]
+    #[tactic(auto, using(domain_names::proofs::WireLemmas::wire_is, crate::proofs::LayoutLemmas::name_fits))]
     fn octets<'o>(&'o self, _buffer: &'o mut [u8; 4]) -> &'o [u8] {
         self.0.as_wire()
     }
@@ -325,7 +325,7 @@ impl<'a> Fields for ParsedName<'a> {
         self.compose(target)
     }
 
-    #[tactic(auto, using(std::proofs::lemmas::Grind::common_steps, domain_names::proofs::CaseLemmas::lowered_size), unfolding(crate::specs::Layout::octets_of))]
+    #[tactic(auto, using(std::proofs::lemmas::Grind::common_steps, domain_names::proofs::OrderLemmas::lowered_size), unfolding(crate::specs::Layout::octets_of))]
     fn put_canonical<B: OctetsBuilder>(&self, target: &mut B) -> Result<(), AppendError> {
         let _wire = self.as_wire();
         self.compose_canonical(target)
@@ -336,14 +336,14 @@ impl<'a> Fields for ParsedName<'a> {
         self.lowercase_composed_cmp(other)
     }
 
-    #[tactic(auto, using(crate::proofs::NameLemmas::lowered_from), unfolding(crate::specs::Layout::octets_of))]
+    #[tactic(auto, using(crate::proofs::LayoutLemmas::lowered_from), unfolding(crate::specs::Layout::octets_of))]
     fn order_from<'o>(&self, octets: &'o [u8]) -> (Ordering, &'o [u8]) {
         let wire = self.as_wire();
         let (front, back) = split_up_to(octets, wire.len());
         (lowered_with_octets_cmp(wire, front), back)
     }
 
-    #[tactic(auto, using(domain_names::proofs::CaseLemmas::lowered_wire, std::proofs::lemmas::Grind::common_steps), unfolding(crate::specs::Layout::octets_of))]
+    #[tactic(auto, using(domain_names::proofs::OrderLemmas::lowered_wire, std::proofs::lemmas::Grind::common_steps), unfolding(crate::specs::Layout::octets_of))]
     fn feed<H: Hasher>(&self, state: &mut H) {
         let wire = self.as_wire();
         for octet in wire {
@@ -351,7 +351,7 @@ impl<'a> Fields for ParsedName<'a> {
         }
     }
 
-    #[tactic(auto, using(crate::proofs::NameLemmas::name_fits))]
+    #[tactic(auto, using(crate::proofs::LayoutLemmas::name_fits))]
     fn fits(&self) {
         let _wire = self.as_wire();
     }
@@ -362,30 +362,30 @@ impl<A: Delimited, B: Fields> Fields for (A, B) {
 
     ghost values = { λ p. (A.values p.0, B.values p.1) };
 
-    #[tactic(auto, using(crate::proofs::OrderLemmas::length_both))]
+    #[tactic(auto, using(crate::proofs::LayoutLemmas::length_both))]
     fn count(&self) -> u16 {
         self.0.count() + self.1.count()
     }
 
-    #[tactic(auto, using(crate::proofs::OrderLemmas::length_both))]
+    #[tactic(auto, using(crate::proofs::LayoutLemmas::length_both))]
     fn room_after(&self, limit: usize) -> Option<usize> {
         let left = self.0.room_after(limit)?;
         self.1.room_after(left)
     }
 
-    #[tactic(auto, using(crate::proofs::TargetLemmas::writing, std::proofs::lemmas::Grind::common_steps, crate::proofs::TargetLemmas::stops_both))]
+    #[tactic(auto, using(crate::proofs::LayoutLemmas::writing, std::proofs::lemmas::Grind::common_steps, crate::proofs::LayoutLemmas::stops_both))]
     fn put<T: OctetsBuilder>(&self, target: &mut T) -> Result<(), AppendError> {
         self.0.put(target)?;
         self.1.put(target)
     }
 
-    #[tactic(auto, using(crate::proofs::TargetLemmas::writing, std::proofs::lemmas::Grind::common_steps, crate::proofs::TargetLemmas::stops_both))]
+    #[tactic(auto, using(crate::proofs::LayoutLemmas::writing, std::proofs::lemmas::Grind::common_steps, crate::proofs::LayoutLemmas::stops_both))]
     fn put_canonical<T: OctetsBuilder>(&self, target: &mut T) -> Result<(), AppendError> {
         self.0.put_canonical(target)?;
         self.1.put_canonical(target)
     }
 
-    #[tactic(auto, using(std::proofs::lemmas::Grind::common_steps, crate::proofs::OrderLemmas::order_both))]
+    #[tactic(auto, using(std::proofs::lemmas::Grind::common_steps, crate::proofs::LayoutLemmas::order_both))]
     fn order(&self, other: &Self) -> Ordering {
         self.0.fits();
         other.0.fits();
@@ -393,14 +393,14 @@ impl<A: Delimited, B: Fields> Fields for (A, B) {
         front.then_with(|| self.1.order(&other.1))
     }
 
-    #[tactic(auto, using(crate::proofs::OrderLemmas::both_from))]
+    #[tactic(auto, using(crate::proofs::LayoutLemmas::both_from))]
     fn order_from<'o>(&self, octets: &'o [u8]) -> (Ordering, &'o [u8]) {
         let (front, after) = self.0.order_from(octets);
         let (back, rest) = self.1.order_from(after);
         (front.then(back), rest)
     }
 
-    #[tactic(auto, using(crate::proofs::OrderLemmas::feed_both, std::proofs::lemmas::Grind::common_steps, crate::proofs::OrderLemmas::fold_both))]
+    #[tactic(auto, using(crate::proofs::LayoutLemmas::feed_both, std::proofs::lemmas::Grind::common_steps, crate::proofs::LayoutLemmas::fold_both))]
     fn feed<H: Hasher>(&self, state: &mut H) {
         self.0.feed(state);
         self.1.feed(state);

@@ -2,12 +2,11 @@
 //! A caller calls the law in its body.
 ghost use Rattle.std.specs.{Prelude.{◌≡◌, ℕ, ◌++◌, [], Option, true}, List.AllByRecursion};
 ghost use Rattle.std.specs.Ordering.{ordering_then};
-ghost use Rattle.domain_octets.specs.{Line.IsWord, Words.Octets};
-ghost use Rattle.domain_names.specs.{Fault.Fault, TextFault.{ScanFault, IsOfTokens}, Words.Tokens};
-ghost use Rattle.domain_fields.specs.{Field.Field, Printed.{is_printed, printed}, Scan.Scans};
-ghost use Rattle.domain_fields.specs.{Scan.Refuses, Layout.{Layout, one, ◌▸◌, Values, Begins}};
-ghost use Rattle.domain_fields.specs.Layout.{FirstFault, Fits, Ends, ParsesBack, splits};
-ghost use Rattle.domain_fields.specs.{Layout.{is_delimited, canonical_order}, Sequence.IsExact};
+ghost use Rattle.domain_octets.specs.{Text.IsWord, Octets.Octets};
+ghost use Rattle.domain_names.specs.{Wire.Fault, Text.{ScanFault, IsOfTokens}, Name.Tokens};
+ghost use Rattle.domain_fields.specs.Layout.{Field, Layout, one, ◌▸◌, Values, Begins, FirstFault, Fits, Ends};
+ghost use Rattle.domain_fields.specs.Layout.{ParsesBack, splits, is_delimited, canonical_order};
+ghost use Rattle.domain_fields.specs.Scan.{is_printed, printed, Scans, Refuses, IsExact};
 
 /// Octets begin with data of given fields in one way at most, and in none where they have a fault.
 pub fn reading_is_exact()
@@ -32,7 +31,7 @@ pub fn composed_data_parses_back()
 {}
 
 /// In the order of canonical octets earlier fields decide before later ones.
-#[tactic(auto, using(crate::proofs::OrderLemmas::order_both))]
+#[tactic(auto, using(crate::proofs::LayoutLemmas::order_both))]
 pub fn fields_decide_in_order()
     ensures { (a b : Layout) (v w : Values a) (x y : Values b) → is_delimited a ≡ true
         → Fits a v → Fits a w
@@ -54,7 +53,7 @@ pub fn texts_of_fields_are_exact()
 
 /// What numbers and names are written as, a token each, is read as these values, and what follows
 /// is left. Each of these tokens is one word.
-#[tactic(auto, using(crate::proofs::ReadBackLemmas::fields_back, crate::proofs::ReadBackLemmas::fields_words))]
+#[tactic(auto, using(crate::proofs::ScanLemmas::fields_back, crate::proofs::ScanLemmas::fields_words))]
 pub fn fields_are_read_back()
     ensures values { (l : Layout) (v : Values l) (after : Tokens) → is_printed l ≡ true → Fits l v
         → Scans l (printed l v ++ after) v after }

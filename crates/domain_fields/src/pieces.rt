@@ -1,7 +1,7 @@
 //! Pieces of a zone file, written one after another.
 ghost use Rattle.std.specs.{Prelude.{◌≡◌, ◌++◌, ◌∷◌, [], List, Option, IfSome, OnOk}, Option.option_map};
-ghost use Rattle.domain_octets.specs.Piece.{PieceText, token, comment, opens, closes};
-ghost use Rattle.domain_fields.specs.Pieces.{both_pieces};
+ghost use Rattle.domain_octets.specs.Text.{PieceText, token, comment, opens, closes};
+ghost use Rattle.domain_fields.specs.Scan.{both_pieces};
 
 use domain_octets::{Formatter, OutOfMemory};
 use std::fmt::Display;

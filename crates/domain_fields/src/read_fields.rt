@@ -1,7 +1,6 @@
 //! The fields of record data, read from octets.
-ghost use Rattle.domain_fields.specs.WireFault.{wire_fault_of};
-ghost use Rattle.domain_fields.specs.Field.{octet, short, long, name, spelled_name, counted, exactly, at_most, rest, types};
-ghost use Rattle.domain_fields.specs.Layout.{Layout, one, ◌▸◌, Values, Reads};
+ghost use Rattle.domain_fields.specs.Layout.{wire_fault_of, octet, short, long, name, spelled_name, counted};
+ghost use Rattle.domain_fields.specs.Layout.{exactly, at_most, rest, types, Layout, one, ◌▸◌, Values, Reads};
 
 use crate::WireFault;
 use crate::counted::Counted;
@@ -31,7 +30,7 @@ impl<'a> ReadFields<'a> for u8 {
 
     ghost values = { λ n. n };
 
-    #[tactic(auto, using(crate::proofs::ReadLemmas::reading), unfolding(crate::specs::Layout::octets_of))]
+    #[tactic(auto, using(crate::proofs::LayoutLemmas::reading), unfolding(crate::specs::Layout::octets_of))]
     fn read(parser: &mut Parser<'a>) -> Result<u8, WireFault> {
         match parser.parse_u8() {
             Ok(n) => Ok(n),
@@ -45,7 +44,7 @@ impl<'a> ReadFields<'a> for u16 {
 
     ghost values = { λ n. n };
 
-    #[tactic(auto, using(crate::proofs::ReadLemmas::reading), unfolding(crate::specs::Layout::octets_of))]
+    #[tactic(auto, using(crate::proofs::LayoutLemmas::reading), unfolding(crate::specs::Layout::octets_of))]
     fn read(parser: &mut Parser<'a>) -> Result<u16, WireFault> {
         match parser.parse_u16() {
             Ok(n) => Ok(n),
@@ -59,7 +58,7 @@ impl<'a> ReadFields<'a> for u32 {
 
     ghost values = { λ n. n };
 
-    #[tactic(auto, using(crate::proofs::ReadLemmas::reading), unfolding(crate::specs::Layout::octets_of))]
+    #[tactic(auto, using(crate::proofs::LayoutLemmas::reading), unfolding(crate::specs::Layout::octets_of))]
     fn read(parser: &mut Parser<'a>) -> Result<u32, WireFault> {
         match parser.parse_u32() {
             Ok(n) => Ok(n),
@@ -73,7 +72,7 @@ impl<'a> ReadFields<'a> for ParsedName<'a> {
 
     ghost values = { λ n. n };
 
-    #[tactic(auto, using(crate::proofs::ReadLemmas::reading), unfolding(crate::specs::Layout::octets_of))]
+    #[tactic(auto, using(crate::proofs::LayoutLemmas::reading), unfolding(crate::specs::Layout::octets_of))]
     fn read(parser: &mut Parser<'a>) -> Result<ParsedName<'a>, WireFault> {
         Ok(ParsedName::read(parser)?)
     }
@@ -84,7 +83,7 @@ impl<'a> ReadFields<'a> for Spelled<ParsedName<'a>> {
 
     ghost values = { λ n. n.0 };
 
-    #[tactic(auto, using(crate::proofs::ReadLemmas::reading), unfolding(crate::specs::Layout::octets_of))]
+    #[tactic(auto, using(crate::proofs::LayoutLemmas::reading), unfolding(crate::specs::Layout::octets_of))]
     fn read(parser: &mut Parser<'a>) -> Result<Spelled<ParsedName<'a>>, WireFault> {
         Ok(Spelled(ParsedName::read(parser)?))
     }
@@ -95,7 +94,7 @@ impl<'a, const COUNT: usize> ReadFields<'a> for Exactly<COUNT> {
 
     ghost values = { λ n. n.0 };
 
-    #[tactic(auto, using(crate::proofs::ReadLemmas::reading), unfolding(crate::specs::Layout::octets_of))]
+    #[tactic(auto, using(crate::proofs::LayoutLemmas::reading), unfolding(crate::specs::Layout::octets_of))]
     fn read(parser: &mut Parser<'a>) -> Result<Exactly<COUNT>, WireFault> {
         match parser.parse_octets(COUNT) {
             Ok(octets) => {
@@ -114,7 +113,7 @@ impl<'a> ReadFields<'a> for Counted<'a> {
 
     ghost values = { λ n. n.octets.now };
 
-    #[tactic(auto, using(crate::proofs::ReadLemmas::reading), unfolding(crate::specs::Layout::octets_of))]
+    #[tactic(auto, using(crate::proofs::LayoutLemmas::reading), unfolding(crate::specs::Layout::octets_of))]
     fn read(parser: &mut Parser<'a>) -> Result<Counted<'a>, WireFault> {
         let mut ahead = parser.fork();
         let Ok(count) = ahead.parse_u8() else {
@@ -136,7 +135,7 @@ impl<'a, const LIMIT: usize> ReadFields<'a> for AtMost<LIMIT> {
 
     ghost values = { λ n. tt };
 
-    #[tactic(auto, using(crate::proofs::ReadLemmas::reading), unfolding(crate::specs::Layout::octets_of))]
+    #[tactic(auto, using(crate::proofs::LayoutLemmas::reading), unfolding(crate::specs::Layout::octets_of))]
     fn read(parser: &mut Parser<'a>) -> Result<AtMost<LIMIT>, WireFault> {
         if parser.remaining() > LIMIT {
             return Err(WireFault::LongData);
@@ -150,7 +149,7 @@ impl<'a> ReadFields<'a> for Rest<'a> {
 
     ghost values = { λ n. n.0.now };
 
-    #[tactic(auto, using(crate::proofs::ReadLemmas::reading), unfolding(crate::specs::Layout::octets_of))]
+    #[tactic(auto, using(crate::proofs::LayoutLemmas::reading), unfolding(crate::specs::Layout::octets_of))]
     fn read(parser: &mut Parser<'a>) -> Result<Rest<'a>, WireFault> {
         let octets = parser.peek_all();
         laws::slices_hold_octets(octets);
@@ -164,7 +163,7 @@ impl<'a> ReadFields<'a> for RtypeBitmap<&'a [u8]> {
 
     ghost values = { λ b. b };
 
-    #[tactic(auto, using(crate::proofs::ReadLemmas::reading), unfolding(crate::specs::Layout::octets_of))]
+    #[tactic(auto, using(crate::proofs::LayoutLemmas::reading), unfolding(crate::specs::Layout::octets_of))]
     fn read(parser: &mut Parser<'a>) -> Result<RtypeBitmap<&'a [u8]>, WireFault> {
         let octets = parser.peek_all();
         let types = RtypeBitmap::from_octets(octets)?;
@@ -178,7 +177,7 @@ impl<'a, A: ReadFields<'a>, B: ReadFields<'a>> ReadFields<'a> for (A, B) {
 
     ghost values = { λ p. (A.values p.0, B.values p.1) };
 
-    #[tactic(auto, using(crate::proofs::ReadLemmas::pairs))]
+    #[tactic(auto, using(crate::proofs::LayoutLemmas::pairs))]
     fn read(parser: &mut Parser<'a>) -> Result<(A, B), WireFault> {
         let mut ahead = parser.fork();
         let first = A::read(&mut ahead)?;

@@ -1,9 +1,8 @@
 //! The fields of record data as tokens.
 ghost use Rattle.std.specs.Net.{Addr.ipv4_octets, Grammar.IsDotted};
-ghost use Rattle.domain_fields.specs.Field.{octet, short, long, name, exactly};
-ghost use Rattle.domain_fields.specs.Layout.{Layout, one, ◌▸◌, Values};
-ghost use Rattle.domain_base.specs.Scan.{ReadsTokens};
+ghost use Rattle.domain_fields.specs.Layout.{octet, short, long, name, exactly, Layout, one, ◌▸◌, Values};
 ghost use Rattle.domain_fields.specs.Scan.{Scans, Refuses, IsNoAddress};
+ghost use Rattle.domain_base.specs.Scan.{ReadsTokens};
 
 use domain_base::{FromToken, ScanError, Scanner, ToName};
 use std::alloc::Global;

@@ -1,7 +1,7 @@
 //! Why octets are no data.
 ghost use Rattle.std.specs.Prelude.{◌≡◌};
-ghost use Rattle.domain_names.specs.Fault.{fault_of, name_fault_of};
-ghost use Rattle.domain_bitmap.specs.Fault.{bitmap_fault_of};
+ghost use Rattle.domain_names.specs.Wire.{fault_of, name_fault_of};
+ghost use Rattle.domain_bitmap.specs.Blocks.{bitmap_fault_of};
 
 use domain_base::{NameError, ParseError};
 use domain_bitmap::RtypeBitmapError;
@@ -22,7 +22,7 @@ pub enum WireFault {
 }
 
 impl From<NameError> for WireFault {
-    ghost use Rattle.domain_fields.specs.WireFault.{wire_fault_of};
+    ghost use Rattle.domain_fields.specs.Layout.{wire_fault_of};
 
     ghost from_gives = { λ n w. wire_fault_of w ≡ name_fault_of n };
 
@@ -36,7 +36,7 @@ impl From<NameError> for WireFault {
 }
 
 impl From<RtypeBitmapError> for WireFault {
-    ghost use Rattle.domain_fields.specs.WireFault.{wire_fault_of};
+    ghost use Rattle.domain_fields.specs.Layout.{wire_fault_of};
 
     ghost from_gives = { λ b w. wire_fault_of w ≡ bitmap_fault_of b };
 
@@ -49,7 +49,7 @@ impl From<RtypeBitmapError> for WireFault {
 }
 
 impl From<WireFault> for ParseError {
-    ghost use Rattle.domain_fields.specs.WireFault.{wire_fault_of};
+    ghost use Rattle.domain_fields.specs.Layout.{wire_fault_of};
 
     ghost from_gives = { λ w e. fault_of e ≡ wire_fault_of w };
 

@@ -1,6 +1,6 @@
 -- What refusals to hash say.
 use Rattle.std.specs.{Prelude.{◌++◌, codes}, Fmt.decimal}
-use Rattle.domain_octets.specs.Words.{Octets}
+use Rattle.domain_octets.specs.Octets.{Octets}
 use Rattle.domain_hasher.specs.declared.{hasher.HasherError.HasherError, error.Nsec3HashError.Nsec3HashError}
 use Rattle.domain_hasher.specs.declared.hasher.HasherError.TheVariants as hasher_error
 use Rattle.domain_hasher.specs.declared.error.Nsec3HashError.TheVariants as hash_error

@@ -1,3 +1,1 @@
-pub mod KeyTagLemmas
 pub mod DataLemmas
-pub mod RefusalLemmas

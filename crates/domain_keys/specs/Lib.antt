@@ -1,5 +1,1 @@
-pub mod Data
-pub mod KeyTag
-pub mod Flags
-pub mod Scan
-pub mod Pieces
+pub mod Keys

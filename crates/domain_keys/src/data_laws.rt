@@ -1,10 +1,9 @@
 //! What holds of the octets and the texts of keys and digests (RFC 4034, sections 2 and 5).
 //! A caller calls the law in its body.
-ghost use Rattle.domain_octets.specs.Line.{words_of};
+ghost use Rattle.domain_octets.specs.Text.{words_of};
 ghost use Rattle.domain_fields.specs.Layout.{ParsesBack};
 ghost use Rattle.domain_codecs.specs.declared.codec.Codec.TheVariants.{Base16, Base64};
-ghost use Rattle.domain_keys.specs.Data.{key_fields, key_values};
-ghost use Rattle.domain_keys.specs.{Pieces.{dnskey_text, ds_text}, Scan.KeyText};
+ghost use Rattle.domain_keys.specs.Keys.{key_fields, key_values, dnskey_text, ds_text, KeyText};
 
 use crate::{Dnskey, Ds, KeyData, KeyKind};
 use domain_octets::Octets;

@@ -2,10 +2,9 @@
 ghost use Rattle.std.specs.Prelude.{◌≡◌, ◌≤◌, ◌↔◌, IsOk, IfOk, length};
 ghost use Rattle.domain_base.specs.Types as rtypes;
 ghost use Rattle.domain_codecs.specs.declared.codec.Codec.TheVariants as codecs;
-ghost use Rattle.domain_keys.specs.Data.{key_data, key_octets, dnskey_flags, dnskey_protocol};
-ghost use Rattle.domain_keys.specs.Data.{dnskey_algorithm, dnskey_public_key};
-ghost use Rattle.domain_keys.specs.Flags.{is_revoked, is_secure_entry_point, is_zone_key};
-ghost use Rattle.domain_keys.specs.KeyTag.{key_tag_of};
+ghost use Rattle.domain_keys.specs.Keys.{key_data, key_octets, dnskey_flags, dnskey_protocol, dnskey_algorithm};
+ghost use Rattle.domain_keys.specs.Keys.{dnskey_public_key, is_revoked, is_secure_entry_point, is_zone_key};
+ghost use Rattle.domain_keys.specs.Keys.{key_tag_of};
 
 use crate::{KeyData, KeyKind, flags, key_tag};
 use domain_base::{Rtype, SecurityAlgorithm};

@@ -2,8 +2,8 @@
 ghost use Rattle.std.specs.Prelude.{◌≡◌, ◌≤◌, ◌↔◌, IsOk, IfOk, length};
 ghost use Rattle.domain_base.specs.Types as rtypes;
 ghost use Rattle.domain_codecs.specs.declared.codec.Codec.TheVariants as codecs;
-ghost use Rattle.domain_keys.specs.Data.{key_data, key_octets, ds_key_tag, ds_algorithm};
-ghost use Rattle.domain_keys.specs.Data.{ds_digest_type, ds_digest};
+ghost use Rattle.domain_keys.specs.Keys.{key_data, key_octets, ds_key_tag, ds_algorithm, ds_digest_type};
+ghost use Rattle.domain_keys.specs.Keys.{ds_digest};
 
 use crate::{KeyData, KeyKind};
 use domain_base::{DigestAlgorithm, Rtype, SecurityAlgorithm};

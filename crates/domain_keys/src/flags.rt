@@ -1,6 +1,6 @@
 //! The flags of keys (RFC 4034, section 2.1.1; RFC 5011, section 3).
 ghost use Rattle.std.specs.Prelude.{◌≡◌, Some};
-ghost use Rattle.domain_keys.specs.Flags.{word_if, flags_comment};
+ghost use Rattle.domain_keys.specs.Keys.{word_if, flags_comment};
 
 use std::fmt;
 

@@ -1,30 +1,35 @@
 //! What the data of keys and of digests of keys have in common: numbers, and then octets.
-ghost use Rattle.std.specs.Prelude.{◌≡◌, ◌≤◌, ◌↔◌, ℕ, Some, IsTrue, IsOk, IfOk, IsNone, length};
-ghost use Rattle.std.specs.{Prelude.{refl, bytes_eq}, List.flat_map};
-ghost use Rattle.std.specs.{Ordering.{on, nat_cmp}, Cmp.{partial_equiv_from_equiv, po}};
+ghost use Rattle.std.specs.Prelude.{◌≡◌, ◌≤◌, ◌↔◌, ℕ, Some, IsTrue, IsOk, IfOk, IsNone, length, refl, bytes_eq};
+ghost use Rattle.std.specs.{List.flat_map, Ordering.{on, nat_cmp}, Cmp.{partial_equiv_from_equiv, po}};
 ghost use Rattle.std.specs.Cmp.Lexicographic.{slice_cmp, on_texts, on_texts_equal};
-ghost use Rattle.std.specs.Hash as fed;
-ghost use Rattle.domain_octets.specs.Limit.{IsOver};
-ghost use Rattle.domain_names.specs.Fault.{fault_of};
+ghost use Rattle.domain_octets.specs.Octets.{IsOver};
+ghost use Rattle.domain_names.specs.Wire.{fault_of};
 ghost use Rattle.domain_codecs.specs.declared.codec.Codec.{Codec};
-ghost use Rattle.domain_fields.specs.{Layout.{Begins, Fits, FirstFault, Reads}, DataClone.copies_tied};
+ghost use Rattle.domain_fields.specs.Layout.{Begins, Fits, FirstFault, Reads, copies_tied, fed_alike};
+ghost use Rattle.domain_fields.specs.{Layout.tied_octets, Scan.AllTokens};
 ghost use Rattle.domain_base.specs.Scan.{ReadsTokens};
-ghost use Rattle.domain_fields.specs.{Laws.{fed_alike, tied_octets}, Scan.AllTokens};
-ghost use Rattle.domain_keys.specs.Data.{key_data, key_fields, key_values, key_octets};
-ghost use Rattle.domain_keys.specs.Scan.{KeyText, RefusesKey};
+ghost use Rattle.domain_keys.specs.Keys.{key_data, key_fields, key_values, key_octets, KeyText, RefusesKey};
+ghost use Rattle.domain_keys.specs.Keys.{dnskey_text, dnskey_pieces, ds_text, ds_pieces};
+ghost use Rattle.std.specs.Hash as fed;
 
+use crate::flags::FlagsComment;
+use crate::{Dnskey, Ds};
 use domain_base::{CanonicalOrd, Rtype, ScanError, Scanner};
 use domain_codecs::Codec;
-use domain_fields::{AtMost, Fields, MAX_RDLEN, ReadFields, Rest, ScanFields};
+use domain_fields::{
+    AtMost, Block, Comment, Fields, InBase16, InBase64, InLowerBase16, MAX_RDLEN, Pieces,
+    ReadFields, Rest, ScanFields, Token,
+};
 use domain_octets::{
-    AppendError, CopyOctets, FromBuilder, Octets, OctetsBuilder, OctetsFrom, OutOfMemory,
-    ParseError, Parser, TryClone, laws,
+    AppendError, CopyOctets, Formatter, FromBuilder, Octets, OctetsBuilder, OctetsFrom,
+    OutOfMemory, ParseError, Parser, TryClone, ZonefileFmt, laws,
 };
 use domain_record::{
     CloneRecordData, ComposeRecordData, LongRecordData, ParseRecordData, RecordData,
 };
 use std::alloc::Global;
 use std::cmp::Ordering;
+use std::fmt;
 use std::hash::{Hash, Hasher};
 use std::marker::{Model, PhantomData};
 
@@ -63,7 +68,7 @@ pub struct KeyData<O: Octets, K: KeyKind> {
 
 impl<O: Octets, K: KeyKind> Model for KeyData<O, K> {
     ghost use Rattle.std.specs.Prelude.{◌≤◌, length};
-    ghost use Rattle.domain_keys.specs.Data.{KeyData};
+    ghost use Rattle.domain_keys.specs.Keys.{KeyData};
 
     ghost Value = { KeyData };
 
@@ -377,5 +382,83 @@ impl<S: Octets + Drop, O: CopyOctets, K: KeyKind> OctetsFrom<KeyData<S, K>> for 
     fn try_octets_from(alloc: Global, source: KeyData<S, K>) -> Result<Self, AppendError> {
         let octets = O::copy_octets(alloc, source.octets.as_slice())?;
         Ok(source.with_octets(octets))
+    }
+}
+
+/// Flags, protocol, algorithm and the key in Base 64, with single spaces; the last one stays where
+/// the key is empty.
+impl<O: Octets> fmt::Display for Dnskey<O> {
+    ghost output = { λ d. Some (dnskey_text d) };
+
+    fn fmt<W: fmt::Write>(&self, f: &mut fmt::Formatter<W>) -> fmt::Result {
+        let (flags, protocol, algorithm) = (self.flags(), self.protocol(), self.algorithm());
+        let key = InBase64(self.public_key().as_slice());
+        write!(f, "{flags} {protocol} {algorithm} {key}")
+    }
+}
+
+impl<O: Octets> fmt::Debug for Dnskey<O> {
+    fn fmt<W: fmt::Write>(&self, f: &mut fmt::Formatter<W>) -> fmt::Result {
+        f.debug_struct("Dnskey")
+            .field("flags", &self.flags())
+            .field("protocol", &self.protocol())
+            .field("algorithm", &self.algorithm())
+            .field("public_key", &self.public_key().as_slice())
+            .finish()
+    }
+}
+
+/// The fields, with comments that name the flags, the protocol and the key tag.
+impl<O: Octets> ZonefileFmt for Dnskey<O> {
+    ghost pieces = { dnskey_pieces };
+
+    fn fmt<F: Formatter>(&self, formatter: &mut F) -> Result<(), OutOfMemory> {
+        let (flags, protocol, algorithm) = (self.flags(), self.protocol(), self.algorithm());
+        let key = InBase64(self.public_key().as_slice());
+        let flags = (Token(flags), Comment(FlagsComment(flags)));
+        let protocol = (Token(protocol), Comment("protocol"));
+        let key = (
+            Token(key),
+            Comment(format_args!("key tag: {}", self.key_tag())),
+        );
+        Block((flags, (protocol, (Token(algorithm), key)))).write(formatter)
+    }
+}
+
+/// Key tag, algorithm, type of the digest and the digest in Base 16, in lower case, with single
+/// spaces; the last one stays where the digest is empty.
+impl<O: Octets> fmt::Display for Ds<O> {
+    ghost output = { λ d. Some (ds_text d) };
+
+    fn fmt<W: fmt::Write>(&self, f: &mut fmt::Formatter<W>) -> fmt::Result {
+        let (key_tag, algorithm) = (self.key_tag(), self.algorithm());
+        let digest_type = self.digest_type();
+        let digest = InLowerBase16(self.digest().as_slice());
+        write!(f, "{key_tag} {algorithm} {digest_type} {digest}")
+    }
+}
+
+impl<O: Octets> fmt::Debug for Ds<O> {
+    fn fmt<W: fmt::Write>(&self, f: &mut fmt::Formatter<W>) -> fmt::Result {
+        f.debug_struct("Ds")
+            .field("key_tag", &self.key_tag())
+            .field("algorithm", &self.algorithm())
+            .field("digest_type", &self.digest_type())
+            .field("digest", &self.digest().as_slice())
+            .finish()
+    }
+}
+
+/// The fields, with a comment that names the key tag; the digest is in upper case.
+impl<O: Octets> ZonefileFmt for Ds<O> {
+    ghost pieces = { ds_pieces };
+
+    fn fmt<F: Formatter>(&self, formatter: &mut F) -> Result<(), OutOfMemory> {
+        let (key_tag, algorithm) = (self.key_tag(), self.algorithm());
+        let digest_type = self.digest_type();
+        let digest = InBase16(self.digest().as_slice());
+        let key_tag = (Token(key_tag), Comment("key tag"));
+        let digest = (Token(digest_type), Token(digest));
+        Block((key_tag, (Token(algorithm), digest))).write(formatter)
     }
 }

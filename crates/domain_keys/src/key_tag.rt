@@ -1,6 +1,6 @@
 //! Key tags (RFC 4034, appendix B).
 ghost use Rattle.std.specs.Prelude.{◌≡◌, ◌≤◌, ◌+◌, ◌*◌, ◌%◌, length};
-ghost use Rattle.domain_keys.specs.KeyTag.{weighed, with_carry, rsa_md5_tag};
+ghost use Rattle.domain_keys.specs.Keys.{weighed, with_carry, rsa_md5_tag};
 
 /// What an octet at a place adds to a key tag.
 fn weight(place: usize, octet: u8) -> u32

@@ -1,8 +1,8 @@
 -- why a line spells no record, from what is refused of its tokens
 use Rattle.std.proofs.Common.{ℕ, ◌+◌, ◌<◌, ◌≤◌, refl, sym, ap, ◌∙◌, subst, ◌≡◌, ◌↔◌, IsTrue, true, false, List, [], ◌∷◌, drop, get_or, length, Result, IfErr}
 use Rattle.std.{proofs.lemmas.List.{drop_all, drop_more}, specs.Prelude.{Bool, Option}}
-use Rattle.domain_octets.{specs.{Line.{is_blank, words_of}, Words.Octets}, proofs.WordLemmas.{blank_first, first_begins, joined_words}}
-use Rattle.domain_names.specs.Words.{Name, Tokens}
+use Rattle.domain_octets.{specs.{Text.{is_blank, words_of}, Octets.Octets}, proofs.WordLemmas.{blank_first, first_begins, joined_words}}
+use Rattle.domain_names.specs.Name.{Name, Tokens}
 use Rattle.domain_message.{specs.Entry.{OwnerTaken, RefusesBody, RefusesEntry, RefusesLine, in_entry, IsNoEntry}, proofs.RecordLemmas.on_err}
 use Rattle.domain_message.specs.declared.line.LineError.{LineError, TheVariants.{Owner}}
 

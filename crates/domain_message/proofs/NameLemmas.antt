@@ -4,8 +4,8 @@ use Rattle.std.proofs.{lemmas.Grind.common_steps, Common.{◌≡◌, ℕ, ◌+�
 use Rattle.std.proofs.{Common.{subst, ◌∙◌, arith, length-append, IfOk}, lemmas.List.{append_assoc, take-append-drop, take_at, drop_more, drop_all, drop_at}}
 use Rattle.std.proofs.lemmas.List.{drop-drop, length-drop, length-take-le, Elements.{All-take, All-drop}}
 use Rattle.std.specs.{Prelude.{All, Option, Some, None, Ok, Err}, List.AllByRecursion}
-use Rattle.domain_octets.proofs.OctetLemmas.{octets_from_type}
-use Rattle.domain_names.{specs.{Name.{wire_of, IsLabel, IsName}, Words.Name}, proofs.WireLemmas.{IsWire-wire_of, labels_of-wire_of}}
+use Rattle.domain_octets.proofs.WordLemmas.{octets_from_type}
+use Rattle.domain_names.{specs.Name.{wire_of, IsLabel, IsName, Name}, proofs.WireLemmas.{IsWire-wire_of, labels_of-wire_of}}
 use Rattle.domain_message.specs.Name.{pointer_octets, behind, up_to, Outcome, ComesTo, LabelsFault, NameAt, root, label, pointer, at_fault}
 use Rattle.domain_message.specs.Name.{EndFault, no_octet, half_pointer, bad_type, not_backward, long_name, cut_label}
 use Rattle.domain_message.specs.{Steps.{LabelsBetween, GoesOn, RunRead}, declared.name.NameFault.NameFault}

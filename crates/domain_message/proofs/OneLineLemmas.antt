@@ -1,10 +1,9 @@
 -- a line spells one record at most, and none where it is refused
 use Rattle.std.proofs.{Common.{arith, ◌≡◌, ℕ, List, Option, [], sym, subst, ◌∙◌}, lemmas.Grind.common_steps}
-use Rattle.domain_octets.specs.{Line.words_of, Words.Octets}
+use Rattle.domain_octets.specs.{Text.words_of, Octets.Octets}
 use Rattle.domain_base.specs.{Numbers.{ClassText, IsNoClass, IsNoType, TypeText}, Scan.{IsNoNumber, IsNumber, RefusesToken, TakesToken}}
-use Rattle.domain_base.proofs.{NamedLemmas.one_named, RefusalLemmas.{name_excludes, token_excludes}}
-use Rattle.domain_names.specs.{Text.NameText, TextFault.{IsOfTokens, NameTextFault, scan_fault_of}, Words.{Name, Token, Tokens}}
-use Rattle.domain_names.proofs.SpellingLemmas.{one_name}
+use Rattle.domain_base.proofs.TextLemmas.{one_named, name_excludes, token_excludes}
+use Rattle.domain_names.{specs.{Text.{NameText, IsOfTokens, NameTextFault, scan_fault_of}, Name.{Name, Token, Tokens}}, proofs.TextLemmas.one_name}
 use Rattle.domain_record.specs.declared.record.Record.{Record}
 use Rattle.domain_rdata.proofs.ScanLemmas.{none_spelled, text_once}
 use Rattle.domain_rdata.specs.{Scan.RdataText, Zone.rtype_of, declared.zone_record_data.ZoneRecordData.ZoneRecordData}

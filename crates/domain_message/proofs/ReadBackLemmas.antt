@@ -1,10 +1,10 @@
 -- what a record is written as is a line that spells it
 use Rattle.std.proofs.{lemmas.Grind.common_steps, Common.{◌≡◌, ℕ, ◌<◌, ◌^◌, List, [], ◌∷◌, ◌++◌, refl, subst, arith}}
 use Rattle.std.specs.{Prelude.{Option, Some, None, IfSome, slice_index}, Fmt.{decimal}}
-use Rattle.domain_octets.{specs.{Line.words_of, Words.Octets}, proofs.WordLemmas.{first_word, decimal_word}}
-use Rattle.domain_names.specs.{Name.{IsName, IsLabel}, Text.{name_text, label_text, octet_text}, Words.Name}
-use Rattle.domain_base.{specs.Numbers.{class_text, type_text}, proofs.ReadBackLemmas.{number_back, type_back, class_back, dotted_name_back, name_word}}
-use Rattle.domain_record.specs.{RecordText.record_text, declared.record.Record.Record}
+use Rattle.domain_octets.{specs.{Text.words_of, Octets.Octets}, proofs.WordLemmas.{first_word, decimal_word}}
+use Rattle.domain_names.specs.{Name.{IsName, IsLabel, Name}, Text.{name_text, label_text, octet_text}}
+use Rattle.domain_base.{specs.Numbers.{class_text, type_text}, proofs.TextLemmas.{number_back, type_back, class_back, dotted_name_back, name_word}}
+use Rattle.domain_record.specs.{Record.record_text, declared.record.Record.Record}
 use Rattle.domain_rdata.specs.{Scan.RdataText, Zone.{data_text, rtype_of}, declared.zone_record_data.ZoneRecordData.ZoneRecordData}
 use Rattle.domain_message.specs.Entry.{LineText, IsNoEntry}
 

@@ -1,12 +1,12 @@
 -- records in a message: how they are read, and that at a place stands one at most, and none where it is refused
 use Rattle.std.proofs.{lemmas.{Grind.common_steps, List.length-drop}, Common.{◌≡◌, ℕ, ◌+◌, ◌-◌, ◌<◌, ◌≤◌, List, [], ◌∷◌, ◌++◌, length, take, drop, arith}}
 use Rattle.std.{proofs.Common.{ap, sym, subst, ◌∙◌, refl, inl, inr, Result, IfErr}, specs.Prelude.{Option, Some, None}}
-use Rattle.domain_octets.specs.Words.{Octets}
-use Rattle.domain_names.specs.{Fault.Fault, Words.Name}
-use Rattle.domain_fields.specs.Field.{cut_short, cut_long}
-use Rattle.domain_fields.{specs.Layout.{Values, Begins, FirstFault, in_field, in_first, in_later, octets_of}, proofs.ExactLemmas.one_reading}
+use Rattle.domain_octets.specs.Octets.{Octets}
+use Rattle.domain_names.specs.{Wire.Fault, Name.Name}
+use Rattle.domain_fields.specs.Layout.{cut_short, cut_long, Values, Begins, FirstFault, in_field, in_first, in_later, octets_of}
+use Rattle.domain_fields.proofs.ExactLemmas.{one_reading}
 use Rattle.domain_record.specs.declared.record.Record.{Record}
-use Rattle.domain_rdata.{specs.{Kind.Kind, declared.zone_record_data.ZoneRecordData.ZoneRecordData}, proofs.ScanLemmas.{AreOf, are_of, are_wire}}
+use Rattle.domain_rdata.{specs.{Zone.Kind, declared.zone_record_data.ZoneRecordData.ZoneRecordData}, proofs.ScanLemmas.{AreOf, are_of, are_wire}}
 use Rattle.domain_message.specs.{Data.{parts_of, DataAt, PartAt, PartsAt, PartFault, PartsFault, PlacedAt}}
 use Rattle.domain_message.specs.Record.{numbers, AreAlike, HeaderAt, HeaderFault, in_owner, cut_numbers, IsDataAt, IsOfMessage, RecordAt, OctetsRefusal}
 use Rattle.domain_message.specs.{Record.{RefusesData, RefusesRecord, in_header, in_data, in_octets}, declared.error.MessageError.MessageError}

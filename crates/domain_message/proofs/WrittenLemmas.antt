@@ -1,8 +1,8 @@
 -- a record that is written without compression stands where it was written
 use Rattle.std.proofs.{lemmas.Grind.common_steps, Common.{◌≡◌, ℕ, ◌+◌, ◌<◌, ◌≤◌, ◌^◌, List, [], ◌∷◌, ◌++◌, refl, sym, ap, subst, ◌∙◌, arith, length}}
 use Rattle.std.{proofs.{Common.{length-append, drop}, lemmas.List.{append-nil, append_assoc, take_at, length-drop}}, specs.Int.{w16, to_be_bytes}}
-use Rattle.domain_octets.specs.Words.{Octets}
-use Rattle.domain_names.specs.{Name.{wire_of, IsName}, Words.Name}
+use Rattle.domain_octets.specs.Octets.{Octets}
+use Rattle.domain_names.specs.Name.{wire_of, IsName, Name}
 use Rattle.domain_fields.specs.Layout.{octets_of}
 use Rattle.domain_record.specs.declared.record.Record.{Record}
 use Rattle.domain_rdata.specs.{Scan.AreData, Zone.{rtype_of, wire_octets}, declared.zone_record_data.ZoneRecordData.ZoneRecordData}

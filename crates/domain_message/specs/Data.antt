@@ -1,8 +1,8 @@
 -- the data of a record in a message, where names may be compressed (RFC 1035, sections 3.3
 -- and 4.1.4)
 use Rattle.std.specs.Prelude.{◌≡◌, ◌⊎◌, ℕ, ◌+◌, ◌<◌, ◌≤◌, ◌==◌, ◌||◌, Bool, List, [], ◌∷◌, ◌++◌, length, take, drop, Option, Some, None, if◌then◌else◌}
-use Rattle.domain_octets.specs.Words.{Octets}
-use Rattle.domain_names.specs.{Name.wire_of, Words.Name}
+use Rattle.domain_octets.specs.Octets.{Octets}
+use Rattle.domain_names.specs.Name.{wire_of, Name}
 use Rattle.domain_base.specs.Types as rtypes
 use Rattle.domain_message.specs.{Name.{NameAt, LabelsFault}, declared.{parts.Part.Part, name.NameFault.NameFault}}
 use Rattle.domain_message.specs.declared.parts.Part.TheVariants as part

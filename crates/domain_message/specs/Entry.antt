@@ -1,11 +1,11 @@
 -- an entry of a zone file that is one record in one line (RFC 1035, section 5.1), and why a line is
 -- none
 use Rattle.std.specs.Prelude.{◌≡◌, ◌≢◌, ℕ, Option, [], ◌∷◌, slice_index}
-use Rattle.domain_octets.specs.{Characters.semicolon, Line.words_of, Words.Octets}
+use Rattle.domain_octets.specs.{Text.{semicolon, words_of}, Octets.Octets}
 use Rattle.domain_base.specs.{Numbers.{ClassText, TypeText, IsNoClass, IsNoType}, Scan.{TakesToken, RefusesToken, IsNumber, IsNoNumber}}
-use Rattle.domain_names.specs.{TextFault.{IsOfTokens, NameTextFault, scan_fault_of}, Text.NameText, Words.{Name, Tokens}}
+use Rattle.domain_names.specs.{Text.{IsOfTokens, NameTextFault, scan_fault_of, NameText}, Name.{Name, Tokens}}
 use Rattle.domain_record.specs.declared.record.Record.{Record}
-use Rattle.domain_rdata.specs.{Refusal.RefusesRdata, Scan.RdataText, declared.zone_record_data.ZoneRecordData.ZoneRecordData}
+use Rattle.domain_rdata.specs.{Scan.{RefusesRdata, RdataText}, declared.zone_record_data.ZoneRecordData.ZoneRecordData}
 use Rattle.domain_message.specs.declared.line.LineError.{LineError, TheVariants.{NoEntry, Owner, Ttl, Class, Rtype, RecordData, Trailing, OutOfMemory}}
 
 -- the tokens begin with a name, a TTL, a class, a type, and these are left

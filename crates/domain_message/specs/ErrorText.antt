@@ -1,7 +1,7 @@
 -- what errors say
 use Rattle.std.specs.Prelude.{codes, ◌++◌}
-use Rattle.domain_octets.specs.Words.{Octets}
-use Rattle.domain_names.specs.ErrorText.{scan_error_text}
+use Rattle.domain_octets.specs.Octets.{Octets}
+use Rattle.domain_names.specs.Text.{scan_error_text}
 use Rattle.domain_message.specs.declared.error.MessageError.{MessageError, TheVariants.{ShortInput, BadLabelType, ForwardPointer, LongName, DataLength}}
 use Rattle.domain_message.specs.declared.{error.MessageError.TheVariants.{IllegalData, ShortBuf, OutOfMemory}, line.LineError.LineError}
 use Rattle.domain_message.specs.declared.line.LineError.TheVariants as line_error

@@ -1,8 +1,8 @@
 -- names in a message, where an end of a name may stand at an earlier place, and why none stands
 -- at a place (RFC 1035, section 4.1.4)
 use Rattle.std.specs.Prelude.{◌≡◌, ℕ, ◌+◌, ◌/◌, ◌%◌, ◌<◌, ◌≤◌, [], ◌∷◌, ◌++◌, length, drop, Result, Ok, Err}
-use Rattle.domain_octets.specs.Words.{Octets}
-use Rattle.domain_names.specs.{Name.{IsLabel, IsName}, Words.Name}
+use Rattle.domain_octets.specs.Octets.{Octets}
+use Rattle.domain_names.specs.Name.{IsLabel, IsName, Name}
 use Rattle.domain_message.specs.declared.name.NameFault.{NameFault}
 use Rattle.domain_message.specs.declared.name.NameFault.TheVariants as name_fault
 

@@ -1,11 +1,11 @@
 -- records in a message (RFC 1035, section 4.1.3), when two are alike, and why none is read at a place
 use Rattle.std.specs.Prelude.{◌≡◌, ◌≢◌, ◌⊎◌, ℕ, ◌+◌, ◌<◌, ◌≤◌, List, length, drop, Option, Some}
-use Rattle.domain_octets.specs.{Limit.IsOver, Words.Octets, declared.error.AppendError.AppendError}
+use Rattle.domain_octets.specs.{Octets.{IsOver, Octets}, declared.error.AppendError.AppendError}
 use Rattle.domain_octets.specs.declared.error.AppendError.TheVariants as append_error
-use Rattle.domain_names.specs.Words.{Name}
-use Rattle.domain_fields.specs.{Field.{short, long}, Layout.{Layout, one, ◌▸◌, Values, Begins}}
+use Rattle.domain_names.specs.Name.{Name}
+use Rattle.domain_fields.specs.Layout.{short, long, Layout, one, ◌▸◌, Values, Begins}
 use Rattle.domain_record.specs.declared.record.Record.{Record}
-use Rattle.domain_rdata.specs.{Kind.Kind, Refusal.{AreOfKind, IsPart}, Scan.AreData, Zone.{kind_of, rtype_of, wire_octets}}
+use Rattle.domain_rdata.specs.{Zone.{Kind, kind_of, rtype_of, wire_octets}, Scan.{AreOfKind, IsPart, AreData}}
 use Rattle.domain_rdata.specs.declared.zone_record_data.ZoneRecordData.{ZoneRecordData}
 use Rattle.domain_message.specs.{Data.{parts_of, PartsAt, PartsFault, DataAt}, Name.{NameAt, LabelsFault}, declared.{parts.Part.Part, name.NameFault.NameFault}}
 use Rattle.domain_message.specs.declared.error.MessageError.{MessageError, TheVariants.{ShortInput, BadLabelType, ForwardPointer, LongName, DataLength}}

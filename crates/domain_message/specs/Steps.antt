@@ -1,7 +1,7 @@
 -- how a name is read: labels that stand together, one run after another
 use Rattle.std.specs.Prelude.{◌≡◌, ◌⊎◌, ℕ, ◌+◌, ◌<◌, ◌≤◌, ◌++◌, [], length, drop, slice_index, Option, Some, None, Ok}
-use Rattle.domain_octets.specs.Words.{Octets}
-use Rattle.domain_names.specs.{Name.wire_of, Words.Name}
+use Rattle.domain_octets.specs.Octets.{Octets}
+use Rattle.domain_names.specs.Name.{wire_of, Name}
 use Rattle.domain_message.specs.Name.{behind, up_to, Outcome, ComesTo}
 
 -- labels stand between the two places, and there is room for the root behind them, when so many

@@ -1,10 +1,10 @@
 -- records as they are written into a message, without compression (RFC 1035, section 4.1.3)
 use Rattle.std.specs.Prelude.{◌≡◌, ◌++◌, length, None}
-use Rattle.domain_octets.specs.Words.{Octets}
-use Rattle.domain_names.specs.{Name.wire_of, Words.Name}
+use Rattle.domain_octets.specs.Octets.{Octets}
+use Rattle.domain_names.specs.Name.{wire_of, Name}
 use Rattle.domain_fields.specs.Layout.{octets_of}
 use Rattle.domain_record.specs.declared.record.Record.{Record}
-use Rattle.domain_rdata.specs.{Exact.HasExactOctets, Zone.{rtype_of, wire_octets}, declared.zone_record_data.ZoneRecordData.ZoneRecordData}
+use Rattle.domain_rdata.specs.{Zone.{HasExactOctets, rtype_of, wire_octets}, declared.zone_record_data.ZoneRecordData.ZoneRecordData}
 use Rattle.domain_rdata.specs.declared.zone_record_data.ZoneRecordData.TheVariants.{Unknown}
 use Rattle.domain_message.specs.{Data.parts_of, Record.numbers}
 

@@ -1,7 +1,7 @@
 //! What stands before the data of a record in a message.
 ghost use Rattle.std.specs.Prelude.{◌≡◌, ◌+◌, ◌<◌, ◌≤◌, length, IfOk, IfErr};
-ghost use Rattle.domain_names.specs.{Name.wire_of, Words.Name};
-ghost use Rattle.domain_octets.specs.Words.{Octets};
+ghost use Rattle.domain_names.specs.Name.{wire_of, Name};
+ghost use Rattle.domain_octets.specs.Octets.{Octets};
 ghost use Rattle.domain_fields.specs.Layout.{Begins};
 ghost use Rattle.domain_message.specs.Record.{numbers, HeaderAt, HeaderFault};
 

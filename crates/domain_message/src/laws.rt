@@ -1,10 +1,9 @@
 //! What holds of names and records in messages and in lines. A caller calls the law in its body.
 ghost use Rattle.std.specs.Prelude.{IfSome, Option, ◌≡◌, ◌+◌, ◌++◌, ◌<◌, ℕ, length, drop};
-ghost use Rattle.domain_octets.specs.Words.{Octets};
-ghost use Rattle.domain_names.specs.{Name.{wire_of, IsName}, Words.Name};
-ghost use Rattle.domain_record.specs.{RecordText.record_text, declared.record.Record.Record};
-ghost use Rattle.domain_rdata.specs.{Exact.HasExactText, Zone.{data_text, rtype_of, wire_octets}};
-ghost use Rattle.domain_rdata.specs.Scan.{AreData};
+ghost use Rattle.domain_octets.specs.Octets.{Octets};
+ghost use Rattle.domain_names.specs.Name.{wire_of, IsName, Name};
+ghost use Rattle.domain_record.specs.{Record.record_text, declared.record.Record.Record};
+ghost use Rattle.domain_rdata.specs.{Zone.{HasExactText, data_text, rtype_of, wire_octets}, Scan.AreData};
 ghost use Rattle.domain_rdata.specs.declared.zone_record_data.ZoneRecordData.{ZoneRecordData};
 ghost use Rattle.domain_message.specs.Written.{HasExactWire, record_octets};
 ghost use Rattle.domain_message.specs.Entry.{IsOfLine, LineText, RefusesLine};

@@ -1,7 +1,7 @@
 //! Records in lines of a zone's text.
 ghost use Rattle.std.specs.Prelude.{◌≡◌, ◌↔◌, IsTrue, false, IfOk, IfErr, None, Some};
 ghost use Rattle.domain_message.specs.ErrorText.{line_error_text};
-ghost use Rattle.domain_octets.specs.Line.{is_blank, words_of};
+ghost use Rattle.domain_octets.specs.Text.{is_blank, words_of};
 ghost use Rattle.domain_message.specs.declared.line.LineError.TheVariants as variant;
 ghost use Rattle.domain_message.specs.Entry.{BodyText, RefusesBody, EntryText, RefusesEntry};
 ghost use Rattle.domain_message.specs.Entry.{IsNoEntry, IsOfLine, LineText, RefusesLine};

@@ -1,6 +1,6 @@
 //! Names in a message, whose ends may stand at earlier places (RFC 1035, section 4.1.4).
 ghost use Rattle.std.specs.Prelude.{◌≡◌, ℕ, ◌+◌, ◌<◌, ◌≤◌, [], None, Err, length, IfOk, IfErr, IfSome};
-ghost use Rattle.domain_names.specs.{Name.wire_of, Words.Name};
+ghost use Rattle.domain_names.specs.Name.{wire_of, Name};
 ghost use Rattle.domain_message.specs.{Name.{up_to, ComesTo, LabelsFault, NameAt, Outcome}, Record.RefusesName};
 ghost use Rattle.domain_message.specs.Steps.{GoesOn, LabelsBetween, Stops, RunRead};
 

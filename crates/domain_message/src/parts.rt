@@ -1,6 +1,6 @@
 //! What data are made up of whose names may be compressed.
 ghost use Rattle.std.specs.Prelude.{◌≡◌, ◌≤◌, ◌+◌, ◌++◌, length, Some, None, IfOk, IfErr, IfSome, IfNone};
-ghost use Rattle.domain_octets.specs.Words.{Octets};
+ghost use Rattle.domain_octets.specs.Octets.{Octets};
 ghost use Rattle.domain_message.specs.Data.{is_one_name, parts_of, parts_room, part_room, PartAt, PartsAt, PartFault, PartsFault};
 
 use crate::NameFault;

@@ -1,8 +1,8 @@
 //! Records in a message.
 ghost use Rattle.std.specs.Prelude.{◌≡◌, ◌≤◌, ◌<◌, ◌+◌, ℕ, Option, length, IfOk, IfErr};
-ghost use Rattle.domain_octets.specs.Words.{Octets};
-ghost use Rattle.domain_names.specs.TextFault.{scan_fault_of};
-ghost use Rattle.domain_rdata.specs.{Kind.Kind, Refusal.OctetsFault};
+ghost use Rattle.domain_octets.specs.Octets.{Octets};
+ghost use Rattle.domain_names.specs.Text.{scan_fault_of};
+ghost use Rattle.domain_rdata.specs.{Zone.Kind, Scan.OctetsFault};
 ghost use Rattle.domain_message.specs.{Data.DataAt, Record.IsDataAt};
 ghost use Rattle.domain_message.specs.Record.{RecordAt, OctetsRefusal, RefusesData, RefusesRecord};
 

@@ -1,10 +1,15 @@
--- the text of an octet in decimal digits, of octets that are written as they are, and of names
+-- Names as text.
 use Rattle.std.proofs.Common.{arith, ℕ, zero, suc, ◌/◌, ◌%◌, ◌<◌, ◌≤◌, ◌≡◌, ◌∷◌, ◌++◌, ◌-◌, [], List, true, false, refl, ap, subst, ◌∙◌, length, take, drop}
-use Rattle.std.proofs.{Common.{length-append, append_assoc, append-nil, slice_set, take_all}, Math.Seq.set-append_seam, lemmas.Grind.common_steps}
-use Rattle.std.proofs.lemmas.{Bool.eqb-true, List.Elements.{All-head, All-tail}, Str.{IsAscii-append, IsUtf8-from_ascii, Ascii.IsAscii-nil}, Fmt.decimal_digit}
-use Rattle.std.specs.{List.{All, AllByRecursion as ByRecursion, AllPass}, Str.IsAscii, Fmt.decimal, Char.is_ascii_graphic}
-use Rattle.domain_names.specs.{Text.{octet_text, label_text, dotted_text, is_special, is_ordinary}, Wire.{labels_of, IsWire}}
-use Rattle.domain_names.specs.{Name.{wire_of, IsLabel, IsName}, Words.Name}
+use Rattle.std.proofs.{Common.{length-append, slice_set, take_all, ◌≢◌, get_or, ◌+◌, Option, Some, None, sym, inl, rules}, lemmas.List.append_assoc}
+use Rattle.std.proofs.{lemmas.{List.{append-nil, length-drop, take_at, take_more}, Grind.common_steps, Bool.eqb-true}, Math.Seq.set-append_seam}
+use Rattle.std.proofs.lemmas.{List.Elements.{All-head, All-tail}, Str.{IsAscii-append, IsUtf8-from_ascii, Ascii.IsAscii-nil}, Fmt.decimal_digit}
+use Rattle.std.specs.{List.{All, AllByRecursion as ByRecursion, AllPass, AllByRecursion}, Str.IsAscii, Fmt.decimal, Char.is_ascii_graphic, Prelude.IsSome}
+use Rattle.std.specs.Prelude.{IfSome}
+use Rattle.domain_names.specs.Text.{octet_text, label_text, dotted_text, is_special, is_ordinary, symbol_at, LabelText, ends, octet, HasNoLabel}
+use Rattle.domain_names.specs.{Text.{HasNoLabelAfter, LabelTexts, IsBefore, last, dotted, NameText, root, of_labels, IsNoName}, Wire.{labels_of, IsWire}}
+use Rattle.domain_names.{specs.Name.{wire_of, IsLabel, IsName, Name}, proofs.WireLemmas.length-wire_of}
+
+-- ---- the text of an octet in decimal digits, of octets that are written as they are, and of names
 
 pub octet_text_in_digits : (c : ℕ) → c < 256 → is_special c ≡ false → is_ascii_graphic c ≡ false
     → octet_text c ≡ 92 ∷ (decimal (c / 100) ++ (decimal (c / 10 % 10) ++ decimal (c % 10)))
@@ -85,3 +90,230 @@ pub ruleset ordinary_steps = (common_steps, ordinary_whole, eqb-true)
 pub ruleset dotted_steps = (common_steps, dotted_more, dotted_ends)
 
 pub ruleset ascii_steps = (IsUtf8-from_ascii)
+
+-- ---- names spelled by texts
+
+-- no octet of a label stands where a label ends
+pub before_stops : (next after : List ℕ) → IsBefore next after → symbol_at after ≡ None
+unfolding symbol_at
+before_stops next after before = grind (arith, common_steps)
+
+-- what a label's text is after its first octet
+record Onward (text label after : List ℕ) (used c : ℕ) : Type 0 where
+  rest : List ℕ
+  is : label ≡ c ∷ rest
+  spelled : LabelText (drop used text) rest after
+
+after_octet : (text label after : List ℕ) (c used : ℕ) → symbol_at text ≡ Some (c, used) → LabelText text label after → Onward text label after used c
+after_octet text label after c used is spelled = grind (arith, common_steps)
+
+-- a text that is read as a label, up to some place
+pub record Spelling (text rest done : List ℕ) : Type 0 where
+  pub onward : (label after : List ℕ) → LabelText rest label after → LabelText text (done ++ label) after
+  pub back : (label after : List ℕ) → LabelText text label after → (end : List ℕ) × (label ≡ done ++ end) × LabelText rest end after
+
+pub spelling_begins : (text : List ℕ) → Spelling text text []
+spelling_begins text = record { onward = λ label after spelled. spelled; back = λ label after spelled. (label, refl, spelled) }
+
+pub spelling_goes : (text rest done : List ℕ) (c used : ℕ) → Spelling text rest done → symbol_at rest ≡ Some (c, used)
+    → Spelling text (drop used rest) (done ++ c ∷ [])
+spelling_goes text rest done c used so_far is = record {
+  onward = λ label after spelled. rw append_assoc (so_far.onward (c ∷ label) after (octet rest label after c used is spelled));
+  back = λ label after spelled.
+      let here = so_far.back label after spelled in
+      let next = after_octet rest here.0 after c used is here.2 in
+      (next.rest, grind (arith, common_steps), next.spelled);
+}
+
+-- characters that stand for themselves
+pub spelling_plain : (text : List ℕ) (n : ℕ) → n ≤ length text
+    → ((k : ℕ) → k < n → symbol_at (drop k text) ≡ Some (get_or text k 0, 1)) → Spelling text (drop n text) (take n text)
+spelling_plain text zero le h = spelling_begins text
+spelling_plain text (suc n) le h =
+    let e : n + 1 ≡ suc n = omega arith in
+    let so_far = spelling_plain text n (omega arith) (λ k lt. h k (omega arith)) in
+    let next = spelling_goes text (drop n text) (take n text) (get_or text n 0) 1 so_far (h n (omega arith)) in
+    grind (arith, common_steps, (take_more text n 0 (omega arith)))
+
+-- one character more that stands for itself
+pub plain_symbol : (c : ℕ) (text : List ℕ) → c ≢ 92 → c ≢ 46 → 32 ≤ c → c ≤ 126 → symbol_at (c ∷ text) ≡ Some (c, 1)
+unfolding symbol_at
+plain_symbol c text slash dot low high = grind (arith, common_steps)
+
+pub spelling_ends : (text rest done : List ℕ) → Spelling text rest done → symbol_at rest ≡ None → LabelText text done rest
+spelling_ends text rest done so_far none = rw append-nil at (so_far.onward [] rest (ends rest none))
+
+-- a label that is spelled without escapes
+pub plain_label : (text label rest : List ℕ) (n : ℕ) → n ≤ length text
+    → ((k : ℕ) → k < n → symbol_at (drop k text) ≡ Some (get_or text k 0, 1)) → label ≡ take n text → rest ≡ drop n text
+    → symbol_at rest ≡ None → LabelText text label rest
+plain_label text label rest n within plain front back none = grind (arith, common_steps, spelling_ends, spelling_plain)
+
+pub no_label_by_length : (text rest done : List ℕ) (c used : ℕ) → Spelling text rest done → symbol_at rest ≡ Some (c, used)
+    → 63 < length done + 1 → HasNoLabel text
+no_label_by_length text rest done c used so_far is long = λ label after spelled.
+    let here = so_far.back label after spelled in
+    let next = after_octet rest here.0 after c used is here.2 in
+    omega (arith, ap length here.1, length-append done here.0, ap length next.is)
+
+-- what follows a label is no longer than the text
+pub after_label : (text label after : List ℕ) → LabelText text label after → length after ≤ length text
+after_label text label after (ends t none) = omega arith
+after_label text label after (octet t l a c used is spelled) = omega (arith, after_label (drop used text) l after spelled, length-drop used text)
+
+-- a text begins with one label
+pub one_label : (text label after other end : List ℕ) → LabelText text label after → LabelText text other end → (other ≡ label) × (end ≡ after)
+one_label text label after other end (ends t none) (ends t' none') = (refl, refl)
+one_label text label after other end (ends t none) (octet t' l a c used is spelled) = absurd (cc)
+one_label text label after other end (octet t l a c used is spelled) second =
+    let next = after_octet text other end c used is second in
+    let same = one_label (drop used text) l after next.rest end spelled next.spelled in
+    (next.is ∙ ap (λ r. c ∷ r) same.0, same.1)
+
+-- labels that are read up to some place, and their octets
+pub record Naming (text rest wire : List ℕ) : Type 0 where
+  pub onward : (labels : Name) → LabelTexts rest labels → (all : Name) × LabelTexts text all × (wire ++ wire_of labels ≡ wire_of all)
+  pub back : (all : Name) → LabelTexts text all → (labels : Name) × LabelTexts rest labels × (wire ++ wire_of labels ≡ wire_of all)
+
+pub naming_goes : (text rest wire label after next : List ℕ) → Naming text rest wire → LabelText rest label after
+    → IsBefore next after → next ≢ [] → IsLabel label → Naming text next (wire ++ length label ∷ label)
+naming_goes text rest wire label after next so_far read before some valid = record {
+  onward = λ labels spelled.
+      let here : LabelText rest label (46 ∷ next) = grind (arith, common_steps) in
+      let whole = so_far.onward (label ∷ labels) (dotted rest label next labels here valid spelled) in
+      (whole.0, whole.1, append_assoc wire (length label ∷ label) (wire_of labels) ∙ whole.2);
+  back = λ all spelled. let here = so_far.back all spelled in go all here.0 here.1 here.2;
+} where
+  go : (all labels : Name) → LabelTexts rest labels → wire ++ wire_of labels ≡ wire_of all
+      → (more : Name) × LabelTexts next more × ((wire ++ length label ∷ label) ++ wire_of more ≡ wire_of all)
+  go all labels (last t l a s v e) is = absurd (let same = one_label rest label after l a read s in grind (arith, common_steps))
+  go all labels (dotted t l end more s v others) is =
+      let same = one_label rest label after l (46 ∷ end) read s in
+      let e : end ≡ next = grind (arith, common_steps) in
+      (more, subst (λ x. LabelTexts x more) e others, grind (arith, common_steps))
+
+-- the octets of the labels of a text, to which the root is added
+abbrev pub IsLabelsWire : List ℕ → List ℕ → Type 0
+IsLabelsWire text wire = (labels : Name) × LabelTexts text labels × (wire ++ 0 ∷ [] ≡ wire_of labels)
+
+pub naming_ends : (text rest wire label after : List ℕ) → Naming text rest wire → LabelText rest label after → IsBefore [] after
+    → IsLabel label → IsLabelsWire text (wire ++ length label ∷ label)
+naming_ends text rest wire label after so_far read end valid = grind (arith, common_steps, (so_far.onward (label ∷ []) (last rest label after read valid end)))
+
+abbrev pub IsNoLabels : List ℕ → Type 0
+IsNoLabels text = (labels : Name) → LabelTexts text labels → IsName labels → ⊥
+
+-- where no name goes on
+pub no_label_left : (text rest wire : List ℕ) → Naming text rest wire → HasNoLabelAfter wire rest → IsNoLabels text
+no_label_left text rest wire so_far none = λ all spelled valid. let here = so_far.back all spelled in
+    go here.0 here.1 (omega (arith, valid.fits, ap length here.2, length-append wire (wire_of here.0)))
+  where
+    go : (labels : Name) → LabelTexts rest labels → length wire + length (wire_of labels) ≤ 255 → ⊥
+    go labels (last t l a s v e) fits = let long = none l a s v in grind (arith, common_steps)
+    go labels (dotted t l end more s v others) fits = let long = none l _ s v in grind (arith, common_steps, (length-wire_of more))
+
+pub wrong_after : (text rest wire label after : List ℕ) → Naming text rest wire → LabelText rest label after
+    → ((next : List ℕ) → IsBefore next after → ⊥) → IsNoLabels text
+wrong_after text rest wire label after so_far read wrong = λ all spelled valid. let here = so_far.back all spelled in go here.0 here.1 where
+  go : (labels : Name) → LabelTexts rest labels → ⊥
+  go labels (last t l a s v e) = wrong [] (subst (IsBefore []) (one_label rest label after l a read s).1 e)
+  go labels (dotted t l next more s v others) = wrong next (inl (sym (one_label rest label after l (46 ∷ next) read s).1))
+
+-- the text is the root's or that of labels
+pub no_name : (text : List ℕ) → text ≢ 46 ∷ [] → IsNoLabels text → IsNoName text
+no_name text other none labels spelled = grind (arith, common_steps)
+
+-- a text of labels begins with an octet of the first
+no_labels : (text : List ℕ) (labels : Name) → IsBefore [] text → LabelTexts text labels → ⊥
+no_labels text labels before spelled = grind (arith, common_steps, one_label, (ends text (before_stops [] text before)))
+
+-- a text spells one list of labels at most
+same_labels : (text : List ℕ) (xs ys : Name) → LabelTexts text xs → LabelTexts text ys → xs ≡ ys
+same_labels text xs ys (last t l a s v e) (last t' l' a' s' v' e') = grind (arith, common_steps, one_label)
+same_labels text xs ys (last t l a s v e) (dotted t' l' end' more' s' v' others') = grind (arith, common_steps, one_label, no_labels)
+same_labels text xs ys (dotted t l end more s v others) (last t' l' a' s' v' e') = grind (arith, common_steps, one_label, no_labels)
+same_labels text xs ys (dotted t l end more s v others) (dotted t' l' end' more' s' v' others') =
+    let same = one_label t l (46 ∷ end) l' (46 ∷ end') s s' in
+    let e : end' ≡ end = grind (arith, common_steps) in
+    let rest = same_labels end more more' others (subst (λ x. LabelTexts x more') e others') in grind (arith, common_steps)
+
+-- a text spells one name at most
+pub one_name : (text : List ℕ) (xs ys : Name) → NameText text xs → NameText text ys → xs ≡ ys
+one_name text xs ys first second = grind (arith, common_steps, no_labels, same_labels)
+
+all_valid : (text : List ℕ) (labels : Name) → LabelTexts text labels → AllByRecursion IsLabel labels
+all_valid text labels (last t l a s valid e) = (valid, tt)
+all_valid text labels (dotted t l end more s valid others) = (valid, all_valid end more others)
+
+-- what is answered for a text: the octets of its name
+abbrev pub IsNamed : List ℕ → List ℕ → Type 0
+IsNamed text wire = (labels : Name) × NameText text labels × (wire ≡ wire_of labels)
+
+pub named_root : (text new : List ℕ) → text ≡ 46 ∷ [] → new ≡ 0 ∷ [] → IsNamed text new
+named_root text new is found = ([], subst (λ t. NameText t []) (sym is) root, found)
+
+-- the octets of labels, and then of the root, for which there was room
+pub named_fits : {U : Type 0} (text wire new : List ℕ) (o : Option U) → IsLabelsWire text wire → (IsSome o → length wire < 255)
+    → IfSome o (λ _. new ≡ wire ++ 0 ∷ []) → IfSome o (λ _. IsNamed text new)
+named_fits text wire new None found fits is = tt
+named_fits text wire new (Some u) (labels, spelled, whole) fits is =
+    let small : length wire < 255 = fits refl in
+    let valid : IsName labels = grind (arith, common_steps, (ap length whole), all_valid) in
+    (labels, of_labels text labels spelled valid, is ∙ whole)
+
+-- the root has no room after those of labels
+pub long_name : (text wire : List ℕ) → IsLabelsWire text wire → 255 ≤ length wire → text ≢ 46 ∷ [] → IsNoName text
+long_name text wire found long other = grind (arith, common_steps, no_name, same_labels)
+
+pub name_is_valid : (text : List ℕ) (labels : Name) → NameText text labels → IsName labels
+name_is_valid text labels spelled = grind (arith, common_steps)
+
+-- ---- texts whose octets become names
+
+-- labels that are read up to some place, each with its length before it; one octet stands between
+-- them and the rest of the text
+pub record Measuring (text rest octets : List ℕ) : Type 0 where
+  pub wire : List ℕ
+  pub gap : ℕ
+  pub parts : octets ≡ wire ++ gap ∷ rest
+  pub naming : Naming text rest wire
+  pub size : length octets ≡ length text + 1
+
+pub measuring_begins : (text octets : List ℕ) → (first : ℕ) × (octets ≡ first ∷ text) → Measuring text text octets
+measuring_begins text octets (first, is) = record {
+  wire = [];
+  gap = first;
+  parts = is;
+  naming = record {
+    onward = λ labels spelled. (labels, spelled, refl);
+    back = λ all spelled. (all, spelled, refl);
+  };
+  size = omega (arith, ap length is);
+}
+
+-- one label more, with its length before it
+module _ {text rest octets : List ℕ} (so_far : Measuring text rest octets) (label after : List ℕ) (parted : rest ≡ label ++ after)
+    (read : symbol_at after ≡ None → LabelText rest label after) (valid : IsLabel label) where
+  abbrev measured : List ℕ
+  measured = slice_set octets (length text - length rest) (length label)
+
+  measured_is : measured ≡ (so_far.wire ++ length label ∷ label) ++ after
+  measured_is = grind (arith, common_steps, (set-append_seam so_far.wire so_far.gap rest (length label)))
+
+  pub measuring_goes : (next : List ℕ) → IsBefore next after → next ≢ [] → Measuring text next measured
+  measuring_goes next before some = let here = read (before_stops next after before) in grind (arith, common_steps, measured_is, naming_goes)
+
+  pub measuring_ends : (next : List ℕ) → IsBefore next after → next ≡ []
+      → IsLabelsWire text (take (length text - length rest + 1 + length label) measured)
+  measuring_ends next before none =
+      let end : IsBefore [] after = subst (λ n. IsBefore n after) none before in
+      let here = read (before_stops [] after end) in
+      search (rules, length-append, measured_is, take_at, naming_ends)
+
+pub ruleset naming_steps = (common_steps, after_label, naming_goes, naming_ends, no_label_left, wrong_after)
+
+pub ruleset spelling_steps = (common_steps, spelling_goes, spelling_ends, no_label_by_length)
+
+pub ruleset named_steps = (common_steps, named_root, long_name, no_name)
+
+pub ruleset measuring_steps = (measuring_begins, measuring_goes)

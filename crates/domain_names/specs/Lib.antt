@@ -1,10 +1,4 @@
-pub mod Words
 pub mod Name
-pub mod Order
-pub mod Parting
-pub mod Wire
 pub mod Laws
-pub mod Fault
+pub mod Wire
 pub mod Text
-pub mod TextFault
-pub mod ErrorText

@@ -1,8 +1,29 @@
--- names as lists of labels, leaf first, without the root
-use Rattle.std.specs.{Prelude.{◌≡◌, ◌<◌, ◌≤◌, ◌-◌, ℕ, drop, [], ◌∷◌, ◌++◌, length, map, Bool, not, ◌&&◌, nat_eq, All, Option, None, Some}, Ordering.on}
-use Rattle.std.specs.{Cmp.Lexicographic.pointwise, Char.to_ascii_lowercase, List.{AllByRecursion, ends_with}}
-use Rattle.domain_octets.specs.Words.{Octets}
-use Rattle.domain_names.specs.Words.{Label, Name}
+-- Names as lists of labels, and their canonical order.
+use Rattle.std.specs.Prelude.{List, ◌≡◌, ◌<◌, ◌≤◌, ◌-◌, ℕ, drop, [], ◌∷◌, ◌++◌, length, map, Bool, not, ◌&&◌, nat_eq, All, Option, None}
+use Rattle.std.specs.{Prelude.{Some, reverse, false}, Ordering.{on, nat_cmp, is_lt, is_gt}, Cmp.Lexicographic.{pointwise, slice_cmp}}
+use Rattle.std.specs.{Cmp.Lexicographic.{nat_list_cmp_total, lists_total}, Char.to_ascii_lowercase, List.{AllByRecursion, ends_with}}
+use Rattle.std.specs.{List.common_prefix_len, declared.cmp.Ordering.Ordering, Cmp.{IsTotalOrder, on_total}}
+use Rattle.domain_octets.specs.Octets.{Octets}
+
+-- ---- the words for what names and entries are made of
+
+-- the octets of a label, without their number
+abbrev pub Label : Type 0
+Label = Octets
+
+-- a name: its labels, leaf first, without the root
+abbrev pub Name : Type 0
+Name = List Label
+
+-- the octets of a token's characters
+abbrev pub Token : Type 0
+Token = Octets
+
+-- the tokens of an entry of a zone file, or those that are left of it
+abbrev pub Tokens : Type 0
+Tokens = List Token
+
+-- ---- names as lists of labels, leaf first, without the root
 
 -- the octets of a name on the wire, without compression (RFC 1035, section 3.1)
 abbrev pub wire_of : Name → Octets
@@ -53,3 +74,30 @@ parent_of (label ∷ labels) = Some labels
 -- the last labels of a name, so many, or all of them where there are no more
 abbrev pub last_labels : ℕ → Name → Name
 last_labels count name = drop (length name - count) name
+
+-- ---- the canonical order of names (RFC 4034, section 6.1)
+
+-- what the order compares: the lowered labels, from the root outwards
+abbrev pub from_root : Name → Name
+from_root name = reverse (lowered name)
+
+-- label by label from the root, each by its octets, and what is absent comes first
+unfoldable pub canonical_cmp : Name → Name → Ordering
+canonical_cmp = on from_root (slice_cmp (slice_cmp nat_cmp))
+
+-- a test of standing strictly before, in that order
+abbrev pub before : Name → Name → Bool
+before x y = is_lt (canonical_cmp x y)
+
+-- at most, in that order
+abbrev pub IsUpTo : Name → Name → Type 0
+IsUpTo x y = is_gt (canonical_cmp x y) ≡ false
+
+pub canonical_cmp_total : IsTotalOrder canonical_cmp
+unfolding canonical_cmp
+canonical_cmp_total = on_total from_root (lists_total nat_list_cmp_total)
+
+-- how many labels two names share, from the root on, but for the case of letters; the root is not
+-- counted
+abbrev pub common_labels : Name → Name → ℕ
+common_labels x y = common_prefix_len (pointwise nat_eq) (from_root x) (from_root y)

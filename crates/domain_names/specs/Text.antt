@@ -1,9 +1,16 @@
--- names as text (RFC 1035, section 5.1; RFC 4343, section 2.1)
-use Rattle.std.specs.Prelude.{◌≡◌, ℕ, ◌+◌, ◌-◌, ◌*◌, ◌/◌, ◌%◌, ◌<◌, ◌≤◌, ◌⊎◌, ◌==◌, ◌||◌, ◌&&◌, Bool, not, nat_le, [], ◌∷◌, ◌++◌, length, drop, Option, Some}
-use Rattle.std.specs.{Prelude.{None, if◌then◌else◌}, Char.{is_ascii_digit, is_ascii_graphic}, List.flat_map}
-use Rattle.domain_octets.specs.Words.{Octets}
-use Rattle.domain_octets.specs.Characters.{space, quote, dollar, left_parenthesis, right_parenthesis, dot, semicolon, at_sign, backslash, tilde, digit_zero}
-use Rattle.domain_names.specs.{Name.{IsLabel, IsName}, Words.{Name, Label}}
+-- Names as text, and why a text or octets are not read as a name.
+use Rattle.std.specs.Prelude.{◌≡◌, ℕ, ◌+◌, ◌-◌, ◌*◌, ◌/◌, ◌%◌, ◌<◌, ◌≤◌, ◌⊎◌, ◌==◌, ◌||◌, ◌&&◌, Bool, not, nat_le, [], ◌∷◌, ◌++◌, length}
+use Rattle.std.specs.{Prelude.{drop, Option, Some, None, if◌then◌else◌, codes, IsNone}, Char.{is_ascii_digit, is_ascii_graphic}}
+use Rattle.std.specs.List.{flat_map}
+use Rattle.domain_octets.specs.{Octets.{Octets, IsOver}, Text.{space, quote, dollar, left_parenthesis, right_parenthesis, dot, semicolon}}
+use Rattle.domain_octets.specs.{Text.{at_sign, backslash, tilde, digit_zero}, declared.error.AppendError.AppendError}
+use Rattle.domain_names.specs.{Name.{IsLabel, IsName, wire_of, Name, Label}, declared.error.ScanError.{ScanError, TheVariants.EndOfEntry}}
+use Rattle.domain_names.specs.declared.error.{ScanError.TheVariants.{Custom, ShortBuf, OutOfMemory}, NameError.NameError}
+use Rattle.domain_octets.specs.declared.error.AppendError.TheVariants as append_error
+use Rattle.domain_names.specs.declared.error.NameError.TheVariants as name_error
+use Rattle.domain_names.specs.declared.error.ScanError.TheVariants as scan_error
+
+-- ---- names as text (RFC 1035, section 5.1; RFC 4343, section 2.1)
 
 -- a character from space to ~
 abbrev pub is_printable : ℕ → Bool
@@ -101,3 +108,52 @@ dotted_text (label ∷ labels) = dot ∷ (label_text label ++ dotted_text labels
 abbrev pub name_text : Name → Octets
 name_text [] = []
 name_text (label ∷ labels) = label_text label ++ dotted_text labels
+
+-- ---- why a text is not read as a name, and what errors of reading say
+
+-- why a builder did not take the octets of a token
+abbrev pub scan_error_of : AppendError → ScanError
+scan_error_of append_error.ShortBuf = ShortBuf
+scan_error_of append_error.OutOfMemory = OutOfMemory
+
+-- what an error says
+pub data ScanFault : Type 0 where
+  entry_ends : ScanFault
+  illegal : Octets → ScanFault
+  no_room : ScanFault
+  no_memory : ScanFault
+
+abbrev pub scan_fault_of : ScanError → ScanFault
+scan_fault_of EndOfEntry = entry_ends
+scan_fault_of (Custom text) = illegal text.now
+scan_fault_of ShortBuf = no_room
+scan_fault_of OutOfMemory = no_memory
+
+-- the fault is one of the tokens, and not of a builder with this limit: memory is not wanting, and
+-- nor is room, where there is a limit
+abbrev pub IsOfTokens : Option ℕ → ScanFault → Type 0
+IsOfTokens limit entry_ends = Unit {0}
+IsOfTokens limit (illegal said) = Unit {0}
+IsOfTokens limit no_room = limit ≡ None
+IsOfTokens limit no_memory = ⊥
+
+-- why a text is not read as a name over octets that have this limit
+abbrev pub NameTextFault : Option ℕ → ScanFault → Octets → Type 0
+NameTextFault limit entry_ends text = ⊥
+NameTextFault limit (illegal said) text = (said ≡ codes "illegal name") × IsNoName text
+NameTextFault limit no_room text =
+    (labels : Name) × NameText text labels × IsOver limit (length (wire_of labels))
+NameTextFault limit no_memory text = ((labels : Name) × NameText text labels) × IsNone limit
+
+-- ---- what errors say
+
+abbrev pub name_error_text : NameError → Octets
+name_error_text name_error.ShortInput = codes "unexpected end of input"
+name_error_text name_error.BadLabel = codes "compressed or bad label"
+name_error_text name_error.LongName = codes "long domain name"
+
+abbrev pub scan_error_text : ScanError → Octets
+scan_error_text scan_error.EndOfEntry = codes "unexpected end of entry"
+scan_error_text (scan_error.Custom text) = text.now
+scan_error_text scan_error.ShortBuf = codes "buffer size exceeded"
+scan_error_text scan_error.OutOfMemory = codes "out of memory"

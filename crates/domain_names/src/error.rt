@@ -1,7 +1,7 @@
 //! Why names or tokens were not read.
 ghost use Rattle.std.specs.Prelude.{◌≡◌, Some};
-ghost use Rattle.domain_names.specs.{TextFault.scan_error_of, ErrorText.name_error_text};
-ghost use Rattle.domain_names.specs.{ErrorText.scan_error_text, Fault.{fault_of, name_fault_of}};
+ghost use Rattle.domain_names.specs.{Text.{scan_error_of, name_error_text, scan_error_text}, Wire.fault_of};
+ghost use Rattle.domain_names.specs.Wire.{name_fault_of};
 ghost use Rattle.domain_names.specs.declared.error.ScanError.TheVariants as scan_error;
 
 use domain_octets::{AppendError, OutOfMemory, ParseError};
@@ -21,7 +21,7 @@ pub enum NameError {
 }
 
 impl fmt::Display for NameError {
-    // These texts stand once more in specs/ErrorText.antt: both change together.
+    // These texts stand once more in specs/Text.antt: both change together.
     ghost output = { λ e. Some (name_error_text e) };
 
     fn fmt<W: fmt::Write>(&self, f: &mut fmt::Formatter<W>) -> fmt::Result {
@@ -61,7 +61,7 @@ pub enum ScanError {
 }
 
 impl fmt::Display for ScanError {
-    // These texts stand once more in specs/ErrorText.antt: both change together.
+    // These texts stand once more in specs/Text.antt: both change together.
     ghost output = { λ e. Some (scan_error_text e) };
 
     fn fmt<W: fmt::Write>(&self, f: &mut fmt::Formatter<W>) -> fmt::Result {

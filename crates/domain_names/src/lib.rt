@@ -12,23 +12,16 @@
 //! laws of that order. No comparison takes memory.
 #![tactic(auto)]
 
-mod canonical;
-mod convert;
-mod dotted;
 mod error;
-mod labels;
 mod name;
 mod parsed;
 mod text;
 mod to_name;
 mod wire;
 
-pub use canonical::CanonicalOrd;
 pub use domain_octets::ParseError;
-pub use dotted::DottedName;
 pub use error::{NameError, ScanError};
-pub use labels::Labels;
-pub use name::Name;
+pub use name::{CanonicalOrd, DottedName, Labels, Name};
 pub use parsed::ParsedName;
 pub use to_name::{Comparison, MakeName, ToName};
 pub use wire::MAX_NAME;

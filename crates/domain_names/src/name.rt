@@ -1,23 +1,52 @@
-//! Names over octets.
-ghost use Rattle.std.specs.Prelude.{◌≡◌, ◌↔◌, Some, refl, IsOk, IfOk, IfErr};
-ghost use Rattle.std.specs.Cmp.{partial_equiv_from_equiv};
+//! The labels of a name, one after another.
+ghost use Rattle.std.specs.{Iterator.{YieldsFirstRef, item_count}, Prelude.{◌≡◌, ◌↔◌, Some, refl, IsOk, IfOk}};
+ghost use Rattle.std.specs.{Prelude.{IfErr, IsNone, length, ◌∷◌, ◌++◌, []}, Cmp.partial_equiv_from_equiv};
+ghost use Rattle.std.specs.{Cmp.IsTotalOrder, declared.cmp.Ordering.Ordering};
+ghost use Rattle.domain_names.specs.Name.{wire_of, lowered, same_name, canonical_cmp, canonical_cmp_total};
+ghost use Rattle.domain_names.specs.{Name.Name, Text.{name_text, NameText, NameTextFault, scan_fault_of}};
+ghost use Rattle.domain_names.specs.Laws.{same_name_equiv, same_name_ties, same_name_fed, canonical_po};
+ghost use Rattle.domain_names.specs.Wire.{WholeNameFault, fault_of, labels_of, IsWire};
+ghost use Rattle.domain_octets.specs.{Octets.IsOver, Text.dot};
 ghost use Rattle.std.specs.Hash as fed;
-ghost use Rattle.domain_names.specs.{Name.{wire_of, lowered, same_name}, Text.name_text};
-ghost use Rattle.domain_names.specs.{Text.NameText, TextFault.{NameTextFault, scan_fault_of}};
-ghost use Rattle.domain_names.specs.Order.{canonical_cmp, canonical_cmp_total};
-ghost use Rattle.domain_names.specs.Laws.{same_name_equiv, same_name_ties, same_name_fed};
-ghost use Rattle.domain_names.specs.{Laws.canonical_po, Fault.{WholeNameFault, fault_of}};
-ghost use Rattle.domain_names.specs.{Wire.{labels_of, IsWire}, Words.Name};
 
-use crate::{MakeName, ParseError, ScanError, ToName, text, wire};
+use crate::{MakeName, ParseError, ParsedName, ScanError, ToName, text, wire};
 use domain_octets::{
-    ArrayBuilder, FromBuilder, Octets, OctetsBuilder, OutOfMemory, SmallOctets, TryClone,
+    AppendError, ArrayBuilder, CopyOctets, FlattenInto, FromBuilder, Octets, OctetsBuilder,
+    OctetsFrom, OutOfMemory, SmallOctets, TryClone,
 };
 use std::alloc::Global;
 use std::cmp::Ordering;
 use std::fmt;
 use std::hash::{Hash, Hasher};
 use std::marker::Model;
+
+/// The labels that are left, leaf first, without the root.
+#[derive(Drop)]
+pub struct Labels<'a> {
+    pub(crate) left: ParsedName<'a>,
+}
+
+impl<'a> Model for Labels<'a> {
+    ghost use Rattle.domain_names.specs.Name.{Name};
+
+    ghost Value = { Name };
+
+    ghost view = { λ s. s.left };
+}
+
+impl<'a> Iterator for Labels<'a> {
+    type Item = &'a [u8];
+
+    ghost next_gives = { YieldsFirstRef (λ labels. labels) };
+
+    ghost remaining = { item_count (λ labels. labels) };
+
+    fn next(&mut self) -> Option<&'a [u8]> {
+        let (label, above) = self.left.split_first()?;
+        self.left = above;
+        Some(label)
+    }
+}
 
 /// An absolute name whose wire form lies in octets, in the case that it was given in.
 ///
@@ -41,7 +70,7 @@ impl<O: Octets> Name<O> {
     /// Refuses, at the first label that is at fault: a missing octet with `ShortInput`, a length
     /// over 63 with `Form("compressed or bad label")`, a name over 255 octets with
     /// `Form("long domain name")`; and octets after the name with `Form("trailing data")`.
-    #[tactic(auto, using(crate::proofs::FaultLemmas::no_fault))]
+    #[tactic(auto, using(crate::proofs::WireLemmas::no_fault))]
     pub fn from_octets(octets: O) -> Result<Self, ParseError>
     where
         O: Drop,
@@ -193,5 +222,78 @@ impl<O: Octets> fmt::Debug for Name<O> {
     fn fmt<W: fmt::Write>(&self, f: &mut fmt::Formatter<W>) -> fmt::Result {
         let name = self.fmt_with_dot();
         write!(f, "Name({name})")
+    }
+}
+
+impl<N: ToName + Drop, O: CopyOctets> OctetsFrom<N> for Name<O> {
+    ghost is_same = { λ source made. made ≡ N.labels source };
+
+    ghost has_no_room = { λ source. IsOver O.capacity (length (wire_of (N.labels source))) };
+
+    ghost takes_memory = { IsNone O.capacity };
+
+    fn try_octets_from(alloc: Global, source: N) -> Result<Self, AppendError> {
+        Ok(Name::from_wire(O::copy_octets(alloc, source.as_wire())?))
+    }
+}
+
+impl<O: Octets, T: OctetsFrom<Name<O>>> FlattenInto<T> for Name<O> {
+    ghost is_same = { λ source made. T.OctetsFrom.is_same source made };
+
+    ghost has_no_room = { λ source. T.OctetsFrom.has_no_room source };
+
+    ghost takes_memory = { T.OctetsFrom.takes_memory };
+
+    fn try_flatten_into(self, alloc: Global) -> Result<T, AppendError> {
+        T::try_octets_from(alloc, self)
+    }
+}
+
+impl<'a, T: OctetsFrom<ParsedName<'a>>> FlattenInto<T> for ParsedName<'a> {
+    ghost is_same = { λ source made. T.OctetsFrom.is_same source made };
+
+    ghost has_no_room = { λ source. T.OctetsFrom.has_no_room source };
+
+    ghost takes_memory = { T.OctetsFrom.takes_memory };
+
+    fn try_flatten_into(self, alloc: Global) -> Result<T, AppendError> {
+        T::try_octets_from(alloc, self)
+    }
+}
+
+/// A type with a canonical order: the total order that DNSSEC gives it (RFC 4034, section 6).
+///
+/// It may differ from the type's `Ord`, and it may tell apart values that are equal.
+pub trait CanonicalOrd {
+    /// The order.
+    ghost canonical_cmp: { Self → Self → Ordering };
+
+    /// Compares in canonical order. Takes no memory.
+    fn canonical_cmp(&self, other: &Self) -> Ordering
+        ensures { result ≡ canonical_cmp self.now other.now };
+
+    /// It is a total order.
+    ghost total: { IsTotalOrder canonical_cmp };
+}
+
+/// A name that is written with its last dot; the root is a dot alone.
+#[derive(Drop)]
+pub struct DottedName<'a> {
+    pub(crate) name: ParsedName<'a>,
+}
+
+impl<'a> Model for DottedName<'a> {
+    ghost use Rattle.domain_names.specs.Name.{Name};
+
+    ghost Value = { Name };
+
+    ghost view = { λ n. n.name };
+}
+
+impl<'a> fmt::Display for DottedName<'a> {
+    ghost output = { λ n. Some (name_text n ++ dot ∷ []) };
+
+    fn fmt<W: fmt::Write>(&self, f: &mut fmt::Formatter<W>) -> fmt::Result {
+        text::write_dotted(self.name.as_wire(), f)
     }
 }

@@ -1,9 +1,8 @@
 //! Names in octets that they borrow: those of a message, or of another name.
 ghost use Rattle.std.specs.Prelude.{◌≡◌, ◌∷◌, [], Some, IsOk, IfNone, IfSome, IfOk, IfErr, OnErr};
-ghost use Rattle.domain_names.specs.{Text.name_text, Name.{wire_of, IsName, parent_of}};
-ghost use Rattle.domain_names.specs.Fault.{NameFault, WholeNameFault, fault_of, name_fault_of};
-ghost use Rattle.domain_names.specs.Wire.{labels_of, IsWire};
-ghost use Rattle.domain_octets.specs.Place.{Takes};
+ghost use Rattle.domain_names.specs.{Text.name_text, Name.{wire_of, IsName, parent_of}, Wire.NameFault};
+ghost use Rattle.domain_names.specs.Wire.{WholeNameFault, fault_of, name_fault_of, labels_of, IsWire};
+ghost use Rattle.domain_octets.specs.Octets.{Takes};
 
 use crate::{NameError, ParseError, ToName, text, wire};
 use domain_octets::{OutOfMemory, Parser, TryClone};
@@ -18,7 +17,7 @@ pub struct ParsedName<'a> {
 }
 
 impl<'a> Model for ParsedName<'a> {
-    ghost use Rattle.domain_names.specs.{Words.Name, Wire.{labels_of, IsWire}};
+    ghost use Rattle.domain_names.specs.{Name.Name, Wire.{labels_of, IsWire}};
 
     ghost Value = { Name };
 

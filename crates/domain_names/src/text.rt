@@ -2,11 +2,11 @@
 ghost use Rattle.std.specs.Prelude.{◌≡◌, ◌≢◌, ℕ, Some, None, drop, slice_index, ◌+◌, ◌<◌, ◌≤◌, ◌∷◌, ◌++◌, [], ◌⊎◌, length, take, IfSome, IfNone, IsSome, OnSome, IsTrue, ◌↔◌};
 ghost use Rattle.std.specs.Fmt.{WritesOnOk};
 ghost use Rattle.std.specs.Str.{IsAscii};
-ghost use Rattle.domain_octets.specs.{Characters.dot, Words.Octets};
-ghost use Rattle.domain_names.specs.Name.{wire_of, IsLabel, IsName};
-ghost use Rattle.domain_names.specs.Text.{symbol_at, LabelText, LabelTexts, IsBefore, HasNoLabel, HasNoLabelAfter, NameText, IsNoName, is_special, octet_text, label_text, dotted_text, name_text};
+ghost use Rattle.domain_octets.specs.{Text.dot, Octets.Octets};
+ghost use Rattle.domain_names.specs.{Name.{wire_of, IsLabel, IsName, Label, Name}, Text.{symbol_at, LabelText}};
+ghost use Rattle.domain_names.specs.Text.{LabelTexts, IsBefore, HasNoLabel, HasNoLabelAfter, NameText};
+ghost use Rattle.domain_names.specs.Text.{IsNoName, is_special, octet_text, label_text, dotted_text, name_text};
 ghost use Rattle.domain_names.specs.Wire.{labels_of, IsWire};
-ghost use Rattle.domain_names.specs.Words.{Label, Name};
 
 use crate::wire;
 use crate::wire::{MAX_LABEL_LEN, MAX_NAME};
@@ -41,7 +41,7 @@ fn is_plain(octet: u8) -> bool
 }
 
 /// How many characters that stand for themselves within a label a text begins with.
-#[tactic(auto, using(std::proofs::lemmas::Grind::common_steps, crate::proofs::SpellingLemmas::plain_symbol))]
+#[tactic(auto, using(std::proofs::lemmas::Grind::common_steps, crate::proofs::TextLemmas::plain_symbol))]
 fn plain_len(text: &[u8]) -> usize
     ensures within { result ≤ length text.now }
     ensures plain { (k : ℕ) → k < result
@@ -57,7 +57,7 @@ fn plain_len(text: &[u8]) -> usize
 
 /// The label that a text begins with, and what follows it. Answers none for a label of over 63
 /// octets.
-#[tactic(auto, using(crate::proofs::SpellingLemmas::spelling_steps))]
+#[tactic(auto, using(crate::proofs::TextLemmas::spelling_steps))]
 fn read_label(text: &[u8]) -> Option<(ArrayBuilder<MAX_LABEL_LEN>, &[u8])>
     ensures label { IfSome result (λ p. LabelText text.now p.0 p.1.now) }
     ensures fits { IfSome result (λ p. length p.0 ≤ 63) }
@@ -88,7 +88,7 @@ fn push_label(wire: &mut ArrayBuilder<MAX_NAME>, label: &[u8]) -> Option<()>
 }
 
 /// Appends the label that a text begins with, and answers what follows it.
-#[tactic(auto, using(crate::proofs::SpellingLemmas::one_label))]
+#[tactic(auto, using(crate::proofs::TextLemmas::one_label))]
 fn take_label<'a>(wire: &mut ArrayBuilder<MAX_NAME>, text: &'a [u8]) -> Option<&'a [u8]>
     ensures some { IfSome result (λ after. (label : Label) × LabelText text.now label after.now
         × IsLabel label × (wire.new ≡ wire.old ++ length label ∷ label)) }
@@ -114,7 +114,7 @@ fn after_dot(text: &[u8]) -> Option<&[u8]>
 }
 
 /// Appends the wire form of the labels that a text spells, label by label, without the root.
-#[tactic(auto, using(crate::proofs::SpellingLemmas::naming_steps))]
+#[tactic(auto, using(crate::proofs::TextLemmas::naming_steps))]
 fn read_labels(wire: &mut ArrayBuilder<MAX_NAME>, text: &[u8]) -> Option<()>
     requires { wire.old ≡ [] }
     ensures labels { OnSome result ((labels : Name) × LabelTexts text.now labels
@@ -134,7 +134,7 @@ fn read_labels(wire: &mut ArrayBuilder<MAX_NAME>, text: &[u8]) -> Option<()>
 
 /// The characters that a text begins with and that stand for themselves, if they are as many as a
 /// label has, and what follows them. They are its first label, unless an escape follows.
-#[tactic(auto, using(crate::proofs::SpellingLemmas::plain_label))]
+#[tactic(auto, using(crate::proofs::TextLemmas::plain_label))]
 fn split_plain_label(text: &[u8]) -> Option<(&[u8], &[u8])>
     ensures parts { IfSome result (λ p. text.now ≡ p.0.now ++ p.1.now) }
     ensures label { IfSome result (λ p. symbol_at p.1.now ≡ None
@@ -151,7 +151,7 @@ fn split_plain_label(text: &[u8]) -> Option<(&[u8], &[u8])>
 /// Puts the length of each label before it, where a text stands after one more octet. The labels
 /// then fill so many octets: all, or all but a last dot. Answers none where a character does not
 /// stand for itself, or where there is no label.
-#[tactic(auto, using(crate::proofs::SpellingLemmas::measuring_steps))]
+#[tactic(auto, using(crate::proofs::TextLemmas::measuring_steps))]
 fn put_lengths(octets: &mut [u8], text: &[u8]) -> Option<usize>
     requires { (first : ℕ) × (octets.old ≡ first ∷ text.now) }
     ensures size { length octets.new ≡ length octets.old }
@@ -195,7 +195,7 @@ fn read_plain_name(wire: &mut ArrayBuilder<MAX_NAME>, text: &[u8]) -> Option<()>
 
 /// Puts the wire form of the name that a text spells into an empty builder. Stops at the first
 /// character or label that no name has.
-#[tactic(auto, using(crate::proofs::SpellingLemmas::named_steps))]
+#[tactic(auto, using(crate::proofs::TextLemmas::named_steps))]
 pub fn read_name(wire: &mut ArrayBuilder<MAX_NAME>, text: &[u8]) -> Option<()>
     requires { wire.old ≡ [] }
     ensures name { OnSome result ((labels : Name) × NameText text.now labels
@@ -279,7 +279,7 @@ fn ascii_text(octets: &[u8]) -> &str
     unsafe { str::from_utf8_unchecked(octets) }
 }
 
-#[tactic(auto, using(crate::proofs::TextLemmas::label_text_ascii, domain_octets::proofs::OctetLemmas::octets_from_type))]
+#[tactic(auto, using(crate::proofs::TextLemmas::label_text_ascii, domain_octets::proofs::WordLemmas::octets_from_type))]
 fn write_label<W: fmt::Write>(label: &[u8], f: &mut fmt::Formatter<W>) -> fmt::Result
     ensures { WritesOnOk W.write_str_gives f.old result (label_text label.now) f.new }
 {

@@ -2,11 +2,10 @@
 ghost use Rattle.std.specs.Prelude.{◌≡◌, ◌≤◌, [], ◌↔◌, IsTrue, length, ◌++◌, IsErrOf, OnOk, OnErr, IfOk, ◌+◌, IsNone};
 ghost use Rattle.std.specs.Ordering.{nat_cmp};
 ghost use Rattle.std.specs.Cmp.Lexicographic.{slice_cmp};
-ghost use Rattle.domain_octets.specs.Limit.{IsOver};
-ghost use Rattle.domain_names.specs.Name.{wire_of, lowered, IsSame, same_name, IsAtOrBelow, is_at_or_below, last_labels, parent_of};
-ghost use Rattle.domain_names.specs.Order.{canonical_cmp, common_labels};
+ghost use Rattle.domain_octets.specs.Octets.{IsOver};
+ghost use Rattle.domain_names.specs.Name.{wire_of, lowered, IsSame, same_name, IsAtOrBelow, is_at_or_below};
+ghost use Rattle.domain_names.specs.Name.{last_labels, parent_of, canonical_cmp, common_labels, Name};
 ghost use Rattle.domain_names.specs.Wire.{labels_of, IsWire};
-ghost use Rattle.domain_names.specs.Words.{Name};
 
 use crate::{DottedName, Labels, ParsedName, wire};
 use domain_octets::{AppendError, OctetsBuilder, OutOfMemory, TryClone};
@@ -153,7 +152,7 @@ pub trait ToName: TryClone {
     }
 
     /// The order of the names' wire forms with A to Z lowered, octet by octet.
-    #[tactic(auto, using(crate::proofs::CaseLemmas::lowered_wire))]
+    #[tactic(auto, using(crate::proofs::OrderLemmas::lowered_wire))]
     final fn lowercase_composed_cmp<N: ToName>(&self, other: &N) -> Ordering
     where
         Self: Sized,
@@ -197,7 +196,7 @@ pub trait ToName: TryClone {
 
     /// Writes the name's wire form with A to Z lowered to the front of a buffer (RFC 4034, section
     /// 6.2). Takes no memory.
-    #[tactic(auto, using(std::proofs::lemmas::Grind::common_steps, crate::proofs::CaseLemmas::lowered_wire))]
+    #[tactic(auto, using(std::proofs::lemmas::Grind::common_steps, crate::proofs::OrderLemmas::lowered_wire))]
     final fn lower_wire<'b>(&self, buffer: &'b mut [u8; wire::MAX_NAME]) -> &'b [u8]
     where
         Self: Sized,

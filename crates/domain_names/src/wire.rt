@@ -4,10 +4,9 @@ ghost use Rattle.std.specs.Prelude.{IsTrue, IfOk, IfErr, OnOk, false, ◌++◌, 
 ghost use Rattle.std.specs.{Char.to_ascii_lowercase, Ordering.nat_cmp, Cmp.Lexicographic.slice_cmp};
 ghost use Rattle.std.specs.Hash as fed;
 ghost use Rattle.domain_names.specs.Name.{wire_of, lowered, IsSame, same_name, IsAtOrBelow, is_at_or_below};
-ghost use Rattle.domain_names.specs.{Wire.{labels_of, IsWire}, Words.Name};
-ghost use Rattle.domain_names.specs.Fault.{NameFault, WholeNameFault, fault_of, name_fault_of};
-ghost use Rattle.domain_names.specs.Order.{canonical_cmp, common_labels};
-ghost use Rattle.domain_names.specs.Parting.{EndAlike, EndsIn, Part, order_below};
+ghost use Rattle.domain_names.specs.{Name.{Name, canonical_cmp, common_labels}, Wire.{labels_of, IsWire}};
+ghost use Rattle.domain_names.specs.{Wire.{NameFault, WholeNameFault, fault_of, name_fault_of}, Laws.EndAlike};
+ghost use Rattle.domain_names.specs.Laws.{EndsIn, Part, order_below};
 
 use crate::{Comparison, NameError, ParseError};
 use std::cmp::Ordering;
@@ -69,7 +68,7 @@ pub(crate) fn skip_labels(wire: &[u8], count: usize) -> &[u8]
 }
 
 /// The order of octets with A to Z lowered. Octets that are the same are not lowered.
-#[tactic(auto, using(crate::proofs::PartingLemmas::lengths_decide))]
+#[tactic(auto, using(crate::proofs::OrderLemmas::lengths_decide))]
 pub(crate) fn lowered_octets_cmp(a: &[u8], b: &[u8]) -> Ordering
     ensures { result ≡ slice_cmp nat_cmp (map to_ascii_lowercase a.now)
         (map to_ascii_lowercase b.now) }
@@ -88,7 +87,7 @@ pub(crate) fn lowered_octets_cmp(a: &[u8], b: &[u8]) -> Ordering
 
 /// The canonical order of names with as many labels, and how many they share. Labels are only
 /// compared where all nearer the root are the same.
-#[tactic(auto, using(crate::proofs::WireLemmas::few_labels, crate::proofs::OrderLemmas::aligned_steps, crate::proofs::PartingLemmas::roots))]
+#[tactic(auto, using(crate::proofs::WireLemmas::few_labels, crate::proofs::OrderLemmas::aligned_steps, crate::proofs::OrderLemmas::roots))]
 fn compare_aligned(a: &[u8], b: &[u8]) -> Comparison
     requires a { IsWire a.now }
     requires b { IsWire b.now }
@@ -155,7 +154,7 @@ fn equal_eights(a: &[u8], b: &[u8]) -> usize
 }
 
 /// How many octets two names end in alike, the root's among them.
-#[tactic(auto, using(crate::proofs::PartingLemmas::alike_steps))]
+#[tactic(auto, using(crate::proofs::OrderLemmas::alike_steps))]
 fn equal_end(a: &[u8], b: &[u8]) -> usize
     requires a { IsWire a.now }
     requires b { IsWire b.now }
@@ -205,7 +204,7 @@ fn end_within<'a>(end: End<'a>, most: usize) -> End<'a>
 }
 
 /// Where two names part: the longest end that both have octet for octet, as the end of each.
-#[tactic(auto, using(crate::proofs::PartingLemmas::alike_steps))]
+#[tactic(auto, using(crate::proofs::OrderLemmas::alike_steps))]
 fn part<'a>(a: &'a [u8], b: &'a [u8]) -> (End<'a>, End<'a>)
     requires a { IsWire a.now }
     requires b { IsWire b.now }
@@ -250,7 +249,7 @@ fn order_below(x: Option<&[u8]>, y: Option<&[u8]>) -> Option<Ordering>
 }
 
 /// The canonical order.
-#[tactic(auto, using(crate::proofs::PartingLemmas::parted))]
+#[tactic(auto, using(crate::proofs::OrderLemmas::parted))]
 pub fn canonical_cmp(a: &[u8], b: &[u8]) -> Ordering
     requires a { IsWire a.now }
     requires b { IsWire b.now }
@@ -264,7 +263,7 @@ pub fn canonical_cmp(a: &[u8], b: &[u8]) -> Ordering
 }
 
 /// Whether two names differ in the case of letters at most.
-#[tactic(auto, using(crate::proofs::CaseLemmas::same_steps))]
+#[tactic(auto, using(crate::proofs::OrderLemmas::same_steps))]
 pub fn is_same(a: &[u8], b: &[u8]) -> bool
     requires a { IsWire a.now }
     requires b { IsWire b.now }
@@ -275,7 +274,7 @@ pub fn is_same(a: &[u8], b: &[u8]) -> bool
 }
 
 /// Whether a name is at or below another. Its end that has no more octets than the other decides.
-#[tactic(auto, using(crate::proofs::PartingLemmas::below_steps))]
+#[tactic(auto, using(crate::proofs::OrderLemmas::below_steps))]
 pub fn is_at_or_below(name: &[u8], above: &[u8]) -> bool
     requires name { IsWire name.now }
     requires above { IsWire above.now }
@@ -294,7 +293,7 @@ pub fn is_at_or_below(name: &[u8], above: &[u8]) -> bool
 
 /// The canonical order, and how many labels are shared: those of the end at which the names part,
 /// unless the labels below it differ in case alone.
-#[tactic(auto, using(crate::proofs::PartingLemmas::parted))]
+#[tactic(auto, using(crate::proofs::OrderLemmas::parted))]
 pub fn compare(a: &[u8], b: &[u8]) -> Comparison
     requires a { IsWire a.now }
     requires b { IsWire b.now }
@@ -312,7 +311,7 @@ pub fn compare(a: &[u8], b: &[u8]) -> Comparison
 }
 
 /// Feeds the lowered octets.
-#[tactic(auto, using(crate::proofs::CaseLemmas::lowered_wire))]
+#[tactic(auto, using(crate::proofs::OrderLemmas::lowered_wire))]
 pub fn hash<H: Hasher>(wire: &[u8], state: &mut H)
     requires { IsWire wire.now }
     ensures { state.new ≡ fold H.write state.old
@@ -325,7 +324,7 @@ pub fn hash<H: Hasher>(wire: &[u8], state: &mut H)
 }
 
 /// The name that octets begin with, and what is left of them.
-#[tactic(auto, using(crate::proofs::FaultLemmas::reading_steps))]
+#[tactic(auto, using(crate::proofs::WireLemmas::reading_steps))]
 pub fn split_name(octets: &[u8]) -> Result<(&[u8], &[u8]), NameError>
     ensures wire { IfOk result (λ found. IsWire found.0.now) }
     ensures parts { IfOk result (λ found. octets.now ≡ found.0.now ++ found.1.now) }
@@ -355,7 +354,7 @@ pub fn split_name(octets: &[u8]) -> Result<(&[u8], &[u8]), NameError>
 }
 
 /// Checks that octets are a name and nothing more.
-#[tactic(auto, using(crate::proofs::FaultLemmas::in_name_by))]
+#[tactic(auto, using(crate::proofs::WireLemmas::in_name_by))]
 pub fn check(octets: &[u8]) -> Result<(), ParseError>
     ensures ok { OnOk result (IsWire octets.now) }
     ensures err { IfErr result (λ e. WholeNameFault octets.now (fault_of e)) }

@@ -1,17 +1,44 @@
--- How the records of a chain are gathered, and what the finished chain means.
-use Rattle.std.proofs.Common.{◌≡◌, ℕ, ◌+◌, Bool, true, false, not, ◌&&◌, ◌||◌, List, [], ◌∷◌, ◌++◌, map, refl, sym, ap, ◌∙◌, subst, inl, inr, ◌⊎◌, Some, zero}
-use Rattle.std.proofs.{Common.{suc, ◌<◌, length, get_or, take, arith}, lemmas.{Bool.{cases_Bool, false≢true, and_parts, or_cases, not-true}, List.take_more}}
-use Rattle.std.{proofs.lemmas.{List.Elements.recursion_from_All, Grind.common_steps}, specs.{Prelude.{count_by, All}, List.{AllByRecursion, list_any}}}
-use Rattle.domain_bitmap.specs.Bitmap.{bitmap_octets}
-use Rattle.domain_zone.specs.{Covering.{covers, matches_or_covers, pairs}, Soa.{chain_ttl, soa_of}}
-use Rattle.domain_zone.specs.{Zone.{ZoneRecord, OwnersNeverDescend, owns, is_occluded, is_unoccluded, unoccluded_owners}, declared.soa.ApexSoa.ApexSoa}
+-- How the records of an NSEC chain are gathered, and what the finished chain means.
+use Rattle.std.proofs.Common.{◌≡◌, ℕ, ◌<◌, Bool, true, false, ◌&&◌, ◌||◌, List, [], ap, ◌∙◌, nat_eq, arith, ◌+◌, not, ◌∷◌, ◌++◌, map, refl, sym, subst, inl}
+use Rattle.std.proofs.{Common.{inr, ◌⊎◌, Some, zero, suc, length, get_or, take, ◌≢◌, None}, lemmas.{Grind.common_steps, Bool.{cases_Bool, false≢true}}}
+use Rattle.std.{proofs.lemmas.{Bool.{and_parts, or_cases, not-true}, List.{take_more, Elements.recursion_from_All}}, specs.Prelude.{count_by, All}}
+use Rattle.std.specs.List.{AllByRecursion, list_any}
+use Rattle.domain_octets.{proofs.StdLemmas.or_false, specs.Octets.Octets}
+use Rattle.domain_bitmap.{specs.{Bitmap.bitmap_octets, Blocks.holds}, proofs.BitmapLemmas.bitmap_octets-same}
+use Rattle.domain_zone.specs.Zone.{ZoneRecord, lists_type, OwnersNeverDescend, owns, is_occluded, is_unoccluded, unoccluded_owners, has_unequal_ttls}
+use Rattle.domain_zone.{specs.Zone.{chain_ttl, soa_of, AreListed, IsListingFault, OwnerRecords, covered_names}, proofs.GivenLemmas.{holds_nothing, soa_owned}}
+use Rattle.domain_zone.{proofs.GivenLemmas.none_left_out, specs.{Covering.{covers, matches_or_covers, pairs}, declared.soa.ApexSoa.ApexSoa}}
 use Rattle.domain_zone.proofs.NameLemmas.{before_order, one_lowered, same_itself, same_is, before_left, before_right, below_from, same_lowered}
-use Rattle.domain_zone.proofs.OwnerLemmas.{any_owner, any_in, owners_are, owners_ascend, apex_unoccluded}
-use Rattle.domain_zone.proofs.{PairLemmas.{In, all_in, IsAscending, IsApart, one_matches_or_covers, gap, owner_in, next_is}, PlaceLemmas.one_place}
-use Rattle.domain_zone.proofs.{SoaLemmas.soa_owned, ZoneLemmas.{weaker, apart_right}, FindLemmas.{in_at, in_map}}
-use Rattle.domain_names.specs.{Name.{is_at_or_below, lowered, same_name}, Order.before, Words.Name}
-use Rattle.domain_nsec.specs.{Chain.{Link, link_of, links_in, nsec_lists, IsChain}, Meaning.{MirrorsZone, IsMatchedOrCoveredOnce, IsCycle, OwnersAscend}}
-use Rattle.domain_nsec.specs.{Meaning.last_next, declared.config.GenerateNsecConfig.GenerateNsecConfig}
+use Rattle.domain_zone.proofs.{WalkLemmas.{any_owner, any_in, owners_are, owners_ascend, apex_unoccluded, weaker, apart_right}, PairLemmas.{In, all_in}}
+use Rattle.domain_zone.proofs.PairLemmas.{IsAscending, IsApart, one_matches_or_covers, gap, owner_in, next_is, one_place, in_at, in_map}
+use Rattle.domain_zone.specs.declared.listed.ListedOwners.{ListedOwners}
+use Rattle.domain_nsec.specs.{Chain.{is_listed, Link, link_of, links_in, nsec_lists, IsChain, IsFaultless, IsFirstFault}, Meaning.MirrorsZone}
+use Rattle.domain_nsec.specs.{Meaning.{IsMatchedOrCoveredOnce, IsCycle, OwnersAscend, last_next}, declared.config.GenerateNsecConfig.GenerateNsecConfig}
+use Rattle.domain_names.specs.Name.{is_at_or_below, lowered, same_name, before, Name}
+use Rattle.domain_records.specs.declared.error.SigningError.{SigningError, TheVariants.{EmptyRecordSlice, SoaRecordCouldNotBeDetermined, MultipleTtlValues}}
+use Rattle.domain_records.specs.declared.error.SigningError.TheVariants.{Nsec3HashingError, OutOfMemory}
+
+-- ---- The types that NSEC records list.
+
+pub common_two : (cut : Bool) (v0 v1 v2 : List ℕ) → v0 ≡ [] → ((t : ℕ) → t < 65536 → holds v1 t ≡ (nat_eq t 46 || holds v0 t))
+    → ((t : ℕ) → t < 65536 → holds v2 t ≡ (nat_eq t 47 || holds v1 t)) → (t : ℕ) → t < 65536
+    → holds v2 t ≡ is_listed false cut [] t
+common_two cut v0 v1 v2 e f g t b = grind (arith, common_steps, holds_nothing)
+
+pub common_three : (cut : Bool) (v2 v3 : List ℕ) → ((t : ℕ) → t < 65536 → holds v2 t ≡ is_listed false cut [] t)
+    → ((t : ℕ) → t < 65536 → holds v3 t ≡ (nat_eq t 48 || holds v2 t)) → (t : ℕ) → t < 65536
+    → holds v3 t ≡ is_listed true cut [] t
+common_three cut v2 v3 f g t b = grind (arith, common_steps)
+
+-- the common types, and then those of the records
+pub listed_octets : (assumed cut : Bool) (G : List ZoneRecord) (old new : List ℕ)
+    → ((at_cut : Bool) (t : ℕ) → t < 65536 → holds old t ≡ is_listed assumed at_cut [] t)
+    → ((t : ℕ) → t < 65536 → holds new t ≡ (holds old t || lists_type cut G t)) → bitmap_octets (holds new) ≡ bitmap_octets (is_listed assumed cut G)
+listed_octets assumed cut G old new common more =
+    bitmap_octets-same _ _ (λ t b. more t b ∙ (λ i. common cut t b i || lists_type cut G t)
+    ∙ ap (λ b. b || lists_type cut G t) (or_false (nat_eq t 46 || nat_eq t 47 || (assumed && nat_eq t 48))))
+
+-- ---- How the records of a chain are gathered, and what the finished chain means.
 
 abbrev pub pair_of : Link → Name × Name
 pair_of k = (k.owner, k.next)
@@ -236,3 +263,34 @@ chain_cycle L a order config links chain =
       ascends = r.ascends;
       ends = r.ends;
     }
+
+-- ---- What is listed of a zone is its chain, or tells its first fault.
+
+module _ (L : List ZoneRecord) (a : Name) (config : GenerateNsecConfig) where
+  -- an NSEC chain lists all owners that are not occluded
+  abbrev names : List Name
+  names = covered_names false config.occlude_below_dname L a
+
+  whole : names ≡ unoccluded_owners config.occlude_below_dname L a
+  whole = none_left_out config.occlude_below_dname L a
+
+  -- with these types
+  abbrev bits : Bool → OwnerRecords → Octets
+  bits at_apex o = bitmap_octets (is_listed (config.assume_dnskeys_will_be_added && at_apex) o.is_zone_cut o.records)
+
+  pub first_fault : (e : SigningError) → soa_of L a ≢ None → IsListingFault L names e → IsFirstFault L a config e
+  first_fault EmptyRecordSlice soa h = absurd h
+  first_fault SoaRecordCouldNotBeDetermined soa h = absurd h
+  first_fault MultipleTtlValues soa h = (soa, subst (λ ns. has_unequal_ttls L ns ≡ true) whole h)
+  first_fault (Nsec3HashingError e) soa h = absurd h
+  first_fault OutOfMemory soa h = (soa, subst (λ ns. has_unequal_ttls L ns ≡ false) whole h)
+
+  module _ {listed : ListedOwners} (all : AreListed bits L a names listed) where
+    known : AreListed bits L a (unoccluded_owners config.occlude_below_dname L a) listed
+    known = subst (λ ns. AreListed bits L a ns listed) whole all
+
+    pub faultless : soa_of L a ≢ None → IsFaultless L a config
+    faultless soa = (soa, known.even)
+
+    pub chain : (numbers : ApexSoa) → soa_of L a ≡ Some numbers → IsChain L a config (links_in numbers a listed.names.items listed.types)
+    chain numbers soa = chain_of L a config numbers _ _ soa known.named (known.typed ∙ ap (map _) (sym known.named))

@@ -1,16 +1,19 @@
--- What the record that covers a name tells of it.
+-- What the record that covers a name tells of it, in each spelling of the name.
 use Rattle.std.proofs.Common.{ℕ, slice_get, Some, ◌≡◌, ◌≤◌, true, false, cond, not, ◌&&◌, List, length, ltb, refl, sym, ap, ◌∙◌, subst, inl, inr, ◌⊎◌, arith}
-use Rattle.std.{proofs.lemmas.{Bool.{false≢true, and_parts, or_cases, not-true}, Grind.common_steps}, specs.List.list_any}
-use Rattle.domain_zone.specs.{Covering.{matches, covers, matches_or_covers}, Enclosers.{IsClosestEncloser, longer, exists_over, is_empty_nonterminal, IsShared}}
-use Rattle.domain_zone.specs.Zone.{ZoneRecord, OwnersNeverDescend, owns, occludes, is_occluded, is_unoccluded, unoccluded_owners}
-use Rattle.domain_zone.proofs.NameLemmas.{before_order, one_lowered, same_itself, same_is, before_left, before_right, below_itself, below_trans, below_from}
-use Rattle.domain_zone.proofs.NameLemmas.{below_between, below_longer, lowered_below, same_lowered}
-use Rattle.domain_zone.proofs.{OwnerLemmas.{any_owner, any_in, in_any, owners_are, below_occluder, occluder_owns}, PairLemmas.{In, all_in, le_lt}}
-use Rattle.domain_zone.proofs.{PlaceLemmas.one_place, SharedLemmas.{either_way, shared_is}, ZoneLemmas.apart_right, FindLemmas.in_at}
-use Rattle.domain_names.specs.{Name.{is_at_or_below, is_strictly_below, lowered, same_name}, Order.before, Words.Name}
-use Rattle.domain_nsec.specs.{Chain.{Link, IsChain}, Meaning.{TellsEmpty, TellsEncloser, IsCoveredBy, CoversBelowOccluders, MeansTheZone}}
-use Rattle.domain_nsec.specs.declared.config.GenerateNsecConfig.{GenerateNsecConfig}
-use Rattle.domain_nsec.proofs.ChainLemmas.{answered_once, chain_cycle, mirrors_zone, owner_gap, link_owner, link_next}
+use Rattle.std.{proofs.{Common.Bool, lemmas.{Bool.{false≢true, and_parts, or_cases, not-true}, Grind.common_steps}}, specs.{List.list_any, Prelude.filter}}
+use Rattle.domain_zone.specs.{Covering.{matches, covers, matches_or_covers}, Enclosers.{IsClosestEncloser, longer, exists_over, is_empty_nonterminal}}
+use Rattle.domain_zone.specs.{Enclosers.IsShared, Zone.{ZoneRecord, OwnersNeverDescend, owns, occludes, is_occluded, is_unoccluded, unoccluded_owners}}
+use Rattle.domain_zone.{specs.Zone.has_type, proofs.NameLemmas.{before_order, one_lowered, same_itself, same_is, before_left, before_right, below_itself}}
+use Rattle.domain_zone.proofs.NameLemmas.{below_trans, below_from, below_between, below_longer, lowered_below, same_lowered, either_way, shared_is}
+use Rattle.domain_zone.proofs.{WalkLemmas.{any_owner, any_in, in_any, owners_are, below_occluder, occluder_owns, apart_right}, PairLemmas.{In, all_in, le_lt}}
+use Rattle.domain_zone.proofs.PairLemmas.{one_place, in_at}
+use Rattle.domain_names.specs.Name.{is_at_or_below, is_strictly_below, lowered, same_name, before, Name}
+use Rattle.domain_nsec.specs.{Chain.{Link, IsChain, nsec_lists, is_listed}, Meaning.{TellsEmpty, TellsEncloser, IsCoveredBy, CoversBelowOccluders}}
+use Rattle.domain_nsec.{specs.{Meaning.MeansTheZone, declared.config.GenerateNsecConfig.GenerateNsecConfig}, proofs.ChainLemmas.{answered_once, chain_cycle}}
+use Rattle.domain_nsec.proofs.ChainLemmas.{mirrors_zone, owner_gap, link_owner, link_next}
+use Rattle.domain_base.specs.Types.{ns}
+
+-- ---- What the record that covers a name tells of it.
 
 -- what both names are, the longer of them is
 of_longer : (P : Name → Type 0) (e f : Name) → P e → P f → P (longer e f)
@@ -175,3 +178,12 @@ module _ (L : List ZoneRecord) (a : Name) (order : OwnersNeverDescend L) (config
     enclosers = tells_encloser;
     occluded = covers_below_occluders;
   }
+
+-- ---- Names that are the same are one name to a chain.
+
+pub bits_alike : (L : List ZoneRecord) (a : Name) (assume : Bool) (x y : Name) → same_name x y ≡ true → (t : ℕ)
+    → nsec_lists L a assume x t ≡ nsec_lists L a assume y t
+bits_alike L a assume x y e t =
+    let rs : Name → List ZoneRecord = λ k. filter (λ r. same_lowered (lowered r.owner) k) L in
+    ap (λ k. is_listed (assume && same_lowered k (lowered a)) ((lowered_below k (lowered a) && not (same_lowered k (lowered a)))
+    && has_type (rs k) ns) (rs k) t) (one_lowered x y e)

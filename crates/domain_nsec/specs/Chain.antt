@@ -1,13 +1,18 @@
--- The NSEC chain of a zone (RFC 4034, section 4; RFC 4035, section 2.3), and when there is none.
+-- The NSEC chain of a zone (RFC 4034, section 4; RFC 4035, section 2.3), when there is none, and how
+-- its records are seen.
 use Rattle.std.specs.Prelude.{ℕ, Bool, true, false, ◌&&◌, ◌||◌, ◌==◌, List, [], ◌∷◌, map, slice_index_or, Some, None, ◌≡◌, ◌≢◌, All}
 use Rattle.domain_bitmap.specs.Bitmap.{bitmap_octets}
-use Rattle.domain_records.specs.declared.error.SigningError.{SigningError, TheVariants.{EmptyRecordSlice, SoaRecordCouldNotBeDetermined, MultipleTtlValues}}
-use Rattle.domain_records.specs.declared.error.SigningError.TheVariants.{Nsec3HashingError, OutOfMemory}
-use Rattle.domain_zone.specs.{Covering.pairs, Soa.{chain_ttl, soa_of}}
-use Rattle.domain_zone.specs.{Zone.{ZoneRecord, unoccluded_owners, is_zone_cut, records_of, lists_type, has_unequal_ttls}, declared.soa.ApexSoa.ApexSoa}
-use Rattle.domain_names.specs.{Name.same_name, Words.Name}
+use Rattle.domain_records.specs.declared.error.SigningError.{SigningError, TheVariants.{EmptyRecordSlice, SoaRecordCouldNotBeDetermined}}
+use Rattle.domain_records.specs.declared.error.SigningError.TheVariants.{MultipleTtlValues, Nsec3HashingError, OutOfMemory}
+use Rattle.domain_zone.specs.{Covering.pairs, Zone.{chain_ttl, soa_of, ZoneRecord, unoccluded_owners, is_zone_cut, records_of, lists_type}}
+use Rattle.domain_zone.specs.{Zone.has_unequal_ttls, declared.soa.ApexSoa.ApexSoa}
+use Rattle.domain_names.specs.Name.{same_name, Name}
 use Rattle.domain_base.specs.Types.{rrsig, nsec, dnskey}
 use Rattle.domain_nsec.specs.declared.config.GenerateNsecConfig.{GenerateNsecConfig}
+use Rattle.domain_record.specs.declared.record.Record.{Record}
+use Rattle.domain_chain_rdata.specs.declared.nsec.Nsec.{Nsec}
+
+-- ---- The NSEC chain of a zone (RFC 4034, section 4; RFC 4035, section 2.3), and when there is none.
 
 -- an NSEC record as a link of a chain; its bits are the octets of its type bitmap
 pub record Link : Type 0 where
@@ -77,3 +82,18 @@ IsFirstFault L a config OutOfMemory = IsFaultless L a config
 -- how `GenerateNsecConfig::new` has it: DNSKEY records are assumed, and names below a DNAME stay
 abbrev pub usual_config : GenerateNsecConfig
 usual_config = record { assume_dnskeys_will_be_added = true; occlude_below_dname = false }
+
+-- ---- How NSEC records are seen.
+
+abbrev pub as_link : {O N : Type 0} → (N → Name) → Record N (Nsec O N) → Link
+as_link labels r =
+    record {
+      owner = labels r.owner;
+      next = labels r.«data».next_name;
+      class = r.class;
+      ttl = r.ttl;
+      bits = r.«data».types;
+    }
+
+abbrev pub links_of : {O N : Type 0} → (N → Name) → List (Record N (Nsec O N)) → List Link
+links_of labels = map (as_link labels)

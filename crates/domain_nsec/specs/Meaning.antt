@@ -4,7 +4,7 @@ use Rattle.std.specs.Prelude.{ℕ, Bool, true, false, List, [], ◌∷◌, Some,
 use Rattle.domain_bitmap.specs.Bitmap.{bitmap_octets}
 use Rattle.domain_zone.specs.{Covering.{matches, covers, matches_or_covers}, Enclosers.{IsClosestEncloser, is_empty_nonterminal, longer, shared}}
 use Rattle.domain_zone.specs.Zone.{ZoneRecord, occludes, owns, is_occluded, is_unoccluded, unoccluded_owners}
-use Rattle.domain_names.specs.{Name.{is_at_or_below, is_strictly_below, same_name}, Order.before, Words.Name}
+use Rattle.domain_names.specs.Name.{is_at_or_below, is_strictly_below, same_name, before, Name}
 use Rattle.domain_nsec.specs.{Chain.{Link, nsec_lists}, declared.config.GenerateNsecConfig.GenerateNsecConfig}
 
 -- exactly one record matches or covers x; it matches exactly where x owns records, and lists the

@@ -1,9 +1,9 @@
 //! NSEC chains whose records are made one by one.
 ghost use Rattle.std.specs.Prelude.{◌≡◌, ◌≤◌, ◌↔◌, [], length, slice_index_or, IsTrue, IfErr, IfOk, IfNone, IfSome, OnOk};
 ghost use Rattle.domain_records.specs.Order.{IsOneClass, IsInOrder};
-ghost use Rattle.domain_zone.specs.View.{zone_of};
-ghost use Rattle.domain_nsec.specs.Chain.{Link, links_in, IsChain, IsFaultless, IsFirstFault};
-ghost use Rattle.domain_nsec.specs.ChainView.{as_link, links_of};
+ghost use Rattle.domain_zone.specs.Zone.{zone_of};
+ghost use Rattle.domain_nsec.specs.Chain.{Link, links_in, IsChain, IsFaultless, IsFirstFault, as_link};
+ghost use Rattle.domain_nsec.specs.Chain.{links_of};
 
 use crate::GenerateNsecConfig;
 use domain_base::{MakeName, ParsedName, ToName};

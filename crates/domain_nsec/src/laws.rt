@@ -1,6 +1,6 @@
 //! What callers may take from the definition of a chain. A caller calls the law in its body.
 ghost use Rattle.std.specs.Prelude.{◌≡◌, ℕ, Bool, List, true};
-ghost use Rattle.domain_names.specs.{Name.same_name, Words.Name};
+ghost use Rattle.domain_names.specs.Name.{same_name, Name};
 ghost use Rattle.domain_zone.specs.Zone.{OwnersNeverDescend, ZoneRecord};
 ghost use Rattle.domain_nsec.specs.Chain.{nsec_lists, IsChain, Link};
 ghost use Rattle.domain_nsec.specs.Meaning.{MeansTheZone};

@@ -1,10 +1,8 @@
 //! The NSEC chain of a zone.
 ghost use Rattle.std.specs.Prelude.{IfOk, IfErr, OnOk};
 ghost use Rattle.domain_records.specs.Order.{IsOneClass, IsInOrder};
-ghost use Rattle.domain_nsec.specs.Chain.{IsChain, IsFaultless, IsFirstFault};
-ghost use Rattle.domain_nsec.specs.Meaning.{MeansTheZone};
-ghost use Rattle.domain_zone.specs.View.{zone_of};
-ghost use Rattle.domain_nsec.specs.ChainView.{links_of};
+ghost use Rattle.domain_nsec.specs.{Chain.{IsChain, IsFaultless, IsFirstFault, links_of}, Meaning.MeansTheZone};
+ghost use Rattle.domain_zone.specs.Zone.{zone_of};
 
 use crate::{GenerateNsecConfig, NsecChain};
 use domain_base::MakeName;

@@ -1,6 +1,6 @@
 //! The types that NSEC records list.
 ghost use Rattle.std.specs.Prelude.{◌≡◌, [], ℕ, Bool, ◌<◌, IfOk};
-ghost use Rattle.domain_bitmap.specs.Builder.{holds};
+ghost use Rattle.domain_bitmap.specs.Blocks.{holds};
 ghost use Rattle.domain_nsec.specs.Chain.{is_listed};
 
 use crate::GenerateNsecConfig;

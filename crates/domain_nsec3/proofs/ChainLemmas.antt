@@ -1,21 +1,162 @@
--- Hashes in order, each linked with the next one, are the chain of the zone where they are those of the names of its chain.
-use Rattle.std.proofs.Common.{◌≡◌, ℕ, suc, ◌+◌, ◌<◌, true, List, [], ◌∷◌, ◌++◌, map, length, get_or, take, Some, Ok, refl, sym, ap, ◌∙◌, subst, arith, inl, inr}
-use Rattle.std.proofs.{Common.◌≤◌, lemmas.{Bool.cases_lt, List.{get_or-map, get_or_past, length-map, take_more}, Map.Keys.apart_from_distinct}}
-use Rattle.std.proofs.lemmas.{Map.Keys.IsDistinct-IsPermutation, Option.slice_get-get_or, Simd.map-map, List.Elements.{recursion_from_All, All-map, All-weaker}}
-use Rattle.std.{proofs.lemmas.{List.{Folds.list_any_at, Sorted.list_any-IsPermutation}, Grind.common_steps}, specs.{Prelude.All, List.AllByRecursion}}
-use Rattle.std.specs.{List.{IsDistinct, list_any, Sorted.IsStrictlySortedBy}, Ordering.nat_cmp, Cmp.Lexicographic.slice_cmp}
-use Rattle.domain_base.specs.Classes.{in_class}
-use Rattle.domain_names.specs.{Name.same_name, Words.Name}
-use Rattle.domain_octets.specs.Words.{Octets}
-use Rattle.domain_bitmap.specs.Bitmap.{bitmap_octets}
-use Rattle.domain_zone.{specs.{Covering.pairs, Soa.{chain_ttl, soa_of}, Zone.ZoneRecord, declared.soa.ApexSoa.ApexSoa}, proofs.NameLemmas.same_itself}
-use Rattle.domain_zone.proofs.{FindLemmas.{pair_at, pairs_length, pairs_owners}, OwnerLemmas.any_in, PairLemmas.all_in, SharedLemmas.either_way}
-use Rattle.domain_zone.proofs.ZoneLemmas.{any_map, same_back}
-use Rattle.domain_nsec3.specs.{Chain.{HashedLink, HashedName, IsHashedChain, IsOfChain, cycle, ends, ends_of, hashed_owner}, Config.ChainConfig}
-use Rattle.domain_nsec3.specs.{Faults.{AreAllHashed, HasCollision, hash_fault}, Meaning.IsRecordOf, Owners.{is_chain_name, nsec3_lists}, Steps.AreHashesOf}
-use Rattle.domain_nsec3.specs.Steps.{AreOrderedHashes, AreUsable, Common, HasAlikeNeighbours, IsHashOf, link_to, links_in, name_at}
-use Rattle.domain_nsec3.{specs.declared.{chain.HashedChain.HashedChain, hash.Hashed.Hashed}, proofs.TextLemmas.{sound_some, sound_short}}
-use Rattle.domain_nsec3.proofs.FaultLemmas.{hash_same}
+-- Hashes in order, each linked with the next one: the chain of the zone, or its first fault.
+use Rattle.std.proofs.Common.{◌≡◌, ℕ, ◌<◌, Bool, false, not, ◌&&◌, ◌||◌, List, [], nat_eq, refl, sym, ◌∙◌, arith, ◌≢◌, true, ◌∷◌, map, None, cond, ◌++◌, ap}
+use Rattle.std.{proofs.{Common.{subst, inl, inr, suc, ◌+◌, length, get_or, take, Some, Ok, ◌≤◌}, lemmas.Grind.common_steps}, specs.List.AllByRecursion}
+use Rattle.std.{specs.List.{IsDistinct, list_any}, proofs.lemmas.{Cmp.tied_itself, List.Elements.{recursion_from_All, All-map, All-weaker}}}
+use Rattle.std.specs.{List.Sorted.IsStrictlySortedBy, Ordering.nat_cmp, declared.cmp.Ordering.TheVariants.Less, Cmp.Lexicographic.slice_cmp}
+use Rattle.std.{specs.Cmp.Lexicographic.nat_list_cmp_total, proofs.lemmas.{Bool.cases_lt, List.{get_or-map, get_or_past, length-map, take_more}}}
+use Rattle.std.proofs.lemmas.{Map.Keys.{apart_from_distinct, IsDistinct-IsPermutation}, Option.slice_get-get_or, Simd.map-map, List.Folds.list_any_at}
+use Rattle.std.{proofs.lemmas.List.Sorted.list_any-IsPermutation, specs.Prelude.All}
+use Rattle.domain_bitmap.{specs.{Bitmap.bitmap_octets, Blocks.holds}, proofs.BitmapLemmas.{bitmap_octets-same, holds_nothing as packs_nothing}}
+use Rattle.domain_zone.specs.Zone.{ZoneRecord, lists_type, has_type, owns, IsListingFault, OwnerRecords, owner_at, soa_of, chain_ttl}
+use Rattle.domain_zone.proofs.{GivenLemmas.holds_nothing, WalkLemmas.{owners_are, any_in, in_any, all_filter, weaker, any_map, same_back}}
+use Rattle.domain_zone.proofs.{NameLemmas.{before_order, before_left, one_lowered, same_itself, either_way}, PairLemmas.{In, IsAscending, all_from_in}}
+use Rattle.domain_zone.{proofs.PairLemmas.{all_in, in_either, in_map, in_middle, pair_at, pairs_length, pairs_owners}, specs.Covering.pairs}
+use Rattle.domain_zone.specs.declared.soa.ApexSoa.{ApexSoa}
+use Rattle.domain_nsec3.specs.Chain.{is_listed, original_owners, nsec3_lists, is_original_owner, is_chain_name, ChainConfig, Hash, hash_name, IsFirstFault}
+use Rattle.domain_nsec3.specs.Chain.{hash_fault, is_hashed_before, IsFirstHashFault, IsFirstHashingFault, HasCollision, AreAllHashed, HashedLink, HashedName}
+use Rattle.domain_nsec3.specs.{Chain.{IsHashedChain, IsOfChain, cycle, ends, ends_of, hashed_owner}, Steps.{IsFirstRefused, AreHashesOf, AreOrderedHashes}}
+use Rattle.domain_nsec3.{specs.Steps.{AreUsable, Common, HasAlikeNeighbours, IsHashOf, link_to, links_in, name_at}, proofs.OwnerLemmas.ascends_both}
+use Rattle.domain_nsec3.{specs.{Meaning.IsRecordOf, declared.{chain.HashedChain.HashedChain, hash.Hashed.Hashed}}, proofs.HashLemmas.sound_some}
+use Rattle.domain_nsec3.proofs.HashLemmas.{sound_short}
+use Rattle.domain_names.specs.Name.{same_name, wire_of, Name, before}
+use Rattle.domain_octets.specs.Octets.{Octets}
+use Rattle.domain_records.specs.declared.error.SigningError.{SigningError, TheVariants.{EmptyRecordSlice, SoaRecordCouldNotBeDetermined, MultipleTtlValues}}
+use Rattle.domain_records.specs.declared.error.SigningError.TheVariants.{Nsec3HashingError, OutOfMemory}
+use Rattle.domain_base.specs.{Types.ds, Classes.in_class}
+use Rattle.domain_hasher.specs.declared.error.Nsec3HashError.{Nsec3HashError}
+
+-- ---- The types that NSEC3 records list.
+
+-- a bitmap without types has no octets
+pub no_types : [] ≡ bitmap_octets (λ t. false)
+no_types = sym (packs_nothing [] refl) ∙ bitmap_octets-same (holds []) (λ t. false) (λ t b. holds_nothing [] refl t)
+
+-- what is added whatever an owner owns, and then the types of its records
+pub listed_octets : (unsigned apex assumed cut : Bool) (G : List ZoneRecord) (v0 v1 v2 v3 v4 : List ℕ) → v0 ≡ []
+    → ((t : ℕ) → t < 65536 → holds v1 t ≡ ((nat_eq t 46 && not unsigned) || holds v0 t))
+    → ((t : ℕ) → t < 65536 → holds v2 t ≡ ((nat_eq t 51 && apex) || holds v1 t))
+    → ((t : ℕ) → t < 65536 → holds v3 t ≡ ((nat_eq t 48 && assumed) || holds v2 t))
+    → ((t : ℕ) → t < 65536 → holds v4 t ≡ (holds v3 t || lists_type cut G t))
+    → bitmap_octets (holds v4) ≡ bitmap_octets (is_listed unsigned apex assumed cut G)
+listed_octets unsigned apex assumed cut G v0 v1 v2 v3 v4 e f g h more =
+    bitmap_octets-same (holds v4) (is_listed unsigned apex assumed cut G) (λ t b. grind (arith, common_steps, holds_nothing))
+
+-- ---- What is listed of a zone are the original owners of its chain, or it tells the first fault.
+
+module _ (L : List ZoneRecord) (a : Name) (config : ChainConfig) where
+  -- the types that are listed of an owner
+  abbrev pub bits : Bool → OwnerRecords → Octets
+  bits at_apex o = bitmap_octets (is_listed (o.is_zone_cut && not (has_type o.records ds)) at_apex
+      (config.assume_dnskeys_will_be_added && at_apex) o.is_zone_cut o.records)
+
+  -- of owners that own records, these are those of the chain
+  bits_told : (ks : List Name) → AllByRecursion (λ n. owns L n ≡ true) ks
+      → map (λ n. bits (same_name n a) (owner_at L a n)) ks ≡ map (λ n. bitmap_octets (nsec3_lists L a config n)) ks
+  bits_told [] own = refl
+  bits_told (k ∷ ks) own =
+      let at = owner_at L a k in
+      λ i. bitmap_octets (λ t. sym own.0 i && is_listed (at.is_zone_cut && not (has_type at.records ds)) (same_name k a)
+      (config.assume_dnskeys_will_be_added && same_name k a) at.is_zone_cut at.records t) ∷ bits_told ks own.1 i
+
+  pub originals_typed : map (λ n. bits (same_name n a) (owner_at L a n)) (original_owners L a config)
+      ≡ map (λ n. bitmap_octets (nsec3_lists L a config n)) (original_owners L a config)
+  originals_typed =
+      bits_told _ (weaker _ _ (λ n own. own.0) _ (all_filter _ _ _ (owners_are config.occlude_below_dname L a)))
+
+  pub listing_fault : (e : SigningError) → soa_of L a ≢ None → IsListingFault L (original_owners L a config) e → IsFirstFault L a config e
+  listing_fault EmptyRecordSlice soa h = absurd h
+  listing_fault SoaRecordCouldNotBeDetermined soa h = absurd h
+  listing_fault MultipleTtlValues soa h = (soa, h)
+  listing_fault (Nsec3HashingError e) soa h = absurd h
+  listing_fault OutOfMemory soa h = record { soa = soa; ttls = h }
+
+-- ---- The order in which the names of a chain are hashed, and the first of them that is refused.
+
+-- names that are the same have one hash
+pub hash_same : (hash : Hash) (m n : Name) → same_name m n ≡ true → hash_name hash m ≡ hash_name hash n
+hash_same hash m n s = ap (λ l. hash (wire_of l)) (one_lowered m n s)
+
+-- an element that ascends comes before what follows it
+comes_before : (lt : Name → Name → Bool) (xs : List Name) (x : Name) (ys : List Name) → IsAscending lt (xs ++ x ∷ ys) → AllByRecursion (λ y. lt x y ≡ true) ys
+comes_before lt [] x ys up = up.0
+comes_before lt (w ∷ xs) x ys up = comes_before lt xs x ys up.1
+
+module _ (L : List ZoneRecord) (a : Name) (config : ChainConfig) where
+  -- names of one kind are hashed in canonical order
+  of_kind : (b : Bool) (x y : Name) → is_original_owner L a config x ≡ b → is_original_owner L a config y ≡ b → before x y ≡ true
+      → is_hashed_before L a config x y ≡ true
+  of_kind b x y e f g = grind (arith, common_steps)
+
+  one_kind : (b : Bool) (xs : List Name) → AllByRecursion (λ x. is_original_owner L a config x ≡ b) xs → IsAscending before xs
+      → IsAscending (is_hashed_before L a config) xs
+  one_kind b [] k up = tt
+  one_kind b (x ∷ xs) k up = (all_from_in _ xs (λ y i. of_kind b x y k.0 (all_in _ xs y k.1 i) (all_in _ xs y up.0 i)), one_kind b xs k.1 up.1)
+
+  pub hashed_in_order : (owners empty : List Name) → IsAscending before owners → IsAscending before empty
+      → AllByRecursion (λ n. is_original_owner L a config n ≡ true) owners → AllByRecursion (λ n. is_original_owner L a config n ≡ false) empty
+      → IsAscending (is_hashed_before L a config) (owners ++ empty)
+  hashed_in_order owners empty up_o up_e own not_own =
+      ascends_both (is_hashed_before L a config) owners empty (one_kind true owners own up_o) (one_kind false empty not_own up_e)
+      (weaker (λ x. is_original_owner L a config x ≡ true) (λ x. AllByRecursion (λ y. is_hashed_before L a config x y ≡ true) empty)
+      (λ x e. weaker (λ y. is_original_owner L a config y ≡ false) (λ y. is_hashed_before L a config x y ≡ true)
+      (λ y f. (λ i. cond (e i) (not (f i) || before x y) (not (f i) && before x y))) empty not_own) owners own)
+
+  one_way : (x y : Name) → is_hashed_before L a config x y ≡ true → is_hashed_before L a config y x ≡ false
+  one_way x y h = grind (arith, common_steps, before_order)
+
+  hashed_alike : (m y x : Name) → same_name m y ≡ true → is_hashed_before L a config m x ≡ is_hashed_before L a config y x
+  hashed_alike m y x s = rw (before_left m y x (one_lowered m y s), one_lowered m y s) refl
+
+  -- what is hashed in order are different names
+  pub all_apart : (names : List Name) → IsAscending (is_hashed_before L a config) names → IsDistinct same_name names
+  unfolding IsDistinct
+  all_apart [] up = tt
+  all_apart (x ∷ names) up = (weaker _ _ apart names up.0, all_apart names up.1)
+    where
+      apart : (y : Name) → is_hashed_before L a config x y ≡ true → same_name x y ≡ false
+      apart y h = grind (arith, common_steps, (hashed_alike x y y), (one_way y y))
+
+  -- the first that is refused is the first fault of hashing
+  pub first_fault : (names : List Name) (e : Nsec3HashError)
+      → ((x : Name) → list_any (λ n. same_name n x) names ≡ is_chain_name L a config x) → IsAscending (is_hashed_before L a config) names
+      → IsFirstRefused a config.hash names e → IsFirstHashFault L a config e
+  first_fault names e are up r = record {
+    name = r.name;
+    in_chain = sym (are r.name) ∙ in_any (λ n. same_name n r.name) names r.name
+        (subst (In r.name) (sym r.are) (in_middle r.before r.name r.after)) (same_itself r.name r.name refl);
+    fault = r.fault;
+    first = λ y c b.
+        let m = any_in (λ n. same_name n y) names (are y ∙ c) in
+        let before_it : is_hashed_before L a config m.0 r.name ≡ true = hashed_alike m.0 y r.name m.2 ∙ b in
+        let later = comes_before (is_hashed_before L a config) r.before r.name r.after (subst (IsAscending (is_hashed_before L a config)) r.are up) in
+        ap (hash_fault a) (sym (hash_same config.hash m.0 y m.2)) ∙ elim (in_either r.before (r.name ∷ r.after) m.0 (subst (In m.0) r.are m.1)) [
+          | inl i ↦ all_in (λ n. hash_fault a (hash_name config.hash n) ≡ None) r.before m.0 (recursion_from_All _ r.before r.sound) i
+          | inr i ↦ absurd (grind (arith, common_steps, (one_way r.name m.0), (all_in _ r.after m.0 later)))
+        ];
+  }
+
+  pub hashing_fault : (e : Nsec3HashError) → IsFirstHashFault L a config e → IsFirstHashingFault L a config e
+  hashing_fault e f = grind (arith, common_steps)
+
+-- ---- no two names of a chain have one hash
+
+module _ (L : List ZoneRecord) (a : Name) (config : ChainConfig) (links : List HashedLink) (chain : IsHashedChain L a config links) where
+  -- a hash comes before all later ones
+  never : (k n : HashedName) (ns : List HashedName) → AllByRecursion (λ h. slice_cmp nat_cmp k.hash h ≡ Less)
+      (map (λ n. n.hash) ns) → In n ns → k.hash ≡ n.hash → ⊥
+  never k n ns h i e =
+      grind (arith, common_steps, all_in, in_map, (tied_itself nat_list_cmp_total k.hash))
+
+  one_place : (ns : List HashedName) → IsStrictlySortedBy (slice_cmp nat_cmp) (map (λ n. n.hash) ns) → (m n : HashedName)
+      → In m ns → In n ns → m.hash ≡ n.hash → m ≡ n
+  unfolding IsStrictlySortedBy
+  one_place [] up m n i j e = absurd i
+  one_place (k ∷ ns) up m n i j e = grind (arith, common_steps, (never k n ns up.0), (never k m ns up.0), (one_place ns up.1 m n))
+
+  pub apart_hashes : ¬ (HasCollision L a config)
+  apart_hashes c = grind (arith, common_steps, any_in, all_in, one_place, one_lowered, (recursion_from_All (IsOfChain L a config) chain.names chain.sound))
+
+-- ---- Hashes in order, each linked with the next one, are the chain of the zone where they are those of the names of its chain.
 
 -- ---- each with the one after it
 

@@ -1,15 +1,118 @@
--- Lists of hashed names: how they are ordered and built.
-use Rattle.std.proofs.Common.{◌≡◌, ℕ, ◌+◌, ◌-◌, ◌<◌, ◌≤◌, false, List, [], ◌∷◌, ◌++◌, map, length, get_or, take, drop, None, sym, ap, ◌∙◌, subst, arith, inl}
-use Rattle.std.proofs.{Common.{inr, ◌⊎◌, IsPermutation}, lemmas.List.{drop_more, get_or-map, get_or_read, length-map, map_push, take_more, take-append-drop}}
-use Rattle.std.proofs.lemmas.{List.{Elements.{All-map, All-push, All-weaker}, Sorted.{All-permutation, IsPermutation-map}}, Map.Keys.sorted_from_all_adjacent}
-use Rattle.std.{proofs.lemmas.{List.Sorted.{IsPermutation-refl, IsPermutation-trans}, Grind.common_steps}, specs.{Prelude.All, List.Sorted.IsSortedByKey}}
-use Rattle.std.specs.{List.Sorted.IsStrictlySortedBy, Cmp.Lexicographic.{slice_cmp, nat_list_cmp_total}, FinMap.slice_cmp-IsAntisymmetric}
-use Rattle.std.specs.{FinMap.nat_cmp-IsAntisymmetric, Ordering.{nat_cmp, is_lt}, declared.cmp.Ordering.TheVariants.Less}
-use Rattle.domain_hasher.specs.declared.error.Nsec3HashError.{Nsec3HashError, TheVariants.OutOfMemory}
-use Rattle.domain_names.specs.Words.{Name}
-use Rattle.domain_octets.specs.Words.{Octets}
-use Rattle.domain_nsec3.specs.{Config.{Hash, hash_name}, Faults.hash_fault, declared.hash.Hashed.Hashed, Steps.{IsHashed, IsHashOf, AreHashesOf}}
+-- Hashes of names: as labels, in lists, and in order.
+use Rattle.std.proofs.Common.{◌≡◌, ℕ, ◌+◌, ◌*◌, ◌/◌, ◌<◌, ◌≤◌, List, [], ◌∷◌, ◌++◌, map, length, refl, sym, ap, ◌∙◌, subst, arith, get_or, set, take, Fits}
+use Rattle.std.proofs.{Common.{w8, None, true, false, ◌-◌, drop, inl, inr, ◌⊎◌, IsPermutation, zero, suc, ◌^◌}, lemmas.List.Elements.{All-map, All-weaker}}
+use Rattle.std.proofs.lemmas.List.{Elements.{recursion_from_All, All-push}, Folds.map_fixed, length-map, drop_more, get_or-map, get_or_read, map_push}
+use Rattle.std.{proofs.lemmas.{List.{take_more, take-append-drop}, Str.Ascii.IsAscii-from_all, Grind.common_steps}, specs.Prelude.{All, Ok, nat_lt}}
+use Rattle.std.{specs.{Prelude.if◌then◌else◌, Char.to_ascii_lowercase, List.AllByRecursion, Str.IsAscii}, proofs.lemmas.List.Sorted.All-permutation}
+use Rattle.std.proofs.lemmas.{List.Sorted.{IsPermutation-map, IsPermutation-refl, IsPermutation-trans}, Map.Keys.sorted_from_all_adjacent}
+use Rattle.std.specs.{List.Sorted.{IsSortedByKey, IsStrictlySortedBy}, Cmp.Lexicographic.{slice_cmp, nat_list_cmp_total}, FinMap.slice_cmp-IsAntisymmetric}
+use Rattle.std.specs.{FinMap.nat_cmp-IsAntisymmetric, Ordering.{nat_cmp, is_lt, ordering_then, is_ne}, declared.cmp.Ordering.TheVariants.{Less, Equal}}
+use Rattle.std.{proofs.{lemmas.{Bool.cases_order, Nat.mul-le}, Math.Nat.one-le-pow}, specs.{Int.{w64, from_be_bytes}, Cmp.nat_cmp_is}}
+use Rattle.domain_codecs.{specs.Base32.{base32_from, base32_lower, lower_digit}, proofs.Base32Lemmas.{many_digits, are_small}}
+use Rattle.domain_octets.{specs.Octets.{AreOctets, Octets}, proofs.WordLemmas.octets_from_type}
+use Rattle.domain_names.{specs.{Name.{wire_of, IsName, Name}, Text.{label_text, name_text}, Wire.{labels_of, IsWire}}, proofs.TextLemmas.ordinary_octet}
+use Rattle.domain_names.proofs.WireLemmas.{IsWire-wire_of, labels_of-wire_of, wire_is}
+use Rattle.domain_nsec3.specs.{Chain.{hashed_owner, hash_fault, Hash, hash_name}, declared.hash.Hashed.Hashed, Steps.{IsHashed, IsHashOf, AreHashesOf}}
 use Rattle.domain_nsec3.specs.Steps.{HasAlikeNeighbours, IsRefusal, IsFirstRefused, name_at}
+use Rattle.domain_hasher.specs.declared.error.Nsec3HashError.{Nsec3HashError, TheVariants.OutOfMemory}
+
+-- ---- The text of a hash as a label.
+
+-- how many digits a hash has
+pub text_length : (h : List ℕ) → length (base32_lower h) ≡ (8 * length h + 4) / 5
+text_length h = length-map (base32_from 1 0 h) lower_digit ∙ many_digits h
+
+-- what holds of each digit
+each_digit : (P : ℕ → Type 0) → ((d : ℕ) → d < 32 → P (lower_digit d)) → (h : List ℕ) → AreOctets h → All P (base32_lower h)
+each_digit P f h all =
+    All-map P lower_digit (base32_from 1 0 h) (All-weaker (λ d. d < 32) (λ d. P (lower_digit d)) f (base32_from 1 0 h) (are_small h all))
+
+digit_ascii : (d : ℕ) → d < 32 → lower_digit d < 128
+digit_ascii d b = elim (nat_lt d 10) as (λ t. (if t then 48 + d else 87 + d) < 128) [ true ↦ omega arith | false ↦ omega arith ]
+
+pub ascii_text : (h : List ℕ) → AreOctets h → IsAscii (base32_lower h)
+ascii_text h all = IsAscii-from_all (base32_lower h) (each_digit (λ o. o < 128) digit_ascii h all)
+
+pub text_octets : (h : List ℕ) → AreOctets h → All (λ o. o < 256) (base32_lower h)
+text_octets = each_digit (λ o. o < 256) (λ d b. let small = digit_ascii d b in omega arith)
+
+digit_lower : (d : ℕ) → d < 32 → to_ascii_lowercase (lower_digit d) ≡ lower_digit d
+digit_lower d b = grind (arith, common_steps)
+
+pub lower_text : (h : List ℕ) → AreOctets h → map to_ascii_lowercase (base32_lower h) ≡ base32_lower h
+lower_text h all = map_fixed to_ascii_lowercase (base32_lower h) (each_digit (λ o. to_ascii_lowercase o ≡ o) digit_lower h all)
+
+-- ---- the text of a hash within that of a name
+
+digits_text : (ds : List ℕ) → AllByRecursion (λ d. d < 32) ds → label_text (map lower_digit ds) ≡ map lower_digit ds
+digits_text [] all = refl
+digits_text (d ∷ ds) all = grind (arith, common_steps, ordinary_octet, (digits_text ds all.1))
+
+hash_text : (h : List ℕ) → AreOctets h → label_text (base32_lower h) ≡ base32_lower h
+hash_text h all = digits_text (base32_from 1 0 h) (recursion_from_All (λ d. d < 32) (base32_from 1 0 h) (are_small h all))
+
+-- the text of the owner of a record, with its last dot: right below the root, and elsewhere
+pub owner_at_root : (a : Name) (h : List ℕ) → AreOctets h → a ≡ [] → base32_lower h ++ 46 ∷ [] ≡ name_text (hashed_owner a h) ++ 46 ∷ []
+owner_at_root a h all root = grind (arith, common_steps, hash_text)
+
+pub owner_below : (a : Name) (h : List ℕ) → AreOctets h → (a ≡ [] → ⊥)
+    → base32_lower h ++ 46 ∷ (name_text a ++ 46 ∷ []) ≡ name_text (hashed_owner a h) ++ 46 ∷ []
+owner_below [] h all some = absurd (some refl)
+owner_below (l ∷ ls) h all some = grind (arith, common_steps, hash_text)
+
+-- ---- when a hash is of use
+
+pub owner_length : (a : Name) (h above : List ℕ) → IsWire above → labels_of above ≡ a
+    → length (wire_of (hashed_owner a h)) ≡ (8 * length h + 4) / 5 + 1 + length above
+owner_length a h above w l = grind (arith, common_steps, text_length)
+
+module _ (a : Name) (h : List ℕ) where
+  pub sound_some : hash_fault a (Ok h) ≡ None → 0 < length h
+  sound_some e = grind (arith, common_steps)
+
+  pub sound_short : hash_fault a (Ok h) ≡ None → length h ≤ 39
+  sound_short e = grind (arith, common_steps)
+
+  pub sound_fits : hash_fault a (Ok h) ≡ None → length (wire_of (hashed_owner a h)) ≤ 255
+  sound_fits e = grind (arith, common_steps)
+
+-- ---- a hash as a label before a name
+
+-- a label with its length, and a name after it, in a buffer
+pub first_set : (xs : List ℕ) (n : ℕ) → 0 < length xs → take 1 (set xs 0 n) ≡ n ∷ []
+first_set [] n h = absurd (omega arith)
+first_set (x ∷ xs) n h = refl
+
+-- there is room for the owner of a hash of use
+pub owner_room : (a : Name) (hash label above : List ℕ) → IsWire above → labels_of above ≡ a → hash_fault a (Ok hash) ≡ None
+    → label ≡ base32_lower hash → (0 < length label) × (length label ≤ 63) × (length label + 1 + length above ≤ 255)
+owner_room a hash label above w l sound is = grind (arith, common_steps, sound_some, sound_short, sound_fits, owner_length, text_length)
+
+pub record IsOwnerWire (a : Name) (hash wire : List ℕ) : Type 0 where
+  pub is_wire : IsWire wire
+  pub labels : labels_of wire ≡ hashed_owner a hash
+
+pub owner_made : (a : Name) (hash label above wire : List ℕ) → IsWire above → labels_of above ≡ a → hash_fault a (Ok hash) ≡ None
+    → ((i : ℕ) → Fits w8 (get_or hash i 0)) → label ≡ base32_lower hash → wire ≡ length label ∷ (label ++ above)
+    → IsOwnerWire a hash wire
+owner_made a hash label above wire w l sound octets is made =
+    let some = sound_some a hash sound in
+    let short = sound_short a hash sound in
+    let digits = text_length hash in
+    let long : wire_of (labels_of above) ≡ above = wire_is above w in
+    let fits : length (wire_of (base32_lower hash ∷ labels_of above)) ≤ 255 =
+    subst (λ (x : Name). length (wire_of (base32_lower hash ∷ x)) ≤ 255) (sym l) (sound_fits a hash sound) in
+    let valid : IsName (base32_lower hash ∷ labels_of above) = record {
+      of_labels = (record { not_empty = omega arith; fits = omega arith; octets = text_octets hash (octets_from_type hash octets) }, w.valid.of_labels);
+      fits = fits;
+    } in
+    let same : wire ≡ wire_of (base32_lower hash ∷ labels_of above) = made ∙ (λ i. length (is i) ∷ (is i ++ sym long i)) in
+    record {
+      is_wire = subst IsWire (sym same) (IsWire-wire_of _ valid);
+      labels = ap labels_of same ∙ labels_of-wire_of _ valid ∙ ap (λ x. base32_lower hash ∷ x) l;
+    }
+
+-- ---- Lists of hashed names: how they are ordered and built.
 
 -- octets that differ and do not descend ascend
 pub less_apart : (u v : Octets) → is_lt (slice_cmp nat_cmp v u) ≡ false → (u ≡ v → ⊥) → slice_cmp nat_cmp u v ≡ Less
@@ -84,3 +187,54 @@ module _ (a : Name) (hash : Hash) (names : List Name) where
         (λ g k. ap (hash_fault a) k.is.known ∙ k.is.sound) hashed h.each));
     fault = f;
   })
+
+-- ---- Hashes are in the order of their first octets as one number, where those differ.
+
+-- the first n numbers of a list as one number in base 256
+abbrev front_number : ℕ → List ℕ → ℕ
+front_number zero ds = 0
+front_number (suc n) [] = 0
+front_number (suc n) (d ∷ ds) = d * 256 ^ n + front_number n ds
+
+rest_octets : (d : ℕ) (ds : List ℕ) → AreOctets (d ∷ ds) → AreOctets ds
+rest_octets d ds octets k e lt = octets (suc k) e (omega arith)
+
+times_less : (n m w : ℕ) → n < m → n * w + w ≤ m * w
+times_less n m w lt = let t : (n + 1) * w ≤ m * w = mul-le (n + 1) w m w (omega arith) (omega arith) in omega (arith, t)
+
+front_below : (n : ℕ) (ds : List ℕ) → AreOctets ds → front_number n ds < 256 ^ n
+front_below zero ds octets = omega arith
+front_below (suc n) [] octets = one-le-pow (suc n) 256 (omega arith)
+front_below (suc n) (d ∷ ds) octets =
+    grind (arith, common_steps, (times_less d 256 (256 ^ n) (octets 0 0 (omega arith))), (front_below n ds (rest_octets d ds octets)))
+
+-- what follows a lesser octet stays below where a greater one begins
+apart : (n d e : ℕ) (ds es : List ℕ) → AreOctets ds → d < e → front_number (suc n) (d ∷ ds) < front_number (suc n) (e ∷ es)
+apart n d e ds es octets lt = grind (arith, common_steps, front_below)
+
+-- a lesser number is of octets that come before
+less_front : (n : ℕ) (ds es : List ℕ) → n ≤ length ds → n ≤ length es → AreOctets ds → AreOctets es
+    → front_number n ds < front_number n es → slice_cmp nat_cmp ds es ≡ Less
+less_front zero ds es long long' octets octets' lt = absurd (omega arith)
+less_front (suc n) [] es long long' octets octets' lt = absurd (omega arith)
+less_front (suc n) (d ∷ ds) [] long long' octets octets' lt = absurd (omega arith)
+less_front (suc n) (d ∷ ds) (e ∷ es) long long' octets octets' lt = elim (cases_order d e) [
+  | inl same ↦ ap (λ r. ordering_then r (slice_cmp nat_cmp ds es)) (sym (nat_cmp_is d e Equal same))
+      ∙ less_front n ds es (omega arith) (omega arith) (rest_octets d ds octets) (rest_octets e es octets') (omega (arith, lt, ap (λ q. q * 256 ^ n) same))
+  | inr w ↦ elim w [
+    | inl less ↦ ap (λ r. ordering_then r (slice_cmp nat_cmp ds es)) (sym (nat_cmp_is d e Less less))
+    | inr more ↦ absurd (omega (arith, lt, apart n e d es ds (rest_octets e es octets') more))
+  ]
+]
+
+front_is : (ds : List ℕ) → 8 ≤ length ds → from_be_bytes w64 (take 8 ds) ≡ front_number 8 ds
+front_is (a ∷ b ∷ c ∷ d ∷ e ∷ f ∷ g ∷ h ∷ ds) long = omega arith
+front_is _ long = absurd (omega arith)
+
+-- the numbers of the first eight octets, where they differ, are in the order of the lists
+pub by_front : (ds es : List ℕ) (m n : ℕ) → 8 ≤ length ds → 8 ≤ length es
+    → AreOctets ds → AreOctets es → m ≡ from_be_bytes w64 (take 8 ds) → n ≡ from_be_bytes w64 (take 8 es)
+    → is_ne (nat_cmp m n) ≡ true → nat_cmp m n ≡ slice_cmp nat_cmp ds es
+by_front ds es m n long long' octets octets' m_is n_is differ =
+    let swapped = nat_list_cmp_total.antisymm ds es in
+    grind (arith, common_steps, nat_cmp_is, front_is, (less_front 8 ds es long long' octets octets'), (less_front 8 es ds long' long octets' octets))

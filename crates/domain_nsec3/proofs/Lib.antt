@@ -1,13 +1,5 @@
-pub mod AncestorLemmas
-pub mod ListLemmas
 pub mod OwnerLemmas
-pub mod TextLemmas
-pub mod TypeLemmas
-pub mod StateLemmas
 pub mod HashLemmas
-pub mod HashOrderLemmas
 pub mod ChainLemmas
-pub mod FaultLemmas
 pub mod OutcomeLemmas
 pub mod MeaningLemmas
-pub mod AscentLemmas

@@ -1,22 +1,56 @@
--- What the records of an NSEC3 chain say of every name, from the chain alone.
-use Rattle.std.proofs.Common.{arith, ◌≡◌, ℕ, true, false, not, ◌||◌, List, [], ◌∷◌, map, Some, Ok, refl, sym, ap, ◌∙◌, inl, inr}
-use Rattle.std.proofs.lemmas.{Option.same_Some, Bool.{cases_Bool, false≢true, and_parts, or_left}, List.{Elements.recursion_from_All, Sorted.ranks_by}}
-use Rattle.std.{proofs.lemmas.Grind.common_steps, specs.{Prelude.slice_get, List.{list_any, Sorted.IsStrictlySortedBy}, Cmp.IsStrictWeakOrder}}
-use Rattle.std.specs.{Cmp.Lexicographic.{slice_cmp, nat_list_cmp_total}, FinMap.{slice_cmp-IsAntisymmetric, nat_cmp-IsAntisymmetric}, Ordering.nat_cmp}
-use Rattle.domain_codecs.{specs.Base32.base32_lower, proofs.OrderLemmas.lower_apart}
+-- What the records of an NSEC3 chain say of every name.
+use Rattle.std.proofs.Common.{◌≡◌, ℕ, ◌<◌, List, [], ◌∷◌, map, refl, sym, ap, ◌∙◌, subst, arith, true, false, not, ◌||◌, Some, Ok, inl, inr}
+use Rattle.std.{proofs.lemmas.{Cmp.tied_itself, List.Elements.recursion_from_All, Simd.map-map}, specs.{Prelude.{All, slice_get}, List.AllByRecursion}}
+use Rattle.std.specs.{List.{list_any, Sorted.IsStrictlySortedBy}, Cmp.Lexicographic.{slice_cmp, nat_list_cmp_total}, Ordering.{nat_cmp, ordering_then}}
+use Rattle.std.{specs.declared.cmp.Ordering.TheVariants.Less, proofs.lemmas.{Option.same_Some, Bool.{cases_Bool, false≢true, and_parts, or_left}}}
+use Rattle.std.{proofs.lemmas.{List.Sorted.ranks_by, Grind.common_steps}, specs.{Cmp.IsStrictWeakOrder, FinMap.slice_cmp-IsAntisymmetric}}
+use Rattle.std.specs.FinMap.{nat_cmp-IsAntisymmetric}
+use Rattle.domain_codecs.{proofs.Base32Lemmas.{lower_keeps, lower_apart}, specs.Base32.base32_lower}
+use Rattle.domain_names.{specs.Name.{canonical_cmp, canonical_cmp_total, Name, is_at_or_below, same_name}, proofs.OrderLemmas.canonical_cmp-more}
+use Rattle.domain_zone.{specs.Zone.{ZoneRecord, owns}, proofs.PairLemmas.{all_from_in, all_in, In, ascending, irreflexive, one_of_ring, IsOnly, in_at}}
+use Rattle.domain_zone.{proofs.{PairLemmas.{mapped_at, stands_in}, WalkLemmas.{all_map, weaker, any_in}}, specs.Covering.{matches, covers, matches_or_covers}}
+use Rattle.domain_zone.{specs.Enclosers.{IsClosestEncloser, exists_over}, proofs.NameLemmas.{one_lowered, below_itself, below_trans, below_length}}
+use Rattle.domain_zone.proofs.{NameLemmas.{closest_above, either_way, parent_below}, GivenLemmas.soa_owned}
+use Rattle.domain_nsec3.specs.Chain.{HashedLink, IsHashedChain, IsOfChain, cycle, ends, ends_of, hashed_owner, HashedName, ChainConfig, HashAnswer, hash_of}
+use Rattle.domain_nsec3.specs.{Chain.{original_owners, is_empty, is_chain_name, nsec3_lists}, Meaning.{OwnersAscend, octets_before, IsAlone, AreAlone}}
+use Rattle.domain_nsec3.{specs.Meaning.{IsRecordOf, IsMatchedOrCoveredOnce, MeansTheZone, TellsEncloserOf}, proofs.ChainLemmas.{cycle_owners, hash_same}}
+use Rattle.domain_nsec3.proofs.{HashLemmas.lower_text, OwnerLemmas.{apex_original, cut_encloses, existing_are, out_flag, runs_to_encloser}}
 use Rattle.domain_bitmap.{specs.Bitmap.bitmap_octets, proofs.BitmapLemmas.bitmap_octets-same}
-use Rattle.domain_zone.specs.{Covering.{matches, covers, matches_or_covers}, Enclosers.{IsClosestEncloser, exists_over}, Zone.{ZoneRecord, owns}}
-use Rattle.domain_zone.proofs.{NameLemmas.{one_lowered, below_itself, below_trans, below_length}, OwnerLemmas.any_in, PairLemmas.{In, all_in, ascending}}
-use Rattle.domain_zone.proofs.{PairLemmas.{irreflexive, one_of_ring}, PlaceLemmas.IsOnly, SharedLemmas.{closest_above, either_way, parent_below}}
-use Rattle.domain_zone.proofs.{SoaLemmas.soa_owned, FindLemmas.{in_at, mapped_at, stands_in}}
-use Rattle.domain_octets.specs.Words.{Octets}
-use Rattle.domain_names.specs.{Name.{is_at_or_below, same_name}, Words.Name}
+use Rattle.domain_octets.specs.Octets.{Octets}
 use Rattle.domain_base.specs.Types.{ns}
-use Rattle.domain_nsec3.specs.{Chain.{HashedLink, HashedName, IsHashedChain, IsOfChain, cycle, ends, ends_of, hashed_owner}, Config.{ChainConfig, HashAnswer}}
-use Rattle.domain_nsec3.specs.{Config.hash_of, Meaning.{octets_before, IsAlone, AreAlone, IsRecordOf, IsMatchedOrCoveredOnce, MeansTheZone, TellsEncloserOf}}
-use Rattle.domain_nsec3.specs.Owners.{original_owners, is_empty, is_chain_name, nsec3_lists}
-use Rattle.domain_nsec3.proofs.{AscentLemmas.owners_ascend, ChainLemmas.cycle_owners, FaultLemmas.hash_same}
-use Rattle.domain_nsec3.proofs.OwnerLemmas.{apex_original, cut_encloses, existing_are, out_flag, runs_to_encloser}
+
+-- ---- The owners of NSEC3 records ascend in canonical order, as their hashes do.
+
+before_owner : (a : Name) (u v : List ℕ) → All (λ o. o < 256) u → All (λ o. o < 256) v → slice_cmp nat_cmp u v ≡ Less
+    → canonical_cmp (hashed_owner a u) (hashed_owner a v) ≡ Less
+before_owner a u v p q e =
+    canonical_cmp-more a a _ _ refl
+    ∙ (λ i. ordering_then (tied_itself canonical_cmp_total a i) (slice_cmp nat_cmp (lower_text u p i) (lower_text v q i)))
+    ∙ lower_keeps u v p q ∙ e
+
+octets_ascending : (a : Name) (us : List (List ℕ)) → AllByRecursion (λ u. All (λ o. o < 256) u) us
+    → IsStrictlySortedBy (slice_cmp nat_cmp) us → IsStrictlySortedBy canonical_cmp (map (hashed_owner a) us)
+unfolding IsStrictlySortedBy
+octets_ascending a [] h up = tt
+octets_ascending a (u ∷ us) h up = (
+  all_map _ (hashed_owner a) us (all_from_in _ us (λ v i. before_owner a u v h.0 (all_in _ us v h.1 i) (all_in _ us v up.0 i))),
+  octets_ascending a us h.1 up.1,
+)
+
+owners_of_cycle : (a : Name) (links : List HashedLink) (us : List (List ℕ)) → map ends links ≡ map (ends_of a) (cycle us)
+    → map (λ k. k.owner) links ≡ map (hashed_owner a) us
+owners_of_cycle a links us e =
+    sym (map-map (λ (p : Name × List ℕ). p.0) ends links) ∙ ap (map (λ (p : Name × List ℕ). p.0)) e
+    ∙ map-map (λ (p : Name × List ℕ). p.0) (ends_of a) (cycle us) ∙ sym (map-map (hashed_owner a) (λ (q : List ℕ × List ℕ). q.0) (cycle us))
+    ∙ ap (map (hashed_owner a)) (cycle_owners us)
+
+pub owners_ascend : (L : List ZoneRecord) (a : Name) (config : ChainConfig) (links : List HashedLink) → IsHashedChain L a config links → OwnersAscend links
+owners_ascend L a config links chain =
+    subst (IsStrictlySortedBy canonical_cmp) (sym (owners_of_cycle a links (map (λ n. n.hash) chain.names) chain.linked))
+    (octets_ascending a (map (λ n. n.hash) chain.names) (all_map _ (λ n. n.hash) chain.names
+    (weaker _ _ (λ n h. h.sound.2) chain.names (recursion_from_All (IsOfChain L a config) chain.names chain.sound))) chain.ascend)
+
+-- ---- What the records of an NSEC3 chain say of every name, from the chain alone.
 
 -- ---- the order of hashes
 

@@ -2,19 +2,18 @@
 use Rattle.std.proofs.Common.{◌≡◌, ℕ, zero, suc, ◌∷◌, ◌<◌, true, false, List, [], ◌++◌, map, length, get_or, refl, sym, ap, ◌∙◌, subst, inl, inr, ◌⊎◌, Some}
 use Rattle.std.proofs.{Common.{arith, Ok, None}, lemmas.{Bool.{and_parts, not-true}, List.Elements.{All-from_recursion, All-get_or, All-weaker}}}
 use Rattle.std.{proofs.lemmas.Grind.common_steps, specs.{Prelude.All, List.{AllByRecursion, list_any, Sorted.IsStrictlySortedBy}}}
-use Rattle.domain_names.specs.{Order.{before, canonical_cmp}, Name.{is_at_or_below, same_name}, Words.Name}
+use Rattle.domain_names.specs.Name.{before, canonical_cmp, is_at_or_below, same_name, Name}
 use Rattle.domain_hasher.specs.declared.error.Nsec3HashError.{Nsec3HashError, TheVariants.OutOfMemory}
-use Rattle.domain_octets.specs.Words.{Octets}
+use Rattle.domain_octets.specs.Octets.{Octets}
 use Rattle.domain_bitmap.specs.Bitmap.{bitmap_octets}
-use Rattle.domain_zone.specs.{Enclosers.is_empty_nonterminal, Soa.{chain_ttl, soa_of}, Zone.{ZoneRecord, OwnersNeverDescend}, declared.soa.ApexSoa.ApexSoa}
-use Rattle.domain_zone.{specs.declared.listed.ListedOwners.ListedOwners, proofs.{NameLemmas.same_itself, OwnerLemmas.{ascending_filter, in_any, owners_are}}}
-use Rattle.domain_zone.proofs.{OwnerLemmas.owners_ascend, PairLemmas.{IsAscending, all_from_in, ascending}, ZoneLemmas.{all_filter, weaker}}
-use Rattle.domain_nsec3.specs.{Chain.IsHashedChain, Config.ChainConfig, Faults.{AreAllHashed, IsFirstHashingFault, is_hashed_before, hash_fault}}
-use Rattle.domain_nsec3.specs.{Owners.{original_owners, is_original_owner, is_chain_name, is_empty, nsec3_lists}, Steps.AreOrderedHashes}
-use Rattle.domain_nsec3.specs.{Steps.{AreWithEmpty, AreUsable, Common, IsHashOf, IsHashingFault, links_in}, declared.chain.HashedChain.HashedChain}
-use Rattle.domain_nsec3.{specs.declared.hash.Hashed.Hashed, proofs.{ChainLemmas.{all_hashed, chain_of_zone, collides}, FaultLemmas.{all_apart, first_fault}}}
-use Rattle.domain_nsec3.proofs.{FaultLemmas.{hashed_in_order, hashing_fault}, ListLemmas.sorted, OwnerLemmas.{empty_are, is_own, names_are}}
-use Rattle.domain_nsec3.proofs.TypeLemmas.{no_types}
+use Rattle.domain_zone.specs.{Enclosers.is_empty_nonterminal, Zone.{chain_ttl, soa_of, ZoneRecord, OwnersNeverDescend}, declared.soa.ApexSoa.ApexSoa}
+use Rattle.domain_zone.{specs.declared.listed.ListedOwners.ListedOwners, proofs.{NameLemmas.same_itself, WalkLemmas.{ascending_filter, in_any, owners_are}}}
+use Rattle.domain_zone.proofs.{WalkLemmas.{owners_ascend, all_filter, weaker}, PairLemmas.{IsAscending, all_from_in, ascending}}
+use Rattle.domain_nsec3.specs.Chain.{IsHashedChain, ChainConfig, AreAllHashed, IsFirstHashingFault, is_hashed_before, hash_fault, original_owners}
+use Rattle.domain_nsec3.specs.{Chain.{is_original_owner, is_chain_name, is_empty, nsec3_lists}, Steps.{AreOrderedHashes, AreWithEmpty, AreUsable, Common}}
+use Rattle.domain_nsec3.specs.{Steps.{IsHashOf, IsHashingFault, links_in}, declared.{chain.HashedChain.HashedChain, hash.Hashed.Hashed}}
+use Rattle.domain_nsec3.proofs.ChainLemmas.{all_hashed, chain_of_zone, collides, all_apart, first_fault, hashed_in_order, hashing_fault, no_types}
+use Rattle.domain_nsec3.proofs.OwnerLemmas.{sorted, empty_are, is_own, names_are}
 
 -- ---- the owners of a zone in order
 

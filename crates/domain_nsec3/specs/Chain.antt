@@ -1,14 +1,104 @@
--- The NSEC3 chain of a zone (RFC 5155, section 7.1).
-use Rattle.std.specs.{Prelude.{ℕ, true, List, [], ◌∷◌, map, length, Some, Ok, ◌≡◌, ◌<◌, All}, List.{list_any, Sorted.IsStrictlySortedBy}, Ordering.nat_cmp}
-use Rattle.std.specs.Cmp.Lexicographic.{slice_cmp}
-use Rattle.domain_octets.specs.Words.{Octets}
-use Rattle.domain_base.specs.Classes.{in_class}
+-- The NSEC3 chain of a zone (RFC 5155, section 7.1), and when there is none.
+use Rattle.std.specs.Prelude.{ℕ, Bool, ◌&&◌, Result, not, ◌||◌, ◌==◌, List, filter, true, [], ◌∷◌, map, length, Some, Ok, ◌≡◌, ◌<◌, All}
+use Rattle.std.specs.{Prelude.{◌⊎◌, false, nat_lt, Option, None, Err, ◌≢◌, if◌then◌else◌}, List.{list_any, Sorted.IsStrictlySortedBy}}
+use Rattle.std.specs.{Ordering.nat_cmp, Cmp.Lexicographic.slice_cmp}
+use Rattle.domain_octets.specs.Octets.{Octets}
+use Rattle.domain_names.specs.Name.{wire_of, lowered, is_at_or_below, is_strictly_below, same_name, Name, before}
+use Rattle.domain_chain_rdata.specs.Rdata.{is_opt_out}
+use Rattle.domain_base.specs.{Types.{ds, rrsig, dnskey, nsec3param}, Classes.in_class}
+use Rattle.domain_zone.specs.Zone.{ZoneRecord, records_of, owns, has_type, is_zone_cut, lists_type, unoccluded_owners, has_unequal_ttls}
+use Rattle.domain_zone.specs.{Zone.{chain_ttl, soa_of}, Covering.pairs, declared.soa.ApexSoa.ApexSoa}
 use Rattle.domain_codecs.specs.Base32.{base32_lower}
 use Rattle.domain_bitmap.specs.Bitmap.{bitmap_octets}
-use Rattle.domain_zone.specs.{Covering.pairs, Soa.{chain_ttl, soa_of}, Zone.ZoneRecord, declared.soa.ApexSoa.ApexSoa}
-use Rattle.domain_names.specs.{Name.same_name, Words.Name}
-use Rattle.domain_nsec3.specs.{Config.{ChainConfig, Parameters, hash_of}, Owners.{is_chain_name, nsec3_lists}}
 use Rattle.domain_nsec3.specs.declared.config.Nsec3ParamTtlMode.{Nsec3ParamTtlMode, TheVariants.{Fixed, Soa, SoaMinimum}}
+use Rattle.domain_records.specs.declared.error.SigningError.{SigningError, TheVariants.{EmptyRecordSlice, SoaRecordCouldNotBeDetermined}}
+use Rattle.domain_records.specs.declared.error.SigningError.TheVariants.{MultipleTtlValues, Nsec3HashingError, OutOfMemory}
+use Rattle.domain_hasher.specs.declared.error.Nsec3HashError.{Nsec3HashError}
+use Rattle.domain_hasher.specs.declared.error.Nsec3HashError.TheVariants as hash_error
+
+-- ---- How an NSEC3 chain is made, as its definitions see it.
+
+-- what is answered for a name: the octets of its hash, or the number of a refusal
+abbrev pub HashAnswer : Type 0
+HashAnswer = Result (Octets) ℕ
+
+-- a hasher with its parameters: what it answers for octets
+abbrev pub Hash : Type 0
+Hash = Octets → HashAnswer
+
+-- algorithm, iterations and salt, as each record of a chain tells them (RFC 5155, section 3.1)
+pub record Parameters : Type 0 where
+  pub algorithm : ℕ
+  pub iterations : ℕ
+  pub salt : Octets
+
+pub record ChainConfig : Type 0 where
+  pub hash : Hash
+  pub parameters : Parameters
+  pub flags : ℕ
+  pub exclude_unsigned : Bool
+  pub assume_dnskeys_will_be_added : Bool
+  pub occlude_below_dname : Bool
+
+-- the hash of a name is that of its wire form in lower case (RFC 5155, section 5)
+abbrev pub hash_name : Hash → Name → HashAnswer
+hash_name hash n = hash (wire_of (lowered n))
+
+abbrev pub hash_of : ChainConfig → Name → HashAnswer
+hash_of config = hash_name config.hash
+
+-- unsigned delegations are left out: this is chosen, and the flags say that it may be so (RFC 5155,
+-- section 6)
+abbrev pub excludes : ChainConfig → Bool
+excludes config = is_opt_out config.flags && config.exclude_unsigned
+
+-- ---- The names of a zone that its NSEC3 chain holds, and the types that it lists for them (RFC 5155,
+-- section 7.1). Each definition filters the whole list L of records; a is the apex.
+
+-- a zone cut that owns no DS record
+abbrev pub is_unsigned_cut : List ZoneRecord → Name → Name → Bool
+is_unsigned_cut L a n = is_zone_cut L a n && not (has_type (records_of L n) ds)
+
+-- one that is left out of the chain (RFC 5155, section 6)
+abbrev pub is_excluded : List ZoneRecord → Name → ChainConfig → Name → Bool
+is_excluded L a config n = excludes config && is_unsigned_cut L a n
+
+-- the original owner names of the chain (RFC 5155, section 1.3), but for empty non-terminals: the
+-- owners that are not occluded, without those that are left out
+abbrev pub original_owners : List ZoneRecord → Name → ChainConfig → List Name
+original_owners L a config =
+    filter (λ n. not (is_excluded L a config n)) (unoccluded_owners config.occlude_below_dname L a)
+
+abbrev pub is_original_owner : List ZoneRecord → Name → ChainConfig → Name → Bool
+is_original_owner L a config x = list_any (λ n. same_name n x) (original_owners L a config)
+
+-- an empty non-terminal of the chain: it owns nothing, is at or below the apex, and an original
+-- owner name is strictly below it
+abbrev pub is_empty : List ZoneRecord → Name → ChainConfig → Name → Bool
+is_empty L a config x =
+    is_at_or_below x a && not (owns L x)
+    && list_any (λ n. is_strictly_below n x) (original_owners L a config)
+
+-- the chain has a record for the hash of x
+abbrev pub is_chain_name : List ZoneRecord → Name → ChainConfig → Name → Bool
+is_chain_name L a config x = is_original_owner L a config x || is_empty L a config x
+
+-- the types that the NSEC3 record of an owner with these records lists: RRSIG, but at a zone cut
+-- without DS, where nothing is signed; at the apex NSEC3PARAM, and DNSKEY where it is assumed; and
+-- the types of the records, at a zone cut NS and DS alone
+abbrev pub is_listed : Bool → Bool → Bool → Bool → List ZoneRecord → ℕ → Bool
+is_listed unsigned at_apex assumed cut rs t =
+    (((t == rrsig) && not unsigned) || ((t == nsec3param) && at_apex) || ((t == dnskey) && assumed))
+    || lists_type cut rs t
+
+-- none for a name that owns nothing
+abbrev pub nsec3_lists : List ZoneRecord → Name → ChainConfig → Name → ℕ → Bool
+nsec3_lists L a config n t =
+    owns L n
+    && is_listed (is_unsigned_cut L a n) (same_name n a)
+    (config.assume_dnskeys_will_be_added && same_name n a) (is_zone_cut L a n) (records_of L n) t
+
+-- ---- The NSEC3 chain of a zone (RFC 5155, section 7.1).
 
 -- an NSEC3 record as a link of a chain; its bits are the octets of its type bitmap
 pub record HashedLink : Type 0 where
@@ -105,3 +195,78 @@ pub record IsChainParam (L : List ZoneRecord) (a : Name) (config : ChainConfig)
 pub record ChainRecords : Type 0 where
   pub links : List HashedLink
   pub param : ParamRecord
+
+-- ---- When a zone has no NSEC3 chain.
+
+-- why a hash is of no use: it is refused, else has no octets or over 39, else the owner of its
+-- record is longer than a name may be
+abbrev pub hash_fault : Name → HashAnswer → Option Nsec3HashError
+hash_fault a (Err n) = Some (hash_error.Hasher n)
+hash_fault a (Ok h) =
+    if (length h == 0) || nat_lt 39 (length h) then Some hash_error.OwnerHashError
+    else if nat_lt 255 (length (wire_of (hashed_owner a h))) then Some hash_error.Nsec3NameTooLong
+    else None
+
+-- why there is no hash: no memory, of which this is said, or the refusal of a number
+abbrev pub IsNoHash : (ℕ → Type 0) → Type 0 → Nsec3HashError → Type 0
+IsNoHash refused memory e =
+    ((e ≡ hash_error.OutOfMemory) × memory) ⊎ ((n : ℕ) × (e ≡ hash_error.Hasher n) × refused n)
+
+-- x is hashed before y: owners before empty non-terminals, and both in canonical order
+abbrev pub is_hashed_before : List ZoneRecord → Name → ChainConfig → Name → Name → Bool
+is_hashed_before L a config x y =
+    if is_original_owner L a config x then not (is_original_owner L a config y) || before x y
+    else not (is_original_owner L a config y) && before x y
+
+-- the first name of the chain whose hash is of no use, and why
+pub record IsFirstHashFault (L : List ZoneRecord) (a : Name) (config : ChainConfig)
+    (e : Nsec3HashError) : Type 0 where
+  pub name : Name
+  pub in_chain : is_chain_name L a config name ≡ true
+  pub fault : hash_fault a (hash_of config name) ≡ Some e
+  pub first : (y : Name) → is_chain_name L a config y ≡ true
+      → is_hashed_before L a config y name ≡ true → hash_fault a (hash_of config y) ≡ None
+
+-- the hashes of all names of the chain are of use
+abbrev pub AreAllHashed : List ZoneRecord → Name → ChainConfig → Type 0
+AreAllHashed L a config =
+    (x : Name) → is_chain_name L a config x ≡ true → hash_fault a (hash_of config x) ≡ None
+
+-- two names of the chain have one hash
+pub record HasCollision (L : List ZoneRecord) (a : Name) (config : ChainConfig) : Type 0 where
+  pub x : Name
+  pub y : Name
+  pub first : is_chain_name L a config x ≡ true
+  pub second : is_chain_name L a config y ≡ true
+  pub apart : same_name x y ≡ false
+  pub alike : hash_of config x ≡ hash_of config y
+
+-- neither fault stands that comes before those of hashing
+pub record IsReady (L : List ZoneRecord) (a : Name) (config : ChainConfig) : Type 0 where
+  pub soa : soa_of L a ≢ None
+  pub ttls : has_unequal_ttls L (original_owners L a config) ≡ false
+
+-- the error is the first fault of hashing
+abbrev pub IsFirstHashingFault : List ZoneRecord → Name → ChainConfig → Nsec3HashError → Type 0
+IsFirstHashingFault L a config hash_error.CollisionDetected =
+    AreAllHashed L a config × HasCollision L a config
+IsFirstHashingFault L a config hash_error.AppendError = ⊥
+IsFirstHashingFault L a config hash_error.OutOfMemory = ⊥
+IsFirstHashingFault L a config e = IsFirstHashFault L a config e
+
+-- the error is the first fault that stands, or want of memory, which leaves open whether one of
+-- hashing stands: hashes take memory themselves
+abbrev pub IsFirstFault : List ZoneRecord → Name → ChainConfig → SigningError → Type 0
+IsFirstFault L a config SoaRecordCouldNotBeDetermined = soa_of L a ≡ None
+IsFirstFault L a config MultipleTtlValues =
+    (soa_of L a ≢ None) × (has_unequal_ttls L (original_owners L a config) ≡ true)
+IsFirstFault L a config (Nsec3HashingError e) =
+    IsReady L a config × IsFirstHashingFault L a config e
+IsFirstFault L a config EmptyRecordSlice = ⊥
+IsFirstFault L a config OutOfMemory = IsReady L a config
+
+-- no fault stands
+pub record IsFaultless (L : List ZoneRecord) (a : Name) (config : ChainConfig) : Type 0 where
+  pub ready : IsReady L a config
+  pub hashed : AreAllHashed L a config
+  pub apart : ¬ (HasCollision L a config)

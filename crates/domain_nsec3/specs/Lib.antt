@@ -1,13 +1,7 @@
-pub mod Config
-pub mod Owners
 pub mod Chain
-pub mod Faults
 pub mod Meaning
 pub mod View
-pub mod Text
-pub mod Ancestors
 pub mod Steps
 pub use Rattle.domain_zone.specs.Covering
 pub use Rattle.domain_zone.specs.Zone
-pub use Rattle.domain_zone.specs.Soa
 pub use Rattle.domain_zone.specs.Enclosers

@@ -2,13 +2,13 @@
 -- sections 7.2 and 8).
 use Rattle.std.specs.{Prelude.{ℕ, Bool, true, false, List, map, Some, Ok, ◌≡◌, slice_get, ◌+◌, ◌<◌, length, All}, List.Sorted.IsStrictlySortedBy}
 use Rattle.std.specs.{Ordering.{nat_cmp, is_lt}, Cmp.Lexicographic.slice_cmp}
-use Rattle.domain_octets.specs.Words.{Octets}
-use Rattle.domain_names.specs.{Order.canonical_cmp, Name.{is_at_or_below, is_strictly_below, same_name}, Words.Name}
+use Rattle.domain_octets.specs.Octets.{Octets}
+use Rattle.domain_names.specs.Name.{canonical_cmp, is_at_or_below, is_strictly_below, same_name, Name}
 use Rattle.domain_bitmap.specs.Bitmap.{bitmap_octets}
-use Rattle.domain_chain_rdata.specs.OptOut.{is_opt_out}
+use Rattle.domain_chain_rdata.specs.Rdata.{is_opt_out}
 use Rattle.domain_zone.specs.{Covering.{matches, covers, matches_or_covers}, Enclosers.IsClosestEncloser, Zone.{ZoneRecord, is_zone_cut, is_unoccluded}}
-use Rattle.domain_nsec3.specs.{Chain.{HashedLink, hashed_owner}, Config.{ChainConfig, hash_of}}
-use Rattle.domain_nsec3.specs.Owners.{original_owners, is_original_owner, is_chain_name, nsec3_lists}
+use Rattle.domain_nsec3.specs.Chain.{HashedLink, hashed_owner, ChainConfig, hash_of, original_owners, is_original_owner, is_chain_name}
+use Rattle.domain_nsec3.specs.Chain.{nsec3_lists}
 
 -- the order of hashes: octet by octet, and what is absent comes first
 abbrev pub octets_before : Octets → Octets → Bool

@@ -1,16 +1,35 @@
--- The steps of the generator: the empty non-terminals of owners, the hashes of all, and the links that
--- these make.
-use Rattle.std.specs.Prelude.{◌≡◌, ℕ, ◌+◌, ◌<◌, List, [], ◌∷◌, ◌++◌, map, length, None, Some, Ok, ◌⊎◌, slice_index_or, All, IsPermutation}
-use Rattle.std.specs.{List.Sorted.IsStrictlySortedBy, Ordering.nat_cmp, Cmp.Lexicographic.slice_cmp}
-use Rattle.domain_octets.specs.Words.{Octets}
+-- The steps of the generator: the names above a name, the hashes of all, and the links that join them.
+use Rattle.std.specs.Prelude.{◌≡◌, ℕ, Bool, List, [], ◌∷◌, ◌++◌, length, nat_lt, if◌then◌else◌, ◌+◌, ◌<◌, map, None, Some, Ok, ◌⊎◌}
+use Rattle.std.specs.{Prelude.{slice_index_or, All, IsPermutation}, List.{list_any, Sorted.IsStrictlySortedBy}, Ordering.nat_cmp}
+use Rattle.std.specs.Cmp.Lexicographic.{slice_cmp}
+use Rattle.domain_names.specs.Name.{canonical_cmp, same_name, Name}
+use Rattle.domain_zone.specs.Enclosers.{exists_over, is_empty_nonterminal}
+use Rattle.domain_octets.specs.Octets.{Octets}
 use Rattle.domain_base.specs.Classes.{in_class}
 use Rattle.domain_chain_rdata.specs.declared.nsec3param.Nsec3param.{Nsec3param}
 use Rattle.domain_hasher.specs.declared.error.Nsec3HashError.{Nsec3HashError, TheVariants.{OutOfMemory, CollisionDetected}}
-use Rattle.domain_names.specs.Words.{Name}
-use Rattle.domain_zone.specs.Enclosers.{is_empty_nonterminal}
-use Rattle.domain_nsec3.specs.{Ancestors.IsListOf, Chain.{HashedLink, cycle, hashed_owner}, Config.{Hash, HashAnswer, Parameters, hash_name}}
-use Rattle.domain_nsec3.specs.{Faults.hash_fault, View.parameters_of}
-use Rattle.domain_nsec3.specs.declared.{chain.HashedChain.HashedChain, hash.Hashed.Hashed}
+use Rattle.domain_nsec3.specs.Chain.{HashedLink, cycle, hashed_owner, Hash, HashAnswer, Parameters, hash_name, hash_fault}
+use Rattle.domain_nsec3.specs.{View.parameters_of, declared.{chain.HashedChain.HashedChain, hash.Hashed.Hashed}}
+
+-- ---- The names above a name, and lists of names in canonical order.
+
+-- those with more than so many labels, the shortest first
+abbrev pub above_with_more : ℕ → Name → List Name
+above_with_more n [] = []
+above_with_more n (label ∷ x) = if nat_lt n (length x) then above_with_more n x ++ x ∷ [] else []
+
+-- the empty non-terminals over these owners, or with the owners all that exists over them
+abbrev pub is_over : Bool → List Name → Name → Name → Bool
+is_over with_owners owners a x =
+    if with_owners then exists_over owners a x else is_empty_nonterminal owners a x
+
+-- exactly the names that pass the test, each once, in canonical order
+pub record IsListOf (test : Name → Bool) (names : List Name) : Type 0 where
+  pub ascend : IsStrictlySortedBy canonical_cmp names
+  pub exactly : (x : Name) → list_any (λ n. same_name n x) names ≡ test x
+
+-- ---- The steps of the generator: the empty non-terminals of owners, the hashes of all, and the links that
+-- these make.
 
 -- owners, and then the empty non-terminals that they make
 pub record AreWithEmpty (a : Name) (owners names : List Name) : Type 0 where

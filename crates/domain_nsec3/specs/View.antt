@@ -1,11 +1,14 @@
--- How configurations, and records of NSEC3 and NSEC3PARAM data, are seen.
-use Rattle.std.specs.Prelude.{ℕ, List, map}
-use Rattle.domain_octets.specs.Words.{Octets}
+-- How configurations and NSEC3 records are seen, and NSEC3 records as text.
+use Rattle.std.specs.{Prelude.{ℕ, List, map, ◌++◌, codes}, Fmt.decimal}
+use Rattle.domain_octets.specs.Octets.{Octets}
 use Rattle.domain_record.specs.declared.record.Record.{Record}
-use Rattle.domain_chain_rdata.specs.declared.{nsec3.Nsec3.Nsec3, nsec3param.Nsec3param.Nsec3param}
-use Rattle.domain_names.specs.Words.{Name}
-use Rattle.domain_nsec3.specs.{Chain.{HashedLink, ParamRecord}, Config.{ChainConfig, Hash, HashAnswer, Parameters}}
+use Rattle.domain_chain_rdata.specs.{declared.{nsec3.Nsec3.Nsec3, nsec3param.Nsec3param.Nsec3param}, Text.nsec3_text}
+use Rattle.domain_names.specs.{Name.Name, Text.name_text}
+use Rattle.domain_nsec3.specs.Chain.{HashedLink, ParamRecord, ChainConfig, Hash, HashAnswer, Parameters}
 use Rattle.domain_nsec3.specs.declared.config.GenerateNsec3Config.{GenerateNsec3Config}
+use Rattle.domain_base.specs.{Numbers.{class_text, type_text}, Types.nsec3}
+
+-- ---- How configurations, and records of NSEC3 and NSEC3PARAM data, are seen.
 
 -- what a hasher answers for octets, an algorithm, iterations and a salt
 abbrev pub HasherAnswer : Type 0
@@ -63,3 +66,14 @@ as_param_record labels r =
       parameters = parameters_of r.«data»;
       flags = r.«data».flags;
     }
+
+-- ---- NSEC3 records as text.
+
+-- the owner with its last dot, the TTL, the class, the type and the data, with single spaces
+-- between them; the data are algorithm, flags, iterations, salt, next hash and types
+abbrev pub link_text : HashedLink → Octets
+link_text k =
+    let p = k.parameters in
+    (name_text k.owner ++ codes ".") ++ (codes " " ++ (decimal k.ttl ++ (codes " "
+    ++ (class_text k.class ++ (codes " " ++ (type_text nsec3 ++ (codes " "
+    ++ nsec3_text ((((p.algorithm, (k.flags, p.iterations)), p.salt), k.next), k.bits))))))))

@@ -1,9 +1,8 @@
 //! Records of a chain that take no memory: they borrow what the chain holds.
 ghost use Rattle.std.specs.Prelude.{◌≡◌, ◌<◌, [], Ok, Some, length, slice_index_or};
 ghost use Rattle.domain_base.specs.Classes.{in_class};
-ghost use Rattle.domain_nsec3.specs.Chain.{HashedLink};
-ghost use Rattle.domain_nsec3.specs.Steps.{common_of, links_in, AreUsable};
-ghost use Rattle.domain_nsec3.specs.{Text.link_text, View.link_with};
+ghost use Rattle.domain_nsec3.specs.{Chain.HashedLink, Steps.{common_of, links_in, AreUsable}, View.link_text};
+ghost use Rattle.domain_nsec3.specs.View.{link_with};
 
 use crate::HashedOwner;
 use crate::chain::{HashedChain, hash_after};

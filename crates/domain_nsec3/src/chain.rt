@@ -3,14 +3,13 @@ ghost use Rattle.std.specs.Prelude.{◌≡◌, ◌+◌, ◌<◌, Some, true, fal
 ghost use Rattle.std.specs.Prelude.{slice_index_or, All, IfOk, IfErr, OnOk, OnErr, IsPermutation};
 ghost use Rattle.std.specs.List.{list_any, Sorted.{IsSortedByKey, IsStrictlySortedBy}};
 ghost use Rattle.std.specs.{Ordering.nat_cmp, Cmp.Lexicographic.slice_cmp};
-ghost use Rattle.domain_names.specs.{Name.{is_at_or_below, same_name}, Order.canonical_cmp};
+ghost use Rattle.domain_names.specs.Name.{is_at_or_below, same_name, canonical_cmp};
 ghost use Rattle.domain_records.specs.Order.{IsInOrder};
 ghost use Rattle.domain_hasher.specs.declared.error.Nsec3HashError.TheVariants as hash_error;
-ghost use Rattle.domain_zone.specs.{Soa.{chain_ttl, soa_of}, View.zone_of};
-ghost use Rattle.domain_nsec3.specs.{Chain.IsHashedChain, Faults.{IsFaultless, IsFirstFault}};
-ghost use Rattle.domain_nsec3.specs.Steps.{AreOrderedHashes, AreUsable, AreWithEmpty};
-ghost use Rattle.domain_nsec3.specs.Steps.{HasAlikeNeighbours, IsHashingFault, common_of, links_in};
-ghost use Rattle.domain_nsec3.specs.View.{config_of, hash_by, parameters_of};
+ghost use Rattle.domain_zone.specs.Zone.{chain_ttl, soa_of, zone_of};
+ghost use Rattle.domain_nsec3.specs.{Chain.{IsHashedChain, IsFaultless, IsFirstFault}, Steps.AreOrderedHashes};
+ghost use Rattle.domain_nsec3.specs.Steps.{AreUsable, AreWithEmpty, HasAlikeNeighbours, IsHashingFault};
+ghost use Rattle.domain_nsec3.specs.{Steps.{common_of, links_in}, View.{config_of, hash_by, parameters_of}};
 ghost use Rattle.domain_nsec3.specs.declared.hash.Hashed.{Hashed};
 
 use crate::GenerateNsec3Config;

@@ -1,6 +1,6 @@
 //! How chains are made.
 ghost use Rattle.std.specs.Prelude.{◌≡◌, true, false, [], IfOk};
-ghost use Rattle.domain_chain_rdata.specs.OptOut.{with_opt_out};
+ghost use Rattle.domain_chain_rdata.specs.Rdata.{with_opt_out};
 ghost use Rattle.domain_zone.specs.declared.soa.ApexSoa.{ApexSoa};
 ghost use Rattle.domain_nsec3.specs.Chain.{param_ttl};
 ghost use Rattle.domain_nsec3.specs.declared.config.Nsec3ParamTtlMode.TheVariants as ttl_mode;

@@ -1,8 +1,8 @@
 //! The names over the owners of a chain.
 ghost use Rattle.std.specs.{Prelude.{◌≡◌, ◌++◌, true, length, All, IfOk, OnOk}, List.list_any};
 ghost use Rattle.std.specs.List.Sorted.{IsStrictlySortedBy};
-ghost use Rattle.domain_names.specs.{Order.canonical_cmp, Name.{is_at_or_below, same_name}};
-ghost use Rattle.domain_nsec3.specs.Ancestors.{above_with_more, is_over, IsListOf};
+ghost use Rattle.domain_names.specs.Name.{canonical_cmp, is_at_or_below, same_name};
+ghost use Rattle.domain_nsec3.specs.Steps.{above_with_more, is_over, IsListOf};
 
 use domain_base::{ParsedName, ToName};
 use domain_octets::{OutOfMemory, TryClone};

@@ -1,19 +1,104 @@
-//! The hashes of names, and the owners of their records.
-ghost use Rattle.std.specs.Prelude.{◌≡◌, ◌+◌, ◌<◌, ◌≤◌, ◌++◌, ◌∷◌, ◌⊎◌, [], Ok, Err, Some, None, length, take, All, IfOk, IfErr, IsErrOf, OnOk, vec_capacity, vec_len};
-ghost use Rattle.domain_octets.specs.Words.{Octets};
+//! Hashes of names, each in place.
+ghost use Rattle.std.specs.Prelude.{◌≡◌, ◌≤◌, length, take, ◌+◌, ◌<◌, ◌++◌, ◌∷◌, ◌⊎◌, [], Ok, Err, Some, None};
+ghost use Rattle.std.specs.{Prelude.{All, IfOk, IfErr, IsErrOf, OnOk, vec_capacity, vec_len}, Int.w64};
+ghost use Rattle.std.specs.{Int.from_be_bytes, Ordering.nat_cmp, Cmp.Lexicographic.slice_cmp};
+ghost use Rattle.domain_octets.specs.{Octets.{AreOctets, Octets}, Text.dot};
+ghost use Rattle.domain_nsec3.specs.{Chain.{hashed_owner, hash_name, hash_fault, IsNoHash}, Steps.AreHashesOf};
+ghost use Rattle.domain_nsec3.specs.{Steps.{IsFirstRefused, IsHashed, IsRefusal}, View.hash_by};
+ghost use Rattle.domain_nsec3.specs.View.{parameters_of};
+ghost use Rattle.domain_names.specs.Text.{name_text};
 ghost use Rattle.domain_hasher.specs.declared.error.Nsec3HashError.TheVariants as hash_error;
-ghost use Rattle.domain_nsec3.specs.{Chain.hashed_owner, Config.hash_name, Faults.{hash_fault, IsNoHash}};
-ghost use Rattle.domain_nsec3.specs.Steps.{AreHashesOf, IsFirstRefused, IsHashed, IsRefusal};
-ghost use Rattle.domain_nsec3.specs.View.{hash_by, parameters_of};
 
-use crate::hash_text::{MAX_TEXT, write_hash};
-use crate::name_hash::{MAX_HASH, NameHash};
+use crate::hash_text::{MAX_TEXT, display_hash, write_hash};
 use domain_base::{MAX_NAME, MakeName, Nsec3HashAlgorithm, ParsedName, ToName};
 use domain_bitmap::Nsec3Salt;
 use domain_chain_rdata::Nsec3param;
 use domain_hasher::{HasherError, Nsec3HashError, Nsec3Hasher};
 use domain_octets::{Octets, OutOfMemory};
 use std::alloc::Global;
+use std::cmp::Ordering;
+use std::fmt;
+use std::marker::Model;
+
+/// The greatest length of a hash whose text is one label.
+pub(crate) const MAX_HASH: usize = 39;
+
+/// The number of octets that are compared as one number.
+const FRONT: usize = 8;
+
+/// At most 39 octets, which lie in the value itself: so a list of hashes takes one piece of memory.
+#[derive(Drop)]
+pub(crate) struct NameHash {
+    octets: [u8; MAX_HASH],
+    len: u8,
+}
+
+impl Model for NameHash {
+    ghost use Rattle.std.specs.Prelude.{◌≤◌, take};
+    ghost use Rattle.domain_octets.specs.Octets.{Octets};
+
+    ghost Value = { Octets };
+
+    ghost view = { λ h. take h.len h.octets };
+
+    ghost invariant = { λ h. h.len ≤ 39 };
+}
+
+impl NameHash {
+    /// These octets.
+    pub(crate) fn new(hash: &[u8]) -> Self
+        requires { length hash.now ≤ 39 }
+        ensures { result ≡ hash.now }
+    {
+        let mut octets = [0; MAX_HASH];
+        octets[..hash.len()].copy_from_slice(hash);
+        NameHash {
+            octets,
+            len: hash.len() as u8,
+        }
+    }
+
+    /// The octets.
+    pub(crate) fn as_slice(&self) -> &[u8]
+        ensures { result.now ≡ self.now }
+    {
+        &self.octets[..usize::from(self.len)]
+    }
+
+    /// Compares the octets, the first eight of both as one number first.
+    pub(crate) fn compare(&self, other: &Self) -> Ordering
+        ensures { result ≡ slice_cmp nat_cmp self.now other.now }
+    {
+        compare_octets(self.as_slice(), other.as_slice())
+    }
+}
+
+/// The first eight octets as one number, the first of them highest.
+fn front(octets: &[u8]) -> u64
+    requires { 8 ≤ length octets.now }
+    ensures number { result ≡ from_be_bytes w64 (take 8 octets.now) }
+    ensures octets { AreOctets octets.now }
+{
+    u64::from_be_bytes([
+        octets[0], octets[1], octets[2], octets[3], octets[4], octets[5], octets[6], octets[7],
+    ])
+}
+
+/// Compares octets, the first eight of both as one number first.
+#[tactic(auto, using(crate::proofs::HashLemmas::by_front))]
+fn compare_octets(ours: &[u8], theirs: &[u8]) -> Ordering
+    ensures { result ≡ slice_cmp nat_cmp ours.now theirs.now }
+{
+    if ours.len() >= FRONT && theirs.len() >= FRONT {
+        let our_front = front(ours);
+        let their_front = front(theirs);
+        let by_front = our_front.cmp(&their_front);
+        if by_front.is_ne() {
+            return by_front;
+        }
+    }
+    ours.cmp(theirs)
+}
 
 /// A name of a chain: its hash, and its place among the names as they were hashed.
 #[derive(Drop)]
@@ -99,7 +184,7 @@ fn put_octets(buffer: &mut [u8], at: usize, octets: &[u8]) -> usize
 }
 
 /// Writes a label with its length, and then the name above it, to the front of a buffer.
-#[tactic(auto, using(crate::proofs::TextLemmas::first_set))]
+#[tactic(auto, using(crate::proofs::HashLemmas::first_set))]
 fn join_label<'a>(buffer: &'a mut [u8], label: &[u8], above: &[u8]) -> &'a [u8]
     requires label { length label.now < 256 }
     requires fits { length label.now + 1 + length above.now ≤ length buffer.old }
@@ -200,4 +285,55 @@ pub(crate) fn hash_into<H: Nsec3Hasher, O: Octets>(
         hashed.push_reserved(Hashed { hash, place });
     }
     Ok(hashed)
+}
+
+/// The owner of the record of a hash (RFC 5155, section 3): the text of the hash in lower case as a
+/// label before the apex. Contracts see the name. It holds the hash and the apex, and is spelled
+/// only where it is printed or made. It prints with its last dot.
+#[derive(Drop)]
+pub struct HashedOwner<'a> {
+    apex: ParsedName<'a>,
+    hash: &'a [u8],
+}
+
+impl<'a> Model for HashedOwner<'a> {
+    ghost use Rattle.std.specs.Prelude.{◌≡◌, ◌<◌, All, Ok, None};
+    ghost use Rattle.domain_names.specs.Name.{Name};
+    ghost use Rattle.domain_nsec3.specs.Chain.{hashed_owner, hash_fault};
+
+    ghost Value = { Name };
+
+    ghost view = { λ o. hashed_owner o.apex o.hash.now };
+
+    ghost invariant = { λ o. (hash_fault o.apex (Ok o.hash.now) ≡ None)
+        × All (λ octet. octet < 256) o.hash.now };
+}
+
+impl<'a> HashedOwner<'a> {
+    /// The owner of the record of a hash below an apex.
+    pub(crate) fn new(apex: ParsedName<'a>, hash: &'a [u8]) -> Self
+        requires { hash_fault apex (Ok hash.now) ≡ None }
+        ensures { result ≡ hashed_owner apex.entry hash.now }
+    {
+        HashedOwner { apex, hash }
+    }
+
+    /// The name, in octets of its own.
+    pub fn make<N: MakeName>(&self, alloc: Global) -> Result<N, OutOfMemory>
+        ensures { IfOk result (λ owner. N.labels owner ≡ self.now) }
+    {
+        make_owner(alloc, &self.apex, self.hash)
+    }
+}
+
+impl fmt::Display for HashedOwner<'_> {
+    ghost output = { λ n. Some (name_text n ++ dot ∷ []) };
+
+    fn fmt<W: fmt::Write>(&self, f: &mut fmt::Formatter<W>) -> fmt::Result {
+        display_hash(self.hash, f)?;
+        if self.apex.is_root() {
+            return f.write_str(".");
+        }
+        write!(f, ".{}", self.apex.fmt_with_dot())
+    }
 }

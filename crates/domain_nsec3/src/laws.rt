@@ -2,11 +2,10 @@
 ghost use Rattle.std.specs.Prelude.{◌≡◌, ℕ, true, false, List};
 ghost use Rattle.domain_zone.specs.Enclosers.{exists_over, is_empty_nonterminal, IsClosestEncloser};
 ghost use Rattle.domain_zone.specs.Zone.{ZoneRecord, is_zone_cut};
-ghost use Rattle.domain_names.specs.{Name.{is_at_or_below, same_name}, Words.Name};
-ghost use Rattle.domain_nsec3.specs.Chain.{HashedLink, IsHashedChain};
-ghost use Rattle.domain_nsec3.specs.Config.{ChainConfig};
+ghost use Rattle.domain_names.specs.Name.{is_at_or_below, same_name, Name};
+ghost use Rattle.domain_nsec3.specs.Chain.{HashedLink, IsHashedChain, ChainConfig, original_owners};
+ghost use Rattle.domain_nsec3.specs.Chain.{is_original_owner, is_chain_name, is_empty, nsec3_lists};
 ghost use Rattle.domain_nsec3.specs.Meaning.{CutsEnclose, MeansTheZone};
-ghost use Rattle.domain_nsec3.specs.Owners.{original_owners, is_original_owner, is_chain_name, is_empty, nsec3_lists};
 
 /// The names of the chain are those that exist over its original owner names that own records: so
 /// each name above one, at or below the apex, is one too.

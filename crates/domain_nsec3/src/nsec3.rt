@@ -1,11 +1,9 @@
 //! The NSEC3 chain of a zone.
 ghost use Rattle.std.specs.Prelude.{◌≡◌, IfOk, IfErr, OnOk};
 ghost use Rattle.domain_records.specs.Order.{IsOneClass, IsInOrder};
-ghost use Rattle.domain_nsec3.specs.Chain.{IsChainParam, IsHashedChain};
-ghost use Rattle.domain_nsec3.specs.Faults.{IsFaultless, IsFirstFault};
-ghost use Rattle.domain_nsec3.specs.Meaning.{MeansTheZone};
-ghost use Rattle.domain_zone.specs.View.{zone_of};
-ghost use Rattle.domain_nsec3.specs.View.{as_param_record, config_of, hashed_links_of};
+ghost use Rattle.domain_nsec3.specs.Chain.{IsChainParam, IsHashedChain, IsFaultless, IsFirstFault};
+ghost use Rattle.domain_nsec3.specs.{Meaning.MeansTheZone, View.{as_param_record, config_of, hashed_links_of}};
+ghost use Rattle.domain_zone.specs.Zone.{zone_of};
 
 use crate::GenerateNsec3Config;
 use crate::copy::copy_param;

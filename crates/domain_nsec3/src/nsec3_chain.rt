@@ -2,11 +2,11 @@
 ghost use Rattle.std.specs.Prelude.{◌≡◌, ◌<◌, ◌≤◌, ◌↔◌, [], All, length, slice_index_or, IsTrue, IfErr, IfOk, IfNone, IfSome, OnOk};
 ghost use Rattle.domain_base.specs.Classes.{in_class};
 ghost use Rattle.domain_records.specs.Order.{IsOneClass, IsInOrder};
-ghost use Rattle.domain_zone.specs.View.{zone_of};
-ghost use Rattle.domain_nsec3.specs.Chain.{HashedLink, IsChainParam, IsHashedChain, param_ttl};
-ghost use Rattle.domain_nsec3.specs.{Faults.{IsFaultless, IsFirstFault}, Meaning.IsRecordOf};
-ghost use Rattle.domain_nsec3.specs.{Steps.{common_of, links_in, AreUsable}, View.as_param_record};
-ghost use Rattle.domain_nsec3.specs.View.{config_of, hashed_links_of, parameters_of};
+ghost use Rattle.domain_zone.specs.Zone.{zone_of};
+ghost use Rattle.domain_nsec3.specs.Chain.{HashedLink, IsChainParam, IsHashedChain, param_ttl, IsFaultless};
+ghost use Rattle.domain_nsec3.specs.{Chain.IsFirstFault, Meaning.IsRecordOf, Steps.{common_of, links_in}};
+ghost use Rattle.domain_nsec3.specs.{Steps.AreUsable, View.{as_param_record, config_of, hashed_links_of}};
+ghost use Rattle.domain_nsec3.specs.View.{parameters_of};
 
 use crate::GenerateNsec3Config;
 use crate::borrowed::{BorrowedNsec3, lend_record};

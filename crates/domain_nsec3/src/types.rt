@@ -1,6 +1,6 @@
 //! The types that NSEC3 records list.
 ghost use Rattle.std.specs.Prelude.{◌≡◌, ◌||◌, ◌&&◌, ◌==◌, ℕ, ◌<◌, OnOk};
-ghost use Rattle.domain_bitmap.specs.Builder.{holds};
+ghost use Rattle.domain_bitmap.specs.Blocks.{holds};
 
 use crate::GenerateNsec3Config;
 use domain_base::{Rtype, ToName};
@@ -31,7 +31,7 @@ impl<O: Octets, S> ChainTypes for GenerateNsec3Config<O, S> {
     ghost use Rattle.domain_base.specs.Types.{ds};
     ghost use Rattle.domain_bitmap.specs.Bitmap.{bitmap_octets};
     ghost use Rattle.domain_zone.specs.Zone.{has_type};
-    ghost use Rattle.domain_nsec3.specs.Owners.{is_listed};
+    ghost use Rattle.domain_nsec3.specs.Chain.{is_listed};
 
     ghost bits = { λ config at_apex o. bitmap_octets (is_listed
         (o.is_zone_cut && not (has_type o.records ds)) at_apex

@@ -1,12 +1,67 @@
--- the words of a text
-use Rattle.std.proofs.Common.{◌≡◌, ℕ, zero, suc, ◌+◌, ◌-◌, ◌<◌, ◌≤◌, List, [], ◌∷◌, ◌++◌, Bor, map, length, true, false, get_or, slice_index, take, drop}
-use Rattle.std.proofs.Common.{length-append, refl, ap, sym, subst, ◌∙◌, arith, inl, inr}
-use Rattle.std.proofs.lemmas.{Fmt.decimal_is_IsNumeral, Grind.common_steps, Bool.{cases_Bool, Decides.nat_tests}}
-use Rattle.std.proofs.lemmas.List.{append_assoc, append-nil, length-drop, length-map, drop-drop, take_all, take-append-drop, drop_more}
-use Rattle.std.proofs.lemmas.Str.{IsCharBoundary-after_ascii, IsCharBoundary-before_ascii}
-use Rattle.std.specs.{Prelude.◌^◌, List.{AllByRecursion, join_with_byte}, Fmt.decimal, Str.{IsUtf8, IsCharBoundary, Parse.AllDigits}}
-use Rattle.domain_octets.specs.Line.{is_blank, word_if_any, words_after, words_of, HasNoBlank, IsWord}
-use Rattle.{memchr.specs.Find.{places_between, places_from, NoneBefore, Nowhere, Passes}, smallvec.specs.SmallVec.{SmallVec, HasRoomFor}}
+-- The words of a text, and the tokens that are put into one line.
+use Rattle.std.proofs.Common.{ℕ, ◌<◌, List, get_or, Fits, w8, arith, ◌≡◌, [], ◌∷◌, ◌++◌, Bool, true, false, refl, ap, ◌-◌, ◌≤◌, length, length-append, take}
+use Rattle.std.proofs.{Common.{drop, sym, subst, ◌∙◌, zero, suc, ◌+◌, Bor, map, slice_index, inl, inr}, lemmas.List.Elements.{All-from_get_or, All-append}}
+use Rattle.std.{proofs.lemmas.List.{Elements.All-take, append-nil, append_assoc, take-append-drop, take-append-le, length-drop}, specs.Prelude.{All, ◌^◌}}
+use Rattle.std.{proofs.lemmas.List.{length-map, drop-drop, take_all, drop_more}, specs.List.{join_with_byte, AllPass, AllByRecursion}}
+use Rattle.std.proofs.lemmas.{Fmt.decimal_is_IsNumeral, Grind.common_steps, Bool.{cases_Bool, Decides.nat_tests}, Str.IsCharBoundary-after_ascii}
+use Rattle.std.{proofs.lemmas.Str.IsCharBoundary-before_ascii, specs.{Fmt.decimal, Str.{IsUtf8, IsCharBoundary, Parse.AllDigits}}}
+use Rattle.domain_octets.specs.Text.{is_blank, word_if_any, words_after, words_of, HasNoBlank, IsWord}
+use Rattle.memchr.specs.Find.{places_between, places_from, NoneBefore, Nowhere, Passes}
+use Rattle.smallvec.specs.SmallVec.{SmallVec, HasRoomFor}
+
+-- ---- octets in slices
+
+-- what a slice holds are octets
+pub octets_from_type : (xs : List ℕ) → ((i : ℕ) → Fits w8 (get_or xs i 0)) → All (λ octet. octet < 256) xs
+octets_from_type xs fits = All-from_get_or (λ octet. octet < 256) xs 0 (λ i below. let h = fits i in omega (arith, h))
+
+-- ---- tokens that are put into one line
+
+-- what these tokens add to a line, of which it is told whether they are the first
+abbrev pub added : Bool → List (List ℕ) → List ℕ
+added first [] = []
+added true (text ∷ texts) = text ++ added false texts
+added false (text ∷ texts) = 32 ∷ text ++ added false texts
+
+pub from_nothing : (texts : List (List ℕ)) → added true texts ≡ join_with_byte 32 texts
+from_nothing [] = refl
+from_nothing (text ∷ []) = append-nil text
+from_nothing (text ∷ next ∷ texts) = ap (λ l. text ++ 32 ∷ l) (from_nothing (next ∷ texts))
+
+-- ---- texts whose first octets are all of one set
+
+-- these octets are left of the text, and those before them are of the set
+pub record Searched (has : ℕ → Bool) (text left : List ℕ) : Type 0 where
+  pub front : List ℕ
+  pub parts : text ≡ front ++ left
+  pub pass : AllPass has front
+
+module _ (has : ℕ → Bool) where
+  pub searched_more : (text left piece after : List ℕ) → Searched has text left → left ≡ piece ++ after → AllPass has piece
+      → Searched has text after
+  searched_more text left piece after so_far is pass = record {
+    front = so_far.front ++ piece;
+    parts = so_far.parts ∙ ap (λ l. so_far.front ++ l) is ∙ sym (append_assoc so_far.front piece after);
+    pass = All-append (λ c. has c ≡ true) so_far.front piece so_far.pass pass;
+  }
+
+  pub searched_first : (n : ℕ) (text left first after : List ℕ) → Searched has text left → first ≡ take n left → after ≡ drop n left
+      → AllPass has first → Searched has text after
+  searched_first n text left first after so_far front back pass =
+      searched_more text left first after so_far (let whole = take-append-drop n left in cc) pass
+
+  -- those that are left are among the last, which are of the set too
+  pub searched_whole : (text left : List ℕ) (n : ℕ) → Searched has text left → length left ≤ n → n ≤ length text
+      → AllPass has (drop (length text - n) text) → AllPass has text
+  searched_whole text left n so_far short within last =
+      let size = ap length so_far.parts ∙ length-append so_far.front left in
+      let begin : take (length text - n) text ≡ take (length text - n) so_far.front =
+      ap (take (length text - n)) so_far.parts ∙ take-append-le (length text - n) so_far.front left (omega (arith, size, short)) in
+      subst (AllPass has) (take-append-drop (length text - n) text)
+      (All-append (λ c. has c ≡ true) (take (length text - n) text) (drop (length text - n) text)
+      (subst (AllPass has) (sym begin) (All-take (λ c. has c ≡ true) (length text - n) so_far.front so_far.pass)) last)
+
+-- ---- the words of a text
 
 -- a blank ends a word, so that the words behind it are those of a text by itself
 words_apart : (word front : List ℕ) (blank : ℕ) (text : List ℕ) → is_blank blank ≡ true

@@ -1,7 +1,7 @@
 //! Octets in an array of a fixed size.
 ghost use Rattle.std.specs.{Prelude.{◌≡◌, [], Some, length, IfOk, IsOk}, List.refill};
 ghost use Rattle.std.proofs.Common.{sym};
-ghost use Rattle.domain_octets.specs.{Written.refilled, Words.Octets};
+ghost use Rattle.domain_octets.specs.Octets.{refilled, Octets};
 
 use crate::{
     AppendError, CopyOctets, EmptyBuilder, FreezeBuilder, FromBuilder, Octets, OctetsBuilder,

@@ -1,6 +1,6 @@
 //! Empty octets, and octets that are made of others.
 ghost use Rattle.std.specs.Prelude.{◌≡◌, ℕ, ◌↔◌, [], Option, None, Some, length, IfOk, IsNone, IsErrOf};
-ghost use Rattle.domain_octets.specs.Limit.{IsOver};
+ghost use Rattle.domain_octets.specs.Octets.{IsOver};
 
 use crate::{AppendError, ArrayBuilder, Octets, OctetsBuilder};
 use bytes::Bytes;

@@ -1,6 +1,6 @@
 //! Why octets were not appended or not read, and want of memory.
 ghost use Rattle.std.specs.Prelude.{◌≡◌, Some, codes};
-ghost use Rattle.domain_octets.specs.Texts.{append_error_text, parse_error_text};
+ghost use Rattle.domain_octets.specs.Octets.{append_error_text, parse_error_text};
 ghost use Rattle.domain_octets.specs.declared.error.AppendError.TheVariants as append_error;
 
 use std::alloc::{AllocError, AllocFailed};
@@ -43,7 +43,7 @@ pub enum AppendError {
 }
 
 impl fmt::Display for AppendError {
-    // These texts stand once more in specs/Texts.antt: both change together.
+    // These texts stand once more in specs/Octets.antt: both change together.
     ghost output = { λ e. Some (append_error_text e) };
 
     fn fmt<W: fmt::Write>(&self, f: &mut fmt::Formatter<W>) -> fmt::Result {
@@ -90,7 +90,7 @@ pub enum ParseError {
 }
 
 impl fmt::Display for ParseError {
-    // These texts stand once more in specs/Texts.antt: both change together.
+    // These texts stand once more in specs/Octets.antt: both change together.
     ghost output = { λ e. Some (parse_error_text e) };
 
     fn fmt<W: fmt::Write>(&self, f: &mut fmt::Formatter<W>) -> fmt::Result {

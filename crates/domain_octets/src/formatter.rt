@@ -1,6 +1,6 @@
 //! The pieces of a zone file's text, and what takes them.
 ghost use Rattle.std.specs.Prelude.{◌≡◌, ◌++◌, ◌∷◌, [], List, IfSome, map, OnOk, OnErr};
-ghost use Rattle.domain_octets.specs.Piece.{PieceText, piece_text, token, comment, opens, closes};
+ghost use Rattle.domain_octets.specs.Text.{PieceText, piece_text, token, comment, opens, closes};
 
 use crate::OutOfMemory;
 use std::alloc::Global;

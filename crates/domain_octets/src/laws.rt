@@ -1,7 +1,6 @@
 //! What holds of octets in slices, and of the words of a line. A caller calls the law in its body.
 ghost use Rattle.std.specs.{Prelude.{◌≡◌, List}, List.{AllByRecursion, join_with_byte}};
-ghost use Rattle.domain_octets.specs.{Characters.space, Line.{words_of, IsWord}};
-ghost use Rattle.domain_octets.specs.Words.{Octets, AreOctets};
+ghost use Rattle.domain_octets.specs.{Text.{space, words_of, IsWord}, Octets.{Octets, AreOctets}};
 
 /// The words of a line are the tokens that it was made of.
 #[tactic(auto, using(crate::proofs::WordLemmas::joined_words))]

@@ -1,6 +1,6 @@
 //! Octets that lie together.
 ghost use Rattle.std.specs.Prelude.{◌≡◌, IfOk, IsOk};
-ghost use Rattle.domain_octets.specs.Words.{Octets};
+ghost use Rattle.domain_octets.specs.Octets.{Octets};
 
 use crate::OutOfMemory;
 use bytes::Bytes;

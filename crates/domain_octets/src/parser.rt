@@ -1,7 +1,7 @@
 //! Octets that are read from the front.
 ghost use Rattle.std.specs.Prelude.{◌≡◌, ◌<◌, ◌≤◌, ◌+◌, ◌^◌, ◌∷◌, ◌↔◌, [], length, drop};
 ghost use Rattle.std.specs.{Prelude.{IsErr, IfOk, IfErr, OnErr}, Int.{w16, w32, to_be_bytes}};
-ghost use Rattle.domain_octets.specs.Place.{Place, Takes};
+ghost use Rattle.domain_octets.specs.Octets.{Place, Takes};
 
 use crate::ParseError;
 use std::marker::Model;

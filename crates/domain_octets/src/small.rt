@@ -1,8 +1,7 @@
 //! Octets that lie in the value itself where they are few, and what builds them.
 ghost use Rattle.std.specs.Prelude.{◌≡◌, ◌≤◌, ◌+◌, ◌++◌, None, [], refl, length, IfOk, IsErrOf, IsOk};
 ghost use Rattle.std.{specs.{Prelude.{OnErr, OnOk}, List.refill}, proofs.Common.sym};
-ghost use Rattle.domain_octets.specs.Small.{room_inside, held_octets, IsHeldRight};
-ghost use Rattle.domain_octets.specs.{Written.refilled, Words.Octets};
+ghost use Rattle.domain_octets.specs.Octets.{room_inside, held_octets, IsHeldRight, refilled, Octets};
 
 use crate::{
     AppendError, CopyOctets, EmptyBuilder, EmptyOctets, FreezeBuilder, FromBuilder, GrowingBuilder,

@@ -1,7 +1,7 @@
 //! The words of a line.
 ghost use Rattle.std.specs.Prelude.{◌≡◌, ◌≤◌, ◌++◌, length, map, IsOk, OnErr, OnOk};
 ghost use Rattle.smallvec.specs.SmallVec.{HasRoomFor};
-ghost use Rattle.domain_octets.specs.Line.{word_if_any, words_of, HasWords};
+ghost use Rattle.domain_octets.specs.Text.{word_if_any, words_of, HasWords};
 
 use crate::OutOfMemory;
 use memchr::memchr2_iter;

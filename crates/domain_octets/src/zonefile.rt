@@ -1,6 +1,6 @@
 //! Values that a zone file shows in pieces.
 ghost use Rattle.std.specs.Prelude.{◌≡◌, ◌++◌, List, map, IfOk, OnOk, string_bytes};
-ghost use Rattle.domain_octets.specs.Piece.{PieceText, piece_text, simple_text};
+ghost use Rattle.domain_octets.specs.Text.{PieceText, piece_text, simple_text};
 
 use crate::{Formatter, OutOfMemory, Piece, PieceFormatter};
 use std::alloc::Global;
@@ -41,7 +41,7 @@ pub trait ZonefileFmt {
 }
 
 /// The tokens with one space between them.
-#[tactic(auto, using(crate::proofs::PieceLemmas::from_nothing))]
+#[tactic(auto, using(crate::proofs::WordLemmas::from_nothing))]
 fn simple_text(alloc: Global, pieces: &[Piece]) -> Result<String, OutOfMemory>
     ensures { IfOk result (λ text. string_bytes text ≡ simple_text (map piece_text pieces.now)) }
 {

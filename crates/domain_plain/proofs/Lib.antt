@@ -1,3 +1,1 @@
-pub mod GenericLemmas
-pub mod ReadBackLemmas
-pub mod WireLemmas
+pub mod PlainLemmas

@@ -1,4 +1,1 @@
-pub mod Unknown
 pub mod Plain
-pub mod Soa
-pub mod Generic

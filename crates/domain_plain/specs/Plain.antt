@@ -1,9 +1,22 @@
--- the fields of plain data, in the order of the wire
-use Rattle.std.specs.Net.Addr.{ipv4_octets}
-use Rattle.domain_octets.specs.Words.{Octets}
-use Rattle.domain_fields.specs.{Field.{short, long, name, exactly, at_most, rest}, Layout.{Layout, one, ◌▸◌, Values}}
-use Rattle.domain_plain.specs.{declared.{a.A.A, ns.Ns.Ns, soa.Soa.Soa, mx.Mx.Mx}, Unknown.UnknownData}
-use Rattle.domain_names.specs.Words.{Name}
+-- Plain data, in the order of the wire, and data of any type as text.
+use Rattle.std.specs.{Prelude.{ℕ, ◌≡◌, Option, Some, ◌≢◌, ◌==◌, [], ◌∷◌, ◌++◌, length, codes, if◌then◌else◌}, Net.Addr.ipv4_octets}
+use Rattle.std.specs.{List.join_with_byte, Fmt.decimal}
+use Rattle.domain_octets.specs.{Octets.Octets, Text.space}
+use Rattle.domain_fields.specs.{Layout.{short, long, name, exactly, at_most, rest, Layout, one, ◌▸◌, Values}, Scan.{printed, Spells}}
+use Rattle.domain_fields.specs.Scan.{RefusesData, Both, RefusesBoth}
+use Rattle.domain_plain.specs.declared.{a.A.A, ns.Ns.Ns, soa.Soa.Soa, mx.Mx.Mx}
+use Rattle.domain_names.specs.{Name.{Name, Tokens, Token}, Text.{ScanFault, illegal}}
+use Rattle.hex.specs.Hex.{encode_upper}
+use Rattle.domain_codecs.specs.declared.codec.Codec.TheVariants.{Base16}
+use Rattle.domain_base.specs.Scan.{OneToken, Grammar, Refusal, IsNumber, IsNoNumber, RefusesToken}
+
+-- ---- data of a type that is not known, as clauses see them
+
+pub record UnknownData (O : Type 0) : Type 0 where
+  pub rtype : ℕ
+  pub «data» : O
+
+-- ---- the fields of plain data, in the order of the wire
 
 -- the address (RFC 1035, section 3.4.1)
 abbrev pub a : Layout
@@ -41,3 +54,57 @@ unknown = one (at_most 65535) ▸ one rest
 
 abbrev pub unknown_values : {O : Type 0} → (O → Octets) → UnknownData O → Values unknown
 unknown_values octets d = (tt, octets d.«data»)
+
+-- ---- SOA data over other names, and as text
+
+-- each name stands for the other one, and the numbers are the same
+pub record IsSoaWith {M N : Type 0} (is_same : M → N → Type 0) (source : Soa M)
+    (made : Soa N) : Type 0 where
+  pub mname : is_same source.mname made.mname
+  pub rname : is_same source.rname made.rname
+  pub serial : made.serial ≡ source.serial
+  pub refresh : made.refresh ≡ source.refresh
+  pub retry : made.retry ≡ source.retry
+  pub expire : made.expire ≡ source.expire
+  pub minimum : made.minimum ≡ source.minimum
+
+-- the two names with their last dots, and the numbers, with single spaces between them
+abbrev pub soa_text : {N : Type 0} → (N → Name) → Soa N → Option Octets
+soa_text labels d = Some (join_with_byte space (printed soa (soa_values labels d)))
+
+-- ---- data of any type as text (RFC 3597, section 5)
+
+-- what generic text begins with
+abbrev pub generic_mark : Token
+generic_mark = codes "\\#"
+
+-- the mark and the number of octets
+abbrev pub IsMark : Token → Unit {0} → Type 0
+IsMark text mark = text ≡ generic_mark
+
+abbrev pub generic_head : Grammar (Unit {0} × ℕ)
+generic_head = Both (OneToken IsMark) (OneToken (IsNumber 16))
+
+-- and the octets in Base 16, in any number of tokens
+abbrev pub GenericText : Tokens → Octets → Type 0
+GenericText tokens octets = Spells generic_head Base16 tokens (tt, length octets) octets
+
+-- a token is not the mark
+pub record IsNoMark (fault : ScanFault) (text : Token) : Type 0 where
+  pub said : fault ≡ illegal (codes "illegal data")
+  pub other : text ≢ generic_mark
+
+-- the first field that is refused, over octets that have this limit, and the tokens that are left
+-- then: octets are counted where they have room
+abbrev pub GenericFault : Option ℕ → Refusal
+GenericFault limit =
+    RefusesData generic_head
+    (RefusesBoth (OneToken IsMark) (RefusesToken IsNoMark) (RefusesToken (IsNoNumber 16))) limit
+    (λ head octets. head.1 ≢ length octets) (codes "illegal data") Base16
+
+-- the mark, the number of octets, and the octets in upper case; for no octets the text ends after
+-- the number
+abbrev pub generic_text : Octets → Octets
+generic_text octets =
+    generic_mark ++ space ∷ decimal (length octets)
+    ++ (if length octets == 0 then [] else space ∷ encode_upper octets)

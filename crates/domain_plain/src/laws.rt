@@ -1,13 +1,11 @@
 //! What holds of data of the types of this crate. A caller calls the law in its body.
 ghost use Rattle.std.specs.Prelude.{ℕ, ◌<◌, ◌≤◌, ◌++◌, [], Option, IfSome, length, codes};
 ghost use Rattle.std.specs.{Fmt.decimal, Net.{Addr.ipv4_octets, Text.ipv4_text}};
-ghost use Rattle.domain_octets.specs.{Line.words_of, Words.{Octets, AreOctets}};
-ghost use Rattle.domain_names.specs.{Text.name_text, TextFault.IsOfTokens};
-ghost use Rattle.domain_names.specs.Words.{Tokens};
-ghost use Rattle.domain_fields.specs.{Layout.ParsesBack, Scan.Scans, Sequence.IsExactEntry};
-ghost use Rattle.domain_plain.specs.Generic.{GenericText, GenericFault, generic_text};
-ghost use Rattle.domain_plain.specs.Plain.{a, a_values, ns, ns_values, soa, soa_values, mx};
-ghost use Rattle.domain_plain.specs.{Plain.{mx_values, unknown, unknown_values}, Soa.soa_text};
+ghost use Rattle.domain_octets.specs.{Text.words_of, Octets.{Octets, AreOctets}};
+ghost use Rattle.domain_names.specs.{Text.{name_text, IsOfTokens}, Name.Tokens};
+ghost use Rattle.domain_fields.specs.{Layout.ParsesBack, Scan.{Scans, IsExactEntry}};
+ghost use Rattle.domain_plain.specs.Plain.{GenericText, GenericFault, generic_text, a, a_values, ns, ns_values};
+ghost use Rattle.domain_plain.specs.Plain.{soa, soa_values, mx, mx_values, unknown, unknown_values, soa_text};
 
 use crate::{A, Mx, Ns, Soa, UnknownRecordData};
 use domain_base::ToName;
@@ -61,7 +59,7 @@ pub fn generic_text_is_exact()
 {}
 
 /// The words of what an address is written as spell it.
-#[tactic(auto, using(crate::proofs::ReadBackLemmas::a_back))]
+#[tactic(auto, using(crate::proofs::PlainLemmas::a_back))]
 pub fn a_reads_back(value: &A)
     ensures { Scans a (words_of (ipv4_text (ipv4_octets value.now.addr))) (a_values value.now) [] }
 {
@@ -94,7 +92,7 @@ pub fn mx_reads_back<N: ToName>(value: &Mx<N>)
 }
 
 /// So do those of data in the generic form, of any type.
-#[tactic(auto, using(std::proofs::lemmas::Grind::common_steps, crate::proofs::ReadBackLemmas::generic_back))]
+#[tactic(auto, using(std::proofs::lemmas::Grind::common_steps, crate::proofs::PlainLemmas::generic_back))]
 pub fn generic_data_reads_back()
     ensures { (octets : Octets) → AreOctets octets → length octets ≤ 65535
         → GenericText (words_of (generic_text octets)) octets }

@@ -1,9 +1,9 @@
 //! Name servers.
 ghost use Rattle.std.specs.Prelude.{◌≡◌, ◌++◌, refl, IfOk, Some, codes};
 ghost use Rattle.std.specs.{Ordering.{on, nat_cmp}, Cmp.Lexicographic.{slice_cmp, on_texts}};
-ghost use Rattle.domain_names.specs.{Text.name_text, Fault.fault_of};
+ghost use Rattle.domain_names.specs.{Text.name_text, Wire.fault_of};
 ghost use Rattle.domain_fields.specs.Layout.{Begins, FirstFault, Reads, octets_of, canonical_of};
-ghost use Rattle.domain_fields.specs.{Scan.{Scans, Refuses}, DataClone.same_values_tie};
+ghost use Rattle.domain_fields.specs.{Layout.same_values_tie, Scan.{Scans, Refuses}};
 ghost use Rattle.domain_base.specs.Scan.{ReadsTokens};
 ghost use Rattle.domain_base.specs.Types as rtypes;
 ghost use Rattle.domain_plain.specs.Plain.{ns, ns_values};

@@ -1,12 +1,12 @@
 //! Starts of zones.
 ghost use Rattle.std.specs.{Prelude.{◌≡◌, ◌⊎◌, refl, IfOk}, Ordering.{on, nat_cmp}};
 ghost use Rattle.std.specs.Cmp.Lexicographic.{slice_cmp, on_texts};
-ghost use Rattle.domain_names.specs.Fault.{fault_of};
+ghost use Rattle.domain_names.specs.Wire.{fault_of};
 ghost use Rattle.domain_fields.specs.Layout.{Begins, FirstFault, Reads, octets_of, canonical_of};
-ghost use Rattle.domain_fields.specs.{Scan.{Scans, Refuses}, DataClone.same_values_tie};
+ghost use Rattle.domain_fields.specs.{Layout.same_values_tie, Scan.{Scans, Refuses}};
 ghost use Rattle.domain_base.specs.Scan.{ReadsTokens};
 ghost use Rattle.domain_base.specs.Types as rtypes;
-ghost use Rattle.domain_plain.specs.{Plain.{soa, soa_values}, Soa.{IsSoaWith, soa_text}};
+ghost use Rattle.domain_plain.specs.Plain.{soa, soa_values, IsSoaWith, soa_text};
 
 use domain_base::{CanonicalOrd, ParsedName, Rtype, ScanError, Scanner, ToName, Ttl};
 use domain_fields::{Fields, MAX_RDLEN, ReadFields, ScanFields, Scanned};

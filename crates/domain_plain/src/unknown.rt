@@ -2,13 +2,13 @@
 ghost use Rattle.std.specs.Prelude.{◌≡◌, ◌≤◌, ◌↔◌, length, IsOk, IsNone, IfOk, Some};
 ghost use Rattle.std.specs.Ordering.{on, nat_cmp};
 ghost use Rattle.std.specs.Cmp.Lexicographic.{slice_cmp, on_texts};
-ghost use Rattle.domain_octets.specs.{Limit.IsOver, Words.AreOctets};
-ghost use Rattle.domain_names.specs.Fault.{fault_of};
-ghost use Rattle.domain_plain.specs.Generic.{GenericText, GenericFault, IsNoMark, generic_mark, generic_text};
+ghost use Rattle.domain_octets.specs.Octets.{IsOver, AreOctets};
+ghost use Rattle.domain_names.specs.Wire.{fault_of};
+ghost use Rattle.domain_plain.specs.Plain.{GenericText, GenericFault, IsNoMark, generic_mark, generic_text};
 ghost use Rattle.domain_plain.specs.Plain.{unknown, unknown_values};
 ghost use Rattle.domain_fields.specs.Layout.{Begins, FirstFault, octets_of, canonical_of, Reads};
+ghost use Rattle.domain_fields.specs.{Layout.same_values_tie, Scan.AllTokens};
 ghost use Rattle.domain_base.specs.Scan.{ReadsTokens};
-ghost use Rattle.domain_fields.specs.{DataClone.same_values_tie, Scan.AllTokens};
 
 use domain_base::{CanonicalOrd, FromToken, Rtype, ScanError, Scanner};
 use domain_codecs::{Codec, base16};
@@ -34,7 +34,7 @@ pub struct UnknownRecordData<O: Octets> {
 
 impl<O: Octets> Model for UnknownRecordData<O> {
     ghost use Rattle.std.specs.Prelude.{◌≤◌, length};
-    ghost use Rattle.domain_plain.specs.Unknown.{UnknownData};
+    ghost use Rattle.domain_plain.specs.Plain.{UnknownData};
 
     ghost Value = { UnknownData O };
 

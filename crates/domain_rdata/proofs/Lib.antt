@@ -1,4 +1,1 @@
-pub mod ZoneLemmas
-pub mod OctetsLemmas
 pub mod ScanLemmas
-pub mod ReadBackLemmas

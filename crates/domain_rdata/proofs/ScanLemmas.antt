@@ -1,17 +1,62 @@
--- Tokens that are refused as the data of a type spell no data of that type, and tokens spell data of a type in one way at most.
-use Rattle.std.proofs.{Common.{arith, ◌≡◌, ℕ, List, [], ◌∷◌, refl, sym, ap, ◌∙◌, subst, Option, Some, None}, lemmas.{Grind.common_steps, List.append-nil}}
-use Rattle.domain_names.specs.TextFault.{ScanFault, IsOfTokens}
-use Rattle.domain_plain.{specs.Generic.GenericText, proofs.GenericLemmas.generic_exact}
-use Rattle.domain_fields.{specs.{Layout.{Values, octets_of}, Scan.AllTokens}, proofs.ScanLemmas.fields_exact}
-use Rattle.domain_fields.specs.Sequence.{ReadsOnce, Excludes, IsExactEntry}
-use Rattle.domain_base.specs.Scan.{Refusal}
-use Rattle.domain_keys.{specs.{Data.key_values, Scan.KeyText}, proofs.RefusalLemmas.key_exact}
-use Rattle.domain_rrsig.{specs.{Data.rrsig_values, Scan.RrsigText}, proofs.RefusalLemmas.rrsig_exact}
+-- Data of all types as tokens and as octets.
+use Rattle.std.proofs.Common.{◌≡◌, ℕ, List, sym, [], length, codes, Option, Some, Ok, Err, Result, IsErrAnd, arith, true, refl, ap, inr, ◌∷◌, ◌∙◌, subst}
+use Rattle.std.{proofs.Common.{None, ◌<◌, All, ◌++◌, append_assoc, length-append}, specs.{Ordering.{ordering_reverse, nat_cmp}, Cmp.Lexicographic.slice_cmp}}
+use Rattle.std.{specs.{Cmp.Lexicographic.nat_list_cmp_total, Prelude.{IfSome, slice_index}}, proofs.lemmas.{Grind.common_steps, List.append-nil}}
+use Rattle.domain_names.specs.{Text.{ScanFault, illegal, no_room, no_memory, scan_fault_of, IsOfTokens, name_text}, declared.error.ScanError.ScanError}
+use Rattle.domain_names.{specs.Name.IsName, proofs.TextLemmas.name_is_valid}
+use Rattle.domain_fields.specs.{Layout.{Values, Begins, FirstFault, splits, octets_of}, Scan.{AllTokens, Scans, ReadsOnce, Excludes, IsExactEntry}}
+use Rattle.domain_fields.proofs.{ExactLemmas.{one_reading, fault_excludes}, ScanLemmas.fields_exact}
+use Rattle.domain_rdata.specs.Zone.{Kind, layout_of, AreFields, plain, key, signature, next_by_name, next_by_hash, params, FieldsText, key_of, rrsig_of}
+use Rattle.domain_rdata.specs.Zone.{kind_of, Content, fields, mere, content_of, content_octets, IsOfKind, of_kind, wire_octets, HasExactOctets, HasExactText}
+use Rattle.domain_rdata.specs.Scan.{AreOfKind, CopyFault, IsHeld, IsNotWhole, at_fault, goes_on, OctetsFault, FromOctets, RefusesKind, RefusesKnown}
+use Rattle.domain_rdata.specs.Scan.{RefusesOwn, RefusesRdata, in_own, in_generic, in_octets, RdataText, own, generic, ContentText, OwnText, AreContent}
+use Rattle.domain_rdata.specs.{Scan.{AreData, IsGeneric}, declared.zone_record_data.ZoneRecordData.{ZoneRecordData, TheVariants.{Ns, Soa, Unknown}}}
+use Rattle.domain_plain.{specs.Plain.{GenericText, generic_mark, generic_text, ns, soa, soa_values, soa_text, UnknownData}, proofs.PlainLemmas.generic_exact}
+use Rattle.domain_plain.{proofs.PlainLemmas.generic_back, specs.declared.{ns.Ns.Ns as NsData, soa.Soa.Soa as SoaData}}
+use Rattle.domain_base.{specs.{Scan.{Refusal, IsNumber, TakesToken}, Numbers.{by_name, by_number, TypeText}}, proofs.TextLemmas.name_word}
+use Rattle.domain_keys.{specs.Keys.{key_values, KeyText}, proofs.DataLemmas.key_exact}
+use Rattle.domain_rrsig.{specs.Data.{rrsig_values, RrsigData, RrsigText}, proofs.DataLemmas.rrsig_exact}
 use Rattle.domain_chain_rdata.proofs.TextLemmas.{nsec_exact, params_exact, nsec3_exact}
-use Rattle.domain_rdata.specs.Kind.{Kind, plain, key, signature, next_by_name, next_by_hash, params, layout_of, AreFields, FieldsText, key_of, rrsig_of}
-use Rattle.domain_rdata.specs.Refusal.{RefusesKind, RefusesKnown, RefusesOwn, AreOfKind, OctetsFault, RefusesRdata, in_own, in_generic, in_octets}
-use Rattle.domain_rdata.specs.{Scan.{RdataText, own, generic, ContentText, OwnText, AreContent, AreData, IsGeneric}, Zone.{kind_of, Content, fields, mere}}
-use Rattle.domain_rdata.specs.{Zone.{content_of, content_octets, IsOfKind, of_kind, wire_octets}, declared.zone_record_data.ZoneRecordData.ZoneRecordData}
+use Rattle.domain_octets.{specs.Text.words_of, proofs.WordLemmas.{one_word, first_word}}
+use Rattle.domain_base.specs.Types as rtypes
+
+-- ---- data compared the other way round
+
+pub turned : (a b : List ℕ) → ordering_reverse (slice_cmp nat_cmp b a) ≡ slice_cmp nat_cmp a b
+turned a b = sym (nat_list_cmp_total.antisymm a b)
+
+-- ---- What octets of the generic form are: data of a type in one way at most, and none where they have a fault or more follows.
+
+module _ {D : Type 0} (k : Kind) (values : D → Values (layout_of k)) (limit : Option ℕ) (octets : List ℕ) (split : splits (layout_of k) ≡ true) where
+  -- octets with a fault, or that go on after the data, are no data of a kind
+  not_whole : IsNotWhole (λ o d after. Begins (layout_of k) o (values d) after) (FirstFault (layout_of k)) octets → AreOfKind k octets → ⊥
+  not_whole (at_fault fault why) whole = fault_excludes (layout_of k) octets fault why split whole.0 [] whole.1
+  not_whole (goes_on d after begins more) whole =
+      let read = one_reading (layout_of k) octets _ whole.0 after [] split begins whole.1 in
+      omega (arith, more, ap length read.1)
+
+  pub not_data : {M : Type 0} (made : M → Values (layout_of k)) (r : Result M ScanError)
+      → IsErrAnd r (λ e. scan_fault_of e ≡ illegal (codes "illegal data"))
+      → IsNotWhole (λ o d after. Begins (layout_of k) o (values d) after) (FirstFault (layout_of k)) octets → FromOctets limit k made octets r
+  not_data made (Ok d) said why = absurd said
+  not_data made (Err e) said why = record { ok = tt; err = rw said (refl, not_whole why) }
+
+-- data of which a part is not copied
+module _ (kind : Kind) (v : Values (layout_of kind)) (limit : Option ℕ) (wire octets : List ℕ) where
+  copy_fault : (fault : ScanFault) → CopyFault limit octets fault → AreFields kind wire v → IsHeld (layout_of kind) v octets
+      → OctetsFault limit (Some kind) wire fault
+  copy_fault no_room why is held = (octets, record { values = v; whole = is; held = held }, why)
+  copy_fault no_memory why is held = inr (octets, record { values = v; whole = is; held = held }, why)
+  copy_fault _ why is held = absurd why
+
+  pub not_copied : {M : Type 0} (made : M → Values (layout_of kind)) (fault : ScanError) (r : Result M ScanError) → IsErrAnd r (λ e. e ≡ fault)
+      → CopyFault limit octets (scan_fault_of fault) → AreFields kind wire v → IsHeld (layout_of kind) v octets → FromOctets limit kind made wire r
+  not_copied made fault (Ok d) said why is held = absurd said
+  not_copied made fault (Err e) said why is held = record { ok = tt; err = rw said (copy_fault _ why is held) }
+
+pub ruleset made = (not_data, not_copied)
+
+-- ---- Tokens that are refused as the data of a type spell no data of that type, and tokens spell data of a type in one way at most.
 
 -- all tokens spell data
 whole_exact : {V D : Type 0} (limit : Option ℕ) (spells : List (List ℕ) → D → Type 0) (R : Refusal) (of : V → D) (values : D → V)
@@ -124,3 +169,68 @@ module _ {O N : Type 0} (octets : O → List ℕ) (labels : N → List (List ℕ
   text_once m n d e (generic w x are all) (generic w' x' are' all') = grind (arith, common_steps)
 
 pub ruleset scan_steps = (none_spelled, generic_ok, generic_err, in_own, in_generic)
+
+-- ---- what data are written as does not begin with the mark of the generic form
+
+-- ---- texts that are not the mark
+
+no_number : (bits n : ℕ) → IsNumber bits generic_mark n → ⊥
+no_number bits n number = omega (arith, number.digits.1.0)
+
+no_type : (n : ℕ) → TypeText generic_mark n → ⊥
+no_type n (by_name text m is) = let e = is in cc
+no_type n (by_number text digits m none has number) = grind (arith, common_steps, (length-append has.front digits))
+
+no_dotted : (text : List ℕ) → text ++ 46 ∷ [] ≡ generic_mark → ⊥
+no_dotted [] same = omega (arith, ap length same)
+no_dotted (c ∷ []) same = let last : 46 ≡ 35 = ap (λ l. slice_index l 1) same in omega (arith, last)
+no_dotted (c ∷ d ∷ text) same = omega (arith, ap length same, length-append (c ∷ d ∷ text) (46 ∷ []))
+
+abbrev first_of : List (List ℕ) → List ℕ
+first_of [] = []
+first_of (token ∷ tokens) = token
+
+-- ---- tokens that begin with such texts
+
+mark_first : {P : List ℕ → Type 0} (old new : List (List ℕ)) → TakesToken P old new → IsGeneric old → P generic_mark
+mark_first {P} old new takes marked = grind (arith, common_steps)
+
+pub type_first : (n : ℕ) (old new : List (List ℕ)) → TakesToken (λ text. TypeText text n) old new → IsGeneric old → ⊥
+type_first n old new takes marked = no_type n (mark_first old new takes marked)
+
+pub name_alone : (labels : List (List ℕ)) → IsName labels → IsGeneric (words_of (name_text labels ++ 46 ∷ [])) → ⊥
+name_alone labels valid marked = grind (arith, common_steps, one_word, name_word, no_dotted)
+
+pub name_first : (labels : List (List ℕ)) (rest : List ℕ) → IsName labels → IsGeneric (words_of ((name_text labels ++ 46 ∷ []) ++ 32 ∷ rest)) → ⊥
+name_first labels rest valid marked = grind (arith, common_steps, first_word, name_word, no_dotted)
+
+-- ---- data in their own form, or in the generic one
+
+module _ {O N : Type 0} (octets : O → List ℕ) (labels : N → List (List ℕ)) where
+  pub ns_text : (d : NsData N) → Scans ns (words_of (name_text (labels d.nsdname) ++ 46 ∷ [])) (labels d.nsdname) []
+      → RdataText octets labels rtypes.ns (words_of (name_text (labels d.nsdname) ++ 46 ∷ [])) (Ns d) []
+  ns_text d read = own (name_alone (labels d.nsdname) (name_is_valid read.token (labels d.nsdname) read.holds)) (refl, read)
+
+  pub soa_back : (d : SoaData N) → IfSome (soa_text labels d) (λ text. Scans soa (words_of text) (soa_values labels d) [])
+      → IfSome (soa_text labels d) (λ text. RdataText octets labels rtypes.soa (words_of text) (Soa d) [])
+  soa_back d read = own (name_first (labels d.mname) _ (name_is_valid read.1.1.token (labels d.mname) read.1.1.holds)) (refl, read)
+
+  pub rrsig_back : (d : RrsigData) (tokens : List (List ℕ)) → RrsigText tokens d → IsGeneric tokens → ⊥
+  rrsig_back d tokens read = type_first d.fields.type_covered tokens read.spelled.fields.0 read.spelled.fields.1
+
+  pub nsec_first : (name : List (List ℕ)) (types : List ℕ) → IsName name → IsGeneric (words_of (name_text name ++ 46 ∷ 32 ∷ [] ++ types)) → ⊥
+  nsec_first name types valid marked =
+      let parts : name_text name ++ 46 ∷ 32 ∷ [] ++ types ≡ (name_text name ++ 46 ∷ []) ++ 32 ∷ types =
+      ap (λ l. l ++ types) (sym (append_assoc (name_text name) (46 ∷ []) (32 ∷ []))) ∙ append_assoc _ (32 ∷ []) types in
+      name_first name types valid (subst (λ t. IsGeneric (words_of t)) parts marked)
+
+  pub unknown_back : (d : UnknownData O) → All (λ octet. octet < 256) (octets d.«data»)
+      → HasExactText {O = O} {N = N} octets (Unknown d) → RdataText octets labels d.rtype
+      (words_of (generic_text (octets d.«data»))) (Unknown d) []
+  unknown_back d small exact = generic (octets d.«data») (generic_back (octets d.«data») small exact.1) (refl, (exact.0, refl)) refl
+
+  -- mere octets are the data of a type that has no other form
+  pub mere_back : (d : UnknownData O) → HasExactOctets {O = O} {N = N} (Unknown d)
+      → AreData octets labels d.rtype (wire_octets {N = N} octets labels (Unknown d)) (Unknown d)
+  unfolding octets_of
+  mere_back d exact = (refl, (exact, refl))

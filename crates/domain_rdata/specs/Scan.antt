@@ -1,10 +1,20 @@
--- record data as tokens and as octets (RFC 1035, section 5.1; RFC 3597, section 5)
-use Rattle.std.specs.Prelude.{◌≡◌, ℕ, None, [], ◌∷◌}
-use Rattle.domain_octets.specs.Words.{Octets}
-use Rattle.domain_names.specs.Words.{Tokens, Name}
-use Rattle.domain_plain.specs.Generic.{GenericText, generic_mark}
-use Rattle.domain_rdata.specs.{Kind.{AreFields, FieldsText}, Zone.{kind_of, rtype_of, Content, fields, mere, content_of}}
+-- Record data as tokens and as octets, and why they are refused (RFC 1035, section 5.1; RFC 3597).
+use Rattle.std.specs.Prelude.{◌≡◌, ℕ, None, [], ◌∷◌, ◌⊎◌, ◌<◌, ◌||◌, length, codes, Bool, true, false, IsTrue, Option, Some, IsNone, Result}
+use Rattle.std.specs.Prelude.{IfOk, IfErr}
+use Rattle.domain_octets.specs.Octets.{Octets, IsOver}
+use Rattle.domain_names.specs.{Name.{Tokens, Name}, Wire.Fault, Text.{ScanFault, entry_ends, illegal, no_room, no_memory, scan_fault_of}}
+use Rattle.domain_names.specs.declared.error.ScanError.{ScanError}
+use Rattle.domain_plain.specs.Plain.{GenericText, generic_mark, GenericFault}
+use Rattle.domain_rdata.specs.Zone.{AreFields, FieldsText, Kind, plain, key, signature, next_by_name, next_by_hash, params, layout_of}
+use Rattle.domain_rdata.specs.Zone.{kind_of, rtype_of, Content, fields, mere, content_of}
 use Rattle.domain_rdata.specs.declared.zone_record_data.ZoneRecordData.{ZoneRecordData}
+use Rattle.domain_base.specs.Scan.{Refusal}
+use Rattle.domain_fields.specs.{Layout.{name, spelled_name, counted, rest, types, Layout, one, ◌▸◌, Values}, Scan.Refuses}
+use Rattle.domain_keys.specs.Keys.{RefusesKey}
+use Rattle.domain_rrsig.specs.Data.{RefusesRrsig}
+use Rattle.domain_chain_rdata.specs.Text.{RefusesNsec, RefusesNsec3, RefusesNsec3param}
+
+-- ---- record data as tokens and as octets (RFC 1035, section 5.1; RFC 3597, section 5)
 
 -- the tokens begin with the content in the text form of its kind, and these are left
 abbrev pub ContentText : Tokens → Content → Tokens → Type 0
@@ -40,3 +50,98 @@ pub data RdataText {O N : Type 0} (octets : O → Octets) (labels : N → Name) 
       → RdataText octets labels rtype old d new
   generic : (wire : Octets) → GenericText old wire → AreData octets labels rtype wire d → new ≡ []
       → RdataText octets labels rtype old d new
+
+-- ---- why record data are refused, in the text form of their type or in the generic form (RFC 1035,
+-- section 5.1, and RFC 3597, section 5)
+
+-- the first field of that form that is refused, where octets have this limit, and the tokens that
+-- are left then
+abbrev pub RefusesKind : Option ℕ → Kind → Refusal
+RefusesKind limit (plain l) = Refuses limit l
+RefusesKind limit (key codec) = RefusesKey codec limit
+RefusesKind limit signature = RefusesRrsig limit
+RefusesKind limit next_by_name = RefusesNsec limit limit
+RefusesKind limit next_by_hash = RefusesNsec3 limit
+RefusesKind limit params = RefusesNsec3param limit
+
+-- tokens are refused as the text form of a type: at a field of that form, or, before any token is
+-- taken, since the type has none
+abbrev pub RefusesKnown : Option ℕ → Option Kind → Refusal
+RefusesKnown limit (Some kind) old new fault = RefusesKind limit kind old new fault
+RefusesKnown limit None old new fault =
+    (fault ≡ illegal (codes "unknown record data")) × (new ≡ old)
+
+abbrev pub RefusesOwn : Option ℕ → ℕ → Refusal
+RefusesOwn limit rtype = RefusesKnown limit (kind_of rtype)
+
+-- all the octets are data of a kind on the wire
+abbrev pub AreOfKind : Kind → Octets → Type 0
+AreOfKind kind wire = (v : Values (layout_of kind)) × AreFields kind wire v
+
+-- a value of the fields that is held as octets of its own
+abbrev pub IsHeld : (l : Layout) → Values l → Octets → Type 0
+IsHeld (one counted) v part = v ≡ part
+IsHeld (one rest) v part = v ≡ part
+IsHeld (one types) v part = v ≡ part
+IsHeld (a ▸ b) v part = IsHeld a v.0 part ⊎ IsHeld b v.1 part
+IsHeld _ v part = ⊥
+
+-- such a part of those data
+pub record IsPart (wire : Octets) (kind : Kind) (part : Octets) : Type 0 where
+  pub values : Values (layout_of kind)
+  pub whole : AreFields kind wire values
+  pub held : IsHeld (layout_of kind) values part
+
+-- why octets are not copied into octets that have this limit
+abbrev pub CopyFault : Option ℕ → Octets → ScanFault → Type 0
+CopyFault limit octets entry_ends = ⊥
+CopyFault limit octets (illegal said) = ⊥
+CopyFault limit octets no_room = IsOver limit (length octets)
+CopyFault limit octets no_memory = IsNone limit
+
+-- why octets are not data and nothing else: they have a fault, or go on after the data
+pub data IsNotWhole {D : Type 0} (begins : Octets → D → Octets → Type 0)
+    (faults : Octets → Fault → Type 0) (octets : Octets) : Type 0 where
+  at_fault : (fault : Fault) → faults octets fault → IsNotWhole begins faults octets
+  goes_on : (d : D) (after : Octets) → begins octets d after → 0 < length after
+      → IsNotWhole begins faults octets
+
+-- whether there is a name among the fields
+abbrev pub has_name : Layout → Bool
+has_name (one name) = true
+has_name (one spelled_name) = true
+has_name (a ▸ b) = has_name a || has_name b
+has_name _ = false
+
+-- why the octets of a generic form are not turned into data over octets that have this limit: they
+-- are no such data, or they are, and a part has no room, or there is no memory for a name, or for a
+-- part, which takes some where octets have no limit; those of a type that has no text form of its
+-- own are not refused, since any octets are its data
+abbrev pub OctetsFault : Option ℕ → Option Kind → Octets → ScanFault → Type 0
+OctetsFault limit None wire fault = ⊥
+OctetsFault limit (Some kind) wire entry_ends = ⊥
+OctetsFault limit (Some kind) wire (illegal said) =
+    (said ≡ codes "illegal data") × (AreOfKind kind wire → ⊥)
+OctetsFault limit (Some kind) wire no_room =
+    (part : Octets) × IsPart wire kind part × IsOver limit (length part)
+OctetsFault limit (Some kind) wire no_memory =
+    (AreOfKind kind wire × IsTrue (has_name (layout_of kind)))
+    ⊎ ((part : Octets) × IsPart wire kind part × IsNone limit)
+
+-- what is promised of the octets of a generic form as data of a kind
+pub record FromOctets {D : Type 0} (limit : Option ℕ) (kind : Kind)
+    (values : D → Values (layout_of kind)) (wire : Octets) (result : Result D ScanError) : Type 0 where
+  pub ok : IfOk result (λ d. AreFields kind wire (values d))
+  pub err : IfErr result (λ e. OctetsFault limit (Some kind) wire (scan_fault_of e))
+
+-- why tokens are refused as data of a type, where octets have this limit, and the tokens that are
+-- left then: the mark of the generic form at their head decides what they are held to; text in that
+-- form may still hold octets that are no data of the type
+pub data RefusesRdata (limit : Option ℕ) (rtype : ℕ) (old new : Tokens)
+    (fault : ScanFault) : Type 0 where
+  in_own : (IsGeneric old → ⊥) → RefusesOwn limit rtype old new fault
+      → RefusesRdata limit rtype old new fault
+  in_generic : IsGeneric old → GenericFault limit old new fault
+      → RefusesRdata limit rtype old new fault
+  in_octets : (wire : Octets) → GenericText old wire → new ≡ []
+      → OctetsFault limit (kind_of rtype) wire fault → RefusesRdata limit rtype old new fault

@@ -1,20 +1,64 @@
--- data of all types as one type: the tables that have a row for each type, and what follows of them
-use Rattle.std.specs.{Prelude.{◌≡◌, ℕ, ◌==◌, ◌++◌, Option, Some, None, codes, refl, if◌then◌else◌}, declared.cmp.Ordering.Ordering, Fmt.decimal}
-use Rattle.std.specs.{Net.{Addr.ipv4_octets, Text.ipv4_text}, Ordering.{nat_cmp, on, then_cmp}, Cmp.{IsTotalOrder, on_total, then_total, nat_cmp_total}}
-use Rattle.std.specs.Cmp.Lexicographic.{slice_cmp, on_texts}
-use Rattle.domain_octets.specs.Words.{Octets}
-use Rattle.domain_names.specs.{Text.name_text, Words.Name}
+-- Data of all types as one type: the tables that have a row for each type, and what follows of them.
+use Rattle.std.specs.Prelude.{[], ◌≡◌, ℕ, ◌==◌, ◌++◌, Option, Some, None, codes, refl, if◌then◌else◌, ◌≢◌, ◌≤◌, length}
+use Rattle.std.specs.{declared.cmp.Ordering.Ordering, Fmt.decimal, Net.{Addr.ipv4_octets, Text.ipv4_text}, Ordering.{nat_cmp, on, then_cmp}}
+use Rattle.std.specs.{Ordering.ordering_then, Cmp.{IsTotalOrder, on_total, then_total, nat_cmp_total, tied_itself, Lexicographic.slice_cmp}}
+use Rattle.std.{specs.{Cmp.Lexicographic.on_texts, declared.cmp.Ordering.TheVariants.Equal}, proofs.Common.◌∙◌}
+use Rattle.domain_octets.specs.Octets.{Octets}
+use Rattle.domain_base.specs.Scan.{Grammar}
+use Rattle.domain_fields.specs.{Layout.{Layout, Values, Begins, octets_of, canonical_of}, Scan.{Scans, AllTokens}}
+use Rattle.domain_codecs.specs.declared.codec.Codec.{Codec, TheVariants.{Base16, Base64}}
+use Rattle.domain_keys.specs.Keys.{KeyData, key_fields, key_data, key_values, KeyText, dnskey_text, ds_text}
+use Rattle.domain_rrsig.specs.Data.{RrsigData, rrsig, rrsig_data, of_numbers, rrsig_values, RrsigText, rrsig_text}
+use Rattle.domain_chain_rdata.specs.{Text.{NsecText, Nsec3Text, nsec3_text, Nsec3paramText, nsec3param_text}, Rdata.{nsec, nsec3}}
+use Rattle.domain_chain_rdata.specs.Rdata.{nsec3param, nsec_values, nsec3_values, nsec3param_values}
+use Rattle.domain_names.specs.{Text.name_text, Name.Name}
+use Rattle.domain_bitmap.specs.{Blocks.{types_of, IsShortest}, Text.types_text}
+use Rattle.domain_plain.specs.Plain.{generic_text, a, a_values, ns, ns_values, soa, soa_values, mx, mx_values, unknown, soa_text}
+use Rattle.domain_rdata.specs.declared.zone_record_data.ZoneRecordData.{ZoneRecordData, TheVariants.{A, Ns, Soa, Mx, Dnskey, Ds, Rrsig}}
+use Rattle.domain_rdata.specs.declared.zone_record_data.ZoneRecordData.TheVariants.{Nsec, Nsec3, Nsec3param, Unknown}
 use Rattle.domain_base.specs.Types as rtypes
-use Rattle.domain_bitmap.specs.{Blocks.types_of, Text.types_text}
-use Rattle.domain_fields.specs.Layout.{Values, octets_of, canonical_of}
-use Rattle.domain_plain.specs.{Generic.generic_text, Plain.{a, a_values, ns, ns_values, soa, soa_values, mx, mx_values, unknown}, Soa.soa_text}
-use Rattle.domain_codecs.specs.declared.codec.Codec.TheVariants.{Base16, Base64}
-use Rattle.domain_keys.specs.{Data.key_values, Pieces.{dnskey_text, ds_text}}
-use Rattle.domain_rrsig.specs.{Data.rrsig_values, Pieces.rrsig_text}
-use Rattle.domain_chain_rdata.specs.{Nsec3Text.nsec3_text, Nsec3paramText.nsec3param_text, Rdata.{nsec_values, nsec3_values, nsec3param_values}}
-use Rattle.domain_rdata.specs.Kind.{Kind, plain, key, signature, next_by_name, next_by_hash, params, layout_of}
-use Rattle.domain_rdata.specs.declared.zone_record_data.ZoneRecordData.{ZoneRecordData}
-use Rattle.domain_rdata.specs.declared.zone_record_data.ZoneRecordData.TheVariants.{A, Ns, Soa, Mx, Dnskey, Ds, Rrsig, Nsec, Nsec3, Nsec3param, Unknown}
+
+-- ---- kinds of data: of what fields they are made up, and how these stand in octets and as tokens
+
+-- of fields of one token each, or in a way of their own
+pub data Kind : Type 0 where
+  plain : Layout → Kind
+  key : Codec → Kind
+  signature : Kind
+  next_by_name : Kind
+  next_by_hash : Kind
+  params : Kind
+
+-- the fields, in the order of the wire
+abbrev pub layout_of : Kind → Layout
+layout_of (plain l) = l
+layout_of (key codec) = key_fields
+layout_of signature = rrsig
+layout_of next_by_name = nsec
+layout_of next_by_hash = nsec3
+layout_of params = nsec3param
+
+-- all the octets are these values on the wire
+abbrev pub AreFields : (k : Kind) → Octets → Values (layout_of k) → Type 0
+AreFields k wire v = Begins (layout_of k) wire v []
+
+-- data with these values
+abbrev pub key_of : Values key_fields → KeyData
+key_of v = key_data v.0 v.1.0 v.1.1.0 v.1.1.1.1
+
+abbrev pub rrsig_of : Values rrsig → RrsigData
+rrsig_of v = rrsig_data (of_numbers v.1.0.0 v.1.0.1) v.1.1
+
+-- the tokens begin with these values in the text form of the kind, and the last are left
+abbrev pub FieldsText : (k : Kind) → Grammar (Values (layout_of k))
+FieldsText (plain l) = Scans l
+FieldsText (key codec) = AllTokens (λ old v. KeyText codec old (key_of v))
+FieldsText signature = AllTokens (λ old v. RrsigText old (rrsig_of v))
+FieldsText next_by_name = NsecText
+FieldsText next_by_hash = Nsec3Text
+FieldsText params = Nsec3paramText
+
+-- ---- data of all types as one type: the tables that have a row for each type, and what follows of them
 
 -- the types that have data of their own, with a text form, and of what kind these are; those of all
 -- others are mere octets
@@ -126,3 +170,42 @@ pub data_cmp_total : {O N : Type 0} (octets : O → Octets) (labels : N → Name
     → IsTotalOrder (data_cmp octets labels)
 data_cmp_total octets labels =
     then_total (on_total rtype_of nat_cmp_total) (on_texts (canonical_octets octets labels))
+
+-- ---- data of all types copied
+
+-- the same type, and the same numbers, labels and octets
+pub record IsZoneClone {O N : Type 0} (octets : O → Octets) (labels : N → Name)
+    (d copy : ZoneRecordData O N) : Type 0 where
+  pub rtypes : rtype_of copy ≡ rtype_of d
+  pub contents : content_of octets labels copy ≡ content_of octets labels d
+
+module _ {O N : Type 0} (octets : O → Octets) (labels : N → Name) where
+  -- a copy is of the same type
+  pub same_rtype : (d copy : ZoneRecordData O N) → IsZoneClone octets labels d copy
+      → rtype_of copy ≡ rtype_of d
+  same_rtype d copy same = same.rtypes
+
+  -- a copy stands at the place of its original in canonical order
+  pub zone_copies_tie : (d copy : ZoneRecordData O N) → IsZoneClone octets labels d copy
+      → data_cmp octets labels d copy ≡ Equal
+  zone_copies_tie d copy same =
+      (λ i. ordering_then (nat_cmp (rtype_of d) (same.rtypes i))
+      (slice_cmp nat_cmp (content_canonical (content_of octets labels d))
+      (content_canonical (same.contents i))))
+      ∙ tied_itself (data_cmp_total octets labels) d
+
+-- ---- data whose text, or whose octets, tell all of them
+
+-- a bitmap is in its shortest form, a hash has an octet, and octets are of a type that has no other
+-- form and fit into a record
+abbrev pub HasExactText : {O N : Type 0} → (O → Octets) → ZoneRecordData O N → Type 0
+HasExactText octets (Nsec d) = IsShortest d.types
+HasExactText octets (Nsec3 d) = (d.next_owner ≢ []) × IsShortest d.types
+HasExactText octets (Unknown d) =
+    (kind_of d.rtype ≡ None) × (length (octets d.«data») ≤ 65535)
+HasExactText octets _ = Unit {0}
+
+-- octets are of a type that has no other form
+abbrev pub HasExactOctets : {O N : Type 0} → ZoneRecordData O N → Type 0
+HasExactOctets (Unknown d) = kind_of d.rtype ≡ None
+HasExactOctets _ = Unit {0}

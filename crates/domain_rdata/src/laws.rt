@@ -1,11 +1,10 @@
 //! What holds of the tokens that spell data. A caller calls the law in its body.
 ghost use Rattle.std.specs.Prelude.{◌≡◌, [], IfSome, ℕ};
-ghost use Rattle.domain_octets.specs.Line.{words_of};
-ghost use Rattle.domain_rdata.specs.Exact.{HasExactOctets, HasExactText};
-ghost use Rattle.domain_rdata.specs.declared.zone_record_data.ZoneRecordData.{ZoneRecordData};
-ghost use Rattle.domain_rdata.specs.Scan.{AreData, RdataText};
-ghost use Rattle.domain_rdata.specs.Zone.{data_text, wire_octets, rtype_of};
-ghost use Rattle.domain_names.specs.Words.{Tokens};
+ghost use Rattle.domain_octets.specs.Text.{words_of};
+ghost use Rattle.domain_rdata.specs.Zone.{HasExactOctets, HasExactText, data_text, wire_octets, rtype_of};
+ghost use Rattle.domain_rdata.specs.{declared.zone_record_data.ZoneRecordData.ZoneRecordData, Scan.AreData};
+ghost use Rattle.domain_rdata.specs.Scan.{RdataText};
+ghost use Rattle.domain_names.specs.Name.{Tokens};
 
 use crate::ZoneRecordData;
 use domain_base::ToName;

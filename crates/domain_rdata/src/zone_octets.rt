@@ -1,15 +1,14 @@
 //! Data of all types from the octets of their generic form.
-#![tactic(auto, using(crate::proofs::OctetsLemmas::made))]
+#![tactic(auto, using(crate::proofs::ScanLemmas::made))]
 
 ghost use Rattle.std.specs.Prelude.{◌≡◌, ◌<◌, ◌≤◌, ◌⊎◌, [], Some, None, codes, length, IfOk, IfErr, OnOk};
-ghost use Rattle.domain_names.specs.TextFault.{illegal, scan_fault_of};
+ghost use Rattle.domain_names.specs.Text.{illegal, scan_fault_of};
 ghost use Rattle.domain_plain.specs.Plain.{a, a_values, ns, ns_values, soa, soa_values, mx, mx_values};
-ghost use Rattle.domain_keys.specs.Data.{key_values};
+ghost use Rattle.domain_keys.specs.Keys.{key_values};
 ghost use Rattle.domain_rrsig.specs.Data.{rrsig_values};
 ghost use Rattle.domain_chain_rdata.specs.Rdata.{nsec_values, nsec3_values, nsec3param_values};
-ghost use Rattle.domain_rdata.specs.Kind.{plain, key, signature, next_by_name, next_by_hash};
-ghost use Rattle.domain_rdata.specs.Refusal.{CopyFault, FromOctets, IsNotWhole, OctetsFault};
-ghost use Rattle.domain_rdata.specs.{Kind.params, Scan.AreData, Zone.kind_of};
+ghost use Rattle.domain_rdata.specs.Zone.{plain, key, signature, next_by_name, next_by_hash, params, kind_of};
+ghost use Rattle.domain_rdata.specs.Scan.{CopyFault, FromOctets, IsNotWhole, OctetsFault, AreData};
 
 use crate::ZoneRecordData;
 use crate::zone_record_data::return_of_type;

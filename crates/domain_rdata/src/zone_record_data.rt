@@ -1,7 +1,7 @@
 //! Data of all types as one type: the variants, the types that have one, and what is done with the
 //! data whatever their type.
 ghost use Rattle.std.specs.{Prelude.{◌≡◌, IfOk}, Ordering.nat_cmp, Cmp.Lexicographic.slice_cmp};
-ghost use Rattle.domain_rdata.specs.ZoneClone.{IsZoneClone, same_rtype, zone_copies_tie};
+ghost use Rattle.domain_rdata.specs.Zone.{IsZoneClone, same_rtype, zone_copies_tie};
 
 use domain_base::{CanonicalOrd, Rtype, ToName, Ttl};
 use domain_chain_rdata::{Nsec, Nsec3, Nsec3param};
@@ -102,7 +102,7 @@ impl<O: Octets, N: ToName> ZoneRecordData<O, N> {
     ghost use Rattle.domain_rdata.specs.Zone.{rtype_of, canonical_octets};
 
     /// The order of the canonical octets of data of one type.
-    #[tactic(auto, using(crate::proofs::ZoneLemmas::turned), unfolding(domain_fields::specs::Layout::octets_of))]
+    #[tactic(auto, using(crate::proofs::ScanLemmas::turned), unfolding(domain_fields::specs::Layout::octets_of))]
     fn same_type_cmp(&self, other: &Self) -> Ordering
         requires { rtype_of self.now ≡ rtype_of other.now }
         ensures { result ≡ slice_cmp nat_cmp (canonical_octets O.octets N.labels self.now)

@@ -1,9 +1,8 @@
 //! Data of all types from tokens.
 ghost use Rattle.std.specs.Prelude.{◌↔◌, IsTrue, IfErr, IfOk};
-ghost use Rattle.domain_names.specs.{TextFault.{IsOfTokens, scan_fault_of}, Words.Tokens};
-ghost use Rattle.domain_rdata.specs.{Zone.data_text, Refusal.{RefusesOwn, RefusesRdata}};
-ghost use Rattle.domain_rdata.specs.Scan.{RdataText, OwnText, IsGeneric};
-ghost use Rattle.domain_rdata.specs.declared.zone_record_data.ZoneRecordData.{ZoneRecordData};
+ghost use Rattle.domain_names.specs.{Text.{IsOfTokens, scan_fault_of}, Name.Tokens};
+ghost use Rattle.domain_rdata.specs.{Zone.data_text, Scan.{RefusesOwn, RefusesRdata, RdataText, OwnText}};
+ghost use Rattle.domain_rdata.specs.{Scan.IsGeneric, declared.zone_record_data.ZoneRecordData.ZoneRecordData};
 ghost use Rattle.domain_base.specs.Scan.{ReadsTokens};
 
 use crate::ZoneRecordData;

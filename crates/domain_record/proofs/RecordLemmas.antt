@@ -1,8 +1,8 @@
 -- records as text
 use Rattle.std.{proofs.Common.{◌≡◌, ℕ, [], ◌∷◌, refl, ap, append_assoc}, specs.{Prelude.{Option, Some, None}, Fmt.◌++?◌}}
-use Rattle.domain_octets.specs.{Words.Octets, Characters.space}
+use Rattle.domain_octets.specs.{Octets.Octets, Text.space}
 use Rattle.domain_base.specs.Numbers.{class_text}
-use Rattle.domain_record.specs.RecordText.{spaced_class}
+use Rattle.domain_record.specs.Record.{spaced_class}
 
 -- a class and the spaces beside it are one text
 pub class_in_spaces : (class : ℕ) (rest : Option Octets) → Some (spaced_class class) ++? rest

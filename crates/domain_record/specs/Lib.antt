@@ -1,4 +1,1 @@
 pub mod Record
-pub mod RecordLends
-pub mod RecordText
-pub mod RecordClone

@@ -1,9 +1,14 @@
--- the canonical order and the equality of records
-use Rattle.std.specs.{Prelude.{ℕ, Bool, nat_eq}, declared.cmp.Ordering.Ordering, Ordering.{nat_cmp, on, then_cmp, eq_of_both}}
-use Rattle.std.specs.Cmp.{IsTotalOrder, on_total, then_total, nat_cmp_total, IsPartialEquivalence, IsEquivalence, on_per, and_per, on_equiv, and_equiv}
-use Rattle.std.specs.Cmp.{nat_eq_equiv, partial_equiv_from_equiv}
-use Rattle.domain_names.specs.{Name.same_name, Laws.same_name_equiv, Order.{canonical_cmp, canonical_cmp_total}, Words.Name}
-use Rattle.domain_record.specs.declared.record.Record.{Record}
+-- Records: their canonical order and equality, their text and their copies.
+use Rattle.std.specs.{Prelude.{ℕ, Bool, nat_eq, [], ◌∷◌, ◌++◌, Option, Some, ◌≡◌}, declared.cmp.Ordering.Ordering, Ordering.{nat_cmp, on}}
+use Rattle.std.specs.{Ordering.{then_cmp, eq_of_both}, Cmp.{IsTotalOrder, on_total, then_total, nat_cmp_total, IsPartialEquivalence}}
+use Rattle.std.specs.{Cmp.{IsEquivalence, on_per, and_per, on_equiv, and_equiv, nat_eq_equiv, partial_equiv_from_equiv}, Borrow.Lends}
+use Rattle.std.specs.{Borrow.{Fml, RattleType, MutBor}, Fmt.{decimal, ◌++?◌}}
+use Rattle.domain_names.specs.{Name.{same_name, canonical_cmp, canonical_cmp_total, Name}, Laws.same_name_equiv, Text.name_text}
+use Rattle.domain_record.specs.{declared.record.Record.Record, contracts.record.Record.the_row}
+use Rattle.domain_octets.specs.{Octets.Octets, Text.{space, dot}}
+use Rattle.domain_base.specs.Numbers.{class_text, type_text}
+
+-- ---- the canonical order and the equality of records
 
 -- by class, then owner in the order of names, then type, then the canonical order of the data
 -- (RFC 4034, section 6)
@@ -40,3 +45,35 @@ pub record_eq_equiv : {N D : Type 0} (labels : N → Name) (data_eq : D → D �
 record_eq_equiv labels data_eq laws =
     and_equiv (and_equiv (on_equiv (λ r. labels r.owner) same_name_equiv)
     (on_equiv (λ r. r.class) nat_eq_equiv)) (on_equiv (λ r. r.«data») laws)
+
+-- ---- What a record ends as, where a `&mut` to its data is returned.
+
+-- once the borrow r ends, the record has the data last written through r, and its other fields are
+-- as they were
+abbrev pub LendsData : (N D : RattleType) → MutBor (Record N.Denot D.Denot) → MutBor D.Denot → Fml
+LendsData N D s r = Lends (the_row N D) D s r (λ w. record s.now { «data» = w })
+
+-- ---- Records as text.
+
+-- a class with a space before and after it
+abbrev pub spaced_class : ℕ → Octets
+spaced_class class = space ∷ class_text class ++ space ∷ []
+
+-- the owner with its last dot, the TTL, the class, the type and the data, with single spaces
+-- between them
+abbrev pub record_text : {N D : Type 0} → (N → Name) → (D → ℕ) → (D → Option Octets) → Record N D
+    → Option Octets
+record_text labels rtype data_text r =
+    Some (name_text (labels r.owner) ++ dot ∷ []) ++? Some (space ∷ []) ++? Some (decimal r.ttl)
+    ++? Some (space ∷ []) ++? Some (class_text r.class) ++? Some (space ∷ [])
+    ++? Some (type_text (rtype r.«data»)) ++? Some (space ∷ []) ++? data_text r.«data»
+
+-- ---- Records that stand for others: copies, and records over other names and data.
+
+-- the owner and the data stand for the others, and the class and the TTL are the same
+pub record IsRecordClone {M E N D : Type 0} (is_owner_clone : M → N → Type 0)
+    (is_data_clone : E → D → Type 0) (r : Record M E) (copy : Record N D) : Type 0 where
+  pub owner : is_owner_clone r.owner copy.owner
+  pub class : copy.class ≡ r.class
+  pub ttl : copy.ttl ≡ r.ttl
+  pub «data» : is_data_clone r.«data» copy.«data»

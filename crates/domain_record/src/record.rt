@@ -1,6 +1,6 @@
 //! Records.
 ghost use Rattle.std.specs.{Prelude.{◌≡◌, ◌⊎◌, Some}, Borrow.sem};
-ghost use Rattle.domain_record.specs.{RecordClone.IsRecordClone, RecordLends.LendsData};
+ghost use Rattle.domain_record.specs.Record.{IsRecordClone, LendsData};
 
 use crate::{RecordData, both};
 use domain_base::{CanonicalOrd, Class, Rtype, ToName, Ttl};
@@ -203,7 +203,7 @@ impl<N: ToName, D: RecordData + CanonicalOrd> CanonicalOrd for Record<N, D> {
 struct Spaced(Class);
 
 impl fmt::Display for Spaced {
-    ghost use Rattle.domain_record.specs.RecordText.{spaced_class};
+    ghost use Rattle.domain_record.specs.Record.{spaced_class};
 
     ghost output = { λ c. Some (spaced_class c.0) };
 
@@ -218,7 +218,7 @@ impl fmt::Display for Spaced {
 /// The owner with its last dot, the TTL, the class, the type and the data, with single spaces
 /// between them.
 impl<N: ToName, D: RecordData + fmt::Display> fmt::Display for Record<N, D> {
-    ghost use Rattle.domain_record.specs.RecordText.{record_text};
+    ghost use Rattle.domain_record.specs.Record.{record_text};
 
     ghost output = { record_text N.labels D.rtype D.output };
 

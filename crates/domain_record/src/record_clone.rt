@@ -1,6 +1,6 @@
 //! Copies of records.
 ghost use Rattle.std.specs.{Prelude.{◌≡◌, IfOk}, declared.cmp.Ordering.TheVariants.Equal};
-ghost use Rattle.domain_record.specs.RecordClone.{IsRecordClone};
+ghost use Rattle.domain_record.specs.Record.{IsRecordClone};
 
 use crate::{Record, RecordData};
 use domain_base::CanonicalOrd;

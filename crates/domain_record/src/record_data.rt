@@ -2,9 +2,9 @@
 ghost use Rattle.std.specs.Prelude.{◌≡◌, ◌≤◌, ◌↔◌, ℕ, Option, Some, length, IsTrue, IfOk, IfErr};
 ghost use Rattle.std.specs.{Prelude.{OnErr, IfNone, MatchOption, codes}, Ordering.nat_cmp};
 ghost use Rattle.std.specs.Cmp.Lexicographic.{slice_cmp};
-ghost use Rattle.domain_octets.specs.Words.{Octets};
-ghost use Rattle.domain_names.specs.Fault.{Fault, fault_of};
-ghost use Rattle.domain_fields.specs.{Layout.GoesOn, Target.Appends};
+ghost use Rattle.domain_octets.specs.Octets.{Octets};
+ghost use Rattle.domain_names.specs.Wire.{Fault, fault_of};
+ghost use Rattle.domain_fields.specs.Layout.{GoesOn, Appends};
 
 use domain_base::{Rtype, Ttl};
 use domain_octets::{AppendError, OctetsBuilder, ParseError, Parser};

@@ -1,9 +1,2 @@
-pub mod Arranging
-pub mod Firsts
-pub mod Lookups
 pub mod OrderLemmas
-pub mod Placing
-pub mod Runs
-pub mod SortedLists
-pub mod Sorting
-pub mod Texts
+pub mod GroupLemmas

@@ -1,8 +1,86 @@
--- Records of one owner, and of one owner and type.
-use Rattle.std.specs.{Prelude.{◌≡◌, ℕ, Bool, ◌==◌, ◌&&◌, List, [], ◌∷◌, ◌++◌, Any}, List.AllByRecursion, Ordering.{is_le, nat_cmp, on, then_cmp}}
-use Rattle.domain_names.specs.{Order.canonical_cmp, Name.{same_name, IsSame}, Words.Name}
+-- Groups of records: of one owner, of one owner and type, how these are looked up, and what adding
+-- and removing leave.
+use Rattle.std.specs.{List.{AllByRecursion, slice_get}, Prelude.{◌≡◌, ℕ, ◌+◌, ◌<◌, ◌≤◌, Bool, true, false, List, [], ◌∷◌, ◌++◌, length}}
+use Rattle.std.specs.Prelude.{Option, MatchOption, if◌then◌else◌, slice_index_or, ◌==◌, ◌&&◌, Any, ◌≢◌, Result, Some, None, Ok, MatchResult}
+use Rattle.std.specs.{Prelude.{drop, map, remove, ◌⊎◌}, Ordering.{is_le, nat_cmp, on, then_cmp, is_lt}, Option.unwrap_or}
+use Rattle.std.specs.{List.Sorted.IsPartitionPoint, declared.cmp.Ordering.Ordering, Fn.{Shared, FnReturnsAt}, Iterator.Drains}
+use Rattle.domain_names.specs.Name.{canonical_cmp, same_name, IsSame, Name}
 use Rattle.domain_record.specs.declared.record.Record.{Record}
-use Rattle.domain_base.specs.Types.{ns}
+use Rattle.domain_base.specs.Types.{ns, rrsig}
+use Rattle.domain_records.specs.declared.error.SigningError.{SigningError, TheVariants.{EmptyRecordSlice, MultipleTtlValues}}
+use Rattle.domain_records.specs.{Order.{HoldsPairwise, Holds, Adds}, declared.slice.SliceRefsOrOwned.{SliceRefsOrOwned, TheVariants.Refs}}
+use Rattle.domain_records.specs.declared.{slice.SliceRefsOrOwned.TheVariants.Owned, error.InsertError.{InsertError, TheVariants.Present}}
+use Rattle.domain_records.specs.declared.error.InsertError.TheVariants.{OutOfMemory}
+use denote.Ref.{Bor}
+
+-- ---- Groups of a list: its maximal runs.
+
+-- x before the runs gs
+abbrev pub add_to : {X : Type 0} → (X → X → Bool) → X → List (List X) → List (List X)
+add_to same x [] = (x ∷ []) ∷ []
+add_to same x ([] ∷ gs) = (x ∷ []) ∷ gs
+add_to same x ((y ∷ ys) ∷ gs) = if same x y then (x ∷ y ∷ ys) ∷ gs else (x ∷ []) ∷ (y ∷ ys) ∷ gs
+
+-- the maximal runs of neighbours that are the same
+unfoldable pub runs : {X : Type 0} → (X → X → Bool) → List X → List (List X)
+runs same [] = []
+runs same (x ∷ xs) = add_to same x (runs same xs)
+
+-- neighbours are the same
+abbrev pub HoldsOfNeighbours : {X : Type 0} → (X → X → Bool) → List X → Type 0
+HoldsOfNeighbours {X} same xs =
+    (k : ℕ) (d : X) → k + 1 < length xs
+    → same (slice_index_or xs k d) (slice_index_or xs (k + 1) d) ≡ true
+
+-- one run: at least one element, and neighbours are the same
+pub record IsRun {X : Type 0} (same : X → X → Bool) (xs : List X) : Type 0 where
+  pub some : 0 < length xs
+  pub alike : HoldsOfNeighbours same xs
+
+-- the first n elements of xs are its first maximal run
+pub record IsFirstRun {X : Type 0} (same : X → X → Bool) (xs : List X) (n : ℕ) : Type 0 where
+  pub some : 0 < n
+  pub within : n ≤ length xs
+  pub alike : (k : ℕ) (d : X) → k + 1 < n
+      → same (slice_index_or xs k d) (slice_index_or xs (k + 1) d) ≡ true
+  pub ends : (k : ℕ) (d : X) → k + 1 ≡ n → n < length xs
+      → same (slice_index_or xs k d) (slice_index_or xs n d) ≡ false
+
+-- a call that hands out the first of the runs of s, and leaves t
+abbrev pub TakesRun : {X : Type 0} → (X → X → Bool) → List X → Option (List X) → List X → Type 0
+TakesRun same s r t =
+    MatchOption r ((s ≡ []) × (t ≡ [])) (λ g. (s ≡ g ++ t) × (runs same s ≡ g ∷ runs same t))
+
+-- one run, by recursion
+abbrev pub IsOneRun : {X : Type 0} → (X → X → Bool) → List X → Type 0
+IsOneRun same [] = ⊥
+IsOneRun same (x ∷ []) = Unit {0}
+IsOneRun same (x ∷ y ∷ ys) = (same x y ≡ true) × IsOneRun same (y ∷ ys)
+
+-- the last of a group (x, or the last of xs) and the first of the next differ
+abbrev pub EndsBefore : {X : Type 0} → (X → X → Bool) → List X → List X → Type 0
+EndsBefore same [] h = Unit {0}
+EndsBefore same (x ∷ []) [] = Unit {0}
+EndsBefore same (x ∷ []) (y ∷ ys) = same x y ≡ false
+EndsBefore same (x ∷ z ∷ xs) h = EndsBefore same (z ∷ xs) h
+
+abbrev pub Apart : {X : Type 0} → (X → X → Bool) → List (List X) → Type 0
+Apart same [] = Unit {0}
+Apart same (g ∷ []) = Unit {0}
+Apart same (g ∷ h ∷ gs) = EndsBefore same g h × Apart same (h ∷ gs)
+
+abbrev pub joined : {X : Type 0} → List (List X) → List X
+joined [] = []
+joined (g ∷ gs) = g ++ joined gs
+
+-- gs are the groups of xs
+pub record AreGroups {X : Type 0} (same : X → X → Bool) (xs : List X)
+    (gs : List (List X)) : Type 0 where
+  pub all : joined gs ≡ xs
+  pub each : AllByRecursion (IsOneRun same) gs
+  pub apart : Apart same gs
+
+-- ---- Records of one owner, and of one owner and type.
 
 -- the owners agree but for the case of letters
 abbrev pub same_owner : {N D : Type 0} → (N → Name) → Record N D → Record N D → Bool
@@ -49,3 +127,151 @@ pub record IsZoneCut {N D : Type 0} (labels : N → Name) (rtype : D → ℕ) (a
     (records : List (Record N D)) : Type 0 where
   pub below : HasFirst (λ r. ¬ (IsSame (labels r.owner) apex)) records
   pub delegates : Any (λ r. rtype r.«data» ≡ ns) records
+
+-- ---- Records of one owner and one type (RFC 2181, section 5).
+
+-- no two differ in TTL, unless the type of the first is RRSIG: records of that type are grouped,
+-- but no RRset (RFC 4034, section 3)
+abbrev pub HasOneTtl : {N D : Type 0} → (D → ℕ) → List (Record N D) → Type 0
+HasOneTtl rtype records =
+    IfFirst (λ r. rtype r.«data» ≢ rrsig) records → HoldsPairwise (λ r s. r.ttl ≡ s.ttl) records
+
+-- at least one record, and one TTL
+pub record IsRrset {N D : Type 0} (rtype : D → ℕ) (records : List (Record N D)) : Type 0 where
+  pub some : 0 < length records
+  pub one_ttl : HasOneTtl rtype records
+
+-- why records are no RRset
+abbrev pub IsNoRrset : {N D : Type 0} → (D → ℕ) → List (Record N D) → SigningError → Type 0
+IsNoRrset rtype records EmptyRecordSlice = records ≡ []
+IsNoRrset rtype records MultipleTtlValues = (0 < length records) × ¬ (HasOneTtl rtype records)
+IsNoRrset rtype records _ = ⊥
+
+-- the group as an RRset, or its refusal, exactly by its own TTLs
+abbrev pub IsRrsetOf : {N D : Type 0} → (D → ℕ) → List (Record N D)
+    → Result (List (Record N D)) SigningError → Type 0
+IsRrsetOf rtype group item =
+    MatchResult item (λ set. (set ≡ group) × HasOneTtl rtype group)
+    (λ e. (e ≡ MultipleTtlValues) × ¬ (HasOneTtl rtype group))
+
+-- a call that hands out the first group of s, or refuses it, and leaves t
+abbrev pub TakesRrset : {N D : Type 0} → (Record N D → Record N D → Bool) → (D → ℕ)
+    → List (Record N D) → Option (Result (List (Record N D)) SigningError)
+    → List (Record N D) → Type 0
+TakesRrset {N} {D} same rtype s r t =
+    MatchOption r ((s ≡ []) × (t ≡ [])) (λ item. (group : List (Record N D)) × (s ≡ group ++ t)
+    × (runs same s ≡ group ∷ runs same t) × IsRrsetOf rtype group item)
+
+-- a group whose first record passes the test
+abbrev pub begins_with : {X : Type 0} → (X → Bool) → List X → Bool
+begins_with p [] = false
+begins_with p (x ∷ xs) = p x
+
+-- the group that begins at that place
+abbrev pub group_at : {X : Type 0} → (X → X → Bool) → List X → Option ℕ → Option (List X)
+group_at same xs None = None
+group_at same xs (Some i) = slice_get (runs same (drop i xs)) 0
+
+-- the group that was found, if there is one, as an RRset, or its refusal
+abbrev pub IsFound : {N D : Type 0} → (D → ℕ) → Option (List (Record N D))
+    → Result (Option (List (Record N D))) SigningError → Type 0
+IsFound rtype None found = found ≡ Ok None
+IsFound rtype (Some group) found =
+    MatchResult found (λ set. (set ≡ Some group) × HasOneTtl rtype group)
+    (λ e. (e ≡ MultipleTtlValues) × ¬ (HasOneTtl rtype group))
+
+-- ---- How records are looked up by owner, class and type.
+
+-- nothing is asked, or this number
+abbrev pub is_asked : Option ℕ → ℕ → Bool
+is_asked None n = true
+is_asked (Some m) n = n == m
+
+-- a record of this owner, and of the class and the type that are asked
+abbrev pub matches : {N D : Type 0} → (N → Name) → (D → ℕ) → Name → Option ℕ → Option ℕ
+    → Record N D → Bool
+matches labels rtype owner class type r =
+    same_name (labels r.owner) owner && (is_asked class r.class && is_asked type (rtype r.«data»))
+
+-- an element stands at that place, and passes the test
+abbrev pub HasAt : {X : Type 0} → (X → Bool) → List X → ℕ → Type 0
+HasAt {X} p xs i = (i < length xs) × ((d : X) → p (slice_index_or xs i d) ≡ true)
+
+-- the place of the first element of which P holds with `true`, if there is one; of those before it
+-- P holds with `false`
+abbrev pub IsFirst : {X : Type 0} → (X → Bool → Type 0) → List X → Option ℕ → Type 0
+IsFirst {X} P xs None = (k : ℕ) (d : X) → k < length xs → P (slice_index_or xs k d) false
+IsFirst {X} P xs (Some i) =
+    (i < length xs) × ((d : X) → P (slice_index_or xs i d) true)
+    × ((k : ℕ) (d : X) → k < i → P (slice_index_or xs k d) false)
+
+-- the place of the first element that passes the test, if there is one
+abbrev pub IsFirstPlace : {X : Type 0} → (X → Bool) → List X → Option ℕ → Type 0
+IsFirstPlace p = IsFirst (λ x b. p x ≡ b)
+
+-- what a look-up compares
+pub record Key : Type 0 where
+  pub class : ℕ
+  pub owner : Name
+  pub type : ℕ
+
+abbrev pub key_of : {N D : Type 0} → (N → Name) → (D → ℕ) → Record N D → Key
+key_of labels rtype r = record { class = r.class; owner = labels r.owner; type = rtype r.«data» }
+
+-- by class, then owner, then type
+abbrev pub key_cmp : Key → Key → Ordering
+key_cmp =
+    then_cmp (on (λ k. k.class) nat_cmp)
+    (then_cmp (on (λ k. k.owner) canonical_cmp) (on (λ k. k.type) nat_cmp))
+
+-- the record stands before those of this class that match
+abbrev pub is_before : {N D : Type 0} → (N → Name) → (D → ℕ) → ℕ → Name → Option ℕ
+    → Record N D → Bool
+is_before labels rtype class owner type r =
+    is_lt (key_cmp (key_of labels rtype r)
+    (record { class = class; owner = owner; type = unwrap_or type 0 }))
+
+-- the elements before n pass the test, and those from n on don't
+abbrev pub IsParted : {X : Type 0} → (X → Bool) → List X → ℕ → Type 0
+IsParted p xs n = IsPartitionPoint (λ x. p x ≡ true) (λ x. p x ≡ false) xs n
+
+-- ---- Slices of values and of references.
+
+-- the elements of a slice, or what the references of a slice point to
+abbrev pub items_of : {T : Type 0} → SliceRefsOrOwned T → List T
+items_of (Refs r) = map (λ p. p.now) r.refs.now
+items_of (Owned s) = s.now
+
+-- ---- What the calls of sorted records add, remove and change.
+
+-- what `into_iter` made of more gave xs, and then ended
+abbrev pub Gives : {U I X : Type 0} → (U → I → Type 0) → (I → Option X → I → Type 0) → U
+    → List X → Type 0
+Gives {U} {I} into next more xs = (it : I) × into more it × Drains next it xs
+
+-- the record that comes back
+abbrev pub refused : {N D : Type 0} → InsertError N D → Record N D
+refused (Present r) = r
+refused (OutOfMemory r) = r
+
+-- without the first element that passes the test
+abbrev pub without_first : {X : Type 0} → (X → Bool) → List X → List X
+without_first p [] = []
+without_first p (x ∷ xs) = if p x then xs else x ∷ without_first p xs
+
+-- the first element at which the closure answers true, if there is one
+abbrev pub IsFirstMatch : {F X : Type 0} → Shared F (Bor X × Unit {0}) Bool → F → List X
+    → Option ℕ → Type 0
+IsFirstMatch g f = IsFirst (FnReturnsAt g f)
+
+-- new is the sorted set xs with x, unless an equal one stands
+abbrev pub AddsIfAbsent : {X : Type 0} → (X → X → Ordering) → List X → X → List X → Type 0
+AddsIfAbsent R xs x new = (Holds R xs x × (new ≡ xs)) ⊎ (¬ (Holds R xs x) × Adds R xs x new)
+
+-- the record at that place is taken out, and put in with other data; with no place nothing changes
+abbrev pub Updates : {N D : Type 0} → (Record N D → Record N D → Ordering) → Option ℕ → D
+    → List (Record N D) → List (Record N D) → Type 0
+Updates R None e xs new = new ≡ xs
+Updates {N} {D} R (Some i) e xs new =
+    (r : Record N D) × ((d : Record N D) → slice_index_or xs i d ≡ r)
+    × AddsIfAbsent R (remove xs i) (record r { «data» = e }) new

@@ -1,12 +1,3 @@
-pub mod Edits
-pub mod ErrorText
 pub mod Groups
-pub mod Lookup
-pub mod Order
-pub mod OwnerOrder
-pub mod Places
-pub mod Rrsets
-pub mod Runs
-pub mod Slices
-pub mod SortedSet
 pub mod Text
+pub mod Order

@@ -1,7 +1,13 @@
--- Records of one class, in order of owner and type.
-use Rattle.std.specs.{Prelude.{◌≡◌, ℕ, ◌≤◌, List, [], ◌∷◌}, List.AllByRecursion}
-use Rattle.domain_names.specs.{Name.IsSame, Order.IsUpTo, Words.Name}
+-- Records of one class in order, lists as sorted sets, and lists in the order of places.
+use Rattle.std.specs.Prelude.{◌≡◌, ℕ, ◌≤◌, List, [], ◌∷◌, ◌<◌, length, slice_index, slice_index_or, Option, Bool, IsTrue, All, Any}
+use Rattle.std.specs.{Prelude.{Contains, find, insert, IsPermutation}, List.{AllByRecursion, AllAdjacentBelow}}
+use Rattle.std.specs.{declared.cmp.Ordering.{Ordering, TheVariants.{Less, Equal}}, Ordering.{nat_cmp, on, then_cmp, is_eq}}
+use Rattle.std.specs.{List.Sorted.{IsStrictlySortedBy, IsSorted}, Fn.{Mut, AlwaysReturns}}
+use Rattle.domain_names.specs.Name.{IsSame, IsUpTo, canonical_cmp, Name}
 use Rattle.domain_record.specs.declared.record.Record.{Record}
+use denote.Ref.{Bor}
+
+-- ---- Records of one class, in order of owner and type.
 
 -- P holds of each element and each one after it
 abbrev pub HoldsPairwise : {X : Type 0} → (X → X → Type 0) → List X → Type 0
@@ -22,3 +28,93 @@ pub record MayFollow {N D : Type 0} (labels : N → Name) (rtype : D → ℕ)
 -- owners never descend, and within an owner types never descend
 abbrev pub IsInOrder : {N D : Type 0} → (N → Name) → (D → ℕ) → List (Record N D) → Type 0
 IsInOrder labels rtype = HoldsPairwise (MayFollow labels rtype)
+
+-- ---- The canonical order of records in two parts.
+
+-- by class, then owner in the order of names
+abbrev pub owner_cmp : {N D : Type 0} → (N → Name) → Record N D → Record N D → Ordering
+owner_cmp labels =
+    then_cmp (on (λ r. r.class) nat_cmp) (on (λ r. labels r.owner) canonical_cmp)
+
+-- by type, then the canonical order of the data
+abbrev pub rest_cmp : {N D : Type 0} → (D → ℕ) → (D → D → Ordering) → Record N D → Record N D
+    → Ordering
+rest_cmp rtype data_cmp =
+    then_cmp (on (λ r. rtype r.«data») nat_cmp) (on (λ r. r.«data») data_cmp)
+
+-- ---- The elements of a list, put into another order by their places.
+
+-- the rank of a place is where it stands in the list of places
+pub record AreRanks (places ranks : List ℕ) : Type 0 where
+  pub many : length ranks ≡ length places
+  pub place : (k : ℕ) → k < length places
+      → (slice_index places k < length places) × (slice_index ranks (slice_index places k) ≡ k)
+  pub rank : (k : ℕ) → k < length places
+      → (slice_index ranks k < length places) × (slice_index places (slice_index ranks k) ≡ k)
+
+-- new has at each rank what stood in xs at the place of that rank
+pub record IsArranged {X : Type 0} (xs : List X) (places : List ℕ) (new : List X) : Type 0 where
+  pub many : length new ≡ length xs
+  pub each : (k : ℕ) (d : X) → k < length xs
+      → slice_index_or new k d ≡ slice_index_or xs (slice_index places k) d
+
+-- by R of what stands at them, and then by the places themselves; d stands past the end of the list
+unfoldable pub compared_places : {X : Type 0} → (X → X → Ordering) → List X → X → ℕ → ℕ → Ordering
+compared_places R xs d = then_cmp (on (λ k. slice_index_or xs k d) R) nat_cmp
+
+-- all places of xs with their ranks, each place before the next
+pub record AreInOrder {X : Type 0} (R : X → X → Ordering) (xs : List X) (d : X)
+    (places ranks : List ℕ) : Type 0 where
+  pub all : length places ≡ length xs
+  pub inverse : AreRanks places ranks
+  pub ascend : AllAdjacentBelow (λ a b. compared_places R xs d a b ≡ Less) places (length places)
+
+-- ---- Lists as sorted sets, by an order R.
+
+-- each call from f on, at two references, answers what R gives
+abbrev pub AnswersBy : {F X : Type 0} → Mut F (Bor X × (Bor X × Unit {0})) Ordering
+    → (X → X → Ordering) → F → Type 0
+AnswersBy g R = AlwaysReturns g (λ a r. r ≡ R a.0.now a.1.0.now)
+
+-- an element that R calls equal to x stands in xs
+abbrev pub Holds : {X : Type 0} → (X → X → Ordering) → List X → X → Type 0
+Holds R xs x = Any (λ y. R y x ≡ Equal) xs
+
+-- the first element of xs that R calls equal to x
+abbrev pub first_equal : {X : Type 0} → (X → X → Ordering) → X → List X → Option X
+first_equal R x xs = find (λ y. is_eq (R y x)) xs
+
+-- new is the sorted set of xs: of those that R calls equal, one
+pub record IsSortedSetOf {X : Type 0} (R : X → X → Ordering) (xs new : List X) : Type 0 where
+  pub sorted : IsStrictlySortedBy R new
+  pub among : All (Contains xs) new
+  pub each : (x : X) → Contains xs x → Holds R new x
+
+-- of those that R calls equal, new has the first of xs
+abbrev pub KeepsEarliest : {X : Type 0} → (X → X → Ordering) → List X → List X → Type 0
+KeepsEarliest {X} R xs new = (x : X) → first_equal R x new ≡ first_equal R x xs
+
+-- new is xs in order, and where the sorter is stable the earliest of equals comes first
+pub record IsSortOf {X : Type 0} (stable : Bool) (R : X → X → Ordering)
+    (xs new : List X) : Type 0 where
+  pub moved : IsPermutation xs new
+  pub sorted : IsSorted R new
+  pub earliest : IsTrue stable → KeepsEarliest R xs new
+
+-- new is the sorted set of xs, and where the sorter is stable it has the earliest of equals
+pub record IsUnion {X : Type 0} (stable : Bool) (R : X → X → Ordering)
+    (xs new : List X) : Type 0 where
+  pub set : IsSortedSetOf R xs new
+  pub earliest : IsTrue stable → KeepsEarliest R xs new
+
+-- new has the elements of xs and x, in order
+pub record Adds {X : Type 0} (R : X → X → Ordering) (xs : List X) (x : X)
+    (new : List X) : Type 0 where
+  pub sorted : IsStrictlySortedBy R new
+  pub moved : IsPermutation (x ∷ xs) new
+
+-- no element that R calls equal to x stands in xs, and x goes to place i
+pub record GoesTo {X : Type 0} (R : X → X → Ordering) (xs : List X) (x : X) (i : ℕ) : Type 0 where
+  pub in_range : i ≤ length xs
+  pub absent : ¬ (Holds R xs x)
+  pub adds : Adds R xs x (insert xs i x)

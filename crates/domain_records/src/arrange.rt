@@ -1,6 +1,6 @@
 //! Items put into the order of a list of places.
 ghost use Rattle.std.specs.Prelude.{◌≡◌, ◌<◌, length, slice_index, IsTrue, IsPermutation};
-ghost use Rattle.domain_records.specs.Places.{AreRanks, IsArranged};
+ghost use Rattle.domain_records.specs.Order.{AreRanks, IsArranged};
 
 use domain_octets::OutOfMemory;
 use std::alloc::Global;

@@ -1,8 +1,8 @@
 //! Why records were not put in or signed.
 ghost use Rattle.std.specs.Prelude.{◌≡◌, Some, codes};
 ghost use Rattle.domain_records.specs.declared.error.SigningError.TheVariants as signing_error;
-ghost use Rattle.domain_records.specs.{Edits.refused, ErrorText.signing_error_of};
-ghost use Rattle.domain_records.specs.ErrorText.{signing_error_text, insert_error_text};
+ghost use Rattle.domain_records.specs.{Groups.refused, Text.{signing_error_of, signing_error_text}};
+ghost use Rattle.domain_records.specs.Text.{insert_error_text};
 
 use domain_hasher::Nsec3HashError;
 use domain_octets::OutOfMemory;
@@ -44,7 +44,7 @@ pub enum SigningError {
 }
 
 impl fmt::Display for SigningError {
-    // These texts stand once more in specs/ErrorText.antt: both change together.
+    // These texts stand once more in specs/Text.antt: both change together.
     ghost output = { λ e. Some (signing_error_text e) };
 
     fn fmt<W: fmt::Write>(&self, f: &mut fmt::Formatter<W>) -> fmt::Result {
@@ -120,7 +120,7 @@ impl<N, D> InsertError<N, D> {
 }
 
 impl<N, D> fmt::Display for InsertError<N, D> {
-    // These texts stand once more in specs/ErrorText.antt: both change together.
+    // These texts stand once more in specs/Text.antt: both change together.
     ghost output = { λ e. Some (insert_error_text e) };
 
     fn fmt<W: fmt::Write>(&self, f: &mut fmt::Formatter<W>) -> fmt::Result {

@@ -1,9 +1,9 @@
 //! Groups of neighbours.
 ghost use Rattle.std.specs.Prelude.{◌≡◌, ◌<◌, ◌↔◌, length, Bool, IsTrue, slice_index_or};
 ghost use Rattle.std.specs.Option.{ForSome, option_map};
-ghost use Rattle.domain_records.specs.Groups.{same_owner, same_type, same_rrset, same_class, same_ttl, may_follow};
-ghost use Rattle.domain_records.specs.Runs.{IsRun, IsFirstRun, TakesRun, HoldsOfNeighbours};
-ghost use Rattle.domain_records.specs.Slices.{items_of};
+ghost use Rattle.domain_records.specs.Groups.{same_owner, same_type, same_rrset, same_class, same_ttl};
+ghost use Rattle.domain_records.specs.Groups.{may_follow, IsRun, IsFirstRun, TakesRun, HoldsOfNeighbours};
+ghost use Rattle.domain_records.specs.Groups.{items_of};
 
 use crate::slice::SliceRefsOrOwned;
 use domain_base::ToName;
@@ -110,7 +110,7 @@ fn first_run<T, G: Grouping<T>>(records: &SliceRefsOrOwned<'_, T>) -> usize
 }
 
 /// Takes the first group from the front.
-#[tactic(auto, using(std::proofs::lemmas::Grind::common_steps, crate::proofs::Runs::runs_first))]
+#[tactic(auto, using(std::proofs::lemmas::Grind::common_steps, crate::proofs::GroupLemmas::runs_first))]
 pub(crate) fn take_group<'a, T, G: Grouping<T>>(
     left: &mut SliceRefsOrOwned<'a, T>,
 ) -> Option<SliceRefsOrOwned<'a, T>>

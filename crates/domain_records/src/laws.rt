@@ -1,8 +1,8 @@
 //! What holds of groups and of sorted records. A caller calls the law in its body.
 ghost use Rattle.std.specs.{Prelude.List, List.Sorted.IsStrictlySortedBy};
 ghost use Rattle.domain_record.specs.{declared.record.Record.Record, Record.record_cmp};
-ghost use Rattle.domain_records.specs.Groups.{same_owner, same_type, same_rrset};
-ghost use Rattle.domain_records.specs.{Order.{IsOneClass, IsInOrder}, Runs.{AreGroups, runs}};
+ghost use Rattle.domain_records.specs.Groups.{same_owner, same_type, same_rrset, AreGroups, runs};
+ghost use Rattle.domain_records.specs.Order.{IsOneClass, IsInOrder};
 
 use domain_base::{CanonicalOrd, ToName};
 use domain_record::RecordData;

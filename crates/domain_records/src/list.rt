@@ -2,7 +2,7 @@
 ghost use Rattle.std.specs.Prelude.{◌≡◌, ◌<◌, ◌++◌, List, IfOk, IfErr, OnOk, OnErr};
 ghost use Rattle.std.specs.Prelude.{vec_len, vec_capacity};
 ghost use Rattle.std.specs.{List.{AllZip, Sorted.IsStrictlySortedBy}, Iterator.IsFiniteIterable};
-ghost use Rattle.domain_records.specs.{Edits.{Gives, AddsIfAbsent}, SortedSet.{Holds, GoesTo}};
+ghost use Rattle.domain_records.specs.{Groups.{Gives, AddsIfAbsent}, Order.{Holds, GoesTo}};
 
 use domain_base::CanonicalOrd;
 use domain_octets::{OutOfMemory, TryClone};

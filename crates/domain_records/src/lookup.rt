@@ -2,8 +2,8 @@
 ghost use Rattle.std.specs.{Prelude.{◌≡◌, ◌≤◌, ◌↔◌, ◌==◌, nat_le, length, IsTrue}, Option.ForSome};
 ghost use Rattle.std.specs.List.Sorted.{IsStrictlySortedBy};
 ghost use Rattle.domain_record.specs.Record.{record_cmp};
-ghost use Rattle.domain_records.specs.Lookup.{matches, HasAt, IsFirstPlace, IsParted, is_before};
-ghost use Rattle.domain_records.specs.{Groups.same_rrset, Rrsets.{IsFound, group_at}};
+ghost use Rattle.domain_records.specs.Groups.{matches, HasAt, IsFirstPlace, IsParted, is_before, same_rrset};
+ghost use Rattle.domain_records.specs.Groups.{IsFound, group_at};
 
 use crate::error::SigningError;
 use crate::rrset::{Rrset, RrsetIter};
@@ -110,7 +110,7 @@ pub(crate) fn first_place<N: ToName, D: RecordData + CanonicalOrd>(
 }
 
 /// The place of the first record of this type.
-#[tactic(auto, using(std::proofs::lemmas::Grind::common_steps, crate::proofs::Firsts::first_by))]
+#[tactic(auto, using(std::proofs::lemmas::Grind::common_steps, crate::proofs::GroupLemmas::first_by))]
 pub(crate) fn first_of_type<N, D: RecordData>(
     records: &[Record<N, D>],
     rtype: Rtype,
@@ -122,7 +122,7 @@ pub(crate) fn first_of_type<N, D: RecordData>(
 }
 
 /// The records of one owner and one type that begin at a place.
-#[tactic(auto, using(crate::proofs::Runs::taken_group))]
+#[tactic(auto, using(crate::proofs::GroupLemmas::taken_group))]
 pub(crate) fn rrset_at<N: ToName, D: RecordData>(
     records: &[Record<N, D>],
     place: Option<usize>,

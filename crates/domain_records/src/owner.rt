@@ -2,9 +2,8 @@
 ghost use Rattle.std.specs.Prelude.{◌≡◌, ◌<◌, ◌↔◌, [], length, map, Any, IsTrue};
 ghost use Rattle.std.specs.Iterator.{item_count};
 ghost use Rattle.domain_names.specs.Name.{IsAtOrBelow};
-ghost use Rattle.domain_records.specs.{Slices.items_of, Runs.TakesRun};
+ghost use Rattle.domain_records.specs.Groups.{items_of, TakesRun, same_owner, HasFirst, SkipsTo, IsZoneCut};
 ghost use Rattle.domain_records.specs.Order.{IsOneClass, IsInOrder};
-ghost use Rattle.domain_records.specs.Groups.{same_owner, HasFirst, SkipsTo, IsZoneCut};
 
 use crate::group::{ByClass, ByOwner, InOrder, is_one_run, take_group};
 use crate::rrset::OwnerRrsIter;
@@ -23,7 +22,7 @@ pub struct OwnerRrs<'a, N: ToName, D> {
 impl<'a, N: ToName, D> Model for OwnerRrs<'a, N, D> {
     ghost use Rattle.std.specs.Prelude.{List};
     ghost use Rattle.domain_record.specs.declared.record.Record.{Record};
-    ghost use Rattle.domain_records.specs.{Slices.items_of, Groups.same_owner, Runs.IsRun};
+    ghost use Rattle.domain_records.specs.Groups.{items_of, same_owner, IsRun};
 
     ghost Value = { List (Record N D) };
 
@@ -111,7 +110,7 @@ pub struct RecordsIter<'a, N: ToName, D> {
 impl<'a, N: ToName, D> Model for RecordsIter<'a, N, D> {
     ghost use Rattle.std.specs.Prelude.{List};
     ghost use Rattle.domain_record.specs.declared.record.Record.{Record};
-    ghost use Rattle.domain_records.specs.Slices.{items_of};
+    ghost use Rattle.domain_records.specs.Groups.{items_of};
 
     ghost Value = { List (Record N D) };
 

@@ -1,7 +1,7 @@
 //! Records compared by owner, and by the rest.
 ghost use Rattle.std.specs.{Prelude.{◌≡◌, slice_index_or}, Ordering.is_eq};
 ghost use Rattle.domain_record.specs.Record.{record_cmp};
-ghost use Rattle.domain_records.specs.OwnerOrder.{owner_cmp, rest_cmp};
+ghost use Rattle.domain_records.specs.Order.{owner_cmp, rest_cmp};
 
 use domain_base::{CanonicalOrd, ToName};
 use domain_record::{Record, RecordData};

@@ -1,8 +1,7 @@
 //! Records of one owner and one type.
 ghost use Rattle.std.specs.Prelude.{◌≡◌, ◌<◌, IsTrue, IfOk, IfErr, ◌↔◌, length, map};
 ghost use Rattle.std.specs.Iterator.{item_count};
-ghost use Rattle.domain_records.specs.{Slices.items_of, Groups.HasFirst};
-ghost use Rattle.domain_records.specs.Rrsets.{HasOneTtl, IsRrset, IsNoRrset, TakesRrset};
+ghost use Rattle.domain_records.specs.Groups.{items_of, HasFirst, HasOneTtl, IsRrset, IsNoRrset, TakesRrset};
 
 use crate::error::SigningError;
 use crate::group::{ByRrset, ByTtl, ByType, Grouping, is_one_run, take_group};
@@ -23,7 +22,7 @@ pub struct Rrset<'a, N, D: RecordData> {
 impl<'a, N, D: RecordData> Model for Rrset<'a, N, D> {
     ghost use Rattle.std.specs.Prelude.{List};
     ghost use Rattle.domain_record.specs.declared.record.Record.{Record};
-    ghost use Rattle.domain_records.specs.{Slices.items_of, Rrsets.IsRrset};
+    ghost use Rattle.domain_records.specs.Groups.{items_of, IsRrset};
 
     ghost Value = { List (Record N D) };
 
@@ -167,7 +166,7 @@ pub type OwnerRrsIter<'a, N, D> = RrsetGroups<'a, N, D, ByType>;
 impl<'a, N, D: RecordData, G: Grouping<Record<N, D>>> Model for RrsetGroups<'a, N, D, G> {
     ghost use Rattle.std.specs.Prelude.{List};
     ghost use Rattle.domain_record.specs.declared.record.Record.{Record};
-    ghost use Rattle.domain_records.specs.Slices.{items_of};
+    ghost use Rattle.domain_records.specs.Groups.{items_of};
 
     ghost Value = { List (Record N D) };
 

@@ -1,7 +1,7 @@
 //! Slices of values, and of references to values.
 ghost use Rattle.std.specs.Prelude.{◌≡◌, ◌≤◌, ◌<◌, length, take, drop, slice_get, map};
 ghost use Rattle.std.specs.Iterator.{YieldsFirstRef, item_count};
-ghost use Rattle.domain_records.specs.{Edits.IsFirstMatch, Slices.items_of};
+ghost use Rattle.domain_records.specs.Groups.{IsFirstMatch, items_of};
 
 use std::fmt;
 use std::marker::Model;
@@ -133,7 +133,7 @@ pub struct SliceRefsOrOwnedIterator<'a, T> {
 
 impl<'a, T> Model for SliceRefsOrOwnedIterator<'a, T> {
     ghost use Rattle.std.specs.Prelude.{List};
-    ghost use Rattle.domain_records.specs.Slices.{items_of};
+    ghost use Rattle.domain_records.specs.Groups.{items_of};
 
     ghost Value = { List T };
 

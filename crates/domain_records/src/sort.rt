@@ -1,8 +1,7 @@
 //! Sorting, by owner first where that is right.
 ghost use Rattle.std.specs.Prelude.{◌≡◌, IsTrue, OnOk, OnErr};
 ghost use Rattle.domain_record.specs.Record.{record_cmp};
-ghost use Rattle.domain_records.specs.Places.{AreInOrder, compared_places};
-ghost use Rattle.domain_records.specs.SortedSet.{IsSortOf, IsUnion};
+ghost use Rattle.domain_records.specs.Order.{AreInOrder, compared_places, IsSortOf, IsUnion};
 
 use crate::arrange::{are_ranks, arrange, ranks_of};
 use crate::owner_order::{is_equal, item_at, neighbour_cmp};
@@ -14,7 +13,7 @@ use domain_record::{Record, RecordData};
 use std::cmp::Ordering;
 
 /// Compares the records at two places, and then the places.
-#[tactic(auto, unfolding(crate::specs::Places::compared_places))]
+#[tactic(auto, unfolding(crate::specs::Order::compared_places))]
 fn compare_places<N: ToName, D: RecordData + CanonicalOrd>(
     records: &[Record<N, D>],
     first: &Record<N, D>,

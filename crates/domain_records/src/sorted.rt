@@ -3,13 +3,12 @@ ghost use Rattle.std.specs.Prelude.{◌≡◌, ◌↔◌, ◌==◌, ◌++◌, �
 ghost use Rattle.std.specs.Prelude.{Option, IsTrue, IfOk, IfErr, OnOk, OnErr, IsErrOf};
 ghost use Rattle.std.specs.{List.{AllZip, list_any}, Fmt.WritesText, Slice.Iter.iter_rest};
 ghost use Rattle.std.specs.{Iterator.IsFiniteIterable, List.Sorted.IsStrictlySortedBy};
-ghost use Rattle.domain_records.specs.Edits.{Gives, refused, without_first, IsFirstMatch, Updates};
-ghost use Rattle.domain_records.specs.{Text.{texts, soa_first, WritesWithComments}, Lookup.matches};
-ghost use Rattle.domain_records.specs.{Rrsets.{IsFound, begins_with}, Groups.same_rrset, Runs.runs};
-ghost use Rattle.domain_records.specs.Order.{IsOneClass, IsInOrder};
-ghost use Rattle.domain_records.specs.SortedSet.{IsUnion, Adds, Holds};
+ghost use Rattle.domain_records.specs.Groups.{Gives, refused, without_first, IsFirstMatch, Updates, matches};
+ghost use Rattle.domain_records.specs.{Groups.{IsFound, begins_with, same_rrset, runs}, Text.texts};
+ghost use Rattle.domain_records.specs.{Text.{soa_first, WritesWithComments}, Order.{IsOneClass, IsInOrder}};
+ghost use Rattle.domain_records.specs.Order.{IsUnion, Adds, Holds};
 ghost use Rattle.domain_base.specs.Types.{soa};
-ghost use Rattle.domain_record.specs.{Record.record_cmp, RecordClone.IsRecordClone};
+ghost use Rattle.domain_record.specs.Record.{record_cmp, IsRecordClone};
 
 use crate::error::{InsertError, SigningError, SortError};
 use crate::list::{append, clone_all, insert_if_absent, search};
@@ -58,7 +57,7 @@ impl<N: ToName, D: RecordData + CanonicalOrd> SortedRecords<N, D> {
 
 impl<N: ToName, D: RecordData + CanonicalOrd, Sort: Sorter> SortedRecords<N, D, Sort> {
     /// No records. Takes no memory.
-    #[tactic(auto, using(crate::proofs::SortedLists::sorted_nil))]
+    #[tactic(auto, using(crate::proofs::OrderLemmas::sorted_nil))]
     pub fn new(alloc: Global) -> Self
         ensures { result ≡ [] }
     {
@@ -273,7 +272,7 @@ impl<N: ToName, D: RecordData + CanonicalOrd, Sort: Sorter> SortedRecords<N, D, 
     /// # Errors
     ///
     /// `MultipleTtlValues` where the TTLs of that group differ.
-    #[tactic(auto, using(crate::proofs::Runs::found_by))]
+    #[tactic(auto, using(crate::proofs::GroupLemmas::found_by))]
     pub fn find_soa(&self) -> Result<Option<Rrset<'_, N, D>>, SigningError>
         ensures { IsFound D.rtype
             (find (begins_with (λ r. D.rtype r.«data» == soa))

@@ -2,7 +2,7 @@
 ghost use Rattle.std.specs.Prelude.{◌≡◌, Bool, true, false, IsTrue, OnOk, OnErr};
 ghost use Rattle.std.specs.{declared.cmp.Ordering.Ordering, Cmp.IsTotalOrder};
 ghost use Rattle.std.specs.List.Sorted.{IsPermutation, IsSorted, IsStable};
-ghost use Rattle.domain_records.specs.SortedSet.{AnswersBy};
+ghost use Rattle.domain_records.specs.Order.{AnswersBy};
 
 use domain_octets::OutOfMemory;
 use std::cmp::Ordering;

@@ -1,5 +1,1 @@
-pub mod RefusalLemmas
-pub mod RrsigLemmas
-pub mod ScanLemmas
-pub mod TimeLemmas
-pub mod ReadBackLemmas
+pub mod DataLemmas

@@ -1,4 +1,1 @@
 pub mod Data
-pub mod Time
-pub mod Scan
-pub mod Pieces

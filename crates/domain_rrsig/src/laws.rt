@@ -1,11 +1,11 @@
 //! What holds of the octets and the texts of signatures (RFC 4034, section 3).
 //! A caller calls the law in its body.
 ghost use Rattle.std.specs.{Prelude.{◌<◌, ◌^◌, ℕ, Option}, Fmt.decimal};
-ghost use Rattle.domain_octets.specs.Line.{words_of};
-ghost use Rattle.domain_names.specs.{TextFault.IsOfTokens, Words.Tokens};
-ghost use Rattle.domain_fields.specs.{Layout.ParsesBack, Sequence.IsExactEntry};
-ghost use Rattle.domain_rrsig.specs.{Data.{rrsig, rrsig_values}, Pieces.rrsig_text};
-ghost use Rattle.domain_rrsig.specs.{Scan.{RrsigText, RefusesRrsig}, Time.{TimeText, TimeToken}};
+ghost use Rattle.domain_octets.specs.Text.{words_of};
+ghost use Rattle.domain_names.specs.{Text.IsOfTokens, Name.Tokens};
+ghost use Rattle.domain_fields.specs.{Layout.ParsesBack, Scan.IsExactEntry};
+ghost use Rattle.domain_rrsig.specs.Data.{rrsig, rrsig_values, rrsig_text, RrsigText, RefusesRrsig, TimeText};
+ghost use Rattle.domain_rrsig.specs.Data.{TimeToken};
 
 use crate::Rrsig;
 use domain_base::ToName;
@@ -13,7 +13,7 @@ use domain_octets::Octets;
 
 /// The octets of a signature's data are read as these fields, in no other way, and nothing is left.
 /// The signer's name comes back as it is spelled.
-#[tactic(auto, using(crate::proofs::RrsigLemmas::rrsig_back))]
+#[tactic(auto, using(crate::proofs::DataLemmas::rrsig_back))]
 pub fn rrsig_parses_back<O: Octets, N: ToName>(value: &Rrsig<O, N>)
     ensures { ParsesBack rrsig (rrsig_values value.now) }
 {
@@ -21,7 +21,7 @@ pub fn rrsig_parses_back<O: Octets, N: ToName>(value: &Rrsig<O, N>)
 }
 
 /// The words of what a signature's data are written as spell these data.
-#[tactic(auto, using(crate::proofs::ReadBackLemmas::rrsig_text_back))]
+#[tactic(auto, using(crate::proofs::DataLemmas::rrsig_text_back))]
 pub fn rrsig_reads_back<O: Octets, N: ToName>(value: &Rrsig<O, N>)
     ensures { RrsigText (words_of (rrsig_text value.now)) value.now }
 {

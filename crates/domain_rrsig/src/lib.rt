@@ -6,16 +6,13 @@
 //!
 //! The crates above may rely on this: data has at most 65,535 octets, by invariant, and is numbers,
 //! labels and octets in clauses, whatever holds them. Its octets, what reads them, its tokens and
-//! its pieces are grammars (`specs/Data.antt`, `Scan.antt`, `Pieces.antt`); both orders are the
-//! lexicographic one of the canonical octets, equality and `Hash` agree with them, and none takes
-//! memory.
+//! its pieces are grammars (`specs/Data.antt`); both orders are the lexicographic one of the
+//! canonical octets, equality and `Hash` agree with them, and none takes memory.
 #![tactic(auto)]
 
 pub mod laws;
 mod proto_rrsig;
 mod rrsig;
-mod rrsig_convert;
-mod rrsig_text;
 mod timestamp;
 
 pub use proto_rrsig::ProtoRrsig;

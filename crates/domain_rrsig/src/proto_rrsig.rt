@@ -1,6 +1,6 @@
 //! What is signed of a signature's data (RFC 4034, section 3.1.8.1).
 ghost use Rattle.std.specs.Prelude.{◌≡◌, ◌≤◌, ◌↔◌, ◌+◌, IsOk, IfOk, length};
-ghost use Rattle.domain_fields.specs.{Layout.{Fits, octets_of, canonical_of}, Target.Appends};
+ghost use Rattle.domain_fields.specs.Layout.{Fits, octets_of, canonical_of, Appends};
 ghost use Rattle.domain_rrsig.specs.Data.{proto_rrsig, proto_rrsig_values, proto_rrsig_data, rrsig_octets, rrsig_data, rrsig_numbers_values, of_numbers};
 
 use crate::rrsig::fits;

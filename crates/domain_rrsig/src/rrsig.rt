@@ -1,26 +1,41 @@
 //! Signatures (RFC 4034, section 3).
-ghost use Rattle.std.specs.Prelude.{◌≡◌, ◌≤◌, ◌↔◌, Some, IsTrue, IsOk, IfOk, length};
-ghost use Rattle.std.specs.{Prelude.{refl, bytes_eq}, List.flat_map, Ordering.{on, nat_cmp}};
-ghost use Rattle.std.specs.Cmp.{partial_equiv_from_equiv, po};
-ghost use Rattle.std.specs.Cmp.Lexicographic.{slice_cmp, on_texts, on_texts_equal};
+ghost use Rattle.std.specs.Prelude.{◌≡◌, ◌≤◌, ◌↔◌, Some, IsTrue, IsOk, IfOk, length, refl, bytes_eq, ◌⊎◌};
+ghost use Rattle.std.specs.{Prelude.IsNone, List.flat_map, Ordering.{on, nat_cmp}};
+ghost use Rattle.std.specs.Cmp.{partial_equiv_from_equiv, po, Lexicographic.{slice_cmp, on_texts}};
+ghost use Rattle.std.specs.Cmp.Lexicographic.{on_texts_equal};
+ghost use Rattle.domain_names.specs.{Wire.fault_of, Name.wire_of};
+ghost use Rattle.domain_fields.specs.Layout.{Begins, Fits, FirstFault, Reads, fed_alike, tied_octets};
+ghost use Rattle.domain_fields.specs.{Layout.copies_tied, Scan.AllTokens};
+ghost use Rattle.domain_rrsig.specs.Data.{rrsig, rrsig_values, rrsig_octets, rrsig_canonical, rrsig_data};
+ghost use Rattle.domain_rrsig.specs.Data.{proto_rrsig_data, IsSameRrsig, rrsig_numbers_values, rrsig_text};
+ghost use Rattle.domain_rrsig.specs.Data.{rrsig_pieces, rrsig_fields, rrsig_fields_text, RefusesRrsigFields};
+ghost use Rattle.domain_rrsig.specs.Data.{RrsigText, RefusesRrsig};
+ghost use Rattle.domain_octets.specs.Octets.{IsOver};
+ghost use Rattle.domain_base.specs.Scan.{ReadsTokens};
 ghost use Rattle.std.specs.Hash as fed;
-ghost use Rattle.domain_names.specs.Fault.{fault_of};
 ghost use Rattle.domain_base.specs.Types as rtypes;
-ghost use Rattle.domain_fields.specs.{Layout.{Begins, Fits, FirstFault, Reads}, Laws.fed_alike};
-ghost use Rattle.domain_fields.specs.{Laws.tied_octets, DataClone.copies_tied};
-ghost use Rattle.domain_rrsig.specs.Data.{rrsig, rrsig_values, rrsig_octets, rrsig_canonical, rrsig_data, proto_rrsig_data, IsSameRrsig, rrsig_numbers_values};
 
 use crate::proto_rrsig::ProtoFields;
 use crate::{ProtoRrsig, Timestamp};
-use domain_base::{CanonicalOrd, ParsedName, Rtype, SecurityAlgorithm, ToName, Ttl};
-use domain_fields::{AtMost, Fields, MAX_RDLEN, ReadFields, Rest};
+use domain_base::{
+    CanonicalOrd, FromToken, Name, ParsedName, Rtype, ScanError, Scanner, SecurityAlgorithm,
+    ToName, Ttl,
+};
+use domain_codecs::Codec;
+use domain_fields::{
+    AtMost, Block, Comment, Fields, InBase64, MAX_RDLEN, Pieces, ReadFields, Rest, ScanFields,
+    Scanned, Token,
+};
 use domain_octets::{
-    AppendError, Octets, OctetsBuilder, OutOfMemory, ParseError, Parser, TryClone, laws,
+    AppendError, CopyOctets, FlattenInto, Formatter, FromBuilder, Octets, OctetsBuilder,
+    OctetsFrom, OutOfMemory, ParseError, Parser, TryClone, ZonefileFmt, laws,
 };
 use domain_record::{
-    CloneRecordData, ComposeRecordData, LongRecordData, ParseRecordData, RecordData,
+    CloneRecordData, ComposeRecordData, LongRecordData, ParseRecordData, RecordData, both,
 };
+use std::alloc::Global;
 use std::cmp::Ordering;
+use std::fmt;
 use std::hash::{Hash, Hasher};
 use std::marker::Model;
 
@@ -412,4 +427,190 @@ impl<O: Octets + Drop, N: ToName + Drop> CloneRecordData for Rrsig<O, N> {
     ghost clone_rtype = { λ d copy same. refl };
 
     ghost clone_canonical = { copies_tied rrsig_canonical };
+}
+
+impl<N: ToName + Drop, O: CopyOctets> OctetsFrom<ProtoRrsig<N>> for ProtoRrsig<Name<O>> {
+    ghost is_same = { λ source made. made ≡ source };
+
+    ghost has_no_room = { λ source. IsOver O.capacity (length (wire_of source.signer_name)) };
+
+    ghost takes_memory = { IsNone O.capacity };
+
+    fn try_octets_from(alloc: Global, source: ProtoRrsig<N>) -> Result<Self, AppendError> {
+        let numbers = source.numbers();
+        let name = Name::<O>::try_octets_from(alloc, source.signer_name)?;
+        Ok(ProtoRrsig::of_parts(numbers, name))
+    }
+}
+
+impl<N: ToName, T: OctetsFrom<ProtoRrsig<N>>> FlattenInto<T> for ProtoRrsig<N> {
+    ghost is_same = { λ source made. T.OctetsFrom.is_same source made };
+
+    ghost has_no_room = { λ source. T.OctetsFrom.has_no_room source };
+
+    ghost takes_memory = { T.OctetsFrom.takes_memory };
+
+    fn try_flatten_into(self, alloc: Global) -> Result<T, AppendError> {
+        T::try_octets_from(alloc, self)
+    }
+}
+
+impl<S: Octets + Drop, N: ToName + Drop, O: CopyOctets + Drop> OctetsFrom<Rrsig<S, N>>
+    for Rrsig<O, Name<O>> {
+    ghost is_same = { λ source made. made ≡ source };
+
+    ghost has_no_room = { λ source. IsOver O.capacity (length (wire_of source.fields.signer_name))
+        ⊎ IsOver O.capacity (length source.signature) };
+
+    ghost takes_memory = { IsNone O.capacity };
+
+    fn try_octets_from(alloc: Global, source: Rrsig<S, N>) -> Result<Self, AppendError> {
+        let Rrsig { fields, signature } = source;
+        let fields = ProtoRrsig::<Name<O>>::try_octets_from(alloc, fields);
+        let signature = O::copy_octets(alloc, signature.as_slice());
+        let (fields, signature) = both(fields, signature)?;
+        Ok(Rrsig { fields, signature })
+    }
+}
+
+impl<O: Octets, N: ToName, T: OctetsFrom<Rrsig<O, N>>> FlattenInto<T> for Rrsig<O, N> {
+    ghost is_same = { λ source made. T.OctetsFrom.is_same source made };
+
+    ghost has_no_room = { λ source. T.OctetsFrom.has_no_room source };
+
+    ghost takes_memory = { T.OctetsFrom.takes_memory };
+
+    fn try_flatten_into(self, alloc: Global) -> Result<T, AppendError> {
+        T::try_octets_from(alloc, self)
+    }
+}
+
+/// All fields but the signature, one token each.
+fn scan_fields<S: Scanner>(alloc: Global, scanner: &mut S) -> Result<ProtoRrsig<S::Name>, ScanError>
+    ensures { ReadsTokens rrsig_fields_text rrsig_fields
+        (RefusesRrsigFields S.Octets.Builder.limit) (S.tokens scanner.old) (S.tokens scanner.new)
+        result }
+{
+    let type_covered = match Rtype::scan(scanner) {
+        Ok(type_covered) => type_covered,
+        Err(error) => return Err(error),
+    };
+    let (algorithm, (labels, original_ttl)) = <(u8, (u8, u32)) as ScanFields<S>>::scan(
+        alloc, scanner,
+    )?;
+    let expiration = match Timestamp::scan(scanner) {
+        Ok(expiration) => expiration,
+        Err(error) => return Err(error),
+    };
+    let inception = match Timestamp::scan(scanner) {
+        Ok(inception) => inception,
+        Err(error) => return Err(error),
+    };
+    let (key_tag, Scanned(signer_name)) = <(u16, Scanned<S::Name>) as ScanFields<S>>::scan(
+        alloc, scanner,
+    )?;
+    Ok(ProtoRrsig::new(
+        type_covered,
+        SecurityAlgorithm::from_int(algorithm),
+        labels,
+        Ttl::from_secs(original_ttl),
+        expiration,
+        inception,
+        key_tag,
+        signer_name,
+    ))
+}
+
+impl<O: FromBuilder + Drop, N: ToName + Drop> Rrsig<O, N> {
+    /// The data that all tokens left spell: the type covered by its name, algorithm, labels and TTL
+    /// in decimal, expiration and inception, the key tag in decimal, the signer's name, and the
+    /// signature in Base 64, in as many tokens as one likes, or in none.
+    ///
+    /// # Errors
+    ///
+    /// That of the first field that is refused, then that of the codec, then
+    /// `Custom("record data too long")` for data of over 65,535 octets. The tokens left are then an
+    /// end of those before.
+    pub fn scan<S: Scanner<Octets = O, Name = N>>(
+        alloc: Global,
+        scanner: &mut S,
+    ) -> Result<Self, ScanError>
+        ensures { ReadsTokens (AllTokens RrsigText) (λ d. d) (RefusesRrsig O.Builder.limit)
+            (S.tokens scanner.old) (S.tokens scanner.new) result }
+    {
+        let fields = scan_fields(alloc, scanner)?;
+        let signature = scanner.convert_entry(alloc, Codec::Base64)?;
+        match fields.into_rrsig(signature) {
+            Ok(data) => Ok(data),
+            Err(_) => Err(ScanError::Custom("record data too long")),
+        }
+    }
+}
+
+/// The fields with single spaces, the TTL in seconds, the signer's name with its last dot, and the
+/// signature in Base 64; the last space stays where the signature is empty.
+impl<O: Octets, N: ToName> fmt::Display for Rrsig<O, N> {
+    ghost output = { λ d. Some (rrsig_text d) };
+
+    fn fmt<W: fmt::Write>(&self, f: &mut fmt::Formatter<W>) -> fmt::Result {
+        write!(
+            f,
+            "{} {} {} {} {} {} {} {} {}",
+            self.type_covered(),
+            self.algorithm(),
+            self.labels(),
+            self.original_ttl(),
+            self.expiration(),
+            self.inception(),
+            self.key_tag(),
+            self.signer_name().fmt_with_dot(),
+            InBase64(self.signature().as_slice())
+        )
+    }
+}
+
+impl<O: Octets, N: ToName + fmt::Debug> fmt::Debug for Rrsig<O, N> {
+    fn fmt<W: fmt::Write>(&self, f: &mut fmt::Formatter<W>) -> fmt::Result {
+        f.debug_struct("Rrsig")
+            .field("type_covered", &self.type_covered())
+            .field("algorithm", &self.algorithm())
+            .field("labels", &self.labels())
+            .field("original_ttl", &self.original_ttl())
+            .field("expiration", &self.expiration())
+            .field("inception", &self.inception())
+            .field("key_tag", &self.key_tag())
+            .field("signer_name", self.signer_name())
+            .field("signature", &self.signature().as_slice())
+            .finish()
+    }
+}
+
+/// The fields, with comments that name all but the type covered, the algorithm and the signature.
+impl<O: Octets, N: ToName> ZonefileFmt for Rrsig<O, N> {
+    ghost pieces = { rrsig_pieces };
+
+    fn fmt<F: Formatter>(&self, formatter: &mut F) -> Result<(), OutOfMemory> {
+        let (labels, original_ttl) = (self.labels(), self.original_ttl().as_secs());
+        let (expiration, inception) = (self.expiration(), self.inception());
+        let numbers = (
+            (Token(self.type_covered()), Token(self.algorithm())),
+            (
+                (Token(labels), Comment("labels")),
+                (Token(original_ttl), Comment("original ttl")),
+            ),
+        );
+        let times = (
+            (Token(expiration), Comment("expiration")),
+            (Token(inception), Comment("inception")),
+        );
+        let signer = (
+            (Token(self.key_tag()), Comment("key tag")),
+            (
+                Token(self.signer_name().fmt_with_dot()),
+                Comment("signer name"),
+            ),
+        );
+        let signature = Token(InBase64(self.signature().as_slice()));
+        Block((numbers, (times, (signer, signature)))).write(formatter)
+    }
 }

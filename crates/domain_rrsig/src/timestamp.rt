@@ -3,9 +3,9 @@ ghost use Rattle.std.specs.Prelude.{◌≡◌, ◌≤◌, ◌<◌, ◌+◌, ◌^
 ghost use Rattle.std.specs.Prelude.{Some, IfSome, IsNone, IsErr, IfOk, IfErr, OnOk, OnErr, IsErrOf};
 ghost use Rattle.std.specs.{Fmt.decimal, Int.{w32, to_be_bytes}, Ordering.nat_cmp};
 ghost use Rattle.std.specs.Cmp.{nat_cmp_total};
-ghost use Rattle.domain_octets.specs.{Limit.IsOver, Piece.token, Place.Takes};
-ghost use Rattle.domain_base.specs.{Scan.{OneToken, ReadsTokens, RefusesToken}, Serial.serial_cmp};
-ghost use Rattle.domain_rrsig.specs.Time.{IsNear, TimeAt, TimeToken, IsNoTime, ReadsTime};
+ghost use Rattle.domain_octets.specs.{Octets.{IsOver, Takes}, Text.token};
+ghost use Rattle.domain_base.specs.{Scan.{OneToken, ReadsTokens, RefusesToken}, Numbers.serial_cmp};
+ghost use Rattle.domain_rrsig.specs.Data.{IsNear, TimeAt, TimeToken, IsNoTime, ReadsTime};
 
 use domain_base::{CanonicalOrd, FromToken, ParseError, ScanError, Scanner, Serial};
 use domain_octets::{AppendError, Formatter, OctetsBuilder, OutOfMemory, Parser, ZonefileFmt};
@@ -98,7 +98,7 @@ impl Timestamp {
     /// The time that is meant, in seconds since the start of 1970, where one asks at the reference:
     /// the one in the 2^31 seconds before it or the 2^31 - 1 after it. Where that would be before
     /// 1970 it is the number of the stamp itself. None where the time is not below 2^64.
-    #[tactic(auto, using(std::proofs::lemmas::Grind::common_steps, crate::proofs::TimeLemmas::after))]
+    #[tactic(auto, using(std::proofs::lemmas::Grind::common_steps, crate::proofs::DataLemmas::after))]
     pub fn to_system_time(self, reference: u64) -> Option<u64>
         ensures time { IfSome result (TimeAt self reference) }
         ensures none { IsNone result ↔ ((time : ℕ) × IsNear self reference time × (2 ^ 64 ≤ time)) }

@@ -1,7 +1,7 @@
 -- The hash of a name by SHA-1 (RFC 5155, section 5).
 use Rattle.std.specs.Prelude.{ℕ, zero, suc, ◌++◌, ◌==◌, if◌then◌else◌, Result, Ok, Err}
 use Rattle.sha1.specs.Sha1.{sha1}
-use Rattle.domain_octets.specs.Words.{Octets}
+use Rattle.domain_octets.specs.Octets.{Octets}
 
 -- the digest of the octets and the salt joined, and so many times the digest of the digest before
 -- and the salt joined

@@ -1,15 +1,4 @@
 pub mod PairLemmas
-pub mod FindLemmas
 pub mod NameLemmas
-pub mod ZoneLemmas
 pub mod WalkLemmas
-pub mod OwnerLemmas
-pub mod SoaLemmas
-pub mod TtlLemmas
-pub mod GroupLemmas
-pub mod TypeLemmas
-pub mod LeftLemmas
-pub mod PlaceLemmas
-pub mod SharedLemmas
 pub mod GivenLemmas
-pub mod ListedLemmas

@@ -1,16 +1,262 @@
--- What the walk knows before each group, and one step of it.
-use Rattle.std.proofs.Common.{◌≡◌, Bool, true, false, cond, not, ◌&&◌, ◌||◌, List, [], ◌∷◌, ◌++◌, map, refl, sym, ap, ◌∙◌, subst, inl, inr, Option, Some}
-use Rattle.std.proofs.{Common.{None, append_assoc, arith}, lemmas.{List.append-nil, Bool.{cases_Bool, false≢true, true≢false, and_right, or_parts}}}
-use Rattle.std.proofs.lemmas.{List.{Elements.filter-append, Folds.list_any-append}, Grind.common_steps}
-use Rattle.std.specs.{Prelude.filter, List.{AllByRecursion, list_any}}
+-- The walk over the records of a zone: what it knows before each group, and the owners it gives.
+use Rattle.std.proofs.Common.{◌≡◌, Bool, true, false, cond, not, ◌&&◌, ◌||◌, List, [], ◌∷◌, ◌++◌, map, refl, sym, ap, ◌∙◌, arith, ℕ, inl, inr, subst, Option}
+use Rattle.std.proofs.{Common.{Some, None, append_assoc, ◌↔◌, IsTrue, nat_eq}, lemmas.List.{append-nil, map-append, Elements.filter-append}}
+use Rattle.std.{proofs.lemmas.{Grind.common_steps, Bool.{cases_Bool, false≢true, true≢false}}, specs.{Prelude.filter, List.{AllByRecursion, list_any}}}
+use Rattle.std.proofs.lemmas.{Bool.{and_parts, or_cases, or_right, and_from, not-true, and_right, or_parts, eqb-true}, List.Folds.list_any-append}
+use Rattle.std.{proofs.lemmas.List.Folds.{Any-from_list_any, list_any-from_Any}, specs.declared.cmp.Ordering.{Ordering, TheVariants.{Less, Equal, Greater}}}
+use Rattle.std.specs.{Ordering.{is_lt, is_gt, ordering_reverse}, Bool.then_some, Borrow.Bor, Option.option_map}
 use Rattle.domain_octets.proofs.StdLemmas.{and_true, or_false}
-use Rattle.domain_names.specs.{Name.{is_at_or_below, is_strictly_below, lowered, same_name}, Order.before, Words.Name}
+use Rattle.domain_names.specs.Name.{is_at_or_below, is_strictly_below, lowered, same_name, IsSame, before, canonical_cmp, canonical_cmp_total, Name}
+use Rattle.domain_names.specs.Laws.{same_name_same}
+use Rattle.domain_zone.specs.Zone.{ZoneRecord, records_of, distinct, OwnersNeverDescend, owns, has_type, occludes, is_occluded, is_unoccluded}
+use Rattle.domain_zone.specs.Zone.{unoccluded_owners, is_zone_cut, owner_at, OwnerRecords, covered_owners, stays, is_cut_group, is_passed_over, is_under}
+use Rattle.domain_zone.{specs.Zone.{occluder_from, left_owners, as_zone_record}, proofs.NameLemmas.{before_order, one_lowered, same_itself, same_is}}
+use Rattle.domain_zone.proofs.NameLemmas.{below_from, below_itself, lowered_below, same_lowered, before_left, below_trans, below_between, either_way}
+use Rattle.domain_zone.proofs.PairLemmas.{IsAscending, In}
 use Rattle.domain_base.specs.Types.{ns, dname}
-use Rattle.domain_zone.specs.{Owners.owner_at, Walk.{is_cut_group, is_passed_over, is_under, occluder_from}, Zone.{is_zone_cut, ZoneRecord, OwnersNeverDescend}}
-use Rattle.domain_zone.{specs.Zone.{records_of, has_type, occludes, is_occluded, is_unoccluded, distinct}, proofs.NameLemmas.{before_left, before_order}}
-use Rattle.domain_zone.proofs.{NameLemmas.{one_lowered, below_itself, below_trans, below_from, below_between}, OwnerLemmas.occluder_below, ZoneLemmas.weaker}
-use Rattle.domain_zone.proofs.ZoneLemmas.{all_both, all_front, all_map, any_none, BeginsElsewhere, IsGroup, AreAt, AllBefore, AllAfter, records_at}
-use Rattle.domain_zone.proofs.ZoneLemmas.{distinct_more, after_or, not_strictly, strictly_after}
+use Rattle.domain_record.specs.declared.record.Record.{Record}
+use Rattle.domain_records.{specs.{Groups.{runs, same_owner, HasFirst, IsZoneCut}, Order.{MayFollow, IsInOrder}}, proofs.GroupLemmas.begins}
+
+-- ---- One step of the walk: the records of one name come after those passed, and before the rest.
+
+module _ {X : Type 0} where
+  pub filter_none : (p : X → Bool) (xs : List X) → AllByRecursion (λ x. p x ≡ false) xs → filter p xs ≡ []
+  filter_none p [] h = refl
+  filter_none p (x ∷ xs) h = (λ i. cond (h.0 i) (x ∷ filter p xs) (filter p xs)) ∙ filter_none p xs h.1
+
+  pub filter_whole : (p : X → Bool) (xs : List X) → AllByRecursion (λ x. p x ≡ true) xs → filter p xs ≡ xs
+  filter_whole p [] h = refl
+  filter_whole p (x ∷ xs) h = (λ i. cond (h.0 i) (x ∷ filter p xs) (filter p xs)) ∙ ap (λ ys. x ∷ ys) (filter_whole p xs h.1)
+
+  pub any_none : (p : X → Bool) (xs : List X) → AllByRecursion (λ x. p x ≡ false) xs → list_any p xs ≡ false
+  any_none p [] h = refl
+  any_none p (x ∷ xs) h = (λ i. h.0 i || list_any p xs) ∙ any_none p xs h.1
+
+  pub weaker : (P Q : X → Type 0) → ((x : X) → P x → Q x) → (xs : List X) → AllByRecursion P xs → AllByRecursion Q xs
+  weaker P Q f [] h = tt
+  weaker P Q f (x ∷ xs) h = (f x h.0, weaker P Q f xs h.1)
+
+  pub all_both : (P : X → Type 0) (xs ys : List X) → AllByRecursion P xs → AllByRecursion P ys → AllByRecursion P (xs ++ ys)
+  all_both P [] ys h k = k
+  all_both P (x ∷ xs) ys h k = (h.0, all_both P xs ys h.1 k)
+
+  pub all_front : (P : X → Type 0) (xs ys : List X) → AllByRecursion P (xs ++ ys) → AllByRecursion P xs × AllByRecursion P ys
+  all_front P [] ys h = (tt, h)
+  all_front P (x ∷ xs) ys h = let k = all_front P xs ys h.1 in ((h.0, k.0), k.1)
+
+  pub all_filter : (P : X → Type 0) (p : X → Bool) (xs : List X) → AllByRecursion P xs → AllByRecursion P (filter p xs)
+  all_filter P p [] h = tt
+  all_filter P p (x ∷ xs) h = grind (arith, common_steps, (all_filter P p xs h.1))
+
+pub all_map : {X Y : Type 0} (P : Y → Type 0) (f : X → Y) (xs : List X) → AllByRecursion (λ x. P (f x)) xs → AllByRecursion P (map f xs)
+all_map P f [] h = tt
+all_map P f (x ∷ xs) h = (h.0, all_map P f xs h.1)
+
+pub any_map : {X Y : Type 0} (p : Y → Bool) (f : X → Y) (xs : List X) → list_any p (map f xs) ≡ list_any (λ x. p (f x)) xs
+any_map p f [] = refl
+any_map p f (x ∷ xs) = ap (λ b. p (f x) || b) (any_map p f xs)
+
+-- ---- names apart
+
+pub apart_left : (x y : Name) → before x y ≡ true → same_name x y ≡ false
+apart_left x y e = same_is x y ∙ (λ i. not (e i || before y x))
+
+pub apart_right : (x y : Name) → before x y ≡ true → same_name y x ≡ false
+apart_right x y e = same_is y x ∙ (λ i. not (before_order.one_way x y e i || e i))
+
+pub same_back : (x y : Name) → same_name x y ≡ true → same_name y x ≡ true
+same_back x y e = same_itself y x (sym (one_lowered x y e))
+
+-- one of two that aren't the same is before the other
+pub after_or : (x y : Name) → before y x ≡ false → same_name y x ≡ false → before x y ≡ true
+after_or x y e f = grind (arith, common_steps, same_is)
+
+-- nothing is strictly below a name that isn't before it
+pub not_strictly : (y r : Name) → before r y ≡ false → is_strictly_below y r ≡ false
+not_strictly y r e = grind (arith, common_steps, same_is, below_from)
+
+-- after a name, at or below it is strictly below it
+pub strictly_after : (y c : Name) → before c y ≡ true → is_strictly_below y c ≡ is_at_or_below y c
+strictly_after y c e = (λ i. is_at_or_below y c && not (apart_right c y e i)) ∙ and_true (is_at_or_below y c)
+
+-- ---- groups
+
+-- the first of these isn't at this name
+abbrev pub BeginsElsewhere : Name → List ZoneRecord → Type 0
+BeginsElsewhere n [] = Unit {0}
+BeginsElsewhere n (r ∷ rs) = same_name r.owner n ≡ false
+
+-- the first ones are the records of one name
+abbrev pub IsGroup : List ZoneRecord → List ZoneRecord → Type 0
+IsGroup [] after = ⊥
+IsGroup (g ∷ gs) after = AllByRecursion (λ r. same_name r.owner g.owner ≡ true) gs × BeginsElsewhere g.owner after
+
+-- G, of which g is the first, are the records of one name at the front of rest, and R is what follows
+pub record IsFront (rest : List ZoneRecord) (g : ZoneRecord) (G R : List ZoneRecord) : Type 0 where
+  pub gs : List ZoneRecord
+  pub are : G ≡ g ∷ gs
+  pub split : rest ≡ (g ∷ gs) ++ R
+  pub group : IsGroup (g ∷ gs) R
+
+-- r's owner is n, but for the case of letters
+abbrev pub AreAt : Name → List ZoneRecord → Type 0
+AreAt n rs = AllByRecursion (λ r. lowered r.owner ≡ lowered n) rs
+
+abbrev pub AllBefore : List ZoneRecord → Name → Type 0
+AllBefore rs y = AllByRecursion (λ r. before r.owner y ≡ true) rs
+
+abbrev pub AllAfter : List ZoneRecord → Name → Type 0
+AllAfter rs y = AllByRecursion (λ r. before y r.owner ≡ true) rs
+
+pub records_at : (n : Name) (passed group rest : List ZoneRecord) → AllBefore passed n → AreAt n group → AllAfter rest n
+    → records_of (passed ++ (group ++ rest)) n ≡ group
+records_at n passed group rest p g r =
+    filter-append at' passed (group ++ rest)
+    ∙ (λ i. filter_none at' passed (weaker (λ r. before r.owner n ≡ true) (λ r. at' r ≡ false)
+    (λ r h. apart_left r.owner n h) passed p) i ++ filter-append at' group rest i)
+    ∙ (λ i. filter_whole at' group (weaker (λ r. lowered r.owner ≡ lowered n) (λ r. at' r ≡ true) (λ r h. same_itself r.owner n h) group g) i
+    ++ filter_none at' rest (weaker (λ r. before n r.owner ≡ true) (λ r. at' r ≡ false) (λ r h. apart_right n r.owner h) rest r) i)
+    ∙ append-nil group
+  where
+    at' : ZoneRecord → Bool
+    at' r = same_name r.owner n
+
+-- ---- distinct names
+
+pub all_distinct : (P : Name → Type 0) (xs : List Name) → AllByRecursion P xs → AllByRecursion P (distinct xs)
+all_distinct P [] h = tt
+all_distinct P (x ∷ xs) h = (h.0, all_filter P (λ y. not (same_name x y)) (distinct xs) (all_distinct P xs h.1))
+
+distinct_one : (n : Name) (ys : List Name) → AllByRecursion (λ y. lowered y ≡ lowered n) ys → distinct (n ∷ ys) ≡ n ∷ []
+distinct_one n ys h = ap (λ zs. n ∷ zs) (filter_none _ _ (all_distinct _ ys (weaker _ _ (λ y e. ap not (same_itself n y (sym e))) ys h)))
+
+-- names that are one, after others
+pub distinct_more : (xs : List Name) (n : Name) (ys : List Name) → AllByRecursion (λ x. before x n ≡ true) xs
+    → AllByRecursion (λ y. lowered y ≡ lowered n) ys → distinct (xs ++ n ∷ ys) ≡ distinct xs ++ n ∷ []
+distinct_more [] n ys h k = distinct_one n ys k
+distinct_more (x ∷ xs) n ys h k = grind (arith, common_steps, apart_left, (distinct_more xs n ys h.1 k))
+
+-- ---- The unoccluded owners of a list in order: they ascend, begin with the apex, and are the names that own records and are not occluded.
+
+module _ {X : Type 0} where
+  pub any_weaker : (p q : X → Bool) → ((x : X) → p x ≡ true → q x ≡ true) → (xs : List X) → list_any p xs ≡ true → list_any q xs ≡ true
+  any_weaker p q f [] h = absurd (false≢true h)
+  any_weaker p q f (x ∷ xs) h = grind (arith, common_steps, (any_weaker p q f xs))
+
+  pub any_filter : (p q : X → Bool) (xs : List X) → list_any p (filter q xs) ≡ list_any (λ x. q x && p x) xs
+  any_filter p q [] = refl
+  any_filter p q (x ∷ xs) = grind (arith, common_steps, (any_filter p q xs))
+
+  pub any_in : (p : X → Bool) (xs : List X) → list_any p xs ≡ true → (x : X) × In x xs × (p x ≡ true)
+  any_in p [] h = absurd (false≢true h)
+  any_in p (x ∷ xs) h =
+      elim (or_cases _ _ h) [
+        | inl e ↦ (x, inl refl, e)
+        | inr e ↦ let r = any_in p xs e in (r.0, inr r.1, r.2)
+      ]
+
+  pub in_any : (p : X → Bool) (xs : List X) (x : X) → In x xs → p x ≡ true → list_any p xs ≡ true
+  in_any p [] x i e = absurd i
+  in_any p (y ∷ xs) x (inl f) e = λ j. (ap p f ∙ e) j || list_any p xs
+  in_any p (y ∷ xs) x (inr i) e = or_right (p y) (list_any p xs) (in_any p xs x i e)
+
+  -- what passes a test twice over a list does so over one that has all of its elements
+  pub any_two : (c : X → X → Bool) (xs ys : List X) → ((x : X) → In x xs → In x ys) → list_any (λ x. list_any (c x) xs) xs ≡ true
+      → list_any (λ x. list_any (c x) ys) ys ≡ true
+  any_two c xs ys f h = grind (arith, common_steps, any_in, in_any)
+
+  -- what passes a filter
+  pub filter_passes : (P Q : X → Type 0) (q : X → Bool) → ((x : X) → P x → q x ≡ true → Q x) → (xs : List X) → AllByRecursion P xs
+      → AllByRecursion Q (filter q xs)
+  filter_passes P Q q f [] h = tt
+  filter_passes P Q q f (x ∷ xs) h = grind (arith, common_steps, (filter_passes P Q q f xs h.1))
+
+  pub ascending_filter : (lt : X → X → Bool) (q : X → Bool) (xs : List X) → IsAscending lt xs → IsAscending lt (filter q xs)
+  ascending_filter lt q [] h = tt
+  ascending_filter lt q (x ∷ xs) h = grind (arith, common_steps, all_filter, (ascending_filter lt q xs h.1))
+
+distinct_ascends : (L : List ZoneRecord) → OwnersNeverDescend L → IsAscending before (distinct (map (λ r. r.owner) L))
+distinct_ascends [] h = tt
+distinct_ascends (r ∷ rs) h =
+    let rest = distinct (map (λ s. s.owner) rs) in
+    let other : Name → Bool = λ y. not (same_name r.owner y) in (
+      filter_passes (λ n. before n r.owner ≡ false) (λ n. before r.owner n ≡ true) other
+          (λ n e f. after_or r.owner n e (not_same n r.owner (not-true (same_name r.owner n) f))) rest
+          (all_distinct (λ n. before n r.owner ≡ false) (map (λ s. s.owner) rs) (all_map _ _ rs h.0)),
+      ascending_filter before other rest (distinct_ascends rs h.1),
+    )
+  where
+    not_same : (x y : Name) → same_name y x ≡ false → same_name x y ≡ false
+    not_same x y e = elim (cases_Bool (same_name x y)) [ inl f ↦ absurd (true≢false (sym (same_back x y f) ∙ e)) | inr f ↦ f ]
+
+pub owners_ascend : (d : Bool) (L : List ZoneRecord) (a : Name) → OwnersNeverDescend L → IsAscending before (unoccluded_owners d L a)
+owners_ascend d L a h = ascending_filter before (is_unoccluded d L a) (distinct (map (λ r. r.owner) L)) (distinct_ascends L h)
+
+any_distinct : (s : Name → Bool) (xs : List Name) → list_any (λ x. s (lowered x)) xs ≡ true → list_any (λ x. s (lowered x)) (distinct xs) ≡ true
+any_distinct s [] h = h
+any_distinct s (x ∷ xs) h = grind (arith, common_steps, any_filter, any_weaker, one_lowered, (any_distinct s xs))
+
+-- a name that owns records and is not occluded is among them, by any test of keys
+pub any_owner : (d : Bool) (L : List ZoneRecord) (a x : Name) (s : Name → Bool) → owns L x ≡ true → is_unoccluded d L a x ≡ true
+    → s (lowered x) ≡ true → list_any (λ m. s (lowered m)) (unoccluded_owners d L a) ≡ true
+any_owner d L a x s o k e =
+    let unoccluded_at : Name → Bool = λ m. (lowered_below m (lowered a)
+    && not (list_any (λ r. occludes d L a r.owner && (lowered_below m (lowered r.owner)
+    && not (same_lowered m (lowered r.owner)))) L)) && s m in
+    any_filter (λ m. s (lowered m)) (is_unoccluded d L a) (distinct (map (λ r. r.owner) L))
+    ∙ any_distinct unoccluded_at (map (λ r. r.owner) L) (any_map (λ m. unoccluded_at (lowered m)) (λ r. r.owner) L ∙ any_weaker _ _
+    (λ r h. ap unoccluded_at (one_lowered _ x h) ∙ and_from _ _ k e) L o)
+
+owns_itself : (L : List ZoneRecord) (K : List ZoneRecord) → ((r : ZoneRecord) → In r K → In r L) → AllByRecursion (λ n. owns L n ≡ true) (map (λ r. r.owner) K)
+owns_itself L [] f = tt
+owns_itself L (r ∷ K) f = (
+  in_any _ L r (f r (inl refl)) (same_itself r.owner r.owner refl),
+  owns_itself L K (λ s i. f s (inr i)),
+)
+
+-- each owner of the chain owns records, and is at or below the apex
+pub owners_are : (d : Bool) (L : List ZoneRecord) (a : Name)
+    → AllByRecursion (λ n. (owns L n ≡ true) × (is_unoccluded d L a n ≡ true)) (unoccluded_owners d L a)
+owners_are d L a = filter_passes _ _ _ (λ n o k. (o, k)) _ (all_distinct _ _ (owns_itself L L (λ r i. i)))
+
+-- what occludes is at or below the apex
+pub occluder_below : (d : Bool) (L : List ZoneRecord) (a n : Name) → occludes d L a n ≡ true → is_at_or_below n a ≡ true
+occluder_below d L a n h = grind (arith, common_steps)
+
+-- the apex is among them where it owns records
+pub apex_unoccluded : (d : Bool) (L : List ZoneRecord) (a : Name) → is_unoccluded d L a a ≡ true
+apex_unoccluded d L a = λ i. below_itself a i && not (any_none (λ r. occludes d L a r.owner && is_strictly_below a r.owner) L (none L) i)
+  where
+    apart : (r : ZoneRecord) → (occludes d L a r.owner && is_strictly_below a r.owner) ≡ false
+    apart r =
+        elim (cases_Bool (occludes d L a r.owner && is_strictly_below a r.owner)) [
+          | inl e ↦
+              let p = and_parts (occludes d L a r.owner) (is_strictly_below a r.owner) e in
+              absurd (true≢false (sym p.1 ∙ not_strictly a r.owner (below_from r.owner a (occluder_below d L a r.owner p.0))))
+          | inr e ↦ e
+        ]
+
+    none : (K : List ZoneRecord) → AllByRecursion (λ r. (occludes d L a r.owner && is_strictly_below a r.owner) ≡ false) K
+    none [] = tt
+    none (r ∷ K) = (apart r, none K)
+
+-- a name that owns a record of a type owns records
+pub typed_owns : (M : List ZoneRecord) (c : Name) (t : ℕ) → has_type (records_of M c) t ≡ true → owns M c ≡ true
+typed_owns [] c t h = h
+typed_owns (r ∷ M) c t h = grind (arith, common_steps, (typed_owns M c t))
+
+-- what occludes owns records
+pub occluder_owns : (d : Bool) (L : List ZoneRecord) (a c : Name) → occludes d L a c ≡ true → owns L c ≡ true
+occluder_owns d L a c h = grind (arith, common_steps, typed_owns)
+
+-- a name strictly below what occludes is occluded
+pub below_occluder : (d : Bool) (L : List ZoneRecord) (a c x : Name) → occludes d L a c ≡ true → is_strictly_below x c ≡ true → is_occluded d L a x ≡ true
+below_occluder d L a c x h s =
+    let q = any_in _ L (occluder_owns d L a c h) in
+    let same = one_lowered q.0.owner c q.2 in
+    in_any _ L q.0 q.1 (grind (arith, common_steps))
+
+-- ---- What the walk knows before each group, and one step of it.
 
 abbrev pub IsSince : Option Name → Name → Type 0
 IsSince None y = Unit {0}
@@ -202,3 +448,242 @@ module _ {d : Bool} {L : List ZoneRecord} {a : Name} {rest : List ZoneRecord} {c
         ((λ j. cond (cut_is j || (d && zone j && has_type (records j) dname)) (Some g.owner) None)
         ∙ (λ j. cond (is_cut_group a g.owner (g ∷ gs) || (and_true d j && has_type (g ∷ gs) dname)) (Some g.owner) None))
         (walk_onto i zone (or_parts (not (is_at_or_below g.owner a)) (is_under cut g.owner) given).1)
+
+-- ---- Groups of records, as the walk sees them.
+
+-- ---- runs
+
+module _ {X : Type 0} (alike : X → X → Bool) where
+  abbrev pub StartsApart : X → List X → Type 0
+  StartsApart x [] = Unit {0}
+  StartsApart x (y ∷ ys) = alike x y ≡ false
+
+  -- a first run has this element, others like it, and what follows begins with another
+  abbrev pub IsFirstRun : X → List X → List X → Type 0
+  IsFirstRun x [] t = ⊥
+  IsFirstRun x (y ∷ more) t = (x ≡ y) × AllByRecursion (λ z. alike x z ≡ true) more × StartsApart x t
+
+module _ {X : Type 0} (alike : X → X → Bool) (onward : (x y z : X) → alike x y ≡ true → alike x z ≡ alike y z) where
+  carried : (x y : X) (us : List X) → alike x y ≡ true → AllByRecursion (λ z. alike y z ≡ true) us → AllByRecursion (λ z. alike x z ≡ true) us
+  carried x y [] a all = tt
+  carried x y (u ∷ us) a all = (onward x y u a ∙ all.0, carried x y us a all.1)
+
+  apart_run : (x y : X) (us : List X) → alike x y ≡ true → StartsApart alike y us → StartsApart alike x us
+  apart_run x y [] a h = tt
+  apart_run x y (u ∷ us) a h = onward x y u a ∙ h
+
+  pub first_run : (x : X) (xs g t : List X) → x ∷ xs ≡ g ++ t → runs alike (x ∷ xs) ≡ g ∷ runs alike t → IsFirstRun alike x g t
+  unfolding runs
+  first_run x [] g t e f = grind (arith, common_steps)
+  first_run x (y ∷ ys) g t e f =
+      let b = begins alike y ys in
+      elim (cases_Bool (alike x y)) [
+        | inl a ↦ grind (arith, common_steps, a, (carried x y), (apart_run x y t a), (first_run y ys (y ∷ b.0) t))
+        | inr a ↦ grind (arith, common_steps, a)
+      ]
+
+-- ---- groups of one owner
+
+two : (n : ℕ) → n ≡ 2 → nat_eq n 2 ≡ true
+two n e = ap (λ m. nat_eq m 2) e
+
+module _ {N D : Type 0} (labels : N → Name) (rtype_of : D → ℕ) (minimum_of : D → Option ℕ) where
+  abbrev see : Record N D → ZoneRecord
+  see = as_zone_record labels rtype_of minimum_of
+
+  owner_key : (r s : Record N D) → same_owner labels r s ≡ true → lowered (labels r.owner) ≡ lowered (labels s.owner)
+  owner_key r s e = one_lowered (labels r.owner) (labels s.owner) e
+
+  owner_onward : (r s t : Record N D) → same_owner labels r s ≡ true → same_owner labels r t ≡ same_owner labels s t
+  owner_onward r s t e = grind (arith, common_steps, owner_key)
+
+  all_at : (r : Record N D) (more : List (Record N D)) → AllByRecursion (λ s. same_owner labels r s ≡ true) more
+      → AllByRecursion (λ s. same_name s.owner (labels r.owner) ≡ true) (map see more)
+  all_at r more h = all_map _ see more (weaker _ _ (λ s e. same_itself (labels s.owner) (labels r.owner) (sym (owner_key r s e))) more h)
+
+  elsewhere : (r : Record N D) (t : List (Record N D)) → StartsApart (same_owner labels) r t → BeginsElsewhere (labels r.owner) (map see t)
+  elsewhere r [] h = tt
+  elsewhere r (s ∷ t) h = grind (arith, common_steps, one_lowered)
+
+  -- what the iterator over groups hands out
+  pub front_group : (rest group after : List (Record N D)) → rest ≡ group ++ after
+      → runs (same_owner labels) rest ≡ group ∷ runs (same_owner labels) after → (owner : N)
+      → HasFirst (λ r. r.owner ≡ owner) group
+      → (g : ZoneRecord) × IsFront (map see rest) g (map see group) (map see after) × (g.owner ≡ labels owner)
+  front_group [] [] after e f owner h = absurd h
+  front_group [] (g ∷ group) after e f owner h = cc
+  front_group (r ∷ rest) [] after e f owner h = absurd h
+  front_group (r ∷ rest) (g ∷ group) after e f owner h =
+      let run = first_run (same_owner labels) owner_onward r rest (g ∷ group) after e f in (
+        see g,
+        record {
+          gs = map see group;
+          are = refl;
+          split = ap (map see) e ∙ map-append see (g ∷ group) after;
+          group = subst (λ s. AllByRecursion (λ o. same_name o.owner (labels s.owner) ≡ true) (map see group)
+              × BeginsElsewhere (labels s.owner) (map see after)) run.0 (all_at r group run.1, elsewhere r after run.2);
+        },
+        ap labels h,
+      )
+
+  -- ---- order
+
+  not_before : (r s : Record N D) → MayFollow labels rtype_of r s → before (labels s.owner) (labels r.owner) ≡ false
+  not_before r s m =
+      ap is_lt (canonical_cmp_total.antisymm (labels s.owner) (labels r.owner)) ∙ turned (canonical_cmp (labels r.owner) (labels s.owner)) ∙ m.owner
+    where
+      turned : (o : Ordering) → is_lt (ordering_reverse o) ≡ is_gt o
+      turned Less = refl
+      turned Equal = refl
+      turned Greater = refl
+
+  pub owners_in_order : (rs : List (Record N D)) → IsInOrder labels rtype_of rs → OwnersNeverDescend (map see rs)
+  owners_in_order [] h = tt
+  owners_in_order (r ∷ rs) h = (all_map _ see rs (weaker _ _ (not_before r) rs h.0), owners_in_order rs h.1)
+
+  -- ---- zone cuts
+
+  pub cut_test : (b : Bool) (a : Name) (owner : N) (group : List (Record N D)) → HasFirst (λ r. r.owner ≡ owner) group
+      → (IsTrue b ↔ IsZoneCut labels rtype_of a group) → b ≡ (not (same_name (labels owner) a) && has_type (map see group) 2)
+  cut_test b a owner [] h f = absurd h
+  cut_test b a owner (g ∷ more) h f =
+      either_way b (not (same_name (labels owner) a) && has_type (map see (g ∷ more)) 2)
+      (λ e.
+      let cut = f.0 e in
+      let ns = cut.delegates in
+      let typed = types ∙ list_any-from_Any (λ r. nat_eq (rtype_of r.«data») 2) (g ∷ more) (ns.0, ns.1, ns.2, ns.3, two (rtype_of ns.1.«data») ns.4) in
+      (λ i. not (apart_run cut.below i) && typed i)) (λ e. f.1 (says e))
+    where
+      types : has_type (map see (g ∷ more)) 2 ≡ list_any (λ r. nat_eq (rtype_of r.«data») 2) (g ∷ more)
+      types = any_map (λ r. nat_eq r.rtype 2) see (g ∷ more)
+
+      apart_run : ¬ (IsSame (labels g.owner) a) → same_name (labels owner) a ≡ false
+      apart_run n = elim (cases_Bool (same_name (labels owner) a)) [
+        | inl e ↦ absurd (n ((same_name_same (labels g.owner) a).0 (ap (λ o. same_name (labels o) a) h ∙ e)))
+        | inr e ↦ e
+      ]
+
+      -- what the test says
+      says : (not (same_name (labels owner) a) && has_type (map see (g ∷ more)) 2) ≡ true → IsZoneCut labels rtype_of a (g ∷ more)
+      says e =
+          let p = and_parts (not (same_name (labels owner) a)) (has_type (map see (g ∷ more)) 2) e in
+          let found = Any-from_list_any (λ r. nat_eq (rtype_of r.«data») 2) (g ∷ more) (sym types ∙ p.1) in
+          record {
+            below = λ s. false≢true (sym (not-true (same_name (labels owner) a) p.0) ∙ ap (λ o. same_name (labels o) a) (sym h)
+                ∙ (same_name_same (labels g.owner) a).1 s);
+            delegates = (found.0, found.1, found.2, found.3, eqb-true (rtype_of found.1.«data») 2 found.4);
+          }
+
+-- ---- What an iterator over the owners that are not occluded has left to give.
+
+-- ---- one group
+
+module _ {N D : Type 0} (labels : N → Name) (rtype_of : D → ℕ) (minimum_of : D → Option ℕ) (d : Bool) (a : Name) (o : Option Name) where
+  abbrev seen : Record N D → ZoneRecord
+  seen = as_zone_record labels rtype_of minimum_of
+
+  -- the next owner, where tests tell whether it is a zone cut and whether it owns a DNAME record
+  pub left_given : (group : List (Record N D)) (owner : Bor N) (gs : List (List ZoneRecord)) → HasFirst (λ r. r.owner ≡ owner.now) group
+      → is_passed_over a o (labels owner.now) ≡ false → (cut owns : Bool) → cut ≡ is_cut_group a (labels owner.now) (map seen group)
+      → owns ≡ has_type (map seen group) dname → (next : Option (Bor N)) → next ≡ then_some (cut || (d && owns)) owner
+      → left_owners d a o (map seen group ∷ gs) ≡ record { name = labels owner.now; records = map seen group; is_zone_cut = cut }
+      ∷ left_owners d a (option_map (λ n. labels n.now) next) gs
+  left_given [] owner gs h e cut owns tested typed next is = absurd h
+  left_given (r ∷ rs) owner gs h e cut owns tested typed next is = grind (arith, common_steps)
+
+-- ---- runs, one after another
+
+module _ {X : Type 0} (alike : X → X → Bool) where
+  -- what follows the first run
+  pub runs_rest : (xs g : List X) (gs : List (List X)) → runs alike xs ≡ g ∷ gs → (t : List X) × (xs ≡ g ++ t) × (runs alike t ≡ gs)
+  unfolding runs
+  runs_rest [] g gs e = absurd (cc)
+  runs_rest (x ∷ xs) g gs e = grind (arith, common_steps, (runs_rest xs))
+
+  no_runs : (g : List X) (gs : List (List X)) → runs alike [] ≡ g ∷ gs → ⊥
+  unfolding runs
+  no_runs g gs e = cc
+
+  -- a list without runs is empty
+  pub runs_none : (xs : List X) → runs alike xs ≡ [] → xs ≡ []
+  unfolding runs
+  runs_none [] e = refl
+  runs_none (x ∷ xs) e = grind (arith, common_steps)
+
+  pub runs_first : (x : X) (xs g : List X) (gs : List (List X)) → runs alike (x ∷ xs) ≡ g ∷ gs → HasFirst (λ y. y ≡ x) g
+  unfolding runs
+  runs_first x xs g gs e = grind (arith, common_steps)
+
+-- ---- all groups
+
+module _ (d : Bool) (L : List ZoneRecord) (a : Name) where
+  -- one group more, where what is left after it is known
+  left_step : (rest G t : List ZoneRecord) (g : ZoneRecord) (gs : List (List ZoneRecord)) (o : Option Name) (ks : List Name)
+      → IsWalked d L a rest o ks → IsFront rest g G t
+      → ((o : Option Name) (ks : List Name) → IsWalked d L a t o ks
+      → map (owner_at L a) ks ++ left_owners d a o gs ≡ map (owner_at L a) (unoccluded_owners d L a))
+      → map (owner_at L a) ks ++ left_owners d a o (G ∷ gs) ≡ map (owner_at L a) (unoccluded_owners d L a)
+  left_step rest G t g gs o ks w f after = rw f.are (elim (cases_Bool (is_passed_over a o g.owner)) [
+    | inl e ↦ rw e (after o ks (walk_passed w g f.gs t f.split f.group e))
+    | inr e ↦
+        let next = occluder_from d a g.owner (g ∷ f.gs) in
+        rw (e, owner_is w g f.gs t f.split f.group e) (sym (append_assoc (map (owner_at L a) ks) (owner_at L a g.owner ∷ []) (left_owners d a next gs))
+        ∙ ap (λ l. l ++ left_owners d a next gs) (sym (map-append (owner_at L a) ks (g.owner ∷ [])))
+        ∙ after next (ks ++ g.owner ∷ []) (walk_given w g f.gs t f.split f.group e))
+  ])
+
+module _ {N D : Type 0} (labels : N → Name) (rtype_of : D → ℕ) (minimum_of : D → Option ℕ) (d : Bool) (L : List ZoneRecord) (a : Name) where
+  abbrev see_record : Record N D → ZoneRecord
+  see_record = as_zone_record labels rtype_of minimum_of
+
+  -- the owners found so far and those that are left are all
+  left_all : (gs : List (List (Record N D))) (rest : List (Record N D)) (o : Option Name) (ks : List Name) → runs (same_owner labels) rest ≡ gs
+      → IsWalked d L a (map see_record rest) o ks
+      → map (owner_at L a) ks ++ left_owners d a o (map (map see_record) gs) ≡ map (owner_at L a) (unoccluded_owners d L a)
+  left_all [] rest o ks e w = grind (arith, common_steps, runs_none)
+  left_all (group ∷ gs) [] o ks e w = absurd (no_runs (same_owner labels) group gs e)
+  left_all (group ∷ gs) (r ∷ rest) o ks e w =
+      let more = runs_rest (same_owner labels) (r ∷ rest) group gs e in
+      let first = named group (runs_first (same_owner labels) r rest group gs e) in
+      let front = front_group labels rtype_of minimum_of (r ∷ rest) group more.0 more.1 (e ∙ ap (λ h. group ∷ h) (sym more.2)) r.owner first in
+      left_step d L a (map see_record (r ∷ rest)) (map see_record group) (map see_record more.0) front.0 (map (map see_record) gs) o ks w front.1
+      (λ o ks. left_all gs more.0 o ks more.2)
+    where
+      named : (h : List (Record N D)) → HasFirst (λ y. y ≡ r) h → HasFirst (λ s. s.owner ≡ r.owner) h
+      named [] i = i
+      named (s ∷ h) i = ap (λ t. t.owner) i
+
+-- at first all are left
+left_first : {N D : Type 0} (labels : N → Name) (rtype_of : D → ℕ) (minimum_of : D
+    → Option ℕ) (d : Bool) (a : Name) (rs : List (Record N D)) → IsInOrder labels rtype_of rs
+    → left_owners d a None (map (map (as_zone_record labels rtype_of minimum_of)) (runs (same_owner labels) rs))
+    ≡ map (owner_at (map (as_zone_record labels rtype_of minimum_of) rs) a) (unoccluded_owners d (map (as_zone_record labels rtype_of minimum_of) rs) a)
+left_first labels rtype_of minimum_of d a rs h =
+    left_all labels rtype_of minimum_of d _ a _ rs None [] refl (walk_start d _ a (owners_in_order labels rtype_of minimum_of rs h))
+
+-- at last none are
+pub left_none : {N D : Type 0} (labels : N → Name) (rtype_of : D → ℕ) (minimum_of : D
+    → Option ℕ) (d : Bool) (a : Name) (o : Option Name) (rs : List (Record N D)) → rs ≡ []
+    → left_owners d a o (map (map (as_zone_record labels rtype_of minimum_of)) (runs (same_owner labels) rs)) ≡ []
+unfolding runs
+left_none labels rtype_of minimum_of d a o rs e = grind (arith, common_steps)
+
+-- ---- with unsigned delegations or without
+
+covered : (b : Bool) (L : List ZoneRecord) (a : Name) (ks : List Name)
+    → filter (stays b) (map (owner_at L a) ks) ≡ map (owner_at L a) (filter (λ n. stays b (owner_at L a n)) ks)
+covered b L a [] = refl
+covered b L a (k ∷ ks) = grind (arith, common_steps, (covered b L a ks))
+
+pub covered_first : {N D : Type 0} (labels : N → Name) (rtype_of : D → ℕ) (minimum_of : D → Option ℕ) (b d : Bool) (a : Name)
+    (rs : List (Record N D)) → IsInOrder labels rtype_of rs
+    → filter (stays b) (left_owners d a None (map (map (as_zone_record labels rtype_of minimum_of)) (runs (same_owner labels) rs)))
+    ≡ covered_owners b d (map (as_zone_record labels rtype_of minimum_of) rs) a
+covered_first labels rtype_of minimum_of b d a rs h = ap (filter (stays b)) (left_first labels rtype_of minimum_of d a rs h) ∙ covered b _ a _
+
+-- one of those that are left stays, or not
+pub stays_on : (b : Bool) (o : OwnerRecords) (os : List OwnerRecords) → stays b o ≡ true → filter (stays b) (o ∷ os) ≡ o ∷ filter (stays b) os
+stays_on b o os e = λ i. cond (e i) (o ∷ filter (stays b) os) (filter (stays b) os)
+
+pub stays_off : (b : Bool) (o : OwnerRecords) (os : List OwnerRecords) → stays b o ≡ false → filter (stays b) (o ∷ os) ≡ filter (stays b) os
+stays_off b o os e = λ i. cond (e i) (o ∷ filter (stays b) os) (filter (stays b) os)

@@ -1,7 +1,7 @@
 -- What exists over a list of names, and what names share (RFC 4035, section 5.4; RFC 5155, section
 -- 1.3).
 use Rattle.std.specs.{Prelude.{Bool, true, not, ◌&&◌, List, [], ◌∷◌, ◌≡◌, ◌≤◌, length, nat_lt, if◌then◌else◌}, List.list_any}
-use Rattle.domain_names.specs.{Name.{is_at_or_below, is_strictly_below, same_name}, Words.Name}
+use Rattle.domain_names.specs.Name.{is_at_or_below, is_strictly_below, same_name, Name}
 
 -- e is one of these names or, at or below the apex, an ancestor of one
 abbrev pub exists_over : List Name → Name → Name → Bool

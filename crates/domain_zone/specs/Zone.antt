@@ -1,8 +1,16 @@
--- What the records of a zone say: zone cuts, occluders, occluded names, owners and their types.
+-- What the records of a zone say: zone cuts, occluders, occluded names, owners and their types, the
+-- SOA, and what a chain lists of these.
+use Rattle.std.specs.Prelude.{ℕ, ◌<◌, Bool, true, false, not, ◌&&◌, ◌||◌, ◌==◌, List, [], ◌∷◌, map, filter, Option, ◌≡◌, Some, None, min}
+use Rattle.std.specs.{Prelude.if◌then◌else◌, List.{list_any, AllByRecursion}}
+use Rattle.domain_base.specs.Types.{ns, ds, dname, rrsig, soa}
+use Rattle.domain_names.specs.Name.{is_at_or_below, is_strictly_below, same_name, before, Name}
+use Rattle.domain_zone.specs.declared.{soa.ApexSoa.ApexSoa, owners.UnoccludedOwner.UnoccludedOwner, listed.ListedOwners.ListedOwners}
+use Rattle.domain_record.specs.declared.record.Record.{Record}
+use Rattle.domain_octets.specs.Octets.{Octets}
+use Rattle.domain_records.specs.declared.error.SigningError.{SigningError, TheVariants.{MultipleTtlValues, OutOfMemory}}
+
+-- ---- What the records of a zone say: zone cuts, occluders, occluded names, owners and their types.
 -- Each definition filters the whole list L of records; a is the apex.
-use Rattle.std.specs.{Prelude.{ℕ, ◌<◌, Bool, true, false, not, ◌&&◌, ◌||◌, ◌==◌, List, [], ◌∷◌, map, filter, Option, ◌≡◌}, List.{list_any, AllByRecursion}}
-use Rattle.domain_base.specs.Types.{ns, ds, dname, rrsig}
-use Rattle.domain_names.specs.{Name.{is_at_or_below, is_strictly_below, same_name}, Order.before, Words.Name}
 
 -- a record as a chain sees it: without its data, but for the MINIMUM field of an SOA
 pub record ZoneRecord : Type 0 where
@@ -82,3 +90,124 @@ pub record IsFirstClash (rs : List ZoneRecord) (t : ℕ) : Type 0 where
 -- one of these names has records of one type other than RRSIG that differ in TTL
 abbrev pub has_unequal_ttls : List ZoneRecord → List Name → Bool
 has_unequal_ttls L names = list_any (λ n. has_clash (records_of L n)) names
+
+-- ---- The SOA record of a zone, and what it gives to a chain.
+
+-- what a record of type SOA gives; None where its data tell no MINIMUM
+abbrev pub numbers_of : ZoneRecord → Option ℕ → Option ApexSoa
+numbers_of r None = None
+numbers_of r (Some minimum) = Some (record { class = r.class; ttl = r.ttl; minimum = minimum })
+
+abbrev pub of_only : List ZoneRecord → Option ApexSoa
+of_only [] = None
+of_only (r ∷ []) = numbers_of r r.minimum
+of_only (r ∷ s ∷ rs) = None
+
+abbrev pub is_soa : Name → ZoneRecord → Bool
+is_soa a r = (r.rtype == soa) && same_name r.owner a
+
+-- the one SOA record that the apex owns; None where it does not own exactly one, or that one's data
+-- tell no MINIMUM
+abbrev pub soa_of : List ZoneRecord → Name → Option ApexSoa
+soa_of L a = of_only (filter (is_soa a) L)
+
+-- the TTL of a chain: the lesser of the SOA's MINIMUM and its TTL (RFC 9077, section 3.2)
+abbrev pub chain_ttl : ApexSoa → ℕ
+chain_ttl s = min s.minimum s.ttl
+
+-- ---- How records are seen as a zone.
+
+-- by how names are read, and by what data tell of their type and of the MINIMUM of an SOA
+abbrev pub as_zone_record : {N D : Type 0} → (N → Name) → (D → ℕ) → (D → Option ℕ) → Record N D
+    → ZoneRecord
+as_zone_record labels rtype_of minimum_of r =
+    record {
+      owner = labels r.owner;
+      class = r.class;
+      ttl = r.ttl;
+      rtype = rtype_of r.«data»;
+      minimum = minimum_of r.«data»;
+    }
+
+-- the zone that records are
+abbrev pub zone_of : {N D : Type 0} → (N → Name) → (D → ℕ) → (D → Option ℕ) → List (Record N D)
+    → List ZoneRecord
+zone_of labels rtype_of minimum_of = map (as_zone_record labels rtype_of minimum_of)
+
+-- ---- The owners of a zone that are not occluded, each with its records and whether it is a zone cut.
+
+pub record OwnerRecords : Type 0 where
+  pub name : Name
+  pub records : List ZoneRecord
+  pub is_zone_cut : Bool
+
+abbrev pub owner_at : List ZoneRecord → Name → Name → OwnerRecords
+owner_at L a n = record { name = n; records = records_of L n; is_zone_cut = is_zone_cut L a n }
+
+-- stays, unless unsigned delegations are left out and it is one: a zone cut that owns no DS record
+abbrev pub stays : Bool → OwnerRecords → Bool
+stays without_unsigned o = not (without_unsigned && (o.is_zone_cut && not (has_type o.records ds)))
+
+-- the owners that are not occluded, without the unsigned delegations where these are left out
+abbrev pub covered_names : Bool → Bool → List ZoneRecord → Name → List Name
+covered_names without_unsigned below_dname L a =
+    filter (λ n. stays without_unsigned (owner_at L a n)) (unoccluded_owners below_dname L a)
+
+abbrev pub covered_owners : Bool → Bool → List ZoneRecord → Name → List OwnerRecords
+covered_owners without_unsigned below_dname L a =
+    map (owner_at L a) (covered_names without_unsigned below_dname L a)
+
+-- ---- How the items of an iterator over owners are seen.
+
+abbrev pub as_owner_records : {N D : Type 0} → (N → Name) → (D → ℕ) → (D → Option ℕ)
+    → UnoccludedOwner N D → OwnerRecords
+as_owner_records labels rtype_of minimum_of o =
+    record {
+      name = labels o.name.now;
+      records = zone_of labels rtype_of minimum_of o.records;
+      is_zone_cut = o.is_zone_cut;
+    }
+
+-- ---- The owners that a chain lists, each with the octets of its type bitmap.
+
+-- these names with their bitmaps, by whether they are the apex; none has unequal TTLs
+pub record AreListed (bits : Bool → OwnerRecords → Octets) (L : List ZoneRecord) (a : Name)
+    (names : List Name) (listed : ListedOwners) : Type 0 where
+  pub even : has_unequal_ttls L names ≡ false
+  pub named : listed.names.items ≡ names
+  pub typed : listed.types ≡ map (λ n. bits (same_name n a) (owner_at L a n)) names
+
+-- why they are not: one has unequal TTLs, or none has, and memory was wanting
+abbrev pub IsListingFault : List ZoneRecord → List Name → SigningError → Type 0
+IsListingFault L names MultipleTtlValues = has_unequal_ttls L names ≡ true
+IsListingFault L names OutOfMemory = has_unequal_ttls L names ≡ false
+IsListingFault L names e = ⊥
+
+-- ---- How the state of an iterator over the owners that are not occluded is seen: as the owners that it
+-- has left to give. `UnoccludedOwners::new` says which these are, by the definitions of `Owners`.
+
+-- the last name that occludes is at or above n
+abbrev pub is_under : Option Name → Name → Bool
+is_under None n = false
+is_under (Some o) n = is_at_or_below n o
+
+abbrev pub is_passed_over : Name → Option Name → Name → Bool
+is_passed_over a occluder n = not (is_at_or_below n a) || is_under occluder n
+
+-- the records of one name at or below the apex make it a zone cut
+abbrev pub is_cut_group : Name → Name → List ZoneRecord → Bool
+is_cut_group a n rs = not (same_name n a) && has_type rs ns
+
+-- such a name, where it occludes
+abbrev pub occluder_from : Bool → Name → Name → List ZoneRecord → Option Name
+occluder_from below_dname a n rs =
+    if is_cut_group a n rs || (below_dname && has_type rs dname) then Some n else None
+
+-- what is left, by the groups of records that are left and the last name that occludes
+abbrev pub left_owners : Bool → Name → Option Name → List (List ZoneRecord) → List OwnerRecords
+left_owners below_dname a occluder [] = []
+left_owners below_dname a occluder ([] ∷ gs) = left_owners below_dname a occluder gs
+left_owners below_dname a occluder ((g ∷ rs) ∷ gs) =
+    if is_passed_over a occluder g.owner then left_owners below_dname a occluder gs
+    else record { name = g.owner; records = g ∷ rs; is_zone_cut = is_cut_group a g.owner (g ∷ rs) }
+    ∷ left_owners below_dname a (occluder_from below_dname a g.owner (g ∷ rs)) gs

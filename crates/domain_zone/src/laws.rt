@@ -1,10 +1,9 @@
 //! What callers may take from definitions. A caller calls the law in its body.
 ghost use Rattle.std.specs.Prelude.{◌≡◌, List, true};
-ghost use Rattle.domain_names.specs.{Name.same_name, Order.before, Words.Name};
+ghost use Rattle.domain_names.specs.Name.{same_name, before, Name};
 ghost use Rattle.domain_record.specs.declared.record.Record.{Record};
 ghost use Rattle.domain_records.specs.Order.{IsInOrder};
-ghost use Rattle.domain_zone.specs.{Covering.{matches, covers}, View.zone_of};
-ghost use Rattle.domain_zone.specs.Zone.{OwnersNeverDescend};
+ghost use Rattle.domain_zone.specs.{Covering.{matches, covers}, Zone.{zone_of, OwnersNeverDescend}};
 
 use domain_base::ToName;
 use domain_record::ZoneData;

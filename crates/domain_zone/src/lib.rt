@@ -13,11 +13,7 @@ pub mod laws;
 mod listed;
 mod owners;
 mod soa;
-mod ttl;
-mod types;
 
-pub use listed::{ChainTypes, ListedOwners, list_owners};
+pub use listed::{ChainTypes, ListedOwners, add_type, add_types, list_owners, uneven_type};
 pub use owners::{UnoccludedOwner, UnoccludedOwners, has_type};
 pub use soa::{ApexSoa, find_soa};
-pub use ttl::uneven_type;
-pub use types::{add_type, add_types};

@@ -1,18 +1,99 @@
-//! The owners that a chain lists, with their types.
-ghost use Rattle.std.specs.Prelude.{◌≡◌, ◌∷◌, ◌++◌, [], Bool, false, IfOk, IfErr, IsOkAnd};
-ghost use Rattle.domain_octets.specs.Words.{Octets};
-ghost use Rattle.domain_records.specs.Order.{IsInOrder};
-ghost use Rattle.domain_zone.specs.Listed.{AreListed, IsListingFault};
-ghost use Rattle.domain_zone.specs.Owners.{covered_names, OwnerRecords};
-ghost use Rattle.domain_zone.specs.{OwnerView.as_owner_records, View.zone_of};
+//! The types of an owner, gathered into a set.
+ghost use Rattle.std.specs.Prelude.{◌≡◌, ◌||◌, ◌==◌, ℕ, ◌<◌, OnOk, ◌≤◌, false, IfNone, IfSome, ◌∷◌, ◌++◌, []};
+ghost use Rattle.std.specs.Prelude.{Bool, IfOk, IfErr, IsOkAnd};
+ghost use Rattle.domain_bitmap.specs.Blocks.{holds};
+ghost use Rattle.domain_zone.specs.Zone.{zone_of, as_zone_record, may_list, lists_type, clashes, has_clash};
+ghost use Rattle.domain_zone.specs.Zone.{IsFirstClash, AreListed, IsListingFault, covered_names, OwnerRecords};
+ghost use Rattle.domain_zone.specs.Zone.{as_owner_records};
+ghost use Rattle.domain_records.specs.Order.{HoldsPairwise, IsInOrder};
+ghost use Rattle.domain_octets.specs.Octets.{Octets};
 
-use crate::{UnoccludedOwner, UnoccludedOwners, uneven_type};
-use domain_base::{ParsedName, ToName};
-use domain_bitmap::{RtypeBitmap, RtypeBitmaps};
-use domain_octets::{Octets, OutOfMemory};
-use domain_record::ZoneData;
-use domain_records::{RecordsIter, SigningError};
+use crate::{UnoccludedOwner, UnoccludedOwners};
+use domain_base::{ParsedName, Rtype, ToName};
+use domain_bitmap::{RtypeBitmap, RtypeBitmapBuilder, RtypeBitmaps};
+use domain_octets::{GrowingBuilder, Octets, OutOfMemory};
+use domain_record::{Record, ZoneData};
+use domain_records::{RecordsIter, SigningError, SliceRefsOrOwnedIterator};
 use std::alloc::Global;
+
+/// Whether a chain may list a type of an owner: at a zone cut those of NS and DS alone.
+fn may_list(at_cut: bool, rtype: Rtype) -> bool
+    ensures { result ≡ may_list at_cut rtype }
+{
+    !at_cut || rtype == Rtype::NS || rtype == Rtype::DS
+}
+
+/// Adds a type to a set that grows.
+///
+/// # Errors
+///
+/// `OutOfMemory`; the set is then as it was.
+pub fn add_type<B: GrowingBuilder>(
+    types: &mut RtypeBitmapBuilder<B>,
+    rtype: Rtype,
+) -> Result<(), OutOfMemory>
+    ensures { OnOk result ((t : ℕ) → t < 65536
+        → holds types.new t ≡ (t == rtype || holds types.old t)) }
+{
+    types.add(rtype).map_err(|_| OutOfMemory)
+}
+
+/// Adds the types of an owner's records that a chain lists: all, and at a zone cut those of NS and
+/// DS alone (RFC 4035, section 2.3).
+///
+/// # Errors
+///
+/// `OutOfMemory`; some types may then have been added.
+#[tactic(auto, using(crate::proofs::GivenLemmas::list_more, crate::proofs::GivenLemmas::list_not))]
+pub fn add_types<B: GrowingBuilder, N: ToName, D: ZoneData>(
+    types: &mut RtypeBitmapBuilder<B>,
+    mut records: SliceRefsOrOwnedIterator<'_, Record<N, D>>,
+    at_cut: bool,
+) -> Result<(), OutOfMemory>
+    ensures { OnOk result ((t : ℕ) → t < 65536
+        → holds types.new t ≡ (holds types.old t
+        || lists_type at_cut (zone_of N.labels D.rtype D.minimum records.entry) t)) }
+{
+    'records: while let Some(record) = records.next() {
+        if may_list(at_cut, record.rtype()) {
+            add_type(types, record.rtype())?;
+        }
+    }
+    Ok(())
+}
+
+/// Whether two records of one type other than RRSIG differ in their TTLs.
+fn clash<N: ToName, D: ZoneData>(first: &Record<N, D>, second: &Record<N, D>) -> bool
+    ensures { result ≡ clashes (as_zone_record N.labels D.rtype D.minimum first.now)
+        (as_zone_record N.labels D.rtype D.minimum second.now) }
+{
+    let rtype = first.rtype();
+    rtype == second.rtype() && rtype != Rtype::RRSIG && first.ttl() != second.ttl()
+}
+
+/// The first type other than RRSIG of which two of these records, whose types never descend, differ
+/// in their TTLs (RFC 2181, section 5.2); None where there is none. Looks at neighbours alone.
+pub fn uneven_type<N: ToName, D: ZoneData>(
+    mut records: SliceRefsOrOwnedIterator<'_, Record<N, D>>,
+) -> Option<Rtype>
+    requires { HoldsPairwise (λ r s. D.rtype r.«data» ≤ D.rtype s.«data») records }
+    ensures some { IfSome result
+        (IsFirstClash (zone_of N.labels D.rtype D.minimum records.entry)) }
+    ensures none { IfNone result
+        (has_clash (zone_of N.labels D.rtype D.minimum records.entry) ≡ false) }
+{
+    let Some(first) = records.next() else {
+        return None;
+    };
+    let mut previous = first;
+    'neighbours: while let Some(record) = records.next() {
+        if clash(previous, record) {
+            return Some(record.rtype());
+        }
+        previous = record;
+    }
+    None
+}
 
 /// Names of a chain that own records, and the types of each. Once memory was wanting for one it is
 /// full, and is given no other: so the walk that gathers them goes on, and finds the faults of the

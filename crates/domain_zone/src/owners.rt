@@ -1,7 +1,7 @@
 //! The owners of a zone that are not occluded.
 ghost use Rattle.std.specs.{Prelude.{◌≡◌, ◌&&◌, map, not}, Option.option_map};
 ghost use Rattle.domain_base.specs.Types.{ds};
-ghost use Rattle.domain_zone.specs.{View.zone_of, Walk.is_passed_over, Zone.has_type};
+ghost use Rattle.domain_zone.specs.Zone.{zone_of, is_passed_over, has_type};
 
 use domain_base::{Rtype, ToName};
 use domain_record::{Record, ZoneData};
@@ -72,8 +72,8 @@ pub struct UnoccludedOwners<'a, N: ToName, D: ZoneData> {
 
 impl<'a, N: ToName, D: ZoneData> Model for UnoccludedOwners<'a, N, D> {
     ghost use Rattle.std.specs.{Prelude.{List, filter, map}, Option.option_map};
-    ghost use Rattle.domain_records.specs.{Groups.same_owner, Runs.runs};
-    ghost use Rattle.domain_zone.specs.{Owners.{stays, OwnerRecords}, View.zone_of, Walk.left_owners};
+    ghost use Rattle.domain_records.specs.Groups.{same_owner, runs};
+    ghost use Rattle.domain_zone.specs.Zone.{stays, OwnerRecords, zone_of, left_owners};
 
     ghost Value = { List OwnerRecords };
 
@@ -84,13 +84,13 @@ impl<'a, N: ToName, D: ZoneData> Model for UnoccludedOwners<'a, N, D> {
 
 impl<'a, N: ToName, D: ZoneData> UnoccludedOwners<'a, N, D> {
     ghost use Rattle.domain_records.specs.Order.{IsInOrder};
-    ghost use Rattle.domain_zone.specs.Owners.{covered_owners};
+    ghost use Rattle.domain_zone.specs.Zone.{covered_owners};
 
     /// Over the owners of records in order, at or below the apex and not strictly below a zone cut;
     /// where `without_unsigned` says so, without the zone cuts that own no DS record (RFC 5155,
     /// section 6), and where `below_dname` does, without those strictly below a name at or below
     /// the apex that owns a DNAME record (RFC 6672, section 2.4).
-    #[tactic(auto, using(crate::proofs::LeftLemmas::covered_first))]
+    #[tactic(auto, using(crate::proofs::WalkLemmas::covered_first))]
     pub fn new(
         apex: &'a N,
         records: RecordsIter<'a, N, D>,
@@ -113,7 +113,7 @@ impl<'a, N: ToName, D: ZoneData> UnoccludedOwners<'a, N, D> {
 
 impl<'a, N: ToName, D: ZoneData> Iterator for UnoccludedOwners<'a, N, D> {
     ghost use Rattle.std.specs.Iterator.{YieldsFirstBy, item_count};
-    ghost use Rattle.domain_zone.specs.OwnerView.{as_owner_records};
+    ghost use Rattle.domain_zone.specs.Zone.{as_owner_records};
 
     type Item = UnoccludedOwner<'a, N, D>;
 

@@ -1,7 +1,6 @@
 //! The SOA record of a zone.
 ghost use Rattle.std.specs.Prelude.{◌≡◌};
-ghost use Rattle.domain_zone.specs.Soa.{chain_ttl, is_soa, soa_of};
-ghost use Rattle.domain_zone.specs.View.{as_zone_record, zone_of};
+ghost use Rattle.domain_zone.specs.Zone.{chain_ttl, is_soa, soa_of, as_zone_record, zone_of};
 
 use domain_base::{Class, Rtype, ToName, Ttl};
 use domain_record::{Record, ZoneData};

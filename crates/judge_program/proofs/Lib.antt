@@ -1,4 +1,2 @@
-pub mod CommandLemmas
-pub mod TextLemmas
 pub mod RunLemmas
 pub mod ToldLemmas

@@ -1,10 +1,10 @@
 -- What records tell of names, as it is written; the errors of hashes.
 use Rattle.std.proofs.Common.{arith, ◌≡◌, ◌⊎◌, ℕ, Bool, ◌||◌, List, [], ◌++◌, codes, ap, sym, ◌∙◌, Option, Some, None, if◌then◌else◌}
 use Rattle.std.{proofs.lemmas.{Grind.common_steps, List.Folds.list_any-append}, specs.{Io.KnownBytes.Appends, List.list_any, Option.{is_some, option_map}}}
-use Rattle.domain_octets.specs.Words.{Octets}
+use Rattle.domain_octets.specs.Octets.{Octets}
 use Rattle.domain_nsec3.specs.Chain.{ParamRecord}
 use Rattle.domain_hasher.specs.declared.error.Nsec3HashError.{Nsec3HashError, TheVariants.{Hasher, OutOfMemory}}
-use Rattle.domain_records.specs.ErrorText.{signing_error_of}
+use Rattle.domain_records.specs.Text.{signing_error_of}
 use Rattle.denial_program.{specs.Answer.fault_of_zone, proofs.RunLemmas.appends_more}
 use Rattle.judge_program.specs.{Judged.IsRefusedWith, Told.{is_same, line_of, line_once, param_line, AnyLink}}
 

@@ -1,7 +1,7 @@
 -- What the words after the program's name ask for.
 use Rattle.std.specs.Prelude.{◌≡◌, ◌⊎◌, ℕ, [], ◌∷◌, codes, Option, Some, None}
 use Rattle.domain_base.specs.Scan.{IsNumber}
-use Rattle.domain_names.specs.Words.{Token, Tokens}
+use Rattle.domain_names.specs.Name.{Token, Tokens}
 use Rattle.denial_program.specs.Command.{SpellQuestion}
 use Rattle.judge_program.specs.declared.{command.{ChainKind.{ChainKind, TheVariants.{Nsec, Nsec3}}, Command.Command}, shown.Shown.Shown}
 use Rattle.judge_program.specs.declared.shown.Shown.TheVariants.{Answer, Why, Records}

@@ -1,15 +1,25 @@
 -- What the records of a chain that were read answer to a question.
 use Rattle.std.specs.Prelude.{◌≡◌, ◌⊎◌, ℕ, List, [], ◌∷◌, Option, Some, None, Result, Ok, Err}
+use Rattle.domain_nsec3.specs.{View.HasherAnswer, Chain.{HashedLink, ParamRecord}}
+use Rattle.domain_checker.specs.HashedVerdict.{hashed_records, HashedRecords, links_with}
+use Rattle.judge_program.specs.declared.{nsec3_told.Inquiry.Inquiry, command.Nsec3Options.Nsec3Options}
 use Rattle.domain_hasher.specs.declared.error.Nsec3HashError.{Nsec3HashError, TheVariants.Hasher}
 use Rattle.domain_records.specs.declared.error.SigningError.{SigningError, TheVariants.Nsec3HashingError}
 use Rattle.domain_nsec.specs.Chain.{Link}
-use Rattle.domain_nsec3.specs.{Chain.{HashedLink, ParamRecord}, View.HasherAnswer}
-use Rattle.domain_checker.specs.HashedView.{HashedRecords, links_with}
 use Rattle.domain_borrowed.specs.Data.{RawRecord}
-use Rattle.domain_answer.specs.{HashedReading.IsFirstOfRefusals, Judged.{IsExpansionJudged, IsHashedJudged, IsJudged}, declared.answer.Answer.Answer}
+use Rattle.domain_answer.specs.{HashedReading.IsFirstOfRefusals, Judged.{IsExpansionJudged, IsHashedJudged, IsJudged}}
+use Rattle.domain_answer.specs.declared.answer.Answer.{Answer}
 use Rattle.denial_program.specs.{Check.{AreNsecs, AreNsec3s, AreParams, HasNoParam, IsRefusedBy}, declared.command.Question.Question}
 use Rattle.denial_program.specs.declared.fault.DenialFault.{DenialFault, TheVariants.{Signing, Param, OutOfMemory}}
-use Rattle.judge_program.specs.declared.command.Nsec3Options.{Nsec3Options}
+
+-- ---- What NSEC3 records are asked.
+
+-- what is read of the records, by what the hasher answers
+abbrev pub records_of : {H : Type 0} → (H → HasherAnswer) → Inquiry H → HashedRecords
+records_of answer asked =
+    hashed_records asked.question.now.apex (λ n. n) (answer asked.hasher.now) asked.chain.now
+
+-- ---- What the records of a chain that were read answer to a question.
 
 -- the answer is that of the NSEC records
 pub record IsNsecJudged (given : List RawRecord) (q : Question) (answer : Answer) : Type 0 where

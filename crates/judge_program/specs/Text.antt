@@ -1,11 +1,10 @@
 -- The text of an answer about a name, and that of a fault.
 use Rattle.std.specs.Prelude.{ℕ, ◌++◌, codes}
-use Rattle.domain_octets.specs.Words.{Octets}
-use Rattle.domain_names.specs.{Text.name_text, Words.Name, Name.last_labels}
+use Rattle.domain_octets.specs.Octets.{Octets}
+use Rattle.domain_names.specs.{Text.name_text, Name.{Name, last_labels}}
 use Rattle.domain_answer.specs.{ZoneAnswer.wildcard_below, declared.answer.Answer.Answer}
 use Rattle.domain_answer.specs.declared.answer.Answer.TheVariants as answers
-use Rattle.denial_program.specs.{FaultText.fault_text, declared.fault.DenialFault.DenialFault}
-use Rattle.denial_program.specs.declared.fault.DenialFault.TheVariants.{Usage}
+use Rattle.denial_program.specs.{Fault.fault_text, declared.fault.DenialFault.{DenialFault, TheVariants.Usage}}
 use Rattle.judge_program.specs.declared.shown.Shown.{Shown}
 use Rattle.judge_program.specs.declared.shown.Shown.TheVariants as shows
 

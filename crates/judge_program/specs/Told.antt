@@ -1,24 +1,74 @@
--- The records that an answer rests on, and those that a server answers with; a is the apex, x the
--- name.
-use Rattle.std.specs.Prelude.{◌≡◌, ℕ, ◌+◌, ◌==◌, Bool, true, false, not, ◌&&◌, ◌||◌, List, [], ◌++◌, codes, length, nat_lt, bytes_eq, Option, Some, None}
-use Rattle.std.specs.{Prelude.{Result, Ok, Err, if◌then◌else◌}, List.{find, list_any}, Option.{is_some, option_map, option_to_list}}
-use Rattle.domain_octets.specs.Words.{Octets}
-use Rattle.domain_names.specs.{Words.Name, Name.{same_name, last_labels}}
+-- The records that an answer rests on, which of them a response needs, and those that a server answers
+-- with.
+use Rattle.std.specs.Prelude.{ℕ, Bool, true, false, Option, Some, None, ◌≡◌, ◌+◌, ◌==◌, not, ◌&&◌, ◌||◌, List, [], ◌++◌, codes, length}
+use Rattle.std.specs.{Prelude.{nat_lt, bytes_eq, Result, Ok, Err, if◌then◌else◌}, Option.{is_some, option_map, option_to_list}, List.find}
+use Rattle.std.specs.List.{list_any}
+use Rattle.domain_answer.specs.{declared.answer.Answer.Answer, HashedReading.closer_name, ZoneAnswer.wildcard_below}
+use Rattle.judge_program.specs.{declared.{needs.Needs.Needs, told.{Listed.{Listed, TheVariants.{Nsec, Nsec3}}, Part.Part}}, Text.full_text}
+use Rattle.judge_program.specs.declared.{told.Parts.Parts, role.Role.{Role, TheVariants.Asked}, shown.Shown.Shown}
+use Rattle.judge_program.specs.declared.role.Role.TheVariants.{Encloser as ClosestEncloser, NextCloser, Wildcard}
+use Rattle.domain_octets.specs.Octets.{Octets}
+use Rattle.domain_names.specs.Name.{Name, same_name, last_labels}
 use Rattle.domain_base.specs.Types.{ds}
 use Rattle.domain_bitmap.specs.Blocks.{contains_type}
 use Rattle.domain_fields.specs.Layout.{octets_of}
 use Rattle.domain_chain_rdata.specs.Rdata.{nsec3 as nsec3_fields}
-use Rattle.domain_nsec.specs.{Chain.Link, ChainView.as_link}
-use Rattle.domain_nsec3.specs.{Chain.{HashedLink, ParamRecord}, Config.hash_name, View.{as_hashed_link, as_param_record}}
-use Rattle.domain_checker.specs.{HashedEncloser.{Encloser, IsFoundEncloser}, HashedView.{HashedRecords, first_cover, first_match}}
+use Rattle.domain_nsec.specs.Chain.{Link, as_link}
+use Rattle.domain_nsec3.specs.{Chain.{HashedLink, ParamRecord, hash_name}, View.{as_hashed_link, as_param_record}}
+use Rattle.domain_checker.specs.{HashedReading.{Encloser, IsFoundEncloser}, HashedVerdict.{HashedRecords, first_cover, first_match}}
 use Rattle.domain_checker.specs.{HashedVerdict.IsFirstRefusal, Reading.{is_cover, is_match}}
-use Rattle.domain_answer.specs.{Expansion.closer_name, ZoneAnswer.wildcard_below, declared.answer.Answer.Answer}
 use Rattle.denial_program.specs.Text.{link_values, nsec_line, nsec3_line, nsec3param_line}
-use Rattle.judge_program.specs.{Needs.{needs_next_closer, needs_of, needs_wildcard, rests_on_records, wildcard_count}, Text.full_text}
-use Rattle.judge_program.specs.declared.{told.{Listed.{Listed, TheVariants.Nsec}, Part.Part, Parts.Parts}, needs.Needs.Needs, role.Role.Role, shown.Shown.Shown}
-use Rattle.judge_program.specs.declared.{told.Listed.TheVariants.Nsec3, role.Role.TheVariants.{Asked, Encloser as ClosestEncloser, NextCloser, Wildcard}}
+use Rattle.domain_answer.specs.declared.answer.Answer.TheVariants as answers
 use Rattle.judge_program.specs.declared.needs.Needs.TheVariants as needs
 use Rattle.judge_program.specs.declared.shown.Shown.TheVariants as shows
+
+-- ---- Which records an answer rests on, and which of them a response needs.
+
+-- an answer that rests on records
+abbrev pub rests_on_records : Answer → Bool
+rests_on_records answers.OutsideZone = false
+rests_on_records answers.AtParent = false
+rests_on_records answers.TooManyIterations = false
+rests_on_records answers.NotProven = false
+rests_on_records _ = true
+
+-- an answer for which the wildcard below the closest encloser was asked for, which has so many
+-- labels
+abbrev pub wildcard_count : Answer → Option ℕ
+wildcard_count (answers.Wildcard n) = Some n
+wildcard_count (answers.WildcardAlias n) = Some n
+wildcard_count (answers.WildcardNoData n) = Some n
+wildcard_count (answers.NameError n) = Some n
+wildcard_count (answers.NoCloserName n) = Some n
+wildcard_count _ = None
+
+-- an answer that rests on a cover of the next closer name: the wildcard was asked for behind that,
+-- but where the cover has the flag of opt-out
+abbrev pub needs_next_closer : Answer → Bool
+needs_next_closer (answers.MayBeUnsigned n) = true
+needs_next_closer answer = is_some (wildcard_count answer)
+
+-- which records a response needs of the name (RFC 4035, section 3.1.3; RFC 5155, section 7.2)
+abbrev pub needs_of : Answer → Needs
+needs_of (answers.Referral n) = needs.Cut
+needs_of answers.NoDs = needs.Own
+needs_of answers.NoData = needs.Own
+needs_of (answers.Wildcard n) = needs.Closer
+needs_of (answers.WildcardAlias n) = needs.Closer
+needs_of (answers.WildcardNoData n) = needs.Both
+needs_of (answers.NameError n) = needs.Both
+needs_of (answers.MayBeUnsigned n) = needs.Both
+needs_of (answers.NoCloserName n) = needs.Both
+needs_of _ = needs.Nothing
+
+-- whether it needs that of the wildcard too
+abbrev pub needs_wildcard : Answer → Bool
+needs_wildcard (answers.WildcardNoData n) = true
+needs_wildcard (answers.NameError n) = true
+needs_wildcard _ = false
+
+-- ---- The records that an answer rests on, and those that a server answers with; a is the apex, x the
+-- name.
 
 -- the name that a record tells of
 abbrev pub role_text : Role → Octets

@@ -20,7 +20,7 @@ pub struct WildcardText<'p, 'a> {
 impl fmt::Display for WildcardText<'_, '_> {
     ghost output = { λ w. Some (full_text (wildcard_below w.above.now)) };
 
-    #[tactic(auto, using(crate::proofs::TextLemmas::wildcard_of_root, crate::proofs::TextLemmas::wildcard_of_other))]
+    #[tactic(auto, using(crate::proofs::RunLemmas::wildcard_of_root, crate::proofs::RunLemmas::wildcard_of_other))]
     fn fmt<W: fmt::Write>(&self, f: &mut fmt::Formatter<W>) -> fmt::Result {
         if self.above.is_root() {
             return f.write_str("*.");

@@ -46,7 +46,7 @@ pub struct Command {
 }
 
 /// What the options ask to be printed.
-#[tactic(auto, using(std::proofs::lemmas::Grind::common_steps, denial_program::proofs::CommandLemmas::same_text))]
+#[tactic(auto, using(std::proofs::lemmas::Grind::common_steps, denial_program::proofs::RunLemmas::same_text))]
 fn shown_of(options: &[String]) -> Option<Shown>
     ensures some { IfSome result (ShownText (map string_bytes options.now)) }
     ensures none { IfNone result
@@ -61,7 +61,7 @@ fn shown_of(options: &[String]) -> Option<Shown>
 }
 
 /// The limit of iterations that the options ask for, and what is printed.
-#[tactic(auto, using(std::proofs::lemmas::Grind::common_steps, denial_program::proofs::CommandLemmas::same_text, crate::proofs::CommandLemmas::no_limit))]
+#[tactic(auto, using(std::proofs::lemmas::Grind::common_steps, denial_program::proofs::RunLemmas::same_text, crate::proofs::RunLemmas::no_limit))]
 fn limit_of(options: &[String]) -> Option<(u16, Shown)>
     ensures some { IfSome result (λ p. LimitText (map string_bytes options.now) p.0 p.1) }
     ensures none { IfNone result ((limit : ℕ) (shown : Shown)
@@ -78,7 +78,7 @@ fn limit_of(options: &[String]) -> Option<(u16, Shown)>
 }
 
 /// How the options ask for NSEC3 records to be judged, and what is printed.
-#[tactic(auto, using(std::proofs::lemmas::Grind::common_steps, denial_program::proofs::CommandLemmas::same_text))]
+#[tactic(auto, using(std::proofs::lemmas::Grind::common_steps, denial_program::proofs::RunLemmas::same_text))]
 fn nsec3_options_of(options: &[String]) -> Option<(Nsec3Options, Shown)>
     ensures some { IfSome result (λ p.
         LabelsText (map string_bytes options.now) p.0.labels p.0.limit p.1) }

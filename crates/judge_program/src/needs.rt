@@ -1,6 +1,7 @@
 //! Which records an answer rests on, and which of them a server answers with.
 ghost use Rattle.std.specs.Prelude.{◌≡◌};
-ghost use Rattle.judge_program.specs.Needs.{needs_next_closer, needs_of, needs_wildcard, rests_on_records, wildcard_count};
+ghost use Rattle.judge_program.specs.Told.{needs_next_closer, needs_of, needs_wildcard, rests_on_records};
+ghost use Rattle.judge_program.specs.Told.{wildcard_count};
 
 use domain_answer::Answer;
 

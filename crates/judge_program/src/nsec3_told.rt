@@ -1,12 +1,13 @@
 //! What NSEC3 records answer to a question, and what they tell of the names that this rests on.
 ghost use Rattle.std.specs.{Prelude.{◌≡◌, None, Some, Ok, IfErr, IfOk}, Option.option_map};
 ghost use Rattle.domain_nsec3.specs.View.{as_hashed_link, as_param_record};
-ghost use Rattle.domain_checker.specs.{HashedEncloser.encloser_of, HashedVerdict.IsFirstRefusal};
+ghost use Rattle.domain_checker.specs.{HashedReading.encloser_of, HashedVerdict.IsFirstRefusal};
 ghost use Rattle.denial_program.specs.declared.fault.DenialFault.TheVariants.{OutOfMemory as Memory};
-ghost use Rattle.judge_program.specs.Inquiry.{records_of};
-ghost use Rattle.judge_program.specs.Judged.{IsAsked, IsRefusalAsked, IsRefusedWith};
-ghost use Rattle.judge_program.specs.Needs.{rests_on_records, wildcard_count};
-ghost use Rattle.judge_program.specs.Told.{closer_told, encloser_role, encloser_told, expansion_tellings, finding, nsec3_told, telling_of, tellings_of, told_where, wildcard_asked, AnyLink.hashed, AreNsec3Told, AreWhole, IsRefusalBelow};
+ghost use Rattle.judge_program.specs.Judged.{records_of, IsAsked, IsRefusalAsked, IsRefusedWith};
+ghost use Rattle.judge_program.specs.Told.{rests_on_records, wildcard_count, closer_told, encloser_role};
+ghost use Rattle.judge_program.specs.Told.{encloser_told, expansion_tellings, finding, nsec3_told, telling_of};
+ghost use Rattle.judge_program.specs.Told.{tellings_of, told_where, wildcard_asked, AreNsec3Told, AreWhole};
+ghost use Rattle.judge_program.specs.Told.{IsRefusalBelow, AnyLink.hashed};
 
 use crate::command::Nsec3Options;
 use crate::needs::{needs_next_closer, rests_on_records};

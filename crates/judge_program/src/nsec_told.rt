@@ -1,8 +1,8 @@
 //! What NSEC records tell of the names that an answer rests on.
 ghost use Rattle.std.specs.{Prelude.◌≡◌, Option.option_map};
-ghost use Rattle.domain_nsec.specs.ChainView.{links_of};
-ghost use Rattle.judge_program.specs.Needs.{wildcard_count};
-ghost use Rattle.judge_program.specs.Told.{nsec_told, nsec_tellings, telling_of, tellings_of, told_where, wildcard_asked};
+ghost use Rattle.domain_nsec.specs.Chain.{links_of};
+ghost use Rattle.judge_program.specs.Told.{wildcard_count, nsec_told, nsec_tellings, telling_of, tellings_of};
+ghost use Rattle.judge_program.specs.Told.{told_where, wildcard_asked};
 
 use crate::needs::{rests_on_records, wildcard_count};
 use crate::role::Role;

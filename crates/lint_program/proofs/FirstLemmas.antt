@@ -1,8 +1,8 @@
 -- The first line of those that are told.
 use Rattle.std.proofs.{lemmas.Grind.common_steps, Common.{◌≡◌, ℕ, ◌+◌, List, [], ◌∷◌, arith, inl, inr}}
 use Rattle.domain_borrowed.specs.Data.{RawRecord}
-use Rattle.denial_program.{specs.Listing.{Give, IsFirstBad}, proofs.ReadingLemmas.{first_bad_here, first_bad_later}}
-use Rattle.lint_program.specs.Lines.{AreLinted}
+use Rattle.denial_program.{specs.Listing.{Give, IsFirstBad}, proofs.LineLemmas.{first_bad_here, first_bad_later}}
+use Rattle.lint_program.specs.Report.{AreLinted}
 
 -- the lowest bad line, where the first line has the number n
 first_from : (n : ℕ) (lines : List (List ℕ)) (m : ℕ) (more numbers : List ℕ) (records : List RawRecord) → AreLinted n lines (m ∷ more) numbers records

@@ -1,5 +1,3 @@
-pub mod Following
 pub mod ReportLemmas
 pub mod NoteLemmas
-pub mod NoteLaws
 pub mod FirstLemmas

@@ -1,11 +1,14 @@
--- The first record of each group, as records are taken in one by one.
-use Rattle.std.proofs.Common.{arith, Some, ◌≡◌, ℕ, Bool, true, cond, ◌&&◌, ◌==◌, ◌+◌, ◌<◌, List, [], ◌∷◌, ◌++◌, refl, ap, sym}
-use Rattle.std.proofs.{Common.{◌∙◌, get_or, length, map, take}, lemmas.{Grind.common_steps, List.{take_more}, Bool.and_parts}}
-use Rattle.std.specs.{Ordering.{is_eq, nat_cmp, ordering_then}, Cmp.{unsigned_tied}, List.find, declared.cmp.Ordering.Ordering}
-use Rattle.domain_names.specs.{Laws.{same_name_equiv, same_name_ties}, Name.same_name, Words.Name}
+-- What is told is deserved, and what is deserved is told.
+use Rattle.std.proofs.Common.{arith, Some, ◌≡◌, ℕ, Bool, true, cond, ◌&&◌, ◌==◌, ◌+◌, ◌<◌, List, [], ◌∷◌, ◌++◌, refl, ap, sym, ◌∙◌, get_or, length, map, take}
+use Rattle.std.{proofs.{Common.{◌⊎◌, inl, inr, length-append}, lemmas.{Grind.common_steps, List.take_more, Bool.and_parts}}, specs.Ordering.{is_eq, nat_cmp}}
+use Rattle.std.specs.{Ordering.ordering_then, Cmp.unsigned_tied, List.{find, AllByRecursion}, declared.cmp.Ordering.Ordering}
+use Rattle.domain_names.specs.{Laws.{same_name_equiv, same_name_ties}, Name.{same_name, Name}}
 use Rattle.domain_borrowed.specs.Data.{RawRecord}
-use Rattle.lint_program.specs.{Firsts.group_cmp, Notes.{earlier, first_in, group_of, is_group, Found, Group, IsToldOf, Mark, Found.more}}
-use Rattle.lint_program.specs.declared.{looks.Look.Look, reading.Place.Place}
+use Rattle.lint_program.specs.Notes.{group_cmp, earlier, first_in, group_of, is_group, Found, Group, IsToldOf, Mark, look_of, Deserves, HasMark, IsDeserved}
+use Rattle.lint_program.specs.{Notes.Found.{more, nothing}, declared.{looks.{Look.Look, Reason.Reason}, reading.Place.Place}}
+use Rattle.domain_zone.proofs.WalkLemmas.{all_both, weaker}
+
+-- ---- The first record of each group, as records are taken in one by one.
 
 -- ---- groups
 
@@ -48,3 +51,56 @@ pub found_more : (l : Look) (a : Name) (records : List RawRecord) (places : List
 found_more l a records places i r d marks last within is paired found told =
     rw (take_more records i r within, ← is, numbers_more places i d paired)
     (more l a (take i records) (map (λ (p : Place). p.number) (take i places)) marks r (get_or places i d).number last found told)
+
+-- ---- What is told is deserved, and what is deserved is told.
+
+-- ---- lists
+
+-- the last of a list is the one that stands at a place, or comes after it
+split_last : {A : Type 0} (xs ys zs : List A) (x y : A) → xs ++ x ∷ [] ≡ ys ++ y ∷ zs
+    → ((zs ≡ []) × (xs ≡ ys) × (x ≡ y)) ⊎ ((ws : List A) × (zs ≡ ws ++ x ∷ []) × (xs ≡ ys ++ y ∷ ws))
+split_last [] [] zs x y h = inl (cc, refl, cc)
+split_last [] (z ∷ ys) zs x y h = absurd (let n = ap length h in let m = length-append ys (y ∷ zs) in omega (arith, n, m))
+split_last (w ∷ xs) [] zs x y h = inr (xs, cc, cc)
+split_last (w ∷ xs) (z ∷ ys) zs x y h =
+    let heads : w ≡ z = cc in
+    let tails : xs ++ x ∷ [] ≡ ys ++ y ∷ zs = cc in
+    elim (split_last xs ys zs x y tails) [
+      | inl p ↦ inl (p.0, cc (heads, p.1), p.2)
+      | inr p ↦ inr (p.0, p.1, cc (heads, p.2))
+    ]
+
+-- ---- what is told is deserved
+
+module _ (l : Look) (a : Name) where
+  numbered : (rs : List RawRecord) (ns : List ℕ) (ms : List Mark) → Found l a rs ns ms → length ns ≡ length rs
+  numbered rs ns ms (nothing _ _) = refl
+  numbered rs ns ms (more _ _ before numbers marks r n last found told) = grind (arith, common_steps, (numbered before numbers marks found))
+
+  longer : (rs : List RawRecord) (ns : List ℕ) (r : RawRecord) (n : ℕ) (m : Mark) → IsDeserved l a rs ns m
+      → IsDeserved l a (rs ++ r ∷ []) (ns ++ n ∷ []) m
+  longer rs ns r n m h = grind (arith, common_steps)
+
+  last_told : (before : List RawRecord) (numbers : List ℕ) (r : RawRecord) (n : ℕ) (last : List Mark) → length numbers ≡ length before
+      → IsToldOf l a (earlier l a before r) r n last → AllByRecursion (IsDeserved l a (before ++ r ∷ []) (numbers ++ n ∷ [])) last
+  last_told before numbers r n last paired h = grind (arith, common_steps)
+
+  pub told_deserved : (rs : List RawRecord) (ns : List ℕ) (ms : List Mark) → Found l a rs ns ms → AllByRecursion (IsDeserved l a rs ns) ms
+  told_deserved rs ns ms (nothing _ _) = tt
+  told_deserved rs ns ms (more _ _ before numbers marks r n last found told) =
+      all_both _ marks last (weaker _ _ (longer before numbers r n) marks (told_deserved before numbers marks found))
+      (last_told before numbers r n last (numbered before numbers marks found) told)
+
+-- ---- what is deserved is told
+
+has_more : (marks last : List Mark) (n : ℕ) → HasMark marks n → HasMark (marks ++ last) n
+has_more marks last n h = grind (arith, common_steps)
+
+module _ (l : Look) (a : Name) where
+  pub deserved_told : (rs : List RawRecord) (ns : List ℕ) (ms : List Mark) → Found l a rs ns ms → (before after : List RawRecord) (r : RawRecord)
+      → rs ≡ before ++ r ∷ after → (left right : List ℕ) (n : ℕ) → ns ≡ left ++ n ∷ right → length left ≡ length before
+      → (reason : Reason) → look_of reason ≡ l → Deserves reason a (earlier l a before r) r → HasMark ms n
+  deserved_told rs ns ms (nothing _ _) before after r are left right n stand paired reason same d =
+      absurd (let k = ap length are in let m = length-append before (r ∷ after) in omega (arith, k, m))
+  deserved_told rs ns ms (more _ _ old numbers marks s k last found told) before after r are left right n stand paired reason same d =
+      grind (arith, common_steps, numbered, split_last, has_more, (deserved_told old numbers marks found before))

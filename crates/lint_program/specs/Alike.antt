@@ -1,7 +1,7 @@
 -- Names of an NSEC3 chain that hash alike, as they are told of the records of an input.
 use Rattle.std.specs.Prelude.{◌≡◌, ◌⊎◌, ℕ, List, [], ◌∷◌, ◌++◌, Option, Some, None, codes}
-use Rattle.domain_octets.specs.Words.{Octets}
-use Rattle.domain_names.specs.{Text.name_text, Words.Name}
+use Rattle.domain_octets.specs.Octets.{Octets}
+use Rattle.domain_names.specs.{Text.name_text, Name.Name}
 use Rattle.domain_alike.specs.Alike.{AreAlike, IsFirstRefusal, Pair}
 use Rattle.domain_dnssec.specs.AnyOrder.{AreMixed}
 use Rattle.domain_dnssec.specs.AnyOrder as any_order

@@ -1,6 +1,6 @@
 -- What the words after the program's name ask for, and which faults there are.
 use Rattle.std.specs.Prelude.{◌≡◌, ◌∷◌, [], Option, Some, None}
-use Rattle.domain_names.specs.{Text.NameText, Words.{Name, Token, Tokens}}
+use Rattle.domain_names.specs.{Text.NameText, Name.{Name, Token, Tokens}}
 use Rattle.denial_program.specs.{Command.{Params, Spell}, declared.fault.DenialFault.{DenialFault, TheVariants.{Usage, Read, Signing, Write, OutOfMemory}}}
 
 -- the words are one, which spells the apex

@@ -1,9 +1,4 @@
-pub mod Lines
-pub mod Outcomes
-pub mod Odd
+pub mod Report
 pub mod Notes
-pub mod NoteText
-pub mod Firsts
 pub mod Alike
 pub mod Command
-pub mod Report

@@ -1,12 +1,78 @@
 -- What is told of the records that were read: each record that deserves it, and no other.
-use Rattle.std.specs.Prelude.{◌≡◌, ◌≢◌, ◌⊎◌, ℕ, ◌==◌, Bool, true, false, not, ◌&&◌, ◌||◌, List, [], ◌∷◌, ◌++◌, length, Option, Some, None, IsSome, MatchOption}
-use Rattle.std.specs.{Prelude.if◌then◌else◌, List.{find, list_any}}
-use Rattle.domain_names.specs.{Name.{is_at_or_below, same_name}, Words.Name}
-use Rattle.domain_base.specs.Types as rtypes
+use Rattle.std.specs.Prelude.{◌≡◌, ℕ, ◌-◌, ◌<◌, ◌==◌, Bool, not, ◌||◌, [], ◌∷◌, drop, length, nat_lt, slice_index, if◌then◌else◌, codes}
+use Rattle.std.specs.{Prelude.{◌≢◌, ◌⊎◌, true, false, ◌&&◌, List, ◌++◌, Option, Some, None, IsSome, MatchOption, option_map}, List.find}
+use Rattle.std.specs.{List.list_any, BTreeMap.BTreeMap, Ordering.{nat_cmp, ordering_then}, declared.cmp.Ordering.Ordering}
+use Rattle.domain_octets.specs.Octets.{Octets}
+use Rattle.domain_names.specs.{Wire.IsWire, Name.{is_at_or_below, same_name, Name, canonical_cmp}}
+use Rattle.lint_program.specs.declared.odd.Shape.{Shape, TheVariants.{OneName, Texts, LongAddress, Service, Certificate, Issuers, Whatever}}
+use Rattle.lint_program.specs.declared.looks.Reason.{Reason, TheVariants.{NoSoa, SecondSoa, StraySoa, OtherClass, OtherTtl, Outside}}
+use Rattle.lint_program.specs.declared.{looks.{Reason.TheVariants.{BesideAlias, OddData, Parameters}, Look.Look}, notes.Note.Note}
+use Rattle.lint_program.specs.declared.looks.Placed.{Placed}
 use Rattle.domain_borrowed.specs.Data.{RawRecord}
-use Rattle.lint_program.specs.{Odd.{has_extras, shape_of, IsSuch}, declared.{notes.Note.Note, looks.{Look.Look, Reason.{Reason, TheVariants.NoSoa}}}}
-use Rattle.lint_program.specs.declared.looks.Reason.TheVariants.{SecondSoa, StraySoa, OtherClass, OtherTtl, Outside, BesideAlias, OddData, Parameters}
+use Rattle.domain_base.specs.Types as rtypes
 use Rattle.lint_program.specs.declared.looks.Look.TheVariants as look
+use Rattle.std.specs.BTreeMap as tree
+
+-- ---- Octets that are data of their type, of the types whose data are not read.
+
+-- what data of a type are: of CNAME, PTR and DNAME (RFC 1035, sections 3.3.1 and 3.3.12; RFC 6672);
+-- TXT and SPF (RFC 1035, section 3.3.14; RFC 7208); AAAA (RFC 3596); SRV (RFC 2782); TLSA (RFC
+-- 6698); and CAA (RFC 8659)
+abbrev pub shape_of : ℕ → Shape
+shape_of t =
+    if (t == rtypes.cname) || ((t == rtypes.ptr) || (t == rtypes.dname)) then OneName
+    else if (t == rtypes.txt) || (t == 99) then Texts
+    else if t == rtypes.aaaa then LongAddress
+    else if t == rtypes.srv then Service
+    else if t == 52 then Certificate
+    else if t == 257 then Issuers
+    else Whatever
+
+-- how many octets of a text are to come after these, where so many are to come before them: texts
+-- stand one after another, each after an octet with its length
+abbrev pub to_come : ℕ → Octets → ℕ
+to_come left [] = left
+to_come left (octet ∷ octets) = to_come (if left == 0 then octet else left - 1) octets
+
+-- such texts, and at least one
+pub record AreTexts (octets : Octets) : Type 0 where
+  pub whole : to_come 0 octets ≡ 0
+  pub some : 0 < length octets
+
+-- the octets have the shape
+abbrev pub IsSuch : Shape → Octets → Type 0
+IsSuch OneName octets = IsWire octets
+IsSuch Texts octets = AreTexts octets
+IsSuch LongAddress octets = length octets ≡ 16
+IsSuch Service octets = (6 < length octets) × IsWire (drop 6 octets)
+IsSuch Certificate octets = 3 < length octets
+IsSuch Issuers octets = 2 < length octets
+IsSuch Whatever octets = Unit {0}
+
+-- NSEC3PARAM data have further iterations or a salt (RFC 5155, section 4.2): after algorithm and
+-- flags the number of iterations in two octets, and the length of the salt
+abbrev pub has_extras : Octets → Bool
+has_extras octets =
+    nat_lt (length octets) 5
+    || (not (slice_index octets 2 == 0)
+    || (not (slice_index octets 3 == 0) || not (slice_index octets 4 == 0)))
+
+-- ---- What each note of a reason begins and ends with.
+
+abbrev pub frame : Reason → Octets × Octets
+frame NoSoa = (codes "the apex ", codes " owns no SOA record")
+frame SecondSoa = (codes "the apex owns the SOA record of line ", codes " already")
+frame StraySoa = ([], codes " owns an SOA record, and is not the apex")
+frame OtherClass = (codes "the class is ", [])
+frame OtherTtl = (codes "the TTL is ", [])
+frame Outside = ([], codes ": the record is passed over")
+frame BesideAlias =
+    ([], codes ", with the same owner: one of them is CNAME, which stands alone")
+frame OddData = (codes "the octets are no data of ", [])
+frame Parameters =
+    (codes "NSEC3PARAM with further iterations or a salt: ", codes " wants 0 and none")
+
+-- ---- What is told of the records that were read: each record that deserves it, and no other.
 
 -- what a note tells: why, and of the line of which number; that there is no SOA is told of no line
 pub record Mark : Type 0 where
@@ -171,3 +237,15 @@ pub record HasMark (marks : List Mark) (number : ℕ) : Type 0 where
   pub back : List Mark
   pub are : marks ≡ front ++ mark ∷ back
   pub place : mark.place ≡ Some number
+
+-- ---- The first record of each group, by a map.
+
+-- the order of groups in the map
+abbrev pub group_cmp : Group → Group → Ordering
+group_cmp g h = ordering_then (canonical_cmp g.0 h.0) (nat_cmp g.1 h.1)
+
+-- the map has of each group the first of these records
+abbrev pub AreFirsts : Look → Name → List RawRecord → BTreeMap Group Placed → Type 0
+AreFirsts l a before firsts =
+    (g : Group) → option_map (λ p. p.borrowed.now) (tree.get group_cmp firsts g)
+    ≡ first_in l a before g

@@ -1,16 +1,46 @@
--- What is told of an input.
-use Rattle.std.specs.Prelude.{◌≡◌, ◌≢◌, ◌⊎◌, ℕ, ◌≤◌, ◌==◌, Bool, ◌&&◌, List, [], ◌∷◌, ◌++◌, All, codes, length, Option, Some, None, if◌then◌else◌}
-use Rattle.std.specs.Fmt.{decimal}
-use Rattle.domain_octets.specs.{Words.Octets, Characters.{space, tilde}}
-use Rattle.domain_names.specs.Words.{Name, Tokens}
-use Rattle.domain_alike.specs.Alike.{Pair}
+-- What is told of an input, line by line, and as a whole.
+use Rattle.std.specs.Prelude.{◌≡◌, ◌⊎◌, ℕ, ◌+◌, List, [], ◌∷◌, Bool, true, false, ◌≢◌, ◌≤◌, ◌==◌, ◌&&◌, ◌++◌, All, codes, length, Option}
+use Rattle.std.specs.{Prelude.{Some, None, if◌then◌else◌}, Fmt.decimal}
+use Rattle.domain_octets.specs.{Octets.Octets, Text.{space, tilde}}
 use Rattle.domain_borrowed.specs.Data.{RawRecord}
+use Rattle.denial_program.specs.{Listing.{IsBad, IsLineRecord, IsSkipped}, Answer.{HasNoNsecs, IsNsecs}, Command.Params, Fault.IsOfRecords}
+use Rattle.denial_program.specs.declared.{answer.Reply.Reply, fault.DenialFault.DenialFault}
+use Rattle.lint_program.specs.{declared.outcome.Outcome.{Outcome, TheVariants.{Clean, Warned, Faulty}}, Alike.{alike_text, outcome_with}}
+use Rattle.lint_program.specs.{Alike.{AreTold, IsRefusalBy}, Command.Asks, Notes.{frame, fails, AreNoted, Mark}}
+use Rattle.domain_names.specs.Name.{Name, Tokens}
+use Rattle.domain_alike.specs.Alike.{Pair}
 use Rattle.domain_nsec3.specs.View.{HasherAnswer}
 use Rattle.domain_hasher.specs.declared.error.Nsec3HashError.TheVariants.{Hasher}
 use Rattle.domain_records.specs.declared.error.SigningError.{SigningError, TheVariants.Nsec3HashingError}
-use Rattle.denial_program.specs.{Answer.{HasNoNsecs, IsNsecs}, Command.Params, Fault.IsOfRecords, declared.{answer.Reply.Reply, fault.DenialFault.DenialFault}}
-use Rattle.lint_program.specs.{Alike.{alike_text, outcome_with, AreTold, IsRefusalBy}, Command.Asks, Lines.AreLinted, NoteText.frame, Notes.{fails, AreNoted}}
-use Rattle.lint_program.specs.{Notes.Mark, Outcomes.is_faulty, declared.outcome.Outcome.{Outcome, TheVariants.{Clean, Warned, Faulty}}}
+
+-- ---- What the lines of an input are.
+
+-- each of these lines, of which the first has the number n, is skipped, spells a record, or is bad:
+-- these are the numbers of all that are bad, and the records of all others with their numbers, in
+-- order
+abbrev pub AreLinted : ℕ → List Octets → List ℕ → List ℕ → List RawRecord → Type 0
+AreLinted n [] bad numbers records = (bad ≡ []) × (numbers ≡ []) × (records ≡ [])
+AreLinted n (line ∷ more) bad numbers records =
+    (IsSkipped line × AreLinted (n + 1) more bad numbers records)
+    ⊎ (((r : RawRecord) × (others : List RawRecord) × (records ≡ r ∷ others) × IsLineRecord line r
+    × (left : List ℕ) × (numbers ≡ n ∷ left) × AreLinted (n + 1) more bad left others)
+    ⊎ ((others : List ℕ) × (bad ≡ n ∷ others) × IsBad line
+    × AreLinted (n + 1) more others numbers records))
+
+-- ---- Outcomes by the exit status of the program.
+
+abbrev pub exit_status : Outcome → ℕ
+exit_status Clean = 0
+exit_status Warned = 3
+exit_status Faulty = 1
+
+-- a fault was found
+abbrev pub is_faulty : Outcome → Bool
+is_faulty Clean = false
+is_faulty Warned = false
+is_faulty Faulty = true
+
+-- ---- What is told of an input.
 
 -- the octet is printed, and no end of a line
 abbrev pub IsPrinted : ℕ → Type 0

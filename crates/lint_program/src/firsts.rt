@@ -1,7 +1,7 @@
 //! The first record of each group.
 ghost use Rattle.std.specs.Prelude.{◌≡◌, List, [], ◌∷◌, ◌++◌, IfOk, option_map};
 ghost use Rattle.domain_borrowed.specs.Data.{RawRecord};
-ghost use Rattle.lint_program.specs.{Firsts.AreFirsts, Notes.earlier};
+ghost use Rattle.lint_program.specs.Notes.{AreFirsts, earlier};
 
 use crate::looks::{Group, Look, Placed, group_of};
 use domain_base::ParsedName;

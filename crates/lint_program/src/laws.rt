@@ -1,13 +1,12 @@
 //! What the lines that a report tells are to `denial`, and what its notes are to the records. A
 //! caller calls a law in its body.
 ghost use Rattle.std.specs.{Prelude.{◌≡◌, ℕ, List, [], ◌∷◌, ◌++◌, length}, List.AllByRecursion};
-ghost use Rattle.domain_octets.specs.Words.{Octets};
-ghost use Rattle.domain_names.specs.Words.{Name};
+ghost use Rattle.domain_octets.specs.Octets.{Octets};
+ghost use Rattle.domain_names.specs.Name.{Name};
 ghost use Rattle.domain_borrowed.specs.Data.{RawRecord};
 ghost use Rattle.denial_program.specs.Listing.{Give, IsFirstBad};
-ghost use Rattle.lint_program.specs.Lines.{AreLinted};
-ghost use Rattle.lint_program.specs.Notes.{earlier, look_of, Deserves, Found, HasMark, IsDeserved};
-ghost use Rattle.lint_program.specs.{Notes.Mark, declared.looks.{Look.Look, Reason.Reason}};
+ghost use Rattle.lint_program.specs.{Report.AreLinted, Notes.{earlier, look_of, Deserves, Found, HasMark}};
+ghost use Rattle.lint_program.specs.{Notes.{IsDeserved, Mark}, declared.looks.{Look.Look, Reason.Reason}};
 
 /// Where a report tells a line, the first that it tells is the line for which `run_denial` and
 /// `run_judge` refuse the input; and where it tells none, they read records from it.
@@ -22,7 +21,7 @@ pub fn the_first_told_is_refused()
 
 /// Each note that a look finds is of a record that deserves it, by the number of its line; and of
 /// each record that deserves one there is a note.
-#[tactic(auto, using(crate::proofs::NoteLaws::told_deserved, crate::proofs::NoteLaws::deserved_told))]
+#[tactic(auto, using(crate::proofs::NoteLemmas::told_deserved, crate::proofs::NoteLemmas::deserved_told))]
 pub fn what_is_noted_is_deserved()
     ensures told { (l : Look) (a : Name) (records : List RawRecord) (numbers : List ℕ)
         (marks : List Mark) → Found l a records numbers marks

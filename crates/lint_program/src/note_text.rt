@@ -1,6 +1,6 @@
 //! The texts of what is told of records.
 ghost use Rattle.std.specs.Prelude.{◌≡◌};
-ghost use Rattle.lint_program.specs.NoteText.{frame};
+ghost use Rattle.lint_program.specs.Notes.{frame};
 
 use crate::looks::{Placed, Reason};
 use crate::odd::shape_of;

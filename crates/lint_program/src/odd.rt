@@ -1,6 +1,6 @@
 //! Data that records may have and seldom are meant to.
 ghost use Rattle.std.specs.Prelude.{◌≡◌, ◌↔◌, IsTrue};
-ghost use Rattle.lint_program.specs.Odd.{has_extras, shape_of, AreTexts, IsSuch};
+ghost use Rattle.lint_program.specs.Notes.{has_extras, shape_of, AreTexts, IsSuch};
 
 use domain_base::{Name, Rtype};
 

@@ -1,6 +1,6 @@
 //! What was found in an input.
 ghost use Rattle.std.specs.Prelude.{◌≡◌};
-ghost use Rattle.lint_program.specs.Outcomes.{exit_status, is_faulty};
+ghost use Rattle.lint_program.specs.Report.{exit_status, is_faulty};
 
 /// What was found in an input.
 #[derive(Clone, Copy, Debug, PartialEq, Eq)]

@@ -2,8 +2,8 @@
 ghost use Rattle.std.specs.Prelude.{◌≡◌, ◌⊎◌, ℕ, List, Option, IfErr, IfOk, IsErrOf};
 ghost use Rattle.std.specs.Prelude.{MatchResult, OnOk, IfSome, map, string_bytes};
 ghost use Rattle.std.specs.{Str.Lines.lines, Io.KnownBytes.Appends};
-ghost use Rattle.domain_octets.specs.Words.{Octets};
-ghost use Rattle.domain_names.specs.Words.{Name};
+ghost use Rattle.domain_octets.specs.Octets.{Octets};
+ghost use Rattle.domain_names.specs.Name.{Name};
 ghost use Rattle.domain_borrowed.specs.Data.{RawRecord};
 ghost use Rattle.domain_alike.specs.Alike.{pair_of};
 ghost use Rattle.domain_hasher.specs.declared.error.Nsec3HashError.TheVariants as hash_error;

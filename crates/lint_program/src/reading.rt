@@ -2,7 +2,7 @@
 ghost use Rattle.std.specs.{Prelude.{◌≡◌, ◌⊎◌, IfErr, IfOk, IfSome, OnOk, length, map}, Str.Lines.lines};
 ghost use Rattle.denial_program.specs.Fault.{IsReadToEnd};
 ghost use Rattle.denial_program.specs.declared.fault.DenialFault.TheVariants.{OutOfMemory};
-ghost use Rattle.lint_program.specs.Lines.{AreLinted};
+ghost use Rattle.lint_program.specs.Report.{AreLinted};
 
 use bumpalo::Bump;
 use denial_program::{DenialFault, Line, Store, fault_of, read_line, without_end};

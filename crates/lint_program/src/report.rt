@@ -1,9 +1,9 @@
 //! What is told of an input, as it is written.
 ghost use Rattle.std.specs.{Prelude.{◌≡◌, ◌++◌, All, OnOk, map}, Io.KnownBytes.Appends};
-ghost use Rattle.domain_octets.specs.Words.{Octets};
+ghost use Rattle.domain_octets.specs.Octets.{Octets};
 ghost use Rattle.domain_alike.specs.Alike.{pair_of};
-ghost use Rattle.lint_program.specs.{Alike.alike_text, Notes.mark_of, Outcomes.is_faulty};
-ghost use Rattle.lint_program.specs.Report.{AreFaults, AreNotes, IsFault, IsNote, IsPrinted};
+ghost use Rattle.lint_program.specs.{Alike.alike_text, Notes.mark_of, Report.{is_faulty, AreFaults, AreNotes}};
+ghost use Rattle.lint_program.specs.Report.{IsFault, IsNote, IsPrinted};
 
 use crate::explain::explain;
 use crate::notes::Note;

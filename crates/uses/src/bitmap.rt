@@ -8,7 +8,7 @@ use std::alloc::Global;
 use std::fmt::Write;
 
 /// The bitmap of two types.
-#[tactic(auto, unfolding(domain_bitmap::specs::Builder::holds))]
+#[tactic(auto, unfolding(domain_bitmap::specs::Blocks::holds))]
 fn pair(alloc: Global, first: Rtype, second: Rtype) -> Result<RtypeBitmap<Vec<u8>>, AppendError>
     ensures { IfOk result (λ bitmap. (t : ℕ) → t < 65536
         → contains_type bitmap t ≡ (t == second || t == first)) }

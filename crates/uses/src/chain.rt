@@ -1,6 +1,6 @@
 //! A chain from records.
 ghost use Rattle.std.specs.Prelude.{IfOk};
-ghost use Rattle.domain_dnssec.specs.{ZoneRecords.IsChainOf, ChainView.links_of};
+ghost use Rattle.domain_dnssec.specs.{ZoneRecords.IsChainOf, Chain.links_of};
 
 use crate::zone::{OwnedRecord, ZoneName, records};
 use domain_dnssec::{Error, GenerateNsecConfig, Nsec, Record, generate_nsecs_of_records};

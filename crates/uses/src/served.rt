@@ -1,8 +1,8 @@
 //! Both halves of denial: what a server picks of a chain to answer with, and what that is judged to
 //! prove.
 ghost use Rattle.std.specs.Prelude.{◌≡◌, true, IfOk};
-ghost use Rattle.domain_dnssec.specs.{Order.IsOneClass, ZoneData.{minimum_of, rtype_of}};
-ghost use Rattle.domain_dnssec.specs.{View.zone_of, ZoneAnswer.zone_answer};
+ghost use Rattle.domain_dnssec.specs.{Order.IsOneClass, ZoneData.{minimum_of, rtype_of}, Zone.zone_of};
+ghost use Rattle.domain_dnssec.specs.ZoneAnswer.{zone_answer};
 
 use crate::zone::{Data, ZoneName, records};
 use domain_dnssec::laws::{chains_leave_out_names_below_dname, owners_never_descend};

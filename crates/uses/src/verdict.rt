@@ -1,5 +1,5 @@
 //! What a few records prove.
-ghost use Rattle.domain_dnssec.specs.{Verdict.IsProved, ChainView.links_of};
+ghost use Rattle.domain_dnssec.specs.{Verdict.IsProved, Chain.links_of};
 
 use crate::line::read;
 use crate::zone::ZoneName;

@@ -1,7 +1,7 @@
 //! Chains as messages have their records.
 ghost use Rattle.std.specs.Prelude.{◌≡◌, List, IfOk};
-ghost use Rattle.domain_dnssec.specs.{Chain.{IsChain, Link}, Order.IsOneClass, View.zone_of};
-ghost use Rattle.domain_dnssec.specs.{Wire.nsecs_octets, ZoneData.{minimum_of, rtype_of}};
+ghost use Rattle.domain_dnssec.specs.{Chain.{IsChain, Link}, Order.IsOneClass, Zone.zone_of, Wire.nsecs_octets};
+ghost use Rattle.domain_dnssec.specs.ZoneData.{minimum_of, rtype_of};
 
 use crate::zone::{Data, ZoneName, records};
 use domain_dnssec::rdata::Nsec3Salt;

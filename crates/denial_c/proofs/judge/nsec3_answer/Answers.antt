@@ -1,5 +1,5 @@
 use Rattle.domain_answer.specs.Judged.{IsHashedJudged}
-use Rattle.denial_c.{specs.Result.sha1_records, proofs.Nsec3Lemmas.hashed_told}
+use Rattle.denial_c.{specs.Result.sha1_records, proofs.AmongLemmas.hashed_told}
 use Rattle.denial_c.proofs.judge.nsec3_answer.Goals as goal
 
 pub returns : goal.returns

@@ -1,5 +1,5 @@
 use Rattle.std.proofs.{Common.arith, lemmas.{Grind.common_steps, Result.err_from_is_err_and}}
-use Rattle.denial_c.proofs.JudgeLemmas.{nsecs_fault}
+use Rattle.denial_c.proofs.AmongLemmas.{nsecs_fault}
 use Rattle.denial_c.proofs.judge.nsec_answer.Goals as goal
 
 pub returns-in_err-nsecs : goal.returns-in_err-nsecs

@@ -1,10 +1,10 @@
 use Rattle.std.proofs.Common.{ℕ, List, ◌++◌, length}
 use Rattle.domain_base.specs.Types as rtypes
-use Rattle.domain_names.specs.Words.{Name}
+use Rattle.domain_names.specs.Name.{Name}
 use Rattle.domain_nsec.specs.Chain.{Link}
-use Rattle.domain_checker.specs.{HandedIn.HasRead, declared.nsec_check.NsecCheck.NsecCheck}
-use Rattle.domain_borrowed.specs.Links.{nsec_record, IsNsec}
-use Rattle.denial_c.{specs.Among.is_of, proofs.AmongLemmas.IsRead}
+use Rattle.domain_checker.specs.{Reading.HasRead, declared.nsec_check.NsecCheck.NsecCheck}
+use Rattle.domain_borrowed.specs.Data.{nsec_record, IsNsec}
+use Rattle.denial_c.{specs.Result.is_of, proofs.AmongLemmas.IsRead}
 use Rattle.denial_c.proofs.nsec.hand_in.Given as goal
 
 -- the NSEC records before what is left were handed in, after those that had been

@@ -1,5 +1,5 @@
 use Rattle.std.proofs.{Common.{arith, [], Err, sym, subst}, lemmas.{Grind.common_steps, Result.err_from_is_err_and}}
-use Rattle.denial_c.specs.{Among.AreNsecs, Result.IsNsecResult}
+use Rattle.denial_c.specs.Result.{AreNsecs, IsNsecResult}
 use Rattle.denial_c.proofs.nsec.nsec_verdict.Goals as goal
 
 pub returns : goal.returns

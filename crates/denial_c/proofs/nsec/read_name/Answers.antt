@@ -1,5 +1,5 @@
 use Rattle.std.proofs.{Common.{arith, ◌≡◌, ℕ, List, [], ◌++◌, sym, ◌∙◌, append-nil}, lemmas.Grind.common_steps}
-use Rattle.domain_names.specs.{Fault.{Fault, NameFault, WholeNameFault, in_name, trailing}, Name.{wire_of, IsName}, Words.Name}
+use Rattle.domain_names.specs.{Wire.{Fault, NameFault, WholeNameFault, in_name, trailing}, Name.{wire_of, IsName, Name}}
 use Rattle.denial_c.specs.Result.{Spells}
 use Rattle.denial_c.proofs.nsec.read_name.Goals as goal
 

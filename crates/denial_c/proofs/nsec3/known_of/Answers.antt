@@ -1,6 +1,6 @@
 use Rattle.std.proofs.{Common.{ap, map, rules, ◌∙◌}, lemmas.Fn.filter_same}
 use Rattle.domain_nsec3.specs.View.{as_hashed_link}
-use Rattle.denial_c.proofs.Nsec3Lemmas.{map_filter}
+use Rattle.denial_c.proofs.AmongLemmas.{map_filter}
 use Rattle.denial_c.proofs.nsec3.known_of.Goals as goal
 
 pub returns : goal.returns

@@ -1,5 +1,5 @@
 use Rattle.domain_checker.specs.HashedReading.{IsHashedChecked}
-use Rattle.denial_c.{specs.Result.sha1_records, proofs.Nsec3Lemmas.hashed_told}
+use Rattle.denial_c.{specs.Result.sha1_records, proofs.AmongLemmas.hashed_told}
 use Rattle.denial_c.proofs.nsec3.nsec3_verdict.Goals as goal
 
 pub returns : goal.returns

@@ -1,7 +1,7 @@
 use Rattle.std.proofs.{Common.{◌≡◌, refl}}
 use Rattle.domain_nsec3.specs.View.{config_of}
 use Rattle.domain_sha1.specs.Iterated.{sha1_answer}
-use Rattle.denial_c.{specs.Chains.hashing_fault, proofs.HashLemmas.hashing_faulty}
+use Rattle.denial_c.{specs.Chains.hashing_fault, proofs.AmongLemmas.hashing_faulty}
 use Rattle.denial_c.proofs.nsec3_chain.sorted_nsec3s.Goals as goal
 
 pub returns-in-Err-Nsec3HashingError-clause-err : goal.returns-in-Err-Nsec3HashingError-clause-err

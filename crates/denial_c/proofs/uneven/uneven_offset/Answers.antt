@@ -1,5 +1,5 @@
 use Rattle.std.proofs.Common.{◌-◌, ap, arith, length, sym, ◌∙◌}
-use Rattle.denial_c.{specs.Uneven.is_other, proofs.{AmongLemmas.{no_end, no_octets, rest_given}, UnevenLemmas.{scanned_all, scanned_found}}}
+use Rattle.denial_c.{specs.Chains.is_other, proofs.{AmongLemmas.{no_end, no_octets, rest_given}, UnevenLemmas.{scanned_all, scanned_found}}}
 use Rattle.denial_c.proofs.uneven.uneven_offset.Goals as goal
 
 pub unreachable-requires : goal.unreachable-requires

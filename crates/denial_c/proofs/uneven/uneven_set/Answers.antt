@@ -1,6 +1,6 @@
 use Rattle.std.proofs.Common.{ap, map, subst, sym, ◌∙◌}
 use Rattle.domain_borrowed.specs.Data.{minimum_of, zone_of_raw}
-use Rattle.domain_zone.{specs.{View.as_zone_record, Zone.has_clash}, proofs.{GivenLemmas.{raw_types, types_at}, TtlLemmas.NeverDescend}}
+use Rattle.domain_zone.{specs.Zone.{as_zone_record, has_clash}, proofs.GivenLemmas.{raw_types, types_at, NeverDescend}}
 use Rattle.denial_c.proofs.UnevenLemmas.{walked_even, walked_known}
 use Rattle.denial_c.proofs.uneven.uneven_set.Goals as goal
 

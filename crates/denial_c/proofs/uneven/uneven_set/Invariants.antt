@@ -1,6 +1,6 @@
 use Rattle.std.proofs.Common.{length}
 use Rattle.domain_borrowed.specs.Data.{zone_of_raw}
-use Rattle.domain_zone.specs.Owners.{covered_names}
+use Rattle.domain_zone.specs.Zone.{covered_names}
 use Rattle.denial_c.proofs.UnevenLemmas.{IsWalked}
 use Rattle.denial_c.proofs.uneven.uneven_set.Given as goal
 

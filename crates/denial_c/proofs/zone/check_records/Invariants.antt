@@ -1,6 +1,6 @@
 use Rattle.std.proofs.Common.{List, length}
 use Rattle.domain_borrowed.specs.Data.{RawRecord}
-use Rattle.denial_c.{specs.Given.IsOfClass, proofs.AmongLemmas.IsPast}
+use Rattle.denial_c.{specs.Chains.IsOfClass, proofs.AmongLemmas.IsPast}
 use Rattle.denial_c.proofs.zone.check_records.Given as goal
 
 abbrev pub invariant-records : goal.invariant-records

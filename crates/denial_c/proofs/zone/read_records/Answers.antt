@@ -1,5 +1,5 @@
 use Rattle.std.proofs.Common.{arith, subst, sym}
-use Rattle.denial_c.{specs.Given.AreGiven, proofs.AmongLemmas.{all_read, no_end, no_octets, rest_given}}
+use Rattle.denial_c.{specs.Chains.AreGiven, proofs.AmongLemmas.{all_read, no_end, no_octets, rest_given}}
 use Rattle.denial_c.proofs.zone.read_records.Goals as goal
 
 pub unreachable-requires : goal.unreachable-requires

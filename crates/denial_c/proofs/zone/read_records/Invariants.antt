@@ -1,5 +1,5 @@
 use Rattle.std.proofs.Common.{length}
-use Rattle.domain_borrowed.specs.Wire.{IsRecord}
+use Rattle.domain_borrowed.specs.Data.{IsRecord}
 use Rattle.denial_c.proofs.AmongLemmas.{IsPast}
 use Rattle.denial_c.proofs.zone.read_records.Given as goal
 

@@ -1,5 +1,5 @@
 use Rattle.std.proofs.{Common.{◌+◌, ap, arith, drop, map, sym, ◌∙◌, subst}, lemmas.List.{drop_all, map-append}}
-use Rattle.denial_program.{specs.Check.IsOf, proofs.AmongLemmas.{cloned, goes_end, goes_kept, next_left, Goes}}
+use Rattle.denial_program.{specs.Check.IsOf, proofs.RunLemmas.{cloned, goes_end, goes_kept, next_left, Goes}}
 use Rattle.denial_program.proofs.among.records_among.Goals as goal
 
 pub loop-record-preserved : goal.loop-record-preserved

@@ -1,5 +1,5 @@
 use Rattle.std.proofs.Common.{drop, map}
-use Rattle.denial_program.{specs.Check.IsOf, proofs.AmongLemmas.Goes}
+use Rattle.denial_program.{specs.Check.IsOf, proofs.RunLemmas.Goes}
 use Rattle.denial_program.proofs.among.records_among.Given as goal
 
 abbrev pub invariant-loop-record : goal.invariant-loop-record

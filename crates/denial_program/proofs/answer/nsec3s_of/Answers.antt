@@ -1,9 +1,9 @@
 use Rattle.std.proofs.{Common.{arith, List, subst, sym}, lemmas.Grind.common_steps}
 use Rattle.domain_zone.specs.Zone.{ZoneRecord}
-use Rattle.domain_nsec3.specs.{Chain.{IsChainParam, IsHashedChain}, Config.ChainConfig, Faults.IsFirstFault, View.config_of}
+use Rattle.domain_nsec3.specs.{Chain.{IsChainParam, IsHashedChain, ChainConfig, IsFirstFault}, View.config_of}
 use Rattle.domain_borrowed.specs.Data.{zone_of_raw}
-use Rattle.denial_program.{specs.Answer.{usual_nsec3_config, HasNoNsec3s}, proofs.AnswerLemmas.{no_nsec3s, nsec3s_made}}
-use Rattle.denial_program.proofs.answer.nsec3s_of.{Given.Over, Goals.After-new_from_owned}
+use Rattle.denial_program.{specs.Answer.{usual_nsec3_config, HasNoNsec3s}, proofs.{RunLemmas.{no_nsec3s, nsec3s_made}, answer.nsec3s_of.Given.Over}}
+use Rattle.denial_program.proofs.answer.nsec3s_of.Goals.{After-new_from_owned}
 use Rattle.denial_program.proofs.answer.nsec3s_of.Goals as goal
 
 -- what holds of the zone and the configuration that were handed on holds of the sorted records and the usual configuration

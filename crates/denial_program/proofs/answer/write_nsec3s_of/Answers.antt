@@ -1,9 +1,8 @@
 use Rattle.std.proofs.Common.{inr}
 use Rattle.domain_octets.proofs.StdLemmas.{if_err_of}
 use Rattle.domain_dnssec.specs.RawRecords.{HasNoHashedChain}
-use Rattle.denial_program.specs.{Answer.{usual_nsec3_config, HasNoNsec3s, IsNsec3s, IsUnmade, Sorts}, Run.IsUnwritten}
-use Rattle.denial_program.proofs.{AnswerLemmas.{unsorted, unwritten}, RunLemmas.on_ok}
-use Rattle.denial_program.proofs.answer.write_nsec3s_of.{Given.Over, Goals.After-nsec3s_of}
+use Rattle.denial_program.{specs.{Answer.{usual_nsec3_config, HasNoNsec3s, IsNsec3s, IsUnmade, Sorts}, Run.IsUnwritten}, proofs.RunLemmas.unsorted}
+use Rattle.denial_program.proofs.{RunLemmas.{unwritten, on_ok}, answer.write_nsec3s_of.{Given.Over, Goals.After-nsec3s_of}}
 use Rattle.denial_program.proofs.answer.write_nsec3s_of.Goals as goal
 
 -- the chain is that of the records that were given, which are sorted

@@ -1,5 +1,5 @@
 use Rattle.std.proofs.Common.{arith}
-use Rattle.domain_nsec.specs.ChainView.{as_link}
+use Rattle.domain_nsec.specs.Chain.{as_link}
 use Rattle.denial_program.{specs.Text.nsec_line, proofs.RunLemmas.line_added}
 use Rattle.denial_program.proofs.answer.write_nsecs.Goals as goal
 

@@ -2,7 +2,7 @@ use Rattle.std.proofs.Common.{◌∙◌, inr}
 use Rattle.domain_octets.proofs.StdLemmas.{if_err_of}
 use Rattle.domain_nsec.specs.Chain.{usual_config}
 use Rattle.domain_dnssec.specs.RawRecords.{HasNoChain}
-use Rattle.denial_program.{specs.{Answer.{HasNoNsecs, IsNsecs, IsUnmade, Sorts}, Run.IsUnwritten}, proofs.{AnswerLemmas.{unsorted, unwritten}, RunLemmas.on_ok}}
+use Rattle.denial_program.{specs.{Answer.{HasNoNsecs, IsNsecs, IsUnmade, Sorts}, Run.IsUnwritten}, proofs.RunLemmas.{unsorted, unwritten, on_ok}}
 use Rattle.denial_program.proofs.answer.write_nsecs_of.{Given.Over, Goals.After-nsecs_of}
 use Rattle.denial_program.proofs.answer.write_nsecs_of.Goals as goal
 

@@ -1,5 +1,5 @@
 use Rattle.std.proofs.{lemmas.Grind.common_steps, Common.arith}
-use Rattle.denial_program.proofs.AmongLemmas.{goes_end, handing_one, nsec_of}
+use Rattle.denial_program.proofs.RunLemmas.{goes_end, handing_one, nsec_of}
 use Rattle.denial_program.proofs.check.hand_in.Goals as goal
 
 pub left-preserved-in-Some-read : goal.left-preserved-in-Some-read

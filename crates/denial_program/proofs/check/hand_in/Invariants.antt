@@ -1,5 +1,5 @@
 use Rattle.std.proofs.Common.{length}
-use Rattle.denial_program.proofs.AmongLemmas.{IsHanding}
+use Rattle.denial_program.proofs.RunLemmas.{IsHanding}
 use Rattle.denial_program.proofs.check.hand_in.Given as goal
 
 abbrev pub invariant-left : goal.invariant-left

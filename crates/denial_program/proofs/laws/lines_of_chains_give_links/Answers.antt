@@ -1,6 +1,6 @@
 use Rattle.std.proofs.Common.{◌≡◌}
 use Rattle.domain_base.specs.Types as rtypes
-use Rattle.domain_borrowed.specs.Links.{IsParam, param_record}
+use Rattle.domain_borrowed.specs.Data.{IsParam, param_record}
 use Rattle.denial_program.{specs.Check.{IsNsecOf, IsNsec3Of}, proofs.SpelledLemmas.{line_gives, nsec_given, nsec3_given, param_given}}
 use Rattle.denial_program.proofs.laws.lines_of_chains_give_links.Goals as goal
 

@@ -1,5 +1,5 @@
 use Rattle.std.proofs.Common.{map, ap, ◌++◌, ◌∙◌}
-use Rattle.domain_octets.specs.Line.{words_of}
+use Rattle.domain_octets.specs.Text.{words_of}
 use Rattle.denial_program.proofs.LineLemmas.{is_bad}
 use Rattle.denial_program.proofs.line.read_line.Goals as goal
 

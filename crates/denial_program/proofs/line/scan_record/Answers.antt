@@ -1,6 +1,6 @@
 use Rattle.std.proofs.{Common.arith, lemmas.Grind.common_steps}
 use Rattle.domain_octets.proofs.StdLemmas.{if_err_of}
-use Rattle.denial_program.{specs.Said.Refuses, proofs.LineLemmas.refused_behind}
+use Rattle.denial_program.{specs.Listing.Refuses, proofs.LineLemmas.refused_behind}
 use Rattle.denial_program.proofs.line.scan_record.Goals as goal
 
 pub returns-in_err-record-clause-err : goal.returns-in_err-record-clause-err

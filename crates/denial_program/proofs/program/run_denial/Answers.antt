@@ -1,6 +1,6 @@
 use Rattle.std.proofs.{Common.{Err, ap, arith}, lemmas.Grind.common_steps}
-use Rattle.denial_program.specs.{Answer.{HasNoAnswer, IsAnswer, IsUnmade}, Command.Asks, Text.answer_text}
-use Rattle.denial_program.proofs.{AnswerLemmas.{known_made, no_line_unmade, no_write_unmade}, RunLemmas.{not_begun, run_done}}
+use Rattle.denial_program.{specs.{Answer.{HasNoAnswer, IsAnswer, IsUnmade}, Command.Asks, Text.answer_text}, proofs.RunLemmas.{known_made, no_line_unmade}}
+use Rattle.denial_program.proofs.RunLemmas.{no_write_unmade, not_begun, run_done}
 use Rattle.denial_program.proofs.program.run_denial.Goals as goal
 
 pub returns-in_err-command-clause-run : goal.returns-in_err-command-clause-run

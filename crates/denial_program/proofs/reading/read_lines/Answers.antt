@@ -1,7 +1,7 @@
 use Rattle.std.{proofs.{lemmas.Grind.common_steps, Common.{◌≡◌, ◌+◌, [], ◌∷◌, arith, subst, ◌++◌, IfSome}}, specs.Str.Lines.lines}
-use Rattle.denial_program.specs.Listing.{IsFirstBad}
-use Rattle.denial_program.proofs.ReadingLemmas.{follows_bad, follows_end, follows_record, follows_skip, reading_next, Continues, Follows, FollowsAt}
-use Rattle.denial_program.proofs.reading.read_lines.{Given.Over, Goals.{After-read_line, in-Nothing, in-Record+in_ok-push-in-Record}}
+use Rattle.denial_program.{specs.Listing.IsFirstBad, proofs.LineLemmas.{follows_bad, follows_end, follows_record, follows_skip, reading_next, Continues}}
+use Rattle.denial_program.proofs.{LineLemmas.{Follows, FollowsAt}, reading.read_lines.{Given.Over, Goals.{After-read_line, in-Nothing}}}
+use Rattle.denial_program.proofs.reading.read_lines.Goals.{in-Record+in_ok-push-in-Record}
 use Rattle.denial_program.proofs.reading.read_lines.Goals as goal
 
 -- the line of this number was taken

@@ -1,4 +1,4 @@
-use Rattle.denial_program.proofs.ReadingLemmas.{Follows}
+use Rattle.denial_program.proofs.LineLemmas.{Follows}
 use Rattle.denial_program.proofs.reading.read_lines.Given as goal
 
 abbrev pub invariant-loop-number : goal.invariant-loop-number

@@ -1,5 +1,5 @@
 use Rattle.std.proofs.{Common.arith, lemmas.Grind.common_steps}
-use Rattle.denial_program.proofs.ReadingLemmas.{known_start}
+use Rattle.denial_program.proofs.LineLemmas.{known_start}
 use Rattle.denial_program.proofs.reading.skip_all.Goals as goal
 
 pub loop-init : goal.loop-init

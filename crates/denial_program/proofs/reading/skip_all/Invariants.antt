@@ -1,4 +1,4 @@
-use Rattle.denial_program.proofs.ReadingLemmas.{StaysKnown}
+use Rattle.denial_program.proofs.LineLemmas.{StaysKnown}
 use Rattle.denial_program.proofs.reading.skip_all.Given as goal
 
 abbrev pub invariant-loop : goal.invariant-loop

@@ -1,9 +1,8 @@
 use Rattle.std.proofs.{Common.{Ok, ◌≡◌, ◌&&◌, ◌++◌, ap, inl, inr, map, refl, subst, sym, take, arith}, lemmas.Grind.common_steps}
 use Rattle.domain_octets.proofs.StdLemmas.{if_err_of}
-use Rattle.domain_nsec3.specs.{Ancestors.IsListOf, Config.hash_name, Owners.is_chain_name, View.config_of}
+use Rattle.domain_nsec3.specs.{Steps.IsListOf, Chain.{hash_name, is_chain_name}, View.config_of}
 use Rattle.domain_borrowed.specs.Data.{zone_of_raw}
-use Rattle.domain_alike.specs.{Alike.{pair_of, IsFirstRefusal, IsRefusedBy}, AlikeSteps.pair_with}
-use Rattle.domain_alike.proofs.AlikeLemmas.{alike_are, first_refusal, pairs_more}
+use Rattle.domain_alike.{specs.Alike.{pair_of, IsFirstRefusal, IsRefusedBy, pair_with}, proofs.AlikeLemmas.{alike_are, first_refusal, pairs_more}}
 use Rattle.domain_alike.proofs.alike.alike_names.{Given.Over, Goals.{After-deref-name-items, in-Some+in_ok-later+in_ok-push, in_default}}
 use Rattle.domain_alike.proofs.alike.alike_names.Goals as goal
 

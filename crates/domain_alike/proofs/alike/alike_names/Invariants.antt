@@ -1,6 +1,6 @@
 use Rattle.std.proofs.Common.{map, take}
 use Rattle.domain_nsec3.specs.View.{hash_by, parameters_of}
-use Rattle.domain_alike.specs.{Alike.pair_of, AlikeSteps.{AreFirstNames, ArePairs}}
+use Rattle.domain_alike.specs.Alike.{pair_of, AreFirstNames, ArePairs}
 use Rattle.domain_alike.proofs.alike.alike_names.Given as goal
 
 -- the pairs of the names so far are told, and the first name of each hash is known

@@ -1,6 +1,6 @@
 use Rattle.std.proofs.Common.{◌≡◌, ◌++◌, length, map}
 use Rattle.domain_borrowed.specs.Data.{zone_of_raw}
-use Rattle.domain_zone.{specs.Owners.covered_names, proofs.GivenLemmas.name_of}
+use Rattle.domain_zone.{specs.Zone.covered_names, proofs.GivenLemmas.name_of}
 use Rattle.domain_alike.proofs.chain_names.owners_of.Given as goal
 
 abbrev pub invariant-owners : goal.invariant-owners

@@ -1,7 +1,7 @@
 use Rattle.std.{proofs.Common.{◌≡◌, map, drop}, specs.{List.find, Option.{option_map, option_or}, Prelude.IfSome}}
-use Rattle.domain_nsec.specs.ChainView.{as_link}
+use Rattle.domain_nsec.specs.Chain.{as_link}
 use Rattle.domain_checker.specs.Reading.{is_cover, is_match}
-use Rattle.domain_answer.specs.Found.{IsSharing, cover_link}
+use Rattle.domain_answer.specs.Reading.{IsSharing, cover_link}
 use Rattle.domain_answer.proofs.found.find_nsec.Given as goal
 
 -- what is found in the whole list is found in the rest, unless a cover was met already

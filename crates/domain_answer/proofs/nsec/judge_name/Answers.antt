@@ -1,7 +1,7 @@
 use Rattle.std.proofs.{Common.{◌≡◌, sym, ◌∙◌, arith}, lemmas.Grind.common_steps}
-use Rattle.domain_nsec.specs.ChainView.{as_link, links_of}
+use Rattle.domain_nsec.specs.Chain.{as_link, links_of}
 use Rattle.domain_answer.proofs.{ChainLemmas.{cover_told, found_covers, found_reads, match_told}, nsec.judge_name.{Given.Over, Goals.After-find_nsec}}
-use Rattle.domain_answer.specs.{Found.{cover_link, found_cover, found_match}, Reading.{listed_both, reading}}
+use Rattle.domain_answer.specs.Reading.{cover_link, found_cover, found_match, listed_both, reading}
 use Rattle.domain_answer.proofs.nsec.judge_name.Goals as goal
 
 -- the records say what the first match says, or else the first cover

@@ -1,5 +1,5 @@
 use Rattle.std.proofs.Common.{◌<◌, sym, ap, ◌∙◌, subst}
-use Rattle.domain_nsec.specs.ChainView.{links_of}
+use Rattle.domain_nsec.specs.Chain.{links_of}
 use Rattle.domain_answer.{proofs.{ChainLemmas.given_is, HashedAnswerLemmas.judged}, specs.Reading.wildcard_answer}
 use Rattle.domain_answer.proofs.nsec.judge_nsec.Goals as goal
 

@@ -1,5 +1,5 @@
 use Rattle.std.proofs.{Common.{arith, ◌<◌, sym, ◌∙◌, subst, Ok}, lemmas.{Grind.common_steps, Result.err_from_is_err_and}}
-use Rattle.domain_checker.specs.HashedView.{hashed_records}
+use Rattle.domain_checker.specs.HashedVerdict.{hashed_records}
 use Rattle.domain_answer.proofs.{HashedAnswerLemmas.{hashed_judged, IsAsked, asked_below}, nsec3.judge_nsec3.Goals.{After-found_answer, In-NoCloserName}}
 use Rattle.domain_answer.{proofs.nsec3.judge_nsec3.Given.Over, specs.{HashedReading.IsHashedRead, Judged.IsHashedJudged, declared.answer.Answer.Answer}}
 use Rattle.domain_answer.proofs.nsec3.judge_nsec3.Goals as goal

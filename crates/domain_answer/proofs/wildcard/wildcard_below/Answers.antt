@@ -1,7 +1,7 @@
 use Rattle.std.proofs.{Common.{◌≡◌, ℕ, ◌+◌, ◌≤◌, ◌<◌, ◌-◌, zero, suc, [], ◌∷◌, drop, length, sym, ap, ◌∙◌, subst, arith}, lemmas.Grind.common_steps}
 use Rattle.std.specs.List.{AllByRecursion}
-use Rattle.domain_octets.specs.Words.{Octets}
-use Rattle.domain_names.{specs.{Name.{IsLabel, IsName, wire_of, last_labels}, Wire.{labels_of, IsWire}, Words.Name}, proofs.WireLemmas.IsWire-wire_of}
+use Rattle.domain_octets.specs.Octets.{Octets}
+use Rattle.domain_names.{specs.{Name.{IsLabel, IsName, wire_of, last_labels, Name}, Wire.{labels_of, IsWire}}, proofs.WireLemmas.IsWire-wire_of}
 use Rattle.domain_names.proofs.WireLemmas.{labels_of-wire_of}
 use Rattle.domain_answer.{specs.ZoneAnswer.{asterisk, wildcard_below}, proofs.wildcard.wildcard_below.{Given.Over, Goals.After-as_wire}}
 use Rattle.domain_answer.proofs.wildcard.wildcard_below.Goals as goal

@@ -1,4 +1,4 @@
-use Rattle.domain_base.proofs.ReadBackLemmas.{number_back, type_back, class_back}
+use Rattle.domain_base.proofs.TextLemmas.{number_back, type_back, class_back}
 use Rattle.domain_base.proofs.laws.numbers_are_read_back.Goals as goal
 
 pub returns : goal.returns

@@ -1,5 +1,5 @@
 use Rattle.std.proofs.Common.{sym, ◌∙◌}
-use Rattle.domain_base.proofs.NamedLemmas.{one_named}
+use Rattle.domain_base.proofs.TextLemmas.{one_named}
 use Rattle.domain_base.proofs.laws.texts_spell_one_number.Goals as goal
 
 pub returns : goal.returns

@@ -1,5 +1,5 @@
 use Rattle.std.specs.Prelude.{IsSome}
-use Rattle.domain_base.proofs.NamedLemmas.{cut_behind}
+use Rattle.domain_base.proofs.TextLemmas.{cut_behind}
 use Rattle.domain_base.proofs.named.after_prefix.Goals as goal
 
 pub returns-in_default : goal.returns-in_default

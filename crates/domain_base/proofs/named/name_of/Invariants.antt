@@ -1,5 +1,5 @@
 use Rattle.std.proofs.Common.{◌≡◌, drop}
-use Rattle.domain_base.specs.Named.{name_of, entries}
+use Rattle.domain_base.specs.Numbers.{name_of, entries}
 use Rattle.domain_base.proofs.named.name_of.Given as goal
 
 abbrev pub invariant-loop-known : goal.invariant-loop-known

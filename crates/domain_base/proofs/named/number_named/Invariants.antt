@@ -1,5 +1,5 @@
 use Rattle.std.proofs.Common.{◌≡◌, drop}
-use Rattle.domain_base.specs.Named.{number_named, entries}
+use Rattle.domain_base.specs.Numbers.{number_named, entries}
 use Rattle.domain_base.proofs.named.number_named.Given as goal
 
 abbrev pub invariant-loop-number : goal.invariant-loop-number

@@ -1,5 +1,5 @@
 use Rattle.std.proofs.Common.{length}
-use Rattle.domain_bitmap.proofs.FaultLemmas.{Reading}
+use Rattle.domain_bitmap.proofs.BlockLemmas.{Reading}
 use Rattle.domain_bitmap.proofs.blocks.check.Given as goal
 
 abbrev pub invariant-loop-rest : goal.invariant-loop-rest

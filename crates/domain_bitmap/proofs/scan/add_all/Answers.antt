@@ -1,6 +1,6 @@
 use Rattle.std.proofs.Common.{Err, ap, arith}
 use Rattle.domain_octets.proofs.StdLemmas.{if_err_of}
-use Rattle.domain_bitmap.proofs.ScanLemmas.{scan_starts, scan_goes, scan_ends, scan_refused, scan_full, none_left}
+use Rattle.domain_bitmap.proofs.TextLemmas.{scan_starts, scan_goes, scan_ends, scan_refused, scan_full, none_left}
 use Rattle.domain_bitmap.proofs.scan.add_all.Goals as goal
 
 pub loop-scanner-init : goal.loop-scanner-init

@@ -1,5 +1,5 @@
 use Rattle.std.proofs.Common.{length}
-use Rattle.domain_bitmap.proofs.ScanLemmas.{Scanned}
+use Rattle.domain_bitmap.proofs.TextLemmas.{Scanned}
 use Rattle.domain_bitmap.proofs.scan.add_all.Given as goal
 
 abbrev pub invariant-loop-scanner : goal.invariant-loop-scanner

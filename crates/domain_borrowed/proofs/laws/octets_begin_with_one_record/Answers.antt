@@ -1,4 +1,4 @@
-use Rattle.domain_borrowed.proofs.WireLemmas.{same_record}
+use Rattle.domain_borrowed.proofs.DataLemmas.{same_record}
 use Rattle.domain_borrowed.proofs.laws.octets_begin_with_one_record.Goals as goal
 
 pub returns : goal.returns

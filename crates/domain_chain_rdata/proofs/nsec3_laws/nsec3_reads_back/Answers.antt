@@ -1,4 +1,4 @@
-use Rattle.domain_chain_rdata.proofs.ReadBackLemmas.{nsec3_text_back, nsec3_text_same}
+use Rattle.domain_chain_rdata.proofs.TextLemmas.{nsec3_text_back, nsec3_text_same}
 use Rattle.domain_chain_rdata.proofs.nsec3_laws.nsec3_reads_back.Goals as goal
 
 pub returns : goal.returns

@@ -1,7 +1,7 @@
 use Rattle.std.proofs.{Common.{◌∙◌, sym, ap, subst, None, arith}, lemmas.Grind.common_steps}
 use Rattle.domain_names.specs.Name.{lowered, wire_of}
 use Rattle.domain_checker.proofs.HashedListLemmas.{outside_unmatched, IsReached, encloser_there, missed_there, none_left, reached_first, reached_on}
-use Rattle.domain_checker.{proofs.HashedListLemmas.{refused_there, wire_above}, specs.HashedView.hashed_records}
+use Rattle.domain_checker.{proofs.HashedListLemmas.{refused_there, wire_above}, specs.HashedVerdict.hashed_records}
 use Rattle.domain_checker.proofs.encloser.find_nsec3_encloser.Goals as goal
 
 pub returns-then-not-ends_with-clause-found : goal.returns-then-not-ends_with-clause-found

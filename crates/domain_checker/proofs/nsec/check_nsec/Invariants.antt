@@ -1,6 +1,6 @@
 use Rattle.std.proofs.Common.{take}
-use Rattle.domain_nsec.specs.ChainView.{links_of}
-use Rattle.domain_checker.specs.HandedIn.{HasRead}
+use Rattle.domain_nsec.specs.Chain.{links_of}
+use Rattle.domain_checker.specs.Reading.{HasRead}
 use Rattle.domain_checker.proofs.nsec.check_nsec.Given as goal
 
 abbrev pub invariant-loop-listed : goal.invariant-loop-listed

@@ -1,6 +1,6 @@
 use Rattle.std.{proofs.{Common.{◌≡◌, ◌<◌, ◌∙◌, true, sym, ap, subst, arith}, lemmas.Grind.common_steps}, specs.Option.option_map}
 use Rattle.domain_names.specs.Name.{is_at_or_below}
-use Rattle.domain_checker.specs.{HashedEncloser.encloser_of, HashedReading.{IsWalked, found_verdict}, HashedView.hashed_records}
+use Rattle.domain_checker.specs.{HashedReading.{encloser_of, IsWalked, found_verdict}, HashedVerdict.hashed_records}
 use Rattle.domain_checker.proofs.nsec3.check_nsec3.Goals as goal
 
 -- the verdict is what the way to the apex gives, and what the records prove

@@ -1,5 +1,5 @@
 use Rattle.std.{proofs.{Common.{◌≡◌, ◌*◌, ◌+◌, ◌/◌, ◌∙◌, refl, arith}, lemmas.Grind.common_steps}, specs.Ordering.nat_cmp}
-use Rattle.domain_codecs.proofs.Scale.{no_bits}
+use Rattle.domain_codecs.proofs.Base32Lemmas.{no_bits}
 use Rattle.domain_checker.proofs.HashedListLemmas.{compared_apart, compared_end, compared_narrow, compared_none, compared_wide}
 use Rattle.domain_checker.proofs.spelled.spelled_cmp.Goals as goal
 

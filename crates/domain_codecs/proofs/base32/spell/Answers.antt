@@ -1,6 +1,6 @@
 use Rattle.std.proofs.{Common.{arith, slice_index}, lemmas.Grind.common_steps}
-use Rattle.domain_codecs.proofs.{Base32Lemmas.spelled_five, ReadBackLemmas.are_small}
-use Rattle.domain_octets.proofs.OctetLemmas.{octets_from_type}
+use Rattle.domain_codecs.proofs.Base32Lemmas.{spelled_five, are_small}
+use Rattle.domain_octets.proofs.WordLemmas.{octets_from_type}
 use Rattle.domain_codecs.proofs.base32.spell.Goals as goal
 
 pub returns-clause-value : goal.returns-clause-value

@@ -1,5 +1,5 @@
 use Rattle.std.{proofs.Common.{length}}
-use Rattle.domain_octets.specs.Limit.{HasRoom}
+use Rattle.domain_octets.specs.Octets.{HasRoom}
 use Rattle.domain_codecs.proofs.JoinedLemmas.{ReadPieces}
 use Rattle.domain_codecs.proofs.decoding.build.Given as goal
 

@@ -1,5 +1,5 @@
 use Rattle.std.{proofs.Common.{◌≡◌, ◌+◌, ◌%◌, ◌<◌, length, map}, specs.List.concat}
-use Rattle.domain_octets.specs.Words.{AreOctets}
+use Rattle.domain_octets.specs.Octets.{AreOctets}
 use Rattle.domain_codecs.proofs.joined.over_eight.Given as goal
 
 abbrev pub invariant-loop-left : goal.invariant-loop-left

@@ -1,6 +1,6 @@
 use Rattle.std.{proofs.Common.{length}}
 use Rattle.domain_codecs.specs.Codec.{is_digit}
-use Rattle.domain_octets.proofs.PrefixLemmas.{Searched}
+use Rattle.domain_octets.proofs.WordLemmas.{Searched}
 use Rattle.domain_codecs.proofs.judging.first_other.Given as goal
 
 abbrev pub invariant-loop-left : goal.invariant-loop-left

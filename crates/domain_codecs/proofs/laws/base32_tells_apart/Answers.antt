@@ -1,4 +1,4 @@
-use Rattle.domain_codecs.proofs.OrderLemmas.{lower_apart, upper_apart}
+use Rattle.domain_codecs.proofs.Base32Lemmas.{lower_apart, upper_apart}
 use Rattle.domain_codecs.proofs.laws.base32_tells_apart.Goals as goal
 
 pub returns : goal.returns

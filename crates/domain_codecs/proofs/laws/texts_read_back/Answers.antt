@@ -1,4 +1,4 @@
-use Rattle.domain_codecs.proofs.{CodecBackLemmas.{lower_back, upper_back, base64_back}, ReadBackLemmas.upper_reads_back}
+use Rattle.domain_codecs.proofs.{CodecBackLemmas.{lower_back, upper_back, base64_back}, Base32Lemmas.upper_reads_back}
 use Rattle.domain_codecs.proofs.laws.texts_read_back.Goals as goal
 
 pub returns : goal.returns

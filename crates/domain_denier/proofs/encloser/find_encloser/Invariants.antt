@@ -1,7 +1,7 @@
 use Rattle.std.proofs.Common.{◌≡◌, length}
 use Rattle.domain_names.specs.Name.{lowered, wire_of}
 use Rattle.domain_nsec3.specs.View.{hash_by}
-use Rattle.domain_denier.specs.HashedSteps.{IsReached}
+use Rattle.domain_denier.specs.HashedPicked.{IsReached}
 use Rattle.domain_denier.proofs.encloser.find_encloser.Given as goal
 
 abbrev pub invariant-names : goal.invariant-names

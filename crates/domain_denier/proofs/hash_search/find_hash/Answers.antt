@@ -1,5 +1,5 @@
 use Rattle.std.{proofs.Common.{arith, sym, ap, subst, ◌∙◌}, specs.Ordering.is_eq}
-use Rattle.domain_denier.{proofs.{HashedDenyLemmas.found, HashedPickLemmas.read_is}, specs.HashedSteps.IsOfHash}
+use Rattle.domain_denier.{proofs.{HashedDenyLemmas.found, HashedPickLemmas.read_is}, specs.HashedPicked.IsOfHash}
 use Rattle.domain_denier.proofs.hash_search.find_hash.Goals as goal
 
 pub returns-clause-of_hash : goal.returns-clause-of_hash

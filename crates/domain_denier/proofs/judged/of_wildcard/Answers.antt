@@ -1,7 +1,7 @@
 use Rattle.std.proofs.{Common.{[], ◌∷◌, None, refl, sym, ap, ◌∙◌}, lemmas.Bool.false≢true}
-use Rattle.domain_nsec.specs.ChainView.{as_link}
-use Rattle.domain_answer.specs.{Found.IsFound, Reading.wildcard_both, declared.answer.Answer.TheVariants.NoCloserName}
-use Rattle.domain_denier.{proofs.PickLemmas.count_kept, specs.Judged.IsSilent}
+use Rattle.domain_nsec.specs.Chain.{as_link}
+use Rattle.domain_answer.specs.{Reading.{IsFound, wildcard_both}, declared.answer.Answer.TheVariants.NoCloserName}
+use Rattle.domain_denier.{proofs.PickLemmas.count_kept, specs.Picked.IsSilent}
 use Rattle.domain_denier.proofs.judged.of_wildcard.Goals as goal
 
 pub returns-in-NoMatch-None : goal.returns-in-NoMatch-None

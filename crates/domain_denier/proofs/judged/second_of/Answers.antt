@@ -1,6 +1,6 @@
 use Rattle.std.proofs.Common.{◌≡◌, false, sym, ap, ◌∙◌}
 use Rattle.domain_names.specs.Name.{same_name}
-use Rattle.domain_nsec.specs.ChainView.{as_link}
+use Rattle.domain_nsec.specs.Chain.{as_link}
 use Rattle.domain_denier.proofs.PickLemmas.{both_at}
 use Rattle.domain_denier.proofs.judged.second_of.Goals as goal
 

@@ -1,8 +1,7 @@
 use Rattle.std.proofs.{Common.{List, ◌≡◌, ◌<◌, true, refl, sym, ◌∙◌, subst, Some, arith}, lemmas.{Bool.false≢true, Grind.common_steps}}
 use Rattle.domain_names.specs.Name.{is_at_or_below}
 use Rattle.domain_nsec.specs.Chain.{Link}
-use Rattle.domain_answer.{proofs.ChainLemmas.{given_is, given_never}, specs.{Proved.IsAnswered, Reading.reading}}
-use Rattle.domain_answer.specs.declared.answer.Answer.TheVariants.{NoCloserName}
+use Rattle.domain_answer.{proofs.ChainLemmas.{given_is, given_never}, specs.{Reading.{IsAnswered, reading}, declared.answer.Answer.TheVariants.NoCloserName}}
 use Rattle.domain_denier.proofs.PickLemmas.{outside_only, said_inside, told_of, untold_of, denied_by_both, denied_by_one, none_picked}
 use Rattle.domain_denier.{proofs.nsec.pick.{Given.Over, Goals.{Else-is_outside, In-Untold}}, specs.Picked.at_place}
 use Rattle.domain_denier.proofs.nsec.pick.Goals as goal

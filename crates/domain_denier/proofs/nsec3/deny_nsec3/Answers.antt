@@ -4,9 +4,9 @@ use Rattle.domain_octets.proofs.StdLemmas.{none_some}
 use Rattle.domain_names.specs.Name.{is_at_or_below}
 use Rattle.domain_nsec3.specs.View.{hash_by}
 use Rattle.domain_answer.specs.ZoneAnswer.{is_at_parent}
-use Rattle.domain_denier.proofs.HashedDenyLemmas.{denied_by, denied_none, some_links}
-use Rattle.domain_denier.proofs.{HashedPickLemmas.{all_there, asked_less, placed_at, plain_read, refused_below, wildcard_read}, nsec3.deny_nsec3.Given.Over}
-use Rattle.domain_denier.{proofs.nsec3.deny_nsec3.Goals.{After-first_answer-answer, After-to_int-number}, specs.HashedSteps.IsPlaced}
+use Rattle.domain_denier.proofs.{HashedDenyLemmas.{denied_by, denied_none, some_links}, HashedPickLemmas.{all_there, asked_less, placed_at, plain_read}}
+use Rattle.domain_denier.proofs.{HashedPickLemmas.{refused_below, wildcard_read}, nsec3.deny_nsec3.{Given.Over, Goals.After-first_answer-answer}}
+use Rattle.domain_denier.{proofs.nsec3.deny_nsec3.Goals.After-to_int-number, specs.HashedPicked.IsPlaced}
 use Rattle.domain_denier.proofs.nsec3.deny_nsec3.Goals as goal
 
 -- the name lies in the zone, whose parent does not answer

@@ -1,5 +1,5 @@
 use Rattle.std.specs.Prelude.{◌-◌}
-use Rattle.domain_denier.specs.Search.{AreEnds}
+use Rattle.domain_denier.specs.Picked.{AreEnds}
 use Rattle.domain_denier.proofs.search.place_of.Given as goal
 
 abbrev pub invariant-search : goal.invariant-search

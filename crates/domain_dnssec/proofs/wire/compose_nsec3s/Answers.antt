@@ -1,5 +1,5 @@
 use Rattle.std.proofs.{Common.{◌++◌, ◌∙◌, arith}, lemmas.Result.err_from_is_err_and}
-use Rattle.domain_borrowed.specs.{Links.nsec3_record, Wire.record_octets}
+use Rattle.domain_borrowed.specs.Data.{nsec3_record, record_octets}
 use Rattle.domain_nsec3.specs.Chain.{HashedLink}
 use Rattle.domain_dnssec.proofs.WireLemmas.{long_record, onward}
 use Rattle.domain_dnssec.proofs.wire.compose_nsec3s.Goals as goal

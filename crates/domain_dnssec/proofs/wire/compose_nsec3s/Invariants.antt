@@ -1,5 +1,5 @@
 use Rattle.std.{proofs.Common.{◌≡◌, ◌++◌, take}, specs.List.flat_map}
-use Rattle.domain_borrowed.specs.{Links.nsec3_record, Wire.record_octets}
+use Rattle.domain_borrowed.specs.Data.{nsec3_record, record_octets}
 use Rattle.domain_dnssec.proofs.wire.compose_nsec3s.Given as goal
 
 abbrev pub invariant-loop-place : goal.invariant-loop-place

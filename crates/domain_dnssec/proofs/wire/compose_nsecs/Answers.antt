@@ -1,6 +1,6 @@
 use Rattle.std.proofs.{Common.{◌++◌, ◌∙◌, arith}, lemmas.Result.err_from_is_err_and}
-use Rattle.domain_borrowed.specs.{Links.nsec_record, Wire.record_octets}
-use Rattle.domain_nsec.specs.{Chain.Link, ChainView.as_link}
+use Rattle.domain_borrowed.specs.Data.{nsec_record, record_octets}
+use Rattle.domain_nsec.specs.Chain.{Link, as_link}
 use Rattle.domain_dnssec.proofs.WireLemmas.{long_record, onward}
 use Rattle.domain_dnssec.proofs.wire.compose_nsecs.Goals as goal
 

@@ -1,4 +1,4 @@
-use Rattle.domain_fields.proofs.SameLemmas.{equal_values}
+use Rattle.domain_fields.proofs.LayoutLemmas.{equal_values}
 use Rattle.domain_fields.proofs.fields.canonical_eq.Goals as goal
 
 pub returns-clause-values : goal.returns-clause-values

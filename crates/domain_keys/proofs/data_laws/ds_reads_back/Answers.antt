@@ -1,7 +1,7 @@
 use Rattle.std.proofs.Common.{refl}
-use Rattle.domain_codecs.{specs.declared.codec.Codec.TheVariants.Base16, proofs.{CodecBackLemmas.lower_back, NoBlankLemmas.lower_hex_plain}}
-use Rattle.domain_fields.proofs.ReadBackLemmas.{fields_entry_line}
-use Rattle.domain_keys.specs.Scan.{three_numbers}
+use Rattle.domain_codecs.{specs.declared.codec.Codec.TheVariants.Base16, proofs.{CodecBackLemmas.lower_back, CodecLemmas.lower_hex_plain}}
+use Rattle.domain_fields.proofs.ScanLemmas.{fields_entry_line}
+use Rattle.domain_keys.specs.Keys.{three_numbers}
 use Rattle.domain_keys.proofs.data_laws.ds_reads_back.Goals as goal
 
 pub returns : goal.returns

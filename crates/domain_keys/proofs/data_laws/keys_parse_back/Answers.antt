@@ -1,4 +1,4 @@
-use Rattle.domain_keys.{specs.Data.key_values, proofs.DataLemmas.parsed_back}
+use Rattle.domain_keys.{specs.Keys.key_values, proofs.DataLemmas.parsed_back}
 use Rattle.domain_keys.proofs.data_laws.keys_parse_back.Goals as goal
 
 pub returns : goal.returns

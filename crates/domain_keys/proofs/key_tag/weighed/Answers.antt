@@ -1,5 +1,5 @@
 use Rattle.std.proofs.{Common.{◌<◌, length, arith}, lemmas.Grind.common_steps}
-use Rattle.domain_keys.proofs.KeyTagLemmas.{weighed_step}
+use Rattle.domain_keys.proofs.DataLemmas.{weighed_step}
 use Rattle.domain_keys.proofs.key_tag.weighed.Goals as goal
 
 pub loop-place-preserved : goal.loop-place-preserved

@@ -1,5 +1,5 @@
 use Rattle.std.proofs.Common.{◌≡◌, ◌*◌, ◌≤◌, take}
-use Rattle.domain_keys.specs.KeyTag.{weighed}
+use Rattle.domain_keys.specs.Keys.{weighed}
 use Rattle.domain_keys.proofs.key_tag.weighed.Given as goal
 
 abbrev pub invariant-loop-place : goal.invariant-loop-place

@@ -1,5 +1,5 @@
 use Rattle.std.proofs.Common.{◌≡◌, drop}
-use Rattle.domain_octets.specs.Line.{words_of}
+use Rattle.domain_octets.specs.Text.{words_of}
 use Rattle.domain_message.proofs.line.is_no_entry.Given as goal
 
 -- no word begins before this octet

@@ -1,5 +1,5 @@
 use Rattle.std.proofs.{Common.arith, lemmas.Grind.common_steps}
-use Rattle.domain_names.proofs.SpellingLemmas.{measuring_ends}
+use Rattle.domain_names.proofs.TextLemmas.{measuring_ends}
 use Rattle.domain_names.proofs.text.put_lengths.Goals as goal
 
 pub returns-then-is_empty-clause-labels : goal.returns-then-is_empty-clause-labels

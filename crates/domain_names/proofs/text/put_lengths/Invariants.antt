@@ -1,5 +1,5 @@
 use Rattle.std.proofs.Common.{length}
-use Rattle.domain_names.proofs.SpellingLemmas.{Measuring}
+use Rattle.domain_names.proofs.TextLemmas.{Measuring}
 use Rattle.domain_names.proofs.text.put_lengths.Given as goal
 
 abbrev pub invariant-loop-label : goal.invariant-loop-label

@@ -1,5 +1,5 @@
 use Rattle.std.proofs.Common.{◌≤◌, length}
-use Rattle.domain_names.proofs.SpellingLemmas.{Spelling}
+use Rattle.domain_names.proofs.TextLemmas.{Spelling}
 use Rattle.domain_names.proofs.text.read_label.Given as goal
 
 abbrev pub invariant-loop-octet : goal.invariant-loop-octet

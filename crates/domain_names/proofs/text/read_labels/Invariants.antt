@@ -1,5 +1,5 @@
 use Rattle.std.proofs.Common.{length}
-use Rattle.domain_names.proofs.SpellingLemmas.{Naming}
+use Rattle.domain_names.proofs.TextLemmas.{Naming}
 use Rattle.domain_names.proofs.text.read_labels.Given as goal
 
 abbrev pub invariant-loop-after : goal.invariant-loop-after

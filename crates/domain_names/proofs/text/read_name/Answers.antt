@@ -1,5 +1,5 @@
 use Rattle.std.proofs.Common.{rules}
-use Rattle.domain_names.proofs.SpellingLemmas.{IsLabelsWire, named_fits}
+use Rattle.domain_names.proofs.TextLemmas.{IsLabelsWire, named_fits}
 use Rattle.domain_names.proofs.text.read_name.Goals as goal
 
 pub returns-clause-name : goal.returns-clause-name

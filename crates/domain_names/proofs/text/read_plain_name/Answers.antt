@@ -1,6 +1,6 @@
 use Rattle.std.{proofs.{Common.{◌≡◌, ◌∙◌, length, ap, sym}}, specs.List.refill}
-use Rattle.domain_octets.specs.Written.{refilled}
-use Rattle.domain_names.proofs.SpellingLemmas.{named_fits}
+use Rattle.domain_octets.specs.Octets.{refilled}
+use Rattle.domain_names.proofs.TextLemmas.{named_fits}
 use Rattle.domain_names.proofs.text.read_plain_name.Goals as goal
 
 pub returns : goal.returns

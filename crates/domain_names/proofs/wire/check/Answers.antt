@@ -1,4 +1,4 @@
-use Rattle.domain_names.proofs.FaultLemmas.{trailing_fault}
+use Rattle.domain_names.proofs.WireLemmas.{trailing_fault}
 use Rattle.domain_names.proofs.wire.check.Goals as goal
 
 pub returns-in-Ok-clause-err : goal.returns-in-Ok-clause-err

@@ -1,5 +1,5 @@
 use Rattle.std.proofs.Common.{arith}
-use Rattle.domain_names.proofs.PartingLemmas.{next_end}
+use Rattle.domain_names.proofs.OrderLemmas.{next_end}
 use Rattle.domain_names.proofs.wire.end_within.Goals as goal
 
 pub loop-end-preserved : goal.loop-end-preserved

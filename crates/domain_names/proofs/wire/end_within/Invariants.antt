@@ -1,5 +1,5 @@
 use Rattle.std.proofs.Common.{◌≤◌, length, option_map}
-use Rattle.domain_names.specs.{Parting.EndsIn, Wire.{labels_of, IsWire}, Words.Name}
+use Rattle.domain_names.specs.{Laws.EndsIn, Wire.{labels_of, IsWire}, Name.Name}
 use Rattle.domain_names.proofs.wire.end_within.Given as goal
 
 abbrev pub invariant-loop-end : goal.invariant-loop-end

@@ -1,4 +1,4 @@
-use Rattle.domain_names.proofs.PartingLemmas.{alike_before}
+use Rattle.domain_names.proofs.OrderLemmas.{alike_before}
 use Rattle.domain_names.proofs.wire.equal_eights.Goals as goal
 
 pub eights-preserved : goal.eights-preserved

@@ -1,5 +1,5 @@
 use Rattle.std.proofs.Common.{◌-◌, length}
-use Rattle.domain_names.specs.Parting.{EndAlike}
+use Rattle.domain_names.specs.Laws.{EndAlike}
 use Rattle.domain_names.proofs.wire.equal_eights.Given as goal
 
 abbrev pub invariant-eights : goal.invariant-eights

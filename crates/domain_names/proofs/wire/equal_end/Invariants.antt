@@ -1,4 +1,4 @@
-use Rattle.domain_names.specs.Parting.{EndAlike}
+use Rattle.domain_names.specs.Laws.{EndAlike}
 use Rattle.domain_names.proofs.wire.equal_end.Given as goal
 
 abbrev pub invariant-loop-count : goal.invariant-loop-count

@@ -1,5 +1,5 @@
 use Rattle.std.{proofs.{Common.arith, lemmas.{List.length-map, Grind.common_steps}}, specs.Char.to_ascii_lowercase}
-use Rattle.domain_names.proofs.CaseLemmas.{lowered_wire}
+use Rattle.domain_names.proofs.OrderLemmas.{lowered_wire}
 use Rattle.domain_names.proofs.wire.hash.Goals as goal
 
 pub returns : goal.returns

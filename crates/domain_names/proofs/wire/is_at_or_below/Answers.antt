@@ -1,5 +1,5 @@
 use Rattle.std.proofs.{Common.arith, lemmas.Grind.common_steps}
-use Rattle.domain_names.proofs.PartingLemmas.{longer_below}
+use Rattle.domain_names.proofs.OrderLemmas.{longer_below}
 use Rattle.domain_names.proofs.wire.is_at_or_below.Goals as goal
 
 pub loop-end-preserved : goal.loop-end-preserved

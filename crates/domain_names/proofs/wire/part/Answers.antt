@@ -1,5 +1,5 @@
 use Rattle.std.proofs.Common.{rules}
-use Rattle.domain_names.proofs.PartingLemmas.{part_at}
+use Rattle.domain_names.proofs.OrderLemmas.{part_at}
 use Rattle.domain_names.proofs.wire.part.Goals as goal
 
 pub returns-clause-parts : goal.returns-clause-parts

@@ -1,5 +1,5 @@
 use Rattle.std.proofs.Common.{length, ◌+◌, ◌≤◌, option_map}
-use Rattle.domain_names.specs.{Parting.EndsIn, Wire.{labels_of, IsWire}}
+use Rattle.domain_names.specs.{Laws.EndsIn, Wire.{labels_of, IsWire}}
 use Rattle.domain_names.proofs.wire.part.Given as goal
 
 abbrev pub invariant-parting : goal.invariant-parting

@@ -1,6 +1,6 @@
 use Rattle.std.proofs.{Common.arith, lemmas.Grind.common_steps}
-use Rattle.domain_octets.proofs.OctetLemmas.{octets_from_type}
-use Rattle.domain_names.proofs.FaultLemmas.{reading_goes, label_fault, length_fault, cut_fault}
+use Rattle.domain_octets.proofs.WordLemmas.{octets_from_type}
+use Rattle.domain_names.proofs.WireLemmas.{reading_goes, label_fault, length_fault, cut_fault}
 use Rattle.domain_names.proofs.wire.split_name.Goals as goal
 
 pub returns-then-from-gt-MAX_LABEL_LEN-clause-err : goal.returns-then-from-gt-MAX_LABEL_LEN-clause-err

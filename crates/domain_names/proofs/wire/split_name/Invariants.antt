@@ -1,5 +1,5 @@
 use Rattle.std.proofs.Common.{◌-◌, length}
-use Rattle.domain_names.proofs.FaultLemmas.{Reading}
+use Rattle.domain_names.proofs.WireLemmas.{Reading}
 use Rattle.domain_names.proofs.wire.split_name.Given as goal
 
 abbrev pub invariant-loop-len : goal.invariant-loop-len

@@ -1,4 +1,4 @@
-use Rattle.domain_nsec.proofs.LawLemmas.{bits_alike}
+use Rattle.domain_nsec.proofs.EncloserLemmas.{bits_alike}
 use Rattle.domain_nsec.proofs.laws.types_ignore_case.Goals as goal
 
 pub returns : goal.returns

@@ -1,5 +1,5 @@
 use Rattle.std.proofs.{Common.arith, lemmas.Grind.common_steps}
-use Rattle.domain_zone.proofs.GroupLemmas.{owners_in_order}
+use Rattle.domain_zone.proofs.WalkLemmas.{owners_in_order}
 use Rattle.domain_nsec.proofs.EncloserLemmas.{means_the_zone}
 use Rattle.domain_nsec.proofs.nsec.generate_nsecs.Goals as goal
 

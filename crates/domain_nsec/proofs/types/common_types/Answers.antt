@@ -1,4 +1,4 @@
-use Rattle.domain_nsec.proofs.{TypeLemmas.{common_two, common_three}, types.common_types.Goals.{then-assumed+in_ok-add_type-3, else-assumed}}
+use Rattle.domain_nsec.proofs.{ChainLemmas.{common_two, common_three}, types.common_types.Goals.{then-assumed+in_ok-add_type-3, else-assumed}}
 use Rattle.domain_nsec.proofs.types.common_types.Goals as goal
 
 pub returns : goal.returns

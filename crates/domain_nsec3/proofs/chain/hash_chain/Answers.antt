@@ -1,5 +1,5 @@
 use Rattle.std.proofs.{Common.{List, sym, subst, inr}, lemmas.Result.err_from_is_err_and}
-use Rattle.domain_names.specs.Words.{Name}
+use Rattle.domain_names.specs.Name.{Name}
 use Rattle.domain_nsec3.specs.{Steps.{AreHashesOf, AreOrderedHashes}, View.{hash_by, parameters_of}}
 use Rattle.domain_nsec3.proofs.{HashLemmas.moved_hashes, chain.hash_chain.{Given.Over, Goals.In_ok-sort_by_hash}}
 use Rattle.domain_nsec3.proofs.chain.hash_chain.Goals as goal

@@ -1,7 +1,7 @@
 use Rattle.std.proofs.Common.{◌≡◌, true, ◌++◌, ◌+◌, drop, ◌∷◌, [], refl, sym, ◌∙◌, ap, subst, arith}
 use Rattle.std.{proofs.lemmas.{Grind.common_steps, List.{append-nil, drop_more, drop_all, Elements.recursion_from_All}}, specs.Prelude.if◌then◌else◌}
 use Rattle.domain_names.specs.Name.{is_at_or_below}
-use Rattle.domain_nsec3.{specs.Ancestors.{IsListOf, is_over}, proofs.ListLemmas.{gathered, gathered_step, listed}}
+use Rattle.domain_nsec3.{specs.Steps.{IsListOf, is_over}, proofs.OwnerLemmas.{gathered, gathered_step, listed}}
 use Rattle.domain_nsec3.proofs.empty.names_over.Goals.{then-with_owners+in_ok-try_clone+in_ok-push, else-with_owners}
 use Rattle.domain_nsec3.proofs.empty.names_over.Goals as goal
 

@@ -1,5 +1,5 @@
 use Rattle.std.proofs.Common.{◌≡◌, ◌++◌, drop}
-use Rattle.domain_nsec3.proofs.ListLemmas.{gathered}
+use Rattle.domain_nsec3.proofs.OwnerLemmas.{gathered}
 use Rattle.domain_nsec3.proofs.empty.names_over.Given as goal
 
 abbrev pub invariant-loop-owner : goal.invariant-loop-owner

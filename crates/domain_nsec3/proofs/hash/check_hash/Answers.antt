@@ -1,6 +1,6 @@
 use Rattle.std.proofs.{Common.arith, lemmas.Grind.common_steps}
-use Rattle.domain_octets.proofs.OctetLemmas.{octets_from_type}
-use Rattle.domain_nsec3.proofs.TextLemmas.{owner_length}
+use Rattle.domain_octets.proofs.WordLemmas.{octets_from_type}
+use Rattle.domain_nsec3.proofs.HashLemmas.{owner_length}
 use Rattle.domain_nsec3.proofs.hash.check_hash.Goals as goal
 
 pub returns-then-digits-as_wire-gt-MAX_NAME-clause-err : goal.returns-then-digits-as_wire-gt-MAX_NAME-clause-err

@@ -1,6 +1,6 @@
 use Rattle.std.proofs.Common.{rules, arith, length, ◌-◌, drop, subst}
 use Rattle.std.specs.List.{AllPass}
-use Rattle.domain_octets.proofs.PrefixLemmas.{searched_first, searched_whole}
+use Rattle.domain_octets.proofs.WordLemmas.{searched_first, searched_whole}
 use Rattle.domain_octets.proofs.octet_set.are_many_usual.Goals as goal
 
 pub loop-front-preserved : goal.loop-front-preserved

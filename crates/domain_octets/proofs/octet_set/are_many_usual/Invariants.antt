@@ -1,5 +1,5 @@
 use Rattle.std.proofs.Common.{length}
-use Rattle.domain_octets.proofs.PrefixLemmas.{Searched}
+use Rattle.domain_octets.proofs.WordLemmas.{Searched}
 use Rattle.domain_octets.proofs.octet_set.are_many_usual.Given as goal
 
 abbrev pub invariant-loop-front : goal.invariant-loop-front

@@ -1,5 +1,5 @@
 use Rattle.std.{proofs.Common.rules, specs.List.AllPass}
-use Rattle.domain_octets.proofs.PrefixLemmas.{searched_first}
+use Rattle.domain_octets.proofs.WordLemmas.{searched_first}
 use Rattle.domain_octets.proofs.octet_set.eights_len.Goals as goal
 
 pub loop-eight-preserved : goal.loop-eight-preserved

@@ -1,7 +1,6 @@
 use Rattle.std.proofs.{Common.{ap, arith, length, refl, ◌∙◌}, lemmas.{Bool.false≢true, Result.on_ok_weaker}}
 use Rattle.memchr.specs.Find.{places_between}
-use Rattle.domain_octets.specs.Line.{is_blank}
-use Rattle.domain_octets.proofs.WordLemmas.{ends_word, found, last_pushed, last_room, more_pushed, next_room}
+use Rattle.domain_octets.{specs.Text.is_blank, proofs.WordLemmas.{ends_word, found, last_pushed, last_room, more_pushed, next_room}}
 use Rattle.domain_octets.proofs.words.push_words.Goals as goal
 
 pub loop-blank-init : goal.loop-blank-init

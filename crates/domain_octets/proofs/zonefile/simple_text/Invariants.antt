@@ -1,5 +1,5 @@
 use Rattle.std.proofs.Common.{◌≡◌, ◌++◌, drop, map, string_bytes}
-use Rattle.domain_octets.{specs.Piece.{piece_text, simple_text, tokens_of}, proofs.PieceLemmas.added}
+use Rattle.domain_octets.{specs.Text.{piece_text, simple_text, tokens_of}, proofs.WordLemmas.added}
 use Rattle.domain_octets.proofs.zonefile.simple_text.Given as goal
 
 abbrev pub invariant-loop-piece : goal.invariant-loop-piece

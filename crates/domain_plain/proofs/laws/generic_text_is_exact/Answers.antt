@@ -1,4 +1,4 @@
-use Rattle.domain_plain.proofs.GenericLemmas.{generic_exact}
+use Rattle.domain_plain.proofs.PlainLemmas.{generic_exact}
 use Rattle.domain_plain.proofs.laws.generic_text_is_exact.Goals as goal
 
 pub returns : goal.returns

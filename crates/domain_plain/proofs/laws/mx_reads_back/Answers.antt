@@ -1,5 +1,5 @@
 use Rattle.std.proofs.{Common.{refl, arith, append_assoc}, lemmas.Grind.common_steps}
-use Rattle.domain_fields.proofs.ReadBackLemmas.{fields_line}
+use Rattle.domain_fields.proofs.ScanLemmas.{fields_line}
 use Rattle.domain_plain.specs.Plain.{mx, mx_values}
 use Rattle.domain_plain.proofs.laws.mx_reads_back.Goals as goal
 

@@ -1,5 +1,5 @@
 use Rattle.std.proofs.{Common.{refl, arith}, lemmas.Grind.common_steps}
-use Rattle.domain_fields.proofs.ReadBackLemmas.{fields_line}
+use Rattle.domain_fields.proofs.ScanLemmas.{fields_line}
 use Rattle.domain_plain.specs.Plain.{soa, soa_values}
 use Rattle.domain_plain.proofs.laws.soa_reads_back.Goals as goal
 

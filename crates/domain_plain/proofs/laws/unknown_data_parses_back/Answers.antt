@@ -1,4 +1,4 @@
-use Rattle.domain_plain.proofs.WireLemmas.{short_data_back}
+use Rattle.domain_plain.proofs.PlainLemmas.{short_data_back}
 use Rattle.domain_plain.proofs.laws.unknown_data_parses_back.Goals as goal
 
 pub returns : goal.returns

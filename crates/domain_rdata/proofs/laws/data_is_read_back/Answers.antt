@@ -1,6 +1,6 @@
 use Rattle.std.{proofs.{Common.{arith, ◌<◌, refl, rules}, lemmas.Grind.common_steps}, specs.List.All}
-use Rattle.domain_names.proofs.SpellingLemmas.{name_is_valid}
-use Rattle.domain_rdata.{specs.Scan.own, proofs.ReadBackLemmas.{ns_text, soa_back, rrsig_back, nsec_first, unknown_back}}
+use Rattle.domain_names.proofs.TextLemmas.{name_is_valid}
+use Rattle.domain_rdata.{specs.Scan.own, proofs.ScanLemmas.{ns_text, soa_back, rrsig_back, nsec_first, unknown_back}}
 use Rattle.domain_rdata.proofs.laws.data_is_read_back.Goals as goal
 
 pub returns-in-Ns : goal.returns-in-Ns

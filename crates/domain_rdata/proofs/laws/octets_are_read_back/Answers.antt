@@ -1,4 +1,4 @@
-use Rattle.domain_rdata.proofs.ReadBackLemmas.{mere_back}
+use Rattle.domain_rdata.proofs.ScanLemmas.{mere_back}
 use Rattle.domain_rdata.proofs.laws.octets_are_read_back.Goals as goal
 
 pub returns-in-Unknown : goal.returns-in-Unknown

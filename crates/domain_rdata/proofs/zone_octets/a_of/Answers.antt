@@ -1,6 +1,6 @@
 use Rattle.std.proofs.Common.{None, refl}
 use Rattle.domain_plain.specs.Plain.{a, a_values}
-use Rattle.domain_rdata.{specs.Kind.plain, proofs.OctetsLemmas.not_data}
+use Rattle.domain_rdata.{specs.Zone.plain, proofs.ScanLemmas.not_data}
 use Rattle.domain_rdata.proofs.zone_octets.a_of.Goals as goal
 
 pub returns-in_err-whole : goal.returns-in_err-whole

@@ -1,6 +1,6 @@
 use Rattle.std.proofs.{Common.{inr, refl, arith}, lemmas.Grind.common_steps}
-use Rattle.domain_keys.specs.Data.{key_values}
-use Rattle.domain_rdata.{specs.Kind.key, proofs.OctetsLemmas.{not_data, not_copied}}
+use Rattle.domain_keys.specs.Keys.{key_values}
+use Rattle.domain_rdata.{specs.Zone.key, proofs.ScanLemmas.{not_data, not_copied}}
 use Rattle.domain_rdata.proofs.zone_octets.key_of.Goals as goal
 
 pub returns-in_err-data : goal.returns-in_err-data

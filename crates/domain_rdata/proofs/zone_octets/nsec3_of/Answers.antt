@@ -1,6 +1,6 @@
 use Rattle.std.proofs.{Common.{inl, inr, refl, arith}, lemmas.Grind.common_steps}
 use Rattle.domain_chain_rdata.specs.Rdata.{nsec3_values}
-use Rattle.domain_rdata.{specs.Kind.next_by_hash, proofs.OctetsLemmas.{not_data, not_copied}}
+use Rattle.domain_rdata.{specs.Zone.next_by_hash, proofs.ScanLemmas.{not_data, not_copied}}
 use Rattle.domain_rdata.proofs.zone_octets.nsec3_of.Goals as goal
 
 pub returns-in_err-data : goal.returns-in_err-data

@@ -1,6 +1,6 @@
 use Rattle.std.proofs.{Common.{inr, refl, arith}, lemmas.Grind.common_steps}
 use Rattle.domain_chain_rdata.specs.Rdata.{nsec3param_values}
-use Rattle.domain_rdata.{specs.Kind.params, proofs.OctetsLemmas.{not_data, not_copied}}
+use Rattle.domain_rdata.{specs.Zone.params, proofs.ScanLemmas.{not_data, not_copied}}
 use Rattle.domain_rdata.proofs.zone_octets.nsec3param_of.Goals as goal
 
 pub returns-in_err-data : goal.returns-in_err-data

@@ -1,5 +1,5 @@
 use Rattle.std.proofs.{Common.{refl}}
-use Rattle.domain_rdata.{specs.Kind.next_by_name, proofs.OctetsLemmas.not_data}
+use Rattle.domain_rdata.{specs.Zone.next_by_name, proofs.ScanLemmas.not_data}
 use Rattle.domain_rdata.proofs.zone_octets.nsec_of.Goals as goal
 
 pub returns-in_err-data : goal.returns-in_err-data

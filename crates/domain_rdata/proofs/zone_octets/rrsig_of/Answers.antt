@@ -1,6 +1,6 @@
 use Rattle.std.proofs.{Common.{refl}}
 use Rattle.domain_rrsig.specs.Data.{rrsig_values}
-use Rattle.domain_rdata.{specs.Kind.signature, proofs.OctetsLemmas.not_data}
+use Rattle.domain_rdata.{specs.Zone.signature, proofs.ScanLemmas.not_data}
 use Rattle.domain_rdata.proofs.zone_octets.rrsig_of.Goals as goal
 
 pub returns-in_err-data : goal.returns-in_err-data

@@ -1,6 +1,6 @@
 use Rattle.std.proofs.{Common.{◌<◌, length, subst, arith, rules}, lemmas.Grind.common_steps}
-use Rattle.domain_names.specs.Fault.{fault_of}
-use Rattle.domain_rdata.specs.Refusal.{at_fault, goes_on}
+use Rattle.domain_names.specs.Wire.{fault_of}
+use Rattle.domain_rdata.specs.Scan.{at_fault, goes_on}
 use Rattle.domain_rdata.proofs.zone_octets.whole.Goals as goal
 
 pub returns-then-remaining-gt0-clause-err : goal.returns-then-remaining-gt0-clause-err

@@ -1,4 +1,4 @@
-use Rattle.domain_records.proofs.Arranging.{arranging_more}
+use Rattle.domain_records.proofs.OrderLemmas.{arranging_more}
 use Rattle.domain_records.proofs.arrange.arrange.Goals as goal
 
 pub loop-rank-preserved : goal.loop-rank-preserved

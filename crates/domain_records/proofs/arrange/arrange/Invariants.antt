@@ -1,4 +1,4 @@
-use Rattle.domain_records.proofs.Arranging.{IsArranging}
+use Rattle.domain_records.proofs.OrderLemmas.{IsArranging}
 use Rattle.domain_records.proofs.arrange.arrange.Given as goal
 
 abbrev pub invariant-loop-rank : goal.invariant-loop-rank

@@ -1,5 +1,5 @@
 use Rattle.std.proofs.Common.{◌-◌, ◌≡◌, ◌≤◌, ◌<◌, ◌+◌, ℕ, length, true, get_or}
-use Rattle.domain_records.specs.Slices.{items_of}
+use Rattle.domain_records.specs.Groups.{items_of}
 use Rattle.domain_records.proofs.group.first_run.Given as goal
 
 abbrev pub invariant-loop-n : goal.invariant-loop-n

@@ -1,5 +1,5 @@
 use Rattle.std.proofs.{Common.arith, lemmas.Grind.common_steps}
-use Rattle.domain_records.proofs.Runs.{run_is_whole}
+use Rattle.domain_records.proofs.GroupLemmas.{run_is_whole}
 use Rattle.domain_records.proofs.group.is_one_run.Goals as goal
 
 pub returns-else-len-eq0 : goal.returns-else-len-eq0

@@ -1,4 +1,4 @@
-use Rattle.domain_records.proofs.Runs.{runs_are_groups}
+use Rattle.domain_records.proofs.GroupLemmas.{runs_are_groups}
 use Rattle.domain_records.proofs.laws.owner_groups_are_maximal_runs.Goals as goal
 
 pub returns : goal.returns

@@ -1,5 +1,5 @@
 use Rattle.std.proofs.{Common.rules, lemmas.Fn.always_returns_same}
-use Rattle.domain_records.proofs.SortedLists.{searched}
+use Rattle.domain_records.proofs.OrderLemmas.{searched}
 use Rattle.domain_records.proofs.list.search.Goals as goal
 
 -- the closure answers by the order, at the item that it holds

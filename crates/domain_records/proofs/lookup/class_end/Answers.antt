@@ -1,6 +1,6 @@
 use Rattle.std.proofs.{Common.{rules, leb}, lemmas.Fn.always_returns_same}
 use Rattle.domain_record.specs.declared.record.Record.{Record}
-use Rattle.domain_records.proofs.Lookups.{parted_by_class}
+use Rattle.domain_records.proofs.GroupLemmas.{parted_by_class}
 use Rattle.domain_records.proofs.lookup.class_end.Goals as goal
 
 pub returns-clause-parted : goal.returns-clause-parted

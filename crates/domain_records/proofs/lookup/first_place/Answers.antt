@@ -1,5 +1,5 @@
 use Rattle.std.proofs.{Common.{sym, ◌∙◌, arith}, lemmas.Bool.false≢true}
-use Rattle.domain_records.proofs.Lookups.{found, passed}
+use Rattle.domain_records.proofs.GroupLemmas.{found, passed}
 use Rattle.domain_records.proofs.lookup.first_place.Goals as goal
 
 pub returns-then-is_wanted_at : goal.returns-then-is_wanted_at

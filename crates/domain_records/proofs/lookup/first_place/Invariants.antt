@@ -1,6 +1,6 @@
 use Rattle.std.proofs.Common.{◌-◌, ◌≡◌, ◌≤◌, ◌<◌, ℕ, false, length, get_or}
 use Rattle.domain_record.specs.declared.record.Record.{Record}
-use Rattle.domain_records.specs.Lookup.{matches}
+use Rattle.domain_records.specs.Groups.{matches}
 use Rattle.domain_records.proofs.lookup.first_place.Given as goal
 
 -- no record so far is wanted

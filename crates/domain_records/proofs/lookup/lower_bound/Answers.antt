@@ -1,5 +1,5 @@
 use Rattle.std.proofs.{Common.rules, lemmas.Fn.always_returns_same}
-use Rattle.domain_records.{specs.Lookup.is_before, proofs.Lookups.parted_by_key}
+use Rattle.domain_records.{specs.Groups.is_before, proofs.GroupLemmas.parted_by_key}
 use Rattle.domain_records.proofs.lookup.lower_bound.Goals as goal
 
 pub returns-clause-parted : goal.returns-clause-parted

@@ -1,6 +1,6 @@
 use Rattle.std.proofs.Common.{◌≡◌, ◌↔◌, IsTrue, rules}
 use Rattle.domain_record.specs.declared.record.Record.{Record}
-use Rattle.domain_records.{specs.Slices.items_of, proofs.Firsts.{first_by, some_first}}
+use Rattle.domain_records.{specs.Groups.items_of, proofs.GroupLemmas.{first_by, some_first}}
 use Rattle.domain_records.proofs.owner.has_type.Goals as goal
 
 pub returns : goal.returns

@@ -1,6 +1,6 @@
 use Rattle.std.proofs.{Common.{arith, rules, is_lt, refl}, lemmas.{Grind.common_steps, Fn.always_returns_same}}
 use Rattle.domain_record.specs.Record.{record_cmp}
-use Rattle.domain_records.specs.Places.{compared_places}
+use Rattle.domain_records.specs.Order.{compared_places}
 use Rattle.domain_records.proofs.sort.are_in_order.Goals as goal
 
 pub returns : goal.returns

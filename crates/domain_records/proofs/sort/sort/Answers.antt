@@ -1,6 +1,6 @@
 use Rattle.std.{proofs.{Common.{◌≡◌, ◌∙◌, length, refl}, lemmas.List.take_at}, specs.List.Sorted.IsPermutation}
 use Rattle.domain_record.specs.Record.{record_cmp, record_cmp_total}
-use Rattle.domain_records.{specs.Places.{AreInOrder, IsArranged}, proofs.Placing.arranged_sort}
+use Rattle.domain_records.{specs.Order.{AreInOrder, IsArranged}, proofs.OrderLemmas.arranged_sort}
 use Rattle.domain_records.proofs.sort.sort.Goals as goal
 
 pub returns-then-are_in_order-clause-ok : goal.returns-then-are_in_order-clause-ok

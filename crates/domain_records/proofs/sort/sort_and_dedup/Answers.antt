@@ -1,6 +1,6 @@
 use Rattle.std.{proofs.{Common.rules, lemmas.Fn.dedup_same}, specs.Ordering.eq_by_cmp}
 use Rattle.domain_record.specs.Record.{record_cmp, record_cmp_total}
-use Rattle.domain_records.proofs.SortedLists.{union_of}
+use Rattle.domain_records.proofs.OrderLemmas.{union_of}
 use Rattle.domain_records.proofs.sort.sort_and_dedup.Goals as goal
 
 pub returns-clause-ok : goal.returns-clause-ok

@@ -1,5 +1,5 @@
 use Rattle.std.proofs.{Common.rules, lemmas.Fn.always_returns_same}
-use Rattle.domain_records.proofs.SortedLists.{stable_earliest}
+use Rattle.domain_records.proofs.OrderLemmas.{stable_earliest}
 use Rattle.domain_records.proofs.sort.sort_whole.Goals as goal
 
 pub sort_by-requires-clause-order : goal.sort_by-requires-clause-order

@@ -1,4 +1,4 @@
-use Rattle.domain_rrsig.proofs.ReadBackLemmas.{time_back, time_text_back}
+use Rattle.domain_rrsig.proofs.DataLemmas.{time_back, time_text_back}
 use Rattle.domain_rrsig.proofs.laws.times_are_read_back.Goals as goal
 
 pub returns : goal.returns

@@ -1,4 +1,4 @@
-use Rattle.domain_zone.proofs.GroupLemmas.{owners_in_order}
+use Rattle.domain_zone.proofs.WalkLemmas.{owners_in_order}
 use Rattle.domain_zone.proofs.laws.owners_never_descend.Goals as goal
 
 pub returns : goal.returns

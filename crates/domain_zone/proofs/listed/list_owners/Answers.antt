@@ -1,7 +1,6 @@
 use Rattle.std.proofs.{Common.{arith, sym, ap, map, subst, ◌∙◌}, lemmas.Grind.common_steps}
-use Rattle.domain_zone.{specs.{View.{as_zone_record, zone_of}, Zone.has_clash}, proofs.{GivenLemmas.{raw_types, types_at}, TtlLemmas.clash_told}}
-use Rattle.domain_zone.proofs.TtlLemmas.{NeverDescend}
-use Rattle.domain_zone.proofs.ListedLemmas.{at_start, next_known, next_listed, next_uneven}
+use Rattle.domain_zone.{specs.Zone.{as_zone_record, zone_of, has_clash}, proofs.GivenLemmas.{raw_types, types_at, clash_told, NeverDescend, at_start}}
+use Rattle.domain_zone.proofs.GivenLemmas.{next_known, next_listed, next_uneven}
 use Rattle.domain_zone.proofs.listed.list_owners.Goals as goal
 
 pub owners-init : goal.owners-init

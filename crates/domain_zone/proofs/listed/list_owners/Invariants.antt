@@ -1,5 +1,5 @@
 use Rattle.std.proofs.Common.{length}
-use Rattle.domain_zone.{specs.{Owners.covered_names, View.zone_of}, proofs.ListedLemmas.IsListing}
+use Rattle.domain_zone.{specs.Zone.{covered_names, zone_of}, proofs.GivenLemmas.IsListing}
 use Rattle.domain_zone.proofs.listed.list_owners.Given as goal
 
 abbrev pub invariant-owners : goal.invariant-owners

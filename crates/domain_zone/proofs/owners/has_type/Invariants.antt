@@ -1,5 +1,5 @@
 use Rattle.std.proofs.Common.{◌≡◌, map, length}
-use Rattle.domain_zone.specs.{View.as_zone_record, Zone.has_type}
+use Rattle.domain_zone.specs.Zone.{as_zone_record, has_type}
 use Rattle.domain_zone.proofs.owners.has_type.Given as goal
 
 abbrev pub invariant-records : goal.invariant-records

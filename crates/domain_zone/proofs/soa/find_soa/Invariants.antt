@@ -1,5 +1,5 @@
 use Rattle.std.{proofs.Common.{map, length}, specs.Option.option_map}
-use Rattle.domain_zone.{specs.View.as_zone_record, proofs.SoaLemmas.IsScanned}
+use Rattle.domain_zone.{specs.Zone.as_zone_record, proofs.GivenLemmas.IsScanned}
 use Rattle.domain_zone.proofs.soa.find_soa.Given as goal
 
 abbrev pub invariant-records : goal.invariant-records

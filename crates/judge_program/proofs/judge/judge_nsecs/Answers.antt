@@ -1,5 +1,5 @@
 use Rattle.std.proofs.Common.{◌≡◌, ◌++◌, ap, option_map, refl}
-use Rattle.domain_nsec.specs.ChainView.{links_of}
+use Rattle.domain_nsec.specs.Chain.{links_of}
 use Rattle.denial_program.specs.declared.fault.DenialFault.TheVariants.{OutOfMemory}
 use Rattle.judge_program.specs.{Run.IsNsecText, Text.first_line, Told.{below_text, tellings_of}}
 use Rattle.judge_program.proofs.{RunLemmas.unwritten, judge.judge_nsecs.{Given.Over, Goals.After-write_answer}}

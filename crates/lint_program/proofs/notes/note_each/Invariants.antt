@@ -1,5 +1,5 @@
 use Rattle.std.proofs.Common.{◌≡◌, List, ◌++◌, map, take}
-use Rattle.lint_program.specs.{Firsts.AreFirsts, Notes.{mark_of, Found, Mark}}
+use Rattle.lint_program.specs.Notes.{AreFirsts, mark_of, Found, Mark}
 use Rattle.lint_program.proofs.notes.note_each.Given as goal
 
 -- what is found so far is told, and the first of each group is known

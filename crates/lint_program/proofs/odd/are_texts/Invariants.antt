@@ -1,5 +1,5 @@
 use Rattle.std.proofs.Common.{◌≡◌, drop}
-use Rattle.lint_program.specs.Odd.{to_come}
+use Rattle.lint_program.specs.Notes.{to_come}
 use Rattle.lint_program.proofs.odd.are_texts.Given as goal
 
 abbrev pub invariant-loop-octet : goal.invariant-loop-octet

@@ -1,13 +1,12 @@
 use Rattle.std.proofs.{lemmas.{Grind.common_steps, List.length-map}, Common.{◌≡◌, ◌∙◌, ◌++◌, ap, arith, inl, inr, map, refl, string_bytes}}
 use Rattle.std.{proofs.Common.{ℕ, List, Option}, specs.{Str.Lines.lines, Io.KnownBytes.Appends}}
-use Rattle.domain_names.specs.Words.{Name, Tokens}
+use Rattle.domain_names.specs.Name.{Name, Tokens}
 use Rattle.domain_borrowed.specs.Data.{RawRecord}
 use Rattle.domain_nsec3.specs.View.{HasherAnswer}
-use Rattle.domain_octets.specs.Words.{Octets}
+use Rattle.domain_octets.specs.Octets.{Octets}
 use Rattle.domain_hasher.specs.declared.error.Nsec3HashError.TheVariants as hash_error
 use Rattle.domain_records.specs.declared.error.SigningError.TheVariants as signing_error
-use Rattle.denial_program.specs.{Command.Params, declared.fault.DenialFault.TheVariants.{OutOfMemory as Memory, Signing}}
-use Rattle.denial_program.proofs.LineReading.{known_so}
+use Rattle.denial_program.{specs.{Command.Params, declared.fault.DenialFault.TheVariants.{OutOfMemory as Memory, Signing}}, proofs.LineLemmas.known_so}
 use Rattle.domain_alike.specs.Alike.{pair_of}
 use Rattle.lint_program.specs.{Alike.{alike_text, outcome_with, IsRefusalBy}, Command.{Asks, IsHashedCommand}, Notes.mark_of, Report.{IsRefused, IsTold}}
 use Rattle.lint_program.specs.declared.reading.{BadLine.BadLine, Place.Place}

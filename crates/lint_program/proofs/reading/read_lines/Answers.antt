@@ -1,9 +1,8 @@
 use Rattle.std.proofs.{lemmas.{Grind.common_steps, List.map-append}, Common.{◌∙◌, ap, arith, map}}
-use Rattle.denial_program.proofs.ReadingLemmas.{reading_next}
-use Rattle.lint_program.specs.declared.reading.{BadLine.BadLine, Place.Place}
-use Rattle.lint_program.proofs.Following.{follows_bad, follows_end, follows_nothing, follows_record, Continues, FollowsAt}
-use Rattle.lint_program.proofs.reading.read_lines.Goals.{in-Nothing, in-Record+in_ok-push-in-Record+in_ok-push-in-Record-2}
-use Rattle.lint_program.proofs.reading.read_lines.Goals.{in-Bad+in_ok-octets-in-Bad+in_ok-push-in-Bad}
+use Rattle.denial_program.proofs.LineLemmas.{reading_next}
+use Rattle.lint_program.{specs.declared.reading.{BadLine.BadLine, Place.Place}, proofs.ReportLemmas.{follows_bad, follows_end, follows_nothing}}
+use Rattle.lint_program.proofs.{ReportLemmas.{follows_record, Continues, FollowsAt}, reading.read_lines.Goals.in-Nothing}
+use Rattle.lint_program.proofs.reading.read_lines.Goals.{in-Record+in_ok-push-in-Record+in_ok-push-in-Record-2, in-Bad+in_ok-octets-in-Bad+in_ok-push-in-Bad}
 use Rattle.lint_program.proofs.reading.read_lines.Goals as goal
 
 pub returns-then-count-eq0-clause-ok : goal.returns-then-count-eq0-clause-ok

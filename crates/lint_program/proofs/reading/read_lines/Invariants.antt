@@ -1,5 +1,5 @@
 use Rattle.std.proofs.Common.{◌≡◌, length, map}
-use Rattle.lint_program.proofs.Following.{Follows}
+use Rattle.lint_program.proofs.ReportLemmas.{Follows}
 use Rattle.lint_program.proofs.reading.read_lines.Given as goal
 
 abbrev pub invariant-loop-number : goal.invariant-loop-number

@@ -1,5 +1,5 @@
 use Rattle.std.{proofs.Common.{map, take}, specs.Io.KnownBytes.Appends}
-use Rattle.domain_octets.specs.Words.{Octets}
+use Rattle.domain_octets.specs.Octets.{Octets}
 use Rattle.lint_program.specs.Report.{AreFaults}
 use Rattle.lint_program.proofs.report.write_faults.Given as goal
 

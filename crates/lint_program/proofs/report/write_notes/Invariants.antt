@@ -1,5 +1,5 @@
 use Rattle.std.{proofs.Common.{map, take}, specs.Io.KnownBytes.Appends}
-use Rattle.domain_octets.specs.Words.{Octets}
+use Rattle.domain_octets.specs.Octets.{Octets}
 use Rattle.lint_program.specs.{Notes.mark_of, Report.AreNotes}
 use Rattle.lint_program.proofs.report.write_notes.Given as goal
 

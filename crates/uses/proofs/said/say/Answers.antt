@@ -1,5 +1,5 @@
 use Rattle.std.proofs.Common.{ap}
-use Rattle.domain_dnssec.specs.ChainView.{links_of}
+use Rattle.domain_dnssec.specs.Chain.{links_of}
 use Rattle.uses.proofs.said.say.Goals as goal
 
 -- the list that is borrowed is the list

@@ -1,5 +1,5 @@
 use Rattle.std.proofs.Common.{subst}
-use Rattle.domain_dnssec.specs.{ZoneData.{minimum_of, rtype_of}, View.zone_of, Chain.IsChain}
+use Rattle.domain_dnssec.specs.{ZoneData.{minimum_of, rtype_of}, Zone.zone_of, Chain.IsChain}
 use Rattle.uses.proofs.served.serve.Goals as goal
 
 -- the records are in order, and the chain is that of their zone

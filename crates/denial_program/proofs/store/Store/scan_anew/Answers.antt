@@ -1,6 +1,6 @@
 use Rattle.std.proofs.Common.{[], None, inr, refl}
-use Rattle.domain_base.proofs.ScanLemmas.{no_token}
-use Rattle.domain_names.specs.TextFault.{NameTextFault}
+use Rattle.domain_base.proofs.TextLemmas.{no_token}
+use Rattle.domain_names.specs.Text.{NameTextFault}
 use Rattle.denial_program.proofs.store.Store.scan_anew.Goals as goal
 
 pub returns-in_default-clause-err : goal.returns-in_default-clause-err

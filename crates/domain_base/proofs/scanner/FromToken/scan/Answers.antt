@@ -1,4 +1,4 @@
-use Rattle.domain_base.proofs.ScanLemmas.{token_read}
+use Rattle.domain_base.proofs.TextLemmas.{token_read}
 use Rattle.domain_base.proofs.scanner.FromToken.scan.Goals as goal
 
 pub returns : goal.returns

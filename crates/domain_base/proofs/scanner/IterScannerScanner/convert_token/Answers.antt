@@ -1,5 +1,5 @@
 use Rattle.std.proofs.{Common.arith, lemmas.Grind.common_steps}
-use Rattle.domain_base.proofs.ScanLemmas.{token_read}
+use Rattle.domain_base.proofs.TextLemmas.{token_read}
 use Rattle.domain_base.proofs.scanner.IterScannerScanner.convert_token.Goals as goal
 
 pub returns-clause-read : goal.returns-clause-read

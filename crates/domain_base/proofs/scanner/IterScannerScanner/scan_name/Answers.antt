@@ -1,4 +1,4 @@
-use Rattle.domain_base.proofs.ScanLemmas.{token_read}
+use Rattle.domain_base.proofs.TextLemmas.{token_read}
 use Rattle.domain_base.proofs.scanner.IterScannerScanner.scan_name.Goals as goal
 
 pub returns : goal.returns

@@ -1,5 +1,5 @@
 use Rattle.std.proofs.{Common.arith, lemmas.Grind.common_steps}
-use Rattle.domain_bitmap.proofs.SlotLemmas.{holds-grown, has_window-grown, zeros_at}
+use Rattle.domain_bitmap.proofs.BitmapLemmas.{holds-grown, has_window-grown, zeros_at}
 use Rattle.domain_bitmap.proofs.builder.RtypeBitmapBuilder.window_block.Goals as goal
 
 pub returns-clause-types : goal.returns-clause-types

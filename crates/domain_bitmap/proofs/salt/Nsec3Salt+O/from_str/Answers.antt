@@ -1,5 +1,5 @@
 use Rattle.std.proofs.{Common.{rules, refl, ◌∙◌, arith}, lemmas.Grind.common_steps}
-use Rattle.domain_bitmap.specs.HashText.{dash, digits}
+use Rattle.domain_bitmap.specs.Text.{dash, digits}
 use Rattle.domain_bitmap.proofs.salt.Nsec3Salt+O.from_str.Goals as goal
 
 pub returns-then-eq-clause-ok : goal.returns-then-eq-clause-ok

@@ -1,8 +1,8 @@
 use Rattle.std.proofs.{Common.{◌≡◌, ◌<◌, ◌∙◌, ℕ, List, subst, arith}, lemmas.Grind.common_steps}
-use Rattle.domain_names.specs.Words.{Name}
+use Rattle.domain_names.specs.Name.{Name}
 use Rattle.domain_nsec.specs.Chain.{Link}
-use Rattle.domain_checker.{proofs.{MeantLemmas.handed_in, nsec_check.NsecCheck.verdict.Goals.After-to_int-number}, specs.HandedIn.HasRead}
-use Rattle.domain_checker.specs.{Reading.{IsChecked, reading}, declared.verdict.Verdict.Verdict}
+use Rattle.domain_checker.{proofs.{MeantLemmas.handed_in, nsec_check.NsecCheck.verdict.Goals.After-to_int-number}, specs.Reading.{HasRead, IsChecked}}
+use Rattle.domain_checker.specs.{Reading.reading, declared.verdict.Verdict.Verdict}
 use Rattle.domain_checker.proofs.nsec_check.NsecCheck.verdict.Goals as goal
 
 -- what the records say is what is promised

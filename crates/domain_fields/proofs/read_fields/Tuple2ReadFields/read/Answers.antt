@@ -1,5 +1,5 @@
 use Rattle.std.proofs.Common.{rules}
-use Rattle.domain_fields.proofs.ReadLemmas.{begins_both}
+use Rattle.domain_fields.proofs.LayoutLemmas.{begins_both}
 use Rattle.domain_fields.proofs.read_fields.Tuple2ReadFields.read.Goals as goal
 
 pub returns : goal.returns

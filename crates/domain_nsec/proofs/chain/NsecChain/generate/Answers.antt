@@ -1,6 +1,6 @@
 use Rattle.std.proofs.{Common.{◌≡◌, ◌≢◌, None, Some, arith}, lemmas.{Grind.common_steps, Result.err_from_is_err_and}}
-use Rattle.domain_zone.specs.{Soa.soa_of, View.zone_of}
-use Rattle.domain_nsec.proofs.{StateLemmas.{chain, faultless, first_fault}, chain.NsecChain.generate.{Given.Over, Goals.In-Some}}
+use Rattle.domain_zone.specs.Zone.{soa_of, zone_of}
+use Rattle.domain_nsec.proofs.{ChainLemmas.{chain, faultless, first_fault}, chain.NsecChain.generate.{Given.Over, Goals.In-Some}}
 use Rattle.domain_nsec.proofs.chain.NsecChain.generate.Goals as goal
 
 -- the SOA record that was found is that of the zone

@@ -1,5 +1,5 @@
 use Rattle.std.proofs.Common.{◌≡◌, take}
-use Rattle.domain_nsec.specs.ChainView.{links_of}
+use Rattle.domain_nsec.specs.Chain.{links_of}
 use Rattle.domain_nsec.proofs.chain.NsecChain.records.Given as goal
 
 abbrev pub invariant-loop-place : goal.invariant-loop-place

@@ -1,5 +1,5 @@
 use Rattle.std.proofs.Common.{◌∙◌}
-use Rattle.domain_nsec.proofs.TypeLemmas.{listed_octets}
+use Rattle.domain_nsec.proofs.ChainLemmas.{listed_octets}
 use Rattle.domain_nsec.proofs.types.GenerateNsecConfigChainTypes.types_of.Goals as goal
 
 pub returns : goal.returns

@@ -1,5 +1,5 @@
 use Rattle.std.proofs.Common.{◌∙◌}
-use Rattle.domain_nsec3.proofs.TypeLemmas.{listed_octets}
+use Rattle.domain_nsec3.proofs.ChainLemmas.{listed_octets}
 use Rattle.domain_nsec3.proofs.types.GenerateNsec3ConfigChainTypes.types_of.Goals as goal
 
 pub returns : goal.returns

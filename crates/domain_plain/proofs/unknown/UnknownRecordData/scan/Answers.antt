@@ -1,5 +1,5 @@
 use Rattle.std.proofs.{Common.{refl, length, ap, arith}, lemmas.Result.err_from_is_err_and}
-use Rattle.domain_fields.specs.Entry.{in_entry, unfit}
+use Rattle.domain_fields.specs.Scan.{in_entry, unfit}
 use Rattle.domain_plain.proofs.unknown.UnknownRecordData.scan.Goals as goal
 
 pub returns-in_err-data-clause-read : goal.returns-in_err-data-clause-read

@@ -1,5 +1,5 @@
 use Rattle.std.proofs.{Common.arith, lemmas.{Grind.common_steps, Result.err_from_is_err_and}}
-use Rattle.domain_rdata.{specs.Refusal.{in_generic, in_own}, proofs.ScanLemmas.{generic_ok, generic_err, none_spelled}}
+use Rattle.domain_rdata.{specs.Scan.{in_generic, in_own}, proofs.ScanLemmas.{generic_ok, generic_err, none_spelled}}
 use Rattle.domain_rdata.proofs.zone_record_data.ZoneRecordData.scan_rdata.Goals as goal
 
 pub returns-in_err-scan_own-clause-spells_none : goal.returns-in_err-scan_own-clause-spells_none

@@ -1,7 +1,7 @@
 use Rattle.std.proofs.{Common.{◌≡◌, sym, ◌∙◌}, lemmas.Bool.false≢true}
 use Rattle.domain_names.specs.Name.{IsSame}
 use Rattle.domain_record.specs.declared.record.Record.{Record}
-use Rattle.domain_records.proofs.Firsts.{has_first_weaker}
+use Rattle.domain_records.proofs.GroupLemmas.{has_first_weaker}
 use Rattle.domain_records.proofs.owner.OwnerRrs.is_zone_cut.Goals as goal
 
 pub returns-then-not-name_eq : goal.returns-then-not-name_eq

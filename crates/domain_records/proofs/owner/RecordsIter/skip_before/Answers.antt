@@ -1,7 +1,7 @@
 use Rattle.std.proofs.Common.{◌↔◌, IsTrue, rules}
 use Rattle.domain_names.specs.Name.{IsAtOrBelow}
 use Rattle.domain_record.specs.declared.record.Record.{Record}
-use Rattle.domain_records.{specs.Slices.items_of, proofs.Firsts.{first_by, skips_first}}
+use Rattle.domain_records.{specs.Groups.items_of, proofs.GroupLemmas.{first_by, skips_first}}
 use Rattle.domain_records.proofs.owner.RecordsIter.skip_before.Goals as goal
 
 pub returns : goal.returns

@@ -1,5 +1,5 @@
 use Rattle.std.proofs.lemmas.Option.{slice_get_within}
-use Rattle.domain_records.{specs.Slices.items_of, proofs.Firsts.{answered, answered_more}}
+use Rattle.domain_records.{specs.Groups.items_of, proofs.GroupLemmas.{answered, answered_more}}
 use Rattle.domain_records.proofs.slice.SliceRefsOrOwned.first_match.Goals as goal
 
 pub returns-then-test : goal.returns-then-test

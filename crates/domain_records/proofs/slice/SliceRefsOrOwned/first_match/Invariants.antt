@@ -1,5 +1,5 @@
 use Rattle.std.{proofs.Common.{ℕ, ◌<◌, get_or, false}, specs.Fn.FnReturnsAt}
-use Rattle.domain_records.specs.Slices.{items_of}
+use Rattle.domain_records.specs.Groups.{items_of}
 use Rattle.domain_records.proofs.slice.SliceRefsOrOwned.first_match.Given as goal
 
 abbrev pub invariant-loop-i : goal.invariant-loop-i

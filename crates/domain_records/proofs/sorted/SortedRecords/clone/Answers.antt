@@ -1,5 +1,5 @@
 use Rattle.domain_record.specs.Record.{record_cmp_total}
-use Rattle.domain_records.proofs.{SortedLists.sorted_too, OrderLemmas.clone_tied}
+use Rattle.domain_records.proofs.OrderLemmas.{sorted_too, clone_tied}
 use Rattle.domain_records.proofs.sorted.SortedRecords.clone.Goals as goal
 
 pub invariant_of-result : goal.invariant_of-result

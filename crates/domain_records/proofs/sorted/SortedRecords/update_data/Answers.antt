@@ -1,6 +1,6 @@
 use Rattle.std.{proofs.{Common.{refl, Some, None, arith}, lemmas.Grind.common_steps}, specs.Cmp.IsTotalOrder}
 use Rattle.domain_record.specs.Record.{record_cmp, record_cmp_total}
-use Rattle.domain_records.proofs.{SortedLists.{sorted_remove, read_is}, sorted.SortedRecords.update_data.Given.Over}
+use Rattle.domain_records.proofs.{OrderLemmas.{sorted_remove, read_is}, sorted.SortedRecords.update_data.Given.Over}
 use Rattle.domain_records.proofs.sorted.SortedRecords.update_data.Goals as goal
 
 -- the canonical order of the records, which is total

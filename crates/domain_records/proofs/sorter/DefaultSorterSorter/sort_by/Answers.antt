@@ -1,6 +1,6 @@
 -- std's sort orders by the one order that the closure answers by
 use Rattle.std.proofs.{Common.{arith, is_lt}, lemmas.{Grind.common_steps, List.Sorted.ranks_by}}
-use Rattle.domain_records.proofs.Sorting.{ComparesAs-from_order}
+use Rattle.domain_records.proofs.OrderLemmas.{ComparesAs-from_order}
 use Rattle.domain_records.proofs.sorter.DefaultSorterSorter.sort_by.Goals as goal
 
 pub returns-clause-sorted : goal.returns-clause-sorted

@@ -1,4 +1,4 @@
-use Rattle.domain_rrsig.proofs.RrsigLemmas.{limit_of_rrsig}
+use Rattle.domain_rrsig.proofs.DataLemmas.{limit_of_rrsig}
 use Rattle.domain_rrsig.proofs.rrsig.Rrsig+ref+slice+u8+ParsedName.parse.Goals as goal
 
 pub invariant_of-result : goal.invariant_of-result

@@ -1,6 +1,6 @@
 use Rattle.std.proofs.{Common.refl, lemmas.Result.err_from_is_err_and}
-use Rattle.domain_fields.specs.Entry.{in_field, in_entry, unfit}
-use Rattle.domain_rrsig.{specs.Data.rrsig_data, proofs.ScanLemmas.too_many}
+use Rattle.domain_fields.specs.Scan.{in_field, in_entry, unfit}
+use Rattle.domain_rrsig.{specs.Data.rrsig_data, proofs.DataLemmas.too_many}
 use Rattle.domain_rrsig.proofs.rrsig.Rrsig.scan.Goals as goal
 
 pub returns-in_err-fields : goal.returns-in_err-fields

@@ -1,5 +1,5 @@
 use Rattle.std.proofs.{Common.{◌∙◌, arith, sym, subst}}
-use Rattle.domain_rrsig.{specs.Time.{IsNear, TimeAt, nearest, before_1970}, proofs.TimeLemmas.{near_before, none_near}}
+use Rattle.domain_rrsig.{specs.Data.{IsNear, TimeAt, nearest, before_1970}, proofs.DataLemmas.{near_before, none_near}}
 use Rattle.domain_rrsig.proofs.timestamp.Timestamp.to_system_time.Goals as goal
 
 pub returns-in-Some-clause-time : goal.returns-in-Some-clause-time

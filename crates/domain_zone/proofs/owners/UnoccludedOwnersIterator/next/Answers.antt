@@ -1,9 +1,8 @@
 use Rattle.std.{proofs.{lemmas.Grind.common_steps, Common.{Bool, Option, map, not, ◌&&◌, sym, ap, ◌∙◌, arith}}, specs.{Option.option_map, Prelude.filter}}
-use Rattle.domain_records.specs.{Groups.same_owner, Runs.runs}
+use Rattle.domain_records.specs.Groups.{same_owner, runs}
 use Rattle.domain_base.specs.Types.{dname}
-use Rattle.domain_names.specs.Words.{Name}
-use Rattle.domain_zone.specs.{Owners.stays, View.as_zone_record, Walk.left_owners, Zone.has_type}
-use Rattle.domain_zone.proofs.{GroupLemmas.cut_test, LeftLemmas.{left_given, left_none, stays_off, stays_on}}
+use Rattle.domain_names.specs.Name.{Name}
+use Rattle.domain_zone.{specs.Zone.{stays, as_zone_record, left_owners, has_type}, proofs.WalkLemmas.{cut_test, left_given, left_none, stays_off, stays_on}}
 use Rattle.domain_zone.proofs.owners.UnoccludedOwnersIterator.next.Goals as goal
 
 pub returns-then-not-self-is_unsigned_cut-clause-steps : goal.returns-then-not-self-is_unsigned_cut-clause-steps

@@ -1,7 +1,7 @@
 use Rattle.std.{proofs.Common.{codes, subst}, specs.Fmt.HasWritten}
 use Rattle.domain_names.specs.Text.{name_text}
 use Rattle.domain_answer.specs.ZoneAnswer.{wildcard_below}
-use Rattle.judge_program.{specs.Text.full_text, proofs.TextLemmas.missing_parts}
+use Rattle.judge_program.{specs.Text.full_text, proofs.RunLemmas.missing_parts}
 use Rattle.judge_program.proofs.answer_text.MissingTextDisplay.fmt.Goals as goal
 
 pub returns-clause-writes : goal.returns-clause-writes
