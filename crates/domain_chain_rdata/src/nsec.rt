@@ -21,9 +21,8 @@ use domain_base::{CanonicalOrd, ParsedName, Rtype, ScanError, Scanner, ToName};
 use domain_bitmap::RtypeBitmap;
 use domain_fields::{Fields, MAX_RDLEN, ReadFields, Spelled};
 use domain_octets::{
-    AppendError, CopyOctets, EmptyBuilder, FlattenInto, Formatter, FreezeBuilder, FromBuilder,
-    Octets, OctetsBuilder, OctetsFrom, OutOfMemory, ParseError, Parser, Truncate, TryClone,
-    ZonefileFmt,
+    AppendError, CopyOctets, EmptyBuilder, Formatter, FreezeBuilder, FromBuilder, Octets,
+    OctetsBuilder, OctetsFrom, OutOfMemory, ParseError, Parser, Truncate, TryClone, ZonefileFmt,
 };
 use domain_record::{CloneRecordData, ComposeRecordData, ParseRecordData, RecordData, both};
 use std::alloc::Global;
@@ -303,18 +302,6 @@ impl<S: Octets + Drop, N: Drop, O: CopyOctets + Drop, M: OctetsFrom<N> + Drop> O
         let types = RtypeBitmap::try_octets_from(alloc, types);
         let (next_name, types) = both(next_name, types)?;
         Ok(Nsec::new(next_name, types))
-    }
-}
-
-impl<O: Octets, N, T: OctetsFrom<Nsec<O, N>>> FlattenInto<T> for Nsec<O, N> {
-    ghost is_same = { λ source made. T.OctetsFrom.is_same source made };
-
-    ghost has_no_room = { λ source. T.OctetsFrom.has_no_room source };
-
-    ghost takes_memory = { T.OctetsFrom.takes_memory };
-
-    fn try_flatten_into(self, alloc: Global) -> Result<T, AppendError> {
-        T::try_octets_from(alloc, self)
     }
 }
 

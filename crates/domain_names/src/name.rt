@@ -11,8 +11,8 @@ ghost use Rattle.std.specs.Hash as fed;
 
 use crate::{MakeName, ParseError, ParsedName, ScanError, ToName, text, wire};
 use domain_octets::{
-    AppendError, ArrayBuilder, CopyOctets, FlattenInto, FromBuilder, Octets, OctetsBuilder,
-    OctetsFrom, OutOfMemory, SmallOctets, TryClone,
+    AppendError, ArrayBuilder, CopyOctets, FromBuilder, Octets, OctetsBuilder, OctetsFrom,
+    OutOfMemory, SmallOctets, TryClone,
 };
 use std::alloc::Global;
 use std::cmp::Ordering;
@@ -234,30 +234,6 @@ impl<N: ToName + Drop, O: CopyOctets> OctetsFrom<N> for Name<O> {
 
     fn try_octets_from(alloc: Global, source: N) -> Result<Self, AppendError> {
         Ok(Name::from_wire(O::copy_octets(alloc, source.as_wire())?))
-    }
-}
-
-impl<O: Octets, T: OctetsFrom<Name<O>>> FlattenInto<T> for Name<O> {
-    ghost is_same = { λ source made. T.OctetsFrom.is_same source made };
-
-    ghost has_no_room = { λ source. T.OctetsFrom.has_no_room source };
-
-    ghost takes_memory = { T.OctetsFrom.takes_memory };
-
-    fn try_flatten_into(self, alloc: Global) -> Result<T, AppendError> {
-        T::try_octets_from(alloc, self)
-    }
-}
-
-impl<'a, T: OctetsFrom<ParsedName<'a>>> FlattenInto<T> for ParsedName<'a> {
-    ghost is_same = { λ source made. T.OctetsFrom.is_same source made };
-
-    ghost has_no_room = { λ source. T.OctetsFrom.has_no_room source };
-
-    ghost takes_memory = { T.OctetsFrom.takes_memory };
-
-    fn try_flatten_into(self, alloc: Global) -> Result<T, AppendError> {
-        T::try_octets_from(alloc, self)
     }
 }
 

@@ -127,3 +127,16 @@ impl<S: Octets + Drop, O: CopyOctets> OctetsFrom<S> for O {
         O::copy_octets(alloc, source.as_slice())
     }
 }
+
+/// What can be made of a value is what it turns into.
+impl<S, T: OctetsFrom<S>> FlattenInto<T> for S {
+    ghost is_same = { λ source made. T.OctetsFrom.is_same source made };
+
+    ghost has_no_room = { λ source. T.OctetsFrom.has_no_room source };
+
+    ghost takes_memory = { T.OctetsFrom.takes_memory };
+
+    fn try_flatten_into(self, alloc: Global) -> Result<T, AppendError> {
+        T::try_octets_from(alloc, self)
+    }
+}

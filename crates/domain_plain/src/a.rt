@@ -12,7 +12,7 @@ ghost use Rattle.domain_plain.specs.Plain.{a, a_values};
 use domain_base::{CanonicalOrd, Rtype, ScanError, Scanner};
 use domain_fields::{Address, Exactly, Fields, MAX_RDLEN, ReadFields, ScanFields};
 use domain_octets::{
-    AppendError, FlattenInto, OctetsBuilder, OctetsFrom, OutOfMemory, ParseError, Parser, TryClone,
+    AppendError, OctetsBuilder, OctetsFrom, OutOfMemory, ParseError, Parser, TryClone,
 };
 use domain_record::{CloneRecordData, ComposeRecordData, ParseRecordData, RecordData};
 use std::alloc::Global;
@@ -98,18 +98,6 @@ impl OctetsFrom<A> for A {
 
     fn try_octets_from(_alloc: Global, source: A) -> Result<Self, AppendError> {
         Ok(source)
-    }
-}
-
-impl FlattenInto<A> for A {
-    ghost is_same = { λ source made. made ≡ source };
-
-    ghost has_no_room = { λ _. ⊥ };
-
-    ghost takes_memory = { ⊥ };
-
-    fn try_flatten_into(self, _alloc: Global) -> Result<A, AppendError> {
-        Ok(self)
     }
 }
 

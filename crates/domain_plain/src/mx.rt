@@ -12,7 +12,7 @@ ghost use Rattle.domain_plain.specs.Plain.{mx, mx_values};
 use domain_base::{CanonicalOrd, ParsedName, Rtype, ScanError, Scanner, ToName};
 use domain_fields::{Fields, MAX_RDLEN, ReadFields, ScanFields, Scanned};
 use domain_octets::{
-    AppendError, FlattenInto, OctetsBuilder, OctetsFrom, OutOfMemory, ParseError, Parser, TryClone,
+    AppendError, OctetsBuilder, OctetsFrom, OutOfMemory, ParseError, Parser, TryClone,
 };
 use domain_record::{CloneRecordData, ComposeRecordData, ParseRecordData, RecordData};
 use std::alloc::Global;
@@ -90,20 +90,6 @@ impl<M, N: OctetsFrom<M>> OctetsFrom<Mx<M>> for Mx<N> {
     fn try_octets_from(alloc: Global, source: Mx<M>) -> Result<Self, AppendError> {
         let exchange = N::try_octets_from(alloc, source.exchange)?;
         Ok(Mx::new(source.preference, exchange))
-    }
-}
-
-impl<M, N: FlattenInto<M>> FlattenInto<Mx<M>> for Mx<N> {
-    ghost is_same = { λ source made. (made.preference ≡ source.preference)
-        × N.is_same source.exchange made.exchange };
-
-    ghost has_no_room = { λ source. N.has_no_room source.exchange };
-
-    ghost takes_memory = { N.takes_memory };
-
-    fn try_flatten_into(self, alloc: Global) -> Result<Mx<M>, AppendError> {
-        let exchange = self.exchange.try_flatten_into(alloc)?;
-        Ok(Mx::new(self.preference, exchange))
     }
 }
 

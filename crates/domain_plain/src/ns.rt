@@ -11,7 +11,7 @@ ghost use Rattle.domain_plain.specs.Plain.{ns, ns_values};
 use domain_base::{CanonicalOrd, ParsedName, Rtype, ScanError, Scanner, ToName};
 use domain_fields::{Fields, MAX_RDLEN, ReadFields, ScanFields, Scanned};
 use domain_octets::{
-    AppendError, FlattenInto, OctetsBuilder, OctetsFrom, OutOfMemory, ParseError, Parser, TryClone,
+    AppendError, OctetsBuilder, OctetsFrom, OutOfMemory, ParseError, Parser, TryClone,
 };
 use domain_record::{CloneRecordData, ComposeRecordData, ParseRecordData, RecordData};
 use std::alloc::Global;
@@ -74,18 +74,6 @@ impl<M, N: OctetsFrom<M>> OctetsFrom<Ns<M>> for Ns<N> {
 
     fn try_octets_from(alloc: Global, source: Ns<M>) -> Result<Self, AppendError> {
         Ok(Ns::new(N::try_octets_from(alloc, source.nsdname)?))
-    }
-}
-
-impl<M, N: FlattenInto<M>> FlattenInto<Ns<M>> for Ns<N> {
-    ghost is_same = { λ source made. N.is_same source.nsdname made.nsdname };
-
-    ghost has_no_room = { λ source. N.has_no_room source.nsdname };
-
-    ghost takes_memory = { N.takes_memory };
-
-    fn try_flatten_into(self, alloc: Global) -> Result<Ns<M>, AppendError> {
-        Ok(Ns::new(self.nsdname.try_flatten_into(alloc)?))
     }
 }
 

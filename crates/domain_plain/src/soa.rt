@@ -11,7 +11,7 @@ ghost use Rattle.domain_plain.specs.Plain.{soa, soa_values, IsSoaWith, soa_text}
 use domain_base::{CanonicalOrd, ParsedName, Rtype, ScanError, Scanner, ToName, Ttl};
 use domain_fields::{Fields, MAX_RDLEN, ReadFields, ScanFields, Scanned};
 use domain_octets::{
-    AppendError, FlattenInto, OctetsBuilder, OctetsFrom, OutOfMemory, ParseError, Parser, TryClone,
+    AppendError, OctetsBuilder, OctetsFrom, OutOfMemory, ParseError, Parser, TryClone,
 };
 use domain_record::{CloneRecordData, ComposeRecordData, ParseRecordData, RecordData, both};
 use std::alloc::Global;
@@ -201,21 +201,6 @@ impl<M, N: OctetsFrom<M> + Drop> OctetsFrom<Soa<M>> for Soa<N> {
             N::try_octets_from(alloc, source.mname),
             N::try_octets_from(alloc, source.rname),
         )?;
-        Ok(Soa::of_parts(mname, rname, numbers))
-    }
-}
-
-impl<M: Drop, N: FlattenInto<M>> FlattenInto<Soa<M>> for Soa<N> {
-    ghost is_same = { IsSoaWith N.is_same };
-
-    ghost has_no_room = { λ source. N.has_no_room source.mname ⊎ N.has_no_room source.rname };
-
-    ghost takes_memory = { N.takes_memory };
-
-    fn try_flatten_into(self, alloc: Global) -> Result<Soa<M>, AppendError> {
-        let numbers = self.numbers();
-        let mname = self.mname.try_flatten_into(alloc);
-        let (mname, rname) = both(mname, self.rname.try_flatten_into(alloc))?;
         Ok(Soa::of_parts(mname, rname, numbers))
     }
 }

@@ -14,8 +14,8 @@ use domain_base::{CanonicalOrd, FromToken, Rtype, ScanError, Scanner};
 use domain_codecs::{Codec, base16};
 use domain_fields::{AtMost, Fields, MAX_RDLEN, ReadFields, Rest};
 use domain_octets::{
-    AppendError, CopyOctets, FlattenInto, FromBuilder, Octets, OctetsBuilder, OctetsFrom,
-    OutOfMemory, ParseError, Parser, TryClone, laws,
+    AppendError, CopyOctets, FromBuilder, Octets, OctetsBuilder, OctetsFrom, OutOfMemory,
+    ParseError, Parser, TryClone, laws,
 };
 use domain_record::{
     CloneRecordData, ComposeRecordData, LongRecordData, ParseRecordData, RecordData,
@@ -208,19 +208,6 @@ impl<S: Octets + Drop, O: CopyOctets> OctetsFrom<UnknownRecordData<S>> for Unkno
             rtype: source.rtype,
             data: O::copy_octets(alloc, source.data.as_slice())?,
         })
-    }
-}
-
-impl<O: Octets + Drop, P: CopyOctets> FlattenInto<UnknownRecordData<P>> for UnknownRecordData<O> {
-    ghost is_same = { λ source made. (made.rtype ≡ source.rtype)
-        × (P.octets made.«data» ≡ O.octets source.«data») };
-
-    ghost has_no_room = { λ source. IsOver P.capacity (length (O.octets source.«data»)) };
-
-    ghost takes_memory = { IsNone P.capacity };
-
-    fn try_flatten_into(self, alloc: Global) -> Result<UnknownRecordData<P>, AppendError> {
-        UnknownRecordData::<P>::try_octets_from(alloc, self)
     }
 }
 

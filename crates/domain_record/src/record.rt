@@ -4,7 +4,7 @@ ghost use Rattle.domain_record.specs.Record.{IsRecordClone, LendsData};
 
 use crate::{RecordData, both};
 use domain_base::{CanonicalOrd, Class, Rtype, ToName, Ttl};
-use domain_octets::{AppendError, FlattenInto, OctetsFrom};
+use domain_octets::{AppendError, OctetsFrom};
 use std::alloc::Global;
 use std::cmp::Ordering;
 use std::fmt;
@@ -146,32 +146,6 @@ impl<M, E, N: OctetsFrom<M> + Drop, D: OctetsFrom<E> + Drop> OctetsFrom<Record<M
             N::try_octets_from(alloc, owner),
             D::try_octets_from(alloc, data),
         )?;
-        Ok(Record {
-            owner,
-            class,
-            ttl,
-            data,
-        })
-    }
-}
-
-// The owner and the data turn into the others, and the class and the TTL are the same.
-impl<M: Drop, E: Drop, N: FlattenInto<M>, D: FlattenInto<E>> FlattenInto<Record<M, E>>
-    for Record<N, D> {
-    ghost is_same = { IsRecordClone N.is_same D.is_same };
-
-    ghost has_no_room = { λ source. N.has_no_room source.owner ⊎ D.has_no_room source.«data» };
-
-    ghost takes_memory = { N.takes_memory ⊎ D.takes_memory };
-
-    fn try_flatten_into(self, alloc: Global) -> Result<Record<M, E>, AppendError> {
-        let Record {
-            owner,
-            class,
-            ttl,
-            data,
-        } = self;
-        let (owner, data) = both(owner.try_flatten_into(alloc), data.try_flatten_into(alloc))?;
         Ok(Record {
             owner,
             class,

@@ -27,8 +27,8 @@ use domain_fields::{
     Scanned, Token,
 };
 use domain_octets::{
-    AppendError, CopyOctets, FlattenInto, Formatter, FromBuilder, Octets, OctetsBuilder,
-    OctetsFrom, OutOfMemory, ParseError, Parser, TryClone, ZonefileFmt, laws,
+    AppendError, CopyOctets, Formatter, FromBuilder, Octets, OctetsBuilder, OctetsFrom,
+    OutOfMemory, ParseError, Parser, TryClone, ZonefileFmt, laws,
 };
 use domain_record::{
     CloneRecordData, ComposeRecordData, LongRecordData, ParseRecordData, RecordData, both,
@@ -443,18 +443,6 @@ impl<N: ToName + Drop, O: CopyOctets> OctetsFrom<ProtoRrsig<N>> for ProtoRrsig<N
     }
 }
 
-impl<N: ToName, T: OctetsFrom<ProtoRrsig<N>>> FlattenInto<T> for ProtoRrsig<N> {
-    ghost is_same = { λ source made. T.OctetsFrom.is_same source made };
-
-    ghost has_no_room = { λ source. T.OctetsFrom.has_no_room source };
-
-    ghost takes_memory = { T.OctetsFrom.takes_memory };
-
-    fn try_flatten_into(self, alloc: Global) -> Result<T, AppendError> {
-        T::try_octets_from(alloc, self)
-    }
-}
-
 impl<S: Octets + Drop, N: ToName + Drop, O: CopyOctets + Drop> OctetsFrom<Rrsig<S, N>>
     for Rrsig<O, Name<O>> {
     ghost is_same = { λ source made. made ≡ source };
@@ -470,18 +458,6 @@ impl<S: Octets + Drop, N: ToName + Drop, O: CopyOctets + Drop> OctetsFrom<Rrsig<
         let signature = O::copy_octets(alloc, signature.as_slice());
         let (fields, signature) = both(fields, signature)?;
         Ok(Rrsig { fields, signature })
-    }
-}
-
-impl<O: Octets, N: ToName, T: OctetsFrom<Rrsig<O, N>>> FlattenInto<T> for Rrsig<O, N> {
-    ghost is_same = { λ source made. T.OctetsFrom.is_same source made };
-
-    ghost has_no_room = { λ source. T.OctetsFrom.has_no_room source };
-
-    ghost takes_memory = { T.OctetsFrom.takes_memory };
-
-    fn try_flatten_into(self, alloc: Global) -> Result<T, AppendError> {
-        T::try_octets_from(alloc, self)
     }
 }
 
