@@ -2,7 +2,8 @@
 use Rattle.std.proofs.Common.{◌≡◌, ℕ, ◌+◌, ◌≤◌, ◌<◌, true, false, cond, List, [], ◌∷◌, ◌++◌, length, refl, sym, ap, ◌∙◌, arith, Bool, not, ◌&&◌, ◌||◌, inl}
 use Rattle.std.{proofs.{Common.inr, lemmas.{Bool.Decides.nat_tests, List.append-nil, Grind.common_steps}}, specs.Prelude.{nat_lt, filter, if◌then◌else◌}}
 use Rattle.std.{specs.List.{AllByRecursion, list_any}, proofs.lemmas.Bool.{false_from_ne_true, false≢true, and_parts, and_from, or_left, cases_lt, leb-true}}
-use Rattle.std.{proofs.lemmas.Bool.{not-true, or_right}, specs.{List.Sorted.IsStrictlySortedBy, declared.cmp.Ordering.TheVariants.Less}}
+use Rattle.std.{proofs.lemmas.Bool.{not-true, or_right}, specs.{List.Sorted.IsStrictlySortedBy, Ordering.is_lt}}
+use Rattle.std.specs.declared.cmp.Ordering.{Ordering, TheVariants.Less}
 use Rattle.domain_names.specs.Name.{is_at_or_below, lowered, same_name, is_strictly_below, Label, Name, canonical_cmp, before, common_labels}
 use Rattle.domain_zone.proofs.NameLemmas.{one_lowered, same_itself, same_length, below_trans, below_parent, below_itself, below_longer, lowered_below}
 use Rattle.domain_zone.proofs.NameLemmas.{same_lowered, strictly_from, before_order, below_between, below_from, same_both, either_way, common_shares}
@@ -15,7 +16,6 @@ use Rattle.domain_nsec3.specs.{Chain.{is_chain_name, is_empty}, Meaning.CutsEncl
 use Rattle.domain_octets.proofs.StdLemmas.{and_false}
 use Rattle.domain_base.specs.Types.{ns, ds}
 use Rattle.domain_chain_rdata.specs.Rdata.{is_opt_out}
-use Rattle.domain_records.proofs.GroupLemmas.{is_less}
 
 -- ---- The names above a name.
 
@@ -182,6 +182,9 @@ module _ (L : List ZoneRecord) (a : Name) (config : ChainConfig) where
 -- ---- Names over owners that stand in order: they ascend, and those above them are no owners.
 
 -- ---- ascending lists of names
+
+is_less : (r : Ordering) → is_lt r ≡ true → r ≡ Less
+is_less r h = grind (arith, common_steps)
 
 pub sorted : (ks : List Name) → IsAscending before ks → IsStrictlySortedBy canonical_cmp ks
 unfolding IsStrictlySortedBy

@@ -2,8 +2,8 @@
 -- and removing leave.
 use Rattle.std.specs.{List.{AllByRecursion, slice_get}, Prelude.{◌≡◌, ℕ, ◌+◌, ◌<◌, ◌≤◌, Bool, true, false, List, [], ◌∷◌, ◌++◌, length}}
 use Rattle.std.specs.Prelude.{Option, MatchOption, if◌then◌else◌, slice_index_or, ◌==◌, ◌&&◌, Any, ◌≢◌, Result, Some, None, Ok, MatchResult}
-use Rattle.std.specs.{Prelude.{drop, map, remove, ◌⊎◌}, Ordering.{is_le, nat_cmp, on, then_cmp, is_lt}, Option.unwrap_or}
-use Rattle.std.specs.{List.Sorted.IsPartitionPoint, declared.cmp.Ordering.Ordering, Fn.{Shared, FnReturnsAt}, Iterator.Drains}
+use Rattle.std.specs.{Prelude.{drop, map, remove, ◌⊎◌}, Ordering.{is_le, nat_cmp, on, then_cmp}}
+use Rattle.std.specs.{declared.cmp.Ordering.Ordering, Fn.{Shared, FnReturnsAt}, Iterator.Drains}
 use Rattle.domain_names.specs.Name.{canonical_cmp, same_name, IsSame, Name}
 use Rattle.domain_record.specs.declared.record.Record.{Record}
 use Rattle.domain_base.specs.Types.{ns, rrsig}
@@ -193,10 +193,6 @@ abbrev pub matches : {N D : Type 0} → (N → Name) → (D → ℕ) → Name �
 matches labels rtype owner class type r =
     same_name (labels r.owner) owner && (is_asked class r.class && is_asked type (rtype r.«data»))
 
--- an element stands at that place, and passes the test
-abbrev pub HasAt : {X : Type 0} → (X → Bool) → List X → ℕ → Type 0
-HasAt {X} p xs i = (i < length xs) × ((d : X) → p (slice_index_or xs i d) ≡ true)
-
 -- the place of the first element of which P holds with `true`, if there is one; of those before it
 -- P holds with `false`
 abbrev pub IsFirst : {X : Type 0} → (X → Bool → Type 0) → List X → Option ℕ → Type 0
@@ -208,32 +204,6 @@ IsFirst {X} P xs (Some i) =
 -- the place of the first element that passes the test, if there is one
 abbrev pub IsFirstPlace : {X : Type 0} → (X → Bool) → List X → Option ℕ → Type 0
 IsFirstPlace p = IsFirst (λ x b. p x ≡ b)
-
--- what a look-up compares
-pub record Key : Type 0 where
-  pub class : ℕ
-  pub owner : Name
-  pub type : ℕ
-
-abbrev pub key_of : {N D : Type 0} → (N → Name) → (D → ℕ) → Record N D → Key
-key_of labels rtype r = record { class = r.class; owner = labels r.owner; type = rtype r.«data» }
-
--- by class, then owner, then type
-abbrev pub key_cmp : Key → Key → Ordering
-key_cmp =
-    then_cmp (on (λ k. k.class) nat_cmp)
-    (then_cmp (on (λ k. k.owner) canonical_cmp) (on (λ k. k.type) nat_cmp))
-
--- the record stands before those of this class that match
-abbrev pub is_before : {N D : Type 0} → (N → Name) → (D → ℕ) → ℕ → Name → Option ℕ
-    → Record N D → Bool
-is_before labels rtype class owner type r =
-    is_lt (key_cmp (key_of labels rtype r)
-    (record { class = class; owner = owner; type = unwrap_or type 0 }))
-
--- the elements before n pass the test, and those from n on don't
-abbrev pub IsParted : {X : Type 0} → (X → Bool) → List X → ℕ → Type 0
-IsParted p xs n = IsPartitionPoint (λ x. p x ≡ true) (λ x. p x ≡ false) xs n
 
 -- ---- Slices of values and of references.
 

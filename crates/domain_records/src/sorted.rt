@@ -283,7 +283,7 @@ impl<N: ToName, D: RecordData + CanonicalOrd, Sort: Sorter> SortedRecords<N, D, 
     }
 
     /// The first group of records of this owner and this type; the owner may be any name, not the
-    /// apex alone. Takes binary searches, one or two a class.
+    /// apex alone. Looks at one record after another.
     ///
     /// # Errors
     ///
