@@ -1,13 +1,12 @@
 -- Hashes of names: as labels, in lists, and in order.
 use Rattle.std.proofs.Common.{◌≡◌, ℕ, ◌+◌, ◌*◌, ◌/◌, ◌<◌, ◌≤◌, List, [], ◌∷◌, ◌++◌, map, length, refl, sym, ap, ◌∙◌, subst, arith, get_or, set, take, Fits}
-use Rattle.std.proofs.{Common.{w8, None, true, false, ◌-◌, drop, inl, inr, ◌⊎◌, IsPermutation, zero, suc, ◌^◌}, lemmas.List.Elements.{All-map, All-weaker}}
+use Rattle.std.proofs.{Common.{w8, None, true, false, ◌-◌, drop, inl, inr, ◌⊎◌, IsPermutation}, lemmas.List.Elements.{All-map, All-weaker}}
 use Rattle.std.proofs.lemmas.List.{Elements.{recursion_from_All, All-push}, Folds.map_fixed, length-map, drop_more, get_or-map, get_or_read, map_push}
 use Rattle.std.{proofs.lemmas.{List.{take_more, take-append-drop}, Str.Ascii.IsAscii-from_all, Grind.common_steps}, specs.Prelude.{All, Ok, nat_lt}}
 use Rattle.std.{specs.{Prelude.if◌then◌else◌, Char.to_ascii_lowercase, List.AllByRecursion, Str.IsAscii}, proofs.lemmas.List.Sorted.All-permutation}
 use Rattle.std.proofs.lemmas.{List.Sorted.{IsPermutation-map, IsPermutation-refl, IsPermutation-trans}, Map.Keys.sorted_from_all_adjacent}
 use Rattle.std.specs.{List.Sorted.{IsSortedByKey, IsStrictlySortedBy}, Cmp.Lexicographic.{slice_cmp, nat_list_cmp_total}, FinMap.slice_cmp-IsAntisymmetric}
-use Rattle.std.specs.{FinMap.nat_cmp-IsAntisymmetric, Ordering.{nat_cmp, is_lt, ordering_then, is_ne}, declared.cmp.Ordering.TheVariants.{Less, Equal}}
-use Rattle.std.{proofs.{lemmas.{Bool.cases_order, Nat.mul-le}, Math.Nat.one-le-pow}, specs.{Int.{w64, from_be_bytes}, Cmp.nat_cmp_is}}
+use Rattle.std.specs.{FinMap.nat_cmp-IsAntisymmetric, Ordering.{nat_cmp, is_lt}, declared.cmp.Ordering.TheVariants.Less}
 use Rattle.domain_codecs.{specs.Base32.{base32_from, base32_lower, lower_digit}, proofs.Base32Lemmas.{many_digits, are_small}}
 use Rattle.domain_octets.{specs.Octets.{AreOctets, Octets}, proofs.WordLemmas.octets_from_type}
 use Rattle.domain_names.{specs.{Name.{wire_of, IsName, Name}, Text.{label_text, name_text}, Wire.{labels_of, IsWire}}, proofs.TextLemmas.ordinary_octet}
@@ -187,54 +186,3 @@ module _ (a : Name) (hash : Hash) (names : List Name) where
         (λ g k. ap (hash_fault a) k.is.known ∙ k.is.sound) hashed h.each));
     fault = f;
   })
-
--- ---- Hashes are in the order of their first octets as one number, where those differ.
-
--- the first n numbers of a list as one number in base 256
-abbrev front_number : ℕ → List ℕ → ℕ
-front_number zero ds = 0
-front_number (suc n) [] = 0
-front_number (suc n) (d ∷ ds) = d * 256 ^ n + front_number n ds
-
-rest_octets : (d : ℕ) (ds : List ℕ) → AreOctets (d ∷ ds) → AreOctets ds
-rest_octets d ds octets k e lt = octets (suc k) e (omega arith)
-
-times_less : (n m w : ℕ) → n < m → n * w + w ≤ m * w
-times_less n m w lt = let t : (n + 1) * w ≤ m * w = mul-le (n + 1) w m w (omega arith) (omega arith) in omega (arith, t)
-
-front_below : (n : ℕ) (ds : List ℕ) → AreOctets ds → front_number n ds < 256 ^ n
-front_below zero ds octets = omega arith
-front_below (suc n) [] octets = one-le-pow (suc n) 256 (omega arith)
-front_below (suc n) (d ∷ ds) octets =
-    grind (arith, common_steps, (times_less d 256 (256 ^ n) (octets 0 0 (omega arith))), (front_below n ds (rest_octets d ds octets)))
-
--- what follows a lesser octet stays below where a greater one begins
-apart : (n d e : ℕ) (ds es : List ℕ) → AreOctets ds → d < e → front_number (suc n) (d ∷ ds) < front_number (suc n) (e ∷ es)
-apart n d e ds es octets lt = grind (arith, common_steps, front_below)
-
--- a lesser number is of octets that come before
-less_front : (n : ℕ) (ds es : List ℕ) → n ≤ length ds → n ≤ length es → AreOctets ds → AreOctets es
-    → front_number n ds < front_number n es → slice_cmp nat_cmp ds es ≡ Less
-less_front zero ds es long long' octets octets' lt = absurd (omega arith)
-less_front (suc n) [] es long long' octets octets' lt = absurd (omega arith)
-less_front (suc n) (d ∷ ds) [] long long' octets octets' lt = absurd (omega arith)
-less_front (suc n) (d ∷ ds) (e ∷ es) long long' octets octets' lt = elim (cases_order d e) [
-  | inl same ↦ ap (λ r. ordering_then r (slice_cmp nat_cmp ds es)) (sym (nat_cmp_is d e Equal same))
-      ∙ less_front n ds es (omega arith) (omega arith) (rest_octets d ds octets) (rest_octets e es octets') (omega (arith, lt, ap (λ q. q * 256 ^ n) same))
-  | inr w ↦ elim w [
-    | inl less ↦ ap (λ r. ordering_then r (slice_cmp nat_cmp ds es)) (sym (nat_cmp_is d e Less less))
-    | inr more ↦ absurd (omega (arith, lt, apart n e d es ds (rest_octets e es octets') more))
-  ]
-]
-
-front_is : (ds : List ℕ) → 8 ≤ length ds → from_be_bytes w64 (take 8 ds) ≡ front_number 8 ds
-front_is (a ∷ b ∷ c ∷ d ∷ e ∷ f ∷ g ∷ h ∷ ds) long = omega arith
-front_is _ long = absurd (omega arith)
-
--- the numbers of the first eight octets, where they differ, are in the order of the lists
-pub by_front : (ds es : List ℕ) (m n : ℕ) → 8 ≤ length ds → 8 ≤ length es
-    → AreOctets ds → AreOctets es → m ≡ from_be_bytes w64 (take 8 ds) → n ≡ from_be_bytes w64 (take 8 es)
-    → is_ne (nat_cmp m n) ≡ true → nat_cmp m n ≡ slice_cmp nat_cmp ds es
-by_front ds es m n long long' octets octets' m_is n_is differ =
-    let swapped = nat_list_cmp_total.antisymm ds es in
-    grind (arith, common_steps, nat_cmp_is, front_is, (less_front 8 ds es long long' octets octets'), (less_front 8 es ds long' long octets' octets))

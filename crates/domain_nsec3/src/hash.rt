@@ -1,8 +1,8 @@
 //! Hashes of names, each in place.
 ghost use Rattle.std.specs.Prelude.{◌≡◌, ◌≤◌, length, take, ◌+◌, ◌<◌, ◌++◌, ◌∷◌, ◌⊎◌, [], Ok, Err, Some, None};
-ghost use Rattle.std.specs.{Prelude.{All, IfOk, IfErr, IsErrOf, OnOk, vec_capacity, vec_len}, Int.w64};
-ghost use Rattle.std.specs.{Int.from_be_bytes, Ordering.nat_cmp, Cmp.Lexicographic.slice_cmp};
-ghost use Rattle.domain_octets.specs.{Octets.{AreOctets, Octets}, Text.dot};
+ghost use Rattle.std.specs.Prelude.{All, IfOk, IfErr, IsErrOf, OnOk, vec_capacity, vec_len};
+ghost use Rattle.std.specs.{Ordering.nat_cmp, Cmp.Lexicographic.slice_cmp};
+ghost use Rattle.domain_octets.specs.{Octets.Octets, Text.dot};
 ghost use Rattle.domain_nsec3.specs.{Chain.{hashed_owner, hash_name, hash_fault, IsNoHash}, Steps.AreHashesOf};
 ghost use Rattle.domain_nsec3.specs.{Steps.{IsFirstRefused, IsHashed, IsRefusal}, View.hash_by};
 ghost use Rattle.domain_nsec3.specs.View.{parameters_of};
@@ -22,9 +22,6 @@ use std::marker::Model;
 
 /// The greatest length of a hash whose text is one label.
 pub(crate) const MAX_HASH: usize = 39;
-
-/// The number of octets that are compared as one number.
-const FRONT: usize = 8;
 
 /// At most 39 octets, which lie in the value itself: so a list of hashes takes one piece of memory.
 #[derive(Drop)]
@@ -65,39 +62,12 @@ impl NameHash {
         &self.octets[..usize::from(self.len)]
     }
 
-    /// Compares the octets, the first eight of both as one number first.
+    /// Compares the octets.
     pub(crate) fn compare(&self, other: &Self) -> Ordering
         ensures { result ≡ slice_cmp nat_cmp self.now other.now }
     {
-        compare_octets(self.as_slice(), other.as_slice())
+        self.as_slice().cmp(other.as_slice())
     }
-}
-
-/// The first eight octets as one number, the first of them highest.
-fn front(octets: &[u8]) -> u64
-    requires { 8 ≤ length octets.now }
-    ensures number { result ≡ from_be_bytes w64 (take 8 octets.now) }
-    ensures octets { AreOctets octets.now }
-{
-    u64::from_be_bytes([
-        octets[0], octets[1], octets[2], octets[3], octets[4], octets[5], octets[6], octets[7],
-    ])
-}
-
-/// Compares octets, the first eight of both as one number first.
-#[tactic(auto, using(crate::proofs::HashLemmas::by_front))]
-fn compare_octets(ours: &[u8], theirs: &[u8]) -> Ordering
-    ensures { result ≡ slice_cmp nat_cmp ours.now theirs.now }
-{
-    if ours.len() >= FRONT && theirs.len() >= FRONT {
-        let our_front = front(ours);
-        let their_front = front(theirs);
-        let by_front = our_front.cmp(&their_front);
-        if by_front.is_ne() {
-            return by_front;
-        }
-    }
-    ours.cmp(theirs)
 }
 
 /// A name of a chain: its hash, and its place among the names as they were hashed.
