@@ -174,22 +174,6 @@ impl<'a> Digits<'a> {
         self.put(LOWER, buffer)
     }
 
-    /// The next digits as characters of an alphabet, as many as there are and a buffer has room
-    /// for; None where none are left.
-    fn next_text<'b>(&mut self, alphabet: &[u8; 32], buffer: &'b mut [u8]) -> Option<&'b [u8]>
-        requires { 8 ≤ length buffer.old }
-        ensures some { IfSome result (λ text. (digits : Octets) × AreDigits digits
-            × (self.old ≡ digits ++ self.new) × (text.now ≡ map (slice_index alphabet.now) digits)
-            × (0 < length digits)) }
-        ensures none { IfNone result ((self.old ≡ []) × (self.new ≡ [])) }
-    {
-        let end = self.put(alphabet, buffer);
-        if end == 0 {
-            return None;
-        }
-        Some(&buffer[..end])
-    }
-
     /// The text of the next digits in upper case, as many as there are and a buffer has room for;
     /// None where none are left.
     fn next_upper<'b>(&mut self, buffer: &'b mut [u8]) -> Option<&'b str>
@@ -198,8 +182,11 @@ impl<'a> Digits<'a> {
             × (text.now ≡ map upper_digit digits) × (0 < length digits)) }
         ensures none { IfNone result ((self.old ≡ []) × (self.new ≡ [])) }
     {
-        let text = self.next_text(UPPER, buffer)?;
-        Some(unsafe { str::from_utf8_unchecked(text) })
+        let end = self.put(UPPER, buffer);
+        if end == 0 {
+            return None;
+        }
+        Some(unsafe { str::from_utf8_unchecked(&buffer[..end]) })
     }
 }
 
@@ -211,12 +198,9 @@ const ROOM: usize = 64;
 pub fn encode_hex_lower(alloc: Global, octets: &[u8]) -> Result<Vec<u8>, OutOfMemory>
     ensures { IfOk result (λ text. text.items ≡ base32_lower octets.now) }
 {
-    let mut text = Vec::with_capacity(alloc, octets.len() / 5 * 8 + 8)?;
-    let mut digits = Digits::new(octets);
-    let mut buffer = [0; ROOM];
-    while let Some(part) = digits.next_text(LOWER, &mut buffer) {
-        text.extend_from_slice(part)?;
-    }
+    let mut text = vec![in alloc; 0; octets.len() / 5 * 8 + 16]?;
+    let end = Digits::new(octets).put_lower(&mut text);
+    text.truncate(end);
     Ok(text)
 }
 
