@@ -1,5 +1,5 @@
 -- What records answer does not depend on TTLs, classes and the case of letters.
-use Rattle.std.proofs.{Common.{◌≡◌, ℕ, Bool, List, Option, Some, None, arith, cond, not, ◌&&◌, ◌||◌, length, subst}, lemmas.Grind.common_steps}
+use Rattle.std.proofs.{Common.{◌≡◌, ℕ, Bool, List, Option, Some, None, arith, cond, not, ◌&&◌, ◌||◌}, lemmas.Grind.common_steps}
 use Rattle.std.specs.List.{find}
 use Rattle.domain_names.specs.Name.{same_name, Name}
 use Rattle.domain_base.specs.Types.{dname}
@@ -80,14 +80,7 @@ module _ (R : HashedRecords) (ls : List HashedLink) (alike : ArePaired IsHashedA
     read_on first answer r = grind (arith, common_steps, wildcard_alike, matching, covering)
 
     pub read_alike : (answer : Answer) → IsHashedRead R x t answer → IsHashedRead S x t answer
-    read_alike answer read =
-        let other = encloser_alike R ls alike x read.found read.is in
-        record {
-          found = other.0;
-          is = other.1;
-          ends = subst (λ f. IsReadOn S x t f answer) (found_answer_alike R.apex (length x) t read.found other.0 other.2)
-              (read_on (found_answer R.apex read.found (length x) t) answer read.ends);
-        }
+    read_alike answer read = grind (arith, common_steps, encloser_alike, found_answer_alike, read_on)
 
 module _ (L : List ZoneRecord) (a : Name) (config : ChainConfig) (x : Name) (t : ℕ) (ks ls : List HashedLink)
     (alike : ArePaired IsHashedAlike ks ls) where

@@ -1,6 +1,6 @@
 -- What the records of a chain that leaves out the names below a DNAME tell of the zone; what they answer is what they prove, and the whole chain
 -- proves all; and of any records at all those that an answer rests on are there.
-use Rattle.std.proofs.Common.{◌≡◌, ℕ, ◌<◌, Bool, true, false, cond, not, ◌&&◌, ◌||◌, List, [], ◌∷◌, length, refl, sym, ap, ◌∙◌, inl, inr, arith, rules, ◌≢◌}
+use Rattle.std.proofs.Common.{◌≡◌, ℕ, ◌<◌, Bool, true, false, cond, not, ◌&&◌, ◌||◌, List, [], ◌∷◌, length, refl, sym, ap, ◌∙◌, arith, ◌≢◌}
 use Rattle.std.proofs.{Common.{◌≤◌, Option, Some, None, map}, lemmas.List.Elements.{All-from_recursion, recursion_from_All}}
 use Rattle.std.proofs.lemmas.{Bool.{and_from, and_left, and_right, cases_Bool, false_from_ne_true, false≢true, and_parts}, Grind.common_steps}
 use Rattle.std.specs.{List.{Contains, list_any, find, AllByRecursion}, Prelude.{All, filter}}
@@ -9,7 +9,7 @@ use Rattle.domain_names.specs.Name.{is_at_or_below, is_strictly_below, lowered, 
 use Rattle.domain_base.specs.Types.{cname, dname, soa}
 use Rattle.domain_bitmap.specs.Blocks.{contains_type}
 use Rattle.domain_zone.proofs.{PairLemmas.{Stands, in_at, stands_all, find_some, any_none, in_filter, In}, NameLemmas.{one_lowered, below_itself}}
-use Rattle.domain_zone.proofs.{NameLemmas.{lowered_below, below_length, same_is}, WalkLemmas.{below_occluder, in_any, all_distinct, all_map, weaker}}
+use Rattle.domain_zone.proofs.{NameLemmas.{lowered_below, same_is}, WalkLemmas.{below_occluder, in_any, all_distinct, all_map, weaker}}
 use Rattle.domain_zone.specs.{Covering.{matches, covers, pairs}, Enclosers.{IsClosestEncloser, longer, shared}, Zone.{ZoneRecord, OwnersNeverDescend}}
 use Rattle.domain_zone.specs.Zone.{has_type, is_occluded, is_unoccluded, is_zone_cut, occludes, owns, records_of, unoccluded_owners, distinct}
 use Rattle.domain_nsec.specs.{Chain.{Link, IsChain, is_listed, nsec_lists}, declared.config.GenerateNsecConfig.GenerateNsecConfig}
@@ -22,7 +22,7 @@ use Rattle.domain_answer.proofs.{AlikeLemmas.{proved_alike, reading_alike}, Encl
 use Rattle.domain_answer.{proofs.EncloserLemmas.{parent_below, strictly_enclosed, wildcard_low, highest_of, encloser_less, all_told}, specs.Reading.IsFound}
 use Rattle.domain_answer.specs.Reading.{IsAnswered, LeavesOutBelowDname, is_missing, knows_wildcard, proved_answer, CountsWithin, RestsOn, cover_answer}
 use Rattle.domain_answer.specs.Reading.{listed_answer, listed_both, match_answer, reading, tells_occluded, tells_occluder, wildcard_answer, wildcard_both}
-use Rattle.domain_answer.specs.{Reading.{IsNameAnswer, absent_answer, name_answer, owner_answer}, ZoneAnswer.{is_of_child, owned_answer, asterisk, encloser}}
+use Rattle.domain_answer.specs.{Reading.{IsNameAnswer, absent_answer, name_answer}, ZoneAnswer.{is_of_child, owned_answer, asterisk, encloser}}
 use Rattle.domain_answer.specs.ZoneAnswer.{highest_occluder, inside_answer, is_at_parent, missing_answer, name_exists, owns_type, wildcard_below, zone_answer}
 use Rattle.domain_answer.specs.declared.answer.Answer.{Answer, TheVariants.{OutsideZone, AtParent, Referral, Redirected, NoData, WildcardNoData, NameError}}
 use Rattle.domain_answer.specs.declared.answer.{Answer.TheVariants.{NoCloserName, NotProven}, NameAnswer.TheVariants.{Absent, Given}}
@@ -219,11 +219,7 @@ module _ {L : List ZoneRecord} {a : Name} {assume : Bool} {links : List Link} (f
           rw (missing, none_above L a x high, told ∙ high, exists, e, labels, closest_last owners a x) (wildcard_told high e)
 
       of_cover : cover_answer a listed k x t ≡ known
-      of_cover =
-          elim (cases_Bool (is_occluded true L a x)) [
-            | inl e ↦ of_occluded e
-            | inr high ↦ elim (cases_Bool (name_exists L a x)) [ inl e ↦ of_empty high e | inr e ↦ of_missing high e ]
-          ]
+      of_cover = grind (arith, common_steps, (cases_Bool (is_occluded true L a x)), (cases_Bool (name_exists L a x)), of_occluded, of_empty, of_missing)
 
     list_proved : listed_answer a listed x t ≡ cond (not (has_match_or_cover listed x)) NotProven known
     list_proved =
@@ -269,10 +265,7 @@ module _ (a : Name) (listed : List Link) where
     match_fits k has within = grind (arith, common_steps)
 
     cover_fits : (k : Link) → HasProof listed a x → covers before k.owner k.next x ≡ true → Fits (cover_answer a listed k x t)
-    cover_fits k has c =
-        let within : tells_occluded a k x ≡ true → length k.owner ≤ length x =
-        λ o. below_length x k.owner (and_parts (is_at_or_below x k.owner) (tells_occluder a k) o).0 in
-        search (rules, (choose_by Fits), absent_fits, (encloser_less k.owner k.next x c)) depth 12
+    cover_fits k has c = grind (arith, common_steps, and_parts, choose_by, absent_fits, encloser_less)
 
     listed_fits : Fits (listed_answer a listed x t)
     listed_fits =
@@ -316,11 +309,7 @@ module _ (a : Name) (listed : List Link) (x : Name) (t : ℕ) (whole : Answer) w
 
   pub cover_told : (k : Link) (n : ℕ) → whole ≡ cover_answer a listed k x t → tells_occluded a k x ≡ false → is_strictly_below k.next x ≡ false
       → n ≡ length (longer (shared x k.owner) (shared x k.next)) → covers before k.owner k.next x ≡ true → IsNameAnswer whole a listed x t (Absent n)
-  cover_told k n is free none counts c =
-      let less : n < length x = rw counts (encloser_less k.owner k.next x c none) in
-      let said : whole ≡ absent_answer a listed n x t =
-      is ∙ (λ j. cond (free j) (owner_answer a k) (cond (none j) NoData (absent_answer a listed (sym counts j) x t))) in
-      grind (arith, common_steps, wildcard_own)
+  cover_told k n is free none counts c = grind (arith, common_steps, encloser_less, wildcard_own)
 
 -- ---- what is given is the whole answer, and no wildcard is asked for
 

@@ -43,10 +43,7 @@ child_below l x = strictly_from (l ∷ x) x (below_parent l x) (omega arith)
 
 -- what a name is strictly below, its parent is at or below
 pub parent_below : (l : Label) (x c : Name) → is_strictly_below (l ∷ x) c ≡ true → is_at_or_below x c ≡ true
-parent_below l x c s =
-    let p = and_parts (is_at_or_below (l ∷ x) c) (not (same_name (l ∷ x) c)) s in
-    let far = strictly_longer (l ∷ x) c s in
-    below_longer (l ∷ x) x c (below_parent l x) p.0 (omega arith)
+parent_below l x c s = grind (arith, common_steps, (strictly_longer (l ∷ x) c s), below_longer, (below_parent l x))
 
 -- ---- the last labels
 
@@ -242,16 +239,10 @@ module _ (L : List ZoneRecord) (a : Name) where
 
     module _ (low : is_at_or_below x a ≡ true) (child : is_at_parent a x t ≡ false) where
       occluded_so : (o : Name) → highest_occluder L a x ≡ Some o → So (occluded_answer L a o)
-      occluded_so o e =
-          let h = some_highest x o e in
-          choose_by So (is_zone_cut L a o) (Referral (length o)) (Redirected (length o))
-          (λ c. record { cut = o; count = refl; is_cut = c; free = h.free; below = inl h.under })
-          (λ c. let d = (and_parts (is_at_or_below o a) (has_type (records_of L o) dname) (rw c at h.over)).1 in
-          record { owner = o; count = refl; no_cut = c; owns_dname = d; free = h.free; below = h.under })
+      occluded_so o e = grind (arith, common_steps, (some_highest x o e), and_parts)
 
       free_here : highest_occluder L a x ≡ None → IsHere L a x t
-      free_here none =
-          record { free = and_from (is_at_or_below x a) (not (is_occluded true L a x)) low (ap not (none_highest x none)); child = child }
+      free_here none = grind (arith, common_steps, none_highest)
 
       inside_so : (o : Option Name) → highest_occluder L a x ≡ o → So (inside_answer L a assume x t o)
       inside_so None e = let here = free_here e in search (rules, (choose_by So), (existing_so here), (missing_so here))

@@ -1,7 +1,7 @@
 -- What the records of an NSEC3 chain answer by themselves is what they prove of the zone, and the whole chain proves all; a zone whose chain leaves
 -- out nothing answers as it does with an NSEC chain; and what records answer is as it is promised.
 use Rattle.std.proofs.Common.{◌≡◌, ℕ, ◌<◌, true, false, cond, length, refl, sym, ap, ◌∙◌, subst, nat_eq, Option, Some, None, arith, Bool, not, ◌&&◌, List}
-use Rattle.std.proofs.lemmas.Bool.{eqb-false, false_from_ne_true, or_left, or_right, cases_lt, false≢true, cases_Bool, and_from, and_parts}
+use Rattle.std.proofs.lemmas.Bool.{false_from_ne_true, or_left, or_right, cases_lt, false≢true, cases_Bool, and_from, and_parts}
 use Rattle.std.proofs.{Common.{inl, inr, ◌≤◌, ◌+◌, rules, ◌||◌, [], ◌∷◌}, lemmas.{Bool.true_from_ne_false, Grind.common_steps}}
 use Rattle.std.specs.{List.{Contains, list_any}, Prelude.{Ok, ◌==◌, filter}}
 use Rattle.domain_octets.specs.Octets.{Octets}
@@ -20,7 +20,7 @@ use Rattle.domain_checker.proofs.{HashedListLemmas.{match_is_of_name, alone_by, 
 use Rattle.domain_checker.proofs.HashedVerdictLemmas.{IsKnown, IsOfClosest, encloser_is, known_of_first, as_chain, whole_proves as proves_all}
 use Rattle.domain_checker.specs.{Verdict.{IsHashedAlike, NsecChainsAreKnown}, HashedReading.{Encloser, IsEncloser, IsFoundEncloser, encloser_is_cut}}
 use Rattle.domain_checker.specs.HashedVerdict.{ChainFacts, ChainsAreKnown, is_hash_cover, is_hash_match, is_covered, is_matched, next_closer}
-use Rattle.domain_checker.specs.HashedVerdict.{is_below_chain_cut, proves, HashedRecords, first_cover, first_match, chain_records}
+use Rattle.domain_checker.specs.HashedVerdict.{is_below_chain_cut, HashedRecords, first_cover, first_match, chain_records}
 use Rattle.domain_checker.proofs.AlikeLemmas.{paired_with_some}
 use Rattle.domain_answer.proofs.EncloserLemmas.{expanded_alike, owned_alike, closest_last, dname_occludes, exists_low, none_below, wildcard_low, last_above}
 use Rattle.domain_answer.proofs.EncloserLemmas.{last_count, all_told, below_strictly, cut_occludes, cut_owns, name_of, none_above, strictly_enclosed}
@@ -93,9 +93,7 @@ by_told R y told answer P r match cover none =
 
 -- fewer than x, if it is another name
 pub shorter : {R : HashedRecords} {x : Name} {e : Encloser} (is : IsEncloser R x e) → same_name is.name x ≡ false → e.count < length x
-shorter {R} {x} {e} is s =
-    let other = eqb-false e.count (length x) (itself_counted is ∙ s) in
-    omega (arith, is.counts, other, below_length x is.name is.first.above)
+shorter is s = grind (arith, common_steps, itself_counted, below_length)
 
 -- where no more is left to ask than the wildcard
 
@@ -403,17 +401,8 @@ judged knows listed a x t small answer is = subst (IsJudged listed a x t) is (re
 module _ (knows : ChainsAreKnown) (R : HashedRecords) (x : Name) (limit : ℕ) (answer : Answer) (few : R.parameters.iterations ≤ limit) where
   pub hashed_judged : (t : ℕ) → t < 65536 → is_at_or_below x R.apex ≡ true → is_at_parent R.apex x t ≡ false → IsHashedRead R x t answer
       → IsHashedJudged R x t limit (Ok answer)
-  hashed_judged t small low apart read = record {
-    outside = λ off. absurd (false≢true (sym off ∙ low));
-    parent = λ inside at. absurd (false≢true (sym apart ∙ at));
-    iterations = λ asks over. absurd (omega (arith, few, over));
-    zone = λ within. read_proved knows R x t answer small low apart read;
-    exact = λ asks within. read;
-    proof = (read_fits R x t answer read).0;
-    within = (read_fits R x t answer read).1;
-    refusal = grind (arith, common_steps);
-    errors = tt;
-  }
+  hashed_judged t small low apart read =
+      grind (arith, common_steps, (read_proved knows R x t answer small low apart read), (read_fits R x t answer read))
 
   pub expansion_judged : (n : ℕ) → is_expanded R.apex x n ≡ true → IsExpansionRead R x n answer → IsExpansionJudged R x n limit (Ok answer)
   expansion_judged n longer read = record {
@@ -441,9 +430,7 @@ needs_none u g d o w f = grind (arith, common_steps)
 module _ {L : List ZoneRecord} {a : Name} {config : ChainConfig} {links : List HashedLink} (facts : ChainFacts L a config links) where
   module _ (x : Name) (low : is_at_or_below x a ≡ true) (asked : AreAskedAlone L a config x) where
     pub encloser_told : tells_encloser L a config links x ≡ true
-    encloser_told =
-        let told : proves L a config links x ≡ true = proves_all facts x low asked.ancestors in
-        grind (arith, common_steps, closed)
+    encloser_told = grind (arith, common_steps, proves_all, closed)
 
     w_told : hashed_exists L a config x ≡ false → tells_wildcard L a config links x ≡ true
     w_told gone =
