@@ -104,10 +104,9 @@ module _ (R : HashedRecords) (v : Octets) (place : ℕ) (is_match : Bool) (of : 
 pub told_in : (R : HashedRecords) (v : Octets) (place : ℕ) (m : Bool) (of : IsOfHash R v place m) (listed : List HashedLink) → AreAmong R.links listed
     → In of.link listed → (n t : ℕ)
     → wildcard_told_by n t of.link m ≡ wildcard_told n t (first_match (with_links R listed) v) (first_cover (with_links R listed) v)
-told_in R v place true of listed among has n t =
-    λ i. wildcard_told n t (sym (matched R v place true of listed among has refl) i) (first_cover (with_links R listed) v)
+told_in R v place true of listed among has n t = grind (arith, common_steps, (matched R v place true of listed among has refl))
 told_in R v place false of listed among has n t =
-    λ i. wildcard_told n t (sym (unmatched R v place false of listed among refl) i) (sym (covered R v place false of listed among has refl) i)
+    grind (arith, common_steps, (unmatched R v place false of listed among refl), (covered R v place false of listed among has refl))
 
 -- ---- the links at places
 
@@ -437,11 +436,7 @@ module _ (R : HashedRecords) (x : Name) (f : PlacedEncloser) (t : ℕ) (at : IsE
 -- ---- where none is found
 
 pub none_read : (R : HashedRecords) (x : Name) (t : ℕ) → IsUnmatched R x → IsHashedRead (with_links R []) x t NotProven
-none_read R x t none = record {
-  found = None;
-  is = λ y up low. let r = none y up low in (r.0, r.1, unmatched_among R [] (λ k i. absurd i) y r.0 r.1 r.2);
-  ends = refl;
-}
+none_read R x t none = grind (arith, common_steps, (unmatched_among R))
 
 -- ---- the wildcard lies below an ancestor
 

@@ -3,7 +3,7 @@ use Rattle.std.proofs.Common.{◌≡◌, ℕ, suc, ◌-◌, ◌≤◌, true, fal
 use Rattle.std.{proofs.{Common.{◌<◌, Bool, cond, not, [], ◌∷◌, ◌++◌, Option, None, refl, ◌&&◌, ◌||◌}, lemmas.Grind.common_steps}, specs.List.Contains}
 use Rattle.std.proofs.lemmas.Bool.{cases_lt, and_parts, and_left, or_parts, true_from_ne_false, false_from_ne_true, false≢true, or_right}
 use Rattle.std.proofs.lemmas.{List.{get_or_past, length-map, Elements.{All-nil, All-push}}, Option.{get_or_from_slice_get, slice_get-get_or, slice_get-map}}
-use Rattle.std.specs.{Option.option_map, Prelude.{All, option_to_list}}
+use Rattle.std.specs.{Prelude.{All, option_to_list}}
 use Rattle.domain_names.specs.Name.{is_at_or_below, is_strictly_below, same_name, last_labels, before, Name}
 use Rattle.domain_zone.proofs.{PairLemmas.{in_at, pair_is, pairs_length, find_none, said}, NameLemmas.{below_from, before_right, one_lowered, same_is}}
 use Rattle.domain_zone.specs.{Covering.{pairs, matches_or_covers}, Enclosers.{longer, shared}, Zone.{ZoneRecord, unoccluded_owners, is_unoccluded}}
@@ -11,7 +11,7 @@ use Rattle.domain_nsec.specs.{Chain.Link, declared.config.GenerateNsecConfig.Gen
 use Rattle.domain_checker.proofs.{AlikeLemmas.contained_alike, EncloserLemmas.closest_is, MeantLemmas.{inside, apex_exists, config_with}}
 use Rattle.domain_checker.specs.{Verdict.{NsecChainsAreKnown, NsecFacts, has_match_or_cover}, Reading.{is_cover, is_match}}
 use Rattle.domain_answer.proofs.{ChainLemmas.{facts_leaving, given_never, match_own}, EncloserLemmas.{closest_last, free_parts, wildcard_low, answer_so}}
-use Rattle.domain_answer.specs.Reading.{IsSo, IsAnswered, is_missing, knows_wildcard, proved_answer, IsNameAnswer, name_answer, absent_answer, listed_both}
+use Rattle.domain_answer.specs.Reading.{IsAnswered, is_missing, knows_wildcard, proved_answer, IsNameAnswer, name_answer, absent_answer, listed_both}
 use Rattle.domain_answer.specs.{Reading.{reading, tells_occluded, wildcard_answer}, declared.answer.NameAnswer.TheVariants.Given, ZoneAnswer.is_at_parent}
 use Rattle.domain_answer.specs.{ZoneAnswer.{wildcard_below, encloser, name_exists, zone_answer}, declared.answer.Answer.{Answer, TheVariants.AtParent}}
 use Rattle.domain_answer.specs.declared.answer.{Answer.TheVariants.{NoCloserName, OutsideZone, NotProven}, NameAnswer.NameAnswer}
@@ -24,8 +24,7 @@ ends k = (k.owner, k.next)
 -- the record at a place has the owner at that place, and points to the owner after it, the last one to the apex
 ends_at : (links : List Link) (owners : List Name) (a : Name) → map ends links ≡ pairs owners a → (i : ℕ) (k : Link) → slice_get links i ≡ Some k
     → (slice_get owners i ≡ Some k.owner) × (k.next ≡ get_or owners (suc i) a)
-ends_at links owners a are i k there =
-    pair_is owners a i (ends k) (ap (λ ps. slice_get ps i) (sym are) ∙ slice_get-map ends links i ∙ ap (option_map ends) there)
+ends_at links owners a are i k there = grind (arith, common_steps, pair_is, (slice_get-map ends links i))
 
 module _ (knows : NsecChainsAreKnown) (links : List Link) (x : Name) (low high : ℕ) (at_ends : AreEnds links x low high) (near : high - low ≤ 1) where
   pub found : (L : List ZoneRecord) (a : Name) (config : GenerateNsecConfig) → IsWhole L a config links
@@ -237,10 +236,7 @@ module _ (knows : NsecChainsAreKnown) (links : List Link) (L : List ZoneRecord) 
 
     module _ (count : ℕ) (says : reading a (at_place links (Some p)) x t ≡ NoCloserName count) where
       only_half : IsHalf (at_place links (Some p))
-      only_half = elim half_here [
-        | inl e ↦ absurd (subst (IsSo L a assume x t) (sym e ∙ says) (answer_so L a assume x t))
-        | inr h ↦ h
-      ]
+      only_half = grind (arith, common_steps, half_here, answer_so)
 
       pub wildcard_is : wildcard_below (last_labels count x) ≡ wildcard_below (encloser L a x)
       wildcard_is = grind (arith, common_steps, only_half, closest_last)
