@@ -29,8 +29,7 @@ is_hash_so answer h e = ap (λ w. is_hash w h) e ∙ ap is_eq (tied_itself nat_l
 found_first : (test : Name → Bool) (xs : List Name) (f y : Name) → find test xs ≡ Some f → IsAscending before xs → In y xs → test y ≡ true
     → before y f ≡ false
 found_first test [] f y e up i t = absurd i
-found_first test (x ∷ xs) f y e up i t =
-    grind (arith, common_steps, (irreflexive before_order), (before_order.one_way x), all_in, (found_first test xs f y))
+found_first test (x ∷ xs) f y e up i t = grind (arith, common_steps, irreflexive, before_order, all_in, (found_first test xs f y))
 
 -- ---- over the names of a chain
 
@@ -87,11 +86,7 @@ module _ (L : List ZoneRecord) (a : Name) (config : ChainConfig) (names : List N
 
     -- a name after another that has its hash has a first
     has_first : (m k : Name) → In m names → In k names → before k m ≡ true → hash_of config k ≡ hash_of config m → is_some (first_of m) ≡ true
-    has_first m k i j b e =
-        let h = all_in (IsHashed config.hash) names m hashed i in
-        let there = in_filtered (λ y. before y m) names k j b in
-        let passes = is_hash_so (hash_of config k) h.0 (e ∙ h.1) in
-        grind (arith, common_steps, find_none)
+    has_first m k i j b e = grind (arith, common_steps, all_in, in_filtered, is_hash_so, find_none)
 
   later : (n : Name) (o : Option Name) → map (λ (p : Pair). p.0) (pair_with n o) ≡ cond (is_some o) (n ∷ []) []
   later n None = refl
@@ -129,10 +124,8 @@ module _ (L : List ZoneRecord) (a : Name) (config : ChainConfig) (names : List N
 
     pub pairs_more : (h : Octets) (first : Option Name) (more : List Pair) → hash_of config n ≡ Ok h
         → first ≡ first_with config.hash (take i names) (Ok h) → more ≡ pairs ++ pair_with n first → ArePairs config.hash names (take (i + 1) names) more
-    pairs_more h first more e found pushed = record {
-      hashed = rw (take_more names i n l, ← is) (all_both (IsHashed config.hash) (take i names) (n ∷ []) old.hashed ((h, e), tt));
-      are = grind (arith, common_steps, front, old.are);
-    }
+    pairs_more h first more e found pushed =
+        grind (arith, common_steps, (take_more names i n l), (all_both (IsHashed config.hash) (take i names) (n ∷ []) old.hashed ((h, e), tt)), front)
 
     pub first_refusal : (number : ℕ) → hash_of config n ≡ Err number → IsFirstRefusal L a config number
     first_refusal number e = record {
@@ -167,5 +160,4 @@ module _ (L : List ZoneRecord) (a : Name) (config : ChainConfig) where
   pub first_of_pairs : (alikes : List Alike) (first : Option Alike) → first ≡ slice_get alikes 0 → AreAlike L a config (map pair_of alikes)
       → IsFirstPair L a config (option_map pair_of first)
   first_of_pairs [] first is are = subst (λ (o : Option Alike). IsFirstPair L a config (option_map pair_of o)) (sym is) (no_pair are)
-  first_of_pairs (x ∷ xs) first is are =
-      subst (λ (o : Option Alike). IsFirstPair L a config (option_map pair_of o)) (sym is) (one_pair (pair_of x) (map pair_of xs) are)
+  first_of_pairs (x ∷ xs) first is are = grind (arith, common_steps, (one_pair (pair_of x) (map pair_of xs) are))

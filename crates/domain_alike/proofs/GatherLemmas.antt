@@ -38,9 +38,7 @@ pub record IsFronted (a : Name) (owners all : List Name) : Type 0 where
 pub fronted : (a first : Name) (owners all : List Name) (is : Bool) → Some first ≡ slice_get owners 0 → IsStrictlySortedBy canonical_cmp owners
     → AllByRecursion (λ n. is_at_or_below n a ≡ true) owners → same_name first a ≡ is → all ≡ (if is then owners else a ∷ owners) → IsFronted a owners all
 fronted a first [] all is at up low same are = absurd (cc)
-fronted a first (o ∷ os) all true at up low same are =
-    let is : first ≡ o = cc in
-    rw are (record { ascend = up; in_zone = low; begins = or_left (same_name o a) _ (sym (ap (λ n. same_name n a) is) ∙ same); alike = λ x. refl })
+fronted a first (o ∷ os) all true at up low same are = grind (arith, common_steps, or_left)
 fronted a first (o ∷ os) all false at up low same are =
     let is : first ≡ o = cc in
     let order = ascending canonical_cmp (o ∷ os) up in
