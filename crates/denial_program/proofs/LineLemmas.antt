@@ -4,13 +4,14 @@ use Rattle.std.proofs.Common.{get_or, ap, ◌∙◌, IfSome, Option, length-take
 use Rattle.std.proofs.lemmas.{Bool.Decides.nat_tests, Grind.common_steps, List.Elements.{All-weaker, All-nil, All-from_get_or, All-cons}}
 use Rattle.std.{proofs.{lemmas.Str.IsUtf8-from_ascii, KnownBytes.Consumes-nil, BufReadLemmas.Consumes_through}, specs.{List.{All, slice_split}, Str.IsUtf8}}
 use Rattle.std.{proofs.{BufReadLemmas.take_through_nonempty, lemmas.List.get_or-take}, specs.Io.BufRead.{take_through, DropsThrough, drop_through}}
-use Rattle.std.{specs.{Io.KnownBytes.{Consumes, IsAtEnd}, Str.Lines.{lines, lines_of_parts}}, proofs.lemmas.List.Splits.length-slice_split}
+use Rattle.std.{specs.{Io.KnownBytes.Consumes, Str.Lines.{lines, lines_of_parts}}, proofs.lemmas.List.Splits.length-slice_split}
 use Rattle.std.specs.Str.Lines.{strip_carriage_return}
 use Rattle.domain_names.specs.Name.{Name, Tokens}
 use Rattle.domain_octets.specs.{Text.words_of, Octets.Octets}
 use Rattle.domain_message.{specs.{Entry.{EntryText, IsOfLine, OwnerTaken, RefusesBody}, declared.line.LineError.LineError}, proofs.LineLemmas.in_body}
 use Rattle.domain_message.proofs.OneLineLemmas.{none_in}
-use Rattle.denial_program.specs.Listing.{IsBad, IsPlain, IsSkipped, is_plain, Give, IsLineRecord, IsGood, IsFirstBad, Refuses}
+use Rattle.denial_program.specs.Listing.{IsBad, IsPlain, IsSkipped, is_plain, Give, IsGood, IsFirstBad, Refuses, Says, TakesLine, TakesNone}
+use Rattle.denial_program.specs.declared.line.Line.{Line, TheVariants.{Nothing, Record, Bad}}
 use lib.Dec.{eqb-suc-zero}
 use Rattle.domain_borrowed.specs.Data.{RawRecord}
 
@@ -117,6 +118,20 @@ line_once bs some =
       )
     ]
 
+-- what was read up to the first line feed is the first line, and it is such without its end
+pub takes_line : (is_such : List ℕ → Type 0) (old new : Option (List ℕ)) (was buf view out : List ℕ) → DropsThrough old new 10
+    → was ≡ [] → IfSome old (λ xs. buf ≡ was ++ take_through 10 xs) → 0 < length buf → view ≡ buf
+    → ((front : List ℕ) → view ≡ front ++ 10 ∷ [] → out ≡ strip_carriage_return front)
+    → (get_or view (length view - 1) 0 ≢ 10 → out ≡ view) → is_such out → TakesLine old new is_such
+takes_line is_such None new was buf view out drops empty filled some same ended last so = record { taken = tt }
+takes_line is_such (Some all) new was buf view out drops empty filled some same ended last so =
+    let taken : buf ≡ take_through 10 all = filled ∙ ap (λ (w : List ℕ). w ++ take_through 10 all) empty in
+    let seen : view ≡ take_through 10 all = same ∙ taken in
+    let once = line_once all (take_through_nonempty 10 all (subst (λ (t : List ℕ). 0 < length t) taken some)) in
+    let kept : out ≡ once.0 =
+    once.2 out (λ front e. ended front (seen ∙ e)) (λ p. last (subst (λ (t : List ℕ). get_or t (length t - 1) 0 ≢ 10) (sym seen) p) ∙ seen) in
+    record { taken = (out, drop_through 10 all, drops, once.1 ∙ ap (λ l. l ∷ lines (drop_through 10 all)) (sym kept), so) }
+
 -- ---- How far a reader has come, where it tells its octets.
 
 -- what rest gives after these records, all gives; and rest begins with the line of this number
@@ -142,75 +157,54 @@ first_bad_later line more k good h = record {
 abbrev pub IsReading : (List (List ℕ) → List (List ℕ) → Type 0) → Option (List ℕ) → Option (List ℕ) → Type 0
 IsReading Holds known now = IfSome known (λ all. (rest : List ℕ) × (now ≡ Some rest) × Holds (lines all) (lines rest))
 
-module _ (Holds : List (List ℕ) → List (List ℕ) → Type 0) where
-  pub reading_end : (known now : Option (List ℕ)) → IsReading Holds known now → IsAtEnd now → IfSome known (λ all. Holds (lines all) [])
-  reading_end None now h e = tt
-  reading_end (Some all) None h e = absurd (let w = h.1 in cc)
-  reading_end (Some all) (Some xs) h e = let same : h.0 ≡ [] = (let w = h.1 in cc) in subst (λ (r : List ℕ). Holds (lines all) (lines r)) same h.2
+module _ (Holds : List (List ℕ) → List (List ℕ) → Type 0) (known old new : Option (List ℕ)) where
+  pub reading_end : IsReading Holds known old → TakesNone old new → IfSome known (λ all. Holds (lines all) [])
+  reading_end h t = grind (arith, common_steps)
 
-  -- a line was read into a buffer that was empty, and without its end it is this
-  pub reading_next : (known old new : Option (List ℕ)) (was buf view out : List ℕ) → IsReading Holds known old
-      → DropsThrough old new 10 → was ≡ [] → IfSome old (λ xs. buf ≡ was ++ take_through 10 xs) → 0 < length buf → view ≡ buf
-      → ((front : List ℕ) → view ≡ front ++ 10 ∷ [] → out ≡ strip_carriage_return front)
-      → (get_or view (length view - 1) 0 ≢ 10 → out ≡ view)
-      → IsReading (λ all rest. Holds all (out ∷ rest)) known new
-  reading_next None old new was buf view out h drops empty filled some same ended last = tt
-  reading_next (Some all) old new was buf view out h drops empty filled some same ended last =
-      let rest = h.0 in
-      let dropped : new ≡ Some (drop_through 10 rest) = subst (λ o. DropsThrough o new 10) h.1 drops in
-      let held : buf ≡ was ++ take_through 10 rest = subst (λ o. IfSome o (λ xs. buf ≡ was ++ take_through 10 xs)) h.1 filled in
-      let taken : buf ≡ take_through 10 rest = held ∙ ap (λ (w : List ℕ). w ++ take_through 10 rest) empty in
-      let seen : view ≡ take_through 10 rest = same ∙ taken in
-      let once = line_once rest (take_through_nonempty 10 rest (subst (λ (t : List ℕ). 0 < length t) taken some)) in
-      let kept : out ≡ once.0 =
-      once.2 out (λ front e. ended front (seen ∙ e)) (λ p. last (subst (λ (t : List ℕ). get_or t (length t - 1) 0 ≢ 10) (sym seen) p) ∙ seen) in
-      let step : lines rest ≡ out ∷ lines (drop_through 10 rest) = once.1 ∙ ap (λ l. l ∷ lines (drop_through 10 rest)) (sym kept) in
-      (drop_through 10 rest, dropped, subst (Holds (lines all)) step h.2)
+  -- one line more
+  pub reading_step : (Then : List (List ℕ) → List (List ℕ) → Type 0) (is_such : List ℕ → Type 0)
+      → ((all rest : List (List ℕ)) (line : List ℕ) → is_such line → Holds all (line ∷ rest) → Then all rest)
+      → IsReading Holds known old → TakesLine old new is_such → IsReading Then known new
+  reading_step Then is_such step h t = grind (arith, common_steps)
 
 -- the lines before this number gave these records
-abbrev pub Follows : Option (List ℕ) → Option (List ℕ) → List RawRecord → ℕ → Type 0
-Follows known now records number = IsReading (λ all rest. Continues all rest records number) known now
+pub record Follows (known now : Option (List ℕ)) (records : List RawRecord) (number : ℕ) : Type 0 where
+  pub reading : IsReading (λ all rest. Continues all rest records number) known now
 
--- the same where the line of this number was taken
-abbrev pub FollowsAt : Option (List ℕ) → Option (List ℕ) → List ℕ → List RawRecord → ℕ → Type 0
-FollowsAt known now out records number = IsReading (λ all rest. Continues all (out ∷ rest) records number) known now
+module _ (known old new : Option (List ℕ)) (records : List RawRecord) (number : ℕ) (h : Follows known old records number) where
+  pub follows_end : TakesNone old new → IfSome known (λ all. Give (lines all) records)
+  follows_end t =
+      known_so _ (λ all. Give (lines all) records) known (λ all c. subst (Give (lines all)) (append-nil records) (c.gives [] refl))
+      (reading_end (λ all rest. Continues all rest records number) known old new h.reading t)
 
-pub follows_end : (known now : Option (List ℕ)) (records : List RawRecord) (number : ℕ)
-    → Follows known now records number → IsAtEnd now → IfSome known (λ all. Give (lines all) records)
-follows_end known now records number h e =
-    known_so _ (λ all. Give (lines all) records) known (λ all c. subst (Give (lines all)) (append-nil records) (c.gives [] refl))
-    (reading_end (λ all rest. Continues all rest records number) known now h e)
+  module _ (said : Line) (t : TakesLine old new (λ line. Says line said)) where
+    pub follows_skip : said ≡ Nothing → Follows known new records (number + 1)
+    follows_skip is = record {
+      reading = reading_step (λ all rest. Continues all rest records number) known old new (λ all rest. Continues all rest records (number + 1)) _
+          (λ all rest line s c. record {
+            gives = λ more g. c.gives more (inl (s, g));
+            bad = λ k n p b. c.bad (k + 1) n (omega arith) (first_bad_later line rest k (inl s) b);
+          })
+          h.reading (rw is at t);
+    }
 
-pub follows_skip : (known now : Option (List ℕ)) (out : List ℕ) (records : List RawRecord) (number : ℕ)
-    → FollowsAt known now out records number → IsSkipped out → Follows known now records (number + 1)
-follows_skip None now out records number h s = tt
-follows_skip (Some all) now out records number h s = (
-  h.0,
-  h.1,
-  record {
-    gives = λ more g. h.2.gives more (inl (s, g));
-    bad = λ k n p b. h.2.bad (k + 1) n (omega arith) (first_bad_later out _ k (inl s) b);
-  },
-)
+    pub follows_record : (r : RawRecord) → said ≡ Record r → Follows known new (records ++ r ∷ []) (number + 1)
+    follows_record r is = record {
+      reading = reading_step (λ all rest. Continues all rest records number) known old new
+          (λ all rest. Continues all rest (records ++ r ∷ []) (number + 1)) _
+          (λ all rest line s c. record {
+            gives = λ more g. subst (Give all) (sym (append_assoc records (r ∷ []) more)) (c.gives (r ∷ more) (inr (r, more, refl, s, g)));
+            bad = λ k n p b. c.bad (k + 1) n (omega arith) (first_bad_later line rest k (inr (r, s)) b);
+          })
+          h.reading (rw is at t);
+    }
 
-pub follows_record : (known now : Option (List ℕ)) (out : List ℕ) (old new : List RawRecord) (r : RawRecord) (number : ℕ) → FollowsAt known now out old number
-    → new ≡ old ++ r ∷ [] → IsLineRecord out r → Follows known now new (number + 1)
-follows_record None now out old new r number h e s = tt
-follows_record (Some all) now out old new r number h e s = (
-  h.0,
-  h.1,
-  record {
-    gives = λ more g. subst (λ rs. Give (lines all) (rs ++ more)) (sym e)
-        (subst (Give (lines all)) (sym (append_assoc old (r ∷ []) more)) (h.2.gives (r ∷ more) (inr (r, more, refl, s, g))));
-    bad = λ k n p b. h.2.bad (k + 1) n (omega arith) (first_bad_later out _ k (inr (r, s)) b);
-  },
-)
-
--- the line that was taken is bad
-pub follows_bad : (known now : Option (List ℕ)) (out : List ℕ) (records : List RawRecord) (number : ℕ)
-    → FollowsAt known now out records number → IsBad out → IfSome known (λ all. IsFirstBad (lines all) number)
-follows_bad None now out records number h b = tt
-follows_bad (Some all) now out records number h b = h.2.bad 1 number (omega arith) (first_bad_here out (lines h.0) b)
+    -- the line that was taken is bad
+    pub follows_bad : said ≡ Bad → IfSome known (λ all. IsFirstBad (lines all) number)
+    follows_bad is =
+        known_so _ _ known (λ all c. c.2)
+        (reading_step (λ all rest. Continues all rest records number) known old new (λ all rest. IsFirstBad all number) _
+        (λ all rest line s c. c.bad 1 number (omega arith) (first_bad_here line rest s)) h.reading (rw is at t))
 
 -- where the octets of the input were known, those that are left are too
 abbrev pub StaysKnown : Option (List ℕ) → Option (List ℕ) → Type 0

@@ -4,7 +4,7 @@ use Rattle.std.proofs.{Common.{inr, arith}, lemmas.{Bool.Decides.nat_tests, Grin
 use Rattle.std.specs.List.{AllByRecursion}
 use Rattle.hex.proofs.HexLemmas.{decode_of-ok}
 use Rattle.domain_octets.specs.Octets.{AreOctets, Octets}
-use Rattle.domain_names.specs.{Name.{IsName, Name, Tokens}, Text.{NameText, root, of_labels}}
+use Rattle.domain_names.{specs.Name.{IsName, Name, Tokens}, proofs.TextLemmas.name_is_valid}
 use Rattle.domain_base.specs.Scan.{IsNumber}
 use Rattle.domain_base.specs.Types as rtypes
 use Rattle.domain_codecs.{specs.Codec.{base32_digits, base32_octets, base32_value}, proofs.{CodecLemmas.widens, Base32Lemmas.{IsScale, no_bits}}}
@@ -28,10 +28,6 @@ abbrev see : SpelledRecord → RawRecord
 see = raw_record (λ o. o) (λ n. n)
 
 -- ---- what texts spell has octets that are such
-
-spelled_name : (text : Octets) (labels : Name) → NameText text labels → IsName labels
-spelled_name text labels root = record { of_labels = tt; fits = omega arith }
-spelled_name text labels (of_labels t l spelled valid) = valid
 
 digit_small : (c : ℕ) → unwrap_or (base32_value c) 0 < 32
 digit_small c = grind (arith, common_steps, nat_tests)
@@ -98,7 +94,7 @@ are_sound : (rtype : ℕ) (old : Tokens) (d : SpelledData) → IsSpelled rtype o
 are_sound rtype old (Soa d) (own other text) = number_fits 32 text.1.2.2.2.token d.minimum text.1.2.2.2.holds
 are_sound rtype old (Soa d) (generic wire text are end) = are.1.fits.1.1.1
 are_sound rtype old (Nsec d) (own other text) = (
-  spelled_name text.1.1.token d.next_name text.1.1.holds,
+  name_is_valid text.1.1.token d.next_name text.1.1.holds,
   subst IsBitmap (sym text.1.2.built) (IsBitmap-bitmap_octets (is_among text.1.2.types)),
 )
 are_sound rtype old (Nsec d) (generic wire text are end) = are.1.fits

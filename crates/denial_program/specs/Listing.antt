@@ -1,5 +1,5 @@
 -- What the lines of a text give, and what is read of one.
-use Rattle.std.specs.{Prelude.{◌≡◌, ◌⊎◌, ℕ, ◌+◌, Bool, nat_le, List, [], ◌∷◌, ◌++◌, All, length, None}, List.AllPass}
+use Rattle.std.specs.{Prelude.{◌≡◌, ◌⊎◌, ℕ, ◌+◌, Bool, nat_le, List, [], ◌∷◌, ◌++◌, All, length, None, Option, Some, IfSome}, List.AllPass, Str.Lines.lines}
 use Rattle.domain_octets.specs.{Text.{tilde, words_of}, Octets.Octets}
 use Rattle.domain_names.specs.Name.{Tokens, Name}
 use Rattle.domain_borrowed.specs.Data.{RawRecord}
@@ -79,3 +79,14 @@ Says line Bad = IsBad line
 abbrev pub Refuses : Tokens → LineError → Type 0
 Refuses ws error = (error ≡ OutOfMemory)
     ⊎ RefusesEntry (λ (o : Octets). o) (λ (n : Name). n) None ws error
+
+-- ---- Lines that are taken from an input, where its octets are known.
+
+-- its first line is such, and the lines behind it are left
+pub record TakesLine (old new : Option Octets) (is_such : Octets → Type 0) : Type 0 where
+  pub taken : IfSome old (λ all. (line : Octets) × (rest : Octets) × (new ≡ Some rest)
+      × (lines all ≡ line ∷ lines rest) × is_such line)
+
+-- it had none, and has none
+pub record TakesNone (old new : Option Octets) : Type 0 where
+  pub taken : IfSome old (λ all. (all ≡ []) × (new ≡ Some []))

@@ -1,11 +1,11 @@
 //! The lines of an input, read to the end.
 ghost use Rattle.std.specs.Prelude.{◌≡◌, ◌≢◌, ◌⊎◌, ◌+◌, ◌-◌, [], ◌∷◌, ◌++◌, IfErr, IfOk};
-ghost use Rattle.std.specs.Prelude.{MatchResult, OnOk, IfSome, length, slice_index};
+ghost use Rattle.std.specs.Prelude.{MatchResult, OnOk, IfNone, IfSome, length, slice_index};
 ghost use Rattle.std.specs.{Prelude.vec_len, Str.Lines.{lines, strip_carriage_return}};
 ghost use Rattle.std.specs.Io.{BufRead.{take_through, DropsThrough}, KnownBytes.IsAtEnd};
 ghost use Rattle.domain_octets.specs.{Octets.Octets, Text.line_feed};
 ghost use Rattle.denial_program.specs.Fault.{IsReadingFault, IsReadToEnd};
-ghost use Rattle.denial_program.specs.{Listing.Give, Run.ReadsLines};
+ghost use Rattle.denial_program.specs.{Listing.{Give, Says, TakesLine, TakesNone}, Run.ReadsLines};
 ghost use Rattle.denial_program.specs.declared.fault.DenialFault.TheVariants.{OutOfMemory};
 
 use crate::fault::{DenialFault, fault_of};
@@ -32,6 +32,7 @@ pub fn without_end(line: &[u8]) -> &[u8]
 }
 
 /// Reads to the end, and keeps nothing.
+#[tactic(auto, using(std::proofs::lemmas::Grind::common_steps, crate::proofs::LineLemmas::known_start))]
 fn skip_all<R: BufRead>(input: &mut R) -> Result<(), DenialFault>
     ensures ok { OnOk result (IsReadToEnd (R.remaining input.old) (R.remaining input.new)) }
     ensures err { IfErr result (λ e. (e ≡ DenialFault.Read) ⊎ (e ≡ OutOfMemory)) }
@@ -71,6 +72,36 @@ fn append_line<R: BufRead>(input: &mut R, line: &mut Vec<u8>) -> io::Result<usiz
     Ok(place + 1)
 }
 
+/// What the next line says, with its record in the arena; None at the end of the input. The vector
+/// has the line then, with its end, in the place of what it had.
+///
+/// # Errors
+///
+/// `Read` where the input could not be read, and `OutOfMemory`.
+pub fn next_line<'a, R: BufRead>(
+    alloc: Global,
+    store: &mut Store<'a>,
+    input: &mut R,
+    line: &mut Vec<u8>,
+) -> Result<Option<Line<'a>>, DenialFault>
+    ensures some { IfOk result (λ next. IfSome next (λ said.
+        TakesLine (R.remaining input.old) (R.remaining input.new) (λ line. Says line said))) }
+    ensures none { IfOk result (λ next. IfNone next
+        (TakesNone (R.remaining input.old) (R.remaining input.new))) }
+    ensures err { IfErr result (λ e. (e ≡ DenialFault.Read) ⊎ (e ≡ OutOfMemory)) }
+{
+    line.clear();
+    let count = match append_line(input, line) {
+        Ok(count) => count,
+        Err(e) => return Err(fault_of(&e, DenialFault::Read)),
+    };
+    if count == 0 {
+        return Ok(None);
+    }
+    let said = read_line(alloc, store, without_end(line))?;
+    Ok(Some(said))
+}
+
 /// The records of the lines that are left, with their octets in the arena. A bad line is told only
 /// after the rest has been read, since a fault of the reader is told before it.
 ///
@@ -78,6 +109,7 @@ fn append_line<R: BufRead>(input: &mut R, line: &mut Vec<u8>) -> io::Result<usiz
 ///
 /// `Read` where the input could not be read; `Line` of the lowest line that is no record; and
 /// `OutOfMemory`.
+#[tactic(auto, using(crate::proofs::LineLemmas::follows_skip, crate::proofs::LineLemmas::follows_record))]
 pub fn read_lines<'a, R: BufRead>(
     alloc: Global,
     arena: &'a Bump,
@@ -92,15 +124,10 @@ pub fn read_lines<'a, R: BufRead>(
     let mut line = Vec::new(alloc);
     let mut store = Store::new(alloc, arena);
     for number in 1..u64::MAX {
-        line.clear();
-        let count = match append_line(input, &mut line) {
-            Ok(count) => count,
-            Err(e) => return Err(fault_of(&e, DenialFault::Read)),
-        };
-        if count == 0 {
+        let Some(said) = next_line(alloc, &mut store, input, &mut line)? else {
             return Ok(records);
-        }
-        match read_line(alloc, &mut store, without_end(&line))? {
+        };
+        match said {
             Line::Nothing => {}
             Line::Record(record) => records.push(record)?,
             Line::Bad => {

@@ -1,9 +1,10 @@
 -- How far a reader has come, and the lines of a report.
 use Rattle.std.proofs.{lemmas.Grind.common_steps, Common.{◌≡◌, ℕ, ◌+◌, List, [], ◌∷◌, ◌++◌, Option, Some, None, refl, append-nil, append_assoc, arith, inl}}
-use Rattle.std.{proofs.Common.{inr, ap, map, sym, ◌∙◌, subst, take}, specs.{Prelude.IfSome, Str.Lines.lines, Io.KnownBytes.{IsAtEnd, Appends}}}
+use Rattle.std.{proofs.Common.{inr, ap, map, sym, ◌∙◌, subst, take}, specs.{Prelude.IfSome, Str.Lines.lines, Io.KnownBytes.Appends}}
 use Rattle.std.proofs.lemmas.List.{map-append}
 use Rattle.domain_borrowed.specs.Data.{RawRecord}
-use Rattle.denial_program.{specs.Listing.{IsBad, IsLineRecord, IsSkipped}, proofs.{LineLemmas.{known_so, reading_end, IsReading}, RunLemmas.appends_more}}
+use Rattle.denial_program.proofs.{LineLemmas.{known_so, reading_end, reading_step, IsReading}, RunLemmas.appends_more}
+use Rattle.denial_program.specs.{Listing.{Says, TakesLine, TakesNone}, declared.line.Line.{Line, TheVariants.{Nothing, Record, Bad}}}
 use Rattle.lint_program.specs.Report.{AreLinted, AreEach}
 use Rattle.domain_octets.specs.Octets.{Octets}
 
@@ -16,37 +17,39 @@ Continues all rest bad numbers records number =
     → AreLinted 1 all (bad ++ more) (numbers ++ left) (records ++ others)
 
 -- the lines before this number are these
-abbrev pub Follows : Option (List ℕ) → Option (List ℕ) → List ℕ → List ℕ → List RawRecord → ℕ → Type 0
-Follows known now bad numbers records number = IsReading (λ all rest. Continues all rest bad numbers records number) known now
+pub record Follows (known now : Option (List ℕ)) (bad numbers : List ℕ) (records : List RawRecord) (number : ℕ) : Type 0 where
+  pub reading : IsReading (λ all rest. Continues all rest bad numbers records number) known now
 
--- the same where the line of this number was taken
-abbrev pub FollowsAt : Option (List ℕ) → Option (List ℕ) → List ℕ → List ℕ → List ℕ → List RawRecord → ℕ → Type 0
-FollowsAt known now out bad numbers records number = IsReading (λ all rest. Continues all (out ∷ rest) bad numbers records number) known now
+module _ (known old new : Option (List ℕ)) (bad numbers : List ℕ) (records : List RawRecord) (number : ℕ)
+    (h : Follows known old bad numbers records number) where
+  pub follows_end : TakesNone old new → IfSome known (λ all. AreLinted 1 (lines all) bad numbers records)
+  follows_end t =
+      known_so _ (λ all. AreLinted 1 (lines all) bad numbers records) known (λ all c. simp append-nil at (c [] [] [] (refl, refl, refl)))
+      (reading_end (λ all rest. Continues all rest bad numbers records number) known old new h.reading t)
 
-pub follows_end : (known now : Option (List ℕ)) (bad numbers : List ℕ) (records : List RawRecord) (number : ℕ)
-    → Follows known now bad numbers records number → IsAtEnd now → IfSome known (λ all. AreLinted 1 (lines all) bad numbers records)
-follows_end known now bad numbers records number h e =
-    known_so _ (λ all. AreLinted 1 (lines all) bad numbers records) known (λ all c. simp append-nil at (c [] [] [] (refl, refl, refl)))
-    (reading_end (λ all rest. Continues all rest bad numbers records number) known now h e)
+  module _ (said : Line) (t : TakesLine old new (λ line. Says line said)) where
+    -- one line more
+    stepped : (bad' numbers' : List ℕ) (records' : List RawRecord)
+        → ((all rest : List (List ℕ)) (line : List ℕ) → Says line said → Continues all (line ∷ rest) bad numbers records number
+        → Continues all rest bad' numbers' records' (number + 1))
+        → Follows known new bad' numbers' records' (number + 1)
+    stepped bad' numbers' records' step = record {
+      reading = reading_step (λ all rest. Continues all rest bad numbers records number) known old new
+          (λ all rest. Continues all rest bad' numbers' records' (number + 1)) (λ line. Says line said) step h.reading t;
+    }
 
-pub follows_nothing : (known now : Option (List ℕ)) (out bad numbers : List ℕ) (records : List RawRecord) (number : ℕ)
-    → FollowsAt known now out bad numbers records number → IsSkipped out → Follows known now bad numbers records (number + 1)
-follows_nothing known now out bad numbers records number h said = grind (arith, common_steps)
+    pub follows_nothing : said ≡ Nothing → Follows known new bad numbers records (number + 1)
+    follows_nothing is = stepped bad numbers records (λ all rest line s c more left others g. c more left others (inl (rw is at s, g)))
 
-pub follows_record : (known now : Option (List ℕ)) (out bad numbers placed : List ℕ) (old new : List RawRecord) (r : RawRecord) (number : ℕ)
-    → FollowsAt known now out bad numbers old number → placed ≡ numbers ++ number ∷ [] → new ≡ old ++ r ∷ []
-    → IsLineRecord out r → Follows known now bad placed new (number + 1)
-follows_record None now out bad numbers placed old new r number h p e said = tt
-follows_record (Some all) now out bad numbers placed old new r number h p e said = (
-  h.0,
-  h.1,
-  λ more left others g. rw (p, e) (simp append_assoc (h.2 more (number ∷ left) (r ∷ others) (inr (inl (r, others, refl, said, left, refl, g))))),
-)
+    pub follows_record : (r : RawRecord) → said ≡ Record r → Follows known new bad (numbers ++ number ∷ []) (records ++ r ∷ []) (number + 1)
+    follows_record r is =
+        stepped bad (numbers ++ number ∷ []) (records ++ r ∷ []) (λ all rest line s c more left others g.
+        simp append_assoc (c more (number ∷ left) (r ∷ others) (inr (inl (r, others, refl, rw is at s, left, refl, g)))))
 
-pub follows_bad : (known now : Option (List ℕ)) (out old new numbers : List ℕ) (records : List RawRecord) (number : ℕ)
-    → FollowsAt known now out old numbers records number → new ≡ old ++ number ∷ [] → IsBad out
-    → Follows known now new numbers records (number + 1)
-follows_bad known now out old new numbers records number h e said = grind (arith, common_steps)
+    pub follows_bad : said ≡ Bad → Follows known new (bad ++ number ∷ []) numbers records (number + 1)
+    follows_bad is =
+        stepped (bad ++ number ∷ []) numbers records (λ all rest line s c more left others g.
+        simp append_assoc (c (number ∷ more) left others (inr (inr (more, refl, rw is at s, g)))))
 
 -- ---- The lines of a report, one after another.
 

@@ -3,7 +3,7 @@
 //! then what is wrong with the records as a zone, and what is no fault but is seldom meant.
 //!
 //! `run_lint` is generic over its reader, its writer and its hasher. Which lines are bad is decided
-//! by `read_line` of `denial_program`, each line by itself, and whether the others are refused
+//! by `next_line` of `denial_program`, each line by itself, and whether the others are refused
 //! as a zone by the generator of their NSEC chain; which of their records deserve a note, and why,
 //! by `notes_of`; and which of their names hash alike, where parameters of an NSEC3 chain are
 //! given, by `alike_of`: that is what its contract is about. What is wrong in a bad line is worked

@@ -5,7 +5,7 @@ ghost use Rattle.denial_program.specs.declared.fault.DenialFault.TheVariants.{Ou
 ghost use Rattle.lint_program.specs.Report.{AreLinted};
 
 use bumpalo::Bump;
-use denial_program::{DenialFault, Line, Store, fault_of, read_line, without_end};
+use denial_program::{DenialFault, Line, Store, next_line};
 use domain_borrowed::BorrowedRecord;
 use std::alloc::Global;
 use std::io::BufRead;
@@ -53,6 +53,7 @@ fn has_dot(line: &[u8]) -> bool {
 /// # Errors
 ///
 /// `Read` where the input could not be read, and `OutOfMemory`.
+#[tactic(auto, using(std::proofs::lemmas::Grind::common_steps, crate::proofs::ReportLemmas::follows_nothing, crate::proofs::ReportLemmas::follows_record, crate::proofs::ReportLemmas::follows_bad))]
 pub fn read_lines<'a, R: BufRead>(
     alloc: Global,
     arena: &'a Bump,
@@ -70,19 +71,14 @@ pub fn read_lines<'a, R: BufRead>(
     let mut line = Vec::new(alloc);
     let mut store = Store::new(alloc, arena);
     for number in 1..u64::MAX {
-        line.clear();
-        let count = match input.read_until(b'\n', &mut line) {
-            Ok(count) => count,
-            Err(e) => return Err(fault_of(&e, DenialFault::Read)),
-        };
-        if count == 0 {
+        let Some(said) = next_line(alloc, &mut store, input, &mut line)? else {
             return Ok(Lines {
                 bad,
                 records,
                 places,
             });
-        }
-        match read_line(alloc, &mut store, without_end(&line))? {
+        };
+        match said {
             Line::Nothing => {}
             Line::Record(record) => {
                 let has_dot = has_dot(&line);
