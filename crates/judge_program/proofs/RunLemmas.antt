@@ -1,5 +1,6 @@
--- What a run answers, as it is written.
-use Rattle.std.proofs.{Common.{◌<◌, ℕ, [], ◌∷◌, length, arith, ◌≡◌, ◌++◌, codes, refl, append_assoc, ◌⊎◌, List}, lemmas.Grind.common_steps}
+-- What a run answers, as it is written; the errors of hashes.
+use Rattle.std.proofs.{Common.{◌<◌, ℕ, [], ◌∷◌, length, arith, ◌≡◌, ◌++◌, codes, refl, ◌⊎◌, List, Option}, lemmas.Grind.common_steps}
+use Rattle.std.specs.Option.{is_some, option_map}
 use Rattle.domain_names.specs.{Name.{Tokens, Name}, Text.{name_text, octet_text}}
 use Rattle.judge_program.specs.{declared.{shown.Shown.Shown, command.ChainKind.ChainKind}, Command.{LimitText, ShownText}, Text.full_text, Run.HasNoText}
 use Rattle.judge_program.specs.declared.command.ChainKind.TheVariants.{Nsec, Nsec3}
@@ -8,7 +9,10 @@ use Rattle.domain_answer.specs.ZoneAnswer.{wildcard_below}
 use Rattle.domain_nsec3.specs.View.{HasherAnswer}
 use Rattle.domain_borrowed.specs.Data.{RawRecord}
 use Rattle.denial_program.specs.{Run.IsUnwritten, declared.{command.Question.Question, fault.DenialFault.{DenialFault, TheVariants.{Line, Write}}}}
-use Rattle.denial_program.specs.declared.fault.DenialFault.TheVariants.{OutOfMemory}
+use Rattle.denial_program.specs.{Answer.fault_of_zone, declared.fault.DenialFault.TheVariants.OutOfMemory}
+use Rattle.domain_hasher.specs.declared.error.Nsec3HashError.{Nsec3HashError, TheVariants.{Hasher, OutOfMemory as NoMemory}}
+use Rattle.domain_records.specs.Text.{signing_error_of}
+use Rattle.judge_program.specs.Judged.{IsRefusedWith}
 
 -- ---- The options of a command.
 
@@ -19,7 +23,7 @@ no_limit [] limit shown n h = h.1
 no_limit (option ∷ []) limit shown n h = h.1
 no_limit (option ∷ word ∷ more) limit shown n h = absurd (omega arith)
 
--- ---- The text of a wildcard, and of what is told of one.
+-- ---- The text of a wildcard.
 
 pub wildcard_of_root : (above : Name) → above ≡ [] → full_text (wildcard_below above) ≡ codes "*."
 unfolding octet_text
@@ -31,13 +35,15 @@ unfolding octet_text
 wildcard_of_other [] other = absurd (other refl)
 wildcard_of_other (label ∷ labels) other = refl
 
--- the parts of a line in the grouping in which they are written
-pub missing_parts : (kind a encloser end b wildcard c told : Octets)
-    → kind ++ (a ++ (encloser ++ (end ++ (b ++ (wildcard ++ (c ++ told))))))
-    ≡ kind ++ a ++ (encloser ++ end) ++ b ++ wildcard ++ c ++ told
-missing_parts kind a encloser end b wildcard c told = simp append_assoc
-
 -- ---- What a run answers.
+
+-- an error of a hash as a fault
+pub refused_with : {P : ℕ → Type 0} (e : Nsec3HashError) → (e ≡ NoMemory) ⊎ ((n : ℕ) × (e ≡ Hasher n)) → ((n : ℕ) → e ≡ Hasher n → P n)
+    → IsRefusedWith P (fault_of_zone (signing_error_of e))
+refused_with e errors first = grind (arith, common_steps)
+
+pub is_some_mapped : {X Y : Type 0} (f : X → Y) (o : Option X) → is_some (option_map f o) ≡ is_some o
+is_some_mapped f o = grind (arith, common_steps)
 
 -- a text that could not be written, of which there is one
 pub unwritten : (is_such : Octets → Type 0) (has_none : DenialFault → Type 0) (text : Octets) → is_such text → has_none OutOfMemory

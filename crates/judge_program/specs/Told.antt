@@ -1,8 +1,7 @@
 -- The records that an answer rests on, which of them a response needs, and those that a server answers
 -- with.
 use Rattle.std.specs.Prelude.{ℕ, Bool, true, false, Option, Some, None, ◌≡◌, ◌+◌, ◌==◌, not, ◌&&◌, ◌||◌, List, [], ◌++◌, codes, length}
-use Rattle.std.specs.{Prelude.{nat_lt, bytes_eq, Result, Ok, Err, if◌then◌else◌}, Option.{is_some, option_map, option_to_list}, List.find}
-use Rattle.std.specs.List.{list_any}
+use Rattle.std.specs.{Prelude.{nat_lt, bytes_eq, Result, Ok, Err, if◌then◌else◌}, Option.{is_some, option_map}, List.find}
 use Rattle.domain_answer.specs.{declared.answer.Answer.Answer, HashedReading.closer_name, ZoneAnswer.wildcard_below}
 use Rattle.judge_program.specs.{declared.{needs.Needs.Needs, told.{Listed.{Listed, TheVariants.{Nsec, Nsec3}}, Part.Part}}, Text.full_text}
 use Rattle.judge_program.specs.declared.{told.Parts.Parts, role.Role.{Role, TheVariants.Asked}, shown.Shown.Shown}
@@ -247,10 +246,16 @@ matched_part which (Some t) = if is_needed which t.link then Some t.link else No
 abbrev pub listed_of : Bool → Option Telling → Option AnyLink
 listed_of is_needed found = if is_needed then option_map (λ t. t.link) found else None
 
--- the line of a record, if there is one, unless it is the same as one of those before it
-abbrev pub line_once : List AnyLink → Option AnyLink → Octets
-line_once before None = []
-line_once before (Some k) = if list_any (is_same k) before then [] else line_of k ++ codes "\n"
+-- the record is the same as another, if there is one
+abbrev pub is_told : AnyLink → Option AnyLink → Bool
+is_told k None = false
+is_told k (Some l) = is_same k l
+
+-- the line of a record, if there is one, unless it is the same as one of two before it
+abbrev pub line_once : Option AnyLink → Option AnyLink → Option AnyLink → Octets
+line_once first second None = []
+line_once first second (Some k) =
+    if is_told k first || is_told k second then [] else line_of k ++ codes "\n"
 
 abbrev pub param_line : Option ParamRecord → Octets
 param_line None = []
@@ -260,8 +265,7 @@ param_line (Some param) = nsec3param_line param ++ codes "\n"
 abbrev pub records_text : Option ParamRecord → Option AnyLink → Option AnyLink → Option AnyLink
     → Octets
 records_text param m c w =
-    line_once [] m ++ line_once (option_to_list m) c
-    ++ line_once (option_to_list m ++ option_to_list c) w
+    line_once None None m ++ line_once None m c ++ line_once m c w
     ++ (if is_some m || is_some c || is_some w then param_line param else [])
 
 -- what follows the line of an answer

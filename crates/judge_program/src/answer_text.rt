@@ -49,9 +49,10 @@ impl fmt::Display for MissingText<'_> {
             told,
         } = self;
         let wildcard = WildcardText { above: encloser };
+        let encloser = encloser.fmt_with_dot();
         write!(
             f,
-            "{kind}: closest encloser {encloser}.; wildcard {wildcard} {told}"
+            "{kind}: closest encloser {encloser}; wildcard {wildcard} {told}"
         )
     }
 }

@@ -1,8 +1,8 @@
 //! The records that an answer rests on, and those that a server answers with, as they are printed.
-ghost use Rattle.std.specs.{Prelude.{◌≡◌, ◌++◌, Some, OnOk}, List.list_any, Option.option_map};
-ghost use Rattle.std.specs.{Option.option_to_list, Io.KnownBytes.Appends};
+ghost use Rattle.std.specs.{Prelude.{◌≡◌, Some, [], OnOk, if◌then◌else◌}, Option.option_map};
+ghost use Rattle.std.specs.Io.KnownBytes.{Appends};
 ghost use Rattle.domain_nsec3.specs.View.{as_param_record};
-ghost use Rattle.judge_program.specs.Told.{any_of, below_text, is_needed, is_same, line_of, line_once, listed_of, matched_part, records_text, telling_of, tellings_of, told_line};
+ghost use Rattle.judge_program.specs.Told.{any_of, below_text, is_needed, is_told, line_of, line_once, listed_of, matched_part, param_line, records_text, telling_of, tellings_of, told_line};
 
 use crate::needs::{Needs, needs_of, needs_wildcard};
 use crate::role::Role;
@@ -111,8 +111,7 @@ fn listed_of<'r, 'a>(is_needed: bool, found: &Option<Part<'r, 'a>>) -> Option<Li
 
 /// Whether the record is the same as another.
 fn is_told(listed: Listed<'_, '_>, other: Option<Listed<'_, '_>>) -> bool
-    ensures { result ≡ list_any (is_same (any_of listed.entry))
-        (option_to_list (option_map any_of other.entry)) }
+    ensures { result ≡ is_told (any_of listed.entry) (option_map any_of other.entry) }
 {
     match (listed, other) {
         (Listed::Nsec(nsec), Some(Listed::Nsec(other))) => nsec == other,
@@ -129,8 +128,8 @@ fn write_once<W: Write>(
     output: &mut W,
 ) -> io::Result<()>
     ensures { OnOk result (Appends (W.contents output.old) (W.contents output.new)
-        (line_once (option_to_list (option_map any_of first.entry)
-        ++ option_to_list (option_map any_of second.entry)) (option_map any_of found.entry))) }
+        (line_once (option_map any_of first.entry) (option_map any_of second.entry)
+        (option_map any_of found.entry))) }
 {
     let Some(listed) = found else {
         return Ok(());
@@ -141,8 +140,25 @@ fn write_once<W: Write>(
     writeln!(output, "{listed}")
 }
 
+/// Writes the line of the NSEC3PARAM record, if there is one and it is needed.
+fn write_param<W: Write>(
+    param: Option<&ReadNsec3param<'_>>,
+    is_needed: bool,
+    output: &mut W,
+) -> io::Result<()>
+    ensures { OnOk result (Appends (W.contents output.old) (W.contents output.new)
+        (if is_needed then param_line (option_map (λ k. as_param_record (λ n. n) k.now)
+        param.entry) else [])) }
+{
+    match param {
+        Some(param) if is_needed => writeln!(output, "{param}"),
+        _ => Ok(()),
+    }
+}
+
 /// Writes the lines of three records, each once, and then that of the NSEC3PARAM record, if there
 /// are any.
+#[tactic(auto, using(crate::proofs::RunLemmas::is_some_mapped))]
 fn write_records<W: Write>(
     matched: Option<Listed<'_, '_>>,
     closer: Option<Listed<'_, '_>>,
@@ -158,13 +174,8 @@ fn write_records<W: Write>(
     write_once(None, None, matched, output)?;
     write_once(None, matched, closer, output)?;
     write_once(matched, closer, wildcard, output)?;
-    let Some(param) = param else {
-        return Ok(());
-    };
-    if matched.is_some() | closer.is_some() | wildcard.is_some() {
-        return writeln!(output, "{param}");
-    }
-    Ok(())
+    let is_any = matched.is_some() | closer.is_some() | wildcard.is_some();
+    write_param(param, is_any, output)
 }
 
 /// Writes what is asked for below an answer: the records that it rests on, one a line, with what

@@ -1,5 +1,5 @@
 use Rattle.std.proofs.{Common.{ap, Err}, lemmas.Result.err_from_is_err_and}
-use Rattle.judge_program.proofs.ToldLemmas.{refused_with}
+use Rattle.judge_program.proofs.RunLemmas.{refused_with}
 use Rattle.judge_program.proofs.nsec3_told.Inquiry.answer.Goals as goal
 
 pub returns-in_default-clause-ok : goal.returns-in_default-clause-ok
