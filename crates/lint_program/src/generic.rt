@@ -1,5 +1,6 @@
 //! The generic form of data (RFC 3597, section 5) of types that have no text of their own here.
 
+use crate::odd::{Shape, shape_of};
 use denial_program::ZoneName;
 use domain_base::{Rtype, ScanError, ToName};
 use std::alloc::{AllocError, Global};
@@ -47,14 +48,14 @@ fn put_data(
     rtype: Rtype,
     words: &[&str],
 ) -> Result<(), ScanError> {
-    match (rtype.to_int(), words) {
-        (5 | 12 | 39, [name]) => put_name(alloc, data, name),
-        (28, [address]) => {
+    match (shape_of(rtype), words) {
+        (Shape::OneName, [name]) => put_name(alloc, data, name),
+        (Shape::LongAddress, [address]) => {
             let address = address.parse::<Ipv6Addr>().map_err(|_| NO_DATA)?;
             Ok(data.extend_from_slice(&address.octets())?)
         }
-        (16 | 99, [_, ..]) => put_texts(data, words),
-        (33, [numbers @ .., target]) if numbers.len() == 3 => {
+        (Shape::Texts, [_, ..]) => put_texts(data, words),
+        (Shape::Service, [numbers @ .., target]) if numbers.len() == 3 => {
             put_numbers(data, numbers)?;
             put_name(alloc, data, target)
         }
