@@ -11,16 +11,22 @@ macro_rules! given {
     };
 }
 
-mod basics;
-mod chains;
+mod bitmaps;
+mod codecs;
 mod data;
+mod hashes;
+mod input;
 mod lines;
+mod names;
+mod nsec;
+mod nsec3;
+mod numbers;
+mod octets;
+mod table;
 mod zones;
 
-use basics::{bitmaps, codecs, constants, hashes, names, numbers, octets};
-use chains::{nsec, nsec3};
 use domain_base::ScanError;
-use lines::{Answered, Answers, input};
+use lines::{Answered, Answers};
 use std::io;
 
 /// Answers one vector: its subject, its form, and the words after these.
@@ -30,7 +36,7 @@ fn answer(words: &[&str], answers: &mut Answers) -> Answered {
     match subject {
         "octets" => octets::answer(form, words, answers),
         "codec" => codecs::answer(form, words, answers),
-        "constant" => constants::answer(form, answers),
+        "constant" => numbers::constants(form, answers),
         "name" => names::answer(form, words, answers),
         "number" => numbers::answer(form, words, answers),
         "scan" => numbers::scanned(form, words, answers),

@@ -1,5 +1,6 @@
 //! Names: as text, on the wire, compared, and in other holders (RFC 1035; RFC 4034, section 6.1).
-use crate::lines::{Answered, Answers, OwnName, input};
+use crate::input;
+use crate::lines::{Answered, Answers, OwnName, Two};
 use bytes::Bytes;
 use domain_base::{Name, ParsedName, ToName};
 use domain_octets::{
@@ -70,29 +71,21 @@ fn ascend(words: &[&str], answers: &mut Answers) -> Answered {
     Ok(())
 }
 
-/// Adds a line with a name that was made, or why it was not.
-fn add<N: Debug + Drop>(label: &str, made: Result<N, AppendError>, answers: &mut Answers) {
-    match made {
-        Ok(name) => answers.debug(label, &name),
-        Err(error) => answers.debug(label, &error),
-    }
-}
-
 /// A name in each kind of holder, of which one has room for three octets and one for two.
 fn held(name: &OwnName, answers: &mut Answers) -> Answered {
     let alloc = answers.alloc;
     let copy = OwnName::try_octets_from(alloc, name.try_clone()?);
-    add("copy", copy, answers);
+    answers.debug_or_error("copy", &copy);
     if let Ok(parsed) = ParsedName::from_slice(name.as_wire()) {
         let copy: Result<OwnName, AppendError> = parsed.try_flatten_into(alloc);
-        add("Vec", copy, answers);
+        answers.debug_or_error("Vec", &copy);
     }
     let shared = Name::<Bytes>::try_octets_from(alloc, name.try_clone()?);
-    add("Bytes", shared, answers);
+    answers.debug_or_error("Bytes", &shared);
     let array = Name::<ArrayBuilder<3>>::try_octets_from(alloc, name.try_clone()?);
-    add("ArrayBuilder<3>", array, answers);
-    let array = Name::<ArrayBuilder<2>>::try_octets_from(alloc, name.try_clone()?);
-    add("ArrayBuilder<2>", array, answers);
+    answers.debug_or_error("ArrayBuilder<3>", &array);
+    let array = Name::<Two>::try_octets_from(alloc, name.try_clone()?);
+    answers.debug_or_error("ArrayBuilder<2>", &array);
     Ok(())
 }
 

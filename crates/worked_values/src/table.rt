@@ -2,7 +2,8 @@
 ghost use Rattle.std.specs.Prelude.{◌≡◌, ℕ, Ok, Err, IfOk, IsErrOf};
 ghost use Rattle.worked_values.specs.Table.{table_answer};
 
-use crate::lines::{OwnName, input};
+use crate::input;
+use crate::lines::OwnName;
 use domain_base::{Nsec3HashAlgorithm, ScanError, ToName};
 use domain_dnssec::{HasherError, Nsec3Hasher};
 use std::alloc::Global;

@@ -1,8 +1,7 @@
 //! NSEC chains (RFC 4034, section 4; RFC 4035, section 2.3; RFC 9077), what their records prove
 //! (RFC 4035, section 5.4; RFC 4592), and which a server answers with (RFC 4035, section 3.1.3).
-use crate::lines::input::{is_slash, question};
-use crate::lines::records::{Typed, records, typed, zone};
-use crate::lines::{Answered, Answers, OwnName, input};
+use crate::input::{self, Typed, is_slash, question, records, typed, zone};
+use crate::lines::{Answered, Answers, OwnName};
 use domain_answer::judge_nsec;
 use domain_base::ScanError;
 use domain_dnssec::{

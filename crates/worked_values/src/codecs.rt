@@ -1,6 +1,6 @@
 //! Octets as text (RFC 4648).
-use crate::lines::holders::Two;
-use crate::lines::{Answered, Answers, input};
+use crate::input;
+use crate::lines::{Answered, Answers, Two};
 use domain_codecs::{Codec, DecodeError, base16, base32, base64_standard};
 use domain_octets::{ArrayBuilder, OutOfMemory};
 use std::fmt::{Display, Formatter, Result as Printed, Write};
@@ -24,15 +24,15 @@ impl Display for Encoded<'_> {
 fn encode(words: &[&str], answers: &mut Answers) -> Answered {
     let alloc = answers.alloc;
     let octets = &input::octets(alloc, words)?;
-    answers.show_or_refused("base16", &base16::encode_string(alloc, octets));
+    answers.show_or_error("base16", &base16::encode_string(alloc, octets));
     answers.show("printed", &Encoded(Some(Codec::Base16), octets));
     answers.show("lower", &Encoded(None, octets));
-    answers.show_or_refused("base32", &base32::encode_string(alloc, octets));
+    answers.show_or_error("base32", &base32::encode_string(alloc, octets));
     answers.show("printed", &Encoded(Some(Codec::Base32Hex), octets));
     let lower = base32::encode_hex_lower(alloc, octets)?;
     let lower = str::from_utf8(lower.as_slice());
     answers.show("lower", &lower.unwrap_or_default());
-    answers.show_or_refused("base64", &base64_standard::encode_string(alloc, octets));
+    answers.show_or_error("base64", &base64_standard::encode_string(alloc, octets));
     answers.show("printed", &Encoded(Some(Codec::Base64), octets));
     Ok(())
 }
@@ -65,11 +65,11 @@ pub fn answer(form: &str, words: &[&str], answers: &mut Answers) -> Answered {
     match form {
         "encode" => return encode(words, answers),
         "base" => {
-            answers.octets_or_refused("octets", &codec.decode::<Vec<u8>>(alloc, text));
+            answers.octets_or_error("octets", &codec.decode::<Vec<u8>>(alloc, text));
             answers.fault("ArrayBuilder<2>", codec.decode::<Two>(alloc, text));
         }
         "joined" => {
-            answers.octets_or_refused("joined", &codec.decode_joined::<Vec<u8>>(alloc, words));
+            answers.octets_or_error("joined", &codec.decode_joined::<Vec<u8>>(alloc, words));
             answers.fault("ArrayBuilder<2>", codec.decode_joined::<Two>(alloc, words));
         }
         "cut" => decode_cut(codec, text, answers),

@@ -1,6 +1,6 @@
 //! Octets, what builds them, and what reads them from the front.
-use crate::lines::holders::Two;
-use crate::lines::{Answered, Answers, input};
+use crate::input;
+use crate::lines::{Answered, Answers, Two};
 use bytes::Bytes;
 use domain_octets::{
     AppendError, ArrayBuilder, EmptyBuilder, EmptyOctets, FreezeBuilder, FromBuilder, Octets,

@@ -1,7 +1,6 @@
 //! Salts, and hashes of owner names (RFC 5155, sections 3.1.5 and 3.1.7).
-use crate::lines::holders::{Two, octets_in_each};
-use crate::lines::input::Tokens;
-use crate::lines::{Answered, Answers, input};
+use crate::input::{self, Tokens};
+use crate::lines::{Answered, Answers, Two, octets_in_each};
 use bytes::Bytes;
 use domain_base::{IterScanner, Scanner};
 use domain_bitmap::{
@@ -36,7 +35,7 @@ fn salt(text: &str, answers: &mut Answers) {
     }
     let tokens = [text];
     let mut scanner = Tokens::new(&tokens);
-    answers.octets_or_refused("scanned", &Nsec3Salt::scan(answers.alloc, &mut scanner));
+    answers.octets_or_error("scanned", &Nsec3Salt::scan(answers.alloc, &mut scanner));
     answers.debug("next", &scanner.first_token());
 }
 
@@ -53,7 +52,7 @@ fn hash(text: &str, answers: &mut Answers) {
     }
     let tokens = [text];
     let mut scanner = Tokens::new(&tokens);
-    answers.octets_or_refused("scanned", &OwnerHash::scan(answers.alloc, &mut scanner));
+    answers.octets_or_error("scanned", &OwnerHash::scan(answers.alloc, &mut scanner));
     answers.debug("next", &scanner.first_token());
 }
 
@@ -153,9 +152,9 @@ fn of_octets(form: &str, words: &[&str], answers: &mut Answers) -> Answered {
     match form {
         "parse" => {
             let mut parser = Parser::new(&first);
-            answers.show_or_refused("salt", &Nsec3Salt::parse(&mut parser));
+            answers.show_or_error("salt", &Nsec3Salt::parse(&mut parser));
             answers.show("at", &parser.pos());
-            answers.show_or_refused("hash", &OwnerHash::parse(&mut parser));
+            answers.show_or_error("hash", &OwnerHash::parse(&mut parser));
             answers.show("at", &parser.pos());
         }
         "limit" => {

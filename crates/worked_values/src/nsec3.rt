@@ -1,9 +1,8 @@
 //! NSEC3 chains of small zones (RFC 5155, section 7.1), what their records prove and answer as a
 //! whole (RFC 5155, section 8), and which of them a server answers with (RFC 5155, section 7.2).
-use crate::chains::hashers::table;
-use crate::lines::input::{Tokens, is_slash, question};
-use crate::lines::records::{Typed, records, typed, zone};
-use crate::lines::{Answered, Answers, OwnName, input};
+use crate::input::{self, Tokens, Typed, is_slash, question, records, typed, zone};
+use crate::lines::{Answered, Answers, OwnName};
+use crate::table::table;
 use crate::zones::RefusingSorter;
 use domain_answer::{judge_nsec3, judge_nsec3_expansion};
 use domain_base::{Class, Nsec3HashAlgorithm, ScanError, Ttl};
@@ -96,7 +95,7 @@ impl<H: Nsec3Hasher> Hashing<'_, H> {
             self.apex,
             self.hasher,
         );
-        answers.show_or_refused("owner", &owner);
+        answers.show_or_error("owner", &owner);
         Ok(())
     }
 
@@ -170,16 +169,16 @@ impl<H: Nsec3Hasher> Hashing<'_, H> {
             let name = OwnName::from_str(alloc, input::word(words, 0))?;
             let labels = input::word(words, 1).parse::<usize>().unwrap_or(0);
             let answer = judge_nsec3_expansion(alloc, apex, chain, &name, labels, most, hasher);
-            answers.debug_or_refused("answer", &answer);
+            answers.debug_or_error("answer", &answer);
             return Ok(());
         }
         let (name, rtype) = question(alloc, words)?;
         if form == "verdict" {
             let verdict = check_nsec3(alloc, apex, chain, &name, rtype, hasher);
-            answers.debug_or_refused("verdict", &verdict);
+            answers.debug_or_error("verdict", &verdict);
         } else {
             let answer = judge_nsec3(alloc, apex, chain, &name, rtype, most, hasher);
-            answers.debug_or_refused("answer", &answer);
+            answers.debug_or_error("answer", &answer);
         }
         Ok(())
     }

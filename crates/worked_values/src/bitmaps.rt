@@ -1,7 +1,6 @@
 //! Bitmaps of types (RFC 4034, section 4.1.2).
-use crate::lines::holders::{Two, octets_in_each};
-use crate::lines::input::Tokens;
-use crate::lines::{Answered, Answers, input};
+use crate::input::{self, Tokens};
+use crate::lines::{Answered, Answers, Two, octets_in_each};
 use bytes::Bytes;
 use domain_base::{FromToken, Rtype, ScanError, Scanner};
 use domain_bitmap::{RtypeBitmap as Bitmap, RtypeBitmapBuilder, RtypeBitmapError};
@@ -110,7 +109,7 @@ fn compare(words: &[&str], answers: &mut Answers) -> Answered {
 fn scan(tokens: &[&str], answers: &mut Answers) {
     let mut scanner = Tokens::new(tokens);
     let bitmap = Bitmap::<Vec<u8>>::scan(answers.alloc, &mut scanner);
-    answers.octets_or_refused("octets", &bitmap);
+    answers.octets_or_error("octets", &bitmap);
     answers.debug("next", &scanner.first_token());
     let mut scanner = Tokens::new(tokens);
     let bitmap = Bitmap::<ArrayBuilder<34>>::scan(answers.alloc, &mut scanner);
