@@ -7,7 +7,7 @@ use Rattle.domain_octets.specs.{Octets.{Octets, HasRoom}, Text.{dot, PieceText}}
 use Rattle.domain_fields.specs.Layout.{Field, octet, short, long, name, spelled_name, exactly, Value, Layout, one, ◌▸◌, Values}
 use Rattle.domain_codecs.specs.{Codec.Decodes, declared.codec.Codec.Codec}
 
--- ---- grammars of tokens: of one token, and one grammar after another
+-- ---- grammars of tokens: one grammar after another
 
 -- one grammar after another
 abbrev pub Both : {V W : Type 0} → Grammar V → Grammar W → Grammar (V × W)

@@ -158,7 +158,6 @@ fn write_param<W: Write>(
 
 /// Writes the lines of three records, each once, and then that of the NSEC3PARAM record, if there
 /// are any.
-#[tactic(auto, using(crate::proofs::RunLemmas::is_some_mapped))]
 fn write_records<W: Write>(
     matched: Option<Listed<'_, '_>>,
     closer: Option<Listed<'_, '_>>,
