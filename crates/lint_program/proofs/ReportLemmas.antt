@@ -1,5 +1,5 @@
 -- How far a reader has come, and the lines of a report.
-use Rattle.std.proofs.{lemmas.Grind.common_steps, Common.{◌≡◌, ℕ, ◌+◌, List, [], ◌∷◌, ◌++◌, Option, Some, None, refl, append-nil, append_assoc, arith, inl}}
+use Rattle.std.proofs.{lemmas.Grind.common_steps, Common.{◌≡◌, ℕ, ◌+◌, List, [], ◌∷◌, ◌++◌, Option, refl, append-nil, append_assoc, arith, inl}}
 use Rattle.std.{proofs.Common.{inr, ap, map, sym, ◌∙◌, subst, take}, specs.{Prelude.IfSome, Str.Lines.lines, Io.KnownBytes.Appends}}
 use Rattle.std.proofs.lemmas.List.{map-append}
 use Rattle.domain_borrowed.specs.Data.{RawRecord}
@@ -41,15 +41,16 @@ module _ (known old new : Option (List ℕ)) (bad numbers : List ℕ) (records :
     pub follows_nothing : said ≡ Nothing → Follows known new bad numbers records (number + 1)
     follows_nothing is = stepped bad numbers records (λ all rest line s c more left others g. c more left others (inl (rw is at s, g)))
 
-    pub follows_record : (r : RawRecord) → said ≡ Record r → Follows known new bad (numbers ++ number ∷ []) (records ++ r ∷ []) (number + 1)
-    follows_record r is =
-        stepped bad (numbers ++ number ∷ []) (records ++ r ∷ []) (λ all rest line s c more left others g.
-        simp append_assoc (c more (number ∷ left) (r ∷ others) (inr (inl (r, others, refl, rw is at s, left, refl, g)))))
+    pub follows_record : (numbers' : List ℕ) (records' : List RawRecord) (r : RawRecord) → said ≡ Record r
+        → numbers' ≡ numbers ++ number ∷ [] → records' ≡ records ++ r ∷ [] → Follows known new bad numbers' records' (number + 1)
+    follows_record numbers' records' r is ns rs =
+        rw (ns, rs) (stepped bad (numbers ++ number ∷ []) (records ++ r ∷ []) (λ all rest line s c more left others g.
+        simp append_assoc (c more (number ∷ left) (r ∷ others) (inr (inl (r, others, refl, rw is at s, left, refl, g))))))
 
-    pub follows_bad : said ≡ Bad → Follows known new (bad ++ number ∷ []) numbers records (number + 1)
-    follows_bad is =
-        stepped (bad ++ number ∷ []) numbers records (λ all rest line s c more left others g.
-        simp append_assoc (c (number ∷ more) left others (inr (inr (more, refl, rw is at s, g)))))
+    pub follows_bad : (bad' : List ℕ) → said ≡ Bad → bad' ≡ bad ++ number ∷ [] → Follows known new bad' numbers records (number + 1)
+    follows_bad bad' is bs =
+        rw bs (stepped (bad ++ number ∷ []) numbers records (λ all rest line s c more left others g.
+        simp append_assoc (c (number ∷ more) left others (inr (inr (more, refl, rw is at s, g))))))
 
 -- ---- The lines of a report, one after another.
 

@@ -53,7 +53,6 @@ fn has_dot(line: &[u8]) -> bool {
 /// # Errors
 ///
 /// `Read` where the input could not be read, and `OutOfMemory`.
-#[tactic(auto, using(std::proofs::lemmas::Grind::common_steps, crate::proofs::ReportLemmas::follows_nothing, crate::proofs::ReportLemmas::follows_record, crate::proofs::ReportLemmas::follows_bad))]
 pub fn read_lines<'a, R: BufRead>(
     alloc: Global,
     arena: &'a Bump,
