@@ -6,7 +6,7 @@ use crate::store::Store;
 use domain_base::{IterScanner, Name, Scanner};
 use domain_borrowed::BorrowedRecord;
 use domain_message::{LineError, is_no_entry, scan_behind_owner};
-use domain_octets::{LineWords, OctetSet, OutOfMemory, SmallOctets, are_all, push_words};
+use domain_octets::{LineWords, OutOfMemory, SmallOctets, push_words};
 use domain_rdata::ZoneRecordData;
 use domain_record::Record;
 use std::alloc::Global;
@@ -31,31 +31,16 @@ pub enum Line<'a> {
     Bad,
 }
 
-/// The octets of lines that are read: none past `~`.
-struct Plain;
-
-impl OctetSet for Plain {
-    ghost use Rattle.denial_program.specs.Listing.{is_plain};
-
-    ghost has = { is_plain };
-
-    fn contains(octet: u8) -> bool {
-        octet <= b'~'
-    }
-
-    fn is_usual(octet: u8) -> bool {
-        Self::contains(octet)
-    }
-}
-
 /// A line as text, where none of its octets is past `~`. That it is text is proved, so that it need
 /// not be looked through again.
 fn plain_text(line: &[u8]) -> Option<&str>
     ensures some { IfSome result (λ text. (text.now ≡ line.now) × IsPlain line.now) }
     ensures none { IfNone result (IsPlain line.now → ⊥) }
 {
-    if !are_all::<Plain>(line) {
-        return None;
+    for octet in line {
+        if *octet > b'~' {
+            return None;
+        }
     }
     Some(unsafe { str::from_utf8_unchecked(line) })
 }

@@ -1,8 +1,8 @@
 -- texts that are gone through in pieces of 64 characters, and what each piece stands for
-use Rattle.std.proofs.Common.{◌≡◌, ◌≢◌, ℕ, zero, suc, ◌+◌, ◌*◌, ◌%◌, ◌<◌, ◌≤◌, true, false, List, [], ◌∷◌, ◌++◌, length, take, drop, get_or, length-append}
-use Rattle.std.proofs.{Common.{add-zero, nat_eq, refl, ap, subst, ◌∙◌, arith, Ok, Err}, Math.ListN.get_or-append, lemmas.List.{take_all, drop_at}}
+use Rattle.std.proofs.Common.{◌≡◌, ◌≢◌, ℕ, zero, suc, ◌+◌, ◌*◌, ◌%◌, ◌<◌, ◌≤◌, true, false, List, [], ◌∷◌, ◌++◌, length, take, drop, length-append}
+use Rattle.std.proofs.{Common.{add-zero, nat_eq, refl, ap, sym, append_assoc, subst, ◌∙◌, arith, Ok, Err}, Math.ListN.get_or-append}
 use Rattle.std.{proofs.lemmas.{List.{append-nil, map-append, length-map, get_or-append-add, take-append-drop}, Grind.common_steps}, specs.Prelude.{◌↔◌, Bool}}
-use Rattle.std.specs.{Prelude.{IsTrue, Option, Result}, List.AllPass}
+use Rattle.std.{specs.{Prelude.{IsTrue, Option, Result}, List.AllPass}, proofs.lemmas.List.{drop_at, Elements.All-append}}
 use Rattle.base64.specs.{GeneralPurpose.IsBytes, Engines.standard, declared.decode.DecodeError.DecodeError}
 use Rattle.base64.proofs.EngineFacts.{decode_of-encode_of, encode_of-nil, front_bytes}
 use Rattle.base64.specs.GeneralPurpose as base64
@@ -11,7 +11,7 @@ use Rattle.hex.proofs.{HexLemmas.{decode_of-even, decode_of-ok, decode_of-same, 
 use Rattle.domain_codecs.specs.{declared.codec.Codec.{Codec, TheVariants.{Base16, Base32Hex, Base64}}, Codec.{Decodes, IsText, IsFirstOther, is_digit}}
 use Rattle.domain_codecs.{specs.Codec.{base32_octets, base32_digits, IsBase32, Cut}, proofs.{CodecBackLemmas.decodes_once, Base64Lemmas.DecodesTo}}
 use Rattle.domain_codecs.proofs.Base64Lemmas.{split_pieces, bytes-drop, joined_groups, decoded_length}
-use Rattle.domain_octets.{specs.Octets.AreOctets, proofs.WordLemmas.{Searched, searched_more}}
+use Rattle.domain_octets.specs.Octets.{AreOctets}
 
 -- octets are what the library `base64` takes for bytes
 pub bytes_of : (text : List ℕ) → AreOctets text → IsBytes text
@@ -19,24 +19,32 @@ bytes_of text all i = grind (arith, common_steps)
 
 -- ---- one piece after another
 
--- a piece whose first characters pass, but one that is none, has the first other character of the text
-pub searched_other : (codec : Codec) (text left piece after : List ℕ) (place : ℕ) → Searched (is_digit codec) text left → Cut left piece after
-    → AllPass (is_digit codec) (take place piece) → place < length piece → is_digit codec (get_or piece place 0) ≡ false
-    → IsFirstOther codec text (get_or piece place 0)
-searched_other codec text left piece after place so_far cut pass inside other =
-    let all = searched_more (is_digit codec) text left (take place piece) (drop place piece ++ after) so_far (grind (arith, common_steps)) pass in
+-- these characters are left of the text, and those before them are of the codec
+pub record Searched (codec : Codec) (text left : List ℕ) : Type 0 where
+  pub front : List ℕ
+  pub parts : text ≡ front ++ left
+  pub pass : AllPass (is_digit codec) front
+
+pub searched_more : (codec : Codec) (text left piece after : List ℕ) → Searched codec text left → left ≡ piece ++ after
+    → AllPass (is_digit codec) piece → Searched codec text after
+searched_more codec text left piece after so_far parts pass = record {
+  front = so_far.front ++ piece;
+  parts = so_far.parts ∙ ap (λ l. so_far.front ++ l) parts ∙ sym (append_assoc so_far.front piece after);
+  pass = All-append (λ c. is_digit codec c ≡ true) so_far.front piece so_far.pass pass;
+}
+
+-- the first other character of a piece is that of the text
+pub searched_other : (codec : Codec) (text left piece after : List ℕ) (c : ℕ) → Searched codec text left → Cut left piece after
+    → IsFirstOther codec piece c → IsFirstOther codec text c
+searched_other codec text left piece after c so_far cut other =
+    let all = searched_more codec text left (take other.place piece) (drop other.place piece ++ after) so_far (grind (arith, common_steps)) other.before in
     record {
       place = length all.front;
       below = grind (arith, common_steps);
       is = grind (arith, common_steps);
-      other = other;
+      other = other.other;
       before = grind (arith, common_steps);
     }
-
-pub searched_piece : (codec : Codec) (text left piece after : List ℕ) (place : ℕ) → Searched (is_digit codec) text left → Cut left piece after
-    → AllPass (is_digit codec) (take place piece) → length piece ≤ place → Searched (is_digit codec) text after
-searched_piece codec text left piece after place so_far cut pass whole =
-    searched_more (is_digit codec) text left piece after so_far cut.parts (subst (AllPass (is_digit codec)) (take_all place piece whole) pass)
 
 pass_front : (codec : Codec) (front back : List ℕ) → AllPass (is_digit codec) (front ++ back) → AllPass (is_digit codec) front
 pass_front codec front back all = λ i d below. let here = all i d (omega (arith, length-append front back)) in rw (get_or-append front back d i below) at here

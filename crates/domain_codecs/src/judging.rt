@@ -7,7 +7,6 @@ ghost use Rattle.domain_octets.specs.Octets.{AreOctets};
 use crate::joined::Joined;
 use crate::{Codec, DecodeError, base32};
 use base64::engine::general_purpose::STANDARD;
-use domain_octets::{OctetSet, prefix_len};
 
 /// Whether a character stands in texts of the codec.
 fn is_digit(codec: Codec, c: u8) -> bool
@@ -20,43 +19,21 @@ fn is_digit(codec: Codec, c: u8) -> bool
     }
 }
 
-/// The digits of Base 16.
-struct Base16Digits;
-
-impl OctetSet for Base16Digits {
-    ghost use Rattle.domain_codecs.specs.declared.codec.Codec.TheVariants as codec;
-
-    ghost has = { is_digit codec.Base16 };
-
-    fn contains(octet: u8) -> bool {
-        is_digit(Codec::Base16, octet)
-    }
-
-    fn is_usual(octet: u8) -> bool {
-        (octet >= b'0' && octet <= b'9')
-            | (octet >= b'A' && octet <= b'F')
-            | (octet >= b'a' && octet <= b'f')
-    }
-}
-
-/// How many characters of the codec's texts a text begins with.
-fn digits_len(codec: Codec, text: &[u8]) -> usize
-    ensures within { result ≤ length text.now }
-    ensures digits { AllPass (is_digit codec) (take result text.now) }
-    ensures end { result < length text.now → is_digit codec (slice_index text.now result) ≡ false }
+/// The first character of a piece that stands in no text of the codec.
+fn first_other_of(codec: Codec, piece: &[u8]) -> Option<u8>
+    ensures some { IfSome result (IsFirstOther codec piece.now) }
+    ensures none { IfNone result (AllPass (is_digit codec) piece.now) }
 {
-    if codec == Codec::Base16 {
-        return prefix_len::<Base16Digits>(text);
-    }
-    for i in 0..text.len() {
-        if !is_digit(codec, text[i]) {
-            return i;
+    for c in piece {
+        if !is_digit(codec, *c) {
+            return Some(*c);
         }
     }
-    text.len()
+    None
 }
 
 /// The first character of texts that stands in no text of the codec.
+#[tactic(auto, using(crate::proofs::JoinedLemmas::searched_more))]
 fn first_other(codec: Codec, text: &Joined<'_>) -> Option<u8>
     ensures some { IfSome result (IsFirstOther codec text.now) }
     ensures none { IfNone result (AllPass (is_digit codec) text.now) }
@@ -68,9 +45,8 @@ fn first_other(codec: Codec, text: &Joined<'_>) -> Option<u8>
         if piece.is_empty() {
             return None;
         }
-        let place = digits_len(codec, piece);
-        if place < piece.len() {
-            return Some(piece[place]);
+        if let Some(c) = first_other_of(codec, piece) {
+            return Some(c);
         }
     }
 }

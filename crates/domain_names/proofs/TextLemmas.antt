@@ -1,11 +1,11 @@
 -- Names as text.
-use Rattle.std.proofs.Common.{arith, ℕ, zero, suc, ◌/◌, ◌%◌, ◌<◌, ◌≤◌, ◌≡◌, ◌∷◌, ◌++◌, ◌-◌, [], List, true, false, refl, ap, subst, ◌∙◌, length, take, drop}
-use Rattle.std.proofs.{Common.{length-append, slice_set, take_all, ◌≢◌, get_or, ◌+◌, Option, Some, None, sym, inl, rules}, lemmas.List.append_assoc}
-use Rattle.std.proofs.{lemmas.{List.{append-nil, length-drop, take_at, take_more}, Grind.common_steps, Bool.eqb-true}, Math.Seq.set-append_seam}
+use Rattle.std.proofs.Common.{arith, ℕ, zero, suc, ◌/◌, ◌%◌, ◌<◌, ◌≤◌, ◌≡◌, ◌∷◌, ◌++◌, ◌-◌, [], List, false, refl, ap, subst, ◌∙◌, length, take, drop}
+use Rattle.std.proofs.{Common.{length-append, slice_set, ◌≢◌, get_or, ◌+◌, Option, Some, None, sym, inl, rules}, lemmas.List.append_assoc}
+use Rattle.std.proofs.{lemmas.{List.{append-nil, length-drop, take_at, take_more}, Grind.common_steps}, Math.Seq.set-append_seam}
 use Rattle.std.proofs.lemmas.{List.Elements.{All-head, All-tail}, Str.{IsAscii-append, IsUtf8-from_ascii, Ascii.IsAscii-nil}, Fmt.decimal_digit}
-use Rattle.std.specs.{List.{All, AllByRecursion as ByRecursion, AllPass, AllByRecursion}, Str.IsAscii, Fmt.decimal, Char.is_ascii_graphic, Prelude.IsSome}
+use Rattle.std.specs.{List.{All, AllByRecursion as ByRecursion, AllByRecursion}, Str.IsAscii, Fmt.decimal, Char.is_ascii_graphic, Prelude.IsSome}
 use Rattle.std.specs.Prelude.{IfSome}
-use Rattle.domain_names.specs.Text.{octet_text, label_text, dotted_text, is_special, is_ordinary, symbol_at, LabelText, ends, octet, HasNoLabel}
+use Rattle.domain_names.specs.Text.{octet_text, label_text, dotted_text, is_special, symbol_at, LabelText, ends, octet, HasNoLabel}
 use Rattle.domain_names.specs.{Text.{HasNoLabelAfter, LabelTexts, IsBefore, last, dotted, NameText, root, of_labels, IsNoName}, Wire.{labels_of, IsWire}}
 use Rattle.domain_names.{specs.Name.{wire_of, IsLabel, IsName, Name}, proofs.WireLemmas.length-wire_of}
 
@@ -15,20 +15,6 @@ pub octet_text_in_digits : (c : ℕ) → c < 256 → is_special c ≡ false → 
     → octet_text c ≡ 92 ∷ (decimal (c / 100) ++ (decimal (c / 10 % 10) ++ decimal (c % 10)))
 unfolding octet_text
 octet_text_in_digits c small special graphic = grind (arith, common_steps, decimal_digit)
-
-pub ordinary_octet : (c : ℕ) → is_ordinary c ≡ true → octet_text c ≡ c ∷ []
-unfolding octet_text
-ordinary_octet c ordinary = grind (arith, common_steps)
-
--- a label whose octets are all written as they are
-ordinary_text : (label : List ℕ) → AllPass is_ordinary label → label_text label ≡ label
-ordinary_text [] all = refl
-ordinary_text (c ∷ label) all =
-    ap (λ l. l ++ label_text label) (ordinary_octet c (all 0 c (omega arith)))
-    ∙ ap (λ l. c ∷ l) (ordinary_text label (λ k d within. all (suc k) d (omega (arith, within))))
-
-pub ordinary_whole : (label : List ℕ) (n : ℕ) → AllPass is_ordinary (take n label) → n ≡ length label → label_text label ≡ label
-ordinary_whole label n all is = ordinary_text label (subst (AllPass is_ordinary) (take_all n label (omega arith)) all)
 
 -- ---- texts of names are ASCII
 
@@ -84,8 +70,6 @@ pub dotted_ascii : (labels : Name) → IsName labels → IsAscii (dotted_text la
 dotted_ascii labels valid = grind (arith, common_steps, dotted_text_ascii)
 
 pub ruleset octet_steps = (common_steps, octet_text_in_digits)
-
-pub ruleset ordinary_steps = (common_steps, ordinary_whole, eqb-true)
 
 pub ruleset dotted_steps = (common_steps, dotted_more, dotted_ends)
 

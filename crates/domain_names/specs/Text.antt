@@ -84,10 +84,6 @@ is_special c =
     c == quote || c == dollar || c == left_parenthesis || c == right_parenthesis || c == dot
     || c == semicolon || c == at_sign || c == backslash
 
--- a character that is written as it is
-abbrev pub is_ordinary : ℕ → Bool
-is_ordinary c = is_ascii_graphic c && not (is_special c)
-
 -- an octet within a label
 unfoldable pub octet_text : ℕ → Octets
 octet_text c =

@@ -10,7 +10,7 @@ ghost use Rattle.domain_names.specs.Wire.{labels_of, IsWire};
 
 use crate::wire;
 use crate::wire::{MAX_LABEL_LEN, MAX_NAME};
-use domain_octets::{ArrayBuilder, OctetSet, Octets, OctetsBuilder, Truncate, prefix_len};
+use domain_octets::{ArrayBuilder, Octets, OctetsBuilder, Truncate};
 use std::fmt;
 
 /// The octet that a text within a label begins with, and how many characters spell it.
@@ -236,37 +236,28 @@ fn write_octet<W: fmt::Write>(octet: u8, f: &mut fmt::Formatter<W>) -> fmt::Resu
     }
 }
 
-/// The octets that are written as the characters that they are.
-struct Ordinary;
-
-impl OctetSet for Ordinary {
-    ghost use Rattle.domain_names.specs.Text.{is_ordinary};
-
-    ghost has = { is_ordinary };
-
-    /// Asks first of letters in lower case, and then of digits.
-    fn contains(octet: u8) -> bool {
-        (octet > b'\\' && octet <= b'~')
-            || (octet > b'.' && octet < b';')
-            || (octet.is_ascii_graphic() && !is_special(octet))
-    }
-
-    /// Letters, digits, hyphens and underscores are.
-    fn is_usual(octet: u8) -> bool {
-        (octet > b'\\' && octet <= b'~')
-            | (octet > b'.' && octet < b';')
-            | (octet > b'@' && octet < b'\\')
-            | (octet == b'-')
-    }
+/// Whether an octet is written as the character that it is. Asks first of letters in lower case,
+/// and then of digits.
+#[tactic(auto, unfolding(crate::specs::Text::octet_text))]
+fn is_ordinary(octet: u8) -> bool
+    ensures { IsTrue result → octet_text octet ≡ octet ∷ [] }
+{
+    (octet > b'\\' && octet <= b'~')
+        || (octet > b'.' && octet < b';')
+        || (octet.is_ascii_graphic() && !is_special(octet))
 }
 
 /// Whether all octets of a label are written as the characters that they are, as those of most
 /// labels.
-#[tactic(auto, using(crate::proofs::TextLemmas::ordinary_steps))]
 fn is_ordinary_label(label: &[u8]) -> bool
     ensures { IsTrue result → label_text label.now ≡ label.now }
 {
-    prefix_len::<Ordinary>(label) == label.len()
+    for octet in label {
+        if !is_ordinary(*octet) {
+            return false;
+        }
+    }
+    true
 }
 
 /// Text, all of whose octets are ASCII. That they are is proved, so that it need not be looked

@@ -9,7 +9,7 @@ use Rattle.std.specs.{List.Sorted.{IsSortedByKey, IsStrictlySortedBy}, Cmp.Lexic
 use Rattle.std.specs.{FinMap.nat_cmp-IsAntisymmetric, Ordering.{nat_cmp, is_lt}, declared.cmp.Ordering.TheVariants.Less}
 use Rattle.domain_codecs.{specs.Base32.{base32_from, base32_lower, lower_digit}, proofs.Base32Lemmas.{many_digits, are_small}}
 use Rattle.domain_octets.{specs.Octets.{AreOctets, Octets}, proofs.WordLemmas.octets_from_type}
-use Rattle.domain_names.{specs.{Name.{wire_of, IsName, Name}, Text.{label_text, name_text}, Wire.{labels_of, IsWire}}, proofs.TextLemmas.ordinary_octet}
+use Rattle.domain_names.{specs.{Name.{wire_of, IsName, Name}, Text.{label_text, name_text, octet_text}, Wire.{labels_of, IsWire}}}
 use Rattle.domain_names.proofs.WireLemmas.{IsWire-wire_of, labels_of-wire_of, wire_is}
 use Rattle.domain_nsec3.specs.{Chain.{hashed_owner, hash_fault, Hash, hash_name}, declared.hash.Hashed.Hashed, Steps.{IsHashed, IsHashOf, AreHashesOf}}
 use Rattle.domain_nsec3.specs.Steps.{HasAlikeNeighbours, IsRefusal, IsFirstRefused, name_at}
@@ -44,8 +44,9 @@ lower_text h all = map_fixed to_ascii_lowercase (base32_lower h) (each_digit (λ
 -- ---- the text of a hash within that of a name
 
 digits_text : (ds : List ℕ) → AllByRecursion (λ d. d < 32) ds → label_text (map lower_digit ds) ≡ map lower_digit ds
+unfolding octet_text
 digits_text [] all = refl
-digits_text (d ∷ ds) all = grind (arith, common_steps, ordinary_octet, (digits_text ds all.1))
+digits_text (d ∷ ds) all = grind (arith, common_steps, (digits_text ds all.1))
 
 hash_text : (h : List ℕ) → AreOctets h → label_text (base32_lower h) ≡ base32_lower h
 hash_text h all = digits_text (base32_from 1 0 h) (recursion_from_All (λ d. d < 32) (base32_from 1 0 h) (are_small h all))

@@ -6,9 +6,7 @@
 //!   [`ArrayBuilder`] has room in the value itself alone.
 //! - [`Parser`] reads from the front, numbers with the octet that weighs most first (RFC 1035,
 //!   section 2.3.2), and stands where it stood after a refusal.
-//! - An [`OctetSet`] is a set of octets, [`prefix_len`] how many octets of it some octets begin
-//!   with, and [`are_all`] whether all are of it, found many at a time. [`push_words`] takes the
-//!   words of a line.
+//! - [`push_words`] takes the words of a line.
 //! - [`Formatter`] takes the pieces of a zone file's text, and [`ZonefileFmt`] is a value that has
 //!   some.
 //!
@@ -22,7 +20,6 @@ mod convert;
 mod error;
 mod formatter;
 pub mod laws;
-mod octet_set;
 mod octets;
 mod parser;
 mod small;
@@ -36,7 +33,6 @@ pub use builder::{
 pub use convert::{CopyOctets, EmptyOctets, FlattenInto, OctetsFrom};
 pub use error::{AppendError, OutOfMemory, ParseError};
 pub use formatter::{Formatter, Piece, PieceFormatter};
-pub use octet_set::{OctetSet, are_all, prefix_len};
 pub use octets::{Octets, TryClone};
 pub use parser::Parser;
 pub use small::{SmallBuilder, SmallOctets};
