@@ -1,8 +1,8 @@
 -- Octets: the word for them, the limits of builders, octets that were written over others or are read
 -- from the front, and what errors say.
-use Rattle.std.specs.{Prelude.{ℕ, List, ◌<◌, All, Option, None, Some, ◌≡◌, ◌++◌, length, take, drop, ◌≤◌, ◌+◌, codes}, List.refill}
+use Rattle.std.specs.{Prelude.{ℕ, List, ◌<◌, All, Option, None, Some, ◌≡◌, ◌++◌, length, take, drop, ◌+◌, codes}, List.refill}
 use Rattle.std.proofs.{Common.{ap, ◌∙◌}, Math.Seq.take-append_seam}
-use Rattle.domain_octets.specs.declared.{small.Held.{Held, TheVariants.{Inside, Outside}}, error.AppendError.AppendError}
+use Rattle.domain_octets.specs.declared.error.AppendError.{AppendError}
 use Rattle.domain_octets.specs.declared.error.ParseError.{ParseError}
 use Rattle.domain_octets.specs.declared.error.AppendError.TheVariants as append_error
 use Rattle.domain_octets.specs.declared.error.ParseError.TheVariants as parse_error
@@ -40,15 +40,6 @@ refilled n old new same =
 -- how many octets lie in the value itself at most
 abbrev pub room_inside : ℕ
 room_inside = 30
-
-abbrev pub held_octets : Held → Octets
-held_octets (Inside len octets) = take len octets
-held_octets (Outside octets) = octets.items
-
--- those inside have room there, and those outside have none
-abbrev pub IsHeldRight : Held → Type 0
-IsHeldRight (Inside len octets) = len ≤ room_inside
-IsHeldRight (Outside octets) = room_inside < length octets.items
 
 -- ---- octets that are read from the front
 
