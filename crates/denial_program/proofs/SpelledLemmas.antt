@@ -7,7 +7,7 @@ use Rattle.domain_octets.specs.Octets.{AreOctets, Octets}
 use Rattle.domain_names.{specs.Name.{IsName, Name, Tokens}, proofs.TextLemmas.name_is_valid}
 use Rattle.domain_base.specs.Scan.{IsNumber}
 use Rattle.domain_base.specs.Types as rtypes
-use Rattle.domain_codecs.{specs.Codec.{base32_digits, base32_octets, base32_value}, proofs.{CodecLemmas.widens, Base32Lemmas.{IsScale, no_bits}}}
+use Rattle.domain_codecs.{specs.Codec.{base32_digits, base32_octets, base32_value}, proofs.CodecLemmas.IsScale}
 use Rattle.domain_bitmap.{specs.{Blocks.IsBitmap, Text.{OwnerHashText, SaltText, dash, digits, is_among}}, proofs.BitmapLemmas.IsBitmap-bitmap_octets}
 use Rattle.domain_fields.specs.Layout.{Fits, Values}
 use Rattle.domain_chain_rdata.specs.{Text.Nsec3paramText, Rdata.{hash_fields, nsec3param, nsec3_values, nsec3param_values}}
@@ -44,7 +44,6 @@ groups_small scale rest (x ∷ xs) s r d =
     grind (
       arith,
       common_steps,
-      widens,
       (groups_small (32 * scale) (32 * rest + x) xs),
       (groups_small (32 * scale / 256) ((32 * rest + x) % (32 * scale / 256)) xs),
     )
@@ -61,7 +60,7 @@ spelled_hash : (text hash : Octets) → OwnerHashText text hash → AreCounted h
 spelled_hash text hash t = (
   omega (arith, t.counted),
   All-from_recursion (λ o. o < 256) hash (subst (AllByRecursion (λ o. o < 256)) (sym t.decoded.value)
-      (groups_small 1 0 (base32_digits text) no_bits (omega arith) (digits_small text))),
+      (groups_small 1 0 (base32_digits text) (inl refl) (omega arith) (digits_small text))),
 )
 
 number_fits : (bits : ℕ) (text : Octets) (n : ℕ) → IsNumber bits text n → n < 2 ^ bits

@@ -5,7 +5,7 @@ use Rattle.std.proofs.lemmas.{Bool.{and_parts, not-true, or_left, or_right, case
 use Rattle.std.{proofs.lemmas.List.{drop_all, length-drop, Elements.recursion_from_All, Sums.list_all-from_AllPass}, specs.Option.option_map_or}
 use Rattle.std.specs.{Cmp.Lexicographic.{slice_cmp, nat_list_cmp_total, bytes_decides}, List.{AllByRecursion, Contains, list_any, find, range_with_len}}
 use Rattle.std.specs.{Ordering.{is_ne, nat_cmp, is_eq}, Prelude.{Ok, Err, filter}, declared.cmp.Ordering.TheVariants.Greater}
-use Rattle.domain_codecs.{proofs.{CodecLemmas.{digit_at, widens}, Base32Lemmas.IsScale}, specs.{Base32.base32_lower, Codec.{base32_octets, base32_digits}}}
+use Rattle.domain_codecs.{proofs.CodecLemmas.{digit_at, IsScale}, specs.{Base32.base32_lower, Codec.{base32_octets, base32_digits}}}
 use Rattle.domain_codecs.specs.Codec.{IsBase32}
 use Rattle.domain_octets.specs.Octets.{Octets, AreOctets}
 use Rattle.domain_names.specs.Name.{is_at_or_below, same_name, wire_of, is_strictly_below, lowered, Name, Label}
@@ -35,7 +35,7 @@ module _ (label hash left : Octets) (scale rest at d : ℕ) (inside : at < lengt
     (so_far : IsCompared label hash left scale rest at) where
   pub compared_narrow : 32 * scale < 256 → IsCompared label hash left (32 * scale) (32 * rest + d) (at + 1)
   unfolding base32_octets
-  compared_narrow low = grind (arith, common_steps, widens)
+  compared_narrow low = grind (arith, common_steps)
 
   module _ (high : 256 ≤ 32 * scale) where
     -- the next octet, and those after it
@@ -54,7 +54,7 @@ module _ (label hash left : Octets) (scale rest at d : ℕ) (inside : at < lengt
 
       pub compared_wide : is_ne (nat_cmp ((32 * rest + d) / (32 * scale / 256)) octet) ≡ false
           → IsCompared label hash after (32 * scale / 256) ((32 * rest + d) % (32 * scale / 256)) (at + 1)
-      compared_wide tie = grind (arith, common_steps, widens, compared_octet)
+      compared_wide tie = grind (arith, common_steps, compared_octet)
 
 -- a label that is read to its end
 pub compared_end : (label hash left : Octets) (scale rest at : ℕ) → length label ≤ at → IsCompared label hash left scale rest at

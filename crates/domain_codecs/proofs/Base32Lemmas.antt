@@ -1,6 +1,6 @@
 -- Base 32 with the extended hex alphabet: its digits, its order, and that it is read back.
 use Rattle.std.proofs.Common.{ℕ, ◌≡◌, min, ◌+◌, ◌*◌, ◌/◌, ◌%◌, ◌<◌, ◌≤◌, zero-add, List, [], ◌∷◌, ◌++◌, length, get_or, map, take, drop, refl, sym, ap, ◌∙◌}
-use Rattle.std.proofs.{Common.{arith, lit<, ◌-◌, All, true, Some, Ordering, zero, suc, ap₂}, lemmas.List.{append-nil, take_all, drop_all, take-map}}
+use Rattle.std.proofs.{Common.{arith, ◌-◌, All, true, Some, Ordering, zero, suc, ap₂}, lemmas.List.{append-nil, take_all, drop_all, take-map}}
 use Rattle.std.proofs.lemmas.List.{length-map, append_assoc, Elements.{recursion_from_All, All-map, All-weaker, All-from_recursion}}
 use Rattle.std.proofs.lemmas.{List.FromFn.get_or-range_with_len, Grind.common_steps, Bool.Decides.nat_tests, Str.Ascii.IsAscii-from_all}
 use Rattle.std.specs.{List.{AllByRecursion as ByRecursion, range_with_len, AllByRecursion, flat_map, list_all}, Str.IsAscii, Prelude.replicate}
@@ -9,19 +9,6 @@ use Rattle.std.specs.{Ordering.ordering_reverse, Cmp.{tied_itself, Lexicographic
 use Rattle.domain_codecs.specs.Base32.{base32_from, lower_digit, upper_digit, AreDigits, base32_lower, base32_upper, octet_bits, digit_bits, filled_bits}
 use Rattle.domain_codecs.specs.{declared.codec.Codec.TheVariants.Base32Hex, Codec.{base32_value, is_digit, is_base32_length, base32_octets, base32_digits}}
 use Rattle.domain_codecs.specs.Codec.{IsBase32}
-
--- ---- bits between octets and digits of five bits
-
--- how many values the bits can have that are left over, where less than an octet is
-pub data IsScale : ℕ → Type 0 where
-  no_bits : IsScale 1
-  one_bit : IsScale 2
-  two_bits : IsScale 4
-  three_bits : IsScale 8
-  four_bits : IsScale 16
-  five_bits : IsScale 32
-  six_bits : IsScale 64
-  seven_bits : IsScale 128
 
 -- ---- digits of five bits, one after another
 
@@ -58,13 +45,8 @@ many count = (8 * count + 4) / 5
 
 digits_of_group : (xs : List ℕ) → length xs ≤ 5 → base32_from 1 0 xs ≡ take (many (length xs)) (eight (padded xs))
 unfolding base32_from
-digits_of_group [] short = refl
-digits_of_group (a ∷ []) short = grind (arith, common_steps)
-digits_of_group (a ∷ b ∷ []) short = grind (arith, common_steps)
-digits_of_group (a ∷ b ∷ c ∷ []) short = grind (arith, common_steps)
-digits_of_group (a ∷ b ∷ c ∷ d ∷ []) short = grind (arith, common_steps)
-digits_of_group (a ∷ b ∷ c ∷ d ∷ e ∷ []) short = grind (arith, common_steps)
 digits_of_group (a ∷ b ∷ c ∷ d ∷ e ∷ f ∷ xs) short = absurd (omega arith)
+digits_of_group xs short = grind (arith, common_steps)
 
 -- the characters of the digits of at most five octets
 pub spelled_five : (f : ℕ → ℕ) (xs : List ℕ) → length xs ≤ 5 → take (many (length xs)) (map f (eight (padded xs))) ≡ map f (base32_from 1 0 xs)
@@ -77,20 +59,12 @@ alone xs count is = rw (is, take_all (length xs) xs (omega arith), drop_all (len
 pub next_left : (xs : List ℕ) (count : ℕ) → count ≡ min (length xs) 5
     → base32_from 1 0 xs ≡ base32_from 1 0 (take count xs) ++ base32_from 1 0 (drop count xs)
 next_left (a ∷ b ∷ c ∷ d ∷ e ∷ xs) count is = grind (arith, common_steps, five_octets, digits_of_group)
-next_left [] count is = alone [] count (omega (arith, is))
-next_left (a ∷ []) count is = alone (a ∷ []) count (omega (arith, is))
-next_left (a ∷ b ∷ []) count is = alone (a ∷ b ∷ []) count (omega (arith, is))
-next_left (a ∷ b ∷ c ∷ []) count is = alone (a ∷ b ∷ c ∷ []) count (omega (arith, is))
-next_left (a ∷ b ∷ c ∷ d ∷ []) count is = alone (a ∷ b ∷ c ∷ d ∷ []) count (omega (arith, is))
+next_left xs count is = alone xs count (omega (arith, is))
 
 -- how many digits octets have
 pub many_digits : (xs : List ℕ) → length (base32_from 1 0 xs) ≡ many (length xs)
 many_digits (a ∷ b ∷ c ∷ d ∷ e ∷ xs) = omega (arith, ap length (five_octets a b c d e xs), many_digits xs)
-many_digits [] = ap length no_digits
-many_digits (a ∷ []) = ap length (digits_of_group (a ∷ []) (lit< tt))
-many_digits (a ∷ b ∷ []) = ap length (digits_of_group (a ∷ b ∷ []) (lit< tt))
-many_digits (a ∷ b ∷ c ∷ []) = ap length (digits_of_group (a ∷ b ∷ c ∷ []) (lit< tt))
-many_digits (a ∷ b ∷ c ∷ d ∷ []) = ap length (digits_of_group (a ∷ b ∷ c ∷ d ∷ []) (lit< tt))
+many_digits xs = ap length (digits_of_group xs (omega arith))
 
 -- the alphabets
 abbrev lower_alphabet : List ℕ
@@ -191,12 +165,8 @@ digits_are_groups octets small =
 
 back : (xs : List ℕ) → AllByRecursion (λ octet. octet < 256) xs → base32_octets 1 0 (base32_from 1 0 xs) ≡ xs
 unfolding base32_octets base32_from
-back [] h = refl
-back (a ∷ []) h = grind (arith, common_steps)
-back (a ∷ b ∷ []) h = grind (arith, common_steps)
-back (a ∷ b ∷ c ∷ []) h = grind (arith, common_steps)
-back (a ∷ b ∷ c ∷ d ∷ []) h = grind (arith, common_steps)
 back (a ∷ b ∷ c ∷ d ∷ e ∷ xs) h = grind (arith, common_steps, (back xs h.1.1.1.1.1))
+back xs h = grind (arith, common_steps)
 
 -- ---- the digits, and how many there are
 
@@ -205,12 +175,8 @@ AreSmall = AllByRecursion (λ d. d < 32)
 
 small : (xs : List ℕ) → AllByRecursion (λ octet. octet < 256) xs → AreSmall (base32_from 1 0 xs)
 unfolding base32_from
-small [] h = tt
-small (a ∷ []) h = grind (arith, common_steps)
-small (a ∷ b ∷ []) h = grind (arith, common_steps)
-small (a ∷ b ∷ c ∷ []) h = grind (arith, common_steps)
-small (a ∷ b ∷ c ∷ d ∷ []) h = grind (arith, common_steps)
 small (a ∷ b ∷ c ∷ d ∷ e ∷ xs) h = grind (arith, common_steps, (small xs h.1.1.1.1.1))
+small xs h = grind (arith, common_steps)
 
 counts : (n : ℕ) → is_base32_length ((8 * n + 4) / 5) ≡ true
 counts n = grind (arith, nat_tests)
@@ -293,13 +259,11 @@ octets_keep a b xs ys small other =
 -- digits are in the order of their number_bits
 digits_keep : (xs ys : List ℕ) → AllByRecursion (λ digit. digit < 32) xs → AllByRecursion (λ digit. digit < 32) ys
     → slice_cmp nat_cmp (flat_map digit_bits xs) (flat_map digit_bits ys) ≡ slice_cmp nat_cmp xs ys
-digits_keep [] [] small other = refl
-digits_keep [] (y ∷ ys) small other = refl
-digits_keep (x ∷ xs) [] small other = refl
 digits_keep (x ∷ xs) (y ∷ ys) small other =
     ap₂ (λ s t. slice_cmp nat_cmp (s ++ flat_map digit_bits xs) (t ++ flat_map digit_bits ys)) (digit_is_bits x) (digit_is_bits y)
     ∙ bits_keep 5 x y (flat_map digit_bits xs) (flat_map digit_bits ys) small.0 other.0
     ∙ ap (ordering_then (nat_cmp x y)) (digits_keep xs ys small.1 other.1)
+digits_keep xs ys small other = grind (arith, common_steps)
 
 zeros_first : (count : ℕ) (digits : List ℕ) → count < length digits → slice_cmp nat_cmp (replicate count 0) digits ≡ Less
 zeros_first count [] more = absurd (omega (arith, more))
@@ -329,10 +293,8 @@ digits_keep_order xs ys xs_small ys_small =
 
 -- a map that keeps the order of numbers keeps the order of lists
 map_keeps : (f : ℕ → ℕ) → ((a b : ℕ) → nat_cmp (f a) (f b) ≡ nat_cmp a b) → (xs ys : List ℕ) → slice_cmp nat_cmp (map f xs) (map f ys) ≡ slice_cmp nat_cmp xs ys
-map_keeps f keep [] [] = refl
-map_keeps f keep [] (y ∷ ys) = refl
-map_keeps f keep (x ∷ xs) [] = refl
 map_keeps f keep (x ∷ xs) (y ∷ ys) = rw (keep x y) (ap (ordering_then (nat_cmp x y)) (map_keeps f keep xs ys))
+map_keeps f keep xs ys = grind (arith, common_steps)
 
 digit_keeps : (f : ℕ → ℕ) → ((a b : ℕ) → a < b → f a < f b) → (a b : ℕ) → nat_cmp (f a) (f b) ≡ nat_cmp a b
 digit_keeps f grows a b = grind (arith, common_steps)

@@ -1,33 +1,21 @@
 -- Texts in any base: how they are decoded, with room or without, and that they have no blanks.
-use Rattle.std.proofs.Common.{◌≡◌, ℕ, ◌+◌, ◌*◌, ◌/◌, ◌%◌, ◌<◌, ◌≤◌, List, [], ◌∷◌, ◌++◌, length, get_or, take, drop, refl, sym, ap, ◌∙◌, arith, lit<, ◌≢◌}
-use Rattle.std.{proofs.{Common.{true, false, map, rules}, lemmas.{List.{take_more, append-nil, drop_all}, Grind.common_steps}}, specs.Prelude.unwrap_or}
+use Rattle.std.proofs.Common.{◌≡◌, ℕ, ◌+◌, ◌*◌, ◌/◌, ◌%◌, ◌<◌, ◌≤◌, List, [], ◌∷◌, ◌++◌, length, get_or, take, drop, refl, sym, ap, ◌∙◌, arith, lit<, ◌≢◌, inl}
+use Rattle.std.{proofs.{Common.{true, false, map, rules, ◌⊎◌}, lemmas.{List.{take_more, append-nil, drop_all}, Grind.common_steps}}, specs.Prelude.unwrap_or}
 use Rattle.std.specs.{Prelude.{replicate, not, zero, suc}, List.list_all}
 use Rattle.hex.specs.Hex.{encode_with, encode_lower, encode_upper, lower_digits, upper_digits}
-use Rattle.domain_codecs.proofs.Base32Lemmas.{IsScale, no_bits, one_bit, two_bits, three_bits, four_bits, five_bits, six_bits, seven_bits}
 use Rattle.domain_codecs.specs.{Codec.{base32_value, base32_octets, base32_digits, IsBase32}, Base32.{base32_from, base32_upper, base32_lower}}
 use Rattle.base64.specs.{GeneralPurpose.encode_of, Engines.standard, Rfc4648.encode_symbols}
 use Rattle.domain_octets.{specs.Text.{HasNoBlank, IsWord, is_blank}, proofs.WordLemmas.no_blank-append}
 
 -- ---- texts that are decoded
 
--- what a digit of five bits makes of it
-pub record Widens (scale : ℕ) : Type 0 where
-  pub some : 0 < scale
-  pub small : scale ≤ 128
-  pub narrow : 32 * scale < 256 → IsScale (32 * scale)
-  pub wide : 256 ≤ 32 * scale → IsScale (32 * scale / 256)
-  pub left : 256 ≤ 32 * scale → 0 < 32 * scale / 256
-  pub octet : (value : ℕ) → 256 ≤ 32 * scale → value < 32 * scale → value / (32 * scale / 256) < 256
+-- how many values the bits can have that are left over, where less than an octet is
+abbrev pub IsScale : ℕ → Type 0
+IsScale scale = (scale ≡ 1) ⊎ (scale ≡ 2) ⊎ (scale ≡ 4) ⊎ (scale ≡ 8) ⊎ (scale ≡ 16) ⊎ (scale ≡ 32) ⊎ (scale ≡ 64) ⊎ (scale ≡ 128)
 
-pub widens : (scale : ℕ) → IsScale scale → Widens scale
-widens scale no_bits = grind (arith, common_steps, five_bits)
-widens scale one_bit = grind (arith, common_steps, six_bits)
-widens scale two_bits = grind (arith, common_steps, seven_bits)
-widens scale three_bits = grind (arith, common_steps, no_bits)
-widens scale four_bits = grind (arith, common_steps, one_bit)
-widens scale five_bits = grind (arith, common_steps, two_bits)
-widens scale six_bits = grind (arith, common_steps, three_bits)
-widens scale seven_bits = grind (arith, common_steps, four_bits)
+-- eight bits are taken of a value where there are so many
+pub octet_fits : (scale value : ℕ) → IsScale scale → 256 ≤ 32 * scale → value < 32 * scale → value / (32 * scale / 256) < 256
+octet_fits scale value is wide small = grind (arith, common_steps)
 
 -- a text in Base 32 that is read up to a place
 pub record Digits (text octets : List ℕ) (scale rest at : ℕ) : Type 0 where
@@ -36,21 +24,21 @@ pub record Digits (text octets : List ℕ) (scale rest at : ℕ) : Type 0 where
   pub read : octets ++ base32_octets scale rest (base32_digits (drop at text)) ≡ base32_octets 1 0 (base32_digits text)
 
 pub digits_begin : (text : List ℕ) → Digits text [] 1 0 0
-digits_begin text = record { scale_is = no_bits; below = lit< tt; read = refl }
+digits_begin text = record { scale_is = inl refl; below = lit< tt; read = refl }
 
 abbrev pub digit_at : List ℕ → ℕ → ℕ
 digit_at text at = unwrap_or (base32_value (get_or text at 0)) 0
 
-module _ (text octets : List ℕ) (scale rest at : ℕ) (inside : at < length text) (small : digit_at text at < 32)
-    (so_far : Digits text octets scale rest at) where
-  pub digits_narrow : (32 * scale < 256) → Digits text octets (32 * scale) (32 * rest + digit_at text at) (at + 1)
+module _ (text octets : List ℕ) (scale rest at digit : ℕ) (so_far : Digits text octets scale rest at) (inside : at < length text)
+    (is : digit ≡ digit_at text at) (small : digit < 32) where
+  pub digits_narrow : 32 * scale < 256 → Digits text octets (32 * scale) (32 * rest + digit) (at + 1)
   unfolding base32_octets
-  digits_narrow low = grind (arith, common_steps, widens)
+  digits_narrow low = grind (arith, common_steps)
 
-  pub digits_wide : (256 ≤ 32 * scale) → Digits text (octets ++ ((32 * rest + digit_at text at) / (32 * scale / 256)) ∷ [])
-      (32 * scale / 256) ((32 * rest + digit_at text at) % (32 * scale / 256)) (at + 1)
+  pub digits_wide : 256 ≤ 32 * scale → Digits text (octets ++ ((32 * rest + digit) / (32 * scale / 256)) ∷ []) (32 * scale / 256)
+      ((32 * rest + digit) % (32 * scale / 256)) (at + 1)
   unfolding base32_octets
-  digits_wide high = grind (arith, common_steps, widens)
+  digits_wide high = grind (arith, common_steps)
 
 -- what is left of a text that is read to its end
 pub digits_end : (text octets : List ℕ) (scale rest at : ℕ) → length text ≤ at → Digits text octets scale rest at
@@ -71,7 +59,10 @@ encode_more table octets i inside = ap (encode_with table) (take_more octets i 0
 
 pub digits_all : (text octets whole : List ℕ) (scale rest at : ℕ) → IsBase32 text whole → length text ≤ at
     → Digits text octets scale rest at → IsBase32 text octets
-digits_all text octets whole scale rest at is done so_far = grind (arith, common_steps, digits_end)
+digits_all text octets whole scale rest at is done so_far =
+    record { digits = is.digits; whole = is.whole; value = digits_end text octets scale rest at done so_far }
+
+pub ruleset digits_steps = (common_steps, digits_begin, digits_narrow, digits_wide, digits_all, octet_fits)
 
 -- ---- what octets are written as has no blanks, and is one word where there are any octets
 
@@ -127,10 +118,8 @@ symbols_plain table (a ∷ b ∷ c ∷ octets) plain = grind (arith, common_step
 
 symbols_some : (table octets rest : List ℕ) → octets ≢ [] → encode_symbols table octets ++ rest ≢ []
 unfolding encode_symbols
-symbols_some table [] rest some = absurd (some refl)
-symbols_some table (a ∷ []) rest some = λ none. cc
-symbols_some table (a ∷ b ∷ []) rest some = λ none. cc
 symbols_some table (a ∷ b ∷ c ∷ octets) rest some = λ none. cc
+symbols_some table octets rest some = λ none. grind (arith, common_steps)
 
 padding_plain : (n : ℕ) → HasNoBlank (replicate n 61)
 padding_plain zero = tt

@@ -131,15 +131,8 @@ eights : (n : ℕ) (front back : List ℕ) → length front ≡ 8 * n → base32
 unfolding base32_octets
 eights zero [] back size = refl
 eights zero (a ∷ front) back size = absurd (omega arith)
-eights (suc n) [] back size = absurd (omega arith)
-eights (suc n) (a ∷ []) back size = absurd (omega arith)
-eights (suc n) (a ∷ b ∷ []) back size = absurd (omega arith)
-eights (suc n) (a ∷ b ∷ c ∷ []) back size = absurd (omega arith)
-eights (suc n) (a ∷ b ∷ c ∷ d ∷ []) back size = absurd (omega arith)
-eights (suc n) (a ∷ b ∷ c ∷ d ∷ e ∷ []) back size = absurd (omega arith)
-eights (suc n) (a ∷ b ∷ c ∷ d ∷ e ∷ f ∷ []) back size = absurd (omega arith)
-eights (suc n) (a ∷ b ∷ c ∷ d ∷ e ∷ f ∷ g ∷ []) back size = absurd (omega arith)
 eights (suc n) (a ∷ b ∷ c ∷ d ∷ e ∷ f ∷ g ∷ h ∷ front) back size = grind (arith, common_steps, (eights n front back (omega arith)))
+eights (suc n) front back size = absurd (omega (arith, size))
 
 halves32 : (piece after octets : List ℕ) → length piece ≡ 64 → IsBase32 (piece ++ after) octets → Halves Base32Hex piece after octets
 halves32 piece after octets full decoded =

@@ -13,7 +13,7 @@ use domain_octets::{AppendError, EmptyBuilder, FromBuilder};
 use std::alloc::Global;
 
 /// Writes the octets that digits of Base 32 hex stand for to a buffer, and gives their number.
-#[tactic(auto, using(crate::proofs::CodecLemmas::digits_begin))]
+#[tactic(auto, using(crate::proofs::CodecLemmas::digits_steps))]
 fn decode_base32(digits: &[u8], octets: &mut [u8; 64]) -> usize
     requires text { IsText Codec.Base32Hex digits.now }
     requires small { length digits.now ≤ 64 }
@@ -29,12 +29,12 @@ fn decode_base32(digits: &[u8], octets: &mut [u8; 64]) -> usize
         if wider < 256 {
             scale = wider;
             rest = value;
-        } else {
-            scale = wider / 256;
-            rest = value % scale;
-            octets[count] = (value / scale) as u8;
-            count += 1;
+            continue;
         }
+        scale = wider / 256;
+        rest = value % scale;
+        octets[count] = (value / scale) as u8;
+        count += 1;
     }
     count
 }

@@ -1,12 +1,11 @@
 -- The canonical order of names, and what is at or below a name.
 use Rattle.std.proofs.Common.{◌≡◌, ℕ, zero, suc, ◌+◌, ◌-◌, ◌≤◌, List, [], ◌∷◌, ◌++◌, length, min, take, drop, map, reverse, Bool, cond, ap, arith, nat_eq}
-use Rattle.std.proofs.{Common.{◌<◌, refl, sym, ◌∙◌, length-append, w8, w64, Fits, ◌⊎◌, get_or, subst, Option, None, Some}, lemmas.Grind.common_steps}
-use Rattle.std.proofs.lemmas.List.{drop-map, take-append-drop, length-map, drop_at, append-nil, append_assoc, get_or-drop, Sums.common_prefix_len-le}
+use Rattle.std.proofs.{Common.{◌<◌, refl, sym, ◌∙◌, length-append, ◌⊎◌, get_or, subst, Option, None, Some}, lemmas.Grind.common_steps}
+use Rattle.std.proofs.lemmas.List.{drop-map, take-append-drop, length-map, drop_at, append-nil, append_assoc, Sums.common_prefix_len-le}
 use Rattle.std.specs.{declared.cmp.Ordering.Ordering, Ordering.{ordering_then, nat_cmp, is_eq}, Char.to_ascii_lowercase, List.common_prefix_len}
 use Rattle.std.specs.{List.AllByRecursion, Prelude.true, Cmp.Lexicographic.{slice_cmp, pointwise, bytes_decides, lists_ties, texts_ties, pointwise_decides}}
 use Rattle.std.{specs.{Cmp.Lexicographic.nat_list_cmp_total, Bool.Decides}, proofs.lemmas.{List.Elements.{All-map, All-weaker}, Bool.Decides.nat_tests}}
-use Rattle.std.{specs.{Cmp.{both_ways, tied_itself}, declared.cmp.Ordering.TheVariants.Equal, Array.IsWholeChunk}, proofs.lemmas.Nat.le_bytes_8}
-use Rattle.std.specs.Int.{from_le_bytes, to_le_bytes}
+use Rattle.std.{specs.{Cmp.{both_ways, tied_itself}, declared.cmp.Ordering.TheVariants.Equal}}
 use Rattle.domain_names.specs.Name.{canonical_cmp, common_labels, from_root, Name, Label, wire_of, lowered, IsLabel, IsName, IsSame, IsAtOrBelow}
 use Rattle.domain_names.specs.{Name.{is_at_or_below, same_name}, Wire.{labels_of, IsWire}, Laws.{same_name_same, EndAlike, EndsIn, Part, order_below}}
 use Rattle.domain_names.proofs.WireLemmas.{labels_of-wire_of, wire_is, length-wire}
@@ -17,9 +16,8 @@ module _ {X : Type 0} (R : X → X → Ordering) (e : X → X → Bool) where
   -- one element more on both lists
   push : (xs ys : List X) (x y : X) → length xs ≡ length ys → (slice_cmp R (xs ++ x ∷ []) (ys ++ y ∷ []) ≡ ordering_then (slice_cmp R xs ys) (R x y))
       × (common_prefix_len e (xs ++ x ∷ []) (ys ++ y ∷ []) ≡ common_prefix_len e xs ys + cond (pointwise e (xs ++ x ∷ []) (ys ++ y ∷ [])) 1 0)
-  push [] ys x y same = grind (arith, common_steps)
-  push (a ∷ as') [] x y same = absurd (omega (arith, same))
   push (a ∷ as') (b ∷ bs) x y same = grind (arith, common_steps, (push as' bs x y (omega (arith, same))))
+  push xs ys x y same = grind (arith, common_steps)
 
   -- the lists cut to one length, and then their lengths
   cut : (k : ℕ) (xs ys : List X) → k ≡ min (length xs) (length ys)
@@ -219,31 +217,6 @@ last_octet name wire = subst (λ (l : List ℕ). drop (length l - 1) l ≡ 0 ∷
 pub alike_root : (a b : List ℕ) → IsWire a → IsWire b → EndAlike a b 1
 alike_root a b a_wire b_wire = grind (arith, common_steps, length-wire, last_octet)
 
--- eight octets that are the same number
-last_eight : (a x : List ℕ) (n : ℕ) → IsWholeChunk (drop (length a - 8) a) x 8 → ((i : ℕ) → Fits w8 (get_or a i 0))
-    → n ≡ from_le_bytes w64 x → to_le_bytes w64 n ≡ drop (length a - 8) a
-last_eight a x n x_is octets is = le_bytes_8 _ n x_is.long
-    (λ i. let fits = octets (length a - 8 + i) in rw get_or-drop (omega (arith, fits))) (is ∙ ap (from_le_bytes w64) x_is.same)
-
-pub alike_eight : (a b x y : List ℕ) → 8 ≤ length a → 8 ≤ length b → IsWholeChunk (drop (length a - 8) a) x 8 → IsWholeChunk (drop (length b - 8) b) y 8
-    → ((i : ℕ) → Fits w8 (get_or a i 0)) → ((i : ℕ) → Fits w8 (get_or b i 0)) → from_le_bytes w64 x ≡ from_le_bytes w64 y → EndAlike a b 8
-alike_eight a b x y in_a in_b x_is y_is a_octets b_octets same =
-    record { in_left = in_a; in_right = in_b; same = sym (last_eight a x _ x_is a_octets refl) ∙ last_eight b y _ y_is b_octets same }
-
--- so many octets more, before those that are known to be alike
-joined_end : (a : List ℕ) (count more : ℕ) → count + more ≤ length a
-    → drop (length a - (count + more)) a ≡ drop (length (take (length a - count) a) - more) (take (length a - count) a)
-    ++ drop (length a - count) a
-joined_end a count more within = grind (arith, common_steps, (take-append-drop (length a - count) a))
-
-pub alike_before : (a b : List ℕ) (count more : ℕ) → EndAlike a b count
-    → EndAlike (take (length a - count) a) (take (length b - count) b) more → EndAlike a b (count + more)
-alike_before a b count more alike before = grind (arith, common_steps, joined_end)
-
-one_before : (name : List ℕ) (count place : ℕ) → count < length name → place ≡ length name - 1 - count
-    → drop (length name - (count + 1)) name ≡ get_or name place 0 ∷ drop (length name - count) name
-one_before name count place inside is = grind (arith, common_steps)
-
 -- one octet more
 pub alike_more : (a b : List ℕ) (count i j : ℕ) → EndAlike a b count → count < length a → count < length b
     → i ≡ length a - 1 - count → j ≡ length b - 1 - count → get_or a i 0 ≡ get_or b j 0 → EndAlike a b (count + 1)
@@ -252,10 +225,8 @@ alike_more a b count i j alike in_a in_b i_is j_is same = grind (arith, common_s
 -- octets of which one list is at its end
 pub lengths_decide : (a b : List ℕ) (i : ℕ) → i ≡ min (length a) (length b)
     → nat_cmp (length a) (length b) ≡ slice_cmp nat_cmp (map to_ascii_lowercase (drop i a)) (map to_ascii_lowercase (drop i b))
-lengths_decide [] b i is = grind (arith, common_steps)
-lengths_decide (x ∷ a) [] i is = grind (arith, common_steps)
-lengths_decide (x ∷ a) (y ∷ b) zero is = absurd (omega arith)
 lengths_decide (x ∷ a) (y ∷ b) (suc i) is = grind (arith, common_steps, (lengths_decide a b i (omega arith)))
+lengths_decide a b i is = grind (arith, common_steps)
 
 pub ruleset alike_steps = (common_steps, length-wire, alike_root, alike_more)
 

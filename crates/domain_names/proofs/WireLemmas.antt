@@ -110,15 +110,14 @@ no_name_fault octets fault found labels after valid is = no_fault_by 0 octets fa
 -- octets begin with one name at most
 pub one_reading : (xs ys : Name) (a b : List ℕ) → AllByRecursion IsLabel xs → AllByRecursion IsLabel ys
     → wire_of xs ++ a ≡ wire_of ys ++ b → (xs ≡ ys) × (a ≡ b)
-one_reading [] [] a b xs_valid ys_valid same = (refl, cc)
-one_reading [] (y ∷ ys) a b xs_valid ys_valid same = grind (arith, common_steps)
-one_reading (x ∷ xs) [] a b xs_valid ys_valid same = grind (arith, common_steps)
 one_reading (x ∷ xs) (y ∷ ys) a b xs_valid ys_valid same =
     let long : length x ≡ length y = cc in
     let tails : (x ++ wire_of xs) ++ a ≡ (y ++ wire_of ys) ++ b = cc in
     let joined : x ++ (wire_of xs ++ a) ≡ y ++ (wire_of ys ++ b) = sym (append_assoc x _ a) ∙ tails ∙ append_assoc y _ b in
     let heads : x ≡ y = sym (take_at x _ _ refl) ∙ ap (take (length x)) joined ∙ take_at y _ _ (sym long) in
     let rest = one_reading xs ys a b xs_valid.1 ys_valid.1 (rest_of x _ y _ long joined) in grind (arith, common_steps)
+one_reading [] (y ∷ ys) a b xs_valid ys_valid same = grind (arith, common_steps)
+one_reading xs ys a b xs_valid ys_valid same = grind (arith, common_steps)
 
 pub no_fault : (octets : List ℕ) (fault : Fault) → WholeNameFault octets fault → IsWire octets → ⊥
 no_fault octets fault (in_name o f found) wire = no_name_fault o f found (labels_of o) [] wire.valid (wire.spelled ∙ sym (append-nil _))

@@ -236,15 +236,12 @@ fn write_octet<W: fmt::Write>(octet: u8, f: &mut fmt::Formatter<W>) -> fmt::Resu
     }
 }
 
-/// Whether an octet is written as the character that it is. Asks first of letters in lower case,
-/// and then of digits.
+/// Whether an octet is written as the character that it is.
 #[tactic(auto, unfolding(crate::specs::Text::octet_text))]
 fn is_ordinary(octet: u8) -> bool
     ensures { IsTrue result → octet_text octet ≡ octet ∷ [] }
 {
-    (octet > b'\\' && octet <= b'~')
-        || (octet > b'.' && octet < b';')
-        || (octet.is_ascii_graphic() && !is_special(octet))
+    octet.is_ascii_graphic() && !is_special(octet)
 }
 
 /// Whether all octets of a label are written as the characters that they are, as those of most
@@ -270,13 +267,9 @@ fn ascii_text(octets: &[u8]) -> &str
     unsafe { str::from_utf8_unchecked(octets) }
 }
 
-#[tactic(auto, using(crate::proofs::TextLemmas::label_text_ascii, domain_octets::proofs::WordLemmas::octets_from_type))]
 fn write_label<W: fmt::Write>(label: &[u8], f: &mut fmt::Formatter<W>) -> fmt::Result
     ensures { WritesOnOk W.write_str_gives f.old result (label_text label.now) f.new }
 {
-    if is_ordinary_label(label) {
-        return f.write_str(ascii_text(label));
-    }
     for octet in label {
         write_octet(*octet, f)?;
     }

@@ -132,27 +132,6 @@ fn compare_from_root(a: &[u8], b: &[u8]) -> Comparison
     }
 }
 
-/// Whether both have eight octets, and the last eight of both are the same. Compares them at once.
-fn same_last_eight(a: &[u8], b: &[u8]) -> bool
-    ensures { IsTrue result → EndAlike a.now b.now 8 }
-{
-    match (a.last_chunk::<8>(), b.last_chunk::<8>()) {
-        (Some(x), Some(y)) => u64::from_le_bytes(*x) == u64::from_le_bytes(*y),
-        _ => false,
-    }
-}
-
-/// A number of octets that two lists end in alike: eight at a time, as far as they go.
-fn equal_eights(a: &[u8], b: &[u8]) -> usize
-    ensures { EndAlike a.now b.now result }
-{
-    let mut count = 0;
-    'eights: while same_last_eight(&a[..a.len() - count], &b[..b.len() - count]) {
-        count += 8;
-    }
-    count
-}
-
 /// How many octets two names end in alike, the root's among them.
 #[tactic(auto, using(crate::proofs::OrderLemmas::alike_steps))]
 fn equal_end(a: &[u8], b: &[u8]) -> usize
@@ -162,9 +141,7 @@ fn equal_end(a: &[u8], b: &[u8]) -> usize
     ensures alike { EndAlike a.now b.now result }
 {
     let most = a.len().min(b.len());
-    let eights = equal_eights(a, b);
-    let start = if eights == 0 { 1 } else { eights };
-    for count in start..most {
+    for count in 1..most {
         if a[a.len() - 1 - count] != b[b.len() - 1 - count] {
             return count;
         }

@@ -74,9 +74,7 @@ piece_text Close = closes
 abbrev pub tokens_of : List PieceText → List Octets
 tokens_of [] = []
 tokens_of (token text ∷ pieces) = text ∷ tokens_of pieces
-tokens_of (comment text ∷ pieces) = tokens_of pieces
-tokens_of (opens ∷ pieces) = tokens_of pieces
-tokens_of (closes ∷ pieces) = tokens_of pieces
+tokens_of (piece ∷ pieces) = tokens_of pieces
 
 -- the tokens with one space between them
 abbrev pub simple_text : List PieceText → Octets

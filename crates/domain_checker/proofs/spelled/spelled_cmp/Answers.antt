@@ -1,10 +1,9 @@
-use Rattle.std.{proofs.{Common.{◌≡◌, ◌*◌, ◌+◌, ◌/◌, ◌∙◌, refl, arith}, lemmas.Grind.common_steps}, specs.Ordering.nat_cmp}
-use Rattle.domain_codecs.proofs.Base32Lemmas.{no_bits}
+use Rattle.std.{proofs.{Common.{◌≡◌, ◌*◌, ◌+◌, ◌/◌, ◌∙◌, refl, arith, inl}, lemmas.Grind.common_steps}, specs.Ordering.nat_cmp}
 use Rattle.domain_checker.proofs.HashedListLemmas.{compared_apart, compared_end, compared_narrow, compared_none, compared_wide}
 use Rattle.domain_checker.proofs.spelled.spelled_cmp.Goals as goal
 
 pub loop-c-init : goal.loop-c-init
-loop-c-init c = record { scale_is = no_bits; below = omega arith; order = refl }
+loop-c-init c = record { scale_is = inl refl; below = omega arith; order = refl }
 
 pub loop-c-preserved-then-wider-lt256 : goal.loop-c-preserved-then-wider-lt256
 loop-c-preserved-then-wider-lt256 c =
