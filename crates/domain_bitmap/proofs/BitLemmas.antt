@@ -50,6 +50,27 @@ any_with p q c (suc n) k below same more = elim (eqb_tells k n) [
   | inr h ↦ grind (arith, common_steps, any_suc, (any_with p q c n k (omega (arith, below, h.1)) (λ j low. same j (omega (arith, low))) more), (same n))
 ]
 
+-- a test that fails but at one place
+pub any_only : (p : ℕ → Bool) (n k : ℕ) → k < n → ((j : ℕ) → j < n → j ≢ k → p j ≡ false) → list_any p (range_with_len 0 n) ≡ p k
+any_only p n k below fails = grind (arith, common_steps, (any_with (λ j. false) p (p k) n k below fails), (any_none (λ j. false) n (λ j inside. refl)))
+
+-- a test put before that at a place
+pub any_inserted : (p q : ℕ → Bool) (k n : ℕ) → k ≤ n → ((j : ℕ) → j < k → q j ≡ p j) → ((j : ℕ) → k ≤ j → j < n → q (j + 1) ≡ p j)
+    → list_any q (range_with_len 0 (n + 1)) ≡ (q k || list_any p (range_with_len 0 n))
+any_inserted p q k zero within before behind = grind (arith, common_steps)
+any_inserted p q k (suc n) within before behind = elim (eqb_tells k (suc n)) [
+  | inl h ↦ grind (arith, common_steps, any_more, (any_same q p (suc n)))
+  | inr h ↦
+      grind (
+        arith,
+        common_steps,
+        any_more,
+        any_suc,
+        (behind n),
+        (any_inserted p q k n (omega (arith, within, h.1)) before (λ j low high. behind j low (omega arith))),
+      )
+]
+
 -- the numbers that pass a test
 pub filter_none : (p : ℕ → Bool) (a n : ℕ) → ((j : ℕ) → a ≤ j → j < a + n → p j ≡ false) → filter p (range_with_len a n) ≡ []
 filter_none p a zero none = refl

@@ -1,18 +1,19 @@
 -- Sets of types as octets, how these are put together, and that they are the one spelling of a set.
-use Rattle.std.proofs.Common.{◌≡◌, ℕ, ◌+◌, ◌-◌, ◌*◌, ◌/◌, ◌%◌, ◌^◌, ◌<◌, ◌≢◌, true, false, List, ◌∷◌, ◌++◌, length, get_or, inl, inr, arith, length-append}
-use Rattle.std.proofs.Common.{set, get_or-set_other, rules, zero, suc, ◌≤◌, Bool, [], refl, sym, ap, ◌∙◌, zero-add, take, drop, add-one, add_comm}
-use Rattle.std.{proofs.lemmas.{Bool.Decides.{nat_tests, eqb_tells, leb_tells}, Grind.common_steps}, specs.Prelude.{◌||◌, ◌==◌, bit_or, replicate}}
-use Rattle.std.{specs.Prelude.{if◌then◌else◌, nat_lt, slice_range}, proofs.lemmas.List.FromFn.{length-map-range_with_len, get_or-map-range_with_len}}
+use Rattle.std.proofs.Common.{◌≡◌, ℕ, ◌+◌, ◌-◌, ◌*◌, ◌/◌, ◌%◌, ◌^◌, ◌<◌, ◌≢◌, true, false, List, ◌∷◌, ◌++◌, length, get_or, inl, inr, arith}
+use Rattle.std.proofs.Common.{set, rules, zero, suc, ◌≤◌, Bool, [], refl, sym, ap, ◌∙◌, zero-add, take, drop, add-one, add_comm, replicate}
+use Rattle.std.{proofs.lemmas.{Bool.Decides.{nat_tests, eqb_tells, leb_tells}, Grind.{common_steps, get_or_tail}}, specs.Prelude.{◌||◌, ◌&&◌, ◌==◌, bit_or}}
+use Rattle.std.{specs.Prelude.{if◌then◌else◌, slice_range}, proofs.lemmas.List.FromFn.{length-map-range_with_len, get_or-map-range_with_len}}
 use Rattle.std.{specs.List.{AllByRecursion, range_with_len, list_any, filter, flat_map}, proofs.{lemmas.List.{append-nil, get_or-drop}, Math.Nat.mul-suc}}
-use Rattle.std.proofs.lemmas.List.Concat.{flat_map-append}
+use Rattle.std.{specs.List.copy_within, proofs.{Common.drop-drop, lemmas.List.{get_or-append_right, get_or_append_left, length-take}}}
+use Rattle.std.proofs.lemmas.List.{Concat.{flat_map-append}, Edits.{take-paste, drop-paste}}
 use Rattle.domain_octets.{proofs.StdLemmas.and_false, specs.Octets.AreOctets}
-use Rattle.domain_bitmap.specs.Blocks.{bit_of, has_bit, octet_with, is_of_window, block_holds, has_window, holds, merged_octet, Block, IsBlock, IsBitmap}
+use Rattle.domain_bitmap.specs.Blocks.{has_bit, octet_with, is_of_window, block_holds, has_window, holds, Block, IsBlock, IsBitmap, AreSlots}
 use Rattle.domain_bitmap.specs.Blocks.{AreShortest, IsShortest, last_octet, octets_of_blocks, in_first_block, contains_type, block_types_from, types_of}
-use Rattle.domain_bitmap.{specs.Blocks.types_below, proofs.BitLemmas.{any_more, any_same, any_at, any_none, any_with, range_more, filter_none, filter_at}}
-use Rattle.domain_bitmap.proofs.BitLemmas.{any_suc, filter_same, filter_append, bit_of-set, bit_of-zero, octet_with-lt, bit_of-octet_with, octets_same}
-use Rattle.domain_bitmap.proofs.BitLemmas.{bit_of-or, IsCut, none_cut, cut-trimmed, cut_same, get_or-trimmed, length-trimmed, trimmed-take}
+use Rattle.domain_bitmap.{specs.Blocks.{IsPlace, types_below, blocks_of}, proofs.BitLemmas.{any_inserted, any_same, any_at, any_none, any_only, any_with}}
+use Rattle.domain_bitmap.proofs.BitLemmas.{filter_same, filter_append, bit_of-set, bit_of-zero, octet_with-lt, bit_of-octet_with, octets_same, range_more}
+use Rattle.domain_bitmap.proofs.BitLemmas.{filter_none, IsCut, none_cut, cut-trimmed, cut_same, get_or-trimmed, length-trimmed}
 use Rattle.domain_bitmap.{specs.Bitmap.{window_octets, trimmed, block_if_any, blocks_with, bitmap_octets}, proofs.BlockLemmas.IsBitmap-octets_of_blocks}
-use Rattle.domain_bitmap.proofs.BlockLemmas.{blocks_of-octets_of_blocks}
+use Rattle.domain_bitmap.{specs.Bitmap.slot_block, proofs.BlockLemmas.blocks_of-octets_of_blocks}
 
 -- ---- the blocks of 34 octets that a builder holds
 
@@ -21,47 +22,40 @@ pub window_found : (value : List ℕ) (window j : ℕ) → j < length value / 34
 unfolding has_window
 window_found value window j inside is = any_at (is_of_window value window) (length value / 34) j inside (grind (arith, nat_tests))
 
-pub window_absent : (value : List ℕ) (window : ℕ) → ((j : ℕ) → j < length value / 34 → get_or value (34 * j) 0 ≢ window) → has_window value window ≡ false
+pub placed : (value : List ℕ) (window j : ℕ) → AreSlots value → j ≤ length value / 34 → ((k : ℕ) → k < j → get_or value (34 * k) 0 < window)
+    → (j < length value / 34 → window < get_or value (34 * j) 0) → IsPlace value window j
 unfolding has_window
-window_absent value window other = grind (arith, common_steps, any_none)
+placed value window j slots inside before next =
+    let behind : (k : ℕ) → j ≤ k → k < length value / 34 → window < get_or value (34 * k) 0 =
+    λ k low high. grind (arith, nat_tests, (slots.ascend j k), next) in
+    record {
+      absent = any_none (is_of_window value window) (length value / 34) (λ k within. grind (arith, nat_tests, (before k), (behind k)));
+      inside = inside;
+      before = before;
+      behind = behind;
+    }
 
-same_type : (t r : ℕ) → t / 256 ≡ r / 256 → t % 256 / 8 ≡ r % 256 / 8 → (t == r) ≡ (t % 8 == r % 8)
-same_type t r window octet = grind (arith, nat_tests)
-
-other_octet : (t r : ℕ) → t % 256 / 8 ≢ r % 256 / 8 → (t == r) ≡ false
-other_octet t r octet = grind (arith, nat_tests)
+pub ruleset find_steps = (placed)
 
 -- a bit set in a block of the type's window
 module _ (value : List ℕ) (p r : ℕ) (inside : p < length value / 34) (window : get_or value (34 * p) 0 ≡ r / 256) where
   abbrev at : ℕ
   at = 34 * p + 2 + r % 256 / 8
 
-  abbrev more : ℕ
-  more = bit_or (get_or value at 0) (2 ^ (7 - r % 8))
-
   abbrev after : List ℕ
-  after = set value at more
+  after = set value at (bit_or (get_or value at 0) (2 ^ (7 - r % 8)))
 
   at_inside : at < length value
   at_inside = omega (arith, inside)
 
   kept : (k : ℕ) → k ≢ at → get_or after k 0 ≡ get_or value k 0
-  kept k other = get_or-set_other value at k more 0 other
+  kept k other = grind (arith, common_steps)
+
+  here : (t : ℕ) → block_holds after t p ≡ ((t == r) || block_holds value t p)
+  here t = grind (arith, common_steps, nat_tests, bit_of-set, kept, at_inside)
 
   elsewhere : (t j : ℕ) → j ≢ p → block_holds after t j ≡ block_holds value t j
   elsewhere t j other = grind (arith, common_steps, kept)
-
-  -- the bit of a type in the block
-  bit_after : (t : ℕ) → t / 256 ≡ r / 256 → bit_of (get_or after (34 * p + 2 + t % 256 / 8) 0) (t % 8)
-      ≡ ((t == r) || bit_of (get_or value (34 * p + 2 + t % 256 / 8) 0) (t % 8))
-  bit_after t of_window =
-      elim (eqb_tells (t % 256 / 8) (r % 256 / 8)) [
-        | inl h ↦ grind (arith, common_steps, same_type, bit_of-set, at_inside)
-        | inr h ↦ grind (arith, common_steps, kept, other_octet)
-      ]
-
-  here : (t : ℕ) → block_holds after t p ≡ ((t == r) || block_holds value t p)
-  here t = grind (arith, common_steps, bit_after)
 
   pub holds-set_bit : (t : ℕ) → holds after t ≡ ((t == r) || holds value t)
   unfolding holds
@@ -73,40 +67,100 @@ module _ (value : List ℕ) (p r : ℕ) (inside : p < length value / 34) (window
 
 pub ruleset set_steps = (holds-set_bit, has_window-set_bit)
 
--- zero octets
+halves : (xs ys : List ℕ) → drop (length (xs ++ ys) - length ys) (xs ++ ys) ++ take (length (xs ++ ys) - length ys) (xs ++ ys) ≡ ys ++ xs
+halves xs ys = grind (arith, common_steps)
+
+-- octets that were appended are moved before those from a place on
+pub rotated : (value slice whole moved : List ℕ) (at : ℕ) → at ≤ length value → whole ≡ value ++ slice
+    → (let part = take (length whole - at) (drop at whole) in moved ≡ drop (length part - length slice) part ++ take (length part - length slice) part)
+    → take at whole ++ (moved ++ drop (length whole - at) (drop at whole)) ≡ take at value ++ (slice ++ drop at value)
+rotated value slice whole moved at inside is turned =
+    let part : take (length whole - at) (drop at whole) ≡ drop at value ++ slice = grind (arith, common_steps) in
+    let turn : moved ≡ slice ++ drop at value = turned ∙ rw part (halves (drop at value) slice) in
+    grind (arith, common_steps)
+
 pub zeros_at : (n k : ℕ) → get_or {A = ℕ} (replicate n 0) k 0 ≡ 0
 zeros_at n k = grind (arith, common_steps)
 
-pub same_at : {X : Type 0} (n : ℕ) (x : X) (k : ℕ) → get_or (replicate n x) k x ≡ x
-same_at n x k = grind (arith, common_steps)
-
--- a block of a window without types is appended
-module _ (value rest : List ℕ) (window : ℕ) (whole : length value % 34 ≡ 0) (long : length rest ≡ 33) (zeros : (k : ℕ) → get_or rest k 0 ≡ 0) where
+-- a block without types is put before that at a place
+module _ (value slot : List ℕ) (window j : ℕ) (is : slot ≡ window ∷ replicate 33 0)
+    (slots : AreSlots value) (place : IsPlace value window j) where
   abbrev grown : List ℕ
-  grown = value ++ (window ∷ rest)
+  grown = take (34 * j) value ++ (slot ++ drop (34 * j) value)
+
+  long : length slot ≡ 34
+  long = ap length is
+
+  size : length grown ≡ length value + 34
+  size = grind (arith, common_steps, place.inside, long)
 
   one_more : length grown / 34 ≡ length value / 34 + 1
-  one_more = omega (arith, length-append value (window ∷ rest), long)
+  one_more = omega (arith, size)
 
-  zero_last : (k : ℕ) → get_or grown (34 * (length value / 34) + 2 + k) 0 ≡ 0
-  zero_last k = grind (arith, common_steps)
+  front_long : length (take (34 * j) value) ≡ 34 * j
+  front_long = omega (arith, length-take (34 * j) value, place.inside)
 
-  pub has_window-grown : (w : ℕ) → has_window grown w ≡ ((w == window) || has_window value w)
+  at_before : (i : ℕ) → i < 34 * j → get_or grown i 0 ≡ get_or value i 0
+  at_before i low = grind (arith, common_steps, place.inside)
+
+  at_slot : (i k : ℕ) → i ≡ 34 * j + k → k < 34 → get_or grown i 0 ≡ get_or (window ∷ replicate 33 0) k 0
+  at_slot i k place within = get_or-append_right _ _ (34 * j) i 0 front_long (omega arith) ∙ get_or_append_left slot _ 0 (i - 34 * j) (omega (arith, long))
+      ∙ (let same : i - 34 * j ≡ k = omega arith in rw (is, same) refl)
+
+  at_zeros : (i k : ℕ) → i ≡ 34 * j + 1 + k → k < 33 → get_or grown i 0 ≡ 0
+  at_zeros i k place within = at_slot i (1 + k) (omega arith) (omega arith)
+      ∙ get_or_tail window (replicate 33 0) (1 + k) 0 (omega arith) ∙ zeros_at 33 (1 + k - 1)
+
+  at_behind : (i k : ℕ) → i ≡ k + 34 → 34 * j ≤ k → get_or grown i 0 ≡ get_or value k 0
+  at_behind i k behind low = get_or-append_right _ _ (34 * j) i 0 front_long (omega arith) ∙ get_or-append_right slot _ 34 (i - 34 * j) 0 long (omega arith)
+      ∙ get_or-drop (34 * j) value (i - 34 * j - 34) 0 ∙ ap (λ n. get_or value n 0) (omega arith)
+
+  pub slots-inserted : AreSlots grown
+  slots-inserted = record {
+    whole = omega (arith, size, slots.whole);
+    ascend = λ i k low high. grind (
+      arith,
+      (at_before (34 * i)),
+      (at_before (34 * k)),
+      (at_slot (34 * i) 0),
+      (at_slot (34 * k) 0),
+      (at_behind (34 * i) (34 * (i - 1))),
+      (at_behind (34 * k) (34 * (k - 1))),
+      (slots.ascend i k),
+      (slots.ascend i (k - 1)),
+      (slots.ascend (i - 1) (k - 1)),
+      (place.before i),
+      (place.behind (k - 1)),
+      one_more,
+    );
+  }
+
+  pub has_window-inserted : (w : ℕ) → has_window grown w ≡ ((w == window) || has_window value w)
   unfolding has_window
-  has_window-grown w = grind (arith, common_steps, one_more, any_more, any_same)
+  has_window-inserted w = rw one_more (any_inserted (is_of_window value w) (is_of_window grown w) j (length value / 34) place.inside
+      (λ i low. ap (λ n. n == w) (at_before (34 * i) (omega arith)))
+      (λ i low high. ap (λ n. n == w) (at_behind (34 * (i + 1)) (34 * i) (omega arith) (omega arith)))
+      ∙ grind (arith, nat_tests, (at_slot (34 * j) 0)))
 
-  block_last : (t : ℕ) → block_holds grown t (length value / 34) ≡ false
-  block_last t = rw (zero_last (t % 256 / 8), bit_of-zero (t % 8)) (and_false (is_of_window grown (t / 256) (length value / 34)))
+  block_new : (t : ℕ) → block_holds grown t j ≡ false
+  block_new t = rw (at_zeros (34 * j + 2 + t % 256 / 8) (1 + t % 256 / 8) (omega arith) (omega arith), bit_of-zero (t % 8))
+      (and_false (is_of_window grown (t / 256) j))
 
-  pub holds-grown : (t : ℕ) → holds grown t ≡ holds value t
+  pub holds-inserted : (t : ℕ) → holds grown t ≡ holds value t
   unfolding holds
-  holds-grown t = grind (arith, common_steps, one_more, any_more, block_last, any_same)
+  holds-inserted t = rw one_more (any_inserted (block_holds value t) (block_holds grown t) j (length value / 34) place.inside
+      (λ i low. rw (at_before (34 * i) (omega arith), at_before (34 * i + 2 + t % 256 / 8) (omega arith)) refl)
+      (λ i low high. rw (
+        at_behind (34 * (i + 1)) (34 * i) (omega arith) (omega arith),
+        at_behind (34 * (i + 1) + 2 + t % 256 / 8) (34 * i + 2 + t % 256 / 8) (omega arith) (omega arith),
+      ) refl)
+      ∙ ap (λ b. b || list_any (block_holds value t) (range_with_len 0 (length value / 34))) (block_new t))
 
 -- a window that has a block already
 pub window_known : (value : List ℕ) (window w : ℕ) → has_window value window ≡ true → ((w == window) || has_window value w) ≡ has_window value w
 window_known value window w known = grind (arith, common_steps)
 
-pub ruleset block_steps = (window_known, holds-grown, has_window-grown)
+pub ruleset block_steps = (window_known, window_found, holds-inserted, has_window-inserted, slots-inserted)
 
 -- ---- the octets of a set of types, and that they are the one spelling of it
 
@@ -118,11 +172,6 @@ pub record InForm (low : ℕ) (blocks : List Block) : Type 0 where
 
 pub none_in_form : (low : ℕ) → InForm low []
 none_in_form low = record { valid = tt; shortest = tt }
-
-pub form-lower : (low high : ℕ) (blocks : List Block) → low ≤ high → InForm high blocks → InForm low blocks
-form-lower low high [] lower form = none_in_form low
-form-lower low high (block ∷ blocks) lower form =
-    record { valid = form.valid; shortest = (omega (arith, form.shortest.0), form.shortest.1, form.shortest.2) }
 
 -- octets that a block may have, but that there may be none
 pub record OfWindow (octets : List ℕ) : Type 0 where
@@ -137,13 +186,19 @@ of_window-trimmed octets fits small = record {
   cut = cut-trimmed octets;
 }
 
-pub form-more : (w : ℕ) (octets : List ℕ) (blocks : List Block) → w < 256 → OfWindow octets → InForm (w + 1) blocks
-    → InForm w (block_if_any w octets ++ blocks)
-form-more w [] blocks small of_window form = form-lower w (w + 1) blocks (omega arith) form
-form-more w (x ∷ xs) blocks small of_window form = record {
+form-more : (low w : ℕ) (octets : List ℕ) (blocks : List Block) → low ≤ w → w < 256 → OfWindow octets → InForm (w + 1) blocks
+    → InForm low (block_if_any w octets ++ blocks)
+form-more low w [] [] lower small of_window form = none_in_form low
+form-more low w [] (block ∷ blocks) lower small of_window form =
+    record { valid = form.valid; shortest = (omega (arith, form.shortest.0), form.shortest.1, form.shortest.2) }
+form-more low w (x ∷ xs) blocks lower small of_window form = record {
   valid = (record { window = small; not_empty = omega arith; fits = of_window.fits; bounded = of_window.small }, form.valid);
-  shortest = (omega arith, of_window.cut (omega arith), form.shortest);
+  shortest = (lower, of_window.cut (omega arith), form.shortest);
 }
+
+block_is : (w : ℕ) (octets : List ℕ) → 0 < length octets → block_if_any w octets ≡ record { window = w; octets = octets } ∷ []
+block_is w [] some = absurd (omega (arith, some))
+block_is w (x ∷ xs) some = refl
 
 -- ---- the types of such blocks
 
@@ -179,99 +234,49 @@ same_octets xs ys w x y same =
           rw (octet, bit) at (same t (omega (arith, h.1))))
     ])
 
+none_of_window : OfWindow []
+none_of_window = record { fits = omega arith; small = λ i. omega arith; cut = none_cut }
+
 of_block : (block : Block) → IsBlock block → last_octet block.octets ≢ 0 → OfWindow block.octets
 of_block block valid cut = record { fits = valid.fits; small = valid.bounded; cut = λ some. cut }
 
--- a block has a type, which blocks of later windows do not have
-no_less : (block : Block) (blocks others : List Block) (low : ℕ) → InForm low (block ∷ blocks) → AreShortest (block.window + 1) others
-    → ((t : ℕ) → t < 65536 → in_first_block (block ∷ blocks) t ≡ in_first_block others t) → ⊥
-no_less block blocks others low form later same =
-    let valid : IsBlock block = form.valid.0 in
-    let empty : OfWindow [] = record { fits = omega arith; small = λ i. omega arith; cut = none_cut } in
-    let none : block.octets ≡ [] = same_octets _ [] block.window (of_block block valid form.shortest.1) empty
-    (λ t here. grind (arith, common_steps, has_bit-none, (same t (omega (arith, here, valid.window))), (none_below others _ t later (omega (arith, here))))) in
-    omega (arith, ap length none, valid.not_empty)
+-- ---- blocks by their places
 
-form-rest : (low : ℕ) (block : Block) (blocks : List Block) → InForm low (block ∷ blocks) → InForm (block.window + 1) blocks
-form-rest low block blocks form = record { valid = form.valid.1; shortest = form.shortest.2 }
+-- the blocks at so many places, from one on, that have these windows and octets
+abbrev pub blocks_at : (ℕ → ℕ) → (ℕ → List ℕ) → ℕ → ℕ → List Block
+blocks_at windows octets a n = flat_map (λ j. block_if_any (windows j) (trimmed (octets j))) (range_with_len a n)
 
-same_block : (x y : Block) → x.window ≡ y.window → x.octets ≡ y.octets → x ≡ y
-same_block x y window octets = ap (λ n. record { window = n; octets = x.octets }) window ∙ ap (λ l. record { window = y.window; octets = l }) octets
+-- the windows before a place ascend strictly
+pub record Ascend (windows : ℕ → ℕ) (octets : ℕ → List ℕ) (n : ℕ) : Type 0 where
+  pub ascend : (j : ℕ) → j + 1 < n → windows j + 1 ≤ windows (j + 1)
+  pub window : (j : ℕ) → j < n → windows j < 256
+  pub fits : (j : ℕ) → length (octets j) ≤ 32
+  pub small : (j i : ℕ) → get_or (octets j) i 0 < 256
 
-once : (xs ys : List Block) (low : ℕ) → InForm low xs → InForm low ys
-    → ((t : ℕ) → t < 65536 → in_first_block xs t ≡ in_first_block ys t) → xs ≡ ys
-once [] [] low x y same = refl
-once (block ∷ xs) [] low x y same = absurd (no_less block xs [] low x tt same)
-once [] (block ∷ ys) low x y same = absurd (no_less block ys [] low y tt (λ t small. sym (same t small)))
-once (a ∷ xs) (b ∷ ys) low x y same = elim (leb_tells a.window b.window) [
-  | inr h ↦ absurd (no_less b ys (a ∷ xs) low y (omega (arith, h.1), x.shortest.1, x.shortest.2) (λ t small. sym (same t small)))
-  | inl h ↦ elim (leb_tells b.window a.window) [
-    | inr k ↦ absurd (no_less a xs (b ∷ ys) low x (omega (arith, k.1), y.shortest.1, y.shortest.2) same)
-    | inl k ↦
-        let here : a.window ≡ b.window = omega (arith, h.1, k.1) in
-        let first : a ≡ b = same_block a b here (same_octets _ _ a.window (of_block a x.valid.0 x.shortest.1) (of_block b y.valid.0 y.shortest.1)
-        (λ t window. grind (arith, common_steps, (same t (omega (arith, window, x.valid.0.window)))))) in
-        let rest : xs ≡ ys = once xs ys (a.window + 1) (form-rest low a xs x) (rw here (form-rest low b ys y))
-        (λ t small. grind (arith, common_steps, (same t small), (none_below xs _ t x.shortest.2), (none_below ys _ t y.shortest.2))) in
-        cc
-  ]
-]
+module _ (windows : ℕ → ℕ) (octets : ℕ → List ℕ) (m : ℕ) (are : Ascend windows octets m) where
+  form-blocks_at : (a n low : ℕ) → a + n ≡ m → (0 < n → low ≤ windows a) → InForm low (blocks_at windows octets a n)
+  form-blocks_at a zero low whole start = none_in_form low
+  form-blocks_at a (suc n) low whole start =
+      form-more low (windows a) _ _ (start (omega arith)) (are.window a (omega arith)) (of_window-trimmed (octets a) (are.fits a) (are.small a))
+      (form-blocks_at (a + 1) n (windows a + 1) (omega arith) (λ some. are.ascend a (omega arith)))
 
--- the octets are the bitmap of these types
-pub record Spells (types : ℕ → Bool) (octets : List ℕ) : Type 0 where
-  pub bitmap : IsBitmap octets
-  pub shortest : IsShortest octets
-  pub contains : (t : ℕ) → t < 65536 → contains_type octets t ≡ types t
-
-pub blocks_spell : (types : ℕ → Bool) (blocks : List Block) → InForm 0 blocks → ((t : ℕ) → t < 65536 → in_first_block blocks t ≡ types t)
-    → Spells types (octets_of_blocks blocks)
-unfolding contains_type
-blocks_spell types blocks form same = grind (arith, common_steps, blocks_of-octets_of_blocks, IsBitmap-octets_of_blocks)
-
--- ---- the blocks of all windows
-
--- octets of windows
-pub record AreWindows (octets : ℕ → List ℕ) : Type 0 where
-  pub fits : (w : ℕ) → length (octets w) ≤ 32
-  pub small : (w i : ℕ) → get_or (octets w) i 0 < 256
-
-form-blocks_with : (octets : ℕ → List ℕ) (a n : ℕ) → AreWindows octets → a + n ≤ 256 → InForm a (blocks_with octets a n)
-unfolding blocks_with
-form-blocks_with octets a zero are fits = none_in_form a
-form-blocks_with octets a (suc n) are fits =
-    form-more a _ _ (omega (arith, fits)) (of_window-trimmed (octets a) (are.fits a) (are.small a))
-    (form-blocks_with octets (a + 1) n are (omega (arith, fits)))
-
-in-blocks_with : (octets : ℕ → List ℕ) (a n t : ℕ) → AreWindows octets → a + n ≤ 256 → a ≤ t / 256 → t / 256 < a + n
-    → in_first_block (blocks_with octets a n) t ≡ has_bit (octets (t / 256)) t
-unfolding blocks_with
-in-blocks_with octets a zero t are fits low high = absurd (omega (arith, low, high))
-in-blocks_with octets a (suc n) t are fits low high =
-    in-more a _ _ t (form-blocks_with octets (a + 1) n are (omega (arith, fits))).shortest ∙ elim (eqb_tells a (t / 256)) [
-      | inl h ↦ rw h.0 (has_bit-trimmed (octets a) t ∙ ap (λ w. has_bit (octets w) t) h.1)
-      | inr h ↦ rw h.0 (in-blocks_with octets (a + 1) n t are (omega (arith, fits)) (omega (arith, low, h.1)) (omega (arith, high)))
-    ]
-
-pub windows_spell : (types : ℕ → Bool) (octets : ℕ → List ℕ) → AreWindows octets
-    → ((t : ℕ) → t < 65536 → has_bit (octets (t / 256)) t ≡ types t) → Spells types (octets_of_blocks (blocks_with octets 0 256))
-windows_spell types octets are same = blocks_spell types _ (form-blocks_with octets 0 256 are (omega arith))
-    (λ t small. in-blocks_with octets 0 256 t are (omega arith) (omega arith) (omega (arith, small)) ∙ same t small)
-
--- one window more
-pub octets-more : (octets : ℕ → List ℕ) (n : ℕ) → octets_of_blocks (blocks_with octets 0 (n + 1))
-    ≡ octets_of_blocks (blocks_with octets 0 n) ++ octets_of_blocks (block_if_any n (trimmed (octets n)))
-unfolding blocks_with
-octets-more octets n = grind (arith, common_steps, range_more)
+  in-blocks_at : (a n t : ℕ) → a + n ≡ m
+      → in_first_block (blocks_at windows octets a n) t ≡ list_any (λ j. (windows j == t / 256) && has_bit (octets j) t) (range_with_len a n)
+  in-blocks_at a zero t whole = refl
+  in-blocks_at a (suc n) t whole =
+      let rest = form-blocks_at (a + 1) n (windows a + 1) (omega arith) (λ some. are.ascend a (omega arith)) in
+      in-more (windows a) _ _ t rest.shortest
+      ∙ grind (arith, common_steps, has_bit-trimmed, (in-blocks_at (a + 1) n t (omega arith)), (none_below _ _ t rest.shortest))
 
 length-block_if_any : (w : ℕ) (octets : List ℕ) → length (octets_of_blocks (block_if_any w octets)) ≤ length octets + 2
 length-block_if_any w [] = omega arith
 length-block_if_any w (x ∷ xs) = grind (arith, common_steps)
 
-length-blocks_with : (octets : ℕ → List ℕ) (a n : ℕ) → AreWindows octets → length (octets_of_blocks (blocks_with octets a n)) ≤ 34 * n
-unfolding blocks_with
-length-blocks_with octets a zero are = omega arith
-length-blocks_with octets a (suc n) are =
-    grind (arith, common_steps, length-block_if_any, length-trimmed, (are.fits a), (length-blocks_with octets (a + 1) n are))
+length-blocks_at : (windows : ℕ → ℕ) (octets : ℕ → List ℕ) (a n : ℕ) → ((j : ℕ) → length (octets j) ≤ 32)
+    → length (octets_of_blocks (blocks_at windows octets a n)) ≤ 34 * n
+length-blocks_at windows octets a zero fits = omega arith
+length-blocks_at windows octets a (suc n) fits =
+    grind (arith, common_steps, length-block_if_any, length-trimmed, (fits a), (length-blocks_at windows octets (a + 1) n fits))
 
 -- ---- the octets of a set
 
@@ -286,157 +291,187 @@ get_or-window_octets types w i inside = get_or-map-range_with_len (λ i. octet_w
 bounded : (types : ℕ → Bool) (w i : ℕ) → get_or (window_octets types w) i 0 < 256
 bounded types w i = grind (arith, common_steps, length-window_octets, get_or-window_octets, octet_with-lt)
 
-are_windows : (types : ℕ → Bool) → AreWindows (window_octets types)
-are_windows types = record { fits = λ w. omega (arith, length-window_octets types w); small = bounded types }
+are_windows : (types : ℕ → Bool) → Ascend (λ w. w) (window_octets types) 256
+are_windows types =
+    record { ascend = λ j inside. omega arith; window = λ j inside. inside; fits = λ w. omega (arith, length-window_octets types w); small = bounded types }
 
 pub has_bit-window : (types : ℕ → Bool) (t : ℕ) → has_bit (window_octets types (t / 256)) t ≡ types t
 unfolding has_bit
 has_bit-window types t = grind (arith, common_steps, get_or-window_octets, bit_of-octet_with)
 
-pub spells-bitmap_octets : (types : ℕ → Bool) → Spells types (bitmap_octets types)
-unfolding bitmap_octets
-spells-bitmap_octets types = windows_spell types (window_octets types) (are_windows types) (λ t small. has_bit-window types t)
+trimmed_window : (types : ℕ → Bool) (xs : List ℕ) (w : ℕ) → w < 256 → OfWindow xs → ((t : ℕ) → t < 65536 → t / 256 ≡ w → has_bit xs t ≡ types t)
+    → trimmed (window_octets types w) ≡ xs
+trimmed_window types xs w small of_window same =
+    same_octets _ xs w (of_window-trimmed (window_octets types w) (omega (arith, length-window_octets types w)) (bounded types w)) of_window
+    (λ t here. has_bit-trimmed (window_octets types w) t ∙ rw (← here) (has_bit-window types t) ∙ sym (same t (omega arith) here))
 
--- a set has one spelling
-pub spelling_is : (types : ℕ → Bool) (octets : List ℕ) → Spells types octets → octets ≡ bitmap_octets types
+-- blocks in that form are those of their types, window by window
+spelled : (types : ℕ → Bool) (blocks : List Block) (a n : ℕ) → a + n ≡ 256 → InForm a blocks
+    → ((t : ℕ) → t < 65536 → a ≤ t / 256 → in_first_block blocks t ≡ types t) → blocks_with (window_octets types) a n ≡ blocks
+unfolding blocks_with
+spelled types [] a zero all form same = refl
+spelled types (b ∷ blocks) a zero all form same = absurd (omega (arith, form.shortest.0, form.valid.0.window))
+spelled types [] a (suc n) all form same =
+    rw (trimmed_window types [] a (omega arith) none_of_window (λ t small here. has_bit-none t ∙ same t small (omega arith)))
+    (spelled types [] (a + 1) n (omega arith) (none_in_form (a + 1)) (λ t small later. same t small (omega arith)))
+spelled types (b ∷ blocks) a (suc n) all form same = elim (eqb_tells b.window a) [
+  | inl h ↦
+      let here : trimmed (window_octets types a) ≡ b.octets = trimmed_window types b.octets a (omega arith) (of_block b form.valid.0 form.shortest.1)
+      (λ t small window. grind (arith, common_steps, (same t small))) in
+      let rest : blocks_with (window_octets types) (a + 1) n ≡ blocks =
+      spelled types blocks (a + 1) n (omega arith) (record { valid = form.valid.1; shortest = rw h.1 at form.shortest.2 })
+      (λ t small later. grind (arith, common_steps, (same t small))) in
+      rw (here, rest) (ap (λ l. l ++ blocks) (block_is a b.octets form.valid.0.not_empty)
+      ∙ ap (λ w. record { window = w; octets = b.octets } ∷ blocks) (sym h.1))
+  | inr h ↦
+      let later : AreShortest (a + 1) (b ∷ blocks) = (omega (arith, h.1, form.shortest.0), form.shortest.1, form.shortest.2) in
+      rw (trimmed_window types [] a (omega arith) none_of_window
+      (λ t small here. grind (arith, has_bit-none, (none_below (b ∷ blocks) (a + 1) t later), (same t small))))
+      (spelled types (b ∷ blocks) (a + 1) n (omega arith) (record { valid = form.valid; shortest = later }) (λ t small after. same t small (omega arith)))
+]
+
+-- blocks in that form are the bitmap of their types
+pub blocks_spell : (types : ℕ → Bool) (blocks : List Block) → InForm 0 blocks → ((t : ℕ) → t < 65536 → in_first_block blocks t ≡ types t)
+    → octets_of_blocks blocks ≡ bitmap_octets types
+unfolding bitmap_octets
+blocks_spell types blocks form same = sym (ap octets_of_blocks (spelled types blocks 0 256 refl form (λ t small _. same t small)))
+
+pub spelling_is : (types : ℕ → Bool) (octets : List ℕ) → IsBitmap octets → IsShortest octets
+    → ((t : ℕ) → t < 65536 → contains_type octets t ≡ types t) → octets ≡ bitmap_octets types
 unfolding contains_type
-spelling_is types octets x =
-    let y = spells-bitmap_octets types in
-    x.bitmap.spelled ∙ ap octets_of_blocks (once _ _ 0
-    (record { valid = x.bitmap.valid; shortest = x.shortest }) (record { valid = y.bitmap.valid; shortest = y.shortest })
-    (λ t small. x.contains t small ∙ sym (y.contains t small))) ∙ sym y.bitmap.spelled
+spelling_is types octets bitmap shortest same = bitmap.spelled ∙ blocks_spell types _ (record { valid = bitmap.valid; shortest = shortest }) same
+
+pub holds_nothing : (value : List ℕ) → length value ≡ 0 → bitmap_octets (holds value) ≡ []
+unfolding holds
+holds_nothing value none = sym (blocks_spell (holds value) [] (none_in_form 0) (λ t small. grind (arith, common_steps)))
+
+set_blocks : (types : ℕ → Bool) → blocks_of (bitmap_octets types) ≡ blocks_with (window_octets types) 0 256
+unfolding bitmap_octets
+set_blocks types = blocks_of-octets_of_blocks _
+
+set_in_form : (types : ℕ → Bool) → InForm 0 (blocks_with (window_octets types) 0 256)
+unfolding blocks_with
+set_in_form types = form-blocks_at (λ w. w) (window_octets types) 256 (are_windows types) 0 256 0 refl (λ some. omega arith)
+
+pub IsShortest-bitmap_octets : (types : ℕ → Bool) → IsShortest (bitmap_octets types)
+IsShortest-bitmap_octets types = rw (set_blocks types) (set_in_form types).shortest
 
 pub IsBitmap-bitmap_octets : (types : ℕ → Bool) → IsBitmap (bitmap_octets types)
-IsBitmap-bitmap_octets types = (spells-bitmap_octets types).bitmap
+unfolding bitmap_octets
+IsBitmap-bitmap_octets types = IsBitmap-octets_of_blocks _ (set_in_form types).valid
+
+window_any : (types : ℕ → Bool) (n t : ℕ) → t / 256 < n → list_any (λ w. (w == t / 256) && has_bit (window_octets types w) t) (range_with_len 0 n) ≡ types t
+window_any types n t inside =
+    any_only (λ w. (w == t / 256) && has_bit (window_octets types w) t) n (t / 256) inside (λ j below other. grind (arith, common_steps))
+    ∙ grind (arith, common_steps, has_bit-window)
 
 pub contains_type-bitmap_octets : (types : ℕ → Bool) (t : ℕ) → t < 65536 → contains_type (bitmap_octets types) t ≡ types t
-contains_type-bitmap_octets types = (spells-bitmap_octets types).contains
+unfolding contains_type blocks_with
+contains_type-bitmap_octets types t small =
+    rw (set_blocks types) (in-blocks_at (λ w. w) (window_octets types) 256 (are_windows types) 0 256 t refl ∙ window_any types 256 t (omega (arith, small)))
 
 -- tests that agree on all types have the same octets
 pub bitmap_octets-same : (p q : ℕ → Bool) → ((t : ℕ) → t < 65536 → p t ≡ q t) → bitmap_octets p ≡ bitmap_octets q
-bitmap_octets-same p q same =
-    let spells = spells-bitmap_octets p in
-    spelling_is q _ (record { bitmap = spells.bitmap; shortest = spells.shortest; contains = λ t small. spells.contains t small ∙ same t small })
+bitmap_octets-same p q same = spelling_is q _ (IsBitmap-bitmap_octets p) (IsShortest-bitmap_octets p)
+    (λ t small. contains_type-bitmap_octets p t small ∙ same t small)
 
 pub bitmap_octets-exact : (p q : ℕ → Bool) → bitmap_octets p ≡ bitmap_octets q → (t : ℕ) → t < 65536 → p t ≡ q t
 bitmap_octets-exact p q same t small = grind (arith, common_steps, (contains_type-bitmap_octets p t small), (contains_type-bitmap_octets q t small))
 
 -- a list of blocks in that form is a built bitmap: that of the types that it contains
 pub built_from_shortest : (octets : List ℕ) → IsBitmap octets → IsShortest octets → octets ≡ bitmap_octets (contains_type octets)
-built_from_shortest octets bitmap shortest =
-    spelling_is _ octets (record { bitmap = bitmap; shortest = shortest; contains = λ t small. refl })
+built_from_shortest octets bitmap shortest = spelling_is _ octets bitmap shortest (λ t small. refl)
 
 -- all windows with all their octets
 pub length-bitmap_octets : (types : ℕ → Bool) → length (bitmap_octets types) ≤ 8704
-unfolding bitmap_octets
-length-bitmap_octets types = length-blocks_with (window_octets types) 0 256 (are_windows types)
+unfolding bitmap_octets blocks_with
+length-bitmap_octets types = length-blocks_at (λ w. w) (window_octets types) 0 256 (are_windows types).fits
 
 pub ruleset built_steps = (bitmap_octets-same, IsBitmap-bitmap_octets)
 
--- ---- blocks put in order
-
--- how many windows below n have a block
-abbrev pub count : List ℕ → ℕ → ℕ
-count value n = length (filter (has_window value) (range_with_len 0 n))
-
--- k blocks are of k windows at most
-abbrev within : List ℕ → ℕ → ℕ → Bool
-within value k w = list_any (is_of_window value w) (range_with_len 0 k)
-
-count-blocks : (value : List ℕ) (k n : ℕ) → length (filter (within value k) (range_with_len 0 n)) ≤ k
-count-blocks value zero n = omega (arith, ap length (filter_none (within value 0) 0 n (λ j low high. refl)))
-count-blocks value (suc k) n =
-    let more = filter_at (within value k) (within value (suc k)) (get_or value (34 * k) 0) n (λ w other. grind (arith, common_steps, any_suc)) in
-    grind (arith, common_steps, more, (count-blocks value k n))
-
-pub count-has_window : (value : List ℕ) (n : ℕ) → count value n ≤ length value / 34
-unfolding has_window
-count-has_window value n = count-blocks value (length value / 34) n
-
--- the octets after the first i of a block are merged
-abbrev pub merged_at : List ℕ → List ℕ → ℕ → ℕ → ℕ → ℕ
-merged_at initial slots j i p = if nat_lt (p % 32) i then merged_octet initial slots j p else get_or initial p 0
-
--- the table after the block at a place
-pub types_more : (octets after slots : List ℕ) (j t : ℕ) → ((p : ℕ) → get_or after p 0 ≡ merged_octet octets slots j p)
-    → bit_of (get_or octets (t / 8) 0) (t % 8) ≡ list_any (block_holds slots t) (range_with_len 0 j)
-    → bit_of (get_or after (t / 8) 0) (t % 8) ≡ list_any (block_holds slots t) (range_with_len 0 (j + 1))
-types_more octets after slots j t merged before = grind (arith, common_steps, any_more, bit_of-or)
-
-pub windows_more : (present : List Bool) (slots : List ℕ) (j w : ℕ) → get_or slots (34 * j) 0 < length present
-    → get_or present w false ≡ list_any (is_of_window slots w) (range_with_len 0 j)
-    → get_or (set present (get_or slots (34 * j) 0) true) w false ≡ list_any (is_of_window slots w) (range_with_len 0 (j + 1))
-windows_more present slots j w inside before = grind (arith, common_steps, any_more)
-
-pub absent_more : (octets after slots : List ℕ) (present : List Bool) (j i : ℕ) → get_or slots (34 * j) 0 < length present
-    → ((p : ℕ) → get_or after p 0 ≡ merged_octet octets slots j p)
-    → (get_or present (i / 32) false ≡ false → get_or octets i 0 ≡ 0)
-    → get_or (set present (get_or slots (34 * j) 0) true) (i / 32) false ≡ false → get_or after i 0 ≡ 0
-absent_more octets after slots present j i inside merged before absent = grind (arith, common_steps)
-
--- the octets of a window in the table
-abbrev pub windows_of : List ℕ → ℕ → List ℕ
-windows_of table w = slice_range table (32 * w) (32 * w + 32)
-
--- a window that has no block
-pub skipped : (table : List ℕ) (w : ℕ) → ((i : ℕ) → i / 32 ≡ w → get_or table i 0 ≡ 0)
-    → octets_of_blocks (blocks_with (windows_of table) 0 (w + 1)) ≡ octets_of_blocks (blocks_with (windows_of table) 0 w)
-skipped table w zeros =
-    let none : trimmed (windows_of table w) ≡ [] =
-    trimmed-take (windows_of table w) 0 (omega arith) (λ k _. grind (arith, common_steps, (zeros (32 * w + k)))) (λ some. absurd (omega (arith, some))) in
-    octets-more (windows_of table) w ∙ rw none (append-nil _)
-
-table_bit : (table : List ℕ) (t : ℕ) → has_bit (windows_of table (t / 256)) t ≡ bit_of (get_or table (t / 8) 0) (t % 8)
-unfolding has_bit
-table_bit table t = let place : 32 * (t / 256) + t % 256 / 8 ≡ t / 8 = omega arith in grind (arith, common_steps)
+-- ---- a builder's blocks put together
 
 small_at : (value : List ℕ) → AreOctets value → (i : ℕ) → get_or value i 0 < 256
 small_at value small i = grind (arith, common_steps, (small i 0))
 
-are_packed : (table : List ℕ) → AreOctets table → AreWindows (windows_of table)
-are_packed table small = record { fits = λ w. grind (arith, common_steps); small = λ w i. grind (arith, common_steps, (small_at table small)) }
+drop_same : (xs ys : List ℕ) (n m : ℕ) → n ≤ m → drop n xs ≡ drop n ys → drop m xs ≡ drop m ys
+drop_same xs ys n m within same =
+    let count : n + (m - n) ≡ m = omega arith in
+    rw count at (sym (drop-drop (m - n) n xs) ∙ ap (drop (m - n)) same ∙ drop-drop (m - n) n ys)
 
--- the table has the types that are held
-pub table_spelled : (table value : List ℕ) (n : ℕ) → n ≡ 256 → AreOctets table
-    → ((t : ℕ) → t < 65536 → bit_of (get_or table (t / 8) 0) (t % 8) ≡ holds value t)
-    → octets_of_blocks (blocks_with (windows_of table) 0 n) ≡ bitmap_octets (holds value)
-table_spelled table value n all small bits =
-    rw all (spelling_is (holds value) _ (windows_spell (holds value) (windows_of table) (are_packed table small) (λ t fits. table_bit table t ∙ bits t fits)))
+-- what the first n blocks become
+abbrev pub slot_blocks : List ℕ → ℕ → List Block
+slot_blocks value n = flat_map (slot_block value) (range_with_len 0 n)
 
--- ---- a builder without blocks, and one with one block
+pub slots-more : (value now : List ℕ) (n : ℕ) → drop (34 * n) now ≡ drop (34 * n) value
+    → octets_of_blocks (slot_blocks value (n + 1)) ≡ octets_of_blocks (slot_blocks value n) ++ octets_of_blocks (slot_block now n)
+slots-more value now n same =
+    let first : get_or now (34 * n) 0 ≡ get_or value (34 * n) 0 = grind (arith, common_steps) in
+    rw (first, drop_same now value (34 * n) (34 * n + 2) (omega arith) same) (grind (arith, common_steps, range_more))
 
-pub holds_nothing : (value : List ℕ) → length value ≡ 0 → bitmap_octets (holds value) ≡ []
+pub rest_more : (value now : List ℕ) (n : ℕ) → drop (34 * n) now ≡ drop (34 * n) value → drop (34 * (n + 1)) now ≡ drop (34 * (n + 1)) value
+rest_more value now n same = drop_same now value (34 * n) (34 * (n + 1)) (omega arith) same
+
+are_slots : (value : List ℕ) → AreSlots value → AreOctets value
+    → Ascend (λ j. get_or value (34 * j) 0) (λ j. slice_range value (34 * j + 2) (34 * j + 34)) (length value / 34)
+are_slots value slots small = record {
+  ascend = λ j inside. omega (arith, slots.ascend j (j + 1) (omega arith) inside);
+  window = λ j inside. small_at value small (34 * j);
+  fits = λ j. grind (arith, common_steps);
+  small = λ j i. grind (arith, common_steps, (small_at value small));
+}
+
+slot_bit : (value : List ℕ) (t j : ℕ)
+    → ((get_or value (34 * j) 0 == t / 256) && has_bit (slice_range value (34 * j + 2) (34 * j + 34)) t) ≡ block_holds value t j
+unfolding has_bit
+slot_bit value t j = grind (arith, common_steps)
+
+pub slots_spelled : (value : List ℕ) (n : ℕ) → n ≡ length value / 34 → AreSlots value → AreOctets value
+    → octets_of_blocks (slot_blocks value n) ≡ bitmap_octets (holds value)
 unfolding holds
-holds_nothing value none = sym (spelling_is (holds value) _ (blocks_spell (holds value) [] (none_in_form 0) (λ t small. grind (arith, common_steps))))
+slots_spelled value n all slots small =
+    let are = are_slots value slots small in
+    rw all (blocks_spell (holds value) _ (form-blocks_at _ _ _ are 0 _ 0 (zero-add _) (λ some. omega arith))
+    (λ t fits. in-blocks_at _ _ _ are 0 _ t (zero-add _) ∙ any_same _ _ _ (λ j inside. slot_bit value t j)))
 
-one_bit : (value : List ℕ) (t : ℕ) → length value ≡ 34
-    → holds value t ≡ (if get_or value 0 0 == t / 256 then has_bit (drop 2 value) t else false)
-unfolding holds has_bit
-one_bit value t one = grind (arith, common_steps)
+-- a block with types is moved to where the blocks before it end
+module _ (slots : List ℕ) (end j len : ℕ) (before : end ≤ 34 * j) (inside : j < length slots / 34) (some : 0 < len) (fits : len ≤ 32) where
+  abbrev counted : List ℕ
+  counted = set slots (34 * j + 1) len
 
-one_spelled : (value : List ℕ) → length value ≡ 34 → ((i : ℕ) → get_or value i 0 < 256)
-    → bitmap_octets (holds value) ≡ octets_of_blocks (block_if_any (get_or value 0 0) (trimmed (drop 2 value)))
-one_spelled value one small =
-    let w = get_or value 0 0 in
-    let of_window = of_window-trimmed (drop 2 value) (grind (arith, common_steps)) (λ i. rw (get_or-drop 2 value i 0) (small (2 + i))) in
-    rw (← append-nil (block_if_any w (trimmed (drop 2 value)))) (sym (spelling_is (holds value) _ (blocks_spell (holds value) _
-    (form-lower 0 w _ (omega arith) (form-more w _ [] (small 0) of_window (none_in_form (w + 1))))
-    (λ t fits. in-more w _ [] t tt ∙ rw (has_bit-trimmed (drop 2 value) t) (sym (one_bit value t one))))))
+  abbrev moved : List ℕ
+  moved = copy_within counted (34 * j) (34 * j + 2 + len) end
 
-pub block_written : (w : ℕ) (octets : List ℕ) → 0 < length octets → octets_of_blocks (block_if_any w octets) ≡ w ∷ length octets ∷ octets
-block_written w [] some = absurd (omega (arith, some))
-block_written w (x ∷ xs) some = ap (λ l. w ∷ length (x ∷ xs) ∷ x ∷ l) (append-nil xs)
+  count : 34 * j + 2 + len - 34 * j ≡ suc (suc len)
+  count = omega arith
 
-pub no_types : (value : List ℕ) → length value ≡ 34 → AreOctets value → trimmed (drop 2 value) ≡ [] → bitmap_octets (holds value) ≡ []
-no_types value one small none = rw (one_spelled value one (small_at value small), none) refl
+  drop-counted : drop (34 * j) counted ≡ get_or slots (34 * j) 0 ∷ len ∷ drop (34 * j + 2) slots
+  drop-counted = grind (arith, common_steps)
 
-pub one_block : (value : List ℕ) (len : ℕ) → length value ≡ 34 → AreOctets value → 0 < len → len ≤ 32
-    → trimmed (drop 2 value) ≡ take len (drop 2 value) → bitmap_octets (holds value) ≡ get_or value 0 0 ∷ len ∷ take len (drop 2 value)
-one_block value len one small some fits is =
-    let long : length (take len (drop 2 value)) ≡ len = grind (arith, common_steps) in
-    one_spelled value one (small_at value small) ∙ rw is (block_written _ _ (omega (arith, long)) ∙ rw long refl)
+  end_inside : end ≤ length counted
+  end_inside = grind (arith, common_steps)
 
-pub ruleset one_steps = (no_types, one_block)
+  octets_inside : suc (suc len) ≤ length (drop (34 * j) counted)
+  octets_inside = grind (arith, common_steps)
+
+  pub rest-moved : drop (34 * (j + 1)) moved ≡ drop (34 * (j + 1)) slots
+  rest-moved = drop_same moved counted (end + suc (suc len)) _ (omega arith)
+      (rw count (drop-paste counted end (drop (34 * j) counted) (suc (suc len)) end_inside octets_inside)) ∙ grind (arith, common_steps)
+
+  pub take-moved : trimmed (slice_range slots (34 * j + 2) (34 * j + 34)) ≡ take len (slice_range slots (34 * j + 2) (34 * j + 34))
+      → take (end + 2 + len) moved ≡ take end slots ++ octets_of_blocks (slot_block slots j)
+  take-moved cut =
+      let front : take end counted ≡ take end slots = grind (arith, common_steps) in
+      let whole : end + 2 + len ≡ end + suc (suc len) = omega arith in
+      let octets : take len (slice_range slots (34 * j + 2) (34 * j + 34)) ≡ take len (drop (34 * j + 2) slots) = grind (arith, common_steps) in
+      let long : length (take len (drop (34 * j + 2) slots)) ≡ len = grind (arith, common_steps) in
+      let written : octets_of_blocks (slot_block slots j) ≡ get_or slots (34 * j) 0 ∷ len ∷ take len (drop (34 * j + 2) slots) =
+      rw (cut, octets, block_is (get_or slots (34 * j) 0) (take len (drop (34 * j + 2) slots)) (omega (arith, long))) (grind (arith, common_steps)) in
+      rw (whole, count, take-paste counted end (drop (34 * j) counted) (suc (suc len)) end_inside octets_inside, front, drop-counted, written) refl
+
+pub ruleset pack_steps = (rest-moved, take-moved)
+
+pub ruleset spelled_steps = (slots-more, rest_more, slots_spelled)
 
 -- ---- the types of a built bitmap, one after another
 

@@ -1,10 +1,9 @@
 //! The blocks that a builder holds: 34 octets each, at multiples of 34.
-ghost use Rattle.std.specs.Prelude.{◌≡◌, ◌+◌, ◌*◌, ◌/◌, ◌<◌, ◌≤◌, ◌++◌, ◌↔◌, false, length, take, drop, IfSome};
-ghost use Rattle.std.specs.Prelude.{IsSome, IsTrue, IfNone, ◌-◌, ◌^◌, slice_index, slice_set, bit_or, ℕ, ◌%◌};
+ghost use Rattle.std.specs.Prelude.{◌≡◌, ◌+◌, ◌*◌, ◌/◌, ◌<◌, ◌≤◌, ◌++◌, ◌↔◌, false, length, take, drop};
+ghost use Rattle.std.specs.Prelude.{IfErr, ◌-◌, ◌^◌, slice_index, slice_set, bit_or, ℕ, ◌%◌, ◌∷◌, replicate};
 ghost use Rattle.std.specs.Prelude.{◌||◌, ◌==◌, [], OnOk, OnErr, IfOk, if◌then◌else◌, IsErrOf, IsNone};
-ghost use Rattle.std.specs.Prelude.{slice_index_or};
-ghost use Rattle.domain_bitmap.specs.Blocks.{has_window, is_of_window, holds, merged_octet, bit_of};
-ghost use Rattle.domain_bitmap.specs.{Blocks.octets_of_blocks, Bitmap.{trimmed, bitmap_octets, block_if_any}};
+ghost use Rattle.domain_bitmap.specs.Blocks.{has_window, holds, AreSlots, IsPlace};
+ghost use Rattle.domain_bitmap.specs.{Blocks.octets_of_blocks, Bitmap.{trimmed, bitmap_octets, slot_block}};
 ghost use Rattle.domain_octets.specs.Octets.{IsOver, Octets};
 
 use crate::RtypeBitmap;
@@ -20,20 +19,48 @@ use std::marker::Model;
 /// The octets of a block in a builder: its window, its length, and the 32 octets of the window.
 pub(crate) const SLOT: usize = 34;
 
-#[tactic(auto, using(crate::proofs::BitmapLemmas::window_found, crate::proofs::BitmapLemmas::window_absent))]
-/// The first block of a window, if there is one.
-pub(crate) fn find_slot(slots: &[u8], window: u8) -> Option<usize>
-    ensures found { IfSome result (λ j. (j < length slots.now / 34)
-        × IsTrue (is_of_window slots.now window j)) }
-    ensures none { IfNone result (has_window slots.now window ≡ false) }
-    ensures variant { IsSome result ↔ IsTrue (has_window slots.now window) }
+/// The place of a window's block, or the one where it would stand.
+#[tactic(auto, using(std::proofs::lemmas::Grind::common_steps, crate::proofs::BitmapLemmas::find_steps))]
+fn find_slot(slots: &[u8], window: u8) -> Result<usize, usize>
+    requires { AreSlots slots.now }
+    ensures found { IfOk result (λ j. (j < length slots.now / 34)
+        × (slice_index slots.now (34 * j) ≡ window)) }
+    ensures place { IfErr result (λ j. IsPlace slots.now window j) }
 {
-    for j in 0..slots.len() / SLOT {
+    let count = slots.len() / SLOT;
+    for j in 0..count {
         if slots[SLOT * j] == window {
-            return Some(j);
+            return Ok(j);
+        }
+        if slots[SLOT * j] > window {
+            return Err(j);
         }
     }
-    None
+    Err(count)
+}
+
+/// The block of a window without types.
+fn empty_slot(window: u8) -> [u8; 34]
+    ensures { result ≡ window ∷ replicate 33 0 }
+{
+    let mut slot = [0; SLOT];
+    slot[0] = window;
+    slot
+}
+
+/// Puts octets before those from a place on. After a refusal nothing has changed.
+fn insert_at<B: OctetsBuilder>(buffer: &mut B, at: usize, slice: &[u8]) -> Result<(), AppendError>
+    requires { at ≤ length (B.octets buffer.old) }
+    ensures ok { OnOk result (B.octets buffer.new ≡ take at (B.octets buffer.old)
+        ++ (slice.now ++ drop at (B.octets buffer.old))) }
+    ensures short { IsErrOf result AppendError.ShortBuf
+        ↔ IsOver B.limit (length (B.octets buffer.old) + length slice.now) }
+    ensures memory { IsErrOf result AppendError.OutOfMemory → IsNone B.limit }
+    ensures err { OnErr result (B.octets buffer.new ≡ B.octets buffer.old) }
+{
+    buffer.append_slice(slice)?;
+    buffer.as_mut_slice()[at..].rotate_right(slice.len());
+    Ok(())
 }
 
 #[tactic(auto, using(crate::proofs::BitLemmas::trim_steps))]
@@ -49,25 +76,10 @@ pub(crate) fn used_len(octets: &[u8]) -> usize
     len
 }
 
-#[tactic(auto, using(std::proofs::lemmas::Grind::common_steps))]
-/// Writes octets in place of as many that stand from a place on. Takes no memory.
-pub(crate) fn write_at<B: OctetsBuilder>(buffer: &mut B, at: usize, octets: &[u8])
-    requires { at + length octets.now ≤ length (B.octets buffer.old) }
-    ensures written { B.octets buffer.new
-        ≡ take at (B.octets buffer.old)
-        ++ (octets.now ++ drop (at + length octets.now) (B.octets buffer.old)) }
-    ensures front { take (at + length octets.now) (B.octets buffer.new)
-        ≡ take at (B.octets buffer.old) ++ octets.now }
-{
-    let held = buffer.as_mut_slice();
-    let end = at + octets.len();
-    held[at..end].copy_from_slice(octets);
-}
-
 /// Sets a bit of an octet of the block at a place, the most significant bit being the first. Takes
 /// no memory.
 #[tactic(auto, using(std::proofs::lemmas::Nat::one_shl))]
-pub(crate) fn set_bit<B: OctetsBuilder>(buffer: &mut B, j: usize, octet: usize, bit: u8)
+fn set_bit<B: OctetsBuilder>(buffer: &mut B, j: usize, octet: usize, bit: u8)
     requires block { j < length (B.octets buffer.old) / 34 }
     requires octet { octet < 32 }
     requires bit { bit < 8 }
@@ -90,7 +102,7 @@ impl<B: OctetsBuilder> Model for RtypeBitmapBuilder<B> {
 
     ghost view = { λ b. B.octets b.buffer };
 
-    ghost invariant = { λ b. length (B.octets b.buffer) % 34 ≡ 0 };
+    ghost invariant = { λ b. AreSlots (B.octets b.buffer) };
 }
 
 impl RtypeBitmapBuilder<Vec<u8>> {
@@ -140,7 +152,7 @@ impl<B: OctetsBuilder> RtypeBitmapBuilder<B> {
         })
     }
 
-    /// The place of the first block of a window; where there is none, one without types is added.
+    /// The place of the block of a window; where there is none, one without types is put there.
     #[tactic(auto, using(crate::proofs::BitmapLemmas::block_steps))]
     fn window_block(&mut self, window: u8) -> Result<usize, AppendError>
         ensures place { IfOk result (λ j. (j < length self.new / 34)
@@ -156,15 +168,13 @@ impl<B: OctetsBuilder> RtypeBitmapBuilder<B> {
             → (has_window self.old window ≡ false) × IsNone B.limit }
         ensures err { OnErr result (self.new ≡ self.old) }
     {
-        let slots = self.buffer.as_slice();
-        if let Some(j) = find_slot(slots, window) {
-            return Ok(j);
+        match find_slot(self.buffer.as_slice(), window) {
+            Ok(j) => Ok(j),
+            Err(j) => {
+                insert_at(&mut self.buffer, SLOT * j, &empty_slot(window))?;
+                Ok(j)
+            }
         }
-        let j = slots.len() / SLOT;
-        let mut slot = [0; SLOT];
-        slot[0] = window;
-        self.buffer.append_slice(&slot)?;
-        Ok(j)
     }
 
     /// Adds a type. A type whose window has a block already takes no memory and is never refused.
@@ -204,125 +214,45 @@ impl<B: OctetsBuilder> RtypeBitmapBuilder<B> {
         ensures { result ≡ bitmap_octets (holds self) }
     {
         let RtypeBitmapBuilder { mut buffer } = self;
-        let len = pack(&mut buffer);
+        let len = pack(buffer.as_mut_slice());
         buffer.truncate(len);
         RtypeBitmap::from_octets_unchecked(buffer.freeze())
     }
 }
 
-/// How many windows there are.
-const WINDOWS: usize = 256;
-
-/// How many octets all windows have, 32 each.
-const TABLE: usize = 8192;
-
-/// Sets in the octets of all windows the bits of a builder's block at a place.
-fn merge(octets: &mut [u8], slots: &[u8], j: usize)
-    requires all { length octets.old ≡ 8192 }
-    requires inside { j < length slots.now / 34 }
-    ensures merged { (i : ℕ) → slice_index octets.new i ≡ merged_octet octets.old slots.now j i }
-    ensures size { length octets.new ≡ length octets.old }
-{
-    let start = slots[SLOT * j] as usize * 32;
-    for i in 0..32 {
-        octets[start + i] |= slots[SLOT * j + 2 + i];
-    }
-}
-
-/// Puts the types of a builder's blocks into the octets of all windows, which are zeros, and tells
-/// which windows have a block.
-#[tactic(auto, using(std::proofs::lemmas::Grind::common_steps, crate::proofs::BitLemmas::bit_reads), unfolding(crate::specs::Blocks::holds, crate::specs::Blocks::has_window))]
-fn fill(octets: &mut [u8], present: &mut [bool], slots: &[u8])
-    requires octets { (i : ℕ) → slice_index octets.old i ≡ 0 }
-    requires all { length octets.old ≡ 8192 }
-    requires present { (w : ℕ) → slice_index_or present.old w false ≡ false }
-    requires windows { length present.old ≡ 256 }
-    ensures types { (t : ℕ) → t < 65536 → bit_of (slice_index octets.new (t / 8)) (t % 8)
-        ≡ holds slots.now t }
-    ensures windows { (w : ℕ) → slice_index_or present.new w false ≡ has_window slots.now w }
-    ensures absent { (i : ℕ) → slice_index_or present.new (i / 32) false ≡ false
-        → slice_index octets.new i ≡ 0 }
-    ensures size { length octets.new ≡ length octets.old }
-    ensures count { length present.new ≡ length present.old }
-{
-    for j in 0..slots.len() / SLOT {
-        merge(octets, slots, j);
-        present[slots[SLOT * j] as usize] = true;
-    }
-}
-
-/// Writes the block of a window where it has types, and says where the blocks end then.
-#[tactic(auto, using(std::proofs::lemmas::Grind::common_steps, crate::proofs::BitmapLemmas::block_written))]
-fn write_block<B: OctetsBuilder>(buffer: &mut B, end: usize, window: u8, octets: &[u8]) -> usize
-    requires room { end + 34 ≤ length (B.octets buffer.old) }
-    requires small { end + 34 < 2 ^ 64 }
-    requires fits { length octets.now ≤ 32 }
-    ensures written { take result (B.octets buffer.new) ≡ take end (B.octets buffer.old)
-        ++ octets_of_blocks (block_if_any window (trimmed octets.now)) }
-    ensures size { length (B.octets buffer.new) ≡ length (B.octets buffer.old) }
+/// Moves the block at a place to where the blocks before it end, cut after its last octet with a
+/// type, and says where it ends then. One without types goes.
+#[tactic(auto, using(std::proofs::lemmas::Grind::common_steps, crate::proofs::BitmapLemmas::pack_steps))]
+fn pack_slot(slots: &mut [u8], end: usize, j: usize) -> usize
+    requires before { end ≤ 34 * j }
+    requires inside { j < length slots.old / 34 }
+    ensures written { take result slots.new
+        ≡ take end slots.old ++ octets_of_blocks (slot_block slots.old j) }
+    ensures rest { drop (34 * (j + 1)) slots.new ≡ drop (34 * (j + 1)) slots.old }
+    ensures size { length slots.new ≡ length slots.old }
     ensures grows { result ≤ end + 34 }
 {
-    let len = used_len(octets);
+    let at = SLOT * j;
+    let len = used_len(&slots[at + 2..at + SLOT]);
     if len == 0 {
         return end;
     }
-    write_at(buffer, end, &[window, len as u8]);
-    write_at(buffer, end + 2, &octets[..len]);
+    slots[at + 1] = len as u8;
+    slots.copy_within(at..at + 2 + len, end);
     end + 2 + len
 }
 
-/// Writes the blocks in the order of their windows, and says where they end.
-fn pack_all<B: OctetsBuilder>(buffer: &mut B) -> usize
-    requires { length (B.octets buffer.old) % 34 ≡ 0 }
-    ensures { take result (B.octets buffer.new) ≡ bitmap_octets (holds (B.octets buffer.old)) }
+/// Moves a builder's blocks together, each cut after its last octet with a type, and says where
+/// they end.
+#[tactic(auto, using(std::proofs::lemmas::Grind::common_steps, crate::proofs::BitmapLemmas::spelled_steps))]
+fn pack(slots: &mut [u8]) -> usize
+    requires { AreSlots slots.old }
+    ensures { take result slots.new ≡ bitmap_octets (holds slots.old) }
 {
-    let slots = buffer.as_slice();
-    let size = slots.len();
-    let mut octets = [0; TABLE];
-    let mut present = [false; WINDOWS];
-    fill(&mut octets, &mut present, slots);
-    laws::slices_hold_octets(&octets);
+    laws::slices_hold_octets(slots);
     let mut end = 0;
-    for window in 0..WINDOWS {
-        if !present[window] {
-            continue;
-        }
-        let own = &octets[32 * window..32 * window + 32];
-        end = write_block(buffer, end, window as u8, own);
+    for j in 0..slots.len() / SLOT {
+        end = pack_slot(slots, end, j);
     }
     end
-}
-
-/// Cuts the only block, and says where it ends.
-#[tactic(auto, using(std::proofs::lemmas::Grind::common_steps, crate::proofs::BitmapLemmas::one_steps))]
-fn pack_one<B: OctetsBuilder>(buffer: &mut B) -> usize
-    requires { length (B.octets buffer.old) ≡ 34 }
-    ensures { take result (B.octets buffer.new) ≡ bitmap_octets (holds (B.octets buffer.old)) }
-{
-    let slots = buffer.as_slice();
-    laws::slices_hold_octets(slots);
-    let len = used_len(&slots[2..]);
-    if len == 0 {
-        return 0;
-    }
-    write_at(buffer, 1, &[len as u8]);
-    len + 2
-}
-
-/// Writes a builder's blocks in the order of their windows, each cut after its last octet with a
-/// type, and says where they end. Takes no memory.
-#[tactic(auto, using(crate::proofs::BitmapLemmas::holds_nothing))]
-pub(crate) fn pack<B: OctetsBuilder>(buffer: &mut B) -> usize
-    requires { length (B.octets buffer.old) % 34 ≡ 0 }
-    ensures { take result (B.octets buffer.new) ≡ bitmap_octets (holds (B.octets buffer.old)) }
-{
-    let len = buffer.as_slice().len();
-    if len == 0 {
-        return 0;
-    }
-    if len == SLOT {
-        pack_one(buffer)
-    } else {
-        pack_all(buffer)
-    }
 }

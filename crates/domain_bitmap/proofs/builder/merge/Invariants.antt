@@ -1,9 +1,0 @@
-use Rattle.std.proofs.Common.{◌≡◌, ℕ, ◌*◌, get_or}
-use Rattle.domain_bitmap.proofs.BitmapLemmas.{merged_at}
-use Rattle.domain_bitmap.proofs.builder.merge.Given as goal
-
-abbrev pub invariant-loop-i : goal.invariant-loop-i
-invariant-loop-i l = record {
-  merged : (p : ℕ) → get_or l.octets p 0 ≡ merged_at l.initial.octets l.slots l.j l.i p;
-  start : l.start ≡ get_or l.slots (34 * l.j) 0 * 32;
-}
