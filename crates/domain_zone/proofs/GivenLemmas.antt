@@ -52,13 +52,16 @@ no_clash_itself : (r : ZoneRecord) → clashes r r ≡ false
 no_clash_itself r = grind (arith, common_steps, nat_tests)
 
 -- what clashes with a record clashes with the one behind it, where these two do not
-clash_behind : (p r x : ZoneRecord) → p.rtype ≤ r.rtype → r.rtype ≤ x.rtype → clashes p r ≡ false → clashes p x ≡ true → (p.rtype ≡ r.rtype) × (clashes r x ≡ true)
+clash_behind : (p r x : ZoneRecord) → p.rtype ≤ r.rtype → r.rtype ≤ x.rtype → clashes p r ≡ false → clashes p x ≡ true
+    → (p.rtype ≡ r.rtype) × (clashes r x ≡ true)
 clash_behind p r x low high even e = grind (arith, common_steps, nat_tests)
 
 -- one record more before others
 adds_none : (p : ZoneRecord) (zs : List ZoneRecord) → ((x : ZoneRecord) → In x zs → clashes p x ≡ true → has_clash zs ≡ true)
     → has_clash (p ∷ zs) ≡ has_clash zs
-adds_none p zs f = either_way _ _ (λ e. let x = any_in (λ x. list_any (clashes x) (p ∷ zs)) (p ∷ zs) e in let y = any_in (clashes x.0) (p ∷ zs) x.2 in go x.0 y.0 x.1 y.1 y.2)
+adds_none p zs f = either_way _ _
+    (λ e. let x = any_in (λ x. list_any (clashes x) (p ∷ zs)) (p ∷ zs) e in
+    let y = any_in (clashes x.0) (p ∷ zs) x.2 in go x.0 y.0 x.1 y.1 y.2)
     (λ e. any_two clashes zs (p ∷ zs) (λ x i. inr i) e)
   where
     go : (x y : ZoneRecord) → In x (p ∷ zs) → In y (p ∷ zs) → clashes x y ≡ true → has_clash zs ≡ true

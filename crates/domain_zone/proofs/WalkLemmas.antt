@@ -258,7 +258,8 @@ module _ (g : ZoneRecord) (gs R : List ZoneRecord) (at : AreAt g.owner gs) (afte
   abbrev joint : List ZoneRecord
   joint = (g ∷ gs) ++ R
 
-  distinct_after : (group : List ZoneRecord) → AreAt g.owner group → filter (λ y. not (same_name g.owner y)) (distinct (owners (group ++ R))) ≡ distinct (owners R)
+  distinct_after : (group : List ZoneRecord) → AreAt g.owner group
+      → filter (λ y. not (same_name g.owner y)) (distinct (owners (group ++ R))) ≡ distinct (owners R)
   distinct_after [] here = filter_whole _ _ (all_distinct _ _ (all_map _ _ R (weaker _ _ (λ r h. ap not (apart_left g.owner r.owner h)) R after)))
   distinct_after (r ∷ group) here = grind (arith, common_steps, filter_twice, (same_itself g.owner r.owner (sym here.0)), (distinct_after group here.1))
 
@@ -293,7 +294,8 @@ module _ (g : ZoneRecord) (gs R : List ZoneRecord) (at : AreAt g.owner gs) (afte
         none r h = ap (λ b. occludes d joint a r.owner && b) (not_strictly g.owner r.owner h) ∙ and_right (occludes d joint a r.owner) false refl
 
     -- what occludes a later name is this one, or comes later too
-    occluded_later : (y : Name) → before g.owner y ≡ true → is_occluded d joint a y ≡ ((occludes d joint a g.owner && is_strictly_below y g.owner) || is_occluded d R a y)
+    occluded_later : (y : Name) → before g.owner y ≡ true
+        → is_occluded d joint a y ≡ ((occludes d joint a g.owner && is_strictly_below y g.owner) || is_occluded d R a y)
     occluded_later y h =
         list_any-append (above y) (g ∷ gs) R ∙ (λ i. any_at joint gs at i || same_any _ (above y) _ later R after i)
       where
@@ -311,7 +313,8 @@ module _ (g : ZoneRecord) (gs R : List ZoneRecord) (at : AreAt g.owner gs) (afte
 
     module _ (o : Option Name) where
       -- past the name, where the last name that occludes is known then
-      later : (o' : Option Name) → ((y : Name) → before g.owner y ≡ true → (is_under o y || (occludes d joint a g.owner && is_strictly_below y g.owner)) ≡ is_under o' y)
+      later : (o' : Option Name)
+          → ((y : Name) → before g.owner y ≡ true → (is_under o y || (occludes d joint a g.owner && is_strictly_below y g.owner)) ≡ is_under o' y)
           → map (owner_at joint a) (filter (stands d a o joint) (distinct (owners R))) ≡ found d a o' R
       later o' on = same_kept (λ y. before g.owner y ≡ true) _ _ (λ y h. ap (λ b. is_at_or_below y a && not (is_under o y || b)) (occluded_later y h)
           ∙ regrouped _ _ _ _ _ (on y h)) _ _
