@@ -3,4 +3,3 @@ pub mod BitmapLemmas
 pub mod BlockLemmas
 pub mod TextLemmas
 pub mod CountedLemmas
-pub mod ListLemmas

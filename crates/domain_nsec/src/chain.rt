@@ -7,9 +7,9 @@ ghost use Rattle.domain_nsec.specs.Chain.{links_of};
 
 use crate::GenerateNsecConfig;
 use domain_base::{MakeName, ParsedName, ToName};
-use domain_bitmap::RtypeBitmaps;
+use domain_bitmap::RtypeBitmap;
 use domain_chain_rdata::Nsec;
-use domain_octets::{FromBuilder, GrowingBuilder, OutOfMemory};
+use domain_octets::{FromBuilder, GrowingBuilder, OutOfMemory, SmallOctets};
 use domain_record::{Record, ZoneData};
 use domain_records::{RecordsIter, SigningError};
 use domain_zone::{ApexSoa, find_soa, list_owners};
@@ -20,15 +20,15 @@ use std::marker::Model;
 pub type BorrowedNsec<'a> = Record<ParsedName<'a>, Nsec<&'a [u8], ParsedName<'a>>>;
 
 /// The NSEC chain of a zone before its records are made. Contracts see the links that its records
-/// have. It borrows the octets of the names from the records of the zone, and holds 24 octets for
-/// each of them, where its name lies and where its types end, beside the octets of its types: a
-/// caller that needs one record at a time needs no list of them.
+/// have. It borrows the octets of the names from the records of the zone, and holds 64 octets for
+/// each of them, where its name lies and its types: a caller that needs one record at a time needs
+/// no list of them.
 #[derive(Drop)]
 pub struct NsecChain<'a, N: ToName> {
     apex: &'a N,
     soa: ApexSoa,
     names: Vec<ParsedName<'a>>,
-    types: RtypeBitmaps,
+    types: Vec<RtypeBitmap<SmallOctets>>,
 }
 
 impl<'a, N: ToName> Model for NsecChain<'a, N> {
@@ -37,9 +37,9 @@ impl<'a, N: ToName> Model for NsecChain<'a, N> {
 
     ghost Value = { List Link };
 
-    ghost view = { λ c. links_in c.soa (N.labels c.apex.now) c.names.items c.types };
+    ghost view = { λ c. links_in c.soa (N.labels c.apex.now) c.names.items c.types.items };
 
-    ghost invariant = { λ c. length c.names.items ≡ length c.types };
+    ghost invariant = { λ c. length c.names.items ≡ length c.types.items };
 }
 
 /// The owner at a place, or the apex past the last one: so the last record points to the apex.
@@ -58,9 +58,14 @@ fn owner_or_apex<'s, N: ToName>(
 
 impl<'a, N: ToName> NsecChain<'a, N> {
     /// The chain of these names and their types.
-    fn new(apex: &'a N, soa: ApexSoa, names: Vec<ParsedName<'a>>, types: RtypeBitmaps) -> Self
-        requires { length names.items ≡ length types }
-        ensures { result ≡ links_in soa (N.labels apex.now) names.entry.items types }
+    fn new(
+        apex: &'a N,
+        soa: ApexSoa,
+        names: Vec<ParsedName<'a>>,
+        types: Vec<RtypeBitmap<SmallOctets>>,
+    ) -> Self
+        requires { length names.items ≡ length types.items }
+        ensures { result ≡ links_in soa (N.labels apex.now) names.entry.items types.items }
     {
         NsecChain {
             apex,
@@ -141,10 +146,10 @@ impl<'a, N: ToName> NsecChain<'a, N> {
         if place >= self.names.len() {
             return None;
         }
-        let types = self.types.get(place)?;
         let owner = self.names[place].as_parsed();
+        let types = &self.types[place];
         let next = owner_or_apex(&self.names, place + 1, self.apex);
-        let nsec = Nsec::new(next, types);
+        let nsec = Nsec::new(next, types.with_octets(types.as_slice()));
         Some(Record::new(owner, self.soa.class, self.soa.chain_ttl(), nsec))
     }
 }

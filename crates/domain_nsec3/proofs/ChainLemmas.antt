@@ -200,25 +200,25 @@ module _ (a : Name) (chain : HashedChain) (p : Common) where
   -- what stands at a place, with the hash after it
   pub link_is : (item : Hashed) (next : Octets) (i : ℕ) (d : HashedLink) → i < length chain.hashed.items → item ≡ get_or chain.hashed.items i item
       → next ≡ (get_or chain.hashed.items (i + 1) (get_or chain.hashed.items 0 item)).hash
-      → link_to a p chain.types item next ≡ get_or (links_in a chain p) i d
+      → link_to a p chain.types.items item next ≡ get_or (links_in a chain p) i d
   link_is item next i d within is after =
       let at = cycle_at chain.hashed.items i (item, item) within in
       grind (arith, common_steps, cycle_length)
 
   pub links_counted : length (links_in a chain p) ≡ length chain.hashed.items
   links_counted =
-      length-map (cycle chain.hashed.items) (λ (q : Hashed × Hashed). link_to a p chain.types q.0 q.1.hash) ∙ cycle_length chain.hashed.items
+      length-map (cycle chain.hashed.items) (λ (q : Hashed × Hashed). link_to a p chain.types.items q.0 q.1.hash) ∙ cycle_length chain.hashed.items
 
   -- the record at a place has the hash at that place
   pub hash_there : (i : ℕ) (h : Hashed) (v : Octets) → i < length chain.hashed.items → h ≡ get_or chain.hashed.items i h → v ≡ h.hash
       → All (λ octet. octet < 256) v → (k : HashedLink) × IsRecordOf a (links_in a chain p) i k v
   hash_there i h v within is v_is octets =
-      let d = link_to a p chain.types h h.hash in (
-        get_or (links_in a chain p) i (link_to a p chain.types h h.hash),
+      let d = link_to a p chain.types.items h h.hash in (
+        get_or (links_in a chain p) i (link_to a p chain.types.items h h.hash),
         record {
           there = slice_get-get_or (links_in a chain p) i d (omega (arith, within, links_counted));
           spelled =
-              ap (λ k. k.owner) (get_or-map (λ (q : Hashed × Hashed). link_to a p chain.types q.0 q.1.hash) (cycle chain.hashed.items) i (h, h) d
+              ap (λ k. k.owner) (get_or-map (λ (q : Hashed × Hashed). link_to a p chain.types.items q.0 q.1.hash) (cycle chain.hashed.items) i (h, h) d
               (omega (arith, within, cycle_length chain.hashed.items)))
               ∙ ap (λ (g : Hashed). hashed_owner a g.hash) (ap (λ q. q.0) (cycle_at chain.hashed.items i (h, h) within) ∙ sym is)
               ∙ ap (hashed_owner a) (sym v_is);
@@ -282,7 +282,7 @@ module _ (L : List ZoneRecord) (a : Name) (config : ChainConfig) (names : List N
 
   -- each linked with the next one, with the types of its name
   pub chain_of_zone : (chain : HashedChain) (p : Common) (numbers : ApexSoa)
-      → ((i : ℕ) → i < length names → get_or chain.types i [] ≡ bitmap_octets (nsec3_lists L a config (get_or names i [])))
+      → ((i : ℕ) → i < length names → get_or chain.types.items i [] ≡ bitmap_octets (nsec3_lists L a config (get_or names i [])))
       → soa_of L a ≡ Some numbers → p.ttl ≡ chain_ttl numbers → p.parameters ≡ config.parameters → p.flags ≡ config.flags
       → AreOrderedHashes a config.hash names chain.hashed.items → IsHashedChain L a config (links_in a chain p)
   chain_of_zone chain p numbers listed soa ttl parameters flags o = record {
@@ -299,9 +299,9 @@ module _ (L : List ZoneRecord) (a : Name) (config : ChainConfig) (names : List N
     linked = map-map ends link (cycle hs) ∙ sym (map-map (ends_of a) (λ (q : Hashed × Hashed). (q.0.hash, q.1.hash)) (cycle hs))
         ∙ ap (map (ends_of a)) (sym (cycle_map (λ (h : Hashed). h.hash) hs) ∙ ap cycle (sym (map-map (λ n. n.hash) named hs)));
     bits = map-map (λ k. k.bits) link (cycle hs)
-        ∙ sym (map-map (λ (h : Hashed). get_or chain.types h.place []) (λ (q : Hashed × Hashed). q.0) (cycle hs))
-        ∙ ap (map (λ (h : Hashed). get_or chain.types h.place [])) (cycle_owners hs)
-        ∙ map_same (λ (h : Hashed). get_or chain.types h.place []) (λ h. bitmap_octets (nsec3_lists L a config (name_at names h))) hs
+        ∙ sym (map-map (λ (h : Hashed). get_or chain.types.items h.place []) (λ (q : Hashed × Hashed). q.0) (cycle hs))
+        ∙ ap (map (λ (h : Hashed). get_or chain.types.items h.place [])) (cycle_owners hs)
+        ∙ map_same (λ (h : Hashed). get_or chain.types.items h.place []) (λ h. bitmap_octets (nsec3_lists L a config (name_at names h))) hs
         (recursion_from_All _ hs (All-weaker (IsHashOf a config.hash names) _ (λ h e. listed h.place e.inside) hs o.hashes.each))
         ∙ sym (map-map (λ n. bitmap_octets (nsec3_lists L a config n.name)) named hs);
     numbered = All-map (λ k. (k.class ≡ in_class) × (k.ttl ≡ chain_ttl numbers)) link (cycle hs) (λ k d l. (refl, ttl));
@@ -315,4 +315,4 @@ module _ (L : List ZoneRecord) (a : Name) (config : ChainConfig) (names : List N
       named h = record { name = name_at names h; hash = h.hash }
 
       link : Hashed × Hashed → HashedLink
-      link q = link_to a p chain.types q.0 q.1.hash
+      link q = link_to a p chain.types.items q.0 q.1.hash

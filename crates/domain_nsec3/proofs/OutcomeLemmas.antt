@@ -40,7 +40,7 @@ front_told f (x ∷ xs) ys (suc i) none within = front_told f xs ys i none (omeg
 pub record AreGathered (L : List ZoneRecord) (a : Name) (config : ChainConfig) (owners : ListedOwners) (names : List Name) : Type 0 where
   pub order : OwnersNeverDescend L
   pub named : owners.names.items ≡ original_owners L a config
-  pub typed : owners.types ≡ map (λ n. bitmap_octets (nsec3_lists L a config n)) (original_owners L a config)
+  pub typed : owners.types.items ≡ map (λ n. bitmap_octets (nsec3_lists L a config n)) (original_owners L a config)
   pub joined : AreWithEmpty a owners.names.items names
 
 module _ {L : List ZoneRecord} {a : Name} {config : ChainConfig} {owners : ListedOwners} {names : List Name}
@@ -74,13 +74,13 @@ module _ {L : List ZoneRecord} {a : Name} {config : ChainConfig} {owners : Liste
   unowned : (x : Name) → is_empty L a config x ≡ true → [] ≡ bitmap_octets (nsec3_lists L a config x)
   unowned x e = no_types ∙ grind (arith, common_steps)
 
-  typed : (i : ℕ) → i < length names → get_or owners.types i [] ≡ bitmap_octets (nsec3_lists L a config (get_or names i []))
+  typed : (i : ℕ) → i < length names → get_or owners.types.items i [] ≡ bitmap_octets (nsec3_lists L a config (get_or names i []))
   typed i within =
       rw (known.typed, joined_are) (front_told (λ n. bitmap_octets (nsec3_lists L a config n)) (original_owners L a config) empty i
       (weaker _ _ (λ x e. unowned x (sym (empty_are L a config x) ∙ e)) empty all_empty) (subst (λ ns. i < length ns) joined_are within))
 
   pub outcome_chain : (chain : HashedChain) (p : Common) (numbers : ApexSoa) → soa_of L a ≡ Some numbers → p.ttl ≡ chain_ttl numbers
-      → p.parameters ≡ config.parameters → p.flags ≡ config.flags → chain.types ≡ owners.types
+      → p.parameters ≡ config.parameters → p.flags ≡ config.flags → chain.types.items ≡ owners.types.items
       → AreOrderedHashes a config.hash names chain.hashed.items → IsHashedChain L a config (links_in a chain p)
   outcome_chain chain p numbers soa ttl parameters flags same =
       chain_of_zone L a config names are chain p numbers (λ i l. ap (λ ts. get_or ts i []) same ∙ typed i l) soa ttl parameters flags

@@ -8,9 +8,9 @@ use crate::HashedOwner;
 use crate::chain::{HashedChain, hash_after};
 use crate::hash::Hashed;
 use domain_base::{ParsedName, ToName, Ttl};
-use domain_bitmap::{OwnerHash, RtypeBitmap, RtypeBitmaps};
+use domain_bitmap::{OwnerHash, RtypeBitmap};
 use domain_chain_rdata::{Nsec3, Nsec3param};
-use domain_octets::Octets;
+use domain_octets::{Octets, SmallOctets};
 use domain_record::Record;
 use std::fmt;
 use std::marker::Model;
@@ -66,13 +66,14 @@ impl fmt::Display for BorrowedNsec3<'_> {
 }
 
 /// The types at a place; past the end there are none.
-fn lend_types<'a>(types: &'a RtypeBitmaps, place: usize) -> RtypeBitmap<&'a [u8]>
+#[tactic(auto, using(std::proofs::lemmas::Grind::common_steps, std::proofs::lemmas::List::get_or_past))]
+fn lend_types(types: &[RtypeBitmap<SmallOctets>], place: usize) -> RtypeBitmap<&[u8]>
     ensures { result ≡ slice_index_or types.now place [] }
 {
     if let Some(own) = types.get(place) {
-        return own;
+        return own.with_octets(own.as_slice());
     }
-    let none: &'a [u8] = &[];
+    let none: &[u8] = &[];
     let Ok(types) = RtypeBitmap::from_octets(none) else {
         unreachable!();
     };

@@ -16,10 +16,10 @@ use crate::GenerateNsec3Config;
 use crate::empty::names_over;
 use crate::hash::{Hashed, hash_into};
 use domain_base::{ParsedName, ToName};
-use domain_bitmap::RtypeBitmaps;
+use domain_bitmap::RtypeBitmap;
 use domain_chain_rdata::Nsec3param;
 use domain_hasher::{Nsec3HashError, Nsec3Hasher};
-use domain_octets::{Octets, OutOfMemory};
+use domain_octets::{Octets, OutOfMemory, SmallOctets};
 use domain_record::ZoneData;
 use domain_records::{RecordsIter, SigningError, Sorter};
 use domain_zone::{ApexSoa, ListedOwners, list_owners};
@@ -30,7 +30,7 @@ use std::alloc::Global;
 #[derive(Drop)]
 pub(crate) struct HashedChain {
     pub(crate) hashed: Vec<Hashed>,
-    pub(crate) types: RtypeBitmaps,
+    pub(crate) types: Vec<RtypeBitmap<SmallOctets>>,
 }
 
 /// Sorts hashes. A refusal leaves the list as it was.
@@ -73,11 +73,11 @@ pub(crate) fn hash_after(hashed: &[Hashed], at: usize) -> &[u8]
 /// The chain of these hashes, where no two of them are alike. Takes no memory.
 fn without_collision(
     hashed: Vec<Hashed>,
-    types: RtypeBitmaps,
+    types: Vec<RtypeBitmap<SmallOctets>>,
 ) -> Result<HashedChain, Nsec3HashError>
     requires { IsSortedByKey (λ h. h.hash) (slice_cmp nat_cmp) hashed.items }
     ensures ok { IfOk result (λ chain. (chain.hashed.items ≡ hashed.items)
-        × (chain.types ≡ types)) }
+        × (chain.types.items ≡ types.items)) }
     ensures apart { OnOk result
         (IsStrictlySortedBy (slice_cmp nat_cmp) (map (λ h. h.hash) hashed.items)) }
     ensures err { IfErr result (λ e. (e ≡ hash_error.CollisionDetected)
@@ -97,12 +97,12 @@ fn hash_chain<S: Sorter, H: Nsec3Hasher, O: Octets>(
     params: &Nsec3param<O>,
     apex: &ParsedName<'_>,
     names: Vec<ParsedName<'_>>,
-    types: RtypeBitmaps,
+    types: Vec<RtypeBitmap<SmallOctets>>,
 ) -> Result<HashedChain, Nsec3HashError>
     ensures chain { IfOk result (λ chain. AreOrderedHashes apex.now
         (hash_by (H.answer hasher.now) (parameters_of params.now)) names.entry.items
         chain.hashed.items) }
-    ensures types { IfOk result (λ chain. chain.types ≡ types) }
+    ensures types { IfOk result (λ chain. chain.types.items ≡ types.items) }
     ensures fault { IfErr result (IsHashingFault apex.now
         (hash_by (H.answer hasher.now) (parameters_of params.now)) names.entry.items) }
 {

@@ -25,8 +25,7 @@ use std::marker::Model;
 /// The NSEC3 chain of a zone before its records are made, and the record that tells its parameters
 /// (RFC 5155, section 7.1). Contracts see the links that its records have, and that record. It
 /// borrows the apex, and holds 48 octets for each name of the chain, and for each of those that own
-/// records 8 more beside the octets of its types: a caller that needs one record at a time needs no
-/// list of them.
+/// records 48 more, its types: a caller that needs one record at a time needs no list of them.
 #[derive(Drop)]
 pub struct Nsec3Chain<'a, O: Octets> {
     chain: HashedChain,

@@ -1,14 +1,14 @@
 -- What is found of the owners of a zone: the SOA, their TTLs and types, and what a chain lists.
-use Rattle.std.proofs.Common.{◌≡◌, List, [], ◌∷◌, ◌++◌, Option, Some, None, true, false, cond, nat_eq, refl, ap, ◌∙◌, inl, inr, ◌≤◌, ◌<◌, ℕ, Bool, not, ◌&&◌}
-use Rattle.std.proofs.{Common.{◌||◌, map, sym, subst, arith, append_assoc, append-nil, is_some, IfSome, map-id}, lemmas.Bool.{cases_Bool, or_parts}}
-use Rattle.std.{proofs.lemmas.Bool.{and_right, and_parts, eq-eqb, eqb-true, false≢true, or_cases, Decides.nat_tests}, specs.Prelude.filter}
+use Rattle.std.proofs.Common.{◌≡◌, List, [], ◌∷◌, ◌++◌, Option, Some, None, true, false, cond, nat_eq, refl, ap, ◌∙◌, inl, inr, ◌≤◌, ◌<◌, ℕ, Bool}
+use Rattle.std.proofs.{Common.{◌||◌, map, sym, subst, arith, append_assoc, is_some, IfSome, map-id}, lemmas.Bool.{cases_Bool, or_parts}}
+use Rattle.std.{proofs.lemmas.Bool.{and_right, eq-eqb, false≢true, Decides.nat_tests}, specs.Prelude.filter}
 use Rattle.std.{proofs.lemmas.{Grind.common_steps, Simd.map-map}, specs.List.{list_any, AllByRecursion}}
 use Rattle.domain_names.specs.{Name.{same_name, Name}, Laws.same_name_same}
 use Rattle.domain_base.specs.Types.{soa}
 use Rattle.domain_zone.specs.Zone.{of_only, is_soa, soa_of, ZoneRecord, owns, clashes, has_clash, IsFirstClash, lists_type, may_list, records_of}
 use Rattle.domain_zone.specs.{Zone.{unoccluded_owners, has_unequal_ttls, as_zone_record, OwnerRecords, covered_names, owner_at}, declared.soa.ApexSoa.ApexSoa}
-use Rattle.domain_zone.proofs.{PairLemmas.{any_none, in_either, in_filter, in_filtered, in_front, in_middle, In, all_in, all_from_in}, WalkLemmas.any_two}
-use Rattle.domain_zone.proofs.{WalkLemmas.{in_any, filter_passes, all_front, all_map, filter_whole, weaker, any_map}, NameLemmas.{either_way, one_lowered}}
+use Rattle.domain_zone.proofs.{PairLemmas.{in_filter, in_filtered, In, all_in, all_from_in}, WalkLemmas.{any_two, any_in, filter_none}}
+use Rattle.domain_zone.proofs.{WalkLemmas.{in_any, filter_passes, all_map, filter_whole, weaker, any_map}, NameLemmas.{either_way, one_lowered}}
 use Rattle.domain_zone.{proofs.NameLemmas.same_itself, specs.declared.listed.ListedOwners.ListedOwners}
 use Rattle.domain_record.specs.declared.record.Record.{Record}
 use Rattle.domain_records.specs.Order.{HoldsPairwise, MayFollow, IsInOrder}
@@ -35,71 +35,40 @@ soa_owned L a numbers e = elim (cases_Bool (owns L a)) [ inl t ↦ t | inr t ↦
         let p = or_parts (same_name r.owner a) (owns K a) h in
         (λ i. cond (and_right (nat_eq r.rtype soa) (same_name r.owner a) p.0 i) (r ∷ filter (is_soa a) K) (filter (is_soa a) K)) ∙ filtered K p.1
 
--- ---- Where types never descend, two records of one type differ in TTL exactly where two neighbours do.
-
--- two neighbours clash
-abbrev pub has_neighbour_clash : List ZoneRecord → Bool
-has_neighbour_clash [] = false
-has_neighbour_clash (r ∷ []) = false
-has_neighbour_clash (r ∷ s ∷ rs) = clashes r s || has_neighbour_clash (s ∷ rs)
+-- ---- Records whose types never descend: one that does not clash with its neighbour tells nothing that those behind it do not.
 
 -- the types of records never descend
 abbrev pub NeverDescend : List ZoneRecord → Type 0
 NeverDescend [] = Unit {0}
 NeverDescend (r ∷ rs) = AllByRecursion (λ s. r.rtype ≤ s.rtype) rs × NeverDescend rs
 
-no_clash_back : (r s : ZoneRecord) → clashes r s ≡ false → clashes s r ≡ false
-no_clash_back r s e = grind (arith, common_steps, nat_tests)
+no_clash_back : (r s : ZoneRecord) → clashes r s ≡ clashes s r
+no_clash_back r s = either_way _ _ (λ e. turned r s e) (λ e. turned s r e)
+  where
+    turned : (r s : ZoneRecord) → clashes r s ≡ true → clashes s r ≡ true
+    turned r s e = grind (arith, common_steps, nat_tests)
 
 no_clash_itself : (r : ZoneRecord) → clashes r r ≡ false
 no_clash_itself r = grind (arith, common_steps, nat_tests)
 
-no_clash_past : (r s t : ZoneRecord) → r.rtype ≤ s.rtype → clashes r s ≡ false → s.rtype ≤ t.rtype → clashes s t ≡ false → clashes r t ≡ false
-no_clash_past r s t low e high f = grind (arith, common_steps, nat_tests)
+-- what clashes with a record clashes with the one behind it, where these two do not
+clash_behind : (p r x : ZoneRecord) → p.rtype ≤ r.rtype → r.rtype ≤ x.rtype → clashes p r ≡ false → clashes p x ≡ true
+    → (p.rtype ≡ r.rtype) × (clashes r x ≡ true)
+clash_behind p r x low high even e = grind (arith, common_steps, nat_tests)
 
--- what clashes with no record of its type clashes with none that this one does not clash with
-further : (r s : ZoneRecord) (ts : List ZoneRecord) → AllByRecursion (λ t. clashes s t ≡ false) ts → AllByRecursion (λ t. r.rtype ≤ t.rtype) ts
-    → AllByRecursion (λ t. s.rtype ≤ t.rtype) ts → r.rtype ≤ s.rtype → clashes r s ≡ false → AllByRecursion (λ t. clashes r t ≡ false) ts
-further r s [] even low high first here = tt
-further r s (t ∷ ts) even low high first here = (
-  no_clash_past r s t first here high.0 even.0,
-  further r s ts even.1 low.1 high.1 first here,
-)
-
--- where no neighbours clash, the first record clashes with none
-first_even : (r : ZoneRecord) (rs : List ZoneRecord) → NeverDescend (r ∷ rs) → has_neighbour_clash (r ∷ rs) ≡ false
-    → AllByRecursion (λ s. clashes r s ≡ false) rs
-first_even r [] order e = tt
-first_even r (s ∷ rs) order e = grind (arith, common_steps, (further r s rs), (first_even s rs))
-
--- so no two of all do
-no_pair : (rs : List ZoneRecord) → NeverDescend rs → has_neighbour_clash rs ≡ false → (r s : ZoneRecord) → In r rs → In s rs → clashes r s ≡ false
-no_pair [] order e r s i j = absurd i
-no_pair (q ∷ rs) order e r s (inl i) (inl j) = grind (arith, common_steps, (no_clash_itself r))
-no_pair (q ∷ rs) order e r s (inl i) (inr j) = subst (λ x. clashes x s ≡ false) i (all_in _ rs s (first_even q rs order e) j)
-no_pair (q ∷ rs) order e r s (inr i) (inl j) =
-    no_clash_back s r (subst (λ x. clashes x r ≡ false) j (all_in _ rs r (first_even q rs order e) i))
-no_pair (q ∷ []) order e r s (inr i) (inr j) = absurd i
-no_pair (q ∷ p ∷ rs) order e r s (inr i) (inr j) = no_pair (p ∷ rs) order.1 (or_parts (clashes q p) _ e).1 r s i j
-
--- neighbours that clash are a pair that clashes
-some_pair : (rs : List ZoneRecord) → has_neighbour_clash rs ≡ true → (r : ZoneRecord) × (s : ZoneRecord) × In r rs × In s rs × (clashes r s ≡ true)
-some_pair [] e = absurd (false≢true e)
-some_pair (r ∷ []) e = absurd (false≢true e)
-some_pair (r ∷ s ∷ rs) e =
-    elim (or_cases (clashes r s) (has_neighbour_clash (s ∷ rs)) e) [
-      | inl h ↦ (r, s, inl refl, inr (inl refl), h)
-      | inr h ↦ let p = some_pair (s ∷ rs) h in (p.0, p.1, inr p.2, inr p.3, p.4)
-    ]
-
-pub neighbours_tell : (rs : List ZoneRecord) → NeverDescend rs → has_neighbour_clash rs ≡ has_clash rs
-neighbours_tell rs order =
-    either_way (has_neighbour_clash rs) (has_clash rs)
-    (λ e. let p = some_pair rs e in in_any (λ r. list_any (clashes r) rs) rs p.0 p.2 (in_any (clashes p.0) rs p.1 p.3 p.4))
-    (λ e. elim (cases_Bool (has_neighbour_clash rs)) [
-      | inl t ↦ t
-      | inr f ↦ absurd (false≢true (sym (any_none _ rs (λ r i. any_none _ rs (λ s j. no_pair rs order f r s i j))) ∙ e))
-    ])
+-- one record more before others
+adds_none : (p : ZoneRecord) (zs : List ZoneRecord) → ((x : ZoneRecord) → In x zs → clashes p x ≡ true → has_clash zs ≡ true)
+    → has_clash (p ∷ zs) ≡ has_clash zs
+adds_none p zs f = either_way _ _
+    (λ e. let x = any_in (λ x. list_any (clashes x) (p ∷ zs)) (p ∷ zs) e in
+    let y = any_in (clashes x.0) (p ∷ zs) x.2 in go x.0 y.0 x.1 y.1 y.2)
+    (λ e. any_two clashes zs (p ∷ zs) (λ x i. inr i) e)
+  where
+    go : (x y : ZoneRecord) → In x (p ∷ zs) → In y (p ∷ zs) → clashes x y ≡ true → has_clash zs ≡ true
+    go x y (inl i) (inl j) e = absurd (grind (arith, common_steps, (no_clash_itself p)))
+    go x y (inl i) (inr j) e = f y j (grind (arith, common_steps))
+    go x y (inr i) (inl j) e = f x i (grind (arith, common_steps, (no_clash_back x y)))
+    go x y (inr i) (inr j) e = in_any _ zs x i (in_any _ zs y j e)
 
 -- records whose types never descend, as a zone sees them
 module _ {N D : Type 0} (labels : N → Name) (rtype_of : D → ℕ) (minimum_of : D → Option ℕ) where
@@ -112,73 +81,72 @@ module _ {N D : Type 0} (labels : N → Name) (rtype_of : D → ℕ) (minimum_of
 
 -- ---- neighbours
 
--- a record that clashes with another is of its type, and both are of the records of that type
-clash_of_type : (zs : List ZoneRecord) (z w : ZoneRecord) → In z zs → In w zs → clashes z w ≡ true
-    → has_clash (filter (λ y. nat_eq y.rtype w.rtype) zs) ≡ true
-clash_of_type zs z w i j e =
-    let apart = and_parts (nat_eq z.rtype w.rtype && not (nat_eq z.rtype 46)) (not (nat_eq z.ttl w.ttl)) e in
-    let same = (and_parts (nat_eq z.rtype w.rtype) (not (nat_eq z.rtype 46)) apart.0).0 in
-    let q : ZoneRecord → Bool = λ y. nat_eq y.rtype w.rtype in
-    in_any _ _ z (in_filtered q zs z i same) (in_any _ _ w (in_filtered q zs w j (eq-eqb _ _ refl)) e)
+module _ (p r : ZoneRecord) (left : List ZoneRecord) (order : NeverDescend (p ∷ r ∷ left)) where
+  at_least : (x : ZoneRecord) → In x (r ∷ left) → r.rtype ≤ x.rtype
+  at_least x i = all_in (λ y. r.rtype ≤ y.rtype) (r ∷ left) x (omega arith, order.1.0) i
 
--- those of a list whose types never descend, and what follows them
-descend_parts : (xs ys : List ZoneRecord) → NeverDescend (xs ++ ys) → NeverDescend xs × NeverDescend ys
-descend_parts [] ys h = (tt, h)
-descend_parts (x ∷ xs) ys h = let k = descend_parts xs ys h.1 in (((all_front _ xs ys h.0).0, k.0), k.1)
+  -- of the records that pass a test of their types
+  quiet : (q : ℕ → Bool) → clashes p r ≡ false
+      → has_clash (filter (λ y. q y.rtype) (p ∷ r ∷ left)) ≡ has_clash (filter (λ y. q y.rtype) (r ∷ left))
+  quiet q even = elim (cases_Bool (q p.rtype)) [
+    | inl t ↦ rw t (adds_none p (filter test (r ∷ left)) (λ x i e.
+        let found = in_filter test (r ∷ left) x i in
+        let behind = clash_behind p r x order.0.0 (at_least x found.0) even e in
+        in_any _ _ r (in_filtered test (r ∷ left) r (inl refl) (sym (ap q behind.0) ∙ t)) (in_any _ _ x i behind.1)))
+    | inr f ↦ rw f refl
+  ]
+    where
+      test : ZoneRecord → Bool
+      test y = q y.rtype
 
--- those of a lesser type than a record's stand before it, and clash with none where no neighbours there do
-lesser_even : (front back : List ZoneRecord) (r : ZoneRecord) → NeverDescend (front ++ r ∷ back) → has_neighbour_clash front ≡ false
-    → (t : ℕ) → t < r.rtype → has_clash (filter (λ y. nat_eq y.rtype t) (front ++ r ∷ back)) ≡ false
-lesser_even front back r order quiet t less =
-    let q : ZoneRecord → Bool = λ y. nat_eq y.rtype t in
-    let parts = descend_parts front (r ∷ back) order in
-    let even : has_clash front ≡ false = sym (neighbours_tell front parts.0) ∙ quiet in
-    elim (cases_Bool _) [
-      | inl h ↦ absurd (false≢true (sym even ∙ any_two clashes _ front (λ z i.
-          let f = in_filter q (front ++ r ∷ back) z i in
-          elim (in_either front (r ∷ back) z f.0) [
-            | inl j ↦ j
-            | inr j ↦
-                let low : r.rtype ≤ z.rtype = all_in (λ y. r.rtype ≤ y.rtype) (r ∷ back) z (omega arith, parts.1.0) j in
-                let same : z.rtype ≡ t = eqb-true z.rtype t f.1 in
-                absurd (omega (arith, less, low, same))
-          ]) h))
-      | inr h ↦ h
-    ]
+  -- the two clash, and those of a lesser type are none
+  first_clash : clashes p r ≡ true → IsFirstClash (p ∷ r ∷ left) r.rtype
+  first_clash e =
+      let same : p.rtype ≡ r.rtype = grind (arith, common_steps, nat_tests) in
+      let test : ZoneRecord → Bool = λ y. nat_eq y.rtype r.rtype in
+      record {
+        clash = in_any _ _ p (in_filtered test (p ∷ r ∷ left) p (inl refl) (eq-eqb _ _ same))
+            (in_any _ _ r (in_filtered test (p ∷ r ∷ left) r (inr (inl refl)) (eq-eqb _ _ refl)) e);
+        lesser = λ t less. ap has_clash (filter_none _ (p ∷ r ∷ left)
+            (all_from_in _ (p ∷ r ∷ left) (λ x i. apart t less x i)));
+      }
+    where
+      apart : (t : ℕ) → t < r.rtype → (x : ZoneRecord) → In x (p ∷ r ∷ left) → nat_eq x.rtype t ≡ false
+      apart t less x (inl i) = grind (arith, common_steps, nat_tests)
+      apart t less x (inr i) = grind (arith, common_steps, nat_tests, (at_least x i))
 
-neighbours_push : (xs : List ZoneRecord) (p r : ZoneRecord) → has_neighbour_clash (xs ++ p ∷ []) ≡ false
-    → clashes p r ≡ false → has_neighbour_clash ((xs ++ p ∷ []) ++ r ∷ []) ≡ false
-neighbours_push [] p r h e = λ i. e i || false
-neighbours_push (x ∷ []) p r h e = let k = or_parts (clashes x p) false h in λ i. k.0 i || (e i || false)
-neighbours_push (x ∷ y ∷ xs) p r h e =
-    let k = or_parts _ (has_neighbour_clash (y ∷ xs ++ p ∷ [])) h in
-    λ i. k.0 i || neighbours_push (y ∷ xs) p r k.1 e i
+all_pass : {X : Type 0} (xs : List X) → filter (λ y. true) xs ≡ xs
+all_pass [] = refl
+all_pass (x ∷ xs) = ap (λ l. x ∷ l) (all_pass xs)
 
--- no neighbours clash among the records up to one
+-- what is told of the records from one on is told of all
 pub record IsBetween (zs : List ZoneRecord) (previous : ZoneRecord) (left : List ZoneRecord) : Type 0 where
-  pub passed : List ZoneRecord
-  pub all : zs ≡ (passed ++ previous ∷ []) ++ left
-  pub quiet : has_neighbour_clash (passed ++ previous ∷ []) ≡ false
+  pub order : NeverDescend (previous ∷ left)
+  pub first : (t : ℕ) → IsFirstClash (previous ∷ left) t → IsFirstClash zs t
+  pub none : has_clash (previous ∷ left) ≡ false → has_clash zs ≡ false
 
-pub between_next : (zs : List ZoneRecord) (previous r : ZoneRecord) (left : List ZoneRecord) → IsBetween zs previous (r ∷ left)
-    → clashes previous r ≡ false → IsBetween zs r left
-between_next zs previous r left s e = record {
-  passed = s.passed ++ previous ∷ [];
-  all = s.all ∙ sym (append_assoc (s.passed ++ previous ∷ []) (r ∷ []) left);
-  quiet = neighbours_push s.passed previous r s.quiet e;
+pub between_first : {zs : List ZoneRecord} {p : ZoneRecord} {left : List ZoneRecord} → zs ≡ p ∷ left → NeverDescend zs → IsBetween zs p left
+between_first is order = record {
+  order = subst NeverDescend is order;
+  first = λ t h. subst (λ l. IsFirstClash l t) (sym is) h;
+  none = λ h. ap has_clash is ∙ h;
 }
 
-pub between_clash : (zs : List ZoneRecord) (previous r : ZoneRecord) (left : List ZoneRecord) → IsBetween zs previous (r ∷ left)
-    → NeverDescend zs → clashes previous r ≡ true → IsFirstClash zs r.rtype
-between_clash zs previous r left s order e =
-    let front = s.passed ++ previous ∷ [] in
-    subst (λ ys. IsFirstClash ys r.rtype) (sym s.all) (record {
-      clash = clash_of_type _ previous r (in_front front (r ∷ left) previous (in_middle s.passed previous [])) (in_middle front r left) e;
-      lesser = lesser_even front left r (subst NeverDescend s.all order) s.quiet;
-    })
+module _ {zs : List ZoneRecord} {p r : ZoneRecord} {left : List ZoneRecord} (s : IsBetween zs p (r ∷ left)) where
+  pub between_next : clashes p r ≡ false → IsBetween zs r left
+  between_next even =
+      let same = λ (t : ℕ). quiet p r left s.order (λ u. nat_eq u t) even in
+      record {
+        order = s.order.1;
+        first = λ t h. s.first t (record { clash = same t ∙ h.clash; lesser = λ u less. same u ∙ h.lesser u less });
+        none = λ h. s.none (sym (ap has_clash (all_pass (p ∷ r ∷ left))) ∙ quiet p r left s.order (λ u. true) even ∙ ap has_clash (all_pass (r ∷ left)) ∙ h);
+      }
 
-pub between_end : (zs : List ZoneRecord) (previous : ZoneRecord) → IsBetween zs previous [] → NeverDescend zs → has_clash zs ≡ false
-between_end zs previous s order = sym (neighbours_tell zs order) ∙ ap has_neighbour_clash (s.all ∙ append-nil (s.passed ++ previous ∷ [])) ∙ s.quiet
+  pub between_clash : clashes p r ≡ true → IsFirstClash zs r.rtype
+  between_clash e = s.first r.rtype (first_clash p r left s.order e)
+
+pub between_end : {zs : List ZoneRecord} {p : ZoneRecord} → IsBetween zs p [] → has_clash zs ≡ false
+between_end {zs} {p} s = s.none (grind (arith, common_steps, (no_clash_itself p)))
 
 -- where there is a type of which records clash, two of all do
 pub clash_told : (zs : List ZoneRecord) (found : Option ℕ) → is_some found ≡ true → IfSome found (IsFirstClash zs) → has_clash zs ≡ true
@@ -263,10 +231,10 @@ module _ (L : List ZoneRecord) (a : Name) (names : List Name) (bits : Bool → O
     pub known : AllByRecursion (λ o. o ≡ owner_at L a o.name) left
     pub even : has_unequal_ttls L names ≡ list_any clashes_in left
     pub named : listed.is_full ≡ false → names ≡ listed.names.items ++ map name_of left
-    pub typed : listed.is_full ≡ false → map (λ n. bits (same_name n a) (owner_at L a n)) names ≡ listed.types ++ map bits_of left
+    pub typed : listed.is_full ≡ false → map (λ n. bits (same_name n a) (owner_at L a n)) names ≡ listed.types.items ++ map bits_of left
 
   pub at_start : {left : List OwnerRecords} {listed : ListedOwners} → left ≡ map (owner_at L a) names
-      → listed.names.items ≡ [] → listed.types ≡ [] → IsListing left listed
+      → listed.names.items ≡ [] → listed.types.items ≡ [] → IsListing left listed
   at_start all named typed = record {
     known = subst (AllByRecursion _) (sym all) (all_known L a names);
     even = rw all (sym (any_map clashes_in (owner_at L a) names));
@@ -283,7 +251,7 @@ module _ {L : List ZoneRecord} {a : Name} {names : List Name} {bits : Bool → O
     -- one that is listed with its types, where there is memory
     pub next_listed : {more : ListedOwners} → has_clash o.records ≡ false → (more.is_full ≡ false → listed.is_full ≡ false)
         → (more.is_full ≡ false → more.names.items ≡ listed.names.items ++ o.name ∷ [])
-        → (more.is_full ≡ false → more.types ≡ listed.types ++ bits (same_name o.name a) o ∷ []) → IsListing L a names bits rest more
+        → (more.is_full ≡ false → more.types.items ≡ listed.types.items ++ bits (same_name o.name a) o ∷ []) → IsListing L a names bits rest more
     next_listed even room added typed = grind (arith, common_steps, append_assoc)
 
     pub next_uneven : has_clash o.records ≡ true → has_unequal_ttls L names ≡ true

@@ -1,8 +1,8 @@
 -- The walk over the records of a zone: what it knows before each group, and the owners it gives.
 use Rattle.std.proofs.Common.{◌≡◌, Bool, true, false, cond, not, ◌&&◌, ◌||◌, List, [], ◌∷◌, ◌++◌, map, refl, sym, ap, ◌∙◌, arith, ℕ, inl, inr, subst, Option}
-use Rattle.std.proofs.{Common.{Some, None, append_assoc, ◌↔◌, IsTrue, nat_eq}, lemmas.List.{append-nil, map-append, Elements.filter-append}}
+use Rattle.std.proofs.{Common.{Some, None, ◌↔◌, IsTrue, nat_eq}, lemmas.List.{append-nil, map-append, Elements.filter-append}}
 use Rattle.std.{proofs.lemmas.{Grind.common_steps, Bool.{cases_Bool, false≢true, true≢false}}, specs.{Prelude.filter, List.{AllByRecursion, list_any}}}
-use Rattle.std.proofs.lemmas.{Bool.{and_parts, or_cases, or_right, and_from, not-true, and_right, or_parts, eqb-true}, List.Folds.list_any-append}
+use Rattle.std.proofs.lemmas.{Bool.{and_parts, or_cases, or_right, and_from, not-true, and_right, eqb-true}, List.Folds.list_any-append}
 use Rattle.std.{proofs.lemmas.List.Folds.{Any-from_list_any, list_any-from_Any}, specs.declared.cmp.Ordering.{Ordering, TheVariants.{Less, Equal, Greater}}}
 use Rattle.std.specs.{Ordering.{is_lt, is_gt, ordering_reverse}, Bool.then_some, Borrow.Bor, Option.option_map}
 use Rattle.domain_octets.proofs.StdLemmas.{and_true, or_false}
@@ -80,61 +80,29 @@ pub strictly_after : (y c : Name) → before c y ≡ true → is_strictly_below 
 strictly_after y c e = (λ i. is_at_or_below y c && not (apart_right c y e i)) ∙ and_true (is_at_or_below y c)
 
 -- ---- groups
+-- ---- groups
 
 -- the first of these isn't at this name
 abbrev pub BeginsElsewhere : Name → List ZoneRecord → Type 0
 BeginsElsewhere n [] = Unit {0}
 BeginsElsewhere n (r ∷ rs) = same_name r.owner n ≡ false
 
--- the first ones are the records of one name
-abbrev pub IsGroup : List ZoneRecord → List ZoneRecord → Type 0
-IsGroup [] after = ⊥
-IsGroup (g ∷ gs) after = AllByRecursion (λ r. same_name r.owner g.owner ≡ true) gs × BeginsElsewhere g.owner after
-
--- G, of which g is the first, are the records of one name at the front of rest, and R is what follows
-pub record IsFront (rest : List ZoneRecord) (g : ZoneRecord) (G R : List ZoneRecord) : Type 0 where
-  pub gs : List ZoneRecord
-  pub are : G ≡ g ∷ gs
-  pub split : rest ≡ (g ∷ gs) ++ R
-  pub group : IsGroup (g ∷ gs) R
-
 -- r's owner is n, but for the case of letters
 abbrev pub AreAt : Name → List ZoneRecord → Type 0
 AreAt n rs = AllByRecursion (λ r. lowered r.owner ≡ lowered n) rs
 
-abbrev pub AllBefore : List ZoneRecord → Name → Type 0
-AllBefore rs y = AllByRecursion (λ r. before r.owner y ≡ true) rs
+abbrev pub AllAfter : Name → List ZoneRecord → Type 0
+AllAfter n rs = AllByRecursion (λ r. before n r.owner ≡ true) rs
 
-abbrev pub AllAfter : List ZoneRecord → Name → Type 0
-AllAfter rs y = AllByRecursion (λ r. before y r.owner ≡ true) rs
-
-pub records_at : (n : Name) (passed group rest : List ZoneRecord) → AllBefore passed n → AreAt n group → AllAfter rest n
-    → records_of (passed ++ (group ++ rest)) n ≡ group
-records_at n passed group rest p g r =
-    filter-append at' passed (group ++ rest)
-    ∙ (λ i. filter_none at' passed (weaker (λ r. before r.owner n ≡ true) (λ r. at' r ≡ false)
-    (λ r h. apart_left r.owner n h) passed p) i ++ filter-append at' group rest i)
-    ∙ (λ i. filter_whole at' group (weaker (λ r. lowered r.owner ≡ lowered n) (λ r. at' r ≡ true) (λ r h. same_itself r.owner n h) group g) i
-    ++ filter_none at' rest (weaker (λ r. before n r.owner ≡ true) (λ r. at' r ≡ false) (λ r h. apart_right n r.owner h) rest r) i)
-    ∙ append-nil group
-  where
-    at' : ZoneRecord → Bool
-    at' r = same_name r.owner n
+all_after : (n : Name) (R : List ZoneRecord) → AllByRecursion (λ s. before s.owner n ≡ false) R → OwnersNeverDescend R → BeginsElsewhere n R → AllAfter n R
+all_after n [] h o b = tt
+all_after n (r ∷ R) h o b = grind (arith, common_steps, after_or, weaker, before_order)
 
 -- ---- distinct names
 
 pub all_distinct : (P : Name → Type 0) (xs : List Name) → AllByRecursion P xs → AllByRecursion P (distinct xs)
 all_distinct P [] h = tt
 all_distinct P (x ∷ xs) h = (h.0, all_filter P (λ y. not (same_name x y)) (distinct xs) (all_distinct P xs h.1))
-
-distinct_one : (n : Name) (ys : List Name) → AllByRecursion (λ y. lowered y ≡ lowered n) ys → distinct (n ∷ ys) ≡ n ∷ []
-distinct_one n ys h = ap (λ zs. n ∷ zs) (filter_none _ _ (all_distinct _ ys (weaker _ _ (λ y e. ap not (same_itself n y (sym e))) ys h)))
-
--- names that are one, after others
-pub distinct_more : (xs : List Name) (n : Name) (ys : List Name) → AllByRecursion (λ x. before x n ≡ true) xs
-    → AllByRecursion (λ y. lowered y ≡ lowered n) ys → distinct (xs ++ n ∷ ys) ≡ distinct xs ++ n ∷ []
-distinct_more [] n ys h k = distinct_one n ys k
-distinct_more (x ∷ xs) n ys h k = grind (arith, common_steps, apart_left, (distinct_more xs n ys h.1 k))
 
 -- ---- The unoccluded owners of a list in order: they ascend, begin with the apex, and are the names that own records and are not occluded.
 
@@ -256,198 +224,178 @@ below_occluder d L a c x h s =
     let same = one_lowered q.0.owner c q.2 in
     in_any _ L q.0 q.1 (grind (arith, common_steps))
 
--- ---- What the walk knows before each group, and one step of it.
+-- ---- The walk: what it has left to give is told by the records that are left and by the last name that occludes.
 
 abbrev pub IsSince : Option Name → Name → Type 0
 IsSince None y = Unit {0}
 IsSince (Some c) y = before c y ≡ true
 
-abbrev pub owners : List ZoneRecord → List Name
+abbrev owners : List ZoneRecord → List Name
 owners rs = map (λ r. r.owner) rs
 
--- the records passed come before the rest, ks are their unoccluded owners, and the last occluder tells what is below any of theirs
-pub record IsWalked (d : Bool) (L : List ZoneRecord) (a : Name) (rest : List ZoneRecord) (cut : Option Name) (ks : List Name) : Type 0 where
-  pub passed : List ZoneRecord
-  pub whole : passed ++ rest ≡ L
-  pub apart : AllByRecursion (λ r. AllBefore passed r.owner) rest
-  pub in_order : OwnersNeverDescend rest
-  pub unoccluded : filter (is_unoccluded d L a) (distinct (owners passed)) ≡ ks
-  pub since : AllByRecursion (λ r. IsSince cut r.owner) rest
-  pub below : (y : Name) → AllBefore passed y → list_any (λ r. occludes d L a r.owner && is_strictly_below y r.owner) passed ≡ is_under cut y
+-- the name is given
+abbrev stands : Bool → Name → Option Name → List ZoneRecord → Name → Bool
+stands d a o rest n = is_at_or_below n a && not (is_under o n || is_occluded d rest a n)
 
-always : {X : Type 0} (xs : List X) → AllByRecursion (λ (x : X). Unit {0}) xs
-always [] = tt
-always (x ∷ xs) = (tt, always xs)
+abbrev pub found : Bool → Name → Option Name → List ZoneRecord → List OwnerRecords
+found d a o rest = map (owner_at rest a) (filter (stands d a o rest) (distinct (owners rest)))
 
-pub walk_start : (d : Bool) (L : List ZoneRecord) (a : Name) → OwnersNeverDescend L → IsWalked d L a L None []
-walk_start d L a h = grind (arith, common_steps, always)
+module _ {X : Type 0} (P : X → Type 0) (p q : X → Bool) (same : (x : X) → P x → p x ≡ q x) where
+  same_any : (xs : List X) → AllByRecursion P xs → list_any p xs ≡ list_any q xs
+  same_any [] all = refl
+  same_any (x ∷ xs) all = λ i. same x all.0 i || same_any xs all.1 i
+
+  same_kept : {Y : Type 0} (f g : X → Y) → ((x : X) → P x → f x ≡ g x) → (xs : List X) → AllByRecursion P xs → map f (filter p xs) ≡ map g (filter q xs)
+  same_kept f g alike [] all = refl
+  same_kept f g alike (x ∷ xs) all = grind (arith, common_steps, (same x all.0), (alike x all.0), (same_kept f g alike xs all.1))
+
+filter_twice : {X : Type 0} (p : X → Bool) (xs : List X) → filter p (filter p xs) ≡ filter p xs
+filter_twice p [] = refl
+filter_twice p (x ∷ xs) = grind (arith, common_steps, (filter_twice p xs))
+
+-- the records of one name, and those of names after it
+module _ (g : ZoneRecord) (gs R : List ZoneRecord) (at : AreAt g.owner gs) (after : AllAfter g.owner R) where
+  abbrev joint : List ZoneRecord
+  joint = (g ∷ gs) ++ R
+
+  distinct_after : (group : List ZoneRecord) → AreAt g.owner group
+      → filter (λ y. not (same_name g.owner y)) (distinct (owners (group ++ R))) ≡ distinct (owners R)
+  distinct_after [] here = filter_whole _ _ (all_distinct _ _ (all_map _ _ R (weaker _ _ (λ r h. ap not (apart_left g.owner r.owner h)) R after)))
+  distinct_after (r ∷ group) here = grind (arith, common_steps, filter_twice, (same_itself g.owner r.owner (sym here.0)), (distinct_after group here.1))
+
+  records_here : records_of joint g.owner ≡ g ∷ gs
+  records_here =
+      filter-append here (g ∷ gs) R
+      ∙ (λ i. filter_whole here (g ∷ gs) (weaker _ _ (λ r h. same_itself r.owner g.owner h) (g ∷ gs) (refl, at)) i
+      ++ filter_none here R (weaker _ _ (λ r h. apart_right g.owner r.owner h) R after) i) ∙ append-nil (g ∷ gs)
+    where
+      here : ZoneRecord → Bool
+      here r = same_name r.owner g.owner
+
+  records_later : (y : Name) → before g.owner y ≡ true → records_of joint y ≡ records_of R y
+  records_later y h =
+      filter-append there (g ∷ gs) R ∙ ap (λ l. l ++ records_of R y)
+      (filter_none there (g ∷ gs) (weaker _ _ (λ r e. apart_left r.owner y (before_left r.owner g.owner y e ∙ h)) (g ∷ gs) (refl, at)))
+    where
+      there : ZoneRecord → Bool
+      there r = same_name r.owner y
+
+  module _ (d : Bool) (a : Name) where
+    abbrev above : Name → ZoneRecord → Bool
+    above y r = occludes d joint a r.owner && is_strictly_below y r.owner
+
+    -- none of them is above the name
+    occluded_here : is_occluded d joint a g.owner ≡ false
+    occluded_here = any_none (above g.owner) joint (all_both _ (g ∷ gs) R
+        (weaker _ _ (λ r h. none r (before_left r.owner g.owner g.owner h ∙ below_from g.owner g.owner (below_itself g.owner))) (g ∷ gs) (refl, at))
+        (weaker _ _ (λ r h. none r (before_order.one_way g.owner r.owner h)) R after))
+      where
+        none : (r : ZoneRecord) → before r.owner g.owner ≡ false → above g.owner r ≡ false
+        none r h = ap (λ b. occludes d joint a r.owner && b) (not_strictly g.owner r.owner h) ∙ and_right (occludes d joint a r.owner) false refl
+
+    -- what occludes a later name is this one, or comes later too
+    occluded_later : (y : Name) → before g.owner y ≡ true
+        → is_occluded d joint a y ≡ ((occludes d joint a g.owner && is_strictly_below y g.owner) || is_occluded d R a y)
+    occluded_later y h =
+        list_any-append (above y) (g ∷ gs) R ∙ (λ i. any_at joint gs at i || same_any _ (above y) _ later R after i)
+      where
+        later : (r : ZoneRecord) → before g.owner r.owner ≡ true → above y r ≡ (occludes d R a r.owner && is_strictly_below y r.owner)
+        later r k = grind (arith, common_steps, (records_later r.owner k))
+
+        or_twice : (b c : Bool) → (b || (b || c)) ≡ (b || c)
+        or_twice true c = refl
+        or_twice false c = refl
+
+        any_at : (K rs : List ZoneRecord) → AreAt g.owner rs → list_any (λ r. occludes d K a r.owner && is_strictly_below y r.owner) (g ∷ rs)
+            ≡ (occludes d K a g.owner && is_strictly_below y g.owner)
+        any_at K [] h = or_false (occludes d K a g.owner && is_strictly_below y g.owner)
+        any_at K (r ∷ rs) h = rw h.0 (or_twice (occludes d K a g.owner && is_strictly_below y g.owner) _ ∙ any_at K rs h.1)
+
+    module _ (o : Option Name) where
+      -- past the name, where the last name that occludes is known then
+      later : (o' : Option Name)
+          → ((y : Name) → before g.owner y ≡ true → (is_under o y || (occludes d joint a g.owner && is_strictly_below y g.owner)) ≡ is_under o' y)
+          → map (owner_at joint a) (filter (stands d a o joint) (distinct (owners R))) ≡ found d a o' R
+      later o' on = same_kept (λ y. before g.owner y ≡ true) _ _ (λ y h. ap (λ b. is_at_or_below y a && not (is_under o y || b)) (occluded_later y h)
+          ∙ regrouped _ _ _ _ _ (on y h)) _ _
+          (λ y h. ap (λ rs. record { name = y; records = rs; is_zone_cut = is_strictly_below y a && has_type rs ns }) (records_later y h))
+          (distinct (owners R)) (all_distinct _ _ (all_map _ _ R after))
+        where
+          regrouped : (z u v w x : Bool) → (u || v) ≡ x → (z && not (u || (v || w))) ≡ (z && not (x || w))
+          regrouped z u v w x is = grind (arith, common_steps)
+
+      found_is : found d a o joint ≡ map (owner_at joint a) (filter (stands d a o joint) (g.owner ∷ distinct (owners R)))
+      found_is = ap (λ names. map (owner_at joint a) (filter (stands d a o joint) (g.owner ∷ names))) (distinct_after gs at)
+
+      -- the name is out of the zone, or below the last one that occludes
+      pub step_passed : is_passed_over a o g.owner ≡ true → found d a o joint ≡ found d a o R
+      step_passed passed = rw (found_is, out) (later o (λ y h. absorbed _ _ _ _ _ _ passed (occluder_below d joint a g.owner) (lower o y)))
+        where
+          out : stands d a o joint g.owner ≡ false
+          out = grind (arith, common_steps, occluded_here)
+
+          absorbed : (z u v o b e : Bool) → (not z || u) ≡ true → (o ≡ true → z ≡ true) → (u ≡ true → b ≡ true → v ≡ true) → (v || (o && (b && e))) ≡ v
+          absorbed z u v o b e p f g = grind (arith, common_steps)
+
+          lower : (c : Option Name) (y : Name) → is_under c g.owner ≡ true → is_at_or_below y g.owner ≡ true → is_under c y ≡ true
+          lower None y u b = absurd (false≢true u)
+          lower (Some c) y u b = below_trans y g.owner c b u
+
+      -- the name is given
+      pub step_given : is_passed_over a o g.owner ≡ false → IsSince o g.owner
+          → found d a o joint ≡ record { name = g.owner; records = g ∷ gs; is_zone_cut = is_cut_group a g.owner (g ∷ gs) }
+          ∷ found d a (occluder_from d a g.owner (g ∷ gs)) R
+      step_given given since =
+          rw (found_is, stood)
+          (λ i. record { name = g.owner; records = records_here i; is_zone_cut = cut_is i } ∷ later (occluder_from d a g.owner (g ∷ gs)) on i)
+        where
+          zone : is_at_or_below g.owner a ≡ true
+          zone = grind (arith, common_steps)
+
+          stood : stands d a o joint g.owner ≡ true
+          stood = grind (arith, common_steps, occluded_here)
+
+          cut_is : is_zone_cut joint a g.owner ≡ is_cut_group a g.owner (g ∷ gs)
+          cut_is = λ j. (zone j && not (same_name g.owner a)) && has_type (records_here j) ns
+
+          occludes_is : occludes d joint a g.owner ≡ (is_cut_group a g.owner (g ∷ gs) || (d && has_type (g ∷ gs) dname))
+          occludes_is = grind (arith, common_steps, cut_is, zone, records_here)
+
+          gone : (c : Option Name) (y : Name) → IsSince c g.owner → is_under c g.owner ≡ false → before g.owner y ≡ true → is_under c y ≡ false
+          gone None y s u h = refl
+          gone (Some c) y s u h = elim (cases_Bool (is_at_or_below y c)) [
+            | inl b ↦ absurd (true≢false (sym (below_between y c g.owner b (before_order.one_way c g.owner s) (before_order.one_way g.owner y h)) ∙ u))
+            | inr b ↦ b
+          ]
+
+          on : (y : Name) → before g.owner y ≡ true → (is_under o y || (occludes d joint a g.owner && is_strictly_below y g.owner))
+              ≡ is_under (occluder_from d a g.owner (g ∷ gs)) y
+          on y h = grind (arith, common_steps, occludes_is, (gone o y since), (strictly_after y g.owner h))
 
 in_order_after : (xs ys : List ZoneRecord) → OwnersNeverDescend (xs ++ ys) → OwnersNeverDescend ys
 in_order_after [] ys h = h
 in_order_after (x ∷ xs) ys h = in_order_after xs ys h.1
 
-all_after : (n : Name) (R : List ZoneRecord) → AllByRecursion (λ s. before s.owner n ≡ false) R → OwnersNeverDescend R → BeginsElsewhere n R → AllAfter R n
-all_after n [] h o b = tt
-all_after n (r ∷ R) h o b = grind (arith, common_steps, after_or, weaker, before_order)
-
--- what is known of a group that comes next
-pub record IsNext (d : Bool) (L : List ZoneRecord) (a : Name) (cut : Option Name) (passed : List ZoneRecord) (n : Name)
-    (group R : List ZoneRecord) : Type 0 where
-  pub at : AreAt n group
-  pub after : AllAfter R n
-  pub earlier : AllBefore passed n
-  pub records : records_of L n ≡ group
-  pub under : is_occluded d L a n ≡ is_under cut n
-  pub since : IsSince cut n
-
-module _ {d : Bool} {L : List ZoneRecord} {a : Name} {rest : List ZoneRecord} {cut : Option Name} {ks : List Name}
-    (w : IsWalked d L a rest cut ks) (g : ZoneRecord) (gs R : List ZoneRecord) (e : rest ≡ (g ∷ gs) ++ R) where
-  pub next_known : IsGroup (g ∷ gs) R → IsNext d L a cut w.passed g.owner (g ∷ gs) R
-  next_known i =
-      let n = g.owner in
-      let at : AreAt n (g ∷ gs) =
-      (refl, weaker (λ r. same_name r.owner n ≡ true) (λ r. lowered r.owner ≡ lowered n) (λ r h. one_lowered r.owner n h) gs i.0) in
-      let in_order = subst OwnersNeverDescend e w.in_order in
-      let after = all_after n R (all_front (λ s. before s.owner n ≡ false) gs R in_order.0).1 (in_order_after gs R in_order.1) i.1 in
-      let apart = subst (AllByRecursion (λ r. AllBefore w.passed r.owner)) e w.apart in
-      let since = subst (AllByRecursion (λ r. IsSince cut r.owner)) e w.since in
-      let test : ZoneRecord → Bool = λ r. occludes d L a r.owner && is_strictly_below n r.owner in
-      let rest_false : (r : ZoneRecord) → before r.owner n ≡ false → test r ≡ false =
-      λ r h. ap (λ b. occludes d L a r.owner && b) (not_strictly n r.owner h) ∙ and_right (occludes d L a r.owner) false refl in
-      record {
-        at = at;
-        after = after;
-        earlier = apart.0;
-        records = ap (λ K. records_of K n) (sym w.whole ∙ ap (λ t. w.passed ++ t) e) ∙ records_at n w.passed (g ∷ gs) R apart.0 at after;
-        under =
-            ap (list_any test) (sym w.whole)
-            ∙ list_any-append test w.passed rest
-            ∙ ap (λ b. list_any test w.passed || b) (ap (list_any test) e ∙ any_none test ((g ∷ gs) ++ R)
-            (all_both (λ r. test r ≡ false) (g ∷ gs) R
-            (weaker (λ r. lowered r.owner ≡ lowered n) (λ r. test r ≡ false)
-            (λ r k. rest_false r (before_left r.owner n n k ∙ lt_irreflexive n)) (g ∷ gs) at)
-            (weaker (λ r. before n r.owner ≡ true) (λ r. test r ≡ false) (λ r h. rest_false r (before_order.one_way n r.owner h)) R after)))
-            ∙ or_false (list_any test w.passed)
-            ∙ w.below n apart.0;
-        since = since.0;
-      }
-    where
-      lt_irreflexive : (m : Name) → before m m ≡ false
-      lt_irreflexive m = below_from m m (below_itself m)
-
-  -- past the group, where the new occluder is known
-  pub walk_on : IsNext d L a cut w.passed g.owner (g ∷ gs) R
-      → (cut' : Option Name) → ((y : Name) → before g.owner y ≡ true → IsSince cut y → IsSince cut' y)
-      → ((y : Name) → before g.owner y ≡ true → (is_under cut y || (occludes d L a g.owner && is_strictly_below y g.owner)) ≡ is_under cut' y)
-      → IsWalked d L a R cut' (ks ++ cond (is_unoccluded d L a g.owner) (g.owner ∷ []) [])
-  walk_on x cut' since' below' =
-      let n = g.owner in
-      let group = g ∷ gs in
-      let apart = (all_front (λ r. AllBefore w.passed r.owner) group R (subst (AllByRecursion (λ r. AllBefore w.passed r.owner)) e w.apart)).1 in
-      let since = (all_front (λ r. IsSince cut r.owner) group R (subst (AllByRecursion (λ r. IsSince cut r.owner)) e w.since)).1 in
-      let group_before : (y : Name) → before n y ≡ true → AllBefore group y =
-      λ y h. weaker (λ r. lowered r.owner ≡ lowered n) (λ r. before r.owner y ≡ true) (λ r k. before_left r.owner n y k ∙ h) group x.at in
-      record {
-        passed = w.passed ++ group;
-        whole = append_assoc w.passed group R ∙ ap (λ t. w.passed ++ t) (sym e) ∙ w.whole;
-        apart = both (λ r. AllBefore w.passed r.owner) (λ r. before n r.owner ≡ true) (λ r. AllBefore (w.passed ++ group) r.owner)
-            (λ r p q. all_both (λ s. before s.owner r.owner ≡ true) w.passed group p (group_before r.owner q)) R apart x.after;
-        in_order = in_order_after group R (subst OwnersNeverDescend e w.in_order);
-        unoccluded =
-            ap (filter (is_unoccluded d L a)) (ap distinct (owners_append w.passed group)
-            ∙ distinct_more (owners w.passed) n (owners gs) (all_map (λ m. before m n ≡ true) _ w.passed x.earlier)
-            (all_map (λ m. lowered m ≡ lowered n) _ gs x.at.1))
-            ∙ filter-append (is_unoccluded d L a) (distinct (owners w.passed)) (n ∷ [])
-            ∙ ap (λ t. t ++ cond (is_unoccluded d L a n) (n ∷ []) []) w.unoccluded;
-        since = both (λ r. IsSince cut r.owner) (λ r. before n r.owner ≡ true) (λ r. IsSince cut' r.owner) (λ r p q. since' r.owner q p)
-            R since x.after;
-        below = λ y h.
-            let test : ZoneRecord → Bool = λ r. occludes d L a r.owner && is_strictly_below y r.owner in
-            let parts = all_front (λ s. before s.owner y ≡ true) w.passed group h in
-            list_any-append test w.passed group
-            ∙ (λ i. w.below y parts.0 i || any_at y gs x.at.1 i)
-            ∙ below' y parts.1.0;
-      }
-    where
-      both : (P Q S : ZoneRecord → Type 0) → ((r : ZoneRecord) → P r → Q r → S r) → (rs : List ZoneRecord) → AllByRecursion P rs
-          → AllByRecursion Q rs → AllByRecursion S rs
-      both P Q S f [] p q = tt
-      both P Q S f (r ∷ rs) p q = (f r p.0 q.0, both P Q S f rs p.1 q.1)
-
-      owners_append : (xs ys : List ZoneRecord) → owners (xs ++ ys) ≡ owners xs ++ owners ys
-      owners_append [] ys = refl
-      owners_append (z ∷ xs) ys = ap (λ t. z.owner ∷ t) (owners_append xs ys)
-
-      any_at : (y : Name) (rs : List ZoneRecord) → AllByRecursion (λ r. lowered r.owner ≡ lowered g.owner) rs
-          → list_any (λ r. occludes d L a r.owner && is_strictly_below y r.owner) (g ∷ rs) ≡ (occludes d L a g.owner && is_strictly_below y g.owner)
-      any_at y [] h = or_false (occludes d L a g.owner && is_strictly_below y g.owner)
-      any_at y (r ∷ rs) h = rw h.0 (or_twice (occludes d L a g.owner && is_strictly_below y g.owner) _ ∙ any_at y rs h.1)
-        where
-          or_twice : (b c : Bool) → (b || (b || c)) ≡ (b || c)
-          or_twice true c = refl
-          or_twice false c = refl
-
-  -- the group is out of the zone, or below the last occluder
-  pub walk_passed : IsGroup (g ∷ gs) R → is_passed_over a cut g.owner ≡ true → IsWalked d L a R cut ks
-  walk_passed i passed =
-      let x = next_known i in
-      let out = (λ j. is_at_or_below g.owner a && not (x.under j)) ∙ no_other _ _ passed in
-      subst (IsWalked d L a R cut) ((λ j. ks ++ cond (out j) (g.owner ∷ []) []) ∙ append-nil ks)
-      (walk_on x cut (λ y h s. s) (λ y h. absorbed _ _ _ _ _ _ passed (occluder_below d L a g.owner) (lower cut y)))
-    where
-      no_other : (z u : Bool) → (not z || u) ≡ true → (z && not u) ≡ false
-      no_other z u p = grind (arith, common_steps)
-
-      absorbed : (z u v o b e : Bool) → (not z || u) ≡ true → (o ≡ true → z ≡ true) → (u ≡ true → b ≡ true → v ≡ true) → (v || (o && (b && e))) ≡ v
-      absorbed z u v o b e p f g = grind (arith, common_steps)
-
-      lower : (c : Option Name) (y : Name) → is_under c g.owner ≡ true → is_at_or_below y g.owner ≡ true → is_under c y ≡ true
-      lower None y u b = absurd (false≢true u)
-      lower (Some c) y u b = below_trans y g.owner c b u
-
-  -- the group's name is not occluded
-  pub walk_onto : IsGroup (g ∷ gs) R → is_at_or_below g.owner a ≡ true → is_under cut g.owner ≡ false
-      → IsWalked d L a R (cond (occludes d L a g.owner) (Some g.owner) None) (ks ++ g.owner ∷ [])
-  walk_onto i zone under =
-      let n = g.owner in
-      let x = next_known i in
-      subst (IsWalked d L a R (cond (occludes d L a n) (Some n) None)) (λ i. ks ++ cond (zone i && not ((x.under ∙ under) i)) (n ∷ []) [])
-      (walk_on x (cond (occludes d L a n) (Some n) None)
-      (λ y h s. elim (occludes d L a n) as (λ b. IsSince (cond b (Some n) None) y) [ true ↦ h | false ↦ tt ])
-      (λ y h.
-      let left = gone cut n y x.since under h in
-      (λ i. left i || (occludes d L a n && strictly_after y n h i))
-      ∙ elim (occludes d L a n) as (λ b. (b && is_at_or_below y n) ≡ is_under (cond b (Some n) None) y) [ true ↦ refl | false ↦ refl ]))
-    where
-      gone : (c : Option Name) (n y : Name) → IsSince c n → is_under c n ≡ false → before n y ≡ true → is_under c y ≡ false
-      gone None n y s u h = refl
-      gone (Some c) n y s u h =
-          elim (cases_Bool (is_at_or_below y c)) [
-            | inl b ↦ absurd (true≢false (sym (below_between y c n b (before_order.one_way c n s) (before_order.one_way n y h)) ∙ u))
-            | inr b ↦ b
-          ]
-
-  -- ---- as the iterator goes on
-
-  module _ (i : IsGroup (g ∷ gs) R) (given : is_passed_over a cut g.owner ≡ false) where
-    zone : is_at_or_below g.owner a ≡ true
-    zone = grind (arith, common_steps)
-
-    records : records_of L g.owner ≡ g ∷ gs
-    records = (next_known i).records
-
-    cut_is : is_zone_cut L a g.owner ≡ is_cut_group a g.owner (g ∷ gs)
-    cut_is = λ j. (zone j && not (same_name g.owner a)) && has_type (records j) ns
-
-    pub owner_is : record { name = g.owner; records = g ∷ gs; is_zone_cut = is_cut_group a g.owner (g ∷ gs) } ≡ owner_at L a g.owner
-    owner_is = λ j. record { name = g.owner; records = sym records j; is_zone_cut = sym cut_is j }
-
-    pub walk_given : IsWalked d L a R (occluder_from d a g.owner (g ∷ gs)) (ks ++ g.owner ∷ [])
-    walk_given =
-        subst (λ c. IsWalked d L a R c (ks ++ g.owner ∷ []))
-        ((λ j. cond (cut_is j || (d && zone j && has_type (records j) dname)) (Some g.owner) None)
-        ∙ (λ j. cond (is_cut_group a g.owner (g ∷ gs) || (and_true d j && has_type (g ∷ gs) dname)) (Some g.owner) None))
-        (walk_onto i zone (or_parts (not (is_at_or_below g.owner a)) (is_under cut g.owner) given).1)
+-- one group more, where what is left after it is known
+left_step : (d : Bool) (a : Name) (o : Option Name) (g : ZoneRecord) (gs R : List ZoneRecord) (groups : List (List ZoneRecord))
+    → AllByRecursion (λ r. same_name r.owner g.owner ≡ true) gs → BeginsElsewhere g.owner R → OwnersNeverDescend ((g ∷ gs) ++ R)
+    → AllByRecursion (λ r. IsSince o r.owner) ((g ∷ gs) ++ R)
+    → ((o : Option Name) → AllByRecursion (λ r. IsSince o r.owner) R → found d a o R ≡ left_owners d a o groups)
+    → found d a o ((g ∷ gs) ++ R) ≡ left_owners d a o ((g ∷ gs) ∷ groups)
+left_step d a o g gs R groups alike elsewhere order since rest =
+    let n = g.owner in
+    let at : AreAt n gs = weaker _ _ (λ r h. one_lowered r.owner n h) gs alike in
+    let after = all_after n R (all_front (λ s. before s.owner n ≡ false) gs R order.0).1 (in_order_after gs R order.1) elsewhere in
+    elim (cases_Bool (is_passed_over a o n)) [
+      | inl e ↦ rw e (step_passed g gs R at after d a o e ∙ rest o (all_front _ (g ∷ gs) R since).1)
+      | inr e ↦
+          let next = occluder_from d a n (g ∷ gs) in
+          let from : AllByRecursion (λ r. IsSince next r.owner) R =
+          weaker _ _ (λ r h. elim (is_cut_group a n (g ∷ gs) || (d && has_type (g ∷ gs) dname)) as (λ b. IsSince (cond b (Some n) None) r.owner)
+          [ true ↦ h | false ↦ tt ]) R after in
+          rw e (step_given g gs R at after d a o e since.0 ∙ ap (λ l. record { name = n; records = g ∷ gs; is_zone_cut = is_cut_group a n (g ∷ gs) } ∷ l)
+          (rest next from))
+    ]
 
 -- ---- Groups of records, as the walk sees them.
 
@@ -504,27 +452,6 @@ module _ {N D : Type 0} (labels : N → Name) (rtype_of : D → ℕ) (minimum_of
   elsewhere : (r : Record N D) (t : List (Record N D)) → StartsApart (same_owner labels) r t → BeginsElsewhere (labels r.owner) (map see t)
   elsewhere r [] h = tt
   elsewhere r (s ∷ t) h = grind (arith, common_steps, one_lowered)
-
-  -- what the iterator over groups hands out
-  pub front_group : (rest group after : List (Record N D)) → rest ≡ group ++ after
-      → runs (same_owner labels) rest ≡ group ∷ runs (same_owner labels) after → (owner : N)
-      → HasFirst (λ r. r.owner ≡ owner) group
-      → (g : ZoneRecord) × IsFront (map see rest) g (map see group) (map see after) × (g.owner ≡ labels owner)
-  front_group [] [] after e f owner h = absurd h
-  front_group [] (g ∷ group) after e f owner h = cc
-  front_group (r ∷ rest) [] after e f owner h = absurd h
-  front_group (r ∷ rest) (g ∷ group) after e f owner h =
-      let run = first_run (same_owner labels) owner_onward r rest (g ∷ group) after e f in (
-        see g,
-        record {
-          gs = map see group;
-          are = refl;
-          split = ap (map see) e ∙ map-append see (g ∷ group) after;
-          group = subst (λ s. AllByRecursion (λ o. same_name o.owner (labels s.owner) ≡ true) (map see group)
-              × BeginsElsewhere (labels s.owner) (map see after)) run.0 (all_at r group run.1, elsewhere r after run.2);
-        },
-        ap labels h,
-      )
 
   -- ---- order
 
@@ -616,42 +543,40 @@ module _ {X : Type 0} (alike : X → X → Bool) where
 
 -- ---- all groups
 
-module _ (d : Bool) (L : List ZoneRecord) (a : Name) where
-  -- one group more, where what is left after it is known
-  left_step : (rest G t : List ZoneRecord) (g : ZoneRecord) (gs : List (List ZoneRecord)) (o : Option Name) (ks : List Name)
-      → IsWalked d L a rest o ks → IsFront rest g G t
-      → ((o : Option Name) (ks : List Name) → IsWalked d L a t o ks
-      → map (owner_at L a) ks ++ left_owners d a o gs ≡ map (owner_at L a) (unoccluded_owners d L a))
-      → map (owner_at L a) ks ++ left_owners d a o (G ∷ gs) ≡ map (owner_at L a) (unoccluded_owners d L a)
-  left_step rest G t g gs o ks w f after = rw f.are (elim (cases_Bool (is_passed_over a o g.owner)) [
-    | inl e ↦ rw e (after o ks (walk_passed w g f.gs t f.split f.group e))
-    | inr e ↦
-        let next = occluder_from d a g.owner (g ∷ f.gs) in
-        rw (e, owner_is w g f.gs t f.split f.group e) (sym (append_assoc (map (owner_at L a) ks) (owner_at L a g.owner ∷ []) (left_owners d a next gs))
-        ∙ ap (λ l. l ++ left_owners d a next gs) (sym (map-append (owner_at L a) ks (g.owner ∷ [])))
-        ∙ after next (ks ++ g.owner ∷ []) (walk_given w g f.gs t f.split f.group e))
-  ])
-
-module _ {N D : Type 0} (labels : N → Name) (rtype_of : D → ℕ) (minimum_of : D → Option ℕ) (d : Bool) (L : List ZoneRecord) (a : Name) where
+module _ {N D : Type 0} (labels : N → Name) (rtype_of : D → ℕ) (minimum_of : D → Option ℕ) (d : Bool) (a : Name) where
   abbrev see_record : Record N D → ZoneRecord
   see_record = as_zone_record labels rtype_of minimum_of
 
-  -- the owners found so far and those that are left are all
-  left_all : (gs : List (List (Record N D))) (rest : List (Record N D)) (o : Option Name) (ks : List Name) → runs (same_owner labels) rest ≡ gs
-      → IsWalked d L a (map see_record rest) o ks
-      → map (owner_at L a) ks ++ left_owners d a o (map (map see_record) gs) ≡ map (owner_at L a) (unoccluded_owners d L a)
-  left_all [] rest o ks e w = grind (arith, common_steps, runs_none)
-  left_all (group ∷ gs) [] o ks e w = absurd (no_runs (same_owner labels) group gs e)
-  left_all (group ∷ gs) (r ∷ rest) o ks e w =
+  -- what the groups that are left give is what the records that are left tell
+  left_all : (gs : List (List (Record N D))) (rest : List (Record N D)) (o : Option Name) → runs (same_owner labels) rest ≡ gs
+      → OwnersNeverDescend (map see_record rest) → AllByRecursion (λ r. IsSince o r.owner) (map see_record rest)
+      → found d a o (map see_record rest) ≡ left_owners d a o (map (map see_record) gs)
+  left_all [] rest o e order since = grind (arith, common_steps, runs_none)
+  left_all (group ∷ gs) [] o e order since = absurd (no_runs (same_owner labels) group gs e)
+  left_all (group ∷ gs) (r ∷ rest) o e order since =
       let more = runs_rest (same_owner labels) (r ∷ rest) group gs e in
-      let first = named group (runs_first (same_owner labels) r rest group gs e) in
-      let front = front_group labels rtype_of minimum_of (r ∷ rest) group more.0 more.1 (e ∙ ap (λ h. group ∷ h) (sym more.2)) r.owner first in
-      left_step d L a (map see_record (r ∷ rest)) (map see_record group) (map see_record more.0) front.0 (map (map see_record) gs) o ks w front.1
-      (λ o ks. left_all gs more.0 o ks more.2)
+      let t = more.0 in
+      go t group more.1 (first_run (same_owner labels) (owner_onward labels rtype_of minimum_of) r rest group t more.1 (e ∙ ap (λ h. group ∷ h) (sym more.2)))
+      (λ o order since. left_all gs t o more.2 order since)
     where
-      named : (h : List (Record N D)) → HasFirst (λ y. y ≡ r) h → HasFirst (λ s. s.owner ≡ r.owner) h
-      named [] i = i
-      named (s ∷ h) i = ap (λ t. t.owner) i
+      go : (t group : List (Record N D)) → r ∷ rest ≡ group ++ t → IsFirstRun (same_owner labels) r group t
+          → ((o : Option Name) → OwnersNeverDescend (map see_record t) → AllByRecursion (λ r. IsSince o r.owner) (map see_record t)
+          → found d a o (map see_record t) ≡ left_owners d a o (map (map see_record) gs))
+          → found d a o (map see_record (r ∷ rest)) ≡ left_owners d a o (map see_record group ∷ map (map see_record) gs)
+      go t [] is run after = absurd run
+      go t (g ∷ group) is run after =
+          let split = ap (map see_record) is ∙ map-append see_record (g ∷ group) t in
+          let in_order = subst OwnersNeverDescend split order in
+          let key = sym (ap (λ x. labels x.owner) run.0) in
+          ap (found d a o) split ∙ left_step d a o (see_record g) (map see_record group) (map see_record t) (map (map see_record) gs)
+          (subst (λ n. AllByRecursion (λ s. same_name s.owner n ≡ true) (map see_record group)) (sym key) (all_at labels rtype_of minimum_of r group run.1))
+          (subst (λ n. BeginsElsewhere n (map see_record t)) (sym key) (elsewhere labels rtype_of minimum_of r t run.2)) in_order
+          (subst (AllByRecursion (λ r. IsSince o r.owner)) split since)
+          (λ o since. after o (in_order_after (map see_record (g ∷ group)) (map see_record t) in_order) since)
+
+always : {X : Type 0} (xs : List X) → AllByRecursion (λ (x : X). Unit {0}) xs
+always [] = tt
+always (x ∷ xs) = (tt, always xs)
 
 -- at first all are left
 left_first : {N D : Type 0} (labels : N → Name) (rtype_of : D → ℕ) (minimum_of : D
@@ -659,7 +584,7 @@ left_first : {N D : Type 0} (labels : N → Name) (rtype_of : D → ℕ) (minimu
     → left_owners d a None (map (map (as_zone_record labels rtype_of minimum_of)) (runs (same_owner labels) rs))
     ≡ map (owner_at (map (as_zone_record labels rtype_of minimum_of) rs) a) (unoccluded_owners d (map (as_zone_record labels rtype_of minimum_of) rs) a)
 left_first labels rtype_of minimum_of d a rs h =
-    left_all labels rtype_of minimum_of d _ a _ rs None [] refl (walk_start d _ a (owners_in_order labels rtype_of minimum_of rs h))
+    sym (left_all labels rtype_of minimum_of d a _ rs None refl (owners_in_order labels rtype_of minimum_of rs h) (always _))
 
 -- at last none are
 pub left_none : {N D : Type 0} (labels : N → Name) (rtype_of : D → ℕ) (minimum_of : D

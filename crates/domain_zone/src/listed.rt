@@ -10,8 +10,8 @@ ghost use Rattle.domain_octets.specs.Octets.{Octets};
 
 use crate::{UnoccludedOwner, UnoccludedOwners};
 use domain_base::{ParsedName, Rtype, ToName};
-use domain_bitmap::{RtypeBitmap, RtypeBitmapBuilder, RtypeBitmaps};
-use domain_octets::{GrowingBuilder, Octets, OutOfMemory};
+use domain_bitmap::{RtypeBitmap, RtypeBitmapBuilder};
+use domain_octets::{GrowingBuilder, Octets, OctetsFrom, OutOfMemory, SmallOctets};
 use domain_record::{Record, ZoneData};
 use domain_records::{RecordsIter, SigningError, SliceRefsOrOwnedIterator};
 use std::alloc::Global;
@@ -102,8 +102,8 @@ pub fn uneven_type<N: ToName, D: ZoneData>(
 pub struct ListedOwners<'a> {
     /// The names.
     pub names: Vec<ParsedName<'a>>,
-    /// The types of each.
-    pub types: RtypeBitmaps,
+    /// The types of each, whose octets mostly lie in the value itself.
+    pub types: Vec<RtypeBitmap<SmallOctets>>,
     /// Whether memory was wanting.
     pub is_full: bool,
 }
@@ -113,11 +113,11 @@ impl<'a> ListedOwners<'a> {
     fn new(alloc: Global) -> Self
         ensures room { result.is_full ≡ false }
         ensures names { result.names.items ≡ [] }
-        ensures types { result.types ≡ [] }
+        ensures types { result.types.items ≡ [] }
     {
         ListedOwners {
             names: Vec::new(alloc),
-            types: RtypeBitmaps::new(alloc),
+            types: Vec::new(alloc),
             is_full: false,
         }
     }
@@ -133,13 +133,17 @@ impl<'a> ListedOwners<'a> {
         ensures names { self.new.is_full ≡ false
             → self.new.names.items ≡ self.old.names.items ++ name.entry ∷ [] }
         ensures types { self.new.is_full ≡ false
-            → IsOkAnd types (λ own. self.new.types ≡ self.old.types ++ own ∷ []) }
+            → IsOkAnd types (λ own. self.new.types.items ≡ self.old.types.items ++ own ∷ []) }
     {
         let Ok(types) = types else {
             self.is_full = true;
             return;
         };
-        if self.types.push(&types).is_err() || self.names.push(name).is_err() {
+        let Ok(types) = RtypeBitmap::try_octets_from(*self.types.allocator(), types) else {
+            self.is_full = true;
+            return;
+        };
+        if self.types.push(types).is_err() || self.names.push(name).is_err() {
             self.is_full = true;
         }
     }
