@@ -21,7 +21,7 @@ impl fmt::Display for HasherError {
     ghost use Rattle.std.specs.Prelude.{Some};
     ghost use Rattle.domain_hasher.specs.ErrorText.{hasher_error_text};
 
-    // These texts stand once more in specs/HasherText.antt: both change together.
+    // These texts stand once more in specs/ErrorText.antt: both change together.
     ghost output = { λ e. Some (hasher_error_text e) };
 
     fn fmt<W: fmt::Write>(&self, f: &mut fmt::Formatter<W>) -> fmt::Result {
