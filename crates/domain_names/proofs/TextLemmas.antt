@@ -62,11 +62,10 @@ dotted_more name rest text label above so_far labels further same =
     }
 
 pub dotted_ends : (name rest text : List ℕ) → IsDotted name rest text → labels_of rest ≡ []
-    → slice_set text (length name - 1) 46 ≡ dotted_text (labels_of name) ++ 46 ∷ []
-dotted_ends name rest text so_far none =
-    let is = wire_end rest so_far.wire none in grind (arith, common_steps, (set-append_seam so_far.front 0 [] 46))
+    → text ≡ dotted_text (labels_of name) ++ 0 ∷ []
+dotted_ends name rest text so_far none = let is = wire_end rest so_far.wire none in grind (arith, common_steps)
 
-pub dotted_ascii : (labels : Name) → IsName labels → IsAscii (dotted_text labels ++ 46 ∷ [])
+pub dotted_ascii : (labels : Name) → IsName labels → IsAscii (dotted_text labels ++ 0 ∷ [])
 dotted_ascii labels valid = grind (arith, common_steps, dotted_text_ascii)
 
 pub ruleset octet_steps = (common_steps, octet_text_in_digits)
