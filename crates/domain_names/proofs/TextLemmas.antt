@@ -72,8 +72,6 @@ pub ruleset octet_steps = (common_steps, octet_text_in_digits)
 
 pub ruleset dotted_steps = (common_steps, dotted_more, dotted_ends)
 
-pub ruleset ascii_steps = (IsUtf8-from_ascii)
-
 -- ---- names spelled by texts
 
 -- no octet of a label stands where a label ends

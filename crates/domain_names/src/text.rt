@@ -257,16 +257,6 @@ fn is_ordinary_label(label: &[u8]) -> bool
     true
 }
 
-/// Text, all of whose octets are ASCII. That they are is proved, so that it need not be looked
-/// through.
-#[tactic(auto, using(crate::proofs::TextLemmas::ascii_steps))]
-fn ascii_text(octets: &[u8]) -> &str
-    requires { IsAscii octets.now }
-    ensures { result.now ≡ octets.now }
-{
-    unsafe { str::from_utf8_unchecked(octets) }
-}
-
 fn write_label<W: fmt::Write>(label: &[u8], f: &mut fmt::Formatter<W>) -> fmt::Result
     ensures { WritesOnOk W.write_str_gives f.old result (label_text label.now) f.new }
 {
@@ -329,14 +319,15 @@ fn write_labels<W: fmt::Write>(name: &[u8], f: &mut fmt::Formatter<W>) -> fmt::R
     Ok(())
 }
 
-/// Writes the labels with dots between them: in one piece, if none needs an escape.
+/// Writes the labels with dots between them: in one piece, if none needs an escape. That this is
+/// ASCII is proved, so that it need not be looked through.
 pub fn write_name<W: fmt::Write>(name: &[u8], f: &mut fmt::Formatter<W>) -> fmt::Result
     requires { IsWire name.now }
     ensures { WritesOnOk W.write_str_gives f.old result (name_text (labels_of name.now)) f.new }
 {
     if let Some(text) = dotted(name, &mut [0; MAX_NAME]) {
         return match text {
-            [_, text @ .., _] => f.write_str(ascii_text(text)),
+            [_, text @ .., _] => f.write_str(unsafe { str::from_utf8_unchecked(text) }),
             _ => Ok(()),
         };
     }
