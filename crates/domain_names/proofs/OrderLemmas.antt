@@ -84,13 +84,11 @@ lowered_wire octets wire = wire_of-lowered (labels_of octets) wire.valid.of_labe
 pub lowered_size : (octets : List ℕ) → IsWire octets → length (wire_of (lowered (labels_of octets))) ≡ length octets
 lowered_size octets wire = ap length (lowered_wire octets wire) ∙ length-map octets to_ascii_lowercase
 
-low_octet : (c : ℕ) → c < 256 → to_ascii_lowercase c < 256
-low_octet c small = grind (arith, nat_tests)
-
 labels-lowered : (labels : Name) → AllByRecursion IsLabel labels → AllByRecursion IsLabel (lowered labels)
 labels-lowered [] all = all
 labels-lowered (label ∷ labels) all =
-    let octets = All-map (λ octet. octet < 256) to_ascii_lowercase label (All-weaker _ _ low_octet label (all.0).octets) in
+    let small = All-weaker (λ c. c < 256) (λ c. to_ascii_lowercase c < 256) (λ c octet. grind (arith, nat_tests)) label (all.0).octets in
+    let octets = All-map (λ octet. octet < 256) to_ascii_lowercase label small in
     grind (arith, common_steps, (labels-lowered labels all.1))
 
 pub IsName-lowered : (labels : Name) → IsName labels → IsName (lowered labels)
@@ -207,11 +205,8 @@ pub part_at : (a b x y : List ℕ) (left right : Option Label) (count : ℕ) →
     → length x ≡ length y → length x ≤ count → Part (labels_of a) (labels_of b) left right (labels_of x)
 part_at a b x y left right count a_wire b_wire x_wire y_wire a_ends b_ends alike size within = grind (arith, common_steps, same_ends, wire_end)
 
-last_of_wire : (labels : Name) → drop (length (wire_of labels) - 1) (wire_of labels) ≡ 0 ∷ []
-last_of_wire labels = grind (arith, common_steps, (wire_of-end labels []))
-
 last_octet : (name : List ℕ) → IsWire name → drop (length name - 1) name ≡ 0 ∷ []
-last_octet name wire = subst (λ (l : List ℕ). drop (length l - 1) l ≡ 0 ∷ []) (wire_is name wire) (last_of_wire (labels_of name))
+last_octet name wire = grind (arith, common_steps, (wire_of-end (labels_of name) []), (wire_is name wire))
 
 -- all names end in the root
 pub alike_root : (a b : List ℕ) → IsWire a → IsWire b → EndAlike a b 1
