@@ -2,7 +2,7 @@
 use Rattle.std.proofs.Common.{arith, ℕ, zero, suc, ◌/◌, ◌%◌, ◌<◌, ◌≤◌, ◌≡◌, ◌∷◌, ◌++◌, ◌-◌, [], List, false, refl, ap, subst, ◌∙◌, length, take, drop}
 use Rattle.std.proofs.{Common.{length-append, slice_set, ◌≢◌, get_or, ◌+◌, Option, Some, None, sym, inl, rules}, lemmas.List.append_assoc}
 use Rattle.std.proofs.{lemmas.{List.{append-nil, length-drop, take_at, take_more}, Grind.common_steps}, Math.Seq.set-append_seam}
-use Rattle.std.proofs.lemmas.{List.Elements.{All-head, All-tail}, Str.{IsAscii-append, IsUtf8-from_ascii, Ascii.IsAscii-nil}, Fmt.decimal_digit}
+use Rattle.std.proofs.lemmas.{List.Elements.{All-head, All-tail}, Str.{IsAscii-append, Ascii.IsAscii-nil}, Fmt.decimal_digit}
 use Rattle.std.specs.{List.{All, AllByRecursion as ByRecursion, AllByRecursion}, Str.IsAscii, Fmt.decimal, Char.is_ascii_graphic, Prelude.IsSome}
 use Rattle.std.specs.Prelude.{IfSome}
 use Rattle.domain_names.specs.Text.{octet_text, label_text, dotted_text, is_special, symbol_at, LabelText, ends, octet, HasNoLabel}
