@@ -90,12 +90,10 @@ lower_digits digits small = map_digits lower_digit lower_alphabet refl digits (r
 pub upper_digits : (digits : List ℕ) → AreDigits digits → map (λ n. get_or upper_alphabet n 0) digits ≡ map upper_digit digits
 upper_digits digits small = map_digits upper_digit upper_alphabet refl digits (recursion_from_All (λ digit. digit < 32) digits small)
 
-upper_is_ascii : (n : ℕ) → n < 32 → upper_digit n < 128
-upper_is_ascii n lt = grind (arith, nat_tests)
-
 pub upper_are_ascii : (digits : List ℕ) → AreDigits digits → IsAscii (map upper_digit digits)
 upper_are_ascii digits small =
-    IsAscii-from_all _ (All-map (λ c. c < 128) upper_digit digits (All-weaker _ (λ n. upper_digit n < 128) upper_is_ascii digits small))
+    let low = All-weaker (λ d. d < 32) (λ n. upper_digit n < 128) (λ n below. grind (arith, nat_tests)) digits small in
+    IsAscii-from_all _ (All-map (λ c. c < 128) upper_digit digits low)
 
 -- ---- the digits of Base 32 are the groups of five bits of their octets
 
@@ -185,12 +183,6 @@ pub are_small : (octets : List ℕ) → All (λ octet. octet < 256) octets → A
 are_small octets h =
     All-from_recursion _ _ (small octets (recursion_from_All (λ octet. octet < 256) octets h))
 
-value_of_digit : (n : ℕ) → n < 32 → base32_value (lower_digit n) ≡ Some n
-value_of_digit n l = grind (arith, nat_tests)
-
-value_of_upper_digit : (n : ℕ) → n < 32 → base32_value (upper_digit n) ≡ Some n
-value_of_upper_digit n l = grind (arith, nat_tests)
-
 -- digits that are written by either alphabet
 module _ (written : ℕ → ℕ) (back_to : (n : ℕ) → n < 32 → base32_value (written n) ≡ Some n) where
   are_digits : (ds : List ℕ) → AreSmall ds → (list_all (is_digit Base32Hex) (map written ds) ≡ true) × (base32_digits (map written ds) ≡ ds)
@@ -208,10 +200,10 @@ module _ (written : ℕ → ℕ) (back_to : (n : ℕ) → n < 32 → base32_valu
       }
 
 pub lower_reads_back : (octets : List ℕ) → All (λ octet. octet < 256) octets → IsBase32 (base32_lower octets) octets
-lower_reads_back = reads_back lower_digit value_of_digit
+lower_reads_back = reads_back lower_digit (λ n below. grind (arith, nat_tests))
 
 pub upper_reads_back : (octets : List ℕ) → All (λ octet. octet < 256) octets → IsBase32 (base32_upper octets) octets
-upper_reads_back = reads_back upper_digit value_of_upper_digit
+upper_reads_back = reads_back upper_digit (λ n below. grind (arith, nat_tests))
 
 -- ---- Base 32 hex keeps the order of octets: the order of numbers of one width is that of their bits
 
@@ -296,22 +288,16 @@ map_keeps : (f : ℕ → ℕ) → ((a b : ℕ) → nat_cmp (f a) (f b) ≡ nat_c
 map_keeps f keep (x ∷ xs) (y ∷ ys) = rw (keep x y) (ap (ordering_then (nat_cmp x y)) (map_keeps f keep xs ys))
 map_keeps f keep xs ys = grind (arith, common_steps)
 
-digit_keeps : (f : ℕ → ℕ) → ((a b : ℕ) → a < b → f a < f b) → (a b : ℕ) → nat_cmp (f a) (f b) ≡ nat_cmp a b
-digit_keeps f grows a b = grind (arith, common_steps)
-
-lower_grows : (a b : ℕ) → a < b → lower_digit a < lower_digit b
-lower_grows a b below = grind (arith, nat_tests)
-
-upper_grows : (a b : ℕ) → a < b → upper_digit a < upper_digit b
-upper_grows a b below = grind (arith, nat_tests)
+written_keep : (f : ℕ → ℕ) → ((a b : ℕ) → a < b → f a < f b) → (xs ys : List ℕ) → AreOctets xs → AreOctets ys
+    → slice_cmp nat_cmp (map f (base32_from 1 0 xs)) (map f (base32_from 1 0 ys)) ≡ slice_cmp nat_cmp xs ys
+written_keep f grows xs ys xs_small ys_small =
+    map_keeps f (λ a b. grind (arith, common_steps)) (base32_from 1 0 xs) (base32_from 1 0 ys) ∙ digits_keep_order xs ys xs_small ys_small
 
 pub lower_keeps : (xs ys : List ℕ) → AreOctets xs → AreOctets ys → slice_cmp nat_cmp (base32_lower xs) (base32_lower ys) ≡ slice_cmp nat_cmp xs ys
-lower_keeps xs ys xs_small ys_small = map_keeps lower_digit (digit_keeps lower_digit lower_grows) (base32_from 1 0 xs)
-    (base32_from 1 0 ys) ∙ digits_keep_order xs ys xs_small ys_small
+lower_keeps = written_keep lower_digit (λ a b below. grind (arith, nat_tests))
 
 pub upper_keeps : (xs ys : List ℕ) → AreOctets xs → AreOctets ys → slice_cmp nat_cmp (base32_upper xs) (base32_upper ys) ≡ slice_cmp nat_cmp xs ys
-upper_keeps xs ys xs_small ys_small = map_keeps upper_digit (digit_keeps upper_digit upper_grows) (base32_from 1 0 xs)
-    (base32_from 1 0 ys) ∙ digits_keep_order xs ys xs_small ys_small
+upper_keeps = written_keep upper_digit (λ a b below. grind (arith, nat_tests))
 
 -- what is read back tells octets apart
 apart : (s t xs ys : List ℕ) → s ≡ t → IsBase32 s xs → IsBase32 t ys → xs ≡ ys

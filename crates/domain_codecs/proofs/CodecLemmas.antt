@@ -111,10 +111,8 @@ lower_base32_word octets some = grind (arith, common_steps, map_some, base32_som
 
 symbols_plain : (table octets : List ℕ) → NoBlankIn table → HasNoBlank (encode_symbols table octets)
 unfolding encode_symbols
-symbols_plain table [] plain = tt
-symbols_plain table (a ∷ []) plain = (plain (a / 4), (plain (a % 4 * 16), tt))
-symbols_plain table (a ∷ b ∷ []) plain = (plain (a / 4), (plain (a % 4 * 16 + b / 16), (plain (b % 16 * 4), tt)))
 symbols_plain table (a ∷ b ∷ c ∷ octets) plain = grind (arith, common_steps, (symbols_plain table octets plain))
+symbols_plain table octets plain = grind (arith, common_steps)
 
 symbols_some : (table octets rest : List ℕ) → octets ≢ [] → encode_symbols table octets ++ rest ≢ []
 unfolding encode_symbols

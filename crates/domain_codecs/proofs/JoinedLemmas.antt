@@ -73,10 +73,6 @@ nothing Base16 = refl
 nothing Base32Hex = record { digits = λ i d below. absurd (omega arith); whole = refl; value = refl }
 nothing Base64 = subst (λ t. DecodesTo t []) (encode_of-nil standard) (decode_of-encode_of standard [] refl (λ i. omega arith))
 
-all_in_front : (codec : Codec) (text piece after octets : List ℕ) → Cut text piece after → after ≡ [] → Decodes codec text octets
-    → Halves codec piece after octets
-all_in_front codec text piece after octets cut none decoded = grind (arith, common_steps, nothing)
-
 -- the first octet, which two digits stand for, and the others
 record First (a b : ℕ) (others : Result (List ℕ) FromHexError) (octets : List ℕ) : Type 0 where
   octet : ℕ
@@ -157,7 +153,7 @@ of_two codec piece after octets c bytes full decoded = grind (arith, common_step
 
 pub halves : (codec : Codec) (text piece after octets : List ℕ) → IsBytes text → Cut text piece after → Decodes codec text octets
     → Halves codec piece after octets
-halves codec text piece [] octets bytes cut decoded = all_in_front codec text piece [] octets cut refl decoded
+halves codec text piece [] octets bytes cut decoded = grind (arith, common_steps, nothing)
 halves codec text piece (c ∷ after) octets bytes cut decoded = grind (arith, common_steps, of_two)
 
 bytes_after : (text piece after : List ℕ) → text ≡ piece ++ after → IsBytes text → IsBytes after

@@ -61,19 +61,6 @@ const LOWER: &[u8; 32] = b"0123456789abcdefghijklmnopqrstuv";
 /// The digits in upper case.
 const UPPER: &[u8; 32] = b"0123456789ABCDEFGHIJKLMNOPQRSTUV";
 
-/// Five octets that begin with these, and then are zeros.
-fn five_of(octets: &[u8]) -> [u8; 5]
-    requires { length octets.now ≤ 5 }
-    ensures { result ≡ octets.now ++ drop (length octets.now) (0 ∷ 0 ∷ 0 ∷ 0 ∷ 0 ∷ []) }
-{
-    if let [a, b, c, d, e] = octets {
-        return [*a, *b, *c, *d, *e];
-    }
-    let mut five = [0; 5];
-    five[..octets.len()].copy_from_slice(octets);
-    five
-}
-
 /// The digits of at most five octets, as characters of an alphabet, and how many these are. Zero
 /// bits fill the last of them; what stands after it is no digit.
 fn spell(alphabet: &[u8; 32], octets: &[u8]) -> ([u8; 8], usize)
@@ -83,7 +70,9 @@ fn spell(alphabet: &[u8; 32], octets: &[u8]) -> ([u8; 8], usize)
     ensures small { AreDigits (base32_from 1 0 octets.now) }
     ensures count { result.1 ≡ (8 * length octets.now + 4) / 5 }
 {
-    let [a, b, c, d, e] = five_of(octets);
+    let mut five = [0; 5];
+    five[..octets.len()].copy_from_slice(octets);
+    let [a, b, c, d, e] = five;
     let second = 256 * u32::from(a % 8) + u32::from(b);
     let third = 256 * (second % 2) + u32::from(c);
     let fourth = 256 * (third % 16) + u32::from(d);

@@ -60,18 +60,10 @@ impl<'a> Joined<'a> {
         self.front.is_empty() && self.texts.is_empty()
     }
 
-    /// Takes 64 characters, or all where there are fewer: those of one text as they stand there,
-    /// and those of several in a buffer.
+    /// Takes 64 characters, or all where there are fewer, into a buffer.
     pub(crate) fn take_piece<'b>(&mut self, buffer: &'b mut [u8; 64]) -> &'b [u8]
-    where
-        'a: 'b,
         ensures { Cut self.old result.now self.new }
     {
-        if self.front.len() >= 64 || self.texts.is_empty() {
-            let (piece, after) = self.front.split_at(self.front.len().min(64));
-            self.front = after;
-            return piece;
-        }
         let mut count = 0;
         loop {
             let (part, after) = self.front.split_at(self.front.len().min(64 - count));

@@ -84,13 +84,11 @@ lowered_wire octets wire = wire_of-lowered (labels_of octets) wire.valid.of_labe
 pub lowered_size : (octets : List ℕ) → IsWire octets → length (wire_of (lowered (labels_of octets))) ≡ length octets
 lowered_size octets wire = ap length (lowered_wire octets wire) ∙ length-map octets to_ascii_lowercase
 
-low_octet : (c : ℕ) → c < 256 → to_ascii_lowercase c < 256
-low_octet c small = grind (arith, nat_tests)
-
 labels-lowered : (labels : Name) → AllByRecursion IsLabel labels → AllByRecursion IsLabel (lowered labels)
 labels-lowered [] all = all
 labels-lowered (label ∷ labels) all =
-    let octets = All-map (λ octet. octet < 256) to_ascii_lowercase label (All-weaker _ _ low_octet label (all.0).octets) in
+    let small = All-weaker (λ c. c < 256) (λ c. to_ascii_lowercase c < 256) (λ c octet. grind (arith, nat_tests)) label (all.0).octets in
+    let octets = All-map (λ octet. octet < 256) to_ascii_lowercase label small in
     grind (arith, common_steps, (labels-lowered labels all.1))
 
 pub IsName-lowered : (labels : Name) → IsName labels → IsName (lowered labels)
@@ -207,11 +205,8 @@ pub part_at : (a b x y : List ℕ) (left right : Option Label) (count : ℕ) →
     → length x ≡ length y → length x ≤ count → Part (labels_of a) (labels_of b) left right (labels_of x)
 part_at a b x y left right count a_wire b_wire x_wire y_wire a_ends b_ends alike size within = grind (arith, common_steps, same_ends, wire_end)
 
-last_of_wire : (labels : Name) → drop (length (wire_of labels) - 1) (wire_of labels) ≡ 0 ∷ []
-last_of_wire labels = grind (arith, common_steps, (wire_of-end labels []))
-
 last_octet : (name : List ℕ) → IsWire name → drop (length name - 1) name ≡ 0 ∷ []
-last_octet name wire = subst (λ (l : List ℕ). drop (length l - 1) l ≡ 0 ∷ []) (wire_is name wire) (last_of_wire (labels_of name))
+last_octet name wire = grind (arith, common_steps, (wire_of-end (labels_of name) []), (wire_is name wire))
 
 -- all names end in the root
 pub alike_root : (a b : List ℕ) → IsWire a → IsWire b → EndAlike a b 1
@@ -232,37 +227,12 @@ pub ruleset alike_steps = (common_steps, length-wire, alike_root, alike_more)
 
 -- ---- the end of a name that decides whether it is at or below another
 
--- a name with more octets than the other is at or below it where the name above it is
-above_is_below : (end above label : List ℕ) (rest : Name) → IsWire end → IsWire above → labels_of end ≡ label ∷ rest
-    → length above < length end → IsAtOrBelow (labels_of end) (labels_of above) → IsAtOrBelow rest (labels_of above)
-above_is_below end above label rest end_wire above_wire is longer below = go below.front below.joined where
-  go : (front : Name) → lowered (labels_of end) ≡ front ++ lowered (labels_of above) → IsAtOrBelow rest (labels_of above)
-  go [] joined = absurd (omega (arith, longer, lowered_size end end_wire, lowered_size above above_wire, ap (λ l. length (wire_of l)) joined))
-  go (f ∷ front) joined = record { front = front; joined = ap (drop 1) (sym (ap lowered is) ∙ joined) }
+-- the one that has no more labels
+pub end_decides : (name above : Name) (k : ℕ) → k ≡ length name - length above → is_at_or_below name above ≡ same_name above (drop k name)
+end_decides name above k is =
+    rw (length-map name (map to_ascii_lowercase), length-map above (map to_ascii_lowercase), drop-map (map to_ascii_lowercase), ← is) refl
 
-pub longer_below : (end above label : List ℕ) (rest : Name) → IsWire end → IsWire above → labels_of end ≡ label ∷ rest
-    → length above < length end → is_at_or_below (labels_of end) (labels_of above) ≡ is_at_or_below rest (labels_of above)
-longer_below end above label rest end_wire above_wire is longer =
-    let whole = at_or_below_test (labels_of end) (labels_of above) in
-    let part = at_or_below_test rest (labels_of above) in
-    both_ways _ _ (λ e. part.1 (above_is_below end above label rest end_wire above_wire is longer (whole.0 e)))
-    (λ e. let below = part.0 e in whole.1 (record {
-      front = map to_ascii_lowercase label ∷ below.front;
-      joined = ap lowered is ∙ ap (λ l. map to_ascii_lowercase label ∷ l) below.joined;
-    }))
+pub end_below : (name above : Name) (k : ℕ) → k ≡ length name - length above → Decides (same_name above (drop k name)) (IsAtOrBelow name above)
+end_below name above k is = subst (λ r. Decides r (IsAtOrBelow name above)) (end_decides name above k is) (at_or_below_test name above)
 
--- a name with no more octets than the other is at or below it where they are the same
-pub same_below : (end above : List ℕ) → IsWire end → IsWire above → length end ≤ length above
-    → is_at_or_below (labels_of end) (labels_of above) ≡ same_name (labels_of end) (labels_of above)
-same_below end above end_wire above_wire within =
-    let same = same_name_same (labels_of end) (labels_of above) in
-    let below = at_or_below_test (labels_of end) (labels_of above) in
-    both_ways _ _ (λ e. same.1 (go (below.0 e).front (below.0 e).joined)) (λ e. below.1 (record { front = []; joined = same.0 e }))
-  where
-    go : (front : Name) → lowered (labels_of end) ≡ front ++ lowered (labels_of above) → IsSame (labels_of end) (labels_of above)
-    go [] joined = joined
-    go (f ∷ front) joined =
-        let sizes = sym (lowered_size end end_wire) ∙ ap (λ l. length (wire_of l)) joined in
-        absurd (grind (arith, common_steps, (lowered_size above above_wire), (wire_of-end front (lowered (labels_of above)))))
-
-pub ruleset below_steps = (common_steps, longer_below, same_below, at_or_below_test, length-wire)
+pub ruleset below_steps = (common_steps, end_decides, end_below)

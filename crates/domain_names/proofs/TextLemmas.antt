@@ -2,7 +2,7 @@
 use Rattle.std.proofs.Common.{arith, ℕ, zero, suc, ◌/◌, ◌%◌, ◌<◌, ◌≤◌, ◌≡◌, ◌∷◌, ◌++◌, ◌-◌, [], List, false, refl, ap, subst, ◌∙◌, length, take, drop}
 use Rattle.std.proofs.{Common.{length-append, slice_set, ◌≢◌, get_or, ◌+◌, Option, Some, None, sym, inl, rules}, lemmas.List.append_assoc}
 use Rattle.std.proofs.{lemmas.{List.{append-nil, length-drop, take_at, take_more}, Grind.common_steps}, Math.Seq.set-append_seam}
-use Rattle.std.proofs.lemmas.{List.Elements.{All-head, All-tail}, Str.{IsAscii-append, IsUtf8-from_ascii, Ascii.IsAscii-nil}, Fmt.decimal_digit}
+use Rattle.std.proofs.lemmas.{List.Elements.{All-head, All-tail}, Str.{IsAscii-append, Ascii.IsAscii-nil}, Fmt.decimal_digit}
 use Rattle.std.specs.{List.{All, AllByRecursion as ByRecursion, AllByRecursion}, Str.IsAscii, Fmt.decimal, Char.is_ascii_graphic, Prelude.IsSome}
 use Rattle.std.specs.Prelude.{IfSome}
 use Rattle.domain_names.specs.Text.{octet_text, label_text, dotted_text, is_special, symbol_at, LabelText, ends, octet, HasNoLabel}
@@ -41,18 +41,10 @@ pub record IsDotted (name rest text : List ℕ) : Type 0 where
   pub wire : IsWire rest
   pub size : length text ≡ length name
 
--- the octets of a name that has labels
-wire_parts : (rest label above : List ℕ) → IsWire rest → IsWire above → labels_of rest ≡ label ∷ labels_of above
-    → rest ≡ length label ∷ (label ++ above)
-wire_parts rest label above wire further labels = grind (arith, common_steps)
-
-wire_end : (rest : List ℕ) → IsWire rest → labels_of rest ≡ [] → rest ≡ 0 ∷ []
-wire_end rest wire labels = wire.spelled ∙ ap wire_of labels
-
 pub dotted_more : (name rest text label above : List ℕ) → IsDotted name rest text → labels_of rest ≡ label ∷ labels_of above → IsWire above
     → label_text label ≡ label → IsDotted name above (slice_set text (length name - length rest) 46)
 dotted_more name rest text label above so_far labels further same =
-    let is = wire_parts rest label above so_far.wire further labels in
+    let is : rest ≡ length label ∷ (label ++ above) = (let wire = so_far.wire.spelled in grind (arith, common_steps)) in
     record {
       front = so_far.front ++ 46 ∷ label;
       parts = grind (arith, common_steps, (set-append_seam so_far.front (length label) (label ++ above) 46));
@@ -62,18 +54,15 @@ dotted_more name rest text label above so_far labels further same =
     }
 
 pub dotted_ends : (name rest text : List ℕ) → IsDotted name rest text → labels_of rest ≡ []
-    → slice_set text (length name - 1) 46 ≡ dotted_text (labels_of name) ++ 46 ∷ []
-dotted_ends name rest text so_far none =
-    let is = wire_end rest so_far.wire none in grind (arith, common_steps, (set-append_seam so_far.front 0 [] 46))
+    → text ≡ dotted_text (labels_of name) ++ 0 ∷ []
+dotted_ends name rest text so_far none = let is = so_far.wire.spelled ∙ ap wire_of none in grind (arith, common_steps)
 
-pub dotted_ascii : (labels : Name) → IsName labels → IsAscii (dotted_text labels ++ 46 ∷ [])
+pub dotted_ascii : (labels : Name) → IsName labels → IsAscii (dotted_text labels ++ 0 ∷ [])
 dotted_ascii labels valid = grind (arith, common_steps, dotted_text_ascii)
 
 pub ruleset octet_steps = (common_steps, octet_text_in_digits)
 
 pub ruleset dotted_steps = (common_steps, dotted_more, dotted_ends)
-
-pub ruleset ascii_steps = (IsUtf8-from_ascii)
 
 -- ---- names spelled by texts
 

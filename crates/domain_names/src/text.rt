@@ -257,16 +257,6 @@ fn is_ordinary_label(label: &[u8]) -> bool
     true
 }
 
-/// Text, all of whose octets are ASCII. That they are is proved, so that it need not be looked
-/// through.
-#[tactic(auto, using(crate::proofs::TextLemmas::ascii_steps))]
-fn ascii_text(octets: &[u8]) -> &str
-    requires { IsAscii octets.now }
-    ensures { result.now ≡ octets.now }
-{
-    unsafe { str::from_utf8_unchecked(octets) }
-}
-
 fn write_label<W: fmt::Write>(label: &[u8], f: &mut fmt::Formatter<W>) -> fmt::Result
     ensures { WritesOnOk W.write_str_gives f.old result (label_text label.now) f.new }
 {
@@ -276,13 +266,13 @@ fn write_label<W: fmt::Write>(label: &[u8], f: &mut fmt::Formatter<W>) -> fmt::R
     Ok(())
 }
 
-/// Puts a dot in the place of the length of each label, and of the root, in a copy of a name's
-/// octets. Answers false where an octet of a label is not written as the character that it is.
+/// Puts a dot in the place of the length of each label in a copy of a name's octets. Answers false
+/// where an octet of a label is not written as the character that it is.
 #[tactic(auto, using(crate::proofs::TextLemmas::dotted_steps))]
 fn put_dots(text: &mut [u8], name: &[u8]) -> bool
     requires name { IsWire name.now }
     requires copy { text.old ≡ name.now }
-    ensures { IsTrue result → text.new ≡ dotted_text (labels_of name.now) ++ dot ∷ [] }
+    ensures { IsTrue result → text.new ≡ dotted_text (labels_of name.now) ++ 0 ∷ [] }
 {
     let mut rest = name;
     while let Some((label, above)) = wire::split_first(rest) {
@@ -292,17 +282,16 @@ fn put_dots(text: &mut [u8], name: &[u8]) -> bool
         text[name.len() - rest.len()] = b'.';
         rest = above;
     }
-    text[name.len() - 1] = b'.';
     true
 }
 
-/// The text of a name with a dot before each label and one at its end, if all octets of its labels
-/// are written as the characters that they are, as those of most names.
+/// The text of a name with a dot before each label, and the root behind it, if all octets of its
+/// labels are written as the characters that they are, as those of most names.
 #[tactic(auto, using(crate::proofs::TextLemmas::dotted_ascii))]
 fn dotted<'a>(name: &[u8], buffer: &'a mut [u8; MAX_NAME]) -> Option<&'a [u8]>
     requires { IsWire name.now }
     ensures text { IfSome result (λ text. text.now ≡ dotted_text (labels_of name.now)
-        ++ dot ∷ []) }
+        ++ 0 ∷ []) }
     ensures ascii { IfSome result (λ text. IsAscii text.now) }
 {
     let text = &mut buffer[..name.len()];
@@ -330,14 +319,15 @@ fn write_labels<W: fmt::Write>(name: &[u8], f: &mut fmt::Formatter<W>) -> fmt::R
     Ok(())
 }
 
-/// Writes the labels with dots between them: in one piece, if none needs an escape.
+/// Writes the labels with dots between them: in one piece, if none needs an escape. That this is
+/// ASCII is proved, so that it need not be looked through.
 pub fn write_name<W: fmt::Write>(name: &[u8], f: &mut fmt::Formatter<W>) -> fmt::Result
     requires { IsWire name.now }
     ensures { WritesOnOk W.write_str_gives f.old result (name_text (labels_of name.now)) f.new }
 {
     if let Some(text) = dotted(name, &mut [0; MAX_NAME]) {
         return match text {
-            [_, text @ .., _] => f.write_str(ascii_text(text)),
+            [_, text @ .., _] => f.write_str(unsafe { str::from_utf8_unchecked(text) }),
             _ => Ok(()),
         };
     }
@@ -350,12 +340,6 @@ pub fn write_dotted<W: fmt::Write>(name: &[u8], f: &mut fmt::Formatter<W>) -> fm
     ensures { WritesOnOk W.write_str_gives f.old result
         (name_text (labels_of name.now) ++ dot ∷ []) f.new }
 {
-    if let Some(text) = dotted(name, &mut [0; MAX_NAME]) {
-        return match text {
-            [_, text @ ..] if !text.is_empty() => f.write_str(ascii_text(text)),
-            _ => f.write_str("."),
-        };
-    }
-    write_labels(name, f)?;
+    write_name(name, f)?;
     f.write_str(".")
 }

@@ -250,7 +250,7 @@ pub fn is_same(a: &[u8], b: &[u8]) -> bool
     a == b || a.eq_ignore_ascii_case(b)
 }
 
-/// Whether a name is at or below another. Its end that has no more octets than the other decides.
+/// Whether a name is at or below another. Its end that has no more labels than the other decides.
 #[tactic(auto, using(crate::proofs::OrderLemmas::below_steps))]
 pub fn is_at_or_below(name: &[u8], above: &[u8]) -> bool
     requires name { IsWire name.now }
@@ -258,14 +258,8 @@ pub fn is_at_or_below(name: &[u8], above: &[u8]) -> bool
     ensures value { result ≡ is_at_or_below (labels_of name.now) (labels_of above.now) }
     ensures below { IsTrue result ↔ IsAtOrBelow (labels_of name.now) (labels_of above.now) }
 {
-    let mut end = name;
-    while end.len() > above.len() {
-        let Some((_, rest)) = split_first(end) else {
-            unreachable!();
-        };
-        end = rest;
-    }
-    is_same(end, above)
+    let more = count_labels(name).saturating_sub(count_labels(above));
+    is_same(above, skip_labels(name, more))
 }
 
 /// The canonical order, and how many labels are shared: those of the end at which the names part,

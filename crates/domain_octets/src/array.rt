@@ -42,14 +42,9 @@ impl<const K: usize> TryClone for ArrayBuilder<K> {
         ensures copy { IfOk result (λ copy. copy ≡ self.now) }
         ensures always { IsOk result }
     {
-        let mut octets = ArrayVec::new();
-        if octets
-            .try_extend_from_slice(self.octets.as_slice())
-            .is_err()
-        {
-            unreachable!();
-        }
-        Ok(ArrayBuilder { octets })
+        Ok(ArrayBuilder {
+            octets: self.octets.clone()?,
+        })
     }
 }
 
