@@ -45,14 +45,11 @@ module _ (value : List ℕ) (p r : ℕ) (inside : p < length value / 34) (window
   abbrev after : List ℕ
   after = set value at (bit_or (get_or value at 0) (2 ^ (7 - r % 8)))
 
-  at_inside : at < length value
-  at_inside = omega (arith, inside)
-
   kept : (k : ℕ) → k ≢ at → get_or after k 0 ≡ get_or value k 0
   kept k other = grind (arith, common_steps)
 
   here : (t : ℕ) → block_holds after t p ≡ ((t == r) || block_holds value t p)
-  here t = grind (arith, common_steps, nat_tests, bit_of-set, kept, at_inside)
+  here t = grind (arith, common_steps, nat_tests, bit_of-set, kept)
 
   elsewhere : (t j : ℕ) → j ≢ p → block_holds after t j ≡ block_holds value t j
   elsewhere t j other = grind (arith, common_steps, kept)
@@ -67,17 +64,11 @@ module _ (value : List ℕ) (p r : ℕ) (inside : p < length value / 34) (window
 
 pub ruleset set_steps = (holds-set_bit, has_window-set_bit)
 
-halves : (xs ys : List ℕ) → drop (length (xs ++ ys) - length ys) (xs ++ ys) ++ take (length (xs ++ ys) - length ys) (xs ++ ys) ≡ ys ++ xs
-halves xs ys = grind (arith, common_steps)
-
 -- octets that were appended are moved before those from a place on
 pub rotated : (value slice whole moved : List ℕ) (at : ℕ) → at ≤ length value → whole ≡ value ++ slice
     → (let part = take (length whole - at) (drop at whole) in moved ≡ drop (length part - length slice) part ++ take (length part - length slice) part)
     → take at whole ++ (moved ++ drop (length whole - at) (drop at whole)) ≡ take at value ++ (slice ++ drop at value)
-rotated value slice whole moved at inside is turned =
-    let part : take (length whole - at) (drop at whole) ≡ drop at value ++ slice = grind (arith, common_steps) in
-    let turn : moved ≡ slice ++ drop at value = turned ∙ rw part (halves (drop at value) slice) in
-    grind (arith, common_steps)
+rotated value slice whole moved at inside is turned = grind (arith, common_steps)
 
 pub zeros_at : (n k : ℕ) → get_or {A = ℕ} (replicate n 0) k 0 ≡ 0
 zeros_at n k = grind (arith, common_steps)
@@ -112,8 +103,7 @@ module _ (value slot : List ℕ) (window j : ℕ) (is : slot ≡ window ∷ repl
       ∙ get_or_tail window (replicate 33 0) (1 + k) 0 (omega arith) ∙ zeros_at 33 (1 + k - 1)
 
   at_behind : (i k : ℕ) → i ≡ k + 34 → 34 * j ≤ k → get_or grown i 0 ≡ get_or value k 0
-  at_behind i k behind low = get_or-append_right _ _ (34 * j) i 0 front_long (omega arith) ∙ get_or-append_right slot _ 34 (i - 34 * j) 0 long (omega arith)
-      ∙ get_or-drop (34 * j) value (i - 34 * j - 34) 0 ∙ ap (λ n. get_or value n 0) (omega arith)
+  at_behind i k behind low = grind (arith, common_steps, get_or-append_right, front_long, long, get_or-drop)
 
   pub slots-inserted : AreSlots grown
   slots-inserted = record {
@@ -180,11 +170,7 @@ pub record OfWindow (octets : List ℕ) : Type 0 where
   pub cut : IsCut octets
 
 pub of_window-trimmed : (octets : List ℕ) → length octets ≤ 32 → ((i : ℕ) → get_or octets i 0 < 256) → OfWindow (trimmed octets)
-of_window-trimmed octets fits small = record {
-  fits = omega (arith, length-trimmed octets);
-  small = λ i. rw (get_or-trimmed octets i) (small i);
-  cut = cut-trimmed octets;
-}
+of_window-trimmed octets fits small = grind (arith, common_steps, length-trimmed, get_or-trimmed, cut-trimmed)
 
 form-more : (low w : ℕ) (octets : List ℕ) (blocks : List Block) → low ≤ w → w < 256 → OfWindow octets → InForm (w + 1) blocks
     → InForm low (block_if_any w octets ++ blocks)
@@ -197,8 +183,7 @@ form-more low w (x ∷ xs) blocks lower small of_window form = record {
 }
 
 block_is : (w : ℕ) (octets : List ℕ) → 0 < length octets → block_if_any w octets ≡ record { window = w; octets = octets } ∷ []
-block_is w [] some = absurd (omega (arith, some))
-block_is w (x ∷ xs) some = refl
+block_is w octets h1 = grind (arith, common_steps)
 
 -- ---- the types of such blocks
 
@@ -217,8 +202,7 @@ none_below (block ∷ blocks) low t short below = grind (arith, common_steps, (n
 
 pub in-more : (w : ℕ) (octets : List ℕ) (blocks : List Block) (t : ℕ) → AreShortest (w + 1) blocks
     → in_first_block (block_if_any w octets ++ blocks) t ≡ (if w == t / 256 then has_bit octets t else in_first_block blocks t)
-in-more w [] blocks t short = grind (arith, common_steps, none_below, has_bit-none)
-in-more w (x ∷ xs) blocks t short = refl
+in-more w octets blocks t h1 = grind (arith, common_steps, none_below, has_bit-none)
 
 -- ---- one spelling
 
@@ -269,8 +253,7 @@ module _ (windows : ℕ → ℕ) (octets : ℕ → List ℕ) (m : ℕ) (are : As
       ∙ grind (arith, common_steps, has_bit-trimmed, (in-blocks_at (a + 1) n t (omega arith)), (none_below _ _ t rest.shortest))
 
 length-block_if_any : (w : ℕ) (octets : List ℕ) → length (octets_of_blocks (block_if_any w octets)) ≤ length octets + 2
-length-block_if_any w [] = omega arith
-length-block_if_any w (x ∷ xs) = grind (arith, common_steps)
+length-block_if_any w octets = grind (arith, common_steps)
 
 length-blocks_at : (windows : ℕ → ℕ) (octets : ℕ → List ℕ) (a n : ℕ) → ((j : ℕ) → length (octets j) ≤ 32)
     → length (octets_of_blocks (blocks_at windows octets a n)) ≤ 34 * n
@@ -292,8 +275,7 @@ bounded : (types : ℕ → Bool) (w i : ℕ) → get_or (window_octets types w) 
 bounded types w i = grind (arith, common_steps, length-window_octets, get_or-window_octets, octet_with-lt)
 
 are_windows : (types : ℕ → Bool) → Ascend (λ w. w) (window_octets types) 256
-are_windows types =
-    record { ascend = λ j inside. omega arith; window = λ j inside. inside; fits = λ w. omega (arith, length-window_octets types w); small = bounded types }
+are_windows types = grind (arith, common_steps, length-window_octets, bounded)
 
 pub has_bit-window : (types : ℕ → Bool) (t : ℕ) → has_bit (window_octets types (t / 256)) t ≡ types t
 unfolding has_bit
@@ -372,8 +354,7 @@ contains_type-bitmap_octets types t small =
 
 -- tests that agree on all types have the same octets
 pub bitmap_octets-same : (p q : ℕ → Bool) → ((t : ℕ) → t < 65536 → p t ≡ q t) → bitmap_octets p ≡ bitmap_octets q
-bitmap_octets-same p q same = spelling_is q _ (IsBitmap-bitmap_octets p) (IsShortest-bitmap_octets p)
-    (λ t small. contains_type-bitmap_octets p t small ∙ same t small)
+bitmap_octets-same p q same = grind (arith, common_steps, spelling_is, IsBitmap-bitmap_octets, IsShortest-bitmap_octets, contains_type-bitmap_octets)
 
 pub bitmap_octets-exact : (p q : ℕ → Bool) → bitmap_octets p ≡ bitmap_octets q → (t : ℕ) → t < 65536 → p t ≡ q t
 bitmap_octets-exact p q same t small = grind (arith, common_steps, (contains_type-bitmap_octets p t small), (contains_type-bitmap_octets q t small))
@@ -387,12 +368,11 @@ pub length-bitmap_octets : (types : ℕ → Bool) → length (bitmap_octets type
 unfolding bitmap_octets blocks_with
 length-bitmap_octets types = length-blocks_at (λ w. w) (window_octets types) 0 256 (are_windows types).fits
 
+pub ruleset shortest_laws = (IsShortest-bitmap_octets, built_from_shortest)
+
 pub ruleset built_steps = (bitmap_octets-same, IsBitmap-bitmap_octets)
 
 -- ---- a builder's blocks put together
-
-small_at : (value : List ℕ) → AreOctets value → (i : ℕ) → get_or value i 0 < 256
-small_at value small i = grind (arith, common_steps, (small i 0))
 
 drop_same : (xs ys : List ℕ) (n m : ℕ) → n ≤ m → drop n xs ≡ drop n ys → drop m xs ≡ drop m ys
 drop_same xs ys n m within same =
@@ -405,21 +385,14 @@ slot_blocks value n = flat_map (slot_block value) (range_with_len 0 n)
 
 pub slots-more : (value now : List ℕ) (n : ℕ) → drop (34 * n) now ≡ drop (34 * n) value
     → octets_of_blocks (slot_blocks value (n + 1)) ≡ octets_of_blocks (slot_blocks value n) ++ octets_of_blocks (slot_block now n)
-slots-more value now n same =
-    let first : get_or now (34 * n) 0 ≡ get_or value (34 * n) 0 = grind (arith, common_steps) in
-    rw (first, drop_same now value (34 * n) (34 * n + 2) (omega arith) same) (grind (arith, common_steps, range_more))
+slots-more value now n same = grind (arith, common_steps, drop_same, range_more)
 
 pub rest_more : (value now : List ℕ) (n : ℕ) → drop (34 * n) now ≡ drop (34 * n) value → drop (34 * (n + 1)) now ≡ drop (34 * (n + 1)) value
 rest_more value now n same = drop_same now value (34 * n) (34 * (n + 1)) (omega arith) same
 
 are_slots : (value : List ℕ) → AreSlots value → AreOctets value
     → Ascend (λ j. get_or value (34 * j) 0) (λ j. slice_range value (34 * j + 2) (34 * j + 34)) (length value / 34)
-are_slots value slots small = record {
-  ascend = λ j inside. omega (arith, slots.ascend j (j + 1) (omega arith) inside);
-  window = λ j inside. small_at value small (34 * j);
-  fits = λ j. grind (arith, common_steps);
-  small = λ j i. grind (arith, common_steps, (small_at value small));
-}
+are_slots value slots small = grind (arith, common_steps)
 
 slot_bit : (value : List ℕ) (t j : ℕ)
     → ((get_or value (34 * j) 0 == t / 256) && has_bit (slice_range value (34 * j + 2) (34 * j + 34)) t) ≡ block_holds value t j
@@ -445,29 +418,15 @@ module _ (slots : List ℕ) (end j len : ℕ) (before : end ≤ 34 * j) (inside 
   count : 34 * j + 2 + len - 34 * j ≡ suc (suc len)
   count = omega arith
 
-  drop-counted : drop (34 * j) counted ≡ get_or slots (34 * j) 0 ∷ len ∷ drop (34 * j + 2) slots
-  drop-counted = grind (arith, common_steps)
-
-  end_inside : end ≤ length counted
-  end_inside = grind (arith, common_steps)
-
   octets_inside : suc (suc len) ≤ length (drop (34 * j) counted)
   octets_inside = grind (arith, common_steps)
 
   pub rest-moved : drop (34 * (j + 1)) moved ≡ drop (34 * (j + 1)) slots
-  rest-moved = drop_same moved counted (end + suc (suc len)) _ (omega arith)
-      (rw count (drop-paste counted end (drop (34 * j) counted) (suc (suc len)) end_inside octets_inside)) ∙ grind (arith, common_steps)
+  rest-moved = grind (arith, common_steps, drop_same, count, drop-paste, octets_inside)
 
   pub take-moved : trimmed (slice_range slots (34 * j + 2) (34 * j + 34)) ≡ take len (slice_range slots (34 * j + 2) (34 * j + 34))
       → take (end + 2 + len) moved ≡ take end slots ++ octets_of_blocks (slot_block slots j)
-  take-moved cut =
-      let front : take end counted ≡ take end slots = grind (arith, common_steps) in
-      let whole : end + 2 + len ≡ end + suc (suc len) = omega arith in
-      let octets : take len (slice_range slots (34 * j + 2) (34 * j + 34)) ≡ take len (drop (34 * j + 2) slots) = grind (arith, common_steps) in
-      let long : length (take len (drop (34 * j + 2) slots)) ≡ len = grind (arith, common_steps) in
-      let written : octets_of_blocks (slot_block slots j) ≡ get_or slots (34 * j) 0 ∷ len ∷ take len (drop (34 * j + 2) slots) =
-      rw (cut, octets, block_is (get_or slots (34 * j) 0) (take len (drop (34 * j + 2) slots)) (omega (arith, long))) (grind (arith, common_steps)) in
-      rw (whole, count, take-paste counted end (drop (34 * j) counted) (suc (suc len)) end_inside octets_inside, front, drop-counted, written) refl
+  take-moved cut = grind (arith, common_steps, block_is, count, take-paste, octets_inside)
 
 pub ruleset pack_steps = (rest-moved, take-moved)
 

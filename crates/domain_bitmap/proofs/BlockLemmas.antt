@@ -1,5 +1,5 @@
 -- Octets read as blocks, and why they are none.
-use Rattle.std.proofs.Common.{◌≡◌, ℕ, zero, suc, ◌+◌, ◌-◌, ◌*◌, ◌/◌, ◌%◌, ◌^◌, ◌<◌, ◌≤◌, true, false, List, [], ◌∷◌, ◌++◌, length, slice_index, get_or, take}
+use Rattle.std.proofs.Common.{◌≡◌, ℕ, zero, suc, ◌+◌, ◌-◌, ◌*◌, ◌/◌, ◌%◌, ◌^◌, ◌<◌, ◌≤◌, true, false, List, [], ◌∷◌, length, slice_index, get_or, take}
 use Rattle.std.proofs.{Common.{drop, refl, ap, ◌∙◌, subst, arith, length-drop}, lemmas.{List.{drop_at, length-take, get_or-drop}, Grind.common_steps}}
 use Rattle.std.specs.List.{AllByRecursion, flat_map}
 use Rattle.domain_bitmap.{proofs.BitLemmas.{filter_none, bit_of-zero, bit_of-shl}, specs.Blocks.{Block, IsBlock, octets_of_blocks, blocks_within, blocks_of}}
@@ -24,15 +24,11 @@ blocks_within-same (suc m) (suc n) (window ∷ len ∷ octets) enough also =
 pub blocks_of-cons : (window len : ℕ) (octets : List ℕ)
     → blocks_of (window ∷ len ∷ octets) ≡ record { window = window; octets = take len octets } ∷ blocks_of (drop len octets)
 unfolding blocks_of blocks_within
-blocks_of-cons window len octets =
-    ap (λ blocks. record { window = window; octets = take len octets } ∷ blocks)
-    (blocks_within-same (suc (length octets)) _ (drop len octets) (omega (arith, length-drop len octets)) (omega arith))
+blocks_of-cons window len octets = grind (arith, common_steps, blocks_within-same, length-drop)
 
 pub nothing_at : (octets : List ℕ) → length octets < 2 → blocks_of octets ≡ []
 unfolding blocks_of blocks_within
-nothing_at [] short = refl
-nothing_at (window ∷ []) short = refl
-nothing_at (window ∷ len ∷ octets) short = absurd (omega (arith, short))
+nothing_at octets h1 = grind (arith, common_steps)
 
 -- the blocks are read back
 pub blocks_of-octets_of_blocks : (blocks : List Block) → blocks_of (octets_of_blocks blocks) ≡ blocks
@@ -53,17 +49,7 @@ pub record HasBlock (window len : ℕ) (octets : List ℕ) : Type 0 where
   pub rest : IsBitmap (drop len octets)
 
 pub block_at : (window len : ℕ) (octets : List ℕ) → IsBitmap (window ∷ len ∷ octets) → HasBlock window len octets
-block_at window len octets bitmap =
-    let blocks = blocks_of-cons window len octets in
-    let spelled = bitmap.spelled ∙ ap octets_of_blocks blocks in
-    let valid = subst (AllByRecursion IsBlock) blocks bitmap.valid in
-    let count : length (take len octets) ≡ len = cc in
-    let parts : octets ≡ take len octets ++ octets_of_blocks (blocks_of (drop len octets)) = cc in
-    record {
-      inside = omega (arith, count, length-take len octets);
-      first = valid.0;
-      rest = record { spelled = ap (drop len) parts ∙ drop_at (take len octets) _ len count; valid = valid.1 };
-    }
+block_at window len octets bitmap = grind (arith, common_steps, blocks_of-cons, octets_of_blocks, blocks_of, length-take, drop_at)
 
 pub block_before : (window len : ℕ) (octets : List ℕ) → HasBlock window len octets → IsBitmap (window ∷ len ∷ octets)
 block_before window len octets has = grind (arith, common_steps, blocks_of-cons)
@@ -119,8 +105,7 @@ clear_at octets w place inside none =
     ∙ ap (block_types_from (record { window = w; octets = octets })) moved
 
 pub types_from-blocks : (blocks : List Block) → types_from blocks 0 ≡ flat_map (λ block. block_types_from block 0) blocks
-types_from-blocks [] = refl
-types_from-blocks (block ∷ blocks) = refl
+types_from-blocks blocks = grind (arith, common_steps)
 
 pub types_from_start : (octets : List ℕ) → types_from (blocks_of octets) 0 ≡ types_of octets
 unfolding types_of

@@ -1,6 +1,6 @@
 -- bitmaps whose octets stand one after another
-use Rattle.std.proofs.Common.{subst, ◌≡◌, ℕ, ◌+◌, ◌<◌, ◌≤◌, List, [], ◌∷◌, ◌++◌, length, get_or, refl, sym, ap, ◌∙◌, inl, inr, arith, length-append}
-use Rattle.std.proofs.lemmas.{List.get_or_append_left, Bool.Decides.leb_tells, Grind.common_steps}
+use Rattle.std.proofs.Common.{subst, ◌≡◌, ℕ, ◌+◌, ◌<◌, List, [], ◌∷◌, ◌++◌, length, get_or, refl, sym, ap, ◌∙◌, inl, inr, arith, length-append}
+use Rattle.std.proofs.lemmas.{Bool.Decides.leb_tells, Grind.common_steps}
 use Rattle.std.proofs.lemmas.List.FromFn.{length-map-range_with_len, get_or-map-range_with_len, fill_by_all}
 use Rattle.domain_bitmap.specs.Blocks.{IsBitmap, part_at, parts_of, IsPart, AreBitmaps}
 
@@ -25,16 +25,13 @@ pub ruleset get_steps = (length-parts_of, part_is)
 
 -- ---- one more
 
-start_kept : (ends : List ℕ) (end place : ℕ) → place ≤ length ends → get_or (0 ∷ (ends ++ end ∷ [])) place 0 ≡ get_or (0 ∷ ends) place 0
-start_kept ends end place before = get_or_append_left (0 ∷ ends) (end ∷ []) 0 place (omega (arith, before))
-
 kept : (ends octets more : List ℕ) (end place : ℕ) → IsPart ends octets place → place < length ends
     → part_at (ends ++ end ∷ []) (octets ++ more) place ≡ part_at ends octets place
-kept ends octets more end place is inside = grind (arith, common_steps, start_kept, is.ordered, is.inside)
+kept ends octets more end place is inside = grind (arith, common_steps, is.ordered, is.inside)
 
 last : (ends octets more : List ℕ) (end : ℕ) → AreBitmaps ends octets → end ≡ length octets + length more
     → part_at (ends ++ end ∷ []) (octets ++ more) (length ends) ≡ more
-last ends octets more end are is = grind (arith, common_steps, start_kept, are.whole)
+last ends octets more end are is = grind (arith, common_steps, are.whole)
 
 pub parts_pushed : (ends octets more : List ℕ) (end : ℕ) → AreBitmaps ends octets → end ≡ length octets + length more
     → parts_of (ends ++ end ∷ []) (octets ++ more) ≡ parts_of ends octets ++ more ∷ []
@@ -55,12 +52,12 @@ more_bitmaps ends octets more end are bitmap is = record {
   parts = λ place below. elim (leb_tells (length ends) place) [
     | inl h ↦ let here : place ≡ length ends = omega (arith, h.1, below, length-append ends (end ∷ [])) in
         rw here (record {
-          ordered = grind (arith, common_steps, start_kept, are.whole);
+          ordered = grind (arith, common_steps, are.whole);
           inside = grind (arith, common_steps);
           bitmap = subst IsBitmap (sym (last ends octets more end are is)) bitmap;
         })
     | inr h ↦ let was = are.parts place h.1 in record {
-      ordered = grind (arith, common_steps, start_kept);
+      ordered = grind (arith, common_steps);
       inside = grind (arith, common_steps);
       bitmap = subst IsBitmap (sym (kept ends octets more end place was h.1)) was.bitmap;
     }
