@@ -78,8 +78,7 @@ filter_none p a (suc n) none = rw (none a (omega arith) (omega arith)) (filter_n
 
 pub filter_same : (p q : ℕ → Bool) (a n : ℕ) → ((j : ℕ) → a ≤ j → j < a + n → p j ≡ q j) → filter p (range_with_len a n) ≡ filter q (range_with_len a n)
 filter_same p q a zero same = refl
-filter_same p q a (suc n) same =
-    rw (same a (omega arith) (omega arith), filter_same p q (a + 1) n (λ j low high. same j (omega arith) (omega arith))) refl
+filter_same p q a (suc n) same = grind (arith, common_steps, (filter_same p q (a + 1) n (λ j low high. same j (omega arith) (omega arith))))
 
 pub filter_append : (p : ℕ → Bool) (a m n : ℕ) → filter p (range_with_len a m) ++ filter p (range_with_len (a + m) n) ≡ filter p (range_with_len a (m + n))
 filter_append p a m n = sym (ap (filter p) (range_append a m n) ∙ filter-append p (range_with_len a m) (range_with_len (a + m) n))
@@ -96,10 +95,7 @@ pub filter_at : (p q : ℕ → Bool) (c n : ℕ) → ((j : ℕ) → j ≢ c → 
     → length (filter q (range_with_len 0 n)) + (if nat_lt c n && p c then 1 else 0)
     ≡ length (filter p (range_with_len 0 n)) + (if nat_lt c n && q c then 1 else 0)
 filter_at p q c zero same = grind (arith, common_steps)
-filter_at p q c (suc n) same = elim (eqb_tells c n) [
-  | inl h ↦ grind (arith, common_steps, (count_suc p n), (count_suc q n), (filter_at p q c n same))
-  | inr h ↦ grind (arith, common_steps, (count_suc p n), (count_suc q n), (filter_at p q c n same), (same n))
-]
+filter_at p q c (suc n) same = grind (arith, common_steps, count_suc, (filter_at p q c n same))
 
 -- ---- bits of octets
 

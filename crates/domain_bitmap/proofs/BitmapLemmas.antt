@@ -175,8 +175,7 @@ of_window-trimmed octets fits small = grind (arith, common_steps, length-trimmed
 form-more : (low w : ℕ) (octets : List ℕ) (blocks : List Block) → low ≤ w → w < 256 → OfWindow octets → InForm (w + 1) blocks
     → InForm low (block_if_any w octets ++ blocks)
 form-more low w [] [] lower small of_window form = none_in_form low
-form-more low w [] (block ∷ blocks) lower small of_window form =
-    record { valid = form.valid; shortest = (omega (arith, form.shortest.0), form.shortest.1, form.shortest.2) }
+form-more low w [] (block ∷ blocks) lower small of_window form = grind (arith, common_steps)
 form-more low w (x ∷ xs) blocks lower small of_window form = record {
   valid = (record { window = small; not_empty = omega arith; fits = of_window.fits; bounded = of_window.small }, form.valid);
   shortest = (lower, of_window.cut (omega arith), form.shortest);
@@ -248,9 +247,7 @@ module _ (windows : ℕ → ℕ) (octets : ℕ → List ℕ) (m : ℕ) (are : As
       → in_first_block (blocks_at windows octets a n) t ≡ list_any (λ j. (windows j == t / 256) && has_bit (octets j) t) (range_with_len a n)
   in-blocks_at a zero t whole = refl
   in-blocks_at a (suc n) t whole =
-      let rest = form-blocks_at (a + 1) n (windows a + 1) (omega arith) (λ some. are.ascend a (omega arith)) in
-      in-more (windows a) _ _ t rest.shortest
-      ∙ grind (arith, common_steps, has_bit-trimmed, (in-blocks_at (a + 1) n t (omega arith)), (none_below _ _ t rest.shortest))
+      grind (arith, common_steps, form-blocks_at, in-more, has_bit-trimmed, none_below, (in-blocks_at (a + 1) n t (omega arith)))
 
 length-block_if_any : (w : ℕ) (octets : List ℕ) → length (octets_of_blocks (block_if_any w octets)) ≤ length octets + 2
 length-block_if_any w octets = grind (arith, common_steps)
@@ -259,7 +256,7 @@ length-blocks_at : (windows : ℕ → ℕ) (octets : ℕ → List ℕ) (a n : �
     → length (octets_of_blocks (blocks_at windows octets a n)) ≤ 34 * n
 length-blocks_at windows octets a zero fits = omega arith
 length-blocks_at windows octets a (suc n) fits =
-    grind (arith, common_steps, length-block_if_any, length-trimmed, (fits a), (length-blocks_at windows octets (a + 1) n fits))
+    grind (arith, common_steps, length-block_if_any, length-trimmed, (length-blocks_at windows octets (a + 1) n fits))
 
 -- ---- the octets of a set
 

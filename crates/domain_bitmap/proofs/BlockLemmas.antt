@@ -88,10 +88,7 @@ clear_run : (block : Block) (place n : ℕ) → place + n ≤ 256
     → block_types_from block place ≡ block_types_from block (place + n)
 clear_run block place zero fits clear = ap (block_types_from block) (omega arith)
 clear_run block place (suc n) fits clear =
-    let moved : place + 1 + n ≡ place + suc n = omega arith in
-    types_skip block place (omega (arith, fits)) (clear place (omega arith) (omega arith))
-    ∙ clear_run block (place + 1) n (omega (arith, fits)) (λ k low high. clear k (omega (arith, low)) (omega (arith, high)))
-    ∙ ap (block_types_from block) moved
+    grind (arith, common_steps, types_skip, (clear_run block (place + 1) n (omega (arith, fits)) (λ k low high. clear k (omega arith) (omega arith))))
 
 -- what is left of an octet has no bits
 pub clear_at : (octets : List ℕ) (w place : ℕ) → place < 256 → get_or octets (place / 8) 0 * 2 ^ (place % 8) % 2 ^ 8 ≡ 0

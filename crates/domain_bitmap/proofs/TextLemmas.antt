@@ -158,9 +158,7 @@ pub spaced_words : (front types : List ℕ) → AreTypes types → words_of (fro
 unfolding spaced_types
 spaced_words front [] small = ap words_of (append-nil front) ∙ sym (append-nil (words_of front))
 spaced_words front (t ∷ types) small =
-    ap words_of (sym (append_assoc front (32 ∷ []) _) ∙ sym (append_assoc (front ++ 32 ∷ []) (type_text t) (spaced_types types)))
-    ∙ spaced_words ((front ++ 32 ∷ []) ++ type_text t) types small.1 ∙ ap (λ l. l ++ map type_text types) (next_word front _ (type_word t small.0))
-    ∙ append_assoc (words_of front) (type_text t ∷ []) (map type_text types)
+    grind (arith, common_steps, append_assoc, next_word, type_word, (spaced_words ((front ++ 32 ∷ []) ++ type_text t) types small.1))
 
 -- words, and types after a space
 pub types_after : (front types : List ℕ) → AreTypes types → words_of ((front ++ 32 ∷ []) ++ types_text types) ≡ words_of front ++ map type_text types
@@ -221,14 +219,11 @@ types_refused limit read old new types fault (later r token u toks left f spells
 
 pub types_one_fault : (limit : Option ℕ) (read others : List ℕ) (old m n : List (List ℕ)) (x y : ScanFault) → RefusesAfter limit read old m x
     → RefusesAfter limit others old n y → IsOfTokens limit x → IsOfTokens limit y → (x ≡ y) × (m ≡ n)
-types_one_fault limit read others old m n x y (next r token left f why) (next s tok rest g reason) own also =
-    grind (arith, common_steps, (type_fault limit r f token why own), (type_fault limit s g token reason also))
-types_one_fault limit read others old m n x y (next r token left f why) (later s tok t toks rest g spells reason) own also =
-    absurd ((type_fault limit r f token why own).none t spells)
-types_one_fault limit read others old m n x y (later r token t toks left f spells why) (next s tok rest g reason) own also =
-    absurd ((type_fault limit s g token reason also).none t spells)
-types_one_fault limit read others old m n x y (later r token t toks left f spells why) (later s tok u tokens rest g spelled reason) own also =
-    types_one_fault limit (t ∷ r) (u ∷ s) toks left rest f g why reason own also
+types_one_fault limit read others old m n x y (next r token left f why) (next s tok rest g also) h h4 = grind (arith, common_steps, type_fault)
+types_one_fault limit read others old m n x y (next r token left f why) (later s tok t toks rest g is also) h h4 = grind (arith, common_steps, type_fault)
+types_one_fault limit read others old m n x y (later r token t toks left f is why) (next s tok rest g also) h h4 = grind (arith, common_steps, type_fault)
+types_one_fault limit read others old m n x y (later r token t toks left f spells why) (later s tok u tokens rest g spelled also) h h4 =
+    grind (arith, common_steps, (types_one_fault limit (t ∷ r) (u ∷ s) toks left rest f g why also h h4))
 
 -- ---- octets that an octet counts
 
