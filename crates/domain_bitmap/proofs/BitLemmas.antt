@@ -46,8 +46,8 @@ pub any_with : (p q : ℕ → Bool) (c : Bool) (n k : ℕ) → k < n → ((j : �
     → list_any q (range_with_len 0 n) ≡ (c || list_any p (range_with_len 0 n))
 any_with p q c zero k below same more = absurd (omega (arith, below))
 any_with p q c (suc n) k below same more = elim (eqb_tells k n) [
-  | inl h ↦ grind (arith, common_steps, any_suc, (any_same q p n (λ j low. same j (omega (arith, low)) (omega (arith, low, h.1)))))
-  | inr h ↦ grind (arith, common_steps, any_suc, (any_with p q c n k (omega (arith, below, h.1)) (λ j low. same j (omega (arith, low))) more), (same n))
+  | inl h ↦ grind (arith, common_steps, any_suc, (any_same q p n))
+  | inr h ↦ grind (arith, common_steps, any_suc, (any_with p q c n k), (same n))
 ]
 
 -- a test that fails but at one place
@@ -60,15 +60,7 @@ pub any_inserted : (p q : ℕ → Bool) (k n : ℕ) → k ≤ n → ((j : ℕ) �
 any_inserted p q k zero within before behind = grind (arith, common_steps)
 any_inserted p q k (suc n) within before behind = elim (eqb_tells k (suc n)) [
   | inl h ↦ grind (arith, common_steps, any_more, (any_same q p (suc n)))
-  | inr h ↦
-      grind (
-        arith,
-        common_steps,
-        any_more,
-        any_suc,
-        (behind n),
-        (any_inserted p q k n (omega (arith, within, h.1)) before (λ j low high. behind j low (omega arith))),
-      )
+  | inr h ↦ grind (arith, common_steps, any_more, any_suc, (behind n), (any_inserted p q k n))
 ]
 
 -- the numbers that pass a test

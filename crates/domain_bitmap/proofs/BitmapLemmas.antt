@@ -1,7 +1,7 @@
 -- Sets of types as octets, how these are put together, and that they are the one spelling of a set.
 use Rattle.std.proofs.Common.{◌≡◌, ℕ, ◌+◌, ◌-◌, ◌*◌, ◌/◌, ◌%◌, ◌^◌, ◌<◌, ◌≢◌, true, false, List, ◌∷◌, ◌++◌, length, get_or, inl, inr, arith}
 use Rattle.std.proofs.Common.{set, rules, zero, suc, ◌≤◌, Bool, [], refl, sym, ap, ◌∙◌, zero-add, take, drop, add-one, add_comm, replicate}
-use Rattle.std.{proofs.lemmas.{Bool.Decides.{nat_tests, eqb_tells, leb_tells}, Grind.{common_steps, get_or_tail}}, specs.Prelude.{◌||◌, ◌&&◌, ◌==◌, bit_or}}
+use Rattle.std.{proofs.lemmas.{Bool.Decides.{nat_tests, eqb_tells, leb_tells}, Grind.{common_steps, get_or_tail}}, specs.Prelude.{nat_lt, ◌||◌, ◌&&◌, ◌==◌, bit_or}}
 use Rattle.std.{specs.Prelude.{if◌then◌else◌, slice_range}, proofs.lemmas.List.FromFn.{length-map-range_with_len, get_or-map-range_with_len}}
 use Rattle.std.{specs.List.{AllByRecursion, range_with_len, list_any, filter, flat_map}, proofs.{lemmas.List.{append-nil, get_or-drop}, Math.Nat.mul-suc}}
 use Rattle.std.{specs.List.copy_within, proofs.{Common.drop-drop, lemmas.List.{get_or-append_right, get_or_append_left, length-take}}}
@@ -25,15 +25,12 @@ window_found value window j inside is = any_at (is_of_window value window) (leng
 pub placed : (value : List ℕ) (window j : ℕ) → AreSlots value → j ≤ length value / 34 → ((k : ℕ) → k < j → get_or value (34 * k) 0 < window)
     → (j < length value / 34 → window < get_or value (34 * j) 0) → IsPlace value window j
 unfolding has_window
-placed value window j slots inside before next =
-    let behind : (k : ℕ) → j ≤ k → k < length value / 34 → window < get_or value (34 * k) 0 =
-    λ k low high. grind (arith, nat_tests, (slots.ascend j k), next) in
-    record {
-      absent = any_none (is_of_window value window) (length value / 34) (λ k within. grind (arith, nat_tests, (before k), (behind k)));
-      inside = inside;
-      before = before;
-      behind = behind;
-    }
+placed value window j slots inside before next = record {
+  absent = any_none (is_of_window value window) (length value / 34) (λ k within. grind (arith, nat_tests, (before k), (slots.ascend j k), next));
+  inside = inside;
+  before = before;
+  behind = λ k low high. grind (arith, nat_tests, (slots.ascend j k), next);
+}
 
 pub ruleset find_steps = (placed)
 
@@ -105,32 +102,21 @@ module _ (value slot : List ℕ) (window j : ℕ) (is : slot ≡ window ∷ repl
   at_behind : (i k : ℕ) → i ≡ k + 34 → 34 * j ≤ k → get_or grown i 0 ≡ get_or value k 0
   at_behind i k behind low = grind (arith, common_steps, get_or-append_right, front_long, long, get_or-drop)
 
+  window_at : (i : ℕ) → get_or grown (34 * i) 0
+      ≡ (if nat_lt i j then get_or value (34 * i) 0 else (if i == j then window else get_or value (34 * (i - 1)) 0))
+  window_at i = grind (arith, nat_tests, (at_before (34 * i)), (at_slot (34 * i) 0), (at_behind (34 * i) (34 * (i - 1))))
+
   pub slots-inserted : AreSlots grown
   slots-inserted = record {
     whole = omega (arith, size, slots.whole);
-    ascend = λ i k low high. grind (
-      arith,
-      (at_before (34 * i)),
-      (at_before (34 * k)),
-      (at_slot (34 * i) 0),
-      (at_slot (34 * k) 0),
-      (at_behind (34 * i) (34 * (i - 1))),
-      (at_behind (34 * k) (34 * (k - 1))),
-      (slots.ascend i k),
-      (slots.ascend i (k - 1)),
-      (slots.ascend (i - 1) (k - 1)),
-      (place.before i),
-      (place.behind (k - 1)),
-      one_more,
-    );
+    ascend = λ i k low high.
+        grind (arith, nat_tests, window_at, one_more, place.before, place.behind, (slots.ascend i k), (slots.ascend i (k - 1)), (slots.ascend (i - 1) (k - 1)));
   }
 
   pub has_window-inserted : (w : ℕ) → has_window grown w ≡ ((w == window) || has_window value w)
   unfolding has_window
   has_window-inserted w = rw one_more (any_inserted (is_of_window value w) (is_of_window grown w) j (length value / 34) place.inside
-      (λ i low. ap (λ n. n == w) (at_before (34 * i) (omega arith)))
-      (λ i low high. ap (λ n. n == w) (at_behind (34 * (i + 1)) (34 * i) (omega arith) (omega arith)))
-      ∙ grind (arith, nat_tests, (at_slot (34 * j) 0)))
+      (λ i low. grind (arith, nat_tests, window_at)) (λ i low high. grind (arith, nat_tests, window_at)) ∙ grind (arith, nat_tests, window_at))
 
   block_new : (t : ℕ) → block_holds grown t j ≡ false
   block_new t = rw (at_zeros (34 * j + 2 + t % 256 / 8) (1 + t % 256 / 8) (omega arith) (omega arith), bit_of-zero (t % 8))
@@ -139,12 +125,9 @@ module _ (value slot : List ℕ) (window j : ℕ) (is : slot ≡ window ∷ repl
   pub holds-inserted : (t : ℕ) → holds grown t ≡ holds value t
   unfolding holds
   holds-inserted t = rw one_more (any_inserted (block_holds value t) (block_holds grown t) j (length value / 34) place.inside
-      (λ i low. rw (at_before (34 * i) (omega arith), at_before (34 * i + 2 + t % 256 / 8) (omega arith)) refl)
-      (λ i low high. rw (
-        at_behind (34 * (i + 1)) (34 * i) (omega arith) (omega arith),
-        at_behind (34 * (i + 1) + 2 + t % 256 / 8) (34 * i + 2 + t % 256 / 8) (omega arith) (omega arith),
-      ) refl)
-      ∙ ap (λ b. b || list_any (block_holds value t) (range_with_len 0 (length value / 34))) (block_new t))
+      (λ i low. grind (arith, nat_tests, window_at, (at_before (34 * i + 2 + t % 256 / 8))))
+      (λ i low high. grind (arith, nat_tests, window_at, (at_behind (34 * (i + 1) + 2 + t % 256 / 8) (34 * i + 2 + t % 256 / 8))))
+      ∙ grind (arith, nat_tests, block_new))
 
 -- a window that has a block already
 pub window_known : (value : List ℕ) (window w : ℕ) → has_window value window ≡ true → ((w == window) || has_window value w) ≡ has_window value w
@@ -291,22 +274,10 @@ unfolding blocks_with
 spelled types [] a zero all form same = refl
 spelled types (b ∷ blocks) a zero all form same = absurd (omega (arith, form.shortest.0, form.valid.0.window))
 spelled types [] a (suc n) all form same =
-    rw (trimmed_window types [] a (omega arith) none_of_window (λ t small here. has_bit-none t ∙ same t small (omega arith)))
-    (spelled types [] (a + 1) n (omega arith) (none_in_form (a + 1)) (λ t small later. same t small (omega arith)))
+    grind (arith, common_steps, has_bit-none, none_of_window, none_in_form, (trimmed_window types [] a), (spelled types [] (a + 1) n))
 spelled types (b ∷ blocks) a (suc n) all form same = elim (eqb_tells b.window a) [
-  | inl h ↦
-      let here : trimmed (window_octets types a) ≡ b.octets = trimmed_window types b.octets a (omega arith) (of_block b form.valid.0 form.shortest.1)
-      (λ t small window. grind (arith, common_steps, (same t small))) in
-      let rest : blocks_with (window_octets types) (a + 1) n ≡ blocks =
-      spelled types blocks (a + 1) n (omega arith) (record { valid = form.valid.1; shortest = rw h.1 at form.shortest.2 })
-      (λ t small later. grind (arith, common_steps, (same t small))) in
-      rw (here, rest) (ap (λ l. l ++ blocks) (block_is a b.octets form.valid.0.not_empty)
-      ∙ ap (λ w. record { window = w; octets = b.octets } ∷ blocks) (sym h.1))
-  | inr h ↦
-      let later : AreShortest (a + 1) (b ∷ blocks) = (omega (arith, h.1, form.shortest.0), form.shortest.1, form.shortest.2) in
-      rw (trimmed_window types [] a (omega arith) none_of_window
-      (λ t small here. grind (arith, has_bit-none, (none_below (b ∷ blocks) (a + 1) t later), (same t small))))
-      (spelled types (b ∷ blocks) (a + 1) n (omega arith) (record { valid = form.valid; shortest = later }) (λ t small after. same t small (omega arith)))
+  | inl h ↦ grind (arith, common_steps, block_is, of_block, form.valid, form.shortest, (trimmed_window types b.octets a), (spelled types blocks (a + 1) n))
+  | inr h ↦ grind (arith, common_steps, has_bit-none, none_of_window, none_below, (trimmed_window types [] a), (spelled types (b ∷ blocks) (a + 1) n))
 ]
 
 -- blocks in that form are the bitmap of their types

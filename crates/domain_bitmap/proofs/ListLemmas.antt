@@ -1,5 +1,5 @@
 -- bitmaps whose octets stand one after another
-use Rattle.std.proofs.Common.{subst, ◌≡◌, ℕ, ◌+◌, ◌<◌, List, [], ◌∷◌, ◌++◌, length, get_or, refl, sym, ap, ◌∙◌, inl, inr, arith, length-append}
+use Rattle.std.proofs.Common.{◌≡◌, ℕ, ◌+◌, ◌<◌, List, [], ◌∷◌, ◌++◌, length, get_or, refl, sym, ap, ◌∙◌, inl, inr, arith, length-append}
 use Rattle.std.proofs.lemmas.{Bool.Decides.leb_tells, Grind.common_steps}
 use Rattle.std.proofs.lemmas.List.FromFn.{length-map-range_with_len, get_or-map-range_with_len, fill_by_all}
 use Rattle.domain_bitmap.specs.Blocks.{IsBitmap, part_at, parts_of, IsPart, AreBitmaps}
@@ -50,17 +50,8 @@ more_bitmaps : (ends octets more : List ℕ) (end : ℕ) → AreBitmaps ends oct
 more_bitmaps ends octets more end are bitmap is = record {
   whole = last_end ends end ∙ is ∙ sym (length-append octets more);
   parts = λ place below. elim (leb_tells (length ends) place) [
-    | inl h ↦ let here : place ≡ length ends = omega (arith, h.1, below, length-append ends (end ∷ [])) in
-        rw here (record {
-          ordered = grind (arith, common_steps, are.whole);
-          inside = grind (arith, common_steps);
-          bitmap = subst IsBitmap (sym (last ends octets more end are is)) bitmap;
-        })
-    | inr h ↦ let was = are.parts place h.1 in record {
-      ordered = grind (arith, common_steps);
-      inside = grind (arith, common_steps);
-      bitmap = subst IsBitmap (sym (kept ends octets more end place was h.1)) was.bitmap;
-    }
+    | inl h ↦ grind (arith, common_steps, last, are.whole)
+    | inr h ↦ grind (arith, common_steps, kept, (are.parts place h.1))
   ];
 }
 
