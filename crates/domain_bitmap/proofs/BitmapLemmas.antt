@@ -1,17 +1,17 @@
 -- Sets of types as octets, how these are put together, and that they are the one spelling of a set.
 use Rattle.std.proofs.Common.{◌≡◌, ℕ, ◌+◌, ◌-◌, ◌*◌, ◌/◌, ◌%◌, ◌^◌, ◌<◌, ◌≢◌, true, false, List, ◌∷◌, ◌++◌, length, get_or, inl, inr, arith}
 use Rattle.std.proofs.Common.{set, rules, zero, suc, ◌≤◌, Bool, [], refl, sym, ap, ◌∙◌, zero-add, take, drop, add-one, add_comm, replicate}
-use Rattle.std.{proofs.lemmas.{Bool.Decides.{nat_tests, eqb_tells, leb_tells}, Grind.{common_steps, get_or_tail}}, specs.Prelude.{nat_lt, ◌||◌, ◌&&◌, ◌==◌, bit_or}}
-use Rattle.std.{specs.Prelude.{if◌then◌else◌, slice_range}, proofs.lemmas.List.FromFn.{length-map-range_with_len, get_or-map-range_with_len}}
+use Rattle.std.{proofs.lemmas.{Bool.Decides.{nat_tests, eqb_tells, leb_tells}, Grind.{common_steps, get_or_tail}}, specs.Prelude.{◌||◌, ◌&&◌, ◌==◌, bit_or}}
+use Rattle.std.{specs.Prelude.{if◌then◌else◌, nat_lt, slice_range}, proofs.lemmas.List.FromFn.{length-map-range_with_len, get_or-map-range_with_len}}
 use Rattle.std.{specs.List.{AllByRecursion, range_with_len, list_any, filter, flat_map}, proofs.{lemmas.List.{append-nil, get_or-drop}, Math.Nat.mul-suc}}
 use Rattle.std.{specs.List.copy_within, proofs.{Common.drop-drop, lemmas.List.{get_or-append_right, get_or_append_left, length-take}}}
 use Rattle.std.proofs.lemmas.List.{Concat.{flat_map-append}, Edits.{take-paste, drop-paste}}
 use Rattle.domain_octets.{proofs.StdLemmas.and_false, specs.Octets.AreOctets}
 use Rattle.domain_bitmap.specs.Blocks.{has_bit, octet_with, is_of_window, block_holds, has_window, holds, Block, IsBlock, IsBitmap, AreSlots}
-use Rattle.domain_bitmap.specs.Blocks.{AreShortest, IsShortest, last_octet, octets_of_blocks, in_first_block, contains_type, block_types_from, types_of}
+use Rattle.domain_bitmap.specs.Blocks.{AreShortest, IsShortest, octets_of_blocks, in_first_block, contains_type, block_types_from, types_of}
 use Rattle.domain_bitmap.{specs.Blocks.{IsPlace, types_below, blocks_of}, proofs.BitLemmas.{any_inserted, any_same, any_at, any_none, any_only, any_with}}
 use Rattle.domain_bitmap.proofs.BitLemmas.{filter_same, filter_append, bit_of-set, bit_of-zero, octet_with-lt, bit_of-octet_with, octets_same, range_more}
-use Rattle.domain_bitmap.proofs.BitLemmas.{filter_none, IsCut, none_cut, cut-trimmed, cut_same, get_or-trimmed, length-trimmed}
+use Rattle.domain_bitmap.proofs.BitLemmas.{filter_none, IsCut, cut-trimmed, cut_same, get_or-trimmed, length-trimmed}
 use Rattle.domain_bitmap.{specs.Bitmap.{window_octets, trimmed, block_if_any, blocks_with, bitmap_octets}, proofs.BlockLemmas.IsBitmap-octets_of_blocks}
 use Rattle.domain_bitmap.{specs.Bitmap.slot_block, proofs.BlockLemmas.blocks_of-octets_of_blocks}
 
@@ -46,10 +46,10 @@ module _ (value : List ℕ) (p r : ℕ) (inside : p < length value / 34) (window
   kept k other = grind (arith, common_steps)
 
   here : (t : ℕ) → block_holds after t p ≡ ((t == r) || block_holds value t p)
-  here t = grind (arith, common_steps, nat_tests, bit_of-set, kept)
+  here t = grind (arith, common_steps, nat_tests, bit_of-set)
 
   elsewhere : (t j : ℕ) → j ≢ p → block_holds after t j ≡ block_holds value t j
-  elsewhere t j other = grind (arith, common_steps, kept)
+  elsewhere t j other = grind (arith, common_steps)
 
   pub holds-set_bit : (t : ℕ) → holds after t ≡ ((t == r) || holds value t)
   unfolding holds
@@ -200,12 +200,6 @@ same_octets xs ys w x y same =
           rw (octet, bit) at (same t (omega (arith, h.1))))
     ])
 
-none_of_window : OfWindow []
-none_of_window = record { fits = omega arith; small = λ i. omega arith; cut = none_cut }
-
-of_block : (block : Block) → IsBlock block → last_octet block.octets ≢ 0 → OfWindow block.octets
-of_block block valid cut = record { fits = valid.fits; small = valid.bounded; cut = λ some. cut }
-
 -- ---- blocks by their places
 
 -- the blocks at so many places, from one on, that have these windows and octets
@@ -274,10 +268,10 @@ unfolding blocks_with
 spelled types [] a zero all form same = refl
 spelled types (b ∷ blocks) a zero all form same = absurd (omega (arith, form.shortest.0, form.valid.0.window))
 spelled types [] a (suc n) all form same =
-    grind (arith, common_steps, has_bit-none, none_of_window, none_in_form, (trimmed_window types [] a), (spelled types [] (a + 1) n))
+    grind (arith, common_steps, has_bit-none, none_in_form, (trimmed_window types [] a), (spelled types [] (a + 1) n))
 spelled types (b ∷ blocks) a (suc n) all form same = elim (eqb_tells b.window a) [
-  | inl h ↦ grind (arith, common_steps, block_is, of_block, form.valid, form.shortest, (trimmed_window types b.octets a), (spelled types blocks (a + 1) n))
-  | inr h ↦ grind (arith, common_steps, has_bit-none, none_of_window, none_below, (trimmed_window types [] a), (spelled types (b ∷ blocks) (a + 1) n))
+  | inl h ↦ grind (arith, common_steps, block_is, form.valid, form.shortest, (trimmed_window types b.octets a), (spelled types blocks (a + 1) n))
+  | inr h ↦ grind (arith, common_steps, has_bit-none, none_below, (trimmed_window types [] a), (spelled types (b ∷ blocks) (a + 1) n))
 ]
 
 -- blocks in that form are the bitmap of their types

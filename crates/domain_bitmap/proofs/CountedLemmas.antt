@@ -17,11 +17,7 @@ pub refused_too_long : {X : Type 0} (codec : Codec) (long : List ℕ) (limit : O
     → RefusesToken (CountedFault codec long limit) old new (illegal long)
 refused_too_long codec long limit old new octets x r is took no_room counted = grind (arith, common_steps, refused, illegal)
 
-counted_fault : (codec : Codec) (long : List ℕ) (limit : Option ℕ) (fault : ScanFault) (token : List ℕ)
-    → CodecFault codec limit fault token → CountedFault codec long limit fault token
-counted_fault codec long limit fault token bad = grind (arith, common_steps)
-
 -- a token that the codec refused
 pub refused_by_codec : (codec : Codec) (long : List ℕ) (limit : Option ℕ) (old new : List (List ℕ)) (fault : ScanFault)
     → RefusesToken (CodecFault codec limit) old new fault → RefusesToken (CountedFault codec long limit) old new fault
-refused_by_codec codec long limit old new fault h1 = grind (arith, common_steps, ended, refused, counted_fault)
+refused_by_codec codec long limit old new fault h1 = grind (arith, common_steps, ended, refused)

@@ -2,7 +2,7 @@
 use Rattle.std.proofs.Common.{◌≡◌, ℕ, ◌+◌, ◌<◌, List, [], ◌∷◌, ◌++◌, length, get_or, refl, sym, ap, ◌∙◌, inl, inr, arith, length-append}
 use Rattle.std.proofs.lemmas.{Bool.Decides.leb_tells, Grind.common_steps}
 use Rattle.std.proofs.lemmas.List.FromFn.{length-map-range_with_len, get_or-map-range_with_len, fill_by_all}
-use Rattle.domain_bitmap.specs.Blocks.{IsBitmap, part_at, parts_of, IsPart, AreBitmaps}
+use Rattle.domain_bitmap.specs.Blocks.{IsBitmap, part_at, parts_of, AreBitmaps}
 
 -- there are as many as there are ends
 pub length-parts_of : (ends octets : List ℕ) → length (parts_of ends octets) ≡ length ends
@@ -25,10 +25,6 @@ pub ruleset get_steps = (length-parts_of, part_is)
 
 -- ---- one more
 
-kept : (ends octets more : List ℕ) (end place : ℕ) → IsPart ends octets place → place < length ends
-    → part_at (ends ++ end ∷ []) (octets ++ more) place ≡ part_at ends octets place
-kept ends octets more end place is inside = grind (arith, common_steps, is.ordered, is.inside)
-
 last : (ends octets more : List ℕ) (end : ℕ) → AreBitmaps ends octets → end ≡ length octets + length more
     → part_at (ends ++ end ∷ []) (octets ++ more) (length ends) ≡ more
 last ends octets more end are is = grind (arith, common_steps, are.whole)
@@ -39,7 +35,7 @@ parts_pushed ends octets more end are is =
     sym (fill_by_all _ (parts_of ends octets ++ more ∷ []) _ [] (grind (arith, common_steps, length-parts_of)) (λ k below.
     elim (leb_tells (length ends) k) [
       | inl h ↦ grind (arith, common_steps, last, length-parts_of)
-      | inr h ↦ grind (arith, common_steps, kept, part_is, length-parts_of, (are.parts k h.1))
+      | inr h ↦ grind (arith, common_steps, part_is, length-parts_of, (are.parts k h.1))
     ]))
 
 last_end : (ends : List ℕ) (end : ℕ) → get_or (0 ∷ (ends ++ end ∷ [])) (length (ends ++ end ∷ [])) 0 ≡ end
@@ -51,7 +47,7 @@ more_bitmaps ends octets more end are bitmap is = record {
   whole = last_end ends end ∙ is ∙ sym (length-append octets more);
   parts = λ place below. elim (leb_tells (length ends) place) [
     | inl h ↦ grind (arith, common_steps, last, are.whole)
-    | inr h ↦ grind (arith, common_steps, kept, (are.parts place h.1))
+    | inr h ↦ grind (arith, common_steps, (are.parts place h.1))
   ];
 }
 

@@ -15,7 +15,7 @@ use Rattle.domain_bitmap.{specs.{Text.{after_dash, in_digits, spaced_types, type
 use Rattle.domain_bitmap.proofs.BitmapLemmas.{bitmap_octets-same, built_from_shortest, types_of-bitmap_octets}
 use Rattle.domain_codecs.{specs.{Codec.Decodes, declared.codec.Codec.TheVariants.{Base16, Base32Hex}}, proofs.CodecBackLemmas.{upper_back, decodes_once}}
 use Rattle.domain_codecs.{proofs.CodecLemmas.upper_hex_word, specs.declared.codec.Codec.Codec}
-use Rattle.hex.specs.{Hex.{encode_upper, encode_with, decode_pairs}, declared.error.FromHexError.TheVariants.OddLength}
+use Rattle.hex.specs.{Hex.{decode_pairs}, declared.error.FromHexError.TheVariants.OddLength}
 
 -- ---- types read from tokens
 
@@ -72,12 +72,9 @@ pub scan_ends : (old now : List (List ℕ)) (value : List ℕ) → Scanned old n
 unfolding is_among
 scan_ends old now value scanned none = grind (arith, common_steps, no_types)
 
-no_type : (limit : Option ℕ) (types : List ℕ) (fault : ScanFault) (token : List ℕ) → IsNoType fault token → TypeFault limit types fault token
-no_type limit types fault token why = grind (arith, common_steps)
-
 pub scan_refused : (limit : Option ℕ) (old now rest : List (List ℕ)) (value : List ℕ) (fault : ScanFault) → Scanned old now value
     → now ≢ [] → RefusesToken IsNoType now rest fault → RefusesTypes limit old rest fault
-scan_refused limit old now rest value fault h1 h2 h3 = grind (arith, common_steps, next, no_type)
+scan_refused limit old now rest value fault h1 h2 h3 = grind (arith, common_steps, next)
 
 -- a type for which the builder has no room, or no memory
 pub scan_full : (limit : Option ℕ) (old now rest : List (List ℕ)) (value : List ℕ) (token : List ℕ) (t : ℕ) (error : AppendError)
@@ -192,12 +189,8 @@ bitmap_back octets bitmap shortest = grind (arith, common_steps, built_from_shor
 
 -- ---- salts
 
-no_dash : (octet : ℕ) (octets : List ℕ) → encode_upper (octet ∷ octets) ≢ codes "-"
-unfolding encode_with
-no_dash octet octets = λ same. cc
-
 pub salt_back : (octets : List ℕ) → All (λ octet. octet < 256) octets → length octets ≤ 255 → SaltText (salt_text octets) octets
-salt_back octets h1 h2 = grind (arith, common_steps, dash, digits, no_dash, upper_back)
+salt_back octets h1 h2 = grind (arith, common_steps, dash, digits, upper_back)
 
 pub salt_word : (octets : List ℕ) → IsWord (salt_text octets)
 salt_word [] = record { some = λ none. cc; unbroken = (refl, tt) }
