@@ -257,9 +257,8 @@ has_bit-window types t = grind (arith, common_steps, get_or-window_octets, bit_o
 
 trimmed_window : (types : ℕ → Bool) (xs : List ℕ) (w : ℕ) → w < 256 → OfWindow xs → ((t : ℕ) → t < 65536 → t / 256 ≡ w → has_bit xs t ≡ types t)
     → trimmed (window_octets types w) ≡ xs
-trimmed_window types xs w small of_window same =
-    same_octets _ xs w (of_window-trimmed (window_octets types w) (omega (arith, length-window_octets types w)) (bounded types w)) of_window
-    (λ t here. has_bit-trimmed (window_octets types w) t ∙ rw (← here) (has_bit-window types t) ∙ sym (same t (omega arith) here))
+trimmed_window types xs w small of_window same = same_octets _ xs w (of_window-trimmed (window_octets types w) (grind (arith, length-window_octets)) (bounded types w))
+    of_window (λ t here. grind (arith, common_steps, has_bit-trimmed, has_bit-window, (same t)))
 
 -- blocks in that form are those of their types, window by window
 spelled : (types : ℕ → Bool) (blocks : List Block) (a n : ℕ) → a + n ≡ 256 → InForm a blocks

@@ -1,6 +1,6 @@
 -- Sets of types, salts and hashes as tokens: read back what was written, refused for one reason.
 use Rattle.std.proofs.Common.{◌≡◌, ◌≢◌, ℕ, ◌+◌, ◌*◌, ◌/◌, ◌<◌, false, List, [], ◌∷◌, length, refl, arith, Option, ◌≤◌, drop, sym, ap, ◌∙◌, codes, ◌-◌, Bool}
-use Rattle.std.{proofs.{Common.{true, ◌++◌, zero, suc, map, eq-eqb, append_assoc}, lemmas.Grind.common_steps}, specs.Prelude.{◌||◌, ◌==◌, if◌then◌else◌}}
+use Rattle.std.{proofs.{Common.{◌++◌, zero, suc, map, eq-eqb, append_assoc}, lemmas.Grind.common_steps}, specs.Prelude.{◌||◌, ◌==◌, if◌then◌else◌}}
 use Rattle.std.specs.{Prelude.{IsNone, filter, ◌&&◌, ◌%◌, Ok, Err}, List.{range_with_len, AllByRecursion, All, flat_map}}
 use Rattle.std.proofs.lemmas.{Bool.Decides.nat_tests, List.append-nil, Map.Views.any-filter_same}
 use Rattle.domain_base.{specs.{Numbers.{TypeText, IsNoType, type_text}, Scan.{RefusesToken, refused, TakesToken}}, proofs.TextLemmas.no_token}
@@ -172,13 +172,10 @@ types_back octets bitmap = grind (arith, common_steps, are_types, types_words, t
 
 -- ---- the bitmap of these types
 
-number_at : (test : ℕ → Bool) (t u : ℕ) → (t == u) ≡ true → test u ≡ test t
-number_at test t u same = let e : u ≡ t = grind (arith, nat_tests) in ap test e
-
 among_below : (types : ℕ → Bool) (n t : ℕ) → t < n → is_among (types_below n types) t ≡ types t
 unfolding is_among types_below
 among_below types n t below =
-    any-filter_same _ types _ (λ u same. number_at types t u same) _
+    any-filter_same _ types _ (λ u same. let e : u ≡ t = grind (arith, nat_tests) in ap types e) _
     ∙ ap (λ b. types t && b) (any_at _ n t below (eq-eqb t t refl)) ∙ and_true _
 
 among_built : (types : ℕ → Bool) (n t : ℕ) → n ≡ 65536 → t < 65536 → is_among (types_of (bitmap_octets types)) t ≡ types t
