@@ -1,6 +1,6 @@
 -- Numbers in a row, bits of octets, and octets without the zero octets at their end.
 use Rattle.std.proofs.Common.{◌≡◌, ℕ, zero, suc, ◌+◌, ◌<◌, ◌≤◌, ◌≢◌, Bool, true, false, [], ◌∷◌, ◌++◌, length, refl, sym, ap, ◌∙◌, inl, inr, arith, add-zero}
-use Rattle.std.proofs.{Common.{zero-add, add-one, ◌-◌, ◌*◌, ◌/◌, ◌%◌, ◌^◌, max, pow_pos, List, get_or, take}, lemmas.Bool.Decides.{eqb_tells, nat_tests}}
+use Rattle.std.proofs.{Common.{zero-add, add-one, ◌-◌, ◌*◌, ◌/◌, ◌%◌, ◌^◌, pow_pos, List, get_or, take}, lemmas.Bool.Decides.{eqb_tells, nat_tests}}
 use Rattle.std.{proofs.lemmas.Grind.{common_steps, same_number_lists}, specs.Prelude.{◌||◌, ◌&&◌, if◌then◌else◌, nat_lt, ◌==◌, bit_or, bit_and}}
 use Rattle.std.proofs.lemmas.List.{Elements.filter-append, Folds.list_any_at, FromFn.{length-range_with_len, get_or-range_with_len}}
 use Rattle.std.{specs.List.{range_with_len, list_any, filter}, proofs.lemmas.Nat.Bits.{bit_at_or, bit_at-pow_same, bit_at-pow_other, shr_and_one}}
@@ -46,8 +46,8 @@ pub any_with : (p q : ℕ → Bool) (c : Bool) (n k : ℕ) → k < n → ((j : �
     → list_any q (range_with_len 0 n) ≡ (c || list_any p (range_with_len 0 n))
 any_with p q c zero k below same more = absurd (omega (arith, below))
 any_with p q c (suc n) k below same more = elim (eqb_tells k n) [
-  | inl h ↦ grind (arith, common_steps, any_suc, (any_same q p n (λ j low. same j (omega (arith, low)) (omega (arith, low, h.1)))))
-  | inr h ↦ grind (arith, common_steps, any_suc, (any_with p q c n k (omega (arith, below, h.1)) (λ j low. same j (omega (arith, low))) more), (same n))
+  | inl h ↦ grind (arith, common_steps, any_suc, (any_same q p n))
+  | inr h ↦ grind (arith, common_steps, any_suc, (any_with p q c n k), (same n))
 ]
 
 -- a test that fails but at one place
@@ -60,15 +60,7 @@ pub any_inserted : (p q : ℕ → Bool) (k n : ℕ) → k ≤ n → ((j : ℕ) �
 any_inserted p q k zero within before behind = grind (arith, common_steps)
 any_inserted p q k (suc n) within before behind = elim (eqb_tells k (suc n)) [
   | inl h ↦ grind (arith, common_steps, any_more, (any_same q p (suc n)))
-  | inr h ↦
-      grind (
-        arith,
-        common_steps,
-        any_more,
-        any_suc,
-        (behind n),
-        (any_inserted p q k n (omega (arith, within, h.1)) before (λ j low high. behind j low (omega arith))),
-      )
+  | inr h ↦ grind (arith, common_steps, any_more, any_suc, (behind n), (any_inserted p q k n))
 ]
 
 -- the numbers that pass a test
@@ -78,28 +70,21 @@ filter_none p a (suc n) none = rw (none a (omega arith) (omega arith)) (filter_n
 
 pub filter_same : (p q : ℕ → Bool) (a n : ℕ) → ((j : ℕ) → a ≤ j → j < a + n → p j ≡ q j) → filter p (range_with_len a n) ≡ filter q (range_with_len a n)
 filter_same p q a zero same = refl
-filter_same p q a (suc n) same =
-    rw (same a (omega arith) (omega arith), filter_same p q (a + 1) n (λ j low high. same j (omega arith) (omega arith))) refl
+filter_same p q a (suc n) same = grind (arith, common_steps, (filter_same p q (a + 1) n (λ j low high. same j (omega arith) (omega arith))))
 
 pub filter_append : (p : ℕ → Bool) (a m n : ℕ) → filter p (range_with_len a m) ++ filter p (range_with_len (a + m) n) ≡ filter p (range_with_len a (m + n))
 filter_append p a m n = sym (ap (filter p) (range_append a m n) ∙ filter-append p (range_with_len a m) (range_with_len (a + m) n))
 
 -- how many numbers pass a test
-pub count_more : (p : ℕ → Bool) (n : ℕ) → length (filter p (range_with_len 0 (n + 1))) ≡ length (filter p (range_with_len 0 n)) + (if p n then 1 else 0)
-count_more p n = grind (arith, common_steps, range_more)
-
 count_suc : (p : ℕ → Bool) (n : ℕ) → length (filter p (range_with_len 0 (suc n))) ≡ length (filter p (range_with_len 0 n)) + (if p n then 1 else 0)
-count_suc p n = ap (λ m. length (filter p (range_with_len 0 m))) (sym (add-one n)) ∙ count_more p n
+count_suc p n = grind (arith, common_steps, range_suc)
 
 -- tests that differ at one number
 pub filter_at : (p q : ℕ → Bool) (c n : ℕ) → ((j : ℕ) → j ≢ c → q j ≡ p j)
     → length (filter q (range_with_len 0 n)) + (if nat_lt c n && p c then 1 else 0)
     ≡ length (filter p (range_with_len 0 n)) + (if nat_lt c n && q c then 1 else 0)
 filter_at p q c zero same = grind (arith, common_steps)
-filter_at p q c (suc n) same = elim (eqb_tells c n) [
-  | inl h ↦ grind (arith, common_steps, (count_suc p n), (count_suc q n), (filter_at p q c n same))
-  | inr h ↦ grind (arith, common_steps, (count_suc p n), (count_suc q n), (filter_at p q c n same), (same n))
-]
+filter_at p q c (suc n) same = grind (arith, common_steps, count_suc, (filter_at p q c n same))
 
 -- ---- bits of octets
 
@@ -132,13 +117,10 @@ pub bit_of-octet_with : (bit : ℕ → Bool) (b : ℕ) → b < 8 → bit_of (oct
 unfolding bit_of
 bit_of-octet_with bit b small = ap (λ n. n == 1) (bit_at-octet_with bit b small) ∙ digit_tells (bit b)
 
-or_bits : (m n : ℕ) → m < 2 → n < 2 → (max m n == 1) ≡ ((m == 1) || (n == 1))
-or_bits m n m_small n_small = grind (arith, common_steps)
-
 -- the bits of two octets together
 pub bit_of-or : (x y b : ℕ) → bit_of (bit_or x y) b ≡ (bit_of x b || bit_of y b)
 unfolding bit_of
-bit_of-or x y b = rw (bit_at_or x y (7 - b)) (or_bits (bit_at x (7 - b)) (bit_at y (7 - b)) (bit_at-lt x (7 - b)) (bit_at-lt y (7 - b)))
+bit_of-or x y b = grind (arith, common_steps, bit_at_or, bit_at-lt)
 
 bit_of-power : (b k : ℕ) → b < 8 → k < 8 → bit_of (2 ^ (7 - k)) b ≡ (b == k)
 unfolding bit_of
@@ -167,16 +149,13 @@ pub bit_of-zero : (b : ℕ) → bit_of 0 b ≡ false
 unfolding bit_of
 bit_of-zero b = ap (λ n. n == 1) (bit_at-zero (7 - b))
 
-one_bit : (m n : ℕ) → m < 2 → n < 2 → (m == 1) ≡ (n == 1) → m ≡ n
-one_bit m n m_small n_small same = grind (arith, nat_tests)
-
 -- octets with the same bits are equal
 pub octets_same : (x y : ℕ) → x < 256 → y < 256 → ((b : ℕ) → b < 8 → bit_of x b ≡ bit_of y b) → x ≡ y
 unfolding bit_of
 octets_same x y x_small y_small same =
     same_from_bits_below 8 x y x_small y_small (λ i small. let back : 7 - (7 - i) ≡ i = omega arith in
     let equal : (bit_at x i == 1) ≡ (bit_at y i == 1) = rw back at (same (7 - i) (omega arith)) in
-    one_bit _ _ (bit_at-lt x i) (bit_at-lt y i) equal)
+    grind (arith, nat_tests, bit_at-lt))
 
 pub ruleset bit_reads = (bit_of-shr, bit_of-zero)
 

@@ -2,16 +2,16 @@
 use Rattle.std.proofs.Common.{◌≡◌, ℕ, ◌+◌, ◌-◌, ◌*◌, ◌/◌, ◌%◌, ◌^◌, ◌<◌, ◌≢◌, true, false, List, ◌∷◌, ◌++◌, length, get_or, inl, inr, arith}
 use Rattle.std.proofs.Common.{set, rules, zero, suc, ◌≤◌, Bool, [], refl, sym, ap, ◌∙◌, zero-add, take, drop, add-one, add_comm, replicate}
 use Rattle.std.{proofs.lemmas.{Bool.Decides.{nat_tests, eqb_tells, leb_tells}, Grind.{common_steps, get_or_tail}}, specs.Prelude.{◌||◌, ◌&&◌, ◌==◌, bit_or}}
-use Rattle.std.{specs.Prelude.{if◌then◌else◌, slice_range}, proofs.lemmas.List.FromFn.{length-map-range_with_len, get_or-map-range_with_len}}
+use Rattle.std.{specs.Prelude.{if◌then◌else◌, nat_lt, slice_range}, proofs.lemmas.List.FromFn.{length-map-range_with_len, get_or-map-range_with_len}}
 use Rattle.std.{specs.List.{AllByRecursion, range_with_len, list_any, filter, flat_map}, proofs.{lemmas.List.{append-nil, get_or-drop}, Math.Nat.mul-suc}}
 use Rattle.std.{specs.List.copy_within, proofs.{Common.drop-drop, lemmas.List.{get_or-append_right, get_or_append_left, length-take}}}
 use Rattle.std.proofs.lemmas.List.{Concat.{flat_map-append}, Edits.{take-paste, drop-paste}}
 use Rattle.domain_octets.{proofs.StdLemmas.and_false, specs.Octets.AreOctets}
 use Rattle.domain_bitmap.specs.Blocks.{has_bit, octet_with, is_of_window, block_holds, has_window, holds, Block, IsBlock, IsBitmap, AreSlots}
-use Rattle.domain_bitmap.specs.Blocks.{AreShortest, IsShortest, last_octet, octets_of_blocks, in_first_block, contains_type, block_types_from, types_of}
+use Rattle.domain_bitmap.specs.Blocks.{AreShortest, IsShortest, octets_of_blocks, in_first_block, contains_type, block_types_from, types_of}
 use Rattle.domain_bitmap.{specs.Blocks.{IsPlace, types_below, blocks_of}, proofs.BitLemmas.{any_inserted, any_same, any_at, any_none, any_only, any_with}}
 use Rattle.domain_bitmap.proofs.BitLemmas.{filter_same, filter_append, bit_of-set, bit_of-zero, octet_with-lt, bit_of-octet_with, octets_same, range_more}
-use Rattle.domain_bitmap.proofs.BitLemmas.{filter_none, IsCut, none_cut, cut-trimmed, cut_same, get_or-trimmed, length-trimmed}
+use Rattle.domain_bitmap.proofs.BitLemmas.{filter_none, IsCut, cut-trimmed, cut_same, get_or-trimmed, length-trimmed}
 use Rattle.domain_bitmap.{specs.Bitmap.{window_octets, trimmed, block_if_any, blocks_with, bitmap_octets}, proofs.BlockLemmas.IsBitmap-octets_of_blocks}
 use Rattle.domain_bitmap.{specs.Bitmap.slot_block, proofs.BlockLemmas.blocks_of-octets_of_blocks}
 
@@ -25,15 +25,12 @@ window_found value window j inside is = any_at (is_of_window value window) (leng
 pub placed : (value : List ℕ) (window j : ℕ) → AreSlots value → j ≤ length value / 34 → ((k : ℕ) → k < j → get_or value (34 * k) 0 < window)
     → (j < length value / 34 → window < get_or value (34 * j) 0) → IsPlace value window j
 unfolding has_window
-placed value window j slots inside before next =
-    let behind : (k : ℕ) → j ≤ k → k < length value / 34 → window < get_or value (34 * k) 0 =
-    λ k low high. grind (arith, nat_tests, (slots.ascend j k), next) in
-    record {
-      absent = any_none (is_of_window value window) (length value / 34) (λ k within. grind (arith, nat_tests, (before k), (behind k)));
-      inside = inside;
-      before = before;
-      behind = behind;
-    }
+placed value window j slots inside before next = record {
+  absent = any_none (is_of_window value window) (length value / 34) (λ k within. grind (arith, nat_tests, (before k), (slots.ascend j k), next));
+  inside = inside;
+  before = before;
+  behind = λ k low high. grind (arith, nat_tests, (slots.ascend j k), next);
+}
 
 pub ruleset find_steps = (placed)
 
@@ -45,17 +42,14 @@ module _ (value : List ℕ) (p r : ℕ) (inside : p < length value / 34) (window
   abbrev after : List ℕ
   after = set value at (bit_or (get_or value at 0) (2 ^ (7 - r % 8)))
 
-  at_inside : at < length value
-  at_inside = omega (arith, inside)
-
   kept : (k : ℕ) → k ≢ at → get_or after k 0 ≡ get_or value k 0
   kept k other = grind (arith, common_steps)
 
   here : (t : ℕ) → block_holds after t p ≡ ((t == r) || block_holds value t p)
-  here t = grind (arith, common_steps, nat_tests, bit_of-set, kept, at_inside)
+  here t = grind (arith, common_steps, nat_tests, bit_of-set)
 
   elsewhere : (t j : ℕ) → j ≢ p → block_holds after t j ≡ block_holds value t j
-  elsewhere t j other = grind (arith, common_steps, kept)
+  elsewhere t j other = grind (arith, common_steps)
 
   pub holds-set_bit : (t : ℕ) → holds after t ≡ ((t == r) || holds value t)
   unfolding holds
@@ -67,17 +61,11 @@ module _ (value : List ℕ) (p r : ℕ) (inside : p < length value / 34) (window
 
 pub ruleset set_steps = (holds-set_bit, has_window-set_bit)
 
-halves : (xs ys : List ℕ) → drop (length (xs ++ ys) - length ys) (xs ++ ys) ++ take (length (xs ++ ys) - length ys) (xs ++ ys) ≡ ys ++ xs
-halves xs ys = grind (arith, common_steps)
-
 -- octets that were appended are moved before those from a place on
 pub rotated : (value slice whole moved : List ℕ) (at : ℕ) → at ≤ length value → whole ≡ value ++ slice
     → (let part = take (length whole - at) (drop at whole) in moved ≡ drop (length part - length slice) part ++ take (length part - length slice) part)
     → take at whole ++ (moved ++ drop (length whole - at) (drop at whole)) ≡ take at value ++ (slice ++ drop at value)
-rotated value slice whole moved at inside is turned =
-    let part : take (length whole - at) (drop at whole) ≡ drop at value ++ slice = grind (arith, common_steps) in
-    let turn : moved ≡ slice ++ drop at value = turned ∙ rw part (halves (drop at value) slice) in
-    grind (arith, common_steps)
+rotated value slice whole moved at inside is turned = grind (arith, common_steps)
 
 pub zeros_at : (n k : ℕ) → get_or {A = ℕ} (replicate n 0) k 0 ≡ 0
 zeros_at n k = grind (arith, common_steps)
@@ -112,35 +100,23 @@ module _ (value slot : List ℕ) (window j : ℕ) (is : slot ≡ window ∷ repl
       ∙ get_or_tail window (replicate 33 0) (1 + k) 0 (omega arith) ∙ zeros_at 33 (1 + k - 1)
 
   at_behind : (i k : ℕ) → i ≡ k + 34 → 34 * j ≤ k → get_or grown i 0 ≡ get_or value k 0
-  at_behind i k behind low = get_or-append_right _ _ (34 * j) i 0 front_long (omega arith) ∙ get_or-append_right slot _ 34 (i - 34 * j) 0 long (omega arith)
-      ∙ get_or-drop (34 * j) value (i - 34 * j - 34) 0 ∙ ap (λ n. get_or value n 0) (omega arith)
+  at_behind i k behind low = grind (arith, common_steps, get_or-append_right, front_long, long, get_or-drop)
+
+  window_at : (i : ℕ) → get_or grown (34 * i) 0
+      ≡ (if nat_lt i j then get_or value (34 * i) 0 else (if i == j then window else get_or value (34 * (i - 1)) 0))
+  window_at i = grind (arith, nat_tests, (at_before (34 * i)), (at_slot (34 * i) 0), (at_behind (34 * i) (34 * (i - 1))))
 
   pub slots-inserted : AreSlots grown
   slots-inserted = record {
     whole = omega (arith, size, slots.whole);
-    ascend = λ i k low high. grind (
-      arith,
-      (at_before (34 * i)),
-      (at_before (34 * k)),
-      (at_slot (34 * i) 0),
-      (at_slot (34 * k) 0),
-      (at_behind (34 * i) (34 * (i - 1))),
-      (at_behind (34 * k) (34 * (k - 1))),
-      (slots.ascend i k),
-      (slots.ascend i (k - 1)),
-      (slots.ascend (i - 1) (k - 1)),
-      (place.before i),
-      (place.behind (k - 1)),
-      one_more,
-    );
+    ascend = λ i k low high.
+        grind (arith, nat_tests, window_at, one_more, place.before, place.behind, (slots.ascend i k), (slots.ascend i (k - 1)), (slots.ascend (i - 1) (k - 1)));
   }
 
   pub has_window-inserted : (w : ℕ) → has_window grown w ≡ ((w == window) || has_window value w)
   unfolding has_window
   has_window-inserted w = rw one_more (any_inserted (is_of_window value w) (is_of_window grown w) j (length value / 34) place.inside
-      (λ i low. ap (λ n. n == w) (at_before (34 * i) (omega arith)))
-      (λ i low high. ap (λ n. n == w) (at_behind (34 * (i + 1)) (34 * i) (omega arith) (omega arith)))
-      ∙ grind (arith, nat_tests, (at_slot (34 * j) 0)))
+      (λ i low. grind (arith, nat_tests, window_at)) (λ i low high. grind (arith, nat_tests, window_at)) ∙ grind (arith, nat_tests, window_at))
 
   block_new : (t : ℕ) → block_holds grown t j ≡ false
   block_new t = rw (at_zeros (34 * j + 2 + t % 256 / 8) (1 + t % 256 / 8) (omega arith) (omega arith), bit_of-zero (t % 8))
@@ -149,12 +125,9 @@ module _ (value slot : List ℕ) (window j : ℕ) (is : slot ≡ window ∷ repl
   pub holds-inserted : (t : ℕ) → holds grown t ≡ holds value t
   unfolding holds
   holds-inserted t = rw one_more (any_inserted (block_holds value t) (block_holds grown t) j (length value / 34) place.inside
-      (λ i low. rw (at_before (34 * i) (omega arith), at_before (34 * i + 2 + t % 256 / 8) (omega arith)) refl)
-      (λ i low high. rw (
-        at_behind (34 * (i + 1)) (34 * i) (omega arith) (omega arith),
-        at_behind (34 * (i + 1) + 2 + t % 256 / 8) (34 * i + 2 + t % 256 / 8) (omega arith) (omega arith),
-      ) refl)
-      ∙ ap (λ b. b || list_any (block_holds value t) (range_with_len 0 (length value / 34))) (block_new t))
+      (λ i low. grind (arith, nat_tests, window_at, (at_before (34 * i + 2 + t % 256 / 8))))
+      (λ i low high. grind (arith, nat_tests, window_at, (at_behind (34 * (i + 1) + 2 + t % 256 / 8) (34 * i + 2 + t % 256 / 8))))
+      ∙ grind (arith, nat_tests, block_new))
 
 -- a window that has a block already
 pub window_known : (value : List ℕ) (window w : ℕ) → has_window value window ≡ true → ((w == window) || has_window value w) ≡ has_window value w
@@ -180,25 +153,19 @@ pub record OfWindow (octets : List ℕ) : Type 0 where
   pub cut : IsCut octets
 
 pub of_window-trimmed : (octets : List ℕ) → length octets ≤ 32 → ((i : ℕ) → get_or octets i 0 < 256) → OfWindow (trimmed octets)
-of_window-trimmed octets fits small = record {
-  fits = omega (arith, length-trimmed octets);
-  small = λ i. rw (get_or-trimmed octets i) (small i);
-  cut = cut-trimmed octets;
-}
+of_window-trimmed octets fits small = grind (arith, common_steps, length-trimmed, get_or-trimmed, cut-trimmed)
 
 form-more : (low w : ℕ) (octets : List ℕ) (blocks : List Block) → low ≤ w → w < 256 → OfWindow octets → InForm (w + 1) blocks
     → InForm low (block_if_any w octets ++ blocks)
 form-more low w [] [] lower small of_window form = none_in_form low
-form-more low w [] (block ∷ blocks) lower small of_window form =
-    record { valid = form.valid; shortest = (omega (arith, form.shortest.0), form.shortest.1, form.shortest.2) }
+form-more low w [] (block ∷ blocks) lower small of_window form = grind (arith, common_steps)
 form-more low w (x ∷ xs) blocks lower small of_window form = record {
   valid = (record { window = small; not_empty = omega arith; fits = of_window.fits; bounded = of_window.small }, form.valid);
   shortest = (lower, of_window.cut (omega arith), form.shortest);
 }
 
 block_is : (w : ℕ) (octets : List ℕ) → 0 < length octets → block_if_any w octets ≡ record { window = w; octets = octets } ∷ []
-block_is w [] some = absurd (omega (arith, some))
-block_is w (x ∷ xs) some = refl
+block_is w octets h1 = grind (arith, common_steps)
 
 -- ---- the types of such blocks
 
@@ -217,8 +184,7 @@ none_below (block ∷ blocks) low t short below = grind (arith, common_steps, (n
 
 pub in-more : (w : ℕ) (octets : List ℕ) (blocks : List Block) (t : ℕ) → AreShortest (w + 1) blocks
     → in_first_block (block_if_any w octets ++ blocks) t ≡ (if w == t / 256 then has_bit octets t else in_first_block blocks t)
-in-more w [] blocks t short = grind (arith, common_steps, none_below, has_bit-none)
-in-more w (x ∷ xs) blocks t short = refl
+in-more w octets blocks t h1 = grind (arith, common_steps, none_below, has_bit-none)
 
 -- ---- one spelling
 
@@ -233,12 +199,6 @@ same_octets xs ys w x y same =
           let bit : t % 8 ≡ b = omega arith in
           rw (octet, bit) at (same t (omega (arith, h.1))))
     ])
-
-none_of_window : OfWindow []
-none_of_window = record { fits = omega arith; small = λ i. omega arith; cut = none_cut }
-
-of_block : (block : Block) → IsBlock block → last_octet block.octets ≢ 0 → OfWindow block.octets
-of_block block valid cut = record { fits = valid.fits; small = valid.bounded; cut = λ some. cut }
 
 -- ---- blocks by their places
 
@@ -264,19 +224,16 @@ module _ (windows : ℕ → ℕ) (octets : ℕ → List ℕ) (m : ℕ) (are : As
       → in_first_block (blocks_at windows octets a n) t ≡ list_any (λ j. (windows j == t / 256) && has_bit (octets j) t) (range_with_len a n)
   in-blocks_at a zero t whole = refl
   in-blocks_at a (suc n) t whole =
-      let rest = form-blocks_at (a + 1) n (windows a + 1) (omega arith) (λ some. are.ascend a (omega arith)) in
-      in-more (windows a) _ _ t rest.shortest
-      ∙ grind (arith, common_steps, has_bit-trimmed, (in-blocks_at (a + 1) n t (omega arith)), (none_below _ _ t rest.shortest))
+      grind (arith, common_steps, form-blocks_at, in-more, has_bit-trimmed, none_below, (in-blocks_at (a + 1) n t (omega arith)))
 
 length-block_if_any : (w : ℕ) (octets : List ℕ) → length (octets_of_blocks (block_if_any w octets)) ≤ length octets + 2
-length-block_if_any w [] = omega arith
-length-block_if_any w (x ∷ xs) = grind (arith, common_steps)
+length-block_if_any w octets = grind (arith, common_steps)
 
 length-blocks_at : (windows : ℕ → ℕ) (octets : ℕ → List ℕ) (a n : ℕ) → ((j : ℕ) → length (octets j) ≤ 32)
     → length (octets_of_blocks (blocks_at windows octets a n)) ≤ 34 * n
 length-blocks_at windows octets a zero fits = omega arith
 length-blocks_at windows octets a (suc n) fits =
-    grind (arith, common_steps, length-block_if_any, length-trimmed, (fits a), (length-blocks_at windows octets (a + 1) n fits))
+    grind (arith, common_steps, length-block_if_any, length-trimmed, (length-blocks_at windows octets (a + 1) n fits))
 
 -- ---- the octets of a set
 
@@ -292,8 +249,7 @@ bounded : (types : ℕ → Bool) (w i : ℕ) → get_or (window_octets types w) 
 bounded types w i = grind (arith, common_steps, length-window_octets, get_or-window_octets, octet_with-lt)
 
 are_windows : (types : ℕ → Bool) → Ascend (λ w. w) (window_octets types) 256
-are_windows types =
-    record { ascend = λ j inside. omega arith; window = λ j inside. inside; fits = λ w. omega (arith, length-window_octets types w); small = bounded types }
+are_windows types = grind (arith, common_steps, length-window_octets, bounded)
 
 pub has_bit-window : (types : ℕ → Bool) (t : ℕ) → has_bit (window_octets types (t / 256)) t ≡ types t
 unfolding has_bit
@@ -301,9 +257,8 @@ has_bit-window types t = grind (arith, common_steps, get_or-window_octets, bit_o
 
 trimmed_window : (types : ℕ → Bool) (xs : List ℕ) (w : ℕ) → w < 256 → OfWindow xs → ((t : ℕ) → t < 65536 → t / 256 ≡ w → has_bit xs t ≡ types t)
     → trimmed (window_octets types w) ≡ xs
-trimmed_window types xs w small of_window same =
-    same_octets _ xs w (of_window-trimmed (window_octets types w) (omega (arith, length-window_octets types w)) (bounded types w)) of_window
-    (λ t here. has_bit-trimmed (window_octets types w) t ∙ rw (← here) (has_bit-window types t) ∙ sym (same t (omega arith) here))
+trimmed_window types xs w small of_window same = same_octets _ xs w (of_window-trimmed (window_octets types w) (grind (arith, length-window_octets)) (bounded types w))
+    of_window (λ t here. grind (arith, common_steps, has_bit-trimmed, has_bit-window, (same t)))
 
 -- blocks in that form are those of their types, window by window
 spelled : (types : ℕ → Bool) (blocks : List Block) (a n : ℕ) → a + n ≡ 256 → InForm a blocks
@@ -312,22 +267,10 @@ unfolding blocks_with
 spelled types [] a zero all form same = refl
 spelled types (b ∷ blocks) a zero all form same = absurd (omega (arith, form.shortest.0, form.valid.0.window))
 spelled types [] a (suc n) all form same =
-    rw (trimmed_window types [] a (omega arith) none_of_window (λ t small here. has_bit-none t ∙ same t small (omega arith)))
-    (spelled types [] (a + 1) n (omega arith) (none_in_form (a + 1)) (λ t small later. same t small (omega arith)))
+    grind (arith, common_steps, has_bit-none, none_in_form, (trimmed_window types [] a), (spelled types [] (a + 1) n))
 spelled types (b ∷ blocks) a (suc n) all form same = elim (eqb_tells b.window a) [
-  | inl h ↦
-      let here : trimmed (window_octets types a) ≡ b.octets = trimmed_window types b.octets a (omega arith) (of_block b form.valid.0 form.shortest.1)
-      (λ t small window. grind (arith, common_steps, (same t small))) in
-      let rest : blocks_with (window_octets types) (a + 1) n ≡ blocks =
-      spelled types blocks (a + 1) n (omega arith) (record { valid = form.valid.1; shortest = rw h.1 at form.shortest.2 })
-      (λ t small later. grind (arith, common_steps, (same t small))) in
-      rw (here, rest) (ap (λ l. l ++ blocks) (block_is a b.octets form.valid.0.not_empty)
-      ∙ ap (λ w. record { window = w; octets = b.octets } ∷ blocks) (sym h.1))
-  | inr h ↦
-      let later : AreShortest (a + 1) (b ∷ blocks) = (omega (arith, h.1, form.shortest.0), form.shortest.1, form.shortest.2) in
-      rw (trimmed_window types [] a (omega arith) none_of_window
-      (λ t small here. grind (arith, has_bit-none, (none_below (b ∷ blocks) (a + 1) t later), (same t small))))
-      (spelled types (b ∷ blocks) (a + 1) n (omega arith) (record { valid = form.valid; shortest = later }) (λ t small after. same t small (omega arith)))
+  | inl h ↦ grind (arith, common_steps, block_is, form.valid, form.shortest, (trimmed_window types b.octets a), (spelled types blocks (a + 1) n))
+  | inr h ↦ grind (arith, common_steps, has_bit-none, none_below, (trimmed_window types [] a), (spelled types (b ∷ blocks) (a + 1) n))
 ]
 
 -- blocks in that form are the bitmap of their types
@@ -372,8 +315,7 @@ contains_type-bitmap_octets types t small =
 
 -- tests that agree on all types have the same octets
 pub bitmap_octets-same : (p q : ℕ → Bool) → ((t : ℕ) → t < 65536 → p t ≡ q t) → bitmap_octets p ≡ bitmap_octets q
-bitmap_octets-same p q same = spelling_is q _ (IsBitmap-bitmap_octets p) (IsShortest-bitmap_octets p)
-    (λ t small. contains_type-bitmap_octets p t small ∙ same t small)
+bitmap_octets-same p q same = grind (arith, common_steps, spelling_is, IsBitmap-bitmap_octets, IsShortest-bitmap_octets, contains_type-bitmap_octets)
 
 pub bitmap_octets-exact : (p q : ℕ → Bool) → bitmap_octets p ≡ bitmap_octets q → (t : ℕ) → t < 65536 → p t ≡ q t
 bitmap_octets-exact p q same t small = grind (arith, common_steps, (contains_type-bitmap_octets p t small), (contains_type-bitmap_octets q t small))
@@ -387,12 +329,11 @@ pub length-bitmap_octets : (types : ℕ → Bool) → length (bitmap_octets type
 unfolding bitmap_octets blocks_with
 length-bitmap_octets types = length-blocks_at (λ w. w) (window_octets types) 0 256 (are_windows types).fits
 
+pub ruleset shortest_laws = (IsShortest-bitmap_octets, built_from_shortest)
+
 pub ruleset built_steps = (bitmap_octets-same, IsBitmap-bitmap_octets)
 
 -- ---- a builder's blocks put together
-
-small_at : (value : List ℕ) → AreOctets value → (i : ℕ) → get_or value i 0 < 256
-small_at value small i = grind (arith, common_steps, (small i 0))
 
 drop_same : (xs ys : List ℕ) (n m : ℕ) → n ≤ m → drop n xs ≡ drop n ys → drop m xs ≡ drop m ys
 drop_same xs ys n m within same =
@@ -405,21 +346,14 @@ slot_blocks value n = flat_map (slot_block value) (range_with_len 0 n)
 
 pub slots-more : (value now : List ℕ) (n : ℕ) → drop (34 * n) now ≡ drop (34 * n) value
     → octets_of_blocks (slot_blocks value (n + 1)) ≡ octets_of_blocks (slot_blocks value n) ++ octets_of_blocks (slot_block now n)
-slots-more value now n same =
-    let first : get_or now (34 * n) 0 ≡ get_or value (34 * n) 0 = grind (arith, common_steps) in
-    rw (first, drop_same now value (34 * n) (34 * n + 2) (omega arith) same) (grind (arith, common_steps, range_more))
+slots-more value now n same = grind (arith, common_steps, drop_same, range_more)
 
 pub rest_more : (value now : List ℕ) (n : ℕ) → drop (34 * n) now ≡ drop (34 * n) value → drop (34 * (n + 1)) now ≡ drop (34 * (n + 1)) value
 rest_more value now n same = drop_same now value (34 * n) (34 * (n + 1)) (omega arith) same
 
 are_slots : (value : List ℕ) → AreSlots value → AreOctets value
     → Ascend (λ j. get_or value (34 * j) 0) (λ j. slice_range value (34 * j + 2) (34 * j + 34)) (length value / 34)
-are_slots value slots small = record {
-  ascend = λ j inside. omega (arith, slots.ascend j (j + 1) (omega arith) inside);
-  window = λ j inside. small_at value small (34 * j);
-  fits = λ j. grind (arith, common_steps);
-  small = λ j i. grind (arith, common_steps, (small_at value small));
-}
+are_slots value slots small = grind (arith, common_steps)
 
 slot_bit : (value : List ℕ) (t j : ℕ)
     → ((get_or value (34 * j) 0 == t / 256) && has_bit (slice_range value (34 * j + 2) (34 * j + 34)) t) ≡ block_holds value t j
@@ -445,29 +379,15 @@ module _ (slots : List ℕ) (end j len : ℕ) (before : end ≤ 34 * j) (inside 
   count : 34 * j + 2 + len - 34 * j ≡ suc (suc len)
   count = omega arith
 
-  drop-counted : drop (34 * j) counted ≡ get_or slots (34 * j) 0 ∷ len ∷ drop (34 * j + 2) slots
-  drop-counted = grind (arith, common_steps)
-
-  end_inside : end ≤ length counted
-  end_inside = grind (arith, common_steps)
-
   octets_inside : suc (suc len) ≤ length (drop (34 * j) counted)
   octets_inside = grind (arith, common_steps)
 
   pub rest-moved : drop (34 * (j + 1)) moved ≡ drop (34 * (j + 1)) slots
-  rest-moved = drop_same moved counted (end + suc (suc len)) _ (omega arith)
-      (rw count (drop-paste counted end (drop (34 * j) counted) (suc (suc len)) end_inside octets_inside)) ∙ grind (arith, common_steps)
+  rest-moved = grind (arith, common_steps, drop_same, count, drop-paste, octets_inside)
 
   pub take-moved : trimmed (slice_range slots (34 * j + 2) (34 * j + 34)) ≡ take len (slice_range slots (34 * j + 2) (34 * j + 34))
       → take (end + 2 + len) moved ≡ take end slots ++ octets_of_blocks (slot_block slots j)
-  take-moved cut =
-      let front : take end counted ≡ take end slots = grind (arith, common_steps) in
-      let whole : end + 2 + len ≡ end + suc (suc len) = omega arith in
-      let octets : take len (slice_range slots (34 * j + 2) (34 * j + 34)) ≡ take len (drop (34 * j + 2) slots) = grind (arith, common_steps) in
-      let long : length (take len (drop (34 * j + 2) slots)) ≡ len = grind (arith, common_steps) in
-      let written : octets_of_blocks (slot_block slots j) ≡ get_or slots (34 * j) 0 ∷ len ∷ take len (drop (34 * j + 2) slots) =
-      rw (cut, octets, block_is (get_or slots (34 * j) 0) (take len (drop (34 * j + 2) slots)) (omega (arith, long))) (grind (arith, common_steps)) in
-      rw (whole, count, take-paste counted end (drop (34 * j) counted) (suc (suc len)) end_inside octets_inside, front, drop-counted, written) refl
+  take-moved cut = grind (arith, common_steps, block_is, count, take-paste, octets_inside)
 
 pub ruleset pack_steps = (rest-moved, take-moved)
 

@@ -1,6 +1,6 @@
 -- Octets read as blocks, and why they are none.
-use Rattle.std.proofs.Common.{◌≡◌, ℕ, zero, suc, ◌+◌, ◌-◌, ◌*◌, ◌/◌, ◌%◌, ◌^◌, ◌<◌, ◌≤◌, true, false, List, [], ◌∷◌, ◌++◌, length, slice_index, get_or, take}
-use Rattle.std.proofs.{Common.{drop, refl, ap, ◌∙◌, subst, arith, length-drop}, lemmas.{List.{drop_at, length-take, get_or-drop}, Grind.common_steps}}
+use Rattle.std.proofs.Common.{◌≡◌, ℕ, zero, suc, ◌+◌, ◌-◌, ◌*◌, ◌/◌, ◌%◌, ◌^◌, ◌<◌, ◌≤◌, true, false, List, [], ◌∷◌, length, slice_index, get_or, take}
+use Rattle.std.proofs.{Common.{drop, refl, ap, ◌∙◌, subst, arith, length-drop}, lemmas.{List.{drop_at, length-take}, Grind.common_steps}}
 use Rattle.std.specs.List.{AllByRecursion, flat_map}
 use Rattle.domain_bitmap.{proofs.BitLemmas.{filter_none, bit_of-zero, bit_of-shl}, specs.Blocks.{Block, IsBlock, octets_of_blocks, blocks_within, blocks_of}}
 use Rattle.domain_bitmap.specs.Blocks.{IsBitmap, block_types_from, types_from, types_of, bit_of, has_bit, BitmapFault, bitmap_fault_of, FirstBlockFault}
@@ -12,27 +12,17 @@ use Rattle.domain_names.specs.Wire.{Fault}
 -- as many steps as there are octets are enough
 blocks_within-same : (m n : ℕ) (octets : List ℕ) → length octets ≤ m → length octets ≤ n → blocks_within m octets ≡ blocks_within n octets
 unfolding blocks_within
-blocks_within-same m n [] enough also = refl
-blocks_within-same m n (window ∷ []) enough also = refl
-blocks_within-same zero n (window ∷ len ∷ octets) enough also = absurd (omega (arith, enough))
-blocks_within-same (suc m) zero (window ∷ len ∷ octets) enough also = absurd (omega (arith, also))
-blocks_within-same (suc m) (suc n) (window ∷ len ∷ octets) enough also =
-    let short = length-drop len octets in
-    ap (λ blocks. record { window = window; octets = take len octets } ∷ blocks)
-    (blocks_within-same m n (drop len octets) (omega (arith, enough, short)) (omega (arith, also, short)))
+blocks_within-same (suc m) (suc n) (window ∷ len ∷ octets) enough also = grind (arith, common_steps, (blocks_within-same m n (drop len octets)))
+blocks_within-same m n octets enough also = grind (arith, common_steps)
 
 pub blocks_of-cons : (window len : ℕ) (octets : List ℕ)
     → blocks_of (window ∷ len ∷ octets) ≡ record { window = window; octets = take len octets } ∷ blocks_of (drop len octets)
 unfolding blocks_of blocks_within
-blocks_of-cons window len octets =
-    ap (λ blocks. record { window = window; octets = take len octets } ∷ blocks)
-    (blocks_within-same (suc (length octets)) _ (drop len octets) (omega (arith, length-drop len octets)) (omega arith))
+blocks_of-cons window len octets = grind (arith, common_steps, blocks_within-same, length-drop)
 
 pub nothing_at : (octets : List ℕ) → length octets < 2 → blocks_of octets ≡ []
 unfolding blocks_of blocks_within
-nothing_at [] short = refl
-nothing_at (window ∷ []) short = refl
-nothing_at (window ∷ len ∷ octets) short = absurd (omega (arith, short))
+nothing_at octets h1 = grind (arith, common_steps)
 
 -- the blocks are read back
 pub blocks_of-octets_of_blocks : (blocks : List Block) → blocks_of (octets_of_blocks blocks) ≡ blocks
@@ -53,17 +43,7 @@ pub record HasBlock (window len : ℕ) (octets : List ℕ) : Type 0 where
   pub rest : IsBitmap (drop len octets)
 
 pub block_at : (window len : ℕ) (octets : List ℕ) → IsBitmap (window ∷ len ∷ octets) → HasBlock window len octets
-block_at window len octets bitmap =
-    let blocks = blocks_of-cons window len octets in
-    let spelled = bitmap.spelled ∙ ap octets_of_blocks blocks in
-    let valid = subst (AllByRecursion IsBlock) blocks bitmap.valid in
-    let count : length (take len octets) ≡ len = cc in
-    let parts : octets ≡ take len octets ++ octets_of_blocks (blocks_of (drop len octets)) = cc in
-    record {
-      inside = omega (arith, count, length-take len octets);
-      first = valid.0;
-      rest = record { spelled = ap (drop len) parts ∙ drop_at (take len octets) _ len count; valid = valid.1 };
-    }
+block_at window len octets bitmap = grind (arith, common_steps, blocks_of-cons, octets_of_blocks, blocks_of, length-take, drop_at)
 
 pub block_before : (window len : ℕ) (octets : List ℕ) → HasBlock window len octets → IsBitmap (window ∷ len ∷ octets)
 block_before window len octets has = grind (arith, common_steps, blocks_of-cons)
@@ -102,10 +82,7 @@ clear_run : (block : Block) (place n : ℕ) → place + n ≤ 256
     → block_types_from block place ≡ block_types_from block (place + n)
 clear_run block place zero fits clear = ap (block_types_from block) (omega arith)
 clear_run block place (suc n) fits clear =
-    let moved : place + 1 + n ≡ place + suc n = omega arith in
-    types_skip block place (omega (arith, fits)) (clear place (omega arith) (omega arith))
-    ∙ clear_run block (place + 1) n (omega (arith, fits)) (λ k low high. clear k (omega (arith, low)) (omega (arith, high)))
-    ∙ ap (block_types_from block) moved
+    grind (arith, common_steps, types_skip, (clear_run block (place + 1) n (omega (arith, fits)) (λ k low high. clear k (omega arith) (omega arith))))
 
 -- what is left of an octet has no bits
 pub clear_at : (octets : List ℕ) (w place : ℕ) → place < 256 → get_or octets (place / 8) 0 * 2 ^ (place % 8) % 2 ^ 8 ≡ 0
@@ -119,8 +96,7 @@ clear_at octets w place inside none =
     ∙ ap (block_types_from (record { window = w; octets = octets })) moved
 
 pub types_from-blocks : (blocks : List Block) → types_from blocks 0 ≡ flat_map (λ block. block_types_from block 0) blocks
-types_from-blocks [] = refl
-types_from-blocks (block ∷ blocks) = refl
+types_from-blocks blocks = grind (arith, common_steps)
 
 pub types_from_start : (octets : List ℕ) → types_from (blocks_of octets) 0 ≡ types_of octets
 unfolding types_of
@@ -144,25 +120,21 @@ small_take xs n i small = grind (arith, common_steps, (small i))
 
 pub reading_goes : (octets rest : List ℕ) → Reading octets rest → 2 ≤ length rest → 0 < get_or rest 1 0 → get_or rest 1 0 ≤ 32
     → get_or rest 1 0 ≤ length (drop 2 rest) → Reading octets (drop (get_or rest 1 0) (drop 2 rest))
-reading_goes octets [] reading two some fits inside = absurd (omega (arith, two))
-reading_goes octets (window ∷ []) reading two some fits inside = absurd (omega (arith, two))
-reading_goes octets (window ∷ len ∷ tail) reading two some fits inside =
-    let count = length-take len tail in
-    let small : (i : ℕ) → get_or tail i 0 < 256 = λ i. reading.small (suc (suc i)) in
-    record {
-      bitmap = λ b. reading.bitmap (block_before window len tail (record {
-        inside = inside;
-        first = record {
-          window = reading.small 0;
-          not_empty = omega (arith, count);
-          fits = omega (arith, count);
-          bounded = λ i. small_take tail len i small;
-        };
-        rest = b;
-      }));
-      fault = λ e f. reading.fault e (after window len tail e some fits inside f);
-      small = λ i. rw (get_or-drop len tail i 0) (small (len + i));
-    }
+reading_goes octets (window ∷ len ∷ tail) reading two some fits inside = record {
+  bitmap = λ b. reading.bitmap (block_before window len tail (record {
+    inside = inside;
+    first = record {
+      window = reading.small 0;
+      not_empty = grind (arith, common_steps);
+      fits = grind (arith, common_steps);
+      bounded = λ i. small_take tail len i (λ k. reading.small (suc (suc k)));
+    };
+    rest = b;
+  }));
+  fault = λ e f. reading.fault e (after window len tail e some fits inside f);
+  small = λ i. grind (arith, common_steps, (reading.small (suc (suc (len + i)))));
+}
+reading_goes octets rest reading two some fits inside = absurd (grind (arith, common_steps))
 
 pub nothing_left : (rest : List ℕ) → length rest ≡ 0 → IsBitmap rest
 nothing_left [] none = IsBitmap-octets_of_blocks [] tt

@@ -1,8 +1,7 @@
 -- octets after an octet that counts them
-use Rattle.std.proofs.{Common.{true, false, inr, ◌≤◌, ◌≡◌, ℕ, ◌<◌, List, length, ap, refl, arith}}
+use Rattle.std.proofs.{Common.{true, false, ◌≤◌, ◌≡◌, ℕ, ◌<◌, List, length, ap, arith}}
 use Rattle.std.{proofs.lemmas.Grind.common_steps, specs.Prelude.{◌↔◌, Option, Result, Ok, IsErrOf}}
 use Rattle.domain_names.specs.{declared.error.ScanError.{ScanError, TheVariants.ShortBuf}, Text.{ScanFault, illegal}}
-use Rattle.domain_octets.specs.Octets.{HasRoom}
 use Rattle.domain_codecs.specs.{Codec.Decodes, declared.codec.Codec.Codec}
 use Rattle.domain_base.specs.Scan.{CodecFault, TokenHasNoRoom, TakesToken, RefusesToken, ended, refused}
 use Rattle.domain_bitmap.specs.Text.{CountedFault, IsCutShort}
@@ -16,18 +15,9 @@ pub refused_too_long : {X : Type 0} (codec : Codec) (long : List ℕ) (limit : O
     (r : Result X ScanError) → r ≡ Ok x → TakesToken (λ token. Decodes codec token octets) old new
     → IsErrOf r ShortBuf ↔ TokenHasNoRoom codec limit old → (length octets ≤ 255 → false ≡ true)
     → RefusesToken (CountedFault codec long limit) old new (illegal long)
-refused_too_long codec long limit old new octets x r is took no_room counted =
-    let room : HasRoom limit (length octets) = grind (arith, common_steps) in
-    let over : 255 < length octets = grind (arith, common_steps) in
-    rw took.first (refused took.token new (illegal long) (inr (record { octets = octets; decoded = took.holds; room = room; long = over }, refl)))
-
-counted_fault : (codec : Codec) (long : List ℕ) (limit : Option ℕ) (fault : ScanFault) (token : List ℕ)
-    → CodecFault codec limit fault token → CountedFault codec long limit fault token
-counted_fault codec long limit fault token bad = grind (arith, common_steps)
+refused_too_long codec long limit old new octets x r is took no_room counted = grind (arith, common_steps, refused, illegal)
 
 -- a token that the codec refused
 pub refused_by_codec : (codec : Codec) (long : List ℕ) (limit : Option ℕ) (old new : List (List ℕ)) (fault : ScanFault)
     → RefusesToken (CodecFault codec limit) old new fault → RefusesToken (CountedFault codec long limit) old new fault
-refused_by_codec codec long limit old new fault ended = ended
-refused_by_codec codec long limit old new fault (refused token left why_fault why) =
-    refused token left why_fault (counted_fault codec long limit why_fault token why)
+refused_by_codec codec long limit old new fault h1 = grind (arith, common_steps, ended, refused)

@@ -1,11 +1,11 @@
 -- Sets of types, salts and hashes as tokens: read back what was written, refused for one reason.
 use Rattle.std.proofs.Common.{◌≡◌, ◌≢◌, ℕ, ◌+◌, ◌*◌, ◌/◌, ◌<◌, false, List, [], ◌∷◌, length, refl, arith, Option, ◌≤◌, drop, sym, ap, ◌∙◌, codes, ◌-◌, Bool}
-use Rattle.std.{proofs.{Common.{true, ◌++◌, zero, suc, map, eq-eqb, append_assoc}, lemmas.Grind.common_steps}, specs.Prelude.{◌||◌, ◌==◌, if◌then◌else◌}}
+use Rattle.std.{proofs.{Common.{◌++◌, zero, suc, map, eq-eqb, append_assoc}, lemmas.Grind.common_steps}, specs.Prelude.{◌||◌, ◌==◌, if◌then◌else◌}}
 use Rattle.std.specs.{Prelude.{IsNone, filter, ◌&&◌, ◌%◌, Ok, Err}, List.{range_with_len, AllByRecursion, All, flat_map}}
 use Rattle.std.proofs.lemmas.{Bool.Decides.nat_tests, List.append-nil, Map.Views.any-filter_same}
-use Rattle.domain_base.{specs.{Numbers.{TypeText, IsNoType, type_text}, Scan.{RefusesToken, ended, refused, TakesToken}}, proofs.TextLemmas.no_token}
+use Rattle.domain_base.{specs.{Numbers.{TypeText, IsNoType, type_text}, Scan.{RefusesToken, refused, TakesToken}}, proofs.TextLemmas.no_token}
 use Rattle.domain_base.proofs.TextLemmas.{one_named, type_back, type_word}
-use Rattle.domain_names.specs.Text.{ScanFault, no_room, no_memory, scan_fault_of, scan_error_of, illegal, IsOfTokens}
+use Rattle.domain_names.specs.Text.{ScanFault, no_memory, scan_fault_of, scan_error_of, illegal, IsOfTokens}
 use Rattle.domain_octets.specs.{Octets.IsOver, declared.error.AppendError.{AppendError, TheVariants.{ShortBuf, OutOfMemory}}, Text.{words_of, words_after}}
 use Rattle.domain_octets.{specs.Text.IsWord, proofs.{WordLemmas.{one_word, next_word, last_space}, StdLemmas.and_true}}
 use Rattle.domain_bitmap.specs.Blocks.{holds, has_window, has_bit, Block, IsBlock, IsBitmap, IsShortest, blocks_of, block_types_from, types_of, types_below}
@@ -15,7 +15,7 @@ use Rattle.domain_bitmap.{specs.{Text.{after_dash, in_digits, spaced_types, type
 use Rattle.domain_bitmap.proofs.BitmapLemmas.{bitmap_octets-same, built_from_shortest, types_of-bitmap_octets}
 use Rattle.domain_codecs.{specs.{Codec.Decodes, declared.codec.Codec.TheVariants.{Base16, Base32Hex}}, proofs.CodecBackLemmas.{upper_back, decodes_once}}
 use Rattle.domain_codecs.{proofs.CodecLemmas.upper_hex_word, specs.declared.codec.Codec.Codec}
-use Rattle.hex.specs.{Hex.{encode_upper, encode_with, decode_pairs}, declared.error.FromHexError.TheVariants.OddLength}
+use Rattle.hex.specs.{Hex.{decode_pairs}, declared.error.FromHexError.TheVariants.OddLength}
 
 -- ---- types read from tokens
 
@@ -70,31 +70,18 @@ scan_goes old now rest value after token t scanned first spells small held windo
 pub scan_ends : (old now : List (List ℕ)) (value : List ℕ) → Scanned old now value → now ≡ []
     → (types : List ℕ) × TypeTexts old types × ((t : ℕ) → t < 65536 → holds value t ≡ is_among types t)
 unfolding is_among
-scan_ends old now value scanned none =
-    let all = scanned.spelled [] (rw none no_types) in
-    (all.0, all.1, λ t small. grind (arith, common_steps, (all.2 t), (scanned.held t small)))
-
-no_type : (limit : Option ℕ) (types : List ℕ) (fault : ScanFault) (token : List ℕ) → IsNoType fault token → TypeFault limit types fault token
-no_type limit types fault token why = grind (arith, common_steps)
+scan_ends old now value scanned none = grind (arith, common_steps, no_types)
 
 pub scan_refused : (limit : Option ℕ) (old now rest : List (List ℕ)) (value : List ℕ) (fault : ScanFault) → Scanned old now value
     → now ≢ [] → RefusesToken IsNoType now rest fault → RefusesTypes limit old rest fault
-scan_refused limit old now rest value fault scanned some ended = absurd (some refl)
-scan_refused limit old now rest value fault scanned some (refused token left why_fault why) =
-    scanned.refused_later limit left why_fault (next scanned.read token left why_fault (no_type limit scanned.read why_fault token why))
+scan_refused limit old now rest value fault h1 h2 h3 = grind (arith, common_steps, next)
 
 -- a type for which the builder has no room, or no memory
 pub scan_full : (limit : Option ℕ) (old now rest : List (List ℕ)) (value : List ℕ) (token : List ℕ) (t : ℕ) (error : AppendError)
     → Scanned old now value → now ≡ token ∷ rest → TypeText token t → t < 65536
     → (error ≡ ShortBuf → (has_window value (t / 256) ≡ false) × IsOver limit (length value + 34))
     → (error ≡ OutOfMemory → IsNone limit) → RefusesTypes limit old rest (scan_fault_of (scan_error_of error))
-scan_full limit old now rest value token t ShortBuf scanned first spells small short memory =
-    let full = short refl in
-    let room : room_for (t ∷ scanned.read) ≡ length value + 34 =
-    grind (arith, common_steps, (room-more scanned.read t small), (scanned.windows (t / 256)), scanned.room) in
-    scanned.refused_later limit rest no_room (rw first (next scanned.read token rest no_room (t, spells, rw room full.1)))
-scan_full limit old now rest value token t OutOfMemory scanned first spells small short memory =
-    scanned.refused_later limit rest no_memory (rw first (next scanned.read token rest no_memory ((t, spells), memory refl)))
+scan_full limit old now rest value token t error h1 h2 h3 h4 h5 h6 = grind (arith, common_steps, room-more, next)
 
 pub none_left : (tokens : List (List ℕ)) → (tokens ≢ [] → ⊥) → tokens ≡ []
 none_left [] not_some = refl
@@ -116,25 +103,16 @@ pub refused_dash : (limit : Option ℕ) (old new : List (List ℕ)) (token : Lis
     → RefusesToken (SaltTokenFault limit) old new (illegal (codes "illegal NSEC3 salt"))
 refused_dash limit old new token first past begins more = rw (gone_past old new first.0 token first.1 past) (refused token new _ (after_dash token begins more))
 
--- digits
-not_dash : (token : List ℕ) → (BeginsWithDash token → ⊥) → token ≢ codes "-"
-not_dash [] other is = cc
-not_dash (c ∷ rest) other is = other (cc)
-
 pub took_digits : (old new : List (List ℕ)) (token salt : List ℕ) → (rest : List (List ℕ)) × (old ≡ token ∷ rest)
     → (BeginsWithDash token → ⊥) → TakesToken (λ t. Decodes Base16 t salt) old new → length salt ≤ 255
     → TakesToken (λ t. SaltText t salt) old new
-took_digits old new token salt first other took counted = grind (arith, common_steps, not_dash, digits)
+took_digits old new token salt first other took counted = grind (arith, common_steps, digits)
 
 pub refused_digits : (limit : Option ℕ) (old new : List (List ℕ)) (token : List ℕ) (fault : ScanFault)
     → (rest : List (List ℕ)) × (old ≡ token ∷ rest) → (BeginsWithDash token → ⊥)
     → RefusesToken (CountedFault Base16 (codes "illegal NSEC3 salt") limit) old new fault
     → RefusesToken (SaltTokenFault limit) old new fault
-refused_digits limit old new token fault first other ended = absurd (let none = first.1 in cc)
-refused_digits limit old new token fault first other (refused read left why_fault why) =
-    let both = first.1 in
-    let same : read ≡ token = cc in
-    refused read left why_fault (in_digits why_fault read (rw same other) why)
+refused_digits limit old new token fault rest h1 h2 = grind (arith, common_steps, refused, in_digits)
 
 pub ruleset salt_steps = (no_token, took_dash, refused_digits)
 
@@ -177,9 +155,7 @@ pub spaced_words : (front types : List ℕ) → AreTypes types → words_of (fro
 unfolding spaced_types
 spaced_words front [] small = ap words_of (append-nil front) ∙ sym (append-nil (words_of front))
 spaced_words front (t ∷ types) small =
-    ap words_of (sym (append_assoc front (32 ∷ []) _) ∙ sym (append_assoc (front ++ 32 ∷ []) (type_text t) (spaced_types types)))
-    ∙ spaced_words ((front ++ 32 ∷ []) ++ type_text t) types small.1 ∙ ap (λ l. l ++ map type_text types) (next_word front _ (type_word t small.0))
-    ∙ append_assoc (words_of front) (type_text t ∷ []) (map type_text types)
+    grind (arith, common_steps, append_assoc, next_word, type_word, (spaced_words ((front ++ 32 ∷ []) ++ type_text t) types small.1))
 
 -- words, and types after a space
 pub types_after : (front types : List ℕ) → AreTypes types → words_of ((front ++ 32 ∷ []) ++ types_text types) ≡ words_of front ++ map type_text types
@@ -189,42 +165,29 @@ types_after front (t ∷ types) small = ap words_of (append_assoc front (32 ∷ 
 
 types_words : (types : List ℕ) → AreTypes types → words_of (types_text types) ≡ map type_text types
 unfolding types_text words_after
-types_words [] small = refl
-types_words (t ∷ types) small = grind (arith, common_steps, spaced_words, one_word, type_word)
+types_words types h1 = grind (arith, common_steps, spaced_words, one_word, type_word)
 
 pub types_back : (octets : List ℕ) → IsBitmap octets → TypeTexts (words_of (types_text (types_of octets))) (types_of octets)
 types_back octets bitmap = grind (arith, common_steps, are_types, types_words, texts_spell)
 
 -- ---- the bitmap of these types
 
-number_at : (test : ℕ → Bool) (t u : ℕ) → (t == u) ≡ true → test u ≡ test t
-number_at test t u same = let e : u ≡ t = grind (arith, nat_tests) in ap test e
-
 among_below : (types : ℕ → Bool) (n t : ℕ) → t < n → is_among (types_below n types) t ≡ types t
 unfolding is_among types_below
 among_below types n t below =
-    any-filter_same _ types _ (λ u same. number_at types t u same) _
+    any-filter_same _ types _ (λ u same. let e : u ≡ t = grind (arith, nat_tests) in ap types e) _
     ∙ ap (λ b. types t && b) (any_at _ n t below (eq-eqb t t refl)) ∙ and_true _
 
 among_built : (types : ℕ → Bool) (n t : ℕ) → n ≡ 65536 → t < 65536 → is_among (types_of (bitmap_octets types)) t ≡ types t
 among_built types n t all small = grind (arith, common_steps, types_of-bitmap_octets, among_below)
 
 pub bitmap_back : (octets : List ℕ) → IsBitmap octets → IsShortest octets → bitmap_octets (is_among (types_of octets)) ≡ octets
-bitmap_back octets bitmap shortest =
-    let built = built_from_shortest octets bitmap shortest in
-    let types = contains_type octets in
-    bitmap_octets-same _ types (λ t small. ap (λ o. is_among (types_of o) t) built ∙ among_built types 65536 t refl small) ∙ sym built
+bitmap_back octets bitmap shortest = grind (arith, common_steps, built_from_shortest, contains_type, bitmap_octets-same, is_among, types_of, among_built)
 
 -- ---- salts
 
-no_dash : (octet : ℕ) (octets : List ℕ) → encode_upper (octet ∷ octets) ≢ codes "-"
-unfolding encode_with
-no_dash octet octets = λ same. cc
-
 pub salt_back : (octets : List ℕ) → All (λ octet. octet < 256) octets → length octets ≤ 255 → SaltText (salt_text octets) octets
-salt_back [] small counted = dash (codes "-") refl
-salt_back (octet ∷ octets) small counted =
-    digits (encode_upper (octet ∷ octets)) (octet ∷ octets) (no_dash octet octets) (upper_back _ small) counted
+salt_back octets h1 h2 = grind (arith, common_steps, dash, digits, upper_back)
 
 pub salt_word : (octets : List ℕ) → IsWord (salt_text octets)
 salt_word [] = record { some = λ none. cc; unbroken = (refl, tt) }
@@ -236,9 +199,7 @@ salt_word (octet ∷ octets) = upper_hex_word (octet ∷ octets) (λ none. cc)
 
 type_fault : (limit : Option ℕ) (types : List ℕ) (fault : ScanFault) (token : List ℕ) → TypeFault limit types fault token
     → IsOfTokens limit fault → IsNoType fault token
-type_fault limit types no_room token why own = grind (arith, common_steps)
-type_fault limit types no_memory token why own = absurd own
-type_fault limit types _ token why own = why
+type_fault limit types fault token h1 h2 = grind (arith, common_steps)
 
 pub types_refused : (limit : Option ℕ) (read : List ℕ) (old new : List (List ℕ)) (types : List ℕ) (fault : ScanFault)
     → RefusesAfter limit read old new fault → TypeTexts old types → IsOfTokens limit fault → ⊥
@@ -248,14 +209,11 @@ types_refused limit read old new types fault (later r token u toks left f spells
 
 pub types_one_fault : (limit : Option ℕ) (read others : List ℕ) (old m n : List (List ℕ)) (x y : ScanFault) → RefusesAfter limit read old m x
     → RefusesAfter limit others old n y → IsOfTokens limit x → IsOfTokens limit y → (x ≡ y) × (m ≡ n)
-types_one_fault limit read others old m n x y (next r token left f why) (next s tok rest g reason) own also =
-    grind (arith, common_steps, (type_fault limit r f token why own), (type_fault limit s g token reason also))
-types_one_fault limit read others old m n x y (next r token left f why) (later s tok t toks rest g spells reason) own also =
-    absurd ((type_fault limit r f token why own).none t spells)
-types_one_fault limit read others old m n x y (later r token t toks left f spells why) (next s tok rest g reason) own also =
-    absurd ((type_fault limit s g token reason also).none t spells)
-types_one_fault limit read others old m n x y (later r token t toks left f spells why) (later s tok u tokens rest g spelled reason) own also =
-    types_one_fault limit (t ∷ r) (u ∷ s) toks left rest f g why reason own also
+types_one_fault limit read others old m n x y (next r token left f why) (next s tok rest g also) h h4 = grind (arith, common_steps, type_fault)
+types_one_fault limit read others old m n x y (next r token left f why) (later s tok t toks rest g is also) h h4 = grind (arith, common_steps, type_fault)
+types_one_fault limit read others old m n x y (later r token t toks left f is why) (next s tok rest g also) h h4 = grind (arith, common_steps, type_fault)
+types_one_fault limit read others old m n x y (later r token t toks left f spells why) (later s tok u tokens rest g spelled also) h h4 =
+    grind (arith, common_steps, (types_one_fault limit (t ∷ r) (u ∷ s) toks left rest f g why also h h4))
 
 -- ---- octets that an octet counts
 

@@ -28,6 +28,7 @@ pub fn built_bitmaps_give_their_types()
 
 /// Octets that are a list of blocks are those of a builder exactly where their windows ascend
 /// strictly and no block ends in a zero octet.
+#[tactic(auto, using(crate::proofs::BitmapLemmas::shortest_laws))]
 pub fn built_bitmaps_are_shortest()
     ensures { (octets : Octets) → IsBitmap octets
         → ((types : ℕ → Bool) × (octets ≡ bitmap_octets types)) ↔ IsShortest octets }
