@@ -82,14 +82,7 @@ module _ (a x : Name) (k l : Link) (alike : IsAlike k l) where
   is_cover_alike = grind (arith, common_steps, (covers_alike k.owner l.owner k.next l.next x), (owners alike), (nexts alike))
 
   pub says_alike : matches_or_covers before k.owner k.next x ≡ matches_or_covers before l.owner l.next x
-  says_alike =
-      grind (
-        arith,
-        common_steps,
-        (before_left k.owner l.owner x (owners alike)),
-        (before_right x k.owner l.owner (owners alike)),
-        (covers_alike k.owner l.owner k.next l.next x (owners alike) (nexts alike)),
-      )
+  says_alike = grind (arith, common_steps, before_left, owners, before_right, covers_alike, nexts)
 
 -- ---- lists
 

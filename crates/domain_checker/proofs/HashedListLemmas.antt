@@ -14,7 +14,7 @@ use Rattle.domain_bitmap.{proofs.BitLemmas.{any_at, any_none as any_missing}, sp
 use Rattle.domain_zone.proofs.PairLemmas.{from_map, in_at, in_map, in_pairs, stands_from, Stands, any_none, find_none, find_some, in_filter, In, all_in}
 use Rattle.domain_zone.proofs.NameLemmas.{same_itself, one_lowered, below_itself, below_trans, below_longer, below_length, below_parent, strictly_longer}
 use Rattle.domain_zone.{proofs.{NameLemmas.{strictly_from, same_length}, WalkLemmas.{in_any, any_in, typed_owns}}, specs.Covering.{matches, covers}}
-use Rattle.domain_zone.specs.{Covering.matches_or_covers, Enclosers.exists_over, Zone.{ZoneRecord, has_type, owns, records_of}}
+use Rattle.domain_zone.specs.{Covering.matches_or_covers, Enclosers.exists_over, Zone.{ZoneRecord, has_type, records_of}}
 use Rattle.domain_nsec3.{proofs.ChainLemmas.hash_same, specs.Chain.{HashedLink, HashedName, IsOfChain, cycle, ends, ends_of, hashed_owner, ChainConfig}}
 use Rattle.domain_nsec3.specs.{Chain.{Parameters, Hash, hash_name, is_chain_name, nsec3_lists, original_owners, is_original_owner}, Meaning.AreAlone}
 use Rattle.domain_nsec3.specs.Meaning.{IsAlone, IsMatchedOrCoveredOnce, IsRecordOf, octets_before, IsNextCloser}
@@ -401,10 +401,7 @@ module _ (L : List ZoneRecord) (a : Name) (config : ChainConfig) where
 
   -- an original owner name has RRSIG or NS
   some_listed : (x : Name) → is_original_owner L a config x ≡ true → (nsec3_lists L a config x rrsig ≡ true) ⊎ (nsec3_lists L a config x ns ≡ true)
-  some_listed x h =
-      let m = any_in _ _ h in
-      let owned : owns L x ≡ true = owner_owns _ L a m.0 x (in_filter _ _ m.0 m.1).0 m.2 in
-      grind (arith, common_steps)
+  some_listed x h = grind (arith, common_steps, any_in, owner_owns, in_filter)
 
   -- a name of the chain that is no original owner lists nothing
   pub empty_lists : (x : Name) → is_chain_name L a config x ≡ true → is_original_owner L a config x ≡ false → (t : ℕ) → nsec3_lists L a config x t ≡ false
