@@ -219,5 +219,4 @@ module _ (L : List ZoneRecord) (a : Name) (config : ChainConfig) (x : Name) (t :
 
 -- records of a list are, but for these, records of it
 pub hashed_contained_alike : (links ks : List HashedLink) → All (Contains links) ks → All (IsPairedIn IsHashedAlike links) ks
-hashed_contained_alike = paired_in IsHashedAlike
-    (λ k. record { owner = same_itself k.owner k.owner refl; next = refl; parameters = refl; flags = refl; bits = refl })
+hashed_contained_alike = grind (arith, common_steps, paired_in, same_itself)

@@ -1,5 +1,5 @@
 -- What the records of an NSEC3 chain say of the hash of a name that no other name of the chain has, and of the names from it up to the apex.
-use Rattle.std.proofs.Common.{◌≡◌, ℕ, ◌+◌, ◌*◌, ◌/◌, ◌%◌, ◌<◌, ◌≤◌, true, false, [], ◌∷◌, length, drop, arith, Bool, not, ◌&&◌, ◌||◌, List, map, refl, sym}
+use Rattle.std.proofs.Common.{◌≡◌, ℕ, ◌+◌, ◌*◌, ◌/◌, ◌%◌, ◌<◌, ◌≤◌, true, false, [], ◌∷◌, length, drop, arith, Bool, not, ◌&&◌, List, map, refl, sym}
 use Rattle.std.proofs.Common.{ap, ◌∙◌, subst, eq-eqb, Some, slice_get, ◌-◌, zero, suc, inl, inr, Option, None, ◌⊎◌, cond, nat_eq}
 use Rattle.std.proofs.lemmas.{Bool.{and_parts, not-true, or_left, or_right, cases_Bool, and_from, false≢true}, Grind.common_steps}
 use Rattle.std.{proofs.lemmas.List.{drop_all, length-drop, Elements.recursion_from_All, Sums.list_all-from_AllPass}, specs.Option.option_map_or}
@@ -134,10 +134,7 @@ module _ {L : List ZoneRecord} {a : Name} {config : ChainConfig} {links : List H
         rw alone.known (in_any (is_hash_match a config.parameters v) links one.link one_in (rw one_hash (one.matched ∙ sym (facts.exist d low) ∙ there)))
 
     pub whole_covers : exists_over (original_owners L a config) a d ≡ false → is_covered (chain_records a config links) d ≡ true
-    whole_covers gone =
-        let other : matches octets_before one.hash v ≡ false = one.matched ∙ sym (facts.exist d low) ∙ gone in
-        let covered : covers octets_before one.hash one.link.next v ≡ true = sym (λ j. other j || covers octets_before one.hash one.link.next v) ∙ one.says in
-        rw alone.known (in_any (is_hash_cover a config.parameters v) links one.link one_in (rw one_hash covered))
+    whole_covers gone = grind (arith, common_steps, (one.matched ∙ sym (facts.exist d low) ∙ gone), one, in_any, one_in, one_hash)
 
     -- a record of it, and the one that says something of d
     module _ (k : HashedLink) (there : Contains links k) where
@@ -206,9 +203,7 @@ wire_above l x = grind (arith, common_steps)
 module _ (hash : Hash) (test : Octets → HashedLink → Bool) (listed : List HashedLink) (y : Name) (v : Octets) (known : hash_name hash y ≡ Ok v) where
   pub heard : (k : HashedLink) → find (test v) listed ≡ Some k
       → In k listed × (test v k ≡ true) × (is_ok_with (λ u. list_any (test u) listed) (hash_name hash y) ≡ true)
-  heard k e =
-      let f = find_some (test v) listed k e in
-      (f.0, f.1, ap (is_ok_with (λ u. list_any (test u) listed)) known ∙ in_any (test v) listed k f.0 f.1)
+  heard k e = grind (arith, common_steps, (find_some (test v) listed k e), in_any)
 
   pub unheard : find (test v) listed ≡ None → is_ok_with (λ u. list_any (test u) listed) (hash_name hash y) ≡ false
   unheard e = ap (is_ok_with (λ u. list_any (test u) listed)) known ∙ any_none (test v) listed (find_none (test v) listed e)
