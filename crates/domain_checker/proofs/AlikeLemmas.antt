@@ -82,14 +82,7 @@ module _ (a x : Name) (k l : Link) (alike : IsAlike k l) where
   is_cover_alike = grind (arith, common_steps, (covers_alike k.owner l.owner k.next l.next x), (owners alike), (nexts alike))
 
   pub says_alike : matches_or_covers before k.owner k.next x ≡ matches_or_covers before l.owner l.next x
-  says_alike =
-      grind (
-        arith,
-        common_steps,
-        (before_left k.owner l.owner x (owners alike)),
-        (before_right x k.owner l.owner (owners alike)),
-        (covers_alike k.owner l.owner k.next l.next x (owners alike) (nexts alike)),
-      )
+  says_alike = grind (arith, common_steps, before_left, owners, before_right, covers_alike, nexts)
 
 -- ---- lists
 
@@ -226,5 +219,4 @@ module _ (L : List ZoneRecord) (a : Name) (config : ChainConfig) (x : Name) (t :
 
 -- records of a list are, but for these, records of it
 pub hashed_contained_alike : (links ks : List HashedLink) → All (Contains links) ks → All (IsPairedIn IsHashedAlike links) ks
-hashed_contained_alike = paired_in IsHashedAlike
-    (λ k. record { owner = same_itself k.owner k.owner refl; next = refl; parameters = refl; flags = refl; bits = refl })
+hashed_contained_alike = grind (arith, common_steps, paired_in, same_itself)

@@ -60,10 +60,7 @@ module _ (names : List Name) (a : Name) where
 
   -- closest enclosers have as many labels
   pub closest_alike : (x e d : Name) → IsClosestEncloser names a x e → IsClosestEncloser names a x d → length e ≡ length d
-  closest_alike x e d h k =
-      let p = h.longest d k.found k.above in
-      let q = k.longest e h.found h.above in
-      omega arith
+  closest_alike x e d h k = grind (arith, common_steps, (h.longest d k.found k.above), (k.longest e h.found h.above))
 
 -- ---- names that occlude
 
@@ -141,10 +138,7 @@ module _ (L : List ZoneRecord) (a : Name) (config : ChainConfig) where
   module _ (cuts : CutsEnclose L a config) where
     pub cut_apart : (c y : Name) → is_zone_cut L a c ≡ true → is_original_owner L a config c ≡ true
         → exists_over (original_owners L a config) a y ≡ true → is_strictly_below y c ≡ true → ⊥
-    cut_apart c y cut original there s =
-        let l = (cuts.each c y cut original s).longest y there (below_itself y) in
-        let m = strictly_longer y c s in
-        omega arith
+    cut_apart c y cut original there s = grind (arith, common_steps, ((cuts.each c y cut original s).longest y there (below_itself y)), (strictly_longer y c s), cut, original, below_itself)
 
     pub not_below : (y : Name) → exists_over (original_owners L a config) a y ≡ true → is_below_chain_cut L a config y ≡ false
     not_below y there =

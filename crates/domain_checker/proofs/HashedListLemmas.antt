@@ -1,5 +1,5 @@
 -- What the records of an NSEC3 chain say of the hash of a name that no other name of the chain has, and of the names from it up to the apex.
-use Rattle.std.proofs.Common.{◌≡◌, ℕ, ◌+◌, ◌*◌, ◌/◌, ◌%◌, ◌<◌, ◌≤◌, true, false, [], ◌∷◌, length, drop, arith, Bool, not, ◌&&◌, ◌||◌, List, map, refl, sym}
+use Rattle.std.proofs.Common.{◌≡◌, ℕ, ◌+◌, ◌*◌, ◌/◌, ◌%◌, ◌<◌, ◌≤◌, true, false, [], ◌∷◌, length, drop, arith, Bool, not, ◌&&◌, List, map, refl, sym}
 use Rattle.std.proofs.Common.{ap, ◌∙◌, subst, eq-eqb, Some, slice_get, ◌-◌, zero, suc, inl, inr, Option, None, ◌⊎◌, cond, nat_eq}
 use Rattle.std.proofs.lemmas.{Bool.{and_parts, not-true, or_left, or_right, cases_Bool, and_from, false≢true}, Grind.common_steps}
 use Rattle.std.{proofs.lemmas.List.{drop_all, length-drop, Elements.recursion_from_All, Sums.list_all-from_AllPass}, specs.Option.option_map_or}
@@ -14,7 +14,7 @@ use Rattle.domain_bitmap.{proofs.BitLemmas.{any_at, any_none as any_missing}, sp
 use Rattle.domain_zone.proofs.PairLemmas.{from_map, in_at, in_map, in_pairs, stands_from, Stands, any_none, find_none, find_some, in_filter, In, all_in}
 use Rattle.domain_zone.proofs.NameLemmas.{same_itself, one_lowered, below_itself, below_trans, below_longer, below_length, below_parent, strictly_longer}
 use Rattle.domain_zone.{proofs.{NameLemmas.{strictly_from, same_length}, WalkLemmas.{in_any, any_in, typed_owns}}, specs.Covering.{matches, covers}}
-use Rattle.domain_zone.specs.{Covering.matches_or_covers, Enclosers.exists_over, Zone.{ZoneRecord, has_type, owns, records_of}}
+use Rattle.domain_zone.specs.{Covering.matches_or_covers, Enclosers.exists_over, Zone.{ZoneRecord, has_type, records_of}}
 use Rattle.domain_nsec3.{proofs.ChainLemmas.hash_same, specs.Chain.{HashedLink, HashedName, IsOfChain, cycle, ends, ends_of, hashed_owner, ChainConfig}}
 use Rattle.domain_nsec3.specs.{Chain.{Parameters, Hash, hash_name, is_chain_name, nsec3_lists, original_owners, is_original_owner}, Meaning.AreAlone}
 use Rattle.domain_nsec3.specs.Meaning.{IsAlone, IsMatchedOrCoveredOnce, IsRecordOf, octets_before, IsNextCloser}
@@ -134,10 +134,7 @@ module _ {L : List ZoneRecord} {a : Name} {config : ChainConfig} {links : List H
         rw alone.known (in_any (is_hash_match a config.parameters v) links one.link one_in (rw one_hash (one.matched ∙ sym (facts.exist d low) ∙ there)))
 
     pub whole_covers : exists_over (original_owners L a config) a d ≡ false → is_covered (chain_records a config links) d ≡ true
-    whole_covers gone =
-        let other : matches octets_before one.hash v ≡ false = one.matched ∙ sym (facts.exist d low) ∙ gone in
-        let covered : covers octets_before one.hash one.link.next v ≡ true = sym (λ j. other j || covers octets_before one.hash one.link.next v) ∙ one.says in
-        rw alone.known (in_any (is_hash_cover a config.parameters v) links one.link one_in (rw one_hash covered))
+    whole_covers gone = grind (arith, common_steps, (one.matched ∙ sym (facts.exist d low) ∙ gone), one, in_any, one_in, one_hash)
 
     -- a record of it, and the one that says something of d
     module _ (k : HashedLink) (there : Contains links k) where
@@ -206,9 +203,7 @@ wire_above l x = grind (arith, common_steps)
 module _ (hash : Hash) (test : Octets → HashedLink → Bool) (listed : List HashedLink) (y : Name) (v : Octets) (known : hash_name hash y ≡ Ok v) where
   pub heard : (k : HashedLink) → find (test v) listed ≡ Some k
       → In k listed × (test v k ≡ true) × (is_ok_with (λ u. list_any (test u) listed) (hash_name hash y) ≡ true)
-  heard k e =
-      let f = find_some (test v) listed k e in
-      (f.0, f.1, ap (is_ok_with (λ u. list_any (test u) listed)) known ∙ in_any (test v) listed k f.0 f.1)
+  heard k e = grind (arith, common_steps, (find_some (test v) listed k e), in_any)
 
   pub unheard : find (test v) listed ≡ None → is_ok_with (λ u. list_any (test u) listed) (hash_name hash y) ≡ false
   unheard e = ap (is_ok_with (λ u. list_any (test u) listed)) known ∙ any_none (test v) listed (find_none (test v) listed e)
@@ -401,10 +396,7 @@ module _ (L : List ZoneRecord) (a : Name) (config : ChainConfig) where
 
   -- an original owner name has RRSIG or NS
   some_listed : (x : Name) → is_original_owner L a config x ≡ true → (nsec3_lists L a config x rrsig ≡ true) ⊎ (nsec3_lists L a config x ns ≡ true)
-  some_listed x h =
-      let m = any_in _ _ h in
-      let owned : owns L x ≡ true = owner_owns _ L a m.0 x (in_filter _ _ m.0 m.1).0 m.2 in
-      grind (arith, common_steps)
+  some_listed x h = grind (arith, common_steps, any_in, owner_owns, in_filter)
 
   -- a name of the chain that is no original owner lists nothing
   pub empty_lists : (x : Name) → is_chain_name L a config x ≡ true → is_original_owner L a config x ≡ false → (t : ℕ) → nsec3_lists L a config x t ≡ false

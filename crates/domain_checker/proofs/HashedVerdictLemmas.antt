@@ -1,6 +1,6 @@
 -- What is known of a name and its closest encloser where, of the name and its ancestors, one is the first that a record of a zone's chain matches;
 -- and that what a list of records of an NSEC3 chain says is what it proves.
-use Rattle.std.proofs.Common.{◌≡◌, ℕ, ◌+◌, ◌<◌, true, false, not, List, length, sym, ap, ◌∙◌, inl, inr, ◌⊎◌, arith, rules, ◌≢◌, ◌≤◌, ◌&&◌, ◌||◌, refl, subst}
+use Rattle.std.proofs.Common.{◌≡◌, ℕ, ◌+◌, ◌<◌, true, false, not, List, length, sym, ap, ◌∙◌, inl, inr, ◌⊎◌, arith, rules, ◌≢◌, ◌&&◌, ◌||◌, refl, subst}
 use Rattle.std.{proofs.Common.{Option, Some, None}, specs.{List.{Contains, list_any}, Option.option_map_or, Prelude.Ok}}
 use Rattle.std.proofs.lemmas.{Bool.{cases_Bool, false_from_ne_true, false≢true, true_from_ne_false, and_parts, and_from, or_parts}, Grind.common_steps}
 use Rattle.domain_octets.{proofs.StdLemmas.or_true, specs.Octets.Octets}
@@ -261,10 +261,7 @@ module _ (R : HashedRecords) (x : Name) (t : ℕ) where
   -- the number is that of the labels of an ancestor
   found_within : (found : Option Encloser) → IsFoundEncloser R x found → IsWithin (length x) (found_verdict R.apex found (length x) t)
   found_within None is = tt
-  found_within (Some e) is =
-      let l = below_length x is.name is.first.above in
-      let n : e.count ≤ length x = rw is.counts l in
-      grind (arith, common_steps)
+  found_within (Some e) is = grind (arith, common_steps, below_length)
 
   pub walked_within : (verdict : Verdict) → IsWalked R x t verdict → IsWithin (length x) verdict
   walked_within verdict w = subst (IsWithin (length x)) (sym w.says) (found_within w.found w.is)
@@ -289,11 +286,7 @@ walked_proved knows R x t verdict b low w = λ L config links hash parameters ch
 pub whole_chain_proves : ChainsAreKnown → (L : List ZoneRecord) (a : Name) (config : ChainConfig) (links : List HashedLink)
     (x : Name) (t : ℕ) → IsHashedChain L a config links → AreAlone L a config x
     → hashed_proved_verdict L a config links x t ≡ hashed_zone_verdict L a config x t
-whole_chain_proves knows L a config links x t chain free =
-    elim (cases_Bool (is_at_or_below x a)) [
-      | inl e ↦ rw (e, whole_proves (knows L a config links chain) x e free) refl
-      | inr e ↦ rw e refl
-    ]
+whole_chain_proves knows L a config links x t chain free = grind (arith, common_steps, cases_Bool, whole_proves)
 
 -- a zone has a verdict on every name and type
 pub hashed_zone_says : (L : List ZoneRecord) (a : Name) (config : ChainConfig) (x : Name) (t : ℕ) → hashed_zone_verdict L a config x t ≢ NotProven

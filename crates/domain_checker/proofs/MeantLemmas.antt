@@ -260,11 +260,7 @@ module _ (a : Name) (listed : List Link) (x : Name) (t : ℕ) where
 
   -- a closest encloser has no more labels than the name
   reading_within : IsWithin (length x) (reading a listed x t)
-  reading_within =
-      choose_by (IsWithin (length x)) (is_at_or_below x a) (list_verdict a listed x t) OutsideZone
-      (λ low. either_found (λ m c. IsWithin (length x) (verdict_of_both a x t m c)) (find (is_match a x) listed) (find (is_cover a x) listed)
-      (λ e f. tt) (λ k e. grind (arith, common_steps)) (λ k e. grind (arith, common_steps, shared_within)))
-      (λ out. tt)
+  reading_within = grind (arith, common_steps, choose_by, either_found, shared_within)
 
 pub reading_checked : NsecChainsAreKnown → (listed : List Link) (a x : Name) (t : ℕ) → t < 65536 → IsChecked listed a x t (reading a listed x t)
 reading_checked knows listed a x t b = record {

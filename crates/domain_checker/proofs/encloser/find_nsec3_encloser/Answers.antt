@@ -1,6 +1,5 @@
-use Rattle.std.proofs.{Common.{◌∙◌, sym, ap, subst, None, arith}, lemmas.Grind.common_steps}
-use Rattle.domain_names.specs.Name.{lowered, wire_of}
-use Rattle.domain_checker.proofs.HashedListLemmas.{outside_unmatched, IsReached, encloser_there, missed_there, none_left, reached_first, reached_on}
+use Rattle.std.proofs.{Common.{◌∙◌, sym, None, arith}, lemmas.Grind.common_steps}
+use Rattle.domain_checker.proofs.HashedListLemmas.{outside_unmatched, encloser_there, missed_there, none_left, reached_first, reached_on}
 use Rattle.domain_checker.{proofs.HashedListLemmas.{refused_there, wire_above}, specs.HashedVerdict.hashed_records}
 use Rattle.domain_checker.proofs.encloser.find_nsec3_encloser.Goals as goal
 
@@ -10,14 +9,7 @@ returns-then-not-ends_with-clause-found g c =
     outside_unmatched R _ (sym c.ends_with.ensures.value ∙ c.if-not-ends_with.true)
 
 pub names-init : goal.names-init
-names-init g c =
-    let R = hashed_records (g.A.ToName.labels c.args.apex.now) g.N.ToName.labels (g.H.Nsec3Hasher.answer c.args.hasher.now) c.args.records.now in
-    let x = g.M.ToName.labels c.args.name.now in
-    let same = sym c.as_parsed-left.ensures in
-    record {
-      wire = c.lower_wire-octets.ensures.octets ∙ ap (λ n. wire_of (lowered n)) same;
-      reached = subst (λ n. IsReached R x n None) same (reached_first R x (sym c.ends_with.ensures.value ∙ c.if-not-ends_with.false));
-    }
+names-init g c = grind (arith, common_steps, (g.M.ToName.labels c.args.name.now), reached_first)
 
 pub returns-in_err-matching-clause-refusal : goal.returns-in_err-matching-clause-refusal
 returns-in_err-matching-clause-refusal g c n e = refused_there _ _ _ _ c.names.invariant.reached _ c.names.invariant.wire n (grind (arith, common_steps))

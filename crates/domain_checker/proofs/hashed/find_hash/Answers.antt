@@ -6,13 +6,7 @@ pub returns-then-is_eq : goal.returns-then-is_eq
 returns-then-is_eq g c = grind (arith, common_steps, tied_is)
 
 pub loop-listed-preserved-then-is_some : goal.loop-listed-preserved-then-is_some
-loop-listed-preserved-then-is_some g c = record {
-  matching = grind (arith, common_steps, tied_is);
-  covering = grind (arith, common_steps);
-}
+loop-listed-preserved-then-is_some g c = grind (arith, common_steps, tied_is)
 
 pub loop-listed-preserved : goal.loop-listed-preserved
-loop-listed-preserved g c = record {
-  matching = grind (arith, common_steps, tied_is);
-  covering = grind (arith, common_steps);
-}
+loop-listed-preserved g c = grind (arith, common_steps, tied_is)

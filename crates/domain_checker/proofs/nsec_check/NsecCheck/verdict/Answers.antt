@@ -1,4 +1,4 @@
-use Rattle.std.proofs.{Common.{◌≡◌, ◌<◌, ◌∙◌, ℕ, List, subst, arith}, lemmas.Grind.common_steps}
+use Rattle.std.proofs.{Common.{◌≡◌, ℕ, List, arith}, lemmas.Grind.common_steps}
 use Rattle.domain_names.specs.Name.{Name}
 use Rattle.domain_nsec.specs.Chain.{Link}
 use Rattle.domain_checker.{proofs.{MeantLemmas.handed_in, nsec_check.NsecCheck.verdict.Goals.After-to_int-number}, specs.Reading.{HasRead, IsChecked}}
@@ -8,9 +8,7 @@ use Rattle.domain_checker.proofs.nsec_check.NsecCheck.verdict.Goals as goal
 -- what the records say is what is promised
 checked : (c : After-to_int-number) (a x : Name) (t : ℕ) (listed : List Link) → HasRead a x t listed c.args.self.now → (verdict : Verdict)
     → reading a listed x t ≡ verdict → IsChecked listed a x t verdict
-checked c a x t listed h verdict is =
-    let short : t < 65536 = subst (λ n. n < 65536) (c.to_int-number.ensures ∙ h.rtype) c.to_int-number.type_inv in
-    subst (IsChecked listed a x t) is (c.readings_are_proved.ensures listed a x t short)
+checked c a x t listed h verdict is = grind (arith, common_steps)
 
 pub returns-then-not-ends_with : goal.returns-then-not-ends_with
 returns-then-not-ends_with c a x t listed h =
