@@ -19,6 +19,7 @@ pub fn covering_ignores_case()
 
 /// The zone of records that are in order, as sorted records of one class are, has owners that never
 /// descend.
+#[tactic(auto, using(std::proofs::lemmas::Grind::common_steps, crate::proofs::WalkLemmas::owners_in_order))]
 pub fn owners_never_descend<N: ToName, D: ZoneData>()
     ensures { (records : List (Record N D)) → IsInOrder N.labels D.rtype records
         → OwnersNeverDescend (zone_of N.labels D.rtype D.minimum records) }
