@@ -186,6 +186,7 @@ where
 }
 
 /// What is said of a text that is not decoded.
+#[tactic(auto, using(std::proofs::lemmas::Grind::common_steps, domain_codecs::proofs::RefusalLemmas::refused_char, domain_codecs::proofs::RefusalLemmas::refused_length))]
 fn refusal(error: DecodeError) -> ScanError
     ensures fault { (codec : Codec) (limit : Option ℕ) (text : Octets)
         → DecodeFault codec limit text error → CodecFault codec limit (scan_fault_of result) text }
