@@ -112,7 +112,7 @@ pub refused_digits : (limit : Option ℕ) (old new : List (List ℕ)) (token : L
     → (rest : List (List ℕ)) × (old ≡ token ∷ rest) → (BeginsWithDash token → ⊥)
     → RefusesToken (CountedFault Base16 (codes "illegal NSEC3 salt") limit) old new fault
     → RefusesToken (SaltTokenFault limit) old new fault
-refused_digits limit old new token fault first other ended = grind (arith, common_steps, refused, in_digits)
+refused_digits limit old new token fault first other bad = grind (arith, common_steps, refused, in_digits)
 
 pub ruleset salt_steps = (no_token, took_dash, refused_digits)
 
