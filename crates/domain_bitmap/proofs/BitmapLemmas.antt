@@ -42,9 +42,6 @@ module _ (value : List ℕ) (p r : ℕ) (inside : p < length value / 34) (window
   abbrev after : List ℕ
   after = set value at (bit_or (get_or value at 0) (2 ^ (7 - r % 8)))
 
-  kept : (k : ℕ) → k ≢ at → get_or after k 0 ≡ get_or value k 0
-  kept k other = grind (arith, common_steps)
-
   here : (t : ℕ) → block_holds after t p ≡ ((t == r) || block_holds value t p)
   here t = grind (arith, common_steps, nat_tests, bit_of-set)
 
