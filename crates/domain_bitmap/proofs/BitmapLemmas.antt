@@ -42,9 +42,6 @@ module _ (value : List ℕ) (p r : ℕ) (inside : p < length value / 34) (window
   abbrev after : List ℕ
   after = set value at (bit_or (get_or value at 0) (2 ^ (7 - r % 8)))
 
-  kept : (k : ℕ) → k ≢ at → get_or after k 0 ≡ get_or value k 0
-  kept k other = grind (arith, common_steps)
-
   here : (t : ℕ) → block_holds after t p ≡ ((t == r) || block_holds value t p)
   here t = grind (arith, common_steps, nat_tests, bit_of-set)
 
@@ -165,7 +162,7 @@ form-more low w (x ∷ xs) blocks lower small of_window form = record {
 }
 
 block_is : (w : ℕ) (octets : List ℕ) → 0 < length octets → block_if_any w octets ≡ record { window = w; octets = octets } ∷ []
-block_is w octets h1 = grind (arith, common_steps)
+block_is w octets some = grind (arith, common_steps)
 
 -- ---- the types of such blocks
 
@@ -184,7 +181,7 @@ none_below (block ∷ blocks) low t short below = grind (arith, common_steps, (n
 
 pub in-more : (w : ℕ) (octets : List ℕ) (blocks : List Block) (t : ℕ) → AreShortest (w + 1) blocks
     → in_first_block (block_if_any w octets ++ blocks) t ≡ (if w == t / 256 then has_bit octets t else in_first_block blocks t)
-in-more w octets blocks t h1 = grind (arith, common_steps, none_below, has_bit-none)
+in-more w octets blocks t short = grind (arith, common_steps, none_below, has_bit-none)
 
 -- ---- one spelling
 
@@ -257,8 +254,9 @@ has_bit-window types t = grind (arith, common_steps, get_or-window_octets, bit_o
 
 trimmed_window : (types : ℕ → Bool) (xs : List ℕ) (w : ℕ) → w < 256 → OfWindow xs → ((t : ℕ) → t < 65536 → t / 256 ≡ w → has_bit xs t ≡ types t)
     → trimmed (window_octets types w) ≡ xs
-trimmed_window types xs w small of_window same = same_octets _ xs w (of_window-trimmed (window_octets types w) (grind (arith, length-window_octets)) (bounded types w))
-    of_window (λ t here. grind (arith, common_steps, has_bit-trimmed, has_bit-window, (same t)))
+trimmed_window types xs w small of_window same =
+    same_octets _ xs w (of_window-trimmed (window_octets types w) (grind (arith, length-window_octets)) (bounded types w)) of_window
+    (λ t here. grind (arith, common_steps, has_bit-trimmed, has_bit-window, (same t)))
 
 -- blocks in that form are those of their types, window by window
 spelled : (types : ℕ → Bool) (blocks : List Block) (a n : ℕ) → a + n ≡ 256 → InForm a blocks

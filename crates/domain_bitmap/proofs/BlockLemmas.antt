@@ -22,7 +22,7 @@ blocks_of-cons window len octets = grind (arith, common_steps, blocks_within-sam
 
 pub nothing_at : (octets : List ℕ) → length octets < 2 → blocks_of octets ≡ []
 unfolding blocks_of blocks_within
-nothing_at octets h1 = grind (arith, common_steps)
+nothing_at octets short = grind (arith, common_steps)
 
 -- the blocks are read back
 pub blocks_of-octets_of_blocks : (blocks : List Block) → blocks_of (octets_of_blocks blocks) ≡ blocks

@@ -20,4 +20,4 @@ refused_too_long codec long limit old new octets x r is took no_room counted = g
 -- a token that the codec refused
 pub refused_by_codec : (codec : Codec) (long : List ℕ) (limit : Option ℕ) (old new : List (List ℕ)) (fault : ScanFault)
     → RefusesToken (CodecFault codec limit) old new fault → RefusesToken (CountedFault codec long limit) old new fault
-refused_by_codec codec long limit old new fault h1 = grind (arith, common_steps, ended, refused)
+refused_by_codec codec long limit old new fault bad = grind (arith, common_steps, ended, refused)

@@ -74,14 +74,14 @@ scan_ends old now value scanned none = grind (arith, common_steps, no_types)
 
 pub scan_refused : (limit : Option ℕ) (old now rest : List (List ℕ)) (value : List ℕ) (fault : ScanFault) → Scanned old now value
     → now ≢ [] → RefusesToken IsNoType now rest fault → RefusesTypes limit old rest fault
-scan_refused limit old now rest value fault h1 h2 h3 = grind (arith, common_steps, next)
+scan_refused limit old now rest value fault scanned some ended = grind (arith, common_steps, next)
 
 -- a type for which the builder has no room, or no memory
 pub scan_full : (limit : Option ℕ) (old now rest : List (List ℕ)) (value : List ℕ) (token : List ℕ) (t : ℕ) (error : AppendError)
     → Scanned old now value → now ≡ token ∷ rest → TypeText token t → t < 65536
     → (error ≡ ShortBuf → (has_window value (t / 256) ≡ false) × IsOver limit (length value + 34))
     → (error ≡ OutOfMemory → IsNone limit) → RefusesTypes limit old rest (scan_fault_of (scan_error_of error))
-scan_full limit old now rest value token t error h1 h2 h3 h4 h5 h6 = grind (arith, common_steps, room-more, next)
+scan_full limit old now rest value token t error scanned first spells small short memory = grind (arith, common_steps, room-more, next)
 
 pub none_left : (tokens : List (List ℕ)) → (tokens ≢ [] → ⊥) → tokens ≡ []
 none_left [] not_some = refl
@@ -112,7 +112,7 @@ pub refused_digits : (limit : Option ℕ) (old new : List (List ℕ)) (token : L
     → (rest : List (List ℕ)) × (old ≡ token ∷ rest) → (BeginsWithDash token → ⊥)
     → RefusesToken (CountedFault Base16 (codes "illegal NSEC3 salt") limit) old new fault
     → RefusesToken (SaltTokenFault limit) old new fault
-refused_digits limit old new token fault rest h1 h2 = grind (arith, common_steps, refused, in_digits)
+refused_digits limit old new token fault first other bad = grind (arith, common_steps, refused, in_digits)
 
 pub ruleset salt_steps = (no_token, took_dash, refused_digits)
 
@@ -165,7 +165,7 @@ types_after front (t ∷ types) small = ap words_of (append_assoc front (32 ∷ 
 
 types_words : (types : List ℕ) → AreTypes types → words_of (types_text types) ≡ map type_text types
 unfolding types_text words_after
-types_words types h1 = grind (arith, common_steps, spaced_words, one_word, type_word)
+types_words types small = grind (arith, common_steps, spaced_words, one_word, type_word)
 
 pub types_back : (octets : List ℕ) → IsBitmap octets → TypeTexts (words_of (types_text (types_of octets))) (types_of octets)
 types_back octets bitmap = grind (arith, common_steps, are_types, types_words, texts_spell)
@@ -187,7 +187,7 @@ bitmap_back octets bitmap shortest = grind (arith, common_steps, built_from_shor
 -- ---- salts
 
 pub salt_back : (octets : List ℕ) → All (λ octet. octet < 256) octets → length octets ≤ 255 → SaltText (salt_text octets) octets
-salt_back octets h1 h2 = grind (arith, common_steps, dash, digits, upper_back)
+salt_back octets small counted = grind (arith, common_steps, dash, digits, upper_back)
 
 pub salt_word : (octets : List ℕ) → IsWord (salt_text octets)
 salt_word [] = record { some = λ none. cc; unbroken = (refl, tt) }
@@ -199,7 +199,7 @@ salt_word (octet ∷ octets) = upper_hex_word (octet ∷ octets) (λ none. cc)
 
 type_fault : (limit : Option ℕ) (types : List ℕ) (fault : ScanFault) (token : List ℕ) → TypeFault limit types fault token
     → IsOfTokens limit fault → IsNoType fault token
-type_fault limit types fault token h1 h2 = grind (arith, common_steps)
+type_fault limit types fault token why own = grind (arith, common_steps)
 
 pub types_refused : (limit : Option ℕ) (read : List ℕ) (old new : List (List ℕ)) (types : List ℕ) (fault : ScanFault)
     → RefusesAfter limit read old new fault → TypeTexts old types → IsOfTokens limit fault → ⊥
@@ -209,11 +209,11 @@ types_refused limit read old new types fault (later r token u toks left f spells
 
 pub types_one_fault : (limit : Option ℕ) (read others : List ℕ) (old m n : List (List ℕ)) (x y : ScanFault) → RefusesAfter limit read old m x
     → RefusesAfter limit others old n y → IsOfTokens limit x → IsOfTokens limit y → (x ≡ y) × (m ≡ n)
-types_one_fault limit read others old m n x y (next r token left f why) (next s tok rest g also) h h4 = grind (arith, common_steps, type_fault)
-types_one_fault limit read others old m n x y (next r token left f why) (later s tok t toks rest g is also) h h4 = grind (arith, common_steps, type_fault)
-types_one_fault limit read others old m n x y (later r token t toks left f is why) (next s tok rest g also) h h4 = grind (arith, common_steps, type_fault)
-types_one_fault limit read others old m n x y (later r token t toks left f spells why) (later s tok u tokens rest g spelled also) h h4 =
-    grind (arith, common_steps, (types_one_fault limit (t ∷ r) (u ∷ s) toks left rest f g why also h h4))
+types_one_fault limit read others old m n x y (next r token left f why) (next s tok rest g also) own known = grind (arith, common_steps, type_fault)
+types_one_fault limit read others old m n x y (next r token left f why) (later s tok t toks rest g is also) own known = grind (arith, common_steps, type_fault)
+types_one_fault limit read others old m n x y (later r token t toks left f is why) (next s tok rest g also) own known = grind (arith, common_steps, type_fault)
+types_one_fault limit read others old m n x y (later r token t toks left f spells why) (later s tok u tokens rest g spelled also) own known =
+    grind (arith, common_steps, (types_one_fault limit (t ∷ r) (u ∷ s) toks left rest f g why also own known))
 
 -- ---- octets that an octet counts
 

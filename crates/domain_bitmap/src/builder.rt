@@ -1,4 +1,4 @@
-//! The blocks that a builder holds: 34 octets each, at multiples of 34.
+//! The blocks that a builder holds: 34 octets each, in the order of their windows.
 ghost use Rattle.std.specs.Prelude.{◌≡◌, ◌+◌, ◌*◌, ◌/◌, ◌<◌, ◌≤◌, ◌++◌, ◌↔◌, false, length, take, drop};
 ghost use Rattle.std.specs.Prelude.{IfErr, ◌-◌, ◌^◌, slice_index, slice_set, bit_or, ℕ, ◌%◌, ◌∷◌, replicate};
 ghost use Rattle.std.specs.Prelude.{◌||◌, ◌==◌, [], OnOk, OnErr, IfOk, if◌then◌else◌, IsErrOf, IsNone};
@@ -17,7 +17,7 @@ use std::alloc::Global;
 use std::marker::Model;
 
 /// The octets of a block in a builder: its window, its length, and the 32 octets of the window.
-pub(crate) const SLOT: usize = 34;
+const SLOT: usize = 34;
 
 /// The place of a window's block, or the one where it would stand.
 #[tactic(auto, using(std::proofs::lemmas::Grind::common_steps, crate::proofs::BitmapLemmas::find_steps))]
@@ -63,9 +63,9 @@ fn insert_at<B: OctetsBuilder>(buffer: &mut B, at: usize, slice: &[u8]) -> Resul
     Ok(())
 }
 
-#[tactic(auto, using(crate::proofs::BitLemmas::trim_steps))]
 /// How many octets are left without the zero octets at the end.
-pub(crate) fn used_len(octets: &[u8]) -> usize
+#[tactic(auto, using(crate::proofs::BitLemmas::trim_steps))]
+fn used_len(octets: &[u8]) -> usize
     ensures trimmed { trimmed octets.now ≡ take result octets.now }
     ensures within { result ≤ length octets.now }
 {
