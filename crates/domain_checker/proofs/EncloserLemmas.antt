@@ -138,7 +138,8 @@ module _ (L : List ZoneRecord) (a : Name) (config : ChainConfig) where
   module _ (cuts : CutsEnclose L a config) where
     pub cut_apart : (c y : Name) → is_zone_cut L a c ≡ true → is_original_owner L a config c ≡ true
         → exists_over (original_owners L a config) a y ≡ true → is_strictly_below y c ≡ true → ⊥
-    cut_apart c y cut original there s = grind (arith, common_steps, ((cuts.each c y cut original s).longest y there (below_itself y)), (strictly_longer y c s), cut, original, below_itself)
+    cut_apart c y cut original there s =
+        grind (arith, common_steps, ((cuts.each c y cut original s).longest y there (below_itself y)), (strictly_longer y c s))
 
     pub not_below : (y : Name) → exists_over (original_owners L a config) a y ≡ true → is_below_chain_cut L a config y ≡ false
     not_below y there =

@@ -10,31 +10,17 @@ pub token_exact : {V : Type 0} (IsOwn : ScanFault → Type 0) (spells : List ℕ
     → ((text : List ℕ) (v w : V) → spells text v → spells text w → v ≡ w)
     → ((fault : ScanFault) (text : List ℕ) (v : V) → Why fault text → spells text v → IsOwn fault → ⊥)
     → ((x y : ScanFault) (text : List ℕ) → Why x text → Why y text → IsOwn x → IsOwn y → x ≡ y) → IsExact IsOwn (OneToken spells) (RefusesToken Why)
-token_exact IsOwn spells Why once none one = record {
-  once = grind (arith, common_steps);
-  apart = token_excludes Why IsOwn spells none;
-  one_fault = token_one_fault Why IsOwn one;
-}
+token_exact IsOwn spells Why once none one = grind (arith, common_steps, token_excludes, token_one_fault)
 
 -- one grammar after another
 pub both_exact : {V W : Type 0} (IsOwn : ScanFault → Type 0) (A : Grammar V) (B : Grammar W) (RA RB : Refusal)
     → IsExact IsOwn A RA → IsExact IsOwn B RB → IsExact IsOwn (Both A B) (RefusesBoth A RA RB)
-both_exact IsOwn A B RA RB a b =
-    let first = a.apart in let second = b.apart in let once = a.once in let then = b.once in let one = a.one_fault in let other = b.one_fault in
-    record {
-      once = grind (arith, common_steps);
-      apart = λ old new after v fault h is own. grind (arith, common_steps);
-      one_fault = λ old m n x y h h8 own also. grind (arith, common_steps);
-    }
+both_exact IsOwn A B RA RB a b = grind (arith, common_steps)
 
 -- where fewer reasons count as their own
 pub exact_for : {V : Type 0} {IsOwn Fewer : ScanFault → Type 0} (G : Grammar V) (R : Refusal) → ((fault : ScanFault) → Fewer fault → IsOwn fault)
     → IsExact IsOwn G R → IsExact Fewer G R
-exact_for G R own exact = record {
-  once = exact.once;
-  apart = λ old new after v fault why is fewer. exact.apart old new after v fault why is (own fault fewer);
-  one_fault = λ old m n x y p q fewer also. exact.one_fault old m n x y p q (own x fewer) (own y also);
-}
+exact_for G R own exact = grind (arith, common_steps)
 
 -- fields and then octets, which all tokens that are left spell together
 module _ {V : Type 0} (G : Grammar V) (once : ReadsOnce G) (codec : Codec) (old : List (List ℕ)) (v w : V) (x y : List ℕ)

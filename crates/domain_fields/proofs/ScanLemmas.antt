@@ -1,6 +1,6 @@
 -- Data as text: tokens spell one list of values at most, and what was written is read back.
 use Rattle.std.proofs.Common.{arith, ◌≡◌, ℕ, List, [], ◌++◌, sym, ap, ◌∙◌, Some, None, Option, lit≤, true, ◌∷◌, refl, subst, append_assoc}
-use Rattle.std.{proofs.{lemmas.{Grind.common_steps, List.append-nil}, NetLemmas.Ipv4.read_ipv4_complete}, specs.Net.{Grammar.IsDotted, Reader.read_ipv4}}
+use Rattle.std.{proofs.{lemmas.{Grind.common_steps, List.append-nil}, NetLemmas.Ipv4.read_ipv4_complete}, specs.Net.Grammar.IsDotted}
 use Rattle.std.{proofs.lemmas.Bool.and_parts, specs.List.{AllByRecursion, join_with_byte}}
 use Rattle.domain_names.{proofs.TextLemmas.one_name, specs.Text.{ScanFault, IsOfTokens}}
 use Rattle.domain_base.{proofs.TextLemmas.{token_one_fault, name_excludes, name_one_fault, number_back, dotted_name_back, name_word}, specs.Scan.Grammar}
@@ -27,8 +27,7 @@ field_one_fault f limit x y text p q = grind (arith, common_steps, name_one_faul
 -- one field of one token is refused for one reason
 pub one_field_one_fault : (f : Field) (limit : Option ℕ) (old m n : List (List ℕ)) (x y : ScanFault)
     → Refuses limit (one f) old m x → Refuses limit (one f) old n y → (x ≡ y) × (m ≡ n)
-one_field_one_fault f limit old m n x y p q =
-    token_one_fault (FieldTextFault limit f) (λ fault. Unit {0}) (λ x y text p q own also. field_one_fault f limit x y text p q) old m n x y p q tt tt
+one_field_one_fault f limit old m n x y p q = grind (arith, common_steps, token_one_fault, field_one_fault)
 
 abbrev address_read : Option (List ℕ × List ℕ) → List ℕ
 address_read None = []
@@ -36,10 +35,7 @@ address_read (Some found) = found.0
 
 -- a text is one address at most
 one_address : (text xs ys : List ℕ) → IsDotted text xs → IsDotted text ys → xs ≡ ys
-one_address text xs ys x y =
-    let first : read_ipv4 (text ++ []) ≡ Some (xs, []) = read_ipv4_complete text xs [] x (lit≤ tt) in
-    let second : read_ipv4 (text ++ []) ≡ Some (ys, []) = read_ipv4_complete text ys [] y (lit≤ tt) in
-    sym (ap address_read first) ∙ ap address_read second
+one_address text xs ys x y = grind (arith, common_steps, (read_ipv4_complete text xs [] x (lit≤ tt)), (read_ipv4_complete text ys [] y (lit≤ tt)))
 
 field_once : (f : Field) (text : List ℕ) (v w : Value f) → FieldText f text v → FieldText f text w → v ≡ w
 field_once (exactly count) text v w x y = one_address text v w x.0 y.0
@@ -109,10 +105,8 @@ words_and_text (word ∷ next ∷ words) text all plain = first_word word _ all.
 pub entry_line : {V : Type 0} (G : Grammar V) (codec : Codec) (words : List (List ℕ)) (v : V) (text octets : List ℕ) → AllByRecursion IsWord words
     → HasNoBlank text → G (words ++ word_if_any text) v (word_if_any text) → Decodes codec text octets
     → Spells G codec (words_of (join_with_byte 32 (words ++ text ∷ []))) v octets
-entry_line G codec words v text octets all plain fields decoded =
-    subst (λ tokens. Spells G codec tokens v octets) (sym (words_and_text words text all plain)) (entry_back G codec _ v text octets fields decoded)
+entry_line G codec words v text octets all plain fields decoded = grind (arith, common_steps, words_and_text, entry_back)
 
 pub fields_entry_line : (l : Layout) (codec : Codec) (v : Values l) (text octets : List ℕ) → is_printed l ≡ true → Fits l v → HasNoBlank text
     → Decodes codec text octets → Spells (Scans l) codec (words_of (join_with_byte 32 (printed l v ++ text ∷ []))) v octets
-fields_entry_line l codec v text octets is fits plain decoded =
-    entry_line (Scans l) codec (printed l v) v text octets (fields_words l v is fits) plain (fields_back l v (word_if_any text) is fits) decoded
+fields_entry_line l codec v text octets is fits plain decoded = grind (arith, common_steps, entry_line, fields_words, fields_back)

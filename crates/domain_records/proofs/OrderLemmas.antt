@@ -246,8 +246,7 @@ module _ {N D : Type 0} (labels : N → List (List ℕ)) (rtype : D → ℕ) whe
 -- neighbours that a test passes have a relation that chains: then all pairs have it, and the other way round
 run_iff_pairs : {X : Type 0} (same : X → X → Bool) (P : X → X → Type 0) → ((x y : X) → same x y ≡ true → P x y) → ((x y : X) → P x y → same x y ≡ true)
     → ((x y z : X) → P x y → P y z → P x z) → (xs : List X) → HoldsOfNeighbours same xs ↔ HoldsPairwise P xs
-run_iff_pairs same P means from chain xs =
-    (λ h. pairs_from_neighbours P chain xs (λ k d lt. means _ _ (h k d lt)), λ h k d lt. from _ _ (pair_at P xs k (k + 1) d h (omega arith) lt))
+run_iff_pairs same P means from chain xs = grind (arith, common_steps, pairs_from_neighbours, pair_at)
 
 module _ {N D : Type 0} (rs : List (Record N D)) where
   pub one_class : HoldsOfNeighbours same_class rs ↔ IsOneClass rs
@@ -298,11 +297,7 @@ module _ {X : Type 0} {R : X → X → Ordering} (o : IsTotalOrder R) (xs : List
   -- of two that are equal to x, the one that comes first is the earlier
   earlier : (x : X) (j k : ℕ) → j < k → k < length places → is_eq (R (key j) x) ≡ true → is_eq (R (key k) x) ≡ true → get_or places j 0 < get_or places k 0
   unfolding compared_places
-  earlier x j k lt below p q =
-      let tie : R (key j) (key k) ≡ Equal = sym (alike_right o x (key k) (key j) (tied_back o (key k) x ((Equal-is (R (key k) x)).0 q)))
-      ∙ (Equal-is (R (key j) x)).0 p in
-      let less = both j k lt below in
-      grind (arith, nat_tests)
+  earlier x j k lt below p q = grind (arith, common_steps, (both j k lt below), nat_tests)
 
   module _ (ys : List X) (put : IsArranged xs places ys) where
     at : (k : ℕ) (e : X) → k < length ys → get_or ys k e ≡ key k

@@ -1,4 +1,6 @@
 use Rattle.std.proofs.Common.{sym}
+use Rattle.std.proofs.Common.{arith}
+use Rattle.std.proofs.lemmas.Grind.{common_steps}
 use Rattle.domain_record.specs.Record.{record_cmp_total}
 use Rattle.domain_records.proofs.{OrderLemmas.sorted_remove, GroupLemmas.{none_left, first_left}}
 use Rattle.domain_records.proofs.sorted.SortedRecords.remove_first_by_name_class_rtype.Goals as goal
@@ -10,8 +12,7 @@ invariant_of-self g c =
     rw c.remove.ensures.items (sorted_remove o _ _ within c.self.invariant)
 
 pub returns-in-Some-clause-kept : goal.returns-in-Some-clause-kept
-returns-in-Some-clause-kept g c =
-    rw (c.remove.ensures.items, ← c.self.view_is) (sym (first_left _ _ _ (rw c.deref.ensures.value at c.in-Some.ensures)).0)
+returns-in-Some-clause-kept g c = grind (arith, common_steps, first_left)
 
 pub returns-in-None-clause-kept : goal.returns-in-None-clause-kept
 returns-in-None-clause-kept g c = rw (← c.self.view_is) (sym (none_left _ _ (rw c.deref.ensures.value at c.in-None.ensures)).1)
