@@ -18,7 +18,11 @@ same_whole : (l : Layout) (v w : Values l) (r s : List ℕ) → splits l ≡ tru
     → octets_of l v ++ r ≡ octets_of l w ++ s → Same v w r s
 unfolding octets_of
 same_whole (one f) v w r s d fv fw er es e = last_field f v w r s fv fw er es e
-same_whole (a ▸ b) v w r s d fv fw er es e = grind (arith, common_steps, (same_data a v.0 w.0 (octets_of b v.1 ++ r) (octets_of b w.1 ++ s) (first_so (is_delimited a) (splits b) d) fv.0 fw.0 (sym (append_assoc (octets_of a v.0) (octets_of b v.1) r) ∙ e ∙ append_assoc (octets_of a w.0) (octets_of b w.1) s)), (same_whole b v.1 w.1 r s (second_so (is_delimited a) (splits b) d) fv.1 fw.1 er.1 es.1 (same_data a v.0 w.0 (octets_of b v.1 ++ r) (octets_of b w.1 ++ s) (first_so (is_delimited a) (splits b) d) fv.0 fw.0 (sym (append_assoc (octets_of a v.0) (octets_of b v.1) r) ∙ e ∙ append_assoc (octets_of a w.0) (octets_of b w.1) s)).after))
+same_whole (a ▸ b) v w r s d fv fw er es e =
+    let first = same_data a v.0 w.0 (octets_of b v.1 ++ r) (octets_of b w.1 ++ s) (first_so (is_delimited a) (splits b) d) fv.0 fw.0
+    (sym (append_assoc (octets_of a v.0) (octets_of b v.1) r) ∙ e ∙ append_assoc (octets_of a w.0) (octets_of b w.1) s) in
+    let second = same_whole b v.1 w.1 r s (second_so (is_delimited a) (splits b) d) fv.1 fw.1 er.1 es.1 first.after in
+    record { values = λ i. (first.values i, second.values i); after = second.after }
 
 -- octets begin with one value of a layout at most
 pub one_reading : (l : Layout) (octets : List ℕ) (v w : Values l) (r s : List ℕ) → splits l ≡ true → Begins l octets v r

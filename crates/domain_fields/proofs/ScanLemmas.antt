@@ -29,10 +29,6 @@ pub one_field_one_fault : (f : Field) (limit : Option ℕ) (old m n : List (List
     → Refuses limit (one f) old m x → Refuses limit (one f) old n y → (x ≡ y) × (m ≡ n)
 one_field_one_fault f limit old m n x y p q = grind (arith, common_steps, token_one_fault, field_one_fault)
 
-abbrev address_read : Option (List ℕ × List ℕ) → List ℕ
-address_read None = []
-address_read (Some found) = found.0
-
 -- a text is one address at most
 one_address : (text xs ys : List ℕ) → IsDotted text xs → IsDotted text ys → xs ≡ ys
 one_address text xs ys x y = grind (arith, common_steps, (read_ipv4_complete text xs [] x (lit≤ tt)), (read_ipv4_complete text ys [] y (lit≤ tt)))

@@ -1,5 +1,4 @@
-use Rattle.std.proofs.lemmas.Grind.{common_steps}
-use Rattle.std.proofs.Common.{arith}
+use Rattle.std.proofs.{Common.arith, lemmas.Grind.common_steps}
 use Rattle.domain_denier.proofs.nsec3.wildcard_answer.Goals as goal
 
 pub returns-clause-ok : goal.returns-clause-ok

@@ -1,5 +1,4 @@
-use Rattle.std.proofs.Common.{arith}
-use Rattle.std.proofs.lemmas.Grind.{common_steps}
+use Rattle.std.proofs.{Common.arith, lemmas.Grind.common_steps}
 use Rattle.domain_records.proofs.GroupLemmas.{first_by, skips_first}
 use Rattle.domain_records.proofs.owner.RecordsIter.skip_before.Goals as goal
 
