@@ -7,11 +7,11 @@ fn types(words: &[&str], answers: &mut Answers) -> Given<Vec<Rtype>> {
     for word in words {
         answers.ok(types.push(given!(answers, Rtype::from_token(word))))?;
     }
-    Ok(types)
+    Some(types)
 }
 
 /// A bitmap in each of its forms, and whether types are in it.
-fn show<O: Octets>(bitmap: &Bitmap<O>, asked: &[Rtype], answers: &mut Answers) {
+fn show<O: Octets>(bitmap: &Bitmap<O>, asked: &[Rtype], answers: &mut Answers) -> Answered {
     say!(
         answers, octets "octets": *bitmap, show "text": bitmap, debug "debug": bitmap,
         show "empty": bitmap.is_empty()
@@ -27,10 +27,11 @@ fn show<O: Octets>(bitmap: &Bitmap<O>, asked: &[Rtype], answers: &mut Answers) {
     for rtype in asked {
         answers.debug("asked", &(*rtype, bitmap.contains(*rtype)));
     }
+    Some(())
 }
 
 /// The bitmap of types, of which the builder says which have no room, and what is asked of it.
-fn built<B>(added: &[Rtype], asked: &[Rtype], answers: &mut Answers)
+fn built<B>(added: &[Rtype], asked: &[Rtype], answers: &mut Answers) -> Answered
 where
     B: EmptyBuilder + FreezeBuilder + Truncate + Drop,
     B::Frozen: Drop,
@@ -41,7 +42,7 @@ where
             say!(answers, show "without room": rtype, debug "refused": error);
         }
     }
-    show(&builder.finalize(), asked, answers);
+    show(&builder.finalize(), asked, answers)
 }
 
 /// The bitmap of the first type of each window, added from the last window to the first.
@@ -52,52 +53,41 @@ fn windows(answers: &mut Answers) -> Answered {
     }
     let bitmap = builder.finalize();
     answers.octets("octets", &bitmap);
-    answers.characters(&bitmap);
-    Ok(())
+    answers.characters(&bitmap)
 }
 
 /// The bitmap that octets are, and the one that is read of them.
-fn from_octets(octets: &[u8], answers: &mut Answers) {
-    if let Ok(bitmap) = answers.ok(Bitmap::from_octets(octets)) {
+fn from_octets(octets: &[u8], answers: &mut Answers) -> Answered {
+    if let Some(bitmap) = answers.ok(Bitmap::from_octets(octets)) {
         show(&bitmap, &[], answers);
     }
     let mut parser = Parser::new(octets);
-    if let Ok(bitmap) = answers.ok(Bitmap::parse(&mut parser)) {
+    if let Some(bitmap) = answers.ok(Bitmap::parse(&mut parser)) {
         held(&bitmap, answers);
     }
-    answers.show("at", &parser.pos());
+    answers.show("at", &parser.pos())
 }
 
 /// A bitmap in other holders, and written where there is room for it once.
-fn held(bitmap: &Bitmap<&[u8]>, answers: &mut Answers) {
-    say_each!(answers.octets_or_error, bitmap, Bitmap);
+fn held(bitmap: &Bitmap<&[u8]>, answers: &mut Answers) -> Answered {
+    say_each!(answers.octets_made, bitmap, Bitmap);
     let mut target = ArrayBuilder::<6>::empty(answers.alloc);
     say!(
         answers, debug "composed": bitmap.compose(&mut target),
         debug "again": bitmap.compose(&mut target), octets "target": target
-    );
-}
-
-/// How the bitmaps that octets are compare.
-fn compare(first: &[u8], second: &[u8], answers: &mut Answers) {
-    if let (Ok(a), Ok(b)) = (Bitmap::from_octets(first), Bitmap::from_octets(second)) {
-        answers.compared(&a, &b);
-        say_methods!(answers, a.(eq_to cmp_to canonical_cmp_to)(&b));
-    }
+    )
 }
 
 /// The bitmap of the types that tokens name, by itself and where there is room for one window.
-fn scan(tokens: &[&str], answers: &mut Answers) {
-    let (mut scanner, mut short) = (
-        Tokens::new(tokens),
-        IterScanner::<ArrayBuilder<34>>::new(tokens),
-    );
+fn scan(tokens: &[&str], answers: &mut Answers) -> Answered {
+    let mut scanner = Tokens::new(tokens);
+    let mut short = IterScanner::<ArrayBuilder<34>>::new(tokens);
     let array = Bitmap::<ArrayBuilder<34>>::scan(answers.alloc, &mut short);
     say!(
-        answers, octets_or_error "octets": Bitmap::<Vec<u8>>::scan(answers.alloc, &mut scanner),
-        debug "next": scanner.first_token(), octets_or_error "ArrayBuilder<34>": array,
+        answers, octets_made "octets": Bitmap::<Vec<u8>>::scan(answers.alloc, &mut scanner),
+        debug "next": scanner.first_token(), octets_made "ArrayBuilder<34>": array,
         debug "next": short.first_token()
-    );
+    )
 }
 
 /// What a builder says when types are added to it.
@@ -107,15 +97,6 @@ fn add<B: Truncate>(builder: &mut RtypeBitmapBuilder<B>, added: &[Rtype], answer
     }
 }
 
-/// A builder, and a copy of it.
-fn copy(added: &[Rtype], answers: &mut Answers) -> Answered {
-    let mut builder = Bitmap::<Vec<u8>>::builder(answers.alloc);
-    add(&mut builder, added, answers);
-    let copy = answers.ok(builder.clone())?;
-    say!(answers, octets "copy": copy.finalize(), octets "Vec": builder.finalize());
-    Ok(())
-}
-
 /// Types that are added to builders, and types that are then asked for.
 fn of_types(form: &str, words: &[&str], answers: &mut Answers) -> Answered {
     let (added, asked) = input::halves(words, "/");
@@ -123,14 +104,18 @@ fn of_types(form: &str, words: &[&str], answers: &mut Answers) -> Answered {
     match form {
         "types" => built::<Vec<u8>>(&added, &asked, answers),
         "tight" => built::<ArrayBuilder<34>>(&added, &asked, answers),
-        "copy" => return copy(&added, answers),
+        "copy" => {
+            let mut builder = Bitmap::<Vec<u8>>::builder(answers.alloc);
+            add(&mut builder, &added, answers);
+            let copy = answers.ok(builder.clone())?;
+            say!(answers, octets "copy": copy.finalize(), octets "Vec": builder.finalize())
+        }
         _ => {
             let mut builder = RtypeBitmapBuilder::with_builder(ArrayBuilder::<68>::new());
             add(&mut builder, &added, answers);
-            answers.octets("ArrayBuilder<68>", &builder.finalize());
+            answers.octets("ArrayBuilder<68>", &builder.finalize())
         }
     }
-    Ok(())
 }
 
 /// Answers a vector on bitmaps.
@@ -139,15 +124,17 @@ pub fn answer(form: &str, words: &[&str], answers: &mut Answers) -> Answered {
         "octets" => from_octets(answers.spelled(words)?.as_slice(), answers),
         "compare" => {
             let (first, second) = answers.two_parts(words)?;
-            compare(first.as_slice(), second.as_slice(), answers);
+            let a = answers.ok(Bitmap::from_octets(first.as_slice()))?;
+            let b = answers.ok(Bitmap::from_octets(second.as_slice()))?;
+            answers.compared(&a, &b);
+            say_methods!(answers, a.(eq_to cmp_to canonical_cmp_to)(&b))
         }
-        "windows" => return windows(answers),
+        "windows" => windows(answers),
         "scan" => scan(words, answers),
         "errors" => say!(
             answers, show "text": RtypeBitmapError::ShortInput,
             show "text": RtypeBitmapError::BadRtypeBitmap
         ),
-        _ => return of_types(form, words, answers),
+        _ => of_types(form, words, answers),
     }
-    Ok(())
 }

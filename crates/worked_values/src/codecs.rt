@@ -21,25 +21,25 @@ fn encode(octets: &[u8], answers: &mut Answers) -> Answered {
     let alloc = answers.alloc;
     let lower = answers.ok(base32::encode_hex_lower(alloc, octets))?;
     say!(
-        answers, show_or_error "base16": base16::encode_string(alloc, octets),
+        answers, show_made "base16": base16::encode_string(alloc, octets),
         show "printed": Encoded(Some(Codec::Base16), octets), show "lower": Encoded(None, octets),
-        show_or_error "base32": base32::encode_string(alloc, octets),
+        show_made "base32": base32::encode_string(alloc, octets),
         show "printed": Encoded(Some(Codec::Base32Hex), octets),
-        show_or_error "lower": str::from_utf8(lower.as_slice()),
-        show_or_error "base64": base64_standard::encode_string(alloc, octets),
+        show_made "lower": str::from_utf8(lower.as_slice()),
+        show_made "base64": base64_standard::encode_string(alloc, octets),
         show "printed": Encoded(Some(Codec::Base64), octets)
-    );
-    Ok(())
+    )
 }
 
 /// What a text stands for that is cut in two at each place, with an empty text between.
-fn decode_cut(codec: Codec, text: &str, answers: &mut Answers) {
+fn decode_cut(codec: Codec, text: &str, answers: &mut Answers) -> Answered {
     for place in 0..=text.len() {
         if let Some((front, back)) = text.split_at_checked(place) {
             let octets = codec.decode_joined::<Vec<u8>>(answers.alloc, &[front, "", back]);
-            answers.octets_or_error("cut", &octets);
+            answers.octets_made("cut", &octets);
         }
     }
+    Some(())
 }
 
 /// A word without the number of an alphabet that it ends in, and that alphabet, else Base 64.
@@ -58,22 +58,22 @@ pub fn answer(form: &str, words: &[&str], answers: &mut Answers) -> Answered {
     let (alloc, text) = (answers.alloc, input::word(words, 0));
     let (form, codec) = split_codec(form);
     match form {
-        "encode" => return encode(answers.spelled(words)?.as_slice(), answers),
+        "encode" => encode(answers.spelled(words)?.as_slice(), answers),
         "base" => say!(
-            answers, octets_or_error "octets": codec.decode::<Vec<u8>>(alloc, text),
+            answers, octets_made "octets": codec.decode::<Vec<u8>>(alloc, text),
             fault "ArrayBuilder<2>": codec.decode::<Two>(alloc, text)
         ),
         "joined" => say!(
-            answers, octets_or_error "joined": codec.decode_joined::<Vec<u8>>(alloc, words),
+            answers, octets_made "joined": codec.decode_joined::<Vec<u8>>(alloc, words),
             fault "ArrayBuilder<2>": codec.decode_joined::<Two>(alloc, words)
         ),
         "cut" => decode_cut(codec, text, answers),
         "arrays" => say!(
-            answers, octets_or_error "array": codec.decode::<ArrayBuilder<0>>(alloc, text),
-            octets_or_error "array": codec.decode::<ArrayBuilder<1>>(alloc, text),
-            octets_or_error "array": codec.decode::<Two>(alloc, text),
-            octets_or_error "array": codec.decode::<ArrayBuilder<3>>(alloc, text),
-            octets_or_error "array": codec.decode::<ArrayBuilder<4>>(alloc, text)
+            answers, octets_made "array": codec.decode::<ArrayBuilder<0>>(alloc, text),
+            octets_made "array": codec.decode::<ArrayBuilder<1>>(alloc, text),
+            octets_made "array": codec.decode::<Two>(alloc, text),
+            octets_made "array": codec.decode::<ArrayBuilder<3>>(alloc, text),
+            octets_made "array": codec.decode::<ArrayBuilder<4>>(alloc, text)
         ),
         "named" => say!(
             answers, debug "base16": base16::decode::<Vec<u8>>(alloc, text),
@@ -86,5 +86,4 @@ pub fn answer(form: &str, words: &[&str], answers: &mut Answers) -> Answered {
             show "text": DecodeError::OutOfMemory, show "text": OutOfMemory
         ),
     }
-    Ok(())
 }

@@ -14,23 +14,24 @@ fn forms<D: ComposeRecordData + Display>(data: &D, answers: &mut Answers) -> Ans
     if data.fits_rdlen() {
         answers.debug("rdlen", &data.rdlen(false));
     }
-    Ok(())
+    Some(())
 }
 
 /// Data in generic form, by itself and where there is room for one octet.
 fn generic(tokens: &[&str], answers: &mut Answers) -> Answered {
     let (alloc, mut short) = (answers.alloc, IterScanner::<ArrayBuilder<1>>::new(tokens));
     let data = UnknownRecordData::scan(alloc, Rtype::MX, &mut Tokens::new(tokens));
-    if let Ok(data) = answers.ok(data) {
-        forms(&data, answers)?;
+    if let Some(data) = answers.ok(data) {
+        forms(&data, answers);
     }
-    let data = UnknownRecordData::scan(alloc, Rtype::MX, &mut short);
-    answers.fault("ArrayBuilder<1>", &data);
-    Ok(())
+    answers.fault(
+        "ArrayBuilder<1>",
+        &UnknownRecordData::scan(alloc, Rtype::MX, &mut short),
+    )
 }
 
 /// Why tokens are refused as data of a type where octets have room for three.
-fn tight(rtype: &str, tokens: &[&str], answers: &mut Answers) {
+fn tight(rtype: &str, tokens: &[&str], answers: &mut Answers) -> Answered {
     let (alloc, label) = (answers.alloc, "ArrayBuilder<3>");
     let scanner = &mut IterScanner::<ArrayBuilder<3>>::new(tokens);
     match rtype {
@@ -59,8 +60,20 @@ fn room(words: &[&str], answers: &mut Answers) -> Answered {
     say!(
         answers, show "a beginning": whole.starts_with(written),
         show "all of it": whole.as_slice() == written
-    );
-    Ok(())
+    )
+}
+
+/// How data of one type compare, where it is a type of DNSSEC.
+fn compare_same(a: &Data, b: &Data, answers: &mut Answers) -> Answered {
+    match (a, b) {
+        (ZoneRecordData::Dnskey(a), ZoneRecordData::Dnskey(b)) => answers.compared(a, b),
+        (ZoneRecordData::Ds(a), ZoneRecordData::Ds(b)) => answers.compared(a, b),
+        (ZoneRecordData::Rrsig(a), ZoneRecordData::Rrsig(b)) => answers.compared(a, b),
+        (ZoneRecordData::Nsec(a), ZoneRecordData::Nsec(b)) => answers.compared(a, b),
+        (ZoneRecordData::Nsec3(a), ZoneRecordData::Nsec3(b)) => answers.compared(a, b),
+        (ZoneRecordData::Nsec3param(a), ZoneRecordData::Nsec3param(b)) => answers.compared(a, b),
+        _ => None,
+    }
 }
 
 /// How the data that two parts spell compare, as data of any type and of their own.
@@ -68,16 +81,7 @@ fn compare(words: &[&str], answers: &mut Answers) -> Answered {
     let (front, back) = input::halves(words, "/");
     let (a, b) = (answers.data(front)?, answers.data(back)?);
     answers.debug("canonical_cmp", &a.canonical_cmp(&b));
-    match (&a, &b) {
-        (ZoneRecordData::Dnskey(a), ZoneRecordData::Dnskey(b)) => answers.compared(a, b),
-        (ZoneRecordData::Ds(a), ZoneRecordData::Ds(b)) => answers.compared(a, b),
-        (ZoneRecordData::Rrsig(a), ZoneRecordData::Rrsig(b)) => answers.compared(a, b),
-        (ZoneRecordData::Nsec(a), ZoneRecordData::Nsec(b)) => answers.compared(a, b),
-        (ZoneRecordData::Nsec3(a), ZoneRecordData::Nsec3(b)) => answers.compared(a, b),
-        (ZoneRecordData::Nsec3param(a), ZoneRecordData::Nsec3param(b)) => answers.compared(a, b),
-        _ => {}
-    }
-    Ok(())
+    compare_same(&a, &b, answers)
 }
 
 /// Data that octets begin with.
@@ -87,12 +91,11 @@ where
 {
     let mut parser = Parser::new(octets);
     match D::parse_rdata(rtype, &mut parser) {
-        Ok(Some(data)) => forms(&data, answers)?,
+        Ok(Some(data)) => forms(&data, answers),
         Ok(None) => answers.echo("  no data of this type"),
         Err(error) => answers.debug("refused", &error),
-    }
-    answers.show("at", &parser.pos());
-    Ok(())
+    };
+    answers.show("at", &parser.pos())
 }
 
 /// Data of a type that octets begin with; MX data is no NS data.
@@ -123,11 +126,10 @@ fn limit(rtype: &str, octets: &[u8], answers: &mut Answers) -> Answered {
             let (from, to) = (Timestamp::from(13), Timestamp::from(14));
             let (ttl, signer) = (Ttl::from_secs(12), answers.name("example.com.")?);
             let data = Rrsig::new(Rtype::A, algorithm, 3, ttl, from, to, 15, signer, octets);
-            answers.fault("refused", &data);
+            answers.fault("refused", &data)
         }
         _ => say!(answers, fault "refused": UnknownRecordData::from_octets(Rtype::TXT, octets)),
     }
-    Ok(())
 }
 
 /// Data with a next hash that is another, and then without types.
@@ -135,29 +137,28 @@ fn changed(mut data: Nsec3<Vec<u8>>, answers: &mut Answers) -> Answered {
     data.set_next_owner(answers.ok(OwnerHash::from_str(answers.alloc, "CPNMUOG0"))?);
     answers.show("with another hash", &data);
     data.set_types(answers.ok(Bitmap::from_octets(Vec::new(answers.alloc)))?);
-    answers.show("without types", &data);
-    Ok(())
+    answers.show("without types", &data)
 }
 
 /// The fields of a key, and the data made anew of them.
-fn fields_of_key(data: &Dnskey<Vec<u8>>, answers: &mut Answers) {
+fn fields_of_key(data: &Dnskey<Vec<u8>>, answers: &mut Answers) -> Answered {
     let (flags, protocol, algorithm) = (data.flags(), data.protocol(), data.algorithm());
     let octets = data.public_key().as_slice();
     say!(
         answers, show "flags": flags, show "protocol": protocol, show "algorithm": algorithm,
         octets "public key": octets,
-        show_or_error "new": Dnskey::new(flags, protocol, algorithm, octets)
-    );
+        show_made "new": Dnskey::new(flags, protocol, algorithm, octets)
+    )
 }
 
 /// The fields of a digest, and the data made anew of them.
-fn fields_of_digest(data: &Ds<Vec<u8>>, answers: &mut Answers) {
+fn fields_of_digest(data: &Ds<Vec<u8>>, answers: &mut Answers) -> Answered {
     let (tag, algorithm, digest_type) = (data.key_tag(), data.algorithm(), data.digest_type());
     let octets = data.digest().as_slice();
     say!(
         answers, show "key tag": tag, show "algorithm": algorithm, show "digest type": digest_type,
-        octets "digest": octets, show_or_error "new": Ds::new(tag, algorithm, digest_type, octets)
-    );
+        octets "digest": octets, show_made "new": Ds::new(tag, algorithm, digest_type, octets)
+    )
 }
 
 /// The fields of data.
@@ -170,7 +171,7 @@ fn fields(data: &Data, answers: &mut Answers) -> Answered {
             "refresh": refresh, "retry": retry, "expire": expire, "minimum": minimum
         ),
         ZoneRecordData::Mx(data) => {
-            say_fields!(answers, data, "preference": preference, "exchange": exchange);
+            say_fields!(answers, data, "preference": preference, "exchange": exchange)
         }
         ZoneRecordData::Dnskey(data) => fields_of_key(data, answers),
         ZoneRecordData::Ds(data) => fields_of_digest(data, answers),
@@ -180,18 +181,18 @@ fn fields(data: &Data, answers: &mut Answers) -> Answered {
                 "labels": labels, "original TTL": original_ttl, "expiration": expiration,
                 "inception": inception, "key tag": key_tag, "signer": signer_name
             );
-            answers.octets("signature", data.signature());
+            answers.octets("signature", data.signature())
         }
         ZoneRecordData::Nsec(data) => {
             say_fields!(answers, data, "next name": next_name, "types": types);
-            answers.octets("their octets", data.types().as_octets());
+            answers.octets("their octets", data.types().as_octets())
         }
         ZoneRecordData::Nsec3(data) => {
             say_fields!(
                 answers, data, "algorithm": hash_algorithm, "flags": flags,
                 "iterations": iterations, "salt": salt, "next hash": next_owner, "types": types
             );
-            return changed(answers.ok(data.clone())?, answers);
+            changed(answers.ok(data.clone())?, answers)
         }
         ZoneRecordData::Nsec3param(data) => say_fields!(
             answers, data, "algorithm": hash_algorithm, "flags": flags,
@@ -199,18 +200,17 @@ fn fields(data: &Data, answers: &mut Answers) -> Answered {
         ),
         ZoneRecordData::Unknown(data) => answers.octets("octets", data.data()),
     }
-    Ok(())
 }
 
 /// A signature, with its signer's name in the same holder.
 type Signature<O> = Rrsig<O, Name<O>>;
 
 /// Data for programmers, and as a zone file shows it.
-fn pieces<D: Debug + ZonefileFmt>(data: &D, answers: &mut Answers) {
+fn pieces<D: Debug + ZonefileFmt>(data: &D, answers: &mut Answers) -> Answered {
     answers.debug("debug", data);
     answers.pieces(data);
     let text = data.display_zonefile(answers.alloc, DisplayKind::Simple);
-    answers.show_or_error("zone file", &text);
+    answers.show_made("zone file", &text)
 }
 
 /// What a key says.
@@ -220,10 +220,9 @@ fn key(data: &Dnskey<Vec<u8>>, answers: &mut Answers) -> Answered {
         answers, data, "key tag": key_tag, "zone key": is_zone_key,
         "secure entry point": is_secure_entry_point, "revoked": is_revoked
     );
-    say_each!(answers.show_or_error, data, Dnskey);
+    say_each!(answers.show_made, data, Dnskey);
     let same: Dnskey<Vec<u8>> = answers.ok(data.try_clone())?.convert();
-    answers.octets("public key", &same.into_public_key());
-    Ok(())
+    answers.octets("public key", &same.into_public_key())
 }
 
 /// The fields of a signature that are signed, and the signature made anew of them.
@@ -244,22 +243,21 @@ fn signed(data: &Signature<Vec<u8>>, answers: &mut Answers) -> Answered {
         debug "composed": fields.compose_canonical(&mut canonical), octets "canonical": canonical
     );
     let again = answers.ok(fields.into_rrsig(data.signature().as_slice()))?;
-    answers.debug("as before", &again.eq_to(data));
-    Ok(())
+    answers.debug("as before", &again.eq_to(data))
 }
 
 /// What a signature says.
 fn signature(data: &Signature<Vec<u8>>, answers: &mut Answers) -> Answered {
     pieces(data, answers);
-    say_each!(answers.show_or_error, data, Signature);
-    say!(answers, show_or_error "flattened": flattened::<_, Signature<Bytes>>(answers.alloc, data));
+    say_each!(answers.show_made, data, Signature);
+    say!(answers, show_made "flattened": flattened::<_, Signature<Bytes>>(answers.alloc, data));
     signed(data, answers)?;
     let (mut copy, none) = (answers.ok(data.try_clone())?, Vec::new(answers.alloc));
     if copy.fits_signature(&none) {
         copy.set_signature(none);
         answers.show("without signature", &copy);
     }
-    Ok(())
+    Some(())
 }
 
 /// What data with a next name says.
@@ -267,67 +265,64 @@ fn next(data: &Nsec<Vec<u8>, OwnName>, answers: &mut Answers) -> Answered {
     let alloc = answers.alloc;
     pieces(data, answers);
     say!(
-        answers, show_or_error "Vec": converted::<_, Nsec<Vec<u8>, OwnName>>(alloc, data),
-        show_or_error "flattened": flattened::<_, Nsec<Bytes, OwnName>>(alloc, data),
-        show_or_error "flattened": flattened::<_, Nsec<ArrayBuilder<7>, OwnName>>(alloc, data),
-        show_or_error "flattened": flattened::<_, Nsec<ArrayBuilder<6>, OwnName>>(alloc, data)
+        answers, show_made "Vec": converted::<_, Nsec<Vec<u8>, OwnName>>(alloc, data),
+        show_made "flattened": flattened::<_, Nsec<Bytes, OwnName>>(alloc, data),
+        show_made "flattened": flattened::<_, Nsec<ArrayBuilder<7>, OwnName>>(alloc, data),
+        show_made "flattened": flattened::<_, Nsec<ArrayBuilder<6>, OwnName>>(alloc, data)
     );
     let mut copy = answers.ok(data.clone())?;
     copy.set_next_name(answers.name(".")?);
-    answers.show("to the root", &copy);
-    Ok(())
+    answers.show("to the root", &copy)
 }
 
 /// What the parameters of a hash say.
 fn parameters(data: &Nsec3param<Vec<u8>>, answers: &mut Answers) -> Answered {
     pieces(data, answers);
-    say_each!(answers.show_or_error, data, Nsec3param);
+    say_each!(answers.show_made, data, Nsec3param);
     answers.show("opt-out", &data.opt_out_flag());
     let mut copy = answers.ok(data.try_clone())?;
     copy.set_opt_out_flag();
     say!(
         answers, show "with opt-out": copy, octets "salt": copy.into_salt(),
         show "default": Nsec3param::<Vec<u8>>::default(answers.alloc)
-    );
-    Ok(())
+    )
 }
 
 /// What data says beyond its text and its octets, for programmers, and in other holders.
 fn typed(data: &Data, answers: &mut Answers) -> Answered {
     let alloc = answers.alloc;
     match data {
-        ZoneRecordData::Dnskey(data) => return key(data, answers),
+        ZoneRecordData::Dnskey(data) => key(data, answers),
         ZoneRecordData::Ds(data) => {
             pieces(data, answers);
-            say_each!(answers.show_or_error, data, Ds);
+            say_each!(answers.show_made, data, Ds);
             let copy = answers.ok(data.try_clone())?;
-            answers.octets("digest", &copy.into_digest());
+            answers.octets("digest", &copy.into_digest())
         }
-        ZoneRecordData::Rrsig(data) => return signature(data, answers),
-        ZoneRecordData::Nsec(data) => return next(data, answers),
+        ZoneRecordData::Rrsig(data) => signature(data, answers),
+        ZoneRecordData::Nsec(data) => next(data, answers),
         ZoneRecordData::Nsec3(data) => {
             pieces(data, answers);
             say!(
                 answers, show "opt-out": data.opt_out(),
-                show_or_error "Vec": converted::<_, Nsec3<Vec<u8>>>(alloc, data),
-                show_or_error "Bytes": converted::<_, Nsec3<Bytes>>(alloc, data),
-                show_or_error "ArrayBuilder<6>": converted::<_, Nsec3<ArrayBuilder<6>>>(alloc, data)
-            );
+                show_made "Vec": converted::<_, Nsec3<Vec<u8>>>(alloc, data),
+                show_made "Bytes": converted::<_, Nsec3<Bytes>>(alloc, data),
+                show_made "ArrayBuilder<6>": converted::<_, Nsec3<ArrayBuilder<6>>>(alloc, data)
+            )
         }
-        ZoneRecordData::Nsec3param(data) => return parameters(data, answers),
+        ZoneRecordData::Nsec3param(data) => parameters(data, answers),
         ZoneRecordData::A(data) => say!(
-            answers, show_or_error "A": converted::<_, A>(alloc, data),
-            show_or_error "flattened": flattened::<_, A>(alloc, data)
+            answers, show_made "A": converted::<_, A>(alloc, data),
+            show_made "flattened": flattened::<_, A>(alloc, data)
         ),
         ZoneRecordData::Ns(data) => in_two::<_, Ns<Name<Bytes>>, Ns<Name<Two>>>(data, answers),
         ZoneRecordData::Soa(data) => in_two::<_, Soa<Name<Bytes>>, Soa<Name<Two>>>(data, answers),
         ZoneRecordData::Mx(data) => in_two::<_, Mx<Name<Bytes>>, Mx<Name<Two>>>(data, answers),
         ZoneRecordData::Unknown(data) => say!(
-            answers, show_or_error "Bytes": converted::<_, UnknownRecordData<Bytes>>(alloc, data),
-            show_or_error "flattened": flattened::<_, UnknownRecordData<Bytes>>(alloc, data)
+            answers, show_made "Bytes": converted::<_, UnknownRecordData<Bytes>>(alloc, data),
+            show_made "flattened": flattened::<_, UnknownRecordData<Bytes>>(alloc, data)
         ),
     }
-    Ok(())
 }
 
 /// Answers a vector on data that words spell.
@@ -335,25 +330,23 @@ pub fn answer(form: &str, words: &[&str], answers: &mut Answers) -> Answered {
     let (first, rest) = (input::word(words, 0), words.get(1..).unwrap_or_default());
     match form {
         "tight" => tight(first, rest, answers),
-        "generic" => return generic(words, answers),
-        "room" => return room(words, answers),
-        "wire" => return wire(first, answers.spelled(rest)?.as_slice(), answers),
-        "limit" => return limit(first, answers.spelled(rest)?.as_slice(), answers),
-        "compare" => return compare(words, answers),
-        "typed" => return typed(&answers.data(words)?, answers),
-        "made" => return fields(&answers.data(words)?, answers),
-        "text" => return forms(&answers.data(words)?, answers),
+        "generic" => generic(words, answers),
+        "room" => room(words, answers),
+        "wire" => wire(first, answers.spelled(rest)?.as_slice(), answers),
+        "limit" => limit(first, answers.spelled(rest)?.as_slice(), answers),
+        "compare" => compare(words, answers),
+        "typed" => typed(&answers.data(words)?, answers),
+        "made" => fields(&answers.data(words)?, answers),
+        "text" => forms(&answers.data(words)?, answers),
         "size" => {
             let (data, mut octets) = (answers.data(words)?, Vec::new(answers.alloc));
             answers.debug("composed", &data.compose_rdata(&mut octets));
             answers.show("octets", &octets.len());
-            answers.characters(&data);
+            answers.characters(&data)
         }
-        _ => {
-            if let ZoneRecordData::Dnskey(key) = &answers.data(words)? {
-                answers.show("key tag", &key.key_tag());
-            }
-        }
+        _ => match &answers.data(words)? {
+            ZoneRecordData::Dnskey(key) => answers.show("key tag", &key.key_tag()),
+            _ => None,
+        },
     }
-    Ok(())
 }

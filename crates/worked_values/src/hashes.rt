@@ -2,62 +2,62 @@
 use super::*;
 
 /// A salt or a hash in each of its forms.
-fn show<C: Octets + Display + Debug>(counted: &C, answers: &mut Answers) {
+fn show<C: Octets + Display + Debug>(counted: &C, answers: &mut Answers) -> Answered {
     say!(
         answers, show "text": counted, debug "debug": counted, octets "octets": *counted,
         show "length": counted.as_slice().len()
-    );
+    )
 }
 
 /// The salt that a text spells, by itself and as a token.
-fn salt(text: &str, answers: &mut Answers) {
+fn salt(text: &str, answers: &mut Answers) -> Answered {
     match Nsec3Salt::<Vec<u8>>::from_str(answers.alloc, text) {
         Ok(salt) => {
             show(&salt, answers);
             answers.pieces(&salt);
             let text = salt.display_zonefile(answers.alloc, DisplayKind::Simple);
-            answers.debug("zone file", &text);
+            answers.debug("zone file", &text)
         }
         Err(error) => say!(answers, debug "refused": error, show "text": error),
-    }
+    };
     let tokens = [text];
     let mut scanner = Tokens::new(&tokens);
     say!(
-        answers, octets_or_error "scanned": Nsec3Salt::scan(answers.alloc, &mut scanner),
+        answers, octets_made "scanned": Nsec3Salt::scan(answers.alloc, &mut scanner),
         debug "next": scanner.first_token()
-    );
+    )
 }
 
 /// The hash that a text spells, by itself and as a token.
-fn hash(text: &str, answers: &mut Answers) {
-    if let Ok(hash) = answers.ok(OwnerHash::<Vec<u8>>::from_str(answers.alloc, text)) {
+fn hash(text: &str, answers: &mut Answers) -> Answered {
+    if let Some(hash) = answers.ok(OwnerHash::<Vec<u8>>::from_str(answers.alloc, text)) {
         show(&hash, answers);
     }
     let tokens = [text];
     let mut scanner = Tokens::new(&tokens);
     say!(
-        answers, octets_or_error "scanned": OwnerHash::scan(answers.alloc, &mut scanner),
+        answers, octets_made "scanned": OwnerHash::scan(answers.alloc, &mut scanner),
         debug "next": scanner.first_token()
-    );
+    )
 }
 
 /// How many octets a salt and a hash have that a text spells, or why it spells none.
-fn sizes(text: &str, answers: &mut Answers) {
+fn sizes(text: &str, answers: &mut Answers) -> Answered {
     let alloc = answers.alloc;
-    if let Ok(salt) = answers.ok(Nsec3Salt::<Vec<u8>>::from_str(alloc, text)) {
+    if let Some(salt) = answers.ok(Nsec3Salt::<Vec<u8>>::from_str(alloc, text)) {
         answers.show("salt", &salt.as_slice().len());
     }
-    if let Ok(hash) = answers.ok(OwnerHash::<Vec<u8>>::from_str(alloc, text)) {
+    if let Some(hash) = answers.ok(OwnerHash::<Vec<u8>>::from_str(alloc, text)) {
         answers.show("hash", &hash.as_slice().len());
     }
     say!(
         answers, fault "salt as a token": Nsec3Salt::scan(alloc, &mut Tokens::new(&[text])),
         fault "hash as a token": OwnerHash::scan(alloc, &mut Tokens::new(&[text]))
-    );
+    )
 }
 
 /// Why a text is no salt and no hash over octets of one kind, by itself and as the next token.
-fn refusals<O, S>(text: &str, scanner: &mut S, answers: &mut Answers)
+fn refusals<O, S>(text: &str, scanner: &mut S, answers: &mut Answers) -> Answered
 where
     O: FromBuilder + Drop,
     O::Builder: EmptyBuilder + Drop,
@@ -69,27 +69,25 @@ where
         fault "salt as a token": Nsec3Salt::scan(alloc, scanner),
         fault "hash": OwnerHash::<O>::from_str(alloc, text),
         fault "hash as a token": OwnerHash::scan(alloc, scanner)
-    );
+    )
 }
 
 /// Octets as a salt and as a hash, in other holders.
 fn held(octets: &[u8], answers: &mut Answers) {
-    if let Ok(salt) = &answers.ok(Nsec3Salt::from_slice(octets)) {
-        say_each!(answers.octets_or_error, salt, Nsec3Salt);
+    if let Some(salt) = &answers.ok(Nsec3Salt::from_slice(octets)) {
+        say_each!(answers.octets_made, salt, Nsec3Salt);
     }
-    if let Ok(hash) = &answers.ok(OwnerHash::from_slice(octets)) {
-        say_each!(answers.octets_or_error, hash, OwnerHash);
+    if let Some(hash) = &answers.ok(OwnerHash::from_slice(octets)) {
+        say_each!(answers.octets_made, hash, OwnerHash);
     }
 }
 
 /// How two salts or two hashes compare.
-fn compare<E: Default + Drop>(a: &[u8], b: &[u8], answers: &mut Answers) {
-    let a = Counted::<&[u8], E>::from_slice(a);
-    let b = Counted::<&[u8], E>::from_slice(b);
-    if let (Ok(a), Ok(b)) = (a, b) {
-        answers.compared(&a, &b);
-        say_methods!(answers, a.(canonical_cmp_to)(&b));
-    }
+fn compare<E: Default + Debug + Drop>(a: &[u8], b: &[u8], answers: &mut Answers) -> Answered {
+    let a = answers.ok(Counted::<&[u8], E>::from_slice(a))?;
+    let b = answers.ok(Counted::<&[u8], E>::from_slice(b))?;
+    answers.compared(&a, &b);
+    say_methods!(answers, a.(canonical_cmp_to)(&b))
 }
 
 /// Answers a vector on salts and hashes that has octets.
@@ -98,10 +96,10 @@ fn of_octets(form: &str, first: &[u8], second: &[u8], answers: &mut Answers) -> 
         "parse" => {
             let mut parser = Parser::new(first);
             say!(
-                answers, show_or_error "salt": Nsec3Salt::parse(&mut parser),
-                show "at": parser.pos(), show_or_error "hash": OwnerHash::parse(&mut parser),
+                answers, show_made "salt": Nsec3Salt::parse(&mut parser),
+                show "at": parser.pos(), show_made "hash": OwnerHash::parse(&mut parser),
                 show "at": parser.pos()
-            );
+            )
         }
         "limit" => say!(
             answers, fault "salt": Nsec3Salt::from_slice(first),
@@ -109,7 +107,7 @@ fn of_octets(form: &str, first: &[u8], second: &[u8], answers: &mut Answers) -> 
         ),
         "compare" => {
             compare::<Nsec3SaltError>(first, second, answers);
-            compare::<OwnerHashError>(first, second, answers);
+            compare::<OwnerHashError>(first, second, answers)
         }
         _ => {
             held(first, answers);
@@ -117,10 +115,9 @@ fn of_octets(form: &str, first: &[u8], second: &[u8], answers: &mut Answers) -> 
             let again = answers.ok(copy.clone())?;
             let salt = answers.ok(Nsec3Salt::from_bytes(copy))?;
             let hash = answers.ok(OwnerHash::from_bytes(again))?;
-            say!(answers, octets "salt": salt.into_octets(), octets "hash": hash.into_octets());
+            say!(answers, octets "salt": salt.into_octets(), octets "hash": hash.into_octets())
         }
     }
-    Ok(())
 }
 
 /// Answers a vector on salts and hashes; `room` is for one octet, for 255 and for 256.
@@ -146,7 +143,7 @@ pub fn answer(form: &str, words: &[&str], answers: &mut Answers) -> Answered {
                 text,
                 &mut IterScanner::<ArrayBuilder<256>>::new(&tokens),
                 answers,
-            );
+            )
         }
         "errors" => say!(
             answers, show "text": Nsec3SaltError, show "text": OwnerHashError,
@@ -155,8 +152,7 @@ pub fn answer(form: &str, words: &[&str], answers: &mut Answers) -> Answered {
         ),
         _ => {
             let (first, second) = answers.two_parts(words)?;
-            return of_octets(form, first.as_slice(), second.as_slice(), answers);
+            of_octets(form, first.as_slice(), second.as_slice(), answers)
         }
     }
-    Ok(())
 }

@@ -62,7 +62,7 @@ impl Answers {
     /// The octets that words spell together in Base 16; `-` spells none.
     pub fn spelled(&mut self, words: &[&str]) -> Given<Vec<u8>> {
         match words {
-            ["-"] => Ok(Vec::new(self.alloc)),
+            ["-"] => Some(Vec::new(self.alloc)),
             _ => self.ok(Tokens::new(words).convert_entry(self.alloc, Codec::Base16)),
         }
     }
@@ -70,7 +70,7 @@ impl Answers {
     /// The octets that the words before the first `/`, and those after it, spell.
     pub fn two_parts(&mut self, words: &[&str]) -> Given<(Vec<u8>, Vec<u8>)> {
         let (front, back) = halves(words, "/");
-        Ok((self.spelled(front)?, self.spelled(back)?))
+        Some((self.spelled(front)?, self.spelled(back)?))
     }
 
     /// Data of the type that the next token names, which all tokens after it spell.
@@ -80,7 +80,7 @@ impl Answers {
         if scanner.continues() {
             return self.ok(Err(ScanError::Custom("tokens are left")));
         }
-        Ok(data)
+        Some(data)
     }
 
     /// The data that words spell: its type, and what the type says.
@@ -94,20 +94,20 @@ impl Answers {
         let owner = self.ok(scanner.scan_name(self.alloc))?;
         let ttl = given!(self, Ttl::scan(&mut scanner));
         let class = given!(self, Class::scan(&mut scanner));
-        Ok(Record::new(owner, class, ttl, self.scan_data(&mut scanner)?))
+        Some(Record::new(owner, class, ttl, self.scan_data(&mut scanner)?))
     }
 
     /// The records that words spell, with `/` between them.
     pub fn records(&mut self, words: &[&str]) -> Given<Vec<OwnedRecord>> {
         let mut records = Vec::new(self.alloc);
         if words.is_empty() {
-            return Ok(records);
+            return Some(records);
         }
         for tokens in words.split(is_slash) {
             let record = self.record(tokens)?;
             self.ok(records.push(record))?;
         }
-        Ok(records)
+        Some(records)
     }
 
     /// The sorted set of the records that words spell.
@@ -119,13 +119,13 @@ impl Answers {
     /// The name and the type that two words spell.
     pub fn question(&mut self, words: &[&str]) -> Given<(OwnName, Rtype)> {
         let name = self.name(word(words, 0))?;
-        Ok((name, given!(self, Rtype::from_token(word(words, 1)))))
+        Some((name, given!(self, Rtype::from_token(word(words, 1)))))
     }
 
     /// A record with a copy of its data, which are known to be of one type.
     pub fn typed<D: TryClone + Drop>(&mut self, of: &OwnedRecord, data: &D) -> Given<Typed<D>> {
         let owner = self.ok(of.owner().clone())?;
         let data = self.ok(data.try_clone())?;
-        Ok(Record::new(owner, of.class(), of.ttl(), data))
+        Some(Record::new(owner, of.class(), of.ttl(), data))
     }
 }

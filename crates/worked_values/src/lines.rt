@@ -7,14 +7,10 @@ pub type OwnName = domain_base::Name<Vec<u8>>;
 /// Room for two octets.
 pub type Two = ArrayBuilder<2>;
 
-/// There is no further answer: why not stands in the last line.
-#[derive(Clone, Copy)]
-pub struct Refused;
+/// What a vector has for its answer; None where that ends, and its last line says why.
+pub type Given<T> = Option<T>;
 
-/// What a vector has for its answer.
-pub type Given<T> = Result<T, Refused>;
-
-/// Whether a vector could be answered.
+/// Whether an answer goes on. A line that is added ends none.
 pub type Answered = Given<()>;
 
 /// Octets, printed in Base 16 by two lower-case digits each, or `-` where there are none.
@@ -51,27 +47,30 @@ pub struct Answers {
 
 impl Answers {
     /// Adds a line as it stands.
-    pub fn echo(&mut self, line: &str) {
+    pub fn echo(&mut self, line: &str) -> Answered {
         self.is_whole &= writeln!(self.text, "{line}").is_ok();
+        Some(())
     }
 
     /// Adds a line with a label and a value as it prints.
-    pub fn show<T: Display>(&mut self, label: &str, value: &T) {
+    pub fn show<T: Display>(&mut self, label: &str, value: &T) -> Answered {
         self.is_whole &= writeln!(self.text, "  {label}: {value}").is_ok();
+        Some(())
     }
 
     /// Adds a line with a label and a value as it prints for programmers.
-    pub fn debug<T: Debug>(&mut self, label: &str, value: &T) {
+    pub fn debug<T: Debug>(&mut self, label: &str, value: &T) -> Answered {
         self.is_whole &= writeln!(self.text, "  {label}: {value:?}").is_ok();
+        Some(())
     }
 
     /// Adds a line with a label and octets.
-    pub fn octets<O: Octets>(&mut self, label: &str, octets: &O) {
-        self.show(label, &Digits(octets.as_slice()));
+    pub fn octets<O: Octets>(&mut self, label: &str, octets: &O) -> Answered {
+        self.show(label, &Digits(octets.as_slice()))
     }
 
     /// Adds a line with how many characters the text of a value has.
-    pub fn characters<T: Display>(&mut self, value: &T) {
+    pub fn characters<T: Display>(&mut self, value: &T) -> Answered {
         match format!(in self.alloc; "{value}") {
             Ok(text) => self.show("characters", &text.len()),
             Err(error) => self.debug("characters", &error),
@@ -79,7 +78,7 @@ impl Answers {
     }
 
     /// Adds a line with the pieces of a value as a zone file shows it.
-    pub fn pieces<T: ZonefileFmt>(&mut self, value: &T) {
+    pub fn pieces<T: ZonefileFmt>(&mut self, value: &T) -> Answered {
         let mut formatter = PieceFormatter::new(self.alloc);
         match ZonefileFmt::fmt(value, &mut formatter) {
             Ok(()) => self.debug("pieces", &formatter.pieces()),
@@ -88,55 +87,56 @@ impl Answers {
     }
 
     /// Adds a line for each record.
-    pub fn show_records<R: Display>(&mut self, records: &[R]) {
+    pub fn show_records<R: Display>(&mut self, records: &[R]) -> Answered {
         for record in records {
             self.show("record", record);
         }
+        Some(())
     }
 
     /// Adds how two values compare, and whether the same is hashed of them.
-    pub fn compared<T: Ord + CanonicalOrd + Hash>(&mut self, a: &T, b: &T) {
+    pub fn compared<T: Ord + CanonicalOrd + Hash>(&mut self, a: &T, b: &T) -> Answered {
         self.debug("eq", &(a == b));
         say_methods!(self, a.(cmp partial_cmp canonical_cmp)(b));
-        self.debug("one hash", &(hash_of(a) == hash_of(b)));
+        self.debug("one hash", &(hash_of(a) == hash_of(b)))
     }
 
     /// Adds a line with a label, and a value as it prints or the error.
-    pub fn show_or_error<T: Display, E: Debug>(&mut self, label: &str, made: &Result<T, E>) {
-        match made {
+    pub fn show_made<T: Display, E: Debug>(&mut self, label: &str, of: &Result<T, E>) -> Answered {
+        match of {
             Ok(made) => self.show(label, made),
             Err(error) => self.debug(label, error),
         }
     }
 
     /// Adds a line with a label, and octets or the error.
-    pub fn octets_or_error<O: Octets, E: Debug>(&mut self, label: &str, made: &Result<O, E>) {
-        match made {
+    pub fn octets_made<O: Octets, E: Debug>(&mut self, label: &str, of: &Result<O, E>) -> Answered {
+        match of {
             Ok(made) => self.octets(label, made),
             Err(error) => self.debug(label, error),
         }
     }
 
     /// Adds a line with a label, and a value for programmers or the error.
-    pub fn debug_or_error<T: Debug, E: Debug>(&mut self, label: &str, made: &Result<T, E>) {
-        match made {
+    pub fn debug_made<T: Debug, E: Debug>(&mut self, label: &str, of: &Result<T, E>) -> Answered {
+        match of {
             Ok(made) => self.debug(label, made),
             Err(error) => self.debug(label, error),
         }
     }
 
     /// Adds a line with a label and the error, if there is one.
-    pub fn fault<T, E: Debug>(&mut self, label: &str, made: &Result<T, E>) {
-        self.debug(label, &made.as_ref().err());
+    pub fn fault<T, E: Debug>(&mut self, label: &str, made: &Result<T, E>) -> Answered {
+        self.debug(label, &made.as_ref().err())
     }
 
     /// What was made; an error ends the answer.
     pub fn ok<T: Drop, E: Debug + Drop>(&mut self, made: Result<T, E>) -> Given<T> {
         match made {
-            Ok(made) => Ok(made),
+            Ok(made) => Some(made),
             Err(error) => {
                 self.debug("refused", &error);
-                Err(Refused)
+                None
             }
         }
     }
@@ -153,16 +153,16 @@ pub fn flattened<D: TryClone + FlattenInto<T>, T>(alloc: Global, of: &D) -> Resu
 }
 
 /// A value with names over shared octets, over arrays of two, and flattened into shared ones.
-pub fn in_two<D, B, A>(value: &D, answers: &mut Answers)
+pub fn in_two<D, B, A>(value: &D, answers: &mut Answers) -> Answered
 where
     D: TryClone + FlattenInto<B>,
     B: OctetsFrom<D> + Display + Drop,
     A: OctetsFrom<D> + Display + Drop,
 {
     let alloc = answers.alloc;
-    answers.show_or_error("Bytes", &converted::<D, B>(alloc, value));
-    answers.show_or_error("ArrayBuilder<2>", &converted::<D, A>(alloc, value));
-    answers.show_or_error("flattened", &flattened::<D, B>(alloc, value));
+    answers.show_made("Bytes", &converted::<D, B>(alloc, value));
+    answers.show_made("ArrayBuilder<2>", &converted::<D, A>(alloc, value));
+    answers.show_made("flattened", &flattened::<D, B>(alloc, value))
 }
 
 /// Answers a line that has words, or says why there is no answer.
@@ -190,7 +190,7 @@ pub fn run<R: Input + Print + AllocGlobal>(rt: &R) -> io::Result<()> {
     for line in input.lines() {
         answers.echo(line);
         if !line.starts_with("#") && !line.is_empty() {
-            let _whether = answer_line(line, &mut answers);
+            answer_line(line, &mut answers);
         }
     }
     if !answers.is_whole {

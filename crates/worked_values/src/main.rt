@@ -7,7 +7,10 @@ macro_rules! given {
     ($answers:ident, $made:expr) => {
         match $made {
             Ok(value) => value,
-            Err(error) => return $answers.ok(Err(error)),
+            Err(error) => {
+                $answers.debug("refused", &error);
+                return None;
+            }
         }
     };
 }
@@ -16,6 +19,7 @@ macro_rules! given {
 macro_rules! say {
     ($answers:ident, $($print:ident $label:literal: $value:expr),* $(,)?) => {{
         $($answers.$print($label, &$value);)*
+        Some(())
     }};
 }
 
@@ -23,6 +27,7 @@ macro_rules! say {
 macro_rules! say_fields {
     ($answers:ident, $value:ident, $($label:literal: $field:ident),*) => {{
         $($answers.show($label, &$value.$field());)*
+        Some(())
     }};
 }
 
@@ -30,6 +35,7 @@ macro_rules! say_fields {
 macro_rules! say_methods {
     ($answers:ident, $value:ident.($($method:ident)*)($other:expr)) => {{
         $($answers.debug(stringify!($method), &$value.$method($other));)*
+        Some(())
     }};
 }
 
@@ -39,7 +45,7 @@ macro_rules! say_each {
         let (alloc, value) = ($answers.alloc, $value);
         $answers.$print("Vec", &converted::<_, $kind<Vec<u8>>>(alloc, value));
         $answers.$print("Bytes", &converted::<_, $kind<Bytes>>(alloc, value));
-        $answers.$print("ArrayBuilder<2>", &converted::<_, $kind<Two>>(alloc, value));
+        $answers.$print("ArrayBuilder<2>", &converted::<_, $kind<Two>>(alloc, value))
     }};
 }
 
@@ -50,7 +56,7 @@ macro_rules! say_lent {
             match $chain.lend(place) {
                 Some(record) => $answers.show("record", &record),
                 None => $answers.echo("  no further record"),
-            }
+            };
         }
     };
 }
@@ -126,7 +132,8 @@ fn answer(words: &[&str], answers: &mut Answers) -> Answered {
         "data" => data::answer(form, words, answers),
         "records" => zones::answer(form, words, answers),
         "nsec" => nsec::answer(form, words, answers),
-        _ => nsec3::answer(form, words, answers),
+        "nsec3" => nsec3::answer(form, words, answers),
+        _ => answers.ok(Err(ScanError::Custom("no such vector"))),
     }
 }
 

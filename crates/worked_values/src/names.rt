@@ -2,42 +2,31 @@
 use super::*;
 
 /// A name in each of its forms.
-fn show<N: ToName + Display + Debug>(name: &N, answers: &mut Answers) {
+fn show<N: ToName + Display + Debug>(name: &N, answers: &mut Answers) -> Answered {
     say!(
         answers, show "text": name, show "dotted": name.fmt_with_dot(),
         octets "wire": name.as_wire(), show "length": name.compose_len(),
         show "labels": name.labels().count()
-    );
-}
-
-/// The name that octets are the wire form of.
-fn wire(octets: &[u8], answers: &mut Answers) {
-    if let Ok(name) = answers.ok(Name::from_octets(octets)) {
-        show(&name, answers);
-        answers.debug("debug", &name);
-    }
+    )
 }
 
 /// The names that octets begin with, one after another, until one is refused.
-fn parse(octets: &[u8], answers: &mut Answers) {
+fn parse(octets: &[u8], answers: &mut Answers) -> Answered {
     let mut parser = Parser::new(octets);
     for _ in 0..3 {
-        if let Ok(name) = answers.ok(ParsedName::parse(&mut parser)) {
+        if let Some(name) = answers.ok(ParsedName::parse(&mut parser)) {
             say!(answers, show "name": name, debug "debug": name);
         }
         answers.show("at", &parser.pos());
     }
+    Some(())
 }
 
 /// How a name and one that a text spells, and that is then borrowed, compare.
 fn compare(a: &OwnName, text: &str, answers: &mut Answers) -> Answered {
     let b = answers.name(text)?;
-    if let Ok(b) = answers.ok(ParsedName::from_slice(b.as_wire())) {
-        say_methods!(
-            answers, a.(name_eq ends_with name_cmp composed_cmp lowercase_composed_cmp)(&b)
-        );
-    }
-    Ok(())
+    let b = &answers.ok(ParsedName::from_slice(b.as_wire()))?;
+    say_methods!(answers, a.(name_eq ends_with name_cmp composed_cmp lowercase_composed_cmp)(b))
 }
 
 /// How each name compares with the one before it, and how many labels the two share.
@@ -49,21 +38,21 @@ fn ascend(words: &[&str], answers: &mut Answers) -> Answered {
         answers.debug(word, &(before.name_cmp(&name), after.order, after.common));
         before = name;
     }
-    Ok(())
+    Some(())
 }
 
 /// A name in each kind of holder, of which one has room for three octets and one for two.
-fn held(name: &OwnName, answers: &mut Answers) {
+fn held(name: &OwnName, answers: &mut Answers) -> Answered {
     let alloc = answers.alloc;
-    answers.debug_or_error("copy", &converted::<_, OwnName>(alloc, name));
-    if let Ok(parsed) = answers.ok(ParsedName::from_slice(name.as_wire())) {
-        answers.debug_or_error("Vec", &flattened::<_, OwnName>(alloc, &parsed));
+    answers.debug_made("copy", &converted::<_, OwnName>(alloc, name));
+    if let Some(parsed) = answers.ok(ParsedName::from_slice(name.as_wire())) {
+        answers.debug_made("Vec", &flattened::<_, OwnName>(alloc, &parsed));
     }
     say!(
-        answers, debug_or_error "Bytes": converted::<_, Name<Bytes>>(alloc, name),
-        debug_or_error "ArrayBuilder<3>": converted::<_, Name<ArrayBuilder<3>>>(alloc, name),
-        debug_or_error "ArrayBuilder<2>": converted::<_, Name<Two>>(alloc, name)
-    );
+        answers, debug_made "Bytes": converted::<_, Name<Bytes>>(alloc, name),
+        debug_made "ArrayBuilder<3>": converted::<_, Name<ArrayBuilder<3>>>(alloc, name),
+        debug_made "ArrayBuilder<2>": converted::<_, Name<Two>>(alloc, name)
+    )
 }
 
 /// What is written of a name in canonical form where some of eleven octets are taken.
@@ -75,8 +64,7 @@ fn room(name: &OwnName, words: &[&str], answers: &mut Answers) -> Answered {
         answers, debug "taken": target.append_slice(taken.as_slice()),
         debug "canonical": name.compose_canonical(&mut target), octets "target": target,
         fault "ArrayBuilder<4>": short
-    );
-    Ok(())
+    )
 }
 
 /// What maps with a name as a key, in order and by its hash, find by one that a text spells.
@@ -89,8 +77,7 @@ fn find(key: &OwnName, text: &str, answers: &mut Answers) -> Answered {
     let mut hashed = HashMap::new(answers.alloc);
     let inserted = hashed.insert(answers.ok(key.try_clone())?, 2u8);
     answers.ok(inserted)?;
-    answers.debug("HashMap", &hashed.get(&asked).copied());
-    Ok(())
+    answers.debug("HashMap", &hashed.get(&asked).copied())
 }
 
 /// The names in the order of std's sort.
@@ -104,7 +91,7 @@ fn sort(words: &[&str], answers: &mut Answers) -> Answered {
     for name in &names {
         answers.show("name", name);
     }
-    Ok(())
+    Some(())
 }
 
 /// Answers a vector on a name that a text spells.
@@ -112,27 +99,30 @@ fn of_text(form: &str, words: &[&str], answers: &mut Answers) -> Answered {
     let name = &answers.name(input::word(words, 0))?;
     let second = input::word(words, 1);
     match form {
-        "room" => return room(name, words, answers),
-        "compare" => return compare(name, second, answers),
-        "find" => return find(name, second, answers),
+        "room" => room(name, words, answers),
+        "compare" => compare(name, second, answers),
+        "find" => find(name, second, answers),
         "held" => held(name, answers),
         "size" => {
             say!(answers, show "length": name.compose_len(), show "labels": name.labels().count());
-            answers.characters(name);
+            answers.characters(name)
         }
         _ => show(name, answers),
     }
-    Ok(())
 }
 
 /// Answers a vector on names.
 pub fn answer(form: &str, words: &[&str], answers: &mut Answers) -> Answered {
     match form {
-        "wire" => wire(answers.spelled(words)?.as_slice(), answers),
+        "wire" => {
+            let octets = answers.spelled(words)?;
+            let name = answers.ok(Name::from_octets(octets.as_slice()))?;
+            show(&name, answers);
+            answers.debug("debug", &name)
+        }
         "parse" => parse(answers.spelled(words)?.as_slice(), answers),
-        "ascend" => return ascend(words, answers),
-        "sort" => return sort(words, answers),
-        _ => return of_text(form, words, answers),
+        "ascend" => ascend(words, answers),
+        "sort" => sort(words, answers),
+        _ => of_text(form, words, answers),
     }
-    Ok(())
 }

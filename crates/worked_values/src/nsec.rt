@@ -20,25 +20,15 @@ fn config(form: &str) -> GenerateNsecConfig {
     }
 }
 
-/// The chain of records in any order, or why they have none.
-fn of_any_order(apex: &OwnName, words: &[&str], answers: &mut Answers) -> Answered {
-    let (alloc, records) = (answers.alloc, answers.records(words)?);
-    let nsecs: Nsecs = answers.ok(generate_nsecs_of_records(alloc, apex, records, &config("any")))?;
-    answers.show_records(nsecs.as_slice());
-    Ok(())
-}
-
 /// The chain of a zone, or why it has none.
 fn made(form: &str, apex: &OwnName, words: &[&str], answers: &mut Answers) -> Answered {
     let zone = answers.zone(words)?;
     let groups = zone.owner_rrs();
-    if groups.is_one_class() {
-        let nsecs: Nsecs = answers.ok(generate_nsecs(answers.alloc, apex, groups, &config(form)))?;
-        answers.show_records(nsecs.as_slice());
-    } else {
-        answers.echo("  more than one class");
+    if !groups.is_one_class() {
+        return answers.echo("  more than one class");
     }
-    Ok(())
+    let nsecs: Nsecs = answers.ok(generate_nsecs(answers.alloc, apex, groups, &config(form)))?;
+    answers.show_records(nsecs.as_slice())
 }
 
 /// Adds the owner of the record at a place of a chain, where one is given.
@@ -61,7 +51,7 @@ fn deny(apex: &OwnName, chain: &Chain<'_>, asked: &[&str], answers: &mut Answers
         add_owner("name", chain, denial.of_name, answers);
         add_owner("wildcard", chain, denial.of_wildcard, answers);
     }
-    Ok(())
+    Some(())
 }
 
 /// The records that the chain of a zone lends: all, or those that answer questions.
@@ -80,7 +70,7 @@ fn lent(form: &str, apex: &OwnName, words: &[&str], answers: &mut Answers) -> An
     let chain = answers.ok(made.map_err(ChainError::from))?;
     answers.show("records", &chain.len());
     say_lent!(answers, chain);
-    Ok(())
+    Some(())
 }
 
 /// What NSEC records prove of each name and type, or what they answer as a whole.
@@ -92,9 +82,9 @@ fn judge(form: &str, apex: &OwnName, words: &[&str], answers: &mut Answers) -> A
         match form {
             "verdict" => answers.debug("verdict", &check_nsec(apex, &chain, &name, rtype)),
             _ => answers.debug("answer", &judge_nsec(apex, &chain, &name, rtype)),
-        }
+        };
     }
-    Ok(())
+    Some(())
 }
 
 /// Answers a vector on chains: a form, the apex, after a colon records, and after another, where
@@ -103,7 +93,12 @@ pub fn answer(form: &str, words: &[&str], answers: &mut Answers) -> Answered {
     let apex = &answers.name(input::word(words, 0))?;
     let words = words.get(2..).unwrap_or_default();
     match form {
-        "any" => of_any_order(apex, words, answers),
+        "any" => {
+            let (alloc, records, config) = (answers.alloc, answers.records(words)?, config("any"));
+            let made = generate_nsecs_of_records(alloc, apex, records, &config);
+            let nsecs: Nsecs = answers.ok(made)?;
+            answers.show_records(nsecs.as_slice())
+        }
         "borrowed" | "deny" => lent(form, apex, words, answers),
         "verdict" | "judge" => judge(form, apex, words, answers),
         _ => made(form, apex, words, answers),

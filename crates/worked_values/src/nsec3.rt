@@ -18,8 +18,7 @@ const MOST_ITERATIONS: u16 = 12;
 fn show(made: Result<Made, ChainError>, answers: &mut Answers) -> Answered {
     let made = answers.ok(made)?;
     answers.show_records(made.nsec3s.as_slice());
-    answers.show("record", &made.nsec3param);
-    Ok(())
+    answers.show("record", &made.nsec3param)
 }
 
 /// Adds the owner of the record at a place of a chain, where one is given.
@@ -46,8 +45,7 @@ impl<H: Nsec3Hasher> Hashing<'_, H> {
             self.0,
             self.2,
         );
-        answers.show_or_error("owner", &owner);
-        Ok(())
+        answers.show_made("owner", &owner)
     }
 
     /// The chain of records in any order, or why they have none.
@@ -78,14 +76,14 @@ impl<H: Nsec3Hasher> Hashing<'_, H> {
         for words in asked.split(is_slash) {
             let (name, rtype) = answers.question(words)?;
             let denial = deny_nsec3(answers.alloc, chain, &name, rtype, self.2);
-            if let Ok(denial) = answers.ok(denial) {
+            if let Some(denial) = answers.ok(denial) {
                 answers.debug("answer", &denial.answer);
                 add_owner("closest encloser", chain, denial.of_encloser, answers);
                 add_owner("next closer name", chain, denial.of_next_closer, answers);
                 add_owner("wildcard", chain, denial.of_wildcard, answers);
             }
         }
-        Ok(())
+        Some(())
     }
 
     /// The records that a chain lends: all, or those that answer questions; or why there is none.
@@ -102,8 +100,7 @@ impl<H: Nsec3Hasher> Hashing<'_, H> {
             return self.deny(&chain, asked, answers);
         }
         say_lent!(answers, chain);
-        answers.show("record", chain.nsec3param());
-        Ok(())
+        answers.show("record", chain.nsec3param())
     }
 
     /// What records prove of a name and a type, or answer as a whole; or what they answer of a name
@@ -114,18 +111,16 @@ impl<H: Nsec3Hasher> Hashing<'_, H> {
             let name = answers.name(input::word(words, 0))?;
             let labels = input::word(words, 1).parse::<usize>().unwrap_or(0);
             let answer = judge_nsec3_expansion(alloc, apex, chain, &name, labels, most, hasher);
-            answers.debug_or_error("answer", &answer);
-            return Ok(());
+            return answers.debug_made("answer", &answer);
         }
         let (name, rtype) = answers.question(words)?;
         if form == "verdict" {
             let verdict = check_nsec3(alloc, apex, chain, &name, rtype, hasher);
-            answers.debug_or_error("verdict", &verdict);
+            answers.debug_made("verdict", &verdict)
         } else {
             let answer = judge_nsec3(alloc, apex, chain, &name, rtype, most, hasher);
-            answers.debug_or_error("answer", &answer);
+            answers.debug_made("answer", &answer)
         }
-        Ok(())
     }
 
     /// What records prove, or what they answer as a whole, of each name.
@@ -139,7 +134,7 @@ impl<H: Nsec3Hasher> Hashing<'_, H> {
         for words in asked.split(is_slash) {
             self.ask(form, &chain, words, answers)?;
         }
-        Ok(())
+        Some(())
     }
 
     /// Answers a vector.
@@ -160,10 +155,10 @@ fn config(form: &str, iterations: u16, salt: &str, answers: &mut Answers) -> Giv
     let params = Nsec3param::new(Nsec3HashAlgorithm::SHA1, 0, iterations, salt);
     let config = Config::new(params);
     if form == "dnskey" {
-        return Ok(config);
+        return Some(config);
     }
     let config = config.without_assuming_dnskeys_will_be_added();
-    Ok(match form {
+    Some(match form {
         "out" => config.with_opt_out(),
         "denyout" => answers.ok(config.clone())?.with_opt_out(),
         "kept" => config

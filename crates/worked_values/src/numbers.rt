@@ -28,7 +28,7 @@ pub fn constants(form: &str, answers: &mut Answers) -> Answered {
             show_numbers!(answers, Nsec3HashAlgorithm: SHA1);
         }
     }
-    Ok(())
+    Some(())
 }
 
 /// The number of each type or class that is named, and the name of each that is numbered.
@@ -37,20 +37,20 @@ fn named(form: &str, words: &[&str], answers: &mut Answers) -> Answered {
         match (form, word.parse::<u16>()) {
             ("types", Ok(number)) => answers.show(word, &Rtype::from_int(number)),
             ("types", _) => {
-                answers.show(word, &given!(answers, Rtype::from_token(word)).to_int());
+                answers.show(word, &given!(answers, Rtype::from_token(word)).to_int())
             }
             (_, Ok(number)) => answers.show(word, &Class::from_int(number)),
             _ => answers.show(word, &given!(answers, Class::from_token(word)).to_int()),
-        }
+        };
     }
-    Ok(())
+    Some(())
 }
 
 /// Tokens of an entry whose octets have room for two.
 type Short<'a> = IterScanner<'a, Two>;
 
 /// The octets that one token, or all, stand for in an alphabet, and why they stand for no two.
-fn convert(words: &[&str], answers: &mut Answers) {
+fn convert(words: &[&str], answers: &mut Answers) -> Answered {
     let (alloc, (_, codec)) = (answers.alloc, split_codec(input::word(words, 0)));
     let tokens = words.get(1..).unwrap_or_default();
     let mut scanner = Tokens::new(tokens);
@@ -60,20 +60,20 @@ fn convert(words: &[&str], answers: &mut Answers) {
         debug "entry": Tokens::new(tokens).convert_entry(alloc, codec),
         fault "token into ArrayBuilder<2>": Short::new(tokens).convert_token(alloc, codec),
         fault "entry into ArrayBuilder<2>": Short::new(tokens).convert_entry(alloc, codec)
-    );
+    )
 }
 
 /// Answers with the value of the first token, as the function of the form reads it.
 macro_rules! scan {
     ($form:ident, $scanner:ident, $answers:ident: $($name:pat => $scan:expr),*) => {
         match $form {
-            $($name => $answers.show_or_error("value", &$scan(&mut $scanner)),)*
-        }
+            $($name => $answers.show_made("value", &$scan(&mut $scanner)),)*
+        };
     };
 }
 
 /// The value that the first token spells, as any text of its type.
-fn scan(form: &str, tokens: &[&str], answers: &mut Answers) {
+fn scan(form: &str, tokens: &[&str], answers: &mut Answers) -> Answered {
     let mut scanner = Tokens::new(tokens);
     scan!(
         form, scanner, answers: "u8" => u8::scan, "u16" => u16::scan, "u32" => u32::scan,
@@ -82,7 +82,7 @@ fn scan(form: &str, tokens: &[&str], answers: &mut Answers) {
         "digest" => <DigestAlgorithm as FromToken>::scan,
         _ => <Nsec3HashAlgorithm as FromToken>::scan
     );
-    answers.debug("next", &scanner.first_token());
+    answers.debug("next", &scanner.first_token())
 }
 
 /// Answers a vector on a value that one token spells, by its own `scan`.
@@ -93,8 +93,7 @@ pub fn scanned(form: &str, tokens: &[&str], answers: &mut Answers) -> Answered {
         "time" => Timestamp::scan, "key-algorithm" => SecurityAlgorithm::scan,
         "digest-algorithm" => DigestAlgorithm::scan, _ => Nsec3HashAlgorithm::scan
     );
-    answers.debug("continues", &scanner.continues());
-    Ok(())
+    answers.debug("continues", &scanner.continues())
 }
 
 /// Answers with a value as octets, and with the numbers that so many values are read of them as.
@@ -107,55 +106,39 @@ macro_rules! say_composed {
             match $type::parse(&mut parser) {
                 Ok(parsed) => $answers.show("parsed", &parsed.into_int()),
                 Err(error) => $answers.debug("refused", &error),
-            }
+            };
         }
+        Some(())
     }};
 }
 
 /// The serial number that a text spells, as text and as octets.
-fn serial(text: &str, answers: &mut Answers) {
-    match Serial::from_str(text) {
-        Ok(serial) => {
-            answers.show("text", &serial);
-            say_composed!(answers, serial, Serial, 1);
-        }
-        Err(error) => answers.debug("refused", &error),
-    }
-}
-
-/// How two serial numbers, and two times, compare.
-fn serials(a: &str, b: &str, answers: &mut Answers) {
-    let (a, b) = (a.parse().unwrap_or(0u32), b.parse().unwrap_or(0u32));
-    let (first, second) = (Serial::from(a), Serial::from(b));
-    let (from, to) = (Timestamp::from(a), Timestamp::from(b));
-    say!(
-        answers, debug "partial_cmp": first.partial_cmp(&second),
-        debug "canonical_cmp": first.canonical_cmp(&second),
-        debug "partial_cmp of times": from.partial_cmp(&to),
-        debug "canonical_cmp of times": from.canonical_cmp(&to)
-    );
+fn serial(text: &str, answers: &mut Answers) -> Answered {
+    let serial = given!(answers, Serial::from_str(text));
+    answers.show("text", &serial);
+    say_composed!(answers, serial, Serial, 1)
 }
 
 /// The time that a text spells, in each of its forms, and that it spells as a token.
-fn time(text: &str, answers: &mut Answers) {
+fn time(text: &str, answers: &mut Answers) -> Answered {
     match text.parse::<Timestamp>() {
         Ok(stamp) => {
             let text = stamp.display_zonefile(answers.alloc, DisplayKind::Simple);
             say!(answers, debug "read": stamp, debug "zone file": text);
-            say_composed!(answers, stamp, Timestamp, 2);
+            say_composed!(answers, stamp, Timestamp, 2)
         }
         Err(error) => answers.show("refused", &error),
-    }
+    };
     let scanned = <Timestamp as FromToken>::scan(&mut Tokens::new(&[text]));
-    answers.show_or_error("scanned", &scanned);
+    answers.show_made("scanned", &scanned)
 }
 
 /// The time nearest to a reference, all in Base 16.
-fn near(stamp: &str, reference: &str, answers: &mut Answers) {
+fn near(stamp: &str, reference: &str, answers: &mut Answers) -> Answered {
     let stamp = u32::from_str_radix(stamp, 16).unwrap_or(0);
     let reference = u64::from_str_radix(reference, 16).unwrap_or(0);
     match Timestamp::from(stamp).to_system_time(reference) {
-        Some(time) => answers.show_or_error("time", &format!(in answers.alloc; "{time:x}")),
+        Some(time) => answers.show_made("time", &format!(in answers.alloc; "{time:x}")),
         None => answers.show("time", &"none"),
     }
 }
@@ -164,7 +147,7 @@ fn near(stamp: &str, reference: &str, answers: &mut Answers) {
 pub fn answer(form: &str, words: &[&str], answers: &mut Answers) -> Answered {
     let (first, second) = (input::word(words, 0), input::word(words, 1));
     match form {
-        "types" | "classes" => return named(form, words, answers),
+        "types" | "classes" => named(form, words, answers),
         "serial" => serial(first, answers),
         "convert" => convert(words, answers),
         "measure" => {
@@ -173,12 +156,22 @@ pub fn answer(form: &str, words: &[&str], answers: &mut Answers) -> Answered {
                 answers, debug "continues": scanner.continues(),
                 debug "length": scanner.scan_ascii_str(str::len),
                 debug "continues": scanner.continues()
-            );
+            )
         }
-        "serials" => serials(first, second, answers),
+        "serials" => {
+            let a = first.parse().unwrap_or(0u32);
+            let b = second.parse().unwrap_or(0u32);
+            let (first, second) = (Serial::from(a), Serial::from(b));
+            let (from, to) = (Timestamp::from(a), Timestamp::from(b));
+            say!(
+                answers, debug "partial_cmp": first.partial_cmp(&second),
+                debug "canonical_cmp": first.canonical_cmp(&second),
+                debug "partial_cmp of times": from.partial_cmp(&to),
+                debug "canonical_cmp of times": from.canonical_cmp(&to)
+            )
+        }
         "time" => time(first, answers),
         "near" => near(first, second, answers),
         _ => scan(form, words, answers),
     }
-    Ok(())
 }

@@ -20,62 +20,50 @@ where
 }
 
 /// What each builder makes of two parts.
-fn built(form: &str, front: &[u8], back: &[u8], answers: &mut Answers) {
+fn built(form: &str, front: &[u8], back: &[u8], answers: &mut Answers) -> Answered {
     let alloc = answers.alloc;
     say!(
-        answers, octets_or_error "Vec": build::<Vec<u8>>(form, alloc, front, back),
-        octets_or_error "SmallBuilder": build::<SmallBuilder>(form, alloc, front, back)
+        answers, octets_made "Vec": build::<Vec<u8>>(form, alloc, front, back),
+        octets_made "SmallBuilder": build::<SmallBuilder>(form, alloc, front, back)
     );
     match form {
         "join" => say!(
-            answers, octets_or_error "ArrayBuilder<3>": build::<Three>(form, alloc, front, back),
-            octets_or_error "ArrayBuilder<2>": build::<Two>(form, alloc, front, back)
+            answers, octets_made "ArrayBuilder<3>": build::<Three>(form, alloc, front, back),
+            octets_made "ArrayBuilder<2>": build::<Two>(form, alloc, front, back)
         ),
         _ => say!(
             answers,
-            octets_or_error "ArrayBuilder<9>": build::<ArrayBuilder<9>>(form, alloc, front, back)
+            octets_made "ArrayBuilder<9>": build::<ArrayBuilder<9>>(form, alloc, front, back)
         ),
     }
 }
 
 /// A holder of octets, and a copy of it where it was made.
-fn twice<'a, O>(label: &str, octets: &'a [u8], answers: &mut Answers)
+fn twice<'a, O>(label: &str, octets: &'a [u8], answers: &mut Answers) -> Answered
 where
     O: OctetsFrom<&'a [u8]> + Octets + Drop,
 {
     let made = O::try_octets_from(answers.alloc, octets);
     if let Ok(octets) = &made {
-        answers.octets_or_error("copy", &octets.try_clone());
+        answers.octets_made("copy", &octets.try_clone());
     }
-    answers.octets_or_error(label, &made);
+    answers.octets_made(label, &made)
 }
 
 /// Octets in each kind of holder, and of each kind that a builder makes without its steps.
-fn held(octets: &[u8], answers: &mut Answers) {
+fn held(octets: &[u8], answers: &mut Answers) -> Answered {
     let alloc = answers.alloc;
-    answers.octets_or_error("Vec", &Vec::try_octets_from(alloc, octets));
+    answers.octets_made("Vec", &Vec::try_octets_from(alloc, octets));
     twice::<Bytes>("Bytes", octets, answers);
     twice::<SmallOctets>("SmallOctets", octets, answers);
     twice::<Three>("ArrayBuilder<3>", octets, answers);
     say!(
-        answers, octets_or_error "ArrayBuilder<2>": Two::try_octets_from(alloc, octets),
-        octets_or_error "Vec made": Vec::<u8>::from_octets(alloc, octets),
-        octets_or_error "SmallOctets made": SmallOctets::from_octets(alloc, octets),
-        octets_or_error "ArrayBuilder<3> made": Three::from_octets(alloc, octets),
-        octets_or_error "ArrayBuilder<2> made": Two::from_octets(alloc, octets)
-    );
-}
-
-/// Numbers and octets from the front.
-fn parse(octets: &[u8], answers: &mut Answers) {
-    let mut parser = Parser::new(octets);
-    say!(
-        answers, debug "u8": parser.parse_u8(), debug "u16": parser.parse_u16(),
-        debug "u32": parser.parse_u32(), debug "3 octets": parser.parse_octets(3),
-        show "at": parser.pos(), debug "2 octets": parser.parse_octets(2),
-        show "left": parser.remaining(), show "text": ParseError::ShortInput,
-        show "text": ParseError::Form("why")
-    );
+        answers, octets_made "ArrayBuilder<2>": Two::try_octets_from(alloc, octets),
+        octets_made "Vec made": Vec::<u8>::from_octets(alloc, octets),
+        octets_made "SmallOctets made": SmallOctets::from_octets(alloc, octets),
+        octets_made "ArrayBuilder<3> made": Three::from_octets(alloc, octets),
+        octets_made "ArrayBuilder<2> made": Two::from_octets(alloc, octets)
+    )
 }
 
 /// Answers a vector on octets: joined or written over by each builder, held, read, or none.
@@ -83,7 +71,16 @@ pub fn answer(form: &str, words: &[&str], answers: &mut Answers) -> Answered {
     let (alloc, (front, back)) = (answers.alloc, answers.two_parts(words)?);
     match form {
         "held" => held(front.as_slice(), answers),
-        "parse" => parse(front.as_slice(), answers),
+        "parse" => {
+            let mut parser = Parser::new(front.as_slice());
+            say!(
+                answers, debug "u8": parser.parse_u8(), debug "u16": parser.parse_u16(),
+                debug "u32": parser.parse_u32(), debug "3 octets": parser.parse_octets(3),
+                show "at": parser.pos(), debug "2 octets": parser.parse_octets(2),
+                show "left": parser.remaining(), show "text": ParseError::ShortInput,
+                show "text": ParseError::Form("why")
+            )
+        }
         "none" => say!(
             answers, octets "Vec": <Vec<u8> as EmptyOctets>::empty(alloc),
             octets "Bytes": <Bytes as EmptyOctets>::empty(alloc),
@@ -92,5 +89,4 @@ pub fn answer(form: &str, words: &[&str], answers: &mut Answers) -> Answered {
         ),
         _ => built(form, front.as_slice(), back.as_slice(), answers),
     }
-    Ok(())
 }

@@ -64,7 +64,7 @@ fn make_row(word: &str, answers: &mut Answers) -> Given<Row> {
     answers.ok(composed)?;
     let has_memory = digits != "memory";
     let hash = answers.spelled(&[if has_memory { digits } else { "-" }])?;
-    Ok(Row {
+    Some(Row {
         name,
         hash,
         has_memory,
@@ -78,5 +78,5 @@ pub fn make_table(words: &[&str], answers: &mut Answers) -> Given<TableHasher> {
         let row = make_row(word, answers)?;
         answers.ok(rows.push(row))?;
     }
-    Ok(TableHasher { rows })
+    Some(TableHasher { rows })
 }

@@ -14,10 +14,9 @@ fn insert(words: &[&str], answers: &mut Answers) -> Answered {
             Ok(()) => answers.show("records", &zone.len()),
             Err(InsertError::Present(back)) => answers.show("present", &back),
             Err(InsertError::OutOfMemory(back)) => answers.show("no memory", &back),
-        }
+        };
     }
-    answers.show_records(zone.as_slice());
-    Ok(())
+    answers.show_records(zone.as_slice())
 }
 
 /// Whether a record has a TTL of 61 seconds.
@@ -29,7 +28,7 @@ fn is_marked(record: &OwnedRecord) -> bool {
 fn change(form: &str, asked: &[&str], zone: &mut Zone, answers: &mut Answers) -> Answered {
     if form == "update" {
         zone.update_data(is_marked, answers.data(asked)?);
-        return Ok(());
+        return Some(());
     }
     let name = answers.name(input::word(asked, 0))?;
     let class = input::value::<Class>(input::word(asked, 1));
@@ -38,8 +37,7 @@ fn change(form: &str, asked: &[&str], zone: &mut Zone, answers: &mut Answers) ->
         "remove-all" => zone.remove_all_by_name_class_rtype(&name, class, rtype),
         _ => zone.remove_first_by_name_class_rtype(&name, class, rtype),
     };
-    answers.show("removed", &removed);
-    Ok(())
+    answers.show("removed", &removed)
 }
 
 /// Copies of sorted records, and of records one by one, each of which may equal the one before it.
@@ -48,14 +46,13 @@ fn copy(words: &[&str], answers: &mut Answers) -> Answered {
     for pair in addresses.windows(2) {
         if let [a, b] = pair {
             answers.debug("eq", &(a == b));
-            answers.show_or_error("copy", &a.try_clone());
+            answers.show_made("copy", &a.try_clone());
         }
     }
     let made = SortedRecords::<OwnName, A>::from_iter(answers.alloc, addresses);
     let zone = answers.ok(made)?;
     let copy = answers.ok(zone.clone())?;
-    answers.show_records(copy.as_slice());
-    Ok(())
+    answers.show_records(copy.as_slice())
 }
 
 /// A record of a zone's start.
@@ -64,11 +61,11 @@ type Start<O> = Record<Name<O>, Soa<Name<O>>>;
 /// The records of a zone's start in other holders.
 fn held(words: &[&str], answers: &mut Answers) -> Answered {
     for start in &records_of!(answers, Soa, words) {
-        say_each!(answers.show_or_error, start, Start);
+        say_each!(answers.show_made, start, Start);
         let flat = flattened::<_, Start<Bytes>>(answers.alloc, start);
-        answers.show_or_error("flattened", &flat);
+        answers.show_made("flattened", &flat);
     }
-    Ok(())
+    Some(())
 }
 
 /// Takes so many characters, and refuses what would be more.
@@ -93,7 +90,7 @@ fn refuse(_record: &OwnedRecord, _target: &mut Narrow) -> Printed {
 }
 
 /// A sorted set as text, by itself and with comments, and to writers that refuse.
-fn write(zone: &Zone, answers: &mut Answers) {
+fn write(zone: &Zone, answers: &mut Answers) -> Answered {
     let (mut text, mut commented) = (String::new(answers.alloc), String::new(answers.alloc));
     say!(
         answers, debug "written": zone.write(&mut text), debug "text": text,
@@ -101,18 +98,18 @@ fn write(zone: &Zone, answers: &mut Answers) {
         debug "in 40 characters": zone.write(&mut Narrow(40)),
         debug "in 40 characters": zone.write_with_comments(&mut Narrow(40), comment),
         debug "refused": zone.write_with_comments(&mut Narrow(999), refuse)
-    );
+    )
 }
 
-/// The records of an owner and a type.
-type Set<'a> = Rrset<'a, OwnName, Data>;
-
 /// The records of an owner and a type, if there are some, or why they are no set.
-fn show(label: &str, found: Result<Option<Set<'_>>, SigningError>, answers: &mut Answers) {
+type Found<'a> = Result<Option<Rrset<'a, OwnName, Data>>, SigningError>;
+
+/// What was found of an owner and a type.
+fn show(label: &str, found: Found<'_>, answers: &mut Answers) -> Answered {
     match found {
         Ok(Some(set)) => {
             answers.show(label, set.first());
-            answers.debug("numbers", &(set.class(), set.rtype(), set.ttl(), set.len()));
+            answers.debug("numbers", &(set.class(), set.rtype(), set.ttl(), set.len()))
         }
         Ok(None) => answers.show(label, &"none"),
         Err(error) => answers.debug(label, &error),
@@ -127,7 +124,7 @@ fn find(zone: &Zone, asked: &[&str], answers: &mut Answers) -> Answered {
         let rtype = given!(answers, Rtype::from_token(word));
         show(word, zone.find_apex_rtype(&owner, rtype), answers);
     }
-    Ok(())
+    Some(())
 }
 
 /// A group of one owner, and the groups by type in it.
@@ -157,7 +154,7 @@ fn grouped<'a>(
     'groups: while let Some(group) = groups.next() {
         answers.ok(owners.push(group))?;
     }
-    Ok(owners)
+    Some(owners)
 }
 
 /// The groups by owner from the apex on, and those of the whole zone.
@@ -192,21 +189,20 @@ fn references(zone: &Zone, answers: &mut Answers) -> Answered {
         "all as a set",
         Rrset::new_from_refs(&references).map(Some),
         answers,
-    );
-    Ok(())
+    )
 }
 
 /// Records as one set, and what it gives as a copy, one by one, and as what it was made of.
 fn set(words: &[&str], answers: &mut Answers) -> Answered {
     let records = &answers.records(words)?;
     show("owned", Rrset::new_from_owned(records).map(Some), answers);
-    if let Ok(set) = Rrset::new(SliceRefsOrOwned::new_from_owned(records)) {
-        say!(
+    match Rrset::new(SliceRefsOrOwned::new_from_owned(records)) {
+        Ok(set) => say!(
             answers, show "owner": set.clone().owner(), show "iter": set.iter().count(),
             show "into_inner": set.into_inner().iter().count()
-        );
+        ),
+        Err(_) => None,
     }
-    Ok(())
 }
 
 /// Never has the memory to sort.
@@ -235,7 +231,7 @@ fn extended<S: Sorter>(form: &str, words: &[&str], answers: &mut Answers) -> Ans
     if form == "extend" {
         answers.show("left", &zone.into_inner().len());
     }
-    Ok(())
+    Some(())
 }
 
 /// Answers a vector on a sorted set, and on what is asked of it.
@@ -247,8 +243,7 @@ fn of_zone(form: &str, words: &[&str], answers: &mut Answers) -> Answered {
         "groups" => owners(&zone, asked, answers),
         _ => {
             change(form, asked, &mut zone, answers)?;
-            answers.show_records(zone.as_slice());
-            Ok(())
+            answers.show_records(zone.as_slice())
         }
     }
 }
@@ -263,10 +258,7 @@ pub fn answer(form: &str, words: &[&str], answers: &mut Answers) -> Answered {
         "copy" => copy(words, answers),
         "held" => held(words, answers),
         "set" => set(words, answers),
-        "write" => {
-            write(&answers.zone(words)?, answers);
-            Ok(())
-        }
+        "write" => write(&answers.zone(words)?, answers),
         _ => of_zone(form, words, answers),
     }
 }
