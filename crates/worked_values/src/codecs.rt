@@ -1,9 +1,5 @@
 //! Octets as text (RFC 4648).
-use crate::input;
-use crate::lines::{Answered, Answers, Two};
-use domain_codecs::{Codec, DecodeError, base16, base32, base64_standard};
-use domain_octets::{ArrayBuilder, OutOfMemory};
-use std::fmt::{Display, Formatter, Result as Printed, Write};
+use super::*;
 
 /// Octets that print in an alphabet, or in Base 16 with lower-case letters where none is named.
 #[derive(Drop)]
@@ -21,30 +17,29 @@ impl Display for Encoded<'_> {
 }
 
 /// Octets in each alphabet, made at once and printed.
-fn encode(words: &[&str], answers: &mut Answers) -> Answered {
+fn encode(octets: &[u8], answers: &mut Answers) -> Answered {
     let alloc = answers.alloc;
-    let octets = &input::octets(alloc, words)?;
-    answers.show_or_error("base16", &base16::encode_string(alloc, octets));
-    answers.show("printed", &Encoded(Some(Codec::Base16), octets));
-    answers.show("lower", &Encoded(None, octets));
-    answers.show_or_error("base32", &base32::encode_string(alloc, octets));
-    answers.show("printed", &Encoded(Some(Codec::Base32Hex), octets));
-    let lower = base32::encode_hex_lower(alloc, octets)?;
-    let lower = str::from_utf8(lower.as_slice());
-    answers.show("lower", &lower.unwrap_or_default());
-    answers.show_or_error("base64", &base64_standard::encode_string(alloc, octets));
-    answers.show("printed", &Encoded(Some(Codec::Base64), octets));
-    Ok(())
+    let lower = answers.ok(base32::encode_hex_lower(alloc, octets))?;
+    say!(
+        answers, show_made "base16": base16::encode_string(alloc, octets),
+        show "printed": Encoded(Some(Codec::Base16), octets), show "lower": Encoded(None, octets),
+        show_made "base32": base32::encode_string(alloc, octets),
+        show "printed": Encoded(Some(Codec::Base32Hex), octets),
+        show_made "lower": str::from_utf8(lower.as_slice()),
+        show_made "base64": base64_standard::encode_string(alloc, octets),
+        show "printed": Encoded(Some(Codec::Base64), octets)
+    )
 }
 
 /// What a text stands for that is cut in two at each place, with an empty text between.
-fn decode_cut(codec: Codec, text: &str, answers: &mut Answers) {
+fn decode_cut(codec: Codec, text: &str, answers: &mut Answers) -> Answered {
     for place in 0..=text.len() {
         if let Some((front, back)) = text.split_at_checked(place) {
             let octets = codec.decode_joined::<Vec<u8>>(answers.alloc, &[front, "", back]);
-            answers.octets_or_error("cut", &octets);
+            answers.octets_made("cut", &octets);
         }
     }
+    Some(())
 }
 
 /// A word without the number of an alphabet that it ends in, and that alphabet, else Base 64.
@@ -63,35 +58,32 @@ pub fn answer(form: &str, words: &[&str], answers: &mut Answers) -> Answered {
     let (alloc, text) = (answers.alloc, input::word(words, 0));
     let (form, codec) = split_codec(form);
     match form {
-        "encode" => return encode(words, answers),
-        "base" => {
-            answers.octets_or_error("octets", &codec.decode::<Vec<u8>>(alloc, text));
-            answers.fault("ArrayBuilder<2>", codec.decode::<Two>(alloc, text));
-        }
-        "joined" => {
-            answers.octets_or_error("joined", &codec.decode_joined::<Vec<u8>>(alloc, words));
-            answers.fault("ArrayBuilder<2>", codec.decode_joined::<Two>(alloc, words));
-        }
+        "encode" => encode(answers.spelled(words)?.as_slice(), answers),
+        "base" => say!(
+            answers, octets_made "octets": codec.decode::<Vec<u8>>(alloc, text),
+            fault "ArrayBuilder<2>": codec.decode::<Two>(alloc, text)
+        ),
+        "joined" => say!(
+            answers, octets_made "joined": codec.decode_joined::<Vec<u8>>(alloc, words),
+            fault "ArrayBuilder<2>": codec.decode_joined::<Two>(alloc, words)
+        ),
         "cut" => decode_cut(codec, text, answers),
-        "arrays" => {
-            answers.octets_or_error("array", &codec.decode::<ArrayBuilder<0>>(alloc, text));
-            answers.octets_or_error("array", &codec.decode::<ArrayBuilder<1>>(alloc, text));
-            answers.octets_or_error("array", &codec.decode::<Two>(alloc, text));
-            answers.octets_or_error("array", &codec.decode::<ArrayBuilder<3>>(alloc, text));
-            answers.octets_or_error("array", &codec.decode::<ArrayBuilder<4>>(alloc, text));
-        }
-        "named" => {
-            answers.debug("base16", &base16::decode::<Vec<u8>>(alloc, text));
-            answers.debug("base32", &base32::decode_hex::<Vec<u8>>(alloc, text));
-            answers.debug("base64", &base64_standard::decode::<Vec<u8>>(alloc, text));
-        }
-        _ => {
-            answers.show("text", &DecodeError::IllegalChar('-'));
-            answers.show("text", &DecodeError::ShortInput);
-            answers.show("text", &DecodeError::ShortBuf);
-            answers.show("text", &DecodeError::OutOfMemory);
-            answers.show("text", &OutOfMemory);
-        }
+        "arrays" => say!(
+            answers, octets_made "array": codec.decode::<ArrayBuilder<0>>(alloc, text),
+            octets_made "array": codec.decode::<ArrayBuilder<1>>(alloc, text),
+            octets_made "array": codec.decode::<Two>(alloc, text),
+            octets_made "array": codec.decode::<ArrayBuilder<3>>(alloc, text),
+            octets_made "array": codec.decode::<ArrayBuilder<4>>(alloc, text)
+        ),
+        "named" => say!(
+            answers, debug "base16": base16::decode::<Vec<u8>>(alloc, text),
+            debug "base32": base32::decode_hex::<Vec<u8>>(alloc, text),
+            debug "base64": base64_standard::decode::<Vec<u8>>(alloc, text)
+        ),
+        _ => say!(
+            answers, show "text": DecodeError::IllegalChar('-'),
+            show "text": DecodeError::ShortInput, show "text": DecodeError::ShortBuf,
+            show "text": DecodeError::OutOfMemory, show "text": OutOfMemory
+        ),
     }
-    Ok(())
 }

@@ -1,185 +1,158 @@
 //! Salts, and hashes of owner names (RFC 5155, sections 3.1.5 and 3.1.7).
-use crate::input::{self, Tokens};
-use crate::lines::{Answered, Answers, Two, octets_in_each};
-use bytes::Bytes;
-use domain_base::{IterScanner, Scanner};
-use domain_bitmap::{
-    CountedOctets as Counted, Nsec3Salt, Nsec3SaltError, Nsec3SaltFromStrError, OwnerHash,
-    OwnerHashError,
-};
-use domain_codecs::DecodeError;
-use domain_octets::{
-    ArrayBuilder, DisplayKind, EmptyBuilder, FromBuilder, Octets, Parser, ZonefileFmt,
-};
-use std::fmt::Debug;
+use super::*;
 
-/// A salt in each of its forms.
-fn show_salt(salt: &Nsec3Salt<Vec<u8>>, answers: &mut Answers) {
-    answers.show("text", salt);
-    answers.debug("debug", salt);
-    answers.octets("octets", salt);
-    answers.show("length", &salt.as_slice().len());
-    answers.pieces(salt);
-    let text = salt.display_zonefile(answers.alloc, DisplayKind::Simple);
-    answers.debug("zone file", &text);
+/// A salt or a hash in each of its forms.
+fn show<C: Octets + Display + Debug>(counted: &C, answers: &mut Answers) -> Answered {
+    say!(
+        answers, show "text": counted, debug "debug": counted, octets "octets": *counted,
+        show "length": counted.as_slice().len()
+    )
 }
 
 /// The salt that a text spells, by itself and as a token.
-fn salt(text: &str, answers: &mut Answers) {
+fn salt(text: &str, answers: &mut Answers) -> Answered {
     match Nsec3Salt::<Vec<u8>>::from_str(answers.alloc, text) {
-        Ok(salt) => show_salt(&salt, answers),
-        Err(error) => {
-            answers.refused(&error);
-            answers.show("text", &error);
+        Ok(salt) => {
+            show(&salt, answers);
+            answers.pieces(&salt);
+            let text = salt.display_zonefile(answers.alloc, DisplayKind::Simple);
+            answers.debug("zone file", &text)
         }
-    }
+        Err(error) => say!(answers, debug "refused": error, show "text": error),
+    };
     let tokens = [text];
     let mut scanner = Tokens::new(&tokens);
-    answers.octets_or_error("scanned", &Nsec3Salt::scan(answers.alloc, &mut scanner));
-    answers.debug("next", &scanner.first_token());
+    say!(
+        answers, octets_made "scanned": Nsec3Salt::scan(answers.alloc, &mut scanner),
+        debug "next": scanner.first_token()
+    )
 }
 
 /// The hash that a text spells, by itself and as a token.
-fn hash(text: &str, answers: &mut Answers) {
-    match OwnerHash::<Vec<u8>>::from_str(answers.alloc, text) {
-        Ok(hash) => {
-            answers.show("text", &hash);
-            answers.debug("debug", &hash);
-            answers.octets("octets", &hash);
-            answers.show("length", &hash.as_slice().len());
-        }
-        Err(error) => answers.refused(&error),
+fn hash(text: &str, answers: &mut Answers) -> Answered {
+    if let Some(hash) = answers.ok(OwnerHash::<Vec<u8>>::from_str(answers.alloc, text)) {
+        show(&hash, answers);
     }
     let tokens = [text];
     let mut scanner = Tokens::new(&tokens);
-    answers.octets_or_error("scanned", &OwnerHash::scan(answers.alloc, &mut scanner));
-    answers.debug("next", &scanner.first_token());
+    say!(
+        answers, octets_made "scanned": OwnerHash::scan(answers.alloc, &mut scanner),
+        debug "next": scanner.first_token()
+    )
 }
 
 /// How many octets a salt and a hash have that a text spells, or why it spells none.
-fn sizes(text: &str, answers: &mut Answers) {
+fn sizes(text: &str, answers: &mut Answers) -> Answered {
     let alloc = answers.alloc;
-    match Nsec3Salt::<Vec<u8>>::from_str(alloc, text) {
-        Ok(salt) => answers.show("salt", &salt.as_slice().len()),
-        Err(error) => answers.refused(&error),
+    if let Some(salt) = answers.ok(Nsec3Salt::<Vec<u8>>::from_str(alloc, text)) {
+        answers.show("salt", &salt.as_slice().len());
     }
-    match OwnerHash::<Vec<u8>>::from_str(alloc, text) {
-        Ok(hash) => answers.show("hash", &hash.as_slice().len()),
-        Err(error) => answers.refused(&error),
+    if let Some(hash) = answers.ok(OwnerHash::<Vec<u8>>::from_str(alloc, text)) {
+        answers.show("hash", &hash.as_slice().len());
     }
-    let salt = Nsec3Salt::scan(alloc, &mut Tokens::new(&[text]));
-    answers.fault("salt as a token", salt);
-    let hash = OwnerHash::scan(alloc, &mut Tokens::new(&[text]));
-    answers.fault("hash as a token", hash);
+    say!(
+        answers, fault "salt as a token": Nsec3Salt::scan(alloc, &mut Tokens::new(&[text])),
+        fault "hash as a token": OwnerHash::scan(alloc, &mut Tokens::new(&[text]))
+    )
 }
 
 /// Why a text is no salt and no hash over octets of one kind, by itself and as the next token.
-fn refusals<O, S>(text: &str, scanner: &mut S, answers: &mut Answers)
+fn refusals<O, S>(text: &str, scanner: &mut S, answers: &mut Answers) -> Answered
 where
     O: FromBuilder + Drop,
     O::Builder: EmptyBuilder + Drop,
     S: Scanner<Octets = O>,
 {
     let alloc = answers.alloc;
-    answers.fault("salt", Nsec3Salt::<O>::from_str(alloc, text));
-    answers.fault("salt as a token", Nsec3Salt::scan(alloc, scanner));
-    answers.fault("hash", OwnerHash::<O>::from_str(alloc, text));
-    answers.fault("hash as a token", OwnerHash::scan(alloc, scanner));
+    say!(
+        answers, fault "salt": Nsec3Salt::<O>::from_str(alloc, text),
+        fault "salt as a token": Nsec3Salt::scan(alloc, scanner),
+        fault "hash": OwnerHash::<O>::from_str(alloc, text),
+        fault "hash as a token": OwnerHash::scan(alloc, scanner)
+    )
 }
 
-/// The same where there is room for one octet, for 255 and for 256.
-fn room(text: &str, answers: &mut Answers) {
-    let tokens = [text, text];
-    let mut scanner = IterScanner::<ArrayBuilder<1>>::new(&tokens);
-    refusals(text, &mut scanner, answers);
-    let mut scanner = IterScanner::<ArrayBuilder<255>>::new(&tokens);
-    refusals(text, &mut scanner, answers);
-    let mut scanner = IterScanner::<ArrayBuilder<256>>::new(&tokens);
-    refusals(text, &mut scanner, answers);
-}
-
-/// Octets as a salt or a hash, in other holders.
-fn held<E: Default + Debug + Drop>(octets: &[u8], answers: &mut Answers) {
-    match Counted::<&[u8], E>::from_slice(octets) {
-        Ok(counted) => octets_in_each::<_, Counted<Vec<u8>, E>, Counted<Bytes, E>, Counted<Two, E>>(
-            &counted, answers,
-        ),
-        Err(error) => answers.refused(&error),
+/// Octets as a salt and as a hash, in other holders.
+fn held(octets: &[u8], answers: &mut Answers) {
+    if let Some(salt) = &answers.ok(Nsec3Salt::from_slice(octets)) {
+        say_each!(answers.octets_made, salt, Nsec3Salt);
     }
-}
-
-/// Shared octets as a salt or a hash.
-fn shared<E: Default + Debug + Drop>(label: &str, octets: Bytes, answers: &mut Answers) {
-    match Counted::<Bytes, E>::from_bytes(octets) {
-        Ok(counted) => answers.octets(label, &counted.into_octets()),
-        Err(error) => answers.refused(&error),
+    if let Some(hash) = &answers.ok(OwnerHash::from_slice(octets)) {
+        say_each!(answers.octets_made, hash, OwnerHash);
     }
-}
-
-/// Octets as a salt and as a hash, in other holders and as a shared copy.
-fn from_octets(octets: &[u8], answers: &mut Answers) -> Answered {
-    held::<Nsec3SaltError>(octets, answers);
-    held::<OwnerHashError>(octets, answers);
-    let copy = Bytes::copy_from_slice(answers.alloc, octets)?;
-    shared::<Nsec3SaltError>("salt", copy, answers);
-    let copy = Bytes::copy_from_slice(answers.alloc, octets)?;
-    shared::<OwnerHashError>("hash", copy, answers);
-    Ok(())
 }
 
 /// How two salts or two hashes compare.
-fn compare<E: Default + Drop>(a: &[u8], b: &[u8], answers: &mut Answers) {
-    let a = Counted::<&[u8], E>::from_slice(a);
-    let b = Counted::<&[u8], E>::from_slice(b);
-    if let (Ok(a), Ok(b)) = (a, b) {
-        answers.compared(&a, &b);
-        answers.debug("canonical_cmp_to", &a.canonical_cmp_to(&b));
-    }
-}
-
-/// What is said of each error, and the salt of no octets.
-fn errors(answers: &mut Answers) {
-    answers.show("text", &Nsec3SaltError);
-    answers.show("text", &OwnerHashError);
-    let error = Nsec3SaltFromStrError::DecodeError(DecodeError::ShortInput);
-    answers.show("text", &error);
-    answers.show("empty", &Nsec3Salt::<Vec<u8>>::empty(answers.alloc));
+fn compare<E: Default + Debug + Drop>(a: &[u8], b: &[u8], answers: &mut Answers) -> Answered {
+    let a = answers.ok(Counted::<&[u8], E>::from_slice(a))?;
+    let b = answers.ok(Counted::<&[u8], E>::from_slice(b))?;
+    answers.compared(&a, &b);
+    say_methods!(answers, a.(canonical_cmp_to)(&b))
 }
 
 /// Answers a vector on salts and hashes that has octets.
-fn of_octets(form: &str, words: &[&str], answers: &mut Answers) -> Answered {
-    let (first, second) = input::two_parts(answers.alloc, words)?;
+fn of_octets(form: &str, first: &[u8], second: &[u8], answers: &mut Answers) -> Answered {
     match form {
         "parse" => {
-            let mut parser = Parser::new(&first);
-            answers.show_or_error("salt", &Nsec3Salt::parse(&mut parser));
-            answers.show("at", &parser.pos());
-            answers.show_or_error("hash", &OwnerHash::parse(&mut parser));
-            answers.show("at", &parser.pos());
+            let mut parser = Parser::new(first);
+            say!(
+                answers, show_made "salt": Nsec3Salt::parse(&mut parser),
+                show "at": parser.pos(), show_made "hash": OwnerHash::parse(&mut parser),
+                show "at": parser.pos()
+            )
         }
-        "limit" => {
-            answers.fault("salt", Nsec3Salt::from_slice(&first));
-            answers.fault("hash", OwnerHash::from_slice(&first));
-        }
+        "limit" => say!(
+            answers, fault "salt": Nsec3Salt::from_slice(first),
+            fault "hash": OwnerHash::from_slice(first)
+        ),
         "compare" => {
-            compare::<Nsec3SaltError>(&first, &second, answers);
-            compare::<OwnerHashError>(&first, &second, answers);
+            compare::<Nsec3SaltError>(first, second, answers);
+            compare::<OwnerHashError>(first, second, answers)
         }
-        _ => return from_octets(&first, answers),
+        _ => {
+            held(first, answers);
+            let copy = answers.ok(Bytes::copy_from_slice(answers.alloc, first))?;
+            let again = answers.ok(copy.clone())?;
+            let salt = answers.ok(Nsec3Salt::from_bytes(copy))?;
+            let hash = answers.ok(OwnerHash::from_bytes(again))?;
+            say!(answers, octets "salt": salt.into_octets(), octets "hash": hash.into_octets())
+        }
     }
-    Ok(())
 }
 
-/// Answers a vector on salts and hashes.
+/// Answers a vector on salts and hashes; `room` is for one octet, for 255 and for 256.
 pub fn answer(form: &str, words: &[&str], answers: &mut Answers) -> Answered {
     let text = input::word(words, 0);
     match form {
         "salt" => salt(text, answers),
         "hash" => hash(text, answers),
         "sizes" => sizes(text, answers),
-        "room" => room(text, answers),
-        "errors" => errors(answers),
-        _ => return of_octets(form, words, answers),
+        "room" => {
+            let tokens = [text, text];
+            refusals(
+                text,
+                &mut IterScanner::<ArrayBuilder<1>>::new(&tokens),
+                answers,
+            );
+            refusals(
+                text,
+                &mut IterScanner::<ArrayBuilder<255>>::new(&tokens),
+                answers,
+            );
+            refusals(
+                text,
+                &mut IterScanner::<ArrayBuilder<256>>::new(&tokens),
+                answers,
+            )
+        }
+        "errors" => say!(
+            answers, show "text": Nsec3SaltError, show "text": OwnerHashError,
+            show "text": Nsec3SaltFromStrError::DecodeError(DecodeError::ShortInput),
+            show "empty": Nsec3Salt::<Vec<u8>>::empty(answers.alloc)
+        ),
+        _ => {
+            let (first, second) = answers.two_parts(words)?;
+            of_octets(form, first.as_slice(), second.as_slice(), answers)
+        }
     }
-    Ok(())
 }

@@ -1,12 +1,5 @@
 //! The words of a vector, and what they stand for: octets, names, data, records and sorted sets.
-use crate::lines::OwnName;
-use domain_base::{Class, FromToken, IterScanner, Rtype, ScanError, Scanner, Ttl};
-use domain_codecs::Codec;
-use domain_octets::{OutOfMemory, TryClone};
-use domain_rdata::ZoneRecordData;
-use domain_record::Record;
-use domain_records::SortedRecords;
-use std::alloc::{AllocError, Global};
+use super::*;
 
 /// Tokens of an entry.
 pub type Tokens<'a> = IterScanner<'a, Vec<u8>>;
@@ -35,12 +28,14 @@ pub fn expanded(alloc: Global, word: &str) -> Result<String, AllocError> {
     }
 }
 
-/// The octets that words spell together in Base 16; `-` spells none.
-pub fn octets(alloc: Global, words: &[&str]) -> Result<Vec<u8>, ScanError> {
-    match words {
-        ["-"] => Ok(Vec::new(alloc)),
-        _ => Tokens::new(words).convert_entry(alloc, Codec::Base16),
-    }
+/// The word that stands at a place, or the empty word.
+pub fn word<'a>(words: &[&'a str], at: usize) -> &'a str {
+    words.get(at).copied().unwrap_or_default()
+}
+
+/// The value that a word spells, if it spells one.
+pub fn value<F: FromToken + Drop>(word: &str) -> Option<F> {
+    F::from_token(word).ok()
 }
 
 /// Whether a word stands between two parts.
@@ -56,74 +51,81 @@ pub fn halves<'a, 'b>(words: &'a [&'b str], mark: &str) -> (&'a [&'b str], &'a [
     }
 }
 
-/// The octets that the words before the first `/`, and those after it, spell.
-pub fn two_parts(alloc: Global, words: &[&str]) -> Result<(Vec<u8>, Vec<u8>), ScanError> {
-    let (front, back) = halves(words, "/");
-    let first = octets(alloc, front)?;
-    Ok((first, octets(alloc, back)?))
-}
-
-/// The name and the type that two words spell.
-pub fn question(alloc: Global, words: &[&str]) -> Result<(OwnName, Rtype), ScanError> {
-    let mut scanner = Tokens::new(words);
-    let name = scanner.scan_name(alloc)?;
-    Ok((name, given!(Rtype::scan(&mut scanner))))
-}
-
-/// The value that a word spells, if it spells one.
-pub fn value<F: FromToken + Drop>(word: &str) -> Option<F> {
-    F::from_token(word).ok()
-}
-
-/// The word that stands at a place, or the empty word.
-pub fn word<'a>(words: &[&'a str], at: usize) -> &'a str {
-    words.get(at).copied().unwrap_or_default()
-}
-
-/// Data of the type that the next token names, which all tokens after it spell.
-fn scan_data(alloc: Global, scanner: &mut Tokens<'_>) -> Result<Data, ScanError> {
-    let rtype = given!(Rtype::scan(scanner));
-    let data = Data::scan_rdata(alloc, rtype, scanner)?;
-    if scanner.continues() {
-        return Err(ScanError::Custom("tokens are left"));
+/// What words stand for; where they do not, the error ends the answer.
+impl Answers {
+    /// The name that a word spells.
+    pub fn name(&mut self, word: &str) -> Given<OwnName> {
+        let name = OwnName::from_str(self.alloc, word);
+        self.ok(name)
     }
-    Ok(data)
-}
 
-/// The data that words spell: its type, and what the type says.
-pub fn data(alloc: Global, words: &[&str]) -> Result<Data, ScanError> {
-    scan_data(alloc, &mut Tokens::new(words))
-}
-
-/// The record that words spell: its owner, its TTL, its class, its type, and its data.
-pub fn record(alloc: Global, words: &[&str]) -> Result<OwnedRecord, ScanError> {
-    let mut scanner = Tokens::new(words);
-    let owner = scanner.scan_name(alloc)?;
-    let ttl = given!(Ttl::scan(&mut scanner));
-    let class = given!(Class::scan(&mut scanner));
-    Ok(Record::new(owner, class, ttl, scan_data(alloc, &mut scanner)?))
-}
-
-/// The records that words spell, with `/` between them.
-pub fn records(alloc: Global, words: &[&str]) -> Result<Vec<OwnedRecord>, ScanError> {
-    let mut records = Vec::new(alloc);
-    if words.is_empty() {
-        return Ok(records);
+    /// The octets that words spell together in Base 16; `-` spells none.
+    pub fn spelled(&mut self, words: &[&str]) -> Given<Vec<u8>> {
+        match words {
+            ["-"] => Some(Vec::new(self.alloc)),
+            _ => self.ok(Tokens::new(words).convert_entry(self.alloc, Codec::Base16)),
+        }
     }
-    for tokens in words.split(is_slash) {
-        records.push(record(alloc, tokens)?)?;
+
+    /// The octets that the words before the first `/`, and those after it, spell.
+    pub fn two_parts(&mut self, words: &[&str]) -> Given<(Vec<u8>, Vec<u8>)> {
+        let (front, back) = halves(words, "/");
+        Some((self.spelled(front)?, self.spelled(back)?))
     }
-    Ok(records)
-}
 
-/// The sorted set of the records that words spell.
-pub fn zone(alloc: Global, words: &[&str]) -> Result<Zone, ScanError> {
-    let zone = Zone::from_vec(records(alloc, words)?);
-    zone.ok().ok_or(ScanError::OutOfMemory)
-}
+    /// Data of the type that the next token names, which all tokens after it spell.
+    fn scan_data(&mut self, scanner: &mut Tokens<'_>) -> Given<Data> {
+        let rtype = given!(self, Rtype::scan(scanner));
+        let data = self.ok(Data::scan_rdata(self.alloc, rtype, scanner))?;
+        if scanner.continues() {
+            return self.ok(Err(ScanError::Custom("tokens are left")));
+        }
+        Some(data)
+    }
 
-/// A record with a copy of its data, which are known to be of one type.
-pub fn typed<D: TryClone>(record: &OwnedRecord, data: &D) -> Result<Typed<D>, OutOfMemory> {
-    let owner = record.owner().clone()?;
-    Ok(Record::new(owner, record.class(), record.ttl(), data.try_clone()?))
+    /// The data that words spell: its type, and what the type says.
+    pub fn data(&mut self, words: &[&str]) -> Given<Data> {
+        self.scan_data(&mut Tokens::new(words))
+    }
+
+    /// The record that words spell: its owner, its TTL, its class, its type, and its data.
+    pub fn record(&mut self, words: &[&str]) -> Given<OwnedRecord> {
+        let mut scanner = Tokens::new(words);
+        let owner = self.ok(scanner.scan_name(self.alloc))?;
+        let ttl = given!(self, Ttl::scan(&mut scanner));
+        let class = given!(self, Class::scan(&mut scanner));
+        Some(Record::new(owner, class, ttl, self.scan_data(&mut scanner)?))
+    }
+
+    /// The records that words spell, with `/` between them.
+    pub fn records(&mut self, words: &[&str]) -> Given<Vec<OwnedRecord>> {
+        let mut records = Vec::new(self.alloc);
+        if words.is_empty() {
+            return Some(records);
+        }
+        for tokens in words.split(is_slash) {
+            let record = self.record(tokens)?;
+            self.ok(records.push(record))?;
+        }
+        Some(records)
+    }
+
+    /// The sorted set of the records that words spell.
+    pub fn zone(&mut self, words: &[&str]) -> Given<Zone> {
+        let records = self.records(words)?;
+        self.ok(Zone::from_vec(records))
+    }
+
+    /// The name and the type that two words spell.
+    pub fn question(&mut self, words: &[&str]) -> Given<(OwnName, Rtype)> {
+        let name = self.name(word(words, 0))?;
+        Some((name, given!(self, Rtype::from_token(word(words, 1)))))
+    }
+
+    /// A record with a copy of its data, which are known to be of one type.
+    pub fn typed<D: TryClone + Drop>(&mut self, of: &OwnedRecord, data: &D) -> Given<Typed<D>> {
+        let owner = self.ok(of.owner().clone())?;
+        let data = self.ok(data.try_clone())?;
+        Some(Record::new(owner, of.class(), of.ttl(), data))
+    }
 }

@@ -1,23 +1,6 @@
 //! NSEC3 chains of small zones (RFC 5155, section 7.1), what their records prove and answer as a
 //! whole (RFC 5155, section 8), and which of them a server answers with (RFC 5155, section 7.2).
-use crate::input::{self, Tokens, Typed, is_slash, question, records, typed, zone};
-use crate::lines::{Answered, Answers, OwnName};
-use crate::table::table;
-use crate::zones::RefusingSorter;
-use domain_answer::{judge_nsec3, judge_nsec3_expansion};
-use domain_base::{Class, Nsec3HashAlgorithm, ScanError, Ttl};
-use domain_dnssec::{
-    ChainError, DefaultSorter, GenerateNsec3Config, Nsec3Chain, Nsec3Hasher, Nsec3ParamTtlMode,
-    Nsec3Records, check_nsec3, deny_nsec3, generate_nsec3s, generate_nsec3s_of_records,
-    mk_hashed_nsec3_owner_name,
-};
-use domain_rdata::{Nsec3, Nsec3Salt, Nsec3param, ZoneRecordData};
-use domain_record::Record;
-use domain_sha1::Sha1Hasher;
-use std::alloc::Global;
-
-/// NSEC3 records.
-type Nsec3s = Vec<Typed<Nsec3<Vec<u8>>>>;
+use super::*;
 
 /// A chain with its NSEC3PARAM record.
 type Made = Nsec3Records<OwnName, Vec<u8>>;
@@ -32,27 +15,10 @@ type Config = GenerateNsec3Config<Vec<u8>, DefaultSorter>;
 const MOST_ITERATIONS: u16 = 12;
 
 /// A chain, each record on a line, or why there is none.
-fn show(made: Result<Made, ChainError>, answers: &mut Answers) {
-    match made {
-        Ok(made) => {
-            answers.records(made.nsec3s.as_slice());
-            answers.show("record", &made.nsec3param);
-        }
-        Err(error) => answers.refused(&error),
-    }
-}
-
-/// The records of a chain as it lends them, each on a line, none past the last one.
-fn lend(chain: &Chain<'_>, answers: &mut Answers) {
-    for place in 0..chain.len() {
-        if let Some(nsec3) = chain.lend(place) {
-            answers.show("record", &nsec3);
-        }
-    }
-    if chain.lend(chain.len()).is_none() {
-        answers.echo("  no further record");
-    }
-    answers.show("record", chain.nsec3param());
+fn show(made: Result<Made, ChainError>, answers: &mut Answers) -> Answered {
+    let made = answers.ok(made)?;
+    answers.show_records(made.nsec3s.as_slice());
+    answers.show("record", &made.nsec3param)
 }
 
 /// Adds the owner of the record at a place of a chain, where one is given.
@@ -62,138 +28,113 @@ fn add_owner(label: &str, chain: &Chain<'_>, place: Option<usize>, answers: &mut
     }
 }
 
-/// The NSEC3 records that words spell.
-fn nsec3s(alloc: Global, words: &[&str]) -> Result<Nsec3s, ScanError> {
-    let mut nsec3s = Vec::new(alloc);
-    for record in &records(alloc, words)? {
-        if let ZoneRecordData::Nsec3(data) = record.data() {
-            nsec3s.push(typed(record, data)?)?;
-        }
-    }
-    Ok(nsec3s)
-}
-
-/// What the chain of a zone is made by.
+/// What the chain of a zone is made by: its apex, what is asked of the generator, and a hasher.
 #[derive(Drop)]
-struct Hashing<'a, H> {
-    apex: &'a OwnName,
-    config: &'a Config,
-    hasher: &'a H,
-}
+struct Hashing<'a, H>(&'a OwnName, &'a Config, &'a H);
 
 impl<H: Nsec3Hasher> Hashing<'_, H> {
     /// The owner of the NSEC3 record of a name, or why there is none.
     fn owner(&self, word: &str, answers: &mut Answers) -> Answered {
-        let name = OwnName::from_str(answers.alloc, word)?;
-        let params = &self.config.params;
+        let (name, params) = (answers.name(word)?, &self.1.params);
         let owner = mk_hashed_nsec3_owner_name(
             answers.alloc,
             &name,
             params.hash_algorithm(),
             params.iterations(),
             params.salt(),
-            self.apex,
-            self.hasher,
+            self.0,
+            self.2,
         );
-        answers.show_or_error("owner", &owner);
-        Ok(())
+        answers.show_made("owner", &owner)
     }
 
     /// The chain of records in any order, or why they have none.
     fn of_any_order(&self, words: &[&str], answers: &mut Answers) -> Answered {
-        let (alloc, config, hasher) = (answers.alloc, self.config, self.hasher);
-        let given = records(alloc, words)?;
-        let made = generate_nsec3s_of_records(alloc, self.apex, given, config, hasher);
-        show(made, answers);
-        Ok(())
+        let (alloc, records) = (answers.alloc, answers.records(words)?);
+        let made = generate_nsec3s_of_records(alloc, self.0, records, self.1, self.2);
+        show(made, answers)
     }
 
     /// The chain of sorted records, made all at once by a sorter with memory or without.
     fn made(&self, form: &str, words: &[&str], answers: &mut Answers) -> Answered {
-        let (alloc, apex, hasher) = (answers.alloc, self.apex, self.hasher);
-        let zone = zone(alloc, words)?;
+        let (alloc, zone) = (answers.alloc, answers.zone(words)?);
         let groups = zone.owner_rrs();
         if !groups.is_one_class() {
-            answers.refused(&ChainError::MixedClasses);
-            return Ok(());
+            return answers.ok(Err(ChainError::MixedClasses));
         }
         let made = if form == "unsorted" {
             let config = GenerateNsec3Config::<Vec<u8>, RefusingSorter>::default(alloc);
-            generate_nsec3s(alloc, apex, groups, &config, hasher)
+            generate_nsec3s(alloc, self.0, groups, &config, self.2)
         } else {
-            generate_nsec3s(alloc, apex, groups, self.config, hasher)
+            generate_nsec3s(alloc, self.0, groups, self.1, self.2)
         };
-        show(made.map_err(ChainError::from), answers);
-        Ok(())
+        show(made.map_err(ChainError::from), answers)
     }
 
     /// What is picked of a chain to answer each name and type with.
     fn deny(&self, chain: &Chain<'_>, asked: &[&str], answers: &mut Answers) -> Answered {
         for words in asked.split(is_slash) {
-            let (name, rtype) = question(answers.alloc, words)?;
-            match deny_nsec3(answers.alloc, chain, &name, rtype, self.hasher) {
-                Ok(denial) => {
-                    answers.debug("answer", &denial.answer);
-                    add_owner("closest encloser", chain, denial.of_encloser, answers);
-                    add_owner("next closer name", chain, denial.of_next_closer, answers);
-                    add_owner("wildcard", chain, denial.of_wildcard, answers);
-                }
-                Err(error) => answers.refused(&error),
+            let (name, rtype) = answers.question(words)?;
+            let denial = deny_nsec3(answers.alloc, chain, &name, rtype, self.2);
+            if let Some(denial) = answers.ok(denial) {
+                answers.debug("answer", &denial.answer);
+                add_owner("closest encloser", chain, denial.of_encloser, answers);
+                add_owner("next closer name", chain, denial.of_next_closer, answers);
+                add_owner("wildcard", chain, denial.of_wildcard, answers);
             }
         }
-        Ok(())
+        Some(())
     }
 
     /// The records that a chain lends: all, or those that answer questions; or why there is none.
     fn lent(&self, form: &str, words: &[&str], answers: &mut Answers) -> Answered {
         let (listed, asked) = input::halves(words, ":");
-        let zone = zone(answers.alloc, listed)?;
+        let zone = answers.zone(listed)?;
         let groups = zone.owner_rrs();
         if !groups.is_one_class() {
-            answers.refused(&ChainError::MixedClasses);
-            return Ok(());
+            return answers.ok(Err(ChainError::MixedClasses));
         }
-        match Nsec3Chain::generate(answers.alloc, self.apex, groups, self.config, self.hasher) {
-            Ok(chain) if form == "borrowed" => lend(&chain, answers),
-            Ok(chain) => return self.deny(&chain, asked, answers),
-            Err(error) => answers.refused(&ChainError::from(error)),
+        let made = Nsec3Chain::generate(answers.alloc, self.0, groups, self.1, self.2);
+        let chain = answers.ok(made.map_err(ChainError::from))?;
+        if form != "borrowed" {
+            return self.deny(&chain, asked, answers);
         }
-        Ok(())
+        say_lent!(answers, chain);
+        answers.show("record", chain.nsec3param())
     }
 
     /// What records prove of a name and a type, or answer as a whole; or what they answer of a name
     /// that was expanded from a wildcard, with the labels that signatures tell in place of a type.
     fn ask(&self, form: &str, chain: &Made, words: &[&str], answers: &mut Answers) -> Answered {
-        let (alloc, apex, hasher, most) = (answers.alloc, self.apex, self.hasher, MOST_ITERATIONS);
+        let (alloc, apex, hasher, most) = (answers.alloc, self.0, self.2, MOST_ITERATIONS);
         if form == "expanded" {
-            let name = OwnName::from_str(alloc, input::word(words, 0))?;
+            let name = answers.name(input::word(words, 0))?;
             let labels = input::word(words, 1).parse::<usize>().unwrap_or(0);
             let answer = judge_nsec3_expansion(alloc, apex, chain, &name, labels, most, hasher);
-            answers.debug_or_error("answer", &answer);
-            return Ok(());
+            return answers.debug_made("answer", &answer);
         }
-        let (name, rtype) = question(alloc, words)?;
+        let (name, rtype) = answers.question(words)?;
         if form == "verdict" {
             let verdict = check_nsec3(alloc, apex, chain, &name, rtype, hasher);
-            answers.debug_or_error("verdict", &verdict);
+            answers.debug_made("verdict", &verdict)
         } else {
             let answer = judge_nsec3(alloc, apex, chain, &name, rtype, most, hasher);
-            answers.debug_or_error("answer", &answer);
+            answers.debug_made("answer", &answer)
         }
-        Ok(())
     }
 
     /// What records prove, or what they answer as a whole, of each name.
     fn judge(&self, form: &str, words: &[&str], answers: &mut Answers) -> Answered {
         let (listed, asked) = input::halves(words, ":");
-        let nsec3s = nsec3s(answers.alloc, listed)?;
-        let (owner, params) = (self.apex.clone()?, self.config.params.clone()?);
+        let nsec3s = records_of!(answers, Nsec3, listed);
+        let owner = answers.ok(self.0.clone())?;
+        let params = answers.ok(self.1.params.clone())?;
         let param = Record::new(owner, Class::IN, Ttl::from_secs(0), params);
         let chain = Nsec3Records::new(nsec3s, param);
         for words in asked.split(is_slash) {
             self.ask(form, &chain, words, answers)?;
         }
-        Ok(())
+        Some(())
     }
 
     /// Answers a vector.
@@ -209,17 +150,17 @@ impl<H: Nsec3Hasher> Hashing<'_, H> {
 }
 
 /// What a form asks of the generator, with a salt that a word spells.
-fn config(alloc: Global, form: &str, iterations: u16, salt: &str) -> Result<Config, ScanError> {
-    let salt = Nsec3Salt::scan(alloc, &mut Tokens::new(&[salt]))?;
+fn config(form: &str, iterations: u16, salt: &str, answers: &mut Answers) -> Given<Config> {
+    let salt = answers.ok(Nsec3Salt::scan(answers.alloc, &mut Tokens::new(&[salt])))?;
     let params = Nsec3param::new(Nsec3HashAlgorithm::SHA1, 0, iterations, salt);
     let config = Config::new(params);
     if form == "dnskey" {
-        return Ok(config);
+        return Some(config);
     }
     let config = config.without_assuming_dnskeys_will_be_added();
-    Ok(match form {
+    Some(match form {
         "out" => config.with_opt_out(),
-        "denyout" => config.clone()?.with_opt_out(),
+        "denyout" => answers.ok(config.clone())?.with_opt_out(),
         "kept" => config
             .with_opt_out()
             .without_opt_out_excluding_owner_names_of_unsigned_delegations(),
@@ -233,25 +174,15 @@ fn config(alloc: Global, form: &str, iterations: u16, salt: &str) -> Result<Conf
 /// Answers a vector on chains by hashes: a form, the apex, a table of names and hashes, or `sha1`
 /// with iterations and a salt, after a colon the records or the name, and after another questions.
 pub fn answer(form: &str, words: &[&str], answers: &mut Answers) -> Answered {
-    let apex = &OwnName::from_str(answers.alloc, input::word(words, 0))?;
+    let apex = &answers.name(input::word(words, 0))?;
     let (hashing, given) = input::halves(words.get(1..).unwrap_or_default(), ":");
-    if input::word(hashing, 0) == "sha1" {
+    let (first, salt) = (input::word(hashing, 0), input::word(hashing, 2));
+    if first == "sha1" {
         let iterations = input::word(hashing, 1).parse::<u16>().unwrap_or(0);
-        let config = &config(answers.alloc, form, iterations, input::word(hashing, 2))?;
-        let hasher = &Sha1Hasher;
-        return Hashing {
-            apex,
-            config,
-            hasher,
-        }
-        .answer(form, given, answers);
+        let config = &config(form, iterations, salt, answers)?;
+        return Hashing(apex, config, &Sha1Hasher).answer(form, given, answers);
     }
-    let hasher = &table(answers.alloc, hashing)?;
-    let config = &config(answers.alloc, form, 0, "-")?;
-    Hashing {
-        apex,
-        config,
-        hasher,
-    }
-    .answer(form, given, answers)
+    let hasher = &make_table(hashing, answers)?;
+    let config = &config(form, 0, "-", answers)?;
+    Hashing(apex, config, hasher).answer(form, given, answers)
 }

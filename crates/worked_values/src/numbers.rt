@@ -1,16 +1,6 @@
 //! Numbers, types, classes and algorithms as constants and as tokens, serial numbers, and times of
 //! signatures (RFC 1982; RFC 4034, section 3).
-use crate::codecs::split_codec;
-use crate::input::{self, Tokens};
-use crate::lines::{Answered, Answers, Two};
-use domain_base::{
-    CanonicalOrd, Class, DigestAlgorithm, FromToken, IterScanner, Nsec3HashAlgorithm, Rtype,
-    Scanner, SecurityAlgorithm, Serial, Ttl,
-};
-use domain_octets::{DisplayKind, Parser, ZonefileFmt};
-use domain_rrsig::{IllegalSignatureTime, Timestamp};
-use std::fmt::{Display, Write};
-use std::str::FromStr;
+use super::*;
 
 /// Answers with the number of each constant of a type.
 macro_rules! show_numbers {
@@ -21,39 +11,24 @@ macro_rules! show_numbers {
     };
 }
 
-/// The numbers of the record types that have a name.
-fn types(answers: &mut Answers) {
-    show_numbers!(
-        answers, Rtype: A NS CNAME SOA PTR HINFO MX TXT AAAA SRV NAPTR DNAME DS SSHFP RRSIG NSEC
-        DNSKEY NSEC3 NSEC3PARAM TLSA CDS CDNSKEY CSYNC ZONEMD SVCB HTTPS SPF CAA
-    );
-}
-
-/// The numbers of the algorithms that have a name.
-fn algorithms(answers: &mut Answers) {
-    show_numbers!(
-        answers, SecurityAlgorithm: RSAMD5 RSASHA1 RSASHA256 RSASHA512 ECDSAP256SHA256
-        ECDSAP384SHA384 ED25519 ED448
-    );
-    show_numbers!(answers, DigestAlgorithm: SHA1 SHA256 SHA384);
-    show_numbers!(answers, Nsec3HashAlgorithm: SHA1);
-}
-
-/// Answers a vector on constants: the number of each.
+/// Answers a vector on constants: the number of each that has a name.
 pub fn constants(form: &str, answers: &mut Answers) -> Answered {
     match form {
-        "types" => types(answers),
+        "types" => show_numbers!(
+            answers, Rtype: A NS CNAME SOA PTR HINFO MX TXT AAAA SRV NAPTR DNAME DS SSHFP RRSIG
+            NSEC DNSKEY NSEC3 NSEC3PARAM TLSA CDS CDNSKEY CSYNC ZONEMD SVCB HTTPS SPF CAA
+        ),
         "classes" => show_numbers!(answers, Class: IN CH HS),
-        _ => algorithms(answers),
+        _ => {
+            show_numbers!(
+                answers, SecurityAlgorithm: RSAMD5 RSASHA1 RSASHA256 RSASHA512 ECDSAP256SHA256
+                ECDSAP384SHA384 ED25519 ED448
+            );
+            show_numbers!(answers, DigestAlgorithm: SHA1 SHA256 SHA384);
+            show_numbers!(answers, Nsec3HashAlgorithm: SHA1);
+        }
     }
-    Ok(())
-}
-
-/// The value that the first token spells.
-fn scan<F: FromToken + Display + Drop>(tokens: &[&str], answers: &mut Answers) {
-    let mut scanner = Tokens::new(tokens);
-    answers.show_or_error("value", &F::scan(&mut scanner));
-    answers.debug("next", &scanner.first_token());
+    Some(())
 }
 
 /// The number of each type or class that is named, and the name of each that is numbered.
@@ -61,140 +36,142 @@ fn named(form: &str, words: &[&str], answers: &mut Answers) -> Answered {
     for word in words {
         match (form, word.parse::<u16>()) {
             ("types", Ok(number)) => answers.show(word, &Rtype::from_int(number)),
-            ("types", Err(_)) => answers.show(word, &given!(Rtype::from_token(word)).to_int()),
+            ("types", _) => {
+                answers.show(word, &given!(answers, Rtype::from_token(word)).to_int())
+            }
             (_, Ok(number)) => answers.show(word, &Class::from_int(number)),
-            (_, Err(_)) => answers.show(word, &given!(Class::from_token(word)).to_int()),
-        }
+            _ => answers.show(word, &given!(answers, Class::from_token(word)).to_int()),
+        };
     }
-    Ok(())
+    Some(())
 }
 
+/// Tokens of an entry whose octets have room for two.
+type Short<'a> = IterScanner<'a, Two>;
+
 /// The octets that one token, or all, stand for in an alphabet, and why they stand for no two.
-fn convert(words: &[&str], answers: &mut Answers) {
+fn convert(words: &[&str], answers: &mut Answers) -> Answered {
     let (alloc, (_, codec)) = (answers.alloc, split_codec(input::word(words, 0)));
     let tokens = words.get(1..).unwrap_or_default();
     let mut scanner = Tokens::new(tokens);
-    answers.debug("token", &scanner.convert_token(alloc, codec));
-    answers.debug("next", &scanner.first_token());
-    answers.debug("entry", &Tokens::new(tokens).convert_entry(alloc, codec));
-    let token = IterScanner::<Two>::new(tokens).convert_token(alloc, codec);
-    answers.fault("token into ArrayBuilder<2>", token);
-    let entry = IterScanner::<Two>::new(tokens).convert_entry(alloc, codec);
-    answers.fault("entry into ArrayBuilder<2>", entry);
+    say!(
+        answers, debug "token": scanner.convert_token(alloc, codec),
+        debug "next": scanner.first_token(),
+        debug "entry": Tokens::new(tokens).convert_entry(alloc, codec),
+        fault "token into ArrayBuilder<2>": Short::new(tokens).convert_token(alloc, codec),
+        fault "entry into ArrayBuilder<2>": Short::new(tokens).convert_entry(alloc, codec)
+    )
 }
 
-/// Answers a vector on values of tokens, on tokens as octets, or on serial numbers and times.
-pub fn answer(form: &str, words: &[&str], answers: &mut Answers) -> Answered {
-    match form {
-        "types" | "classes" => return named(form, words, answers),
-        "convert" => convert(words, answers),
-        "measure" => {
-            let mut scanner = Tokens::new(words);
-            answers.debug("continues", &scanner.continues());
-            answers.debug("length", &scanner.scan_ascii_str(str::len));
-            answers.debug("continues", &scanner.continues());
-        }
-        "u8" => scan::<u8>(words, answers),
-        "u16" => scan::<u16>(words, answers),
-        "u32" => scan::<u32>(words, answers),
-        "rtype" => scan::<Rtype>(words, answers),
-        "class" => scan::<Class>(words, answers),
-        "ttl" => scan::<Ttl>(words, answers),
-        "algorithm" => scan::<SecurityAlgorithm>(words, answers),
-        "digest" => scan::<DigestAlgorithm>(words, answers),
-        "hash" => scan::<Nsec3HashAlgorithm>(words, answers),
-        _ => return of_times(form, words, answers),
-    }
-    Ok(())
+/// Answers with the value of the first token, as the function of the form reads it.
+macro_rules! scan {
+    ($form:ident, $scanner:ident, $answers:ident: $($name:pat => $scan:expr),*) => {
+        match $form {
+            $($name => $answers.show_made("value", &$scan(&mut $scanner)),)*
+        };
+    };
+}
+
+/// The value that the first token spells, as any text of its type.
+fn scan(form: &str, tokens: &[&str], answers: &mut Answers) -> Answered {
+    let mut scanner = Tokens::new(tokens);
+    scan!(
+        form, scanner, answers: "u8" => u8::scan, "u16" => u16::scan, "u32" => u32::scan,
+        "rtype" => <Rtype as FromToken>::scan, "class" => <Class as FromToken>::scan,
+        "ttl" => <Ttl as FromToken>::scan, "algorithm" => <SecurityAlgorithm as FromToken>::scan,
+        "digest" => <DigestAlgorithm as FromToken>::scan,
+        _ => <Nsec3HashAlgorithm as FromToken>::scan
+    );
+    answers.debug("next", &scanner.first_token())
 }
 
 /// Answers a vector on a value that one token spells, by its own `scan`.
 pub fn scanned(form: &str, tokens: &[&str], answers: &mut Answers) -> Answered {
     let mut scanner = Tokens::new(tokens);
-    let label = "value";
-    match form {
-        "type" => answers.show_or_error(label, &Rtype::scan(&mut scanner)),
-        "class" => answers.show_or_error(label, &Class::scan(&mut scanner)),
-        "ttl" => answers.show_or_error(label, &Ttl::scan(&mut scanner)),
-        "time" => answers.show_or_error(label, &Timestamp::scan(&mut scanner)),
-        "key-algorithm" => answers.show_or_error(label, &SecurityAlgorithm::scan(&mut scanner)),
-        "digest-algorithm" => answers.show_or_error(label, &DigestAlgorithm::scan(&mut scanner)),
-        _ => answers.show_or_error(label, &Nsec3HashAlgorithm::scan(&mut scanner)),
-    }
-    answers.debug("continues", &scanner.continues());
-    Ok(())
+    scan!(
+        form, scanner, answers: "type" => Rtype::scan, "class" => Class::scan, "ttl" => Ttl::scan,
+        "time" => Timestamp::scan, "key-algorithm" => SecurityAlgorithm::scan,
+        "digest-algorithm" => DigestAlgorithm::scan, _ => Nsec3HashAlgorithm::scan
+    );
+    answers.debug("continues", &scanner.continues())
+}
+
+/// Answers with a value as octets, and with the numbers that so many values are read of them as.
+macro_rules! say_composed {
+    ($answers:ident, $value:ident, $type:ident, $times:literal) => {{
+        let mut octets = Vec::new($answers.alloc);
+        say!($answers, debug "composed": $value.compose(&mut octets), octets "octets": octets);
+        let mut parser = Parser::new(octets.as_slice());
+        for _ in 0..$times {
+            match $type::parse(&mut parser) {
+                Ok(parsed) => $answers.show("parsed", &parsed.into_int()),
+                Err(error) => $answers.debug("refused", &error),
+            };
+        }
+        Some(())
+    }};
 }
 
 /// The serial number that a text spells, as text and as octets.
 fn serial(text: &str, answers: &mut Answers) -> Answered {
-    let serial = given!(Serial::from_str(text));
+    let serial = given!(answers, Serial::from_str(text));
     answers.show("text", &serial);
-    let mut octets = Vec::new(answers.alloc);
-    answers.debug("composed", &serial.compose(&mut octets));
-    answers.octets("octets", &octets);
-    match Serial::parse(&mut Parser::new(octets.as_slice())) {
-        Ok(parsed) => answers.show("parsed", &parsed.into_int()),
-        Err(error) => answers.refused(&error),
-    }
-    Ok(())
+    say_composed!(answers, serial, Serial, 1)
 }
 
-/// How two serial numbers, or times, compare.
-fn serials(a: &str, b: &str, answers: &mut Answers) {
-    let (a, b) = (a.parse().unwrap_or(0u32), b.parse().unwrap_or(0u32));
-    let (first, second) = (Serial::from(a), Serial::from(b));
-    answers.debug("partial_cmp", &first.partial_cmp(&second));
-    answers.debug("canonical_cmp", &first.canonical_cmp(&second));
-    let (first, second) = (Timestamp::from(a), Timestamp::from(b));
-    answers.debug("partial_cmp of times", &first.partial_cmp(&second));
-    answers.debug("canonical_cmp of times", &first.canonical_cmp(&second));
-}
-
-/// The time that a text spells, and that it spells as a token.
-fn time(text: &str, answers: &mut Answers) {
+/// The time that a text spells, in each of its forms, and that it spells as a token.
+fn time(text: &str, answers: &mut Answers) -> Answered {
     match text.parse::<Timestamp>() {
-        Ok(stamp) => show_time(stamp, answers),
-        Err(IllegalSignatureTime) => answers.show("refused", &IllegalSignatureTime),
-    }
-    let scanned = <Timestamp as FromToken>::scan(&mut Tokens::new(&[text]));
-    answers.show_or_error("scanned", &scanned);
-}
-
-/// A time in each of its forms.
-fn show_time(stamp: Timestamp, answers: &mut Answers) {
-    answers.debug("read", &stamp);
-    let text = stamp.display_zonefile(answers.alloc, DisplayKind::Simple);
-    answers.debug("zone file", &text);
-    let mut octets = Vec::new(answers.alloc);
-    answers.debug("composed", &stamp.compose(&mut octets));
-    answers.octets("octets", &octets);
-    let mut parser = Parser::new(octets.as_slice());
-    for _ in 0..2 {
-        match Timestamp::parse(&mut parser) {
-            Ok(parsed) => answers.show("parsed", &parsed.into_int()),
-            Err(error) => answers.refused(&error),
+        Ok(stamp) => {
+            let text = stamp.display_zonefile(answers.alloc, DisplayKind::Simple);
+            say!(answers, debug "read": stamp, debug "zone file": text);
+            say_composed!(answers, stamp, Timestamp, 2)
         }
-    }
+        Err(error) => answers.show("refused", &error),
+    };
+    let scanned = <Timestamp as FromToken>::scan(&mut Tokens::new(&[text]));
+    answers.show_made("scanned", &scanned)
 }
 
 /// The time nearest to a reference, all in Base 16.
-fn near(stamp: &str, reference: &str, answers: &mut Answers) {
+fn near(stamp: &str, reference: &str, answers: &mut Answers) -> Answered {
     let stamp = u32::from_str_radix(stamp, 16).unwrap_or(0);
     let reference = u64::from_str_radix(reference, 16).unwrap_or(0);
     match Timestamp::from(stamp).to_system_time(reference) {
-        Some(time) => answers.show_or_error("time", &format!(in answers.alloc; "{time:x}")),
+        Some(time) => answers.show_made("time", &format!(in answers.alloc; "{time:x}")),
         None => answers.show("time", &"none"),
     }
 }
 
-/// Answers a vector on serial numbers and times.
-fn of_times(form: &str, words: &[&str], answers: &mut Answers) -> Answered {
+/// Answers a vector on values of tokens, on tokens as octets, or on serial numbers and times.
+pub fn answer(form: &str, words: &[&str], answers: &mut Answers) -> Answered {
     let (first, second) = (input::word(words, 0), input::word(words, 1));
     match form {
-        "serial" => return serial(first, answers),
-        "serials" => serials(first, second, answers),
+        "types" | "classes" => named(form, words, answers),
+        "serial" => serial(first, answers),
+        "convert" => convert(words, answers),
+        "measure" => {
+            let mut scanner = Tokens::new(words);
+            say!(
+                answers, debug "continues": scanner.continues(),
+                debug "length": scanner.scan_ascii_str(str::len),
+                debug "continues": scanner.continues()
+            )
+        }
+        "serials" => {
+            let a = first.parse().unwrap_or(0u32);
+            let b = second.parse().unwrap_or(0u32);
+            let (first, second) = (Serial::from(a), Serial::from(b));
+            let (from, to) = (Timestamp::from(a), Timestamp::from(b));
+            say!(
+                answers, debug "partial_cmp": first.partial_cmp(&second),
+                debug "canonical_cmp": first.canonical_cmp(&second),
+                debug "partial_cmp of times": from.partial_cmp(&to),
+                debug "canonical_cmp of times": from.canonical_cmp(&to)
+            )
+        }
         "time" => time(first, answers),
-        _ => near(first, second, answers),
+        "near" => near(first, second, answers),
+        _ => scan(form, words, answers),
     }
-    Ok(())
 }

@@ -1,105 +1,92 @@
 //! Octets, what builds them, and what reads them from the front.
-use crate::input;
-use crate::lines::{Answered, Answers, Two};
-use bytes::Bytes;
-use domain_octets::{
-    AppendError, ArrayBuilder, EmptyBuilder, EmptyOctets, FreezeBuilder, FromBuilder, Octets,
-    OctetsFrom, ParseError, Parser, SmallBuilder, SmallOctets, TryClone,
-};
-use std::alloc::Global;
+use super::*;
 
 /// Room for three octets.
 type Three = ArrayBuilder<3>;
 
-/// What one builder makes of two parts.
-fn join<B>(alloc: Global, first: &[u8], second: &[u8]) -> Result<B::Frozen, AppendError>
+/// What a builder makes of octets that others follow, or whose second is the first of the others.
+fn build<B>(form: &str, alloc: Global, front: &[u8], back: &[u8]) -> Result<B::Frozen, AppendError>
 where
     B: EmptyBuilder + FreezeBuilder + Drop,
 {
     let mut builder = B::empty(alloc);
-    builder.append_slice(first)?;
-    builder.append_slice(second)?;
+    builder.append_slice(front)?;
+    if form == "join" {
+        builder.append_slice(back)?;
+    } else if let (Some(place), Some(other)) = (builder.as_mut_slice().get_mut(1), back.first()) {
+        *place = *other;
+    }
     Ok(builder.freeze())
 }
 
-/// What a builder makes of octets, the second of which is then written over by the first of others.
-fn overwrite<B>(alloc: Global, octets: &[u8], others: &[u8]) -> Result<B::Frozen, AppendError>
-where
-    B: EmptyBuilder + FreezeBuilder + Drop,
-{
-    let mut builder = B::empty(alloc);
-    builder.append_slice(octets)?;
-    if let (Some(second), Some(other)) = (builder.as_mut_slice().get_mut(1), others.first()) {
-        *second = *other;
+/// What each builder makes of two parts.
+fn built(form: &str, front: &[u8], back: &[u8], answers: &mut Answers) -> Answered {
+    let alloc = answers.alloc;
+    say!(
+        answers, octets_made "Vec": build::<Vec<u8>>(form, alloc, front, back),
+        octets_made "SmallBuilder": build::<SmallBuilder>(form, alloc, front, back)
+    );
+    match form {
+        "join" => say!(
+            answers, octets_made "ArrayBuilder<3>": build::<Three>(form, alloc, front, back),
+            octets_made "ArrayBuilder<2>": build::<Two>(form, alloc, front, back)
+        ),
+        _ => say!(
+            answers,
+            octets_made "ArrayBuilder<9>": build::<ArrayBuilder<9>>(form, alloc, front, back)
+        ),
     }
-    Ok(builder.freeze())
 }
 
 /// A holder of octets, and a copy of it where it was made.
-fn held_twice<O: Octets + Drop>(label: &str, made: Result<O, AppendError>, answers: &mut Answers) {
+fn twice<'a, O>(label: &str, octets: &'a [u8], answers: &mut Answers) -> Answered
+where
+    O: OctetsFrom<&'a [u8]> + Octets + Drop,
+{
+    let made = O::try_octets_from(answers.alloc, octets);
     if let Ok(octets) = &made {
-        answers.octets_or_error("copy", &octets.try_clone());
+        answers.octets_made("copy", &octets.try_clone());
     }
-    answers.octets_or_error(label, &made);
+    answers.octets_made(label, &made)
 }
 
 /// Octets in each kind of holder, and of each kind that a builder makes without its steps.
-fn held(octets: &[u8], answers: &mut Answers) {
+fn held(octets: &[u8], answers: &mut Answers) -> Answered {
     let alloc = answers.alloc;
-    answers.octets_or_error("Vec", &Vec::try_octets_from(alloc, octets));
-    held_twice("Bytes", Bytes::try_octets_from(alloc, octets), answers);
-    let small = SmallOctets::try_octets_from(alloc, octets);
-    held_twice("SmallOctets", small, answers);
-    let array = Three::try_octets_from(alloc, octets);
-    held_twice("ArrayBuilder<3>", array, answers);
-    answers.octets_or_error("ArrayBuilder<2>", &Two::try_octets_from(alloc, octets));
-    answers.octets_or_error("Vec made", &Vec::<u8>::from_octets(alloc, octets));
-    answers.octets_or_error("SmallOctets made", &SmallOctets::from_octets(alloc, octets));
-    answers.octets_or_error("ArrayBuilder<3> made", &Three::from_octets(alloc, octets));
-    answers.octets_or_error("ArrayBuilder<2> made", &Two::from_octets(alloc, octets));
-}
-
-/// Numbers and octets from the front.
-fn parse(octets: &[u8], answers: &mut Answers) {
-    let mut parser = Parser::new(octets);
-    answers.debug("u8", &parser.parse_u8());
-    answers.debug("u16", &parser.parse_u16());
-    answers.debug("u32", &parser.parse_u32());
-    answers.debug("3 octets", &parser.parse_octets(3));
-    answers.show("at", &parser.pos());
-    answers.debug("2 octets", &parser.parse_octets(2));
-    answers.show("left", &parser.remaining());
-    answers.show("text", &ParseError::ShortInput);
-    answers.show("text", &ParseError::Form("why"));
+    answers.octets_made("Vec", &Vec::try_octets_from(alloc, octets));
+    twice::<Bytes>("Bytes", octets, answers);
+    twice::<SmallOctets>("SmallOctets", octets, answers);
+    twice::<Three>("ArrayBuilder<3>", octets, answers);
+    say!(
+        answers, octets_made "ArrayBuilder<2>": Two::try_octets_from(alloc, octets),
+        octets_made "Vec made": Vec::<u8>::from_octets(alloc, octets),
+        octets_made "SmallOctets made": SmallOctets::from_octets(alloc, octets),
+        octets_made "ArrayBuilder<3> made": Three::from_octets(alloc, octets),
+        octets_made "ArrayBuilder<2> made": Two::from_octets(alloc, octets)
+    )
 }
 
 /// Answers a vector on octets: joined or written over by each builder, held, read, or none.
 pub fn answer(form: &str, words: &[&str], answers: &mut Answers) -> Answered {
-    let alloc = answers.alloc;
-    let (first, second) = input::two_parts(alloc, words)?;
-    let (first, second) = (first.as_slice(), second.as_slice());
+    let (alloc, (front, back)) = (answers.alloc, answers.two_parts(words)?);
     match form {
-        "join" => {
-            answers.octets_or_error("Vec", &join::<Vec<u8>>(alloc, first, second));
-            answers.octets_or_error("SmallBuilder", &join::<SmallBuilder>(alloc, first, second));
-            answers.octets_or_error("ArrayBuilder<3>", &join::<Three>(alloc, first, second));
-            answers.octets_or_error("ArrayBuilder<2>", &join::<Two>(alloc, first, second));
+        "held" => held(front.as_slice(), answers),
+        "parse" => {
+            let mut parser = Parser::new(front.as_slice());
+            say!(
+                answers, debug "u8": parser.parse_u8(), debug "u16": parser.parse_u16(),
+                debug "u32": parser.parse_u32(), debug "3 octets": parser.parse_octets(3),
+                show "at": parser.pos(), debug "2 octets": parser.parse_octets(2),
+                show "left": parser.remaining(), show "text": ParseError::ShortInput,
+                show "text": ParseError::Form("why")
+            )
         }
-        "overwrite" => {
-            answers.octets_or_error("Vec", &overwrite::<Vec<u8>>(alloc, first, second));
-            let small = overwrite::<SmallBuilder>(alloc, first, second);
-            answers.octets_or_error("SmallBuilder", &small);
-            let array = overwrite::<ArrayBuilder<9>>(alloc, first, second);
-            answers.octets_or_error("ArrayBuilder<9>", &array);
-        }
-        "held" => held(first, answers),
-        "parse" => parse(first, answers),
-        _ => {
-            answers.octets("Vec", &<Vec<u8> as EmptyOctets>::empty(alloc));
-            answers.octets("Bytes", &<Bytes as EmptyOctets>::empty(alloc));
-            answers.octets("SmallOctets", &<SmallOctets as EmptyOctets>::empty(alloc));
-            answers.octets("slice", &<&[u8] as EmptyOctets>::empty(alloc));
-        }
+        "none" => say!(
+            answers, octets "Vec": <Vec<u8> as EmptyOctets>::empty(alloc),
+            octets "Bytes": <Bytes as EmptyOctets>::empty(alloc),
+            octets "SmallOctets": <SmallOctets as EmptyOctets>::empty(alloc),
+            octets "slice": <&[u8] as EmptyOctets>::empty(alloc)
+        ),
+        _ => built(form, front.as_slice(), back.as_slice(), answers),
     }
-    Ok(())
 }

@@ -2,11 +2,7 @@
 ghost use Rattle.std.specs.Prelude.{◌≡◌, ℕ, Ok, Err, IfOk, IsErrOf};
 ghost use Rattle.worked_values.specs.Table.{table_answer};
 
-use crate::input;
-use crate::lines::OwnName;
-use domain_base::{Nsec3HashAlgorithm, ScanError, ToName};
-use domain_dnssec::{HasherError, Nsec3Hasher};
-use std::alloc::Global;
+use super::*;
 
 /// A name on the wire in lower case, and its hash, for which there may be no memory.
 #[derive(Drop)]
@@ -61,13 +57,14 @@ impl Nsec3Hasher for TableHasher {
 
 /// The row that a word spells: a name, and after `=` the octets of its hash in Base 16, or `memory`
 /// where there is none for them.
-fn make_row(alloc: Global, word: &str) -> Result<Row, ScanError> {
+fn make_row(word: &str, answers: &mut Answers) -> Given<Row> {
     let (text, digits) = word.split_once('=').unwrap_or((word, "-"));
-    let mut name = Vec::new(alloc);
-    OwnName::from_str(alloc, text)?.compose_canonical(&mut name)?;
+    let mut name = Vec::new(answers.alloc);
+    let composed = answers.name(text)?.compose_canonical(&mut name);
+    answers.ok(composed)?;
     let has_memory = digits != "memory";
-    let hash = input::octets(alloc, &[if has_memory { digits } else { "-" }])?;
-    Ok(Row {
+    let hash = answers.spelled(&[if has_memory { digits } else { "-" }])?;
+    Some(Row {
         name,
         hash,
         has_memory,
@@ -75,10 +72,11 @@ fn make_row(alloc: Global, word: &str) -> Result<Row, ScanError> {
 }
 
 /// The table whose rows words spell.
-pub fn table(alloc: Global, words: &[&str]) -> Result<TableHasher, ScanError> {
-    let mut rows = Vec::new(alloc);
+pub fn make_table(words: &[&str], answers: &mut Answers) -> Given<TableHasher> {
+    let mut rows = Vec::new(answers.alloc);
     for word in words {
-        rows.push(make_row(alloc, word)?)?;
+        let row = make_row(word, answers)?;
+        answers.ok(rows.push(row))?;
     }
-    Ok(TableHasher { rows })
+    Some(TableHasher { rows })
 }
