@@ -37,10 +37,12 @@ fn plain_text(line: &[u8]) -> Option<&str>
     ensures some { IfSome result (λ text. (text.now ≡ line.now) × IsPlain line.now) }
     ensures none { IfNone result (IsPlain line.now → ⊥) }
 {
+    let mut is_plain = true;
     for octet in line {
-        if *octet > b'~' {
-            return None;
-        }
+        is_plain &= *octet <= b'~';
+    }
+    if !is_plain {
+        return None;
     }
     Some(unsafe { str::from_utf8_unchecked(line) })
 }
