@@ -1,12 +1,12 @@
 -- The words of a text, and the tokens that are put into one line.
-use Rattle.std.proofs.Common.{ℕ, ◌<◌, List, get_or, Fits, w8, arith, ◌≡◌, [], ◌∷◌, ◌++◌, Bool, true, false, refl, ap, ◌-◌, ◌≤◌, length, length-append, take}
-use Rattle.std.proofs.{Common.{drop, sym, ◌∙◌, ◌+◌, Bor, map, inl, inr}, lemmas.List.Elements.{All-from_get_or}}
-use Rattle.std.{proofs.lemmas.List.{append-nil, append_assoc, length-drop}, specs.Prelude.{All, ◌^◌}}
-use Rattle.std.{proofs.lemmas.List.{length-map, drop_more, take_more, get_or-drop}, specs.List.{join_with_byte, AllByRecursion}}
+use Rattle.std.proofs.Common.{ℕ, suc, ◌<◌, List, get_or, Fits, w8, arith, ◌≡◌, [], ◌∷◌, ◌++◌, Bool, true, false, refl, ap, ◌≤◌, length, take}
+use Rattle.std.proofs.{Common.{drop, Some, None, sym, ◌∙◌, ◌+◌, Bor, map, inl, inr}, lemmas.List.Elements.{All-from_get_or}}
+use Rattle.std.{proofs.lemmas.List.{append-nil, append_assoc}, specs.Prelude.{All, ◌^◌}}
+use Rattle.std.{specs.List.{join_with_byte, AllByRecursion}}
 use Rattle.std.proofs.lemmas.{Fmt.decimal_is_IsNumeral, Grind.common_steps, Bool.{cases_Bool, Decides.nat_tests}, Str.IsCharBoundary-after_ascii}
-use Rattle.std.{specs.{Fmt.decimal, Str.{IsUtf8, IsCharBoundary, Parse.AllDigits}}}
+use Rattle.std.{specs.{Fmt.decimal, Str.{Parse.AllDigits}}}
 use Rattle.domain_octets.specs.Text.{is_blank, word_if_any, words_after, words_of, HasNoBlank, IsWord}
-use Rattle.smallvec.specs.SmallVec.{SmallVec, HasRoomFor}
+use Rattle.{memchr.specs.Find.IsFirstByte, smallvec.specs.SmallVec.{SmallVec, HasRoomFor}}
 
 -- ---- octets in slices
 
@@ -89,61 +89,34 @@ decimal_word n small =
     let numeral = (decimal_is_IsNumeral n small).0 in
     record { some = λ none. omega (arith, numeral.0, ap length none); unbroken = digits_plain (decimal n) numeral.1 }
 
--- ---- the words of a line, up to a place
+-- ---- the words of a line, one after another
 
-abbrev texts : SmallVec (Bor (List ℕ)) → List (List ℕ)
+abbrev pub texts : SmallVec (Bor (List ℕ)) → List (List ℕ)
 texts words = map (λ w. w.now) words.items
 
--- the words before a place, in which the last began, come behind others
-pub record ArePushed (old : SmallVec (Bor (List ℕ))) (text : List ℕ) (begin place : ℕ) (words : SmallVec (Bor (List ℕ))) : Type 0 where
-  pub begun : begin ≤ place
-  pub boundary : IsCharBoundary text begin
-  pub same : texts words ++ words_after (take (place - begin) (drop begin text)) (drop place text) ≡ texts old ++ words_of text
-  pub grown : old.capacity ≤ words.capacity
+no_blank_at : (text : List ℕ) → ((k : ℕ) → k < length text → is_blank (get_or text k 0) ≡ true → ⊥) → HasNoBlank text
+no_blank_at [] none = tt
+no_blank_at (c ∷ text) none = (grind (arith, nat_tests, (none 0)), no_blank_at text (λ k below. none (suc k) (omega arith)))
 
-module _ (old words : SmallVec (Bor (List ℕ))) (text : List ℕ) (begin place : ℕ) (so_far : ArePushed old text begin place words) where
-  -- where there was room for all, there is room for the first of those that are left
-  pub room_for : (word : List ℕ) (behind : List (List ℕ))
-      → words_after (take (place - begin) (drop begin text)) (drop place text) ≡ word_if_any word ++ behind
-      → HasRoomFor old (length (words_of text)) → HasRoomFor words (length (word_if_any word))
-  room_for word behind parts room =
-      let grown = so_far.grown in
-      omega (
-        arith,
-        room,
-        grown,
-        (simp (length-append, length-map) at (ap length so_far.same)),
-        (simp length-append at (ap length parts)),
-      )
+-- the first blank ends the first word
+pub blank_parts : (text : List ℕ) (end : ℕ) → IsFirstByte is_blank text (Some end)
+    → words_of text ≡ word_if_any (take end text) ++ words_of (drop (end + 1) text)
+blank_parts text end (none, is) =
+    let front = take end text in
+    let within = none.high in
+    let parts = words_apart [] front (get_or text end 0) (drop (end + 1) text) is in
+    let plain = no_blank_at front (λ k below. grind (arith, common_steps, (none.before k))) in
+    grind (arith, common_steps, parts, (word_goes_on [] front plain))
 
-  module _ (within : place < length text) where
-    -- a character that is no blank goes to the word
-    pub word_grows : is_blank (get_or text place 0) ≡ false → ArePushed old text begin (place + 1) words
-    unfolding words_after
-    word_grows other =
-        let begun = so_far.begun in
-        let longer : take (place + 1 - begin) (drop begin text) ≡ take (place - begin) (drop begin text) ++ get_or text place 0 ∷ [] =
-        let next : place + 1 - begin ≡ place - begin + 1 = omega arith in
-        let here : begin + (place - begin) ≡ place = omega arith in
-        rw (next, take_more (drop begin text) (place - begin) 0 (omega (arith, length-drop begin text)), get_or-drop, here) refl in
-        let parts = (rw (drop_more text place 0 within, other) at so_far.same) in
-        record { begun = omega arith; boundary = so_far.boundary; same = rw longer parts; grown = so_far.grown }
+pub one_part : (text : List ℕ) → IsFirstByte is_blank text None → words_of text ≡ word_if_any text
+one_part text none = word_goes_on [] text (no_blank_at text (λ k below. none k (omega arith) below))
 
-    module _ (blank : is_blank (get_or text place 0) ≡ true) (word : List ℕ) (is : word ≡ take (place - begin) (drop begin text)) where
-      pub blank_parts : words_after (take (place - begin) (drop begin text)) (drop place text) ≡ word_if_any word ++ words_of (drop (place + 1) text)
-      unfolding words_after
-      blank_parts = rw (drop_more text place 0 within, blank, is) refl
+-- where there was room for all, there is room for the next
+pub room_for : (old words : SmallVec (Bor (List ℕ))) (all left first behind : List (List ℕ)) → texts words ++ left ≡ texts old ++ all
+    → left ≡ first ++ behind → old.capacity ≤ words.capacity → HasRoomFor old (length all) → HasRoomFor words (length first)
+room_for old words all left first behind same parts grown room = grind (arith, common_steps, (ap length same), (ap length parts))
 
-      pub word_pushed : (more : SmallVec (Bor (List ℕ))) → IsUtf8 text → texts more ≡ texts words ++ word_if_any word
-          → words.capacity ≤ more.capacity → ArePushed old text (place + 1) (place + 1) more
-      word_pushed more utf8 pushed grown = record {
-        begun = omega arith;
-        boundary = IsCharBoundary-after_ascii text place utf8 within (let is = blank in grind (arith, nat_tests, common_steps));
-        same = let none : place + 1 - (place + 1) ≡ 0 = omega arith in rw (none, pushed, append_assoc, ← blank_parts) so_far.same;
-        grown = let before = so_far.grown in omega (arith, before, grown);
-      }
-
-pub ruleset pushing_steps = (common_steps, word_grows, room_for)
+pub ruleset pushing_steps = (common_steps, blank_parts, one_part, room_for, IsCharBoundary-after_ascii)
 
 -- ---- the first word
 

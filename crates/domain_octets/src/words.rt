@@ -1,20 +1,14 @@
 //! The words of a line.
 ghost use Rattle.std.specs.Prelude.{◌≡◌, ◌≤◌, ◌++◌, length, map, IsOk, OnErr, OnOk};
 ghost use Rattle.smallvec.specs.SmallVec.{HasRoomFor};
-ghost use Rattle.domain_octets.specs.Text.{is_blank, word_if_any, words_of, HasWords};
+ghost use Rattle.domain_octets.specs.Text.{word_if_any, words_of, HasWords};
 
 use crate::OutOfMemory;
+use memchr::memchr2;
 use smallvec::SmallVec;
 
 /// The words of a line. Those of most records, up to eight, take no memory.
 pub type LineWords<'a> = SmallVec<&'a str, 8>;
-
-/// Whether a character separates words.
-fn is_blank(octet: u8) -> bool
-    ensures { result ≡ is_blank octet }
-{
-    octet == b' ' || octet == b'\t'
-}
 
 /// Appends a word, if it has octets.
 fn push_word<'a>(words: &mut LineWords<'a>, word: &'a str) -> Result<(), OutOfMemory>
@@ -37,20 +31,18 @@ fn push_word<'a>(words: &mut LineWords<'a>, word: &'a str) -> Result<(), OutOfMe
 ///
 /// `OutOfMemory` where the list has no room for them and there is no memory for more. Some of them,
 /// from the first on, then stand there.
-#[tactic(auto, using(crate::proofs::WordLemmas::pushing_steps), unfolding(crate::specs::Text::words_after))]
+#[tactic(auto, using(crate::proofs::WordLemmas::pushing_steps))]
 pub fn push_words<'a>(words: &mut LineWords<'a>, line: &'a str) -> Result<(), OutOfMemory>
     ensures ok { OnOk result (map (λ w. w.now) words.new.items
         ≡ map (λ w. w.now) words.old.items ++ words_of line.now) }
     ensures err { OnErr result (HasWords words.old.items line.now words.new.items) }
     ensures room { HasRoomFor words.old (length (words_of line.now)) → IsOk result }
 {
-    let mut start = 0;
-    for (i, octet) in line.as_bytes().iter().enumerate() {
-        if !is_blank(*octet) {
-            continue;
-        }
-        push_word(words, &line[start..i])?;
-        start = i + 1;
+    let mut rest = line;
+    while let Some(end) = memchr2(b' ', b'\t', rest.as_bytes()) {
+        let (word, behind) = rest.split_at(end);
+        push_word(words, word)?;
+        rest = &behind[1..];
     }
-    push_word(words, &line[start..])
+    push_word(words, rest)
 }
