@@ -1,48 +1,14 @@
--- Laws of names: where two names part, and what the impls of comparisons cite.
-use Rattle.std.{proofs.Common.{◌≡◌, ◌∷◌, ◌++◌, Some, false, List, [], reverse, refl, sym, ap, ◌∙◌}, specs.Prelude.{◌≤◌, ◌-◌, ℕ, length}}
-use Rattle.std.specs.{Prelude.{drop, map, Option, None}, declared.cmp.Ordering.{Ordering, TheVariants.{Less, Equal, Greater}}}
-use Rattle.std.specs.{Char.to_ascii_lowercase, Cmp.Lexicographic.{slice_cmp, nat_list_cmp_total, lists_total, lists_equiv}}
+-- Laws of names that the impls of comparisons cite.
+use Rattle.std.{proofs.Common.{◌≡◌, ◌∷◌, ◌++◌, Some, false, List, [], reverse, refl, sym, ap, ◌∙◌}}
+use Rattle.std.specs.{declared.cmp.Ordering.{Ordering, TheVariants.{Less, Equal, Greater}}}
+use Rattle.std.specs.{Cmp.Lexicographic.{slice_cmp, nat_list_cmp_total, lists_total, lists_equiv}}
 use Rattle.std.specs.{Cmp.Lexicographic.{nat_list_eq_equiv, pointwise_decides, bytes_decides}, Ordering.{nat_cmp, ordering_then}}
 use Rattle.std.{specs.Ordering.{ordering_reverse, is_gt, is_eq, eq_by_cmp}, proofs.lemmas.List.{reverse-append, reverse-reverse}}
 use Rattle.std.specs.{Cmp.{IsTotalOrder, IsEquivalence, IsPartialOrder, tied_itself, on_equiv, po, both_ways, Equal-is}, Bool.Decides}
 use Rattle.std.specs.{Hash.{HashWrites, Alike, same_Alike, on_Alike}, FinMap.{IsAntisymmetric, nat_cmp-IsAntisymmetric}}
 use Rattle.std.specs.FinMap.{slice_cmp-IsAntisymmetric}
-use Rattle.domain_octets.specs.Octets.{Octets}
-use Rattle.domain_names.specs.Name.{Name, Label, lowered, IsAtOrBelow, IsSame, same_name, canonical_cmp, canonical_cmp_total, from_root}
+use Rattle.domain_names.specs.Name.{Name, lowered, IsAtOrBelow, IsSame, same_name, canonical_cmp, canonical_cmp_total, from_root}
 use Rattle.domain_names.specs.Name.{IsUpTo}
-
--- ---- where two names part
-
--- the name ends in the shared labels, and right below them has this label or none
-abbrev pub EndsIn : Name → Option Label → Name → Type 0
-EndsIn name None shared = name ≡ shared
-EndsIn name (Some label) shared = (front : Name) × (name ≡ front ++ label ∷ shared)
-
--- two names end in labels that they share octet for octet, and right below these have those labels
-pub record Part (xs ys : Name) (x y : Option Label) (shared : Name) : Type 0 where
-  pub left : EndsIn xs x shared
-  pub right : EndsIn ys y shared
-
--- an order that is one, and none for a tie
-abbrev pub unless_tied : Ordering → Option Ordering
-unless_tied Less = Some Less
-unless_tied Equal = None
-unless_tied Greater = Some Greater
-
--- what the labels right below the shared ones decide, unless they differ in case alone; a name
--- without such a label comes first
-abbrev pub order_below : Option Label → Option Label → Option Ordering
-order_below None None = Some Equal
-order_below None (Some y) = Some Less
-order_below (Some x) None = Some Greater
-order_below (Some x) (Some y) =
-    unless_tied (slice_cmp nat_cmp (map to_ascii_lowercase x) (map to_ascii_lowercase y))
-
--- both have so many octets, and the last so many of both are the same
-pub record EndAlike (a b : Octets) (count : ℕ) : Type 0 where
-  pub in_left : count ≤ length a
-  pub in_right : count ≤ length b
-  pub same : drop (length a - count) a ≡ drop (length b - count) b
 
 -- ---- what the impls of comparisons cite: laws of the canonical order, of lists under an order of their
 -- items and then of names

@@ -137,7 +137,7 @@ pub trait ToName: TryClone {
         Self: Sized,
         ensures { result ≡ canonical_cmp (labels self.now) (N.labels other.now) }
     {
-        wire::canonical_cmp(self.as_wire(), other.as_wire())
+        self.compare(other).order
     }
 
     /// The order of the names' wire forms, octet by octet.
@@ -180,7 +180,7 @@ pub trait ToName: TryClone {
         Self: Sized,
         ensures { result ≡ common_labels (labels self.now) (N.labels other.now) }
     {
-        wire::compare(self.as_wire(), other.as_wire()).common
+        self.compare(other).common
     }
 
     /// The canonical order of the names and how many labels they share, in one walk: `name_cmp` and

@@ -4,9 +4,8 @@ ghost use Rattle.std.specs.Prelude.{IsTrue, IfOk, IfErr, OnOk, false, ◌++◌, 
 ghost use Rattle.std.specs.{Char.to_ascii_lowercase, Ordering.nat_cmp, Cmp.Lexicographic.slice_cmp};
 ghost use Rattle.std.specs.Hash as fed;
 ghost use Rattle.domain_names.specs.Name.{wire_of, lowered, IsSame, same_name, IsAtOrBelow, is_at_or_below};
-ghost use Rattle.domain_names.specs.{Name.{Name, canonical_cmp, common_labels}, Wire.{labels_of, IsWire}};
-ghost use Rattle.domain_names.specs.{Wire.{NameFault, WholeNameFault, fault_of, name_fault_of}, Laws.EndAlike};
-ghost use Rattle.domain_names.specs.Laws.{EndsIn, Part, order_below};
+ghost use Rattle.domain_names.specs.{Name.{canonical_cmp, common_labels}, Wire.{labels_of, IsWire}};
+ghost use Rattle.domain_names.specs.Wire.{NameFault, WholeNameFault, fault_of, name_fault_of};
 
 use crate::{Comparison, NameError, ParseError};
 use std::cmp::Ordering;
@@ -85,37 +84,11 @@ pub(crate) fn lowered_octets_cmp(a: &[u8], b: &[u8]) -> Ordering
     a.len().cmp(&b.len())
 }
 
-/// The canonical order of names with as many labels, and how many they share. Labels are only
-/// compared where all nearer the root are the same.
-#[tactic(auto, using(crate::proofs::WireLemmas::few_labels, crate::proofs::OrderLemmas::aligned_steps, crate::proofs::OrderLemmas::roots))]
-fn compare_aligned(a: &[u8], b: &[u8]) -> Comparison
-    requires a { IsWire a.now }
-    requires b { IsWire b.now }
-    requires same_count { length (labels_of a.now) ≡ length (labels_of b.now) }
-    ensures order { result.order ≡ canonical_cmp (labels_of a.now) (labels_of b.now) }
-    ensures common { result.common ≡ common_labels (labels_of a.now) (labels_of b.now) }
-{
-    let (Some((x, a_above)), Some((y, b_above))) = (split_first(a), split_first(b)) else {
-        return Comparison {
-            order: Ordering::Equal,
-            common: 0,
-        };
-    };
-    let above = compare_aligned(a_above, b_above);
-    if above.order.is_ne() {
-        return above;
-    }
-    let order = lowered_octets_cmp(x, y);
-    Comparison {
-        order,
-        common: above.common + usize::from(order.is_eq()),
-    }
-}
-
-/// The canonical order and how many labels are shared, from the root on. Labels at the leaf that
-/// the other name does not reach come last.
-#[tactic(auto, using(crate::proofs::OrderLemmas::cut_steps))]
-fn compare_from_root(a: &[u8], b: &[u8]) -> Comparison
+/// The canonical order, and how many labels are shared. Of the name with more labels the end is
+/// taken that has as many as the other. Both are walked from the leaf on, up to where they are the
+/// same: of the labels that differ those nearest the root decide, and all above these are shared.
+#[tactic(auto, using(crate::proofs::OrderLemmas::comparing_steps))]
+pub fn compare(a: &[u8], b: &[u8]) -> Comparison
     requires a { IsWire a.now }
     requires b { IsWire b.now }
     ensures order { result.order ≡ canonical_cmp (labels_of a.now) (labels_of b.now) }
@@ -123,119 +96,24 @@ fn compare_from_root(a: &[u8], b: &[u8]) -> Comparison
 {
     let a_count = count_labels(a);
     let b_count = count_labels(b);
-    let a_end = skip_labels(a, a_count.saturating_sub(b_count));
-    let b_end = skip_labels(b, b_count.saturating_sub(a_count));
-    let aligned = compare_aligned(a_end, b_end);
-    Comparison {
-        order: aligned.order.then(a_count.cmp(&b_count)),
-        common: aligned.common,
-    }
-}
-
-/// How many octets two names end in alike, the root's among them.
-#[tactic(auto, using(crate::proofs::OrderLemmas::alike_steps))]
-fn equal_end(a: &[u8], b: &[u8]) -> usize
-    requires a { IsWire a.now }
-    requires b { IsWire b.now }
-    ensures root { 1 ≤ result }
-    ensures alike { EndAlike a.now b.now result }
-{
-    let most = a.len().min(b.len());
-    for count in 1..most {
-        if a[a.len() - 1 - count] != b[b.len() - 1 - count] {
-            return count;
-        }
-    }
-    most
-}
-
-/// An end of a name, and the label right below it, if the name has more labels than that.
-#[derive(Clone, Copy)]
-struct End<'a> {
-    below: Option<&'a [u8]>,
-    wire: &'a [u8],
-}
-
-/// The longest end within this one that has at most so many octets.
-fn end_within<'a>(end: End<'a>, most: usize) -> End<'a>
-    requires wire { IsWire end.wire.now }
-    requires root { 1 ≤ most }
-    ensures wire { IsWire result.wire.now }
-    ensures end { (name : Name)
-        → EndsIn name (option_map (λ x. x.now) end.entry.below) (labels_of end.entry.wire.now)
-        → EndsIn name (option_map (λ x. x.now) result.below) (labels_of result.wire.now) }
-    ensures within { length result.wire.now ≤ most }
-    ensures part { length result.wire.now ≤ length end.entry.wire.now }
-{
-    let mut end = end;
-    while end.wire.len() > most {
-        let Some((label, above)) = split_first(end.wire) else {
+    let mut x = skip_labels(a, a_count.saturating_sub(b_count));
+    let mut y = skip_labels(b, b_count.saturating_sub(a_count));
+    let mut order = a_count.cmp(&b_count);
+    let mut alike = 0;
+    'labels: while x != y {
+        let (Some((label, x_above)), Some((other, y_above))) = (split_first(x), split_first(y))
+        else {
             unreachable!();
         };
-        end = End {
-            below: Some(label),
-            wire: above,
-        };
+        let here = lowered_octets_cmp(label, other);
+        alike = if here.is_eq() { alike + 1 } else { 0 };
+        order = here.then(order);
+        x = x_above;
+        y = y_above;
     }
-    end
-}
-
-/// Where two names part: the longest end that both have octet for octet, as the end of each.
-#[tactic(auto, using(crate::proofs::OrderLemmas::alike_steps))]
-fn part<'a>(a: &'a [u8], b: &'a [u8]) -> (End<'a>, End<'a>)
-    requires a { IsWire a.now }
-    requires b { IsWire b.now }
-    ensures wire { IsWire result.0.wire.now }
-    ensures parts { Part (labels_of a.now) (labels_of b.now)
-        (option_map (λ x. x.now) result.0.below) (option_map (λ y. y.now) result.1.below)
-        (labels_of result.0.wire.now) }
-{
-    let equal = equal_end(a, b);
-    let x = End {
-        below: None,
-        wire: a,
-    };
-    let y = End {
-        below: None,
-        wire: b,
-    };
-    let mut x = end_within(x, equal);
-    let mut y = end_within(y, equal);
-    'parting: while x.wire.len() != y.wire.len() {
-        x = end_within(x, y.wire.len());
-        y = end_within(y, x.wire.len());
-    }
-    (x, y)
-}
-
-/// What the labels decide at which two names part, unless they differ in case alone. A name without
-/// such a label comes first.
-fn order_below(x: Option<&[u8]>, y: Option<&[u8]>) -> Option<Ordering>
-    ensures { result ≡ order_below (option_map (λ l. l.now) x.entry)
-        (option_map (λ l. l.now) y.entry) }
-{
-    match (x, y) {
-        (None, None) => Some(Ordering::Equal),
-        (None, Some(_)) => Some(Ordering::Less),
-        (Some(_), None) => Some(Ordering::Greater),
-        (Some(x), Some(y)) => match lowered_octets_cmp(x, y) {
-            Ordering::Equal => None,
-            order => Some(order),
-        },
-    }
-}
-
-/// The canonical order.
-#[tactic(auto, using(crate::proofs::OrderLemmas::parted))]
-pub fn canonical_cmp(a: &[u8], b: &[u8]) -> Ordering
-    requires a { IsWire a.now }
-    requires b { IsWire b.now }
-    ensures { result ≡ canonical_cmp (labels_of a.now) (labels_of b.now) }
-{
-    let (x, y) = part(a, b);
-    match order_below(x.below, y.below) {
-        Some(order) => order,
-        None => compare_from_root(a, b).order,
+    Comparison {
+        order,
+        common: alike + count_labels(x),
     }
 }
 
@@ -260,25 +138,6 @@ pub fn is_at_or_below(name: &[u8], above: &[u8]) -> bool
 {
     let more = count_labels(name).saturating_sub(count_labels(above));
     is_same(above, skip_labels(name, more))
-}
-
-/// The canonical order, and how many labels are shared: those of the end at which the names part,
-/// unless the labels below it differ in case alone.
-#[tactic(auto, using(crate::proofs::OrderLemmas::parted))]
-pub fn compare(a: &[u8], b: &[u8]) -> Comparison
-    requires a { IsWire a.now }
-    requires b { IsWire b.now }
-    ensures order { result.order ≡ canonical_cmp (labels_of a.now) (labels_of b.now) }
-    ensures common { result.common ≡ common_labels (labels_of a.now) (labels_of b.now) }
-{
-    let (x, y) = part(a, b);
-    match order_below(x.below, y.below) {
-        Some(order) => Comparison {
-            order,
-            common: count_labels(x.wire),
-        },
-        None => compare_from_root(a, b),
-    }
 }
 
 /// Feeds the lowered octets.

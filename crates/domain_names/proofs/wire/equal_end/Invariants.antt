@@ -1,5 +1,0 @@
-use Rattle.domain_names.specs.Laws.{EndAlike}
-use Rattle.domain_names.proofs.wire.equal_end.Given as goal
-
-abbrev pub invariant-loop-count : goal.invariant-loop-count
-invariant-loop-count l = EndAlike l.a l.b l.count
