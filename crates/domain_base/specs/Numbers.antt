@@ -4,7 +4,7 @@ use Rattle.std.specs.{Prelude.{◌+◌, ◌-◌, ◌%◌, ◌^◌, nat_lt, Resul
 use Rattle.std.specs.{Fmt.decimal, Borrow.Bor, Str.Parse.without_leading_plus, declared.cmp.Ordering.{Ordering, TheVariants.{Less, Equal}}}
 use Rattle.std.specs.declared.cmp.Ordering.TheVariants.{Greater}
 use Rattle.domain_octets.specs.Octets.{Octets}
-use Rattle.domain_base.specs.{Scan.{IsNumber, IsNoNumber}, Classes.{in_class, ch_class, hs_class}}
+use Rattle.domain_base.specs.{Scan.{IsNumber, IsNoNumber}, Classes.in_class}
 use Rattle.domain_names.specs.{Text.{ScanFault, illegal, scan_fault_of}, declared.error.ScanError.ScanError}
 use Rattle.domain_base.specs.Types as rtypes
 
@@ -73,20 +73,20 @@ type_names =
     ∷ record { number = rtypes.dnskey; name = codes "DNSKEY" }
     ∷ record { number = rtypes.nsec3; name = codes "NSEC3" }
     ∷ record { number = rtypes.nsec3param; name = codes "NSEC3PARAM" }
-    ∷ record { number = rtypes.hinfo; name = codes "HINFO" }
+    ∷ record { number = 13; name = codes "HINFO" }
     ∷ record { number = rtypes.srv; name = codes "SRV" }
-    ∷ record { number = rtypes.naptr; name = codes "NAPTR" }
+    ∷ record { number = 35; name = codes "NAPTR" }
     ∷ record { number = rtypes.dname; name = codes "DNAME" }
-    ∷ record { number = rtypes.sshfp; name = codes "SSHFP" }
-    ∷ record { number = rtypes.tlsa; name = codes "TLSA" }
-    ∷ record { number = rtypes.cds; name = codes "CDS" }
-    ∷ record { number = rtypes.cdnskey; name = codes "CDNSKEY" }
-    ∷ record { number = rtypes.csync; name = codes "CSYNC" }
-    ∷ record { number = rtypes.zonemd; name = codes "ZONEMD" }
-    ∷ record { number = rtypes.svcb; name = codes "SVCB" }
-    ∷ record { number = rtypes.https; name = codes "HTTPS" }
-    ∷ record { number = rtypes.spf; name = codes "SPF" }
-    ∷ record { number = rtypes.caa; name = codes "CAA" }
+    ∷ record { number = 44; name = codes "SSHFP" }
+    ∷ record { number = 52; name = codes "TLSA" }
+    ∷ record { number = 59; name = codes "CDS" }
+    ∷ record { number = 60; name = codes "CDNSKEY" }
+    ∷ record { number = 62; name = codes "CSYNC" }
+    ∷ record { number = 63; name = codes "ZONEMD" }
+    ∷ record { number = 64; name = codes "SVCB" }
+    ∷ record { number = 65; name = codes "HTTPS" }
+    ∷ record { number = 99; name = codes "SPF" }
+    ∷ record { number = 257; name = codes "CAA" }
     ∷ []
 
 -- such a name in either case, or TYPE and the number (RFC 3597, section 5)
@@ -105,8 +105,8 @@ pub record IsNoType (fault : ScanFault) (text : Octets) : Type 0 where
 abbrev pub class_names : List Named
 class_names =
     record { number = in_class; name = codes "IN" }
-    ∷ record { number = ch_class; name = codes "CH" }
-    ∷ record { number = hs_class; name = codes "HS" }
+    ∷ record { number = 3; name = codes "CH" }
+    ∷ record { number = 4; name = codes "HS" }
     ∷ []
 
 -- such a name in either case, or CLASS and the number (RFC 3597, section 5)

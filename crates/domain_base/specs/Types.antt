@@ -1,5 +1,5 @@
--- The types of records that have a name, by their numbers (RFC 1035, section 3.2.2, and the
--- documents that added to it).
+-- Types of records that definitions name, by their numbers (RFC 1035, section 3.2.2, and the
+-- documents that added to it); Numbers.antt has all that have a name.
 use Rattle.std.specs.Prelude.{ℕ, List}
 
 -- types of records by their numbers
@@ -21,9 +21,6 @@ soa = 6
 abbrev pub ptr : ℕ
 ptr = 12
 
-abbrev pub hinfo : ℕ
-hinfo = 13
-
 abbrev pub mx : ℕ
 mx = 15
 
@@ -36,17 +33,11 @@ aaaa = 28
 abbrev pub srv : ℕ
 srv = 33
 
-abbrev pub naptr : ℕ
-naptr = 35
-
 abbrev pub dname : ℕ
 dname = 39
 
 abbrev pub ds : ℕ
 ds = 43
-
-abbrev pub sshfp : ℕ
-sshfp = 44
 
 abbrev pub rrsig : ℕ
 rrsig = 46
@@ -62,30 +53,3 @@ nsec3 = 50
 
 abbrev pub nsec3param : ℕ
 nsec3param = 51
-
-abbrev pub tlsa : ℕ
-tlsa = 52
-
-abbrev pub cds : ℕ
-cds = 59
-
-abbrev pub cdnskey : ℕ
-cdnskey = 60
-
-abbrev pub csync : ℕ
-csync = 62
-
-abbrev pub zonemd : ℕ
-zonemd = 63
-
-abbrev pub svcb : ℕ
-svcb = 64
-
-abbrev pub https : ℕ
-https = 65
-
-abbrev pub spf : ℕ
-spf = 99
-
-abbrev pub caa : ℕ
-caa = 257
