@@ -1,20 +1,13 @@
 -- Names as text.
-use Rattle.std.proofs.Common.{arith, ℕ, zero, suc, ◌/◌, ◌%◌, ◌<◌, ◌≤◌, ◌≡◌, ◌∷◌, ◌++◌, ◌-◌, [], List, false, refl, ap, subst, ◌∙◌, length, take, drop}
+use Rattle.std.proofs.Common.{arith, ℕ, zero, suc, ◌<◌, ◌≤◌, ◌≡◌, ◌∷◌, ◌++◌, ◌-◌, [], List, refl, ap, subst, ◌∙◌, length, take, drop}
 use Rattle.std.proofs.{Common.{length-append, slice_set, ◌≢◌, get_or, ◌+◌, Option, Some, None, sym, inl, rules}, lemmas.List.append_assoc}
 use Rattle.std.proofs.{lemmas.{List.{append-nil, length-drop, take_at, take_more}, Grind.common_steps}, Math.Seq.set-append_seam}
-use Rattle.std.proofs.lemmas.{List.Elements.{All-head, All-tail}, Str.{IsAscii-append, Ascii.IsAscii-nil}, Fmt.decimal_digit}
-use Rattle.std.specs.{List.{All, AllByRecursion as ByRecursion, AllByRecursion}, Str.IsAscii, Fmt.decimal, Char.is_ascii_graphic, Prelude.IsSome}
+use Rattle.std.proofs.lemmas.{List.Elements.{All-head, All-tail}, Str.{IsAscii-append, IsAscii-take, IsAscii-drop, IsUtf8-from_ascii, Ascii.IsAscii-nil}}
+use Rattle.std.specs.{List.{All, AllByRecursion as ByRecursion, AllByRecursion}, Str.{IsAscii, IsUtf8}, Prelude.IsSome}
 use Rattle.std.specs.Prelude.{IfSome}
-use Rattle.domain_names.specs.Text.{octet_text, label_text, dotted_text, is_special, symbol_at, LabelText, ends, octet, HasNoLabel}
-use Rattle.domain_names.specs.{Text.{HasNoLabelAfter, LabelTexts, IsBefore, last, dotted, NameText, root, of_labels, IsNoName}, Wire.{labels_of, IsWire}}
+use Rattle.domain_names.specs.Text.{octet_text, label_text, dotted_text, symbol_at, LabelText, ends, octet, HasNoLabel}
+use Rattle.domain_names.specs.{Text.{HasNoLabelAfter, LabelTexts, IsBefore, last, dotted, NameText, root, of_labels, IsNoName}}
 use Rattle.domain_names.{specs.Name.{wire_of, IsLabel, IsName, Name}, proofs.WireLemmas.length-wire_of}
-
--- ---- the text of an octet in decimal digits, of octets that are written as they are, and of names
-
-pub octet_text_in_digits : (c : ℕ) → c < 256 → is_special c ≡ false → is_ascii_graphic c ≡ false
-    → octet_text c ≡ 92 ∷ (decimal (c / 100) ++ (decimal (c / 10 % 10) ++ decimal (c % 10)))
-unfolding octet_text
-octet_text_in_digits c small special graphic = grind (arith, common_steps, decimal_digit)
 
 -- ---- texts of names are ASCII
 
@@ -31,38 +24,9 @@ dotted_text_ascii : (labels : Name) → ByRecursion IsLabel labels → IsAscii (
 dotted_text_ascii [] valid = IsAscii-nil
 dotted_text_ascii (label ∷ labels) valid = grind (arith, common_steps, label_text_ascii, (dotted_text_ascii labels valid.1))
 
--- ---- names whose octets become their text
-
--- the labels of a name before its rest have become text, and the rest stands as it was
-pub record IsDotted (name rest text : List ℕ) : Type 0 where
-  pub front : List ℕ
-  pub parts : text ≡ front ++ rest
-  pub dots : dotted_text (labels_of name) ≡ front ++ dotted_text (labels_of rest)
-  pub wire : IsWire rest
-  pub size : length text ≡ length name
-
-pub dotted_more : (name rest text label above : List ℕ) → IsDotted name rest text → labels_of rest ≡ label ∷ labels_of above → IsWire above
-    → label_text label ≡ label → IsDotted name above (slice_set text (length name - length rest) 46)
-dotted_more name rest text label above so_far labels further same =
-    let is : rest ≡ length label ∷ (label ++ above) = (let wire = so_far.wire.spelled in grind (arith, common_steps)) in
-    record {
-      front = so_far.front ++ 46 ∷ label;
-      parts = grind (arith, common_steps, (set-append_seam so_far.front (length label) (label ++ above) 46));
-      dots = grind (arith, common_steps);
-      wire = further;
-      size = grind (arith, common_steps);
-    }
-
-pub dotted_ends : (name rest text : List ℕ) → IsDotted name rest text → labels_of rest ≡ []
-    → text ≡ dotted_text (labels_of name) ++ 0 ∷ []
-dotted_ends name rest text so_far none = let is = so_far.wire.spelled ∙ ap wire_of none in grind (arith, common_steps)
-
-pub dotted_ascii : (labels : Name) → IsName labels → IsAscii (dotted_text labels ++ 0 ∷ [])
-dotted_ascii labels valid = grind (arith, common_steps, dotted_text_ascii)
-
-pub ruleset octet_steps = (common_steps, octet_text_in_digits)
-
-pub ruleset dotted_steps = (common_steps, dotted_more, dotted_ends)
+pub behind_dot : (labels : Name) (text : List ℕ) (n : ℕ) → IsName labels → text ≡ dotted_text labels → IsUtf8 (take n (drop 1 text))
+behind_dot labels text n valid is =
+    IsUtf8-from_ascii _ (IsAscii-take _ n (IsAscii-drop text 1 (subst IsAscii (sym is) (dotted_text_ascii labels valid.of_labels))))
 
 -- ---- names spelled by texts
 

@@ -1,5 +1,5 @@
 //! Names as text (RFC 1035, section 5.1).
-ghost use Rattle.std.specs.Prelude.{◌≡◌, ◌≢◌, ℕ, Some, None, drop, slice_index, ◌+◌, ◌<◌, ◌≤◌, ◌∷◌, ◌++◌, [], ◌⊎◌, length, take, IfSome, IfNone, IsSome, OnSome, IsTrue, ◌↔◌};
+ghost use Rattle.std.specs.Prelude.{◌≡◌, ◌≢◌, ℕ, Some, None, drop, slice_index, ◌+◌, ◌<◌, ◌≤◌, ◌∷◌, ◌++◌, [], ◌⊎◌, length, take, IfSome, IfNone, IsSome, OnSome, OnOk, IsTrue, ◌↔◌};
 ghost use Rattle.std.specs.Fmt.{WritesOnOk};
 ghost use Rattle.std.specs.Str.{IsAscii};
 ghost use Rattle.domain_octets.specs.{Text.dot, Octets.Octets};
@@ -10,7 +10,7 @@ ghost use Rattle.domain_names.specs.Wire.{labels_of, IsWire};
 
 use crate::wire;
 use crate::wire::{MAX_LABEL_LEN, MAX_NAME};
-use domain_octets::{ArrayBuilder, Octets, OctetsBuilder, Truncate};
+use domain_octets::{AppendError, ArrayBuilder, Octets, OctetsBuilder, Truncate};
 use std::fmt;
 
 /// The octet that a text within a label begins with, and how many characters spell it.
@@ -213,6 +213,10 @@ pub fn read_name(wire: &mut ArrayBuilder<MAX_NAME>, text: &[u8]) -> Option<()>
     push_root(wire)
 }
 
+/// How many octets the text of a name has room in, with a dot before each label: at most four stand
+/// for one octet.
+const MAX_TEXT: usize = 4 * MAX_NAME;
+
 /// Whether the character has a meaning of its own in zone files.
 fn is_special(octet: u8) -> bool
     ensures { result ≡ is_special octet }
@@ -223,115 +227,55 @@ fn is_special(octet: u8) -> bool
     )
 }
 
-#[tactic(auto, using(crate::proofs::TextLemmas::octet_steps), unfolding(crate::specs::Text::octet_text))]
-fn write_octet<W: fmt::Write>(octet: u8, f: &mut fmt::Formatter<W>) -> fmt::Result
-    ensures { WritesOnOk W.write_str_gives f.old result (octet_text octet) f.new }
+/// Appends the text of an octet within a label.
+#[tactic(auto, unfolding(crate::specs::Text::octet_text))]
+fn put_octet(text: &mut ArrayBuilder<MAX_TEXT>, octet: u8) -> Result<(), AppendError>
+    ensures { OnOk result (text.new ≡ text.old ++ octet_text octet) }
 {
     if is_special(octet) {
-        write!(f, "\\{}", octet as char)
+        text.append_slice(&[b'\\', octet])
     } else if octet.is_ascii_graphic() {
-        write!(f, "{}", octet as char)
+        text.append_slice(&[octet])
     } else {
-        write!(f, "\\{}{}{}", octet / 100, octet / 10 % 10, octet % 10)
+        text.append_slice(&[
+            b'\\',
+            b'0' + octet / 100,
+            b'0' + octet / 10 % 10,
+            b'0' + octet % 10,
+        ])
     }
 }
 
-/// Whether an octet is written as the character that it is.
-#[tactic(auto, unfolding(crate::specs::Text::octet_text))]
-fn is_ordinary(octet: u8) -> bool
-    ensures { IsTrue result → octet_text octet ≡ octet ∷ [] }
-{
-    octet.is_ascii_graphic() && !is_special(octet)
-}
-
-/// Whether all octets of a label are written as the characters that they are, as those of most
-/// labels.
-fn is_ordinary_label(label: &[u8]) -> bool
-    ensures { IsTrue result → label_text label.now ≡ label.now }
-{
-    for octet in label {
-        if !is_ordinary(*octet) {
-            return false;
-        }
-    }
-    true
-}
-
-fn write_label<W: fmt::Write>(label: &[u8], f: &mut fmt::Formatter<W>) -> fmt::Result
-    ensures { WritesOnOk W.write_str_gives f.old result (label_text label.now) f.new }
-{
-    for octet in label {
-        write_octet(*octet, f)?;
-    }
-    Ok(())
-}
-
-/// Puts a dot in the place of the length of each label in a copy of a name's octets. Answers false
-/// where an octet of a label is not written as the character that it is.
-#[tactic(auto, using(crate::proofs::TextLemmas::dotted_steps))]
-fn put_dots(text: &mut [u8], name: &[u8]) -> bool
-    requires name { IsWire name.now }
-    requires copy { text.old ≡ name.now }
-    ensures { IsTrue result → text.new ≡ dotted_text (labels_of name.now) ++ 0 ∷ [] }
+/// Appends the text of each label of a name, behind a dot.
+fn put_labels(text: &mut ArrayBuilder<MAX_TEXT>, name: &[u8]) -> Result<(), AppendError>
+    requires { IsWire name.now }
+    ensures { OnOk result (text.new ≡ text.old ++ dotted_text (labels_of name.now)) }
 {
     let mut rest = name;
     while let Some((label, above)) = wire::split_first(rest) {
-        if !is_ordinary_label(label) {
-            return false;
+        text.append_slice(b".")?;
+        for octet in label {
+            put_octet(text, *octet)?;
         }
-        text[name.len() - rest.len()] = b'.';
-        rest = above;
-    }
-    true
-}
-
-/// The text of a name with a dot before each label, and the root behind it, if all octets of its
-/// labels are written as the characters that they are, as those of most names.
-#[tactic(auto, using(crate::proofs::TextLemmas::dotted_ascii))]
-fn dotted<'a>(name: &[u8], buffer: &'a mut [u8; MAX_NAME]) -> Option<&'a [u8]>
-    requires { IsWire name.now }
-    ensures text { IfSome result (λ text. text.now ≡ dotted_text (labels_of name.now)
-        ++ 0 ∷ []) }
-    ensures ascii { IfSome result (λ text. IsAscii text.now) }
-{
-    let text = &mut buffer[..name.len()];
-    text.copy_from_slice(name);
-    if !put_dots(text, name) {
-        return None;
-    }
-    Some(text)
-}
-
-/// Writes labels of any octets with dots between them.
-fn write_labels<W: fmt::Write>(name: &[u8], f: &mut fmt::Formatter<W>) -> fmt::Result
-    requires { IsWire name.now }
-    ensures { WritesOnOk W.write_str_gives f.old result (name_text (labels_of name.now)) f.new }
-{
-    let Some((label, mut rest)) = wire::split_first(name) else {
-        return Ok(());
-    };
-    write_label(label, f)?;
-    while let Some((label, above)) = wire::split_first(rest) {
-        f.write_str(".")?;
-        write_label(label, f)?;
         rest = above;
     }
     Ok(())
 }
 
-/// Writes the labels with dots between them: in one piece, if none needs an escape. That this is
-/// ASCII is proved, so that it need not be looked through.
+/// Writes the labels with dots between them, in one piece. That this is ASCII is proved, so that it
+/// need not be looked through.
 pub fn write_name<W: fmt::Write>(name: &[u8], f: &mut fmt::Formatter<W>) -> fmt::Result
     requires { IsWire name.now }
     ensures { WritesOnOk W.write_str_gives f.old result (name_text (labels_of name.now)) f.new }
 {
-    if let Some(text) = dotted(name, &mut [0; MAX_NAME]) {
-        return match text {
-            [_, text @ .., _] => f.write_str(unsafe { str::from_utf8_unchecked(text) }),
-            _ => Ok(()),
-        };
+    let mut text = ArrayBuilder::new();
+    if put_labels(&mut text, name).is_err() {
+        return Err(fmt::Error);
     }
-    write_labels(name, f)
+    match text.as_slice() {
+        [_, text @ ..] => f.write_str(unsafe { str::from_utf8_unchecked(text) }),
+        [] => Ok(()),
+    }
 }
 
 /// Writes the labels with a dot after each, and a dot alone for the root.
