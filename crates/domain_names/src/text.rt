@@ -10,7 +10,7 @@ ghost use Rattle.domain_names.specs.Wire.{labels_of, IsWire};
 
 use crate::wire;
 use crate::wire::{MAX_LABEL_LEN, MAX_NAME};
-use domain_octets::{AppendError, ArrayBuilder, Octets, OctetsBuilder, Truncate};
+use domain_octets::{AppendError, ArrayBuilder, Octets, OctetsBuilder};
 use std::fmt;
 
 /// The octet that a text within a label begins with, and how many characters spell it.
@@ -56,7 +56,7 @@ fn plain_len(text: &[u8]) -> usize
 }
 
 /// The label that a text begins with, and what follows it. Answers none for a label of over 63
-/// octets.
+/// octets. The characters up to the first escape stand for themselves, and are taken at once.
 #[tactic(auto, using(crate::proofs::TextLemmas::spelling_steps))]
 fn read_label(text: &[u8]) -> Option<(ArrayBuilder<MAX_LABEL_LEN>, &[u8])>
     ensures label { IfSome result (λ p. LabelText text.now p.0 p.1.now) }
@@ -64,7 +64,9 @@ fn read_label(text: &[u8]) -> Option<(ArrayBuilder<MAX_LABEL_LEN>, &[u8])>
     ensures none { IfNone result (HasNoLabel text.now) }
 {
     let mut label = ArrayBuilder::new();
-    let mut rest = text;
+    let plain = plain_len(text);
+    label.append_slice(&text[..plain]).ok()?;
+    let mut rest = &text[plain..];
     while let Some((octet, used)) = symbol_at(rest) {
         label.append_slice(&[octet]).ok()?;
         rest = &rest[used..];
@@ -132,65 +134,12 @@ fn read_labels(wire: &mut ArrayBuilder<MAX_NAME>, text: &[u8]) -> Option<()>
     }
 }
 
-/// The characters that a text begins with and that stand for themselves, if they are as many as a
-/// label has, and what follows them. They are its first label, unless an escape follows.
-#[tactic(auto, using(crate::proofs::TextLemmas::plain_label))]
-fn split_plain_label(text: &[u8]) -> Option<(&[u8], &[u8])>
-    ensures parts { IfSome result (λ p. text.now ≡ p.0.now ++ p.1.now) }
-    ensures label { IfSome result (λ p. symbol_at p.1.now ≡ None
-        → LabelText text.now p.0.now p.1.now) }
-    ensures valid { IfSome result (λ p. IsLabel p.0.now) }
-{
-    let (label, after) = text.split_at(plain_len(text));
-    if label.is_empty() || label.len() > MAX_LABEL_LEN {
-        return None;
-    }
-    Some((label, after))
-}
-
-/// Puts the length of each label before it, where a text stands after one more octet. The labels
-/// then fill so many octets: all, or all but a last dot. Answers none where a character does not
-/// stand for itself, or where there is no label.
-#[tactic(auto, using(crate::proofs::TextLemmas::measuring_steps))]
-fn put_lengths(octets: &mut [u8], text: &[u8]) -> Option<usize>
-    requires { (first : ℕ) × (octets.old ≡ first ∷ text.now) }
-    ensures size { length octets.new ≡ length octets.old }
-    ensures labels { IfSome result (λ n. (labels : Name) × LabelTexts text.now labels
-        × (take n octets.new ++ 0 ∷ [] ≡ wire_of labels)) }
-{
-    let mut rest = text;
-    loop {
-        let at = text.len() - rest.len();
-        let (label, after) = split_plain_label(rest)?;
-        octets[at] = label.len() as u8;
-        rest = after_dot(after)?;
-        if rest.is_empty() {
-            return Some(at + 1 + label.len());
-        }
-    }
-}
-
 /// Appends the root, if there is room for it.
 fn push_root(wire: &mut ArrayBuilder<MAX_NAME>) -> Option<()>
     ensures root { OnSome result (wire.new ≡ wire.old ++ 0 ∷ []) }
     ensures room { IsSome result ↔ (length wire.old < 255) }
 {
     wire.append_slice(&[0]).ok()
-}
-
-/// Puts the wire form of the name that a text spells into an empty builder, if all characters of
-/// its labels stand for themselves, as those of most names. What is left there of another text
-/// means nothing.
-fn read_plain_name(wire: &mut ArrayBuilder<MAX_NAME>, text: &[u8]) -> Option<()>
-    requires { wire.old ≡ [] }
-    ensures { OnSome result ((labels : Name) × NameText text.now labels
-        × (wire.new ≡ wire_of labels)) }
-{
-    wire.append_slice(&[0]).ok()?;
-    wire.append_slice(text).ok()?;
-    let len = put_lengths(wire.as_mut_slice(), text)?;
-    wire.truncate(len);
-    push_root(wire)
 }
 
 /// Puts the wire form of the name that a text spells into an empty builder. Stops at the first
@@ -205,10 +154,6 @@ pub fn read_name(wire: &mut ArrayBuilder<MAX_NAME>, text: &[u8]) -> Option<()>
     if let [b'.'] = text {
         return push_root(wire);
     }
-    if read_plain_name(wire, text).is_some() {
-        return Some(());
-    }
-    wire.truncate(0);
     read_labels(wire, text)?;
     push_root(wire)
 }
