@@ -30,7 +30,6 @@ impl<'a> ReadFields<'a> for u8 {
 
     ghost values = { λ n. n };
 
-    #[tactic(auto, using(crate::proofs::LayoutLemmas::reading), unfolding(crate::specs::Layout::octets_of))]
     fn read(parser: &mut Parser<'a>) -> Result<u8, WireFault> {
         match parser.parse_u8() {
             Ok(n) => Ok(n),
@@ -44,7 +43,6 @@ impl<'a> ReadFields<'a> for u16 {
 
     ghost values = { λ n. n };
 
-    #[tactic(auto, using(crate::proofs::LayoutLemmas::reading), unfolding(crate::specs::Layout::octets_of))]
     fn read(parser: &mut Parser<'a>) -> Result<u16, WireFault> {
         match parser.parse_u16() {
             Ok(n) => Ok(n),
@@ -58,7 +56,6 @@ impl<'a> ReadFields<'a> for u32 {
 
     ghost values = { λ n. n };
 
-    #[tactic(auto, using(crate::proofs::LayoutLemmas::reading), unfolding(crate::specs::Layout::octets_of))]
     fn read(parser: &mut Parser<'a>) -> Result<u32, WireFault> {
         match parser.parse_u32() {
             Ok(n) => Ok(n),
@@ -72,7 +69,6 @@ impl<'a> ReadFields<'a> for ParsedName<'a> {
 
     ghost values = { λ n. n };
 
-    #[tactic(auto, using(crate::proofs::LayoutLemmas::reading), unfolding(crate::specs::Layout::octets_of))]
     fn read(parser: &mut Parser<'a>) -> Result<ParsedName<'a>, WireFault> {
         Ok(ParsedName::read(parser)?)
     }
@@ -83,7 +79,6 @@ impl<'a> ReadFields<'a> for Spelled<ParsedName<'a>> {
 
     ghost values = { λ n. n.0 };
 
-    #[tactic(auto, using(crate::proofs::LayoutLemmas::reading), unfolding(crate::specs::Layout::octets_of))]
     fn read(parser: &mut Parser<'a>) -> Result<Spelled<ParsedName<'a>>, WireFault> {
         Ok(Spelled(ParsedName::read(parser)?))
     }
@@ -94,7 +89,6 @@ impl<'a, const COUNT: usize> ReadFields<'a> for Exactly<COUNT> {
 
     ghost values = { λ n. n.0 };
 
-    #[tactic(auto, using(crate::proofs::LayoutLemmas::reading), unfolding(crate::specs::Layout::octets_of))]
     fn read(parser: &mut Parser<'a>) -> Result<Exactly<COUNT>, WireFault> {
         match parser.parse_octets(COUNT) {
             Ok(octets) => {
@@ -113,7 +107,6 @@ impl<'a> ReadFields<'a> for Counted<'a> {
 
     ghost values = { λ n. n.octets.now };
 
-    #[tactic(auto, using(crate::proofs::LayoutLemmas::reading), unfolding(crate::specs::Layout::octets_of))]
     fn read(parser: &mut Parser<'a>) -> Result<Counted<'a>, WireFault> {
         let mut ahead = parser.fork();
         let Ok(count) = ahead.parse_u8() else {
@@ -135,7 +128,6 @@ impl<'a, const LIMIT: usize> ReadFields<'a> for AtMost<LIMIT> {
 
     ghost values = { λ n. tt };
 
-    #[tactic(auto, using(crate::proofs::LayoutLemmas::reading), unfolding(crate::specs::Layout::octets_of))]
     fn read(parser: &mut Parser<'a>) -> Result<AtMost<LIMIT>, WireFault> {
         if parser.remaining() > LIMIT {
             return Err(WireFault::LongData);
@@ -149,7 +141,6 @@ impl<'a> ReadFields<'a> for Rest<'a> {
 
     ghost values = { λ n. n.0.now };
 
-    #[tactic(auto, using(crate::proofs::LayoutLemmas::reading), unfolding(crate::specs::Layout::octets_of))]
     fn read(parser: &mut Parser<'a>) -> Result<Rest<'a>, WireFault> {
         let octets = parser.peek_all();
         laws::slices_hold_octets(octets);
@@ -163,7 +154,6 @@ impl<'a> ReadFields<'a> for RtypeBitmap<&'a [u8]> {
 
     ghost values = { λ b. b };
 
-    #[tactic(auto, using(crate::proofs::LayoutLemmas::reading), unfolding(crate::specs::Layout::octets_of))]
     fn read(parser: &mut Parser<'a>) -> Result<RtypeBitmap<&'a [u8]>, WireFault> {
         let octets = parser.peek_all();
         let types = RtypeBitmap::from_octets(octets)?;

@@ -3,7 +3,7 @@ use Rattle.std.proofs.{lemmas.{Grind.common_steps, List.length-drop}, Common.{�
 use Rattle.std.{proofs.Common.{ap, sym, subst, ◌∙◌, refl, inl, inr, Result, IfErr}, specs.Prelude.{Option, Some, None}}
 use Rattle.domain_octets.specs.Octets.{Octets}
 use Rattle.domain_names.specs.{Wire.Fault, Name.Name}
-use Rattle.domain_fields.specs.Layout.{cut_short, cut_long, Values, Begins, FirstFault, in_field, in_first, in_later, octets_of}
+use Rattle.domain_fields.specs.Layout.{Values, Begins, FirstFault, in_field, in_first, in_later, octets_of}
 use Rattle.domain_fields.proofs.ExactLemmas.{one_reading}
 use Rattle.domain_record.specs.declared.record.Record.{Record}
 use Rattle.domain_rdata.{specs.{Zone.Kind, declared.zone_record_data.ZoneRecordData.ZoneRecordData}, proofs.ScanLemmas.{AreOf, are_of, are_wire}}
@@ -68,11 +68,11 @@ begins_count octets v after begins = omega (arith, ap length begins.parts)
 
 pub numbers_cut : (octets : List ℕ) (fault : Fault) → FirstFault numbers octets fault → length octets < 10
 unfolding octets_of
-numbers_cut octets fault (in_first _ _ _ _ (in_field _ _ _ (cut_short _ _ cut))) = omega (arith, cut.short)
-numbers_cut octets fault (in_later _ _ _ _ _ _ a (in_first _ _ _ _ (in_field _ _ _ (cut_short _ _ cut)))) = omega (arith, ap length a.parts, cut.short)
-numbers_cut octets fault (in_later _ _ _ _ _ _ a (in_later _ _ _ _ _ _ b (in_first _ _ _ _ (in_field _ _ _ (cut_long _ _ cut))))) =
+numbers_cut octets fault (in_first _ _ _ _ (in_field _ _ _ cut)) = omega (arith, cut.short)
+numbers_cut octets fault (in_later _ _ _ _ _ _ a (in_first _ _ _ _ (in_field _ _ _ cut))) = omega (arith, ap length a.parts, cut.short)
+numbers_cut octets fault (in_later _ _ _ _ _ _ a (in_later _ _ _ _ _ _ b (in_first _ _ _ _ (in_field _ _ _ cut)))) =
     omega (arith, ap length a.parts, ap length b.parts, cut.short)
-numbers_cut octets fault (in_later _ _ _ _ _ _ a (in_later _ _ _ _ _ _ b (in_later _ _ _ _ _ _ c (in_field _ _ _ (cut_short _ _ cut))))) =
+numbers_cut octets fault (in_later _ _ _ _ _ _ a (in_later _ _ _ _ _ _ b (in_later _ _ _ _ _ _ c (in_field _ _ _ cut)))) =
     omega (arith, ap length a.parts, ap length b.parts, ap length c.parts, cut.short)
 
 -- one header stands at a place, and none where it has a fault
