@@ -10,10 +10,10 @@
 
 mod pairs;
 mod record;
-mod record_clone;
 mod record_data;
 
 pub use pairs::both;
 pub use record::Record;
-pub use record_clone::CloneRecordData;
-pub use record_data::{ComposeRecordData, LongRecordData, ParseRecordData, RecordData, ZoneData};
+pub use record_data::{
+    CloneRecordData, ComposeRecordData, LongRecordData, ParseRecordData, RecordData, ZoneData,
+};

@@ -1,10 +1,10 @@
 //! Records.
-ghost use Rattle.std.specs.{Prelude.{◌≡◌, ◌⊎◌, Some}, Borrow.sem};
+ghost use Rattle.std.specs.{Prelude.{◌≡◌, ◌⊎◌, Some, IfOk}, Borrow.sem};
 ghost use Rattle.domain_record.specs.Record.{IsRecordClone, LendsData};
 
 use crate::{RecordData, both};
 use domain_base::{CanonicalOrd, Class, Rtype, ToName, Ttl};
-use domain_octets::{AppendError, OctetsFrom};
+use domain_octets::{AppendError, OctetsFrom, OutOfMemory, TryClone};
 use std::alloc::Global;
 use std::cmp::Ordering;
 use std::fmt;
@@ -124,6 +124,26 @@ impl<N: ToName, D: Eq> Eq for Record<N, D> {
     ghost use Rattle.domain_record.specs.Record.{record_eq_equiv};
 
     ghost laws = { record_eq_equiv N.labels D.eq D.Eq.laws };
+}
+
+impl<N: TryClone + Drop, D: TryClone> Record<N, D> {
+    /// A copy. Answers `OutOfMemory` where there is no memory for it.
+    pub fn clone(&self) -> Result<Self, OutOfMemory>
+        ensures { IfOk result (IsRecordClone N.is_clone D.is_clone self.now) }
+    {
+        let owner = self.owner().try_clone()?;
+        let data = self.data().try_clone()?;
+        Ok(Record::new(owner, self.class(), self.ttl(), data))
+    }
+}
+
+// The owner and the data are copies, and the class and the TTL are the same.
+impl<N: TryClone + Drop, D: TryClone> TryClone for Record<N, D> {
+    ghost is_clone = { IsRecordClone N.is_clone D.is_clone };
+
+    fn try_clone(&self) -> Result<Self, OutOfMemory> {
+        self.clone()
+    }
 }
 
 // The owner and the data are made of the others, and the class and the TTL are the same.
