@@ -31,10 +31,7 @@ impl<'a> ReadFields<'a> for u8 {
     ghost values = { λ n. n };
 
     fn read(parser: &mut Parser<'a>) -> Result<u8, WireFault> {
-        match parser.parse_u8() {
-            Ok(n) => Ok(n),
-            Err(_) => Err(WireFault::ShortInput),
-        }
+        parser.parse_u8().ok().ok_or(WireFault::ShortInput)
     }
 }
 
@@ -44,10 +41,7 @@ impl<'a> ReadFields<'a> for u16 {
     ghost values = { λ n. n };
 
     fn read(parser: &mut Parser<'a>) -> Result<u16, WireFault> {
-        match parser.parse_u16() {
-            Ok(n) => Ok(n),
-            Err(_) => Err(WireFault::ShortInput),
-        }
+        parser.parse_u16().ok().ok_or(WireFault::ShortInput)
     }
 }
 
@@ -57,10 +51,7 @@ impl<'a> ReadFields<'a> for u32 {
     ghost values = { λ n. n };
 
     fn read(parser: &mut Parser<'a>) -> Result<u32, WireFault> {
-        match parser.parse_u32() {
-            Ok(n) => Ok(n),
-            Err(_) => Err(WireFault::ShortInput),
-        }
+        parser.parse_u32().ok().ok_or(WireFault::ShortInput)
     }
 }
 
@@ -90,15 +81,14 @@ impl<'a, const COUNT: usize> ReadFields<'a> for Exactly<COUNT> {
     ghost values = { λ n. n.0 };
 
     fn read(parser: &mut Parser<'a>) -> Result<Exactly<COUNT>, WireFault> {
-        match parser.parse_octets(COUNT) {
-            Ok(octets) => {
-                laws::slices_hold_octets(octets);
-                let mut array = [0; COUNT];
-                array.copy_from_slice(octets);
-                Ok(Exactly(array))
-            }
-            Err(_) => Err(WireFault::ShortInput),
-        }
+        let octets = parser
+            .parse_octets(COUNT)
+            .ok()
+            .ok_or(WireFault::ShortInput)?;
+        laws::slices_hold_octets(octets);
+        let mut array = [0; COUNT];
+        array.copy_from_slice(octets);
+        Ok(Exactly(array))
     }
 }
 
@@ -109,17 +99,14 @@ impl<'a> ReadFields<'a> for Counted<'a> {
 
     fn read(parser: &mut Parser<'a>) -> Result<Counted<'a>, WireFault> {
         let mut ahead = parser.fork();
-        let Ok(count) = ahead.parse_u8() else {
-            return Err(WireFault::ShortInput);
-        };
-        match ahead.parse_octets(usize::from(count)) {
-            Ok(octets) => {
-                laws::slices_hold_octets(octets);
-                *parser = ahead;
-                Ok(Counted::new(octets))
-            }
-            Err(_) => Err(WireFault::ShortInput),
-        }
+        let count = ahead.parse_u8().ok().ok_or(WireFault::ShortInput)?;
+        let octets = ahead
+            .parse_octets(usize::from(count))
+            .ok()
+            .ok_or(WireFault::ShortInput)?;
+        laws::slices_hold_octets(octets);
+        *parser = ahead;
+        Ok(Counted::new(octets))
     }
 }
 
