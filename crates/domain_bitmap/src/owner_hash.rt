@@ -1,6 +1,7 @@
 //! Hashed owner names (RFC 5155, section 3.1.7), and their text (section 3.3).
 ghost use Rattle.std.specs.Prelude.{IfOk, IfErr, Some, codes};
-ghost use Rattle.domain_codecs.specs.{Base32.base32_upper, declared.codec.Codec.TheVariants.Base32Hex};
+ghost use Rattle.domain_codecs.specs.Base32.{base32_upper};
+ghost use Rattle.domain_codecs.specs.declared.codec.Codec.TheVariants as codec;
 ghost use Rattle.domain_base.specs.Scan.{OneToken, ReadsTokens, RefusesToken};
 ghost use Rattle.domain_bitmap.specs.Text.{HashFault, OwnerHashText, CountedFault};
 
@@ -75,7 +76,7 @@ impl<O: FromBuilder + Drop> OwnerHash<O> {
     /// memory, else `Custom("illegal owner name hash")` where it stands for over 255 octets.
     pub fn scan<S: Scanner<Octets = O>>(alloc: Global, scanner: &mut S) -> Result<Self, ScanError>
         ensures { ReadsTokens (OneToken OwnerHashText) (λ hash. hash)
-            (RefusesToken (CountedFault Base32Hex (codes "illegal owner name hash")
+            (RefusesToken (CountedFault codec.Base32Hex (codes "illegal owner name hash")
             O.Builder.limit)) (S.tokens scanner.old) (S.tokens scanner.new) result }
     {
         OwnerHash::scan_token(alloc, scanner, Codec::Base32Hex, "illegal owner name hash")

@@ -13,7 +13,5 @@ mod record;
 mod record_data;
 
 pub use pairs::both;
-pub use record::Record;
-pub use record_data::{
-    CloneRecordData, ComposeRecordData, LongRecordData, ParseRecordData, RecordData, ZoneData,
-};
+pub use record::{CloneRecordData, Record};
+pub use record_data::{ComposeRecordData, LongRecordData, ParseRecordData, RecordData, ZoneData};

@@ -1,5 +1,6 @@
 //! Records.
 ghost use Rattle.std.specs.{Prelude.{◌≡◌, ◌⊎◌, Some, IfOk}, Borrow.sem};
+ghost use Rattle.std.specs.declared.cmp.Ordering.TheVariants.{Equal};
 ghost use Rattle.domain_record.specs.Record.{IsRecordClone, LendsData};
 
 use crate::{RecordData, both};
@@ -124,6 +125,17 @@ impl<N: ToName, D: Eq> Eq for Record<N, D> {
     ghost use Rattle.domain_record.specs.Record.{record_eq_equiv};
 
     ghost laws = { record_eq_equiv N.labels D.eq D.Eq.laws };
+}
+
+/// Data whose copies are of the same type and equal under the canonical order.
+pub trait CloneRecordData: RecordData + CanonicalOrd + TryClone {
+    /// A copy is of the same type.
+    ghost clone_rtype: { (value copy : Self) → Self.is_clone value copy
+        → Self.rtype copy ≡ Self.rtype value };
+
+    /// A copy is equal under the canonical order.
+    ghost clone_canonical: { (value copy : Self) → Self.is_clone value copy
+        → Self.canonical_cmp value copy ≡ Equal };
 }
 
 impl<N: TryClone + Drop, D: TryClone> Record<N, D> {

@@ -1,14 +1,13 @@
 //! Data of records.
 ghost use Rattle.std.specs.Prelude.{◌≡◌, ◌≤◌, ◌↔◌, ℕ, Option, Some, length, IsTrue, IfOk, IfErr};
 ghost use Rattle.std.specs.{Prelude.{OnErr, IfNone, MatchOption, codes}, Ordering.nat_cmp};
-ghost use Rattle.std.specs.declared.cmp.Ordering.TheVariants.{Equal};
 ghost use Rattle.std.specs.Cmp.Lexicographic.{slice_cmp};
 ghost use Rattle.domain_octets.specs.Octets.{Octets};
 ghost use Rattle.domain_names.specs.Wire.{Fault, fault_of};
 ghost use Rattle.domain_fields.specs.Layout.{GoesOn, Appends};
 
-use domain_base::{CanonicalOrd, Rtype, Ttl};
-use domain_octets::{AppendError, OctetsBuilder, ParseError, Parser, TryClone};
+use domain_base::{Rtype, Ttl};
+use domain_octets::{AppendError, OctetsBuilder, ParseError, Parser};
 use std::cmp::Ordering;
 use std::error::Error;
 use std::fmt;
@@ -112,15 +111,4 @@ pub trait ComposeRecordData: RecordData {
     /// The lexicographic order of the canonical octets and of other octets. Takes no memory.
     fn canonical_cmp_octets(&self, other: &[u8]) -> Ordering
         ensures { result ≡ slice_cmp nat_cmp (canonical self.now) other.now };
-}
-
-/// Data whose copies are of the same type and equal under the canonical order.
-pub trait CloneRecordData: RecordData + CanonicalOrd + TryClone {
-    /// A copy is of the same type.
-    ghost clone_rtype: { (value copy : Self) → Self.is_clone value copy
-        → Self.rtype copy ≡ Self.rtype value };
-
-    /// A copy is equal under the canonical order.
-    ghost clone_canonical: { (value copy : Self) → Self.is_clone value copy
-        → Self.canonical_cmp value copy ≡ Equal };
 }
