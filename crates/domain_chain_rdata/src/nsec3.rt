@@ -452,7 +452,7 @@ struct AfterSpaces<'a, O: Octets>(&'a RtypeBitmap<O>);
 impl<'a, O: Octets> fmt::Display for AfterSpaces<'a, O> {
     ghost output = { λ t. Some (spaced_types (types_of t.0.now)) };
 
-    #[tactic(auto, using(crate::proofs::DataLemmas::after_a_space), unfolding(domain_bitmap::specs::Text::spaced_types))]
+    #[tactic(auto, using(crate::proofs::TextLemmas::after_a_space), unfolding(domain_bitmap::specs::Text::spaced_types))]
     fn fmt<W: fmt::Write>(&self, f: &mut fmt::Formatter<W>) -> fmt::Result {
         let types = self.0;
         if types.is_empty() {

@@ -427,7 +427,7 @@ impl<O: Octets> fmt::Display for Nsec3param<O> {
 }
 
 /// The pieces of the numbers, where this is the comment on the flags.
-#[tactic(auto, using(std::proofs::lemmas::Grind::common_steps, crate::proofs::DataLemmas::numbers_written))]
+#[tactic(auto, using(std::proofs::lemmas::Grind::common_steps, crate::proofs::TextLemmas::numbers_written))]
 pub fn write_numbers<F: Formatter>(
     numbers: HashNumbers,
     flags_comment: &str,
