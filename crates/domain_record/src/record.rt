@@ -69,13 +69,7 @@ impl<N, D> Record<N, D> {
           «data» = result.3;
         } }
     {
-        let Record {
-            owner,
-            class,
-            ttl,
-            data,
-        } = self;
-        (owner, class, ttl, data)
+        (self.owner, self.class, self.ttl, self.data)
     }
 
     /// Gives the record another TTL.
@@ -168,22 +162,11 @@ impl<M, E, N: OctetsFrom<M> + Drop, D: OctetsFrom<E> + Drop> OctetsFrom<Record<M
     ghost takes_memory = { N.takes_memory ⊎ D.takes_memory };
 
     fn try_octets_from(alloc: Global, source: Record<M, E>) -> Result<Self, AppendError> {
-        let Record {
-            owner,
-            class,
-            ttl,
-            data,
-        } = source;
         let (owner, data) = both(
-            N::try_octets_from(alloc, owner),
-            D::try_octets_from(alloc, data),
+            N::try_octets_from(alloc, source.owner),
+            D::try_octets_from(alloc, source.data),
         )?;
-        Ok(Record {
-            owner,
-            class,
-            ttl,
-            data,
-        })
+        Ok(Record::new(owner, source.class, source.ttl, data))
     }
 }
 
