@@ -2,12 +2,15 @@
 //! 3.1.7).
 ghost use Rattle.std.specs.Prelude.{◌≡◌, ◌≤◌, ◌↔◌, ◌∷◌, [], length, IsOk, IfOk, IfErr, OnErr};
 ghost use Rattle.domain_octets.specs.Octets.{Takes};
-ghost use Rattle.domain_bitmap.specs.Text.{by_length, by_length_total, IsCutShort};
+ghost use Rattle.domain_codecs.specs.Codec.{Decodes};
+ghost use Rattle.domain_base.specs.Scan.{OneToken, ReadsTokens, RefusesToken};
+ghost use Rattle.domain_bitmap.specs.Text.{by_length, by_length_total, IsCutShort, CountedFault};
 
 use crate::{CheckedOctets, OctetsKind};
 use bytes::Bytes;
-use domain_base::ParseError;
-use domain_octets::{EmptyOctets, Octets, Parser};
+use domain_base::{ParseError, ScanError, Scanner};
+use domain_codecs::Codec;
+use domain_octets::{EmptyOctets, FromBuilder, Octets, Parser};
 use std::alloc::Global;
 use std::cmp::Ordering;
 use std::marker::PhantomData;
@@ -97,5 +100,29 @@ impl<'a, E> CountedOctets<&'a [u8], E> {
         let octets = ahead.parse_octets(len as usize)?;
         *parser = ahead;
         Ok(CountedOctets::from_octets_unchecked(octets))
+    }
+}
+
+impl<O: FromBuilder + Drop, E: Default + Drop> CountedOctets<O, E> {
+    /// The octets that the next token stands for. Refuses those over 255 with `Custom(long)`.
+    pub(crate) fn scan_token<S: Scanner<Octets = O>>(
+        alloc: Global,
+        scanner: &mut S,
+        kind: Codec,
+        long: &'static str,
+    ) -> Result<Self, ScanError>
+        ensures read { ReadsTokens (OneToken (Decodes kind)) (λ counted. counted)
+            (RefusesToken (CountedFault kind long.now O.Builder.limit)) (S.tokens scanner.old)
+            (S.tokens scanner.new) result }
+        ensures counted { IfOk result (λ counted. length counted ≤ 255) }
+    {
+        let octets = match scanner.convert_token(alloc, kind) {
+            Ok(octets) => octets,
+            Err(error) => return Err(error),
+        };
+        match CountedOctets::from_octets(octets) {
+            Ok(counted) => Ok(counted),
+            Err(_) => Err(ScanError::Custom(long)),
+        }
     }
 }

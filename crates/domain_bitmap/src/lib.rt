@@ -30,12 +30,10 @@ mod builder;
 mod checked;
 mod counted;
 mod error;
-mod hash_scan;
 mod iter;
 pub mod laws;
 mod owner_hash;
 mod salt;
-mod scan;
 
 pub use bitmap::{Blocks, RtypeBitmap};
 pub use builder::RtypeBitmapBuilder;

@@ -1,10 +1,13 @@
 //! Hashed owner names (RFC 5155, section 3.1.7), and their text (section 3.3).
 ghost use Rattle.std.specs.Prelude.{IfOk, IfErr, Some, codes};
 ghost use Rattle.domain_codecs.specs.Base32.{base32_upper};
-ghost use Rattle.domain_bitmap.specs.Text.{HashFault, OwnerHashText};
+ghost use Rattle.domain_codecs.specs.declared.codec.Codec.TheVariants as codec;
+ghost use Rattle.domain_base.specs.Scan.{OneToken, ReadsTokens, RefusesToken};
+ghost use Rattle.domain_bitmap.specs.Text.{HashFault, OwnerHashText, CountedFault};
 
 use crate::CountedOctets;
-use domain_codecs::{DecodeError, base32};
+use domain_base::{ScanError, Scanner};
+use domain_codecs::{Codec, DecodeError, base32};
 use domain_octets::{EmptyBuilder, FromBuilder, Octets};
 use std::alloc::Global;
 use std::error::Error;
@@ -60,5 +63,22 @@ where
             Ok(hash) => Ok(hash),
             Err(_) => Err(DecodeError::ShortBuf),
         }
+    }
+}
+
+impl<O: FromBuilder + Drop> OwnerHash<O> {
+    /// The hash that the next token stands for in Base 32 hex. A token that is refused is gone past
+    /// too.
+    ///
+    /// # Errors
+    ///
+    /// `Custom("illegal data")` where the token is not in Base 32 hex, else want of room or of
+    /// memory, else `Custom("illegal owner name hash")` where it stands for over 255 octets.
+    pub fn scan<S: Scanner<Octets = O>>(alloc: Global, scanner: &mut S) -> Result<Self, ScanError>
+        ensures { ReadsTokens (OneToken OwnerHashText) (λ hash. hash)
+            (RefusesToken (CountedFault codec.Base32Hex (codes "illegal owner name hash")
+            O.Builder.limit)) (S.tokens scanner.old) (S.tokens scanner.new) result }
+    {
+        OwnerHash::scan_token(alloc, scanner, Codec::Base32Hex, "illegal owner name hash")
     }
 }

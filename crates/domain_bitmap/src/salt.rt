@@ -1,10 +1,13 @@
 //! The salt of hashed owner names (RFC 5155, section 3.1.5), and its text (section 3.3).
-ghost use Rattle.std.specs.Prelude.{IfOk, IfErr, Some, codes};
-ghost use Rattle.domain_bitmap.specs.Text.{SaltText, SaltFault, salt_error_text, salt_text};
+ghost use Rattle.std.specs.Prelude.{◌≡◌, ◌↔◌, IfOk, IfErr, IsTrue, Some, codes};
+ghost use Rattle.domain_base.specs.Scan.{OneToken, ReadsTokens, RefusesToken};
+ghost use Rattle.domain_bitmap.specs.Text.{SaltText, SaltFault, SaltTokenFault, BeginsWithDash, salt_error_text};
+ghost use Rattle.domain_bitmap.specs.Text.{salt_text};
 ghost use Rattle.domain_bitmap.specs.Pieces.{salt_comment, salt_pieces};
 
 use crate::CountedOctets;
-use domain_codecs::{DecodeError, base16};
+use domain_base::{ScanError, Scanner};
+use domain_codecs::{Codec, DecodeError, base16};
 use domain_octets::{EmptyBuilder, Formatter, FromBuilder, Octets, OutOfMemory, ZonefileFmt};
 use std::alloc::Global;
 use std::error::Error;
@@ -92,6 +95,52 @@ where
         match Nsec3Salt::from_octets(octets) {
             Ok(salt) => Ok(salt),
             Err(error) => Err(Nsec3SaltFromStrError::Nsec3SaltError(error)),
+        }
+    }
+}
+
+/// Whether a token begins with a dash, and whether that is all of it.
+fn dash(token: &str) -> (bool, bool)
+    ensures begins { IsTrue result.0 ↔ BeginsWithDash token.now }
+    ensures alone { IsTrue result.1 ↔ (token.now ≡ codes "-") }
+{
+    let octets = token.as_bytes();
+    match octets {
+        [first, rest @ ..] => (*first == b'-', *first == b'-' && rest.is_empty()),
+        [] => (false, false),
+    }
+}
+
+impl<O: FromBuilder + Drop> Nsec3Salt<O> {
+    /// The salt that the next token stands for in Base 16; a dash alone is the salt of no octets. A
+    /// token that is refused is gone past too.
+    ///
+    /// # Errors
+    ///
+    /// `Custom("illegal NSEC3 salt")` for a dash with something after it, `Custom("illegal data")`
+    /// for another token that is not in Base 16, else want of room or of memory, else
+    /// `Custom("illegal NSEC3 salt")` where it stands for over 255 octets.
+    #[tactic(auto, using(std::proofs::lemmas::Grind::common_steps, crate::proofs::TextLemmas::salt_steps))]
+    pub fn scan<S: Scanner<Octets = O>>(alloc: Global, scanner: &mut S) -> Result<Self, ScanError>
+        ensures { ReadsTokens (OneToken SaltText) (λ salt. salt)
+            (RefusesToken (SaltTokenFault O.Builder.limit)) (S.tokens scanner.old)
+            (S.tokens scanner.new) result }
+    {
+        let Some(token) = scanner.first_token() else {
+            return Err(ScanError::EndOfEntry);
+        };
+        let (begins, alone) = dash(token);
+        if begins {
+            scanner.skip_token();
+            if alone {
+                let octets = O::from_builder(scanner.octets_builder(alloc));
+                return Ok(Nsec3Salt::from_octets_unchecked(octets));
+            }
+            return Err(ScanError::Custom("illegal NSEC3 salt"));
+        }
+        match Nsec3Salt::scan_token(alloc, scanner, Codec::Base16, "illegal NSEC3 salt") {
+            Ok(salt) => Ok(salt),
+            Err(error) => Err(error),
         }
     }
 }

@@ -6,16 +6,16 @@ use Rattle.domain_codecs.proofs.CodecLemmas.{upper_base32_word}
 use Rattle.domain_names.{specs.Text.{ScanFault, IsOfTokens, NameTextFault, no_memory, NameText, name_text}, proofs.TextLemmas.one_name}
 use Rattle.domain_base.{specs.{Scan.{OneToken, RefusesToken}, Numbers.type_text}, proofs.TextLemmas.{name_excludes, name_one_fault, dotted_name_back}}
 use Rattle.domain_base.proofs.TextLemmas.{name_word}
-use Rattle.domain_bitmap.specs.Text.{CountedFault, SaltTokenFault, SaltText, OwnerHashText, salt_text, RefusesTypes, is_among, types_text}
+use Rattle.domain_bitmap.specs.Text.{CountedFault, SaltTokenFault, SaltText, OwnerHashText, salt_text, RefusesTypes, is_among, types_text, spaced_types}
 use Rattle.domain_bitmap.proofs.TextLemmas.{spelled_once, are_types, texts_spell, types_after, spaced_words, bitmap_back, salt_back, salt_word, types_refused}
 use Rattle.domain_bitmap.proofs.TextLemmas.{types_one_fault, salt_once, salt_excludes, salt_one_fault, hash_once, hash_excludes, counted_one_fault}
 use Rattle.domain_bitmap.specs.{Bitmap.bitmap_octets, Blocks.{IsBitmap, IsShortest, types_of}}
-use Rattle.domain_fields.{specs.{Layout.{Values, Fits}, Scan.IsExact}, proofs.{ScanLemmas.{fields_exact, fields_back}, GrammarLemmas.token_exact}}
-use Rattle.domain_fields.proofs.GrammarLemmas.{both_exact, exact_for}
+use Rattle.domain_fields.{specs.{Layout.{Values, Fits, ParsesBack}, Scan.IsExact}, proofs.{ScanLemmas.{fields_exact, fields_back}, GrammarLemmas.token_exact}}
+use Rattle.domain_fields.proofs.{GrammarLemmas.{both_exact, exact_for}, ExactLemmas.parses_back}
 use Rattle.domain_chain_rdata.specs.Text.{BitmapText, NsecText, IsOfNsec, RefusesNsec, Nsec3paramText, RefusesNsec3param, hash_numbers_text, nsec3param_text}
-use Rattle.domain_chain_rdata.specs.{Text.{HashText, RefusesHash, Nsec3Text, RefusesNsec3, params_before_hash, nsec3_text}, Rdata.{hash_numbers, nsec}}
-use Rattle.domain_chain_rdata.specs.Rdata.{nsec3param, hash_fields, nsec3}
-use Rattle.domain_octets.{specs.Text.words_of, proofs.WordLemmas.{one_word, next_word, decimal_word}}
+use Rattle.domain_chain_rdata.specs.{Text.{HashText, RefusesHash, Nsec3Text, RefusesNsec3, params_before_hash, nsec3_text, number_pieces}, Rdata.hash_numbers}
+use Rattle.domain_chain_rdata.specs.Rdata.{nsec, nsec3param, hash_fields, nsec3}
+use Rattle.domain_octets.{specs.Text.{words_of, PieceText, token, comment}, proofs.WordLemmas.{one_word, next_word, decimal_word}}
 
 -- ---- The texts of NSEC and NSEC3 data and of the parameters of hashes: tokens spell one at most, and are refused for one reason, spelling none.
 
@@ -134,3 +134,26 @@ nsec3_text_back v fits some =
 
 pub nsec3_text_same : (v : Values nsec3) → Fits nsec3 v → v.0.1 ≢ [] → IsShortest v.1 → Nsec3Text (words_of (nsec3_text v)) v []
 nsec3_text_same v fits some shortest = grind (arith, common_steps, bitmap_back, nsec3_text_back)
+
+-- ---- data of chains: their octets are read back, and how they are written
+
+-- octets of fields that fit are read as them alone
+pub nsec_back : (v : Values nsec) → Fits nsec v → ParsesBack nsec v
+nsec_back v fits = parses_back nsec v refl fits (tt, refl)
+
+pub params_back : (v : Values nsec3param) → Fits nsec3param v → ParsesBack nsec3param v
+params_back v fits = parses_back nsec3param v refl fits ((tt, (tt, tt)), tt)
+
+pub nsec3_back : (v : Values nsec3) → Fits nsec3 v → ParsesBack nsec3 v
+nsec3_back v fits = parses_back nsec3 v refl fits ((((tt, (tt, tt)), tt), tt), refl)
+
+-- types after a space
+pub after_a_space : (types : List ℕ) → (types ≡ [] → ⊥) → codes " " ++ types_text types ≡ spaced_types types
+unfolding types_text spaced_types
+after_a_space [] some = absurd (some refl)
+after_a_space (t ∷ types) some = refl
+
+pub numbers_written : (a b c d e f : List PieceText) (said : List ℕ) (x y z : ℕ)
+    → b ≡ a ++ token (decimal x) ∷ [] → c ≡ b ++ token (decimal y) ∷ [] → d ≡ c ++ comment said ∷ [] → e ≡ d ++ token (decimal z) ∷ []
+    → f ≡ e ++ comment (codes "iterations") ∷ [] → f ≡ a ++ number_pieces said (x, (y, z))
+numbers_written a b c d e f said x y z ab bc cd de ef = grind (arith, common_steps)

@@ -71,14 +71,6 @@ impl<O: Octets, N> Nsec<O, N> {
     {
         &self.types
     }
-
-    /// The next name and the types.
-    pub(crate) fn into_parts(self) -> (N, RtypeBitmap<O>)
-        ensures { result ≡ (self.next_name, self.types) }
-    {
-        let Nsec { next_name, types } = self;
-        (next_name, types)
-    }
 }
 
 impl<O: Octets, N: ToName> Nsec<O, N> {
@@ -297,9 +289,8 @@ impl<S: Octets + Drop, N: Drop, O: CopyOctets + Drop, M: OctetsFrom<N> + Drop> O
     ghost takes_memory = { M.OctetsFrom.takes_memory ⊎ IsNone O.capacity };
 
     fn try_octets_from(alloc: Global, source: Nsec<S, N>) -> Result<Self, AppendError> {
-        let (next_name, types) = source.into_parts();
-        let next_name = M::try_octets_from(alloc, next_name);
-        let types = RtypeBitmap::try_octets_from(alloc, types);
+        let next_name = M::try_octets_from(alloc, source.next_name);
+        let types = RtypeBitmap::try_octets_from(alloc, source.types);
         let (next_name, types) = both(next_name, types)?;
         Ok(Nsec::new(next_name, types))
     }

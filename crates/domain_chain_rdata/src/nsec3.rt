@@ -83,24 +83,9 @@ impl<O: Octets> Nsec3<O> {
     ) -> Self
         ensures { nsec3_values result ≡ ((nsec3param_values params, next_owner), types) }
     {
-        let (hash_algorithm, flags, iterations, salt) = params.into_parts();
+        let (hash_algorithm, flags) = (params.hash_algorithm(), params.flags());
+        let (iterations, salt) = (params.iterations(), params.into_salt());
         Nsec3::new(hash_algorithm, flags, iterations, salt, next_owner, types)
-    }
-
-    /// The parameters, the next hash and the types.
-    pub(crate) fn into_parts(self) -> (Nsec3param<O>, OwnerHash<O>, RtypeBitmap<O>)
-        ensures { nsec3_values self ≡ ((nsec3param_values result.0, result.1), result.2) }
-    {
-        let Nsec3 {
-            hash_algorithm,
-            flags,
-            iterations,
-            salt,
-            next_owner,
-            types,
-        } = self;
-        let params = Nsec3param::new(hash_algorithm, flags, iterations, salt);
-        (params, next_owner, types)
     }
 
     /// The algorithm of the hash (RFC 5155, section 3.1.1).
@@ -361,14 +346,12 @@ impl<O: Octets + Drop> Nsec3<O> {
         let salt = self.salt().clone()?;
         let next_owner = self.next_owner().clone()?;
         let types = self.types().clone()?;
-        Ok(Nsec3::new(
-            self.hash_algorithm(),
-            self.flags(),
-            self.iterations(),
-            salt,
-            next_owner,
-            types,
-        ))
+        let (hash_algorithm, flags, iterations) = (
+            self.hash_algorithm,
+            self.flags,
+            self.iterations,
+        );
+        Ok(Nsec3::new(hash_algorithm, flags, iterations, salt, next_owner, types))
     }
 }
 
@@ -395,12 +378,13 @@ impl<S: Octets + Drop, O: CopyOctets + Drop> OctetsFrom<Nsec3<S>> for Nsec3<O> {
     ghost takes_memory = { IsNone O.capacity };
 
     fn try_octets_from(alloc: Global, source: Nsec3<S>) -> Result<Self, AppendError> {
-        let (params, next_owner, types) = source.into_parts();
-        let params = Nsec3param::try_octets_from(alloc, params);
-        let next_owner = OwnerHash::try_octets_from(alloc, next_owner);
-        let types = RtypeBitmap::try_octets_from(alloc, types);
-        let ((params, next_owner), types) = both(both(params, next_owner), types)?;
-        Ok(Nsec3::of_params(params, next_owner, types))
+        let salt = Nsec3Salt::try_octets_from(alloc, source.salt);
+        let next_owner = OwnerHash::try_octets_from(alloc, source.next_owner);
+        let types = RtypeBitmap::try_octets_from(alloc, source.types);
+        let ((salt, next_owner), types) = both(both(salt, next_owner), types)?;
+        let (hash_algorithm, flags) = (source.hash_algorithm, source.flags);
+        let iterations = source.iterations;
+        Ok(Nsec3::new(hash_algorithm, flags, iterations, salt, next_owner, types))
     }
 }
 
@@ -452,7 +436,7 @@ struct AfterSpaces<'a, O: Octets>(&'a RtypeBitmap<O>);
 impl<'a, O: Octets> fmt::Display for AfterSpaces<'a, O> {
     ghost output = { λ t. Some (spaced_types (types_of t.0.now)) };
 
-    #[tactic(auto, using(crate::proofs::DataLemmas::after_a_space), unfolding(domain_bitmap::specs::Text::spaced_types))]
+    #[tactic(auto, using(crate::proofs::TextLemmas::after_a_space), unfolding(domain_bitmap::specs::Text::spaced_types))]
     fn fmt<W: fmt::Write>(&self, f: &mut fmt::Formatter<W>) -> fmt::Result {
         let types = self.0;
         if types.is_empty() {

@@ -13,7 +13,7 @@ use crate::{Nsec3, Nsec3param};
 use domain_octets::Octets;
 
 /// The octets of parameters are read as these parameters, in no other way, and nothing is left.
-#[tactic(auto, using(crate::proofs::DataLemmas::params_back))]
+#[tactic(auto, using(crate::proofs::TextLemmas::params_back))]
 pub fn nsec3param_parses_back<O: Octets>(value: &Nsec3param<O>)
     ensures { ParsesBack nsec3param (nsec3param_values value.now) }
 {
@@ -22,7 +22,7 @@ pub fn nsec3param_parses_back<O: Octets>(value: &Nsec3param<O>)
 
 /// The octets of NSEC3 data are read as these fields, the last a type bitmap, in no other way, and
 /// nothing is left.
-#[tactic(auto, using(crate::proofs::DataLemmas::nsec3_back))]
+#[tactic(auto, using(crate::proofs::TextLemmas::nsec3_back))]
 pub fn nsec3_parses_back<O: Octets>(value: &Nsec3<O>)
     ensures { ParsesBack nsec3 (nsec3_values value.now) }
 {

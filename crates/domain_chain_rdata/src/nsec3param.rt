@@ -141,26 +141,7 @@ impl<O: Octets> Nsec3param<O> {
     pub fn into_salt(self) -> Nsec3Salt<O>
         ensures { result ≡ self.salt }
     {
-        let Nsec3param {
-            hash_algorithm: _,
-            flags: _,
-            iterations: _,
-            salt,
-        } = self;
-        salt
-    }
-
-    /// Hash algorithm, flags, iterations and salt.
-    pub(crate) fn into_parts(self) -> (Nsec3HashAlgorithm, u8, u16, Nsec3Salt<O>)
-        ensures { result ≡ (self.hash_algorithm, self.flags, self.iterations, self.salt) }
-    {
-        let Nsec3param {
-            hash_algorithm,
-            flags,
-            iterations,
-            salt,
-        } = self;
-        (hash_algorithm, flags, iterations, salt)
+        self.salt
     }
 
     /// The fields but the salt.
@@ -385,9 +366,9 @@ impl<S: Octets + Drop, O: CopyOctets> OctetsFrom<Nsec3param<S>> for Nsec3param<O
     ghost takes_memory = { IsNone O.capacity };
 
     fn try_octets_from(alloc: Global, source: Nsec3param<S>) -> Result<Self, AppendError> {
-        let (hash_algorithm, flags, iterations, salt) = source.into_parts();
-        let salt = Nsec3Salt::try_octets_from(alloc, salt)?;
-        Ok(Nsec3param::new(hash_algorithm, flags, iterations, salt))
+        let salt = Nsec3Salt::try_octets_from(alloc, source.salt)?;
+        let (flags, iterations) = (source.flags, source.iterations);
+        Ok(Nsec3param::new(source.hash_algorithm, flags, iterations, salt))
     }
 }
 
@@ -427,7 +408,7 @@ impl<O: Octets> fmt::Display for Nsec3param<O> {
 }
 
 /// The pieces of the numbers, where this is the comment on the flags.
-#[tactic(auto, using(std::proofs::lemmas::Grind::common_steps, crate::proofs::DataLemmas::numbers_written))]
+#[tactic(auto, using(std::proofs::lemmas::Grind::common_steps, crate::proofs::TextLemmas::numbers_written))]
 pub fn write_numbers<F: Formatter>(
     numbers: HashNumbers,
     flags_comment: &str,

@@ -15,7 +15,7 @@ use domain_octets::Octets;
 
 /// The octets of NSEC data are read as this name and this type bitmap, in no other way, and nothing
 /// is left.
-#[tactic(auto, using(crate::proofs::DataLemmas::nsec_back))]
+#[tactic(auto, using(crate::proofs::TextLemmas::nsec_back))]
 pub fn nsec_parses_back<O: Octets, N: ToName>(value: &Nsec<O, N>)
     ensures { ParsesBack nsec (nsec_values N.labels value.now) }
 {

@@ -1,6 +1,6 @@
 -- Data on the wire: fields of some kinds, in their order.
 use Rattle.std.{proofs.Common.{◌≡◌, sym, subst}, specs.Prelude.{ℕ, ◌<◌, ◌≤◌, ◌^◌, [], ◌∷◌, length, codes, ◌+◌, ◌++◌, Bool, true, false}}
-use Rattle.std.specs.{Prelude.{◌&&◌, Result, IfOk, IfErr, OnErr, Option, IsNone, Ok, Err, bytes_eq, ◌==◌, not, bit_and}, Int.{w16, w32}}
+use Rattle.std.specs.{Prelude.{slice_index, ◌&&◌, Result, IfOk, IfErr, OnErr, Option, IsNone, Ok, Err, bytes_eq, ◌==◌, not, bit_and}, Int.{w16, w32}}
 use Rattle.std.specs.{Int.to_be_bytes, declared.cmp.Ordering.Ordering, Ordering.{nat_cmp, on, eq_by_cmp, then_cmp, eq_of_both}}
 use Rattle.std.specs.{Cmp.{Lexicographic.{slice_cmp, bytes_decides, texts_ties, nat_list_cmp_total, on_texts}, both_tied}, List.flat_map}
 use Rattle.std.specs.{Cmp.tied_itself, Hash.{Alike, same_Alike, on_Alike}, declared.cmp.Ordering.TheVariants.Equal}
@@ -94,25 +94,17 @@ pub record IsLong (octets : Octets) (limit : ℕ) (fault : Fault) : Type 0 where
   pub said : fault ≡ malformed (codes "record data too long")
 
 -- why octets begin with no value of the field
-pub data FieldFault : Field → Octets → Fault → Type 0 where
-  cut_octet : (octets : Octets) (fault : Fault) → IsCut octets 1 fault
-      → FieldFault octet octets fault
-  cut_short : (octets : Octets) (fault : Fault) → IsCut octets 2 fault
-      → FieldFault short octets fault
-  cut_long : (octets : Octets) (fault : Fault) → IsCut octets 4 fault → FieldFault long octets fault
-  no_name : (octets : Octets) (fault : Fault) → NameFault 0 octets fault
-      → FieldFault name octets fault
-  no_spelled_name : (octets : Octets) (fault : Fault) → NameFault 0 octets fault
-      → FieldFault spelled_name octets fault
-  no_count : FieldFault counted [] ends_early
-  cut_counted : (count : ℕ) (after : Octets) → length after < count
-      → FieldFault counted (count ∷ after) ends_early
-  cut_exactly : (count : ℕ) (octets : Octets) (fault : Fault) → IsCut octets count fault
-      → FieldFault (exactly count) octets fault
-  no_types : (octets : Octets) (fault : Fault) → BitmapFault octets fault
-      → FieldFault types octets fault
-  too_long : (limit : ℕ) (octets : Octets) (fault : Fault) → IsLong octets limit fault
-      → FieldFault (at_most limit) octets fault
+abbrev pub FieldFault : Field → Octets → Fault → Type 0
+FieldFault octet octets fault = IsCut octets 1 fault
+FieldFault short octets fault = IsCut octets 2 fault
+FieldFault long octets fault = IsCut octets 4 fault
+FieldFault name octets fault = NameFault 0 octets fault
+FieldFault spelled_name octets fault = NameFault 0 octets fault
+FieldFault counted octets fault = IsCut octets (1 + slice_index octets 0) fault
+FieldFault (exactly count) octets fault = IsCut octets count fault
+FieldFault (at_most limit) octets fault = IsLong octets limit fault
+FieldFault rest octets fault = ⊥
+FieldFault types octets fault = BitmapFault octets fault
 
 -- ---- what a fault of octets is called
 

@@ -39,42 +39,36 @@ impl<'a> Counted<'a> {
     }
 }
 
+#[tactic(auto, unfolding(crate::specs::Layout::octets_of))]
 impl<'a> Fields for Counted<'a> {
     ghost layout = { one counted };
 
     ghost values = { λ n. n.octets.now };
 
-    #[tactic(auto, unfolding(crate::specs::Layout::octets_of))]
     fn count(&self) -> u16 {
         self.parts().count()
     }
 
-    #[tactic(auto, unfolding(crate::specs::Layout::octets_of))]
     fn room_after(&self, limit: usize) -> Option<usize> {
         self.parts().room_after(limit)
     }
 
-    #[tactic(auto, unfolding(crate::specs::Layout::octets_of))]
     fn put<B: OctetsBuilder>(&self, target: &mut B) -> Result<(), AppendError> {
         self.parts().put(target)
     }
 
-    #[tactic(auto, unfolding(crate::specs::Layout::octets_of))]
     fn put_canonical<B: OctetsBuilder>(&self, target: &mut B) -> Result<(), AppendError> {
         self.parts().put_canonical(target)
     }
 
-    #[tactic(auto, unfolding(crate::specs::Layout::octets_of))]
     fn order(&self, other: &Self) -> Ordering {
         self.parts().order(&other.parts())
     }
 
-    #[tactic(auto, unfolding(crate::specs::Layout::octets_of))]
     fn order_from<'o>(&self, octets: &'o [u8]) -> (Ordering, &'o [u8]) {
         self.parts().order_from(octets)
     }
 
-    #[tactic(auto, unfolding(crate::specs::Layout::octets_of))]
     fn feed<H: Hasher>(&self, state: &mut H) {
         self.parts().feed(state);
     }

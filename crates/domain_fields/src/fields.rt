@@ -256,37 +256,32 @@ impl<'a> Octeted for RtypeBitmap<&'a [u8]> {
     }
 }
 
+#[tactic(auto, unfolding(crate::specs::Layout::octets_of))]
 impl<F: Octeted> Fields for F {
     ghost layout = { one F.field };
 
     ghost values = { F.value };
 
-    #[tactic(auto, unfolding(crate::specs::Layout::octets_of))]
     fn count(&self) -> u16 {
         self.octets(&mut [0; 4]).len() as u16
     }
 
-    #[tactic(auto, unfolding(crate::specs::Layout::octets_of))]
     fn room_after(&self, limit: usize) -> Option<usize> {
         limit.checked_sub(self.octets(&mut [0; 4]).len())
     }
 
-    #[tactic(auto, unfolding(crate::specs::Layout::octets_of))]
     fn put<B: OctetsBuilder>(&self, target: &mut B) -> Result<(), AppendError> {
         target.append_slice(self.octets(&mut [0; 4]))
     }
 
-    #[tactic(auto, unfolding(crate::specs::Layout::octets_of))]
     fn put_canonical<B: OctetsBuilder>(&self, target: &mut B) -> Result<(), AppendError> {
         target.append_slice(self.octets(&mut [0; 4]))
     }
 
-    #[tactic(auto, unfolding(crate::specs::Layout::octets_of))]
     fn order(&self, other: &Self) -> Ordering {
         self.octets(&mut [0; 4]).cmp(other.octets(&mut [0; 4]))
     }
 
-    #[tactic(auto, unfolding(crate::specs::Layout::octets_of))]
     fn order_from<'o>(&self, octets: &'o [u8]) -> (Ordering, &'o [u8]) {
         let mut buffer = [0; 4];
         let mine = self.octets(&mut buffer);
@@ -294,7 +289,6 @@ impl<F: Octeted> Fields for F {
         (mine.cmp(front), back)
     }
 
-    #[tactic(auto, unfolding(crate::specs::Layout::octets_of))]
     fn feed<H: Hasher>(&self, state: &mut H) {
         feed_octets(self.octets(&mut [0; 4]), state);
     }
@@ -305,22 +299,20 @@ impl<F: Octeted> Fields for F {
     }
 }
 
+#[tactic(auto, unfolding(crate::specs::Layout::octets_of))]
 impl<'a> Fields for ParsedName<'a> {
     ghost layout = { one name };
 
     ghost values = { λ n. n };
 
-    #[tactic(auto, unfolding(crate::specs::Layout::octets_of))]
     fn count(&self) -> u16 {
         self.compose_len()
     }
 
-    #[tactic(auto, unfolding(crate::specs::Layout::octets_of))]
     fn room_after(&self, limit: usize) -> Option<usize> {
         limit.checked_sub(usize::from(self.compose_len()))
     }
 
-    #[tactic(auto, unfolding(crate::specs::Layout::octets_of))]
     fn put<B: OctetsBuilder>(&self, target: &mut B) -> Result<(), AppendError> {
         self.compose(target)
     }
@@ -331,12 +323,11 @@ impl<'a> Fields for ParsedName<'a> {
         self.compose_canonical(target)
     }
 
-    #[tactic(auto, unfolding(crate::specs::Layout::octets_of))]
     fn order(&self, other: &Self) -> Ordering {
         self.lowercase_composed_cmp(other)
     }
 
-    #[tactic(auto, using(crate::proofs::LayoutLemmas::lowered_from), unfolding(crate::specs::Layout::octets_of))]
+    #[tactic(auto, using(std::proofs::lemmas::Grind::common_steps, domain_names::proofs::OrderLemmas::lowered_wire), unfolding(crate::specs::Layout::octets_of))]
     fn order_from<'o>(&self, octets: &'o [u8]) -> (Ordering, &'o [u8]) {
         let wire = self.as_wire();
         let (front, back) = split_up_to(octets, wire.len());
@@ -357,35 +348,31 @@ impl<'a> Fields for ParsedName<'a> {
     }
 }
 
+#[tactic(auto, using(std::proofs::lemmas::Grind::common_steps, crate::proofs::LayoutLemmas::both), unfolding(crate::specs::Layout::octets_of))]
 impl<A: Delimited, B: Fields> Fields for (A, B) {
     ghost layout = { A.layout ▸ B.layout };
 
     ghost values = { λ p. (A.values p.0, B.values p.1) };
 
-    #[tactic(auto, using(crate::proofs::LayoutLemmas::length_both))]
     fn count(&self) -> u16 {
         self.0.count() + self.1.count()
     }
 
-    #[tactic(auto, using(crate::proofs::LayoutLemmas::length_both))]
     fn room_after(&self, limit: usize) -> Option<usize> {
         let left = self.0.room_after(limit)?;
         self.1.room_after(left)
     }
 
-    #[tactic(auto, using(crate::proofs::LayoutLemmas::writing, std::proofs::lemmas::Grind::common_steps, crate::proofs::LayoutLemmas::stops_both))]
     fn put<T: OctetsBuilder>(&self, target: &mut T) -> Result<(), AppendError> {
         self.0.put(target)?;
         self.1.put(target)
     }
 
-    #[tactic(auto, using(crate::proofs::LayoutLemmas::writing, std::proofs::lemmas::Grind::common_steps, crate::proofs::LayoutLemmas::stops_both))]
     fn put_canonical<T: OctetsBuilder>(&self, target: &mut T) -> Result<(), AppendError> {
         self.0.put_canonical(target)?;
         self.1.put_canonical(target)
     }
 
-    #[tactic(auto, using(std::proofs::lemmas::Grind::common_steps, crate::proofs::LayoutLemmas::order_both))]
     fn order(&self, other: &Self) -> Ordering {
         self.0.fits();
         other.0.fits();
@@ -393,14 +380,12 @@ impl<A: Delimited, B: Fields> Fields for (A, B) {
         front.then_with(|| self.1.order(&other.1))
     }
 
-    #[tactic(auto, using(crate::proofs::LayoutLemmas::both_from))]
     fn order_from<'o>(&self, octets: &'o [u8]) -> (Ordering, &'o [u8]) {
         let (front, after) = self.0.order_from(octets);
         let (back, rest) = self.1.order_from(after);
         (front.then(back), rest)
     }
 
-    #[tactic(auto, using(crate::proofs::LayoutLemmas::feed_both, std::proofs::lemmas::Grind::common_steps, crate::proofs::LayoutLemmas::fold_both))]
     fn feed<H: Hasher>(&self, state: &mut H) {
         self.0.feed(state);
         self.1.feed(state);

@@ -17,7 +17,7 @@ pub fn reading_is_exact()
 {}
 
 /// Octets have one first fault at most.
-#[tactic(auto, using(crate::proofs::FaultLemmas::one_fault))]
+#[tactic(auto, using(crate::proofs::ExactLemmas::one_fault))]
 pub fn octets_have_one_first_fault()
     ensures { (l : Layout) (octets : Octets) (x y : Fault) → FirstFault l octets x
         → FirstFault l octets y → splits l ≡ true → x ≡ y }

@@ -16,6 +16,7 @@ mod encoded;
 mod fields;
 pub mod laws;
 mod pieces;
+#[tactic(auto, using(crate::proofs::LayoutLemmas::reading), unfolding(crate::specs::Layout::octets_of))]
 mod read_fields;
 mod scan_fields;
 mod wire_fault;

@@ -30,12 +30,8 @@ impl<'a> ReadFields<'a> for u8 {
 
     ghost values = { λ n. n };
 
-    #[tactic(auto, using(crate::proofs::LayoutLemmas::reading), unfolding(crate::specs::Layout::octets_of))]
     fn read(parser: &mut Parser<'a>) -> Result<u8, WireFault> {
-        match parser.parse_u8() {
-            Ok(n) => Ok(n),
-            Err(_) => Err(WireFault::ShortInput),
-        }
+        parser.parse_u8().ok().ok_or(WireFault::ShortInput)
     }
 }
 
@@ -44,12 +40,8 @@ impl<'a> ReadFields<'a> for u16 {
 
     ghost values = { λ n. n };
 
-    #[tactic(auto, using(crate::proofs::LayoutLemmas::reading), unfolding(crate::specs::Layout::octets_of))]
     fn read(parser: &mut Parser<'a>) -> Result<u16, WireFault> {
-        match parser.parse_u16() {
-            Ok(n) => Ok(n),
-            Err(_) => Err(WireFault::ShortInput),
-        }
+        parser.parse_u16().ok().ok_or(WireFault::ShortInput)
     }
 }
 
@@ -58,12 +50,8 @@ impl<'a> ReadFields<'a> for u32 {
 
     ghost values = { λ n. n };
 
-    #[tactic(auto, using(crate::proofs::LayoutLemmas::reading), unfolding(crate::specs::Layout::octets_of))]
     fn read(parser: &mut Parser<'a>) -> Result<u32, WireFault> {
-        match parser.parse_u32() {
-            Ok(n) => Ok(n),
-            Err(_) => Err(WireFault::ShortInput),
-        }
+        parser.parse_u32().ok().ok_or(WireFault::ShortInput)
     }
 }
 
@@ -72,7 +60,6 @@ impl<'a> ReadFields<'a> for ParsedName<'a> {
 
     ghost values = { λ n. n };
 
-    #[tactic(auto, using(crate::proofs::LayoutLemmas::reading), unfolding(crate::specs::Layout::octets_of))]
     fn read(parser: &mut Parser<'a>) -> Result<ParsedName<'a>, WireFault> {
         Ok(ParsedName::read(parser)?)
     }
@@ -83,7 +70,6 @@ impl<'a> ReadFields<'a> for Spelled<ParsedName<'a>> {
 
     ghost values = { λ n. n.0 };
 
-    #[tactic(auto, using(crate::proofs::LayoutLemmas::reading), unfolding(crate::specs::Layout::octets_of))]
     fn read(parser: &mut Parser<'a>) -> Result<Spelled<ParsedName<'a>>, WireFault> {
         Ok(Spelled(ParsedName::read(parser)?))
     }
@@ -94,17 +80,15 @@ impl<'a, const COUNT: usize> ReadFields<'a> for Exactly<COUNT> {
 
     ghost values = { λ n. n.0 };
 
-    #[tactic(auto, using(crate::proofs::LayoutLemmas::reading), unfolding(crate::specs::Layout::octets_of))]
     fn read(parser: &mut Parser<'a>) -> Result<Exactly<COUNT>, WireFault> {
-        match parser.parse_octets(COUNT) {
-            Ok(octets) => {
-                laws::slices_hold_octets(octets);
-                let mut array = [0; COUNT];
-                array.copy_from_slice(octets);
-                Ok(Exactly(array))
-            }
-            Err(_) => Err(WireFault::ShortInput),
-        }
+        let octets = parser
+            .parse_octets(COUNT)
+            .ok()
+            .ok_or(WireFault::ShortInput)?;
+        laws::slices_hold_octets(octets);
+        let mut array = [0; COUNT];
+        array.copy_from_slice(octets);
+        Ok(Exactly(array))
     }
 }
 
@@ -113,20 +97,16 @@ impl<'a> ReadFields<'a> for Counted<'a> {
 
     ghost values = { λ n. n.octets.now };
 
-    #[tactic(auto, using(crate::proofs::LayoutLemmas::reading), unfolding(crate::specs::Layout::octets_of))]
     fn read(parser: &mut Parser<'a>) -> Result<Counted<'a>, WireFault> {
         let mut ahead = parser.fork();
-        let Ok(count) = ahead.parse_u8() else {
-            return Err(WireFault::ShortInput);
-        };
-        match ahead.parse_octets(usize::from(count)) {
-            Ok(octets) => {
-                laws::slices_hold_octets(octets);
-                *parser = ahead;
-                Ok(Counted::new(octets))
-            }
-            Err(_) => Err(WireFault::ShortInput),
-        }
+        let count = ahead.parse_u8().ok().ok_or(WireFault::ShortInput)?;
+        let octets = ahead
+            .parse_octets(usize::from(count))
+            .ok()
+            .ok_or(WireFault::ShortInput)?;
+        laws::slices_hold_octets(octets);
+        *parser = ahead;
+        Ok(Counted::new(octets))
     }
 }
 
@@ -135,7 +115,6 @@ impl<'a, const LIMIT: usize> ReadFields<'a> for AtMost<LIMIT> {
 
     ghost values = { λ n. tt };
 
-    #[tactic(auto, using(crate::proofs::LayoutLemmas::reading), unfolding(crate::specs::Layout::octets_of))]
     fn read(parser: &mut Parser<'a>) -> Result<AtMost<LIMIT>, WireFault> {
         if parser.remaining() > LIMIT {
             return Err(WireFault::LongData);
@@ -149,7 +128,6 @@ impl<'a> ReadFields<'a> for Rest<'a> {
 
     ghost values = { λ n. n.0.now };
 
-    #[tactic(auto, using(crate::proofs::LayoutLemmas::reading), unfolding(crate::specs::Layout::octets_of))]
     fn read(parser: &mut Parser<'a>) -> Result<Rest<'a>, WireFault> {
         let octets = parser.peek_all();
         laws::slices_hold_octets(octets);
@@ -163,7 +141,6 @@ impl<'a> ReadFields<'a> for RtypeBitmap<&'a [u8]> {
 
     ghost values = { λ b. b };
 
-    #[tactic(auto, using(crate::proofs::LayoutLemmas::reading), unfolding(crate::specs::Layout::octets_of))]
     fn read(parser: &mut Parser<'a>) -> Result<RtypeBitmap<&'a [u8]>, WireFault> {
         let octets = parser.peek_all();
         let types = RtypeBitmap::from_octets(octets)?;

@@ -2,30 +2,21 @@
 ghost use Rattle.std.specs.Prelude.{◌≡◌, ◌≤◌, ◌+◌, ◌*◌, ◌%◌, length};
 ghost use Rattle.domain_keys.specs.Keys.{weighed, with_carry, rsa_md5_tag};
 
-/// What an octet at a place adds to a key tag.
-fn weight(place: usize, octet: u8) -> u32
-    ensures even { place % 2 ≡ 0 → result ≡ 256 * octet }
-    ensures odd { place % 2 ≡ 1 → result ≡ octet }
-    ensures bound { result ≤ 65280 }
-{
-    if place % 2 == 0 {
-        u32::from(octet) * 256
-    } else {
-        u32::from(octet)
-    }
-}
-
 /// The sum of octets, in which those at even places weigh 256.
 pub fn weighed(octets: &[u8]) -> u32
     requires { length octets.now ≤ 65531 }
     ensures value { result ≡ weighed octets.now }
     ensures bound { result ≤ 65280 * 65531 }
 {
-    let mut sum = 0;
-    for (place, octet) in octets.iter().enumerate() {
-        sum += weight(place, *octet);
+    let (mut sum, mut rest) = (0, octets);
+    while let [high, low, others @ ..] = rest {
+        sum += u32::from(*high) * 256 + u32::from(*low);
+        rest = others;
     }
-    sum
+    match rest {
+        [last] => sum + u32::from(*last) * 256,
+        _ => sum,
+    }
 }
 
 /// Adds the carry above 16 bits, once.

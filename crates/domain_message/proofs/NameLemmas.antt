@@ -3,12 +3,12 @@
 use Rattle.std.proofs.{lemmas.Grind.common_steps, Common.{◌≡◌, ℕ, ◌+◌, ◌-◌, ◌*◌, ◌<◌, ◌≤◌, List, [], ◌∷◌, ◌++◌, length, get_or, take, drop, refl, sym, ap}}
 use Rattle.std.proofs.{Common.{subst, ◌∙◌, arith, length-append, IfOk}, lemmas.List.{append_assoc, take-append-drop, take_at, drop_more, drop_all, drop_at}}
 use Rattle.std.proofs.lemmas.List.{drop-drop, length-drop, length-take-le, Elements.{All-take, All-drop}}
-use Rattle.std.specs.{Prelude.{All, Option, Some, None, Ok, Err}, List.AllByRecursion}
+use Rattle.std.specs.{Prelude.{All, Option, Some, None, Ok, Err, unwrap_or}, List.AllByRecursion}
 use Rattle.domain_octets.proofs.WordLemmas.{octets_from_type}
 use Rattle.domain_names.{specs.Name.{wire_of, IsLabel, IsName, Name}, proofs.WireLemmas.{IsWire-wire_of, labels_of-wire_of}}
 use Rattle.domain_message.specs.Name.{pointer_octets, behind, up_to, Outcome, ComesTo, LabelsFault, NameAt, root, label, pointer, at_fault}
 use Rattle.domain_message.specs.Name.{EndFault, no_octet, half_pointer, bad_type, not_backward, long_name, cut_label}
-use Rattle.domain_message.specs.{Steps.{LabelsBetween, GoesOn, RunRead}, declared.name.NameFault.NameFault}
+use Rattle.domain_message.specs.{Steps.{IsStep, at_root, at_label, at_pointer}, declared.name.{NameFault.NameFault, Step.TheVariants.{Root, Label, Pointer}}}
 use Rattle.domain_message.specs.declared.name.NameFault.TheVariants as name_fault
 
 -- ---- outcomes
@@ -19,159 +19,124 @@ behind_none rest = grind (arith, common_steps)
 behind_more : (labels more : Name) (rest : Outcome) → behind labels (behind more rest) ≡ behind (labels ++ more) rest
 behind_more labels more rest = grind (arith, common_steps)
 
-behind_up_to : (labels : Name) (end : ℕ) (rest : Outcome) → behind labels (up_to end rest) ≡ up_to end (behind labels rest)
-behind_up_to labels end rest = grind (arith, common_steps)
+-- the place behind the first pointer, if there was one, is the one behind the name
+abbrev pub ended : Option ℕ → Outcome → Outcome
+ended None rest = rest
+ended (Some end) rest = up_to end rest
 
-up_to_behind : (end far : ℕ) (labels more : Name) (rest : Outcome)
-    → up_to end (behind labels (up_to far (behind more rest))) ≡ up_to end (behind (labels ++ more) rest)
-up_to_behind end far labels more rest = grind (arith, common_steps)
+ended_fault : (end : Option ℕ) (f : NameFault) → ended end (Err f) ≡ Err f
+ended_fault end f = grind (arith, common_steps)
 
--- ---- within one run
+ended_up_to : (end : Option ℕ) (far : ℕ) (labels : Name) (rest : Outcome)
+    → ended end (behind labels (up_to far rest)) ≡ ended (Some (unwrap_or end far)) (behind labels rest)
+ended_up_to end far labels rest = grind (arith, common_steps)
 
-pub between_none : (message : List ℕ) (start used : ℕ) → used < 255 → LabelsBetween message start used start
-between_none message start used room =
-    let all : used + 0 ≡ used = omega arith in
-    record {
-      labels = [];
-      octets = [];
-      wires = λ more. refl;
-      spelled = refl;
-      place = omega arith;
-      room = omega (arith, room);
-      on = λ rest h. rw (behind_none rest) (subst (λ n. ComesTo message start start n rest) all h);
-    }
+-- ---- what stands at a place
 
-module _ (message : List ℕ) (start used at len : ℕ) (inside : at < length message) (is : get_or message at 0 ≡ len)
-    (so_far : LabelsBetween message start used at) where
-  ahead : drop at message ≡ len ∷ drop (at + 1) message
-  ahead = rw (← is) (drop_more message at 0 inside)
+module _ (message : List ℕ) (start at used : ℕ) (inside : at < length message) where
+  ahead : (len : ℕ) → get_or message at 0 ≡ len → drop at message ≡ len ∷ drop (at + 1) message
+  ahead len is = rw (← is) (drop_more message at 0 inside)
 
-  fault_there : (f : NameFault) → EndFault start (used + length so_far.octets) (len ∷ drop (at + 1) message) f → LabelsFault message start used f
-  fault_there f why = so_far.on (Err f) (at_fault start at _ f (rw ahead why))
+  pub root_here : get_or message at 0 ≡ 0 → IsStep message start at used Root
+  root_here is = at_root _ (ahead 0 is)
 
-  pub type_fault : 63 < len → len < 192 → LabelsFault message start used name_fault.BadLabelType
-  type_fault big small = fault_there _ (bad_type len _ big small)
+  pub half_fault : 192 ≤ get_or message at 0 → length message ≤ at + 1 → EndFault start used (drop at message) name_fault.ShortInput
+  half_fault big out = grind (arith, common_steps, half_pointer)
 
-  pub length_fault : 0 < len → len ≤ 63 → 255 ≤ used + (at + 1 + len - start) → LabelsFault message start used name_fault.LongName
-  length_fault some small big = fault_there _ (long_name len _ some small (omega (arith, so_far.place)))
+  module _ (bytes : All (λ octet. octet < 256) message) (big : 192 ≤ get_or message at 0) (both : at + 1 < length message) where
+    abbrev place : ℕ
+    place = (get_or message at 0 - 192) * 256 + get_or message (at + 1) 0
 
-  pub cut_fault : 0 < len → len ≤ 63 → used + (at + 1 + len - start) < 255 → length message < at + 1 + len
-      → LabelsFault message start used name_fault.ShortInput
-  cut_fault some small short cut =
-      fault_there _ (cut_label len _ some small (omega (arith, so_far.place)) (omega (arith, length-drop (at + 1) message)))
+    pointer_ahead : drop at message ≡ pointer_octets place ++ drop (at + 2) message
+    pointer_ahead = grind (arith, common_steps, (bytes at 0), (bytes (at + 1) 0))
 
-  pub between_more : All (λ octet. octet < 256) message → 0 < len → len ≤ 63 → used + (at + 1 + len - start) < 255
-      → at + 1 + len ≤ length message → LabelsBetween message start used (at + 1 + len)
-  between_more bytes some small short whole =
-      let this = take len (drop (at + 1) message) in
-      let long : length this ≡ len = length-take-le len _ (omega (arith, length-drop (at + 1) message)) in
-      let octets = so_far.octets ++ len ∷ this in
-      let count : length octets ≡ length so_far.octets + 1 + len = grind (arith, common_steps, long) in
-      let read : used + length octets ≡ used + length so_far.octets + 1 + len = omega (arith, count) in
+    pub forward_fault : start ≤ place → EndFault start used (drop at message) name_fault.ForwardPointer
+    forward_fault forward = rw pointer_ahead (not_backward place (drop (at + 2) message) forward)
+
+    pub pointer_here : (target : ℕ) → target ≡ place → target < start → IsStep message start at used (Pointer target)
+    pointer_here target is earlier = at_pointer target (drop (at + 2) message) (rw is pointer_ahead)
+        (record { earlier = earlier; fits = omega (arith, bytes at 0 inside, bytes (at + 1) 0 both) })
+
+  module _ (len : ℕ) (is : get_or message at 0 ≡ len) where
+    pub type_fault : 63 < len → len < 192 → EndFault start used (drop at message) name_fault.BadLabelType
+    type_fault big small = rw (ahead len is) (bad_type len _ big small)
+
+    pub length_fault : 0 < len → len ≤ 63 → 255 < used + len + 2 → EndFault start used (drop at message) name_fault.LongName
+    length_fault some small big = rw (ahead len is) (long_name len _ some small big)
+
+    pub cut_fault : 0 < len → len ≤ 63 → used + len + 2 ≤ 255 → length message < at + 1 + len
+        → EndFault start used (drop at message) name_fault.ShortInput
+    cut_fault some small room cut = rw (ahead len is) (cut_label len (drop (at + 1) message) some small room (omega (arith, length-drop (at + 1) message)))
+
+    pub label_here : All (λ octet. octet < 256) message → 0 < len → len ≤ 63 → used + len + 2 ≤ 255 → at + 1 + len ≤ length message
+        → IsStep message start at used (Label (at + 1 + len))
+    label_here bytes some small room whole =
+        let text = take len (drop (at + 1) message) in
+        let long : length text ≡ len = length-take-le len _ (omega (arith, length-drop (at + 1) message)) in
+        at_label text (drop (at + 1 + len) message) _
+        (record {
+          not_empty = omega (arith, long);
+          fits = omega (arith, long);
+          octets = All-take (λ octet. octet < 256) len _ (All-drop (λ octet. octet < 256) _ message bytes);
+        })
+        (grind (arith, common_steps, (ahead len is), long, (take-append-drop len (drop (at + 1) message))))
+        (omega (arith, long, room)) (omega (arith, long))
+
+pub end_fault : (message : List ℕ) (start at used : ℕ) → length message ≤ at → EndFault start used (drop at message) name_fault.ShortInput
+end_fault message start at used out = rw (drop_all at message out) no_octet
+
+pub ruleset place_steps =
+    (root_here, half_fault, forward_fault, pointer_here, type_fault, length_fault, cut_fault, label_here, end_fault, octets_from_type)
+
+-- ---- one step after another
+
+-- labels of the name that stands at a place were read and their octets appended; others go on at a place
+pub record Read (message : List ℕ) (at start place : ℕ) (wire : List ℕ) (end : Option ℕ) : Type 0 where
+  pub labels : Name
+  pub wires : (more : Name) → wire_of (labels ++ more) ≡ wire ++ wire_of more
+  pub room : length wire < 255
+  pub on : (rest : Outcome) → ComesTo message start place (length wire) rest → ComesTo message at at 0 (ended end (behind labels rest))
+
+pub read_starts : (message : List ℕ) (at : ℕ) → Read message at at at [] None
+read_starts message at = record { labels = []; wires = λ more. refl; room = omega arith; on = λ rest h. rw (behind_none rest) h }
+
+module _ (message : List ℕ) (at start place : ℕ) (wire : List ℕ) (end : Option ℕ) (so_far : Read message at start place wire end) where
+  pub read_label : (next : ℕ) (new : List ℕ) → IsStep message start place (length wire) (Label next)
+      → new ≡ wire ++ take (next - place) (drop place message) → Read message at start next new end
+  read_label next new (at_label text after _ is_label spelled room is) appended =
+      let octets : take (next - place) (drop place message) ≡ length text ∷ text =
+      ap (take (next - place)) spelled ∙ take_at (length text ∷ text) after _ (omega (arith, is)) in
+      let new_is : new ≡ wire ++ length text ∷ text = appended ∙ ap (λ o. wire ++ o) octets in
+      let count : length new ≡ length wire + 1 + length text = omega (arith, ap length new_is, length-append wire (length text ∷ text)) in
       record {
-        labels = so_far.labels ++ this ∷ [];
-        octets = octets;
-        wires = λ more. grind (arith, common_steps, long, (so_far.wires (this ∷ more)), (append_assoc so_far.labels (this ∷ []) more));
-        spelled = grind (arith, common_steps, ahead, so_far.spelled, (take-append-drop len (drop (at + 1) message)));
-        place = omega (arith, count, so_far.place);
-        room = omega (arith, count, so_far.place);
-        on = λ rest h. subst (ComesTo message start start used) (behind_more so_far.labels (this ∷ []) rest) (so_far.on _
-            (label start at _ this (drop (at + 1 + len) message) rest
-            (record {
-              not_empty = omega (arith, long);
-              fits = omega (arith, long);
-              octets = All-take (λ octet. octet < 256) len _ (All-drop (λ octet. octet < 256) _ message bytes);
-            })
-            (grind (arith, common_steps, ahead, long, (take-append-drop len (drop (at + 1) message))))
-            (omega (arith, long, so_far.place))
-            (subst (λ n. ComesTo message start (at + 1 + n) (used + length so_far.octets + 1 + n) rest) (sym long)
-            (subst (λ n. ComesTo message start (at + 1 + len) n rest) read h))));
+        labels = so_far.labels ++ text ∷ [];
+        wires = λ more. grind (arith, common_steps, new_is, (so_far.wires (text ∷ more)), (append_assoc so_far.labels (text ∷ []) more));
+        room = omega (arith, count, room);
+        on = λ rest h. subst (λ o. ComesTo message at at 0 (ended end o)) (behind_more so_far.labels (text ∷ []) rest) (so_far.on _
+            (label start place _ text after rest is_label spelled room
+            (subst (λ n. ComesTo message start n (length wire + 1 + length text) rest) is
+            (subst (λ n. ComesTo message start next n rest) count h))));
       }
 
-pub end_fault : (message : List ℕ) (start used at : ℕ) → LabelsBetween message start used at → length message ≤ at
-    → LabelsFault message start used name_fault.ShortInput
-end_fault message start used at so_far out =
-    so_far.on (Err name_fault.ShortInput) (at_fault start at _ _ (rw (drop_all at message out) no_octet))
+  pub label_inside : (next : ℕ) → IsStep message start place (length wire) (Label next) → next ≤ length message
+  label_inside next (at_label text after _ is_label spelled room is) =
+      omega (arith, is, ap length spelled, length-append text after, length-drop place message)
 
-pub ruleset label_steps = (between_none, between_more, length_fault, cut_fault, octets_from_type)
+  pub read_pointer : (target : ℕ) → IsStep message start place (length wire) (Pointer target)
+      → Read message at target target wire (Some (unwrap_or end (place + 2)))
+  read_pointer target (at_pointer _ after spelled back) = record {
+    labels = so_far.labels;
+    wires = so_far.wires;
+    room = so_far.room;
+    on = λ rest h. subst (ComesTo message at at 0) (ended_up_to end (place + 2) so_far.labels rest)
+        (so_far.on _ (pointer start place _ target after rest spelled back h));
+  }
 
--- ---- the end of a run
+  pub read_fault : (f : NameFault) → EndFault start (length wire) (drop place message) f → LabelsFault message at 0 f
+  read_fault f why = subst (ComesTo message at at 0) (ended_fault end f) (so_far.on (Err f) (at_fault start place _ f why))
 
-pub root_ends : (message : List ℕ) (start at : ℕ) → at < length message → get_or message at 0 ≡ 0 → (used : ℕ) (rest : Outcome)
-    → rest ≡ Ok ([], 0) → ComesTo message start at used (up_to (at + 1) rest)
-root_ends message start at inside is used rest none = grind (arith, common_steps, root)
-
-pub half_fault : (message : List ℕ) (start at : ℕ) → at < length message → (used : ℕ) → 192 ≤ get_or message at 0 → length message ≤ at + 1
-    → ComesTo message start at used (Err name_fault.ShortInput)
-half_fault message start at inside used big out = grind (arith, common_steps, at_fault, half_pointer)
-
--- two octets at the place are a pointer's
-pub record Pointer (message : List ℕ) (at upper low : ℕ) : Type 0 where
-  pub inside : at + 1 < length message
-  pub high_is : get_or message at 0 ≡ 192 + upper
-  pub low_is : get_or message (at + 1) 0 ≡ low
-  pub high_fits : upper < 64
-  pub low_fits : low < 256
-
-module _ (message : List ℕ) (start at upper low : ℕ) (here : Pointer message at upper low) where
-  pointer_ahead : drop at message ≡ pointer_octets (upper * 256 + low) ++ drop (at + 2) message
-  pointer_ahead = grind (arith, common_steps)
-
-  pub forward_fault : (used : ℕ) → start ≤ upper * 256 + low → ComesTo message start at used (Err name_fault.ForwardPointer)
-  forward_fault used forward = at_fault start at used _ (rw pointer_ahead (not_backward (upper * 256 + low) (drop (at + 2) message) forward))
-
-  pub pointer_ends : upper * 256 + low < start → (used : ℕ) (rest : Outcome) → ComesTo message (upper * 256 + low) (upper * 256 + low) used rest
-      → ComesTo message start at used (up_to (at + 2) rest)
-  pointer_ends earlier used rest on =
-      pointer start at used _ (drop (at + 2) message) rest pointer_ahead
-      (record { earlier = earlier; fits = omega (arith, here.high_fits, here.low_fits) }) on
-
--- ---- one run after another
-
-pub run_fault : (message : List ℕ) (start used at : ℕ) (f : NameFault) → LabelsBetween message start used at
-    → ((read : ℕ) → ComesTo message start at read (Err f)) → LabelsFault message start used f
-run_fault message start used at f between found = between.on (Err f) (found _)
-
-pub run_read : (message : List ℕ) (start at : ℕ) (old new : List ℕ) (target : Option ℕ) (end : ℕ)
-    → LabelsBetween message start (length old) at
-    → ((used : ℕ) (rest : Outcome) → GoesOn message target used rest → ComesTo message start at used (up_to end rest))
-    → new ≡ old ++ take (at - start) (drop start message) → RunRead message start old new target end
-run_read message start at old new target end between ends is =
-    let octets : take (at - start) (drop start message) ≡ between.octets =
-    ap (take (at - start)) between.spelled ∙ take_at between.octets _ _ (omega (arith, between.place)) in
-    let new_is : new ≡ old ++ between.octets = is ∙ ap (λ o. old ++ o) octets in
-    let count : length new ≡ length old + length between.octets = ap length new_is ∙ length-append old _ in
-    record {
-      labels = between.labels;
-      wires = λ more. ap (λ o. old ++ o) (between.wires more) ∙ sym (append_assoc old between.octets _) ∙ ap (λ o. o ++ wire_of more) (sym new_is);
-      room = omega (arith, count, between.room);
-      on = λ rest h. subst (ComesTo message start start (length old)) (behind_up_to between.labels end rest)
-          (between.on _ (ends _ rest (subst (λ n. GoesOn message target n rest) count h)));
-    }
-
--- how far the pointers may still lead
-abbrev pub to_go : Option ℕ → ℕ
-to_go None = 0
-to_go (Some target) = target + 1
-
-pub run_next : (message : List ℕ) (at : ℕ) (old wire new : List ℕ) (target : Option ℕ) (start : ℕ) (next : Option ℕ) (end far : ℕ)
-    → RunRead message at old wire target end → target ≡ Some start → RunRead message start wire new next far
-    → RunRead message at old new next end
-run_next message at old wire new target start next end far so_far is run =
-    record {
-      labels = so_far.labels ++ run.labels;
-      wires = λ more.
-          ap (λ l. old ++ wire_of l) (append_assoc so_far.labels run.labels more)
-          ∙ so_far.wires (run.labels ++ more) ∙ run.wires more;
-      room = run.room;
-      on = λ rest h. subst (ComesTo message at at (length old)) (up_to_behind end far so_far.labels run.labels rest)
-          (so_far.on (up_to far (behind run.labels rest)) (rw is (run.on rest h)));
-    }
-
-pub fault_on : (message : List ℕ) (at : ℕ) (wire : List ℕ) (target : Option ℕ) (start end : ℕ) (f : NameFault)
-    → RunRead message at [] wire target end → target ≡ Some start → LabelsFault message start (length wire) f → LabelsFault message at 0 f
-fault_on message at wire target start end f so_far is found =
-    so_far.on (Err f) (subst (λ t. GoesOn message t (length wire) (Err f)) (sym is) found)
+-- how far the name may still lead
+pub ruleset name_steps = (read_starts, read_label, read_pointer, read_fault)
 
 -- the octets of a name that were read are made a name
 pub ruleset wire_steps = (IsWire-wire_of, labels_of-wire_of)
@@ -274,21 +239,25 @@ in_full_at message at name after valid is =
     record { stands = in_full message at at 0 name after valid.of_labels (omega (arith, valid.fits)) is; valid = valid }
 
 -- the labels that were read, with the root, are the octets of a name
-pub named : (message : List ℕ) (at end : ℕ) (octets wire : List ℕ) → RunRead message at [] octets None end → wire ≡ octets ++ 0 ∷ []
-    → (name : Name) × NameAt message at name end × (wire ≡ wire_of name)
-named message at end octets wire read is =
-    let stands = read.on (Ok ([], 0)) refl in
-    let are : wire ≡ wire_of (read.labels ++ []) = is ∙ sym (read.wires []) in (
-      read.labels ++ [],
-      record {
-        stands = stands;
-        valid = record {
-          of_labels = (stand_inside message at at 0 _ stands).0;
-          fits = omega (arith, ap length are, ap length is, length-append octets (0 ∷ []), read.room);
-        };
-      },
-      are,
-    )
+module _ (message : List ℕ) (at start place : ℕ) (wire : List ℕ) (end : Option ℕ) (so_far : Read message at start place wire end)
+    (root_is : IsStep message start place (length wire) Root) where
+  stands : ComesTo message at at 0 (Ok (so_far.labels ++ [], unwrap_or end (place + 1)))
+  stands = grind (arith, common_steps, root, (so_far.on (Ok ([], place + 1))))
 
-pub read_inside : (message : List ℕ) (at end : ℕ) (octets : List ℕ) → RunRead message at [] octets None end → end ≤ length message
-read_inside message at end octets read = (stand_inside message at at 0 _ (read.on (Ok ([], 0)) refl)).1
+  pub named : (whole : List ℕ) → whole ≡ wire ++ 0 ∷ []
+      → (name : Name) × NameAt message at name (unwrap_or end (place + 1)) × (whole ≡ wire_of name)
+  named whole is =
+      let are : whole ≡ wire_of (so_far.labels ++ []) = is ∙ sym (so_far.wires []) in (
+        so_far.labels ++ [],
+        record {
+          stands = stands;
+          valid = record {
+            of_labels = (stand_inside message at at 0 _ stands).0;
+            fits = omega (arith, ap length are, ap length is, length-append wire (0 ∷ []), so_far.room);
+          };
+        },
+        are,
+      )
+
+  pub name_inside : unwrap_or end (place + 1) ≤ length message
+  name_inside = (stand_inside message at at 0 _ stands).1

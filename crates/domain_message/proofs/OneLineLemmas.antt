@@ -1,15 +1,19 @@
 -- a line spells one record at most, and none where it is refused
-use Rattle.std.proofs.{Common.{arith, ◌≡◌, ℕ, List, Option, [], sym, subst, ◌∙◌}, lemmas.Grind.common_steps}
-use Rattle.domain_octets.specs.{Text.words_of, Octets.Octets}
-use Rattle.domain_base.specs.{Numbers.{ClassText, IsNoClass, IsNoType, TypeText}, Scan.{IsNoNumber, IsNumber, RefusesToken, TakesToken}}
-use Rattle.domain_base.proofs.TextLemmas.{one_named, name_excludes, token_excludes}
-use Rattle.domain_names.{specs.{Text.{NameText, IsOfTokens, NameTextFault, scan_fault_of}, Name.{Name, Token, Tokens}}, proofs.TextLemmas.one_name}
-use Rattle.domain_record.specs.declared.record.Record.{Record}
-use Rattle.domain_rdata.proofs.ScanLemmas.{none_spelled, text_once}
-use Rattle.domain_rdata.specs.{Scan.RdataText, Zone.rtype_of, declared.zone_record_data.ZoneRecordData.ZoneRecordData}
+use Rattle.std.proofs.Common.{arith, ◌≡◌, ℕ, List, Option, [], sym, subst, ◌∙◌, ◌+◌, ◌<◌, ◌≤◌, refl, ap, ◌↔◌, IsTrue, true, false, ◌∷◌, drop, get_or, length}
+use Rattle.std.{proofs.{Common.{Result, IfErr, ◌^◌, ◌++◌}, lemmas.{Grind.common_steps, List.{drop_all, drop_more}}}, specs.Prelude.{Bool, Some, None}}
+use Rattle.std.specs.{Prelude.{IfSome, slice_index}, Fmt.decimal}
+use Rattle.domain_octets.{specs.{Text.{words_of, is_blank}, Octets.Octets}, proofs.WordLemmas.{blank_first, first_begins, joined_words, first_word}}
+use Rattle.domain_octets.proofs.WordLemmas.{decimal_word}
+use Rattle.domain_base.specs.{Numbers.{ClassText, IsNoClass, IsNoType, TypeText, class_text, type_text}, Scan.{IsNoNumber, IsNumber, RefusesToken, TakesToken}}
+use Rattle.domain_base.proofs.TextLemmas.{one_named, name_excludes, token_excludes, number_back, type_back, class_back, dotted_name_back, name_word}
+use Rattle.domain_names.specs.{Text.{NameText, IsOfTokens, NameTextFault, scan_fault_of, name_text, label_text, octet_text}, Name.{Name, Token, Tokens, IsName}}
+use Rattle.domain_names.{specs.Name.IsLabel, proofs.TextLemmas.one_name}
+use Rattle.domain_record.specs.{declared.record.Record.Record, Record.record_text}
+use Rattle.domain_rdata.{proofs.ScanLemmas.{none_spelled, text_once}, specs.{Scan.RdataText, Zone.{rtype_of, data_text}}}
+use Rattle.domain_rdata.specs.declared.zone_record_data.ZoneRecordData.{ZoneRecordData}
 use Rattle.domain_message.specs.Entry.{NumbersTaken, OwnerTaken, ClassTaken, BodyText, EntryText, IsOfLine, LineText, RefusesBody, RefusesEntry, RefusesLine}
-use Rattle.domain_message.specs.{Record.AreAlike, Entry.{in_entry, no_entry, no_memory}}
-use Rattle.domain_message.specs.declared.line.LineError.{LineError, TheVariants.{Owner, Ttl, Class, Rtype, RecordData, Trailing}}
+use Rattle.domain_message.specs.{Entry.{in_entry, no_entry, no_memory, IsNoEntry}, Record.AreAlike, declared.line.LineError.{LineError, TheVariants.Owner}}
+use Rattle.domain_message.{specs.declared.line.LineError.TheVariants.{Ttl, Class, Rtype, RecordData, Trailing}, proofs.RecordLemmas.on_err}
 
 same_number : (text : Token) (m n : ℕ) → IsNumber 32 text m → IsNumber 32 text n → m ≡ n
 same_number text m n p q = p.value ∙ sym q.value
@@ -102,3 +106,97 @@ module _ {O N : Type 0} (octets : O → Octets) (labels : N → Name) where
   none_where_refused limit line e r (no_entry none is) own x = x.seen none
   none_where_refused limit line e r (in_entry seen why) own x = none_in limit (words_of line) r e why own x.spelled
   none_where_refused limit line e r (no_memory is) own x = subst (IsOfLine limit) is own
+
+-- ---- why a line spells no record, from what is refused of its tokens
+
+pub none_left : (tokens : List (List ℕ)) (more : Bool) → IsTrue more ↔ (tokens ≡ [] → ⊥) → more ≡ false → tokens ≡ []
+none_left [] more test off = refl
+none_left (token ∷ tokens) more test off = absurd (let on = test.1 (λ e. cc) in cc)
+
+-- what is refused behind an owner is of the entry
+pub in_body : {O N : Type 0} (octets : O → Octets) (labels : N → Name) (limit : Option ℕ) (owner : Name) (tokens behind : Tokens) (e : LineError)
+    → OwnerTaken owner tokens behind → RefusesBody octets labels limit behind e → RefusesEntry octets labels limit tokens e
+unfolding RefusesBody
+in_body octets labels limit owner tokens behind (Owner e) owned why = absurd why
+in_body octets labels limit owner tokens behind _ owned why = (owner, behind, owned, why)
+
+-- ---- the first octet that is no blank
+
+module _ (line : List ℕ) (i : ℕ) where
+  pub blank_passed : i < length line → is_blank (get_or line i 0) ≡ true → words_of (drop (i + 1) line) ≡ words_of (drop i line)
+  blank_passed below is = sym (ap words_of (drop_more line i 0 below) ∙ blank_first _ _ is)
+
+  pub entry_begins : i < length line → is_blank (get_or line i 0) ≡ false → words_of (drop i line) ≡ words_of line
+      → IsNoEntry (words_of line) ↔ (get_or line i 0 ≡ 59)
+  entry_begins below other before =
+      let first = first_begins _ (drop (i + 1) line) other in
+      let whole = sym before ∙ ap words_of (drop_more line i 0 below) ∙ first.2 in
+      (λ none. subst IsNoEntry whole none, λ is. subst IsNoEntry (sym whole) is)
+
+  pub all_blank : length line ≤ i → words_of (drop i line) ≡ words_of line → IsNoEntry (words_of line)
+  all_blank past before = subst IsNoEntry (sym (joined_words [] tt) ∙ ap words_of (sym (drop_all i line past)) ∙ before) tt
+
+pub line_refused : {O N X : Type 0} (octets : O → Octets) (labels : N → Name) (limit : Option ℕ) (line : List ℕ) (tokens : Tokens)
+    (skipped : Bool) (r : Result X LineError) → tokens ≡ words_of line → IsTrue skipped ↔ IsNoEntry (words_of line) → skipped ≡ false
+    → IfErr r (RefusesEntry octets labels limit tokens) → IfErr r (RefusesLine octets labels limit line)
+line_refused octets labels limit line tokens skipped r is test off =
+    on_err (λ e why. in_entry (λ none. let on = test.1 none in cc) (subst (λ ws. RefusesEntry octets labels limit ws e) is why)) r
+
+-- ---- what a record is written as is a line that spells it
+
+-- an octet of a label does not begin with a semicolon
+octet_begins : (c : ℕ) (after : List ℕ) → slice_index (octet_text c ++ after) 0 ≡ 59 → ⊥
+unfolding octet_text
+octet_begins c after is = grind (arith, common_steps)
+
+-- nor does a label
+label_begins : (label after : List ℕ) → IsLabel label → slice_index (label_text label ++ after) 0 ≡ 59 → ⊥
+label_begins [] after label_is is = omega (arith, label_is.not_empty)
+label_begins (c ∷ label) after label_is is = grind (arith, common_steps, octet_begins)
+
+-- nor does a name
+name_begins : (name : Name) → IsName name → slice_index (name_text name ++ 46 ∷ []) 0 ≡ 59 → ⊥
+name_begins [] valid is = omega (arith, is)
+name_begins (label ∷ labels) valid is = grind (arith, common_steps, label_begins)
+
+module _ {O N : Type 0} (octets : O → Octets) (labels : N → Name) (r : Record N (ZoneRecordData O N)) (owned : IsName (labels r.owner))
+    (timed : r.ttl < 2 ^ 32) (classed : r.class < 65536) (typed : rtype_of r.«data» < 65536) where
+  abbrev owner_word : List ℕ
+  owner_word = name_text (labels r.owner) ++ 46 ∷ []
+
+  line_words : (text : List ℕ)
+      → words_of (owner_word ++ 32 ∷ (decimal r.ttl ++ 32 ∷ (class_text r.class ++ 32 ∷ (type_text (rtype_of r.«data») ++ 32 ∷ text))))
+      ≡ owner_word ∷ decimal r.ttl ∷ class_text r.class ∷ type_text (rtype_of r.«data») ∷ words_of text
+  line_words text = grind (arith, common_steps, first_word, name_word, decimal_word)
+
+  line_back : (text : List ℕ) → RdataText octets labels (rtype_of r.«data») (words_of text) r.«data» []
+      → LineText octets labels
+      (owner_word ++ 32 ∷ (decimal r.ttl ++ 32 ∷ (class_text r.class ++ 32 ∷ (type_text (rtype_of r.«data») ++ 32 ∷ text)))) r
+  line_back text spelled = record {
+    seen = λ none. name_begins _ owned (subst IsNoEntry (line_words text) none);
+    spelled = record {
+      behind = decimal r.ttl ∷ class_text r.class ∷ type_text (rtype_of r.«data») ∷ words_of text;
+      owned = record { token = owner_word; first = line_words text; holds = dotted_name_back _ owned };
+      body = record {
+        rtype = rtype_of r.«data»;
+        data_tokens = words_of text;
+        numbers = record {
+          behind_ttl = class_text r.class ∷ type_text (rtype_of r.«data») ∷ words_of text;
+          behind_class = type_text (rtype_of r.«data») ∷ words_of text;
+          timed = record { token = decimal r.ttl; first = refl; holds = number_back 32 _ timed (omega arith) };
+          classed = record { token = class_text r.class; first = refl; holds = class_back _ classed };
+          typed = record { token = type_text (rtype_of r.«data»); first = refl; holds = type_back _ typed };
+        };
+        spelled = spelled;
+      };
+    };
+  }
+
+  back_if : (text : Option Octets) → IfSome text (λ t. RdataText octets labels (rtype_of r.«data») (words_of t) r.«data» [])
+      → IfSome (record_text labels rtype_of (λ d. text) r) (λ line. LineText octets labels line r)
+  back_if None spelled = tt
+  back_if (Some text) spelled = line_back text spelled
+
+  pub record_back : IfSome (data_text octets labels r.«data») (λ t. RdataText octets labels (rtype_of r.«data») (words_of t) r.«data» [])
+      → IfSome (record_text labels rtype_of (data_text octets labels) r) (λ line. LineText octets labels line r)
+  record_back spelled = back_if (data_text octets labels r.«data») spelled

@@ -1,17 +1,18 @@
 -- records in a message: how they are read, and that at a place stands one at most, and none where it is refused
-use Rattle.std.proofs.{lemmas.{Grind.common_steps, List.length-drop}, Common.{◌≡◌, ℕ, ◌+◌, ◌-◌, ◌<◌, ◌≤◌, List, [], ◌∷◌, ◌++◌, length, take, drop, arith}}
-use Rattle.std.{proofs.Common.{ap, sym, subst, ◌∙◌, refl, inl, inr, Result, IfErr}, specs.Prelude.{Option, Some, None}}
+use Rattle.std.proofs.{lemmas.{Grind.common_steps, List.{length-drop, append-nil, append_assoc, take_at}}, Common.{◌≡◌, ℕ, ◌+◌, ◌-◌, ◌<◌, ◌≤◌, List, [], ◌∷◌}}
+use Rattle.std.{proofs.Common.{◌++◌, length, take, drop, arith, ap, sym, subst, ◌∙◌, refl, inl, inr, Result, IfErr, ◌^◌, length-append}, specs.Prelude.Option}
+use Rattle.std.specs.{Prelude.{Some, None}, Int.{w16, to_be_bytes}}
 use Rattle.domain_octets.specs.Octets.{Octets}
-use Rattle.domain_names.specs.{Wire.Fault, Name.Name}
-use Rattle.domain_fields.specs.Layout.{cut_short, cut_long, Values, Begins, FirstFault, in_field, in_first, in_later, octets_of}
-use Rattle.domain_fields.proofs.ExactLemmas.{one_reading}
+use Rattle.domain_names.specs.{Wire.Fault, Name.{Name, wire_of, IsName}}
+use Rattle.domain_fields.{specs.Layout.{Values, Begins, FirstFault, in_field, in_first, in_later, octets_of}, proofs.ExactLemmas.one_reading}
 use Rattle.domain_record.specs.declared.record.Record.{Record}
-use Rattle.domain_rdata.{specs.{Zone.Kind, declared.zone_record_data.ZoneRecordData.ZoneRecordData}, proofs.ScanLemmas.{AreOf, are_of, are_wire}}
-use Rattle.domain_message.specs.{Data.{parts_of, DataAt, PartAt, PartsAt, PartFault, PartsFault, PlacedAt}}
-use Rattle.domain_message.specs.Record.{numbers, AreAlike, HeaderAt, HeaderFault, in_owner, cut_numbers, IsDataAt, IsOfMessage, RecordAt, OctetsRefusal}
-use Rattle.domain_message.specs.{Record.{RefusesData, RefusesRecord, in_header, in_data, in_octets}, declared.error.MessageError.MessageError}
-use Rattle.domain_message.specs.declared.{parts.Part.Part, name.NameFault.NameFault}
-use Rattle.domain_message.proofs.NameLemmas.{one_name, no_fault}
+use Rattle.domain_rdata.{specs.{Zone.{Kind, rtype_of, wire_octets}, declared.zone_record_data.ZoneRecordData.ZoneRecordData}, proofs.ScanLemmas.{AreOf, are_of}}
+use Rattle.domain_rdata.{proofs.ScanLemmas.are_wire, specs.{Scan.AreData, declared.zone_record_data.ZoneRecordData.TheVariants.{Ns, Soa, Mx, Unknown}}}
+use Rattle.domain_message.specs.{Data.{parts_of, DataAt, PartAt, PartsAt, PartFault, PartsFault, PlacedAt, OctetsAt}, Record.{numbers, AreAlike, HeaderAt}}
+use Rattle.domain_message.specs.Record.{HeaderFault, in_owner, cut_numbers, IsDataAt, IsOfMessage, RecordAt, OctetsRefusal, RefusesData, RefusesRecord}
+use Rattle.domain_message.specs.{Record.{in_header, in_data, in_octets}, declared.{error.MessageError.MessageError, parts.Part.Part, name.NameFault.NameFault}}
+use Rattle.domain_message.{proofs.NameLemmas.{one_name, no_fault, in_full_at, past}, specs.Written.{HasExactWire, record_octets}}
+use Rattle.domain_message.specs.declared.parts.Part.TheVariants as part
 
 pub on_err : {X E : Type 0} {P Q : E → Type 0} → ((e : E) → P e → Q e) → (r : Result X E) → IfErr r P → IfErr r Q
 on_err f r h = grind (arith, common_steps)
@@ -68,11 +69,11 @@ begins_count octets v after begins = omega (arith, ap length begins.parts)
 
 pub numbers_cut : (octets : List ℕ) (fault : Fault) → FirstFault numbers octets fault → length octets < 10
 unfolding octets_of
-numbers_cut octets fault (in_first _ _ _ _ (in_field _ _ _ (cut_short _ _ cut))) = omega (arith, cut.short)
-numbers_cut octets fault (in_later _ _ _ _ _ _ a (in_first _ _ _ _ (in_field _ _ _ (cut_short _ _ cut)))) = omega (arith, ap length a.parts, cut.short)
-numbers_cut octets fault (in_later _ _ _ _ _ _ a (in_later _ _ _ _ _ _ b (in_first _ _ _ _ (in_field _ _ _ (cut_long _ _ cut))))) =
+numbers_cut octets fault (in_first _ _ _ _ (in_field _ _ _ cut)) = omega (arith, cut.short)
+numbers_cut octets fault (in_later _ _ _ _ _ _ a (in_first _ _ _ _ (in_field _ _ _ cut))) = omega (arith, ap length a.parts, cut.short)
+numbers_cut octets fault (in_later _ _ _ _ _ _ a (in_later _ _ _ _ _ _ b (in_first _ _ _ _ (in_field _ _ _ cut)))) =
     omega (arith, ap length a.parts, ap length b.parts, cut.short)
-numbers_cut octets fault (in_later _ _ _ _ _ _ a (in_later _ _ _ _ _ _ b (in_later _ _ _ _ _ _ c (in_field _ _ _ (cut_short _ _ cut))))) =
+numbers_cut octets fault (in_later _ _ _ _ _ _ a (in_later _ _ _ _ _ _ b (in_later _ _ _ _ _ _ c (in_field _ _ _ cut)))) =
     omega (arith, ap length a.parts, ap length b.parts, ap length c.parts, cut.short)
 
 -- one header stands at a place, and none where it has a fault
@@ -129,3 +130,107 @@ module _ {O N : Type 0} (octets : O → Octets) (labels : N → Name) (limit : O
       let same = one_header message at _ _ _ _ _ _ x.header header in
       no_data x.rtype x.place x.count e r.«data» (subst (λ p. RefusesData limit message x.rtype p x.count e) (sym same.2)
       (subst (λ (u : Values numbers). RefusesData limit message u.0 place u.1.1.1 e) (sym same.1) why)) own x.holds
+
+-- ---- a record that is written without compression stands where it was written
+
+-- octets are those of a part, and of parts one after another
+abbrev IsPart : Part → List ℕ → Type 0
+IsPart (part.Plain count) octets = length octets ≡ count
+IsPart part.Name octets = (name : Name) × IsName name × (octets ≡ wire_of name)
+
+abbrev AreParts : List Part → List ℕ → Type 0
+AreParts [] octets = octets ≡ []
+AreParts (first ∷ parts) octets = (front back : List ℕ) × IsPart first front × AreParts parts back × (octets ≡ front ++ back)
+
+start_parts : (m r : Name) (numbers : List ℕ) → IsName m → IsName r → length numbers ≡ 20
+    → AreParts (part.Name ∷ part.Name ∷ part.Plain 20 ∷ []) ((wire_of m ++ wire_of r) ++ numbers)
+start_parts m r numbers m_is r_is twenty = (
+  wire_of m,
+  wire_of r ++ numbers,
+  (m, m_is, refl),
+  (wire_of r, numbers, (r, r_is, refl), (numbers, [], twenty, refl, sym (append-nil numbers)), refl),
+  append_assoc (wire_of m) (wire_of r) numbers,
+)
+
+module _ (message : List ℕ) where
+  -- octets stand where they are
+  octets_stand : (at count : ℕ) (front rest : List ℕ) → at ≤ length message → length front ≡ count → drop at message ≡ front ++ rest
+      → OctetsAt message at count front (at + length front)
+  octets_stand at count front rest within long is =
+      grind (arith, common_steps, length-drop, take_at, (length-append front rest), (take_at front rest count long))
+
+  part_stands : (p : Part) (at : ℕ) (octets rest : List ℕ) → at ≤ length message → IsPart p octets → drop at message ≡ octets ++ rest
+      → PartAt message p at octets (at + length octets)
+  part_stands (part.Plain count) at octets rest within long is = octets_stand at count octets rest within long is
+  part_stands part.Name at octets rest within (name, valid, same) is =
+      (name, rw same (in_full_at message at name rest valid (is ∙ ap (λ o. o ++ rest) same)), same)
+
+  parts_stand : (ps : List Part) (at : ℕ) (octets rest : List ℕ) → at ≤ length message → AreParts ps octets → drop at message ≡ octets ++ rest
+      → PartsAt message ps at octets (at + length octets)
+  parts_stand [] at octets rest within none is = (none, omega (arith, ap length none))
+  parts_stand (p ∷ ps) at octets rest within (front, back, first, more, joined) is =
+      let split : drop at message ≡ front ++ (back ++ rest) = is ∙ ap (λ o. o ++ rest) joined ∙ append_assoc front back rest in
+      let inside : at + length front ≤ length message =
+      omega (arith, within, ap length split, length-append front (back ++ rest), length-drop at message) in
+      let later = parts_stand ps (at + length front) back rest inside more (past message at front (back ++ rest) split) in
+      let end : at + length front + length back ≡ at + length octets = omega (arith, ap length joined, length-append front back) in
+      (front, back, at + length front, part_stands p at front (back ++ rest) within first split, rw end at later, joined)
+
+module _ {O N : Type 0} (octets : O → Octets) (labels : N → Name) (message : List ℕ) (place : ℕ) (after : List ℕ)
+    (within : place ≤ length message) where
+  placed : (d : ZoneRecordData O N) → HasExactWire d → AreData octets labels (rtype_of d) (wire_octets octets labels d) d
+      → drop place message ≡ wire_octets octets labels d ++ after
+      → DataAt message (rtype_of d) place (length (wire_octets octets labels d)) (wire_octets octets labels d)
+  unfolding octets_of
+  placed (Ns d) exact are is =
+      parts_stand message (part.Name ∷ []) place _ after within (wire_of (labels d.nsdname), [], (_, are.1.fits, refl), refl, sym (append-nil _)) is
+  placed (Soa d) exact are is =
+      parts_stand message (part.Name ∷ part.Name ∷ part.Plain 20 ∷ []) place _ after within (start_parts _ _ _ are.1.fits.0.0 are.1.fits.0.1 refl) is
+  placed (Mx d) exact are is = parts_stand message (part.Plain 2 ∷ part.Name ∷ []) place _ after within
+      (to_be_bytes w16 d.preference, _, refl, (wire_of (labels d.exchange), [], (_, are.1.fits.1, refl), refl, sym (append-nil _)), refl) is
+  placed (Unknown d) exact are is = grind (arith, common_steps)
+  placed d exact are is = octets_stand message place (length (wire_octets octets labels d)) _ after within refl is
+
+numbers_count : (t c l n : ℕ) → length (octets_of numbers (t, (c, (l, n)))) ≡ 10
+unfolding octets_of
+numbers_count t c l n = refl
+
+module _ {O N : Type 0} (octets : O → Octets) (labels : N → Name) (message after : List ℕ) (at : ℕ) (r : Record N
+    (ZoneRecordData O N)) where
+  pub record_stands : IsName (labels r.owner) → r.ttl < 2 ^ 32 → r.class < 65536 → rtype_of r.«data» < 65536
+      → length (wire_octets octets labels r.«data») < 65536 → HasExactWire r.«data»
+      → AreData octets labels (rtype_of r.«data») (wire_octets octets labels r.«data») r.«data»
+      → drop at message ≡ record_octets octets labels r ++ after
+      → RecordAt octets labels message at r (at + length (record_octets octets labels r))
+  record_stands owned timed classed typed counted exact are is =
+      let wire = wire_octets octets labels r.«data» in
+      let name = wire_of (labels r.owner) in
+      let fields = octets_of numbers (rtype_of r.«data», (r.class, (r.ttl, length wire))) in
+      let ten : length fields ≡ 10 = numbers_count _ _ _ _ in
+      let joined : drop at message ≡ name ++ (fields ++ (wire ++ after)) =
+      is ∙ append_assoc name _ after ∙ ap (λ o. name ++ o) (append_assoc fields wire after) in
+      let second = past message at name (fields ++ (wire ++ after)) joined in
+      let third : drop (at + length name + 10) message ≡ wire ++ after =
+      subst (λ n. drop (at + length name + n) message ≡ wire ++ after) ten (past message _ fields _
+      second) in
+      let within : at + length name + 10 ≤ length message =
+      omega (arith, ten, ap length second, length-append fields (wire ++ after), length-drop (at + length name) message) in
+      record {
+        rtype = rtype_of r.«data»;
+        count = length wire;
+        place = at + length name + 10;
+        header = record {
+          owner_end = at + length name;
+          behind = wire ++ after;
+          owned = in_full_at message at (labels r.owner) (fields ++ (wire ++ after)) owned joined;
+          numbered = record { parts = second; fits = (typed, (classed, (timed, counted))); ends = (tt, (tt, (tt, tt))) };
+          place_is = refl;
+        };
+        holds = record {
+          wire = wire;
+          inside = omega (arith, within, ap length third, length-append wire after, length-drop (at + length name + 10) message);
+          placed = placed octets labels message _ after within _ exact are third;
+          read = are;
+        };
+        end_is = omega (arith, ten, length-append name (fields ++ wire), length-append fields wire);
+      }

@@ -82,7 +82,7 @@ pub fn written_data_are_read_back<O: Octets, N: ToName>(value: &ZoneRecordData<O
 
 /// A record that is written into a message without compression stands where it was written, up to
 /// where its octets end, if its data fit into a record.
-#[tactic(auto, using(crate::proofs::WrittenLemmas::record_stands))]
+#[tactic(auto, using(crate::proofs::RecordLemmas::record_stands))]
 pub fn written_records_stand<O: Octets, N: ToName>(value: &Record<N, ZoneRecordData<O, N>>)
     ensures { (message after : Octets) (at : ℕ)
         → length (wire_octets O.octets N.labels value.now.«data») < 65536

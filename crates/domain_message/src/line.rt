@@ -165,7 +165,7 @@ fn is_blank(octet: u8) -> bool
 
 /// Whether a line is blank, or a comment: whether its first octet that is no space and no tab is a
 /// semicolon (RFC 1035, section 5.1).
-#[tactic(auto, using(crate::proofs::LineLemmas::blank_passed, crate::proofs::LineLemmas::entry_begins))]
+#[tactic(auto, using(crate::proofs::OneLineLemmas::blank_passed, crate::proofs::OneLineLemmas::entry_begins))]
 pub fn is_no_entry(line: &[u8]) -> bool
     ensures { IsTrue result ↔ IsNoEntry (words_of line.now) }
 {
@@ -187,7 +187,7 @@ pub fn is_no_entry(line: &[u8]) -> bool
 /// `NoEntry` where the line is blank or its first word begins with a semicolon; else the first of
 /// its parts that is missing or refused, with what is said of it, and `Trailing` where words are
 /// left behind the data. `OutOfMemory` where there is no memory for the words of the line.
-#[tactic(auto, using(std::proofs::lemmas::Grind::common_steps, crate::proofs::LineLemmas::line_refused))]
+#[tactic(auto, using(std::proofs::lemmas::Grind::common_steps, crate::proofs::OneLineLemmas::line_refused))]
 pub fn scan_record(alloc: Global, line: &str) -> Result<OwnedRecord, LineError>
     ensures ok { IfOk result (LineText (λ o. o.items) (λ n. n) line.now) }
     ensures err { IfErr result (RefusesLine ⟦<Vec<u8> as Octets>⟧.octets

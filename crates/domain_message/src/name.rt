@@ -1,8 +1,7 @@
 //! Names in a message, whose ends may stand at earlier places (RFC 1035, section 4.1.4).
-ghost use Rattle.std.specs.Prelude.{◌≡◌, ℕ, ◌+◌, ◌<◌, ◌≤◌, [], None, Err, length, IfOk, IfErr, IfSome};
+ghost use Rattle.std.specs.Prelude.{◌≡◌, ◌<◌, ◌≤◌, length, drop, IfOk, IfErr};
 ghost use Rattle.domain_names.specs.Name.{wire_of, Name};
-ghost use Rattle.domain_message.specs.{Name.{up_to, ComesTo, LabelsFault, NameAt, Outcome}, Record.RefusesName};
-ghost use Rattle.domain_message.specs.Steps.{GoesOn, LabelsBetween, Stops, RunRead};
+ghost use Rattle.domain_message.specs.{Name.{EndFault, LabelsFault, NameAt}, Record.RefusesName, Steps.IsStep};
 
 use crate::MessageError;
 use domain_base::MakeName;
@@ -34,96 +33,58 @@ pub enum NameFault {
     LongName,
 }
 
-/// What is behind the labels that stand at a place.
+/// What stands at a place of a name.
 #[derive(Clone, Copy)]
-struct Run {
-    /// The place that a pointer is to; None for the root.
-    target: Option<usize>,
-    /// The place behind the root or the pointer.
-    end: usize,
+enum Step {
+    /// The root.
+    Root,
+    /// A label, which ends at this place.
+    Label(usize),
+    /// A pointer to this place.
+    Pointer(usize),
 }
 
-/// The place where the labels end that stand at a place, when so many octets of the name were read
-/// before.
-#[tactic(auto, using(crate::proofs::NameLemmas::label_steps))]
-fn labels_end(message: &[u8], start: usize, used: usize) -> Result<usize, NameFault>
+/// What stands at a place behind labels that began at another, when so many octets of the name were
+/// read before.
+#[tactic(auto, using(std::proofs::lemmas::Grind::common_steps, crate::proofs::NameLemmas::place_steps))]
+fn step_at(message: &[u8], start: usize, at: usize, used: usize) -> Result<Step, NameFault>
     requires { used < 255 }
-    ensures ok { IfOk result (LabelsBetween message.now start used) }
-    ensures stops { IfOk result (Stops message.now) }
-    ensures err { IfErr result (LabelsFault message.now start used) }
+    ensures ok { IfOk result (IsStep message.now start at used) }
+    ensures inside { IfOk result (λ _. at < length message.now) }
+    ensures err { IfErr result (EndFault start used (drop at message.now)) }
 {
-    let mut at = start;
-    'labels: loop {
-        let Some(&len) = message.get(at) else {
-            return Err(NameFault::ShortInput);
-        };
-        if len == 0 || len >= POINTER {
-            return Ok(at);
-        }
-        if usize::from(len) > MAX_LABEL_LEN {
-            return Err(NameFault::BadLabelType);
-        }
-        let end = at + 1 + usize::from(len);
-        if used + (end - start) >= MAX_LEN {
-            return Err(NameFault::LongName);
-        }
-        if end > message.len() {
-            return Err(NameFault::ShortInput);
-        }
-        at = end;
-    }
-}
-
-/// The root or the pointer at a place, behind labels that began at another.
-#[tactic(auto, using(crate::proofs::NameLemmas::root_ends, crate::proofs::NameLemmas::half_fault))]
-fn run_end(message: &[u8], start: usize, at: usize) -> Result<Run, NameFault>
-    requires { Stops message.now at }
-    ensures ok { IfOk result (λ run. (used : ℕ) (rest : Outcome)
-        → GoesOn message.now run.target used rest
-        → ComesTo message.now start at used (up_to run.end rest)) }
-    ensures back { IfOk result (λ run. IfSome run.target (λ target. target < start)) }
-    ensures err { IfErr result (λ e. (used : ℕ) → ComesTo message.now start at used (Err e)) }
-{
-    let high = message[at];
-    if high == 0 {
-        return Ok(Run {
-            target: None,
-            end: at + 1,
-        });
-    }
-    let Some(&low) = message.get(at + 1) else {
+    let Some(&len) = message.get(at) else {
         return Err(NameFault::ShortInput);
     };
-    let target = usize::from(high - POINTER) * 256 + usize::from(low);
-    if target >= start {
-        return Err(NameFault::ForwardPointer);
+    if len == 0 {
+        return Ok(Step::Root);
     }
-    Ok(Run {
-        target: Some(target),
-        end: at + 2,
-    })
-}
-
-/// Appends the octets of the labels that stand at a place.
-#[tactic(auto, using(crate::proofs::NameLemmas::run_read, crate::proofs::NameLemmas::run_fault))]
-fn read_run(message: &[u8], start: usize, wire: &mut NameOctets) -> Result<Run, NameFault>
-    requires { length wire.old < 255 }
-    ensures ok { IfOk result (λ run.
-        RunRead message.now start wire.old wire.new run.target run.end) }
-    ensures back { IfOk result (λ run. IfSome run.target (λ target. target < start)) }
-    ensures err { IfErr result (LabelsFault message.now start (length wire.old)) }
-{
-    let at = labels_end(message, start, wire.as_slice().len())?;
-    let run = run_end(message, start, at)?;
-    if wire.append_slice(&message[start..at]).is_err() {
+    if len >= POINTER {
+        let Some(&low) = message.get(at + 1) else {
+            return Err(NameFault::ShortInput);
+        };
+        let target = usize::from(len - POINTER) * 256 + usize::from(low);
+        if target >= start {
+            return Err(NameFault::ForwardPointer);
+        }
+        return Ok(Step::Pointer(target));
+    }
+    let len = usize::from(len);
+    if len > MAX_LABEL_LEN {
+        return Err(NameFault::BadLabelType);
+    }
+    if used + len + 2 > MAX_LEN {
         return Err(NameFault::LongName);
     }
-    Ok(run)
+    if at + 1 + len > message.len() {
+        return Err(NameFault::ShortInput);
+    }
+    Ok(Step::Label(at + 1 + len))
 }
 
 /// The name that stands at a place of a message, as its octets without compression, and the place
 /// after it.
-#[tactic(auto, using(crate::proofs::NameLemmas::run_next))]
+#[tactic(auto, using(std::proofs::lemmas::Grind::common_steps, crate::proofs::NameLemmas::name_steps))]
 pub(crate) fn name_at(message: &[u8], at: usize) -> Result<(NameOctets, usize), NameFault>
     ensures ok { IfOk result (λ r. (name : Name) × NameAt message.now at name r.1
         × (r.0 ≡ wire_of name)) }
@@ -131,14 +92,29 @@ pub(crate) fn name_at(message: &[u8], at: usize) -> Result<(NameOctets, usize), 
     ensures err { IfErr result (LabelsFault message.now at 0) }
 {
     let mut wire = ArrayBuilder::new();
-    let Run { mut target, end } = read_run(message, at, &mut wire)?;
-    'runs: while let Some(start) = target {
-        target = read_run(message, start, &mut wire)?.target;
+    let (mut start, mut place) = (at, at);
+    let mut end = None;
+    'labels: loop {
+        match step_at(message, start, place, wire.as_slice().len())? {
+            Step::Root => {
+                if wire.append_slice(&[0]).is_err() {
+                    return Err(NameFault::LongName);
+                }
+                return Ok((wire, end.unwrap_or(place + 1)));
+            }
+            Step::Label(next) => {
+                if wire.append_slice(&message[place..next]).is_err() {
+                    return Err(NameFault::LongName);
+                }
+                place = next;
+            }
+            Step::Pointer(target) => {
+                end = Some(end.unwrap_or(place + 2));
+                start = target;
+                place = target;
+            }
+        }
     }
-    if wire.append_slice(&[0]).is_err() {
-        return Err(NameFault::LongName);
-    }
-    Ok((wire, end))
 }
 
 /// The name that stands at a place of a message (RFC 1035, section 4.1.4), in octets of its own,

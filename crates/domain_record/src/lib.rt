@@ -10,10 +10,8 @@
 
 mod pairs;
 mod record;
-mod record_clone;
 mod record_data;
 
 pub use pairs::both;
-pub use record::Record;
-pub use record_clone::CloneRecordData;
+pub use record::{CloneRecordData, Record};
 pub use record_data::{ComposeRecordData, LongRecordData, ParseRecordData, RecordData, ZoneData};

@@ -1,10 +1,11 @@
 //! Records.
-ghost use Rattle.std.specs.{Prelude.{◌≡◌, ◌⊎◌, Some}, Borrow.sem};
+ghost use Rattle.std.specs.{Prelude.{◌≡◌, ◌⊎◌, Some, IfOk}, Borrow.sem};
+ghost use Rattle.std.specs.declared.cmp.Ordering.TheVariants.{Equal};
 ghost use Rattle.domain_record.specs.Record.{IsRecordClone, LendsData};
 
 use crate::{RecordData, both};
 use domain_base::{CanonicalOrd, Class, Rtype, ToName, Ttl};
-use domain_octets::{AppendError, OctetsFrom};
+use domain_octets::{AppendError, OctetsFrom, OutOfMemory, TryClone};
 use std::alloc::Global;
 use std::cmp::Ordering;
 use std::fmt;
@@ -68,13 +69,7 @@ impl<N, D> Record<N, D> {
           «data» = result.3;
         } }
     {
-        let Record {
-            owner,
-            class,
-            ttl,
-            data,
-        } = self;
-        (owner, class, ttl, data)
+        (self.owner, self.class, self.ttl, self.data)
     }
 
     /// Gives the record another TTL.
@@ -126,6 +121,37 @@ impl<N: ToName, D: Eq> Eq for Record<N, D> {
     ghost laws = { record_eq_equiv N.labels D.eq D.Eq.laws };
 }
 
+/// Data whose copies are of the same type and equal under the canonical order.
+pub trait CloneRecordData: RecordData + CanonicalOrd + TryClone {
+    /// A copy is of the same type.
+    ghost clone_rtype: { (value copy : Self) → Self.is_clone value copy
+        → Self.rtype copy ≡ Self.rtype value };
+
+    /// A copy is equal under the canonical order.
+    ghost clone_canonical: { (value copy : Self) → Self.is_clone value copy
+        → Self.canonical_cmp value copy ≡ Equal };
+}
+
+impl<N: TryClone + Drop, D: TryClone> Record<N, D> {
+    /// A copy. Answers `OutOfMemory` where there is no memory for it.
+    pub fn clone(&self) -> Result<Self, OutOfMemory>
+        ensures { IfOk result (IsRecordClone N.is_clone D.is_clone self.now) }
+    {
+        let owner = self.owner().try_clone()?;
+        let data = self.data().try_clone()?;
+        Ok(Record::new(owner, self.class(), self.ttl(), data))
+    }
+}
+
+// The owner and the data are copies, and the class and the TTL are the same.
+impl<N: TryClone + Drop, D: TryClone> TryClone for Record<N, D> {
+    ghost is_clone = { IsRecordClone N.is_clone D.is_clone };
+
+    fn try_clone(&self) -> Result<Self, OutOfMemory> {
+        self.clone()
+    }
+}
+
 // The owner and the data are made of the others, and the class and the TTL are the same.
 impl<M, E, N: OctetsFrom<M> + Drop, D: OctetsFrom<E> + Drop> OctetsFrom<Record<M, E>>
     for Record<N, D> {
@@ -136,22 +162,11 @@ impl<M, E, N: OctetsFrom<M> + Drop, D: OctetsFrom<E> + Drop> OctetsFrom<Record<M
     ghost takes_memory = { N.takes_memory ⊎ D.takes_memory };
 
     fn try_octets_from(alloc: Global, source: Record<M, E>) -> Result<Self, AppendError> {
-        let Record {
-            owner,
-            class,
-            ttl,
-            data,
-        } = source;
         let (owner, data) = both(
-            N::try_octets_from(alloc, owner),
-            D::try_octets_from(alloc, data),
+            N::try_octets_from(alloc, source.owner),
+            D::try_octets_from(alloc, source.data),
         )?;
-        Ok(Record {
-            owner,
-            class,
-            ttl,
-            data,
-        })
+        Ok(Record::new(owner, source.class, source.ttl, data))
     }
 }
 

@@ -566,27 +566,29 @@ impl<O: Octets, N: ToName> ZonefileFmt for Rrsig<O, N> {
     ghost pieces = { rrsig_pieces };
 
     fn fmt<F: Formatter>(&self, formatter: &mut F) -> Result<(), OutOfMemory> {
-        let (labels, original_ttl) = (self.labels(), self.original_ttl().as_secs());
-        let (expiration, inception) = (self.expiration(), self.inception());
+        let fields = &self.fields;
         let numbers = (
-            (Token(self.type_covered()), Token(self.algorithm())),
+            (Token(fields.type_covered), Token(fields.algorithm)),
             (
-                (Token(labels), Comment("labels")),
-                (Token(original_ttl), Comment("original ttl")),
+                (Token(fields.labels), Comment("labels")),
+                (
+                    Token(fields.original_ttl.as_secs()),
+                    Comment("original ttl"),
+                ),
             ),
         );
         let times = (
-            (Token(expiration), Comment("expiration")),
-            (Token(inception), Comment("inception")),
+            (Token(fields.expiration), Comment("expiration")),
+            (Token(fields.inception), Comment("inception")),
         );
         let signer = (
-            (Token(self.key_tag()), Comment("key tag")),
+            (Token(fields.key_tag), Comment("key tag")),
             (
-                Token(self.signer_name().fmt_with_dot()),
+                Token(fields.signer_name.fmt_with_dot()),
                 Comment("signer name"),
             ),
         );
-        let signature = Token(InBase64(self.signature().as_slice()));
+        let signature = Token(InBase64(self.signature.as_slice()));
         Block((numbers, (times, (signer, signature)))).write(formatter)
     }
 }

@@ -1,9 +1,13 @@
-use Rattle.std.proofs.Common.{◌≡◌, ◌*◌, ◌≤◌, take}
+use Rattle.std.proofs.Common.{◌≡◌, ◌+◌, ◌*◌, ◌≤◌, length}
 use Rattle.domain_keys.specs.Keys.{weighed}
 use Rattle.domain_keys.proofs.key_tag.weighed.Given as goal
 
-abbrev pub invariant-loop-place : goal.invariant-loop-place
-invariant-loop-place l = record {
-  sum : l.sum ≡ weighed (take l.place l.octets);
-  bound : l.sum ≤ 65280 * l.place;
+-- what was weighed and what is left are the whole
+abbrev pub invariant-loop-rest : goal.invariant-loop-rest
+invariant-loop-rest l = record {
+  sum : l.sum + weighed l.rest ≡ weighed l.octets;
+  bound : l.sum + 65280 * length l.rest ≤ 65280 * length l.octets;
 }
+
+abbrev pub decreases-loop-rest : goal.decreases-loop-rest
+decreases-loop-rest l = length l.rest

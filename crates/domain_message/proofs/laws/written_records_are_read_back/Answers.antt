@@ -2,7 +2,7 @@ use Rattle.std.{proofs.Common.{[], ◌<◌, ◌^◌, subst, ap, ◌∙◌, rules
 use Rattle.domain_octets.specs.Text.{words_of}
 use Rattle.domain_names.specs.Name.{IsName}
 use Rattle.domain_rdata.specs.{Zone.{HasExactText, data_text, rtype_of}, Scan.RdataText}
-use Rattle.domain_message.proofs.ReadBackLemmas.{record_back}
+use Rattle.domain_message.proofs.OneLineLemmas.{record_back}
 use Rattle.domain_message.proofs.laws.written_records_are_read_back.Goals as goal
 
 pub returns : goal.returns

@@ -1,5 +1,5 @@
 use Rattle.std.proofs.Common.{refl}
-use Rattle.domain_message.proofs.LineLemmas.{all_blank}
+use Rattle.domain_message.proofs.OneLineLemmas.{all_blank}
 use Rattle.domain_message.proofs.line.is_no_entry.Goals as goal
 
 pub returns : goal.returns

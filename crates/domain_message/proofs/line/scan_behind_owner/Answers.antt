@@ -1,5 +1,5 @@
 use Rattle.std.proofs.{Common.arith, lemmas.{Grind.common_steps}}
-use Rattle.domain_message.proofs.LineLemmas.{none_left}
+use Rattle.domain_message.proofs.OneLineLemmas.{none_left}
 use Rattle.domain_message.proofs.line.scan_behind_owner.Goals as goal
 
 pub returns-clause-ok : goal.returns-clause-ok

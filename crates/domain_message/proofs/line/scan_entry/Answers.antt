@@ -1,4 +1,4 @@
-use Rattle.domain_message.proofs.{LineLemmas.in_body, RecordLemmas.on_err}
+use Rattle.domain_message.proofs.{OneLineLemmas.in_body, RecordLemmas.on_err}
 use Rattle.domain_message.proofs.line.scan_entry.Goals as goal
 
 pub returns-clause-err : goal.returns-clause-err

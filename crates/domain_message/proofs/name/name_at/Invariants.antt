@@ -1,9 +1,9 @@
-use Rattle.std.proofs.Common.{[]}
-use Rattle.domain_message.{specs.Steps.RunRead, proofs.NameLemmas.to_go}
+use Rattle.std.proofs.Common.{◌+◌, ◌*◌, ◌-◌, length}
+use Rattle.domain_message.proofs.NameLemmas.{Read}
 use Rattle.domain_message.proofs.name.name_at.Given as goal
 
-abbrev pub invariant-runs : goal.invariant-runs
-invariant-runs l = RunRead l.message l.at [] l.wire l.target l.end
+abbrev pub invariant-labels : goal.invariant-labels
+invariant-labels l = Read l.message l.at l.start l.place l.wire l.end
 
-abbrev pub decreases-runs : goal.decreases-runs
-decreases-runs l = to_go l.target
+abbrev pub decreases-labels : goal.decreases-labels
+decreases-labels l = 256 * l.start + (255 - length l.wire)

@@ -1,5 +1,5 @@
 use Rattle.domain_bitmap.proofs.CountedLemmas.{refused_by_codec, refused_too_long}
-use Rattle.domain_bitmap.proofs.hash_scan.CountedOctets+O+E.scan_token.Goals as goal
+use Rattle.domain_bitmap.proofs.counted.CountedOctets+O+E.scan_token.Goals as goal
 
 pub returns-in-Err-clause-read : goal.returns-in-Err-clause-read
 returns-in-Err-clause-read g c = record { ok = tt; err = refused_by_codec _ _ _ _ _ _ c.in-Err.ensures.read.err }

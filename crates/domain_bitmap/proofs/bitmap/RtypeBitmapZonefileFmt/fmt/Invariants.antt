@@ -1,6 +1,6 @@
 use Rattle.std.proofs.Common.{◌≡◌, ◌++◌}
 use Rattle.domain_bitmap.specs.{Blocks.types_of, Pieces.type_pieces}
-use Rattle.domain_bitmap.proofs.scan.RtypeBitmapZonefileFmt.fmt.Given as goal
+use Rattle.domain_bitmap.proofs.bitmap.RtypeBitmapZonefileFmt.fmt.Given as goal
 
 -- what is written and the types that are left are the pieces
 abbrev pub invariant-loop-rtype : goal.invariant-loop-rtype

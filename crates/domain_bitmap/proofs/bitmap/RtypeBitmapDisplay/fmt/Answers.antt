@@ -1,7 +1,7 @@
 use Rattle.std.proofs.{Common.{◌++◌, ◌∷◌, refl, sym, ap, ◌∙◌, arith}, Output.{has_written_append, writes_in_calls_nil}, lemmas.Grind.common_steps}
 use Rattle.domain_base.specs.Numbers.{type_text}
 use Rattle.domain_bitmap.specs.Text.{types_text, spaced_types}
-use Rattle.domain_bitmap.proofs.scan.RtypeBitmapDisplay.fmt.Goals as goal
+use Rattle.domain_bitmap.proofs.bitmap.RtypeBitmapDisplay.fmt.Goals as goal
 
 pub returns-in_default-clause-writes : goal.returns-in_default-clause-writes
 unfolding types_text

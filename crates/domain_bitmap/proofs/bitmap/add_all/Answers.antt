@@ -1,7 +1,7 @@
 use Rattle.std.proofs.Common.{Err, ap, arith}
 use Rattle.domain_octets.proofs.StdLemmas.{if_err_of}
 use Rattle.domain_bitmap.proofs.TextLemmas.{scan_starts, scan_goes, scan_ends, scan_refused, scan_full, none_left}
-use Rattle.domain_bitmap.proofs.scan.add_all.Goals as goal
+use Rattle.domain_bitmap.proofs.bitmap.add_all.Goals as goal
 
 pub loop-scanner-init : goal.loop-scanner-init
 loop-scanner-init g c = scan_starts _ _ c.requires

@@ -1,6 +1,6 @@
 use Rattle.std.proofs.{Common.arith, lemmas.Grind.common_steps}
 use Rattle.domain_bitmap.proofs.TextLemmas.{refused_dash, took_dash, took_digits}
-use Rattle.domain_bitmap.proofs.hash_scan.Nsec3Salt+O.scan.Goals as goal
+use Rattle.domain_bitmap.proofs.salt.Nsec3Salt+O.scan.Goals as goal
 
 pub returns-then-alone : goal.returns-then-alone
 returns-then-alone g c = record {

@@ -1,6 +1,6 @@
 use Rattle.std.{proofs.Common.{◌≡◌, List, ℕ, ◌++◌}, specs.Fmt.{HasWritten, IsPlainFormatter}}
 use Rattle.domain_bitmap.specs.{Blocks.types_of, Text.{types_text, spaced_types}}
-use Rattle.domain_bitmap.proofs.scan.RtypeBitmapDisplay.fmt.Given as goal
+use Rattle.domain_bitmap.proofs.bitmap.RtypeBitmapDisplay.fmt.Given as goal
 
 -- what is written and the types that are left are the text
 abbrev pub invariant-loop-rtype : goal.invariant-loop-rtype
