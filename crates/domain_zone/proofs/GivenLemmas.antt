@@ -1,6 +1,6 @@
 -- What is found of the owners of a zone: the SOA, their TTLs and types, and what a chain lists.
 use Rattle.std.proofs.Common.{◌≡◌, List, [], ◌∷◌, ◌++◌, Option, Some, None, true, false, cond, nat_eq, refl, ap, ◌∙◌, inl, inr, ◌≤◌, ◌<◌, ℕ, Bool}
-use Rattle.std.proofs.{Common.{◌||◌, map, sym, subst, arith, append_assoc, is_some, IfSome, map-id}, lemmas.Bool.{cases_Bool, or_parts}}
+use Rattle.std.proofs.{Common.{◌&&◌, ◌||◌, map, sym, subst, arith, append_assoc, is_some, IfSome, map-id}, lemmas.Bool.{cases_Bool, or_parts}}
 use Rattle.std.{proofs.lemmas.Bool.{and_right, eq-eqb, false≢true, Decides.nat_tests}, specs.Prelude.filter}
 use Rattle.std.{proofs.lemmas.{Grind.common_steps, Simd.map-map}, specs.List.{list_any, AllByRecursion}}
 use Rattle.domain_names.specs.{Name.{same_name, Name}, Laws.same_name_same}
@@ -12,7 +12,7 @@ use Rattle.domain_zone.proofs.{WalkLemmas.{in_any, filter_passes, all_map, filte
 use Rattle.domain_zone.{proofs.NameLemmas.same_itself, specs.declared.listed.ListedOwners.ListedOwners}
 use Rattle.domain_record.specs.declared.record.Record.{Record}
 use Rattle.domain_records.specs.Order.{HoldsPairwise, MayFollow, IsInOrder}
-use Rattle.domain_bitmap.specs.Blocks.{holds}
+use Rattle.domain_bitmap.{specs.{Bitmap.bitmap_octets, Blocks.holds}, proofs.BitmapLemmas.bitmap_octets-same}
 use Rattle.domain_octets.specs.Octets.{Octets}
 
 -- ---- The SOA records that a scan of the records finds.
@@ -159,6 +159,16 @@ clash_told zs (Some t) e h = any_two clashes _ zs (λ z i. (in_filter (λ y. nat
 pub holds_nothing : (value : List ℕ) → value ≡ [] → (t : ℕ) → holds value t ≡ false
 unfolding holds
 holds_nothing value e t = ap (λ v. holds v t) e
+
+-- types that are wanted whatever an owner owns, and then those of its records
+pub wanted_octets : (own : ℕ) (r o k cut : Bool) (G : List ZoneRecord) (v0 v1 v2 v3 v4 : List ℕ) → v0 ≡ []
+    → ((t : ℕ) → t < 65536 → holds v1 t ≡ ((nat_eq t 46 && r) || holds v0 t))
+    → ((t : ℕ) → t < 65536 → holds v2 t ≡ ((nat_eq t own && o) || holds v1 t))
+    → ((t : ℕ) → t < 65536 → holds v3 t ≡ ((nat_eq t 48 && k) || holds v2 t))
+    → ((t : ℕ) → t < 65536 → holds v4 t ≡ (holds v3 t || lists_type cut G t))
+    → bitmap_octets (holds v4) ≡ bitmap_octets (λ t. ((nat_eq t 46 && r) || (nat_eq t own && o) || (nat_eq t 48 && k)) || lists_type cut G t)
+wanted_octets own r o k cut G v0 v1 v2 v3 v4 e f g h more =
+    bitmap_octets-same (holds v4) _ (λ t b. grind (arith, common_steps, holds_nothing))
 
 -- what a builder holds and the rest lists is what `old` holds and all records list
 abbrev pub Lists : List ℕ → Bool → List ZoneRecord → List ZoneRecord → List ℕ → Type 0
