@@ -1,7 +1,7 @@
 -- How the records of an NSEC chain are gathered, and what the finished chain means.
 use Rattle.std.proofs.Common.{◌≡◌, ℕ, ◌<◌, Bool, true, false, ◌&&◌, ◌||◌, List, [], ap, ◌∙◌, nat_eq, arith, ◌+◌, not, ◌∷◌, ◌++◌, map, refl, sym, subst, inl}
 use Rattle.std.proofs.{Common.{inr, ◌⊎◌, Some, zero, suc, length, get_or, take, ◌≢◌, None}, lemmas.{Grind.common_steps, Bool.{cases_Bool, false≢true}}}
-use Rattle.std.{proofs.lemmas.{Bool.{and_parts, or_cases, not-true}, List.{take_more, Elements.recursion_from_All}}, specs.Prelude.{count_by, All}}
+use Rattle.std.{proofs.lemmas.{Bool.{and_parts, or_cases, not-true}, List.{take_more, Elements.recursion_from_All}}, specs.Prelude.All}
 use Rattle.std.specs.List.{AllByRecursion, list_any}
 use Rattle.domain_octets.{proofs.StdLemmas.or_false, specs.Octets.Octets}
 use Rattle.domain_bitmap.{specs.{Bitmap.bitmap_octets, Blocks.holds}, proofs.BitmapLemmas.bitmap_octets-same}
@@ -10,7 +10,7 @@ use Rattle.domain_zone.{specs.Zone.{chain_ttl, soa_of, AreListed, IsListingFault
 use Rattle.domain_zone.{proofs.GivenLemmas.none_left_out, specs.{Covering.{covers, matches_or_covers, pairs}, declared.soa.ApexSoa.ApexSoa}}
 use Rattle.domain_zone.proofs.NameLemmas.{before_order, one_lowered, same_itself, same_is, before_left, before_right, below_from, same_lowered}
 use Rattle.domain_zone.proofs.{WalkLemmas.{any_owner, any_in, owners_are, owners_ascend, apex_unoccluded, weaker, apart_right}, PairLemmas.{In, all_in}}
-use Rattle.domain_zone.proofs.PairLemmas.{IsAscending, IsApart, one_matches_or_covers, gap, owner_in, next_is, one_place, in_at, in_map}
+use Rattle.domain_zone.proofs.PairLemmas.{IsAscending, IsApart, one_matches_or_covers, gap, owner_in, next_is, in_at, in_map, IsOnly, only_map}
 use Rattle.domain_zone.specs.declared.listed.ListedOwners.{ListedOwners}
 use Rattle.domain_nsec.specs.{Chain.{is_listed, Link, link_of, links_in, nsec_lists, IsChain, IsFaultless, IsFirstFault}, Meaning.MirrorsZone}
 use Rattle.domain_nsec.specs.{Meaning.{IsMatchedOrCoveredOnce, IsCycle, OwnersAscend, last_next}, declared.config.GenerateNsecConfig.GenerateNsecConfig}
@@ -20,23 +20,11 @@ use Rattle.domain_records.specs.declared.error.SigningError.TheVariants.{Nsec3Ha
 
 -- ---- The types that NSEC records list.
 
-pub common_two : (cut : Bool) (v0 v1 v2 : List ℕ) → v0 ≡ [] → ((t : ℕ) → t < 65536 → holds v1 t ≡ (nat_eq t 46 || holds v0 t))
-    → ((t : ℕ) → t < 65536 → holds v2 t ≡ (nat_eq t 47 || holds v1 t)) → (t : ℕ) → t < 65536
-    → holds v2 t ≡ is_listed false cut [] t
-common_two cut v0 v1 v2 e f g t b = grind (arith, common_steps, holds_nothing)
-
-pub common_three : (cut : Bool) (v2 v3 : List ℕ) → ((t : ℕ) → t < 65536 → holds v2 t ≡ is_listed false cut [] t)
-    → ((t : ℕ) → t < 65536 → holds v3 t ≡ (nat_eq t 48 || holds v2 t)) → (t : ℕ) → t < 65536
-    → holds v3 t ≡ is_listed true cut [] t
-common_three cut v2 v3 f g t b = grind (arith, common_steps)
-
--- the common types, and then those of the records
-pub listed_octets : (assumed cut : Bool) (G : List ZoneRecord) (old new : List ℕ)
-    → ((at_cut : Bool) (t : ℕ) → t < 65536 → holds old t ≡ is_listed assumed at_cut [] t)
-    → ((t : ℕ) → t < 65536 → holds new t ≡ (holds old t || lists_type cut G t)) → bitmap_octets (holds new) ≡ bitmap_octets (is_listed assumed cut G)
-listed_octets assumed cut G old new common more =
-    bitmap_octets-same _ _ (λ t b. more t b ∙ (λ i. common cut t b i || lists_type cut G t)
-    ∙ ap (λ b. b || lists_type cut G t) (or_false (nat_eq t 46 || nat_eq t 47 || (assumed && nat_eq t 48))))
+-- RRSIG, NSEC and DNSKEY where it is assumed, and those of the records
+pub listed_octets : (assumed cut : Bool) (G : List ZoneRecord)
+    → bitmap_octets (λ t. ((nat_eq t 46 && true) || (nat_eq t 47 && true) || (nat_eq t 48 && assumed)) || lists_type cut G t)
+    ≡ bitmap_octets (is_listed assumed cut G)
+listed_octets assumed cut G = bitmap_octets-same _ (is_listed assumed cut G) (λ t b. grind (arith, common_steps))
 
 -- ---- How the records of a chain are gathered, and what the finished chain means.
 
@@ -100,13 +88,6 @@ pub chain_of : (L : List ZoneRecord) (a : Name) (config : GenerateNsecConfig) (n
     → IsChain L a config (links_in numbers a names bits)
 chain_of L a config numbers names bits soa named listed = grind (arith, common_steps, links_pairs, links_numbered, links_listed)
 
--- ---- pairs
-
-count_pairs : (x : Name) (links : List Link) → count_by (λ k. matches_or_covers before k.owner k.next x) links
-    ≡ count_by (λ (p : Name × Name). matches_or_covers before p.0 p.1 x) (map pair_of links)
-count_pairs x [] = refl
-count_pairs x (k ∷ links) = grind (arith, common_steps)
-
 -- ---- what the chain means
 
 module _ (d : Bool) (L : List ZoneRecord) (a : Name) (order : OwnersNeverDescend L) (apex : owns L a ≡ true) where
@@ -142,12 +123,12 @@ module _ (L : List ZoneRecord) (a : Name) (order : OwnersNeverDescend L) (config
   owners = owners_known config.occlude_below_dname L a order apex_owns
 
   -- exactly one record matches or covers any name
-  pub answered_once : (x : Name) → count_by (λ k. matches_or_covers before k.owner k.next x) links ≡ 1
+  pub answered_once : (x : Name) → IsOnly (λ k. matches_or_covers before k.owner k.next x) links
   answered_once x =
       let k = owners in
-      count_pairs x links
-      ∙ ap (count_by (λ (p : Name × Name). matches_or_covers before p.0 p.1 x)) (chain.names ∙ ap (λ ks. pairs ks a) k.are)
-      ∙ one_matches_or_covers before_order k.first k.later a x k.up k.low k.begins
+      only_map pair_of (λ p. matches_or_covers before p.0 p.1 x) links
+      (subst (IsOnly (λ (p : Name × Name). matches_or_covers before p.0 p.1 x)) (sym (chain.names ∙ ap (λ ks. pairs ks a) k.are))
+      (one_matches_or_covers before_order k.first k.later a x k.up k.low k.begins))
 
   -- of a record's pair and an unoccluded owner
   pub owner_gap : (l : Link) (m : Name) → In l links → In m (unoccluded_owners config.occlude_below_dname L a)
@@ -192,8 +173,7 @@ module _ (L : List ZoneRecord) (a : Name) (order : OwnersNeverDescend L) (config
   mirrored : (x : Name) → is_at_or_below x a ≡ true → is_occluded config.occlude_below_dname L a x ≡ false
       → IsMatchedOrCoveredOnce L a config.assume_dnskeys_will_be_added links x
   mirrored x low high =
-      let p : Link → Bool = λ k. matches_or_covers before k.owner k.next x in
-      let one = one_place p links (answered_once x) in
+      let one = answered_once x in
       let i = in_at links one.place one.item one.there in
       let chosen : is_unoccluded config.occlude_below_dname L a x ≡ true = (λ j. low j && not (high j)) in
       record {
