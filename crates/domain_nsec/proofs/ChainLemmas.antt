@@ -1,6 +1,6 @@
 -- How the records of an NSEC chain are gathered, and what the finished chain means.
 use Rattle.std.proofs.Common.{◌≡◌, ℕ, ◌<◌, Bool, true, false, ◌&&◌, ◌||◌, List, [], ap, ◌∙◌, nat_eq, arith, ◌+◌, not, ◌∷◌, ◌++◌, map, refl, sym, subst, inl}
-use Rattle.std.proofs.{Common.{inr, ◌⊎◌, Some, zero, suc, length, get_or, take, ◌≢◌, None}, lemmas.{Grind.common_steps, Bool.{cases_Bool, false≢true}}}
+use Rattle.std.proofs.{Common.{inr, ◌⊎◌, Some, zero, suc, length, get_or, take, ◌≢◌, None}, lemmas.{Grind.common_steps, Simd.map-map, Bool.{cases_Bool, false≢true}}}
 use Rattle.std.{proofs.lemmas.{Bool.{and_parts, or_cases, not-true}, List.{take_more, Elements.recursion_from_All}}, specs.Prelude.All}
 use Rattle.std.specs.List.{AllByRecursion, list_any}
 use Rattle.domain_octets.{proofs.StdLemmas.or_false, specs.Octets.Octets}
@@ -10,7 +10,7 @@ use Rattle.domain_zone.{specs.Zone.{chain_ttl, soa_of, AreListed, IsListingFault
 use Rattle.domain_zone.{proofs.GivenLemmas.none_left_out, specs.{Covering.{covers, matches_or_covers, pairs}, declared.soa.ApexSoa.ApexSoa}}
 use Rattle.domain_zone.proofs.NameLemmas.{before_order, one_lowered, same_itself, same_is, before_left, before_right, below_from, same_lowered}
 use Rattle.domain_zone.proofs.{WalkLemmas.{any_owner, any_in, owners_are, owners_ascend, apex_unoccluded, weaker, apart_right}, PairLemmas.{In, all_in}}
-use Rattle.domain_zone.proofs.PairLemmas.{IsAscending, IsApart, one_matches_or_covers, gap, owner_in, next_is, in_at, in_map, IsOnly, only_map}
+use Rattle.domain_zone.proofs.PairLemmas.{IsAscending, IsApart, pairs_length, pairs_owners, one_matches_or_covers, gap, owner_in, next_is, in_at, in_map, IsOnly, only_map}
 use Rattle.domain_zone.specs.declared.listed.ListedOwners.{ListedOwners}
 use Rattle.domain_nsec.specs.{Chain.{is_listed, Link, link_of, links_in, nsec_lists, IsChain, IsFaultless, IsFirstFault}, Meaning.MirrorsZone}
 use Rattle.domain_nsec.specs.{Meaning.{IsMatchedOrCoveredOnce, IsCycle, OwnersAscend, last_next}, declared.config.GenerateNsecConfig.GenerateNsecConfig}
@@ -202,46 +202,38 @@ module _ (L : List ZoneRecord) (a : Name) (order : OwnersNeverDescend L) (config
 
 -- ---- from the apex round to the apex
 
--- links over these names, the last one's next one a
-record IsRound (a k : Name) (links : List Link) : Type 0 where
-  first : Link
-  later : List Link
-  are : links ≡ first ∷ later
-  begins : first.owner ≡ k
-  ascends : OwnersAscend links
-  ends : last_next first.next later ≡ a
+rising : (links : List Link) → IsAscending before (map (λ k. k.owner) links) → OwnersAscend links
+rising [] up = tt
+rising (k ∷ []) up = tt
+rising (k ∷ l ∷ links) up = (up.0.0, rising (l ∷ links) up.1)
 
-round : (a k : Name) (ks : List Name) (links : List Link) → map pair_of links ≡ pairs (k ∷ ks) a → IsAscending before (k ∷ ks) → IsRound a k links
-round a k [] [] e up = absurd (cc)
-round a k [] (l ∷ []) e up = grind (arith, common_steps)
-round a k [] (l ∷ m ∷ links) e up = absurd (cc)
-round a k (n ∷ ks) [] e up = absurd (cc)
-round a k (n ∷ ks) (l ∷ links) e up =
-    let one : pair_of l ≡ (k, n) = cc in
-    let others : map pair_of links ≡ pairs (n ∷ ks) a = cc in
-    let r = round a n ks links others up.1 in
-    record {
-      first = l;
-      later = links;
-      are = refl;
-      begins = ap (λ p. p.0) one;
-      ascends = subst (λ ls. OwnersAscend (l ∷ ls)) (sym r.are)
-          ((λ i. before ((ap (λ p. p.0) one) i) (r.begins i)) ∙ up.0.0, subst OwnersAscend r.are r.ascends);
-      ends = ap (last_next l.next) r.are ∙ r.ends;
-    }
+-- the next name of the last link is a
+ends_at : (a k : Name) (ks : List Name) (l : Link) (links : List Link) → map pair_of (l ∷ links) ≡ pairs (k ∷ ks) a → last_next l.next links ≡ a
+ends_at a k [] l [] e = grind (arith, common_steps)
+ends_at a k [] l (m ∷ links) e = absurd (cc)
+ends_at a k (n ∷ ks) l [] e = absurd (omega (arith, ap length e, pairs_length (n ∷ ks) a))
+ends_at a k (n ∷ ks) l (m ∷ links) e = ends_at a n ks m links (cc)
 
 pub chain_cycle : (L : List ZoneRecord) (a : Name) (order : OwnersNeverDescend L) (config : GenerateNsecConfig)
     (links : List Link) (chain : IsChain L a config links) → IsCycle a links
 chain_cycle L a order config links chain =
-    let k = owners L a order config links chain in
-    let r = round a _ _ links (chain.names ∙ ap (λ ks. pairs ks a) k.are) k.up in
-    record {
-      first = r.first;
-      later = r.later;
-      are = r.are;
-      begins = ap (λ n. same_name n a) r.begins ∙ same_is _ a ∙ (λ i. not (k.low.0 i || k.begins i));
-      ascends = r.ascends;
-      ends = r.ends;
+    by links names (sym (map-map (λ (p : Name × Name). p.0) pair_of links) ∙ ap (map (λ (p : Name × Name). p.0)) names ∙ pairs_owners (k.first ∷ k.later) a)
+  where
+    k : Owners config.occlude_below_dname L a order (apex_owns L a order config links chain) (unoccluded_owners config.occlude_below_dname L a)
+    k = owners L a order config links chain
+
+    names : map pair_of links ≡ pairs (k.first ∷ k.later) a
+    names = chain.names ∙ ap (λ ks. pairs ks a) k.are
+
+    by : (ls : List Link) → map pair_of ls ≡ pairs (k.first ∷ k.later) a → map (λ l. l.owner) ls ≡ k.first ∷ k.later → IsCycle a ls
+    by [] e f = absurd (cc)
+    by (l ∷ ls) e f = record {
+      first = l;
+      later = ls;
+      are = refl;
+      begins = same_is l.owner a ∙ grind (arith, common_steps, k.begins, k.low.0);
+      ascends = rising (l ∷ ls) (subst (IsAscending before) (sym f) k.up);
+      ends = ends_at a _ _ l ls e;
     }
 
 -- ---- What is listed of a zone is its chain, or tells its first fault.
