@@ -14,7 +14,7 @@ use Rattle.domain_zone.proofs.{NameLemmas.{closest_above, either_way, parent_bel
 use Rattle.domain_nsec3.specs.Chain.{HashedLink, IsHashedChain, IsOfChain, cycle, ends, ends_of, hashed_owner, HashedName, ChainConfig, HashAnswer, hash_of}
 use Rattle.domain_nsec3.specs.{Chain.{original_owners, is_empty, is_chain_name, nsec3_lists}, Meaning.{OwnersAscend, octets_before, IsAlone, AreAlone}}
 use Rattle.domain_nsec3.{specs.Meaning.{IsRecordOf, IsMatchedOrCoveredOnce, MeansTheZone, TellsEncloserOf}, proofs.ChainLemmas.{cycle_owners, hash_same}}
-use Rattle.domain_nsec3.proofs.{HashLemmas.lower_text, OwnerLemmas.{apex_original, cut_encloses, existing_are, out_flag, runs_to_encloser}}
+use Rattle.domain_nsec3.proofs.{HashLemmas.{lower_text, tied_octets}, OwnerLemmas.{apex_original, cut_encloses, existing_are, out_flag, runs_to_encloser}}
 use Rattle.domain_bitmap.{specs.Bitmap.bitmap_octets, proofs.BitmapLemmas.bitmap_octets-same}
 use Rattle.domain_octets.specs.Octets.{Octets}
 use Rattle.domain_base.specs.Types.{ns}
@@ -56,10 +56,6 @@ owners_ascend L a config links chain =
 
 octets_order : IsStrictWeakOrder octets_before
 octets_order = ranks_by nat_list_cmp_total (λ v. v)
-
--- octets that the order can't tell apart are the same
-tied_octets : (u v : List ℕ) → matches octets_before u v ≡ true → u ≡ v
-tied_octets u v m = grind (arith, common_steps, slice_cmp-IsAntisymmetric, nat_cmp-IsAntisymmetric, (nat_list_cmp_total.antisymm v u))
 
 -- octets match themselves
 matches_itself : (u v : List ℕ) → u ≡ v → matches octets_before u v ≡ true
