@@ -1,17 +1,17 @@
 -- How the records of an NSEC chain are gathered, and what the finished chain means.
 use Rattle.std.proofs.Common.{◌≡◌, ℕ, ◌<◌, Bool, true, false, ◌&&◌, ◌||◌, List, [], ap, ◌∙◌, nat_eq, arith, ◌+◌, not, ◌∷◌, ◌++◌, map, refl, sym, subst, inl}
-use Rattle.std.proofs.{Common.{inr, ◌⊎◌, Some, zero, suc, length, get_or, take, ◌≢◌, None}, lemmas.{Grind.common_steps, Simd.map-map, Bool.{cases_Bool, false≢true}}}
+use Rattle.std.proofs.{Common.{inr, ◌⊎◌, Some, zero, suc, length, get_or, take, ◌≢◌, None}, lemmas.{Grind.common_steps, Bool.{cases_Bool, false≢true}}}
 use Rattle.std.{proofs.lemmas.{Bool.{and_parts, or_cases, not-true}, List.{take_more, Elements.recursion_from_All}}, specs.Prelude.All}
-use Rattle.std.specs.List.{AllByRecursion, list_any}
-use Rattle.domain_octets.{proofs.StdLemmas.or_false, specs.Octets.Octets}
-use Rattle.domain_bitmap.{specs.{Bitmap.bitmap_octets, Blocks.holds}, proofs.BitmapLemmas.bitmap_octets-same}
+use Rattle.std.{proofs.lemmas.Simd.map-map, specs.List.{AllByRecursion, list_any}}
+use Rattle.domain_octets.{specs.Octets.Octets}
+use Rattle.domain_bitmap.{specs.{Bitmap.bitmap_octets}, proofs.BitmapLemmas.bitmap_octets-same}
 use Rattle.domain_zone.specs.Zone.{ZoneRecord, lists_type, OwnersNeverDescend, owns, is_occluded, is_unoccluded, unoccluded_owners, has_unequal_ttls}
-use Rattle.domain_zone.{specs.Zone.{chain_ttl, soa_of, AreListed, IsListingFault, OwnerRecords, covered_names}, proofs.GivenLemmas.{holds_nothing, soa_owned}}
+use Rattle.domain_zone.{specs.Zone.{chain_ttl, soa_of, AreListed, IsListingFault, OwnerRecords, covered_names}, proofs.GivenLemmas.{soa_owned}}
 use Rattle.domain_zone.{proofs.GivenLemmas.none_left_out, specs.{Covering.{covers, matches_or_covers, pairs}, declared.soa.ApexSoa.ApexSoa}}
 use Rattle.domain_zone.proofs.NameLemmas.{before_order, one_lowered, same_itself, same_is, before_left, before_right, below_from, same_lowered}
 use Rattle.domain_zone.proofs.{WalkLemmas.{any_owner, any_in, owners_are, owners_ascend, apex_unoccluded, weaker, apart_right}, PairLemmas.{In, all_in}}
-use Rattle.domain_zone.proofs.PairLemmas.{IsAscending, IsApart, pairs_length, pairs_owners, one_matches_or_covers, gap, owner_in, next_is, in_at, in_map, IsOnly, only_map}
-use Rattle.domain_zone.specs.declared.listed.ListedOwners.{ListedOwners}
+use Rattle.domain_zone.proofs.PairLemmas.{IsAscending, IsApart, pairs_length, pairs_owners, one_matches_or_covers, gap, owner_in, next_is}
+use Rattle.domain_zone.{specs.declared.listed.ListedOwners.ListedOwners, proofs.PairLemmas.{in_at, in_map, IsOnly, only_map}}
 use Rattle.domain_nsec.specs.{Chain.{is_listed, Link, link_of, links_in, nsec_lists, IsChain, IsFaultless, IsFirstFault}, Meaning.MirrorsZone}
 use Rattle.domain_nsec.specs.{Meaning.{IsMatchedOrCoveredOnce, IsCycle, OwnersAscend, last_next}, declared.config.GenerateNsecConfig.GenerateNsecConfig}
 use Rattle.domain_names.specs.Name.{is_at_or_below, lowered, same_name, before, Name}

@@ -1,7 +1,7 @@
 -- What the record that covers a name tells of it, in each spelling of the name.
 use Rattle.std.proofs.Common.{ℕ, slice_get, Some, ◌≡◌, ◌≤◌, true, false, cond, not, ◌&&◌, List, length, ltb, refl, sym, ap, ◌∙◌, subst, inl, inr, ◌⊎◌, arith}
 use Rattle.std.{proofs.{Common.Bool, lemmas.{Bool.{false≢true, and_parts, or_cases, not-true}, Grind.common_steps}}, specs.{List.list_any, Prelude.filter}}
-use Rattle.domain_zone.specs.{Covering.{matches, covers, matches_or_covers}, Enclosers.{IsClosestEncloser, longer, exists_over, is_empty_nonterminal}}
+use Rattle.domain_zone.specs.{Covering.{matches, covers}, Enclosers.{IsClosestEncloser, longer, exists_over, is_empty_nonterminal}}
 use Rattle.domain_zone.specs.{Enclosers.IsShared, Zone.{ZoneRecord, OwnersNeverDescend, owns, occludes, is_occluded, is_unoccluded, unoccluded_owners}}
 use Rattle.domain_zone.{specs.Zone.has_type, proofs.NameLemmas.{before_order, one_lowered, same_itself, same_is, before_left, before_right, below_itself}}
 use Rattle.domain_zone.proofs.NameLemmas.{below_trans, below_from, below_between, below_longer, lowered_below, same_lowered, either_way, shared_is}

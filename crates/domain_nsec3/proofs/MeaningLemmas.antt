@@ -3,8 +3,7 @@ use Rattle.std.proofs.Common.{◌≡◌, ℕ, ◌<◌, List, [], ◌∷◌, map,
 use Rattle.std.{proofs.lemmas.{Cmp.tied_itself, List.Elements.recursion_from_All, Simd.map-map}, specs.{Prelude.{All, slice_get}, List.AllByRecursion}}
 use Rattle.std.specs.{List.{list_any, Sorted.IsStrictlySortedBy}, Cmp.Lexicographic.{slice_cmp, nat_list_cmp_total}, Ordering.{nat_cmp, ordering_then}}
 use Rattle.std.{specs.declared.cmp.Ordering.TheVariants.Less, proofs.lemmas.{Option.same_Some, Bool.{cases_Bool, false≢true, and_parts, or_left}}}
-use Rattle.std.{proofs.lemmas.{List.Sorted.ranks_by, Grind.common_steps}, specs.{Cmp.IsStrictWeakOrder, FinMap.slice_cmp-IsAntisymmetric}}
-use Rattle.std.specs.FinMap.{nat_cmp-IsAntisymmetric}
+use Rattle.std.{proofs.lemmas.{List.Sorted.ranks_by, Grind.common_steps}, specs.{Cmp.IsStrictWeakOrder}}
 use Rattle.domain_codecs.{proofs.Base32Lemmas.{lower_keeps, lower_apart}, specs.Base32.base32_lower}
 use Rattle.domain_names.{specs.Name.{canonical_cmp, canonical_cmp_total, Name, is_at_or_below, same_name}, proofs.OrderLemmas.canonical_cmp-more}
 use Rattle.domain_zone.{specs.Zone.{ZoneRecord, owns}, proofs.PairLemmas.{all_from_in, all_in, In, ascending, irreflexive, one_of_ring, IsOnly, in_at}}

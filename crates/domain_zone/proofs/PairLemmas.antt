@@ -3,8 +3,8 @@ use Rattle.std.proofs.Common.{◌≡◌, ℕ, Bool, true, false, cond, List, [],
 use Rattle.std.proofs.{Common.{◌||◌, map-id, subst, ◌⊎◌, ◌<◌, ◌++◌, map, None, sym, length, get_or, length-append}, lemmas.Bool.{cases_Bool, false≢true}}
 use Rattle.std.{proofs.lemmas.Grind.common_steps, specs.{Option.option_map, Prelude.{All, filter}, List.{AllByRecursion, find, list_any, Contains}}}
 use Rattle.std.specs.{List.Sorted.IsStrictlySortedBy, Cmp.IsStrictWeakOrder, Ordering.is_lt, declared.cmp.Ordering.{Ordering, TheVariants.Less}}
-use Rattle.std.proofs.lemmas.{List.{Elements.recursion_from_All, length-drop}, Option.{slice_get-get_or, slice_get-map, slice_get_within, get_or_from_slice_get}}
-use Rattle.std.proofs.lemmas.Slice.Zip.{length-zip}
+use Rattle.std.proofs.lemmas.{List.{Elements.recursion_from_All, length-drop}, Option.{slice_get-get_or, slice_get_within, get_or_from_slice_get}}
+use Rattle.std.proofs.lemmas.{Option.slice_get-map, Slice.Zip.length-zip}
 use Rattle.domain_octets.proofs.StdLemmas.{or_true}
 use Rattle.domain_zone.specs.Covering.{matches_or_covers, pairs}
 
