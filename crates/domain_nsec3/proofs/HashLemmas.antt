@@ -3,8 +3,8 @@ use Rattle.std.proofs.Common.{◌≡◌, ℕ, ◌+◌, ◌*◌, ◌/◌, ◌<◌
 use Rattle.std.proofs.{Common.{w8, None, Bool, not, ◌||◌, true, false, drop, inl, inr, ◌⊎◌, IsPermutation}, lemmas.List.Elements.{All-map, All-weaker}}
 use Rattle.std.proofs.lemmas.List.{Elements.{recursion_from_All, All-push}, Folds.map_fixed, length-map, drop_more, get_or-map, get_or_default, map_push}
 use Rattle.std.{proofs.lemmas.{List.{take_more, take-append-drop}, Str.Ascii.IsAscii-from_all, Grind.common_steps}, specs.Prelude.{All, Ok, nat_lt}}
-use Rattle.std.{specs.{Prelude.if◌then◌else◌, Char.to_ascii_lowercase, List.AllByRecursion, Str.IsAscii}, proofs.lemmas.List.{get_or_read, Sorted.All-permutation}}
-use Rattle.std.proofs.lemmas.{List.Sorted.{IsPermutation-map, IsPermutation-refl, IsPermutation-trans}, Map.Keys.sorted_from_all_adjacent}
+use Rattle.std.{specs.{Prelude.if◌then◌else◌, Char.to_ascii_lowercase, List.AllByRecursion, Str.IsAscii}, proofs.lemmas.List.Sorted.All-permutation}
+use Rattle.std.proofs.lemmas.{List.{get_or_read, Sorted.{IsPermutation-map, IsPermutation-refl, IsPermutation-trans}}, Map.Keys.sorted_from_all_adjacent}
 use Rattle.std.specs.{List.Sorted.{IsSortedByKey, IsStrictlySortedBy}, Cmp.Lexicographic.{slice_cmp, nat_list_cmp_total}, FinMap.slice_cmp-IsAntisymmetric}
 use Rattle.std.specs.{FinMap.nat_cmp-IsAntisymmetric, Ordering.{nat_cmp, is_lt}, declared.cmp.Ordering.{Ordering, TheVariants.Less}}
 use Rattle.domain_codecs.{specs.Base32.{base32_from, base32_lower, lower_digit}, proofs.Base32Lemmas.{many_digits, are_small}}
