@@ -31,9 +31,7 @@ soa_owned L a numbers e = elim (cases_Bool (owns L a)) [ inl t ↦ t | inr t ↦
   where
     filtered : (K : List ZoneRecord) → owns K a ≡ false → filter (is_soa a) K ≡ []
     filtered [] h = refl
-    filtered (r ∷ K) h =
-        let p = or_parts (same_name r.owner a) (owns K a) h in
-        (λ i. cond (and_right (nat_eq r.rtype soa) (same_name r.owner a) p.0 i) (r ∷ filter (is_soa a) K) (filter (is_soa a) K)) ∙ filtered K p.1
+    filtered (r ∷ K) h = grind (arith, common_steps, (filtered K))
 
 -- ---- Records whose types never descend: one that does not clash with its neighbour tells nothing that those behind it do not.
 
