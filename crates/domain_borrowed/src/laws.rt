@@ -18,6 +18,7 @@ pub fn minimum_is_last<N: ToName>()
 
 /// Octets begin with one record at most: what was composed of a record is read as this record, and
 /// what follows it is left.
+#[tactic(auto, using(crate::proofs::DataLemmas::same_record))]
 pub fn octets_begin_with_one_record()
     ensures { (q r : RawRecord) (x y : Octets) → IsRecord q → IsRecord r
         → record_octets q ++ x ≡ record_octets r ++ y → IsOneRecord q r x y }

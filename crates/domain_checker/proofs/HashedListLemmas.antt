@@ -1,14 +1,13 @@
 -- What the records of an NSEC3 chain say of the hash of a name that no other name of the chain has, and of the names from it up to the apex.
-use Rattle.std.proofs.Common.{◌≡◌, ℕ, ◌+◌, ◌*◌, ◌/◌, ◌%◌, ◌<◌, ◌≤◌, true, false, [], ◌∷◌, length, drop, arith, Bool, not, ◌&&◌, List, map, refl, sym}
+use Rattle.std.proofs.Common.{◌≡◌, ℕ, ◌+◌, ◌<◌, ◌≤◌, true, false, [], ◌∷◌, length, drop, arith, Bool, not, ◌&&◌, List, map, refl, sym}
 use Rattle.std.proofs.Common.{ap, ◌∙◌, subst, eq-eqb, Some, slice_get, ◌-◌, zero, suc, inl, inr, Option, None, ◌⊎◌, cond, nat_eq}
 use Rattle.std.proofs.lemmas.{Bool.{and_parts, not-true, or_left, or_right, cases_Bool, and_from, false≢true}, Grind.common_steps}
-use Rattle.std.{proofs.lemmas.List.{drop_all, length-drop, Elements.recursion_from_All, Sums.list_all-from_AllPass}, specs.Option.option_map_or}
+use Rattle.std.{proofs.lemmas.List.{length-drop, Elements.recursion_from_All, Sums.list_all-from_AllPass}, specs.Option.option_map_or}
 use Rattle.std.specs.{Cmp.Lexicographic.{slice_cmp, nat_list_cmp_total, bytes_decides}, List.{AllByRecursion, Contains, list_any, find, range_with_len}}
-use Rattle.std.specs.{Ordering.{is_ne, nat_cmp, is_eq}, Prelude.{Ok, Err, filter}, declared.cmp.Ordering.TheVariants.Greater}
-use Rattle.domain_codecs.{proofs.CodecLemmas.{digit_at, IsScale}, specs.{Base32.base32_lower, Codec.{base32_octets, base32_digits}}}
-use Rattle.domain_codecs.specs.Codec.{IsBase32}
+use Rattle.std.specs.{Ordering.{nat_cmp, is_eq}, Prelude.{Ok, Err, filter}}
+use Rattle.domain_codecs.specs.{Base32.base32_lower, Codec.IsBase32}
 use Rattle.domain_octets.specs.Octets.{Octets, AreOctets}
-use Rattle.domain_names.specs.Name.{is_at_or_below, same_name, wire_of, is_strictly_below, lowered, Name, Label}
+use Rattle.domain_names.specs.{Name.{is_at_or_below, same_name, wire_of, is_strictly_below, lowered, IsName, Name, Label}, Wire.{labels_of, IsWire}}
 use Rattle.domain_base.specs.Types.{ns, rrsig}
 use Rattle.domain_bitmap.{proofs.BitLemmas.{any_at, any_none as any_missing}, specs.{Bitmap.bitmap_octets, Blocks.{contains_type, types_of, types_below}}}
 use Rattle.domain_zone.proofs.PairLemmas.{from_map, in_at, in_map, in_pairs, stands_from, Stands, any_none, find_none, find_some, in_filter, In, all_in}
@@ -18,49 +17,14 @@ use Rattle.domain_zone.specs.{Covering.matches_or_covers, Enclosers.exists_over,
 use Rattle.domain_nsec3.{proofs.ChainLemmas.hash_same, specs.Chain.{HashedLink, HashedName, IsOfChain, cycle, ends, ends_of, hashed_owner, ChainConfig}}
 use Rattle.domain_nsec3.specs.{Chain.{Parameters, Hash, hash_name, is_chain_name, nsec3_lists, original_owners, is_original_owner}, Meaning.AreAlone}
 use Rattle.domain_nsec3.specs.Meaning.{IsAlone, IsMatchedOrCoveredOnce, IsRecordOf, octets_before, IsNextCloser}
-use Rattle.domain_checker.{proofs.EncloserLemmas.{same_count, owner_owns}, specs.HashedVerdict.{ChainFacts, read_label, same_parameters, is_spelling}}
+use Rattle.domain_checker.{proofs.EncloserLemmas.{same_count, owner_owns}, specs.HashedVerdict.{ChainFacts, same_parameters, is_spelling}}
 use Rattle.domain_checker.specs.HashedVerdict.{owner_hash, is_hash_match, is_hash_cover, is_covered, is_matched, IsFirst, IsFirstRefusal, is_ok_with}
 use Rattle.domain_checker.specs.{HashedVerdict.{next_closer, chain_records, HashedRecords, first_cover, first_match}, HashedReading.{is_none, IsEncloser}}
 use Rattle.domain_checker.specs.HashedReading.{IsNextHash, IsUnmatched, next_cover, Encloser, IsDenial, IsOfName, encloser_is_cut, tells_cut, IsLookedUp}
 
--- a label is read up to a place, and what it spells from there on stands to what is left of the
--- hash as all of it to the whole hash
-pub record IsCompared (label hash left : Octets) (scale rest at : ℕ) : Type 0 where
-  pub scale_is : IsScale scale
-  pub below : rest < scale
-  pub order : slice_cmp nat_cmp (base32_octets scale rest (base32_digits (drop at label))) left ≡ slice_cmp nat_cmp (read_label label) hash
-
--- the digit d there
-module _ (label hash left : Octets) (scale rest at d : ℕ) (inside : at < length label) (is : d ≡ digit_at label at) (small : d < 32)
-    (so_far : IsCompared label hash left scale rest at) where
-  pub compared_narrow : 32 * scale < 256 → IsCompared label hash left (32 * scale) (32 * rest + d) (at + 1)
-  unfolding base32_octets
-  compared_narrow low = grind (arith, common_steps)
-
-  module _ (high : 256 ≤ 32 * scale) where
-    -- the next octet, and those after it
-    pub compared_octet : slice_cmp nat_cmp ((32 * rest + d) / (32 * scale / 256) ∷ base32_octets (32 * scale / 256)
-        ((32 * rest + d) % (32 * scale / 256)) (base32_digits (drop (at + 1) label))) left ≡ slice_cmp nat_cmp (read_label label) hash
-    unfolding base32_octets
-    compared_octet = grind (arith, common_steps)
-
-    pub compared_none : left ≡ [] → Greater ≡ slice_cmp nat_cmp (read_label label) hash
-    compared_none none = rw none at compared_octet
-
-    module _ (octet : ℕ) (after : Octets) (first : left ≡ octet ∷ after) where
-      pub compared_apart : is_ne (nat_cmp ((32 * rest + d) / (32 * scale / 256)) octet) ≡ true
-          → nat_cmp ((32 * rest + d) / (32 * scale / 256)) octet ≡ slice_cmp nat_cmp (read_label label) hash
-      compared_apart other = grind (arith, common_steps, compared_octet)
-
-      pub compared_wide : is_ne (nat_cmp ((32 * rest + d) / (32 * scale / 256)) octet) ≡ false
-          → IsCompared label hash after (32 * scale / 256) ((32 * rest + d) % (32 * scale / 256)) (at + 1)
-      compared_wide tie = grind (arith, common_steps, compared_octet)
-
--- a label that is read to its end
-pub compared_end : (label hash left : Octets) (scale rest at : ℕ) → length label ≤ at → IsCompared label hash left scale rest at
-    → slice_cmp nat_cmp [] left ≡ slice_cmp nat_cmp (read_label label) hash
-unfolding base32_octets
-compared_end label hash left scale rest at done so_far = rw (drop_all at label done) at so_far.order
+-- a label of a name is short
+pub label_short : (wire : Octets) (label : Label) (above : Name) → IsWire wire → labels_of wire ≡ label ∷ above → length label ≤ 63
+label_short wire label above w e = (subst IsName e w.valid).of_labels.0.fits
 
 -- ---- the hash of a name that no other name of the chain has
 

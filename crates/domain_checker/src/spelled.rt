@@ -1,11 +1,10 @@
 //! Hashes that labels spell in Base 32 hex.
-ghost use Rattle.std.specs.{Cmp.Lexicographic.slice_cmp, List.list_all, Ordering.nat_cmp, Prelude.{◌≡◌}};
+ghost use Rattle.std.specs.{List.list_all, Prelude.{◌≡◌, ◌≤◌, length}};
 ghost use Rattle.domain_codecs.specs.Codec.{is_digit};
 ghost use Rattle.domain_checker.specs.HashedVerdict.{is_spelling, read_label};
 
 use domain_codecs::Codec;
 use domain_codecs::base32::{digit_or_zero, digit_value};
-use std::cmp::Ordering;
 
 /// Whether all octets are digits of Base 32 hex.
 fn are_digits(label: &[u8]) -> bool
@@ -22,13 +21,16 @@ pub(crate) fn is_spelling(label: &[u8]) -> bool
     are_digits(label) & !((over == 1) | (over == 3) | (over == 6))
 }
 
-/// The order of the octets that a label spells and those of a hash. Takes no memory.
-pub(crate) fn spelled_cmp(label: &[u8], hash: &[u8]) -> Ordering
-    ensures { result ≡ slice_cmp nat_cmp (read_label label.now) hash.now }
+/// The octets that the digits of a label stand for, in a buffer; what is no digit counts as 0, and
+/// bits after the last whole octet are passed over. Takes no memory.
+#[tactic(auto, using(domain_codecs::proofs::CodecLemmas::digits_steps, domain_codecs::proofs::CodecLemmas::digits_end))]
+pub(crate) fn read_label<'b>(label: &[u8], buffer: &'b mut [u8; 63]) -> &'b [u8]
+    requires { length label.now ≤ 63 }
+    ensures { result.now ≡ read_label label.now }
 {
+    let mut count = 0;
     let mut scale: u32 = 1;
     let mut rest: u32 = 0;
-    let mut left = hash;
     for c in label {
         let wider = 32 * scale;
         let value = 32 * rest + digit_or_zero(*c);
@@ -39,15 +41,8 @@ pub(crate) fn spelled_cmp(label: &[u8], hash: &[u8]) -> Ordering
         }
         scale = wider / 256;
         rest = value % scale;
-        let Some((octet, after)) = left.split_first() else {
-            return Ordering::Greater;
-        };
-        let order = (value / scale).cmp(&u32::from(*octet));
-        if order.is_ne() {
-            return order;
-        }
-        left = after;
+        buffer[count] = (value / scale) as u8;
+        count += 1;
     }
-    let end: &[u8] = &[];
-    end.cmp(left)
+    &buffer[..count]
 }

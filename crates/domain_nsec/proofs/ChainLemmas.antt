@@ -1,17 +1,17 @@
 -- How the records of an NSEC chain are gathered, and what the finished chain means.
 use Rattle.std.proofs.Common.{◌≡◌, ℕ, ◌<◌, Bool, true, false, ◌&&◌, ◌||◌, List, [], ap, ◌∙◌, nat_eq, arith, ◌+◌, not, ◌∷◌, ◌++◌, map, refl, sym, subst, inl}
 use Rattle.std.proofs.{Common.{inr, ◌⊎◌, Some, zero, suc, length, get_or, take, ◌≢◌, None}, lemmas.{Grind.common_steps, Bool.{cases_Bool, false≢true}}}
-use Rattle.std.{proofs.lemmas.{Bool.{and_parts, or_cases, not-true}, List.{take_more, Elements.recursion_from_All}}, specs.Prelude.{count_by, All}}
-use Rattle.std.specs.List.{AllByRecursion, list_any}
-use Rattle.domain_octets.{proofs.StdLemmas.or_false, specs.Octets.Octets}
-use Rattle.domain_bitmap.{specs.{Bitmap.bitmap_octets, Blocks.holds}, proofs.BitmapLemmas.bitmap_octets-same}
+use Rattle.std.{proofs.lemmas.{Bool.{and_parts, or_cases, not-true}, List.{take_more, Elements.recursion_from_All}}, specs.Prelude.All}
+use Rattle.std.{proofs.lemmas.Simd.map-map, specs.List.{AllByRecursion, list_any}}
+use Rattle.domain_octets.{specs.Octets.Octets}
+use Rattle.domain_bitmap.{specs.{Bitmap.bitmap_octets}, proofs.BitmapLemmas.bitmap_octets-same}
 use Rattle.domain_zone.specs.Zone.{ZoneRecord, lists_type, OwnersNeverDescend, owns, is_occluded, is_unoccluded, unoccluded_owners, has_unequal_ttls}
-use Rattle.domain_zone.{specs.Zone.{chain_ttl, soa_of, AreListed, IsListingFault, OwnerRecords, covered_names}, proofs.GivenLemmas.{holds_nothing, soa_owned}}
+use Rattle.domain_zone.{specs.Zone.{chain_ttl, soa_of, AreListed, IsListingFault, OwnerRecords, covered_names}, proofs.GivenLemmas.{soa_owned}}
 use Rattle.domain_zone.{proofs.GivenLemmas.none_left_out, specs.{Covering.{covers, matches_or_covers, pairs}, declared.soa.ApexSoa.ApexSoa}}
 use Rattle.domain_zone.proofs.NameLemmas.{before_order, one_lowered, same_itself, same_is, before_left, before_right, below_from, same_lowered}
 use Rattle.domain_zone.proofs.{WalkLemmas.{any_owner, any_in, owners_are, owners_ascend, apex_unoccluded, weaker, apart_right}, PairLemmas.{In, all_in}}
-use Rattle.domain_zone.proofs.PairLemmas.{IsAscending, IsApart, one_matches_or_covers, gap, owner_in, next_is, one_place, in_at, in_map}
-use Rattle.domain_zone.specs.declared.listed.ListedOwners.{ListedOwners}
+use Rattle.domain_zone.proofs.PairLemmas.{IsAscending, IsApart, pairs_length, pairs_owners, one_matches_or_covers, gap, owner_in, next_is}
+use Rattle.domain_zone.{specs.declared.listed.ListedOwners.ListedOwners, proofs.PairLemmas.{in_at, in_map, IsOnly, only_map}}
 use Rattle.domain_nsec.specs.{Chain.{is_listed, Link, link_of, links_in, nsec_lists, IsChain, IsFaultless, IsFirstFault}, Meaning.MirrorsZone}
 use Rattle.domain_nsec.specs.{Meaning.{IsMatchedOrCoveredOnce, IsCycle, OwnersAscend, last_next}, declared.config.GenerateNsecConfig.GenerateNsecConfig}
 use Rattle.domain_names.specs.Name.{is_at_or_below, lowered, same_name, before, Name}
@@ -20,23 +20,11 @@ use Rattle.domain_records.specs.declared.error.SigningError.TheVariants.{Nsec3Ha
 
 -- ---- The types that NSEC records list.
 
-pub common_two : (cut : Bool) (v0 v1 v2 : List ℕ) → v0 ≡ [] → ((t : ℕ) → t < 65536 → holds v1 t ≡ (nat_eq t 46 || holds v0 t))
-    → ((t : ℕ) → t < 65536 → holds v2 t ≡ (nat_eq t 47 || holds v1 t)) → (t : ℕ) → t < 65536
-    → holds v2 t ≡ is_listed false cut [] t
-common_two cut v0 v1 v2 e f g t b = grind (arith, common_steps, holds_nothing)
-
-pub common_three : (cut : Bool) (v2 v3 : List ℕ) → ((t : ℕ) → t < 65536 → holds v2 t ≡ is_listed false cut [] t)
-    → ((t : ℕ) → t < 65536 → holds v3 t ≡ (nat_eq t 48 || holds v2 t)) → (t : ℕ) → t < 65536
-    → holds v3 t ≡ is_listed true cut [] t
-common_three cut v2 v3 f g t b = grind (arith, common_steps)
-
--- the common types, and then those of the records
-pub listed_octets : (assumed cut : Bool) (G : List ZoneRecord) (old new : List ℕ)
-    → ((at_cut : Bool) (t : ℕ) → t < 65536 → holds old t ≡ is_listed assumed at_cut [] t)
-    → ((t : ℕ) → t < 65536 → holds new t ≡ (holds old t || lists_type cut G t)) → bitmap_octets (holds new) ≡ bitmap_octets (is_listed assumed cut G)
-listed_octets assumed cut G old new common more =
-    bitmap_octets-same _ _ (λ t b. more t b ∙ (λ i. common cut t b i || lists_type cut G t)
-    ∙ ap (λ b. b || lists_type cut G t) (or_false (nat_eq t 46 || nat_eq t 47 || (assumed && nat_eq t 48))))
+-- RRSIG, NSEC and DNSKEY where it is assumed, and those of the records
+pub listed_octets : (assumed cut : Bool) (G : List ZoneRecord)
+    → bitmap_octets (λ t. ((nat_eq t 46 && true) || (nat_eq t 47 && true) || (nat_eq t 48 && assumed)) || lists_type cut G t)
+    ≡ bitmap_octets (is_listed assumed cut G)
+listed_octets assumed cut G = bitmap_octets-same _ (is_listed assumed cut G) (λ t b. grind (arith, common_steps))
 
 -- ---- How the records of a chain are gathered, and what the finished chain means.
 
@@ -100,13 +88,6 @@ pub chain_of : (L : List ZoneRecord) (a : Name) (config : GenerateNsecConfig) (n
     → IsChain L a config (links_in numbers a names bits)
 chain_of L a config numbers names bits soa named listed = grind (arith, common_steps, links_pairs, links_numbered, links_listed)
 
--- ---- pairs
-
-count_pairs : (x : Name) (links : List Link) → count_by (λ k. matches_or_covers before k.owner k.next x) links
-    ≡ count_by (λ (p : Name × Name). matches_or_covers before p.0 p.1 x) (map pair_of links)
-count_pairs x [] = refl
-count_pairs x (k ∷ links) = grind (arith, common_steps)
-
 -- ---- what the chain means
 
 module _ (d : Bool) (L : List ZoneRecord) (a : Name) (order : OwnersNeverDescend L) (apex : owns L a ≡ true) where
@@ -142,12 +123,12 @@ module _ (L : List ZoneRecord) (a : Name) (order : OwnersNeverDescend L) (config
   owners = owners_known config.occlude_below_dname L a order apex_owns
 
   -- exactly one record matches or covers any name
-  pub answered_once : (x : Name) → count_by (λ k. matches_or_covers before k.owner k.next x) links ≡ 1
+  pub answered_once : (x : Name) → IsOnly (λ k. matches_or_covers before k.owner k.next x) links
   answered_once x =
       let k = owners in
-      count_pairs x links
-      ∙ ap (count_by (λ (p : Name × Name). matches_or_covers before p.0 p.1 x)) (chain.names ∙ ap (λ ks. pairs ks a) k.are)
-      ∙ one_matches_or_covers before_order k.first k.later a x k.up k.low k.begins
+      only_map pair_of (λ p. matches_or_covers before p.0 p.1 x) links
+      (subst (IsOnly (λ (p : Name × Name). matches_or_covers before p.0 p.1 x)) (sym (chain.names ∙ ap (λ ks. pairs ks a) k.are))
+      (one_matches_or_covers before_order k.first k.later a x k.up k.low k.begins))
 
   -- of a record's pair and an unoccluded owner
   pub owner_gap : (l : Link) (m : Name) → In l links → In m (unoccluded_owners config.occlude_below_dname L a)
@@ -192,8 +173,7 @@ module _ (L : List ZoneRecord) (a : Name) (order : OwnersNeverDescend L) (config
   mirrored : (x : Name) → is_at_or_below x a ≡ true → is_occluded config.occlude_below_dname L a x ≡ false
       → IsMatchedOrCoveredOnce L a config.assume_dnskeys_will_be_added links x
   mirrored x low high =
-      let p : Link → Bool = λ k. matches_or_covers before k.owner k.next x in
-      let one = one_place p links (answered_once x) in
+      let one = answered_once x in
       let i = in_at links one.place one.item one.there in
       let chosen : is_unoccluded config.occlude_below_dname L a x ≡ true = (λ j. low j && not (high j)) in
       record {
@@ -222,46 +202,38 @@ module _ (L : List ZoneRecord) (a : Name) (order : OwnersNeverDescend L) (config
 
 -- ---- from the apex round to the apex
 
--- links over these names, the last one's next one a
-record IsRound (a k : Name) (links : List Link) : Type 0 where
-  first : Link
-  later : List Link
-  are : links ≡ first ∷ later
-  begins : first.owner ≡ k
-  ascends : OwnersAscend links
-  ends : last_next first.next later ≡ a
+rising : (links : List Link) → IsAscending before (map (λ k. k.owner) links) → OwnersAscend links
+rising [] up = tt
+rising (k ∷ []) up = tt
+rising (k ∷ l ∷ links) up = (up.0.0, rising (l ∷ links) up.1)
 
-round : (a k : Name) (ks : List Name) (links : List Link) → map pair_of links ≡ pairs (k ∷ ks) a → IsAscending before (k ∷ ks) → IsRound a k links
-round a k [] [] e up = absurd (cc)
-round a k [] (l ∷ []) e up = grind (arith, common_steps)
-round a k [] (l ∷ m ∷ links) e up = absurd (cc)
-round a k (n ∷ ks) [] e up = absurd (cc)
-round a k (n ∷ ks) (l ∷ links) e up =
-    let one : pair_of l ≡ (k, n) = cc in
-    let others : map pair_of links ≡ pairs (n ∷ ks) a = cc in
-    let r = round a n ks links others up.1 in
-    record {
-      first = l;
-      later = links;
-      are = refl;
-      begins = ap (λ p. p.0) one;
-      ascends = subst (λ ls. OwnersAscend (l ∷ ls)) (sym r.are)
-          ((λ i. before ((ap (λ p. p.0) one) i) (r.begins i)) ∙ up.0.0, subst OwnersAscend r.are r.ascends);
-      ends = ap (last_next l.next) r.are ∙ r.ends;
-    }
+-- the next name of the last link is a
+ends_at : (a k : Name) (ks : List Name) (l : Link) (links : List Link) → map pair_of (l ∷ links) ≡ pairs (k ∷ ks) a → last_next l.next links ≡ a
+ends_at a k [] l [] e = grind (arith, common_steps)
+ends_at a k [] l (m ∷ links) e = absurd (cc)
+ends_at a k (n ∷ ks) l [] e = absurd (omega (arith, ap length e, pairs_length (n ∷ ks) a))
+ends_at a k (n ∷ ks) l (m ∷ links) e = ends_at a n ks m links (cc)
 
 pub chain_cycle : (L : List ZoneRecord) (a : Name) (order : OwnersNeverDescend L) (config : GenerateNsecConfig)
     (links : List Link) (chain : IsChain L a config links) → IsCycle a links
 chain_cycle L a order config links chain =
-    let k = owners L a order config links chain in
-    let r = round a _ _ links (chain.names ∙ ap (λ ks. pairs ks a) k.are) k.up in
-    record {
-      first = r.first;
-      later = r.later;
-      are = r.are;
-      begins = ap (λ n. same_name n a) r.begins ∙ same_is _ a ∙ (λ i. not (k.low.0 i || k.begins i));
-      ascends = r.ascends;
-      ends = r.ends;
+    by links names (sym (map-map (λ (p : Name × Name). p.0) pair_of links) ∙ ap (map (λ (p : Name × Name). p.0)) names ∙ pairs_owners (k.first ∷ k.later) a)
+  where
+    k : Owners config.occlude_below_dname L a order (apex_owns L a order config links chain) (unoccluded_owners config.occlude_below_dname L a)
+    k = owners L a order config links chain
+
+    names : map pair_of links ≡ pairs (k.first ∷ k.later) a
+    names = chain.names ∙ ap (λ ks. pairs ks a) k.are
+
+    by : (ls : List Link) → map pair_of ls ≡ pairs (k.first ∷ k.later) a → map (λ l. l.owner) ls ≡ k.first ∷ k.later → IsCycle a ls
+    by [] e f = absurd (cc)
+    by (l ∷ ls) e f = record {
+      first = l;
+      later = ls;
+      are = refl;
+      begins = same_is l.owner a ∙ grind (arith, common_steps, k.begins, k.low.0);
+      ascends = rising (l ∷ ls) (subst (IsAscending before) (sym f) k.up);
+      ends = ends_at a _ _ l ls e;
     }
 
 -- ---- What is listed of a zone is its chain, or tells its first fault.

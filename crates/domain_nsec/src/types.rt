@@ -1,36 +1,14 @@
 //! The types that NSEC records list.
-ghost use Rattle.std.specs.Prelude.{◌≡◌, [], ℕ, Bool, ◌<◌, IfOk};
-ghost use Rattle.domain_bitmap.specs.Blocks.{holds};
-ghost use Rattle.domain_nsec.specs.Chain.{is_listed};
-
 use crate::GenerateNsecConfig;
 use domain_base::{Rtype, ToName};
-use domain_bitmap::{RtypeBitmap, RtypeBitmapBuilder};
-use domain_octets::{EmptyBuilder, GrowingBuilder, OutOfMemory};
+use domain_bitmap::RtypeBitmap;
+use domain_octets::OutOfMemory;
 use domain_record::ZoneData;
-use domain_zone::{ChainTypes, UnoccludedOwner, add_type, add_types};
+use domain_zone::{ChainTypes, UnoccludedOwner, list_types};
 use std::alloc::Global;
 
-/// The types that each NSEC record lists, and DNSKEY where it is assumed.
-fn common_types<B: GrowingBuilder + EmptyBuilder>(
-    alloc: Global,
-    assumed: bool,
-) -> Result<RtypeBitmapBuilder<B>, OutOfMemory>
-where
-    B: Drop,
-    ensures { IfOk result (λ types. (at_cut : Bool) (t : ℕ) → t < 65536
-        → holds types t ≡ is_listed assumed at_cut [] t) }
-{
-    let mut types = RtypeBitmapBuilder::<B>::new(alloc);
-    add_type(&mut types, Rtype::RRSIG)?;
-    add_type(&mut types, Rtype::NSEC)?;
-    if assumed {
-        add_type(&mut types, Rtype::DNSKEY)?;
-    }
-    Ok(types)
-}
-
-/// The types of an owner's NSEC record.
+/// The types of an owner's NSEC record: RRSIG and NSEC, DNSKEY where it is assumed, and those of
+/// its records.
 impl ChainTypes for GenerateNsecConfig {
     ghost use Rattle.std.specs.Prelude.{◌&&◌};
     ghost use Rattle.domain_bitmap.specs.Bitmap.{bitmap_octets};
@@ -39,6 +17,7 @@ impl ChainTypes for GenerateNsecConfig {
     ghost bits = { λ config at_apex o. bitmap_octets (is_listed
         (config.assume_dnskeys_will_be_added && at_apex) o.is_zone_cut o.records) };
 
+    #[tactic(auto, using(std::proofs::lemmas::Grind::common_steps, crate::proofs::ChainLemmas::listed_octets))]
     fn types_of<N: ToName, D: ZoneData>(
         &self,
         alloc: Global,
@@ -46,8 +25,6 @@ impl ChainTypes for GenerateNsecConfig {
         is_apex: bool,
     ) -> Result<RtypeBitmap<Vec<u8>>, OutOfMemory> {
         let assumed = self.assume_dnskeys_will_be_added & is_apex;
-        let mut types = common_types::<Vec<u8>>(alloc, assumed)?;
-        add_types(&mut types, owner.records.records(), owner.is_zone_cut)?;
-        Ok(types.finalize())
+        list_types(alloc, owner, true, Rtype::NSEC, true, assumed)
     }
 }

@@ -1,5 +1,5 @@
 -- Hashes in order, each linked with the next one: the chain of the zone, or its first fault.
-use Rattle.std.proofs.Common.{◌≡◌, ℕ, ◌<◌, Bool, false, not, ◌&&◌, ◌||◌, List, [], nat_eq, refl, sym, ◌∙◌, arith, ◌≢◌, true, ◌∷◌, map, None, cond, ◌++◌, ap}
+use Rattle.std.proofs.Common.{◌≡◌, ℕ, ◌<◌, Bool, false, not, ◌&&◌, ◌||◌, List, [], refl, sym, ◌∙◌, arith, ◌≢◌, true, ◌∷◌, map, None, cond, ◌++◌, ap}
 use Rattle.std.{proofs.{Common.{subst, inl, inr, suc, ◌+◌, length, get_or, take, Some, Ok, ◌≤◌}, lemmas.Grind.common_steps}, specs.List.AllByRecursion}
 use Rattle.std.{specs.List.{IsDistinct, list_any}, proofs.lemmas.{Cmp.tied_itself, List.Elements.{recursion_from_All, All-map, All-weaker}}}
 use Rattle.std.specs.{List.Sorted.IsStrictlySortedBy, Ordering.nat_cmp, declared.cmp.Ordering.TheVariants.Less, Cmp.Lexicographic.slice_cmp}
@@ -7,7 +7,7 @@ use Rattle.std.{specs.Cmp.Lexicographic.nat_list_cmp_total, proofs.lemmas.{Bool.
 use Rattle.std.proofs.lemmas.{Map.Keys.{apart_from_distinct, IsDistinct-IsPermutation}, Option.slice_get-get_or, Simd.map-map, List.Folds.list_any_at}
 use Rattle.std.{proofs.lemmas.List.Sorted.list_any-IsPermutation, specs.Prelude.All}
 use Rattle.domain_bitmap.{specs.{Bitmap.bitmap_octets, Blocks.holds}, proofs.BitmapLemmas.{bitmap_octets-same, holds_nothing as packs_nothing}}
-use Rattle.domain_zone.specs.Zone.{ZoneRecord, lists_type, has_type, owns, IsListingFault, OwnerRecords, owner_at, soa_of, chain_ttl}
+use Rattle.domain_zone.specs.Zone.{ZoneRecord, has_type, owns, IsListingFault, OwnerRecords, owner_at, soa_of, chain_ttl}
 use Rattle.domain_zone.proofs.{GivenLemmas.holds_nothing, WalkLemmas.{owners_are, any_in, in_any, all_filter, weaker, any_map, same_back}}
 use Rattle.domain_zone.proofs.{NameLemmas.{before_order, before_left, one_lowered, same_itself, either_way}, PairLemmas.{In, IsAscending, all_from_in}}
 use Rattle.domain_zone.{proofs.PairLemmas.{all_in, in_either, in_map, in_middle, pair_at, pairs_length, pairs_owners}, specs.Covering.pairs}
@@ -30,16 +30,6 @@ use Rattle.domain_hasher.specs.declared.error.Nsec3HashError.{Nsec3HashError}
 -- a bitmap without types has no octets
 pub no_types : [] ≡ bitmap_octets (λ t. false)
 no_types = sym (packs_nothing [] refl) ∙ bitmap_octets-same (holds []) (λ t. false) (λ t b. holds_nothing [] refl t)
-
--- what is added whatever an owner owns, and then the types of its records
-pub listed_octets : (unsigned apex assumed cut : Bool) (G : List ZoneRecord) (v0 v1 v2 v3 v4 : List ℕ) → v0 ≡ []
-    → ((t : ℕ) → t < 65536 → holds v1 t ≡ ((nat_eq t 46 && not unsigned) || holds v0 t))
-    → ((t : ℕ) → t < 65536 → holds v2 t ≡ ((nat_eq t 51 && apex) || holds v1 t))
-    → ((t : ℕ) → t < 65536 → holds v3 t ≡ ((nat_eq t 48 && assumed) || holds v2 t))
-    → ((t : ℕ) → t < 65536 → holds v4 t ≡ (holds v3 t || lists_type cut G t))
-    → bitmap_octets (holds v4) ≡ bitmap_octets (is_listed unsigned apex assumed cut G)
-listed_octets unsigned apex assumed cut G v0 v1 v2 v3 v4 e f g h more =
-    bitmap_octets-same (holds v4) (is_listed unsigned apex assumed cut G) (λ t b. grind (arith, common_steps, holds_nothing))
 
 -- ---- What is listed of a zone are the original owners of its chain, or it tells the first fault.
 

@@ -1,18 +1,19 @@
 -- Hashes of names: as labels, in lists, and in order.
 use Rattle.std.proofs.Common.{◌≡◌, ℕ, ◌+◌, ◌*◌, ◌/◌, ◌<◌, ◌≤◌, List, [], ◌∷◌, ◌++◌, map, length, refl, sym, ap, ◌∙◌, subst, arith, get_or, set, take, Fits}
-use Rattle.std.proofs.{Common.{w8, None, true, false, ◌-◌, drop, inl, inr, ◌⊎◌, IsPermutation}, lemmas.List.Elements.{All-map, All-weaker}}
-use Rattle.std.proofs.lemmas.List.{Elements.{recursion_from_All, All-push}, Folds.map_fixed, length-map, drop_more, get_or-map, get_or_read, map_push}
+use Rattle.std.proofs.{Common.{w8, None, Bool, not, ◌||◌, true, false, drop, inl, inr, ◌⊎◌, IsPermutation}, lemmas.List.Elements.{All-map, All-weaker}}
+use Rattle.std.proofs.lemmas.List.{Elements.{recursion_from_All, All-push}, Folds.map_fixed, length-map, drop_more, get_or-map, get_or_default, map_push}
 use Rattle.std.{proofs.lemmas.{List.{take_more, take-append-drop}, Str.Ascii.IsAscii-from_all, Grind.common_steps}, specs.Prelude.{All, Ok, nat_lt}}
 use Rattle.std.{specs.{Prelude.if◌then◌else◌, Char.to_ascii_lowercase, List.AllByRecursion, Str.IsAscii}, proofs.lemmas.List.Sorted.All-permutation}
-use Rattle.std.proofs.lemmas.{List.Sorted.{IsPermutation-map, IsPermutation-refl, IsPermutation-trans}, Map.Keys.sorted_from_all_adjacent}
+use Rattle.std.proofs.lemmas.{List.{get_or_read, Sorted.{IsPermutation-map, IsPermutation-refl, IsPermutation-trans}}, Map.Keys.sorted_from_all_adjacent}
 use Rattle.std.specs.{List.Sorted.{IsSortedByKey, IsStrictlySortedBy}, Cmp.Lexicographic.{slice_cmp, nat_list_cmp_total}, FinMap.slice_cmp-IsAntisymmetric}
-use Rattle.std.specs.{FinMap.nat_cmp-IsAntisymmetric, Ordering.{nat_cmp, is_lt}, declared.cmp.Ordering.TheVariants.Less}
+use Rattle.std.specs.{FinMap.nat_cmp-IsAntisymmetric, Ordering.{nat_cmp, is_lt}, declared.cmp.Ordering.{Ordering, TheVariants.Less}}
 use Rattle.domain_codecs.{specs.Base32.{base32_from, base32_lower, lower_digit}, proofs.Base32Lemmas.{many_digits, are_small}}
 use Rattle.domain_octets.{specs.Octets.{AreOctets, Octets}, proofs.WordLemmas.octets_from_type}
 use Rattle.domain_names.{specs.{Name.{wire_of, IsName, Name}, Text.{label_text, name_text, octet_text}, Wire.{labels_of, IsWire}}}
 use Rattle.domain_names.proofs.WireLemmas.{IsWire-wire_of, labels_of-wire_of, wire_is}
 use Rattle.domain_nsec3.specs.{Chain.{hashed_owner, hash_fault, Hash, hash_name}, declared.hash.Hashed.Hashed, Steps.{IsHashed, IsHashOf, AreHashesOf}}
-use Rattle.domain_nsec3.specs.Steps.{HasAlikeNeighbours, IsRefusal, IsFirstRefused, name_at}
+use Rattle.domain_nsec3.specs.{Steps.{HasAlikeNeighbours, IsRefusal, IsFirstRefused, name_at}, Meaning.octets_before}
+use Rattle.domain_zone.specs.Covering.{matches}
 use Rattle.domain_hasher.specs.declared.error.Nsec3HashError.{Nsec3HashError, TheVariants.OutOfMemory}
 
 -- ---- The text of a hash as a label.
@@ -114,41 +115,41 @@ owner_made a hash label above wire w l sound octets is made =
 
 -- ---- Lists of hashed names: how they are ordered and built.
 
--- octets that differ and do not descend ascend
-pub less_apart : (u v : Octets) → is_lt (slice_cmp nat_cmp v u) ≡ false → (u ≡ v → ⊥) → slice_cmp nat_cmp u v ≡ Less
-less_apart u v up apart = grind (arith, common_steps, slice_cmp-IsAntisymmetric, nat_cmp-IsAntisymmetric, (nat_list_cmp_total.antisymm v u))
+-- octets that the order can't tell apart are the same
+pub tied_octets : (u v : Octets) → matches octets_before u v ≡ true → u ≡ v
+tied_octets u v m = grind (arith, common_steps, slice_cmp-IsAntisymmetric, nat_cmp-IsAntisymmetric, (nat_list_cmp_total.antisymm v u))
 
 abbrev pub octets_of : List Hashed → List Octets
 octets_of = map (λ h. h.hash)
 
--- the hashes up to a place ascend
-abbrev pub Ascend : List Hashed → ℕ → Type 0
-Ascend hashed n = (k : ℕ) → k + 1 < n → slice_cmp nat_cmp (get_or (octets_of hashed) k []) (get_or (octets_of hashed) (k + 1) []) ≡ Less
+abbrev pub is_less : Hashed → Hashed → Bool
+is_less g h = is_lt (slice_cmp nat_cmp g.hash h.hash)
 
-module _ (hashed : List Hashed) (i : ℕ) (x y : Hashed) (some : 0 < i) (within : i < length hashed) (x_is : x ≡ get_or hashed (i - 1) x)
-    (y_is : y ≡ get_or hashed i y) where
-  pub alike_at : x.hash ≡ y.hash → HasAlikeNeighbours hashed
-  alike_at same =
-      let here : i - 1 + 1 ≡ i = omega arith in
-      record {
-        place = i - 1;
-        inside = omega arith;
-        one = x;
-        other = y;
-        first = x_is;
-        second = y_is ∙ ap (λ j. get_or hashed j y) (sym here);
-        alike = same;
-      }
+-- hashes of which each is less than the next one ascend
+pub keys_ascend : (hashed : List Hashed) → ((k : ℕ) (d : Hashed) → k + 1 < length hashed → true ≡ is_less (get_or hashed k d) (get_or hashed (k + 1) d))
+    → IsStrictlySortedBy (slice_cmp nat_cmp) (octets_of hashed)
+keys_ascend [] up = sorted_from_all_adjacent nat_list_cmp_total [] [] (λ k l. absurd (omega arith))
+keys_ascend (h ∷ hs) up = sorted_from_all_adjacent nat_list_cmp_total (octets_of (h ∷ hs)) [] (λ k l.
+    let within : k + 1 < length (h ∷ hs) = omega (arith, l, length-map (h ∷ hs) (λ (h : Hashed). h.hash)) in
+    rw (get_or-map (λ (h : Hashed). h.hash) (h ∷ hs) k h [] (omega arith), get_or-map (λ (h : Hashed). h.hash) (h ∷ hs) (k + 1) h [] within)
+    (less _ (up k h within)))
+  where
+    less : (r : Ordering) → true ≡ is_lt r → r ≡ Less
+    less r e = grind (arith, common_steps)
 
-  pub ascend_more : IsSortedByKey (λ h. h.hash) (slice_cmp nat_cmp) hashed → (x.hash ≡ y.hash → ⊥) → Ascend hashed i → Ascend hashed (i + 1)
-  ascend_more sorted other up k l =
-      let x_at = get_or-map (λ (h : Hashed). h.hash) hashed (i - 1) x [] (omega arith) in
-      let y_at = get_or-map (λ (h : Hashed). h.hash) hashed i y [] within in
-      grind (arith, common_steps, less_apart, (up k), (sorted (i - 1) x))
-
-pub keys_ascend : (hashed : List Hashed) (n : ℕ) → length hashed ≤ n → Ascend hashed n → IsStrictlySortedBy (slice_cmp nat_cmp) (octets_of hashed)
-keys_ascend hashed n past up =
-    sorted_from_all_adjacent nat_list_cmp_total (octets_of hashed) [] (λ k l. up k (omega (arith, l, past, length-map hashed (λ (h : Hashed). h.hash))))
+-- of hashes in order, neighbours of which the first is not less are alike
+pub alike_at : (hashed : List Hashed) → IsSortedByKey (λ h. h.hash) (slice_cmp nat_cmp) hashed → (k : ℕ) → k + 1 < length hashed
+    → ((d : Hashed) → false ≡ is_less (get_or hashed k d) (get_or hashed (k + 1) d)) → HasAlikeNeighbours hashed
+alike_at [] sorted k within same = absurd (omega arith)
+alike_at (h ∷ hs) sorted k within same = record {
+  place = k;
+  inside = within;
+  one = get_or (h ∷ hs) k h;
+  other = get_or (h ∷ hs) (k + 1) h;
+  first = get_or_default (h ∷ hs) k h _ (omega arith);
+  second = get_or_default (h ∷ hs) (k + 1) h _ within;
+  alike = tied_octets _ _ (λ i. not (sym (same h) i || sorted k h (omega arith) within i));
+}
 
 module _ (a : Name) (hash : Hash) (names : List Name) where
   -- the names up to a place are hashed, each with its place

@@ -3,8 +3,7 @@ use Rattle.std.proofs.Common.{◌≡◌, ℕ, ◌<◌, List, [], ◌∷◌, map,
 use Rattle.std.{proofs.lemmas.{Cmp.tied_itself, List.Elements.recursion_from_All, Simd.map-map}, specs.{Prelude.{All, slice_get}, List.AllByRecursion}}
 use Rattle.std.specs.{List.{list_any, Sorted.IsStrictlySortedBy}, Cmp.Lexicographic.{slice_cmp, nat_list_cmp_total}, Ordering.{nat_cmp, ordering_then}}
 use Rattle.std.{specs.declared.cmp.Ordering.TheVariants.Less, proofs.lemmas.{Option.same_Some, Bool.{cases_Bool, false≢true, and_parts, or_left}}}
-use Rattle.std.{proofs.lemmas.{List.Sorted.ranks_by, Grind.common_steps}, specs.{Cmp.IsStrictWeakOrder, FinMap.slice_cmp-IsAntisymmetric}}
-use Rattle.std.specs.FinMap.{nat_cmp-IsAntisymmetric}
+use Rattle.std.{proofs.lemmas.{List.Sorted.ranks_by, Grind.common_steps}, specs.{Cmp.IsStrictWeakOrder}}
 use Rattle.domain_codecs.{proofs.Base32Lemmas.{lower_keeps, lower_apart}, specs.Base32.base32_lower}
 use Rattle.domain_names.{specs.Name.{canonical_cmp, canonical_cmp_total, Name, is_at_or_below, same_name}, proofs.OrderLemmas.canonical_cmp-more}
 use Rattle.domain_zone.{specs.Zone.{ZoneRecord, owns}, proofs.PairLemmas.{all_from_in, all_in, In, ascending, irreflexive, one_of_ring, IsOnly, in_at}}
@@ -14,7 +13,7 @@ use Rattle.domain_zone.proofs.{NameLemmas.{closest_above, either_way, parent_bel
 use Rattle.domain_nsec3.specs.Chain.{HashedLink, IsHashedChain, IsOfChain, cycle, ends, ends_of, hashed_owner, HashedName, ChainConfig, HashAnswer, hash_of}
 use Rattle.domain_nsec3.specs.{Chain.{original_owners, is_empty, is_chain_name, nsec3_lists}, Meaning.{OwnersAscend, octets_before, IsAlone, AreAlone}}
 use Rattle.domain_nsec3.{specs.Meaning.{IsRecordOf, IsMatchedOrCoveredOnce, MeansTheZone, TellsEncloserOf}, proofs.ChainLemmas.{cycle_owners, hash_same}}
-use Rattle.domain_nsec3.proofs.{HashLemmas.lower_text, OwnerLemmas.{apex_original, cut_encloses, existing_are, out_flag, runs_to_encloser}}
+use Rattle.domain_nsec3.proofs.{HashLemmas.{lower_text, tied_octets}, OwnerLemmas.{apex_original, cut_encloses, existing_are, out_flag, runs_to_encloser}}
 use Rattle.domain_bitmap.{specs.Bitmap.bitmap_octets, proofs.BitmapLemmas.bitmap_octets-same}
 use Rattle.domain_octets.specs.Octets.{Octets}
 use Rattle.domain_base.specs.Types.{ns}
@@ -56,10 +55,6 @@ owners_ascend L a config links chain =
 
 octets_order : IsStrictWeakOrder octets_before
 octets_order = ranks_by nat_list_cmp_total (λ v. v)
-
--- octets that the order can't tell apart are the same
-tied_octets : (u v : List ℕ) → matches octets_before u v ≡ true → u ≡ v
-tied_octets u v m = grind (arith, common_steps, slice_cmp-IsAntisymmetric, nat_cmp-IsAntisymmetric, (nat_list_cmp_total.antisymm v u))
 
 -- octets match themselves
 matches_itself : (u v : List ℕ) → u ≡ v → matches octets_before u v ≡ true

@@ -43,21 +43,6 @@ pub(crate) fn sort_by_hash<S: Sorter>(hashed: &mut Vec<Hashed>) -> Result<(), Ou
     S::sort_by(hashed, |a, b| a.hash.compare(&b.hash))
 }
 
-/// Whether two of the hashes are alike.
-pub(crate) fn has_collision(hashed: &[Hashed]) -> bool
-    requires { IsSortedByKey (λ h. h.hash) (slice_cmp nat_cmp) hashed.now }
-    ensures apart { result ≡ false
-        → IsStrictlySortedBy (slice_cmp nat_cmp) (map (λ h. h.hash) hashed.now) }
-    ensures alike { result ≡ true → HasAlikeNeighbours hashed.now }
-{
-    for i in 1..hashed.len() {
-        if hashed[i - 1].hash.as_slice() == hashed[i].hash.as_slice() {
-            return true;
-        }
-    }
-    false
-}
-
 /// The hash after the one at a place; after the last one the first.
 pub(crate) fn hash_after(hashed: &[Hashed], at: usize) -> &[u8]
     requires { at < length hashed.now }
@@ -83,7 +68,7 @@ fn without_collision(
     ensures err { IfErr result (λ e. (e ≡ hash_error.CollisionDetected)
         × HasAlikeNeighbours hashed.items) }
 {
-    if has_collision(hashed.as_slice()) {
+    if !hashed.is_sorted_by(|x, y| x.hash.compare(&y.hash).is_lt()) {
         return Err(Nsec3HashError::CollisionDetected);
     }
     Ok(HashedChain { hashed, types })

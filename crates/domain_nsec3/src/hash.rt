@@ -78,6 +78,7 @@ pub(crate) struct Hashed {
 }
 
 /// Whether octets are of use as a hash below an apex. Else tells the first reason why not.
+#[tactic(auto, using(std::proofs::lemmas::Grind::common_steps, domain_octets::proofs::WordLemmas::octets_from_type, crate::proofs::HashLemmas::owner_length))]
 fn check_hash(apex: &ParsedName<'_>, hash: &[u8]) -> Result<(), Nsec3HashError>
     ensures ok { OnOk result (hash_fault apex.now (Ok hash.now) ≡ None) }
     ensures octets { OnOk result (All (λ octet. octet < 256) hash.now) }
@@ -299,6 +300,7 @@ impl<'a> HashedOwner<'a> {
 impl fmt::Display for HashedOwner<'_> {
     ghost output = { λ n. Some (name_text n ++ dot ∷ []) };
 
+    #[tactic(auto, using(std::proofs::lemmas::Grind::common_steps, crate::proofs::HashLemmas::owner_at_root, crate::proofs::HashLemmas::owner_below))]
     fn fmt<W: fmt::Write>(&self, f: &mut fmt::Formatter<W>) -> fmt::Result {
         display_hash(self.hash, f)?;
         if self.apex.is_root() {

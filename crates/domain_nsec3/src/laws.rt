@@ -9,6 +9,7 @@ ghost use Rattle.domain_nsec3.specs.Meaning.{CutsEnclose, MeansTheZone};
 
 /// The names of the chain are those that exist over its original owner names that own records: so
 /// each name above one, at or below the apex, is one too.
+#[tactic(auto, using(crate::proofs::OwnerLemmas::existing_are, crate::proofs::OwnerLemmas::empty_are))]
 pub fn names_exist()
     ensures existing { (L : List ZoneRecord) (a : Name) (config : ChainConfig) (x : Name)
         → is_at_or_below x a ≡ true
@@ -20,6 +21,7 @@ pub fn names_exist()
 /// Of the names from a name up to the apex those are names of the chain that its closest encloser
 /// is at or below. A zone cut of the chain is the closest encloser of what is strictly below it;
 /// one that is left out is no name of the chain.
+#[tactic(auto, using(crate::proofs::OwnerLemmas::runs_to_encloser, crate::proofs::OwnerLemmas::cut_encloses, crate::proofs::OwnerLemmas::cut_is_out))]
 pub fn names_end_at_the_encloser()
     ensures runs { (L : List ZoneRecord) (a : Name) (config : ChainConfig) (x e d : Name)
         → IsClosestEncloser (original_owners L a config) a x e → is_at_or_below x d ≡ true
@@ -32,6 +34,7 @@ pub fn names_end_at_the_encloser()
 {}
 
 /// The NSEC3 record of a name lists the same types for each spelling of the name.
+#[tactic(auto, using(crate::proofs::MeaningLemmas::bit_same))]
 pub fn types_ignore_case()
     ensures { (L : List ZoneRecord) (a : Name) (config : ChainConfig) (x y : Name)
         → same_name x y ≡ true

@@ -71,6 +71,7 @@ fn param_record<'a, S, O: Octets, N: ToName>(
 }
 
 /// The octets of a hash, each of which is below 256.
+#[tactic(auto, using(domain_octets::proofs::WordLemmas::octets_from_type))]
 fn as_octets(hash: &[u8]) -> &[u8]
     ensures same { result.now ≡ hash.now }
     ensures octets { All (λ octet. octet < 256) result.now }
@@ -86,6 +87,7 @@ impl<'a, O: Octets> Nsec3Chain<'a, O> {
     /// # Errors
     ///
     /// Those of `generate_nsec3s`.
+    #[tactic(auto, using(std::proofs::lemmas::Grind::common_steps))]
     pub fn generate<S: Sorter, H: Nsec3Hasher, N: ToName, D: ZoneData>(
         alloc: Global,
         apex: &'a N,

@@ -1,29 +1,11 @@
 //! The types that NSEC3 records list.
-ghost use Rattle.std.specs.Prelude.{◌≡◌, ◌||◌, ◌&&◌, ◌==◌, ℕ, ◌<◌, OnOk};
-ghost use Rattle.domain_bitmap.specs.Blocks.{holds};
-
 use crate::GenerateNsec3Config;
 use domain_base::{Rtype, ToName};
-use domain_bitmap::{RtypeBitmap, RtypeBitmapBuilder};
-use domain_octets::{GrowingBuilder, Octets, OutOfMemory};
+use domain_bitmap::RtypeBitmap;
+use domain_octets::{Octets, OutOfMemory};
 use domain_record::ZoneData;
-use domain_zone::{ChainTypes, UnoccludedOwner, add_type, add_types};
+use domain_zone::{ChainTypes, UnoccludedOwner, list_types};
 use std::alloc::Global;
-
-/// Adds a type where it is wanted.
-fn add_wanted<B: GrowingBuilder>(
-    types: &mut RtypeBitmapBuilder<B>,
-    rtype: Rtype,
-    wanted: bool,
-) -> Result<(), OutOfMemory>
-    ensures { OnOk result ((t : ℕ) → t < 65536
-        → holds types.new t ≡ (((t == rtype) && wanted) || holds types.old t)) }
-{
-    if wanted {
-        add_type(types, rtype)?;
-    }
-    Ok(())
-}
 
 /// The types of an owner's NSEC3 record (RFC 5155, section 7.1).
 impl<O: Octets, S> ChainTypes for GenerateNsec3Config<O, S> {
@@ -44,11 +26,7 @@ impl<O: Octets, S> ChainTypes for GenerateNsec3Config<O, S> {
         is_apex: bool,
     ) -> Result<RtypeBitmap<Vec<u8>>, OutOfMemory> {
         let assumed = self.assume_dnskeys_will_be_added & is_apex;
-        let mut types = RtypeBitmapBuilder::<Vec<u8>>::new(alloc);
-        add_wanted(&mut types, Rtype::RRSIG, !owner.is_unsigned_cut())?;
-        add_wanted(&mut types, Rtype::NSEC3PARAM, is_apex)?;
-        add_wanted(&mut types, Rtype::DNSKEY, assumed)?;
-        add_types(&mut types, owner.records.records(), owner.is_zone_cut)?;
-        Ok(types.finalize())
+        let signed = !owner.is_unsigned_cut();
+        list_types(alloc, owner, signed, Rtype::NSEC3PARAM, is_apex, assumed)
     }
 }

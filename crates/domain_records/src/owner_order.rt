@@ -15,6 +15,7 @@ pub(crate) fn item_at<'a, T>(items: &'a [T], place: usize, other: &'a T) -> &'a 
 }
 
 /// Whether two records have one class and one owner.
+#[tactic(auto, using(std::proofs::lemmas::Grind::common_steps, std::proofs::lemmas::Bool::Decides::nat_tests, domain_names::specs::Laws::same_name_ties))]
 pub(crate) fn is_one_owner<N: ToName, D>(a: &Record<N, D>, b: &Record<N, D>) -> bool
     ensures { result ≡ is_eq (owner_cmp N.labels a.now b.now) }
 {

@@ -1,7 +1,7 @@
 -- What is found of the owners of a zone: the SOA, their TTLs and types, and what a chain lists.
 use Rattle.std.proofs.Common.{◌≡◌, List, [], ◌∷◌, ◌++◌, Option, Some, None, true, false, cond, nat_eq, refl, ap, ◌∙◌, inl, inr, ◌≤◌, ◌<◌, ℕ, Bool}
-use Rattle.std.proofs.{Common.{◌||◌, map, sym, subst, arith, append_assoc, is_some, IfSome, map-id}, lemmas.Bool.{cases_Bool, or_parts}}
-use Rattle.std.{proofs.lemmas.Bool.{and_right, eq-eqb, false≢true, Decides.nat_tests}, specs.Prelude.filter}
+use Rattle.std.proofs.{Common.{◌&&◌, ◌||◌, map, sym, subst, arith, append_assoc, is_some, IfSome, IfNone, map-id}, lemmas.Bool.{cases_Bool, or_parts}}
+use Rattle.std.{proofs.lemmas.Bool.{and_right, eq-eqb, false≢true, Decides.nat_tests}, specs.Prelude.{filter, if◌then◌else◌}}
 use Rattle.std.{proofs.lemmas.{Grind.common_steps, Simd.map-map}, specs.List.{list_any, AllByRecursion}}
 use Rattle.domain_names.specs.{Name.{same_name, Name}, Laws.same_name_same}
 use Rattle.domain_base.specs.Types.{soa}
@@ -12,7 +12,7 @@ use Rattle.domain_zone.proofs.{WalkLemmas.{in_any, filter_passes, all_map, filte
 use Rattle.domain_zone.{proofs.NameLemmas.same_itself, specs.declared.listed.ListedOwners.ListedOwners}
 use Rattle.domain_record.specs.declared.record.Record.{Record}
 use Rattle.domain_records.specs.Order.{HoldsPairwise, MayFollow, IsInOrder}
-use Rattle.domain_bitmap.specs.Blocks.{holds}
+use Rattle.domain_bitmap.{specs.{Bitmap.bitmap_octets, Blocks.holds}, proofs.BitmapLemmas.bitmap_octets-same}
 use Rattle.domain_octets.specs.Octets.{Octets}
 
 -- ---- The SOA records that a scan of the records finds.
@@ -31,9 +31,7 @@ soa_owned L a numbers e = elim (cases_Bool (owns L a)) [ inl t ↦ t | inr t ↦
   where
     filtered : (K : List ZoneRecord) → owns K a ≡ false → filter (is_soa a) K ≡ []
     filtered [] h = refl
-    filtered (r ∷ K) h =
-        let p = or_parts (same_name r.owner a) (owns K a) h in
-        (λ i. cond (and_right (nat_eq r.rtype soa) (same_name r.owner a) p.0 i) (r ∷ filter (is_soa a) K) (filter (is_soa a) K)) ∙ filtered K p.1
+    filtered (r ∷ K) h = grind (arith, common_steps, (filtered K))
 
 -- ---- Records whose types never descend: one that does not clash with its neighbour tells nothing that those behind it do not.
 
@@ -119,34 +117,29 @@ all_pass : {X : Type 0} (xs : List X) → filter (λ y. true) xs ≡ xs
 all_pass [] = refl
 all_pass (x ∷ xs) = ap (λ l. x ∷ l) (all_pass xs)
 
--- what is told of the records from one on is told of all
-pub record IsBetween (zs : List ZoneRecord) (previous : ZoneRecord) (left : List ZoneRecord) : Type 0 where
-  pub order : NeverDescend (previous ∷ left)
-  pub first : (t : ℕ) → IsFirstClash (previous ∷ left) t → IsFirstClash zs t
-  pub none : has_clash (previous ∷ left) ≡ false → has_clash zs ≡ false
+-- the type of the first of these records that clashes with the one before it
+abbrev pub uneven_after : ZoneRecord → List ZoneRecord → Option ℕ
+uneven_after p [] = None
+uneven_after p (r ∷ rs) = if clashes p r then Some r.rtype else uneven_after r rs
 
-pub between_first : {zs : List ZoneRecord} {p : ZoneRecord} {left : List ZoneRecord} → zs ≡ p ∷ left → NeverDescend zs → IsBetween zs p left
-between_first is order = record {
-  order = subst NeverDescend is order;
-  first = λ t h. subst (λ l. IsFirstClash l t) (sym is) h;
-  none = λ h. ap has_clash is ∙ h;
-}
+abbrev pub IsUneven : List ZoneRecord → Option ℕ → Type 0
+IsUneven zs found = IfSome found (IsFirstClash zs) × IfNone found (has_clash zs ≡ false)
 
-module _ {zs : List ZoneRecord} {p r : ZoneRecord} {left : List ZoneRecord} (s : IsBetween zs p (r ∷ left)) where
-  pub between_next : clashes p r ≡ false → IsBetween zs r left
-  between_next even =
-      let same = λ (t : ℕ). quiet p r left s.order (λ u. nat_eq u t) even in
-      record {
-        order = s.order.1;
-        first = λ t h. s.first t (record { clash = same t ∙ h.clash; lesser = λ u less. same u ∙ h.lesser u less });
-        none = λ h. s.none (sym (ap has_clash (all_pass (p ∷ r ∷ left))) ∙ quiet p r left s.order (λ u. true) even ∙ ap has_clash (all_pass (r ∷ left)) ∙ h);
-      }
-
-  pub between_clash : clashes p r ≡ true → IsFirstClash zs r.rtype
-  between_clash e = s.first r.rtype (first_clash p r left s.order e)
-
-pub between_end : {zs : List ZoneRecord} {p : ZoneRecord} → IsBetween zs p [] → has_clash zs ≡ false
-between_end {zs} {p} s = s.none (grind (arith, common_steps, (no_clash_itself p)))
+-- where types never descend, it is the first type of which records clash
+pub uneven_told : (p : ZoneRecord) (rs : List ZoneRecord) → NeverDescend (p ∷ rs) → IsUneven (p ∷ rs) (uneven_after p rs)
+uneven_told p [] order = (tt, grind (arith, common_steps, (no_clash_itself p)))
+uneven_told p (r ∷ rs) order =
+    elim (clashes p r) as (λ b. clashes p r ≡ b → IsUneven (p ∷ r ∷ rs) (if b then Some r.rtype else uneven_after r rs)) [
+      | true ↦ λ e. (first_clash p r rs order e, tt)
+      | false ↦ λ e. onward e (uneven_after r rs) (uneven_told r rs order.1)
+    ] refl
+  where
+    onward : clashes p r ≡ false → (found : Option ℕ) → IsUneven (r ∷ rs) found → IsUneven (p ∷ r ∷ rs) found
+    onward e None h =
+        (tt, sym (ap has_clash (all_pass (p ∷ r ∷ rs))) ∙ quiet p r rs order (λ u. true) e ∙ ap has_clash (all_pass (r ∷ rs)) ∙ h.1)
+    onward e (Some t) h =
+        let same = λ (u : ℕ). quiet p r rs order (λ v. nat_eq v u) e in
+        (record { clash = same t ∙ h.0.clash; lesser = λ u less. same u ∙ h.0.lesser u less }, tt)
 
 -- where there is a type of which records clash, two of all do
 pub clash_told : (zs : List ZoneRecord) (found : Option ℕ) → is_some found ≡ true → IfSome found (IsFirstClash zs) → has_clash zs ≡ true
@@ -159,6 +152,16 @@ clash_told zs (Some t) e h = any_two clashes _ zs (λ z i. (in_filter (λ y. nat
 pub holds_nothing : (value : List ℕ) → value ≡ [] → (t : ℕ) → holds value t ≡ false
 unfolding holds
 holds_nothing value e t = ap (λ v. holds v t) e
+
+-- types that are wanted whatever an owner owns, and then those of its records
+pub wanted_octets : (own : ℕ) (r o k cut : Bool) (G : List ZoneRecord) (v0 v1 v2 v3 v4 : List ℕ) → v0 ≡ []
+    → ((t : ℕ) → t < 65536 → holds v1 t ≡ ((nat_eq t 46 && r) || holds v0 t))
+    → ((t : ℕ) → t < 65536 → holds v2 t ≡ ((nat_eq t own && o) || holds v1 t))
+    → ((t : ℕ) → t < 65536 → holds v3 t ≡ ((nat_eq t 48 && k) || holds v2 t))
+    → ((t : ℕ) → t < 65536 → holds v4 t ≡ (holds v3 t || lists_type cut G t))
+    → bitmap_octets (holds v4) ≡ bitmap_octets (λ t. ((nat_eq t 46 && r) || (nat_eq t own && o) || (nat_eq t 48 && k)) || lists_type cut G t)
+wanted_octets own r o k cut G v0 v1 v2 v3 v4 e f g h more =
+    bitmap_octets-same (holds v4) _ (λ t b. grind (arith, common_steps, holds_nothing))
 
 -- what a builder holds and the rest lists is what `old` holds and all records list
 abbrev pub Lists : List ℕ → Bool → List ZoneRecord → List ZoneRecord → List ℕ → Type 0

@@ -31,12 +31,7 @@ same_itself x y e = (same_name_same x y).1 e
 
 -- sameness is what the order can't tell apart
 pub same_is : (x y : Name) → same_name x y ≡ matches before x y
-same_is x y = same_name_ties x y ∙ reads (canonical_cmp x y) (canonical_cmp y x) (canonical_cmp_total.antisymm y x)
-  where
-    reads : (r s : Ordering) → s ≡ ordering_reverse r → is_eq r ≡ not (is_lt r || is_lt s)
-    reads Less s e = refl
-    reads Equal s e = sym (ap (λ t. not (is_lt t)) e)
-    reads Greater s e = sym (ap (λ t. not (is_lt t)) e)
+same_is x y = grind (arith, common_steps, same_name_ties, (canonical_cmp_total.antisymm y x))
 
 -- the order looks at the lowered labels alone
 pub before_left : (x z y : Name) → lowered x ≡ lowered z → before x y ≡ before z y
@@ -62,21 +57,11 @@ pub below_trans : (x y z : Name) → is_at_or_below x y ≡ true → is_at_or_be
 below_trans x y z e f = grind (arith, common_steps, below_there, below_back)
 
 not_after : (x y : Name) → before x y ≡ false → IsUpTo y x
-not_after x y e = reads (canonical_cmp x y) (canonical_cmp y x) (canonical_cmp_total.antisymm y x) e
-  where
-    reads : (r s : Ordering) → s ≡ ordering_reverse r → is_lt r ≡ false → is_gt s ≡ false
-    reads Less s e f = absurd (true≢false f)
-    reads Equal s e f = ap is_gt e
-    reads Greater s e f = ap is_gt e
+not_after x y e = grind (arith, common_steps, (canonical_cmp_total.antisymm y x))
 
 -- what is below a name isn't before it
 pub below_from : (x a : Name) → is_at_or_below x a ≡ true → before x a ≡ false
-below_from x a e = reads (canonical_cmp a x) (canonical_cmp x a) (canonical_cmp_total.antisymm x a) (ancestor_first x a (below_there x a e))
-  where
-    reads : (r s : Ordering) → s ≡ ordering_reverse r → is_gt r ≡ false → is_lt s ≡ false
-    reads Less s e f = ap is_lt e
-    reads Equal s e f = ap is_lt e
-    reads Greater s e f = absurd (true≢false f)
+below_from x a e = grind (arith, common_steps, (canonical_cmp_total.antisymm x a), (ancestor_first x a (below_there x a e)))
 
 -- what lies between a name and one below it is below it too
 pub below_between : (x a y : Name) → is_at_or_below x a ≡ true → before y a ≡ false → before x y ≡ false → is_at_or_below y a ≡ true

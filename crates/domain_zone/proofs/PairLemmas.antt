@@ -1,57 +1,12 @@
 -- Lists whose elements ascend in a strict order, pairs of these, and where elements stand.
-use Rattle.std.proofs.Common.{◌≡◌, ℕ, ◌+◌, Bool, true, false, cond, List, [], ◌∷◌, refl, ap, ◌∙◌, inl, inr, Some, suc, zero, arith, slice_get, not, ◌&&◌}
-use Rattle.std.proofs.{Common.{◌||◌, subst, ◌⊎◌, ◌<◌, ◌++◌, map, None, sym, length, get_or, length-append}, lemmas.{Bool.cases_Bool, List.Sums.sum_by-cons}}
-use Rattle.std.{proofs.lemmas.Grind.common_steps, specs.{Prelude.{count_by, All, filter}, List.{AllByRecursion, find, list_any, Contains}}}
+use Rattle.std.proofs.Common.{◌≡◌, ℕ, Bool, true, false, cond, List, [], ◌∷◌, refl, ap, ◌∙◌, inl, inr, Some, suc, zero, arith, slice_get, not, ◌&&◌}
+use Rattle.std.proofs.{Common.{◌||◌, map-id, subst, ◌⊎◌, ◌<◌, ◌++◌, map, None, sym, length, get_or, length-append}, lemmas.Bool.{cases_Bool, false≢true}}
+use Rattle.std.{proofs.lemmas.Grind.common_steps, specs.{Option.option_map, Prelude.{All, filter}, List.{AllByRecursion, find, list_any, Contains}}}
 use Rattle.std.specs.{List.Sorted.IsStrictlySortedBy, Cmp.IsStrictWeakOrder, Ordering.is_lt, declared.cmp.Ordering.{Ordering, TheVariants.Less}}
 use Rattle.std.proofs.lemmas.{List.{Elements.recursion_from_All, length-drop}, Option.{slice_get-get_or, slice_get_within, get_or_from_slice_get}}
-use Rattle.std.proofs.lemmas.Slice.Zip.{length-zip}
+use Rattle.std.proofs.lemmas.{Option.slice_get-map, Slice.Zip.length-zip}
 use Rattle.domain_octets.proofs.StdLemmas.{or_true}
 use Rattle.domain_zone.specs.Covering.{matches_or_covers, pairs}
-
--- ---- Of a list with exactly one element that passes a test, the place of that element.
-
-module _ {X : Type 0} where
-  pub count_cons : (p : X → Bool) (x : X) (xs : List X) → count_by p (x ∷ xs) ≡ cond (p x) 1 0 + count_by p xs
-  count_cons p x xs = sum_by-cons (λ y. cond (p y) 1 0) x xs
-
-  pub counted_here : (p : X → Bool) (x : X) (xs : List X) → p x ≡ true → count_by p (x ∷ xs) ≡ 1 + count_by p xs
-  counted_here p x xs t = count_cons p x xs ∙ ap (λ b. cond b 1 0 + count_by p xs) t
-
-  pub counted_later : (p : X → Bool) (x : X) (xs : List X) → p x ≡ false → count_by p (x ∷ xs) ≡ 0 + count_by p xs
-  counted_later p x xs t = count_cons p x xs ∙ ap (λ b. cond b 1 0 + count_by p xs) t
-
-  none_after : (p : X → Bool) (x : X) (xs : List X) → count_by p (x ∷ xs) ≡ 0 → count_by p xs ≡ 0
-  none_after p x xs e = grind (arith, common_steps)
-
-  none_counted : (p : X → Bool) (xs : List X) → count_by p xs ≡ 0 → (j : ℕ) (s : X) → slice_get xs j ≡ Some s → p s ≡ true → ⊥
-  none_counted p [] e j s g h = cc
-  none_counted p (x ∷ xs) e zero s g h = let same : x ≡ s = cc in absurd (omega (arith, counted_here p x xs (ap p same ∙ h)))
-  none_counted p (x ∷ xs) e (suc j) s g h = none_counted p xs (none_after p x xs e) j s g h
-
-  pub record IsOnly (p : X → Bool) (xs : List X) : Type 0 where
-    pub place : ℕ
-    pub item : X
-    pub there : slice_get xs place ≡ Some item
-    pub passes : p item ≡ true
-    pub only : (j : ℕ) (s : X) → slice_get xs j ≡ Some s → p s ≡ true → j ≡ place
-
-  only_first : (p : X → Bool) (x : X) (xs : List X) → count_by p xs ≡ 0 → (j : ℕ) (s : X) → slice_get (x ∷ xs) j ≡ Some s → p s ≡ true → j ≡ 0
-  only_first p x xs z j s g h = grind (arith, common_steps, none_counted)
-
-  only_later : (p : X → Bool) (x : X) (xs : List X) → p x ≡ false → (place : ℕ)
-      → ((j : ℕ) (s : X) → slice_get xs j ≡ Some s → p s ≡ true → j ≡ place) → (j : ℕ) (s : X) → slice_get (x ∷ xs) j ≡ Some s
-      → p s ≡ true → j ≡ suc place
-  only_later p x xs t place f j s g h = grind (arith, common_steps)
-
-  pub one_place : (p : X → Bool) (xs : List X) → count_by p xs ≡ 1 → IsOnly p xs
-  one_place p [] e = absurd (omega arith)
-  one_place p (x ∷ xs) e =
-      elim (cases_Bool _) [
-        | inl t ↦ record { place = 0; item = x; there = refl; passes = t; only = only_first p x xs (omega (arith, counted_here p x xs t)) }
-        | inr t ↦
-            let r = one_place p xs (omega (arith, counted_later p x xs t)) in
-            record { place = suc r.place; item = r.item; there = r.there; passes = r.passes; only = only_later p x xs t _ r.only }
-      ]
 
 -- ---- A list that ascends in a strict order, and the pairs of it: exactly one pair matches or covers each value, and nothing of the list lies in a gap.
 
@@ -70,9 +25,36 @@ module _ {X : Type 0} where
   all_from_in P [] f = tt
   all_from_in P (x ∷ xs) f = (f x (inl refl), all_from_in P xs (λ y i. f y (inr i)))
 
+  pub in_at : (xs : List X) (i : ℕ) (x : X) → slice_get xs i ≡ Some x → In x xs
+  in_at [] i x e = absurd (cc)
+  in_at (y ∷ xs) zero x e = inl (cc)
+  in_at (y ∷ xs) (suc i) x e = inr (in_at xs i x e)
+
   abbrev pub IsAscending : (X → X → Bool) → List X → Type 0
   IsAscending lt [] = Unit {0}
   IsAscending lt (x ∷ xs) = AllByRecursion (λ y. lt x y ≡ true) xs × IsAscending lt xs
+
+  -- exactly one element passes a test
+  pub record IsOnly (p : X → Bool) (xs : List X) : Type 0 where
+    pub place : ℕ
+    pub item : X
+    pub there : slice_get xs place ≡ Some item
+    pub passes : p item ≡ true
+    pub only : (j : ℕ) (s : X) → slice_get xs j ≡ Some s → p s ≡ true → j ≡ place
+
+  only_here : (p : X → Bool) (x : X) (xs : List X) → p x ≡ true → AllByRecursion (λ y. p y ≡ false) xs → IsOnly p (x ∷ xs)
+  only_here p x xs e none = record { place = 0; item = x; there = refl; passes = e; only = at }
+    where
+      at : (j : ℕ) (s : X) → slice_get (x ∷ xs) j ≡ Some s → p s ≡ true → j ≡ 0
+      at zero s g h = refl
+      at (suc j) s g h = absurd (false≢true (sym (all_in (λ y. p y ≡ false) xs s none (in_at xs j s g)) ∙ h))
+
+  only_later : (p : X → Bool) (x : X) (xs : List X) → p x ≡ false → IsOnly p xs → IsOnly p (x ∷ xs)
+  only_later p x xs e o = record { place = suc o.place; item = o.item; there = o.there; passes = o.passes; only = at }
+    where
+      at : (j : ℕ) (s : X) → slice_get (x ∷ xs) j ≡ Some s → p s ≡ true → j ≡ suc o.place
+      at zero s g h = let same : x ≡ s = cc in absurd (false≢true (sym e ∙ ap p same ∙ h))
+      at (suc j) s g h = ap suc (o.only j s g h)
 
 -- the four tests of a pair and a value: owner < x, x < owner, owner < next, x < next
 answers : Bool → Bool → Bool → Bool → Bool
@@ -108,39 +90,42 @@ module _ {X : Type 0} {lt : X → X → Bool} (o : IsStrictWeakOrder lt) where
   unfolding answers
   falling_answer p n x e = falling (lt p x) (lt x p) (lt p n) (lt x n) (o.one_way x p) e
 
-  abbrev pub count_of : List X → X → X → ℕ
-  count_of ks a x = count_by (λ (p : X × X). matches_or_covers lt p.0 p.1 x) (pairs ks a)
-
-  step : (k n x : X) (rest : List (X × X)) (b : Bool) (m : ℕ) → matches_or_covers lt k n x ≡ b
-      → count_by (λ (p : X × X). matches_or_covers lt p.0 p.1 x) rest ≡ m
-      → count_by (λ (p : X × X). matches_or_covers lt p.0 p.1 x) ((k, n) ∷ rest) ≡ cond b 1 0 + m
-  step k n x rest b m e f = sum_by-cons (λ (p : X × X). cond (matches_or_covers lt p.0 p.1 x) 1 0) (k, n) rest ∙ (λ i. cond (e i) 1 0 + f i)
+  abbrev pub says : X → X × X → Bool
+  says x p = matches_or_covers lt p.0 p.1 x
 
   -- from before the first one on, where the last one's next isn't after x
-  pub none_before : (k : X) (ks : List X) (a x : X) → IsAscending lt (k ∷ ks) → AllByRecursion (λ y. lt y a ≡ false) (k ∷ ks)
-      → lt x k ≡ true → lt x a ≡ false → count_of (k ∷ ks) a x ≡ 0
-  none_before k [] a x up low e f = step k a x [] false 0 (falling_answer k a x low.0 ∙ (λ i. not (e i) || f i)) refl
-  none_before k (l ∷ ks) a x up low e f = grind (arith, common_steps, (none_before l ks a x up.1 low.1 (lt_trans x k l e up.0.0) f))
+  none_before : (k : X) (ks : List X) (a x : X) → IsAscending lt (k ∷ ks) → AllByRecursion (λ y. lt y a ≡ false) (k ∷ ks)
+      → lt x k ≡ true → lt x a ≡ false → AllByRecursion (λ p. says x p ≡ false) (pairs (k ∷ ks) a)
+  none_before k [] a x up low e f = (falling_answer k a x low.0 ∙ (λ i. not (e i) || f i), tt)
+  none_before k (l ∷ ks) a x up low e f =
+      (rising_answer k l x up.0.0 ∙ (λ i. not (e i) && lt x l), none_before l ks a x up.1 low.1 (lt_trans x k l e up.0.0) f)
 
-  pub one_from : (k : X) (ks : List X) (a x : X) → IsAscending lt (k ∷ ks) → AllByRecursion (λ y. lt y a ≡ false) (k ∷ ks)
-      → lt x k ≡ false → lt x a ≡ false → count_of (k ∷ ks) a x ≡ 1
-  one_from k [] a x up low e f = step k a x [] true 0 (falling_answer k a x low.0 ∙ (λ i. not (e i) || lt x a)) refl
+  one_from : (k : X) (ks : List X) (a x : X) → IsAscending lt (k ∷ ks) → AllByRecursion (λ y. lt y a ≡ false) (k ∷ ks)
+      → lt x k ≡ false → lt x a ≡ false → IsOnly (says x) (pairs (k ∷ ks) a)
+  one_from k [] a x up low e f = only_here (says x) (k, a) [] (falling_answer k a x low.0 ∙ (λ i. not (e i) || lt x a)) tt
   one_from k (l ∷ ks) a x up low e f =
-      elim (cases_Bool _) [
-        | inl h ↦ step k l x (pairs (l ∷ ks) a) true 0 (rising_answer k l x up.0.0 ∙ (λ i. not (e i) && h i)) (none_before l ks a x up.1 low.1 h f)
-        | inr h ↦ step k l x (pairs (l ∷ ks) a) false 1 (rising_answer k l x up.0.0 ∙ (λ i. not (e i) && h i)) (one_from l ks a x up.1 low.1 h f)
+      let here = λ (b : Bool) (h : lt x l ≡ b). rising_answer k l x up.0.0 ∙ (λ i. not (e i) && h i) in
+      elim (cases_Bool (lt x l)) [
+        | inl h ↦ only_here (says x) (k, l) (pairs (l ∷ ks) a) (here true h) (none_before l ks a x up.1 low.1 h f)
+        | inr h ↦ only_later (says x) (k, l) (pairs (l ∷ ks) a) (here false h) (one_from l ks a x up.1 low.1 h f)
       ]
 
-  -- of what is before all of them the last one matches_or_covers
-  pub one_before : (k : X) (ks : List X) (a x : X) → IsAscending lt (k ∷ ks) → AllByRecursion (λ y. lt y a ≡ false) (k ∷ ks)
-      → lt x a ≡ true → count_of (k ∷ ks) a x ≡ 1
-  one_before k [] a x up low f = step k a x [] true 0 (falling_answer k a x low.0 ∙ (λ i. not (lt x k) || f i) ∙ or_true (not (lt x k))) refl
-  one_before k (l ∷ ks) a x up low f = grind (arith, common_steps, (one_before l ks a x up.1 low.1 f))
+  -- of what is before all of them the last one says it
+  one_before : (k : X) (ks : List X) (a x : X) → IsAscending lt (k ∷ ks) → AllByRecursion (λ y. lt y a ≡ false) (k ∷ ks)
+      → lt x a ≡ true → IsOnly (says x) (pairs (k ∷ ks) a)
+  one_before k [] a x up low f =
+      only_here (says x) (k, a) [] (falling_answer k a x low.0 ∙ (λ i. not (lt x k) || f i) ∙ or_true (not (lt x k))) tt
+  one_before k (l ∷ ks) a x up low f =
+      only_later (says x) (k, l) (pairs (l ∷ ks) a) (grind (arith, common_steps, (rising_answer k l x up.0.0), (o.chain x k a)))
+      (one_before l ks a x up.1 low.1 f)
 
   -- exactly one pair matches or covers any value at all
   pub one_matches_or_covers : (k : X) (ks : List X) (a x : X) → IsAscending lt (k ∷ ks)
-      → AllByRecursion (λ y. lt y a ≡ false) (k ∷ ks) → lt a k ≡ false → count_of (k ∷ ks) a x ≡ 1
-  one_matches_or_covers k ks a x up low g = grind (arith, common_steps, one_before, one_from)
+      → AllByRecursion (λ y. lt y a ≡ false) (k ∷ ks) → lt a k ≡ false → IsOnly (says x) (pairs (k ∷ ks) a)
+  one_matches_or_covers k ks a x up low g = elim (cases_Bool (lt x a)) [
+    | inl f ↦ one_before k ks a x up low f
+    | inr f ↦ one_from k ks a x up low (o.chain x a k f g) f
+  ]
 
   -- ---- gaps
 
@@ -180,7 +165,7 @@ module _ {X : Type 0} {lt : X → X → Bool} (o : IsStrictWeakOrder lt) where
   -- exactly one pair of a ring matches or covers any value
   pub one_of_ring : (k : X) (ks : List X) → IsAscending lt (k ∷ ks) → (x : X)
       → IsOnly (λ (p : X × X). matches_or_covers lt p.0 p.1 x) (pairs (k ∷ ks) k)
-  one_of_ring k ks up x = one_place _ _ (one_matches_or_covers k ks k x up (first_least k ks up) (irreflexive k))
+  one_of_ring k ks up x = one_matches_or_covers k ks k x up (first_least k ks up) (irreflexive k)
 
 -- ---- lists that ascend by a comparison
 
@@ -198,8 +183,6 @@ said lt o n x h = grind (arith, common_steps)
 
 -- ---- Elements of lists: which pass a test, the first that does, and where they stand.
 
--- ---- elements
-
 module _ {X : Type 0} where
   pub any_none : (p : X → Bool) (xs : List X) → ((x : X) → In x xs → p x ≡ false) → list_any p xs ≡ false
   any_none p [] f = refl
@@ -208,11 +191,6 @@ module _ {X : Type 0} where
   pub in_filter : (p : X → Bool) (xs : List X) (y : X) → In y (filter p xs) → In y xs × (p y ≡ true)
   in_filter p [] y i = absurd i
   in_filter p (x ∷ xs) y i = grind (arith, common_steps, (in_filter p xs y))
-
-  pub in_at : (xs : List X) (i : ℕ) (x : X) → slice_get xs i ≡ Some x → In x xs
-  in_at [] i x e = absurd (cc)
-  in_at (y ∷ xs) zero x e = inl (cc)
-  in_at (y ∷ xs) (suc i) x e = inr (in_at xs i x e)
 
   pub in_filtered : (p : X → Bool) (xs : List X) (y : X) → In y xs → p y ≡ true → In y (filter p xs)
   in_filtered p [] y i e = absurd i
@@ -311,3 +289,15 @@ mapped_at g h [] ys e i x there = absurd (cc)
 mapped_at g h (w ∷ xs) [] e i x there = absurd (cc)
 mapped_at g h (w ∷ xs) (y ∷ ys) e zero x there = grind (arith, common_steps)
 mapped_at g h (w ∷ xs) (y ∷ ys) e (suc i) x there = mapped_at g h xs ys (cc) i x there
+
+-- exactly one of a list passes, where exactly one of what it is mapped to does
+pub only_map : {X Y : Type 0} (f : X → Y) (p : Y → Bool) (xs : List X) → IsOnly p (map f xs) → IsOnly (λ x. p (f x)) xs
+only_map f p xs o =
+    let m = mapped_at (λ y. y) f (map f xs) xs (map-id (map f xs)) o.place o.item o.there in
+    record {
+      place = o.place;
+      item = m.0;
+      there = m.1;
+      passes = ap p (sym m.2) ∙ o.passes;
+      only = λ j s g h. o.only j (f s) (slice_get-map f xs j ∙ ap (option_map f) g) h;
+    }

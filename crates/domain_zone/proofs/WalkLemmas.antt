@@ -1,21 +1,19 @@
 -- The walk over the records of a zone: what it knows before each group, and the owners it gives.
 use Rattle.std.proofs.Common.{◌≡◌, Bool, true, false, cond, not, ◌&&◌, ◌||◌, List, [], ◌∷◌, ◌++◌, map, refl, sym, ap, ◌∙◌, arith, ℕ, inl, inr, subst, Option}
-use Rattle.std.proofs.{Common.{Some, None, ◌↔◌, IsTrue, nat_eq}, lemmas.List.{append-nil, map-append, Elements.filter-append}}
+use Rattle.std.proofs.{Common.{Some, None}, lemmas.List.{append-nil, map-append, Elements.filter-append}}
 use Rattle.std.{proofs.lemmas.{Grind.common_steps, Bool.{cases_Bool, false≢true, true≢false}}, specs.{Prelude.filter, List.{AllByRecursion, list_any}}}
-use Rattle.std.proofs.lemmas.{Bool.{and_parts, or_cases, or_right, and_from, not-true, and_right, eqb-true}, List.Folds.list_any-append}
-use Rattle.std.{proofs.lemmas.List.Folds.{Any-from_list_any, list_any-from_Any}, specs.declared.cmp.Ordering.{Ordering, TheVariants.{Less, Equal, Greater}}}
-use Rattle.std.specs.{Ordering.{is_lt, is_gt, ordering_reverse}, Bool.then_some, Borrow.Bor, Option.option_map}
+use Rattle.std.proofs.lemmas.{Bool.{and_parts, or_cases, or_right, and_from, not-true, and_right}, List.Folds.list_any-append}
+use Rattle.std.specs.{declared.cmp.Ordering.Ordering, Ordering.{is_lt, is_gt, ordering_reverse}, Bool.then_some, Borrow.Bor, Option.option_map}
 use Rattle.domain_octets.proofs.StdLemmas.{and_true, or_false}
-use Rattle.domain_names.specs.Name.{is_at_or_below, is_strictly_below, lowered, same_name, IsSame, before, canonical_cmp, canonical_cmp_total, Name}
-use Rattle.domain_names.specs.Laws.{same_name_same}
+use Rattle.domain_names.specs.Name.{is_at_or_below, is_strictly_below, lowered, same_name, before, canonical_cmp, canonical_cmp_total, Name}
 use Rattle.domain_zone.specs.Zone.{ZoneRecord, records_of, distinct, OwnersNeverDescend, owns, has_type, occludes, is_occluded, is_unoccluded}
 use Rattle.domain_zone.specs.Zone.{unoccluded_owners, is_zone_cut, owner_at, OwnerRecords, covered_owners, stays, is_cut_group, is_passed_over, is_under}
 use Rattle.domain_zone.{specs.Zone.{occluder_from, left_owners, as_zone_record}, proofs.NameLemmas.{before_order, one_lowered, same_itself, same_is}}
-use Rattle.domain_zone.proofs.NameLemmas.{below_from, below_itself, lowered_below, same_lowered, before_left, below_trans, below_between, either_way}
-use Rattle.domain_zone.proofs.PairLemmas.{IsAscending, In}
+use Rattle.domain_zone.proofs.NameLemmas.{below_from, below_itself, lowered_below, same_lowered, before_left, below_trans, below_between}
+use Rattle.domain_zone.proofs.PairLemmas.{IsAscending, In, all_from_in}
 use Rattle.domain_base.specs.Types.{ns, dname}
 use Rattle.domain_record.specs.declared.record.Record.{Record}
-use Rattle.domain_records.{specs.{Groups.{runs, same_owner, HasFirst, IsZoneCut}, Order.{MayFollow, IsInOrder}}, proofs.GroupLemmas.begins}
+use Rattle.domain_records.{specs.{Groups.{runs, same_owner, HasFirst}, Order.{MayFollow, IsInOrder}}, proofs.GroupLemmas.runs_nil}
 
 -- ---- One step of the walk: the records of one name come after those passed, and before the rest.
 
@@ -79,7 +77,6 @@ not_strictly y r e = grind (arith, common_steps, same_is, below_from)
 pub strictly_after : (y c : Name) → before c y ≡ true → is_strictly_below y c ≡ is_at_or_below y c
 strictly_after y c e = (λ i. is_at_or_below y c && not (apart_right c y e i)) ∙ and_true (is_at_or_below y c)
 
--- ---- groups
 -- ---- groups
 
 -- the first of these isn't at this name
@@ -402,209 +399,114 @@ left_step d a o g gs R groups alike elsewhere order since rest =
 -- ---- runs
 
 module _ {X : Type 0} (alike : X → X → Bool) where
-  abbrev pub StartsApart : X → List X → Type 0
+  abbrev StartsApart : X → List X → Type 0
   StartsApart x [] = Unit {0}
   StartsApart x (y ∷ ys) = alike x y ≡ false
 
-  -- a first run has this element, others like it, and what follows begins with another
-  abbrev pub IsFirstRun : X → List X → List X → Type 0
-  IsFirstRun x [] t = ⊥
-  IsFirstRun x (y ∷ more) t = (x ≡ y) × AllByRecursion (λ z. alike x z ≡ true) more × StartsApart x t
+  -- the first run of x and what follows it has x and others like it, and what is left begins with another
+  record Split (x : X) (xs : List X) : Type 0 where
+    run : List X
+    left : List X
+    are : xs ≡ run ++ left
+    same : AllByRecursion (λ y. alike x y ≡ true) run
+    apart : StartsApart x left
+    runs_are : runs alike (x ∷ xs) ≡ (x ∷ run) ∷ runs alike left
 
-module _ {X : Type 0} (alike : X → X → Bool) (onward : (x y z : X) → alike x y ≡ true → alike x z ≡ alike y z) where
-  carried : (x y : X) (us : List X) → alike x y ≡ true → AllByRecursion (λ z. alike y z ≡ true) us → AllByRecursion (λ z. alike x z ≡ true) us
-  carried x y [] a all = tt
-  carried x y (u ∷ us) a all = (onward x y u a ∙ all.0, carried x y us a all.1)
+  module _ (onward : (x y z : X) → alike x y ≡ true → alike x z ≡ alike y z) where
+    apart_on : (x y : X) (ys : List X) → alike x y ≡ true → StartsApart y ys → StartsApart x ys
+    apart_on x y [] a h = tt
+    apart_on x y (z ∷ ys) a h = onward x y z a ∙ h
 
-  apart_run : (x y : X) (us : List X) → alike x y ≡ true → StartsApart alike y us → StartsApart alike x us
-  apart_run x y [] a h = tt
-  apart_run x y (u ∷ us) a h = onward x y u a ∙ h
+    split : (x : X) (xs : List X) → Split x xs
+    unfolding runs
+    split x [] = record { run = []; left = []; are = refl; same = tt; apart = tt; runs_are = refl }
+    split x (y ∷ ys) =
+        let s = split y ys in
+        elim (cases_Bool (alike x y)) [
+          | inl a ↦ record {
+            run = y ∷ s.run;
+            left = s.left;
+            are = ap (λ l. y ∷ l) s.are;
+            same = (a, weaker _ _ (λ z h. onward x y z a ∙ h) s.run s.same);
+            apart = apart_on x y s.left a s.apart;
+            runs_are = rw (s.runs_are, a) refl;
+          }
+          | inr a ↦ record { run = []; left = y ∷ ys; are = refl; same = tt; apart = a; runs_are = rw (s.runs_are, a) refl }
+        ]
 
-  pub first_run : (x : X) (xs g t : List X) → x ∷ xs ≡ g ++ t → runs alike (x ∷ xs) ≡ g ∷ runs alike t → IsFirstRun alike x g t
-  unfolding runs
-  first_run x [] g t e f = grind (arith, common_steps)
-  first_run x (y ∷ ys) g t e f =
-      let b = begins alike y ys in
-      elim (cases_Bool (alike x y)) [
-        | inl a ↦ grind (arith, common_steps, a, (carried x y), (apart_run x y t a), (first_run y ys (y ∷ b.0) t))
-        | inr a ↦ grind (arith, common_steps, a)
-      ]
+-- with unsigned delegations or without
+covered : (b : Bool) (L : List ZoneRecord) (a : Name) (ks : List Name)
+    → filter (stays b) (map (owner_at L a) ks) ≡ map (owner_at L a) (filter (λ n. stays b (owner_at L a n)) ks)
+covered b L a [] = refl
+covered b L a (k ∷ ks) = grind (arith, common_steps, (covered b L a ks))
 
--- ---- groups of one owner
-
-two : (n : ℕ) → n ≡ 2 → nat_eq n 2 ≡ true
-two n e = ap (λ m. nat_eq m 2) e
+-- ---- records
 
 module _ {N D : Type 0} (labels : N → Name) (rtype_of : D → ℕ) (minimum_of : D → Option ℕ) where
   abbrev see : Record N D → ZoneRecord
   see = as_zone_record labels rtype_of minimum_of
 
-  owner_key : (r s : Record N D) → same_owner labels r s ≡ true → lowered (labels r.owner) ≡ lowered (labels s.owner)
-  owner_key r s e = one_lowered (labels r.owner) (labels s.owner) e
-
   owner_onward : (r s t : Record N D) → same_owner labels r s ≡ true → same_owner labels r t ≡ same_owner labels s t
-  owner_onward r s t e = grind (arith, common_steps, owner_key)
+  owner_onward r s t e = grind (arith, common_steps, (one_lowered (labels r.owner) (labels s.owner) e))
 
   all_at : (r : Record N D) (more : List (Record N D)) → AllByRecursion (λ s. same_owner labels r s ≡ true) more
       → AllByRecursion (λ s. same_name s.owner (labels r.owner) ≡ true) (map see more)
-  all_at r more h = all_map _ see more (weaker _ _ (λ s e. same_itself (labels s.owner) (labels r.owner) (sym (owner_key r s e))) more h)
+  all_at r more h = all_map _ see more (weaker _ _ (λ s e. same_back (labels r.owner) (labels s.owner) e) more h)
 
   elsewhere : (r : Record N D) (t : List (Record N D)) → StartsApart (same_owner labels) r t → BeginsElsewhere (labels r.owner) (map see t)
   elsewhere r [] h = tt
   elsewhere r (s ∷ t) h = grind (arith, common_steps, one_lowered)
-
-  -- ---- order
 
   not_before : (r s : Record N D) → MayFollow labels rtype_of r s → before (labels s.owner) (labels r.owner) ≡ false
   not_before r s m =
       ap is_lt (canonical_cmp_total.antisymm (labels s.owner) (labels r.owner)) ∙ turned (canonical_cmp (labels r.owner) (labels s.owner)) ∙ m.owner
     where
       turned : (o : Ordering) → is_lt (ordering_reverse o) ≡ is_gt o
-      turned Less = refl
-      turned Equal = refl
-      turned Greater = refl
+      turned o = grind (arith, common_steps)
 
   pub owners_in_order : (rs : List (Record N D)) → IsInOrder labels rtype_of rs → OwnersNeverDescend (map see rs)
   owners_in_order [] h = tt
   owners_in_order (r ∷ rs) h = (all_map _ see rs (weaker _ _ (not_before r) rs h.0), owners_in_order rs h.1)
 
-  -- ---- zone cuts
+  -- ---- What an iterator over the owners that are not occluded has left to give.
 
-  pub cut_test : (b : Bool) (a : Name) (owner : N) (group : List (Record N D)) → HasFirst (λ r. r.owner ≡ owner) group
-      → (IsTrue b ↔ IsZoneCut labels rtype_of a group) → b ≡ (not (same_name (labels owner) a) && has_type (map see group) 2)
-  cut_test b a owner [] h f = absurd h
-  cut_test b a owner (g ∷ more) h f =
-      either_way b (not (same_name (labels owner) a) && has_type (map see (g ∷ more)) 2)
-      (λ e.
-      let cut = f.0 e in
-      let ns = cut.delegates in
-      let typed = types ∙ list_any-from_Any (λ r. nat_eq (rtype_of r.«data») 2) (g ∷ more) (ns.0, ns.1, ns.2, ns.3, two (rtype_of ns.1.«data») ns.4) in
-      (λ i. not (apart_run cut.below i) && typed i)) (λ e. f.1 (says e))
-    where
-      types : has_type (map see (g ∷ more)) 2 ≡ list_any (λ r. nat_eq (rtype_of r.«data») 2) (g ∷ more)
-      types = any_map (λ r. nat_eq r.rtype 2) see (g ∷ more)
+  module _ (d : Bool) (a : Name) where
+    -- the next owner, where tests tell whether it is a zone cut and whether it owns a DNAME record
+    pub left_given : (o : Option Name) (rs group rest : List (Record N D)) (owner : Bor N)
+        → runs (same_owner labels) rs ≡ group ∷ runs (same_owner labels) rest → HasFirst (λ r. r.owner ≡ owner.now) group
+        → false ≡ is_passed_over a o (labels owner.now) → (cut owns : Bool) → cut ≡ is_cut_group a (labels owner.now) (map see group)
+        → owns ≡ has_type (map see group) dname → (next : Option (Bor N)) → next ≡ then_some (cut || (d && owns)) owner
+        → left_owners d a o (map (map see) (runs (same_owner labels) rs))
+        ≡ record { name = labels owner.now; records = map see group; is_zone_cut = cut }
+        ∷ left_owners d a (option_map (λ n. labels n.now) next) (map (map see) (runs (same_owner labels) rest))
+    left_given o rs [] rest owner run h e cut owns tested typed next is = absurd h
+    left_given o rs (r ∷ group) rest owner run h e cut owns tested typed next is = rw run (grind (arith, common_steps))
 
-      apart_run : ¬ (IsSame (labels g.owner) a) → same_name (labels owner) a ≡ false
-      apart_run n = elim (cases_Bool (same_name (labels owner) a)) [
-        | inl e ↦ absurd (n ((same_name_same (labels g.owner) a).0 (ap (λ o. same_name (labels o) a) h ∙ e)))
-        | inr e ↦ e
-      ]
+    -- what the groups that are left give is what the records that are left tell
+    left_all : (gs : List (List (Record N D))) (rest : List (Record N D)) (o : Option Name) → runs (same_owner labels) rest ≡ gs
+        → OwnersNeverDescend (map see rest) → AllByRecursion (λ r. IsSince o r.owner) (map see rest)
+        → found d a o (map see rest) ≡ left_owners d a o (map (map see) (runs (same_owner labels) rest))
+    left_all gs [] o e order since = rw (runs_nil (same_owner labels) [] refl) refl
+    left_all [] (r ∷ rest) o e order since = let s = split (same_owner labels) owner_onward r rest in absurd (cc (s.runs_are))
+    left_all (g ∷ gs) (r ∷ rest) o e order since =
+        let s = split (same_owner labels) owner_onward r rest in
+        let parted = ap (λ l. map see (r ∷ l)) s.are ∙ map-append see (r ∷ s.run) s.left in
+        let in_order = subst OwnersNeverDescend parted order in
+        let others : runs (same_owner labels) s.left ≡ gs = cc (s.runs_are) in
+        rw s.runs_are (ap (found d a o) parted
+        ∙ left_step d a o (see r) (map see s.run) (map see s.left) (map (map see) (runs (same_owner labels) s.left)) (all_at r s.run s.same)
+        (elsewhere r s.left s.apart) in_order (subst (AllByRecursion (λ r. IsSince o r.owner)) parted since)
+        (λ o since. left_all gs s.left o others (in_order_after (map see (r ∷ s.run)) (map see s.left) in_order) since))
 
-      -- what the test says
-      says : (not (same_name (labels owner) a) && has_type (map see (g ∷ more)) 2) ≡ true → IsZoneCut labels rtype_of a (g ∷ more)
-      says e =
-          let p = and_parts (not (same_name (labels owner) a)) (has_type (map see (g ∷ more)) 2) e in
-          let found = Any-from_list_any (λ r. nat_eq (rtype_of r.«data») 2) (g ∷ more) (sym types ∙ p.1) in
-          record {
-            below = λ s. false≢true (sym (not-true (same_name (labels owner) a) p.0) ∙ ap (λ o. same_name (labels o) a) (sym h)
-                ∙ (same_name_same (labels g.owner) a).1 s);
-            delegates = (found.0, found.1, found.2, found.3, eqb-true (rtype_of found.1.«data») 2 found.4);
-          }
+    -- at last none are
+    pub left_none : (o : Option Name) (rs : List (Record N D)) → rs ≡ [] → left_owners d a o (map (map see) (runs (same_owner labels) rs)) ≡ []
+    left_none o rs e = rw (runs_nil (same_owner labels) rs e) refl
 
--- ---- What an iterator over the owners that are not occluded has left to give.
-
--- ---- one group
-
-module _ {N D : Type 0} (labels : N → Name) (rtype_of : D → ℕ) (minimum_of : D → Option ℕ) (d : Bool) (a : Name) (o : Option Name) where
-  abbrev seen : Record N D → ZoneRecord
-  seen = as_zone_record labels rtype_of minimum_of
-
-  -- the next owner, where tests tell whether it is a zone cut and whether it owns a DNAME record
-  pub left_given : (group : List (Record N D)) (owner : Bor N) (gs : List (List ZoneRecord)) → HasFirst (λ r. r.owner ≡ owner.now) group
-      → is_passed_over a o (labels owner.now) ≡ false → (cut owns : Bool) → cut ≡ is_cut_group a (labels owner.now) (map seen group)
-      → owns ≡ has_type (map seen group) dname → (next : Option (Bor N)) → next ≡ then_some (cut || (d && owns)) owner
-      → left_owners d a o (map seen group ∷ gs) ≡ record { name = labels owner.now; records = map seen group; is_zone_cut = cut }
-      ∷ left_owners d a (option_map (λ n. labels n.now) next) gs
-  left_given [] owner gs h e cut owns tested typed next is = absurd h
-  left_given (r ∷ rs) owner gs h e cut owns tested typed next is = grind (arith, common_steps)
-
--- ---- runs, one after another
-
-module _ {X : Type 0} (alike : X → X → Bool) where
-  -- what follows the first run
-  pub runs_rest : (xs g : List X) (gs : List (List X)) → runs alike xs ≡ g ∷ gs → (t : List X) × (xs ≡ g ++ t) × (runs alike t ≡ gs)
-  unfolding runs
-  runs_rest [] g gs e = absurd (cc)
-  runs_rest (x ∷ xs) g gs e = grind (arith, common_steps, (runs_rest xs))
-
-  no_runs : (g : List X) (gs : List (List X)) → runs alike [] ≡ g ∷ gs → ⊥
-  unfolding runs
-  no_runs g gs e = cc
-
-  -- a list without runs is empty
-  pub runs_none : (xs : List X) → runs alike xs ≡ [] → xs ≡ []
-  unfolding runs
-  runs_none [] e = refl
-  runs_none (x ∷ xs) e = grind (arith, common_steps)
-
-  pub runs_first : (x : X) (xs g : List X) (gs : List (List X)) → runs alike (x ∷ xs) ≡ g ∷ gs → HasFirst (λ y. y ≡ x) g
-  unfolding runs
-  runs_first x xs g gs e = grind (arith, common_steps)
-
--- ---- all groups
-
-module _ {N D : Type 0} (labels : N → Name) (rtype_of : D → ℕ) (minimum_of : D → Option ℕ) (d : Bool) (a : Name) where
-  abbrev see_record : Record N D → ZoneRecord
-  see_record = as_zone_record labels rtype_of minimum_of
-
-  -- what the groups that are left give is what the records that are left tell
-  left_all : (gs : List (List (Record N D))) (rest : List (Record N D)) (o : Option Name) → runs (same_owner labels) rest ≡ gs
-      → OwnersNeverDescend (map see_record rest) → AllByRecursion (λ r. IsSince o r.owner) (map see_record rest)
-      → found d a o (map see_record rest) ≡ left_owners d a o (map (map see_record) gs)
-  left_all [] rest o e order since = grind (arith, common_steps, runs_none)
-  left_all (group ∷ gs) [] o e order since = absurd (no_runs (same_owner labels) group gs e)
-  left_all (group ∷ gs) (r ∷ rest) o e order since =
-      let more = runs_rest (same_owner labels) (r ∷ rest) group gs e in
-      let t = more.0 in
-      go t group more.1 (first_run (same_owner labels) (owner_onward labels rtype_of minimum_of) r rest group t more.1 (e ∙ ap (λ h. group ∷ h) (sym more.2)))
-      (λ o order since. left_all gs t o more.2 order since)
-    where
-      go : (t group : List (Record N D)) → r ∷ rest ≡ group ++ t → IsFirstRun (same_owner labels) r group t
-          → ((o : Option Name) → OwnersNeverDescend (map see_record t) → AllByRecursion (λ r. IsSince o r.owner) (map see_record t)
-          → found d a o (map see_record t) ≡ left_owners d a o (map (map see_record) gs))
-          → found d a o (map see_record (r ∷ rest)) ≡ left_owners d a o (map see_record group ∷ map (map see_record) gs)
-      go t [] is run after = absurd run
-      go t (g ∷ group) is run after =
-          let split = ap (map see_record) is ∙ map-append see_record (g ∷ group) t in
-          let in_order = subst OwnersNeverDescend split order in
-          let key = sym (ap (λ x. labels x.owner) run.0) in
-          ap (found d a o) split ∙ left_step d a o (see_record g) (map see_record group) (map see_record t) (map (map see_record) gs)
-          (subst (λ n. AllByRecursion (λ s. same_name s.owner n ≡ true) (map see_record group)) (sym key) (all_at labels rtype_of minimum_of r group run.1))
-          (subst (λ n. BeginsElsewhere n (map see_record t)) (sym key) (elsewhere labels rtype_of minimum_of r t run.2)) in_order
-          (subst (AllByRecursion (λ r. IsSince o r.owner)) split since)
-          (λ o since. after o (in_order_after (map see_record (g ∷ group)) (map see_record t) in_order) since)
-
-always : {X : Type 0} (xs : List X) → AllByRecursion (λ (x : X). Unit {0}) xs
-always [] = tt
-always (x ∷ xs) = (tt, always xs)
-
--- at first all are left
-left_first : {N D : Type 0} (labels : N → Name) (rtype_of : D → ℕ) (minimum_of : D
-    → Option ℕ) (d : Bool) (a : Name) (rs : List (Record N D)) → IsInOrder labels rtype_of rs
-    → left_owners d a None (map (map (as_zone_record labels rtype_of minimum_of)) (runs (same_owner labels) rs))
-    ≡ map (owner_at (map (as_zone_record labels rtype_of minimum_of) rs) a) (unoccluded_owners d (map (as_zone_record labels rtype_of minimum_of) rs) a)
-left_first labels rtype_of minimum_of d a rs h =
-    sym (left_all labels rtype_of minimum_of d a _ rs None refl (owners_in_order labels rtype_of minimum_of rs h) (always _))
-
--- at last none are
-pub left_none : {N D : Type 0} (labels : N → Name) (rtype_of : D → ℕ) (minimum_of : D
-    → Option ℕ) (d : Bool) (a : Name) (o : Option Name) (rs : List (Record N D)) → rs ≡ []
-    → left_owners d a o (map (map (as_zone_record labels rtype_of minimum_of)) (runs (same_owner labels) rs)) ≡ []
-unfolding runs
-left_none labels rtype_of minimum_of d a o rs e = grind (arith, common_steps)
-
--- ---- with unsigned delegations or without
-
-covered : (b : Bool) (L : List ZoneRecord) (a : Name) (ks : List Name)
-    → filter (stays b) (map (owner_at L a) ks) ≡ map (owner_at L a) (filter (λ n. stays b (owner_at L a n)) ks)
-covered b L a [] = refl
-covered b L a (k ∷ ks) = grind (arith, common_steps, (covered b L a ks))
-
-pub covered_first : {N D : Type 0} (labels : N → Name) (rtype_of : D → ℕ) (minimum_of : D → Option ℕ) (b d : Bool) (a : Name)
-    (rs : List (Record N D)) → IsInOrder labels rtype_of rs
-    → filter (stays b) (left_owners d a None (map (map (as_zone_record labels rtype_of minimum_of)) (runs (same_owner labels) rs)))
-    ≡ covered_owners b d (map (as_zone_record labels rtype_of minimum_of) rs) a
-covered_first labels rtype_of minimum_of b d a rs h = ap (filter (stays b)) (left_first labels rtype_of minimum_of d a rs h) ∙ covered b _ a _
+    -- at first all are, with unsigned delegations or without
+    pub covered_first : (b : Bool) (rs : List (Record N D)) → IsInOrder labels rtype_of rs
+        → filter (stays b) (left_owners d a None (map (map see) (runs (same_owner labels) rs))) ≡ covered_owners b d (map see rs) a
+    covered_first b rs h =
+        ap (filter (stays b)) (sym (left_all _ rs None refl (owners_in_order rs h) (all_from_in (λ r. Unit {0}) (map see rs) (λ r i. tt)))) ∙ covered b _ a _
 
 -- one of those that are left stays, or not
 pub stays_on : (b : Bool) (o : OwnerRecords) (os : List OwnerRecords) → stays b o ≡ true → filter (stays b) (o ∷ os) ≡ o ∷ filter (stays b) os

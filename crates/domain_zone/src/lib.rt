@@ -14,6 +14,8 @@ mod listed;
 mod owners;
 mod soa;
 
-pub use listed::{ChainTypes, ListedOwners, add_type, add_types, list_owners, uneven_type};
+pub use listed::{
+    ChainTypes, ListedOwners, add_type, add_types, list_owners, list_types, uneven_type,
+};
 pub use owners::{UnoccludedOwner, UnoccludedOwners, has_type};
 pub use soa::{ApexSoa, find_soa};

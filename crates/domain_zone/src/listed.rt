@@ -1,7 +1,8 @@
 //! The types of an owner, gathered into a set.
-ghost use Rattle.std.specs.Prelude.{◌≡◌, ◌||◌, ◌==◌, ℕ, ◌<◌, OnOk, ◌≤◌, false, IfNone, IfSome, ◌∷◌, ◌++◌, []};
+ghost use Rattle.std.specs.Prelude.{◌≡◌, ◌&&◌, ◌||◌, ◌==◌, ℕ, ◌<◌, OnOk, ◌≤◌, false, IfNone, IfSome, ◌∷◌, ◌++◌, []};
 ghost use Rattle.std.specs.Prelude.{Bool, IfOk, IfErr, IsOkAnd};
-ghost use Rattle.domain_bitmap.specs.Blocks.{holds};
+ghost use Rattle.domain_base.specs.Types.{dnskey, rrsig};
+ghost use Rattle.domain_bitmap.specs.{Bitmap.bitmap_octets, Blocks.holds};
 ghost use Rattle.domain_zone.specs.Zone.{zone_of, as_zone_record, may_list, lists_type, clashes, has_clash};
 ghost use Rattle.domain_zone.specs.Zone.{IsFirstClash, AreListed, IsListingFault, covered_names, OwnerRecords};
 ghost use Rattle.domain_zone.specs.Zone.{as_owner_records};
@@ -60,6 +61,49 @@ pub fn add_types<B: GrowingBuilder, N: ToName, D: ZoneData>(
         }
     }
     Ok(())
+}
+
+/// Adds a type where it is wanted.
+fn add_wanted<B: GrowingBuilder>(
+    types: &mut RtypeBitmapBuilder<B>,
+    rtype: Rtype,
+    wanted: bool,
+) -> Result<(), OutOfMemory>
+    ensures { OnOk result ((t : ℕ) → t < 65536
+        → holds types.new t ≡ (((t == rtype) && wanted) || holds types.old t)) }
+{
+    if wanted {
+        add_type(types, rtype)?;
+    }
+    Ok(())
+}
+
+/// The types that a chain lists of an owner: RRSIG, a type of the chain's own, and DNSKEY, each
+/// where it is wanted, and those of the owner's records as `add_types` has them.
+///
+/// # Errors
+///
+/// `OutOfMemory`.
+pub fn list_types<N: ToName, D: ZoneData>(
+    alloc: Global,
+    owner: &UnoccludedOwner<'_, N, D>,
+    wants_rrsig: bool,
+    own: Rtype,
+    wants_own: bool,
+    wants_dnskey: bool,
+) -> Result<RtypeBitmap<Vec<u8>>, OutOfMemory>
+    ensures { IfOk result (λ types. types ≡ bitmap_octets (λ t.
+        (((t == rrsig) && wants_rrsig) || ((t == own) && wants_own)
+        || ((t == dnskey) && wants_dnskey))
+        || lists_type owner.now.is_zone_cut
+        (zone_of N.labels D.rtype D.minimum owner.now.records) t)) }
+{
+    let mut types = RtypeBitmapBuilder::<Vec<u8>>::new(alloc);
+    add_wanted(&mut types, Rtype::RRSIG, wants_rrsig)?;
+    add_wanted(&mut types, own, wants_own)?;
+    add_wanted(&mut types, Rtype::DNSKEY, wants_dnskey)?;
+    add_types(&mut types, owner.records.records(), owner.is_zone_cut)?;
+    Ok(types.finalize())
 }
 
 /// Whether two records of one type other than RRSIG differ in their TTLs.

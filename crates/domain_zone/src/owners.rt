@@ -127,7 +127,8 @@ impl<'a, N: ToName, D: ZoneData> Iterator for UnoccludedOwners<'a, N, D> {
             if is_passed_over(self.apex, self.occluder, name) {
                 continue;
             }
-            let is_zone_cut = records.is_zone_cut(self.apex);
+            let owns_ns = has_type(records.records(), Rtype::NS);
+            let is_zone_cut = !name.name_eq(self.apex) & owns_ns;
             let owns_dname = has_type(records.records(), Rtype::DNAME);
             self.occluder = (is_zone_cut | (self.below_dname & owns_dname)).then_some(name);
             let owner = UnoccludedOwner {

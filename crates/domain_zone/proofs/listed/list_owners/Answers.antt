@@ -1,5 +1,5 @@
-use Rattle.std.proofs.{Common.{arith, sym, ap, map, subst, ◌∙◌}, lemmas.Grind.common_steps}
-use Rattle.domain_zone.{specs.Zone.{as_zone_record, zone_of, has_clash}, proofs.GivenLemmas.{raw_types, types_at, clash_told, NeverDescend, at_start}}
+use Rattle.std.proofs.{Common.{arith, sym, ap, map, subst}, lemmas.Grind.common_steps}
+use Rattle.domain_zone.{specs.Zone.{as_zone_record}, proofs.GivenLemmas.{raw_types, types_at, clash_told, NeverDescend, at_start}}
 use Rattle.domain_zone.proofs.GivenLemmas.{next_known, next_listed, next_uneven}
 use Rattle.domain_zone.proofs.listed.list_owners.Goals as goal
 
@@ -15,12 +15,7 @@ uneven_type-requires g c =
     (subst NeverDescend (sym (ap (λ p. p.records) known)) (types_at labels _ _ _ _ c.requires)))
 
 pub returns-then-is_some-clause-fault : goal.returns-then-is_some-clause-fault
-returns-then-is_some-clause-fault g c =
-    next_uneven c.owners.invariant c.in-Some.ensures.steps
-    (ap (λ rs. has_clash (zone_of g.N.ToName.labels g.D.RecordData.rtype g.D.ZoneData.minimum rs)) (sym c.records.ensures)
-    ∙ clash_told _ c.uneven_type.result (sym c.is_some.ensures ∙ c.if-is_some.true) c.uneven_type.ensures.some)
+returns-then-is_some-clause-fault g c = grind (arith, common_steps, next_uneven, clash_told)
 
 pub owners-preserved : goal.owners-preserved
-owners-preserved g c =
-    next_listed c.owners.invariant c.in-Some.ensures.steps (grind (arith, common_steps)) c.add.ensures.room
-    (grind (arith, common_steps)) (grind (arith, common_steps))
+owners-preserved g c = grind (arith, common_steps, next_listed)
