@@ -35,12 +35,6 @@ pub canonical_cmp-more : (xs ys : Name) (x y : List ℕ) → length xs ≡ lengt
 unfolding canonical_cmp
 canonical_cmp-more xs ys x y same = grind (arith, common_steps, (push (slice_cmp nat_cmp) (pointwise nat_eq)))
 
--- and is shared where both are the same as far as it
-pub common_labels-more : (xs ys : Name) (x y : List ℕ) → length xs ≡ length ys
-    → common_labels (x ∷ xs) (y ∷ ys) ≡ common_labels xs ys + cond (is_eq (canonical_cmp (x ∷ xs) (y ∷ ys))) 1 0
-unfolding canonical_cmp
-common_labels-more xs ys x y same = grind (arith, common_steps, push, (lists_ties _ texts_ties (from_root (x ∷ xs)) (from_root (y ∷ ys))))
-
 from_root-drop : (n k : ℕ) (name : Name) → k ≡ length name - n → from_root (drop n name) ≡ take k (from_root name)
 from_root-drop n k name is =
     grind (arith, common_steps, (drop-map (map to_ascii_lowercase) n name), (ap reverse (take-append-drop n (map (map to_ascii_lowercase) name))))
@@ -71,8 +65,9 @@ pub compared_goes : {xs ys a b x y : Name} {order : Ordering} {alike : ℕ} (so_
     (here then : Ordering) (more : ℕ) → a ≡ label ∷ x → b ≡ other ∷ y
     → here ≡ slice_cmp nat_cmp (map to_ascii_lowercase label) (map to_ascii_lowercase other) → then ≡ ordering_then here order
     → more ≡ cond (is_eq here) (alike + 1) 0 → Compared xs ys x y then more
+unfolding canonical_cmp
 compared_goes {x = x} {y = y} so_far label other here then more a_is b_is is then_is more_is =
-    grind (arith, common_steps, (canonical_cmp-more x y label other), (common_labels-more x y label other))
+    let ties = lists_ties _ texts_ties (from_root (label ∷ x)) (from_root (other ∷ y)) in grind (arith, common_steps, push, ties)
 
 all_shared : (name : Name) → common_prefix_len (pointwise nat_eq) name name ≡ length name
 all_shared [] = refl

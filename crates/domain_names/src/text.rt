@@ -1,11 +1,10 @@
 //! Names as text (RFC 1035, section 5.1).
-ghost use Rattle.std.specs.Prelude.{◌≡◌, ◌≢◌, ℕ, Some, None, drop, slice_index, ◌+◌, ◌<◌, ◌≤◌, ◌∷◌, ◌++◌, [], ◌⊎◌, length, take, IfSome, IfNone, IsSome, OnSome, OnOk, IsTrue, ◌↔◌};
+ghost use Rattle.std.specs.Prelude.{◌≡◌, ◌≢◌, ℕ, Some, None, drop, slice_index, ◌+◌, ◌<◌, ◌≤◌, ◌∷◌, ◌++◌, [], ◌⊎◌, length, IfSome, IfNone, IsSome, OnSome, OnOk, IsTrue, ◌↔◌};
 ghost use Rattle.std.specs.Fmt.{WritesOnOk};
-ghost use Rattle.std.specs.Str.{IsAscii};
 ghost use Rattle.domain_octets.specs.{Text.dot, Octets.Octets};
 ghost use Rattle.domain_names.specs.{Name.{wire_of, IsLabel, IsName, Label, Name}, Text.{symbol_at, LabelText}};
 ghost use Rattle.domain_names.specs.Text.{LabelTexts, IsBefore, HasNoLabel, HasNoLabelAfter, NameText};
-ghost use Rattle.domain_names.specs.Text.{IsNoName, is_special, octet_text, label_text, dotted_text, name_text};
+ghost use Rattle.domain_names.specs.Text.{IsNoName, is_special, octet_text, dotted_text, name_text};
 ghost use Rattle.domain_names.specs.Wire.{labels_of, IsWire};
 
 use crate::wire;

@@ -1,6 +1,6 @@
 //! Names on the wire, as octets.
 ghost use Rattle.std.specs.Prelude.{◌≡◌, ◌<◌, ◌≤◌, ◌∷◌, [], length, map, drop, IfSome, IfNone};
-ghost use Rattle.std.specs.Prelude.{IsTrue, IfOk, IfErr, OnOk, false, ◌++◌, ◌↔◌, fold, option_map};
+ghost use Rattle.std.specs.Prelude.{IsTrue, IfOk, IfErr, OnOk, ◌++◌, ◌↔◌, fold};
 ghost use Rattle.std.specs.{Char.to_ascii_lowercase, Ordering.nat_cmp, Cmp.Lexicographic.slice_cmp};
 ghost use Rattle.std.specs.Hash as fed;
 ghost use Rattle.domain_names.specs.Name.{wire_of, lowered, IsSame, same_name, IsAtOrBelow, is_at_or_below};

@@ -9,4 +9,6 @@ returns-in_err-ok-clause-none c =
     rw is (no_label_by_plain c.args.text.now c.plain_len-plain.result c.plain_len-plain.ensures.within c.plain_len-plain.ensures.plain long)
 
 pub loop-octet-init : goal.loop-octet-init
-loop-octet-init c = grind (arith, common_steps, (spelling_plain c.args.text.now c.plain_len-plain.result c.plain_len-plain.ensures.within c.plain_len-plain.ensures.plain))
+loop-octet-init c =
+    let plain = c.plain_len-plain.ensures in
+    grind (arith, common_steps, (spelling_plain c.args.text.now c.plain_len-plain.result plain.within plain.plain))
