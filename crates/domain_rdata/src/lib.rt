@@ -14,7 +14,6 @@
 pub mod laws;
 mod zone_octets;
 mod zone_record_data;
-mod zone_text;
 
 pub use domain_bitmap::{
     CountedOctets, Nsec3Salt, Nsec3SaltError, Nsec3SaltFromStrError, OwnerHash, OwnerHashError,

@@ -146,17 +146,7 @@ fn rrsig_of<O: FromBuilder + Drop, N: MakeName + Drop>(
     let data: Rrsig<&[u8], ParsedName<'_>> = whole(Rtype::RRSIG, octets)?;
     let signer_name = name_like(alloc, data.signer_name())?;
     let signature = octets_like(alloc, data.signature())?;
-    Ok(Rrsig::new_unchecked(
-        data.type_covered(),
-        data.algorithm(),
-        data.labels(),
-        data.original_ttl(),
-        data.expiration(),
-        data.inception(),
-        data.key_tag(),
-        signer_name,
-        signature,
-    ))
+    Ok(data.with_octets(signer_name, signature))
 }
 
 /// The parameters that octets are.
