@@ -4,9 +4,9 @@ use Rattle.domain_record.specs.declared.record.Record.{Record}
 use Rattle.domain_names.specs.Name.{Name}
 use Rattle.domain_nsec.specs.{declared.config.GenerateNsecConfig.GenerateNsecConfig, Chain.IsFirstFault}
 use Rattle.domain_nsec3.specs.Chain.{ChainConfig, IsFirstFault as IsFirstHashedFault}
-use Rattle.domain_dnssec.specs.AnyOrder.{Sorts, HasNoChain, HasNoHashedChain, chain_error_of}
+use Rattle.domain_dnssec.specs.AnyOrder.{Sorts, OfZone, HasNoChain, HasNoHashedChain, chain_error_of}
 use Rattle.domain_records.specs.{Order.IsOneClass, declared.error.SigningError.SigningError}
-use Rattle.domain_zone.specs.Zone.{zone_of}
+use Rattle.domain_zone.specs.Zone.{zone_of, OwnersNeverDescend, ZoneRecord}
 
 -- where the zone of the sorted set has a fault, that is why the given records have no chain
 module _ {N D : Type 0} (labels : N → Name) (rtype_of : D → ℕ) (minimum_of : D → Option ℕ) (data_cmp : D → D → Ordering)
@@ -19,3 +19,16 @@ module _ {N D : Type 0} (labels : N → Name) (rtype_of : D → ℕ) (minimum_of
   pub no_hashed_chain : (config : ChainConfig) (e : SigningError) → IsFirstHashedFault (zone_of labels rtype_of minimum_of sorted) apex config e
       → HasNoHashedChain labels rtype_of minimum_of data_cmp given apex config (chain_error_of e)
   no_hashed_chain config e h = grind (arith, common_steps)
+
+-- what is told of the zone of the sorted set, whose owners never descend, tells more of it
+module _ {N D : Type 0} {labels : N → Name} {rtype_of : D → ℕ} {minimum_of : D → Option ℕ} {data_cmp : D → D → Ordering}
+    (order : (given sorted : List (Record N D)) → Sorts labels rtype_of data_cmp given sorted → IsOneClass sorted
+    → OwnersNeverDescend (zone_of labels rtype_of minimum_of sorted)) where
+  pub of_zone : {given : List (Record N D)} {P Q : List ZoneRecord → Type 0} → ((L : List ZoneRecord) → OwnersNeverDescend L → P L → Q L)
+      → OfZone labels rtype_of minimum_of data_cmp given P → OfZone labels rtype_of minimum_of data_cmp given Q
+  of_zone {given} f h = record {
+    sorted = h.sorted;
+    sorts = h.sorts;
+    one_class = h.one_class;
+    zone = f (zone_of labels rtype_of minimum_of h.sorted) (order given h.sorted h.sorts h.one_class) h.zone;
+  }

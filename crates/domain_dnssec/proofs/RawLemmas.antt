@@ -1,17 +1,17 @@
 -- Records whose data are octets in canonical form say what the records say whose data these are.
-use Rattle.std.proofs.{Common.{◌≡◌, ℕ, List, [], ◌∷◌, map, refl, sym, ap, ◌∙◌, subst, arith}, lemmas.{Grind.common_steps, List.Elements.recursion_from_All}}
-use Rattle.std.specs.{Prelude.{◌≢◌, Contains}, List.AllByRecursion}
+use Rattle.std.proofs.{Common.{◌≡◌, ℕ, List, [], ◌∷◌, map, refl, sym, ap, ◌∙◌, subst, arith}, lemmas.Grind.common_steps}
+use Rattle.std.{proofs.lemmas.List.Elements.{All-contains, All-weaker, recursion_from_All}, specs.{Prelude.{◌≢◌, Contains}, List.AllByRecursion}}
 use Rattle.domain_octets.specs.Octets.{Octets}
 use Rattle.domain_names.specs.Name.{Name}
 use Rattle.domain_record.specs.{Record.{record_cmp, record_cmp_total}, declared.record.Record.Record}
 use Rattle.domain_rdata.specs.{Zone.{data_cmp, minimum_of, rtype_of}, declared.zone_record_data.ZoneRecordData.{ZoneRecordData, TheVariants.{Soa, Unknown}}}
 use Rattle.domain_records.specs.{Order.IsOneClass, declared.error.SigningError.{SigningError, TheVariants.OutOfMemory as NoRoom}}
-use Rattle.domain_zone.{specs.Zone.{zone_of, ZoneRecord}, proofs.PairLemmas.{all_in, all_from_in}}
+use Rattle.domain_zone.specs.Zone.{zone_of, ZoneRecord}
 use Rattle.domain_borrowed.specs.Data.{RawRecord, zone_of_raw, data_cmp as raw_cmp, data_cmp_total as raw_cmp_total, minimum_of as raw_minimum}
 use Rattle.domain_borrowed.proofs.MinimumLemmas.{minimum_last}
 use Rattle.domain_dnssec.specs.{RawRecords.{HaveOneChain, TellMinima, TellsMinimum, raw_data, raw_record}, AnyOrder.{HasNone, IsWholeHashedChain, OfZone}}
 use Rattle.domain_dnssec.specs.declared.chain.ChainError.{ChainError, TheVariants.MixedClasses}
-use Rattle.domain_dnssec.{specs.declared.chain.ChainError.TheVariants.{Sort, Signing, OutOfMemory}, proofs.{AmongLemmas.contains_in, MappedLemmas.sets_back}}
+use Rattle.domain_dnssec.{specs.declared.chain.ChainError.TheVariants.{Sort, Signing, OutOfMemory}, proofs.MappedLemmas.sets_back}
 use Rattle.domain_nsec.specs.Chain.{IsChain, IsFaultless, IsFirstFault}
 use Rattle.domain_nsec3.specs.Chain.{IsReady, IsFirstFault as IsFirstHashedFault}
 
@@ -50,15 +50,13 @@ module _ {O N : Type 0} (octets : O → Octets) (labels : N → Name) where
     of_zone is u =
         let s = sets_back see (record_cmp (λ n. n) (λ d. d.rtype) raw_cmp) (record_cmp_total (λ n. n) (λ d. d.rtype) raw_cmp raw_cmp_total) given
         u.sorted u.sorts in
-        let among : AllByRecursion (Contains given) s.0 = recursion_from_All (Contains given) s.0 s.1.set.among in
-        let told : AllByRecursion (λ r. TellsMinimum r.«data») s.0 = all_from_in (λ r. TellsMinimum r.«data») s.0 (λ r i.
-        all_in (λ q. TellsMinimum q.«data») given r (recursion_from_All (λ q. TellsMinimum q.«data») given tell)
-        (contains_in given r (all_in (Contains given) s.0 r among i))) in
+        let told = All-weaker (Contains given) (λ r. TellsMinimum r.«data») (λ r c. All-contains (λ q. TellsMinimum q.«data») given r tell c) s.0
+        s.1.set.among in
         record {
           sorted = s.0;
           sorts = s.1;
           one_class = subst (λ (T : Type 0). T) (classes_seen s.0) (subst IsOneClass (sym s.2) u.one_class);
-          zone = subst is (ap zone_of_raw (sym s.2) ∙ zone_same s.0 told) u.zone;
+          zone = subst is (ap zone_of_raw (sym s.2) ∙ zone_same s.0 (recursion_from_All (λ r. TellsMinimum r.«data») s.0 told)) u.zone;
         }
 
     -- why they have no chain, where these are the faults of their zone, and this holds where memory is wanting

@@ -126,6 +126,7 @@ pub fn answers_tell_of_records<N: ToName, D: ZoneData + CanonicalOrd>()
 /// has them, have the chain that the records have whose data these are, and where they have none,
 /// these have none, for the same reason. So a chain that was made of octets is one of the data that
 /// were composed.
+#[tactic(auto, using(crate::proofs::RawLemmas::one_chain))]
 pub fn octets_have_the_chain_of_their_data<O: Octets, N: ToName>()
     ensures { (given : List (Record N (ZoneRecordData O N))) → TellMinima given
         → HaveOneChain O.octets N.labels (map (raw_record O.octets N.labels) given) given }

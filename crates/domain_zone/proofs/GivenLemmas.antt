@@ -1,10 +1,9 @@
 -- What is found of the owners of a zone: the SOA, their TTLs and types, and what a chain lists.
-use Rattle.std.proofs.Common.{◌≡◌, List, [], ◌∷◌, ◌++◌, Option, Some, None, true, false, cond, nat_eq, refl, ap, ◌∙◌, inl, inr, ◌≤◌, ◌<◌, ℕ, Bool}
-use Rattle.std.proofs.{Common.{◌&&◌, ◌||◌, map, sym, subst, arith, append_assoc, is_some, IfSome, IfNone, map-id}, lemmas.Bool.{cases_Bool, or_parts}}
-use Rattle.std.{proofs.lemmas.Bool.{and_right, eq-eqb, false≢true, Decides.nat_tests}, specs.Prelude.{filter, if◌then◌else◌}}
+use Rattle.std.proofs.Common.{◌≡◌, List, [], ◌∷◌, ◌++◌, Option, Some, None, true, false, nat_eq, refl, ap, ◌∙◌, inl, inr, ◌≤◌, ◌<◌, ℕ, Bool}
+use Rattle.std.proofs.{Common.{◌&&◌, ◌||◌, map, sym, subst, arith, append_assoc, is_some, IfSome, IfNone, map-id}, lemmas.Bool.{cases_Bool}}
+use Rattle.std.{proofs.lemmas.Bool.{eq-eqb, false≢true, Decides.nat_tests}, specs.Prelude.{filter, if◌then◌else◌}}
 use Rattle.std.{proofs.lemmas.{Grind.common_steps, Simd.map-map}, specs.List.{list_any, AllByRecursion}}
 use Rattle.domain_names.specs.{Name.{same_name, Name}, Laws.same_name_same}
-use Rattle.domain_base.specs.Types.{soa}
 use Rattle.domain_zone.specs.Zone.{of_only, is_soa, soa_of, ZoneRecord, owns, clashes, has_clash, IsFirstClash, lists_type, may_list, records_of}
 use Rattle.domain_zone.specs.{Zone.{unoccluded_owners, has_unequal_ttls, as_zone_record, OwnerRecords, covered_names, owner_at}, declared.soa.ApexSoa.ApexSoa}
 use Rattle.domain_zone.proofs.{PairLemmas.{in_filter, in_filtered, In, all_in, all_from_in}, WalkLemmas.{any_two, any_in, filter_none}}

@@ -1,12 +1,12 @@
 -- What the chains need of names: their order, what is below a name, and what two names share.
 use Rattle.std.proofs.Common.{◌≡◌, Bool, true, false, not, ◌||◌, [], ◌∷◌, map, length, refl, sym, ap, ◌∙◌, ◌<◌, ◌≤◌, arith, nat_eq, cond, List, ◌++◌, reverse}
-use Rattle.std.proofs.{Common.{inl, inr}, lemmas.{List.{append-nil, length-reverse, length-map, reverse-append, Sorted.ranks_by}, Bool.true≢false}}
-use Rattle.std.{proofs.lemmas.{Bool.{cases_Bool, cases_lt, false≢true}, Grind.common_steps}, specs.declared.cmp.Ordering.{Ordering, TheVariants.Less}}
-use Rattle.std.specs.{declared.cmp.Ordering.TheVariants.{Equal, Greater}, Char.to_ascii_lowercase, Ordering.{is_lt, is_eq, is_gt, ordering_reverse}}
+use Rattle.std.proofs.{Common.{inl, inr}, lemmas.{List.{append-nil, length-reverse, length-map, reverse-append, Sorted.ranks_by}}}
+use Rattle.std.{proofs.lemmas.{Bool.{cases_Bool, cases_lt, false≢true}, Grind.common_steps}}
+use Rattle.std.specs.{Char.to_ascii_lowercase, Ordering.{is_lt, ordering_reverse}}
 use Rattle.std.specs.{Cmp.{IsStrictWeakOrder, Lexicographic.{pointwise, bytes_decides}}, List.{ends_with, common_prefix_len}}
 use Rattle.std.{proofs.lemmas.Bool.Decides.nat_tests, specs.Prelude.nat_le}
 use Rattle.domain_names.specs.Laws.{ancestor_first, between_names, same_name_same, same_name_ties, same_tied, from_root-below, below-from_root}
-use Rattle.domain_names.specs.Name.{lowered, IsAtOrBelow, same_name, is_at_or_below, is_strictly_below, canonical_cmp, canonical_cmp_total, before, IsUpTo}
+use Rattle.domain_names.specs.Name.{lowered, IsAtOrBelow, same_name, is_at_or_below, is_strictly_below, canonical_cmp_total, before, IsUpTo}
 use Rattle.domain_names.{specs.Name.{from_root, common_labels, Label, Name}, proofs.OrderLemmas.{at_or_below_test, one_line}}
 use Rattle.domain_zone.specs.{Covering.matches, Enclosers.{IsClosestEncloser, IsShared, exists_over, shared}}
 

@@ -2,7 +2,7 @@
 use Rattle.std.proofs.Common.{◌≡◌, Bool, true, false, cond, not, ◌&&◌, ◌||◌, List, [], ◌∷◌, ◌++◌, map, refl, sym, ap, ◌∙◌, arith, ℕ, inl, inr, subst, Option}
 use Rattle.std.proofs.{Common.{Some, None}, lemmas.List.{append-nil, map-append, Elements.filter-append}}
 use Rattle.std.{proofs.lemmas.{Grind.common_steps, Bool.{cases_Bool, false≢true, true≢false}}, specs.{Prelude.filter, List.{AllByRecursion, list_any}}}
-use Rattle.std.proofs.lemmas.{Bool.{and_parts, or_cases, or_right, and_from, not-true, and_right}, List.Folds.list_any-append}
+use Rattle.std.proofs.lemmas.{Bool.{or_cases, or_right, and_from, not-true, and_right}, List.Folds.list_any-append}
 use Rattle.std.specs.{declared.cmp.Ordering.Ordering, Ordering.{is_lt, is_gt, ordering_reverse}, Bool.then_some, Borrow.Bor, Option.option_map}
 use Rattle.domain_octets.proofs.StdLemmas.{and_true, or_false}
 use Rattle.domain_names.specs.Name.{is_at_or_below, is_strictly_below, lowered, same_name, before, canonical_cmp, canonical_cmp_total, Name}
@@ -172,17 +172,11 @@ any_owner d L a x s o k e =
     ∙ any_distinct unoccluded_at (map (λ r. r.owner) L) (any_map (λ m. unoccluded_at (lowered m)) (λ r. r.owner) L ∙ any_weaker _ _
     (λ r h. ap unoccluded_at (one_lowered _ x h) ∙ and_from _ _ k e) L o)
 
-owns_itself : (L : List ZoneRecord) (K : List ZoneRecord) → ((r : ZoneRecord) → In r K → In r L) → AllByRecursion (λ n. owns L n ≡ true) (map (λ r. r.owner) K)
-owns_itself L [] f = tt
-owns_itself L (r ∷ K) f = (
-  in_any _ L r (f r (inl refl)) (same_itself r.owner r.owner refl),
-  owns_itself L K (λ s i. f s (inr i)),
-)
-
 -- each owner of the chain owns records, and is at or below the apex
 pub owners_are : (d : Bool) (L : List ZoneRecord) (a : Name)
     → AllByRecursion (λ n. (owns L n ≡ true) × (is_unoccluded d L a n ≡ true)) (unoccluded_owners d L a)
-owners_are d L a = filter_passes _ _ _ (λ n o k. (o, k)) _ (all_distinct _ _ (owns_itself L L (λ r i. i)))
+owners_are d L a = filter_passes (λ n. owns L n ≡ true) _ _ (λ n o k. (o, k)) _
+    (all_distinct _ _ (all_map _ _ L (all_from_in _ L (λ r i. in_any _ L r i (same_itself r.owner r.owner refl)))))
 
 -- what occludes is at or below the apex
 pub occluder_below : (d : Bool) (L : List ZoneRecord) (a n : Name) → occludes d L a n ≡ true → is_at_or_below n a ≡ true
@@ -190,20 +184,10 @@ occluder_below d L a n h = grind (arith, common_steps)
 
 -- the apex is among them where it owns records
 pub apex_unoccluded : (d : Bool) (L : List ZoneRecord) (a : Name) → is_unoccluded d L a a ≡ true
-apex_unoccluded d L a = λ i. below_itself a i && not (any_none (λ r. occludes d L a r.owner && is_strictly_below a r.owner) L (none L) i)
+apex_unoccluded d L a = λ i. below_itself a i && not (any_none _ L (all_from_in _ L (λ r j. apart r)) i)
   where
     apart : (r : ZoneRecord) → (occludes d L a r.owner && is_strictly_below a r.owner) ≡ false
-    apart r =
-        elim (cases_Bool (occludes d L a r.owner && is_strictly_below a r.owner)) [
-          | inl e ↦
-              let p = and_parts (occludes d L a r.owner) (is_strictly_below a r.owner) e in
-              absurd (true≢false (sym p.1 ∙ not_strictly a r.owner (below_from r.owner a (occluder_below d L a r.owner p.0))))
-          | inr e ↦ e
-        ]
-
-    none : (K : List ZoneRecord) → AllByRecursion (λ r. (occludes d L a r.owner && is_strictly_below a r.owner) ≡ false) K
-    none [] = tt
-    none (r ∷ K) = (apart r, none K)
+    apart r = grind (arith, common_steps, (not_strictly a r.owner), (below_from r.owner a), (occluder_below d L a r.owner))
 
 -- a name that owns a record of a type owns records
 pub typed_owns : (M : List ZoneRecord) (c : Name) (t : ℕ) → has_type (records_of M c) t ≡ true → owns M c ≡ true
@@ -360,10 +344,7 @@ module _ (g : ZoneRecord) (gs R : List ZoneRecord) (at : AreAt g.owner gs) (afte
 
           gone : (c : Option Name) (y : Name) → IsSince c g.owner → is_under c g.owner ≡ false → before g.owner y ≡ true → is_under c y ≡ false
           gone None y s u h = refl
-          gone (Some c) y s u h = elim (cases_Bool (is_at_or_below y c)) [
-            | inl b ↦ absurd (true≢false (sym (below_between y c g.owner b (before_order.one_way c g.owner s) (before_order.one_way g.owner y h)) ∙ u))
-            | inr b ↦ b
-          ]
+          gone (Some c) y s u h = grind (arith, common_steps, before_order, (below_between y c g.owner))
 
           on : (y : Name) → before g.owner y ≡ true → (is_under o y || (occludes d joint a g.owner && is_strictly_below y g.owner))
               ≡ is_under (occluder_from d a g.owner (g ∷ gs)) y
