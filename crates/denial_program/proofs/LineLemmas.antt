@@ -1,7 +1,7 @@
 -- Lines: the record that each spells, and how a reader finds them.
 use Rattle.std.proofs.Common.{arith, ◌≡◌, ◌↔◌, ◌≤◌, IsTrue, Bool, true, false, ℕ, List, sym, subst, inl, inr, None, ◌≢◌, ◌+◌, ◌-◌, ◌<◌, [], length, take}
 use Rattle.std.proofs.Common.{get_or, ap, ◌∙◌, IfSome, Option, length-take-le, ◌∷◌, ◌++◌, refl, eqb, cond, ◌⊎◌, Some, append-nil, append_assoc}
-use Rattle.std.proofs.lemmas.{Bool.Decides.nat_tests, Grind.common_steps, List.Elements.{All-weaker, All-nil, All-from_get_or, All-cons}}
+use Rattle.std.proofs.lemmas.{Bool.Decides.nat_tests, Grind.common_steps, List.Elements.{All-weaker, All-nil, All-from_get_or}}
 use Rattle.std.{proofs.{lemmas.Str.IsUtf8-from_ascii, KnownBytes.Consumes-nil, BufReadLemmas.Consumes_through}, specs.{List.{All, slice_split}, Str.IsUtf8}}
 use Rattle.std.{proofs.{BufReadLemmas.take_through_nonempty, lemmas.List.get_or-take}, specs.Io.BufRead.{take_through, DropsThrough, drop_through}}
 use Rattle.std.{specs.{Io.KnownBytes.Consumes, Str.Lines.{lines, lines_of_parts}}, proofs.lemmas.List.Splits.length-slice_split}
@@ -10,7 +10,7 @@ use Rattle.domain_names.specs.Name.{Name, Tokens}
 use Rattle.domain_octets.specs.{Text.words_of, Octets.Octets}
 use Rattle.domain_message.{specs.{Entry.{EntryText, IsOfLine, OwnerTaken, RefusesBody}, declared.line.LineError.LineError}, proofs.LineLemmas.in_body}
 use Rattle.domain_message.proofs.OneLineLemmas.{none_in}
-use Rattle.denial_program.specs.Listing.{IsBad, IsPlain, IsSkipped, is_plain, Give, IsGood, IsFirstBad, Refuses, Says, TakesLine, TakesNone}
+use Rattle.denial_program.specs.Listing.{IsBad, IsPlain, IsSkipped, is_plain, Give, IsFirstBad, Refuses, Says, TakesLine, TakesNone}
 use Rattle.denial_program.specs.declared.line.Line.{Line, TheVariants.{Nothing, Record, Bad}}
 use lib.Dec.{eqb-suc-zero}
 use Rattle.domain_borrowed.specs.Data.{RawRecord}
@@ -139,20 +139,6 @@ pub record Continues (all rest : List (List ℕ)) (records : List RawRecord) (nu
   pub gives : (more : List RawRecord) → Give rest more → Give all (records ++ more)
   pub bad : (k n : ℕ) → n + 1 ≡ k + number → IsFirstBad rest k → IsFirstBad all n
 
-pub first_bad_here : (line : List ℕ) (more : List (List ℕ)) → IsBad line → IsFirstBad (line ∷ more) 1
-first_bad_here line more bad = record { before = []; line = line; after = more; are = refl; place = refl; good = All-nil IsGood; bad = bad }
-
-pub first_bad_later : (line : List ℕ) (more : List (List ℕ)) (k : ℕ) → IsGood line → IsFirstBad more k → IsFirstBad (line ∷ more) (k + 1)
-first_bad_later line more k good h = record {
-  before = line ∷ h.before;
-  line = h.line;
-  after = h.after;
-  are = ap (λ ls. line ∷ ls) h.are;
-  place = omega (arith, h.place);
-  good = All-cons IsGood line _ good h.good;
-  bad = h.bad;
-}
-
 -- of known octets the reader has these left, and this holds of the lines of both
 abbrev pub IsReading : (List (List ℕ) → List (List ℕ) → Type 0) → Option (List ℕ) → Option (List ℕ) → Type 0
 IsReading Holds known now = IfSome known (λ all. (rest : List ℕ) × (now ≡ Some rest) × Holds (lines all) (lines rest))
@@ -183,7 +169,7 @@ module _ (known old new : Option (List ℕ)) (records : List RawRecord) (number 
       reading = reading_step (λ all rest. Continues all rest records number) known old new (λ all rest. Continues all rest records (number + 1)) _
           (λ all rest line s c. record {
             gives = λ more g. c.gives more (inl (s, g));
-            bad = λ k n p b. c.bad (k + 1) n (omega arith) (first_bad_later line rest k (inl s) b);
+            bad = λ k n p b. c.bad (k + 1) n (omega arith) (inr (inl s, (k, refl, b)));
           })
           h.reading (rw is at t);
     }
@@ -194,7 +180,7 @@ module _ (known old new : Option (List ℕ)) (records : List RawRecord) (number 
           (λ all rest. Continues all rest (records ++ r ∷ []) (number + 1)) _
           (λ all rest line s c. record {
             gives = λ more g. subst (Give all) (sym (append_assoc records (r ∷ []) more)) (c.gives (r ∷ more) (inr (r, more, refl, s, g)));
-            bad = λ k n p b. c.bad (k + 1) n (omega arith) (first_bad_later line rest k (inr (r, s)) b);
+            bad = λ k n p b. c.bad (k + 1) n (omega arith) (inr (inr (r, s), (k, refl, b)));
           })
           h.reading (rw is at t);
     }
@@ -204,7 +190,7 @@ module _ (known old new : Option (List ℕ)) (records : List RawRecord) (number 
     follows_bad is =
         known_so _ _ known (λ all c. c.2)
         (reading_step (λ all rest. Continues all rest records number) known old new (λ all rest. IsFirstBad all number) _
-        (λ all rest line s c. c.bad 1 number (omega arith) (first_bad_here line rest s)) h.reading (rw is at t))
+        (λ all rest line s c. c.bad 1 number (omega arith) (inl (refl, s))) h.reading (rw is at t))
 
 -- where the octets of the input were known, those that are left are too
 abbrev pub StaysKnown : Option (List ℕ) → Option (List ℕ) → Type 0

@@ -1,24 +1,23 @@
 -- What a run reads, answers and writes.
 use Rattle.std.proofs.Common.{◌≡◌, ℕ, Bool, IsTrue, List, sym, ◌∙◌, arith, ◌⊎◌, refl, subst, inl, inr, Result, IfErr, ◌+◌, ◌<◌, [], ◌∷◌, ◌++◌, ap, drop}
-use Rattle.std.proofs.{Common.{get_or, length, append_assoc, append-nil, ◌≢◌, codes, take, Option, Ok, Err, IfSome, OnOk}, lemmas.Slice.Eq.bytes_eq-Decides}
-use Rattle.std.{specs.{Str.{bytes_eq, Lines.lines}, Result.IsErrAnd, Prelude.◌==◌, Io.KnownBytes.Appends}, proofs.lemmas.{Grind.common_steps, List.drop_more}}
-use Rattle.domain_octets.{proofs.StdLemmas.if_err_of, specs.Octets.Octets}
+use Rattle.std.proofs.{Common.{get_or, length, append-nil, codes, take, Option, None, Some, Ok, Err, IfSome, OnOk}, lemmas.Slice.Eq.bytes_eq-Decides}
+use Rattle.std.{specs.{Str.{bytes_eq, Lines.lines}, Result.IsErrAnd, Io.KnownBytes.Appends}, proofs.lemmas.{Grind.common_steps, List.drop_more}}
+use Rattle.domain_octets.specs.Octets.{Octets}
 use Rattle.domain_names.specs.Name.{Name, Tokens}
 use Rattle.domain_nsec.specs.Chain.{Link, usual_config, IsChain, IsFirstFault}
 use Rattle.domain_nsec3.specs.{Chain.{ChainRecords, IsChainParam, IsHashedChain}, View.HasherAnswer, declared.config.Nsec3ParamTtlMode.TheVariants.Soa}
 use Rattle.domain_records.specs.{Order.IsOneClass, declared.error.SigningError.{SigningError, TheVariants.OutOfMemory as NoRoom}}
-use Rattle.domain_borrowed.specs.Data.{RawRecord, zone_of_raw, nsec_record, IsNsec}
-use Rattle.domain_dnssec.specs.{AnyOrder.AreMixed, declared.chain.ChainError.{ChainError, TheVariants.{MixedClasses, OutOfMemory}}}
-use Rattle.denial_program.specs.{Fault.{IsOfRecords, IsAfterInput, IsReadToEnd}, Answer.{fault_of_zone, usual_nsec3_config, HasNoAnswer, HasNone, HasNoNsecs}}
-use Rattle.denial_program.specs.{Answer.{HasNoNsec3s, IsNsecs, IsNsec3s, IsUnmade, IsUnsorted, Sorts}, Run.{IsUnwritten, IsOver, IsRun, IsWritten}}
-use Rattle.denial_program.specs.{Command.Params, declared.{answer.Reply.{Reply, TheVariants.{Nsecs, Nsec3s}}, command.Command.{Command, TheVariants.Nsec}}}
-use Rattle.denial_program.specs.declared.{command.Command.TheVariants.{Nsec3, CheckNsec, CheckNsec3}, fault.DenialFault.{DenialFault, TheVariants.Line}}
-use Rattle.denial_program.specs.{declared.fault.DenialFault.TheVariants.{Write, OutOfMemory as NoMemory}, Check.{AreAmong, IsNsecOf}, Listing.Give}
-use Rattle.denial_program.{specs.{Listing.IsFirstBad, Text.lines_of}, proofs.LineLemmas.known_so}
+use Rattle.domain_borrowed.specs.Data.{RawRecord, zone_of_raw}
+use Rattle.domain_dnssec.specs.AnyOrder.{AreMixed}
+use Rattle.denial_program.specs.{Fault.{IsOfRecords, IsReadingFault, IsReadToEnd}, Answer.fault_of_zone}
+use Rattle.denial_program.specs.Answer.{usual_nsec3_config, HasNoAnswer, HasNoNsecs, IsAnswer}
+use Rattle.denial_program.specs.{Answer.{HasNoNsec3s, IsNsecs, IsNsec3s, IsUnmade, IsUnsorted, Sorts}, Run.{IsUnwritten, IsOver, IsRun, IsWritten, ReadsLines}}
+use Rattle.denial_program.specs.{Command.Params, declared.{answer.Reply.{Reply, TheVariants.{Nsecs, Nsec3s}}, command.Command.{Command, TheVariants.Chain}}}
+use Rattle.denial_program.specs.declared.{command.Command.TheVariants.{CheckNsec, CheckNsec3}, fault.DenialFault.{DenialFault, TheVariants.{Line, Usage}}}
+use Rattle.denial_program.specs.{declared.fault.DenialFault.TheVariants.{Write, MixedClasses as NoClass, OutOfMemory as NoMemory}, Check.AreAmong, Listing.Give}
+use Rattle.denial_program.{specs.Text.lines_of, proofs.LineLemmas.known_so}
 use Rattle.domain_record.specs.Record.{IsRecordClone}
-use Rattle.domain_checker.specs.{Reading.HasRead, declared.nsec_check.NsecCheck.NsecCheck}
 use Rattle.domain_nsec3.specs.Chain as hashed
-use Rattle.domain_base.specs.Types as rtypes
 
 -- ---- The words of a command.
 
@@ -52,38 +51,36 @@ module _ (given sorted : List RawRecord) (apex : Name) (sorts : Sorts given sort
 
 -- ---- how a chain is not written
 
-module _ {X : Type 0} (r : Result X DenialFault) (is_such : Reply → Type 0) (is_why : ChainError → Type 0) where
+module _ (r : Result (Unit {0}) DenialFault) (answers : HasherAnswer) (apex : Name) (p : Option Params) (given : List RawRecord) where
   -- there was memory for the chain, and not for writing it
-  pub unwritten : (x : Reply) → is_such x → is_why OutOfMemory → IfErr r (λ e. (e ≡ Write) ⊎ (e ≡ NoMemory))
-      → IfErr r (IsUnwritten is_such (IsUnmade (HasNone is_why)))
+  pub unwritten : (x : Reply) → IsAnswer answers (Chain apex p) given x → HasNoAnswer answers (Chain apex p) given NoMemory
+      → IfErr r (λ e. (e ≡ Write) ⊎ (e ≡ NoMemory))
+      → IfErr r (IsUnwritten (IsAnswer answers (Chain apex p) given) (IsUnmade (HasNoAnswer answers (Chain apex p) given)))
   unwritten x is why h = grind (arith, common_steps)
 
+  none_of_mixed : (q : Option Params) → AreMixed given → HasNoAnswer answers (Chain apex q) given NoClass
+  none_of_mixed None mixed = mixed
+  none_of_mixed (Some p) mixed = mixed
+
   -- the records were not sorted
-  pub unsorted : (given : List RawRecord) → (AreMixed given → is_why MixedClasses) → (e : DenialFault) → IsUnsorted given e → IsErrAnd r (λ f. f ≡ e)
-      → IfErr r (IsUnwritten is_such (IsUnmade (HasNone is_why)))
-  unsorted given mixed e (inl are) h =
-      if_err_of (IsUnwritten is_such (IsUnmade (HasNone is_why))) e r h (inr (inr (subst (HasNone is_why) (sym are.0) (mixed are.1))))
-  unsorted given mixed e (inr are) h = if_err_of (IsUnwritten is_such (IsUnmade (HasNone is_why))) e r h (inr (inl are.0))
+  pub unsorted : (e : DenialFault) → IsUnsorted given e → IsErrAnd r (λ f. f ≡ e)
+      → IfErr r (IsUnwritten (IsAnswer answers (Chain apex p) given) (IsUnmade (HasNoAnswer answers (Chain apex p) given)))
+  unsorted e why h = grind (arith, common_steps, (none_of_mixed p))
 
 -- ---- which faults these may be
 
-pub known_made : (none : DenialFault → Type 0) (e : DenialFault) → IsUnmade none e → IsOfRecords e → none e
-known_made none e (inl is) of = absurd (subst IsOfRecords is of)
-known_made none e (inr why) of = why
+-- a fault of the records that has this reason, and of no line or device
+abbrev pub TellsNone : (DenialFault → Type 0) → DenialFault → Type 0
+TellsNone none (Line n) = ⊥
+TellsNone none Write = ⊥
+TellsNone none e = IsOfRecords e → none e
 
-pub no_line_unmade : (answers : HasherAnswer) (command : Command) (given : List RawRecord) (n : ℕ)
-    → IsUnmade (HasNoAnswer answers command given) (Line n) → ⊥
-no_line_unmade answers (Nsec apex) given n why = grind (arith, common_steps)
-no_line_unmade answers (Nsec3 apex p) given n why = grind (arith, common_steps)
-no_line_unmade answers (CheckNsec q) given n why = grind (arith, common_steps)
-no_line_unmade answers (CheckNsec3 q) given n why = grind (arith, common_steps)
-
-pub no_write_unmade : (answers : HasherAnswer) (command : Command) (given : List RawRecord)
-    → IsUnmade (HasNoAnswer answers command given) Write → ⊥
-no_write_unmade answers (Nsec apex) given why = grind (arith, common_steps)
-no_write_unmade answers (Nsec3 apex p) given why = grind (arith, common_steps)
-no_write_unmade answers (CheckNsec q) given why = grind (arith, common_steps)
-no_write_unmade answers (CheckNsec3 q) given why = grind (arith, common_steps)
+pub tells_none : (answers : HasherAnswer) (command : Command) (given : List RawRecord) (e : DenialFault)
+    → IsUnmade (HasNoAnswer answers command given) e → TellsNone (HasNoAnswer answers command given) e
+tells_none answers (Chain apex None) given e why = grind (arith, common_steps)
+tells_none answers (Chain apex (Some p)) given e why = grind (arith, common_steps)
+tells_none answers (CheckNsec q) given e why = grind (arith, common_steps)
+tells_none answers (CheckNsec3 q) given e why = grind (arith, common_steps)
 
 -- ---- Records that are gone over one by one, of which some are kept.
 
@@ -111,32 +108,6 @@ module _ {K : Type 0} (Is : RawRecord → K → Type 0) where
 
   pub goes_end : (all left : List RawRecord) (kept : List K) → Goes all left kept → left ≡ [] → AreAmong Is all kept
   goes_end all left kept h e = subst (AreAmong Is all) (append-nil kept) (h [] (subst (λ rs. AreAmong Is rs []) (sym e) refl))
-
--- ---- NSEC records, handed in one after another
-
--- the record of a link counts
-pub nsec_of : (r : RawRecord) (k : Link) → r ≡ nsec_record k → IsNsec k → IsNsecOf r k
-nsec_of r k is fits = record { counted = ap (λ (q : RawRecord). q.«data».rtype == rtypes.nsec) is; is = is; fits = fits }
-
--- the records that were handed in come after those that had been
-abbrev pub Adds : NsecCheck → NsecCheck → List Link → Type 0
-Adds old new links = (a x : Name) (t : ℕ) (before : List Link) → HasRead a x t before old → HasRead a x t (before ++ links) new
-
-pub record IsHanding (all left : List RawRecord) (old new : NsecCheck) : Type 0 where
-  pub links : List Link
-  pub goes : Goes IsNsecOf all left links
-  pub adds : Adds old new links
-
-pub handing_one : (all left rest : List RawRecord) (old mid new : NsecCheck) (r : RawRecord) (k : Link)
-    → IsHanding all left old mid → left ≡ r ∷ rest → IsNsecOf r k
-    → ((a x : Name) (t : ℕ) (before : List Link) → HasRead a x t before mid → HasRead a x t (before ++ k ∷ []) new)
-    → IsHanding all rest old new
-handing_one all left rest old mid new r k s e is adds = record {
-  links = s.links ++ k ∷ [];
-  goes = goes_kept IsNsecOf all left rest _ r k s.goes e is;
-  adds = λ a x t before h.
-      subst (λ links. HasRead a x t links new) (append_assoc before s.links (k ∷ [])) (adds a x t (before ++ s.links) (s.adds a x t before h));
-}
 
 -- ---- What a run reads, answers and writes.
 
@@ -169,21 +140,20 @@ over Asks words input command given asks gives P so =
 module _ {C X R : Type 0} (text_of : X → Octets) (Asks : Tokens → C → Type 0) (words : Tokens) (is_answer : C → List RawRecord → X → Type 0)
     (has_none : C → List RawRecord → DenialFault → Type 0) (input left old new : Option Octets) where
   -- the records were not read, or nothing was asked of them
-  pub not_begun : (r : Result R DenialFault) (e : DenialFault) → IsErrAnd r (λ f. f ≡ e)
-      → ((n : ℕ) → e ≡ Line n → IfSome input (λ bytes. IsFirstBad (lines bytes) n)) → (IsAfterInput e → IsReadToEnd input left)
-      → (IsOfRecords e → ⊥) → (e ≢ Write) → Run text_of Asks words is_answer has_none input left old new r
-  not_begun (Ok x) e is line end none no_write = absurd is
-  not_begun (Err f) e is line end none no_write = record {
-    ok = tt;
-    reads = record { line = λ n same. line n (sym is ∙ (let s = same in cc)); end = λ after. end (subst IsAfterInput is after) };
-    records = λ of. absurd (none (subst IsOfRecords is of));
-    write = λ same. absurd (no_write (sym is ∙ (let s = same in cc)));
-  }
+  pub not_begun : {S : Type 0} (r : Result R DenialFault) (e : DenialFault) → IsErrAnd r (λ f. f ≡ e) → ReadsLines {R = S} input left (Err e)
+      → (e ≡ Usage) ⊎ IsReadingFault e → Run text_of Asks words is_answer has_none input left old new r
+  not_begun (Ok x) e is reads early = absurd is
+  not_begun (Err f) e is reads early =
+      rw is (record {
+        ok = tt;
+        reads = record { line = λ n same. reads.line n (let s = same in cc); end = reads.end };
+        records = λ of. absurd (grind (arith, common_steps));
+        write = λ same. absurd (grind (arith, common_steps));
+      })
 
   module _ (unmade : DenialFault → Type 0) (command : C) (given : List RawRecord) (asks : Asks words command)
       (gives : IfSome input (λ bytes. Give (lines bytes) given)) (end : IsReadToEnd input left)
-      (known : (e : DenialFault) → unmade e → IsOfRecords e → has_none command given e) (no_line : (n : ℕ) → unmade (Line n) → ⊥)
-      (no_write : unmade Write → ⊥) where
+      (tells : (e : DenialFault) → unmade e → TellsNone (has_none command given) e) where
     -- the answer was written, or not
     pub run_done : (r : Result R DenialFault) → OnOk r (IsWritten text_of (is_answer command given) old new)
         → IfErr r (IsUnwritten (is_answer command given) unmade) → Run text_of Asks words is_answer has_none input left old new r
@@ -200,9 +170,11 @@ module _ {C X R : Type 0} (text_of : X → Octets) (Asks : Tokens → C → Type
       records = λ of. absurd (subst IsOfRecords is of);
       write = λ w. known_so _ _ input (λ bytes so. (there.0, so)) (over Asks words input command given asks gives (λ c g. is_answer c g there.0) there.1);
     }
-    run_done (Err e) ok (inr why) = record {
-      ok = tt;
-      reads = record { line = λ n line. absurd (no_line n (subst unmade (let s = line in cc) why)); end = λ after. end };
-      records = λ of. over Asks words input command given asks gives (λ c g. has_none c g e) (known e why of);
-      write = λ w. absurd (no_write (subst unmade (let s = w in cc) why));
-    }
+    run_done (Err e) ok (inr why) =
+        let told = tells e why in
+        record {
+          ok = tt;
+          reads = record { line = λ n line. absurd (grind (arith, common_steps)); end = λ after. end };
+          records = λ of. over Asks words input command given asks gives (λ c g. has_none c g e) (grind (arith, common_steps));
+          write = λ w. absurd (grind (arith, common_steps));
+        }

@@ -1,5 +1,5 @@
 -- The answer to a command over the records that were read, in whatever order they came.
-use Rattle.std.specs.Prelude.{◌≡◌, ◌⊎◌, true, false, List}
+use Rattle.std.specs.Prelude.{◌≡◌, ◌⊎◌, true, false, List, None, Some}
 use Rattle.domain_octets.specs.Octets.{Octets}
 use Rattle.domain_names.specs.Name.{Name, Tokens}
 use Rattle.domain_records.specs.{Order.IsOneClass, declared.error.SigningError.SigningError}
@@ -13,7 +13,7 @@ use Rattle.domain_dnssec.specs.declared.chain.ChainError.TheVariants as chain_er
 use Rattle.domain_dnssec.specs.RawRecords as raw
 use Rattle.denial_program.specs.{Check.{HasNoNsec3Verdict, IsNsec3Verdict, IsNsecVerdict}, Command.{Asks, Params}, Run.IsOver}
 use Rattle.denial_program.specs.declared.{answer.Reply.{Reply, TheVariants.{Nsecs, Nsec3s}}, command.Command.Command}
-use Rattle.denial_program.specs.declared.{command.Command.TheVariants.{Nsec, Nsec3, CheckNsec, CheckNsec3}, fault.DenialFault.DenialFault}
+use Rattle.denial_program.specs.declared.{command.Command.TheVariants.{Chain, CheckNsec, CheckNsec3}, fault.DenialFault.DenialFault}
 use Rattle.denial_program.specs.{declared.fault.DenialFault.TheVariants.{Unprepared, MixedClasses, Signing, OutOfMemory}, Fault.prepare_error}
 
 -- sorted is the sorted set of the records, by owner, class, type and octets
@@ -76,8 +76,8 @@ HasNoNsec3s answers given apex p =
     HasNone (raw.HasNoHashedChain given apex (usual_nsec3_config answers p))
 
 abbrev pub IsAnswer : HasherAnswer → Command → List RawRecord → Reply → Type 0
-IsAnswer answers (Nsec apex) given answer = IsNsecs given apex answer
-IsAnswer answers (Nsec3 apex p) given answer = IsNsec3s answers given apex p answer
+IsAnswer answers (Chain apex None) given answer = IsNsecs given apex answer
+IsAnswer answers (Chain apex (Some p)) given answer = IsNsec3s answers given apex p answer
 IsAnswer answers (CheckNsec q) given answer = IsNsecVerdict given q answer
 IsAnswer answers (CheckNsec3 q) given answer = IsNsec3Verdict answers given q answer
 
@@ -87,8 +87,8 @@ IsUnmade has_none fault = (fault ≡ Unprepared prepare_error) ⊎ has_none faul
 
 -- why there is no answer
 abbrev pub HasNoAnswer : HasherAnswer → Command → List RawRecord → DenialFault → Type 0
-HasNoAnswer answers (Nsec apex) given fault = HasNoNsecs given apex fault
-HasNoAnswer answers (Nsec3 apex p) given fault = HasNoNsec3s answers given apex p fault
+HasNoAnswer answers (Chain apex None) given fault = HasNoNsecs given apex fault
+HasNoAnswer answers (Chain apex (Some p)) given fault = HasNoNsec3s answers given apex p fault
 HasNoAnswer answers (CheckNsec q) given fault = fault ≡ OutOfMemory
 HasNoAnswer answers (CheckNsec3 q) given fault = HasNoNsec3Verdict answers given q fault
 

@@ -1,11 +1,11 @@
 -- What the words after the program's name ask for.
-use Rattle.std.specs.Prelude.{◌≡◌, ℕ, [], ◌∷◌, codes}
+use Rattle.std.specs.Prelude.{◌≡◌, ℕ, [], ◌∷◌, codes, None, Some}
 use Rattle.domain_octets.specs.Octets.{Octets}
 use Rattle.domain_base.specs.{Numbers.TypeText, Scan.IsNumber}
 use Rattle.domain_names.specs.{Text.NameText, Name.{Name, Token, Tokens}}
 use Rattle.domain_bitmap.specs.Text.{SaltText}
 use Rattle.domain_chain_rdata.specs.declared.nsec3param.Nsec3param.{Nsec3param}
-use Rattle.denial_program.specs.declared.command.{Command.{Command, TheVariants.{Nsec, Nsec3, CheckNsec, CheckNsec3}}, Question.Question}
+use Rattle.denial_program.specs.declared.command.{Command.{Command, TheVariants.{Chain, CheckNsec, CheckNsec3}}, Question.Question}
 
 -- the parameters of an NSEC3 chain; the octets of the salt are held in a vector
 abbrev pub Params : Type 0
@@ -56,8 +56,8 @@ pub record AsksToCheck (kind : Token) (words : Tokens) (q : Question) : Type 0 w
   pub question : SpellQuestion apex_word name_word type_word q
 
 abbrev pub Asks : Tokens → Command → Type 0
-Asks words (Nsec apex) = AsksForNsec words apex
-Asks words (Nsec3 apex p) = AsksForNsec3 words apex p
+Asks words (Chain apex None) = AsksForNsec words apex
+Asks words (Chain apex (Some p)) = AsksForNsec3 words apex p
 Asks words (CheckNsec q) = AsksToCheck (codes "nsec") words q
 Asks words (CheckNsec3 q) = AsksToCheck (codes "nsec3") words q
 

@@ -59,14 +59,11 @@ pub record IsBad (line : Octets) : Type 0 where
   pub none : (r : RawRecord) → IsLineRecord line r → ⊥
 
 -- the line of this number, counted from 1, is the lowest that is bad
-pub record IsFirstBad (lines : List Octets) (number : ℕ) : Type 0 where
-  pub before : List Octets
-  pub line : Octets
-  pub after : List Octets
-  pub are : lines ≡ before ++ line ∷ after
-  pub place : number ≡ length before + 1
-  pub good : All IsGood before
-  pub bad : IsBad line
+abbrev pub IsFirstBad : List Octets → ℕ → Type 0
+IsFirstBad [] number = ⊥
+IsFirstBad (line ∷ more) number =
+    ((number ≡ 1) × IsBad line)
+    ⊎ (IsGood line × ((later : ℕ) × (number ≡ later + 1) × IsFirstBad more later))
 
 -- ---- What was read of a line.
 

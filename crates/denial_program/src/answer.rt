@@ -3,9 +3,9 @@ ghost use Rattle.std.specs.Prelude.{◌≡◌, ◌⊎◌, List, IfErr, IfOk, IsE
 ghost use Rattle.std.specs.Io.KnownBytes.{Appends};
 ghost use Rattle.domain_records.specs.Order.{IsInOrder, IsOneClass};
 ghost use Rattle.domain_nsec.specs.Chain.{usual_config, IsFaultless};
-ghost use Rattle.domain_nsec3.specs.Chain.{IsReady};
 ghost use Rattle.domain_borrowed.specs.Data.{RawRecord, zone_of_raw};
-ghost use Rattle.denial_program.specs.Answer.{usual_nsec3_config, HasNoAnswer, HasNoNsec3s, HasNoNsecs, IsAnswer, IsNsec3s, IsNsecs, IsUnmade, Sorts};
+ghost use Rattle.denial_program.specs.Answer.{HasNoAnswer, HasNoNsecs, IsAnswer, IsNsecs, IsUnmade, Sorts};
+ghost use Rattle.denial_program.specs.declared.command.Command.TheVariants.{Chain};
 ghost use Rattle.denial_program.specs.{Fault.IsBeforeOutput, Run.{IsUnwritten, IsWritten}};
 ghost use Rattle.denial_program.specs.Text.{answer_text, lines_of, nsec_line, nsec3_line, nsec3s_text};
 ghost use Rattle.denial_program.specs.declared.fault.DenialFault.TheVariants.{OutOfMemory};
@@ -65,36 +65,35 @@ pub fn nsecs_of<'s, 'a>(
     }
 }
 
-/// The NSEC3 chain of the zone that the records are. It borrows the apex. No two of its hashes are
-/// alike, so that a sorter that takes no memory serves as well as a stable one.
-fn nsec3s_of<'s, 'a, H: Nsec3Hasher>(
+/// The chain of the zone that the records are: by hashes with these parameters, or, without any, of
+/// NSEC records. It borrows from the apex, and of NSEC records from the records. No two of its
+/// hashes are alike, so that a sorter that takes no memory serves as well as a stable one.
+fn chain_reply<'s, 'a, H: Nsec3Hasher>(
     alloc: Global,
     apex: &'s ParsedName<'a>,
-    parameters: Nsec3Params,
-    sorted: &[BorrowedRecord<'a>],
+    parameters: Option<Nsec3Params>,
+    sorted: &'s [BorrowedRecord<'a>],
     hasher: &H,
 ) -> Result<Reply<'s, 'a>, DenialFault>
     requires one_class { IsOneClass sorted.now }
     requires in_order { IsInOrder (λ n. n) (λ d. d.rtype) sorted.now }
-    ensures ok { IfOk result (λ answer. (given : List RawRecord)
-        → Sorts given sorted.now
-        → IsNsec3s (H.answer hasher.now) given apex.now parameters answer) }
-    ensures err { IfErr result (λ fault. (given : List RawRecord)
-        → Sorts given sorted.now
-        → HasNoNsec3s (H.answer hasher.now) given apex.now parameters fault) }
-    ensures ready { OnOk result (IsReady (zone_of_raw sorted.now) apex.now (usual_nsec3_config
-        (H.answer hasher.now) parameters)) }
+    ensures ok { IfOk result (λ answer. (given : List RawRecord) → Sorts given sorted.now
+        → IsAnswer (H.answer hasher.now) (Chain apex.now parameters) given answer) }
+    ensures err { IfErr result (λ fault. (given : List RawRecord) → Sorts given sorted.now
+        → HasNoAnswer (H.answer hasher.now) (Chain apex.now parameters) given fault) }
+
+    // Want of memory may still come while the chain is written.
+    ensures memory { OnOk result ((given : List RawRecord) → Sorts given sorted.now
+        → HasNoAnswer (H.answer hasher.now) (Chain apex.now parameters) given OutOfMemory) }
 {
+    let Some(parameters) = parameters else {
+        return nsecs_of(alloc, apex, sorted);
+    };
     let config: GenerateNsec3Config<ZoneOctets, InPlaceSorter> = GenerateNsec3Config::new(
         parameters,
     );
-    match Nsec3Chain::generate(
-        alloc,
-        apex,
-        RecordsIter::new_from_owned(sorted),
-        &config,
-        hasher,
-    ) {
+    let records = RecordsIter::new_from_owned(sorted);
+    match Nsec3Chain::generate(alloc, apex, records, &config, hasher) {
         Ok(made) => Ok(Reply::Nsec3s(made)),
         Err(error) => Err(DenialFault::from(error)),
     }
@@ -171,54 +170,28 @@ impl<'s, 'a> Reply<'s, 'a> {
     }
 }
 
-/// Writes the NSEC chain of the zone that the records are. They are sorted first, and the octets of
-/// their owners compacted into the arena once more, in order: the walk over them, and the chain
-/// that borrows them, go over these from one end to the other.
-fn write_nsecs_of<'a, W: Write>(
+/// Writes the chain of the zone that the records are. They are sorted first.
+fn write_chain_of<'a, W: Write, H: Nsec3Hasher>(
     alloc: Global,
     arena: &'a Bump,
     apex: &ZoneName,
-    records: Vec<BorrowedRecord<'a>>,
-    output: &mut W,
-) -> Result<(), DenialFault>
-    ensures ok { OnOk result (IsWritten answer_text (IsNsecs records.entry.items apex.now)
-        (W.contents output.old) (W.contents output.new)) }
-    ensures err { IfErr result
-        (IsUnwritten (IsNsecs records.entry.items apex.now)
-        (IsUnmade (HasNoNsecs records.entry.items apex.now))) }
-    ensures untouched { IfErr result (λ e. IsBeforeOutput e → output.new ≡ output.old) }
-{
-    let sorted = sort_zone(records)?;
-    let apex = store_apex(arena, apex)?;
-    let compacted = compact_zone(arena, sorted)?;
-    let answer = nsecs_of(alloc, &apex, &compacted)?;
-    answer.send(output)
-}
-
-/// Writes the NSEC3 chain of the zone that the records are. They are sorted first. Its owners are
-/// hashed, and not printed, so that they stay where they lie.
-fn write_nsec3s_of<'a, W: Write, H: Nsec3Hasher>(
-    alloc: Global,
-    arena: &'a Bump,
-    apex: &ZoneName,
-    parameters: Nsec3Params,
+    parameters: Option<Nsec3Params>,
     records: Vec<BorrowedRecord<'a>>,
     hasher: &H,
     output: &mut W,
 ) -> Result<(), DenialFault>
-    ensures ok { OnOk result
-        (IsWritten answer_text
-        (IsNsec3s (H.answer hasher.now) records.entry.items apex.now parameters)
+    ensures ok { OnOk result (IsWritten answer_text
+        (IsAnswer (H.answer hasher.now) (Chain apex.now parameters) records.entry.items)
         (W.contents output.old) (W.contents output.new)) }
-    ensures err { IfErr result
-        (IsUnwritten (IsNsec3s (H.answer hasher.now) records.entry.items apex.now parameters)
-        (IsUnmade (HasNoNsec3s (H.answer hasher.now) records.entry.items apex.now
-        parameters))) }
+    ensures err { IfErr result (IsUnwritten
+        (IsAnswer (H.answer hasher.now) (Chain apex.now parameters) records.entry.items) (IsUnmade
+        (HasNoAnswer (H.answer hasher.now) (Chain apex.now parameters) records.entry.items))) }
     ensures untouched { IfErr result (λ e. IsBeforeOutput e → output.new ≡ output.old) }
 {
     let sorted = sort_zone(records)?;
     let apex = store_apex(arena, apex)?;
-    let answer = nsec3s_of(alloc, &apex, parameters, &sorted, hasher)?;
+    let compacted = compact_zone(arena, sorted, parameters.is_none())?;
+    let answer = chain_reply(alloc, &apex, parameters, &compacted, hasher)?;
     answer.send(output)
 }
 
@@ -249,12 +222,11 @@ pub fn write_answer<'a, W: Write, H: Nsec3Hasher>(
     ensures untouched { IfErr result (λ e. IsBeforeOutput e → output.new ≡ output.old) }
 {
     match command {
-        Command::Nsec(apex) => write_nsecs_of(alloc, arena, &apex, records, output),
-        Command::Nsec3(apex, parameters) => {
-            write_nsec3s_of(alloc, arena, &apex, parameters, records, hasher, output)
+        Command::Chain(apex, parameters) => {
+            write_chain_of(alloc, arena, &apex, parameters, records, hasher, output)
         }
         Command::CheckNsec(question) => {
-            let answer = nsec_reply(question, records);
+            let answer = nsec_reply(alloc, question, records)?;
             answer.send(output)
         }
         Command::CheckNsec3(question) => {

@@ -1,10 +1,7 @@
 //! What a chain that was read proves of a name and a type.
-ghost use Rattle.std.specs.Prelude.{◌≡◌, ◌⊎◌, ℕ, List, [], ◌∷◌, ◌++◌, IfErr, IfOk};
-ghost use Rattle.domain_names.specs.Name.{Name};
-ghost use Rattle.domain_nsec.specs.Chain.{Link};
+ghost use Rattle.std.specs.Prelude.{◌≡◌, ◌⊎◌, [], ◌∷◌, IfErr, IfOk};
 ghost use Rattle.domain_nsec3.specs.View.{as_param_record, hashed_links_of};
-ghost use Rattle.domain_checker.specs.Reading.{HasRead};
-ghost use Rattle.denial_program.specs.Check.{AreNsecs, AreNsec3s, AreParams, HasNoNsec3Verdict, HasNoParam, IsNsec3Verdict, IsNsecVerdict};
+ghost use Rattle.denial_program.specs.Check.{AreNsec3s, AreParams, HasNoNsec3Verdict, HasNoParam, IsNsec3Verdict, IsNsecVerdict};
 ghost use Rattle.denial_program.specs.declared.fault.DenialFault.TheVariants.{OutOfMemory as Memory};
 
 use crate::among::records_among;
@@ -14,32 +11,22 @@ use crate::fault::DenialFault;
 use crate::line::ZoneName;
 use domain_base::ParsedName;
 use domain_borrowed::{BorrowedRecord, ReadAs, ReadNsec, ReadNsec3param};
-use domain_dnssec::{Nsec3Hasher, Nsec3Records, NsecCheck, check_nsec3};
+use domain_dnssec::{Nsec3Hasher, Nsec3Records, check_nsec, check_nsec3};
+use domain_octets::OutOfMemory;
 use std::alloc::Global;
 
-/// Hands in the NSEC records among these, in their order.
-fn hand_in<'a>(check: &mut NsecCheck<'_>, records: Vec<BorrowedRecord<'a>>)
-    ensures { (links : List Link) × AreNsecs records.entry.items links
-        × ((a x : Name) (t : ℕ) (before : List Link) → HasRead a x t before check.old
-        → HasRead a x t (before ++ links) check.new) }
-{
-    let mut left = records.into_iter();
-    'left: while let Some(record) = left.next() {
-        if let Some(nsec) = ReadNsec::read(record) {
-            check.add(&nsec);
-        }
-    }
-}
-
 /// What the NSEC records among these prove.
-pub fn nsec_reply<'s, 'a>(question: Question, records: Vec<BorrowedRecord<'a>>) -> Reply<'s, 'a>
-    ensures { IsNsecVerdict records.entry.items question result }
+pub fn nsec_reply<'s, 'a>(
+    alloc: Global,
+    question: Question,
+    records: Vec<BorrowedRecord<'a>>,
+) -> Result<Reply<'s, 'a>, OutOfMemory>
+    ensures { IfOk result (IsNsecVerdict records.entry.items question) }
 {
     let Question { apex, name, rtype } = question;
-    let mut check = NsecCheck::new(&apex, &name, rtype);
-    hand_in(&mut check, records);
-    let verdict = check.verdict();
-    Reply::Verdict(name, verdict)
+    let nsecs: Vec<ReadNsec<'a>> = records_among(alloc, &apex, &records)?;
+    let verdict = check_nsec(&apex, &nsecs, &name, rtype);
+    Ok(Reply::Verdict(name, verdict))
 }
 
 /// The NSEC3 records among these, with the one NSEC3PARAM record of the apex.

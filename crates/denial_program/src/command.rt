@@ -31,10 +31,9 @@ pub struct Question {
 /// What the words ask for.
 #[derive(Drop)]
 pub enum Command {
-    /// The NSEC chain of the zone with this apex.
-    Nsec(ZoneName),
-    /// The NSEC3 chain of the zone with this apex, with these parameters.
-    Nsec3(ZoneName, Nsec3Params),
+    /// The chain of the zone with this apex: of NSEC3 records with these parameters, or, without
+    /// any, of NSEC records.
+    Chain(ZoneName, Option<Nsec3Params>),
     /// What NSEC records prove.
     CheckNsec(Question),
     /// What NSEC3 records prove.
@@ -111,7 +110,7 @@ fn nsec_command(alloc: Global, words: &[String]) -> Result<Command, DenialFault>
     let [apex] = words else {
         return Err(DenialFault::Usage);
     };
-    Ok(Command::Nsec(name_of(alloc, apex.as_str())?))
+    Ok(Command::Chain(name_of(alloc, apex.as_str())?, None))
 }
 
 /// The parameters with these iterations and this salt (RFC 5155, section 4.3), and the flags that a
@@ -151,7 +150,7 @@ fn nsec3_command(alloc: Global, words: &[String]) -> Result<Command, DenialFault
     };
     let apex = name_of(alloc, apex.as_str())?;
     let parameters = parameters_of(alloc, iterations.as_str(), salt.as_str(), last)?;
-    Ok(Command::Nsec3(apex, parameters))
+    Ok(Command::Chain(apex, Some(parameters)))
 }
 
 /// The question that these words spell.

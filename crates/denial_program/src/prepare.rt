@@ -113,7 +113,9 @@ pub fn store_apex<'a>(arena: &'a Bump, apex: &ZoneName) -> Result<ParsedName<'a>
     store_name(arena, apex).map_err(|_| unprepared())
 }
 
-/// The records, with the octets of their owners compacted into the arena once more, in order.
+/// The records, where their owners are printed with the octets of these compacted into the arena
+/// once more, in order: who goes over them, and the chain that borrows them, go over these from one
+/// end to the other. Owners that are hashed stay where they lie.
 ///
 /// # Errors
 ///
@@ -121,9 +123,13 @@ pub fn store_apex<'a>(arena: &'a Bump, apex: &ZoneName) -> Result<ParsedName<'a>
 pub fn compact_zone<'a>(
     arena: &'a Bump,
     sorted: Vec<BorrowedRecord<'a>>,
+    are_printed: bool,
 ) -> Result<Vec<BorrowedRecord<'a>>, DenialFault>
     ensures ok { IfOk result (λ compacted. compacted.items ≡ sorted.entry.items) }
     ensures err { IfErr result (λ e. e ≡ DenialFault.Unprepared prepare_error) }
 {
+    if !are_printed {
+        return Ok(sorted);
+    }
     compact_owners(arena, sorted).map_err(|_| unprepared())
 }

@@ -8,11 +8,12 @@ use Rattle.domain_octets.specs.Octets.{Octets}
 use Rattle.domain_answer.specs.ZoneAnswer.{wildcard_below}
 use Rattle.domain_nsec3.specs.View.{HasherAnswer}
 use Rattle.domain_borrowed.specs.Data.{RawRecord}
-use Rattle.denial_program.specs.{Run.IsUnwritten, declared.{command.Question.Question, fault.DenialFault.{DenialFault, TheVariants.{Line, Write}}}}
+use Rattle.denial_program.specs.{Run.IsUnwritten, declared.{command.Question.Question, fault.DenialFault.{DenialFault, TheVariants.Write}}}
 use Rattle.denial_program.specs.{Answer.fault_of_zone, declared.fault.DenialFault.TheVariants.OutOfMemory}
 use Rattle.domain_hasher.specs.declared.error.Nsec3HashError.{Nsec3HashError, TheVariants.{Hasher, OutOfMemory as NoMemory}}
 use Rattle.domain_records.specs.Text.{signing_error_of}
 use Rattle.judge_program.specs.Judged.{IsRefusedWith}
+use Rattle.denial_program.proofs.RunLemmas.{TellsNone}
 
 -- ---- The options of a command.
 
@@ -52,10 +53,7 @@ unwritten is_such has_none text is none e h = grind (arith, common_steps)
 
 -- which faults there is no text for
 
-pub no_line_told : (hashes : HasherAnswer) (kind : ChainKind) (given : List RawRecord) (q : Question) (n : ℕ) → HasNoText hashes kind given q (Line n) → ⊥
-no_line_told hashes Nsec given q n why = grind (arith, common_steps)
-no_line_told hashes (Nsec3 asked) given q n why = grind (arith, common_steps)
-
-pub no_write_told : (hashes : HasherAnswer) (kind : ChainKind) (given : List RawRecord) (q : Question) → HasNoText hashes kind given q Write → ⊥
-no_write_told hashes Nsec given q why = grind (arith, common_steps)
-no_write_told hashes (Nsec3 asked) given q why = grind (arith, common_steps)
+pub tells_no_text : (hashes : HasherAnswer) (kind : ChainKind) (given : List RawRecord) (q : Question) (e : DenialFault)
+    → HasNoText hashes kind given q e → TellsNone (HasNoText hashes kind given q) e
+tells_no_text hashes Nsec given q e why = grind (arith, common_steps)
+tells_no_text hashes (Nsec3 asked) given q e why = grind (arith, common_steps)

@@ -1,7 +1,7 @@
 -- The first line of those that are told.
 use Rattle.std.proofs.{lemmas.Grind.common_steps, Common.{◌≡◌, ℕ, ◌+◌, List, [], ◌∷◌, arith, inl, inr}}
 use Rattle.domain_borrowed.specs.Data.{RawRecord}
-use Rattle.denial_program.{specs.Listing.{Give, IsFirstBad}, proofs.LineLemmas.{first_bad_here, first_bad_later}}
+use Rattle.denial_program.specs.Listing.{Give, IsFirstBad}
 use Rattle.lint_program.specs.Report.{AreLinted}
 
 -- the lowest bad line, where the first line has the number n
@@ -10,11 +10,11 @@ first_from : (n : ℕ) (lines : List (List ℕ)) (m : ℕ) (more numbers : List 
 first_from n [] m more numbers records h = absurd (let w = h.0 in cc)
 first_from n (line ∷ rest) m more numbers records (inl h) =
     let lower = first_from (n + 1) rest m more numbers records h.1 in
-    (lower.0 + 1, omega (arith, lower.1), first_bad_later line rest _ (inl h.0) lower.2)
+    (lower.0 + 1, omega (arith, lower.1), inr (inl h.0, (lower.0, refl, lower.2)))
 first_from n (line ∷ rest) m more numbers records (inr (inl h)) =
     let lower = first_from (n + 1) rest m more h.4 h.1 h.6 in
-    (lower.0 + 1, omega (arith, lower.1), first_bad_later line rest _ (inr (h.0, h.3)) lower.2)
-first_from n (line ∷ rest) m more numbers records (inr (inr h)) = grind (arith, common_steps, (first_bad_here line rest h.2))
+    (lower.0 + 1, omega (arith, lower.1), inr (inr (h.0, h.3), (lower.0, refl, lower.2)))
+first_from n (line ∷ rest) m more numbers records (inr (inr h)) = (1, grind (arith, common_steps), inl (refl, h.2))
 
 pub first_told : (lines : List (List ℕ)) (m : ℕ) (more numbers : List ℕ) (records : List RawRecord)
     → AreLinted 1 lines (m ∷ more) numbers records → IsFirstBad lines m

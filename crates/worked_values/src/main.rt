@@ -61,6 +61,15 @@ macro_rules! say_lent {
     };
 }
 
+/// Answers with the owners of the records of a chain that were picked, each after its label.
+macro_rules! say_owners {
+    ($answers:ident, $chain:ident, $denial:ident: $($label:literal: $place:ident),*) => {{
+        $(if let Some(listed) = $chain.lend($denial.$place.unwrap_or($chain.len())) {
+            $answers.show($label, listed.owner());
+        })*
+    }};
+}
+
 /// The records of one type among those that words spell.
 macro_rules! records_of {
     ($answers:ident, $rtype:ident, $words:expr) => {{

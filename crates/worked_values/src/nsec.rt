@@ -31,13 +31,6 @@ fn made(form: &str, apex: &OwnName, words: &[&str], answers: &mut Answers) -> An
     answers.show_records(nsecs.as_slice())
 }
 
-/// Adds the owner of the record at a place of a chain, where one is given.
-fn add_owner(label: &str, chain: &Chain<'_>, place: Option<usize>, answers: &mut Answers) {
-    if let Some(listed) = chain.lend(place.unwrap_or(chain.len())) {
-        answers.show(label, listed.owner());
-    }
-}
-
 /// What is picked of a chain to answer each name and type with.
 fn deny(apex: &OwnName, chain: &Chain<'_>, asked: &[&str], answers: &mut Answers) -> Answered {
     let denier = answers.ok(NsecDenier::new(answers.alloc, chain))?;
@@ -48,8 +41,7 @@ fn deny(apex: &OwnName, chain: &Chain<'_>, asked: &[&str], answers: &mut Answers
             answers.debug("not as without keys", &denial);
         }
         answers.debug("answer", &denial.answer);
-        add_owner("name", chain, denial.of_name, answers);
-        add_owner("wildcard", chain, denial.of_wildcard, answers);
+        say_owners!(answers, chain, denial: "name": of_name, "wildcard": of_wildcard);
     }
     Some(())
 }

@@ -21,13 +21,6 @@ fn show(made: Result<Made, ChainError>, answers: &mut Answers) -> Answered {
     answers.show("record", &made.nsec3param)
 }
 
-/// Adds the owner of the record at a place of a chain, where one is given.
-fn add_owner(label: &str, chain: &Chain<'_>, place: Option<usize>, answers: &mut Answers) {
-    if let Some(listed) = chain.lend(place.unwrap_or(chain.len())) {
-        answers.show(label, listed.owner());
-    }
-}
-
 /// What the chain of a zone is made by: its apex, what is asked of the generator, and a hasher.
 #[derive(Drop)]
 struct Hashing<'a, H>(&'a OwnName, &'a Config, &'a H);
@@ -78,9 +71,10 @@ impl<H: Nsec3Hasher> Hashing<'_, H> {
             let denial = deny_nsec3(answers.alloc, chain, &name, rtype, self.2);
             if let Some(denial) = answers.ok(denial) {
                 answers.debug("answer", &denial.answer);
-                add_owner("closest encloser", chain, denial.of_encloser, answers);
-                add_owner("next closer name", chain, denial.of_next_closer, answers);
-                add_owner("wildcard", chain, denial.of_wildcard, answers);
+                say_owners!(
+                    answers, chain, denial: "closest encloser": of_encloser,
+                    "next closer name": of_next_closer, "wildcard": of_wildcard
+                );
             }
         }
         Some(())

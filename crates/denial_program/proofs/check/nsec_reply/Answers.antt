@@ -1,14 +1,17 @@
-use Rattle.std.proofs.Common.{[], refl}
+use Rattle.std.proofs.Common.{ap, refl, subst}
+use Rattle.domain_nsec.specs.Chain.{links_of}
+use Rattle.domain_checker.specs.Reading.{IsChecked}
+use Rattle.denial_program.specs.Check.{AreNsecs}
 use Rattle.denial_program.proofs.check.nsec_reply.Goals as goal
 
 pub returns : goal.returns
 returns c =
-    let q = c.args.question in
-    let handed = c.hand_in.ensures in
+    let links = links_of (λ n. n) c.in_ok-nsecs.nsecs.items in
     record {
-      links = handed.0;
-      are = handed.1;
-      verdict = c.verdict-verdict.result;
+      links = links;
+      are = subst (λ records. AreNsecs records links) c.deref.ensures.value c.in_ok-nsecs.ensures;
+      verdict = c.check_nsec-verdict.result;
       is = refl;
-      checked = c.verdict-verdict.ensures q.apex q.name q.rtype handed.0 (handed.2 q.apex q.name q.rtype [] c.new-check.ensures);
+      checked = subst (λ ks. IsChecked ks c.args.question.apex c.args.question.name c.args.question.rtype c.check_nsec-verdict.result)
+          (ap (links_of (λ n. n)) c.deref-2.ensures.value) c.check_nsec-verdict.ensures;
     }
