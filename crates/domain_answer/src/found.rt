@@ -26,6 +26,7 @@ pub enum NsecFound<'a, O: Octets, N: ToName> {
 
 /// The first record that matches the name or, where none does, the first that covers it. Records
 /// whose owner or next name is not at or below the apex are passed over.
+#[tactic(auto, using(std::proofs::lemmas::Grind::common_steps))]
 pub fn find_nsec<'a, A: ToName, O: Octets, N: ToName, M: ToName>(
     apex: &A,
     chain: &'a [NsecRr<O, N>],
