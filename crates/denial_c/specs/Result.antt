@@ -1,14 +1,12 @@
 -- What is answered of octets: a verdict or a whole answer over the records that the octets are.
-use Rattle.std.specs.Prelude.{◌≡◌, ℕ, Bool, ◌&&◌, ◌==◌, List, filter, map, ◌≢◌, ◌⊎◌, nat_lt, [], ◌∷◌, length, Result, Ok, Err}
-use Rattle.std.specs.List.{AllByRecursion, flat_map}
+use Rattle.std.specs.{Prelude.{◌≡◌, ℕ, Bool, ◌&&◌, ◌==◌, List, filter, map, ◌≢◌, ◌⊎◌, nat_lt, [], ◌∷◌, length, Result, Ok, Err}, List.AllByRecursion}
+use Rattle.std.specs.List.{flat_map}
 use Rattle.domain_octets.specs.Octets.{Octets}
 use Rattle.domain_names.specs.Name.{same_name, is_at_or_below, wire_of, IsName, Name}
 use Rattle.domain_nsec.specs.Chain.{Link}
 use Rattle.domain_nsec3.specs.{Chain.{HashedLink, ParamRecord, Parameters}, View.as_param_record}
-use Rattle.domain_borrowed.specs.Data.{RawRecord, nsec_record, nsec3_record, param_record, IsNsec, IsNsec3, IsParam, record_octets}
-use Rattle.domain_borrowed.specs.Data.{IsRecord}
-use Rattle.denial_c.specs.declared.{fault.Fault.{Fault, TheVariants.{Records, OutOfMemory}}, nsec3.Telling.Telling}
-use Rattle.denial_c.specs.declared.question.Question.{Question}
+use Rattle.domain_borrowed.specs.Data.{RawRecord, nsec_record, nsec3_record, param_record, IsNsec, IsNsec3, IsParam, record_octets, IsRecord}
+use Rattle.denial_c.specs.declared.{fault.Fault.{Fault, TheVariants.{Records, OutOfMemory}}, nsec3.Telling.Telling, question.Question.Question}
 use Rattle.domain_sha1.specs.Iterated.{sha1_answer}
 use Rattle.domain_hasher.specs.declared.error.Nsec3HashError.{Nsec3HashError}
 use Rattle.domain_checker.specs.{HashedReading.IsHashedChecked, HashedVerdict.{HashedRecords, links_with, links}, Reading.IsChecked}

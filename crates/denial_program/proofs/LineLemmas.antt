@@ -1,17 +1,16 @@
 -- Lines: the record that each spells, and how a reader finds them.
 use Rattle.std.proofs.Common.{arith, ◌≡◌, ◌↔◌, ◌≤◌, IsTrue, Bool, true, false, ℕ, List, sym, subst, inl, inr, None, ◌≢◌, ◌+◌, ◌-◌, ◌<◌, [], length, take}
 use Rattle.std.proofs.Common.{get_or, ap, ◌∙◌, IfSome, Option, length-take-le, ◌∷◌, ◌++◌, refl, eqb, cond, ◌⊎◌, Some, append-nil, append_assoc}
-use Rattle.std.proofs.lemmas.{Bool.Decides.nat_tests, Grind.common_steps, List.Elements.{All-weaker, All-nil, All-from_get_or}}
-use Rattle.std.{proofs.{lemmas.Str.IsUtf8-from_ascii, KnownBytes.Consumes-nil, BufReadLemmas.Consumes_through}, specs.{List.{All, slice_split}, Str.IsUtf8}}
-use Rattle.std.{proofs.{BufReadLemmas.take_through_nonempty, lemmas.List.get_or-take}, specs.Io.BufRead.{take_through, DropsThrough, drop_through}}
-use Rattle.std.{specs.{Io.KnownBytes.Consumes, Str.Lines.{lines, lines_of_parts}}, proofs.lemmas.List.Splits.length-slice_split}
-use Rattle.std.specs.Str.Lines.{strip_carriage_return}
+use Rattle.std.proofs.lemmas.{Bool.Decides.nat_tests, Grind.common_steps, List.{get_or-take, Elements.{All-weaker, All-nil, All-from_get_or}}}
+use Rattle.std.proofs.{lemmas.{List.Splits.length-slice_split, Str.IsUtf8-from_ascii}, KnownBytes.Consumes-nil, BufReadLemmas.Consumes_through}
+use Rattle.std.{proofs.BufReadLemmas.take_through_nonempty, specs.{List.{All, slice_split}, Str.{IsUtf8, Lines.{lines, lines_of_parts, strip_carriage_return}}}}
+use Rattle.std.specs.Io.{BufRead.{take_through, DropsThrough, drop_through}, KnownBytes.Consumes}
 use Rattle.domain_names.specs.Name.{Name, Tokens}
 use Rattle.domain_octets.specs.{Text.words_of, Octets.Octets}
 use Rattle.domain_message.{specs.{Entry.{EntryText, IsOfLine, OwnerTaken, RefusesBody}, declared.line.LineError.LineError}, proofs.LineLemmas.in_body}
 use Rattle.domain_message.proofs.OneLineLemmas.{none_in}
-use Rattle.denial_program.specs.Listing.{IsBad, IsPlain, IsSkipped, is_plain, Give, IsFirstBad, Refuses, Says, TakesLine, TakesNone}
-use Rattle.denial_program.specs.declared.line.Line.{Line, TheVariants.{Nothing, Record, Bad}}
+use Rattle.denial_program.specs.{Listing.{IsBad, IsPlain, IsSkipped, is_plain, Give, IsFirstBad, Refuses, Says, TakesLine, TakesNone}, declared.line.Line.Line}
+use Rattle.denial_program.specs.declared.line.Line.TheVariants.{Nothing, Record, Bad}
 use lib.Dec.{eqb-suc-zero}
 use Rattle.domain_borrowed.specs.Data.{RawRecord}
 

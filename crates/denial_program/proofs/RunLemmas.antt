@@ -1,7 +1,7 @@
 -- What a run reads, answers and writes.
-use Rattle.std.proofs.Common.{◌≡◌, ℕ, Bool, IsTrue, List, sym, ◌∙◌, arith, ◌⊎◌, refl, subst, inl, inr, Result, IfErr, ◌+◌, ◌<◌, [], ◌∷◌, ◌++◌, ap, drop}
-use Rattle.std.proofs.{Common.{get_or, length, append-nil, codes, take, Option, None, Some, Ok, Err, IfSome, OnOk}, lemmas.Slice.Eq.bytes_eq-Decides}
-use Rattle.std.{specs.{Str.{bytes_eq, Lines.lines}, Result.IsErrAnd, Io.KnownBytes.Appends}, proofs.lemmas.{Grind.common_steps, List.drop_more}}
+use Rattle.std.proofs.Common.{◌≡◌, ℕ, Bool, IsTrue, List, sym, ◌∙◌, arith, ◌⊎◌, refl, subst, inl, inr, Result, IfErr, ◌+◌, ◌<◌, [], ◌∷◌, ◌++◌, ap, drop, get_or}
+use Rattle.std.proofs.{Common.{length, append-nil, codes, take, Option, None, Some, Ok, Err, IfSome, OnOk}, lemmas.Slice.Eq.bytes_eq-Decides}
+use Rattle.std.{proofs.lemmas.{Grind.common_steps, List.drop_more}, specs.{Str.{bytes_eq, Lines.lines}, Result.IsErrAnd, Io.KnownBytes.Appends}}
 use Rattle.domain_octets.specs.Octets.{Octets}
 use Rattle.domain_names.specs.Name.{Name, Tokens}
 use Rattle.domain_nsec.specs.Chain.{Link, usual_config, IsChain, IsFirstFault}
@@ -9,13 +9,12 @@ use Rattle.domain_nsec3.specs.{Chain.{ChainRecords, IsChainParam, IsHashedChain}
 use Rattle.domain_records.specs.{Order.IsOneClass, declared.error.SigningError.{SigningError, TheVariants.OutOfMemory as NoRoom}}
 use Rattle.domain_borrowed.specs.Data.{RawRecord, zone_of_raw}
 use Rattle.domain_dnssec.specs.AnyOrder.{AreMixed}
-use Rattle.denial_program.specs.{Fault.{IsOfRecords, IsReadingFault, IsReadToEnd}, Answer.fault_of_zone}
-use Rattle.denial_program.specs.Answer.{usual_nsec3_config, HasNoAnswer, HasNoNsecs, IsAnswer}
-use Rattle.denial_program.specs.{Answer.{HasNoNsec3s, IsNsecs, IsNsec3s, IsUnmade, IsUnsorted, Sorts}, Run.{IsUnwritten, IsOver, IsRun, IsWritten, ReadsLines}}
-use Rattle.denial_program.specs.{Command.Params, declared.{answer.Reply.{Reply, TheVariants.{Nsecs, Nsec3s}}, command.Command.{Command, TheVariants.Chain}}}
-use Rattle.denial_program.specs.declared.{command.Command.TheVariants.{CheckNsec, CheckNsec3}, fault.DenialFault.{DenialFault, TheVariants.{Line, Usage}}}
-use Rattle.denial_program.specs.{declared.fault.DenialFault.TheVariants.{Write, MixedClasses as NoClass, OutOfMemory as NoMemory}, Check.AreAmong, Listing.Give}
-use Rattle.denial_program.{specs.Text.lines_of, proofs.LineLemmas.known_so}
+use Rattle.denial_program.specs.{Fault.{IsOfRecords, IsReadingFault, IsReadToEnd}, Answer.{fault_of_zone, usual_nsec3_config, HasNoAnswer, HasNoNsecs}}
+use Rattle.denial_program.specs.{Answer.{IsAnswer, HasNoNsec3s, IsNsecs, IsNsec3s, IsUnmade, IsUnsorted, Sorts}, Run.{IsUnwritten, IsOver, IsRun, IsWritten}}
+use Rattle.denial_program.specs.{Run.ReadsLines, Command.Params, declared.{answer.Reply.{Reply, TheVariants.{Nsecs, Nsec3s}}, command.Command.Command}}
+use Rattle.denial_program.specs.declared.{command.Command.TheVariants.{Chain, CheckNsec, CheckNsec3}, fault.DenialFault.{DenialFault, TheVariants.Line}}
+use Rattle.denial_program.specs.{declared.fault.DenialFault.TheVariants.{Usage, Write, MixedClasses as NoClass, OutOfMemory as NoMemory}, Check.AreAmong}
+use Rattle.denial_program.{specs.{Listing.Give, Text.lines_of}, proofs.LineLemmas.known_so}
 use Rattle.domain_record.specs.Record.{IsRecordClone}
 use Rattle.domain_nsec3.specs.Chain as hashed
 
@@ -141,7 +140,7 @@ module _ {C X R : Type 0} (text_of : X → Octets) (Asks : Tokens → C → Type
     (has_none : C → List RawRecord → DenialFault → Type 0) (input left old new : Option Octets) where
   -- the records were not read, or nothing was asked of them
   pub not_begun : {S : Type 0} (r : Result R DenialFault) (e : DenialFault) → IsErrAnd r (λ f. f ≡ e) → ReadsLines {R = S} input left (Err e)
-      → (e ≡ Usage) ⊎ IsReadingFault e → Run text_of Asks words is_answer has_none input left old new r
+      → IsReadingFault e ⊎ (e ≡ Usage) ⊎ (e ≡ NoMemory) → Run text_of Asks words is_answer has_none input left old new r
   not_begun (Ok x) e is reads early = absurd is
   not_begun (Err f) e is reads early =
       rw is (record {

@@ -5,16 +5,14 @@ use Rattle.domain_names.specs.Name.{Name, Tokens}
 use Rattle.domain_records.specs.{Order.IsOneClass, declared.error.SigningError.SigningError}
 use Rattle.domain_records.specs.declared.error.SigningError.TheVariants as signing_error
 use Rattle.domain_nsec.specs.Chain.{usual_config}
-use Rattle.domain_nsec3.specs.{Chain.ChainConfig, View.{HasherAnswer, hash_by, parameters_of}}
-use Rattle.domain_nsec3.specs.declared.config.Nsec3ParamTtlMode.TheVariants.{Soa}
+use Rattle.domain_nsec3.specs.{Chain.ChainConfig, View.{HasherAnswer, hash_by, parameters_of}, declared.config.Nsec3ParamTtlMode.TheVariants.Soa}
 use Rattle.domain_borrowed.specs.Data.{RawRecord}
 use Rattle.domain_dnssec.specs.{AnyOrder.AreMixed, declared.chain.ChainError.ChainError}
 use Rattle.domain_dnssec.specs.declared.chain.ChainError.TheVariants as chain_error
 use Rattle.domain_dnssec.specs.RawRecords as raw
-use Rattle.denial_program.specs.{Check.{HasNoNsec3Verdict, IsNsec3Verdict, IsNsecVerdict}, Command.{Asks, Params}, Run.IsOver}
-use Rattle.denial_program.specs.declared.{answer.Reply.{Reply, TheVariants.{Nsecs, Nsec3s}}, command.Command.Command}
-use Rattle.denial_program.specs.declared.{command.Command.TheVariants.{Chain, CheckNsec, CheckNsec3}, fault.DenialFault.DenialFault}
-use Rattle.denial_program.specs.{declared.fault.DenialFault.TheVariants.{Unprepared, MixedClasses, Signing, OutOfMemory}, Fault.prepare_error}
+use Rattle.denial_program.specs.{Check.{HasNoNsec3Verdict, IsNsec3Verdict, IsNsecVerdict}, Command.{Asks, Params}, Run.IsOver, declared.answer.Reply.Reply}
+use Rattle.denial_program.specs.declared.{answer.Reply.TheVariants.{Nsecs, Nsec3s}, command.Command.{Command, TheVariants.{Chain, CheckNsec, CheckNsec3}}}
+use Rattle.denial_program.specs.{declared.fault.DenialFault.{DenialFault, TheVariants.{Unprepared, MixedClasses, Signing, OutOfMemory}}, Fault.prepare_error}
 
 -- sorted is the sorted set of the records, by owner, class, type and octets
 abbrev pub Sorts : List RawRecord → List RawRecord → Type 0

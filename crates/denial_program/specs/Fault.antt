@@ -2,9 +2,8 @@
 use Rattle.std.specs.{Prelude.{◌≡◌, ℕ, [], Option, Some, IfSome, ◌++◌, codes}, Fmt.decimal}
 use Rattle.domain_octets.specs.Octets.{Octets}
 use Rattle.domain_names.specs.Name.{Tokens}
-use Rattle.denial_program.specs.{Command.{IsCommand, IsNoCommand}, declared.fault.DenialFault.{DenialFault, TheVariants.{Usage, Read}}}
-use Rattle.denial_program.specs.declared.fault.DenialFault.TheVariants.{Line, Unprepared, MixedClasses, Signing, Param, Write, OutOfMemory}
-use Rattle.denial_program.specs.declared.prepare.PrepareError.{PrepareError}
+use Rattle.denial_program.specs.{Command.{IsCommand, IsNoCommand}, declared.fault.DenialFault.{DenialFault, TheVariants.{Usage, Read, Line, Unprepared}}}
+use Rattle.denial_program.specs.declared.{fault.DenialFault.TheVariants.{MixedClasses, Signing, Param, Write, OutOfMemory}, prepare.PrepareError.PrepareError}
 use Rattle.domain_records.specs.Text.{signing_error_text}
 
 -- ---- When each fault comes.

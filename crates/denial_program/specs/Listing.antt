@@ -4,8 +4,7 @@ use Rattle.domain_octets.specs.{Text.{tilde, words_of}, Octets.Octets}
 use Rattle.domain_names.specs.Name.{Tokens, Name}
 use Rattle.domain_borrowed.specs.Data.{RawRecord}
 use Rattle.domain_message.specs.{Entry.{IsNoEntry, RefusesEntry}, declared.line.LineError.{LineError, TheVariants.OutOfMemory}}
-use Rattle.denial_program.specs.{Spelled.{LineText, SpelledRecord, SpellsRecord}, declared.line.Line.{Line, TheVariants.{Nothing, Record}}}
-use Rattle.denial_program.specs.declared.line.Line.TheVariants.{Bad}
+use Rattle.denial_program.specs.{Spelled.{LineText, SpelledRecord, SpellsRecord}, declared.line.Line.{Line, TheVariants.{Nothing, Record, Bad}}}
 
 -- ---- What the lines of a text give.
 

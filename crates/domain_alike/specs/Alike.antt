@@ -1,7 +1,6 @@
 -- Names of an NSEC3 chain that hash alike (RFC 5155, section 7.1).
-use Rattle.std.specs.Prelude.{◌≡◌, ◌⊎◌, ℕ, true, false, All, List, Ok, Err, Option, Some, None, map, Bool, [], ◌∷◌, filter, Vec}
-use Rattle.std.specs.{List.{list_any, find, flat_map, AllByRecursion, Sorted.IsStrictlySortedBy}, BTreeMap.BTreeMap}
-use Rattle.std.specs.{Cmp.Lexicographic.slice_cmp, Ordering.{is_eq, nat_cmp}}
+use Rattle.std.specs.{Prelude.{◌≡◌, ◌⊎◌, ℕ, true, false, All, List, Ok, Err, Option, Some, None, map, Bool, [], ◌∷◌, filter, Vec}, List.{list_any, find}}
+use Rattle.std.specs.{List.{flat_map, AllByRecursion, Sorted.IsStrictlySortedBy}, BTreeMap.BTreeMap, Cmp.Lexicographic.slice_cmp, Ordering.{is_eq, nat_cmp}}
 use Rattle.domain_octets.specs.Octets.{Octets}
 use Rattle.domain_hasher.specs.declared.error.Nsec3HashError.{Nsec3HashError}
 use Rattle.domain_names.specs.Name.{same_name, before, canonical_cmp, Name}

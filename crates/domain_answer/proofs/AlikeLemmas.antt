@@ -1,6 +1,5 @@
 -- What records answer does not depend on TTLs, classes and the case of letters.
-use Rattle.std.proofs.{Common.{◌≡◌, ℕ, Bool, List, Option, Some, None, arith, cond, not, ◌&&◌, ◌||◌}, lemmas.Grind.common_steps}
-use Rattle.std.specs.List.{find}
+use Rattle.std.{proofs.{Common.{◌≡◌, ℕ, Bool, List, Option, Some, None, arith, cond, not, ◌&&◌, ◌||◌}, lemmas.Grind.common_steps}, specs.List.find}
 use Rattle.domain_names.specs.Name.{same_name, Name}
 use Rattle.domain_base.specs.Types.{dname}
 use Rattle.domain_chain_rdata.specs.Rdata.{is_opt_out}
@@ -9,13 +8,12 @@ use Rattle.domain_nsec.specs.Chain.{Link}
 use Rattle.domain_nsec3.specs.Chain.{HashedLink, ChainConfig, nsec3_lists}
 use Rattle.domain_checker.proofs.AlikeLemmas.{is_cover_alike, is_match_alike, nexts, owners, says_alike, shared_alike, OptionsPaired, any_alike, find_alike}
 use Rattle.domain_checker.proofs.{AlikeLemmas.{covered_alike, IsEncloserAlike, encloser_alike, matched_alike, matching, covering}, EncloserLemmas.same_count}
-use Rattle.domain_checker.specs.{Verdict.{ArePaired, IsAlike, IsHashedAlike}, HashedReading.Encloser, HashedVerdict.{next_closer, HashedRecords}}
-use Rattle.domain_checker.specs.{HashedVerdict.{chain_records, with_links}, Reading.{is_cover, is_match}}
-use Rattle.domain_answer.specs.HashedReading.{IsExpansionRead, closer_name, closer_told, proved_expansion, hashed_proved_answer, tells_encloser}
-use Rattle.domain_answer.specs.HashedReading.{tells_wildcard, IsHashedRead, IsReadOn, found_answer, wildcard_told, hashed_encloser, hashed_exists}
-use Rattle.domain_answer.specs.{HashedReading.hashed_zone_answer, declared.answer.Answer.Answer, Reading.{proved_answer, absent_answer, cover_answer}}
-use Rattle.domain_answer.specs.{Reading.{listed_both, reading, wildcard_both}, ZoneAnswer.wildcard_below, declared.answer.Answer.TheVariants.MayBeUnsigned}
-use Rattle.domain_answer.specs.declared.answer.Answer.TheVariants.{NoCloserName, NotProven}
+use Rattle.domain_checker.specs.{Verdict.{ArePaired, IsAlike, IsHashedAlike}, HashedReading.Encloser, HashedVerdict.{next_closer, HashedRecords, chain_records}}
+use Rattle.domain_checker.specs.{HashedVerdict.with_links, Reading.{is_cover, is_match}}
+use Rattle.domain_answer.specs.HashedReading.{IsExpansionRead, closer_name, closer_told, proved_expansion, hashed_proved_answer, tells_encloser, tells_wildcard}
+use Rattle.domain_answer.specs.HashedReading.{IsHashedRead, IsReadOn, found_answer, wildcard_told, hashed_encloser, hashed_exists, hashed_zone_answer}
+use Rattle.domain_answer.specs.{declared.answer.Answer.{Answer, TheVariants.{MayBeUnsigned, NoCloserName, NotProven}}, Reading.{proved_answer, absent_answer}}
+use Rattle.domain_answer.specs.{Reading.{cover_answer, listed_both, reading, wildcard_both}, ZoneAnswer.wildcard_below}
 
 module _ (a : Name) (t : ℕ) where
   wildcard_both_alike : (n : ℕ) (w : Name) (m p c d : Option Link) → OptionsPaired IsAlike m p → OptionsPaired IsAlike c d

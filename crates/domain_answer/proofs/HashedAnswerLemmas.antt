@@ -1,41 +1,40 @@
 -- What the records of an NSEC3 chain answer by themselves is what they prove of the zone, and the whole chain proves all; a zone whose chain leaves
 -- out nothing answers as it does with an NSEC chain; and what records answer is as it is promised.
-use Rattle.std.proofs.Common.{◌≡◌, ℕ, ◌<◌, true, false, cond, length, refl, sym, ap, ◌∙◌, subst, nat_eq, Option, Some, None, arith, Bool, not, ◌&&◌, List}
-use Rattle.std.proofs.lemmas.Bool.{false_from_ne_true, or_left, or_right, cases_lt, false≢true, cases_Bool, and_from, and_parts}
-use Rattle.std.proofs.{Common.{inl, inr, ◌≤◌, ◌+◌, rules, ◌||◌, [], ◌∷◌}, lemmas.{Bool.true_from_ne_false, Grind.common_steps}}
-use Rattle.std.specs.{List.{Contains, list_any}, Prelude.{Ok, ◌==◌, filter}}
+use Rattle.std.proofs.Common.{◌≡◌, ℕ, ◌<◌, true, false, cond, length, refl, sym, ap, ◌∙◌, subst, nat_eq, Option, Some, None, arith, Bool, not, ◌&&◌, List, inl}
+use Rattle.std.proofs.{Common.{inr, ◌≤◌, ◌+◌, rules, ◌||◌, [], ◌∷◌}, lemmas.Bool.{false_from_ne_true, or_left, or_right, cases_lt, false≢true, cases_Bool}}
+use Rattle.std.{proofs.lemmas.{Bool.{and_from, and_parts, true_from_ne_false}, Grind.common_steps}, specs.{List.{Contains, list_any}, Prelude.{Ok, ◌==◌}}}
+use Rattle.std.specs.Prelude.{filter}
 use Rattle.domain_octets.specs.Octets.{Octets}
 use Rattle.domain_names.specs.Name.{same_name, is_at_or_below, last_labels, is_strictly_below, Name}
 use Rattle.domain_base.specs.Types.{dname, cname, ns, soa, ds, rrsig}
 use Rattle.domain_bitmap.specs.Blocks.{contains_type}
 use Rattle.domain_chain_rdata.specs.Rdata.{is_opt_out}
-use Rattle.domain_zone.proofs.{NameLemmas.{below_length, below_longer, below_parent}, WalkLemmas.{in_any, below_occluder, occluder_owns}}
-use Rattle.domain_zone.{proofs.PairLemmas.{in_filter, any_none, In, all_in}, specs.{Enclosers.{IsClosestEncloser, exists_over}, Zone.{ZoneRecord, has_type}}}
-use Rattle.domain_zone.specs.Zone.{is_occluded, is_zone_cut, records_of, occludes, unoccluded_owners}
+use Rattle.domain_zone.proofs.{NameLemmas.{below_length, below_longer, below_parent}, WalkLemmas.{in_any, below_occluder, occluder_owns}, PairLemmas.in_filter}
+use Rattle.domain_zone.{proofs.PairLemmas.{any_none, In, all_in}, specs.{Enclosers.{IsClosestEncloser, exists_over}, Zone.{ZoneRecord, has_type, is_occluded}}}
+use Rattle.domain_zone.specs.Zone.{is_zone_cut, records_of, occludes, unoccluded_owners}
 use Rattle.domain_nsec.specs.Chain.{Link}
 use Rattle.domain_nsec3.specs.{Chain.{HashedLink, IsHashedChain, hash_name, ChainConfig, nsec3_lists, original_owners}, Meaning.IsAlone}
 use Rattle.domain_checker.proofs.EncloserLemmas.{choose_by, either_found, not_below, owner_unoccluded, same_count, apex_from, closest_is, exists_above}
 use Rattle.domain_checker.proofs.{EncloserLemmas.{cut_same, owner_high}, HashedListLemmas.{IsClosed, by_way, heard, itself_counted, unheard, cover_denies}}
 use Rattle.domain_checker.proofs.{HashedListLemmas.{match_is_of_name, alone_by, matched_same, whole_covers, whole_matches}, HashedVerdictLemmas.IsGone}
 use Rattle.domain_checker.proofs.HashedVerdictLemmas.{IsKnown, IsOfClosest, encloser_is, known_of_first, as_chain, whole_proves as proves_all}
-use Rattle.domain_checker.specs.{Verdict.{IsHashedAlike, NsecChainsAreKnown}, HashedReading.{Encloser, IsEncloser, IsFoundEncloser, encloser_is_cut}}
-use Rattle.domain_checker.specs.HashedVerdict.{ChainFacts, ChainsAreKnown, is_hash_cover, is_hash_match, is_covered, is_matched, next_closer}
-use Rattle.domain_checker.specs.HashedVerdict.{is_below_chain_cut, HashedRecords, first_cover, first_match, chain_records}
-use Rattle.domain_checker.proofs.AlikeLemmas.{paired_with_some}
+use Rattle.domain_checker.{proofs.AlikeLemmas.paired_with_some, specs.{Verdict.{IsHashedAlike, NsecChainsAreKnown}, HashedReading.{Encloser, IsEncloser}}}
+use Rattle.domain_checker.specs.{HashedReading.{IsFoundEncloser, encloser_is_cut}, HashedVerdict.{ChainFacts, ChainsAreKnown, is_hash_cover, is_hash_match}}
+use Rattle.domain_checker.specs.HashedVerdict.{is_covered, is_matched, next_closer, is_below_chain_cut, HashedRecords, first_cover, first_match, chain_records}
 use Rattle.domain_answer.proofs.EncloserLemmas.{expanded_alike, owned_alike, closest_last, dname_occludes, exists_low, none_below, wildcard_low, last_above}
 use Rattle.domain_answer.proofs.EncloserLemmas.{last_count, all_told, below_strictly, cut_occludes, cut_owns, name_of, none_above, strictly_enclosed}
 use Rattle.domain_answer.proofs.{EncloserLemmas.{strictly_other, strictly_same, highest_of, owner_exists}, ChainLemmas.{reading_proved, reading_fits}}
-use Rattle.domain_answer.specs.HashedReading.{missing_closer, ExpansionRestsOn, IsExpansionAnswered, IsExpansionRead, closer_name, closer_told, is_expanded}
-use Rattle.domain_answer.specs.HashedReading.{AreAskedAlone, IsHashedAnswered, hashed_proved_answer, needs_wildcard, tells_encloser, tells_wildcard, IsReadOn}
-use Rattle.domain_answer.specs.HashedReading.{IsTold, IsWildcardRead, encloser_answer, found_answer, next_answer, own_answer, IsHashedRead, hashed_encloser}
-use Rattle.domain_answer.specs.HashedReading.{hashed_inside_answer, hashed_wildcard_answer, hashed_exists, hashed_zone_answer, proved_expansion}
-use Rattle.domain_answer.specs.HashedReading.{HasCloserProof, HasEncloserProof, HashedRestsOn, wildcard_told, hashed_missing_answer, is_of_one_chain}
-use Rattle.domain_answer.specs.ZoneAnswer.{is_at_parent, wildcard_below, asterisk, encloser, highest_occluder, inside_answer, missing_answer, name_exists}
-use Rattle.domain_answer.specs.ZoneAnswer.{owns_type, zone_answer, is_of_child, wildcard_types_answer, owned_answer}
+use Rattle.domain_answer.{proofs.AlikeLemmas.{hashed_proved_alike, read_alike, expansion_alike, proved_expansion_alike}, specs.HashedReading.missing_closer}
+use Rattle.domain_answer.specs.HashedReading.{ExpansionRestsOn, IsExpansionAnswered, IsExpansionRead, closer_name, closer_told, is_expanded, AreAskedAlone}
+use Rattle.domain_answer.specs.HashedReading.{IsHashedAnswered, hashed_proved_answer, needs_wildcard, tells_encloser, tells_wildcard, IsReadOn, IsTold}
+use Rattle.domain_answer.specs.HashedReading.{IsWildcardRead, encloser_answer, found_answer, next_answer, own_answer, IsHashedRead, hashed_encloser}
+use Rattle.domain_answer.specs.HashedReading.{hashed_inside_answer, hashed_wildcard_answer, hashed_exists, hashed_zone_answer, proved_expansion, HasCloserProof}
+use Rattle.domain_answer.specs.{HashedReading.{HasEncloserProof, HashedRestsOn, wildcard_told, hashed_missing_answer, is_of_one_chain}, ZoneAnswer.is_at_parent}
+use Rattle.domain_answer.specs.ZoneAnswer.{wildcard_below, asterisk, encloser, highest_occluder, inside_answer, missing_answer, name_exists, owns_type}
+use Rattle.domain_answer.specs.{ZoneAnswer.{zone_answer, is_of_child, wildcard_types_answer, owned_answer}, declared.answer.Answer.Answer}
 use Rattle.domain_answer.specs.declared.answer.Answer.TheVariants.{Referral, Redirected, MayBeUnsigned, NoCloserName, NotProven, NameError, TooManyIterations}
 use Rattle.domain_answer.specs.{declared.answer.Answer.TheVariants.{OutsideZone, AtParent}, Reading.{reading, LeavesOutBelowDname, CountsWithin}}
-use Rattle.domain_answer.{specs.Judged.{IsExpansionJudged, IsHashedJudged, IsJudged}, proofs.AlikeLemmas.{hashed_proved_alike, read_alike, expansion_alike}}
-use Rattle.domain_answer.{proofs.AlikeLemmas.proved_expansion_alike, specs.declared.answer.Answer.Answer}
+use Rattle.domain_answer.specs.Judged.{IsExpansionJudged, IsHashedJudged, IsJudged}
 
 own_never : (a : Name) (e : Encloser) (t n : ℕ) → own_answer a e t ≡ NoCloserName n → ⊥
 own_never a e t n h = grind (arith, common_steps)

@@ -1,21 +1,18 @@
 -- What NSEC3 records answer by themselves, and what they prove of what the zone says.
-use Rattle.std.specs.Prelude.{ℕ, Bool, not, ◌&&◌, ◌||◌, ◌==◌, List, length, if◌then◌else◌, ◌≡◌, ◌⊎◌, Option, Some, None, Ok, Err, true}
-use Rattle.std.specs.{Prelude.{false, All, ◌+◌, nat_le, nat_lt}, Option.option_map}
+use Rattle.std.specs.Prelude.{ℕ, Bool, not, ◌&&◌, ◌||◌, ◌==◌, List, length, if◌then◌else◌, ◌≡◌, ◌⊎◌, Option, Some, None, Ok, Err, true, false, All, ◌+◌, nat_le}
+use Rattle.std.specs.{Prelude.nat_lt, Option.option_map}
 use Rattle.domain_names.specs.Name.{is_at_or_below, same_name, last_labels, Name}
 use Rattle.domain_base.specs.Types.{dname, nsec, nsec3param, ns}
 use Rattle.domain_chain_rdata.specs.Rdata.{is_opt_out}
 use Rattle.domain_zone.specs.{Enclosers.exists_over, Zone.{ZoneRecord, is_zone_cut}}
-use Rattle.domain_nsec3.specs.{Chain.{ChainConfig, hash_name, nsec3_lists, original_owners, HashedLink, IsHashedChain}, Meaning.AreAlone}
-use Rattle.domain_nsec3.specs.Meaning.{IsAlone}
-use Rattle.domain_checker.specs.HashedVerdict.{is_below_chain_cut, IsFirstRefusal, is_covered, is_matched, next_closer, IsFirstMatched}
-use Rattle.domain_checker.specs.{HashedVerdict.{HashedRecords, first_cover, first_match, chain_records}, Verdict.closest_encloser}
-use Rattle.domain_checker.specs.{Verdict.{IsHashedAlike, IsPairedIn}, HashedReading.{Encloser, encloser_is_cut, IsEncloser}}
-use Rattle.domain_checker.specs.HashedReading.{IsFoundEncloser}
+use Rattle.domain_nsec3.specs.{Chain.{ChainConfig, hash_name, nsec3_lists, original_owners, HashedLink, IsHashedChain}, Meaning.{AreAlone, IsAlone}}
+use Rattle.domain_checker.specs.HashedVerdict.{is_below_chain_cut, IsFirstRefusal, is_covered, is_matched, next_closer, IsFirstMatched, HashedRecords}
+use Rattle.domain_checker.specs.{HashedVerdict.{first_cover, first_match, chain_records}, Verdict.{closest_encloser, IsHashedAlike, IsPairedIn}}
+use Rattle.domain_checker.specs.HashedReading.{Encloser, encloser_is_cut, IsEncloser, IsFoundEncloser}
 use Rattle.domain_answer.specs.ZoneAnswer.{expanded_answer, owned_answer, types_answer, wildcard_types_answer, is_at_parent, wildcard_below}
-use Rattle.domain_answer.specs.declared.answer.Answer.{Answer, TheVariants.{OutsideZone, AtParent, Referral, Redirected, NameError}}
-use Rattle.domain_answer.specs.declared.answer.Answer.TheVariants.{MayBeUnsigned, NoCloserName, NotProven, Wildcard, WildcardAlias}
-use Rattle.domain_answer.specs.{declared.answer.Answer.TheVariants.{WildcardNoData, TooManyIterations}, Reading.needs_no_records}
-use Rattle.domain_answer.specs.Reading.{LeavesOutBelowDname}
+use Rattle.domain_answer.specs.declared.answer.Answer.{Answer, TheVariants.{OutsideZone, AtParent, Referral, Redirected, NameError, MayBeUnsigned}}
+use Rattle.domain_answer.specs.declared.answer.Answer.TheVariants.{NoCloserName, NotProven, Wildcard, WildcardAlias, WildcardNoData, TooManyIterations}
+use Rattle.domain_answer.specs.Reading.{needs_no_records, LeavesOutBelowDname}
 use Rattle.domain_octets.specs.Octets.{Octets}
 use Rattle.domain_bitmap.specs.Blocks.{contains_type}
 

@@ -5,10 +5,9 @@ use Rattle.domain_hasher.specs.declared.error.Nsec3HashError.{Nsec3HashError, Th
 use Rattle.domain_nsec.specs.Chain.{Link}
 use Rattle.domain_nsec3.specs.Chain.{hash_name}
 use Rattle.domain_checker.specs.HashedVerdict.{HashedRecords}
-use Rattle.domain_answer.specs.HashedReading.{closer_name, is_expanded, ExpansionRestsOn, IsExpansionAnswered, IsExpansionRead}
-use Rattle.domain_answer.specs.{HashedReading.{HashedRestsOn, IsHashedAnswered, IsFirstOfRefusals, IsHashedRead}, Reading.needs_no_records}
-use Rattle.domain_answer.specs.{Reading.{CountsWithin, IsAnswered, RestsOn, reading}, ZoneAnswer.is_at_parent}
-use Rattle.domain_answer.specs.declared.answer.Answer.{Answer, TheVariants.{OutsideZone, AtParent, TooManyIterations, NotProven}}
+use Rattle.domain_answer.specs.HashedReading.{closer_name, is_expanded, ExpansionRestsOn, IsExpansionAnswered, IsExpansionRead, HashedRestsOn, IsHashedAnswered}
+use Rattle.domain_answer.specs.{HashedReading.{IsFirstOfRefusals, IsHashedRead}, Reading.{needs_no_records, CountsWithin, IsAnswered, RestsOn, reading}}
+use Rattle.domain_answer.specs.{ZoneAnswer.is_at_parent, declared.answer.Answer.{Answer, TheVariants.{OutsideZone, AtParent, TooManyIterations, NotProven}}}
 
 -- of what a list of NSEC records answers to a question about x and t
 pub record IsJudged (listed : List Link) (a x : Name) (t : ℕ) (answer : Answer) : Type 0 where

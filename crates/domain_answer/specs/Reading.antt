@@ -1,17 +1,16 @@
 -- What NSEC records answer by themselves, and what they prove of what the zone says.
-use Rattle.std.specs.Prelude.{◌≡◌, List, Option, Some, None, IfSome, length, ℕ, Bool, not, ◌<◌, ◌&&◌, ◌||◌, if◌then◌else◌, true, ◌≤◌, All}
-use Rattle.std.specs.{Prelude.{false, ◌==◌, ◌⊎◌}, List.find, Option.option_map}
+use Rattle.std.specs.Prelude.{◌≡◌, List, Option, Some, None, IfSome, length, ℕ, Bool, not, ◌<◌, ◌&&◌, ◌||◌, if◌then◌else◌, true, ◌≤◌, All, false, ◌==◌, ◌⊎◌}
+use Rattle.std.specs.{List.find, Option.option_map}
 use Rattle.domain_names.specs.Name.{Name, is_at_or_below, is_strictly_below, last_labels, same_name}
-use Rattle.domain_zone.specs.{Enclosers.{longer, shared}, Zone.{ZoneRecord, OwnersNeverDescend, is_unoccluded, unoccluded_owners, has_type}}
-use Rattle.domain_zone.specs.Zone.{is_zone_cut, records_of}
+use Rattle.domain_zone.specs.{Enclosers.{longer, shared}, Zone.{ZoneRecord, OwnersNeverDescend, is_unoccluded, unoccluded_owners, has_type, is_zone_cut}}
+use Rattle.domain_zone.specs.Zone.{records_of}
 use Rattle.domain_nsec.specs.{Chain.{Link, IsChain, as_link}, declared.config.GenerateNsecConfig.GenerateNsecConfig}
 use Rattle.domain_checker.specs.{Reading.{is_cover, is_match, is_at_cut}, Verdict.{IsAlike, IsPairedIn, has_match_or_cover, HasProof}}
-use Rattle.domain_answer.specs.declared.found.{NsecCover.NsecCover, NsecFound.{NsecFound, TheVariants.{Match, NoMatch}}}
-use Rattle.domain_answer.specs.ZoneAnswer.{types_answer, wildcard_types_answer, is_at_parent, wildcard_below, encloser, name_exists}
-use Rattle.domain_answer.specs.{ZoneAnswer.{zone_answer, owns_type}, declared.answer.Answer.{Answer, TheVariants.{OutsideZone, AtParent}}}
-use Rattle.domain_answer.specs.declared.answer.Answer.TheVariants.{Referral, Redirected, NoData, Wildcard, WildcardAlias, WildcardNoData}
-use Rattle.domain_answer.specs.declared.answer.Answer.TheVariants.{NameError, NoCloserName, NotProven, MayBeUnsigned, TooManyIterations}
-use Rattle.domain_answer.specs.declared.answer.{Answer.TheVariants.{Has, NoDs, Alias}, NameAnswer.{NameAnswer, TheVariants.{Given, Absent}}}
+use Rattle.domain_answer.specs.declared.{found.{NsecCover.NsecCover, NsecFound.{NsecFound, TheVariants.{Match, NoMatch}}}, answer.Answer.Answer}
+use Rattle.domain_answer.specs.declared.answer.Answer.TheVariants.{OutsideZone, AtParent, Referral, Redirected, NoData, Wildcard, WildcardAlias, WildcardNoData}
+use Rattle.domain_answer.specs.declared.answer.Answer.TheVariants.{NameError, NoCloserName, NotProven, MayBeUnsigned, TooManyIterations, Has, NoDs, Alias}
+use Rattle.domain_answer.specs.{declared.answer.NameAnswer.{NameAnswer, TheVariants.{Given, Absent}}, ZoneAnswer.{types_answer, wildcard_types_answer}}
+use Rattle.domain_answer.specs.ZoneAnswer.{is_at_parent, wildcard_below, encloser, name_exists, zone_answer, owns_type}
 use Rattle.domain_bitmap.specs.Blocks.{contains_type}
 use Rattle.domain_base.specs.Types.{dname, cname, ds}
 

@@ -1,12 +1,10 @@
 -- What a zone says of a name and a type, by the types that names own.
-use Rattle.std.specs.Prelude.{ℕ, Bool, not, ◌&&◌, ◌||◌, ◌==◌, if◌then◌else◌, true, List, [], ◌∷◌, Option, Some, None, length}
-use Rattle.std.specs.Option.{option_or}
+use Rattle.std.specs.{Prelude.{ℕ, Bool, not, ◌&&◌, ◌||◌, ◌==◌, if◌then◌else◌, true, List, [], ◌∷◌, Option, Some, None, length}, Option.option_or}
 use Rattle.domain_octets.specs.Octets.{Octets}
 use Rattle.domain_base.specs.Types.{cname, ds, soa}
 use Rattle.domain_bitmap.specs.Blocks.{contains_type}
-use Rattle.domain_answer.specs.declared.answer.Answer.{Answer, TheVariants.{Referral, Has, NoDs, Alias, NoData, NotProven, Wildcard}}
-use Rattle.domain_answer.specs.declared.answer.Answer.TheVariants.{WildcardAlias, WildcardNoData, OutsideZone, AtParent, Redirected}
-use Rattle.domain_answer.specs.declared.answer.Answer.TheVariants.{NameError}
+use Rattle.domain_answer.specs.declared.answer.Answer.{Answer, TheVariants.{Referral, Has, NoDs, Alias, NoData, NotProven, Wildcard, WildcardAlias}}
+use Rattle.domain_answer.specs.declared.answer.Answer.TheVariants.{WildcardNoData, OutsideZone, AtParent, Redirected, NameError}
 use Rattle.domain_names.specs.Name.{is_at_or_below, same_name, Label, Name}
 use Rattle.domain_zone.specs.{Enclosers.exists_over, Zone.{ZoneRecord, is_zone_cut, occludes, owns, unoccluded_owners}}
 use Rattle.domain_nsec.specs.Chain.{nsec_lists}

@@ -1,8 +1,7 @@
 -- Numbers that have names, types and classes of records as text, and serial numbers.
-use Rattle.std.specs.Prelude.{◌≡◌, ℕ, ◌==◌, List, [], ◌∷◌, ◌++◌, map, Bool, if◌then◌else◌, Option, Some, None, unwrap_or, nat_eq, codes}
-use Rattle.std.specs.{Prelude.{◌+◌, ◌-◌, ◌%◌, ◌^◌, nat_lt, Result, MatchResult}, Char.to_ascii_lowercase, Cmp.Lexicographic.pointwise}
-use Rattle.std.specs.{Fmt.decimal, Borrow.Bor, Str.Parse.without_leading_plus, declared.cmp.Ordering.{Ordering, TheVariants.{Less, Equal}}}
-use Rattle.std.specs.declared.cmp.Ordering.TheVariants.{Greater}
+use Rattle.std.specs.Prelude.{◌≡◌, ℕ, ◌==◌, List, [], ◌∷◌, ◌++◌, map, Bool, if◌then◌else◌, Option, Some, None, unwrap_or, nat_eq, codes, ◌+◌, ◌-◌, ◌%◌, ◌^◌}
+use Rattle.std.specs.{Prelude.{nat_lt, Result, MatchResult}, Char.to_ascii_lowercase, Cmp.Lexicographic.pointwise, Fmt.decimal, Borrow.Bor}
+use Rattle.std.specs.{Str.Parse.without_leading_plus, declared.cmp.Ordering.{Ordering, TheVariants.{Less, Equal, Greater}}}
 use Rattle.domain_octets.specs.Octets.{Octets}
 use Rattle.domain_base.specs.{Scan.{IsNumber, IsNoNumber}, Classes.in_class}
 use Rattle.domain_names.specs.{Text.{ScanFault, illegal, scan_fault_of}, declared.error.ScanError.ScanError}

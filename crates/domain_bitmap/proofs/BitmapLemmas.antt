@@ -1,19 +1,17 @@
 -- Sets of types as octets, how these are put together, and that they are the one spelling of a set.
-use Rattle.std.proofs.Common.{◌≡◌, ℕ, ◌+◌, ◌-◌, ◌*◌, ◌/◌, ◌%◌, ◌^◌, ◌<◌, ◌≢◌, true, false, List, ◌∷◌, ◌++◌, length, get_or, inl, inr, arith}
-use Rattle.std.proofs.Common.{set, rules, zero, suc, ◌≤◌, Bool, [], refl, sym, ap, ◌∙◌, zero-add, take, drop, add-one, add_comm, replicate}
-use Rattle.std.{proofs.lemmas.{Bool.Decides.{nat_tests, eqb_tells, leb_tells}, Grind.{common_steps, get_or_tail}}, specs.Prelude.{◌||◌, ◌&&◌, ◌==◌, bit_or}}
-use Rattle.std.{specs.Prelude.{if◌then◌else◌, nat_lt, slice_range}, proofs.lemmas.List.FromFn.{length-map-range_with_len, get_or-map-range_with_len}}
-use Rattle.std.{specs.List.{AllByRecursion, range_with_len, list_any, filter, flat_map}, proofs.{lemmas.List.{append-nil, get_or-drop}, Math.Nat.mul-suc}}
-use Rattle.std.{specs.List.copy_within, proofs.{Common.drop-drop, lemmas.List.{get_or-append_right, get_or_append_left, length-take}}}
-use Rattle.std.proofs.lemmas.List.{Concat.{flat_map-append}, Edits.{take-paste, drop-paste}}
+use Rattle.std.proofs.Common.{◌≡◌, ℕ, ◌+◌, ◌-◌, ◌*◌, ◌/◌, ◌%◌, ◌^◌, ◌<◌, ◌≢◌, true, false, List, ◌∷◌, ◌++◌, length, get_or, inl, inr, arith, set, rules, zero}
+use Rattle.std.proofs.Common.{suc, ◌≤◌, Bool, [], refl, sym, ap, ◌∙◌, zero-add, take, drop, add-one, add_comm, replicate, drop-drop}
+use Rattle.std.proofs.lemmas.{Bool.Decides.{nat_tests, eqb_tells, leb_tells}, Grind.{common_steps, get_or_tail}, List.{append-nil, get_or-drop}}
+use Rattle.std.proofs.lemmas.List.{get_or-append_right, get_or_append_left, length-take, FromFn.{length-map-range_with_len, get_or-map-range_with_len}}
+use Rattle.std.{proofs.{lemmas.List.{Concat.flat_map-append, Edits.{take-paste, drop-paste}}, Math.Nat.mul-suc}, specs.Prelude.{◌||◌, ◌&&◌, ◌==◌, bit_or}}
+use Rattle.std.specs.{Prelude.{if◌then◌else◌, nat_lt, slice_range}, List.{AllByRecursion, range_with_len, list_any, filter, flat_map, copy_within}}
 use Rattle.domain_octets.{proofs.StdLemmas.and_false, specs.Octets.AreOctets}
-use Rattle.domain_bitmap.specs.Blocks.{has_bit, octet_with, is_of_window, block_holds, has_window, holds, Block, IsBlock, IsBitmap, AreSlots}
-use Rattle.domain_bitmap.specs.Blocks.{AreShortest, IsShortest, octets_of_blocks, in_first_block, contains_type, block_types_from, types_of}
-use Rattle.domain_bitmap.{specs.Blocks.{IsPlace, types_below, blocks_of}, proofs.BitLemmas.{any_inserted, any_same, any_at, any_none, any_only, any_with}}
-use Rattle.domain_bitmap.proofs.BitLemmas.{filter_same, filter_append, bit_of-set, bit_of-zero, octet_with-lt, bit_of-octet_with, octets_same, range_more}
-use Rattle.domain_bitmap.proofs.BitLemmas.{filter_none, IsCut, cut-trimmed, cut_same, get_or-trimmed, length-trimmed}
-use Rattle.domain_bitmap.{specs.Bitmap.{window_octets, trimmed, block_if_any, blocks_with, bitmap_octets}, proofs.BlockLemmas.IsBitmap-octets_of_blocks}
-use Rattle.domain_bitmap.{specs.Bitmap.slot_block, proofs.BlockLemmas.blocks_of-octets_of_blocks}
+use Rattle.domain_bitmap.specs.Blocks.{has_bit, octet_with, is_of_window, block_holds, has_window, holds, Block, IsBlock, IsBitmap, AreSlots, AreShortest}
+use Rattle.domain_bitmap.specs.Blocks.{IsShortest, octets_of_blocks, in_first_block, contains_type, block_types_from, types_of, IsPlace, types_below, blocks_of}
+use Rattle.domain_bitmap.{specs.Bitmap.{window_octets, trimmed, block_if_any, blocks_with, bitmap_octets, slot_block}, proofs.BitLemmas.any_inserted}
+use Rattle.domain_bitmap.proofs.BitLemmas.{any_same, any_at, any_none, any_only, any_with, filter_same, filter_append, bit_of-set, bit_of-zero, octet_with-lt}
+use Rattle.domain_bitmap.proofs.BitLemmas.{bit_of-octet_with, octets_same, range_more, filter_none, IsCut, cut-trimmed, cut_same, get_or-trimmed}
+use Rattle.domain_bitmap.proofs.{BitLemmas.length-trimmed, BlockLemmas.{IsBitmap-octets_of_blocks, blocks_of-octets_of_blocks}}
 
 -- ---- the blocks of 34 octets that a builder holds
 

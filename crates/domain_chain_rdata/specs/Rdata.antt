@@ -2,8 +2,7 @@
 use Rattle.std.{proofs.Common.{bytes_eq, refl}, specs.{List.flat_map, Ordering.{on, eq_of_both}, Hash.Alike, Cmp.{first_so, second_so}}}
 use Rattle.std.specs.{Cmp.Lexicographic.bytes_decides, Prelude.{ℕ, Bool, bit_or, codes, if◌then◌else◌}}
 use Rattle.domain_octets.specs.Octets.{Octets}
-use Rattle.domain_fields.specs.Layout.{octet, short, name, spelled_name, counted, rest, types, Layout, one, ◌▸◌, Values, octets_of}
-use Rattle.domain_fields.specs.Layout.{canonical_of, has_flag}
+use Rattle.domain_fields.specs.Layout.{octet, short, name, spelled_name, counted, rest, types, Layout, one, ◌▸◌, Values, octets_of, canonical_of, has_flag}
 use Rattle.domain_chain_rdata.specs.declared.{nsec.Nsec.Nsec, nsec3.Nsec3.Nsec3, nsec3param.Nsec3param.Nsec3param}
 use Rattle.domain_names.specs.{Name.{Name, same_name}, Laws.same_name_same}
 use Rattle.std.specs.Hash as fed

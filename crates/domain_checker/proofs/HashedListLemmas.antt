@@ -1,10 +1,9 @@
 -- What the records of an NSEC3 chain say of the hash of a name that no other name of the chain has, and of the names from it up to the apex.
-use Rattle.std.proofs.Common.{◌≡◌, ℕ, ◌+◌, ◌<◌, ◌≤◌, true, false, [], ◌∷◌, length, drop, arith, Bool, not, ◌&&◌, List, map, refl, sym}
-use Rattle.std.proofs.Common.{ap, ◌∙◌, subst, eq-eqb, Some, slice_get, ◌-◌, zero, suc, inl, inr, Option, None, ◌⊎◌, cond, nat_eq}
-use Rattle.std.proofs.lemmas.{Bool.{and_parts, not-true, or_left, or_right, cases_Bool, and_from, false≢true}, Grind.common_steps}
-use Rattle.std.{proofs.lemmas.List.{length-drop, Elements.recursion_from_All, Sums.list_all-from_AllPass}, specs.Option.option_map_or}
-use Rattle.std.specs.{Cmp.Lexicographic.{slice_cmp, nat_list_cmp_total, bytes_decides}, List.{AllByRecursion, Contains, list_any, find, range_with_len}}
-use Rattle.std.specs.{Ordering.{nat_cmp, is_eq}, Prelude.{Ok, Err, filter}}
+use Rattle.std.proofs.Common.{◌≡◌, ℕ, ◌+◌, ◌<◌, ◌≤◌, true, false, [], ◌∷◌, length, drop, arith, Bool, not, ◌&&◌, List, map, refl, sym, ap, ◌∙◌, subst, eq-eqb}
+use Rattle.std.proofs.{Common.{Some, slice_get, ◌-◌, zero, suc, inl, inr, Option, None, ◌⊎◌, cond, nat_eq}, lemmas.Bool.{and_parts, not-true, or_left}}
+use Rattle.std.proofs.lemmas.{Bool.{or_right, cases_Bool, and_from, false≢true}, Grind.common_steps, List.{length-drop, Elements.recursion_from_All}}
+use Rattle.std.{proofs.lemmas.List.Sums.list_all-from_AllPass, specs.{Option.option_map_or, Cmp.Lexicographic.{slice_cmp, nat_list_cmp_total, bytes_decides}}}
+use Rattle.std.specs.{List.{AllByRecursion, Contains, list_any, find, range_with_len}, Ordering.{nat_cmp, is_eq}, Prelude.{Ok, Err, filter}}
 use Rattle.domain_codecs.specs.{Base32.base32_lower, Codec.IsBase32}
 use Rattle.domain_octets.specs.Octets.{Octets, AreOctets}
 use Rattle.domain_names.specs.{Name.{is_at_or_below, same_name, wire_of, is_strictly_below, lowered, IsName, Name, Label}, Wire.{labels_of, IsWire}}
@@ -15,12 +14,12 @@ use Rattle.domain_zone.proofs.NameLemmas.{same_itself, one_lowered, below_itself
 use Rattle.domain_zone.{proofs.{NameLemmas.{strictly_from, same_length}, WalkLemmas.{in_any, any_in, typed_owns}}, specs.Covering.{matches, covers}}
 use Rattle.domain_zone.specs.{Covering.matches_or_covers, Enclosers.exists_over, Zone.{ZoneRecord, has_type, records_of}}
 use Rattle.domain_nsec3.{proofs.ChainLemmas.hash_same, specs.Chain.{HashedLink, HashedName, IsOfChain, cycle, ends, ends_of, hashed_owner, ChainConfig}}
-use Rattle.domain_nsec3.specs.{Chain.{Parameters, Hash, hash_name, is_chain_name, nsec3_lists, original_owners, is_original_owner}, Meaning.AreAlone}
-use Rattle.domain_nsec3.specs.Meaning.{IsAlone, IsMatchedOrCoveredOnce, IsRecordOf, octets_before, IsNextCloser}
-use Rattle.domain_checker.{proofs.EncloserLemmas.{same_count, owner_owns}, specs.HashedVerdict.{ChainFacts, same_parameters, is_spelling}}
-use Rattle.domain_checker.specs.HashedVerdict.{owner_hash, is_hash_match, is_hash_cover, is_covered, is_matched, IsFirst, IsFirstRefusal, is_ok_with}
-use Rattle.domain_checker.specs.{HashedVerdict.{next_closer, chain_records, HashedRecords, first_cover, first_match}, HashedReading.{is_none, IsEncloser}}
-use Rattle.domain_checker.specs.HashedReading.{IsNextHash, IsUnmatched, next_cover, Encloser, IsDenial, IsOfName, encloser_is_cut, tells_cut, IsLookedUp}
+use Rattle.domain_nsec3.specs.{Chain.{Parameters, Hash, hash_name, is_chain_name, nsec3_lists, original_owners, is_original_owner}, Meaning.{AreAlone, IsAlone}}
+use Rattle.domain_nsec3.specs.Meaning.{IsMatchedOrCoveredOnce, IsRecordOf, octets_before, IsNextCloser}
+use Rattle.domain_checker.{proofs.EncloserLemmas.{same_count, owner_owns}, specs.HashedVerdict.{ChainFacts, same_parameters, is_spelling, owner_hash}}
+use Rattle.domain_checker.specs.HashedVerdict.{is_hash_match, is_hash_cover, is_covered, is_matched, IsFirst, IsFirstRefusal, is_ok_with, next_closer}
+use Rattle.domain_checker.specs.{HashedVerdict.{chain_records, HashedRecords, first_cover, first_match}, HashedReading.{is_none, IsEncloser, IsNextHash}}
+use Rattle.domain_checker.specs.HashedReading.{IsUnmatched, next_cover, Encloser, IsDenial, IsOfName, encloser_is_cut, tells_cut, IsLookedUp}
 
 -- a label of a name is short
 pub label_short : (wire : Octets) (label : Label) (above : Name) → IsWire wire → labels_of wire ≡ label ∷ above → length label ≤ 63

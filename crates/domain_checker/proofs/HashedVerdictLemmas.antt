@@ -1,8 +1,8 @@
 -- What is known of a name and its closest encloser where, of the name and its ancestors, one is the first that a record of a zone's chain matches;
 -- and that what a list of records of an NSEC3 chain says is what it proves.
-use Rattle.std.proofs.Common.{◌≡◌, ℕ, ◌+◌, ◌<◌, true, false, not, List, length, sym, ap, ◌∙◌, inl, inr, ◌⊎◌, arith, rules, ◌≢◌, ◌&&◌, ◌||◌, refl, subst}
-use Rattle.std.{proofs.Common.{Option, Some, None}, specs.{List.{Contains, list_any}, Option.option_map_or, Prelude.Ok}}
-use Rattle.std.proofs.lemmas.{Bool.{cases_Bool, false_from_ne_true, false≢true, true_from_ne_false, and_parts, and_from, or_parts}, Grind.common_steps}
+use Rattle.std.proofs.Common.{◌≡◌, ℕ, ◌+◌, ◌<◌, true, false, not, List, length, sym, ap, ◌∙◌, inl, inr, ◌⊎◌, arith, rules, ◌≢◌, ◌&&◌, ◌||◌, refl, subst, Option}
+use Rattle.std.proofs.{Common.{Some, None}, lemmas.Bool.{cases_Bool, false_from_ne_true, false≢true, true_from_ne_false, and_parts, and_from, or_parts}}
+use Rattle.std.{proofs.lemmas.Grind.common_steps, specs.{List.{Contains, list_any}, Option.option_map_or, Prelude.Ok}}
 use Rattle.domain_octets.{proofs.StdLemmas.or_true, specs.Octets.Octets}
 use Rattle.domain_names.specs.Name.{is_at_or_below, is_strictly_below, last_labels, lowered, same_name, Name}
 use Rattle.domain_base.specs.Types.{ns}
@@ -16,13 +16,12 @@ use Rattle.domain_nsec3.specs.Meaning.{AreAlone, IsAlone}
 use Rattle.domain_checker.proofs.{AlikeLemmas.{hashed_proved_alike, walked_alike, paired_with_some}, EncloserLemmas.{below_cut, cut_above, cut_apart}}
 use Rattle.domain_checker.proofs.EncloserLemmas.{apex_from, closest_is, cut_same, exists_above, same_count, shorter_above, IsDefinite, choose_by, not_below}
 use Rattle.domain_checker.proofs.HashedListLemmas.{IsClosed, cover_denies, cut_counted, match_is_of_name, alone_at, closer_is, matched_same, by_way}
-use Rattle.domain_checker.{proofs.HashedListLemmas.{empty_lists, match_is_empty, whole_covers, whole_matches}, specs.Verdict.IsHashedAlike}
-use Rattle.domain_checker.specs.{Verdict.{closest_encloser, IsWithin}, HashedReading.{Encloser, IsEncloser, IsOfName, encloser_is_cut, IsFoundEncloser}}
-use Rattle.domain_checker.specs.{HashedReading.{IsWalked, found_verdict, hash_cover_verdict, is_none, own_verdict}, HashedVerdict.ChainFacts}
-use Rattle.domain_checker.specs.HashedVerdict.{ChainsAreKnown, is_hash_match, is_below_chain_cut, is_covered, is_matched, next_closer, missing_verdict}
-use Rattle.domain_checker.specs.HashedVerdict.{hashed_zone_verdict, is_ok_with, proves, hashed_proved_verdict, IsHashedProved, is_told_cut, HasHashedProof}
-use Rattle.domain_checker.specs.{HashedVerdict.{HashedRecords, chain_records, first_match}, declared.verdict.Verdict.{Verdict, TheVariants.BelowDelegation}}
-use Rattle.domain_checker.specs.declared.verdict.Verdict.TheVariants.{NotProven}
+use Rattle.domain_checker.{proofs.HashedListLemmas.{empty_lists, match_is_empty, whole_covers, whole_matches}, specs.Verdict.{IsHashedAlike, closest_encloser}}
+use Rattle.domain_checker.specs.{Verdict.IsWithin, HashedReading.{Encloser, IsEncloser, IsOfName, encloser_is_cut, IsFoundEncloser, IsWalked, found_verdict}}
+use Rattle.domain_checker.specs.{HashedReading.{hash_cover_verdict, is_none, own_verdict}, HashedVerdict.{ChainFacts, ChainsAreKnown, is_hash_match}}
+use Rattle.domain_checker.specs.HashedVerdict.{is_below_chain_cut, is_covered, is_matched, next_closer, missing_verdict, hashed_zone_verdict, is_ok_with}
+use Rattle.domain_checker.specs.HashedVerdict.{proves, hashed_proved_verdict, IsHashedProved, is_told_cut, HasHashedProof, HashedRecords, chain_records}
+use Rattle.domain_checker.specs.{HashedVerdict.first_match, declared.verdict.Verdict.{Verdict, TheVariants.{BelowDelegation, NotProven}}}
 
 module _ (L : List ZoneRecord) (a : Name) (config : ChainConfig) where
   -- the name is the closest encloser en of x, and matched by the record of e

@@ -1,15 +1,13 @@
 -- What NSEC3 records say by themselves: of a hash, of a closest encloser, and of a name.
-use Rattle.std.specs.Prelude.{◌≡◌, List, Option, Some, None, Ok, ℕ, ◌<◌, Bool, true, false, not, ◌&&◌, ◌==◌, length, ◌≢◌, ◌⊎◌, [], ◌∷◌}
-use Rattle.std.specs.{Prelude.{Result, IfOk, IfErr, IsErrOf, if◌then◌else◌}, List.find, Option.option_map}
+use Rattle.std.specs.Prelude.{◌≡◌, List, Option, Some, None, Ok, ℕ, ◌<◌, Bool, true, false, not, ◌&&◌, ◌==◌, length, ◌≢◌, ◌⊎◌, [], ◌∷◌, Result, IfOk, IfErr}
+use Rattle.std.specs.{Prelude.{IsErrOf, if◌then◌else◌}, List.find, Option.option_map}
 use Rattle.domain_octets.specs.Octets.{Octets}
 use Rattle.domain_names.specs.Name.{Name, is_at_or_below, same_name}
-use Rattle.domain_nsec3.specs.Chain.{HashedLink, Parameters, ChainConfig, Hash, hash_name, nsec3_lists, original_owners}
-use Rattle.domain_nsec3.specs.View.{as_hashed_link}
-use Rattle.domain_checker.specs.HashedVerdict.{is_hash_match, is_hash_cover, HashedRecords, first_cover, first_match, IsFirstMatched}
-use Rattle.domain_checker.specs.HashedVerdict.{is_matched, next_closer, missing_verdict, IsHashedProved, HasHashedProof, IsFirstRefusal}
-use Rattle.domain_checker.specs.declared.hashed.Nsec3Found.{Nsec3Found, TheVariants.{Match, NoMatch}}
-use Rattle.domain_checker.specs.{declared.{encloser.Nsec3Encloser.Nsec3Encloser, verdict.Verdict.Verdict}, Verdict.IsWithin}
-use Rattle.domain_checker.specs.declared.verdict.Verdict.TheVariants.{OutsideZone, BelowDelegation, Has, NoType, EmptyName, NotProven}
+use Rattle.domain_nsec3.specs.{Chain.{HashedLink, Parameters, ChainConfig, Hash, hash_name, nsec3_lists, original_owners}, View.as_hashed_link}
+use Rattle.domain_checker.specs.HashedVerdict.{is_hash_match, is_hash_cover, HashedRecords, first_cover, first_match, IsFirstMatched, is_matched, next_closer}
+use Rattle.domain_checker.specs.{HashedVerdict.{missing_verdict, IsHashedProved, HasHashedProof, IsFirstRefusal}, declared.hashed.Nsec3Found.Nsec3Found}
+use Rattle.domain_checker.specs.declared.{hashed.Nsec3Found.TheVariants.{Match, NoMatch}, encloser.Nsec3Encloser.Nsec3Encloser, verdict.Verdict.Verdict}
+use Rattle.domain_checker.specs.{declared.verdict.Verdict.TheVariants.{OutsideZone, BelowDelegation, Has, NoType, EmptyName, NotProven}, Verdict.IsWithin}
 use Rattle.domain_base.specs.Types.{ns, ds, Rtypes}
 use Rattle.domain_bitmap.specs.Blocks.{contains_type, types_of}
 use Rattle.domain_zone.specs.{Enclosers.exists_over, Zone.{ZoneRecord, is_zone_cut}}

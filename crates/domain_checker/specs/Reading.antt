@@ -1,14 +1,12 @@
 -- What NSEC records say by themselves (RFC 4035, section 5.4; RFC 6840, section 4.1).
-use Rattle.std.specs.{Prelude.{◌≡◌, ◌≢◌, ℕ, Bool, true, not, ◌&&◌, List, Option, Some, None, length, if◌then◌else◌}, List.find}
-use Rattle.std.specs.Option.{option_map}
+use Rattle.std.specs.{Prelude.{◌≡◌, ◌≢◌, ℕ, Bool, true, not, ◌&&◌, List, Option, Some, None, length, if◌then◌else◌}, List.find, Option.option_map}
 use Rattle.domain_bitmap.specs.Blocks.{contains_type}
 use Rattle.domain_names.specs.Name.{is_at_or_below, is_strictly_below, same_name, before, Name}
 use Rattle.domain_base.specs.Types.{ns}
 use Rattle.domain_zone.specs.{Covering.{matches, covers}, Enclosers.{longer, shared}}
 use Rattle.domain_nsec.specs.Chain.{Link}
-use Rattle.domain_checker.specs.{Verdict.{HasProof, IsProved, IsWithin, is_inside, types_verdict}, declared.verdict.Verdict.Verdict}
-use Rattle.domain_checker.specs.declared.verdict.Verdict.TheVariants.{OutsideZone, BelowDelegation, EmptyName, NoName, NotProven}
-use Rattle.domain_checker.specs.declared.nsec_check.NsecCheck.{NsecCheck}
+use Rattle.domain_checker.specs.{Verdict.{HasProof, IsProved, IsWithin, is_inside, types_verdict}, declared.verdict.Verdict.{Verdict, TheVariants.OutsideZone}}
+use Rattle.domain_checker.specs.declared.{verdict.Verdict.TheVariants.{BelowDelegation, EmptyName, NoName, NotProven}, nsec_check.NsecCheck.NsecCheck}
 
 -- the owner is a zone cut: the record lists NS, and the owner is not the apex
 abbrev pub is_at_cut : Name → Link → Bool

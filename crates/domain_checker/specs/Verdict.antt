@@ -1,17 +1,16 @@
 -- What a zone with an NSEC chain says of a name and a type, what is known of each chain, and records
 -- that are alike.
-use Rattle.std.specs.Prelude.{◌≡◌, ◌<◌, ℕ, Bool, true, List, [], ◌∷◌, false, not, ◌&&◌, ◌||◌, ◌==◌, ◌≤◌, All, length, if◌then◌else◌}
-use Rattle.std.specs.List.{Contains, list_any}
+use Rattle.std.specs.{Prelude.{◌≡◌, ◌<◌, ℕ, Bool, true, List, [], ◌∷◌, false, not, ◌&&◌, ◌||◌, ◌==◌, ◌≤◌, All, length, if◌then◌else◌}, List.Contains}
+use Rattle.std.specs.List.{list_any}
 use Rattle.domain_names.specs.Name.{same_name, is_at_or_below, Name, before}
 use Rattle.domain_bitmap.specs.{Bitmap.bitmap_octets, Blocks.contains_type}
-use Rattle.domain_zone.specs.Zone.{OwnersNeverDescend, ZoneRecord, is_occluded, is_zone_cut, unoccluded_owners}
-use Rattle.domain_zone.specs.{Covering.matches_or_covers, Enclosers.{exists_over, is_empty_nonterminal}}
-use Rattle.domain_nsec.specs.{Chain.{IsChain, Link, nsec_lists}, Meaning.MeansTheZone}
-use Rattle.domain_nsec.specs.declared.config.GenerateNsecConfig.{GenerateNsecConfig}
+use Rattle.domain_zone.specs.{Zone.{OwnersNeverDescend, ZoneRecord, is_occluded, is_zone_cut, unoccluded_owners}, Covering.matches_or_covers}
+use Rattle.domain_zone.specs.Enclosers.{exists_over, is_empty_nonterminal}
+use Rattle.domain_nsec.specs.{Chain.{IsChain, Link, nsec_lists}, Meaning.MeansTheZone, declared.config.GenerateNsecConfig.GenerateNsecConfig}
 use Rattle.domain_nsec3.specs.Chain.{HashedLink}
 use Rattle.domain_base.specs.Types.{ds}
-use Rattle.domain_checker.specs.declared.verdict.Verdict.{Verdict, TheVariants.{OutsideZone, BelowDelegation, Has, NoType, EmptyName}}
-use Rattle.domain_checker.specs.declared.verdict.Verdict.TheVariants.{OptOut, NoName, NotProven}
+use Rattle.domain_checker.specs.declared.verdict.Verdict.{Verdict, TheVariants.{OutsideZone, BelowDelegation, Has, NoType, EmptyName, OptOut, NoName}}
+use Rattle.domain_checker.specs.declared.verdict.Verdict.TheVariants.{NotProven}
 
 -- ---- What is known of each NSEC chain: the laws of chains, of their types and of bitmaps, put together.
 

@@ -1,6 +1,5 @@
 -- numbers as bits, the one that weighs most first
-use Rattle.std.specs.Prelude.{ℕ, ◌-◌, ◌*◌, ◌/◌, ◌%◌, [], ◌∷◌, ◌++◌, length, replicate, ◌+◌, ◌<◌, ◌==◌, nat_le, nat_lt, All, map}
-use Rattle.std.specs.{Prelude.if◌then◌else◌, List.flat_map}
+use Rattle.std.specs.{Prelude.{ℕ, ◌-◌, ◌*◌, ◌/◌, ◌%◌, [], ◌∷◌, ◌++◌, length, replicate, ◌+◌, ◌<◌, ◌==◌, nat_le, nat_lt, All, map, if◌then◌else◌}, List.flat_map}
 use Rattle.domain_octets.specs.Octets.{Octets}
 
 -- the eight bits of an octet

@@ -1,10 +1,9 @@
 -- octets as text: Base 16, Base 32 with the extended hex alphabet, and Base 64 (RFC 4648)
-use Rattle.std.specs.Prelude.{◌≡◌, ℕ, ◌+◌, ◌-◌, ◌*◌, ◌/◌, ◌%◌, ◌<◌, ◌==◌, ◌||◌, ◌&&◌, nat_le, Bool, true, false, not, [], ◌∷◌, map, length}
-use Rattle.std.specs.Prelude.{slice_index, take, Ok, if◌then◌else◌, Option, Some, None, IsNone, is_some, unwrap_or, ◌≤◌, ◌++◌, codes}
-use Rattle.std.specs.{List.AllPass, Char.encode_utf8}
+use Rattle.std.specs.Prelude.{◌≡◌, ℕ, ◌+◌, ◌-◌, ◌*◌, ◌/◌, ◌%◌, ◌<◌, ◌==◌, ◌||◌, ◌&&◌, nat_le, Bool, true, false, not, [], ◌∷◌, map, length, slice_index, take}
+use Rattle.std.specs.{Prelude.{Ok, if◌then◌else◌, Option, Some, None, IsNone, is_some, unwrap_or, ◌≤◌, ◌++◌, codes}, List.AllPass, Char.encode_utf8}
 use Rattle.base64.specs.Engines.{standard}
-use Rattle.domain_codecs.specs.declared.codec.{Codec.{Codec, TheVariants.{Base16, Base32Hex, Base64}}, DecodeError.DecodeError}
-use Rattle.domain_codecs.specs.declared.codec.DecodeError.TheVariants.{IllegalChar, ShortInput, ShortBuf, OutOfMemory}
+use Rattle.domain_codecs.specs.declared.codec.{Codec.{Codec, TheVariants.{Base16, Base32Hex, Base64}}, DecodeError.{DecodeError, TheVariants.IllegalChar}}
+use Rattle.domain_codecs.specs.declared.codec.DecodeError.TheVariants.{ShortInput, ShortBuf, OutOfMemory}
 use Rattle.domain_octets.specs.{declared.error.AppendError.AppendError, Octets.{IsOver, Octets}, Text.{plus, slash, equals_sign}}
 use Rattle.hex.specs.Hex as hex
 use Rattle.base64.specs.GeneralPurpose as base64

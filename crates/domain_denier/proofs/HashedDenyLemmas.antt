@@ -1,10 +1,9 @@
 -- What is picked of the NSEC3 chain of a zone is found where a search by hash ends, is what its answer rests on, and no more.
-use Rattle.std.proofs.Common.{◌≡◌, ℕ, suc, ◌+◌, ◌-◌, ◌<◌, ◌≤◌, Bool, true, false, ◌||◌, List, [], ◌∷◌, map, length, get_or, slice_get, Some, refl, sym, ap}
-use Rattle.std.proofs.lemmas.{Bool.{and_parts, cases_Bool, cases_eq, false≢true, or_left, or_right, true_from_ne_false}, List.Elements.recursion_from_All}
-use Rattle.std.proofs.lemmas.{List.{get_or_past, length-map, Sorted.ranks_by}, Option.{same_Some, get_or_from_slice_get, slice_get_within}}
-use Rattle.std.specs.Option.{option_map_or}
-use Rattle.std.{proofs.Common.{◌∙◌, arith, inl, inr, ◌⊎◌, ◌≢◌, cond, not, ◌&&◌, Ok, subst}, specs.Cmp.Lexicographic.{nat_list_cmp_total, slice_cmp}}
-use Rattle.std.{proofs.lemmas.Grind.common_steps, specs.{Cmp.IsStrictWeakOrder, List.Sorted.IsStrictlySortedBy, Ordering.{is_eq, nat_cmp}}}
+use Rattle.std.proofs.Common.{◌≡◌, ℕ, suc, ◌+◌, ◌-◌, ◌<◌, ◌≤◌, Bool, true, false, ◌||◌, List, [], ◌∷◌, map, length, get_or, slice_get, Some, refl, sym, ap, ◌∙◌}
+use Rattle.std.proofs.{Common.{arith, inl, inr, ◌⊎◌, ◌≢◌, cond, not, ◌&&◌, Ok, subst}, lemmas.Bool.{and_parts, cases_Bool, cases_eq, false≢true, or_left}}
+use Rattle.std.proofs.lemmas.{Bool.{or_right, true_from_ne_false}, List.{get_or_past, length-map, Elements.recursion_from_All, Sorted.ranks_by}}
+use Rattle.std.{proofs.lemmas.{Option.{same_Some, get_or_from_slice_get, slice_get_within}, Grind.common_steps}, specs.Option.option_map_or}
+use Rattle.std.specs.{Cmp.{IsStrictWeakOrder, Lexicographic.{nat_list_cmp_total, slice_cmp}}, List.Sorted.IsStrictlySortedBy, Ordering.{is_eq, nat_cmp}}
 use Rattle.domain_codecs.specs.Base32.{base32_lower}
 use Rattle.domain_octets.specs.Octets.{AreOctets, Octets}
 use Rattle.domain_names.specs.Name.{is_at_or_below, same_name, last_labels, Name}
@@ -14,20 +13,18 @@ use Rattle.domain_zone.{proofs.{NameLemmas.{below_itself, below_longer}, WalkLem
 use Rattle.domain_zone.specs.{Enclosers.{IsClosestEncloser, exists_over}, Zone.{ZoneRecord, is_zone_cut}}
 use Rattle.domain_nsec3.specs.Chain.{HashedLink, IsOfChain, cycle, ends, ends_of, ChainRecords, HashedName, ChainConfig, Hash, nsec3_lists, original_owners}
 use Rattle.domain_nsec3.{specs.Meaning.{IsRecordOf, octets_before, IsAlone}, proofs.ChainLemmas.{cycle_length, hash_same}}
-use Rattle.domain_checker.proofs.{AlikeLemmas.hashed_contained_alike, HashedListLemmas.{tied_is, hash_at, hashes_octets, record_at, match_is_of_name}}
-use Rattle.domain_checker.{proofs.{HashedListLemmas.unheard, HashedVerdictLemmas.encloser_is}, specs.{HashedReading.IsUnmatched, HashedVerdict.is_covered}}
+use Rattle.domain_checker.proofs.{AlikeLemmas.hashed_contained_alike, HashedListLemmas.{tied_is, hash_at, hashes_octets, record_at, match_is_of_name, unheard}}
+use Rattle.domain_checker.{proofs.{HashedVerdictLemmas.encloser_is, EncloserLemmas.same_count}, specs.{HashedReading.IsUnmatched, HashedVerdict.is_covered}}
 use Rattle.domain_checker.specs.HashedVerdict.{is_matched, next_closer, chain_records, HashedRecords, ChainFacts, ChainsAreKnown, owner_hash, is_hash_match}
-use Rattle.domain_checker.proofs.EncloserLemmas.{same_count}
-use Rattle.domain_answer.proofs.HashedAnswerLemmas.{read_proved, IsOfZone, encloser_told as whole_tells, whole_proves, zone_says}
-use Rattle.domain_answer.specs.HashedReading.{AreAskedAlone, hashed_proved_answer, needs_wildcard, tells_encloser, tells_wildcard, IsHashedRead}
-use Rattle.domain_answer.specs.{HashedReading.{hashed_encloser, hashed_zone_answer}, ZoneAnswer.{is_at_parent, wildcard_below}, declared.answer.Answer.Answer}
-use Rattle.domain_answer.{specs.declared.answer.Answer.TheVariants.{NoCloserName, NotProven}, proofs.EncloserLemmas.{closest_last, exists_low}}
-use Rattle.domain_answer.proofs.EncloserLemmas.{strictly_other}
+use Rattle.domain_answer.proofs.{HashedAnswerLemmas.{read_proved, IsOfZone, encloser_told as whole_tells, whole_proves, zone_says}, EncloserLemmas.closest_last}
+use Rattle.domain_answer.{proofs.EncloserLemmas.{exists_low, strictly_other}, specs.HashedReading.{AreAskedAlone, hashed_proved_answer, needs_wildcard}}
+use Rattle.domain_answer.specs.{HashedReading.{tells_encloser, tells_wildcard, IsHashedRead, hashed_encloser, hashed_zone_answer}, ZoneAnswer.is_at_parent}
+use Rattle.domain_answer.specs.{ZoneAnswer.wildcard_below, declared.answer.Answer.{Answer, TheVariants.{NoCloserName, NotProven}}}
 use Rattle.domain_denier.proofs.HashedPickLemmas.{IsPickedRead, none_read, AreAmong, all_among, among_contained, contained, in_place, no_match, others_among}
-use Rattle.domain_denier.{proofs.HashedPickLemmas.{picked_among, read_is, without_others}, specs.HashedPicked.{AreHashedNeeded, AreHashedThere}}
-use Rattle.domain_denier.specs.HashedPicked.{IsHashedDenial, IsHashedDenied, IsHashedWhole, TellOfTheirParts, all_records, hashed_picked, picked_without}
-use Rattle.domain_denier.specs.HashedPicked.{without_records, IsOfHash, tells_hash, IsOfZone as IsOfSomeZone, IsSoleOf}
-use Rattle.domain_denier.specs.{declared.nsec3.Nsec3Denial.Nsec3Denial, Picked.at_place}
+use Rattle.domain_denier.{proofs.HashedPickLemmas.{picked_among, read_is, without_others}, specs.HashedPicked.{AreHashedNeeded, AreHashedThere, IsHashedDenial}}
+use Rattle.domain_denier.specs.HashedPicked.{IsHashedDenied, IsHashedWhole, TellOfTheirParts, all_records, hashed_picked, picked_without, without_records}
+use Rattle.domain_denier.specs.{HashedPicked.{IsOfHash, tells_hash, IsOfZone as IsOfSomeZone, IsSoleOf}, declared.nsec3.Nsec3Denial.Nsec3Denial}
+use Rattle.domain_denier.specs.Picked.{at_place}
 
 -- ---- lists of hashes that ascend
 

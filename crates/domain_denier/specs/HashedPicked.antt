@@ -1,18 +1,17 @@
 -- The records of an NSEC3 chain that a server answers a question with (RFC 5155, section 7.2).
-use Rattle.std.specs.{List.Contains, Prelude.{ℕ, ◌≡◌, ◌⊎◌, ◌<◌, ◌==◌, ◌++◌, true, false, List, length, Option, Some, None, Result, Ok, Err}}
-use Rattle.std.specs.Prelude.{IfOk, slice_get, if◌then◌else◌, ◌&&◌, ◌||◌, Bool, not}
+use Rattle.std.specs.{List.Contains, Prelude.{ℕ, ◌≡◌, ◌⊎◌, ◌<◌, ◌==◌, ◌++◌, true, false, List, length, Option, Some, None, Result, Ok, Err, IfOk, slice_get}}
+use Rattle.std.specs.Prelude.{if◌then◌else◌, ◌&&◌, ◌||◌, Bool, not}
 use Rattle.domain_names.specs.Name.{is_at_or_below, last_labels, lowered, same_name, wire_of, Name}
 use Rattle.domain_hasher.specs.declared.error.Nsec3HashError.{Nsec3HashError}
 use Rattle.domain_zone.specs.Zone.{ZoneRecord}
 use Rattle.domain_nsec3.specs.Chain.{ChainRecords, HashedLink, IsHashedChain, ChainConfig, Hash, hash_name, Parameters}
-use Rattle.domain_checker.specs.HashedVerdict.{is_covered, is_matched, next_closer, IsFirst, HashedRecords, chain_records, with_links}
-use Rattle.domain_checker.specs.{HashedVerdict.{is_hash_cover, is_hash_match}, HashedReading.{Encloser, encloser_is_cut, IsUnmatched}}
-use Rattle.domain_answer.specs.HashedReading.{AreAskedAlone, hashed_proved_answer, tells_wildcard, hashed_encloser, hashed_zone_answer}
-use Rattle.domain_answer.specs.{HashedReading.{IsHashedRead, encloser_answer, wildcard_told}, declared.answer.Answer.TheVariants.AtParent}
-use Rattle.domain_answer.specs.{declared.answer.Answer.TheVariants.{NoCloserName, NotProven, OutsideZone}, Reading.LeavesOutBelowDname}
-use Rattle.domain_answer.specs.{Reading.needs_no_records, ZoneAnswer.{is_at_parent, wildcard_below}, declared.answer.Answer.Answer}
-use Rattle.domain_denier.specs.{Picked.{at_place, link_at}, declared.nsec3.Nsec3Denial.Nsec3Denial}
-use Rattle.domain_denier.specs.declared.encloser.PlacedEncloser.{PlacedEncloser}
+use Rattle.domain_checker.specs.HashedVerdict.{is_covered, is_matched, next_closer, IsFirst, HashedRecords, chain_records, with_links, is_hash_cover}
+use Rattle.domain_checker.specs.{HashedVerdict.is_hash_match, HashedReading.{Encloser, encloser_is_cut, IsUnmatched}}
+use Rattle.domain_answer.specs.HashedReading.{AreAskedAlone, hashed_proved_answer, tells_wildcard, hashed_encloser, hashed_zone_answer, IsHashedRead}
+use Rattle.domain_answer.specs.{HashedReading.{encloser_answer, wildcard_told}, declared.answer.Answer.{Answer, TheVariants.{AtParent, NoCloserName}}}
+use Rattle.domain_answer.specs.{declared.answer.Answer.TheVariants.{NotProven, OutsideZone}, Reading.{LeavesOutBelowDname, needs_no_records}}
+use Rattle.domain_answer.specs.ZoneAnswer.{is_at_parent, wildcard_below}
+use Rattle.domain_denier.specs.{Picked.{at_place, link_at}, declared.{nsec3.Nsec3Denial.Nsec3Denial, encloser.PlacedEncloser.PlacedEncloser}}
 use Rattle.domain_octets.specs.Octets.{Octets}
 use Rattle.domain_base.specs.Types.{dname}
 use Rattle.domain_bitmap.specs.Blocks.{contains_type}

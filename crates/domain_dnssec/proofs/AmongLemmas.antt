@@ -1,6 +1,5 @@
 -- Elements of lists, of what is mapped and of what passes a filter.
-use Rattle.std.proofs.Common.{◌≡◌, ℕ, ◌<◌, zero, suc, List, [], ◌∷◌, length, refl, subst, inl, inr, arith}
-use Rattle.std.specs.Prelude.{Contains, slice_index_or}
+use Rattle.std.{proofs.Common.{◌≡◌, ℕ, ◌<◌, zero, suc, List, [], ◌∷◌, length, refl, subst, inl, inr, arith}, specs.Prelude.{Contains, slice_index_or}}
 use Rattle.domain_records.specs.Order.{HoldsPairwise}
 use Rattle.domain_zone.proofs.PairLemmas.{In, all_in, all_from_in}
 

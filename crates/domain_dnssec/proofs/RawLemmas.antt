@@ -1,6 +1,6 @@
 -- Records whose data are octets in canonical form say what the records say whose data these are.
-use Rattle.std.proofs.{Common.{◌≡◌, ℕ, List, [], ◌∷◌, map, refl, sym, ap, ◌∙◌, subst, arith}, lemmas.Grind.common_steps}
-use Rattle.std.{proofs.lemmas.List.Elements.{All-contains, All-weaker, recursion_from_All}, specs.{Prelude.{◌≢◌, Contains}, List.AllByRecursion}}
+use Rattle.std.proofs.{Common.{◌≡◌, ℕ, List, [], ◌∷◌, map, refl, sym, ap, ◌∙◌, subst, arith}, lemmas.{Grind.common_steps, List.Elements.All-contains}}
+use Rattle.std.{proofs.lemmas.List.Elements.{All-weaker, recursion_from_All}, specs.{Prelude.{◌≢◌, Contains}, List.AllByRecursion}}
 use Rattle.domain_octets.specs.Octets.{Octets}
 use Rattle.domain_names.specs.Name.{Name}
 use Rattle.domain_record.specs.{Record.{record_cmp, record_cmp_total}, declared.record.Record.Record}
@@ -10,8 +10,7 @@ use Rattle.domain_zone.specs.Zone.{zone_of, ZoneRecord}
 use Rattle.domain_borrowed.specs.Data.{RawRecord, zone_of_raw, data_cmp as raw_cmp, data_cmp_total as raw_cmp_total, minimum_of as raw_minimum}
 use Rattle.domain_borrowed.proofs.MinimumLemmas.{minimum_last}
 use Rattle.domain_dnssec.specs.{RawRecords.{HaveOneChain, TellMinima, TellsMinimum, raw_data, raw_record}, AnyOrder.{HasNone, IsWholeHashedChain, OfZone}}
-use Rattle.domain_dnssec.specs.declared.chain.ChainError.{ChainError, TheVariants.MixedClasses}
-use Rattle.domain_dnssec.{specs.declared.chain.ChainError.TheVariants.{Sort, Signing, OutOfMemory}, proofs.MappedLemmas.sets_back}
+use Rattle.domain_dnssec.{specs.declared.chain.ChainError.{ChainError, TheVariants.{MixedClasses, Sort, Signing, OutOfMemory}}, proofs.MappedLemmas.sets_back}
 use Rattle.domain_nsec.specs.Chain.{IsChain, IsFaultless, IsFirstFault}
 use Rattle.domain_nsec3.specs.Chain.{IsReady, IsFirstFault as IsFirstHashedFault}
 

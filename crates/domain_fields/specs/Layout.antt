@@ -1,13 +1,12 @@
 -- Data on the wire: fields of some kinds, in their order.
-use Rattle.std.{proofs.Common.{◌≡◌, sym, subst}, specs.Prelude.{ℕ, ◌<◌, ◌≤◌, ◌^◌, [], ◌∷◌, length, codes, ◌+◌, ◌++◌, Bool, true, false}}
-use Rattle.std.specs.{Prelude.{slice_index, ◌&&◌, Result, IfOk, IfErr, OnErr, Option, IsNone, Ok, Err, bytes_eq, ◌==◌, not, bit_and}, Int.{w16, w32}}
-use Rattle.std.specs.{Int.to_be_bytes, declared.cmp.Ordering.Ordering, Ordering.{nat_cmp, on, eq_by_cmp, then_cmp, eq_of_both}}
-use Rattle.std.specs.{Cmp.{Lexicographic.{slice_cmp, bytes_decides, texts_ties, nat_list_cmp_total, on_texts}, both_tied}, List.flat_map}
-use Rattle.std.specs.{Cmp.tied_itself, Hash.{Alike, same_Alike, on_Alike}, declared.cmp.Ordering.TheVariants.Equal}
-use Rattle.domain_octets.specs.{Octets.{Octets, AreOctets, Place, IsOver}, declared.error.AppendError.{AppendError, TheVariants.ShortBuf}}
-use Rattle.domain_octets.specs.declared.error.AppendError.TheVariants.{OutOfMemory}
-use Rattle.domain_names.specs.{Name.{wire_of, lowered, IsName, same_name, Name, canonical_cmp}, Wire.{Fault, ends_early, malformed}}
-use Rattle.domain_names.specs.{Wire.NameFault, Laws.same_name_ties}
+use Rattle.std.{proofs.Common.{◌≡◌, sym, subst}, specs.Prelude.{ℕ, ◌<◌, ◌≤◌, ◌^◌, [], ◌∷◌, length, codes, ◌+◌, ◌++◌, Bool, true, false, slice_index, ◌&&◌}}
+use Rattle.std.specs.{Prelude.{Result, IfOk, IfErr, OnErr, Option, IsNone, Ok, Err, bytes_eq, ◌==◌, not, bit_and}, Int.{w16, w32, to_be_bytes}}
+use Rattle.std.specs.{declared.cmp.Ordering.{Ordering, TheVariants.Equal}, Ordering.{nat_cmp, on, eq_by_cmp, then_cmp, eq_of_both}, Cmp.both_tied}
+use Rattle.std.specs.{Cmp.{tied_itself, Lexicographic.{slice_cmp, bytes_decides, texts_ties, nat_list_cmp_total, on_texts}}, List.flat_map, Hash.Alike}
+use Rattle.std.specs.Hash.{same_Alike, on_Alike}
+use Rattle.domain_octets.specs.{Octets.{Octets, AreOctets, Place, IsOver}, declared.error.AppendError.{AppendError, TheVariants.{ShortBuf, OutOfMemory}}}
+use Rattle.domain_names.specs.{Name.{wire_of, lowered, IsName, same_name, Name, canonical_cmp}, Wire.{Fault, ends_early, malformed, NameFault}}
+use Rattle.domain_names.specs.Laws.{same_name_ties}
 use Rattle.domain_bitmap.specs.Blocks.{IsBitmap, BitmapFault}
 use Rattle.domain_fields.specs.declared.wire_fault.WireFault.{WireFault, TheVariants.{ShortInput, BadLabel, LongName, LongData, BadBitmap}}
 use Rattle.std.specs.Hash as fed

@@ -1,9 +1,8 @@
 -- The data of keys and of digests of keys: on the wire, their flags and tags, and as text.
-use Rattle.std.specs.Prelude.{ℕ, ◌==◌, Bool, [], ◌++◌, codes, if◌then◌else◌, ◌+◌, ◌-◌, ◌*◌, ◌/◌, ◌%◌, nat_lt, ◌∷◌, length, slice_index, ◌<◌}
-use Rattle.std.specs.{Prelude.{◌≤◌, Option, List}, Fmt.decimal, List.join_with_byte}
+use Rattle.std.specs.Prelude.{ℕ, ◌==◌, Bool, [], ◌++◌, codes, if◌then◌else◌, ◌+◌, ◌-◌, ◌*◌, ◌/◌, ◌%◌, nat_lt, ◌∷◌, length, slice_index, ◌<◌, ◌≤◌, Option, List}
+use Rattle.std.specs.{Fmt.decimal, List.join_with_byte}
 use Rattle.domain_octets.specs.{Octets.Octets, Text.{space, PieceText, token, comment, opens, closes}}
-use Rattle.domain_fields.specs.{Layout.{has_flag, octet, short, at_most, rest, Layout, one, ◌▸◌, Values, octets_of}, Scan.Spells}
-use Rattle.domain_fields.specs.Scan.{RefusesData, Scans, Refuses}
+use Rattle.domain_fields.specs.{Layout.{has_flag, octet, short, at_most, rest, Layout, one, ◌▸◌, Values, octets_of}, Scan.{Spells, RefusesData, Scans, Refuses}}
 use Rattle.domain_codecs.specs.declared.codec.Codec.{Codec}
 use Rattle.domain_base.specs.Scan.{Refusal}
 use Rattle.domain_names.specs.Name.{Tokens}

@@ -2,8 +2,7 @@
 use Rattle.std.specs.Prelude.{◌≡◌, ℕ, ◌+◌, ◌≤◌, ◌∷◌, ◌++◌, length, drop}
 use Rattle.domain_octets.specs.Octets.{Octets}
 use Rattle.domain_names.specs.Name.{IsLabel}
-use Rattle.domain_message.specs.Name.{pointer_octets, IsBackward}
-use Rattle.domain_message.specs.declared.name.Step.{Step, TheVariants.{Root, Label, Pointer}}
+use Rattle.domain_message.specs.{Name.{pointer_octets, IsBackward}, declared.name.Step.{Step, TheVariants.{Root, Label, Pointer}}}
 
 -- at the place stands the root, or a label with room for the root behind it, or a pointer to an
 -- earlier place than where the labels before it began, when so many octets of the name are read

@@ -4,8 +4,7 @@ use Rattle.domain_octets.specs.Octets.{Octets}
 use Rattle.domain_names.specs.Name.{wire_of, Name}
 use Rattle.domain_fields.specs.Layout.{octets_of}
 use Rattle.domain_record.specs.declared.record.Record.{Record}
-use Rattle.domain_rdata.specs.{Zone.{HasExactOctets, rtype_of, wire_octets}, declared.zone_record_data.ZoneRecordData.ZoneRecordData}
-use Rattle.domain_rdata.specs.declared.zone_record_data.ZoneRecordData.TheVariants.{Unknown}
+use Rattle.domain_rdata.specs.{Zone.{HasExactOctets, rtype_of, wire_octets}, declared.zone_record_data.ZoneRecordData.{ZoneRecordData, TheVariants.Unknown}}
 use Rattle.domain_message.specs.{Data.parts_of, Record.numbers}
 
 -- octets are of a type whose names are never compressed

@@ -1,11 +1,9 @@
 -- The canonical order of names, and what is at or below a name.
-use Rattle.std.proofs.Common.{◌≡◌, ℕ, zero, suc, ◌+◌, ◌-◌, ◌≤◌, List, [], ◌∷◌, ◌++◌, length, min, take, drop, map, reverse, Bool, cond, ap, arith, nat_eq}
-use Rattle.std.proofs.{Common.{◌<◌, refl, sym, ◌∙◌, length-append, ◌⊎◌, subst}, lemmas.Grind.common_steps}
-use Rattle.std.proofs.lemmas.List.{drop-map, take-append-drop, length-map, drop_at}
-use Rattle.std.specs.{declared.cmp.Ordering.Ordering, Ordering.{ordering_then, nat_cmp, is_eq}, Char.to_ascii_lowercase, List.common_prefix_len}
-use Rattle.std.specs.{List.AllByRecursion, Prelude.true, Cmp.Lexicographic.{slice_cmp, pointwise, bytes_decides, lists_ties, texts_ties, pointwise_decides}}
-use Rattle.std.{specs.{Bool.Decides}, proofs.lemmas.{List.Elements.{All-map, All-weaker}, Bool.Decides.nat_tests}}
-use Rattle.std.{specs.{Cmp.{both_ways}}}
+use Rattle.std.proofs.Common.{◌≡◌, ℕ, zero, suc, ◌+◌, ◌-◌, ◌≤◌, List, [], ◌∷◌, ◌++◌, length, min, take, drop, map, reverse, Bool, cond, ap, arith, nat_eq, ◌<◌}
+use Rattle.std.proofs.{Common.{refl, sym, ◌∙◌, length-append, ◌⊎◌, subst}, lemmas.{Grind.common_steps, List.{drop-map, take-append-drop, length-map, drop_at}}}
+use Rattle.std.{proofs.lemmas.{List.Elements.{All-map, All-weaker}, Bool.Decides.nat_tests}, specs.{declared.cmp.Ordering.Ordering, Ordering.ordering_then}}
+use Rattle.std.specs.{Ordering.{nat_cmp, is_eq}, Char.to_ascii_lowercase, List.{common_prefix_len, AllByRecursion}, Prelude.true, Cmp.both_ways}
+use Rattle.std.specs.{Cmp.Lexicographic.{slice_cmp, pointwise, bytes_decides, lists_ties, texts_ties, pointwise_decides}, Bool.Decides}
 use Rattle.domain_names.specs.Name.{canonical_cmp, common_labels, from_root, Name, Label, wire_of, lowered, IsLabel, IsName, IsSame, IsAtOrBelow}
 use Rattle.domain_names.specs.{Name.{is_at_or_below, same_name}, Wire.{labels_of, IsWire}, Laws.{same_name_same, same_tied}}
 use Rattle.domain_names.proofs.WireLemmas.{labels_of-wire_of, wire_is, few_labels}

@@ -1,13 +1,12 @@
 -- Names as text.
-use Rattle.std.proofs.Common.{arith, ℕ, zero, suc, ◌<◌, ◌≤◌, ◌≡◌, ◌∷◌, ◌++◌, [], List, refl, ap, subst, ◌∙◌, length, take, drop}
-use Rattle.std.proofs.{Common.{length-append, ◌≢◌, get_or, ◌+◌, Option, Some, None, sym, inl}, lemmas.List.append_assoc}
-use Rattle.std.proofs.{lemmas.{List.{append-nil, length-drop, length-take-le, take_more}, Grind.common_steps}}
-use Rattle.std.proofs.lemmas.{List.Elements.{All-head, All-tail}, Str.{IsAscii-append, IsAscii-take, IsAscii-drop, IsUtf8-from_ascii, Ascii.IsAscii-nil}}
-use Rattle.std.specs.{List.{All, AllByRecursion as ByRecursion, AllByRecursion}, Str.{IsAscii, IsUtf8}, Prelude.IsSome}
+use Rattle.std.proofs.Common.{arith, ℕ, zero, suc, ◌<◌, ◌≤◌, ◌≡◌, ◌∷◌, ◌++◌, [], List, refl, ap, subst, ◌∙◌, length, take, drop, length-append, ◌≢◌, get_or}
+use Rattle.std.proofs.{Common.{◌+◌, Option, Some, None, sym, inl}, lemmas.List.{append_assoc, append-nil, length-drop, length-take-le, take_more}}
+use Rattle.std.proofs.lemmas.{List.Elements.{All-head, All-tail}, Grind.common_steps, Str.{IsAscii-append, IsAscii-take, IsAscii-drop, IsUtf8-from_ascii}}
+use Rattle.std.{proofs.lemmas.Str.Ascii.IsAscii-nil, specs.{List.{All, AllByRecursion as ByRecursion, AllByRecursion}, Str.{IsAscii, IsUtf8}, Prelude.IsSome}}
 use Rattle.std.specs.Prelude.{IfSome}
-use Rattle.domain_names.specs.Text.{octet_text, label_text, dotted_text, symbol_at, LabelText, ends, octet, HasNoLabel}
-use Rattle.domain_names.specs.{Text.{HasNoLabelAfter, LabelTexts, IsBefore, last, dotted, NameText, root, of_labels, IsNoName}}
-use Rattle.domain_names.{specs.Name.{wire_of, IsLabel, IsName, Name}, proofs.WireLemmas.length-wire_of}
+use Rattle.domain_names.specs.Text.{octet_text, label_text, dotted_text, symbol_at, LabelText, ends, octet, HasNoLabel, HasNoLabelAfter, LabelTexts, IsBefore}
+use Rattle.domain_names.specs.{Text.{last, dotted, NameText, root, of_labels, IsNoName}, Name.{wire_of, IsLabel, IsName, Name}}
+use Rattle.domain_names.proofs.WireLemmas.{length-wire_of}
 
 -- ---- texts of names are ASCII
 

@@ -1,14 +1,11 @@
 -- Laws of names that the impls of comparisons cite.
-use Rattle.std.{proofs.Common.{◌≡◌, ◌∷◌, ◌++◌, Some, false, List, [], reverse, refl, sym, ap, ◌∙◌}}
-use Rattle.std.specs.{declared.cmp.Ordering.{Ordering, TheVariants.{Less, Equal, Greater}}}
-use Rattle.std.specs.{Cmp.Lexicographic.{slice_cmp, nat_list_cmp_total, lists_total, lists_equiv}}
-use Rattle.std.specs.{Cmp.Lexicographic.{nat_list_eq_equiv, pointwise_decides, bytes_decides}, Ordering.{nat_cmp, ordering_then}}
-use Rattle.std.{specs.Ordering.{ordering_reverse, is_gt, is_eq, eq_by_cmp}, proofs.lemmas.List.{reverse-append, reverse-reverse}}
-use Rattle.std.specs.{Cmp.{IsTotalOrder, IsEquivalence, IsPartialOrder, tied_itself, on_equiv, po, both_ways, Equal-is}, Bool.Decides}
-use Rattle.std.specs.{Hash.{HashWrites, Alike, same_Alike, on_Alike}, FinMap.{IsAntisymmetric, nat_cmp-IsAntisymmetric}}
+use Rattle.std.proofs.{Common.{◌≡◌, ◌∷◌, ◌++◌, Some, false, List, [], reverse, refl, sym, ap, ◌∙◌}, lemmas.List.{reverse-append, reverse-reverse}}
+use Rattle.std.specs.{declared.cmp.Ordering.{Ordering, TheVariants.{Less, Equal, Greater}}, Cmp.{IsTotalOrder, IsEquivalence, IsPartialOrder, tied_itself}}
+use Rattle.std.specs.Cmp.{on_equiv, po, both_ways, Equal-is, Lexicographic.{slice_cmp, nat_list_cmp_total, lists_total, lists_equiv, nat_list_eq_equiv}}
+use Rattle.std.specs.{Cmp.Lexicographic.{pointwise_decides, bytes_decides}, Ordering.{nat_cmp, ordering_then, ordering_reverse, is_gt, is_eq, eq_by_cmp}}
+use Rattle.std.specs.{Bool.Decides, Hash.{HashWrites, Alike, same_Alike, on_Alike}, FinMap.{IsAntisymmetric, nat_cmp-IsAntisymmetric}}
 use Rattle.std.specs.FinMap.{slice_cmp-IsAntisymmetric}
-use Rattle.domain_names.specs.Name.{Name, lowered, IsAtOrBelow, IsSame, same_name, canonical_cmp, canonical_cmp_total, from_root}
-use Rattle.domain_names.specs.Name.{IsUpTo}
+use Rattle.domain_names.specs.Name.{Name, lowered, IsAtOrBelow, IsSame, same_name, canonical_cmp, canonical_cmp_total, from_root, IsUpTo}
 
 -- ---- what the impls of comparisons cite: laws of the canonical order, of lists under an order of their
 -- items and then of names

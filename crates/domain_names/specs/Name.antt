@@ -1,8 +1,7 @@
 -- Names as lists of labels, and their canonical order.
-use Rattle.std.specs.Prelude.{List, ◌≡◌, ◌<◌, ◌≤◌, ◌-◌, ℕ, drop, [], ◌∷◌, ◌++◌, length, map, Bool, not, ◌&&◌, nat_eq, All, Option, None}
-use Rattle.std.specs.{Prelude.{Some, reverse, false}, Ordering.{on, nat_cmp, is_lt, is_gt}, Cmp.Lexicographic.{pointwise, slice_cmp}}
-use Rattle.std.specs.{Cmp.Lexicographic.{nat_list_cmp_total, lists_total}, Char.to_ascii_lowercase, List.{AllByRecursion, ends_with}}
-use Rattle.std.specs.{List.common_prefix_len, declared.cmp.Ordering.Ordering, Cmp.{IsTotalOrder, on_total}}
+use Rattle.std.specs.Prelude.{List, ◌≡◌, ◌<◌, ◌≤◌, ◌-◌, ℕ, drop, [], ◌∷◌, ◌++◌, length, map, Bool, not, ◌&&◌, nat_eq, All, Option, None, Some, reverse, false}
+use Rattle.std.specs.{Ordering.{on, nat_cmp, is_lt, is_gt}, Cmp.{IsTotalOrder, on_total, Lexicographic.{pointwise, slice_cmp, nat_list_cmp_total, lists_total}}}
+use Rattle.std.specs.{Char.to_ascii_lowercase, List.{AllByRecursion, ends_with, common_prefix_len}, declared.cmp.Ordering.Ordering}
 use Rattle.domain_octets.specs.Octets.{Octets}
 
 -- ---- the words for what names and entries are made of

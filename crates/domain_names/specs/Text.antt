@@ -1,11 +1,10 @@
 -- Names as text, and why a text or octets are not read as a name.
-use Rattle.std.specs.Prelude.{◌≡◌, ℕ, ◌+◌, ◌-◌, ◌*◌, ◌/◌, ◌%◌, ◌<◌, ◌≤◌, ◌⊎◌, ◌==◌, ◌||◌, ◌&&◌, Bool, not, nat_le, [], ◌∷◌, ◌++◌, length}
-use Rattle.std.specs.{Prelude.{drop, Option, Some, None, if◌then◌else◌, codes, IsNone}, Char.{is_ascii_digit, is_ascii_graphic}}
-use Rattle.std.specs.List.{flat_map}
-use Rattle.domain_octets.specs.{Octets.{Octets, IsOver}, Text.{space, quote, dollar, left_parenthesis, right_parenthesis, dot, semicolon}}
-use Rattle.domain_octets.specs.{Text.{at_sign, backslash, tilde, digit_zero}, declared.error.AppendError.AppendError}
-use Rattle.domain_names.specs.{Name.{IsLabel, IsName, wire_of, Name, Label}, declared.error.ScanError.{ScanError, TheVariants.EndOfEntry}}
-use Rattle.domain_names.specs.declared.error.{ScanError.TheVariants.{Custom, ShortBuf, OutOfMemory}, NameError.NameError}
+use Rattle.std.specs.Prelude.{◌≡◌, ℕ, ◌+◌, ◌-◌, ◌*◌, ◌/◌, ◌%◌, ◌<◌, ◌≤◌, ◌⊎◌, ◌==◌, ◌||◌, ◌&&◌, Bool, not, nat_le, [], ◌∷◌, ◌++◌, length, drop, Option, Some}
+use Rattle.std.specs.{Prelude.{None, if◌then◌else◌, codes, IsNone}, Char.{is_ascii_digit, is_ascii_graphic}, List.flat_map}
+use Rattle.domain_octets.specs.{Octets.{Octets, IsOver}, Text.{space, quote, dollar, left_parenthesis, right_parenthesis, dot, semicolon, at_sign, backslash}}
+use Rattle.domain_octets.specs.{Text.{tilde, digit_zero}, declared.error.AppendError.AppendError}
+use Rattle.domain_names.specs.{Name.{IsLabel, IsName, wire_of, Name, Label}, declared.error.ScanError.{ScanError, TheVariants.{EndOfEntry, Custom, ShortBuf}}}
+use Rattle.domain_names.specs.declared.error.{ScanError.TheVariants.OutOfMemory, NameError.NameError}
 use Rattle.domain_octets.specs.declared.error.AppendError.TheVariants as append_error
 use Rattle.domain_names.specs.declared.error.NameError.TheVariants as name_error
 use Rattle.domain_names.specs.declared.error.ScanError.TheVariants as scan_error

@@ -1,12 +1,11 @@
 -- What the record that covers a name tells of it, in each spelling of the name.
 use Rattle.std.proofs.Common.{ℕ, slice_get, Some, ◌≡◌, ◌≤◌, true, false, cond, not, ◌&&◌, List, length, ltb, refl, sym, ap, ◌∙◌, subst, inl, inr, ◌⊎◌, arith}
 use Rattle.std.{proofs.{Common.Bool, lemmas.{Bool.{false≢true, and_parts, or_cases, not-true}, Grind.common_steps}}, specs.{List.list_any, Prelude.filter}}
-use Rattle.domain_zone.specs.{Covering.{matches, covers}, Enclosers.{IsClosestEncloser, longer, exists_over, is_empty_nonterminal}}
-use Rattle.domain_zone.specs.{Enclosers.IsShared, Zone.{ZoneRecord, OwnersNeverDescend, owns, occludes, is_occluded, is_unoccluded, unoccluded_owners}}
-use Rattle.domain_zone.{specs.Zone.has_type, proofs.NameLemmas.{before_order, one_lowered, same_itself, same_is, before_left, before_right, below_itself}}
-use Rattle.domain_zone.proofs.NameLemmas.{below_trans, below_from, below_between, below_longer, lowered_below, same_lowered, either_way, shared_is}
-use Rattle.domain_zone.proofs.{WalkLemmas.{any_owner, any_in, in_any, owners_are, below_occluder, occluder_owns, apart_right}, PairLemmas.{In, all_in, le_lt}}
-use Rattle.domain_zone.proofs.PairLemmas.{in_at}
+use Rattle.domain_zone.specs.{Covering.{matches, covers}, Enclosers.{IsClosestEncloser, longer, exists_over, is_empty_nonterminal, IsShared}, Zone.ZoneRecord}
+use Rattle.domain_zone.specs.Zone.{OwnersNeverDescend, owns, occludes, is_occluded, is_unoccluded, unoccluded_owners, has_type}
+use Rattle.domain_zone.proofs.NameLemmas.{before_order, one_lowered, same_itself, same_is, before_left, before_right, below_itself, below_trans, below_from}
+use Rattle.domain_zone.proofs.{NameLemmas.{below_between, below_longer, lowered_below, same_lowered, either_way, shared_is}, WalkLemmas.{any_owner, any_in}}
+use Rattle.domain_zone.proofs.{WalkLemmas.{in_any, owners_are, below_occluder, occluder_owns, apart_right}, PairLemmas.{In, all_in, le_lt, in_at}}
 use Rattle.domain_names.specs.Name.{is_at_or_below, is_strictly_below, lowered, same_name, before, Name}
 use Rattle.domain_nsec.specs.{Chain.{Link, IsChain, nsec_lists, is_listed}, Meaning.{TellsEmpty, TellsEncloser, IsCoveredBy, CoversBelowOccluders}}
 use Rattle.domain_nsec.{specs.{Meaning.MeansTheZone, declared.config.GenerateNsecConfig.GenerateNsecConfig}, proofs.ChainLemmas.{answered_once, chain_cycle}}

@@ -1,22 +1,20 @@
 -- Hashes in order, each linked with the next one: the chain of the zone, or its first fault.
-use Rattle.std.proofs.Common.{◌≡◌, ℕ, ◌<◌, Bool, false, not, ◌&&◌, ◌||◌, List, [], refl, sym, ◌∙◌, arith, ◌≢◌, true, ◌∷◌, map, None, cond, ◌++◌, ap}
-use Rattle.std.{proofs.{Common.{subst, inl, inr, suc, ◌+◌, length, get_or, take, Some, Ok, ◌≤◌}, lemmas.Grind.common_steps}, specs.List.AllByRecursion}
-use Rattle.std.{specs.List.{IsDistinct, list_any}, proofs.lemmas.{Cmp.tied_itself, List.Elements.{recursion_from_All, All-map, All-weaker}}}
-use Rattle.std.specs.{List.Sorted.IsStrictlySortedBy, Ordering.nat_cmp, declared.cmp.Ordering.TheVariants.Less, Cmp.Lexicographic.slice_cmp}
-use Rattle.std.{specs.Cmp.Lexicographic.nat_list_cmp_total, proofs.lemmas.{Bool.cases_lt, List.{get_or-map, get_or_past, length-map, take_more}}}
-use Rattle.std.proofs.lemmas.{Map.Keys.{apart_from_distinct, IsDistinct-IsPermutation}, Option.slice_get-get_or, Simd.map-map, List.Folds.list_any_at}
-use Rattle.std.{proofs.lemmas.List.Sorted.list_any-IsPermutation, specs.Prelude.All}
+use Rattle.std.proofs.Common.{◌≡◌, ℕ, ◌<◌, Bool, false, not, ◌&&◌, ◌||◌, List, [], refl, sym, ◌∙◌, arith, ◌≢◌, true, ◌∷◌, map, None, cond, ◌++◌, ap, subst, inl}
+use Rattle.std.proofs.{Common.{inr, suc, ◌+◌, length, get_or, take, Some, Ok, ◌≤◌}, lemmas.{Grind.common_steps, Cmp.tied_itself, List.get_or-map}}
+use Rattle.std.proofs.lemmas.List.{get_or_past, length-map, take_more, Elements.{recursion_from_All, All-map, All-weaker}, Folds.list_any_at}
+use Rattle.std.proofs.lemmas.{List.Sorted.list_any-IsPermutation, Bool.cases_lt, Map.Keys.{apart_from_distinct, IsDistinct-IsPermutation}}
+use Rattle.std.{proofs.lemmas.{Option.slice_get-get_or, Simd.map-map}, specs.List.{AllByRecursion, IsDistinct, list_any, Sorted.IsStrictlySortedBy}}
+use Rattle.std.specs.{Ordering.nat_cmp, declared.cmp.Ordering.TheVariants.Less, Cmp.Lexicographic.{slice_cmp, nat_list_cmp_total}, Prelude.All}
 use Rattle.domain_bitmap.{specs.{Bitmap.bitmap_octets, Blocks.holds}, proofs.BitmapLemmas.{bitmap_octets-same, holds_nothing as packs_nothing}}
-use Rattle.domain_zone.specs.Zone.{ZoneRecord, has_type, owns, IsListingFault, OwnerRecords, owner_at, soa_of, chain_ttl}
-use Rattle.domain_zone.proofs.{GivenLemmas.holds_nothing, WalkLemmas.{owners_are, any_in, in_any, all_filter, weaker, any_map, same_back}}
-use Rattle.domain_zone.proofs.{NameLemmas.{before_order, before_left, one_lowered, same_itself, either_way}, PairLemmas.{In, IsAscending, all_from_in}}
-use Rattle.domain_zone.{proofs.PairLemmas.{all_in, in_either, in_map, in_middle, pair_at, pairs_length, pairs_owners}, specs.Covering.pairs}
-use Rattle.domain_zone.specs.declared.soa.ApexSoa.{ApexSoa}
+use Rattle.domain_zone.specs.{Zone.{ZoneRecord, has_type, owns, IsListingFault, OwnerRecords, owner_at, soa_of, chain_ttl}, Covering.pairs}
+use Rattle.domain_zone.{specs.declared.soa.ApexSoa.ApexSoa, proofs.{GivenLemmas.holds_nothing, WalkLemmas.{owners_are, any_in, in_any, all_filter, weaker}}}
+use Rattle.domain_zone.proofs.{WalkLemmas.{any_map, same_back}, NameLemmas.{before_order, before_left, one_lowered, same_itself, either_way}, PairLemmas.In}
+use Rattle.domain_zone.proofs.PairLemmas.{IsAscending, all_from_in, all_in, in_either, in_map, in_middle, pair_at, pairs_length, pairs_owners}
 use Rattle.domain_nsec3.specs.Chain.{is_listed, original_owners, nsec3_lists, is_original_owner, is_chain_name, ChainConfig, Hash, hash_name, IsFirstFault}
 use Rattle.domain_nsec3.specs.Chain.{hash_fault, is_hashed_before, IsFirstHashFault, IsFirstHashingFault, HasCollision, AreAllHashed, HashedLink, HashedName}
 use Rattle.domain_nsec3.specs.{Chain.{IsHashedChain, IsOfChain, cycle, ends, ends_of, hashed_owner}, Steps.{IsFirstRefused, AreHashesOf, AreOrderedHashes}}
-use Rattle.domain_nsec3.{specs.Steps.{AreUsable, Common, HasAlikeNeighbours, IsHashOf, link_to, links_in, name_at}, proofs.OwnerLemmas.ascends_both}
-use Rattle.domain_nsec3.{specs.{Meaning.IsRecordOf, declared.{chain.HashedChain.HashedChain, hash.Hashed.Hashed}}, proofs.HashLemmas.sound_some}
+use Rattle.domain_nsec3.specs.{Steps.{AreUsable, Common, HasAlikeNeighbours, IsHashOf, link_to, links_in, name_at}, Meaning.IsRecordOf}
+use Rattle.domain_nsec3.{specs.declared.{chain.HashedChain.HashedChain, hash.Hashed.Hashed}, proofs.{OwnerLemmas.ascends_both, HashLemmas.sound_some}}
 use Rattle.domain_nsec3.proofs.HashLemmas.{sound_short}
 use Rattle.domain_names.specs.Name.{same_name, wire_of, Name, before}
 use Rattle.domain_octets.specs.Octets.{Octets}

@@ -1,16 +1,15 @@
 -- The names of an NSEC3 chain: those that exist over its owners.
-use Rattle.std.proofs.Common.{◌≡◌, ℕ, ◌+◌, ◌≤◌, ◌<◌, true, false, cond, List, [], ◌∷◌, ◌++◌, length, refl, sym, ap, ◌∙◌, arith, Bool, not, ◌&&◌, ◌||◌, inl}
-use Rattle.std.{proofs.{Common.inr, lemmas.{Bool.Decides.nat_tests, List.append-nil, Grind.common_steps}}, specs.Prelude.{nat_lt, filter, if◌then◌else◌}}
-use Rattle.std.{specs.List.{AllByRecursion, list_any}, proofs.lemmas.Bool.{false_from_ne_true, false≢true, and_parts, and_from, or_left, cases_lt, leb-true}}
-use Rattle.std.{proofs.lemmas.Bool.{not-true, or_right}, specs.{List.Sorted.IsStrictlySortedBy, Ordering.is_lt}}
-use Rattle.std.specs.declared.cmp.Ordering.{Ordering, TheVariants.Less}
+use Rattle.std.proofs.Common.{◌≡◌, ℕ, ◌+◌, ◌≤◌, ◌<◌, true, false, cond, List, [], ◌∷◌, ◌++◌, length, refl, sym, ap, ◌∙◌, arith, Bool, not, ◌&&◌, ◌||◌, inl, inr}
+use Rattle.std.proofs.lemmas.Bool.{false_from_ne_true, false≢true, and_parts, and_from, or_left, cases_lt, leb-true, not-true, or_right, Decides.nat_tests}
+use Rattle.std.{proofs.lemmas.{List.append-nil, Grind.common_steps}, specs.{Prelude.{nat_lt, filter, if◌then◌else◌}, List.{AllByRecursion, list_any}}}
+use Rattle.std.specs.{List.Sorted.IsStrictlySortedBy, Ordering.is_lt, declared.cmp.Ordering.{Ordering, TheVariants.Less}}
 use Rattle.domain_names.specs.Name.{is_at_or_below, lowered, same_name, is_strictly_below, Label, Name, canonical_cmp, before, common_labels}
 use Rattle.domain_zone.proofs.NameLemmas.{one_lowered, same_itself, same_length, below_trans, below_parent, below_itself, below_longer, lowered_below}
 use Rattle.domain_zone.proofs.NameLemmas.{same_lowered, strictly_from, before_order, below_between, below_from, same_both, either_way, common_shares}
 use Rattle.domain_zone.proofs.WalkLemmas.{weaker, all_both, apart_left, apart_right, after_or, any_owner, any_in, in_any, owners_are, any_weaker, any_filter}
-use Rattle.domain_zone.{proofs.WalkLemmas.{apex_unoccluded, below_occluder, typed_owns}, specs.Zone.{ZoneRecord, records_of, owns, has_type, is_zone_cut}}
-use Rattle.domain_zone.specs.{Zone.{occludes, is_occluded, is_unoccluded, unoccluded_owners}, Enclosers.{exists_over, is_empty_nonterminal}}
-use Rattle.domain_zone.{specs.Enclosers.IsClosestEncloser, proofs.PairLemmas.{In, all_in, IsAscending, all_from_in, ascending, le_lt, lt_trans}}
+use Rattle.domain_zone.proofs.{WalkLemmas.{apex_unoccluded, below_occluder, typed_owns}, PairLemmas.{In, all_in, IsAscending, all_from_in, ascending, le_lt}}
+use Rattle.domain_zone.{proofs.PairLemmas.lt_trans, specs.Zone.{ZoneRecord, records_of, owns, has_type, is_zone_cut, occludes, is_occluded, is_unoccluded}}
+use Rattle.domain_zone.specs.{Zone.unoccluded_owners, Enclosers.{exists_over, is_empty_nonterminal, IsClosestEncloser}}
 use Rattle.domain_nsec3.specs.{Steps.{above_with_more, is_over, IsListOf}, Chain.{ChainConfig, excludes, is_excluded, is_original_owner, original_owners}}
 use Rattle.domain_nsec3.specs.{Chain.{is_chain_name, is_empty}, Meaning.CutsEnclose}
 use Rattle.domain_octets.proofs.StdLemmas.{and_false}

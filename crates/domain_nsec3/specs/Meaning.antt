@@ -7,8 +7,7 @@ use Rattle.domain_names.specs.Name.{canonical_cmp, is_at_or_below, is_strictly_b
 use Rattle.domain_bitmap.specs.Bitmap.{bitmap_octets}
 use Rattle.domain_chain_rdata.specs.Rdata.{is_opt_out}
 use Rattle.domain_zone.specs.{Covering.{matches, covers, matches_or_covers}, Enclosers.IsClosestEncloser, Zone.{ZoneRecord, is_zone_cut, is_unoccluded}}
-use Rattle.domain_nsec3.specs.Chain.{HashedLink, hashed_owner, ChainConfig, hash_of, original_owners, is_original_owner, is_chain_name}
-use Rattle.domain_nsec3.specs.Chain.{nsec3_lists}
+use Rattle.domain_nsec3.specs.Chain.{HashedLink, hashed_owner, ChainConfig, hash_of, original_owners, is_original_owner, is_chain_name, nsec3_lists}
 
 -- the order of hashes: octet by octet, and what is absent comes first
 abbrev pub octets_before : Octets → Octets → Bool

@@ -1,15 +1,14 @@
 -- The steps of the generator: the names above a name, the hashes of all, and the links that join them.
-use Rattle.std.specs.Prelude.{◌≡◌, ℕ, Bool, List, [], ◌∷◌, ◌++◌, length, nat_lt, if◌then◌else◌, ◌+◌, ◌<◌, map, None, Some, Ok, ◌⊎◌}
-use Rattle.std.specs.{Prelude.{slice_index_or, All, IsPermutation}, List.{list_any, Sorted.IsStrictlySortedBy}, Ordering.nat_cmp}
-use Rattle.std.specs.Cmp.Lexicographic.{slice_cmp}
+use Rattle.std.specs.Prelude.{◌≡◌, ℕ, Bool, List, [], ◌∷◌, ◌++◌, length, nat_lt, if◌then◌else◌, ◌+◌, ◌<◌, map, None, Some, Ok, ◌⊎◌, slice_index_or, All}
+use Rattle.std.specs.{Prelude.IsPermutation, List.{list_any, Sorted.IsStrictlySortedBy}, Ordering.nat_cmp, Cmp.Lexicographic.slice_cmp}
 use Rattle.domain_names.specs.Name.{canonical_cmp, same_name, Name}
 use Rattle.domain_zone.specs.Enclosers.{exists_over, is_empty_nonterminal}
 use Rattle.domain_octets.specs.Octets.{Octets}
 use Rattle.domain_base.specs.Classes.{in_class}
 use Rattle.domain_chain_rdata.specs.declared.nsec3param.Nsec3param.{Nsec3param}
 use Rattle.domain_hasher.specs.declared.error.Nsec3HashError.{Nsec3HashError, TheVariants.{OutOfMemory, CollisionDetected}}
-use Rattle.domain_nsec3.specs.Chain.{HashedLink, cycle, hashed_owner, Hash, HashAnswer, Parameters, hash_name, hash_fault}
-use Rattle.domain_nsec3.specs.{View.parameters_of, declared.{chain.HashedChain.HashedChain, hash.Hashed.Hashed}}
+use Rattle.domain_nsec3.specs.{Chain.{HashedLink, cycle, hashed_owner, Hash, HashAnswer, Parameters, hash_name, hash_fault}, View.parameters_of}
+use Rattle.domain_nsec3.specs.declared.{chain.HashedChain.HashedChain, hash.Hashed.Hashed}
 
 -- ---- The names above a name, and lists of names in canonical order.
 

@@ -1,12 +1,11 @@
 -- The words of a text, and the tokens that are put into one line.
-use Rattle.std.proofs.Common.{ℕ, suc, ◌<◌, List, get_or, Fits, w8, arith, ◌≡◌, [], ◌∷◌, ◌++◌, Bool, true, false, refl, ap, ◌≤◌, length, take}
-use Rattle.std.proofs.{Common.{drop, Some, None, sym, ◌∙◌, ◌+◌, Bor, map, inl, inr}, lemmas.List.Elements.{All-from_get_or}}
-use Rattle.std.{proofs.lemmas.List.{append-nil, append_assoc}, specs.Prelude.{All, ◌^◌}}
-use Rattle.std.{specs.List.{join_with_byte, AllByRecursion}}
-use Rattle.std.proofs.lemmas.{Fmt.decimal_is_IsNumeral, Grind.common_steps, Bool.{cases_Bool, Decides.nat_tests}, Str.IsCharBoundary-after_ascii}
-use Rattle.std.{specs.{Fmt.decimal, Str.{Parse.AllDigits}}}
+use Rattle.std.proofs.Common.{ℕ, suc, ◌<◌, List, get_or, Fits, w8, arith, ◌≡◌, [], ◌∷◌, ◌++◌, Bool, true, false, refl, ap, ◌≤◌, length, take, drop, Some, None}
+use Rattle.std.proofs.{Common.{sym, ◌∙◌, ◌+◌, Bor, map, inl, inr}, lemmas.{List.{append-nil, append_assoc, Elements.All-from_get_or}, Fmt.decimal_is_IsNumeral}}
+use Rattle.std.{proofs.lemmas.{Grind.common_steps, Bool.{cases_Bool, Decides.nat_tests}, Str.IsCharBoundary-after_ascii}, specs.Prelude.{All, ◌^◌}}
+use Rattle.std.specs.{List.{join_with_byte, AllByRecursion}, Fmt.decimal, Str.Parse.AllDigits}
 use Rattle.domain_octets.specs.Text.{is_blank, word_if_any, words_after, words_of, HasNoBlank, IsWord}
-use Rattle.{memchr.specs.Find.IsFirstByte, smallvec.specs.SmallVec.{SmallVec, HasRoomFor}}
+use Rattle.memchr.specs.Find.{IsFirstByte}
+use Rattle.smallvec.specs.SmallVec.{SmallVec, HasRoomFor}
 
 -- ---- octets in slices
 

@@ -1,9 +1,8 @@
 -- Octets: the word for them, the limits of builders, octets that were written over others or are read
 -- from the front, and what errors say.
-use Rattle.std.specs.{Prelude.{ℕ, List, ◌<◌, All, Option, None, Some, ◌≡◌, ◌++◌, length, take, drop, ◌+◌, codes}, List.refill}
-use Rattle.std.proofs.{Common.{ap, ◌∙◌}, Math.Seq.take-append_seam}
-use Rattle.domain_octets.specs.declared.error.AppendError.{AppendError}
-use Rattle.domain_octets.specs.declared.error.ParseError.{ParseError}
+use Rattle.std.{specs.{Prelude.{ℕ, List, ◌<◌, All, Option, None, Some, ◌≡◌, ◌++◌, length, take, drop, ◌+◌, codes}, List.refill}, proofs.Common.{ap, ◌∙◌}}
+use Rattle.std.proofs.Math.Seq.{take-append_seam}
+use Rattle.domain_octets.specs.declared.error.{AppendError.AppendError, ParseError.ParseError}
 use Rattle.domain_octets.specs.declared.error.AppendError.TheVariants as append_error
 use Rattle.domain_octets.specs.declared.error.ParseError.TheVariants as parse_error
 

@@ -1,13 +1,11 @@
 -- Record data as tokens and as octets, and why they are refused (RFC 1035, section 5.1; RFC 3597).
-use Rattle.std.specs.Prelude.{◌≡◌, ℕ, None, [], ◌∷◌, ◌⊎◌, ◌<◌, ◌||◌, length, codes, Bool, true, false, IsTrue, Option, Some, IsNone, Result}
-use Rattle.std.specs.Prelude.{IfOk, IfErr}
+use Rattle.std.specs.Prelude.{◌≡◌, ℕ, None, [], ◌∷◌, ◌⊎◌, ◌<◌, ◌||◌, length, codes, Bool, true, false, IsTrue, Option, Some, IsNone, Result, IfOk, IfErr}
 use Rattle.domain_octets.specs.Octets.{Octets, IsOver}
 use Rattle.domain_names.specs.{Name.{Tokens, Name}, Wire.Fault, Text.{ScanFault, entry_ends, illegal, no_room, no_memory, scan_fault_of}}
 use Rattle.domain_names.specs.declared.error.ScanError.{ScanError}
 use Rattle.domain_plain.specs.Plain.{GenericText, generic_mark, GenericFault}
-use Rattle.domain_rdata.specs.Zone.{AreFields, FieldsText, Kind, plain, key, signature, next_by_name, next_by_hash, params, layout_of}
-use Rattle.domain_rdata.specs.Zone.{kind_of, rtype_of, Content, fields, mere, content_of}
-use Rattle.domain_rdata.specs.declared.zone_record_data.ZoneRecordData.{ZoneRecordData}
+use Rattle.domain_rdata.specs.Zone.{AreFields, FieldsText, Kind, plain, key, signature, next_by_name, next_by_hash, params, layout_of, kind_of, rtype_of}
+use Rattle.domain_rdata.specs.{Zone.{Content, fields, mere, content_of}, declared.zone_record_data.ZoneRecordData.ZoneRecordData}
 use Rattle.domain_base.specs.Scan.{Refusal}
 use Rattle.domain_fields.specs.{Layout.{name, spelled_name, counted, rest, types, Layout, one, ◌▸◌, Values}, Scan.Refuses}
 use Rattle.domain_keys.specs.Keys.{RefusesKey}

@@ -1,8 +1,7 @@
 -- Records: their canonical order and equality, their text and their copies.
-use Rattle.std.specs.{Prelude.{ℕ, Bool, nat_eq, [], ◌∷◌, ◌++◌, Option, Some, ◌≡◌}, declared.cmp.Ordering.Ordering, Ordering.{nat_cmp, on}}
-use Rattle.std.specs.{Ordering.{then_cmp, eq_of_both}, Cmp.{IsTotalOrder, on_total, then_total, nat_cmp_total, IsPartialEquivalence}}
-use Rattle.std.specs.{Cmp.{IsEquivalence, on_per, and_per, on_equiv, and_equiv, nat_eq_equiv, partial_equiv_from_equiv}, Borrow.Lends}
-use Rattle.std.specs.{Borrow.{Fml, RattleType, MutBor}, Fmt.{decimal, ◌++?◌}}
+use Rattle.std.specs.{Prelude.{ℕ, Bool, nat_eq, [], ◌∷◌, ◌++◌, Option, Some, ◌≡◌}, declared.cmp.Ordering.Ordering, Ordering.{nat_cmp, on, then_cmp, eq_of_both}}
+use Rattle.std.specs.Cmp.{IsTotalOrder, on_total, then_total, nat_cmp_total, IsPartialEquivalence, IsEquivalence, on_per, and_per, on_equiv, and_equiv}
+use Rattle.std.specs.{Cmp.{nat_eq_equiv, partial_equiv_from_equiv}, Borrow.{Lends, Fml, RattleType, MutBor}, Fmt.{decimal, ◌++?◌}}
 use Rattle.domain_names.specs.{Name.{same_name, canonical_cmp, canonical_cmp_total, Name}, Laws.same_name_equiv, Text.name_text}
 use Rattle.domain_record.specs.{declared.record.Record.Record, contracts.record.Record.the_row}
 use Rattle.domain_octets.specs.{Octets.Octets, Text.{space, dot}}

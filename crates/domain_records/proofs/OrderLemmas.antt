@@ -1,19 +1,18 @@
 -- Records in order: sorted sets as lists, and lists in the order of places.
 use Rattle.std.proofs.Common.{Bor, List, [], ◌∷◌, ap, is_lt, ◌≡◌, ℕ, ◌+◌, ◌<◌, ◌≤◌, Bool, false, not, ◌&&◌, ◌++◌, length, get_or, take, drop, Result, Ok, Err}
 use Rattle.std.proofs.Common.{IfOk, IfErr, refl, sym, ◌∙◌, subst, arith, ◌↔◌, zero, suc, add-one, true, Some, inl, inr, below_more}
-use Rattle.std.{specs.{declared.cmp.Ordering.Ordering, Fn.{Mut, AlwaysReturns, ReturnsEach, ComparesAs}}, proofs.lemmas.Map.Keys.Less-from_sorted}
-use Rattle.std.proofs.lemmas.{Map.Keys.sorted_from_all_adjacent, List.{take-append-drop, get_or-take, get_or-drop, get_or_default, length-take-le}}
-use Rattle.std.proofs.lemmas.List.{length-drop, Filters.All-dedup, Elements.{All-contains_itself, AllZip-get_or, filter_agree, recursion_from_All}}
-use Rattle.std.proofs.lemmas.List.{Elements.{All-get_or, All-from_get_or}, Kept.{IsStrictlySortedBy-dedup, Any-dedup}, Quantifiers.all_pairs_remove}
-use Rattle.std.proofs.lemmas.List.Sorted.{searchable_from_sorted, IsPermutation-insert, Contains-permutation, All-permutation, IsPermutation-swap}
-use Rattle.std.{proofs.lemmas.{List.Sorted.IsPermutation-trans, Grind.common_steps, Slice.Zip.AllZip-long}, specs.List.{AllByRecursion, AllZip, slice_get}}
-use Rattle.std.specs.List.{Contains, dedup, dedup_from, filter, find, remove, position_or_len, swap, Sorted.{IsStrictlySortedBy, IsSorted, IsStable}}
-use Rattle.std.specs.{List.Sorted.{IsPermutation, ties, IsSearchInRange, IsBinarySearchResult, IsNonDecreasingBy}, Cmp.{IsTotalOrder, IsEquivalence}}
-use Rattle.std.specs.{Cmp.{eq_by_cmp_equiv, alike_right, tied_back, Equal-is, upto, tied_itself, nat_cmp_total, then_total, on_total}, Ordering.eq_by_cmp}
-use Rattle.std.specs.{Ordering.{is_eq, ordering_index, ordering_reverse, ordering_then, nat_cmp, is_gt, is_le}, declared.cmp.Ordering.TheVariants.Less}
-use Rattle.std.{specs.declared.cmp.Ordering.TheVariants.{Equal, Greater}, proofs.lemmas.Bool.{eqb-true, eq-eqb, cases_Bool, cases_lt, cases_eq}}
-use Rattle.std.proofs.lemmas.{Bool.Decides.nat_tests, List.{Folds.find_at, Sums.{position_or_len_is, fails_before_first, passes_at_first}}}
-use Rattle.std.proofs.lemmas.{Option.{slice_get-get_or, slice_get_past}, List.Edits.{length-swap, swapped_from_swap}}
+use Rattle.std.proofs.lemmas.{Map.Keys.{Less-from_sorted, sorted_from_all_adjacent}, List.{take-append-drop, get_or-take, get_or-drop, get_or_default}}
+use Rattle.std.proofs.lemmas.List.{length-take-le, length-drop, Filters.All-dedup, Elements.{All-contains_itself, AllZip-get_or, filter_agree}}
+use Rattle.std.proofs.lemmas.List.{Elements.{recursion_from_All, All-get_or, All-from_get_or}, Kept.{IsStrictlySortedBy-dedup, Any-dedup}}
+use Rattle.std.proofs.lemmas.List.{Quantifiers.all_pairs_remove, Sorted.{searchable_from_sorted, IsPermutation-insert, Contains-permutation, All-permutation}}
+use Rattle.std.proofs.lemmas.List.{Sorted.{IsPermutation-swap, IsPermutation-trans}, Folds.find_at, Sums.{position_or_len_is, fails_before_first}}
+use Rattle.std.proofs.lemmas.{List.{Sums.passes_at_first, Edits.{length-swap, swapped_from_swap}}, Grind.common_steps, Slice.Zip.AllZip-long, Bool.eqb-true}
+use Rattle.std.proofs.lemmas.{Bool.{eq-eqb, cases_Bool, cases_lt, cases_eq, Decides.nat_tests}, Option.{slice_get-get_or, slice_get_past}}
+use Rattle.std.specs.{declared.cmp.Ordering.{Ordering, TheVariants.{Less, Equal, Greater}}, Fn.{Mut, AlwaysReturns, ReturnsEach, ComparesAs}}
+use Rattle.std.specs.List.{AllByRecursion, AllZip, slice_get, Contains, dedup, dedup_from, filter, find, remove, position_or_len, swap}
+use Rattle.std.specs.List.Sorted.{IsStrictlySortedBy, IsSorted, IsStable, IsPermutation, ties, IsSearchInRange, IsBinarySearchResult, IsNonDecreasingBy}
+use Rattle.std.specs.Cmp.{IsTotalOrder, IsEquivalence, eq_by_cmp_equiv, alike_right, tied_back, Equal-is, upto, tied_itself, nat_cmp_total, then_total}
+use Rattle.std.specs.{Cmp.on_total, Ordering.{eq_by_cmp, is_eq, ordering_index, ordering_reverse, ordering_then, nat_cmp, is_gt, is_le}}
 use Rattle.domain_records.specs.Order.{AnswersBy, Holds, GoesTo, IsSortedSetOf, IsSortOf, IsUnion, KeepsEarliest, first_equal, HoldsPairwise, IsOneClass}
 use Rattle.domain_records.specs.{Order.{MayFollow, IsInOrder, AreInOrder, IsArranged, compared_places, AreRanks}, Groups.{may_follow, same_class, same_ttl}}
 use Rattle.domain_records.specs.Groups.{HoldsOfNeighbours}

@@ -1,16 +1,14 @@
 -- Groups of records: of one owner, of one owner and type, how these are looked up, and what adding
 -- and removing leave.
-use Rattle.std.specs.{List.{AllByRecursion, slice_get}, Prelude.{◌≡◌, ℕ, ◌+◌, ◌<◌, ◌≤◌, Bool, true, false, List, [], ◌∷◌, ◌++◌, length}}
-use Rattle.std.specs.Prelude.{Option, MatchOption, if◌then◌else◌, slice_index_or, ◌==◌, ◌&&◌, Any, ◌≢◌, Result, Some, None, Ok, MatchResult}
-use Rattle.std.specs.{Prelude.{drop, map, remove, ◌⊎◌}, Ordering.{is_le, nat_cmp, on, then_cmp}}
-use Rattle.std.specs.{declared.cmp.Ordering.Ordering, Fn.{Shared, FnReturnsAt}, Iterator.Drains}
+use Rattle.std.specs.{List.{AllByRecursion, slice_get}, Prelude.{◌≡◌, ℕ, ◌+◌, ◌<◌, ◌≤◌, Bool, true, false, List, [], ◌∷◌, ◌++◌, length, Option, MatchOption}}
+use Rattle.std.specs.Prelude.{if◌then◌else◌, slice_index_or, ◌==◌, ◌&&◌, Any, ◌≢◌, Result, Some, None, Ok, MatchResult, drop, map, remove, ◌⊎◌}
+use Rattle.std.specs.{Ordering.{is_le, nat_cmp, on, then_cmp}, declared.cmp.Ordering.Ordering, Fn.{Shared, FnReturnsAt}, Iterator.Drains}
 use Rattle.domain_names.specs.Name.{canonical_cmp, same_name, IsSame, Name}
 use Rattle.domain_record.specs.declared.record.Record.{Record}
 use Rattle.domain_base.specs.Types.{ns, rrsig}
-use Rattle.domain_records.specs.declared.error.SigningError.{SigningError, TheVariants.{EmptyRecordSlice, MultipleTtlValues}}
-use Rattle.domain_records.specs.{Order.{HoldsPairwise, Holds, Adds}, declared.slice.SliceRefsOrOwned.{SliceRefsOrOwned, TheVariants.Refs}}
-use Rattle.domain_records.specs.declared.{slice.SliceRefsOrOwned.TheVariants.Owned, error.InsertError.{InsertError, TheVariants.Present}}
-use Rattle.domain_records.specs.declared.error.InsertError.TheVariants.{OutOfMemory}
+use Rattle.domain_records.specs.declared.error.{SigningError.{SigningError, TheVariants.{EmptyRecordSlice, MultipleTtlValues}}, InsertError.InsertError}
+use Rattle.domain_records.specs.declared.{error.InsertError.TheVariants.{Present, OutOfMemory}, slice.SliceRefsOrOwned.{SliceRefsOrOwned, TheVariants.Refs}}
+use Rattle.domain_records.specs.{declared.slice.SliceRefsOrOwned.TheVariants.Owned, Order.{HoldsPairwise, Holds, Adds}}
 use denote.Ref.{Bor}
 
 -- ---- Groups of a list: its maximal runs.

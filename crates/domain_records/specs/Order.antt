@@ -1,8 +1,7 @@
 -- Records of one class in order, lists as sorted sets, and lists in the order of places.
-use Rattle.std.specs.Prelude.{◌≡◌, ℕ, ◌≤◌, List, [], ◌∷◌, ◌<◌, length, slice_index, slice_index_or, Option, Bool, IsTrue, All, Any}
-use Rattle.std.specs.{Prelude.{Contains, find, insert, IsPermutation}, List.{AllByRecursion, AllAdjacentBelow}}
-use Rattle.std.specs.{declared.cmp.Ordering.{Ordering, TheVariants.{Less, Equal}}, Ordering.{nat_cmp, on, then_cmp, is_eq}}
-use Rattle.std.specs.{List.Sorted.{IsStrictlySortedBy, IsSorted}, Fn.{Mut, AlwaysReturns}}
+use Rattle.std.specs.Prelude.{◌≡◌, ℕ, ◌≤◌, List, [], ◌∷◌, ◌<◌, length, slice_index, slice_index_or, Option, Bool, IsTrue, All, Any, Contains, find, insert}
+use Rattle.std.specs.{Prelude.IsPermutation, List.{AllByRecursion, AllAdjacentBelow, Sorted.{IsStrictlySortedBy, IsSorted}}, declared.cmp.Ordering.Ordering}
+use Rattle.std.specs.{declared.cmp.Ordering.TheVariants.{Less, Equal}, Ordering.{nat_cmp, on, then_cmp, is_eq}, Fn.{Mut, AlwaysReturns}}
 use Rattle.domain_names.specs.Name.{IsSame, IsUpTo, canonical_cmp, Name}
 use Rattle.domain_record.specs.declared.record.Record.{Record}
 use denote.Ref.{Bor}

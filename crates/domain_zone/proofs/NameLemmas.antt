@@ -1,13 +1,11 @@
 -- What the chains need of names: their order, what is below a name, and what two names share.
 use Rattle.std.proofs.Common.{◌≡◌, Bool, true, false, not, ◌||◌, [], ◌∷◌, map, length, refl, sym, ap, ◌∙◌, ◌<◌, ◌≤◌, arith, nat_eq, cond, List, ◌++◌, reverse}
-use Rattle.std.proofs.{Common.{inl, inr}, lemmas.{List.{append-nil, length-reverse, length-map, reverse-append, Sorted.ranks_by}}}
-use Rattle.std.{proofs.lemmas.{Bool.{cases_Bool, cases_lt, false≢true}, Grind.common_steps}}
-use Rattle.std.specs.{Char.to_ascii_lowercase, Ordering.{is_lt, ordering_reverse}}
-use Rattle.std.specs.{Cmp.{IsStrictWeakOrder, Lexicographic.{pointwise, bytes_decides}}, List.{ends_with, common_prefix_len}}
-use Rattle.std.{proofs.lemmas.Bool.Decides.nat_tests, specs.Prelude.nat_le}
-use Rattle.domain_names.specs.Laws.{ancestor_first, between_names, same_name_same, same_name_ties, same_tied, from_root-below, below-from_root}
-use Rattle.domain_names.specs.Name.{lowered, IsAtOrBelow, same_name, is_at_or_below, is_strictly_below, canonical_cmp_total, before, IsUpTo}
-use Rattle.domain_names.{specs.Name.{from_root, common_labels, Label, Name}, proofs.OrderLemmas.{at_or_below_test, one_line}}
+use Rattle.std.proofs.{Common.{inl, inr}, lemmas.{List.{append-nil, length-reverse, length-map, reverse-append, Sorted.ranks_by}, Bool.{cases_Bool, cases_lt}}}
+use Rattle.std.{proofs.lemmas.{Bool.{false≢true, Decides.nat_tests}, Grind.common_steps}, specs.{Char.to_ascii_lowercase, Ordering.{is_lt, ordering_reverse}}}
+use Rattle.std.specs.{Cmp.{IsStrictWeakOrder, Lexicographic.{pointwise, bytes_decides}}, List.{ends_with, common_prefix_len}, Prelude.nat_le}
+use Rattle.domain_names.specs.{Laws.{ancestor_first, between_names, same_name_same, same_name_ties, same_tied, from_root-below, below-from_root}, Name.lowered}
+use Rattle.domain_names.specs.Name.{IsAtOrBelow, same_name, is_at_or_below, is_strictly_below, canonical_cmp_total, before, IsUpTo, from_root, common_labels}
+use Rattle.domain_names.{specs.Name.{Label, Name}, proofs.OrderLemmas.{at_or_below_test, one_line}}
 use Rattle.domain_zone.specs.{Covering.matches, Enclosers.{IsClosestEncloser, IsShared, exists_over, shared}}
 
 -- ---- All that the chains need of names: the order is strict and weak, what is below a name is an interval from it on, and below is a partial order.

@@ -1,19 +1,17 @@
 -- What a run answers, as it is written; the errors of hashes.
-use Rattle.std.proofs.{Common.{◌<◌, ℕ, [], ◌∷◌, length, arith, ◌≡◌, ◌++◌, codes, refl, ◌⊎◌, List, Option}, lemmas.Grind.common_steps}
-use Rattle.std.specs.Option.{is_some, option_map}
+use Rattle.std.{proofs.{Common.{◌<◌, ℕ, [], ◌∷◌, length, arith, ◌≡◌, ◌++◌, codes, refl, ◌⊎◌, List, Option}, lemmas.Grind.common_steps}, specs.Option.is_some}
+use Rattle.std.specs.Option.{option_map}
 use Rattle.domain_names.specs.{Name.{Tokens, Name}, Text.{name_text, octet_text}}
-use Rattle.judge_program.specs.{declared.{shown.Shown.Shown, command.ChainKind.ChainKind}, Command.{LimitText, ShownText}, Text.full_text, Run.HasNoText}
-use Rattle.judge_program.specs.declared.command.ChainKind.TheVariants.{Nsec, Nsec3}
+use Rattle.judge_program.specs.{declared.{shown.Shown.Shown, command.ChainKind.{ChainKind, TheVariants.{Nsec, Nsec3}}}, Command.{LimitText, ShownText}}
+use Rattle.judge_program.specs.{Text.full_text, Run.HasNoText, Judged.IsRefusedWith}
 use Rattle.domain_octets.specs.Octets.{Octets}
 use Rattle.domain_answer.specs.ZoneAnswer.{wildcard_below}
 use Rattle.domain_nsec3.specs.View.{HasherAnswer}
 use Rattle.domain_borrowed.specs.Data.{RawRecord}
-use Rattle.denial_program.specs.{Run.IsUnwritten, declared.{command.Question.Question, fault.DenialFault.{DenialFault, TheVariants.Write}}}
-use Rattle.denial_program.specs.{Answer.fault_of_zone, declared.fault.DenialFault.TheVariants.OutOfMemory}
+use Rattle.denial_program.specs.{Run.IsUnwritten, declared.{command.Question.Question, fault.DenialFault.{DenialFault, TheVariants.{Write, OutOfMemory}}}}
+use Rattle.denial_program.{specs.Answer.fault_of_zone, proofs.RunLemmas.TellsNone}
 use Rattle.domain_hasher.specs.declared.error.Nsec3HashError.{Nsec3HashError, TheVariants.{Hasher, OutOfMemory as NoMemory}}
 use Rattle.domain_records.specs.Text.{signing_error_of}
-use Rattle.judge_program.specs.Judged.{IsRefusedWith}
-use Rattle.denial_program.proofs.RunLemmas.{TellsNone}
 
 -- ---- The options of a command.
 

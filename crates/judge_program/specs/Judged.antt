@@ -7,8 +7,7 @@ use Rattle.domain_hasher.specs.declared.error.Nsec3HashError.{Nsec3HashError, Th
 use Rattle.domain_records.specs.declared.error.SigningError.{SigningError, TheVariants.Nsec3HashingError}
 use Rattle.domain_nsec.specs.Chain.{Link}
 use Rattle.domain_borrowed.specs.Data.{RawRecord}
-use Rattle.domain_answer.specs.{HashedReading.IsFirstOfRefusals, Judged.{IsExpansionJudged, IsHashedJudged, IsJudged}}
-use Rattle.domain_answer.specs.declared.answer.Answer.{Answer}
+use Rattle.domain_answer.specs.{HashedReading.IsFirstOfRefusals, Judged.{IsExpansionJudged, IsHashedJudged, IsJudged}, declared.answer.Answer.Answer}
 use Rattle.denial_program.specs.{Check.{AreNsecs, AreNsec3s, AreParams, HasNoParam, IsRefusedBy}, declared.command.Question.Question}
 use Rattle.denial_program.specs.declared.fault.DenialFault.{DenialFault, TheVariants.{Signing, Param, OutOfMemory}}
 

@@ -6,12 +6,11 @@ use Rattle.domain_nsec3.specs.View.{HasherAnswer}
 use Rattle.domain_borrowed.specs.Data.{RawRecord}
 use Rattle.domain_answer.specs.declared.answer.Answer.{Answer}
 use Rattle.domain_checker.specs.HashedVerdict.{links_with}
-use Rattle.denial_program.specs.{Run.IsOver, declared.{command.Question.Question, fault.DenialFault.DenialFault}}
-use Rattle.denial_program.specs.declared.fault.DenialFault.TheVariants.{Usage, Unprepared, OutOfMemory}
-use Rattle.judge_program.specs.{Command.{Asks, IsCommand, IsNoCommand}, Judged.{IsNotNsec3Judged, IsNsec3Judged, IsNsecJudged}}
-use Rattle.judge_program.specs.{Told.{rests_on_records, below_text, nsec_tellings, AreNsec3Told, Tellings}, Text.first_line}
-use Rattle.judge_program.specs.declared.command.{ChainKind.{ChainKind, TheVariants.{Nsec, Nsec3}}, Nsec3Options.Nsec3Options}
-use Rattle.judge_program.specs.declared.shown.Shown.{Shown}
+use Rattle.denial_program.specs.{Run.IsOver, declared.{command.Question.Question, fault.DenialFault.{DenialFault, TheVariants.{Usage, Unprepared}}}}
+use Rattle.denial_program.specs.declared.fault.DenialFault.TheVariants.{OutOfMemory}
+use Rattle.judge_program.specs.{Command.{Asks, IsCommand, IsNoCommand}, Judged.{IsNotNsec3Judged, IsNsec3Judged, IsNsecJudged}, Told.rests_on_records}
+use Rattle.judge_program.specs.{Told.{below_text, nsec_tellings, AreNsec3Told, Tellings}, Text.first_line, declared.command.ChainKind.ChainKind}
+use Rattle.judge_program.specs.declared.{command.{ChainKind.TheVariants.{Nsec, Nsec3}, Nsec3Options.Nsec3Options}, shown.Shown.Shown}
 
 -- the text is that of what the NSEC records answer to the question, on one line, and below it,
 -- where they are asked for, of the records that it rests on, or of those that a server answers with

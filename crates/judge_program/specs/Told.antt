@@ -1,11 +1,10 @@
 -- The records that an answer rests on, which of them a response needs, and those that a server answers
 -- with.
-use Rattle.std.specs.Prelude.{ℕ, Bool, true, false, Option, Some, None, ◌≡◌, ◌+◌, ◌==◌, not, ◌&&◌, ◌||◌, List, [], ◌++◌, codes, length}
-use Rattle.std.specs.{Prelude.{nat_lt, bytes_eq, Result, Ok, Err, if◌then◌else◌}, Option.{is_some, option_map}, List.find}
+use Rattle.std.specs.Prelude.{ℕ, Bool, true, false, Option, Some, None, ◌≡◌, ◌+◌, ◌==◌, not, ◌&&◌, ◌||◌, List, [], ◌++◌, codes, length, nat_lt, bytes_eq}
+use Rattle.std.specs.{Prelude.{Result, Ok, Err, if◌then◌else◌}, Option.{is_some, option_map}, List.find}
 use Rattle.domain_answer.specs.{declared.answer.Answer.Answer, HashedReading.closer_name, ZoneAnswer.wildcard_below}
-use Rattle.judge_program.specs.{declared.{needs.Needs.Needs, told.{Listed.{Listed, TheVariants.{Nsec, Nsec3}}, Part.Part}}, Text.full_text}
-use Rattle.judge_program.specs.declared.{told.Parts.Parts, role.Role.{Role, TheVariants.Asked}, shown.Shown.Shown}
-use Rattle.judge_program.specs.declared.role.Role.TheVariants.{Encloser as ClosestEncloser, NextCloser, Wildcard}
+use Rattle.judge_program.specs.declared.{needs.Needs.Needs, told.{Listed.{Listed, TheVariants.{Nsec, Nsec3}}, Part.Part, Parts.Parts}, role.Role.Role}
+use Rattle.judge_program.specs.{declared.{role.Role.TheVariants.{Asked, Encloser as ClosestEncloser, NextCloser, Wildcard}, shown.Shown.Shown}, Text.full_text}
 use Rattle.domain_octets.specs.Octets.{Octets}
 use Rattle.domain_names.specs.Name.{Name, same_name, last_labels}
 use Rattle.domain_base.specs.Types.{ds}
@@ -14,8 +13,8 @@ use Rattle.domain_fields.specs.Layout.{octets_of}
 use Rattle.domain_chain_rdata.specs.Rdata.{nsec3 as nsec3_fields}
 use Rattle.domain_nsec.specs.Chain.{Link, as_link}
 use Rattle.domain_nsec3.specs.{Chain.{HashedLink, ParamRecord, hash_name}, View.{as_hashed_link, as_param_record}}
-use Rattle.domain_checker.specs.{HashedReading.{Encloser, IsFoundEncloser}, HashedVerdict.{HashedRecords, first_cover, first_match}}
-use Rattle.domain_checker.specs.{HashedVerdict.IsFirstRefusal, Reading.{is_cover, is_match}}
+use Rattle.domain_checker.specs.{HashedReading.{Encloser, IsFoundEncloser}, HashedVerdict.{HashedRecords, first_cover, first_match, IsFirstRefusal}}
+use Rattle.domain_checker.specs.Reading.{is_cover, is_match}
 use Rattle.denial_program.specs.Text.{link_values, nsec_line, nsec3_line, nsec3param_line}
 use Rattle.domain_answer.specs.declared.answer.Answer.TheVariants as answers
 use Rattle.judge_program.specs.declared.needs.Needs.TheVariants as needs

@@ -1,10 +1,9 @@
 -- How far a reader has come, and the lines of a report.
-use Rattle.std.proofs.{lemmas.Grind.common_steps, Common.{◌≡◌, ℕ, ◌+◌, List, [], ◌∷◌, ◌++◌, Option, refl, append-nil, append_assoc, arith, inl}}
-use Rattle.std.{proofs.Common.{inr, ap, map, sym, ◌∙◌, subst, take}, specs.{Prelude.IfSome, Str.Lines.lines, Io.KnownBytes.Appends}}
-use Rattle.std.proofs.lemmas.List.{map-append}
+use Rattle.std.proofs.{lemmas.{Grind.common_steps, List.map-append}, Common.{◌≡◌, ℕ, ◌+◌, List, [], ◌∷◌, ◌++◌, Option, refl, append-nil, append_assoc, arith}}
+use Rattle.std.{proofs.Common.{inl, inr, ap, map, sym, ◌∙◌, subst, take}, specs.{Prelude.IfSome, Str.Lines.lines, Io.KnownBytes.Appends}}
 use Rattle.domain_borrowed.specs.Data.{RawRecord}
-use Rattle.denial_program.proofs.{LineLemmas.{known_so, reading_end, reading_step, IsReading}, RunLemmas.appends_more}
-use Rattle.denial_program.specs.{Listing.{Says, TakesLine, TakesNone}, declared.line.Line.{Line, TheVariants.{Nothing, Record, Bad}}}
+use Rattle.denial_program.{proofs.{LineLemmas.{known_so, reading_end, reading_step, IsReading}, RunLemmas.appends_more}, specs.Listing.{Says, TakesLine}}
+use Rattle.denial_program.specs.{Listing.TakesNone, declared.line.Line.{Line, TheVariants.{Nothing, Record, Bad}}}
 use Rattle.lint_program.specs.Report.{AreLinted, AreEach}
 use Rattle.domain_octets.specs.Octets.{Octets}
 

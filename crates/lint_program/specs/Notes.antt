@@ -1,13 +1,12 @@
 -- What is told of the records that were read: each record that deserves it, and no other.
-use Rattle.std.specs.Prelude.{◌≡◌, ℕ, ◌-◌, ◌<◌, ◌==◌, Bool, not, ◌||◌, [], ◌∷◌, drop, length, nat_lt, slice_index, if◌then◌else◌, codes}
-use Rattle.std.specs.{Prelude.{◌≢◌, ◌⊎◌, true, false, ◌&&◌, List, ◌++◌, Option, Some, None, IsSome, MatchOption, option_map}, List.find}
-use Rattle.std.specs.{List.list_any, BTreeMap.BTreeMap, Ordering.{nat_cmp, ordering_then}, declared.cmp.Ordering.Ordering}
+use Rattle.std.specs.Prelude.{◌≡◌, ℕ, ◌-◌, ◌<◌, ◌==◌, Bool, not, ◌||◌, [], ◌∷◌, drop, length, nat_lt, slice_index, if◌then◌else◌, codes, ◌≢◌, ◌⊎◌, true, false}
+use Rattle.std.specs.{Prelude.{◌&&◌, List, ◌++◌, Option, Some, None, IsSome, MatchOption, option_map}, List.{find, list_any}, BTreeMap.BTreeMap}
+use Rattle.std.specs.{Ordering.{nat_cmp, ordering_then}, declared.cmp.Ordering.Ordering}
 use Rattle.domain_octets.specs.Octets.{Octets}
 use Rattle.domain_names.specs.{Wire.IsWire, Name.{is_at_or_below, same_name, Name, canonical_cmp}}
 use Rattle.lint_program.specs.declared.odd.Shape.{Shape, TheVariants.{OneName, Texts, LongAddress, Service, Certificate, Issuers, Whatever}}
-use Rattle.lint_program.specs.declared.looks.Reason.{Reason, TheVariants.{NoSoa, SecondSoa, StraySoa, OtherClass, OtherTtl, Outside}}
-use Rattle.lint_program.specs.declared.{looks.{Reason.TheVariants.{BesideAlias, OddData, Parameters}, Look.Look}, notes.Note.Note}
-use Rattle.lint_program.specs.declared.looks.Placed.{Placed}
+use Rattle.lint_program.specs.declared.looks.Reason.{Reason, TheVariants.{NoSoa, SecondSoa, StraySoa, OtherClass, OtherTtl, Outside, BesideAlias, OddData}}
+use Rattle.lint_program.specs.declared.{looks.{Reason.TheVariants.Parameters, Look.Look, Placed.Placed}, notes.Note.Note}
 use Rattle.domain_borrowed.specs.Data.{RawRecord}
 use Rattle.domain_base.specs.Types as rtypes
 use Rattle.lint_program.specs.declared.looks.Look.TheVariants as look

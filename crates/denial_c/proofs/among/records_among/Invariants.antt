@@ -1,5 +1,4 @@
-use Rattle.std.proofs.Common.{◌&&◌, length, map}
-use Rattle.std.specs.Prelude.{◌==◌}
+use Rattle.std.{proofs.Common.{◌&&◌, length, map}, specs.Prelude.◌==◌}
 use Rattle.denial_c.proofs.AmongLemmas.{IsRead}
 use Rattle.denial_c.proofs.among.records_among.Given as goal
 

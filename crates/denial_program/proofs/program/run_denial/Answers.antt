@@ -1,4 +1,4 @@
-use Rattle.std.proofs.{Common.{arith, inr}, lemmas.Grind.common_steps}
+use Rattle.std.proofs.{Common.{arith, inl}, lemmas.Grind.common_steps}
 use Rattle.denial_program.{specs.{Answer.{HasNoAnswer, IsAnswer, IsUnmade}, Command.Asks, Text.answer_text}, proofs.RunLemmas.{tells_none, not_begun, run_done}}
 use Rattle.denial_program.proofs.program.run_denial.Goals as goal
 
@@ -14,7 +14,7 @@ pub returns-in_err-records-clause-run : goal.returns-in_err-records-clause-run
 returns-in_err-records-clause-run g c =
     let answers = g.H.Nsec3Hasher.answer c.args.hasher.now in
     not_begun answer_text Asks _ (IsAnswer answers) (HasNoAnswer answers) _ _ _ _ c.from_residual-in_err-records.result
-    c.in_err-records.field-0.0 c.from_residual-in_err-records.ensures.1 c.in_err-records.ensures.reads (inr c.in_err-records.ensures.err)
+    c.in_err-records.field-0.0 c.from_residual-in_err-records.ensures.1 c.in_err-records.ensures.reads (inl c.in_err-records.ensures.err)
 
 pub returns-clause-run : goal.returns-clause-run
 returns-clause-run g c =

@@ -1,12 +1,11 @@
-use Rattle.std.proofs.Common.{◌≡◌, ◌∷◌, true, slice_get, sym, ap, ◌∙◌, arith}
-use Rattle.std.proofs.lemmas.{Bool.and_parts, Grind.common_steps, List.Elements.All-from_recursion, Result.IfOk-weaker}
-use Rattle.std.specs.{List.{AllByRecursion, Sorted.IsStrictlySortedBy}, Prelude.if◌then◌else◌}
+use Rattle.std.proofs.{Common.{◌≡◌, ◌∷◌, true, slice_get, sym, ap, ◌∙◌, arith}, lemmas.{Bool.and_parts, Grind.common_steps, List.Elements.All-from_recursion}}
+use Rattle.std.{proofs.lemmas.Result.IfOk-weaker, specs.{List.{AllByRecursion, Sorted.IsStrictlySortedBy}, Prelude.if◌then◌else◌}}
 use Rattle.domain_names.specs.Name.{is_at_or_below, canonical_cmp}
 use Rattle.domain_borrowed.specs.Data.{zone_of_raw}
 use Rattle.domain_nsec3.proofs.OwnerLemmas.{sorted}
 use Rattle.domain_zone.{specs.Zone.covered_names, proofs.WalkLemmas.{owners_in_order, ascending_filter, owners_are, owners_ascend, all_filter, weaker}}
-use Rattle.domain_alike.proofs.GatherLemmas.{exists_listed, fronted, none_listed, IsFronted}
-use Rattle.domain_alike.proofs.chain_names.chain_names.Goals.{After-deref-2, In_ok-owners, then-not-name_eq+in_ok-try_clone+in_ok-insert, else-not-name_eq}
+use Rattle.domain_alike.proofs.{GatherLemmas.{exists_listed, fronted, none_listed, IsFronted}, chain_names.chain_names.Goals.{After-deref-2, In_ok-owners}}
+use Rattle.domain_alike.proofs.chain_names.chain_names.Goals.{then-not-name_eq+in_ok-try_clone+in_ok-insert, else-not-name_eq}
 use Rattle.domain_alike.proofs.chain_names.chain_names.Goals as goal
 
 ascend : (c : In_ok-owners) → IsStrictlySortedBy canonical_cmp c.in_ok-owners.owners.items

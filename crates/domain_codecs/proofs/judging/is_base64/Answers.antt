@@ -1,6 +1,5 @@
-use Rattle.std.proofs.{Common.{◌≡◌, length, take, arith, length-take}}
-use Rattle.domain_codecs.proofs.JoinedLemmas.{refused_piece, short_decides, full_goes_on}
-use Rattle.domain_codecs.proofs.judging.is_base64.Goals.{Else-full-lt48}
+use Rattle.std.proofs.Common.{◌≡◌, length, take, arith, length-take}
+use Rattle.domain_codecs.proofs.{JoinedLemmas.{refused_piece, short_decides, full_goes_on}, judging.is_base64.Goals.Else-full-lt48}
 use Rattle.domain_codecs.proofs.judging.is_base64.Goals as goal
 
 pub returns-in_default : goal.returns-in_default

@@ -1,6 +1,5 @@
 use Rattle.std.proofs.{Common.arith, lemmas.Grind.common_steps}
-use Rattle.domain_names.specs.Wire.{labels_of}
-use Rattle.domain_names.proofs.TextLemmas.{behind_dot}
+use Rattle.domain_names.{specs.Wire.labels_of, proofs.TextLemmas.behind_dot}
 use Rattle.domain_names.proofs.text.write_name.Goals as goal
 
 pub from_utf8_unchecked-requires : goal.from_utf8_unchecked-requires

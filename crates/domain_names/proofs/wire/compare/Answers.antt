@@ -1,6 +1,5 @@
 use Rattle.std.proofs.{Common.arith, lemmas.Grind.common_steps}
-use Rattle.domain_names.specs.Wire.{labels_of}
-use Rattle.domain_names.proofs.{OrderLemmas.{compared_begins, compared_goes, compared_ends, same_octets}, WireLemmas.few_labels}
+use Rattle.domain_names.{specs.Wire.labels_of, proofs.{OrderLemmas.{compared_begins, compared_goes, compared_ends, same_octets}, WireLemmas.few_labels}}
 use Rattle.domain_names.proofs.wire.compare.Goals as goal
 
 pub labels-init : goal.labels-init

@@ -1,6 +1,5 @@
 use Rattle.std.proofs.{Common.{◌+◌, take, drop, arith}, lemmas.Grind.common_steps}
-use Rattle.domain_octets.specs.Text.{word_if_any, words_of}
-use Rattle.domain_octets.proofs.WordLemmas.{blank_parts, room_for}
+use Rattle.domain_octets.{specs.Text.{word_if_any, words_of}, proofs.WordLemmas.{blank_parts, room_for}}
 use Rattle.domain_octets.proofs.words.push_words.Goals as goal
 
 pub returns-in_err-push_word-clause-room : goal.returns-in_err-push_word-clause-room

@@ -1,4 +1,4 @@
-use Rattle.std.proofs.{Common.{arith, inr}, lemmas.Grind.common_steps}
+use Rattle.std.proofs.{Common.{arith, inl}, lemmas.Grind.common_steps}
 use Rattle.denial_program.proofs.RunLemmas.{not_begun, run_done}
 use Rattle.judge_program.{specs.{Command.Asks, Run.{HasNoText, IsText}}, proofs.RunLemmas.tells_no_text}
 use Rattle.judge_program.proofs.program.run_judge.Goals as goal
@@ -17,7 +17,7 @@ returns-in_err-records-clause-run g c =
     let hashes = g.H.Nsec3Hasher.answer c.args.hasher.now in
     not_begun (λ t. t) Asks _ (λ command given. IsText hashes command.kind given command.question command.shown)
     (λ command given. HasNoText hashes command.kind given command.question) _ _ _ _ c.from_residual-in_err-records.result
-    c.in_err-records.field-0.0 c.from_residual-in_err-records.ensures.1 c.in_err-records.ensures.reads (inr c.in_err-records.ensures.err)
+    c.in_err-records.field-0.0 c.from_residual-in_err-records.ensures.1 c.in_err-records.ensures.reads (inl c.in_err-records.ensures.err)
 
 pub returns-clause-run : goal.returns-clause-run
 returns-clause-run g c =
