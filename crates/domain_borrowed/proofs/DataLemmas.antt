@@ -3,7 +3,7 @@ use Rattle.std.proofs.Common.{arith, ◌≡◌, ℕ, List, [], ◌<◌, ◌+◌,
 use Rattle.std.proofs.lemmas.{Grind.common_steps, List.{take_at, drop_at}}
 use Rattle.domain_names.specs.{Wire.Fault, Name.wire_of}
 use Rattle.domain_fields.{specs.Layout.{Values, Begins, FirstFault, octets_of}, proofs.{ExactLemmas.fault_excludes, LayoutLemmas.{same_data, Same}}}
-use Rattle.domain_chain_rdata.{specs.Rdata.{nsec, nsec3, nsec3param}, proofs.DataLemmas.{nsec_back, nsec3_back, params_back}}
+use Rattle.domain_chain_rdata.{specs.Rdata.{nsec, nsec3, nsec3param}, proofs.TextLemmas.{nsec_back, nsec3_back, params_back}}
 use Rattle.domain_nsec.specs.Chain.{Link}
 use Rattle.domain_nsec3.specs.Chain.{HashedLink, ParamRecord}
 use Rattle.domain_borrowed.specs.Data.{RawRecord, nsec_record, nsec3_record, param_record, IsNsec, IsNsec3, IsParam, header, header_of, record_octets}
