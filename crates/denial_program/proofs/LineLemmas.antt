@@ -7,7 +7,8 @@ use Rattle.std.{proofs.BufReadLemmas.take_through_nonempty, specs.{List.{All, sl
 use Rattle.std.specs.Io.{BufRead.{take_through, DropsThrough, drop_through}, KnownBytes.Consumes}
 use Rattle.domain_names.specs.Name.{Name, Tokens}
 use Rattle.domain_octets.specs.{Text.words_of, Octets.Octets}
-use Rattle.domain_message.{specs.{Entry.{EntryText, IsOfLine, OwnerTaken, RefusesBody}, declared.line.LineError.LineError}, proofs.OneLineLemmas.{in_body, none_in}}
+use Rattle.domain_message.specs.{Entry.{EntryText, IsOfLine, OwnerTaken, RefusesBody}, declared.line.LineError.LineError}
+use Rattle.domain_message.proofs.OneLineLemmas.{in_body, none_in}
 use Rattle.denial_program.specs.{Listing.{IsBad, IsPlain, IsSkipped, is_plain, Give, IsFirstBad, Refuses, Says, TakesLine, TakesNone}, declared.line.Line.Line}
 use Rattle.denial_program.specs.declared.line.Line.TheVariants.{Nothing, Record, Bad}
 use lib.Dec.{eqb-suc-zero}
