@@ -56,15 +56,19 @@ fn sizes(text: &str, answers: &mut Answers) -> Answered {
     )
 }
 
-/// Why a text is no salt and no hash, by itself and as a token, where octets have so much room.
-fn refusals<const N: usize>(text: &str, answers: &mut Answers) -> Answered {
-    let (alloc, tokens) = (answers.alloc, [text, text]);
-    let mut scanner = IterScanner::<ArrayBuilder<N>>::new(&tokens);
+/// Why a text is no salt and no hash over octets of one kind, by itself and as the next token.
+fn refusals<O, S>(text: &str, scanner: &mut S, answers: &mut Answers) -> Answered
+where
+    O: FromBuilder + Drop,
+    O::Builder: EmptyBuilder + Drop,
+    S: Scanner<Octets = O>,
+{
+    let alloc = answers.alloc;
     say!(
-        answers, fault "salt": Nsec3Salt::<ArrayBuilder<N>>::from_str(alloc, text),
-        fault "salt as a token": Nsec3Salt::scan(alloc, &mut scanner),
-        fault "hash": OwnerHash::<ArrayBuilder<N>>::from_str(alloc, text),
-        fault "hash as a token": OwnerHash::scan(alloc, &mut scanner)
+        answers, fault "salt": Nsec3Salt::<O>::from_str(alloc, text),
+        fault "salt as a token": Nsec3Salt::scan(alloc, scanner),
+        fault "hash": OwnerHash::<O>::from_str(alloc, text),
+        fault "hash as a token": OwnerHash::scan(alloc, scanner)
     )
 }
 
@@ -124,9 +128,22 @@ pub fn answer(form: &str, words: &[&str], answers: &mut Answers) -> Answered {
         "hash" => hash(text, answers),
         "sizes" => sizes(text, answers),
         "room" => {
-            refusals::<1>(text, answers);
-            refusals::<255>(text, answers);
-            refusals::<256>(text, answers)
+            let tokens = [text, text];
+            refusals(
+                text,
+                &mut IterScanner::<ArrayBuilder<1>>::new(&tokens),
+                answers,
+            );
+            refusals(
+                text,
+                &mut IterScanner::<ArrayBuilder<255>>::new(&tokens),
+                answers,
+            );
+            refusals(
+                text,
+                &mut IterScanner::<ArrayBuilder<256>>::new(&tokens),
+                answers,
+            )
         }
         "errors" => say!(
             answers, show "text": Nsec3SaltError, show "text": OwnerHashError,
