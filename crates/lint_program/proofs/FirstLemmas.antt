@@ -1,5 +1,5 @@
 -- The first line of those that are told.
-use Rattle.std.proofs.{lemmas.Grind.common_steps, Common.{◌≡◌, ℕ, ◌+◌, List, [], ◌∷◌, arith, inl, inr}}
+use Rattle.std.proofs.{lemmas.Grind.common_steps, Common.{◌≡◌, ℕ, ◌+◌, List, [], ◌∷◌, arith, inl, inr, refl}}
 use Rattle.domain_borrowed.specs.Data.{RawRecord}
 use Rattle.denial_program.specs.Listing.{Give, IsFirstBad}
 use Rattle.lint_program.specs.Report.{AreLinted}
