@@ -4,7 +4,7 @@ use Rattle.std.proofs.Common.{refl, sym, ap, ◌∙◌, subst, arith, nat_eq, ap
 use Rattle.std.proofs.lemmas.Bool.{eqb-false, eqb-true, false≢true, not-false, not-true, or_left, or_right}
 use Rattle.std.{proofs.lemmas.List.Folds.list_any-append, specs.{Prelude.{Contains, filter}, List.{AllByRecursion, flat_map, list_any}}}
 use Rattle.domain_names.specs.Name.{Name}
-use Rattle.domain_dnssec.{specs.RawRecords.Sorts, proofs.AmongLemmas.{contains_in, in_contains}}
+use Rattle.domain_dnssec.{specs.{AnyOrder.Sorts, RawRecords.raw_view}, proofs.AmongLemmas.{contains_in, in_contains}}
 use Rattle.domain_borrowed.specs.Data.{minimum_of, RawRecord, zone_of_raw, record_octets, IsRecord}
 use Rattle.domain_zone.specs.Zone.{OwnerRecords, owner_at, as_zone_record, ZoneRecord, clashes, has_clash, has_unequal_ttls, records_of, IsFirstClash}
 use Rattle.domain_zone.proofs.{GivenLemmas.{all_known, name_of, names_back}, WalkLemmas.{any_two, all_both, any_none, weaker}, PairLemmas.{In, all_in}}
@@ -66,7 +66,7 @@ set_of_raw [] n t = refl
 set_of_raw (r ∷ rs) n t = grind (arith, common_steps, (set_of_raw rs n t))
 
 -- those of the sorted set are among those that were given
-pub clash_given : (given sorted : List RawRecord) (n : Name) (t : ℕ) → Sorts given sorted
+pub clash_given : (given sorted : List RawRecord) (n : Name) (t : ℕ) → Sorts raw_view given sorted
     → IsFirstClash (records_of (zone_of_raw sorted) n) t → has_clash (zone_of_raw (filter (is_in_set n t) given)) ≡ true
 clash_given given sorted n t s h =
     any_two clashes (zone_of_raw (filter (is_in_set n t) sorted)) (zone_of_raw (filter (is_in_set n t) given)) (λ z i.

@@ -11,7 +11,7 @@ use Rattle.domain_nsec3.specs.{Chain.IsFirstFault as IsFirstHashedFault, View.ha
 use Rattle.domain_hasher.specs.declared.error.Nsec3HashError.{Nsec3HashError}
 use Rattle.domain_records.specs.{Order.{IsInOrder, IsOneClass}, declared.error.SigningError.SigningError}
 use Rattle.domain_sha1.specs.Iterated.{sha1_answer}
-use Rattle.domain_dnssec.specs.{RawRecords.Sorts, Wire.{nsecs_octets, nsec3s_octets}}
+use Rattle.domain_dnssec.specs.{AnyOrder.Sorts, RawRecords.raw_view, Wire.{nsecs_octets, nsec3s_octets}}
 use Rattle.denial_c.specs.{Result.{IsSpelled, Spells}, declared.{fault.Fault.Fault, nsec3_chain.Hashing.Hashing}}
 use Rattle.domain_alike.specs.Alike.{IsFirstPair, Pair}
 use Rattle.domain_hasher.specs.declared.error.Nsec3HashError.TheVariants as hash_error
@@ -94,7 +94,7 @@ pub record IsUnevenAt (class : ℕ) (octets : Octets) (n : Name) (t : ℕ) (offs
 pub record AreSorted (class : ℕ) (octets : Octets) (sorted : List RawRecord) : Type 0 where
   pub given : List RawRecord
   pub are : AreGiven class octets given
-  pub sorts : Sorts given sorted
+  pub sorts : Sorts raw_view given sorted
   pub one_class : IsOneClass sorted
   pub in_order : IsInOrder (λ n. n) (λ d. d.rtype) sorted
 

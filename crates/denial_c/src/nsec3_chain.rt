@@ -96,13 +96,8 @@ fn sorted_nsec3s(
     ensures err { IfErr result (IsSortedFault (nsec3_making config.now.nsec3param_ttl_mode
         (config_of sha1_answer config.now)) class octets.now apex.now sorted.now) }
 {
-    let chain = match Nsec3Chain::generate(
-        alloc,
-        apex,
-        RecordsIter::new_from_owned(sorted),
-        config,
-        &Sha1Hasher,
-    ) {
+    let records = RecordsIter::new_from_owned(sorted);
+    let chain = match Nsec3Chain::generate(alloc, apex, records, config, &Sha1Hasher) {
         Ok(chain) => chain,
         Err(SigningError::MultipleTtlValues) => {
             let excludes = config.params.opt_out_flag()

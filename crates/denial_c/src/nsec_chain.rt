@@ -35,12 +35,8 @@ fn sorted_nsecs(
     ensures err { IfErr result (IsSortedFault (nsec_making config.now) class octets.now apex.now
         sorted.now) }
 {
-    let chain = match NsecChain::generate(
-        alloc,
-        apex,
-        RecordsIter::new_from_owned(sorted),
-        config,
-    ) {
+    let records = RecordsIter::new_from_owned(sorted);
+    let chain = match NsecChain::generate(alloc, apex, records, config) {
         Ok(chain) => chain,
         Err(SigningError::MultipleTtlValues) => {
             let below_dname = config.occlude_below_dname;

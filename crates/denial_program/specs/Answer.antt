@@ -7,16 +7,16 @@ use Rattle.domain_records.specs.declared.error.SigningError.TheVariants as signi
 use Rattle.domain_nsec.specs.Chain.{usual_config}
 use Rattle.domain_nsec3.specs.{Chain.ChainConfig, View.{HasherAnswer, hash_by, parameters_of}, declared.config.Nsec3ParamTtlMode.TheVariants.Soa}
 use Rattle.domain_borrowed.specs.Data.{RawRecord}
-use Rattle.domain_dnssec.specs.{AnyOrder.AreMixed, declared.chain.ChainError.ChainError}
+use Rattle.domain_dnssec.specs.{AnyOrder.{AreMixed, Sorts as SortsBy, IsChainOf, HasNoChain, IsHashedChainOf, HasNoHashedChain}, RawRecords.raw_view}
+use Rattle.domain_dnssec.specs.declared.chain.ChainError.{ChainError}
 use Rattle.domain_dnssec.specs.declared.chain.ChainError.TheVariants as chain_error
-use Rattle.domain_dnssec.specs.RawRecords as raw
 use Rattle.denial_program.specs.{Check.{HasNoNsec3Verdict, IsNsec3Verdict, IsNsecVerdict}, Command.{Asks, Params}, Run.IsOver, declared.answer.Reply.Reply}
 use Rattle.denial_program.specs.declared.{answer.Reply.TheVariants.{Nsecs, Nsec3s}, command.Command.{Command, TheVariants.{Chain, CheckNsec, CheckNsec3}}}
 use Rattle.denial_program.specs.{declared.fault.DenialFault.{DenialFault, TheVariants.{Unprepared, MixedClasses, Signing, OutOfMemory}}, Fault.prepare_error}
 
 -- sorted is the sorted set of the records, by owner, class, type and octets
 abbrev pub Sorts : List RawRecord → List RawRecord → Type 0
-Sorts = raw.Sorts
+Sorts = SortsBy raw_view
 
 -- why the records are not sorted: they are not of one class, or else there was no memory to make
 -- them ready
@@ -45,10 +45,10 @@ HasNone is_why _ = ⊥
 
 -- the answer is the NSEC chain of the records, as `GenerateNsecConfig::new` has it; there is none
 abbrev pub IsNsecs : List RawRecord → Name → Reply → Type 0
-IsNsecs given apex = IsReplyOf Nsecs (raw.IsChainOf given apex usual_config)
+IsNsecs given apex = IsReplyOf Nsecs (IsChainOf raw_view given apex usual_config)
 
 abbrev pub HasNoNsecs : List RawRecord → Name → DenialFault → Type 0
-HasNoNsecs given apex = HasNone (raw.HasNoChain given apex usual_config)
+HasNoNsecs given apex = HasNone (HasNoChain raw_view given apex usual_config)
 
 -- how the program makes an NSEC3 chain with these parameters: as `GenerateNsec3Config::new` has it
 abbrev pub usual_nsec3_config : HasherAnswer → Params → ChainConfig
@@ -66,12 +66,12 @@ usual_nsec3_config answer p =
 -- none
 abbrev pub IsNsec3s : HasherAnswer → List RawRecord → Name → Params → Reply → Type 0
 IsNsec3s answers given apex p =
-    IsReplyOf Nsec3s (λ made. raw.IsHashedChainOf given apex (usual_nsec3_config answers p) Soa
-    made.links made.param)
+    IsReplyOf Nsec3s (λ made. IsHashedChainOf raw_view given apex
+    (usual_nsec3_config answers p) Soa made.links made.param)
 
 abbrev pub HasNoNsec3s : HasherAnswer → List RawRecord → Name → Params → DenialFault → Type 0
 HasNoNsec3s answers given apex p =
-    HasNone (raw.HasNoHashedChain given apex (usual_nsec3_config answers p))
+    HasNone (HasNoHashedChain raw_view given apex (usual_nsec3_config answers p))
 
 abbrev pub IsAnswer : HasherAnswer → Command → List RawRecord → Reply → Type 0
 IsAnswer answers (Chain apex None) given answer = IsNsecs given apex answer

@@ -1,11 +1,12 @@
 -- What the words after the program's name ask for.
-use Rattle.std.specs.Prelude.{◌≡◌, ℕ, [], ◌∷◌, codes, None, Some}
+use Rattle.std.specs.Prelude.{◌≡◌, ◌⊎◌, ℕ, [], ◌∷◌, codes, None, Some}
 use Rattle.domain_octets.specs.Octets.{Octets}
 use Rattle.domain_base.specs.{Numbers.TypeText, Scan.IsNumber}
 use Rattle.domain_names.specs.{Text.NameText, Name.{Name, Token, Tokens}}
 use Rattle.domain_bitmap.specs.Text.{SaltText}
 use Rattle.domain_chain_rdata.specs.declared.nsec3param.Nsec3param.{Nsec3param}
 use Rattle.denial_program.specs.declared.command.{Command.{Command, TheVariants.{Chain, CheckNsec, CheckNsec3}}, Question.Question}
+use Rattle.denial_program.specs.declared.fault.DenialFault.{DenialFault, TheVariants.{Usage, OutOfMemory}}
 
 -- the parameters of an NSEC3 chain; the octets of the salt are held in a vector
 abbrev pub Params : Type 0
@@ -66,3 +67,7 @@ IsCommand words = (command : Command) × Asks words command
 
 abbrev pub IsNoCommand : Tokens → Type 0
 IsNoCommand words = (command : Command) → Asks words command → ⊥
+
+-- the words are refused, since they spell no such thing; or there was no memory to tell
+abbrev pub IsUsage : Type 0 → DenialFault → Type 0
+IsUsage none fault = ((fault ≡ Usage) × none) ⊎ (fault ≡ OutOfMemory)

@@ -5,8 +5,8 @@ use Rattle.domain_names.specs.{Text.name_text, Name.Name}
 use Rattle.domain_base.specs.{Numbers.{class_text, type_text}, Types.{nsec, nsec3, nsec3param}}
 use Rattle.domain_bitmap.specs.{Blocks.types_of, Text.types_text}
 use Rattle.domain_record.specs.declared.record.Record.{Record}
-use Rattle.domain_chain_rdata.specs.{Text.{nsec3_text, nsec3param_text}, Rdata.nsec3 as nsec3_fields}
-use Rattle.domain_fields.specs.Layout.{Values}
+use Rattle.domain_chain_rdata.specs.Text.{nsec3_text, nsec3param_text}
+use Rattle.domain_borrowed.specs.Data.{hash_values, param_values}
 use Rattle.domain_nsec.specs.Chain.{Link}
 use Rattle.domain_nsec3.specs.Chain.{ChainRecords, HashedLink, ParamRecord}
 use Rattle.denial_program.specs.{Check.verdict_text, declared.answer.Reply.{Reply, TheVariants.{Nsecs, Nsec3s, Verdict}}}
@@ -24,29 +24,17 @@ nsec_line k =
     record_line nsec (λ d. (name_text d.next ++ codes ". ") ++ types_text (types_of d.bits))
     (record { owner = k.owner; class = k.class; ttl = k.ttl; «data» = k })
 
--- algorithm, flags, iterations, salt, next hash and types
-abbrev pub link_values : HashedLink → Values nsec3_fields
-link_values k =
-    let p = k.parameters in
-    ((((p.algorithm, (k.flags, p.iterations)), p.salt), k.next), k.bits)
-
--- the record of a link, with those data
+-- the record of a link, with algorithm, flags, iterations, salt, next hash and types
 abbrev pub nsec3_line : HashedLink → Octets
 nsec3_line k =
     record_line nsec3 nsec3_text
-    (record { owner = k.owner; class = k.class; ttl = k.ttl; «data» = link_values k })
+    (record { owner = k.owner; class = k.class; ttl = k.ttl; «data» = hash_values k })
 
 -- algorithm, flags, iterations and salt
 abbrev pub nsec3param_line : ParamRecord → Octets
 nsec3param_line k =
-    let p = k.parameters in
     record_line nsec3param nsec3param_text
-    (record {
-      owner = k.owner;
-      class = k.class;
-      ttl = k.ttl;
-      «data» = ((p.algorithm, (k.flags, p.iterations)), p.salt);
-    })
+    (record { owner = k.owner; class = k.class; ttl = k.ttl; «data» = param_values k })
 
 abbrev pub lines_of : {T : Type 0} → (T → Octets) → List T → Octets
 lines_of text = flat_map (λ item. text item ++ codes "\n")

@@ -1,11 +1,10 @@
 //! What the words after the program's name ask for.
-ghost use Rattle.std.specs.Prelude.{◌≡◌, ◌⊎◌, ℕ, ◌∷◌, codes, IfErr, IfNone, IfOk, IfSome, map, string_bytes};
+ghost use Rattle.std.specs.Prelude.{◌≡◌, ℕ, ◌∷◌, codes, IfErr, IfNone, IfOk, IfSome, map, string_bytes};
 ghost use Rattle.domain_names.specs.Text.{NameText, IsNoName, ScanFault};
 ghost use Rattle.domain_bitmap.specs.Text.{SaltText};
 ghost use Rattle.domain_octets.specs.Octets.{Octets};
-ghost use Rattle.denial_program.specs.Command.{Asks, FlagsText, IsNoCommand, Params, Spell, SpellQuestion};
+ghost use Rattle.denial_program.specs.Command.{Asks, FlagsText, IsNoCommand, IsUsage, Params, Spell, SpellQuestion};
 ghost use Rattle.denial_program.specs.declared.command.Question.{Question};
-ghost use Rattle.denial_program.specs.declared.fault.DenialFault.TheVariants.{OutOfMemory};
 
 use crate::fault::DenialFault;
 use crate::line::{ZoneName, ZoneOctets};
@@ -47,8 +46,7 @@ pub enum Command {
 /// `Usage` where it spells none, and `OutOfMemory`.
 pub fn name_of(alloc: Global, word: &str) -> Result<ZoneName, DenialFault>
     ensures ok { IfOk result (NameText word.now) }
-    ensures err { IfErr result (λ e. ((e ≡ DenialFault.Usage) × IsNoName word.now)
-        ⊎ (e ≡ OutOfMemory)) }
+    ensures err { IfErr result (IsUsage (IsNoName word.now)) }
 {
     match ZoneName::from_str(alloc, word) {
         Ok(name) => Ok(name),
@@ -73,9 +71,7 @@ fn value_of<T: FromToken>(word: &str) -> Result<T, DenialFault>
 #[tactic(auto, using(domain_bitmap::proofs::TextLemmas::salt_excludes))]
 fn salt_of(alloc: Global, word: &str) -> Result<Nsec3Salt<ZoneOctets>, DenialFault>
     ensures ok { IfOk result (SaltText word.now) }
-    ensures err { IfErr result (λ e. ((e ≡ DenialFault.Usage)
-        × ((salt : Octets) → SaltText word.now salt → ⊥))
-        ⊎ (e ≡ OutOfMemory)) }
+    ensures err { IfErr result (IsUsage ((salt : Octets) → SaltText word.now salt → ⊥)) }
 {
     let words = [word];
     let mut scanner = IterScanner::<ZoneOctets>::new(&words);
@@ -103,9 +99,7 @@ fn flags_of(words: &[String]) -> Option<u8>
 /// What `nsec` and these words ask for.
 fn nsec_command(alloc: Global, words: &[String]) -> Result<Command, DenialFault>
     ensures ok { IfOk result (Asks (codes "nsec" ∷ map string_bytes words.now)) }
-    ensures err { IfErr result (λ e. ((e ≡ DenialFault.Usage)
-        × IsNoCommand (codes "nsec" ∷ map string_bytes words.now))
-        ⊎ (e ≡ OutOfMemory)) }
+    ensures err { IfErr result (IsUsage (IsNoCommand (codes "nsec" ∷ map string_bytes words.now))) }
 {
     let [apex] = words else {
         return Err(DenialFault::Usage);
@@ -126,9 +120,8 @@ pub fn parameters_of(
     last: &[String],
 ) -> Result<Nsec3Params, DenialFault>
     ensures ok { IfOk result (Spell iterations.now salt.now (map string_bytes last.now)) }
-    ensures err { IfErr result (λ e. ((e ≡ DenialFault.Usage)
-        × ((p : Params) → Spell iterations.now salt.now (map string_bytes last.now) p → ⊥))
-        ⊎ (e ≡ OutOfMemory)) }
+    ensures err { IfErr result (IsUsage ((p : Params)
+        → Spell iterations.now salt.now (map string_bytes last.now) p → ⊥)) }
 {
     let Some(flags) = flags_of(last) else {
         return Err(DenialFault::Usage);
@@ -141,9 +134,8 @@ pub fn parameters_of(
 /// What `nsec3` and these words ask for.
 fn nsec3_command(alloc: Global, words: &[String]) -> Result<Command, DenialFault>
     ensures ok { IfOk result (Asks (codes "nsec3" ∷ map string_bytes words.now)) }
-    ensures err { IfErr result (λ e. ((e ≡ DenialFault.Usage)
-        × IsNoCommand (codes "nsec3" ∷ map string_bytes words.now))
-        ⊎ (e ≡ OutOfMemory)) }
+    ensures err { IfErr result (IsUsage
+        (IsNoCommand (codes "nsec3" ∷ map string_bytes words.now))) }
 {
     let [apex, iterations, salt, last @ ..] = words else {
         return Err(DenialFault::Usage);
@@ -165,9 +157,8 @@ pub fn question_of(
     rtype: &str,
 ) -> Result<Question, DenialFault>
     ensures ok { IfOk result (SpellQuestion apex.now name.now rtype.now) }
-    ensures err { IfErr result (λ e. ((e ≡ DenialFault.Usage)
-        × ((q : Question) → SpellQuestion apex.now name.now rtype.now q → ⊥))
-        ⊎ (e ≡ OutOfMemory)) }
+    ensures err { IfErr result (IsUsage ((q : Question)
+        → SpellQuestion apex.now name.now rtype.now q → ⊥)) }
 {
     let rtype: Rtype = value_of(rtype)?;
     let apex = name_of(alloc, apex)?;
@@ -178,9 +169,8 @@ pub fn question_of(
 /// What `check` and these words ask for.
 fn check_command(alloc: Global, words: &[String]) -> Result<Command, DenialFault>
     ensures ok { IfOk result (Asks (codes "check" ∷ map string_bytes words.now)) }
-    ensures err { IfErr result (λ e. ((e ≡ DenialFault.Usage)
-        × IsNoCommand (codes "check" ∷ map string_bytes words.now))
-        ⊎ (e ≡ OutOfMemory)) }
+    ensures err { IfErr result (IsUsage
+        (IsNoCommand (codes "check" ∷ map string_bytes words.now))) }
 {
     let [kind, apex, name, rtype] = words else {
         return Err(DenialFault::Usage);
@@ -200,9 +190,7 @@ fn check_command(alloc: Global, words: &[String]) -> Result<Command, DenialFault
 /// `Usage` exactly where they are no command, and `OutOfMemory`.
 pub fn command_of(alloc: Global, words: &[String]) -> Result<Command, DenialFault>
     ensures ok { IfOk result (Asks (map string_bytes words.now)) }
-    ensures err { IfErr result (λ e.
-        ((e ≡ DenialFault.Usage) × IsNoCommand (map string_bytes words.now))
-        ⊎ (e ≡ OutOfMemory)) }
+    ensures err { IfErr result (IsUsage (IsNoCommand (map string_bytes words.now))) }
 {
     let [first, rest @ ..] = words else {
         return Err(DenialFault::Usage);

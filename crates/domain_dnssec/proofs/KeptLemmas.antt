@@ -5,12 +5,12 @@ use Rattle.std.specs.{FinMap.nat_cmp-IsAntisymmetric, Ordering.{is_eq, ordering_
 use Rattle.domain_names.specs.{Laws.same_name_ties, Name.{canonical_cmp, is_at_or_below, lowered, same_name, Name}}
 use Rattle.domain_record.specs.{Record.record_cmp, declared.record.Record.Record}
 use Rattle.domain_records.specs.Order.{IsOneClass}
-use Rattle.domain_zone.specs.Zone.{is_soa, numbers_of, of_only, soa_of, as_zone_record, zone_of, ZoneRecord, clashes, has_clash, has_type, records_of}
+use Rattle.domain_zone.specs.Zone.{is_soa, numbers_of, of_only, soa_of, as_zone_record, ZoneRecord, clashes, has_clash, has_type, records_of}
 use Rattle.domain_zone.{specs.{Zone.{is_occluded, is_unoccluded, owns}, declared.soa.ApexSoa.ApexSoa}, proofs.NameLemmas.{one_lowered, lowered_below}}
 use Rattle.domain_zone.proofs.{NameLemmas.{same_lowered, either_way}, WalkLemmas.{any_filter, any_two, any_map}, PairLemmas.{In, in_filter, in_filtered}}
 use Rattle.domain_zone.proofs.PairLemmas.{in_map, from_map}
 use Rattle.domain_base.specs.Types.{ns, dname}
-use Rattle.domain_dnssec.{specs.AnyOrder.Sorts, proofs.AmongLemmas.{contains_in, in_contains, pair_of_two, all_pairs}}
+use Rattle.domain_dnssec.{specs.AnyOrder.{Sorts, View, zone_seen}, proofs.AmongLemmas.{contains_in, in_contains, pair_of_two, all_pairs}}
 
 then_equal : (x y : Ordering) → ordering_then x y ≡ Equal → (x ≡ Equal) × (y ≡ Equal)
 then_equal x y e = grind (arith, common_steps)
@@ -18,36 +18,39 @@ then_equal x y e = grind (arith, common_steps)
 abbrev alike : {N D : Type 0} → Record N D → Record N D → Type 0
 alike r t = r.class ≡ t.class
 
-module _ {N D : Type 0} (labels : N → Name) (rtype_of : D → ℕ) (minimum_of : D → Option ℕ) (data_cmp : D → D → Ordering) where
+module _ {N D : Type 0} (v : View N D) where
+  abbrev see : Record N D → ZoneRecord
+  see = as_zone_record v.labels v.rtype_of v.minimum_of
+
   -- records that are equal under the canonical order have one class, one owner and one type
-  tied : (r s : Record N D) → record_cmp labels rtype_of data_cmp r s ≡ Equal
-      → (r.class ≡ s.class) × (lowered (labels r.owner) ≡ lowered (labels s.owner)) × (rtype_of r.«data» ≡ rtype_of s.«data»)
+  tied : (r s : Record N D) → record_cmp v.labels v.rtype_of v.data_cmp r s ≡ Equal
+      → (r.class ≡ s.class) × (lowered (v.labels r.owner) ≡ lowered (v.labels s.owner)) × (v.rtype_of r.«data» ≡ v.rtype_of s.«data»)
   tied r s e =
-      let class = then_equal (nat_cmp r.class s.class) (ordering_then (canonical_cmp (labels r.owner) (labels s.owner))
-      (ordering_then (nat_cmp (rtype_of r.«data») (rtype_of s.«data»)) (data_cmp r.«data» s.«data»))) e in
-      let owner = then_equal _ (ordering_then (nat_cmp (rtype_of r.«data») (rtype_of s.«data»)) (data_cmp r.«data» s.«data»)) class.1 in
-      let type = then_equal _ (data_cmp r.«data» s.«data») owner.1 in (
+      let class = then_equal (nat_cmp r.class s.class) (ordering_then (canonical_cmp (v.labels r.owner) (v.labels s.owner))
+      (ordering_then (nat_cmp (v.rtype_of r.«data») (v.rtype_of s.«data»)) (v.data_cmp r.«data» s.«data»))) e in
+      let owner = then_equal _ (ordering_then (nat_cmp (v.rtype_of r.«data») (v.rtype_of s.«data»)) (v.data_cmp r.«data» s.«data»)) class.1 in
+      let type = then_equal _ (v.data_cmp r.«data» s.«data») owner.1 in (
         nat_cmp-IsAntisymmetric r.class s.class class.0,
-        one_lowered _ _ (same_name_ties (labels r.owner) (labels s.owner) ∙ ap is_eq owner.0),
-        nat_cmp-IsAntisymmetric (rtype_of r.«data») (rtype_of s.«data») type.0,
+        one_lowered _ _ (same_name_ties (v.labels r.owner) (v.labels s.owner) ∙ ap is_eq owner.0),
+        nat_cmp-IsAntisymmetric (v.rtype_of r.«data») (v.rtype_of s.«data») type.0,
       )
 
-  module _ (given sorted : List (Record N D)) (s : Sorts labels rtype_of data_cmp given sorted) where
+  module _ (given sorted : List (Record N D)) (s : Sorts v given sorted) where
     abbrev zone : List ZoneRecord
-    zone = zone_of labels rtype_of minimum_of sorted
+    zone = zone_seen v sorted
 
     abbrev whole : List ZoneRecord
-    whole = zone_of labels rtype_of minimum_of given
+    whole = zone_seen v given
 
     -- a test of the owner and the type
     any_kept : (p : Name → ℕ → Bool) → list_any (λ r. p (lowered r.owner) r.rtype) zone ≡ list_any (λ r. p (lowered r.owner) r.rtype) whole
     any_kept p =
-        any_map (λ r. p (lowered r.owner) r.rtype) (as_zone_record labels rtype_of minimum_of) sorted
+        any_map (λ r. p (lowered r.owner) r.rtype) see sorted
         ∙ either_way (list_any q sorted) (list_any q given) there back
-        ∙ sym (any_map (λ r. p (lowered r.owner) r.rtype) (as_zone_record labels rtype_of minimum_of) given)
+        ∙ sym (any_map (λ r. p (lowered r.owner) r.rtype) see given)
       where
         q : Record N D → Bool
-        q r = p (lowered (labels r.owner)) (rtype_of r.«data»)
+        q r = p (lowered (v.labels r.owner)) (v.rtype_of r.«data»)
 
         there : list_any q sorted ≡ true → list_any q given ≡ true
         there h =
@@ -98,8 +101,8 @@ module _ {N D : Type 0} (labels : N → Name) (rtype_of : D → ℕ) (minimum_of
 
     zone_record_among : (z : ZoneRecord) → In z zone → In z whole
     zone_record_among z i =
-        let m = from_map (as_zone_record labels rtype_of minimum_of) sorted z i in
-        subst (λ y. In y whole) m.2 (in_map (as_zone_record labels rtype_of minimum_of) given m.0 (record_among m.0 m.1))
+        let m = from_map see sorted z i in
+        subst (λ y. In y whole) m.2 (in_map see given m.0 (record_among m.0 m.1))
 
     pub clash_among : (n : Name) → has_clash (records_of zone n) ≡ true → has_clash (records_of whole n) ≡ true
     clash_among n h =

@@ -9,7 +9,8 @@ use Rattle.domain_records.specs.{Order.IsOneClass, declared.error.SigningError.{
 use Rattle.domain_zone.specs.Zone.{zone_of, ZoneRecord}
 use Rattle.domain_borrowed.specs.Data.{RawRecord, zone_of_raw, data_cmp as raw_cmp, data_cmp_total as raw_cmp_total, minimum_of as raw_minimum}
 use Rattle.domain_borrowed.proofs.MinimumLemmas.{minimum_last}
-use Rattle.domain_dnssec.specs.{RawRecords.{HaveOneChain, TellMinima, TellsMinimum, raw_data, raw_record}, AnyOrder.{HasNone, IsWholeHashedChain, OfZone}}
+use Rattle.domain_dnssec.specs.RawRecords.{HaveOneChain, TellMinima, TellsMinimum, raw_data, raw_record, raw_view, zone_view}
+use Rattle.domain_dnssec.specs.AnyOrder.{HasNone, IsWholeHashedChain, OfZone}
 use Rattle.domain_dnssec.{specs.declared.chain.ChainError.{ChainError, TheVariants.{MixedClasses, Sort, Signing, OutOfMemory}}, proofs.MappedLemmas.sets_back}
 use Rattle.domain_nsec.specs.Chain.{IsChain, IsFaultless, IsFirstFault}
 use Rattle.domain_nsec3.specs.Chain.{IsReady, IsFirstFault as IsFirstHashedFault}
@@ -44,8 +45,8 @@ module _ {O N : Type 0} (octets : O → Octets) (labels : N → Name) where
   classes_seen (r ∷ rs) = λ i. all_seen r.class rs i × classes_seen rs i
 
   module _ (given : List (Record N (ZoneRecordData O N))) (tell : TellMinima given) where
-    of_zone : (is : List ZoneRecord → Type 0) → OfZone (λ n. n) (λ d. d.rtype) raw_minimum raw_cmp (map see given) is
-        → OfZone labels rtype_of minimum_of (data_cmp octets labels) given is
+    of_zone : (is : List ZoneRecord → Type 0) → OfZone raw_view (map see given) is
+        → OfZone (zone_view octets labels) given is
     of_zone is u =
         let s = sets_back see (record_cmp (λ n. n) (λ d. d.rtype) raw_cmp) (record_cmp_total (λ n. n) (λ d. d.rtype) raw_cmp raw_cmp_total) given
         u.sorted u.sorts in
@@ -60,8 +61,8 @@ module _ {O N : Type 0} (octets : O → Octets) (labels : N → Name) where
 
     -- why they have no chain, where these are the faults of their zone, and this holds where memory is wanting
     has_none : (is_fault : List ZoneRecord → SigningError → Type 0) (without : List ZoneRecord → Type 0) (e : ChainError)
-        → HasNone (λ n. n) (λ d. d.rtype) raw_minimum raw_cmp (map see given) is_fault without e
-        → HasNone labels rtype_of minimum_of (data_cmp octets labels) given is_fault without e
+        → HasNone raw_view (map see given) is_fault without e
+        → HasNone (zone_view octets labels) given is_fault without e
     has_none is_fault without MixedClasses h = λ one. h (subst (λ (T : Type 0). T) (sym (classes_seen given)) one)
     has_none is_fault without (Sort e) h = subst (λ (T : Type 0). T) (classes_seen given) h
     has_none is_fault without (Signing e) h = of_zone (λ L. is_fault L e × (e ≢ NoRoom)) h

@@ -36,19 +36,39 @@ abbrev pub IsWholeHashedChain : List ZoneRecord → Name → ChainConfig → Nse
 IsWholeHashedChain L apex config mode links param =
     IsHashedChain L apex config links × IsChainParam L apex config mode param
 
-module _ {N D : Type 0} (labels : N → Name) (rtype_of : D → ℕ) (data_cmp : D → D → Ordering) where
+-- how records are seen: their owners, and of data the type, the MINIMUM where it is of an SOA, and
+-- the canonical order
+pub record View (N D : Type 0) : Type 0 where
+  pub labels : N → Name
+  pub rtype_of : D → ℕ
+  pub minimum_of : D → Option ℕ
+  pub data_cmp : D → D → Ordering
+
+abbrev pub seen : {N D : Type 0} → (N → Name) → (D → ℕ) → (D → Option ℕ)
+    → (D → D → Ordering) → View N D
+seen labels rtype_of minimum_of data_cmp =
+    record {
+      labels = labels;
+      rtype_of = rtype_of;
+      minimum_of = minimum_of;
+      data_cmp = data_cmp;
+    }
+
+-- the records as a zone
+abbrev pub zone_seen : {N D : Type 0} → View N D → List (Record N D) → List ZoneRecord
+zone_seen v = zone_of v.labels v.rtype_of v.minimum_of
+
+module _ {N D : Type 0} (v : View N D) where
   -- sorted is the sorted set of the records that were given, with the earliest of equal ones
   abbrev pub Sorts : List (Record N D) → List (Record N D) → Type 0
-  Sorts = IsUnion true (record_cmp labels rtype_of data_cmp)
+  Sorts = IsUnion true (record_cmp v.labels v.rtype_of v.data_cmp)
 
-module _ {N D : Type 0} (labels : N → Name) (rtype_of : D → ℕ) (minimum_of : D → Option ℕ)
-    (data_cmp : D → D → Ordering) where
   -- the sorted set of the given records is of one class, and this holds of its zone
   pub record OfZone (given : List (Record N D)) (is : List ZoneRecord → Type 0) : Type 0 where
     pub sorted : List (Record N D)
-    pub sorts : Sorts labels rtype_of data_cmp given sorted
+    pub sorts : Sorts given sorted
     pub one_class : IsOneClass sorted
-    pub zone : is (zone_of labels rtype_of minimum_of sorted)
+    pub zone : is (zone_seen v sorted)
 
   -- why the given records have no chain: they are not of one class, or else their zone has this
   -- first fault; and want of memory says what then holds of it

@@ -1,5 +1,4 @@
 pub mod AnyOrder
-pub mod ZoneRecords
 pub mod RawRecords
 pub mod Error
 pub mod ErrorText

@@ -3,7 +3,7 @@ ghost use Rattle.std.specs.Prelude.{IfErr, IfOk};
 ghost use Rattle.domain_records.specs.Order.{IsOneClass};
 ghost use Rattle.domain_nsec.specs.Chain.{links_of};
 ghost use Rattle.domain_nsec3.specs.View.{as_param_record, config_of, hashed_links_of};
-ghost use Rattle.domain_dnssec.specs.AnyOrder.{HasNoChain, HasNoHashedChain, HasNoSet, IsChainOf, IsHashedChainOf, Sorts};
+ghost use Rattle.domain_dnssec.specs.AnyOrder.{HasNoChain, HasNoHashedChain, HasNoSet, IsChainOf, IsHashedChainOf, Sorts, seen};
 
 use crate::chain::ChainError;
 use crate::laws::sorting_keeps_classes_and_records;
@@ -28,7 +28,8 @@ pub fn sort_one_class<N: ToName, D: ZoneData + CanonicalOrd>(
 where
     N: Drop,
     D: Drop,
-    ensures sorts { IfOk result (Sorts N.labels D.rtype D.canonical_cmp records.items) }
+    ensures sorts { IfOk result
+        (Sorts (seen N.labels D.rtype D.minimum D.canonical_cmp) records.items) }
     ensures one_class { IfOk result (λ sorted. IsOneClass sorted) }
     ensures err { IfErr result (HasNoSet records.items) }
 {
@@ -60,10 +61,10 @@ where
     D: Drop,
     O: FromBuilder + Drop,
     O::Builder: GrowingBuilder,
-    ensures ok { IfOk result (λ nsecs. IsChainOf N.labels D.rtype D.minimum D.canonical_cmp
+    ensures ok { IfOk result (λ nsecs. IsChainOf (seen N.labels D.rtype D.minimum D.canonical_cmp)
         records.items (N.labels apex.now) config.now (links_of N.labels nsecs.items)) }
-    ensures err { IfErr result (HasNoChain N.labels D.rtype D.minimum D.canonical_cmp records.items
-        (N.labels apex.now) config.now) }
+    ensures err { IfErr result (HasNoChain (seen N.labels D.rtype D.minimum D.canonical_cmp)
+        records.items (N.labels apex.now) config.now) }
 {
     let sorted = sort_one_class(records)?;
     Ok(generate_nsecs(alloc, apex, sorted.owner_rrs(), config)?)
@@ -97,11 +98,11 @@ where
     D: Drop,
     O: FromBuilder + Drop,
     O::Builder: GrowingBuilder,
-    ensures ok { IfOk result (λ made. IsHashedChainOf N.labels D.rtype D.minimum D.canonical_cmp
-        records.items (N.labels apex.now) (config_of (H.answer hasher.now) config.now)
-        config.now.nsec3param_ttl_mode (hashed_links_of N.labels made.nsec3s.items)
-        (as_param_record N.labels made.nsec3param)) }
-    ensures err { IfErr result (HasNoHashedChain N.labels D.rtype D.minimum D.canonical_cmp
+    ensures ok { IfOk result (λ made. IsHashedChainOf
+        (seen N.labels D.rtype D.minimum D.canonical_cmp) records.items (N.labels apex.now)
+        (config_of (H.answer hasher.now) config.now) config.now.nsec3param_ttl_mode
+        (hashed_links_of N.labels made.nsec3s.items) (as_param_record N.labels made.nsec3param)) }
+    ensures err { IfErr result (HasNoHashedChain (seen N.labels D.rtype D.minimum D.canonical_cmp)
         records.items (N.labels apex.now) (config_of (H.answer hasher.now) config.now)) }
 {
     let sorted = sort_one_class(records)?;

@@ -13,7 +13,7 @@ ghost use Rattle.domain_zone.specs.declared.soa.ApexSoa.{ApexSoa};
 ghost use Rattle.domain_answer.specs.{Reading.IsAnswered, declared.answer.Answer.Answer};
 ghost use Rattle.domain_rdata.specs.declared.zone_record_data.ZoneRecordData.{ZoneRecordData};
 ghost use Rattle.domain_dnssec.specs.AnyOrder.{IsAnswerOf, IsChainOf, IsProvedAnswerOf, IsProvedOf};
-ghost use Rattle.domain_dnssec.specs.AnyOrder.{IsSaidOf, Sorts};
+ghost use Rattle.domain_dnssec.specs.AnyOrder.{IsSaidOf, Sorts, View, seen, zone_seen};
 ghost use Rattle.domain_dnssec.specs.RawRecords.{raw_record, HaveOneChain, TellMinima};
 
 use domain_answer::laws as answers;
@@ -27,49 +27,42 @@ use domain_record::ZoneData;
 use domain_records::laws::sorted_records_are_in_order;
 pub use domain_zone::laws::{covering_ignores_case, owners_never_descend};
 
-/// The sorted set of records has the owners of the list that was put in, each with the same types,
-/// and the same of them are not occluded: of equal records one stays.
-pub fn sorting_keeps_owners_and_types<N: ToName, D: ZoneData + CanonicalOrd>()
-    ensures owners { (given sorted : List (Record N D))
-        → Sorts N.labels D.rtype D.canonical_cmp given sorted
-        → (n : Name) → owns (zone_of N.labels D.rtype D.minimum sorted) n
-        ≡ owns (zone_of N.labels D.rtype D.minimum given) n }
-    ensures types { (given sorted : List (Record N D))
-        → Sorts N.labels D.rtype D.canonical_cmp given sorted
-        → (n : Name) (t : ℕ) → has_type (records_of (zone_of N.labels D.rtype D.minimum sorted) n) t
-        ≡ has_type (records_of (zone_of N.labels D.rtype D.minimum given) n) t }
-    ensures unoccluded { (given sorted : List (Record N D))
-        → Sorts N.labels D.rtype D.canonical_cmp given sorted
-        → (below_dname : Bool) (a n : Name)
-        → is_unoccluded below_dname (zone_of N.labels D.rtype D.minimum sorted) a n
-        ≡ is_unoccluded below_dname (zone_of N.labels D.rtype D.minimum given) a n }
+/// The sorted set of records, however these are seen, has the owners of the list that was put in,
+/// each with the same types, and the same of them are not occluded: of equal records one stays.
+#[tactic(auto, using(crate::proofs::KeptLemmas::owner_kept, crate::proofs::KeptLemmas::type_kept, crate::proofs::KeptLemmas::unoccluded_kept))]
+pub fn sorting_keeps_owners_and_types<N, D>()
+    ensures owners { (v : View N D) (given sorted : List (Record N D)) → Sorts v given sorted
+        → (n : Name) → owns (zone_seen v sorted) n ≡ owns (zone_seen v given) n }
+    ensures types { (v : View N D) (given sorted : List (Record N D)) → Sorts v given sorted
+        → (n : Name) (t : ℕ) → has_type (records_of (zone_seen v sorted) n) t
+        ≡ has_type (records_of (zone_seen v given) n) t }
+    ensures unoccluded { (v : View N D) (given sorted : List (Record N D)) → Sorts v given sorted
+        → (below_dname : Bool) (a n : Name) → is_unoccluded below_dname (zone_seen v sorted) a n
+        ≡ is_unoccluded below_dname (zone_seen v given) a n }
 {}
 
 /// Of the sorted set of records: it is of one class exactly where the list that was put in is; its
 /// SOA at an apex is a record of that list; and where it has unequal TTLs at a name, so has the
 /// list. The converse of the last two doesn't hold, since records that differ in TTL alone are
 /// equal, and one of them stays.
-pub fn sorting_keeps_classes_and_records<N: ToName, D: ZoneData + CanonicalOrd>()
-    ensures classes { (given sorted : List (Record N D))
-        → Sorts N.labels D.rtype D.canonical_cmp given sorted
+#[tactic(auto, using(crate::proofs::KeptLemmas::classes_kept, crate::proofs::KeptLemmas::soa_among, crate::proofs::KeptLemmas::clash_among))]
+pub fn sorting_keeps_classes_and_records<N, D>()
+    ensures classes { (v : View N D) (given sorted : List (Record N D)) → Sorts v given sorted
         → (IsOneClass sorted ↔ IsOneClass given) }
-    ensures soa { (given sorted : List (Record N D))
-        → Sorts N.labels D.rtype D.canonical_cmp given sorted
-        → (a : Name) (numbers : ApexSoa)
-        → soa_of (zone_of N.labels D.rtype D.minimum sorted) a ≡ Some numbers
-        → (r : ZoneRecord) × Contains (zone_of N.labels D.rtype D.minimum given) r
+    ensures soa { (v : View N D) (given sorted : List (Record N D)) → Sorts v given sorted
+        → (a : Name) (numbers : ApexSoa) → soa_of (zone_seen v sorted) a ≡ Some numbers
+        → (r : ZoneRecord) × Contains (zone_seen v given) r
         × (is_soa a r ≡ true) × (numbers_of r r.minimum ≡ Some numbers) }
-    ensures ttls { (given sorted : List (Record N D))
-        → Sorts N.labels D.rtype D.canonical_cmp given sorted
-        → (n : Name) → has_clash (records_of (zone_of N.labels D.rtype D.minimum sorted) n) ≡ true
-        → has_clash (records_of (zone_of N.labels D.rtype D.minimum given) n) ≡ true }
+    ensures ttls { (v : View N D) (given sorted : List (Record N D)) → Sorts v given sorted
+        → (n : Name) → has_clash (records_of (zone_seen v sorted) n) ≡ true
+        → has_clash (records_of (zone_seen v given) n) ≡ true }
 {}
 
 /// The zone of sorted records of one class has owners that never descend, as the theorems on chains
 /// and verdicts ask.
 pub fn sorted_owners_never_descend<N: ToName, D: ZoneData + CanonicalOrd>()
     ensures { (given sorted : List (Record N D))
-        → Sorts N.labels D.rtype D.canonical_cmp given sorted → IsOneClass sorted
+        → Sorts (seen N.labels D.rtype D.minimum D.canonical_cmp) given sorted → IsOneClass sorted
         → OwnersNeverDescend (zone_of N.labels D.rtype D.minimum sorted) }
 {
     sorted_records_are_in_order::<N, D>();
@@ -83,16 +76,16 @@ pub fn verdicts_tell_of_records<N: ToName, D: ZoneData + CanonicalOrd>()
     ensures some { (given : List (Record N D)) (apex : Name) (config : GenerateNsecConfig)
         (links listed : List Link) (x : Name) (t : ℕ) (verdict : Verdict)
         → config.occlude_below_dname ≡ false
-        → IsChainOf N.labels D.rtype D.minimum D.canonical_cmp given apex config links
+        → IsChainOf (seen N.labels D.rtype D.minimum D.canonical_cmp) given apex config links
         → All (IsPairedIn IsAlike links) listed → IsProved listed apex x t verdict
-        → IsProvedOf N.labels D.rtype D.minimum D.canonical_cmp given apex config listed x t
+        → IsProvedOf (seen N.labels D.rtype D.minimum D.canonical_cmp) given apex config listed x t
         verdict }
     ensures all { (given : List (Record N D)) (apex : Name) (config : GenerateNsecConfig)
         (links listed : List Link) (x : Name) (t : ℕ) (verdict : Verdict)
         → config.occlude_below_dname ≡ false
-        → IsChainOf N.labels D.rtype D.minimum D.canonical_cmp given apex config links
+        → IsChainOf (seen N.labels D.rtype D.minimum D.canonical_cmp) given apex config links
         → listed ≡ links → IsProved listed apex x t verdict
-        → IsSaidOf N.labels D.rtype D.minimum D.canonical_cmp given apex config x t verdict }
+        → IsSaidOf (seen N.labels D.rtype D.minimum D.canonical_cmp) given apex config x t verdict }
 {
     sorted_owners_never_descend::<N, D>();
     whole_chains_prove_all();
@@ -106,16 +99,17 @@ pub fn answers_tell_of_records<N: ToName, D: ZoneData + CanonicalOrd>()
     ensures some { (given : List (Record N D)) (apex : Name) (config : GenerateNsecConfig)
         (links listed : List Link) (x : Name) (t : ℕ) (answer : Answer)
         → config.occlude_below_dname ≡ true
-        → IsChainOf N.labels D.rtype D.minimum D.canonical_cmp given apex config links
+        → IsChainOf (seen N.labels D.rtype D.minimum D.canonical_cmp) given apex config links
         → All (IsPairedIn IsAlike links) listed → IsAnswered listed apex x t answer
-        → IsProvedAnswerOf N.labels D.rtype D.minimum D.canonical_cmp given apex config listed x t
-        answer }
+        → IsProvedAnswerOf (seen N.labels D.rtype D.minimum D.canonical_cmp) given apex config
+        listed x t answer }
     ensures all { (given : List (Record N D)) (apex : Name) (config : GenerateNsecConfig)
         (links listed : List Link) (x : Name) (t : ℕ) (answer : Answer)
         → config.occlude_below_dname ≡ true
-        → IsChainOf N.labels D.rtype D.minimum D.canonical_cmp given apex config links
+        → IsChainOf (seen N.labels D.rtype D.minimum D.canonical_cmp) given apex config links
         → listed ≡ links → IsAnswered listed apex x t answer
-        → IsAnswerOf N.labels D.rtype D.minimum D.canonical_cmp given apex config x t answer }
+        → IsAnswerOf (seen N.labels D.rtype D.minimum D.canonical_cmp) given apex config x t
+        answer }
 {
     sorted_owners_never_descend::<N, D>();
     answers::whole_chains_prove_all();

@@ -213,14 +213,7 @@ impl<N: ToName, D: RecordData + fmt::Display> fmt::Display for Record<N, D> {
 
     #[tactic(auto, using(crate::proofs::RecordLemmas::class_in_spaces))]
     fn fmt<W: fmt::Write>(&self, f: &mut fmt::Formatter<W>) -> fmt::Result {
-        write!(
-            f,
-            "{} {}{}{} {}",
-            self.owner.fmt_with_dot(),
-            self.ttl,
-            Spaced(self.class),
-            self.data.rtype(),
-            self.data
-        )
+        let (owner, class) = (self.owner.fmt_with_dot(), Spaced(self.class));
+        write!(f, "{owner} {}{class}{} {}", self.ttl, self.data.rtype(), self.data)
     }
 }

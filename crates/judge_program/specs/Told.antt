@@ -9,13 +9,12 @@ use Rattle.domain_octets.specs.Octets.{Octets}
 use Rattle.domain_names.specs.Name.{Name, same_name, last_labels}
 use Rattle.domain_base.specs.Types.{ds}
 use Rattle.domain_bitmap.specs.Blocks.{contains_type}
-use Rattle.domain_fields.specs.Layout.{octets_of}
-use Rattle.domain_chain_rdata.specs.Rdata.{nsec3 as nsec3_fields}
+use Rattle.domain_borrowed.specs.Data.{nsec3_record}
 use Rattle.domain_nsec.specs.Chain.{Link, as_link}
 use Rattle.domain_nsec3.specs.{Chain.{HashedLink, ParamRecord, hash_name}, View.{as_hashed_link, as_param_record}}
 use Rattle.domain_checker.specs.{HashedReading.{Encloser, IsFoundEncloser}, HashedVerdict.{HashedRecords, first_cover, first_match, IsFirstRefusal}}
 use Rattle.domain_checker.specs.Reading.{is_cover, is_match}
-use Rattle.denial_program.specs.Text.{link_values, nsec_line, nsec3_line, nsec3param_line}
+use Rattle.denial_program.specs.Text.{nsec_line, nsec3_line, nsec3param_line}
 use Rattle.domain_answer.specs.declared.answer.Answer.TheVariants as answers
 use Rattle.judge_program.specs.declared.needs.Needs.TheVariants as needs
 use Rattle.judge_program.specs.declared.shown.Shown.TheVariants as shows
@@ -101,7 +100,7 @@ is_same (plain k) (plain l) =
     && (same_name k.next l.next && bytes_eq k.bits l.bits)
 is_same (hashed k) (hashed l) =
     same_name k.owner l.owner && (k.class == l.class)
-    && bytes_eq (octets_of nsec3_fields (link_values k)) (octets_of nsec3_fields (link_values l))
+    && bytes_eq (nsec3_record k).«data».octets (nsec3_record l).«data».octets
 is_same _ _ = false
 
 -- a record that tells of a name, which it matches or else covers

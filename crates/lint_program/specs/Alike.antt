@@ -3,17 +3,11 @@ use Rattle.std.specs.Prelude.{◌≡◌, ◌⊎◌, ℕ, List, [], ◌∷◌, �
 use Rattle.domain_octets.specs.Octets.{Octets}
 use Rattle.domain_names.specs.{Text.name_text, Name.Name}
 use Rattle.domain_alike.specs.Alike.{AreAlike, IsFirstRefusal, Pair}
-use Rattle.domain_dnssec.specs.AnyOrder.{AreMixed}
-use Rattle.domain_dnssec.specs.AnyOrder as any_order
-use Rattle.domain_borrowed.specs.Data.{data_cmp, minimum_of, RawRecord}
+use Rattle.domain_dnssec.specs.{AnyOrder.{AreMixed, OfZone}, RawRecords.raw_view}
+use Rattle.domain_borrowed.specs.Data.{RawRecord}
 use Rattle.domain_nsec3.specs.View.{HasherAnswer}
-use Rattle.domain_zone.specs.Zone.{ZoneRecord}
 use Rattle.denial_program.specs.{Answer.usual_nsec3_config, Command.Params, Text.lines_of}
 use Rattle.lint_program.specs.declared.outcome.Outcome.{Outcome, TheVariants.Faulty}
-
--- the sorted set of the given records is of one class, and this holds of its zone
-abbrev pub OfZone : List RawRecord → (List ZoneRecord → Type 0) → Type 0
-OfZone = any_order.OfZone (λ n. n) (λ d. d.rtype) minimum_of data_cmp
 
 -- these are told of records, of the chain that `denial nsec3` would make of them with these
 -- parameters: nothing without parameters, nor where they are of more than one class
@@ -21,14 +15,14 @@ abbrev pub AreTold : HasherAnswer → List RawRecord → Name → Option Params 
 AreTold answers given apex None pairs = pairs ≡ []
 AreTold answers given apex (Some p) pairs =
     (AreMixed given × (pairs ≡ []))
-    ⊎ OfZone given (λ L. AreAlike L apex (usual_nsec3_config answers p) pairs)
+    ⊎ OfZone raw_view given (λ L. AreAlike L apex (usual_nsec3_config answers p) pairs)
 
 -- the hasher refuses the hash of a name of that chain, and of none before it; without parameters
 -- nothing is refused
 abbrev pub IsRefusalBy : HasherAnswer → List RawRecord → Name → Option Params → ℕ → Type 0
 IsRefusalBy answers given apex None number = ⊥
 IsRefusalBy answers given apex (Some p) number =
-    OfZone given (λ L. IsFirstRefusal L apex (usual_nsec3_config answers p) number)
+    OfZone raw_view given (λ L. IsFirstRefusal L apex (usual_nsec3_config answers p) number)
 
 -- what is told of a pair
 abbrev pub alike_line : Pair → Octets

@@ -1,6 +1,6 @@
 //! A chain from records.
 ghost use Rattle.std.specs.Prelude.{IfOk};
-ghost use Rattle.domain_dnssec.specs.{ZoneRecords.IsChainOf, Chain.links_of};
+ghost use Rattle.domain_dnssec.specs.{AnyOrder.IsChainOf, RawRecords.zone_view, Chain.links_of};
 
 use crate::zone::{OwnedRecord, ZoneName, records};
 use domain_dnssec::{Error, GenerateNsecConfig, Nsec, Record, generate_nsecs_of_records};
@@ -17,8 +17,8 @@ pub fn chain(
     records: Vec<OwnedRecord>,
     config: &GenerateNsecConfig,
 ) -> Result<Vec<NsecRecord>, Error>
-    ensures { IfOk result (λ nsecs. IsChainOf (λ octets. octets.items) (λ name. name)
-        records.items apex.now config.now (links_of (λ name. name) nsecs.items)) }
+    ensures { IfOk result (λ nsecs. IsChainOf (zone_view (λ octets. octets.items)
+        (λ name. name)) records.items apex.now config.now (links_of (λ name. name) nsecs.items)) }
 {
     let nsecs = generate_nsecs_of_records(alloc, apex, records, config)?;
     Ok(nsecs)

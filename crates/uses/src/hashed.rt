@@ -1,7 +1,7 @@
 //! A chain of hashes, with a hasher of one's own.
 ghost use Rattle.std.specs.Prelude.{nat_le, Err, IfOk, if◌then◌else◌};
 ghost use Rattle.domain_dnssec.specs.{Iterated.sha1_answer, Hashed.{as_param_record, config_of}};
-ghost use Rattle.domain_dnssec.specs.{Hashed.hashed_links_of, ZoneRecords.IsHashedChainOf};
+ghost use Rattle.domain_dnssec.specs.{AnyOrder.IsHashedChainOf, RawRecords.zone_view, Hashed.hashed_links_of};
 
 use crate::zone::{OwnedRecord, ZoneName, records};
 use domain_dnssec::rdata::Nsec3Salt;
@@ -50,9 +50,10 @@ fn chain<H: Nsec3Hasher>(
     config: &GenerateNsec3Config<Vec<u8>, DefaultSorter>,
     hasher: &H,
 ) -> Result<Nsec3Records<ZoneName, Vec<u8>>, Error>
-    ensures { IfOk result (λ made. IsHashedChainOf (λ octets. octets.items) (λ name. name)
-        records.items apex.now (config_of (H.answer hasher.now) config.now)
-        config.now.nsec3param_ttl_mode (hashed_links_of (λ name. name) made.nsec3s.items)
+    ensures { IfOk result (λ made. IsHashedChainOf
+        (zone_view (λ octets. octets.items) (λ name. name)) records.items apex.now
+        (config_of (H.answer hasher.now) config.now) config.now.nsec3param_ttl_mode
+        (hashed_links_of (λ name. name) made.nsec3s.items)
         (as_param_record (λ name. name) made.nsec3param)) }
 {
     let made = generate_nsec3s_of_records(alloc, apex, records, config, hasher)?;

@@ -10,15 +10,7 @@ use std::fmt::Write;
 const UNKNOWN: [&str; 7] = ["example.", "3600", "IN", "TYPE65400", "\\#", "2", "abcd"];
 
 /// The words of an NSEC record.
-const NSEC: [&str; 7] = [
-    "example.",
-    "300",
-    "IN",
-    "NSEC",
-    "office.example.",
-    "NS",
-    "SOA",
-];
+const NSEC: [&str; 7] = ["example.", "300", "IN", "NSEC", "b.example.", "NS", "SOA"];
 
 /// The value that the next token spells.
 fn field<F: FromToken, S: Scanner>(scanner: &mut S) -> Result<F, Error> {
@@ -42,7 +34,7 @@ fn scan<S: Scanner<Name = ZoneName, Octets = Vec<u8>>>(
 }
 
 /// The record that the words of a line spell.
-pub fn read<'a>(alloc: Global, words: &'a [&'a str]) -> Result<OwnedRecord, Error> {
+fn read<'a>(alloc: Global, words: &'a [&'a str]) -> Result<OwnedRecord, Error> {
     let mut scanner = IterScanner::<Vec<u8>>::new(words);
     scan(alloc, &mut scanner)
 }

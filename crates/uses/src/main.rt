@@ -4,14 +4,13 @@
 //! use with a bitmap names `domain_bitmap` too.
 #![tactic(auto)]
 
-mod answer;
+mod asked;
 mod bitmap;
 mod chain;
 mod hashed;
 mod key;
 mod line;
 mod message;
-mod said;
 mod served;
 mod sorted;
 mod verdict;
@@ -28,8 +27,7 @@ fn report(alloc: Global) -> Result<String, Error> {
     chain::show(alloc, &mut text)?;
     hashed::show(alloc, &mut text)?;
     verdict::show(alloc, &mut text)?;
-    said::show(alloc, &mut text)?;
-    answer::show(alloc, &mut text)?;
+    asked::show(alloc, &mut text)?;
     served::show(alloc, &mut text)?;
     bitmap::show(alloc, &mut text)?;
     line::show(alloc, &mut text)?;

@@ -4,16 +4,11 @@ ghost use Rattle.std.specs.Prelude.{◌≡◌, true, IfOk};
 ghost use Rattle.domain_dnssec.specs.{Order.IsOneClass, ZoneData.{minimum_of, rtype_of}, Zone.zone_of};
 ghost use Rattle.domain_dnssec.specs.ZoneAnswer.{zone_answer};
 
-use crate::zone::{Data, ZoneName, records};
+use crate::zone::{Data, Zone, ZoneName, zone};
 use domain_dnssec::laws::{chains_leave_out_names_below_dname, owners_never_descend};
-use domain_dnssec::{
-    Answer, Error, GenerateNsecConfig, NsecChain, Rtype, SortedRecords, deny_nsec,
-};
+use domain_dnssec::{Answer, Error, GenerateNsecConfig, NsecChain, Rtype, deny_nsec};
 use std::alloc::Global;
 use std::fmt::Write;
-
-/// A zone whose records stand in canonical order.
-type Zone = SortedRecords<ZoneName, Data>;
 
 /// Prints the record at a place of a chain, where one is given.
 fn show_record(
@@ -60,10 +55,7 @@ fn serve<'z>(
 pub fn show(alloc: Global, text: &mut String) -> Result<(), Error> {
     let apex = ZoneName::from_str(alloc, "example.")?;
     let config = GenerateNsecConfig::new().with_occlude_below_dname();
-    let zone = Zone::from_vec(records(alloc)?)?;
-    if !zone.owner_rrs().is_one_class() {
-        return Err(Error::MixedClasses);
-    }
+    let zone = zone(alloc)?;
     for asked in ["office.example.", "www.example."] {
         let name = ZoneName::from_str(alloc, asked)?;
         let answer = serve(alloc, &apex, &zone, &config, &name, Rtype::MX, text)?;

@@ -1,15 +1,12 @@
 //! Sorted records that are kept up to date.
 ghost use Rattle.std.specs.Prelude.{◌≡◌, OnErr};
 
-use crate::zone::{Data, OwnedRecord, ZoneName, records};
+use crate::zone::{Data, OwnedRecord, Zone, ZoneName, records};
 use domain_dnssec::rdata::A;
-use domain_dnssec::{Class, Error, Record, Rtype, SortedRecords, Ttl};
+use domain_dnssec::{Class, Error, Record, Rtype, Ttl};
 use std::alloc::Global;
 use std::fmt::Write;
 use std::net::Ipv4Addr;
-
-/// A zone that is kept in order.
-type Zone = SortedRecords<ZoneName, Data>;
 
 /// Puts a record in. Where an equal one stands there, the zone stays as it was.
 fn put(zone: &mut Zone, record: OwnedRecord) -> Result<(), Error>

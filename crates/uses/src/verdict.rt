@@ -1,30 +1,18 @@
 //! What a few records prove.
 ghost use Rattle.domain_dnssec.specs.{Verdict.IsProved, Chain.links_of};
 
-use crate::line::read;
 use crate::zone::ZoneName;
-use domain_dnssec::{Error, Nsec, Record, Rtype, Verdict, ZoneRecordData, check_nsec};
+use domain_dnssec::{Error, Nsec, Record, Rtype, Verdict, ZoneRecordData, check_nsec, scan_record};
 use std::alloc::Global;
 use std::fmt::Write;
-
-/// The words of a record of a chain.
-const LISTED: [&str; 7] = [
-    "example.",
-    "300",
-    "IN",
-    "NSEC",
-    "mail.office.example.",
-    "NS",
-    "SOA",
-];
 
 /// A record of an NSEC chain.
 type NsecRecord = Record<ZoneName, Nsec<Vec<u8>, ZoneName>>;
 
-/// The NSEC records that the words spell.
-fn nsecs(alloc: Global, words: &[&str]) -> Result<Vec<NsecRecord>, Error> {
+/// The NSEC record that a line spells.
+fn nsecs(alloc: Global, line: &str) -> Result<Vec<NsecRecord>, Error> {
     let mut nsecs = Vec::new(alloc);
-    let (owner, class, ttl, data) = read(alloc, words)?.into_parts();
+    let (owner, class, ttl, data) = scan_record(alloc, line)?.into_parts();
     if let ZoneRecordData::Nsec(data) = data {
         nsecs.push(Record::new(owner, class, ttl, data))?;
     }
@@ -41,13 +29,14 @@ fn ask(apex: &ZoneName, nsecs: &[NsecRecord], name: &ZoneName, rtype: Rtype) -> 
 /// Prints what one record proves of three names.
 pub fn show(alloc: Global, text: &mut String) -> Result<(), Error> {
     let apex = ZoneName::from_str(alloc, "example.")?;
-    let nsecs = nsecs(alloc, &LISTED)?;
-    for asked in [
+    let nsecs = nsecs(alloc, "example. 300 IN NSEC mail.office.example. NS SOA")?;
+    let names = [
         "example.",
         "office.example.",
         "dial.example.",
         "www.example.",
-    ] {
+    ];
+    for asked in names {
         let name = ZoneName::from_str(alloc, asked)?;
         let verdict = ask(&apex, nsecs.as_slice(), &name, Rtype::A);
         writeln!(text, "{asked} {verdict:?}")?;

@@ -3,17 +3,14 @@ ghost use Rattle.std.specs.Prelude.{◌≡◌, List, IfOk};
 ghost use Rattle.domain_dnssec.specs.{Chain.{IsChain, Link}, Order.IsOneClass, Zone.zone_of, Wire.nsecs_octets};
 ghost use Rattle.domain_dnssec.specs.ZoneData.{minimum_of, rtype_of};
 
-use crate::zone::{Data, ZoneName, records};
+use crate::zone::{Zone, ZoneName, zone};
 use domain_dnssec::rdata::Nsec3Salt;
 use domain_dnssec::{
     Error, GenerateNsec3Config, GenerateNsecConfig, InPlaceSorter, Nsec3Chain, Nsec3HashAlgorithm,
-    Nsec3param, NsecChain, Sha1Hasher, SortedRecords, compose_nsec3s, compose_nsecs,
+    Nsec3param, NsecChain, Sha1Hasher, compose_nsec3s, compose_nsecs,
 };
 use std::alloc::Global;
 use std::fmt::Write;
-
-/// A zone whose records stand in canonical order.
-type Zone = SortedRecords<ZoneName, Data>;
 
 /// The octets of the NSEC chain of a zone of one class.
 fn octets(
@@ -58,10 +55,7 @@ fn add_octets(octets: &[u8], text: &mut String) -> Result<(), Error> {
 /// Prints both chains of the small zone as a message would have them.
 pub fn show(alloc: Global, text: &mut String) -> Result<(), Error> {
     let apex = ZoneName::from_str(alloc, "example.")?;
-    let zone = Zone::from_vec(records(alloc)?)?;
-    if !zone.owner_rrs().is_one_class() {
-        return Err(Error::MixedClasses);
-    }
+    let zone = zone(alloc)?;
     let config = GenerateNsecConfig::new();
     add_octets(&octets(alloc, &apex, &zone, &config)?, text)?;
     add_octets(&hashed_octets(alloc, &apex, &zone)?, text)

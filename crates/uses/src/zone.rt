@@ -1,6 +1,11 @@
 //! A small zone, built in code.
+ghost use Rattle.std.specs.Prelude.{IfOk};
+ghost use Rattle.domain_dnssec.specs.Order.{IsOneClass};
+
 use domain_dnssec::rdata::{A, Mx, Ns, Soa};
-use domain_dnssec::{Class, Error, Name, Record, Rtype, Ttl, ZoneRecordData};
+use domain_dnssec::{
+    Class, Error, Name, Record, Rtype, SortedRecords, Ttl, ZoneRecordData, sort_one_class,
+};
 use std::alloc::Global;
 use std::net::Ipv4Addr;
 
@@ -13,20 +18,17 @@ pub type Data = ZoneRecordData<Vec<u8>, ZoneName>;
 /// A record of a zone.
 pub type OwnedRecord = Record<ZoneName, Data>;
 
+/// A zone whose records stand in canonical order.
+pub type Zone = SortedRecords<ZoneName, Data>;
+
 /// The SOA of the zone.
 fn soa(alloc: Global) -> Result<Data, Error> {
     let (hour, day) = (Ttl::from_hours(1), Ttl::from_hours(24));
     let primary = ZoneName::from_str(alloc, "ns.example.")?;
     let mailbox = ZoneName::from_str(alloc, "hostmaster.example.")?;
-    Ok(Data::Soa(Soa::new(
-        primary,
-        mailbox,
-        2026112301,
-        day,
-        hour,
-        day,
-        Ttl::from_mins(5),
-    )))
+    let minimum = Ttl::from_mins(5);
+    let soa = Soa::new(primary, mailbox, 2026112301, day, hour, day, minimum);
+    Ok(Data::Soa(soa))
 }
 
 /// The octets of a CAA record: a type that is known by its name alone.
@@ -50,18 +52,22 @@ fn add(
 /// The records of `example.`, in no order.
 pub fn records(alloc: Global) -> Result<Vec<OwnedRecord>, Error> {
     let address = A::new(Ipv4Addr::new(192, 0, 2, 1));
-    let mail = Mx::new(10, ZoneName::from_str(alloc, "mail.office.example.")?);
+    let (host, apex) = ("mail.office.example.", "example.");
+    let mail = Mx::new(10, ZoneName::from_str(alloc, host)?);
     let server = Ns::new(ZoneName::from_str(alloc, "ns.example.")?);
     let mut records = Vec::new(alloc);
-    add(
-        alloc,
-        "mail.office.example.",
-        Data::A(address),
-        &mut records,
-    )?;
-    add(alloc, "example.", Data::Mx(mail), &mut records)?;
-    add(alloc, "example.", caa(alloc)?, &mut records)?;
-    add(alloc, "example.", Data::Ns(server), &mut records)?;
-    add(alloc, "example.", soa(alloc)?, &mut records)?;
+    add(alloc, host, Data::A(address), &mut records)?;
+    add(alloc, apex, Data::Mx(mail), &mut records)?;
+    add(alloc, apex, caa(alloc)?, &mut records)?;
+    add(alloc, apex, Data::Ns(server), &mut records)?;
+    add(alloc, apex, soa(alloc)?, &mut records)?;
     Ok(records)
+}
+
+/// The zone `example.`, sorted.
+pub fn zone(alloc: Global) -> Result<Zone, Error>
+    ensures { IfOk result (λ zone. IsOneClass zone) }
+{
+    let zone: Zone = sort_one_class(records(alloc)?)?;
+    Ok(zone)
 }

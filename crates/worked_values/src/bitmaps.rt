@@ -81,7 +81,7 @@ fn held(bitmap: &Bitmap<&[u8]>, answers: &mut Answers) -> Answered {
 /// The bitmap of the types that tokens name, by itself and where there is room for one window.
 fn scan(tokens: &[&str], answers: &mut Answers) -> Answered {
     let mut scanner = Tokens::new(tokens);
-    let mut short = IterScanner::<ArrayBuilder<34>>::new(tokens);
+    let mut short = Short::<34>::new(tokens);
     let array = Bitmap::<ArrayBuilder<34>>::scan(answers.alloc, &mut short);
     say!(
         answers, octets_made "octets": Bitmap::<Vec<u8>>::scan(answers.alloc, &mut scanner),

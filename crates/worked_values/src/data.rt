@@ -19,21 +19,19 @@ fn forms<D: ComposeRecordData + Display>(data: &D, answers: &mut Answers) -> Ans
 
 /// Data in generic form, by itself and where there is room for one octet.
 fn generic(tokens: &[&str], answers: &mut Answers) -> Answered {
-    let (alloc, mut short) = (answers.alloc, IterScanner::<ArrayBuilder<1>>::new(tokens));
+    let alloc = answers.alloc;
     let data = UnknownRecordData::scan(alloc, Rtype::MX, &mut Tokens::new(tokens));
     if let Some(data) = answers.ok(data) {
         forms(&data, answers);
     }
-    answers.fault(
-        "ArrayBuilder<1>",
-        &UnknownRecordData::scan(alloc, Rtype::MX, &mut short),
-    )
+    let short = UnknownRecordData::scan(alloc, Rtype::MX, &mut Short::<1>::new(tokens));
+    answers.fault("ArrayBuilder<1>", &short)
 }
 
 /// Why tokens are refused as data of a type where octets have room for three.
 fn tight(rtype: &str, tokens: &[&str], answers: &mut Answers) -> Answered {
     let (alloc, label) = (answers.alloc, "ArrayBuilder<3>");
-    let scanner = &mut IterScanner::<ArrayBuilder<3>>::new(tokens);
+    let scanner = &mut Short::<3>::new(tokens);
     match rtype {
         "DNSKEY" => answers.fault(label, &Dnskey::scan(alloc, scanner)),
         "DS" => answers.fault(label, &Ds::scan(alloc, scanner)),

@@ -129,21 +129,9 @@ pub fn answer(form: &str, words: &[&str], answers: &mut Answers) -> Answered {
         "sizes" => sizes(text, answers),
         "room" => {
             let tokens = [text, text];
-            refusals(
-                text,
-                &mut IterScanner::<ArrayBuilder<1>>::new(&tokens),
-                answers,
-            );
-            refusals(
-                text,
-                &mut IterScanner::<ArrayBuilder<255>>::new(&tokens),
-                answers,
-            );
-            refusals(
-                text,
-                &mut IterScanner::<ArrayBuilder<256>>::new(&tokens),
-                answers,
-            )
+            refusals(text, &mut Short::<1>::new(&tokens), answers);
+            refusals(text, &mut Short::<255>::new(&tokens), answers);
+            refusals(text, &mut Short::<256>::new(&tokens), answers)
         }
         "errors" => say!(
             answers, show "text": Nsec3SaltError, show "text": OwnerHashError,

@@ -7,6 +7,9 @@ pub type OwnName = domain_base::Name<Vec<u8>>;
 /// Room for two octets.
 pub type Two = ArrayBuilder<2>;
 
+/// Tokens of an entry whose octets have room for so many.
+pub type Short<'a, const N: usize> = IterScanner<'a, ArrayBuilder<N>>;
+
 /// What a vector has for its answer; None where that ends, and its last line says why.
 pub type Given<T> = Option<T>;
 

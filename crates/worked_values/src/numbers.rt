@@ -46,9 +46,6 @@ fn named(form: &str, words: &[&str], answers: &mut Answers) -> Answered {
     Some(())
 }
 
-/// Tokens of an entry whose octets have room for two.
-type Short<'a> = IterScanner<'a, Two>;
-
 /// The octets that one token, or all, stand for in an alphabet, and why they stand for no two.
 fn convert(words: &[&str], answers: &mut Answers) -> Answered {
     let (alloc, (_, codec)) = (answers.alloc, split_codec(input::word(words, 0)));
@@ -58,8 +55,8 @@ fn convert(words: &[&str], answers: &mut Answers) -> Answered {
         answers, debug "token": scanner.convert_token(alloc, codec),
         debug "next": scanner.first_token(),
         debug "entry": Tokens::new(tokens).convert_entry(alloc, codec),
-        fault "token into ArrayBuilder<2>": Short::new(tokens).convert_token(alloc, codec),
-        fault "entry into ArrayBuilder<2>": Short::new(tokens).convert_entry(alloc, codec)
+        fault "token into ArrayBuilder<2>": Short::<2>::new(tokens).convert_token(alloc, codec),
+        fault "entry into ArrayBuilder<2>": Short::<2>::new(tokens).convert_entry(alloc, codec)
     )
 }
 

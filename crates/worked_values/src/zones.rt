@@ -181,15 +181,10 @@ fn references(zone: &Zone, answers: &mut Answers) -> Answered {
         show("set of the zone", set.map(Some), answers);
     }
     references.reverse();
-    answers.show(
-        "reversed",
-        &RecordsIter::new_from_refs(&references).is_in_order(),
-    );
-    show(
-        "all as a set",
-        Rrset::new_from_refs(&references).map(Some),
-        answers,
-    )
+    let is_in_order = RecordsIter::new_from_refs(&references).is_in_order();
+    answers.show("reversed", &is_in_order);
+    let set = Rrset::new_from_refs(&references).map(Some);
+    show("all as a set", set, answers)
 }
 
 /// Records as one set, and what it gives as a copy, one by one, and as what it was made of.

@@ -1,6 +1,6 @@
 use Rattle.std.proofs.Common.{ap}
 use Rattle.domain_dnssec.specs.Chain.{links_of}
-use Rattle.uses.proofs.answer.answer.Goals as goal
+use Rattle.uses.proofs.asked.answer.Goals as goal
 
 -- the list that is borrowed is the list
 pub returns : goal.returns
