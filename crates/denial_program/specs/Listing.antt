@@ -1,5 +1,5 @@
 -- What the lines of a text give, and what is read of one.
-use Rattle.std.specs.{Prelude.{◌≡◌, ◌⊎◌, ℕ, ◌+◌, Bool, nat_le, List, [], ◌∷◌, ◌++◌, All, length, None, Option, Some, IfSome}, List.AllPass, Str.Lines.lines}
+use Rattle.std.specs.{Prelude.{◌≡◌, ◌⊎◌, ℕ, ◌+◌, Bool, nat_le, List, [], ◌∷◌, None, Option, Some, IfSome}, List.AllPass, Str.Lines.lines}
 use Rattle.domain_octets.specs.{Text.{tilde, words_of}, Octets.Octets}
 use Rattle.domain_names.specs.Name.{Tokens, Name}
 use Rattle.domain_borrowed.specs.Data.{RawRecord}

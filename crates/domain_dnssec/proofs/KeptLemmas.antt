@@ -1,14 +1,13 @@
 -- What a sorted set keeps of the records that were given: which names own records, and of which types.
-use Rattle.std.proofs.Common.{arith, ◌≡◌, ◌↔◌, ℕ, Bool, true, not, ◌&&◌, ◌||◌, List, [], ◌∷◌, Option, Some, inl, nat_eq, refl, sym, ap, ◌∙◌, subst}
+use Rattle.std.proofs.Common.{arith, ◌≡◌, ◌↔◌, ℕ, Bool, true, not, ◌&&◌, ◌||◌, List, [], ◌∷◌, Some, inl, nat_eq, refl, sym, ap, ◌∙◌, subst}
 use Rattle.std.{proofs.lemmas.{Grind.common_steps, List.Folds.{Any-from_list_any, list_any-from_Any}}, specs.{Prelude.{filter, Contains}, List.list_any}}
 use Rattle.std.specs.{FinMap.nat_cmp-IsAntisymmetric, Ordering.{is_eq, ordering_then, nat_cmp}, declared.cmp.Ordering.{Ordering, TheVariants.Equal}}
 use Rattle.domain_names.specs.{Laws.same_name_ties, Name.{canonical_cmp, is_at_or_below, lowered, same_name, Name}}
 use Rattle.domain_record.specs.{Record.record_cmp, declared.record.Record.Record}
 use Rattle.domain_records.specs.Order.{IsOneClass}
-use Rattle.domain_zone.specs.Zone.{is_soa, numbers_of, of_only, soa_of, as_zone_record, ZoneRecord, clashes, has_clash, has_type, records_of}
-use Rattle.domain_zone.{specs.{Zone.{is_occluded, is_unoccluded, owns}, declared.soa.ApexSoa.ApexSoa}, proofs.NameLemmas.{one_lowered, lowered_below}}
-use Rattle.domain_zone.proofs.{NameLemmas.{same_lowered, either_way}, WalkLemmas.{any_filter, any_two, any_map}, PairLemmas.{In, in_filter, in_filtered}}
-use Rattle.domain_zone.proofs.PairLemmas.{in_map, from_map}
+use Rattle.domain_zone.specs.Zone.{is_soa, numbers_of, of_only, soa_of, as_zone_record, ZoneRecord, clashes, has_clash, has_type, records_of, is_occluded}
+use Rattle.domain_zone.{specs.{Zone.{is_unoccluded, owns}, declared.soa.ApexSoa.ApexSoa}, proofs.NameLemmas.{one_lowered, lowered_below, same_lowered}}
+use Rattle.domain_zone.proofs.{NameLemmas.either_way, WalkLemmas.{any_filter, any_two, any_map}, PairLemmas.{In, in_filter, in_filtered, in_map, from_map}}
 use Rattle.domain_base.specs.Types.{ns, dname}
 use Rattle.domain_dnssec.{specs.AnyOrder.{Sorts, View, zone_seen}, proofs.AmongLemmas.{contains_in, in_contains, pair_of_two, all_pairs}}
 
@@ -100,15 +99,12 @@ module _ {N D : Type 0} (v : View N D) where
         contains_in given r (subst (Contains given) c.2 (s.set.among c.0 r c.1))
 
     zone_record_among : (z : ZoneRecord) → In z zone → In z whole
-    zone_record_among z i =
-        let m = from_map see sorted z i in
-        subst (λ y. In y whole) m.2 (in_map see given m.0 (record_among m.0 m.1))
+    zone_record_among z i = grind (arith, common_steps, (from_map see sorted z i), (in_map see given), record_among)
 
     pub clash_among : (n : Name) → has_clash (records_of zone n) ≡ true → has_clash (records_of whole n) ≡ true
     clash_among n h =
         any_two clashes (records_of zone n) (records_of whole n)
-        (λ z i. let f = in_filter (λ r. same_name r.owner n) zone z i in in_filtered
-        (λ r. same_name r.owner n) whole z (zone_record_among z f.0) f.1) h
+        (λ z i. grind (arith, common_steps, (in_filter _ zone z i), zone_record_among, (in_filtered (λ r. same_name r.owner n) whole z))) h
 
     pub soa_among : (a : Name) (numbers : ApexSoa) → soa_of zone a ≡ Some numbers
         → (r : ZoneRecord) × Contains whole r × (is_soa a r ≡ true) × (numbers_of r r.minimum ≡ Some numbers)

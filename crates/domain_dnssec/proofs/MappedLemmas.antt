@@ -37,10 +37,7 @@ module _ {X Y : Type 0} (f : X → Y) (R : Y → Y → Ordering) (total : IsTota
   sorted_back : (xs : List X) → IsStrictlySortedBy R (map f xs) → IsStrictlySortedBy by_map xs
   unfolding IsStrictlySortedBy
   sorted_back [] s = tt
-  sorted_back (x ∷ xs) s = (
-    all_from_in (λ z. by_map x z ≡ Less) xs (λ z i. all_in (λ w. R (f x) w ≡ Less) (map f xs) (f z) s.0 (in_map f xs z i)),
-    sorted_back xs s.1,
-  )
+  sorted_back (x ∷ xs) s = (all_from_in _ xs (λ z i. all_in (λ w. R (f x) w ≡ Less) (map f xs) (f z) s.0 (in_map f xs z i)), sorted_back xs s.1)
 
   nothing : (o : Option X) → None ≡ option_map f o → None ≡ o
   nothing None e = refl
@@ -55,11 +52,7 @@ module _ {X Y : Type 0} (f : X → Y) (R : Y → Y → Ordering) (total : IsTota
   one_more : (xs : List X) (y : Y) (ys : List Y) → Picked xs ys → (o : Option X) → pick xs y ≡ o → option_map f o ≡ Some y → Picked xs (y ∷ ys)
   one_more xs y ys rest None e same = absurd (cc)
   one_more xs y ys rest (Some x) e same =
-      let is : f x ≡ y = cc in record {
-        new = x ∷ rest.new;
-        are = λ i. is i ∷ rest.are i;
-        first = λ z i. elim i [ inl k ↦ subst (λ w. pick xs (f w) ≡ Some w) k (ap (pick xs) is ∙ e) | inr j ↦ rest.first z j ];
-      }
+      let is : f x ≡ y = cc in record { new = x ∷ rest.new; are = λ i. is i ∷ rest.are i; first = λ z i. grind (arith, common_steps, rest.first) }
 
   picked : (xs : List X) (ys : List Y) → ((y : Y) → In y ys → option_map f (pick xs y) ≡ Some y) → Picked xs ys
   picked xs [] h = record { new = []; are = refl; first = λ x i. absurd i }
@@ -76,15 +69,9 @@ module _ {X Y : Type 0} (f : X → Y) (R : Y → Y → Ordering) (total : IsTota
     among x i = (find_some (λ z. is_eq (R (f z) (f x))) xs x (all_picked.first x i)).0
 
     earliest : (x : X) (o : Option X) → pick new (f x) ≡ o → o ≡ pick xs (f x)
-    earliest x (Some z) e =
-        let found = find_some (λ w. is_eq (R (f w) (f x))) new z e in
-        let tied : R (f z) (f x) ≡ Equal = (Equal-is (R (f z) (f x))).0 found.1 in
-        sym (all_picked.first z found.0) ∙ pick_tied xs (f z) (f x) tied
+    earliest x (Some z) e = grind (arith, common_steps, (find_some _ new z e), Equal-is, all_picked.first, (pick_tied xs (f z) (f x)))
     earliest x None e =
-        let same : option_map f (pick new (f x)) ≡ option_map f (pick xs (f x)) =
-        sym (first_map new (f x)) ∙ ap (first_equal R (f x)) all_picked.are ∙ u.earliest refl (f x) ∙ first_map xs (f x) in
-        let none : option_map f None ≡ option_map f (pick xs (f x)) = sym (ap (option_map f) e) ∙ same in
-        nothing (pick xs (f x)) none
+        nothing (pick xs (f x)) (grind (arith, common_steps, (first_map new (f x)), all_picked.are, (u.earliest refl (f x)), (first_map xs (f x))))
 
     held : (x : X) → In x xs → Any (λ z. by_map z x ≡ Equal) new
     held x i =

@@ -4,7 +4,7 @@ use Rattle.std.{proofs.lemmas.List.Elements.{All-weaker, recursion_from_All}, sp
 use Rattle.domain_octets.specs.Octets.{Octets}
 use Rattle.domain_names.specs.Name.{Name}
 use Rattle.domain_record.specs.{Record.{record_cmp, record_cmp_total}, declared.record.Record.Record}
-use Rattle.domain_rdata.specs.{Zone.{data_cmp, minimum_of, rtype_of}, declared.zone_record_data.ZoneRecordData.{ZoneRecordData, TheVariants.{Soa, Unknown}}}
+use Rattle.domain_rdata.specs.{Zone.{minimum_of, rtype_of}, declared.zone_record_data.ZoneRecordData.{ZoneRecordData, TheVariants.{Soa, Unknown}}}
 use Rattle.domain_records.specs.{Order.IsOneClass, declared.error.SigningError.{SigningError, TheVariants.OutOfMemory as NoRoom}}
 use Rattle.domain_zone.specs.Zone.{zone_of, ZoneRecord}
 use Rattle.domain_borrowed.specs.Data.{RawRecord, zone_of_raw, data_cmp as raw_cmp, data_cmp_total as raw_cmp_total, minimum_of as raw_minimum}
@@ -27,13 +27,7 @@ module _ {O N : Type 0} (octets : O → Octets) (labels : N → Name) where
   zone_same : (rs : List (Record N (ZoneRecordData O N))) → AllByRecursion (λ r. TellsMinimum r.«data») rs
       → zone_of_raw (map see rs) ≡ zone_of labels rtype_of minimum_of rs
   zone_same [] tell = refl
-  zone_same (r ∷ rs) tell = λ i. record {
-    owner = labels r.owner;
-    class = r.class;
-    ttl = r.ttl;
-    rtype = rtype_of r.«data»;
-    minimum = minimum_same r.«data» tell.0 i;
-  } ∷ zone_same rs tell.1 i
+  zone_same (r ∷ rs) tell = grind (arith, common_steps, (minimum_same r.«data»), (zone_same rs))
 
   all_seen : (class : ℕ) (rs : List (Record N (ZoneRecordData O N)))
       → AllByRecursion (λ s. class ≡ s.class) (map see rs) ≡ AllByRecursion (λ s. class ≡ s.class) rs

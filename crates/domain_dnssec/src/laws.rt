@@ -45,7 +45,7 @@ pub fn sorting_keeps_owners_and_types<N, D>()
 /// SOA at an apex is a record of that list; and where it has unequal TTLs at a name, so has the
 /// list. The converse of the last two doesn't hold, since records that differ in TTL alone are
 /// equal, and one of them stays.
-#[tactic(auto, using(crate::proofs::KeptLemmas::classes_kept, crate::proofs::KeptLemmas::soa_among, crate::proofs::KeptLemmas::clash_among))]
+#[tactic(auto, using(crate::proofs::KeptLemmas::clash_among))]
 pub fn sorting_keeps_classes_and_records<N, D>()
     ensures classes { (v : View N D) (given sorted : List (Record N D)) → Sorts v given sorted
         → (IsOneClass sorted ↔ IsOneClass given) }
@@ -120,7 +120,6 @@ pub fn answers_tell_of_records<N: ToName, D: ZoneData + CanonicalOrd>()
 /// has them, have the chain that the records have whose data these are, and where they have none,
 /// these have none, for the same reason. So a chain that was made of octets is one of the data that
 /// were composed.
-#[tactic(auto, using(crate::proofs::RawLemmas::one_chain))]
 pub fn octets_have_the_chain_of_their_data<O: Octets, N: ToName>()
     ensures { (given : List (Record N (ZoneRecordData O N))) → TellMinima given
         → HaveOneChain O.octets N.labels (map (raw_record O.octets N.labels) given) given }
