@@ -30,13 +30,7 @@ pub record IsPast (IsSuch : RawRecord → Type 0) (octets left : List ℕ) (befo
 
 pub past_more : (IsSuch : RawRecord → Type 0) (octets left after : List ℕ) (before : List RawRecord) (r : RawRecord)
     → IsPast IsSuch octets left before → left ≡ record_octets r ++ after → IsSuch r → IsPast IsSuch octets after (before ++ r ∷ [])
-past_more IsSuch octets left after before r s begins is =
-    let joined : flat_map record_octets (before ++ r ∷ []) ++ after ≡ flat_map record_octets before ++ (record_octets r ++ after) =
-    grind (arith, common_steps) in
-    record {
-      are = s.are ∙ ap (λ o. flat_map record_octets before ++ o) begins ∙ sym joined;
-      whole = all_both IsSuch before (r ∷ []) s.whole (is, tt);
-    }
+past_more IsSuch octets left after before r s begins is = grind (arith, common_steps, (all_both IsSuch before (r ∷ [])))
 
 -- all records have those before in front, and are what is left behind them
 pub record HasRest (left : List ℕ) (before all : List RawRecord) : Type 0 where
@@ -104,7 +98,7 @@ module _ {K : Type 0} (is_kept : RawRecord → Bool) (raw : K → RawRecord) (Is
   passed octets left after kept r s begins fits off = record {
     before = s.before ++ r ∷ [];
     past = past_more IsRecord octets left after s.before r s.past begins fits;
-    those = filter-append is_kept _ _ ∙ (λ i. filter is_kept s.before ++ cond (off i) (r ∷ []) []) ∙ append-nil _ ∙ s.those;
+    those = grind (arith, common_steps, filter-append);
     fit = s.fit;
   }
 
@@ -129,16 +123,14 @@ module _ {K : Type 0} (is_kept : RawRecord → Bool) (raw : K → RawRecord) (Is
     pub refused_data : (after : List ℕ) (q : RawRecord) → left ≡ record_octets q ++ after → IsRecord q → is_kept q ≡ true
         → ((k : K) → q ≡ raw k → IsKept k → ⊥) → ⊥
     refused_data after q begins fits on none =
-        let i = next_in left after s.before m.records q ahead begins fits in
-        let k = from_map raw others q (subst (In q) m.those (in_filtered is_kept m.records q i on)) in
-        none k.0 (sym k.2) (all_in IsKept others k.0 m.fit k.1)
+        grind (arith, common_steps, (next_in left after s.before m.records q ahead begins fits), (in_filtered is_kept m.records q), (from_map raw others q), (all_in IsKept others))
 
 -- ---- records of a class
 
 module _ {class : ℕ} {octets left : List ℕ} {given before : List RawRecord} (g : AreGiven class octets given) (p : IsPast IsRecord octets left before) where
   -- those that were read are the first of them
   pub rest_given : HasRest left before given
-  rest_given = rest_of before given left p.whole (weaker (IsOfClass class) IsRecord (λ r h. h.0) given g.whole) (sym p.are ∙ g.are)
+  rest_given = rest_of before given left p.whole (weaker _ _ (λ r h. h.0) given g.whole) (sym p.are ∙ g.are)
 
   pub before_of_class : AllByRecursion (IsOfClass class) before
   before_of_class = (all_front (IsOfClass class) before rest_given.rest (subst (AllByRecursion (IsOfClass class)) rest_given.all_are g.whole)).0

@@ -1,8 +1,7 @@
 -- Records of one owner and type that differ in TTL.
-use Rattle.std.proofs.{lemmas.Grind.common_steps, Common.{◌≡◌, ℕ, ◌-◌, true, false, ◌||◌, List, [], ◌∷◌, ◌++◌, map, length}}
-use Rattle.std.proofs.Common.{refl, sym, ap, ◌∙◌, subst, arith, nat_eq, append_assoc, append-nil, length-append, is_some, Some, None, Option}
-use Rattle.std.proofs.lemmas.Bool.{eqb-false, eqb-true, false≢true, not-false, not-true, or_left, or_right}
-use Rattle.std.{proofs.lemmas.List.Folds.list_any-append, specs.{Prelude.{Contains, filter}, List.{AllByRecursion, flat_map, list_any}}}
+use Rattle.std.proofs.{lemmas.Grind.common_steps, Common.{◌≡◌, ℕ, ◌-◌, true, false, List, [], ◌∷◌, ◌++◌, map, length, refl, sym, ap, ◌∙◌, subst, arith, nat_eq}}
+use Rattle.std.proofs.{Common.{append_assoc, append-nil, length-append, is_some, Some, None, Option}, lemmas.Bool.{eqb-false, eqb-true, false≢true, not-false}}
+use Rattle.std.{proofs.lemmas.{Bool.not-true, List.Folds.list_any-append}, specs.{Prelude.{Contains, filter}, List.{AllByRecursion, flat_map, list_any}}}
 use Rattle.domain_names.specs.Name.{Name}
 use Rattle.domain_dnssec.{specs.{AnyOrder.Sorts, RawRecords.raw_view}, proofs.AmongLemmas.{contains_in, in_contains}}
 use Rattle.domain_borrowed.specs.Data.{minimum_of, RawRecord, zone_of_raw, record_octets, IsRecord}
@@ -26,12 +25,7 @@ pub record IsWalked (L : List ZoneRecord) (a : Name) (all : List Name) (left : L
 
 module _ {L : List ZoneRecord} {a : Name} {all : List Name} where
   pub walked_start : {left : List OwnerRecords} → left ≡ map (owner_at L a) all → IsWalked L a all left
-  walked_start whole = record {
-    names = [];
-    known = subst (AllByRecursion _) (sym whole) (all_known L a all);
-    are = sym (ap (map name_of) whole ∙ names_back L a all);
-    even = refl;
-  }
+  walked_start whole = grind (arith, common_steps, (all_known L a all), (names_back L a all))
 
   -- where an owner is next
   module _ {ahead left : List OwnerRecords} {o : OwnerRecords} (s : IsWalked L a all ahead) (next : ahead ≡ o ∷ left) where
@@ -43,12 +37,11 @@ module _ {L : List ZoneRecord} {a : Name} {all : List Name} where
 
     pub walked_even : has_clash o.records ≡ false → IsWalked L a all left
     walked_even even =
-        let none : has_clash (records_of L o.name) ≡ false = ap (λ p. has_clash p.records) (sym walked_known) ∙ even in
         record {
           names = s.names ++ o.name ∷ [];
-          known = (subst (AllByRecursion (λ o. o ≡ owner_at L a o.name)) next s.known).1;
-          are = s.are ∙ ap (λ os. s.names ++ map name_of os) next ∙ sym (append_assoc s.names (o.name ∷ []) (map name_of left));
-          even = list_any-append (λ n. has_clash (records_of L n)) s.names (o.name ∷ []) ∙ (λ i. s.even i || (none i || false));
+          known = grind (arith, common_steps);
+          are = grind (arith, common_steps, append_assoc);
+          even = grind (arith, common_steps, walked_known, list_any-append);
         }
 
     pub walked_first : IsFirstUneven L all o.name
@@ -122,8 +115,8 @@ module _ {octets left : List ℕ} {n : Name} {t : ℕ} {first : Option ℕ} (s :
     scanned_other off = record {
       before = s.before ++ q ∷ [];
       past = past_more IsRecord octets left after s.before q s.past begins fits;
-      same = all_both (HasFirst n t first) s.before (q ∷ []) s.same ((λ on. absurd (false≢true (sym off ∙ on))), tt);
-      some = λ is. list_any-append (is_in_set n t) s.before (q ∷ []) ∙ or_left (list_any (is_in_set n t) s.before) (is_in_set n t q || false) (s.some is);
+      same = grind (arith, common_steps, (all_both (HasFirst n t first) s.before (q ∷ [])));
+      some = grind (arith, common_steps, list_any-append, s.some);
     }
 
     pub scanned_same : is_in_set n t q ≡ true → is_other first q.ttl ≡ false → IsScanned octets n t after (Some q.ttl)
@@ -132,8 +125,7 @@ module _ {octets left : List ℕ} {n : Name} {t : ℕ} {first : Option ℕ} (s :
       past = past_more IsRecord octets left after s.before q s.past begins fits;
       same = all_both (HasFirst n t (Some q.ttl)) s.before (q ∷ [])
           (weaker (HasFirst n t first) (HasFirst n t (Some q.ttl)) (λ r h on. not_other first q.ttl r.ttl same (h on)) s.before s.same) ((λ _. refl), tt);
-      some = λ _. list_any-append (is_in_set n t) s.before (q ∷ [])
-          ∙ or_right (list_any (is_in_set n t) s.before) (is_in_set n t q || false) (or_left (is_in_set n t q) false on);
+      some = grind (arith, common_steps, list_any-append);
     }
 
     pub scanned_found : (class : ℕ) {given : List RawRecord} → AreGiven class octets given → (offset : ℕ) → offset ≡ length octets - length left

@@ -19,7 +19,7 @@ use Rattle.domain_borrowed.specs.Data.{RawRecord}
 -- ---- lines as text
 
 plain_is_low : (line : List ℕ) → IsPlain line → All (λ c. c ≤ 126) line
-plain_is_low line plain = All-weaker (λ c. is_plain c ≡ true) (λ c. c ≤ 126) (λ c low. grind (arith, nat_tests)) line plain
+plain_is_low line plain = All-weaker _ _ (λ c low. grind (arith, nat_tests)) line plain
 
 pub plain_is_text : (line : List ℕ) → IsPlain line → IsUtf8 line
 plain_is_text line plain = let low = plain_is_low line plain in grind (arith, common_steps, IsUtf8-from_ascii)
@@ -35,11 +35,7 @@ refused_behind owner ws behind e owned why = inr (in_body (λ o. o) (λ n. n) No
 pub is_bad : (line : List ℕ) (tokens : Tokens) (skipped : Bool) (e : LineError) → tokens ≡ words_of line
     → IsTrue skipped ↔ IsSkipped line → skipped ≡ false → IsOfLine None e → Refuses tokens e → IsBad line
 is_bad line tokens skipped e same test off own (inl memory) = absurd (subst (IsOfLine None) memory own)
-is_bad line tokens skipped e same test off own (inr why) = record {
-  seen = λ s. absurd (let on = test.1 s in cc);
-  none = λ r h. none_in (λ o. o) (λ n. n) None tokens h.spelled.spelled e why own
-      (subst (λ ws. EntryText (λ o. o) (λ n. n) ws h.spelled.spelled) (sym same) h.spelled.are);
-}
+is_bad line tokens skipped e same test off own (inr why) = grind (arith, common_steps, (none_in (λ o. o) (λ n. n) None tokens))
 
 -- ---- A line that was found in what the reader holds, and one that the reader found.
 
@@ -55,12 +51,9 @@ pub line_taken : (known now : Option (List ℕ)) (held : List ℕ) (place : ℕ)
 line_taken known now held place within before here taken =
     let part = take (place + 1) held in
     let long : length part ≡ place + 1 = length-take-le _ held (omega arith) in
-    let end : length part - 1 ≡ place = omega (arith, long) in
-    let last : get_or part (length part - 1) 0 ≡ 10 = ap (λ n. get_or part n 0) end ∙ get_or-take _ held place 0 (omega arith) ∙ here in
+    let last : get_or part (length part - 1) 0 ≡ 10 = grind (arith, common_steps, (get_or-take (place + 1) held)) in
     Consumes_through 10 known known now [] part (Consumes-nil known) (All-nil _) taken (All-from_get_or (λ x. x ≢ 10) _ 0 (λ k lt.
-    let low : k < length part - 1 = omega (arith, length-take-le (length part - 1) part (omega arith)) in
-    subst (λ x. x ≢ 10) (sym (get_or-take _ part k 0 low ∙ get_or-take _ held k 0 (omega (arith, long)))) (before k (omega (arith, long)))))
-    (λ some. last) (λ none. absurd (omega (arith, long)))
+    grind (arith, common_steps, get_or-take, length-take-le, (before k)))) (λ some. last) (λ none. absurd (omega (arith, long)))
 
 -- ---- The first line of some bytes, by what is read up to the first line feed.
 
@@ -103,16 +96,14 @@ pub line_once : (bs : List ℕ) → 0 < length bs
     → (get_or (take_through 10 bs) (length (take_through 10 bs) - 1) 0 ≢ 10 → left ≡ take_through 10 bs) → left ≡ out)
 line_once bs some =
     elim (first_of bs) [
-      | inl h ↦
-          let one : lines bs ≡ bs ∷ [] = ap lines_of_parts h.only ∙ lines_of_parts-only bs some in (
-            bs,
-            one ∙ ap (λ r. bs ∷ lines r) (sym h.left),
-            λ left ended last. last (subst (λ t. get_or t (length t - 1) 0 ≢ 10) (sym h.taken) (h.none (length bs - 1))) ∙ h.taken,
-          )
+      | inl h ↦ (
+        bs,
+        grind (arith, common_steps, h.only, h.left, lines_of_parts-only),
+        λ left ended last. grind (arith, common_steps, h.taken, (h.none (length bs - 1))),
+      )
       | inr h ↦ (
         strip_carriage_return h.front,
-        ap lines_of_parts h.split
-            ∙ lines_of_parts-cons h.front _ (omega (arith, length-slice_split (λ b. eqb b 10) (drop_through 10 bs))),
+        grind (arith, common_steps, h.split, lines_of_parts-cons, (length-slice_split (λ b. eqb b 10) (drop_through 10 bs))),
         λ left ended last. ended h.front h.taken,
       )
     ]
@@ -124,12 +115,10 @@ pub takes_line : (is_such : List ℕ → Type 0) (old new : Option (List ℕ)) (
     → (get_or view (length view - 1) 0 ≢ 10 → out ≡ view) → is_such out → TakesLine old new is_such
 takes_line is_such None new was buf view out drops empty filled some same ended last so = record { taken = tt }
 takes_line is_such (Some all) new was buf view out drops empty filled some same ended last so =
-    let taken : buf ≡ take_through 10 all = filled ∙ ap (λ (w : List ℕ). w ++ take_through 10 all) empty in
-    let seen : view ≡ take_through 10 all = same ∙ taken in
-    let once = line_once all (take_through_nonempty 10 all (subst (λ (t : List ℕ). 0 < length t) taken some)) in
-    let kept : out ≡ once.0 =
-    once.2 out (λ front e. ended front (seen ∙ e)) (λ p. last (subst (λ (t : List ℕ). get_or t (length t - 1) 0 ≢ 10) (sym seen) p) ∙ seen) in
-    record { taken = (out, drop_through 10 all, drops, once.1 ∙ ap (λ l. l ∷ lines (drop_through 10 all)) (sym kept), so) }
+    let taken : buf ≡ take_through 10 all = grind (arith, common_steps) in
+    let once = line_once all (grind (arith, common_steps, (take_through_nonempty 10 all))) in
+    let kept : out ≡ once.0 = grind (arith, common_steps, once.2) in
+    record { taken = (out, drop_through 10 all, drops, grind (arith, common_steps), so) }
 
 -- ---- How far a reader has come, where it tells its octets.
 
@@ -159,29 +148,21 @@ pub record Follows (known now : Option (List ℕ)) (records : List RawRecord) (n
 module _ (known old new : Option (List ℕ)) (records : List RawRecord) (number : ℕ) (h : Follows known old records number) where
   pub follows_end : TakesNone old new → IfSome known (λ all. Give (lines all) records)
   follows_end t =
-      known_so _ (λ all. Give (lines all) records) known (λ all c. subst (Give (lines all)) (append-nil records) (c.gives [] refl))
+      known_so _ (λ all. Give (lines all) records) known (λ all c. grind (arith, common_steps, (c.gives []), (append-nil records)))
       (reading_end (λ all rest. Continues all rest records number) known old new h.reading t)
 
   module _ (said : Line) (t : TakesLine old new (λ line. Says line said)) where
     pub follows_skip : said ≡ Nothing → Follows known new records (number + 1)
     follows_skip is = record {
       reading = reading_step (λ all rest. Continues all rest records number) known old new (λ all rest. Continues all rest records (number + 1)) _
-          (λ all rest line s c. record {
-            gives = λ more g. c.gives more (inl (s, g));
-            bad = λ k n p b. c.bad (k + 1) n (omega arith) (inr (inl s, (k, refl, b)));
-          })
-          h.reading (rw is at t);
+          (λ all rest line s c. grind (arith, common_steps, c.gives, c.bad)) h.reading (rw is at t);
     }
 
     pub follows_record : (r : RawRecord) → said ≡ Record r → Follows known new (records ++ r ∷ []) (number + 1)
     follows_record r is = record {
       reading = reading_step (λ all rest. Continues all rest records number) known old new
           (λ all rest. Continues all rest (records ++ r ∷ []) (number + 1)) _
-          (λ all rest line s c. record {
-            gives = λ more g. subst (Give all) (sym (append_assoc records (r ∷ []) more)) (c.gives (r ∷ more) (inr (r, more, refl, s, g)));
-            bad = λ k n p b. c.bad (k + 1) n (omega arith) (inr (inr (r, s), (k, refl, b)));
-          })
-          h.reading (rw is at t);
+          (λ all rest line s c. grind (arith, common_steps, c.gives, c.bad, (append_assoc records (r ∷ [])))) h.reading (rw is at t);
     }
 
     -- the line that was taken is bad

@@ -52,32 +52,20 @@ abbrev AreCounted : Octets → Type 0
 AreCounted octets = (length octets < 2 ^ 8) × AreOctets octets
 
 spelled_salt : (text salt : Octets) → SaltText text salt → AreCounted salt
-spelled_salt text salt (dash t e) = (omega arith, All-from_recursion (λ o. o < 256) [] tt)
-spelled_salt text salt (digits t octets other decoded counted) =
-    (omega arith, All-from_get_or (λ o. o < 256) salt 0 (λ i below. (decode_of-ok text salt decoded).3 i))
+spelled_salt text salt (dash t e) = (omega arith, All-from_recursion _ [] tt)
+spelled_salt text salt (digits t octets other decoded counted) = (omega arith, All-from_get_or _ salt 0 (λ i below. (decode_of-ok text salt decoded).3 i))
 
 spelled_hash : (text hash : Octets) → OwnerHashText text hash → AreCounted hash
 spelled_hash text hash t = (
   omega (arith, t.counted),
-  All-from_recursion (λ o. o < 256) hash (subst (AllByRecursion (λ o. o < 256)) (sym t.decoded.value)
-      (groups_small 1 0 (base32_digits text) (inl refl) (omega arith) (digits_small text))),
+  All-from_recursion _ hash (grind (arith, common_steps, t.decoded, (groups_small 1 0 (base32_digits text) (inl refl)), (digits_small text))),
 )
 
 number_fits : (bits : ℕ) (text : Octets) (n : ℕ) → IsNumber bits text n → n < 2 ^ bits
 number_fits bits text n t = subst (λ m. m < 2 ^ bits) (sym t.value) t.fits
 
 spelled_params : (old new : Tokens) (v : Values nsec3param) → Nsec3paramText old v new → Fits nsec3param v
-spelled_params old new v t =
-    let numbers = t.1 in (
-      (
-        number_fits 8 numbers.1.token v.0.0 numbers.1.holds,
-        (
-          number_fits 8 numbers.2.1.token v.0.1.0 numbers.2.1.holds,
-          number_fits 16 numbers.2.2.token v.0.1.1 numbers.2.2.holds,
-        ),
-      ),
-      spelled_salt t.2.token v.1 t.2.holds,
-    )
+spelled_params old new v t = grind (arith, common_steps, (number_fits 8), (number_fits 16), spelled_salt)
 
 -- ---- data that are spelled in the form of their type, or as octets
 
@@ -92,16 +80,9 @@ AreSound _ = Unit {0}
 are_sound : (rtype : ℕ) (old : Tokens) (d : SpelledData) → IsSpelled rtype old d [] → AreSound d
 are_sound rtype old (Soa d) (own other text) = number_fits 32 text.1.2.2.2.token d.minimum text.1.2.2.2.holds
 are_sound rtype old (Soa d) (generic wire text are end) = are.1.fits.1.1.1
-are_sound rtype old (Nsec d) (own other text) = (
-  name_is_valid text.1.1.token d.next_name text.1.1.holds,
-  subst IsBitmap (sym text.1.2.built) (IsBitmap-bitmap_octets (is_among text.1.2.types)),
-)
+are_sound rtype old (Nsec d) (own other text) = grind (arith, common_steps, name_is_valid, IsBitmap-bitmap_octets)
 are_sound rtype old (Nsec d) (generic wire text are end) = are.1.fits
-are_sound rtype old (Nsec3 d) (own other text) =
-    let hash = text.1.1 in (
-      (spelled_params old hash.0 (nsec3_values d).0.0 hash.1, spelled_hash hash.2.token d.next_owner hash.2.holds),
-      subst IsBitmap (sym text.1.2.built) (IsBitmap-bitmap_octets (is_among text.1.2.types)),
-    )
+are_sound rtype old (Nsec3 d) (own other text) = grind (arith, common_steps, spelled_params, spelled_hash, IsBitmap-bitmap_octets)
 are_sound rtype old (Nsec3 d) (generic wire text are end) = are.1.fits
 are_sound rtype old (Nsec3param d) (own other text) = spelled_params old [] (nsec3param_values d) text.1
 are_sound rtype old (Nsec3param d) (generic wire text are end) = are.1.fits
@@ -126,12 +107,9 @@ given_spelled [] given none = ([], refl, tt, sym none)
 given_spelled (line ∷ more) given (inl (skipped, g)) = let s = given_spelled more given g in (s.0, inl (skipped, s.1), s.2, s.3)
 given_spelled (line ∷ more) given (inr (r, others, is, said, g)) =
     let s = given_spelled more others g in
-    let t = said.spelled in (
-      t.spelled ∷ s.0,
-      inr (t.spelled, s.0, refl, record { seen = said.seen; plain = said.plain; spelled = t.are }, s.1),
-      (minimum_told t.spelled.«data» (are_sound _ _ t.spelled.«data» t.are.body.spelled), s.2),
-      (λ i. t.raw i ∷ s.3 i) ∙ sym is,
-    )
+    let t = said.spelled in
+    let sound = minimum_told t.spelled.«data» (are_sound _ _ t.spelled.«data» t.are.body.spelled) in
+    (t.spelled ∷ s.0, grind (arith, common_steps), (sound, s.2), grind (arith, common_steps))
 
 pub lines_have_one_chain : (lines : List Octets) (given : List RawRecord) → Give lines given
     → (spelled : List SpelledRecord) × GiveData lines spelled × HaveOneChain (λ o. o) (λ n. n) given spelled

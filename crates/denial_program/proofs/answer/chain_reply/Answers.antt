@@ -14,20 +14,14 @@ usual : (g : Over) (c : After-new_from_owned-records g) (P : List ZoneRecord →
 usual g c P h = grind (arith, common_steps)
 
 pub returns-in_default-clause-ok : goal.returns-in_default-clause-ok
-returns-in_default-clause-ok g c =
-    subst (λ p. IfOk c.nsecs_of.result (λ answer. (given : List RawRecord) → Sorts given c.args.sorted.now
-    → IsAnswer (g.H.Nsec3Hasher.answer c.args.hasher.now) (Chain c.args.apex.now p) given answer)) (sym c.in_default.is) c.nsecs_of.ensures.ok
+returns-in_default-clause-ok g c = rw c.in_default.is c.nsecs_of.ensures.ok
 
 pub returns-in_default-clause-err : goal.returns-in_default-clause-err
-returns-in_default-clause-err g c =
-    subst (λ p. IfErr c.nsecs_of.result (λ fault. (given : List RawRecord) → Sorts given c.args.sorted.now
-    → HasNoAnswer (g.H.Nsec3Hasher.answer c.args.hasher.now) (Chain c.args.apex.now p) given fault)) (sym c.in_default.is) c.nsecs_of.ensures.err
+returns-in_default-clause-err g c = rw c.in_default.is c.nsecs_of.ensures.err
 
 pub returns-in_default-clause-memory : goal.returns-in_default-clause-memory
 returns-in_default-clause-memory g c =
-    let HasNone : Option Params → Type 0 = λ p. (given : List RawRecord) → Sorts given c.args.sorted.now
-    → HasNoAnswer (g.H.Nsec3Hasher.answer c.args.hasher.now) (Chain c.args.apex.now p) given OutOfMemory in
-    subst (λ p. OnOk c.nsecs_of.result (HasNone p)) (sym c.in_default.is) (on_ok {Q = HasNone None} (λ faultless given sorts. record {
+    rw c.in_default.is (on_ok (λ faultless given sorts. record {
       sorted = c.args.sorted.now;
       sorts = sorts;
       one_class = c.requires.one_class;
@@ -39,14 +33,11 @@ returns-in-Ok-clause-ok g c = λ given sorts.
     let made = c.in-Ok.made in
     let answers = g.H.Nsec3Hasher.answer c.args.hasher.now in
     let at = (goal.at.returns-in-Ok-clause-ok g c).After-new_from_owned-records in
-    subst (λ p. IsAnswer answers (Chain c.args.apex.now p) given (Nsec3s made)) (sym c.in-Some.is)
-    (nsec3s_made given c.args.sorted.now c.args.apex.now sorts c.requires.one_class answers c.in-Some.parameters made
+    rw c.in-Some.is (nsec3s_made given c.args.sorted.now c.args.apex.now sorts c.requires.one_class answers c.in-Some.parameters made
     (usual g at (λ zone config. IsHashedChain zone c.args.apex.now config made.links) c.in-Ok.ensures.chain)
-    (subst (λ mode. IsChainParam (zone_of_raw c.args.sorted.now) c.args.apex.now (usual_nsec3_config answers c.in-Some.parameters) mode made.param)
-    c.new-config.ensures.mode
+    (rw c.new-config.ensures.mode at
     (usual g at (λ zone config. IsChainParam zone c.args.apex.now config c.new-config.result.nsec3param_ttl_mode made.param) c.in-Ok.ensures.param)))
 
 pub returns-in-Ok-clause-memory : goal.returns-in-Ok-clause-memory
 returns-in-Ok-clause-memory g c = λ given sorts.
-    subst (λ p. HasNoAnswer (g.H.Nsec3Hasher.answer c.args.hasher.now) (Chain c.args.apex.now p) given OutOfMemory) (sym c.in-Some.is)
-    (record { sorted = c.args.sorted.now; sorts = sorts; one_class = c.requires.one_class; zone = grind (arith, common_steps) })
+    rw c.in-Some.is (record { sorted = c.args.sorted.now; sorts = sorts; one_class = c.requires.one_class; zone = grind (arith, common_steps) })

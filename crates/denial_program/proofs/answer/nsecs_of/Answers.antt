@@ -11,23 +11,14 @@ usual : (c : After-new_from_owned) (P : List ZoneRecord → GenerateNsecConfig �
 usual c P h = grind (arith, common_steps)
 
 pub returns-in-Ok-clause-ok : goal.returns-in-Ok-clause-ok
-returns-in-Ok-clause-ok c = λ given sorts.
-    nsecs_made given c.args.sorted.now c.args.apex.now sorts c.requires.one_class c.in-Ok.nsecs
-    (usual (goal.at.returns-in-Ok-clause-ok c).After-new_from_owned (λ zone config. IsChain zone c.args.apex.now config c.in-Ok.nsecs)
-    c.in-Ok.ensures.chain)
+returns-in-Ok-clause-ok c = λ given sorts. grind (arith, common_steps, (nsecs_made given c.args.sorted.now c.args.apex.now sorts c.requires.one_class))
 
 pub returns-in-Ok-clause-faultless : goal.returns-in-Ok-clause-faultless
 returns-in-Ok-clause-faultless c = grind (arith, common_steps)
 
 pub returns-in-Err-clause-err : goal.returns-in-Err-clause-err
 returns-in-Err-clause-err c = λ given sorts.
-    subst (HasNoNsecs given c.args.apex.now) (sym c.from.ensures)
-    (no_nsecs given c.args.sorted.now c.args.apex.now sorts c.requires.one_class c.in-Err.error
-    (usual (goal.at.returns-in-Err-clause-err c).After-new_from_owned (λ zone config. IsFirstFault zone c.args.apex.now config c.in-Err.error)
-    c.in-Err.ensures.fault))
+    grind (arith, common_steps, (no_nsecs given c.args.sorted.now c.args.apex.now sorts c.requires.one_class c.in-Err.error))
 
 pub returns-in-Err-clause-memory : goal.returns-in-Err-clause-memory
-returns-in-Err-clause-memory c = λ is.
-    subst (IsFirstFault (zone_of_raw c.args.sorted.now) c.args.apex.now usual_config) (memory_told c.in-Err.error (let from = c.from.ensures in cc))
-    (usual (goal.at.returns-in-Err-clause-memory c).After-new_from_owned (λ zone config. IsFirstFault zone c.args.apex.now config c.in-Err.error)
-    c.in-Err.ensures.fault)
+returns-in-Err-clause-memory c = λ is. grind (arith, common_steps, (memory_told c.in-Err.error))

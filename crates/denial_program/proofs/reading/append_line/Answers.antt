@@ -9,15 +9,11 @@ found : (g : Over) (c : After-consume g) →
     × DropsThrough (g.R.Read.remaining c.args.input.now) (g.R.Read.remaining c.consume.new.self) 10
 found g c =
     let held = c.in-Ok.held.now in
-    let place = c.in-Some.place in
     let rested = c.fill_buf.follows.lender-at-none in
     let filled = subst (FillKeeps _ (g.R.Read.remaining rested) (g.R.BufRead.consumable_len rested)) c.in-Ok.is c.fill_buf.follows.holds-at-none in
     let first = c.in-Some.ensures in
-    let within : place < length held = first.0.high in
-    let moved = Consumes_shown _ _ _ _ held _ (omega (arith, within)) c.in-Ok.ensures.front c.in-Ok.ensures.end filled.0
-    filled.1 c.consume.ensures.bytes in
-    line_taken _ _ held place within
-    (λ k lt is. first.0.before k (omega arith) lt (rw is refl)) (eqb-true _ _ first.1) moved.0
+    let moved = Consumes_shown _ _ _ _ held _ (omega (arith, first.0.high)) c.in-Ok.ensures.front c.in-Ok.ensures.end filled.0 filled.1 c.consume.ensures.bytes in
+    line_taken _ _ held c.in-Some.place first.0.high (λ k lt is. first.0.before k (omega arith) lt (rw is refl)) (eqb-true _ _ first.1) moved.0
 
 pub returns-clause-bytes : goal.returns-clause-bytes
 returns-clause-bytes g c = grind (arith, common_steps, (found g c))
