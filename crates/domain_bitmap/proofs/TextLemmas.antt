@@ -1,20 +1,21 @@
 -- Sets of types, salts and hashes as tokens: read back what was written, refused for one reason.
 use Rattle.std.proofs.Common.{◌≡◌, ◌≢◌, ℕ, ◌+◌, ◌*◌, ◌/◌, ◌<◌, false, List, [], ◌∷◌, length, refl, arith, Option, ◌≤◌, drop, sym, ap, ◌∙◌, codes, ◌-◌, Bool}
-use Rattle.std.{proofs.{Common.{◌++◌, zero, suc, map, eq-eqb, append_assoc}, lemmas.Grind.common_steps}, specs.Prelude.{◌||◌, ◌==◌, if◌then◌else◌}}
-use Rattle.std.specs.{Prelude.{IsNone, filter, ◌&&◌, ◌%◌, Ok, Err}, List.{range_with_len, AllByRecursion, All, flat_map}}
+use Rattle.std.{proofs.{Common.{true, ◌++◌, zero, suc, map, eq-eqb, append_assoc}, lemmas.Grind.common_steps}, specs.Prelude.{◌||◌, ◌==◌, if◌then◌else◌}}
+use Rattle.std.specs.{Prelude.{IsNone, filter, ◌&&◌, ◌%◌, ◌↔◌, Ok, Err, Result, IsErrOf}, List.{range_with_len, AllByRecursion, All, flat_map}}
 use Rattle.std.proofs.lemmas.{Bool.Decides.nat_tests, List.append-nil, Map.Views.any-filter_same}
-use Rattle.domain_base.{specs.{Numbers.{TypeText, IsNoType, type_text}, Scan.{RefusesToken, refused, TakesToken}}, proofs.TextLemmas.no_token}
-use Rattle.domain_base.proofs.TextLemmas.{one_named, type_back, type_word}
-use Rattle.domain_names.specs.Text.{ScanFault, no_memory, scan_fault_of, scan_error_of, illegal, IsOfTokens}
+use Rattle.domain_base.{specs.{Numbers.{TypeText, IsNoType, type_text}, Scan.{RefusesToken, refused, ended, TakesToken}}, proofs.TextLemmas.no_token}
+use Rattle.domain_base.{specs.Scan.{CodecFault, TokenHasNoRoom}, proofs.TextLemmas.{one_named, type_back, type_word}}
+use Rattle.domain_names.specs.{Text.{ScanFault, no_memory, scan_fault_of, scan_error_of, illegal, IsOfTokens}, declared.error.ScanError.ScanError}
 use Rattle.domain_octets.specs.{Octets.IsOver, declared.error.AppendError.{AppendError, TheVariants.{ShortBuf, OutOfMemory}}, Text.{words_of, words_after}}
 use Rattle.domain_octets.{specs.Text.IsWord, proofs.{WordLemmas.{one_word, next_word, last_space}, StdLemmas.and_true}}
 use Rattle.domain_bitmap.specs.Blocks.{holds, has_window, has_bit, Block, IsBlock, IsBitmap, IsShortest, blocks_of, block_types_from, types_of, types_below}
 use Rattle.domain_bitmap.specs.{Blocks.contains_type, Text.{TypeTexts, no_types, one_more, is_among, has_type_in, room_for, TypeFault, RefusesAfter, next}}
 use Rattle.domain_bitmap.specs.Text.{later, RefusesTypes, SaltText, dash, digits, salt_text, OwnerHashText, CountedFault, SaltTokenFault, BeginsWithDash}
 use Rattle.domain_bitmap.{specs.{Text.{after_dash, in_digits, spaced_types, types_text}, Bitmap.bitmap_octets}, proofs.BitLemmas.{filter_at, any_at}}
-use Rattle.domain_bitmap.proofs.BitmapLemmas.{bitmap_octets-same, built_from_shortest, types_of-bitmap_octets}
+use Rattle.domain_bitmap.{specs.Text.IsCutShort, proofs.BitmapLemmas.{bitmap_octets-same, built_from_shortest, types_of-bitmap_octets}}
 use Rattle.domain_codecs.{specs.{Codec.Decodes, declared.codec.Codec.TheVariants.{Base16, Base32Hex}}, proofs.CodecBackLemmas.{upper_back, decodes_once}}
 use Rattle.domain_codecs.{proofs.CodecLemmas.upper_hex_word, specs.declared.codec.Codec.Codec}
+use Rattle.domain_names.specs.declared.error.ScanError.TheVariants as scan_error
 use Rattle.hex.specs.{Hex.{decode_pairs}, declared.error.FromHexError.TheVariants.OddLength}
 
 -- ---- types read from tokens
@@ -74,7 +75,7 @@ scan_ends old now value scanned none = grind (arith, common_steps, no_types)
 
 pub scan_refused : (limit : Option ℕ) (old now rest : List (List ℕ)) (value : List ℕ) (fault : ScanFault) → Scanned old now value
     → now ≢ [] → RefusesToken IsNoType now rest fault → RefusesTypes limit old rest fault
-scan_refused limit old now rest value fault scanned some ended = grind (arith, common_steps, next)
+scan_refused limit old now rest value fault scanned some bad = grind (arith, common_steps, next)
 
 -- a type for which the builder has no room, or no memory
 pub scan_full : (limit : Option ℕ) (old now rest : List (List ℕ)) (value : List ℕ) (token : List ℕ) (t : ℕ) (error : AppendError)
@@ -86,6 +87,24 @@ scan_full limit old now rest value token t error scanned first spells small shor
 pub none_left : (tokens : List (List ℕ)) → (tokens ≢ [] → ⊥) → tokens ≡ []
 none_left [] not_some = refl
 none_left (token ∷ tokens) not_some = absurd (not_some (λ e. cc))
+
+-- ---- octets that an octet counts, read from tokens
+
+-- there is no length
+pub cut_at_length : (left : List ℕ) → length left < 1 → IsCutShort left
+cut_at_length left none octets after is = omega (arith, none, ap length is)
+
+-- a token that was read had room: it is refused where it stands for too many octets
+pub refused_too_long : {X : Type 0} (codec : Codec) (long : List ℕ) (limit : Option ℕ) (old new : List (List ℕ)) (octets : List ℕ) (x : X)
+    (r : Result X ScanError) → r ≡ Ok x → TakesToken (λ token. Decodes codec token octets) old new
+    → IsErrOf r scan_error.ShortBuf ↔ TokenHasNoRoom codec limit old → (length octets ≤ 255 → false ≡ true)
+    → RefusesToken (CountedFault codec long limit) old new (illegal long)
+refused_too_long codec long limit old new octets x r is took no_room counted = grind (arith, common_steps, refused, illegal)
+
+-- a token that the codec refused
+pub refused_by_codec : (codec : Codec) (long : List ℕ) (limit : Option ℕ) (old new : List (List ℕ)) (fault : ScanFault)
+    → RefusesToken (CodecFault codec limit) old new fault → RefusesToken (CountedFault codec long limit) old new fault
+refused_by_codec codec long limit old new fault bad = grind (arith, common_steps, ended, refused)
 
 -- ---- salts read from tokens
 
@@ -113,6 +132,8 @@ pub refused_digits : (limit : Option ℕ) (old new : List (List ℕ)) (token : L
     → RefusesToken (CountedFault Base16 (codes "illegal NSEC3 salt") limit) old new fault
     → RefusesToken (SaltTokenFault limit) old new fault
 refused_digits limit old new token fault first other bad = grind (arith, common_steps, refused, in_digits)
+
+pub ruleset salt_texts = (dash, digits)
 
 pub ruleset salt_steps = (no_token, took_dash, refused_digits)
 

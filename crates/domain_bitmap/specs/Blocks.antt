@@ -1,6 +1,6 @@
 -- Octets read as blocks of types, why they are none, and what a builder of them holds.
 use Rattle.std.specs.Prelude.{ℕ, ◌+◌, ◌-◌, ◌/◌, ◌%◌, ◌==◌, Bool, if◌then◌else◌, slice_index, ◌≡◌, ◌≢◌, zero, suc, ◌*◌, ◌<◌, ◌≤◌, false, List, [], ◌∷◌, ◌++◌}
-use Rattle.std.specs.{Prelude.{length, take, drop, filter, ◌⊎◌, codes, ◌&&◌, bytes_eq, map, slice_range}, Int.bit_at, List.{range_with_len, flat_map}}
+use Rattle.std.specs.{Prelude.{length, take, drop, filter, ◌⊎◌, codes, ◌&&◌, bytes_eq}, Int.bit_at, List.{range_with_len, flat_map}}
 use Rattle.std.specs.{List.{AllByRecursion, list_any}, Hash.{Alike, same_Alike}, Cmp.Lexicographic.bytes_decides}
 use Rattle.domain_octets.specs.Octets.{Octets}
 use Rattle.domain_base.specs.Types.{Rtypes}

@@ -88,7 +88,7 @@ impl<'a, E> CountedOctets<&'a [u8], E> {
 
     /// A length octet and so many octets. Refuses, with `ShortInput`, where octets are missing; the
     /// parser then stands where it stood. Takes no memory.
-    #[tactic(auto, using(crate::proofs::CountedLemmas::cut_at_length))]
+    #[tactic(auto, using(crate::proofs::TextLemmas::cut_at_length))]
     pub fn parse(parser: &mut Parser<'a>) -> Result<Self, ParseError>
         ensures ok { IfOk result (λ counted.
             Takes (length counted ∷ counted) parser.old parser.new) }

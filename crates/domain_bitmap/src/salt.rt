@@ -81,6 +81,7 @@ where
     /// # Errors
     ///
     /// First those of Base 16, then want of room or of memory, then a salt of over 255 octets.
+    #[tactic(auto, using(std::proofs::lemmas::Grind::common_steps, crate::proofs::TextLemmas::salt_texts))]
     pub fn from_str(alloc: Global, text: &str) -> Result<Self, Nsec3SaltFromStrError>
         ensures ok { IfOk result (SaltText text.now) }
         ensures err { IfErr result (SaltFault O.Builder.limit text.now) }

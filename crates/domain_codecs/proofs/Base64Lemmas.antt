@@ -103,12 +103,8 @@ joined_groups front back a b fine rest whole first second =
     (decode_of-encode_of standard _ refl (bytes-append a b (decoded_small front a fine first) (decoded_small back b rest second)))
 
 -- how many characters stand for octets
-encoded_length : (octets : List ℕ) → length (encode_of standard octets) ≡ (4 * length octets + 2) / 3 + (3 - length octets % 3) % 3
+pub encoded_length : (octets : List ℕ) → length (encode_of standard octets) ≡ (4 * length octets + 2) / 3 + (3 - length octets % 3) % 3
 encoded_length octets = grind (arith, common_steps, length-encode_symbols)
-
--- a text stands for whole groups: four characters for three octets, or for one or two at the end
-pub decoded_length : (text octets : List ℕ) → IsBytes text → DecodesTo text octets → length text ≡ (4 * length octets + 2) / 3 + (3 - length octets % 3) % 3
-decoded_length text octets bytes decoded = ap length (encoding text octets bytes decoded) ∙ encoded_length octets
 
 -- what 64 characters with others after them stand for: 48 octets by the first 64, and others
 pub record Pieces (piece after octets : List ℕ) : Type 0 where

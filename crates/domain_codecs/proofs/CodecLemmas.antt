@@ -1,10 +1,12 @@
 -- Texts in any base: how they are decoded, with room or without, and that they have no blanks.
 use Rattle.std.proofs.Common.{◌≡◌, ℕ, ◌+◌, ◌*◌, ◌/◌, ◌%◌, ◌<◌, ◌≤◌, List, [], ◌∷◌, ◌++◌, length, get_or, take, drop, refl, sym, ap, ◌∙◌, arith, lit<, ◌≢◌, inl}
-use Rattle.std.{proofs.{Common.{true, false, map, rules, ◌⊎◌}, lemmas.{List.{take_more, append-nil, drop_all}, Grind.common_steps}}, specs.Prelude.unwrap_or}
-use Rattle.std.specs.{Prelude.{replicate, not, zero, suc}, List.list_all}
-use Rattle.hex.specs.Hex.{encode_with, encode_lower, encode_upper, lower_digits, upper_digits}
-use Rattle.domain_codecs.specs.{Codec.{base32_value, base32_octets, base32_digits, IsBase32}, Base32.{base32_from, base32_upper, base32_lower}}
+use Rattle.std.proofs.{Common.{true, false, map, rules, ◌⊎◌}, lemmas.{List.{take_more, append-nil, drop_all, nil_from_length, length-map}, Grind.common_steps}}
+use Rattle.std.specs.{Prelude.{replicate, not, zero, suc, unwrap_or}, List.list_all}
+use Rattle.hex.{specs.Hex.{encode_with, encode_lower, encode_upper, lower_digits, upper_digits}, proofs.HexLemmas.length-encode_with}
+use Rattle.domain_codecs.specs.{Codec.{base32_value, base32_octets, base32_digits, IsBase32}, Base32.{base32_from, base32_upper, base32_lower, upper_digit}}
+use Rattle.domain_codecs.specs.Base32.{lower_digit}
 use Rattle.base64.specs.{GeneralPurpose.encode_of, Engines.standard, Rfc4648.encode_symbols}
+use Rattle.domain_codecs.proofs.{Base32Lemmas.many_digits, Base64Lemmas.encoded_length}
 use Rattle.domain_octets.{specs.Text.{HasNoBlank, IsWord, is_blank}, proofs.WordLemmas.no_blank-append}
 
 -- ---- texts that are decoded
@@ -79,55 +81,48 @@ unfolding encode_with
 hex_plain table [] plain = tt
 hex_plain table (octet ∷ octets) plain = (plain (octet / 16), (plain (octet % 16), hex_plain table octets plain))
 
-hex_some : (table octets : List ℕ) → octets ≢ [] → encode_with table octets ≢ []
-unfolding encode_with
-hex_some table [] some = absurd (some refl)
-hex_some table (octet ∷ octets) some = λ none. cc
+-- a text that has no blanks and is no shorter than some octets
+word : (text octets : List ℕ) → octets ≢ [] → length octets ≤ length text → HasNoBlank text → IsWord text
+word text octets some long plain = record { some = λ none. some (nil_from_length octets (omega (arith, ap length none, long))); unbroken = plain }
+
+hex_word : (table octets : List ℕ) → NoBlankIn table → octets ≢ [] → IsWord (encode_with table octets)
+hex_word table octets plain some = word _ octets some (omega (arith, length-encode_with table octets)) (hex_plain table octets plain)
 
 pub upper_hex_word : (octets : List ℕ) → octets ≢ [] → IsWord (encode_upper octets)
-upper_hex_word octets some = record { some = hex_some upper_digits octets some; unbroken = hex_plain upper_digits octets (table_plain upper_digits refl) }
+upper_hex_word octets = hex_word upper_digits octets (table_plain upper_digits refl)
 
 pub lower_hex_word : (octets : List ℕ) → octets ≢ [] → IsWord (encode_lower octets)
-lower_hex_word octets some = record { some = hex_some lower_digits octets some; unbroken = hex_plain lower_digits octets (table_plain lower_digits refl) }
+lower_hex_word octets = hex_word lower_digits octets (table_plain lower_digits refl)
 
 map_plain : (written : ℕ → ℕ) → ((n : ℕ) → is_blank (written n) ≡ false) → (digits : List ℕ) → HasNoBlank (map written digits)
 map_plain written plain [] = tt
 map_plain written plain (digit ∷ digits) = (plain digit, map_plain written plain digits)
 
-map_some : (written : ℕ → ℕ) (digits : List ℕ) → digits ≢ [] → map written digits ≢ []
-map_some written [] some = absurd (some refl)
-map_some written (digit ∷ digits) some = λ none. cc
-
-base32_some : (octets : List ℕ) → octets ≢ [] → base32_from 1 0 octets ≢ []
-unfolding base32_from
-base32_some [] some = absurd (some refl)
-base32_some (octet ∷ octets) some = λ none. cc
+base32_word : (written : ℕ → ℕ) (octets : List ℕ) → ((n : ℕ) → is_blank (written n) ≡ false) → octets ≢ []
+    → IsWord (map written (base32_from 1 0 octets))
+base32_word written octets plain some =
+    word _ octets some (omega (arith, many_digits octets, length-map (base32_from 1 0 octets) written)) (map_plain written plain (base32_from 1 0 octets))
 
 pub upper_base32_word : (octets : List ℕ) → octets ≢ [] → IsWord (base32_upper octets)
-upper_base32_word octets some = grind (arith, common_steps, map_some, base32_some, map_plain)
+upper_base32_word octets = base32_word upper_digit octets (λ n. grind (arith, common_steps))
 
 pub lower_base32_word : (octets : List ℕ) → octets ≢ [] → IsWord (base32_lower octets)
-lower_base32_word octets some = grind (arith, common_steps, map_some, base32_some, map_plain)
+lower_base32_word octets = base32_word lower_digit octets (λ n. grind (arith, common_steps))
 
 symbols_plain : (table octets : List ℕ) → NoBlankIn table → HasNoBlank (encode_symbols table octets)
 unfolding encode_symbols
 symbols_plain table (a ∷ b ∷ c ∷ octets) plain = grind (arith, common_steps, (symbols_plain table octets plain))
 symbols_plain table octets plain = grind (arith, common_steps)
 
-symbols_some : (table octets rest : List ℕ) → octets ≢ [] → encode_symbols table octets ++ rest ≢ []
-unfolding encode_symbols
-symbols_some table (a ∷ b ∷ c ∷ octets) rest some = λ none. cc
-symbols_some table octets rest some = λ none. grind (arith, common_steps)
-
 padding_plain : (n : ℕ) → HasNoBlank (replicate n 61)
 padding_plain zero = tt
 padding_plain (suc n) = (refl, padding_plain n)
 
-pub base64_word : (octets : List ℕ) → octets ≢ [] → IsWord (encode_of standard octets)
-base64_word octets some = search (rules, symbols_some, no_blank-append, symbols_plain, table_plain, padding_plain)
-
 pub base64_plain : (octets : List ℕ) → HasNoBlank (encode_of standard octets)
 base64_plain octets = search (rules, no_blank-append, symbols_plain, table_plain, padding_plain)
+
+pub base64_word : (octets : List ℕ) → octets ≢ [] → IsWord (encode_of standard octets)
+base64_word octets some = word _ octets some (omega (arith, encoded_length octets)) (base64_plain octets)
 
 pub lower_hex_plain : (octets : List ℕ) → HasNoBlank (encode_lower octets)
 lower_hex_plain octets = hex_plain lower_digits octets (table_plain lower_digits refl)

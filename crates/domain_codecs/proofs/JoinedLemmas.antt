@@ -1,16 +1,16 @@
 -- texts that are gone through in pieces of 64 characters, and what each piece stands for
-use Rattle.std.proofs.Common.{◌≡◌, ◌≢◌, ℕ, zero, suc, ◌+◌, ◌*◌, ◌%◌, ◌<◌, ◌≤◌, true, false, List, [], ◌∷◌, ◌++◌, length, take, drop, length-append}
-use Rattle.std.proofs.{Common.{add-zero, nat_eq, refl, ap, sym, append_assoc, subst, ◌∙◌, arith, Ok, Err}, Math.ListN.get_or-append}
+use Rattle.std.proofs.Common.{◌≡◌, ℕ, zero, suc, ◌+◌, ◌*◌, ◌%◌, ◌<◌, ◌≤◌, true, false, List, [], ◌∷◌, ◌++◌, length, take, length-append}
+use Rattle.std.proofs.{Common.{Some, None, add-zero, nat_eq, refl, ap, subst, ◌∙◌, arith, Ok, Err}, Math.ListN.get_or-append}
 use Rattle.std.{proofs.lemmas.{List.{append-nil, map-append, length-map, get_or-append-add, take-append-drop}, Grind.common_steps}, specs.Prelude.{◌↔◌, Bool}}
-use Rattle.std.{specs.{Prelude.{IsTrue, Option, Result}, List.AllPass}, proofs.lemmas.List.{drop_at, Elements.All-append}}
+use Rattle.std.{specs.{Prelude.{IsTrue, Option, Result}, Option.option_or, List.AllPass}, proofs.lemmas.List.{drop_at, Folds.find-append}}
 use Rattle.base64.specs.{GeneralPurpose.IsBytes, Engines.standard, declared.decode.DecodeError.DecodeError}
 use Rattle.base64.proofs.EngineFacts.{decode_of-encode_of, encode_of-nil, front_bytes}
 use Rattle.base64.specs.GeneralPurpose as base64
 use Rattle.hex.{specs.{Hex.{decode_of, decode_pairs, digit_or_error, hex_digit_value, pair_value, ◌>>=◌}, declared.error.FromHexError.FromHexError}}
 use Rattle.hex.proofs.{HexLemmas.{decode_of-even, decode_of-ok, decode_of-same, decode_pairs-digits}, Pairs.{cons_byte, decode_pairs-ok_pair}}
-use Rattle.domain_codecs.specs.{declared.codec.Codec.{Codec, TheVariants.{Base16, Base32Hex, Base64}}, Codec.{Decodes, IsText, IsFirstOther, is_digit}}
+use Rattle.domain_codecs.specs.{declared.codec.Codec.{Codec, TheVariants.{Base16, Base32Hex, Base64}}, Codec.{Decodes, IsText, first_other, is_digit}}
 use Rattle.domain_codecs.{specs.Codec.{base32_octets, base32_digits, IsBase32, Cut}, proofs.{CodecBackLemmas.decodes_once, Base64Lemmas.DecodesTo}}
-use Rattle.domain_codecs.proofs.Base64Lemmas.{split_pieces, bytes-drop, joined_groups, decoded_length}
+use Rattle.domain_codecs.proofs.Base64Lemmas.{split_pieces, bytes-drop, joined_groups}
 use Rattle.domain_octets.specs.Octets.{AreOctets}
 
 -- octets are what the library `base64` takes for bytes
@@ -19,32 +19,31 @@ bytes_of text all i = grind (arith, common_steps)
 
 -- ---- one piece after another
 
--- these characters are left of the text, and those before them are of the codec
-pub record Searched (codec : Codec) (text left : List ℕ) : Type 0 where
-  pub front : List ℕ
-  pub parts : text ≡ front ++ left
-  pub pass : AllPass (is_digit codec) front
+-- ---- the first character of a text that is none of the codec's, by its first piece
 
-pub searched_more : (codec : Codec) (text left piece after : List ℕ) → Searched codec text left → left ≡ piece ++ after
-    → AllPass (is_digit codec) piece → Searched codec text after
-searched_more codec text left piece after so_far parts pass = record {
-  front = so_far.front ++ piece;
-  parts = so_far.parts ∙ ap (λ l. so_far.front ++ l) parts ∙ sym (append_assoc so_far.front piece after);
-  pass = All-append (λ c. is_digit codec c ≡ true) so_far.front piece so_far.pass pass;
-}
+other_of_pieces : (codec : Codec) (left piece after : List ℕ) → Cut left piece after
+    → first_other codec left ≡ option_or (first_other codec piece) (first_other codec after)
+unfolding first_other
+other_of_pieces codec left piece after cut = ap (first_other codec) cut.parts ∙ find-append _ piece after
 
--- the first other character of a piece is that of the text
-pub searched_other : (codec : Codec) (text left piece after : List ℕ) (c : ℕ) → Searched codec text left → Cut left piece after
-    → IsFirstOther codec piece c → IsFirstOther codec text c
-searched_other codec text left piece after c so_far cut other =
-    let all = searched_more codec text left (take other.place piece) (drop other.place piece ++ after) so_far (grind (arith, common_steps)) other.before in
-    record {
-      place = length all.front;
-      below = grind (arith, common_steps);
-      is = grind (arith, common_steps);
-      other = other.other;
-      before = grind (arith, common_steps);
-    }
+pub other_found : (codec : Codec) (left piece after : List ℕ) (c : ℕ) → Cut left piece after → first_other codec piece ≡ Some c
+    → first_other codec left ≡ Some c
+other_found codec left piece after c cut found = other_of_pieces codec left piece after cut ∙ rw found refl
+
+pub other_behind : (codec : Codec) (left piece after : List ℕ) → Cut left piece after → first_other codec piece ≡ None
+    → first_other codec left ≡ first_other codec after
+other_behind codec left piece after cut none = other_of_pieces codec left piece after cut ∙ rw none refl
+
+-- a piece without characters is the last
+pub none_after : (left piece after : List ℕ) → Cut left piece after → length piece ≡ 0 → left ≡ []
+none_after left [] after cut none = cut.parts ∙ cut.full (omega arith)
+none_after left (c ∷ piece) after cut none = absurd (omega arith)
+
+pub no_other : (codec : Codec) (left piece after : List ℕ) → Cut left piece after → length piece ≡ 0 → first_other codec left ≡ None
+unfolding first_other
+no_other codec left piece after cut none = ap (first_other codec) (none_after left piece after cut none)
+
+pub ruleset other_steps = (other_found, other_behind, no_other)
 
 pass_front : (codec : Codec) (front back : List ℕ) → AllPass (is_digit codec) (front ++ back) → AllPass (is_digit codec) front
 pass_front codec front back all = λ i d below. let here = all i d (omega (arith, length-append front back)) in rw (get_or-append front back d i below) at here
@@ -182,11 +181,6 @@ pieces_next codec text left piece after built so_far cut =
       (bytes_after left piece after cut.parts so_far.bytes),
     )
 
--- a piece without characters is the last
-pub none_after : (left piece after : List ℕ) → Cut left piece after → length piece ≡ 0 → left ≡ []
-none_after left [] after cut none = cut.parts ∙ cut.full (omega arith)
-none_after left (c ∷ piece) after cut none = absurd (omega arith)
-
 pub pieces_end : (codec : Codec) (text left built : List ℕ) → ReadPieces codec text left built → left ≡ [] → Decodes codec text built
 pieces_end codec text left built so_far none =
     let decoded : Decodes codec [] so_far.rest = subst (λ t. Decodes codec t so_far.rest) none so_far.decoded in
@@ -202,10 +196,6 @@ pub record Passed (text left : List ℕ) : Type 0 where
 
 pub passed_begin : (text left : List ℕ) → left ≡ text → AreOctets text → Passed text left
 passed_begin text left is all = rw is (record { decides = (λ h. h, λ h. h); bytes = bytes_of text all })
-
--- a text has groups of four characters
-pub no_group : (text : List ℕ) (over : ℕ) → AreOctets text → over ≡ length text % 8 → over % 4 ≢ 0 → IsText Base64 text → ⊥
-no_group text over all is broken decoded = broken (omega (arith, decoded_length text decoded.0 (bytes_of text all) decoded.1))
 
 module _ (text left piece after : List ℕ) (so_far : Passed text left) (cut : Cut left piece after) where
   parted : IsText Base64 text → (octets : List ℕ) × Halves Base64 piece after octets
@@ -254,4 +244,4 @@ full_is_some left [] after octets cut read full =
     let none = decodes_once Base64 [] octets [] read (nothing Base64) in absurd (omega (arith, ap length none))
 full_is_some left (c ∷ piece) after octets cut read full = omega (arith, ap length cut.parts, length-append (c ∷ piece) after)
 
-pub ruleset base64_steps = (common_steps, passed_begin, no_group, full_is_some)
+pub ruleset base64_steps = (common_steps, passed_begin, full_is_some)

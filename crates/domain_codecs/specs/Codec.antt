@@ -1,6 +1,6 @@
 -- octets as text: Base 16, Base 32 with the extended hex alphabet, and Base 64 (RFC 4648)
-use Rattle.std.specs.Prelude.{◌≡◌, ℕ, ◌+◌, ◌-◌, ◌*◌, ◌/◌, ◌%◌, ◌<◌, ◌==◌, ◌||◌, ◌&&◌, nat_le, Bool, true, false, not, [], ◌∷◌, map, length, slice_index, take}
-use Rattle.std.specs.{Prelude.{Ok, if◌then◌else◌, Option, Some, None, IsNone, is_some, unwrap_or, ◌≤◌, ◌++◌, codes}, List.AllPass, Char.encode_utf8}
+use Rattle.std.specs.Prelude.{◌≡◌, ℕ, ◌+◌, ◌-◌, ◌*◌, ◌/◌, ◌%◌, ◌<◌, ◌==◌, ◌||◌, ◌&&◌, nat_le, Bool, true, false, not, [], ◌∷◌, map, length}
+use Rattle.std.specs.{Prelude.{Ok, if◌then◌else◌, Option, Some, None, IsNone, is_some, unwrap_or, ◌≤◌, ◌++◌, codes}, List.{AllPass, find}, Char.encode_utf8}
 use Rattle.base64.specs.Engines.{standard}
 use Rattle.domain_codecs.specs.declared.codec.{Codec.{Codec, TheVariants.{Base16, Base32Hex, Base64}}, DecodeError.{DecodeError, TheVariants.IllegalChar}}
 use Rattle.domain_codecs.specs.declared.codec.DecodeError.TheVariants.{ShortInput, ShortBuf, OutOfMemory}
@@ -61,20 +61,16 @@ Decodes Base16 text octets = hex.decode_of text ≡ Ok octets
 Decodes Base32Hex text octets = IsBase32 text octets
 Decodes Base64 text octets = base64.decode_of standard text ≡ Ok octets
 
--- the first character of the text that is none of the codec's
-pub record IsFirstOther (codec : Codec) (text : Octets) (c : ℕ) : Type 0 where
-  pub place : ℕ
-  pub below : place < length text
-  pub is : c ≡ slice_index text place
-  pub other : is_digit codec c ≡ false
-  pub before : AllPass (is_digit codec) (take place text)
+-- the first character of the text that is none of the codec's, if there is one
+unfoldable pub first_other : Codec → Octets → Option ℕ
+first_other codec text = find (λ c. not (is_digit codec c)) text
 
 -- why the text is refused: Base 16 looks at the number of digits first, the others at the digits
 abbrev pub HasBadChar : Codec → Octets → ℕ → Type 0
-HasBadChar Base16 text c = (length text % 2 ≡ 0) × IsFirstOther Base16 text c
-HasBadChar Base32Hex text c = IsFirstOther Base32Hex text c
+HasBadChar Base16 text c = (length text % 2 ≡ 0) × (first_other Base16 text ≡ Some c)
+HasBadChar Base32Hex text c = first_other Base32Hex text ≡ Some c
 HasBadChar Base64 text c =
-    ((octets : Octets) → Decodes Base64 text octets → ⊥) × IsFirstOther Base64 text c
+    ((octets : Octets) → Decodes Base64 text octets → ⊥) × (first_other Base64 text ≡ Some c)
 
 abbrev pub HasBadLength : Codec → Octets → Type 0
 HasBadLength Base16 text = length text % 2 ≡ 1

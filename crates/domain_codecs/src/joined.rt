@@ -4,6 +4,7 @@ ghost use Rattle.std.specs.List.{concat};
 ghost use Rattle.domain_codecs.specs.Codec.{Cut};
 ghost use Rattle.domain_octets.specs.Octets.{Octets, AreOctets};
 
+use domain_octets::laws;
 use std::marker::Model;
 
 /// Writes octets from a place in a buffer on.
@@ -82,14 +83,6 @@ impl<'a> Joined<'a> {
     }
 }
 
-/// How many octets are over a multiple of 8.
-fn octets_over_eight(text: &[u8]) -> usize
-    ensures over { result ≡ length text.now % 8 }
-    ensures octets { AreOctets text.now }
-{
-    text.len() % 8
-}
-
 /// How many characters texts have over a multiple of 8 when they are joined.
 pub(crate) fn over_eight(texts: &[&str]) -> usize
     ensures over { result ≡ length (concat (map (λ text. text.now) texts.now)) % 8 }
@@ -98,7 +91,8 @@ pub(crate) fn over_eight(texts: &[&str]) -> usize
     let mut over = 0;
     let mut left = texts;
     while let [text, others @ ..] = left {
-        over = (over + octets_over_eight(text.as_bytes())) % 8;
+        laws::slices_hold_octets(text.as_bytes());
+        over = (over + text.len() % 8) % 8;
         left = others;
     }
     over

@@ -1,7 +1,7 @@
 //! Whether a text stands for octets, and what is wrong with it.
 ghost use Rattle.std.specs.Prelude.{◌≡◌, ◌<◌, ◌≤◌, ◌%◌, ◌↔◌, false, IsTrue, IfErr, IfSome, IfNone, OnOk, Some, length, slice_index, take};
 ghost use Rattle.std.specs.List.{AllPass};
-ghost use Rattle.domain_codecs.specs.Codec.{is_digit, IsFirstOther, IsText, TextFault};
+ghost use Rattle.domain_codecs.specs.Codec.{is_digit, first_other, IsText, TextFault};
 ghost use Rattle.domain_octets.specs.Octets.{AreOctets};
 
 use crate::joined::Joined;
@@ -20,9 +20,9 @@ fn is_digit(codec: Codec, c: u8) -> bool
 }
 
 /// The first character of a piece that stands in no text of the codec.
+#[tactic(auto, using(std::proofs::lemmas::Grind::common_steps), unfolding(crate::specs::Codec::first_other))]
 fn first_other_of(codec: Codec, piece: &[u8]) -> Option<u8>
-    ensures some { IfSome result (IsFirstOther codec piece.now) }
-    ensures none { IfNone result (AllPass (is_digit codec) piece.now) }
+    ensures { result ≡ first_other codec piece.now }
 {
     for c in piece {
         if !is_digit(codec, *c) {
@@ -33,10 +33,9 @@ fn first_other_of(codec: Codec, piece: &[u8]) -> Option<u8>
 }
 
 /// The first character of texts that stands in no text of the codec.
-#[tactic(auto, using(crate::proofs::JoinedLemmas::searched_more))]
+#[tactic(auto, using(crate::proofs::JoinedLemmas::other_steps))]
 fn first_other(codec: Codec, text: &Joined<'_>) -> Option<u8>
-    ensures some { IfSome result (IsFirstOther codec text.now) }
-    ensures none { IfNone result (AllPass (is_digit codec) text.now) }
+    ensures { result ≡ first_other codec text.now }
 {
     let mut left = text.fork();
     let mut buffer = [0u8; 64];
@@ -52,16 +51,12 @@ fn first_other(codec: Codec, text: &Joined<'_>) -> Option<u8>
 }
 
 /// Whether texts stand for octets in Base 64 when they are joined: every 64 characters for 48
-/// octets, and the last for at most as many. So many are over a multiple of 8.
+/// octets, and the last for at most as many.
 #[tactic(auto, using(crate::proofs::JoinedLemmas::base64_steps))]
-fn is_base64(over: usize, text: &Joined<'_>) -> bool
-    requires over { over ≡ length text.now % 8 }
-    requires octets { AreOctets text.now }
+fn is_base64(text: &Joined<'_>) -> bool
+    requires { AreOctets text.now }
     ensures { IsTrue result ↔ IsText Codec.Base64 text.now }
 {
-    if over % 4 != 0 {
-        return false;
-    }
     let mut left = text.fork();
     let mut buffer = [0u8; 64];
     let mut octets = [0u8; 48];
@@ -89,7 +84,7 @@ pub(crate) fn judge(codec: Codec, over: usize, text: &Joined<'_>) -> Result<(), 
     if codec == Codec::Base16 && over % 2 == 1 {
         return Err(DecodeError::ShortInput);
     }
-    if codec == Codec::Base64 && is_base64(over, text) {
+    if codec == Codec::Base64 && is_base64(text) {
         return Ok(());
     }
     if let Some(c) = first_other(codec, text) {

@@ -1,9 +1,10 @@
 -- Names on the wire.
-use Rattle.std.proofs.Common.{◌≡◌, ℕ, zero, suc, ◌+◌, ◌*◌, ◌<◌, ◌≤◌, List, [], ◌∷◌, length, get_or, take, drop, refl, sym, ap, ◌∙◌, arith, length-append}
-use Rattle.std.proofs.{Common.{add-one, ◌++◌, subst}, lemmas.List.{take_at, drop_at, drop-drop, append-nil, append_assoc, take-append-drop, drop_more}}
-use Rattle.std.{proofs.lemmas.{List.{drop_all, length-drop, length-take-le}, Grind.common_steps}, specs.{List.AllByRecursion, Prelude.{codes, All}}}
+use Rattle.std.proofs.Common.{◌≡◌, ℕ, zero, suc, ◌+◌, ◌*◌, ◌<◌, ◌≤◌, List, [], ◌∷◌, length, get_or, take, drop, refl, sym, ap, ◌∙◌, arith, length-append, ◌-◌}
+use Rattle.std.proofs.{Common.{add-one, ◌++◌, subst}, lemmas.List.{take_at, drop_at, drop-drop, append-nil, append_assoc, take-append-drop}}
+use Rattle.std.{proofs.lemmas.{Grind.common_steps}, specs.{List.AllByRecursion, Prelude.{codes}}}
 use Rattle.domain_names.specs.{Name.{wire_of, IsLabel, IsName, Name}, Wire.{labels_within, labels_of, IsWire, Fault, ends_early, malformed, NameFault}}
-use Rattle.domain_names.specs.Wire.{no_octet, bad_label, long_name, cut_label, past_label, WholeNameFault, in_name, trailing}
+use Rattle.domain_octets.specs.Octets.{AreOctets}
+use Rattle.domain_names.specs.Wire.{BeginsWithName, no_octet, bad_label, long_name, cut_label, past_label, WholeNameFault, in_name, trailing}
 
 -- ---- a name read label by label
 
@@ -130,59 +131,36 @@ trailing_fault name after wire some =
     subst (λ n. WholeNameFault (n ++ after) (malformed (codes "trailing data"))) (sym wire.spelled)
     (trailing (labels_of name) after wire.valid (λ e. omega (arith, some, ap length e)))
 
-named : (octets after : List ℕ) (labels : Name) → octets ≡ wire_of labels ++ after → AllByRecursion IsLabel labels
-    → length (wire_of labels) ≤ 255 → IsWire (take (length (wire_of labels)) octets)
-named octets after labels spelled all fits = grind (arith, common_steps, IsWire-wire_of)
+pub named : (octets after : List ℕ) → BeginsWithName 0 octets after → IsWire (take (length octets - length after) octets)
+unfolding BeginsWithName
+named octets after begins = grind (arith, common_steps, IsWire-wire_of)
 
--- a part of the octets has been read as labels
-pub record Reading (octets : List ℕ) (at : ℕ) : Type 0 where
-  pub inside : at ≤ length octets
-  pub short : at < 255
-  pub fault : (f : Fault) → NameFault at (drop at octets) f → NameFault 0 octets f
-  pub name : (labels : Name) (after : List ℕ) → drop at octets ≡ wire_of labels ++ after → AllByRecursion IsLabel labels
-      → at + length (wire_of labels) ≤ 255 → IsWire (take (at + length (wire_of labels)) octets)
+pub root_then : (used : ℕ) (after : List ℕ) → used < 255 → BeginsWithName used (0 ∷ after) after
+unfolding BeginsWithName
+root_then used after room = ([], refl, tt, omega arith)
 
-pub reading_begins : (octets : List ℕ) → Reading octets 0
-reading_begins octets = grind (arith, common_steps, named)
+-- a label, and what is read after it
+pub label_then : (used len : ℕ) (octets rest after : List ℕ) → BeginsWithName (used + 1 + len) rest after → rest ≡ drop len (drop 1 octets)
+    → get_or octets 0 0 ≡ len → 0 < len → len ≤ 63 → len + 1 ≤ length octets → AreOctets octets → BeginsWithName used octets after
+unfolding BeginsWithName
+label_then used len [] rest after begins is first some small inside bytes = absurd (omega (arith, inside))
+label_then used len (x ∷ octets) rest after (labels, parts, valid, fits) is first some small inside bytes =
+    let long : length (take len octets) ≡ len = grind (arith, common_steps) in
+    let label : IsLabel (take len octets) = record {
+      not_empty = omega (arith, long);
+      fits = omega (arith, long);
+      octets = λ i d below. let here = bytes (suc i) d (omega (arith, below, long)) in grind (arith, common_steps);
+    } in
+    (take len octets ∷ labels, grind (arith, common_steps, (take-append-drop len octets)), (label, valid), grind (arith, common_steps))
 
-module _ (octets : List ℕ) (at len : ℕ) (below : at < length octets) (is : get_or octets at 0 ≡ len) where
-  pub ahead : drop at octets ≡ len ∷ drop (at + 1) octets
-  ahead = rw (← is) (drop_more octets at 0 below)
+pub label_past : (used len : ℕ) (octets : List ℕ) (fault : Fault) → NameFault (used + 1 + len) (drop len octets) fault → 0 < len → len ≤ 63
+    → used + 1 + len < 255 → len ≤ length octets → NameFault used (len ∷ octets) fault
+label_past used len octets fault found some small room inside =
+    let long : length (take len octets) ≡ len = grind (arith, common_steps) in
+    let here : used + len + 1 ≡ used + 1 + len = omega arith in
+    grind (arith, common_steps, (past_label {used = used} (take len octets) (drop len octets) fault))
 
-  pub reading_goes : All (λ octet. octet < 256) octets → Reading octets at → 0 < len → len ≤ 63 → at + 1 + len < 255
-      → at + 1 + len ≤ length octets → Reading octets (at + 1 + len)
-  reading_goes bytes so_far some small short inside =
-      let label = take len (drop (at + 1) octets) in
-      let rest = drop (at + 1 + len) octets in
-      let long : length label ≡ len = length-take-le len _ (omega (arith, length-drop (at + 1) octets)) in
-      let here : drop at octets ≡ length label ∷ (label ++ rest) = grind (arith, common_steps, ahead, (take-append-drop len (drop (at + 1) octets))) in
-      let used : at + length label + 1 ≡ at + 1 + len = omega arith in
-      record {
-        inside = inside;
-        short = short;
-        fault = λ f h. so_far.fault f (rw here (past_label {used = at} label rest f (omega arith) (omega arith) (omega arith) (rw used h)));
-        name = λ labels after spelled all fits.
-            let valid : IsLabel label = record { not_empty = omega arith; fits = omega arith; octets = grind (arith, common_steps) } in
-            grind (arith, common_steps, (so_far.name (label ∷ labels) after));
-      }
-
-  pub reading_ends : Reading octets at → len ≡ 0 → IsWire (take (at + 1) octets)
-  reading_ends so_far root = so_far.name [] (drop (at + 1) octets) (ahead ∙ ap (λ n. n ∷ drop (at + 1) octets) root) tt (omega (arith, so_far.short))
-
-  pub label_fault : Reading octets at → 63 < len → NameFault 0 octets (malformed (codes "compressed or bad label"))
-  label_fault so_far big = so_far.fault _ (rw ahead (bad_label {used = at} len (drop (at + 1) octets) big))
-
-  pub length_fault : Reading octets at → 0 < len → len ≤ 63 → 255 ≤ at + 1 + len → NameFault 0 octets (malformed (codes "long domain name"))
-  length_fault so_far some small big = so_far.fault _ (rw ahead (long_name {used = at} len (drop (at + 1) octets) some small (omega arith)))
-
-  pub cut_fault : Reading octets at → 0 < len → len ≤ 63 → at + 1 + len < 255 → length octets < at + 1 + len → NameFault 0 octets ends_early
-  cut_fault so_far some small short cut =
-      so_far.fault _ (rw ahead (cut_label {used = at} len (drop (at + 1) octets) some small (omega arith) (omega (arith, length-drop (at + 1) octets))))
-
-pub end_fault : (octets : List ℕ) (at : ℕ) → Reading octets at → length octets ≤ at → NameFault 0 octets ends_early
-end_fault octets at so_far end = so_far.fault _ (rw drop_all (no_octet {used = at}))
-
-pub ruleset reading_steps = (reading_begins, reading_goes, reading_ends, end_fault, label_fault, length_fault, cut_fault)
+pub ruleset reading_steps = (root_then, label_past, no_octet, bad_label, long_name, cut_label)
 
 pub in_name_by : (octets : List ℕ) (said found : Fault) → said ≡ found → NameFault 0 octets found → WholeNameFault octets said
 in_name_by octets said found same fault = subst (WholeNameFault octets) (sym same) (in_name octets found fault)

@@ -1,7 +1,8 @@
 -- Names on the wire, and why octets are none.
 use Rattle.std.specs.Prelude.{◌≡◌, ℕ, zero, suc, ◌==◌, [], ◌∷◌, length, take, drop, if◌then◌else◌, ◌≢◌, ◌+◌, ◌<◌, ◌≤◌, ◌++◌, codes}
+use Rattle.std.specs.List.{AllByRecursion}
 use Rattle.domain_octets.specs.{Octets.Octets, declared.error.ParseError.ParseError}
-use Rattle.domain_names.specs.{Name.{wire_of, IsName, Name, Label}, declared.error.NameError.NameError}
+use Rattle.domain_names.specs.{Name.{wire_of, IsLabel, IsName, Name, Label}, declared.error.NameError.NameError}
 use Rattle.domain_octets.specs.declared.error.ParseError.TheVariants as parse_error
 use Rattle.domain_names.specs.declared.error.NameError.TheVariants as name_error
 
@@ -21,6 +22,13 @@ labels_of octets = labels_within (length octets) octets
 pub record IsWire (octets : Octets) : Type 0 where
   pub spelled : octets ≡ wire_of (labels_of octets)
   pub valid : IsName (labels_of octets)
+
+-- the octets are those of labels up to the root, and others after them; so many octets of the name
+-- stand before them
+unfoldable pub BeginsWithName : ℕ → Octets → Octets → Type 0
+BeginsWithName used octets after =
+    (labels : Name) × (octets ≡ wire_of labels ++ after) × AllByRecursion IsLabel labels
+    × (used + length (wire_of labels) ≤ 255)
 
 -- ---- why octets are no name on the wire (RFC 1035, sections 2.3.4 and 3.1)
 

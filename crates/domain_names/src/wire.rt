@@ -5,9 +5,10 @@ ghost use Rattle.std.specs.{Char.to_ascii_lowercase, Ordering.nat_cmp, Cmp.Lexic
 ghost use Rattle.std.specs.Hash as fed;
 ghost use Rattle.domain_names.specs.Name.{wire_of, lowered, IsSame, same_name, IsAtOrBelow, is_at_or_below};
 ghost use Rattle.domain_names.specs.{Name.{canonical_cmp, common_labels}, Wire.{labels_of, IsWire}};
-ghost use Rattle.domain_names.specs.Wire.{NameFault, WholeNameFault, fault_of, name_fault_of};
+ghost use Rattle.domain_names.specs.Wire.{BeginsWithName, NameFault, WholeNameFault, fault_of, name_fault_of};
 
 use crate::{Comparison, NameError, ParseError};
+use domain_octets::laws;
 use std::cmp::Ordering;
 use std::hash::Hasher;
 
@@ -153,34 +154,45 @@ pub fn hash<H: Hasher>(wire: &[u8], state: &mut H)
     }
 }
 
+/// What is left of octets that begin with the labels of a name up to the root, where so many octets
+/// of the name stand before them.
+#[tactic(auto, using(std::proofs::lemmas::Grind::common_steps, crate::proofs::WireLemmas::reading_steps))]
+fn after_labels(used: usize, octets: &[u8]) -> Result<&[u8], NameError>
+    requires { used < 255 }
+    ensures ok { IfOk result (λ after. BeginsWithName used octets.now after.now) }
+    ensures shorter { IfOk result (λ after. length after.now < length octets.now) }
+    ensures err { IfErr result (λ e. NameFault used octets.now (name_fault_of e)) }
+{
+    laws::slices_hold_octets(octets);
+    let [len, tail @ ..] = octets else {
+        return Err(NameError::ShortInput);
+    };
+    let len = *len as usize;
+    if len == 0 {
+        return Ok(tail);
+    }
+    if len > MAX_LABEL_LEN {
+        return Err(NameError::BadLabel);
+    }
+    let next = used + 1 + len;
+    if next >= MAX_NAME {
+        return Err(NameError::LongName);
+    }
+    if len > tail.len() {
+        return Err(NameError::ShortInput);
+    }
+    Ok(after_labels(next, &tail[len..])?)
+}
+
 /// The name that octets begin with, and what is left of them.
-#[tactic(auto, using(crate::proofs::WireLemmas::reading_steps))]
+#[tactic(auto, using(crate::proofs::WireLemmas::named))]
 pub fn split_name(octets: &[u8]) -> Result<(&[u8], &[u8]), NameError>
     ensures wire { IfOk result (λ found. IsWire found.0.now) }
     ensures parts { IfOk result (λ found. octets.now ≡ found.0.now ++ found.1.now) }
     ensures err { IfErr result (λ e. NameFault 0 octets.now (name_fault_of e)) }
 {
-    let mut at = 0;
-    loop {
-        let Some(&len) = octets.get(at) else {
-            return Err(NameError::ShortInput);
-        };
-        if len == 0 {
-            break;
-        }
-        if usize::from(len) > MAX_LABEL_LEN {
-            return Err(NameError::BadLabel);
-        }
-        let end = at + 1 + len as usize;
-        if end >= MAX_NAME {
-            return Err(NameError::LongName);
-        }
-        if end > octets.len() {
-            return Err(NameError::ShortInput);
-        }
-        at = end;
-    }
-    Ok(octets.split_at(at + 1))
+    let after = after_labels(0, octets)?;
+    Ok(octets.split_at(octets.len() - after.len()))
 }
 
 /// Checks that octets are a name and nothing more.

@@ -1,4 +1,4 @@
-use Rattle.domain_bitmap.proofs.CountedLemmas.{refused_by_codec, refused_too_long}
+use Rattle.domain_bitmap.proofs.TextLemmas.{refused_by_codec, refused_too_long}
 use Rattle.domain_bitmap.proofs.counted.CountedOctets+O+E.scan_token.Goals as goal
 
 pub returns-in-Err-clause-read : goal.returns-in-Err-clause-read
