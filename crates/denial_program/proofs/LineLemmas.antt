@@ -19,7 +19,7 @@ use Rattle.domain_borrowed.specs.Data.{RawRecord}
 -- ---- lines as text
 
 plain_is_low : (line : List ℕ) → IsPlain line → All (λ c. c ≤ 126) line
-plain_is_low line plain = All-weaker _ _ (λ c low. grind (arith, nat_tests)) line plain
+plain_is_low line plain = All-weaker (λ c. is_plain c ≡ true) (λ c. c ≤ 126) (λ c low. grind (arith, nat_tests)) line plain
 
 pub plain_is_text : (line : List ℕ) → IsPlain line → IsUtf8 line
 plain_is_text line plain = let low = plain_is_low line plain in grind (arith, common_steps, IsUtf8-from_ascii)
@@ -35,7 +35,11 @@ refused_behind owner ws behind e owned why = inr (in_body (λ o. o) (λ n. n) No
 pub is_bad : (line : List ℕ) (tokens : Tokens) (skipped : Bool) (e : LineError) → tokens ≡ words_of line
     → IsTrue skipped ↔ IsSkipped line → skipped ≡ false → IsOfLine None e → Refuses tokens e → IsBad line
 is_bad line tokens skipped e same test off own (inl memory) = absurd (subst (IsOfLine None) memory own)
-is_bad line tokens skipped e same test off own (inr why) = grind (arith, common_steps, (none_in (λ o. o) (λ n. n) None tokens))
+is_bad line tokens skipped e same test off own (inr why) = record {
+  seen = λ s. absurd (let on = test.1 s in cc);
+  none = λ r h. none_in (λ o. o) (λ n. n) None tokens h.spelled.spelled e why own
+      (subst (λ ws. EntryText (λ o. o) (λ n. n) ws h.spelled.spelled) (sym same) h.spelled.are);
+}
 
 -- ---- A line that was found in what the reader holds, and one that the reader found.
 
@@ -115,10 +119,12 @@ pub takes_line : (is_such : List ℕ → Type 0) (old new : Option (List ℕ)) (
     → (get_or view (length view - 1) 0 ≢ 10 → out ≡ view) → is_such out → TakesLine old new is_such
 takes_line is_such None new was buf view out drops empty filled some same ended last so = record { taken = tt }
 takes_line is_such (Some all) new was buf view out drops empty filled some same ended last so =
-    let taken : buf ≡ take_through 10 all = grind (arith, common_steps) in
-    let once = line_once all (grind (arith, common_steps, (take_through_nonempty 10 all))) in
-    let kept : out ≡ once.0 = grind (arith, common_steps, once.2) in
-    record { taken = (out, drop_through 10 all, drops, grind (arith, common_steps), so) }
+    let taken : buf ≡ take_through 10 all = filled ∙ ap (λ (w : List ℕ). w ++ take_through 10 all) empty in
+    let seen : view ≡ take_through 10 all = same ∙ taken in
+    let once = line_once all (take_through_nonempty 10 all (subst (λ (t : List ℕ). 0 < length t) taken some)) in
+    let kept : out ≡ once.0 =
+    once.2 out (λ front e. ended front (seen ∙ e)) (λ p. last (subst (λ (t : List ℕ). get_or t (length t - 1) 0 ≢ 10) (sym seen) p) ∙ seen) in
+    record { taken = (out, drop_through 10 all, drops, once.1 ∙ ap (λ l. l ∷ lines (drop_through 10 all)) (sym kept), so) }
 
 -- ---- How far a reader has come, where it tells its octets.
 
@@ -155,14 +161,22 @@ module _ (known old new : Option (List ℕ)) (records : List RawRecord) (number 
     pub follows_skip : said ≡ Nothing → Follows known new records (number + 1)
     follows_skip is = record {
       reading = reading_step (λ all rest. Continues all rest records number) known old new (λ all rest. Continues all rest records (number + 1)) _
-          (λ all rest line s c. grind (arith, common_steps, c.gives, c.bad)) h.reading (rw is at t);
+          (λ all rest line s c. record {
+            gives = λ more g. c.gives more (inl (s, g));
+            bad = λ k n p b. c.bad (k + 1) n (omega arith) (inr (inl s, (k, refl, b)));
+          })
+          h.reading (rw is at t);
     }
 
     pub follows_record : (r : RawRecord) → said ≡ Record r → Follows known new (records ++ r ∷ []) (number + 1)
     follows_record r is = record {
       reading = reading_step (λ all rest. Continues all rest records number) known old new
           (λ all rest. Continues all rest (records ++ r ∷ []) (number + 1)) _
-          (λ all rest line s c. grind (arith, common_steps, c.gives, c.bad, (append_assoc records (r ∷ [])))) h.reading (rw is at t);
+          (λ all rest line s c. record {
+            gives = λ more g. subst (Give all) (sym (append_assoc records (r ∷ []) more)) (c.gives (r ∷ more) (inr (r, more, refl, s, g)));
+            bad = λ k n p b. c.bad (k + 1) n (omega arith) (inr (inr (r, s), (k, refl, b)));
+          })
+          h.reading (rw is at t);
     }
 
     -- the line that was taken is bad

@@ -52,13 +52,15 @@ abbrev AreCounted : Octets → Type 0
 AreCounted octets = (length octets < 2 ^ 8) × AreOctets octets
 
 spelled_salt : (text salt : Octets) → SaltText text salt → AreCounted salt
-spelled_salt text salt (dash t e) = (omega arith, All-from_recursion _ [] tt)
-spelled_salt text salt (digits t octets other decoded counted) = (omega arith, All-from_get_or _ salt 0 (λ i below. (decode_of-ok text salt decoded).3 i))
+spelled_salt text salt (dash t e) = (omega arith, All-from_recursion (λ o. o < 256) [] tt)
+spelled_salt text salt (digits t octets other decoded counted) =
+    (omega arith, All-from_get_or (λ o. o < 256) salt 0 (λ i below. (decode_of-ok text salt decoded).3 i))
 
 spelled_hash : (text hash : Octets) → OwnerHashText text hash → AreCounted hash
 spelled_hash text hash t = (
   omega (arith, t.counted),
-  All-from_recursion _ hash (grind (arith, common_steps, t.decoded, (groups_small 1 0 (base32_digits text) (inl refl)), (digits_small text))),
+  All-from_recursion (λ o. o < 256) hash (subst (AllByRecursion (λ o. o < 256)) (sym t.decoded.value)
+      (groups_small 1 0 (base32_digits text) (inl refl) (omega arith) (digits_small text))),
 )
 
 number_fits : (bits : ℕ) (text : Octets) (n : ℕ) → IsNumber bits text n → n < 2 ^ bits
@@ -82,7 +84,11 @@ are_sound rtype old (Soa d) (own other text) = number_fits 32 text.1.2.2.2.token
 are_sound rtype old (Soa d) (generic wire text are end) = are.1.fits.1.1.1
 are_sound rtype old (Nsec d) (own other text) = grind (arith, common_steps, name_is_valid, IsBitmap-bitmap_octets)
 are_sound rtype old (Nsec d) (generic wire text are end) = are.1.fits
-are_sound rtype old (Nsec3 d) (own other text) = grind (arith, common_steps, spelled_params, spelled_hash, IsBitmap-bitmap_octets)
+are_sound rtype old (Nsec3 d) (own other text) =
+    let hash = text.1.1 in (
+      (spelled_params old hash.0 (nsec3_values d).0.0 hash.1, spelled_hash hash.2.token d.next_owner hash.2.holds),
+      subst IsBitmap (sym text.1.2.built) (IsBitmap-bitmap_octets (is_among text.1.2.types)),
+    )
 are_sound rtype old (Nsec3 d) (generic wire text are end) = are.1.fits
 are_sound rtype old (Nsec3param d) (own other text) = spelled_params old [] (nsec3param_values d) text.1
 are_sound rtype old (Nsec3param d) (generic wire text are end) = are.1.fits

@@ -1,10 +1,11 @@
 //! What the words after the program's name ask for.
-ghost use Rattle.std.specs.Prelude.{◌≡◌, ℕ, ◌∷◌, codes, IfErr, IfNone, IfOk, IfSome, map, string_bytes};
+ghost use Rattle.std.specs.Prelude.{◌≡◌, ◌⊎◌, ℕ, ◌∷◌, codes, IfErr, IfNone, IfOk, IfSome, map, string_bytes};
 ghost use Rattle.domain_names.specs.Text.{NameText, IsNoName, ScanFault};
 ghost use Rattle.domain_bitmap.specs.Text.{SaltText};
 ghost use Rattle.domain_octets.specs.Octets.{Octets};
 ghost use Rattle.denial_program.specs.Command.{Asks, FlagsText, IsNoCommand, IsUsage, Params, Spell, SpellQuestion};
 ghost use Rattle.denial_program.specs.declared.command.Question.{Question};
+ghost use Rattle.denial_program.specs.declared.fault.DenialFault.TheVariants.{OutOfMemory};
 
 use crate::fault::DenialFault;
 use crate::line::{ZoneName, ZoneOctets};
@@ -169,8 +170,9 @@ pub fn question_of(
 /// What `check` and these words ask for.
 fn check_command(alloc: Global, words: &[String]) -> Result<Command, DenialFault>
     ensures ok { IfOk result (Asks (codes "check" ∷ map string_bytes words.now)) }
-    ensures err { IfErr result (IsUsage
-        (IsNoCommand (codes "check" ∷ map string_bytes words.now))) }
+    ensures err { IfErr result (λ e. ((e ≡ DenialFault.Usage)
+        × IsNoCommand (codes "check" ∷ map string_bytes words.now))
+        ⊎ (e ≡ OutOfMemory)) }
 {
     let [kind, apex, name, rtype] = words else {
         return Err(DenialFault::Usage);

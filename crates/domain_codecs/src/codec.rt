@@ -1,10 +1,8 @@
 //! Octets as text: Base 16, Base 32 hex and Base 64 (RFC 4648).
 ghost use Rattle.std.specs.Prelude.{◌≡◌, Some};
 ghost use Rattle.domain_codecs.specs.Codec.{decode_error_text};
-ghost use Rattle.domain_codecs.specs.declared.codec.DecodeError.TheVariants as decode_error;
 
 use domain_octets::AppendError;
-use std::alloc::{AllocError, AllocFailed};
 use std::error::Error;
 use std::fmt;
 
@@ -57,21 +55,5 @@ impl From<AppendError> for DecodeError {
             AppendError::ShortBuf => DecodeError::ShortBuf,
             AppendError::OutOfMemory => DecodeError::OutOfMemory,
         }
-    }
-}
-
-impl From<AllocError> for DecodeError {
-    ghost from_gives = { λ _ e. e ≡ decode_error.OutOfMemory };
-
-    fn from(_error: AllocError) -> DecodeError {
-        DecodeError::OutOfMemory
-    }
-}
-
-impl<T: Drop> From<AllocFailed<T>> for DecodeError {
-    ghost from_gives = { λ _ e. e ≡ decode_error.OutOfMemory };
-
-    fn from(_error: AllocFailed<T>) -> DecodeError {
-        DecodeError::OutOfMemory
     }
 }

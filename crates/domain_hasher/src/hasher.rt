@@ -4,7 +4,7 @@ ghost use Rattle.domain_hasher.specs.declared.hasher.HasherError.TheVariants as 
 
 use domain_base::Nsec3HashAlgorithm;
 use domain_octets::OutOfMemory;
-use std::alloc::{AllocError, AllocFailed, Global};
+use std::alloc::{AllocError, Global};
 use std::error::Error;
 use std::fmt;
 
@@ -46,14 +46,6 @@ impl From<AllocError> for HasherError {
     ghost from_gives = { λ _ e. e ≡ hasher_error.OutOfMemory };
 
     fn from(_error: AllocError) -> HasherError {
-        HasherError::OutOfMemory
-    }
-}
-
-impl<T: Drop> From<AllocFailed<T>> for HasherError {
-    ghost from_gives = { λ _ e. e ≡ hasher_error.OutOfMemory };
-
-    fn from(_error: AllocFailed<T>) -> HasherError {
         HasherError::OutOfMemory
     }
 }

@@ -5,7 +5,6 @@ ghost use Rattle.domain_names.specs.Wire.{name_fault_of};
 ghost use Rattle.domain_names.specs.declared.error.ScanError.TheVariants as scan_error;
 
 use domain_octets::{AppendError, OutOfMemory, ParseError};
-use std::alloc::{AllocError, AllocFailed};
 use std::error::Error;
 use std::fmt;
 
@@ -91,22 +90,6 @@ impl From<OutOfMemory> for ScanError {
     ghost from_gives = { λ _ e. e ≡ scan_error.OutOfMemory };
 
     fn from(_error: OutOfMemory) -> ScanError {
-        ScanError::OutOfMemory
-    }
-}
-
-impl From<AllocError> for ScanError {
-    ghost from_gives = { λ _ e. e ≡ scan_error.OutOfMemory };
-
-    fn from(_error: AllocError) -> ScanError {
-        ScanError::OutOfMemory
-    }
-}
-
-impl<T: Drop> From<AllocFailed<T>> for ScanError {
-    ghost from_gives = { λ _ e. e ≡ scan_error.OutOfMemory };
-
-    fn from(_error: AllocFailed<T>) -> ScanError {
         ScanError::OutOfMemory
     }
 }

@@ -72,14 +72,6 @@ impl From<AllocError> for AppendError {
     }
 }
 
-impl<T: Drop> From<AllocFailed<T>> for AppendError {
-    ghost from_gives = { λ _ e. e ≡ append_error.OutOfMemory };
-
-    fn from(_error: AllocFailed<T>) -> AppendError {
-        AppendError::OutOfMemory
-    }
-}
-
 /// Why octets were not read.
 #[derive(Clone, Copy, Debug, PartialEq, Eq)]
 pub enum ParseError {

@@ -17,4 +17,7 @@ loop-record-preserved g c =
     (record { counted = ap (k.counts c.args.apex.now) (sym same) ∙ sym c.counts.ensures ∙ c.if-not-counts.false; is = some.0; fits = some.1 }))
 
 pub returns : goal.returns
-returns g c = grind (arith, common_steps, goes_end, drop_all)
+returns g c =
+    let i = c.loop-record.record-index in
+    let kept = map g.K.ReadAs.said c.loop-record.kept.items in
+    goes_end _ _ (drop i c.args.records.now) kept c.loop-record.invariant (drop_all i _ (omega arith))

@@ -1,10 +1,9 @@
-use Rattle.std.proofs.{Common.{arith, List, OnOk, IfErr, IfOk, None, Option, subst, sym}, lemmas.Grind.common_steps}
+use Rattle.std.proofs.{Common.{arith, List}, lemmas.Grind.common_steps}
 use Rattle.domain_zone.specs.Zone.{ZoneRecord}
 use Rattle.domain_nsec3.specs.{Chain.{IsChainParam, IsHashedChain, ChainConfig}, View.config_of}
-use Rattle.domain_borrowed.specs.Data.{RawRecord, zone_of_raw}
-use Rattle.denial_program.specs.{Answer.{usual_nsec3_config, HasNoAnswer, IsAnswer, Sorts}, declared.answer.Reply.TheVariants.Nsec3s}
-use Rattle.denial_program.specs.{declared.{command.Command.TheVariants.Chain, fault.DenialFault.TheVariants.OutOfMemory}, Command.Params}
-use Rattle.denial_program.proofs.{RunLemmas.{nsec3s_made, on_ok}, answer.chain_reply.{Given.Over, Goals.After-new_from_owned-records}}
+use Rattle.domain_borrowed.specs.Data.{zone_of_raw}
+use Rattle.denial_program.{specs.Answer.usual_nsec3_config, proofs.{RunLemmas.{nsec3s_made, on_ok}, answer.chain_reply.Given.Over}}
+use Rattle.denial_program.proofs.answer.chain_reply.Goals.{After-new_from_owned-records}
 use Rattle.denial_program.proofs.answer.chain_reply.Goals as goal
 
 -- what holds of the zone and the configuration that were handed on holds of the sorted records and the usual configuration

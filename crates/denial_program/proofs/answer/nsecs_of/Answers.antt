@@ -1,8 +1,8 @@
-use Rattle.std.proofs.{Common.{arith, List, subst, sym}, lemmas.Grind.common_steps}
+use Rattle.std.proofs.{Common.{arith, List}, lemmas.Grind.common_steps}
 use Rattle.domain_zone.specs.Zone.{ZoneRecord}
-use Rattle.domain_nsec.specs.{Chain.{usual_config, IsChain, IsFirstFault}, declared.config.GenerateNsecConfig.GenerateNsecConfig}
+use Rattle.domain_nsec.specs.{Chain.usual_config, declared.config.GenerateNsecConfig.GenerateNsecConfig}
 use Rattle.domain_borrowed.specs.Data.{zone_of_raw}
-use Rattle.denial_program.{specs.Answer.HasNoNsecs, proofs.{RunLemmas.{memory_told, no_nsecs, nsecs_made}, answer.nsecs_of.Goals.After-new_from_owned}}
+use Rattle.denial_program.proofs.{RunLemmas.{memory_told, no_nsecs, nsecs_made}, answer.nsecs_of.Goals.After-new_from_owned}
 use Rattle.denial_program.proofs.answer.nsecs_of.Goals as goal
 
 -- what holds of the zone and the configuration that were handed on holds of the sorted records and the usual configuration

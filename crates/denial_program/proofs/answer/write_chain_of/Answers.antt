@@ -11,15 +11,20 @@ sorts g c = rw (c.deref.ensures.value ∙ c.in_ok-compacted.ensures.ok) c.in_ok-
 
 pub returns-in_err-answer-clause-err : goal.returns-in_err-answer-clause-err
 returns-in_err-answer-clause-err g c =
-    let none = c.in_err-answer.ensures.err c.args.records.items (sorts g (goal.at.returns-in_err-answer-clause-err g c).After-chain_reply) in
-    if_err_of _ _ _ c.from_residual-in_err-answer.ensures.1 (inr (inr (rw c.in_ok-apex.ensures.ok at none)))
+    let answers = g.H.Nsec3Hasher.answer c.args.hasher.now in
+    let given = c.args.records.items in
+    let asked = Chain c.args.apex.now c.args.parameters in
+    let none = c.in_err-answer.ensures.err given (sorts g (goal.at.returns-in_err-answer-clause-err g c).After-chain_reply) in
+    if_err_of (IsUnwritten (IsAnswer answers asked given) (IsUnmade (HasNoAnswer answers asked given))) _ _ c.from_residual-in_err-answer.ensures.1
+    (inr (inr (subst (λ a. HasNoAnswer answers (Chain a c.args.parameters) given c.in_err-answer.field-0.0) c.in_ok-apex.ensures.ok none)))
 
 pub returns-clause-ok : goal.returns-clause-ok
 returns-clause-ok g c =
     let is = c.in_ok-answer.ensures.ok c.args.records.items (sorts g (goal.at.returns-clause-ok g c).After-chain_reply) in
     on_ok (λ appends. record {
       made = c.in_ok-answer.answer;
-      is = rw c.in_ok-apex.ensures.ok at is;
+      is = subst (λ a. IsAnswer (g.H.Nsec3Hasher.answer c.args.hasher.now) (Chain a c.args.parameters) c.args.records.items c.in_ok-answer.answer)
+          c.in_ok-apex.ensures.ok is;
       appends = appends;
     }) c.send.result c.send.ensures.ok
 
@@ -29,8 +34,9 @@ returns-clause-err g c =
     let given = c.args.records.items in
     let p = c.args.parameters in
     let sorts = sorts g (goal.at.returns-clause-err g c).After-chain_reply in
-    unwritten c.send.result answers c.args.apex.now p given c.in_ok-answer.answer (rw c.in_ok-apex.ensures.ok at (c.in_ok-answer.ensures.ok given sorts))
-    (rw c.in_ok-apex.ensures.ok at (c.in_ok-answer.ensures.memory given sorts)) c.send.ensures.err
+    unwritten c.send.result answers c.args.apex.now p given c.in_ok-answer.answer
+    (subst (λ a. IsAnswer answers (Chain a p) given c.in_ok-answer.answer) c.in_ok-apex.ensures.ok (c.in_ok-answer.ensures.ok given sorts))
+    (subst (λ a. HasNoAnswer answers (Chain a p) given OutOfMemory) c.in_ok-apex.ensures.ok (c.in_ok-answer.ensures.memory given sorts)) c.send.ensures.err
 
 pub returns-in_err-sorted-clause-err : goal.returns-in_err-sorted-clause-err
 returns-in_err-sorted-clause-err g c =

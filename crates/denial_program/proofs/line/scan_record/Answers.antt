@@ -9,4 +9,10 @@ returns-in_err-record-clause-err g c =
     (refused_behind _ _ _ _ c.in_ok-owner.ensures.ok c.in_err-record.ensures.err)
 
 pub returns-clause-ok : goal.returns-clause-ok
-returns-clause-ok g c = grind (arith, common_steps)
+returns-clause-ok g c =
+    let read = c.in_ok-record.record in
+    record {
+      spelled = record { owner = c.in_ok-owner.owner; class = read.class; ttl = read.ttl; «data» = read.«data» };
+      are = record { behind = _; owned = c.in_ok-owner.ensures.ok; body = c.in_ok-record.ensures.ok };
+      raw = grind (arith, common_steps);
+    }

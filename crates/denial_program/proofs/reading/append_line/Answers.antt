@@ -1,4 +1,4 @@
-use Rattle.std.proofs.{lemmas.Grind.common_steps, Common.{◌≡◌, ◌+◌, ◌<◌, length, take, eqb-true, refl, subst, arith, IfSome}, BufReadLemmas.Consumes_shown}
+use Rattle.std.proofs.{lemmas.Grind.common_steps, Common.{◌≡◌, ◌+◌, take, eqb-true, refl, subst, arith, IfSome}, BufReadLemmas.Consumes_shown}
 use Rattle.std.specs.Io.BufRead.{take_through, DropsThrough, FillKeeps}
 use Rattle.denial_program.proofs.{LineLemmas.line_taken, reading.append_line.{Given.Over, Goals.After-consume}}
 use Rattle.denial_program.proofs.reading.append_line.Goals as goal
