@@ -12,7 +12,8 @@ found g c =
     let rested = c.fill_buf.follows.lender-at-none in
     let filled = subst (FillKeeps _ (g.R.Read.remaining rested) (g.R.BufRead.consumable_len rested)) c.in-Ok.is c.fill_buf.follows.holds-at-none in
     let first = c.in-Some.ensures in
-    let moved = Consumes_shown _ _ _ _ held _ (omega (arith, first.0.high)) c.in-Ok.ensures.front c.in-Ok.ensures.end filled.0 filled.1 c.consume.ensures.bytes in
+    let moved = Consumes_shown _ _ _ _ held _ (omega (arith, first.0.high)) c.in-Ok.ensures.front c.in-Ok.ensures.end filled.0 filled.1
+    c.consume.ensures.bytes in
     line_taken _ _ held c.in-Some.place first.0.high (λ k lt is. first.0.before k (omega arith) lt (rw is refl)) (eqb-true _ _ first.1) moved.0
 
 pub returns-clause-bytes : goal.returns-clause-bytes
