@@ -43,6 +43,7 @@ pub enum Reply<'s, 'a> {
 /// # Errors
 ///
 /// `Signing` with the first fault of the zone, and `OutOfMemory`.
+#[tactic(auto, using(std::proofs::lemmas::Grind::common_steps, crate::proofs::RunLemmas::memory_told, crate::proofs::RunLemmas::no_nsecs, crate::proofs::RunLemmas::nsecs_made))]
 pub fn nsecs_of<'s, 'a>(
     alloc: Global,
     apex: &'s ParsedName<'a>,
