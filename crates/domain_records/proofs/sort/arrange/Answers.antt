@@ -1,5 +1,5 @@
 use Rattle.domain_records.proofs.OrderLemmas.{arranging_more}
-use Rattle.domain_records.proofs.arrange.arrange.Goals as goal
+use Rattle.domain_records.proofs.sort.arrange.Goals as goal
 
 pub loop-rank-preserved : goal.loop-rank-preserved
 loop-rank-preserved g c =

@@ -1,5 +1,5 @@
 use Rattle.std.{proofs.Common.take, specs.List.AllZip}
-use Rattle.domain_records.proofs.list.clone_all.Given as goal
+use Rattle.domain_records.proofs.sorted.clone_all.Given as goal
 
 -- the copies so far are of the items so far
 abbrev pub invariant-loop-item : goal.invariant-loop-item

@@ -2,7 +2,7 @@ use Rattle.std.proofs.{Common.{◌≡◌, sym, ◌∙◌}, lemmas.Bool.false≢t
 use Rattle.domain_names.specs.Name.{IsSame}
 use Rattle.domain_record.specs.declared.record.Record.{Record}
 use Rattle.domain_records.proofs.GroupLemmas.{has_first_weaker}
-use Rattle.domain_records.proofs.owner.OwnerRrs.is_zone_cut.Goals as goal
+use Rattle.domain_records.proofs.group.OwnerRrs.is_zone_cut.Goals as goal
 
 pub returns-then-not-name_eq : goal.returns-then-not-name_eq
 returns-then-not-name_eq g c =

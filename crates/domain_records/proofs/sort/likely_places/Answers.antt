@@ -1,8 +1,8 @@
 use Rattle.std.{proofs.{Common.{rules, get_or}, lemmas.Fn.always_returns_same}, specs.Ordering.{nat_cmp, on, then_cmp}}
 use Rattle.std.specs.Cmp.{then_total, on_total, nat_cmp_total}
 use Rattle.domain_record.specs.Record.{record_cmp, record_cmp_total}
-use Rattle.domain_records.specs.declared.owner_runs.Run.{Run}
-use Rattle.domain_records.proofs.owner_runs.likely_places.Goals as goal
+use Rattle.domain_records.specs.declared.sort.Run.{Run}
+use Rattle.domain_records.proofs.sort.likely_places.Goals as goal
 
 -- runs are ordered by key, and then by the records that they begin with
 pub sort_by-requires-clause-order : goal.sort_by-requires-clause-order

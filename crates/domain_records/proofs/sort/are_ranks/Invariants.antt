@@ -1,5 +1,5 @@
 use Rattle.std.proofs.Common.{◌≡◌, ◌<◌, ℕ, length, get_or}
-use Rattle.domain_records.proofs.arrange.are_ranks.Given as goal
+use Rattle.domain_records.proofs.sort.are_ranks.Given as goal
 
 -- so far, each has the other
 abbrev pub invariant-loop-k : goal.invariant-loop-k

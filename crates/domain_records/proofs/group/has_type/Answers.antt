@@ -1,7 +1,7 @@
 use Rattle.std.proofs.Common.{◌≡◌, ◌↔◌, IsTrue, rules}
 use Rattle.domain_record.specs.declared.record.Record.{Record}
 use Rattle.domain_records.{specs.Groups.items_of, proofs.GroupLemmas.{first_by, some_first}}
-use Rattle.domain_records.proofs.owner.has_type.Goals as goal
+use Rattle.domain_records.proofs.group.has_type.Goals as goal
 
 pub returns : goal.returns
 returns g c =

@@ -1,6 +1,6 @@
 use Rattle.std.proofs.{Common.rules, lemmas.Fn.always_returns_same}
 use Rattle.domain_records.proofs.OrderLemmas.{searched}
-use Rattle.domain_records.proofs.list.search.Goals as goal
+use Rattle.domain_records.proofs.sorted.search.Goals as goal
 
 -- the closure answers by the order, at the item that it holds
 pub returns : goal.returns
