@@ -11,7 +11,7 @@ use Rattle.domain_zone.{proofs.GivenLemmas.none_left_out, specs.{Covering.{cover
 use Rattle.domain_zone.proofs.NameLemmas.{before_order, one_lowered, same_itself, same_is, before_left, before_right, below_from, same_lowered}
 use Rattle.domain_zone.proofs.{WalkLemmas.{any_owner, any_in, owners_are, owners_ascend, apex_unoccluded, weaker, apart_right}, PairLemmas.{In, all_in}}
 use Rattle.domain_zone.proofs.PairLemmas.{IsAscending, IsApart, pairs_length, pairs_owners, one_matches_or_covers, gap, owner_in, next_is}
-use Rattle.domain_zone.{specs.declared.listed.ListedOwners.ListedOwners, proofs.PairLemmas.{in_at, in_map, IsOnly, only_map}}
+use Rattle.domain_zone.{specs.declared.owners.ListedOwners.ListedOwners, proofs.PairLemmas.{in_at, in_map, IsOnly, only_map}}
 use Rattle.domain_nsec.specs.{Chain.{is_listed, Link, link_of, links_in, nsec_lists, IsChain, IsFaultless, IsFirstFault}, Meaning.MirrorsZone}
 use Rattle.domain_nsec.specs.{Meaning.{IsMatchedOrCoveredOnce, IsCycle, OwnersAscend, last_next}, declared.config.GenerateNsecConfig.GenerateNsecConfig}
 use Rattle.domain_names.specs.Name.{is_at_or_below, lowered, same_name, before, Name}

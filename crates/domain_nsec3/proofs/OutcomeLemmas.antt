@@ -7,7 +7,7 @@ use Rattle.domain_hasher.specs.declared.error.Nsec3HashError.{Nsec3HashError, Th
 use Rattle.domain_octets.specs.Octets.{Octets}
 use Rattle.domain_bitmap.specs.Bitmap.{bitmap_octets}
 use Rattle.domain_zone.specs.{Enclosers.is_empty_nonterminal, Zone.{chain_ttl, soa_of, ZoneRecord, OwnersNeverDescend}, declared.soa.ApexSoa.ApexSoa}
-use Rattle.domain_zone.{specs.declared.listed.ListedOwners.ListedOwners, proofs.{NameLemmas.same_itself, WalkLemmas.{ascending_filter, in_any, owners_are}}}
+use Rattle.domain_zone.{specs.declared.owners.ListedOwners.ListedOwners, proofs.{NameLemmas.same_itself, WalkLemmas.{ascending_filter, in_any, owners_are}}}
 use Rattle.domain_zone.proofs.{WalkLemmas.{owners_ascend, all_filter, weaker}, PairLemmas.{IsAscending, all_from_in, ascending}}
 use Rattle.domain_nsec3.specs.Chain.{IsHashedChain, ChainConfig, AreAllHashed, IsFirstHashingFault, is_hashed_before, hash_fault, original_owners}
 use Rattle.domain_nsec3.specs.{Chain.{is_original_owner, is_chain_name, is_empty, nsec3_lists}, Steps.{AreOrderedHashes, AreWithEmpty, AreUsable, Common}}

@@ -1,6 +1,6 @@
 use Rattle.std.proofs.Common.{length}
 use Rattle.domain_zone.{specs.Zone.{covered_names, zone_of}, proofs.GivenLemmas.IsListing}
-use Rattle.domain_zone.proofs.listed.list_owners.Given as goal
+use Rattle.domain_zone.proofs.owners.list_owners.Given as goal
 
 abbrev pub invariant-owners : goal.invariant-owners
 invariant-owners g l =

@@ -1,6 +1,6 @@
 use Rattle.std.proofs.Common.{map, length}
 use Rattle.domain_zone.{proofs.GivenLemmas.{uneven_after, IsUneven}, specs.Zone.as_zone_record}
-use Rattle.domain_zone.proofs.listed.uneven_type.Given as goal
+use Rattle.domain_zone.proofs.owners.uneven_type.Given as goal
 
 -- what is found from the records that are left on is what all tell
 abbrev pub invariant-neighbours : goal.invariant-neighbours

@@ -1,6 +1,6 @@
 use Rattle.std.proofs.Common.{map, length}
 use Rattle.domain_zone.{specs.Zone.as_zone_record, proofs.GivenLemmas.Lists}
-use Rattle.domain_zone.proofs.listed.add_types.Given as goal
+use Rattle.domain_zone.proofs.owners.add_types.Given as goal
 
 abbrev pub invariant-records : goal.invariant-records
 invariant-records g l =

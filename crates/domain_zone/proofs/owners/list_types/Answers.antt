@@ -1,6 +1,6 @@
 use Rattle.std.proofs.Common.{◌∙◌}
 use Rattle.domain_zone.proofs.GivenLemmas.{wanted_octets}
-use Rattle.domain_zone.proofs.listed.list_types.Goals as goal
+use Rattle.domain_zone.proofs.owners.list_types.Goals as goal
 
 pub returns : goal.returns
 returns g c =

@@ -1,7 +1,7 @@
 use Rattle.std.proofs.{Common.{arith, sym, ap, map, subst}, lemmas.Grind.common_steps}
 use Rattle.domain_zone.{specs.Zone.{as_zone_record}, proofs.GivenLemmas.{raw_types, types_at, clash_told, NeverDescend, at_start}}
 use Rattle.domain_zone.proofs.GivenLemmas.{next_known, next_listed, next_uneven}
-use Rattle.domain_zone.proofs.listed.list_owners.Goals as goal
+use Rattle.domain_zone.proofs.owners.list_owners.Goals as goal
 
 pub owners-init : goal.owners-init
 owners-init g c = at_start _ _ _ _ c.new-left.ensures c.new-owners.ensures.names c.new-owners.ensures.types

@@ -1,6 +1,6 @@
 use Rattle.std.proofs.{Common.{arith, map}, lemmas.Grind.common_steps}
 use Rattle.domain_zone.{proofs.GivenLemmas.{seen_never_descend, uneven_told}, specs.Zone.as_zone_record}
-use Rattle.domain_zone.proofs.listed.uneven_type.Goals as goal
+use Rattle.domain_zone.proofs.owners.uneven_type.Goals as goal
 
 pub neighbours-init : goal.neighbours-init
 neighbours-init g c =
