@@ -130,16 +130,11 @@ module _ (L : List ZoneRecord) (a : Name) (config : ChainConfig) where
 
   -- what exists over the chain owners
   pub existing_are : (x : Name) → is_at_or_below x a ≡ true → exists_over (original_owners L a config) a x ≡ is_chain_name L a config x
-  existing_are x low =
-      ap (λ b. is_at_or_below x a && b) (any_at_or_below x (original_owners L a config)) ∙ exists_alike (is_original_owner L a config x)
-      (list_any (λ n. is_strictly_below n x) (original_owners L a config)) (owns L x) (is_at_or_below x a) low (owner_above x low)
+  existing_are x low = grind (arith, common_steps, any_at_or_below, exists_alike, owner_above)
 
   -- over the owners alone
   pub empty_are : (x : Name) → is_empty_nonterminal (original_owners L a config) a x ≡ is_empty L a config x
-  empty_are x =
-      empty_alike (is_original_owner L a config x) (list_any (λ n. is_strictly_below n x) (original_owners L a config)) (owns L x) (is_at_or_below x a)
-      (λ h. (and_parts (owns L x) _ (and_parts (owns L x && is_unoccluded config.occlude_below_dname L a x) _ (sym (original_is x) ∙ h)).0).0)
-      (owner_above x)
+  empty_are x = grind (arith, common_steps, empty_alike, original_is, owner_above)
 
   -- the owners and the empty non-terminals over them are the names of the chain
   pub names_are : (empty : List Name) → ((x : Name) → list_any (λ n. same_name n x) empty

@@ -1,24 +1,47 @@
-//! Hashes of names, each in place.
+//! Hashes of names, each in place, and their text.
 ghost use Rattle.std.specs.Prelude.{◌≡◌, ◌≤◌, length, take, ◌+◌, ◌<◌, ◌++◌, ◌∷◌, ◌⊎◌, [], Ok, Err, Some, None};
 ghost use Rattle.std.specs.Prelude.{All, IfOk, IfErr, IsErrOf, OnOk, vec_capacity, vec_len};
-ghost use Rattle.std.specs.{Ordering.nat_cmp, Cmp.Lexicographic.slice_cmp};
+ghost use Rattle.std.specs.{Ordering.nat_cmp, Cmp.Lexicographic.slice_cmp, Fmt.WritesOnOk};
 ghost use Rattle.domain_octets.specs.{Octets.Octets, Text.dot};
+ghost use Rattle.domain_codecs.specs.Base32.{base32_lower};
 ghost use Rattle.domain_nsec3.specs.{Chain.{hashed_owner, hash_name, hash_fault, IsNoHash}, Steps.AreHashesOf};
-ghost use Rattle.domain_nsec3.specs.{Steps.{IsFirstRefused, IsHashed, IsRefusal}, View.hash_by};
-ghost use Rattle.domain_nsec3.specs.View.{parameters_of};
+ghost use Rattle.domain_nsec3.specs.{Steps.{IsFirstRefused, IsHashed, IsRefusal}, View.{hash_by, parameters_of}};
 ghost use Rattle.domain_names.specs.Text.{name_text};
 ghost use Rattle.domain_hasher.specs.declared.error.Nsec3HashError.TheVariants as hash_error;
 
-use crate::hash_text::{MAX_TEXT, display_hash, write_hash};
 use domain_base::{MAX_NAME, MakeName, Nsec3HashAlgorithm, ParsedName, ToName};
 use domain_bitmap::Nsec3Salt;
 use domain_chain_rdata::Nsec3param;
+use domain_codecs::base32::Digits;
 use domain_hasher::{HasherError, Nsec3HashError, Nsec3Hasher};
 use domain_octets::{Octets, OutOfMemory};
 use std::alloc::Global;
 use std::cmp::Ordering;
 use std::fmt;
 use std::marker::Model;
+
+/// Room for the text of a hash that is a label, of at most 63 octets, and seven octets more: digits
+/// are written eight at a time.
+const MAX_TEXT: usize = 70;
+
+/// Writes the text of a hash in lower case to the front of a buffer.
+fn write_hash<'a>(buffer: &'a mut [u8], hash: &[u8]) -> &'a [u8]
+    requires { length (base32_lower hash.now) + 7 ≤ length buffer.old }
+    ensures { result.now ≡ base32_lower hash.now }
+{
+    let end = Digits::new(hash).put_lower(buffer);
+    &buffer[..end]
+}
+
+/// Prints the text of a hash in lower case.
+fn display_hash<W: fmt::Write>(hash: &[u8], f: &mut fmt::Formatter<W>) -> fmt::Result
+    requires { length hash.now ≤ 39 }
+    ensures { WritesOnOk W.write_str_gives f.old result (base32_lower hash.now) f.new }
+{
+    let mut buffer = [0; MAX_TEXT];
+    let text = write_hash(&mut buffer, hash);
+    f.write_str(unsafe { str::from_utf8_unchecked(text) })
+}
 
 /// The greatest length of a hash whose text is one label.
 pub(crate) const MAX_HASH: usize = 39;

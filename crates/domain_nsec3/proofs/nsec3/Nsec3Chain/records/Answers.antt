@@ -1,6 +1,6 @@
 use Rattle.std.proofs.Common.{◌∙◌, arith}
 use Rattle.domain_nsec3.proofs.ChainLemmas.{one_made}
-use Rattle.domain_nsec3.proofs.nsec3_chain.Nsec3Chain.records.Goals as goal
+use Rattle.domain_nsec3.proofs.nsec3.Nsec3Chain.records.Goals as goal
 
 pub loop-place-preserved : goal.loop-place-preserved
 loop-place-preserved g c =

@@ -1,6 +1,6 @@
 use Rattle.std.proofs.{Common.{length, ap, arith, subst, ◌∙◌}, lemmas.Grind.common_steps}
 use Rattle.domain_nsec3.{specs.{Chain.{ChainRecords, HashedLink}, Meaning.IsRecordOf, Steps.common_of}, proofs.ChainLemmas.{links_counted, hash_there}}
-use Rattle.domain_nsec3.proofs.nsec3_chain.Nsec3Chain.hash_at.Goals as goal
+use Rattle.domain_nsec3.proofs.nsec3.Nsec3Chain.hash_at.Goals as goal
 
 pub index-requires : goal.index-requires
 index-requires g c = grind (arith, common_steps, links_counted)

@@ -1,6 +1,6 @@
 use Rattle.std.proofs.Common.{◌≡◌, ◌++◌, drop}
 use Rattle.domain_nsec3.proofs.OwnerLemmas.{gathered}
-use Rattle.domain_nsec3.proofs.empty.names_over.Given as goal
+use Rattle.domain_nsec3.proofs.chain.names_over.Given as goal
 
 abbrev pub invariant-loop-owner : goal.invariant-loop-owner
 invariant-loop-owner l =

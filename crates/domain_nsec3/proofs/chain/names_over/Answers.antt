@@ -2,8 +2,8 @@ use Rattle.std.proofs.Common.{◌≡◌, true, ◌++◌, ◌+◌, drop, ◌∷�
 use Rattle.std.{proofs.lemmas.{Grind.common_steps, List.{append-nil, drop_more, drop_all, Elements.recursion_from_All}}, specs.Prelude.if◌then◌else◌}
 use Rattle.domain_names.specs.Name.{is_at_or_below}
 use Rattle.domain_nsec3.{specs.Steps.{IsListOf, is_over}, proofs.OwnerLemmas.{gathered, gathered_step, listed}}
-use Rattle.domain_nsec3.proofs.empty.names_over.Goals.{then-with_owners+in_ok-try_clone+in_ok-push, else-with_owners}
-use Rattle.domain_nsec3.proofs.empty.names_over.Goals as goal
+use Rattle.domain_nsec3.proofs.chain.names_over.Goals.{then-with_owners+in_ok-try_clone+in_ok-push, else-with_owners}
+use Rattle.domain_nsec3.proofs.chain.names_over.Goals as goal
 
 pub loop-owner-init : goal.loop-owner-init
 loop-owner-init c = rw c.new-names.ensures.items refl
