@@ -1,6 +1,6 @@
 use Rattle.std.proofs.Common.{◌≡◌, ◌≤◌, length, take}
 use Rattle.domain_codecs.proofs.CodecLemmas.{Digits}
-use Rattle.domain_checker.proofs.spelled.read_label.Given as goal
+use Rattle.domain_checker.proofs.nsec3.read_label.Given as goal
 
 abbrev pub invariant-loop-c : goal.invariant-loop-c
 invariant-loop-c l = record {

@@ -1,7 +1,7 @@
 use Rattle.std.{proofs.Common.{◌≡◌, map, drop}, specs.{List.find, Option.{option_map, option_or}}}
 use Rattle.domain_nsec3.specs.View.{as_hashed_link, parameters_of}
 use Rattle.domain_checker.specs.HashedVerdict.{is_hash_cover, is_hash_match}
-use Rattle.domain_checker.proofs.hashed.find_hash.Given as goal
+use Rattle.domain_checker.proofs.nsec3.find_hash.Given as goal
 
 -- what is found in the whole list is found in the rest, unless a cover was met already
 abbrev pub invariant-loop-listed : goal.invariant-loop-listed

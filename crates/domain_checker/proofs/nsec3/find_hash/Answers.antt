@@ -1,6 +1,6 @@
 use Rattle.std.proofs.{Common.arith, lemmas.Grind.common_steps}
-use Rattle.domain_checker.proofs.HashedListLemmas.{tied_is}
-use Rattle.domain_checker.proofs.hashed.find_hash.Goals as goal
+use Rattle.domain_checker.proofs.HashedVerdictLemmas.{tied_is}
+use Rattle.domain_checker.proofs.nsec3.find_hash.Goals as goal
 
 pub returns-then-is_eq : goal.returns-then-is_eq
 returns-then-is_eq g c = grind (arith, common_steps, tied_is)

@@ -1,9 +1,9 @@
 use Rattle.std.proofs.{Common.{◌≡◌, ℕ, List, arith}, lemmas.Grind.common_steps}
 use Rattle.domain_names.specs.Name.{Name}
 use Rattle.domain_nsec.specs.Chain.{Link}
-use Rattle.domain_checker.{proofs.{MeantLemmas.handed_in, nsec_check.NsecCheck.verdict.Goals.After-to_int-number}, specs.Reading.{HasRead, IsChecked}}
+use Rattle.domain_checker.{proofs.{MeantLemmas.handed_in, nsec.NsecCheck.verdict.Goals.After-to_int-number}, specs.Reading.{HasRead, IsChecked}}
 use Rattle.domain_checker.specs.{Reading.reading, declared.verdict.Verdict.Verdict}
-use Rattle.domain_checker.proofs.nsec_check.NsecCheck.verdict.Goals as goal
+use Rattle.domain_checker.proofs.nsec.NsecCheck.verdict.Goals as goal
 
 -- what the records say is what is promised
 checked : (c : After-to_int-number) (a x : Name) (t : ℕ) (listed : List Link) → HasRead a x t listed c.args.self.now → (verdict : Verdict)

@@ -1,8 +1,8 @@
 use Rattle.std.{proofs.Common.{◌≡◌, length}, specs.Option.option_map}
 use Rattle.domain_names.specs.Name.{lowered, wire_of}
 use Rattle.domain_nsec3.specs.View.{as_hashed_link}
-use Rattle.domain_checker.{proofs.HashedListLemmas.IsReached, specs.HashedVerdict.hashed_records}
-use Rattle.domain_checker.proofs.encloser.find_nsec3_encloser.Given as goal
+use Rattle.domain_checker.{proofs.HashedVerdictLemmas.IsReached, specs.HashedVerdict.hashed_records}
+use Rattle.domain_checker.proofs.nsec3.find_nsec3_encloser.Given as goal
 
 -- no record matches a name before the one that is left, and the cover is the first of the name right before it
 abbrev pub invariant-names : goal.invariant-names

@@ -1,7 +1,7 @@
 use Rattle.std.proofs.{Common.{◌∙◌, sym, None, arith}, lemmas.Grind.common_steps}
-use Rattle.domain_checker.proofs.HashedListLemmas.{outside_unmatched, encloser_there, missed_there, none_left, reached_first, reached_on}
-use Rattle.domain_checker.{proofs.HashedListLemmas.{refused_there, wire_above}, specs.HashedVerdict.hashed_records}
-use Rattle.domain_checker.proofs.encloser.find_nsec3_encloser.Goals as goal
+use Rattle.domain_checker.proofs.HashedVerdictLemmas.{encloser_there, missed_there, none_left, outside_unmatched, reached_first, reached_on, refused_there}
+use Rattle.domain_checker.{proofs.HashedVerdictLemmas.wire_above, specs.HashedVerdict.hashed_records}
+use Rattle.domain_checker.proofs.nsec3.find_nsec3_encloser.Goals as goal
 
 pub returns-then-not-ends_with-clause-found : goal.returns-then-not-ends_with-clause-found
 returns-then-not-ends_with-clause-found g c =
