@@ -1,6 +1,6 @@
 use Rattle.std.proofs.{Common.{arith, ◌<◌, length, refl, subst}, lemmas.Grind.common_steps}
 use Rattle.domain_borrowed.proofs.DataLemmas.{faulty_header, cut_data}
-use Rattle.domain_borrowed.proofs.wire.read_record.Goals as goal
+use Rattle.domain_borrowed.proofs.record.read_record.Goals as goal
 
 pub returns-in_default-clause-none : goal.returns-in_default-clause-none
 returns-in_default-clause-none c = grind (arith, common_steps, faulty_header)
