@@ -218,8 +218,7 @@ module _ {N D : Type 0} (labels : N → List (List ℕ)) (rtype : D → ℕ) whe
   follows_by r s h = record { owner = h.0; type = λ same. h.1 (same_tied (labels r.owner) (labels s.owner) same) }
 
   follows_chain : (r s t : Record N D) → MayFollow labels rtype r s → MayFollow labels rtype s t → MayFollow labels rtype r t
-  follows_chain r s t h k = grind (arith, common_steps, same_tied, tied_same, (upto canonical_cmp_total (labels r.owner) (labels s.owner) (labels t.owner)),
-    (tied_between canonical_cmp_total (labels r.owner) (labels s.owner) (labels t.owner)))
+  follows_chain r s t h k = grind (arith, common_steps, same_tied, tied_same, (upto canonical_cmp_total), (tied_between canonical_cmp_total))
 
   -- the test of two records says whether one may follow the other
   may_follow-means : (r s : Record N D) → may_follow labels rtype r s ≡ true → MayFollow labels rtype r s
