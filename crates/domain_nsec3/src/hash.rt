@@ -101,7 +101,7 @@ pub(crate) struct Hashed {
 }
 
 /// Whether octets are of use as a hash below an apex. Else tells the first reason why not.
-#[tactic(auto, using(std::proofs::lemmas::Grind::common_steps, domain_octets::proofs::WordLemmas::octets_from_type, crate::proofs::HashLemmas::owner_length))]
+#[tactic(auto, using(std::proofs::lemmas::Grind::common_steps, domain_octets::proofs::WordLemmas::octets_from_type, crate::proofs::OwnerLemmas::owner_length))]
 fn check_hash(apex: &ParsedName<'_>, hash: &[u8]) -> Result<(), Nsec3HashError>
     ensures ok { OnOk result (hash_fault apex.now (Ok hash.now) ≡ None) }
     ensures octets { OnOk result (All (λ octet. octet < 256) hash.now) }
@@ -178,7 +178,7 @@ fn put_octets(buffer: &mut [u8], at: usize, octets: &[u8]) -> usize
 }
 
 /// Writes a label with its length, and then the name above it, to the front of a buffer.
-#[tactic(auto, using(crate::proofs::HashLemmas::first_set))]
+#[tactic(auto, using(crate::proofs::OwnerLemmas::first_set))]
 fn join_label<'a>(buffer: &'a mut [u8], label: &[u8], above: &[u8]) -> &'a [u8]
     requires label { length label.now < 256 }
     requires fits { length label.now + 1 + length above.now ≤ length buffer.old }
@@ -323,7 +323,7 @@ impl<'a> HashedOwner<'a> {
 impl fmt::Display for HashedOwner<'_> {
     ghost output = { λ n. Some (name_text n ++ dot ∷ []) };
 
-    #[tactic(auto, using(std::proofs::lemmas::Grind::common_steps, crate::proofs::HashLemmas::owner_at_root, crate::proofs::HashLemmas::owner_below))]
+    #[tactic(auto, using(std::proofs::lemmas::Grind::common_steps, crate::proofs::OwnerLemmas::owner_at_root, crate::proofs::OwnerLemmas::owner_below))]
     fn fmt<W: fmt::Write>(&self, f: &mut fmt::Formatter<W>) -> fmt::Result {
         display_hash(self.hash, f)?;
         if self.apex.is_root() {

@@ -1,6 +1,6 @@
 use Rattle.std.{proofs.{Common.{arith, sym, subst}, lemmas.Str.IsUtf8-from_ascii}, specs.Str.IsAscii}
 use Rattle.domain_octets.proofs.WordLemmas.{octets_from_type}
-use Rattle.domain_nsec3.proofs.HashLemmas.{ascii_text, text_length}
+use Rattle.domain_nsec3.proofs.OwnerLemmas.{ascii_text, text_length}
 use Rattle.domain_nsec3.proofs.hash.display_hash.Goals as goal
 
 pub write_hash-text-requires : goal.write_hash-text-requires
