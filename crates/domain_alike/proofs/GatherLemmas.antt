@@ -5,8 +5,8 @@ use Rattle.std.{proofs.lemmas.List.Elements.recursion_from_All, specs.List.{AllB
 use Rattle.domain_names.specs.Name.{is_at_or_below, same_name, before, canonical_cmp, Name}
 use Rattle.domain_zone.{specs.{Enclosers.exists_over, Zone.ZoneRecord}, proofs.NameLemmas.{before_order, below_from, below_itself, below_trans, one_lowered}}
 use Rattle.domain_zone.proofs.{NameLemmas.same_itself, WalkLemmas.{any_in, after_or, weaker}, PairLemmas.{all_in, ascending, lt_trans}}
-use Rattle.domain_nsec3.{specs.{Steps.IsListOf, Chain.{ChainConfig, is_chain_name, original_owners}}, proofs.OwnerLemmas.{sorted, existing_are}}
-use Rattle.domain_nsec3.proofs.OutcomeLemmas.{original_below}
+use Rattle.domain_nsec3.{proofs.{ChainLemmas.original_below, OwnerLemmas.{existing_are, sorted}}, specs.Chain.{ChainConfig, is_chain_name, original_owners}}
+use Rattle.domain_nsec3.specs.Steps.{IsListOf}
 
 module _ (L : List ZoneRecord) (a : Name) (config : ChainConfig) where
   -- no name outside of the zone is one

@@ -6,10 +6,10 @@ use Rattle.domain_chain_rdata.specs.Rdata.{is_opt_out}
 use Rattle.domain_zone.specs.Zone.{ZoneRecord, is_zone_cut}
 use Rattle.domain_nsec.specs.Chain.{Link}
 use Rattle.domain_nsec3.specs.Chain.{HashedLink, ChainConfig, nsec3_lists}
-use Rattle.domain_checker.proofs.AlikeLemmas.{is_cover_alike, is_match_alike, nexts, owners, says_alike, shared_alike, OptionsPaired, any_alike, find_alike}
-use Rattle.domain_checker.proofs.{AlikeLemmas.{covered_alike, IsEncloserAlike, encloser_alike, matched_alike, matching, covering}, EncloserLemmas.same_count}
-use Rattle.domain_checker.specs.{Verdict.{ArePaired, IsAlike, IsHashedAlike}, HashedReading.Encloser, HashedVerdict.{next_closer, HashedRecords, chain_records}}
-use Rattle.domain_checker.specs.{HashedVerdict.with_links, Reading.{is_cover, is_match}}
+use Rattle.domain_checker.proofs.MeantLemmas.{IsEncloserAlike, OptionsPaired, any_alike, covered_alike, covering, encloser_alike, find_alike, is_cover_alike}
+use Rattle.domain_checker.proofs.MeantLemmas.{is_match_alike, matched_alike, matching, nexts, owners, same_count, says_alike, shared_alike}
+use Rattle.domain_checker.specs.{HashedReading.Encloser, HashedVerdict.{HashedRecords, chain_records, next_closer, with_links}, Reading.{is_cover, is_match}}
+use Rattle.domain_checker.specs.Verdict.{ArePaired, IsAlike, IsHashedAlike}
 use Rattle.domain_answer.specs.HashedReading.{IsExpansionRead, closer_name, closer_told, proved_expansion, hashed_proved_answer, tells_encloser, tells_wildcard}
 use Rattle.domain_answer.specs.HashedReading.{IsHashedRead, IsReadOn, found_answer, wildcard_told, hashed_encloser, hashed_exists, hashed_zone_answer}
 use Rattle.domain_answer.specs.{declared.answer.Answer.{Answer, TheVariants.{MayBeUnsigned, NoCloserName, NotProven}}, Reading.{proved_answer, absent_answer}}

@@ -13,11 +13,11 @@ use Rattle.domain_zone.proofs.{NameLemmas.{lowered_below, same_is}, WalkLemmas.{
 use Rattle.domain_zone.specs.{Covering.{matches, covers, pairs}, Enclosers.{IsClosestEncloser, longer, shared}, Zone.{ZoneRecord, OwnersNeverDescend}}
 use Rattle.domain_zone.specs.Zone.{has_type, is_occluded, is_unoccluded, is_zone_cut, occludes, owns, records_of, unoccluded_owners, distinct}
 use Rattle.domain_nsec.specs.{Chain.{Link, IsChain, is_listed, nsec_lists}, declared.config.GenerateNsecConfig.GenerateNsecConfig}
-use Rattle.domain_checker.{proofs.AlikeLemmas.paired_with_some, specs.Verdict.{IsAlike, NsecChainsAreKnown, NsecFacts, has_match_or_cover, HasProof}}
-use Rattle.domain_checker.{specs.Verdict.is_inside, proofs.EncloserLemmas.{closest_is, cut_same, owner_owns, same_count, strictly_trans, top_occluder}}
-use Rattle.domain_checker.proofs.{EncloserLemmas.{choose_by, either_found}, MeantLemmas.{apex_exists, config_with, cut_at, ends, list_says, owner_low}}
-use Rattle.domain_checker.proofs.MeantLemmas.{type_at, covered_encloser, covered_no_owner, covered_occluded, covered_under, covered_unowned, matched_high}
-use Rattle.domain_checker.{proofs.MeantLemmas.{matched_low, matched_same, some_link}, specs.Reading.{is_at_cut, is_cover, is_match}}
+use Rattle.domain_checker.proofs.MeantLemmas.{apex_exists, choose_by, closest_is, config_with, covered_encloser, covered_no_owner, covered_occluded}
+use Rattle.domain_checker.proofs.MeantLemmas.{covered_under, covered_unowned, cut_at, cut_same, either_found, ends, list_says, matched_high, matched_low}
+use Rattle.domain_checker.proofs.MeantLemmas.{matched_same, owner_low, owner_owns, paired_with_some, same_count, some_link, strictly_trans, top_occluder}
+use Rattle.domain_checker.{proofs.MeantLemmas.type_at, specs.{Reading.{is_at_cut, is_cover, is_match}, Verdict.{HasProof, IsAlike, NsecChainsAreKnown}}}
+use Rattle.domain_checker.specs.Verdict.{NsecFacts, has_match_or_cover, is_inside}
 use Rattle.domain_answer.proofs.{AlikeLemmas.{proved_alike, reading_alike}, EncloserLemmas.{expanded_alike, owned_alike, closest_last, cut_owns, none_above}}
 use Rattle.domain_answer.{proofs.EncloserLemmas.{parent_below, strictly_enclosed, wildcard_low, highest_of, encloser_less, all_told}, specs.Reading.IsFound}
 use Rattle.domain_answer.specs.Reading.{IsAnswered, LeavesOutBelowDname, is_missing, knows_wildcard, proved_answer, CountsWithin, RestsOn, cover_answer}

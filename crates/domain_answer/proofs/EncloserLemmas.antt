@@ -12,8 +12,8 @@ use Rattle.domain_zone.proofs.{NameLemmas.{exists_same, shared_within}, WalkLemm
 use Rattle.domain_zone.specs.{Covering.{covers, matches}, Enclosers.{IsClosestEncloser, exists_over, longer, shared}, Zone.{ZoneRecord, has_type}}
 use Rattle.domain_zone.specs.Zone.{is_occluded, is_unoccluded, is_zone_cut, occludes, owns, records_of, unoccluded_owners}
 use Rattle.domain_nsec.specs.Chain.{nsec_lists}
-use Rattle.domain_checker.proofs.EncloserLemmas.{occluded_same, occludes_same, strictly_trans, top_occluder, choose_by, cut_same, same_count}
-use Rattle.domain_checker.{proofs.HashedListLemmas.below_drop, specs.Verdict.closest_encloser}
+use Rattle.domain_checker.proofs.{HashedVerdictLemmas.below_drop, MeantLemmas.{choose_by, cut_same, occluded_same, occludes_same, same_count, strictly_trans}}
+use Rattle.domain_checker.{proofs.MeantLemmas.top_occluder, specs.Verdict.closest_encloser}
 use Rattle.domain_answer.specs.{Reading.{IsAbsent, IsHere, IsRedirected, IsReferred, IsSo, wildcard_of}, ZoneAnswer.{expanded_answer, owned_answer, asterisk}}
 use Rattle.domain_answer.specs.ZoneAnswer.{highest_occluder, wildcard_below, encloser, inside_answer, is_at_parent, missing_answer, name_exists}
 use Rattle.domain_answer.specs.{ZoneAnswer.{occluded_answer, owns_type, unoccluded_answer, zone_answer}, declared.answer.Answer.Answer}

@@ -14,13 +14,13 @@ use Rattle.domain_zone.{proofs.PairLemmas.{any_none, In, all_in}, specs.{Enclose
 use Rattle.domain_zone.specs.Zone.{is_zone_cut, records_of, occludes, unoccluded_owners}
 use Rattle.domain_nsec.specs.Chain.{Link}
 use Rattle.domain_nsec3.specs.{Chain.{HashedLink, IsHashedChain, hash_name, ChainConfig, nsec3_lists, original_owners}, Meaning.IsAlone}
-use Rattle.domain_checker.proofs.EncloserLemmas.{choose_by, either_found, not_below, owner_unoccluded, same_count, apex_from, closest_is, exists_above}
-use Rattle.domain_checker.proofs.{EncloserLemmas.{cut_same, owner_high}, HashedListLemmas.{IsClosed, by_way, heard, itself_counted, unheard, cover_denies}}
-use Rattle.domain_checker.proofs.{HashedListLemmas.{match_is_of_name, alone_by, matched_same, whole_covers, whole_matches}, HashedVerdictLemmas.IsGone}
-use Rattle.domain_checker.proofs.HashedVerdictLemmas.{IsKnown, IsOfClosest, encloser_is, known_of_first, as_chain, whole_proves as proves_all}
-use Rattle.domain_checker.{proofs.AlikeLemmas.paired_with_some, specs.{Verdict.{IsHashedAlike, NsecChainsAreKnown}, HashedReading.{Encloser, IsEncloser}}}
-use Rattle.domain_checker.specs.{HashedReading.{IsFoundEncloser, encloser_is_cut}, HashedVerdict.{ChainFacts, ChainsAreKnown, is_hash_cover, is_hash_match}}
-use Rattle.domain_checker.specs.HashedVerdict.{is_covered, is_matched, next_closer, is_below_chain_cut, HashedRecords, first_cover, first_match, chain_records}
+use Rattle.domain_checker.proofs.HashedVerdictLemmas.{IsClosed, IsGone, IsKnown, IsOfClosest, alone_by, as_chain, by_way, cover_denies, encloser_is, heard}
+use Rattle.domain_checker.proofs.HashedVerdictLemmas.{itself_counted, known_of_first, match_is_of_name, matched_same, unheard, whole_covers, whole_matches}
+use Rattle.domain_checker.proofs.{HashedVerdictLemmas.whole_proves as proves_all, MeantLemmas.{apex_from, choose_by, closest_is, cut_same, either_found}}
+use Rattle.domain_checker.proofs.MeantLemmas.{exists_above, not_below, owner_high, owner_unoccluded, paired_with_some, same_count}
+use Rattle.domain_checker.specs.{HashedReading.{Encloser, IsEncloser, IsFoundEncloser, encloser_is_cut}, HashedVerdict.{ChainFacts, ChainsAreKnown}}
+use Rattle.domain_checker.specs.HashedVerdict.{HashedRecords, chain_records, first_cover, first_match, is_below_chain_cut, is_covered, is_hash_cover}
+use Rattle.domain_checker.specs.{HashedVerdict.{is_hash_match, is_matched, next_closer}, Verdict.{IsHashedAlike, NsecChainsAreKnown}}
 use Rattle.domain_answer.proofs.EncloserLemmas.{expanded_alike, owned_alike, closest_last, dname_occludes, exists_low, none_below, wildcard_low, last_above}
 use Rattle.domain_answer.proofs.EncloserLemmas.{last_count, all_told, below_strictly, cut_occludes, cut_owns, name_of, none_above, strictly_enclosed}
 use Rattle.domain_answer.proofs.{EncloserLemmas.{strictly_other, strictly_same, highest_of, owner_exists}, ChainLemmas.{reading_proved, reading_fits}}

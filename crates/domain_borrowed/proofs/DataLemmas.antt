@@ -1,13 +1,15 @@
 -- Records whose data are octets.
-use Rattle.std.proofs.Common.{arith, ◌≡◌, ℕ, List, [], ◌<◌, ◌+◌, ◌∷◌, ◌++◌, length, take, drop, refl, sym, ap, ◌∙◌, append_assoc, length-append}
-use Rattle.std.proofs.lemmas.{Grind.common_steps, List.{take_at, drop_at}}
-use Rattle.domain_names.specs.{Wire.Fault, Name.wire_of}
-use Rattle.domain_fields.{specs.Layout.{Values, Begins, FirstFault, octets_of}, proofs.{ExactLemmas.fault_excludes, LayoutLemmas.{same_data, Same}}}
-use Rattle.domain_chain_rdata.{specs.Rdata.{nsec, nsec3, nsec3param}, proofs.TextLemmas.{nsec_back, nsec3_back, params_back}}
+use Rattle.domain_borrowed.specs.Data.{IsNsec, IsNsec3, IsOneRecord, IsParam, IsRecord, RawRecord, header, header_of, last_long, nsec3_record, nsec_record}
+use Rattle.domain_borrowed.specs.Data.{param_record, record_octets}
+use Rattle.domain_chain_rdata.{proofs.TextLemmas.{nsec3_back, nsec_back, params_back}, specs.Rdata.{nsec, nsec3, nsec3param}}
+use Rattle.domain_fields.{proofs.{ExactLemmas.fault_excludes, LayoutLemmas.{Same, same_data}}, specs.Layout.{Begins, FirstFault, Values, long, name, octets_of}}
+use Rattle.domain_fields.specs.Layout.{one, ◌▸◌}
+use Rattle.domain_names.specs.{Name.wire_of, Wire.Fault}
 use Rattle.domain_nsec.specs.Chain.{Link}
 use Rattle.domain_nsec3.specs.Chain.{HashedLink, ParamRecord}
-use Rattle.domain_borrowed.specs.Data.{RawRecord, nsec_record, nsec3_record, param_record, IsNsec, IsNsec3, IsParam, header, header_of, record_octets}
-use Rattle.domain_borrowed.specs.Data.{IsOneRecord, IsRecord}
+use Rattle.domain_plain.specs.Plain.{soa}
+use Rattle.std.proofs.Common.{List, Some, [], ap, append_assoc, arith, drop, length, length-append, refl, sym, take, ℕ, ◌++◌, ◌+◌, ◌<◌, ◌^◌, ◌∙◌, ◌∷◌, ◌≡◌}
+use Rattle.std.{proofs.lemmas.{Grind.common_steps, List.{drop_at, take_at}}, specs.Int.{to_be_bytes, w32}}
 
 -- ---- The data of records, read whole.
 
@@ -88,3 +90,18 @@ not_empty (octet ∷ octets) some = omega arith
 -- less is left after a record
 pub shorter : (r : RawRecord) (left after : List ℕ) → left ≡ record_octets r ++ after → length after < length left
 shorter r left after e = grind (arith, common_steps, some_octets)
+
+-- ---- The MINIMUM of an SOA as the last of its octets.
+
+last_of : (xs : List ℕ) (n : ℕ) → n < 2 ^ 32 → last_long (xs ++ to_be_bytes w32 n) ≡ Some n
+last_of xs n fits = grind (arith, common_steps)
+
+pub minimum_last : (v : Values soa) → v.1.1.1 < 2 ^ 32 → last_long (octets_of soa v) ≡ Some v.1.1.1
+unfolding octets_of
+minimum_last v fits =
+    let names = octets_of (one name ▸ one name) v.0 in
+    let times = octets_of (one long ▸ one long ▸ one long) v.1.0 in
+    let expire = to_be_bytes w32 v.1.1.0 in
+    let minimum = to_be_bytes w32 v.1.1.1 in
+    ap last_long (ap (λ o. names ++ o) (sym (append_assoc times expire minimum)) ∙ sym (append_assoc names (times ++ expire) minimum))
+    ∙ last_of _ _ fits

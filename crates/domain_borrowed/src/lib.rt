@@ -8,11 +8,10 @@
 //! [`read_record`] reads a record as a message has it, and [`compose_record`] writes one.
 #![tactic(auto)]
 
-mod data;
 pub mod laws;
 mod record;
-mod wire;
 
-pub use data::BorrowedData;
-pub use record::{BorrowedRecord, ReadAs, ReadNsec, ReadNsec3, ReadNsec3param};
-pub use wire::{compose_parts, compose_record, read_record};
+pub use record::{
+    BorrowedData, BorrowedRecord, ReadAs, ReadNsec, ReadNsec3, ReadNsec3param, compose_parts,
+    compose_record, read_record,
+};

@@ -1,18 +1,114 @@
-//! Records that lie in octets, and their data as those of chains.
-ghost use Rattle.std.specs.Prelude.{◌≡◌, ◌==◌, ◌&&◌, ℕ, Bool, IfNone, IfSome};
+//! Records that lie in octets (RFC 1035, section 4.1.3), and their data, also as those of chains.
+ghost use Rattle.std.specs.Prelude.{◌≡◌, ◌==◌, ◌&&◌, ◌≤◌, ◌++◌, ℕ, Bool, IfNone, IfSome, length};
+ghost use Rattle.domain_octets.specs.Octets.{Octets};
 ghost use Rattle.domain_base.specs.Types as rtypes;
 ghost use Rattle.domain_names.specs.Name.{same_name, Name};
+ghost use Rattle.domain_fields.specs.Layout.{Appends};
 ghost use Rattle.domain_nsec.specs.Chain.{Link, as_link};
 ghost use Rattle.domain_nsec3.specs.Chain.{HashedLink, ParamRecord};
 ghost use Rattle.domain_nsec3.specs.View.{as_hashed_link, as_param_record};
-ghost use Rattle.domain_borrowed.specs.Data.{RawRecord, nsec_record, nsec3_record, param_record, IsNsec};
-ghost use Rattle.domain_borrowed.specs.Data.{IsNsec3, IsParam};
+ghost use Rattle.domain_borrowed.specs.Data.{last_long, RawRecord, nsec_record, nsec3_record, param_record};
+ghost use Rattle.domain_borrowed.specs.Data.{IsNsec, IsNsec3, IsParam, raw_record, raw_record_of};
+ghost use Rattle.domain_borrowed.specs.Data.{record_octets, IsRecord};
 
-use crate::BorrowedData;
-use domain_base::{ParsedName, Rtype, ToName};
+use domain_base::{CanonicalOrd, Class, ParsedName, Rtype, ToName, Ttl};
 use domain_chain_rdata::{Nsec, Nsec3, Nsec3param};
-use domain_octets::Parser;
-use domain_record::{Record, RecordData};
+use domain_fields::{Fields, ReadFields};
+use domain_octets::{AppendError, OctetsBuilder, OutOfMemory, Parser, TryClone};
+use domain_record::{ComposeRecordData, Record, RecordData, ZoneData};
+use std::cmp::Ordering;
+use std::marker::Model;
+
+/// The number that the last four octets are; None where there are less.
+fn last_long(octets: &[u8]) -> Option<Ttl>
+    ensures { result ≡ last_long octets.now }
+{
+    match octets {
+        [.., a, b, c, d] => Some(Ttl::from_secs(u32::from_be_bytes([*a, *b, *c, *d]))),
+        _ => None,
+    }
+}
+
+/// Data of any type, as octets that lie elsewhere: in a message, or in an arena.
+#[derive(Drop)]
+pub struct BorrowedData<'a> {
+    rtype: Rtype,
+    octets: &'a [u8],
+}
+
+impl<'a> Model for BorrowedData<'a> {
+    ghost use Rattle.domain_borrowed.specs.Data.{RawData};
+
+    ghost Value = { RawData };
+
+    ghost view = { λ d. record { rtype = d.rtype; octets = d.octets.now } };
+}
+
+impl<'a> BorrowedData<'a> {
+    /// The data of a type that these octets are.
+    pub fn new(rtype: Rtype, octets: &'a [u8]) -> Self
+        ensures { result ≡ record { rtype = rtype; octets = octets.now } }
+    {
+        BorrowedData { rtype, octets }
+    }
+
+    /// The octets of the data.
+    pub fn octets(&self) -> &'a [u8]
+        ensures { result.now ≡ self.now.octets }
+    {
+        self.octets
+    }
+}
+
+// A copy is over the same octets.
+impl<'a> TryClone for BorrowedData<'a> {
+    ghost is_clone = { λ d copy. copy ≡ d };
+
+    fn try_clone(&self) -> Result<Self, OutOfMemory> {
+        Ok(BorrowedData {
+            rtype: self.rtype,
+            octets: self.octets,
+        })
+    }
+}
+
+impl<'a> RecordData for BorrowedData<'a> {
+    ghost rtype = { λ d. d.rtype };
+
+    fn rtype(&self) -> Rtype {
+        self.rtype
+    }
+}
+
+// The MINIMUM is the last field of an SOA, of four octets.
+impl<'a> ZoneData for BorrowedData<'a> {
+    ghost use Rattle.domain_borrowed.specs.Data.{minimum_of};
+
+    ghost minimum = { minimum_of };
+
+    fn soa_minimum(&self) -> Option<Ttl> {
+        if self.rtype != Rtype::SOA {
+            return None;
+        }
+        last_long(self.octets)
+    }
+}
+
+// By the number of the type, and then by octets: of data in canonical form the canonical order.
+impl<'a> CanonicalOrd for BorrowedData<'a> {
+    ghost use Rattle.domain_borrowed.specs.Data.{data_cmp, data_cmp_total};
+
+    ghost canonical_cmp = { data_cmp };
+
+    ghost total = { data_cmp_total };
+
+    fn canonical_cmp(&self, other: &Self) -> Ordering {
+        match self.rtype.cmp(&other.rtype) {
+            Ordering::Equal => self.octets.cmp(other.octets),
+            order => order,
+        }
+    }
+}
 
 /// A record that lies in octets, with its data unread.
 pub type BorrowedRecord<'a> = Record<ParsedName<'a>, BorrowedData<'a>>;
@@ -147,4 +243,85 @@ impl<'a> ReadAs<'a> for ReadNsec3param<'a> {
         }
         Some(Record::new(owner, class, ttl, param))
     }
+}
+
+/// Owner, type, class, TTL and the length of the data.
+type Header<'a> = (ParsedName<'a>, (u16, (u16, (u32, u16))));
+
+/// The record that comes next, without compression. None where the octets that are left begin with
+/// no record; some of them may be read then. Takes no memory.
+pub fn read_record<'a>(parser: &mut Parser<'a>) -> Option<BorrowedRecord<'a>>
+    ensures some { IfSome result (λ r. (parser.old.left ≡ record_octets r ++ parser.new.left)
+        × IsRecord r) }
+    ensures none { IfNone result ((r : RawRecord) (after : Octets) → IsRecord r
+        → parser.old.left ≡ record_octets r ++ after → ⊥) }
+{
+    let Ok(header) = Header::<'a>::read(parser) else {
+        return None;
+    };
+    let (owner, (rtype, (class, (ttl, count)))) = header;
+    let Ok(octets) = parser.parse_octets(usize::from(count)) else {
+        return None;
+    };
+    Some(Record::new(
+        owner,
+        Class::from_int(class),
+        Ttl::from_secs(ttl),
+        BorrowedData::new(Rtype::from_int(rtype), octets),
+    ))
+}
+
+/// Appends a record of these parts as a message has it, without compression (RFC 1035, sections
+/// 3.2.1 and 4.1.3): owner, type, class, TTL, length of the data, data. It has such octets where
+/// its data have at most 65,535, which `fits_rdlen` tells. `laws::octets_begin_with_one_record`
+/// says that what was appended is read as this record and no other.
+///
+/// # Errors
+///
+/// `ShortBuf` exactly where the octets would pass the limit of the builder; and `OutOfMemory`. Both
+/// leave what stood, and a beginning of the octets.
+#[tactic(auto, using(domain_fields::proofs::LayoutLemmas::appends_more))]
+pub fn compose_parts<N: ToName, D: ComposeRecordData, B: OctetsBuilder>(
+    owner: &N,
+    class: Class,
+    ttl: Ttl,
+    data: &D,
+    target: &mut B,
+) -> Result<(), AppendError>
+    requires { length (D.octets «data».now) ≤ 65535 }
+    ensures appends { Appends B.limit result (B.octets target.old) (B.octets target.new)
+        (record_octets (raw_record N.labels D.rtype D.octets owner.now class ttl «data».now)) }
+    ensures fits { IsRecord (raw_record N.labels D.rtype D.octets owner.now class ttl «data».now) }
+{
+    let Some(count) = data.rdlen(false) else {
+        unreachable!();
+    };
+    let numbers = (class.to_int(), (ttl.as_secs(), count));
+    let header: Header<'_> = (owner.as_parsed(), (data.rtype().to_int(), numbers));
+    header.fits();
+    header.put(target)?;
+    data.compose_rdata(target)
+}
+
+/// Appends the record as a message has it, as `compose_parts` does its parts.
+///
+/// # Errors
+///
+/// Those of `compose_parts`.
+pub fn compose_record<N: ToName, D: ComposeRecordData, B: OctetsBuilder>(
+    source: &Record<N, D>,
+    target: &mut B,
+) -> Result<(), AppendError>
+    requires { length (D.octets source.now.«data») ≤ 65535 }
+    ensures appends { Appends B.limit result (B.octets target.old) (B.octets target.new)
+        (record_octets (raw_record_of N.labels D.rtype D.octets source.now)) }
+    ensures fits { IsRecord (raw_record_of N.labels D.rtype D.octets source.now) }
+{
+    compose_parts(
+        source.owner(),
+        source.class(),
+        source.ttl(),
+        source.data(),
+        target,
+    )
 }

@@ -1,5 +1,2 @@
-pub mod HashedListLemmas
-pub mod EncloserLemmas
 pub mod HashedVerdictLemmas
 pub mod MeantLemmas
-pub mod AlikeLemmas

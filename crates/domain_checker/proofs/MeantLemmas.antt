@@ -1,26 +1,376 @@
--- What is known of the records of an NSEC chain, whether it keeps what stands below a DNAME or not; what they say of names is what they prove.
-use Rattle.std.proofs.Common.{◌≡◌, ℕ, Bool, true, cond, not, ◌&&◌, ◌||◌, length, sym, ◌∙◌, arith, max, ◌<◌, false, List, refl, ap, subst, inl, inr, ◌⊎◌}
-use Rattle.std.proofs.{Common.{Option, Some, None, rules, ◌≢◌, [], ◌∷◌, ◌++◌, leb, ◌≤◌}, lemmas.List.Elements.{recursion_from_All, All-from_recursion}}
-use Rattle.std.proofs.lemmas.{Bool.{cases_Bool, false≢true, and_parts, and_from, or_right, false_from_ne_true, Decides.nat_tests}, Grind.common_steps}
-use Rattle.std.{proofs.lemmas.List.Folds.find-append, specs.{List.{find, list_any, Contains}, Option.{is_some, option_map, option_or, unwrap_or}}}
-use Rattle.std.specs.{Ordering.{is_eq, is_gt, is_lt}, Prelude.All}
-use Rattle.domain_octets.proofs.StdLemmas.{or_false}
-use Rattle.domain_names.specs.{Laws.same_name_ties, Name.{is_at_or_below, is_strictly_below, lowered, same_name, before, canonical_cmp, canonical_cmp_total}}
-use Rattle.domain_names.specs.Name.{common_labels, Name}
+-- Closest enclosers, records that are alike, and what is known of the records of an NSEC chain: what they say of names is what they prove.
 use Rattle.domain_base.specs.Types.{ns}
 use Rattle.domain_bitmap.specs.{Bitmap.bitmap_octets, Blocks.contains_type}
-use Rattle.domain_zone.proofs.{PairLemmas.{Stands, any_none, find_none, find_some, in_at, in_map, in_pairs, stands_all, In, all_in}, NameLemmas.same_is}
-use Rattle.domain_zone.proofs.NameLemmas.{one_lowered, same_itself, below_itself, lowered_below, either_way, shared_length, shared_within, common_shares}
-use Rattle.domain_zone.{proofs.WalkLemmas.{any_in, in_any, below_occluder}, specs.{Covering.{covers, matches, matches_or_covers}, Enclosers.{longer, shared}}}
-use Rattle.domain_zone.specs.{Enclosers.exists_over, Zone.{ZoneRecord, has_type, is_zone_cut, occludes, owns, is_occluded, is_unoccluded, unoccluded_owners}}
-use Rattle.domain_zone.specs.Zone.{OwnersNeverDescend}
-use Rattle.domain_nsec.specs.{Chain.{Link, is_listed, nsec_lists, IsChain}, declared.config.GenerateNsecConfig.GenerateNsecConfig}
-use Rattle.domain_checker.proofs.{AlikeLemmas.{proved_alike, reading_alike, paired_with_some}, EncloserLemmas.{either_found, closest_is, closest_alike}}
-use Rattle.domain_checker.proofs.EncloserLemmas.{top_occluder, occluded_same, occludes_same, owner_high, owner_unoccluded, owner_owns, cut_same, IsDefinite}
-use Rattle.domain_checker.{proofs.EncloserLemmas.choose_by, specs.Verdict.{IsAlike, NsecFacts, NsecChainsAreKnown, closest_encloser, has_match_or_cover}}
-use Rattle.domain_checker.specs.{Verdict.{is_inside, zone_verdict, proved_verdict, IsProved, HasProof, IsWithin}, Reading.{HasRead, is_at_cut, is_cover}}
-use Rattle.domain_checker.specs.Reading.{is_match, match_verdict, cover_verdict, verdict_of_both, list_verdict, IsChecked, reading}
-use Rattle.domain_checker.specs.declared.{nsec_check.NsecCheck.NsecCheck, verdict.Verdict.{Verdict, TheVariants.{OutsideZone, NotProven}}}
+use Rattle.domain_checker.specs.{HashedReading.{Encloser, IsFoundEncloser, IsWalked, found_verdict, next_cover}, HashedVerdict.{HashedRecords, IsFirst}}
+use Rattle.domain_checker.specs.HashedVerdict.{chain_records, first_cover, first_match, hash_in, hashed_proved_verdict, is_below_chain_cut, is_covered}
+use Rattle.domain_checker.specs.HashedVerdict.{is_hash_cover, is_hash_match, is_matched, is_spelling, next_closer, owner_hash, read_label, same_parameters}
+use Rattle.domain_checker.specs.{HashedVerdict.with_links, Reading.{HasRead, IsChecked, cover_verdict, is_at_cut, is_cover, is_match, list_verdict}}
+use Rattle.domain_checker.specs.{Reading.{match_verdict, reading, verdict_of_both}, Verdict.{ArePaired, HasProof, IsAlike, IsHashedAlike, IsPairedIn, IsProved}}
+use Rattle.domain_checker.specs.Verdict.{IsWithin, NsecChainsAreKnown, NsecFacts, closest_encloser, has_match_or_cover, is_inside, proved_verdict, zone_verdict}
+use Rattle.domain_checker.specs.declared.{nsec.NsecCheck.NsecCheck, verdict.Verdict.{TheVariants.{NotProven, OutsideZone}, Verdict}}
+use Rattle.domain_codecs.specs.Codec.{base32_value}
+use Rattle.domain_names.specs.{Laws.same_name_ties, Name.{Label, Name, before, canonical_cmp, canonical_cmp_total, common_labels, is_at_or_below}}
+use Rattle.domain_names.specs.Name.{is_strictly_below, lowered, same_name}
+use Rattle.domain_nsec.specs.{Chain.{IsChain, Link, is_listed, nsec_lists}, declared.config.GenerateNsecConfig.GenerateNsecConfig}
+use Rattle.domain_nsec3.specs.{Chain.{ChainConfig, HashedLink, Parameters, is_original_owner, original_owners}, Meaning.{CutsEnclose, octets_before}}
+use Rattle.domain_octets.{proofs.StdLemmas.or_false, specs.Octets.Octets}
+use Rattle.domain_zone.proofs.NameLemmas.{before_left, before_right, below_itself, below_length, below_trans, closest_above, common_shares, either_way}
+use Rattle.domain_zone.proofs.NameLemmas.{lowered_below, one_lowered, parent_below, same_is, same_itself, same_length, shared_length, shared_within}
+use Rattle.domain_zone.proofs.{NameLemmas.strictly_longer, PairLemmas.{In, Stands, all_in, any_none, find_none, find_some, in_at, in_map, in_pairs, stands_all}}
+use Rattle.domain_zone.{proofs.WalkLemmas.{any_in, below_occluder, in_any, occluder_below, owners_are, same_back}, specs.Covering.{covers, matches}}
+use Rattle.domain_zone.specs.{Covering.matches_or_covers, Enclosers.{IsClosestEncloser, exists_over, longer, shared}, Zone.{OwnersNeverDescend, ZoneRecord}}
+use Rattle.domain_zone.specs.Zone.{has_type, is_occluded, is_unoccluded, is_zone_cut, occludes, owns, unoccluded_owners}
+use Rattle.std.proofs.Common.{Bool, List, None, Option, Some, [], ap, arith, cond, false, inl, inr, leb, length, map, max, not, refl, rules, subst, suc, sym}
+use Rattle.std.proofs.{Common.{true, zero, ℕ, ◌&&◌, ◌++◌, ◌<◌, ◌||◌, ◌∙◌, ◌∷◌, ◌≡◌, ◌≢◌, ◌≤◌, ◌⊎◌}, lemmas.Bool.{Decides.nat_tests, and_from, and_parts}}
+use Rattle.std.proofs.lemmas.{Bool.{cases_Bool, false_from_ne_true, false≢true, or_right}, Grind.common_steps, List.Elements.{All-from_recursion, All-weaker}}
+use Rattle.std.{proofs.lemmas.{List.{Elements.recursion_from_All, Folds.{find-append, list_all-map}, length-map}, Simd.map-map}, specs.Char.to_ascii_lowercase}
+use Rattle.std.specs.{List.{AllByRecursion, Contains, find, list_any}, Option.{is_some, option_map, option_map_or, option_or, unwrap_or}, Ordering.is_eq}
+use Rattle.std.specs.{Ordering.{is_gt, is_lt}, Prelude.All}
+
+pub choose_by : {V : Type 0} (P : V → Type 0) (b : Bool) (u v : V) → (b ≡ true → P u) → (b ≡ false → P v) → P (cond b u v)
+choose_by P b u v p q = grind (arith, common_steps)
+
+-- of a match, and of a cover where there is none
+pub either_found : {X : Type 0} (T : Option X → Option X → Type 0) (m c : Option X) → (m ≡ None → c ≡ None → T None None)
+    → ((k : X) → m ≡ Some k → T (Some k) c) → ((k : X) → c ≡ Some k → T None (Some k)) → T m c
+either_found T None None none match cover = none refl refl
+either_found T None (Some k) none match cover = cover k refl
+either_found T (Some k) c none match cover = match k refl
+
+abbrev pub IsDefinite : Verdict → Type 0
+IsDefinite NotProven = ⊥
+IsDefinite _ = Unit {0}
+
+-- ---- names at or below each other
+
+-- names that are the same have as many labels
+pub same_count : (x y : Name) → same_name x y ≡ true → length x ≡ length y
+same_count x y e = sym (length-map x (map to_ascii_lowercase)) ∙ ap length (one_lowered x y e) ∙ length-map y (map to_ascii_lowercase)
+
+-- x is strictly below what a name that it is strictly below is at or below
+pub strictly_trans : (x c n : Name) → is_strictly_below x c ≡ true → is_at_or_below c n ≡ true → is_strictly_below x n ≡ true
+strictly_trans x c n s q = grind (arith, common_steps, below_trans)
+
+-- what x is below has fewer labels, if it is another name
+pub shorter_above : (x d : Name) → is_at_or_below x d ≡ true → same_name d x ≡ false → length d < length x
+shorter_above x d p s = grind (arith, common_steps, same_length, same_back)
+
+-- ---- closest enclosers
+
+module _ (names : List Name) (a : Name) where
+  -- where a name exists, those above it do
+  pub exists_above : (x d : Name) → exists_over names a x ≡ true → is_at_or_below x d ≡ true → is_at_or_below d a ≡ true
+      → exists_over names a d ≡ true
+  exists_above x d there up low = grind (arith, common_steps, any_in, in_any, below_trans)
+
+  pub apex_from : (x : Name) → exists_over names a x ≡ true → exists_over names a a ≡ true
+  apex_from x there = grind (arith, common_steps, any_in, below_itself, in_any, below_trans)
+
+  pub closest_is : (x : Name) → exists_over names a a ≡ true → is_at_or_below x a ≡ true → IsClosestEncloser names a x (closest_encloser names a x)
+  closest_is [] e p = grind (arith, common_steps)
+  closest_is (l ∷ x) e p =
+      elim (cases_Bool (exists_over names a (l ∷ x))) [
+        | inl f ↦ rw f (record { found = f; above = below_itself (l ∷ x); longest = λ d g q. below_length (l ∷ x) d q })
+        | inr f ↦
+            let up = closest_is x e (parent_below names a l x f a e p) in rw f (closest_above names a l x f (closest_encloser names a x) up)
+      ]
+
+  -- closest enclosers have as many labels
+  pub closest_alike : (x e d : Name) → IsClosestEncloser names a x e → IsClosestEncloser names a x d → length e ≡ length d
+  closest_alike x e d h k = grind (arith, common_steps, (h.longest d k.found k.above), (k.longest e h.found h.above))
+
+-- ---- names that occlude
+
+module _ (below_dname : Bool) (L : List ZoneRecord) (a : Name) where
+  -- a name that occludes, and that x is strictly below
+  pub record OccluderAbove (x : Name) : Type 0 where
+    pub name : Name
+    pub over : occludes below_dname L a name ≡ true
+    pub under : is_strictly_below x name ≡ true
+
+  some_occluder : (x : Name) → is_occluded below_dname L a x ≡ true → OccluderAbove x
+  some_occluder x o = grind (arith, common_steps, any_in)
+
+  top_within : (n : ℕ) (x : Name) → length x ≤ n → is_occluded below_dname L a x ≡ true → (c : OccluderAbove x) × (is_occluded below_dname L a c.name ≡ false)
+  top_within zero x l o = let c = some_occluder x o in let m = strictly_longer x c.name c.under in absurd (omega arith)
+  top_within (suc n) x l o =
+      let c = some_occluder x o in
+      elim (cases_Bool _) [
+        | inl e ↦
+            let m = strictly_longer x c.name c.under in
+            let t = top_within n c.name (omega arith) e in
+            let above = (and_parts _ (not (same_name c.name t.0.name)) t.0.under).0 in
+            (record { name = t.0.name; over = t.0.over; under = strictly_trans x c.name t.0.name c.under above }, t.1)
+        | inr e ↦ (c, e)
+      ]
+
+  -- of the names that occlude x the topmost is not occluded
+  pub top_occluder : (x : Name) → is_occluded below_dname L a x ≡ true → (c : OccluderAbove x) × (is_unoccluded below_dname L a c.name ≡ true)
+  top_occluder x o =
+      let t = top_within (length x) x (omega arith) o in
+      (t.0, and_from _ _ (occluder_below below_dname L a t.0.name t.0.over) (ap not t.1))
+
+  -- a name that is the same is occluded alike
+  pub occluded_same : (m n : Name) → same_name m n ≡ true → is_occluded below_dname L a m ≡ is_occluded below_dname L a n
+  occluded_same m n s = grind (arith, common_steps, one_lowered)
+
+  -- and occludes alike
+  pub occludes_same : (m n : Name) → same_name m n ≡ true → occludes below_dname L a m ≡ occludes below_dname L a n
+  occludes_same m n s = grind (arith, common_steps, one_lowered)
+
+  -- ---- owners that are not occluded
+
+  pub owner_unoccluded : (n : Name) → In n (unoccluded_owners below_dname L a) → is_unoccluded below_dname L a n ≡ true
+  owner_unoccluded n i = (all_in _ _ n (owners_are below_dname L a) i).1
+
+  pub owner_high : (n : Name) → In n (unoccluded_owners below_dname L a) → is_occluded below_dname L a n ≡ false
+  owner_high n i = grind (arith, common_steps, owner_unoccluded)
+
+  -- whatever is the same as such an owner owns records
+  pub owner_owns : (n x : Name) → In n (unoccluded_owners below_dname L a) → same_name n x ≡ true → owns L x ≡ true
+  owner_owns n x i s = rw (one_lowered n x s) at (all_in _ _ n (owners_are below_dname L a) i).0
+
+-- ---- zone cuts
+
+pub cut_same : (L : List ZoneRecord) (a m n : Name) → same_name m n ≡ true → is_zone_cut L a m ≡ is_zone_cut L a n
+cut_same L a m n s = grind (arith, common_steps, one_lowered)
+
+-- ---- the zone cuts that an NSEC3 chain holds: what exists is not strictly below one
+
+module _ (L : List ZoneRecord) (a : Name) (config : ChainConfig) where
+  -- a zone cut of the chain that y is strictly below
+  pub record CutAbove (y : Name) : Type 0 where
+    pub cut : Name
+    pub is_cut : is_zone_cut L a cut ≡ true
+    pub original : is_original_owner L a config cut ≡ true
+    pub under : is_strictly_below y cut ≡ true
+
+  pub cut_above : (y : Name) → is_below_chain_cut L a config y ≡ true → CutAbove y
+  cut_above y h = grind (arith, common_steps, any_in, in_any, same_itself)
+
+  pub below_cut : (c y : Name) → is_zone_cut L a c ≡ true → is_original_owner L a config c ≡ true → is_strictly_below y c ≡ true
+      → is_below_chain_cut L a config y ≡ true
+  below_cut c y cut original s = grind (arith, common_steps, any_in, in_any, one_lowered)
+
+  module _ (cuts : CutsEnclose L a config) where
+    pub cut_apart : (c y : Name) → is_zone_cut L a c ≡ true → is_original_owner L a config c ≡ true
+        → exists_over (original_owners L a config) a y ≡ true → is_strictly_below y c ≡ true → ⊥
+    cut_apart c y cut original there s =
+        grind (arith, common_steps, ((cuts.each c y cut original s).longest y there (below_itself y)), (strictly_longer y c s))
+
+    pub not_below : (y : Name) → exists_over (original_owners L a config) a y ≡ true → is_below_chain_cut L a config y ≡ false
+    not_below y there =
+        false_from_ne_true (is_below_chain_cut L a config y) (λ f. let c = cut_above y f in cut_apart c.cut y c.is_cut c.original there c.under)
+
+-- ---- What records say does not depend on TTLs, classes and the case of letters: lists of which each record is alike that at the same place of the other.
+
+module _ {X : Type 0} (R : X → X → Type 0) where
+  -- both are none, or stand so
+  abbrev pub OptionsPaired : Option X → Option X → Type 0
+  OptionsPaired None None = Unit {0}
+  OptionsPaired None (Some l) = ⊥
+  OptionsPaired (Some k) None = ⊥
+  OptionsPaired (Some k) (Some l) = R k l
+
+  module _ (p : X → Bool) (alike : (k l : X) → R k l → p k ≡ p l) where
+    pub find_alike : (ks ls : List X) → ArePaired R ks ls → OptionsPaired (find p ks) (find p ls)
+    find_alike [] [] h = tt
+    find_alike [] (l ∷ ls) h = absurd h
+    find_alike (k ∷ ks) [] h = absurd h
+    find_alike (k ∷ ks) (l ∷ ls) h = grind (arith, common_steps, (find_alike ks ls h.1))
+
+    pub any_alike : (ks ls : List X) → ArePaired R ks ls → list_any p ks ≡ list_any p ls
+    any_alike [] [] h = refl
+    any_alike [] (l ∷ ls) h = absurd h
+    any_alike (k ∷ ks) [] h = absurd h
+    any_alike (k ∷ ks) (l ∷ ls) h = λ i. alike k l h.0 i || any_alike ks ls h.1 i
+
+  -- records of a list stand so to some of it, where each stands so to itself
+  pub paired_in : ((k : X) → R k k) → (links ks : List X) → All (Contains links) ks → All (IsPairedIn R links) ks
+  paired_in itself links ks h =
+      All-weaker (Contains links) (IsPairedIn R links) (λ k there. record { link = k; there = there; alike = itself k }) ks h
+
+  -- records of which each stands so to one of a list stand so to some records of it
+  pub record ArePairedWithSome (links ks : List X) : Type 0 where
+    pub some : List X
+    pub among : AllByRecursion (Contains links) some
+    pub alike : ArePaired R ks some
+
+  some_paired : (links ks : List X) → AllByRecursion (IsPairedIn R links) ks → ArePairedWithSome links ks
+  some_paired links [] h = record { some = []; among = tt; alike = tt }
+  some_paired links (k ∷ ks) h =
+      let rest = some_paired links ks h.1 in
+      record { some = h.0.link ∷ rest.some; among = (h.0.there, rest.among); alike = (h.0.alike, rest.alike) }
+
+  pub paired_with_some : (links ks : List X) → All (IsPairedIn R links) ks → ArePairedWithSome links ks
+  paired_with_some links ks h = some_paired links ks (recursion_from_All (IsPairedIn R links) ks h)
+
+-- ---- what NSEC records say
+
+-- ---- one record
+
+covers_alike : (o p n m x : Name) → lowered o ≡ lowered p → lowered n ≡ lowered m → covers before o n x ≡ covers before p m x
+covers_alike o p n m x e f = grind (arith, common_steps, before_left, before_right, (before_left o p n e), (before_right p n m f))
+
+pub shared_alike : (x y z : Name) → lowered y ≡ lowered z → shared x y ≡ shared x z
+shared_alike [] y z e = refl
+shared_alike (l ∷ x) y z e = λ i. cond (lowered_below (e i) (lowered (l ∷ x))) (l ∷ x) (shared_alike x y z e i)
+
+module _ {k l : Link} (alike : IsAlike k l) where
+  pub owners : lowered k.owner ≡ lowered l.owner
+  owners = one_lowered k.owner l.owner alike.owner
+
+  pub nexts : lowered k.next ≡ lowered l.next
+  nexts = one_lowered k.next l.next alike.next
+
+module _ (a x : Name) (k l : Link) (alike : IsAlike k l) where
+  pub is_match_alike : is_match a x k ≡ is_match a x l
+  is_match_alike = grind (arith, common_steps, before_left, before_right, (owners alike), (nexts alike))
+
+  pub is_cover_alike : is_cover a x k ≡ is_cover a x l
+  is_cover_alike = grind (arith, common_steps, (covers_alike k.owner l.owner k.next l.next x), (owners alike), (nexts alike))
+
+  pub says_alike : matches_or_covers before k.owner k.next x ≡ matches_or_covers before l.owner l.next x
+  says_alike = grind (arith, common_steps, before_left, owners, before_right, covers_alike, nexts)
+
+-- ---- lists
+
+module _ (a x : Name) (t : ℕ) where
+  both_alike : (m n c d : Option Link) → OptionsPaired IsAlike m n → OptionsPaired IsAlike c d → verdict_of_both a x t m c ≡ verdict_of_both a x t n d
+  both_alike (Some k) (Some l) c d m h = grind (arith, common_steps, (owners m))
+  both_alike None None (Some c) (Some d) m h = grind (arith, common_steps, (owners h), (nexts h), shared_alike)
+  both_alike m n c d h i = grind (arith, common_steps)
+
+  pub reading_alike : (ks ls : List Link) → ArePaired IsAlike ks ls → reading a ks x t ≡ reading a ls x t
+  reading_alike ks ls h =
+      let matching = find_alike IsAlike _ (is_match_alike a x) ks ls h in
+      let covering = find_alike IsAlike _ (is_cover_alike a x) ks ls h in
+      λ i. cond (is_at_or_below x a) (both_alike _ _ _ _ matching covering i) OutsideZone
+
+  pub proved_alike : (L : List ZoneRecord) (assume : Bool) (ks ls : List Link) → ArePaired IsAlike ks ls
+      → proved_verdict L a assume ks x t ≡ proved_verdict L a assume ls x t
+  proved_alike L assume ks ls h = grind (arith, common_steps, any_alike, says_alike)
+
+-- records of a list are, but for these, records of it
+pub contained_alike : (links ks : List Link) → All (Contains links) ks → All (IsPairedIn IsAlike links) ks
+contained_alike = paired_in IsAlike (λ k. record { owner = same_itself k.owner k.owner refl; next = same_itself k.next k.next refl; bits = refl })
+
+-- ---- what NSEC3 records say
+
+-- ---- labels
+
+-- a digit of Base 32 hex has one value in either case
+value_lower : (c : ℕ) → base32_value (to_ascii_lowercase c) ≡ base32_value c
+value_lower c = grind (arith, common_steps)
+
+spelling_lower : (label : Label) → is_spelling (map to_ascii_lowercase label) ≡ is_spelling label
+spelling_lower label = simp (list_all-map, length-map, value_lower)
+
+read_lower : (label : Label) → read_label (map to_ascii_lowercase label) ≡ read_label label
+read_lower label = simp (map-map, value_lower)
+
+-- owners that are the same spell one hash
+hash_in_alike : (a o q : Name) → lowered o ≡ lowered q → hash_in a o ≡ hash_in a q
+hash_in_alike a [] [] e = refl
+hash_in_alike a [] (m ∷ q) e = absurd (cc)
+hash_in_alike a (l ∷ o) [] e = absurd (cc)
+hash_in_alike a (l ∷ o) (m ∷ q) e = grind (arith, common_steps, (spelling_lower l), (spelling_lower m), (read_lower l), (read_lower m))
+
+-- ---- one record
+
+module _ (a : Name) (p : Parameters) (k l : HashedLink) (alike : IsHashedAlike k l) where
+  owner_hash_alike : owner_hash a p k ≡ owner_hash a p l
+  owner_hash_alike = λ i. cond (same_parameters (alike.parameters i) p) (hash_in_alike a k.owner l.owner (one_lowered k.owner l.owner alike.owner) i) None
+
+  pub hash_match_alike : (v : Octets) → is_hash_match a p v k ≡ is_hash_match a p v l
+  hash_match_alike v = ap (λ o. option_map_or (λ h. matches octets_before h v) o false) owner_hash_alike
+
+  pub hash_cover_alike : (v : Octets) → is_hash_cover a p v k ≡ is_hash_cover a p v l
+  hash_cover_alike v = λ i. option_map_or (λ h. covers octets_before h (alike.next i) v) (owner_hash_alike i) false
+
+-- closest enclosers with as many labels, and records that are alike
+pub record IsEncloserAlike (e f : Encloser) : Type 0 where
+  pub counts : e.count ≡ f.count
+  pub links : IsHashedAlike e.link f.link
+  pub covers : OptionsPaired IsHashedAlike e.cover f.cover
+
+-- ---- lists
+
+-- other records, each like the one at its place
+module _ (R : HashedRecords) (ls : List HashedLink) (alike : ArePaired IsHashedAlike R.links ls) where
+  abbrev S : HashedRecords
+  S = with_links R ls
+
+  pub matched_alike : (n : Name) → is_matched R n ≡ is_matched S n
+  matched_alike n = grind (arith, common_steps, any_alike, hash_match_alike)
+
+  pub covered_alike : (n : Name) → is_covered R n ≡ is_covered S n
+  covered_alike n = grind (arith, common_steps, any_alike, hash_cover_alike)
+
+  pub matching : (v : Octets) → OptionsPaired IsHashedAlike (first_match R v) (first_match S v)
+  matching v = find_alike IsHashedAlike (is_hash_match R.apex R.parameters v) (λ k l h. hash_match_alike R.apex R.parameters k l h v) R.links ls alike
+
+  pub covering : (v : Octets) → OptionsPaired IsHashedAlike (first_cover R v) (first_cover S v)
+  covering v = find_alike IsHashedAlike (is_hash_cover R.apex R.parameters v) (λ k l h. hash_cover_alike R.apex R.parameters k l h v) R.links ls alike
+
+  pub first_alike : (x d : Name) → IsFirst R x d → IsFirst S x d
+  first_alike x d first = λ y up below. let f = first y up below in (f.0, f.1, sym (matched_alike y) ∙ f.2)
+
+  -- the first match in the one list, and in the other
+  pub found_alike : (v : Octets) (k : HashedLink) → first_match R v ≡ Some k
+      → (l : HashedLink) × IsHashedAlike k l × (first_match S v ≡ Some l)
+  found_alike v k e = grind (arith, common_steps, (matching v))
+
+  next_alike : (next : Option Octets) → OptionsPaired IsHashedAlike (next_cover R next) (next_cover S next)
+  next_alike next = grind (arith, common_steps, covering)
+
+  -- the closest encloser that the one list tells, and that of the other
+  pub encloser_alike : (x : Name) (found : Option Encloser) → IsFoundEncloser R x found
+      → (other : Option Encloser) × IsFoundEncloser S x other × OptionsPaired IsEncloserAlike found other
+  encloser_alike x None is = (None, λ y up low. let f = is y up low in (f.0, f.1, sym (matched_alike y) ∙ f.2), tt)
+  encloser_alike x (Some e) is =
+      let other = found_alike is.value e.link is.found in (
+        Some (record { count = e.count; link = other.0; cover = next_cover S is.next }),
+        record {
+          name = is.name;
+          counts = is.counts;
+          first = record {
+            above = is.first.above;
+            within = is.first.within;
+            found = sym (matched_alike is.name) ∙ is.first.found;
+            first = first_alike x is.name is.first.first;
+          };
+          value = is.value;
+          known = is.known;
+          found = other.2;
+          next = is.next;
+          closes = is.closes;
+          covers = refl;
+        },
+        record { counts = refl; links = other.1; covers = rw is.covers (next_alike is.next) },
+      )
+
+  told_alike : (n t : ℕ) (e f : Option Encloser) → OptionsPaired IsEncloserAlike e f → found_verdict R.apex e n t ≡ found_verdict R.apex f n t
+  told_alike n t e f h = grind (arith, common_steps)
+
+  pub walked_alike : (x : Name) (t : ℕ) (verdict : Verdict) → IsWalked R x t verdict → IsWalked S x t verdict
+  walked_alike x t verdict w =
+      let other = encloser_alike x w.found w.is in
+      record { found = other.0; is = other.1; says = w.says ∙ told_alike (length x) t w.found other.0 other.2 }
+
+module _ (L : List ZoneRecord) (a : Name) (config : ChainConfig) (x : Name) (t : ℕ) (ks ls : List HashedLink) (alike : ArePaired IsHashedAlike ks ls) where
+  abbrev en : Name
+  en = closest_encloser (original_owners L a config) a x
+
+  pub hashed_proved_alike : hashed_proved_verdict L a config ks x t ≡ hashed_proved_verdict L a config ls x t
+  hashed_proved_alike =
+      rw (matched_alike (chain_records a config ks) ls alike en, covered_alike (chain_records a config ks) ls alike (next_closer x en)) refl
+
+-- records of a list are, but for these, records of it
+pub hashed_contained_alike : (links ks : List HashedLink) → All (Contains links) ks → All (IsPairedIn IsHashedAlike links) ks
+hashed_contained_alike = grind (arith, common_steps, paired_in, same_itself)
+
+-- ---- What is known of the records of an NSEC chain, whether it keeps what stands below a DNAME or not; what they say of names is what they prove.
 
 -- an owner matches the names that the order can't tell from it
 match_is_tie : (x y : Name) → matches before x y ≡ is_eq (canonical_cmp x y)
@@ -62,14 +412,14 @@ module _ {L : List ZoneRecord} {a : Name} {config : GenerateNsecConfig} {links :
   abbrev below_dname : Bool
   below_dname = config.occlude_below_dname
 
-  abbrev owners : List Name
-  owners = unoccluded_owners config.occlude_below_dname L a
+  abbrev chain_owners : List Name
+  chain_owners = unoccluded_owners config.occlude_below_dname L a
 
   -- ---- the names of a record
 
   pub ends : (k : Link) → In k links → In k.owner (unoccluded_owners below_dname L a)
       × (In k.next (unoccluded_owners below_dname L a) ⊎ (a ≡ k.next))
-  ends k i = in_pairs owners a _ (subst (λ ps. In (k.owner, k.next) ps) facts.chain.names (in_map (λ k. (k.owner, k.next)) links k i))
+  ends k i = in_pairs chain_owners a _ (subst (λ ps. In (k.owner, k.next) ps) facts.chain.names (in_map (λ k. (k.owner, k.next)) links k i))
 
   pub owner_low : (n : Name) → In n (unoccluded_owners below_dname L a) → is_at_or_below n a ≡ true
   owner_low n i = (and_parts (is_at_or_below n a) (not (is_occluded below_dname L a n)) (owner_unoccluded below_dname L a n i)).0
@@ -132,8 +482,8 @@ module _ {L : List ZoneRecord} {a : Name} {config : GenerateNsecConfig} {links :
     covered_unowned high = grind (arith, common_steps, says)
 
     pub covered_no_owner : list_any (λ n. same_name n x) (unoccluded_owners below_dname L a) ≡ false
-    covered_no_owner = false_from_ne_true (list_any (λ n. same_name n x) owners) (λ e.
-        let m = any_in (λ n. same_name n x) owners e in
+    covered_no_owner = false_from_ne_true (list_any (λ n. same_name n x) chain_owners) (λ e.
+        let m = any_in (λ n. same_name n x) chain_owners e in
         let high = sym (occluded_same below_dname L a m.0 x m.2) ∙ owner_high below_dname L a m.0 m.1 in
         false≢true (sym (covered_unowned high) ∙ owner_owns below_dname L a m.0 x m.1 m.2))
 
@@ -160,9 +510,9 @@ module _ {L : List ZoneRecord} {a : Name} {config : GenerateNsecConfig} {links :
     -- the closest encloser has as many labels as the longer of the names that x shares with the record's
     pub covered_encloser : length (longer (shared x k.owner) (shared x k.next)) ≡ length (closest_encloser (unoccluded_owners below_dname L a) a x)
     covered_encloser =
-        closest_alike owners a x (longer (shared x k.owner) (shared x k.next)) (closest_encloser owners a x)
+        closest_alike chain_owners a x (longer (shared x k.owner) (shared x k.next)) (closest_encloser chain_owners a x)
         (facts.means.enclosers.each x low stands.place k stands.there c)
-        (closest_is owners a x apex_exists low)
+        (closest_is chain_owners a x apex_exists low)
 
   -- ---- what is found of a name among records of the chain
 

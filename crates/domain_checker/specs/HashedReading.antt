@@ -5,8 +5,8 @@ use Rattle.domain_octets.specs.Octets.{Octets}
 use Rattle.domain_names.specs.Name.{Name, is_at_or_below, same_name}
 use Rattle.domain_nsec3.specs.{Chain.{HashedLink, Parameters, ChainConfig, Hash, hash_name, nsec3_lists, original_owners}, View.as_hashed_link}
 use Rattle.domain_checker.specs.HashedVerdict.{is_hash_match, is_hash_cover, HashedRecords, first_cover, first_match, IsFirstMatched, is_matched, next_closer}
-use Rattle.domain_checker.specs.{HashedVerdict.{missing_verdict, IsHashedProved, HasHashedProof, IsFirstRefusal}, declared.hashed.Nsec3Found.Nsec3Found}
-use Rattle.domain_checker.specs.declared.{hashed.Nsec3Found.TheVariants.{Match, NoMatch}, encloser.Nsec3Encloser.Nsec3Encloser, verdict.Verdict.Verdict}
+use Rattle.domain_checker.specs.{HashedVerdict.{missing_verdict, IsHashedProved, HasHashedProof, IsFirstRefusal}, declared.nsec3.Nsec3Found.Nsec3Found}
+use Rattle.domain_checker.specs.declared.{nsec3.Nsec3Found.TheVariants.{Match, NoMatch}, nsec3.Nsec3Encloser.Nsec3Encloser, verdict.Verdict.Verdict}
 use Rattle.domain_checker.specs.{declared.verdict.Verdict.TheVariants.{OutsideZone, BelowDelegation, Has, NoType, EmptyName, NotProven}, Verdict.IsWithin}
 use Rattle.domain_base.specs.Types.{ns, ds, Rtypes}
 use Rattle.domain_bitmap.specs.Blocks.{contains_type, types_of}

@@ -6,7 +6,7 @@ use Rattle.domain_base.specs.Types.{ns}
 use Rattle.domain_zone.specs.{Covering.{matches, covers}, Enclosers.{longer, shared}}
 use Rattle.domain_nsec.specs.Chain.{Link}
 use Rattle.domain_checker.specs.{Verdict.{HasProof, IsProved, IsWithin, is_inside, types_verdict}, declared.verdict.Verdict.{Verdict, TheVariants.OutsideZone}}
-use Rattle.domain_checker.specs.declared.{verdict.Verdict.TheVariants.{BelowDelegation, EmptyName, NoName, NotProven}, nsec_check.NsecCheck.NsecCheck}
+use Rattle.domain_checker.specs.declared.{verdict.Verdict.TheVariants.{BelowDelegation, EmptyName, NoName, NotProven}, nsec.NsecCheck.NsecCheck}
 
 -- the owner is a zone cut: the record lists NS, and the owner is not the apex
 abbrev pub is_at_cut : Name → Link → Bool

@@ -47,14 +47,14 @@ pub fn readings_are_proved()
 
 /// What NSEC records say does not depend on TTLs, classes and the case of letters; nor does what
 /// they prove of a zone (`readings_are_proved`).
-#[tactic(auto, using(crate::proofs::AlikeLemmas::reading_alike))]
+#[tactic(auto, using(crate::proofs::MeantLemmas::reading_alike))]
 pub fn readings_ignore_case_and_ttl()
     ensures { (listed other : List Link) (a x : Name) (t : ℕ)
         → ArePaired IsAlike listed other → reading a listed x t ≡ reading a other x t }
 {}
 
 /// The same of NSEC3 records (`walks_are_proved`).
-#[tactic(auto, using(crate::proofs::AlikeLemmas::walked_alike))]
+#[tactic(auto, using(crate::proofs::MeantLemmas::walked_alike))]
 pub fn walks_ignore_case_and_ttl()
     ensures { (R : HashedRecords) (other : List HashedLink) (x : Name) (t : ℕ)
         (verdict : Verdict) → ArePaired IsHashedAlike R.links other → IsWalked R x t verdict

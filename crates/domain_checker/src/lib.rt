@@ -14,22 +14,14 @@
 //! encloser of a name, and `find_nsec3` what of one name.
 #![tactic(auto)]
 
-mod encloser;
-mod hashed;
 pub mod laws;
-mod listed;
 mod nsec;
 mod nsec3;
-mod nsec_check;
-mod spelled;
 mod verdict;
 
-pub use encloser::{Nsec3Encloser, find_nsec3, find_nsec3_encloser};
-pub use hashed::{Nsec3Found, Nsec3Rr};
-pub use listed::{
-    NsecRr, is_at_cut, is_before, is_inside, is_match, is_strictly_below, shared_if_covered,
+pub use nsec::{
+    NsecCheck, NsecRr, check_nsec, is_at_cut, is_before, is_inside, is_match, is_strictly_below,
+    shared_if_covered,
 };
-pub use nsec::check_nsec;
-pub use nsec_check::NsecCheck;
-pub use nsec3::check_nsec3;
+pub use nsec3::{Nsec3Encloser, Nsec3Found, Nsec3Rr, check_nsec3, find_nsec3, find_nsec3_encloser};
 pub use verdict::Verdict;

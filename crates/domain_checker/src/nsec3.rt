@@ -1,18 +1,300 @@
-//! What records of an NSEC3 chain prove.
-ghost use Rattle.std.specs.{Option.option_map, Prelude.{◌≡◌, IsErrOf}};
-ghost use Rattle.domain_nsec3.specs.View.{as_hashed_link};
-ghost use Rattle.domain_checker.specs.HashedReading.{encloser_of, found_verdict, hash_cover_verdict};
-ghost use Rattle.domain_checker.specs.{HashedReading.IsHashedChecked, HashedVerdict.hashed_records};
+//! What records of an NSEC3 chain tell of hashes and of closest enclosers, and what they prove.
+ghost use Rattle.std.specs.{Option.option_map, List.list_all};
+ghost use Rattle.std.specs.Prelude.{◌≡◌, ◌≤◌, ◌⊎◌, ℕ, Ok, Err, None, false, IfOk, IfErr, IsErrOf, length};
+ghost use Rattle.domain_codecs.specs.Codec.{is_digit};
+ghost use Rattle.domain_names.specs.Name.{is_at_or_below, lowered, wire_of};
+ghost use Rattle.domain_zone.specs.Covering.{covers};
+ghost use Rattle.domain_nsec3.specs.{Chain.{hash_name, IsNoHash}, Meaning.octets_before};
+ghost use Rattle.domain_nsec3.specs.View.{as_hashed_link, hashed_links_of, parameters_of};
+ghost use Rattle.domain_checker.specs.HashedReading.{encloser_is_cut, encloser_of, found_cover, found_match};
+ghost use Rattle.domain_checker.specs.HashedReading.{found_verdict, hash_cover_verdict, IsFound};
+ghost use Rattle.domain_checker.specs.HashedReading.{IsFoundEncloser, IsHashedChecked, IsLookedUp};
+ghost use Rattle.domain_checker.specs.HashedVerdict.{hash_with, hashed_records, is_spelling, owner_hash};
+ghost use Rattle.domain_checker.specs.HashedVerdict.{read_label, IsFirstRefusal};
 ghost use Rattle.domain_hasher.specs.declared.error.Nsec3HashError.TheVariants as hash_error;
 
-use crate::hashed::Nsec3Rr;
+use crate::Verdict;
 use crate::laws::walks_are_proved;
-use crate::{Nsec3Encloser, Verdict, find_nsec3_encloser};
-use domain_base::{Rtype, ToName};
+use domain_base::{MAX_NAME, Rtype, ToName};
+use domain_chain_rdata::{Nsec3, Nsec3param};
+use domain_codecs::Codec;
+use domain_codecs::base32::{digit_or_zero, digit_value};
 use domain_hasher::{Nsec3HashError, Nsec3Hasher};
-use domain_nsec3::Nsec3Records;
+use domain_nsec3::{Nsec3Records, hash_wire};
 use domain_octets::Octets;
+use domain_record::Record;
 use std::alloc::Global;
+
+/// Whether all octets are digits of Base 32 hex.
+fn are_digits(label: &[u8]) -> bool
+    ensures { result ≡ list_all (is_digit Codec.Base32Hex) label.now }
+{
+    label.iter().all(|c| digit_value(*c).is_some())
+}
+
+/// Whether the label is a text in Base 32 hex, in either case.
+fn is_spelling(label: &[u8]) -> bool
+    ensures { result ≡ is_spelling label.now }
+{
+    let over = label.len() % 8;
+    are_digits(label) & !((over == 1) | (over == 3) | (over == 6))
+}
+
+/// The octets that the digits of a label stand for, in a buffer; what is no digit counts as 0, and
+/// bits after the last whole octet are passed over. Takes no memory.
+#[tactic(auto, using(domain_codecs::proofs::CodecLemmas::digits_steps, domain_codecs::proofs::CodecLemmas::digits_end))]
+fn read_label<'b>(label: &[u8], buffer: &'b mut [u8; 63]) -> &'b [u8]
+    requires { length label.now ≤ 63 }
+    ensures { result.now ≡ read_label label.now }
+{
+    let mut count = 0;
+    let mut scale: u32 = 1;
+    let mut rest: u32 = 0;
+    for c in label {
+        let wider = 32 * scale;
+        let value = 32 * rest + digit_or_zero(*c);
+        if wider < 256 {
+            scale = wider;
+            rest = value;
+            continue;
+        }
+        scale = wider / 256;
+        rest = value % scale;
+        buffer[count] = (value / scale) as u8;
+        count += 1;
+    }
+    &buffer[..count]
+}
+
+/// An NSEC3 record (RFC 5155, section 3).
+pub type Nsec3Rr<O, N> = Record<N, Nsec3<O>>;
+
+/// What NSEC3 records tell of a hash (RFC 5155, section 1.3).
+#[derive(Drop)]
+pub enum Nsec3Found<'a, O: Octets, N: ToName> {
+    /// The first record that matches it.
+    Match(&'a Record<N, Nsec3<O>>),
+    /// No record matches it, and this is the first that covers it, if one does.
+    NoMatch(Option<&'a Record<N, Nsec3<O>>>),
+}
+
+/// The hash at which a record stands, in a buffer. None where the record has other parameters, or
+/// an owner of another form.
+#[tactic(auto, using(std::proofs::lemmas::Grind::common_steps, crate::proofs::HashedVerdictLemmas::label_short))]
+fn hash_of_owner<'b, A: ToName, O: Octets, N: ToName>(
+    apex: &A,
+    param: &Nsec3param<O>,
+    listed: &Nsec3Rr<O, N>,
+    buffer: &'b mut [u8; 63],
+) -> Option<&'b [u8]>
+    ensures { option_map (λ h. h.now) result
+        ≡ owner_hash (A.labels apex.now) (parameters_of param.now)
+        (as_hashed_link N.labels listed.now) }
+{
+    let owner = listed.owner().as_parsed();
+    // A label of a name has at most 63 octets.
+    let _wire = owner.as_wire();
+    let Some((label, above)) = owner.split_first() else {
+        return None;
+    };
+    let nsec3 = listed.data();
+    let same = (nsec3.hash_algorithm() == param.hash_algorithm())
+        & (nsec3.iterations() == param.iterations())
+        & (nsec3.salt().as_slice() == param.salt().as_slice());
+    if !same {
+        return None;
+    }
+    if !(above.name_eq(apex) & is_spelling(label)) {
+        return None;
+    }
+    Some(read_label(label, buffer))
+}
+
+/// Whether a hash lies between that of a record and the next one, or on either side of the two
+/// where the next one is not after the first.
+#[tactic(auto, using(crate::proofs::HashedVerdictLemmas::tied_is))]
+fn lies_between(owner: &[u8], next: &[u8], hash: &[u8]) -> bool
+    ensures { result ≡ covers octets_before owner.now next.now hash.now }
+{
+    let order = owner.cmp(hash);
+    let ahead = hash.cmp(next).is_lt();
+    let between = if owner.cmp(next).is_lt() {
+        order.is_lt() & ahead
+    } else {
+        order.is_lt() | ahead
+    };
+    !order.is_eq() & between
+}
+
+/// The first record that matches the hash or, where none does, the first that covers it. Goes over
+/// the records once.
+#[tactic(auto, using(crate::proofs::HashedVerdictLemmas::tied_is))]
+fn find_hash<'a, A: ToName, O: Octets, N: ToName>(
+    apex: &A,
+    param: &Nsec3param<O>,
+    nsec3s: &'a [Nsec3Rr<O, N>],
+    hash: &[u8],
+) -> Nsec3Found<'a, O, N>
+    ensures { IsFound (A.labels apex.now) (parameters_of param.now)
+        (hashed_links_of N.labels nsec3s.now) hash.now
+        (found_match N.labels result) (found_cover N.labels result) }
+{
+    let mut cover = None;
+    let mut buffer = [0; 63];
+    for listed in nsec3s {
+        let Some(owner) = hash_of_owner(apex, param, listed, &mut buffer) else {
+            continue;
+        };
+        if owner.cmp(hash).is_eq() {
+            return Nsec3Found::Match(listed);
+        }
+        if cover.is_some() {
+            continue;
+        }
+        let next = listed.data().next_owner().as_slice();
+        cover = lies_between(owner, next, hash).then_some(listed);
+    }
+    Nsec3Found::NoMatch(cover)
+}
+
+/// What NSEC3 records tell of the closest encloser of a name (RFC 5155, section 8.3): of the name
+/// and its ancestors at or below the apex, the first that a record matches.
+#[derive(Drop)]
+pub struct Nsec3Encloser<'a, O: Octets, N: ToName> {
+    /// How many labels that name has, the root not counted: it is the last so many labels of the
+    /// name that was asked for.
+    pub count: usize,
+    /// The first record that matches it.
+    pub matching: &'a Record<N, Nsec3<O>>,
+    /// The first record that covers the next closer name, which is one label longer; None where no
+    /// record does, or where the name that was asked for is matched itself.
+    pub cover: Option<&'a Record<N, Nsec3<O>>>,
+}
+
+impl<'a, O: Octets, N: ToName> Nsec3Encloser<'a, O, N> {
+    /// Whether the name that is matched is a zone cut: its record lists NS, and it is not the apex.
+    pub fn is_zone_cut<A: ToName>(&self, apex: &A) -> bool
+        ensures { result ≡ encloser_is_cut (A.labels apex.now) (encloser_of N.labels self.now) }
+    {
+        (self.count != apex.count_labels()) & self.matching.data().types().contains(Rtype::NS)
+    }
+}
+
+/// What the records say of the name with this wire form in lower case. Hashes it, and goes over the
+/// records once.
+fn look_up<'a, A: ToName, O: Octets, N: ToName, H: Nsec3Hasher>(
+    alloc: Global,
+    apex: &A,
+    records: &'a Nsec3Records<N, O>,
+    wire: &[u8],
+    hasher: &H,
+) -> Result<Nsec3Found<'a, O, N>, Nsec3HashError>
+    ensures ok { IfOk result (λ found. IsLookedUp
+        (hashed_records (A.labels apex.now) N.labels (H.answer hasher.now) records.now) wire.now
+        (found_match N.labels found) (found_cover N.labels found)) }
+    ensures err { IfErr result (IsNoHash (λ n.
+        hash_with (H.answer hasher.now) records.now wire.now ≡ Err n) (H.takes_memory hasher.now)) }
+{
+    let param = records.nsec3param.data();
+    let hash = hash_wire(alloc, hasher, param, wire)?;
+    Ok(find_hash(apex, param, records.nsec3s.as_slice(), hash.as_slice()))
+}
+
+/// What NSEC3 records tell of the closest encloser of a name (RFC 5155, section 8.3). None where
+/// they match neither the name nor an ancestor at or below the apex, or where the name is not at or
+/// below the apex.
+///
+/// The records may be any, in any order, with repeats. Those with another algorithm, iterations or
+/// salt than the NSEC3PARAM record, or whose owner is not one label in Base 32 hex before the apex,
+/// are passed over; classes, TTLs and flags are not compared. Names are hashed with the parameters
+/// of the NSEC3PARAM record, from the name towards the apex, up to the first that a record matches;
+/// no name is hashed twice, and of a name that is not at or below the apex none is. The records are
+/// gone over once for each name that is hashed. Takes no memory but for the hasher's answers, one
+/// at a time.
+///
+/// # Errors
+///
+/// `Hasher` with the number of the first refusal among the hashes that are asked for, and
+/// `OutOfMemory` where the hasher has none.
+pub fn find_nsec3_encloser<'a, A: ToName, O: Octets, N: ToName, M: ToName, H: Nsec3Hasher>(
+    alloc: Global,
+    apex: &A,
+    records: &'a Nsec3Records<N, O>,
+    name: &M,
+    hasher: &H,
+) -> Result<Option<Nsec3Encloser<'a, O, N>>, Nsec3HashError>
+    ensures outside { is_at_or_below (M.labels name.now) (A.labels apex.now) ≡ false
+        → result ≡ Ok None }
+    ensures found { IfOk result (λ found. IsFoundEncloser
+        (hashed_records (A.labels apex.now) N.labels (H.answer hasher.now) records.now)
+        (M.labels name.now) (option_map (encloser_of N.labels) found)) }
+
+    // An error is the first refusal, or want of memory.
+    ensures refusal { (n : ℕ) → IsErrOf result (hash_error.Hasher n)
+        → IsFirstRefusal
+        (hashed_records (A.labels apex.now) N.labels (H.answer hasher.now) records.now)
+        (M.labels name.now) n }
+    ensures errors { IfErr result (λ e. (e ≡ hash_error.OutOfMemory)
+        ⊎ ((n : ℕ) × (e ≡ hash_error.Hasher n))) }
+    ensures memory { IsErrOf result hash_error.OutOfMemory → H.takes_memory hasher.now }
+{
+    let mut left = name.as_parsed();
+    if !name.ends_with(apex) {
+        return Ok(None);
+    }
+    // The wire form of each name above is an end of this one. Of a name that no record matches the
+    // first cover is kept for the name above it, and not the hash.
+    let mut buffer = [0; MAX_NAME];
+    let mut octets = name.lower_wire(&mut buffer);
+    let mut cover = None;
+    'names: loop {
+        cover = match look_up(alloc, apex, records, octets, hasher)? {
+            Nsec3Found::Match(matching) => {
+                return Ok(Some(Nsec3Encloser {
+                    count: left.count_labels(),
+                    matching,
+                    cover,
+                }));
+            }
+            Nsec3Found::NoMatch(next) => next,
+        };
+        if left.name_eq(apex) {
+            return Ok(None);
+        }
+        let Some((label, above)) = left.split_first() else {
+            unreachable!();
+        };
+        octets = &octets[label.len() + 1..];
+        left = above;
+    }
+}
+
+/// What NSEC3 records tell of one name: the first that matches its hash or, where none does, the
+/// first that covers it. Records are passed over, and the name is hashed, as by
+/// `find_nsec3_encloser`; no other name is. Takes no memory but for the hasher's answer.
+///
+/// # Errors
+///
+/// `Hasher` with the number of the hasher's refusal, and `OutOfMemory` where it has none.
+pub fn find_nsec3<'a, A: ToName, O: Octets, N: ToName, M: ToName, H: Nsec3Hasher>(
+    alloc: Global,
+    apex: &A,
+    records: &'a Nsec3Records<N, O>,
+    name: &M,
+    hasher: &H,
+) -> Result<Nsec3Found<'a, O, N>, Nsec3HashError>
+    ensures found { IfOk result (λ found. IsLookedUp
+        (hashed_records (A.labels apex.now) N.labels (H.answer hasher.now) records.now)
+        (wire_of (lowered (M.labels name.now)))
+        (found_match N.labels found) (found_cover N.labels found)) }
+    ensures err { IfErr result (IsNoHash (λ n.
+        hash_name (hash_with (H.answer hasher.now) records.now) (M.labels name.now) ≡ Err n)
+        (H.takes_memory hasher.now)) }
+{
+    let mut buffer = [0; MAX_NAME];
+    let lowered = name.lower_wire(&mut buffer);
+    Ok(look_up(alloc, apex, records, lowered, hasher)?)
+}
 
 /// What the first cover of the next closer name says of a name. The number counts the labels of its
 /// closest encloser.

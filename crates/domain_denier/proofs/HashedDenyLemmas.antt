@@ -13,9 +13,9 @@ use Rattle.domain_zone.{proofs.{NameLemmas.{below_itself, below_longer}, WalkLem
 use Rattle.domain_zone.specs.{Enclosers.{IsClosestEncloser, exists_over}, Zone.{ZoneRecord, is_zone_cut}}
 use Rattle.domain_nsec3.specs.Chain.{HashedLink, IsOfChain, cycle, ends, ends_of, ChainRecords, HashedName, ChainConfig, Hash, nsec3_lists, original_owners}
 use Rattle.domain_nsec3.{specs.Meaning.{IsRecordOf, octets_before, IsAlone}, proofs.ChainLemmas.{cycle_length, hash_same}}
-use Rattle.domain_checker.proofs.{AlikeLemmas.hashed_contained_alike, HashedListLemmas.{tied_is, hash_at, hashes_octets, record_at, match_is_of_name, unheard}}
-use Rattle.domain_checker.{proofs.{HashedVerdictLemmas.encloser_is, EncloserLemmas.same_count}, specs.{HashedReading.IsUnmatched, HashedVerdict.is_covered}}
-use Rattle.domain_checker.specs.HashedVerdict.{is_matched, next_closer, chain_records, HashedRecords, ChainFacts, ChainsAreKnown, owner_hash, is_hash_match}
+use Rattle.domain_checker.proofs.HashedVerdictLemmas.{encloser_is, hash_at, hashes_octets, match_is_of_name, record_at, tied_is, unheard}
+use Rattle.domain_checker.{proofs.MeantLemmas.{hashed_contained_alike, same_count}, specs.{HashedReading.IsUnmatched, HashedVerdict.ChainFacts}}
+use Rattle.domain_checker.specs.HashedVerdict.{ChainsAreKnown, HashedRecords, chain_records, is_covered, is_hash_match, is_matched, next_closer, owner_hash}
 use Rattle.domain_answer.proofs.{HashedAnswerLemmas.{read_proved, IsOfZone, encloser_told as whole_tells, whole_proves, zone_says}, EncloserLemmas.closest_last}
 use Rattle.domain_answer.{proofs.EncloserLemmas.{exists_low, strictly_other}, specs.HashedReading.{AreAskedAlone, hashed_proved_answer, needs_wildcard}}
 use Rattle.domain_answer.specs.{HashedReading.{tells_encloser, tells_wildcard, IsHashedRead, hashed_encloser, hashed_zone_answer}, ZoneAnswer.is_at_parent}

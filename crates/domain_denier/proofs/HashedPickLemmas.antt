@@ -10,9 +10,9 @@ use Rattle.domain_bitmap.specs.Blocks.{contains_type}
 use Rattle.domain_zone.proofs.{PairLemmas.{in_front, stands_in, any_none, in_at, In, all_from_in}, NameLemmas.{below_itself, below_parent, below_trans}}
 use Rattle.domain_zone.{proofs.{NameLemmas.{same_itself, below_length}, WalkLemmas.in_any}, specs.Zone.ZoneRecord}
 use Rattle.domain_nsec3.specs.Chain.{ChainRecords, HashedLink, ChainConfig, Hash, hash_name}
-use Rattle.domain_checker.{proofs.HashedListLemmas.{IsMissed, IsPassed, none_first, none_left, passed_on, heard}, specs.HashedReading.{Encloser, IsEncloser}}
-use Rattle.domain_checker.specs.{HashedReading.{encloser_is_cut, next_cover, IsUnmatched, IsNextHash}, HashedVerdict.{is_hash_cover, is_hash_match, IsFirst}}
-use Rattle.domain_checker.specs.HashedVerdict.{is_matched, is_ok_with, next_closer, HashedRecords, chain_records, first_cover, first_match, with_links}
+use Rattle.domain_checker.{proofs.HashedVerdictLemmas.{IsMissed, IsPassed, heard, none_first, none_left, passed_on}, specs.HashedReading.{Encloser, IsEncloser}}
+use Rattle.domain_checker.specs.{HashedReading.{IsNextHash, IsUnmatched, encloser_is_cut, next_cover}, HashedVerdict.{HashedRecords, IsFirst, chain_records}}
+use Rattle.domain_checker.specs.HashedVerdict.{first_cover, first_match, is_hash_cover, is_hash_match, is_matched, is_ok_with, next_closer, with_links}
 use Rattle.domain_answer.{proofs.{EncloserLemmas.{parent_below, last_above}, HashedAnswerLemmas.{last_low, closer_counts}}, specs.ZoneAnswer.wildcard_below}
 use Rattle.domain_answer.specs.HashedReading.{wildcard_told, IsHashedRead, IsReadOn, IsWildcardRead, encloser_answer, next_answer, own_answer}
 use Rattle.domain_answer.specs.declared.answer.Answer.{Answer, TheVariants.{Referral, Redirected, NoCloserName, NotProven}}

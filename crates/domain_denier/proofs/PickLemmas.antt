@@ -8,8 +8,8 @@ use Rattle.domain_names.specs.Name.{is_at_or_below, is_strictly_below, same_name
 use Rattle.domain_zone.proofs.{PairLemmas.{in_at, pair_is, pairs_length, find_none, said}, NameLemmas.{below_from, before_right, one_lowered, same_is}}
 use Rattle.domain_zone.specs.{Covering.{pairs, matches_or_covers}, Enclosers.{longer, shared}, Zone.{ZoneRecord, unoccluded_owners, is_unoccluded}}
 use Rattle.domain_nsec.specs.{Chain.Link, declared.config.GenerateNsecConfig.GenerateNsecConfig}
-use Rattle.domain_checker.proofs.{AlikeLemmas.contained_alike, EncloserLemmas.closest_is, MeantLemmas.{inside, apex_exists, config_with}}
-use Rattle.domain_checker.specs.{Verdict.{NsecChainsAreKnown, NsecFacts, has_match_or_cover}, Reading.{is_cover, is_match}}
+use Rattle.domain_checker.{proofs.MeantLemmas.{apex_exists, closest_is, config_with, contained_alike, inside}, specs.Reading.{is_cover, is_match}}
+use Rattle.domain_checker.specs.Verdict.{NsecChainsAreKnown, NsecFacts, has_match_or_cover}
 use Rattle.domain_answer.proofs.{ChainLemmas.{facts_leaving, given_never, match_own}, EncloserLemmas.{closest_last, free_parts, wildcard_low, answer_so}}
 use Rattle.domain_answer.specs.Reading.{IsAnswered, is_missing, knows_wildcard, proved_answer, IsNameAnswer, name_answer, absent_answer, listed_both}
 use Rattle.domain_answer.specs.{Reading.{reading, tells_occluded, wildcard_answer}, declared.answer.NameAnswer.TheVariants.Given, ZoneAnswer.is_at_parent}

@@ -7,8 +7,8 @@ use Rattle.domain_record.specs.{Record.{record_cmp, record_cmp_total}, declared.
 use Rattle.domain_rdata.specs.{Zone.{minimum_of, rtype_of}, declared.zone_record_data.ZoneRecordData.{ZoneRecordData, TheVariants.{Soa, Unknown}}}
 use Rattle.domain_records.specs.{Order.IsOneClass, declared.error.SigningError.{SigningError, TheVariants.OutOfMemory as NoRoom}}
 use Rattle.domain_zone.specs.Zone.{zone_of, ZoneRecord}
-use Rattle.domain_borrowed.specs.Data.{RawRecord, zone_of_raw, data_cmp as raw_cmp, data_cmp_total as raw_cmp_total, minimum_of as raw_minimum}
-use Rattle.domain_borrowed.proofs.MinimumLemmas.{minimum_last}
+use Rattle.domain_borrowed.{proofs.DataLemmas.minimum_last, specs.Data.{RawRecord, data_cmp as raw_cmp, data_cmp_total as raw_cmp_total}}
+use Rattle.domain_borrowed.specs.Data.{minimum_of as raw_minimum, zone_of_raw}
 use Rattle.domain_dnssec.specs.RawRecords.{HaveOneChain, TellMinima, TellsMinimum, raw_data, raw_record, raw_view, zone_view}
 use Rattle.domain_dnssec.specs.AnyOrder.{HasNone, IsWholeHashedChain, OfZone}
 use Rattle.domain_dnssec.{specs.declared.chain.ChainError.{ChainError, TheVariants.{MixedClasses, Sort, Signing, OutOfMemory}}, proofs.MappedLemmas.sets_back}

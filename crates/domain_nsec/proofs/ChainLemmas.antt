@@ -1,22 +1,26 @@
--- How the records of an NSEC chain are gathered, and what the finished chain means.
-use Rattle.std.proofs.Common.{◌≡◌, ℕ, ◌<◌, Bool, true, false, ◌&&◌, ◌||◌, List, [], ap, ◌∙◌, nat_eq, arith, ◌+◌, not, ◌∷◌, ◌++◌, map, refl, sym, subst, inl}
-use Rattle.std.proofs.{Common.{inr, ◌⊎◌, Some, zero, suc, length, get_or, take, ◌≢◌, None}, lemmas.{Grind.common_steps, Bool.{cases_Bool, false≢true}}}
-use Rattle.std.{proofs.lemmas.{Bool.{and_parts, or_cases, not-true}, List.{take_more, Elements.recursion_from_All}}, specs.Prelude.All}
-use Rattle.std.{proofs.lemmas.Simd.map-map, specs.List.{AllByRecursion, list_any}}
-use Rattle.domain_octets.{specs.Octets.Octets}
-use Rattle.domain_bitmap.{specs.{Bitmap.bitmap_octets}, proofs.BitmapLemmas.bitmap_octets-same}
-use Rattle.domain_zone.specs.Zone.{ZoneRecord, lists_type, OwnersNeverDescend, owns, is_occluded, is_unoccluded, unoccluded_owners, has_unequal_ttls}
-use Rattle.domain_zone.{specs.Zone.{chain_ttl, soa_of, AreListed, IsListingFault, OwnerRecords, covered_names}, proofs.GivenLemmas.{soa_owned}}
-use Rattle.domain_zone.{proofs.GivenLemmas.none_left_out, specs.{Covering.{covers, matches_or_covers, pairs}, declared.soa.ApexSoa.ApexSoa}}
-use Rattle.domain_zone.proofs.NameLemmas.{before_order, one_lowered, same_itself, same_is, before_left, before_right, below_from, same_lowered}
-use Rattle.domain_zone.proofs.{WalkLemmas.{any_owner, any_in, owners_are, owners_ascend, apex_unoccluded, weaker, apart_right}, PairLemmas.{In, all_in}}
-use Rattle.domain_zone.proofs.PairLemmas.{IsAscending, IsApart, pairs_length, pairs_owners, one_matches_or_covers, gap, owner_in, next_is}
-use Rattle.domain_zone.{specs.declared.listed.ListedOwners.ListedOwners, proofs.PairLemmas.{in_at, in_map, IsOnly, only_map}}
-use Rattle.domain_nsec.specs.{Chain.{is_listed, Link, link_of, links_in, nsec_lists, IsChain, IsFaultless, IsFirstFault}, Meaning.MirrorsZone}
-use Rattle.domain_nsec.specs.{Meaning.{IsMatchedOrCoveredOnce, IsCycle, OwnersAscend, last_next}, declared.config.GenerateNsecConfig.GenerateNsecConfig}
-use Rattle.domain_names.specs.Name.{is_at_or_below, lowered, same_name, before, Name}
-use Rattle.domain_records.specs.declared.error.SigningError.{SigningError, TheVariants.{EmptyRecordSlice, SoaRecordCouldNotBeDetermined, MultipleTtlValues}}
-use Rattle.domain_records.specs.declared.error.SigningError.TheVariants.{Nsec3HashingError, OutOfMemory}
+-- How the records of an NSEC chain are gathered, and what the finished chain means: also what the record that covers a name tells of it.
+use Rattle.domain_base.specs.Types.{ns}
+use Rattle.domain_bitmap.{proofs.BitmapLemmas.bitmap_octets-same, specs.Bitmap.bitmap_octets}
+use Rattle.domain_names.specs.Name.{Name, before, is_at_or_below, is_strictly_below, lowered, same_name}
+use Rattle.domain_nsec.specs.{Chain.{IsChain, IsFaultless, IsFirstFault, Link, is_listed, link_of, links_in, nsec_lists}, Meaning.CoversBelowOccluders}
+use Rattle.domain_nsec.specs.Meaning.{IsCoveredBy, IsCycle, IsMatchedOrCoveredOnce, MeansTheZone, MirrorsZone, OwnersAscend, TellsEmpty, TellsEncloser}
+use Rattle.domain_nsec.specs.{Meaning.last_next, declared.config.GenerateNsecConfig.GenerateNsecConfig}
+use Rattle.domain_octets.specs.Octets.{Octets}
+use Rattle.domain_records.specs.declared.error.SigningError.{SigningError, TheVariants.{EmptyRecordSlice, MultipleTtlValues, Nsec3HashingError, OutOfMemory}}
+use Rattle.domain_records.specs.declared.error.SigningError.TheVariants.{SoaRecordCouldNotBeDetermined}
+use Rattle.domain_zone.proofs.{GivenLemmas.{none_left_out, soa_owned}, NameLemmas.{before_left, before_order, before_right, below_between, below_from}}
+use Rattle.domain_zone.proofs.NameLemmas.{below_itself, below_longer, below_trans, either_way, lowered_below, one_lowered, same_is, same_itself, same_lowered}
+use Rattle.domain_zone.proofs.{NameLemmas.shared_is, PairLemmas.{In, IsApart, IsAscending, IsOnly, all_in, gap, in_at, in_map, le_lt, next_is}}
+use Rattle.domain_zone.proofs.{PairLemmas.{one_matches_or_covers, only_map, owner_in, pairs_length, pairs_owners}, WalkLemmas.{any_in, any_owner, apart_right}}
+use Rattle.domain_zone.{proofs.WalkLemmas.{apex_unoccluded, below_occluder, in_any, occluder_owns, owners_are, owners_ascend, weaker}, specs.Covering.covers}
+use Rattle.domain_zone.specs.{Covering.{matches, matches_or_covers, pairs}, Enclosers.{IsClosestEncloser, IsShared, exists_over, is_empty_nonterminal, longer}}
+use Rattle.domain_zone.specs.Zone.{AreListed, IsListingFault, OwnerRecords, OwnersNeverDescend, ZoneRecord, chain_ttl, covered_names, has_type}
+use Rattle.domain_zone.specs.Zone.{has_unequal_ttls, is_occluded, is_unoccluded, lists_type, occludes, owns, soa_of, unoccluded_owners}
+use Rattle.domain_zone.specs.declared.{owners.ListedOwners.ListedOwners, soa.ApexSoa.ApexSoa}
+use Rattle.std.proofs.Common.{Bool, List, None, Some, [], ap, arith, cond, false, get_or, inl, inr, length, ltb, map, nat_eq, not, refl, slice_get, subst, suc}
+use Rattle.std.proofs.{Common.{sym, take, true, zero, ℕ, ◌&&◌, ◌++◌, ◌+◌, ◌<◌, ◌||◌, ◌∙◌, ◌∷◌, ◌≡◌, ◌≢◌, ◌≤◌, ◌⊎◌}, lemmas.Bool.{and_parts, cases_Bool}}
+use Rattle.std.proofs.lemmas.{Bool.{false≢true, not-true, or_cases}, Grind.common_steps, List.{Elements.recursion_from_All, take_more}, Simd.map-map}
+use Rattle.std.specs.{List.{AllByRecursion, list_any}, Prelude.{All, filter}}
 
 -- ---- The types that NSEC records list.
 
@@ -266,3 +270,180 @@ module _ (L : List ZoneRecord) (a : Name) (config : GenerateNsecConfig) where
 
     pub chain : (numbers : ApexSoa) → soa_of L a ≡ Some numbers → IsChain L a config (links_in numbers a listed.names.items listed.types.items)
     chain numbers soa = chain_of L a config numbers _ _ soa known.named (known.typed ∙ ap (map _) (sym known.named))
+
+-- ---- What the record that covers a name tells of it, in each spelling of the name.
+
+-- ---- What the record that covers a name tells of it.
+
+-- what both names are, the longer of them is
+of_longer : (P : Name → Type 0) (e f : Name) → P e → P f → P (longer e f)
+of_longer P e f first second = elim (ltb (length e) (length f)) as (λ b. P (cond b f e)) [ true ↦ second | false ↦ first ]
+
+up_to_longer : (e f : Name) (n : ℕ) → (n ≤ length e) ⊎ (n ≤ length f) → n ≤ length (longer e f)
+up_to_longer e f n one = grind (arith, common_steps)
+
+module _ (L : List ZoneRecord) (a : Name) (order : OwnersNeverDescend L) (config : GenerateNsecConfig) (links : List Link)
+    (chain : IsChain L a config links) where
+  abbrev kept_owners : List Name
+  kept_owners = unoccluded_owners config.occlude_below_dname L a
+
+  owner_low : (m : Name) → In m kept_owners → is_at_or_below m a ≡ true
+  owner_low m i = grind (arith, common_steps, all_in, owners_are)
+
+  -- x lies after the owner, and each owner of the chain is on one side of it
+  pub record Covered (x : Name) (l : Link) : Type 0 where
+    pub owner_in_chain : In l.owner kept_owners
+    pub after : before l.owner x ≡ true
+    pub next_unoccluded : (before x l.next ≡ true) × In l.next kept_owners ⊎ (a ≡ l.next)
+    pub sides : (m : Name) → In m kept_owners → (before l.owner m ≡ false) ⊎ ((before x l.next ≡ true) × (before m l.next ≡ false))
+
+  pub covered : (x : Name) (l : Link) → In l links → is_at_or_below x a ≡ true → covers before l.owner l.next x ≡ true → Covered x l
+  covered x l i low c =
+      grind (
+        arith,
+        common_steps,
+        (link_owner L a order config links chain l i),
+        (link_next L a order config links chain l i),
+        (owner_gap L a order config links chain l),
+        (below_from x a low),
+      )
+
+  -- no owner of the chain is x
+  apart : (x : Name) (l : Link) → Covered x l → (m : Name) → In m kept_owners → same_name m x ≡ true → ⊥
+  apart x l c m j s =
+      grind (arith, common_steps, (c.sides m j), (before_right l.owner m x (one_lowered m x s)), (before_left m x l.next (one_lowered m x s)), c.after)
+
+  told_empty : (x : Name) → is_at_or_below x a ≡ true → (place : ℕ) (l : Link) → slice_get links place ≡ Some l → covers before l.owner l.next x ≡ true
+      → is_empty_nonterminal kept_owners a x ≡ is_strictly_below l.next x
+  told_empty x low place l at c =
+      let v = covered x l (in_at links place l at) low c in
+      either_way _ _ (there v) (back v)
+    where
+      there : Covered x l → is_empty_nonterminal kept_owners a x ≡ true → is_strictly_below l.next x ≡ true
+      there v h =
+          let some : list_any (λ n. is_strictly_below n x) kept_owners ≡ true = (and_parts (is_at_or_below x a && not (list_any _ kept_owners)) _ h).1 in
+          let m = any_in (λ n. is_strictly_below n x) kept_owners some in
+          grind (
+            arith,
+            common_steps,
+            m.2,
+            (v.sides m.0 m.1),
+            (below_from m.0 x),
+            (le_lt before_order m.0 l.owner x),
+            (below_between m.0 x l.next),
+            (before_order.one_way x l.next),
+            (apart_right x l.next),
+          )
+
+      back : Covered x l → is_strictly_below l.next x ≡ true → is_empty_nonterminal kept_owners a x ≡ true
+      back v h = grind (arith, common_steps, any_in, (apart x l v), in_any, (same_is a x), (below_from a x), (below_from x a low))
+
+  tells_empty : TellsEmpty L a config links
+  tells_empty = record { each = told_empty }
+
+  -- an owner tells of a name that it is at or below, which the apex is above, that this exists
+  exists_above : (m d : Name) → In m kept_owners → is_at_or_below m d ≡ true → is_at_or_below d a ≡ true → exists_over kept_owners a d ≡ true
+  exists_above m d i p low = grind (arith, common_steps, in_any)
+
+  tells_by_shared : (x : Name) → is_at_or_below x a ≡ true → (place : ℕ) (l : Link) → slice_get links place ≡ Some l
+      → covers before l.owner l.next x ≡ true → (e f : Name) → IsShared x l.owner e → IsShared x l.next f
+      → IsClosestEncloser kept_owners a x (longer e f)
+  tells_by_shared x low place l at c e f s t =
+      let v = covered x l (in_at links place l at) low c in
+      let own = owner_low l.owner v.owner_in_chain in
+      let next_low : is_at_or_below l.next a ≡ true = elim v.next_unoccluded [
+        | inl k ↦ owner_low l.next k.1
+        | inr k ↦ subst (λ n. is_at_or_below n a ≡ true) k (below_itself a)
+      ] in
+      let f_low = below_longer x f a t.first low (t.longest a low next_low) in
+      let f_found : exists_over kept_owners a f ≡ true = elim v.next_unoccluded [
+        | inl k ↦ exists_above l.next f k.1 t.second f_low
+        | inr k ↦ exists_above l.owner f v.owner_in_chain (below_trans l.owner a f own (subst (λ n. is_at_or_below n f ≡ true) (sym k) t.second)) f_low
+      ] in
+      record {
+        found = of_longer (λ n. exists_over kept_owners a n ≡ true) e f
+            (exists_above l.owner e v.owner_in_chain s.second (below_longer x e a s.first low (s.longest a low own))) f_found;
+        above = of_longer (λ n. is_at_or_below x n ≡ true) e f s.first t.first;
+        longest = λ d g h. up_to_longer e f (length d) (bound v d g h);
+      }
+    where
+      bound : Covered x l → (d : Name) → exists_over kept_owners a d ≡ true → is_at_or_below x d ≡ true → (length d ≤ length e) ⊎ (length d ≤ length f)
+      bound v d g h =
+          let m = any_in (λ n. is_at_or_below n d) kept_owners (and_parts (is_at_or_below d a) _ g).1 in
+          elim (v.sides m.0 m.1) [
+            | inl k ↦ inl (s.longest d h (below_between x d l.owner h (before_order.chain l.owner m.0 d k (below_from m.0 d m.2))
+                (before_order.one_way l.owner x v.after)))
+            | inr k ↦ inr (t.longest d h (below_between m.0 d l.next m.2
+                (before_order.chain l.next x d (before_order.one_way x l.next k.0) (below_from x d h)) k.1))
+          ]
+
+  tells_encloser : TellsEncloser L a config links
+  tells_encloser = grind (arith, common_steps, tells_by_shared, shared_is)
+
+  covered_below : (c x : Name) → occludes config.occlude_below_dname L a c ≡ true
+      → is_unoccluded config.occlude_below_dname L a c ≡ true → is_strictly_below x c ≡ true → IsCoveredBy links c x
+  covered_below c x cut unoccluded s =
+      let one = answered_once L a order config links chain x in
+      let l = one.item in
+      let i = in_at links one.place l one.there in
+      let own = (all_in _ kept_owners l.owner (owners_are config.occlude_below_dname L a) (link_owner L a order config links chain l i)).1 in
+      let not_under = not-true (is_occluded config.occlude_below_dname L a l.owner) (and_parts _ _ own).1 in
+      let down = (and_parts (is_at_or_below x c) _ s).0 in
+      let low = below_trans x c a down (and_parts (is_at_or_below c a) _ unoccluded).0 in
+      let cover : covers before l.owner l.next x ≡ true =
+      elim (or_cases (matches before l.owner x) (covers before l.owner l.next x) one.passes) [
+        | inl m ↦ absurd (false≢true (sym not_under ∙ below_occluder config.occlude_below_dname L a c l.owner cut
+            (ap (λ k. lowered_below k (lowered c) && not (same_lowered k (lowered c)))
+            (one_lowered l.owner x (same_is l.owner x ∙ m)) ∙ s)))
+        | inr m ↦ m
+      ] in
+      record {
+        place = one.place;
+        link = l;
+        there = one.there;
+        owner = at l (covered x l i low cover) not_under down;
+        covered = cover;
+        only = one.only;
+      }
+    where
+      cut_owns : owns L c ≡ true
+      cut_owns = occluder_owns config.occlude_below_dname L a c cut
+
+      at : (l : Link) → Covered x l → is_occluded config.occlude_below_dname L a l.owner ≡ false → is_at_or_below x c ≡ true → same_name l.owner c ≡ true
+      at l v u down =
+          let m = any_in (λ n. same_name n c) kept_owners
+          (any_owner config.occlude_below_dname L a c (λ n. same_lowered n (lowered c)) cut_owns unoccluded (same_itself c c refl)) in
+          let k = one_lowered m.0 c m.2 in
+          grind (
+            arith,
+            common_steps,
+            (v.sides m.0 m.1),
+            (before_right l.owner m.0 c k),
+            (before_left m.0 c l.next k),
+            (before_order.chain x c l.next (below_from x c down)),
+            (below_between x c l.owner down),
+            (before_order.one_way l.owner x v.after),
+            (below_occluder config.occlude_below_dname L a c l.owner cut),
+          )
+
+  covers_below_occluders : CoversBelowOccluders L a config links
+  covers_below_occluders = record { each = covered_below }
+
+  -- all that the chain says
+  pub means_the_zone : MeansTheZone L a config links
+  means_the_zone = record {
+    cycle = chain_cycle L a order config links chain;
+    denial = mirrors_zone L a order config links chain;
+    nonterminals = tells_empty;
+    enclosers = tells_encloser;
+    occluded = covers_below_occluders;
+  }
+
+-- ---- Names that are the same are one name to a chain.
+
+pub bits_alike : (L : List ZoneRecord) (a : Name) (assume : Bool) (x y : Name) → same_name x y ≡ true → (t : ℕ)
+    → nsec_lists L a assume x t ≡ nsec_lists L a assume y t
+bits_alike L a assume x y e t =
+    let rs : Name → List ZoneRecord = λ k. filter (λ r. same_lowered (lowered r.owner) k) L in
+    ap (λ k. is_listed (assume && same_lowered k (lowered a)) ((lowered_below k (lowered a) && not (same_lowered k (lowered a)))
+    && has_type (rs k) ns) (rs k) t) (one_lowered x y e)

@@ -1,2 +1,1 @@
 pub mod ChainLemmas
-pub mod EncloserLemmas

@@ -7,7 +7,7 @@ ghost use Rattle.domain_nsec.specs.Meaning.{MeansTheZone};
 ghost use Rattle.domain_nsec.specs.declared.config.GenerateNsecConfig.{GenerateNsecConfig};
 
 /// The NSEC record of an owner lists the same types for each spelling of the name.
-#[tactic(auto, using(crate::proofs::EncloserLemmas::bits_alike))]
+#[tactic(auto, using(crate::proofs::ChainLemmas::bits_alike))]
 pub fn types_ignore_case()
     ensures { (L : List ZoneRecord) (a : Name) (assume : Bool) (x y : Name) → same_name x y ≡ true
         → (t : ℕ) → nsec_lists L a assume x t ≡ nsec_lists L a assume y t }

@@ -11,9 +11,6 @@
 mod chain;
 mod config;
 pub mod laws;
-mod nsec;
-mod types;
 
-pub use chain::{BorrowedNsec, NsecChain};
+pub use chain::{BorrowedNsec, NsecChain, generate_nsecs};
 pub use config::GenerateNsecConfig;
-pub use nsec::generate_nsecs;

@@ -1,27 +1,37 @@
--- Hashes in order, each linked with the next one: the chain of the zone, or its first fault.
-use Rattle.std.proofs.Common.{◌≡◌, ℕ, ◌<◌, Bool, false, not, ◌&&◌, ◌||◌, List, [], refl, sym, ◌∙◌, arith, ◌≢◌, true, ◌∷◌, map, None, cond, ◌++◌, ap, subst, inl}
-use Rattle.std.proofs.{Common.{inr, suc, ◌+◌, length, get_or, take, Some, Ok, ◌≤◌}, lemmas.{Grind.common_steps, Cmp.tied_itself, List.get_or-map}}
-use Rattle.std.proofs.lemmas.List.{get_or_past, length-map, take_more, Elements.{recursion_from_All, All-map, All-weaker}, Folds.list_any_at}
-use Rattle.std.proofs.lemmas.{List.Sorted.list_any-IsPermutation, Bool.cases_lt, Map.Keys.{apart_from_distinct, IsDistinct-IsPermutation}}
-use Rattle.std.{proofs.lemmas.{Option.slice_get-get_or, Simd.map-map}, specs.List.{AllByRecursion, IsDistinct, list_any, Sorted.IsStrictlySortedBy}}
-use Rattle.std.specs.{Ordering.nat_cmp, declared.cmp.Ordering.TheVariants.Less, Cmp.Lexicographic.{slice_cmp, nat_list_cmp_total}, Prelude.All}
-use Rattle.domain_bitmap.{specs.{Bitmap.bitmap_octets, Blocks.holds}, proofs.BitmapLemmas.{bitmap_octets-same, holds_nothing as packs_nothing}}
-use Rattle.domain_zone.specs.{Zone.{ZoneRecord, has_type, owns, IsListingFault, OwnerRecords, owner_at, soa_of, chain_ttl}, Covering.pairs}
-use Rattle.domain_zone.{specs.declared.soa.ApexSoa.ApexSoa, proofs.{GivenLemmas.holds_nothing, WalkLemmas.{owners_are, any_in, in_any, all_filter, weaker}}}
-use Rattle.domain_zone.proofs.{WalkLemmas.{any_map, same_back}, NameLemmas.{before_order, before_left, one_lowered, same_itself, either_way}, PairLemmas.In}
-use Rattle.domain_zone.proofs.PairLemmas.{IsAscending, all_from_in, all_in, in_either, in_map, in_middle, pair_at, pairs_length, pairs_owners}
-use Rattle.domain_nsec3.specs.Chain.{is_listed, original_owners, nsec3_lists, is_original_owner, is_chain_name, ChainConfig, Hash, hash_name, IsFirstFault}
-use Rattle.domain_nsec3.specs.Chain.{hash_fault, is_hashed_before, IsFirstHashFault, IsFirstHashingFault, HasCollision, AreAllHashed, HashedLink, HashedName}
-use Rattle.domain_nsec3.specs.{Chain.{IsHashedChain, IsOfChain, cycle, ends, ends_of, hashed_owner}, Steps.{IsFirstRefused, AreHashesOf, AreOrderedHashes}}
-use Rattle.domain_nsec3.specs.{Steps.{AreUsable, Common, HasAlikeNeighbours, IsHashOf, link_to, links_in, name_at}, Meaning.IsRecordOf}
-use Rattle.domain_nsec3.{specs.declared.{chain.HashedChain.HashedChain, hash.Hashed.Hashed}, proofs.{OwnerLemmas.ascends_both, HashLemmas.sound_some}}
-use Rattle.domain_nsec3.proofs.HashLemmas.{sound_short}
-use Rattle.domain_names.specs.Name.{same_name, wire_of, Name, before}
-use Rattle.domain_octets.specs.Octets.{Octets}
-use Rattle.domain_records.specs.declared.error.SigningError.{SigningError, TheVariants.{EmptyRecordSlice, SoaRecordCouldNotBeDetermined, MultipleTtlValues}}
-use Rattle.domain_records.specs.declared.error.SigningError.TheVariants.{Nsec3HashingError, OutOfMemory}
-use Rattle.domain_base.specs.{Types.ds, Classes.in_class}
+-- Hashes in order, each linked with the next one: the chain of the zone, or its first fault; and what its records say of every name.
+use Rattle.domain_base.specs.{Classes.in_class, Types.{ds, ns}}
+use Rattle.domain_bitmap.{proofs.BitmapLemmas.{bitmap_octets-same, holds_nothing as packs_nothing}, specs.{Bitmap.bitmap_octets, Blocks.holds}}
+use Rattle.domain_codecs.{proofs.Base32Lemmas.{lower_apart, lower_keeps}, specs.Base32.base32_lower}
 use Rattle.domain_hasher.specs.declared.error.Nsec3HashError.{Nsec3HashError}
+use Rattle.domain_names.{proofs.OrderLemmas.canonical_cmp-more, specs.Name.{Name, before, canonical_cmp, canonical_cmp_total, is_at_or_below, same_name}}
+use Rattle.domain_names.specs.Name.{wire_of}
+use Rattle.domain_nsec3.proofs.OwnerLemmas.{apex_original, ascends_both, cut_encloses, empty_are, existing_are, is_own, lower_text, names_are, out_flag}
+use Rattle.domain_nsec3.{proofs.OwnerLemmas.{runs_to_encloser, sorted, sound_short, sound_some, tied_octets}, specs.Chain.{AreAllHashed, ChainConfig}}
+use Rattle.domain_nsec3.specs.Chain.{HasCollision, Hash, HashAnswer, HashedLink, HashedName, IsFirstFault, IsFirstHashFault, IsFirstHashingFault, IsHashedChain}
+use Rattle.domain_nsec3.specs.Chain.{IsOfChain, cycle, ends, ends_of, hash_fault, hash_name, hash_of, hashed_owner, is_chain_name, is_empty, is_hashed_before}
+use Rattle.domain_nsec3.specs.{Chain.{is_listed, is_original_owner, nsec3_lists, original_owners}, Meaning.{AreAlone, IsAlone, IsMatchedOrCoveredOnce}}
+use Rattle.domain_nsec3.specs.{Meaning.{IsRecordOf, MeansTheZone, OwnersAscend, TellsEncloserOf, octets_before}, Steps.{AreHashesOf, AreOrderedHashes}}
+use Rattle.domain_nsec3.specs.Steps.{AreUsable, AreWithEmpty, Common, HasAlikeNeighbours, IsFirstRefused, IsHashOf, IsHashingFault, link_to, links_in, name_at}
+use Rattle.domain_nsec3.specs.declared.{chain.HashedChain.HashedChain, hash.Hashed.Hashed}
+use Rattle.domain_octets.specs.Octets.{Octets}
+use Rattle.domain_records.specs.declared.error.SigningError.{SigningError, TheVariants.{EmptyRecordSlice, MultipleTtlValues, Nsec3HashingError, OutOfMemory}}
+use Rattle.domain_records.specs.declared.error.SigningError.TheVariants.{SoaRecordCouldNotBeDetermined}
+use Rattle.domain_zone.proofs.{GivenLemmas.{holds_nothing, soa_owned}, NameLemmas.{before_left, before_order, below_itself, below_length, below_trans}}
+use Rattle.domain_zone.proofs.{NameLemmas.{closest_above, either_way, one_lowered, parent_below, same_itself}, PairLemmas.{In, IsAscending, IsOnly}}
+use Rattle.domain_zone.proofs.PairLemmas.{all_from_in, all_in, ascending, in_at, in_either, in_map, in_middle, irreflexive, mapped_at, one_of_ring, pair_at}
+use Rattle.domain_zone.proofs.{PairLemmas.{pairs_length, pairs_owners, stands_in}, WalkLemmas.{all_filter, all_map, any_in, any_map, ascending_filter, in_any}}
+use Rattle.domain_zone.{proofs.WalkLemmas.{owners_are, owners_ascend, same_back, weaker}, specs.Covering.{covers, matches, matches_or_covers, pairs}}
+use Rattle.domain_zone.specs.{Enclosers.{IsClosestEncloser, exists_over, is_empty_nonterminal}, Zone.{IsListingFault, OwnerRecords, OwnersNeverDescend}}
+use Rattle.domain_zone.specs.{Zone.{ZoneRecord, chain_ttl, has_type, owner_at, owns, soa_of}, declared.{owners.ListedOwners.ListedOwners, soa.ApexSoa.ApexSoa}}
+use Rattle.std.proofs.Common.{Bool, List, None, Ok, Some, [], ap, arith, cond, false, get_or, inl, inr, length, map, not, refl, subst, suc, sym, take, true}
+use Rattle.std.proofs.{Common.{zero, ℕ, ◌&&◌, ◌++◌, ◌+◌, ◌<◌, ◌||◌, ◌∙◌, ◌∷◌, ◌≡◌, ◌≢◌, ◌≤◌, ◌⊎◌}, lemmas.Bool.{and_parts, cases_Bool, cases_lt, false≢true}}
+use Rattle.std.proofs.lemmas.{Bool.{not-true, or_left}, Cmp.tied_itself, Grind.common_steps, List.Elements.{All-from_recursion, All-get_or, All-map}}
+use Rattle.std.proofs.lemmas.List.{Elements.{All-weaker, recursion_from_All}, Folds.list_any_at, Sorted.{list_any-IsPermutation, ranks_by}, get_or-map}
+use Rattle.std.proofs.lemmas.{List.{get_or_past, length-map, take_more}, Map.Keys.{IsDistinct-IsPermutation, apart_from_distinct}, Option.same_Some}
+use Rattle.std.{proofs.lemmas.{Option.slice_get-get_or, Simd.map-map}, specs.Cmp.{IsStrictWeakOrder, Lexicographic.{nat_list_cmp_total, slice_cmp}}}
+use Rattle.std.specs.{List.{AllByRecursion, IsDistinct, Sorted.IsStrictlySortedBy, list_any}, Ordering.{nat_cmp, ordering_then}, Prelude.{All, slice_get}}
+use Rattle.std.specs.declared.cmp.Ordering.TheVariants.{Less}
+use Rattle.domain_hasher.specs.declared.error.Nsec3HashError.TheVariants as hash_error
 
 -- ---- The types that NSEC3 records list.
 
@@ -304,3 +314,313 @@ module _ (L : List ZoneRecord) (a : Name) (config : ChainConfig) (names : List N
 
       link : Hashed × Hashed → HashedLink
       link q = link_to a p chain.types.items q.0 q.1.hash
+
+-- ---- What hashing the names of a chain comes to: the chain of the zone, or its first fault.
+
+-- ---- the owners of a zone in order
+
+module _ (L : List ZoneRecord) (a : Name) (config : ChainConfig) where
+  originals_ascend : OwnersNeverDescend L → IsAscending before (original_owners L a config)
+  originals_ascend order = grind (arith, common_steps, ascending_filter, owners_ascend)
+
+  pub original_ascend : OwnersNeverDescend L → IsStrictlySortedBy canonical_cmp (original_owners L a config)
+  original_ascend order = sorted (original_owners L a config) (originals_ascend order)
+
+  pub original_below : All (λ n. is_at_or_below n a ≡ true) (original_owners L a config)
+  original_below = grind (arith, common_steps, all_filter, owners_are)
+
+-- ---- what hashing comes to
+
+-- what is told at a place of the front alone, where of what follows nothing is told
+front_told : (f : Name → Octets) (xs ys : List Name) (i : ℕ) → AllByRecursion (λ y. [] ≡ f y) ys → i < length (xs ++ ys)
+    → get_or (map f xs) i [] ≡ f (get_or (xs ++ ys) i [])
+front_told f [] ys i none within = All-get_or (λ y. [] ≡ f y) ys i [] within (All-from_recursion (λ y. [] ≡ f y) ys none)
+front_told f (x ∷ xs) ys zero none within = refl
+front_told f (x ∷ xs) ys (suc i) none within = front_told f xs ys i none (omega arith)
+
+-- the names of a zone's chain: its owners, which stand in order, and their empty non-terminals
+pub record AreGathered (L : List ZoneRecord) (a : Name) (config : ChainConfig) (owners : ListedOwners) (names : List Name) : Type 0 where
+  pub order : OwnersNeverDescend L
+  pub named : owners.names.items ≡ original_owners L a config
+  pub typed : owners.types.items ≡ map (λ n. bitmap_octets (nsec3_lists L a config n)) (original_owners L a config)
+  pub joined : AreWithEmpty a owners.names.items names
+
+module _ {L : List ZoneRecord} {a : Name} {config : ChainConfig} {owners : ListedOwners} {names : List Name}
+    (known : AreGathered L a config owners names) where
+  abbrev empty : List Name
+  empty = known.joined.empty
+
+  -- which names are empty
+  empty_are_listed : (x : Name) → list_any (λ n. same_name n x) empty ≡ is_empty_nonterminal (original_owners L a config) a x
+  empty_are_listed x = known.joined.listed.exactly x ∙ ap (λ l. is_empty_nonterminal l a x) known.named
+
+  joined_are : names ≡ original_owners L a config ++ empty
+  joined_are = known.joined.are ∙ ap (λ l. l ++ empty) known.named
+
+  are : (x : Name) → list_any (λ n. same_name n x) names ≡ is_chain_name L a config x
+  are x = ap (list_any (λ n. same_name n x)) joined_are ∙ names_are L a config empty empty_are_listed x
+
+  all_empty : AllByRecursion (λ n. is_empty_nonterminal (original_owners L a config) a n ≡ true) empty
+  all_empty = all_from_in _ empty (λ x i. sym (empty_are_listed x) ∙ in_any (λ n. same_name n x) empty x i (same_itself x x refl))
+
+  in_order : IsAscending (is_hashed_before L a config) names
+  in_order =
+      subst (IsAscending (is_hashed_before L a config)) (sym joined_are)
+      (hashed_in_order L a config (original_owners L a config) empty (originals_ascend L a config known.order)
+      (ascending canonical_cmp empty known.joined.listed.ascend)
+      (all_from_in (λ n. is_original_owner L a config n ≡ true) (original_owners L a config) (is_own L a config))
+      (weaker (λ n. is_empty_nonterminal (original_owners L a config) a n ≡ true) (λ n. is_original_owner L a config n ≡ false)
+      (λ n e. not-true (is_original_owner L a config n) (and_parts (is_at_or_below n a) _ (and_parts _ _ e).0).1) empty all_empty))
+
+  -- the types at a place are those of its name
+  unowned : (x : Name) → is_empty L a config x ≡ true → [] ≡ bitmap_octets (nsec3_lists L a config x)
+  unowned x e = no_types ∙ grind (arith, common_steps)
+
+  typed : (i : ℕ) → i < length names → get_or owners.types.items i [] ≡ bitmap_octets (nsec3_lists L a config (get_or names i []))
+  typed i within =
+      rw (known.typed, joined_are) (front_told (λ n. bitmap_octets (nsec3_lists L a config n)) (original_owners L a config) empty i
+      (weaker _ _ (λ x e. unowned x (sym (empty_are L a config x) ∙ e)) empty all_empty) (subst (λ ns. i < length ns) joined_are within))
+
+  pub outcome_chain : (chain : HashedChain) (p : Common) (numbers : ApexSoa) → soa_of L a ≡ Some numbers → p.ttl ≡ chain_ttl numbers
+      → p.parameters ≡ config.parameters → p.flags ≡ config.flags → chain.types.items ≡ owners.types.items
+      → AreOrderedHashes a config.hash names chain.hashed.items → IsHashedChain L a config (links_in a chain p)
+  outcome_chain chain p numbers soa ttl parameters flags same =
+      chain_of_zone L a config names are chain p numbers (λ i l. ap (λ ts. get_or ts i []) same ∙ typed i l) soa ttl parameters flags
+
+  pub outcome_hashed : (hashed : List Hashed) → AreOrderedHashes a config.hash names hashed → AreAllHashed L a config
+  outcome_hashed hashed o = all_hashed L a config names are hashed o.hashes
+
+  pub outcome_usable : (chain : HashedChain) → AreOrderedHashes a config.hash names chain.hashed.items → AreUsable a chain
+  outcome_usable chain o = All-weaker (IsHashOf a config.hash names) (λ h. hash_fault a (Ok h.hash) ≡ None) (λ h e. e.is.sound) chain.hashed.items o.hashes.each
+
+  pub outcome_fault : (e : Nsec3HashError) → IsHashingFault a config.hash names e → (e ≡ hash_error.OutOfMemory) ⊎ IsFirstHashingFault L a config e
+  outcome_fault e (inl m) = inl m
+  outcome_fault e (inr (inl r)) = inr (hashing_fault L a config e (first_fault L a config names e are in_order r))
+  outcome_fault e (inr (inr k)) =
+      inr (subst (IsFirstHashingFault L a config) (sym k.0) ((
+        all_hashed L a config names are k.1 k.2,
+        collides L a config names are k.1 k.2 (all_apart L a config names in_order) k.3,
+      )))
+
+-- ---- What the records of an NSEC3 chain say of every name.
+
+-- ---- The owners of NSEC3 records ascend in canonical order, as their hashes do.
+
+before_owner : (a : Name) (u v : List ℕ) → All (λ o. o < 256) u → All (λ o. o < 256) v → slice_cmp nat_cmp u v ≡ Less
+    → canonical_cmp (hashed_owner a u) (hashed_owner a v) ≡ Less
+before_owner a u v p q e =
+    canonical_cmp-more a a _ _ refl
+    ∙ (λ i. ordering_then (tied_itself canonical_cmp_total a i) (slice_cmp nat_cmp (lower_text u p i) (lower_text v q i)))
+    ∙ lower_keeps u v p q ∙ e
+
+octets_ascending : (a : Name) (us : List (List ℕ)) → AllByRecursion (λ u. All (λ o. o < 256) u) us
+    → IsStrictlySortedBy (slice_cmp nat_cmp) us → IsStrictlySortedBy canonical_cmp (map (hashed_owner a) us)
+unfolding IsStrictlySortedBy
+octets_ascending a [] h up = tt
+octets_ascending a (u ∷ us) h up = (
+  all_map _ (hashed_owner a) us (all_from_in _ us (λ v i. before_owner a u v h.0 (all_in _ us v h.1 i) (all_in _ us v up.0 i))),
+  octets_ascending a us h.1 up.1,
+)
+
+owners_of_cycle : (a : Name) (links : List HashedLink) (us : List (List ℕ)) → map ends links ≡ map (ends_of a) (cycle us)
+    → map (λ k. k.owner) links ≡ map (hashed_owner a) us
+owners_of_cycle a links us e =
+    sym (map-map (λ (p : Name × List ℕ). p.0) ends links) ∙ ap (map (λ (p : Name × List ℕ). p.0)) e
+    ∙ map-map (λ (p : Name × List ℕ). p.0) (ends_of a) (cycle us) ∙ sym (map-map (hashed_owner a) (λ (q : List ℕ × List ℕ). q.0) (cycle us))
+    ∙ ap (map (hashed_owner a)) (cycle_owners us)
+
+pub link_owners_ascend : (L : List ZoneRecord) (a : Name) (config : ChainConfig) (links : List HashedLink) → IsHashedChain L a config links → OwnersAscend links
+link_owners_ascend L a config links chain =
+    subst (IsStrictlySortedBy canonical_cmp) (sym (owners_of_cycle a links (map (λ n. n.hash) chain.names) chain.linked))
+    (octets_ascending a (map (λ n. n.hash) chain.names) (all_map _ (λ n. n.hash) chain.names
+    (weaker _ _ (λ n h. h.sound.2) chain.names (recursion_from_All (IsOfChain L a config) chain.names chain.sound))) chain.ascend)
+
+-- ---- What the records of an NSEC3 chain say of every name, from the chain alone.
+
+-- ---- the order of hashes
+
+octets_order : IsStrictWeakOrder octets_before
+octets_order = ranks_by nat_list_cmp_total (λ v. v)
+
+-- octets match themselves
+matches_itself : (u v : List ℕ) → u ≡ v → matches octets_before u v ≡ true
+matches_itself u v e = ap (matches octets_before u) (sym e) ∙ (λ i. not (irreflexive octets_order u i || irreflexive octets_order u i))
+
+ok_is : (x y : List ℕ) (r s : HashAnswer) → r ≡ s → r ≡ Ok x → s ≡ Ok y → x ≡ y
+ok_is x y r s e p q = let both : Ok x ≡ Ok y = sym p ∙ e ∙ q in cc
+
+-- ---- each name has a closest encloser
+
+an_encloser : (ks : List Name) (a : Name) → exists_over ks a a ≡ true → (x : Name) → is_at_or_below x a ≡ true → (e : Name) × IsClosestEncloser ks a x e
+an_encloser ks a apex [] low = grind (arith, common_steps)
+an_encloser ks a apex (l ∷ x) low =
+    elim (cases_Bool _) [
+      | inl e ↦ (l ∷ x, record { found = e; above = below_itself (l ∷ x); longest = λ d h p. below_length (l ∷ x) d p })
+      | inr e ↦
+          let up = an_encloser ks a apex x (parent_below ks a l x e a apex low) in (up.0, closest_above ks a l x e up.0 up.1)
+    ]
+
+-- ---- the record of a name
+
+module _ (L : List ZoneRecord) (a : Name) (config : ChainConfig) where
+  -- names that are the same are names of the chain alike, and have the same types
+  pub chain_same : (m n : Name) → same_name m n ≡ true → is_chain_name L a config m ≡ is_chain_name L a config n
+  chain_same m n s = rw (one_lowered m n s) refl
+
+  pub bit_same : (m n : Name) → same_name m n ≡ true → (t : ℕ) → nsec3_lists L a config m t ≡ nsec3_lists L a config n t
+  bit_same m n s t = rw (one_lowered m n s) refl
+
+  pub bits_same : (m n : Name) → same_name m n ≡ true → bitmap_octets (nsec3_lists L a config m) ≡ bitmap_octets (nsec3_lists L a config n)
+  bits_same m n s = bitmap_octets-same (nsec3_lists L a config m) (nsec3_lists L a config n) (λ t b. bit_same m n s t)
+
+  -- the record at a place
+  pub record IsAtPlace (names : List HashedName) (k : HashedLink) (j : ℕ) : Type 0 where
+    pub name : HashedName
+    pub there : In name names
+    pub pair : slice_get (cycle (map (λ n. n.hash) names)) j ≡ Some (name.hash, k.next)
+    pub owner : k.owner ≡ hashed_owner a name.hash
+    pub bits : k.bits ≡ bitmap_octets (nsec3_lists L a config name.name)
+
+  -- the apex is a name of the chain where it owns records
+  apex_named : owns L a ≡ true → is_chain_name L a config a ≡ true
+  apex_named o = or_left _ (is_empty L a config a) (apex_original L a config o)
+
+  module _ (links : List HashedLink) (chain : IsHashedChain L a config links) where
+    name_sound : (n : HashedName) → In n chain.names → IsOfChain L a config n
+    name_sound n i = all_in (IsOfChain L a config) chain.names n (recursion_from_All (IsOfChain L a config) chain.names chain.sound) i
+
+    abbrev hashes : List Octets
+    hashes = map (λ n. n.hash) chain.names
+
+    pub of_place : (k : HashedLink) (j : ℕ) → slice_get links j ≡ Some k → IsAtPlace chain.names k j
+    of_place k j i =
+        let p = mapped_at ends (ends_of a) links (cycle hashes) chain.linked j k i in
+        let n = mapped_at (λ (q : Octets × Octets). q.0) (λ n. n.hash) (cycle hashes) chain.names (cycle_owners hashes) j p.0 p.1 in
+        let told = mapped_at (λ k. k.bits) (λ n. bitmap_octets (nsec3_lists L a config n.name)) links chain.names chain.bits j k i in
+        record {
+          name = n.0;
+          there = in_at chain.names j n.0 n.1;
+          pair = p.1 ∙ (λ i. Some (n.2 i, sym (ap (λ q. q.1) p.2) i));
+          owner = ap (λ q. q.0) p.2 ∙ ap (hashed_owner a) n.2;
+          bits = told.2 ∙ ap (λ m. bitmap_octets (nsec3_lists L a config m.name)) (same_Some told.0 n.0 (sym told.1 ∙ n.1));
+        }
+
+    -- what the owner of a record spells
+    spelled_is : (k : HashedLink) (j : ℕ) (h : List ℕ) (r : IsRecordOf a links j k h) → (of_place k j r.there).name.hash ≡ h
+    spelled_is k j h r =
+        let p = of_place k j r.there in
+        let owner : base32_lower p.name.hash ∷ a ≡ base32_lower h ∷ a = sym p.owner ∙ r.spelled in
+        lower_apart p.name.hash h (name_sound p.name p.there).sound.2 r.octets (cc)
+
+    -- a record that matches the hash of a name that shares it with none is that of the name
+    pub matched_name : (x : Name) (v : List ℕ) → IsAlone L a config x v
+        → (k : HashedLink) (j : ℕ) (i : slice_get links j ≡ Some k) → matches octets_before (of_place k j i).name.hash v ≡ true
+        → same_name (of_place k j i).name.name x ≡ true
+    matched_name x v alone k j i m =
+        let p = of_place k j i in
+        let s = name_sound p.name p.there in
+        alone.alone p.name.name s.in_chain (s.hashed ∙ ap Ok (tied_octets p.name.hash v m))
+
+    -- exactly one pair of the cycle matches or covers any octets
+    the_pair : (v : Octets) → IsOnly (λ (p : Octets × Octets). matches_or_covers octets_before p.0 p.1 v) (cycle hashes)
+    the_pair v = by chain.names chain.ascend (chain.complete a (apex_named (soa_owned L a chain.numbers chain.soa)))
+      where
+        by : (ns : List HashedName) → IsStrictlySortedBy (slice_cmp nat_cmp) (map (λ n. n.hash) ns)
+            → list_any (λ n. same_name n.name a) ns ≡ true →
+            IsOnly (λ (p : Octets × Octets). matches_or_covers octets_before p.0 p.1 v) (cycle (map (λ n. n.hash) ns))
+        by [] up h = absurd (false≢true h)
+        by (n ∷ ns) up h = one_of_ring octets_order n.hash (map (λ n. n.hash) ns) (ascending (slice_cmp nat_cmp) (n.hash ∷ map (λ n. n.hash) ns) up) v
+
+    mirrored : (x : Name) (v : List ℕ) → IsAlone L a config x v → IsMatchedOrCoveredOnce L a config links x v
+    mirrored x v alone =
+        let one = the_pair v in
+        let l = mapped_at (ends_of a) ends (cycle hashes) links (sym chain.linked) one.place one.item one.there in
+        let p = of_place l.0 one.place l.1 in
+        let is : one.item ≡ (p.name.hash, l.0.next) = same_Some one.item (p.name.hash, l.0.next) (sym one.there ∙ p.pair) in
+        let says : matches_or_covers octets_before p.name.hash l.0.next v
+        ≡ true = ap (λ (q : List ℕ × List ℕ). matches_or_covers octets_before q.0 q.1 v) (sym is) ∙ one.passes in
+        let matched : matches octets_before p.name.hash v ≡ is_chain_name L a config x =
+        either_way (matches octets_before p.name.hash v) (is_chain_name L a config x)
+        (λ m. sym (chain_same p.name.name x (matched_name x v alone l.0 one.place l.1 m)) ∙ (name_sound p.name p.there).in_chain)
+        (λ c.
+        let n = any_in (λ n. same_name n.name x) chain.names (chain.complete x c) in
+        let s = stands_in chain.names n.0 n.1 in
+        let q = mapped_at (λ n. n.hash) (λ (r : Octets × Octets). r.0) chain.names (cycle hashes) (sym (cycle_owners hashes)) s.place n.0 s.there in
+        let is : q.0.0 ≡ v = sym q.2 ∙ ok_is n.0.hash v (hash_of config n.0.name) (hash_of config x) (hash_same config.hash n.0.name x n.2)
+        (name_sound n.0 n.1).hashed alone.known in
+        let at = one.only s.place q.0 q.1 (or_left (matches octets_before q.0.0 v) _ (matches_itself q.0.0 v is)) in
+        let same : q.0 ≡ (p.name.hash, l.0.next) = same_Some q.0 (p.name.hash, l.0.next) (sym q.1 ∙ ap (slice_get (cycle hashes)) at ∙ p.pair) in
+        matches_itself p.name.hash v (sym (ap (λ r. r.0) same) ∙ is)) in
+        record {
+          place = one.place;
+          link = l.0;
+          hash = p.name.hash;
+          is = record { there = l.1; spelled = p.owner; octets = (name_sound p.name p.there).sound.2 };
+          says = says;
+          only = λ j k h r s.
+              let q = of_place k j r.there in
+              one.only j (q.name.hash, k.next) q.pair (ap (λ u. matches_or_covers octets_before u k.next v) (spelled_is k j h r) ∙ s);
+          matched = matched;
+          bits = λ c. p.bits ∙ bits_same p.name.name x (matched_name x v alone l.0 one.place l.1 (matched ∙ c));
+        }
+
+    -- ---- enclosers
+
+    module _ (x e : Name) (alone : AreAlone L a config x) (c : IsClosestEncloser (original_owners L a config) a x e) where
+      told_of : TellsEncloserOf L a config links x e
+      told_of = record {
+        runs = λ d up low under.
+            let v = alone d up low in
+            let m = mirrored d v.0 v.1 in
+            record {
+              place = m.place;
+              link = m.link;
+              hash = m.hash;
+              value = v.0;
+              is = m.is;
+              known = v.1.known;
+              says = m.matched ∙ runs_to_encloser L a config x e d c up low ∙ under;
+            };
+        stops = λ d up low under m.
+            let v = alone d up low in
+            let value : m.value ≡ v.0 = ok_is m.value v.0 (hash_of config d) (hash_of config d) refl m.known v.1.known in
+            let p = of_place m.link m.place m.is.there in
+            let s = matched_name d v.0 v.1 m.link m.place m.is.there
+            ((λ i. matches octets_before (spelled_is m.link m.place m.hash m.is i) (sym value i)) ∙ m.says) in
+            false≢true (sym (runs_to_encloser L a config x e d c up low ∙ under) ∙ sym (chain_same p.name.name d s) ∙ (name_sound p.name p.there).in_chain);
+        next = λ d n.
+            let high = (and_parts (is_at_or_below e a) (list_any (λ o. is_at_or_below o e) (original_owners L a config)) c.found).0 in
+            let low = below_trans d e a (and_parts (is_at_or_below d e) (not (same_name d e)) n.below).0 high in
+            let v = alone d n.above low in
+            let m = mirrored d v.0 v.1 in
+            let longer = n.longer in
+            let under : is_at_or_below e d ≡ false = grind (arith, common_steps, (below_length e d)) in
+            let none : matches octets_before m.hash v.0 ≡ false = m.matched ∙ runs_to_encloser L a config x e d c n.above low ∙ under in
+            record {
+              place = m.place;
+              link = m.link;
+              hash = m.hash;
+              value = v.0;
+              is = m.is;
+              known = v.1.known;
+              says = (ap (λ b. b || covers octets_before m.hash m.link.next v.0) (sym none)) ∙ m.says;
+              flags = (all_in (λ k. (k.parameters ≡ config.parameters) × (k.flags ≡ config.flags)) links m.link
+                  (recursion_from_All (λ k. (k.parameters ≡ config.parameters) × (k.flags ≡ config.flags)) links chain.told)
+                  (in_at links m.place m.link m.is.there)).1;
+            };
+      }
+
+    pub means_the_zone : MeansTheZone L a config links
+    means_the_zone = record {
+      ascent = link_owners_ascend L a config links chain;
+      denial = record { each = λ x v low alone. mirrored x v alone };
+      enclosers = record {
+        encloser = an_encloser (original_owners L a config) a (existing_are L a config a (below_itself a) ∙ apex_named (soa_owned L a chain.numbers chain.soa));
+        each = λ x e low alone c. told_of x e alone c;
+      };
+      cuts = cut_encloses L a config;
+      excluded = record {
+        flag = out_flag L a config;
+        each = λ c e d cut high out alone k n. (told_of c e alone k).next d n;
+      };
+    }

@@ -1,20 +1,205 @@
--- The names of an NSEC3 chain: those that exist over its owners.
-use Rattle.std.proofs.Common.{◌≡◌, ℕ, ◌+◌, ◌≤◌, ◌<◌, true, false, cond, List, [], ◌∷◌, ◌++◌, length, refl, sym, ap, ◌∙◌, arith, Bool, not, ◌&&◌, ◌||◌, inl, inr}
-use Rattle.std.proofs.lemmas.Bool.{false_from_ne_true, false≢true, and_parts, and_from, or_left, cases_lt, leb-true, not-true, or_right, Decides.nat_tests}
-use Rattle.std.{proofs.lemmas.{List.append-nil, Grind.common_steps}, specs.{Prelude.{nat_lt, filter, if◌then◌else◌}, List.{AllByRecursion, list_any}}}
-use Rattle.std.specs.{List.Sorted.IsStrictlySortedBy, Ordering.is_lt, declared.cmp.Ordering.{Ordering, TheVariants.Less}}
-use Rattle.domain_names.specs.Name.{is_at_or_below, lowered, same_name, is_strictly_below, Label, Name, canonical_cmp, before, common_labels}
-use Rattle.domain_zone.proofs.NameLemmas.{one_lowered, same_itself, same_length, below_trans, below_parent, below_itself, below_longer, lowered_below}
-use Rattle.domain_zone.proofs.NameLemmas.{same_lowered, strictly_from, before_order, below_between, below_from, same_both, either_way, common_shares}
-use Rattle.domain_zone.proofs.WalkLemmas.{weaker, all_both, apart_left, apart_right, after_or, any_owner, any_in, in_any, owners_are, any_weaker, any_filter}
-use Rattle.domain_zone.proofs.{WalkLemmas.{apex_unoccluded, below_occluder, typed_owns}, PairLemmas.{In, all_in, IsAscending, all_from_in, ascending, le_lt}}
-use Rattle.domain_zone.{proofs.PairLemmas.lt_trans, specs.Zone.{ZoneRecord, records_of, owns, has_type, is_zone_cut, occludes, is_occluded, is_unoccluded}}
-use Rattle.domain_zone.specs.{Zone.unoccluded_owners, Enclosers.{exists_over, is_empty_nonterminal, IsClosestEncloser}}
-use Rattle.domain_nsec3.specs.{Steps.{above_with_more, is_over, IsListOf}, Chain.{ChainConfig, excludes, is_excluded, is_original_owner, original_owners}}
-use Rattle.domain_nsec3.specs.{Chain.{is_chain_name, is_empty}, Meaning.CutsEnclose}
-use Rattle.domain_octets.proofs.StdLemmas.{and_false}
-use Rattle.domain_base.specs.Types.{ns, ds}
+-- Hashes of names: as labels, in lists, and in order; and the names of an NSEC3 chain, those that exist over its owners.
+use Rattle.domain_base.specs.Types.{ds, ns}
 use Rattle.domain_chain_rdata.specs.Rdata.{is_opt_out}
+use Rattle.domain_codecs.{proofs.Base32Lemmas.{are_small, many_digits}, specs.Base32.{base32_from, base32_lower, lower_digit}}
+use Rattle.domain_hasher.specs.declared.error.Nsec3HashError.{Nsec3HashError, TheVariants.OutOfMemory}
+use Rattle.domain_names.{proofs.WireLemmas.{IsWire-wire_of, labels_of-wire_of, wire_is}, specs.Name.{IsName, Label, Name, before, canonical_cmp, common_labels}}
+use Rattle.domain_names.specs.{Name.{is_at_or_below, is_strictly_below, lowered, same_name, wire_of}, Text.{label_text, name_text, octet_text}, Wire.IsWire}
+use Rattle.domain_names.specs.Wire.{labels_of}
+use Rattle.domain_nsec3.specs.Chain.{ChainConfig, Hash, excludes, hash_fault, hash_name, hashed_owner, is_chain_name, is_empty, is_excluded, is_original_owner}
+use Rattle.domain_nsec3.specs.{Chain.original_owners, Meaning.{CutsEnclose, octets_before}, Steps.{AreHashesOf, HasAlikeNeighbours, IsFirstRefused, IsHashOf}}
+use Rattle.domain_nsec3.specs.{Steps.{IsHashed, IsListOf, IsRefusal, above_with_more, is_over, name_at}, declared.hash.Hashed.Hashed}
+use Rattle.domain_octets.{proofs.{StdLemmas.and_false, WordLemmas.octets_from_type}, specs.Octets.{AreOctets, Octets}}
+use Rattle.domain_zone.proofs.NameLemmas.{before_order, below_between, below_from, below_itself, below_longer, below_parent, below_trans, common_shares}
+use Rattle.domain_zone.proofs.NameLemmas.{either_way, lowered_below, one_lowered, same_both, same_itself, same_length, same_lowered, strictly_from}
+use Rattle.domain_zone.proofs.{PairLemmas.{In, IsAscending, all_from_in, all_in, ascending, le_lt, lt_trans}, WalkLemmas.{after_or, all_both, any_filter}}
+use Rattle.domain_zone.proofs.WalkLemmas.{any_in, any_owner, any_weaker, apart_left, apart_right, apex_unoccluded, below_occluder, in_any, owners_are}
+use Rattle.domain_zone.{proofs.WalkLemmas.{typed_owns, weaker}, specs.{Covering.matches, Enclosers.{IsClosestEncloser, exists_over, is_empty_nonterminal}}}
+use Rattle.domain_zone.specs.Zone.{ZoneRecord, has_type, is_occluded, is_unoccluded, is_zone_cut, occludes, owns, records_of, unoccluded_owners}
+use Rattle.std.proofs.Common.{Bool, Fits, IsPermutation, List, None, [], ap, arith, cond, drop, false, get_or, inl, inr, length, map, not, refl, set, subst}
+use Rattle.std.proofs.{Common.{sym, take, true, w8, ℕ, ◌&&◌, ◌*◌, ◌++◌, ◌+◌, ◌/◌, ◌<◌, ◌||◌, ◌∙◌, ◌∷◌, ◌≡◌, ◌≤◌, ◌⊎◌}, lemmas.Bool.Decides.nat_tests}
+use Rattle.std.proofs.lemmas.{Bool.{and_from, and_parts, cases_lt, false_from_ne_true, false≢true, leb-true, not-true, or_left, or_right}, Grind.common_steps}
+use Rattle.std.proofs.lemmas.List.{Elements.{All-map, All-push, All-weaker, recursion_from_All}, Folds.map_fixed, Sorted.{All-permutation, IsPermutation-map}}
+use Rattle.std.proofs.lemmas.List.{Sorted.{IsPermutation-refl, IsPermutation-trans}, append-nil, drop_more, get_or-map, get_or_default, get_or_read, length-map}
+use Rattle.std.proofs.lemmas.{List.{map_push, take-append-drop, take_more}, Map.Keys.sorted_from_all_adjacent, Str.Ascii.IsAscii-from_all}
+use Rattle.std.specs.{Char.to_ascii_lowercase, Cmp.Lexicographic.{nat_list_cmp_total, slice_cmp}, FinMap.{nat_cmp-IsAntisymmetric, slice_cmp-IsAntisymmetric}}
+use Rattle.std.specs.{List.{AllByRecursion, Sorted.{IsSortedByKey, IsStrictlySortedBy}, list_any}, Ordering.{is_lt, nat_cmp}, Prelude.{All, Ok, filter}}
+use Rattle.std.specs.{Prelude.{if◌then◌else◌, nat_lt}, Str.IsAscii, declared.cmp.Ordering.{Ordering, TheVariants.Less}}
+
+-- ---- The text of a hash as a label.
+
+-- how many digits a hash has
+pub text_length : (h : List ℕ) → length (base32_lower h) ≡ (8 * length h + 4) / 5
+text_length h = length-map (base32_from 1 0 h) lower_digit ∙ many_digits h
+
+-- what holds of each digit
+each_digit : (P : ℕ → Type 0) → ((d : ℕ) → d < 32 → P (lower_digit d)) → (h : List ℕ) → AreOctets h → All P (base32_lower h)
+each_digit P f h all =
+    All-map P lower_digit (base32_from 1 0 h) (All-weaker (λ d. d < 32) (λ d. P (lower_digit d)) f (base32_from 1 0 h) (are_small h all))
+
+digit_ascii : (d : ℕ) → d < 32 → lower_digit d < 128
+digit_ascii d b = elim (nat_lt d 10) as (λ t. (if t then 48 + d else 87 + d) < 128) [ true ↦ omega arith | false ↦ omega arith ]
+
+pub ascii_text : (h : List ℕ) → AreOctets h → IsAscii (base32_lower h)
+ascii_text h all = IsAscii-from_all (base32_lower h) (each_digit (λ o. o < 128) digit_ascii h all)
+
+pub text_octets : (h : List ℕ) → AreOctets h → All (λ o. o < 256) (base32_lower h)
+text_octets = each_digit (λ o. o < 256) (λ d b. let small = digit_ascii d b in omega arith)
+
+digit_lower : (d : ℕ) → d < 32 → to_ascii_lowercase (lower_digit d) ≡ lower_digit d
+digit_lower d b = grind (arith, common_steps)
+
+pub lower_text : (h : List ℕ) → AreOctets h → map to_ascii_lowercase (base32_lower h) ≡ base32_lower h
+lower_text h all = map_fixed to_ascii_lowercase (base32_lower h) (each_digit (λ o. to_ascii_lowercase o ≡ o) digit_lower h all)
+
+-- ---- the text of a hash within that of a name
+
+digits_text : (ds : List ℕ) → AllByRecursion (λ d. d < 32) ds → label_text (map lower_digit ds) ≡ map lower_digit ds
+unfolding octet_text
+digits_text [] all = refl
+digits_text (d ∷ ds) all = grind (arith, common_steps, (digits_text ds all.1))
+
+hash_text : (h : List ℕ) → AreOctets h → label_text (base32_lower h) ≡ base32_lower h
+hash_text h all = digits_text (base32_from 1 0 h) (recursion_from_All (λ d. d < 32) (base32_from 1 0 h) (are_small h all))
+
+-- the text of the owner of a record, with its last dot: right below the root, and elsewhere
+pub owner_at_root : (a : Name) (h : List ℕ) → AreOctets h → a ≡ [] → base32_lower h ++ 46 ∷ [] ≡ name_text (hashed_owner a h) ++ 46 ∷ []
+owner_at_root a h all root = grind (arith, common_steps, hash_text)
+
+pub owner_below : (a : Name) (h : List ℕ) → AreOctets h → (a ≡ [] → ⊥)
+    → base32_lower h ++ 46 ∷ (name_text a ++ 46 ∷ []) ≡ name_text (hashed_owner a h) ++ 46 ∷ []
+owner_below [] h all some = absurd (some refl)
+owner_below (l ∷ ls) h all some = grind (arith, common_steps, hash_text)
+
+-- ---- when a hash is of use
+
+pub owner_length : (a : Name) (h above : List ℕ) → IsWire above → labels_of above ≡ a
+    → length (wire_of (hashed_owner a h)) ≡ (8 * length h + 4) / 5 + 1 + length above
+owner_length a h above w l = grind (arith, common_steps, text_length)
+
+module _ (a : Name) (h : List ℕ) where
+  pub sound_some : hash_fault a (Ok h) ≡ None → 0 < length h
+  sound_some e = grind (arith, common_steps)
+
+  pub sound_short : hash_fault a (Ok h) ≡ None → length h ≤ 39
+  sound_short e = grind (arith, common_steps)
+
+  pub sound_fits : hash_fault a (Ok h) ≡ None → length (wire_of (hashed_owner a h)) ≤ 255
+  sound_fits e = grind (arith, common_steps)
+
+-- ---- a hash as a label before a name
+
+-- a label with its length, and a name after it, in a buffer
+pub first_set : (xs : List ℕ) (n : ℕ) → 0 < length xs → take 1 (set xs 0 n) ≡ n ∷ []
+first_set [] n h = absurd (omega arith)
+first_set (x ∷ xs) n h = refl
+
+-- there is room for the owner of a hash of use
+pub owner_room : (a : Name) (hash label above : List ℕ) → IsWire above → labels_of above ≡ a → hash_fault a (Ok hash) ≡ None
+    → label ≡ base32_lower hash → (0 < length label) × (length label ≤ 63) × (length label + 1 + length above ≤ 255)
+owner_room a hash label above w l sound is = grind (arith, common_steps, sound_some, sound_short, sound_fits, owner_length, text_length)
+
+pub record IsOwnerWire (a : Name) (hash wire : List ℕ) : Type 0 where
+  pub is_wire : IsWire wire
+  pub labels : labels_of wire ≡ hashed_owner a hash
+
+pub owner_made : (a : Name) (hash label above wire : List ℕ) → IsWire above → labels_of above ≡ a → hash_fault a (Ok hash) ≡ None
+    → ((i : ℕ) → Fits w8 (get_or hash i 0)) → label ≡ base32_lower hash → wire ≡ length label ∷ (label ++ above)
+    → IsOwnerWire a hash wire
+owner_made a hash label above wire w l sound octets is made =
+    let some = sound_some a hash sound in
+    let short = sound_short a hash sound in
+    let digits = text_length hash in
+    let long : wire_of (labels_of above) ≡ above = wire_is above w in
+    let fits : length (wire_of (base32_lower hash ∷ labels_of above)) ≤ 255 =
+    subst (λ (x : Name). length (wire_of (base32_lower hash ∷ x)) ≤ 255) (sym l) (sound_fits a hash sound) in
+    let valid : IsName (base32_lower hash ∷ labels_of above) = record {
+      of_labels = (record { not_empty = omega arith; fits = omega arith; octets = text_octets hash (octets_from_type hash octets) }, w.valid.of_labels);
+      fits = fits;
+    } in
+    let same : wire ≡ wire_of (base32_lower hash ∷ labels_of above) = made ∙ (λ i. length (is i) ∷ (is i ++ sym long i)) in
+    record {
+      is_wire = subst IsWire (sym same) (IsWire-wire_of _ valid);
+      labels = ap labels_of same ∙ labels_of-wire_of _ valid ∙ ap (λ x. base32_lower hash ∷ x) l;
+    }
+
+-- ---- Lists of hashed names: how they are ordered and built.
+
+-- octets that the order can't tell apart are the same
+pub tied_octets : (u v : Octets) → matches octets_before u v ≡ true → u ≡ v
+tied_octets u v m = grind (arith, common_steps, slice_cmp-IsAntisymmetric, nat_cmp-IsAntisymmetric, (nat_list_cmp_total.antisymm v u))
+
+abbrev pub octets_of : List Hashed → List Octets
+octets_of = map (λ h. h.hash)
+
+abbrev pub is_less : Hashed → Hashed → Bool
+is_less g h = is_lt (slice_cmp nat_cmp g.hash h.hash)
+
+-- hashes of which each is less than the next one ascend
+pub keys_ascend : (hashed : List Hashed) → ((k : ℕ) (d : Hashed) → k + 1 < length hashed → true ≡ is_less (get_or hashed k d) (get_or hashed (k + 1) d))
+    → IsStrictlySortedBy (slice_cmp nat_cmp) (octets_of hashed)
+keys_ascend [] up = sorted_from_all_adjacent nat_list_cmp_total [] [] (λ k l. absurd (omega arith))
+keys_ascend (h ∷ hs) up = sorted_from_all_adjacent nat_list_cmp_total (octets_of (h ∷ hs)) [] (λ k l.
+    let within : k + 1 < length (h ∷ hs) = omega (arith, l, length-map (h ∷ hs) (λ (h : Hashed). h.hash)) in
+    rw (get_or-map (λ (h : Hashed). h.hash) (h ∷ hs) k h [] (omega arith), get_or-map (λ (h : Hashed). h.hash) (h ∷ hs) (k + 1) h [] within)
+    (less _ (up k h within)))
+  where
+    less : (r : Ordering) → true ≡ is_lt r → r ≡ Less
+    less r e = grind (arith, common_steps)
+
+-- of hashes in order, neighbours of which the first is not less are alike
+pub alike_at : (hashed : List Hashed) → IsSortedByKey (λ h. h.hash) (slice_cmp nat_cmp) hashed → (k : ℕ) → k + 1 < length hashed
+    → ((d : Hashed) → false ≡ is_less (get_or hashed k d) (get_or hashed (k + 1) d)) → HasAlikeNeighbours hashed
+alike_at [] sorted k within same = absurd (omega arith)
+alike_at (h ∷ hs) sorted k within same = record {
+  place = k;
+  inside = within;
+  one = get_or (h ∷ hs) k h;
+  other = get_or (h ∷ hs) (k + 1) h;
+  first = get_or_default (h ∷ hs) k h _ (omega arith);
+  second = get_or_default (h ∷ hs) (k + 1) h _ within;
+  alike = tied_octets _ _ (λ i. not (sym (same h) i || sorted k h (omega arith) within i));
+}
+
+module _ (a : Name) (hash : Hash) (names : List Name) where
+  -- the names up to a place are hashed, each with its place
+  pub record AreHashed (n : ℕ) (hashed : List Hashed) : Type 0 where
+    pub named : map (name_at names) hashed ≡ take n names
+    pub each : All (IsHashOf a hash names) hashed
+
+  pub one_hashed : (n : ℕ) (hashed new : List Hashed) (x : Name) (h : Hashed) → n < length names → x ≡ get_or names n x → h.place ≡ n
+      → IsHashed a hash x h.hash → new ≡ hashed ++ h ∷ [] → AreHashed n hashed → AreHashed (n + 1) new
+  one_hashed n hashed new x h within there placed is pushed so_far =
+      let next = take_more names n [] within in
+      let read = get_or_read names n x within there [] in
+      grind (arith, common_steps, map_push, All-push)
+
+  pub all_hashed : (n : ℕ) (hashed : List Hashed) → length names ≤ n → AreHashed n hashed → AreHashesOf a hash names hashed
+  all_hashed n hashed past h = grind (arith, common_steps, IsPermutation-refl)
+
+  pub moved_hashes : (hashed ordered : List Hashed) → IsPermutation hashed ordered → AreHashesOf a hash names hashed → AreHashesOf a hash names ordered
+  moved_hashes hashed ordered moved h = record {
+    moved = IsPermutation-trans names (map (name_at names) hashed) (map (name_at names) ordered) h.moved
+        (IsPermutation-map (name_at names) hashed ordered moved);
+    each = All-permutation (IsHashOf a hash names) hashed ordered moved h.each;
+  }
+
+  -- the first name that is refused, after those that were hashed
+  pub first_refused : (n : ℕ) (hashed : List Hashed) (x : Name) (e : Nsec3HashError) → n < length names → x ≡ get_or names n x
+      → AreHashed n hashed → IsRefusal a (hash_name hash x) e → (e ≡ OutOfMemory) ⊎ IsFirstRefused a hash names e
+  first_refused n hashed x e within there h (inl m) = inl m
+  first_refused n hashed x e within there h (inr f) = inr (record {
+    before = take n names;
+    name = x;
+    after = drop (n + 1) names;
+    are = sym (take-append-drop n names) ∙ ap (λ ns. take n names ++ ns) (drop_more names n x within ∙ ap (λ y. y ∷ drop (n + 1) names) (sym there));
+    sound = subst (All (λ y. hash_fault a (hash_name hash y) ≡ None)) h.named (All-map (λ y. hash_fault a (hash_name hash y) ≡ None) (name_at names) hashed
+        (All-weaker (IsHashOf a hash names) (λ g. hash_fault a (hash_name hash (name_at names g)) ≡ None)
+        (λ g k. ap (hash_fault a) k.is.known ∙ k.is.sound) hashed h.each));
+    fault = f;
+  })
+
+-- ---- The names of an NSEC3 chain: those that exist over its owners.
 
 -- ---- The names above a name.
 
@@ -130,16 +315,11 @@ module _ (L : List ZoneRecord) (a : Name) (config : ChainConfig) where
 
   -- what exists over the chain owners
   pub existing_are : (x : Name) → is_at_or_below x a ≡ true → exists_over (original_owners L a config) a x ≡ is_chain_name L a config x
-  existing_are x low =
-      ap (λ b. is_at_or_below x a && b) (any_at_or_below x (original_owners L a config)) ∙ exists_alike (is_original_owner L a config x)
-      (list_any (λ n. is_strictly_below n x) (original_owners L a config)) (owns L x) (is_at_or_below x a) low (owner_above x low)
+  existing_are x low = grind (arith, common_steps, any_at_or_below, exists_alike, owner_above)
 
   -- over the owners alone
   pub empty_are : (x : Name) → is_empty_nonterminal (original_owners L a config) a x ≡ is_empty L a config x
-  empty_are x =
-      empty_alike (is_original_owner L a config x) (list_any (λ n. is_strictly_below n x) (original_owners L a config)) (owns L x) (is_at_or_below x a)
-      (λ h. (and_parts (owns L x) _ (and_parts (owns L x && is_unoccluded config.occlude_below_dname L a x) _ (sym (original_is x) ∙ h)).0).0)
-      (owner_above x)
+  empty_are x = grind (arith, common_steps, empty_alike, original_is, owner_above)
 
   -- the owners and the empty non-terminals over them are the names of the chain
   pub names_are : (empty : List Name) → ((x : Name) → list_any (λ n. same_name n x) empty
@@ -182,13 +362,13 @@ module _ (L : List ZoneRecord) (a : Name) (config : ChainConfig) where
 
 -- ---- ascending lists of names
 
-is_less : (r : Ordering) → is_lt r ≡ true → r ≡ Less
-is_less r h = grind (arith, common_steps)
+less_is : (r : Ordering) → is_lt r ≡ true → r ≡ Less
+less_is r h = grind (arith, common_steps)
 
 pub sorted : (ks : List Name) → IsAscending before ks → IsStrictlySortedBy canonical_cmp ks
 unfolding IsStrictlySortedBy
 sorted [] h = tt
-sorted (k ∷ ks) h = (weaker (λ y. before k y ≡ true) (λ y. canonical_cmp k y ≡ Less) (λ y e. is_less (canonical_cmp k y) e) ks h.0, sorted ks h.1)
+sorted (k ∷ ks) h = (weaker (λ y. before k y ≡ true) (λ y. canonical_cmp k y ≡ Less) (λ y e. less_is (canonical_cmp k y) e) ks h.0, sorted ks h.1)
 
 pub ascends_both : (lt : Name → Name → Bool) (xs ys : List Name) → IsAscending lt xs → IsAscending lt ys
     → AllByRecursion (λ x. AllByRecursion (λ y. lt x y ≡ true) ys) xs → IsAscending lt (xs ++ ys)

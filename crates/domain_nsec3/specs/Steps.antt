@@ -87,17 +87,13 @@ pub record AreOrderedHashes (a : Name) (hash : Hash) (names : List Name) (hashed
   pub hashes : AreHashesOf a hash names hashed
   pub ascend : IsStrictlySortedBy (slice_cmp nat_cmp) (map (λ h. h.hash) hashed)
 
--- all are of use, and two are alike
-pub record HasAlikeHashes (a : Name) (hash : Hash) (names : List Name) : Type 0 where
-  pub ordered : List Hashed
-  pub hashes : AreHashesOf a hash names ordered
-  pub alike : HasAlikeNeighbours ordered
-
--- want of memory, or the first fault of hashing these names
+-- want of memory, or the first fault of hashing these names: one is refused, or all are of use, and
+-- two are alike
 abbrev pub IsHashingFault : Name → Hash → List Name → Nsec3HashError → Type 0
 IsHashingFault a hash names e =
     (e ≡ OutOfMemory)
-    ⊎ (IsFirstRefused a hash names e ⊎ ((e ≡ CollisionDetected) × HasAlikeHashes a hash names))
+    ⊎ (IsFirstRefused a hash names e ⊎ ((e ≡ CollisionDetected) × (ordered : List Hashed)
+    × AreHashesOf a hash names ordered × HasAlikeNeighbours ordered))
 
 -- all hashes of a chain are of use below an apex
 abbrev pub AreUsable : Name → HashedChain → Type 0

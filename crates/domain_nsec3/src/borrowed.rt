@@ -1,17 +1,19 @@
-//! Records of a chain that take no memory: they borrow what the chain holds.
-ghost use Rattle.std.specs.Prelude.{◌≡◌, ◌<◌, [], Ok, Some, length, slice_index_or};
+//! Records of a chain that take no memory, since they borrow what the chain holds, and their copies
+//! in octets of their own.
+ghost use Rattle.std.specs.Prelude.{◌≡◌, ◌<◌, [], IfOk, Ok, Some, length, slice_index_or};
 ghost use Rattle.domain_base.specs.Classes.{in_class};
 ghost use Rattle.domain_nsec3.specs.{Chain.HashedLink, Steps.{common_of, links_in, AreUsable}, View.link_text};
-ghost use Rattle.domain_nsec3.specs.View.{link_with};
+ghost use Rattle.domain_nsec3.specs.View.{as_hashed_link, as_param_record, link_with};
 
 use crate::HashedOwner;
 use crate::chain::{HashedChain, hash_after};
 use crate::hash::Hashed;
-use domain_base::{ParsedName, ToName, Ttl};
+use domain_base::{Class, MakeName, ParsedName, ToName, Ttl};
 use domain_bitmap::{OwnerHash, RtypeBitmap};
 use domain_chain_rdata::{Nsec3, Nsec3param};
-use domain_octets::{Octets, SmallOctets};
+use domain_octets::{FromBuilder, GrowingBuilder, Octets, OutOfMemory, SmallOctets};
 use domain_record::Record;
+use std::alloc::Global;
 use std::fmt;
 use std::marker::Model;
 
@@ -107,4 +109,56 @@ pub(crate) fn lend_record<'a, O: Octets>(
         lend_types(&chain.types, hashed.place),
     );
     BorrowedNsec3 { owner, ttl, data }
+}
+
+/// A copy of octets.
+fn copy_octets<O: FromBuilder>(alloc: Global, octets: &[u8]) -> Result<O, OutOfMemory>
+where
+    O::Builder: GrowingBuilder,
+    ensures { IfOk result (λ copy. O.octets copy ≡ octets.now) }
+{
+    O::from_octets(alloc, octets).map_err(|_| OutOfMemory)
+}
+
+/// A copy of a record.
+pub(crate) fn copy_record<O: FromBuilder, N: MakeName>(
+    alloc: Global,
+    borrowed: &BorrowedNsec3<'_>,
+) -> Result<Record<N, Nsec3<O>>, OutOfMemory>
+where
+    O: Drop,
+    N: Drop,
+    O::Builder: GrowingBuilder,
+    ensures { IfOk result (λ made. as_hashed_link N.labels made ≡ borrowed.now) }
+{
+    let owner = borrowed.owner().make(alloc)?;
+    let lent = borrowed.data();
+    let salt = copy_octets(alloc, lent.salt().as_slice())?;
+    let next = copy_octets(alloc, lent.next_owner().as_slice())?;
+    let types = copy_octets(alloc, lent.types().as_slice())?;
+    let data = Nsec3::new(
+        lent.hash_algorithm(),
+        lent.flags(),
+        lent.iterations(),
+        lent.salt().with_octets(salt),
+        lent.next_owner().with_octets(next),
+        lent.types().with_octets(types),
+    );
+    Ok(Record::new(owner, Class::IN, borrowed.ttl(), data))
+}
+
+/// A copy of the record of parameters.
+pub(crate) fn copy_param<O: Octets, N: MakeName>(
+    alloc: Global,
+    borrowed: &Record<ParsedName<'_>, Nsec3param<O>>,
+) -> Result<Record<N, Nsec3param<O>>, OutOfMemory>
+where
+    N: Drop,
+    O: Drop,
+    ensures { IfOk result (λ made. as_param_record N.labels made
+        ≡ as_param_record (λ n. n) borrowed.now) }
+{
+    let owner = N::make(alloc, borrowed.owner().as_wire())?;
+    let params = borrowed.data().clone()?;
+    Ok(Record::new(owner, borrowed.class(), borrowed.ttl(), params))
 }

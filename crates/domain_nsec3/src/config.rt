@@ -1,15 +1,17 @@
-//! How chains are made.
+//! How chains are made, and the types that their records list.
 ghost use Rattle.std.specs.Prelude.{◌≡◌, true, false, [], IfOk};
 ghost use Rattle.domain_chain_rdata.specs.Rdata.{with_opt_out};
 ghost use Rattle.domain_zone.specs.declared.soa.ApexSoa.{ApexSoa};
 ghost use Rattle.domain_nsec3.specs.Chain.{param_ttl};
 ghost use Rattle.domain_nsec3.specs.declared.config.Nsec3ParamTtlMode.TheVariants as ttl_mode;
 
-use domain_base::Ttl;
+use domain_base::{Rtype, ToName, Ttl};
+use domain_bitmap::RtypeBitmap;
 use domain_chain_rdata::Nsec3param;
 use domain_octets::{EmptyOctets, Octets, OutOfMemory};
+use domain_record::ZoneData;
 use domain_records::DefaultSorter;
-use domain_zone::ApexSoa;
+use domain_zone::{ApexSoa, ChainTypes, UnoccludedOwner, list_types};
 use std::alloc::Global;
 use std::marker::PhantomData;
 
@@ -196,5 +198,29 @@ impl<O: Octets> From<Nsec3param<O>> for GenerateNsec3Config<O, DefaultSorter> {
 
     fn from(params: Nsec3param<O>) -> Self {
         Self::new(params)
+    }
+}
+
+/// The types of an owner's NSEC3 record (RFC 5155, section 7.1).
+impl<O: Octets, S> ChainTypes for GenerateNsec3Config<O, S> {
+    ghost use Rattle.std.specs.Prelude.{not, ◌&&◌};
+    ghost use Rattle.domain_base.specs.Types.{ds};
+    ghost use Rattle.domain_bitmap.specs.Bitmap.{bitmap_octets};
+    ghost use Rattle.domain_zone.specs.Zone.{has_type};
+    ghost use Rattle.domain_nsec3.specs.Chain.{is_listed};
+
+    ghost bits = { λ config at_apex o. bitmap_octets (is_listed
+        (o.is_zone_cut && not (has_type o.records ds)) at_apex
+        (config.assume_dnskeys_will_be_added && at_apex) o.is_zone_cut o.records) };
+
+    fn types_of<N: ToName, D: ZoneData>(
+        &self,
+        alloc: Global,
+        owner: &UnoccludedOwner<'_, N, D>,
+        is_apex: bool,
+    ) -> Result<RtypeBitmap<Vec<u8>>, OutOfMemory> {
+        let assumed = self.assume_dnskeys_will_be_added & is_apex;
+        let signed = !owner.is_unsigned_cut();
+        list_types(alloc, owner, signed, Rtype::NSEC3PARAM, is_apex, assumed)
     }
 }

@@ -1,24 +1,47 @@
-//! Hashes of names, each in place.
+//! Hashes of names, each in place, and their text.
 ghost use Rattle.std.specs.Prelude.{◌≡◌, ◌≤◌, length, take, ◌+◌, ◌<◌, ◌++◌, ◌∷◌, ◌⊎◌, [], Ok, Err, Some, None};
 ghost use Rattle.std.specs.Prelude.{All, IfOk, IfErr, IsErrOf, OnOk, vec_capacity, vec_len};
-ghost use Rattle.std.specs.{Ordering.nat_cmp, Cmp.Lexicographic.slice_cmp};
+ghost use Rattle.std.specs.{Ordering.nat_cmp, Cmp.Lexicographic.slice_cmp, Fmt.WritesOnOk};
 ghost use Rattle.domain_octets.specs.{Octets.Octets, Text.dot};
+ghost use Rattle.domain_codecs.specs.Base32.{base32_lower};
 ghost use Rattle.domain_nsec3.specs.{Chain.{hashed_owner, hash_name, hash_fault, IsNoHash}, Steps.AreHashesOf};
-ghost use Rattle.domain_nsec3.specs.{Steps.{IsFirstRefused, IsHashed, IsRefusal}, View.hash_by};
-ghost use Rattle.domain_nsec3.specs.View.{parameters_of};
+ghost use Rattle.domain_nsec3.specs.{Steps.{IsFirstRefused, IsHashed, IsRefusal}, View.{hash_by, parameters_of}};
 ghost use Rattle.domain_names.specs.Text.{name_text};
 ghost use Rattle.domain_hasher.specs.declared.error.Nsec3HashError.TheVariants as hash_error;
 
-use crate::hash_text::{MAX_TEXT, display_hash, write_hash};
 use domain_base::{MAX_NAME, MakeName, Nsec3HashAlgorithm, ParsedName, ToName};
 use domain_bitmap::Nsec3Salt;
 use domain_chain_rdata::Nsec3param;
+use domain_codecs::base32::Digits;
 use domain_hasher::{HasherError, Nsec3HashError, Nsec3Hasher};
 use domain_octets::{Octets, OutOfMemory};
 use std::alloc::Global;
 use std::cmp::Ordering;
 use std::fmt;
 use std::marker::Model;
+
+/// Room for the text of a hash that is a label, of at most 63 octets, and seven octets more: digits
+/// are written eight at a time.
+const MAX_TEXT: usize = 70;
+
+/// Writes the text of a hash in lower case to the front of a buffer.
+fn write_hash<'a>(buffer: &'a mut [u8], hash: &[u8]) -> &'a [u8]
+    requires { length (base32_lower hash.now) + 7 ≤ length buffer.old }
+    ensures { result.now ≡ base32_lower hash.now }
+{
+    let end = Digits::new(hash).put_lower(buffer);
+    &buffer[..end]
+}
+
+/// Prints the text of a hash in lower case.
+fn display_hash<W: fmt::Write>(hash: &[u8], f: &mut fmt::Formatter<W>) -> fmt::Result
+    requires { length hash.now ≤ 39 }
+    ensures { WritesOnOk W.write_str_gives f.old result (base32_lower hash.now) f.new }
+{
+    let mut buffer = [0; MAX_TEXT];
+    let text = write_hash(&mut buffer, hash);
+    f.write_str(unsafe { str::from_utf8_unchecked(text) })
+}
 
 /// The greatest length of a hash whose text is one label.
 pub(crate) const MAX_HASH: usize = 39;
@@ -78,7 +101,7 @@ pub(crate) struct Hashed {
 }
 
 /// Whether octets are of use as a hash below an apex. Else tells the first reason why not.
-#[tactic(auto, using(std::proofs::lemmas::Grind::common_steps, domain_octets::proofs::WordLemmas::octets_from_type, crate::proofs::HashLemmas::owner_length))]
+#[tactic(auto, using(std::proofs::lemmas::Grind::common_steps, domain_octets::proofs::WordLemmas::octets_from_type, crate::proofs::OwnerLemmas::owner_length))]
 fn check_hash(apex: &ParsedName<'_>, hash: &[u8]) -> Result<(), Nsec3HashError>
     ensures ok { OnOk result (hash_fault apex.now (Ok hash.now) ≡ None) }
     ensures octets { OnOk result (All (λ octet. octet < 256) hash.now) }
@@ -155,7 +178,7 @@ fn put_octets(buffer: &mut [u8], at: usize, octets: &[u8]) -> usize
 }
 
 /// Writes a label with its length, and then the name above it, to the front of a buffer.
-#[tactic(auto, using(crate::proofs::HashLemmas::first_set))]
+#[tactic(auto, using(crate::proofs::OwnerLemmas::first_set))]
 fn join_label<'a>(buffer: &'a mut [u8], label: &[u8], above: &[u8]) -> &'a [u8]
     requires label { length label.now < 256 }
     requires fits { length label.now + 1 + length above.now ≤ length buffer.old }
@@ -300,7 +323,7 @@ impl<'a> HashedOwner<'a> {
 impl fmt::Display for HashedOwner<'_> {
     ghost output = { λ n. Some (name_text n ++ dot ∷ []) };
 
-    #[tactic(auto, using(std::proofs::lemmas::Grind::common_steps, crate::proofs::HashLemmas::owner_at_root, crate::proofs::HashLemmas::owner_below))]
+    #[tactic(auto, using(std::proofs::lemmas::Grind::common_steps, crate::proofs::OwnerLemmas::owner_at_root, crate::proofs::OwnerLemmas::owner_below))]
     fn fmt<W: fmt::Write>(&self, f: &mut fmt::Formatter<W>) -> fmt::Result {
         display_hash(self.hash, f)?;
         if self.apex.is_root() {

@@ -34,7 +34,7 @@ pub fn names_end_at_the_encloser()
 {}
 
 /// The NSEC3 record of a name lists the same types for each spelling of the name.
-#[tactic(auto, using(crate::proofs::MeaningLemmas::bit_same))]
+#[tactic(auto, using(crate::proofs::ChainLemmas::bit_same))]
 pub fn types_ignore_case()
     ensures { (L : List ZoneRecord) (a : Name) (config : ChainConfig) (x y : Name)
         → same_name x y ≡ true

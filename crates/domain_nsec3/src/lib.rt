@@ -11,18 +11,12 @@
 mod borrowed;
 mod chain;
 mod config;
-mod copy;
-mod empty;
 mod hash;
-mod hash_text;
 pub mod laws;
 mod nsec3;
-mod nsec3_chain;
-mod types;
 
 pub use borrowed::BorrowedNsec3;
+pub use chain::names_over;
 pub use config::{GenerateNsec3Config, Nsec3ParamTtlMode};
-pub use empty::names_over;
 pub use hash::{HashedOwner, hash_wire, mk_hashed_nsec3_owner_name};
-pub use nsec3::{Nsec3Records, generate_nsec3s};
-pub use nsec3_chain::Nsec3Chain;
+pub use nsec3::{Nsec3Chain, Nsec3Records, generate_nsec3s};

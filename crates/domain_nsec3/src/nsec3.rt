@@ -1,20 +1,204 @@
-//! The NSEC3 chain of a zone.
-ghost use Rattle.std.specs.Prelude.{◌≡◌, IfOk, IfErr, OnOk};
+//! The NSEC3 chain of a zone, whose records are made one by one, or all at once.
+ghost use Rattle.std.specs.Prelude.{◌≡◌, ◌<◌, ◌≤◌, ◌↔◌, [], All, length, slice_index_or, IsTrue, IfErr, IfOk, IfNone, IfSome, OnOk};
+ghost use Rattle.domain_base.specs.Classes.{in_class};
 ghost use Rattle.domain_records.specs.Order.{IsOneClass, IsInOrder};
-ghost use Rattle.domain_nsec3.specs.Chain.{IsChainParam, IsHashedChain, IsFaultless, IsFirstFault};
-ghost use Rattle.domain_nsec3.specs.{Meaning.MeansTheZone, View.{as_param_record, config_of, hashed_links_of}};
 ghost use Rattle.domain_zone.specs.Zone.{zone_of};
+ghost use Rattle.domain_nsec3.specs.Chain.{HashedLink, IsChainParam, IsHashedChain, param_ttl, IsFaultless};
+ghost use Rattle.domain_nsec3.specs.{Chain.IsFirstFault, Meaning.{IsRecordOf, MeansTheZone}, Steps.{common_of, links_in}};
+ghost use Rattle.domain_nsec3.specs.{Steps.AreUsable, View.{as_param_record, config_of, hashed_links_of}};
+ghost use Rattle.domain_nsec3.specs.View.{parameters_of};
 
 use crate::GenerateNsec3Config;
-use crate::copy::copy_param;
-use crate::nsec3_chain::Nsec3Chain;
-use domain_base::MakeName;
+use crate::borrowed::{BorrowedNsec3, copy_param, copy_record, lend_record};
+use crate::chain::{HashedChain, chain_of_zone};
+use domain_base::{Class, MakeName, ParsedName, ToName, Ttl};
 use domain_chain_rdata::{Nsec3, Nsec3param};
 use domain_hasher::Nsec3Hasher;
-use domain_octets::{FromBuilder, GrowingBuilder, Octets};
+use domain_octets::{FromBuilder, GrowingBuilder, Octets, OutOfMemory};
 use domain_record::{Record, ZoneData};
 use domain_records::{RecordsIter, SigningError, Sorter};
+use domain_zone::{ApexSoa, find_soa};
 use std::alloc::Global;
+use std::marker::Model;
+
+/// The NSEC3 chain of a zone before its records are made, and the record that tells its parameters
+/// (RFC 5155, section 7.1). Contracts see the links that its records have, and that record. It
+/// borrows the apex, and holds 48 octets for each name of the chain, and for each of those that own
+/// records 48 more, its types: a caller that needs one record at a time needs no list of them.
+#[derive(Drop)]
+pub struct Nsec3Chain<'a, O: Octets> {
+    chain: HashedChain,
+    ttl: Ttl,
+    nsec3param: Record<ParsedName<'a>, Nsec3param<O>>,
+}
+
+impl<'a, O: Octets> Model for Nsec3Chain<'a, O> {
+    ghost use Rattle.domain_nsec3.specs.{Chain.ChainRecords, Steps.{common_of, links_in}};
+    ghost use Rattle.domain_nsec3.specs.{Steps.AreUsable, View.as_param_record};
+
+    ghost Value = { ChainRecords };
+
+    ghost view = { λ c. record {
+      links = links_in c.nsec3param.owner c.chain (common_of c.nsec3param.«data» c.ttl);
+      param = as_param_record (λ n. n) c.nsec3param;
+    } };
+
+    ghost invariant = { λ c. AreUsable c.nsec3param.owner c.chain };
+}
+
+/// The NSEC3PARAM record of a chain, which borrows the apex.
+fn param_record<'a, S, O: Octets, N: ToName>(
+    apex: &'a N,
+    config: &GenerateNsec3Config<O, S>,
+    soa: &ApexSoa,
+) -> Result<Record<ParsedName<'a>, Nsec3param<O>>, OutOfMemory>
+    ensures { IfOk result (λ made. as_param_record (λ n. n) made ≡ record {
+      owner = N.labels apex.now;
+      class = in_class;
+      ttl = param_ttl config.now.nsec3param_ttl_mode soa.now;
+      parameters = parameters_of config.now.params;
+      flags = config.now.params.flags;
+    }) }
+{
+    let params = config.params.clone()?;
+    Ok(Record::new(
+        apex.as_parsed(),
+        Class::IN,
+        config.nsec3param_ttl_mode.ttl(soa),
+        params,
+    ))
+}
+
+/// The octets of a hash, each of which is below 256.
+#[tactic(auto, using(domain_octets::proofs::WordLemmas::octets_from_type))]
+fn as_octets(hash: &[u8]) -> &[u8]
+    ensures same { result.now ≡ hash.now }
+    ensures octets { All (λ octet. octet < 256) result.now }
+{
+    hash
+}
+
+impl<'a, O: Octets> Nsec3Chain<'a, O> {
+    /// The NSEC3 chain of a zone and its NSEC3PARAM record (RFC 5155, section 7.1): those that
+    /// `generate_nsec3s` gives, with the same refusals, before the records are made. It borrows the
+    /// apex; the records of the zone are only read.
+    ///
+    /// # Errors
+    ///
+    /// Those of `generate_nsec3s`.
+    #[tactic(auto, using(std::proofs::lemmas::Grind::common_steps))]
+    pub fn generate<S: Sorter, H: Nsec3Hasher, N: ToName, D: ZoneData>(
+        alloc: Global,
+        apex: &'a N,
+        records: RecordsIter<'_, N, D>,
+        config: &GenerateNsec3Config<O, S>,
+        hasher: &H,
+    ) -> Result<Self, SigningError>
+    where
+        O: Drop,
+        requires one_class { IsOneClass records }
+        requires in_order { IsInOrder N.labels D.rtype records }
+
+        // Ok is exactly the chain, and comes only where no fault stands.
+        ensures chain { IfOk result (λ made. IsHashedChain
+            (zone_of N.labels D.rtype D.minimum records.entry) (N.labels apex.now)
+            (config_of (H.answer hasher.now) config.now) made.links) }
+        ensures param { IfOk result (λ made. IsChainParam
+            (zone_of N.labels D.rtype D.minimum records.entry) (N.labels apex.now)
+            (config_of (H.answer hasher.now) config.now) config.now.nsec3param_ttl_mode
+            made.param) }
+        ensures faultless { OnOk result
+            (IsFaultless (zone_of N.labels D.rtype D.minimum records.entry) (N.labels apex.now)
+            (config_of (H.answer hasher.now) config.now)) }
+        ensures fault { IfErr result
+            (IsFirstFault (zone_of N.labels D.rtype D.minimum records.entry) (N.labels apex.now)
+            (config_of (H.answer hasher.now) config.now)) }
+    {
+        let Some(soa) = find_soa(apex, records.records()) else {
+            return Err(SigningError::SoaRecordCouldNotBeDetermined);
+        };
+        let chain = chain_of_zone(alloc, apex, records, config, hasher, &soa)?;
+        let nsec3param = param_record(apex, config, &soa)?;
+        Ok(Nsec3Chain {
+            chain,
+            ttl: soa.chain_ttl(),
+            nsec3param,
+        })
+    }
+
+    /// How many NSEC3 records the chain has.
+    #[tactic(auto, using(crate::proofs::ChainLemmas::links_counted))]
+    pub fn len(&self) -> usize
+        ensures { result ≡ length self.now.links }
+    {
+        self.chain.hashed.len()
+    }
+
+    /// Whether the chain has no NSEC3 records. That of a zone has one for the apex.
+    pub fn is_empty(&self) -> bool
+        ensures { IsTrue result ↔ (self.now.links ≡ []) }
+    {
+        self.len() == 0
+    }
+
+    /// The NSEC3PARAM record of the apex, whose name it borrows.
+    pub fn nsec3param(&self) -> &Record<ParsedName<'a>, Nsec3param<O>>
+        ensures { as_param_record (λ n. n) result.now ≡ self.now.param }
+    {
+        &self.nsec3param
+    }
+
+    /// The record at a place, in the order of hashes, which borrows from the chain; None past the
+    /// last one. Takes no memory.
+    #[tactic(auto, using(crate::proofs::ChainLemmas::links_counted))]
+    pub fn lend(&self, place: usize) -> Option<BorrowedNsec3<'_>>
+        ensures some { IfSome result (λ made. (d : HashedLink)
+            → made ≡ slice_index_or self.now.links place d) }
+        ensures none { IfNone result (length self.now.links ≤ place) }
+    {
+        if place >= self.len() {
+            return None;
+        }
+        Some(lend_record(&self.chain, place, self.ttl, &self.nsec3param))
+    }
+
+    /// The hash that the owner of the record at a place spells; None past the last one.
+    pub fn hash_at(&self, place: usize) -> Option<&[u8]>
+        ensures some { IfSome result (λ hash. (k : HashedLink)
+            × IsRecordOf self.now.param.owner self.now.links place k hash.now) }
+        ensures none { IfNone result (length self.now.links ≤ place) }
+    {
+        if place >= self.len() {
+            return None;
+        }
+        Some(as_octets(self.chain.hashed[place].hash.as_slice()))
+    }
+}
+
+impl<'a, O: FromBuilder> Nsec3Chain<'a, O> {
+    /// All NSEC3 records, in the order of hashes.
+    pub fn records<N: MakeName>(
+        &self,
+        alloc: Global,
+    ) -> Result<Vec<Record<N, Nsec3<O>>>, OutOfMemory>
+    where
+        O: Drop,
+        N: Drop,
+        O::Builder: GrowingBuilder,
+        ensures { IfOk result (λ nsec3s.
+            hashed_links_of N.labels nsec3s.items ≡ self.now.links) }
+    {
+        let mut nsec3s = Vec::with_capacity(alloc, self.len())?;
+        for place in 0..self.len() {
+            let Some(borrowed) = self.lend(place) else {
+                unreachable!();
+            };
+            let nsec3 = copy_record(alloc, &borrowed)?;
+            nsec3s.push(nsec3)?;
+        }
+        Ok(nsec3s)
+    }
+}
 
 /// The NSEC3 chain of a zone, and the record that tells its parameters (RFC 5155, section 7.1).
 #[derive(Drop)]

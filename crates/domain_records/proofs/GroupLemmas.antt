@@ -104,10 +104,7 @@ module _ {X : Type 0} (same : X → X → Bool) where
   one : (x : X) (xs : List X) → IsFirstRun same (x ∷ xs) 1 → runs same (x ∷ xs) ≡ (x ∷ []) ∷ runs same xs
   unfolding runs
   one x [] h = refl
-  one x (y ∷ ys) h =
-      let b = begins y ys in
-      let apart : same x y ≡ false = h.ends 0 x refl (omega arith) in
-      rw (b.2, apart) refl
+  one x (y ∷ ys) h = grind (arith, common_steps, (begins y ys), (h.ends 0 x))
 
   -- the first run, and the runs of what follows
   pub runs_first : (xs : List X) (n : ℕ) → IsFirstRun same xs n → runs same xs ≡ take n xs ∷ runs same (drop n xs)
@@ -135,8 +132,7 @@ module _ {X : Type 0} (same : X → X → Bool) where
 not_short : {X : Type 0} (same : X → X → Bool) (xs : List X) (n : ℕ) → IsFirstRun same xs n → HoldsOfNeighbours same xs → n < length xs → ⊥
 not_short same [] n h all lt = absurd (omega arith)
 not_short same (x ∷ xs) zero h all lt = absurd (let s = h.some in omega arith)
-not_short same (x ∷ xs) (suc m) h all lt =
-    absurd (let alike = rw add-one at (all m x (omega arith)) in let apart = h.ends m x (omega arith) lt in cc)
+not_short same (x ∷ xs) (suc m) h all lt = grind (arith, common_steps, (all m x), (h.ends m x))
 
 -- a list whose neighbours are the same is its first run
 pub run_is_whole : {X : Type 0} (same : X → X → Bool) (xs : List X) (n : ℕ) → IsFirstRun same xs n → HoldsOfNeighbours same xs → IsTrue (eqb n (length xs))

@@ -218,16 +218,7 @@ module _ {N D : Type 0} (labels : N → List (List ℕ)) (rtype : D → ℕ) whe
   follows_by r s h = record { owner = h.0; type = λ same. h.1 (same_tied (labels r.owner) (labels s.owner) same) }
 
   follows_chain : (r s t : Record N D) → MayFollow labels rtype r s → MayFollow labels rtype s t → MayFollow labels rtype r t
-  follows_chain r s t h k = record {
-    owner = upto canonical_cmp_total (labels r.owner) (labels s.owner) (labels t.owner) h.owner k.owner;
-    type = λ same.
-        let tied = tied_between canonical_cmp_total _ _ (labels t.owner) h.owner k.owner
-        (same_tied (labels r.owner) (labels t.owner) same) in
-        let first : IsSame (labels r.owner) (labels s.owner) = tied_same (labels r.owner) (labels s.owner) tied in
-        let a = h.type first in
-        let b = k.type (sym first ∙ same) in
-        omega arith;
-  }
+  follows_chain r s t h k = grind (arith, common_steps, same_tied, tied_same, (upto canonical_cmp_total), (tied_between canonical_cmp_total))
 
   -- the test of two records says whether one may follow the other
   may_follow-means : (r s : Record N D) → may_follow labels rtype r s ≡ true → MayFollow labels rtype r s
@@ -265,15 +256,7 @@ pub clone_tied : {N D : Type 0} (labels : N → List (List ℕ)) (rtype : D → 
     → ((a b : D) → is_data_clone a b → data_cmp a b ≡ Equal)
     → (r copy : Record N D) → IsRecordClone is_owner_clone is_data_clone r copy → record_cmp labels rtype data_cmp r copy ≡ Equal
 clone_tied labels rtype data_cmp is_owner_clone is_data_clone by_owner by_type by_data r copy h =
-    rw (
-      h.class,
-      by_owner r.owner copy.owner h.owner,
-      by_type r.«data» copy.«data» h.«data»,
-      tied_itself nat_cmp_total r.class,
-      tied_itself canonical_cmp_total (labels r.owner),
-      tied_itself nat_cmp_total (rtype r.«data»),
-    )
-    (by_data r.«data» copy.«data» h.«data»)
+    grind (arith, common_steps, (tied_itself nat_cmp_total), (tied_itself canonical_cmp_total), by_owner, by_type, by_data)
 
 -- ---- A list in the order of places that ascend is sorted, and of equals the earliest comes first.
 

@@ -1,8 +1,8 @@
 -- Groups of records: of one owner, of one owner and type, how these are looked up, and what adding
 -- and removing leave.
-use Rattle.std.specs.{List.{AllByRecursion, slice_get}, Prelude.{◌≡◌, ℕ, ◌+◌, ◌<◌, ◌≤◌, Bool, true, false, List, [], ◌∷◌, ◌++◌, length, Option, MatchOption}}
-use Rattle.std.specs.Prelude.{if◌then◌else◌, slice_index_or, ◌==◌, ◌&&◌, Any, ◌≢◌, Result, Some, None, Ok, MatchResult, drop, map, remove, ◌⊎◌}
-use Rattle.std.specs.{Ordering.{is_le, nat_cmp, on, then_cmp}, declared.cmp.Ordering.Ordering, Fn.{Shared, FnReturnsAt}, Iterator.Drains}
+use Rattle.std.specs.{List.{AllByRecursion, AllAdjacentBelow, slice_get}, Prelude.{◌≡◌, ℕ, ◌+◌, ◌<◌, ◌≤◌, Bool, true, false, List, [], ◌∷◌, ◌++◌, length}}
+use Rattle.std.specs.Prelude.{Option, MatchOption, if◌then◌else◌, slice_index_or, ◌==◌, ◌&&◌, Any, ◌≢◌, Result, Some, None, Ok, MatchResult, drop, map, remove}
+use Rattle.std.specs.{Prelude.◌⊎◌, Ordering.{is_le, nat_cmp, on, then_cmp}, declared.cmp.Ordering.Ordering, Fn.{Shared, FnReturnsAt}, Iterator.Drains}
 use Rattle.domain_names.specs.Name.{canonical_cmp, same_name, IsSame, Name}
 use Rattle.domain_record.specs.declared.record.Record.{Record}
 use Rattle.domain_base.specs.Types.{ns, rrsig}
@@ -26,9 +26,7 @@ runs same (x ∷ xs) = add_to same x (runs same xs)
 
 -- neighbours are the same
 abbrev pub HoldsOfNeighbours : {X : Type 0} → (X → X → Bool) → List X → Type 0
-HoldsOfNeighbours {X} same xs =
-    (k : ℕ) (d : X) → k + 1 < length xs
-    → same (slice_index_or xs k d) (slice_index_or xs (k + 1) d) ≡ true
+HoldsOfNeighbours same xs = AllAdjacentBelow (λ x y. same x y ≡ true) xs (length xs)
 
 -- one run: at least one element, and neighbours are the same
 pub record IsRun {X : Type 0} (same : X → X → Bool) (xs : List X) : Type 0 where
@@ -39,8 +37,7 @@ pub record IsRun {X : Type 0} (same : X → X → Bool) (xs : List X) : Type 0 w
 pub record IsFirstRun {X : Type 0} (same : X → X → Bool) (xs : List X) (n : ℕ) : Type 0 where
   pub some : 0 < n
   pub within : n ≤ length xs
-  pub alike : (k : ℕ) (d : X) → k + 1 < n
-      → same (slice_index_or xs k d) (slice_index_or xs (k + 1) d) ≡ true
+  pub alike : AllAdjacentBelow (λ x y. same x y ≡ true) xs n
   pub ends : (k : ℕ) (d : X) → k + 1 ≡ n → n < length xs
       → same (slice_index_or xs k d) (slice_index_or xs n d) ≡ false
 

@@ -1,13 +1,18 @@
-//! Groups of neighbours.
-ghost use Rattle.std.specs.Prelude.{◌≡◌, ◌<◌, ◌↔◌, length, Bool, IsTrue, slice_index_or};
-ghost use Rattle.std.specs.Option.{ForSome, option_map};
+//! Groups of neighbours: the records of one owner, and those of one owner and one type, one group
+//! after another.
+ghost use Rattle.std.specs.Prelude.{◌≡◌, ◌<◌, ◌↔◌, [], length, map, Any, Bool, IsTrue, IfOk, IfErr, slice_index_or};
+ghost use Rattle.std.specs.{Option.{ForSome, option_map}, Iterator.item_count};
+ghost use Rattle.domain_names.specs.Name.{IsAtOrBelow};
 ghost use Rattle.domain_records.specs.Groups.{same_owner, same_type, same_rrset, same_class, same_ttl};
 ghost use Rattle.domain_records.specs.Groups.{may_follow, IsRun, IsFirstRun, TakesRun, HoldsOfNeighbours};
-ghost use Rattle.domain_records.specs.Groups.{items_of};
+ghost use Rattle.domain_records.specs.Groups.{items_of, HasFirst, SkipsTo, IsZoneCut, HasOneTtl, IsRrset};
+ghost use Rattle.domain_records.specs.{Groups.{IsNoRrset, TakesRrset}, Order.{IsOneClass, IsInOrder}};
 
-use crate::slice::SliceRefsOrOwned;
-use domain_base::ToName;
+use crate::error::SigningError;
+use crate::slice::{SliceRefsOrOwned, SliceRefsOrOwnedIterator};
+use domain_base::{Class, Rtype, ToName, Ttl};
 use domain_record::{Record, RecordData};
+use std::marker::{Model, PhantomData};
 
 /// What tells whether two neighbours belong to one group.
 pub trait Grouping<T> {
@@ -132,4 +137,400 @@ pub(crate) fn is_one_run<T, G: Grouping<T>>(records: &SliceRefsOrOwned<'_, T>) -
     ensures { IsTrue result ↔ HoldsOfNeighbours G.same (items_of records.now) }
 {
     records.len() == 0 || first_run::<T, G>(records) == records.len()
+}
+
+/// The records of one owner, borrowed from a longer list: a maximal run of records whose owners
+/// differ in the case of letters at most. Contracts see the list of the records.
+#[derive(Drop)]
+pub struct OwnerRrs<'a, N: ToName, D> {
+    records: SliceRefsOrOwned<'a, Record<N, D>>,
+}
+
+impl<'a, N: ToName, D> Model for OwnerRrs<'a, N, D> {
+    ghost use Rattle.std.specs.Prelude.{List};
+    ghost use Rattle.domain_record.specs.declared.record.Record.{Record};
+    ghost use Rattle.domain_records.specs.Groups.{items_of, same_owner, IsRun};
+
+    ghost Value = { List (Record N D) };
+
+    ghost view = { λ s. items_of s.records };
+
+    ghost invariant = { λ s. IsRun (same_owner N.labels) (items_of s.records) };
+}
+
+impl<'a, N: ToName, D> OwnerRrs<'a, N, D> {
+    /// The owner, as the first record spells it. The owners of the others differ from it in the
+    /// case of letters at most.
+    pub fn owner(&self) -> &'a N
+        ensures { HasFirst (λ r. r.owner ≡ result.now) self.now }
+    {
+        self.records.at(0).owner()
+    }
+
+    /// The class of the first record.
+    pub fn class(&self) -> Class
+        ensures { HasFirst (λ r. r.class ≡ result) self.now }
+    {
+        self.records.at(0).class()
+    }
+
+    /// Whether some record is NS, and the owner is not the apex. For an owner in the zone it then
+    /// is a delegation.
+    pub fn is_zone_cut(&self, apex: &N) -> bool
+    where
+        D: RecordData,
+        ensures { IsTrue result ↔ IsZoneCut N.labels D.rtype (N.labels apex.now) self.now }
+    {
+        !self.owner().name_eq(apex) && has_type(&self.records, Rtype::NS)
+    }
+
+    /// Whether the owner is at or below the apex.
+    pub fn is_in_zone(&self, apex: &N) -> bool
+        ensures { IsTrue result ↔ HasFirst (λ r. IsAtOrBelow (N.labels r.owner) (N.labels apex.now))
+            self.now }
+    {
+        self.owner().ends_with(apex)
+    }
+
+    /// The groups of records of one type, in the order in which they stand.
+    pub fn rrsets(&self) -> OwnerRrsIter<'a, N, D>
+    where
+        D: RecordData,
+        ensures { result ≡ self.now }
+    {
+        OwnerRrsIter::new(self.records.clone())
+    }
+
+    /// The same group. Takes no memory.
+    pub fn clone(&self) -> OwnerRrs<'a, N, D>
+        ensures { result ≡ self.now }
+    {
+        OwnerRrs {
+            records: self.records.clone(),
+        }
+    }
+
+    /// The records in order.
+    pub fn records(&self) -> SliceRefsOrOwnedIterator<'a, Record<N, D>>
+        ensures { result ≡ self.now }
+    {
+        self.records.iter()
+    }
+}
+
+/// Whether some record is of this type.
+fn has_type<N, D: RecordData>(records: &SliceRefsOrOwned<'_, Record<N, D>>, wanted: Rtype) -> bool
+    ensures { IsTrue result ↔ Any (λ r. D.rtype r.«data» ≡ wanted) (items_of records.now) }
+{
+    let is_wanted = |record: &Record<N, D>| record.rtype() == wanted;
+    records.first_match(&is_wanted).is_some()
+}
+
+/// An iterator over the groups of records of one owner, in the order in which they stand. The
+/// groups borrow from the records, and outlive the iterator. Contracts see the list of the records
+/// that are left.
+#[derive(Drop)]
+pub struct RecordsIter<'a, N: ToName, D> {
+    left: SliceRefsOrOwned<'a, Record<N, D>>,
+}
+
+impl<'a, N: ToName, D> Model for RecordsIter<'a, N, D> {
+    ghost use Rattle.std.specs.Prelude.{List};
+    ghost use Rattle.domain_record.specs.declared.record.Record.{Record};
+    ghost use Rattle.domain_records.specs.Groups.{items_of};
+
+    ghost Value = { List (Record N D) };
+
+    ghost view = { λ s. items_of s.left };
+}
+
+impl<'a, N: ToName, D> RecordsIter<'a, N, D> {
+    /// Over the records of a slice.
+    pub fn new(records: SliceRefsOrOwned<'a, Record<N, D>>) -> Self
+        ensures { result ≡ items_of records.entry }
+    {
+        RecordsIter { left: records }
+    }
+
+    /// Over the records that the references point to, in their order.
+    pub fn new_from_refs(records: &'a [&'a Record<N, D>]) -> Self
+        ensures { result ≡ map (λ p. p.now) records.now }
+    {
+        RecordsIter::new(SliceRefsOrOwned::new_from_refs(records))
+    }
+
+    /// Over records that lie together.
+    pub fn new_from_owned(records: &'a [Record<N, D>]) -> Self
+        ensures { result ≡ records.now }
+    {
+        RecordsIter::new(SliceRefsOrOwned::new_from_owned(records))
+    }
+
+    /// Whether no record is left.
+    pub fn is_empty(&self) -> bool
+        ensures { IsTrue result ↔ (self.now ≡ []) }
+    {
+        self.left.len() == 0
+    }
+
+    /// The first record left.
+    pub fn first(&self) -> &'a Record<N, D>
+        requires { 0 < length self.now }
+        ensures { HasFirst (λ r. r ≡ result.now) self.now }
+    {
+        self.left.at(0)
+    }
+
+    /// The records that are left, one after another.
+    pub fn records(&self) -> SliceRefsOrOwnedIterator<'a, Record<N, D>>
+        ensures { result ≡ self.now }
+    {
+        self.left.iter()
+    }
+
+    /// Drops records from the front while their owners are not at or below the apex, all where none
+    /// is.
+    pub fn skip_before(&mut self, apex: &N)
+        ensures { SkipsTo (λ r. IsAtOrBelow (N.labels r.owner) (N.labels apex.now))
+            self.old self.new }
+    {
+        let is_within = |record: &Record<N, D>| record.owner().ends_with(apex);
+        let n = self.left.first_match(&is_within).unwrap_or(self.left.len());
+        self.left = self.left.back(n);
+    }
+
+    /// Whether the records left have one class. It holds where none is left.
+    #[tactic(auto, using(crate::proofs::OrderLemmas::one_class))]
+    pub fn is_one_class(&self) -> bool
+        ensures { IsTrue result ↔ IsOneClass self.now }
+    {
+        is_one_run::<Record<N, D>, ByClass>(&self.left)
+    }
+}
+
+impl<'a, N: ToName, D: RecordData> RecordsIter<'a, N, D> {
+    /// Whether the owners of the records left never descend in the canonical order of names
+    /// (RFC 4034, section 6.1), and their types never descend within an owner. It holds where no
+    /// record is left.
+    #[tactic(auto, using(crate::proofs::OrderLemmas::in_order))]
+    pub fn is_in_order(&self) -> bool
+        ensures { IsTrue result ↔ IsInOrder N.labels D.rtype self.now }
+    {
+        is_one_run::<Record<N, D>, InOrder>(&self.left)
+    }
+}
+
+impl<'a, N: ToName, D> Iterator for RecordsIter<'a, N, D> {
+    type Item = OwnerRrs<'a, N, D>;
+
+    ghost next_gives = { TakesRun (same_owner N.labels) };
+
+    ghost remaining = { item_count (λ s. s) };
+
+    fn next(&mut self) -> Option<OwnerRrs<'a, N, D>> {
+        let records = take_group::<Record<N, D>, ByOwner>(&mut self.left)?;
+        Some(OwnerRrs { records })
+    }
+}
+
+/// Records that are taken for an RRset: at least one, and all with one TTL unless the first is an
+/// RRSIG (RFC 2181, section 5.2). It borrows them. Contracts see the list of the records.
+///
+/// That they share owner, class and type is not tested here: the iterators see to owner and type.
+#[derive(Debug, Drop)]
+pub struct Rrset<'a, N, D: RecordData> {
+    records: SliceRefsOrOwned<'a, Record<N, D>>,
+}
+
+impl<'a, N, D: RecordData> Model for Rrset<'a, N, D> {
+    ghost use Rattle.std.specs.Prelude.{List};
+    ghost use Rattle.domain_record.specs.declared.record.Record.{Record};
+    ghost use Rattle.domain_records.specs.Groups.{items_of, IsRrset};
+
+    ghost Value = { List (Record N D) };
+
+    ghost view = { λ s. items_of s.records };
+
+    ghost invariant = { λ s. IsRrset D.rtype (items_of s.records) };
+}
+
+/// Whether the records have one TTL, or the first is an RRSIG.
+#[tactic(auto, using(crate::proofs::OrderLemmas::one_ttl))]
+fn has_one_ttl<N, D: RecordData>(records: &SliceRefsOrOwned<'_, Record<N, D>>) -> bool
+    requires { 0 < length (items_of records.now) }
+    ensures { IsTrue result ↔ HasOneTtl D.rtype (items_of records.now) }
+{
+    records.at(0).rtype() == Rtype::RRSIG || is_one_run::<Record<N, D>, ByTtl>(records)
+}
+
+impl<'a, N, D: RecordData> Rrset<'a, N, D> {
+    /// The records of a slice as an RRset.
+    ///
+    /// # Errors
+    ///
+    /// `EmptyRecordSlice` where there is no record, and `MultipleTtlValues` where the TTLs differ
+    /// and the first record is not an RRSIG.
+    pub fn new(records: SliceRefsOrOwned<'a, Record<N, D>>) -> Result<Self, SigningError>
+        ensures ok { IfOk result
+            (λ set. (set ≡ items_of records.entry) × IsRrset D.rtype (items_of records.entry)) }
+        ensures err { IfErr result (IsNoRrset D.rtype (items_of records.entry)) }
+    {
+        if records.len() == 0 {
+            return Err(SigningError::EmptyRecordSlice);
+        }
+        if !has_one_ttl(&records) {
+            return Err(SigningError::MultipleTtlValues);
+        }
+        Ok(Rrset { records })
+    }
+
+    /// The records that the references point to, as an RRset. Its errors are those of `new`.
+    pub fn new_from_refs(records: &'a [&'a Record<N, D>]) -> Result<Self, SigningError>
+        ensures ok { IfOk result
+            (λ set. (set ≡ map (λ p. p.now) records.now)
+            × IsRrset D.rtype (map (λ p. p.now) records.now)) }
+        ensures err { IfErr result (IsNoRrset D.rtype (map (λ p. p.now) records.now)) }
+    {
+        Rrset::new(SliceRefsOrOwned::new_from_refs(records))
+    }
+
+    /// Records that lie together, as an RRset. Its errors are those of `new`.
+    pub fn new_from_owned(records: &'a [Record<N, D>]) -> Result<Self, SigningError>
+        ensures ok { IfOk result (λ set. (set ≡ records.now) × IsRrset D.rtype records.now) }
+        ensures err { IfErr result (IsNoRrset D.rtype records.now) }
+    {
+        Rrset::new(SliceRefsOrOwned::new_from_owned(records))
+    }
+
+    /// The owner of the first record.
+    pub fn owner(&self) -> &'a N
+        ensures { HasFirst (λ r. r.owner ≡ result.now) self.now }
+    {
+        self.first().owner()
+    }
+
+    /// The class of the first record.
+    pub fn class(&self) -> Class
+        ensures { HasFirst (λ r. r.class ≡ result) self.now }
+    {
+        self.first().class()
+    }
+
+    /// The type of the first record.
+    pub fn rtype(&self) -> Rtype
+        ensures { HasFirst (λ r. D.rtype r.«data» ≡ result) self.now }
+    {
+        self.first().rtype()
+    }
+
+    /// The TTL of the first record, which is that of all unless the first is an RRSIG.
+    pub fn ttl(&self) -> Ttl
+        ensures first { HasFirst (λ r. r.ttl ≡ result) self.now }
+        ensures one { HasOneTtl D.rtype self.now }
+    {
+        self.records.at(0).ttl()
+    }
+
+    /// The first record.
+    pub fn first(&self) -> &'a Record<N, D>
+        ensures { HasFirst (λ r. r ≡ result.now) self.now }
+    {
+        self.records.at(0)
+    }
+
+    /// The records in order.
+    pub fn iter(&self) -> SliceRefsOrOwnedIterator<'a, Record<N, D>>
+        ensures { result ≡ self.now }
+    {
+        self.records.iter()
+    }
+
+    /// The number of records, which is at least 1.
+    pub fn len(&self) -> usize
+        ensures number { result ≡ length self.now }
+        ensures some { 0 < result }
+    {
+        self.records.len()
+    }
+
+    /// The slice of the records.
+    pub fn into_inner(self) -> SliceRefsOrOwned<'a, Record<N, D>>
+        ensures { items_of result ≡ self.entry }
+    {
+        self.records
+    }
+
+    /// The same records. Takes no memory.
+    pub fn clone(&self) -> Rrset<'a, N, D>
+        ensures { result ≡ self.now }
+    {
+        Rrset {
+            records: self.records.clone(),
+        }
+    }
+}
+
+/// An iterator over groups of records as RRsets, in the order in which they stand; `G` tells which
+/// records belong together. A group whose TTLs differ is answered by `MultipleTtlValues`, and the
+/// iterator goes on after it. Contracts see the list of the records that are left.
+#[derive(Drop)]
+pub struct RrsetGroups<'a, N, D: RecordData, G: Grouping<Record<N, D>>> {
+    left: SliceRefsOrOwned<'a, Record<N, D>>,
+    grouping: PhantomData<G>,
+}
+
+/// An iterator over the groups of records of one owner and one type. The class is not looked at.
+pub type RrsetIter<'a, N, D> = RrsetGroups<'a, N, D, ByRrset>;
+
+/// An iterator over the groups of records of one type within the records of one owner. The class is
+/// not looked at.
+pub type OwnerRrsIter<'a, N, D> = RrsetGroups<'a, N, D, ByType>;
+
+impl<'a, N, D: RecordData, G: Grouping<Record<N, D>>> Model for RrsetGroups<'a, N, D, G> {
+    ghost use Rattle.std.specs.Prelude.{List};
+    ghost use Rattle.domain_record.specs.declared.record.Record.{Record};
+    ghost use Rattle.domain_records.specs.Groups.{items_of};
+
+    ghost Value = { List (Record N D) };
+
+    ghost view = { λ s. items_of s.left };
+}
+
+impl<'a, N, D: RecordData, G: Grouping<Record<N, D>>> RrsetGroups<'a, N, D, G> {
+    /// Over the records of a slice.
+    pub fn new(records: SliceRefsOrOwned<'a, Record<N, D>>) -> Self
+        ensures { result ≡ items_of records.entry }
+    {
+        RrsetGroups {
+            left: records,
+            grouping: PhantomData,
+        }
+    }
+
+    /// Over the records that the references point to, in their order.
+    pub fn new_from_refs(records: &'a [&'a Record<N, D>]) -> Self
+        ensures { result ≡ map (λ p. p.now) records.now }
+    {
+        RrsetGroups::new(SliceRefsOrOwned::new_from_refs(records))
+    }
+
+    /// Over records that lie together.
+    pub fn new_from_owned(records: &'a [Record<N, D>]) -> Self
+        ensures { result ≡ records.now }
+    {
+        RrsetGroups::new(SliceRefsOrOwned::new_from_owned(records))
+    }
+}
+
+impl<'a, N, D: RecordData, G: Grouping<Record<N, D>>> Iterator for RrsetGroups<'a, N, D, G> {
+    type Item = Result<Rrset<'a, N, D>, SigningError>;
+
+    ghost next_gives = { TakesRrset G.same D.rtype };
+
+    ghost remaining = { item_count (λ s. s) };
+
+    fn next(&mut self) -> Option<Result<Rrset<'a, N, D>, SigningError>> {
+        let group = take_group::<Record<N, D>, G>(&mut self.left)?;
+        Some(Rrset::new(group))
+    }
 }

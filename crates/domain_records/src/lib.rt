@@ -30,27 +30,16 @@
 //! [`Nsec3HashError`].
 #![tactic(auto)]
 
-mod arrange;
 mod error;
 mod group;
-mod key;
 pub mod laws;
-mod list;
-mod lookup;
-mod owner;
-mod owner_order;
-mod owner_runs;
-mod rrset;
 mod slice;
 mod sort;
 mod sorted;
-mod sorter;
 mod write;
 
 pub use error::{InsertError, SigningError, SortError};
-pub use key::owner_key;
-pub use owner::{OwnerRrs, RecordsIter};
-pub use rrset::{OwnerRrsIter, Rrset, RrsetIter};
+pub use group::{OwnerRrs, OwnerRrsIter, RecordsIter, Rrset, RrsetIter};
 pub use slice::{RefSlice, SliceRefsOrOwned, SliceRefsOrOwnedIterator};
+pub use sort::{DefaultSorter, InPlaceSorter, Sorter, owner_key};
 pub use sorted::SortedRecords;
-pub use sorter::{DefaultSorter, InPlaceSorter, Sorter};

@@ -1,16 +1,316 @@
-//! Sorting, by owner first where that is right.
-ghost use Rattle.std.specs.Prelude.{◌≡◌, IsTrue, OnOk, OnErr};
+//! Sorting, by owner first where that is right: runs of neighbours of one owner, by the keys of
+//! their owners, lead to an order of the records' places. Keys and runs are hints, of which nothing
+//! is promised: they decide what is compared, and the order is checked before a record is moved.
+ghost use Rattle.std.specs.Prelude.{◌≡◌, ◌<◌, length, slice_index, slice_index_or, Bool, true, false, IsTrue, OnOk, OnErr};
+ghost use Rattle.std.specs.{declared.cmp.Ordering.Ordering, Ordering.is_eq, Cmp.IsTotalOrder};
+ghost use Rattle.std.specs.List.Sorted.{IsPermutation, IsSorted, IsStable};
 ghost use Rattle.domain_record.specs.Record.{record_cmp};
-ghost use Rattle.domain_records.specs.Order.{AreInOrder, compared_places, IsSortOf, IsUnion};
+ghost use Rattle.domain_records.specs.Order.{owner_cmp, rest_cmp, AreRanks, IsArranged, AreInOrder};
+ghost use Rattle.domain_records.specs.Order.{compared_places, IsSortOf, IsUnion, AnswersBy};
 
-use crate::arrange::{are_ranks, arrange, ranks_of};
-use crate::owner_order::{is_equal, item_at, neighbour_cmp};
-use crate::owner_runs::likely_places;
-use crate::sorter::Sorter;
 use domain_base::{CanonicalOrd, ToName};
 use domain_octets::OutOfMemory;
 use domain_record::{Record, RecordData};
+use std::alloc::Global;
 use std::cmp::Ordering;
+
+/// A way to sort a list. A caller that wants other resources used than `DefaultSorter` uses brings
+/// one of its own.
+pub trait Sorter {
+    /// Whether elements that the order calls equal stay as they stood.
+    ghost is_stable: { Bool };
+
+    /// Sorts the list by the one total order that `compare` answers by.
+    ///
+    /// # Errors
+    ///
+    /// `OutOfMemory` where memory was wanting. The list is then as it was.
+    fn sort_by<T, F: Fn(&T, &T) -> Ordering>(
+        records: &mut Vec<T>,
+        compare: F,
+    ) -> Result<(), OutOfMemory>
+        requires callable { F.IsAlwaysCallable compare }
+        requires order { (R : T → T → Ordering) × IsTotalOrder R × AnswersBy F.Fn R compare }
+        ensures permutation { IsPermutation records.old.items records.new.items }
+        ensures sorted { OnOk result ((R : T → T → Ordering)
+            → IsTotalOrder R → AnswersBy F.Fn R compare → IsSorted R records.new.items) }
+        ensures stable { IsTrue is_stable → (R : T → T → Ordering)
+            → IsTotalOrder R → AnswersBy F.Fn R compare
+            → IsStable R records.old.items records.new.items }
+        ensures err { OnErr result (records.new.items ≡ records.old.items) };
+}
+
+/// The stable sort of the standard library, on one thread.
+pub struct DefaultSorter;
+
+impl Sorter for DefaultSorter {
+    ghost is_stable = { true };
+
+    fn sort_by<T, F: Fn(&T, &T) -> Ordering>(
+        records: &mut Vec<T>,
+        compare: F,
+    ) -> Result<(), OutOfMemory> {
+        records.sort_by(compare)?;
+        Ok(())
+    }
+}
+
+/// The unstable sort of the standard library, on one thread. Takes no memory.
+pub struct InPlaceSorter;
+
+impl Sorter for InPlaceSorter {
+    ghost is_stable = { false };
+
+    fn sort_by<T, F: Fn(&T, &T) -> Ordering>(
+        records: &mut Vec<T>,
+        compare: F,
+    ) -> Result<(), OutOfMemory> {
+        records.sort_unstable_by(compare);
+        Ok(())
+    }
+}
+
+/// A digit of six bits for each octet, in the order of lowered octets, 0 left out. Those of usual
+/// names, `*` to `9` and, lowered, `_` to `z`, have one of their own.
+const DIGITS: &[u8; 256] = &[
+    1, 1, 1, 1, 1, 1, 1, 1, 1, 1, 1, 1, 1, 1, 1, 1, 1, 1, 1, 1, 1, 1, 1, 1, 1, 1, 1, 1, 1, 1, 1, 1,
+    1, 1, 1, 1, 1, 1, 1, 1, 1, 1, 2, 3, 4, 5, 6, 7, 8, 9, 10, 11, 12, 13, 14, 15, 16, 17, 18, 18,
+    18, 18, 18, 18, 18, 21, 22, 23, 24, 25, 26, 27, 28, 29, 30, 31, 32, 33, 34, 35, 36, 37, 38, 39,
+    40, 41, 42, 43, 44, 45, 46, 18, 18, 18, 18, 19, 20, 21, 22, 23, 24, 25, 26, 27, 28, 29, 30, 31,
+    32, 33, 34, 35, 36, 37, 38, 39, 40, 41, 42, 43, 44, 45, 46, 47, 47, 47, 47, 47, 47, 47, 47, 47,
+    47, 47, 47, 47, 47, 47, 47, 47, 47, 47, 47, 47, 47, 47, 47, 47, 47, 47, 47, 47, 47, 47, 47, 47,
+    47, 47, 47, 47, 47, 47, 47, 47, 47, 47, 47, 47, 47, 47, 47, 47, 47, 47, 47, 47, 47, 47, 47, 47,
+    47, 47, 47, 47, 47, 47, 47, 47, 47, 47, 47, 47, 47, 47, 47, 47, 47, 47, 47, 47, 47, 47, 47, 47,
+    47, 47, 47, 47, 47, 47, 47, 47, 47, 47, 47, 47, 47, 47, 47, 47, 47, 47, 47, 47, 47, 47, 47, 47,
+    47, 47, 47, 47, 47, 47, 47, 47, 47, 47, 47, 47, 47, 47, 47, 47, 47, 47, 47, 47, 47, 47, 47, 47,
+    47, 47, 47, 47,
+];
+
+/// A key with a digit before the others. The last goes.
+fn with_digit(key: u128, digit: u8) -> u128 {
+    key >> 6 | u128::from(digit) << 122
+}
+
+/// A key with the digits of a label, and a 0 that ends it, before the others.
+fn with_label(key: u128, label: &[u8]) -> u128 {
+    label.iter().rev().fold(with_digit(key, 0), |key, octet| {
+        with_digit(key, DIGITS[usize::from(*octet)])
+    })
+}
+
+/// A number for a name: the first 21 digits, of six bits each, of its labels, from the last on,
+/// below the first `shared` labels from the root. Names in canonical order that share these labels
+/// have keys that do not descend. That is a hint, which no clause states: who searches or sorts by
+/// keys tests with the names what they suggest.
+pub fn owner_key<N: ToName>(name: &N, shared: usize) -> u128 {
+    let below = name.count_labels().saturating_sub(shared);
+    name.labels().take(below).fold(0, with_label)
+}
+
+/// The item at a place. Past the end `other` stands.
+fn item_at<'a, T>(items: &'a [T], place: usize, other: &'a T) -> &'a T
+    ensures { result.now ≡ slice_index_or items.now place other.now }
+{
+    items.get(place).unwrap_or(other)
+}
+
+/// Whether two records have one class and one owner.
+#[tactic(auto, using(std::proofs::lemmas::Grind::common_steps, std::proofs::lemmas::Bool::Decides::nat_tests, domain_names::specs::Laws::same_name_ties))]
+fn is_one_owner<N: ToName, D>(a: &Record<N, D>, b: &Record<N, D>) -> bool
+    ensures { result ≡ is_eq (owner_cmp N.labels a.now b.now) }
+{
+    if a.class() == b.class() {
+        return a.owner().name_eq(b.owner());
+    }
+    false
+}
+
+/// Compares records by all but class and owner: by type, and then by the data.
+fn rest_cmp<N, D: RecordData + CanonicalOrd>(a: &Record<N, D>, b: &Record<N, D>) -> Ordering
+    ensures { result ≡ rest_cmp D.rtype D.canonical_cmp a.now b.now }
+{
+    a.rtype()
+        .cmp(&b.rtype())
+        .then_with(|| a.data().canonical_cmp(b.data()))
+}
+
+/// The canonical order of records, for those that often have one owner.
+fn neighbour_cmp<N: ToName, D: RecordData + CanonicalOrd>(
+    a: &Record<N, D>,
+    b: &Record<N, D>,
+) -> Ordering
+    ensures { result ≡ record_cmp N.labels D.rtype D.canonical_cmp a.now b.now }
+{
+    if is_one_owner(a, b) {
+        rest_cmp(a, b)
+    } else {
+        a.canonical_cmp(b)
+    }
+}
+
+/// Whether records are equal in canonical order. Owners are compared last.
+fn is_equal<N: ToName, D: RecordData + CanonicalOrd>(a: &Record<N, D>, b: &Record<N, D>) -> bool
+    ensures { result ≡ is_eq (record_cmp N.labels D.rtype D.canonical_cmp a.now b.now) }
+{
+    if rest_cmp(a, b).is_ne() {
+        return false;
+    }
+    is_one_owner(a, b)
+}
+
+/// The records from `start` up to `end`, which have one owner, with its key.
+#[derive(Clone, Copy)]
+struct Run {
+    key: u128,
+    start: usize,
+    end: usize,
+}
+
+/// The runs, each as long as its owner goes on. They have no keys yet.
+fn runs_of<N: ToName, D: RecordData>(
+    alloc: Global,
+    records: &[Record<N, D>],
+) -> Result<Vec<Run>, OutOfMemory> {
+    let mut runs = Vec::new(alloc);
+    let mut start: usize = 0;
+    for run in records.chunk_by(|a, b| is_one_owner(a, b)) {
+        let end = start.saturating_add(run.len());
+        runs.push(Run { key: 0, start, end })?;
+        start = end;
+    }
+    Ok(runs)
+}
+
+/// How many labels, from the root on, the owners of all runs share with that of `first`.
+fn shared_labels<N: ToName, D>(
+    records: &[Record<N, D>],
+    first: &Record<N, D>,
+    runs: &[Run],
+) -> usize {
+    let mut shared = first.owner().count_labels();
+    for run in runs {
+        let owner = item_at(records, run.start, first).owner();
+        shared = shared.min(first.owner().common_labels(owner));
+    }
+    shared
+}
+
+/// Gives each run the key of its owner.
+fn give_keys<N: ToName, D>(records: &[Record<N, D>], first: &Record<N, D>, runs: &mut [Run]) {
+    let shared = shared_labels(records, first, runs);
+    for run in runs.iter_mut() {
+        run.key = owner_key(item_at(records, run.start, first).owner(), shared);
+    }
+}
+
+/// Puts the places of a run at the end, and those from `start` on into the order of their records,
+/// which have one owner.
+fn push_places<N: ToName, D: RecordData + CanonicalOrd>(
+    records: &[Record<N, D>],
+    first: &Record<N, D>,
+    run: Run,
+    start: usize,
+    places: &mut Vec<usize>,
+) -> Result<(), OutOfMemory> {
+    places.extend(run.start..run.end)?;
+    let start = start.min(places.len());
+    places[start..].sort_unstable_by(|a, b| {
+        rest_cmp(item_at(records, *a, first), item_at(records, *b, first)).then(a.cmp(b))
+    });
+    Ok(())
+}
+
+/// The places of the records, in the order of sorted runs, and of the records within an owner.
+fn places_of<N: ToName, D: RecordData + CanonicalOrd>(
+    alloc: Global,
+    records: &[Record<N, D>],
+    first: &Record<N, D>,
+    runs: &[Run],
+) -> Result<Vec<usize>, OutOfMemory> {
+    let mut places = Vec::with_capacity(alloc, records.len())?;
+    let mut owner = first;
+    let mut start = 0;
+    for run in runs {
+        let next = item_at(records, run.start, first);
+        if !is_one_owner(owner, next) {
+            owner = next;
+            start = places.len();
+        }
+        push_places(records, first, *run, start, &mut places)?;
+    }
+    Ok(places)
+}
+
+/// The places of the records in what is most probably canonical order, by their owners' keys. Of
+/// equal records the earliest comes first.
+fn likely_places<N: ToName, D: RecordData + CanonicalOrd, S: Sorter>(
+    alloc: Global,
+    records: &[Record<N, D>],
+    first: &Record<N, D>,
+) -> Result<Vec<usize>, OutOfMemory> {
+    let mut runs = runs_of(alloc, records)?;
+    give_keys(records, first, &mut runs);
+    S::sort_by(&mut runs, |a, b| {
+        a.key.cmp(&b.key).then_with(|| {
+            item_at(records, a.start, first).canonical_cmp(item_at(records, b.start, first))
+        })
+    })?;
+    places_of(alloc, records, first, &runs)
+}
+
+/// The rank of each place: where it stands among the places, if they are the places of a list, each
+/// once. `are_ranks` tells.
+fn ranks_of(alloc: Global, places: &[usize]) -> Result<Vec<usize>, OutOfMemory> {
+    let mut ranks = vec![in alloc; 0; places.len()]?;
+    for (rank, place) in places.iter().enumerate() {
+        if let Some(found) = ranks.get_mut(*place) {
+            *found = rank;
+        }
+    }
+    Ok(ranks)
+}
+
+/// Whether a list has the number at a place.
+fn has_at(numbers: &[usize], at: usize, number: usize) -> bool
+    ensures { IsTrue result → (at < length numbers.now) × (slice_index numbers.now at ≡ number) }
+{
+    match numbers.get(at) {
+        Some(found) => *found == number,
+        None => false,
+    }
+}
+
+/// Whether places are each once in their list, and these are their ranks.
+fn are_ranks(places: &[usize], ranks: &[usize]) -> bool
+    ensures { IsTrue result → AreRanks places.now ranks.now }
+{
+    if ranks.len() != places.len() {
+        return false;
+    }
+    for k in 0..places.len() {
+        if !has_at(ranks, places[k], k) || !has_at(places, ranks[k], k) {
+            return false;
+        }
+    }
+    true
+}
+
+/// Puts at each rank the item of its place. Each item is moved to its rank by one exchange, and
+/// the place and the rank of the item that it was exchanged with go with it.
+fn arrange<T>(items: &mut [T], places: &mut [usize], ranks: &mut [usize])
+    requires ranks { AreRanks places.old ranks.old }
+    requires all { length places.old ≡ length items.old }
+    ensures arranged { IsArranged items.old places.old items.new }
+    ensures moved { IsPermutation items.old items.new }
+{
+    for rank in 0..items.len() {
+        let place = places[rank];
+        let other = ranks[rank];
+        items.swap(rank, place);
+        places.swap(rank, other);
+        ranks.swap(rank, place);
+    }
+}
 
 /// Compares the records at two places, and then the places.
 #[tactic(auto, unfolding(crate::specs::Order::compared_places))]

@@ -1,30 +1,139 @@
-//! Sorted records.
-ghost use Rattle.std.specs.Prelude.{◌≡◌, ◌↔◌, ◌==◌, ◌++◌, ℕ, [], List, length, not, filter, find};
-ghost use Rattle.std.specs.Prelude.{Option, IsTrue, IfOk, IfErr, OnOk, OnErr, IsErrOf};
-ghost use Rattle.std.specs.{List.{AllZip, list_any}, Fmt.WritesText, Slice.Iter.iter_rest};
+//! Sorted records: lists as sorted sets, how records are looked up by owner, class and type, and
+//! the records of a zone.
+ghost use Rattle.std.specs.Prelude.{◌≡◌, ◌↔◌, ◌<◌, ◌≤◌, ◌==◌, ◌++◌, ℕ, [], List, length, not, filter, find};
+ghost use Rattle.std.specs.Prelude.{Option, IsTrue, IfOk, IfErr, OnOk, OnErr, IsErrOf, vec_len, vec_capacity};
+ghost use Rattle.std.specs.{List.{AllZip, list_any}, Fmt.WritesText, Slice.Iter.iter_rest, Option.ForSome};
 ghost use Rattle.std.specs.{Iterator.IsFiniteIterable, List.Sorted.IsStrictlySortedBy};
 ghost use Rattle.domain_records.specs.Groups.{Gives, refused, without_first, IsFirstMatch, Updates, matches};
+ghost use Rattle.domain_records.specs.Groups.{AddsIfAbsent, IsFirstPlace, group_at};
 ghost use Rattle.domain_records.specs.{Groups.{IsFound, begins_with, same_rrset, runs}, Text.texts};
 ghost use Rattle.domain_records.specs.{Text.{soa_first, WritesWithComments}, Order.{IsOneClass, IsInOrder}};
-ghost use Rattle.domain_records.specs.Order.{IsUnion, Adds, Holds};
+ghost use Rattle.domain_records.specs.Order.{IsUnion, Adds, Holds, GoesTo};
 ghost use Rattle.domain_base.specs.Types.{soa};
 ghost use Rattle.domain_record.specs.Record.{record_cmp, IsRecordClone};
 
 use crate::error::{InsertError, SigningError, SortError};
-use crate::list::{append, clone_all, insert_if_absent, search};
-use crate::lookup::{first_of_type, first_place, is_wanted, rrset_at};
-use crate::owner::RecordsIter;
-use crate::rrset::{Rrset, RrsetIter};
+use crate::group::{RecordsIter, Rrset, RrsetIter};
 use crate::slice::SliceRefsOrOwned;
-use crate::sort::sort_and_dedup;
-use crate::sorter::{DefaultSorter, Sorter};
+use crate::sort::{DefaultSorter, Sorter, sort_and_dedup};
 use crate::write::{Commented, Plain, write_soa_first};
 use domain_base::{CanonicalOrd, Class, Rtype, ToName};
-use domain_octets::OutOfMemory;
+use domain_octets::{OutOfMemory, TryClone};
 use domain_record::{CloneRecordData, Record, RecordData};
 use std::alloc::Global;
 use std::marker::{Model, PhantomData};
 use std::{fmt, slice};
+
+/// Where an equal element stands, or where `item` goes, by a binary search.
+fn search<T: CanonicalOrd>(items: &[T], item: &T) -> Result<usize, usize>
+    requires { IsStrictlySortedBy T.canonical_cmp items.now }
+    ensures found { IfOk result (λ _. Holds T.canonical_cmp items.now item.now) }
+    ensures absent { IfErr result (GoesTo T.canonical_cmp items.now item.now) }
+{
+    items.binary_search_by(|stored| stored.canonical_cmp(item))
+}
+
+/// Puts an item in its place, unless an equal one stands. It takes no memory.
+fn insert_if_absent<T: CanonicalOrd + Drop>(items: &mut Vec<T>, item: T)
+    requires sorted { IsStrictlySortedBy T.canonical_cmp items.old.items }
+    requires room { vec_len items.old < vec_capacity items.old }
+    ensures added { AddsIfAbsent T.canonical_cmp items.old.items item items.new.items }
+    ensures sorted { IsStrictlySortedBy T.canonical_cmp items.new.items }
+{
+    if let Err(place) = search(items, &item) {
+        let _ = items.insert(place, item);
+    }
+}
+
+/// Puts items at the end. A refusal leaves the list as it was.
+fn append<T: Drop, U: IntoIterator<Item = T>>(
+    items: &mut Vec<T>,
+    more: U,
+) -> Result<(), OutOfMemory>
+    requires { IsFiniteIterable U.into_iter_gives U.IntoIter.can_next U.IntoIter.remaining more }
+    ensures ok { OnOk result ((xs : List T)
+        × Gives U.into_iter_gives U.IntoIter.next_gives more xs
+        × (items.new.items ≡ items.old.items ++ xs)) }
+    ensures err { OnErr result (items.new.items ≡ items.old.items) }
+{
+    let stored = items.len();
+    let result = items.extend(more);
+    if result.is_err() {
+        items.truncate(stored);
+        return Err(OutOfMemory);
+    }
+    Ok(())
+}
+
+/// Copies of the items, in the same order.
+#[tactic(auto, using(std::proofs::lemmas::List::Elements::all_zip_more))]
+fn clone_all<T: TryClone + Drop>(items: &[T], alloc: Global) -> Result<Vec<T>, OutOfMemory>
+    ensures { IfOk result (λ copies. AllZip T.is_clone items.now copies.items) }
+{
+    let mut copies = Vec::with_capacity(alloc, items.len())?;
+    for item in items {
+        copies.push(item.try_clone()?)?;
+    }
+    Ok(copies)
+}
+
+/// Whether the record has this owner, and the class and the type that are asked.
+fn is_wanted<N: ToName, D: RecordData>(
+    stored: &Record<N, D>,
+    owner: &N,
+    class: &Option<Class>,
+    rtype: &Option<Rtype>,
+) -> bool
+    ensures { result
+        ≡ matches N.labels D.rtype (N.labels owner.now) class.now rtype.now stored.now }
+{
+    stored.owner().name_eq(owner)
+        && stored.class() == (*class).unwrap_or(stored.class())
+        && stored.rtype() == (*rtype).unwrap_or(stored.rtype())
+}
+
+/// The place of the first record of this owner, of the class and the type that are asked. Looks at
+/// one record after another.
+#[tactic(auto, using(std::proofs::lemmas::Grind::common_steps, crate::proofs::GroupLemmas::first_by))]
+fn first_place<N: ToName, D: RecordData>(
+    records: &[Record<N, D>],
+    owner: &N,
+    class: &Option<Class>,
+    rtype: &Option<Rtype>,
+) -> Option<usize>
+    ensures { IsFirstPlace (matches N.labels D.rtype (N.labels owner.now) class.now rtype.now)
+        records.now result }
+{
+    let is_wanted = |stored: &Record<N, D>| is_wanted(stored, owner, class, rtype);
+    SliceRefsOrOwned::new_from_owned(records).first_match(&is_wanted)
+}
+
+/// The place of the first record of this type.
+#[tactic(auto, using(std::proofs::lemmas::Grind::common_steps, crate::proofs::GroupLemmas::first_by))]
+fn first_of_type<N, D: RecordData>(records: &[Record<N, D>], rtype: Rtype) -> Option<usize>
+    ensures { IsFirstPlace (λ r. D.rtype r.«data» == rtype) records.now result }
+{
+    let is_wanted = |stored: &Record<N, D>| stored.rtype() == rtype;
+    SliceRefsOrOwned::new_from_owned(records).first_match(&is_wanted)
+}
+
+/// The records of one owner and one type that begin at a place.
+#[tactic(auto, using(crate::proofs::GroupLemmas::taken_group))]
+fn rrset_at<N: ToName, D: RecordData>(
+    records: &[Record<N, D>],
+    place: Option<usize>,
+) -> Result<Option<Rrset<'_, N, D>>, SigningError>
+    requires { ForSome place (λ i. i ≤ length records.now) }
+    ensures { IsFound D.rtype (group_at (same_rrset N.labels D.rtype) records.now place) result }
+{
+    match place {
+        Some(i) => {
+            let from_there = SliceRefsOrOwned::new_from_owned(records).back(i);
+            RrsetIter::new(from_there).next().transpose()
+        }
+        None => Ok(None),
+    }
+}
 
 /// Records in canonical order, no two of them equal under it. Contracts see the list of the
 /// records.

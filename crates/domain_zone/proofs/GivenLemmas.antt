@@ -8,7 +8,7 @@ use Rattle.domain_zone.specs.Zone.{of_only, is_soa, soa_of, ZoneRecord, owns, cl
 use Rattle.domain_zone.specs.{Zone.{unoccluded_owners, has_unequal_ttls, as_zone_record, OwnerRecords, covered_names, owner_at}, declared.soa.ApexSoa.ApexSoa}
 use Rattle.domain_zone.proofs.{PairLemmas.{in_filter, in_filtered, In, all_in, all_from_in}, WalkLemmas.{any_two, any_in, filter_none}}
 use Rattle.domain_zone.proofs.{WalkLemmas.{in_any, filter_passes, all_map, filter_whole, weaker, any_map}, NameLemmas.{either_way, one_lowered}}
-use Rattle.domain_zone.{proofs.NameLemmas.same_itself, specs.declared.listed.ListedOwners.ListedOwners}
+use Rattle.domain_zone.{proofs.NameLemmas.same_itself, specs.declared.owners.ListedOwners.ListedOwners}
 use Rattle.domain_record.specs.declared.record.Record.{Record}
 use Rattle.domain_records.specs.Order.{HoldsPairwise, MayFollow, IsInOrder}
 use Rattle.domain_bitmap.{specs.{Bitmap.bitmap_octets, Blocks.holds}, proofs.BitmapLemmas.bitmap_octets-same}
@@ -237,12 +237,7 @@ module _ (L : List ZoneRecord) (a : Name) (names : List Name) (bits : Bool → O
 
   pub at_start : {left : List OwnerRecords} {listed : ListedOwners} → left ≡ map (owner_at L a) names
       → listed.names.items ≡ [] → listed.types.items ≡ [] → IsListing left listed
-  at_start all named typed = record {
-    known = subst (AllByRecursion _) (sym all) (all_known L a names);
-    even = rw all (sym (any_map clashes_in (owner_at L a) names));
-    named = λ room. rw (named, all) (sym (names_back L a names));
-    typed = λ room. rw (typed, all, map-map bits_of (owner_at L a) names) refl;
-  }
+  at_start all named typed = grind (arith, common_steps, all_known, any_map, names_back, map-map)
 
 module _ {L : List ZoneRecord} {a : Name} {names : List Name} {bits : Bool → OwnerRecords → Octets} {left : List OwnerRecords}
     {listed : ListedOwners} (s : IsListing L a names bits left listed) where

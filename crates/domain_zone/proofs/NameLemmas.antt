@@ -138,14 +138,7 @@ common_front : (us : Name) (n : Label) (ws : Name) → ((rest : Name) → ws ≡
 common_front [] n [] h = refl
 common_front [] n (w ∷ ws) h = grind (arith, common_steps, (bytes_decides n w), (h ws))
 common_front (u ∷ us) n [] h = refl
-common_front (u ∷ us) n (w ∷ ws) h =
-    elim (cases_Bool (same_label u w)) [
-      | inl t ↦
-          let same : u ≡ w = (bytes_decides u w).0 t in
-          let up = common_front us n ws (λ rest p. h rest (λ j. sym same j ∷ p j)) in
-          rw (t, up) refl
-      | inr f ↦ rw f refl
-    ]
+common_front (u ∷ us) n (w ∷ ws) h = grind (arith, common_steps, (bytes_decides u w), (common_front us n ws), (h (w ∷ ws)))
 
 -- the name that two share has as many labels
 pub shared_length : (x y : Name) → length (shared x y) ≡ common_labels x y

@@ -18,8 +18,7 @@ module _ {X : Type 0} where
 
   pub all_in : (P : X → Type 0) (xs : List X) (y : X) → AllByRecursion P xs → In y xs → P y
   all_in P [] y h i = absurd i
-  all_in P (x ∷ xs) y h (inl e) = subst P e h.0
-  all_in P (x ∷ xs) y h (inr i) = all_in P xs y h.1 i
+  all_in P (x ∷ xs) y h i = grind (arith, common_steps, (all_in P xs y h.1))
 
   pub all_from_in : (P : X → Type 0) (xs : List X) → ((y : X) → In y xs → P y) → AllByRecursion P xs
   all_from_in P [] f = tt
@@ -116,8 +115,7 @@ module _ {X : Type 0} {lt : X → X → Bool} (o : IsStrictWeakOrder lt) where
   one_before k [] a x up low f =
       only_here (says x) (k, a) [] (falling_answer k a x low.0 ∙ (λ i. not (lt x k) || f i) ∙ or_true (not (lt x k))) tt
   one_before k (l ∷ ks) a x up low f =
-      only_later (says x) (k, l) (pairs (l ∷ ks) a) (grind (arith, common_steps, (rising_answer k l x up.0.0), (o.chain x k a)))
-      (one_before l ks a x up.1 low.1 f)
+      grind (arith, common_steps, only_later, (rising_answer k l x up.0.0), (o.chain x k a), (one_before l ks a x up.1 low.1 f))
 
   -- exactly one pair matches or covers any value at all
   pub one_matches_or_covers : (k : X) (ks : List X) (a x : X) → IsAscending lt (k ∷ ks)
@@ -130,31 +128,22 @@ module _ {X : Type 0} {lt : X → X → Bool} (o : IsStrictWeakOrder lt) where
   -- ---- gaps
 
   pub owner_in : (k : X) (ks : List X) (a : X) (p : X × X) → In p (pairs (k ∷ ks) a) → In p.0 (k ∷ ks)
-  owner_in k [] a p (inl e) = inl (ap (λ q. q.0) e)
-  owner_in k [] a p (inr i) = absurd i
-  owner_in k (l ∷ ks) a p (inl e) = inl (ap (λ q. q.0) e)
-  owner_in k (l ∷ ks) a p (inr i) = inr (owner_in l ks a p i)
+  owner_in k [] a p i = grind (arith, common_steps)
+  owner_in k (l ∷ ks) a p i = grind (arith, common_steps, (owner_in l ks a p))
 
   -- the next one is a later one, or the first
   pub next_is : (k : X) (ks : List X) (a : X) (p : X × X) → IsAscending lt (k ∷ ks) → In p (pairs (k ∷ ks) a)
       → ((lt p.0 p.1 ≡ true) × In p.1 (k ∷ ks)) ⊎ (a ≡ p.1)
-  next_is k [] a p up (inl e) = inr (ap (λ q. q.1) e)
-  next_is k [] a p up (inr i) = absurd i
-  next_is k (l ∷ ks) a p up (inl e) = grind (arith, common_steps)
-  next_is k (l ∷ ks) a p up (inr i) = grind (arith, common_steps, (next_is l ks a p up.1 i))
+  next_is k [] a p up i = grind (arith, common_steps)
+  next_is k (l ∷ ks) a p up i = grind (arith, common_steps, (next_is l ks a p up.1))
 
   -- y is at or before the owner, or at or after the next one, which is then after the owner
   abbrev pub IsApart : X → X × X → Type 0
   IsApart y p = (lt p.0 y ≡ false) ⊎ ((lt p.0 p.1 ≡ true) × (lt y p.1 ≡ false))
 
   pub gap : (k : X) (ks : List X) (a : X) (p : X × X) (y : X) → IsAscending lt (k ∷ ks) → In p (pairs (k ∷ ks) a) → In y (k ∷ ks) → IsApart y p
-  gap k [] a p y up (inl e) (inl f) = grind (arith, common_steps)
-  gap k [] a p y up (inl e) (inr j) = absurd j
-  gap k [] a p y up (inr i) j = absurd i
-  gap k (l ∷ ks) a p y up (inl e) (inl f) = grind (arith, common_steps)
-  gap k (l ∷ ks) a p y up (inl e) (inr j) = grind (arith, common_steps, all_in)
-  gap k (l ∷ ks) a p y up (inr i) (inl f) = grind (arith, common_steps, all_in, (owner_in l ks a p i))
-  gap k (l ∷ ks) a p y up (inr i) (inr j) = gap l ks a p y up.1 i j
+  gap k [] a p y up i j = grind (arith, common_steps)
+  gap k (l ∷ ks) a p y up i j = grind (arith, common_steps, all_in, (owner_in l ks a p), (gap l ks a p y up.1))
 
   -- ---- rings
 
@@ -198,13 +187,11 @@ module _ {X : Type 0} where
 
   pub in_either : (xs ys : List X) (x : X) → In x (xs ++ ys) → In x xs ⊎ In x ys
   in_either [] ys x i = inr i
-  in_either (y ∷ xs) ys x (inl e) = inl (inl e)
-  in_either (y ∷ xs) ys x (inr i) = elim (in_either xs ys x i) [ inl j ↦ inl (inr j) | inr j ↦ inr j ]
+  in_either (y ∷ xs) ys x i = grind (arith, common_steps, (in_either xs ys x))
 
   pub in_front : (xs ys : List X) (x : X) → In x xs → In x (xs ++ ys)
   in_front [] ys x i = absurd i
-  in_front (y ∷ xs) ys x (inl e) = inl e
-  in_front (y ∷ xs) ys x (inr i) = inr (in_front xs ys x i)
+  in_front (y ∷ xs) ys x i = grind (arith, common_steps, (in_front xs ys x))
 
   pub in_middle : (xs : List X) (x : X) (ys : List X) → In x (xs ++ x ∷ ys)
   in_middle [] x ys = inl refl
@@ -213,16 +200,13 @@ module _ {X : Type 0} where
 -- both of a pair are in the list, or the second is what follows the last
 pub in_pairs : {X : Type 0} (xs : List X) (first : X) (p : X × X) → In p (pairs xs first) → In p.0 xs × (In p.1 xs ⊎ (first ≡ p.1))
 in_pairs [] first p i = absurd i
-in_pairs (x ∷ []) first p (inl e) = (inl (ap (λ q. q.0) e), inr (ap (λ q. q.1) e))
-in_pairs (x ∷ []) first p (inr i) = absurd i
-in_pairs (x ∷ y ∷ xs) first p (inl e) = (inl (ap (λ q. q.0) e), inl (inr (inl (ap (λ q. q.1) e))))
-in_pairs (x ∷ y ∷ xs) first p (inr i) = grind (arith, common_steps, (in_pairs (y ∷ xs) first p i))
+in_pairs (x ∷ []) first p i = grind (arith, common_steps)
+in_pairs (x ∷ y ∷ xs) first p i = grind (arith, common_steps, (in_pairs (y ∷ xs) first p))
 
 module _ {X Y : Type 0} (f : X → Y) where
   pub in_map : (xs : List X) (x : X) → In x xs → In (f x) (map f xs)
   in_map [] x i = i
-  in_map (y ∷ xs) x (inl e) = inl (ap f e)
-  in_map (y ∷ xs) x (inr i) = inr (in_map xs x i)
+  in_map (y ∷ xs) x i = grind (arith, common_steps, (in_map xs x))
 
   pub from_map : (xs : List X) (y : Y) → In y (map f xs) → (x : X) × In x xs × (f x ≡ y)
   from_map [] y i = absurd i

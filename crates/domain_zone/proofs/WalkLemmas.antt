@@ -200,10 +200,7 @@ occluder_owns d L a c h = grind (arith, common_steps, typed_owns)
 
 -- a name strictly below what occludes is occluded
 pub below_occluder : (d : Bool) (L : List ZoneRecord) (a c x : Name) → occludes d L a c ≡ true → is_strictly_below x c ≡ true → is_occluded d L a x ≡ true
-below_occluder d L a c x h s =
-    let q = any_in _ L (occluder_owns d L a c h) in
-    let same = one_lowered q.0.owner c q.2 in
-    in_any _ L q.0 q.1 (grind (arith, common_steps))
+below_occluder d L a c x h s = grind (arith, common_steps, (any_in (λ r. same_name r.owner c) L (occluder_owns d L a c h)), in_any, one_lowered)
 
 -- ---- The walk: what it has left to give is told by the records that are left and by the last name that occludes.
 

@@ -4,7 +4,7 @@ use Rattle.std.specs.Prelude.{ℕ, ◌<◌, Bool, true, false, not, ◌&&◌, �
 use Rattle.std.specs.{Prelude.if◌then◌else◌, List.{list_any, AllByRecursion}}
 use Rattle.domain_base.specs.Types.{ns, ds, dname, rrsig, soa}
 use Rattle.domain_names.specs.Name.{is_at_or_below, is_strictly_below, same_name, before, Name}
-use Rattle.domain_zone.specs.declared.{soa.ApexSoa.ApexSoa, owners.UnoccludedOwner.UnoccludedOwner, listed.ListedOwners.ListedOwners}
+use Rattle.domain_zone.specs.declared.{soa.ApexSoa.ApexSoa, owners.UnoccludedOwner.UnoccludedOwner, owners.ListedOwners.ListedOwners}
 use Rattle.domain_record.specs.declared.record.Record.{Record}
 use Rattle.domain_octets.specs.Octets.{Octets}
 use Rattle.domain_records.specs.declared.error.SigningError.{SigningError, TheVariants.{MultipleTtlValues, OutOfMemory}}

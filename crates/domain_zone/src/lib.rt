@@ -10,12 +10,11 @@
 #![tactic(auto)]
 
 pub mod laws;
-mod listed;
 mod owners;
 mod soa;
 
-pub use listed::{
-    ChainTypes, ListedOwners, add_type, add_types, list_owners, list_types, uneven_type,
+pub use owners::{
+    ChainTypes, ListedOwners, UnoccludedOwner, UnoccludedOwners, add_type, add_types, has_type,
+    list_owners, list_types, uneven_type,
 };
-pub use owners::{UnoccludedOwner, UnoccludedOwners, has_type};
 pub use soa::{ApexSoa, find_soa};

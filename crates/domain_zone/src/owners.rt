@@ -1,11 +1,20 @@
-//! The owners of a zone that are not occluded.
-ghost use Rattle.std.specs.{Prelude.{◌≡◌, ◌&&◌, map, not}, Option.option_map};
-ghost use Rattle.domain_base.specs.Types.{ds};
-ghost use Rattle.domain_zone.specs.Zone.{zone_of, is_passed_over, has_type};
+//! The owners of a zone that are not occluded, and the types of each, gathered into a set.
+ghost use Rattle.std.specs.Prelude.{◌≡◌, ◌&&◌, ◌||◌, ◌==◌, ℕ, ◌<◌, OnOk, ◌≤◌, false, IfNone, IfSome, ◌∷◌, ◌++◌, []};
+ghost use Rattle.std.specs.{Prelude.{Bool, IfOk, IfErr, IsOkAnd, map, not}, Option.option_map};
+ghost use Rattle.domain_base.specs.Types.{dnskey, ds, rrsig};
+ghost use Rattle.domain_bitmap.specs.{Bitmap.bitmap_octets, Blocks.holds};
+ghost use Rattle.domain_zone.specs.Zone.{zone_of, as_zone_record, may_list, lists_type, clashes, has_clash};
+ghost use Rattle.domain_zone.specs.Zone.{IsFirstClash, AreListed, IsListingFault, covered_names, OwnerRecords};
+ghost use Rattle.domain_zone.specs.Zone.{as_owner_records, has_type, is_passed_over};
+ghost use Rattle.domain_records.specs.Order.{HoldsPairwise, IsInOrder};
+ghost use Rattle.domain_octets.specs.Octets.{Octets};
 
-use domain_base::{Rtype, ToName};
+use domain_base::{ParsedName, Rtype, ToName};
+use domain_bitmap::{RtypeBitmap, RtypeBitmapBuilder};
+use domain_octets::{GrowingBuilder, Octets, OctetsFrom, OutOfMemory, SmallOctets};
 use domain_record::{Record, ZoneData};
-use domain_records::{OwnerRrs, RecordsIter, SliceRefsOrOwnedIterator};
+use domain_records::{OwnerRrs, RecordsIter, SigningError, SliceRefsOrOwnedIterator};
+use std::alloc::Global;
 use std::marker::Model;
 
 /// Whether some record is of this type.
@@ -142,4 +151,242 @@ impl<'a, N: ToName, D: ZoneData> Iterator for UnoccludedOwners<'a, N, D> {
         }
         None
     }
+}
+
+/// Whether a chain may list a type of an owner: at a zone cut those of NS and DS alone.
+fn may_list(at_cut: bool, rtype: Rtype) -> bool
+    ensures { result ≡ may_list at_cut rtype }
+{
+    !at_cut || rtype == Rtype::NS || rtype == Rtype::DS
+}
+
+/// Adds a type to a set that grows.
+///
+/// # Errors
+///
+/// `OutOfMemory`; the set is then as it was.
+pub fn add_type<B: GrowingBuilder>(
+    types: &mut RtypeBitmapBuilder<B>,
+    rtype: Rtype,
+) -> Result<(), OutOfMemory>
+    ensures { OnOk result ((t : ℕ) → t < 65536
+        → holds types.new t ≡ (t == rtype || holds types.old t)) }
+{
+    types.add(rtype).map_err(|_| OutOfMemory)
+}
+
+/// Adds the types of an owner's records that a chain lists: all, and at a zone cut those of NS and
+/// DS alone (RFC 4035, section 2.3).
+///
+/// # Errors
+///
+/// `OutOfMemory`; some types may then have been added.
+#[tactic(auto, using(crate::proofs::GivenLemmas::list_more, crate::proofs::GivenLemmas::list_not))]
+pub fn add_types<B: GrowingBuilder, N: ToName, D: ZoneData>(
+    types: &mut RtypeBitmapBuilder<B>,
+    mut records: SliceRefsOrOwnedIterator<'_, Record<N, D>>,
+    at_cut: bool,
+) -> Result<(), OutOfMemory>
+    ensures { OnOk result ((t : ℕ) → t < 65536
+        → holds types.new t ≡ (holds types.old t
+        || lists_type at_cut (zone_of N.labels D.rtype D.minimum records.entry) t)) }
+{
+    'records: while let Some(record) = records.next() {
+        if may_list(at_cut, record.rtype()) {
+            add_type(types, record.rtype())?;
+        }
+    }
+    Ok(())
+}
+
+/// Adds a type where it is wanted.
+fn add_wanted<B: GrowingBuilder>(
+    types: &mut RtypeBitmapBuilder<B>,
+    rtype: Rtype,
+    wanted: bool,
+) -> Result<(), OutOfMemory>
+    ensures { OnOk result ((t : ℕ) → t < 65536
+        → holds types.new t ≡ (((t == rtype) && wanted) || holds types.old t)) }
+{
+    if wanted {
+        add_type(types, rtype)?;
+    }
+    Ok(())
+}
+
+/// The types that a chain lists of an owner: RRSIG, a type of the chain's own, and DNSKEY, each
+/// where it is wanted, and those of the owner's records as `add_types` has them.
+///
+/// # Errors
+///
+/// `OutOfMemory`.
+pub fn list_types<N: ToName, D: ZoneData>(
+    alloc: Global,
+    owner: &UnoccludedOwner<'_, N, D>,
+    wants_rrsig: bool,
+    own: Rtype,
+    wants_own: bool,
+    wants_dnskey: bool,
+) -> Result<RtypeBitmap<Vec<u8>>, OutOfMemory>
+    ensures { IfOk result (λ types. types ≡ bitmap_octets (λ t.
+        (((t == rrsig) && wants_rrsig) || ((t == own) && wants_own)
+        || ((t == dnskey) && wants_dnskey))
+        || lists_type owner.now.is_zone_cut
+        (zone_of N.labels D.rtype D.minimum owner.now.records) t)) }
+{
+    let mut types = RtypeBitmapBuilder::<Vec<u8>>::new(alloc);
+    add_wanted(&mut types, Rtype::RRSIG, wants_rrsig)?;
+    add_wanted(&mut types, own, wants_own)?;
+    add_wanted(&mut types, Rtype::DNSKEY, wants_dnskey)?;
+    add_types(&mut types, owner.records.records(), owner.is_zone_cut)?;
+    Ok(types.finalize())
+}
+
+/// Whether two records of one type other than RRSIG differ in their TTLs.
+fn clash<N: ToName, D: ZoneData>(first: &Record<N, D>, second: &Record<N, D>) -> bool
+    ensures { result ≡ clashes (as_zone_record N.labels D.rtype D.minimum first.now)
+        (as_zone_record N.labels D.rtype D.minimum second.now) }
+{
+    let rtype = first.rtype();
+    rtype == second.rtype() && rtype != Rtype::RRSIG && first.ttl() != second.ttl()
+}
+
+/// The first type other than RRSIG of which two of these records, whose types never descend, differ
+/// in their TTLs (RFC 2181, section 5.2); None where there is none. Looks at neighbours alone.
+pub fn uneven_type<N: ToName, D: ZoneData>(
+    mut records: SliceRefsOrOwnedIterator<'_, Record<N, D>>,
+) -> Option<Rtype>
+    requires { HoldsPairwise (λ r s. D.rtype r.«data» ≤ D.rtype s.«data») records }
+    ensures some { IfSome result
+        (IsFirstClash (zone_of N.labels D.rtype D.minimum records.entry)) }
+    ensures none { IfNone result
+        (has_clash (zone_of N.labels D.rtype D.minimum records.entry) ≡ false) }
+{
+    let Some(first) = records.next() else {
+        return None;
+    };
+    let mut previous = first;
+    'neighbours: while let Some(record) = records.next() {
+        if clash(previous, record) {
+            return Some(record.rtype());
+        }
+        previous = record;
+    }
+    None
+}
+
+/// Names of a chain that own records, and the types of each. Once memory was wanting for one it is
+/// full, and is given no other: so the walk that gathers them goes on, and finds the faults of the
+/// owners that are left.
+#[derive(Drop)]
+pub struct ListedOwners<'a> {
+    /// The names.
+    pub names: Vec<ParsedName<'a>>,
+    /// The types of each, whose octets mostly lie in the value itself.
+    pub types: Vec<RtypeBitmap<SmallOctets>>,
+    /// Whether memory was wanting.
+    pub is_full: bool,
+}
+
+impl<'a> ListedOwners<'a> {
+    /// No owners. Takes no memory.
+    fn new(alloc: Global) -> Self
+        ensures room { result.is_full ≡ false }
+        ensures names { result.names.items ≡ [] }
+        ensures types { result.types.items ≡ [] }
+    {
+        ListedOwners {
+            names: Vec::new(alloc),
+            types: Vec::new(alloc),
+            is_full: false,
+        }
+    }
+
+    /// Adds an owner with its types; where there was no memory for these, or is none to add them,
+    /// it is full.
+    fn add<O: Octets + Drop>(
+        &mut self,
+        name: ParsedName<'a>,
+        types: Result<RtypeBitmap<O>, OutOfMemory>,
+    )
+        ensures room { self.new.is_full ≡ false → self.old.is_full ≡ false }
+        ensures names { self.new.is_full ≡ false
+            → self.new.names.items ≡ self.old.names.items ++ name.entry ∷ [] }
+        ensures types { self.new.is_full ≡ false
+            → IsOkAnd types (λ own. self.new.types.items ≡ self.old.types.items ++ own ∷ []) }
+    {
+        let Ok(types) = types else {
+            self.is_full = true;
+            return;
+        };
+        let Ok(types) = RtypeBitmap::try_octets_from(*self.types.allocator(), types) else {
+            self.is_full = true;
+            return;
+        };
+        if self.types.push(types).is_err() || self.names.push(name).is_err() {
+            self.is_full = true;
+        }
+    }
+}
+
+/// Which types a chain lists of an owner.
+pub trait ChainTypes {
+    /// The octets of the type bitmap of an owner, which is the apex or not.
+    ghost bits: { Self → Bool → OwnerRecords → Octets };
+
+    /// The types of an owner, which is the apex or not.
+    ///
+    /// # Errors
+    ///
+    /// `OutOfMemory`.
+    fn types_of<N: ToName, D: ZoneData>(
+        &self,
+        alloc: Global,
+        owner: &UnoccludedOwner<'_, N, D>,
+        is_apex: bool,
+    ) -> Result<RtypeBitmap<Vec<u8>>, OutOfMemory>
+        ensures { IfOk result (λ types. types ≡ bits self.now is_apex
+            (as_owner_records N.labels D.rtype D.minimum owner.now)) };
+}
+
+/// The owners that `UnoccludedOwners::new` goes over, each with the types that a chain lists.
+///
+/// # Errors
+///
+/// `MultipleTtlValues` where two records of one of them and one type other than RRSIG differ in
+/// TTL; else `OutOfMemory`.
+pub fn list_owners<'a, N: ToName, D: ZoneData, T: ChainTypes>(
+    alloc: Global,
+    apex: &'a N,
+    records: RecordsIter<'a, N, D>,
+    without_unsigned: bool,
+    below_dname: bool,
+    types: &T,
+) -> Result<ListedOwners<'a>, SigningError>
+    requires { IsInOrder N.labels D.rtype records }
+    ensures owners { IfOk result (AreListed (T.bits types.now)
+        (zone_of N.labels D.rtype D.minimum records.entry) (N.labels apex.now)
+        (covered_names without_unsigned below_dname
+        (zone_of N.labels D.rtype D.minimum records.entry) (N.labels apex.now))) }
+    ensures fault { IfErr result (IsListingFault
+        (zone_of N.labels D.rtype D.minimum records.entry)
+        (covered_names without_unsigned below_dname
+        (zone_of N.labels D.rtype D.minimum records.entry) (N.labels apex.now))) }
+{
+    let mut left = UnoccludedOwners::new(apex, records, without_unsigned, below_dname);
+    let mut owners = ListedOwners::new(alloc);
+    'owners: while let Some(owner) = left.next() {
+        if uneven_type(owner.records.records()).is_some() {
+            return Err(SigningError::MultipleTtlValues);
+        }
+        if owners.is_full {
+            continue;
+        }
+        let listed = types.types_of(alloc, &owner, owner.name.name_eq(apex));
+        owners.add(owner.name.as_parsed(), listed);
+    }
+    if owners.is_full {
+        return Err(SigningError::OutOfMemory);
+    }
+    Ok(owners)
 }

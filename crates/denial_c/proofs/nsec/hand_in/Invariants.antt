@@ -2,7 +2,7 @@ use Rattle.std.proofs.Common.{ℕ, List, ◌++◌, length}
 use Rattle.domain_base.specs.Types as rtypes
 use Rattle.domain_names.specs.Name.{Name}
 use Rattle.domain_nsec.specs.Chain.{Link}
-use Rattle.domain_checker.specs.{Reading.HasRead, declared.nsec_check.NsecCheck.NsecCheck}
+use Rattle.domain_checker.specs.{Reading.HasRead, declared.nsec.NsecCheck.NsecCheck}
 use Rattle.domain_borrowed.specs.Data.{nsec_record, IsNsec}
 use Rattle.denial_c.{specs.Result.is_of, proofs.AmongLemmas.IsRead}
 use Rattle.denial_c.proofs.nsec.hand_in.Given as goal

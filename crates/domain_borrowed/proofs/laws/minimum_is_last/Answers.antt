@@ -1,6 +1,6 @@
 use Rattle.domain_fields.specs.Layout.{lower}
 use Rattle.domain_plain.specs.Plain.{soa, soa_values}
-use Rattle.domain_borrowed.proofs.MinimumLemmas.{minimum_last}
+use Rattle.domain_borrowed.proofs.DataLemmas.{minimum_last}
 use Rattle.domain_borrowed.proofs.laws.minimum_is_last.Goals as goal
 
 pub returns : goal.returns

@@ -1,4 +1,4 @@
-use Rattle.domain_checker.proofs.HashedListLemmas.{cover_denies, match_is_of_name}
+use Rattle.domain_checker.proofs.HashedVerdictLemmas.{cover_denies, match_is_of_name}
 use Rattle.domain_checker.proofs.laws.hashes_tell_of_names.Goals as goal
 
 pub returns-clause-matches : goal.returns-clause-matches

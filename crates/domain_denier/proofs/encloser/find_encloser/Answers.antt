@@ -1,7 +1,7 @@
 use Rattle.std.proofs.{Common.{◌≡◌, false, sym, ap, subst, ◌∙◌, inl, inr, arith, None}, lemmas.{Grind.common_steps, Result.err_from_is_err_and}}
 use Rattle.domain_names.specs.Name.{lowered, same_name, wire_of}
 use Rattle.domain_nsec3.specs.View.{hash_by}
-use Rattle.domain_checker.proofs.HashedListLemmas.{wire_above}
+use Rattle.domain_checker.proofs.HashedVerdictLemmas.{wire_above}
 use Rattle.domain_denier.{proofs.HashedPickLemmas.{none_placed, reached_above, reached_here, refused_at}, specs.HashedPicked.IsReached}
 use Rattle.domain_denier.proofs.encloser.find_encloser.Goals as goal
 

@@ -1,5 +1,5 @@
 use Rattle.std.proofs.{Common.{◌∙◌, subst}, lemmas.List.Elements.All-contains_itself}
-use Rattle.domain_checker.{specs.Verdict.IsProved, proofs.AlikeLemmas.contained_alike}
+use Rattle.domain_checker.{proofs.MeantLemmas.contained_alike, specs.Verdict.IsProved}
 use Rattle.domain_dnssec.proofs.AnyOrderLemmas.{of_zone}
 use Rattle.domain_dnssec.proofs.laws.verdicts_tell_of_records.Goals as goal
 

@@ -1,4 +1,4 @@
-use Rattle.domain_nsec.proofs.EncloserLemmas.{means_the_zone}
+use Rattle.domain_nsec.proofs.ChainLemmas.{means_the_zone}
 use Rattle.domain_nsec.proofs.laws.chains_mean_the_zone.Goals as goal
 
 pub returns : goal.returns

@@ -1,9 +1,9 @@
 use Rattle.std.proofs.{Common.{List, refl, ◌∙◌, arith}, lemmas.{Grind.common_steps, Result.err_from_is_err_and}}
 use Rattle.domain_zone.{specs.Zone.{AreListed, chain_ttl, zone_of, ZoneRecord}, proofs.{WalkLemmas.owners_in_order, GivenLemmas.soa_owned}}
-use Rattle.domain_nsec3.{specs.{Chain.{ChainConfig, IsReady, original_owners}, Steps.common_of, View.config_of}, proofs.ChainLemmas.{apart_hashes, bits}}
-use Rattle.domain_nsec3.proofs.{ChainLemmas.{listing_fault, originals_typed}, OwnerLemmas.apex_original, OutcomeLemmas.{AreGathered, original_ascend}}
-use Rattle.domain_nsec3.proofs.{OutcomeLemmas.{original_below, outcome_chain, outcome_hashed, outcome_fault, outcome_usable}, chain.chain_of_zone.Given.Over}
-use Rattle.domain_nsec3.proofs.chain.chain_of_zone.Goals.{In_ok-owners, In_ok-names}
+use Rattle.domain_nsec3.proofs.ChainLemmas.{AreGathered, apart_hashes, bits, listing_fault, original_ascend, original_below, originals_typed, outcome_chain}
+use Rattle.domain_nsec3.proofs.{ChainLemmas.{outcome_fault, outcome_hashed, outcome_usable}, OwnerLemmas.apex_original, chain.chain_of_zone.Given.Over}
+use Rattle.domain_nsec3.{proofs.chain.chain_of_zone.Goals.{In_ok-names, In_ok-owners}, specs.{Chain.{ChainConfig, IsReady, original_owners}, Steps.common_of}}
+use Rattle.domain_nsec3.specs.View.{config_of}
 use Rattle.domain_nsec3.proofs.chain.chain_of_zone.Goals as goal
 
 -- the zone to sign, and how

@@ -1,7 +1,7 @@
 use Rattle.std.proofs.{Common.{List, sym, subst, inr}, lemmas.Result.err_from_is_err_and}
 use Rattle.domain_names.specs.Name.{Name}
-use Rattle.domain_nsec3.specs.{Steps.{AreHashesOf, AreOrderedHashes}, View.{hash_by, parameters_of}}
-use Rattle.domain_nsec3.proofs.{HashLemmas.moved_hashes, chain.hash_chain.{Given.Over, Goals.In_ok-sort_by_hash}}
+use Rattle.domain_nsec3.{proofs.{OwnerLemmas.moved_hashes, chain.hash_chain.{Given.Over, Goals.In_ok-sort_by_hash}}, specs.Steps.AreHashesOf}
+use Rattle.domain_nsec3.specs.{Steps.AreOrderedHashes, View.{hash_by, parameters_of}}
 use Rattle.domain_nsec3.proofs.chain.hash_chain.Goals as goal
 
 -- what was put in order are the hashes of the names
@@ -25,5 +25,7 @@ returns-in_err-without_collision-clause-fault g c =
     let p = err_from_is_err_and c.from_residual-in_err-without_collision.result c.from_residual-in_err-without_collision.ensures.1 in
     rw (p.1, p.2) (inr (inr (
       c.in_err-without_collision.ensures.err.0,
-      record { ordered = c.sort_by_hash.new.hashed.items; hashes = hashes g at; alike = c.in_err-without_collision.ensures.err.1 },
+      c.sort_by_hash.new.hashed.items,
+      hashes g at,
+      c.in_err-without_collision.ensures.err.1,
     )))

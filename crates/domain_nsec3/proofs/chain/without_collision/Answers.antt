@@ -1,5 +1,5 @@
 use Rattle.std.proofs.{Common.{arith, refl, rules}, lemmas.{Grind.common_steps, Fn.always_returns_same}}
-use Rattle.domain_nsec3.proofs.HashLemmas.{alike_at, is_less, keys_ascend}
+use Rattle.domain_nsec3.proofs.OwnerLemmas.{alike_at, is_less, keys_ascend}
 use Rattle.domain_nsec3.proofs.chain.without_collision.Goals as goal
 
 pub returns-then-not-is_sorted_by-clause-err : goal.returns-then-not-is_sorted_by-clause-err

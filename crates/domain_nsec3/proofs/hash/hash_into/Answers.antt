@@ -1,5 +1,5 @@
 use Rattle.std.proofs.{lemmas.{Result.err_from_is_err_and, Grind.common_steps}, Common.arith}
-use Rattle.domain_nsec3.{proofs.HashLemmas.{all_hashed, first_refused, one_hashed}}
+use Rattle.domain_nsec3.proofs.OwnerLemmas.{all_hashed, first_refused, one_hashed}
 use Rattle.domain_nsec3.proofs.hash.hash_into.Goals as goal
 
 pub loop-place-preserved : goal.loop-place-preserved

@@ -1,5 +1,5 @@
 use Rattle.std.specs.Prelude.{◌≡◌, ◌≤◌, length, vec_capacity, vec_len}
-use Rattle.domain_nsec3.{specs.View.{hash_by, parameters_of}, proofs.HashLemmas.AreHashed}
+use Rattle.domain_nsec3.{proofs.OwnerLemmas.AreHashed, specs.View.{hash_by, parameters_of}}
 use Rattle.domain_nsec3.proofs.hash.hash_into.Given as goal
 
 abbrev pub invariant-loop-place : goal.invariant-loop-place

@@ -1,5 +1,5 @@
 use Rattle.std.proofs.{Common.{◌∙◌, arith}, lemmas.Grind.common_steps}
-use Rattle.domain_nsec3.proofs.HashLemmas.{owner_made, owner_room}
+use Rattle.domain_nsec3.proofs.OwnerLemmas.{owner_made, owner_room}
 use Rattle.domain_nsec3.proofs.hash.make_owner.Goals as goal
 
 pub write_hash-label-requires : goal.write_hash-label-requires

@@ -1,5 +1,5 @@
 use Rattle.std.proofs.{Common.arith, lemmas.Grind.common_steps}
-use Rattle.domain_nsec3.proofs.MeaningLemmas.{means_the_zone}
+use Rattle.domain_nsec3.proofs.ChainLemmas.{means_the_zone}
 use Rattle.domain_nsec3.proofs.nsec3.generate_nsec3s.Goals as goal
 
 pub returns-clause-chain : goal.returns-clause-chain
