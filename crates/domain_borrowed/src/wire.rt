@@ -6,7 +6,7 @@ ghost use Rattle.domain_borrowed.specs.Data.{RawRecord, raw_record, raw_record_o
 
 use crate::{BorrowedData, BorrowedRecord};
 use domain_base::{Class, ParsedName, Rtype, ToName, Ttl};
-use domain_fields::{Fields, ReadFields};
+use domain_fields::{Fields, Form, ReadFields};
 use domain_octets::{AppendError, OctetsBuilder, Parser};
 use domain_record::{ComposeRecordData, Record};
 
@@ -64,7 +64,7 @@ pub fn compose_parts<N: ToName, D: ComposeRecordData, B: OctetsBuilder>(
     let numbers = (class.to_int(), (ttl.as_secs(), count));
     let header: Header<'_> = (owner.as_parsed(), (data.rtype().to_int(), numbers));
     header.fits();
-    header.put(target)?;
+    header.put(Form::Wire, target)?;
     data.compose_rdata(target)
 }
 
