@@ -9,7 +9,8 @@ use Rattle.domain_octets.specs.{declared.error.AppendError.AppendError, Octets.{
 use Rattle.domain_bitmap.proofs.BlockLemmas.{bitmap_fault}
 use Rattle.domain_fields.specs.Layout.{Layout, ◌▸◌, Values, octets_of, one, Begins, in_field, in_first, in_later, GoesOn, Fits, lower, lower_field}
 use Rattle.domain_fields.specs.Layout.{canonical_of, canonical_order, is_delimited, is_delimited_field, splits, Appended, Stops, Appends, octet, short, long}
-use Rattle.domain_fields.specs.{Layout.{name, spelled_name, counted, exactly, at_most, IsCut, Field, Value, field_octets, FieldFits, in_form}, declared.form.Form.Form}
+use Rattle.domain_fields.specs.Layout.{name, spelled_name, counted, exactly, at_most, IsCut, Field, Value, field_octets, FieldFits, in_form}
+use Rattle.domain_fields.specs.declared.form.Form.{Form}
 use Rattle.std.specs.Hash as fed
 
 -- ---- names as fields
