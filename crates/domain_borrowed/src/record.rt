@@ -13,7 +13,7 @@ ghost use Rattle.domain_borrowed.specs.Data.{record_octets, IsRecord};
 
 use domain_base::{CanonicalOrd, Class, ParsedName, Rtype, ToName, Ttl};
 use domain_chain_rdata::{Nsec, Nsec3, Nsec3param};
-use domain_fields::{Fields, ReadFields};
+use domain_fields::{Fields, Form, ReadFields};
 use domain_octets::{AppendError, OctetsBuilder, OutOfMemory, Parser, TryClone};
 use domain_record::{ComposeRecordData, Record, RecordData, ZoneData};
 use std::cmp::Ordering;
@@ -263,12 +263,9 @@ pub fn read_record<'a>(parser: &mut Parser<'a>) -> Option<BorrowedRecord<'a>>
     let Ok(octets) = parser.parse_octets(usize::from(count)) else {
         return None;
     };
-    Some(Record::new(
-        owner,
-        Class::from_int(class),
-        Ttl::from_secs(ttl),
-        BorrowedData::new(Rtype::from_int(rtype), octets),
-    ))
+    let (class, ttl) = (Class::from_int(class), Ttl::from_secs(ttl));
+    let data = BorrowedData::new(Rtype::from_int(rtype), octets);
+    Some(Record::new(owner, class, ttl, data))
 }
 
 /// Appends a record of these parts as a message has it, without compression (RFC 1035, sections
@@ -299,7 +296,7 @@ pub fn compose_parts<N: ToName, D: ComposeRecordData, B: OctetsBuilder>(
     let numbers = (class.to_int(), (ttl.as_secs(), count));
     let header: Header<'_> = (owner.as_parsed(), (data.rtype().to_int(), numbers));
     header.fits();
-    header.put(target)?;
+    header.put(Form::Wire, target)?;
     data.compose_rdata(target)
 }
 
@@ -317,11 +314,6 @@ pub fn compose_record<N: ToName, D: ComposeRecordData, B: OctetsBuilder>(
         (record_octets (raw_record_of N.labels D.rtype D.octets source.now)) }
     ensures fits { IsRecord (raw_record_of N.labels D.rtype D.octets source.now) }
 {
-    compose_parts(
-        source.owner(),
-        source.class(),
-        source.ttl(),
-        source.data(),
-        target,
-    )
+    let (class, ttl) = (source.class(), source.ttl());
+    compose_parts(source.owner(), class, ttl, source.data(), target)
 }

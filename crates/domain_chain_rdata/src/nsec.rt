@@ -7,8 +7,8 @@ ghost use Rattle.std.specs.List.{flat_map};
 ghost use Rattle.domain_octets.specs.Octets.{IsOver};
 ghost use Rattle.domain_names.specs.Name.{same_name, canonical_cmp as name_cmp, canonical_cmp_total};
 ghost use Rattle.domain_names.specs.{Laws.same_name_equiv, Wire.fault_of, Text.name_text};
-ghost use Rattle.domain_fields.specs.Layout.{same_values_tie, ties_of_both, octets_of, canonical_of, Begins};
-ghost use Rattle.domain_fields.specs.Layout.{FirstFault, Reads};
+ghost use Rattle.domain_fields.specs.Layout.{same_values_tie, ties_of_both, octets_of, canonical_of};
+ghost use Rattle.domain_fields.specs.Layout.{Reads};
 ghost use Rattle.domain_chain_rdata.specs.Rdata.{nsec, nsec_values, nsec_hashed, nsec_fed};
 ghost use Rattle.domain_chain_rdata.specs.{NsecConvert.{IsNsecClone, IsSameNsec}, Text.{NsecText, RefusesNsec}};
 ghost use Rattle.domain_chain_rdata.specs.Text.{nsec_pieces};
@@ -19,7 +19,7 @@ ghost use Rattle.domain_base.specs.Types as rtypes;
 
 use domain_base::{CanonicalOrd, ParsedName, Rtype, ScanError, Scanner, ToName};
 use domain_bitmap::RtypeBitmap;
-use domain_fields::{Fields, MAX_RDLEN, ReadFields, Spelled};
+use domain_fields::{Fields, Form, ReadFields, Spelled};
 use domain_octets::{
     AppendError, CopyOctets, EmptyBuilder, Formatter, FreezeBuilder, FromBuilder, Octets,
     OctetsBuilder, OctetsFrom, OutOfMemory, ParseError, Parser, Truncate, TryClone, ZonefileFmt,
@@ -105,9 +105,9 @@ impl<'a> Nsec<&'a [u8], ParsedName<'a>> {
 impl<'a> ParseRecordData<'a> for Nsec<&'a [u8], ParsedName<'a>> {
     ghost is_read = { λ rtype. rtype ≡ rtypes.nsec };
 
-    ghost begins = { λ octets d after. Begins nsec octets (nsec_values (λ name. name) d) after };
+    ghost layout = { nsec };
 
-    ghost faults = { FirstFault nsec };
+    ghost values = { nsec_values (λ name. name) };
 
     fn parse_rdata(rtype: Rtype, parser: &mut Parser<'a>) -> Result<Option<Self>, ParseError> {
         if rtype != Rtype::NSEC {
@@ -130,20 +130,12 @@ impl<O: Octets, N: ToName> ComposeRecordData for Nsec<O, N> {
 
     ghost canonical = { λ d. canonical_of nsec (nsec_values N.labels d) };
 
-    fn fits_rdlen(&self) -> bool {
-        self.fields().room_after(MAX_RDLEN).is_some()
+    fn room_after(&self, limit: usize) -> Option<usize> {
+        self.fields().room_after(limit)
     }
 
-    fn rdlen(&self, _compress: bool) -> Option<u16> {
-        Some(self.fields().count())
-    }
-
-    fn compose_rdata<B: OctetsBuilder>(&self, target: &mut B) -> Result<(), AppendError> {
-        self.fields().put(target)
-    }
-
-    fn compose_canonical_rdata<B: OctetsBuilder>(&self, target: &mut B) -> Result<(), AppendError> {
-        self.fields().put_canonical(target)
+    fn compose_in<B: OctetsBuilder>(&self, form: Form, target: &mut B) -> Result<(), AppendError> {
+        self.fields().put(form, target)
     }
 
     fn canonical_cmp_octets(&self, other: &[u8]) -> Ordering {

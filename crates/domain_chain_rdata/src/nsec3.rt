@@ -4,7 +4,7 @@ ghost use Rattle.std.specs.{Ordering.{on, nat_cmp}, Cmp.{partial_equiv_from_equi
 ghost use Rattle.std.specs.{Cmp.Lexicographic.{slice_cmp, on_texts, on_texts_equal}, List.flat_map};
 ghost use Rattle.domain_octets.specs.Octets.{IsOver};
 ghost use Rattle.domain_names.specs.Wire.{fault_of};
-ghost use Rattle.domain_fields.specs.Layout.{copies_tied, fed_alike, tied_octets, Begins, FirstFault, Fits};
+ghost use Rattle.domain_fields.specs.Layout.{copies_tied, fed_alike, tied_octets, Fits};
 ghost use Rattle.domain_fields.specs.Layout.{Reads};
 ghost use Rattle.domain_chain_rdata.specs.Rdata.{is_opt_out, opt_out_comment, nsec3, nsec3_values};
 ghost use Rattle.domain_chain_rdata.specs.{Rdata.{nsec3_octets, nsec3param_values}, Text.Nsec3Text};
@@ -18,7 +18,7 @@ use crate::Nsec3param;
 use crate::nsec3param::{HashNumbers, ParamFields, has_opt_out, params_of, write_numbers};
 use domain_base::{CanonicalOrd, Nsec3HashAlgorithm, Rtype, ScanError, Scanner};
 use domain_bitmap::{Nsec3Salt, OwnerHash, RtypeBitmap};
-use domain_fields::{Counted, Fields, MAX_RDLEN, ReadFields};
+use domain_fields::{Counted, Fields, Form, ReadFields};
 use domain_octets::{
     AppendError, CopyOctets, EmptyBuilder, Formatter, FreezeBuilder, FromBuilder, Octets,
     OctetsBuilder, OctetsFrom, OutOfMemory, ParseError, Parser, Truncate, TryClone, ZonefileFmt,
@@ -208,9 +208,9 @@ impl<'a> Nsec3<&'a [u8]> {
 impl<'a> ParseRecordData<'a> for Nsec3<&'a [u8]> {
     ghost is_read = { λ rtype. rtype ≡ rtypes.nsec3 };
 
-    ghost begins = { λ octets d after. Begins nsec3 octets (nsec3_values d) after };
+    ghost layout = { nsec3 };
 
-    ghost faults = { FirstFault nsec3 };
+    ghost values = { nsec3_values };
 
     fn parse_rdata(rtype: Rtype, parser: &mut Parser<'a>) -> Result<Option<Self>, ParseError> {
         if rtype != Rtype::NSEC3 {
@@ -233,20 +233,12 @@ impl<O: Octets> ComposeRecordData for Nsec3<O> {
 
     ghost canonical = { nsec3_octets };
 
-    fn fits_rdlen(&self) -> bool {
-        self.fields().room_after(MAX_RDLEN).is_some()
+    fn room_after(&self, limit: usize) -> Option<usize> {
+        self.fields().room_after(limit)
     }
 
-    fn rdlen(&self, _compress: bool) -> Option<u16> {
-        Some(self.fields().count())
-    }
-
-    fn compose_rdata<B: OctetsBuilder>(&self, target: &mut B) -> Result<(), AppendError> {
-        self.fields().put(target)
-    }
-
-    fn compose_canonical_rdata<B: OctetsBuilder>(&self, target: &mut B) -> Result<(), AppendError> {
-        self.fields().put_canonical(target)
+    fn compose_in<B: OctetsBuilder>(&self, form: Form, target: &mut B) -> Result<(), AppendError> {
+        self.fields().put(form, target)
     }
 
     fn canonical_cmp_octets(&self, other: &[u8]) -> Ordering {

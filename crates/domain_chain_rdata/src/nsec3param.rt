@@ -4,7 +4,7 @@ ghost use Rattle.std.specs.{Prelude.OnOk, List.flat_map, Ordering.{on, nat_cmp},
 ghost use Rattle.std.specs.Cmp.{po, Lexicographic.{slice_cmp, on_texts, on_texts_equal}};
 ghost use Rattle.domain_octets.specs.Octets.{IsOver};
 ghost use Rattle.domain_names.specs.Wire.{fault_of};
-ghost use Rattle.domain_fields.specs.Layout.{Begins, Fits, FirstFault, Reads, fed_alike, tied_octets};
+ghost use Rattle.domain_fields.specs.Layout.{Fits, Reads, fed_alike, tied_octets};
 ghost use Rattle.domain_fields.specs.Layout.{copies_tied};
 ghost use Rattle.domain_chain_rdata.specs.Rdata.{is_opt_out, with_opt_out, nsec3param, nsec3param_values};
 ghost use Rattle.domain_chain_rdata.specs.Rdata.{nsec3param_octets, uncounted, uncounted_octets};
@@ -16,7 +16,7 @@ ghost use Rattle.domain_base.specs.Types as rtypes;
 
 use domain_base::{CanonicalOrd, Nsec3HashAlgorithm, Rtype, ScanError, Scanner};
 use domain_bitmap::Nsec3Salt;
-use domain_fields::{Counted, Fields, MAX_RDLEN, ReadFields, Rest, ScanFields};
+use domain_fields::{Counted, Fields, Form, ReadFields, Rest, ScanFields};
 use domain_octets::{
     AppendError, CopyOctets, EmptyOctets, Formatter, FromBuilder, Octets, OctetsBuilder,
     OctetsFrom, OutOfMemory, ParseError, Parser, TryClone, ZonefileFmt, laws,
@@ -207,9 +207,9 @@ impl<'a> Nsec3param<&'a [u8]> {
 impl<'a> ParseRecordData<'a> for Nsec3param<&'a [u8]> {
     ghost is_read = { λ rtype. rtype ≡ rtypes.nsec3param };
 
-    ghost begins = { λ octets d after. Begins nsec3param octets (nsec3param_values d) after };
+    ghost layout = { nsec3param };
 
-    ghost faults = { FirstFault nsec3param };
+    ghost values = { nsec3param_values };
 
     fn parse_rdata(rtype: Rtype, parser: &mut Parser<'a>) -> Result<Option<Self>, ParseError> {
         if rtype != Rtype::NSEC3PARAM {
@@ -235,20 +235,12 @@ impl<O: Octets> ComposeRecordData for Nsec3param<O> {
 
     ghost canonical = { nsec3param_octets };
 
-    fn fits_rdlen(&self) -> bool {
-        self.fields().room_after(MAX_RDLEN).is_some()
+    fn room_after(&self, limit: usize) -> Option<usize> {
+        self.fields().room_after(limit)
     }
 
-    fn rdlen(&self, _compress: bool) -> Option<u16> {
-        Some(self.fields().count())
-    }
-
-    fn compose_rdata<B: OctetsBuilder>(&self, target: &mut B) -> Result<(), AppendError> {
-        self.fields().put(target)
-    }
-
-    fn compose_canonical_rdata<B: OctetsBuilder>(&self, target: &mut B) -> Result<(), AppendError> {
-        self.fields().put_canonical(target)
+    fn compose_in<B: OctetsBuilder>(&self, form: Form, target: &mut B) -> Result<(), AppendError> {
+        self.fields().put(form, target)
     }
 
     fn canonical_cmp_octets(&self, other: &[u8]) -> Ordering {

@@ -9,7 +9,8 @@ use Rattle.domain_octets.specs.{declared.error.AppendError.AppendError, Octets.{
 use Rattle.domain_bitmap.proofs.BlockLemmas.{bitmap_fault}
 use Rattle.domain_fields.specs.Layout.{Layout, ◌▸◌, Values, octets_of, one, Begins, in_field, in_first, in_later, GoesOn, Fits, lower, lower_field}
 use Rattle.domain_fields.specs.Layout.{canonical_of, canonical_order, is_delimited, is_delimited_field, splits, Appended, Stops, Appends, octet, short, long}
-use Rattle.domain_fields.specs.Layout.{name, spelled_name, counted, exactly, at_most, IsCut, Field, Value, field_octets, FieldFits}
+use Rattle.domain_fields.specs.Layout.{name, spelled_name, counted, exactly, at_most, IsCut, Field, Value, field_octets, FieldFits, in_form}
+use Rattle.domain_fields.specs.declared.form.Form.{Form}
 use Rattle.std.specs.Hash as fed
 
 -- ---- names as fields
@@ -28,6 +29,15 @@ module _ (limit : Option ℕ) (old mid new a b : List ℕ) (first : Appended lim
 
 pub appends_stop : (limit : Option ℕ) (e : AppendError) (old new a b : List ℕ) → Stops limit e old new a → Stops limit e old new (a ++ b)
 appends_stop limit e old new a b first = grind (arith, common_steps)
+
+-- in either form
+module _ (limit : Option ℕ) (form : Form) (old mid new a b c d : List ℕ) where
+  pub appends_more_in : {X : Type 0} (r : Result X AppendError) → Appended limit old mid (in_form form a c) → Appends limit r mid new (in_form form b d)
+      → Appends limit r old new (in_form form (a ++ b) (c ++ d))
+  appends_more_in r first second = grind (arith, common_steps, appends_more)
+
+  pub appends_stop_in : (e : AppendError) → Stops limit e old new (in_form form a c) → Stops limit e old new (in_form form (a ++ b) (c ++ d))
+  appends_stop_in e first = grind (arith, common_steps, appends_stop)
 
 -- ---- data that are read one after another
 
@@ -177,7 +187,7 @@ whole_cmp [] o = refl
 whole_cmp (x ∷ a) [] = refl
 whole_cmp (x ∷ a) (y ∷ o) = grind (arith, common_steps, (whole_cmp a o))
 
-pub ruleset both = (appends_more, appends_stop, order_both, front_cmp, front_drop, fold_both)
+pub ruleset both = (appends_more_in, appends_stop_in, order_both, front_cmp, front_drop, fold_both)
 
 -- ---- values that have the same octets
 

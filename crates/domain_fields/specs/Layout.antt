@@ -9,6 +9,7 @@ use Rattle.domain_names.specs.{Name.{wire_of, lowered, IsName, same_name, Name, 
 use Rattle.domain_names.specs.Laws.{same_name_ties}
 use Rattle.domain_bitmap.specs.Blocks.{IsBitmap, BitmapFault}
 use Rattle.domain_fields.specs.declared.wire_fault.WireFault.{WireFault, TheVariants.{ShortInput, BadLabel, LongName, LongData, BadBitmap}}
+use Rattle.domain_fields.specs.declared.form.Form.{Form, TheVariants.{Wire, Canonical}}
 use Rattle.std.specs.Hash as fed
 
 -- ---- the kinds of fields of data on the wire
@@ -169,6 +170,11 @@ lower (a ▸ b) v = (lower a v.0, lower b v.1)
 -- the octets of the canonical form
 abbrev pub canonical_of : (l : Layout) → Values l → Octets
 canonical_of l v = octets_of l (lower l v)
+
+-- of the octets on the wire and those of the canonical form, those of this form
+abbrev pub in_form : Form → Octets → Octets → Octets
+in_form Wire octets canonical = octets
+in_form Canonical octets canonical = canonical
 
 -- the canonical order: lexicographic on canonical octets
 abbrev pub canonical_order : (l : Layout) → Values l → Values l → Ordering

@@ -2,6 +2,7 @@
 ghost use Rattle.std.specs.Prelude.{◌≡◌, ◌≤◌, refl, length};
 ghost use Rattle.domain_fields.specs.Layout.{counted, one};
 
+use crate::Form;
 use crate::fields::{Delimited, Fields, Rest};
 use domain_octets::{AppendError, OctetsBuilder, laws};
 use std::cmp::Ordering;
@@ -45,20 +46,12 @@ impl<'a> Fields for Counted<'a> {
 
     ghost values = { λ n. n.octets.now };
 
-    fn count(&self) -> u16 {
-        self.parts().count()
-    }
-
     fn room_after(&self, limit: usize) -> Option<usize> {
         self.parts().room_after(limit)
     }
 
-    fn put<B: OctetsBuilder>(&self, target: &mut B) -> Result<(), AppendError> {
-        self.parts().put(target)
-    }
-
-    fn put_canonical<B: OctetsBuilder>(&self, target: &mut B) -> Result<(), AppendError> {
-        self.parts().put_canonical(target)
+    fn put<B: OctetsBuilder>(&self, form: Form, target: &mut B) -> Result<(), AppendError> {
+        self.parts().put(form, target)
     }
 
     fn order(&self, other: &Self) -> Ordering {

@@ -6,8 +6,9 @@ ghost use Rattle.std.specs.Hash as fed;
 ghost use Rattle.domain_fields.specs.Layout.{Field, Value, field_octets, lower_field, FieldFits, octet, short};
 ghost use Rattle.domain_fields.specs.Layout.{long, name, spelled_name, exactly, at_most, rest, types, Layout};
 ghost use Rattle.domain_fields.specs.Layout.{one, ◌▸◌, Values, Fits, octets_of, canonical_of, canonical_order};
-ghost use Rattle.domain_fields.specs.Layout.{lower, is_delimited, splits, both_true, Appends};
+ghost use Rattle.domain_fields.specs.Layout.{lower, is_delimited, splits, both_true, Appends, in_form};
 
+use crate::Form;
 use domain_base::{ParsedName, ToName};
 use domain_bitmap::RtypeBitmap;
 use domain_octets::{AppendError, OctetsBuilder, laws};
@@ -23,25 +24,16 @@ pub trait Fields {
 
     ghost values: { Self → Values layout };
 
-    /// How many octets the fields have.
-    fn count(&self) -> u16
-        requires { length (octets_of layout (values self.now)) ≤ 65535 }
-        ensures { result ≡ length (octets_of layout (values self.now)) };
-
     /// How many octets are left of so many after the fields; None where they don't fit.
     fn room_after(&self, limit: usize) -> Option<usize>
         ensures { SomeIff result (length (octets_of layout (values self.now)) ≤ limit)
             (limit - length (octets_of layout (values self.now))) };
 
-    /// Appends the octets.
-    fn put<B: OctetsBuilder>(&self, target: &mut B) -> Result<(), AppendError>
+    /// Appends the octets of a form.
+    fn put<B: OctetsBuilder>(&self, form: Form, target: &mut B) -> Result<(), AppendError>
         ensures { Appends B.limit result (B.octets target.old) (B.octets target.new)
-            (octets_of layout (values self.now)) };
-
-    /// Appends the canonical octets.
-    fn put_canonical<B: OctetsBuilder>(&self, target: &mut B) -> Result<(), AppendError>
-        ensures { Appends B.limit result (B.octets target.old) (B.octets target.new)
-            (canonical_of layout (values self.now)) };
+            (in_form form (octets_of layout (values self.now))
+            (canonical_of layout (values self.now))) };
 
     /// The lexicographic order of the canonical octets.
     fn order(&self, other: &Self) -> Ordering
@@ -262,19 +254,11 @@ impl<F: Octeted> Fields for F {
 
     ghost values = { F.value };
 
-    fn count(&self) -> u16 {
-        self.octets(&mut [0; 4]).len() as u16
-    }
-
     fn room_after(&self, limit: usize) -> Option<usize> {
         limit.checked_sub(self.octets(&mut [0; 4]).len())
     }
 
-    fn put<B: OctetsBuilder>(&self, target: &mut B) -> Result<(), AppendError> {
-        target.append_slice(self.octets(&mut [0; 4]))
-    }
-
-    fn put_canonical<B: OctetsBuilder>(&self, target: &mut B) -> Result<(), AppendError> {
+    fn put<B: OctetsBuilder>(&self, _form: Form, target: &mut B) -> Result<(), AppendError> {
         target.append_slice(self.octets(&mut [0; 4]))
     }
 
@@ -305,22 +289,17 @@ impl<'a> Fields for ParsedName<'a> {
 
     ghost values = { λ n. n };
 
-    fn count(&self) -> u16 {
-        self.compose_len()
-    }
-
     fn room_after(&self, limit: usize) -> Option<usize> {
         limit.checked_sub(usize::from(self.compose_len()))
     }
 
-    fn put<B: OctetsBuilder>(&self, target: &mut B) -> Result<(), AppendError> {
-        self.compose(target)
-    }
-
     #[tactic(auto, using(std::proofs::lemmas::Grind::common_steps, domain_names::proofs::OrderLemmas::lowered_size), unfolding(crate::specs::Layout::octets_of))]
-    fn put_canonical<B: OctetsBuilder>(&self, target: &mut B) -> Result<(), AppendError> {
+    fn put<B: OctetsBuilder>(&self, form: Form, target: &mut B) -> Result<(), AppendError> {
         let _wire = self.as_wire();
-        self.compose_canonical(target)
+        match form {
+            Form::Wire => self.compose(target),
+            Form::Canonical => self.compose_canonical(target),
+        }
     }
 
     fn order(&self, other: &Self) -> Ordering {
@@ -354,23 +333,14 @@ impl<A: Delimited, B: Fields> Fields for (A, B) {
 
     ghost values = { λ p. (A.values p.0, B.values p.1) };
 
-    fn count(&self) -> u16 {
-        self.0.count() + self.1.count()
-    }
-
     fn room_after(&self, limit: usize) -> Option<usize> {
         let left = self.0.room_after(limit)?;
         self.1.room_after(left)
     }
 
-    fn put<T: OctetsBuilder>(&self, target: &mut T) -> Result<(), AppendError> {
-        self.0.put(target)?;
-        self.1.put(target)
-    }
-
-    fn put_canonical<T: OctetsBuilder>(&self, target: &mut T) -> Result<(), AppendError> {
-        self.0.put_canonical(target)?;
-        self.1.put_canonical(target)
+    fn put<T: OctetsBuilder>(&self, form: Form, target: &mut T) -> Result<(), AppendError> {
+        self.0.put(form, target)?;
+        self.1.put(form, target)
     }
 
     fn order(&self, other: &Self) -> Ordering {

@@ -14,6 +14,7 @@
 mod counted;
 mod encoded;
 mod fields;
+mod form;
 pub mod laws;
 mod pieces;
 #[tactic(auto, using(crate::proofs::LayoutLemmas::reading), unfolding(crate::specs::Layout::octets_of))]
@@ -27,6 +28,7 @@ pub use fields::{
     AtMost, Delimited, Exactly, Fields, MAX_RDLEN, Rest, Spelled, canonical_cmp_octets,
     canonical_eq,
 };
+pub use form::Form;
 pub use pieces::{Block, Comment, Pieces, Token};
 pub use read_fields::ReadFields;
 pub use scan_fields::{Address, ScanFields, Scanned};

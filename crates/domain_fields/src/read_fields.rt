@@ -1,85 +1,54 @@
 //! The fields of record data, read from octets.
-ghost use Rattle.domain_fields.specs.Layout.{wire_fault_of, octet, short, long, name, spelled_name, counted};
-ghost use Rattle.domain_fields.specs.Layout.{exactly, at_most, rest, types, Layout, one, ◌▸◌, Values, Reads};
+ghost use Rattle.domain_fields.specs.Layout.{wire_fault_of, Reads};
 
 use crate::WireFault;
 use crate::counted::Counted;
-use crate::fields::{AtMost, Exactly, Rest, Spelled};
+use crate::fields::{AtMost, Delimited, Exactly, Fields, Rest, Spelled};
 use domain_base::ParsedName;
 use domain_bitmap::RtypeBitmap;
 use domain_octets::{Parser, laws};
 
 /// Fields that are read from octets, in the order of the wire.
-pub trait ReadFields<'a>: Drop {
-    /// The kinds of the fields.
-    ghost layout: { Layout };
-
-    /// Their values.
-    ghost values: { Self → Values layout };
-
+pub trait ReadFields<'a>: Fields + Drop {
     /// Reads the fields that the octets begin with; what follows them is left. Refuses with the
     /// first fault in field order, and the parser then stands where it stood. Takes no memory.
     fn read(parser: &mut Parser<'a>) -> Result<Self, WireFault>
     where
         Self: Sized,
-        ensures { Reads layout values wire_fault_of parser.old parser.new result };
+        ensures { Reads Self.layout Self.values wire_fault_of parser.old parser.new result };
 }
 
 impl<'a> ReadFields<'a> for u8 {
-    ghost layout = { one octet };
-
-    ghost values = { λ n. n };
-
     fn read(parser: &mut Parser<'a>) -> Result<u8, WireFault> {
         parser.parse_u8().ok().ok_or(WireFault::ShortInput)
     }
 }
 
 impl<'a> ReadFields<'a> for u16 {
-    ghost layout = { one short };
-
-    ghost values = { λ n. n };
-
     fn read(parser: &mut Parser<'a>) -> Result<u16, WireFault> {
         parser.parse_u16().ok().ok_or(WireFault::ShortInput)
     }
 }
 
 impl<'a> ReadFields<'a> for u32 {
-    ghost layout = { one long };
-
-    ghost values = { λ n. n };
-
     fn read(parser: &mut Parser<'a>) -> Result<u32, WireFault> {
         parser.parse_u32().ok().ok_or(WireFault::ShortInput)
     }
 }
 
 impl<'a> ReadFields<'a> for ParsedName<'a> {
-    ghost layout = { one name };
-
-    ghost values = { λ n. n };
-
     fn read(parser: &mut Parser<'a>) -> Result<ParsedName<'a>, WireFault> {
         Ok(ParsedName::read(parser)?)
     }
 }
 
 impl<'a> ReadFields<'a> for Spelled<ParsedName<'a>> {
-    ghost layout = { one spelled_name };
-
-    ghost values = { λ n. n.0 };
-
     fn read(parser: &mut Parser<'a>) -> Result<Spelled<ParsedName<'a>>, WireFault> {
         Ok(Spelled(ParsedName::read(parser)?))
     }
 }
 
 impl<'a, const COUNT: usize> ReadFields<'a> for Exactly<COUNT> {
-    ghost layout = { one (exactly COUNT) };
-
-    ghost values = { λ n. n.0 };
-
     fn read(parser: &mut Parser<'a>) -> Result<Exactly<COUNT>, WireFault> {
         let octets = parser
             .parse_octets(COUNT)
@@ -93,10 +62,6 @@ impl<'a, const COUNT: usize> ReadFields<'a> for Exactly<COUNT> {
 }
 
 impl<'a> ReadFields<'a> for Counted<'a> {
-    ghost layout = { one counted };
-
-    ghost values = { λ n. n.octets.now };
-
     fn read(parser: &mut Parser<'a>) -> Result<Counted<'a>, WireFault> {
         let mut ahead = parser.fork();
         let count = ahead.parse_u8().ok().ok_or(WireFault::ShortInput)?;
@@ -111,10 +76,6 @@ impl<'a> ReadFields<'a> for Counted<'a> {
 }
 
 impl<'a, const LIMIT: usize> ReadFields<'a> for AtMost<LIMIT> {
-    ghost layout = { one (at_most LIMIT) };
-
-    ghost values = { λ n. tt };
-
     fn read(parser: &mut Parser<'a>) -> Result<AtMost<LIMIT>, WireFault> {
         if parser.remaining() > LIMIT {
             return Err(WireFault::LongData);
@@ -124,10 +85,6 @@ impl<'a, const LIMIT: usize> ReadFields<'a> for AtMost<LIMIT> {
 }
 
 impl<'a> ReadFields<'a> for Rest<'a> {
-    ghost layout = { one rest };
-
-    ghost values = { λ n. n.0.now };
-
     fn read(parser: &mut Parser<'a>) -> Result<Rest<'a>, WireFault> {
         let octets = parser.peek_all();
         laws::slices_hold_octets(octets);
@@ -137,10 +94,6 @@ impl<'a> ReadFields<'a> for Rest<'a> {
 }
 
 impl<'a> ReadFields<'a> for RtypeBitmap<&'a [u8]> {
-    ghost layout = { one types };
-
-    ghost values = { λ b. b };
-
     fn read(parser: &mut Parser<'a>) -> Result<RtypeBitmap<&'a [u8]>, WireFault> {
         let octets = parser.peek_all();
         let types = RtypeBitmap::from_octets(octets)?;
@@ -149,11 +102,7 @@ impl<'a> ReadFields<'a> for RtypeBitmap<&'a [u8]> {
     }
 }
 
-impl<'a, A: ReadFields<'a>, B: ReadFields<'a>> ReadFields<'a> for (A, B) {
-    ghost layout = { A.layout ▸ B.layout };
-
-    ghost values = { λ p. (A.values p.0, B.values p.1) };
-
+impl<'a, A: ReadFields<'a> + Delimited, B: ReadFields<'a>> ReadFields<'a> for (A, B) {
     #[tactic(auto, using(crate::proofs::LayoutLemmas::pairs))]
     fn read(parser: &mut Parser<'a>) -> Result<(A, B), WireFault> {
         let mut ahead = parser.fork();

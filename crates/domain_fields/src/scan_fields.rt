@@ -1,33 +1,43 @@
 //! The fields of record data as tokens.
 ghost use Rattle.std.specs.Net.{Addr.ipv4_octets, Grammar.IsDotted};
-ghost use Rattle.domain_fields.specs.Layout.{octet, short, long, name, exactly, Layout, one, ◌▸◌, Values};
-ghost use Rattle.domain_fields.specs.Scan.{Scans, Refuses, IsNoAddress};
-ghost use Rattle.domain_base.specs.Scan.{ReadsTokens};
+ghost use Rattle.domain_fields.specs.Layout.{octet, short, long, name, exactly, one};
+ghost use Rattle.domain_fields.specs.Scan.{Scans, Refuses, IsNoAddress, Both, RefusesBoth};
+ghost use Rattle.domain_base.specs.Scan.{ReadsTokens, Grammar, Refusal, OneToken, RefusesToken};
+ghost use Rattle.domain_base.specs.Numbers.{TypeText, IsNoType};
 
-use domain_base::{FromToken, ScanError, Scanner, ToName};
+use domain_base::{FromToken, Rtype, ScanError, Scanner, ToName};
 use std::alloc::Global;
+use std::marker::Model;
 use std::net::Ipv4Addr;
 
 /// Fields that are read from tokens, in order.
 pub trait ScanFields<S: Scanner> {
-    /// The kinds of the fields.
-    ghost layout: { Layout };
+    /// The tokens that spell the fields, and those that are left.
+    ghost text: { Grammar Self };
 
-    /// Their values.
-    ghost values: { Self → Values layout };
+    /// Tokens that are refused, those that are left then, and why.
+    ghost refuses: { Refusal };
 
     /// Reads the fields. A refusal names the first field that was refused; the tokens left are then
     /// an end of those before.
     fn scan(alloc: Global, scanner: &mut S) -> Result<Self, ScanError>
     where
         Self: Sized,
-        ensures { ReadsTokens (Scans layout) values (Refuses S.Octets.Builder.limit layout)
-            (S.tokens scanner.old) (S.tokens scanner.new) result };
+        ensures { ReadsTokens text (λ fields. fields) refuses (S.tokens scanner.old)
+            (S.tokens scanner.new) result };
 }
 
 /// A name that was read from a token.
 #[derive(Drop)]
-pub struct Scanned<N>(pub N);
+pub struct Scanned<N: ToName>(pub N);
+
+impl<N: ToName> Model for Scanned<N> {
+    ghost use Rattle.domain_names.specs.Name.{Name};
+
+    ghost Value = { Name };
+
+    ghost view = { λ n. N.labels n.0 };
+}
 
 /// An IPv4 address that was read from a token.
 #[derive(Clone, Copy)]
@@ -49,9 +59,9 @@ impl FromToken for Address {
 }
 
 impl<S: Scanner> ScanFields<S> for u8 {
-    ghost layout = { one octet };
+    ghost text = { Scans (one octet) };
 
-    ghost values = { λ n. n };
+    ghost refuses = { Refuses S.Octets.Builder.limit (one octet) };
 
     fn scan(_alloc: Global, scanner: &mut S) -> Result<u8, ScanError> {
         <u8 as FromToken>::scan(scanner)
@@ -59,9 +69,9 @@ impl<S: Scanner> ScanFields<S> for u8 {
 }
 
 impl<S: Scanner> ScanFields<S> for u16 {
-    ghost layout = { one short };
+    ghost text = { Scans (one short) };
 
-    ghost values = { λ n. n };
+    ghost refuses = { Refuses S.Octets.Builder.limit (one short) };
 
     fn scan(_alloc: Global, scanner: &mut S) -> Result<u16, ScanError> {
         <u16 as FromToken>::scan(scanner)
@@ -69,9 +79,9 @@ impl<S: Scanner> ScanFields<S> for u16 {
 }
 
 impl<S: Scanner> ScanFields<S> for u32 {
-    ghost layout = { one long };
+    ghost text = { Scans (one long) };
 
-    ghost values = { λ n. n };
+    ghost refuses = { Refuses S.Octets.Builder.limit (one long) };
 
     fn scan(_alloc: Global, scanner: &mut S) -> Result<u32, ScanError> {
         <u32 as FromToken>::scan(scanner)
@@ -79,19 +89,29 @@ impl<S: Scanner> ScanFields<S> for u32 {
 }
 
 impl<S: Scanner> ScanFields<S> for Address {
-    ghost layout = { one (exactly 4) };
+    ghost text = { λ old a new. Scans (one (exactly 4)) old (ipv4_octets a.0) new };
 
-    ghost values = { λ a. ipv4_octets a.0 };
+    ghost refuses = { Refuses S.Octets.Builder.limit (one (exactly 4)) };
 
     fn scan(_alloc: Global, scanner: &mut S) -> Result<Address, ScanError> {
         <Address as FromToken>::scan(scanner)
     }
 }
 
-impl<N: ToName, S: Scanner<Name = N>> ScanFields<S> for Scanned<N> {
-    ghost layout = { one name };
+impl<S: Scanner> ScanFields<S> for Rtype {
+    ghost text = { OneToken TypeText };
 
-    ghost values = { λ n. N.labels n.0 };
+    ghost refuses = { RefusesToken IsNoType };
+
+    fn scan(_alloc: Global, scanner: &mut S) -> Result<Rtype, ScanError> {
+        <Rtype as FromToken>::scan(scanner)
+    }
+}
+
+impl<N: ToName, S: Scanner<Name = N>> ScanFields<S> for Scanned<N> {
+    ghost text = { Scans (one name) };
+
+    ghost refuses = { Refuses S.Octets.Builder.limit (one name) };
 
     fn scan(alloc: Global, scanner: &mut S) -> Result<Scanned<N>, ScanError> {
         Ok(Scanned(scanner.scan_name(alloc)?))
@@ -99,9 +119,9 @@ impl<N: ToName, S: Scanner<Name = N>> ScanFields<S> for Scanned<N> {
 }
 
 impl<S: Scanner, A: ScanFields<S> + Drop, B: ScanFields<S>> ScanFields<S> for (A, B) {
-    ghost layout = { A.layout ▸ B.layout };
+    ghost text = { Both A.text B.text };
 
-    ghost values = { λ p. (A.values p.0, B.values p.1) };
+    ghost refuses = { RefusesBoth A.text A.refuses B.refuses };
 
     fn scan(alloc: Global, scanner: &mut S) -> Result<(A, B), ScanError> {
         let first = A::scan(alloc, scanner)?;

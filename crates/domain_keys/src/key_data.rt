@@ -5,7 +5,7 @@ ghost use Rattle.std.specs.Cmp.Lexicographic.{slice_cmp, on_texts, on_texts_equa
 ghost use Rattle.domain_octets.specs.Octets.{IsOver};
 ghost use Rattle.domain_names.specs.Wire.{fault_of};
 ghost use Rattle.domain_codecs.specs.declared.codec.Codec.{Codec};
-ghost use Rattle.domain_fields.specs.Layout.{Begins, Fits, FirstFault, Reads, copies_tied, fed_alike};
+ghost use Rattle.domain_fields.specs.Layout.{Fits, Reads, copies_tied, fed_alike};
 ghost use Rattle.domain_fields.specs.{Layout.tied_octets, Scan.AllTokens};
 ghost use Rattle.domain_base.specs.Scan.{ReadsTokens};
 ghost use Rattle.domain_keys.specs.Keys.{key_data, key_fields, key_values, key_octets, KeyText, RefusesKey};
@@ -17,8 +17,8 @@ use crate::{Dnskey, Ds};
 use domain_base::{CanonicalOrd, Rtype, ScanError, Scanner};
 use domain_codecs::Codec;
 use domain_fields::{
-    AtMost, Block, Comment, Fields, InBase16, InBase64, InLowerBase16, MAX_RDLEN, Pieces,
-    ReadFields, Rest, ScanFields, Token,
+    AtMost, Block, Comment, Fields, Form, InBase16, InBase64, InLowerBase16, Pieces, ReadFields,
+    Rest, ScanFields, Token,
 };
 use domain_octets::{
     AppendError, CopyOctets, Formatter, FromBuilder, Octets, OctetsBuilder, OctetsFrom,
@@ -229,9 +229,9 @@ impl<O: FromBuilder + Drop, K: KeyKind> KeyData<O, K> {
 impl<'a, K: KeyKind> ParseRecordData<'a> for KeyData<&'a [u8], K> {
     ghost is_read = { λ rtype. rtype ≡ K.rtype };
 
-    ghost begins = { λ octets d after. Begins key_fields octets (key_values d) after };
+    ghost layout = { key_fields };
 
-    ghost faults = { FirstFault key_fields };
+    ghost values = { key_values };
 
     fn parse_rdata(rtype: Rtype, parser: &mut Parser<'a>) -> Result<Option<Self>, ParseError> {
         if rtype != K::rtype() {
@@ -254,20 +254,12 @@ impl<O: Octets, K: KeyKind> ComposeRecordData for KeyData<O, K> {
 
     ghost canonical = { key_octets };
 
-    fn fits_rdlen(&self) -> bool {
-        self.fields().room_after(MAX_RDLEN).is_some()
+    fn room_after(&self, limit: usize) -> Option<usize> {
+        self.fields().room_after(limit)
     }
 
-    fn rdlen(&self, _compress: bool) -> Option<u16> {
-        Some(self.fields().count())
-    }
-
-    fn compose_rdata<B: OctetsBuilder>(&self, target: &mut B) -> Result<(), AppendError> {
-        self.fields().put(target)
-    }
-
-    fn compose_canonical_rdata<B: OctetsBuilder>(&self, target: &mut B) -> Result<(), AppendError> {
-        self.fields().put_canonical(target)
+    fn compose_in<B: OctetsBuilder>(&self, form: Form, target: &mut B) -> Result<(), AppendError> {
+        self.fields().put(form, target)
     }
 
     fn canonical_cmp_octets(&self, other: &[u8]) -> Ordering {

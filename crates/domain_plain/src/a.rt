@@ -3,14 +3,14 @@ ghost use Rattle.std.specs.Prelude.{◌≡◌, refl, IfOk, IsOk, Some};
 ghost use Rattle.std.specs.{Net.{Addr.ipv4_octets, Text.ipv4_text}, Ordering.{on, nat_cmp}};
 ghost use Rattle.std.specs.Cmp.Lexicographic.{slice_cmp, on_texts};
 ghost use Rattle.domain_names.specs.Wire.{fault_of};
-ghost use Rattle.domain_fields.specs.Layout.{Begins, FirstFault, Reads, octets_of, canonical_of};
+ghost use Rattle.domain_fields.specs.Layout.{Reads, octets_of, canonical_of};
 ghost use Rattle.domain_fields.specs.{Layout.same_values_tie, Scan.{Scans, Refuses}};
 ghost use Rattle.domain_base.specs.Scan.{ReadsTokens};
 ghost use Rattle.domain_base.specs.Types as rtypes;
 ghost use Rattle.domain_plain.specs.Plain.{a, a_values};
 
 use domain_base::{CanonicalOrd, Rtype, ScanError, Scanner};
-use domain_fields::{Address, Exactly, Fields, MAX_RDLEN, ReadFields, ScanFields};
+use domain_fields::{Address, Exactly, Fields, Form, ReadFields, ScanFields};
 use domain_octets::{
     AppendError, OctetsBuilder, OctetsFrom, OutOfMemory, ParseError, Parser, TryClone,
 };
@@ -112,9 +112,9 @@ impl RecordData for A {
 impl<'a> ParseRecordData<'a> for A {
     ghost is_read = { λ rtype. rtype ≡ rtypes.a };
 
-    ghost begins = { λ octets d after. Begins a octets (a_values d) after };
+    ghost layout = { a };
 
-    ghost faults = { λ octets fault. FirstFault a octets fault };
+    ghost values = { a_values };
 
     fn parse_rdata(rtype: Rtype, parser: &mut Parser<'a>) -> Result<Option<Self>, ParseError> {
         if rtype != Rtype::A {
@@ -129,20 +129,12 @@ impl ComposeRecordData for A {
 
     ghost canonical = { λ d. canonical_of a (a_values d) };
 
-    fn fits_rdlen(&self) -> bool {
-        self.fields().room_after(MAX_RDLEN).is_some()
+    fn room_after(&self, limit: usize) -> Option<usize> {
+        self.fields().room_after(limit)
     }
 
-    fn rdlen(&self, _compress: bool) -> Option<u16> {
-        Some(self.fields().count())
-    }
-
-    fn compose_rdata<B: OctetsBuilder>(&self, target: &mut B) -> Result<(), AppendError> {
-        self.fields().put(target)
-    }
-
-    fn compose_canonical_rdata<B: OctetsBuilder>(&self, target: &mut B) -> Result<(), AppendError> {
-        self.fields().put_canonical(target)
+    fn compose_in<B: OctetsBuilder>(&self, form: Form, target: &mut B) -> Result<(), AppendError> {
+        self.fields().put(form, target)
     }
 
     fn canonical_cmp_octets(&self, other: &[u8]) -> Ordering {

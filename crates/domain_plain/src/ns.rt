@@ -2,14 +2,14 @@
 ghost use Rattle.std.specs.Prelude.{◌≡◌, ◌++◌, refl, IfOk, Some, codes};
 ghost use Rattle.std.specs.{Ordering.{on, nat_cmp}, Cmp.Lexicographic.{slice_cmp, on_texts}};
 ghost use Rattle.domain_names.specs.{Text.name_text, Wire.fault_of};
-ghost use Rattle.domain_fields.specs.Layout.{Begins, FirstFault, Reads, octets_of, canonical_of};
+ghost use Rattle.domain_fields.specs.Layout.{Reads, octets_of, canonical_of};
 ghost use Rattle.domain_fields.specs.{Layout.same_values_tie, Scan.{Scans, Refuses}};
 ghost use Rattle.domain_base.specs.Scan.{ReadsTokens};
 ghost use Rattle.domain_base.specs.Types as rtypes;
 ghost use Rattle.domain_plain.specs.Plain.{ns, ns_values};
 
 use domain_base::{CanonicalOrd, ParsedName, Rtype, ScanError, Scanner, ToName};
-use domain_fields::{Fields, MAX_RDLEN, ReadFields, ScanFields, Scanned};
+use domain_fields::{Fields, Form, ReadFields, ScanFields, Scanned};
 use domain_octets::{
     AppendError, OctetsBuilder, OctetsFrom, OutOfMemory, ParseError, Parser, TryClone,
 };
@@ -115,9 +115,9 @@ impl<'a> Ns<ParsedName<'a>> {
 impl<'a> ParseRecordData<'a> for Ns<ParsedName<'a>> {
     ghost is_read = { λ rtype. rtype ≡ rtypes.ns };
 
-    ghost begins = { λ octets d after. Begins ns octets (ns_values (λ name. name) d) after };
+    ghost layout = { ns };
 
-    ghost faults = { λ octets fault. FirstFault ns octets fault };
+    ghost values = { ns_values (λ name. name) };
 
     fn parse_rdata(rtype: Rtype, parser: &mut Parser<'a>) -> Result<Option<Self>, ParseError> {
         if rtype != Rtype::NS {
@@ -140,20 +140,12 @@ impl<N: ToName> ComposeRecordData for Ns<N> {
 
     ghost canonical = { λ d. canonical_of ns (ns_values N.labels d) };
 
-    fn fits_rdlen(&self) -> bool {
-        self.fields().room_after(MAX_RDLEN).is_some()
+    fn room_after(&self, limit: usize) -> Option<usize> {
+        self.fields().room_after(limit)
     }
 
-    fn rdlen(&self, _compress: bool) -> Option<u16> {
-        Some(self.fields().count())
-    }
-
-    fn compose_rdata<B: OctetsBuilder>(&self, target: &mut B) -> Result<(), AppendError> {
-        self.fields().put(target)
-    }
-
-    fn compose_canonical_rdata<B: OctetsBuilder>(&self, target: &mut B) -> Result<(), AppendError> {
-        self.fields().put_canonical(target)
+    fn compose_in<B: OctetsBuilder>(&self, form: Form, target: &mut B) -> Result<(), AppendError> {
+        self.fields().put(form, target)
     }
 
     fn canonical_cmp_octets(&self, other: &[u8]) -> Ordering {

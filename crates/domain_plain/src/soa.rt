@@ -2,14 +2,14 @@
 ghost use Rattle.std.specs.{Prelude.{◌≡◌, ◌⊎◌, refl, IfOk}, Ordering.{on, nat_cmp}};
 ghost use Rattle.std.specs.Cmp.Lexicographic.{slice_cmp, on_texts};
 ghost use Rattle.domain_names.specs.Wire.{fault_of};
-ghost use Rattle.domain_fields.specs.Layout.{Begins, FirstFault, Reads, octets_of, canonical_of};
+ghost use Rattle.domain_fields.specs.Layout.{Reads, octets_of, canonical_of};
 ghost use Rattle.domain_fields.specs.{Layout.same_values_tie, Scan.{Scans, Refuses}};
 ghost use Rattle.domain_base.specs.Scan.{ReadsTokens};
 ghost use Rattle.domain_base.specs.Types as rtypes;
 ghost use Rattle.domain_plain.specs.Plain.{soa, soa_values, IsSoaWith, soa_text};
 
 use domain_base::{CanonicalOrd, ParsedName, Rtype, ScanError, Scanner, ToName, Ttl};
-use domain_fields::{Fields, MAX_RDLEN, ReadFields, ScanFields, Scanned};
+use domain_fields::{Fields, Form, ReadFields, ScanFields, Scanned};
 use domain_octets::{
     AppendError, OctetsBuilder, OctetsFrom, OutOfMemory, ParseError, Parser, TryClone,
 };
@@ -257,9 +257,9 @@ impl<'a> Soa<ParsedName<'a>> {
 impl<'a> ParseRecordData<'a> for Soa<ParsedName<'a>> {
     ghost is_read = { λ rtype. rtype ≡ rtypes.soa };
 
-    ghost begins = { λ octets d after. Begins soa octets (soa_values (λ name. name) d) after };
+    ghost layout = { soa };
 
-    ghost faults = { λ octets fault. FirstFault soa octets fault };
+    ghost values = { soa_values (λ name. name) };
 
     fn parse_rdata(rtype: Rtype, parser: &mut Parser<'a>) -> Result<Option<Self>, ParseError> {
         if rtype != Rtype::SOA {
@@ -282,20 +282,12 @@ impl<N: ToName> ComposeRecordData for Soa<N> {
 
     ghost canonical = { λ d. canonical_of soa (soa_values N.labels d) };
 
-    fn fits_rdlen(&self) -> bool {
-        self.fields().room_after(MAX_RDLEN).is_some()
+    fn room_after(&self, limit: usize) -> Option<usize> {
+        self.fields().room_after(limit)
     }
 
-    fn rdlen(&self, _compress: bool) -> Option<u16> {
-        Some(self.fields().count())
-    }
-
-    fn compose_rdata<B: OctetsBuilder>(&self, target: &mut B) -> Result<(), AppendError> {
-        self.fields().put(target)
-    }
-
-    fn compose_canonical_rdata<B: OctetsBuilder>(&self, target: &mut B) -> Result<(), AppendError> {
-        self.fields().put_canonical(target)
+    fn compose_in<B: OctetsBuilder>(&self, form: Form, target: &mut B) -> Result<(), AppendError> {
+        self.fields().put(form, target)
     }
 
     fn canonical_cmp_octets(&self, other: &[u8]) -> Ordering {

@@ -4,15 +4,15 @@ ghost use Rattle.std.specs.Ordering.{on, nat_cmp};
 ghost use Rattle.std.specs.Cmp.Lexicographic.{slice_cmp, on_texts};
 ghost use Rattle.domain_octets.specs.Octets.{IsOver, AreOctets};
 ghost use Rattle.domain_names.specs.Wire.{fault_of};
-ghost use Rattle.domain_plain.specs.Plain.{GenericText, GenericFault, IsNoMark, generic_mark, generic_text};
+ghost use Rattle.domain_plain.specs.Plain.{GenericText, GenericFault, IsMark, IsNoMark, generic_text};
 ghost use Rattle.domain_plain.specs.Plain.{unknown, unknown_values};
-ghost use Rattle.domain_fields.specs.Layout.{Begins, FirstFault, octets_of, canonical_of, Reads};
+ghost use Rattle.domain_fields.specs.Layout.{octets_of, canonical_of, Reads};
 ghost use Rattle.domain_fields.specs.{Layout.same_values_tie, Scan.AllTokens};
-ghost use Rattle.domain_base.specs.Scan.{ReadsTokens};
+ghost use Rattle.domain_base.specs.Scan.{ReadsTokens, OneToken, RefusesToken};
 
 use domain_base::{CanonicalOrd, FromToken, Rtype, ScanError, Scanner};
 use domain_codecs::{Codec, base16};
-use domain_fields::{AtMost, Fields, MAX_RDLEN, ReadFields, Rest};
+use domain_fields::{AtMost, Fields, Form, MAX_RDLEN, ReadFields, Rest, ScanFields};
 use domain_octets::{
     AppendError, CopyOctets, FromBuilder, Octets, OctetsBuilder, OctetsFrom, OutOfMemory,
     ParseError, Parser, TryClone, laws,
@@ -105,7 +105,7 @@ struct GenericMark;
 
 /// A backslash and `#`. Refuses every other token as `Custom("illegal data")`.
 impl FromToken for GenericMark {
-    ghost spells = { λ text _. text ≡ generic_mark };
+    ghost spells = { IsMark };
 
     ghost refuses = { IsNoMark };
 
@@ -114,6 +114,22 @@ impl FromToken for GenericMark {
             return Ok(GenericMark);
         }
         Err(ScanError::Custom("illegal data"))
+    }
+}
+
+impl Model for GenericMark {
+    ghost Value = { Unit {0} };
+
+    ghost view = { λ _. tt };
+}
+
+impl<S: Scanner> ScanFields<S> for GenericMark {
+    ghost text = { OneToken IsMark };
+
+    ghost refuses = { RefusesToken IsNoMark };
+
+    fn scan(_alloc: Global, scanner: &mut S) -> Result<GenericMark, ScanError> {
+        <GenericMark as FromToken>::scan(scanner)
     }
 }
 
@@ -139,8 +155,7 @@ impl<O: FromBuilder> UnknownRecordData<O> {
             (GenericFault O.Builder.limit) (S.tokens scanner.old) (S.tokens scanner.new) result }
         ensures rtype { IfOk result (λ d. d.rtype ≡ rtype) }
     {
-        <GenericMark as FromToken>::scan(scanner)?;
-        let count = <u16 as FromToken>::scan(scanner)?;
+        let (GenericMark, count) = <(GenericMark, u16) as ScanFields<S>>::scan(alloc, scanner)?;
         let data = scanner.convert_entry(alloc, Codec::Base16)?;
         if data.as_slice().len() != usize::from(count) {
             return Err(ScanError::Custom("illegal data"));
@@ -169,10 +184,9 @@ impl<'a> UnknownRecordData<&'a [u8]> {
 impl<'a> ParseRecordData<'a> for UnknownRecordData<&'a [u8]> {
     ghost is_read = { λ _. Unit {0} };
 
-    ghost begins = { λ octets d after.
-        Begins unknown octets (unknown_values (λ octets. octets.now) d) after };
+    ghost layout = { unknown };
 
-    ghost faults = { λ octets fault. FirstFault unknown octets fault };
+    ghost values = { unknown_values (λ octets. octets.now) };
 
     fn parse_rdata(rtype: Rtype, parser: &mut Parser<'a>) -> Result<Option<Self>, ParseError> {
         Ok(Some(Self::parse(rtype, parser)?))
@@ -224,20 +238,12 @@ impl<O: Octets> ComposeRecordData for UnknownRecordData<O> {
 
     ghost canonical = { λ d. canonical_of unknown (unknown_values O.octets d) };
 
-    fn fits_rdlen(&self) -> bool {
-        self.fields().room_after(MAX_RDLEN).is_some()
+    fn room_after(&self, limit: usize) -> Option<usize> {
+        self.fields().room_after(limit)
     }
 
-    fn rdlen(&self, _compress: bool) -> Option<u16> {
-        Some(self.fields().count())
-    }
-
-    fn compose_rdata<B: OctetsBuilder>(&self, target: &mut B) -> Result<(), AppendError> {
-        self.fields().put(target)
-    }
-
-    fn compose_canonical_rdata<B: OctetsBuilder>(&self, target: &mut B) -> Result<(), AppendError> {
-        self.fields().put_canonical(target)
+    fn compose_in<B: OctetsBuilder>(&self, form: Form, target: &mut B) -> Result<(), AppendError> {
+        self.fields().put(form, target)
     }
 
     fn canonical_cmp_octets(&self, other: &[u8]) -> Ordering {

@@ -4,11 +4,12 @@ use Rattle.std.{proofs.Common.{None, ◌<◌, All, ◌++◌, append_assoc, lengt
 use Rattle.std.{specs.{Cmp.Lexicographic.nat_list_cmp_total, Prelude.{IfSome, slice_index}}, proofs.lemmas.{Grind.common_steps, List.append-nil}}
 use Rattle.domain_names.specs.{Text.{ScanFault, illegal, no_room, no_memory, scan_fault_of, IsOfTokens, name_text}, declared.error.ScanError.ScanError}
 use Rattle.domain_names.{specs.Name.IsName, proofs.TextLemmas.name_is_valid}
-use Rattle.domain_fields.specs.{Layout.{Values, Begins, FirstFault, splits, octets_of}, Scan.{AllTokens, Scans, ReadsOnce, Excludes, IsExactEntry}}
+use Rattle.domain_names.specs.Wire.{Fault}
+use Rattle.domain_fields.specs.{Layout.{Layout, Values, Begins, FirstFault, splits, octets_of}, Scan.{AllTokens, Scans, ReadsOnce, Excludes, IsExactEntry}}
 use Rattle.domain_fields.proofs.{ExactLemmas.{one_reading, fault_excludes}, ScanLemmas.fields_exact}
 use Rattle.domain_rdata.specs.Zone.{Kind, layout_of, AreFields, plain, key, signature, next_by_name, next_by_hash, params, FieldsText, key_of, rrsig_of}
 use Rattle.domain_rdata.specs.Zone.{kind_of, Content, fields, mere, content_of, content_octets, IsOfKind, of_kind, wire_octets, HasExactOctets, HasExactText}
-use Rattle.domain_rdata.specs.Scan.{AreOfKind, CopyFault, IsHeld, IsNotWhole, at_fault, goes_on, OctetsFault, FromOctets, RefusesKind, RefusesKnown}
+use Rattle.domain_rdata.specs.Scan.{AreOfKind, CopyFault, IsHeld, OctetsFault, FromOctets, RefusesKind, RefusesKnown}
 use Rattle.domain_rdata.specs.Scan.{RefusesOwn, RefusesRdata, in_own, in_generic, in_octets, RdataText, own, generic, ContentText, OwnText, AreContent}
 use Rattle.domain_rdata.specs.{Scan.{AreData, IsGeneric}, declared.zone_record_data.ZoneRecordData.{ZoneRecordData, TheVariants.{Ns, Soa, Unknown}}}
 use Rattle.domain_plain.{specs.Plain.{GenericText, generic_mark, generic_text, ns, soa, soa_values, soa_text, UnknownData}, proofs.PlainLemmas.generic_exact}
@@ -25,21 +26,21 @@ use Rattle.domain_base.specs.Types as rtypes
 pub turned : (a b : List ℕ) → ordering_reverse (slice_cmp nat_cmp b a) ≡ slice_cmp nat_cmp a b
 turned a b = sym (nat_list_cmp_total.antisymm a b)
 
--- ---- What octets of the generic form are: data of a type in one way at most, and none where they have a fault or more follows.
+-- ---- what octets of the generic form are
 
-module _ {D : Type 0} (k : Kind) (values : D → Values (layout_of k)) (limit : Option ℕ) (octets : List ℕ) (split : splits (layout_of k) ≡ true) where
-  -- octets with a fault, or that go on after the data, are no data of a kind
-  not_whole : IsNotWhole (λ o d after. Begins (layout_of k) o (values d) after) (FirstFault (layout_of k)) octets → AreOfKind k octets → ⊥
-  not_whole (at_fault fault why) whole = fault_excludes (layout_of k) octets fault why split whole.0 [] whole.1
-  not_whole (goes_on d after begins more) whole =
-      let read = one_reading (layout_of k) octets _ whole.0 after [] split begins whole.1 in
-      omega (arith, more, ap length read.1)
+-- octets with a fault, or that go on after the data, are no such data
+pub at_fault : (l : Layout) (octets : List ℕ) (fault : Fault) → splits l ≡ true → FirstFault l octets fault
+    → ((v : Values l) × Begins l octets v []) → ⊥
+at_fault l octets fault split why whole = fault_excludes l octets fault why split whole.0 [] whole.1
 
-  pub not_data : {M : Type 0} (made : M → Values (layout_of k)) (r : Result M ScanError)
-      → IsErrAnd r (λ e. scan_fault_of e ≡ illegal (codes "illegal data"))
-      → IsNotWhole (λ o d after. Begins (layout_of k) o (values d) after) (FirstFault (layout_of k)) octets → FromOctets limit k made octets r
-  not_data made (Ok d) said why = absurd said
-  not_data made (Err e) said why = record { ok = tt; err = rw said (refl, not_whole why) }
+pub goes_on : (l : Layout) (octets : List ℕ) (v : Values l) (after : List ℕ) → splits l ≡ true → Begins l octets v after → 0 < length after
+    → ((v : Values l) × Begins l octets v []) → ⊥
+goes_on l octets v after split begins more whole = omega (arith, more, ap length (one_reading l octets v whole.0 after [] split begins whole.1).1)
+
+pub not_data : (k : Kind) (limit : Option ℕ) (octets : List ℕ) {M : Type 0} (made : M → Values (layout_of k)) (r : Result M ScanError)
+    → IsErrAnd r (λ e. scan_fault_of e ≡ illegal (codes "illegal data")) → (AreOfKind k octets → ⊥) → FromOctets limit k made octets r
+not_data k limit octets made (Ok d) said none = absurd said
+not_data k limit octets made (Err e) said none = record { ok = tt; err = rw said (refl, none) }
 
 -- data of which a part is not copied
 module _ (kind : Kind) (v : Values (layout_of kind)) (limit : Option ℕ) (wire octets : List ℕ) where

@@ -1,7 +1,7 @@
 -- Record data as tokens and as octets, and why they are refused (RFC 1035, section 5.1; RFC 3597).
 use Rattle.std.specs.Prelude.{◌≡◌, ℕ, None, [], ◌∷◌, ◌⊎◌, ◌<◌, ◌||◌, length, codes, Bool, true, false, IsTrue, Option, Some, IsNone, Result, IfOk, IfErr}
 use Rattle.domain_octets.specs.Octets.{Octets, IsOver}
-use Rattle.domain_names.specs.{Name.{Tokens, Name}, Wire.Fault, Text.{ScanFault, entry_ends, illegal, no_room, no_memory, scan_fault_of}}
+use Rattle.domain_names.specs.{Name.{Tokens, Name}, Text.{ScanFault, entry_ends, illegal, no_room, no_memory, scan_fault_of}}
 use Rattle.domain_names.specs.declared.error.ScanError.{ScanError}
 use Rattle.domain_plain.specs.Plain.{GenericText, generic_mark, GenericFault}
 use Rattle.domain_rdata.specs.Zone.{AreFields, FieldsText, Kind, plain, key, signature, next_by_name, next_by_hash, params, layout_of, kind_of, rtype_of}
@@ -96,13 +96,6 @@ CopyFault limit octets entry_ends = ⊥
 CopyFault limit octets (illegal said) = ⊥
 CopyFault limit octets no_room = IsOver limit (length octets)
 CopyFault limit octets no_memory = IsNone limit
-
--- why octets are not data and nothing else: they have a fault, or go on after the data
-pub data IsNotWhole {D : Type 0} (begins : Octets → D → Octets → Type 0)
-    (faults : Octets → Fault → Type 0) (octets : Octets) : Type 0 where
-  at_fault : (fault : Fault) → faults octets fault → IsNotWhole begins faults octets
-  goes_on : (d : D) (after : Octets) → begins octets d after → 0 < length after
-      → IsNotWhole begins faults octets
 
 -- whether there is a name among the fields
 abbrev pub has_name : Layout → Bool

@@ -1,14 +1,15 @@
 //! Data of all types from the octets of their generic form.
 #![tactic(auto, using(crate::proofs::ScanLemmas::made))]
 
-ghost use Rattle.std.specs.Prelude.{◌≡◌, ◌<◌, ◌≤◌, ◌⊎◌, [], Some, None, codes, length, IfOk, IfErr, OnOk};
+ghost use Rattle.std.specs.Prelude.{◌≡◌, ◌<◌, ◌≤◌, ◌⊎◌, [], true, Some, None, codes, length, IfOk, IfErr, OnOk};
 ghost use Rattle.domain_names.specs.Text.{illegal, scan_fault_of};
 ghost use Rattle.domain_plain.specs.Plain.{a, a_values, ns, ns_values, soa, soa_values, mx, mx_values};
 ghost use Rattle.domain_keys.specs.Keys.{key_values};
 ghost use Rattle.domain_rrsig.specs.Data.{rrsig_values};
 ghost use Rattle.domain_chain_rdata.specs.Rdata.{nsec_values, nsec3_values, nsec3param_values};
 ghost use Rattle.domain_rdata.specs.Zone.{plain, key, signature, next_by_name, next_by_hash, params, kind_of};
-ghost use Rattle.domain_rdata.specs.Scan.{CopyFault, FromOctets, IsNotWhole, OctetsFault, AreData};
+ghost use Rattle.domain_fields.specs.Layout.{Values, Begins, splits};
+ghost use Rattle.domain_rdata.specs.Scan.{CopyFault, FromOctets, OctetsFault, AreData};
 
 use crate::ZoneRecordData;
 use crate::zone_record_data::return_of_type;
@@ -53,9 +54,11 @@ fn whole<'a, D: ParseRecordData<'a> + Drop>(
     rtype: Rtype,
     octets: &'a [u8],
 ) -> Result<D, IllegalData>
-    requires { D.is_read rtype }
-    ensures ok { IfOk result (λ d. D.begins octets.now d []) }
-    ensures err { IfErr result (λ _. IsNotWhole D.begins D.faults octets.now) }
+    requires read { D.is_read rtype }
+    requires splits { splits D.layout ≡ true }
+    ensures ok { IfOk result (λ d. Begins D.layout octets.now (D.values d) []) }
+    ensures err { IfErr result (λ _.
+        ((v : Values D.layout) × Begins D.layout octets.now v []) → ⊥) }
 {
     let mut parser = Parser::new(octets);
     match D::parse_rdata(rtype, &mut parser) {

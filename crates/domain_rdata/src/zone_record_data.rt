@@ -10,6 +10,7 @@ ghost use Rattle.domain_rdata.specs.declared.zone_record_data.ZoneRecordData.{Zo
 
 use domain_base::{CanonicalOrd, MakeName, Rtype, ScanError, Scanner, ToName, Ttl};
 use domain_chain_rdata::{Nsec, Nsec3, Nsec3param};
+use domain_fields::Form;
 use domain_keys::{Dnskey, Ds};
 use domain_octets::{
     AppendError, EmptyBuilder, FreezeBuilder, FromBuilder, Octets, OctetsBuilder, OutOfMemory,
@@ -143,20 +144,12 @@ impl<O: Octets, N: ToName> ComposeRecordData for ZoneRecordData<O, N> {
 
     ghost canonical = { canonical_octets O.octets N.labels };
 
-    fn fits_rdlen(&self) -> bool {
-        with_data!(self, data => data.fits_rdlen())
+    fn room_after(&self, limit: usize) -> Option<usize> {
+        with_data!(self, data => data.room_after(limit))
     }
 
-    fn rdlen(&self, compress: bool) -> Option<u16> {
-        with_data!(self, data => data.rdlen(compress))
-    }
-
-    fn compose_rdata<B: OctetsBuilder>(&self, target: &mut B) -> Result<(), AppendError> {
-        with_data!(self, data => data.compose_rdata(target))
-    }
-
-    fn compose_canonical_rdata<B: OctetsBuilder>(&self, target: &mut B) -> Result<(), AppendError> {
-        with_data!(self, data => data.compose_canonical_rdata(target))
+    fn compose_in<B: OctetsBuilder>(&self, form: Form, target: &mut B) -> Result<(), AppendError> {
+        with_data!(self, data => data.compose_in(form, target))
     }
 
     fn canonical_cmp_octets(&self, other: &[u8]) -> Ordering {

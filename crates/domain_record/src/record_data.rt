@@ -1,12 +1,13 @@
 //! Data of records.
-ghost use Rattle.std.specs.Prelude.{◌≡◌, ◌≤◌, ◌↔◌, ℕ, Option, Some, length, IsTrue, IfOk, IfErr};
+ghost use Rattle.std.specs.Prelude.{◌≡◌, ◌≤◌, ◌↔◌, ◌-◌, ℕ, Option, Some, SomeIff, length, IsTrue, IfOk, IfErr};
 ghost use Rattle.std.specs.{Prelude.{OnErr, IfNone, MatchOption, codes}, Ordering.nat_cmp};
 ghost use Rattle.std.specs.Cmp.Lexicographic.{slice_cmp};
 ghost use Rattle.domain_octets.specs.Octets.{Octets};
-ghost use Rattle.domain_names.specs.Wire.{Fault, fault_of};
-ghost use Rattle.domain_fields.specs.Layout.{GoesOn, Appends};
+ghost use Rattle.domain_names.specs.Wire.{fault_of};
+ghost use Rattle.domain_fields.specs.Layout.{Layout, Values, Begins, FirstFault, GoesOn, Appends, in_form};
 
 use domain_base::{Rtype, Ttl};
+use domain_fields::{Form, MAX_RDLEN};
 use domain_octets::{AppendError, OctetsBuilder, ParseError, Parser};
 use std::cmp::Ordering;
 use std::error::Error;
@@ -54,11 +55,11 @@ pub trait ParseRecordData<'a>: RecordData {
     /// The data is that of records of this type.
     ghost is_read: { ℕ → Type 0 };
 
-    /// The octets begin with the data, and these are left.
-    ghost begins: { Octets → Self → Octets → Type 0 };
+    /// The kinds of its fields, in the order of the wire.
+    ghost layout: { Layout };
 
-    /// The first fault of octets that do not.
-    ghost faults: { Octets → Fault → Type 0 };
+    /// Their values.
+    ghost values: { Self → Values layout };
 
     /// The data that the octets of a record of this type begin with; None, and nothing is read, for
     /// every other type. Takes no memory.
@@ -72,9 +73,10 @@ pub trait ParseRecordData<'a>: RecordData {
         Self: Sized,
         ensures ok { IfOk result (λ found. MatchOption found (is_read rtype → ⊥)
             (λ «data». is_read rtype × (Self.rtype «data» ≡ rtype)
-            × begins parser.old.left «data» parser.new.left)) }
+            × Begins layout parser.old.left (values «data») parser.new.left)) }
         ensures none { IfOk result (λ found. IfNone found (parser.new ≡ parser.old)) }
-        ensures err { IfErr result (λ e. is_read rtype × faults parser.old.left (fault_of e)) }
+        ensures err { IfErr result (λ e. is_read rtype
+            × FirstFault layout parser.old.left (fault_of e)) }
         ensures unmoved { OnErr result (parser.new ≡ parser.old) }
         ensures goes_on { GoesOn parser.old parser.new };
 }
@@ -88,27 +90,50 @@ pub trait ComposeRecordData: RecordData {
     /// The octets of their canonical form.
     ghost canonical: { Self → Octets };
 
+    /// How many octets are left of so many after the data; None where they don't fit.
+    fn room_after(&self, limit: usize) -> Option<usize>
+        ensures { SomeIff result (length (octets self.now) ≤ limit)
+            (limit - length (octets self.now)) };
+
+    /// Appends the octets of a form. A refusal leaves what stood, and a beginning of the octets.
+    fn compose_in<B: OctetsBuilder>(&self, form: Form, target: &mut B) -> Result<(), AppendError>
+        ensures { Appends B.limit result (B.octets target.old) (B.octets target.new)
+            (in_form form (octets self.now) (canonical self.now)) };
+
+    /// The lexicographic order of the canonical octets and of other octets. Takes no memory.
+    fn canonical_cmp_octets(&self, other: &[u8]) -> Ordering
+        ensures { result ≡ slice_cmp nat_cmp (canonical self.now) other.now };
+
     /// Whether the data have at most 65,535 octets, as many as a record can hold.
     fn fits_rdlen(&self) -> bool
-        ensures { IsTrue result ↔ (length (octets self.now) ≤ 65535) };
+        ensures { IsTrue result ↔ (length (octets self.now) ≤ 65535) }
+    {
+        self.room_after(MAX_RDLEN).is_some()
+    }
 
     /// How many octets the data have. Names are never compressed, so `compress` changes nothing.
-    fn rdlen(&self, compress: bool) -> Option<u16>
+    fn rdlen(&self, _compress: bool) -> Option<u16>
         requires { length (octets self.now) ≤ 65535 }
-        ensures { result ≡ Some (length (octets self.now)) };
+        ensures { result ≡ Some (length (octets self.now)) }
+    {
+        let left = self.room_after(MAX_RDLEN)?;
+        Some((MAX_RDLEN - left) as u16)
+    }
 
     /// Appends the octets. A refusal leaves what stood, and a beginning of the octets.
     fn compose_rdata<B: OctetsBuilder>(&self, target: &mut B) -> Result<(), AppendError>
         ensures { Appends B.limit result (B.octets target.old) (B.octets target.new)
-            (octets self.now) };
+            (octets self.now) }
+    {
+        self.compose_in(Form::Wire, target)
+    }
 
     /// Appends the octets of the canonical form. A refusal leaves what stood, and a beginning of
     /// the octets.
     fn compose_canonical_rdata<B: OctetsBuilder>(&self, target: &mut B) -> Result<(), AppendError>
         ensures { Appends B.limit result (B.octets target.old) (B.octets target.new)
-            (canonical self.now) };
-
-    /// The lexicographic order of the canonical octets and of other octets. Takes no memory.
-    fn canonical_cmp_octets(&self, other: &[u8]) -> Ordering
-        ensures { result ≡ slice_cmp nat_cmp (canonical self.now) other.now };
+            (canonical self.now) }
+    {
+        self.compose_in(Form::Canonical, target)
+    }
 }

@@ -6,7 +6,7 @@ ghost use Rattle.domain_rrsig.specs.Data.{proto_rrsig, proto_rrsig_values, proto
 use crate::rrsig::fits;
 use crate::{Rrsig, Timestamp};
 use domain_base::{ParsedName, Rtype, SecurityAlgorithm, ToName, Ttl};
-use domain_fields::Fields;
+use domain_fields::{Fields, Form};
 use domain_octets::{AppendError, Octets, OctetsBuilder, OutOfMemory, TryClone};
 use domain_record::LongRecordData;
 use std::marker::Model;
@@ -96,7 +96,7 @@ impl<N: ToName> ProtoRrsig<N> {
         ensures { Appends B.limit result (B.octets target.old) (B.octets target.new)
             (octets_of proto_rrsig (proto_rrsig_values self.now)) }
     {
-        self.fields().put(target)
+        self.fields().put(Form::Wire, target)
     }
 
     /// Appends the octets of the canonical form, in which the name is lowered (RFC 4034,
@@ -105,7 +105,7 @@ impl<N: ToName> ProtoRrsig<N> {
         ensures { Appends B.limit result (B.octets target.old) (B.octets target.new)
             (canonical_of proto_rrsig (proto_rrsig_values self.now)) }
     {
-        self.fields().put_canonical(target)
+        self.fields().put(Form::Canonical, target)
     }
 
     /// Fields of these numbers and this name.

@@ -4,7 +4,7 @@ ghost use Rattle.std.specs.{Prelude.IsNone, List.flat_map, Ordering.{on, nat_cmp
 ghost use Rattle.std.specs.Cmp.{partial_equiv_from_equiv, po, Lexicographic.{slice_cmp, on_texts}};
 ghost use Rattle.std.specs.Cmp.Lexicographic.{on_texts_equal};
 ghost use Rattle.domain_names.specs.{Wire.fault_of, Name.wire_of};
-ghost use Rattle.domain_fields.specs.Layout.{Begins, Fits, FirstFault, Reads, fed_alike, tied_octets};
+ghost use Rattle.domain_fields.specs.Layout.{Fits, Reads, fed_alike, tied_octets};
 ghost use Rattle.domain_fields.specs.{Layout.copies_tied, Scan.AllTokens};
 ghost use Rattle.domain_rrsig.specs.Data.{rrsig, rrsig_values, rrsig_octets, rrsig_canonical, rrsig_data};
 ghost use Rattle.domain_rrsig.specs.Data.{proto_rrsig_data, IsSameRrsig, rrsig_numbers_values, rrsig_text};
@@ -18,13 +18,12 @@ ghost use Rattle.domain_base.specs.Types as rtypes;
 use crate::proto_rrsig::ProtoFields;
 use crate::{ProtoRrsig, Timestamp};
 use domain_base::{
-    CanonicalOrd, FromToken, Name, ParsedName, Rtype, ScanError, Scanner, SecurityAlgorithm,
-    ToName, Ttl,
+    CanonicalOrd, Name, ParsedName, Rtype, ScanError, Scanner, SecurityAlgorithm, ToName, Ttl,
 };
 use domain_codecs::Codec;
 use domain_fields::{
-    AtMost, Block, Comment, Fields, InBase64, MAX_RDLEN, Pieces, ReadFields, Rest, ScanFields,
-    Scanned, Token,
+    AtMost, Block, Comment, Fields, Form, InBase64, MAX_RDLEN, Pieces, ReadFields, Rest,
+    ScanFields, Scanned, Token,
 };
 use domain_octets::{
     AppendError, CopyOctets, Formatter, FromBuilder, Octets, OctetsBuilder, OctetsFrom,
@@ -271,9 +270,9 @@ impl<'a> Rrsig<&'a [u8], ParsedName<'a>> {
 impl<'a> ParseRecordData<'a> for Rrsig<&'a [u8], ParsedName<'a>> {
     ghost is_read = { λ rtype. rtype ≡ rtypes.rrsig };
 
-    ghost begins = { λ octets d after. Begins rrsig octets (rrsig_values d) after };
+    ghost layout = { rrsig };
 
-    ghost faults = { FirstFault rrsig };
+    ghost values = { rrsig_values };
 
     fn parse_rdata(rtype: Rtype, parser: &mut Parser<'a>) -> Result<Option<Self>, ParseError> {
         if rtype != Rtype::RRSIG {
@@ -296,20 +295,12 @@ impl<O: Octets, N: ToName> ComposeRecordData for Rrsig<O, N> {
 
     ghost canonical = { rrsig_canonical };
 
-    fn fits_rdlen(&self) -> bool {
-        self.fields().room_after(MAX_RDLEN).is_some()
+    fn room_after(&self, limit: usize) -> Option<usize> {
+        self.fields().room_after(limit)
     }
 
-    fn rdlen(&self, _compress: bool) -> Option<u16> {
-        Some(self.fields().count())
-    }
-
-    fn compose_rdata<B: OctetsBuilder>(&self, target: &mut B) -> Result<(), AppendError> {
-        self.fields().put(target)
-    }
-
-    fn compose_canonical_rdata<B: OctetsBuilder>(&self, target: &mut B) -> Result<(), AppendError> {
-        self.fields().put_canonical(target)
+    fn compose_in<B: OctetsBuilder>(&self, form: Form, target: &mut B) -> Result<(), AppendError> {
+        self.fields().put(form, target)
     }
 
     fn canonical_cmp_octets(&self, other: &[u8]) -> Ordering {
@@ -461,30 +452,23 @@ impl<S: Octets + Drop, N: ToName + Drop, O: CopyOctets + Drop> OctetsFrom<Rrsig<
     }
 }
 
+/// All fields but the signature, in the order of their tokens.
+type ScannedFields<N> = (
+    Rtype,
+    ((u8, (u8, u32)), (Timestamp, (Timestamp, (u16, Scanned<N>)))),
+);
+
 /// All fields but the signature, one token each.
 fn scan_fields<S: Scanner>(alloc: Global, scanner: &mut S) -> Result<ProtoRrsig<S::Name>, ScanError>
     ensures { ReadsTokens rrsig_fields_text rrsig_fields
         (RefusesRrsigFields S.Octets.Builder.limit) (S.tokens scanner.old) (S.tokens scanner.new)
         result }
 {
-    let type_covered = match Rtype::scan(scanner) {
-        Ok(type_covered) => type_covered,
-        Err(error) => return Err(error),
-    };
-    let (algorithm, (labels, original_ttl)) = <(u8, (u8, u32)) as ScanFields<S>>::scan(
-        alloc, scanner,
-    )?;
-    let expiration = match Timestamp::scan(scanner) {
-        Ok(expiration) => expiration,
-        Err(error) => return Err(error),
-    };
-    let inception = match Timestamp::scan(scanner) {
-        Ok(inception) => inception,
-        Err(error) => return Err(error),
-    };
-    let (key_tag, Scanned(signer_name)) = <(u16, Scanned<S::Name>) as ScanFields<S>>::scan(
-        alloc, scanner,
-    )?;
+    let (type_covered, (lengths, (expiration, (inception, signer)))) = <ScannedFields<
+        S::Name,
+    > as ScanFields<S>>::scan(alloc, scanner)?;
+    let (algorithm, (labels, original_ttl)) = lengths;
+    let (key_tag, Scanned(signer_name)) = signer;
     Ok(ProtoRrsig::new(
         type_covered,
         SecurityAlgorithm::from_int(algorithm),

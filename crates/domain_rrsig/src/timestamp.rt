@@ -8,7 +8,9 @@ ghost use Rattle.domain_base.specs.{Scan.{OneToken, ReadsTokens, RefusesToken}, 
 ghost use Rattle.domain_rrsig.specs.Data.{IsNear, TimeAt, TimeToken, IsNoTime, ReadsTime};
 
 use domain_base::{CanonicalOrd, FromToken, ParseError, ScanError, Scanner, Serial};
+use domain_fields::ScanFields;
 use domain_octets::{AppendError, Formatter, OctetsBuilder, OutOfMemory, Parser, ZonefileFmt};
+use std::alloc::Global;
 use std::cmp::Ordering;
 use std::error::Error;
 use std::fmt;
@@ -179,6 +181,16 @@ impl FromToken for Timestamp {
             Ok(serial) => Ok(Timestamp(serial)),
             Err(_) => Err(ScanError::Custom("illegal signature time")),
         }
+    }
+}
+
+impl<S: Scanner> ScanFields<S> for Timestamp {
+    ghost text = { OneToken TimeToken };
+
+    ghost refuses = { RefusesToken IsNoTime };
+
+    fn scan(_alloc: Global, scanner: &mut S) -> Result<Timestamp, ScanError> {
+        Timestamp::scan(scanner)
     }
 }
 

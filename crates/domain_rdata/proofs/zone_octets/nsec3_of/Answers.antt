@@ -1,10 +1,10 @@
-use Rattle.std.proofs.{Common.{inl, inr, refl, arith}, lemmas.Grind.common_steps}
+use Rattle.std.proofs.{Common.{inl, inr, arith}, lemmas.Grind.common_steps}
 use Rattle.domain_chain_rdata.specs.Rdata.{nsec3_values}
 use Rattle.domain_rdata.{specs.Zone.next_by_hash, proofs.ScanLemmas.{not_data, not_copied}}
 use Rattle.domain_rdata.proofs.zone_octets.nsec3_of.Goals as goal
 
 pub returns-in_err-data : goal.returns-in_err-data
-returns-in_err-data g c = not_data next_by_hash nsec3_values _ _ refl _ _ c.from_residual.ensures.1 c.in_err-data.ensures.err
+returns-in_err-data g c = not_data next_by_hash _ _ _ _ c.from_residual.ensures.1 c.in_err-data.ensures.err
 
 pub returns-in_err-salt : goal.returns-in_err-salt
 returns-in_err-salt g c =
