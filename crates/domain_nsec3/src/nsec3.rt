@@ -61,12 +61,8 @@ fn param_record<'a, S, O: Octets, N: ToName>(
     }) }
 {
     let params = config.params.clone()?;
-    Ok(Record::new(
-        apex.as_parsed(),
-        Class::IN,
-        config.nsec3param_ttl_mode.ttl(soa),
-        params,
-    ))
+    let ttl = config.nsec3param_ttl_mode.ttl(soa);
+    Ok(Record::new(apex.as_parsed(), Class::IN, ttl, params))
 }
 
 /// The octets of a hash, each of which is below 256.

@@ -7,7 +7,6 @@ ghost use Rattle.domain_records.specs.Text.{insert_error_text};
 use domain_hasher::Nsec3HashError;
 use domain_octets::OutOfMemory;
 use domain_record::Record;
-use std::alloc::{AllocError, AllocFailed};
 use std::error::Error;
 use std::fmt;
 
@@ -78,22 +77,6 @@ impl From<OutOfMemory> for SigningError {
     ghost from_gives = { λ _ e. e ≡ signing_error.OutOfMemory };
 
     fn from(_error: OutOfMemory) -> SigningError {
-        SigningError::OutOfMemory
-    }
-}
-
-impl From<AllocError> for SigningError {
-    ghost from_gives = { λ _ e. e ≡ signing_error.OutOfMemory };
-
-    fn from(_error: AllocError) -> SigningError {
-        SigningError::OutOfMemory
-    }
-}
-
-impl<T: Drop> From<AllocFailed<T>> for SigningError {
-    ghost from_gives = { λ _ e. e ≡ signing_error.OutOfMemory };
-
-    fn from(_error: AllocFailed<T>) -> SigningError {
         SigningError::OutOfMemory
     }
 }
