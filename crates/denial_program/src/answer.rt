@@ -69,6 +69,7 @@ pub fn nsecs_of<'s, 'a>(
 /// The chain of the zone that the records are: by hashes with these parameters, or, without any, of
 /// NSEC records. It borrows from the apex, and of NSEC records from the records. No two of its
 /// hashes are alike, so that a sorter that takes no memory serves as well as a stable one.
+#[tactic(auto, using(std::proofs::lemmas::Grind::common_steps, crate::proofs::RunLemmas::nsec3s_made, crate::proofs::RunLemmas::on_ok))]
 fn chain_reply<'s, 'a, H: Nsec3Hasher>(
     alloc: Global,
     apex: &'s ParsedName<'a>,
@@ -172,6 +173,7 @@ impl<'s, 'a> Reply<'s, 'a> {
 }
 
 /// Writes the chain of the zone that the records are. They are sorted first.
+#[tactic(auto, using(std::proofs::lemmas::Grind::common_steps, crate::proofs::RunLemmas::unsorted, crate::proofs::RunLemmas::unwritten, crate::proofs::RunLemmas::on_ok, domain_octets::proofs::StdLemmas::if_err_of))]
 fn write_chain_of<'a, W: Write, H: Nsec3Hasher>(
     alloc: Global,
     arena: &'a Bump,

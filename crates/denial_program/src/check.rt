@@ -16,6 +16,7 @@ use domain_octets::OutOfMemory;
 use std::alloc::Global;
 
 /// What the NSEC records among these prove.
+#[tactic(auto, using(std::proofs::lemmas::Grind::common_steps))]
 pub fn nsec_reply<'s, 'a>(
     alloc: Global,
     question: Question,
@@ -57,6 +58,7 @@ pub fn chain_of<'a>(
 }
 
 /// What the NSEC3 records among these prove.
+#[tactic(auto, using(std::proofs::lemmas::Grind::common_steps))]
 pub fn nsec3_reply<'s, 'a, H: Nsec3Hasher>(
     alloc: Global,
     question: Question,

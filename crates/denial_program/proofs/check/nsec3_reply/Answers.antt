@@ -1,18 +1,6 @@
-use Rattle.std.proofs.{Common.{ap, refl, Err}, lemmas.Result.err_from_is_err_and}
-use Rattle.domain_nsec3.specs.View.{as_param_record, hashed_links_of}
+use Rattle.std.proofs.{Common.{ap, Err}, lemmas.Result.err_from_is_err_and}
 use Rattle.denial_program.proofs.CheckLemmas.{hash_refused}
 use Rattle.denial_program.proofs.check.nsec3_reply.Goals as goal
-
-pub returns-clause-ok : goal.returns-clause-ok
-returns-clause-ok g c = record {
-  param = as_param_record (λ n. n) c.in_ok-chain.chain.nsec3param;
-  single = c.in_ok-chain.ensures.param;
-  links = hashed_links_of (λ n. n) c.in_ok-chain.chain.nsec3s.items;
-  are = c.in_ok-chain.ensures.nsec3s;
-  verdict = c.in_ok-verdict.verdict;
-  is = refl;
-  checked = c.in_ok-verdict.ensures.checked;
-}
 
 pub returns-in_err-verdict-clause-err : goal.returns-in_err-verdict-clause-err
 returns-in_err-verdict-clause-err g c =
