@@ -24,13 +24,8 @@ fn start(rt: &HostRuntime) -> Result<(), DenialFault> {
     let mut output = BufWriter::with_capacity(alloc, BUFFER, io::writer(rt)).map_err(
         |_| DenialFault::OutOfMemory,
     )?;
-    run_denial(
-        alloc,
-        words.as_slice(),
-        &TellingHasher::new(rt),
-        &mut input,
-        &mut output,
-    )
+    let (words, hasher) = (words.as_slice(), TellingHasher::new(rt));
+    run_denial(alloc, words, &hasher, &mut input, &mut output)
 }
 
 fn main(rt: HostRuntime) -> ExitCode {

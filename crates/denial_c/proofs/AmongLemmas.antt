@@ -123,8 +123,14 @@ module _ {K : Type 0} (is_kept : RawRecord → Bool) (raw : K → RawRecord) (Is
     pub refused_data : (after : List ℕ) (q : RawRecord) → left ≡ record_octets q ++ after → IsRecord q → is_kept q ≡ true
         → ((k : K) → q ≡ raw k → IsKept k → ⊥) → ⊥
     refused_data after q begins fits on none =
-        grind (arith, common_steps, (next_in left after s.before m.records q ahead begins fits), (in_filtered is_kept m.records q),
-        (from_map raw others q), (all_in IsKept others))
+        grind (
+          arith,
+          common_steps,
+          (next_in left after s.before m.records q ahead begins fits),
+          (in_filtered is_kept m.records q),
+          (from_map raw others q),
+          (all_in IsKept others),
+        )
 
 -- ---- records of a class
 

@@ -14,6 +14,7 @@ use domain_checker::{NsecCheck, Verdict};
 use domain_octets::Parser;
 
 /// The name that the octets are. Refuses, with the fault, octets that are none.
+#[tactic(auto, using(std::proofs::lemmas::Grind::common_steps, std::proofs::Common::append-nil))]
 pub(crate) fn read_name(octets: &[u8], fault: Fault) -> Result<ParsedName<'_>, Fault>
     ensures ok { IfOk result (Spells octets.now) }
     ensures err { IfErr result (λ e. (e ≡ fault) × (IsSpelled octets.now → ⊥)) }

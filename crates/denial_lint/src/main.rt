@@ -22,13 +22,8 @@ fn start(rt: &HostRuntime) -> Result<Outcome, DenialFault> {
     let mut output = BufWriter::with_capacity(alloc, BUFFER, io::writer(rt)).map_err(
         |_| DenialFault::OutOfMemory,
     )?;
-    run_lint(
-        alloc,
-        words.as_slice(),
-        &Sha1Hasher,
-        &mut input,
-        &mut output,
-    )
+    let (words, hasher) = (words.as_slice(), Sha1Hasher);
+    run_lint(alloc, words, &hasher, &mut input, &mut output)
 }
 
 fn main(rt: HostRuntime) -> ExitCode {

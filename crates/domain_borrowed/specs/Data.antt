@@ -22,6 +22,16 @@ pub record RawData : Type 0 where
 abbrev pub RawRecord : Type 0
 RawRecord = Record Name RawData
 
+-- of an owner, a class, a TTL, a type and octets
+abbrev pub raw : Name → ℕ → ℕ → ℕ → Octets → RawRecord
+raw owner class ttl rtype octets =
+    record {
+      owner = owner;
+      class = class;
+      ttl = ttl;
+      «data» = record { rtype = rtype; octets = octets };
+    }
+
 -- the number that the last four octets are; None where there are less
 abbrev pub last_long : Octets → Option ℕ
 last_long octets =
@@ -53,13 +63,7 @@ next_values k = (k.next, k.bits)
 
 -- the record of a link (RFC 4034, section 4.1)
 abbrev pub nsec_record : Link → RawRecord
-nsec_record k =
-    record {
-      owner = k.owner;
-      class = k.class;
-      ttl = k.ttl;
-      «data» = record { rtype = rtypes.nsec; octets = octets_of nsec (next_values k) };
-    }
+nsec_record k = raw k.owner k.class k.ttl rtypes.nsec (octets_of nsec (next_values k))
 
 -- the next name and the bitmap have such octets
 abbrev pub IsNsec : Link → Type 0
@@ -74,13 +78,7 @@ hash_values k =
 
 -- the record of a link (RFC 5155, section 3.2)
 abbrev pub nsec3_record : HashedLink → RawRecord
-nsec3_record k =
-    record {
-      owner = k.owner;
-      class = k.class;
-      ttl = k.ttl;
-      «data» = record { rtype = rtypes.nsec3; octets = octets_of nsec3 (hash_values k) };
-    }
+nsec3_record k = raw k.owner k.class k.ttl rtypes.nsec3 (octets_of nsec3 (hash_values k))
 
 -- the fields and the bitmap have such octets
 abbrev pub IsNsec3 : HashedLink → Type 0
@@ -96,12 +94,7 @@ param_values k =
 -- the record of parameters (RFC 5155, section 4.2)
 abbrev pub param_record : ParamRecord → RawRecord
 param_record k =
-    record {
-      owner = k.owner;
-      class = k.class;
-      ttl = k.ttl;
-      «data» = record { rtype = rtypes.nsec3param; octets = octets_of nsec3param (param_values k) };
-    }
+    raw k.owner k.class k.ttl rtypes.nsec3param (octets_of nsec3param (param_values k))
 
 -- the fields have such octets
 abbrev pub IsParam : ParamRecord → Type 0
@@ -127,12 +120,7 @@ IsRecord r = Fits header (header_of r)
 abbrev pub raw_record : {N D : Type 0} → (N → Name) → (D → ℕ) → (D → Octets) → N → ℕ → ℕ → D
     → RawRecord
 raw_record labels rtype octets owner class ttl d =
-    record {
-      owner = labels owner;
-      class = class;
-      ttl = ttl;
-      «data» = record { rtype = rtype d; octets = octets d };
-    }
+    raw (labels owner) class ttl (rtype d) (octets d)
 
 abbrev pub raw_record_of : {N D : Type 0} → (N → Name) → (D → ℕ) → (D → Octets) → Record N D
     → RawRecord

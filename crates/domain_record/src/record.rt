@@ -214,6 +214,12 @@ impl<N: ToName, D: RecordData + fmt::Display> fmt::Display for Record<N, D> {
     #[tactic(auto, using(crate::proofs::RecordLemmas::class_in_spaces))]
     fn fmt<W: fmt::Write>(&self, f: &mut fmt::Formatter<W>) -> fmt::Result {
         let (owner, class) = (self.owner.fmt_with_dot(), Spaced(self.class));
-        write!(f, "{owner} {}{class}{} {}", self.ttl, self.data.rtype(), self.data)
+        write!(
+            f,
+            "{owner} {}{class}{} {}",
+            self.ttl,
+            self.data.rtype(),
+            self.data
+        )
     }
 }
