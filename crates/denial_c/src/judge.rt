@@ -32,7 +32,7 @@ pub(crate) fn nsec_answer(
 
 /// What the NSEC3 records of the class among the records that the octets are answer to the name and
 /// the type, with at most so many iterations.
-#[tactic(auto, using(std::proofs::lemmas::Grind::common_steps))]
+#[tactic(auto, using(std::proofs::lemmas::Grind::common_steps, crate::proofs::AmongLemmas::hashed_told))]
 pub(crate) fn nsec3_answer(
     alloc: Global,
     telling: Telling,
@@ -54,7 +54,7 @@ pub(crate) fn nsec3_answer(
 /// What the NSEC3 records of the class among the records that the octets are answer of the name,
 /// whose records were expanded from a wildcard and have signatures with so many labels, with at
 /// most so many iterations.
-#[tactic(auto, using(std::proofs::lemmas::Grind::common_steps))]
+#[tactic(auto, using(std::proofs::lemmas::Grind::common_steps, crate::proofs::AmongLemmas::hashed_told))]
 pub(crate) fn expansion_answer(
     alloc: Global,
     telling: Telling,

@@ -148,7 +148,7 @@ pub(crate) fn chain_told<'a>(
 
 /// What the NSEC3 records of the class among the records that the octets are prove of the name and
 /// the type.
-#[tactic(auto, using(std::proofs::lemmas::Grind::common_steps))]
+#[tactic(auto, using(std::proofs::lemmas::Grind::common_steps, crate::proofs::AmongLemmas::hashed_told))]
 pub(crate) fn nsec3_verdict(
     alloc: Global,
     telling: Telling,
