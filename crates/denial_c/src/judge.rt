@@ -14,6 +14,7 @@ use std::alloc::Global;
 
 /// What the NSEC records of the class among the records that the octets are answer to the name and
 /// the type.
+#[tactic(auto, using(std::proofs::lemmas::Grind::common_steps, crate::proofs::AmongLemmas::nsecs_fault, std::proofs::lemmas::Result::err_from_is_err_and))]
 pub(crate) fn nsec_answer(
     alloc: Global,
     apex: &[u8],

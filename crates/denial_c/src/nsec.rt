@@ -31,6 +31,7 @@ pub(crate) fn read_name(octets: &[u8], fault: Fault) -> Result<ParsedName<'_>, F
 
 /// Hands in the NSEC records of the class among the records that the octets are. Refuses octets
 /// that are no records, and NSEC records whose data are none; some are handed in then.
+#[tactic(auto, using(std::proofs::lemmas::Grind::common_steps, crate::proofs::AmongLemmas::passed, crate::proofs::AmongLemmas::refused, crate::proofs::AmongLemmas::refused_data, crate::proofs::AmongLemmas::taken))]
 fn hand_in(
     check: &mut NsecCheck<'_>,
     apex: &ParsedName<'_>,
