@@ -37,7 +37,6 @@ pub(crate) fn is_kept<'a, K: ReadAs<'a>>(
 
 /// The records of a type that count, of an apex and a class, among the records that the octets are.
 /// Refuses octets that are no records, and such records whose data are none.
-#[tactic(auto, using(std::proofs::lemmas::Grind::common_steps, crate::proofs::AmongLemmas::passed, crate::proofs::AmongLemmas::refused, crate::proofs::AmongLemmas::refused_data, crate::proofs::AmongLemmas::taken))]
 pub(crate) fn records_among<'a, K: ReadAs<'a>>(
     alloc: Global,
     apex: &ParsedName<'_>,

@@ -14,7 +14,6 @@ use domain_checker::{NsecCheck, Verdict};
 use domain_octets::Parser;
 
 /// The name that the octets are. Refuses, with the fault, octets that are none.
-#[tactic(auto, using(std::proofs::lemmas::Grind::common_steps, std::proofs::Common::append-nil))]
 pub(crate) fn read_name(octets: &[u8], fault: Fault) -> Result<ParsedName<'_>, Fault>
     ensures ok { IfOk result (Spells octets.now) }
     ensures err { IfErr result (λ e. (e ≡ fault) × (IsSpelled octets.now → ⊥)) }
@@ -31,7 +30,6 @@ pub(crate) fn read_name(octets: &[u8], fault: Fault) -> Result<ParsedName<'_>, F
 
 /// Hands in the NSEC records of the class among the records that the octets are. Refuses octets
 /// that are no records, and NSEC records whose data are none; some are handed in then.
-#[tactic(auto, using(std::proofs::lemmas::Grind::common_steps, crate::proofs::AmongLemmas::passed, crate::proofs::AmongLemmas::refused, crate::proofs::AmongLemmas::refused_data, crate::proofs::AmongLemmas::taken))]
 fn hand_in(
     check: &mut NsecCheck<'_>,
     apex: &ParsedName<'_>,

@@ -26,7 +26,7 @@ pub(crate) struct RrsetKey<'a> {
 /// differ in TTL, and the first such type; None where there is none. Unsigned delegations are
 /// passed over where `excludes` says so, and names below the owner of a DNAME record where
 /// `below_dname` does.
-#[tactic(auto, using(std::proofs::lemmas::Grind::common_steps, crate::proofs::UnevenLemmas::walked_all, crate::proofs::UnevenLemmas::walked_clash, crate::proofs::UnevenLemmas::walked_first, crate::proofs::UnevenLemmas::walked_start, crate::proofs::UnevenLemmas::walked_even, crate::proofs::UnevenLemmas::walked_known, domain_zone::proofs::GivenLemmas::raw_types, domain_zone::proofs::GivenLemmas::types_at))]
+#[tactic(auto, using(std::proofs::lemmas::Grind::common_steps, crate::proofs::UnevenLemmas::walked_all, crate::proofs::UnevenLemmas::walked_clash, crate::proofs::UnevenLemmas::walked_first, crate::proofs::UnevenLemmas::walked_start))]
 fn uneven_set<'a>(
     apex: &'a ParsedName<'a>,
     sorted: &'a [BorrowedRecord<'a>],
