@@ -3,6 +3,7 @@
 use crate::odd::{Shape, shape_of};
 use denial_program::ZoneName;
 use domain_base::{Rtype, ScanError, ToName};
+use domain_octets::OctetsBuilder;
 use std::alloc::{AllocError, Global};
 use std::net::Ipv6Addr;
 
@@ -12,7 +13,7 @@ const NO_DATA: ScanError = ScanError::Custom("illegal data");
 /// Appends the octets of a name.
 fn put_name(alloc: Global, data: &mut Vec<u8>, word: &str) -> Result<(), ScanError> {
     let name = ZoneName::from_str(alloc, word)?;
-    data.extend_from_slice(name.as_wire())?;
+    data.append_slice(name.as_wire())?;
     Ok(())
 }
 
@@ -26,8 +27,9 @@ fn put_texts(data: &mut Vec<u8>, words: &[&str]) -> Result<(), ScanError> {
         if text.contains(&b'"') || text.contains(&b'\\') {
             return Err(NO_DATA);
         }
-        data.push(u8::try_from(text.len()).map_err(|_| NO_DATA)?)?;
-        data.extend_from_slice(text)?;
+        let count = u8::try_from(text.len()).map_err(|_| NO_DATA)?;
+        data.append_slice(&[count])?;
+        data.append_slice(text)?;
     }
     Ok(())
 }
@@ -36,7 +38,7 @@ fn put_texts(data: &mut Vec<u8>, words: &[&str]) -> Result<(), ScanError> {
 fn put_numbers(data: &mut Vec<u8>, words: &[&str]) -> Result<(), ScanError> {
     for word in words {
         let number = word.parse::<u16>().map_err(|_| NO_DATA)?;
-        data.extend_from_slice(&number.to_be_bytes())?;
+        data.append_slice(&number.to_be_bytes())?;
     }
     Ok(())
 }
@@ -52,7 +54,7 @@ fn put_data(
         (Shape::OneName, [name]) => put_name(alloc, data, name),
         (Shape::LongAddress, [address]) => {
             let address = address.parse::<Ipv6Addr>().map_err(|_| NO_DATA)?;
-            Ok(data.extend_from_slice(&address.octets())?)
+            Ok(data.append_slice(&address.octets())?)
         }
         (Shape::Texts, [_, ..]) => put_texts(data, words),
         (Shape::Service, [numbers @ .., target]) if numbers.len() == 3 => {
