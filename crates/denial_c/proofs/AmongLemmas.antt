@@ -156,8 +156,7 @@ module _ {apex : List ℕ} {class number : ℕ} {records : List ℕ} {a : Name} 
       → IfErr r (λ e. (e ≡ ShortBuffer (length shown)) × (length old < length shown) × (new ≡ old)) → IsChainResult making apex class records r old new
   chain_result making written shown old new fit is as_shown r ok err = grind (arith, common_steps)
 
-  pub pair_found : (config : ChainConfig) (pair : Option Pair) → IsFirstPair (zone_of_raw listed) a config pair
-      → HasFirstPair apex class config records pair
+  pub pair_found : (config : ChainConfig) (pair : Option Pair) → IsFirstPair (zone_of_raw listed) a config pair → HasFirstPair apex class config records pair
   pair_found config pair first = grind (arith, common_steps)
 
 -- ---- Hashes by SHA-1: no name is refused, and each hash has 20 octets.

@@ -53,8 +53,7 @@ module _ {L : List ZoneRecord} {a : Name} {all : List Name} where
 -- ---- the records that were given
 
 -- those of the owner and the type, as records of a zone
-set_of_raw : (rs : List RawRecord) (n : Name) (t : ℕ)
-    → filter (λ z. nat_eq z.rtype t) (records_of (zone_of_raw rs) n) ≡ zone_of_raw (filter (is_in_set n t) rs)
+set_of_raw : (rs : List RawRecord) (n : Name) (t : ℕ) → filter (λ z. nat_eq z.rtype t) (records_of (zone_of_raw rs) n) ≡ zone_of_raw (filter (is_in_set n t) rs)
 set_of_raw [] n t = refl
 set_of_raw (r ∷ rs) n t = grind (arith, common_steps, (set_of_raw rs n t))
 

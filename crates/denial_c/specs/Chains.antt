@@ -111,8 +111,7 @@ pub record HasZone (apex : Octets) (class : ℕ) (records : Octets)
 abbrev pub IsGivenFault : ℕ → Octets → Fault → Type 0
 IsGivenFault class octets (fault.NoRecord offset) = HasNoRecordAt class octets offset
 IsGivenFault class octets (fault.Class offset) = HasOtherClassAt class octets offset
-IsGivenFault class octets fault.OutOfMemory =
-    (given : List RawRecord) × AreGiven class octets given
+IsGivenFault class octets fault.OutOfMemory = (given : List RawRecord) × AreGiven class octets given
 IsGivenFault class octets _ = ⊥
 
 -- the record at the offset is the first of its owner and type that has another TTL; the owner is
@@ -122,10 +121,8 @@ pub record IsSortedUnevenAt (names : List ZoneRecord → Name → List Name) (cl
     (octets : Octets) (sorted : List RawRecord) (a : Name) (offset : ℕ) : Type 0 where
   pub owner : Name
   pub rtype : ℕ
-  pub first : IsFirstUneven (zone_of_raw sorted)
-      (names (zone_of_raw sorted) a) owner
-  pub clash : IsFirstClash (records_of (zone_of_raw sorted) owner)
-      rtype
+  pub first : IsFirstUneven (zone_of_raw sorted) (names (zone_of_raw sorted) a) owner
+  pub clash : IsFirstClash (records_of (zone_of_raw sorted) owner) rtype
   pub at : IsUnevenAt class octets owner rtype offset
 
 -- ---- what is made of a zone
@@ -184,11 +181,7 @@ IsSortedFault making class octets a sorted _ = ⊥
 -- out where opt-out is chosen, and the flags of all records are those of opt-out then
 abbrev pub hashed_config : ℕ → Octets → Bool → Bool → Bool → ChainConfig
 hashed_config iterations salt opt_out assume_dnskey occlude_below_dname =
-    let parameters : Parameters = record {
-      algorithm = 1;
-      iterations = iterations;
-      salt = salt;
-    } in
+    let parameters : Parameters = record { algorithm = 1; iterations = iterations; salt = salt } in
     record {
       hash = hash_by sha1_answer parameters;
       parameters = parameters;
@@ -243,8 +236,7 @@ IsChainFault making apex class records old e =
     × HasZone apex class records (λ a sorted. IsSortedFault making class records a sorted e)
 
 -- what is answered, and what the buffer has then: a fault leaves it as it was
-abbrev pub IsChainResult : Making → Octets → ℕ → Octets → Result ℕ Fault → Octets → Octets
-    → Type 0
+abbrev pub IsChainResult : Making → Octets → ℕ → Octets → Result ℕ Fault → Octets → Octets → Type 0
 IsChainResult making apex class records (Ok count) old new =
     IsFit making × HasZone apex class records (λ a sorted. (written : Octets)
     × making.is_chain a sorted written × IsWritten written old new count)

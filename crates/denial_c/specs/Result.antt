@@ -155,16 +155,12 @@ pub record AreWithParam (class : ℕ) (records : Octets) (a : Name) (links : Lis
 
 abbrev pub with_param : ℕ → Octets → Source
 with_param class records =
-    record {
-      are = AreWithParam class records;
-      is_fault = IsChainFault class records;
-    }
+    record { are = AreWithParam class records; is_fault = IsChainFault class records }
 
 -- of the zone, with no hash algorithm but SHA-1 and no flag but that of opt-out: records with
 -- others are to be ignored (RFC 5155, sections 8.1 and 8.2)
 abbrev pub is_known : Name → HashedLink → Bool
-is_known a k =
-    (k.parameters.algorithm == 1) && nat_lt k.flags 2 && is_at_or_below k.owner a
+is_known a k = (k.parameters.algorithm == 1) && nat_lt k.flags 2 && is_at_or_below k.owner a
 
 -- the parameters of the first record; without a record SHA-1, no iterations and no salt
 abbrev pub first_parameters : List HashedLink → Parameters
@@ -183,10 +179,7 @@ pub record AreAlone (class : ℕ) (records : Octets) (a : Name) (links : List Ha
 
 abbrev pub alone : ℕ → Octets → Source
 alone class records =
-    record {
-      are = AreAlone class records;
-      is_fault = λ a. IsReadFault (AreNsec3s class records);
-    }
+    record { are = AreAlone class records; is_fault = λ a. IsReadFault (AreNsec3s class records) }
 
 -- where they are from is chosen
 abbrev pub source_of : Telling → ℕ → Octets → Source

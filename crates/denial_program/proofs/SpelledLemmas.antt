@@ -134,8 +134,7 @@ raw owner class ttl d = see (record { owner = owner; class = class; ttl = ttl; �
 
 -- what data of this type give
 abbrev Gives : {K : Type 0} → ℕ → (RawRecord → K → Type 0) → Type 0
-Gives {K} rtype Is =
-    (owner : Name) (class ttl : ℕ) (d : SpelledData) → AreSound d → rtype_of d ≡ rtype → (k : K) × Is (raw owner class ttl d) k
+Gives {K} rtype Is = (owner : Name) (class ttl : ℕ) (d : SpelledData) → AreSound d → rtype_of d ≡ rtype → (k : K) × Is (raw owner class ttl d) k
 
 pub nsec_given : Gives rtypes.nsec IsNsecOf
 nsec_given owner class ttl (Nsec d) sound e = (

@@ -11,8 +11,7 @@ use Rattle.denial_program.specs.declared.fault.DenialFault.{DenialFault, TheVari
 -- before them
 pub record ReadsLines {R : Type 0} (old new : Option Octets) (result : Result R DenialFault)
     : Type 0 where
-  pub line : (n : ℕ) → IsErrOf result (Line n)
-      → IfSome old (λ bytes. IsFirstBad (lines bytes) n)
+  pub line : (n : ℕ) → IsErrOf result (Line n) → IfSome old (λ bytes. IsFirstBad (lines bytes) n)
   pub end : MatchResult result (λ _. IsReadToEnd old new)
       (λ e. IsAfterInput e → IsReadToEnd old new)
 
@@ -24,8 +23,7 @@ pub record IsWritten {X : Type 0} (text_of : X → Octets) (is_such : X → Type
   pub appends : Appends old new (text_of made)
 
 -- there is such a value, and the device failed; or there is none, for this reason
-abbrev pub IsUnwritten : {X : Type 0} → (X → Type 0) → (DenialFault → Type 0) → DenialFault
-    → Type 0
+abbrev pub IsUnwritten : {X : Type 0} → (X → Type 0) → (DenialFault → Type 0) → DenialFault → Type 0
 IsUnwritten {X} is_such has_none fault =
     ((fault ≡ Write) × ((made : X) × is_such made)) ⊎ has_none fault
 
@@ -45,7 +43,6 @@ pub record IsRun {X R : Type 0} (text_of : X → Octets) (IsAnswer : List Octets
     (old new : Option Octets) (result : Result R DenialFault) : Type 0 where
   pub ok : OnOk result (IfSome input (λ bytes. IsWritten text_of (IsAnswer (lines bytes)) old new))
   pub reads : ReadsLines input left result
-  pub records : IfErr result (λ e. IsOfRecords e
-      → IfSome input (λ bytes. HasNone (lines bytes) e))
+  pub records : IfErr result (λ e. IsOfRecords e → IfSome input (λ bytes. HasNone (lines bytes) e))
   pub write : IsErrOf result Write
       → IfSome input (λ bytes. (made : X) × IsAnswer (lines bytes) made)

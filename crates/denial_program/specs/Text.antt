@@ -41,8 +41,7 @@ lines_of text = flat_map (λ item. text item ++ codes "\n")
 
 -- a line for each record of an NSEC3 chain, and one for its NSEC3PARAM record
 abbrev pub nsec3s_text : ChainRecords → Octets
-nsec3s_text made =
-    lines_of nsec3_line made.links ++ (nsec3param_line made.param ++ codes "\n")
+nsec3s_text made = lines_of nsec3_line made.links ++ (nsec3param_line made.param ++ codes "\n")
 
 -- a line for each record of a chain, or one line with a verdict
 abbrev pub answer_text : Reply → Octets

@@ -26,8 +26,7 @@ is_hash_so answer h e = ap (λ w. is_hash w h) e ∙ ap is_eq (tied_itself nat_l
 -- ---- the first that passes a test
 
 -- of names in order it comes before all others that pass
-found_first : (test : Name → Bool) (xs : List Name) (f y : Name) → find test xs ≡ Some f → IsAscending before xs → In y xs → test y ≡ true
-    → before y f ≡ false
+found_first : (test : Name → Bool) (xs : List Name) (f y : Name) → find test xs ≡ Some f → IsAscending before xs → In y xs → test y ≡ true → before y f ≡ false
 found_first test [] f y e up i t = absurd i
 found_first test (x ∷ xs) f y e up i t = grind (arith, common_steps, irreflexive, before_order, all_in, (found_first test xs f y))
 
@@ -79,8 +78,7 @@ module _ (L : List ZoneRecord) (a : Name) (config : ChainConfig) (names : List N
           tt,
         )
 
-    all_told : (ks : List Name) → AllByRecursion (λ k. In k names) ks
-        → AllByRecursion (IsAlike L a config) (flat_map (λ n. pair_with n (first_of n)) ks)
+    all_told : (ks : List Name) → AllByRecursion (λ k. In k names) ks → AllByRecursion (IsAlike L a config) (flat_map (λ n. pair_with n (first_of n)) ks)
     all_told [] h = tt
     all_told (k ∷ ks) h = grind (arith, common_steps, all_both, (one_told k h.0), (all_told ks h.1))
 

@@ -222,8 +222,7 @@ module _ {L : List ZoneRecord} {a : Name} {assume : Bool} {links : List Link} (f
       of_cover = grind (arith, common_steps, (cases_Bool (is_occluded true L a x)), (cases_Bool (name_exists L a x)), of_occluded, of_empty, of_missing)
 
     list_proved : listed_answer a listed x t ≡ cond (not (has_match_or_cover listed x)) NotProven known
-    list_proved =
-        list_says facts listed among x (listed_both a listed x t) known of_match of_cover ∙ turned (has_match_or_cover listed x) known NotProven
+    list_proved = list_says facts listed among x (listed_both a listed x t) known of_match of_cover ∙ turned (has_match_or_cover listed x) known NotProven
 
   -- what they answer is what they prove, of every name and type
   reading_of : (listed : List Link) → All (Contains links) listed → (x : Name) (t : ℕ) → t < 65536 → reading a listed x t ≡ proved_answer L a assume listed x t
@@ -286,8 +285,7 @@ found_reads a listed x t low apart None covered found = grind (arith, common_ste
 found_reads a listed x t low apart (Some k) covered found = grind (arith, common_steps)
 
 -- a cover that was found covers the name
-pub found_covers : (a : Name) (listed : List Link) (x : Name) (k : Link) → IsFound a listed x None (Some k)
-    → covers before k.owner k.next x ≡ true
+pub found_covers : (a : Name) (listed : List Link) (x : Name) (k : Link) → IsFound a listed x None (Some k) → covers before k.owner k.next x ≡ true
 found_covers a listed x k found = grind (arith, common_steps, (find_some (is_cover a x) listed k))
 
 -- ---- what a record says of its owner, or of what is below it, rests on no wildcard; what is said of a wildcard does

@@ -253,8 +253,7 @@ module _ (L : List ZoneRecord) (a : Name) where
 
     -- ---- and where it is so, that is the answer
 
-    at_inside : is_at_or_below x a ≡ true → is_at_parent a x t ≡ false
-        → zone_answer L a assume x t ≡ inside_answer L a assume x t (highest_occluder L a x)
+    at_inside : is_at_or_below x a ≡ true → is_at_parent a x t ≡ false → zone_answer L a assume x t ≡ inside_answer L a assume x t (highest_occluder L a x)
     at_inside low child = λ j. cond (not (low j)) OutsideZone (cond (child j) AtParent (inside_answer L a assume x t (highest_occluder L a x)))
 
     -- below a name of the zone there is no apex

@@ -400,8 +400,7 @@ judged knows listed a x t small answer is = subst (IsJudged listed a x t) is (re
 module _ (knows : ChainsAreKnown) (R : HashedRecords) (x : Name) (limit : ℕ) (answer : Answer) (few : R.parameters.iterations ≤ limit) where
   pub hashed_judged : (t : ℕ) → t < 65536 → is_at_or_below x R.apex ≡ true → is_at_parent R.apex x t ≡ false → IsHashedRead R x t answer
       → IsHashedJudged R x t limit (Ok answer)
-  hashed_judged t small low apart read =
-      grind (arith, common_steps, (read_proved knows R x t answer small low apart read), (read_fits R x t answer read))
+  hashed_judged t small low apart read = grind (arith, common_steps, (read_proved knows R x t answer small low apart read), (read_fits R x t answer read))
 
   pub expansion_judged : (n : ℕ) → is_expanded R.apex x n ≡ true → IsExpansionRead R x n answer → IsExpansionJudged R x n limit (Ok answer)
   expansion_judged n longer read = record {

@@ -89,8 +89,7 @@ answer_by at_cut bits n opt_out m t =
     (if contains_type bits dname then Redirected n else next_by n opt_out))
 
 abbrev pub encloser_answer : Name → Encloser → ℕ → ℕ → Answer
-encloser_answer a e n t =
-    answer_by (encloser_is_cut a e) e.link.bits e.count (flag_of e.cover) n t
+encloser_answer a e n t = answer_by (encloser_is_cut a e) e.link.bits e.count (flag_of e.cover) n t
 
 abbrev pub found_answer : Name → Option Encloser → ℕ → ℕ → Answer
 found_answer a None n t = NotProven

@@ -48,8 +48,7 @@ pub record IsHashedJudged (R : HashedRecords) (x : Name) (t limit : ℕ)
 pub record IsExpansionJudged (R : HashedRecords) (x : Name) (n limit : ℕ)
     (result : Result Answer Nsec3HashError) : Type 0 where
   pub outside : is_at_or_below x R.apex ≡ false → result ≡ Ok OutsideZone
-  pub none : is_at_or_below x R.apex ≡ true → is_expanded R.apex x n ≡ false
-      → result ≡ Ok NotProven
+  pub none : is_at_or_below x R.apex ≡ true → is_expanded R.apex x n ≡ false → result ≡ Ok NotProven
   pub iterations : is_expanded R.apex x n ≡ true → limit < R.parameters.iterations
       → result ≡ Ok TooManyIterations
   -- for records of the chain of any zone, within the limit, what they prove of the next closer name

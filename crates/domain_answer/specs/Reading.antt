@@ -58,8 +58,7 @@ tells_occluded a k x = is_at_or_below x k.owner && tells_occluder a k
 
 -- what such a record says of the names strictly below its owner
 abbrev pub owner_answer : Name → Link → Answer
-owner_answer a k =
-    if is_at_cut a k then Referral (length k.owner) else Redirected (length k.owner)
+owner_answer a k = if is_at_cut a k then Referral (length k.owner) else Redirected (length k.owner)
 
 -- what a record says of its owner
 abbrev pub match_answer : Name → Link → ℕ → Answer
@@ -127,8 +126,7 @@ name_answer answer = Given answer
 pub record IsNameAnswer (whole : Answer) (a : Name) (listed : List Link) (x : Name) (t : ℕ)
     (told : NameAnswer) : Type 0 where
   pub exact : told ≡ name_answer whole
-  pub absent : (n : ℕ) → told ≡ Absent n
-      → (whole ≡ absent_answer a listed n x t) × (n < length x)
+  pub absent : (n : ℕ) → told ≡ Absent n → (whole ≡ absent_answer a listed n x t) × (n < length x)
 
 -- ---- What a list of records of a zone's NSEC chain proves of what the zone says.
 
@@ -155,8 +153,7 @@ proved_answer L a assume listed x t =
 
 -- a chain with this choice leaves out what stands below a DNAME, or nothing stands there
 abbrev pub LeavesOutBelowDname : List ZoneRecord → Name → Bool → Type 0
-LeavesOutBelowDname L a below_dname =
-    unoccluded_owners below_dname L a ≡ unoccluded_owners true L a
+LeavesOutBelowDname L a below_dname = unoccluded_owners below_dname L a ≡ unoccluded_owners true L a
 
 -- the answer is what is proved of any zone of whose chain these are records, but for TTLs, classes
 -- and the case of letters, in any order, with repeats

@@ -72,8 +72,7 @@ wildcard_below x = asterisk ∷ x
 
 -- of what is strictly below the highest occluder o
 abbrev pub occluded_answer : List ZoneRecord → Name → Name → Answer
-occluded_answer L a o =
-    if is_zone_cut L a o then Referral (length o) else Redirected (length o)
+occluded_answer L a o = if is_zone_cut L a o then Referral (length o) else Redirected (length o)
 
 -- of a name that does not exist, whose closest encloser, right above the wildcard w, has n labels
 abbrev pub missing_answer : List ZoneRecord → Name → Bool → ℕ → Name → ℕ → Answer

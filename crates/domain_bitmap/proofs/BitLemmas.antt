@@ -191,9 +191,7 @@ cut_same xs ys cut also same =
     let long : length xs ≡ length ys = grind (arith, common_steps, (same (length xs - 1)), (same (length ys - 1))) in
     same_number_lists xs ys long (λ k inside. same k)
 
-pub trimmed-take : (xs : List ℕ) (n : ℕ) → n ≤ length xs → ((k : ℕ) → n ≤ k → get_or xs k 0 ≡ 0) → (0 < n → get_or xs (n - 1) 0 ≢ 0)
-    → trimmed xs ≡ take n xs
-trimmed-take xs n within zeros last =
-    cut_same _ _ (cut-trimmed xs) (grind (arith, common_steps)) (λ i. get_or-trimmed xs i ∙ grind (arith, common_steps))
+pub trimmed-take : (xs : List ℕ) (n : ℕ) → n ≤ length xs → ((k : ℕ) → n ≤ k → get_or xs k 0 ≡ 0) → (0 < n → get_or xs (n - 1) 0 ≢ 0) → trimmed xs ≡ take n xs
+trimmed-take xs n within zeros last = cut_same _ _ (cut-trimmed xs) (grind (arith, common_steps)) (λ i. get_or-trimmed xs i ∙ grind (arith, common_steps))
 
 pub ruleset trim_steps = (trimmed-take)

@@ -97,8 +97,7 @@ module _ (value slot : List ℕ) (window j : ℕ) (is : slot ≡ window ∷ repl
   at_behind : (i k : ℕ) → i ≡ k + 34 → 34 * j ≤ k → get_or grown i 0 ≡ get_or value k 0
   at_behind i k behind low = grind (arith, common_steps, get_or-append_right, front_long, long, get_or-drop)
 
-  window_at : (i : ℕ) → get_or grown (34 * i) 0
-      ≡ (if nat_lt i j then get_or value (34 * i) 0 else (if i == j then window else get_or value (34 * (i - 1)) 0))
+  window_at : (i : ℕ) → get_or grown (34 * i) 0 ≡ (if nat_lt i j then get_or value (34 * i) 0 else (if i == j then window else get_or value (34 * (i - 1)) 0))
   window_at i = grind (arith, nat_tests, (at_before (34 * i)), (at_slot (34 * i) 0), (at_behind (34 * i) (34 * (i - 1))))
 
   pub slots-inserted : AreSlots grown
@@ -218,8 +217,7 @@ module _ (windows : ℕ → ℕ) (octets : ℕ → List ℕ) (m : ℕ) (are : As
   in-blocks_at : (a n t : ℕ) → a + n ≡ m
       → in_first_block (blocks_at windows octets a n) t ≡ list_any (λ j. (windows j == t / 256) && has_bit (octets j) t) (range_with_len a n)
   in-blocks_at a zero t whole = refl
-  in-blocks_at a (suc n) t whole =
-      grind (arith, common_steps, form-blocks_at, in-more, has_bit-trimmed, none_below, (in-blocks_at (a + 1) n t (omega arith)))
+  in-blocks_at a (suc n) t whole = grind (arith, common_steps, form-blocks_at, in-more, has_bit-trimmed, none_below, (in-blocks_at (a + 1) n t (omega arith)))
 
 length-block_if_any : (w : ℕ) (octets : List ℕ) → length (octets_of_blocks (block_if_any w octets)) ≤ length octets + 2
 length-block_if_any w octets = grind (arith, common_steps)
@@ -262,8 +260,7 @@ spelled : (types : ℕ → Bool) (blocks : List Block) (a n : ℕ) → a + n ≡
 unfolding blocks_with
 spelled types [] a zero all form same = refl
 spelled types (b ∷ blocks) a zero all form same = absurd (omega (arith, form.shortest.0, form.valid.0.window))
-spelled types [] a (suc n) all form same =
-    grind (arith, common_steps, has_bit-none, none_in_form, (trimmed_window types [] a), (spelled types [] (a + 1) n))
+spelled types [] a (suc n) all form same = grind (arith, common_steps, has_bit-none, none_in_form, (trimmed_window types [] a), (spelled types [] (a + 1) n))
 spelled types (b ∷ blocks) a (suc n) all form same = elim (eqb_tells b.window a) [
   | inl h ↦ grind (arith, common_steps, block_is, form.valid, form.shortest, (trimmed_window types b.octets a), (spelled types blocks (a + 1) n))
   | inr h ↦ grind (arith, common_steps, has_bit-none, none_below, (trimmed_window types [] a), (spelled types (b ∷ blocks) (a + 1) n))

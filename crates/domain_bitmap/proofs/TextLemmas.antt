@@ -36,8 +36,7 @@ pub record Scanned (old now : List (List ℕ)) (value : List ℕ) : Type 0 where
   pub read : List ℕ
   pub spelled : (rest : List ℕ) → TypeTexts now rest
       → (types : List ℕ) × TypeTexts old types × ((t : ℕ) → is_among types t ≡ (is_among rest t || is_among read t))
-  pub refused_later : (limit : Option ℕ) (new : List (List ℕ)) (fault : ScanFault) → RefusesAfter limit read now new fault
-      → RefusesTypes limit old new fault
+  pub refused_later : (limit : Option ℕ) (new : List (List ℕ)) (fault : ScanFault) → RefusesAfter limit read now new fault → RefusesTypes limit old new fault
   pub held : (t : ℕ) → t < 65536 → holds value t ≡ is_among read t
   pub windows : (w : ℕ) → has_window value w ≡ has_type_in read w
   pub room : length value ≡ room_for read

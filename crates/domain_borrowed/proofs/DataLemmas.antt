@@ -45,8 +45,7 @@ faulty_header octets fault found r after fits e = grind (arith, common_steps, fa
 
 same_header : (v : Values header) (octets left : List ℕ) → Begins header octets v left
     → (r : RawRecord) (after : List ℕ) → IsRecord r → octets ≡ record_octets r ++ after → Same v (header_of r) left (r.«data».octets ++ after)
-same_header v octets left front r after fits e =
-    same_data header v _ left _ refl front.fits fits (sym front.parts ∙ e ∙ header_first r after)
+same_header v octets left front r after fits e = same_data header v _ left _ refl front.fits fits (sym front.parts ∙ e ∙ header_first r after)
 
 -- nor does one whose data are cut
 pub cut_data : (v : Values header) (octets left : List ℕ) → Begins header octets v left → length left < v.1.1.1.1
@@ -70,8 +69,7 @@ same_record q r x y fits_q fits_r e =
         ttl = (s.values i).1.1.1.0;
         «data» = record { rtype = (s.values i).1.0; octets = same i };
       };
-      after = sym (drop_at q.«data».octets x _ refl) ∙ ap (drop (length q.«data».octets)) s.after
-          ∙ drop_at _ y _ (sym as_long);
+      after = sym (drop_at q.«data».octets x _ refl) ∙ ap (drop (length q.«data».octets)) s.after ∙ drop_at _ y _ (sym as_long);
     }
 
 named_octets : (labels : List (List ℕ)) (after : List ℕ) → wire_of labels ++ after ≡ [] → ⊥

@@ -93,8 +93,7 @@ param_values k =
 
 -- the record of parameters (RFC 5155, section 4.2)
 abbrev pub param_record : ParamRecord → RawRecord
-param_record k =
-    raw k.owner k.class k.ttl rtypes.nsec3param (octets_of nsec3param (param_values k))
+param_record k = raw k.owner k.class k.ttl rtypes.nsec3param (octets_of nsec3param (param_values k))
 
 -- the fields have such octets
 abbrev pub IsParam : ParamRecord → Type 0
@@ -119,13 +118,11 @@ IsRecord r = Fits header (header_of r)
 -- a record of an owner and data of any kind, with the octets of the data
 abbrev pub raw_record : {N D : Type 0} → (N → Name) → (D → ℕ) → (D → Octets) → N → ℕ → ℕ → D
     → RawRecord
-raw_record labels rtype octets owner class ttl d =
-    raw (labels owner) class ttl (rtype d) (octets d)
+raw_record labels rtype octets owner class ttl d = raw (labels owner) class ttl (rtype d) (octets d)
 
 abbrev pub raw_record_of : {N D : Type 0} → (N → Name) → (D → ℕ) → (D → Octets) → Record N D
     → RawRecord
-raw_record_of labels rtype octets r =
-    raw_record labels rtype octets r.owner r.class r.ttl r.«data»
+raw_record_of labels rtype octets r = raw_record labels rtype octets r.owner r.class r.ttl r.«data»
 
 -- octets that begin with both records begin with one record, and what follows it is the same
 pub record IsOneRecord (q r : RawRecord) (x y : Octets) : Type 0 where

@@ -92,8 +92,7 @@ nsec_text_back labels octets (valid, bitmap) =
 
 pub nsec_text_same : (labels : List (List ℕ)) (octets : List ℕ) → Fits nsec (labels, octets) → IsShortest octets
     → NsecText (words_of (name_text labels ++ 46 ∷ 32 ∷ [] ++ types_text (types_of octets))) (labels, octets) []
-nsec_text_same labels octets fits shortest =
-    grind (arith, common_steps, (bitmap_back octets fits.1 shortest), (nsec_text_back labels octets fits))
+nsec_text_same labels octets fits shortest = grind (arith, common_steps, (bitmap_back octets fits.1 shortest), (nsec_text_back labels octets fits))
 
 -- ---- the parameters of hashes
 
@@ -107,8 +106,7 @@ params_tokens v = decimal v.0.0 ∷ decimal v.0.1.0 ∷ decimal v.0.1.1 ∷ salt
 params_words : (v : Values nsec3param) → Fits nsec3param v → words_of (nsec3param_text v) ≡ params_tokens v
 params_words v fits = grind (arith, common_steps, next_word, salt_word, numbers_words)
 
-params_read : (v : Values nsec3param) (after : List (List ℕ)) → Fits nsec3param v
-    → Nsec3paramText (params_tokens v ++ after) v after
+params_read : (v : Values nsec3param) (after : List (List ℕ)) → Fits nsec3param v → Nsec3paramText (params_tokens v ++ after) v after
 params_read v after fits =
     grind (arith, common_steps, (fields_back hash_numbers v.0 (salt_text v.1 ∷ after) refl fits.0), (salt_back v.1 fits.1.1 (omega (arith, fits.1.0))))
 
@@ -117,10 +115,8 @@ params_text_back v fits = subst (λ tokens. Nsec3paramText tokens v []) (sym (pa
 
 -- ---- NSEC3
 
-hash_read : (v : Values hash_fields) (after : List (List ℕ)) → Fits hash_fields v
-    → HashText (params_tokens v.0 ++ base32_upper v.1 ∷ after) v after
-hash_read v after fits =
-    grind (arith, common_steps, (params_read v.0 (base32_upper v.1 ∷ after) fits.0), (upper_reads_back v.1 fits.1.1))
+hash_read : (v : Values hash_fields) (after : List (List ℕ)) → Fits hash_fields v → HashText (params_tokens v.0 ++ base32_upper v.1 ∷ after) v after
+hash_read v after fits = grind (arith, common_steps, (params_read v.0 (base32_upper v.1 ∷ after) fits.0), (upper_reads_back v.1 fits.1.1))
 
 nsec3_words : (v : Values nsec3) → Fits nsec3 v → v.0.1 ≢ []
     → words_of (nsec3_text v) ≡ params_tokens v.0.0 ++ base32_upper v.0.1 ∷ map type_text (types_of v.1)

@@ -76,14 +76,12 @@ module _ {L : List ZoneRecord} {a : Name} {config : ChainConfig} {links : List H
         record {
           there = s.there;
           spelled = sym (ap (λ q. q.0) e.2);
-          octets = all_in AreOctets hashes _ (hashes_octets L a config _
-              (recursion_from_All _ _ chain.sound)) (in_cycle hashes e.0 e.1);
+          octets = all_in AreOctets hashes _ (hashes_octets L a config _ (recursion_from_All _ _ chain.sound)) (in_cycle hashes e.0 e.1);
         },
       )
 
   pub told_at : (k : HashedLink) → In k links → (k.parameters ≡ config.parameters) × (k.flags ≡ config.flags)
-  told_at k i =
-      all_in (λ k. (k.parameters ≡ config.parameters) × (k.flags ≡ config.flags)) links k (recursion_from_All _ links facts.chain.told) i
+  told_at k i = all_in (λ k. (k.parameters ≡ config.parameters) × (k.flags ≡ config.flags)) links k (recursion_from_All _ links facts.chain.told) i
 
   -- no record of the chain is passed over
   pub hash_at : (k : HashedLink) → In k links → (h : Octets) → AreOctets h → k.owner ≡ hashed_owner a h → owner_hash a config.parameters k ≡ Some h
@@ -159,11 +157,7 @@ pub closer_is : (x d : Name) → is_at_or_below x d ≡ true → length d < leng
 closer_is x d p l =
     let up = below_drop _ x in
     let n : length (drop (length x - (length d + 1)) x) ≡ length d + 1 = omega (arith, length-drop (length x - (length d + 1)) x) in
-    record {
-      above = up;
-      longer = n;
-      below = strictly_from _ d (below_longer x _ d up p (omega (arith, n))) (omega (arith, n));
-    }
+    record { above = up; longer = n; below = strictly_from _ d (below_longer x _ d up p (omega (arith, n))) (omega (arith, n)) }
 
 -- ---- wire forms
 
@@ -374,8 +368,7 @@ module _ (L : List ZoneRecord) (a : Name) (config : ChainConfig) where
   pub empty_lists : (x : Name) → is_chain_name L a config x ≡ true → is_original_owner L a config x ≡ false → (t : ℕ) → nsec3_lists L a config x t ≡ false
   empty_lists x h out t = grind (arith, common_steps)
 
-  any_listed : (x : Name) → is_chain_name L a config x ≡ true
-      → list_any (nsec3_lists L a config x) (range_with_len 0 65536) ≡ is_original_owner L a config x
+  any_listed : (x : Name) → is_chain_name L a config x ≡ true → list_any (nsec3_lists L a config x) (range_with_len 0 65536) ≡ is_original_owner L a config x
   any_listed x known = by (is_original_owner L a config x) refl
     where
       by : (b : Bool) → is_original_owner L a config x ≡ b → list_any (nsec3_lists L a config x) (range_with_len 0 65536) ≡ b
@@ -656,8 +649,7 @@ module _ (R : HashedRecords) (x : Name) (t : ℕ) where
   walked_within verdict w = subst (IsWithin (length x)) (sym w.says) (found_within w.found w.is)
 
 -- records with the hasher and the parameters of a chain
-pub as_chain : (R : HashedRecords) (config : ChainConfig) → config.hash ≡ R.hash → config.parameters ≡ R.parameters
-    → R ≡ chain_records R.apex config R.links
+pub as_chain : (R : HashedRecords) (config : ChainConfig) → config.hash ≡ R.hash → config.parameters ≡ R.parameters → R ≡ chain_records R.apex config R.links
 as_chain R config hash parameters = grind (arith, common_steps)
 
 -- for records of the chain of any zone

@@ -59,8 +59,7 @@ shorter_above x d p s = grind (arith, common_steps, same_length, same_back)
 
 module _ (names : List Name) (a : Name) where
   -- where a name exists, those above it do
-  pub exists_above : (x d : Name) → exists_over names a x ≡ true → is_at_or_below x d ≡ true → is_at_or_below d a ≡ true
-      → exists_over names a d ≡ true
+  pub exists_above : (x d : Name) → exists_over names a x ≡ true → is_at_or_below x d ≡ true → is_at_or_below d a ≡ true → exists_over names a d ≡ true
   exists_above x d there up low = grind (arith, common_steps, any_in, in_any, below_trans)
 
   pub apex_from : (x : Name) → exists_over names a x ≡ true → exists_over names a a ≡ true
@@ -155,8 +154,7 @@ module _ (L : List ZoneRecord) (a : Name) (config : ChainConfig) where
   module _ (cuts : CutsEnclose L a config) where
     pub cut_apart : (c y : Name) → is_zone_cut L a c ≡ true → is_original_owner L a config c ≡ true
         → exists_over (original_owners L a config) a y ≡ true → is_strictly_below y c ≡ true → ⊥
-    cut_apart c y cut original there s =
-        grind (arith, common_steps, ((cuts.each c y cut original s).longest y there (below_itself y)), (strictly_longer y c s))
+    cut_apart c y cut original there s = grind (arith, common_steps, ((cuts.each c y cut original s).longest y there (below_itself y)), (strictly_longer y c s))
 
     pub not_below : (y : Name) → exists_over (original_owners L a config) a y ≡ true → is_below_chain_cut L a config y ≡ false
     not_below y there =
@@ -187,8 +185,7 @@ module _ {X : Type 0} (R : X → X → Type 0) where
 
   -- records of a list stand so to some of it, where each stands so to itself
   pub paired_in : ((k : X) → R k k) → (links ks : List X) → All (Contains links) ks → All (IsPairedIn R links) ks
-  paired_in itself links ks h =
-      All-weaker (Contains links) (IsPairedIn R links) (λ k there. record { link = k; there = there; alike = itself k }) ks h
+  paired_in itself links ks h = All-weaker (Contains links) (IsPairedIn R links) (λ k there. record { link = k; there = there; alike = itself k }) ks h
 
   -- records of which each stands so to one of a list stand so to some records of it
   pub record ArePairedWithSome (links ks : List X) : Type 0 where
@@ -317,8 +314,7 @@ module _ (R : HashedRecords) (ls : List HashedLink) (alike : ArePaired IsHashedA
   first_alike x d first = λ y up below. let f = first y up below in (f.0, f.1, sym (matched_alike y) ∙ f.2)
 
   -- the first match in the one list, and in the other
-  pub found_alike : (v : Octets) (k : HashedLink) → first_match R v ≡ Some k
-      → (l : HashedLink) × IsHashedAlike k l × (first_match S v ≡ Some l)
+  pub found_alike : (v : Octets) (k : HashedLink) → first_match R v ≡ Some k → (l : HashedLink) × IsHashedAlike k l × (first_match S v ≡ Some l)
   found_alike v k e = grind (arith, common_steps, (matching v))
 
   next_alike : (next : Option Octets) → OptionsPaired IsHashedAlike (next_cover R next) (next_cover S next)
@@ -363,8 +359,7 @@ module _ (L : List ZoneRecord) (a : Name) (config : ChainConfig) (x : Name) (t :
   en = closest_encloser (original_owners L a config) a x
 
   pub hashed_proved_alike : hashed_proved_verdict L a config ks x t ≡ hashed_proved_verdict L a config ls x t
-  hashed_proved_alike =
-      rw (matched_alike (chain_records a config ks) ls alike en, covered_alike (chain_records a config ks) ls alike (next_closer x en)) refl
+  hashed_proved_alike = rw (matched_alike (chain_records a config ks) ls alike en, covered_alike (chain_records a config ks) ls alike (next_closer x en)) refl
 
 -- records of a list are, but for these, records of it
 pub hashed_contained_alike : (links ks : List HashedLink) → All (Contains links) ks → All (IsPairedIn IsHashedAlike links) ks
@@ -395,8 +390,7 @@ below_is a x y n s under n_is s_is = rw (n_is, s_is) (sym (common_shares x y a u
 
 -- ---- the longer of what a name shares with two others has the greater number of labels
 
-pub longer_is : (x o n : Name) (so sn m : ℕ) → so ≡ common_labels x o → sn ≡ common_labels x n → m ≡ max so sn
-    → m ≡ length (longer (shared x o) (shared x n))
+pub longer_is : (x o n : Name) (so sn m : ℕ) → so ≡ common_labels x o → sn ≡ common_labels x n → m ≡ max so sn → m ≡ length (longer (shared x o) (shared x n))
 longer_is x o n so sn m so_is sn_is m_is = grind (arith, common_steps, shared_length)
 
 -- ---- records of a chain
@@ -417,8 +411,7 @@ module _ {L : List ZoneRecord} {a : Name} {config : GenerateNsecConfig} {links :
 
   -- ---- the names of a record
 
-  pub ends : (k : Link) → In k links → In k.owner (unoccluded_owners below_dname L a)
-      × (In k.next (unoccluded_owners below_dname L a) ⊎ (a ≡ k.next))
+  pub ends : (k : Link) → In k links → In k.owner (unoccluded_owners below_dname L a) × (In k.next (unoccluded_owners below_dname L a) ⊎ (a ≡ k.next))
   ends k i = in_pairs chain_owners a _ (subst (λ ps. In (k.owner, k.next) ps) facts.chain.names (in_map (λ k. (k.owner, k.next)) links k i))
 
   pub owner_low : (n : Name) → In n (unoccluded_owners below_dname L a) → is_at_or_below n a ≡ true
@@ -493,8 +486,7 @@ module _ {L : List ZoneRecord} {a : Name} {config : GenerateNsecConfig} {links :
     covered_under o over free under = grind (arith, common_steps, says)
 
     -- x is occluded exactly where the record's owner occludes, as a test tells of it, and x is below it
-    pub covered_occluded : (told : Bool) → told ≡ occludes below_dname L a k.owner
-        → (is_at_or_below x k.owner && told) ≡ is_occluded below_dname L a x
+    pub covered_occluded : (told : Bool) → told ≡ occludes below_dname L a k.owner → (is_at_or_below x k.owner && told) ≡ is_occluded below_dname L a x
     covered_occluded told is =
         let apart : same_name x k.owner ≡ false =
         grind (arith, common_steps, other, (same_is k.owner x), (same_itself k.owner x), (one_lowered x k.owner)) in
@@ -545,8 +537,7 @@ module _ {L : List ZoneRecord} {a : Name} {config : GenerateNsecConfig} {links :
 
 -- the chain keeps what stands below a DNAME
 module _ {L : List ZoneRecord} {a : Name} {assume : Bool} {links : List Link} (facts : NsecFacts L a (config_with false assume) links) where
-  pub matched : (k : Link) → In k links → (x : Name) → matches before k.owner x ≡ true → (t : ℕ) → t < 65536
-      → match_verdict a k t ≡ zone_verdict L a assume x t
+  pub matched : (k : Link) → In k links → (x : Name) → matches before k.owner x ≡ true → (t : ℕ) → t < 65536 → match_verdict a k t ≡ zone_verdict L a assume x t
   matched k i x m t b =
       let s = matched_same facts k i x m in
       let owner = in_any (λ n. same_name n x) (unoccluded_owners false L a) k.owner (ends facts k i).0 s in
@@ -625,8 +616,7 @@ reading_checked knows listed a x t b = record {
 pub whole_proves : NsecChainsAreKnown → (L : List ZoneRecord) (a : Name) (config : GenerateNsecConfig) (links : List Link) (x : Name)
     (t : ℕ) → config.occlude_below_dname ≡ false → OwnersNeverDescend L → IsChain L a config links
     → proved_verdict L a config.assume_dnskeys_will_be_added links x t ≡ zone_verdict L a config.assume_dnskeys_will_be_added x t
-whole_proves knows L a config links x t keeps order chain =
-    grind (arith, common_steps, (some_link (facts_keeping knows L a config links keeps order chain) x))
+whole_proves knows L a config links x t keeps order chain = grind (arith, common_steps, (some_link (facts_keeping knows L a config links keeps order chain) x))
 
 -- a zone has a verdict on every name and type
 pub zone_says : (L : List ZoneRecord) (a : Name) (assume : Bool) (x : Name) (t : ℕ) → zone_verdict L a assume x t ≢ NotProven

@@ -59,8 +59,7 @@ encloser_of labels e =
 -- the hash of the next closer name, of x where d is the closest encloser; None where d is x
 abbrev pub IsNextHash : Hash → Name → Name → Option Octets → Type 0
 IsNextHash hash x d None = same_name d x ≡ true
-IsNextHash hash x d (Some v) =
-    (same_name d x ≡ false) × (hash_name hash (next_closer x d) ≡ Ok v)
+IsNextHash hash x d (Some v) = (same_name d x ≡ false) × (hash_name hash (next_closer x d) ≡ Ok v)
 
 -- the first cover of the hash of the next closer name
 abbrev pub next_cover : HashedRecords → Option Octets → Option HashedLink

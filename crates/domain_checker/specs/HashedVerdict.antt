@@ -83,12 +83,7 @@ hash_with answer records = hash_by answer (parameters records)
 -- links that are read by a hasher with these parameters
 abbrev pub links_with : Name → Parameters → HasherAnswer → List HashedLink → HashedRecords
 links_with a p answer listed =
-    record {
-      links = listed;
-      apex = a;
-      parameters = p;
-      hash = hash_by answer p;
-    }
+    record { links = listed; apex = a; parameters = p; hash = hash_by answer p }
 
 -- records that are handed in, by how names are read and what the hasher answers
 abbrev pub hashed_records : {N O : Type 0} → Name → (N → Name) → HasherAnswer → Nsec3Records N O
@@ -99,12 +94,7 @@ hashed_records a labels answer records =
 -- records of a zone's chain
 abbrev pub chain_records : Name → ChainConfig → List HashedLink → HashedRecords
 chain_records a config listed =
-    record {
-      links = listed;
-      apex = a;
-      parameters = config.parameters;
-      hash = config.hash;
-    }
+    record { links = listed; apex = a; parameters = config.parameters; hash = config.hash }
 
 -- ---- What a zone with an NSEC3 chain says of a name and a type, and what a list of records proves of
 -- it (RFC 5155, section 8); a is the apex, x the name and t the type.

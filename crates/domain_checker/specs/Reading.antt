@@ -47,8 +47,7 @@ list_verdict a listed x t =
 
 -- what it says of any name
 abbrev pub reading : Name → List Link → Name → ℕ → Verdict
-reading a listed x t =
-    if is_at_or_below x a then list_verdict a listed x t else OutsideZone
+reading a listed x t = if is_at_or_below x a then list_verdict a listed x t else OutsideZone
 
 -- what is promised of the verdict on a list of records
 pub record IsChecked (listed : List Link) (a x : Name) (t : ℕ) (verdict : Verdict) : Type 0 where

@@ -57,8 +57,7 @@ alone : (xs : List ℕ) (count : ℕ) → count ≡ length xs → base32_from 1 
 alone xs count is = rw (is, take_all (length xs) xs (omega arith), drop_all (length xs) xs (omega arith), no_digits) (sym (append-nil (base32_from 1 0 xs)))
 
 -- the next five octets, or all where these are fewer, and those after them
-pub next_left : (xs : List ℕ) (count : ℕ) → count ≡ min (length xs) 5
-    → base32_from 1 0 xs ≡ base32_from 1 0 (take count xs) ++ base32_from 1 0 (drop count xs)
+pub next_left : (xs : List ℕ) (count : ℕ) → count ≡ min (length xs) 5 → base32_from 1 0 xs ≡ base32_from 1 0 (take count xs) ++ base32_from 1 0 (drop count xs)
 next_left (a ∷ b ∷ c ∷ d ∷ e ∷ xs) count is = grind (arith, common_steps, five_octets, digits_of_group)
 next_left xs count is = alone xs count (omega (arith, is))
 
@@ -121,12 +120,10 @@ fill_same : (b c m n : ℕ) → (b + 8 * m) % 5 ≡ (c + 8 * n) % 5 → fill b m
 fill_same b c m n same = ap (λ k. replicate ((5 - k) % 5) 0) same
 
 -- two digits that end in an octet, after three bits or four
-three_more : (r y : ℕ) → r < 8 → y < 256 → digit_bits ((256 * r + y) / 64) ++ digit_bits ((256 * r + y) % 64 / 2)
-    ≡ number_bits 3 r ++ take 7 (octet_bits y)
+three_more : (r y : ℕ) → r < 8 → y < 256 → digit_bits ((256 * r + y) / 64) ++ digit_bits ((256 * r + y) % 64 / 2) ≡ number_bits 3 r ++ take 7 (octet_bits y)
 three_more r y few octet = grind (arith, common_steps)
 
-four_more : (r y : ℕ) → r < 16 → y < 256 → digit_bits ((256 * r + y) / 128) ++ digit_bits ((256 * r + y) % 128 / 4)
-    ≡ number_bits 4 r ++ take 6 (octet_bits y)
+four_more : (r y : ℕ) → r < 16 → y < 256 → digit_bits ((256 * r + y) / 128) ++ digit_bits ((256 * r + y) % 128 / 4) ≡ number_bits 4 r ++ take 6 (octet_bits y)
 four_more r y few octet = grind (arith, common_steps)
 
 -- the bits that are left over, those of the octets that follow, and those that fill the last group
@@ -180,8 +177,7 @@ counts : (n : ℕ) → is_base32_length ((8 * n + 4) / 5) ≡ true
 counts n = grind (arith, nat_tests)
 
 pub are_small : (octets : List ℕ) → All (λ octet. octet < 256) octets → All (λ digit. digit < 32) (base32_from 1 0 octets)
-are_small octets h =
-    All-from_recursion _ _ (small octets (recursion_from_All (λ octet. octet < 256) octets h))
+are_small octets h = All-from_recursion _ _ (small octets (recursion_from_All (λ octet. octet < 256) octets h))
 
 -- digits that are written by either alphabet
 module _ (written : ℕ → ℕ) (back_to : (n : ℕ) → n < 32 → base32_value (written n) ≡ Some n) where

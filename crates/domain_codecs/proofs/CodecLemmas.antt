@@ -98,8 +98,7 @@ map_plain : (written : ℕ → ℕ) → ((n : ℕ) → is_blank (written n) ≡ 
 map_plain written plain [] = tt
 map_plain written plain (digit ∷ digits) = (plain digit, map_plain written plain digits)
 
-base32_word : (written : ℕ → ℕ) (octets : List ℕ) → ((n : ℕ) → is_blank (written n) ≡ false) → octets ≢ []
-    → IsWord (map written (base32_from 1 0 octets))
+base32_word : (written : ℕ → ℕ) (octets : List ℕ) → ((n : ℕ) → is_blank (written n) ≡ false) → octets ≢ [] → IsWord (map written (base32_from 1 0 octets))
 base32_word written octets plain some =
     word _ octets some (omega (arith, many_digits octets, length-map (base32_from 1 0 octets) written)) (map_plain written plain (base32_from 1 0 octets))
 

@@ -112,8 +112,7 @@ halves16 piece after octets full decoded =
       back = others.0;
       first = decode_of-even piece (omega (arith, full)) ∙ first.1;
       others = decode_of-even after even ∙ others.1;
-      parts = decode_of-same (piece ++ after) _ _ decoded
-          (decode_of-even (piece ++ after) whole.0 ∙ pairs_then 0 0 piece after first.0 others.0 first.1 moved);
+      parts = decode_of-same (piece ++ after) _ _ decoded (decode_of-even (piece ++ after) whole.0 ∙ pairs_then 0 0 piece after first.0 others.0 first.1 moved);
     }
 
 -- eight digits are five octets
@@ -137,8 +136,7 @@ halves32 piece after octets full decoded =
       back = base32_octets 1 0 (base32_digits after);
       first = record { digits = pass_front Base32Hex piece after decoded.digits; whole = rw full refl; value = refl };
       others = record { digits = pass_back Base32Hex piece after decoded.digits; whole = rw same at decoded.whole; value = refl };
-      parts = decoded.value ∙ ap (base32_octets 1 0) (map-append _ piece after)
-          ∙ eights 8 _ _ (length-map piece _ ∙ full);
+      parts = decoded.value ∙ ap (base32_octets 1 0) (map-append _ piece after) ∙ eights 8 _ _ (length-map piece _ ∙ full);
     }
 
 halves64 : (piece after octets : List ℕ) (c : ℕ) → IsBytes (piece ++ c ∷ after) → length piece ≡ 64

@@ -33,8 +33,7 @@ octets_order = ranks_by nat_list_cmp_total (λ v. v)
 
 first_low : (us : List Octets) → IsStrictlySortedBy (slice_cmp nat_cmp) us → (h d : Octets) → In h us → octets_before h (get_or us 0 d) ≡ false
 first_low [] up h d i = absurd i
-first_low (u ∷ us) up h d i =
-    all_in (λ v. octets_before v u ≡ false) (u ∷ us) h (first_least octets_order u us (ascending (slice_cmp nat_cmp) (u ∷ us) up)) i
+first_low (u ∷ us) up h d i = all_in (λ v. octets_before v u ≡ false) (u ∷ us) h (first_least octets_order u us (ascending (slice_cmp nat_cmp) (u ∷ us) up)) i
 
 -- exactly one pair of the cycle matches or covers any octets
 one_pair : (us : List Octets) → 0 < length us → IsStrictlySortedBy (slice_cmp nat_cmp) us → (v : Octets)
@@ -73,8 +72,7 @@ module _ (L : List ZoneRecord) (a : Name) (config : ChainConfig) (links : List H
   many = sym (length-map links ends) ∙ ap length facts.chain.linked ∙ length-map (cycle hashes) (ends_of a) ∙ cycle_length hashes
 
   -- the hash of a record at a place, and the pair that its record leads from and to
-  cycled : (i : ℕ) (k : HashedLink) (h : Octets) → IsRecordOf a links i k h
-      → (slice_get (cycle hashes) i ≡ Some (h, k.next)) × (slice_get hashes i ≡ Some h)
+  cycled : (i : ℕ) (k : HashedLink) (h : Octets) → IsRecordOf a links i k h → (slice_get (cycle hashes) i ≡ Some (h, k.next)) × (slice_get hashes i ≡ Some h)
   cycled i k h r =
       let p = mapped_at ends (ends_of a) links (cycle hashes) facts.chain.linked i k r.there in
       let q = cycle_is hashes i p.0 p.1 in
@@ -185,8 +183,7 @@ module _ (L : List ZoneRecord) (config : ChainConfig) (chain : ChainRecords) (x 
   rest listed = cond (needs_wildcard L a config x && not (tells_wildcard L a config listed x)) (NoCloserName (length en)) zone
 
   abbrev closes : List HashedLink → Bool
-  closes listed =
-      (same_name en x || is_zone_cut L a en || nsec3_lists L a config en dname) || is_covered (chain_records a config listed) (next_closer x en)
+  closes listed = (same_name en x || is_zone_cut L a en || nsec3_lists L a config en dname) || is_covered (chain_records a config listed) (next_closer x en)
 
   module _ (hash : Hash) (whole : IsHashedWhole L config hash chain) (knows : ChainsAreKnown) (small : t < 65536)
       (low : is_at_or_below x a ≡ true) (parent : is_at_parent a x t ≡ false) (asked : AreAskedAlone L a config x) where

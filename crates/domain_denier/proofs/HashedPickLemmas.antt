@@ -41,8 +41,7 @@ module _ {X : Type 0} (f : X → Bool) where
 
 -- each of the listed ones stands among all, at a place that is not this one
 abbrev pub AreOthers : List HashedLink → ℕ → List HashedLink → Type 0
-AreOthers links gone listed =
-    (k : HashedLink) → In k listed → (j : ℕ) × (slice_get links j ≡ Some k) × (j ≡ gone → ⊥)
+AreOthers links gone listed = (k : HashedLink) → In k listed → (j : ℕ) × (slice_get links j ≡ Some k) × (j ≡ gone → ⊥)
 
 -- each stands among all
 abbrev pub AreAmong : List HashedLink → List HashedLink → Type 0
@@ -115,8 +114,7 @@ in_back [] ys x i = i
 in_back (y ∷ xs) ys x i = inr (in_back xs ys x i)
 
 -- the link at a place is listed there
-pub in_place : (links : List HashedLink) (o : Option ℕ) (place : ℕ) (k : HashedLink) → o ≡ Some place → slice_get links place ≡ Some k
-    → In k (at_place links o)
+pub in_place : (links : List HashedLink) (o : Option ℕ) (place : ℕ) (k : HashedLink) → o ≡ Some place → slice_get links place ≡ Some k → In k (at_place links o)
 in_place links o place k e g = subst (λ ls. In k ls) (sym (ap (at_place links) e ∙ ap option_to_list g)) (inl refl)
 
 -- ---- the links that were picked
@@ -145,8 +143,7 @@ module _ (links : List HashedLink) (d : Nsec3Denial) (gone : ℕ) where
   pub without_others : AreOthers links gone (picked_without links gone d)
   without_others = λ k i. let f = from_picked links (without gone d) k i in (f.0, f.2, never_gone f.0 f.1)
 
-  pub in_without : (place : ℕ) (k : HashedLink) → slice_get links place ≡ Some k → IsPicked d place → (place ≡ gone → ⊥)
-      → In k (picked_without links gone d)
+  pub in_without : (place : ℕ) (k : HashedLink) → slice_get links place ≡ Some k → IsPicked d place → (place ≡ gone → ⊥) → In k (picked_without links gone d)
   in_without place k there is other = grind (arith, common_steps, kept_place, in_picked)
 
 -- ---- the names from x up to the apex, by the places of the records that match or cover them
@@ -251,8 +248,7 @@ pub record IsPickedRead (R : HashedRecords) (x : Name) (t : ℕ) (d : Nsec3Denia
   pub told : (q : ℕ) → d.of_wildcard ≡ Some q → (m : Bool) × IsSoleOf R (wildcard_below (last_labels (length at.name) x)) q m
   pub all : IsHashedRead R x t d.answer
   pub picked : IsHashedRead (with_links R (hashed_picked R.links d)) x t d.answer
-  pub next_closer : (q : ℕ) → d.of_next_closer ≡ Some q → ¬ (d.of_encloser ≡ Some q)
-      → IsHashedRead (with_links R (picked_without R.links q d)) x t NotProven
+  pub next_closer : (q : ℕ) → d.of_next_closer ≡ Some q → ¬ (d.of_encloser ≡ Some q) → IsHashedRead (with_links R (picked_without R.links q d)) x t NotProven
   pub wildcard : (q : ℕ) → d.of_wildcard ≡ Some q → ¬ (TellsOfName d q)
       → (n : ℕ) × IsHashedRead (with_links R (picked_without R.links q d)) x t (NoCloserName n)
 
@@ -331,8 +327,7 @@ module _ (R : HashedRecords) (x : Name) (f : PlacedEncloser) (t : ℕ) (at : IsE
   cover_gone : (cover : Option ℕ) (c : IsCoverAt R x at.name cover) (q : ℕ) → cover ≡ Some q → (listed : List HashedLink) → AreOthers R.links q listed
       → next_cover (with_links R listed) (next cover c) ≡ None
   cover_gone None c q e listed others = refl
-  cover_gone (Some p) c q e listed others =
-      no_cover R c.1.value p false c.1.of listed (subst (λ s. AreOthers R.links s listed) (sym (same_Some p q e)) others)
+  cover_gone (Some p) c q e listed others = no_cover R c.1.value p false c.1.of listed (subst (λ s. AreOthers R.links s listed) (sym (same_Some p q e)) others)
 
   sole_cover : (cover : Option ℕ) → IsCoverAt R x at.name cover → (q : ℕ) → cover ≡ Some q → IsSoleOf R (next_closer x at.name) q false
   sole_cover None c q e = absurd (none_some q e)

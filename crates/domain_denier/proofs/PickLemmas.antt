@@ -27,8 +27,7 @@ ends_at : (links : List Link) (owners : List Name) (a : Name) → map ends links
 ends_at links owners a are i k there = grind (arith, common_steps, pair_is, (slice_get-map ends links i))
 
 module _ (knows : NsecChainsAreKnown) (links : List Link) (x : Name) (low high : ℕ) (at_ends : AreEnds links x low high) (near : high - low ≤ 1) where
-  pub found : (L : List ZoneRecord) (a : Name) (config : GenerateNsecConfig) → IsWhole L a config links
-      → is_at_or_below x a ≡ true → IsOf links low x
+  pub found : (L : List ZoneRecord) (a : Name) (config : GenerateNsecConfig) → IsWhole L a config links → is_at_or_below x a ≡ true → IsOf links low x
   found L a config whole under =
       let owners = unoccluded_owners config.occlude_below_dname L a in
       let names = whole.chain.names in
@@ -121,8 +120,7 @@ said_inside a listed x t told is some = grind (arith, common_steps)
 module _ (a x : Name) (t : ℕ) (k : Link) where
   -- by whether the name is inside, the type the parent's, and the record matches or covers
   abbrev chosen : Bool → Bool → Bool → Bool → Answer
-  chosen u p m c =
-      cond (not u) OutsideZone (cond p AtParent (listed_both a (k ∷ []) x t (cond m (Some k) None) (cond c (Some k) None)))
+  chosen u p m c = cond (not u) OutsideZone (cond p AtParent (listed_both a (k ∷ []) x t (cond m (Some k) None) (cond c (Some k) None)))
 
   unproven : (u p : Bool) → IsTold (chosen u p false false) → ⊥
   unproven u p told = grind (arith, common_steps)
@@ -157,8 +155,7 @@ module _ (links : List Link) (a x : Name) (t : ℕ) where
   module _ (p q n : ℕ) (l : Link) (l_there : slice_get links q ≡ Some l) (says : reading a (at_place links (Some p)) x t ≡ NoCloserName n)
       (apart : same_name l.owner x ≡ false) (w : Name) (w_is : w ≡ wildcard_below (last_labels n x)) (silent : IsSilent a (at_place links (Some p)) w)
       (some : (m : ℕ) → wildcard_answer a (l ∷ []) n w t ≢ NoCloserName m) where
-    pub both_at : p < length links
-        → (wildcard_answer a (l ∷ []) n w t ≡ reading a (at_place links (Some p) ++ at_place links (Some q)) x t) × IsOf links q w
+    pub both_at : p < length links → (wildcard_answer a (l ∷ []) n w t ≡ reading a (at_place links (Some p) ++ at_place links (Some q)) x t) × IsOf links q w
     both_at in_p =
         let first = record_there links p in_p in
         let k = first.0 in
@@ -210,8 +207,7 @@ module _ (knows : NsecChainsAreKnown) (links : List Link) (L : List ZoneRecord) 
       × (missing ≡ true) × (knows ≡ false))
   halves needs has missing knows n v e = grind (arith, common_steps)
 
-  pub half : (listed : List Link) → All (Contains links) listed → has_match_or_cover listed x ≡ true
-      → (reading a listed x t ≡ zone) ⊎ IsHalf listed
+  pub half : (listed : List Link) → All (Contains links) listed → has_match_or_cover listed x ≡ true → (reading a listed x t ≡ zone) ⊎ IsHalf listed
   half listed among has = grind (arith, common_steps, halves, proved)
 
   one_among : (k : Link) → Contains links k → All (Contains links) (k ∷ [])

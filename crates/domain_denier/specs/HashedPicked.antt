@@ -192,8 +192,7 @@ pub record IsFoundAt (hash : Hash) (chain : ChainRecords) (wire : Octets) (place
 -- n is x itself, or the record at the place is that which covers the name one label longer
 abbrev pub IsCoverAt : HashedRecords → Name → Name → Option ℕ → Type 0
 IsCoverAt R x n None = same_name n x ≡ true
-IsCoverAt R x n (Some place) =
-    (same_name n x ≡ false) × IsSoleOf R (next_closer x n) place false
+IsCoverAt R x n (Some place) = (same_name n x ≡ false) × IsSoleOf R (next_closer x n) place false
 
 -- n is x or an ancestor at or below the apex, and no record matches a name before it; the place of
 -- the cover is one of the chain

@@ -39,8 +39,7 @@ module _ {O N : Type 0} (octets : O → Octets) (labels : N → Name) where
   classes_seen (r ∷ rs) = λ i. all_seen r.class rs i × classes_seen rs i
 
   module _ (given : List (Record N (ZoneRecordData O N))) (tell : TellMinima given) where
-    of_zone : (is : List ZoneRecord → Type 0) → OfZone raw_view (map see given) is
-        → OfZone (zone_view octets labels) given is
+    of_zone : (is : List ZoneRecord → Type 0) → OfZone raw_view (map see given) is → OfZone (zone_view octets labels) given is
     of_zone is u =
         let s = sets_back see (record_cmp (λ n. n) (λ d. d.rtype) raw_cmp) (record_cmp_total (λ n. n) (λ d. d.rtype) raw_cmp raw_cmp_total) given
         u.sorted u.sorts in

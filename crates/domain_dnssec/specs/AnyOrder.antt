@@ -47,12 +47,7 @@ pub record View (N D : Type 0) : Type 0 where
 abbrev pub seen : {N D : Type 0} → (N → Name) → (D → ℕ) → (D → Option ℕ)
     → (D → D → Ordering) → View N D
 seen labels rtype_of minimum_of data_cmp =
-    record {
-      labels = labels;
-      rtype_of = rtype_of;
-      minimum_of = minimum_of;
-      data_cmp = data_cmp;
-    }
+    record { labels = labels; rtype_of = rtype_of; minimum_of = minimum_of; data_cmp = data_cmp }
 
 -- the records as a zone
 abbrev pub zone_seen : {N D : Type 0} → View N D → List (Record N D) → List ZoneRecord

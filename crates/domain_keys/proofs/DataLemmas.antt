@@ -14,14 +14,9 @@ limit_of_octets octets v after begins = omega (arith, begins.ends.1.1.1.0, lengt
 -- octets of fields that fit, and are not too many, are read as them alone
 pub parsed_back : (v : Values key_fields) → Fits key_fields v → length v.1.1.1.1 ≤ 65531 → ParsesBack key_fields v
 unfolding octets_of
-parsed_back v fits brief =
-    parses_back key_fields v refl fits (tt, (tt, (tt, (omega (arith, brief, length-append v.1.1.1.1 []), refl))))
+parsed_back v fits brief = parses_back key_fields v refl fits (tt, (tt, (tt, (omega (arith, brief, length-append v.1.1.1.1 []), refl))))
 
 -- ---- The texts of keys and of digests: tokens spell one at most, and none where they are refused.
 
 pub key_exact : (codec : Codec) (limit : Option ℕ) → IsExactEntry (IsOfTokens limit) (KeyText codec) (RefusesKey codec limit)
-key_exact codec limit = record {
-  once = grind (arith, common_steps);
-  none = grind (arith, common_steps);
-  one_fault = grind (arith, common_steps);
-}
+key_exact codec limit = record { once = grind (arith, common_steps); none = grind (arith, common_steps); one_fault = grind (arith, common_steps) }

@@ -64,8 +64,7 @@ module _ (message : List ℕ) (start at used : ℕ) (inside : at < length messag
     pub length_fault : 0 < len → len ≤ 63 → 255 < used + len + 2 → EndFault start used (drop at message) name_fault.LongName
     length_fault some small big = rw (ahead len is) (long_name len _ some small big)
 
-    pub cut_fault : 0 < len → len ≤ 63 → used + len + 2 ≤ 255 → length message < at + 1 + len
-        → EndFault start used (drop at message) name_fault.ShortInput
+    pub cut_fault : 0 < len → len ≤ 63 → used + len + 2 ≤ 255 → length message < at + 1 + len → EndFault start used (drop at message) name_fault.ShortInput
     cut_fault some small room cut = rw (ahead len is) (cut_label len (drop (at + 1) message) some small room (omega (arith, length-drop (at + 1) message)))
 
     pub label_here : All (λ octet. octet < 256) message → 0 < len → len ≤ 63 → used + len + 2 ≤ 255 → at + 1 + len ≤ length message
@@ -85,8 +84,7 @@ module _ (message : List ℕ) (start at used : ℕ) (inside : at < length messag
 pub end_fault : (message : List ℕ) (start at used : ℕ) → length message ≤ at → EndFault start used (drop at message) name_fault.ShortInput
 end_fault message start at used out = rw (drop_all at message out) no_octet
 
-pub ruleset place_steps =
-    (root_here, half_fault, forward_fault, pointer_here, type_fault, length_fault, cut_fault, label_here, end_fault, octets_from_type)
+pub ruleset place_steps = (root_here, half_fault, forward_fault, pointer_here, type_fault, length_fault, cut_fault, label_here, end_fault, octets_from_type)
 
 -- ---- one step after another
 
@@ -119,8 +117,7 @@ module _ (message : List ℕ) (at start place : ℕ) (wire : List ℕ) (end : Op
       }
 
   pub label_inside : (next : ℕ) → IsStep message start place (length wire) (Label next) → next ≤ length message
-  label_inside next (at_label text after _ is_label spelled room is) =
-      omega (arith, is, ap length spelled, length-append text after, length-drop place message)
+  label_inside next (at_label text after _ is_label spelled room is) = omega (arith, is, ap length spelled, length-append text after, length-drop place message)
 
   pub read_pointer : (target : ℕ) → IsStep message start place (length wire) (Pointer target)
       → Read message at target target wire (Some (unwrap_or end (place + 2)))
@@ -202,16 +199,14 @@ IsInside message x = IfOk x (λ r. AllByRecursion IsLabel r.0 × (r.1 ≤ length
 
 stand_inside : (message : List ℕ) (start at used : ℕ) (x : Outcome) → ComesTo message start at used x → IsInside message x
 stand_inside message start at used x (root _ _ _ a is) = (tt, omega (arith, ap length is, length-drop at message))
-stand_inside message start at used x (label _ _ _ l a r l_is is _ on) =
-    grind (arith, common_steps, (stand_inside message start _ _ r on))
+stand_inside message start at used x (label _ _ _ l a r l_is is _ on) = grind (arith, common_steps, (stand_inside message start _ _ r on))
 stand_inside message start at used x (pointer _ _ _ t a r is back on) =
     grind (arith, common_steps, (stand_inside message t t used r on), (length-drop at message))
 stand_inside message start at used x (at_fault _ _ _ f why) = tt
 
 -- what stands behind some octets
 pub past : (message : List ℕ) (at : ℕ) (front rest : List ℕ) → drop at message ≡ front ++ rest → drop (at + length front) message ≡ rest
-past message at front rest is =
-    sym (drop-drop (length front) at message) ∙ ap (drop (length front)) is ∙ drop_at front rest (length front) refl
+past message at front rest is = sym (drop-drop (length front) at message) ∙ ap (drop (length front)) is ∙ drop_at front rest (length front) refl
 
 wire_some : (name : Name) → 1 ≤ length (wire_of name)
 wire_some [] = omega arith
@@ -244,8 +239,7 @@ module _ (message : List ℕ) (at start place : ℕ) (wire : List ℕ) (end : Op
   stands : ComesTo message at at 0 (Ok (so_far.labels ++ [], unwrap_or end (place + 1)))
   stands = grind (arith, common_steps, root, (so_far.on (Ok ([], place + 1))))
 
-  pub named : (whole : List ℕ) → whole ≡ wire ++ 0 ∷ []
-      → (name : Name) × NameAt message at name (unwrap_or end (place + 1)) × (whole ≡ wire_of name)
+  pub named : (whole : List ℕ) → whole ≡ wire ++ 0 ∷ [] → (name : Name) × NameAt message at name (unwrap_or end (place + 1)) × (whole ≡ wire_of name)
   named whole is =
       let are : whole ≡ wire_of (so_far.labels ++ []) = is ∙ sym (so_far.wires []) in (
         so_far.labels ++ [],

@@ -32,8 +32,7 @@ module _ (limit : Option ℕ) (message : List ℕ) (rtype place count : ℕ) (in
 
 -- ---- the data stand in one way at most, and in none where they have a fault
 
-one_part : (message : List ℕ) (p : Part) (at : ℕ) (a b : List ℕ) (e f : ℕ) → PartAt message p at a e → PartAt message p at b f
-    → (a ≡ b) × (e ≡ f)
+one_part : (message : List ℕ) (p : Part) (at : ℕ) (a b : List ℕ) (e f : ℕ) → PartAt message p at a e → PartAt message p at b f → (a ≡ b) × (e ≡ f)
 one_part message p at a b e f x y = grind (arith, common_steps, one_name)
 
 pub one_parts : (message : List ℕ) (ps : List Part) (at : ℕ) (a b : List ℕ) (e f : ℕ) → PartsAt message ps at a e
@@ -45,8 +44,7 @@ one_parts message (p ∷ ps) at a b e f x y =
     let more = one_parts message ps x.2 x.1 y.1 e f x.4 (subst (λ q. PartsAt message ps q y.1 f) (sym here.1) y.4) in
     (x.5 ∙ (λ i. here.0 i ++ more.0 i) ∙ sym y.5, more.1)
 
-no_part : (message : List ℕ) (p : Part) (at : ℕ) (a : List ℕ) (e : ℕ) (fault : NameFault) → PartAt message p at a e
-    → PartFault message p at fault → ⊥
+no_part : (message : List ℕ) (p : Part) (at : ℕ) (a : List ℕ) (e : ℕ) (fault : NameFault) → PartAt message p at a e → PartFault message p at fault → ⊥
 no_part message p at a e fault x why = grind (arith, common_steps, no_fault)
 
 pub no_parts : (message : List ℕ) (ps : List Part) (at : ℕ) (a : List ℕ) (e : ℕ) (fault : NameFault) → PartsAt message ps at a e

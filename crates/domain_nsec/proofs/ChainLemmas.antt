@@ -157,8 +157,7 @@ module _ (L : List ZoneRecord) (a : Name) (order : OwnersNeverDescend L) (config
   bit_at : (l : Link) (xs : List Link) → All (λ k. k.bits ≡ bitmap_octets
       (nsec_lists L a config.assume_dnskeys_will_be_added k.owner)) xs → In l xs
       → l.bits ≡ bitmap_octets (nsec_lists L a config.assume_dnskeys_will_be_added l.owner)
-  bit_at l xs h i =
-      all_in (λ k. k.bits ≡ bitmap_octets (nsec_lists L a config.assume_dnskeys_will_be_added k.owner)) xs l (recursion_from_All _ xs h) i
+  bit_at l xs h i = all_in (λ k. k.bits ≡ bitmap_octets (nsec_lists L a config.assume_dnskeys_will_be_added k.owner)) xs l (recursion_from_All _ xs h) i
 
   -- where x is not occluded and isn't the owner of the record that matches or covers it, it owns nothing
   uncovered : (x : Name) (l : Link) → In l links → is_unoccluded config.occlude_below_dname L a x ≡ true

@@ -58,8 +58,7 @@ module _ (L : List ZoneRecord) (a : Name) (config : ChainConfig) where
 
   pub originals_typed : map (λ n. bits (same_name n a) (owner_at L a n)) (original_owners L a config)
       ≡ map (λ n. bitmap_octets (nsec3_lists L a config n)) (original_owners L a config)
-  originals_typed =
-      bits_told _ (weaker _ _ (λ n own. own.0) _ (all_filter _ _ _ (owners_are config.occlude_below_dname L a)))
+  originals_typed = bits_told _ (weaker _ _ (λ n own. own.0) _ (all_filter _ _ _ (owners_are config.occlude_below_dname L a)))
 
   pub listing_fault : (e : SigningError) → soa_of L a ≢ None → IsListingFault L (original_owners L a config) e → IsFirstFault L a config e
   listing_fault EmptyRecordSlice soa h = absurd h
@@ -142,8 +141,7 @@ module _ (L : List ZoneRecord) (a : Name) (config : ChainConfig) (links : List H
   -- a hash comes before all later ones
   never : (k n : HashedName) (ns : List HashedName) → AllByRecursion (λ h. slice_cmp nat_cmp k.hash h ≡ Less)
       (map (λ n. n.hash) ns) → In n ns → k.hash ≡ n.hash → ⊥
-  never k n ns h i e =
-      grind (arith, common_steps, all_in, in_map, (tied_itself nat_list_cmp_total k.hash))
+  never k n ns h i e = grind (arith, common_steps, all_in, in_map, (tied_itself nat_list_cmp_total k.hash))
 
   one_place : (ns : List HashedName) → IsStrictlySortedBy (slice_cmp nat_cmp) (map (λ n. n.hash) ns) → (m n : HashedName)
       → In m ns → In n ns → m.hash ≡ n.hash → m ≡ n
@@ -204,8 +202,7 @@ module _ (a : Name) (chain : HashedChain) (p : Common) where
       grind (arith, common_steps, cycle_length)
 
   pub links_counted : length (links_in a chain p) ≡ length chain.hashed.items
-  links_counted =
-      length-map (cycle chain.hashed.items) (λ (q : Hashed × Hashed). link_to a p chain.types.items q.0 q.1.hash) ∙ cycle_length chain.hashed.items
+  links_counted = length-map (cycle chain.hashed.items) (λ (q : Hashed × Hashed). link_to a p chain.types.items q.0 q.1.hash) ∙ cycle_length chain.hashed.items
 
   -- the record at a place has the hash at that place
   pub hash_there : (i : ℕ) (h : Hashed) (v : Octets) → i < length chain.hashed.items → h ≡ get_or chain.hashed.items i h → v ≡ h.hash
@@ -619,8 +616,5 @@ module _ (L : List ZoneRecord) (a : Name) (config : ChainConfig) where
         each = λ x e low alone c. told_of x e alone c;
       };
       cuts = cut_encloses L a config;
-      excluded = record {
-        flag = out_flag L a config;
-        each = λ c e d cut high out alone k n. (told_of c e alone k).next d n;
-      };
+      excluded = record { flag = out_flag L a config; each = λ c e d cut high out alone k n. (told_of c e alone k).next d n };
     }

@@ -34,8 +34,7 @@ text_length h = length-map (base32_from 1 0 h) lower_digit ∙ many_digits h
 
 -- what holds of each digit
 each_digit : (P : ℕ → Type 0) → ((d : ℕ) → d < 32 → P (lower_digit d)) → (h : List ℕ) → AreOctets h → All P (base32_lower h)
-each_digit P f h all =
-    All-map P lower_digit (base32_from 1 0 h) (All-weaker (λ d. d < 32) (λ d. P (lower_digit d)) f (base32_from 1 0 h) (are_small h all))
+each_digit P f h all = All-map P lower_digit (base32_from 1 0 h) (All-weaker (λ d. d < 32) (λ d. P (lower_digit d)) f (base32_from 1 0 h) (are_small h all))
 
 digit_ascii : (d : ℕ) → d < 32 → lower_digit d < 128
 digit_ascii d b = elim (nat_lt d 10) as (λ t. (if t then 48 + d else 87 + d) < 128) [ true ↦ omega arith | false ↦ omega arith ]
@@ -458,8 +457,7 @@ gathered_apart p (o ∷ os) h =
 gathered_each : (p : Name) (os : List Name) (x : Name) → is_at_or_below p x ≡ false → list_any (λ n. is_at_or_below n x) os ≡ true
     → (list_any (λ n. same_name n x) os || list_any (λ n. same_name n x) (gathered false p os)) ≡ true
 gathered_each p [] x out h = absurd (false≢true h)
-gathered_each p (o ∷ os) x out h =
-    grind (arith, common_steps, nat_tests, has_each, at_length, same_itself, (common_shares o p x), (gathered_each o os x))
+gathered_each p (o ∷ os) x out h = grind (arith, common_steps, nat_tests, has_each, at_length, same_itself, (common_shares o p x), (gathered_each o os x))
 
 -- what is gathered is strictly below an apex of all, and above an owner
 gathered_are : (a p : Name) (os : List Name) → is_at_or_below p a ≡ true → AllByRecursion (λ n. is_at_or_below n a ≡ true) os

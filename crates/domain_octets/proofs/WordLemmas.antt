@@ -43,8 +43,7 @@ words_apart word (c ∷ front) blank text is = elim (cases_Bool (is_blank c)) [
 word_goes_on : (word text : List ℕ) → HasNoBlank text → words_after word text ≡ word_if_any (word ++ text)
 unfolding words_after
 word_goes_on word [] plain = ap word_if_any (sym (append-nil word))
-word_goes_on word (c ∷ text) plain =
-    rw plain.0 (word_goes_on (word ++ c ∷ []) text plain.1 ∙ ap word_if_any (append_assoc word (c ∷ []) text))
+word_goes_on word (c ∷ text) plain = rw plain.0 (word_goes_on (word ++ c ∷ []) text plain.1 ∙ ap word_if_any (append_assoc word (c ∷ []) text))
 
 -- a text that is one word
 pub one_word : (text : List ℕ) → IsWord text → words_of text ≡ text ∷ []
@@ -70,8 +69,7 @@ last_space front = words_apart [] front 32 [] refl ∙ ap (λ l. words_of front 
 pub joined_words : (words : List (List ℕ)) → AllByRecursion IsWord words → words_of (join_with_byte 32 words) ≡ words
 joined_words [] all = no_words
 joined_words (word ∷ []) all = one_word word all.0
-joined_words (word ∷ next ∷ words) all =
-    first_word word (join_with_byte 32 (next ∷ words)) all.0 ∙ ap (λ l. word ∷ l) (joined_words (next ∷ words) all.1)
+joined_words (word ∷ next ∷ words) all = first_word word (join_with_byte 32 (next ∷ words)) all.0 ∙ ap (λ l. word ∷ l) (joined_words (next ∷ words) all.1)
 
 -- ---- texts without blanks
 

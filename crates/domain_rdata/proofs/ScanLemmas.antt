@@ -29,8 +29,7 @@ turned a b = sym (nat_list_cmp_total.antisymm a b)
 -- ---- what octets of the generic form are
 
 -- octets with a fault, or that go on after the data, are no such data
-pub at_fault : (l : Layout) (octets : List ℕ) (fault : Fault) → splits l ≡ true → FirstFault l octets fault
-    → ((v : Values l) × Begins l octets v []) → ⊥
+pub at_fault : (l : Layout) (octets : List ℕ) (fault : Fault) → splits l ≡ true → FirstFault l octets fault → ((v : Values l) × Begins l octets v []) → ⊥
 at_fault l octets fault split why whole = fault_excludes l octets fault why split whole.0 [] whole.1
 
 pub goes_on : (l : Layout) (octets : List ℕ) (v : Values l) (after : List ℕ) → splits l ≡ true → Begins l octets v after → 0 < length after
@@ -147,8 +146,7 @@ module _ {O N : Type 0} (octets : O → List ℕ) (labels : N → List (List ℕ
       own_refused (kind_of rtype) limit old new after _ fault why known (own_read octets labels rtype old after d text)
   none_spelled limit new fault (in_own unmarked why) known d after (generic wire text are all) = unmarked (generic_begins old wire text)
   none_spelled limit new fault (in_generic marked why) known d after (own other text) = other marked
-  none_spelled limit new fault (in_generic marked why) known d after (generic wire text are all) =
-      (generic_exact limit).none old new fault wire why known text
+  none_spelled limit new fault (in_generic marked why) known d after (generic wire text are all) = (generic_exact limit).none old new fault wire why known text
   none_spelled limit new fault (in_octets wire text all why) known d after spelled = grind (arith, common_steps)
 
   -- octets of generic text that are data, or are not
@@ -163,8 +161,7 @@ generic_err limit rtype old new t wire fault why same text all = in_octets wire 
 module _ {O N : Type 0} (octets : O → List ℕ) (labels : N → List (List ℕ)) (rtype : ℕ) (old : List (List ℕ)) where
   pub text_once : (m n : List (List ℕ)) (d e : ZoneRecordData O N) → RdataText octets labels rtype old d m → RdataText octets labels rtype old e n
       → (m ≡ n) × (wire_octets octets labels d ≡ wire_octets octets labels e)
-  text_once m n d e (own p x) (own q y) =
-      one_read (kind_of rtype) old m n _ _ (own_read octets labels rtype old m d x) (own_read octets labels rtype old n e y)
+  text_once m n d e (own p x) (own q y) = one_read (kind_of rtype) old m n _ _ (own_read octets labels rtype old m d x) (own_read octets labels rtype old n e y)
   text_once m n d e (own p x) (generic wire text are all) = absurd (p (generic_begins old wire text))
   text_once m n d e (generic wire text are all) (own q y) = absurd (q (generic_begins old wire text))
   text_once m n d e (generic w x are all) (generic w' x' are' all') = grind (arith, common_steps)

@@ -201,8 +201,7 @@ module _ {O N : Type 0} (octets : O → Octets) (labels : N → Name) where
 abbrev pub HasExactText : {O N : Type 0} → (O → Octets) → ZoneRecordData O N → Type 0
 HasExactText octets (Nsec d) = IsShortest d.types
 HasExactText octets (Nsec3 d) = (d.next_owner ≢ []) × IsShortest d.types
-HasExactText octets (Unknown d) =
-    (kind_of d.rtype ≡ None) × (length (octets d.«data») ≤ 65535)
+HasExactText octets (Unknown d) = (kind_of d.rtype ≡ None) × (length (octets d.«data») ≤ 65535)
 HasExactText octets _ = Unit {0}
 
 -- octets are of a type that has no other form

@@ -18,8 +18,7 @@ has_first_weaker P Q f (x ∷ xs) h = f x h
 
 module _ {F X : Type 0} (g : Shared F (Bor X × Unit {0}) Bool) (f : F) (xs : List X) where
   -- what a call at the element at place i answered
-  pub answered : (i : ℕ) (y : Bor X) (r v : Bool) → g.post f (y, tt) r → r ≡ v → slice_get xs i ≡ Some y.now
-      → (d : X) → FnReturnsAt g f (get_or xs i d) v
+  pub answered : (i : ℕ) (y : Bor X) (r v : Bool) → g.post f (y, tt) r → r ≡ v → slice_get xs i ≡ Some y.now → (d : X) → FnReturnsAt g f (get_or xs i d) v
   answered i y r v p e is d = subst (λ (x : X). FnReturnsAt g f x v) (sym (get_or_from_slice_get xs i y.now d is)) (says_at g p e)
 
   pub answered_more : (i : ℕ) → ((k : ℕ) (d : X) → k < i → FnReturnsAt g f (get_or xs k d) false) → ((d : X) → FnReturnsAt g f (get_or xs i d) false)

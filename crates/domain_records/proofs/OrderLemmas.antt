@@ -273,8 +273,7 @@ module _ {X : Type 0} {R : X → X → Ordering} (o : IsTotalOrder R) (xs : List
   places_in_order k lt = grind (arith, common_steps)
 
   both : (j k : ℕ) → j < k → k < length places → compared_places R xs d (get_or places j 0) (get_or places k 0) ≡ Less
-  both j k lt below =
-      Less-from_sorted _ places j k 0 (sorted_from_all_adjacent (places_total o xs d) places 0 (λ i less. h.ascend i 0 less)) lt below
+  both j k lt below = Less-from_sorted _ places j k 0 (sorted_from_all_adjacent (places_total o xs d) places 0 (λ i less. h.ascend i 0 less)) lt below
 
   -- of two that are equal to x, the one that comes first is the earlier
   earlier : (x : X) (j k : ℕ) → j < k → k < length places → is_eq (R (key j) x) ≡ true → is_eq (R (key k) x) ≡ true → get_or places j 0 < get_or places k 0
@@ -403,6 +402,5 @@ module _ {X : Type 0} (xs : List X) (from : List ℕ) (ys : List X) (s t : List 
             (λ e. absurd (let is : get_or s k 0 ≡ i = ap (λ q. get_or s q 0) e ∙ back.1 in let stays = h.done k less in omega arith)) ∙ h.done k less)
             (a.0 ∙ back.1);
         same = λ k d less. swapped s t i h.ranks in_s ys k d (omega arith) (omega arith) ∙ h.same k d less;
-        moved = IsPermutation-trans xs ys _ h.moved
-            (IsPermutation-swap ys _ i _ (omega arith) (omega (arith, there.0)) refl);
+        moved = IsPermutation-trans xs ys _ h.moved (IsPermutation-swap ys _ i _ (omega arith) (omega (arith, there.0)) refl);
       }

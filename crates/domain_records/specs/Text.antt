@@ -16,8 +16,7 @@ use Rattle.domain_records.specs.declared.error.SigningError.TheVariants as signi
 abbrev pub signing_error_text : SigningError → Octets
 signing_error_text signing_error.EmptyRecordSlice = codes "signing fault"
 signing_error_text signing_error.MultipleTtlValues = codes "RRset with more than one TTL"
-signing_error_text signing_error.SoaRecordCouldNotBeDetermined =
-    codes "no single SOA at the apex"
+signing_error_text signing_error.SoaRecordCouldNotBeDetermined = codes "no single SOA at the apex"
 signing_error_text (signing_error.Nsec3HashingError e) = hash_error_text e
 signing_error_text signing_error.OutOfMemory = codes "out of memory"
 

@@ -83,8 +83,7 @@ module _ (p r : ZoneRecord) (left : List ZoneRecord) (order : NeverDescend (p �
   at_least x i = all_in (λ y. r.rtype ≤ y.rtype) (r ∷ left) x (omega arith, order.1.0) i
 
   -- of the records that pass a test of their types
-  quiet : (q : ℕ → Bool) → clashes p r ≡ false
-      → has_clash (filter (λ y. q y.rtype) (p ∷ r ∷ left)) ≡ has_clash (filter (λ y. q y.rtype) (r ∷ left))
+  quiet : (q : ℕ → Bool) → clashes p r ≡ false → has_clash (filter (λ y. q y.rtype) (p ∷ r ∷ left)) ≡ has_clash (filter (λ y. q y.rtype) (r ∷ left))
   quiet q even = elim (cases_Bool (q p.rtype)) [
     | inl t ↦ rw t (adds_none p (filter test (r ∷ left)) (λ x i e.
         let found = in_filter test (r ∷ left) x i in
@@ -104,8 +103,7 @@ module _ (p r : ZoneRecord) (left : List ZoneRecord) (order : NeverDescend (p �
       record {
         clash = in_any _ _ p (in_filtered test (p ∷ r ∷ left) p (inl refl) (eq-eqb _ _ same))
             (in_any _ _ r (in_filtered test (p ∷ r ∷ left) r (inr (inl refl)) (eq-eqb _ _ refl)) e);
-        lesser = λ t less. ap has_clash (filter_none _ (p ∷ r ∷ left)
-            (all_from_in _ (p ∷ r ∷ left) (λ x i. apart t less x i)));
+        lesser = λ t less. ap has_clash (filter_none _ (p ∷ r ∷ left) (all_from_in _ (p ∷ r ∷ left) (λ x i. apart t less x i)));
       }
     where
       apart : (t : ℕ) → t < r.rtype → (x : ZoneRecord) → In x (p ∷ r ∷ left) → nat_eq x.rtype t ≡ false
@@ -134,8 +132,7 @@ uneven_told p (r ∷ rs) order =
     ] refl
   where
     onward : clashes p r ≡ false → (found : Option ℕ) → IsUneven (r ∷ rs) found → IsUneven (p ∷ r ∷ rs) found
-    onward e None h =
-        (tt, sym (ap has_clash (all_pass (p ∷ r ∷ rs))) ∙ quiet p r rs order (λ u. true) e ∙ ap has_clash (all_pass (r ∷ rs)) ∙ h.1)
+    onward e None h = (tt, sym (ap has_clash (all_pass (p ∷ r ∷ rs))) ∙ quiet p r rs order (λ u. true) e ∙ ap has_clash (all_pass (r ∷ rs)) ∙ h.1)
     onward e (Some t) h =
         let same = λ (u : ℕ). quiet p r rs order (λ v. nat_eq v u) e in
         (record { clash = same t ∙ h.0.clash; lesser = λ u less. same u ∙ h.0.lesser u less }, tt)
@@ -159,8 +156,7 @@ pub wanted_octets : (own : ℕ) (r o k cut : Bool) (G : List ZoneRecord) (v0 v1 
     → ((t : ℕ) → t < 65536 → holds v3 t ≡ ((nat_eq t 48 && k) || holds v2 t))
     → ((t : ℕ) → t < 65536 → holds v4 t ≡ (holds v3 t || lists_type cut G t))
     → bitmap_octets (holds v4) ≡ bitmap_octets (λ t. ((nat_eq t 46 && r) || (nat_eq t own && o) || (nat_eq t 48 && k)) || lists_type cut G t)
-wanted_octets own r o k cut G v0 v1 v2 v3 v4 e f g h more =
-    bitmap_octets-same (holds v4) _ (λ t b. grind (arith, common_steps, holds_nothing))
+wanted_octets own r o k cut G v0 v1 v2 v3 v4 e f g h more = bitmap_octets-same (holds v4) _ (λ t b. grind (arith, common_steps, holds_nothing))
 
 -- what a builder holds and the rest lists is what `old` holds and all records list
 abbrev pub Lists : List ℕ → Bool → List ZoneRecord → List ZoneRecord → List ℕ → Type 0

@@ -63,8 +63,7 @@ below_from x a e = grind (arith, common_steps, (canonical_cmp_total.antisymm x a
 
 -- what lies between a name and one below it is below it too
 pub below_between : (x a y : Name) → is_at_or_below x a ≡ true → before y a ≡ false → before x y ≡ false → is_at_or_below y a ≡ true
-below_between x a y e f g =
-    below_back y a (between_names a a y x (below_there a a (below_itself a)) (below_there x a e) (not_after y a f) (not_after x y g))
+below_between x a y e f g = below_back y a (between_names a a y x (below_there a a (below_itself a)) (below_there x a e) (not_after y a f) (not_after x y g))
 
 -- of two names that x is at or below, the longer is at or below the shorter
 pub below_longer : (x e d : Name) → is_at_or_below x e ≡ true → is_at_or_below x d ≡ true → length d ≤ length e → is_at_or_below e d ≡ true

@@ -96,8 +96,7 @@ module _ {X : Type 0} {lt : X → X → Bool} (o : IsStrictWeakOrder lt) where
   none_before : (k : X) (ks : List X) (a x : X) → IsAscending lt (k ∷ ks) → AllByRecursion (λ y. lt y a ≡ false) (k ∷ ks)
       → lt x k ≡ true → lt x a ≡ false → AllByRecursion (λ p. says x p ≡ false) (pairs (k ∷ ks) a)
   none_before k [] a x up low e f = (falling_answer k a x low.0 ∙ (λ i. not (e i) || f i), tt)
-  none_before k (l ∷ ks) a x up low e f =
-      (rising_answer k l x up.0.0 ∙ (λ i. not (e i) && lt x l), none_before l ks a x up.1 low.1 (lt_trans x k l e up.0.0) f)
+  none_before k (l ∷ ks) a x up low e f = (rising_answer k l x up.0.0 ∙ (λ i. not (e i) && lt x l), none_before l ks a x up.1 low.1 (lt_trans x k l e up.0.0) f)
 
   one_from : (k : X) (ks : List X) (a x : X) → IsAscending lt (k ∷ ks) → AllByRecursion (λ y. lt y a ≡ false) (k ∷ ks)
       → lt x k ≡ false → lt x a ≡ false → IsOnly (says x) (pairs (k ∷ ks) a)
@@ -112,8 +111,7 @@ module _ {X : Type 0} {lt : X → X → Bool} (o : IsStrictWeakOrder lt) where
   -- of what is before all of them the last one says it
   one_before : (k : X) (ks : List X) (a x : X) → IsAscending lt (k ∷ ks) → AllByRecursion (λ y. lt y a ≡ false) (k ∷ ks)
       → lt x a ≡ true → IsOnly (says x) (pairs (k ∷ ks) a)
-  one_before k [] a x up low f =
-      only_here (says x) (k, a) [] (falling_answer k a x low.0 ∙ (λ i. not (lt x k) || f i) ∙ or_true (not (lt x k))) tt
+  one_before k [] a x up low f = only_here (says x) (k, a) [] (falling_answer k a x low.0 ∙ (λ i. not (lt x k) || f i) ∙ or_true (not (lt x k))) tt
   one_before k (l ∷ ks) a x up low f =
       grind (arith, common_steps, only_later, (rising_answer k l x up.0.0), (o.chain x k a), (one_before l ks a x up.1 low.1 f))
 
@@ -152,8 +150,7 @@ module _ {X : Type 0} {lt : X → X → Bool} (o : IsStrictWeakOrder lt) where
   first_least k ks up = (irreflexive k, all_from_in _ ks (λ y i. o.one_way k y (all_in (λ z. lt k z ≡ true) ks y up.0 i)))
 
   -- exactly one pair of a ring matches or covers any value
-  pub one_of_ring : (k : X) (ks : List X) → IsAscending lt (k ∷ ks) → (x : X)
-      → IsOnly (λ (p : X × X). matches_or_covers lt p.0 p.1 x) (pairs (k ∷ ks) k)
+  pub one_of_ring : (k : X) (ks : List X) → IsAscending lt (k ∷ ks) → (x : X) → IsOnly (λ (p : X × X). matches_or_covers lt p.0 p.1 x) (pairs (k ∷ ks) k)
   one_of_ring k ks up x = one_matches_or_covers k ks k x up (first_least k ks up) (irreflexive k)
 
 -- ---- lists that ascend by a comparison

@@ -16,8 +16,7 @@ use Rattle.domain_records.specs.Text.{signing_error_of}
 -- ---- The options of a command.
 
 -- fewer than two options ask for no limit
-pub no_limit : (words : Tokens) (limit : ℕ) (shown : Shown) → length words < 2 → LimitText words limit shown
-    → ShownText words shown
+pub no_limit : (words : Tokens) (limit : ℕ) (shown : Shown) → length words < 2 → LimitText words limit shown → ShownText words shown
 no_limit [] limit shown n h = h.1
 no_limit (option ∷ []) limit shown n h = h.1
 no_limit (option ∷ word ∷ more) limit shown n h = absurd (omega arith)

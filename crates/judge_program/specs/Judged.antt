@@ -29,8 +29,7 @@ pub record IsNsecJudged (given : List RawRecord) (q : Question) (answer : Answer
 -- what NSEC3 records answer with at most so many iterations, or the error in its place: of the name
 -- and the type or, where there are labels, of a name whose records were expanded from the wildcard
 -- right below its last so many labels
-abbrev pub IsAsked : Option ℕ → HashedRecords → Question → ℕ → Result Answer Nsec3HashError
-    → Type 0
+abbrev pub IsAsked : Option ℕ → HashedRecords → Question → ℕ → Result Answer Nsec3HashError → Type 0
 IsAsked None R q limit result = IsHashedJudged R q.name q.rtype limit result
 IsAsked (Some n) R q limit result = IsExpansionJudged R q.name n limit result
 

@@ -32,14 +32,12 @@ pub record IsNsec3Text (hashes : HasherAnswer) (given : List RawRecord) (q : Que
   pub is : text ≡ first_line shown q.name answer ++ below_text shown answer told
 
 -- of what records of this kind of chain answer
-abbrev pub IsText : HasherAnswer → ChainKind → List RawRecord → Question → Shown → Octets
-    → Type 0
+abbrev pub IsText : HasherAnswer → ChainKind → List RawRecord → Question → Shown → Octets → Type 0
 IsText hashes Nsec given q shown text = IsNsecText given q shown text
 IsText hashes (Nsec3 asked) given q shown text = IsNsec3Text hashes given q asked shown text
 
 -- why they have no answer
-abbrev pub HasNoText : HasherAnswer → ChainKind → List RawRecord → Question → DenialFault
-    → Type 0
+abbrev pub HasNoText : HasherAnswer → ChainKind → List RawRecord → Question → DenialFault → Type 0
 HasNoText hashes Nsec given q fault = fault ≡ OutOfMemory
 HasNoText hashes (Nsec3 asked) given q fault = IsNotNsec3Judged hashes given q asked fault
 

@@ -32,8 +32,7 @@ abbrev pub answer_text : Name → Answer → Octets
 answer_text name answers.OutsideZone = codes "outside the zone"
 answer_text name answers.AtParent = codes "at the parent: DS of the apex"
 answer_text name (answers.Referral count) = codes "referral: zone cut " ++ last_text name count
-answer_text name (answers.Redirected count) =
-    codes "redirected: DNAME at " ++ last_text name count
+answer_text name (answers.Redirected count) = codes "redirected: DNAME at " ++ last_text name count
 answer_text name answers.Has = codes "data exists"
 answer_text name answers.NoDs = codes "no DS: unsigned delegation at " ++ full_text name
 answer_text name answers.Alias = codes "alias: CNAME at " ++ full_text name

@@ -77,8 +77,7 @@ module _ (l : Look) (a : Name) where
   numbered rs ns ms (nothing _ _) = refl
   numbered rs ns ms (more _ _ before numbers marks r n last found told) = grind (arith, common_steps, (numbered before numbers marks found))
 
-  longer : (rs : List RawRecord) (ns : List ℕ) (r : RawRecord) (n : ℕ) (m : Mark) → IsDeserved l a rs ns m
-      → IsDeserved l a (rs ++ r ∷ []) (ns ++ n ∷ []) m
+  longer : (rs : List RawRecord) (ns : List ℕ) (r : RawRecord) (n : ℕ) (m : Mark) → IsDeserved l a rs ns m → IsDeserved l a (rs ++ r ∷ []) (ns ++ n ∷ []) m
   longer rs ns r n m h = grind (arith, common_steps)
 
   last_told : (before : List RawRecord) (numbers : List ℕ) (r : RawRecord) (n : ℕ) (last : List Mark) → length numbers ≡ length before

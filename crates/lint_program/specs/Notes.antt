@@ -65,8 +65,7 @@ frame StraySoa = ([], codes " owns an SOA record, and is not the apex")
 frame OtherClass = (codes "the class is ", [])
 frame OtherTtl = (codes "the TTL is ", [])
 frame Outside = ([], codes ": the record is passed over")
-frame BesideAlias =
-    ([], codes ", with the same owner: one of them is CNAME, which stands alone")
+frame BesideAlias = ([], codes ", with the same owner: one of them is CNAME, which stands alone")
 frame OddData = (codes "the octets are no data of ", [])
 frame Parameters =
     (codes "NSEC3PARAM with further iterations or a salt: ", codes " wants 0 and none")

@@ -93,8 +93,7 @@ AreNotes are_refused = AreEach (IsNote are_refused)
 
 -- the records have no NSEC chain, for which `denial` refuses them
 abbrev pub AreRefused : List RawRecord → Name → Type 0
-AreRefused records apex =
-    (fault : DenialFault) × IsOfRecords fault × HasNoNsecs records apex fault
+AreRefused records apex = (fault : DenialFault) × IsOfRecords fault × HasNoNsecs records apex fault
 
 -- they have one
 abbrev pub HaveChain : List RawRecord → Name → Type 0

@@ -12,5 +12,4 @@ returns-then-is_other c =
     (ap (λ w. is_other c.records.first w) (sym c.ttl.ensures) ∙ sym c.is_other.ensures ∙ c.if-is_other.true)
 
 pub unreachable-requires-2 : goal.unreachable-requires-2
-unreachable-requires-2 c =
-    scanned_all c.records.invariant c.requires.1 c.requires.2 (no_octets _ (omega (arith, c.records-test.false, c.remaining.ensures)))
+unreachable-requires-2 c = scanned_all c.records.invariant c.requires.1 c.requires.2 (no_octets _ (omega (arith, c.records-test.false, c.remaining.ensures)))

@@ -6,5 +6,4 @@ pub returns-then-not-is_plain-clause-none : goal.returns-then-not-is_plain-claus
 returns-then-not-is_plain-clause-none c = grind (arith, common_steps, (list_all-from_AllPass is_plain c.args.line.now))
 
 pub from_utf8_unchecked-requires : goal.from_utf8_unchecked-requires
-from_utf8_unchecked-requires c =
-    plain_is_text c.args.line.now (AllPass-from_list_all is_plain c.args.line.now (grind (arith, common_steps)))
+from_utf8_unchecked-requires c = plain_is_text c.args.line.now (AllPass-from_list_all is_plain c.args.line.now (grind (arith, common_steps)))

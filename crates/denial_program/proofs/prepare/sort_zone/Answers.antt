@@ -5,8 +5,7 @@ use Rattle.denial_program.specs.Answer.{Sorts}
 use Rattle.denial_program.proofs.prepare.sort_zone.Goals as goal
 
 pub returns-in-Ok-clause-sorts : goal.returns-in-Ok-clause-sorts
-returns-in-Ok-clause-sorts c =
-    subst (λ (xs : List RawRecord). Sorts c.args.records.items xs) (sym c.into_inner.ensures.records) c.in-Ok.ensures.sorts
+returns-in-Ok-clause-sorts c = subst (λ (xs : List RawRecord). Sorts c.args.records.items xs) (sym c.into_inner.ensures.records) c.in-Ok.ensures.sorts
 
 pub returns-in-Ok-clause-in_order : goal.returns-in-Ok-clause-in_order
 returns-in-Ok-clause-in_order c =

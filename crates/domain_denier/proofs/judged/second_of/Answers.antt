@@ -13,8 +13,4 @@ returns-in_default-judge_wildcard g c =
     let both = both_at c.args.chain.now a x c.args.rtype c.args.first c.in-Some.near c.args.count (as_link (λ n. n) c.lend_at-listed.result)
     c.lend_at-listed.ensures c.requires.denies apart c.args.wildcard.now c.requires.wildcard (c.requires.silent c.if-is_silent.true)
     (λ m e. c.in_default-judge_wildcard.not-NoCloserName m (c.judge_wildcard.ensures ∙ e)) c.requires.first in
-    record {
-      inside = c.in-Some.ensures;
-      found = λ L apex config whole under. both.1;
-      exact = c.judge_wildcard.ensures ∙ both.0;
-    }
+    record { inside = c.in-Some.ensures; found = λ L apex config whole under. both.1; exact = c.judge_wildcard.ensures ∙ both.0 }

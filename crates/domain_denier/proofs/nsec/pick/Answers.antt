@@ -34,8 +34,7 @@ low g c =
 answered : (g : Over) (c : Else-is_outside g) (listed : List Link) → IsAnswered listed (g.A.ToName.labels c.args.apex.now)
     (g.M.ToName.labels c.args.name.now) c.args.rtype
     (reading (g.A.ToName.labels c.args.apex.now) listed (g.M.ToName.labels c.args.name.now) c.args.rtype)
-answered g c listed =
-    c.readings_are_proved.ensures.zone listed _ _ c.args.rtype (subst (λ n. n < 65536) c.to_int-number.ensures c.to_int-number.type_inv)
+answered g c listed = c.readings_are_proved.ensures.zone listed _ _ c.args.rtype (subst (λ n. n < 65536) c.to_int-number.ensures c.to_int-number.type_inv)
 
 pub returns-in-Given : goal.returns-in-Given
 returns-in-Given g c =

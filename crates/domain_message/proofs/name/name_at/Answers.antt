@@ -17,5 +17,4 @@ returns-in-Root-clause-inside c =
     rw c.unwrap_or.ensures (name_inside _ _ _ _ _ _ c.labels.invariant (rw (c.in-Root.is, c.as_slice.ensures) at c.in_ok-step_at.ensures.ok))
 
 pub slice_bounds-append_slice-end-in-Label : goal.slice_bounds-append_slice-end-in-Label
-slice_bounds-append_slice-end-in-Label c =
-    label_inside _ _ _ _ _ _ c.labels.invariant _ (rw (c.in-Label.is, c.as_slice.ensures) at c.in_ok-step_at.ensures.ok)
+slice_bounds-append_slice-end-in-Label c = label_inside _ _ _ _ _ _ c.labels.invariant _ (rw (c.in-Label.is, c.as_slice.ensures) at c.in_ok-step_at.ensures.ok)

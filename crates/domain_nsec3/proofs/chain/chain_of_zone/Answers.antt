@@ -76,10 +76,6 @@ returns g c =
     record {
       chain = chain;
       sound = outcome_usable known c.in_ok-hash_chain.field-0 hashes;
-      faultless = record {
-        ready = ready g at.In_ok-owners;
-        hashed = outcome_hashed known _ hashes;
-        apart = apart_hashes _ _ _ _ chain;
-      };
+      faultless = record { ready = ready g at.In_ok-owners; hashed = outcome_hashed known _ hashes; apart = apart_hashes _ _ _ _ chain };
       fault = tt;
     }

@@ -7,5 +7,4 @@ pub write_hash-text-requires : goal.write_hash-text-requires
 write_hash-text-requires g c = omega (arith, text_length c.args.hash.now, c.requires)
 
 pub from_utf8_unchecked-requires : goal.from_utf8_unchecked-requires
-from_utf8_unchecked-requires g c =
-    IsUtf8-from_ascii _ (subst IsAscii (sym c.write_hash-text.ensures) (ascii_text _ (octets_from_type _ c.type_inv.hash)))
+from_utf8_unchecked-requires g c = IsUtf8-from_ascii _ (subst IsAscii (sym c.write_hash-text.ensures) (ascii_text _ (octets_from_type _ c.type_inv.hash)))

@@ -25,5 +25,4 @@ returns-in-Ok-clause-ok g c =
     record { made = _; is = told g (goal.at.returns-in-Ok-clause-ok g c).After-write_answer; appends = c.in-Ok.ensures }
 
 pub returns-clause-err : goal.returns-clause-err
-returns-clause-err g c =
-    unwritten _ (λ e. e ≡ OutOfMemory) _ (told g (goal.at.returns-clause-err g c).After-write_answer) refl _ c.fault_of.ensures.either
+returns-clause-err g c = unwritten _ (λ e. e ≡ OutOfMemory) _ (told g (goal.at.returns-clause-err g c).After-write_answer) refl _ c.fault_of.ensures.either

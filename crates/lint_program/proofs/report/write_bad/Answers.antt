@@ -6,11 +6,6 @@ pub returns : goal.returns
 returns g c =
     on_ok (λ h. (
       _,
-      record {
-        word = c.in_ok-word.word;
-        told = c.printed-told.result.now;
-        printed = c.printed-told.ensures;
-        is = grind (arith, common_steps);
-      },
+      record { word = c.in_ok-word.word; told = c.printed-told.result.now; printed = c.printed-told.ensures; is = grind (arith, common_steps) },
       h,
     )) c.writeln.result c.writeln.ensures.bytes

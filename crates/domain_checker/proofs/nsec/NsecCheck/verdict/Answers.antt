@@ -11,8 +11,7 @@ checked : (c : After-to_int-number) (a x : Name) (t : ℕ) (listed : List Link) 
 checked c a x t listed h verdict is = grind (arith, common_steps)
 
 pub returns-then-not-ends_with : goal.returns-then-not-ends_with
-returns-then-not-ends_with c a x t listed h =
-    checked (goal.at.returns-then-not-ends_with c).After-to_int-number a x t listed h _ (grind (arith, common_steps))
+returns-then-not-ends_with c a x t listed h = checked (goal.at.returns-then-not-ends_with c).After-to_int-number a x t listed h _ (grind (arith, common_steps))
 
 pub returns : goal.returns
 returns c a x t listed h = checked (goal.at.returns c).After-to_int-number a x t listed h _ (grind (arith, common_steps, handed_in))

@@ -25,5 +25,4 @@ returns-clause-chain g c =
     rw c.new.ensures (chain _ _ c.args.config.now c.in_ok-owners.ensures.owners _ (soa_found g (goal.at.returns-clause-chain g c).In-Some))
 
 pub returns-clause-faultless : goal.returns-clause-faultless
-returns-clause-faultless g c =
-    faultless _ _ c.args.config.now c.in_ok-owners.ensures.owners (has_soa g (goal.at.returns-clause-faultless g c).In-Some)
+returns-clause-faultless g c = faultless _ _ c.args.config.now c.in_ok-owners.ensures.owners (has_soa g (goal.at.returns-clause-faultless g c).In-Some)
