@@ -51,22 +51,46 @@ pub enum ZoneRecordData<O: Octets, N: ToName> {
     Unknown(UnknownRecordData<O>),
 }
 
-/// What is done with the data, whatever their type.
-macro_rules! with_data {
-    ($all:expr, $data:ident => $done:expr) => {
+/// What is done in one way with data of all types that have a form of their own: the one list of
+/// these, each by the number of its type and by its variant.
+macro_rules! with_types {
+    // What is done with the data, whatever their type.
+    ([$($number:ident $kind:ident)*] of $all:expr, $data:ident => $done:expr) => {
         match $all {
-            ZoneRecordData::A($data) => $done,
-            ZoneRecordData::Ns($data) => $done,
-            ZoneRecordData::Soa($data) => $done,
-            ZoneRecordData::Mx($data) => $done,
-            ZoneRecordData::Dnskey($data) => $done,
-            ZoneRecordData::Ds($data) => $done,
-            ZoneRecordData::Rrsig($data) => $done,
-            ZoneRecordData::Nsec($data) => $done,
-            ZoneRecordData::Nsec3($data) => $done,
-            ZoneRecordData::Nsec3param($data) => $done,
+            $(ZoneRecordData::$kind($data) => $done,)*
             ZoneRecordData::Unknown($data) => $done,
         }
+    };
+    // A copy of the data.
+    ([$($number:ident $kind:ident)*] copy $all:expr) => {
+        match $all {
+            $(ZoneRecordData::$kind(data) => Ok(ZoneRecordData::$kind(data.try_clone()?)),)*
+            ZoneRecordData::Unknown(data) => Ok(ZoneRecordData::Unknown(data.try_clone()?)),
+        }
+    };
+    // The order of data of one type.
+    ([$($number:ident $kind:ident)*] order $first:expr, $second:expr) => {
+        match ($first, $second) {
+            $((ZoneRecordData::$kind(a), ZoneRecordData::$kind(b)) => a.canonical_cmp(b),)*
+            (a, ZoneRecordData::Unknown(b)) => a.canonical_cmp_octets(b.data().as_slice()),
+            (ZoneRecordData::Unknown(a), b) => {
+                b.canonical_cmp_octets(a.data().as_slice()).reverse()
+            }
+            _ => unreachable!(),
+        }
+    };
+    // The data of a type that tokens begin with.
+    ([$($number:ident $kind:ident)*] scan $alloc:expr, $rtype:expr, $scanner:expr) => {
+        return_of_type!($rtype;
+            $($number => $kind($kind::scan($alloc, $scanner)?),)*
+            _ => Err(ScanError::Custom("unknown record data"))
+        )
+    };
+    ($($given:tt)*) => {
+        with_types!(
+            [A A NS Ns SOA Soa MX Mx DNSKEY Dnskey DS Ds RRSIG Rrsig NSEC Nsec NSEC3 Nsec3
+            NSEC3PARAM Nsec3param] $($given)*
+        )
     };
 }
 
@@ -89,7 +113,7 @@ impl<O: Octets, N: ToName> RecordData for ZoneRecordData<O, N> {
     ghost rtype = { rtype_of };
 
     fn rtype(&self) -> Rtype {
-        with_data!(self, data => data.rtype())
+        with_types!(of self, data => data.rtype())
     }
 }
 
@@ -117,23 +141,7 @@ impl<O: Octets, N: ToName> ZoneRecordData<O, N> {
         ensures { result ≡ slice_cmp nat_cmp (canonical_octets O.octets N.labels self.now)
             (canonical_octets O.octets N.labels other.now) }
     {
-        match (self, other) {
-            (ZoneRecordData::A(a), ZoneRecordData::A(b)) => a.canonical_cmp(b),
-            (ZoneRecordData::Ns(a), ZoneRecordData::Ns(b)) => a.canonical_cmp(b),
-            (ZoneRecordData::Soa(a), ZoneRecordData::Soa(b)) => a.canonical_cmp(b),
-            (ZoneRecordData::Mx(a), ZoneRecordData::Mx(b)) => a.canonical_cmp(b),
-            (ZoneRecordData::Dnskey(a), ZoneRecordData::Dnskey(b)) => a.canonical_cmp(b),
-            (ZoneRecordData::Ds(a), ZoneRecordData::Ds(b)) => a.canonical_cmp(b),
-            (ZoneRecordData::Rrsig(a), ZoneRecordData::Rrsig(b)) => a.canonical_cmp(b),
-            (ZoneRecordData::Nsec(a), ZoneRecordData::Nsec(b)) => a.canonical_cmp(b),
-            (ZoneRecordData::Nsec3(a), ZoneRecordData::Nsec3(b)) => a.canonical_cmp(b),
-            (ZoneRecordData::Nsec3param(a), ZoneRecordData::Nsec3param(b)) => a.canonical_cmp(b),
-            (a, ZoneRecordData::Unknown(b)) => a.canonical_cmp_octets(b.data().as_slice()),
-            (ZoneRecordData::Unknown(a), b) => {
-                b.canonical_cmp_octets(a.data().as_slice()).reverse()
-            }
-            _ => unreachable!(),
-        }
+        with_types!(order self, other)
     }
 }
 
@@ -145,15 +153,15 @@ impl<O: Octets, N: ToName> ComposeRecordData for ZoneRecordData<O, N> {
     ghost canonical = { canonical_octets O.octets N.labels };
 
     fn room_after(&self, limit: usize) -> Option<usize> {
-        with_data!(self, data => data.room_after(limit))
+        with_types!(of self, data => data.room_after(limit))
     }
 
     fn compose_in<B: OctetsBuilder>(&self, form: Form, target: &mut B) -> Result<(), AppendError> {
-        with_data!(self, data => data.compose_in(form, target))
+        with_types!(of self, data => data.compose_in(form, target))
     }
 
     fn canonical_cmp_octets(&self, other: &[u8]) -> Ordering {
-        with_data!(self, data => data.canonical_cmp_octets(other))
+        with_types!(of self, data => data.canonical_cmp_octets(other))
     }
 }
 
@@ -178,19 +186,7 @@ impl<O: Octets + Drop, N: ToName + Drop> ZoneRecordData<O, N> {
     pub fn clone(&self) -> Result<Self, OutOfMemory>
         ensures { IfOk result (IsZoneClone O.octets N.labels self.now) }
     {
-        match self {
-            ZoneRecordData::A(data) => Ok(ZoneRecordData::A(*data)),
-            ZoneRecordData::Ns(data) => Ok(ZoneRecordData::Ns(data.clone()?)),
-            ZoneRecordData::Soa(data) => Ok(ZoneRecordData::Soa(data.clone()?)),
-            ZoneRecordData::Mx(data) => Ok(ZoneRecordData::Mx(data.clone()?)),
-            ZoneRecordData::Dnskey(data) => Ok(ZoneRecordData::Dnskey(data.clone()?)),
-            ZoneRecordData::Ds(data) => Ok(ZoneRecordData::Ds(data.clone()?)),
-            ZoneRecordData::Rrsig(data) => Ok(ZoneRecordData::Rrsig(data.clone()?)),
-            ZoneRecordData::Nsec(data) => Ok(ZoneRecordData::Nsec(data.clone()?)),
-            ZoneRecordData::Nsec3(data) => Ok(ZoneRecordData::Nsec3(data.clone()?)),
-            ZoneRecordData::Nsec3param(data) => Ok(ZoneRecordData::Nsec3param(data.clone()?)),
-            ZoneRecordData::Unknown(data) => Ok(ZoneRecordData::Unknown(data.clone()?)),
-        }
+        with_types!(copy self)
     }
 }
 
@@ -240,19 +236,7 @@ where
             (RefusesOwn O.Builder.limit rtype) (S.tokens scanner.old) (S.tokens scanner.new)
             result }
     {
-        return_of_type!(rtype;
-            A => A(A::scan(alloc, scanner)?),
-            NS => Ns(Ns::scan(alloc, scanner)?),
-            SOA => Soa(Soa::scan(alloc, scanner)?),
-            MX => Mx(Mx::scan(alloc, scanner)?),
-            DNSKEY => Dnskey(Dnskey::scan(alloc, scanner)?),
-            DS => Ds(Ds::scan(alloc, scanner)?),
-            RRSIG => Rrsig(Rrsig::scan(alloc, scanner)?),
-            NSEC => Nsec(Nsec::scan(alloc, scanner)?),
-            NSEC3 => Nsec3(Nsec3::scan(alloc, scanner)?),
-            NSEC3PARAM => Nsec3param(Nsec3param::scan(alloc, scanner)?),
-            _ => Err(ScanError::Custom("unknown record data"))
-        )
+        with_types!(scan alloc, rtype, scanner)
     }
 
     /// The data of a type that the tokens begin with: in the text form of that type, or, where the
@@ -304,6 +288,6 @@ impl<O: Octets, N: ToName> fmt::Display for ZoneRecordData<O, N> {
     ghost output = { data_text O.octets N.labels };
 
     fn fmt<W: fmt::Write>(&self, f: &mut fmt::Formatter<W>) -> fmt::Result {
-        with_data!(self, data => fmt::Display::fmt(data, f))
+        with_types!(of self, data => fmt::Display::fmt(data, f))
     }
 }
