@@ -323,6 +323,25 @@ fn typed(data: &Data, answers: &mut Answers) -> Answered {
     }
 }
 
+/// Answers a vector on the data that all its words spell.
+fn of_data(form: &str, data: &Data, answers: &mut Answers) -> Answered {
+    match form {
+        "typed" => typed(data, answers),
+        "made" => fields(data, answers),
+        "text" => forms(data, answers),
+        "size" => {
+            let mut octets = Vec::new(answers.alloc);
+            answers.debug("composed", &data.compose_rdata(&mut octets));
+            answers.show("octets", &octets.len());
+            answers.characters(data)
+        }
+        _ => match data {
+            ZoneRecordData::Dnskey(key) => answers.show("key tag", &key.key_tag()),
+            _ => None,
+        },
+    }
+}
+
 /// Answers a vector on data that words spell.
 pub fn answer(form: &str, words: &[&str], answers: &mut Answers) -> Answered {
     let (first, rest) = (input::word(words, 0), words.get(1..).unwrap_or_default());
@@ -333,18 +352,6 @@ pub fn answer(form: &str, words: &[&str], answers: &mut Answers) -> Answered {
         "wire" => wire(first, answers.spelled(rest)?.as_slice(), answers),
         "limit" => limit(first, answers.spelled(rest)?.as_slice(), answers),
         "compare" => compare(words, answers),
-        "typed" => typed(&answers.data(words)?, answers),
-        "made" => fields(&answers.data(words)?, answers),
-        "text" => forms(&answers.data(words)?, answers),
-        "size" => {
-            let (data, mut octets) = (answers.data(words)?, Vec::new(answers.alloc));
-            answers.debug("composed", &data.compose_rdata(&mut octets));
-            answers.show("octets", &octets.len());
-            answers.characters(&data)
-        }
-        _ => match &answers.data(words)? {
-            ZoneRecordData::Dnskey(key) => answers.show("key tag", &key.key_tag()),
-            _ => None,
-        },
+        _ => of_data(form, &answers.data(words)?, answers),
     }
 }
