@@ -4,6 +4,7 @@ ghost use Rattle.std.specs.Prelude.{◌≡◌, true, false, IfOk};
 use domain_nsec::GenerateNsecConfig;
 use domain_nsec3::GenerateNsec3Config;
 use domain_octets::{Octets, OutOfMemory};
+use std::alloc::Global;
 
 /// How the denial of existence of a zone is made. `Sort` is what sorts the hashes of NSEC3.
 #[derive(Drop)]
@@ -18,8 +19,9 @@ pub enum DenialConfig<O: Octets, Sort> {
 }
 
 impl<O: Octets, Sort> DenialConfig<O, Sort> {
-    /// An NSEC chain, as `GenerateNsecConfig::new` has it.
-    pub fn default() -> Self
+    /// Returns the configuration of an NSEC chain, as `GenerateNsecConfig::new` has it. Takes no
+    /// memory.
+    pub fn default(_alloc: Global) -> Self
         ensures { result ≡ DenialConfig.Nsec (record {
           assume_dnskeys_will_be_added = true;
           occlude_below_dname = false;

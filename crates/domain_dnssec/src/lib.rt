@@ -30,8 +30,8 @@ pub use chain::ChainError;
 pub use config::DenialConfig;
 pub use domain_answer::{Answer, judge_nsec, judge_nsec3, judge_nsec3_expansion};
 pub use domain_base::{
-    Class, FromToken, IterScanner, MakeName, Name, Nsec3HashAlgorithm, ParseError, ParsedName,
-    Rtype, ScanError, Scanner, ToName, Ttl,
+    CanonicalOrd, Class, FromToken, IterScanner, MakeName, Name, Nsec3HashAlgorithm, ParseError,
+    ParsedName, Rtype, ScanError, Scanner, ToName, Ttl,
 };
 pub use domain_bitmap::{RtypeBitmap, RtypeBitmapBuilder};
 pub use domain_checker::{NsecCheck, Verdict, check_nsec, check_nsec3};
@@ -51,7 +51,10 @@ pub use domain_octets::{
     OutOfMemory, Parser, SmallBuilder, SmallOctets, Truncate, TryClone,
 };
 pub use domain_rdata::{Nsec, Nsec3, Nsec3param, ZoneRecordData};
-pub use domain_record::{LongRecordData, Record, ZoneData};
+pub use domain_record::{
+    CloneRecordData, ComposeRecordData, LongRecordData, ParseRecordData, Record, RecordData,
+    ZoneData,
+};
 pub use domain_records::{
     DefaultSorter, InPlaceSorter, InsertError, OwnerRrs, RecordsIter, SigningError, SortError,
     SortedRecords, Sorter,

@@ -1,7 +1,7 @@
 -- Records in order: sorted sets as lists, and lists in the order of places.
-use Rattle.std.proofs.Common.{Bor, List, [], ◌∷◌, ap, is_lt, ◌≡◌, ℕ, ◌+◌, ◌<◌, ◌≤◌, Bool, false, not, ◌&&◌, ◌++◌, length, get_or, take, drop, Result, Ok, Err}
-use Rattle.std.proofs.Common.{IfOk, IfErr, refl, sym, ◌∙◌, subst, arith, ◌↔◌, zero, suc, add-one, true, Some, inl, inr, below_more}
-use Rattle.std.proofs.lemmas.{Map.Keys.{Less-from_sorted, sorted_from_all_adjacent}, List.{take-append-drop, get_or-take, get_or-drop, get_or_default}}
+use Rattle.std.proofs.Common.{Bor, List, [], ◌∷◌, ap, is_lt, ◌≡◌, ℕ, ◌+◌, ◌<◌, ◌≤◌, Bool, false, not, ◌&&◌, ◌||◌, IsTrue, ◌-◌, ◌++◌, length, get_or, take, drop, Result, Ok, Err}
+use Rattle.std.proofs.Common.{IfOk, IfErr, refl, sym, ◌∙◌, subst, arith, ◌↔◌, zero, suc, add-one, true, None, Some, inl, inr, below_more}
+use Rattle.std.proofs.lemmas.{Map.Keys.{Less-from_sorted, sorted_from_all_adjacent}, List.{take-append-drop, take_rest, get_or-take, get_or-drop, get_or_default}}
 use Rattle.std.proofs.lemmas.List.{length-take-le, length-drop, Filters.All-dedup, Elements.{All-contains_itself, AllZip-get_or, filter_agree}}
 use Rattle.std.proofs.lemmas.List.{Elements.{recursion_from_All, All-get_or, All-from_get_or}, Kept.{IsStrictlySortedBy-dedup, Any-dedup}}
 use Rattle.std.proofs.lemmas.List.{Quantifiers.all_pairs_remove, Sorted.{searchable_from_sorted, IsPermutation-insert, Contains-permutation, All-permutation}}
@@ -9,12 +9,12 @@ use Rattle.std.proofs.lemmas.List.{Sorted.{IsPermutation-swap, IsPermutation-tra
 use Rattle.std.proofs.lemmas.{List.{Sums.passes_at_first, Edits.{length-swap, swapped_from_swap}}, Grind.common_steps, Slice.Zip.AllZip-long, Bool.eqb-true}
 use Rattle.std.proofs.lemmas.{Bool.{eq-eqb, cases_Bool, cases_lt, cases_eq, Decides.nat_tests}, Option.{slice_get-get_or, slice_get_past}}
 use Rattle.std.specs.{declared.cmp.Ordering.{Ordering, TheVariants.{Less, Equal, Greater}}, Fn.{Mut, AlwaysReturns, ReturnsEach, ComparesAs}}
-use Rattle.std.specs.List.{AllByRecursion, AllZip, slice_get, Contains, dedup, dedup_from, filter, find, remove, position_or_len, swap}
+use Rattle.std.specs.List.{AllAdjacentBelow, IsAllAdjacentAnswer, AllByRecursion, AllZip, slice_get, Contains, dedup, dedup_from, filter, find, remove, position_or_len, swap}
 use Rattle.std.specs.List.Sorted.{IsStrictlySortedBy, IsSorted, IsStable, IsPermutation, ties, IsSearchInRange, IsBinarySearchResult, IsNonDecreasingBy}
 use Rattle.std.specs.Cmp.{IsTotalOrder, IsEquivalence, eq_by_cmp_equiv, alike_right, tied_back, Equal-is, upto, tied_itself, nat_cmp_total, then_total}
 use Rattle.std.specs.{Cmp.on_total, Ordering.{eq_by_cmp, is_eq, ordering_index, ordering_reverse, ordering_then, nat_cmp, is_gt, is_le}}
 use Rattle.domain_records.specs.Order.{AnswersBy, Holds, GoesTo, IsSortedSetOf, IsSortOf, IsUnion, KeepsEarliest, first_equal, HoldsPairwise, IsOneClass}
-use Rattle.domain_records.specs.{Order.{MayFollow, IsInOrder, AreInOrder, IsArranged, compared_places, AreRanks}, Groups.{may_follow, same_class, same_ttl}}
+use Rattle.domain_records.specs.{Order.{MayFollow, IsInOrder, AreInOrder, AreAscending, AreDistinct, IsArranged, compared_places, AreRanks}, Groups.{may_follow, same_class, same_ttl}}
 use Rattle.domain_records.specs.Groups.{HoldsOfNeighbours}
 use Rattle.domain_names.specs.{Name.{IsSame, canonical_cmp, canonical_cmp_total}, Laws.{same_tied, tied_same}}
 use Rattle.domain_record.specs.{declared.record.Record.Record, Record.{record_cmp, IsRecordClone}}
@@ -330,6 +330,96 @@ module _ {X : Type 0} {R : X → X → Ordering} (o : IsTotalOrder R) (xs : List
       sorted = λ k e le lt. rw (at k e (omega arith), at (k + 1) e lt) (places_in_order k (let n = h.all in let m = put.many in omega arith));
       earliest = λ on x. same_first x;
     }
+
+    -- where no two of the elements at the places are equal, the list is the sorted set
+    pub arranged_distinct : AreDistinct R xs d places → IsStrictlySortedBy R ys
+    arranged_distinct distinct = sorted_from_all_adjacent o ys d (λ k lt.
+        let n = h.all in let m = put.many in
+        rw (at k d (omega arith), at (k + 1) d lt) (distinct k 0 (omega arith)))
+
+-- a list without a first element has none
+pub first_of_none : {X : Type 0} (xs : List X) → None ≡ slice_get xs 0 → xs ≡ []
+first_of_none [] none = refl
+first_of_none (x ∷ xs) none = cc
+
+-- ---- Neighbours.
+
+-- what a test of neighbours answers where it answers true
+pub adjacent_if : {X : Type 0} (e : X → X → Bool) (xs : List X) (answer : Bool) → IsAllAdjacentAnswer (λ x y b. b ≡ e x y) xs answer → IsTrue answer
+    → AllAdjacentBelow (λ x y. true ≡ e x y) xs (length xs)
+adjacent_if e xs true h on = h
+adjacent_if e xs false h on = cc
+
+less_if : (r : Ordering) → true ≡ is_lt r → r ≡ Less
+less_if r e = grind (arith, common_steps)
+
+-- neighbours of which each is less than the next
+pub neighbours_less : {X : Type 0} (R : X → X → Ordering) (xs : List X) (answer : Bool) → IsAllAdjacentAnswer (λ x y b. b ≡ is_lt (R x y)) xs answer
+    → IsTrue answer → AllAdjacentBelow (λ x y. R x y ≡ Less) xs (length xs)
+neighbours_less R xs answer h on k d lt = less_if _ (adjacent_if (λ x y. is_lt (R x y)) xs answer h on k d lt)
+
+-- by a total order they make a strictly sorted list
+pub sorted_by_neighbours : {X : Type 0} {R : X → X → Ordering} (o : IsTotalOrder R) (xs : List X) → AllAdjacentBelow (λ x y. R x y ≡ Less) xs (length xs)
+    → IsStrictlySortedBy R xs
+sorted_by_neighbours {R = R} o [] h = sorted_nil R [] refl
+sorted_by_neighbours o (x ∷ xs) h = sorted_from_all_adjacent o (x ∷ xs) x (λ k lt. h k x lt)
+
+-- ---- Places that are appended to others.
+
+module _ (P : ℕ → ℕ → Type 0) where
+  -- what holds of neighbours among the first, and of those among the others and the last of the first, holds of all
+  adjacent_more : (old new : List ℕ) → old ≡ take (length old) new → AllAdjacentBelow P old (length old)
+      → AllAdjacentBelow P (drop (length old - 1) new) (length (drop (length old - 1) new)) → AllAdjacentBelow P new (length new)
+  adjacent_more old new kept before others k d lt =
+      let s = length old - 1 in
+      elim (cases_lt (k + 1) (length old)) [
+        | inl less ↦
+            let at = λ (j : ℕ) (l : j < length old). sym (get_or-take (length old) new j d l) ∙ ap (λ xs. get_or xs j d) (sym kept) in
+            rw (at k (omega arith), at (k + 1) less) (before k d less)
+        | inr past ↦
+            let j = k - s in
+            let here : get_or (drop s new) j d ≡ get_or new k d = get_or-drop s new j d ∙ ap (λ q. get_or new q d) (omega arith) in
+            let next : get_or (drop s new) (j + 1) d ≡ get_or new (k + 1) d = get_or-drop s new (j + 1) d ∙ ap (λ q. get_or new q d) (omega arith) in
+            rw (sym here, sym next) (others j d (omega (arith, length-drop s new)))
+      ]
+
+  -- what is known of the first and was seen of the others, which are shown from the last of the first on
+  pub known_more : (old new shown : List ℕ) (n s : ℕ) (was also : Bool) → n ≡ length old → s ≡ n - 1 → shown ≡ new → old ≡ take (length old) new
+      → (IsTrue was → AllAdjacentBelow P old (length old))
+      → (IsTrue also → AllAdjacentBelow P (take (length shown - s) (drop s shown)) (length (take (length shown - s) (drop s shown))))
+      → IsTrue (was && also) → AllAdjacentBelow P new (length new)
+  known_more old new shown n s true true count from is kept was_so is_so on =
+      let e : take (length shown - s) (drop s shown) ≡ drop (length old - 1) new =
+      take_rest shown s ∙ ap (drop s) is ∙ ap (λ k. drop k new) (from ∙ ap (λ k. k - 1) count) in
+      adjacent_more old new kept (was_so refl) (subst (λ xs. AllAdjacentBelow P xs (length xs)) e (is_so refl))
+  known_more old new shown n s true false count from is kept was_so is_so on = cc
+  known_more old new shown n s false also count from is kept was_so is_so on = cc
+
+-- places whose elements are not equal ascend
+pub distinct_ascend : {X : Type 0} (R : X → X → Ordering) (xs : List X) (d : X) (places : List ℕ) → AreDistinct R xs d places → AreAscending R xs d places
+unfolding compared_places
+distinct_ascend R xs d places h k e lt = grind (arith, common_steps, (h k e lt))
+
+-- ---- Lists without equal elements.
+
+-- a list that is strictly sorted is its own sorted set
+pub union_itself : {X : Type 0} {R : X → X → Ordering} (o : IsTotalOrder R) (stable : Bool) (xs : List X) → IsStrictlySortedBy R xs → IsUnion stable R xs xs
+union_itself o stable xs s = record {
+  set = record { sorted = s; among = All-contains_itself xs; each = λ x h. (h.0, x, h.1, h.2, tied_itself o x) };
+  earliest = λ on x. refl;
+}
+
+-- a sorted list without equal elements is the sorted set
+pub union_distinct : {X : Type 0} {R : X → X → Ordering} (o : IsTotalOrder R) (stable : Bool) (xs ys : List X) → IsSortOf stable R xs ys
+    → IsStrictlySortedBy R ys → IsUnion stable R xs ys
+union_distinct o stable xs ys h s = record {
+  set = record {
+    sorted = s;
+    among = All-permutation (Contains xs) xs ys h.moved (All-contains_itself xs);
+    each = λ x held. let at = Contains-permutation xs ys x h.moved held in (at.0, x, at.1, at.2, tied_itself o x);
+  };
+  earliest = h.earliest;
+}
 
 -- ---- Items that are put into the order of their places, one rank after another.
 

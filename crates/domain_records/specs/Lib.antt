@@ -1,3 +1,4 @@
 pub mod Groups
 pub mod Text
 pub mod Order
+pub mod Places

@@ -59,12 +59,23 @@ pub record IsArranged {X : Type 0} (xs : List X) (places : List ℕ) (new : List
 unfoldable pub compared_places : {X : Type 0} → (X → X → Ordering) → List X → X → ℕ → ℕ → Ordering
 compared_places R xs d = then_cmp (on (λ k. slice_index_or xs k d) R) nat_cmp
 
+-- each place comes before the next
+abbrev pub AreAscending : {X : Type 0} → (X → X → Ordering) → List X → X → List ℕ → Type 0
+AreAscending R xs d places =
+    AllAdjacentBelow (λ a b. compared_places R xs d a b ≡ Less) places (length places)
+
+-- what stands at each place is less by R than what stands at the next, so that no two are equal
+abbrev pub AreDistinct : {X : Type 0} → (X → X → Ordering) → List X → X → List ℕ → Type 0
+AreDistinct R xs d places =
+    AllAdjacentBelow (λ a b. R (slice_index_or xs a d) (slice_index_or xs b d) ≡ Less) places
+    (length places)
+
 -- all places of xs with their ranks, each place before the next
 pub record AreInOrder {X : Type 0} (R : X → X → Ordering) (xs : List X) (d : X)
     (places ranks : List ℕ) : Type 0 where
   pub all : length places ≡ length xs
   pub inverse : AreRanks places ranks
-  pub ascend : AllAdjacentBelow (λ a b. compared_places R xs d a b ≡ Less) places (length places)
+  pub ascend : AreAscending R xs d places
 
 -- ---- Lists as sorted sets, by an order R.
 

@@ -1,12 +1,13 @@
 //! Sorting, by owner first where that is right: runs of neighbours of one owner, by the keys of
 //! their owners, lead to an order of the records' places. Keys and runs are hints, of which nothing
 //! is promised: they decide what is compared, and the order is checked before a record is moved.
-ghost use Rattle.std.specs.Prelude.{◌≡◌, ◌<◌, length, slice_index, slice_index_or, Bool, true, false, IsTrue, OnOk, OnErr};
+ghost use Rattle.std.specs.Prelude.{◌≡◌, ◌<◌, ◌≤◌, length, take, slice_index, slice_index_or, Bool, true, false, IsTrue, IfOk, OnOk, OnErr};
 ghost use Rattle.std.specs.{declared.cmp.Ordering.Ordering, Ordering.is_eq, Cmp.IsTotalOrder};
-ghost use Rattle.std.specs.List.Sorted.{IsPermutation, IsSorted, IsStable};
+ghost use Rattle.std.specs.List.Sorted.{IsPermutation, IsSorted, IsStable, IsStrictlySortedBy};
 ghost use Rattle.domain_record.specs.Record.{record_cmp};
-ghost use Rattle.domain_records.specs.Order.{owner_cmp, rest_cmp, AreRanks, IsArranged, AreInOrder};
-ghost use Rattle.domain_records.specs.Order.{compared_places, IsSortOf, IsUnion, AnswersBy};
+ghost use Rattle.domain_records.specs.Order.{owner_cmp, rest_cmp, AreRanks, IsArranged, compared_places};
+ghost use Rattle.domain_records.specs.Order.{AreAscending, AreDistinct, IsSortOf, IsUnion, AnswersBy};
+ghost use Rattle.domain_records.specs.Places.{AreKnown};
 
 use domain_base::{CanonicalOrd, ToName};
 use domain_octets::OutOfMemory;
@@ -203,21 +204,134 @@ fn give_keys<N: ToName, D>(records: &[Record<N, D>], first: &Record<N, D>, runs:
     }
 }
 
-/// Puts the places of a run at the end, and those from `start` on into the order of their records,
-/// which have one owner.
-fn push_places<N: ToName, D: RecordData + CanonicalOrd>(
+/// Compares the records at two places, and then the places.
+#[tactic(auto, unfolding(crate::specs::Order::compared_places))]
+fn compare_places<N: ToName, D: RecordData + CanonicalOrd>(
     records: &[Record<N, D>],
     first: &Record<N, D>,
-    run: Run,
-    start: usize,
+    a: usize,
+    b: usize,
+) -> Ordering
+    ensures { result ≡ compared_places (record_cmp N.labels D.rtype D.canonical_cmp) records.now
+        first.now a b }
+{
+    neighbour_cmp(item_at(records, a, first), item_at(records, b, first)).then(a.cmp(&b))
+}
+
+/// Whether the record at each place comes before the record at the next.
+fn are_distinct<N: ToName, D: RecordData + CanonicalOrd>(
+    records: &[Record<N, D>],
+    first: &Record<N, D>,
+    places: &[usize],
+) -> bool
+    ensures { IsTrue result → AreDistinct (record_cmp N.labels D.rtype D.canonical_cmp) records.now
+        first.now places.now }
+{
+    places.is_sorted_by(|a, b| {
+        neighbour_cmp(item_at(records, *a, first), item_at(records, *b, first)).is_lt()
+    })
+}
+
+/// Whether each place comes before the next: by its record, and where the records are equal by
+/// itself.
+fn are_ascending<N: ToName, D: RecordData + CanonicalOrd>(
+    records: &[Record<N, D>],
+    first: &Record<N, D>,
+    places: &[usize],
+) -> bool
+    ensures { IsTrue result → AreAscending (record_cmp N.labels D.rtype D.canonical_cmp)
+        records.now first.now places.now }
+{
+    places.is_sorted_by(|a, b| compare_places(records, first, *a, *b).is_lt())
+}
+
+/// Whether each place comes before the next, and whether the record at each place does.
+#[tactic(auto, using(crate::proofs::OrderLemmas::distinct_ascend))]
+fn check_places<N: ToName, D: RecordData + CanonicalOrd>(
+    records: &[Record<N, D>],
+    first: &Record<N, D>,
+    places: &[usize],
+) -> (bool, bool)
+    ensures ascend { IsTrue result.0 → AreAscending
+        (record_cmp N.labels D.rtype D.canonical_cmp) records.now first.now places.now }
+    ensures distinct { IsTrue result.1 → AreDistinct
+        (record_cmp N.labels D.rtype D.canonical_cmp) records.now first.now places.now }
+{
+    if are_distinct(records, first, places) {
+        return (true, true);
+    }
+    (are_ascending(records, first, places), false)
+}
+
+/// Appends the places of one owner's runs, in the order of their records.
+fn push_owner<N: ToName, D: RecordData + CanonicalOrd>(
+    records: &[Record<N, D>],
+    first: &Record<N, D>,
+    runs: &[Run],
     places: &mut Vec<usize>,
-) -> Result<(), OutOfMemory> {
-    places.extend(run.start..run.end)?;
-    let start = start.min(places.len());
+) -> Result<(), OutOfMemory>
+    ensures { OnOk result (places.old.items ≡ take (length places.old.items) places.new.items) }
+{
+    let start = places.len();
+    for run in runs {
+        places.extend(run.start..run.end)?;
+    }
     places[start..].sort_unstable_by(|a, b| {
         rest_cmp(item_at(records, *a, first), item_at(records, *b, first)).then(a.cmp(b))
     });
     Ok(())
+}
+
+/// Places of records, and what is known of their order.
+#[derive(Drop)]
+struct Places {
+    places: Vec<usize>,
+    /// Each place comes before the next.
+    are_ascending: bool,
+    /// The record at each place comes before the record at the next, so that no two are equal.
+    are_distinct: bool,
+}
+
+impl Places {
+    /// Appends the places of one owner's runs, in the order of their records. Their order is
+    /// checked while their records are at hand.
+    fn push<N: ToName, D: RecordData + CanonicalOrd>(
+        &mut self,
+        records: &[Record<N, D>],
+        first: &Record<N, D>,
+        runs: &[Run],
+    ) -> Result<(), OutOfMemory>
+        requires { AreKnown (record_cmp N.labels D.rtype D.canonical_cmp) records.now first.now
+            self.old }
+        ensures { OnOk result (AreKnown (record_cmp N.labels D.rtype D.canonical_cmp) records.now
+            first.now self.new) }
+    {
+        let start = self.places.len();
+        push_owner(records, first, runs, &mut self.places)?;
+        let added = &self.places[start.saturating_sub(1)..];
+        let (are_ascending, are_distinct) = check_places(records, first, added);
+        self.are_ascending &= are_ascending;
+        self.are_distinct &= are_distinct;
+        Ok(())
+    }
+}
+
+/// How many runs, from the first on, have its owner.
+fn count_of_owner<N: ToName, D>(
+    records: &[Record<N, D>],
+    first: &Record<N, D>,
+    runs: &[Run],
+) -> usize
+    ensures within { result ≤ length runs.now }
+    ensures some { 0 < length runs.now → 0 < result }
+{
+    for i in 1..runs.len() {
+        let owner = item_at(records, runs[0].start, first);
+        if !is_one_owner(owner, item_at(records, runs[i].start, first)) {
+            return i;
+        }
+    }
+    runs.len()
 }
 
 /// The places of the records, in the order of sorted runs, and of the records within an owner.
@@ -226,17 +340,20 @@ fn places_of<N: ToName, D: RecordData + CanonicalOrd>(
     records: &[Record<N, D>],
     first: &Record<N, D>,
     runs: &[Run],
-) -> Result<Vec<usize>, OutOfMemory> {
-    let mut places = Vec::with_capacity(alloc, records.len())?;
-    let mut owner = first;
-    let mut start = 0;
-    for run in runs {
-        let next = item_at(records, run.start, first);
-        if !is_one_owner(owner, next) {
-            owner = next;
-            start = places.len();
-        }
-        push_places(records, first, *run, start, &mut places)?;
+) -> Result<Places, OutOfMemory>
+    ensures { IfOk result (AreKnown (record_cmp N.labels D.rtype D.canonical_cmp) records.now
+        first.now) }
+{
+    let mut places = Places {
+        places: Vec::with_capacity(alloc, records.len())?,
+        are_ascending: true,
+        are_distinct: true,
+    };
+    let mut left = runs;
+    while !left.is_empty() {
+        let (owner, others) = left.split_at(count_of_owner(records, first, left));
+        places.push(records, first, owner)?;
+        left = others;
     }
     Ok(places)
 }
@@ -247,7 +364,10 @@ fn likely_places<N: ToName, D: RecordData + CanonicalOrd, S: Sorter>(
     alloc: Global,
     records: &[Record<N, D>],
     first: &Record<N, D>,
-) -> Result<Vec<usize>, OutOfMemory> {
+) -> Result<Places, OutOfMemory>
+    ensures { IfOk result (AreKnown (record_cmp N.labels D.rtype D.canonical_cmp) records.now
+        first.now) }
+{
     let mut runs = runs_of(alloc, records)?;
     give_keys(records, first, &mut runs);
     S::sort_by(&mut runs, |a, b| {
@@ -312,40 +432,6 @@ fn arrange<T>(items: &mut [T], places: &mut [usize], ranks: &mut [usize])
     }
 }
 
-/// Compares the records at two places, and then the places.
-#[tactic(auto, unfolding(crate::specs::Order::compared_places))]
-fn compare_places<N: ToName, D: RecordData + CanonicalOrd>(
-    records: &[Record<N, D>],
-    first: &Record<N, D>,
-    a: usize,
-    b: usize,
-) -> Ordering
-    ensures { result ≡ compared_places (record_cmp N.labels D.rtype D.canonical_cmp) records.now
-        first.now a b }
-{
-    neighbour_cmp(item_at(records, a, first), item_at(records, b, first)).then(a.cmp(&b))
-}
-
-/// Whether these are the places of the records in canonical order, of equal ones the earliest
-/// first, and their ranks.
-fn are_in_order<N: ToName, D: RecordData + CanonicalOrd>(
-    records: &[Record<N, D>],
-    first: &Record<N, D>,
-    places: &[usize],
-    ranks: &[usize],
-) -> bool
-    ensures { IsTrue result → AreInOrder (record_cmp N.labels D.rtype D.canonical_cmp) records.now
-        first.now places.now ranks.now }
-{
-    if places.len() != records.len() {
-        return false;
-    }
-    if !are_ranks(places, ranks) {
-        return false;
-    }
-    places.is_sorted_by(|a, b| compare_places(records, first, *a, *b).is_lt())
-}
-
 /// Puts items into canonical order by the sorter. A refusal leaves the list as it was.
 fn sort_whole<T: CanonicalOrd, S: Sorter>(items: &mut Vec<T>) -> Result<(), OutOfMemory>
     ensures ok { OnOk result
@@ -355,32 +441,48 @@ fn sort_whole<T: CanonicalOrd, S: Sorter>(items: &mut Vec<T>) -> Result<(), OutO
     Ok(S::sort_by(items, |a, b| a.canonical_cmp(b))?)
 }
 
-/// Puts the records into canonical order. Each is moved once, to the place that keys of owners make
-/// likely, where these places are right; else the sorter is given the records. A refusal leaves the
-/// list as it was.
+/// Whether each record comes before the next in canonical order.
+fn are_strictly_sorted<N: ToName, D: RecordData + CanonicalOrd>(records: &[Record<N, D>]) -> bool
+    ensures { IsTrue result → IsStrictlySortedBy (record_cmp N.labels D.rtype D.canonical_cmp)
+        records.now }
+{
+    records.is_sorted_by(|a, b| neighbour_cmp(a, b).is_lt())
+}
+
+/// Puts the records into canonical order, and says whether no two are known to be equal. Each is
+/// moved once, to the place that keys of owners make likely, where these places are right; else the
+/// sorter is given the records. A refusal leaves the list as it was.
 #[tactic(auto, using(std::proofs::lemmas::Grind::common_steps))]
 fn sort<N: ToName, D: RecordData + CanonicalOrd, S: Sorter>(
     records: &mut Vec<Record<N, D>>,
-) -> Result<(), OutOfMemory>
+) -> Result<bool, OutOfMemory>
     ensures ok { OnOk result (IsSortOf S.is_stable (record_cmp N.labels D.rtype D.canonical_cmp)
         records.old.items records.new.items) }
+    ensures distinct { IfOk result (λ distinct. IsTrue distinct → IsStrictlySortedBy
+        (record_cmp N.labels D.rtype D.canonical_cmp) records.new.items) }
     ensures err { OnErr result (records.new.items ≡ records.old.items) }
 {
     let alloc = *records.allocator();
     let Some(first) = records.first() else {
-        return Ok(());
+        return Ok(true);
     };
-    let mut places = likely_places::<N, D, S>(alloc, records, first)?;
+    let Places {
+        mut places,
+        are_ascending,
+        are_distinct,
+    } = likely_places::<N, D, S>(alloc, records, first)?;
     let mut ranks = ranks_of(alloc, &places)?;
-    if are_in_order(records, first, &places, &ranks) {
+    if are_ascending && places.len() == records.len() && are_ranks(&places, &ranks) {
         arrange(records, &mut places, &mut ranks);
-        return Ok(());
+        return Ok(are_distinct);
     }
-    sort_whole::<Record<N, D>, S>(records)
+    sort_whole::<Record<N, D>, S>(records)?;
+    Ok(false)
 }
 
-/// Puts the records into canonical order, and keeps the earliest of equal ones. A refusal leaves
-/// the list as it was.
+/// Puts the records into canonical order, and keeps the earliest of equal ones. Records that are so
+/// already are looked at once. A refusal leaves the list as it was.
+#[tactic(auto, using(std::proofs::lemmas::Grind::common_steps))]
 pub(crate) fn sort_and_dedup<N: ToName + Drop, D: RecordData + CanonicalOrd + Drop, S: Sorter>(
     records: &mut Vec<Record<N, D>>,
 ) -> Result<(), OutOfMemory>
@@ -388,7 +490,12 @@ pub(crate) fn sort_and_dedup<N: ToName + Drop, D: RecordData + CanonicalOrd + Dr
         records.old.items records.new.items) }
     ensures err { OnErr result (records.new.items ≡ records.old.items) }
 {
-    sort::<N, D, S>(records)?;
+    if are_strictly_sorted(records) {
+        return Ok(());
+    }
+    if sort::<N, D, S>(records)? {
+        return Ok(());
+    }
     records.dedup_by(|later, earlier| is_equal(later, earlier));
     Ok(())
 }
