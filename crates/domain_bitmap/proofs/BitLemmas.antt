@@ -50,19 +50,6 @@ any_with p q c (suc n) k below same more = elim (eqb_tells k n) [
   | inr h ↦ grind (arith, common_steps, any_suc, (any_with p q c n k), (same n))
 ]
 
--- a test that fails but at one place
-pub any_only : (p : ℕ → Bool) (n k : ℕ) → k < n → ((j : ℕ) → j < n → j ≢ k → p j ≡ false) → list_any p (range_with_len 0 n) ≡ p k
-any_only p n k below fails = grind (arith, common_steps, (any_with (λ j. false) p (p k) n k below fails), (any_none (λ j. false) n (λ j inside. refl)))
-
--- a test put before that at a place
-pub any_inserted : (p q : ℕ → Bool) (k n : ℕ) → k ≤ n → ((j : ℕ) → j < k → q j ≡ p j) → ((j : ℕ) → k ≤ j → j < n → q (j + 1) ≡ p j)
-    → list_any q (range_with_len 0 (n + 1)) ≡ (q k || list_any p (range_with_len 0 n))
-any_inserted p q k zero within before behind = grind (arith, common_steps)
-any_inserted p q k (suc n) within before behind = elim (eqb_tells k (suc n)) [
-  | inl h ↦ grind (arith, common_steps, any_more, (any_same q p (suc n)))
-  | inr h ↦ grind (arith, common_steps, any_more, any_suc, (behind n), (any_inserted p q k n))
-]
-
 -- the numbers that pass a test
 pub filter_none : (p : ℕ → Bool) (a n : ℕ) → ((j : ℕ) → a ≤ j → j < a + n → p j ≡ false) → filter p (range_with_len a n) ≡ []
 filter_none p a zero none = refl
@@ -76,6 +63,9 @@ pub filter_append : (p : ℕ → Bool) (a m n : ℕ) → filter p (range_with_le
 filter_append p a m n = sym (ap (filter p) (range_append a m n) ∙ filter-append p (range_with_len a m) (range_with_len (a + m) n))
 
 -- how many numbers pass a test
+pub count_more : (p : ℕ → Bool) (n : ℕ) → length (filter p (range_with_len 0 (n + 1))) ≡ length (filter p (range_with_len 0 n)) + (if p n then 1 else 0)
+count_more p n = grind (arith, common_steps, range_more)
+
 count_suc : (p : ℕ → Bool) (n : ℕ) → length (filter p (range_with_len 0 (suc n))) ≡ length (filter p (range_with_len 0 n)) + (if p n then 1 else 0)
 count_suc p n = grind (arith, common_steps, range_suc)
 

@@ -1,17 +1,18 @@
 -- Sets of types as octets, how these are put together, and that they are the one spelling of a set.
 use Rattle.std.proofs.Common.{◌≡◌, ℕ, ◌+◌, ◌-◌, ◌*◌, ◌/◌, ◌%◌, ◌^◌, ◌<◌, ◌≢◌, true, false, List, ◌∷◌, ◌++◌, length, get_or, inl, inr, arith, set, rules, zero}
-use Rattle.std.proofs.Common.{suc, ◌≤◌, Bool, [], refl, sym, ap, ◌∙◌, zero-add, take, drop, add-one, add_comm, replicate, drop-drop}
+use Rattle.std.proofs.Common.{suc, ◌≤◌, Bool, [], refl, sym, ap, ◌∙◌, zero-add, take, drop, add-one, add_comm, replicate, length-append}
 use Rattle.std.proofs.lemmas.{Bool.Decides.{nat_tests, eqb_tells, leb_tells}, Grind.{common_steps, get_or_tail}, List.{append-nil, get_or-drop}}
-use Rattle.std.proofs.lemmas.List.{get_or-append_right, get_or_append_left, length-take, FromFn.{length-map-range_with_len, get_or-map-range_with_len}}
-use Rattle.std.{proofs.{lemmas.List.{Concat.flat_map-append, Edits.{take-paste, drop-paste}}, Math.Nat.mul-suc}, specs.Prelude.{◌||◌, ◌&&◌, ◌==◌, bit_or}}
-use Rattle.std.specs.{Prelude.{if◌then◌else◌, nat_lt, slice_range}, List.{AllByRecursion, range_with_len, list_any, filter, flat_map, copy_within}}
+use Rattle.std.proofs.lemmas.List.{get_or-append_right, FromFn.{length-map-range_with_len, get_or-map-range_with_len}, Concat.flat_map-append}
+use Rattle.std.{proofs.Math.Nat.mul-suc, specs.Prelude.{◌||◌, ◌==◌, bit_or, if◌then◌else◌, nat_lt, slice_range}}
+use Rattle.std.specs.List.{AllByRecursion, range_with_len, list_any, filter, flat_map}
 use Rattle.domain_octets.{proofs.StdLemmas.and_false, specs.Octets.AreOctets}
-use Rattle.domain_bitmap.specs.Blocks.{has_bit, octet_with, is_of_window, block_holds, has_window, holds, Block, IsBlock, IsBitmap, AreSlots, AreShortest}
-use Rattle.domain_bitmap.specs.Blocks.{IsShortest, octets_of_blocks, in_first_block, contains_type, block_types_from, types_of, IsPlace, types_below, blocks_of}
-use Rattle.domain_bitmap.{specs.Bitmap.{window_octets, trimmed, block_if_any, blocks_with, bitmap_octets, slot_block}, proofs.BitLemmas.any_inserted}
-use Rattle.domain_bitmap.proofs.BitLemmas.{any_same, any_at, any_none, any_only, any_with, filter_same, filter_append, bit_of-set, bit_of-zero, octet_with-lt}
-use Rattle.domain_bitmap.proofs.BitLemmas.{bit_of-octet_with, octets_same, range_more, filter_none, IsCut, cut-trimmed, cut_same, get_or-trimmed}
-use Rattle.domain_bitmap.proofs.{BitLemmas.length-trimmed, BlockLemmas.{IsBitmap-octets_of_blocks, blocks_of-octets_of_blocks}}
+use Rattle.domain_bitmap.specs.Blocks.{bit_of, has_bit, octet_with, is_of_window, block_holds, has_window, holds, merged_octet, Block, IsBlock, IsBitmap}
+use Rattle.domain_bitmap.specs.Blocks.{AreShortest, IsShortest, octets_of_blocks, in_first_block, contains_type, block_types_from, types_of, types_below}
+use Rattle.domain_bitmap.specs.{Blocks.blocks_of, Bitmap.{window_octets, trimmed, block_if_any, blocks_with, bitmap_octets}}
+use Rattle.domain_bitmap.proofs.BitLemmas.{any_more, any_same, any_at, any_none, any_suc, any_with, filter_same, filter_append, filter_at, filter_none}
+use Rattle.domain_bitmap.proofs.BitLemmas.{range_more, bit_of-set, bit_of-zero, bit_of-or, octet_with-lt, bit_of-octet_with, octets_same, IsCut, cut-trimmed}
+use Rattle.domain_bitmap.proofs.{BitLemmas.{cut_same, get_or-trimmed, length-trimmed, trimmed-take}, BlockLemmas.IsBitmap-octets_of_blocks}
+use Rattle.domain_bitmap.proofs.BlockLemmas.{blocks_of-octets_of_blocks}
 
 -- ---- the blocks of 34 octets that a builder holds
 
@@ -20,17 +21,9 @@ pub window_found : (value : List ℕ) (window j : ℕ) → j < length value / 34
 unfolding has_window
 window_found value window j inside is = any_at (is_of_window value window) (length value / 34) j inside (grind (arith, nat_tests))
 
-pub placed : (value : List ℕ) (window j : ℕ) → AreSlots value → j ≤ length value / 34 → ((k : ℕ) → k < j → get_or value (34 * k) 0 < window)
-    → (j < length value / 34 → window < get_or value (34 * j) 0) → IsPlace value window j
+pub window_absent : (value : List ℕ) (window : ℕ) → ((j : ℕ) → j < length value / 34 → get_or value (34 * j) 0 ≢ window) → has_window value window ≡ false
 unfolding has_window
-placed value window j slots inside before next = record {
-  absent = any_none (is_of_window value window) (length value / 34) (λ k within. grind (arith, nat_tests, (before k), (slots.ascend j k), next));
-  inside = inside;
-  before = before;
-  behind = λ k low high. grind (arith, nat_tests, (slots.ascend j k), next);
-}
-
-pub ruleset find_steps = (placed)
+window_absent value window other = grind (arith, common_steps, any_none)
 
 -- a bit set in a block of the type's window
 module _ (value : List ℕ) (p r : ℕ) (inside : p < length value / 34) (window : get_or value (34 * p) 0 ≡ r / 256) where
@@ -56,78 +49,50 @@ module _ (value : List ℕ) (p r : ℕ) (inside : p < length value / 34) (window
 
 pub ruleset set_steps = (holds-set_bit, has_window-set_bit)
 
--- octets that were appended are moved before those from a place on
-pub rotated : (value slice whole moved : List ℕ) (at : ℕ) → at ≤ length value → whole ≡ value ++ slice
-    → (let part = take (length whole - at) (drop at whole) in moved ≡ drop (length part - length slice) part ++ take (length part - length slice) part)
-    → take at whole ++ (moved ++ drop (length whole - at) (drop at whole)) ≡ take at value ++ (slice ++ drop at value)
-rotated value slice whole moved at inside is turned = grind (arith, common_steps)
-
+-- zero octets
 pub zeros_at : (n k : ℕ) → get_or {A = ℕ} (replicate n 0) k 0 ≡ 0
 zeros_at n k = grind (arith, common_steps)
 
--- a block without types is put before that at a place
-module _ (value slot : List ℕ) (window j : ℕ) (is : slot ≡ window ∷ replicate 33 0)
-    (slots : AreSlots value) (place : IsPlace value window j) where
+pub same_at : {X : Type 0} (n : ℕ) (x : X) (k : ℕ) → get_or (replicate n x) k x ≡ x
+same_at n x k = grind (arith, common_steps)
+
+-- a block of a window without types is appended
+module _ (value slot : List ℕ) (window : ℕ) (is : slot ≡ window ∷ replicate 33 0) (whole : length value % 34 ≡ 0) where
   abbrev grown : List ℕ
-  grown = take (34 * j) value ++ (slot ++ drop (34 * j) value)
+  grown = value ++ slot
 
   long : length slot ≡ 34
   long = ap length is
 
-  size : length grown ≡ length value + 34
-  size = grind (arith, common_steps, place.inside, long)
-
   one_more : length grown / 34 ≡ length value / 34 + 1
-  one_more = omega (arith, size)
+  one_more = omega (arith, length-append value slot, long)
 
-  front_long : length (take (34 * j) value) ≡ 34 * j
-  front_long = omega (arith, length-take (34 * j) value, place.inside)
+  slot_at : (i k : ℕ) → i ≡ 34 * (length value / 34) + k → get_or grown i 0 ≡ get_or (window ∷ replicate 33 0) k 0
+  slot_at i k place = get_or-append_right value slot (34 * (length value / 34)) i 0 (omega arith) (omega arith)
+      ∙ (let same : i - 34 * (length value / 34) ≡ k = omega arith in rw (is, same) refl)
 
-  at_before : (i : ℕ) → i < 34 * j → get_or grown i 0 ≡ get_or value i 0
-  at_before i low = grind (arith, common_steps, place.inside)
+  window_last : get_or grown (34 * (length value / 34)) 0 ≡ window
+  window_last = slot_at _ 0 (omega arith)
 
-  at_slot : (i k : ℕ) → i ≡ 34 * j + k → k < 34 → get_or grown i 0 ≡ get_or (window ∷ replicate 33 0) k 0
-  at_slot i k place within = get_or-append_right _ _ (34 * j) i 0 front_long (omega arith) ∙ get_or_append_left slot _ 0 (i - 34 * j) (omega (arith, long))
-      ∙ (let same : i - 34 * j ≡ k = omega arith in rw (is, same) refl)
+  zero_last : (k : ℕ) → get_or grown (34 * (length value / 34) + 2 + k) 0 ≡ 0
+  zero_last k = slot_at _ (2 + k) (omega arith) ∙ get_or_tail window (replicate 33 0) (2 + k) 0 (omega arith) ∙ zeros_at 33 (2 + k - 1)
 
-  at_zeros : (i k : ℕ) → i ≡ 34 * j + 1 + k → k < 33 → get_or grown i 0 ≡ 0
-  at_zeros i k place within = at_slot i (1 + k) (omega arith) (omega arith)
-      ∙ get_or_tail window (replicate 33 0) (1 + k) 0 (omega arith) ∙ zeros_at 33 (1 + k - 1)
-
-  at_behind : (i k : ℕ) → i ≡ k + 34 → 34 * j ≤ k → get_or grown i 0 ≡ get_or value k 0
-  at_behind i k behind low = grind (arith, common_steps, get_or-append_right, front_long, long, get_or-drop)
-
-  window_at : (i : ℕ) → get_or grown (34 * i) 0 ≡ (if nat_lt i j then get_or value (34 * i) 0 else (if i == j then window else get_or value (34 * (i - 1)) 0))
-  window_at i = grind (arith, nat_tests, (at_before (34 * i)), (at_slot (34 * i) 0), (at_behind (34 * i) (34 * (i - 1))))
-
-  pub slots-inserted : AreSlots grown
-  slots-inserted = record {
-    whole = omega (arith, size, slots.whole);
-    ascend = λ i k low high.
-        grind (arith, nat_tests, window_at, one_more, place.before, place.behind, (slots.ascend i k), (slots.ascend i (k - 1)), (slots.ascend (i - 1) (k - 1)));
-  }
-
-  pub has_window-inserted : (w : ℕ) → has_window grown w ≡ ((w == window) || has_window value w)
+  pub has_window-grown : (w : ℕ) → has_window grown w ≡ ((w == window) || has_window value w)
   unfolding has_window
-  has_window-inserted w = rw one_more (any_inserted (is_of_window value w) (is_of_window grown w) j (length value / 34) place.inside
-      (λ i low. grind (arith, nat_tests, window_at)) (λ i low high. grind (arith, nat_tests, window_at)) ∙ grind (arith, nat_tests, window_at))
+  has_window-grown w = grind (arith, common_steps, one_more, window_last, any_more, any_same)
 
-  block_new : (t : ℕ) → block_holds grown t j ≡ false
-  block_new t = rw (at_zeros (34 * j + 2 + t % 256 / 8) (1 + t % 256 / 8) (omega arith) (omega arith), bit_of-zero (t % 8))
-      (and_false (is_of_window grown (t / 256) j))
+  block_last : (t : ℕ) → block_holds grown t (length value / 34) ≡ false
+  block_last t = rw (zero_last (t % 256 / 8), bit_of-zero (t % 8)) (and_false (is_of_window grown (t / 256) (length value / 34)))
 
-  pub holds-inserted : (t : ℕ) → holds grown t ≡ holds value t
+  pub holds-grown : (t : ℕ) → holds grown t ≡ holds value t
   unfolding holds
-  holds-inserted t = rw one_more (any_inserted (block_holds value t) (block_holds grown t) j (length value / 34) place.inside
-      (λ i low. grind (arith, nat_tests, window_at, (at_before (34 * i + 2 + t % 256 / 8))))
-      (λ i low high. grind (arith, nat_tests, window_at, (at_behind (34 * (i + 1) + 2 + t % 256 / 8) (34 * i + 2 + t % 256 / 8))))
-      ∙ grind (arith, nat_tests, block_new))
+  holds-grown t = grind (arith, common_steps, one_more, any_more, block_last, any_same)
 
 -- a window that has a block already
 pub window_known : (value : List ℕ) (window w : ℕ) → has_window value window ≡ true → ((w == window) || has_window value w) ≡ has_window value w
 window_known value window w known = grind (arith, common_steps)
 
-pub ruleset block_steps = (window_known, window_found, holds-inserted, has_window-inserted, slots-inserted)
+pub ruleset block_steps = (window_known, window_found, has_window-grown)
 
 -- ---- the octets of a set of types, and that they are the one spelling of it
 
@@ -194,39 +159,37 @@ same_octets xs ys w x y same =
           rw (octet, bit) at (same t (omega (arith, h.1))))
     ])
 
--- ---- blocks by their places
+-- ---- the blocks of all windows
 
--- the blocks at so many places, from one on, that have these windows and octets
-abbrev pub blocks_at : (ℕ → ℕ) → (ℕ → List ℕ) → ℕ → ℕ → List Block
-blocks_at windows octets a n = flat_map (λ j. block_if_any (windows j) (trimmed (octets j))) (range_with_len a n)
-
--- the windows before a place ascend strictly
-pub record Ascend (windows : ℕ → ℕ) (octets : ℕ → List ℕ) (n : ℕ) : Type 0 where
-  pub ascend : (j : ℕ) → j + 1 < n → windows j + 1 ≤ windows (j + 1)
-  pub window : (j : ℕ) → j < n → windows j < 256
-  pub fits : (j : ℕ) → length (octets j) ≤ 32
-  pub small : (j i : ℕ) → get_or (octets j) i 0 < 256
-
-module _ (windows : ℕ → ℕ) (octets : ℕ → List ℕ) (m : ℕ) (are : Ascend windows octets m) where
-  form-blocks_at : (a n low : ℕ) → a + n ≡ m → (0 < n → low ≤ windows a) → InForm low (blocks_at windows octets a n)
-  form-blocks_at a zero low whole start = none_in_form low
-  form-blocks_at a (suc n) low whole start =
-      form-more low (windows a) _ _ (start (omega arith)) (are.window a (omega arith)) (of_window-trimmed (octets a) (are.fits a) (are.small a))
-      (form-blocks_at (a + 1) n (windows a + 1) (omega arith) (λ some. are.ascend a (omega arith)))
-
-  in-blocks_at : (a n t : ℕ) → a + n ≡ m
-      → in_first_block (blocks_at windows octets a n) t ≡ list_any (λ j. (windows j == t / 256) && has_bit (octets j) t) (range_with_len a n)
-  in-blocks_at a zero t whole = refl
-  in-blocks_at a (suc n) t whole = grind (arith, common_steps, form-blocks_at, in-more, has_bit-trimmed, none_below, (in-blocks_at (a + 1) n t (omega arith)))
+-- octets of windows
+pub record AreWindows (octets : ℕ → List ℕ) : Type 0 where
+  pub fits : (w : ℕ) → length (octets w) ≤ 32
+  pub small : (w i : ℕ) → get_or (octets w) i 0 < 256
 
 length-block_if_any : (w : ℕ) (octets : List ℕ) → length (octets_of_blocks (block_if_any w octets)) ≤ length octets + 2
 length-block_if_any w octets = grind (arith, common_steps)
 
-length-blocks_at : (windows : ℕ → ℕ) (octets : ℕ → List ℕ) (a n : ℕ) → ((j : ℕ) → length (octets j) ≤ 32)
-    → length (octets_of_blocks (blocks_at windows octets a n)) ≤ 34 * n
-length-blocks_at windows octets a zero fits = omega arith
-length-blocks_at windows octets a (suc n) fits =
-    grind (arith, common_steps, length-block_if_any, length-trimmed, (length-blocks_at windows octets (a + 1) n fits))
+module _ (octets : ℕ → List ℕ) (are : AreWindows octets) where
+  form-blocks_with : (a n : ℕ) → a + n ≤ 256 → InForm a (blocks_with octets a n)
+  unfolding blocks_with
+  form-blocks_with a zero fits = none_in_form a
+  form-blocks_with a (suc n) fits =
+      form-more a a _ _ (omega arith) (omega (arith, fits)) (of_window-trimmed (octets a) (are.fits a) (are.small a))
+      (form-blocks_with (a + 1) n (omega (arith, fits)))
+
+  in-blocks_with : (a n t : ℕ) → a + n ≤ 256 → a ≤ t / 256 → t / 256 < a + n → in_first_block (blocks_with octets a n) t ≡ has_bit (octets (t / 256)) t
+  unfolding blocks_with
+  in-blocks_with a zero t fits low high = absurd (omega (arith, low, high))
+  in-blocks_with a (suc n) t fits low high =
+      in-more a _ _ t (form-blocks_with (a + 1) n (omega (arith, fits))).shortest ∙ elim (eqb_tells a (t / 256)) [
+        | inl h ↦ rw h.0 (has_bit-trimmed (octets a) t ∙ ap (λ w. has_bit (octets w) t) h.1)
+        | inr h ↦ rw h.0 (in-blocks_with (a + 1) n t (omega (arith, fits)) (omega (arith, low, h.1)) (omega (arith, high)))
+      ]
+
+  length-blocks_with : (a n : ℕ) → length (octets_of_blocks (blocks_with octets a n)) ≤ 34 * n
+  unfolding blocks_with
+  length-blocks_with a zero = omega arith
+  length-blocks_with a (suc n) = grind (arith, common_steps, length-block_if_any, length-trimmed, (are.fits a), (length-blocks_with (a + 1) n))
 
 -- ---- the octets of a set
 
@@ -241,7 +204,7 @@ get_or-window_octets types w i inside = get_or-map-range_with_len (λ i. octet_w
 bounded : (types : ℕ → Bool) (w i : ℕ) → get_or (window_octets types w) i 0 < 256
 bounded types w i = grind (arith, common_steps, length-window_octets, get_or-window_octets, octet_with-lt)
 
-are_windows : (types : ℕ → Bool) → Ascend (λ w. w) (window_octets types) 256
+are_windows : (types : ℕ → Bool) → AreWindows (window_octets types)
 are_windows types = grind (arith, common_steps, length-window_octets, bounded)
 
 pub has_bit-window : (types : ℕ → Bool) (t : ℕ) → has_bit (window_octets types (t / 256)) t ≡ types t
@@ -286,8 +249,7 @@ unfolding bitmap_octets
 set_blocks types = blocks_of-octets_of_blocks _
 
 set_in_form : (types : ℕ → Bool) → InForm 0 (blocks_with (window_octets types) 0 256)
-unfolding blocks_with
-set_in_form types = form-blocks_at (λ w. w) (window_octets types) 256 (are_windows types) 0 256 0 refl (λ some. omega arith)
+set_in_form types = form-blocks_with (window_octets types) (are_windows types) 0 256 (omega arith)
 
 pub IsShortest-bitmap_octets : (types : ℕ → Bool) → IsShortest (bitmap_octets types)
 IsShortest-bitmap_octets types = rw (set_blocks types) (set_in_form types).shortest
@@ -296,15 +258,10 @@ pub IsBitmap-bitmap_octets : (types : ℕ → Bool) → IsBitmap (bitmap_octets 
 unfolding bitmap_octets
 IsBitmap-bitmap_octets types = IsBitmap-octets_of_blocks _ (set_in_form types).valid
 
-window_any : (types : ℕ → Bool) (n t : ℕ) → t / 256 < n → list_any (λ w. (w == t / 256) && has_bit (window_octets types w) t) (range_with_len 0 n) ≡ types t
-window_any types n t inside =
-    any_only (λ w. (w == t / 256) && has_bit (window_octets types w) t) n (t / 256) inside (λ j below other. grind (arith, common_steps))
-    ∙ grind (arith, common_steps, has_bit-window)
-
 pub contains_type-bitmap_octets : (types : ℕ → Bool) (t : ℕ) → t < 65536 → contains_type (bitmap_octets types) t ≡ types t
-unfolding contains_type blocks_with
-contains_type-bitmap_octets types t small =
-    rw (set_blocks types) (in-blocks_at (λ w. w) (window_octets types) 256 (are_windows types) 0 256 t refl ∙ window_any types 256 t (omega (arith, small)))
+unfolding contains_type
+contains_type-bitmap_octets types t small = rw (set_blocks types)
+    (in-blocks_with (window_octets types) (are_windows types) 0 256 t (omega arith) (omega arith) (omega (arith, small)) ∙ has_bit-window types t)
 
 -- tests that agree on all types have the same octets
 pub bitmap_octets-same : (p q : ℕ → Bool) → ((t : ℕ) → t < 65536 → p t ≡ q t) → bitmap_octets p ≡ bitmap_octets q
@@ -319,72 +276,127 @@ built_from_shortest octets bitmap shortest = spelling_is _ octets bitmap shortes
 
 -- all windows with all their octets
 pub length-bitmap_octets : (types : ℕ → Bool) → length (bitmap_octets types) ≤ 8704
-unfolding bitmap_octets blocks_with
-length-bitmap_octets types = length-blocks_at (λ w. w) (window_octets types) 0 256 (are_windows types).fits
+unfolding bitmap_octets
+length-bitmap_octets types = length-blocks_with (window_octets types) (are_windows types) 0 256
 
 pub ruleset shortest_laws = (IsShortest-bitmap_octets, built_from_shortest)
 
 pub ruleset built_steps = (bitmap_octets-same, IsBitmap-bitmap_octets)
 
--- ---- a builder's blocks put together
+-- ---- blocks put in order
 
-drop_same : (xs ys : List ℕ) (n m : ℕ) → n ≤ m → drop n xs ≡ drop n ys → drop m xs ≡ drop m ys
-drop_same xs ys n m within same =
-    let count : n + (m - n) ≡ m = omega arith in
-    rw count at (sym (drop-drop (m - n) n xs) ∙ ap (drop (m - n)) same ∙ drop-drop (m - n) n ys)
+-- one window more
+pub octets-more : (octets : ℕ → List ℕ) (n : ℕ) → octets_of_blocks (blocks_with octets 0 (n + 1))
+    ≡ octets_of_blocks (blocks_with octets 0 n) ++ octets_of_blocks (block_if_any n (trimmed (octets n)))
+unfolding blocks_with
+octets-more octets n = grind (arith, common_steps, range_more)
 
--- what the first n blocks become
-abbrev pub slot_blocks : List ℕ → ℕ → List Block
-slot_blocks value n = flat_map (slot_block value) (range_with_len 0 n)
+-- how many windows below n have a block
+abbrev pub count : List ℕ → ℕ → ℕ
+count value n = length (filter (has_window value) (range_with_len 0 n))
 
-pub slots-more : (value now : List ℕ) (n : ℕ) → drop (34 * n) now ≡ drop (34 * n) value
-    → octets_of_blocks (slot_blocks value (n + 1)) ≡ octets_of_blocks (slot_blocks value n) ++ octets_of_blocks (slot_block now n)
-slots-more value now n same = grind (arith, common_steps, drop_same, range_more)
+-- k blocks are of k windows at most
+abbrev within : List ℕ → ℕ → ℕ → Bool
+within value k w = list_any (is_of_window value w) (range_with_len 0 k)
 
-pub rest_more : (value now : List ℕ) (n : ℕ) → drop (34 * n) now ≡ drop (34 * n) value → drop (34 * (n + 1)) now ≡ drop (34 * (n + 1)) value
-rest_more value now n same = drop_same now value (34 * n) (34 * (n + 1)) (omega arith) same
+count-blocks : (value : List ℕ) (k n : ℕ) → length (filter (within value k) (range_with_len 0 n)) ≤ k
+count-blocks value zero n = omega (arith, ap length (filter_none (within value 0) 0 n (λ j low high. refl)))
+count-blocks value (suc k) n =
+    let more = filter_at (within value k) (within value (suc k)) (get_or value (34 * k) 0) n (λ w other. grind (arith, common_steps, any_suc)) in
+    grind (arith, common_steps, more, (count-blocks value k n))
 
-are_slots : (value : List ℕ) → AreSlots value → AreOctets value
-    → Ascend (λ j. get_or value (34 * j) 0) (λ j. slice_range value (34 * j + 2) (34 * j + 34)) (length value / 34)
-are_slots value slots small = grind (arith, common_steps)
+pub count-has_window : (value : List ℕ) (n : ℕ) → count value n ≤ length value / 34
+unfolding has_window
+count-has_window value n = count-blocks value (length value / 34) n
 
-slot_bit : (value : List ℕ) (t j : ℕ)
-    → ((get_or value (34 * j) 0 == t / 256) && has_bit (slice_range value (34 * j + 2) (34 * j + 34)) t) ≡ block_holds value t j
+-- the octets after the first i of a block are merged
+abbrev pub merged_at : List ℕ → List ℕ → ℕ → ℕ → ℕ → ℕ
+merged_at initial slots j i p = if nat_lt (p % 32) i then merged_octet initial slots j p else get_or initial p 0
+
+-- the table after the block at a place
+pub types_more : (octets after slots : List ℕ) (j t : ℕ) → ((p : ℕ) → get_or after p 0 ≡ merged_octet octets slots j p)
+    → bit_of (get_or octets (t / 8) 0) (t % 8) ≡ list_any (block_holds slots t) (range_with_len 0 j)
+    → bit_of (get_or after (t / 8) 0) (t % 8) ≡ list_any (block_holds slots t) (range_with_len 0 (j + 1))
+types_more octets after slots j t merged before = grind (arith, common_steps, any_more, bit_of-or)
+
+pub windows_more : (present : List Bool) (slots : List ℕ) (j w : ℕ) → get_or slots (34 * j) 0 < length present
+    → get_or present w false ≡ list_any (is_of_window slots w) (range_with_len 0 j)
+    → get_or (set present (get_or slots (34 * j) 0) true) w false ≡ list_any (is_of_window slots w) (range_with_len 0 (j + 1))
+windows_more present slots j w inside before = grind (arith, common_steps, any_more)
+
+pub absent_more : (octets after slots : List ℕ) (present : List Bool) (j i : ℕ) → get_or slots (34 * j) 0 < length present
+    → ((p : ℕ) → get_or after p 0 ≡ merged_octet octets slots j p)
+    → (get_or present (i / 32) false ≡ false → get_or octets i 0 ≡ 0)
+    → get_or (set present (get_or slots (34 * j) 0) true) (i / 32) false ≡ false → get_or after i 0 ≡ 0
+absent_more octets after slots present j i inside merged before absent = grind (arith, common_steps)
+
+-- the octets of a window in the table
+abbrev pub windows_of : List ℕ → ℕ → List ℕ
+windows_of table w = slice_range table (32 * w) (32 * w + 32)
+
+-- a window that has no block
+pub skipped : (table : List ℕ) (w : ℕ) → ((i : ℕ) → i / 32 ≡ w → get_or table i 0 ≡ 0)
+    → octets_of_blocks (blocks_with (windows_of table) 0 (w + 1)) ≡ octets_of_blocks (blocks_with (windows_of table) 0 w)
+skipped table w zeros =
+    let none : trimmed (windows_of table w) ≡ [] =
+    trimmed-take (windows_of table w) 0 (omega arith) (λ k _. grind (arith, common_steps, (zeros (32 * w + k)))) (λ some. absurd (omega (arith, some))) in
+    octets-more (windows_of table) w ∙ rw none (append-nil _)
+
+table_bit : (table : List ℕ) (t : ℕ) → has_bit (windows_of table (t / 256)) t ≡ bit_of (get_or table (t / 8) 0) (t % 8)
 unfolding has_bit
-slot_bit value t j = grind (arith, common_steps)
+table_bit table t = let place : 32 * (t / 256) + t % 256 / 8 ≡ t / 8 = omega arith in grind (arith, common_steps)
 
-pub slots_spelled : (value : List ℕ) (n : ℕ) → n ≡ length value / 34 → AreSlots value → AreOctets value
-    → octets_of_blocks (slot_blocks value n) ≡ bitmap_octets (holds value)
-unfolding holds
-slots_spelled value n all slots small =
-    let are = are_slots value slots small in
-    rw all (blocks_spell (holds value) _ (form-blocks_at _ _ _ are 0 _ 0 (zero-add _) (λ some. omega arith))
-    (λ t fits. in-blocks_at _ _ _ are 0 _ t (zero-add _) ∙ any_same _ _ _ (λ j inside. slot_bit value t j)))
+small_at : (value : List ℕ) → AreOctets value → (i : ℕ) → get_or value i 0 < 256
+small_at value small i = grind (arith, common_steps, (small i 0))
 
--- a block with types is moved to where the blocks before it end
-module _ (slots : List ℕ) (end j len : ℕ) (before : end ≤ 34 * j) (inside : j < length slots / 34) (some : 0 < len) (fits : len ≤ 32) where
-  abbrev counted : List ℕ
-  counted = set slots (34 * j + 1) len
+are_packed : (table : List ℕ) → AreOctets table → AreWindows (windows_of table)
+are_packed table small = record { fits = λ w. grind (arith, common_steps); small = λ w i. grind (arith, common_steps, (small_at table small)) }
 
-  abbrev moved : List ℕ
-  moved = copy_within counted (34 * j) (34 * j + 2 + len) end
+-- the table has the types that are held
+pub table_spelled : (table value : List ℕ) (n : ℕ) → n ≡ 256 → AreOctets table
+    → ((t : ℕ) → t < 65536 → bit_of (get_or table (t / 8) 0) (t % 8) ≡ holds value t)
+    → octets_of_blocks (blocks_with (windows_of table) 0 n) ≡ bitmap_octets (holds value)
+table_spelled table value n all small bits =
+    let are = are_packed table small in
+    rw all (blocks_spell (holds value) _ (form-blocks_with _ are 0 256 (omega arith))
+    (λ t fits. in-blocks_with _ are 0 256 t (omega arith) (omega arith) (omega (arith, fits)) ∙ table_bit table t ∙ bits t fits))
 
-  count : 34 * j + 2 + len - 34 * j ≡ suc (suc len)
-  count = omega arith
+-- ---- a builder with one block
 
-  octets_inside : suc (suc len) ≤ length (drop (34 * j) counted)
-  octets_inside = grind (arith, common_steps)
+one_bit : (value : List ℕ) (t : ℕ) → length value ≡ 34
+    → holds value t ≡ (if get_or value 0 0 == t / 256 then has_bit (drop 2 value) t else false)
+unfolding holds has_bit
+one_bit value t one = grind (arith, common_steps)
 
-  pub rest-moved : drop (34 * (j + 1)) moved ≡ drop (34 * (j + 1)) slots
-  rest-moved = grind (arith, common_steps, drop_same, count, drop-paste, octets_inside)
+one_spelled : (value : List ℕ) → length value ≡ 34 → ((i : ℕ) → get_or value i 0 < 256)
+    → bitmap_octets (holds value) ≡ octets_of_blocks (block_if_any (get_or value 0 0) (trimmed (drop 2 value)))
+one_spelled value one small =
+    let w = get_or value 0 0 in
+    let of_window = of_window-trimmed (drop 2 value) (grind (arith, common_steps)) (λ i. rw (get_or-drop 2 value i 0) (small (2 + i))) in
+    rw (← append-nil (block_if_any w (trimmed (drop 2 value)))) (sym (blocks_spell (holds value) _
+    (form-more 0 w _ [] (omega arith) (small 0) of_window (none_in_form (w + 1)))
+    (λ t fits. in-more w _ [] t tt ∙ rw (has_bit-trimmed (drop 2 value) t) (sym (one_bit value t one)))))
 
-  pub take-moved : trimmed (slice_range slots (34 * j + 2) (34 * j + 34)) ≡ take len (slice_range slots (34 * j + 2) (34 * j + 34))
-      → take (end + 2 + len) moved ≡ take end slots ++ octets_of_blocks (slot_block slots j)
-  take-moved cut = grind (arith, common_steps, block_is, count, take-paste, octets_inside)
+pub block_written : (w : ℕ) (octets : List ℕ) → 0 < length octets → octets_of_blocks (block_if_any w octets) ≡ w ∷ length octets ∷ octets
+block_written w [] some = absurd (omega (arith, some))
+block_written w (x ∷ xs) some = ap (λ l. w ∷ length (x ∷ xs) ∷ x ∷ l) (append-nil xs)
 
-pub ruleset pack_steps = (rest-moved, take-moved)
+pub no_types : (value : List ℕ) → length value ≡ 34 → AreOctets value → trimmed (drop 2 value) ≡ [] → bitmap_octets (holds value) ≡ []
+no_types value one small none = rw (one_spelled value one (small_at value small), none) refl
 
-pub ruleset spelled_steps = (slots-more, rest_more, slots_spelled)
+cut_in_place : (value : List ℕ) (len : ℕ) → 2 ≤ length value → take (len + 2) (set value 1 len) ≡ get_or value 0 0 ∷ len ∷ take len (drop 2 value)
+cut_in_place [] len two = absurd (omega (arith, two))
+cut_in_place (x ∷ []) len two = absurd (omega (arith, two))
+cut_in_place (x ∷ y ∷ rest) len two = let n : len + 2 ≡ suc (suc len) = omega arith in rw n refl
+
+pub one_block : (value : List ℕ) (len : ℕ) → length value ≡ 34 → AreOctets value → 0 < len → len ≤ 32
+    → trimmed (drop 2 value) ≡ take len (drop 2 value) → take (len + 2) (set value 1 len) ≡ bitmap_octets (holds value)
+one_block value len one small some fits is =
+    let long : length (take len (drop 2 value)) ≡ len = grind (arith, common_steps) in
+    cut_in_place value len (omega (arith, one))
+    ∙ sym (one_spelled value one (small_at value small) ∙ rw is (block_written _ _ (omega (arith, long)) ∙ rw long refl))
+
+pub ruleset one_steps = (no_types, one_block)
 
 -- ---- the types of a built bitmap, one after another
 

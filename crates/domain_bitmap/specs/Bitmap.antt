@@ -1,6 +1,5 @@
 -- the octets of a set of types (RFC 4034, section 4.1.2)
 use Rattle.std.specs.{Prelude.{ℕ, ◌+◌, ◌*◌, ◌==◌, ◌&&◌, if◌then◌else◌, Bool, List, [], ◌∷◌, length, map}, List.{range_with_len, flat_map}}
-use Rattle.std.specs.Prelude.{slice_index, slice_range}
 use Rattle.domain_octets.specs.Octets.{Octets}
 use Rattle.domain_bitmap.specs.Blocks.{octet_with, Block, octets_of_blocks}
 
@@ -23,12 +22,6 @@ abbrev pub block_if_any : ℕ → Octets → List Block
 block_if_any window [] = []
 block_if_any window (octet ∷ octets) =
     record { window = window; octets = octet ∷ octets } ∷ []
-
--- what a builder's block at a place becomes
-abbrev pub slot_block : Octets → ℕ → List Block
-slot_block value j =
-    block_if_any (slice_index value (34 * j))
-    (trimmed (slice_range value (34 * j + 2) (34 * j + 34)))
 
 -- the blocks of so many windows, in ascending order, from one on, which have these octets
 unfoldable pub blocks_with : (ℕ → Octets) → ℕ → ℕ → List Block

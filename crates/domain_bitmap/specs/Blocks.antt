@@ -1,6 +1,6 @@
 -- Octets read as blocks of types, why they are none, and what a builder of them holds.
 use Rattle.std.specs.Prelude.{ℕ, ◌+◌, ◌-◌, ◌/◌, ◌%◌, ◌==◌, Bool, if◌then◌else◌, slice_index, ◌≡◌, ◌≢◌, zero, suc, ◌*◌, ◌<◌, ◌≤◌, false, List, [], ◌∷◌, ◌++◌}
-use Rattle.std.specs.{Prelude.{length, take, drop, filter, ◌⊎◌, codes, ◌&&◌, bytes_eq}, Int.bit_at, List.{range_with_len, flat_map}}
+use Rattle.std.specs.{Prelude.{length, take, drop, filter, ◌⊎◌, codes, ◌&&◌, bit_or, bytes_eq}, Int.bit_at, List.{range_with_len, flat_map}}
 use Rattle.std.specs.{List.{AllByRecursion, list_any}, Hash.{Alike, same_Alike}, Cmp.Lexicographic.bytes_decides}
 use Rattle.domain_octets.specs.Octets.{Octets}
 use Rattle.domain_base.specs.Types.{Rtypes}
@@ -147,6 +147,13 @@ abbrev pub block_holds : Octets → ℕ → ℕ → Bool
 block_holds value t j =
     is_of_window value (t / 256) j && bit_of (slice_index value (34 * j + 2 + t % 256 / 8)) (t % 8)
 
+-- an octet of all windows, 32 each, where those of the block at a place are set too
+abbrev pub merged_octet : Octets → Octets → ℕ → ℕ → ℕ
+merged_octet octets value j i =
+    if is_of_window value (i / 32) j
+    then bit_or (slice_index octets i) (slice_index value (34 * j + 2 + i % 32))
+    else slice_index octets i
+
 -- whether there is a block of a window
 unfoldable pub has_window : Octets → ℕ → Bool
 has_window value window =
@@ -155,19 +162,6 @@ has_window value window =
 -- whether some block has the type's bit
 unfoldable pub holds : Octets → ℕ → Bool
 holds value t = list_any (block_holds value t) (range_with_len 0 (length value / 34))
-
--- blocks whose windows ascend strictly
-pub record AreSlots (value : Octets) : Type 0 where
-  pub whole : length value % 34 ≡ 0
-  pub ascend : (i j : ℕ) → i < j → j < length value / 34
-      → slice_index value (34 * i) < slice_index value (34 * j)
-
--- where the block of a window that has none would stand
-pub record IsPlace (value : Octets) (window place : ℕ) : Type 0 where
-  pub absent : has_window value window ≡ false
-  pub inside : place ≤ length value / 34
-  pub before : (j : ℕ) → j < place → slice_index value (34 * j) < window
-  pub behind : (j : ℕ) → place ≤ j → j < length value / 34 → window < slice_index value (34 * j)
 
 -- ---- what the impls of comparisons cite
 

@@ -1,9 +1,10 @@
-//! The blocks that a builder holds: 34 octets each, in the order of their windows.
-ghost use Rattle.std.specs.Prelude.{◌≡◌, ◌+◌, ◌*◌, ◌/◌, ◌<◌, ◌≤◌, ◌++◌, ◌↔◌, false, length, take, drop};
-ghost use Rattle.std.specs.Prelude.{IfErr, ◌-◌, ◌^◌, slice_index, slice_set, bit_or, ℕ, ◌%◌, ◌∷◌, replicate};
+//! The blocks that a builder holds: 34 octets each, in the order of adding.
+ghost use Rattle.std.specs.Prelude.{◌≡◌, ◌+◌, ◌*◌, ◌/◌, ◌<◌, ◌≤◌, ◌++◌, ◌↔◌, false, length, take, IfSome};
+ghost use Rattle.std.specs.Prelude.{IfNone, ◌-◌, ◌^◌, slice_index, slice_set, bit_or, ℕ, ◌%◌, ◌∷◌, replicate};
 ghost use Rattle.std.specs.Prelude.{◌||◌, ◌==◌, [], OnOk, OnErr, IfOk, if◌then◌else◌, IsErrOf, IsNone};
-ghost use Rattle.domain_bitmap.specs.Blocks.{has_window, holds, AreSlots, IsPlace};
-ghost use Rattle.domain_bitmap.specs.{Blocks.octets_of_blocks, Bitmap.{trimmed, bitmap_octets, slot_block}};
+ghost use Rattle.std.specs.Prelude.{slice_index_or};
+ghost use Rattle.domain_bitmap.specs.Blocks.{has_window, holds, merged_octet, bit_of, octets_of_blocks};
+ghost use Rattle.domain_bitmap.specs.Bitmap.{trimmed, bitmap_octets, block_if_any};
 ghost use Rattle.domain_octets.specs.Octets.{IsOver, Octets};
 
 use crate::RtypeBitmap;
@@ -19,24 +20,19 @@ use std::marker::Model;
 /// The octets of a block in a builder: its window, its length, and the 32 octets of the window.
 const SLOT: usize = 34;
 
-/// The place of a window's block, or the one where it would stand.
-#[tactic(auto, using(std::proofs::lemmas::Grind::common_steps, crate::proofs::BitmapLemmas::find_steps))]
-fn find_slot(slots: &[u8], window: u8) -> Result<usize, usize>
-    requires { AreSlots slots.now }
-    ensures found { IfOk result (λ j. (j < length slots.now / 34)
+/// The place of the first block of a window, if there is one.
+#[tactic(auto, using(crate::proofs::BitmapLemmas::window_absent))]
+fn find_slot(slots: &[u8], window: u8) -> Option<usize>
+    ensures found { IfSome result (λ j. (j < length slots.now / 34)
         × (slice_index slots.now (34 * j) ≡ window)) }
-    ensures place { IfErr result (λ j. IsPlace slots.now window j) }
+    ensures none { IfNone result (has_window slots.now window ≡ false) }
 {
-    let count = slots.len() / SLOT;
-    for j in 0..count {
+    for j in 0..slots.len() / SLOT {
         if slots[SLOT * j] == window {
-            return Ok(j);
-        }
-        if slots[SLOT * j] > window {
-            return Err(j);
+            return Some(j);
         }
     }
-    Err(count)
+    None
 }
 
 /// The block of a window without types.
@@ -46,21 +42,6 @@ fn empty_slot(window: u8) -> [u8; 34]
     let mut slot = [0; SLOT];
     slot[0] = window;
     slot
-}
-
-/// Puts octets before those from a place on. After a refusal nothing has changed.
-fn insert_at<B: OctetsBuilder>(buffer: &mut B, at: usize, slice: &[u8]) -> Result<(), AppendError>
-    requires { at ≤ length (B.octets buffer.old) }
-    ensures ok { OnOk result (B.octets buffer.new ≡ take at (B.octets buffer.old)
-        ++ (slice.now ++ drop at (B.octets buffer.old))) }
-    ensures short { IsErrOf result AppendError.ShortBuf
-        ↔ IsOver B.limit (length (B.octets buffer.old) + length slice.now) }
-    ensures memory { IsErrOf result AppendError.OutOfMemory → IsNone B.limit }
-    ensures err { OnErr result (B.octets buffer.new ≡ B.octets buffer.old) }
-{
-    buffer.append_slice(slice)?;
-    buffer.as_mut_slice()[at..].rotate_right(slice.len());
-    Ok(())
 }
 
 /// How many octets are left without the zero octets at the end.
@@ -102,7 +83,7 @@ impl<B: OctetsBuilder> Model for RtypeBitmapBuilder<B> {
 
     ghost view = { λ b. B.octets b.buffer };
 
-    ghost invariant = { λ b. AreSlots (B.octets b.buffer) };
+    ghost invariant = { λ b. length (B.octets b.buffer) % 34 ≡ 0 };
 }
 
 impl RtypeBitmapBuilder<Vec<u8>> {
@@ -152,7 +133,8 @@ impl<B: OctetsBuilder> RtypeBitmapBuilder<B> {
         })
     }
 
-    /// The place of the block of a window; where there is none, one without types is put there.
+    /// The place of the first block of a window. If the window has none, a block without types is
+    /// appended.
     #[tactic(auto, using(crate::proofs::BitmapLemmas::block_steps))]
     fn window_block(&mut self, window: u8) -> Result<usize, AppendError>
         ensures place { IfOk result (λ j. (j < length self.new / 34)
@@ -168,13 +150,13 @@ impl<B: OctetsBuilder> RtypeBitmapBuilder<B> {
             → (has_window self.old window ≡ false) × IsNone B.limit }
         ensures err { OnErr result (self.new ≡ self.old) }
     {
-        match find_slot(self.buffer.as_slice(), window) {
-            Ok(j) => Ok(j),
-            Err(j) => {
-                insert_at(&mut self.buffer, SLOT * j, &empty_slot(window))?;
-                Ok(j)
-            }
+        let slots = self.buffer.as_slice();
+        if let Some(j) = find_slot(slots, window) {
+            return Ok(j);
         }
+        let j = slots.len() / SLOT;
+        self.buffer.append_slice(&empty_slot(window))?;
+        Ok(j)
     }
 
     /// Adds a type. A type whose window has a block already takes no memory and is never refused.
@@ -220,39 +202,125 @@ impl<B: OctetsBuilder> RtypeBitmapBuilder<B> {
     }
 }
 
-/// Moves the block at a place to where the blocks before it end, cut after its last octet with a
-/// type, and says where it ends then. One without types goes.
-#[tactic(auto, using(std::proofs::lemmas::Grind::common_steps, crate::proofs::BitmapLemmas::pack_steps))]
-fn pack_slot(slots: &mut [u8], end: usize, j: usize) -> usize
-    requires before { end ≤ 34 * j }
-    requires inside { j < length slots.old / 34 }
+/// How many windows there are.
+const WINDOWS: usize = 256;
+
+/// How many octets all windows have, 32 each.
+const TABLE: usize = 8192;
+
+/// Copies the octets of the block at a place to its window's place in a table of all windows. Bits
+/// that are set there stay set.
+fn copy_block(table: &mut [u8], slots: &[u8], j: usize)
+    requires all { length table.old ≡ 8192 }
+    requires inside { j < length slots.now / 34 }
+    ensures copied { (i : ℕ) → slice_index table.new i ≡ merged_octet table.old slots.now j i }
+    ensures size { length table.new ≡ length table.old }
+{
+    let start = slots[SLOT * j] as usize * 32;
+    for i in 0..32 {
+        table[start + i] |= slots[SLOT * j + 2 + i];
+    }
+}
+
+/// Copies all blocks into a table of zeros, and notes which windows have a block.
+#[tactic(auto, using(std::proofs::lemmas::Grind::common_steps, crate::proofs::BitLemmas::bit_reads), unfolding(crate::specs::Blocks::holds, crate::specs::Blocks::has_window))]
+fn fill(table: &mut [u8], present: &mut [bool], slots: &[u8])
+    requires table { (i : ℕ) → slice_index table.old i ≡ 0 }
+    requires all { length table.old ≡ 8192 }
+    requires present { (w : ℕ) → slice_index_or present.old w false ≡ false }
+    requires windows { length present.old ≡ 256 }
+    ensures types { (t : ℕ) → t < 65536 → bit_of (slice_index table.new (t / 8)) (t % 8)
+        ≡ holds slots.now t }
+    ensures windows { (w : ℕ) → slice_index_or present.new w false ≡ has_window slots.now w }
+    ensures absent { (i : ℕ) → slice_index_or present.new (i / 32) false ≡ false
+        → slice_index table.new i ≡ 0 }
+    ensures size { length table.new ≡ length table.old }
+    ensures count { length present.new ≡ length present.old }
+{
+    for j in 0..slots.len() / SLOT {
+        copy_block(table, slots, j);
+        present[slots[SLOT * j] as usize] = true;
+    }
+}
+
+/// Writes octets over those from a place on.
+#[tactic(auto, using(std::proofs::lemmas::Grind::common_steps))]
+fn write_at(slots: &mut [u8], at: usize, octets: &[u8])
+    requires { at + length octets.now ≤ length slots.old }
+    ensures { take (at + length octets.now) slots.new ≡ take at slots.old ++ octets.now }
+{
+    let end = at + octets.len();
+    slots[at..end].copy_from_slice(octets);
+}
+
+/// Writes the block of a window, cut after its last octet with a type, and returns where it ends. A
+/// window without types has no block.
+#[tactic(auto, using(std::proofs::lemmas::Grind::common_steps, crate::proofs::BitmapLemmas::block_written))]
+fn write_block(slots: &mut [u8], end: usize, window: u8, octets: &[u8]) -> usize
+    requires room { end + 34 ≤ length slots.old }
+    requires fits { length octets.now ≤ 32 }
     ensures written { take result slots.new
-        ≡ take end slots.old ++ octets_of_blocks (slot_block slots.old j) }
-    ensures rest { drop (34 * (j + 1)) slots.new ≡ drop (34 * (j + 1)) slots.old }
-    ensures size { length slots.new ≡ length slots.old }
+        ≡ take end slots.old ++ octets_of_blocks (block_if_any window (trimmed octets.now)) }
     ensures grows { result ≤ end + 34 }
 {
-    let at = SLOT * j;
-    let len = used_len(&slots[at + 2..at + SLOT]);
+    let len = used_len(octets);
     if len == 0 {
         return end;
     }
-    slots[at + 1] = len as u8;
-    slots.copy_within(at..at + 2 + len, end);
+    write_at(slots, end, &[window, len as u8]);
+    write_at(slots, end + 2, &octets[..len]);
     end + 2 + len
 }
 
-/// Moves a builder's blocks together, each cut after its last octet with a type, and says where
-/// they end.
-#[tactic(auto, using(std::proofs::lemmas::Grind::common_steps, crate::proofs::BitmapLemmas::spelled_steps))]
-fn pack(slots: &mut [u8]) -> usize
-    requires { AreSlots slots.old }
+/// Writes the blocks of all windows in ascending order, and returns where they end.
+#[tactic(auto, using(std::proofs::lemmas::Grind::common_steps))]
+fn pack_all(slots: &mut [u8]) -> usize
+    requires { length slots.old % 34 ≡ 0 }
+    ensures { take result slots.new ≡ bitmap_octets (holds slots.old) }
+{
+    let mut table = [0; TABLE];
+    let mut present = [false; WINDOWS];
+    fill(&mut table, &mut present, slots);
+    laws::slices_hold_octets(&table);
+    let mut end = 0;
+    for window in 0..WINDOWS {
+        if !present[window] {
+            continue;
+        }
+        let own = &table[32 * window..32 * window + 32];
+        end = write_block(slots, end, window as u8, own);
+    }
+    end
+}
+
+/// Cuts the only block, and returns where it ends.
+#[tactic(auto, using(std::proofs::lemmas::Grind::common_steps, crate::proofs::BitmapLemmas::one_steps))]
+fn pack_one(slots: &mut [u8]) -> usize
+    requires { length slots.old ≡ 34 }
     ensures { take result slots.new ≡ bitmap_octets (holds slots.old) }
 {
     laws::slices_hold_octets(slots);
-    let mut end = 0;
-    for j in 0..slots.len() / SLOT {
-        end = pack_slot(slots, end, j);
+    let len = used_len(&slots[2..]);
+    if len == 0 {
+        return 0;
     }
-    end
+    slots[1] = len as u8;
+    len + 2
+}
+
+/// Writes a builder's blocks in the order of their windows, each cut after its last octet with a
+/// type, and returns where they end.
+#[tactic(auto, using(crate::proofs::BitmapLemmas::holds_nothing))]
+fn pack(slots: &mut [u8]) -> usize
+    requires { length slots.old % 34 ≡ 0 }
+    ensures { take result slots.new ≡ bitmap_octets (holds slots.old) }
+{
+    if slots.is_empty() {
+        return 0;
+    }
+    if slots.len() == SLOT {
+        pack_one(slots)
+    } else {
+        pack_all(slots)
+    }
 }
