@@ -1,10 +1,10 @@
 //! Names as text (RFC 1035, section 5.1).
 ghost use Rattle.std.specs.Prelude.{◌≡◌, ◌≢◌, ℕ, Some, None, drop, slice_index, ◌+◌, ◌<◌, ◌≤◌, ◌∷◌, ◌++◌, [], ◌⊎◌, length, IfSome, IfNone, IsSome, OnSome, OnOk, IsTrue, ◌↔◌};
-ghost use Rattle.std.specs.Fmt.{WritesOnOk};
+ghost use Rattle.std.specs.{Fmt.WritesOnOk, Str.IsAscii};
 ghost use Rattle.domain_octets.specs.{Text.dot, Octets.Octets};
 ghost use Rattle.domain_names.specs.{Name.{wire_of, IsLabel, IsName, Label, Name}, Text.{symbol_at, LabelText}};
 ghost use Rattle.domain_names.specs.Text.{LabelTexts, IsBefore, HasNoLabel, HasNoLabelAfter, NameText};
-ghost use Rattle.domain_names.specs.Text.{IsNoName, is_special, octet_text, dotted_text, name_text};
+ghost use Rattle.domain_names.specs.Text.{IsNoName, is_special, octet_text, label_text, dotted_text, name_text};
 ghost use Rattle.domain_names.specs.Wire.{labels_of, IsWire};
 
 use crate::wire;
@@ -206,9 +206,65 @@ fn put_labels(text: &mut ArrayBuilder<MAX_TEXT>, name: &[u8]) -> Result<(), Appe
     Ok(())
 }
 
-/// Writes the labels with dots between them, in one piece. That this is ASCII is proved, so that it
-/// need not be looked through.
-pub fn write_name<W: fmt::Write>(name: &[u8], f: &mut fmt::Formatter<W>) -> fmt::Result
+/// Returns whether an octet is written as itself. Tests for letters in lower case first.
+#[tactic(auto, unfolding(crate::specs::Text::octet_text))]
+fn is_ordinary(octet: u8) -> bool
+    ensures { IsTrue result → octet_text octet ≡ octet ∷ [] }
+{
+    (octet > b'\\' && octet <= b'~') || (octet.is_ascii_graphic() && !is_special(octet))
+}
+
+/// Returns whether all octets of a label are written as themselves.
+fn is_ordinary_label(label: &[u8]) -> bool
+    ensures { IsTrue result → label_text label.now ≡ label.now }
+{
+    for octet in label {
+        if !is_ordinary(*octet) {
+            return false;
+        }
+    }
+    true
+}
+
+/// Replaces the length of each label by a dot in a copy of a name's octets, and the root by a dot.
+/// Returns false if an octet of a label is not written as itself.
+#[tactic(auto, using(crate::proofs::TextLemmas::dotted_steps))]
+fn put_dots(text: &mut [u8], name: &[u8]) -> bool
+    requires name { IsWire name.now }
+    requires copy { text.old ≡ name.now }
+    ensures { IsTrue result → text.new ≡ dotted_text (labels_of name.now) ++ dot ∷ [] }
+{
+    let mut rest = name;
+    while let Some((label, above)) = wire::split_first(rest) {
+        if !is_ordinary_label(label) {
+            return false;
+        }
+        text[name.len() - rest.len()] = b'.';
+        rest = above;
+    }
+    text[name.len() - rest.len()] = b'.';
+    true
+}
+
+/// Returns the text of a name, with a dot before each label and at its end, if all octets of its
+/// labels are written as themselves.
+#[tactic(auto, using(crate::proofs::TextLemmas::dotted_ascii))]
+fn dotted<'a>(name: &[u8], buffer: &'a mut [u8; MAX_NAME]) -> Option<&'a [u8]>
+    requires { IsWire name.now }
+    ensures text { IfSome result (λ text. text.now ≡ dotted_text (labels_of name.now)
+        ++ dot ∷ []) }
+    ensures ascii { IfSome result (λ text. IsAscii text.now) }
+{
+    let text = &mut buffer[..name.len()];
+    text.copy_from_slice(name);
+    if !put_dots(text, name) {
+        return None;
+    }
+    Some(text)
+}
+
+/// Writes labels of any octets, with dots between them.
+fn write_labels<W: fmt::Write>(name: &[u8], f: &mut fmt::Formatter<W>) -> fmt::Result
     requires { IsWire name.now }
     ensures { WritesOnOk W.write_str_gives f.old result (name_text (labels_of name.now)) f.new }
 {
@@ -222,12 +278,36 @@ pub fn write_name<W: fmt::Write>(name: &[u8], f: &mut fmt::Formatter<W>) -> fmt:
     }
 }
 
-/// Writes the labels with a dot after each, and a dot alone for the root.
+/// Writes the labels with dots between them. The prover shows that the text is ASCII, so that
+/// nothing tests it at run time.
+pub fn write_name<W: fmt::Write>(name: &[u8], f: &mut fmt::Formatter<W>) -> fmt::Result
+    requires { IsWire name.now }
+    ensures { WritesOnOk W.write_str_gives f.old result (name_text (labels_of name.now)) f.new }
+{
+    if let Some(text) = dotted(name, &mut [0; MAX_NAME]) {
+        return match text {
+            [_, text @ .., _] => f.write_str(unsafe { str::from_utf8_unchecked(text) }),
+            _ => Ok(()),
+        };
+    }
+    write_labels(name, f)
+}
+
+/// Writes the labels with a dot after each, and a single dot for the root: in one piece, unless an
+/// octet needs an escape.
 pub fn write_dotted<W: fmt::Write>(name: &[u8], f: &mut fmt::Formatter<W>) -> fmt::Result
     requires { IsWire name.now }
     ensures { WritesOnOk W.write_str_gives f.old result
         (name_text (labels_of name.now) ++ dot ∷ []) f.new }
 {
-    write_name(name, f)?;
+    if let Some(text) = dotted(name, &mut [0; MAX_NAME]) {
+        return match text {
+            [_, text @ ..] if !text.is_empty() => {
+                f.write_str(unsafe { str::from_utf8_unchecked(text) })
+            }
+            _ => f.write_str("."),
+        };
+    }
+    write_labels(name, f)?;
     f.write_str(".")
 }
