@@ -1,7 +1,7 @@
 -- Names as text.
 use Rattle.std.proofs.Common.{arith, ℕ, zero, suc, ◌<◌, ◌≤◌, ◌≡◌, ◌∷◌, ◌++◌, [], List, refl, ap, subst, ◌∙◌, length, take, drop, length-append, ◌≢◌, get_or}
-use Rattle.std.proofs.{Common.{◌+◌, ◌-◌, slice_set, Option, Some, None, sym, inl}, Math.Seq.set-append_seam}
-use Rattle.std.proofs.lemmas.List.{append_assoc, append-nil, length-drop, length-take-le, take_more}
+use Rattle.std.proofs.{Common.{◌+◌, ◌-◌, slice_set, Option, Some, None, sym, inl, rules}, Math.Seq.set-append_seam}
+use Rattle.std.proofs.lemmas.List.{append_assoc, append-nil, length-drop, length-take-le, take_at, take_more}
 use Rattle.std.proofs.lemmas.{List.Elements.{All-head, All-tail}, Grind.common_steps, Str.{IsAscii-append, IsAscii-take, IsAscii-drop, IsUtf8-from_ascii}}
 use Rattle.std.{proofs.lemmas.Str.Ascii.IsAscii-nil, specs.{List.{All, AllByRecursion as ByRecursion, AllByRecursion}, Str.{IsAscii, IsUtf8}, Prelude.IsSome}}
 use Rattle.std.specs.Prelude.{IfSome}
@@ -116,6 +116,12 @@ plain_symbol c text slash dot low high = grind (arith, common_steps)
 
 pub spelling_ends : (text rest done : List ℕ) → Spelling text rest done → symbol_at rest ≡ None → LabelText text done rest
 spelling_ends text rest done so_far none = rw append-nil at (so_far.onward [] rest (ends rest none))
+
+-- a label that is spelled without escapes
+pub plain_label : (text label rest : List ℕ) (n : ℕ) → n ≤ length text
+    → ((k : ℕ) → k < n → symbol_at (drop k text) ≡ Some (get_or text k 0, 1)) → label ≡ take n text → rest ≡ drop n text
+    → symbol_at rest ≡ None → LabelText text label rest
+plain_label text label rest n within plain front back none = grind (arith, common_steps, spelling_ends, spelling_plain)
 
 pub no_label_by_length : (text rest done : List ℕ) (c used : ℕ) → Spelling text rest done → symbol_at rest ≡ Some (c, used)
     → 63 < length done + 1 → HasNoLabel text
@@ -242,8 +248,52 @@ long_name text wire found long other = grind (arith, common_steps, no_name, same
 pub name_is_valid : (text : List ℕ) (labels : Name) → NameText text labels → IsName labels
 name_is_valid text labels spelled = grind (arith, common_steps)
 
+-- ---- texts whose octets become names
+
+-- labels that are read up to some place, each with its length before it; one octet stands between
+-- them and the rest of the text
+pub record Measuring (text rest octets : List ℕ) : Type 0 where
+  pub wire : List ℕ
+  pub gap : ℕ
+  pub parts : octets ≡ wire ++ gap ∷ rest
+  pub naming : Naming text rest wire
+  pub size : length octets ≡ length text + 1
+
+pub measuring_begins : (text octets : List ℕ) → (first : ℕ) × (octets ≡ first ∷ text) → Measuring text text octets
+measuring_begins text octets (first, is) = record {
+  wire = [];
+  gap = first;
+  parts = is;
+  naming = record {
+    onward = λ labels spelled. (labels, spelled, refl);
+    back = λ all spelled. (all, spelled, refl);
+  };
+  size = omega (arith, ap length is);
+}
+
+-- one label more, with its length before it
+module _ {text rest octets : List ℕ} (so_far : Measuring text rest octets) (label after : List ℕ) (parted : rest ≡ label ++ after)
+    (read : symbol_at after ≡ None → LabelText rest label after) (valid : IsLabel label) where
+  abbrev measured : List ℕ
+  measured = slice_set octets (length text - length rest) (length label)
+
+  measured_is : measured ≡ (so_far.wire ++ length label ∷ label) ++ after
+  measured_is = grind (arith, common_steps, (set-append_seam so_far.wire so_far.gap rest (length label)))
+
+  pub measuring_goes : (next : List ℕ) → IsBefore next after → next ≢ [] → Measuring text next measured
+  measuring_goes next before some = let here = read (before_stops next after before) in grind (arith, common_steps, measured_is, naming_goes)
+
+  pub measuring_ends : (next : List ℕ) → IsBefore next after → next ≡ []
+      → IsLabelsWire text (take (length text - length rest + 1 + length label) measured)
+  measuring_ends next before none =
+      let end : IsBefore [] after = subst (λ n. IsBefore n after) none before in
+      let here = read (before_stops [] after end) in
+      search (rules, length-append, measured_is, take_at, naming_ends)
+
 pub ruleset naming_steps = (common_steps, after_label, naming_goes, naming_ends, no_label_left, wrong_after)
 
 pub ruleset spelling_steps = (common_steps, spelling_goes, spelling_ends, no_label_by_length)
 
 pub ruleset named_steps = (common_steps, named_root, long_name, no_name)
+
+pub ruleset measuring_steps = (measuring_begins, measuring_goes)

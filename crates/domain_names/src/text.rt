@@ -1,5 +1,5 @@
 //! Names as text (RFC 1035, section 5.1).
-ghost use Rattle.std.specs.Prelude.{◌≡◌, ◌≢◌, ℕ, Some, None, drop, slice_index, ◌+◌, ◌<◌, ◌≤◌, ◌∷◌, ◌++◌, [], ◌⊎◌, length, IfSome, IfNone, IsSome, OnSome, OnOk, IsTrue, ◌↔◌};
+ghost use Rattle.std.specs.Prelude.{◌≡◌, ◌≢◌, ℕ, Some, None, drop, slice_index, ◌+◌, ◌<◌, ◌≤◌, ◌∷◌, ◌++◌, [], ◌⊎◌, length, take, IfSome, IfNone, IsSome, OnSome, OnOk, IsTrue, ◌↔◌};
 ghost use Rattle.std.specs.{Fmt.WritesOnOk, Str.IsAscii};
 ghost use Rattle.domain_octets.specs.{Text.dot, Octets.Octets};
 ghost use Rattle.domain_names.specs.{Name.{wire_of, IsLabel, IsName, Label, Name}, Text.{symbol_at, LabelText}};
@@ -9,7 +9,7 @@ ghost use Rattle.domain_names.specs.Wire.{labels_of, IsWire};
 
 use crate::wire;
 use crate::wire::{MAX_LABEL_LEN, MAX_NAME};
-use domain_octets::{AppendError, ArrayBuilder, Octets, OctetsBuilder};
+use domain_octets::{AppendError, ArrayBuilder, Octets, OctetsBuilder, Truncate};
 use std::fmt;
 
 /// The octet that a text within a label begins with, and how many characters spell it.
@@ -133,12 +133,65 @@ fn read_labels(wire: &mut ArrayBuilder<MAX_NAME>, text: &[u8]) -> Option<()>
     }
 }
 
+/// Splits the label off a text that begins with as many plain characters as a label may have, and
+/// returns it and what follows it. The plain characters are the first label, unless an escape
+/// follows.
+#[tactic(auto, using(crate::proofs::TextLemmas::plain_label))]
+fn split_plain_label(text: &[u8]) -> Option<(&[u8], &[u8])>
+    ensures parts { IfSome result (λ p. text.now ≡ p.0.now ++ p.1.now) }
+    ensures label { IfSome result (λ p. symbol_at p.1.now ≡ None
+        → LabelText text.now p.0.now p.1.now) }
+    ensures valid { IfSome result (λ p. IsLabel p.0.now) }
+{
+    let (label, after) = text.split_at(plain_len(text));
+    if label.is_empty() || label.len() > MAX_LABEL_LEN {
+        return None;
+    }
+    Some((label, after))
+}
+
+/// Writes the length of each label before it, in octets that are one more octet and a text. Returns
+/// how many octets the labels then take: all, or all but a last dot. Returns None if a character
+/// does not stand for itself, or if a label has no octets or too many.
+#[tactic(auto, using(crate::proofs::TextLemmas::measuring_steps))]
+fn put_lengths(octets: &mut [u8], text: &[u8]) -> Option<usize>
+    requires { (first : ℕ) × (octets.old ≡ first ∷ text.now) }
+    ensures size { length octets.new ≡ length octets.old }
+    ensures labels { IfSome result (λ n. (labels : Name) × LabelTexts text.now labels
+        × (take n octets.new ++ 0 ∷ [] ≡ wire_of labels)) }
+{
+    let mut rest = text;
+    loop {
+        let at = text.len() - rest.len();
+        let (label, after) = split_plain_label(rest)?;
+        octets[at] = label.len() as u8;
+        rest = after_dot(after)?;
+        if rest.is_empty() {
+            return Some(at + 1 + label.len());
+        }
+    }
+}
+
 /// Appends the root, if there is room for it.
 fn push_root(wire: &mut ArrayBuilder<MAX_NAME>) -> Option<()>
     ensures root { OnSome result (wire.new ≡ wire.old ++ 0 ∷ []) }
     ensures room { IsSome result ↔ (length wire.old < 255) }
 {
     wire.append_slice(&[0]).ok()
+}
+
+/// Writes the wire form of the name that a text spells into an empty builder, if all characters of
+/// its labels stand for themselves. If not, what it leaves in the builder has no meaning.
+fn read_plain_name(wire: &mut ArrayBuilder<MAX_NAME>, text: &[u8]) -> Option<()>
+    requires { wire.old ≡ [] }
+    ensures { OnSome result ((labels : Name) × NameText text.now labels
+        × (wire.new ≡ wire_of labels)) }
+{
+    wire.append_slice(&[0]).ok()?;
+    wire.append_slice(text).ok()?;
+    let len = put_lengths(wire.as_mut_slice(), text)?;
+    wire.truncate(len);
+    push_root(wire)
 }
 
 /// Puts the wire form of the name that a text spells into an empty builder. Stops at the first
@@ -153,6 +206,10 @@ pub fn read_name(wire: &mut ArrayBuilder<MAX_NAME>, text: &[u8]) -> Option<()>
     if let [b'.'] = text {
         return push_root(wire);
     }
+    if read_plain_name(wire, text).is_some() {
+        return Some(());
+    }
+    wire.truncate(0);
     read_labels(wire, text)?;
     push_root(wire)
 }
