@@ -1,3 +1,4 @@
 pub mod WireLemmas
 pub mod OrderLemmas
 pub mod TextLemmas
+pub mod PartLemmas

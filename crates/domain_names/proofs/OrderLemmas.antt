@@ -135,15 +135,3 @@ pub lengths_decide : (a b : List ℕ) (i : ℕ) → i ≡ min (length a) (length
     → nat_cmp (length a) (length b) ≡ slice_cmp nat_cmp (map to_ascii_lowercase (drop i a)) (map to_ascii_lowercase (drop i b))
 lengths_decide (x ∷ a) (y ∷ b) (suc i) is = grind (arith, common_steps, (lengths_decide a b i (omega arith)))
 lengths_decide a b i is = grind (arith, common_steps)
-
--- ---- the end of a name that decides whether it is at or below another
-
--- the one that has no more labels
-pub end_decides : (name above : Name) (k : ℕ) → k ≡ length name - length above → is_at_or_below name above ≡ same_name above (drop k name)
-end_decides name above k is =
-    rw (length-map name (map to_ascii_lowercase), length-map above (map to_ascii_lowercase), drop-map (map to_ascii_lowercase), ← is) refl
-
-pub end_below : (name above : Name) (k : ℕ) → k ≡ length name - length above → Decides (same_name above (drop k name)) (IsAtOrBelow name above)
-end_below name above k is = subst (λ r. Decides r (IsAtOrBelow name above)) (end_decides name above k is) (at_or_below_test name above)
-
-pub ruleset below_steps = (common_steps, end_decides, end_below)

@@ -1,12 +1,13 @@
 -- Names as text.
 use Rattle.std.proofs.Common.{arith, ℕ, zero, suc, ◌<◌, ◌≤◌, ◌≡◌, ◌∷◌, ◌++◌, [], List, refl, ap, subst, ◌∙◌, length, take, drop, length-append, ◌≢◌, get_or}
-use Rattle.std.proofs.{Common.{◌+◌, Option, Some, None, sym, inl}, lemmas.List.{append_assoc, append-nil, length-drop, length-take-le, take_more}}
+use Rattle.std.proofs.{Common.{◌+◌, ◌-◌, slice_set, Option, Some, None, sym, inl, rules}, Math.Seq.set-append_seam}
+use Rattle.std.proofs.lemmas.List.{append_assoc, append-nil, length-drop, length-take-le, take_at, take_more}
 use Rattle.std.proofs.lemmas.{List.Elements.{All-head, All-tail}, Grind.common_steps, Str.{IsAscii-append, IsAscii-take, IsAscii-drop, IsUtf8-from_ascii}}
 use Rattle.std.{proofs.lemmas.Str.Ascii.IsAscii-nil, specs.{List.{All, AllByRecursion as ByRecursion, AllByRecursion}, Str.{IsAscii, IsUtf8}, Prelude.IsSome}}
 use Rattle.std.specs.Prelude.{IfSome}
 use Rattle.domain_names.specs.Text.{octet_text, label_text, dotted_text, symbol_at, LabelText, ends, octet, HasNoLabel, HasNoLabelAfter, LabelTexts, IsBefore}
 use Rattle.domain_names.specs.{Text.{last, dotted, NameText, root, of_labels, IsNoName}, Name.{wire_of, IsLabel, IsName, Name}}
-use Rattle.domain_names.proofs.WireLemmas.{length-wire_of}
+use Rattle.domain_names.{specs.Wire.{labels_of, IsWire}, proofs.WireLemmas.length-wire_of}
 
 -- ---- texts of names are ASCII
 
@@ -26,6 +27,43 @@ dotted_text_ascii (label ∷ labels) valid = grind (arith, common_steps, label_t
 pub behind_dot : (labels : Name) (text : List ℕ) (n : ℕ) → IsName labels → text ≡ dotted_text labels → IsUtf8 (take n (drop 1 text))
 behind_dot labels text n valid is =
     IsUtf8-from_ascii _ (IsAscii-take _ n (IsAscii-drop text 1 (subst IsAscii (sym is) (dotted_text_ascii labels valid.of_labels))))
+
+-- ---- names whose octets become their text
+
+-- the labels of a name before its rest have become text, and the rest stands as it was
+pub record IsDotted (name rest text : List ℕ) : Type 0 where
+  pub front : List ℕ
+  pub parts : text ≡ front ++ rest
+  pub dots : dotted_text (labels_of name) ≡ front ++ dotted_text (labels_of rest)
+  pub wire : IsWire rest
+  pub size : length text ≡ length name
+
+pub dotted_more : (name rest text label above : List ℕ) → IsDotted name rest text → labels_of rest ≡ label ∷ labels_of above → IsWire above
+    → label_text label ≡ label → IsDotted name above (slice_set text (length name - length rest) 46)
+dotted_more name rest text label above so_far labels further same =
+    let is : rest ≡ length label ∷ (label ++ above) = (let wire = so_far.wire.spelled in grind (arith, common_steps)) in
+    record {
+      front = so_far.front ++ 46 ∷ label;
+      parts = grind (arith, common_steps, (set-append_seam so_far.front (length label) (label ++ above) 46));
+      dots = grind (arith, common_steps);
+      wire = further;
+      size = grind (arith, common_steps);
+    }
+
+pub dotted_ends : (name rest text : List ℕ) → IsDotted name rest text → labels_of rest ≡ []
+    → slice_set text (length name - length rest) 46 ≡ dotted_text (labels_of name) ++ 46 ∷ []
+dotted_ends name rest text so_far none =
+    let is : rest ≡ 0 ∷ [] = so_far.wire.spelled ∙ ap wire_of none in
+    grind (arith, common_steps, (set-append_seam so_far.front 0 [] 46))
+
+pub dotted_ascii : (labels : Name) → IsName labels → IsAscii (dotted_text labels ++ 46 ∷ [])
+dotted_ascii labels valid = grind (arith, common_steps, dotted_text_ascii)
+
+-- a part of a text that is ASCII
+pub ascii_within : (text : List ℕ) (n m : ℕ) → IsAscii text → IsUtf8 (take n (drop m text))
+ascii_within text n m ascii = IsUtf8-from_ascii _ (IsAscii-take _ n (IsAscii-drop text m ascii))
+
+pub ruleset dotted_steps = (common_steps, dotted_more, dotted_ends)
 
 -- ---- names spelled by texts
 
@@ -78,6 +116,12 @@ plain_symbol c text slash dot low high = grind (arith, common_steps)
 
 pub spelling_ends : (text rest done : List ℕ) → Spelling text rest done → symbol_at rest ≡ None → LabelText text done rest
 spelling_ends text rest done so_far none = rw append-nil at (so_far.onward [] rest (ends rest none))
+
+-- a label that is spelled without escapes
+pub plain_label : (text label rest : List ℕ) (n : ℕ) → n ≤ length text
+    → ((k : ℕ) → k < n → symbol_at (drop k text) ≡ Some (get_or text k 0, 1)) → label ≡ take n text → rest ≡ drop n text
+    → symbol_at rest ≡ None → LabelText text label rest
+plain_label text label rest n within plain front back none = grind (arith, common_steps, spelling_ends, spelling_plain)
 
 pub no_label_by_length : (text rest done : List ℕ) (c used : ℕ) → Spelling text rest done → symbol_at rest ≡ Some (c, used)
     → 63 < length done + 1 → HasNoLabel text
@@ -204,8 +248,52 @@ long_name text wire found long other = grind (arith, common_steps, no_name, same
 pub name_is_valid : (text : List ℕ) (labels : Name) → NameText text labels → IsName labels
 name_is_valid text labels spelled = grind (arith, common_steps)
 
+-- ---- texts whose octets become names
+
+-- labels that are read up to some place, each with its length before it; one octet stands between
+-- them and the rest of the text
+pub record Measuring (text rest octets : List ℕ) : Type 0 where
+  pub wire : List ℕ
+  pub gap : ℕ
+  pub parts : octets ≡ wire ++ gap ∷ rest
+  pub naming : Naming text rest wire
+  pub size : length octets ≡ length text + 1
+
+pub measuring_begins : (text octets : List ℕ) → (first : ℕ) × (octets ≡ first ∷ text) → Measuring text text octets
+measuring_begins text octets (first, is) = record {
+  wire = [];
+  gap = first;
+  parts = is;
+  naming = record {
+    onward = λ labels spelled. (labels, spelled, refl);
+    back = λ all spelled. (all, spelled, refl);
+  };
+  size = omega (arith, ap length is);
+}
+
+-- one label more, with its length before it
+module _ {text rest octets : List ℕ} (so_far : Measuring text rest octets) (label after : List ℕ) (parted : rest ≡ label ++ after)
+    (read : symbol_at after ≡ None → LabelText rest label after) (valid : IsLabel label) where
+  abbrev measured : List ℕ
+  measured = slice_set octets (length text - length rest) (length label)
+
+  measured_is : measured ≡ (so_far.wire ++ length label ∷ label) ++ after
+  measured_is = grind (arith, common_steps, (set-append_seam so_far.wire so_far.gap rest (length label)))
+
+  pub measuring_goes : (next : List ℕ) → IsBefore next after → next ≢ [] → Measuring text next measured
+  measuring_goes next before some = let here = read (before_stops next after before) in grind (arith, common_steps, measured_is, naming_goes)
+
+  pub measuring_ends : (next : List ℕ) → IsBefore next after → next ≡ []
+      → IsLabelsWire text (take (length text - length rest + 1 + length label) measured)
+  measuring_ends next before none =
+      let end : IsBefore [] after = subst (λ n. IsBefore n after) none before in
+      let here = read (before_stops [] after end) in
+      search (rules, length-append, measured_is, take_at, naming_ends)
+
 pub ruleset naming_steps = (common_steps, after_label, naming_goes, naming_ends, no_label_left, wrong_after)
 
 pub ruleset spelling_steps = (common_steps, spelling_goes, spelling_ends, no_label_by_length)
 
 pub ruleset named_steps = (common_steps, named_root, long_name, no_name)
+
+pub ruleset measuring_steps = (measuring_begins, measuring_goes)

@@ -2,3 +2,4 @@ pub mod Name
 pub mod Laws
 pub mod Wire
 pub mod Text
+pub mod Part

@@ -15,6 +15,7 @@
 mod error;
 mod name;
 mod parsed;
+mod part;
 mod text;
 mod to_name;
 mod wire;

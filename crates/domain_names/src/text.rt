@@ -1,15 +1,15 @@
 //! Names as text (RFC 1035, section 5.1).
-ghost use Rattle.std.specs.Prelude.{◌≡◌, ◌≢◌, ℕ, Some, None, drop, slice_index, ◌+◌, ◌<◌, ◌≤◌, ◌∷◌, ◌++◌, [], ◌⊎◌, length, IfSome, IfNone, IsSome, OnSome, OnOk, IsTrue, ◌↔◌};
-ghost use Rattle.std.specs.Fmt.{WritesOnOk};
+ghost use Rattle.std.specs.Prelude.{◌≡◌, ◌≢◌, ℕ, Some, None, drop, slice_index, ◌+◌, ◌<◌, ◌≤◌, ◌∷◌, ◌++◌, [], ◌⊎◌, length, take, IfSome, IfNone, IsSome, OnSome, OnOk, IsTrue, ◌↔◌};
+ghost use Rattle.std.specs.{Fmt.WritesOnOk, Str.IsAscii};
 ghost use Rattle.domain_octets.specs.{Text.dot, Octets.Octets};
 ghost use Rattle.domain_names.specs.{Name.{wire_of, IsLabel, IsName, Label, Name}, Text.{symbol_at, LabelText}};
 ghost use Rattle.domain_names.specs.Text.{LabelTexts, IsBefore, HasNoLabel, HasNoLabelAfter, NameText};
-ghost use Rattle.domain_names.specs.Text.{IsNoName, is_special, octet_text, dotted_text, name_text};
+ghost use Rattle.domain_names.specs.Text.{IsNoName, is_special, octet_text, label_text, dotted_text, name_text};
 ghost use Rattle.domain_names.specs.Wire.{labels_of, IsWire};
 
 use crate::wire;
 use crate::wire::{MAX_LABEL_LEN, MAX_NAME};
-use domain_octets::{AppendError, ArrayBuilder, Octets, OctetsBuilder};
+use domain_octets::{AppendError, ArrayBuilder, Octets, OctetsBuilder, Truncate};
 use std::fmt;
 
 /// The octet that a text within a label begins with, and how many characters spell it.
@@ -133,12 +133,65 @@ fn read_labels(wire: &mut ArrayBuilder<MAX_NAME>, text: &[u8]) -> Option<()>
     }
 }
 
+/// Splits the label off a text that begins with as many plain characters as a label may have, and
+/// returns it and what follows it. The plain characters are the first label, unless an escape
+/// follows.
+#[tactic(auto, using(crate::proofs::TextLemmas::plain_label))]
+fn split_plain_label(text: &[u8]) -> Option<(&[u8], &[u8])>
+    ensures parts { IfSome result (λ p. text.now ≡ p.0.now ++ p.1.now) }
+    ensures label { IfSome result (λ p. symbol_at p.1.now ≡ None
+        → LabelText text.now p.0.now p.1.now) }
+    ensures valid { IfSome result (λ p. IsLabel p.0.now) }
+{
+    let (label, after) = text.split_at(plain_len(text));
+    if label.is_empty() || label.len() > MAX_LABEL_LEN {
+        return None;
+    }
+    Some((label, after))
+}
+
+/// Writes the length of each label before it, in octets that are one more octet and a text. Returns
+/// how many octets the labels then take: all, or all but a last dot. Returns None if a character
+/// does not stand for itself, or if a label has no octets or too many.
+#[tactic(auto, using(crate::proofs::TextLemmas::measuring_steps))]
+fn put_lengths(octets: &mut [u8], text: &[u8]) -> Option<usize>
+    requires { (first : ℕ) × (octets.old ≡ first ∷ text.now) }
+    ensures size { length octets.new ≡ length octets.old }
+    ensures labels { IfSome result (λ n. (labels : Name) × LabelTexts text.now labels
+        × (take n octets.new ++ 0 ∷ [] ≡ wire_of labels)) }
+{
+    let mut rest = text;
+    loop {
+        let at = text.len() - rest.len();
+        let (label, after) = split_plain_label(rest)?;
+        octets[at] = label.len() as u8;
+        rest = after_dot(after)?;
+        if rest.is_empty() {
+            return Some(at + 1 + label.len());
+        }
+    }
+}
+
 /// Appends the root, if there is room for it.
 fn push_root(wire: &mut ArrayBuilder<MAX_NAME>) -> Option<()>
     ensures root { OnSome result (wire.new ≡ wire.old ++ 0 ∷ []) }
     ensures room { IsSome result ↔ (length wire.old < 255) }
 {
     wire.append_slice(&[0]).ok()
+}
+
+/// Writes the wire form of the name that a text spells into an empty builder, if all characters of
+/// its labels stand for themselves. If not, what it leaves in the builder has no meaning.
+fn read_plain_name(wire: &mut ArrayBuilder<MAX_NAME>, text: &[u8]) -> Option<()>
+    requires { wire.old ≡ [] }
+    ensures { OnSome result ((labels : Name) × NameText text.now labels
+        × (wire.new ≡ wire_of labels)) }
+{
+    wire.append_slice(&[0]).ok()?;
+    wire.append_slice(text).ok()?;
+    let len = put_lengths(wire.as_mut_slice(), text)?;
+    wire.truncate(len);
+    push_root(wire)
 }
 
 /// Puts the wire form of the name that a text spells into an empty builder. Stops at the first
@@ -153,6 +206,10 @@ pub fn read_name(wire: &mut ArrayBuilder<MAX_NAME>, text: &[u8]) -> Option<()>
     if let [b'.'] = text {
         return push_root(wire);
     }
+    if read_plain_name(wire, text).is_some() {
+        return Some(());
+    }
+    wire.truncate(0);
     read_labels(wire, text)?;
     push_root(wire)
 }
@@ -206,9 +263,65 @@ fn put_labels(text: &mut ArrayBuilder<MAX_TEXT>, name: &[u8]) -> Result<(), Appe
     Ok(())
 }
 
-/// Writes the labels with dots between them, in one piece. That this is ASCII is proved, so that it
-/// need not be looked through.
-pub fn write_name<W: fmt::Write>(name: &[u8], f: &mut fmt::Formatter<W>) -> fmt::Result
+/// Returns whether an octet is written as itself. Tests for letters in lower case first.
+#[tactic(auto, unfolding(crate::specs::Text::octet_text))]
+fn is_ordinary(octet: u8) -> bool
+    ensures { IsTrue result → octet_text octet ≡ octet ∷ [] }
+{
+    (octet > b'\\' && octet <= b'~') || (octet.is_ascii_graphic() && !is_special(octet))
+}
+
+/// Returns whether all octets of a label are written as themselves.
+fn is_ordinary_label(label: &[u8]) -> bool
+    ensures { IsTrue result → label_text label.now ≡ label.now }
+{
+    for octet in label {
+        if !is_ordinary(*octet) {
+            return false;
+        }
+    }
+    true
+}
+
+/// Replaces the length of each label by a dot in a copy of a name's octets, and the root by a dot.
+/// Returns false if an octet of a label is not written as itself.
+#[tactic(auto, using(crate::proofs::TextLemmas::dotted_steps))]
+fn put_dots(text: &mut [u8], name: &[u8]) -> bool
+    requires name { IsWire name.now }
+    requires copy { text.old ≡ name.now }
+    ensures { IsTrue result → text.new ≡ dotted_text (labels_of name.now) ++ dot ∷ [] }
+{
+    let mut rest = name;
+    while let Some((label, above)) = wire::split_first(rest) {
+        if !is_ordinary_label(label) {
+            return false;
+        }
+        text[name.len() - rest.len()] = b'.';
+        rest = above;
+    }
+    text[name.len() - rest.len()] = b'.';
+    true
+}
+
+/// Returns the text of a name, with a dot before each label and at its end, if all octets of its
+/// labels are written as themselves.
+#[tactic(auto, using(crate::proofs::TextLemmas::dotted_ascii))]
+fn dotted<'a>(name: &[u8], buffer: &'a mut [u8; MAX_NAME]) -> Option<&'a [u8]>
+    requires { IsWire name.now }
+    ensures text { IfSome result (λ text. text.now ≡ dotted_text (labels_of name.now)
+        ++ dot ∷ []) }
+    ensures ascii { IfSome result (λ text. IsAscii text.now) }
+{
+    let text = &mut buffer[..name.len()];
+    text.copy_from_slice(name);
+    if !put_dots(text, name) {
+        return None;
+    }
+    Some(text)
+}
+
+/// Writes labels of any octets, with dots between them.
+fn write_labels<W: fmt::Write>(name: &[u8], f: &mut fmt::Formatter<W>) -> fmt::Result
     requires { IsWire name.now }
     ensures { WritesOnOk W.write_str_gives f.old result (name_text (labels_of name.now)) f.new }
 {
@@ -222,12 +335,36 @@ pub fn write_name<W: fmt::Write>(name: &[u8], f: &mut fmt::Formatter<W>) -> fmt:
     }
 }
 
-/// Writes the labels with a dot after each, and a dot alone for the root.
+/// Writes the labels with dots between them. The prover shows that the text is ASCII, so that
+/// nothing tests it at run time.
+pub fn write_name<W: fmt::Write>(name: &[u8], f: &mut fmt::Formatter<W>) -> fmt::Result
+    requires { IsWire name.now }
+    ensures { WritesOnOk W.write_str_gives f.old result (name_text (labels_of name.now)) f.new }
+{
+    if let Some(text) = dotted(name, &mut [0; MAX_NAME]) {
+        return match text {
+            [_, text @ .., _] => f.write_str(unsafe { str::from_utf8_unchecked(text) }),
+            _ => Ok(()),
+        };
+    }
+    write_labels(name, f)
+}
+
+/// Writes the labels with a dot after each, and a single dot for the root: in one piece, unless an
+/// octet needs an escape.
 pub fn write_dotted<W: fmt::Write>(name: &[u8], f: &mut fmt::Formatter<W>) -> fmt::Result
     requires { IsWire name.now }
     ensures { WritesOnOk W.write_str_gives f.old result
         (name_text (labels_of name.now) ++ dot ∷ []) f.new }
 {
-    write_name(name, f)?;
+    if let Some(text) = dotted(name, &mut [0; MAX_NAME]) {
+        return match text {
+            [_, text @ ..] if !text.is_empty() => {
+                f.write_str(unsafe { str::from_utf8_unchecked(text) })
+            }
+            _ => f.write_str("."),
+        };
+    }
+    write_labels(name, f)?;
     f.write_str(".")
 }

@@ -7,7 +7,7 @@ ghost use Rattle.domain_names.specs.Name.{wire_of, lowered, IsSame, same_name, I
 ghost use Rattle.domain_names.specs.Name.{last_labels, parent_of, canonical_cmp, common_labels, Name};
 ghost use Rattle.domain_names.specs.Wire.{labels_of, IsWire};
 
-use crate::{DottedName, Labels, ParsedName, wire};
+use crate::{DottedName, Labels, ParsedName, part, wire};
 use domain_octets::{AppendError, OctetsBuilder, OutOfMemory, TryClone};
 use std::alloc::Global;
 use std::cmp::Ordering;
@@ -137,7 +137,7 @@ pub trait ToName: TryClone {
         Self: Sized,
         ensures { result ≡ canonical_cmp (labels self.now) (N.labels other.now) }
     {
-        self.compare(other).order
+        part::canonical_cmp(self.as_wire(), other.as_wire())
     }
 
     /// The order of the names' wire forms, octet by octet.
@@ -170,7 +170,7 @@ pub trait ToName: TryClone {
         ensures value { result ≡ is_at_or_below (labels self.now) (N.labels base.now) }
         ensures below { IsTrue result ↔ IsAtOrBelow (labels self.now) (N.labels base.now) }
     {
-        wire::is_at_or_below(self.as_wire(), base.as_wire())
+        part::is_at_or_below(self.as_wire(), base.as_wire())
     }
 
     /// How many labels the names share, from the root on, but for the case of letters. The root is
@@ -191,7 +191,7 @@ pub trait ToName: TryClone {
         ensures order { result.order ≡ canonical_cmp (labels self.now) (N.labels other.now) }
         ensures common { result.common ≡ common_labels (labels self.now) (N.labels other.now) }
     {
-        wire::compare(self.as_wire(), other.as_wire())
+        part::compare(self.as_wire(), other.as_wire())
     }
 
     /// Writes the name's wire form with A to Z lowered to the front of a buffer (RFC 4034, section

@@ -3,7 +3,7 @@ ghost use Rattle.std.specs.Prelude.{◌≡◌, ◌<◌, ◌≤◌, ◌∷◌, []
 ghost use Rattle.std.specs.Prelude.{IsTrue, IfOk, IfErr, OnOk, ◌++◌, ◌↔◌, fold};
 ghost use Rattle.std.specs.{Char.to_ascii_lowercase, Ordering.nat_cmp, Cmp.Lexicographic.slice_cmp};
 ghost use Rattle.std.specs.Hash as fed;
-ghost use Rattle.domain_names.specs.Name.{wire_of, lowered, IsSame, same_name, IsAtOrBelow, is_at_or_below};
+ghost use Rattle.domain_names.specs.Name.{wire_of, lowered, IsSame, same_name};
 ghost use Rattle.domain_names.specs.{Name.{canonical_cmp, common_labels}, Wire.{labels_of, IsWire}};
 ghost use Rattle.domain_names.specs.Wire.{BeginsWithName, NameFault, WholeNameFault, fault_of, name_fault_of};
 
@@ -89,7 +89,7 @@ pub(crate) fn lowered_octets_cmp(a: &[u8], b: &[u8]) -> Ordering
 /// taken that has as many as the other. Both are walked from the leaf on, up to where they are the
 /// same: of the labels that differ those nearest the root decide, and all above these are shared.
 #[tactic(auto, using(crate::proofs::OrderLemmas::comparing_steps))]
-pub fn compare(a: &[u8], b: &[u8]) -> Comparison
+pub(crate) fn compare_from_leaf(a: &[u8], b: &[u8]) -> Comparison
     requires a { IsWire a.now }
     requires b { IsWire b.now }
     ensures order { result.order ≡ canonical_cmp (labels_of a.now) (labels_of b.now) }
@@ -127,18 +127,6 @@ pub fn is_same(a: &[u8], b: &[u8]) -> bool
     ensures same { IsTrue result ↔ IsSame (labels_of a.now) (labels_of b.now) }
 {
     a == b || a.eq_ignore_ascii_case(b)
-}
-
-/// Whether a name is at or below another. Its end that has no more labels than the other decides.
-#[tactic(auto, using(crate::proofs::OrderLemmas::below_steps))]
-pub fn is_at_or_below(name: &[u8], above: &[u8]) -> bool
-    requires name { IsWire name.now }
-    requires above { IsWire above.now }
-    ensures value { result ≡ is_at_or_below (labels_of name.now) (labels_of above.now) }
-    ensures below { IsTrue result ↔ IsAtOrBelow (labels_of name.now) (labels_of above.now) }
-{
-    let more = count_labels(name).saturating_sub(count_labels(above));
-    is_same(above, skip_labels(name, more))
 }
 
 /// Feeds the lowered octets.

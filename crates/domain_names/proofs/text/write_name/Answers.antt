@@ -1,6 +1,5 @@
-use Rattle.std.proofs.{Common.arith, lemmas.Grind.common_steps}
-use Rattle.domain_names.{specs.Wire.labels_of, proofs.TextLemmas.behind_dot}
+use Rattle.domain_names.proofs.TextLemmas.{ascii_within}
 use Rattle.domain_names.proofs.text.write_name.Goals as goal
 
 pub from_utf8_unchecked-requires : goal.from_utf8_unchecked-requires
-from_utf8_unchecked-requires g c = behind_dot (labels_of c.args.name.now) c.as_slice.result.now _ c.requires.valid (grind (arith, common_steps))
+from_utf8_unchecked-requires g c = ascii_within c.in-Some.text.now _ 1 c.in-Some.ensures.ascii

@@ -1,6 +1,6 @@
 use Rattle.std.proofs.Common.{length}
 use Rattle.domain_names.{specs.Wire.{labels_of, IsWire}, proofs.OrderLemmas.Compared}
-use Rattle.domain_names.proofs.wire.compare.Given as goal
+use Rattle.domain_names.proofs.wire.compare_from_leaf.Given as goal
 
 abbrev pub invariant-labels : goal.invariant-labels
 invariant-labels l = record {

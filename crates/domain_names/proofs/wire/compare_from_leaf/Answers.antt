@@ -1,6 +1,6 @@
 use Rattle.std.proofs.{Common.arith, lemmas.Grind.common_steps}
 use Rattle.domain_names.{specs.Wire.labels_of, proofs.{OrderLemmas.{compared_begins, compared_goes, compared_ends, same_octets}, WireLemmas.few_labels}}
-use Rattle.domain_names.proofs.wire.compare.Goals as goal
+use Rattle.domain_names.proofs.wire.compare_from_leaf.Goals as goal
 
 pub labels-init : goal.labels-init
 labels-init c = grind (arith, common_steps, (compared_begins (labels_of c.args.a.now) (labels_of c.args.b.now)), few_labels)

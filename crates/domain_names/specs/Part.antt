@@ -1,0 +1,37 @@
+-- Where two names part.
+use Rattle.std.specs.Prelude.{◌≡◌, ◌≤◌, ◌-◌, ◌∷◌, ◌++◌, ℕ, length, drop, map, Option, None, Some}
+use Rattle.std.specs.{declared.cmp.Ordering.{Ordering, TheVariants.{Less, Equal, Greater}}, Ordering.nat_cmp, Char.to_ascii_lowercase}
+use Rattle.std.specs.{Cmp.Lexicographic.slice_cmp}
+use Rattle.domain_octets.specs.Octets.{Octets}
+use Rattle.domain_names.specs.Name.{Name, Label}
+
+-- the name ends in the shared labels, and right below them has this label or none
+abbrev pub EndsIn : Name → Option Label → Name → Type 0
+EndsIn name None shared = name ≡ shared
+EndsIn name (Some label) shared = (front : Name) × (name ≡ front ++ label ∷ shared)
+
+-- two names end in labels that they share octet for octet, and right below these have those labels
+pub record Part (xs ys : Name) (x y : Option Label) (shared : Name) : Type 0 where
+  pub left : EndsIn xs x shared
+  pub right : EndsIn ys y shared
+
+-- an order that is one, and none for a tie
+abbrev pub unless_tied : Ordering → Option Ordering
+unless_tied Less = Some Less
+unless_tied Equal = None
+unless_tied Greater = Some Greater
+
+-- what the labels right below the shared ones decide, unless they differ in case alone; a name
+-- without such a label comes first
+abbrev pub order_below : Option Label → Option Label → Option Ordering
+order_below None None = Some Equal
+order_below None (Some y) = Some Less
+order_below (Some x) None = Some Greater
+order_below (Some x) (Some y) =
+    unless_tied (slice_cmp nat_cmp (map to_ascii_lowercase x) (map to_ascii_lowercase y))
+
+-- both have so many octets, and the last so many of both are the same
+pub record EndAlike (a b : Octets) (count : ℕ) : Type 0 where
+  pub in_left : count ≤ length a
+  pub in_right : count ≤ length b
+  pub same : drop (length a - count) a ≡ drop (length b - count) b
