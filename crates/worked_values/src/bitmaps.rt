@@ -99,7 +99,7 @@ fn add<B: Truncate>(builder: &mut RtypeBitmapBuilder<B>, added: &[Rtype], answer
 
 /// Types that are added to builders, and types that are then asked for.
 fn of_types(form: &str, words: &[&str], answers: &mut Answers) -> Answered {
-    let (added, asked) = input::halves(words, "/");
+    let (added, asked) = halves(words, "/");
     let (added, asked) = (types(added, answers)?, types(asked, answers)?);
     match form {
         "types" => built::<Vec<u8>>(&added, &asked, answers),

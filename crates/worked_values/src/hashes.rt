@@ -122,7 +122,7 @@ fn of_octets(form: &str, first: &[u8], second: &[u8], answers: &mut Answers) -> 
 
 /// Answers a vector on salts and hashes; `room` is for one octet, for 255 and for 256.
 pub fn answer(form: &str, words: &[&str], answers: &mut Answers) -> Answered {
-    let text = input::word(words, 0);
+    let text = word(words, 0);
     match form {
         "salt" => salt(text, answers),
         "hash" => hash(text, answers),

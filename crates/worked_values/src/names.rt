@@ -59,7 +59,7 @@ fn held(name: &OwnName, answers: &mut Answers) -> Answered {
 fn room(name: &OwnName, words: &[&str], answers: &mut Answers) -> Answered {
     let mut target = ArrayBuilder::<11>::empty(answers.alloc);
     let taken = answers.spelled(words.get(2..).unwrap_or_default())?;
-    let short = Name::<ArrayBuilder<4>>::from_str(answers.alloc, input::word(words, 0));
+    let short = Name::<ArrayBuilder<4>>::from_str(answers.alloc, word(words, 0));
     say!(
         answers, debug "taken": target.append_slice(taken.as_slice()),
         debug "canonical": name.compose_canonical(&mut target), octets "target": target,
@@ -96,8 +96,8 @@ fn sort(words: &[&str], answers: &mut Answers) -> Answered {
 
 /// Answers a vector on a name that a text spells.
 fn of_text(form: &str, words: &[&str], answers: &mut Answers) -> Answered {
-    let name = &answers.name(input::word(words, 0))?;
-    let second = input::word(words, 1);
+    let name = &answers.name(word(words, 0))?;
+    let second = word(words, 1);
     match form {
         "room" => room(name, words, answers),
         "compare" => compare(name, second, answers),

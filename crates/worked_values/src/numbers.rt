@@ -48,7 +48,7 @@ fn named(form: &str, words: &[&str], answers: &mut Answers) -> Answered {
 
 /// The octets that one token, or all, stand for in an alphabet, and why they stand for no two.
 fn convert(words: &[&str], answers: &mut Answers) -> Answered {
-    let (alloc, (_, codec)) = (answers.alloc, split_codec(input::word(words, 0)));
+    let (alloc, (_, codec)) = (answers.alloc, split_codec(word(words, 0)));
     let tokens = words.get(1..).unwrap_or_default();
     let mut scanner = Tokens::new(tokens);
     say!(
@@ -142,7 +142,7 @@ fn near(stamp: &str, reference: &str, answers: &mut Answers) -> Answered {
 
 /// Answers a vector on values of tokens, on tokens as octets, or on serial numbers and times.
 pub fn answer(form: &str, words: &[&str], answers: &mut Answers) -> Answered {
-    let (first, second) = (input::word(words, 0), input::word(words, 1));
+    let (first, second) = (word(words, 0), word(words, 1));
     match form {
         "types" | "classes" => named(form, words, answers),
         "serial" => serial(first, answers),

@@ -43,7 +43,7 @@ fn tight(rtype: &str, tokens: &[&str], answers: &mut Answers) -> Answered {
 
 /// What is written of data where there is room for so many octets: a beginning, or all of it.
 fn room(words: &[&str], answers: &mut Answers) -> Answered {
-    let count = input::word(words, 0).parse::<usize>().unwrap_or(0);
+    let count = word(words, 0).parse::<usize>().unwrap_or(0);
     let data = answers.data(words.get(1..).unwrap_or_default())?;
     let taken = [0; 64];
     let taken = taken.get(count..).unwrap_or_default();
@@ -76,7 +76,7 @@ fn compare_same(a: &Data, b: &Data, answers: &mut Answers) -> Answered {
 
 /// How the data that two parts spell compare, as data of any type and of their own.
 fn compare(words: &[&str], answers: &mut Answers) -> Answered {
-    let (front, back) = input::halves(words, "/");
+    let (front, back) = halves(words, "/");
     let (a, b) = (answers.data(front)?, answers.data(back)?);
     answers.debug("canonical_cmp", &a.canonical_cmp(&b));
     compare_same(&a, &b, answers)
@@ -344,7 +344,7 @@ fn of_data(form: &str, data: &Data, answers: &mut Answers) -> Answered {
 
 /// Answers a vector on data that words spell.
 pub fn answer(form: &str, words: &[&str], answers: &mut Answers) -> Answered {
-    let (first, rest) = (input::word(words, 0), words.get(1..).unwrap_or_default());
+    let (first, rest) = (word(words, 0), words.get(1..).unwrap_or_default());
     match form {
         "tight" => tight(first, rest, answers),
         "generic" => generic(words, answers),

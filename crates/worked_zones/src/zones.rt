@@ -1,7 +1,5 @@
 //! Records and sorted sets of them, in order, as text, in other holders, and in groups by owner and
 //! by type (RFC 2181, section 5; RFC 4034, section 6).
-ghost use Rattle.std.specs.Prelude.{false};
-
 use super::*;
 
 /// What a sorted set answers when each record is put in, and what stands then.
@@ -30,9 +28,9 @@ fn change(form: &str, asked: &[&str], zone: &mut Zone, answers: &mut Answers) ->
         zone.update_data(is_marked, answers.data(asked)?);
         return Some(());
     }
-    let name = answers.name(input::word(asked, 0))?;
-    let class = input::value::<Class>(input::word(asked, 1));
-    let rtype = input::value::<Rtype>(input::word(asked, 2));
+    let name = answers.name(word(asked, 0))?;
+    let class = value::<Class>(word(asked, 1));
+    let rtype = value::<Rtype>(word(asked, 2));
     let removed = match form {
         "remove-all" => zone.remove_all_by_name_class_rtype(&name, class, rtype),
         _ => zone.remove_first_by_name_class_rtype(&name, class, rtype),
@@ -118,7 +116,7 @@ fn show(label: &str, found: Found<'_>, answers: &mut Answers) -> Answered {
 
 /// The SOA records of a zone, and the records of an owner and some types.
 fn find(zone: &Zone, asked: &[&str], answers: &mut Answers) -> Answered {
-    let owner = answers.name(input::word(asked, 0))?;
+    let owner = answers.name(word(asked, 0))?;
     show("SOA", zone.find_soa(), answers);
     for word in asked.get(1..).unwrap_or_default() {
         let rtype = given!(answers, Rtype::from_token(word));
@@ -159,7 +157,7 @@ fn grouped<'a>(
 
 /// The groups by owner from the apex on, and those of the whole zone.
 fn owners(zone: &Zone, asked: &[&str], answers: &mut Answers) -> Answered {
-    let apex = answers.name(input::word(asked, 0))?;
+    let apex = answers.name(word(asked, 0))?;
     for group in &grouped(zone, &apex, answers)? {
         owner(group, &apex, answers);
     }
@@ -200,24 +198,10 @@ fn set(words: &[&str], answers: &mut Answers) -> Answered {
     }
 }
 
-/// Never has the memory to sort.
-pub struct RefusingSorter;
-
-impl Sorter for RefusingSorter {
-    ghost is_stable = { false };
-
-    fn sort_by<T, F: Fn(&T, &T) -> Ordering>(
-        _records: &mut Vec<T>,
-        _compare: F,
-    ) -> Result<(), OutOfMemory> {
-        Err(OutOfMemory)
-    }
-}
-
 /// A sorted set of the first record that words spell, into which all of them are put at once; by
 /// the usual sorter these are then counted.
 fn extended<S: Sorter>(form: &str, words: &[&str], answers: &mut Answers) -> Answered {
-    let (first, _) = input::halves(words, "/");
+    let (first, _) = halves(words, "/");
     let (first, more) = (answers.record(first)?, answers.records(words)?);
     let mut zone: SortedRecords<OwnName, Data, S> = SortedRecords::new(answers.alloc);
     answers.show("first", &zone.insert(first).is_ok());
@@ -231,7 +215,7 @@ fn extended<S: Sorter>(form: &str, words: &[&str], answers: &mut Answers) -> Ans
 
 /// Answers a vector on a sorted set, and on what is asked of it.
 fn of_zone(form: &str, words: &[&str], answers: &mut Answers) -> Answered {
-    let (asked, rest) = input::halves(words, "/");
+    let (asked, rest) = halves(words, "/");
     let mut zone = answers.zone(rest)?;
     match form {
         "find" => find(&zone, asked, answers),

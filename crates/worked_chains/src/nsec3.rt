@@ -82,7 +82,7 @@ impl<H: Nsec3Hasher> Hashing<'_, H> {
 
     /// The records that a chain lends: all, or those that answer questions; or why there is none.
     fn lent(&self, form: &str, words: &[&str], answers: &mut Answers) -> Answered {
-        let (listed, asked) = input::halves(words, ":");
+        let (listed, asked) = halves(words, ":");
         let zone = answers.zone(listed)?;
         let groups = zone.owner_rrs();
         if !groups.is_one_class() {
@@ -102,8 +102,8 @@ impl<H: Nsec3Hasher> Hashing<'_, H> {
     fn ask(&self, form: &str, chain: &Made, words: &[&str], answers: &mut Answers) -> Answered {
         let (alloc, apex, hasher, most) = (answers.alloc, self.0, self.2, MOST_ITERATIONS);
         if form == "expanded" {
-            let name = answers.name(input::word(words, 0))?;
-            let labels = input::word(words, 1).parse::<usize>().unwrap_or(0);
+            let name = answers.name(word(words, 0))?;
+            let labels = word(words, 1).parse::<usize>().unwrap_or(0);
             let answer = judge_nsec3_expansion(alloc, apex, chain, &name, labels, most, hasher);
             return answers.debug_made("answer", &answer);
         }
@@ -119,7 +119,7 @@ impl<H: Nsec3Hasher> Hashing<'_, H> {
 
     /// What records prove, or what they answer as a whole, of each name.
     fn judge(&self, form: &str, words: &[&str], answers: &mut Answers) -> Answered {
-        let (listed, asked) = input::halves(words, ":");
+        let (listed, asked) = halves(words, ":");
         let nsec3s = records_of!(answers, Nsec3, listed);
         let owner = answers.ok(self.0.clone())?;
         let params = answers.ok(self.1.params.clone())?;
@@ -134,7 +134,7 @@ impl<H: Nsec3Hasher> Hashing<'_, H> {
     /// Answers a vector.
     fn answer(&self, form: &str, words: &[&str], answers: &mut Answers) -> Answered {
         match form {
-            "owner" => self.owner(input::word(words, 0), answers),
+            "owner" => self.owner(word(words, 0), answers),
             "any" => self.of_any_order(words, answers),
             "borrowed" | "deny" | "denyout" => self.lent(form, words, answers),
             "verdict" | "judge" | "expanded" => self.judge(form, words, answers),
@@ -168,11 +168,11 @@ fn config(form: &str, iterations: u16, salt: &str, answers: &mut Answers) -> Giv
 /// Answers a vector on chains by hashes: a form, the apex, a table of names and hashes, or `sha1`
 /// with iterations and a salt, after a colon the records or the name, and after another questions.
 pub fn answer(form: &str, words: &[&str], answers: &mut Answers) -> Answered {
-    let apex = &answers.name(input::word(words, 0))?;
-    let (hashing, given) = input::halves(words.get(1..).unwrap_or_default(), ":");
-    let (first, salt) = (input::word(hashing, 0), input::word(hashing, 2));
+    let apex = &answers.name(word(words, 0))?;
+    let (hashing, given) = halves(words.get(1..).unwrap_or_default(), ":");
+    let (first, salt) = (word(hashing, 0), word(hashing, 2));
     if first == "sha1" {
-        let iterations = input::word(hashing, 1).parse::<u16>().unwrap_or(0);
+        let iterations = word(hashing, 1).parse::<u16>().unwrap_or(0);
         let config = &config(form, iterations, salt, answers)?;
         return Hashing(apex, config, &Sha1Hasher).answer(form, given, answers);
     }
