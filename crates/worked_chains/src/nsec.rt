@@ -72,7 +72,17 @@ fn judge(form: &str, apex: &OwnName, words: &[&str], answers: &mut Answers) -> A
     for words in asked.split(is_slash) {
         let (name, rtype) = answers.question(words)?;
         match form {
-            "verdict" => answers.debug("verdict", &check_nsec(apex, &chain, &name, rtype)),
+            "verdict" => {
+                let verdict = check_nsec(apex, &chain, &name, rtype);
+                let mut check = NsecCheck::new(apex, &name, rtype);
+                for record in &chain {
+                    check.add(record);
+                }
+                if check.verdict() != verdict {
+                    answers.debug("one by one", &check.verdict());
+                }
+                answers.debug("verdict", &verdict)
+            }
             _ => answers.debug("answer", &judge_nsec(apex, &chain, &name, rtype)),
         };
     }

@@ -6,7 +6,7 @@ mod data;
 
 use bytes::Bytes;
 use domain_base::*;
-use domain_bitmap::{OwnerHash, RtypeBitmap as Bitmap};
+use domain_bitmap::{Nsec3Salt, OwnerHash, RtypeBitmap as Bitmap};
 use domain_keys::{Dnskey, Ds};
 use domain_octets::*;
 use domain_plain::{A, Mx, Ns, Soa, UnknownRecordData};

@@ -22,6 +22,14 @@ fn parse(octets: &[u8], answers: &mut Answers) -> Answered {
     Some(())
 }
 
+/// The name without its first label, which the root has not.
+fn parent(name: &OwnName, answers: &mut Answers) -> Answered {
+    match name.as_parsed().parent() {
+        Some(parent) => answers.show("parent", &parent),
+        None => answers.echo("  no parent"),
+    }
+}
+
 /// How a name and one that a text spells, and that is then borrowed, compare.
 fn compare(a: &OwnName, text: &str, answers: &mut Answers) -> Answered {
     let b = answers.name(text)?;
@@ -103,6 +111,7 @@ fn of_text(form: &str, words: &[&str], answers: &mut Answers) -> Answered {
         "compare" => compare(name, second, answers),
         "find" => find(name, second, answers),
         "held" => held(name, answers),
+        "parent" => parent(name, answers),
         "size" => {
             say!(answers, show "length": name.compose_len(), show "labels": name.labels().count());
             answers.characters(name)

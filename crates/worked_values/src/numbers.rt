@@ -60,6 +60,28 @@ fn convert(words: &[&str], answers: &mut Answers) -> Answered {
     )
 }
 
+/// What a scanner has behind the first token, and the builder that it makes.
+fn skip(words: &[&str], answers: &mut Answers) -> Answered {
+    let mut scanner = Tokens::new(words);
+    scanner.skip_token();
+    say!(
+        answers, debug "next": scanner.first_token(),
+        octets "builder": scanner.octets_builder(answers.alloc)
+    )
+}
+
+/// So many seconds, minutes and hours as TTLs, each in seconds, and the algorithm of the number.
+fn counted(text: &str, answers: &mut Answers) -> Answered {
+    let count = text.parse::<u8>().unwrap_or(0);
+    let wide = u16::from(count);
+    say!(
+        answers, show "seconds": Ttl::from_secs(u32::from(count)).as_secs(),
+        show "minutes": Ttl::from_mins(wide).as_secs(),
+        show "hours": Ttl::from_hours(wide).as_secs(),
+        show "algorithm": SecurityAlgorithm::from_int(count)
+    )
+}
+
 /// Answers with the value of the first token, as the function of the form reads it.
 macro_rules! scan {
     ($form:ident, $scanner:ident, $answers:ident: $($name:pat => $scan:expr),*) => {
@@ -147,6 +169,8 @@ pub fn answer(form: &str, words: &[&str], answers: &mut Answers) -> Answered {
         "types" | "classes" => named(form, words, answers),
         "serial" => serial(first, answers),
         "convert" => convert(words, answers),
+        "skip" => skip(words, answers),
+        "counted" => counted(first, answers),
         "measure" => {
             let mut scanner = Tokens::new(words);
             say!(

@@ -53,6 +53,70 @@ fn copy(words: &[&str], answers: &mut Answers) -> Answered {
     answers.show_records(copy.as_slice())
 }
 
+/// Copies of sorted records of any type.
+fn copy_all(zone: &Zone, answers: &mut Answers) -> Answered {
+    let copy = answers.ok(zone.clone())?;
+    answers.show_records(copy.as_slice())
+}
+
+/// A record that gets other data, in place.
+fn with_data(words: &[&str], answers: &mut Answers) -> Answered {
+    let (record, data) = halves(words, "/");
+    let (mut record, data) = (answers.record(record)?, answers.data(data)?);
+    *record.data_mut() = data;
+    answers.show("record", &record)
+}
+
+/// The first two values, and how many come first and after the first one.
+fn parts(all: &SliceRefsOrOwned<'_, OwnedRecord>, answers: &mut Answers) -> Answered {
+    if all.len() < 2 {
+        return answers.echo("  fewer than two");
+    }
+    say!(
+        answers, show "first": all.at(0), show "second": all.at(1),
+        show "in front": all.front(1).len(), show "behind": all.back(1).len()
+    )
+}
+
+/// Records, and references to them, as slices and as groups by owner.
+fn slices(words: &[&str], answers: &mut Answers) -> Answered {
+    let records = answers.records(words)?;
+    let mut references = Vec::new(answers.alloc);
+    for record in &records {
+        answers.own(references.push(record))?;
+    }
+    parts(&SliceRefsOrOwned::new_from_owned(&records), answers);
+    parts(&SliceRefsOrOwned::new_from_refs(&references), answers);
+    let groups = RecordsIter::new(SliceRefsOrOwned::new_from_refs(&references));
+    say!(
+        answers, show "owners": RecordsIter::new_from_owned(&records).count(),
+        show "owners of references": groups.count()
+    )
+}
+
+/// What the SOA of the apex gives to a chain, and the first owners that are not occluded.
+fn unoccluded(zone: &Zone, asked: &[&str], answers: &mut Answers) -> Answered {
+    let apex = answers.name(word(asked, 0))?;
+    let groups = zone.owner_rrs();
+    if let Some(soa) = find_soa(&apex, groups.records()) {
+        answers.show("TTL of the chain", &soa.chain_ttl());
+    }
+    if !groups.is_in_order() {
+        return answers.echo("  not in order");
+    }
+    let mut owners = UnoccludedOwners::new(&apex, groups, false, false);
+    for _ in 0..4 {
+        match owners.next() {
+            Some(owner) => say!(
+                answers, show "owner": owner.name, show "zone cut": owner.is_zone_cut,
+                show "unsigned": owner.is_unsigned_cut()
+            ),
+            None => answers.echo("  no further owner"),
+        };
+    }
+    Some(())
+}
+
 /// A record of a zone's start.
 type Start<O> = Record<Name<O>, Soa<Name<O>>>;
 
@@ -220,6 +284,7 @@ fn of_zone(form: &str, words: &[&str], answers: &mut Answers) -> Answered {
     match form {
         "find" => find(&zone, asked, answers),
         "groups" => owners(&zone, asked, answers),
+        "unoccluded" => unoccluded(&zone, asked, answers),
         _ => {
             change(form, asked, &mut zone, answers)?;
             answers.show_records(zone.as_slice())
@@ -235,6 +300,12 @@ pub fn answer(form: &str, words: &[&str], answers: &mut Answers) -> Answered {
         "refuse" => extended::<RefusingSorter>(form, words, answers),
         "insert" => insert(words, answers),
         "copy" => copy(words, answers),
+        "copy-all" => copy_all(&answers.zone(words)?, answers),
+        "with-data" => with_data(words, answers),
+        "slices" => slices(words, answers),
+        "inserted" => kept::inserted(words, answers),
+        "extended" => kept::extended(words, answers),
+        "made" => kept::of_all(words, answers),
         "held" => held(words, answers),
         "set" => set(words, answers),
         "write" => write(&answers.zone(words)?, answers),
