@@ -97,9 +97,15 @@ fn add<B: Truncate>(builder: &mut RtypeBitmapBuilder<B>, added: &[Rtype], answer
     }
 }
 
+/// A builder without types, and the bitmap that it makes.
+fn without_types(answers: &mut Answers) -> Answered {
+    let builder = RtypeBitmapBuilder::<Vec<u8>>::default(answers.alloc);
+    show(&builder.finalize(), &[], answers)
+}
+
 /// Types that are added to builders, and types that are then asked for.
 fn of_types(form: &str, words: &[&str], answers: &mut Answers) -> Answered {
-    let (added, asked) = input::halves(words, "/");
+    let (added, asked) = halves(words, "/");
     let (added, asked) = (types(added, answers)?, types(asked, answers)?);
     match form {
         "types" => built::<Vec<u8>>(&added, &asked, answers),
@@ -130,6 +136,7 @@ pub fn answer(form: &str, words: &[&str], answers: &mut Answers) -> Answered {
             say_methods!(answers, a.(eq_to cmp_to canonical_cmp_to)(&b))
         }
         "windows" => windows(answers),
+        "default" => without_types(answers),
         "scan" => scan(words, answers),
         "errors" => say!(
             answers, show "text": RtypeBitmapError::ShortInput,

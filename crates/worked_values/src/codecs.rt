@@ -55,7 +55,7 @@ pub fn split_codec(word: &str) -> (&str, Codec) {
 
 /// Answers a vector on octets as text.
 pub fn answer(form: &str, words: &[&str], answers: &mut Answers) -> Answered {
-    let (alloc, text) = (answers.alloc, input::word(words, 0));
+    let (alloc, text) = (answers.alloc, word(words, 0));
     let (form, codec) = split_codec(form);
     match form {
         "encode" => encode(answers.spelled(words)?.as_slice(), answers),

@@ -113,6 +113,7 @@ fn of_octets(form: &str, first: &[u8], second: &[u8], answers: &mut Answers) -> 
             held(first, answers);
             let copy = answers.ok(Bytes::copy_from_slice(answers.alloc, first))?;
             let again = answers.ok(copy.clone())?;
+            say!(answers, octets_made "borrowed": Nsec3Salt::from_octets(first));
             let salt = answers.ok(Nsec3Salt::from_bytes(copy))?;
             let hash = answers.ok(OwnerHash::from_bytes(again))?;
             say!(answers, octets "salt": salt.into_octets(), octets "hash": hash.into_octets())
@@ -122,7 +123,7 @@ fn of_octets(form: &str, first: &[u8], second: &[u8], answers: &mut Answers) -> 
 
 /// Answers a vector on salts and hashes; `room` is for one octet, for 255 and for 256.
 pub fn answer(form: &str, words: &[&str], answers: &mut Answers) -> Answered {
-    let text = input::word(words, 0);
+    let text = word(words, 0);
     match form {
         "salt" => salt(text, answers),
         "hash" => hash(text, answers),
@@ -136,7 +137,9 @@ pub fn answer(form: &str, words: &[&str], answers: &mut Answers) -> Answered {
         "errors" => say!(
             answers, show "text": Nsec3SaltError, show "text": OwnerHashError,
             show "text": Nsec3SaltFromStrError::DecodeError(DecodeError::ShortInput),
-            show "empty": Nsec3Salt::<Vec<u8>>::empty(answers.alloc)
+            show "empty": Nsec3Salt::<Vec<u8>>::empty(answers.alloc),
+            show_made "zone file": Nsec3Salt::<Vec<u8>>::empty(answers.alloc)
+                .display_zonefile(answers.alloc, DisplayKind::Simple)
         ),
         _ => {
             let (first, second) = answers.two_parts(words)?;

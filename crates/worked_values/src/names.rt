@@ -22,6 +22,14 @@ fn parse(octets: &[u8], answers: &mut Answers) -> Answered {
     Some(())
 }
 
+/// The name without its first label, which the root has not.
+fn parent(name: &OwnName, answers: &mut Answers) -> Answered {
+    match name.as_parsed().parent() {
+        Some(parent) => answers.show("parent", &parent),
+        None => answers.echo("  no parent"),
+    }
+}
+
 /// How a name and one that a text spells, and that is then borrowed, compare.
 fn compare(a: &OwnName, text: &str, answers: &mut Answers) -> Answered {
     let b = answers.name(text)?;
@@ -59,7 +67,7 @@ fn held(name: &OwnName, answers: &mut Answers) -> Answered {
 fn room(name: &OwnName, words: &[&str], answers: &mut Answers) -> Answered {
     let mut target = ArrayBuilder::<11>::empty(answers.alloc);
     let taken = answers.spelled(words.get(2..).unwrap_or_default())?;
-    let short = Name::<ArrayBuilder<4>>::from_str(answers.alloc, input::word(words, 0));
+    let short = Name::<ArrayBuilder<4>>::from_str(answers.alloc, word(words, 0));
     say!(
         answers, debug "taken": target.append_slice(taken.as_slice()),
         debug "canonical": name.compose_canonical(&mut target), octets "target": target,
@@ -96,13 +104,14 @@ fn sort(words: &[&str], answers: &mut Answers) -> Answered {
 
 /// Answers a vector on a name that a text spells.
 fn of_text(form: &str, words: &[&str], answers: &mut Answers) -> Answered {
-    let name = &answers.name(input::word(words, 0))?;
-    let second = input::word(words, 1);
+    let name = &answers.name(word(words, 0))?;
+    let second = word(words, 1);
     match form {
         "room" => room(name, words, answers),
         "compare" => compare(name, second, answers),
         "find" => find(name, second, answers),
         "held" => held(name, answers),
+        "parent" => parent(name, answers),
         "size" => {
             say!(answers, show "length": name.compose_len(), show "labels": name.labels().count());
             answers.characters(name)

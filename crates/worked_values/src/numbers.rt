@@ -48,7 +48,7 @@ fn named(form: &str, words: &[&str], answers: &mut Answers) -> Answered {
 
 /// The octets that one token, or all, stand for in an alphabet, and why they stand for no two.
 fn convert(words: &[&str], answers: &mut Answers) -> Answered {
-    let (alloc, (_, codec)) = (answers.alloc, split_codec(input::word(words, 0)));
+    let (alloc, (_, codec)) = (answers.alloc, split_codec(word(words, 0)));
     let tokens = words.get(1..).unwrap_or_default();
     let mut scanner = Tokens::new(tokens);
     say!(
@@ -57,6 +57,28 @@ fn convert(words: &[&str], answers: &mut Answers) -> Answered {
         debug "entry": Tokens::new(tokens).convert_entry(alloc, codec),
         fault "token into ArrayBuilder<2>": Short::<2>::new(tokens).convert_token(alloc, codec),
         fault "entry into ArrayBuilder<2>": Short::<2>::new(tokens).convert_entry(alloc, codec)
+    )
+}
+
+/// What a scanner has behind the first token, and the builder that it makes.
+fn skip(words: &[&str], answers: &mut Answers) -> Answered {
+    let mut scanner = Tokens::new(words);
+    scanner.skip_token();
+    say!(
+        answers, debug "next": scanner.first_token(),
+        octets "builder": scanner.octets_builder(answers.alloc)
+    )
+}
+
+/// So many seconds, minutes and hours as TTLs, each in seconds, and the algorithm of the number.
+fn counted(text: &str, answers: &mut Answers) -> Answered {
+    let count = text.parse::<u8>().unwrap_or(0);
+    let wide = u16::from(count);
+    say!(
+        answers, show "seconds": Ttl::from_secs(u32::from(count)).as_secs(),
+        show "minutes": Ttl::from_mins(wide).as_secs(),
+        show "hours": Ttl::from_hours(wide).as_secs(),
+        show "algorithm": SecurityAlgorithm::from_int(count)
     )
 }
 
@@ -142,11 +164,13 @@ fn near(stamp: &str, reference: &str, answers: &mut Answers) -> Answered {
 
 /// Answers a vector on values of tokens, on tokens as octets, or on serial numbers and times.
 pub fn answer(form: &str, words: &[&str], answers: &mut Answers) -> Answered {
-    let (first, second) = (input::word(words, 0), input::word(words, 1));
+    let (first, second) = (word(words, 0), word(words, 1));
     match form {
         "types" | "classes" => named(form, words, answers),
         "serial" => serial(first, answers),
         "convert" => convert(words, answers),
+        "skip" => skip(words, answers),
+        "counted" => counted(first, answers),
         "measure" => {
             let mut scanner = Tokens::new(words);
             say!(

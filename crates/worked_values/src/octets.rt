@@ -66,11 +66,28 @@ fn held(octets: &[u8], answers: &mut Answers) -> Answered {
     )
 }
 
+/// What is left of octets behind the first, for a parser that stands there and for one that has
+/// gone past two more; and an own copy of them.
+fn left(octets: &[u8], answers: &mut Answers) -> Answered {
+    let mut parser = Parser::new(octets);
+    answers.debug("u8", &parser.parse_u8());
+    let mut ahead = parser.fork();
+    if ahead.remaining() >= 2 {
+        ahead.advance(2);
+    }
+    say!(
+        answers, octets "left": parser.peek_all(), show "at": parser.pos(),
+        octets "left ahead": ahead.peek_all(), show "at": ahead.pos(),
+        octets_made "copy": SmallOctets::from_slice(answers.alloc, octets)
+    )
+}
+
 /// Answers a vector on octets: joined or written over by each builder, held, read, or none.
 pub fn answer(form: &str, words: &[&str], answers: &mut Answers) -> Answered {
     let (alloc, (front, back)) = (answers.alloc, answers.two_parts(words)?);
     match form {
         "held" => held(front.as_slice(), answers),
+        "left" => left(front.as_slice(), answers),
         "parse" => {
             let mut parser = Parser::new(front.as_slice());
             say!(

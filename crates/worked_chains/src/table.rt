@@ -1,6 +1,6 @@
 //! A hasher that looks names up in a table.
 ghost use Rattle.std.specs.Prelude.{◌≡◌, ℕ, Ok, Err, IfOk, IsErrOf};
-ghost use Rattle.worked_values.specs.Table.{table_answer};
+ghost use Rattle.worked_chains.specs.Table.{table_answer};
 
 use super::*;
 

@@ -11,6 +11,9 @@ type Chain<'a> = Nsec3Chain<'a, Vec<u8>>;
 /// How the chains here are made.
 type Config = GenerateNsec3Config<Vec<u8>, DefaultSorter>;
 
+/// How denial is made.
+type Denial = DenialConfig<Vec<u8>, DefaultSorter>;
+
 /// The greatest number of iterations that answers are asked for with.
 const MOST_ITERATIONS: u16 = 12;
 
@@ -19,6 +22,36 @@ fn show(made: Result<Made, ChainError>, answers: &mut Answers) -> Answered {
     let made = answers.ok(made)?;
     answers.show_records(made.nsec3s.as_slice());
     answers.show("record", &made.nsec3param)
+}
+
+/// Whether a copy of how denial is made is equal to it.
+fn copied(label: &str, of: &Denial, answers: &mut Answers) -> Answered {
+    match of.clone() {
+        Ok(copy) => answers.show(label, &(copy == *of)),
+        Err(error) => answers.debug(label, &error),
+    }
+}
+
+/// Whether the places of an answer's records are those that are picked, each once.
+fn are_places(denial: &Nsec3Denial) -> bool {
+    let (first, second, third) = (
+        denial.of_encloser,
+        denial.of_next_closer,
+        denial.of_wildcard,
+    );
+    let is_new = third != first && third != second;
+    let second = if second == first { None } else { second };
+    denial.places() == [first, second, if is_new { third } else { None }]
+}
+
+/// The hash of each record of a chain, the name that it makes, and none past the last.
+fn hashes(chain: &Chain<'_>, answers: &mut Answers) {
+    for place in 0..=chain.len() {
+        answers.octets("hash", &chain.hash_at(place).unwrap_or_default());
+        if let Some(record) = chain.lend(place) {
+            answers.show_made("owner", &record.owner().make::<OwnName>(answers.alloc));
+        }
+    }
 }
 
 /// What the chain of a zone is made by: its apex, what is asked of the generator, and a hasher.
@@ -39,6 +72,48 @@ impl<H: Nsec3Hasher> Hashing<'_, H> {
             self.2,
         );
         answers.show_made("owner", &owner)
+    }
+
+    /// Why there is no chain and no owner of a record, each by its own error.
+    fn faults(&self, words: &[&str], answers: &mut Answers) -> Answered {
+        let (alloc, zone) = (answers.alloc, answers.zone(words)?);
+        let groups = zone.owner_rrs();
+        if groups.is_one_class() {
+            let made: Result<Made, SigningError> = generate_nsec3s(
+                alloc, self.0, groups, self.1, self.2,
+            );
+            answers.fault("SigningError", &made);
+        }
+        for record in zone.as_slice() {
+            self.owner_fault(record.owner(), answers);
+        }
+        Some(())
+    }
+
+    /// Why the NSEC3 record of a name has no owner.
+    fn owner_fault(&self, name: &OwnName, answers: &mut Answers) -> Answered {
+        let params = &self.1.params;
+        let owner: Result<OwnName, Nsec3HashError> = mk_hashed_nsec3_owner_name(
+            answers.alloc,
+            name,
+            params.hash_algorithm(),
+            params.iterations(),
+            params.salt(),
+            self.0,
+            self.2,
+        );
+        answers.fault("Nsec3HashError", &owner)
+    }
+
+    /// Whether copies of how denial is made are equal to it.
+    fn copies(&self, answers: &mut Answers) -> Answered {
+        copied("already present", &Denial::AlreadyPresent, answers);
+        copied("NSEC", &Denial::default(), answers);
+        copied(
+            "NSEC3",
+            &Denial::Nsec3(answers.ok(self.1.clone())?),
+            answers,
+        )
     }
 
     /// The chain of records in any order, or why they have none.
@@ -71,6 +146,9 @@ impl<H: Nsec3Hasher> Hashing<'_, H> {
             let denial = deny_nsec3(answers.alloc, chain, &name, rtype, self.2);
             if let Some(denial) = answers.ok(denial) {
                 answers.debug("answer", &denial.answer);
+                if !are_places(&denial) {
+                    answers.debug("other places", &denial.places());
+                }
                 say_owners!(
                     answers, chain, denial: "closest encloser": of_encloser,
                     "next closer name": of_next_closer, "wildcard": of_wildcard
@@ -82,7 +160,7 @@ impl<H: Nsec3Hasher> Hashing<'_, H> {
 
     /// The records that a chain lends: all, or those that answer questions; or why there is none.
     fn lent(&self, form: &str, words: &[&str], answers: &mut Answers) -> Answered {
-        let (listed, asked) = input::halves(words, ":");
+        let (listed, asked) = halves(words, ":");
         let zone = answers.zone(listed)?;
         let groups = zone.owner_rrs();
         if !groups.is_one_class() {
@@ -90,10 +168,13 @@ impl<H: Nsec3Hasher> Hashing<'_, H> {
         }
         let made = Nsec3Chain::generate(answers.alloc, self.0, groups, self.1, self.2);
         let chain = answers.ok(made.map_err(ChainError::from))?;
-        if form != "borrowed" {
+        if form == "deny" || form == "denyout" {
             return self.deny(&chain, asked, answers);
         }
         say_lent!(answers, chain);
+        if form == "hashes" {
+            hashes(&chain, answers);
+        }
         answers.show("record", chain.nsec3param())
     }
 
@@ -102,8 +183,8 @@ impl<H: Nsec3Hasher> Hashing<'_, H> {
     fn ask(&self, form: &str, chain: &Made, words: &[&str], answers: &mut Answers) -> Answered {
         let (alloc, apex, hasher, most) = (answers.alloc, self.0, self.2, MOST_ITERATIONS);
         if form == "expanded" {
-            let name = answers.name(input::word(words, 0))?;
-            let labels = input::word(words, 1).parse::<usize>().unwrap_or(0);
+            let name = answers.name(word(words, 0))?;
+            let labels = word(words, 1).parse::<usize>().unwrap_or(0);
             let answer = judge_nsec3_expansion(alloc, apex, chain, &name, labels, most, hasher);
             return answers.debug_made("answer", &answer);
         }
@@ -119,7 +200,7 @@ impl<H: Nsec3Hasher> Hashing<'_, H> {
 
     /// What records prove, or what they answer as a whole, of each name.
     fn judge(&self, form: &str, words: &[&str], answers: &mut Answers) -> Answered {
-        let (listed, asked) = input::halves(words, ":");
+        let (listed, asked) = halves(words, ":");
         let nsec3s = records_of!(answers, Nsec3, listed);
         let owner = answers.ok(self.0.clone())?;
         let params = answers.ok(self.1.params.clone())?;
@@ -134,9 +215,11 @@ impl<H: Nsec3Hasher> Hashing<'_, H> {
     /// Answers a vector.
     fn answer(&self, form: &str, words: &[&str], answers: &mut Answers) -> Answered {
         match form {
-            "owner" => self.owner(input::word(words, 0), answers),
+            "owner" => self.owner(word(words, 0), answers),
+            "faults" => self.faults(words, answers),
+            "copies" => self.copies(answers),
             "any" => self.of_any_order(words, answers),
-            "borrowed" | "deny" | "denyout" => self.lent(form, words, answers),
+            "borrowed" | "hashes" | "deny" | "denyout" => self.lent(form, words, answers),
             "verdict" | "judge" | "expanded" => self.judge(form, words, answers),
             _ => self.made(form, words, answers),
         }
@@ -161,6 +244,7 @@ fn config(form: &str, iterations: u16, salt: &str, answers: &mut Answers) -> Giv
         "dname" => config.with_occlude_below_dname(),
         "fixed" => config.with_ttl_mode(Nsec3ParamTtlMode::fixed(Ttl::from_secs(60))),
         "minimum" => config.with_ttl_mode(Nsec3ParamTtlMode::soa_minimum()),
+        "soa" => config.with_ttl_mode(Nsec3ParamTtlMode::soa()),
         _ => config,
     })
 }
@@ -168,11 +252,11 @@ fn config(form: &str, iterations: u16, salt: &str, answers: &mut Answers) -> Giv
 /// Answers a vector on chains by hashes: a form, the apex, a table of names and hashes, or `sha1`
 /// with iterations and a salt, after a colon the records or the name, and after another questions.
 pub fn answer(form: &str, words: &[&str], answers: &mut Answers) -> Answered {
-    let apex = &answers.name(input::word(words, 0))?;
-    let (hashing, given) = input::halves(words.get(1..).unwrap_or_default(), ":");
-    let (first, salt) = (input::word(hashing, 0), input::word(hashing, 2));
+    let apex = &answers.name(word(words, 0))?;
+    let (hashing, given) = halves(words.get(1..).unwrap_or_default(), ":");
+    let (first, salt) = (word(hashing, 0), word(hashing, 2));
     if first == "sha1" {
-        let iterations = input::word(hashing, 1).parse::<u16>().unwrap_or(0);
+        let iterations = word(hashing, 1).parse::<u16>().unwrap_or(0);
         let config = &config(form, iterations, salt, answers)?;
         return Hashing(apex, config, &Sha1Hasher).answer(form, given, answers);
     }

@@ -1,8 +1,22 @@
-//! The words of a vector, and what they stand for: octets, names, data, records and sorted sets.
-use super::*;
+//! What the words of a vector spell: octets, names, data and records.
+use crate::answers::{Answers, Given};
+use crate::given;
+use crate::words::{halves, is_slash, word};
+use domain_base::{Class, FromToken, IterScanner, Name, Rtype, ScanError, Scanner, Ttl};
+use domain_codecs::Codec;
+use domain_octets::{ArrayBuilder, TryClone};
+use domain_rdata::ZoneRecordData;
+use domain_record::Record;
+use domain_records::SortedRecords;
+
+/// A name in octets of its own.
+pub type OwnName = Name<Vec<u8>>;
 
 /// Tokens of an entry.
 pub type Tokens<'a> = IterScanner<'a, Vec<u8>>;
+
+/// Tokens of an entry whose octets have room for so many.
+pub type Short<'a, const N: usize> = IterScanner<'a, ArrayBuilder<N>>;
 
 /// Data of any type in octets of its own.
 pub type Data = ZoneRecordData<Vec<u8>, OwnName>;
@@ -15,41 +29,6 @@ pub type OwnedRecord = Typed<Data>;
 
 /// A sorted set of records.
 pub type Zone = SortedRecords<OwnName, Data>;
-
-/// A word with what it abbreviates: `''` is the empty word, and `a.{127}` is `a.` 127 times over.
-pub fn expanded(alloc: Global, word: &str) -> Result<String, AllocError> {
-    if word == "''" {
-        return Ok(String::new(alloc));
-    }
-    let (repeated, count) = word.split_once('{').unwrap_or((word, "1"));
-    match count.trim_end_matches('}').parse::<usize>() {
-        Ok(count) if count <= 70_000 => repeated.repeat(alloc, count),
-        _ => String::from_str(alloc, word),
-    }
-}
-
-/// The word that stands at a place, or the empty word.
-pub fn word<'a>(words: &[&'a str], at: usize) -> &'a str {
-    words.get(at).copied().unwrap_or_default()
-}
-
-/// The value that a word spells, if it spells one.
-pub fn value<F: FromToken + Drop>(word: &str) -> Option<F> {
-    F::from_token(word).ok()
-}
-
-/// Whether a word stands between two parts.
-pub fn is_slash(word: &&str) -> bool {
-    *word == "/"
-}
-
-/// The words before the first that is a mark, and all after it.
-pub fn halves<'a, 'b>(words: &'a [&'b str], mark: &str) -> (&'a [&'b str], &'a [&'b str]) {
-    match words.iter().position(|word| *word == mark) {
-        Some(at) => (&words[..at], words.get(at + 1..).unwrap_or_default()),
-        None => (words, Default::default()),
-    }
-}
 
 /// What words stand for; where they do not, the error ends the answer.
 impl Answers {
@@ -105,7 +84,7 @@ impl Answers {
         }
         for tokens in words.split(is_slash) {
             let record = self.record(tokens)?;
-            self.ok(records.push(record))?;
+            self.own(records.push(record))?;
         }
         Some(records)
     }

@@ -48,7 +48,7 @@ fn deny(apex: &OwnName, chain: &Chain<'_>, asked: &[&str], answers: &mut Answers
 
 /// The records that the chain of a zone lends: all, or those that answer questions.
 fn lent(form: &str, apex: &OwnName, words: &[&str], answers: &mut Answers) -> Answered {
-    let (listed, asked) = input::halves(words, ":");
+    let (listed, asked) = halves(words, ":");
     let zone = answers.zone(listed)?;
     let groups = zone.owner_rrs();
     if !groups.is_one_class() {
@@ -67,12 +67,22 @@ fn lent(form: &str, apex: &OwnName, words: &[&str], answers: &mut Answers) -> An
 
 /// What NSEC records prove of each name and type, or what they answer as a whole.
 fn judge(form: &str, apex: &OwnName, words: &[&str], answers: &mut Answers) -> Answered {
-    let (listed, asked) = input::halves(words, ":");
+    let (listed, asked) = halves(words, ":");
     let chain = records_of!(answers, Nsec, listed);
     for words in asked.split(is_slash) {
         let (name, rtype) = answers.question(words)?;
         match form {
-            "verdict" => answers.debug("verdict", &check_nsec(apex, &chain, &name, rtype)),
+            "verdict" => {
+                let verdict = check_nsec(apex, &chain, &name, rtype);
+                let mut check = NsecCheck::new(apex, &name, rtype);
+                for record in &chain {
+                    check.add(record);
+                }
+                if check.verdict() != verdict {
+                    answers.debug("one by one", &check.verdict());
+                }
+                answers.debug("verdict", &verdict)
+            }
             _ => answers.debug("answer", &judge_nsec(apex, &chain, &name, rtype)),
         };
     }
@@ -82,7 +92,7 @@ fn judge(form: &str, apex: &OwnName, words: &[&str], answers: &mut Answers) -> A
 /// Answers a vector on chains: a form, the apex, after a colon records, and after another, where
 /// something is asked, names with types, with `/` between them.
 pub fn answer(form: &str, words: &[&str], answers: &mut Answers) -> Answered {
-    let apex = &answers.name(input::word(words, 0))?;
+    let apex = &answers.name(word(words, 0))?;
     let words = words.get(2..).unwrap_or_default();
     match form {
         "any" => {

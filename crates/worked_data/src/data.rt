@@ -43,7 +43,7 @@ fn tight(rtype: &str, tokens: &[&str], answers: &mut Answers) -> Answered {
 
 /// What is written of data where there is room for so many octets: a beginning, or all of it.
 fn room(words: &[&str], answers: &mut Answers) -> Answered {
-    let count = input::word(words, 0).parse::<usize>().unwrap_or(0);
+    let count = word(words, 0).parse::<usize>().unwrap_or(0);
     let data = answers.data(words.get(1..).unwrap_or_default())?;
     let taken = [0; 64];
     let taken = taken.get(count..).unwrap_or_default();
@@ -76,7 +76,7 @@ fn compare_same(a: &Data, b: &Data, answers: &mut Answers) -> Answered {
 
 /// How the data that two parts spell compare, as data of any type and of their own.
 fn compare(words: &[&str], answers: &mut Answers) -> Answered {
-    let (front, back) = input::halves(words, "/");
+    let (front, back) = halves(words, "/");
     let (a, b) = (answers.data(front)?, answers.data(back)?);
     answers.debug("canonical_cmp", &a.canonical_cmp(&b));
     compare_same(&a, &b, answers)
@@ -130,6 +130,16 @@ fn limit(rtype: &str, octets: &[u8], answers: &mut Answers) -> Answered {
     }
 }
 
+/// Data made anew of the fields of a record that hashes, over lent octets.
+fn new_hashed(data: &Nsec3<Vec<u8>>, answers: &mut Answers) -> Answered {
+    let salt = answers.ok(Nsec3Salt::from_slice(data.salt().as_slice()))?;
+    let next = answers.ok(OwnerHash::from_slice(data.next_owner().as_slice()))?;
+    let types = answers.ok(Bitmap::from_octets(data.types().as_slice()))?;
+    let (flags, iterations) = (data.flags(), data.iterations());
+    let new = Nsec3::new(data.hash_algorithm(), flags, iterations, salt, next, types);
+    answers.show("new", &new)
+}
+
 /// Data with a next hash that is another, and then without types.
 fn changed(mut data: Nsec3<Vec<u8>>, answers: &mut Answers) -> Answered {
     data.set_next_owner(answers.ok(OwnerHash::from_str(answers.alloc, "CPNMUOG0"))?);
@@ -146,7 +156,12 @@ fn fields_of_key(data: &Dnskey<Vec<u8>>, answers: &mut Answers) -> Answered {
         answers, show "flags": flags, show "protocol": protocol, show "algorithm": algorithm,
         octets "public key": octets,
         show_made "new": Dnskey::new(flags, protocol, algorithm, octets)
-    )
+    );
+    if Dnskey::new(flags, protocol, algorithm, octets).is_ok() {
+        let new = Dnskey::new_unchecked(flags, protocol, algorithm, octets);
+        answers.show("unchecked", &new);
+    }
+    Some(())
 }
 
 /// The fields of a digest, and the data made anew of them.
@@ -156,7 +171,53 @@ fn fields_of_digest(data: &Ds<Vec<u8>>, answers: &mut Answers) -> Answered {
     say!(
         answers, show "key tag": tag, show "algorithm": algorithm, show "digest type": digest_type,
         octets "digest": octets, show_made "new": Ds::new(tag, algorithm, digest_type, octets)
-    )
+    );
+    if Ds::new(tag, algorithm, digest_type, octets).is_ok() {
+        let new = Ds::new_unchecked(tag, algorithm, digest_type, octets);
+        answers.show("unchecked", &new);
+    }
+    Some(())
+}
+
+/// A signature, with its signer's name in the same holder.
+type Signature<O> = Rrsig<O, Name<O>>;
+
+/// A signature made anew of its fields, over lent octets, where it is known that it fits.
+fn unchecked_signature(data: &Signature<Vec<u8>>, answers: &mut Answers) -> Answered {
+    let (rtype, algorithm, labels) = (data.type_covered(), data.algorithm(), data.labels());
+    let (ttl, key_tag, octets) = (
+        data.original_ttl(),
+        data.key_tag(),
+        data.signature().as_slice(),
+    );
+    let (expiration, inception) = (data.expiration(), data.inception());
+    let name = data.signer_name();
+    let new = Rrsig::new(
+        rtype,
+        algorithm,
+        labels,
+        ttl,
+        expiration,
+        inception,
+        key_tag,
+        name.as_parsed(),
+        octets,
+    );
+    if new.is_ok() {
+        let new = Rrsig::new_unchecked(
+            rtype,
+            algorithm,
+            labels,
+            ttl,
+            expiration,
+            inception,
+            key_tag,
+            name.as_parsed(),
+            octets,
+        );
+        answers.show("unchecked", &new);
+    }
+    Some(())
 }
 
 /// The fields of data.
@@ -179,17 +240,21 @@ fn fields(data: &Data, answers: &mut Answers) -> Answered {
                 "labels": labels, "original TTL": original_ttl, "expiration": expiration,
                 "inception": inception, "key tag": key_tag, "signer": signer_name
             );
-            answers.octets("signature", data.signature())
+            answers.octets("signature", data.signature());
+            unchecked_signature(data, answers)
         }
         ZoneRecordData::Nsec(data) => {
             say_fields!(answers, data, "next name": next_name, "types": types);
-            answers.octets("their octets", data.types().as_octets())
+            answers.octets("their octets", data.types().as_octets());
+            let types = answers.ok(Bitmap::from_octets(data.types().as_slice()))?;
+            answers.show("new", &Nsec::new(data.next_name().as_parsed(), types))
         }
         ZoneRecordData::Nsec3(data) => {
             say_fields!(
                 answers, data, "algorithm": hash_algorithm, "flags": flags,
                 "iterations": iterations, "salt": salt, "next hash": next_owner, "types": types
             );
+            new_hashed(data, answers);
             changed(answers.ok(data.clone())?, answers)
         }
         ZoneRecordData::Nsec3param(data) => say_fields!(
@@ -199,9 +264,6 @@ fn fields(data: &Data, answers: &mut Answers) -> Answered {
         ZoneRecordData::Unknown(data) => answers.octets("octets", data.data()),
     }
 }
-
-/// A signature, with its signer's name in the same holder.
-type Signature<O> = Rrsig<O, Name<O>>;
 
 /// Data for programmers, and as a zone file shows it.
 fn pieces<D: Debug + ZonefileFmt>(data: &D, answers: &mut Answers) -> Answered {
@@ -323,12 +385,29 @@ fn typed(data: &Data, answers: &mut Answers) -> Answered {
     }
 }
 
+/// Two copies of data.
+fn copies(data: &Data, answers: &mut Answers) -> Answered {
+    say!(answers, show_made "clone": data.clone(), show_made "try_clone": data.try_clone())
+}
+
+/// What is composed of a signature, and of its fields that are signed.
+fn composed(data: &Data, answers: &mut Answers) -> Answered {
+    let ZoneRecordData::Rrsig(data) = data else {
+        return None;
+    };
+    let mut octets = Vec::new(answers.alloc);
+    say!(answers, debug "composed": data.compose_rdata(&mut octets), octets "octets": octets);
+    signed(data, answers)
+}
+
 /// Answers a vector on the data that all its words spell.
 fn of_data(form: &str, data: &Data, answers: &mut Answers) -> Answered {
     match form {
         "typed" => typed(data, answers),
         "made" => fields(data, answers),
         "text" => forms(data, answers),
+        "copy" => copies(data, answers),
+        "composed" => composed(data, answers),
         "size" => {
             let mut octets = Vec::new(answers.alloc);
             answers.debug("composed", &data.compose_rdata(&mut octets));
@@ -344,7 +423,7 @@ fn of_data(form: &str, data: &Data, answers: &mut Answers) -> Answered {
 
 /// Answers a vector on data that words spell.
 pub fn answer(form: &str, words: &[&str], answers: &mut Answers) -> Answered {
-    let (first, rest) = (input::word(words, 0), words.get(1..).unwrap_or_default());
+    let (first, rest) = (word(words, 0), words.get(1..).unwrap_or_default());
     match form {
         "tight" => tight(first, rest, answers),
         "generic" => generic(words, answers),

@@ -1,7 +1,7 @@
 -- What a hasher answers that looks names up in a table.
 use Rattle.std.specs.{Prelude.{ℕ, List, [], ◌∷◌, nat_eq, Result, Ok, Err, if◌then◌else◌}, Cmp.Lexicographic.pointwise}
 use Rattle.domain_octets.specs.Octets.{Octets}
-use Rattle.worked_values.specs.declared.table.Row.{Row}
+use Rattle.worked_chains.specs.declared.table.Row.{Row}
 
 -- the hash of a row, or the number of its refusal
 abbrev pub row_answer : Row → Result Octets ℕ

@@ -1,7 +1,5 @@
 //! Records and sorted sets of them, in order, as text, in other holders, and in groups by owner and
 //! by type (RFC 2181, section 5; RFC 4034, section 6).
-ghost use Rattle.std.specs.Prelude.{false};
-
 use super::*;
 
 /// What a sorted set answers when each record is put in, and what stands then.
@@ -30,9 +28,9 @@ fn change(form: &str, asked: &[&str], zone: &mut Zone, answers: &mut Answers) ->
         zone.update_data(is_marked, answers.data(asked)?);
         return Some(());
     }
-    let name = answers.name(input::word(asked, 0))?;
-    let class = input::value::<Class>(input::word(asked, 1));
-    let rtype = input::value::<Rtype>(input::word(asked, 2));
+    let name = answers.name(word(asked, 0))?;
+    let class = value::<Class>(word(asked, 1));
+    let rtype = value::<Rtype>(word(asked, 2));
     let removed = match form {
         "remove-all" => zone.remove_all_by_name_class_rtype(&name, class, rtype),
         _ => zone.remove_first_by_name_class_rtype(&name, class, rtype),
@@ -53,6 +51,70 @@ fn copy(words: &[&str], answers: &mut Answers) -> Answered {
     let zone = answers.ok(made)?;
     let copy = answers.ok(zone.clone())?;
     answers.show_records(copy.as_slice())
+}
+
+/// Copies of sorted records of any type.
+fn copy_all(zone: &Zone, answers: &mut Answers) -> Answered {
+    let copy = answers.ok(zone.clone())?;
+    answers.show_records(copy.as_slice())
+}
+
+/// A record that gets other data, in place.
+fn with_data(words: &[&str], answers: &mut Answers) -> Answered {
+    let (record, data) = halves(words, "/");
+    let (mut record, data) = (answers.record(record)?, answers.data(data)?);
+    *record.data_mut() = data;
+    answers.show("record", &record)
+}
+
+/// The first two values, and how many come first and after the first one.
+fn parts(all: &SliceRefsOrOwned<'_, OwnedRecord>, answers: &mut Answers) -> Answered {
+    if all.len() < 2 {
+        return answers.echo("  fewer than two");
+    }
+    say!(
+        answers, show "first": all.at(0), show "second": all.at(1),
+        show "in front": all.front(1).len(), show "behind": all.back(1).len()
+    )
+}
+
+/// Records, and references to them, as slices and as groups by owner.
+fn slices(words: &[&str], answers: &mut Answers) -> Answered {
+    let records = answers.records(words)?;
+    let mut references = Vec::new(answers.alloc);
+    for record in &records {
+        answers.own(references.push(record))?;
+    }
+    parts(&SliceRefsOrOwned::new_from_owned(&records), answers);
+    parts(&SliceRefsOrOwned::new_from_refs(&references), answers);
+    let groups = RecordsIter::new(SliceRefsOrOwned::new_from_refs(&references));
+    say!(
+        answers, show "owners": RecordsIter::new_from_owned(&records).count(),
+        show "owners of references": groups.count()
+    )
+}
+
+/// What the SOA of the apex gives to a chain, and the first owners that are not occluded.
+fn unoccluded(zone: &Zone, asked: &[&str], answers: &mut Answers) -> Answered {
+    let apex = answers.name(word(asked, 0))?;
+    let groups = zone.owner_rrs();
+    if let Some(soa) = find_soa(&apex, groups.records()) {
+        answers.show("TTL of the chain", &soa.chain_ttl());
+    }
+    if !groups.is_in_order() {
+        return answers.echo("  not in order");
+    }
+    let mut owners = UnoccludedOwners::new(&apex, groups, false, false);
+    for _ in 0..4 {
+        match owners.next() {
+            Some(owner) => say!(
+                answers, show "owner": owner.name, show "zone cut": owner.is_zone_cut,
+                show "unsigned": owner.is_unsigned_cut()
+            ),
+            None => answers.echo("  no further owner"),
+        };
+    }
+    Some(())
 }
 
 /// A record of a zone's start.
@@ -118,7 +180,7 @@ fn show(label: &str, found: Found<'_>, answers: &mut Answers) -> Answered {
 
 /// The SOA records of a zone, and the records of an owner and some types.
 fn find(zone: &Zone, asked: &[&str], answers: &mut Answers) -> Answered {
-    let owner = answers.name(input::word(asked, 0))?;
+    let owner = answers.name(word(asked, 0))?;
     show("SOA", zone.find_soa(), answers);
     for word in asked.get(1..).unwrap_or_default() {
         let rtype = given!(answers, Rtype::from_token(word));
@@ -159,7 +221,7 @@ fn grouped<'a>(
 
 /// The groups by owner from the apex on, and those of the whole zone.
 fn owners(zone: &Zone, asked: &[&str], answers: &mut Answers) -> Answered {
-    let apex = answers.name(input::word(asked, 0))?;
+    let apex = answers.name(word(asked, 0))?;
     for group in &grouped(zone, &apex, answers)? {
         owner(group, &apex, answers);
     }
@@ -200,24 +262,10 @@ fn set(words: &[&str], answers: &mut Answers) -> Answered {
     }
 }
 
-/// Never has the memory to sort.
-pub struct RefusingSorter;
-
-impl Sorter for RefusingSorter {
-    ghost is_stable = { false };
-
-    fn sort_by<T, F: Fn(&T, &T) -> Ordering>(
-        _records: &mut Vec<T>,
-        _compare: F,
-    ) -> Result<(), OutOfMemory> {
-        Err(OutOfMemory)
-    }
-}
-
 /// A sorted set of the first record that words spell, into which all of them are put at once; by
 /// the usual sorter these are then counted.
 fn extended<S: Sorter>(form: &str, words: &[&str], answers: &mut Answers) -> Answered {
-    let (first, _) = input::halves(words, "/");
+    let (first, _) = halves(words, "/");
     let (first, more) = (answers.record(first)?, answers.records(words)?);
     let mut zone: SortedRecords<OwnName, Data, S> = SortedRecords::new(answers.alloc);
     answers.show("first", &zone.insert(first).is_ok());
@@ -231,11 +279,12 @@ fn extended<S: Sorter>(form: &str, words: &[&str], answers: &mut Answers) -> Ans
 
 /// Answers a vector on a sorted set, and on what is asked of it.
 fn of_zone(form: &str, words: &[&str], answers: &mut Answers) -> Answered {
-    let (asked, rest) = input::halves(words, "/");
+    let (asked, rest) = halves(words, "/");
     let mut zone = answers.zone(rest)?;
     match form {
         "find" => find(&zone, asked, answers),
         "groups" => owners(&zone, asked, answers),
+        "unoccluded" => unoccluded(&zone, asked, answers),
         _ => {
             change(form, asked, &mut zone, answers)?;
             answers.show_records(zone.as_slice())
@@ -251,6 +300,12 @@ pub fn answer(form: &str, words: &[&str], answers: &mut Answers) -> Answered {
         "refuse" => extended::<RefusingSorter>(form, words, answers),
         "insert" => insert(words, answers),
         "copy" => copy(words, answers),
+        "copy-all" => copy_all(&answers.zone(words)?, answers),
+        "with-data" => with_data(words, answers),
+        "slices" => slices(words, answers),
+        "inserted" => kept::inserted(words, answers),
+        "extended" => kept::extended(words, answers),
+        "made" => kept::of_all(words, answers),
         "held" => held(words, answers),
         "set" => set(words, answers),
         "write" => write(&answers.zone(words)?, answers),

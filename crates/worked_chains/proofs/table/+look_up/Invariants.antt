@@ -1,5 +1,5 @@
 use Rattle.std.proofs.Common.{length}
-use Rattle.worked_values.proofs.table.+look_up.Given as goal
+use Rattle.worked_chains.proofs.table.+look_up.Given as goal
 
 -- the table gets shorter
 abbrev pub decreases-look_up : goal.decreases-look_up

@@ -1,14 +1,13 @@
-//! The lines of the input, each with its answer below it, and what a vector is answered with.
-use super::*;
-
-/// A name in octets of its own.
-pub type OwnName = domain_base::Name<Vec<u8>>;
+//! What a vector is answered with.
+use crate::say_methods;
+use domain_base::CanonicalOrd;
+use domain_octets::*;
+use std::alloc::Global;
+use std::fmt::{Debug, Display, Formatter, Result as Printed, Write};
+use std::hash::{FoldHasher, Hash, Hasher};
 
 /// Room for two octets.
 pub type Two = ArrayBuilder<2>;
-
-/// Tokens of an entry whose octets have room for so many.
-pub type Short<'a, const N: usize> = IterScanner<'a, ArrayBuilder<N>>;
 
 /// What a vector has for its answer; None where that ends, and its last line says why.
 pub type Given<T> = Option<T>;
@@ -45,25 +44,45 @@ pub struct Answers {
     /// Where all that is made of a vector is put.
     pub alloc: Global,
     text: String,
-    is_whole: bool,
+    has_memory: bool,
 }
 
 impl Answers {
+    /// No lines yet.
+    pub fn new(alloc: Global) -> Answers {
+        Answers {
+            alloc,
+            text: String::new(alloc),
+            has_memory: true,
+        }
+    }
+
+    /// The lines, or none where the program had no memory for one of them.
+    pub fn text(&self) -> Option<&str> {
+        self.has_memory.then_some(self.text.as_str())
+    }
+
+    /// What the program itself made; where it has no memory for that, it prints no answer at all.
+    pub fn own<T: Drop, E: Drop>(&mut self, made: Result<T, E>) -> Given<T> {
+        self.has_memory &= made.is_ok();
+        made.ok()
+    }
+
     /// Adds a line as it stands.
     pub fn echo(&mut self, line: &str) -> Answered {
-        self.is_whole &= writeln!(self.text, "{line}").is_ok();
+        self.has_memory &= writeln!(self.text, "{line}").is_ok();
         Some(())
     }
 
     /// Adds a line with a label and a value as it prints.
     pub fn show<T: Display>(&mut self, label: &str, value: &T) -> Answered {
-        self.is_whole &= writeln!(self.text, "  {label}: {value}").is_ok();
+        self.has_memory &= writeln!(self.text, "  {label}: {value}").is_ok();
         Some(())
     }
 
     /// Adds a line with a label and a value as it prints for programmers.
     pub fn debug<T: Debug>(&mut self, label: &str, value: &T) -> Answered {
-        self.is_whole &= writeln!(self.text, "  {label}: {value:?}").is_ok();
+        self.has_memory &= writeln!(self.text, "  {label}: {value:?}").is_ok();
         Some(())
     }
 
@@ -133,7 +152,7 @@ impl Answers {
         self.debug(label, &made.as_ref().err())
     }
 
-    /// What was made; an error ends the answer.
+    /// What a call made; an error ends the answer.
     pub fn ok<T: Drop, E: Debug + Drop>(&mut self, made: Result<T, E>) -> Given<T> {
         match made {
             Ok(made) => Some(made),
@@ -166,38 +185,4 @@ where
     answers.show_made("Bytes", &converted::<D, B>(alloc, value));
     answers.show_made("ArrayBuilder<2>", &converted::<D, A>(alloc, value));
     answers.show_made("flattened", &flattened::<D, B>(alloc, value))
-}
-
-/// Answers a line that has words, or says why there is no answer.
-fn answer_line(line: &str, answers: &mut Answers) -> Answered {
-    let mut words = Vec::new(answers.alloc);
-    for word in line.split_whitespace() {
-        let word = answers.ok(input::expanded(answers.alloc, word))?;
-        answers.ok(words.push(word))?;
-    }
-    let mut borrowed = Vec::new(answers.alloc);
-    for word in &words {
-        answers.ok(borrowed.push(word.as_str()))?;
-    }
-    answer(borrowed.as_slice(), answers)
-}
-
-/// Reads all of the input, and prints its lines, each but a comment with its answer below it.
-pub fn run<R: Input + Print + AllocGlobal>(rt: &R) -> io::Result<()> {
-    let input = io::read_to_string(rt.alloc(), rt.reader())?;
-    let mut answers = Answers {
-        alloc: rt.alloc(),
-        text: String::new(rt.alloc()),
-        is_whole: true,
-    };
-    for line in input.lines() {
-        answers.echo(line);
-        if !line.starts_with("#") && !line.is_empty() {
-            answer_line(line, &mut answers);
-        }
-    }
-    if !answers.is_whole {
-        return Err(io::Error::from(io::ErrorKind::Other));
-    }
-    print!(rt; "{}", answers.text)
 }

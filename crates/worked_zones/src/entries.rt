@@ -1,0 +1,40 @@
+//! Entries of a zone's text, and names of messages (RFC 1035, sections 4.1.4 and 5.1).
+use super::*;
+
+/// The record that tokens spell, or the reason why they spell none.
+fn show(made: &Result<OwnedRecord, LineError>, answers: &mut Answers) -> Answered {
+    answers.show_made("record", made);
+    match made {
+        Ok(_) => Some(()),
+        Err(error) => answers.show("out of memory", &error.is_out_of_memory()),
+    }
+}
+
+/// The record whose owner is given, and whose other parts tokens spell.
+fn behind(owner: &str, tokens: &[&str], answers: &mut Answers) -> Answered {
+    let owner = answers.name(owner)?;
+    show(
+        &scan_behind_owner(answers.alloc, &mut Tokens::new(tokens), owner),
+        answers,
+    )
+}
+
+/// The name at a place of a message, and the place behind it.
+fn name(place: &str, octets: &[u8], answers: &mut Answers) -> Answered {
+    let place = place.parse::<usize>().unwrap_or(0);
+    match read_name::<OwnName>(answers.alloc, octets, place) {
+        Ok((name, end)) => say!(answers, show "name": name, show "end": end),
+        Err(error) => answers.debug("refused", &error),
+    }
+}
+
+/// Answers a vector on entries and names of messages.
+pub fn answer(form: &str, words: &[&str], answers: &mut Answers) -> Answered {
+    let (first, rest) = (word(words, 0), words.get(1..).unwrap_or_default());
+    match form {
+        "scan" => show(&scan_entry(answers.alloc, &mut Tokens::new(words)), answers),
+        "behind" => behind(first, rest, answers),
+        "none" => say!(answers, show "no entry": is_no_entry(first.as_bytes())),
+        _ => name(first, answers.spelled(rest)?.as_slice(), answers),
+    }
+}
