@@ -1,7 +1,9 @@
 -- Records in order: sorted sets as lists, and lists in the order of places.
-use Rattle.std.proofs.Common.{Bor, List, [], ◌∷◌, ap, is_lt, ◌≡◌, ℕ, ◌+◌, ◌<◌, ◌≤◌, Bool, false, not, ◌&&◌, ◌||◌, IsTrue, ◌-◌, ◌++◌, length, get_or, take, drop, Result, Ok, Err}
+use Rattle.std.proofs.Common.{Bor, List, [], ◌∷◌, ap, is_lt, ◌≡◌, ℕ, ◌+◌, ◌<◌, ◌≤◌, Bool, false, not, ◌&&◌, ◌||◌, IsTrue, ◌-◌, ◌++◌, length, get_or, take}
+use Rattle.std.proofs.Common.{drop, Result, Ok, Err}
 use Rattle.std.proofs.Common.{IfOk, IfErr, refl, sym, ◌∙◌, subst, arith, ◌↔◌, zero, suc, add-one, true, None, Some, inl, inr, below_more}
-use Rattle.std.proofs.lemmas.{Map.Keys.{Less-from_sorted, sorted_from_all_adjacent}, List.{take-append-drop, take_rest, get_or-take, get_or-drop, get_or_default}}
+use Rattle.std.proofs.lemmas.{Map.Keys.{Less-from_sorted, sorted_from_all_adjacent}}
+use Rattle.std.proofs.lemmas.{List.{take-append-drop, take_rest, get_or-take, get_or-drop, get_or_default}}
 use Rattle.std.proofs.lemmas.List.{length-take-le, length-drop, Filters.All-dedup, Elements.{All-contains_itself, AllZip-get_or, filter_agree}}
 use Rattle.std.proofs.lemmas.List.{Elements.{recursion_from_All, All-get_or, All-from_get_or}, Kept.{IsStrictlySortedBy-dedup, Any-dedup}}
 use Rattle.std.proofs.lemmas.List.{Quantifiers.all_pairs_remove, Sorted.{searchable_from_sorted, IsPermutation-insert, Contains-permutation, All-permutation}}
@@ -9,12 +11,14 @@ use Rattle.std.proofs.lemmas.List.{Sorted.{IsPermutation-swap, IsPermutation-tra
 use Rattle.std.proofs.lemmas.{List.{Sums.passes_at_first, Edits.{length-swap, swapped_from_swap}}, Grind.common_steps, Slice.Zip.AllZip-long, Bool.eqb-true}
 use Rattle.std.proofs.lemmas.{Bool.{eq-eqb, cases_Bool, cases_lt, cases_eq, Decides.nat_tests}, Option.{slice_get-get_or, slice_get_past}}
 use Rattle.std.specs.{declared.cmp.Ordering.{Ordering, TheVariants.{Less, Equal, Greater}}, Fn.{Mut, AlwaysReturns, ReturnsEach, ComparesAs}}
-use Rattle.std.specs.List.{AllAdjacentBelow, IsAllAdjacentAnswer, AllByRecursion, AllZip, slice_get, Contains, dedup, dedup_from, filter, find, remove, position_or_len, swap}
+use Rattle.std.specs.List.{AllAdjacentBelow, IsAllAdjacentAnswer, AllByRecursion, AllZip, slice_get, Contains, dedup, dedup_from, filter, find, remove}
+use Rattle.std.specs.List.{position_or_len, swap}
 use Rattle.std.specs.List.Sorted.{IsStrictlySortedBy, IsSorted, IsStable, IsPermutation, ties, IsSearchInRange, IsBinarySearchResult, IsNonDecreasingBy}
 use Rattle.std.specs.Cmp.{IsTotalOrder, IsEquivalence, eq_by_cmp_equiv, alike_right, tied_back, Equal-is, upto, tied_itself, nat_cmp_total, then_total}
 use Rattle.std.specs.{Cmp.on_total, Ordering.{eq_by_cmp, is_eq, ordering_index, ordering_reverse, ordering_then, nat_cmp, is_gt, is_le}}
 use Rattle.domain_records.specs.Order.{AnswersBy, Holds, GoesTo, IsSortedSetOf, IsSortOf, IsUnion, KeepsEarliest, first_equal, HoldsPairwise, IsOneClass}
-use Rattle.domain_records.specs.{Order.{MayFollow, IsInOrder, AreInOrder, AreAscending, AreDistinct, IsArranged, compared_places, AreRanks}, Groups.{may_follow, same_class, same_ttl}}
+use Rattle.domain_records.specs.{Order.{MayFollow, IsInOrder, AreInOrder, AreAscending, AreDistinct, IsArranged, compared_places, AreRanks}}
+use Rattle.domain_records.specs.{Groups.{may_follow, same_class, same_ttl}}
 use Rattle.domain_records.specs.Groups.{HoldsOfNeighbours}
 use Rattle.domain_names.specs.{Name.{IsSame, canonical_cmp, canonical_cmp_total}, Laws.{same_tied, tied_same}}
 use Rattle.domain_record.specs.{declared.record.Record.Record, Record.{record_cmp, IsRecordClone}}

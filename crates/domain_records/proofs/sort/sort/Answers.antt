@@ -1,6 +1,7 @@
 use Rattle.std.{proofs.{Common.{◌≡◌, ◌∙◌, ap, sym, length, refl}, lemmas.List.take_at}, specs.List.Sorted.IsPermutation}
 use Rattle.domain_record.specs.Record.{record_cmp, record_cmp_total}
-use Rattle.domain_records.{specs.{Order.{AreInOrder, AreRanks, IsArranged}, Places.AreKnown}, proofs.OrderLemmas.{arranged_sort, arranged_distinct, sorted_nil, first_of_none}}
+use Rattle.domain_records.{specs.{Order.{AreInOrder, AreRanks, IsArranged}, Places.AreKnown}}
+use Rattle.domain_records.{proofs.OrderLemmas.{arranged_sort, arranged_distinct, sorted_nil, first_of_none}}
 use Rattle.domain_records.proofs.sort.sort.Goals as goal
 
 pub returns-in_default-clause-distinct : goal.returns-in_default-clause-distinct
