@@ -1,8 +1,9 @@
 -- Names as text.
 use Rattle.std.proofs.Common.{arith, ℕ, zero, suc, ◌<◌, ◌≤◌, ◌≡◌, ◌∷◌, ◌++◌, [], List, refl, ap, subst, ◌∙◌, length, take, drop, length-append, ◌≢◌, get_or}
-use Rattle.std.proofs.{Common.{◌+◌, ◌-◌, slice_set, Option, Some, None, sym, inl, rules}, Math.Seq.set-append_seam}
-use Rattle.std.proofs.lemmas.List.{append_assoc, append-nil, length-drop, length-take-le, take_at, take_more}
-use Rattle.std.proofs.lemmas.{List.Elements.{All-head, All-tail}, Grind.common_steps, Str.{IsAscii-append, IsAscii-take, IsAscii-drop, IsUtf8-from_ascii}}
+use Rattle.std.proofs.{Common.{◌+◌, ◌-◌, slice_set, Option, Some, None, sym, inl, inr, ◌⊎◌}, Math.Seq.set-append_seam}
+use Rattle.std.proofs.lemmas.List.{append_assoc, append-nil, length-drop, length-take-le, take_more, drop_more}
+use Rattle.std.proofs.lemmas.{List.Elements.{All-head, All-tail, All-cons}, Str.{IsAscii-append, IsAscii-take, IsAscii-drop, IsUtf8-from_ascii}}
+use Rattle.std.proofs.lemmas.Grind.{common_steps}
 use Rattle.std.{proofs.lemmas.Str.Ascii.IsAscii-nil, specs.{List.{All, AllByRecursion as ByRecursion, AllByRecursion}, Str.{IsAscii, IsUtf8}, Prelude.IsSome}}
 use Rattle.std.specs.Prelude.{IfSome}
 use Rattle.domain_names.specs.Text.{octet_text, label_text, dotted_text, symbol_at, LabelText, ends, octet, HasNoLabel, HasNoLabelAfter, LabelTexts, IsBefore}
@@ -116,12 +117,6 @@ plain_symbol c text slash dot low high = grind (arith, common_steps)
 
 pub spelling_ends : (text rest done : List ℕ) → Spelling text rest done → symbol_at rest ≡ None → LabelText text done rest
 spelling_ends text rest done so_far none = rw append-nil at (so_far.onward [] rest (ends rest none))
-
--- a label that is spelled without escapes
-pub plain_label : (text label rest : List ℕ) (n : ℕ) → n ≤ length text
-    → ((k : ℕ) → k < n → symbol_at (drop k text) ≡ Some (get_or text k 0, 1)) → label ≡ take n text → rest ≡ drop n text
-    → symbol_at rest ≡ None → LabelText text label rest
-plain_label text label rest n within plain front back none = grind (arith, common_steps, spelling_ends, spelling_plain)
 
 pub no_label_by_length : (text rest done : List ℕ) (c used : ℕ) → Spelling text rest done → symbol_at rest ≡ Some (c, used)
     → 63 < length done + 1 → HasNoLabel text
@@ -250,45 +245,111 @@ name_is_valid text labels spelled = grind (arith, common_steps)
 
 -- ---- texts whose octets become names
 
--- labels that are read up to some place, each with its length before it; one octet stands between
--- them and the rest of the text
-pub record Measuring (text rest octets : List ℕ) : Type 0 where
-  pub wire : List ℕ
-  pub gap : ℕ
-  pub parts : octets ≡ wire ++ gap ∷ rest
-  pub naming : Naming text rest wire
-  pub size : length octets ≡ length text + 1
+-- the last octet of a text, if it is a dot, ends it
+pub before_last_dot : (text : List ℕ) (n : ℕ) → n + 1 ≡ length text → get_or text n 0 ≡ 46 → IsBefore [] (drop n text)
+before_last_dot text n last_one dot = inl (grind (arith, common_steps, (drop_more text n 0 (omega arith))))
 
-pub measuring_begins : (text octets : List ℕ) → (first : ℕ) × (octets ≡ first ∷ text) → Measuring text text octets
-measuring_begins text octets (first, is) = record {
-  wire = [];
-  gap = first;
-  parts = is;
-  naming = record {
-    onward = λ labels spelled. (labels, spelled, refl);
-    back = λ all spelled. (all, spelled, refl);
-  };
-  size = omega (arith, ap length is);
+-- what follows a label, from its dot on, and the octets of the labels there, each with its length before it
+abbrev IsRead : List ℕ → List ℕ → Type 0
+IsRead rest after =
+    (IsBefore [] rest × (after ≡ []))
+    ⊎ ((next : List ℕ) × (labels : Name) × (rest ≡ 46 ∷ next) × LabelTexts next labels × (after ++ 0 ∷ [] ≡ wire_of labels))
+
+-- labels that are read from the end of a text to some place, where the first of them may go on before it
+pub record Backward (text octets : List ℕ) (end start count : ℕ) : Type 0 where
+  pub first : ℕ
+  pub label : List ℕ
+  pub rest : List ℕ
+  pub after : List ℕ
+  pub within : start ≤ end
+  pub inside : end ≤ length text
+  pub parts : octets ≡ first ∷ (take start text ++ (label ++ after))
+  pub spelled : LabelText (drop start text) label rest
+  pub read : IsRead rest after
+  pub long : length label ≡ count
+  pub small : All (λ c. c < 256) label
+  pub size : length octets ≡ end + 1
+
+pub backward_begins : (text octets : List ℕ) (end : ℕ) → IsBefore [] (drop end text) → end ≤ length text
+    → (first : ℕ) × (octets ≡ first ∷ take end text) → Backward text octets end end 0
+backward_begins text octets end before within (first, is) = record {
+  first = first;
+  label = [];
+  rest = drop end text;
+  after = [];
+  within = omega arith;
+  inside = within;
+  parts = grind (arith, common_steps);
+  spelled = ends (drop end text) (before_stops [] _ before);
+  read = inl (before, refl);
+  long = refl;
+  small = λ i d below. absurd (omega (arith, below));
+  size = grind (arith, common_steps);
 }
 
--- one label more, with its length before it
-module _ {text rest octets : List ℕ} (so_far : Measuring text rest octets) (label after : List ℕ) (parted : rest ≡ label ++ after)
-    (read : symbol_at after ≡ None → LabelText rest label after) (valid : IsLabel label) where
-  abbrev measured : List ℕ
-  measured = slice_set octets (length text - length rest) (length label)
+-- one character more of a label
+pub backward_plain : (text octets : List ℕ) (end start next count c : ℕ) → Backward text octets end start count → next + 1 ≡ start
+    → c ≡ get_or text next 0 → c ≢ 92 → c ≢ 46 → 32 ≤ c → c ≤ 126 → Backward text octets end next (count + 1)
+backward_plain text octets end start next count c so_far is c_is slash dot low high =
+    let here : drop next text ≡ c ∷ drop start text = grind (arith, common_steps, (drop_more text next 0 (omega (arith, so_far.within, so_far.inside)))) in
+    record {
+      first = so_far.first;
+      label = c ∷ so_far.label;
+      rest = so_far.rest;
+      after = so_far.after;
+      within = omega (arith, so_far.within);
+      inside = so_far.inside;
+      parts = grind (arith, common_steps, (take_more text next 0 (omega (arith, so_far.within, so_far.inside))));
+      spelled = rw here (octet (c ∷ drop start text) so_far.label so_far.rest c 1 (plain_symbol c _ slash dot low high) so_far.spelled);
+      read = so_far.read;
+      long = omega (arith, so_far.long);
+      small = All-cons (λ d. d < 256) c so_far.label (omega (arith, high)) so_far.small;
+      size = so_far.size;
+    }
 
-  measured_is : measured ≡ (so_far.wire ++ length label ∷ label) ++ after
-  measured_is = grind (arith, common_steps, (set-append_seam so_far.wire so_far.gap rest (length label)))
+-- one label more before what is read, and its length before it
+label_read : (text label rest after : List ℕ) → LabelText text label rest → IsRead rest after → IsLabel label
+    → (labels : Name) × LabelTexts text labels × ((length label ∷ (label ++ after)) ++ 0 ∷ [] ≡ wire_of labels)
+label_read text label rest after spelled (inl (before, none)) valid = (label ∷ [], last text label rest spelled valid before, grind (arith, common_steps))
+label_read text label rest after spelled (inr (next, labels, is, others, wire)) valid =
+    (label ∷ labels, dotted text label next labels (subst (λ r. LabelText text label r) is spelled) valid others, grind (arith, common_steps))
 
-  pub measuring_goes : (next : List ℕ) → IsBefore next after → next ≢ [] → Measuring text next measured
-  measuring_goes next before some = let here = read (before_stops next after before) in grind (arith, common_steps, measured_is, naming_goes)
+module _ {text octets : List ℕ} {end start count : ℕ} (so_far : Backward text octets end start count) (some : 0 < count) (fits : count ≤ 63) where
+  label_valid : IsLabel so_far.label
+  label_valid = record { not_empty = omega (arith, some, so_far.long); fits = omega (arith, fits, so_far.long); octets = so_far.small }
 
-  pub measuring_ends : (next : List ℕ) → IsBefore next after → next ≡ []
-      → IsLabelsWire text (take (length text - length rest + 1 + length label) measured)
-  measuring_ends next before none =
-      let end : IsBefore [] after = subst (λ n. IsBefore n after) none before in
-      let here = read (before_stops [] after end) in
-      search (rules, length-append, measured_is, take_at, naming_ends)
+  here : (labels : Name) × LabelTexts (drop start text) labels × ((count ∷ (so_far.label ++ so_far.after)) ++ 0 ∷ [] ≡ wire_of labels)
+  here =
+      let found = label_read (drop start text) so_far.label so_far.rest so_far.after so_far.spelled so_far.read label_valid in
+      (found.0, found.1, ap (λ n. (n ∷ (so_far.label ++ so_far.after)) ++ 0 ∷ []) (sym so_far.long) ∙ found.2)
+
+  pub backward_dot : (next : ℕ) → next + 1 ≡ start → get_or text next 0 ≡ 46 → Backward text (slice_set octets start count) end next 0
+  backward_dot next is dot =
+      let inside : next < length text = omega (arith, so_far.within, so_far.inside, is) in
+      let at_dot : drop next text ≡ 46 ∷ drop start text = grind (arith, common_steps, (drop_more text next 0 inside)) in
+      let parted : octets ≡ (so_far.first ∷ take next text) ++ 46 ∷ (so_far.label ++ so_far.after) =
+      grind (arith, common_steps, (so_far.parts), (take_more text next 0 inside)) in
+      let place : length (so_far.first ∷ take next text) ≡ start = grind (arith, common_steps, (length-take-le next text (omega (arith, inside)))) in
+      record {
+        first = so_far.first;
+        label = [];
+        rest = drop next text;
+        after = count ∷ (so_far.label ++ so_far.after);
+        within = omega (arith, so_far.within, is);
+        inside = so_far.inside;
+        parts = rw (parted, ← place) (set-append_seam (so_far.first ∷ take next text) 46 (so_far.label ++ so_far.after) count);
+        spelled = ends (drop next text) (before_stops (drop start text) _ (inl at_dot));
+        read = inr (drop start text, here.0, at_dot, here.1, here.2);
+        long = refl;
+        small = λ i d below. absurd (omega (arith, below));
+        size = grind (arith, common_steps, (so_far.size));
+      }
+
+  pub backward_ends : start ≡ 0 → IsLabelsWire text (slice_set octets 0 count)
+  backward_ends is =
+      let whole : drop start text ≡ text = rw is refl in
+      let parted : octets ≡ so_far.first ∷ (so_far.label ++ so_far.after) = grind (arith, common_steps, (so_far.parts)) in
+      (here.0, subst (λ t. LabelTexts t here.0) whole here.1, ap (λ o. slice_set o 0 count ++ 0 ∷ []) parted ∙ here.2)
 
 pub ruleset naming_steps = (common_steps, after_label, naming_goes, naming_ends, no_label_left, wrong_after)
 
@@ -296,4 +357,4 @@ pub ruleset spelling_steps = (common_steps, spelling_goes, spelling_ends, no_lab
 
 pub ruleset named_steps = (common_steps, named_root, long_name, no_name)
 
-pub ruleset measuring_steps = (measuring_begins, measuring_goes)
+pub ruleset backward_steps = (common_steps, backward_begins, backward_plain, backward_dot, backward_ends)

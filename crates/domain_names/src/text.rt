@@ -133,43 +133,38 @@ fn read_labels(wire: &mut ArrayBuilder<MAX_NAME>, text: &[u8]) -> Option<()>
     }
 }
 
-/// Splits the label off a text that begins with as many plain characters as a label may have, and
-/// returns it and what follows it. The plain characters are the first label, unless an escape
-/// follows.
-#[tactic(auto, using(crate::proofs::TextLemmas::plain_label))]
-fn split_plain_label(text: &[u8]) -> Option<(&[u8], &[u8])>
-    ensures parts { IfSome result (λ p. text.now ≡ p.0.now ++ p.1.now) }
-    ensures label { IfSome result (λ p. symbol_at p.1.now ≡ None
-        → LabelText text.now p.0.now p.1.now) }
-    ensures valid { IfSome result (λ p. IsLabel p.0.now) }
+/// Writes the length of each label before it, in octets that are one more octet and a text, which
+/// has no last dot or ends there. Goes from the end of the text to its beginning. Returns None if a
+/// character does not stand for itself, or if a label has no octets or too many.
+#[tactic(auto, using(crate::proofs::TextLemmas::backward_steps))]
+fn put_lengths(octets: &mut [u8], text: &[u8], end: usize) -> Option<()>
+    requires end { IsBefore [] (drop end text.now) }
+    requires within { end ≤ length text.now }
+    requires octets { (first : ℕ) × (octets.old ≡ first ∷ take end text.now) }
+    ensures size { length octets.new ≡ length octets.old }
+    ensures labels { OnSome result ((labels : Name) × LabelTexts text.now labels
+        × (octets.new ++ 0 ∷ [] ≡ wire_of labels)) }
 {
-    let (label, after) = text.split_at(plain_len(text));
-    if label.is_empty() || label.len() > MAX_LABEL_LEN {
+    let mut start = end;
+    let mut count = 0;
+    'backward: while start > 0 {
+        start -= 1;
+        let octet = text[start];
+        if is_plain(octet) {
+            count += 1;
+            continue;
+        }
+        if octet != b'.' || count == 0 || count > MAX_LABEL_LEN {
+            return None;
+        }
+        octets[start + 1] = count as u8;
+        count = 0;
+    }
+    if count == 0 || count > MAX_LABEL_LEN {
         return None;
     }
-    Some((label, after))
-}
-
-/// Writes the length of each label before it, in octets that are one more octet and a text. Returns
-/// how many octets the labels then take: all, or all but a last dot. Returns None if a character
-/// does not stand for itself, or if a label has no octets or too many.
-#[tactic(auto, using(crate::proofs::TextLemmas::measuring_steps))]
-fn put_lengths(octets: &mut [u8], text: &[u8]) -> Option<usize>
-    requires { (first : ℕ) × (octets.old ≡ first ∷ text.now) }
-    ensures size { length octets.new ≡ length octets.old }
-    ensures labels { IfSome result (λ n. (labels : Name) × LabelTexts text.now labels
-        × (take n octets.new ++ 0 ∷ [] ≡ wire_of labels)) }
-{
-    let mut rest = text;
-    loop {
-        let at = text.len() - rest.len();
-        let (label, after) = split_plain_label(rest)?;
-        octets[at] = label.len() as u8;
-        rest = after_dot(after)?;
-        if rest.is_empty() {
-            return Some(at + 1 + label.len());
-        }
-    }
+    octets[0] = count as u8;
+    Some(())
 }
 
 /// Appends the root, if there is room for it.
@@ -180,6 +175,19 @@ fn push_root(wire: &mut ArrayBuilder<MAX_NAME>) -> Option<()>
     wire.append_slice(&[0]).ok()
 }
 
+/// Returns where the labels of a text end: before its last dot, if it ends in one.
+#[tactic(auto, using(std::proofs::lemmas::Grind::common_steps, crate::proofs::TextLemmas::before_last_dot))]
+fn text_end(text: &[u8]) -> usize
+    ensures within { result ≤ length text.now }
+    ensures end { IsBefore [] (drop result text.now) }
+{
+    let len = text.len();
+    if len > 0 && text[len - 1] == b'.' {
+        return len - 1;
+    }
+    len
+}
+
 /// Writes the wire form of the name that a text spells into an empty builder, if all characters of
 /// its labels stand for themselves. If not, what it leaves in the builder has no meaning.
 fn read_plain_name(wire: &mut ArrayBuilder<MAX_NAME>, text: &[u8]) -> Option<()>
@@ -187,10 +195,10 @@ fn read_plain_name(wire: &mut ArrayBuilder<MAX_NAME>, text: &[u8]) -> Option<()>
     ensures { OnSome result ((labels : Name) × NameText text.now labels
         × (wire.new ≡ wire_of labels)) }
 {
+    let end = text_end(text);
     wire.append_slice(&[0]).ok()?;
-    wire.append_slice(text).ok()?;
-    let len = put_lengths(wire.as_mut_slice(), text)?;
-    wire.truncate(len);
+    wire.append_slice(&text[..end]).ok()?;
+    put_lengths(wire.as_mut_slice(), text, end)?;
     push_root(wire)
 }
 

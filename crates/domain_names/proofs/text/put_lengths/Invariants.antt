@@ -1,9 +1,8 @@
-use Rattle.std.proofs.Common.{length}
-use Rattle.domain_names.proofs.TextLemmas.{Measuring}
+use Rattle.domain_names.proofs.TextLemmas.{Backward}
 use Rattle.domain_names.proofs.text.put_lengths.Given as goal
 
-abbrev pub invariant-loop-label : goal.invariant-loop-label
-invariant-loop-label l = Measuring l.text l.rest l.octets
+abbrev pub invariant-backward : goal.invariant-backward
+invariant-backward l = Backward l.text l.octets l.end l.start l.count
 
-abbrev pub decreases-loop-label : goal.decreases-loop-label
-decreases-loop-label l = length l.rest
+abbrev pub decreases-backward : goal.decreases-backward
+decreases-backward l = l.start

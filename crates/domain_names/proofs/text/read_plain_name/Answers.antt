@@ -9,4 +9,4 @@ returns c =
     let octets = c.put_lengths.new.octets in
     let written : refill (length old) old octets ≡ octets =
     refilled (length old) old octets (sym (c.put_lengths.ensures.size ∙ ap length c.as_mut_slice.ensures.value)) in
-    named_fits _ _ _ _ (rw (c.truncate.ensures, written) c.in_ok-len.ensures.labels) c.push_root.ensures.room.0 c.push_root.ensures.root
+    named_fits _ _ _ _ (rw written c.in_ok-put_lengths.ensures.labels) c.push_root.ensures.room.0 c.push_root.ensures.root
