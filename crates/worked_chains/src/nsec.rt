@@ -65,6 +65,20 @@ fn lent(form: &str, apex: &OwnName, words: &[&str], answers: &mut Answers) -> An
     Some(())
 }
 
+/// What NSEC records prove of a name and a type, where they come one by one.
+fn one_by_one(
+    apex: &OwnName,
+    chain: &[Typed<Nsec<Vec<u8>, OwnName>>],
+    name: &OwnName,
+    rtype: Rtype,
+) -> Verdict {
+    let mut check = NsecCheck::new(apex, name, rtype);
+    for record in chain {
+        check.add(record);
+    }
+    check.verdict()
+}
+
 /// What NSEC records prove of each name and type, or what they answer as a whole.
 fn judge(form: &str, apex: &OwnName, words: &[&str], answers: &mut Answers) -> Answered {
     let (listed, asked) = halves(words, ":");
@@ -74,12 +88,8 @@ fn judge(form: &str, apex: &OwnName, words: &[&str], answers: &mut Answers) -> A
         match form {
             "verdict" => {
                 let verdict = check_nsec(apex, &chain, &name, rtype);
-                let mut check = NsecCheck::new(apex, &name, rtype);
-                for record in &chain {
-                    check.add(record);
-                }
-                if check.verdict() != verdict {
-                    answers.debug("one by one", &check.verdict());
+                if one_by_one(apex, &chain, &name, rtype) != verdict {
+                    answers.echo("  another verdict one by one");
                 }
                 answers.debug("verdict", &verdict)
             }

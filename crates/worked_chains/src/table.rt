@@ -76,7 +76,7 @@ pub fn make_table(words: &[&str], answers: &mut Answers) -> Given<TableHasher> {
     let mut rows = Vec::new(answers.alloc);
     for word in words {
         let row = make_row(word, answers)?;
-        answers.ok(rows.push(row))?;
+        answers.own(rows.push(row))?;
     }
     Some(TableHasher { rows })
 }

@@ -298,10 +298,10 @@ fn signed(data: &Signature<Vec<u8>>, answers: &mut Answers) -> Answered {
         answers.ok(data.signer_name().try_clone())?,
     );
     let (mut octets, mut canonical) = (Vec::new(answers.alloc), Vec::new(answers.alloc));
-    say!(
-        answers, debug "composed": fields.compose(&mut octets), octets "signed octets": octets,
-        debug "composed": fields.compose_canonical(&mut canonical), octets "canonical": canonical
-    );
+    answers.done("composed", &fields.compose(&mut octets))?;
+    answers.octets("signed octets", &octets);
+    answers.done("composed", &fields.compose_canonical(&mut canonical))?;
+    answers.octets("canonical", &canonical);
     let again = answers.ok(fields.into_rrsig(data.signature().as_slice()))?;
     answers.debug("as before", &again.eq_to(data))
 }
@@ -396,7 +396,8 @@ fn composed(data: &Data, answers: &mut Answers) -> Answered {
         return None;
     };
     let mut octets = Vec::new(answers.alloc);
-    say!(answers, debug "composed": data.compose_rdata(&mut octets), octets "octets": octets);
+    answers.done("composed", &data.compose_rdata(&mut octets))?;
+    answers.octets("octets", &octets);
     signed(data, answers)
 }
 
@@ -410,7 +411,7 @@ fn of_data(form: &str, data: &Data, answers: &mut Answers) -> Answered {
         "composed" => composed(data, answers),
         "size" => {
             let mut octets = Vec::new(answers.alloc);
-            answers.debug("composed", &data.compose_rdata(&mut octets));
+            answers.done("composed", &data.compose_rdata(&mut octets))?;
             answers.show("octets", &octets.len());
             answers.characters(data)
         }

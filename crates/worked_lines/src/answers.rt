@@ -2,7 +2,7 @@
 use crate::say_methods;
 use domain_base::CanonicalOrd;
 use domain_octets::*;
-use std::alloc::Global;
+use std::alloc::{AllocError, Global};
 use std::fmt::{Debug, Display, Formatter, Result as Printed, Write};
 use std::hash::{FoldHasher, Hash, Hasher};
 
@@ -47,14 +47,17 @@ pub struct Answers {
     has_memory: bool,
 }
 
+/// How many octets of text an answer has room for before it takes more memory.
+const ROOM: usize = 65_536;
+
 impl Answers {
     /// No lines yet.
-    pub fn new(alloc: Global) -> Answers {
-        Answers {
+    pub fn new(alloc: Global) -> Result<Answers, AllocError> {
+        Ok(Answers {
             alloc,
-            text: String::new(alloc),
+            text: String::with_capacity(alloc, ROOM)?,
             has_memory: true,
-        }
+        })
     }
 
     /// The lines, or none where the program had no memory for one of them.
@@ -93,10 +96,8 @@ impl Answers {
 
     /// Adds a line with how many characters the text of a value has.
     pub fn characters<T: Display>(&mut self, value: &T) -> Answered {
-        match format!(in self.alloc; "{value}") {
-            Ok(text) => self.show("characters", &text.len()),
-            Err(error) => self.debug("characters", &error),
-        }
+        let text = self.own(format!(in self.alloc; "{value}"))?;
+        self.show("characters", &text.len())
     }
 
     /// Adds a line with the pieces of a value as a zone file shows it.
@@ -145,6 +146,12 @@ impl Answers {
             Ok(made) => self.debug(label, made),
             Err(error) => self.debug(label, error),
         }
+    }
+
+    /// Adds a line with a label and what a call made; an error ends the answer.
+    pub fn done<E: Debug>(&mut self, label: &str, made: &Result<(), E>) -> Answered {
+        self.debug(label, made);
+        made.is_ok().then_some(())
     }
 
     /// Adds a line with a label and the error, if there is one.

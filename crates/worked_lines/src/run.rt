@@ -29,7 +29,7 @@ fn answer_line<V: Vectors>(vectors: &V, line: &str, answers: &mut Answers) -> An
 /// Reads all of the input, and prints its lines, each but a comment with its answer below it.
 pub fn run<R: Input + Print + AllocGlobal, V: Vectors>(rt: &R, vectors: &V) -> io::Result<()> {
     let input = io::read_to_string(rt.alloc(), rt.reader())?;
-    let mut answers = Answers::new(rt.alloc());
+    let mut answers = Answers::new(rt.alloc())?;
     for line in input.lines() {
         answers.echo(line);
         if !line.starts_with("#") && !line.is_empty() {

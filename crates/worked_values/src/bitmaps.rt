@@ -5,7 +5,7 @@ use super::*;
 fn types(words: &[&str], answers: &mut Answers) -> Given<Vec<Rtype>> {
     let mut types = Vec::new(answers.alloc);
     for word in words {
-        answers.ok(types.push(given!(answers, Rtype::from_token(word))))?;
+        answers.own(types.push(given!(answers, Rtype::from_token(word))))?;
     }
     Some(types)
 }
@@ -39,6 +39,9 @@ where
     let mut builder = RtypeBitmapBuilder::<B>::new(answers.alloc);
     for rtype in added {
         if let Err(error) = builder.add(*rtype) {
+            if error == AppendError::OutOfMemory {
+                return answers.debug("refused", &error);
+            }
             say!(answers, show "without room": rtype, debug "refused": error);
         }
     }
@@ -83,18 +86,31 @@ fn scan(tokens: &[&str], answers: &mut Answers) -> Answered {
     let mut scanner = Tokens::new(tokens);
     let mut short = Short::<34>::new(tokens);
     let array = Bitmap::<ArrayBuilder<34>>::scan(answers.alloc, &mut short);
+    let made = Bitmap::<Vec<u8>>::scan(answers.alloc, &mut scanner);
+    answers.octets_made("octets", &made);
+    if let Err(ScanError::OutOfMemory) = &made {
+        return None;
+    }
     say!(
-        answers, octets_made "octets": Bitmap::<Vec<u8>>::scan(answers.alloc, &mut scanner),
-        debug "next": scanner.first_token(), octets_made "ArrayBuilder<34>": array,
+        answers, debug "next": scanner.first_token(), octets_made "ArrayBuilder<34>": array,
         debug "next": short.first_token()
     )
 }
 
-/// What a builder says when types are added to it.
-fn add<B: Truncate>(builder: &mut RtypeBitmapBuilder<B>, added: &[Rtype], answers: &mut Answers) {
+/// What a builder says when types are added to it; out of memory ends the answer.
+fn add<B: Truncate>(
+    builder: &mut RtypeBitmapBuilder<B>,
+    added: &[Rtype],
+    answers: &mut Answers,
+) -> Answered {
     for rtype in added {
-        answers.debug("added", &builder.add(*rtype));
+        let made = builder.add(*rtype);
+        answers.debug("added", &made);
+        if made == Err(AppendError::OutOfMemory) {
+            return None;
+        }
     }
+    Some(())
 }
 
 /// A builder without types, and the bitmap that it makes.
@@ -112,7 +128,7 @@ fn of_types(form: &str, words: &[&str], answers: &mut Answers) -> Answered {
         "tight" => built::<ArrayBuilder<34>>(&added, &asked, answers),
         "copy" => {
             let mut builder = Bitmap::<Vec<u8>>::builder(answers.alloc);
-            add(&mut builder, &added, answers);
+            add(&mut builder, &added, answers)?;
             let copy = answers.ok(builder.clone())?;
             say!(answers, octets "copy": copy.finalize(), octets "Vec": builder.finalize())
         }

@@ -111,8 +111,8 @@ fn of_octets(form: &str, first: &[u8], second: &[u8], answers: &mut Answers) -> 
         }
         _ => {
             held(first, answers);
-            let copy = answers.ok(Bytes::copy_from_slice(answers.alloc, first))?;
-            let again = answers.ok(copy.clone())?;
+            let copy = answers.own(Bytes::copy_from_slice(answers.alloc, first))?;
+            let again = answers.own(copy.clone())?;
             say!(answers, octets_made "borrowed": Nsec3Salt::from_octets(first));
             let salt = answers.ok(Nsec3Salt::from_bytes(copy))?;
             let hash = answers.ok(OwnerHash::from_bytes(again))?;

@@ -80,11 +80,11 @@ fn find(key: &OwnName, text: &str, answers: &mut Answers) -> Answered {
     let asked = answers.name(text)?;
     let mut tree = BTreeMap::new(answers.alloc);
     let inserted = tree.insert(answers.ok(key.try_clone())?, 1u8);
-    answers.ok(inserted)?;
+    answers.own(inserted)?;
     answers.debug("BTreeMap", &tree.get(&asked).copied());
     let mut hashed = HashMap::new(answers.alloc);
     let inserted = hashed.insert(answers.ok(key.try_clone())?, 2u8);
-    answers.ok(inserted)?;
+    answers.own(inserted)?;
     answers.debug("HashMap", &hashed.get(&asked).copied())
 }
 
@@ -93,9 +93,9 @@ fn sort(words: &[&str], answers: &mut Answers) -> Answered {
     let mut names = Vec::new(answers.alloc);
     for word in words {
         let name = answers.name(word)?;
-        answers.ok(names.push(name))?;
+        answers.own(names.push(name))?;
     }
-    answers.ok(names.sort())?;
+    answers.own(names.sort())?;
     for name in &names {
         answers.show("name", name);
     }

@@ -119,7 +119,8 @@ pub fn scanned(form: &str, tokens: &[&str], answers: &mut Answers) -> Answered {
 macro_rules! say_composed {
     ($answers:ident, $value:ident, $type:ident, $times:literal) => {{
         let mut octets = Vec::new($answers.alloc);
-        say!($answers, debug "composed": $value.compose(&mut octets), octets "octets": octets);
+        $answers.done("composed", &$value.compose(&mut octets))?;
+        $answers.octets("octets", &octets);
         let mut parser = Parser::new(octets.as_slice());
         for _ in 0..$times {
             match $type::parse(&mut parser) {
@@ -157,7 +158,10 @@ fn near(stamp: &str, reference: &str, answers: &mut Answers) -> Answered {
     let stamp = u32::from_str_radix(stamp, 16).unwrap_or(0);
     let reference = u64::from_str_radix(reference, 16).unwrap_or(0);
     match Timestamp::from(stamp).to_system_time(reference) {
-        Some(time) => answers.show_made("time", &format!(in answers.alloc; "{time:x}")),
+        Some(time) => {
+            let text = answers.own(format!(in answers.alloc; "{time:x}"))?;
+            answers.show("time", &text)
+        }
         None => answers.show("time", &"none"),
     }
 }

@@ -5,8 +5,8 @@ use super::*;
 fn show(made: &Result<OwnedRecord, LineError>, answers: &mut Answers) -> Answered {
     answers.show_made("record", made);
     match made {
-        Ok(_) => Some(()),
-        Err(error) => answers.show("out of memory", &error.is_out_of_memory()),
+        Err(error) if !error.is_out_of_memory() => answers.echo("  not for memory"),
+        _ => Some(()),
     }
 }
 

@@ -7,12 +7,18 @@ fn insert(words: &[&str], answers: &mut Answers) -> Answered {
     let records = answers.records(words)?;
     let mut zone = Zone::default(answers.alloc);
     answers.show("empty", &zone.is_empty());
+    let mut goes_on = true;
     for record in records {
-        match zone.insert(record) {
-            Ok(()) => answers.show("records", &zone.len()),
-            Err(InsertError::Present(back)) => answers.show("present", &back),
-            Err(InsertError::OutOfMemory(back)) => answers.show("no memory", &back),
-        };
+        if goes_on {
+            match zone.insert(record) {
+                Ok(()) => answers.show("records", &zone.len()),
+                Err(InsertError::Present(back)) => answers.show("present", &back),
+                Err(InsertError::OutOfMemory(_)) => {
+                    goes_on = false;
+                    answers.debug("refused", &OutOfMemory)
+                }
+            };
+        }
     }
     answers.show_records(zone.as_slice())
 }
@@ -153,7 +159,8 @@ fn refuse(_record: &OwnedRecord, _target: &mut Narrow) -> Printed {
 
 /// A sorted set as text, by itself and with comments, and to writers that refuse.
 fn write(zone: &Zone, answers: &mut Answers) -> Answered {
-    let (mut text, mut commented) = (String::new(answers.alloc), String::new(answers.alloc));
+    let mut text = answers.own(String::with_capacity(answers.alloc, 1024))?;
+    let mut commented = answers.own(String::with_capacity(answers.alloc, 1024))?;
     say!(
         answers, debug "written": zone.write(&mut text), debug "text": text,
         debug "written": zone.write_with_comments(&mut commented, comment), debug "text": commented,
@@ -214,7 +221,7 @@ fn grouped<'a>(
     answers.show("empty", &groups.is_empty());
     let mut owners = Vec::new(answers.alloc);
     'groups: while let Some(group) = groups.next() {
-        answers.ok(owners.push(group))?;
+        answers.own(owners.push(group))?;
     }
     Some(owners)
 }
@@ -232,7 +239,7 @@ fn owners(zone: &Zone, asked: &[&str], answers: &mut Answers) -> Answered {
 fn references(zone: &Zone, answers: &mut Answers) -> Answered {
     let mut references = Vec::new(answers.alloc);
     for record in zone.iter() {
-        answers.ok(references.push(record))?;
+        answers.own(references.push(record))?;
     }
     say!(
         answers, show "owners": RecordsIter::new_from_refs(&references).count(),
@@ -268,10 +275,13 @@ fn extended<S: Sorter>(form: &str, words: &[&str], answers: &mut Answers) -> Ans
     let (first, _) = halves(words, "/");
     let (first, more) = (answers.record(first)?, answers.records(words)?);
     let mut zone: SortedRecords<OwnName, Data, S> = SortedRecords::new(answers.alloc);
-    answers.show("first", &zone.insert(first).is_ok());
-    answers.debug("extended", &zone.extend(more));
+    if zone.insert(first).is_err() {
+        return answers.debug("refused", &OutOfMemory);
+    }
+    let extended = zone.extend(more);
+    say!(answers, show "first": true, debug "extended": extended);
     answers.show_records(zone.as_slice());
-    if form == "extend" {
+    if form == "extend" && extended.is_ok() {
         answers.show("left", &zone.into_inner().len());
     }
     Some(())
