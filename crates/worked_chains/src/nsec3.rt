@@ -108,7 +108,7 @@ impl<H: Nsec3Hasher> Hashing<'_, H> {
     /// Whether copies of how denial is made are equal to it.
     fn copies(&self, answers: &mut Answers) -> Answered {
         copied("already present", &Denial::AlreadyPresent, answers);
-        copied("NSEC", &Denial::default(), answers);
+        copied("NSEC", &Denial::default(answers.alloc), answers);
         copied(
             "NSEC3",
             &Denial::Nsec3(answers.ok(self.1.clone())?),
