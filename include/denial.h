@@ -12,7 +12,7 @@
  *
  * These functions look at no signature. Hand in only records whose signatures you have verified with
  * the keys of the zone at the apex, and take the apex from the signer's name in these signatures.
- * docs/C.md goes through a call.
+ * docs/reference/c.md goes through a call.
  *
  * Ownership. Each pointer is borrowed for the time of the call. Nothing that is handed in is kept,
  * written to or freed, but for the numbers at `labels` and `count`, the pointer at `text` and the
