@@ -3,7 +3,7 @@
 
     denied.py LIBRARY
 
-LIBRARY is a shared library that was linked from the archive (docs/C.md). One record of a chain is
+LIBRARY is a shared library that was linked from the archive (docs/reference/c.md). One record of a chain is
 handed in, and the answers are compared with those that must come.
 """
 import ctypes
