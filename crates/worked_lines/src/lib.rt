@@ -7,14 +7,14 @@
 #![tactic(auto)]
 
 mod answers;
+mod lines;
 mod macros;
-mod run;
 mod sorter;
 mod spelled;
 mod words;
 
 pub use answers::{Answered, Answers, Given, Two, converted, flattened, in_two};
-pub use run::{Vectors, run};
+pub use lines::{Vectors, run};
 pub use sorter::RefusingSorter;
 pub use spelled::{Data, OwnName, OwnedRecord, Short, Tokens, Typed, Zone};
 pub use words::{halves, is_slash, value, word};
