@@ -2,7 +2,7 @@
 
 A zone is a list of blocks: the lines of one name, or of one delegation with its glue. Types other
 than A, NS, SOA and MX are in the generic form, with data that are valid for the type. The same
-arguments give the same octets.
+arguments give the same octets, with the same Python.
 """
 import itertools
 import random

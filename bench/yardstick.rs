@@ -385,11 +385,11 @@ impl Record {
 /// The records `from..to` of one owner: lines in a row, and after `Zone::sort` all of the owner.
 ///
 /// At `owner` in the zone's octets are the length of the name, the length of the key in two octets,
-/// the name in wire form, and the key without that of the apex. Runs are sorted by `digit`, eight
+/// the name in wire form, and the key without that of the apex. Runs are sorted by `chunk`, eight
 /// octets of the key.
 #[derive(Clone, Copy)]
 struct Run {
-    digit: u64,
+    chunk: u64,
     owner: u32,
     from: u32,
     to: u32,
@@ -408,8 +408,8 @@ impl Run {
     }
 }
 
-/// Returns eight octets of a key as a number, with zeros behind its end.
-fn digit(key: &[u8], depth: usize) -> u64 {
+/// Returns eight octets of a key as a number, with zeros after its end.
+fn chunk(key: &[u8], depth: usize) -> u64 {
     let rest = key.get(depth..).unwrap_or(&[]);
     if let Some(first) = rest.first_chunk() {
         return u64::from_be_bytes(*first);
@@ -465,10 +465,7 @@ impl Reader {
             if input.read_until(b'\n', &mut line).map_err(|_| "cannot read input")? == 0 {
                 break;
             }
-            let record = line
-                .strip_suffix(b"\n")
-                .map_or(&line[..], |line| line.strip_suffix(b"\r").unwrap_or(line));
-            self.add(record).ok_or_else(|| format!("line {number}: bad record"))?;
+            self.add(without_end(&line)).ok_or_else(|| format!("line {number}: bad record"))?;
             if self.zone.octets.len() > u32::MAX as usize - BUFFER {
                 return Err("out of memory".into());
             }
@@ -520,7 +517,7 @@ impl Reader {
         if self.is_inside {
             let key = &self.key[self.apex_key.len()..];
             let (octets, at) = (&mut self.zone.octets, self.zone.records.len() as u32);
-            let run = Run { digit: digit(key, 0), owner: octets.len() as u32, from: at, to: at };
+            let run = Run { chunk: chunk(key, 0), owner: octets.len() as u32, from: at, to: at };
             self.zone.runs.push(run);
             octets.push(self.name.len as u8);
             octets.extend_from_slice(&(key.len() as u16).to_le_bytes());
@@ -530,6 +527,14 @@ impl Reader {
         self.owner.clear();
         self.owner.extend_from_slice(owner);
         Some(())
+    }
+}
+
+/// Returns a line without LF or CRLF at its end.
+fn without_end(line: &[u8]) -> &[u8] {
+    match line {
+        [line @ .., b'\r', b'\n'] | [line @ .., b'\n'] => line,
+        _ => line,
     }
 }
 
@@ -581,10 +586,12 @@ impl Zone {
 
     /// Sorts the records of one owner. Of equal records with unequal TTLs it keeps the first read.
     fn sort_records(&mut self, run: &mut Run) {
-        let (records, octets) =
-            (&mut self.records[run.from as usize..run.to as usize], &self.octets);
-        records
-            .sort_by(|a, b| a.rtype.cmp(&b.rtype).then_with(|| a.data(octets).cmp(b.data(octets))));
+        let octets = &self.octets;
+        let records = &mut self.records[run.from as usize..run.to as usize];
+        records.sort_by(|a, b| {
+            let by_data = || a.data(octets).cmp(b.data(octets));
+            a.rtype.cmp(&b.rtype).then_with(by_data)
+        });
         let mut kept = 1;
         for at in 1..records.len() {
             let (last, next) = (records[kept - 1], records[at]);
@@ -597,14 +604,14 @@ impl Zone {
     }
 }
 
-/// Sorts runs by key. The keys agree before `depth`, and the digits are those at `depth`.
+/// Sorts runs by key. The keys agree before `depth`, and the chunks are those at `depth`.
 fn sort_runs(runs: &mut [Run], octets: &[u8], depth: usize) {
-    runs.sort_unstable_by_key(|run| run.digit);
-    for ties in runs.chunk_by_mut(|a, b| a.digit == b.digit) {
-        // No label of a key begins with 0, so the digit 0 says that all these keys have ended.
-        if ties.len() > 1 && ties[0].digit != 0 {
+    runs.sort_unstable_by_key(|run| run.chunk);
+    for ties in runs.chunk_by_mut(|a, b| a.chunk == b.chunk) {
+        // No label of a key begins with 0, so the chunk 0 says that all these keys have ended.
+        if ties.len() > 1 && ties[0].chunk != 0 {
             for run in ties.iter_mut() {
-                run.digit = digit(run.key(octets), depth + 8);
+                run.chunk = chunk(run.key(octets), depth + 8);
             }
             sort_runs(ties, octets, depth + 8);
         }
@@ -645,11 +652,10 @@ impl Chain {
                     continue;
                 }
             }
-            has_one_ttl &= records.windows(2).all(|pair| {
-                pair[0].rtype != pair[1].rtype
-                    || pair[0].ttl == pair[1].ttl
-                    || pair[0].rtype == RRSIG
-            });
+            let is_even = |a: &Record, b: &Record| a.rtype != b.rtype || a.ttl == b.ttl;
+            has_one_ttl &= records
+                .windows(2)
+                .all(|pair| is_even(&pair[0], &pair[1]) || pair[0].rtype == RRSIG);
             owners.push(Owner { run: place as u32, is_cut, has_ds });
         }
         let soa = soa(zone).ok_or("no single SOA at the apex")?;
