@@ -1,4 +1,6 @@
-"""The zones that the scripts here run programs over, in the line format of docs/PROGRAM.md.
+"""The zones that the scripts here run programs over.
+
+The line format is that of docs/reference/program.md.
 
 A zone is a list of blocks: the lines of one name, or of one delegation with its glue. Types other
 than A, NS, SOA and MX are in the generic form, with data that are valid for the type. The same

@@ -3,8 +3,9 @@
 //!     yardstick nsec APEX                              < RECORDS
 //!     yardstick nsec3 APEX ITERATIONS SALT [optout]    < RECORDS
 //!
-//! It reads the lines of `docs/PROGRAM.md` and prints the octets that `denial` prints. It reads A,
-//! NS, SOA and MX in presentation format, and all other types in the generic form of RFC 3597.
+//! It reads the lines of `docs/reference/program.md` and prints the octets that `denial` prints. It
+//! reads A, NS, SOA and MX in presentation format, and all other types in the generic form of RFC
+//! 3597.
 //! It is written for speed:
 //!
 //! - One buffer holds the octets of all owners, keys and data, so that no record allocates.
