@@ -2,6 +2,19 @@
 //! by type (RFC 2181, section 5; RFC 4034, section 6).
 use super::*;
 
+/// Puts a record in, and shows what the set answers. Returns false if it is out of memory.
+fn put(record: OwnedRecord, zone: &mut Zone, answers: &mut Answers) -> bool {
+    match zone.insert(record) {
+        Ok(()) => answers.show("records", &zone.len()),
+        Err(InsertError::Present(back)) => answers.show("present", &back),
+        Err(InsertError::OutOfMemory(_back)) => {
+            answers.debug("refused", &OutOfMemory);
+            return false;
+        }
+    };
+    true
+}
+
 /// What a sorted set answers when each record is put in, and what stands then.
 fn insert(words: &[&str], answers: &mut Answers) -> Answered {
     let records = answers.records(words)?;
@@ -10,14 +23,7 @@ fn insert(words: &[&str], answers: &mut Answers) -> Answered {
     let mut goes_on = true;
     for record in records {
         if goes_on {
-            match zone.insert(record) {
-                Ok(()) => answers.show("records", &zone.len()),
-                Err(InsertError::Present(back)) => answers.show("present", &back),
-                Err(InsertError::OutOfMemory(_)) => {
-                    goes_on = false;
-                    answers.debug("refused", &OutOfMemory)
-                }
-            };
+            goes_on = put(record, &mut zone, answers);
         }
     }
     answers.show_records(zone.as_slice())
