@@ -1,27 +1,29 @@
 /*
- * What the NSEC or NSEC3 records of a DNS message answer to a question about a name and a type, and
- * what they prove of one name and one type (RFC 4035, section 5.4; RFC 5155, section 8); and the NSEC
- * and NSEC3 chains of a zone (RFC 4034, section 4; RFC 5155, section 7.1).
+ * Judges what the NSEC or NSEC3 records of a DNS message prove (RFC 4035, section 5.4; RFC 5155,
+ * section 8), and makes the NSEC and NSEC3 chains of a zone (RFC 4034, section 4; RFC 5155, section
+ * 7.1).
  *
- * A validator calls denial_judge_nsec or denial_judge_nsec3_alone: these answer a question as a whole,
- * with the wildcard, aliases and redirections; and of records that were expanded from a wildcard, with
- * NSEC3, denial_judge_nsec3_expansion_alone. denial_check_nsec and denial_check_nsec3_alone tell of one
- * name and one type alone. Who has the zone's NSEC3PARAM record calls denial_judge_nsec3,
+ * A validator calls denial_judge_nsec or denial_judge_nsec3_alone. These judge a question as a whole,
+ * with the wildcard, aliases and redirections. For data that were expanded from a wildcard, with NSEC3,
+ * it calls denial_judge_nsec3_expansion_alone. denial_check_nsec and denial_check_nsec3_alone judge one
+ * name and one type only. If you have the zone's NSEC3PARAM record, call denial_judge_nsec3,
  * denial_judge_nsec3_expansion and denial_check_nsec3. A signer calls denial_nsec_chain or
- * denial_nsec3_chain, and where the latter answers DENIAL_COLLISION, denial_nsec3_collision.
+ * denial_nsec3_chain; if the latter returns DENIAL_COLLISION, denial_nsec3_collision names the names.
  *
- * These functions look at no signature. Hand in only records whose signatures you have verified with
- * the keys of the zone at the apex, and take the apex from the signer's name in these signatures.
- * docs/C.md goes through a call.
+ * Signatures. These functions verify no signature. Pass only records whose signatures you have verified
+ * with the keys of the zone at the apex. The apex is the signer's name in these signatures. Leave out an
+ * NSEC or NSEC3 record whose RRSIG has another number in its field Labels than its owner has labels (a
+ * leading asterisk not counted): it was expanded from a wildcard, and would deny names that exist
+ * (CVE-2017-15105). docs/reference/c.md goes through a call.
  *
- * Ownership. Each pointer is borrowed for the time of the call. Nothing that is handed in is kept,
- * written to or freed, but for the numbers at `labels` and `count`, the pointer at `text` and the
- * octets at `chain`, `earlier` and `later`, which are written. Nothing is handed out that must be freed.
+ * Ownership. Each pointer is borrowed for the time of the call. The library keeps, writes and frees
+ * nothing of what you pass, except that it writes the numbers at `labels` and `count`, the pointer at
+ * `text`, and the octets at `chain`, `earlier` and `later`. It returns nothing that you must free.
  *
  * Pointers. Octets of length 0 may be null, and so may `labels`, `count`, `earlier` and `later`; no other
  * pointer may. `labels`, `count`, `chain`, `earlier` and `later` point to no octet that another pointer
- * reaches. No length may be over PTRDIFF_MAX. Who calls what the library exports from another language than
- * C or C++ hands in no null pointer at all.
+ * reaches. No length may be over PTRDIFF_MAX. From a language other than C or C++, pass no null pointer
+ * at all.
  *
  * Threads. There is no state: calls may run at the same time in any threads.
  */
