@@ -1,11 +1,15 @@
 //! Names in octets that they borrow: those of a message, or of another name.
-ghost use Rattle.std.specs.Prelude.{◌≡◌, ◌∷◌, [], Some, IsOk, IfNone, IfSome, IfOk, IfErr, OnErr};
+ghost use Rattle.std.specs.Prelude.{◌≡◌, ◌∷◌, [], Some, IsOk, IfNone, IfSome, IfOk, IfErr, OnErr, refl};
+ghost use Rattle.std.specs.Cmp.{partial_equiv_from_equiv};
+ghost use Rattle.domain_names.specs.Name.{same_name, canonical_cmp, canonical_cmp_total};
+ghost use Rattle.domain_names.specs.Laws.{same_name_equiv, same_name_ties, canonical_po};
 ghost use Rattle.domain_names.specs.{Text.name_text, Name.{wire_of, IsName, parent_of}, Wire.NameFault};
 ghost use Rattle.domain_names.specs.Wire.{WholeNameFault, fault_of, name_fault_of, labels_of, IsWire};
 ghost use Rattle.domain_octets.specs.Octets.{Takes};
 
 use crate::{NameError, ParseError, ToName, text, wire};
 use domain_octets::{OutOfMemory, Parser, TryClone};
+use std::cmp::Ordering;
 use std::fmt;
 use std::marker::Model;
 
@@ -110,6 +114,46 @@ impl<'a> ToName for ParsedName<'a> {
 
     fn as_wire(&self) -> &[u8] {
         self.wire
+    }
+}
+
+/// Names are equal without regard to case.
+impl<'a> PartialEq for ParsedName<'a> {
+    ghost eq = { same_name };
+
+    ghost laws = { partial_equiv_from_equiv same_name_equiv };
+
+    fn eq(&self, other: &Self) -> bool {
+        self.name_eq(other)
+    }
+}
+
+impl<'a> Eq for ParsedName<'a> {
+    ghost laws = { same_name_equiv };
+}
+
+impl<'a> PartialOrd for ParsedName<'a> {
+    ghost partial_cmp = { λ a b. Some (canonical_cmp a b) };
+
+    ghost laws = { canonical_po };
+
+    fn partial_cmp(&self, other: &Self) -> Option<Ordering> {
+        Some(self.name_cmp(other))
+    }
+}
+
+/// The canonical order (RFC 4034, section 6.1).
+impl<'a> Ord for ParsedName<'a> {
+    ghost cmp = { canonical_cmp };
+
+    ghost total = { canonical_cmp_total };
+
+    ghost matches_partial_cmp = { λ a b. refl };
+
+    ghost matches_eq = { same_name_ties };
+
+    fn cmp(&self, other: &Self) -> Ordering {
+        self.name_cmp(other)
     }
 }
 

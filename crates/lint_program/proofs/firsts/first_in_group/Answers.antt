@@ -5,22 +5,9 @@ use Rattle.lint_program.proofs.firsts.first_in_group.Goals as goal
 
 pub returns-in-Some : goal.returns-in-Some
 returns-in-Some c = λ before firsts. (
-  grind (arith, common_steps, (firsts c.group_of-group.result)),
-  λ q. grind (arith, common_steps, or_none, find-append, same_first, (firsts q), (firsts c.group_of-group.result)),
-)
-
-pub returns : goal.returns
-returns c = λ before firsts. (
-  grind (arith, common_steps, (firsts c.group_of-group.result)),
-  λ q. grind (
-    arith,
-    common_steps,
-    group_tied,
-    or_none,
-    find-append,
-    same_first,
-    (firsts q),
-    (firsts c.group_of-group.result),
-    (c.in_ok-insert.ensures.updates.0 q),
-  ),
+  grind (arith, common_steps, (c.in-Some.ensures _ _ before firsts)),
+  record {
+    map = λ q. grind (arith, common_steps, or_none, find-append, same_first, (firsts.map q), (firsts.map c.group_of-group.result));
+    last = ?;
+  },
 )
