@@ -1,5 +1,5 @@
 -- numbers as bits, the one that weighs most first
-use Rattle.std.specs.{Prelude.{ℕ, ◌-◌, ◌*◌, ◌/◌, ◌%◌, [], ◌∷◌, ◌++◌, length, replicate, ◌+◌, ◌<◌, ◌==◌, nat_le, nat_lt, All, map, if◌then◌else◌}, List.flat_map}
+use Rattle.std.specs.{Prelude.{ℕ, ◌-◌, ◌*◌, ◌/◌, ◌%◌, [], ◌∷◌, ◌++◌, length, replicate, ◌+◌, ◌^◌, ◌<◌, ◌==◌, nat_le, nat_lt, All, map, if◌then◌else◌}, List.flat_map}
 use Rattle.domain_octets.specs.Octets.{Octets}
 
 -- the eight bits of an octet
@@ -35,6 +35,12 @@ base32_from scale rest (octet ∷ octets) =
     then ((value / wide) ∷ (value % wide / narrow)
     ∷ base32_from narrow (value % wide % narrow) octets)
     else ((value / wide) ∷ base32_from wide (value % wide) octets)
+
+-- the digits of five octets that are one number, the first of them highest
+abbrev pub eight_digits : ℕ → Octets
+eight_digits n =
+    (n / 2 ^ 35 % 32) ∷ (n / 2 ^ 30 % 32) ∷ (n / 2 ^ 25 % 32) ∷ (n / 2 ^ 20 % 32)
+    ∷ (n / 2 ^ 15 % 32) ∷ (n / 2 ^ 10 % 32) ∷ (n / 2 ^ 5 % 32) ∷ (n % 32) ∷ []
 
 -- a digit: 0 to 9, and letters for 10 to 31; as octets the characters 0, A and a are 48, 65 and 97
 abbrev pub upper_digit : ℕ → ℕ

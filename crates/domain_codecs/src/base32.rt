@@ -1,7 +1,7 @@
 //! Base 32 with the extended hex alphabet, without padding (RFC 4648, section 7).
 ghost use Rattle.std.specs.Prelude.{◌≡◌, ◌+◌, ◌*◌, ◌/◌, ◌<◌, ◌≤◌, ◌∷◌, ◌++◌, [], map, length, slice_index, take, drop, IfOk, IfErr, IfSome, IfNone, IsErrOf, ◌↔◌, string_bytes, unwrap_or};
 ghost use Rattle.std.specs.Fmt.{WritesOnOk};
-ghost use Rattle.domain_codecs.specs.Base32.{AreDigits, base32_from, base32_upper, base32_lower, upper_digit, lower_digit};
+ghost use Rattle.domain_codecs.specs.Base32.{AreDigits, eight_digits, base32_from, base32_upper, base32_lower, upper_digit, lower_digit};
 ghost use Rattle.domain_codecs.specs.declared.codec.Codec.TheVariants as codec;
 ghost use Rattle.domain_codecs.specs.Codec.{base32_value, Decodes, DecodeFault, HasNoRoom};
 ghost use Rattle.domain_octets.specs.Octets.{Octets};
@@ -61,33 +61,29 @@ const LOWER: &[u8; 32] = b"0123456789abcdefghijklmnopqrstuv";
 /// The digits in upper case.
 const UPPER: &[u8; 32] = b"0123456789ABCDEFGHIJKLMNOPQRSTUV";
 
-/// The digits of at most five octets, as characters of an alphabet, and how many these are. Zero
-/// bits fill the last of them; what stands after it is no digit.
-fn spell(alphabet: &[u8; 32], octets: &[u8]) -> ([u8; 8], usize)
-    requires { length octets.now ≤ 5 }
-    ensures value { take result.1 result.0
-        ≡ map (slice_index alphabet.now) (base32_from 1 0 octets.now) }
-    ensures small { AreDigits (base32_from 1 0 octets.now) }
-    ensures count { result.1 ≡ (8 * length octets.now + 4) / 5 }
+/// Returns five octets as one number, the first of them highest.
+fn number_of(five: &[u8; 5]) -> u64
+    ensures { eight_digits result ≡ base32_from 1 0 five.now }
 {
-    let mut five = [0; 5];
-    five[..octets.len()].copy_from_slice(octets);
-    let [a, b, c, d, e] = five;
-    let second = 256 * u32::from(a % 8) + u32::from(b);
-    let third = 256 * (second % 2) + u32::from(c);
-    let fourth = 256 * (third % 16) + u32::from(d);
-    let fifth = 256 * (fourth % 4) + u32::from(e);
-    let digits = [
-        alphabet[usize::from(a / 8)],
-        alphabet[(second / 64) as usize],
-        alphabet[(second % 64 / 2) as usize],
-        alphabet[(third / 16) as usize],
-        alphabet[(fourth / 128) as usize],
-        alphabet[(fourth % 128 / 4) as usize],
-        alphabet[(fifth / 32) as usize],
-        alphabet[(fifth % 32) as usize],
-    ];
-    (digits, (8 * octets.len() + 4) / 5)
+    let [a, b, c, d, e] = *five;
+    let high = (u64::from(a) << 32) + (u64::from(b) << 24) + (u64::from(c) << 16);
+    high + (u64::from(d) << 8) + u64::from(e)
+}
+
+/// Returns the eight digits of a number of 40 bits, as characters of an alphabet.
+fn spell(alphabet: &[u8; 32], number: u64) -> [u8; 8]
+    ensures { result ≡ map (slice_index alphabet.now) (eight_digits number) }
+{
+    [
+        alphabet[((number >> 35) % 32) as usize],
+        alphabet[((number >> 30) % 32) as usize],
+        alphabet[((number >> 25) % 32) as usize],
+        alphabet[((number >> 20) % 32) as usize],
+        alphabet[((number >> 15) % 32) as usize],
+        alphabet[((number >> 10) % 32) as usize],
+        alphabet[((number >> 5) % 32) as usize],
+        alphabet[(number % 32) as usize],
+    ]
 }
 
 /// The digits of octets that are left, each a number below 32. Takes no memory.
@@ -113,21 +109,27 @@ impl<'a> Digits<'a> {
         Digits { octets }
     }
 
-    /// The next five octets, fewer at the end; None where none are left.
-    #[tactic(auto, using(std::proofs::lemmas::Grind::common_steps, crate::proofs::Base32Lemmas::next_left, crate::proofs::Base32Lemmas::no_digits))]
-    fn next_five(&mut self) -> Option<&'a [u8]>
-        ensures some { IfSome result (λ octets. self.old ≡ base32_from 1 0 octets.now ++ self.new) }
-        ensures count { IfSome result (λ octets.
-            (0 < length octets.now) × (length octets.now ≤ 5)) }
+    /// Takes the next five octets, or those that are left and zeros after them. Returns them as a
+    /// number, with the count of their digits, or None if no octets are left.
+    #[tactic(auto, using(std::proofs::lemmas::Grind::common_steps, crate::proofs::Base32Lemmas::next_number_steps))]
+    fn next_number(&mut self) -> Option<(u64, usize)>
+        ensures some { IfSome result (λ next.
+            self.old ≡ take next.1 (eight_digits next.0) ++ self.new) }
+        ensures count { IfSome result (λ next. (0 < next.1) × (next.1 ≤ 8)) }
         ensures none { IfNone result ((self.old ≡ []) × (self.new ≡ [])) }
     {
-        let count = self.octets.len().min(5);
-        if count == 0 {
+        if let Some((five, after)) = self.octets.split_first_chunk::<5>() {
+            self.octets = after;
+            return Some((number_of(five), 8));
+        }
+        if self.octets.is_empty() {
             return None;
         }
-        let (octets, after) = self.octets.split_at(count);
-        self.octets = after;
-        Some(octets)
+        let mut five = [0; 5];
+        five[..self.octets.len()].copy_from_slice(self.octets);
+        let count = (8 * self.octets.len() + 4) / 5;
+        self.octets = &[];
+        Some((number_of(&five), count))
     }
 
     /// Writes the next digits as characters of an alphabet to the front of a buffer, as far as
@@ -141,11 +143,10 @@ impl<'a> Digits<'a> {
     {
         let mut end = 0;
         while buffer.len() - end >= 8 {
-            let Some(octets) = self.next_five() else {
+            let Some((number, count)) = self.next_number() else {
                 return end;
             };
-            let (digits, count) = spell(alphabet, octets);
-            put(buffer, end, &digits);
+            put(buffer, end, &spell(alphabet, number));
             end += count;
         }
         end

@@ -1,5 +1,5 @@
 -- Where two names part.
-use Rattle.std.specs.Prelude.{◌≡◌, ◌≤◌, ◌-◌, ◌∷◌, ◌++◌, ℕ, length, drop, map, Option, None, Some}
+use Rattle.std.specs.Prelude.{◌≡◌, ◌≤◌, ◌-◌, ◌∷◌, ◌++◌, ℕ, length, take, drop, map, Option, None, Some}
 use Rattle.std.specs.{declared.cmp.Ordering.{Ordering, TheVariants.{Less, Equal, Greater}}, Ordering.nat_cmp, Char.to_ascii_lowercase}
 use Rattle.std.specs.{Cmp.Lexicographic.slice_cmp}
 use Rattle.domain_octets.specs.Octets.{Octets}
@@ -35,3 +35,9 @@ pub record EndAlike (a b : Octets) (count : ℕ) : Type 0 where
   pub in_left : count ≤ length a
   pub in_right : count ≤ length b
   pub same : drop (length a - count) a ≡ drop (length b - count) b
+
+-- both have so many octets, and the first so many of both are the same
+pub record BeginAlike (a b : Octets) (count : ℕ) : Type 0 where
+  pub in_left : count ≤ length a
+  pub in_right : count ≤ length b
+  pub same : take count a ≡ take count b

@@ -4,7 +4,7 @@ ghost use Rattle.std.specs.Prelude.{IsTrue, IfOk, IfErr, OnOk, ◌++◌, ◌↔�
 ghost use Rattle.std.specs.{Char.to_ascii_lowercase, Ordering.nat_cmp, Cmp.Lexicographic.slice_cmp};
 ghost use Rattle.std.specs.Hash as fed;
 ghost use Rattle.domain_names.specs.Name.{wire_of, lowered, IsSame, same_name};
-ghost use Rattle.domain_names.specs.{Name.{canonical_cmp, common_labels}, Wire.{labels_of, IsWire}};
+ghost use Rattle.domain_names.specs.{Name.{canonical_cmp, common_labels}, Part.BeginAlike, Wire.{labels_of, IsWire}};
 ghost use Rattle.domain_names.specs.Wire.{BeginsWithName, NameFault, WholeNameFault, fault_of, name_fault_of};
 
 use crate::{Comparison, NameError, ParseError};
@@ -67,14 +67,35 @@ pub(crate) fn skip_labels(wire: &[u8], count: usize) -> &[u8]
     wire
 }
 
-/// The order of octets with A to Z lowered. Octets that are the same are not lowered.
-#[tactic(auto, using(crate::proofs::OrderLemmas::lengths_decide))]
+/// Returns whether both have eight octets, and the first eight of both are the same.
+fn same_first_eight(a: &[u8], b: &[u8]) -> bool
+    ensures { IsTrue result → BeginAlike a.now b.now 8 }
+{
+    match (a.first_chunk::<8>(), b.first_chunk::<8>()) {
+        (Some(x), Some(y)) => u64::from_le_bytes(*x) == u64::from_le_bytes(*y),
+        _ => false,
+    }
+}
+
+/// Returns a number of octets that two lists begin with alike, counted by eights.
+fn equal_start(a: &[u8], b: &[u8]) -> usize
+    ensures { BeginAlike a.now b.now result }
+{
+    let mut count = 0;
+    'eights: while same_first_eight(&a[count..], &b[count..]) {
+        count += 8;
+    }
+    count
+}
+
+/// Returns the order of octets with A to Z lowered. Octets that are the same are not lowered.
+#[tactic(auto, using(crate::proofs::OrderLemmas::alike_ties, crate::proofs::OrderLemmas::lengths_decide))]
 pub(crate) fn lowered_octets_cmp(a: &[u8], b: &[u8]) -> Ordering
     ensures { result ≡ slice_cmp nat_cmp (map to_ascii_lowercase a.now)
         (map to_ascii_lowercase b.now) }
 {
     let most = a.len().min(b.len());
-    for i in 0..most {
+    for i in equal_start(a, b)..most {
         if a[i] != b[i] {
             let order = a[i].to_ascii_lowercase().cmp(&b[i].to_ascii_lowercase());
             if order.is_ne() {
