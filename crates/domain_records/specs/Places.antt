@@ -14,4 +14,4 @@ pub record AreKnown {X : Type 0} (R : X → X → Ordering) (xs : List X) (d : X
 pub record IsKnownSort {X : Type 0} (stable : Bool) (R : X → X → Ordering) (xs ys : List X)
     (distinct : Bool) : Type 0 where
   pub sorted : IsSortOf stable R xs ys
-  pub distinct : IsTrue distinct → IsStrictlySortedBy R ys
+  pub apart : IsTrue distinct → IsStrictlySortedBy R ys

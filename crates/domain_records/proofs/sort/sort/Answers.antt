@@ -1,14 +1,15 @@
 use Rattle.std.{proofs.{Common.{◌≡◌, ◌∙◌, ap, sym, length, refl}, lemmas.List.take_at}, specs.List.Sorted.IsPermutation}
 use Rattle.domain_record.specs.Record.{record_cmp, record_cmp_total}
 use Rattle.domain_records.{specs.{Order.{AreInOrder, AreRanks, IsArranged}, Places.AreKnown}}
-use Rattle.domain_records.{proofs.OrderLemmas.{arranged_sort, arranged_distinct, sorted_nil, first_of_none}}
+use Rattle.domain_records.{proofs.OrderLemmas.{arranged_sort, arranged_distinct, sort_of_none, first_of_none}}
 use Rattle.domain_records.proofs.sort.sort.Goals as goal
 
-pub returns-in_default : goal.returns-in_default
-returns-in_default g c = ?
+pub returns-in_default-clause-ok : goal.returns-in_default-clause-ok
+returns-in_default-clause-ok g c =
+    sort_of_none _ _ _ (first_of_none _ (rw (c.in_default.is, c.deref.ensures.value) at c.first.ensures.value))
 
-pub returns-then-are_ranks : goal.returns-then-are_ranks
-returns-then-are_ranks g c =
+pub returns-then-are_ranks-clause-ok : goal.returns-then-are_ranks-clause-ok
+returns-then-are_ranks-clause-ok g c =
     let R = record_cmp g.N.ToName.labels g.D.RecordData.rtype g.D.CanonicalOrd.canonical_cmp in
     let o = record_cmp_total g.N.ToName.labels g.D.RecordData.rtype g.D.CanonicalOrd.canonical_cmp g.met.D.CanonicalOrd.total in
     let xs = c.args.records.now.items in
@@ -28,5 +29,5 @@ returns-then-are_ranks g c =
     let m : length ys ≡ c.args.records.now.len = put.many ∙ (rw c.deref_mut.ensures.value at c.deref_mut.ensures.len) in
     rw (take_at ys _ c.args.records.now.len m) (record {
       sorted = arranged_sort o xs c.in-Some.first.now places ranks up ys put g.S.Sorter.is_stable moved;
-      distinct = λ on. arranged_distinct o xs c.in-Some.first.now places ranks up ys put (known.distinct on);
+      apart = λ on. arranged_distinct o xs c.in-Some.first.now places ranks up ys put (known.distinct on);
     })
