@@ -1,5 +1,6 @@
 -- Base 16: the values of digits, and octets that are read one after another.
-use Rattle.std.proofs.Common.{◌≡◌, ℕ, ◌+◌, ◌*◌, ◌<◌, List, [], ◌∷◌, ◌++◌, length, get_or, set, take, map, refl, sym, ap, ◌∙◌, arith, Option, Some, None, Ok, zero-add}
+use Rattle.std.proofs.Common.{◌≡◌, ℕ, ◌+◌, ◌*◌, ◌<◌, List, [], ◌∷◌, ◌++◌, length, get_or, set, take, map, refl, sym, ap, ◌∙◌, arith}
+use Rattle.std.proofs.Common.{Option, Some, None, Ok, zero-add}
 use Rattle.std.proofs.lemmas.{List.{take_more, take_more_set, get_or-map, FromFn.{get_or-range_with_len, length-range_with_len}}, Grind.common_steps}
 use Rattle.std.specs.{Prelude.unwrap_or, List.range_with_len}
 use Rattle.hex.{specs.Hex.{hex_digit_value, pair_value, decode_pairs}, proofs.Pairs.decode_pairs-ok_pair}

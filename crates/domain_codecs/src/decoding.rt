@@ -1,4 +1,4 @@
-//! Octets read from text.
+//! Decoding of text.
 ghost use Rattle.std.specs.Prelude.{◌≡◌, ◌≤◌, ◌*◌, ◌↔◌, IsTrue, ℕ, length, map, take, Ok, IfOk, IfErr, IfSome, IsErrOf, unwrap_or};
 ghost use Rattle.std.specs.List.{concat};
 ghost use Rattle.hex.specs.Hex.{hex_digit_value, pair_value};
@@ -13,7 +13,7 @@ use base64::engine::general_purpose::STANDARD;
 use domain_octets::{AppendError, EmptyBuilder, FromBuilder};
 use std::alloc::Global;
 
-/// Writes the octets that digits of Base 32 hex stand for to a buffer, and gives their number.
+/// Decodes digits of Base 32 hex into a buffer, and returns the number of octets.
 #[tactic(auto, using(crate::proofs::CodecLemmas::digits_steps))]
 fn decode_base32(digits: &[u8], octets: &mut [u8; 64]) -> usize
     requires text { IsText Codec.Base32Hex digits.now }
@@ -40,7 +40,7 @@ fn decode_base32(digits: &[u8], octets: &mut [u8; 64]) -> usize
     count
 }
 
-/// Writes the octets that a piece of a text stands for to a buffer, and gives their number.
+/// Decodes a piece of a text into a buffer, and returns the number of octets.
 fn decode_piece(codec: Codec, piece: &[u8], octets: &mut [u8; 64]) -> usize
     requires text { IsText codec piece.now }
     requires small { length piece.now ≤ 64 }
@@ -65,8 +65,8 @@ fn decode_piece(codec: Codec, piece: &[u8], octets: &mut [u8; 64]) -> usize
     }
 }
 
-/// A builder of the octets that texts stand for when they are joined: 64 characters after 64, which
-/// stand for whole octets in each codec.
+/// Decodes joined texts into a builder, 64 characters at a time. In each codec 64 characters encode
+/// whole octets.
 #[tactic(auto, using(std::proofs::lemmas::Grind::common_steps, crate::proofs::JoinedLemmas::pieces_end))]
 fn build<B: EmptyBuilder + Drop>(
     alloc: Global,
@@ -93,7 +93,7 @@ fn build<B: EmptyBuilder + Drop>(
     }
 }
 
-/// The value of each character as a digit of Base 16, and 99 for a character that is no digit.
+/// The value of each character as a digit of Base 16, or 99 if the character is not a digit.
 const DIGIT_VALUES: &[u8; 256] = &[
     99, 99, 99, 99, 99, 99, 99, 99, 99, 99, 99, 99, 99, 99, 99, 99, 99, 99, 99, 99, 99, 99, 99, 99,
     99, 99, 99, 99, 99, 99, 99, 99, 99, 99, 99, 99, 99, 99, 99, 99, 99, 99, 99, 99, 99, 99, 99, 99,
@@ -115,7 +115,7 @@ fn value_or_99(c: u8) -> u8
     DIGIT_VALUES[usize::from(c)]
 }
 
-/// Returns the octet of two digits of Base 16, or None if one of them is no digit.
+/// Returns the octet of two digits of Base 16, or None if one of them is not a digit.
 #[tactic(auto, using(crate::proofs::Base16Lemmas::pair_read))]
 fn read_pair(high: u8, low: u8) -> Option<u8>
     ensures { IfSome result (λ octet. (place : ℕ) → pair_value high low place ≡ Ok octet) }
@@ -128,8 +128,7 @@ fn read_pair(high: u8, low: u8) -> Option<u8>
     Some(high * 16 + low)
 }
 
-/// Writes the octets that digits of Base 16 stand for to a buffer. Returns false at a character
-/// that is no digit.
+/// Decodes digits of Base 16 into a buffer. Returns false if a character is not a digit.
 fn read_octets(digits: &[u8], octets: &mut [u8]) -> bool
     requires { length digits.now ≡ 2 * length octets.old }
     ensures decodes { IsTrue result → Decodes Codec.Base16 digits.now octets.new }
@@ -144,8 +143,8 @@ fn read_octets(digits: &[u8], octets: &mut [u8]) -> bool
     true
 }
 
-/// Returns the octets of a single text in Base 16 with at most 128 digits, in a buffer. Returns
-/// None for all other texts.
+/// Decodes a single text in Base 16 with at most 128 digits into a buffer. Returns None for all
+/// other texts.
 fn few_octets<'a>(codec: Codec, texts: &[&str], buffer: &'a mut [u8; 64]) -> Option<&'a [u8]>
     ensures { IfSome result (λ octets.
         Decodes codec (concat (map (λ text. text.now) texts.now)) octets.now) }
@@ -164,9 +163,12 @@ fn few_octets<'a>(codec: Codec, texts: &[&str], buffer: &'a mut [u8; 64]) -> Opt
 }
 
 impl Codec {
-    /// The octets that a text stands for. What is wrong with the text is answered first, as
-    /// `IllegalChar` or `ShortInput`, and then want of room. Memory is taken for the octets alone:
-    /// where they have a limit, none is.
+    /// Decodes a text. Allocates only for the octets, and only if they have no limit.
+    ///
+    /// # Errors
+    ///
+    /// `IllegalChar` or `ShortInput` for a malformed text, or else `ShortBuf` if the octets do not
+    /// fit, and `OutOfMemory`.
     pub fn decode<O: FromBuilder>(self, alloc: Global, text: &str) -> Result<O, DecodeError>
     where
         O::Builder: EmptyBuilder + Drop,
@@ -178,8 +180,8 @@ impl Codec {
         self.decode_joined(alloc, &[text])
     }
 
-    /// The octets that texts stand for when they are joined: what `decode` answers of the joined
-    /// text. Nothing is joined in memory.
+    /// Decodes the concatenation of texts, with the result of `decode`. Does not join the texts in
+    /// memory.
     pub fn decode_joined<O: FromBuilder>(
         self,
         alloc: Global,
