@@ -6,7 +6,8 @@ use Rattle.std.proofs.lemmas.{List.FromFn.get_or-range_with_len, Grind.common_st
 use Rattle.std.specs.{List.{AllByRecursion as ByRecursion, range_with_len, AllByRecursion, flat_map, list_all}, Str.IsAscii, Prelude.replicate}
 use Rattle.std.{proofs.lemmas.List.Sums.AllPass-from_list_all, specs.{declared.cmp.Ordering.TheVariants.Less, Ordering.{nat_cmp, ordering_then}}}
 use Rattle.std.specs.{Ordering.ordering_reverse, Cmp.{Lexicographic.{slice_cmp, nat_list_cmp_total}}}
-use Rattle.domain_codecs.specs.Base32.{base32_from, eight_digits, lower_digit, upper_digit, AreDigits, base32_lower, base32_upper, octet_bits, digit_bits, filled_bits}
+use Rattle.domain_codecs.specs.Base32.{base32_from, eight_digits, lower_digit, upper_digit, AreDigits, base32_lower, base32_upper}
+use Rattle.domain_codecs.specs.Base32.{octet_bits, digit_bits, filled_bits}
 use Rattle.std.proofs.Math.Nat.{div-lt_iff_lt-mul, div-mul-le_self}
 use Rattle.domain_codecs.specs.{declared.codec.Codec.TheVariants.Base32Hex, Codec.{base32_value, is_digit, is_base32_length, base32_octets, base32_digits}}
 use Rattle.domain_codecs.specs.Codec.{IsBase32}

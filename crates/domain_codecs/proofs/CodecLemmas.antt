@@ -1,6 +1,7 @@
 -- Texts in any base: how they are decoded, with room or without, and that they have no blanks.
-use Rattle.std.proofs.Common.{◌≡◌, ℕ, ◌+◌, ◌*◌, ◌/◌, ◌%◌, ◌<◌, ◌≤◌, List, [], ◌∷◌, ◌++◌, length, get_or, set, take, drop, refl, sym, ap, ◌∙◌, arith, lit<, ◌≢◌, inl}
-use Rattle.std.proofs.{Common.{true, false, map, rules, ◌⊎◌}, lemmas.{List.{take_more, take_more_set, take_all, append-nil, drop_all, nil_from_length, length-map}, Grind.common_steps}}
+use Rattle.std.proofs.Common.{◌≡◌, ℕ, ◌+◌, ◌*◌, ◌/◌, ◌%◌, ◌<◌, ◌≤◌, List, [], ◌∷◌, ◌++◌, length, get_or, set, take, drop, refl, sym, ap, ◌∙◌, arith}
+use Rattle.std.proofs.Common.{lit<, ◌≢◌, inl, true, false, map, rules, ◌⊎◌}
+use Rattle.std.proofs.lemmas.{List.{take_more, take_more_set, take_all, append-nil, drop_all, nil_from_length, length-map}, Grind.common_steps}
 use Rattle.std.specs.{Prelude.{replicate, not, zero, suc, unwrap_or}, List.list_all}
 use Rattle.hex.{specs.Hex.{encode_with, encode_lower, encode_upper, lower_digits, upper_digits}, proofs.HexLemmas.length-encode_with}
 use Rattle.domain_codecs.specs.{Codec.{base32_value, base32_octets, base32_digits, IsBase32}, Base32.{base32_from, base32_upper, base32_lower, upper_digit}}

@@ -10,9 +10,12 @@ use domain_octets::{EmptyBuilder, FromBuilder, OutOfMemory};
 use std::alloc::Global;
 use std::fmt;
 
-/// The octets of a text of digits in either case.
+/// Decodes digits in either case.
 ///
-/// Refuses an odd number of digits as `ShortInput`, and then what is no digit as `IllegalChar`.
+/// # Errors
+///
+/// `ShortInput` if the number of digits is odd, or else `IllegalChar` with the first character that
+/// is not a digit.
 pub fn decode<O: FromBuilder>(alloc: Global, text: &str) -> Result<O, DecodeError>
 where
     O::Builder: EmptyBuilder + Drop,
@@ -24,17 +27,17 @@ where
     Codec::Base16.decode(alloc, text)
 }
 
-/// The text of octets, in upper case.
+/// Encodes octets as text in upper case.
 pub fn encode_string(alloc: Global, octets: &[u8]) -> Result<String, OutOfMemory>
     ensures { IfOk result (λ text. string_bytes text ≡ encode_upper octets.now) }
 {
     Ok(hex::encode_upper(alloc, octets)?)
 }
 
-/// The digits in lower case.
+/// The digits, in lower case.
 const LOWER: &[u8; 16] = b"0123456789abcdef";
 
-/// The digits in upper case.
+/// The digits, in upper case.
 const UPPER: &[u8; 16] = b"0123456789ABCDEF";
 
 /// How many octets are written at a time.
@@ -73,14 +76,14 @@ fn write<W: fmt::Write>(
     Ok(())
 }
 
-/// Writes the text of octets, in upper case.
+/// Writes octets as text in upper case.
 pub fn display<W: fmt::Write>(octets: &[u8], f: &mut fmt::Formatter<W>) -> fmt::Result
     ensures { WritesOnOk W.write_str_gives f.old result (encode_upper octets.now) f.new }
 {
     write(UPPER, octets, f)
 }
 
-/// Writes the text of octets, in lower case.
+/// Writes octets as text in lower case.
 pub fn display_lower<W: fmt::Write>(octets: &[u8], f: &mut fmt::Formatter<W>) -> fmt::Result
     ensures { WritesOnOk W.write_str_gives f.old result (encode_lower octets.now) f.new }
 {

@@ -13,10 +13,12 @@ use std::alloc::Global;
 use std::fmt;
 use std::marker::Model;
 
-/// The octets of a text of digits in either case.
+/// Decodes digits in either case. Ignores bits after the last whole octet.
 ///
-/// Refuses what is no digit as `IllegalChar`, padding too, and then a number of digits that no
-/// octets have as `ShortInput`. Bits after the last whole octet are passed over.
+/// # Errors
+///
+/// `IllegalChar` with the first character that is not a digit, padding included, or else
+/// `ShortInput` if no octets have this number of digits.
 pub fn decode_hex<O: FromBuilder>(alloc: Global, text: &str) -> Result<O, DecodeError>
 where
     O::Builder: EmptyBuilder + Drop,
@@ -28,7 +30,7 @@ where
     Codec::Base32Hex.decode(alloc, text)
 }
 
-/// The value of a digit, in either case; None for a character that is no digit.
+/// Returns the value of a digit in either case, or None for any other character.
 pub fn digit_value(c: u8) -> Option<u8>
     ensures value { result ≡ base32_value c }
     ensures small { IfSome result (λ digit. digit < 32) }
@@ -44,7 +46,7 @@ pub fn digit_value(c: u8) -> Option<u8>
     }
 }
 
-/// The value of a digit, in either case, and 0 for a character that is no digit.
+/// Returns the value of a digit in either case, or 0 for any other character.
 pub fn digit_or_zero(c: u8) -> u32
     ensures value { result ≡ unwrap_or (base32_value c) 0 }
     ensures small { result < 32 }
@@ -55,10 +57,10 @@ pub fn digit_or_zero(c: u8) -> u32
     }
 }
 
-/// The digits in lower case.
+/// The digits, in lower case.
 const LOWER: &[u8; 32] = b"0123456789abcdefghijklmnopqrstuv";
 
-/// The digits in upper case.
+/// The digits, in upper case.
 const UPPER: &[u8; 32] = b"0123456789ABCDEFGHIJKLMNOPQRSTUV";
 
 /// Returns five octets as one number, the first of them highest.
@@ -86,7 +88,7 @@ fn spell(alphabet: &[u8; 32], number: u64) -> [u8; 8]
     ]
 }
 
-/// The digits of octets that are left, each a number below 32. Takes no memory.
+/// The remaining digits of octets, each a number below 32. Does not allocate.
 #[derive(Drop)]
 pub struct Digits<'a> {
     octets: &'a [u8],
@@ -102,7 +104,7 @@ impl<'a> Model for Digits<'a> {
 }
 
 impl<'a> Digits<'a> {
-    /// All digits of these octets.
+    /// Returns all digits of these octets.
     pub fn new(octets: &'a [u8]) -> Self
         ensures { result ≡ base32_from 1 0 octets.now }
     {
@@ -132,8 +134,8 @@ impl<'a> Digits<'a> {
         Some((number_of(&five), count))
     }
 
-    /// Writes the next digits as characters of an alphabet to the front of a buffer, as far as
-    /// there are any and there is room for eight, and gives the place after them.
+    /// Writes the next digits to the front of a buffer, as characters of an alphabet, while the
+    /// buffer has room for eight more. Returns the end of what was written.
     fn put(&mut self, alphabet: &[u8; 32], buffer: &mut [u8]) -> usize
         ensures written { (digits : Octets) × AreDigits digits × (self.old ≡ digits ++ self.new)
             × (take result buffer.new ≡ map (slice_index alphabet.now) digits) }
@@ -152,8 +154,8 @@ impl<'a> Digits<'a> {
         end
     }
 
-    /// Writes the next digits in lower case to the front of a buffer, as far as there are any and
-    /// there is room for eight, and gives the place after them.
+    /// Writes the next digits to the front of a buffer, in lower case, while the buffer has room
+    /// for eight more. Returns the end of what was written.
     pub fn put_lower(&mut self, buffer: &mut [u8]) -> usize
         ensures written { (digits : Octets) × (self.old ≡ digits ++ self.new)
             × (take result buffer.new ≡ map lower_digit digits) }
@@ -164,8 +166,8 @@ impl<'a> Digits<'a> {
         self.put(LOWER, buffer)
     }
 
-    /// The text of the next digits in upper case, as many as there are and a buffer has room for;
-    /// None where none are left.
+    /// Writes the next digits to a buffer, in upper case, as many as fit. Returns them as text, or
+    /// None if no digits are left.
     fn next_upper<'b>(&mut self, buffer: &'b mut [u8]) -> Option<&'b str>
         requires { 8 ≤ length buffer.old }
         ensures some { IfSome result (λ text. (digits : Octets) × (self.old ≡ digits ++ self.new)
@@ -180,11 +182,11 @@ impl<'a> Digits<'a> {
     }
 }
 
-/// How many octets of text are written at a time.
+/// The number of digits that are written at a time.
 const ROOM: usize = 64;
 
-/// The text of octets in lower case, as octets: what the first label of an NSEC3 owner holds
-/// (RFC 5155, section 3).
+/// Encodes octets as text in lower case, and returns the octets of the text. The first label of an
+/// NSEC3 owner is such a text (RFC 5155, section 3).
 pub fn encode_hex_lower(alloc: Global, octets: &[u8]) -> Result<Vec<u8>, OutOfMemory>
     ensures { IfOk result (λ text. text.items ≡ base32_lower octets.now) }
 {
@@ -194,7 +196,7 @@ pub fn encode_hex_lower(alloc: Global, octets: &[u8]) -> Result<Vec<u8>, OutOfMe
     Ok(text)
 }
 
-/// The text of octets, in upper case.
+/// Encodes octets as text in upper case.
 pub fn encode_string(alloc: Global, octets: &[u8]) -> Result<String, OutOfMemory>
     ensures { IfOk result (λ text. string_bytes text ≡ base32_upper octets.now) }
 {
@@ -207,7 +209,7 @@ pub fn encode_string(alloc: Global, octets: &[u8]) -> Result<String, OutOfMemory
     Ok(text)
 }
 
-/// Writes the text of octets, in upper case.
+/// Writes octets as text in upper case.
 pub fn display<W: fmt::Write>(octets: &[u8], f: &mut fmt::Formatter<W>) -> fmt::Result
     ensures { WritesOnOk W.write_str_gives f.old result (base32_upper octets.now) f.new }
 {

@@ -1,6 +1,7 @@
 -- The canonical order of names, and what is at or below a name.
 use Rattle.std.proofs.Common.{◌≡◌, ℕ, zero, suc, ◌+◌, ◌-◌, ◌≤◌, List, [], ◌∷◌, ◌++◌, length, min, take, drop, map, reverse, Bool, cond, ap, arith, nat_eq, ◌<◌}
-use Rattle.std.proofs.{Common.{refl, sym, ◌∙◌, length-append, ◌⊎◌, subst, get_or, w8, w64, Fits}, lemmas.{Grind.common_steps, List.{drop-map, take-append-drop, length-map, drop_at, get_or-take, get_or_past}}}
+use Rattle.std.proofs.{Common.{refl, sym, ◌∙◌, length-append, ◌⊎◌, subst, get_or, w8, w64, Fits}, lemmas.Grind.common_steps}
+use Rattle.std.proofs.lemmas.List.{drop-map, take-append-drop, length-map, drop_at, get_or-take, get_or_past}
 use Rattle.std.{proofs.{Math.Seq.take-add, lemmas.Nat.le_bytes_8}, specs.{Array.IsFirstChunk, Int.{from_le_bytes, to_le_bytes}}}
 use Rattle.std.{proofs.lemmas.{List.Elements.{All-map, All-weaker}, Bool.Decides.nat_tests}, specs.{declared.cmp.Ordering.Ordering, Ordering.ordering_then}}
 use Rattle.std.specs.{Ordering.{nat_cmp, is_eq}, Char.to_ascii_lowercase, List.{common_prefix_len, AllByRecursion}, Prelude.true, Cmp.both_ways}
@@ -166,7 +167,11 @@ pub alike_ties : (a b : List ℕ) (count : ℕ) → BeginAlike a b count → sli
     ≡ slice_cmp nat_cmp (map to_ascii_lowercase (drop count a)) (map to_ascii_lowercase (drop count b))
 alike_ties a b zero alike = refl
 alike_ties (x ∷ a) (y ∷ b) (suc count) alike =
-    let rest : BeginAlike a b count = record { in_left = omega (arith, alike.in_left); in_right = omega (arith, alike.in_right); same = ap (drop 1) alike.same } in
+    let rest : BeginAlike a b count = record {
+      in_left = omega (arith, alike.in_left);
+      in_right = omega (arith, alike.in_right);
+      same = ap (drop 1) alike.same;
+    } in
     let first : x ≡ y = ap (λ l. get_or l 0 0) alike.same in
     grind (arith, common_steps, first, (alike_ties a b count rest))
 alike_ties [] b (suc count) alike = absurd (omega (arith, alike.in_left))

@@ -1,4 +1,5 @@
-use Rattle.std.proofs.{Common.{◌≤◌, ◌<◌, ◌++◌, ◌∙◌, append_assoc, map, slice_index, take, ap, sym, arith}, lemmas.List.{map-append, take-map, Elements.{All-append, All-take}}}
+use Rattle.std.proofs.Common.{◌≤◌, ◌<◌, ◌++◌, ◌∙◌, append_assoc, map, slice_index, take, ap, sym, arith}
+use Rattle.std.proofs.lemmas.List.{map-append, take-map, Elements.{All-append, All-take}}
 use Rattle.domain_codecs.specs.Base32.{eight_digits}
 use Rattle.domain_codecs.proofs.Base32Lemmas.{digits_are_small}
 use Rattle.domain_codecs.proofs.base32.Digits.put.Goals as goal
