@@ -86,7 +86,8 @@ pub shared_before_data : (a : Name) (h : List ℕ) (ttl : ℕ) → AreOctets h
 shared_before_data a h ttl all = grind (arith, common_steps, append_assoc, (hash_and_apex a h all))
 
 pub link_spelled : (k : HashedLink) → k.class ≡ in_class
-    → link_text k ≡ text_before_data k.owner k.ttl ++ nsec3_text ((((k.parameters.algorithm, (k.flags, k.parameters.iterations)), k.parameters.salt), k.next), k.bits)
+    → link_text k ≡ text_before_data k.owner k.ttl
+    ++ nsec3_text ((((k.parameters.algorithm, (k.flags, k.parameters.iterations)), k.parameters.salt), k.next), k.bits)
 link_spelled k class = grind (arith, common_steps, append_assoc)
 
 -- ---- when a hash is of use

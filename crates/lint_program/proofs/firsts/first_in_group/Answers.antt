@@ -16,7 +16,9 @@ pub returns : goal.returns
 returns c = λ before firsts. (
   grind (arith, common_steps, (firsts.map c.group_of-group.result)),
   record {
-    map = λ q. grind (arith, common_steps, group_tied, (firsts.map q), (firsts.map c.group_of-group.result), (one_more _ _ before c.args.placed.borrowed.now q));
+    map = λ q.
+        let more = one_more _ _ before c.args.placed.borrowed.now q in
+        grind (arith, common_steps, group_tied, (firsts.map q), (firsts.map c.group_of-group.result), more);
     last = grind (arith, common_steps, (firsts.map c.group_of-group.result), (one_more _ _ before c.args.placed.borrowed.now c.group_of-group-2.result));
   },
 )
