@@ -11,7 +11,7 @@ use crate::hash::{Hashed, display_hash};
 use domain_base::{Class, MakeName, ParsedName, ToName, Ttl};
 use domain_bitmap::{OwnerHash, RtypeBitmap, RtypeBitmaps};
 use domain_chain_rdata::{Nsec3, Nsec3param};
-use domain_octets::{FromBuilder, GrowingBuilder, Octets, OutOfMemory};
+use domain_octets::{FromBuilder, GrowingBuilder, Octets, OutOfMemory, laws};
 use domain_record::Record;
 use std::alloc::Global;
 use std::fmt;
@@ -111,6 +111,7 @@ pub(crate) fn lend_record<'a, O: Octets>(
     let next = hash_after(chain.hashed.as_slice(), at);
     let hashed = &chain.hashed[at];
     let hash = hashed.hash.as_slice();
+    laws::slices_hold_octets(hash);
     let owner = HashedOwner::new(nsec3param.owner().as_parsed(), hash);
     let params = nsec3param.data();
     let salt = params.salt();

@@ -1,4 +1,4 @@
-use Rattle.std.proofs.{Common.{◌+◌, get_or, ap, ◌∙◌, arith}, lemmas.Grind.common_steps}
+use Rattle.std.proofs.{Common.{[], ◌+◌, get_or, ap, ◌∙◌, arith}, lemmas.Grind.common_steps}
 use Rattle.domain_nsec.{specs.Chain.as_link, proofs.ChainLemmas.{links_counted, link_borrowed}}
 use Rattle.domain_nsec.proofs.chain.NsecChain.lend.Goals as goal
 
