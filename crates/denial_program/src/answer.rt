@@ -15,9 +15,10 @@ use crate::command::{Command, Nsec3Params};
 use crate::fault::{DenialFault, fault_of};
 use crate::line::{ZoneName, ZoneOctets};
 use crate::prepare::{compact_zone, sort_zone, store_apex};
+use crate::shared::Shared;
 use crate::verdict_text::VerdictText;
 use bumpalo::Bump;
-use domain_base::ParsedName;
+use domain_base::{ParsedName, ToName};
 use domain_borrowed::BorrowedRecord;
 use domain_dnssec::{
     GenerateNsec3Config, GenerateNsecConfig, InPlaceSorter, Nsec3Chain, Nsec3Hasher, NsecChain,
@@ -38,7 +39,7 @@ pub enum Reply<'s, 'a> {
     Verdict(ZoneName, Verdict),
 }
 
-/// The NSEC chain of the zone that the records are, from which it borrows.
+/// Returns the NSEC chain of the zone that the records are, from which it borrows.
 ///
 /// # Errors
 ///
@@ -66,9 +67,9 @@ pub fn nsecs_of<'s, 'a>(
     }
 }
 
-/// The chain of the zone that the records are: by hashes with these parameters, or, without any, of
-/// NSEC records. It borrows from the apex, and of NSEC records from the records. No two of its
-/// hashes are alike, so that a sorter that takes no memory serves as well as a stable one.
+/// Returns the chain of the zone that the records are: by hashes with these parameters, or, without
+/// any, of NSEC records. It borrows from the apex, and of NSEC records from the records. No two of
+/// its hashes are alike, so that a sorter that takes no memory serves as well as a stable one.
 #[tactic(auto, using(std::proofs::lemmas::Grind::common_steps, crate::proofs::RunLemmas::nsec3s_made, crate::proofs::RunLemmas::on_ok))]
 fn chain_reply<'s, 'a, H: Nsec3Hasher>(
     alloc: Global,
@@ -101,17 +102,28 @@ fn chain_reply<'s, 'a, H: Nsec3Hasher>(
     }
 }
 
-/// Writes the records of an NSEC chain, one a line. They borrow from the chain, so that this takes
-/// no memory.
-fn write_nsecs<W: Write>(chain: &NsecChain<'_, ParsedName<'_>>, output: &mut W) -> io::Result<()>
+/// Writes the records of an NSEC chain, one a line. They borrow from the chain. This takes memory
+/// only for what they have alike, and before the first line.
+#[tactic(auto, using(std::proofs::lemmas::Grind::common_steps))]
+fn write_nsecs<W: Write>(
+    alloc: Global,
+    chain: &NsecChain<'_, ParsedName<'_>>,
+    output: &mut W,
+) -> io::Result<()>
     ensures { OnOk result (Appends (W.contents output.old) (W.contents output.new)
         (lines_of nsec_line chain.now)) }
 {
+    let Some(first) = chain.lend(0) else {
+        return Ok(());
+    };
+    let mut shared = Shared::new(alloc, first.ttl(), first.class())?;
     for place in 0..chain.len() {
         let Some(nsec) = chain.lend(place) else {
             unreachable!();
         };
-        writeln!(output, "{nsec}")?;
+        shared.set(alloc, nsec.ttl(), nsec.class())?;
+        let (owner, between) = (nsec.owner().fmt_with_dot(), shared.text());
+        writeln!(output, "{owner}{between}{}", nsec.data())?;
     }
     Ok(())
 }
@@ -143,13 +155,13 @@ fn write_nsec3s<W: Write>(chain: &Nsec3Chain<'_, ZoneOctets>, output: &mut W) ->
 }
 
 impl<'s, 'a> Reply<'s, 'a> {
-    /// Writes the answer, and hands it on to the device.
-    fn write<W: Write>(&self, output: &mut W) -> io::Result<()>
+    /// Writes the answer, and flushes the output.
+    fn write<W: Write>(&self, alloc: Global, output: &mut W) -> io::Result<()>
         ensures { OnOk result
             (Appends (W.contents output.old) (W.contents output.new) (answer_text self.now)) }
     {
         match self {
-            Reply::Nsecs(chain) => write_nsecs(chain, output)?,
+            Reply::Nsecs(chain) => write_nsecs(alloc, chain, output)?,
             Reply::Nsec3s(chain) => write_nsec3s(chain, output)?,
             Reply::Verdict(name, verdict) => {
                 let verdict = *verdict;
@@ -159,13 +171,13 @@ impl<'s, 'a> Reply<'s, 'a> {
         output.flush()
     }
 
-    /// Writes the answer; an error of the device is `Write`, unless it is want of memory.
-    fn send<W: Write>(self, output: &mut W) -> Result<(), DenialFault>
+    /// Writes the answer; an error of the device is `Write`, unless it is lack of memory.
+    fn send<W: Write>(self, alloc: Global, output: &mut W) -> Result<(), DenialFault>
         ensures ok { OnOk result
             (Appends (W.contents output.old) (W.contents output.new) (answer_text self.entry)) }
         ensures err { IfErr result (λ e. (e ≡ DenialFault.Write) ⊎ (e ≡ OutOfMemory)) }
     {
-        match self.write(output) {
+        match self.write(alloc, output) {
             Ok(()) => Ok(()),
             Err(e) => Err(fault_of(&e, DenialFault::Write)),
         }
@@ -195,19 +207,19 @@ fn write_chain_of<'a, W: Write, H: Nsec3Hasher>(
     let apex = store_apex(arena, apex)?;
     let compacted = compact_zone(arena, sorted, parameters.is_none())?;
     let answer = chain_reply(alloc, &apex, parameters, &compacted, hasher)?;
-    answer.send(output)
+    answer.send(alloc, output)
 }
 
 /// Writes what a command asks of the records.
 ///
 /// # Errors
 ///
-/// The first that stands: of a chain `MixedClasses`, and `Signing` where there is none; of a
-/// verdict of NSEC3 records `Param` where the apex has not exactly one NSEC3PARAM record, and
+/// The first of these that applies: of a chain `MixedClasses`, and `Signing` where there is none;
+/// of a verdict of NSEC3 records `Param` where the apex has not exactly one NSEC3PARAM record, and
 /// `Signing` where the hasher refuses; `Write` where the output could not be written; and
 /// `OutOfMemory`, of a chain only where the zone has no fault, but for NSEC3 one of hashing. Before
-/// a fault of the zone is known, `Unprepared` where there was no memory to sort the records or to
-/// lay them. Nothing is written before `Write` and `OutOfMemory`.
+/// a fault of the zone is known, `Unprepared` if there is no memory to sort the records or to lay
+/// them. Nothing is written before `Write` and `OutOfMemory`.
 pub fn write_answer<'a, W: Write, H: Nsec3Hasher>(
     alloc: Global,
     arena: &'a Bump,
@@ -230,11 +242,11 @@ pub fn write_answer<'a, W: Write, H: Nsec3Hasher>(
         }
         Command::CheckNsec(question) => {
             let answer = nsec_reply(alloc, question, records)?;
-            answer.send(output)
+            answer.send(alloc, output)
         }
         Command::CheckNsec3(question) => {
             let answer = nsec3_reply(alloc, question, records, hasher)?;
-            answer.send(output)
+            answer.send(alloc, output)
         }
     }
 }

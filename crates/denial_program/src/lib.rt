@@ -18,6 +18,7 @@ mod prepare;
 mod process;
 mod program;
 mod reading;
+mod shared;
 mod store;
 mod verdict_text;
 

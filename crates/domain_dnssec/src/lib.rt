@@ -33,7 +33,7 @@ pub use domain_base::{
     CanonicalOrd, Class, FromToken, IterScanner, MakeName, Name, Nsec3HashAlgorithm, ParseError,
     ParsedName, Rtype, ScanError, Scanner, ToName, Ttl,
 };
-pub use domain_bitmap::{RtypeBitmap, RtypeBitmapBuilder};
+pub use domain_bitmap::{RtypeBitmap, RtypeBitmapBuilder, RtypeBitmaps};
 pub use domain_checker::{NsecCheck, Verdict, check_nsec, check_nsec3};
 pub use domain_denier::{Nsec3Denial, NsecDenial, NsecDenier, deny_nsec, deny_nsec3};
 pub use domain_hasher::{HasherError, Nsec3HashError, Nsec3Hasher};

@@ -1,6 +1,10 @@
 -- Hashes of names: as labels, in lists, and in order; and the names of an NSEC3 chain, those that exist over its owners.
 use Rattle.domain_base.specs.Types.{ds, ns}
+use Rattle.domain_base.specs.Classes.{in_class}
 use Rattle.domain_chain_rdata.specs.Rdata.{is_opt_out}
+use Rattle.domain_chain_rdata.specs.Text.{nsec3_text}
+use Rattle.domain_nsec3.specs.{View.{apex_text, link_text, shared_text, text_before_data}, Chain.HashedLink}
+use Rattle.std.{proofs.Common.append_assoc, specs.Prelude.codes}
 use Rattle.domain_codecs.{proofs.Base32Lemmas.{are_small, many_digits}, specs.Base32.{base32_from, base32_lower, lower_digit}}
 use Rattle.domain_hasher.specs.declared.error.Nsec3HashError.{Nsec3HashError, TheVariants.OutOfMemory}
 use Rattle.domain_names.{proofs.WireLemmas.{IsWire-wire_of, labels_of-wire_of, wire_is}, specs.Name.{IsName, Label, Name, before, canonical_cmp, common_labels}}
@@ -69,6 +73,22 @@ pub owner_below : (a : Name) (h : List ℕ) → AreOctets h → (a ≡ [] → �
     → base32_lower h ++ 46 ∷ (name_text a ++ 46 ∷ []) ≡ name_text (hashed_owner a h) ++ 46 ∷ []
 owner_below [] h all some = absurd (some refl)
 owner_below (l ∷ ls) h all some = grind (arith, common_steps, hash_text)
+
+-- ---- the text of a record
+
+pub hash_and_apex : (a : Name) (h : List ℕ) → AreOctets h → base32_lower h ++ apex_text a ≡ name_text (hashed_owner a h) ++ codes "."
+hash_and_apex [] h all = owner_at_root [] h all refl
+hash_and_apex (l ∷ ls) h all = owner_below (l ∷ ls) h all (λ e. absurd (cc e))
+
+-- the owner's text is that of the hash, and what all records share
+pub shared_before_data : (a : Name) (h : List ℕ) (ttl : ℕ) → AreOctets h
+    → text_before_data (hashed_owner a h) ttl ≡ base32_lower h ++ shared_text a ttl
+shared_before_data a h ttl all = grind (arith, common_steps, append_assoc, (hash_and_apex a h all))
+
+pub link_spelled : (k : HashedLink) → k.class ≡ in_class
+    → link_text k ≡ text_before_data k.owner k.ttl
+    ++ nsec3_text ((((k.parameters.algorithm, (k.flags, k.parameters.iterations)), k.parameters.salt), k.next), k.bits)
+link_spelled k class = grind (arith, common_steps, append_assoc)
 
 -- ---- when a hash is of use
 

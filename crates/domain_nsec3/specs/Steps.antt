@@ -123,4 +123,4 @@ link_to a p types h next = record {
 
 -- the links of a chain below an apex
 abbrev pub links_in : Name → HashedChain → Common → List HashedLink
-links_in a chain p = map (λ q. link_to a p chain.types.items q.0 q.1.hash) (cycle chain.hashed.items)
+links_in a chain p = map (λ q. link_to a p chain.types q.0 q.1.hash) (cycle chain.hashed.items)

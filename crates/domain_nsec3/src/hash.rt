@@ -34,7 +34,7 @@ fn write_hash<'a>(buffer: &'a mut [u8], hash: &[u8]) -> &'a [u8]
 }
 
 /// Prints the text of a hash in lower case.
-fn display_hash<W: fmt::Write>(hash: &[u8], f: &mut fmt::Formatter<W>) -> fmt::Result
+pub(crate) fn display_hash<W: fmt::Write>(hash: &[u8], f: &mut fmt::Formatter<W>) -> fmt::Result
     requires { length hash.now ≤ 39 }
     ensures { WritesOnOk W.write_str_gives f.old result (base32_lower hash.now) f.new }
 {

@@ -5,7 +5,7 @@ ghost use Rattle.lint_program.specs.Notes.{fails, group_of, is_apex_soa, look_of
 
 use crate::odd::{has_extras, is_such, shape_of};
 use crate::reading::Place;
-use domain_base::{Name, ParsedName, Rtype, ToName};
+use domain_base::{ParsedName, Rtype, ToName};
 use domain_borrowed::BorrowedRecord;
 
 /// What the records are looked through for, each time once.
@@ -49,7 +49,7 @@ pub enum Reason {
 }
 
 impl Reason {
-    /// Whether it may be a fault, for which `denial` refuses the records.
+    /// Returns whether it may be a fault, for which `denial` refuses the records.
     pub fn fails(&self) -> bool
         ensures { result ≡ fails self.now }
     {
@@ -70,34 +70,24 @@ pub struct Placed<'z, 'a> {
 }
 
 /// What puts records together: a name and a number.
-pub type Group<'z> = (Name<&'z [u8]>, u16);
+pub type Group<'z> = (ParsedName<'z>, u16);
 
-/// A name as a part of a group, in the octets where it lies.
-fn named<'z>(name: &'z ParsedName<'_>) -> Name<&'z [u8]>
-    ensures { result ≡ name.now }
-{
-    let Ok(named) = Name::from_octets(name.as_wire()) else {
-        unreachable!();
-    };
-    named
-}
-
-/// Whether it is an SOA record of the apex.
+/// Returns whether it is an SOA record of the apex.
 pub fn is_apex_soa(apex: &ParsedName<'_>, borrowed: &BorrowedRecord<'_>) -> bool
     ensures { result ≡ is_apex_soa apex.now borrowed.now }
 {
     borrowed.rtype() == Rtype::SOA && borrowed.owner().name_eq(apex)
 }
 
-/// Whether records of the type may stand beside a CNAME record (RFC 4034, section 2.5 and RFC 2181,
-/// section 10.1).
+/// Returns whether records of the type may stand beside a CNAME record (RFC 4034, section 2.5 and
+/// RFC 2181, section 10.1).
 fn stands_beside_alias(rtype: Rtype) -> bool
     ensures { result ≡ stands_beside_alias rtype }
 {
     rtype == Rtype::RRSIG || rtype == Rtype::NSEC
 }
 
-/// The group of a record.
+/// Returns the group of a record.
 pub fn group_of<'z>(
     look: Look,
     apex: &'z ParsedName<'_>,
@@ -107,13 +97,13 @@ pub fn group_of<'z>(
 {
     let rtype = borrowed.rtype();
     match look {
-        Look::Soas => (named(apex), u16::from(is_apex_soa(apex, borrowed))),
-        Look::Ttls => (named(borrowed.owner()), rtype.to_int()),
+        Look::Soas => (apex.as_parsed(), u16::from(is_apex_soa(apex, borrowed))),
+        Look::Ttls => (borrowed.owner().as_parsed(), rtype.to_int()),
         Look::Aliases => (
-            named(borrowed.owner()),
+            borrowed.owner().as_parsed(),
             u16::from(stands_beside_alias(rtype)),
         ),
-        Look::Classes | Look::Outside | Look::Data => (named(apex), 0),
+        Look::Classes | Look::Outside | Look::Data => (apex.as_parsed(), 0),
     }
 }
 

@@ -4,21 +4,20 @@ ghost use Rattle.std.specs.Prelude.{◌≡◌, ◌==◌, ◌++◌, List, OnOk, I
 ghost use Rattle.std.specs.List.{list_any};
 ghost use Rattle.lint_program.specs.Notes.{is_apex_soa, mark_of, missing_soa, AreNoted, Found, IsToldOf, Mark};
 
-use crate::firsts::first_in_group;
+use crate::firsts::{Firsts, first_in_group};
 use crate::looks::{Look, Placed, Reason, is_apex_soa, reason_of};
 use crate::note_text::text_of;
 use crate::reading::Lines;
 use domain_base::{ParsedName, ToName};
 use domain_borrowed::BorrowedRecord;
 use std::alloc::{AllocError, Global};
-use std::collections::BTreeMap;
 
 /// What is told of a record, or of all.
 #[derive(Drop)]
 pub struct Note {
     /// Why.
     pub reason: Reason,
-    /// The number of the record's line; None where it is told of all.
+    /// The number of the record's line, or `None` if it is told of all.
     pub place: Option<u64>,
     /// What is told between the words that each note of this reason begins and ends with.
     pub text: String,
@@ -62,7 +61,7 @@ fn note_each<'z, 'a>(
         × Found look apex.now lines.now.records.items (map (λ p. p.number) lines.now.places.items)
         more × (map mark_of notes.new.items ≡ map mark_of notes.old.items ++ more)) }
 {
-    let mut firsts = BTreeMap::new(alloc);
+    let mut firsts = Firsts::new(alloc);
     for (i, borrowed) in lines.records.iter().enumerate() {
         let place = lines.places[i];
         let placed = Placed { borrowed, place };
@@ -72,7 +71,7 @@ fn note_each<'z, 'a>(
     Ok(())
 }
 
-/// Whether the apex owns an SOA record.
+/// Returns whether the apex owns an SOA record.
 fn has_soa(apex: &ParsedName<'_>, records: &[BorrowedRecord<'_>]) -> bool
     ensures { result ≡ list_any (is_apex_soa apex.now) records.now }
 {
@@ -102,7 +101,7 @@ fn note_no_soa(
     Ok(())
 }
 
-/// What is told of records. Where lines were bad, that one is missing is not told.
+/// Returns what is told of records. Where lines were bad, that one is missing is not told.
 pub fn notes_of(
     alloc: Global,
     apex: &ParsedName<'_>,
