@@ -426,8 +426,8 @@ uint32_t denial_check_nsec3_alone(const uint8_t *apex, size_t apex_length,
  *   DENIAL_SHORT_BUFFER                      with the number of octets of the chain. Pass a buffer of length 0
  *                                            to get that number.
  *
- * DENIAL_OUT_OF_MEMORY may replace the last four. Allocates memory as denial_judge_nsec does: 48 octets and more
- * for each record, and the octets of the chain.
+ * DENIAL_OUT_OF_MEMORY may replace the last three, and DENIAL_CHAIN_MADE. Allocates memory as denial_judge_nsec
+ * does: 48 octets and more for each record, and the octets of the chain.
  */
 uint32_t denial_nsec_chain(const uint8_t *apex, size_t apex_length,
                            uint16_t rclass, bool assume_dnskey, bool occlude_below_dname,
@@ -449,8 +449,8 @@ uint32_t denial_nsec_chain(const uint8_t *apex, size_t apex_length,
  *
  * The faults, in the order in which they are reported: DENIAL_BAD_APEX; DENIAL_LONG_SALT; DENIAL_BAD_RECORDS or
  * DENIAL_OTHER_CLASS, the one that comes first in the octets; DENIAL_NO_SINGLE_SOA; DENIAL_UNEQUAL_TTLS;
- * DENIAL_LONG_OWNER; DENIAL_COLLISION; DENIAL_SHORT_BUFFER. DENIAL_OUT_OF_MEMORY may replace the last five. A
- * call with a buffer of length 0 hashes all names too.
+ * DENIAL_LONG_OWNER; DENIAL_COLLISION; DENIAL_SHORT_BUFFER. DENIAL_OUT_OF_MEMORY may replace the last five,
+ * and DENIAL_CHAIN_MADE. A call with a buffer of length 0 hashes all names too.
  */
 uint32_t denial_nsec3_chain(const uint8_t *apex, size_t apex_length,
                             uint16_t rclass, bool assume_dnskey, bool occlude_below_dname,
@@ -477,7 +477,7 @@ uint32_t denial_nsec3_chain(const uint8_t *apex, size_t apex_length,
  * There is no assume_dnskey, which does not change the names. Returns DENIAL_COLLISION with the names, or
  * DENIAL_NO_COLLISION, or a fault. The faults, in the order in which they are reported: DENIAL_BAD_APEX;
  * DENIAL_LONG_SALT; DENIAL_BAD_RECORDS or DENIAL_OTHER_CLASS, the one that comes first in the octets. SOA
- * records, TTLs and the length of hashed owners are not checked. DENIAL_OUT_OF_MEMORY may replace the last two,
+ * records, TTLs and the length of hashed owners are not checked. DENIAL_OUT_OF_MEMORY may replace
  * DENIAL_COLLISION and DENIAL_NO_COLLISION. The buffers change only if names are returned.
  *
  * Allocates memory as denial_judge_nsec does: 48 octets and more for each record, and more for each name and its
