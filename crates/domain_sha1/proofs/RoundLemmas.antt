@@ -82,3 +82,7 @@ pub added : (s v : List ℕ) (r0 r1 r2 r3 r4 : ℕ) → r0 ≡ add32 (slice_inde
     → r2 ≡ add32 (slice_index s 2) (slice_index v 2) → r3 ≡ add32 (slice_index s 3) (slice_index v 3)
     → r4 ≡ add32 (slice_index s 4) (slice_index v 4) → r0 ∷ r1 ∷ r2 ∷ r3 ∷ r4 ∷ [] ≡ add_state s v
 added s v r0 r1 r2 r3 r4 e0 e1 e2 e3 e4 = rw (e0, e1, e2, e3, e4) refl
+
+-- the same number of rounds, spelled another way
+pub rounds_at : (h w v : List ℕ) (n k : ℕ) → n ≡ k → v ≡ rounds h w n → v ≡ rounds h w k
+rounds_at h w v n k same made = rw same at made

@@ -82,28 +82,90 @@ fn last_round(v: [u32x4; 5], w: &[u32x4; 80], t: usize) -> [u32x4; 5]
     round(v, parity(v[1], v[2], v[3]), 0xCA62_C1D6, w[t])
 }
 
+/// Runs the first twenty rounds. Five at a time need no moves of the working variables.
+#[inline(always)]
+fn choose_rounds(v: [u32x4; 5], w: &[u32x4; 80]) -> [u32x4; 5]
+    ensures { (j : ℕ) (h : List ℕ) → j < 4 → lane j v ≡ rounds h (lane j w.now) 0
+        → lane j result ≡ rounds h (lane j w.now) 20 }
+{
+    let mut v = v;
+    'rounds: for group in 0..4 {
+        let t = 5 * group;
+        let one = choose_round(v, w, t);
+        let two = choose_round(one, w, t + 1);
+        let three = choose_round(two, w, t + 2);
+        let four = choose_round(three, w, t + 3);
+        let five = choose_round(four, w, t + 4);
+        v = five;
+    }
+    v
+}
+
+/// Runs the second twenty rounds. Five at a time need no moves of the working variables.
+#[inline(always)]
+fn parity_rounds(v: [u32x4; 5], w: &[u32x4; 80]) -> [u32x4; 5]
+    ensures { (j : ℕ) (h : List ℕ) → j < 4 → lane j v ≡ rounds h (lane j w.now) 20
+        → lane j result ≡ rounds h (lane j w.now) 40 }
+{
+    let mut v = v;
+    'rounds: for group in 0..4 {
+        let t = 20 + 5 * group;
+        let one = parity_round(v, w, t);
+        let two = parity_round(one, w, t + 1);
+        let three = parity_round(two, w, t + 2);
+        let four = parity_round(three, w, t + 3);
+        let five = parity_round(four, w, t + 4);
+        v = five;
+    }
+    v
+}
+
+/// Runs the third twenty rounds. Five at a time need no moves of the working variables.
+#[inline(always)]
+fn majority_rounds(v: [u32x4; 5], w: &[u32x4; 80]) -> [u32x4; 5]
+    ensures { (j : ℕ) (h : List ℕ) → j < 4 → lane j v ≡ rounds h (lane j w.now) 40
+        → lane j result ≡ rounds h (lane j w.now) 60 }
+{
+    let mut v = v;
+    'rounds: for group in 0..4 {
+        let t = 40 + 5 * group;
+        let one = majority_round(v, w, t);
+        let two = majority_round(one, w, t + 1);
+        let three = majority_round(two, w, t + 2);
+        let four = majority_round(three, w, t + 3);
+        let five = majority_round(four, w, t + 4);
+        v = five;
+    }
+    v
+}
+
+/// Runs the last twenty rounds. Five at a time need no moves of the working variables.
+#[inline(always)]
+fn last_rounds(v: [u32x4; 5], w: &[u32x4; 80]) -> [u32x4; 5]
+    ensures { (j : ℕ) (h : List ℕ) → j < 4 → lane j v ≡ rounds h (lane j w.now) 60
+        → lane j result ≡ rounds h (lane j w.now) 80 }
+{
+    let mut v = v;
+    'rounds: for group in 0..4 {
+        let t = 60 + 5 * group;
+        let one = last_round(v, w, t);
+        let two = last_round(one, w, t + 1);
+        let three = last_round(two, w, t + 2);
+        let four = last_round(three, w, t + 3);
+        let five = last_round(four, w, t + 4);
+        v = five;
+    }
+    v
+}
+
 /// Runs the 80 rounds of a schedule.
 fn run_rounds(state: [u32x4; 5], w: &[u32x4; 80]) -> [u32x4; 5]
     ensures { (j : ℕ) → j < 4 → lane j result ≡ rounds (lane j state) (lane j w.now) 80 }
 {
-    let mut v = state;
-    'choose: for t in 0..20 {
-        let next = choose_round(v, w, t);
-        v = next;
-    }
-    'parity: for t in 20..40 {
-        let next = parity_round(v, w, t);
-        v = next;
-    }
-    'majority: for t in 40..60 {
-        let next = majority_round(v, w, t);
-        v = next;
-    }
-    'last: for t in 60..80 {
-        let next = last_round(v, w, t);
-        v = next;
-    }
-    v
+    let first = choose_rounds(state, w);
+    let second = parity_rounds(first, w);
+    let third = majority_rounds(second, w);
+    last_rounds(third, w)
 }
 
 /// Returns the states after one more block of each message. The words of the blocks are the first
