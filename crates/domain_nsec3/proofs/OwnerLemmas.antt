@@ -12,7 +12,7 @@ use Rattle.domain_names.specs.{Name.{is_at_or_below, is_strictly_below, lowered,
 use Rattle.domain_names.specs.Wire.{labels_of}
 use Rattle.domain_nsec3.specs.Chain.{ChainConfig, Hash, excludes, hash_fault, hash_name, hashed_owner, is_chain_name, is_empty, is_excluded, is_original_owner}
 use Rattle.domain_nsec3.specs.{Chain.original_owners, Meaning.{CutsEnclose, octets_before}, Steps.{AreFirstHashes, AreHashesOf, HasAlikeNeighbours, IsFirstRefused, IsHashOf}}
-use Rattle.domain_nsec3.specs.{Steps.{IsHashed, IsListOf, IsPlaced, IsRefusal, above_with_more, is_over, name_at}, declared.hash.Hashed.Hashed}
+use Rattle.domain_nsec3.specs.{Steps.{IsHashed, IsListOf, IsPlacedHash, IsRefusal, above_with_more, is_over, name_at}, declared.hash.Hashed.Hashed}
 use Rattle.domain_octets.{proofs.{StdLemmas.and_false, WordLemmas.octets_from_type}, specs.Octets.{AreOctets, Octets}}
 use Rattle.domain_zone.proofs.NameLemmas.{before_order, below_between, below_from, below_itself, below_longer, below_parent, below_trans, common_shares}
 use Rattle.domain_zone.proofs.NameLemmas.{either_way, lowered_below, one_lowered, same_both, same_itself, same_length, same_lowered, strictly_from}
@@ -191,7 +191,7 @@ module _ (a : Name) (hash : Hash) (names : List Name) where
 
   -- a hash that a hasher gave, that is of use, and that is put behind those before it
   pub next_hashed : (hashed new : List Hashed) (x : Name) (octets : Octets) (place : ℕ) (h : Hashed) → place ≡ length hashed → place < length names
-      → x ≡ get_or names place x → Ok octets ≡ hash_name hash x → IsPlaced a octets place h → new ≡ hashed ++ h ∷ []
+      → x ≡ get_or names place x → Ok octets ≡ hash_name hash x → IsPlacedHash a octets place h → new ≡ hashed ++ h ∷ []
       → AreFirstHashes a hash names hashed → (place + 1 ≡ length new) × AreFirstHashes a hash names new
   next_hashed hashed new x octets place h at within there known placed is so_far =
       let is_hashed : IsHashed a hash x h.hash = grind (arith, common_steps) in

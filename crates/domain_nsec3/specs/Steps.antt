@@ -56,7 +56,7 @@ pub record IsHashOf (a : Name) (hash : Hash) (names : List Name) (h : Hashed) : 
   pub is : IsHashed a hash (name_at names h) h.hash
 
 -- a hash that is of use, with the place of its name
-pub record IsPlaced (a : Name) (hash : Octets) (place : ℕ) (h : Hashed) : Type 0 where
+pub record IsPlacedHash (a : Name) (hash : Octets) (place : ℕ) (h : Hashed) : Type 0 where
   pub there : h.place ≡ place
   pub is : h.hash ≡ hash
   pub sound : hash_fault a (Ok hash) ≡ None

@@ -5,7 +5,7 @@ ghost use Rattle.std.specs.{Ordering.nat_cmp, Cmp.Lexicographic.slice_cmp, Fmt.W
 ghost use Rattle.domain_octets.specs.{Octets.Octets, Text.dot};
 ghost use Rattle.domain_codecs.specs.Base32.{base32_lower};
 ghost use Rattle.domain_nsec3.specs.{Chain.{hashed_owner, hash_name, hash_fault, IsNoHash}, Steps.AreHashesOf};
-ghost use Rattle.domain_nsec3.specs.Steps.{AreFirstHashes, IsFirstRefused, IsHashed, IsPlaced, IsRefusal};
+ghost use Rattle.domain_nsec3.specs.Steps.{AreFirstHashes, IsFirstRefused, IsHashed, IsPlacedHash, IsRefusal};
 ghost use Rattle.domain_nsec3.specs.View.{hash_by, parameters_of};
 ghost use Rattle.domain_names.specs.Text.{name_text};
 ghost use Rattle.domain_hasher.specs.declared.error.Nsec3HashError.TheVariants as hash_error;
@@ -256,7 +256,7 @@ where
 
 /// Returns a hash with the place of its name, if it is of use as a hash below the apex.
 fn place_hash(apex: &ParsedName<'_>, hash: &[u8], place: usize) -> Option<Hashed>
-    ensures { IfSome result (IsPlaced apex.now hash.now place) }
+    ensures { IfSome result (IsPlacedHash apex.now hash.now place) }
 {
     check_hash(apex, hash).ok()?;
     let hash = NameHash::new(hash);
