@@ -11,8 +11,8 @@ use Rattle.domain_names.{proofs.WireLemmas.{IsWire-wire_of, labels_of-wire_of, w
 use Rattle.domain_names.specs.{Name.{is_at_or_below, is_strictly_below, lowered, same_name, wire_of}, Text.{label_text, name_text, octet_text}, Wire.IsWire}
 use Rattle.domain_names.specs.Wire.{labels_of}
 use Rattle.domain_nsec3.specs.Chain.{ChainConfig, Hash, excludes, hash_fault, hash_name, hashed_owner, is_chain_name, is_empty, is_excluded, is_original_owner}
-use Rattle.domain_nsec3.specs.{Chain.original_owners, Meaning.{CutsEnclose, octets_before}, Steps.{AreHashesOf, HasAlikeNeighbours, IsFirstRefused, IsHashOf}}
-use Rattle.domain_nsec3.specs.{Steps.{IsHashed, IsListOf, IsRefusal, above_with_more, is_over, name_at}, declared.hash.Hashed.Hashed}
+use Rattle.domain_nsec3.specs.{Chain.original_owners, Meaning.{CutsEnclose, octets_before}, Steps.{AreFirstHashes, AreHashesOf, HasAlikeNeighbours, IsFirstRefused, IsHashOf}}
+use Rattle.domain_nsec3.specs.{Steps.{IsHashed, IsListOf, IsPlacedHash, IsRefusal, above_with_more, is_over, name_at}, declared.hash.Hashed.Hashed}
 use Rattle.domain_octets.{proofs.{StdLemmas.and_false, WordLemmas.octets_from_type}, specs.Octets.{AreOctets, Octets}}
 use Rattle.domain_zone.proofs.NameLemmas.{before_order, below_between, below_from, below_itself, below_longer, below_parent, below_trans, common_shares}
 use Rattle.domain_zone.proofs.NameLemmas.{either_way, lowered_below, one_lowered, same_both, same_itself, same_length, same_lowered, strictly_from}
@@ -25,7 +25,7 @@ use Rattle.std.proofs.{Common.{sym, take, true, w8, ℕ, ◌&&◌, ◌*◌, ◌+
 use Rattle.std.proofs.lemmas.{Bool.{and_from, and_parts, cases_lt, false_from_ne_true, false≢true, leb-true, not-true, or_left, or_right}, Grind.common_steps}
 use Rattle.std.proofs.lemmas.List.{Elements.{All-map, All-push, All-weaker, recursion_from_All}, Folds.map_fixed, Sorted.{All-permutation, IsPermutation-map}}
 use Rattle.std.proofs.lemmas.List.{Sorted.{IsPermutation-refl, IsPermutation-trans}, append-nil, drop_more, get_or-map, get_or_default, get_or_read, length-map}
-use Rattle.std.proofs.lemmas.{List.{map_push, take-append-drop, take_more}, Map.Keys.sorted_from_all_adjacent, Str.Ascii.IsAscii-from_all}
+use Rattle.std.proofs.lemmas.{List.{length_push, map_push, take-append-drop, take_more}, Map.Keys.sorted_from_all_adjacent, Str.Ascii.IsAscii-from_all}
 use Rattle.std.specs.{Char.to_ascii_lowercase, Cmp.Lexicographic.{nat_list_cmp_total, slice_cmp}, FinMap.{nat_cmp-IsAntisymmetric, slice_cmp-IsAntisymmetric}}
 use Rattle.std.specs.{List.{AllByRecursion, Sorted.{IsSortedByKey, IsStrictlySortedBy}, list_any}, Ordering.{is_lt, nat_cmp}, Prelude.{All, Ok, filter}}
 use Rattle.std.specs.{Prelude.{if◌then◌else◌, nat_lt}, Str.IsAscii, declared.cmp.Ordering.{Ordering, TheVariants.Less}}
@@ -181,20 +181,25 @@ alike_at (h ∷ hs) sorted k within same = record {
 }
 
 module _ (a : Name) (hash : Hash) (names : List Name) where
-  -- the names up to a place are hashed, each with its place
-  pub record AreHashed (n : ℕ) (hashed : List Hashed) : Type 0 where
-    pub named : map (name_at names) hashed ≡ take n names
-    pub each : All (IsHashOf a hash names) hashed
-
-  pub one_hashed : (n : ℕ) (hashed new : List Hashed) (x : Name) (h : Hashed) → n < length names → x ≡ get_or names n x → h.place ≡ n
-      → IsHashed a hash x h.hash → new ≡ hashed ++ h ∷ [] → AreHashed n hashed → AreHashed (n + 1) new
-  one_hashed n hashed new x h within there placed is pushed so_far =
-      let next = take_more names n [] within in
-      let read = get_or_read names n x within there [] in
+  pub one_hashed : (hashed new : List Hashed) (x : Name) (h : Hashed) → length hashed < length names → x ≡ get_or names (length hashed) x
+      → h.place ≡ length hashed → IsHashed a hash x h.hash → new ≡ hashed ++ h ∷ [] → AreFirstHashes a hash names hashed → AreFirstHashes a hash names new
+  one_hashed hashed new x h within there placed is pushed so_far =
+      let next = take_more names (length hashed) [] within in
+      let read = get_or_read names (length hashed) x within there [] in
+      let more = length_push hashed h in
       grind (arith, common_steps, map_push, All-push)
 
-  pub all_hashed : (n : ℕ) (hashed : List Hashed) → length names ≤ n → AreHashed n hashed → AreHashesOf a hash names hashed
-  all_hashed n hashed past h = grind (arith, common_steps, IsPermutation-refl)
+  -- a hash that a hasher gave, that is of use, and that is put behind those before it
+  pub next_hashed : (hashed new : List Hashed) (x : Name) (octets : Octets) (place : ℕ) (h : Hashed) → place ≡ length hashed → place < length names
+      → x ≡ get_or names place x → Ok octets ≡ hash_name hash x → IsPlacedHash a octets place h → new ≡ hashed ++ h ∷ []
+      → AreFirstHashes a hash names hashed → (place + 1 ≡ length new) × AreFirstHashes a hash names new
+  next_hashed hashed new x octets place h at within there known placed is so_far =
+      let is_hashed : IsHashed a hash x h.hash = grind (arith, common_steps) in
+      let more = length_push hashed h in
+      (grind (arith, common_steps), one_hashed hashed new x h (grind (arith, common_steps)) (grind (arith, common_steps)) (grind (arith, common_steps)) is_hashed is so_far)
+
+  pub all_hashed : (hashed : List Hashed) → length names ≤ length hashed → AreFirstHashes a hash names hashed → AreHashesOf a hash names hashed
+  all_hashed hashed past h = grind (arith, common_steps, IsPermutation-refl)
 
   pub moved_hashes : (hashed ordered : List Hashed) → IsPermutation hashed ordered → AreHashesOf a hash names hashed → AreHashesOf a hash names ordered
   moved_hashes hashed ordered moved h = record {
@@ -204,10 +209,10 @@ module _ (a : Name) (hash : Hash) (names : List Name) where
   }
 
   -- the first name that is refused, after those that were hashed
-  pub first_refused : (n : ℕ) (hashed : List Hashed) (x : Name) (e : Nsec3HashError) → n < length names → x ≡ get_or names n x
-      → AreHashed n hashed → IsRefusal a (hash_name hash x) e → (e ≡ OutOfMemory) ⊎ IsFirstRefused a hash names e
-  first_refused n hashed x e within there h (inl m) = inl m
-  first_refused n hashed x e within there h (inr f) = inr (record {
+  pub first_refused : (hashed : List Hashed) (x : Name) (e : Nsec3HashError) → length hashed < length names → x ≡ get_or names (length hashed) x
+      → AreFirstHashes a hash names hashed → IsRefusal a (hash_name hash x) e → (e ≡ OutOfMemory) ⊎ IsFirstRefused a hash names e
+  first_refused hashed x e within there h (inl m) = inl m
+  first_refused hashed x e within there h (inr f) = let n = length hashed in inr (record {
     before = take n names;
     name = x;
     after = drop (n + 1) names;
