@@ -28,13 +28,18 @@ mod wire;
 pub use any_order::{generate_nsec3s_of_records, generate_nsecs_of_records, sort_one_class};
 pub use chain::ChainError;
 pub use config::DenialConfig;
-pub use domain_answer::{Answer, judge_nsec, judge_nsec3, judge_nsec3_expansion};
+pub use domain_answer::{
+    Answer, Nsec3Limits, judge_nsec, judge_nsec3, judge_nsec3_expansion, judge_nsec3_index,
+    judge_nsec3_index_expansion, judge_nsec3_within,
+};
 pub use domain_base::{
     CanonicalOrd, Class, FromToken, IterScanner, MakeName, Name, Nsec3HashAlgorithm, ParseError,
     ParsedName, Rtype, ScanError, Scanner, ToName, Ttl,
 };
 pub use domain_bitmap::{RtypeBitmap, RtypeBitmapBuilder, RtypeBitmaps};
-pub use domain_checker::{NsecCheck, Verdict, check_nsec, check_nsec3};
+pub use domain_checker::{
+    Nsec3Index, NsecCheck, Verdict, check_nsec, check_nsec3, check_nsec3_index,
+};
 pub use domain_denier::{Nsec3Denial, NsecDenial, NsecDenier, deny_nsec, deny_nsec3};
 pub use domain_hasher::{HasherError, Nsec3HashError, Nsec3Hasher};
 pub use domain_message::{
