@@ -1,9 +1,9 @@
 -- What a run reads, answers and writes.
 use Rattle.std.proofs.Common.{◌≡◌, ℕ, Bool, IsTrue, List, sym, ◌∙◌, arith, ◌⊎◌, refl, subst, inl, inr, Result, IfErr, ◌+◌, ◌<◌, [], ◌∷◌, ◌++◌, ap, drop, get_or}
-use Rattle.std.proofs.{Common.{append_assoc, length, append-nil, codes, take, Option, None, Some, Ok, Err, IfSome, OnOk}, lemmas.Slice.Eq.bytes_eq-Decides}
+use Rattle.std.proofs.{Common.{length, append-nil, codes, take, Option, None, Some, Ok, Err, IfSome, OnOk}, lemmas.Slice.Eq.bytes_eq-Decides}
 use Rattle.std.{proofs.lemmas.{Grind.common_steps, List.drop_more}, specs.{Str.{bytes_eq, Lines.lines}, Result.IsErrAnd, Io.KnownBytes.Appends}}
 use Rattle.domain_octets.specs.Octets.{Octets}
-use Rattle.domain_names.specs.{Name.{Name, Tokens}, Text.name_text}
+use Rattle.domain_names.specs.Name.{Name, Tokens}
 use Rattle.domain_nsec.specs.Chain.{Link, usual_config, IsChain, IsFirstFault}
 use Rattle.domain_nsec3.specs.{Chain.{ChainRecords, IsChainParam, IsHashedChain}, View.HasherAnswer, declared.config.Nsec3ParamTtlMode.TheVariants.Soa}
 use Rattle.domain_records.specs.{Order.IsOneClass, declared.error.SigningError.{SigningError, TheVariants.OutOfMemory as NoRoom}}
@@ -14,8 +14,7 @@ use Rattle.denial_program.specs.{Answer.{IsAnswer, HasNoNsec3s, IsNsecs, IsNsec3
 use Rattle.denial_program.specs.{Run.ReadsLines, Command.Params, declared.{answer.Reply.{Reply, TheVariants.{Nsecs, Nsec3s}}, command.Command.Command}}
 use Rattle.denial_program.specs.declared.{command.Command.TheVariants.{Chain, CheckNsec, CheckNsec3}, fault.DenialFault.{DenialFault, TheVariants.Line}}
 use Rattle.denial_program.specs.{declared.fault.DenialFault.TheVariants.{Usage, Write, MixedClasses as NoClass, OutOfMemory as NoMemory}, Check.AreAmong}
-use Rattle.denial_program.{specs.{Listing.Give, Text.{lines_of, nsec_line, nsec_shared}}, proofs.LineLemmas.known_so}
-use Rattle.domain_bitmap.specs.{Blocks.types_of, Text.types_text}
+use Rattle.denial_program.{specs.{Listing.Give, Text.lines_of}, proofs.LineLemmas.known_so}
 use Rattle.domain_record.specs.Record.{IsRecordClone}
 use Rattle.domain_nsec3.specs.Chain as hashed
 
@@ -118,11 +117,6 @@ appends_more a b c t u h k = grind (arith, common_steps)
 pub line_added : {T : Type 0} (text : T → Octets) (items : List T) (i : ℕ) (k : T) (a b c : Option Octets) → i < length items → k ≡ get_or items i k
     → Appends a b (lines_of text (take i items)) → Appends b c (text k ++ codes "\n") → Appends a c (lines_of text (take (i + 1) items))
 line_added text items i k a b c within is before more = grind (arith, common_steps, (appends_more a b c _ _ before more))
-
--- a record of an NSEC chain, with what all its records share
-pub line_spelled : (k : Link) (shared : Octets) → shared ≡ nsec_shared k.ttl k.class
-    → nsec_line k ≡ (name_text k.owner ++ codes ".") ++ (shared ++ ((name_text k.next ++ codes ". ") ++ types_text (types_of k.bits)))
-line_spelled k shared is = grind (arith, common_steps, append_assoc)
 
 -- ---- a run, from what its parts promise
 

@@ -18,11 +18,6 @@ record_line rtype data_text r =
     ++ (class_text r.class ++ (codes " " ++ (type_text rtype
     ++ (codes " " ++ data_text r.«data»)))))))
 
--- what NSEC records of one TTL and class have between their owner and their data
-abbrev pub nsec_shared : ℕ → ℕ → Octets
-nsec_shared ttl class =
-    codes " " ++ (decimal ttl ++ (codes " " ++ (class_text class ++ codes " NSEC ")))
-
 -- the record of a link, with the next name, its last dot, and the types
 abbrev pub nsec_line : Link → Octets
 nsec_line k =

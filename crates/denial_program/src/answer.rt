@@ -15,10 +15,9 @@ use crate::command::{Command, Nsec3Params};
 use crate::fault::{DenialFault, fault_of};
 use crate::line::{ZoneName, ZoneOctets};
 use crate::prepare::{compact_zone, sort_zone, store_apex};
-use crate::shared::Shared;
 use crate::verdict_text::VerdictText;
 use bumpalo::Bump;
-use domain_base::{ParsedName, ToName};
+use domain_base::ParsedName;
 use domain_borrowed::BorrowedRecord;
 use domain_dnssec::{
     GenerateNsec3Config, GenerateNsecConfig, InPlaceSorter, Nsec3Chain, Nsec3Hasher, NsecChain,
@@ -102,28 +101,17 @@ fn chain_reply<'s, 'a, H: Nsec3Hasher>(
     }
 }
 
-/// Writes the records of an NSEC chain, one a line. They borrow from the chain. This takes memory
-/// only for what they have alike, and before the first line.
-#[tactic(auto, using(std::proofs::lemmas::Grind::common_steps))]
-fn write_nsecs<W: Write>(
-    alloc: Global,
-    chain: &NsecChain<'_, ParsedName<'_>>,
-    output: &mut W,
-) -> io::Result<()>
+/// Writes the records of an NSEC chain, one a line. They borrow from the chain, so that this takes
+/// no memory.
+fn write_nsecs<W: Write>(chain: &NsecChain<'_, ParsedName<'_>>, output: &mut W) -> io::Result<()>
     ensures { OnOk result (Appends (W.contents output.old) (W.contents output.new)
         (lines_of nsec_line chain.now)) }
 {
-    let Some(first) = chain.lend(0) else {
-        return Ok(());
-    };
-    let mut shared = Shared::new(alloc, first.ttl(), first.class())?;
     for place in 0..chain.len() {
         let Some(nsec) = chain.lend(place) else {
             unreachable!();
         };
-        shared.set(alloc, nsec.ttl(), nsec.class())?;
-        let (owner, between) = (nsec.owner().fmt_with_dot(), shared.text());
-        writeln!(output, "{owner}{between}{}", nsec.data())?;
+        writeln!(output, "{nsec}")?;
     }
     Ok(())
 }
@@ -156,12 +144,12 @@ fn write_nsec3s<W: Write>(chain: &Nsec3Chain<'_, ZoneOctets>, output: &mut W) ->
 
 impl<'s, 'a> Reply<'s, 'a> {
     /// Writes the answer, and flushes the output.
-    fn write<W: Write>(&self, alloc: Global, output: &mut W) -> io::Result<()>
+    fn write<W: Write>(&self, output: &mut W) -> io::Result<()>
         ensures { OnOk result
             (Appends (W.contents output.old) (W.contents output.new) (answer_text self.now)) }
     {
         match self {
-            Reply::Nsecs(chain) => write_nsecs(alloc, chain, output)?,
+            Reply::Nsecs(chain) => write_nsecs(chain, output)?,
             Reply::Nsec3s(chain) => write_nsec3s(chain, output)?,
             Reply::Verdict(name, verdict) => {
                 let verdict = *verdict;
@@ -172,12 +160,12 @@ impl<'s, 'a> Reply<'s, 'a> {
     }
 
     /// Writes the answer; an error of the device is `Write`, unless it is lack of memory.
-    fn send<W: Write>(self, alloc: Global, output: &mut W) -> Result<(), DenialFault>
+    fn send<W: Write>(self, output: &mut W) -> Result<(), DenialFault>
         ensures ok { OnOk result
             (Appends (W.contents output.old) (W.contents output.new) (answer_text self.entry)) }
         ensures err { IfErr result (λ e. (e ≡ DenialFault.Write) ⊎ (e ≡ OutOfMemory)) }
     {
-        match self.write(alloc, output) {
+        match self.write(output) {
             Ok(()) => Ok(()),
             Err(e) => Err(fault_of(&e, DenialFault::Write)),
         }
@@ -207,7 +195,7 @@ fn write_chain_of<'a, W: Write, H: Nsec3Hasher>(
     let apex = store_apex(arena, apex)?;
     let compacted = compact_zone(arena, sorted, parameters.is_none())?;
     let answer = chain_reply(alloc, &apex, parameters, &compacted, hasher)?;
-    answer.send(alloc, output)
+    answer.send(output)
 }
 
 /// Writes what a command asks of the records.
@@ -242,11 +230,11 @@ pub fn write_answer<'a, W: Write, H: Nsec3Hasher>(
         }
         Command::CheckNsec(question) => {
             let answer = nsec_reply(alloc, question, records)?;
-            answer.send(alloc, output)
+            answer.send(output)
         }
         Command::CheckNsec3(question) => {
             let answer = nsec3_reply(alloc, question, records, hasher)?;
-            answer.send(alloc, output)
+            answer.send(output)
         }
     }
 }

@@ -18,7 +18,6 @@ mod prepare;
 mod process;
 mod program;
 mod reading;
-mod shared;
 mod store;
 mod verdict_text;
 

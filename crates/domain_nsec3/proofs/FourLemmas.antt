@@ -28,15 +28,6 @@ four_of (x ∷ y ∷ z ∷ []) a b c d four first second third fourth = absurd (
 four_of (x ∷ y ∷ z ∷ w ∷ []) a b c d four first second third fourth = grind (arith, common_steps)
 four_of (x ∷ y ∷ z ∷ w ∷ v ∷ xs) a b c d four first second third fourth = absurd (omega arith)
 
--- what two lists have in common, at a place of both
-pub alike_at_place : {X Y Z : Type 0} (f : X → Z) (g : Y → Z) (xs : List X) (ys : List Y) (n : ℕ) (x : X) (y : Y) → map f xs ≡ map g ys
-    → n < length xs → x ≡ get_or xs n x → y ≡ get_or ys n y → f x ≡ g y
-alike_at_place f g [] ys n x y alike within there here = absurd (omega arith)
-alike_at_place f g (u ∷ xs) [] n x y alike within there here = absurd (grind (arith, common_steps))
-alike_at_place f g (u ∷ xs) (v ∷ ys) zero x y alike within there here = grind (arith, common_steps)
-alike_at_place f g (u ∷ xs) (v ∷ ys) (suc n) x y alike within there here =
-    alike_at_place f g xs ys n x y (grind (arith, common_steps)) (omega arith) there here
-
 -- the hashes of a list, as a hasher answers for each
 ok_items : {V : Type 0} (items : V → Octets) (hashes : List V) (answers : List (Result Octets ℕ)) → answers ≡ map Ok (map items hashes)
     → map (λ v. Ok (items v)) hashes ≡ answers

@@ -11,7 +11,8 @@ use Rattle.domain_names.{proofs.WireLemmas.{IsWire-wire_of, labels_of-wire_of, w
 use Rattle.domain_names.specs.{Name.{is_at_or_below, is_strictly_below, lowered, same_name, wire_of}, Text.{label_text, name_text, octet_text}, Wire.IsWire}
 use Rattle.domain_names.specs.Wire.{labels_of}
 use Rattle.domain_nsec3.specs.Chain.{ChainConfig, Hash, excludes, hash_fault, hash_name, hashed_owner, is_chain_name, is_empty, is_excluded, is_original_owner}
-use Rattle.domain_nsec3.specs.{Chain.original_owners, Meaning.{CutsEnclose, octets_before}, Steps.{AreFirstHashes, AreHashesOf, HasAlikeNeighbours, IsFirstRefused, IsHashOf}}
+use Rattle.domain_nsec3.specs.{Chain.original_owners, Meaning.{CutsEnclose, octets_before}}
+use Rattle.domain_nsec3.specs.Steps.{AreFirstHashes, AreHashesOf, HasAlikeNeighbours, IsFirstRefused, IsHashOf}
 use Rattle.domain_nsec3.specs.{Steps.{IsHashed, IsListOf, IsPlacedHash, IsRefusal, above_with_more, is_over, name_at}, declared.hash.Hashed.Hashed}
 use Rattle.domain_octets.{proofs.{StdLemmas.and_false, WordLemmas.octets_from_type}, specs.Octets.{AreOctets, Octets}}
 use Rattle.domain_zone.proofs.NameLemmas.{before_order, below_between, below_from, below_itself, below_longer, below_parent, below_trans, common_shares}
@@ -196,7 +197,8 @@ module _ (a : Name) (hash : Hash) (names : List Name) where
   next_hashed hashed new x octets place h at within there known placed is so_far =
       let is_hashed : IsHashed a hash x h.hash = grind (arith, common_steps) in
       let more = length_push hashed h in
-      (grind (arith, common_steps), one_hashed hashed new x h (grind (arith, common_steps)) (grind (arith, common_steps)) (grind (arith, common_steps)) is_hashed is so_far)
+      (grind (arith, common_steps),
+      one_hashed hashed new x h (grind (arith, common_steps)) (grind (arith, common_steps)) (grind (arith, common_steps)) is_hashed is so_far)
 
   pub all_hashed : (hashed : List Hashed) → length names ≤ length hashed → AreFirstHashes a hash names hashed → AreHashesOf a hash names hashed
   all_hashed hashed past h = grind (arith, common_steps, IsPermutation-refl)

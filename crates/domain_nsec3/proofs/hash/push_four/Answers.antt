@@ -7,7 +7,8 @@ pub returns-clause-hashes : goal.returns-clause-hashes
 returns-clause-hashes g c =
     let known = four_known (λ (v : Vec ℕ Global). v.items)
     (hash_name (hash_by (g.H.Nsec3Hasher.answer c.args.hasher.now) (parameters_of c.args.params.now)))
-    c.in_ok-hashes.hashes c.index-names-at.result c.index-names-at-2.result c.index-names-at-3.result c.index-names-at-4.result c.in_ok-hashes.ensures _ _ _ _ _ _ _ _
+    c.in_ok-hashes.hashes c.index-names-at.result c.index-names-at-2.result c.index-names-at-3.result c.index-names-at-4.result
+    c.in_ok-hashes.ensures _ _ _ _ _ _ _ _
     c.as_slice.ensures.value c.as_slice-2.ensures.value c.as_slice-3.ensures.value c.as_slice-4.ensures.value in
     let at : c.len-at.result ≡ length c.args.hashed.now.items = grind (arith, common_steps) in
     let within : c.len-at.result + 3 < length c.args.names.now = omega (arith, c.requires.four) in
