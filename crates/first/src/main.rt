@@ -1,10 +1,18 @@
 //! A first program: it prints the NSEC chain of a small zone.
 #![tactic(auto)]
 
-use domain_dnssec::{Error, GenerateNsecConfig, Name, generate_nsecs_of_records, scan_record};
+use domain_dnssec::{
+    Error, GenerateNsecConfig, Name, Nsec, Record, generate_nsecs_of_records, scan_record,
+};
 use std::alloc::Global;
 use std::fmt::Write;
 use std::io;
+
+/// A name in octets of its own.
+type ZoneName = Name<Vec<u8>>;
+
+/// A record of the chain.
+type ChainRecord = Record<ZoneName, Nsec<Vec<u8>, ZoneName>>;
 
 /// The records of the zone, in any order.
 const ZONE: [&str; 4] = [
@@ -20,10 +28,11 @@ fn chain(alloc: Global) -> Result<String, Error> {
     for line in ZONE {
         records.push(scan_record(alloc, line)?)?;
     }
-    let apex = Name::from_str(alloc, "example.")?;
+    let apex = ZoneName::from_str(alloc, "example.")?;
     let config = GenerateNsecConfig::new();
+    let chain: Vec<ChainRecord> = generate_nsecs_of_records(alloc, &apex, records, &config)?;
     let mut text = String::new(alloc);
-    for nsec in &generate_nsecs_of_records(alloc, &apex, records, &config)? {
+    for nsec in &chain {
         writeln!(text, "{nsec}")?;
     }
     Ok(text)
