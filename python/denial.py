@@ -154,7 +154,8 @@ class Denial:
         call = self._library.denial_judge_nsec3_expansion
         if alone:
             call = self._library.denial_judge_nsec3_expansion_alone
-        return self._answer(call, *_sized(apex, name), rrsig_labels, rclass, limit, *_sized(records))
+        numbers = rrsig_labels, rclass, limit
+        return self._answer(call, *_sized(apex, name), *numbers, *_sized(records))
 
     def check_nsec(self, apex, name, rtype, records, rclass=IN):
         """Returns what NSEC records prove of one name and one type."""
@@ -226,7 +227,8 @@ class Denial:
         names = [ctypes.create_string_buffer(NAME_ROOM) for _ in range(2)]
         hashing = iterations, *_sized(salt), opt_out
         call = self._library.denial_nsec3_collision
-        number = call(*_sized(apex), rclass, occlude_below_dname, *hashing, *_sized(records), *names)
+        zone = *_sized(apex), rclass, occlude_below_dname
+        number = call(*zone, *hashing, *_sized(records), *names)
         if number == NO_COLLISION:
             return None
         if number != COLLISION:

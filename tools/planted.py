@@ -1,8 +1,8 @@
 """Reads planted bugs: crates/CRATE/must-fail/*.edit and planted/CRATE/*.edit.
 
-An edit has a line `file: PATH`, with the path in the folder of its crate. Then it has pairs of lines
-`old: TEXT` and `new: TEXT`. An old text occurs once in the file. Later pairs apply to what the
-earlier ones made.
+An edit has a line `file: PATH`, with the path in the folder of its crate. Then it has pairs of
+lines `old: TEXT` and `new: TEXT`. An old text occurs once in the file. Later pairs apply to what
+the earlier ones made.
 """
 from repository import HERE
 
