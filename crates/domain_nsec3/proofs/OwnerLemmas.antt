@@ -196,9 +196,10 @@ module _ (a : Name) (hash : Hash) (names : List Name) where
       → AreFirstHashes a hash names hashed → (place + 1 ≡ length new) × AreFirstHashes a hash names new
   next_hashed hashed new x octets place h at within there known placed is so_far =
       let is_hashed : IsHashed a hash x h.hash = grind (arith, common_steps) in
-      let more = length_push hashed h in
-      (grind (arith, common_steps),
-      one_hashed hashed new x h (grind (arith, common_steps)) (grind (arith, common_steps)) (grind (arith, common_steps)) is_hashed is so_far)
+      let more = length_push hashed h in (
+        grind (arith, common_steps),
+        one_hashed hashed new x h (grind (arith, common_steps)) (grind (arith, common_steps)) (grind (arith, common_steps)) is_hashed is so_far,
+      )
 
   pub all_hashed : (hashed : List Hashed) → length names ≤ length hashed → AreFirstHashes a hash names hashed → AreHashesOf a hash names hashed
   all_hashed hashed past h = grind (arith, common_steps, IsPermutation-refl)
