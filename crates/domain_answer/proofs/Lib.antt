@@ -2,4 +2,3 @@ pub mod ChainLemmas
 pub mod EncloserLemmas
 pub mod AlikeLemmas
 pub mod HashedAnswerLemmas
-pub mod JudgeLemmas

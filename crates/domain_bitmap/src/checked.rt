@@ -51,7 +51,7 @@ impl<O: Octets, K: OctetsKind> CheckedOctets<O, K> {
     /// The greatest length, in octets.
     pub const MAX_LEN: usize = K::MAX_LEN;
 
-    /// Returns these octets, which are of the kind. Takes no memory.
+    /// These octets, which are of the kind. Takes no memory.
     pub fn from_octets_unchecked(octets: O) -> Self
         requires { K.holds (O.octets octets) }
         ensures { result ≡ O.octets octets }
@@ -62,7 +62,7 @@ impl<O: Octets, K: OctetsKind> CheckedOctets<O, K> {
         }
     }
 
-    /// Returns the same over other octets, which are the same. Takes no memory.
+    /// The same over other octets, which are the same. Takes no memory.
     pub fn with_octets<P: Octets>(&self, octets: P) -> CheckedOctets<P, K>
         requires { P.octets octets ≡ self.now }
         ensures { result ≡ self.now }
@@ -71,14 +71,14 @@ impl<O: Octets, K: OctetsKind> CheckedOctets<O, K> {
         CheckedOctets::from_octets_unchecked(octets)
     }
 
-    /// Returns the octets.
+    /// The octets.
     pub fn as_octets(&self) -> &O
         ensures { O.octets result.now ≡ self.now }
     {
         &self.octets
     }
 
-    /// Returns the octets.
+    /// The octets.
     pub fn into_octets(self) -> O
         ensures { O.octets result ≡ self }
     {
@@ -86,7 +86,7 @@ impl<O: Octets, K: OctetsKind> CheckedOctets<O, K> {
         octets
     }
 
-    /// Returns the octets as a slice. They are of the kind, wherever they came from.
+    /// The octets as a slice. They are of the kind, wherever they came from.
     pub fn as_slice(&self) -> &[u8]
         ensures octets { result.now ≡ self.now }
         ensures holds { K.holds self.now }
@@ -94,14 +94,14 @@ impl<O: Octets, K: OctetsKind> CheckedOctets<O, K> {
         self.octets.as_slice()
     }
 
-    /// Returns a copy. Uses the allocator of the octets.
+    /// A copy. Uses the allocator of the octets.
     pub fn clone(&self) -> Result<Self, OutOfMemory>
         ensures { IfOk result (λ copy. copy ≡ self.now) }
     {
         Ok(self.with_octets(self.octets.try_clone()?))
     }
 
-    /// Returns whether other octets are the same.
+    /// Whether other octets are the same.
     pub fn eq_to<P: Octets>(&self, other: &P) -> bool
         ensures value { result ≡ bytes_eq self.now (P.octets other.now) }
         ensures same { IsTrue result ↔ (self.now ≡ P.octets other.now) }
@@ -109,14 +109,14 @@ impl<O: Octets, K: OctetsKind> CheckedOctets<O, K> {
         self.as_slice() == other.as_slice()
     }
 
-    /// Returns the lexicographic order to other octets.
+    /// The lexicographic order to other octets.
     pub fn cmp_to<P: Octets>(&self, other: &P) -> Ordering
         ensures { result ≡ slice_cmp nat_cmp self.now (P.octets other.now) }
     {
         self.as_slice().cmp(other.as_slice())
     }
 
-    /// Returns the canonical order, also where others hold the octets.
+    /// The canonical order, also where others hold the octets.
     pub fn canonical_cmp_to<P: Octets>(&self, other: &CheckedOctets<P, K>) -> Ordering
         ensures { result ≡ K.order self.now other.now }
     {

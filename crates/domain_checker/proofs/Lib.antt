@@ -1,3 +1,2 @@
 pub mod HashedVerdictLemmas
-pub mod IndexLemmas
 pub mod MeantLemmas

@@ -4,4 +4,3 @@ pub mod RefusalLemmas
 pub mod CodecBackLemmas
 pub mod Base64Lemmas
 pub mod JoinedLemmas
-pub mod Base16Lemmas

@@ -11,12 +11,10 @@ use domain_octets::{EmptyBuilder, FromBuilder, OutOfMemory};
 use std::alloc::Global;
 use std::fmt;
 
-/// Decodes a text with padding.
+/// The octets of a text with padding.
 ///
-/// # Errors
-///
-/// For any other text, `IllegalChar` with the first character that no such text has, or
-/// `ShortInput` if there is none.
+/// Refuses any other text: as `IllegalChar` of the first character that no such text has, and as
+/// `ShortInput` where there is none.
 pub fn decode<O: FromBuilder>(alloc: Global, text: &str) -> Result<O, DecodeError>
 where
     O::Builder: EmptyBuilder + Drop,
@@ -28,14 +26,14 @@ where
     Codec::Base64.decode(alloc, text)
 }
 
-/// Encodes octets as text.
+/// The text of octets.
 pub fn encode_string(alloc: Global, octets: &[u8]) -> Result<String, OutOfMemory>
     ensures { IfOk result (λ text. string_bytes text ≡ encode_of standard octets.now) }
 {
     Ok(STANDARD.encode(alloc, octets)?)
 }
 
-/// Writes octets as text.
+/// Writes the text of octets.
 pub fn display<W: fmt::Write>(octets: &[u8], f: &mut fmt::Formatter<W>) -> fmt::Result
     ensures { WritesOnOk W.write_str_gives f.old result (encode_of standard octets.now) f.new }
 {

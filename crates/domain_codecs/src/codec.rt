@@ -6,7 +6,7 @@ use domain_octets::AppendError;
 use std::error::Error;
 use std::fmt;
 
-/// An encoding of octets as text (RFC 4648).
+/// A way to write octets as text (RFC 4648).
 #[derive(Clone, Copy, Debug, PartialEq, Eq)]
 pub enum Codec {
     /// Base 16: two digits for an octet, read in either case (section 8).
@@ -17,16 +17,16 @@ pub enum Codec {
     Base64,
 }
 
-/// The error of decoding a text.
+/// Why a text was not decoded.
 #[derive(Clone, Copy, Debug, PartialEq, Eq)]
 pub enum DecodeError {
-    /// No text of the codec has this character.
+    /// This character, an octet of the text, stands in no text of the codec.
     IllegalChar(char),
-    /// The text ends too early, or its padding is wrong.
+    /// The text ends too early, or is padded in another way.
     ShortInput,
-    /// The octets do not fit into their builder.
+    /// The octets have no room in their builder.
     ShortBuf,
-    /// Memory ran out.
+    /// There was no memory.
     OutOfMemory,
 }
 

@@ -1,4 +1,4 @@
-//! The errors of reading names and tokens.
+//! Why names or tokens were not read.
 ghost use Rattle.std.specs.Prelude.{◌≡◌, Some};
 ghost use Rattle.domain_names.specs.{Text.{scan_error_of, name_error_text, scan_error_text}, Wire.fault_of};
 ghost use Rattle.domain_names.specs.Wire.{name_fault_of};
@@ -8,8 +8,7 @@ use domain_octets::{AppendError, OutOfMemory, ParseError};
 use std::error::Error;
 use std::fmt;
 
-/// The reason why octets do not begin with a name (RFC 1035, section 3.1): a `ParseError` without
-/// its text.
+/// Why octets do not begin with a name (RFC 1035, section 3.1): a `ParseError` without its text.
 #[derive(Clone, Copy, Debug, PartialEq, Eq)]
 pub enum NameError {
     /// The octets end within the name.
@@ -47,16 +46,16 @@ impl From<NameError> for ParseError {
     }
 }
 
-/// The error of reading a text, or the tokens of an entry.
+/// Why a text, or the tokens of an entry, were not read.
 #[derive(Clone, Copy, Debug, PartialEq, Eq)]
 pub enum ScanError {
-    /// A token is missing.
+    /// There is no token where one is needed.
     EndOfEntry,
-    /// A text is malformed, in the way that this message says.
+    /// A text is not of the form that is wanted, as this says.
     Custom(&'static str),
-    /// The octets that a token encodes do not fit into their builder.
+    /// The octets that a token stands for have no room in their builder.
     ShortBuf,
-    /// Memory ran out.
+    /// There was no memory.
     OutOfMemory,
 }
 

@@ -1,3 +1,2 @@
 pub mod OwnerLemmas
-mod FourLemmas
 pub mod ChainLemmas

@@ -72,7 +72,7 @@ impl PieceFormatter {
         }
     }
 
-    /// Returns the pieces in their order.
+    /// The pieces in their order.
     pub fn pieces(&self) -> &[Piece]
         ensures { map piece_text result.now ≡ self.now }
     {

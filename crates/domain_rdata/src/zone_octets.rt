@@ -22,14 +22,14 @@ use domain_record::ParseRecordData;
 use domain_rrsig::Rrsig;
 use std::alloc::Global;
 
-/// Returns a name with the labels of another, in octets of its own.
+/// A name with the labels of another, in octets of its own.
 fn name_like<N: MakeName, M: ToName>(alloc: Global, name: &M) -> Result<N, OutOfMemory>
     ensures { IfOk result (λ made. N.labels made ≡ M.labels name.now) }
 {
     N::make(alloc, name.as_wire())
 }
 
-/// Returns a copy of octets. Refuses with `ShortBuf` or `OutOfMemory` alone.
+/// A copy of octets. Refuses with `ShortBuf` or `OutOfMemory` alone.
 fn octets_like<O: FromBuilder>(alloc: Global, octets: &[u8]) -> Result<O, ScanError>
     ensures ok { IfOk result (λ made. O.octets made ≡ octets.now) }
     ensures err { IfErr result (λ e. CopyFault O.Builder.limit octets.now (scan_fault_of e)) }
@@ -49,8 +49,7 @@ impl From<IllegalData> for ScanError {
     }
 }
 
-/// Returns the data of a type that all of the octets are. Refuses exactly octets that are no such
-/// data.
+/// The data of a type that all of the octets are. Refuses exactly octets that are no such data.
 fn whole<'a, D: ParseRecordData<'a> + Drop>(
     rtype: Rtype,
     octets: &'a [u8],
@@ -74,14 +73,14 @@ fn whole<'a, D: ParseRecordData<'a> + Drop>(
     }
 }
 
-/// Returns the address that octets are.
+/// The address that octets are.
 fn a_of(octets: &[u8]) -> Result<A, ScanError>
     ensures { FromOctets None (plain a) a_values octets.now result }
 {
     Ok(whole(Rtype::A, octets)?)
 }
 
-/// Returns the name of a server that octets are.
+/// The name of a server that octets are.
 fn ns_of<N: MakeName>(alloc: Global, octets: &[u8]) -> Result<Ns<N>, ScanError>
     ensures { FromOctets None (plain ns) (ns_values N.labels) octets.now result }
 {
@@ -89,7 +88,7 @@ fn ns_of<N: MakeName>(alloc: Global, octets: &[u8]) -> Result<Ns<N>, ScanError>
     Ok(Ns::new(name_like(alloc, data.nsdname())?))
 }
 
-/// Returns the start of a zone that octets are.
+/// The start of a zone that octets are.
 fn soa_of<N: MakeName + Drop>(alloc: Global, octets: &[u8]) -> Result<Soa<N>, ScanError>
     ensures { FromOctets None (plain soa) (soa_values N.labels) octets.now result }
 {
@@ -107,7 +106,7 @@ fn soa_of<N: MakeName + Drop>(alloc: Global, octets: &[u8]) -> Result<Soa<N>, Sc
     ))
 }
 
-/// Returns the mail exchange that octets are.
+/// The mail exchange that octets are.
 fn mx_of<N: MakeName>(alloc: Global, octets: &[u8]) -> Result<Mx<N>, ScanError>
     ensures { FromOctets None (plain mx) (mx_values N.labels) octets.now result }
 {
@@ -115,7 +114,7 @@ fn mx_of<N: MakeName>(alloc: Global, octets: &[u8]) -> Result<Mx<N>, ScanError>
     Ok(Mx::new(data.preference(), name_like(alloc, data.exchange())?))
 }
 
-/// Returns the key, or the digest of a key, that octets are.
+/// The key, or the digest of a key, that octets are.
 fn key_of<O: FromBuilder + Drop, K: KeyKind>(
     alloc: Global,
     octets: &[u8],
@@ -127,7 +126,7 @@ fn key_of<O: FromBuilder + Drop, K: KeyKind>(
     Ok(data.with_octets(key))
 }
 
-/// Returns the next name and the types that octets are.
+/// The next name and the types that octets are.
 fn nsec_of<O: FromBuilder + Drop, N: MakeName + Drop>(
     alloc: Global,
     octets: &[u8],
@@ -140,7 +139,7 @@ fn nsec_of<O: FromBuilder + Drop, N: MakeName + Drop>(
     Ok(Nsec::new(next_name, data.types().with_octets(types)))
 }
 
-/// Returns the signature that octets are.
+/// The signature that octets are.
 fn rrsig_of<O: FromBuilder + Drop, N: MakeName + Drop>(
     alloc: Global,
     octets: &[u8],
@@ -153,7 +152,7 @@ fn rrsig_of<O: FromBuilder + Drop, N: MakeName + Drop>(
     Ok(data.with_octets(signer_name, signature))
 }
 
-/// Returns the parameters that octets are.
+/// The parameters that octets are.
 fn nsec3param_of<O: FromBuilder + Drop>(
     alloc: Global,
     octets: &[u8],
@@ -170,7 +169,7 @@ fn nsec3param_of<O: FromBuilder + Drop>(
     ))
 }
 
-/// Returns the next hash and the types that octets are.
+/// The next hash and the types that octets are.
 fn nsec3_of<O: FromBuilder + Drop>(alloc: Global, octets: &[u8]) -> Result<Nsec3<O>, ScanError>
     ensures { FromOctets O.Builder.limit next_by_hash nsec3_values octets.now result }
 {
@@ -189,9 +188,9 @@ fn nsec3_of<O: FromBuilder + Drop>(alloc: Global, octets: &[u8]) -> Result<Nsec3
 }
 
 impl<O: FromBuilder, N: ToName> ZoneRecordData<O, N> {
-    /// Returns the data of a type that these octets are on the wire, as a message has them but
-    /// without compressed names (RFC 1035, section 3.3; RFC 3597, section 4). Data of a type that
-    /// is not known are any octets, at most 65,535.
+    /// The data of a type that these octets are on the wire, as a message has them but without
+    /// compressed names (RFC 1035, section 3.3; RFC 3597, section 4). Data of a type that is not
+    /// known are any octets, at most 65,535.
     ///
     /// # Errors
     ///
@@ -215,7 +214,7 @@ impl<O: FromBuilder, N: ToName> ZoneRecordData<O, N> {
         }
     }
 
-    /// Returns the data that the octets of a generic form are.
+    /// The data that the octets of a generic form are.
     ///
     /// # Errors
     ///

@@ -24,7 +24,7 @@ pub enum Shape {
 }
 
 impl Shape {
-    /// Returns what data of the shape are.
+    /// What data of the shape are.
     pub fn text(self) -> &'static str {
         match self {
             Shape::OneName => "one name",
@@ -38,8 +38,8 @@ impl Shape {
     }
 }
 
-/// Returns the shape of data of a type. Anything for a type that is not looked at: those with data
-/// of their own are read by them.
+/// The shape of data of a type. Anything for a type that is not looked at: those with data of their
+/// own are read by them.
 pub fn shape_of(rtype: Rtype) -> Shape
     ensures { result ≡ shape_of rtype }
 {
@@ -54,7 +54,7 @@ pub fn shape_of(rtype: Rtype) -> Shape
     }
 }
 
-/// Returns whether the octets are texts, each after an octet with its length, and at least one.
+/// Whether the octets are texts, each after an octet with its length, and at least one.
 fn are_texts(octets: &[u8]) -> bool
     ensures { IsTrue result ↔ AreTexts octets.now }
 {
@@ -69,7 +69,7 @@ fn are_texts(octets: &[u8]) -> bool
     left == 0 && !octets.is_empty()
 }
 
-/// Returns whether octets have the shape.
+/// Whether octets have the shape.
 pub fn is_such(shape: Shape, octets: &[u8]) -> bool
     ensures { IsTrue result ↔ IsSuch shape octets.now }
 {
@@ -84,7 +84,7 @@ pub fn is_such(shape: Shape, octets: &[u8]) -> bool
     }
 }
 
-/// Returns whether NSEC3PARAM data have further iterations or a salt (RFC 9276, section 3.1).
+/// Whether NSEC3PARAM data have further iterations or a salt (RFC 9276, section 3.1).
 pub fn has_extras(octets: &[u8]) -> bool
     ensures { result ≡ has_extras octets.now }
 {

@@ -1,5 +1,0 @@
-mod LaneLemmas
-mod RoundLemmas
-mod MessageLemmas
-mod IterateLemmas
-mod HashesLemmas
