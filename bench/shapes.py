@@ -7,7 +7,12 @@ than A, NS, SOA and MX are in the generic form, with data that are valid for the
 arguments give the same octets, with the same Python.
 """
 import itertools
+import pathlib
 import random
+import sys
+
+sys.path.insert(0, str(pathlib.Path(__file__).resolve().parent.parent / "python"))
+from denial import wire_name
 
 APEXES = {
     "tld": "tld.",
@@ -31,12 +36,6 @@ WORDS = """
     shop smart solar sport star store studio super systems team tech top tour trade travel trend
     tv uni vip web well wine work world
 """.split()
-
-
-def wire_form(name):
-    """Returns the wire form of an absolute name without escapes."""
-    labels = name.rstrip(".").split(".")
-    return b"".join(bytes([len(label)]) + label.encode() for label in labels) + b"\0"
 
 
 def strings(*texts):
@@ -172,7 +171,7 @@ def host(draw, owner, _region, _rack):
 def alias(draw, owner, _region, rack):
     """Yields an alias."""
     target = f"lb{draw.randrange(100)}.{rack}"
-    yield [f"{owner} 300 IN CNAME {generic(wire_form(target))}"]
+    yield [f"{owner} 300 IN CNAME {generic(wire_name(target))}"]
 
 
 def application(draw, owner, region, _rack):
@@ -191,7 +190,7 @@ def application(draw, owner, region, _rack):
 def srv(draw, target):
     """Returns the data of an SRV record."""
     port = draw.randrange(1, 65536).to_bytes(2, "big")
-    return generic(bytes([0, 0, 0, 5]) + port + wire_form(target))
+    return generic(bytes([0, 0, 0, 5]) + port + wire_name(target))
 
 
 def wildcard(draw, owner, _region, _rack):
@@ -262,7 +261,7 @@ def reverse_net(draw, net, apex):
     for last in draw.sample(range(256), count):
         pool = draw.choice(("dyn", "static", "pool"))
         target = f"{high}-{low}-{last}.{pool}.isp{draw.randrange(50)}.net."
-        yield [f"{last}.{owner} 86400 IN PTR {generic(wire_form(target))}"]
+        yield [f"{last}.{owner} 86400 IN PTR {generic(wire_name(target))}"]
 
 
 def reverse6(draw, names):
@@ -279,7 +278,7 @@ def reverse6(draw, names):
                 low = f"0{high}{middle:06x}fffe{draw.randrange(1 << 24):06x}"[:16]
             owner = ".".join(reversed(subnet + low)) + "." + apex
             target = f"h{made}.{subnet}.example."
-            yield [f"{owner} 3600 IN PTR {generic(wire_form(target))}"]
+            yield [f"{owner} 3600 IN PTR {generic(wire_name(target))}"]
             made += 1
 
 

@@ -1,6 +1,6 @@
-/* Refuses requests for memory: that of the number in REFUSE_REQUEST, counted from 1, and with
-   REFUSE_ALL_LATER set all after it too. The first refusal is told by one octet on the descriptor in REFUSE_TOLD.
-   To be preloaded: cc -shared -fPIC -o refuse_memory.so refuse_memory.c */
+/* Lets one request for memory fail: the one with the number in REFUSE_REQUEST, counted from 1. With
+   REFUSE_ALL_LATER set, all later ones fail too. The first failure writes one octet to the
+   descriptor in REFUSE_TOLD. Preload it: cc -shared -fPIC -o refuse_memory.so refuse_memory.c */
 #include <errno.h>
 #include <stddef.h>
 #include <stdlib.h>

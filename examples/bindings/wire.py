@@ -1,4 +1,7 @@
-"""Records as a message has them, from their text: the types that the worked values and random zones of examples/bindings have."""
+"""Makes the wire form of records from their presentation format.
+
+It knows the types of the worked values and of the random zones of examples/bindings.
+"""
 import base64
 import ipaddress
 import pathlib
@@ -8,8 +11,10 @@ import sys
 sys.path.insert(0, str(pathlib.Path(__file__).resolve().parent.parent.parent / "python"))
 from denial import wire_name
 
-TYPES = {"A": 1, "NS": 2, "CNAME": 5, "SOA": 6, "MX": 15, "TXT": 16, "AAAA": 28, "DNAME": 39, "DS": 43, "RRSIG": 46, "NSEC": 47, "DNSKEY": 48,
-         "NSEC3": 50, "NSEC3PARAM": 51}
+TYPES = {
+    **{"A": 1, "NS": 2, "CNAME": 5, "SOA": 6, "MX": 15, "TXT": 16, "AAAA": 28, "DNAME": 39},
+    **{"DS": 43, "RRSIG": 46, "NSEC": 47, "DNSKEY": 48, "NSEC3": 50, "NSEC3PARAM": 51},
+}
 CLASSES = {"IN": 1, "CH": 3, "HS": 4}
 DIGITS = "0123456789abcdefghijklmnopqrstuv"
 
@@ -19,7 +24,7 @@ class Unread(Exception):
 
 
 def type_of(text):
-    """The number of a type."""
+    """Returns the number of a type."""
     if text.upper() in TYPES:
         return TYPES[text.upper()]
     if re.fullmatch(r"TYPE\d+", text):
@@ -28,7 +33,7 @@ def type_of(text):
 
 
 def octets_of(text):
-    """The octets of digits of Base 32 hex without padding."""
+    """Returns the octets of digits of Base 32 hex without padding."""
     value = 0
     for letter in text.lower():
         value = value << 5 | DIGITS.index(letter)
@@ -36,7 +41,7 @@ def octets_of(text):
 
 
 def bitmap(types):
-    """The octets of a type bitmap (RFC 4034, section 4.1.2)."""
+    """Returns the octets of a type bitmap (RFC 4034, section 4.1.2)."""
     octets = b""
     numbers = sorted({type_of(it) for it in types})
     for window in sorted({number >> 8 for number in numbers}):
@@ -50,17 +55,44 @@ def bitmap(types):
 
 
 def salt_of(text):
-    """The octets of a salt."""
+    """Returns the octets of a salt."""
     return b"" if text == "-" else bytes.fromhex(text)
 
 
 def sized(octets):
-    """Octets with their number before them."""
+    """Returns octets with their count in front."""
     return bytes([len(octets)]) + octets
 
 
+def number(word, size):
+    """Returns the octets of a number."""
+    value = int(word)
+    if value >> 8 * size:
+        raise Unread(word)
+    return value.to_bytes(size, "big")
+
+
+def numbers_2_1_1(words):
+    """Returns the first three numbers of a DS or DNSKEY record."""
+    return number(words[0], 2) + number(words[1], 1) + number(words[2], 1)
+
+
+def parameters(words):
+    """Returns the parameters of an NSEC3 or NSEC3PARAM record, up to the salt."""
+    numbers = number(words[0], 1) + number(words[1], 1) + number(words[2], 2)
+    return numbers + sized(salt_of(words[3]))
+
+
+def rrsig_data(words):
+    """Returns the octets of the data of an RRSIG record."""
+    head = number(type_of(words[0]), 2) + number(words[1], 1) + number(words[2], 1)
+    times = b"".join(number(it, 4) for it in words[3:6])
+    signature = base64.b64decode("".join(words[8:]))
+    return head + times + number(words[6], 2) + wire_name(words[7]) + signature
+
+
 def data_of(rtype, words):
-    """The octets of data from their words."""
+    """Returns the octets of data from their words."""
     if words[:1] == ["\\#"]:
         return bytes.fromhex("".join(words[2:]))
     if rtype == "A":
@@ -68,37 +100,35 @@ def data_of(rtype, words):
     if rtype in ("NS", "CNAME", "DNAME"):
         return wire_name(words[0])
     if rtype == "MX":
-        return int(words[0]).to_bytes(2, "big") + wire_name(words[1])
+        return number(words[0], 2) + wire_name(words[1])
     if rtype == "SOA":
-        return wire_name(words[0]) + wire_name(words[1]) + b"".join(int(it).to_bytes(4, "big") for it in words[2:])
+        numbers = b"".join(number(it, 4) for it in words[2:])
+        return wire_name(words[0]) + wire_name(words[1]) + numbers
     if rtype == "DS":
-        return int(words[0]).to_bytes(2, "big") + bytes([int(words[1]), int(words[2])]) + bytes.fromhex("".join(words[3:]))
+        return numbers_2_1_1(words) + bytes.fromhex("".join(words[3:]))
     if rtype == "DNSKEY":
-        return int(words[0]).to_bytes(2, "big") + bytes([int(words[1]), int(words[2])]) + base64.b64decode("".join(words[3:]))
+        return numbers_2_1_1(words) + base64.b64decode("".join(words[3:]))
     if rtype == "RRSIG":
-        times = b"".join(int(it).to_bytes(4, "big") for it in words[3:6])
-        return (type_of(words[0]).to_bytes(2, "big") + bytes([int(words[1]), int(words[2])]) + times + int(words[6]).to_bytes(2, "big")
-                + wire_name(words[7]) + base64.b64decode("".join(words[8:])))
+        return rrsig_data(words)
     if rtype == "NSEC":
         return wire_name(words[0]) + bitmap(words[1:])
     if rtype == "NSEC3":
-        numbers = bytes([int(words[0]), int(words[1])]) + int(words[2]).to_bytes(2, "big")
-        return numbers + sized(salt_of(words[3])) + sized(octets_of(words[4])) + bitmap(words[5:])
+        return parameters(words) + sized(octets_of(words[4])) + bitmap(words[5:])
     if rtype == "NSEC3PARAM":
-        return bytes([int(words[0]), int(words[1])]) + int(words[2]).to_bytes(2, "big") + sized(salt_of(words[3]))
+        return parameters(words)
     raise Unread(rtype)
 
 
 def record(text):
-    """The octets of a record from its text."""
+    """Returns the octets of a record from its line."""
     owner, ttl, rclass, rtype, *words = text.split()
     if rclass not in CLASSES:
         raise Unread(rclass)
     data = data_of(rtype, words)
-    numbers = type_of(rtype).to_bytes(2, "big") + CLASSES[rclass].to_bytes(2, "big") + int(ttl).to_bytes(4, "big")
-    return wire_name(owner) + numbers + len(data).to_bytes(2, "big") + data
+    numbers = number(type_of(rtype), 2) + number(CLASSES[rclass], 2) + number(ttl, 4)
+    return wire_name(owner) + numbers + number(len(data), 2) + data
 
 
 def records(text):
-    """The octets of records with slashes between them."""
+    """Returns the octets of records with slashes between them."""
     return b"".join(record(it) for it in text.split(" / ") if it.strip())

@@ -35,9 +35,9 @@ impl<'r> TellingHasher<'r> {
         }
     }
 
-    /// Counts a name, and says how many they are where it is time.
-    fn tell(&self) {
-        let hashed = self.hashed.get().saturating_add(1);
+    /// Counts names, and says how many they are where it is time.
+    fn tell(&self, count: u64) {
+        let hashed = self.hashed.get().saturating_add(count);
         self.hashed.set(hashed);
         let Ok(now) = self.rt.monotonic() else {
             return;
@@ -68,8 +68,22 @@ impl Nsec3Hasher for TellingHasher<'_> {
         salt: &[u8],
     ) -> Result<Vec<u8>, HasherError> {
         if self.is_terminal {
-            self.tell();
+            self.tell(1);
         }
         Sha1Hasher.hash(alloc, name, algorithm, iterations, salt)
+    }
+
+    fn hash_four(
+        &self,
+        alloc: Global,
+        names: [&[u8]; 4],
+        algorithm: Nsec3HashAlgorithm,
+        iterations: u16,
+        salt: &[u8],
+    ) -> Result<[Vec<u8>; 4], HasherError> {
+        if self.is_terminal {
+            self.tell(4);
+        }
+        Sha1Hasher.hash_four(alloc, names, algorithm, iterations, salt)
     }
 }

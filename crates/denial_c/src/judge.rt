@@ -6,9 +6,10 @@ use crate::fault::{Fault, told_or_fault};
 use crate::nsec::read_name;
 use crate::nsec3::Telling;
 use crate::question::{Question, read_question};
-use domain_answer::{Answer, judge_nsec, judge_nsec3, judge_nsec3_expansion};
+use domain_answer::{Answer, judge_nsec, judge_nsec3_expansion, judge_nsec3_index};
 use domain_base::{Class, Rtype};
 use domain_borrowed::ReadNsec;
+use domain_checker::Nsec3Index;
 use domain_sha1::Sha1Hasher;
 use std::alloc::Global;
 
@@ -49,7 +50,8 @@ pub(crate) fn nsec3_answer(
 {
     let Question { apex, name, chain } = read_question(alloc, telling, apex, name, class, records)?;
     let rtype = Rtype::from_int(rtype);
-    told_or_fault(judge_nsec3(alloc, &apex, &chain, &name, rtype, limit, &Sha1Hasher))
+    let index = Nsec3Index::new(alloc, &apex, &chain)?;
+    told_or_fault(judge_nsec3_index(alloc, &index, &name, rtype, limit, &Sha1Hasher))
 }
 
 /// What the NSEC3 records of the class among the records that the octets are answer of the name,

@@ -12,7 +12,7 @@ use crate::question::{Question, read_question};
 use domain_base::{Class, Nsec3HashAlgorithm, ParsedName, Rtype, ToName, Ttl};
 use domain_borrowed::{ReadNsec3, ReadNsec3param};
 use domain_chain_rdata::Nsec3param;
-use domain_checker::{Verdict, check_nsec3};
+use domain_checker::{Nsec3Index, Verdict, check_nsec3_index};
 use domain_nsec3::Nsec3Records;
 use domain_octets::{OutOfMemory, TryClone};
 use domain_record::Record;
@@ -162,5 +162,6 @@ pub(crate) fn nsec3_verdict(
 {
     let Question { apex, name, chain } = read_question(alloc, telling, apex, name, class, records)?;
     let rtype = Rtype::from_int(rtype);
-    told_or_fault(check_nsec3(alloc, &apex, &chain, &name, rtype, &Sha1Hasher))
+    let index = Nsec3Index::new(alloc, &apex, &chain)?;
+    told_or_fault(check_nsec3_index(alloc, &index, &name, rtype, &Sha1Hasher))
 }

@@ -38,7 +38,7 @@ pub enum Reply<'s, 'a> {
     Verdict(ZoneName, Verdict),
 }
 
-/// The NSEC chain of the zone that the records are, from which it borrows.
+/// Returns the NSEC chain of the zone that the records are, from which it borrows.
 ///
 /// # Errors
 ///
@@ -66,9 +66,9 @@ pub fn nsecs_of<'s, 'a>(
     }
 }
 
-/// The chain of the zone that the records are: by hashes with these parameters, or, without any, of
-/// NSEC records. It borrows from the apex, and of NSEC records from the records. No two of its
-/// hashes are alike, so that a sorter that takes no memory serves as well as a stable one.
+/// Returns the chain of the zone that the records are: by hashes with these parameters, or, without
+/// any, of NSEC records. It borrows from the apex, and of NSEC records from the records. No two of
+/// its hashes are alike, so that a sorter that takes no memory serves as well as a stable one.
 #[tactic(auto, using(std::proofs::lemmas::Grind::common_steps, crate::proofs::RunLemmas::nsec3s_made, crate::proofs::RunLemmas::on_ok))]
 fn chain_reply<'s, 'a, H: Nsec3Hasher>(
     alloc: Global,
@@ -143,7 +143,7 @@ fn write_nsec3s<W: Write>(chain: &Nsec3Chain<'_, ZoneOctets>, output: &mut W) ->
 }
 
 impl<'s, 'a> Reply<'s, 'a> {
-    /// Writes the answer, and hands it on to the device.
+    /// Writes the answer, and flushes the output.
     fn write<W: Write>(&self, output: &mut W) -> io::Result<()>
         ensures { OnOk result
             (Appends (W.contents output.old) (W.contents output.new) (answer_text self.now)) }
@@ -159,7 +159,7 @@ impl<'s, 'a> Reply<'s, 'a> {
         output.flush()
     }
 
-    /// Writes the answer; an error of the device is `Write`, unless it is want of memory.
+    /// Writes the answer; an error of the device is `Write`, unless it is lack of memory.
     fn send<W: Write>(self, output: &mut W) -> Result<(), DenialFault>
         ensures ok { OnOk result
             (Appends (W.contents output.old) (W.contents output.new) (answer_text self.entry)) }
@@ -202,12 +202,12 @@ fn write_chain_of<'a, W: Write, H: Nsec3Hasher>(
 ///
 /// # Errors
 ///
-/// The first that stands: of a chain `MixedClasses`, and `Signing` where there is none; of a
-/// verdict of NSEC3 records `Param` where the apex has not exactly one NSEC3PARAM record, and
+/// The first of these that applies: of a chain `MixedClasses`, and `Signing` where there is none;
+/// of a verdict of NSEC3 records `Param` where the apex has not exactly one NSEC3PARAM record, and
 /// `Signing` where the hasher refuses; `Write` where the output could not be written; and
 /// `OutOfMemory`, of a chain only where the zone has no fault, but for NSEC3 one of hashing. Before
-/// a fault of the zone is known, `Unprepared` where there was no memory to sort the records or to
-/// lay them. Nothing is written before `Write` and `OutOfMemory`.
+/// a fault of the zone is known, `Unprepared` if there is no memory to sort the records or to lay
+/// them. Nothing is written before `Write` and `OutOfMemory`.
 pub fn write_answer<'a, W: Write, H: Nsec3Hasher>(
     alloc: Global,
     arena: &'a Bump,

@@ -8,7 +8,7 @@ use domain_borrowed::{BorrowedData, BorrowedRecord};
 use domain_octets::OutOfMemory;
 use domain_record::{Record, RecordData};
 
-/// A copy of a name.
+/// Returns a copy of a name.
 pub fn store_name<'a>(arena: &'a Bump, name: &ZoneName) -> Result<ParsedName<'a>, OutOfMemory>
     ensures { IfOk result (λ copy. copy ≡ name.now) }
 {
@@ -16,7 +16,7 @@ pub fn store_name<'a>(arena: &'a Bump, name: &ZoneName) -> Result<ParsedName<'a>
     Ok(ParsedName::over(wire))
 }
 
-/// The wire form of a name in the arena: `last`, where it is spelled like that, or a copy.
+/// Returns the wire form of a name in the arena: `last`, where it is spelled like that, or a copy.
 fn compact_wire<'a>(arena: &'a Bump, last: &'a [u8], wire: &[u8]) -> Result<&'a [u8], OutOfMemory>
     ensures { IfOk result (λ compacted. compacted.now ≡ wire.now) }
 {

@@ -15,7 +15,7 @@ use domain_dnssec::{Nsec3Hasher, Nsec3Records, check_nsec, check_nsec3};
 use domain_octets::OutOfMemory;
 use std::alloc::Global;
 
-/// What the NSEC records among these prove.
+/// Returns what the NSEC records among these prove.
 #[tactic(auto, using(std::proofs::lemmas::Grind::common_steps))]
 pub fn nsec_reply<'s, 'a>(
     alloc: Global,
@@ -30,7 +30,7 @@ pub fn nsec_reply<'s, 'a>(
     Ok(Reply::Verdict(name, verdict))
 }
 
-/// The NSEC3 records among these, with the one NSEC3PARAM record of the apex.
+/// Returns the NSEC3 records among these, with the one NSEC3PARAM record of the apex.
 ///
 /// # Errors
 ///
@@ -57,7 +57,7 @@ pub fn chain_of<'a>(
     Ok(Nsec3Records::new(records_among(alloc, apex, &records)?, param))
 }
 
-/// What the NSEC3 records among these prove.
+/// Returns what the NSEC3 records among these prove.
 #[tactic(auto, using(std::proofs::lemmas::Grind::common_steps))]
 pub fn nsec3_reply<'s, 'a, H: Nsec3Hasher>(
     alloc: Global,

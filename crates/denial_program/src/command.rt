@@ -40,7 +40,7 @@ pub enum Command {
     CheckNsec3(Question),
 }
 
-/// A name that a word spells.
+/// Returns a name that a word spells.
 ///
 /// # Errors
 ///
@@ -56,7 +56,7 @@ pub fn name_of(alloc: Global, word: &str) -> Result<ZoneName, DenialFault>
     }
 }
 
-/// The value that a word spells.
+/// Returns the value that a word spells.
 fn value_of<T: FromToken>(word: &str) -> Result<T, DenialFault>
     ensures ok { IfOk result (T.spells word.now) }
     ensures err { IfErr result (λ e. (e ≡ DenialFault.Usage)
@@ -68,7 +68,7 @@ fn value_of<T: FromToken>(word: &str) -> Result<T, DenialFault>
     }
 }
 
-/// A salt that a word spells (RFC 5155, section 4.3).
+/// Returns a salt that a word spells (RFC 5155, section 4.3).
 #[tactic(auto, using(domain_bitmap::proofs::TextLemmas::salt_excludes))]
 fn salt_of(alloc: Global, word: &str) -> Result<Nsec3Salt<ZoneOctets>, DenialFault>
     ensures ok { IfOk result (SaltText word.now) }
@@ -83,7 +83,7 @@ fn salt_of(alloc: Global, word: &str) -> Result<Nsec3Salt<ZoneOctets>, DenialFau
     }
 }
 
-/// The flags that a last word asks for (RFC 5155, section 3.1.2).
+/// Returns the flags that a last word asks for (RFC 5155, section 3.1.2).
 #[tactic(auto, using(std::proofs::lemmas::Grind::common_steps, crate::proofs::RunLemmas::same_text))]
 fn flags_of(words: &[String]) -> Option<u8>
     ensures some { IfSome result (FlagsText (map string_bytes words.now)) }
@@ -97,7 +97,7 @@ fn flags_of(words: &[String]) -> Option<u8>
     }
 }
 
-/// What `nsec` and these words ask for.
+/// Returns what `nsec` and these words ask for.
 fn nsec_command(alloc: Global, words: &[String]) -> Result<Command, DenialFault>
     ensures ok { IfOk result (Asks (codes "nsec" ∷ map string_bytes words.now)) }
     ensures err { IfErr result (IsUsage (IsNoCommand (codes "nsec" ∷ map string_bytes words.now))) }
@@ -108,8 +108,8 @@ fn nsec_command(alloc: Global, words: &[String]) -> Result<Command, DenialFault>
     Ok(Command::Chain(name_of(alloc, apex.as_str())?, None))
 }
 
-/// The parameters with these iterations and this salt (RFC 5155, section 4.3), and the flags that a
-/// last word asks for.
+/// Returns the parameters with these iterations and this salt (RFC 5155, section 4.3), and the
+/// flags that a last word asks for.
 ///
 /// # Errors
 ///
@@ -132,7 +132,7 @@ pub fn parameters_of(
     Ok(Nsec3param::new(Nsec3HashAlgorithm::SHA1, flags, iterations, salt))
 }
 
-/// What `nsec3` and these words ask for.
+/// Returns what `nsec3` and these words ask for.
 fn nsec3_command(alloc: Global, words: &[String]) -> Result<Command, DenialFault>
     ensures ok { IfOk result (Asks (codes "nsec3" ∷ map string_bytes words.now)) }
     ensures err { IfErr result (IsUsage
@@ -146,7 +146,7 @@ fn nsec3_command(alloc: Global, words: &[String]) -> Result<Command, DenialFault
     Ok(Command::Chain(apex, Some(parameters)))
 }
 
-/// The question that these words spell.
+/// Returns the question that these words spell.
 ///
 /// # Errors
 ///
@@ -167,7 +167,7 @@ pub fn question_of(
     Ok(Question { apex, name, rtype })
 }
 
-/// What `check` and these words ask for.
+/// Returns what `check` and these words ask for.
 fn check_command(alloc: Global, words: &[String]) -> Result<Command, DenialFault>
     ensures ok { IfOk result (Asks (codes "check" ∷ map string_bytes words.now)) }
     ensures err { IfErr result (λ e. ((e ≡ DenialFault.Usage)
@@ -185,7 +185,7 @@ fn check_command(alloc: Global, words: &[String]) -> Result<Command, DenialFault
     }
 }
 
-/// What the words after the program's name ask for.
+/// Returns what the words after the program's name ask for.
 ///
 /// # Errors
 ///

@@ -35,7 +35,7 @@ pub enum DenialFault {
 }
 
 impl DenialFault {
-    /// The exit status of the program: 2 for `Usage`, else 1.
+    /// Returns the exit status of the program: 2 for `Usage`, else 1.
     pub fn status(&self) -> u8
         ensures { result ≡ exit_status self.now }
     {
@@ -70,7 +70,7 @@ impl fmt::Display for DenialFault {
 const USAGE: &str = "usage: denial nsec APEX | denial nsec3 APEX ITERATIONS SALT [optout] \
      | denial check nsec APEX NAME TYPE | denial check nsec3 APEX NAME TYPE";
 
-/// An error of a device is that device's fault, unless it is want of memory.
+/// Returns an error of a device is that device's fault, unless it is lack of memory.
 pub fn fault_of(error: &io::Error, fault: DenialFault) -> DenialFault
     ensures either { (result ≡ fault) ⊎ (result ≡ denial_fault.OutOfMemory) }
     ensures memory { (result ≡ denial_fault.OutOfMemory)

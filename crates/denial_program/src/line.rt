@@ -31,8 +31,8 @@ pub enum Line<'a> {
     Bad,
 }
 
-/// A line as text, where none of its octets is past `~`. That it is text is proved, so that it need
-/// not be looked through again.
+/// Returns a line as text, where none of its octets is past `~`. That it is text is proved, so that
+/// it need not be looked through again.
 fn plain_text(line: &[u8]) -> Option<&str>
     ensures some { IfSome result (λ text. (text.now ≡ line.now) × IsPlain line.now) }
     ensures none { IfNone result (IsPlain line.now → ⊥) }
@@ -47,7 +47,7 @@ fn plain_text(line: &[u8]) -> Option<&str>
     Some(unsafe { str::from_utf8_unchecked(line) })
 }
 
-/// The record that tokens spell: owner, TTL, class, type and data.
+/// Returns the record that tokens spell: owner, TTL, class, type and data.
 fn scan_record<'a, S: Scanner<Name = ZoneName, Octets = ZoneOctets>>(
     alloc: Global,
     store: &mut Store<'a>,
@@ -62,7 +62,7 @@ fn scan_record<'a, S: Scanner<Name = ZoneName, Octets = ZoneOctets>>(
     Ok(Record::new(owner, record.class(), record.ttl(), stored))
 }
 
-/// What a line says, with the record in the arena. The line stands without its end.
+/// Returns what a line says, with the record in the arena. The line stands without its end.
 pub fn read_line<'a>(
     alloc: Global,
     store: &mut Store<'a>,

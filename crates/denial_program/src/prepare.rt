@@ -40,7 +40,7 @@ fn unprepared() -> DenialFault
     })
 }
 
-/// What the words after the program's name ask for.
+/// Returns what the words after the program's name ask for.
 ///
 /// # Errors
 ///
@@ -58,7 +58,7 @@ pub fn read_command(alloc: Global, words: &[String]) -> Result<Command, DenialFa
     }
 }
 
-/// The records of the lines that are left, with their octets in the arena.
+/// Returns the records of the lines that are left, with their octets in the arena.
 ///
 /// # Errors
 ///
@@ -81,7 +81,7 @@ pub fn read_records<'a, R: BufRead>(
     }
 }
 
-/// The records, sorted.
+/// Returns the records, sorted.
 ///
 /// # Errors
 ///
@@ -101,7 +101,7 @@ pub fn sort_zone<'a>(
     }
 }
 
-/// A copy of the apex in the arena.
+/// Returns a copy of the apex in the arena.
 ///
 /// # Errors
 ///
@@ -113,9 +113,9 @@ pub fn store_apex<'a>(arena: &'a Bump, apex: &ZoneName) -> Result<ParsedName<'a>
     store_name(arena, apex).map_err(|_| unprepared())
 }
 
-/// The records, where their owners are printed with the octets of these compacted into the arena
-/// once more, in order: who goes over them, and the chain that borrows them, go over these from one
-/// end to the other. Owners that are hashed stay where they lie.
+/// Returns the records, where their owners are printed with the octets of these compacted into the
+/// arena once more, in order: who goes over them, and the chain that borrows them, go over these
+/// from one end to the other. Owners that are hashed stay where they lie.
 ///
 /// # Errors
 ///

@@ -8,12 +8,11 @@ use std::{env, io};
 /// The octets that are read or written at a time.
 pub const BUFFER: usize = 65536;
 
-/// The words after the program's name.
+/// Returns the words after the program's name.
 ///
 /// # Errors
 ///
-/// `OutOfMemory` where there was no memory; `Usage` where a word is no text, and so asks for
-/// nothing.
+/// `OutOfMemory` if there is no memory; `Usage` where a word is no text, and so asks for nothing.
 pub fn words_of(rt: &HostRuntime) -> Result<Vec<String>, DenialFault>
     ensures { IfErr result (λ e. (e ≡ denial_fault.Usage) ⊎ (e ≡ denial_fault.OutOfMemory)) }
 {

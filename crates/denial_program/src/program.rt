@@ -20,13 +20,14 @@ use std::io::{BufRead, Write};
 ///
 /// # Errors
 ///
-/// The first that stands: `Usage` where the words are no command; `Read` where the input could not
-/// be read; `Line` of the lowest line that is no record; `MixedClasses`; `Signing` where there is
-/// no chain; `Param` where there is not one NSEC3PARAM record for NSEC3 records to be checked with;
-/// `Signing` where the hasher refuses; `Write` where the output could not be written; and
-/// `OutOfMemory`, only once the records are read and sorted, and for a chain only where their zone
-/// has none of these faults but those of hashing. `Unprepared` comes before that, wherever there is
-/// no memory for the words or the records. Nothing is written before `Write` and `OutOfMemory`.
+/// The first of these that applies: `Usage` where the words are no command; `Read` where the input
+/// could not be read; `Line` of the lowest line that is no record; `MixedClasses`; `Signing` where
+/// there is no chain; `Param` where there is not one NSEC3PARAM record for NSEC3 records to be
+/// checked with; `Signing` where the hasher refuses; `Write` where the output could not be written;
+/// and `OutOfMemory`, only once the records are read and sorted, and for a chain only where their
+/// zone has none of these faults but those of hashing. `Unprepared` comes before that, wherever
+/// there is no memory for the words or the records. Nothing is written before `Write` and
+/// `OutOfMemory`.
 pub fn run_denial<R: BufRead, W: Write, H: Nsec3Hasher>(
     alloc: Global,
     words: &[String],

@@ -18,7 +18,7 @@ use std::alloc::Global;
 use std::io;
 use std::io::{BufRead, ErrorKind};
 
-/// A line without its end: a line feed, and a carriage return before it.
+/// Returns a line without its end: a line feed, and a carriage return before it.
 pub fn without_end(line: &[u8]) -> &[u8]
     ensures ended { (front : Octets) → line.now ≡ front ++ line_feed ∷ []
         → result.now ≡ strip_carriage_return front }
@@ -72,8 +72,8 @@ fn append_line<R: BufRead>(input: &mut R, line: &mut Vec<u8>) -> io::Result<usiz
     Ok(place + 1)
 }
 
-/// What the next line says, with its record in the arena; None at the end of the input. The vector
-/// has the line then, with its end, in the place of what it had.
+/// Returns what the next line says, with its record in the arena; None at the end of the input. The
+/// vector has the line then, with its end, in the place of what it had.
 ///
 /// # Errors
 ///
@@ -102,8 +102,8 @@ pub fn next_line<'a, R: BufRead>(
     Ok(Some(said))
 }
 
-/// The records of the lines that are left, with their octets in the arena. A bad line is told only
-/// after the rest has been read, since a fault of the reader is told before it.
+/// Returns the records of the lines that are left, with their octets in the arena. A bad line is
+/// told only after the rest has been read, since a fault of the reader is told before it.
 ///
 /// # Errors
 ///

@@ -48,7 +48,7 @@ fn put_word(octets: &mut Vec<u8>, word: &str) -> Result<(), OutOfMemory>
 }
 
 impl<'a> Store<'a> {
-    /// A store that lays what is read into this arena.
+    /// Returns a store that lays what is read into this arena.
     pub fn new(alloc: Global, arena: &'a Bump) -> Self {
         Store {
             arena,
@@ -58,8 +58,8 @@ impl<'a> Store<'a> {
         }
     }
 
-    /// A copy of the octets of data in canonical form (RFC 4034, section 6.2), as data of their
-    /// type.
+    /// Returns a copy of the octets of data in canonical form (RFC 4034, section 6.2), as data of
+    /// their type.
     pub fn data(&mut self, data: &ZoneData) -> Result<BorrowedData<'a>, OutOfMemory>
         ensures { IfOk result (λ stored. stored ≡ raw_data (λ o. o) (λ n. n) «data».now) }
     {
@@ -71,7 +71,7 @@ impl<'a> Store<'a> {
         Ok(BorrowedData::new(data.rtype(), octets))
     }
 
-    /// The owner, where the next word spells it: goes past that word then.
+    /// Returns the owner, where the next word spells it: goes past that word then.
     fn scan_known<S: Scanner>(&self, scanner: &mut S) -> Result<Option<ParsedName<'a>>, OutOfMemory>
         ensures some { IfOk result (λ found. IfSome found (λ name.
             TakesToken (λ word. NameText word name) (S.tokens scanner.old)
@@ -117,7 +117,7 @@ impl<'a> Store<'a> {
         Ok(owner)
     }
 
-    /// The owner that the next word spells, which lies in the arena.
+    /// Returns the owner that the next word spells, which lies in the arena.
     pub fn scan_owner<S: Scanner<Name = ZoneName, Octets = ZoneOctets>>(
         &mut self,
         alloc: Global,

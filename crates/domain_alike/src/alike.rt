@@ -25,7 +25,7 @@ pub struct Alike<'a> {
     pub first: ParsedName<'a>,
 }
 
-/// The first name that came with this hash; takes in the name as the first where none did.
+/// Returns the first name that came with this hash; takes in the name as the first where none did.
 fn first_of_hash<'a>(
     firsts: &mut BTreeMap<Vec<u8>, ParsedName<'a>>,
     hash: Vec<u8>,
@@ -83,8 +83,8 @@ pub fn alike_names<'a, O: Octets, S, H: Nsec3Hasher>(
     Ok(pairs)
 }
 
-/// The first name in canonical order of the NSEC3 chain of sorted records that has the hash of one
-/// before it, with the first that has it. None where no two names have one hash.
+/// Returns the first name in canonical order of the NSEC3 chain of sorted records that has the hash
+/// of one before it, with the first that has it. Returns `None` if no two names have one hash.
 ///
 /// Takes memory as [`alike_names`] does.
 ///

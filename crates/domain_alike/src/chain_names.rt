@@ -13,9 +13,9 @@ use domain_records::RecordsIter;
 use domain_zone::UnoccludedOwners;
 use std::alloc::Global;
 
-/// The owners at or below the apex that are not occluded, in canonical order. Unsigned delegations
-/// are left out where `without_unsigned` says so, and names below the owner of a DNAME record where
-/// `below_dname` does.
+/// Returns the owners at or below the apex that are not occluded, in canonical order. Unsigned
+/// delegations are left out where `without_unsigned` says so, and names below the owner of a DNAME
+/// record where `below_dname` does.
 fn owners_of<'a>(
     alloc: Global,
     apex: &ParsedName<'a>,
@@ -36,8 +36,8 @@ fn owners_of<'a>(
     Ok(owners)
 }
 
-/// The names of the NSEC3 chain of sorted records, in canonical order: the owners that are not
-/// occluded, and the empty non-terminals over them. Unsigned delegations are left out where
+/// Returns the names of the NSEC3 chain of sorted records, in canonical order: the owners that are
+/// not occluded, and the empty non-terminals over them. Unsigned delegations are left out where
 /// `without_unsigned` says so, and names below the owner of a DNAME record where `below_dname`
 /// does.
 pub fn chain_names<'a>(

@@ -2,3 +2,4 @@ pub mod ChainLemmas
 pub mod EncloserLemmas
 pub mod AlikeLemmas
 pub mod HashedAnswerLemmas
+pub mod JudgeLemmas

@@ -1,13 +1,14 @@
 -- What is promised of answers.
-use Rattle.std.specs.Prelude.{◌≡◌, ◌⊎◌, ◌<◌, ◌≤◌, ℕ, true, false, List, length, Result, Ok, Err, IfOk, IfErr, IsErrOf}
+use Rattle.std.specs.Prelude.{Option, Some, None, ◌≡◌, ◌⊎◌, ◌<◌, ◌≤◌, ℕ, true, false, List, length, Result, Ok, Err, IfOk, IfErr, IsErrOf}
 use Rattle.domain_names.specs.Name.{is_at_or_below, Name}
 use Rattle.domain_hasher.specs.declared.error.Nsec3HashError.{Nsec3HashError, TheVariants.{Hasher, OutOfMemory}}
 use Rattle.domain_nsec.specs.Chain.{Link}
 use Rattle.domain_nsec3.specs.Chain.{hash_name}
-use Rattle.domain_checker.specs.HashedVerdict.{HashedRecords}
+use Rattle.domain_checker.specs.{HashedIndex.IsPast, HashedVerdict.HashedRecords}
 use Rattle.domain_answer.specs.HashedReading.{closer_name, is_expanded, ExpansionRestsOn, IsExpansionAnswered, IsExpansionRead, HashedRestsOn, IsHashedAnswered}
 use Rattle.domain_answer.specs.{HashedReading.{IsFirstOfRefusals, IsHashedRead}, Reading.{needs_no_records, CountsWithin, IsAnswered, RestsOn, reading}}
 use Rattle.domain_answer.specs.{ZoneAnswer.is_at_parent, declared.answer.Answer.{Answer, TheVariants.{OutsideZone, AtParent, TooManyIterations, NotProven}}}
+use Rattle.domain_answer.specs.declared.limits.Nsec3Limits.{Nsec3Limits}
 
 -- of what a list of NSEC records answers to a question about x and t
 pub record IsJudged (listed : List Link) (a x : Name) (t : ℕ) (answer : Answer) : Type 0 where
@@ -42,6 +43,16 @@ pub record IsHashedJudged (R : HashedRecords) (x : Name) (t limit : ℕ)
   -- is asked for is refused (`exact`)
   pub refusal : (n : ℕ) → IsErrOf result (Hasher n) → IsFirstOfRefusals R x t n
   pub errors : IfErr result (λ e. (e ≡ OutOfMemory) ⊎ ((n : ℕ) × (e ≡ Hasher n)))
+
+-- of what they answer within limits: None where no record matches one of as many names as may be
+-- hashed, from x towards the apex, and the apex is not among them
+abbrev pub IsJudgedWithin : HashedRecords → Name → ℕ → Nsec3Limits
+    → Result (Option Answer) Nsec3HashError → Type 0
+IsJudgedWithin R x t limits (Ok (Some answer)) = IsHashedJudged R x t limits.iterations (Ok answer)
+IsJudgedWithin R x t limits (Ok None) =
+    (needs_no_records R.apex x t ≡ false) × (R.parameters.iterations ≤ limits.iterations)
+    × IsPast R x limits.names
+IsJudgedWithin R x t limits (Err e) = IsHashedJudged R x t limits.iterations (Err e)
 
 -- of what they answer of a name whose records were expanded from a wildcard, with signatures that
 -- tell n labels

@@ -16,7 +16,7 @@ use std::alloc::Global;
 
 /// Whether the name is in the zone, longer than its last labels, so many, and these no fewer than
 /// the apex has.
-fn is_expanded<A: ToName, M: ToName>(apex: &A, name: &M, labels: usize) -> bool
+pub(crate) fn is_expanded<A: ToName, M: ToName>(apex: &A, name: &M, labels: usize) -> bool
     ensures { result ≡ is_expanded (A.labels apex.now) (M.labels name.now) labels }
 {
     name.ends_with(apex) && apex.count_labels() <= labels && labels < name.count_labels()

@@ -18,7 +18,9 @@
 mod answer;
 mod expansion;
 mod found;
+mod judge;
 pub mod laws;
+mod limits;
 mod nsec;
 mod nsec3;
 mod of_types;
@@ -27,6 +29,8 @@ mod wildcard;
 pub use answer::{Answer, NameAnswer};
 pub use expansion::judge_nsec3_expansion;
 pub use found::{NsecCover, NsecFound, find_nsec};
+pub use judge::{judge_nsec3_index, judge_nsec3_index_expansion, judge_nsec3_within};
+pub use limits::Nsec3Limits;
 pub use nsec::{is_at_parent, judge_name, judge_nsec, judge_wildcard};
 pub use nsec3::{encloser_answer, judge_nsec3};
 pub use of_types::{types_answer, wildcard_types_answer};

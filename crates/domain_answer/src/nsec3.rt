@@ -66,7 +66,7 @@ pub(crate) fn opt_out_of<O: Octets, N: ToName>(cover: Option<&Nsec3Rr<O, N>>) ->
 }
 
 /// What the records say of a name with so many labels, whose closest encloser they tell.
-fn found_answer<A: ToName, O: Octets, N: ToName>(
+pub(crate) fn found_answer<A: ToName, O: Octets, N: ToName>(
     apex: &A,
     found: Option<Nsec3Encloser<'_, O, N>>,
     labels: usize,
@@ -86,7 +86,7 @@ fn found_answer<A: ToName, O: Octets, N: ToName>(
 
 /// What the records say of a name that does not exist, by what they tell of the wildcard below its
 /// closest encloser, which has so many labels.
-fn wildcard_told<O: Octets, N: ToName>(
+pub(crate) fn wildcard_told<O: Octets, N: ToName>(
     count: usize,
     rtype: Rtype,
     found: Nsec3Found<'_, O, N>,

@@ -20,23 +20,23 @@ impl<K> Model for Algorithm<K> {
 }
 
 impl<K> Algorithm<K> {
-    /// The algorithm with this number.
+    /// Returns the algorithm with this number.
     pub const fn from_int(number: u8) -> Algorithm<K>
         ensures { result ≡ number }
     {
         Algorithm(number, PhantomData)
     }
 
-    /// The number of the algorithm.
+    /// Returns the number of the algorithm.
     pub const fn to_int(self) -> u8
         ensures { result ≡ self }
     {
         self.0
     }
 
-    /// The algorithm that the next token spells: a decimal number of at most 255. Refuses every
-    /// other token as `Custom("decimal number expected")`, and a missing one as `EndOfEntry`. A
-    /// token that is refused is gone past too.
+    /// Returns the algorithm that the next token spells: a decimal number of at most 255. Any other
+    /// token is the error `Custom("decimal number expected")`, and a missing one is `EndOfEntry`.
+    /// An error skips the token too.
     pub fn scan<S: Scanner>(scanner: &mut S) -> Result<Algorithm<K>, ScanError>
         ensures { ReadsTokens (OneToken (IsNumber 8)) (λ value. value) (RefusesToken (IsNoNumber 8))
             (S.tokens scanner.old) (S.tokens scanner.new) result }
@@ -45,8 +45,8 @@ impl<K> Algorithm<K> {
     }
 }
 
-/// A decimal number of at most 255. Refuses every other token as
-/// `Custom("decimal number expected")`.
+/// A decimal number of at most 255. Any other token is the error `Custom("decimal number
+/// expected")`.
 impl<K> FromToken for Algorithm<K> {
     ghost spells = { IsNumber 8 };
 

@@ -30,23 +30,23 @@ impl Class {
     /// Hesiod (RFC 1035).
     pub const HS: Class = Class(4);
 
-    /// The class with this number.
+    /// Returns the class with this number.
     pub const fn from_int(number: u16) -> Class
         ensures { result ≡ number }
     {
         Class(number)
     }
 
-    /// The number of the class.
+    /// Returns the number of the class.
     pub const fn to_int(self) -> u16
         ensures { result ≡ self }
     {
         self.0
     }
 
-    /// The class that the next token spells: its name or `CLASS` and its number, in either case
-    /// (RFC 3597, section 5). Refuses every other token as `Custom("unknown class")`, and a missing
-    /// one as `EndOfEntry`. A token that is refused is gone past too.
+    /// Returns the class that the next token spells: its name or `CLASS` and its number, in either
+    /// case (RFC 3597, section 5). Any other token is the error `Custom("unknown class")`, and a
+    /// missing one is `EndOfEntry`. An error skips the token too.
     pub fn scan<S: Scanner>(scanner: &mut S) -> Result<Class, ScanError>
         ensures { ReadsTokens (OneToken ClassText) (λ value. value) (RefusesToken IsNoClass)
             (S.tokens scanner.old) (S.tokens scanner.new) result }
@@ -71,15 +71,15 @@ impl From<Class> for u16 {
     }
 }
 
-/// The classes that are known by a name.
+/// Returns the classes that are known by a name.
 fn names() -> &'static [(u16, &'static str)]
     ensures { entries result.now ≡ class_names }
 {
     &[(1, "IN"), (3, "CH"), (4, "HS")]
 }
 
-/// The name of a class or `CLASS` and its number, in either case (RFC 3597, section 5). Refuses
-/// every other token as `Custom("unknown class")`.
+/// The name of a class or `CLASS` and its number, in either case (RFC 3597, section 5). Any other
+/// token is the error `Custom("unknown class")`.
 impl FromToken for Class {
     ghost spells = { ClassText };
 

@@ -107,23 +107,23 @@ impl Rtype {
     /// An authorization of certification authorities (RFC 8659).
     pub const CAA: Rtype = Rtype(257);
 
-    /// The type with this number.
+    /// Returns the type with this number.
     pub const fn from_int(number: u16) -> Rtype
         ensures { result ≡ number }
     {
         Rtype(number)
     }
 
-    /// The number of the type.
+    /// Returns the number of the type.
     pub const fn to_int(self) -> u16
         ensures { result ≡ self }
     {
         self.0
     }
 
-    /// The type that the next token spells: its name or `TYPE` and its number, in either case
-    /// (RFC 3597, section 5). Refuses every other token as `Custom("unknown record type")`, and a
-    /// missing one as `EndOfEntry`. A token that is refused is gone past too.
+    /// Returns the type that the next token spells: its name or `TYPE` and its number, in either
+    /// case (RFC 3597, section 5). Any other token is the error `Custom("unknown record type")`,
+    /// and a missing one is `EndOfEntry`. An error skips the token too.
     pub fn scan<S: Scanner>(scanner: &mut S) -> Result<Rtype, ScanError>
         ensures { ReadsTokens (OneToken TypeText) (λ value. value) (RefusesToken IsNoType)
             (S.tokens scanner.old) (S.tokens scanner.new) result }
@@ -148,8 +148,8 @@ impl From<Rtype> for u16 {
     }
 }
 
-/// The types that are known by a name, those first that zones and their chains have most of, since
-/// a table is looked through from its beginning.
+/// Returns the types that are known by a name, those first that zones and their chains have most
+/// of, since a table is looked through from its beginning.
 fn names() -> &'static [(u16, &'static str)]
     ensures { entries result.now ≡ type_names }
 {
@@ -185,8 +185,8 @@ fn names() -> &'static [(u16, &'static str)]
     ]
 }
 
-/// The name of a type or `TYPE` and its number, in either case (RFC 3597, section 5). Refuses every
-/// other token as `Custom("unknown record type")`.
+/// The name of a type or `TYPE` and its number, in either case (RFC 3597, section 5). Any other
+/// token is the error `Custom("unknown record type")`.
 impl FromToken for Rtype {
     ghost spells = { TypeText };
 

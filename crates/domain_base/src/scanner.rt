@@ -26,7 +26,7 @@ pub trait Scanner {
     /// The tokens that are left, each as its characters' octets.
     ghost tokens: { Self → Tokens };
 
-    /// The next token, which stays where it is.
+    /// Returns the next token, which stays where it is.
     fn first_token(&self) -> Option<&str>
         ensures { MatchOption result (tokens self.now ≡ []) (λ t. (rest : Tokens)
             × (tokens self.now ≡ t.now ∷ rest)) };
@@ -55,8 +55,8 @@ pub trait Scanner {
         Ok(value)
     }
 
-    /// The name that the next token spells (RFC 1035, section 5.1), with or without a last dot: in
-    /// either case it is absolute. A token that is refused is gone past too.
+    /// Returns the name that the next token spells (RFC 1035, section 5.1), with or without a last
+    /// dot: in either case it is absolute. An error skips the token too.
     ///
     /// Refuses a token that is no name as `Custom("illegal name")`, and a name for which the
     /// builder has no room or no memory.
@@ -65,11 +65,11 @@ pub trait Scanner {
             (RefusesToken (NameTextFault Self.Octets.Builder.limit)) (tokens self.old)
             (tokens self.new) result };
 
-    /// An empty builder of octets.
+    /// Returns an empty builder of octets.
     fn octets_builder(&self, alloc: Global) -> <Self::Octets as FromBuilder>::Builder
         ensures { Self.Octets.Builder.octets result ≡ [] };
 
-    /// The octets that the next token stands for. A token that is refused is gone past too.
+    /// Returns the octets that the next token stands for. An error skips the token too.
     ///
     /// Refuses a token that stands for none as `Custom("illegal data")`, and then octets for which
     /// the builder has no room or no memory.
@@ -80,8 +80,8 @@ pub trait Scanner {
         ensures room { IsErrOf result ScanError.ShortBuf
             ↔ TokenHasNoRoom codec Self.Octets.Builder.limit (tokens self.old) };
 
-    /// The octets that all tokens that are left stand for when they are joined. No tokens are the
-    /// empty text.
+    /// Returns the octets that all tokens that are left stand for when they are joined. No tokens
+    /// are the empty text.
     ///
     /// Refuses a text that stands for no octets as `Custom("illegal data")`, and then octets for
     /// which the builder has no room or no memory. The tokens that are left then are an end of
@@ -96,7 +96,7 @@ pub trait Scanner {
             HasRoom Self.Octets.Builder.limit (length (Self.Octets.octets octets))) }
         ensures end { IsEnd (tokens self.new) (tokens self.old) };
 
-    /// Whether tokens are left.
+    /// Returns whether tokens are left.
     final fn continues(&self) -> bool
     where
         Self: Sized,
@@ -120,7 +120,7 @@ impl<'a, O> Model for IterScanner<'a, O> {
 }
 
 impl<'a, O> IterScanner<'a, O> {
-    /// A scanner of these tokens, none of which is read yet.
+    /// Returns a scanner of these tokens, none of which is read yet.
     pub fn new(tokens: &'a [&'a str]) -> Self
         ensures { result ≡ map (λ token. token.now) tokens.now }
     {
@@ -185,7 +185,7 @@ where
     }
 }
 
-/// What is said of a text that is not decoded.
+/// Returns what is said of a text that is not decoded.
 #[tactic(auto, using(std::proofs::lemmas::Grind::common_steps, domain_codecs::proofs::RefusalLemmas::refused_char, domain_codecs::proofs::RefusalLemmas::refused_length))]
 fn refusal(error: DecodeError) -> ScanError
     ensures fault { (codec : Codec) (limit : Option ℕ) (text : Octets)
@@ -208,14 +208,14 @@ pub trait FromToken {
     /// Why a token is refused.
     ghost refuses: { ScanFault → Token → Type 0 };
 
-    /// The value that a token spells.
+    /// Returns the value that a token spells.
     fn from_token(token: &str) -> Result<Self, ScanError>
     where
         Self: Sized,
         ensures ok { IfOk result (spells token.now) }
         ensures err { IfErr result (λ e. refuses (scan_fault_of e) token.now) };
 
-    /// The value that the next token spells. A token that is refused is gone past too.
+    /// Returns the value that the next token spells. An error skips the token too.
     #[tactic(auto, using(crate::proofs::TextLemmas::no_token))]
     final fn scan<S: Scanner>(scanner: &mut S) -> Result<Self, ScanError>
     where

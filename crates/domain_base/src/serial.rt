@@ -39,14 +39,14 @@ impl Serial {
     /// How many octets it has on the wire.
     pub const COMPOSE_LEN: u16 = 4;
 
-    /// The number.
+    /// Returns the number.
     pub const fn into_int(self) -> u32
         ensures { result ≡ self }
     {
         self.0
     }
 
-    /// The serial number that comes next, four octets. Refuses, with `ShortInput`, where fewer are
+    /// Returns the serial number that comes next, four octets. Returns `ShortInput` if fewer are
     /// left.
     pub fn parse(parser: &mut Parser<'_>) -> Result<Serial, ParseError>
         ensures ok { IfOk result (λ serial. Takes (to_be_bytes w32 serial) parser.old parser.new) }
@@ -69,8 +69,8 @@ impl Serial {
         target.append_slice(&self.0.to_be_bytes())
     }
 
-    /// The order of serial numbers: each is before the 2,147,483,647 that follow it in the circle.
-    /// Two that are just half of the circle apart have none (RFC 1982, section 3.2).
+    /// Returns the order of serial numbers: each is before the 2,147,483,647 that follow it in the
+    /// circle. Two that are just half of the circle apart have none (RFC 1982, section 3.2).
     pub fn partial_cmp(&self, other: &Serial) -> Option<Ordering>
         ensures { result ≡ serial_cmp self.now other.now }
     {

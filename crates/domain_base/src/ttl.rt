@@ -42,16 +42,16 @@ impl Ttl {
         Ttl(3600 * hours as u32)
     }
 
-    /// The number of seconds.
+    /// Returns the number of seconds.
     pub const fn as_secs(self) -> u32
         ensures { result ≡ self }
     {
         self.0
     }
 
-    /// The seconds that the next token spells: a decimal number of at most 32 bits. Refuses every
-    /// other token as `Custom("decimal number expected")`, and a missing one as `EndOfEntry`. A
-    /// token that is refused is gone past too.
+    /// Returns the seconds that the next token spells: a decimal number of at most 32 bits. Any
+    /// other token is the error `Custom("decimal number expected")`, and a missing one is
+    /// `EndOfEntry`. An error skips the token too.
     pub fn scan<S: Scanner>(scanner: &mut S) -> Result<Ttl, ScanError>
         ensures { ReadsTokens (OneToken (IsNumber 32)) (λ value. value)
             (RefusesToken (IsNoNumber 32)) (S.tokens scanner.old) (S.tokens scanner.new) result }
@@ -60,8 +60,8 @@ impl Ttl {
     }
 }
 
-/// A decimal number of seconds of at most 32 bits. Refuses every other token as
-/// `Custom("decimal number expected")`.
+/// A decimal number of seconds of at most 32 bits. Any other token is the error `Custom("decimal
+/// number expected")`.
 impl FromToken for Ttl {
     ghost spells = { IsNumber 32 };
 

@@ -2,3 +2,4 @@ pub mod BitLemmas
 pub mod BitmapLemmas
 pub mod BlockLemmas
 pub mod TextLemmas
+pub mod ListLemmas

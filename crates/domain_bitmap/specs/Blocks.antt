@@ -1,6 +1,7 @@
--- Octets read as blocks of types, why they are none, and what a builder of them holds.
+-- Octets read as blocks of types, why they are none, what a builder of them holds, and bitmaps one
+-- after another.
 use Rattle.std.specs.Prelude.{ℕ, ◌+◌, ◌-◌, ◌/◌, ◌%◌, ◌==◌, Bool, if◌then◌else◌, slice_index, ◌≡◌, ◌≢◌, zero, suc, ◌*◌, ◌<◌, ◌≤◌, false, List, [], ◌∷◌, ◌++◌}
-use Rattle.std.specs.{Prelude.{length, take, drop, filter, ◌⊎◌, codes, ◌&&◌, bit_or, bytes_eq}, Int.bit_at, List.{range_with_len, flat_map}}
+use Rattle.std.specs.{Prelude.{length, take, drop, filter, ◌⊎◌, codes, ◌&&◌, bit_or, bytes_eq, map, slice_range}, Int.bit_at, List.{range_with_len, flat_map}}
 use Rattle.std.specs.{List.{AllByRecursion, list_any}, Hash.{Alike, same_Alike}, Cmp.Lexicographic.bytes_decides}
 use Rattle.domain_octets.specs.Octets.{Octets}
 use Rattle.domain_base.specs.Types.{Rtypes}
@@ -168,3 +169,25 @@ holds value t = list_any (block_holds value t) (range_with_len 0 (length value /
 -- equal octets are fed alike
 pub octets_fed : Alike bytes_eq (fed.slice fed.u8)
 octets_fed = same_Alike (fed.slice fed.u8) bytes_decides
+
+-- ---- bitmaps whose octets stand one after another
+
+-- the octets that end at the end at a place: they begin at the end before it
+abbrev pub part_at : List ℕ → Octets → ℕ → Octets
+part_at ends octets place =
+    slice_range octets (slice_index (0 ∷ ends) place) (slice_index ends place)
+
+-- the parts of octets that lie one after another, by their ends
+abbrev pub parts_of : List ℕ → Octets → List Octets
+parts_of ends octets = map (part_at ends octets) (range_with_len 0 (length ends))
+
+-- the octets of a part lie where its ends say, and are a bitmap
+pub record IsPart (ends : List ℕ) (octets : Octets) (place : ℕ) : Type 0 where
+  pub ordered : slice_index (0 ∷ ends) place ≤ slice_index ends place
+  pub inside : slice_index ends place ≤ length octets
+  pub bitmap : IsBitmap (part_at ends octets place)
+
+-- all the octets are those of bitmaps with these ends
+pub record AreBitmaps (ends : List ℕ) (octets : Octets) : Type 0 where
+  pub whole : slice_index (0 ∷ ends) (length ends) ≡ length octets
+  pub parts : (place : ℕ) → place < length ends → IsPart ends octets place

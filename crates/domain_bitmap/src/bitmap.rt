@@ -60,8 +60,8 @@ impl<O: Octets> RtypeBitmap<O> {
         Ok(RtypeBitmap::from_octets_unchecked(octets))
     }
 
-    /// Whether the first block of the type's window has the bit of the type. Of a bitmap that a
-    /// builder made this says whether the type was added.
+    /// Returns whether the first block of the type's window has the bit of the type. Of a bitmap
+    /// that a builder made this says whether the type was added.
     #[tactic(auto, using(std::proofs::lemmas::Grind::common_steps), unfolding(crate::specs::Blocks::contains_type))]
     pub fn contains(&self, rtype: Rtype) -> bool
         ensures { result ≡ contains_type self.now rtype }
@@ -77,14 +77,14 @@ impl<O: Octets> RtypeBitmap<O> {
         false
     }
 
-    /// Whether no bit is set.
+    /// Returns whether no bit is set.
     pub fn is_empty(&self) -> bool
         ensures { IsTrue result ↔ (types_of self.now ≡ []) }
     {
         self.iter().next().is_none()
     }
 
-    /// The length of the octets, which must be below 65,536.
+    /// Returns the length of the octets, which must be below 65,536.
     pub fn compose_len(&self) -> u16
         requires { length self.now < 2 ^ 16 }
         ensures { result ≡ length self.now }
@@ -108,7 +108,7 @@ impl<O: FromBuilder> RtypeBitmap<O>
 where
     O::Builder: EmptyBuilder,
 {
-    /// A builder of such bitmaps that holds no types. Takes no memory.
+    /// Returns a builder of such bitmaps that holds no types. Takes no memory.
     pub fn builder(alloc: Global) -> RtypeBitmapBuilder<O::Builder>
         ensures empty { result ≡ [] }
     {
@@ -117,11 +117,11 @@ where
 }
 
 impl<'a> RtypeBitmap<&'a [u8]> {
-    /// All octets that are left, as a bitmap. Takes no memory.
+    /// Returns all octets that are left, as a bitmap. Takes no memory.
     ///
     /// # Errors
     ///
-    /// That of the first fault, as `from_octets`. The parser then stands where it stood.
+    /// That of the first fault, as `from_octets`. The parser does not move then.
     #[tactic(auto, using(crate::proofs::BlockLemmas::parse_steps))]
     pub fn parse(parser: &mut Parser<'a>) -> Result<Self, ParseError>
         ensures ok { IsOk result ↔ IsBitmap parser.old.left }
@@ -164,7 +164,7 @@ impl<O: FromBuilder> RtypeBitmap<O>
 where
     O::Builder: EmptyBuilder + Truncate + FreezeBuilder<Frozen = O> + Drop,
 {
-    /// The types that all tokens that are left spell, one each (RFC 4034, section 4.2).
+    /// Returns the types that all tokens that are left spell, one each (RFC 4034, section 4.2).
     ///
     /// # Errors
     ///

@@ -39,7 +39,7 @@ pub(crate) fn check(octets: &[u8]) -> Result<(), RtypeBitmapError>
     Ok(())
 }
 
-/// The first block, and the blocks after it.
+/// Returns the first block, and the blocks after it.
 #[tactic(auto, using(std::proofs::lemmas::Grind::common_steps, crate::proofs::BlockLemmas::block_reads))]
 pub(crate) fn split_block(blocks: &[u8]) -> Option<(Window<'_>, &[u8])>
     requires { IsBitmap blocks.now }
@@ -60,8 +60,8 @@ pub(crate) fn split_block(blocks: &[u8]) -> Option<(Window<'_>, &[u8])>
     }
 }
 
-/// The window of a type, the octet within the window, and the bit within the octet, the most
-/// significant bit being the first (RFC 4034, section 4.1.2).
+/// Returns the window of a type, the octet within the window, and the bit within the octet, the
+/// most significant bit being the first (RFC 4034, section 4.1.2).
 pub(crate) fn split_rtype(rtype: Rtype) -> (u8, usize, u8)
     ensures window { result.0 ≡ rtype / 256 }
     ensures octet { result.1 ≡ rtype % 256 / 8 }
@@ -77,7 +77,7 @@ pub(crate) fn split_rtype(rtype: Rtype) -> (u8, usize, u8)
     )
 }
 
-/// Whether an octet of a window has a bit set, the most significant bit being the first.
+/// Returns whether an octet of a window has a bit set, the most significant bit being the first.
 #[tactic(auto, using(crate::proofs::BitLemmas::bit_reads), unfolding(crate::specs::Blocks::has_bit))]
 pub(crate) fn is_set(octets: &[u8], octet: usize, bit: u8) -> bool
     requires { bit < 8 }
@@ -89,8 +89,8 @@ pub(crate) fn is_set(octets: &[u8], octet: usize, bit: u8) -> bool
     }
 }
 
-/// The first place in a window, from one on, whose bit is set. What is left of an octet is passed
-/// at once where it has no bits.
+/// Returns the first place in a window, from one on, whose bit is set. What is left of an octet is
+/// passed at once where it has no bits.
 pub(crate) fn first_set(octets: &[u8], from: usize) -> Option<usize>
     requires { length octets.now ≤ 32 }
     ensures none { IfNone result ((w : ℕ)

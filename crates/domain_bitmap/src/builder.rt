@@ -20,7 +20,7 @@ use std::marker::Model;
 /// The octets of a block in a builder: its window, its length, and the 32 octets of the window.
 const SLOT: usize = 34;
 
-/// The place of the first block of a window, if there is one.
+/// Returns the place of the first block of a window, if there is one.
 #[tactic(auto, using(crate::proofs::BitmapLemmas::window_absent))]
 fn find_slot(slots: &[u8], window: u8) -> Option<usize>
     ensures found { IfSome result (λ j. (j < length slots.now / 34)
@@ -35,7 +35,7 @@ fn find_slot(slots: &[u8], window: u8) -> Option<usize>
     None
 }
 
-/// The block of a window without types.
+/// Returns the block of a window without types.
 fn empty_slot(window: u8) -> [u8; 34]
     ensures { result ≡ window ∷ replicate 33 0 }
 {
@@ -44,7 +44,7 @@ fn empty_slot(window: u8) -> [u8; 34]
     slot
 }
 
-/// How many octets are left without the zero octets at the end.
+/// Returns how many octets are left without the zero octets at the end.
 #[tactic(auto, using(crate::proofs::BitLemmas::trim_steps))]
 fn used_len(octets: &[u8]) -> usize
     ensures trimmed { trimmed octets.now ≡ take result octets.now }
@@ -87,7 +87,7 @@ impl<B: OctetsBuilder> Model for RtypeBitmapBuilder<B> {
 }
 
 impl RtypeBitmapBuilder<Vec<u8>> {
-    /// A builder over a vector that holds no types. Takes no memory.
+    /// Returns a builder over a vector that holds no types. Takes no memory.
     pub fn new_vec(alloc: Global) -> Self
         ensures empty { result ≡ [] }
     {
@@ -98,7 +98,7 @@ impl RtypeBitmapBuilder<Vec<u8>> {
 }
 
 impl<B: EmptyBuilder> RtypeBitmapBuilder<B> {
-    /// A builder that holds no types. Takes no memory.
+    /// Returns a builder that holds no types. Takes no memory.
     pub fn new(alloc: Global) -> Self
         ensures empty { result ≡ [] }
     {
@@ -107,7 +107,7 @@ impl<B: EmptyBuilder> RtypeBitmapBuilder<B> {
         }
     }
 
-    /// The same as `new`.
+    /// Returns the same as `new`.
     pub fn default(alloc: Global) -> Self
         ensures empty { result ≡ [] }
     {
@@ -116,7 +116,7 @@ impl<B: EmptyBuilder> RtypeBitmapBuilder<B> {
 }
 
 impl<B: OctetsBuilder> RtypeBitmapBuilder<B> {
-    /// A builder over an empty buffer. Takes no memory.
+    /// Returns a builder over an empty buffer. Takes no memory.
     pub fn with_builder(buffer: B) -> Self
         requires { B.octets buffer ≡ [] }
         ensures empty { result ≡ [] }
@@ -124,7 +124,7 @@ impl<B: OctetsBuilder> RtypeBitmapBuilder<B> {
         RtypeBitmapBuilder { buffer }
     }
 
-    /// A copy. Uses the allocator of the buffer.
+    /// Returns a copy. Uses the allocator of the buffer.
     pub fn clone(&self) -> Result<Self, OutOfMemory>
         ensures { IfOk result (λ copy. copy ≡ self.now) }
     {
@@ -133,8 +133,8 @@ impl<B: OctetsBuilder> RtypeBitmapBuilder<B> {
         })
     }
 
-    /// The place of the first block of a window. If the window has none, a block without types is
-    /// appended.
+    /// Returns the place of the first block of a window. If the window has none, a block without
+    /// types is appended.
     #[tactic(auto, using(crate::proofs::BitmapLemmas::block_steps))]
     fn window_block(&mut self, window: u8) -> Result<usize, AppendError>
         ensures place { IfOk result (λ j. (j < length self.new / 34)
@@ -160,12 +160,12 @@ impl<B: OctetsBuilder> RtypeBitmapBuilder<B> {
     }
 
     /// Adds a type. A type whose window has a block already takes no memory and is never refused.
-    /// After a refusal nothing has changed.
+    /// An error changes nothing.
     ///
     /// # Errors
     ///
     /// `ShortBuf` where there is no block of the type's window, and the buffer has no place for
-    /// another 34 octets. `OutOfMemory` where there was no memory for them.
+    /// another 34 octets. `OutOfMemory` if there is no memory for them.
     #[tactic(auto, using(std::proofs::lemmas::Grind::common_steps, crate::proofs::BitmapLemmas::set_steps))]
     pub fn add(&mut self, rtype: Rtype) -> Result<(), AppendError>
         ensures ok { OnOk result ((t : ℕ) → t < 65536
@@ -188,7 +188,8 @@ impl<B: OctetsBuilder> RtypeBitmapBuilder<B> {
         Ok(())
     }
 
-    /// The bitmap of the types that were added: the only one that holds them. Takes no memory.
+    /// Returns the bitmap of the types that were added: the only one that holds them. Takes no
+    /// memory.
     #[tactic(auto, using(std::proofs::lemmas::Grind::common_steps, crate::proofs::BitmapLemmas::built_steps))]
     pub fn finalize(self) -> RtypeBitmap<B::Frozen>
     where

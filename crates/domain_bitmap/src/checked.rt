@@ -51,7 +51,7 @@ impl<O: Octets, K: OctetsKind> CheckedOctets<O, K> {
     /// The greatest length, in octets.
     pub const MAX_LEN: usize = K::MAX_LEN;
 
-    /// These octets, which are of the kind. Takes no memory.
+    /// Returns these octets, which are of the kind. Takes no memory.
     pub fn from_octets_unchecked(octets: O) -> Self
         requires { K.holds (O.octets octets) }
         ensures { result ≡ O.octets octets }
@@ -62,7 +62,7 @@ impl<O: Octets, K: OctetsKind> CheckedOctets<O, K> {
         }
     }
 
-    /// The same over other octets, which are the same. Takes no memory.
+    /// Returns the same over other octets, which are the same. Takes no memory.
     pub fn with_octets<P: Octets>(&self, octets: P) -> CheckedOctets<P, K>
         requires { P.octets octets ≡ self.now }
         ensures { result ≡ self.now }
@@ -71,14 +71,14 @@ impl<O: Octets, K: OctetsKind> CheckedOctets<O, K> {
         CheckedOctets::from_octets_unchecked(octets)
     }
 
-    /// The octets.
+    /// Returns the octets.
     pub fn as_octets(&self) -> &O
         ensures { O.octets result.now ≡ self.now }
     {
         &self.octets
     }
 
-    /// The octets.
+    /// Returns the octets.
     pub fn into_octets(self) -> O
         ensures { O.octets result ≡ self }
     {
@@ -86,7 +86,7 @@ impl<O: Octets, K: OctetsKind> CheckedOctets<O, K> {
         octets
     }
 
-    /// The octets as a slice. They are of the kind, wherever they came from.
+    /// Returns the octets as a slice. They are of the kind, wherever they came from.
     pub fn as_slice(&self) -> &[u8]
         ensures octets { result.now ≡ self.now }
         ensures holds { K.holds self.now }
@@ -94,14 +94,14 @@ impl<O: Octets, K: OctetsKind> CheckedOctets<O, K> {
         self.octets.as_slice()
     }
 
-    /// A copy. Uses the allocator of the octets.
+    /// Returns a copy. Uses the allocator of the octets.
     pub fn clone(&self) -> Result<Self, OutOfMemory>
         ensures { IfOk result (λ copy. copy ≡ self.now) }
     {
         Ok(self.with_octets(self.octets.try_clone()?))
     }
 
-    /// Whether other octets are the same.
+    /// Returns whether other octets are the same.
     pub fn eq_to<P: Octets>(&self, other: &P) -> bool
         ensures value { result ≡ bytes_eq self.now (P.octets other.now) }
         ensures same { IsTrue result ↔ (self.now ≡ P.octets other.now) }
@@ -109,14 +109,14 @@ impl<O: Octets, K: OctetsKind> CheckedOctets<O, K> {
         self.as_slice() == other.as_slice()
     }
 
-    /// The lexicographic order to other octets.
+    /// Returns the lexicographic order to other octets.
     pub fn cmp_to<P: Octets>(&self, other: &P) -> Ordering
         ensures { result ≡ slice_cmp nat_cmp self.now (P.octets other.now) }
     {
         self.as_slice().cmp(other.as_slice())
     }
 
-    /// The canonical order, also where others hold the octets.
+    /// Returns the canonical order, also where others hold the octets.
     pub fn canonical_cmp_to<P: Octets>(&self, other: &CheckedOctets<P, K>) -> Ordering
         ensures { result ≡ K.order self.now other.now }
     {

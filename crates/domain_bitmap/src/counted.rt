@@ -30,7 +30,7 @@ impl<E> OctetsKind for Counted<E> {
 
     ghost total = { by_length_total };
 
-    /// The order of the wire forms, in which the length comes first.
+    /// Returns the order of the wire forms, in which the length comes first.
     fn order(a: &[u8], b: &[u8]) -> Ordering {
         a.len().cmp(&b.len()).then_with(|| a.cmp(b))
     }
@@ -41,7 +41,7 @@ impl<E> OctetsKind for Counted<E> {
 pub type CountedOctets<O, E> = CheckedOctets<O, Counted<E>>;
 
 impl<O: Octets, E> CountedOctets<O, E> {
-    /// These octets. Refuses exactly over 255. Takes no memory.
+    /// Returns these octets. Refuses exactly over 255. Takes no memory.
     pub fn from_octets(octets: O) -> Result<Self, E>
     where
         O: Drop,
@@ -57,7 +57,7 @@ impl<O: Octets, E> CountedOctets<O, E> {
 }
 
 impl<O: EmptyOctets, E> CountedOctets<O, E> {
-    /// No octets. Takes no memory.
+    /// Returns no octets. Takes no memory.
     pub fn empty(alloc: Global) -> Self
         ensures { result ≡ [] }
     {
@@ -66,7 +66,7 @@ impl<O: EmptyOctets, E> CountedOctets<O, E> {
 }
 
 impl<E: Default> CountedOctets<Bytes, E> {
-    /// These shared octets. Refuses exactly over 255. Takes no memory.
+    /// Returns these shared octets. Refuses exactly over 255. Takes no memory.
     pub fn from_bytes(octets: Bytes) -> Result<Self, E>
         ensures ok { IsOk result ↔ (length octets ≤ 255) }
         ensures octets { IfOk result (λ counted. counted ≡ octets) }
@@ -76,7 +76,7 @@ impl<E: Default> CountedOctets<Bytes, E> {
 }
 
 impl<'a, E> CountedOctets<&'a [u8], E> {
-    /// These borrowed octets. Refuses exactly over 255. Takes no memory.
+    /// Returns these borrowed octets. Refuses exactly over 255. Takes no memory.
     pub fn from_slice(octets: &'a [u8]) -> Result<Self, E>
     where
         E: Default,
@@ -86,8 +86,8 @@ impl<'a, E> CountedOctets<&'a [u8], E> {
         CountedOctets::from_octets(octets)
     }
 
-    /// A length octet and so many octets. Refuses, with `ShortInput`, where octets are missing; the
-    /// parser then stands where it stood. Takes no memory.
+    /// Returns a length octet and so many octets. Returns `ShortInput` if octets are missing; the
+    /// parser does not move then. Takes no memory.
     #[tactic(auto, using(crate::proofs::TextLemmas::cut_at_length))]
     pub fn parse(parser: &mut Parser<'a>) -> Result<Self, ParseError>
         ensures ok { IfOk result (λ counted.
@@ -104,7 +104,8 @@ impl<'a, E> CountedOctets<&'a [u8], E> {
 }
 
 impl<O: FromBuilder + Drop, E: Default + Drop> CountedOctets<O, E> {
-    /// The octets that the next token stands for. Refuses those over 255 with `Custom(long)`.
+    /// Returns the octets that the next token stands for. Refuses those over 255 with
+    /// `Custom(long)`.
     pub(crate) fn scan_token<S: Scanner<Octets = O>>(
         alloc: Global,
         scanner: &mut S,

@@ -28,7 +28,7 @@ impl<'a> Model for RtypeBitmapIter<'a> {
 }
 
 impl<O: Octets> RtypeBitmap<O> {
-    /// The types whose bits are set, block by block as they stand.
+    /// Returns the types whose bits are set, block by block as they stand.
     #[tactic(auto, using(crate::proofs::BlockLemmas::types_from_start))]
     pub fn iter(&self) -> RtypeBitmapIter<'_>
         ensures { result ≡ types_of self.now }

@@ -20,6 +20,9 @@
 //! - A bitmap, a salt and a hash are `CheckedOctets` of their kinds, and what is done with octets
 //!   alone stands there. Equality, order and `Hash` are those of the octets, and a kind gives the
 //!   canonical order; of two bitmaps that builders made, equality is that of the sets.
+//! - `RtypeBitmaps` is a list of bitmaps in two vectors, in which each takes 8 octets beside its
+//!   own. `push` copies one or changes nothing, and `get` lends one in constant time, without
+//!   memory.
 //! - An `Nsec3Salt` and an `OwnerHash` have at most 255 octets, and are these octets in clauses.
 //!   `Ord` is lexicographic; the canonical order, that of the wire form, looks at the length first.
 #![tactic(auto)]
@@ -32,6 +35,7 @@ mod counted;
 mod error;
 mod iter;
 pub mod laws;
+mod list;
 mod owner_hash;
 mod salt;
 
@@ -41,5 +45,6 @@ pub use checked::{CheckedOctets, OctetsKind};
 pub use counted::{Counted, CountedOctets};
 pub use error::RtypeBitmapError;
 pub use iter::RtypeBitmapIter;
+pub use list::RtypeBitmaps;
 pub use owner_hash::{OwnerHash, OwnerHashError};
 pub use salt::{Nsec3Salt, Nsec3SaltError, Nsec3SaltFromStrError};

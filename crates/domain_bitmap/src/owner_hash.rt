@@ -49,7 +49,7 @@ impl<O: FromBuilder + Drop> OwnerHash<O>
 where
     O::Builder: EmptyBuilder + Drop,
 {
-    /// The hash that a text in Base 32 hex stands for, in either case and without padding.
+    /// Returns the hash that a text in Base 32 hex stands for, in either case and without padding.
     ///
     /// # Errors
     ///
@@ -67,12 +67,12 @@ where
 }
 
 impl<O: FromBuilder + Drop> OwnerHash<O> {
-    /// The hash that the next token stands for in Base 32 hex. A token that is refused is gone past
+    /// Returns the hash that the next token stands for in Base 32 hex. An error skips the token
     /// too.
     ///
     /// # Errors
     ///
-    /// `Custom("illegal data")` where the token is not in Base 32 hex, else want of room or of
+    /// `Custom("illegal data")` where the token is not in Base 32 hex, else lack of room or of
     /// memory, else `Custom("illegal owner name hash")` where it stands for over 255 octets.
     pub fn scan<S: Scanner<Octets = O>>(alloc: Global, scanner: &mut S) -> Result<Self, ScanError>
         ensures { ReadsTokens (OneToken OwnerHashText) (λ hash. hash)

@@ -75,12 +75,12 @@ impl<O: FromBuilder + Drop> Nsec3Salt<O>
 where
     O::Builder: EmptyBuilder + Drop,
 {
-    /// The salt that a text in Base 16 stands for, in either case; a dash alone is the salt of no
-    /// octets.
+    /// Returns the salt that a text in Base 16 stands for, in either case; a dash alone is the salt
+    /// of no octets.
     ///
     /// # Errors
     ///
-    /// First those of Base 16, then want of room or of memory, then a salt of over 255 octets.
+    /// First those of Base 16, then lack of room or of memory, then a salt of over 255 octets.
     #[tactic(auto, using(std::proofs::lemmas::Grind::common_steps, crate::proofs::TextLemmas::salt_texts))]
     pub fn from_str(alloc: Global, text: &str) -> Result<Self, Nsec3SaltFromStrError>
         ensures ok { IfOk result (SaltText text.now) }
@@ -100,7 +100,7 @@ where
     }
 }
 
-/// Whether a token begins with a dash, and whether that is all of it.
+/// Returns whether a token begins with a dash, and whether that is all of it.
 fn dash(token: &str) -> (bool, bool)
     ensures begins { IsTrue result.0 ↔ BeginsWithDash token.now }
     ensures alone { IsTrue result.1 ↔ (token.now ≡ codes "-") }
@@ -113,13 +113,13 @@ fn dash(token: &str) -> (bool, bool)
 }
 
 impl<O: FromBuilder + Drop> Nsec3Salt<O> {
-    /// The salt that the next token stands for in Base 16; a dash alone is the salt of no octets. A
-    /// token that is refused is gone past too.
+    /// Returns the salt that the next token stands for in Base 16; a dash alone is the salt of no
+    /// octets. An error skips the token too.
     ///
     /// # Errors
     ///
     /// `Custom("illegal NSEC3 salt")` for a dash with something after it, `Custom("illegal data")`
-    /// for another token that is not in Base 16, else want of room or of memory, else
+    /// for another token that is not in Base 16, else lack of room or of memory, else
     /// `Custom("illegal NSEC3 salt")` where it stands for over 255 octets.
     #[tactic(auto, using(std::proofs::lemmas::Grind::common_steps, crate::proofs::TextLemmas::salt_steps))]
     pub fn scan<S: Scanner<Octets = O>>(alloc: Global, scanner: &mut S) -> Result<Self, ScanError>

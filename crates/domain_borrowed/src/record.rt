@@ -19,7 +19,7 @@ use domain_record::{ComposeRecordData, Record, RecordData, ZoneData};
 use std::cmp::Ordering;
 use std::marker::Model;
 
-/// The number that the last four octets are; None where there are less.
+/// Returns the number that the last four octets are, or `None` if there are less.
 fn last_long(octets: &[u8]) -> Option<Ttl>
     ensures { result ≡ last_long octets.now }
 {
@@ -45,14 +45,14 @@ impl<'a> Model for BorrowedData<'a> {
 }
 
 impl<'a> BorrowedData<'a> {
-    /// The data of a type that these octets are.
+    /// Returns the data of a type that these octets are.
     pub fn new(rtype: Rtype, octets: &'a [u8]) -> Self
         ensures { result ≡ record { rtype = rtype; octets = octets.now } }
     {
         BorrowedData { rtype, octets }
     }
 
-    /// The octets of the data.
+    /// Returns the octets of the data.
     pub fn octets(&self) -> &'a [u8]
         ensures { result.now ≡ self.now.octets }
     {
@@ -139,12 +139,13 @@ pub trait ReadAs<'a>: Drop {
     /// A record counts where an apex is asked for.
     ghost counts: { Name → RawRecord → Bool };
 
-    /// Whether a record is of the type and, where such records tell of the apex alone, of the apex.
+    /// Returns whether a record is of the type and, where such records tell of the apex alone, of
+    /// the apex.
     fn counts<N: ToName>(borrowed: &BorrowedRecord<'a>, apex: &N) -> bool
         ensures { result ≡ counts (N.labels apex.now) borrowed.now };
 
-    /// The record with its data read. None where it is of another type, or the octets are no such
-    /// data, or more than these.
+    /// Returns the record with its data read. Returns `None` if it is of another type, or the
+    /// octets are no such data, or more than these.
     fn read(borrowed: BorrowedRecord<'a>) -> Option<Self>
     where
         Self: Sized,
@@ -248,8 +249,8 @@ impl<'a> ReadAs<'a> for ReadNsec3param<'a> {
 /// Owner, type, class, TTL and the length of the data.
 type Header<'a> = (ParsedName<'a>, (u16, (u16, (u32, u16))));
 
-/// The record that comes next, without compression. None where the octets that are left begin with
-/// no record; some of them may be read then. Takes no memory.
+/// Returns the record that comes next, without compression. Returns `None` if the octets that are
+/// left begin with no record; some of them may be read then. Takes no memory.
 pub fn read_record<'a>(parser: &mut Parser<'a>) -> Option<BorrowedRecord<'a>>
     ensures some { IfSome result (λ r. (parser.old.left ≡ record_octets r ++ parser.new.left)
         × IsRecord r) }

@@ -42,14 +42,14 @@ pub struct Nsec<O: Octets, N> {
 }
 
 impl<O: Octets, N> Nsec<O, N> {
-    /// The data of these fields.
+    /// Returns the data of these fields.
     pub fn new(next_name: N, types: RtypeBitmap<O>) -> Self
         ensures { result ≡ record { next_name = next_name; types = types } }
     {
         Nsec { next_name, types }
     }
 
-    /// The next owner of the chain.
+    /// Returns the next owner of the chain.
     pub fn next_name(&self) -> &N
         ensures { result.now ≡ self.now.next_name }
     {
@@ -65,7 +65,7 @@ impl<O: Octets, N> Nsec<O, N> {
         self.next_name = next_name;
     }
 
-    /// The types at the record's owner.
+    /// Returns the types at the record's owner.
     pub fn types(&self) -> &RtypeBitmap<O>
         ensures { result.now ≡ self.now.types }
     {
@@ -74,7 +74,7 @@ impl<O: Octets, N> Nsec<O, N> {
 }
 
 impl<O: Octets, N: ToName> Nsec<O, N> {
-    /// The fields, in the order of the wire.
+    /// Returns the fields, in the order of the wire.
     pub(crate) fn fields(&self) -> NsecFields<'_>
         ensures { nsec_values N.labels self.now ≡ (result.0.0, result.1) }
     {
@@ -84,8 +84,8 @@ impl<O: Octets, N: ToName> Nsec<O, N> {
 }
 
 impl<'a> Nsec<&'a [u8], ParsedName<'a>> {
-    /// The data that all octets that are left are: a name, and then a type bitmap (RFC 4034,
-    /// section 4.1). Takes no memory.
+    /// Returns the data that all octets that are left are: a name, and then a type bitmap (RFC
+    /// 4034, section 4.1). Takes no memory.
     ///
     /// # Errors
     ///
@@ -93,7 +93,7 @@ impl<'a> Nsec<&'a [u8], ParsedName<'a>> {
     /// octet is `ShortInput`, a length over 63 or a pointer `Form("compressed or bad label")`, a
     /// name over 255 octets `Form("long domain name")`; of the bitmap, a missing octet is
     /// `ShortInput` and a block of no or over 32 octets `Form("invalid NSEC bitmap")`. The parser
-    /// then stands where it stood.
+    /// does not move then.
     pub fn parse(parser: &mut Parser<'a>) -> Result<Self, ParseError>
         ensures { Reads nsec (nsec_values (λ name. name)) fault_of parser.old parser.new result }
     {
@@ -155,8 +155,8 @@ impl<O: Octets, N: ToName> CanonicalOrd for Nsec<O, N> {
 }
 
 impl<O: Octets, N: ToName> Nsec<O, N> {
-    /// Whether data over other octets and names are the same: the next names but for the case of
-    /// letters, and the bitmaps' octets. Takes no memory.
+    /// Returns whether data over other octets and names are the same: the next names but for the
+    /// case of letters, and the bitmaps' octets. Takes no memory.
     pub fn eq_to<P: Octets, M: ToName>(&self, other: &Nsec<P, M>) -> bool
         ensures { result ≡ (same_name (N.labels self.now.next_name) (M.labels other.now.next_name)
             && bytes_eq self.now.types other.now.types) }
@@ -164,8 +164,8 @@ impl<O: Octets, N: ToName> Nsec<O, N> {
         self.next_name().name_eq(other.next_name()) && self.types().eq_to(other.types())
     }
 
-    /// The order of the next names, and then of the bitmaps' octets, also of data over other octets
-    /// and names. Takes no memory.
+    /// Returns the order of the next names, and then of the bitmaps' octets, also of data over
+    /// other octets and names. Takes no memory.
     pub fn cmp_to<P: Octets, M: ToName>(&self, other: &Nsec<P, M>) -> Ordering
         ensures { result ≡ ordering_then
             (name_cmp (N.labels self.now.next_name) (M.labels other.now.next_name))
@@ -176,7 +176,7 @@ impl<O: Octets, N: ToName> Nsec<O, N> {
             .then_with(|| self.types().cmp_to(other.types()))
     }
 
-    /// The canonical order, also of data over other octets and names. Takes no memory.
+    /// Returns the canonical order, also of data over other octets and names. Takes no memory.
     pub fn canonical_cmp_to<P: Octets, M: ToName>(&self, other: &Nsec<P, M>) -> Ordering
         ensures { result ≡ slice_cmp nat_cmp (canonical_of nsec (nsec_values N.labels self.now))
             (canonical_of nsec (nsec_values M.labels other.now)) }
@@ -245,7 +245,7 @@ impl<O: Octets, N: ToName> Hash for Nsec<O, N> {
 }
 
 impl<O: Octets, N: TryClone + Drop> Nsec<O, N> {
-    /// A copy. Uses the allocators of the name and of the octets.
+    /// Returns a copy. Uses the allocators of the name and of the octets.
     pub fn clone(&self) -> Result<Self, OutOfMemory>
         ensures { IfOk result (IsNsecClone N.is_clone self.now) }
     {
@@ -292,14 +292,14 @@ impl<O: FromBuilder, N: ToName> Nsec<O, N>
 where
     O::Builder: EmptyBuilder + Truncate + FreezeBuilder<Frozen = O> + Drop,
 {
-    /// The data that all tokens that are left spell: a name, and then types, one each (RFC 4034,
-    /// section 4.2).
+    /// Returns the data that all tokens that are left spell: a name, and then types, one each (RFC
+    /// 4034, section 4.2).
     ///
     /// # Errors
     ///
-    /// As the first token that is refused says: `EndOfEntry` where there is none,
-    /// `Custom("illegal name")`, `Custom("unknown record type")`, `ShortBuf` and `OutOfMemory`
-    /// where a name or the bitmap has no room or no memory. A refusal leaves an end of the tokens.
+    /// As the first token that is refused says: `EndOfEntry` where there is none, `Custom("illegal
+    /// name")`, `Custom("unknown record type")`, `ShortBuf` and `OutOfMemory` where a name or the
+    /// bitmap has no room or no memory. After an error, a suffix of the tokens is left.
     pub fn scan<S: Scanner<Name = N>>(alloc: Global, scanner: &mut S) -> Result<Self, ScanError>
     where
         N: Drop,

@@ -47,7 +47,7 @@ pub struct Nsec3<O: Octets> {
 pub type Nsec3Fields<'a> = ((ParamFields<'a>, Counted<'a>), RtypeBitmap<&'a [u8]>);
 
 impl<O: Octets> Nsec3<O> {
-    /// The data of these fields. Takes no memory.
+    /// Returns the data of these fields. Takes no memory.
     pub fn new(
         hash_algorithm: Nsec3HashAlgorithm,
         flags: u8,
@@ -75,7 +75,7 @@ impl<O: Octets> Nsec3<O> {
         }
     }
 
-    /// The data with these parameters.
+    /// Returns the data with these parameters.
     pub(crate) fn of_params(
         params: Nsec3param<O>,
         next_owner: OwnerHash<O>,
@@ -88,22 +88,22 @@ impl<O: Octets> Nsec3<O> {
         Nsec3::new(hash_algorithm, flags, iterations, salt, next_owner, types)
     }
 
-    /// The algorithm of the hash (RFC 5155, section 3.1.1).
+    /// Returns the algorithm of the hash (RFC 5155, section 3.1.1).
     pub fn hash_algorithm(&self) -> Nsec3HashAlgorithm
         ensures { result ≡ self.now.hash_algorithm }
     {
         self.hash_algorithm
     }
 
-    /// The flags (RFC 5155, section 3.1.2).
+    /// Returns the flags (RFC 5155, section 3.1.2).
     pub fn flags(&self) -> u8
         ensures { result ≡ self.now.flags }
     {
         self.flags
     }
 
-    /// Whether the bit of opt-out, 0x01, is set: unsigned delegations may be left out between this
-    /// hash and the next (RFC 5155, section 3.1.2.1).
+    /// Returns whether the bit of opt-out, 0x01, is set: unsigned delegations may be left out
+    /// between this hash and the next (RFC 5155, section 3.1.2.1).
     pub fn opt_out(&self) -> bool
         ensures { result ≡ is_opt_out self.now.flags }
     {
@@ -117,14 +117,14 @@ impl<O: Octets> Nsec3<O> {
         self.iterations
     }
 
-    /// What is hashed after a name (RFC 5155, section 3.1.5).
+    /// Returns what is hashed after a name (RFC 5155, section 3.1.5).
     pub fn salt(&self) -> &Nsec3Salt<O>
         ensures { result.now ≡ self.now.salt }
     {
         &self.salt
     }
 
-    /// The next hash of the chain (RFC 5155, section 3.1.7).
+    /// Returns the next hash of the chain (RFC 5155, section 3.1.7).
     pub fn next_owner(&self) -> &OwnerHash<O>
         ensures { result.now ≡ self.now.next_owner }
     {
@@ -140,7 +140,7 @@ impl<O: Octets> Nsec3<O> {
         self.next_owner = next_owner;
     }
 
-    /// The types at the name that was hashed (RFC 5155, section 3.1.8).
+    /// Returns the types at the name that was hashed (RFC 5155, section 3.1.8).
     pub fn types(&self) -> &RtypeBitmap<O>
         ensures { result.now ≡ self.now.types }
     {
@@ -156,7 +156,7 @@ impl<O: Octets> Nsec3<O> {
         self.types = types;
     }
 
-    /// The first three fields.
+    /// Returns the first three fields.
     pub(crate) fn numbers(&self) -> HashNumbers
         ensures { result ≡ (nsec3_values self.now).0.0.0 }
     {
@@ -166,7 +166,7 @@ impl<O: Octets> Nsec3<O> {
         )
     }
 
-    /// The fields, in the order of the wire.
+    /// Returns the fields, in the order of the wire.
     pub(crate) fn fields(&self) -> Nsec3Fields<'_>
         ensures values { nsec3_values self.now ≡ (
           ((result.0.0.0, result.0.0.1.octets.now), result.0.1.octets.now),
@@ -188,14 +188,14 @@ impl<O: Octets> Nsec3<O> {
 }
 
 impl<'a> Nsec3<&'a [u8]> {
-    /// The data that all octets that are left are: hash algorithm, flags, iterations, a counted
-    /// salt, a counted hash, and then a type bitmap (RFC 5155, section 3.2). Takes no memory.
+    /// Returns the data that all octets that are left are: hash algorithm, flags, iterations, a
+    /// counted salt, a counted hash, and then a type bitmap (RFC 5155, section 3.2). Takes no
+    /// memory.
     ///
     /// # Errors
     ///
     /// The first fault in field order: a missing octet is `ShortInput`; of the bitmap, a block of
-    /// no or over 32 octets is `Form("invalid NSEC bitmap")`. The parser then stands where it
-    /// stood.
+    /// no or over 32 octets is `Form("invalid NSEC bitmap")`. The parser does not move then.
     pub fn parse(parser: &mut Parser<'a>) -> Result<Self, ParseError>
         ensures { Reads nsec3 nsec3_values fault_of parser.old parser.new result }
     {
@@ -257,7 +257,7 @@ impl<O: Octets> CanonicalOrd for Nsec3<O> {
 }
 
 impl<O: Octets> Nsec3<O> {
-    /// Whether data over other octets are the same. Takes no memory.
+    /// Returns whether data over other octets are the same. Takes no memory.
     pub fn eq_to<P: Octets>(&self, other: &Nsec3<P>) -> bool
         ensures value { result ≡ bytes_eq (nsec3_octets self.now) (nsec3_octets other.now) }
         ensures same { IsTrue result ↔ (nsec3_values self.now ≡ nsec3_values other.now) }
@@ -265,15 +265,15 @@ impl<O: Octets> Nsec3<O> {
         domain_fields::canonical_eq(&self.fields(), &other.fields())
     }
 
-    /// The order by the fields in the order of the wire, shorter salts and hashes first, also of
-    /// data over other octets. This is the order of the octets. Takes no memory.
+    /// Returns the order by the fields in the order of the wire, shorter salts and hashes first,
+    /// also of data over other octets. This is the order of the octets. Takes no memory.
     pub fn cmp_to<P: Octets>(&self, other: &Nsec3<P>) -> Ordering
         ensures { result ≡ slice_cmp nat_cmp (nsec3_octets self.now) (nsec3_octets other.now) }
     {
         self.fields().order(&other.fields())
     }
 
-    /// The canonical order, which is `cmp_to`.
+    /// Returns the canonical order, which is `cmp_to`.
     pub fn canonical_cmp_to<P: Octets>(&self, other: &Nsec3<P>) -> Ordering
         ensures { result ≡ slice_cmp nat_cmp (nsec3_octets self.now) (nsec3_octets other.now) }
     {
@@ -331,7 +331,7 @@ impl<O: Octets> Hash for Nsec3<O> {
 }
 
 impl<O: Octets + Drop> Nsec3<O> {
-    /// A copy. Uses the allocators of the octets.
+    /// Returns a copy. Uses the allocators of the octets.
     pub fn clone(&self) -> Result<Self, OutOfMemory>
         ensures { IfOk result (λ copy. copy ≡ self.now) }
     {
@@ -384,9 +384,9 @@ impl<O: FromBuilder + Drop> Nsec3<O>
 where
     O::Builder: EmptyBuilder + Truncate + FreezeBuilder<Frozen = O> + Drop,
 {
-    /// The data that all tokens that are left spell: hash algorithm, flags and iterations in
-    /// decimal, the salt in Base 16 or as a dash, the next hash in Base 32 hex, and then types, one
-    /// each.
+    /// Returns the data that all tokens that are left spell: hash algorithm, flags and iterations
+    /// in decimal, the salt in Base 16 or as a dash, the next hash in Base 32 hex, and then types,
+    /// one each.
     ///
     /// # Errors
     ///
@@ -409,7 +409,7 @@ where
 }
 
 impl<O: Octets> Nsec3<O> {
-    /// The comment on the flags.
+    /// Returns the comment on the flags.
     fn flags_comment(&self) -> &'static str
         ensures { result.now ≡ opt_out_comment self.now.flags }
     {
@@ -438,8 +438,8 @@ impl<'a, O: Octets> fmt::Display for AfterSpaces<'a, O> {
     }
 }
 
-/// The parameters that a zone should have, as they are written before a hash: SHA-1, with opt-out
-/// or not, no iterations and no salt (RFC 9276, section 3.1).
+/// Returns the parameters that a zone should have, as they are written before a hash: SHA-1, with
+/// opt-out or not, no iterations and no salt (RFC 9276, section 3.1).
 #[tactic(auto, using(crate::proofs::TextLemmas::usual_text))]
 fn usual_params(numbers: HashNumbers, salt: &[u8]) -> Option<&'static str>
     ensures { IfSome result (λ text. text.now ≡ params_before_hash numbers salt.now) }

@@ -47,7 +47,7 @@ pub type HashNumbers = (u8, (u8, u16));
 /// Those, and the salt.
 pub type ParamFields<'a> = (HashNumbers, Counted<'a>);
 
-/// Whether the flags have the bit of opt-out.
+/// Returns whether the flags have the bit of opt-out.
 pub fn has_opt_out(flags: u8) -> bool
     ensures { result ≡ is_opt_out flags }
 {
@@ -55,7 +55,7 @@ pub fn has_opt_out(flags: u8) -> bool
 }
 
 impl<O: Octets> Nsec3param<O> {
-    /// The data of these fields. Takes no memory.
+    /// Returns the data of these fields. Takes no memory.
     pub fn new(
         hash_algorithm: Nsec3HashAlgorithm,
         flags: u8,
@@ -87,7 +87,7 @@ impl<O: Octets> Nsec3param<O> {
         Nsec3param::new(Nsec3HashAlgorithm::SHA1, 0, 0, Nsec3Salt::empty(alloc))
     }
 
-    /// A copy. Uses the allocator of the salt's octets.
+    /// Returns a copy. Uses the allocator of the salt's octets.
     pub fn clone(&self) -> Result<Self, OutOfMemory>
         ensures { IfOk result (λ copy. copy ≡ self.now) }
     {
@@ -95,14 +95,14 @@ impl<O: Octets> Nsec3param<O> {
         Ok(Nsec3param::new(self.hash_algorithm, self.flags, self.iterations, salt))
     }
 
-    /// The algorithm of the hash (RFC 5155, section 4.1.1).
+    /// Returns the algorithm of the hash (RFC 5155, section 4.1.1).
     pub fn hash_algorithm(&self) -> Nsec3HashAlgorithm
         ensures { result ≡ self.now.hash_algorithm }
     {
         self.hash_algorithm
     }
 
-    /// The flags (RFC 5155, section 4.1.2).
+    /// Returns the flags (RFC 5155, section 4.1.2).
     pub fn flags(&self) -> u8
         ensures { result ≡ self.now.flags }
     {
@@ -116,7 +116,7 @@ impl<O: Octets> Nsec3param<O> {
         self.flags = self.flags | OPT_OUT;
     }
 
-    /// Whether the bit of opt-out is set.
+    /// Returns whether the bit of opt-out is set.
     pub fn opt_out_flag(&self) -> bool
         ensures { result ≡ is_opt_out self.now.flags }
     {
@@ -130,21 +130,21 @@ impl<O: Octets> Nsec3param<O> {
         self.iterations
     }
 
-    /// What is hashed after a name (RFC 5155, section 4.1.5).
+    /// Returns what is hashed after a name (RFC 5155, section 4.1.5).
     pub fn salt(&self) -> &Nsec3Salt<O>
         ensures { result.now ≡ self.now.salt }
     {
         &self.salt
     }
 
-    /// The salt alone.
+    /// Returns the salt alone.
     pub fn into_salt(self) -> Nsec3Salt<O>
         ensures { result ≡ self.salt }
     {
         self.salt
     }
 
-    /// The fields but the salt.
+    /// Returns the fields but the salt.
     pub(crate) fn numbers(&self) -> HashNumbers
         ensures { result ≡ (nsec3param_values self.now).0 }
     {
@@ -154,7 +154,7 @@ impl<O: Octets> Nsec3param<O> {
         )
     }
 
-    /// The fields, in the order of the wire.
+    /// Returns the fields, in the order of the wire.
     pub(crate) fn fields(&self) -> ParamFields<'_>
         ensures values { nsec3param_values self.now ≡ (result.0, result.1.octets.now) }
         ensures fits { Fits nsec3param (nsec3param_values self.now) }
@@ -164,7 +164,7 @@ impl<O: Octets> Nsec3param<O> {
         (self.numbers(), Counted::new(salt))
     }
 
-    /// The numbers, and the octets of the salt.
+    /// Returns the numbers, and the octets of the salt.
     fn uncounted(&self) -> (HashNumbers, Rest<'_>)
         ensures values { nsec3param_values self.now ≡ (result.0, result.1.0.now) }
         ensures fits { Fits uncounted (nsec3param_values self.now) }
@@ -174,7 +174,7 @@ impl<O: Octets> Nsec3param<O> {
     }
 }
 
-/// The parameters that were read.
+/// Returns the parameters that were read.
 pub fn params_of<'a>(fields: ParamFields<'a>) -> Nsec3param<&'a [u8]>
     ensures { nsec3param_values result ≡ (fields.entry.0, fields.entry.1.octets.now) }
 {
@@ -188,12 +188,12 @@ pub fn params_of<'a>(fields: ParamFields<'a>) -> Nsec3param<&'a [u8]>
 }
 
 impl<'a> Nsec3param<&'a [u8]> {
-    /// The data that the octets begin with (RFC 5155, section 4.2); what follows is left. Takes no
-    /// memory.
+    /// Returns the data that the octets begin with (RFC 5155, section 4.2); what follows is left.
+    /// Takes no memory.
     ///
     /// # Errors
     ///
-    /// `ShortInput` where an octet is missing. The parser then stands where it stood.
+    /// `ShortInput` where an octet is missing. The parser does not move then.
     pub fn parse(parser: &mut Parser<'a>) -> Result<Self, ParseError>
         ensures { Reads nsec3param nsec3param_values fault_of parser.old parser.new result }
     {
@@ -249,7 +249,7 @@ impl<O: Octets> ComposeRecordData for Nsec3param<O> {
 }
 
 impl<O: Octets> Nsec3param<O> {
-    /// Whether parameters over other octets are the same. Takes no memory.
+    /// Returns whether parameters over other octets are the same. Takes no memory.
     pub fn eq_to<P: Octets>(&self, other: &Nsec3param<P>) -> bool
         ensures value { result ≡ bytes_eq (uncounted_octets self.now) (uncounted_octets other.now) }
         ensures same { IsTrue result ↔ (nsec3param_values self.now ≡ nsec3param_values other.now) }
@@ -257,8 +257,8 @@ impl<O: Octets> Nsec3param<O> {
         domain_fields::canonical_eq(&self.uncounted(), &other.uncounted())
     }
 
-    /// The order by hash algorithm, flags, iterations and salt, salts in lexicographic order, also
-    /// of parameters over other octets. Takes no memory.
+    /// Returns the order by hash algorithm, flags, iterations and salt, salts in lexicographic
+    /// order, also of parameters over other octets. Takes no memory.
     pub fn cmp_to<P: Octets>(&self, other: &Nsec3param<P>) -> Ordering
         ensures { result ≡ slice_cmp nat_cmp (uncounted_octets self.now)
             (uncounted_octets other.now) }
@@ -267,8 +267,8 @@ impl<O: Octets> Nsec3param<O> {
         mine.order(&theirs)
     }
 
-    /// The canonical order, in which shorter salts come first, also of parameters over other
-    /// octets. Takes no memory.
+    /// Returns the canonical order, in which shorter salts come first, also of parameters over
+    /// other octets. Takes no memory.
     pub fn canonical_cmp_to<P: Octets>(&self, other: &Nsec3param<P>) -> Ordering
         ensures { result ≡ slice_cmp nat_cmp (nsec3param_octets self.now)
             (nsec3param_octets other.now) }
@@ -365,8 +365,8 @@ impl<S: Octets + Drop, O: CopyOctets> OctetsFrom<Nsec3param<S>> for Nsec3param<O
 }
 
 impl<O: FromBuilder + Drop> Nsec3param<O> {
-    /// The data that the tokens begin with: hash algorithm, flags and iterations in decimal, and
-    /// the salt in Base 16 or as a dash.
+    /// Returns the data that the tokens begin with: hash algorithm, flags and iterations in
+    /// decimal, and the salt in Base 16 or as a dash.
     ///
     /// # Errors
     ///
@@ -399,7 +399,7 @@ impl<O: Octets> fmt::Display for Nsec3param<O> {
     }
 }
 
-/// The pieces of the numbers, where this is the comment on the flags.
+/// Returns the pieces of the numbers, where this is the comment on the flags.
 #[tactic(auto, using(std::proofs::lemmas::Grind::common_steps, crate::proofs::TextLemmas::numbers_written))]
 pub fn write_numbers<F: Formatter>(
     numbers: HashNumbers,

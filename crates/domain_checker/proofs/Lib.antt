@@ -1,2 +1,3 @@
 pub mod HashedVerdictLemmas
+pub mod IndexLemmas
 pub mod MeantLemmas

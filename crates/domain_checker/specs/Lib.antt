@@ -2,3 +2,4 @@ pub mod Verdict
 pub mod Reading
 pub mod HashedVerdict
 pub mod HashedReading
+pub mod HashedIndex

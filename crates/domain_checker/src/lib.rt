@@ -14,11 +14,13 @@
 //! encloser of a name, and `find_nsec3` what of one name.
 #![tactic(auto)]
 
+mod index;
 pub mod laws;
 mod nsec;
 mod nsec3;
 mod verdict;
 
+pub use index::{Nsec3Index, Nsec3Search, check_nsec3_index};
 pub use nsec::{
     NsecCheck, NsecRr, check_nsec, is_at_cut, is_before, is_inside, is_match, is_strictly_below,
     shared_if_covered,

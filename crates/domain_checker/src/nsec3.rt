@@ -81,7 +81,7 @@ pub enum Nsec3Found<'a, O: Octets, N: ToName> {
 /// The hash at which a record stands, in a buffer. None where the record has other parameters, or
 /// an owner of another form.
 #[tactic(auto, using(std::proofs::lemmas::Grind::common_steps, crate::proofs::HashedVerdictLemmas::label_short))]
-fn hash_of_owner<'b, A: ToName, O: Octets, N: ToName>(
+pub(crate) fn hash_of_owner<'b, A: ToName, O: Octets, N: ToName>(
     apex: &A,
     param: &Nsec3param<O>,
     listed: &Nsec3Rr<O, N>,
@@ -113,7 +113,7 @@ fn hash_of_owner<'b, A: ToName, O: Octets, N: ToName>(
 /// Whether a hash lies between that of a record and the next one, or on either side of the two
 /// where the next one is not after the first.
 #[tactic(auto, using(crate::proofs::HashedVerdictLemmas::tied_is))]
-fn lies_between(owner: &[u8], next: &[u8], hash: &[u8]) -> bool
+pub(crate) fn lies_between(owner: &[u8], next: &[u8], hash: &[u8]) -> bool
     ensures { result ≡ covers octets_before owner.now next.now hash.now }
 {
     let order = owner.cmp(hash);
@@ -313,7 +313,7 @@ fn cover_verdict<O: Octets, N: ToName>(cover: Option<&Nsec3Rr<O, N>>, count: usi
 }
 
 /// What the records say of a name with so many labels, whose closest encloser they tell.
-fn found_verdict<A: ToName, O: Octets, N: ToName>(
+pub(crate) fn found_verdict<A: ToName, O: Octets, N: ToName>(
     apex: &A,
     found: Option<Nsec3Encloser<'_, O, N>>,
     count: usize,

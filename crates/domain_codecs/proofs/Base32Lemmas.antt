@@ -1,12 +1,13 @@
 -- Base 32 with the extended hex alphabet: its digits, its order, and that it is read back.
 use Rattle.std.proofs.Common.{ℕ, ◌≡◌, min, ◌+◌, ◌*◌, ◌/◌, ◌%◌, ◌<◌, ◌≤◌, zero-add, List, [], ◌∷◌, ◌++◌, length, get_or, map, take, drop, refl, sym, ap, ◌∙◌}
-use Rattle.std.proofs.{Common.{arith, ◌-◌, All, true, Some, Ordering, zero, suc, ap₂, codes}, lemmas.List.{append-nil, take_all, drop_all, take-map}}
+use Rattle.std.proofs.{Common.{arith, ◌^◌, ◌-◌, All, true, Some, Ordering, zero, suc, ap₂, codes}, lemmas.List.{append-nil, take_all, drop_all, take-map}}
 use Rattle.std.proofs.lemmas.List.{length-map, Elements.{recursion_from_All, All-map, All-weaker, All-from_recursion}}
 use Rattle.std.proofs.lemmas.{List.FromFn.get_or-range_with_len, Grind.common_steps, Bool.Decides.nat_tests, Str.Ascii.IsAscii-from_all}
 use Rattle.std.specs.{List.{AllByRecursion as ByRecursion, range_with_len, AllByRecursion, flat_map, list_all}, Str.IsAscii, Prelude.replicate}
 use Rattle.std.{proofs.lemmas.List.Sums.AllPass-from_list_all, specs.{declared.cmp.Ordering.TheVariants.Less, Ordering.{nat_cmp, ordering_then}}}
 use Rattle.std.specs.{Ordering.ordering_reverse, Cmp.{Lexicographic.{slice_cmp, nat_list_cmp_total}}}
-use Rattle.domain_codecs.specs.Base32.{base32_from, lower_digit, upper_digit, AreDigits, base32_lower, base32_upper, octet_bits, digit_bits, filled_bits}
+use Rattle.domain_codecs.specs.Base32.{base32_from, eight_digits, lower_digit, upper_digit, AreDigits, base32_lower, base32_upper}
+use Rattle.domain_codecs.specs.Base32.{octet_bits, digit_bits, filled_bits}
 use Rattle.std.proofs.Math.Nat.{div-lt_iff_lt-mul, div-mul-le_self}
 use Rattle.domain_codecs.specs.{declared.codec.Codec.TheVariants.Base32Hex, Codec.{base32_value, is_digit, is_base32_length, base32_octets, base32_digits}}
 use Rattle.domain_codecs.specs.Codec.{IsBase32}
@@ -49,17 +50,51 @@ unfolding base32_from
 digits_of_group (a ∷ b ∷ c ∷ d ∷ e ∷ f ∷ xs) short = absurd (omega arith)
 digits_of_group xs short = grind (arith, common_steps)
 
--- the characters of the digits of at most five octets
-pub spelled_five : (f : ℕ → ℕ) (xs : List ℕ) → length xs ≤ 5 → take (many (length xs)) (map f (eight (padded xs))) ≡ map f (base32_from 1 0 xs)
-spelled_five f xs short = take-map f (many (length xs)) (eight (padded xs)) ∙ ap (map f) (sym (digits_of_group xs short))
+-- five octets, and those after them
+pub whole_five : (xs five : List ℕ) (number : ℕ) → 5 ≤ length xs → five ≡ take 5 xs → eight_digits number ≡ base32_from 1 0 five
+    → base32_from 1 0 xs ≡ take 8 (eight_digits number) ++ base32_from 1 0 (drop 5 xs)
+whole_five (a ∷ b ∷ c ∷ d ∷ e ∷ xs) five number long is spelled = grind (arith, common_steps, five_octets, no_digits)
+whole_five xs five number long is spelled = absurd (omega arith)
 
-alone : (xs : List ℕ) (count : ℕ) → count ≡ length xs → base32_from 1 0 xs ≡ base32_from 1 0 (take count xs) ++ base32_from 1 0 (drop count xs)
-alone xs count is = rw (is, take_all (length xs) xs (omega arith), drop_all (length xs) xs (omega arith), no_digits) (sym (append-nil (base32_from 1 0 xs)))
+digits_of_five : (five : List ℕ) → length five ≡ 5 → base32_from 1 0 five ≡ eight five
+digits_of_five (a ∷ b ∷ c ∷ d ∷ e ∷ []) size = grind (arith, common_steps, five_octets, no_digits)
+digits_of_five five size = absurd (omega arith)
 
--- the next five octets, or all where these are fewer, and those after them
-pub next_left : (xs : List ℕ) (count : ℕ) → count ≡ min (length xs) 5 → base32_from 1 0 xs ≡ base32_from 1 0 (take count xs) ++ base32_from 1 0 (drop count xs)
-next_left (a ∷ b ∷ c ∷ d ∷ e ∷ xs) count is = grind (arith, common_steps, five_octets, digits_of_group)
-next_left xs count is = alone xs count (omega (arith, is))
+-- the last octets, with zeros after them
+pub last_five : (xs five : List ℕ) (number : ℕ) → length xs < 5 → five ≡ padded xs → eight_digits number ≡ base32_from 1 0 five
+    → base32_from 1 0 xs ≡ take (many (length xs)) (eight_digits number) ++ base32_from 1 0 []
+last_five xs five number short is spelled =
+    let size : length five ≡ 5 = grind (arith, common_steps) in
+    grind (arith, common_steps, (digits_of_group xs), (digits_of_five five size), no_digits)
+
+-- the digits of five octets as one number
+module _ (a b c d e n : ℕ) (a_octet : a < 256) (b_octet : b < 256) (c_octet : c < 256) (d_octet : d < 256) (e_octet : e < 256)
+    (is : n ≡ a * 2 ^ 32 + b * 2 ^ 24 + c * 2 ^ 16 + d * 2 ^ 8 + e) where
+  first_two : (n / 2 ^ 35 % 32 ≡ a / 8) × (n / 2 ^ 30 % 32 ≡ (256 * (a % 8) + b) / 64)
+  first_two = (omega (arith, is), omega (arith, is))
+
+  next_two : (n / 2 ^ 25 % 32 ≡ b % 64 / 2) × (n / 2 ^ 20 % 32 ≡ (256 * (b % 2) + c) / 16)
+  next_two = (omega (arith, is), omega (arith, is))
+
+  more_two : (n / 2 ^ 15 % 32 ≡ (256 * (c % 16) + d) / 128) × (n / 2 ^ 10 % 32 ≡ d % 128 / 4)
+  more_two = (omega (arith, is), omega (arith, is))
+
+  last_two : (n / 2 ^ 5 % 32 ≡ (256 * (d % 4) + e) / 32) × (n % 32 ≡ e % 32)
+  last_two = (omega (arith, is), omega (arith, is))
+
+  digits_of_number : eight_digits n ≡ base32_from 1 0 (a ∷ b ∷ c ∷ d ∷ e ∷ [])
+  digits_of_number = grind (arith, common_steps, first_two, next_two, more_two, last_two, (digits_of_five (a ∷ b ∷ c ∷ d ∷ e ∷ []) refl))
+
+pub number_digits : (five : List ℕ) (n : ℕ) → length five ≡ 5 → ((i : ℕ) → get_or five i 0 < 256)
+    → n ≡ get_or five 0 0 * 2 ^ 32 + get_or five 1 0 * 2 ^ 24 + get_or five 2 0 * 2 ^ 16 + get_or five 3 0 * 2 ^ 8 + get_or five 4 0
+    → eight_digits n ≡ base32_from 1 0 five
+number_digits (a ∷ b ∷ c ∷ d ∷ e ∷ []) n size octets is = digits_of_number a b c d e n (octets 0) (octets 1) (octets 2) (octets 3) (octets 4) is
+number_digits five n size octets is = absurd (omega arith)
+
+pub digits_are_small : (n : ℕ) → AreDigits (eight_digits n)
+digits_are_small n = All-from_recursion (λ digit. digit < 32) (eight_digits n) (grind (arith, common_steps))
+
+pub ruleset next_number_steps = (whole_five, last_five, no_digits)
 
 -- how many digits octets have
 pub many_digits : (xs : List ℕ) → length (base32_from 1 0 xs) ≡ many (length xs)

@@ -1,6 +1,7 @@
 -- Texts in any base: how they are decoded, with room or without, and that they have no blanks.
-use Rattle.std.proofs.Common.{◌≡◌, ℕ, ◌+◌, ◌*◌, ◌/◌, ◌%◌, ◌<◌, ◌≤◌, List, [], ◌∷◌, ◌++◌, length, get_or, take, drop, refl, sym, ap, ◌∙◌, arith, lit<, ◌≢◌, inl}
-use Rattle.std.proofs.{Common.{true, false, map, rules, ◌⊎◌}, lemmas.{List.{take_more, append-nil, drop_all, nil_from_length, length-map}, Grind.common_steps}}
+use Rattle.std.proofs.Common.{◌≡◌, ℕ, ◌+◌, ◌*◌, ◌/◌, ◌%◌, ◌<◌, ◌≤◌, List, [], ◌∷◌, ◌++◌, length, get_or, set, take, drop, refl, sym, ap, ◌∙◌, arith}
+use Rattle.std.proofs.Common.{lit<, ◌≢◌, inl, true, false, map, rules, ◌⊎◌}
+use Rattle.std.proofs.lemmas.{List.{take_more, take_more_set, take_all, append-nil, drop_all, nil_from_length, length-map}, Grind.common_steps}
 use Rattle.std.specs.{Prelude.{replicate, not, zero, suc, unwrap_or}, List.list_all}
 use Rattle.hex.{specs.Hex.{encode_with, encode_lower, encode_upper, lower_digits, upper_digits}, proofs.HexLemmas.length-encode_with}
 use Rattle.domain_codecs.specs.{Codec.{base32_value, base32_octets, base32_digits, IsBase32}, Base32.{base32_from, base32_upper, base32_lower, upper_digit}}
@@ -58,6 +59,33 @@ pub encode_more : (table octets : List ℕ) (i : ℕ) → i < length octets
     → encode_with table (take (i + 1) octets) ≡ encode_with table (take i octets)
     ++ (get_or table (get_or octets i 0 / 16) 0 ∷ get_or table (get_or octets i 0 % 16) 0 ∷ [])
 encode_more table octets i inside = ap (encode_with table) (take_more octets i 0 inside) ∙ encode_push table (take i octets) (get_or octets i 0)
+
+-- the two digits of one octet more, put into a buffer behind those of the octets before it
+pub pair_put : (table octets buffer : List ℕ) (i : ℕ) → i < length octets → 2 * i + 1 < length buffer
+    → take (2 * i) buffer ≡ encode_with table (take i octets)
+    → take (2 * (i + 1)) (set (set buffer (2 * i) (get_or table (get_or octets i 0 / 16) 0)) (2 * i + 1) (get_or table (get_or octets i 0 % 16) 0))
+    ≡ encode_with table (take (i + 1) octets)
+pair_put table octets buffer i inside room so_far = grind (arith, common_steps, (encode_more table octets i inside), take_more_set)
+
+encode_append : (table xs ys : List ℕ) → encode_with table (xs ++ ys) ≡ encode_with table xs ++ encode_with table ys
+unfolding encode_with
+encode_append table [] ys = refl
+encode_append table (x ∷ xs) ys = ap (λ l. get_or table (x / 16) 0 ∷ get_or table (x % 16) 0 ∷ l) (encode_append table xs ys)
+
+-- the digits of a group of octets, and of those behind it
+pub encode_group : (table xs group after : List ℕ) → xs ≡ group ++ after → encode_with table xs ≡ encode_with table group ++ encode_with table after
+encode_group table xs group after parts = ap (encode_with table) parts ∙ encode_append table group after
+
+-- no octets are left
+pub all_groups : (table xs front left : List ℕ) → length left ≡ 0 → front ++ encode_with table left ≡ encode_with table xs → front ≡ encode_with table xs
+unfolding encode_with
+all_groups table xs front [] none whole = sym (append-nil front) ∙ whole
+all_groups table xs front (x ∷ left) none whole = absurd (omega arith)
+
+-- all digits are in the buffer
+pub all_pairs : (table octets buffer : List ℕ) (i : ℕ) → i ≡ length octets → take (2 * i) buffer ≡ encode_with table (take i octets)
+    → take (2 * length octets) buffer ≡ encode_with table octets
+all_pairs table octets buffer i is so_far = ap (λ n. take (2 * n) buffer) (sym is) ∙ so_far ∙ ap (encode_with table) (take_all i octets (omega (arith, is)))
 
 pub digits_all : (text octets whole : List ℕ) (scale rest at : ℕ) → IsBase32 text whole → length text ≤ at
     → Digits text octets scale rest at → IsBase32 text octets

@@ -88,7 +88,7 @@ unfolding decode_pairs
 first_octet high low a b i j others octets first second is = grind (arith, common_steps)
 
 -- pairs of digits that are read, wherever they stand, and those after them
-pairs_then : (i j : ℕ) (front back octets others : List ℕ) → decode_pairs i front ≡ Ok octets → decode_pairs (j + length front) back ≡ Ok others
+pub pairs_then : (i j : ℕ) (front back octets others : List ℕ) → decode_pairs i front ≡ Ok octets → decode_pairs (j + length front) back ≡ Ok others
     → decode_pairs j (front ++ back) ≡ Ok (octets ++ others)
 unfolding decode_pairs
 pairs_then i j [] back octets others is after = let none : [] ≡ octets = cc is in rw (← none) (rw add-zero at after)

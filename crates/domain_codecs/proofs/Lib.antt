@@ -4,3 +4,4 @@ pub mod RefusalLemmas
 pub mod CodecBackLemmas
 pub mod Base64Lemmas
 pub mod JoinedLemmas
+pub mod Base16Lemmas

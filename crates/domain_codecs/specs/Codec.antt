@@ -24,15 +24,15 @@ is_base64_char c =
     (nat_le 65 c && nat_le c 90) || (nat_le 97 c && nat_le c 122) || (nat_le 48 c && nat_le c 57)
     || (c == plus || c == slash || c == equals_sign)
 
--- the characters of a codec's texts
+-- the characters that texts of a codec can have
 abbrev pub is_digit : Codec → ℕ → Bool
 is_digit Base16 c = hex.is_hex_digit c
 is_digit Base32Hex c = is_some (base32_value c)
 is_digit Base64 c = is_base64_char c
 
--- The octets of digits of five bits each, first bits first (RFC 4648, section 6). Between two
--- octets some bits are left over: a number below `scale`. The bits after the last whole octet are
--- passed over.
+-- The octets of digits of five bits each, first bits first (RFC 4648, section 6). `rest` is the bits
+-- left over from the digits before: a number below `scale`. Bits after the last whole octet are
+-- ignored.
 unfoldable pub base32_octets : ℕ → ℕ → Octets → Octets
 base32_octets scale rest [] = []
 base32_octets scale rest (digit ∷ digits) =
@@ -55,17 +55,17 @@ pub record IsBase32 (text octets : Octets) : Type 0 where
   pub whole : is_base32_length (length text) ≡ true
   pub value : octets ≡ base32_octets 1 0 (base32_digits text)
 
--- the text stands for these octets
+-- the text encodes these octets
 abbrev pub Decodes : Codec → Octets → Octets → Type 0
 Decodes Base16 text octets = hex.decode_of text ≡ Ok octets
 Decodes Base32Hex text octets = IsBase32 text octets
 Decodes Base64 text octets = base64.decode_of standard text ≡ Ok octets
 
--- the first character of the text that is none of the codec's, if there is one
+-- the first character that no text of the codec has, if there is one
 unfoldable pub first_other : Codec → Octets → Option ℕ
 first_other codec text = find (λ c. not (is_digit codec c)) text
 
--- why the text is refused: Base 16 looks at the number of digits first, the others at the digits
+-- the fault of a text: Base 16 checks the number of digits first, the others check the digits first
 abbrev pub HasBadChar : Codec → Octets → ℕ → Type 0
 HasBadChar Base16 text c = (length text % 2 ≡ 0) × (first_other Base16 text ≡ Some c)
 HasBadChar Base32Hex text c = first_other Base32Hex text ≡ Some c
@@ -79,23 +79,23 @@ HasBadLength Base32Hex text =
 HasBadLength Base64 text =
     ((octets : Octets) → Decodes Base64 text octets → ⊥) × AllPass (is_digit Base64) text
 
--- the text stands for octets
+-- the text encodes octets
 abbrev pub IsText : Codec → Octets → Type 0
 IsText codec text = (octets : Octets) × Decodes codec text octets
 
--- what is wrong with a text by itself
+-- the fault of a text, whatever the builder
 abbrev pub TextFault : Codec → Octets → DecodeError → Type 0
 TextFault codec text (IllegalChar c) = HasBadChar codec text c
 TextFault codec text ShortInput = HasBadLength codec text
 TextFault codec text ShortBuf = ⊥
 TextFault codec text OutOfMemory = ⊥
 
--- the text stands for octets, but a builder with this limit has no room for them
+-- the text encodes octets that do not fit into a builder with this limit
 abbrev pub HasNoRoom : Codec → Option ℕ → Octets → Type 0
 HasNoRoom codec limit text =
     (octets : Octets) × Decodes codec text octets × IsOver limit (length octets)
 
--- why a builder with this limit does not take the octets of a text that stands for some
+-- the reason why a builder with this limit rejects the octets that a text encodes
 abbrev pub BuildFault : Codec → Option ℕ → Octets → AppendError → Type 0
 BuildFault codec limit text append_error.ShortBuf = HasNoRoom codec limit text
 BuildFault codec limit text append_error.OutOfMemory = IsNone limit
@@ -105,9 +105,9 @@ abbrev pub decode_error_of : AppendError → DecodeError
 decode_error_of append_error.ShortBuf = ShortBuf
 decode_error_of append_error.OutOfMemory = OutOfMemory
 
--- why a text is not decoded into octets that have this limit: what is wrong with the text comes
--- first, then want of room; memory is wanting only where the text is right and nothing limits the
--- octets
+-- the reason why a text is not decoded into octets with this limit: a malformed text comes first,
+-- then octets that do not fit; memory runs out only if the text is valid and the octets have no
+-- limit
 abbrev pub DecodeFault : Codec → Option ℕ → Octets → DecodeError → Type 0
 DecodeFault codec limit text (IllegalChar c) = HasBadChar codec text c
 DecodeFault codec limit text ShortInput = HasBadLength codec text
@@ -116,13 +116,13 @@ DecodeFault codec limit text OutOfMemory = IsText codec text × IsNone limit
 
 -- ---- texts that are read in pieces
 
--- a text is a piece of 64 characters, or of all where there are fewer, and what stands after it
+-- a text is a piece of 64 characters, or of all if there are fewer, and the rest
 pub record Cut (text piece after : Octets) : Type 0 where
   pub parts : text ≡ piece ++ after
   pub small : length piece ≤ 64
   pub full : length piece < 64 → after ≡ []
 
--- ---- what errors say
+-- ---- the texts of errors
 
 abbrev pub decode_error_text : DecodeError → Octets
 decode_error_text (decode_error.IllegalChar c) =

@@ -1,7 +1,7 @@
 //! Base 32 with the extended hex alphabet, without padding (RFC 4648, section 7).
 ghost use Rattle.std.specs.Prelude.{◌≡◌, ◌+◌, ◌*◌, ◌/◌, ◌<◌, ◌≤◌, ◌∷◌, ◌++◌, [], map, length, slice_index, take, drop, IfOk, IfErr, IfSome, IfNone, IsErrOf, ◌↔◌, string_bytes, unwrap_or};
 ghost use Rattle.std.specs.Fmt.{WritesOnOk};
-ghost use Rattle.domain_codecs.specs.Base32.{AreDigits, base32_from, base32_upper, base32_lower, upper_digit, lower_digit};
+ghost use Rattle.domain_codecs.specs.Base32.{AreDigits, eight_digits, base32_from, base32_upper, base32_lower, upper_digit, lower_digit};
 ghost use Rattle.domain_codecs.specs.declared.codec.Codec.TheVariants as codec;
 ghost use Rattle.domain_codecs.specs.Codec.{base32_value, Decodes, DecodeFault, HasNoRoom};
 ghost use Rattle.domain_octets.specs.Octets.{Octets};
@@ -13,10 +13,12 @@ use std::alloc::Global;
 use std::fmt;
 use std::marker::Model;
 
-/// The octets of a text of digits in either case.
+/// Decodes digits in either case. Ignores bits after the last whole octet.
 ///
-/// Refuses what is no digit as `IllegalChar`, padding too, and then a number of digits that no
-/// octets have as `ShortInput`. Bits after the last whole octet are passed over.
+/// # Errors
+///
+/// `IllegalChar` with the first character that is not a digit, padding included, or else
+/// `ShortInput` if no octets have this number of digits.
 pub fn decode_hex<O: FromBuilder>(alloc: Global, text: &str) -> Result<O, DecodeError>
 where
     O::Builder: EmptyBuilder + Drop,
@@ -28,7 +30,7 @@ where
     Codec::Base32Hex.decode(alloc, text)
 }
 
-/// The value of a digit, in either case; None for a character that is no digit.
+/// Returns the value of a digit in either case, or None for any other character.
 pub fn digit_value(c: u8) -> Option<u8>
     ensures value { result ≡ base32_value c }
     ensures small { IfSome result (λ digit. digit < 32) }
@@ -44,7 +46,7 @@ pub fn digit_value(c: u8) -> Option<u8>
     }
 }
 
-/// The value of a digit, in either case, and 0 for a character that is no digit.
+/// Returns the value of a digit in either case, or 0 for any other character.
 pub fn digit_or_zero(c: u8) -> u32
     ensures value { result ≡ unwrap_or (base32_value c) 0 }
     ensures small { result < 32 }
@@ -55,42 +57,38 @@ pub fn digit_or_zero(c: u8) -> u32
     }
 }
 
-/// The digits in lower case.
+/// The digits, in lower case.
 const LOWER: &[u8; 32] = b"0123456789abcdefghijklmnopqrstuv";
 
-/// The digits in upper case.
+/// The digits, in upper case.
 const UPPER: &[u8; 32] = b"0123456789ABCDEFGHIJKLMNOPQRSTUV";
 
-/// The digits of at most five octets, as characters of an alphabet, and how many these are. Zero
-/// bits fill the last of them; what stands after it is no digit.
-fn spell(alphabet: &[u8; 32], octets: &[u8]) -> ([u8; 8], usize)
-    requires { length octets.now ≤ 5 }
-    ensures value { take result.1 result.0
-        ≡ map (slice_index alphabet.now) (base32_from 1 0 octets.now) }
-    ensures small { AreDigits (base32_from 1 0 octets.now) }
-    ensures count { result.1 ≡ (8 * length octets.now + 4) / 5 }
+/// Returns five octets as one number, the first of them highest.
+fn number_of(five: &[u8; 5]) -> u64
+    ensures { eight_digits result ≡ base32_from 1 0 five.now }
 {
-    let mut five = [0; 5];
-    five[..octets.len()].copy_from_slice(octets);
-    let [a, b, c, d, e] = five;
-    let second = 256 * u32::from(a % 8) + u32::from(b);
-    let third = 256 * (second % 2) + u32::from(c);
-    let fourth = 256 * (third % 16) + u32::from(d);
-    let fifth = 256 * (fourth % 4) + u32::from(e);
-    let digits = [
-        alphabet[usize::from(a / 8)],
-        alphabet[(second / 64) as usize],
-        alphabet[(second % 64 / 2) as usize],
-        alphabet[(third / 16) as usize],
-        alphabet[(fourth / 128) as usize],
-        alphabet[(fourth % 128 / 4) as usize],
-        alphabet[(fifth / 32) as usize],
-        alphabet[(fifth % 32) as usize],
-    ];
-    (digits, (8 * octets.len() + 4) / 5)
+    let [a, b, c, d, e] = *five;
+    let high = (u64::from(a) << 32) + (u64::from(b) << 24) + (u64::from(c) << 16);
+    high + (u64::from(d) << 8) + u64::from(e)
 }
 
-/// The digits of octets that are left, each a number below 32. Takes no memory.
+/// Returns the eight digits of a number of 40 bits, as characters of an alphabet.
+fn spell(alphabet: &[u8; 32], number: u64) -> [u8; 8]
+    ensures { result ≡ map (slice_index alphabet.now) (eight_digits number) }
+{
+    [
+        alphabet[((number >> 35) % 32) as usize],
+        alphabet[((number >> 30) % 32) as usize],
+        alphabet[((number >> 25) % 32) as usize],
+        alphabet[((number >> 20) % 32) as usize],
+        alphabet[((number >> 15) % 32) as usize],
+        alphabet[((number >> 10) % 32) as usize],
+        alphabet[((number >> 5) % 32) as usize],
+        alphabet[(number % 32) as usize],
+    ]
+}
+
+/// The remaining digits of octets, each a number below 32. Does not allocate.
 #[derive(Drop)]
 pub struct Digits<'a> {
     octets: &'a [u8],
@@ -106,32 +104,38 @@ impl<'a> Model for Digits<'a> {
 }
 
 impl<'a> Digits<'a> {
-    /// All digits of these octets.
+    /// Returns all digits of these octets.
     pub fn new(octets: &'a [u8]) -> Self
         ensures { result ≡ base32_from 1 0 octets.now }
     {
         Digits { octets }
     }
 
-    /// The next five octets, fewer at the end; None where none are left.
-    #[tactic(auto, using(std::proofs::lemmas::Grind::common_steps, crate::proofs::Base32Lemmas::next_left, crate::proofs::Base32Lemmas::no_digits))]
-    fn next_five(&mut self) -> Option<&'a [u8]>
-        ensures some { IfSome result (λ octets. self.old ≡ base32_from 1 0 octets.now ++ self.new) }
-        ensures count { IfSome result (λ octets.
-            (0 < length octets.now) × (length octets.now ≤ 5)) }
+    /// Takes the next five octets, or those that are left and zeros after them. Returns them as a
+    /// number, with the count of their digits, or None if no octets are left.
+    #[tactic(auto, using(std::proofs::lemmas::Grind::common_steps, crate::proofs::Base32Lemmas::next_number_steps))]
+    fn next_number(&mut self) -> Option<(u64, usize)>
+        ensures some { IfSome result (λ next.
+            self.old ≡ take next.1 (eight_digits next.0) ++ self.new) }
+        ensures count { IfSome result (λ next. (0 < next.1) × (next.1 ≤ 8)) }
         ensures none { IfNone result ((self.old ≡ []) × (self.new ≡ [])) }
     {
-        let count = self.octets.len().min(5);
-        if count == 0 {
+        if let Some((five, after)) = self.octets.split_first_chunk::<5>() {
+            self.octets = after;
+            return Some((number_of(five), 8));
+        }
+        if self.octets.is_empty() {
             return None;
         }
-        let (octets, after) = self.octets.split_at(count);
-        self.octets = after;
-        Some(octets)
+        let mut five = [0; 5];
+        five[..self.octets.len()].copy_from_slice(self.octets);
+        let count = (8 * self.octets.len() + 4) / 5;
+        self.octets = &[];
+        Some((number_of(&five), count))
     }
 
-    /// Writes the next digits as characters of an alphabet to the front of a buffer, as far as
-    /// there are any and there is room for eight, and gives the place after them.
+    /// Writes the next digits to the front of a buffer, as characters of an alphabet, while the
+    /// buffer has room for eight more. Returns the end of what was written.
     fn put(&mut self, alphabet: &[u8; 32], buffer: &mut [u8]) -> usize
         ensures written { (digits : Octets) × AreDigits digits × (self.old ≡ digits ++ self.new)
             × (take result buffer.new ≡ map (slice_index alphabet.now) digits) }
@@ -141,18 +145,17 @@ impl<'a> Digits<'a> {
     {
         let mut end = 0;
         while buffer.len() - end >= 8 {
-            let Some(octets) = self.next_five() else {
+            let Some((number, count)) = self.next_number() else {
                 return end;
             };
-            let (digits, count) = spell(alphabet, octets);
-            put(buffer, end, &digits);
+            put(buffer, end, &spell(alphabet, number));
             end += count;
         }
         end
     }
 
-    /// Writes the next digits in lower case to the front of a buffer, as far as there are any and
-    /// there is room for eight, and gives the place after them.
+    /// Writes the next digits to the front of a buffer, in lower case, while the buffer has room
+    /// for eight more. Returns the end of what was written.
     pub fn put_lower(&mut self, buffer: &mut [u8]) -> usize
         ensures written { (digits : Octets) × (self.old ≡ digits ++ self.new)
             × (take result buffer.new ≡ map lower_digit digits) }
@@ -163,8 +166,8 @@ impl<'a> Digits<'a> {
         self.put(LOWER, buffer)
     }
 
-    /// The text of the next digits in upper case, as many as there are and a buffer has room for;
-    /// None where none are left.
+    /// Writes the next digits to a buffer, in upper case, as many as fit. Returns them as text, or
+    /// None if no digits are left.
     fn next_upper<'b>(&mut self, buffer: &'b mut [u8]) -> Option<&'b str>
         requires { 8 ≤ length buffer.old }
         ensures some { IfSome result (λ text. (digits : Octets) × (self.old ≡ digits ++ self.new)
@@ -179,11 +182,11 @@ impl<'a> Digits<'a> {
     }
 }
 
-/// How many octets of text are written at a time.
+/// The number of digits that are written at a time.
 const ROOM: usize = 64;
 
-/// The text of octets in lower case, as octets: what the first label of an NSEC3 owner holds
-/// (RFC 5155, section 3).
+/// Encodes octets as text in lower case, and returns the octets of the text. The first label of an
+/// NSEC3 owner is such a text (RFC 5155, section 3).
 pub fn encode_hex_lower(alloc: Global, octets: &[u8]) -> Result<Vec<u8>, OutOfMemory>
     ensures { IfOk result (λ text. text.items ≡ base32_lower octets.now) }
 {
@@ -193,7 +196,7 @@ pub fn encode_hex_lower(alloc: Global, octets: &[u8]) -> Result<Vec<u8>, OutOfMe
     Ok(text)
 }
 
-/// The text of octets, in upper case.
+/// Encodes octets as text in upper case.
 pub fn encode_string(alloc: Global, octets: &[u8]) -> Result<String, OutOfMemory>
     ensures { IfOk result (λ text. string_bytes text ≡ base32_upper octets.now) }
 {
@@ -206,7 +209,7 @@ pub fn encode_string(alloc: Global, octets: &[u8]) -> Result<String, OutOfMemory
     Ok(text)
 }
 
-/// Writes the text of octets, in upper case.
+/// Writes octets as text in upper case.
 pub fn display<W: fmt::Write>(octets: &[u8], f: &mut fmt::Formatter<W>) -> fmt::Result
     ensures { WritesOnOk W.write_str_gives f.old result (base32_upper octets.now) f.new }
 {

@@ -11,10 +11,12 @@ use domain_octets::{EmptyBuilder, FromBuilder, OutOfMemory};
 use std::alloc::Global;
 use std::fmt;
 
-/// The octets of a text with padding.
+/// Decodes a text with padding.
 ///
-/// Refuses any other text: as `IllegalChar` of the first character that no such text has, and as
-/// `ShortInput` where there is none.
+/// # Errors
+///
+/// For any other text, `IllegalChar` with the first character that no such text has, or
+/// `ShortInput` if there is none.
 pub fn decode<O: FromBuilder>(alloc: Global, text: &str) -> Result<O, DecodeError>
 where
     O::Builder: EmptyBuilder + Drop,
@@ -26,14 +28,14 @@ where
     Codec::Base64.decode(alloc, text)
 }
 
-/// The text of octets.
+/// Encodes octets as text.
 pub fn encode_string(alloc: Global, octets: &[u8]) -> Result<String, OutOfMemory>
     ensures { IfOk result (λ text. string_bytes text ≡ encode_of standard octets.now) }
 {
     Ok(STANDARD.encode(alloc, octets)?)
 }
 
-/// Writes the text of octets.
+/// Writes octets as text.
 pub fn display<W: fmt::Write>(octets: &[u8], f: &mut fmt::Formatter<W>) -> fmt::Result
     ensures { WritesOnOk W.write_str_gives f.old result (encode_of standard octets.now) f.new }
 {

@@ -6,7 +6,7 @@ use domain_octets::AppendError;
 use std::error::Error;
 use std::fmt;
 
-/// A way to write octets as text (RFC 4648).
+/// An encoding of octets as text (RFC 4648).
 #[derive(Clone, Copy, Debug, PartialEq, Eq)]
 pub enum Codec {
     /// Base 16: two digits for an octet, read in either case (section 8).
@@ -17,16 +17,16 @@ pub enum Codec {
     Base64,
 }
 
-/// Why a text was not decoded.
+/// The error of decoding a text.
 #[derive(Clone, Copy, Debug, PartialEq, Eq)]
 pub enum DecodeError {
-    /// This character, an octet of the text, stands in no text of the codec.
+    /// No text of the codec has this character.
     IllegalChar(char),
-    /// The text ends too early, or is padded in another way.
+    /// The text ends too early, or its padding is wrong.
     ShortInput,
-    /// The octets have no room in their builder.
+    /// The octets do not fit into their builder.
     ShortBuf,
-    /// There was no memory.
+    /// Memory ran out.
     OutOfMemory,
 }
 

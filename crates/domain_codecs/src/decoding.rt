@@ -1,6 +1,7 @@
-//! Octets read from text.
-ghost use Rattle.std.specs.Prelude.{◌≤◌, ◌↔◌, length, map, take, Ok, IfOk, IfErr, IfSome, IsErrOf};
+//! Decoding of text.
+ghost use Rattle.std.specs.Prelude.{◌≡◌, ◌≤◌, ◌*◌, ◌↔◌, IsTrue, ℕ, length, map, take, Ok, IfOk, IfErr, IfSome, IsErrOf, unwrap_or};
 ghost use Rattle.std.specs.List.{concat};
+ghost use Rattle.hex.specs.Hex.{hex_digit_value, pair_value};
 ghost use Rattle.domain_codecs.specs.Codec.{Decodes, IsText, HasNoRoom, BuildFault, DecodeFault};
 ghost use Rattle.domain_octets.specs.Octets.{HasRoom, AreOctets};
 
@@ -12,7 +13,7 @@ use base64::engine::general_purpose::STANDARD;
 use domain_octets::{AppendError, EmptyBuilder, FromBuilder};
 use std::alloc::Global;
 
-/// Writes the octets that digits of Base 32 hex stand for to a buffer, and gives their number.
+/// Decodes digits of Base 32 hex into a buffer, and returns the number of octets.
 #[tactic(auto, using(crate::proofs::CodecLemmas::digits_steps))]
 fn decode_base32(digits: &[u8], octets: &mut [u8; 64]) -> usize
     requires text { IsText Codec.Base32Hex digits.now }
@@ -39,7 +40,7 @@ fn decode_base32(digits: &[u8], octets: &mut [u8; 64]) -> usize
     count
 }
 
-/// Writes the octets that a piece of a text stands for to a buffer, and gives their number.
+/// Decodes a piece of a text into a buffer, and returns the number of octets.
 fn decode_piece(codec: Codec, piece: &[u8], octets: &mut [u8; 64]) -> usize
     requires text { IsText codec piece.now }
     requires small { length piece.now ≤ 64 }
@@ -64,8 +65,8 @@ fn decode_piece(codec: Codec, piece: &[u8], octets: &mut [u8; 64]) -> usize
     }
 }
 
-/// A builder of the octets that texts stand for when they are joined: 64 characters after 64, which
-/// stand for whole octets in each codec.
+/// Decodes joined texts into a builder, 64 characters at a time. In each codec 64 characters encode
+/// whole octets.
 #[tactic(auto, using(std::proofs::lemmas::Grind::common_steps, crate::proofs::JoinedLemmas::pieces_end))]
 fn build<B: EmptyBuilder + Drop>(
     alloc: Global,
@@ -92,27 +93,82 @@ fn build<B: EmptyBuilder + Drop>(
     }
 }
 
-/// The octets of a text in Base 16 that has at most 64 digits, in a buffer; None for all others.
-fn few_octets<'a>(codec: Codec, text: &Joined<'_>, buffer: &'a mut [u8; 32]) -> Option<&'a [u8]>
-    ensures { IfSome result (λ octets. Decodes codec text.now octets.now) }
+/// The value of each character as a digit of Base 16, or 99 if the character is not a digit.
+const DIGIT_VALUES: &[u8; 256] = &[
+    99, 99, 99, 99, 99, 99, 99, 99, 99, 99, 99, 99, 99, 99, 99, 99, 99, 99, 99, 99, 99, 99, 99, 99,
+    99, 99, 99, 99, 99, 99, 99, 99, 99, 99, 99, 99, 99, 99, 99, 99, 99, 99, 99, 99, 99, 99, 99, 99,
+    0, 1, 2, 3, 4, 5, 6, 7, 8, 9, 99, 99, 99, 99, 99, 99, 99, 10, 11, 12, 13, 14, 15, 99, 99, 99,
+    99, 99, 99, 99, 99, 99, 99, 99, 99, 99, 99, 99, 99, 99, 99, 99, 99, 99, 99, 99, 99, 99, 99, 10,
+    11, 12, 13, 14, 15, 99, 99, 99, 99, 99, 99, 99, 99, 99, 99, 99, 99, 99, 99, 99, 99, 99, 99, 99,
+    99, 99, 99, 99, 99, 99, 99, 99, 99, 99, 99, 99, 99, 99, 99, 99, 99, 99, 99, 99, 99, 99, 99, 99,
+    99, 99, 99, 99, 99, 99, 99, 99, 99, 99, 99, 99, 99, 99, 99, 99, 99, 99, 99, 99, 99, 99, 99, 99,
+    99, 99, 99, 99, 99, 99, 99, 99, 99, 99, 99, 99, 99, 99, 99, 99, 99, 99, 99, 99, 99, 99, 99, 99,
+    99, 99, 99, 99, 99, 99, 99, 99, 99, 99, 99, 99, 99, 99, 99, 99, 99, 99, 99, 99, 99, 99, 99, 99,
+    99, 99, 99, 99, 99, 99, 99, 99, 99, 99, 99, 99, 99, 99, 99, 99, 99, 99, 99, 99, 99, 99, 99, 99,
+    99, 99, 99, 99, 99, 99, 99, 99, 99, 99, 99, 99, 99, 99,
+];
+
+/// Returns the value of a digit of Base 16, in either case, or 99 for any other character.
+fn value_or_99(c: u8) -> u8
+    ensures { result ≡ unwrap_or (hex_digit_value c) 99 }
 {
-    let mut left = text.fork();
-    let mut digits = [0u8; 64];
-    let piece = left.take_piece(&mut digits);
-    if codec != Codec::Base16 || !left.is_empty() {
+    DIGIT_VALUES[usize::from(c)]
+}
+
+/// Returns the octet of two digits of Base 16, or None if one of them is not a digit.
+#[tactic(auto, using(crate::proofs::Base16Lemmas::pair_read))]
+fn read_pair(high: u8, low: u8) -> Option<u8>
+    ensures { IfSome result (λ octet. (place : ℕ) → pair_value high low place ≡ Ok octet) }
+{
+    let high = value_or_99(high);
+    let low = value_or_99(low);
+    if high.max(low) >= 16 {
         return None;
     }
-    let part = &mut buffer[..piece.len() / 2];
-    if hex::decode_to_slice(piece, part).is_err() {
+    Some(high * 16 + low)
+}
+
+/// Decodes digits of Base 16 into a buffer. Returns false if a character is not a digit.
+fn read_octets(digits: &[u8], octets: &mut [u8]) -> bool
+    requires { length digits.now ≡ 2 * length octets.old }
+    ensures decodes { IsTrue result → Decodes Codec.Base16 digits.now octets.new }
+    ensures room { length octets.new ≡ length octets.old }
+{
+    for i in 0..octets.len() {
+        let Some(octet) = read_pair(digits[2 * i], digits[2 * i + 1]) else {
+            return false;
+        };
+        octets[i] = octet;
+    }
+    true
+}
+
+/// Decodes a single text in Base 16 with at most 128 digits into a buffer. Returns None for all
+/// other texts.
+fn few_octets<'a>(codec: Codec, texts: &[&str], buffer: &'a mut [u8; 64]) -> Option<&'a [u8]>
+    ensures { IfSome result (λ octets.
+        Decodes codec (concat (map (λ text. text.now) texts.now)) octets.now) }
+{
+    let [text] = texts else {
+        return None;
+    };
+    let count = text.len() / 2;
+    if codec != Codec::Base16 || count > 64 || 2 * count != text.len() {
         return None;
     }
-    Some(part)
+    if !read_octets(text.as_bytes(), &mut buffer[..count]) {
+        return None;
+    }
+    Some(&buffer[..count])
 }
 
 impl Codec {
-    /// The octets that a text stands for. What is wrong with the text is answered first, as
-    /// `IllegalChar` or `ShortInput`, and then want of room. Memory is taken for the octets alone:
-    /// where they have a limit, none is.
+    /// Decodes a text. Allocates only for the octets, and only if they have no limit.
+    ///
+    /// # Errors
+    ///
+    /// `IllegalChar` or `ShortInput` for a malformed text, or else `ShortBuf` if the octets do not
+    /// fit, and `OutOfMemory`.
     pub fn decode<O: FromBuilder>(self, alloc: Global, text: &str) -> Result<O, DecodeError>
     where
         O::Builder: EmptyBuilder + Drop,
@@ -124,8 +180,8 @@ impl Codec {
         self.decode_joined(alloc, &[text])
     }
 
-    /// The octets that texts stand for when they are joined: what `decode` answers of the joined
-    /// text. Nothing is joined in memory.
+    /// Decodes the concatenation of texts, with the result of `decode`. Does not join the texts in
+    /// memory.
     pub fn decode_joined<O: FromBuilder>(
         self,
         alloc: Global,
@@ -140,10 +196,10 @@ impl Codec {
         ensures room { IsErrOf result DecodeError.ShortBuf
             ↔ HasNoRoom self O.Builder.limit (concat (map (λ text. text.now) texts.now)) }
     {
-        let text = Joined::new(texts);
-        if let Some(octets) = few_octets(self, &text, &mut [0; 32]) {
+        if let Some(octets) = few_octets(self, texts, &mut [0; 64]) {
             return Ok(O::from_octets(alloc, octets)?);
         }
+        let text = Joined::new(texts);
         judge(self, over_eight(texts), &text)?;
         let builder = build::<O::Builder>(alloc, self, &text)?;
         Ok(O::from_builder(builder))

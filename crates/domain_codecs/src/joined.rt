@@ -1,5 +1,5 @@
-//! Texts that are read one after another, as one text.
-ghost use Rattle.std.specs.Prelude.{◌≡◌, IsTrue, ◌+◌, ◌≤◌, ◌%◌, ◌++◌, [], ℕ, length, map, take};
+//! Several texts that are read as one.
+ghost use Rattle.std.specs.Prelude.{◌≡◌, ◌+◌, ◌≤◌, ◌%◌, ◌++◌, [], ℕ, length, map, take};
 ghost use Rattle.std.specs.List.{concat};
 ghost use Rattle.domain_codecs.specs.Codec.{Cut};
 ghost use Rattle.domain_octets.specs.Octets.{Octets, AreOctets};
@@ -7,7 +7,7 @@ ghost use Rattle.domain_octets.specs.Octets.{Octets, AreOctets};
 use domain_octets::laws;
 use std::marker::Model;
 
-/// Writes octets from a place in a buffer on.
+/// Copies octets into a buffer, from a position on.
 pub(crate) fn put(buffer: &mut [u8], at: usize, part: &[u8])
     requires { at + length part.now ≤ length buffer.old }
     ensures front { (count : ℕ) → count ≤ length part.now
@@ -17,7 +17,7 @@ pub(crate) fn put(buffer: &mut [u8], at: usize, part: &[u8])
     buffer[at..at + part.len()].copy_from_slice(part);
 }
 
-/// The characters of texts that are left to be read.
+/// The unread characters of several texts.
 #[derive(Drop)]
 pub(crate) struct Joined<'a> {
     front: &'a [u8],
@@ -31,7 +31,7 @@ impl<'a> Model for Joined<'a> {
 }
 
 impl<'a> Joined<'a> {
-    /// All characters of these texts.
+    /// Returns all characters of these texts.
     pub(crate) fn new(texts: &'a [&'a str]) -> Self
         ensures { result ≡ concat (map (λ text. text.now) texts.now) }
     {
@@ -44,7 +44,7 @@ impl<'a> Joined<'a> {
         }
     }
 
-    /// The same characters, to be read once more.
+    /// Returns the same characters, to read them again.
     pub(crate) fn fork(&self) -> Joined<'a>
         ensures { result ≡ self.now }
     {
@@ -54,14 +54,7 @@ impl<'a> Joined<'a> {
         }
     }
 
-    /// Whether it is told that none are left.
-    pub(crate) fn is_empty(&self) -> bool
-        ensures { IsTrue result → self.now ≡ [] }
-    {
-        self.front.is_empty() && self.texts.is_empty()
-    }
-
-    /// Takes 64 characters, or all where there are fewer, into a buffer.
+    /// Moves the next 64 characters, or all if there are fewer, into a buffer.
     pub(crate) fn take_piece<'b>(&mut self, buffer: &'b mut [u8; 64]) -> &'b [u8]
         ensures { Cut self.old result.now self.new }
     {
@@ -83,7 +76,7 @@ impl<'a> Joined<'a> {
     }
 }
 
-/// How many characters texts have over a multiple of 8 when they are joined.
+/// Returns the number of characters of joined texts, modulo 8.
 pub(crate) fn over_eight(texts: &[&str]) -> usize
     ensures over { result ≡ length (concat (map (λ text. text.now) texts.now)) % 8 }
     ensures octets { AreOctets (concat (map (λ text. text.now) texts.now)) }

@@ -1,4 +1,4 @@
-//! Whether a text stands for octets, and what is wrong with it.
+//! The check of a text, and its faults.
 ghost use Rattle.std.specs.Prelude.{◌≡◌, ◌<◌, ◌≤◌, ◌%◌, ◌↔◌, false, IsTrue, IfErr, IfSome, IfNone, OnOk, Some, length, slice_index, take};
 ghost use Rattle.std.specs.List.{AllPass};
 ghost use Rattle.domain_codecs.specs.Codec.{is_digit, first_other, IsText, TextFault};
@@ -8,7 +8,7 @@ use crate::joined::Joined;
 use crate::{Codec, DecodeError, base32};
 use base64::engine::general_purpose::STANDARD;
 
-/// Whether a character stands in texts of the codec.
+/// Returns whether texts of the codec can have a character.
 fn is_digit(codec: Codec, c: u8) -> bool
     ensures { result ≡ is_digit codec c }
 {
@@ -19,7 +19,7 @@ fn is_digit(codec: Codec, c: u8) -> bool
     }
 }
 
-/// The first character of a piece that stands in no text of the codec.
+/// Returns the first character of a piece that no text of the codec has.
 #[tactic(auto, using(std::proofs::lemmas::Grind::common_steps), unfolding(crate::specs::Codec::first_other))]
 fn first_other_of(codec: Codec, piece: &[u8]) -> Option<u8>
     ensures { result ≡ first_other codec piece.now }
@@ -32,7 +32,7 @@ fn first_other_of(codec: Codec, piece: &[u8]) -> Option<u8>
     None
 }
 
-/// The first character of texts that stands in no text of the codec.
+/// Returns the first character of joined texts that no text of the codec has.
 #[tactic(auto, using(crate::proofs::JoinedLemmas::other_steps))]
 fn first_other(codec: Codec, text: &Joined<'_>) -> Option<u8>
     ensures { result ≡ first_other codec text.now }
@@ -50,8 +50,8 @@ fn first_other(codec: Codec, text: &Joined<'_>) -> Option<u8>
     }
 }
 
-/// Whether texts stand for octets in Base 64 when they are joined: every 64 characters for 48
-/// octets, and the last for at most as many.
+/// Returns whether joined texts encode octets in Base 64: each 64 characters 48 octets, and the
+/// last piece at most 48.
 #[tactic(auto, using(crate::proofs::JoinedLemmas::base64_steps))]
 fn is_base64(text: &Joined<'_>) -> bool
     requires { AreOctets text.now }
@@ -71,10 +71,15 @@ fn is_base64(text: &Joined<'_>) -> bool
     }
 }
 
-/// Refuses what is no text of the codec: in Base 16 an odd number of digits, and then what is no
-/// digit; in Base 32 hex what is no digit, and then a number of digits that no octets have; and in
-/// Base 64 the first character that no such text has, if any. So many characters are over a
-/// multiple of 8. Takes no memory.
+/// Checks that a text is one of the codec. `over` is its number of characters modulo 8. Does not
+/// allocate.
+///
+/// # Errors
+///
+/// - Base 16: an odd number of digits, or else the first character that is not a digit.
+/// - Base 32 hex: the first character that is not a digit, or else a number of digits that no
+///   octets have.
+/// - Base 64: the first character that no such text has, or else `ShortInput`.
 pub(crate) fn judge(codec: Codec, over: usize, text: &Joined<'_>) -> Result<(), DecodeError>
     requires over { over ≡ length text.now % 8 }
     requires octets { AreOctets text.now }

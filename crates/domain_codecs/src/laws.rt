@@ -1,5 +1,5 @@
-//! What holds of octets as text: Base 16, Base 32 with the extended hex alphabet, and Base 64.
-//! A caller calls the law in its body.
+//! Theorems about Base 16, Base 32 with the extended hex alphabet, and Base 64. A caller calls a
+//! law in its body.
 ghost use Rattle.std.specs.{Prelude.{◌≡◌, ◌≢◌, ◌<◌, ◌^◌, ℕ, []}, Fmt.decimal, List.flat_map};
 ghost use Rattle.std.specs.{Ordering.nat_cmp, Cmp.Lexicographic.slice_cmp};
 ghost use Rattle.domain_codecs.specs.Base32.{base32_from, base32_lower, base32_upper, digit_bits, filled_bits};
@@ -9,9 +9,8 @@ ghost use Rattle.hex.specs.Hex.{encode_lower, encode_upper};
 ghost use Rattle.base64.specs.{GeneralPurpose.encode_of, Engines.standard};
 ghost use Rattle.domain_octets.specs.{Text.IsWord, Octets.{Octets, AreOctets}};
 
-/// Texts are in the lexicographic order of their octets, of whatever lengths those are (RFC 4648,
-/// section 7). So the owners of NSEC3 records are in the order of their hashes (RFC 5155,
-/// section 3).
+/// Texts sort as their octets do, for any lengths (RFC 4648, section 7). So the owners of NSEC3
+/// records sort as their hashes do (RFC 5155, section 3).
 #[tactic(auto, using(crate::proofs::Base32Lemmas::lower_keeps, crate::proofs::Base32Lemmas::upper_keeps))]
 pub fn base32_keeps_order()
     ensures lower { (x y : Octets) → AreOctets x → AreOctets y
@@ -28,12 +27,12 @@ pub fn base32_tells_apart()
         → base32_upper x ≡ base32_upper y → x ≡ y }
 {}
 
-/// What octets are written as in lower case is read back as these octets.
+/// Text in lower case decodes to the octets that were encoded.
 pub fn base32_reads_back()
     ensures { (octets : Octets) → AreOctets octets → IsBase32 (base32_lower octets) octets }
 {}
 
-/// So is what octets are written as in upper case, in Base 16 in either case, and in Base 64.
+/// So does text in upper case, text in Base 16 in either case, and text in Base 64.
 pub fn texts_read_back()
     ensures base16_lower { (octets : Octets) → AreOctets octets
         → Decodes codec.Base16 (encode_lower octets) octets }
@@ -45,13 +44,13 @@ pub fn texts_read_back()
         → Decodes codec.Base64 (encode_of standard octets) octets }
 {}
 
-/// A text stands for octets in one way at most.
+/// A text encodes at most one list of octets.
 pub fn texts_stand_for_octets_once()
     ensures { (codec : Codec) (text x y : Octets) → Decodes codec text x → Decodes codec text y
         → x ≡ y }
 {}
 
-/// A decimal number is one word, and so is what some octets are written as in a codec.
+/// A decimal number is one word, and so is the text of some octets in each codec.
 #[tactic(auto, using(domain_octets::proofs::WordLemmas::decimal_word, crate::proofs::CodecLemmas::lower_hex_word, crate::proofs::CodecLemmas::upper_hex_word, crate::proofs::CodecLemmas::lower_base32_word, crate::proofs::CodecLemmas::upper_base32_word, crate::proofs::CodecLemmas::base64_word))]
 pub fn texts_are_words()
     ensures decimal { (n : ℕ) → n < 2 ^ 64 → IsWord (decimal n) }
@@ -62,8 +61,8 @@ pub fn texts_are_words()
     ensures base64 { (octets : Octets) → octets ≢ [] → IsWord (encode_of standard octets) }
 {}
 
-/// The digits that texts in Base 32 are made of are the groups of five of the bits of the octets,
-/// the last filled with zero bits (RFC 4648, section 6).
+/// The digits of a text in Base 32 are the groups of five bits of its octets. Zero bits fill the
+/// last group (RFC 4648, section 6).
 #[tactic(auto, using(crate::proofs::Base32Lemmas::digits_are_groups))]
 pub fn base32_digits_are_groups_of_bits()
     ensures { (octets : Octets) → AreOctets octets

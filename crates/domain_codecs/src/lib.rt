@@ -1,10 +1,10 @@
 //! Octets as text: Base 16, Base 32 with the extended hex alphabet, and Base 64 (RFC 4648).
 //!
-//! [`Codec`] and the modules `base16`, `base32` and `base64_standard` read and write octets as
-//! text. What is wrong with a text is answered before want of room.
+//! [`Codec`] and the modules `base16`, `base32` and `base64_standard` encode and decode. The error
+//! for a malformed text comes before the error for octets that do not fit.
 //!
-//! The crate above may rely on this: what a codec reads and writes is a function of the octets and
-//! of nothing else, and texts in Base 32 hex are in the order of their octets (the module `laws`).
+//! Other crates may rely on this. Encoding and decoding are functions of the octets. Texts in
+//! Base 32 hex sort as their octets do (the module `laws`).
 #![tactic(auto)]
 
 pub mod base16;

@@ -17,7 +17,7 @@ use domain_record::{Record, ZoneData};
 use domain_records::{RecordsIter, SortedRecords, Sorter};
 use std::alloc::Global;
 
-/// The records of one class, sorted; of equal records the earliest is kept.
+/// Returns the records of one class, sorted; of equal records the earliest is kept.
 ///
 /// # Errors
 ///
@@ -41,14 +41,15 @@ where
     Ok(sorted)
 }
 
-/// The NSEC chain of the zone that records in any order are: they are sorted, and of equal records
-/// the earliest is kept.
+/// Returns the NSEC chain of the zone that records in any order are: they are sorted, and of equal
+/// records the earliest is kept.
 ///
 /// # Errors
 ///
-/// The first that stands: `MixedClasses` where the records are not of one class; `Signing` with the
-/// first fault of the zone; and `OutOfMemory`, only where it has none. Before a fault of the zone
-/// is known, `Sort` where there was no memory to sort them, which only the sort answers.
+/// The first of these that applies: `MixedClasses` where the records are not of one class;
+/// `Signing` with the first fault of the zone; and `OutOfMemory`, only where it has none. Before a
+/// fault of the zone is known, `Sort` if there is no memory to sort them, which only the sort
+/// answers.
 #[tactic(auto, using(crate::proofs::AnyOrderLemmas::no_chain))]
 pub fn generate_nsecs_of_records<O, N: MakeName, D: ZoneData + CanonicalOrd>(
     alloc: Global,
@@ -70,15 +71,15 @@ where
     Ok(generate_nsecs(alloc, apex, sorted.owner_rrs(), config)?)
 }
 
-/// The NSEC3 chain of the zone that records in any order are, with its NSEC3PARAM record: they are
-/// sorted, and of equal records the earliest is kept.
+/// Returns the NSEC3 chain of the zone that records in any order are, with its NSEC3PARAM record:
+/// they are sorted, and of equal records the earliest is kept.
 ///
 /// # Errors
 ///
-/// The first that stands: `MixedClasses` where the records are not of one class; `Signing` with the
-/// first fault of the zone; and `OutOfMemory`, only where it has none but, where it has one, a
-/// fault of hashing. Before a fault of the zone is known, `Sort` where there was no memory to sort
-/// them, which only the sort answers.
+/// The first of these that applies: `MixedClasses` where the records are not of one class;
+/// `Signing` with the first fault of the zone; and `OutOfMemory`, only where it has none but, where
+/// it has one, a fault of hashing. Before a fault of the zone is known, `Sort` if there is no
+/// memory to sort them, which only the sort answers.
 #[tactic(auto, using(crate::proofs::AnyOrderLemmas::no_hashed_chain))]
 pub fn generate_nsec3s_of_records<
     S: Sorter,

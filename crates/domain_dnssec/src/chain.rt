@@ -16,7 +16,7 @@ pub enum ChainError {
     /// There was no memory to sort the records, which are of one class. Whether their zone has a
     /// fault shows only when they are sorted.
     Sort(SortError),
-    /// The first fault of their zone, which is never want of memory.
+    /// The first fault of their zone, which is never lack of memory.
     Signing(SigningError),
     /// There was no memory for the chain. The zone of the records has no fault, unless a name of an
     /// NSEC3 chain can't be hashed.

@@ -30,7 +30,7 @@ impl<O: Octets, Sort> DenialConfig<O, Sort> {
         DenialConfig::Nsec(GenerateNsecConfig::new())
     }
 
-    /// A copy. Uses the allocator of the salt's octets.
+    /// Returns a copy. Uses the allocator of the salt's octets.
     ///
     /// # Errors
     ///

@@ -25,41 +25,109 @@ pub mod laws;
 pub mod rdata;
 mod wire;
 
-pub use any_order::{generate_nsec3s_of_records, generate_nsecs_of_records, sort_one_class};
+pub use any_order::generate_nsec3s_of_records;
+pub use any_order::generate_nsecs_of_records;
+pub use any_order::sort_one_class;
 pub use chain::ChainError;
 pub use config::DenialConfig;
-pub use domain_answer::{Answer, judge_nsec, judge_nsec3, judge_nsec3_expansion};
-pub use domain_base::{
-    CanonicalOrd, Class, FromToken, IterScanner, MakeName, Name, Nsec3HashAlgorithm, ParseError,
-    ParsedName, Rtype, ScanError, Scanner, ToName, Ttl,
-};
-pub use domain_bitmap::{RtypeBitmap, RtypeBitmapBuilder};
-pub use domain_checker::{NsecCheck, Verdict, check_nsec, check_nsec3};
-pub use domain_denier::{Nsec3Denial, NsecDenial, NsecDenier, deny_nsec, deny_nsec3};
-pub use domain_hasher::{HasherError, Nsec3HashError, Nsec3Hasher};
-pub use domain_message::{
-    LineError, MessageError, OwnedRecord, is_no_entry, read_name, read_record, scan_behind_owner,
-    scan_entry, scan_record,
-};
-pub use domain_nsec::{BorrowedNsec, GenerateNsecConfig, NsecChain, generate_nsecs};
-pub use domain_nsec3::{
-    BorrowedNsec3, GenerateNsec3Config, HashedOwner, Nsec3Chain, Nsec3ParamTtlMode, Nsec3Records,
-    generate_nsec3s, mk_hashed_nsec3_owner_name,
-};
-pub use domain_octets::{
-    AppendError, ArrayBuilder, EmptyBuilder, FreezeBuilder, FromBuilder, GrowingBuilder, Octets,
-    OutOfMemory, Parser, SmallBuilder, SmallOctets, Truncate, TryClone,
-};
-pub use domain_rdata::{Nsec, Nsec3, Nsec3param, ZoneRecordData};
-pub use domain_record::{
-    CloneRecordData, ComposeRecordData, LongRecordData, ParseRecordData, Record, RecordData,
-    ZoneData,
-};
-pub use domain_records::{
-    DefaultSorter, InPlaceSorter, InsertError, OwnerRrs, RecordsIter, SigningError, SortError,
-    SortedRecords, Sorter,
-};
+pub use domain_answer::Answer;
+pub use domain_answer::Nsec3Limits;
+pub use domain_answer::judge_nsec;
+pub use domain_answer::judge_nsec3;
+pub use domain_answer::judge_nsec3_expansion;
+pub use domain_answer::judge_nsec3_index;
+pub use domain_answer::judge_nsec3_index_expansion;
+pub use domain_answer::judge_nsec3_within;
+pub use domain_base::CanonicalOrd;
+pub use domain_base::Class;
+pub use domain_base::FromToken;
+pub use domain_base::IterScanner;
+pub use domain_base::MakeName;
+pub use domain_base::Name;
+pub use domain_base::Nsec3HashAlgorithm;
+pub use domain_base::ParseError;
+pub use domain_base::ParsedName;
+pub use domain_base::Rtype;
+pub use domain_base::ScanError;
+pub use domain_base::Scanner;
+pub use domain_base::ToName;
+pub use domain_base::Ttl;
+pub use domain_bitmap::RtypeBitmap;
+pub use domain_bitmap::RtypeBitmapBuilder;
+pub use domain_bitmap::RtypeBitmaps;
+pub use domain_checker::Nsec3Index;
+pub use domain_checker::NsecCheck;
+pub use domain_checker::Verdict;
+pub use domain_checker::check_nsec;
+pub use domain_checker::check_nsec3;
+pub use domain_checker::check_nsec3_index;
+pub use domain_denier::Nsec3Denial;
+pub use domain_denier::NsecDenial;
+pub use domain_denier::NsecDenier;
+pub use domain_denier::deny_nsec;
+pub use domain_denier::deny_nsec3;
+pub use domain_hasher::HasherError;
+pub use domain_hasher::Nsec3HashError;
+pub use domain_hasher::Nsec3Hasher;
+pub use domain_message::LineError;
+pub use domain_message::MessageError;
+pub use domain_message::OwnedRecord;
+pub use domain_message::is_no_entry;
+pub use domain_message::read_name;
+pub use domain_message::read_record;
+pub use domain_message::scan_behind_owner;
+pub use domain_message::scan_entry;
+pub use domain_message::scan_record;
+pub use domain_nsec::BorrowedNsec;
+pub use domain_nsec::GenerateNsecConfig;
+pub use domain_nsec::NsecChain;
+pub use domain_nsec::generate_nsecs;
+pub use domain_nsec3::BorrowedNsec3;
+pub use domain_nsec3::GenerateNsec3Config;
+pub use domain_nsec3::HashedOwner;
+pub use domain_nsec3::Nsec3Chain;
+pub use domain_nsec3::Nsec3ParamTtlMode;
+pub use domain_nsec3::Nsec3Records;
+pub use domain_nsec3::generate_nsec3s;
+pub use domain_nsec3::mk_hashed_nsec3_owner_name;
+pub use domain_octets::AppendError;
+pub use domain_octets::ArrayBuilder;
+pub use domain_octets::EmptyBuilder;
+pub use domain_octets::FreezeBuilder;
+pub use domain_octets::FromBuilder;
+pub use domain_octets::GrowingBuilder;
+pub use domain_octets::Octets;
+pub use domain_octets::OutOfMemory;
+pub use domain_octets::Parser;
+pub use domain_octets::SmallBuilder;
+pub use domain_octets::SmallOctets;
+pub use domain_octets::Truncate;
+pub use domain_octets::TryClone;
+pub use domain_rdata::Nsec;
+pub use domain_rdata::Nsec3;
+pub use domain_rdata::Nsec3param;
+pub use domain_rdata::ZoneRecordData;
+pub use domain_record::CloneRecordData;
+pub use domain_record::ComposeRecordData;
+pub use domain_record::LongRecordData;
+pub use domain_record::ParseRecordData;
+pub use domain_record::Record;
+pub use domain_record::RecordData;
+pub use domain_record::ZoneData;
+pub use domain_records::DefaultSorter;
+pub use domain_records::InPlaceSorter;
+pub use domain_records::InsertError;
+pub use domain_records::OwnerRrs;
+pub use domain_records::RecordsIter;
+pub use domain_records::SigningError;
+pub use domain_records::SortError;
+pub use domain_records::SortedRecords;
+pub use domain_records::Sorter;
 pub use domain_sha1::Sha1Hasher;
-pub use domain_zone::{ApexSoa, UnoccludedOwner, UnoccludedOwners, find_soa};
+pub use domain_zone::ApexSoa;
+pub use domain_zone::UnoccludedOwner;
+pub use domain_zone::UnoccludedOwners;
+pub use domain_zone::find_soa;
 pub use error::Error;
-pub use wire::{compose_nsec3s, compose_nsecs};
+pub use wire::compose_nsec3s;
+pub use wire::compose_nsecs;

@@ -16,7 +16,7 @@ pub struct Counted<'a> {
 }
 
 impl<'a> Counted<'a> {
-    /// These octets, and their count before them.
+    /// Returns these octets, and their count before them.
     pub fn new(octets: &'a [u8]) -> Self
         requires { length octets.now ≤ 255 }
         ensures { result.octets.now ≡ octets.now }
@@ -24,7 +24,7 @@ impl<'a> Counted<'a> {
         Counted { octets }
     }
 
-    /// The octets, without the count.
+    /// Returns the octets, without the count.
     pub fn as_slice(&self) -> &'a [u8]
         ensures octets { result.now ≡ self.now.octets.now }
         ensures fits { length result.now ≤ 255 }
@@ -32,7 +32,8 @@ impl<'a> Counted<'a> {
         self.octets
     }
 
-    /// The count and the octets, which are written, compared and hashed as these two fields.
+    /// Returns the count and the octets, which are written, compared and hashed as these two
+    /// fields.
     fn parts(&self) -> (u8, Rest<'a>)
         ensures { (result.0 ≡ length self.now.octets.now) × (result.1.0.now ≡ self.now.octets.now) }
     {

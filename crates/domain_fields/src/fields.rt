@@ -24,7 +24,7 @@ pub trait Fields {
 
     ghost values: { Self → Values layout };
 
-    /// How many octets are left of so many after the fields; None where they don't fit.
+    /// Returns how many octets are left of so many after the fields, or `None` if they don't fit.
     fn room_after(&self, limit: usize) -> Option<usize>
         ensures { SomeIff result (length (octets_of layout (values self.now)) ≤ limit)
             (limit - length (octets_of layout (values self.now))) };
@@ -35,11 +35,12 @@ pub trait Fields {
             (in_form form (octets_of layout (values self.now))
             (canonical_of layout (values self.now))) };
 
-    /// The lexicographic order of the canonical octets.
+    /// Returns the lexicographic order of the canonical octets.
     fn order(&self, other: &Self) -> Ordering
         ensures { result ≡ canonical_order layout (values self.now) (values other.now) };
 
-    /// The order of the canonical octets and of as many other octets, and what follows those.
+    /// Returns the order of the canonical octets and of as many other octets, and what follows
+    /// those.
     fn order_from<'o>(&self, octets: &'o [u8]) -> (Ordering, &'o [u8])
         ensures order { result.0 ≡ slice_cmp nat_cmp (canonical_of layout (values self.now))
             (take (length (canonical_of layout (values self.now))) octets.now) }
@@ -67,7 +68,7 @@ trait Octeted {
 
     ghost value: { Self → Value field };
 
-    /// The octets; those of a number are put into the buffer.
+    /// Returns the octets; those of a number are put into the buffer.
     fn octets<'o>(&'o self, buffer: &'o mut [u8; 4]) -> &'o [u8]
         ensures octets { result.now ≡ field_octets field (value self.now) }
         ensures fits { FieldFits field (value self.now) };
@@ -99,7 +100,7 @@ fn feed_octets<H: Hasher>(octets: &[u8], state: &mut H)
     }
 }
 
-/// The lexicographic order of the canonical octets of fields and of other octets.
+/// Returns the lexicographic order of the canonical octets of fields and of other octets.
 #[tactic(auto, using(crate::proofs::LayoutLemmas::whole_cmp))]
 pub fn canonical_cmp_octets<F: Fields>(fields: &F, octets: &[u8]) -> Ordering
     ensures { result ≡ slice_cmp nat_cmp (canonical_of F.layout (F.values fields.now)) octets.now }
@@ -109,7 +110,7 @@ pub fn canonical_cmp_octets<F: Fields>(fields: &F, octets: &[u8]) -> Ordering
     order.then(end.cmp(rest))
 }
 
-/// Whether the canonical octets of fields are the same.
+/// Returns whether the canonical octets of fields are the same.
 #[tactic(auto, using(crate::proofs::LayoutLemmas::equal_octets))]
 pub fn canonical_eq<F: Fields>(fields: &F, other: &F) -> bool
     ensures octets { result ≡ bytes_eq (canonical_of F.layout (F.values fields.now))
@@ -122,7 +123,7 @@ pub fn canonical_eq<F: Fields>(fields: &F, other: &F) -> bool
     fields.order(other).is_eq()
 }
 
-/// The first octets, up to so many, and the others.
+/// Returns the first octets, up to so many, and the others.
 fn split_up_to(octets: &[u8], count: usize) -> (&[u8], &[u8])
     ensures front { result.0.now ≡ take count octets.now }
     ensures back { result.1.now ≡ drop count octets.now }
@@ -130,7 +131,7 @@ fn split_up_to(octets: &[u8], count: usize) -> (&[u8], &[u8])
     octets.split_at(count.min(octets.len()))
 }
 
-/// The order of octets, lowered, and of others.
+/// Returns the order of octets, lowered, and of others.
 fn lowered_with_octets_cmp(a: &[u8], b: &[u8]) -> Ordering
     ensures { result ≡ slice_cmp nat_cmp (map to_ascii_lowercase a.now) b.now }
 {
@@ -139,7 +140,7 @@ fn lowered_with_octets_cmp(a: &[u8], b: &[u8]) -> Ordering
         .cmp(b.iter().copied())
 }
 
-/// The octets of a number, put into a buffer.
+/// Returns the octets of a number, put into a buffer.
 fn put_number<'o>(buffer: &'o mut [u8; 4], octets: &[u8]) -> &'o [u8]
     requires { length octets.now ≤ 4 }
     ensures { result.now ≡ octets.now }

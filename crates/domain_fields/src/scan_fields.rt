@@ -43,8 +43,8 @@ impl<N: ToName> Model for Scanned<N> {
 #[derive(Clone, Copy)]
 pub struct Address(pub Ipv4Addr);
 
-/// Four decimal numbers of at most 255 without leading zeros, and dots between them. Refuses every
-/// other token as `Custom("illegal IPv4 address")`.
+/// Four decimal numbers of at most 255 without leading zeros, and dots between them. Any other
+/// token is the error `Custom("illegal IPv4 address")`.
 impl FromToken for Address {
     ghost spells = { λ text a. IsDotted text (ipv4_octets a.0) };
 

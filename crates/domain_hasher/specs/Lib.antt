@@ -1,1 +1,2 @@
 pub mod ErrorText
+pub mod Hashes

@@ -1,5 +1,6 @@
 //! Hashes of owner names.
-ghost use Rattle.std.specs.Prelude.{◌≡◌, ℕ, List, Result, Ok, Err, IfOk, IsErrOf};
+ghost use Rattle.std.specs.Prelude.{◌≡◌, ℕ, List, Result, Ok, Err, IfOk, IsErrOf, map};
+ghost use Rattle.domain_hasher.specs.Hashes.{all_hashes};
 ghost use Rattle.domain_hasher.specs.declared.hasher.HasherError.TheVariants as hasher_error;
 
 use domain_base::Nsec3HashAlgorithm;
@@ -75,4 +76,33 @@ pub trait Nsec3Hasher {
         ensures refused { (n : ℕ) → IsErrOf result (HasherError.Refused n)
             → answer self.now name.now algorithm iterations salt.now ≡ Err n }
         ensures memory { IsErrOf result HasherError.OutOfMemory → takes_memory self.now };
+
+    /// Returns the hashes of four names, in their order, with the arguments of `hash`. A hasher may
+    /// compute them side by side; otherwise `hash` gives one after another.
+    ///
+    /// # Errors
+    ///
+    /// `Refused` with the number of the first name that the hasher refuses, and `OutOfMemory`.
+    fn hash_four(
+        &self,
+        alloc: Global,
+        names: [&[u8]; 4],
+        algorithm: Nsec3HashAlgorithm,
+        iterations: u16,
+        salt: &[u8],
+    ) -> Result<[Vec<u8>; 4], HasherError>
+        ensures ok { IfOk result (λ hashes. all_hashes (map (λ name.
+            answer self.now name.now algorithm iterations salt.now) names.entry)
+            ≡ Ok (map (λ hash. hash.items) hashes)) }
+        ensures refused { (n : ℕ) → IsErrOf result (HasherError.Refused n)
+            → all_hashes (map (λ name.
+            answer self.now name.now algorithm iterations salt.now) names.entry) ≡ Err n }
+        ensures memory { IsErrOf result HasherError.OutOfMemory → takes_memory self.now }
+    {
+        let first = self.hash(alloc, names[0], algorithm, iterations, salt)?;
+        let second = self.hash(alloc, names[1], algorithm, iterations, salt)?;
+        let third = self.hash(alloc, names[2], algorithm, iterations, salt)?;
+        let fourth = self.hash(alloc, names[3], algorithm, iterations, salt)?;
+        Ok([first, second, third, fourth])
+    }
 }

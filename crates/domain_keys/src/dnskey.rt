@@ -34,7 +34,7 @@ impl KeyKind for ZoneKey {
 pub type Dnskey<O> = KeyData<O, ZoneKey>;
 
 impl<O: Octets> Dnskey<O> {
-    /// The data of these fields. Takes no memory.
+    /// Returns the data of these fields. Takes no memory.
     ///
     /// # Errors
     ///
@@ -55,7 +55,7 @@ impl<O: Octets> Dnskey<O> {
         Dnskey::from_fields(flags, protocol, algorithm.to_int(), public_key)
     }
 
-    /// The data of these fields, which have at most 65,535 octets. Takes no memory.
+    /// Returns the data of these fields, which have at most 65,535 octets. Takes no memory.
     pub fn new_unchecked(
         flags: u16,
         protocol: u8,
@@ -69,42 +69,42 @@ impl<O: Octets> Dnskey<O> {
         Dnskey::from_fields_unchecked(flags, protocol, algorithm.to_int(), public_key)
     }
 
-    /// The flags (RFC 4034, section 2.1.1).
+    /// Returns the flags (RFC 4034, section 2.1.1).
     pub fn flags(&self) -> u16
         ensures { result ≡ dnskey_flags self.now }
     {
         self.number
     }
 
-    /// The protocol, which is 3 in DNSSEC (RFC 4034, section 2.1.2).
+    /// Returns the protocol, which is 3 in DNSSEC (RFC 4034, section 2.1.2).
     pub fn protocol(&self) -> u8
         ensures { result ≡ dnskey_protocol self.now }
     {
         self.first
     }
 
-    /// The algorithm of the key (RFC 4034, section 2.1.3).
+    /// Returns the algorithm of the key (RFC 4034, section 2.1.3).
     pub fn algorithm(&self) -> SecurityAlgorithm
         ensures { result ≡ dnskey_algorithm self.now }
     {
         SecurityAlgorithm::from_int(self.second)
     }
 
-    /// The key, in the form of its algorithm (RFC 4034, section 2.1.4).
+    /// Returns the key, in the form of its algorithm (RFC 4034, section 2.1.4).
     pub fn public_key(&self) -> &O
         ensures { O.octets result.now ≡ dnskey_public_key self.now }
     {
         self.as_octets()
     }
 
-    /// The key alone.
+    /// Returns the key alone.
     pub fn into_public_key(self) -> O
         ensures { O.octets result ≡ dnskey_public_key self }
     {
         self.into_octets()
     }
 
-    /// Whether signatures of records may be checked with the key: flag 0x0100 (RFC 4034,
+    /// Returns whether signatures of records may be checked with the key: flag 0x0100 (RFC 4034,
     /// section 2.1.1).
     pub fn is_zone_key(&self) -> bool
         ensures { result ≡ is_zone_key (dnskey_flags self.now) }
@@ -112,22 +112,22 @@ impl<O: Octets> Dnskey<O> {
         self.number & flags::ZONE_KEY != 0
     }
 
-    /// Whether the key is revoked: flag 0x0080 (RFC 5011, section 3).
+    /// Returns whether the key is revoked: flag 0x0080 (RFC 5011, section 3).
     pub fn is_revoked(&self) -> bool
         ensures { result ≡ is_revoked (dnskey_flags self.now) }
     {
         self.number & flags::REVOKED != 0
     }
 
-    /// Whether other zones may point to the key: flag 0x0001. A hint, on which no validation may
-    /// rest (RFC 4034, section 2.1.1).
+    /// Returns whether other zones may point to the key: flag 0x0001. A hint, on which no
+    /// validation may rest (RFC 4034, section 2.1.1).
     pub fn is_secure_entry_point(&self) -> bool
         ensures { result ≡ is_secure_entry_point (dnskey_flags self.now) }
     {
         self.number & flags::SECURE_ENTRY_POINT != 0
     }
 
-    /// The tag by which DS and RRSIG records name the key (RFC 4034, appendix B), for every
+    /// Returns the tag by which DS and RRSIG records name the key (RFC 4034, appendix B), for every
     /// algorithm. For RSA over MD5 and a key of fewer than three octets it is 0.
     #[tactic(auto, unfolding(domain_fields::specs::Layout::octets_of))]
     pub fn key_tag(&self) -> u16

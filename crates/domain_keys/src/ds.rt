@@ -34,7 +34,7 @@ impl KeyKind for Digest {
 pub type Ds<O> = KeyData<O, Digest>;
 
 impl<O: Octets> Ds<O> {
-    /// The data of these fields. Takes no memory.
+    /// Returns the data of these fields. Takes no memory.
     ///
     /// # Errors
     ///
@@ -55,7 +55,7 @@ impl<O: Octets> Ds<O> {
         Ds::from_fields(key_tag, algorithm.to_int(), digest_type.to_int(), digest)
     }
 
-    /// The data of these fields, which have at most 65,535 octets. Takes no memory.
+    /// Returns the data of these fields, which have at most 65,535 octets. Takes no memory.
     pub fn new_unchecked(
         key_tag: u16,
         algorithm: SecurityAlgorithm,
@@ -69,35 +69,35 @@ impl<O: Octets> Ds<O> {
         Ds::from_fields_unchecked(key_tag, algorithm.to_int(), digest_type.to_int(), digest)
     }
 
-    /// The tag of the key (RFC 4034, section 5.1.1).
+    /// Returns the tag of the key (RFC 4034, section 5.1.1).
     pub fn key_tag(&self) -> u16
         ensures { result ≡ ds_key_tag self.now }
     {
         self.number
     }
 
-    /// The algorithm of the key (RFC 4034, section 5.1.2).
+    /// Returns the algorithm of the key (RFC 4034, section 5.1.2).
     pub fn algorithm(&self) -> SecurityAlgorithm
         ensures { result ≡ ds_algorithm self.now }
     {
         SecurityAlgorithm::from_int(self.first)
     }
 
-    /// The algorithm of the digest (RFC 4034, section 5.1.3).
+    /// Returns the algorithm of the digest (RFC 4034, section 5.1.3).
     pub fn digest_type(&self) -> DigestAlgorithm
         ensures { result ≡ ds_digest_type self.now }
     {
         DigestAlgorithm::from_int(self.second)
     }
 
-    /// The digest (RFC 4034, section 5.1.4).
+    /// Returns the digest (RFC 4034, section 5.1.4).
     pub fn digest(&self) -> &O
         ensures { O.octets result.now ≡ ds_digest self.now }
     {
         self.as_octets()
     }
 
-    /// The digest alone.
+    /// Returns the digest alone.
     pub fn into_digest(self) -> O
         ensures { O.octets result ≡ ds_digest self }
     {

@@ -47,11 +47,11 @@ pub trait KeyKind {
     /// The codec in which its octets are written.
     ghost codec: { Codec };
 
-    /// The type of its records.
+    /// Returns the type of its records.
     fn rtype() -> Rtype
         ensures { result ≡ rtype };
 
-    /// The codec in which its octets are written.
+    /// Returns the codec in which its octets are written.
     fn codec() -> Codec
         ensures { result ≡ codec };
 }
@@ -83,7 +83,7 @@ impl<O: Octets, K: KeyKind> Model for KeyData<O, K> {
 }
 
 impl<O: Octets, K: KeyKind> KeyData<O, K> {
-    /// The data of these fields, if they have at most 65,535 octets.
+    /// Returns the data of these fields, if they have at most 65,535 octets.
     #[tactic(auto, unfolding(domain_fields::specs::Layout::octets_of))]
     pub(crate) fn from_fields(
         number: u16,
@@ -103,7 +103,7 @@ impl<O: Octets, K: KeyKind> KeyData<O, K> {
         Ok(KeyData::from_fields_unchecked(number, first, second, octets))
     }
 
-    /// The data of these fields, which have at most 65,535 octets.
+    /// Returns the data of these fields, which have at most 65,535 octets.
     #[tactic(auto, unfolding(domain_fields::specs::Layout::octets_of))]
     pub(crate) fn from_fields_unchecked(number: u16, first: u8, second: u8, octets: O) -> Self
         requires { length (key_octets (key_data number first second (O.octets octets))) ≤ 65535 }
@@ -118,7 +118,7 @@ impl<O: Octets, K: KeyKind> KeyData<O, K> {
         }
     }
 
-    /// The same over other octets, which are the same. Takes no memory.
+    /// Returns the same over other octets, which are the same. Takes no memory.
     #[tactic(auto, unfolding(domain_fields::specs::Layout::octets_of))]
     pub fn with_octets<P: Octets>(&self, octets: P) -> KeyData<P, K>
         requires { P.octets octets ≡ self.now.octets }
@@ -127,21 +127,21 @@ impl<O: Octets, K: KeyKind> KeyData<O, K> {
         KeyData::from_fields_unchecked(self.number, self.first, self.second, octets)
     }
 
-    /// A copy. Uses the allocator of the octets.
+    /// Returns a copy. Uses the allocator of the octets.
     pub fn clone(&self) -> Result<Self, OutOfMemory>
         ensures { IfOk result (λ copy. copy ≡ self.now) }
     {
         Ok(self.with_octets(self.octets.try_clone()?))
     }
 
-    /// The octets.
+    /// Returns the octets.
     pub fn as_octets(&self) -> &O
         ensures { O.octets result.now ≡ self.now.octets }
     {
         &self.octets
     }
 
-    /// The octets alone.
+    /// Returns the octets alone.
     pub fn into_octets(self) -> O
         ensures { O.octets result ≡ self.octets }
     {
@@ -149,7 +149,8 @@ impl<O: Octets, K: KeyKind> KeyData<O, K> {
         octets
     }
 
-    /// The same data, held otherwise. What `From` makes of the octets must be at most 65,531.
+    /// Returns the same data, held otherwise. What `From` makes of the octets must be at most
+    /// 65,531.
     pub fn convert<P: Octets + From<O>>(self) -> KeyData<P, K>
         requires { (octets : O) (made : P) → O.octets octets ≡ self.octets
             → P.from_gives octets made → length (P.octets made) ≤ 65531 }
@@ -167,7 +168,7 @@ impl<O: Octets, K: KeyKind> KeyData<O, K> {
         }
     }
 
-    /// The fields, in the order of the wire.
+    /// Returns the fields, in the order of the wire.
     pub(crate) fn fields(&self) -> KeyFields<'_>
         ensures values { (result.0 ≡ self.now.number) × (result.1.0 ≡ self.now.first)
             × (result.1.1.0 ≡ self.now.second) × (result.1.1.1.1.0.now ≡ self.now.octets) }
@@ -182,12 +183,12 @@ impl<O: Octets, K: KeyKind> KeyData<O, K> {
 }
 
 impl<'a, K: KeyKind> KeyData<&'a [u8], K> {
-    /// All octets that are left, as data. Takes no memory.
+    /// Returns all octets that are left, as data. Takes no memory.
     ///
     /// # Errors
     ///
     /// `ShortInput` for fewer than four octets, then `Form("record data too long")` for over
-    /// 65,535. The parser then stands where it stood.
+    /// 65,535. The parser does not move then.
     pub fn parse(parser: &mut Parser<'a>) -> Result<Self, ParseError>
         ensures { Reads key_fields key_values fault_of parser.old parser.new result }
     {
@@ -203,8 +204,8 @@ impl<'a, K: KeyKind> KeyData<&'a [u8], K> {
 }
 
 impl<O: FromBuilder + Drop, K: KeyKind> KeyData<O, K> {
-    /// The data that all tokens left spell: the numbers in decimal, and the octets in Base 64 for a
-    /// key, or in Base 16 for a digest, in as many tokens as one likes, or in none.
+    /// Returns the data that all tokens left spell: the numbers in decimal, and the octets in Base
+    /// 64 for a key, or in Base 16 for a digest, in as many tokens as one likes, or in none.
     ///
     /// # Errors
     ///
@@ -268,7 +269,7 @@ impl<O: Octets, K: KeyKind> ComposeRecordData for KeyData<O, K> {
 }
 
 impl<O: Octets, K: KeyKind> KeyData<O, K> {
-    /// Whether data over other octets are the same.
+    /// Returns whether data over other octets are the same.
     pub fn eq_to<P: Octets>(&self, other: &KeyData<P, K>) -> bool
         ensures value { result ≡ bytes_eq (key_octets self.now) (key_octets other.now) }
         ensures same { IsTrue result ↔ (self.now ≡ other.now) }
@@ -276,15 +277,15 @@ impl<O: Octets, K: KeyKind> KeyData<O, K> {
         domain_fields::canonical_eq(&self.fields(), &other.fields())
     }
 
-    /// The order to data over other octets: by one field after the other, which is the order of the
-    /// octets.
+    /// Returns the order to data over other octets: by one field after the other, which is the
+    /// order of the octets.
     pub fn cmp_to<P: Octets>(&self, other: &KeyData<P, K>) -> Ordering
         ensures { result ≡ slice_cmp nat_cmp (key_octets self.now) (key_octets other.now) }
     {
         self.fields().order(&other.fields())
     }
 
-    /// The canonical order to data over other octets, which is `cmp_to`.
+    /// Returns the canonical order to data over other octets, which is `cmp_to`.
     pub fn canonical_cmp_to<P: Octets>(&self, other: &KeyData<P, K>) -> Ordering
         ensures { result ≡ slice_cmp nat_cmp (key_octets self.now) (key_octets other.now) }
     {

@@ -31,7 +31,7 @@ pub(crate) struct Header {
 /// The type, the class, the TTL and the length of the data.
 type Numbers = (u16, (u16, (u32, u16)));
 
-/// The numbers that octets begin with. Refuses exactly fewer than ten octets.
+/// Returns the numbers that octets begin with. Refuses exactly fewer than ten octets.
 #[tactic(auto, using(crate::proofs::RecordLemmas::begins_count, crate::proofs::RecordLemmas::numbers_cut))]
 fn read_numbers(octets: &[u8]) -> Result<Numbers, NameFault>
     ensures ok { IfOk result (λ n. (behind : Octets) × Begins numbers octets.now n behind) }
@@ -45,7 +45,7 @@ fn read_numbers(octets: &[u8]) -> Result<Numbers, NameFault>
     }
 }
 
-/// What stands before the data of the record that stands at a place of a message.
+/// Returns what stands before the data of the record that stands at a place of a message.
 pub(crate) fn header_at(message: &[u8], at: usize) -> Result<Header, NameFault>
     ensures ok { IfOk result (λ h. (owner : Name) × HeaderAt message.now at owner
         (h.rtype, (h.class, (h.ttl, h.count))) h.place × (h.owner ≡ wire_of owner)) }

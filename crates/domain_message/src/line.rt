@@ -71,8 +71,8 @@ impl From<OutOfMemory> for LineError {
 }
 
 impl LineError {
-    /// Whether memory was wanting, so that it is not known whether there is a record. Of want of
-    /// room it says nothing, which octets without a limit never have.
+    /// Returns whether memory was wanting, so that it is not known whether there is a record. Of
+    /// lack of room it says nothing, which octets without a limit never have.
     pub fn is_out_of_memory(&self) -> bool
         ensures { (result ≡ false) ↔ IsOfLine None self.now }
     {
@@ -88,7 +88,8 @@ impl LineError {
     }
 }
 
-/// The record of this owner whose TTL, class, type and data the tokens spell, all that are left.
+/// Returns the record of this owner whose TTL, class, type and data the tokens spell, all that are
+/// left.
 ///
 /// # Errors
 ///
@@ -132,8 +133,8 @@ where
     Ok(Record::new(owner, class, ttl, data))
 }
 
-/// The record that tokens spell: its owner, TTL, class, type and data (RFC 1035, section 5.1), all
-/// that are left. Names are absolute, with or without a last dot.
+/// Returns the record that tokens spell: its owner, TTL, class, type and data (RFC 1035, section
+/// 5.1), all that are left. Names are absolute, with or without a last dot.
 ///
 /// # Errors
 ///
@@ -156,15 +157,15 @@ where
     scan_behind_owner(alloc, scanner, owner)
 }
 
-/// Whether the octet separates words.
+/// Returns whether the octet separates words.
 fn is_blank(octet: u8) -> bool
     ensures { result ≡ is_blank octet }
 {
     octet == b' ' || octet == b'\t'
 }
 
-/// Whether a line is blank, or a comment: whether its first octet that is no space and no tab is a
-/// semicolon (RFC 1035, section 5.1).
+/// Returns whether a line is blank, or a comment: whether its first octet that is no space and no
+/// tab is a semicolon (RFC 1035, section 5.1).
 #[tactic(auto, using(crate::proofs::OneLineLemmas::blank_passed, crate::proofs::OneLineLemmas::entry_begins))]
 pub fn is_no_entry(line: &[u8]) -> bool
     ensures { IsTrue result ↔ IsNoEntry (words_of line.now) }
@@ -177,16 +178,16 @@ pub fn is_no_entry(line: &[u8]) -> bool
     true
 }
 
-/// The record that a line of a zone's text spells, in the form that this library prints (RFC 1035,
-/// section 5.1): owner, TTL, class, type and data, and spaces or tabs between them. Names are
-/// absolute, with or without a last dot. For other octets, or tokens from elsewhere, there is
-/// `scan_entry`.
+/// Returns the record that a line of a zone's text spells, in the form that this library prints
+/// (RFC 1035, section 5.1): owner, TTL, class, type and data, and spaces or tabs between them.
+/// Names are absolute, with or without a last dot. For other octets, or tokens from elsewhere,
+/// there is `scan_entry`.
 ///
 /// # Errors
 ///
 /// `NoEntry` where the line is blank or its first word begins with a semicolon; else the first of
 /// its parts that is missing or refused, with what is said of it, and `Trailing` where words are
-/// left behind the data. `OutOfMemory` where there is no memory for the words of the line.
+/// left behind the data. `OutOfMemory` if there is no memory for the words of the line.
 #[tactic(auto, using(std::proofs::lemmas::Grind::common_steps, crate::proofs::OneLineLemmas::line_refused))]
 pub fn scan_record(alloc: Global, line: &str) -> Result<OwnedRecord, LineError>
     ensures ok { IfOk result (LineText (λ o. o.items) (λ n. n) line.now) }

@@ -44,8 +44,8 @@ enum Step {
     Pointer(usize),
 }
 
-/// What stands at a place behind labels that began at another, when so many octets of the name were
-/// read before.
+/// Returns what stands at a place behind labels that began at another, when so many octets of the
+/// name were read before.
 #[tactic(auto, using(std::proofs::lemmas::Grind::common_steps, crate::proofs::NameLemmas::place_steps))]
 fn step_at(message: &[u8], start: usize, at: usize, used: usize) -> Result<Step, NameFault>
     requires { used < 255 }
@@ -82,8 +82,8 @@ fn step_at(message: &[u8], start: usize, at: usize, used: usize) -> Result<Step,
     Ok(Step::Label(at + 1 + len))
 }
 
-/// The name that stands at a place of a message, as its octets without compression, and the place
-/// after it.
+/// Returns the name that stands at a place of a message, as its octets without compression, and the
+/// place after it.
 #[tactic(auto, using(std::proofs::lemmas::Grind::common_steps, crate::proofs::NameLemmas::name_steps))]
 pub(crate) fn name_at(message: &[u8], at: usize) -> Result<(NameOctets, usize), NameFault>
     ensures ok { IfOk result (λ r. (name : Name) × NameAt message.now at name r.1
@@ -117,10 +117,10 @@ pub(crate) fn name_at(message: &[u8], at: usize) -> Result<(NameOctets, usize), 
     }
 }
 
-/// The name that stands at a place of a message (RFC 1035, section 4.1.4), in octets of its own,
-/// and the place after it. A pointer must be to a place before the labels that it follows, so that
-/// pointers lead nowhere twice; of its two octets the place after the name is the one behind the
-/// first pointer. The place may be any, also the end of the message.
+/// Returns the name that stands at a place of a message (RFC 1035, section 4.1.4), in octets of its
+/// own, and the place after it. A pointer must be to a place before the labels that it follows, so
+/// that pointers lead nowhere twice; of its two octets the place after the name is the one behind
+/// the first pointer. The place may be any, also the end of the message.
 ///
 /// # Errors
 ///

@@ -24,14 +24,15 @@ pub(crate) enum Part {
     Name,
 }
 
-/// Whether the data of a type are one name.
+/// Returns whether the data of a type are one name.
 fn is_one_name(number: u16) -> bool
     ensures { result ≡ is_one_name number }
 {
     (number >= 2 && number <= 5) || (number >= 7 && number <= 9) || number == 12
 }
 
-/// What the data of a type are made up of; None for a type whose data hold no compressed names.
+/// Returns what the data of a type are made up of, or `None` for a type whose data hold no
+/// compressed names.
 pub(crate) fn parts_of(rtype: Rtype) -> Option<&'static [Part]>
     ensures some { IfSome result (λ parts. parts_of rtype ≡ Some parts.now) }
     ensures none { IfNone result (parts_of rtype ≡ None) }

@@ -15,7 +15,7 @@ use domain_rdata::ZoneRecordData;
 use domain_record::Record;
 use std::alloc::Global;
 
-/// A copy of octets.
+/// Returns a copy of octets.
 fn copied<O: FromBuilder>(alloc: Global, octets: &[u8]) -> Result<O, MessageError>
     ensures ok { IfOk result (λ made. O.octets made ≡ octets.now) }
     ensures err { IfErr result (λ e. (known : Option Kind)
@@ -24,7 +24,7 @@ fn copied<O: FromBuilder>(alloc: Global, octets: &[u8]) -> Result<O, MessageErro
     Ok(O::from_octets(alloc, octets)?)
 }
 
-/// The octets of data of a type that stand at a place, without compression.
+/// Returns the octets of data of a type that stand at a place, without compression.
 fn octets_at<O: FromBuilder>(
     alloc: Global,
     message: &[u8],
@@ -63,7 +63,7 @@ fn refusal(error: ScanError) -> MessageError
     }
 }
 
-/// The data of a type that stand at a place, of so many octets.
+/// Returns the data of a type that stand at a place, of so many octets.
 fn data_at<O: FromBuilder + Drop, N: MakeName + Drop>(
     alloc: Global,
     message: &[u8],
@@ -86,11 +86,11 @@ fn data_at<O: FromBuilder + Drop, N: MakeName + Drop>(
     }
 }
 
-/// The record that stands at a place of a message (RFC 1035, section 4.1.3), over octets of its
-/// own, and the place after it. Pointers of the owner are followed, and those of names in the data
-/// of the types of RFC 1035, which alone may be compressed (RFC 3597, section 4): NS, SOA, MX, and,
-/// held as octets, MD, MF, CNAME, MB, MG, MR, PTR and MINFO. The octets of data of other types are
-/// taken as they stand.
+/// Returns the record that stands at a place of a message (RFC 1035, section 4.1.3), over octets of
+/// its own, and the place after it. Pointers of the owner are followed, and those of names in the
+/// data of the types of RFC 1035, which alone may be compressed (RFC 3597, section 4): NS, SOA, MX,
+/// and, held as octets, MD, MF, CNAME, MB, MG, MR, PTR and MINFO. The octets of data of other types
+/// are taken as they stand.
 ///
 /// # Errors
 ///

@@ -1,11 +1,13 @@
 -- The canonical order of names, and what is at or below a name.
 use Rattle.std.proofs.Common.{◌≡◌, ℕ, zero, suc, ◌+◌, ◌-◌, ◌≤◌, List, [], ◌∷◌, ◌++◌, length, min, take, drop, map, reverse, Bool, cond, ap, arith, nat_eq, ◌<◌}
-use Rattle.std.proofs.{Common.{refl, sym, ◌∙◌, length-append, ◌⊎◌, subst}, lemmas.{Grind.common_steps, List.{drop-map, take-append-drop, length-map, drop_at}}}
+use Rattle.std.proofs.{Common.{refl, sym, ◌∙◌, length-append, ◌⊎◌, subst, get_or, w8, w64, Fits}, lemmas.Grind.common_steps}
+use Rattle.std.proofs.lemmas.List.{drop-map, take-append-drop, length-map, drop_at, get_or-take, get_or_past}
+use Rattle.std.{proofs.{Math.Seq.take-add, lemmas.Nat.le_bytes_8}, specs.{Array.IsFirstChunk, Int.{from_le_bytes, to_le_bytes}}}
 use Rattle.std.{proofs.lemmas.{List.Elements.{All-map, All-weaker}, Bool.Decides.nat_tests}, specs.{declared.cmp.Ordering.Ordering, Ordering.ordering_then}}
 use Rattle.std.specs.{Ordering.{nat_cmp, is_eq}, Char.to_ascii_lowercase, List.{common_prefix_len, AllByRecursion}, Prelude.true, Cmp.both_ways}
 use Rattle.std.specs.{Cmp.Lexicographic.{slice_cmp, pointwise, bytes_decides, lists_ties, texts_ties, pointwise_decides}, Bool.Decides}
 use Rattle.domain_names.specs.Name.{canonical_cmp, common_labels, from_root, Name, Label, wire_of, lowered, IsLabel, IsName, IsSame, IsAtOrBelow}
-use Rattle.domain_names.specs.{Name.{is_at_or_below, same_name}, Wire.{labels_of, IsWire}, Laws.{same_name_same, same_tied}}
+use Rattle.domain_names.specs.{Name.{is_at_or_below, same_name}, Wire.{labels_of, IsWire}, Laws.{same_name_same, same_tied}, Part.BeginAlike}
 use Rattle.domain_names.proofs.WireLemmas.{labels_of-wire_of, wire_is, few_labels}
 
 -- ---- the canonical order by labels from the leaf, and how many labels are shared
@@ -135,3 +137,42 @@ pub lengths_decide : (a b : List ℕ) (i : ℕ) → i ≡ min (length a) (length
     → nat_cmp (length a) (length b) ≡ slice_cmp nat_cmp (map to_ascii_lowercase (drop i a)) (map to_ascii_lowercase (drop i b))
 lengths_decide (x ∷ a) (y ∷ b) (suc i) is = grind (arith, common_steps, (lengths_decide a b i (omega arith)))
 lengths_decide a b i is = grind (arith, common_steps)
+
+-- ---- octets that two lists begin with alike
+
+first_fits : (a : List ℕ) (n i : ℕ) → ((i : ℕ) → Fits w8 (get_or a i 0)) → get_or (take n a) i 0 < 256
+first_fits a n i octets = grind (arith, common_steps, (octets i), (get_or-take n a i 0), (get_or_past (take n a) i 0))
+
+-- eight octets that are the same number
+first_eight : (a x : List ℕ) (n : ℕ) → IsFirstChunk a x 8 → ((i : ℕ) → Fits w8 (get_or a i 0)) → n ≡ from_le_bytes w64 x
+    → to_le_bytes w64 n ≡ take 8 a
+first_eight a x n x_is octets is =
+    le_bytes_8 _ n (grind (arith, common_steps, x_is.enough)) (λ i. first_fits a 8 i octets) (is ∙ ap (from_le_bytes w64) x_is.same)
+
+pub begin_eight : (a b x y : List ℕ) → IsFirstChunk a x 8 → IsFirstChunk b y 8 → ((i : ℕ) → Fits w8 (get_or a i 0))
+    → ((i : ℕ) → Fits w8 (get_or b i 0)) → from_le_bytes w64 x ≡ from_le_bytes w64 y → BeginAlike a b 8
+begin_eight a b x y x_is y_is a_octets b_octets same = record {
+  in_left = x_is.enough;
+  in_right = y_is.enough;
+  same = sym (first_eight a x _ x_is a_octets refl) ∙ first_eight b y _ y_is b_octets same;
+}
+
+-- so many octets more, which the rests of the lists begin with alike
+pub begin_more : (a b : List ℕ) (count more : ℕ) → BeginAlike a b count
+    → BeginAlike (take (length a - count) (drop count a)) (take (length b - count) (drop count b)) more → BeginAlike a b (count + more)
+begin_more a b count more so_far next = grind (arith, common_steps, (take-add count more a), (take-add count more b))
+
+-- they tie
+pub alike_ties : (a b : List ℕ) (count : ℕ) → BeginAlike a b count → slice_cmp nat_cmp (map to_ascii_lowercase a) (map to_ascii_lowercase b)
+    ≡ slice_cmp nat_cmp (map to_ascii_lowercase (drop count a)) (map to_ascii_lowercase (drop count b))
+alike_ties a b zero alike = refl
+alike_ties (x ∷ a) (y ∷ b) (suc count) alike =
+    let rest : BeginAlike a b count = record {
+      in_left = omega (arith, alike.in_left);
+      in_right = omega (arith, alike.in_right);
+      same = ap (drop 1) alike.same;
+    } in
+    let first : x ≡ y = ap (λ l. get_or l 0 0) alike.same in
+    grind (arith, common_steps, first, (alike_ties a b count rest))
+alike_ties [] b (suc count) alike = absurd (omega (arith, alike.in_left))
+alike_ties (x ∷ a) [] (suc count) alike = absurd (omega (arith, alike.in_right))

@@ -7,8 +7,7 @@ use Rattle.std.specs.{Bool.Decides, Hash.{HashWrites, Alike, same_Alike, on_Alik
 use Rattle.std.specs.FinMap.{slice_cmp-IsAntisymmetric}
 use Rattle.domain_names.specs.Name.{Name, lowered, IsAtOrBelow, IsSame, same_name, canonical_cmp, canonical_cmp_total, from_root, IsUpTo}
 
--- ---- what the impls of comparisons cite: laws of the canonical order, of lists under an order of their
--- items and then of names
+-- ---- laws of the canonical order: of lists under an order of their items, and then of names
 
 module _ {X : Type 0} {R : X → X → Ordering} (total : IsTotalOrder R) where
   front_first : (front rest : List X) → is_gt (slice_cmp R front (front ++ rest)) ≡ false
@@ -36,7 +35,7 @@ module _ {X : Type 0} {R : X → X → Ordering} (total : IsTotalOrder R) where
 labels_exact : IsAntisymmetric (slice_cmp nat_cmp)
 labels_exact = slice_cmp-IsAntisymmetric nat_cmp-IsAntisymmetric
 
--- from the root, what stands above comes first
+-- a name comes after the names above it
 pub from_root-below : (name above : Name) (below : IsAtOrBelow name above)
     → from_root name ≡ from_root above ++ reverse below.front
 from_root-below name above below =
@@ -65,7 +64,7 @@ between_names above x y z x_below z_below x_y y_z =
     (rw (← from_root-below z above z_below) y_z) in
     below-from_root y above found.0 found.1
 
--- names that the order does not tell apart are the same
+-- names that tie in the order are the same
 pub tied_same : (x y : Name) → canonical_cmp x y ≡ Equal → lowered x ≡ lowered y
 unfolding canonical_cmp
 tied_same x y tie =

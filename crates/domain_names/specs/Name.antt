@@ -4,9 +4,9 @@ use Rattle.std.specs.{Ordering.{on, nat_cmp, is_lt, is_gt}, Cmp.{IsTotalOrder, o
 use Rattle.std.specs.{Char.to_ascii_lowercase, List.{AllByRecursion, ends_with, common_prefix_len}, declared.cmp.Ordering.Ordering}
 use Rattle.domain_octets.specs.Octets.{Octets}
 
--- ---- the words for what names and entries are made of
+-- ---- labels, names and tokens
 
--- the octets of a label, without their number
+-- the octets of a label, without the length
 abbrev pub Label : Type 0
 Label = Octets
 
@@ -14,11 +14,11 @@ Label = Octets
 abbrev pub Name : Type 0
 Name = List Label
 
--- the octets of a token's characters
+-- the octets of the characters of a token
 abbrev pub Token : Type 0
 Token = Octets
 
--- the tokens of an entry of a zone file, or those that are left of it
+-- the tokens of an entry of a zone file, or the remaining ones
 abbrev pub Tokens : Type 0
 Tokens = List Token
 
@@ -40,7 +40,7 @@ pub record IsName (labels : Name) : Type 0 where
   pub of_labels : AllByRecursion IsLabel labels
   pub fits : length (wire_of labels) ≤ 255
 
--- with A to Z as a to z (RFC 4034, section 6.2)
+-- the name with A to Z lowered (RFC 4034, section 6.2)
 abbrev pub lowered : Name → Name
 lowered = map (map to_ascii_lowercase)
 
@@ -50,11 +50,11 @@ pub record IsAtOrBelow (name above : Name) : Type 0 where
   pub front : Name
   pub joined : lowered name ≡ front ++ lowered above
 
--- the names agree but for the case of letters (RFC 4343)
+-- the names differ at most in the case of letters (RFC 4343)
 abbrev pub IsSame : Name → Name → Type 0
 IsSame x y = lowered x ≡ lowered y
 
--- a test of that
+-- a test of the same
 abbrev pub same_name : Name → Name → Bool
 same_name = on lowered (pointwise (pointwise nat_eq))
 
@@ -70,25 +70,25 @@ abbrev pub parent_of : Name → Option Name
 parent_of [] = None
 parent_of (label ∷ labels) = Some labels
 
--- the last labels of a name, so many, or all of them where there are no more
+-- the last `count` labels of a name, or the whole name if it has fewer
 abbrev pub last_labels : ℕ → Name → Name
 last_labels count name = drop (length name - count) name
 
 -- ---- the canonical order of names (RFC 4034, section 6.1)
 
--- what the order compares: the lowered labels, from the root outwards
+-- the lowered labels, from the root on, which the order compares
 abbrev pub from_root : Name → Name
 from_root name = reverse (lowered name)
 
--- label by label from the root, each by its octets, and what is absent comes first
+-- label by label from the root, each by its octets; an absent label or octet comes first
 unfoldable pub canonical_cmp : Name → Name → Ordering
 canonical_cmp = on from_root (slice_cmp (slice_cmp nat_cmp))
 
--- a test of standing strictly before, in that order
+-- a test of coming strictly before in that order
 abbrev pub before : Name → Name → Bool
 before x y = is_lt (canonical_cmp x y)
 
--- at most, in that order
+-- coming before or being equal in that order
 abbrev pub IsUpTo : Name → Name → Type 0
 IsUpTo x y = is_gt (canonical_cmp x y) ≡ false
 
@@ -96,7 +96,6 @@ pub canonical_cmp_total : IsTotalOrder canonical_cmp
 unfolding canonical_cmp
 canonical_cmp_total = on_total from_root (lists_total nat_list_cmp_total)
 
--- how many labels two names share, from the root on, but for the case of letters; the root is not
--- counted
+-- how many labels two names share, from the root on, in either case; the root does not count
 abbrev pub common_labels : Name → Name → ℕ
 common_labels x y = common_prefix_len (pointwise nat_eq) (from_root x) (from_root y)

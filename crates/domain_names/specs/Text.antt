@@ -1,4 +1,4 @@
--- Names as text, and why a text or octets are not read as a name.
+-- The presentation format of names, and the errors of reading names.
 use Rattle.std.specs.Prelude.{◌≡◌, ℕ, ◌+◌, ◌-◌, ◌*◌, ◌/◌, ◌%◌, ◌<◌, ◌≤◌, ◌⊎◌, ◌==◌, ◌||◌, ◌&&◌, Bool, not, nat_le, [], ◌∷◌, ◌++◌, length, drop, Option, Some}
 use Rattle.std.specs.{Prelude.{None, if◌then◌else◌, codes, IsNone}, Char.{is_ascii_digit, is_ascii_graphic}, List.flat_map}
 use Rattle.domain_octets.specs.{Octets.{Octets, IsOver}, Text.{space, quote, dollar, left_parenthesis, right_parenthesis, dot, semicolon, at_sign, backslash}}
@@ -9,7 +9,7 @@ use Rattle.domain_octets.specs.declared.error.AppendError.TheVariants as append_
 use Rattle.domain_names.specs.declared.error.NameError.TheVariants as name_error
 use Rattle.domain_names.specs.declared.error.ScanError.TheVariants as scan_error
 
--- ---- names as text (RFC 1035, section 5.1; RFC 4343, section 2.1)
+-- ---- the presentation format (RFC 1035, section 5.1; RFC 4343, section 2.1)
 
 -- a character from space to ~
 abbrev pub is_printable : ℕ → Bool
@@ -23,8 +23,8 @@ decimal_at a (b ∷ c ∷ text) =
 decimal_at a (b ∷ []) = None
 decimal_at a [] = None
 
--- what stands after a backslash: three digits for an octet, or any other printable character for
--- itself
+-- the characters after a backslash: three digits for an octet, or any other printable character
+-- for itself
 abbrev pub escape_at : Octets → Option (ℕ × ℕ)
 escape_at [] = None
 escape_at (a ∷ text) =
@@ -77,7 +77,7 @@ pub data NameText : Octets → Name → Type 0 where
 abbrev pub IsNoName : Octets → Type 0
 IsNoName text = (labels : Name) → NameText text labels → ⊥
 
--- a character that has a meaning of its own: " $ ( ) . ; @ \
+-- a character that has a special meaning: " $ ( ) . ; @ \
 abbrev pub is_special : ℕ → Bool
 is_special c =
     c == quote || c == dollar || c == left_parenthesis || c == right_parenthesis || c == dot
@@ -104,9 +104,9 @@ abbrev pub name_text : Name → Octets
 name_text [] = []
 name_text (label ∷ labels) = label_text label ++ dotted_text labels
 
--- ---- why a text is not read as a name, and what errors of reading say
+-- ---- the reasons why a text is rejected, and the errors
 
--- why a builder did not take the octets of a token
+-- the reason why a builder rejects the octets of a token
 abbrev pub scan_error_of : AppendError → ScanError
 scan_error_of append_error.ShortBuf = ShortBuf
 scan_error_of append_error.OutOfMemory = OutOfMemory
@@ -124,15 +124,14 @@ scan_fault_of (Custom text) = illegal text.now
 scan_fault_of ShortBuf = no_room
 scan_fault_of OutOfMemory = no_memory
 
--- the fault is one of the tokens, and not of a builder with this limit: memory is not wanting, and
--- nor is room, where there is a limit
+-- the fault is in the tokens, not in a builder with this limit: neither memory nor room ran out
 abbrev pub IsOfTokens : Option ℕ → ScanFault → Type 0
 IsOfTokens limit entry_ends = Unit {0}
 IsOfTokens limit (illegal said) = Unit {0}
 IsOfTokens limit no_room = limit ≡ None
 IsOfTokens limit no_memory = ⊥
 
--- why a text is not read as a name over octets that have this limit
+-- the reason why a text is not read as a name into octets with this limit
 abbrev pub NameTextFault : Option ℕ → ScanFault → Octets → Type 0
 NameTextFault limit entry_ends text = ⊥
 NameTextFault limit (illegal said) text = (said ≡ codes "illegal name") × IsNoName text

@@ -1,4 +1,4 @@
--- Names on the wire, and why octets are none.
+-- The wire form of names, and the faults of octets that encode no name.
 use Rattle.std.specs.Prelude.{◌≡◌, ℕ, zero, suc, ◌==◌, [], ◌∷◌, length, take, drop, if◌then◌else◌, ◌≢◌, ◌+◌, ◌<◌, ◌≤◌, ◌++◌, codes}
 use Rattle.std.specs.List.{AllByRecursion}
 use Rattle.domain_octets.specs.{Octets.Octets, declared.error.ParseError.ParseError}
@@ -18,19 +18,19 @@ labels_within (suc n) (len ∷ octets) =
 unfoldable pub labels_of : Octets → Name
 labels_of octets = labels_within (length octets) octets
 
--- the octets are a name, and nothing follows it
+-- the octets are a name, and no octet follows it
 pub record IsWire (octets : Octets) : Type 0 where
   pub spelled : octets ≡ wire_of (labels_of octets)
   pub valid : IsName (labels_of octets)
 
--- the octets are those of labels up to the root, and others after them; so many octets of the name
--- stand before them
+-- the octets begin with labels up to the root, and others follow; `used` octets of the name come
+-- before them
 unfoldable pub BeginsWithName : ℕ → Octets → Octets → Type 0
 BeginsWithName used octets after =
     (labels : Name) × (octets ≡ wire_of labels ++ after) × AllByRecursion IsLabel labels
     × (used + length (wire_of labels) ≤ 255)
 
--- ---- why octets are no name on the wire (RFC 1035, sections 2.3.4 and 3.1)
+-- ---- the faults of a wire form (RFC 1035, sections 2.3.4 and 3.1)
 
 pub data Fault : Type 0 where
   ends_early : Fault
@@ -46,8 +46,8 @@ name_fault_of name_error.ShortInput = ends_early
 name_fault_of name_error.BadLabel = malformed (codes "compressed or bad label")
 name_fault_of name_error.LongName = malformed (codes "long domain name")
 
--- the first fault in octets that are to begin with a name, where so many octets of the name stand
--- before them
+-- the first fault in octets that have to begin with a name; `used` octets of the name come before
+-- them
 pub data NameFault : ℕ → Octets → Fault → Type 0 where
   no_octet : {used : ℕ} → NameFault used [] ends_early
   bad_label : {used : ℕ} (len : ℕ) (after : Octets) → 63 < len
@@ -61,7 +61,7 @@ pub data NameFault : ℕ → Octets → Fault → Type 0 where
       → NameFault (used + length label + 1) after fault
       → NameFault used (length label ∷ (label ++ after)) fault
 
--- the first fault in octets that are to be a name and nothing more
+-- the first fault in octets that have to be a name with no octet after it
 pub data WholeNameFault : Octets → Fault → Type 0 where
   in_name : (octets : Octets) (fault : Fault) → NameFault 0 octets fault
       → WholeNameFault octets fault

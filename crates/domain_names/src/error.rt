@@ -1,4 +1,4 @@
-//! Why names or tokens were not read.
+//! The errors of reading names and tokens.
 ghost use Rattle.std.specs.Prelude.{◌≡◌, Some};
 ghost use Rattle.domain_names.specs.{Text.{scan_error_of, name_error_text, scan_error_text}, Wire.fault_of};
 ghost use Rattle.domain_names.specs.Wire.{name_fault_of};
@@ -8,7 +8,8 @@ use domain_octets::{AppendError, OutOfMemory, ParseError};
 use std::error::Error;
 use std::fmt;
 
-/// Why octets do not begin with a name (RFC 1035, section 3.1): a `ParseError` without its text.
+/// The reason why octets do not begin with a name (RFC 1035, section 3.1): a `ParseError` without
+/// its text.
 #[derive(Clone, Copy, Debug, PartialEq, Eq)]
 pub enum NameError {
     /// The octets end within the name.
@@ -46,16 +47,16 @@ impl From<NameError> for ParseError {
     }
 }
 
-/// Why a text, or the tokens of an entry, were not read.
+/// The error of reading a text, or the tokens of an entry.
 #[derive(Clone, Copy, Debug, PartialEq, Eq)]
 pub enum ScanError {
-    /// There is no token where one is needed.
+    /// A token is missing.
     EndOfEntry,
-    /// A text is not of the form that is wanted, as this says.
+    /// A text is malformed, in the way that this message says.
     Custom(&'static str),
-    /// The octets that a token stands for have no room in their builder.
+    /// The octets that a token encodes do not fit into their builder.
     ShortBuf,
-    /// There was no memory.
+    /// Memory ran out.
     OutOfMemory,
 }
 

@@ -1,15 +1,15 @@
 //! Domain names.
 //!
 //! - [`Name`] and [`ParsedName`] are absolute names (RFC 1034, section 3.1): lists of labels, leaf
-//!   first, without the root. [`ToName`] has what they share: their wire form (RFC 1035,
-//!   section 3.1), the canonical order (RFC 4034, section 6.1) and what they write.
-//! - [`CanonicalOrd`] is an order that is total.
-//! - [`ScanError`] and [`NameError`] are why a text or octets are no name.
+//!   first, without the root. [`ToName`] is their common trait: the wire form (RFC 1035,
+//!   section 3.1), the canonical order (RFC 4034, section 6.1) and the printed forms.
+//! - [`CanonicalOrd`] is a total order.
+//! - [`ScanError`] and [`NameError`] are the errors of reading names from text and from octets.
 //!
-//! The crate above may rely on this: a contract sees a name as its list of labels; what is read
-//! from octets or from a text is exactly a grammar, with the first fault as the refusal; and names
-//! are ordered from the root, by labels with A to Z lowered. `domain_base` hands all of it on, with
-//! laws of that order. No comparison takes memory.
+//! Other crates may rely on this. A contract sees a name as its list of labels. Octets and texts
+//! are read by a grammar, and an error names the first fault. Names are ordered from the root, by
+//! labels with A to Z lowered. `domain_base` re-exports all items, with laws of that order. No
+//! comparison allocates.
 #![tactic(auto)]
 
 mod error;

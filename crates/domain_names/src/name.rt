@@ -1,4 +1,4 @@
-//! The labels of a name, one after another.
+//! Names that own their octets, and the labels of a name.
 ghost use Rattle.std.specs.{Iterator.{YieldsFirstRef, item_count}, Prelude.{◌≡◌, ◌↔◌, Some, refl, IsOk, IfOk}};
 ghost use Rattle.std.specs.{Prelude.{IfErr, IsNone, length, ◌∷◌, ◌++◌, []}, Cmp.partial_equiv_from_equiv};
 ghost use Rattle.std.specs.{Cmp.IsTotalOrder, declared.cmp.Ordering.Ordering};
@@ -20,7 +20,7 @@ use std::fmt;
 use std::hash::{Hash, Hasher};
 use std::marker::Model;
 
-/// The labels that are left, leaf first, without the root.
+/// An iterator over labels, leaf first, without the root.
 #[derive(Drop)]
 pub struct Labels<'a> {
     pub(crate) left: ParsedName<'a>,
@@ -48,9 +48,9 @@ impl<'a> Iterator for Labels<'a> {
     }
 }
 
-/// An absolute name whose wire form lies in octets, in the case that it was given in.
+/// An absolute name in octets that hold its wire form. The case of letters is kept.
 ///
-/// Comparisons and `Hash` pass over the case of letters (RFC 4343).
+/// Comparisons and `Hash` ignore the case of letters (RFC 4343).
 #[derive(Drop)]
 pub struct Name<O: Octets> {
     octets: O,
@@ -65,11 +65,13 @@ impl<O: Octets> Model for Name<O> {
 }
 
 impl<O: Octets> Name<O> {
-    /// The name of which these octets are the wire form (RFC 1035, section 3.1). Takes no memory.
+    /// Returns the name with this wire form (RFC 1035, section 3.1). Does not allocate.
     ///
-    /// Refuses, at the first label that is at fault: a missing octet with `ShortInput`, a length
-    /// over 63 with `Form("compressed or bad label")`, a name over 255 octets with
-    /// `Form("long domain name")`; and octets after the name with `Form("trailing data")`.
+    /// # Errors
+    ///
+    /// The first fault decides: `ShortInput` if an octet is missing, `Form("compressed or bad
+    /// label")` at a length over 63, `Form("long domain name")` at more than 255 octets, and
+    /// `Form("trailing data")` if octets follow the name.
     #[tactic(auto, using(crate::proofs::WireLemmas::no_fault))]
     pub fn from_octets(octets: O) -> Result<Self, ParseError>
     where
@@ -82,7 +84,7 @@ impl<O: Octets> Name<O> {
         Ok(Name { octets })
     }
 
-    /// A name whose wire form is these octets.
+    /// Returns the name with this wire form.
     pub(crate) fn from_wire(octets: O) -> Self
         requires { IsWire (O.octets octets) }
         ensures { result ≡ labels_of (O.octets octets) }
@@ -90,7 +92,7 @@ impl<O: Octets> Name<O> {
         Name { octets }
     }
 
-    /// A copy, spelled alike. Uses the allocator of the octets.
+    /// Returns a copy with the same spelling. Uses the allocator of the octets.
     pub fn clone(&self) -> Result<Self, OutOfMemory>
         ensures { IfOk result (λ copy. copy ≡ self.now) }
     {
@@ -99,7 +101,7 @@ impl<O: Octets> Name<O> {
         })
     }
 
-    /// The octets of its wire form.
+    /// Returns the octets of the wire form.
     pub fn into_octets(self) -> O
         ensures { O.octets result ≡ wire_of self }
     {
@@ -109,11 +111,13 @@ impl<O: Octets> Name<O> {
 }
 
 impl<O: FromBuilder> Name<O> {
-    /// The name that a text spells (RFC 1035, section 5.1), with or without a last dot: in either
-    /// case it is absolute. Reads no further than the first character that no name has there.
+    /// Parses the presentation format of a name (RFC 1035, section 5.1). The last dot is optional:
+    /// the name is absolute in either case. Stops at the first character that is not allowed.
     ///
-    /// Refuses a text that is no name as `Custom("illegal name")`, and a name for which the builder
-    /// has no room or no memory.
+    /// # Errors
+    ///
+    /// `Custom("illegal name")` if the text is not a name. An error of the builder if the name does
+    /// not fit or memory runs out.
     #[tactic(auto, using(crate::proofs::WireLemmas::wire_steps))]
     pub fn from_str(alloc: Global, text: &str) -> Result<Self, ScanError>
         ensures ok { IfOk result (NameText text.now) }
@@ -237,22 +241,22 @@ impl<N: ToName + Drop, O: CopyOctets> OctetsFrom<N> for Name<O> {
     }
 }
 
-/// A type with a canonical order: the total order that DNSSEC gives it (RFC 4034, section 6).
+/// A type with a canonical order: the total order of DNSSEC (RFC 4034, section 6).
 ///
-/// It may differ from the type's `Ord`, and it may tell apart values that are equal.
+/// This order may differ from the type's `Ord`, and it may distinguish values that are equal.
 pub trait CanonicalOrd {
-    /// The order.
+    /// The order, as a function of two values.
     ghost canonical_cmp: { Self → Self → Ordering };
 
-    /// Compares in canonical order. Takes no memory.
+    /// Compares in canonical order. Does not allocate.
     fn canonical_cmp(&self, other: &Self) -> Ordering
         ensures { result ≡ canonical_cmp self.now other.now };
 
-    /// It is a total order.
+    /// The order is total.
     ghost total: { IsTotalOrder canonical_cmp };
 }
 
-/// A name that is written with its last dot; the root is a dot alone.
+/// A name that prints with its last dot. The root prints as a single dot.
 #[derive(Drop)]
 pub struct DottedName<'a> {
     pub(crate) name: ParsedName<'a>,

@@ -1,16 +1,20 @@
-//! Names in octets that they borrow: those of a message, or of another name.
-ghost use Rattle.std.specs.Prelude.{◌≡◌, ◌∷◌, [], Some, IsOk, IfNone, IfSome, IfOk, IfErr, OnErr};
+//! Names that borrow their octets from a message or from another name.
+ghost use Rattle.std.specs.Prelude.{◌≡◌, ◌∷◌, [], Some, IsOk, IfNone, IfSome, IfOk, IfErr, OnErr, refl};
+ghost use Rattle.std.specs.Cmp.{partial_equiv_from_equiv};
+ghost use Rattle.domain_names.specs.Name.{same_name, canonical_cmp, canonical_cmp_total};
+ghost use Rattle.domain_names.specs.Laws.{same_name_equiv, same_name_ties, canonical_po};
 ghost use Rattle.domain_names.specs.{Text.name_text, Name.{wire_of, IsName, parent_of}, Wire.NameFault};
 ghost use Rattle.domain_names.specs.Wire.{WholeNameFault, fault_of, name_fault_of, labels_of, IsWire};
 ghost use Rattle.domain_octets.specs.Octets.{Takes};
 
 use crate::{NameError, ParseError, ToName, text, wire};
 use domain_octets::{OutOfMemory, Parser, TryClone};
+use std::cmp::Ordering;
 use std::fmt;
 use std::marker::Model;
 
-/// A name in octets that it borrows: those of a message, or an end of another name's, which is a
-/// name above it.
+/// A name that borrows its octets from a message or from another name. The end of a name's octets
+/// is a name above it.
 #[derive(Drop)]
 pub struct ParsedName<'a> {
     wire: &'a [u8],
@@ -27,11 +31,13 @@ impl<'a> Model for ParsedName<'a> {
 }
 
 impl<'a> ParsedName<'a> {
-    /// The name that comes next (RFC 1035, section 3.1). A pointer to another place is refused.
+    /// Parses the next name (RFC 1035, section 3.1). Compressed names are rejected.
     ///
-    /// Refuses, at the first label that is at fault: a missing octet with `ShortInput`, a length
-    /// over 63 with `Form("compressed or bad label")`, a name over 255 octets with
-    /// `Form("long domain name")`. The parser then stands where it stood.
+    /// # Errors
+    ///
+    /// The first fault decides: `ShortInput` if an octet is missing, `Form("compressed or bad
+    /// label")` at a length over 63, and `Form("long domain name")` at more than 255 octets. After
+    /// an error the parser is unchanged.
     pub fn parse(parser: &mut Parser<'a>) -> Result<Self, ParseError>
         ensures ok { IfOk result (λ name. Takes (wire_of name) parser.old parser.new
             × IsName name) }
@@ -41,7 +47,7 @@ impl<'a> ParsedName<'a> {
         Ok(Self::read(parser)?)
     }
 
-    /// The name that comes next, as by `parse`, with a refusal that holds no text.
+    /// Parses the next name as `parse` does, but returns an error without text.
     pub fn read(parser: &mut Parser<'a>) -> Result<Self, NameError>
         ensures ok { IfOk result (λ name. Takes (wire_of name) parser.old parser.new
             × IsName name) }
@@ -53,8 +59,8 @@ impl<'a> ParsedName<'a> {
         Ok(ParsedName { wire })
     }
 
-    /// The name whose wire form these octets are. Takes no memory, and looks at none of them: those
-    /// that are not known to be a name are for `from_slice`.
+    /// Returns the name with this wire form. Does not allocate, and does not read the octets. Use
+    /// `from_slice` if the octets may encode no name.
     pub fn over(wire: &'a [u8]) -> Self
         requires { IsWire wire.now }
         ensures { result ≡ labels_of wire.now }
@@ -62,7 +68,7 @@ impl<'a> ParsedName<'a> {
         ParsedName { wire }
     }
 
-    /// A name that is all of these octets. Refuses as `Name::from_octets` does.
+    /// Returns the name with this wire form. Errors are those of `Name::from_octets`.
     pub fn from_slice(octets: &'a [u8]) -> Result<Self, ParseError>
         ensures ok { IfOk result (λ name. octets.now ≡ wire_of name) }
         ensures err { IfErr result (λ e. WholeNameFault octets.now (fault_of e)) }
@@ -71,8 +77,8 @@ impl<'a> ParsedName<'a> {
         Ok(ParsedName { wire: octets })
     }
 
-    /// The first label, and the name above it in the same octets; None for the root. Takes no
-    /// memory.
+    /// Returns the first label, and the name above it in the same octets, or None for the root.
+    /// Does not allocate.
     pub fn split_first(&self) -> Option<(&'a [u8], ParsedName<'a>)>
         ensures root { IfNone result (self.now ≡ []) }
         ensures parts { IfSome result (λ p. self.now ≡ p.0.now ∷ p.1) }
@@ -81,8 +87,8 @@ impl<'a> ParsedName<'a> {
         Some((label, ParsedName { wire: above }))
     }
 
-    /// The name without its first label, in the same octets; None for the root (RFC 9499,
-    /// section 7). Takes no memory.
+    /// Returns the name without its first label, in the same octets, or None for the root
+    /// (RFC 9499, section 7). Does not allocate.
     pub fn parent(&self) -> Option<ParsedName<'a>>
         ensures { result ≡ parent_of self.now }
     {
@@ -94,7 +100,7 @@ impl<'a> ParsedName<'a> {
 impl<'a> TryClone for ParsedName<'a> {
     ghost is_clone = { λ n copy. copy ≡ n };
 
-    /// The same name, in the same octets. Takes no memory.
+    /// Returns the same name, in the same octets. Does not allocate.
     fn try_clone(&self) -> Result<Self, OutOfMemory>
         ensures copy { IfOk result (λ copy. copy ≡ self.now) }
         ensures always { IsOk result }
@@ -110,6 +116,46 @@ impl<'a> ToName for ParsedName<'a> {
 
     fn as_wire(&self) -> &[u8] {
         self.wire
+    }
+}
+
+/// Names are equal without regard to case.
+impl<'a> PartialEq for ParsedName<'a> {
+    ghost eq = { same_name };
+
+    ghost laws = { partial_equiv_from_equiv same_name_equiv };
+
+    fn eq(&self, other: &Self) -> bool {
+        self.name_eq(other)
+    }
+}
+
+impl<'a> Eq for ParsedName<'a> {
+    ghost laws = { same_name_equiv };
+}
+
+impl<'a> PartialOrd for ParsedName<'a> {
+    ghost partial_cmp = { λ a b. Some (canonical_cmp a b) };
+
+    ghost laws = { canonical_po };
+
+    fn partial_cmp(&self, other: &Self) -> Option<Ordering> {
+        Some(self.name_cmp(other))
+    }
+}
+
+/// The canonical order (RFC 4034, section 6.1).
+impl<'a> Ord for ParsedName<'a> {
+    ghost cmp = { canonical_cmp };
+
+    ghost total = { canonical_cmp_total };
+
+    ghost matches_partial_cmp = { λ a b. refl };
+
+    ghost matches_eq = { same_name_ties };
+
+    fn cmp(&self, other: &Self) -> Ordering {
+        self.name_cmp(other)
     }
 }
 

@@ -12,7 +12,7 @@ use crate::wire::{MAX_LABEL_LEN, MAX_NAME};
 use domain_octets::{AppendError, ArrayBuilder, Octets, OctetsBuilder, Truncate};
 use std::fmt;
 
-/// The octet that a text within a label begins with, and how many characters spell it.
+/// Returns the octet that a text within a label begins with, and how many characters spell it.
 #[tactic(auto, unfolding(crate::specs::Text::symbol_at))]
 fn symbol_at(text: &[u8]) -> Option<(u8, usize)>
     ensures value { result ≡ symbol_at text.now }
@@ -31,7 +31,7 @@ fn symbol_at(text: &[u8]) -> Option<(u8, usize)>
     }
 }
 
-/// Whether a character stands for itself within a label. Asks first of letters in lower case.
+/// Returns whether a character stands for itself within a label. Tests lower case letters first.
 fn is_plain(octet: u8) -> bool
     ensures { IsTrue result → (octet ≢ 92) × (octet ≢ 46) × (32 ≤ octet) × (octet ≤ 126) }
 {
@@ -39,7 +39,7 @@ fn is_plain(octet: u8) -> bool
         || (octet != b'\\' && octet != b'.' && octet >= b' ' && octet <= b'~')
 }
 
-/// How many characters that stand for themselves within a label a text begins with.
+/// Returns how many characters at the front of a text stand for themselves within a label.
 #[tactic(auto, using(std::proofs::lemmas::Grind::common_steps, crate::proofs::TextLemmas::plain_symbol))]
 fn plain_len(text: &[u8]) -> usize
     ensures within { result ≤ length text.now }
@@ -54,8 +54,8 @@ fn plain_len(text: &[u8]) -> usize
     text.len()
 }
 
-/// The label that a text begins with, and what follows it. Answers none for a label of over 63
-/// octets. The characters up to the first escape stand for themselves, and are taken at once.
+/// Returns the label that a text begins with, and the rest of the text, or None for a label of more
+/// than 63 octets. Copies the characters up to the first escape at once.
 #[tactic(auto, using(crate::proofs::TextLemmas::spelling_steps))]
 fn read_label(text: &[u8]) -> Option<(ArrayBuilder<MAX_LABEL_LEN>, &[u8])>
     ensures label { IfSome result (λ p. LabelText text.now p.0 p.1.now) }
@@ -73,7 +73,7 @@ fn read_label(text: &[u8]) -> Option<(ArrayBuilder<MAX_LABEL_LEN>, &[u8])>
     Some((label, rest))
 }
 
-/// Appends a label, if it has octets and there is room for it.
+/// Appends a label if it is not empty and the name has room for it.
 fn push_label(wire: &mut ArrayBuilder<MAX_NAME>, label: &[u8]) -> Option<()>
     requires { length label.now ≤ 63 }
     ensures all { OnSome result (wire.new ≡ wire.old ++ length label.now ∷ label.now) }
@@ -88,7 +88,7 @@ fn push_label(wire: &mut ArrayBuilder<MAX_NAME>, label: &[u8]) -> Option<()>
     wire.append_slice(label).ok()
 }
 
-/// Appends the label that a text begins with, and answers what follows it.
+/// Appends the label that a text begins with, and returns the rest of the text.
 #[tactic(auto, using(crate::proofs::TextLemmas::one_label))]
 fn take_label<'a>(wire: &mut ArrayBuilder<MAX_NAME>, text: &'a [u8]) -> Option<&'a [u8]>
     ensures some { IfSome result (λ after. (label : Label) × LabelText text.now label after.now
@@ -100,8 +100,8 @@ fn take_label<'a>(wire: &mut ArrayBuilder<MAX_NAME>, text: &'a [u8]) -> Option<&
     Some(after)
 }
 
-/// What stands after the dot that ends a label: nothing, where a name ends with or without a dot.
-/// Answers none where another character stands.
+/// Returns the text after the dot that ends a label. It is empty at the end of a name, with or
+/// without a last dot. Returns None if another character follows the label.
 #[tactic(auto, using(std::proofs::lemmas::Grind::common_steps))]
 fn after_dot(text: &[u8]) -> Option<&[u8]>
     ensures some { IfSome result (λ next. IsBefore next.now text.now) }
@@ -114,7 +114,7 @@ fn after_dot(text: &[u8]) -> Option<&[u8]>
     }
 }
 
-/// Appends the wire form of the labels that a text spells, label by label, without the root.
+/// Appends the wire form of the labels in a text, label by label, without the root.
 #[tactic(auto, using(crate::proofs::TextLemmas::naming_steps))]
 fn read_labels(wire: &mut ArrayBuilder<MAX_NAME>, text: &[u8]) -> Option<()>
     requires { wire.old ≡ [] }
@@ -133,9 +133,9 @@ fn read_labels(wire: &mut ArrayBuilder<MAX_NAME>, text: &[u8]) -> Option<()>
     }
 }
 
-/// Writes the length of each label before it, in octets that are one more octet and a text, which
-/// has no last dot or ends there. Goes from the end of the text to its beginning. Returns None if a
-/// character does not stand for itself, or if a label has no octets or too many.
+/// Writes the length of each label before it, in octets that are one octet and then a text without
+/// a last dot. Goes from the end of the text to its beginning. Returns None if a character does not
+/// stand for itself, or if a label is empty or too long.
 #[tactic(auto, using(crate::proofs::TextLemmas::backward_steps))]
 fn put_lengths(octets: &mut [u8], text: &[u8], end: usize) -> Option<()>
     requires end { IsBefore [] (drop end text.now) }
@@ -167,7 +167,7 @@ fn put_lengths(octets: &mut [u8], text: &[u8], end: usize) -> Option<()>
     Some(())
 }
 
-/// Appends the root, if there is room for it.
+/// Appends the root if the name has room for it.
 fn push_root(wire: &mut ArrayBuilder<MAX_NAME>) -> Option<()>
     ensures root { OnSome result (wire.new ≡ wire.old ++ 0 ∷ []) }
     ensures room { IsSome result ↔ (length wire.old < 255) }
@@ -188,8 +188,8 @@ fn text_end(text: &[u8]) -> usize
     len
 }
 
-/// Writes the wire form of the name that a text spells into an empty builder, if all characters of
-/// its labels stand for themselves. If not, what it leaves in the builder has no meaning.
+/// Writes the wire form of the name in a text into an empty builder, if all characters of its
+/// labels stand for themselves. Otherwise the content of the builder has no meaning.
 fn read_plain_name(wire: &mut ArrayBuilder<MAX_NAME>, text: &[u8]) -> Option<()>
     requires { wire.old ≡ [] }
     ensures { OnSome result ((labels : Name) × NameText text.now labels
@@ -202,8 +202,8 @@ fn read_plain_name(wire: &mut ArrayBuilder<MAX_NAME>, text: &[u8]) -> Option<()>
     push_root(wire)
 }
 
-/// Puts the wire form of the name that a text spells into an empty builder. Stops at the first
-/// character or label that no name has.
+/// Writes the wire form of the name in a text into an empty builder. Stops at the first character
+/// or label that is not allowed.
 #[tactic(auto, using(crate::proofs::TextLemmas::named_steps))]
 pub fn read_name(wire: &mut ArrayBuilder<MAX_NAME>, text: &[u8]) -> Option<()>
     requires { wire.old ≡ [] }
@@ -222,11 +222,11 @@ pub fn read_name(wire: &mut ArrayBuilder<MAX_NAME>, text: &[u8]) -> Option<()>
     push_root(wire)
 }
 
-/// How many octets the text of a name has room in, with a dot before each label: at most four stand
-/// for one octet.
+/// The greatest length of a printed name with a dot before each label. An octet takes at most four
+/// characters.
 const MAX_TEXT: usize = 4 * MAX_NAME;
 
-/// Whether the character has a meaning of its own in zone files.
+/// Returns whether a character has a special meaning in zone files.
 fn is_special(octet: u8) -> bool
     ensures { result ≡ is_special octet }
 {
@@ -236,7 +236,7 @@ fn is_special(octet: u8) -> bool
     )
 }
 
-/// Appends the text of an octet within a label.
+/// Appends the printed form of an octet within a label.
 #[tactic(auto, unfolding(crate::specs::Text::octet_text))]
 fn put_octet(text: &mut ArrayBuilder<MAX_TEXT>, octet: u8) -> Result<(), AppendError>
     ensures { OnOk result (text.new ≡ text.old ++ octet_text octet) }
@@ -255,7 +255,7 @@ fn put_octet(text: &mut ArrayBuilder<MAX_TEXT>, octet: u8) -> Result<(), AppendE
     }
 }
 
-/// Appends the text of each label of a name, behind a dot.
+/// Appends a dot and the printed form of each label of a name.
 fn put_labels(text: &mut ArrayBuilder<MAX_TEXT>, name: &[u8]) -> Result<(), AppendError>
     requires { IsWire name.now }
     ensures { OnOk result (text.new ≡ text.old ++ dotted_text (labels_of name.now)) }
@@ -271,7 +271,7 @@ fn put_labels(text: &mut ArrayBuilder<MAX_TEXT>, name: &[u8]) -> Result<(), Appe
     Ok(())
 }
 
-/// Returns whether an octet is written as itself. Tests for letters in lower case first.
+/// Returns whether an octet prints as itself. Tests for lower case letters first.
 #[tactic(auto, unfolding(crate::specs::Text::octet_text))]
 fn is_ordinary(octet: u8) -> bool
     ensures { IsTrue result → octet_text octet ≡ octet ∷ [] }
@@ -279,7 +279,7 @@ fn is_ordinary(octet: u8) -> bool
     (octet > b'\\' && octet <= b'~') || (octet.is_ascii_graphic() && !is_special(octet))
 }
 
-/// Returns whether all octets of a label are written as themselves.
+/// Returns whether all octets of a label print as themselves.
 fn is_ordinary_label(label: &[u8]) -> bool
     ensures { IsTrue result → label_text label.now ≡ label.now }
 {
@@ -291,8 +291,8 @@ fn is_ordinary_label(label: &[u8]) -> bool
     true
 }
 
-/// Replaces the length of each label by a dot in a copy of a name's octets, and the root by a dot.
-/// Returns false if an octet of a label is not written as itself.
+/// Replaces the length of each label and the root by dots, in a copy of a name's octets. Returns
+/// false if an octet of a label does not print as itself.
 #[tactic(auto, using(crate::proofs::TextLemmas::dotted_steps))]
 fn put_dots(text: &mut [u8], name: &[u8]) -> bool
     requires name { IsWire name.now }
@@ -311,8 +311,8 @@ fn put_dots(text: &mut [u8], name: &[u8]) -> bool
     true
 }
 
-/// Returns the text of a name, with a dot before each label and at its end, if all octets of its
-/// labels are written as themselves.
+/// Returns the printed form of a name, with a dot before each label and at its end, if all octets
+/// of its labels print as themselves.
 #[tactic(auto, using(crate::proofs::TextLemmas::dotted_ascii))]
 fn dotted<'a>(name: &[u8], buffer: &'a mut [u8; MAX_NAME]) -> Option<&'a [u8]>
     requires { IsWire name.now }
@@ -328,7 +328,7 @@ fn dotted<'a>(name: &[u8], buffer: &'a mut [u8; MAX_NAME]) -> Option<&'a [u8]>
     Some(text)
 }
 
-/// Writes labels of any octets, with dots between them.
+/// Writes labels of any octets with dots between them.
 fn write_labels<W: fmt::Write>(name: &[u8], f: &mut fmt::Formatter<W>) -> fmt::Result
     requires { IsWire name.now }
     ensures { WritesOnOk W.write_str_gives f.old result (name_text (labels_of name.now)) f.new }
@@ -343,8 +343,8 @@ fn write_labels<W: fmt::Write>(name: &[u8], f: &mut fmt::Formatter<W>) -> fmt::R
     }
 }
 
-/// Writes the labels with dots between them. The prover shows that the text is ASCII, so that
-/// nothing tests it at run time.
+/// Writes the labels with dots between them. The proof shows that the text is ASCII, so no test is
+/// made at run time.
 pub fn write_name<W: fmt::Write>(name: &[u8], f: &mut fmt::Formatter<W>) -> fmt::Result
     requires { IsWire name.now }
     ensures { WritesOnOk W.write_str_gives f.old result (name_text (labels_of name.now)) f.new }
@@ -358,8 +358,8 @@ pub fn write_name<W: fmt::Write>(name: &[u8], f: &mut fmt::Formatter<W>) -> fmt:
     write_labels(name, f)
 }
 
-/// Writes the labels with a dot after each, and a single dot for the root: in one piece, unless an
-/// octet needs an escape.
+/// Writes the labels with a dot after each, and the root as a single dot. Writes all at once unless
+/// an octet needs an escape.
 pub fn write_dotted<W: fmt::Write>(name: &[u8], f: &mut fmt::Formatter<W>) -> fmt::Result
     requires { IsWire name.now }
     ensures { WritesOnOk W.write_str_gives f.old result

@@ -1,4 +1,4 @@
-//! What can be read as a name.
+//! The trait of all names.
 ghost use Rattle.std.specs.Prelude.{◌≡◌, ◌≤◌, [], ◌↔◌, IsTrue, length, ◌++◌, IsErrOf, OnOk, OnErr, IfOk, ◌+◌, IsNone};
 ghost use Rattle.std.specs.Ordering.{nat_cmp};
 ghost use Rattle.std.specs.Cmp.Lexicographic.{slice_cmp};
@@ -12,13 +12,13 @@ use domain_octets::{AppendError, OctetsBuilder, OutOfMemory, TryClone};
 use std::alloc::Global;
 use std::cmp::Ordering;
 
-/// How a name stands to another, told at once.
+/// The result of comparing two names.
 #[derive(Clone, Copy, Debug, PartialEq, Eq)]
 pub struct Comparison {
-    /// The canonical order of the two (RFC 4034, section 6.1).
+    /// The canonical order of the two names (RFC 4034, section 6.1).
     pub order: Ordering,
-    /// How many labels they share, from the root on, but for the case of letters. The root is not
-    /// counted.
+    /// The number of labels that both share, from the root on, in either case. The root does not
+    /// count.
     pub common: usize,
 }
 
@@ -27,16 +27,16 @@ pub trait ToName: TryClone {
     /// The labels.
     ghost labels: { Self → Name };
 
-    /// The name's wire form, without compression.
+    /// Returns the wire form, without compression.
     fn as_wire(&self) -> &[u8]
         ensures wire { IsWire result.now }
         ensures labels { labels_of result.now ≡ labels self.now };
 
-    /// A copy has the same labels, spelled alike.
+    /// A copy has the same labels, with the same spelling.
     ghost clone_labels: { (name copy : Self) → Self.is_clone name copy
         → labels copy ≡ labels name };
 
-    /// The labels, leaf first, without the root.
+    /// Returns the labels, leaf first, without the root.
     #[tactic(auto, using(crate::proofs::WireLemmas::few_labels))]
     final fn labels(&self) -> Labels<'_>
     where
@@ -49,7 +49,7 @@ pub trait ToName: TryClone {
         }
     }
 
-    /// How many labels the name has, the root not counted. Takes no memory.
+    /// Returns the number of labels. The root does not count. Does not allocate.
     #[tactic(auto, using(crate::proofs::WireLemmas::few_labels))]
     final fn count_labels(&self) -> usize
     where
@@ -60,7 +60,7 @@ pub trait ToName: TryClone {
         wire::count_labels(self.as_wire())
     }
 
-    /// Whether the name is the root.
+    /// Returns whether the name is the root.
     final fn is_root(&self) -> bool
     where
         Self: Sized,
@@ -69,8 +69,8 @@ pub trait ToName: TryClone {
         self.count_labels() == 0
     }
 
-    /// The name without its first label, in the same octets; None for the root (RFC 9499,
-    /// section 7). Takes no memory.
+    /// Returns the name without its first label, in the same octets, or None for the root
+    /// (RFC 9499, section 7). Does not allocate.
     final fn parent(&self) -> Option<ParsedName<'_>>
     where
         Self: Sized,
@@ -79,7 +79,7 @@ pub trait ToName: TryClone {
         self.as_parsed().parent()
     }
 
-    /// The name as text with its last dot; it prints without a last dot otherwise.
+    /// Returns a value that prints the name with its last dot. The name itself prints without it.
     final fn fmt_with_dot(&self) -> DottedName<'_>
     where
         Self: Sized,
@@ -90,7 +90,7 @@ pub trait ToName: TryClone {
         }
     }
 
-    /// The name over its wire form, which is borrowed. Takes no memory.
+    /// Returns the name over its borrowed wire form. Does not allocate.
     final fn as_parsed(&self) -> ParsedName<'_>
     where
         Self: Sized,
@@ -99,7 +99,7 @@ pub trait ToName: TryClone {
         ParsedName::over(self.as_wire())
     }
 
-    /// The length of the name's wire form, in octets.
+    /// Returns the length of the wire form in octets.
     final fn compose_len(&self) -> u16
     where
         Self: Sized,
@@ -108,8 +108,8 @@ pub trait ToName: TryClone {
         self.as_wire().len() as u16
     }
 
-    /// The last labels of the name, so many, or all of them where there are no more. Takes no
-    /// memory.
+    /// Returns the last `count` labels of the name, or the whole name if it has fewer. Does not
+    /// allocate.
     final fn last_labels(&self, count: usize) -> ParsedName<'_>
     where
         Self: Sized,
@@ -119,8 +119,8 @@ pub trait ToName: TryClone {
         ParsedName::over(wire::skip_labels(self.as_wire(), above))
     }
 
-    /// Whether the names differ in the case of letters at most (RFC 4343, section 3). Takes no
-    /// memory.
+    /// Returns whether the names differ at most in the case of letters (RFC 4343, section 3). Does
+    /// not allocate.
     final fn name_eq<N: ToName>(&self, other: &N) -> bool
     where
         Self: Sized,
@@ -130,8 +130,8 @@ pub trait ToName: TryClone {
         wire::is_same(self.as_wire(), other.as_wire())
     }
 
-    /// The canonical order of names: by labels from the root, A to Z lowered, octet by octet; what
-    /// is absent comes first (RFC 4034, section 6.1). Takes no memory.
+    /// Returns the canonical order of names: by labels from the root, octet by octet, with A to Z
+    /// lowered. An absent label or octet comes first (RFC 4034, section 6.1). Does not allocate.
     final fn name_cmp<N: ToName>(&self, other: &N) -> Ordering
     where
         Self: Sized,
@@ -140,7 +140,7 @@ pub trait ToName: TryClone {
         part::canonical_cmp(self.as_wire(), other.as_wire())
     }
 
-    /// The order of the names' wire forms, octet by octet.
+    /// Returns the order of the wire forms, octet by octet.
     #[tactic(auto, using(crate::proofs::WireLemmas::wire_is))]
     final fn composed_cmp<N: ToName>(&self, other: &N) -> Ordering
     where
@@ -151,7 +151,7 @@ pub trait ToName: TryClone {
         self.as_wire().cmp(other.as_wire())
     }
 
-    /// The order of the names' wire forms with A to Z lowered, octet by octet.
+    /// Returns the order of the wire forms with A to Z lowered, octet by octet.
     #[tactic(auto, using(crate::proofs::OrderLemmas::lowered_wire))]
     final fn lowercase_composed_cmp<N: ToName>(&self, other: &N) -> Ordering
     where
@@ -162,8 +162,8 @@ pub trait ToName: TryClone {
         wire::lowered_octets_cmp(self.as_wire(), other.as_wire())
     }
 
-    /// Whether the name is at or below another: whether the other's labels end its own, in either
-    /// case (RFC 9499, section 2). Takes no memory.
+    /// Returns whether the name is at or below another: whether it ends in the other's labels, in
+    /// either case (RFC 9499, section 2). Does not allocate.
     final fn ends_with<N: ToName>(&self, base: &N) -> bool
     where
         Self: Sized,
@@ -173,8 +173,8 @@ pub trait ToName: TryClone {
         part::is_at_or_below(self.as_wire(), base.as_wire())
     }
 
-    /// How many labels the names share, from the root on, but for the case of letters. The root is
-    /// not counted. Takes no memory.
+    /// Returns how many labels the names share, from the root on, in either case. The root does not
+    /// count. Does not allocate.
     final fn common_labels<N: ToName>(&self, other: &N) -> usize
     where
         Self: Sized,
@@ -183,8 +183,8 @@ pub trait ToName: TryClone {
         self.compare(other).common
     }
 
-    /// The canonical order of the names and how many labels they share, in one walk: `name_cmp` and
-    /// `common_labels` at once. Takes no memory.
+    /// Returns the canonical order of the names and how many labels they share: the results of
+    /// `name_cmp` and `common_labels` in one pass. Does not allocate.
     final fn compare<N: ToName>(&self, other: &N) -> Comparison
     where
         Self: Sized,
@@ -194,8 +194,8 @@ pub trait ToName: TryClone {
         part::compare(self.as_wire(), other.as_wire())
     }
 
-    /// Writes the name's wire form with A to Z lowered to the front of a buffer (RFC 4034, section
-    /// 6.2). Takes no memory.
+    /// Writes the wire form with A to Z lowered to the front of a buffer (RFC 4034, section 6.2).
+    /// Does not allocate.
     #[tactic(auto, using(std::proofs::lemmas::Grind::common_steps, crate::proofs::OrderLemmas::lowered_wire))]
     final fn lower_wire<'b>(&self, buffer: &'b mut [u8; wire::MAX_NAME]) -> &'b [u8]
     where
@@ -210,7 +210,7 @@ pub trait ToName: TryClone {
         lowered
     }
 
-    /// Appends the name's wire form, whole or not at all.
+    /// Appends the whole wire form. After an error nothing is appended.
     final fn compose<B: OctetsBuilder>(&self, target: &mut B) -> Result<(), AppendError>
     where
         Self: Sized,
@@ -224,8 +224,8 @@ pub trait ToName: TryClone {
         target.append_slice(self.as_wire())
     }
 
-    /// Appends the name's wire form with A to Z lowered, whole or not at all (RFC 4034,
-    /// section 6.2).
+    /// Appends the whole wire form with A to Z lowered (RFC 4034, section 6.2). After an error
+    /// nothing is appended.
     final fn compose_canonical<B: OctetsBuilder>(&self, target: &mut B) -> Result<(), AppendError>
     where
         Self: Sized,
@@ -241,9 +241,9 @@ pub trait ToName: TryClone {
     }
 }
 
-/// A name that can be made of the octets of its wire form.
+/// A name that can be made from its wire form.
 pub trait MakeName: ToName {
-    /// The name with this wire form (RFC 1035, section 3.1), in octets of its own.
+    /// Returns the name with this wire form (RFC 1035, section 3.1), in its own octets.
     fn make(alloc: Global, wire: &[u8]) -> Result<Self, OutOfMemory>
     where
         Self: Sized,

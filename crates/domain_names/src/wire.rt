@@ -1,10 +1,10 @@
-//! Names on the wire, as octets.
+//! The wire form of names.
 ghost use Rattle.std.specs.Prelude.{◌≡◌, ◌<◌, ◌≤◌, ◌∷◌, [], length, map, drop, IfSome, IfNone};
 ghost use Rattle.std.specs.Prelude.{IsTrue, IfOk, IfErr, OnOk, ◌++◌, ◌↔◌, fold};
 ghost use Rattle.std.specs.{Char.to_ascii_lowercase, Ordering.nat_cmp, Cmp.Lexicographic.slice_cmp};
 ghost use Rattle.std.specs.Hash as fed;
 ghost use Rattle.domain_names.specs.Name.{wire_of, lowered, IsSame, same_name};
-ghost use Rattle.domain_names.specs.{Name.{canonical_cmp, common_labels}, Wire.{labels_of, IsWire}};
+ghost use Rattle.domain_names.specs.{Name.{canonical_cmp, common_labels}, Part.BeginAlike, Wire.{labels_of, IsWire}};
 ghost use Rattle.domain_names.specs.Wire.{BeginsWithName, NameFault, WholeNameFault, fault_of, name_fault_of};
 
 use crate::{Comparison, NameError, ParseError};
@@ -12,13 +12,13 @@ use domain_octets::laws;
 use std::cmp::Ordering;
 use std::hash::Hasher;
 
-/// The greatest length of a name, in octets of its wire form (RFC 1035, section 2.3.4).
+/// The greatest length of a name's wire form in octets (RFC 1035, section 2.3.4).
 pub const MAX_NAME: usize = 255;
 
-/// The greatest length of a label.
+/// The greatest length of a label in octets.
 pub const MAX_LABEL_LEN: usize = 63;
 
-/// The first label and the name above it.
+/// Returns the first label and the name above it, or None for the root.
 #[tactic(auto, using(crate::proofs::WireLemmas::label_steps))]
 pub fn split_first(wire: &[u8]) -> Option<(&[u8], &[u8])>
     requires { IsWire wire.now }
@@ -34,7 +34,7 @@ pub fn split_first(wire: &[u8]) -> Option<(&[u8], &[u8])>
     Some((&wire[1..len + 1], &wire[len + 1..]))
 }
 
-/// How many labels a name has.
+/// Returns the number of labels of a name.
 #[tactic(auto, using(crate::proofs::WireLemmas::few_labels))]
 pub(crate) fn count_labels(wire: &[u8]) -> usize
     requires { IsWire wire.now }
@@ -49,7 +49,7 @@ pub(crate) fn count_labels(wire: &[u8]) -> usize
     count
 }
 
-/// The name that is left without the first labels.
+/// Returns a name without its first `count` labels.
 #[tactic(auto, using(crate::proofs::WireLemmas::drop_next))]
 pub(crate) fn skip_labels(wire: &[u8], count: usize) -> &[u8]
     requires wire { IsWire wire.now }
@@ -67,14 +67,35 @@ pub(crate) fn skip_labels(wire: &[u8], count: usize) -> &[u8]
     wire
 }
 
-/// The order of octets with A to Z lowered. Octets that are the same are not lowered.
-#[tactic(auto, using(crate::proofs::OrderLemmas::lengths_decide))]
+/// Returns whether both have eight octets, and the first eight of both are the same.
+fn same_first_eight(a: &[u8], b: &[u8]) -> bool
+    ensures { IsTrue result → BeginAlike a.now b.now 8 }
+{
+    match (a.first_chunk::<8>(), b.first_chunk::<8>()) {
+        (Some(x), Some(y)) => u64::from_le_bytes(*x) == u64::from_le_bytes(*y),
+        _ => false,
+    }
+}
+
+/// Returns a number of octets that two lists begin with alike, counted by eights.
+fn equal_start(a: &[u8], b: &[u8]) -> usize
+    ensures { BeginAlike a.now b.now result }
+{
+    let mut count = 0;
+    'eights: while same_first_eight(&a[count..], &b[count..]) {
+        count += 8;
+    }
+    count
+}
+
+/// Returns the order of octets with A to Z lowered. Octets that are the same are not lowered.
+#[tactic(auto, using(crate::proofs::OrderLemmas::alike_ties, crate::proofs::OrderLemmas::lengths_decide))]
 pub(crate) fn lowered_octets_cmp(a: &[u8], b: &[u8]) -> Ordering
     ensures { result ≡ slice_cmp nat_cmp (map to_ascii_lowercase a.now)
         (map to_ascii_lowercase b.now) }
 {
     let most = a.len().min(b.len());
-    for i in 0..most {
+    for i in equal_start(a, b)..most {
         if a[i] != b[i] {
             let order = a[i].to_ascii_lowercase().cmp(&b[i].to_ascii_lowercase());
             if order.is_ne() {
@@ -85,9 +106,9 @@ pub(crate) fn lowered_octets_cmp(a: &[u8], b: &[u8]) -> Ordering
     a.len().cmp(&b.len())
 }
 
-/// The canonical order, and how many labels are shared. Of the name with more labels the end is
-/// taken that has as many as the other. Both are walked from the leaf on, up to where they are the
-/// same: of the labels that differ those nearest the root decide, and all above these are shared.
+/// Returns the canonical order, and how many labels are shared. Cuts the longer name to as many
+/// labels as the other has, and compares both from the leaf on until the rests are the same. The
+/// differing labels nearest the root decide, and all labels above these are shared.
 #[tactic(auto, using(crate::proofs::OrderLemmas::comparing_steps))]
 pub(crate) fn compare_from_leaf(a: &[u8], b: &[u8]) -> Comparison
     requires a { IsWire a.now }
@@ -118,7 +139,7 @@ pub(crate) fn compare_from_leaf(a: &[u8], b: &[u8]) -> Comparison
     }
 }
 
-/// Whether two names differ in the case of letters at most.
+/// Returns whether two names differ at most in the case of letters.
 #[tactic(auto, using(crate::proofs::OrderLemmas::same_steps))]
 pub fn is_same(a: &[u8], b: &[u8]) -> bool
     requires a { IsWire a.now }
@@ -129,7 +150,7 @@ pub fn is_same(a: &[u8], b: &[u8]) -> bool
     a == b || a.eq_ignore_ascii_case(b)
 }
 
-/// Feeds the lowered octets.
+/// Feeds a name's octets to a hasher, with A to Z lowered.
 #[tactic(auto, using(crate::proofs::OrderLemmas::lowered_wire))]
 pub fn hash<H: Hasher>(wire: &[u8], state: &mut H)
     requires { IsWire wire.now }
@@ -142,8 +163,8 @@ pub fn hash<H: Hasher>(wire: &[u8], state: &mut H)
     }
 }
 
-/// What is left of octets that begin with the labels of a name up to the root, where so many octets
-/// of the name stand before them.
+/// Returns the octets after the labels of a name, including the root. `used` octets of the name
+/// come before these labels.
 #[tactic(auto, using(std::proofs::lemmas::Grind::common_steps, crate::proofs::WireLemmas::reading_steps))]
 fn after_labels(used: usize, octets: &[u8]) -> Result<&[u8], NameError>
     requires { used < 255 }
@@ -172,7 +193,7 @@ fn after_labels(used: usize, octets: &[u8]) -> Result<&[u8], NameError>
     Ok(after_labels(next, &tail[len..])?)
 }
 
-/// The name that octets begin with, and what is left of them.
+/// Returns the name that octets begin with, and the octets after it.
 #[tactic(auto, using(crate::proofs::WireLemmas::named))]
 pub fn split_name(octets: &[u8]) -> Result<(&[u8], &[u8]), NameError>
     ensures wire { IfOk result (λ found. IsWire found.0.now) }
@@ -183,7 +204,7 @@ pub fn split_name(octets: &[u8]) -> Result<(&[u8], &[u8]), NameError>
     Ok(octets.split_at(octets.len() - after.len()))
 }
 
-/// Checks that octets are a name and nothing more.
+/// Checks that octets are the wire form of a name, with no octet after it.
 #[tactic(auto, using(crate::proofs::WireLemmas::in_name_by))]
 pub fn check(octets: &[u8]) -> Result<(), ParseError>
     ensures ok { OnOk result (IsWire octets.now) }

@@ -267,7 +267,7 @@ module _ (L : List ZoneRecord) (a : Name) (config : GenerateNsecConfig) where
     pub faultless : soa_of L a ≢ None → IsFaultless L a config
     faultless soa = (soa, known.even)
 
-    pub chain : (numbers : ApexSoa) → soa_of L a ≡ Some numbers → IsChain L a config (links_in numbers a listed.names.items listed.types.items)
+    pub chain : (numbers : ApexSoa) → soa_of L a ≡ Some numbers → IsChain L a config (links_in numbers a listed.names.items listed.types)
     chain numbers soa = chain_of L a config numbers _ _ soa known.named (known.typed ∙ ap (map _) (sym known.named))
 
 -- ---- What the record that covers a name tells of it, in each spelling of the name.

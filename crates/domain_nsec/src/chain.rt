@@ -7,9 +7,9 @@ ghost use Rattle.domain_nsec.specs.{Chain.links_of, Meaning.MeansTheZone};
 
 use crate::GenerateNsecConfig;
 use domain_base::{MakeName, ParsedName, ToName};
-use domain_bitmap::RtypeBitmap;
+use domain_bitmap::RtypeBitmaps;
 use domain_chain_rdata::Nsec;
-use domain_octets::{FromBuilder, GrowingBuilder, OutOfMemory, SmallOctets};
+use domain_octets::{FromBuilder, GrowingBuilder, OutOfMemory};
 use domain_record::{Record, ZoneData};
 use domain_records::{RecordsIter, SigningError};
 use domain_zone::{ApexSoa, find_soa, list_owners};
@@ -19,16 +19,17 @@ use std::marker::Model;
 /// A record of a chain whose names and types lie in the records of the zone and in the chain.
 pub type BorrowedNsec<'a> = Record<ParsedName<'a>, Nsec<&'a [u8], ParsedName<'a>>>;
 
-/// The NSEC chain of a zone before its records are made. Contracts see the links that its records
-/// have. It borrows the octets of the names from the records of the zone, and holds 64 octets for
-/// each of them, where its name lies and its types: a caller that needs one record at a time needs
-/// no list of them.
+/// The NSEC chain of a zone before its records are made. It lends one record at a time. Contracts
+/// see the links that its records have.
+///
+/// It borrows the octets of the names from the records of the zone. Each name takes 24 octets, for
+/// the place of its octets and of its types, and the octets of its types.
 #[derive(Drop)]
 pub struct NsecChain<'a, N: ToName> {
     apex: &'a N,
     soa: ApexSoa,
     names: Vec<ParsedName<'a>>,
-    types: Vec<RtypeBitmap<SmallOctets>>,
+    types: RtypeBitmaps,
 }
 
 impl<'a, N: ToName> Model for NsecChain<'a, N> {
@@ -37,12 +38,13 @@ impl<'a, N: ToName> Model for NsecChain<'a, N> {
 
     ghost Value = { List Link };
 
-    ghost view = { λ c. links_in c.soa (N.labels c.apex.now) c.names.items c.types.items };
+    ghost view = { λ c. links_in c.soa (N.labels c.apex.now) c.names.items c.types };
 
-    ghost invariant = { λ c. length c.names.items ≡ length c.types.items };
+    ghost invariant = { λ c. length c.names.items ≡ length c.types };
 }
 
-/// The owner at a place, or the apex past the last one: so the last record points to the apex.
+/// Returns the owner at a place, or the apex past the last one: so the last record points to the
+/// apex.
 fn owner_or_apex<'s, N: ToName>(
     owners: &'s [ParsedName<'s>],
     place: usize,
@@ -57,15 +59,10 @@ fn owner_or_apex<'s, N: ToName>(
 }
 
 impl<'a, N: ToName> NsecChain<'a, N> {
-    /// The chain of these names and their types.
-    fn new(
-        apex: &'a N,
-        soa: ApexSoa,
-        names: Vec<ParsedName<'a>>,
-        types: Vec<RtypeBitmap<SmallOctets>>,
-    ) -> Self
-        requires { length names.items ≡ length types.items }
-        ensures { result ≡ links_in soa (N.labels apex.now) names.entry.items types.items }
+    /// Returns the chain of these names and their types.
+    fn new(apex: &'a N, soa: ApexSoa, names: Vec<ParsedName<'a>>, types: RtypeBitmaps) -> Self
+        requires { length names.items ≡ length types }
+        ensures { result ≡ links_in soa (N.labels apex.now) names.entry.items types }
     {
         NsecChain {
             apex,
@@ -75,8 +72,8 @@ impl<'a, N: ToName> NsecChain<'a, N> {
         }
     }
 
-    /// The NSEC chain of a zone (RFC 4034, section 4; RFC 4035, section 2.3): the chain that
-    /// `generate_nsecs` gives, with the same refusals, before its records are made. It borrows
+    /// Returns the NSEC chain of a zone (RFC 4034, section 4; RFC 4035, section 2.3): the chain
+    /// that `generate_nsecs` gives, with the same refusals, before its records are made. It borrows
     /// the octets of their names from the records of the zone.
     ///
     /// # Errors
@@ -108,7 +105,7 @@ impl<'a, N: ToName> NsecChain<'a, N> {
         Ok(NsecChain::new(apex, soa, owners.names, owners.types))
     }
 
-    /// How many records the chain has.
+    /// Returns how many records the chain has.
     #[tactic(auto, using(crate::proofs::ChainLemmas::links_counted))]
     pub fn len(&self) -> usize
         ensures { result ≡ length self.now }
@@ -116,14 +113,14 @@ impl<'a, N: ToName> NsecChain<'a, N> {
         self.names.len()
     }
 
-    /// Whether the chain has no records. That of a zone has one for the apex.
+    /// Returns whether the chain has no records. That of a zone has one for the apex.
     pub fn is_empty(&self) -> bool
         ensures { IsTrue result ↔ (self.now ≡ []) }
     {
         self.len() == 0
     }
 
-    /// The owner of the record at a place; None past the last one. Takes no memory.
+    /// Returns the owner of the record at a place, or `None` past the last one. Takes no memory.
     #[tactic(auto, using(crate::proofs::ChainLemmas::links_counted, crate::proofs::ChainLemmas::owner_borrowed))]
     pub fn owner(&self, place: usize) -> Option<&ParsedName<'a>>
         ensures some { IfSome result (λ owner. (d : Link)
@@ -136,8 +133,8 @@ impl<'a, N: ToName> NsecChain<'a, N> {
         Some(&self.names[place])
     }
 
-    /// The record at a place, in canonical order, which borrows from the chain; None past the last
-    /// one. Takes no memory.
+    /// Returns the record at a place, in canonical order, which borrows from the chain, or `None`
+    /// past the last one. Takes no memory.
     pub fn lend(&self, place: usize) -> Option<BorrowedNsec<'_>>
         ensures some { IfSome result (λ made. (d : Link)
             → as_link (λ n. n) made ≡ slice_index_or self.now place d) }
@@ -146,15 +143,15 @@ impl<'a, N: ToName> NsecChain<'a, N> {
         if place >= self.names.len() {
             return None;
         }
+        let types = self.types.get(place)?;
         let owner = self.names[place].as_parsed();
-        let types = &self.types[place];
         let next = owner_or_apex(&self.names, place + 1, self.apex);
-        let nsec = Nsec::new(next, types.with_octets(types.as_slice()));
+        let nsec = Nsec::new(next, types);
         Some(Record::new(owner, self.soa.class, self.soa.chain_ttl(), nsec))
     }
 }
 
-/// The record in octets of its own.
+/// Returns the record in octets of its own.
 fn copy_record<O: FromBuilder, N: MakeName>(
     alloc: Global,
     borrowed: &BorrowedNsec<'_>,
@@ -174,7 +171,7 @@ where
 }
 
 impl<'a, N: MakeName> NsecChain<'a, N> {
-    /// All records, in canonical order.
+    /// Returns all records, in canonical order.
     pub fn records<O: FromBuilder>(
         &self,
         alloc: Global,
@@ -197,10 +194,10 @@ impl<'a, N: MakeName> NsecChain<'a, N> {
     }
 }
 
-/// The NSEC chain of a zone (RFC 4034, section 4; RFC 4035, section 2.3): one record for each owner
-/// that is at or below the apex and not strictly below a zone cut, in canonical order. Where the
-/// configuration says so, owners strictly below an owner of a DNAME record, the apex among them,
-/// are left out as well (RFC 6672, section 2.4).
+/// Returns the NSEC chain of a zone (RFC 4034, section 4; RFC 4035, section 2.3): one record for
+/// each owner that is at or below the apex and not strictly below a zone cut, in canonical order.
+/// Where the configuration says so, owners strictly below an owner of a DNAME record, the apex
+/// among them, are left out as well (RFC 6672, section 2.4).
 ///
 /// Each record points to the next owner, the last one to the apex. It has the class of the SOA, and
 /// the lesser of the SOA's MINIMUM and TTL as its TTL in seconds (RFC 9077, section 3.2). It lists
@@ -213,10 +210,10 @@ impl<'a, N: MakeName> NsecChain<'a, N> {
 ///
 /// # Errors
 ///
-/// The first that stands: `SoaRecordCouldNotBeDetermined` where the apex does not own exactly one
-/// record of type SOA, or its data tell no MINIMUM; `MultipleTtlValues` where two records of one
-/// owner of the chain and one type other than RRSIG differ in TTL; and `OutOfMemory`, so that this
-/// says too that no other fault stands.
+/// The first of these that applies: `SoaRecordCouldNotBeDetermined` where the apex does not own
+/// exactly one record of type SOA, or its data tell no MINIMUM; `MultipleTtlValues` where two
+/// records of one owner of the chain and one type other than RRSIG differ in TTL; and
+/// `OutOfMemory`, so that this says too that no other fault stands.
 pub fn generate_nsecs<O, N: MakeName, D: ZoneData>(
     alloc: Global,
     apex: &N,

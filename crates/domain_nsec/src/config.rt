@@ -6,7 +6,6 @@ use domain_bitmap::RtypeBitmap;
 use domain_octets::OutOfMemory;
 use domain_record::ZoneData;
 use domain_zone::{ChainTypes, UnoccludedOwner, list_types};
-use std::alloc::Global;
 
 /// How an NSEC chain is made.
 #[derive(Clone, Copy, Debug, PartialEq, Eq)]
@@ -33,7 +32,7 @@ impl GenerateNsecConfig {
         }
     }
 
-    /// The same, but that no DNSKEY records are assumed. The other field stays as it is.
+    /// Returns the same, except that no DNSKEY records are assumed. The other field stays as it is.
     pub fn without_assuming_dnskeys_will_be_added(self) -> Self
         ensures { result ≡ record self { assume_dnskeys_will_be_added = false } }
     {
@@ -43,7 +42,8 @@ impl GenerateNsecConfig {
         }
     }
 
-    /// The same, but that names below a DNAME are left out. The other field stays as it is.
+    /// Returns the same, except that names below a DNAME are left out. The other field stays as it
+    /// is.
     pub fn with_occlude_below_dname(self) -> Self
         ensures { result ≡ record self { occlude_below_dname = true } }
     {
@@ -79,11 +79,11 @@ impl ChainTypes for GenerateNsecConfig {
     #[tactic(auto, using(std::proofs::lemmas::Grind::common_steps, crate::proofs::ChainLemmas::listed_octets))]
     fn types_of<N: ToName, D: ZoneData>(
         &self,
-        alloc: Global,
+        buffer: Vec<u8>,
         owner: &UnoccludedOwner<'_, N, D>,
         is_apex: bool,
     ) -> Result<RtypeBitmap<Vec<u8>>, OutOfMemory> {
         let assumed = self.assume_dnskeys_will_be_added & is_apex;
-        list_types(alloc, owner, true, Rtype::NSEC, true, assumed)
+        list_types(buffer, owner, true, Rtype::NSEC, true, assumed)
     }
 }

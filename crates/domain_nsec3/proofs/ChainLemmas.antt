@@ -196,24 +196,24 @@ module _ (a : Name) (chain : HashedChain) (p : Common) where
   -- what stands at a place, with the hash after it
   pub link_is : (item : Hashed) (next : Octets) (i : ℕ) (d : HashedLink) → i < length chain.hashed.items → item ≡ get_or chain.hashed.items i item
       → next ≡ (get_or chain.hashed.items (i + 1) (get_or chain.hashed.items 0 item)).hash
-      → link_to a p chain.types.items item next ≡ get_or (links_in a chain p) i d
+      → link_to a p chain.types item next ≡ get_or (links_in a chain p) i d
   link_is item next i d within is after =
       let at = cycle_at chain.hashed.items i (item, item) within in
       grind (arith, common_steps, cycle_length)
 
   pub links_counted : length (links_in a chain p) ≡ length chain.hashed.items
-  links_counted = length-map (cycle chain.hashed.items) (λ (q : Hashed × Hashed). link_to a p chain.types.items q.0 q.1.hash) ∙ cycle_length chain.hashed.items
+  links_counted = length-map (cycle chain.hashed.items) (λ (q : Hashed × Hashed). link_to a p chain.types q.0 q.1.hash) ∙ cycle_length chain.hashed.items
 
   -- the record at a place has the hash at that place
   pub hash_there : (i : ℕ) (h : Hashed) (v : Octets) → i < length chain.hashed.items → h ≡ get_or chain.hashed.items i h → v ≡ h.hash
       → All (λ octet. octet < 256) v → (k : HashedLink) × IsRecordOf a (links_in a chain p) i k v
   hash_there i h v within is v_is octets =
-      let d = link_to a p chain.types.items h h.hash in (
-        get_or (links_in a chain p) i (link_to a p chain.types.items h h.hash),
+      let d = link_to a p chain.types h h.hash in (
+        get_or (links_in a chain p) i (link_to a p chain.types h h.hash),
         record {
           there = slice_get-get_or (links_in a chain p) i d (omega (arith, within, links_counted));
           spelled =
-              ap (λ k. k.owner) (get_or-map (λ (q : Hashed × Hashed). link_to a p chain.types.items q.0 q.1.hash) (cycle chain.hashed.items) i (h, h) d
+              ap (λ k. k.owner) (get_or-map (λ (q : Hashed × Hashed). link_to a p chain.types q.0 q.1.hash) (cycle chain.hashed.items) i (h, h) d
               (omega (arith, within, cycle_length chain.hashed.items)))
               ∙ ap (λ (g : Hashed). hashed_owner a g.hash) (ap (λ q. q.0) (cycle_at chain.hashed.items i (h, h) within) ∙ sym is)
               ∙ ap (hashed_owner a) (sym v_is);
@@ -277,7 +277,7 @@ module _ (L : List ZoneRecord) (a : Name) (config : ChainConfig) (names : List N
 
   -- each linked with the next one, with the types of its name
   pub chain_of_zone : (chain : HashedChain) (p : Common) (numbers : ApexSoa)
-      → ((i : ℕ) → i < length names → get_or chain.types.items i [] ≡ bitmap_octets (nsec3_lists L a config (get_or names i [])))
+      → ((i : ℕ) → i < length names → get_or chain.types i [] ≡ bitmap_octets (nsec3_lists L a config (get_or names i [])))
       → soa_of L a ≡ Some numbers → p.ttl ≡ chain_ttl numbers → p.parameters ≡ config.parameters → p.flags ≡ config.flags
       → AreOrderedHashes a config.hash names chain.hashed.items → IsHashedChain L a config (links_in a chain p)
   chain_of_zone chain p numbers listed soa ttl parameters flags o = record {
@@ -294,9 +294,9 @@ module _ (L : List ZoneRecord) (a : Name) (config : ChainConfig) (names : List N
     linked = map-map ends link (cycle hs) ∙ sym (map-map (ends_of a) (λ (q : Hashed × Hashed). (q.0.hash, q.1.hash)) (cycle hs))
         ∙ ap (map (ends_of a)) (sym (cycle_map (λ (h : Hashed). h.hash) hs) ∙ ap cycle (sym (map-map (λ n. n.hash) named hs)));
     bits = map-map (λ k. k.bits) link (cycle hs)
-        ∙ sym (map-map (λ (h : Hashed). get_or chain.types.items h.place []) (λ (q : Hashed × Hashed). q.0) (cycle hs))
-        ∙ ap (map (λ (h : Hashed). get_or chain.types.items h.place [])) (cycle_owners hs)
-        ∙ map_same (λ (h : Hashed). get_or chain.types.items h.place []) (λ h. bitmap_octets (nsec3_lists L a config (name_at names h))) hs
+        ∙ sym (map-map (λ (h : Hashed). get_or chain.types h.place []) (λ (q : Hashed × Hashed). q.0) (cycle hs))
+        ∙ ap (map (λ (h : Hashed). get_or chain.types h.place [])) (cycle_owners hs)
+        ∙ map_same (λ (h : Hashed). get_or chain.types h.place []) (λ h. bitmap_octets (nsec3_lists L a config (name_at names h))) hs
         (recursion_from_All _ hs (All-weaker (IsHashOf a config.hash names) _ (λ h e. listed h.place e.inside) hs o.hashes.each))
         ∙ sym (map-map (λ n. bitmap_octets (nsec3_lists L a config n.name)) named hs);
     numbered = All-map (λ k. (k.class ≡ in_class) × (k.ttl ≡ chain_ttl numbers)) link (cycle hs) (λ k d l. (refl, ttl));
@@ -310,7 +310,7 @@ module _ (L : List ZoneRecord) (a : Name) (config : ChainConfig) (names : List N
       named h = record { name = name_at names h; hash = h.hash }
 
       link : Hashed × Hashed → HashedLink
-      link q = link_to a p chain.types.items q.0 q.1.hash
+      link q = link_to a p chain.types q.0 q.1.hash
 
 -- ---- What hashing the names of a chain comes to: the chain of the zone, or its first fault.
 
@@ -339,7 +339,7 @@ front_told f (x ∷ xs) ys (suc i) none within = front_told f xs ys i none (omeg
 pub record AreGathered (L : List ZoneRecord) (a : Name) (config : ChainConfig) (owners : ListedOwners) (names : List Name) : Type 0 where
   pub order : OwnersNeverDescend L
   pub named : owners.names.items ≡ original_owners L a config
-  pub typed : owners.types.items ≡ map (λ n. bitmap_octets (nsec3_lists L a config n)) (original_owners L a config)
+  pub typed : owners.types ≡ map (λ n. bitmap_octets (nsec3_lists L a config n)) (original_owners L a config)
   pub joined : AreWithEmpty a owners.names.items names
 
 module _ {L : List ZoneRecord} {a : Name} {config : ChainConfig} {owners : ListedOwners} {names : List Name}
@@ -373,13 +373,13 @@ module _ {L : List ZoneRecord} {a : Name} {config : ChainConfig} {owners : Liste
   unowned : (x : Name) → is_empty L a config x ≡ true → [] ≡ bitmap_octets (nsec3_lists L a config x)
   unowned x e = no_types ∙ grind (arith, common_steps)
 
-  typed : (i : ℕ) → i < length names → get_or owners.types.items i [] ≡ bitmap_octets (nsec3_lists L a config (get_or names i []))
+  typed : (i : ℕ) → i < length names → get_or owners.types i [] ≡ bitmap_octets (nsec3_lists L a config (get_or names i []))
   typed i within =
       rw (known.typed, joined_are) (front_told (λ n. bitmap_octets (nsec3_lists L a config n)) (original_owners L a config) empty i
       (weaker _ _ (λ x e. unowned x (sym (empty_are L a config x) ∙ e)) empty all_empty) (subst (λ ns. i < length ns) joined_are within))
 
   pub outcome_chain : (chain : HashedChain) (p : Common) (numbers : ApexSoa) → soa_of L a ≡ Some numbers → p.ttl ≡ chain_ttl numbers
-      → p.parameters ≡ config.parameters → p.flags ≡ config.flags → chain.types.items ≡ owners.types.items
+      → p.parameters ≡ config.parameters → p.flags ≡ config.flags → chain.types ≡ owners.types
       → AreOrderedHashes a config.hash names chain.hashed.items → IsHashedChain L a config (links_in a chain p)
   outcome_chain chain p numbers soa ttl parameters flags same =
       chain_of_zone L a config names are chain p numbers (λ i l. ap (λ ts. get_or ts i []) same ∙ typed i l) soa ttl parameters flags

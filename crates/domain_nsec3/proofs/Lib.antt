@@ -1,2 +1,3 @@
 pub mod OwnerLemmas
+mod FourLemmas
 pub mod ChainLemmas

@@ -1,14 +1,19 @@
 -- Hashes of names: as labels, in lists, and in order; and the names of an NSEC3 chain, those that exist over its owners.
 use Rattle.domain_base.specs.Types.{ds, ns}
+use Rattle.domain_base.specs.Classes.{in_class}
 use Rattle.domain_chain_rdata.specs.Rdata.{is_opt_out}
+use Rattle.domain_chain_rdata.specs.Text.{nsec3_text}
+use Rattle.domain_nsec3.specs.{View.{apex_text, link_text, shared_text, text_before_data}, Chain.HashedLink}
+use Rattle.std.{proofs.Common.append_assoc, specs.Prelude.codes}
 use Rattle.domain_codecs.{proofs.Base32Lemmas.{are_small, many_digits}, specs.Base32.{base32_from, base32_lower, lower_digit}}
 use Rattle.domain_hasher.specs.declared.error.Nsec3HashError.{Nsec3HashError, TheVariants.OutOfMemory}
 use Rattle.domain_names.{proofs.WireLemmas.{IsWire-wire_of, labels_of-wire_of, wire_is}, specs.Name.{IsName, Label, Name, before, canonical_cmp, common_labels}}
 use Rattle.domain_names.specs.{Name.{is_at_or_below, is_strictly_below, lowered, same_name, wire_of}, Text.{label_text, name_text, octet_text}, Wire.IsWire}
 use Rattle.domain_names.specs.Wire.{labels_of}
 use Rattle.domain_nsec3.specs.Chain.{ChainConfig, Hash, excludes, hash_fault, hash_name, hashed_owner, is_chain_name, is_empty, is_excluded, is_original_owner}
-use Rattle.domain_nsec3.specs.{Chain.original_owners, Meaning.{CutsEnclose, octets_before}, Steps.{AreHashesOf, HasAlikeNeighbours, IsFirstRefused, IsHashOf}}
-use Rattle.domain_nsec3.specs.{Steps.{IsHashed, IsListOf, IsRefusal, above_with_more, is_over, name_at}, declared.hash.Hashed.Hashed}
+use Rattle.domain_nsec3.specs.{Chain.original_owners, Meaning.{CutsEnclose, octets_before}}
+use Rattle.domain_nsec3.specs.Steps.{AreFirstHashes, AreHashesOf, HasAlikeNeighbours, IsFirstRefused, IsHashOf}
+use Rattle.domain_nsec3.specs.{Steps.{IsHashed, IsListOf, IsPlacedHash, IsRefusal, above_with_more, is_over, name_at}, declared.hash.Hashed.Hashed}
 use Rattle.domain_octets.{proofs.{StdLemmas.and_false, WordLemmas.octets_from_type}, specs.Octets.{AreOctets, Octets}}
 use Rattle.domain_zone.proofs.NameLemmas.{before_order, below_between, below_from, below_itself, below_longer, below_parent, below_trans, common_shares}
 use Rattle.domain_zone.proofs.NameLemmas.{either_way, lowered_below, one_lowered, same_both, same_itself, same_length, same_lowered, strictly_from}
@@ -21,7 +26,7 @@ use Rattle.std.proofs.{Common.{sym, take, true, w8, ℕ, ◌&&◌, ◌*◌, ◌+
 use Rattle.std.proofs.lemmas.{Bool.{and_from, and_parts, cases_lt, false_from_ne_true, false≢true, leb-true, not-true, or_left, or_right}, Grind.common_steps}
 use Rattle.std.proofs.lemmas.List.{Elements.{All-map, All-push, All-weaker, recursion_from_All}, Folds.map_fixed, Sorted.{All-permutation, IsPermutation-map}}
 use Rattle.std.proofs.lemmas.List.{Sorted.{IsPermutation-refl, IsPermutation-trans}, append-nil, drop_more, get_or-map, get_or_default, get_or_read, length-map}
-use Rattle.std.proofs.lemmas.{List.{map_push, take-append-drop, take_more}, Map.Keys.sorted_from_all_adjacent, Str.Ascii.IsAscii-from_all}
+use Rattle.std.proofs.lemmas.{List.{length_push, map_push, take-append-drop, take_more}, Map.Keys.sorted_from_all_adjacent, Str.Ascii.IsAscii-from_all}
 use Rattle.std.specs.{Char.to_ascii_lowercase, Cmp.Lexicographic.{nat_list_cmp_total, slice_cmp}, FinMap.{nat_cmp-IsAntisymmetric, slice_cmp-IsAntisymmetric}}
 use Rattle.std.specs.{List.{AllByRecursion, Sorted.{IsSortedByKey, IsStrictlySortedBy}, list_any}, Ordering.{is_lt, nat_cmp}, Prelude.{All, Ok, filter}}
 use Rattle.std.specs.{Prelude.{if◌then◌else◌, nat_lt}, Str.IsAscii, declared.cmp.Ordering.{Ordering, TheVariants.Less}}
@@ -69,6 +74,22 @@ pub owner_below : (a : Name) (h : List ℕ) → AreOctets h → (a ≡ [] → �
     → base32_lower h ++ 46 ∷ (name_text a ++ 46 ∷ []) ≡ name_text (hashed_owner a h) ++ 46 ∷ []
 owner_below [] h all some = absurd (some refl)
 owner_below (l ∷ ls) h all some = grind (arith, common_steps, hash_text)
+
+-- ---- the text of a record
+
+pub hash_and_apex : (a : Name) (h : List ℕ) → AreOctets h → base32_lower h ++ apex_text a ≡ name_text (hashed_owner a h) ++ codes "."
+hash_and_apex [] h all = owner_at_root [] h all refl
+hash_and_apex (l ∷ ls) h all = owner_below (l ∷ ls) h all (λ e. absurd (cc e))
+
+-- the owner's text is that of the hash, and what all records share
+pub shared_before_data : (a : Name) (h : List ℕ) (ttl : ℕ) → AreOctets h
+    → text_before_data (hashed_owner a h) ttl ≡ base32_lower h ++ shared_text a ttl
+shared_before_data a h ttl all = grind (arith, common_steps, append_assoc, (hash_and_apex a h all))
+
+pub link_spelled : (k : HashedLink) → k.class ≡ in_class
+    → link_text k ≡ text_before_data k.owner k.ttl
+    ++ nsec3_text ((((k.parameters.algorithm, (k.flags, k.parameters.iterations)), k.parameters.salt), k.next), k.bits)
+link_spelled k class = grind (arith, common_steps, append_assoc)
 
 -- ---- when a hash is of use
 
@@ -161,20 +182,27 @@ alike_at (h ∷ hs) sorted k within same = record {
 }
 
 module _ (a : Name) (hash : Hash) (names : List Name) where
-  -- the names up to a place are hashed, each with its place
-  pub record AreHashed (n : ℕ) (hashed : List Hashed) : Type 0 where
-    pub named : map (name_at names) hashed ≡ take n names
-    pub each : All (IsHashOf a hash names) hashed
-
-  pub one_hashed : (n : ℕ) (hashed new : List Hashed) (x : Name) (h : Hashed) → n < length names → x ≡ get_or names n x → h.place ≡ n
-      → IsHashed a hash x h.hash → new ≡ hashed ++ h ∷ [] → AreHashed n hashed → AreHashed (n + 1) new
-  one_hashed n hashed new x h within there placed is pushed so_far =
-      let next = take_more names n [] within in
-      let read = get_or_read names n x within there [] in
+  pub one_hashed : (hashed new : List Hashed) (x : Name) (h : Hashed) → length hashed < length names → x ≡ get_or names (length hashed) x
+      → h.place ≡ length hashed → IsHashed a hash x h.hash → new ≡ hashed ++ h ∷ [] → AreFirstHashes a hash names hashed → AreFirstHashes a hash names new
+  one_hashed hashed new x h within there placed is pushed so_far =
+      let next = take_more names (length hashed) [] within in
+      let read = get_or_read names (length hashed) x within there [] in
+      let more = length_push hashed h in
       grind (arith, common_steps, map_push, All-push)
 
-  pub all_hashed : (n : ℕ) (hashed : List Hashed) → length names ≤ n → AreHashed n hashed → AreHashesOf a hash names hashed
-  all_hashed n hashed past h = grind (arith, common_steps, IsPermutation-refl)
+  -- a hash that a hasher gave, that is of use, and that is put behind those before it
+  pub next_hashed : (hashed new : List Hashed) (x : Name) (octets : Octets) (place : ℕ) (h : Hashed) → place ≡ length hashed → place < length names
+      → x ≡ get_or names place x → Ok octets ≡ hash_name hash x → IsPlacedHash a octets place h → new ≡ hashed ++ h ∷ []
+      → AreFirstHashes a hash names hashed → (place + 1 ≡ length new) × AreFirstHashes a hash names new
+  next_hashed hashed new x octets place h at within there known placed is so_far =
+      let is_hashed : IsHashed a hash x h.hash = grind (arith, common_steps) in
+      let more = length_push hashed h in (
+        grind (arith, common_steps),
+        one_hashed hashed new x h (grind (arith, common_steps)) (grind (arith, common_steps)) (grind (arith, common_steps)) is_hashed is so_far,
+      )
+
+  pub all_hashed : (hashed : List Hashed) → length names ≤ length hashed → AreFirstHashes a hash names hashed → AreHashesOf a hash names hashed
+  all_hashed hashed past h = grind (arith, common_steps, IsPermutation-refl)
 
   pub moved_hashes : (hashed ordered : List Hashed) → IsPermutation hashed ordered → AreHashesOf a hash names hashed → AreHashesOf a hash names ordered
   moved_hashes hashed ordered moved h = record {
@@ -184,10 +212,10 @@ module _ (a : Name) (hash : Hash) (names : List Name) where
   }
 
   -- the first name that is refused, after those that were hashed
-  pub first_refused : (n : ℕ) (hashed : List Hashed) (x : Name) (e : Nsec3HashError) → n < length names → x ≡ get_or names n x
-      → AreHashed n hashed → IsRefusal a (hash_name hash x) e → (e ≡ OutOfMemory) ⊎ IsFirstRefused a hash names e
-  first_refused n hashed x e within there h (inl m) = inl m
-  first_refused n hashed x e within there h (inr f) = inr (record {
+  pub first_refused : (hashed : List Hashed) (x : Name) (e : Nsec3HashError) → length hashed < length names → x ≡ get_or names (length hashed) x
+      → AreFirstHashes a hash names hashed → IsRefusal a (hash_name hash x) e → (e ≡ OutOfMemory) ⊎ IsFirstRefused a hash names e
+  first_refused hashed x e within there h (inl m) = inl m
+  first_refused hashed x e within there h (inr f) = let n = length hashed in inr (record {
     before = take n names;
     name = x;
     after = drop (n + 1) names;

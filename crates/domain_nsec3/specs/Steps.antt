@@ -1,5 +1,5 @@
 -- The steps of the generator: the names above a name, the hashes of all, and the links that join them.
-use Rattle.std.specs.Prelude.{◌≡◌, ℕ, Bool, List, [], ◌∷◌, ◌++◌, length, nat_lt, if◌then◌else◌, ◌+◌, ◌<◌, map, None, Some, Ok, ◌⊎◌, slice_index_or, All}
+use Rattle.std.specs.Prelude.{◌≡◌, ℕ, Bool, List, [], ◌∷◌, ◌++◌, length, nat_lt, if◌then◌else◌, ◌+◌, ◌<◌, map, None, Some, Ok, ◌⊎◌, slice_index_or, All, take}
 use Rattle.std.specs.{Prelude.IsPermutation, List.{list_any, Sorted.IsStrictlySortedBy}, Ordering.nat_cmp, Cmp.Lexicographic.slice_cmp}
 use Rattle.domain_names.specs.Name.{canonical_cmp, same_name, Name}
 use Rattle.domain_zone.specs.Enclosers.{exists_over, is_empty_nonterminal}
@@ -54,6 +54,19 @@ name_at names h = slice_index_or names h.place []
 pub record IsHashOf (a : Name) (hash : Hash) (names : List Name) (h : Hashed) : Type 0 where
   pub inside : h.place < length names
   pub is : IsHashed a hash (name_at names h) h.hash
+
+-- a hash that is of use, with the place of its name
+pub record IsPlacedHash (a : Name) (hash : Octets) (place : ℕ) (h : Hashed) : Type 0 where
+  pub there : h.place ≡ place
+  pub is : h.hash ≡ hash
+  pub sound : hash_fault a (Ok hash) ≡ None
+  pub octets : All (λ octet. octet < 256) hash
+
+-- the hashes of the first of these names, in their order
+pub record AreFirstHashes (a : Name) (hash : Hash) (names : List Name) (hashed : List Hashed)
+    : Type 0 where
+  pub named : map (name_at names) hashed ≡ take (length hashed) names
+  pub each : All (IsHashOf a hash names) hashed
 
 -- the hashes of these names, in any order
 pub record AreHashesOf (a : Name) (hash : Hash) (names : List Name) (hashed : List Hashed)
@@ -123,4 +136,4 @@ link_to a p types h next = record {
 
 -- the links of a chain below an apex
 abbrev pub links_in : Name → HashedChain → Common → List HashedLink
-links_in a chain p = map (λ q. link_to a p chain.types.items q.0 q.1.hash) (cycle chain.hashed.items)
+links_in a chain p = map (λ q. link_to a p chain.types q.0 q.1.hash) (cycle chain.hashed.items)

@@ -1,5 +1,5 @@
 -- How configurations and NSEC3 records are seen, and NSEC3 records as text.
-use Rattle.std.specs.{Prelude.{ℕ, List, map, ◌++◌, codes}, Fmt.decimal}
+use Rattle.std.specs.{Prelude.{ℕ, List, [], ◌∷◌, map, ◌++◌, codes}, Fmt.decimal}
 use Rattle.domain_octets.specs.Octets.{Octets}
 use Rattle.domain_record.specs.declared.record.Record.{Record}
 use Rattle.domain_chain_rdata.specs.{declared.{nsec3.Nsec3.Nsec3, nsec3param.Nsec3param.Nsec3param}, Text.nsec3_text}
@@ -77,3 +77,17 @@ link_text k =
     (name_text k.owner ++ codes ".") ++ (codes " " ++ (decimal k.ttl ++ (codes " "
     ++ (class_text k.class ++ (codes " " ++ (type_text nsec3 ++ (codes " "
     ++ nsec3_text ((((p.algorithm, (k.flags, p.iterations)), p.salt), k.next), k.bits))))))))
+
+-- an apex behind the text of a hash, with a dot before it and at its end; the root is one dot
+abbrev pub apex_text : Name → Octets
+apex_text [] = codes "."
+apex_text (label ∷ above) = codes "." ++ (name_text (label ∷ above) ++ codes ".")
+
+-- what the records of one chain have alike between their hash and their data
+abbrev pub shared_text : Name → ℕ → Octets
+shared_text a ttl = apex_text a ++ (codes " " ++ (decimal ttl ++ codes " IN NSEC3 "))
+
+-- the text of a record up to its data
+abbrev pub text_before_data : Name → ℕ → Octets
+text_before_data owner ttl =
+    (name_text owner ++ codes ".") ++ (codes " " ++ (decimal ttl ++ codes " IN NSEC3 "))

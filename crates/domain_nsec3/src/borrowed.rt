@@ -2,40 +2,49 @@
 //! in octets of their own.
 ghost use Rattle.std.specs.Prelude.{◌≡◌, ◌<◌, [], IfOk, Ok, Some, length, slice_index_or};
 ghost use Rattle.domain_base.specs.Classes.{in_class};
-ghost use Rattle.domain_nsec3.specs.{Chain.HashedLink, Steps.{common_of, links_in, AreUsable}, View.link_text};
+ghost use Rattle.domain_nsec3.specs.{Chain.HashedLink, Steps.{common_of, links_in, AreUsable}, View.{link_text, shared_text}};
 ghost use Rattle.domain_nsec3.specs.View.{as_hashed_link, as_param_record, link_with};
 
 use crate::HashedOwner;
 use crate::chain::{HashedChain, hash_after};
-use crate::hash::Hashed;
+use crate::hash::{Hashed, display_hash};
 use domain_base::{Class, MakeName, ParsedName, ToName, Ttl};
-use domain_bitmap::{OwnerHash, RtypeBitmap};
+use domain_bitmap::{OwnerHash, RtypeBitmap, RtypeBitmaps};
 use domain_chain_rdata::{Nsec3, Nsec3param};
-use domain_octets::{FromBuilder, GrowingBuilder, Octets, OutOfMemory, SmallOctets};
+use domain_octets::{FromBuilder, GrowingBuilder, Octets, OutOfMemory, laws};
 use domain_record::Record;
 use std::alloc::Global;
 use std::fmt;
 use std::marker::Model;
 
-/// A record of a chain, whose octets lie in the chain. Contracts see its link. It is of class IN.
+/// A record of a chain. It borrows its octets from the chain. Contracts see its link. It is of
+/// class IN.
 #[derive(Drop)]
 pub struct BorrowedNsec3<'a> {
     owner: HashedOwner<'a>,
+    hash: &'a [u8],
+    /// What is printed between the hash and the data.
+    shared: &'a str,
     ttl: Ttl,
     data: Nsec3<&'a [u8]>,
 }
 
 impl<'a> Model for BorrowedNsec3<'a> {
+    ghost use Rattle.std.specs.Prelude.{◌≡◌, ◌≤◌, ◌++◌, length};
     ghost use Rattle.domain_base.specs.Classes.{in_class};
-    ghost use Rattle.domain_nsec3.specs.{Chain.HashedLink, View.link_with};
+    ghost use Rattle.domain_codecs.specs.Base32.{base32_lower};
+    ghost use Rattle.domain_nsec3.specs.{Chain.HashedLink, View.{link_with, text_before_data}};
 
     ghost Value = { HashedLink };
 
     ghost view = { λ r. link_with r.owner in_class r.ttl r.«data» };
+
+    ghost invariant = { λ r. (length r.hash.now ≤ 39)
+        × (text_before_data r.owner r.ttl ≡ base32_lower r.hash.now ++ r.shared.now) };
 }
 
 impl<'a> BorrowedNsec3<'a> {
-    /// The owner: the text of a hash as a label before the apex.
+    /// Returns the owner: the text of a hash as a label before the apex.
     pub fn owner(&self) -> &HashedOwner<'a>
         ensures { result.now ≡ self.now.owner }
     {
@@ -49,7 +58,7 @@ impl<'a> BorrowedNsec3<'a> {
         self.ttl
     }
 
-    /// The data.
+    /// Returns the data.
     pub fn data(&self) -> &Nsec3<&'a [u8]>
         ensures { self.now ≡ link_with self.now.owner in_class self.now.ttl result.now }
     {
@@ -62,42 +71,48 @@ impl<'a> BorrowedNsec3<'a> {
 impl fmt::Display for BorrowedNsec3<'_> {
     ghost output = { λ k. Some (link_text k) };
 
+    #[tactic(auto, using(std::proofs::lemmas::Grind::common_steps, crate::proofs::OwnerLemmas::link_spelled))]
     fn fmt<W: fmt::Write>(&self, f: &mut fmt::Formatter<W>) -> fmt::Result {
-        write!(f, "{} {} IN NSEC3 {}", self.owner, self.ttl, self.data)
+        display_hash(self.hash, f)?;
+        f.write_str(self.shared)?;
+        write!(f, "{}", self.data)
     }
 }
 
-/// The types at a place; past the end there are none.
-#[tactic(auto, using(std::proofs::lemmas::Grind::common_steps, std::proofs::lemmas::List::get_or_past))]
-fn lend_types(types: &[RtypeBitmap<SmallOctets>], place: usize) -> RtypeBitmap<&[u8]>
+/// Returns the types at a place; past the end there are none.
+fn lend_types<'a>(types: &'a RtypeBitmaps, place: usize) -> RtypeBitmap<&'a [u8]>
     ensures { result ≡ slice_index_or types.now place [] }
 {
     if let Some(own) = types.get(place) {
-        return own.with_octets(own.as_slice());
+        return own;
     }
-    let none: &[u8] = &[];
+    let none: &'a [u8] = &[];
     let Ok(types) = RtypeBitmap::from_octets(none) else {
         unreachable!();
     };
     types
 }
 
-/// The record at a place of a chain, by the record of its parameters, whose owner is the apex. It
+/// Returns the record at a place of a chain, whose parameters are those of an NSEC3PARAM record. It
 /// points to the hash after its own, the last one to the first.
 pub(crate) fn lend_record<'a, O: Octets>(
     chain: &'a HashedChain,
     at: usize,
     ttl: Ttl,
     nsec3param: &'a Record<ParsedName<'_>, Nsec3param<O>>,
+    shared: &'a str,
 ) -> BorrowedNsec3<'a>
     requires inside { at < length chain.now.hashed.items }
     requires sound { AreUsable nsec3param.now.owner chain.now }
+    requires shared { shared.now ≡ shared_text nsec3param.now.owner ttl }
     ensures { (d : HashedLink) → result ≡ slice_index_or
         (links_in nsec3param.now.owner chain.now (common_of nsec3param.now.«data» ttl)) at d }
 {
     let next = hash_after(chain.hashed.as_slice(), at);
     let hashed = &chain.hashed[at];
-    let owner = HashedOwner::new(nsec3param.owner().as_parsed(), hashed.hash.as_slice());
+    let hash = hashed.hash.as_slice();
+    laws::slices_hold_octets(hash);
+    let owner = HashedOwner::new(nsec3param.owner().as_parsed(), hash);
     let params = nsec3param.data();
     let salt = params.salt();
     let data = Nsec3::new(
@@ -108,10 +123,16 @@ pub(crate) fn lend_record<'a, O: Octets>(
         OwnerHash::from_octets_unchecked(next),
         lend_types(&chain.types, hashed.place),
     );
-    BorrowedNsec3 { owner, ttl, data }
+    BorrowedNsec3 {
+        owner,
+        hash,
+        shared,
+        ttl,
+        data,
+    }
 }
 
-/// A copy of octets.
+/// Returns a copy of octets.
 fn copy_octets<O: FromBuilder>(alloc: Global, octets: &[u8]) -> Result<O, OutOfMemory>
 where
     O::Builder: GrowingBuilder,
@@ -120,7 +141,7 @@ where
     O::from_octets(alloc, octets).map_err(|_| OutOfMemory)
 }
 
-/// A copy of a record.
+/// Returns a copy of a record.
 pub(crate) fn copy_record<O: FromBuilder, N: MakeName>(
     alloc: Global,
     borrowed: &BorrowedNsec3<'_>,
@@ -147,7 +168,7 @@ where
     Ok(Record::new(owner, Class::IN, borrowed.ttl(), data))
 }
 
-/// A copy of the record of parameters.
+/// Returns a copy of the record of parameters.
 pub(crate) fn copy_param<O: Octets, N: MakeName>(
     alloc: Global,
     borrowed: &Record<ParsedName<'_>, Nsec3param<O>>,

@@ -16,10 +16,10 @@ ghost use Rattle.domain_nsec3.specs.declared.hash.Hashed.{Hashed};
 use crate::GenerateNsec3Config;
 use crate::hash::{Hashed, hash_into};
 use domain_base::{ParsedName, ToName};
-use domain_bitmap::RtypeBitmap;
+use domain_bitmap::RtypeBitmaps;
 use domain_chain_rdata::Nsec3param;
 use domain_hasher::{Nsec3HashError, Nsec3Hasher};
-use domain_octets::{Octets, OutOfMemory, SmallOctets, TryClone};
+use domain_octets::{Octets, OutOfMemory, TryClone};
 use domain_record::ZoneData;
 use domain_records::{RecordsIter, SigningError, Sorter};
 use domain_zone::{ApexSoa, ListedOwners, list_owners};
@@ -49,9 +49,9 @@ fn push_ancestors<'a>(
     Ok(())
 }
 
-/// The empty non-terminals over these owners, each once, in canonical order: the names at or below
-/// the apex that are above an owner and are none themselves (RFC 5155, section 1.3); the owners
-/// among them, where these are wanted. They lie in the octets of the owners.
+/// Returns the empty non-terminals over these owners, each once, in canonical order: the names at
+/// or below the apex that are above an owner and are none themselves (RFC 5155, section 1.3); the
+/// owners among them, where these are wanted. They lie in the octets of the owners.
 ///
 /// Each owner adds the names above it that it does not share with the owner before it. The owners
 /// are in order, so these are no owners, and stand after all that was added before. Takes the
@@ -86,10 +86,10 @@ pub fn names_over<'a>(
 #[derive(Drop)]
 pub(crate) struct HashedChain {
     pub(crate) hashed: Vec<Hashed>,
-    pub(crate) types: Vec<RtypeBitmap<SmallOctets>>,
+    pub(crate) types: RtypeBitmaps,
 }
 
-/// Sorts hashes. A refusal leaves the list as it was.
+/// Sorts hashes. An error leaves the list as it was.
 pub(crate) fn sort_by_hash<S: Sorter>(hashed: &mut Vec<Hashed>) -> Result<(), OutOfMemory>
     ensures permutation { IsPermutation hashed.old.items hashed.new.items }
     ensures sorted { OnOk result
@@ -99,7 +99,7 @@ pub(crate) fn sort_by_hash<S: Sorter>(hashed: &mut Vec<Hashed>) -> Result<(), Ou
     S::sort_by(hashed, |a, b| a.hash.compare(&b.hash))
 }
 
-/// The hash after the one at a place; after the last one the first.
+/// Returns the hash after the one at a place; after the last one the first.
 pub(crate) fn hash_after(hashed: &[Hashed], at: usize) -> &[u8]
     requires { at < length hashed.now }
     ensures { (d : Hashed) → result.now
@@ -111,14 +111,14 @@ pub(crate) fn hash_after(hashed: &[Hashed], at: usize) -> &[u8]
     hashed[0].hash.as_slice()
 }
 
-/// The chain of these hashes, where no two of them are alike. Takes no memory.
+/// Returns the chain of these hashes, where no two of them are alike. Takes no memory.
 fn without_collision(
     hashed: Vec<Hashed>,
-    types: Vec<RtypeBitmap<SmallOctets>>,
+    types: RtypeBitmaps,
 ) -> Result<HashedChain, Nsec3HashError>
     requires { IsSortedByKey (λ h. h.hash) (slice_cmp nat_cmp) hashed.items }
     ensures ok { IfOk result (λ chain. (chain.hashed.items ≡ hashed.items)
-        × (chain.types.items ≡ types.items)) }
+        × (chain.types ≡ types)) }
     ensures apart { OnOk result
         (IsStrictlySortedBy (slice_cmp nat_cmp) (map (λ h. h.hash) hashed.items)) }
     ensures err { IfErr result (λ e. (e ≡ hash_error.CollisionDetected)
@@ -130,20 +130,20 @@ fn without_collision(
     Ok(HashedChain { hashed, types })
 }
 
-/// A chain over these names, of which the first own records and have these types: each is hashed,
-/// in the order of the list, and then they are put in the order of their hashes.
+/// Returns a chain over these names, of which the first own records and have these types: each is
+/// hashed, in the order of the list, and then they are put in the order of their hashes.
 fn hash_chain<S: Sorter, H: Nsec3Hasher, O: Octets>(
     alloc: Global,
     hasher: &H,
     params: &Nsec3param<O>,
     apex: &ParsedName<'_>,
     names: Vec<ParsedName<'_>>,
-    types: Vec<RtypeBitmap<SmallOctets>>,
+    types: RtypeBitmaps,
 ) -> Result<HashedChain, Nsec3HashError>
     ensures chain { IfOk result (λ chain. AreOrderedHashes apex.now
         (hash_by (H.answer hasher.now) (parameters_of params.now)) names.entry.items
         chain.hashed.items) }
-    ensures types { IfOk result (λ chain. chain.types.items ≡ types.items) }
+    ensures types { IfOk result (λ chain. chain.types ≡ types) }
     ensures fault { IfErr result (IsHashingFault apex.now
         (hash_by (H.answer hasher.now) (parameters_of params.now)) names.entry.items) }
 {
@@ -154,8 +154,8 @@ fn hash_chain<S: Sorter, H: Nsec3Hasher, O: Octets>(
     Ok(without_collision(hashed, types)?)
 }
 
-/// The names of a chain: these owners, which stand in canonical order from the apex on, and then
-/// their empty non-terminals.
+/// Returns the names of a chain: these owners, which stand in canonical order from the apex on, and
+/// then their empty non-terminals.
 fn with_empty<'a>(
     alloc: Global,
     apex: &ParsedName<'a>,
@@ -171,7 +171,7 @@ fn with_empty<'a>(
     Ok(names)
 }
 
-/// The chain of a zone whose SOA record is known.
+/// Returns the chain of a zone whose SOA record is known.
 pub(crate) fn chain_of_zone<S: Sorter, H: Nsec3Hasher, O: Octets, N: ToName, D: ZoneData>(
     alloc: Global,
     apex: &N,

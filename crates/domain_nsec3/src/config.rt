@@ -27,28 +27,28 @@ pub enum Nsec3ParamTtlMode {
 }
 
 impl Nsec3ParamTtlMode {
-    /// This TTL.
+    /// Returns this TTL.
     pub fn fixed(ttl: Ttl) -> Self
         ensures { result ≡ Nsec3ParamTtlMode.Fixed ttl }
     {
         Nsec3ParamTtlMode::Fixed(ttl)
     }
 
-    /// The TTL of the SOA record.
+    /// Returns the TTL of the SOA record.
     pub fn soa() -> Self
         ensures { result ≡ Nsec3ParamTtlMode.Soa }
     {
         Nsec3ParamTtlMode::Soa
     }
 
-    /// The MINIMUM field of the SOA record (RFC 2308, section 4).
+    /// Returns the MINIMUM field of the SOA record (RFC 2308, section 4).
     pub fn soa_minimum() -> Self
         ensures { result ≡ Nsec3ParamTtlMode.SoaMinimum }
     {
         Nsec3ParamTtlMode::SoaMinimum
     }
 
-    /// The TTL that the mode says, in seconds.
+    /// Returns the TTL that the mode says, in seconds.
     pub(crate) fn ttl(&self, soa: &ApexSoa) -> Ttl
         ensures { result ≡ param_ttl self.now soa.now }
     {
@@ -111,8 +111,8 @@ impl<O: Octets, Sort> GenerateNsec3Config<O, Sort> {
         }
     }
 
-    /// The same with the parameters of `Nsec3param::default`: SHA-1, no flags, no extra iterations
-    /// and no salt.
+    /// Returns the same with the parameters of `Nsec3param::default`: SHA-1, no flags, no extra
+    /// iterations and no salt.
     pub fn default(alloc: Global) -> Self
     where
         O: EmptyOctets,
@@ -126,7 +126,7 @@ impl<O: Octets, Sort> GenerateNsec3Config<O, Sort> {
         Self::new(Nsec3param::default(alloc))
     }
 
-    /// A copy. Uses the allocator of the salt's octets.
+    /// Returns a copy. Uses the allocator of the salt's octets.
     pub fn clone(&self) -> Result<Self, OutOfMemory>
         ensures { IfOk result (λ copy. copy ≡ self.now) }
     {
@@ -140,7 +140,8 @@ impl<O: Octets, Sort> GenerateNsec3Config<O, Sort> {
         })
     }
 
-    /// The same, but with another TTL of the NSEC3PARAM record. The other fields stay as they are.
+    /// Returns the same, but with another TTL of the NSEC3PARAM record. The other fields stay as
+    /// they are.
     pub fn with_ttl_mode(mut self, mode: Nsec3ParamTtlMode) -> Self
         ensures { result ≡ record self { nsec3param_ttl_mode = mode } }
     {
@@ -148,8 +149,8 @@ impl<O: Octets, Sort> GenerateNsec3Config<O, Sort> {
         self
     }
 
-    /// The same, but that the parameters have the bit of opt-out (RFC 5155, section 3.1.2.1). The
-    /// other bits and fields stay as they are.
+    /// Returns the same, except that the parameters have the bit of opt-out (RFC 5155, section
+    /// 3.1.2.1). The other bits and fields stay as they are.
     pub fn with_opt_out(mut self) -> Self
         ensures { result ≡ record self {
           params = record self.params { flags = with_opt_out self.params.flags };
@@ -159,8 +160,8 @@ impl<O: Octets, Sort> GenerateNsec3Config<O, Sort> {
         self
     }
 
-    /// The same, but that no unsigned delegation is left out, whatever the flags say. The other
-    /// fields stay as they are.
+    /// Returns the same, except that no unsigned delegation is left out, whatever the flags say.
+    /// The other fields stay as they are.
     pub fn without_opt_out_excluding_owner_names_of_unsigned_delegations(mut self) -> Self
         ensures { result ≡ record self {
           opt_out_exclude_owner_names_of_unsigned_delegations = false;
@@ -170,7 +171,8 @@ impl<O: Octets, Sort> GenerateNsec3Config<O, Sort> {
         self
     }
 
-    /// The same, but that no DNSKEY records are assumed. The other fields stay as they are.
+    /// Returns the same, except that no DNSKEY records are assumed. The other fields stay as they
+    /// are.
     pub fn without_assuming_dnskeys_will_be_added(mut self) -> Self
         ensures { result ≡ record self { assume_dnskeys_will_be_added = false } }
     {
@@ -178,7 +180,8 @@ impl<O: Octets, Sort> GenerateNsec3Config<O, Sort> {
         self
     }
 
-    /// The same, but that names below a DNAME are left out. The other fields stay as they are.
+    /// Returns the same, except that names below a DNAME are left out. The other fields stay as
+    /// they are.
     pub fn with_occlude_below_dname(mut self) -> Self
         ensures { result ≡ record self { occlude_below_dname = true } }
     {
@@ -215,12 +218,12 @@ impl<O: Octets, S> ChainTypes for GenerateNsec3Config<O, S> {
 
     fn types_of<N: ToName, D: ZoneData>(
         &self,
-        alloc: Global,
+        buffer: Vec<u8>,
         owner: &UnoccludedOwner<'_, N, D>,
         is_apex: bool,
     ) -> Result<RtypeBitmap<Vec<u8>>, OutOfMemory> {
         let assumed = self.assume_dnskeys_will_be_added & is_apex;
         let signed = !owner.is_unsigned_cut();
-        list_types(alloc, owner, signed, Rtype::NSEC3PARAM, is_apex, assumed)
+        list_types(buffer, owner, signed, Rtype::NSEC3PARAM, is_apex, assumed)
     }
 }

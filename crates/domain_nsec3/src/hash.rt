@@ -1,11 +1,12 @@
 //! Hashes of names, each in place, and their text.
-ghost use Rattle.std.specs.Prelude.{◌≡◌, ◌≤◌, length, take, ◌+◌, ◌<◌, ◌++◌, ◌∷◌, ◌⊎◌, [], Ok, Err, Some, None};
-ghost use Rattle.std.specs.Prelude.{All, IfOk, IfErr, IsErrOf, OnOk, vec_capacity, vec_len};
+ghost use Rattle.std.specs.Prelude.{◌≡◌, ◌≤◌, length, take, map, ◌+◌, ◌<◌, ◌++◌, ◌∷◌, ◌⊎◌, [], Ok, Err, Some, None};
+ghost use Rattle.std.specs.Prelude.{All, IfOk, IfErr, IfSome, IsErrOf, OnOk, OnSome, vec_capacity, vec_len};
 ghost use Rattle.std.specs.{Ordering.nat_cmp, Cmp.Lexicographic.slice_cmp, Fmt.WritesOnOk};
 ghost use Rattle.domain_octets.specs.{Octets.Octets, Text.dot};
 ghost use Rattle.domain_codecs.specs.Base32.{base32_lower};
 ghost use Rattle.domain_nsec3.specs.{Chain.{hashed_owner, hash_name, hash_fault, IsNoHash}, Steps.AreHashesOf};
-ghost use Rattle.domain_nsec3.specs.{Steps.{IsFirstRefused, IsHashed, IsRefusal}, View.{hash_by, parameters_of}};
+ghost use Rattle.domain_nsec3.specs.Steps.{AreFirstHashes, IsFirstRefused, IsHashed, IsPlacedHash, IsRefusal};
+ghost use Rattle.domain_nsec3.specs.View.{hash_by, parameters_of};
 ghost use Rattle.domain_names.specs.Text.{name_text};
 ghost use Rattle.domain_hasher.specs.declared.error.Nsec3HashError.TheVariants as hash_error;
 
@@ -34,7 +35,7 @@ fn write_hash<'a>(buffer: &'a mut [u8], hash: &[u8]) -> &'a [u8]
 }
 
 /// Prints the text of a hash in lower case.
-fn display_hash<W: fmt::Write>(hash: &[u8], f: &mut fmt::Formatter<W>) -> fmt::Result
+pub(crate) fn display_hash<W: fmt::Write>(hash: &[u8], f: &mut fmt::Formatter<W>) -> fmt::Result
     requires { length hash.now ≤ 39 }
     ensures { WritesOnOk W.write_str_gives f.old result (base32_lower hash.now) f.new }
 {
@@ -253,15 +254,112 @@ where
     Ok(make_owner(alloc, &apex, hash.as_slice())?)
 }
 
-/// The hashes of names, each with the place of its name, in their order, in a list that has room
-/// for them; else the first refusal. Takes no memory but the hasher's.
-pub(crate) fn hash_into<H: Nsec3Hasher, O: Octets>(
+/// Returns a hash with the place of its name, if it is of use as a hash below the apex.
+fn place_hash(apex: &ParsedName<'_>, hash: &[u8], place: usize) -> Option<Hashed>
+    ensures { IfSome result (IsPlacedHash apex.now hash.now place) }
+{
+    check_hash(apex, hash).ok()?;
+    let hash = NameHash::new(hash);
+    Some(Hashed { hash, place })
+}
+
+/// Returns the hashes of four names, in their order; nothing if the hasher refuses one of them, or
+/// is out of memory.
+fn hash_four<H: Nsec3Hasher, O: Octets>(
+    alloc: Global,
+    hasher: &H,
+    params: &Nsec3param<O>,
+    names: [&ParsedName<'_>; 4],
+) -> Option<[Vec<u8>; 4]>
+    ensures { IfSome result (λ hashes. map (λ hash. Ok hash.items) hashes
+        ≡ map (λ name. hash_name (hash_by (H.answer hasher.now) (parameters_of params.now))
+        name.now) names.entry) }
+{
+    let [first, second, third, fourth] = names;
+    let (mut a, mut b, mut c, mut d) = ([0; MAX_NAME], [0; MAX_NAME], [0; MAX_NAME], [0; MAX_NAME]);
+    let wires = [
+        first.lower_wire(&mut a),
+        second.lower_wire(&mut b),
+        third.lower_wire(&mut c),
+        fourth.lower_wire(&mut d),
+    ];
+    let (algorithm, iterations) = (params.hash_algorithm(), params.iterations());
+    let salt = params.salt().as_slice();
+    let Ok(hashes) = hasher.hash_four(alloc, wires, algorithm, iterations, salt) else {
+        return None;
+    };
+    Some(hashes)
+}
+
+/// Appends the hashes of the next four names to those of the names before them, each with the place
+/// of its name; returns whether it did. It appends nothing if one of the four is refused, or if the
+/// hasher is out of memory.
+fn push_four<H: Nsec3Hasher, O: Octets>(
+    alloc: Global,
+    hasher: &H,
+    params: &Nsec3param<O>,
+    apex: &ParsedName<'_>,
+    names: &[ParsedName<'_>],
+    hashed: &mut Vec<Hashed>,
+) -> Option<()>
+    requires four { length hashed.old.items + 4 ≤ length names.now }
+    requires room { length names.now ≤ vec_capacity hashed.old }
+    requires before { AreFirstHashes apex.now (hash_by (H.answer hasher.now)
+        (parameters_of params.now)) names.now hashed.old.items }
+    ensures hashes { AreFirstHashes apex.now (hash_by (H.answer hasher.now)
+        (parameters_of params.now)) names.now hashed.new.items }
+    ensures four { OnSome result (length hashed.new.items ≡ length hashed.old.items + 4) }
+    ensures none { (result ≡ None) → hashed.new.items ≡ hashed.old.items }
+    ensures capacity { vec_capacity hashed.new ≡ vec_capacity hashed.old }
+{
+    let at = hashed.len();
+    let group = [&names[at], &names[at + 1], &names[at + 2], &names[at + 3]];
+    let hashes = hash_four(alloc, hasher, params, group)?;
+    let first = place_hash(apex, hashes[0].as_slice(), at)?;
+    let second = place_hash(apex, hashes[1].as_slice(), at + 1)?;
+    let third = place_hash(apex, hashes[2].as_slice(), at + 2)?;
+    let fourth = place_hash(apex, hashes[3].as_slice(), at + 3)?;
+    hashed.push_reserved(first);
+    hashed.push_reserved(second);
+    hashed.push_reserved(third);
+    hashed.push_reserved(fourth);
+    Some(())
+}
+
+/// Appends the hashes of names to an empty list with room for them, four at a time, each with the
+/// place of its name; stops before four names that `push_four` does not append.
+fn hash_fours<H: Nsec3Hasher, O: Octets>(
     alloc: Global,
     hasher: &H,
     params: &Nsec3param<O>,
     apex: &ParsedName<'_>,
     names: &[ParsedName<'_>],
     mut hashed: Vec<Hashed>,
+) -> Vec<Hashed>
+    requires empty { hashed.items ≡ [] }
+    requires room { length names.now ≤ vec_capacity hashed }
+    ensures hashes { AreFirstHashes apex.now (hash_by (H.answer hasher.now)
+        (parameters_of params.now)) names.now result.items }
+    ensures room { length names.now ≤ vec_capacity result }
+{
+    'fours: while hashed.len() + 4 <= names.len() {
+        if push_four(alloc, hasher, params, apex, names, &mut hashed).is_none() {
+            return hashed;
+        }
+    }
+    hashed
+}
+
+/// The hashes of names, each with the place of its name, in their order, in a list that has room
+/// for them; else the first refusal. Four names at a time are passed to the hasher, as long as none
+/// is refused. Takes no memory but the hasher's.
+pub(crate) fn hash_into<H: Nsec3Hasher, O: Octets>(
+    alloc: Global,
+    hasher: &H,
+    params: &Nsec3param<O>,
+    apex: &ParsedName<'_>,
+    names: &[ParsedName<'_>],
+    hashed: Vec<Hashed>,
 ) -> Result<Vec<Hashed>, Nsec3HashError>
     requires empty { hashed.items ≡ [] }
     requires none { vec_len hashed ≡ 0 }
@@ -273,8 +371,9 @@ pub(crate) fn hash_into<H: Nsec3Hasher, O: Octets>(
         names.now e) }
     ensures memory { IsErrOf result hash_error.OutOfMemory → H.takes_memory hasher.now }
 {
-    for (place, name) in names.iter().enumerate() {
-        let octets = hash_checked(alloc, hasher, params, apex, name)?;
+    let mut hashed = hash_fours(alloc, hasher, params, apex, names, hashed);
+    for place in hashed.len()..names.len() {
+        let octets = hash_checked(alloc, hasher, params, apex, &names[place])?;
         let hash = NameHash::new(octets.as_slice());
         hashed.push_reserved(Hashed { hash, place });
     }

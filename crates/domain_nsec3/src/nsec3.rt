@@ -1,12 +1,12 @@
 //! The NSEC3 chain of a zone, whose records are made one by one, or all at once.
-ghost use Rattle.std.specs.Prelude.{◌≡◌, ◌<◌, ◌≤◌, ◌↔◌, [], All, length, slice_index_or, IsTrue, IfErr, IfOk, IfNone, IfSome, OnOk};
+ghost use Rattle.std.specs.Prelude.{◌≡◌, ◌<◌, ◌≤◌, ◌↔◌, [], All, length, slice_index_or, IsTrue, IfErr, IfOk, IfNone, IfSome, OnOk, string_bytes};
 ghost use Rattle.domain_base.specs.Classes.{in_class};
 ghost use Rattle.domain_records.specs.Order.{IsOneClass, IsInOrder};
 ghost use Rattle.domain_zone.specs.Zone.{zone_of};
 ghost use Rattle.domain_nsec3.specs.Chain.{HashedLink, IsChainParam, IsHashedChain, param_ttl, IsFaultless};
 ghost use Rattle.domain_nsec3.specs.{Chain.IsFirstFault, Meaning.{IsRecordOf, MeansTheZone}, Steps.{common_of, links_in}};
 ghost use Rattle.domain_nsec3.specs.{Steps.AreUsable, View.{as_param_record, config_of, hashed_links_of}};
-ghost use Rattle.domain_nsec3.specs.View.{parameters_of};
+ghost use Rattle.domain_nsec3.specs.View.{parameters_of, shared_text};
 
 use crate::GenerateNsec3Config;
 use crate::borrowed::{BorrowedNsec3, copy_param, copy_record, lend_record};
@@ -21,20 +21,25 @@ use domain_zone::{ApexSoa, find_soa};
 use std::alloc::Global;
 use std::marker::Model;
 
-/// The NSEC3 chain of a zone before its records are made, and the record that tells its parameters
-/// (RFC 5155, section 7.1). Contracts see the links that its records have, and that record. It
-/// borrows the apex, and holds 48 octets for each name of the chain, and for each of those that own
-/// records 48 more, its types: a caller that needs one record at a time needs no list of them.
+/// The NSEC3 chain of a zone before its records are made, and its NSEC3PARAM record (RFC 5155,
+/// section 7.1). It lends one NSEC3 record at a time. Contracts see the links that its records
+/// have, and the NSEC3PARAM record.
+///
+/// It borrows the apex. Each name takes 48 octets. A name that owns records takes 8 octets more,
+/// and the octets of its types.
 #[derive(Drop)]
 pub struct Nsec3Chain<'a, O: Octets> {
     chain: HashedChain,
     ttl: Ttl,
     nsec3param: Record<ParsedName<'a>, Nsec3param<O>>,
+    /// What all records have alike between their hash and their data, when printed.
+    shared: String,
 }
 
 impl<'a, O: Octets> Model for Nsec3Chain<'a, O> {
+    ghost use Rattle.std.specs.Prelude.{◌≡◌, string_bytes};
     ghost use Rattle.domain_nsec3.specs.{Chain.ChainRecords, Steps.{common_of, links_in}};
-    ghost use Rattle.domain_nsec3.specs.{Steps.AreUsable, View.as_param_record};
+    ghost use Rattle.domain_nsec3.specs.{Steps.AreUsable, View.{as_param_record, shared_text}};
 
     ghost Value = { ChainRecords };
 
@@ -43,10 +48,11 @@ impl<'a, O: Octets> Model for Nsec3Chain<'a, O> {
       param = as_param_record (λ n. n) c.nsec3param;
     } };
 
-    ghost invariant = { λ c. AreUsable c.nsec3param.owner c.chain };
+    ghost invariant = { λ c. AreUsable c.nsec3param.owner c.chain
+        × (string_bytes c.shared ≡ shared_text c.nsec3param.owner c.ttl) };
 }
 
-/// The NSEC3PARAM record of a chain, which borrows the apex.
+/// Returns the NSEC3PARAM record of a chain, which borrows the apex.
 fn param_record<'a, S, O: Octets, N: ToName>(
     apex: &'a N,
     config: &GenerateNsec3Config<O, S>,
@@ -65,7 +71,16 @@ fn param_record<'a, S, O: Octets, N: ToName>(
     Ok(Record::new(apex.as_parsed(), Class::IN, ttl, params))
 }
 
-/// The octets of a hash, each of which is below 256.
+/// Returns what the records of a chain have alike between their hash and their data.
+fn shared_text(alloc: Global, apex: &ParsedName<'_>, ttl: Ttl) -> Result<String, OutOfMemory>
+    ensures { IfOk result (λ text. string_bytes text ≡ shared_text apex.now ttl) }
+{
+    let dot = if apex.is_root() { "" } else { "." };
+    let apex = apex.fmt_with_dot();
+    Ok(format!(in alloc; "{dot}{apex} {ttl} IN NSEC3 ")?)
+}
+
+/// Returns the octets of a hash, each of which is below 256.
 #[tactic(auto, using(domain_octets::proofs::WordLemmas::octets_from_type))]
 fn as_octets(hash: &[u8]) -> &[u8]
     ensures same { result.now ≡ hash.now }
@@ -75,9 +90,9 @@ fn as_octets(hash: &[u8]) -> &[u8]
 }
 
 impl<'a, O: Octets> Nsec3Chain<'a, O> {
-    /// The NSEC3 chain of a zone and its NSEC3PARAM record (RFC 5155, section 7.1): those that
-    /// `generate_nsec3s` gives, with the same refusals, before the records are made. It borrows the
-    /// apex; the records of the zone are only read.
+    /// Returns the NSEC3 chain of a zone and its NSEC3PARAM record (RFC 5155, section 7.1): those
+    /// that `generate_nsec3s` gives, with the same refusals, before the records are made. It
+    /// borrows the apex; the records of the zone are only read.
     ///
     /// # Errors
     ///
@@ -115,14 +130,17 @@ impl<'a, O: Octets> Nsec3Chain<'a, O> {
         };
         let chain = chain_of_zone(alloc, apex, records, config, hasher, &soa)?;
         let nsec3param = param_record(apex, config, &soa)?;
+        let ttl = soa.chain_ttl();
+        let shared = shared_text(alloc, nsec3param.owner(), ttl)?;
         Ok(Nsec3Chain {
             chain,
-            ttl: soa.chain_ttl(),
+            ttl,
             nsec3param,
+            shared,
         })
     }
 
-    /// How many NSEC3 records the chain has.
+    /// Returns how many NSEC3 records the chain has.
     #[tactic(auto, using(crate::proofs::ChainLemmas::links_counted))]
     pub fn len(&self) -> usize
         ensures { result ≡ length self.now.links }
@@ -130,22 +148,22 @@ impl<'a, O: Octets> Nsec3Chain<'a, O> {
         self.chain.hashed.len()
     }
 
-    /// Whether the chain has no NSEC3 records. That of a zone has one for the apex.
+    /// Returns whether the chain has no NSEC3 records. That of a zone has one for the apex.
     pub fn is_empty(&self) -> bool
         ensures { IsTrue result ↔ (self.now.links ≡ []) }
     {
         self.len() == 0
     }
 
-    /// The NSEC3PARAM record of the apex, whose name it borrows.
+    /// Returns the NSEC3PARAM record of the apex, whose name it borrows.
     pub fn nsec3param(&self) -> &Record<ParsedName<'a>, Nsec3param<O>>
         ensures { as_param_record (λ n. n) result.now ≡ self.now.param }
     {
         &self.nsec3param
     }
 
-    /// The record at a place, in the order of hashes, which borrows from the chain; None past the
-    /// last one. Takes no memory.
+    /// Returns the record at a place, in the order of hashes, which borrows from the chain, or
+    /// `None` past the last one. Takes no memory.
     #[tactic(auto, using(crate::proofs::ChainLemmas::links_counted))]
     pub fn lend(&self, place: usize) -> Option<BorrowedNsec3<'_>>
         ensures some { IfSome result (λ made. (d : HashedLink)
@@ -155,10 +173,11 @@ impl<'a, O: Octets> Nsec3Chain<'a, O> {
         if place >= self.len() {
             return None;
         }
-        Some(lend_record(&self.chain, place, self.ttl, &self.nsec3param))
+        Some(lend_record(&self.chain, place, self.ttl, &self.nsec3param, &self.shared))
     }
 
-    /// The hash that the owner of the record at a place spells; None past the last one.
+    /// Returns the hash that the owner of the record at a place spells, or `None` past the last
+    /// one.
     pub fn hash_at(&self, place: usize) -> Option<&[u8]>
         ensures some { IfSome result (λ hash. (k : HashedLink)
             × IsRecordOf self.now.param.owner self.now.links place k hash.now) }
@@ -172,7 +191,7 @@ impl<'a, O: Octets> Nsec3Chain<'a, O> {
 }
 
 impl<'a, O: FromBuilder> Nsec3Chain<'a, O> {
-    /// All NSEC3 records, in the order of hashes.
+    /// Returns all NSEC3 records, in the order of hashes.
     pub fn records<N: MakeName>(
         &self,
         alloc: Global,
@@ -206,7 +225,7 @@ pub struct Nsec3Records<N, O: Octets> {
 }
 
 impl<N, O: Octets> Nsec3Records<N, O> {
-    /// These records.
+    /// Returns these records.
     pub fn new(nsec3s: Vec<Record<N, Nsec3<O>>>, nsec3param: Record<N, Nsec3param<O>>) -> Self
         ensures { result ≡ record { nsec3s = nsec3s; nsec3param = nsec3param } }
     {
@@ -214,11 +233,11 @@ impl<N, O: Octets> Nsec3Records<N, O> {
     }
 }
 
-/// The NSEC3 chain of a zone, and its NSEC3PARAM record (RFC 5155, section 7.1): one record for
-/// each original owner name. These are the owners that are at or below the apex and not strictly
-/// below a zone cut, and the empty non-terminals above them. Zone cuts without DS records are left
-/// out where the configuration says so and the flags have the bit of opt-out, and so are names
-/// strictly below an owner of a DNAME record where the configuration says so.
+/// Returns the NSEC3 chain of a zone, and its NSEC3PARAM record (RFC 5155, section 7.1): one record
+/// for each original owner name. These are the owners that are at or below the apex and not
+/// strictly below a zone cut, and the empty non-terminals above them. Zone cuts without DS records
+/// are left out where the configuration says so and the flags have the bit of opt-out, and so are
+/// names strictly below an owner of a DNAME record where the configuration says so.
 ///
 /// The records stand in the order of their hashes, each points to the next hash, the last one to
 /// the first. Each is of class IN, has the lesser of the SOA's MINIMUM and TTL as its TTL in
@@ -233,14 +252,14 @@ impl<N, O: Octets> Nsec3Records<N, O> {
 ///
 /// # Errors
 ///
-/// The first that stands: `SoaRecordCouldNotBeDetermined` where the apex does not own exactly one
-/// record of type SOA, or its data tell no MINIMUM; `MultipleTtlValues` where two records of one
-/// owner of the chain and one type other than RRSIG differ in TTL; for the first name of the chain,
-/// owners before empty non-terminals and each in canonical order, whose hash is of no use,
-/// `Nsec3HashingError` with `Hasher`, `OwnerHashError` or `Nsec3NameTooLong`; the same with
-/// `CollisionDetected` where two names of the chain have one hash; and `OutOfMemory`, which says
-/// that neither of the first two faults stands and leaves those of hashing open, since hashes take
-/// memory.
+/// The first of these that applies: `SoaRecordCouldNotBeDetermined` where the apex does not own
+/// exactly one record of type SOA, or its data tell no MINIMUM; `MultipleTtlValues` where two
+/// records of one owner of the chain and one type other than RRSIG differ in TTL; for the first
+/// name of the chain, owners before empty non-terminals and each in canonical order, whose hash is
+/// of no use, `Nsec3HashingError` with `Hasher`, `OwnerHashError` or `Nsec3NameTooLong`; the same
+/// with `CollisionDetected` where two names of the chain have one hash; and `OutOfMemory`, which
+/// says that neither of the first two faults stands and leaves those of hashing open, since hashes
+/// take memory.
 pub fn generate_nsec3s<S: Sorter, H: Nsec3Hasher, O, N: MakeName, D: ZoneData>(
     alloc: Global,
     apex: &N,

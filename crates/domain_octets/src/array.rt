@@ -37,7 +37,7 @@ impl<const K: usize> ArrayBuilder<K> {
 impl<const K: usize> TryClone for ArrayBuilder<K> {
     ghost is_clone = { λ b copy. copy ≡ b };
 
-    /// A copy. Takes no memory.
+    /// Returns a copy. Takes no memory.
     fn try_clone(&self) -> Result<Self, OutOfMemory>
         ensures copy { IfOk result (λ copy. copy ≡ self.now) }
         ensures always { IsOk result }

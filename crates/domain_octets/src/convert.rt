@@ -8,7 +8,7 @@ use std::alloc::Global;
 
 /// Octets that can be empty.
 pub trait EmptyOctets: Octets {
-    /// No octets. Takes no memory.
+    /// Returns no octets. Takes no memory.
     fn empty(alloc: Global) -> Self
     where
         Self: Sized,
@@ -20,8 +20,8 @@ pub trait CopyOctets: Octets {
     /// How many octets there can be at most. Where there is no limit, memory is taken for them.
     ghost capacity: { Option ℕ };
 
-    /// A copy of these octets. Answers `ShortBuf` where there is no room for them, and
-    /// `OutOfMemory` where there is no memory.
+    /// Returns a copy of these octets. Returns `ShortBuf` if there is no room for them, and
+    /// `OutOfMemory` if there is no memory.
     fn copy_octets(alloc: Global, octets: &[u8]) -> Result<Self, AppendError>
     where
         Self: Sized,
@@ -41,8 +41,8 @@ pub trait OctetsFrom<S> {
     /// Memory is taken for the value.
     ghost takes_memory: { Type 0 };
 
-    /// The same value over these octets. Answers `ShortBuf` where there is no room for it, and
-    /// `OutOfMemory` where there is no memory.
+    /// Returns the same value over these octets. Returns `ShortBuf` if there is no room for it, and
+    /// `OutOfMemory` if there is no memory.
     fn try_octets_from(alloc: Global, source: S) -> Result<Self, AppendError>
     where
         Self: Sized,
@@ -62,8 +62,8 @@ pub trait FlattenInto<T> {
     /// Memory is taken for the value.
     ghost takes_memory: { Type 0 };
 
-    /// The same value over octets of its own. Answers `ShortBuf` where there is no room for it, and
-    /// `OutOfMemory` where there is no memory.
+    /// Returns the same value over octets of its own. Returns `ShortBuf` if there is no room for
+    /// it, and `OutOfMemory` if there is no memory.
     fn try_flatten_into(self, alloc: Global) -> Result<T, AppendError>
     where
         Self: Sized,

@@ -1,4 +1,4 @@
-//! Why octets were not appended or not read, and want of memory.
+//! Why octets were not appended or not read, and lack of memory.
 ghost use Rattle.std.specs.Prelude.{◌≡◌, Some, codes};
 ghost use Rattle.domain_octets.specs.Octets.{append_error_text, parse_error_text};
 ghost use Rattle.domain_octets.specs.declared.error.AppendError.TheVariants as append_error;

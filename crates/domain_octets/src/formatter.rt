@@ -72,7 +72,7 @@ impl PieceFormatter {
         }
     }
 
-    /// The pieces in their order.
+    /// Returns the pieces in their order.
     pub fn pieces(&self) -> &[Piece]
         ensures { map piece_text result.now ≡ self.now }
     {

@@ -10,7 +10,7 @@ pub trait TryClone {
     /// The second value is a copy of the first.
     ghost is_clone: { Self → Self → Type 0 };
 
-    /// A copy. Answers `OutOfMemory` where there is no memory for it.
+    /// Returns a copy. Returns `OutOfMemory` if there is no memory for it.
     fn try_clone(&self) -> Result<Self, OutOfMemory>
     where
         Self: Sized,
@@ -22,7 +22,7 @@ pub trait Octets: TryClone {
     /// The octets.
     ghost octets: { Self → Octets };
 
-    /// The octets in one slice.
+    /// Returns the octets in one slice.
     fn as_slice(&self) -> &[u8]
         ensures { result.now ≡ octets self.now };
 
@@ -50,7 +50,7 @@ impl TryClone for Bytes {
 impl<'a> TryClone for &'a [u8] {
     ghost is_clone = { λ s copy. copy.now ≡ s.now };
 
-    /// The slice itself. Takes no memory.
+    /// Returns the slice itself. Takes no memory.
     fn try_clone(&self) -> Result<&'a [u8], OutOfMemory>
         ensures copy { IfOk result (λ copy. copy.now ≡ self.now.now) }
         ensures always { IsOk result }

@@ -32,7 +32,7 @@ impl Model for SmallOctets {
 }
 
 impl SmallOctets {
-    /// A copy of these octets. Takes no memory where there are at most 30, and answers
+    /// Returns a copy of these octets. Takes no memory where there are at most 30, and answers
     /// `OutOfMemory` where there is none for more.
     #[inline]
     pub fn from_slice(alloc: Global, octets: &[u8]) -> Result<Self, OutOfMemory>
@@ -48,7 +48,7 @@ impl SmallOctets {
 impl TryClone for SmallOctets {
     ghost is_clone = { λ s copy. copy ≡ s };
 
-    /// A copy. Takes no memory where there are at most 30 octets.
+    /// Returns a copy. Takes no memory where there are at most 30 octets.
     #[inline]
     fn try_clone(&self) -> Result<Self, OutOfMemory>
         ensures copy { IfOk result (λ copy. copy ≡ self.now) }

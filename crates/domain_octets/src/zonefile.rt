@@ -22,7 +22,7 @@ pub trait ZonefileFmt {
         ensures { OnOk result (F.pieces formatter.new ≡ F.pieces formatter.old
             ++ pieces self.now) };
 
-    /// Its text in one line.
+    /// Returns its text in one line.
     final fn display_zonefile(
         &self,
         alloc: Global,
@@ -40,7 +40,7 @@ pub trait ZonefileFmt {
     }
 }
 
-/// The tokens with one space between them.
+/// Returns the tokens with one space between them.
 #[tactic(auto, using(crate::proofs::WordLemmas::from_nothing))]
 fn simple_text(alloc: Global, pieces: &[Piece]) -> Result<String, OutOfMemory>
     ensures { IfOk result (λ text. string_bytes text ≡ simple_text (map piece_text pieces.now)) }

@@ -27,18 +27,18 @@ pub struct A {
 }
 
 impl A {
-    /// The data of this address.
+    /// Returns the data of this address.
     pub fn new(addr: Ipv4Addr) -> Self
         ensures { result ≡ record { addr = addr } }
     {
         A { addr }
     }
 
-    /// The data that the octets begin with: an address; what follows is left.
+    /// Returns the data that the octets begin with: an address; what follows is left.
     ///
     /// # Errors
     ///
-    /// `ShortInput` for fewer than four octets. The parser then stands where it stood.
+    /// `ShortInput` for fewer than four octets. The parser does not move then.
     pub fn parse<'a>(parser: &mut Parser<'a>) -> Result<Self, ParseError>
         ensures { Reads a a_values fault_of parser.old parser.new result }
     {
@@ -46,7 +46,8 @@ impl A {
         Ok(A::new(Ipv4Addr::from(octets)))
     }
 
-    /// The data that the tokens begin with: an address. A refusal leaves an end of the tokens.
+    /// Returns the data that the tokens begin with: an address. After an error, a suffix of the
+    /// tokens is left.
     pub fn scan<S: Scanner>(alloc: Global, scanner: &mut S) -> Result<Self, ScanError>
         ensures { ReadsTokens (Scans a) a_values (Refuses S.Octets.Builder.limit a)
             (S.tokens scanner.old) (S.tokens scanner.new) result }
@@ -55,14 +56,14 @@ impl A {
         Ok(A { addr })
     }
 
-    /// The address.
+    /// Returns the address.
     pub fn addr(&self) -> Ipv4Addr
         ensures { result ≡ self.now.addr }
     {
         self.addr
     }
 
-    /// The fields, in the order of the wire.
+    /// Returns the fields, in the order of the wire.
     pub(crate) fn fields(&self) -> Exactly<4>
         ensures { result.0 ≡ ipv4_octets self.now.addr }
     {
@@ -73,7 +74,7 @@ impl A {
 impl TryClone for A {
     ghost is_clone = { λ d copy. copy.addr ≡ d.addr };
 
-    /// A copy. Takes no memory.
+    /// Returns a copy. Takes no memory.
     fn try_clone(&self) -> Result<Self, OutOfMemory>
         ensures copy { IfOk result (λ copy. copy.addr ≡ self.now.addr) }
         ensures always { IsOk result }

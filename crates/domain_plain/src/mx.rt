@@ -27,7 +27,7 @@ pub struct Mx<N> {
 }
 
 impl<N> Mx<N> {
-    /// The data of this exchange.
+    /// Returns the data of this exchange.
     pub fn new(preference: u16, exchange: N) -> Self
         ensures { result ≡ record { preference = preference; exchange = exchange } }
     {
@@ -37,21 +37,21 @@ impl<N> Mx<N> {
         }
     }
 
-    /// The preference: the lowest one is tried first.
+    /// Returns the preference: the lowest one is tried first.
     pub fn preference(&self) -> u16
         ensures { result ≡ self.now.preference }
     {
         self.preference
     }
 
-    /// The name of the host.
+    /// Returns the name of the host.
     pub fn exchange(&self) -> &N
         ensures { result.now ≡ self.now.exchange }
     {
         &self.exchange
     }
 
-    /// A copy. Answers `OutOfMemory` where there is no memory for it.
+    /// Returns a copy. Returns `OutOfMemory` if there is no memory for it.
     pub fn clone(&self) -> Result<Self, OutOfMemory>
     where
         N: TryClone,
@@ -94,8 +94,8 @@ impl<M, N: OctetsFrom<M>> OctetsFrom<Mx<M>> for Mx<N> {
 }
 
 impl<N: ToName> Mx<N> {
-    /// The data that the tokens begin with: a decimal number and a name. A refusal leaves an end of
-    /// the tokens.
+    /// Returns the data that the tokens begin with: a decimal number and a name. After an error, a
+    /// suffix of the tokens is left.
     pub fn scan<S: Scanner<Name = N>>(alloc: Global, scanner: &mut S) -> Result<Self, ScanError>
     where
         N: Drop,
@@ -108,7 +108,7 @@ impl<N: ToName> Mx<N> {
         Ok(Mx::new(preference, exchange))
     }
 
-    /// The fields, in the order of the wire.
+    /// Returns the fields, in the order of the wire.
     pub(crate) fn fields(&self) -> (u16, ParsedName<'_>)
         ensures { (result.0 ≡ self.now.preference) × (result.1 ≡ N.labels self.now.exchange) }
     {
@@ -117,15 +117,15 @@ impl<N: ToName> Mx<N> {
 }
 
 impl<'a> Mx<ParsedName<'a>> {
-    /// The data that the octets begin with: a number of two octets and a name; what follows is
-    /// left.
+    /// Returns the data that the octets begin with: a number of two octets and a name; what follows
+    /// is left.
     ///
     /// # Errors
     ///
-    /// The first fault in field order: a missing octet of the number is `ShortInput`;
-    /// of a name, at the first label that is at fault, a missing octet is `ShortInput`, a length
-    /// over 63 or a pointer `Form("compressed or bad label")`, a name over 255 octets
-    /// `Form("long domain name")`. The parser then stands where it stood.
+    /// The first fault in field order: a missing octet of the number is `ShortInput`; of a name, at
+    /// the first label that is at fault, a missing octet is `ShortInput`, a length over 63 or a
+    /// pointer `Form("compressed or bad label")`, a name over 255 octets `Form("long domain
+    /// name")`. The parser does not move then.
     pub fn parse(parser: &mut Parser<'a>) -> Result<Self, ParseError>
         ensures { Reads mx (mx_values (λ name. name)) fault_of parser.old parser.new result }
     {

@@ -25,21 +25,21 @@ pub struct Ns<N> {
 }
 
 impl<N> Ns<N> {
-    /// The data of this server.
+    /// Returns the data of this server.
     pub fn new(nsdname: N) -> Self
         ensures { result ≡ record { nsdname = nsdname } }
     {
         Ns { nsdname }
     }
 
-    /// The name of the server.
+    /// Returns the name of the server.
     pub fn nsdname(&self) -> &N
         ensures { result.now ≡ self.now.nsdname }
     {
         &self.nsdname
     }
 
-    /// A copy. Answers `OutOfMemory` where there is no memory for it.
+    /// Returns a copy. Returns `OutOfMemory` if there is no memory for it.
     pub fn clone(&self) -> Result<Self, OutOfMemory>
     where
         N: TryClone,
@@ -78,7 +78,8 @@ impl<M, N: OctetsFrom<M>> OctetsFrom<Ns<M>> for Ns<N> {
 }
 
 impl<N: ToName> Ns<N> {
-    /// The data that the tokens begin with: a name. A refusal leaves an end of the tokens.
+    /// Returns the data that the tokens begin with: a name. After an error, a suffix of the tokens
+    /// is left.
     pub fn scan<S: Scanner<Name = N>>(alloc: Global, scanner: &mut S) -> Result<Self, ScanError>
     where
         N: Drop,
@@ -89,7 +90,7 @@ impl<N: ToName> Ns<N> {
         Ok(Ns { nsdname })
     }
 
-    /// The fields, in the order of the wire.
+    /// Returns the fields, in the order of the wire.
     pub(crate) fn fields(&self) -> ParsedName<'_>
         ensures { result ≡ N.labels self.now.nsdname }
     {
@@ -98,13 +99,13 @@ impl<N: ToName> Ns<N> {
 }
 
 impl<'a> Ns<ParsedName<'a>> {
-    /// The data that the octets begin with: a name; what follows is left.
+    /// Returns the data that the octets begin with: a name; what follows is left.
     ///
     /// # Errors
     ///
     /// The first fault in field order: of a name, at the first label that is at fault, a missing
     /// octet is `ShortInput`, a length over 63 or a pointer `Form("compressed or bad label")`, a
-    /// name over 255 octets `Form("long domain name")`. The parser then stands where it stood.
+    /// name over 255 octets `Form("long domain name")`. The parser does not move then.
     pub fn parse(parser: &mut Parser<'a>) -> Result<Self, ParseError>
         ensures { Reads ns (ns_values (λ name. name)) fault_of parser.old parser.new result }
     {

@@ -38,7 +38,7 @@ type SoaFields<'a> = ((ParsedName<'a>, ParsedName<'a>), SoaNumbers);
 type ScannedSoa<N> = ((Scanned<N>, Scanned<N>), SoaNumbers);
 
 impl<N> Soa<N> {
-    /// The data of these fields.
+    /// Returns the data of these fields.
     pub fn new(
         mname: N,
         rname: N,
@@ -69,21 +69,21 @@ impl<N> Soa<N> {
         }
     }
 
-    /// The name of the primary server.
+    /// Returns the name of the primary server.
     pub fn mname(&self) -> &N
         ensures { result.now ≡ self.now.mname }
     {
         &self.mname
     }
 
-    /// The mailbox of the person who is responsible for the zone, as a name.
+    /// Returns the mailbox of the person who is responsible for the zone, as a name.
     pub fn rname(&self) -> &N
         ensures { result.now ≡ self.now.rname }
     {
         &self.rname
     }
 
-    /// The version of the zone.
+    /// Returns the version of the zone.
     pub fn serial(&self) -> u32
         ensures { result ≡ self.now.serial }
     {
@@ -118,7 +118,7 @@ impl<N> Soa<N> {
         self.minimum
     }
 
-    /// The numbers, in the order of the wire.
+    /// Returns the numbers, in the order of the wire.
     fn numbers(&self) -> SoaNumbers
         ensures { result ≡ (
           (self.now.serial, (self.now.refresh, self.now.retry)),
@@ -131,7 +131,7 @@ impl<N> Soa<N> {
         )
     }
 
-    /// The data of these names and numbers.
+    /// Returns the data of these names and numbers.
     fn of_parts(mname: N, rname: N, numbers: SoaNumbers) -> Self
         ensures { result ≡ record {
           mname = mname;
@@ -155,7 +155,7 @@ impl<N> Soa<N> {
         }
     }
 
-    /// A copy. Answers `OutOfMemory` where there is no memory for it.
+    /// Returns a copy. Returns `OutOfMemory` if there is no memory for it.
     pub fn clone(&self) -> Result<Self, OutOfMemory>
     where
         N: TryClone + Drop,
@@ -206,8 +206,8 @@ impl<M, N: OctetsFrom<M> + Drop> OctetsFrom<Soa<M>> for Soa<N> {
 }
 
 impl<N: ToName> Soa<N> {
-    /// The data that the tokens begin with: two names and five decimal numbers. A refusal leaves an
-    /// end of the tokens.
+    /// Returns the data that the tokens begin with: two names and five decimal numbers. After an
+    /// error, a suffix of the tokens is left.
     pub fn scan<S: Scanner<Name = N>>(alloc: Global, scanner: &mut S) -> Result<Self, ScanError>
     where
         N: Drop,
@@ -220,7 +220,7 @@ impl<N: ToName> Soa<N> {
         Ok(Soa::of_parts(mname, rname, numbers))
     }
 
-    /// The fields, in the order of the wire.
+    /// Returns the fields, in the order of the wire.
     pub(crate) fn fields(&self) -> SoaFields<'_>
         ensures names { (result.0.0 ≡ N.labels self.now.mname)
             × (result.0.1 ≡ N.labels self.now.rname) }
@@ -237,15 +237,15 @@ impl<N: ToName> Soa<N> {
 }
 
 impl<'a> Soa<ParsedName<'a>> {
-    /// The data that the octets begin with: two names and five numbers of four octets; what follows
-    /// is left.
+    /// Returns the data that the octets begin with: two names and five numbers of four octets; what
+    /// follows is left.
     ///
     /// # Errors
     ///
     /// The first fault in field order: of a name, at the first label that is at fault, a missing
     /// octet is `ShortInput`, a length over 63 or a pointer `Form("compressed or bad label")`, a
     /// name over 255 octets `Form("long domain name")`; a missing octet of a number is
-    /// `ShortInput`. The parser then stands where it stood.
+    /// `ShortInput`. The parser does not move then.
     pub fn parse(parser: &mut Parser<'a>) -> Result<Self, ParseError>
         ensures { Reads soa (soa_values (λ name. name)) fault_of parser.old parser.new result }
     {

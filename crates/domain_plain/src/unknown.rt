@@ -61,14 +61,14 @@ impl<O: Octets> UnknownRecordData<O> {
         Ok(UnknownRecordData { rtype, data })
     }
 
-    /// The type of the data.
+    /// Returns the type of the data.
     pub fn rtype(&self) -> Rtype
         ensures { result ≡ self.now.rtype }
     {
         self.rtype
     }
 
-    /// The octets of the data, of which there are at most 65,535.
+    /// Returns the octets of the data, of which there are at most 65,535.
     pub fn data(&self) -> &O
         ensures octets { result.now ≡ self.now.«data» }
         ensures fits { length (O.octets self.now.«data») ≤ 65535 }
@@ -76,7 +76,7 @@ impl<O: Octets> UnknownRecordData<O> {
         &self.data
     }
 
-    /// A copy. Answers `OutOfMemory` where there is no memory for it.
+    /// Returns a copy. Returns `OutOfMemory` if there is no memory for it.
     pub fn clone(&self) -> Result<Self, OutOfMemory>
         ensures { IfOk result (λ copy. (copy.rtype ≡ self.now.rtype)
             × (O.octets copy.«data» ≡ O.octets self.now.«data»)) }
@@ -87,7 +87,7 @@ impl<O: Octets> UnknownRecordData<O> {
         })
     }
 
-    /// The fields, in the order of the wire.
+    /// Returns the fields, in the order of the wire.
     pub(crate) fn fields(&self) -> (AtMost<MAX_RDLEN>, Rest<'_>)
         ensures values { result.1.0.now ≡ O.octets self.now.«data» }
         ensures fits { AreOctets (O.octets self.now.«data») }
@@ -103,7 +103,7 @@ impl<O: Octets> UnknownRecordData<O> {
 #[derive(Drop)]
 struct GenericMark;
 
-/// A backslash and `#`. Refuses every other token as `Custom("illegal data")`.
+/// A backslash and `#`. Any other token is the error `Custom("illegal data")`.
 impl FromToken for GenericMark {
     ghost spells = { IsMark };
 
@@ -134,8 +134,8 @@ impl<S: Scanner> ScanFields<S> for GenericMark {
 }
 
 impl<O: FromBuilder> UnknownRecordData<O> {
-    /// The data of a type that the tokens spell in generic form: `\#`, the number of octets, and
-    /// the octets in Base 16, in any number of tokens.
+    /// Returns the data of a type that the tokens spell in generic form: `\#`, the number of
+    /// octets, and the octets in Base 16, in any number of tokens.
     ///
     /// # Errors
     ///
@@ -143,7 +143,7 @@ impl<O: FromBuilder> UnknownRecordData<O> {
     /// token in place of the mark; `Custom("decimal number expected")` for what is no number of at
     /// most 65,535; `Custom("illegal data")` for what is no Base 16; `ShortBuf` and `OutOfMemory`
     /// where the octets have no room or no memory; and `Custom("illegal data")` where they have,
-    /// but are another number of octets. A refusal leaves an end of the tokens.
+    /// but are another number of octets. After an error, a suffix of the tokens is left.
     pub fn scan<S: Scanner<Octets = O>>(
         alloc: Global,
         rtype: Rtype,
@@ -169,8 +169,7 @@ impl<'a> UnknownRecordData<&'a [u8]> {
     ///
     /// # Errors
     ///
-    /// `Form("record data too long")` for over 65,535 octets. The parser then stands where it
-    /// stood.
+    /// `Form("record data too long")` for over 65,535 octets. The parser does not move then.
     pub fn parse(rtype: Rtype, parser: &mut Parser<'a>) -> Result<Self, ParseError>
         ensures read { Reads unknown (unknown_values (λ octets. octets.now)) fault_of parser.old
             parser.new result }

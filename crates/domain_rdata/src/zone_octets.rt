@@ -22,14 +22,14 @@ use domain_record::ParseRecordData;
 use domain_rrsig::Rrsig;
 use std::alloc::Global;
 
-/// A name with the labels of another, in octets of its own.
+/// Returns a name with the labels of another, in octets of its own.
 fn name_like<N: MakeName, M: ToName>(alloc: Global, name: &M) -> Result<N, OutOfMemory>
     ensures { IfOk result (λ made. N.labels made ≡ M.labels name.now) }
 {
     N::make(alloc, name.as_wire())
 }
 
-/// A copy of octets. Refuses with `ShortBuf` or `OutOfMemory` alone.
+/// Returns a copy of octets. Refuses with `ShortBuf` or `OutOfMemory` alone.
 fn octets_like<O: FromBuilder>(alloc: Global, octets: &[u8]) -> Result<O, ScanError>
     ensures ok { IfOk result (λ made. O.octets made ≡ octets.now) }
     ensures err { IfErr result (λ e. CopyFault O.Builder.limit octets.now (scan_fault_of e)) }
@@ -49,7 +49,8 @@ impl From<IllegalData> for ScanError {
     }
 }
 
-/// The data of a type that all of the octets are. Refuses exactly octets that are no such data.
+/// Returns the data of a type that all of the octets are. Refuses exactly octets that are no such
+/// data.
 fn whole<'a, D: ParseRecordData<'a> + Drop>(
     rtype: Rtype,
     octets: &'a [u8],
@@ -73,14 +74,14 @@ fn whole<'a, D: ParseRecordData<'a> + Drop>(
     }
 }
 
-/// The address that octets are.
+/// Returns the address that octets are.
 fn a_of(octets: &[u8]) -> Result<A, ScanError>
     ensures { FromOctets None (plain a) a_values octets.now result }
 {
     Ok(whole(Rtype::A, octets)?)
 }
 
-/// The name of a server that octets are.
+/// Returns the name of a server that octets are.
 fn ns_of<N: MakeName>(alloc: Global, octets: &[u8]) -> Result<Ns<N>, ScanError>
     ensures { FromOctets None (plain ns) (ns_values N.labels) octets.now result }
 {
@@ -88,7 +89,7 @@ fn ns_of<N: MakeName>(alloc: Global, octets: &[u8]) -> Result<Ns<N>, ScanError>
     Ok(Ns::new(name_like(alloc, data.nsdname())?))
 }
 
-/// The start of a zone that octets are.
+/// Returns the start of a zone that octets are.
 fn soa_of<N: MakeName + Drop>(alloc: Global, octets: &[u8]) -> Result<Soa<N>, ScanError>
     ensures { FromOctets None (plain soa) (soa_values N.labels) octets.now result }
 {
@@ -106,7 +107,7 @@ fn soa_of<N: MakeName + Drop>(alloc: Global, octets: &[u8]) -> Result<Soa<N>, Sc
     ))
 }
 
-/// The mail exchange that octets are.
+/// Returns the mail exchange that octets are.
 fn mx_of<N: MakeName>(alloc: Global, octets: &[u8]) -> Result<Mx<N>, ScanError>
     ensures { FromOctets None (plain mx) (mx_values N.labels) octets.now result }
 {
@@ -114,7 +115,7 @@ fn mx_of<N: MakeName>(alloc: Global, octets: &[u8]) -> Result<Mx<N>, ScanError>
     Ok(Mx::new(data.preference(), name_like(alloc, data.exchange())?))
 }
 
-/// The key, or the digest of a key, that octets are.
+/// Returns the key, or the digest of a key, that octets are.
 fn key_of<O: FromBuilder + Drop, K: KeyKind>(
     alloc: Global,
     octets: &[u8],
@@ -126,7 +127,7 @@ fn key_of<O: FromBuilder + Drop, K: KeyKind>(
     Ok(data.with_octets(key))
 }
 
-/// The next name and the types that octets are.
+/// Returns the next name and the types that octets are.
 fn nsec_of<O: FromBuilder + Drop, N: MakeName + Drop>(
     alloc: Global,
     octets: &[u8],
@@ -139,7 +140,7 @@ fn nsec_of<O: FromBuilder + Drop, N: MakeName + Drop>(
     Ok(Nsec::new(next_name, data.types().with_octets(types)))
 }
 
-/// The signature that octets are.
+/// Returns the signature that octets are.
 fn rrsig_of<O: FromBuilder + Drop, N: MakeName + Drop>(
     alloc: Global,
     octets: &[u8],
@@ -152,7 +153,7 @@ fn rrsig_of<O: FromBuilder + Drop, N: MakeName + Drop>(
     Ok(data.with_octets(signer_name, signature))
 }
 
-/// The parameters that octets are.
+/// Returns the parameters that octets are.
 fn nsec3param_of<O: FromBuilder + Drop>(
     alloc: Global,
     octets: &[u8],
@@ -169,7 +170,7 @@ fn nsec3param_of<O: FromBuilder + Drop>(
     ))
 }
 
-/// The next hash and the types that octets are.
+/// Returns the next hash and the types that octets are.
 fn nsec3_of<O: FromBuilder + Drop>(alloc: Global, octets: &[u8]) -> Result<Nsec3<O>, ScanError>
     ensures { FromOctets O.Builder.limit next_by_hash nsec3_values octets.now result }
 {
@@ -188,9 +189,9 @@ fn nsec3_of<O: FromBuilder + Drop>(alloc: Global, octets: &[u8]) -> Result<Nsec3
 }
 
 impl<O: FromBuilder, N: ToName> ZoneRecordData<O, N> {
-    /// The data of a type that these octets are on the wire, as a message has them but without
-    /// compressed names (RFC 1035, section 3.3; RFC 3597, section 4). Data of a type that is not
-    /// known are any octets, at most 65,535.
+    /// Returns the data of a type that these octets are on the wire, as a message has them but
+    /// without compressed names (RFC 1035, section 3.3; RFC 3597, section 4). Data of a type that
+    /// is not known are any octets, at most 65,535.
     ///
     /// # Errors
     ///
@@ -214,7 +215,7 @@ impl<O: FromBuilder, N: ToName> ZoneRecordData<O, N> {
         }
     }
 
-    /// The data that the octets of a generic form are.
+    /// Returns the data that the octets of a generic form are.
     ///
     /// # Errors
     ///

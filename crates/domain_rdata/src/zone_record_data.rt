@@ -134,7 +134,7 @@ impl<O: Octets, N: ToName> ZoneData for ZoneRecordData<O, N> {
 impl<O: Octets, N: ToName> ZoneRecordData<O, N> {
     ghost use Rattle.domain_rdata.specs.Zone.{rtype_of, canonical_octets};
 
-    /// The order of the canonical octets of data of one type.
+    /// Returns the order of the canonical octets of data of one type.
     #[tactic(auto, using(crate::proofs::ScanLemmas::turned), unfolding(domain_fields::specs::Layout::octets_of))]
     fn same_type_cmp(&self, other: &Self) -> Ordering
         requires { rtype_of self.now ≡ rtype_of other.now }
@@ -182,7 +182,8 @@ impl<O: Octets, N: ToName> CanonicalOrd for ZoneRecordData<O, N> {
 }
 
 impl<O: Octets + Drop, N: ToName + Drop> ZoneRecordData<O, N> {
-    /// A copy: the same variant, with the same fields. Uses the allocators of the names and octets.
+    /// Returns a copy: the same variant, with the same fields. Uses the allocators of the names and
+    /// octets.
     pub fn clone(&self) -> Result<Self, OutOfMemory>
         ensures { IfOk result (IsZoneClone O.octets N.labels self.now) }
     {
@@ -204,7 +205,7 @@ impl<O: Octets + Drop, N: ToName + Drop> CloneRecordData for ZoneRecordData<O, N
     ghost clone_canonical = { zone_copies_tie O.octets N.labels };
 }
 
-/// Whether the tokens begin with the mark of the generic form.
+/// Returns whether the tokens begin with the mark of the generic form.
 fn is_generic<S: Scanner>(scanner: &S) -> bool
     ensures { IsTrue result ↔ IsGeneric (S.tokens scanner.now) }
 {
@@ -218,7 +219,7 @@ impl<O: FromBuilder, N: ToName> ZoneRecordData<O, N>
 where
     O::Builder: EmptyBuilder + Truncate + FreezeBuilder<Frozen = O> + Drop,
 {
-    /// The data of a type that the tokens begin with, in the text form of that type.
+    /// Returns the data of a type that the tokens begin with, in the text form of that type.
     ///
     /// # Errors
     ///
@@ -239,10 +240,10 @@ where
         with_types!(scan alloc, rtype, scanner)
     }
 
-    /// The data of a type that the tokens begin with: in the text form of that type, or, where the
-    /// first token is `\#`, in the generic form of any type (RFC 3597, section 5), whose octets
-    /// must be exactly data of the type. Data of types that have no variant of their own are held
-    /// as octets.
+    /// Returns the data of a type that the tokens begin with: in the text form of that type, or,
+    /// where the first token is `\#`, in the generic form of any type (RFC 3597, section 5), whose
+    /// octets must be exactly data of the type. Data of types that have no variant of their own are
+    /// held as octets.
     ///
     /// # Errors
     ///
@@ -250,10 +251,10 @@ where
     /// the generic form: `EndOfEntry` where it is missing, `Custom` where it is not of its form,
     /// `ShortBuf` and `OutOfMemory` where the octets of a name or of data have no room or no
     /// memory. Without the mark, `Custom("unknown record data")` for a type that has no text form
-    /// of its own, and no token is taken. With it, once all tokens are read,
-    /// `Custom("illegal data")` exactly where the octets are no data of the type, and, where they
-    /// are, `ShortBuf` or `OutOfMemory` for a part that has no room or no memory. A refusal leaves
-    /// an end of the tokens.
+    /// of its own, and no token is taken. With it, once all tokens are read, `Custom("illegal
+    /// data")` exactly where the octets are no data of the type, and, where they are, `ShortBuf` or
+    /// `OutOfMemory` for a part that has no room or no memory. After an error, a suffix of the
+    /// tokens is left.
     #[tactic(auto, using(std::proofs::lemmas::Grind::common_steps, crate::proofs::ScanLemmas::scan_steps))]
     pub fn scan_rdata<S: Scanner<Name = N, Octets = O>>(
         alloc: Global,

@@ -3,7 +3,7 @@ ghost use Rattle.std.specs.Prelude.{◌≡◌, ◌↔◌, ◌⊎◌, Ok, IfOk, I
 
 use domain_octets::AppendError;
 
-/// Both values. Answers `ShortBuf` where there was no room for one of them, and else `OutOfMemory`
+/// Both values. Returns `ShortBuf` where there was no room for one of them, and else `OutOfMemory`
 /// where one was not made.
 pub fn both<A: Drop, B: Drop>(
     first: Result<A, AppendError>,

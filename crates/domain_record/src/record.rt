@@ -20,7 +20,7 @@ pub struct Record<N, D> {
 }
 
 impl<N, D> Record<N, D> {
-    /// A record of these parts.
+    /// Returns a record of these parts.
     pub fn new(owner: N, class: Class, ttl: Ttl, data: D) -> Self
         ensures { result ≡ record { owner = owner; class = class; ttl = ttl; «data» = «data» } }
     {
@@ -32,14 +32,14 @@ impl<N, D> Record<N, D> {
         }
     }
 
-    /// The name that owns the record.
+    /// Returns the name that owns the record.
     pub fn owner(&self) -> &N
         ensures { result.now ≡ self.now.owner }
     {
         &self.owner
     }
 
-    /// The class.
+    /// Returns the class.
     pub fn class(&self) -> Class
         ensures { result ≡ self.now.class }
     {
@@ -53,14 +53,14 @@ impl<N, D> Record<N, D> {
         self.ttl
     }
 
-    /// The data.
+    /// Returns the data.
     pub fn data(&self) -> &D
         ensures { result.now ≡ self.now.«data» }
     {
         &self.data
     }
 
-    /// The owner, the class, the TTL and the data.
+    /// Returns the owner, the class, the TTL and the data.
     pub fn into_parts(self) -> (N, Class, Ttl, D)
         ensures { self ≡ record {
           owner = result.0;
@@ -84,7 +84,7 @@ impl<N, D> Record<N, D> {
         self.ttl = ttl;
     }
 
-    /// The data, for writing.
+    /// Returns the data, for writing.
     pub fn data_mut(&mut self) -> &mut D
         ensures* writes_back { sem 𝓛 (LendsData N.row D.row self.entry result) }
         ensures value { result.now ≡ self.old.«data» }
@@ -94,7 +94,7 @@ impl<N, D> Record<N, D> {
 }
 
 impl<N, D: RecordData> Record<N, D> {
-    /// The type of the data.
+    /// Returns the type of the data.
     pub fn rtype(&self) -> Rtype
         ensures { result ≡ D.rtype self.now.«data» }
     {
@@ -133,7 +133,7 @@ pub trait CloneRecordData: RecordData + CanonicalOrd + TryClone {
 }
 
 impl<N: TryClone + Drop, D: TryClone> Record<N, D> {
-    /// A copy. Answers `OutOfMemory` where there is no memory for it.
+    /// Returns a copy. Returns `OutOfMemory` if there is no memory for it.
     pub fn clone(&self) -> Result<Self, OutOfMemory>
         ensures { IfOk result (IsRecordClone N.is_clone D.is_clone self.now) }
     {

@@ -33,19 +33,19 @@ pub trait RecordData {
     /// The number of the data's type.
     ghost rtype: { Self → ℕ };
 
-    /// The type of the data.
+    /// Returns the type of the data.
     fn rtype(&self) -> Rtype
         ensures { result ≡ rtype self.now };
 }
 
 /// The data of a record as the chains of its zone see it: its type and, of an SOA, the MINIMUM.
 pub trait ZoneData: RecordData {
-    /// The MINIMUM field of the data of an SOA, in seconds (RFC 1035, section 3.3.13); None for
-    /// data that have no such field.
+    /// The MINIMUM field of the data of an SOA, in seconds (RFC 1035, section 3.3.13), or `None`
+    /// for data that have no such field.
     ghost minimum: { Self → Option ℕ };
 
     /// How long a negative answer from a zone that starts with these data may be cached (RFC 2308,
-    /// section 4): the MINIMUM field of an SOA; None for data that have no such field.
+    /// section 4): the MINIMUM field of an SOA, or `None` for data that have no such field.
     fn soa_minimum(&self) -> Option<Ttl>
         ensures { result ≡ minimum self.now };
 }
@@ -61,13 +61,13 @@ pub trait ParseRecordData<'a>: RecordData {
     /// Their values.
     ghost values: { Self → Values layout };
 
-    /// The data that the octets of a record of this type begin with; None, and nothing is read, for
-    /// every other type. Takes no memory.
+    /// Returns the data that the octets of a record of this type begin with; None, and nothing is
+    /// read, for every other type. Takes no memory.
     ///
     /// # Errors
     ///
-    /// The first fault in field order, as `parse` of the data's type says. The parser then stands
-    /// where it stood.
+    /// The first fault in field order, as `parse` of the data's type says. The parser does not move
+    /// then.
     fn parse_rdata(rtype: Rtype, parser: &mut Parser<'a>) -> Result<Option<Self>, ParseError>
     where
         Self: Sized,
@@ -90,7 +90,7 @@ pub trait ComposeRecordData: RecordData {
     /// The octets of their canonical form.
     ghost canonical: { Self → Octets };
 
-    /// How many octets are left of so many after the data; None where they don't fit.
+    /// Returns how many octets are left of so many after the data, or `None` if they don't fit.
     fn room_after(&self, limit: usize) -> Option<usize>
         ensures { SomeIff result (length (octets self.now) ≤ limit)
             (limit - length (octets self.now)) };
@@ -100,18 +100,20 @@ pub trait ComposeRecordData: RecordData {
         ensures { Appends B.limit result (B.octets target.old) (B.octets target.new)
             (in_form form (octets self.now) (canonical self.now)) };
 
-    /// The lexicographic order of the canonical octets and of other octets. Takes no memory.
+    /// Returns the lexicographic order of the canonical octets and of other octets. Takes no
+    /// memory.
     fn canonical_cmp_octets(&self, other: &[u8]) -> Ordering
         ensures { result ≡ slice_cmp nat_cmp (canonical self.now) other.now };
 
-    /// Whether the data have at most 65,535 octets, as many as a record can hold.
+    /// Returns whether the data have at most 65,535 octets, as many as a record can hold.
     fn fits_rdlen(&self) -> bool
         ensures { IsTrue result ↔ (length (octets self.now) ≤ 65535) }
     {
         self.room_after(MAX_RDLEN).is_some()
     }
 
-    /// How many octets the data have. Names are never compressed, so `compress` changes nothing.
+    /// Returns how many octets the data have. Names are never compressed, so `compress` changes
+    /// nothing.
     fn rdlen(&self, _compress: bool) -> Option<u16>
         requires { length (octets self.now) ≤ 65535 }
         ensures { result ≡ Some (length (octets self.now)) }

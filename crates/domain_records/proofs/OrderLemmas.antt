@@ -7,7 +7,9 @@ use Rattle.std.proofs.lemmas.{List.{take-append-drop, take_rest, get_or-take, ge
 use Rattle.std.proofs.lemmas.List.{length-take-le, length-drop, Filters.All-dedup, Elements.{All-contains_itself, AllZip-get_or, filter_agree}}
 use Rattle.std.proofs.lemmas.List.{Elements.{recursion_from_All, All-get_or, All-from_get_or}, Kept.{IsStrictlySortedBy-dedup, Any-dedup}}
 use Rattle.std.proofs.lemmas.List.{Quantifiers.all_pairs_remove, Sorted.{searchable_from_sorted, IsPermutation-insert, Contains-permutation, All-permutation}}
-use Rattle.std.proofs.lemmas.List.{Sorted.{IsPermutation-swap, IsPermutation-trans}, Folds.find_at, Sums.{position_or_len_is, fails_before_first}}
+use Rattle.domain_records.specs.Places.{IsKnownSort}
+use Rattle.std.proofs.lemmas.List.{Sorted.{IsPermutation-refl, IsPermutation-swap, IsPermutation-trans}}
+use Rattle.std.proofs.lemmas.List.{Folds.find_at, Sums.{position_or_len_is, fails_before_first}}
 use Rattle.std.proofs.lemmas.{List.{Sums.passes_at_first, Edits.{length-swap, swapped_from_swap}}, Grind.common_steps, Slice.Zip.AllZip-long, Bool.eqb-true}
 use Rattle.std.proofs.lemmas.{Bool.{eq-eqb, cases_Bool, cases_lt, cases_eq, Decides.nat_tests}, Option.{slice_get-get_or, slice_get_past}}
 use Rattle.std.specs.{declared.cmp.Ordering.{Ordering, TheVariants.{Less, Equal, Greater}}, Fn.{Mut, AlwaysReturns, ReturnsEach, ComparesAs}}
@@ -345,6 +347,15 @@ module _ {X : Type 0} {R : X → X → Ordering} (o : IsTotalOrder R) (xs : List
 pub first_of_none : {X : Type 0} (xs : List X) → None ≡ slice_get xs 0 → xs ≡ []
 first_of_none [] none = refl
 first_of_none (x ∷ xs) none = cc
+
+-- no records, sorted
+pub sort_of_none : {X : Type 0} (stable : Bool) (R : X → X → Ordering) (xs : List X) → xs ≡ [] → IsKnownSort stable R xs xs true
+sort_of_none stable R [] none =
+    record {
+      sorted = record { moved = IsPermutation-refl []; sorted = grind (arith, common_steps); earliest = λ s x. refl };
+      apart = λ on. sorted_nil R [] refl;
+    }
+sort_of_none stable R (x ∷ xs) none = absurd (cc none)
 
 -- ---- Neighbours.
 

@@ -91,7 +91,7 @@ pub enum InsertError<N, D> {
 }
 
 impl<N, D> InsertError<N, D> {
-    /// The record that was not put in.
+    /// Returns the record that was not put in.
     pub fn into_record(self) -> Record<N, D>
         ensures { result ≡ refused self }
     {

@@ -19,7 +19,7 @@ pub trait Grouping<T> {
     /// The test.
     ghost same: { T → T → Bool };
 
-    /// Whether `a` and `b` belong together.
+    /// Returns whether `a` and `b` belong together.
     fn same(a: &T, b: &T) -> bool
         ensures { result ≡ same a.now b.now };
 }
@@ -101,7 +101,7 @@ fn is_same<T, G: Grouping<T>>(records: &SliceRefsOrOwned<'_, T>, i: usize, j: us
     G::same(records.at(i), records.at(j))
 }
 
-/// The length of the first group.
+/// Returns the length of the first group.
 fn first_run<T, G: Grouping<T>>(records: &SliceRefsOrOwned<'_, T>) -> usize
     requires { 0 < length (items_of records.now) }
     ensures { IsFirstRun G.same (items_of records.now) result }
@@ -132,7 +132,7 @@ pub(crate) fn take_group<'a, T, G: Grouping<T>>(
     Some(group)
 }
 
-/// Whether the elements are one group, or none.
+/// Returns whether the elements are one group, or none.
 pub(crate) fn is_one_run<T, G: Grouping<T>>(records: &SliceRefsOrOwned<'_, T>) -> bool
     ensures { IsTrue result ↔ HoldsOfNeighbours G.same (items_of records.now) }
 {
@@ -140,7 +140,7 @@ pub(crate) fn is_one_run<T, G: Grouping<T>>(records: &SliceRefsOrOwned<'_, T>) -
 }
 
 /// The records of one owner, borrowed from a longer list: a maximal run of records whose owners
-/// differ in the case of letters at most. Contracts see the list of the records.
+/// differ at most in the case of letters. Contracts see the list of the records.
 #[derive(Drop)]
 pub struct OwnerRrs<'a, N: ToName, D> {
     records: SliceRefsOrOwned<'a, Record<N, D>>,
@@ -159,23 +159,23 @@ impl<'a, N: ToName, D> Model for OwnerRrs<'a, N, D> {
 }
 
 impl<'a, N: ToName, D> OwnerRrs<'a, N, D> {
-    /// The owner, as the first record spells it. The owners of the others differ from it in the
-    /// case of letters at most.
+    /// Returns the owner, as the first record spells it. The owners of the others differ from it in
+    /// the case of letters at most.
     pub fn owner(&self) -> &'a N
         ensures { HasFirst (λ r. r.owner ≡ result.now) self.now }
     {
         self.records.at(0).owner()
     }
 
-    /// The class of the first record.
+    /// Returns the class of the first record.
     pub fn class(&self) -> Class
         ensures { HasFirst (λ r. r.class ≡ result) self.now }
     {
         self.records.at(0).class()
     }
 
-    /// Whether some record is NS, and the owner is not the apex. For an owner in the zone it then
-    /// is a delegation.
+    /// Returns whether some record is NS, and the owner is not the apex. For an owner in the zone
+    /// it then is a delegation.
     pub fn is_zone_cut(&self, apex: &N) -> bool
     where
         D: RecordData,
@@ -184,7 +184,7 @@ impl<'a, N: ToName, D> OwnerRrs<'a, N, D> {
         !self.owner().name_eq(apex) && has_type(&self.records, Rtype::NS)
     }
 
-    /// Whether the owner is at or below the apex.
+    /// Returns whether the owner is at or below the apex.
     pub fn is_in_zone(&self, apex: &N) -> bool
         ensures { IsTrue result ↔ HasFirst (λ r. IsAtOrBelow (N.labels r.owner) (N.labels apex.now))
             self.now }
@@ -192,7 +192,7 @@ impl<'a, N: ToName, D> OwnerRrs<'a, N, D> {
         self.owner().ends_with(apex)
     }
 
-    /// The groups of records of one type, in the order in which they stand.
+    /// Returns the groups of records of one type, in the order in which they stand.
     pub fn rrsets(&self) -> OwnerRrsIter<'a, N, D>
     where
         D: RecordData,
@@ -201,7 +201,7 @@ impl<'a, N: ToName, D> OwnerRrs<'a, N, D> {
         OwnerRrsIter::new(self.records.clone())
     }
 
-    /// The same group. Takes no memory.
+    /// Returns the same group. Takes no memory.
     pub fn clone(&self) -> OwnerRrs<'a, N, D>
         ensures { result ≡ self.now }
     {
@@ -210,7 +210,7 @@ impl<'a, N: ToName, D> OwnerRrs<'a, N, D> {
         }
     }
 
-    /// The records in order.
+    /// Returns the records in order.
     pub fn records(&self) -> SliceRefsOrOwnedIterator<'a, Record<N, D>>
         ensures { result ≡ self.now }
     {
@@ -218,7 +218,7 @@ impl<'a, N: ToName, D> OwnerRrs<'a, N, D> {
     }
 }
 
-/// Whether some record is of this type.
+/// Returns whether some record is of this type.
 fn has_type<N, D: RecordData>(records: &SliceRefsOrOwned<'_, Record<N, D>>, wanted: Rtype) -> bool
     ensures { IsTrue result ↔ Any (λ r. D.rtype r.«data» ≡ wanted) (items_of records.now) }
 {
@@ -266,14 +266,14 @@ impl<'a, N: ToName, D> RecordsIter<'a, N, D> {
         RecordsIter::new(SliceRefsOrOwned::new_from_owned(records))
     }
 
-    /// Whether no record is left.
+    /// Returns whether no record is left.
     pub fn is_empty(&self) -> bool
         ensures { IsTrue result ↔ (self.now ≡ []) }
     {
         self.left.len() == 0
     }
 
-    /// The first record left.
+    /// Returns the first record left.
     pub fn first(&self) -> &'a Record<N, D>
         requires { 0 < length self.now }
         ensures { HasFirst (λ r. r ≡ result.now) self.now }
@@ -281,7 +281,7 @@ impl<'a, N: ToName, D> RecordsIter<'a, N, D> {
         self.left.at(0)
     }
 
-    /// The records that are left, one after another.
+    /// Returns the records that are left, one after another.
     pub fn records(&self) -> SliceRefsOrOwnedIterator<'a, Record<N, D>>
         ensures { result ≡ self.now }
     {
@@ -299,7 +299,7 @@ impl<'a, N: ToName, D> RecordsIter<'a, N, D> {
         self.left = self.left.back(n);
     }
 
-    /// Whether the records left have one class. It holds where none is left.
+    /// Returns whether the records left have one class. It holds where none is left.
     #[tactic(auto, using(crate::proofs::OrderLemmas::one_class))]
     pub fn is_one_class(&self) -> bool
         ensures { IsTrue result ↔ IsOneClass self.now }
@@ -309,7 +309,7 @@ impl<'a, N: ToName, D> RecordsIter<'a, N, D> {
 }
 
 impl<'a, N: ToName, D: RecordData> RecordsIter<'a, N, D> {
-    /// Whether the owners of the records left never descend in the canonical order of names
+    /// Returns whether the owners of the records left never descend in the canonical order of names
     /// (RFC 4034, section 6.1), and their types never descend within an owner. It holds where no
     /// record is left.
     #[tactic(auto, using(crate::proofs::OrderLemmas::in_order))]
@@ -354,7 +354,7 @@ impl<'a, N, D: RecordData> Model for Rrset<'a, N, D> {
     ghost invariant = { λ s. IsRrset D.rtype (items_of s.records) };
 }
 
-/// Whether the records have one TTL, or the first is an RRSIG.
+/// Returns whether the records have one TTL, or the first is an RRSIG.
 #[tactic(auto, using(crate::proofs::OrderLemmas::one_ttl))]
 fn has_one_ttl<N, D: RecordData>(records: &SliceRefsOrOwned<'_, Record<N, D>>) -> bool
     requires { 0 < length (items_of records.now) }
@@ -364,7 +364,7 @@ fn has_one_ttl<N, D: RecordData>(records: &SliceRefsOrOwned<'_, Record<N, D>>) -
 }
 
 impl<'a, N, D: RecordData> Rrset<'a, N, D> {
-    /// The records of a slice as an RRset.
+    /// Returns the records of a slice as an RRset.
     ///
     /// # Errors
     ///
@@ -384,7 +384,8 @@ impl<'a, N, D: RecordData> Rrset<'a, N, D> {
         Ok(Rrset { records })
     }
 
-    /// The records that the references point to, as an RRset. Its errors are those of `new`.
+    /// Returns the records that the references point to, as an RRset. Its errors are those of
+    /// `new`.
     pub fn new_from_refs(records: &'a [&'a Record<N, D>]) -> Result<Self, SigningError>
         ensures ok { IfOk result
             (λ set. (set ≡ map (λ p. p.now) records.now)
@@ -402,28 +403,28 @@ impl<'a, N, D: RecordData> Rrset<'a, N, D> {
         Rrset::new(SliceRefsOrOwned::new_from_owned(records))
     }
 
-    /// The owner of the first record.
+    /// Returns the owner of the first record.
     pub fn owner(&self) -> &'a N
         ensures { HasFirst (λ r. r.owner ≡ result.now) self.now }
     {
         self.first().owner()
     }
 
-    /// The class of the first record.
+    /// Returns the class of the first record.
     pub fn class(&self) -> Class
         ensures { HasFirst (λ r. r.class ≡ result) self.now }
     {
         self.first().class()
     }
 
-    /// The type of the first record.
+    /// Returns the type of the first record.
     pub fn rtype(&self) -> Rtype
         ensures { HasFirst (λ r. D.rtype r.«data» ≡ result) self.now }
     {
         self.first().rtype()
     }
 
-    /// The TTL of the first record, which is that of all unless the first is an RRSIG.
+    /// Returns the TTL of the first record, which is that of all unless the first is an RRSIG.
     pub fn ttl(&self) -> Ttl
         ensures first { HasFirst (λ r. r.ttl ≡ result) self.now }
         ensures one { HasOneTtl D.rtype self.now }
@@ -431,21 +432,21 @@ impl<'a, N, D: RecordData> Rrset<'a, N, D> {
         self.records.at(0).ttl()
     }
 
-    /// The first record.
+    /// Returns the first record.
     pub fn first(&self) -> &'a Record<N, D>
         ensures { HasFirst (λ r. r ≡ result.now) self.now }
     {
         self.records.at(0)
     }
 
-    /// The records in order.
+    /// Returns the records in order.
     pub fn iter(&self) -> SliceRefsOrOwnedIterator<'a, Record<N, D>>
         ensures { result ≡ self.now }
     {
         self.records.iter()
     }
 
-    /// The number of records, which is at least 1.
+    /// Returns the number of records, which is at least 1.
     pub fn len(&self) -> usize
         ensures number { result ≡ length self.now }
         ensures some { 0 < result }
@@ -453,14 +454,14 @@ impl<'a, N, D: RecordData> Rrset<'a, N, D> {
         self.records.len()
     }
 
-    /// The slice of the records.
+    /// Returns the slice of the records.
     pub fn into_inner(self) -> SliceRefsOrOwned<'a, Record<N, D>>
         ensures { items_of result ≡ self.entry }
     {
         self.records
     }
 
-    /// The same records. Takes no memory.
+    /// Returns the same records. Takes no memory.
     pub fn clone(&self) -> Rrset<'a, N, D>
         ensures { result ≡ self.now }
     {

@@ -36,21 +36,21 @@ fn item_at<T>(items: &[T], i: usize) -> &T
 }
 
 impl<'a, T> SliceRefsOrOwned<'a, T> {
-    /// What the references point to, in their order.
+    /// Returns what the references point to, in their order.
     pub fn new_from_refs(refs: &'a [&'a T]) -> Self
         ensures { items_of result ≡ map (λ p. p.now) refs.now }
     {
         SliceRefsOrOwned::Refs(RefSlice { refs })
     }
 
-    /// The values of a slice.
+    /// Returns the values of a slice.
     pub fn new_from_owned(owned: &'a [T]) -> Self
         ensures { items_of result ≡ owned.now }
     {
         SliceRefsOrOwned::Owned(owned)
     }
 
-    /// The number of values.
+    /// Returns the number of values.
     pub fn len(&self) -> usize
         ensures { result ≡ length (items_of self.now) }
     {
@@ -60,7 +60,7 @@ impl<'a, T> SliceRefsOrOwned<'a, T> {
         }
     }
 
-    /// The value at a place, counted from 0.
+    /// Returns the value at a place, counted from 0.
     pub fn at(&self, i: usize) -> &'a T
         requires { i < length (items_of self.now) }
         ensures { slice_get (items_of self.now) i ≡ Some result.now }
@@ -71,7 +71,7 @@ impl<'a, T> SliceRefsOrOwned<'a, T> {
         }
     }
 
-    /// The first so many values.
+    /// Returns the first so many values.
     pub fn front(&self, n: usize) -> SliceRefsOrOwned<'a, T>
         requires { n ≤ length (items_of self.now) }
         ensures { items_of result ≡ take n (items_of self.now) }
@@ -82,7 +82,7 @@ impl<'a, T> SliceRefsOrOwned<'a, T> {
         }
     }
 
-    /// All values but the first so many.
+    /// Returns all values but the first so many.
     pub fn back(&self, n: usize) -> SliceRefsOrOwned<'a, T>
         requires { n ≤ length (items_of self.now) }
         ensures { items_of result ≡ drop n (items_of self.now) }
@@ -93,7 +93,7 @@ impl<'a, T> SliceRefsOrOwned<'a, T> {
         }
     }
 
-    /// The place of the first value of which the test answers true.
+    /// Returns the place of the first value of which the test answers true.
     pub(crate) fn first_match<F: Fn(&T) -> bool>(&self, test: &F) -> Option<usize>
         requires { F.IsAlwaysCallable test.now }
         ensures { IsFirstMatch F.Fn test.now (items_of self.now) result }
@@ -106,14 +106,14 @@ impl<'a, T> SliceRefsOrOwned<'a, T> {
         None
     }
 
-    /// The values in order. What the iterator hands out outlives it.
+    /// Returns the values in order. What the iterator hands out outlives it.
     pub fn iter(&self) -> SliceRefsOrOwnedIterator<'a, T>
         ensures { result ≡ items_of self.now }
     {
         SliceRefsOrOwnedIterator { left: self.clone() }
     }
 
-    /// The same slice. Takes no memory.
+    /// Returns the same slice. Takes no memory.
     pub fn clone(&self) -> SliceRefsOrOwned<'a, T>
         ensures { items_of result ≡ items_of self.now }
     {

@@ -1,13 +1,15 @@
-//! Sorting, by owner first where that is right: runs of neighbours of one owner, by the keys of
-//! their owners, lead to an order of the records' places. Keys and runs are hints, of which nothing
-//! is promised: they decide what is compared, and the order is checked before a record is moved.
+//! Sorting of records in canonical order.
+//!
+//! Neighbours of one owner are a run. Runs are sorted by keys of their owners, and the runs of an
+//! owner by their records. This gives the order of the records' places. Keys and runs are hints: no
+//! clause is about them. The order of the places is checked before a record is moved.
 ghost use Rattle.std.specs.Prelude.{◌≡◌, ◌<◌, ◌≤◌, length, take, slice_index, slice_index_or, Bool, true, false, IsTrue, IfOk, OnOk, OnErr};
 ghost use Rattle.std.specs.{declared.cmp.Ordering.Ordering, Ordering.is_eq, Cmp.IsTotalOrder};
 ghost use Rattle.std.specs.List.Sorted.{IsPermutation, IsSorted, IsStable, IsStrictlySortedBy};
 ghost use Rattle.domain_record.specs.Record.{record_cmp};
 ghost use Rattle.domain_records.specs.Order.{owner_cmp, rest_cmp, AreRanks, IsArranged, compared_places};
 ghost use Rattle.domain_records.specs.Order.{AreAscending, AreDistinct, IsSortOf, IsUnion, AnswersBy};
-ghost use Rattle.domain_records.specs.Places.{AreKnown};
+ghost use Rattle.domain_records.specs.Places.{AreKnown, IsKnownSort};
 
 use domain_base::{CanonicalOrd, ToName};
 use domain_octets::OutOfMemory;
@@ -15,17 +17,17 @@ use domain_record::{Record, RecordData};
 use std::alloc::Global;
 use std::cmp::Ordering;
 
-/// A way to sort a list. A caller that wants other resources used than `DefaultSorter` uses brings
-/// one of its own.
+/// A way to sort a list. Implement it to sort with other resources than those of `DefaultSorter`,
+/// such as threads.
 pub trait Sorter {
-    /// Whether elements that the order calls equal stay as they stood.
+    /// Whether equal elements keep their order.
     ghost is_stable: { Bool };
 
-    /// Sorts the list by the one total order that `compare` answers by.
+    /// Sorts the list by the total order of `compare`. An error leaves the list as it was.
     ///
     /// # Errors
     ///
-    /// `OutOfMemory` where memory was wanting. The list is then as it was.
+    /// `OutOfMemory`.
     fn sort_by<T, F: Fn(&T, &T) -> Ordering>(
         records: &mut Vec<T>,
         compare: F,
@@ -71,8 +73,8 @@ impl Sorter for InPlaceSorter {
     }
 }
 
-/// A digit of six bits for each octet, in the order of lowered octets, 0 left out. Those of usual
-/// names, `*` to `9` and, lowered, `_` to `z`, have one of their own.
+/// The digit of each octet, from 1 to 47, in the order of octets in lower case. The octets of
+/// ordinary names, `*` to `9` and `_` to `z`, have digits of their own.
 const DIGITS: &[u8; 256] = &[
     1, 1, 1, 1, 1, 1, 1, 1, 1, 1, 1, 1, 1, 1, 1, 1, 1, 1, 1, 1, 1, 1, 1, 1, 1, 1, 1, 1, 1, 1, 1, 1,
     1, 1, 1, 1, 1, 1, 1, 1, 1, 1, 2, 3, 4, 5, 6, 7, 8, 9, 10, 11, 12, 13, 14, 15, 16, 17, 18, 18,
@@ -87,35 +89,36 @@ const DIGITS: &[u8; 256] = &[
     47, 47, 47, 47,
 ];
 
-/// A key with a digit before the others. The last goes.
+/// Puts a digit before the digits of a key, and drops the last one.
 fn with_digit(key: u128, digit: u8) -> u128 {
     key >> 6 | u128::from(digit) << 122
 }
 
-/// A key with the digits of a label, and a 0 that ends it, before the others.
+/// Puts the digits of a label, with a 0 at its end, before the digits of a key.
 fn with_label(key: u128, label: &[u8]) -> u128 {
     label.iter().rev().fold(with_digit(key, 0), |key, octet| {
         with_digit(key, DIGITS[usize::from(*octet)])
     })
 }
 
-/// A number for a name: the first 21 digits, of six bits each, of its labels, from the last on,
-/// below the first `shared` labels from the root. Names in canonical order that share these labels
-/// have keys that do not descend. That is a hint, which no clause states: who searches or sorts by
-/// keys tests with the names what they suggest.
+/// Returns a key for a name: 21 digits of six bits of its labels below the last `shared` labels,
+/// beginning with the last one. Names in canonical order that share these labels have keys that do
+/// not descend.
+///
+/// The key is a hint: no clause states its order. Compare the names to confirm what keys suggest.
 pub fn owner_key<N: ToName>(name: &N, shared: usize) -> u128 {
     let below = name.count_labels().saturating_sub(shared);
     name.labels().take(below).fold(0, with_label)
 }
 
-/// The item at a place. Past the end `other` stands.
+/// Returns the item at a place, or `other` past the end.
 fn item_at<'a, T>(items: &'a [T], place: usize, other: &'a T) -> &'a T
     ensures { result.now ≡ slice_index_or items.now place other.now }
 {
     items.get(place).unwrap_or(other)
 }
 
-/// Whether two records have one class and one owner.
+/// Returns whether two records have the same class and the same owner.
 #[tactic(auto, using(std::proofs::lemmas::Grind::common_steps, std::proofs::lemmas::Bool::Decides::nat_tests, domain_names::specs::Laws::same_name_ties))]
 fn is_one_owner<N: ToName, D>(a: &Record<N, D>, b: &Record<N, D>) -> bool
     ensures { result ≡ is_eq (owner_cmp N.labels a.now b.now) }
@@ -126,7 +129,7 @@ fn is_one_owner<N: ToName, D>(a: &Record<N, D>, b: &Record<N, D>) -> bool
     false
 }
 
-/// Compares records by all but class and owner: by type, and then by the data.
+/// Compares records by type, and then by data.
 fn rest_cmp<N, D: RecordData + CanonicalOrd>(a: &Record<N, D>, b: &Record<N, D>) -> Ordering
     ensures { result ≡ rest_cmp D.rtype D.canonical_cmp a.now b.now }
 {
@@ -135,7 +138,7 @@ fn rest_cmp<N, D: RecordData + CanonicalOrd>(a: &Record<N, D>, b: &Record<N, D>)
         .then_with(|| a.data().canonical_cmp(b.data()))
 }
 
-/// The canonical order of records, for those that often have one owner.
+/// Compares records in canonical order. Fast for records of one owner.
 fn neighbour_cmp<N: ToName, D: RecordData + CanonicalOrd>(
     a: &Record<N, D>,
     b: &Record<N, D>,
@@ -149,7 +152,7 @@ fn neighbour_cmp<N: ToName, D: RecordData + CanonicalOrd>(
     }
 }
 
-/// Whether records are equal in canonical order. Owners are compared last.
+/// Returns whether records are equal in canonical order. Compares the owners last.
 fn is_equal<N: ToName, D: RecordData + CanonicalOrd>(a: &Record<N, D>, b: &Record<N, D>) -> bool
     ensures { result ≡ is_eq (record_cmp N.labels D.rtype D.canonical_cmp a.now b.now) }
 {
@@ -159,7 +162,7 @@ fn is_equal<N: ToName, D: RecordData + CanonicalOrd>(a: &Record<N, D>, b: &Recor
     is_one_owner(a, b)
 }
 
-/// The records from `start` up to `end`, which have one owner, with its key.
+/// The records of one owner from `start` up to `end`, and the key of the owner.
 #[derive(Clone, Copy)]
 struct Run {
     key: u128,
@@ -167,7 +170,7 @@ struct Run {
     end: usize,
 }
 
-/// The runs, each as long as its owner goes on. They have no keys yet.
+/// Returns the runs of the records, without their keys.
 fn runs_of<N: ToName, D: RecordData>(
     alloc: Global,
     records: &[Record<N, D>],
@@ -182,7 +185,7 @@ fn runs_of<N: ToName, D: RecordData>(
     Ok(runs)
 }
 
-/// How many labels, from the root on, the owners of all runs share with that of `first`.
+/// Returns how many labels, counted from the root, the owners of all runs share.
 fn shared_labels<N: ToName, D>(
     records: &[Record<N, D>],
     first: &Record<N, D>,
@@ -204,7 +207,7 @@ fn give_keys<N: ToName, D>(records: &[Record<N, D>], first: &Record<N, D>, runs:
     }
 }
 
-/// Compares the records at two places, and then the places.
+/// Compares the records at two places. Compares the places if the records are equal.
 #[tactic(auto, unfolding(crate::specs::Order::compared_places))]
 fn compare_places<N: ToName, D: RecordData + CanonicalOrd>(
     records: &[Record<N, D>],
@@ -218,7 +221,7 @@ fn compare_places<N: ToName, D: RecordData + CanonicalOrd>(
     neighbour_cmp(item_at(records, a, first), item_at(records, b, first)).then(a.cmp(&b))
 }
 
-/// Whether the record at each place comes before the record at the next.
+/// Returns whether the record at each place comes before the record at the next place.
 fn are_distinct<N: ToName, D: RecordData + CanonicalOrd>(
     records: &[Record<N, D>],
     first: &Record<N, D>,
@@ -232,8 +235,7 @@ fn are_distinct<N: ToName, D: RecordData + CanonicalOrd>(
     })
 }
 
-/// Whether each place comes before the next: by its record, and where the records are equal by
-/// itself.
+/// Returns whether the places ascend by `compare_places`.
 fn are_ascending<N: ToName, D: RecordData + CanonicalOrd>(
     records: &[Record<N, D>],
     first: &Record<N, D>,
@@ -245,7 +247,7 @@ fn are_ascending<N: ToName, D: RecordData + CanonicalOrd>(
     places.is_sorted_by(|a, b| compare_places(records, first, *a, *b).is_lt())
 }
 
-/// Whether each place comes before the next, and whether the record at each place does.
+/// Returns whether the places ascend, and whether their records do.
 #[tactic(auto, using(crate::proofs::OrderLemmas::distinct_ascend))]
 fn check_places<N: ToName, D: RecordData + CanonicalOrd>(
     records: &[Record<N, D>],
@@ -282,19 +284,19 @@ fn push_owner<N: ToName, D: RecordData + CanonicalOrd>(
     Ok(())
 }
 
-/// Places of records, and what is known of their order.
+/// Places of records, and what is known about their order.
 #[derive(Drop)]
 struct Places {
     places: Vec<usize>,
-    /// Each place comes before the next.
+    /// The places ascend by `compare_places`.
     are_ascending: bool,
-    /// The record at each place comes before the record at the next, so that no two are equal.
+    /// The record at each place comes before the record at the next place, so no two are equal.
     are_distinct: bool,
 }
 
 impl Places {
-    /// Appends the places of one owner's runs, in the order of their records. Their order is
-    /// checked while their records are at hand.
+    /// Appends the places of one owner's runs, in the order of their records, and checks their
+    /// order while the records are in the cache.
     fn push<N: ToName, D: RecordData + CanonicalOrd>(
         &mut self,
         records: &[Record<N, D>],
@@ -316,7 +318,7 @@ impl Places {
     }
 }
 
-/// How many runs, from the first on, have its owner.
+/// Returns how many runs have the owner of the first run, up to the first run that does not.
 fn count_of_owner<N: ToName, D>(
     records: &[Record<N, D>],
     first: &Record<N, D>,
@@ -334,7 +336,8 @@ fn count_of_owner<N: ToName, D>(
     runs.len()
 }
 
-/// The places of the records, in the order of sorted runs, and of the records within an owner.
+/// Returns the places of the records in the order of sorted runs, and within an owner in the order
+/// of the records.
 fn places_of<N: ToName, D: RecordData + CanonicalOrd>(
     alloc: Global,
     records: &[Record<N, D>],
@@ -358,8 +361,8 @@ fn places_of<N: ToName, D: RecordData + CanonicalOrd>(
     Ok(places)
 }
 
-/// The places of the records in what is most probably canonical order, by their owners' keys. Of
-/// equal records the earliest comes first.
+/// Returns the places of the records in an order by the keys of their owners, which is canonical
+/// order unless keys mislead. Of equal records the earliest comes first.
 fn likely_places<N: ToName, D: RecordData + CanonicalOrd, S: Sorter>(
     alloc: Global,
     records: &[Record<N, D>],
@@ -378,8 +381,8 @@ fn likely_places<N: ToName, D: RecordData + CanonicalOrd, S: Sorter>(
     places_of(alloc, records, first, &runs)
 }
 
-/// The rank of each place: where it stands among the places, if they are the places of a list, each
-/// once. `are_ranks` tells.
+/// Returns the rank of each place: its position among the places. They are ranks only if each place
+/// of a list occurs once, which `are_ranks` checks.
 fn ranks_of(alloc: Global, places: &[usize]) -> Result<Vec<usize>, OutOfMemory> {
     let mut ranks = vec![in alloc; 0; places.len()]?;
     for (rank, place) in places.iter().enumerate() {
@@ -390,7 +393,7 @@ fn ranks_of(alloc: Global, places: &[usize]) -> Result<Vec<usize>, OutOfMemory> 
     Ok(ranks)
 }
 
-/// Whether a list has the number at a place.
+/// Returns whether the list holds the number at a place.
 fn has_at(numbers: &[usize], at: usize, number: usize) -> bool
     ensures { IsTrue result → (at < length numbers.now) × (slice_index numbers.now at ≡ number) }
 {
@@ -400,7 +403,7 @@ fn has_at(numbers: &[usize], at: usize, number: usize) -> bool
     }
 }
 
-/// Whether places are each once in their list, and these are their ranks.
+/// Returns whether each place of a list occurs once, with these ranks.
 fn are_ranks(places: &[usize], ranks: &[usize]) -> bool
     ensures { IsTrue result → AreRanks places.now ranks.now }
 {
@@ -415,8 +418,8 @@ fn are_ranks(places: &[usize], ranks: &[usize]) -> bool
     true
 }
 
-/// Puts at each rank the item of its place. Each item is moved to its rank by one exchange, and
-/// the place and the rank of the item that it was exchanged with go with it.
+/// Moves the item of each place to its rank. Each item takes one exchange. The place and the rank
+/// of the item that it is exchanged with are exchanged too.
 fn arrange<T>(items: &mut [T], places: &mut [usize], ranks: &mut [usize])
     requires ranks { AreRanks places.old ranks.old }
     requires all { length places.old ≡ length items.old }
@@ -432,7 +435,7 @@ fn arrange<T>(items: &mut [T], places: &mut [usize], ranks: &mut [usize])
     }
 }
 
-/// Puts items into canonical order by the sorter. A refusal leaves the list as it was.
+/// Sorts items by the sorter alone. An error leaves the list as it was.
 fn sort_whole<T: CanonicalOrd, S: Sorter>(items: &mut Vec<T>) -> Result<(), OutOfMemory>
     ensures ok { OnOk result
         (IsSortOf S.is_stable T.canonical_cmp items.old.items items.new.items) }
@@ -441,7 +444,7 @@ fn sort_whole<T: CanonicalOrd, S: Sorter>(items: &mut Vec<T>) -> Result<(), OutO
     Ok(S::sort_by(items, |a, b| a.canonical_cmp(b))?)
 }
 
-/// Whether each record comes before the next in canonical order.
+/// Returns whether each record comes before the next one in canonical order.
 fn are_strictly_sorted<N: ToName, D: RecordData + CanonicalOrd>(records: &[Record<N, D>]) -> bool
     ensures { IsTrue result → IsStrictlySortedBy (record_cmp N.labels D.rtype D.canonical_cmp)
         records.now }
@@ -449,17 +452,16 @@ fn are_strictly_sorted<N: ToName, D: RecordData + CanonicalOrd>(records: &[Recor
     records.is_sorted_by(|a, b| neighbour_cmp(a, b).is_lt())
 }
 
-/// Puts the records into canonical order, and says whether no two are known to be equal. Each is
-/// moved once, to the place that keys of owners make likely, where these places are right; else the
-/// sorter is given the records. A refusal leaves the list as it was.
+/// Sorts records in canonical order. Returns true only if no two of them are equal.
+///
+/// If the order by keys is right, each record is moved once. Otherwise the sorter sorts the
+/// records. An error leaves the list as it was.
 #[tactic(auto, using(std::proofs::lemmas::Grind::common_steps))]
 fn sort<N: ToName, D: RecordData + CanonicalOrd, S: Sorter>(
     records: &mut Vec<Record<N, D>>,
 ) -> Result<bool, OutOfMemory>
-    ensures ok { OnOk result (IsSortOf S.is_stable (record_cmp N.labels D.rtype D.canonical_cmp)
-        records.old.items records.new.items) }
-    ensures distinct { IfOk result (λ distinct. IsTrue distinct → IsStrictlySortedBy
-        (record_cmp N.labels D.rtype D.canonical_cmp) records.new.items) }
+    ensures ok { IfOk result (IsKnownSort S.is_stable
+        (record_cmp N.labels D.rtype D.canonical_cmp) records.old.items records.new.items) }
     ensures err { OnErr result (records.new.items ≡ records.old.items) }
 {
     let alloc = *records.allocator();
@@ -480,8 +482,8 @@ fn sort<N: ToName, D: RecordData + CanonicalOrd, S: Sorter>(
     Ok(false)
 }
 
-/// Puts the records into canonical order, and keeps the earliest of equal ones. Records that are so
-/// already are looked at once. A refusal leaves the list as it was.
+/// Sorts records in canonical order, and keeps the earliest of equal ones. Records that are in
+/// order are looked at once. An error leaves the list as it was.
 #[tactic(auto, using(std::proofs::lemmas::Grind::common_steps))]
 pub(crate) fn sort_and_dedup<N: ToName + Drop, D: RecordData + CanonicalOrd + Drop, S: Sorter>(
     records: &mut Vec<Record<N, D>>,

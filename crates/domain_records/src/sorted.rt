@@ -45,7 +45,7 @@ fn insert_if_absent<T: CanonicalOrd + Drop>(items: &mut Vec<T>, item: T)
     }
 }
 
-/// Puts items at the end. A refusal leaves the list as it was.
+/// Puts items at the end. An error leaves the list as it was.
 fn append<T: Drop, U: IntoIterator<Item = T>>(
     items: &mut Vec<T>,
     more: U,
@@ -77,7 +77,7 @@ fn clone_all<T: TryClone + Drop>(items: &[T], alloc: Global) -> Result<Vec<T>, O
     Ok(copies)
 }
 
-/// Whether the record has this owner, and the class and the type that are asked.
+/// Returns whether the record has this owner, and the class and the type that are asked.
 fn is_wanted<N: ToName, D: RecordData>(
     stored: &Record<N, D>,
     owner: &N,
@@ -92,8 +92,8 @@ fn is_wanted<N: ToName, D: RecordData>(
         && stored.rtype() == (*rtype).unwrap_or(stored.rtype())
 }
 
-/// The place of the first record of this owner, of the class and the type that are asked. Looks at
-/// one record after another.
+/// Returns the place of the first record of this owner, of the class and the type that are asked.
+/// Looks at one record after another.
 #[tactic(auto, using(std::proofs::lemmas::Grind::common_steps, crate::proofs::GroupLemmas::first_by))]
 fn first_place<N: ToName, D: RecordData>(
     records: &[Record<N, D>],
@@ -108,7 +108,7 @@ fn first_place<N: ToName, D: RecordData>(
     SliceRefsOrOwned::new_from_owned(records).first_match(&is_wanted)
 }
 
-/// The place of the first record of this type.
+/// Returns the place of the first record of this type.
 #[tactic(auto, using(std::proofs::lemmas::Grind::common_steps, crate::proofs::GroupLemmas::first_by))]
 fn first_of_type<N, D: RecordData>(records: &[Record<N, D>], rtype: Rtype) -> Option<usize>
     ensures { IsFirstPlace (λ r. D.rtype r.«data» == rtype) records.now result }
@@ -117,7 +117,7 @@ fn first_of_type<N, D: RecordData>(records: &[Record<N, D>], rtype: Rtype) -> Op
     SliceRefsOrOwned::new_from_owned(records).first_match(&is_wanted)
 }
 
-/// The records of one owner and one type that begin at a place.
+/// Returns the records of one owner and one type that begin at a place.
 #[tactic(auto, using(crate::proofs::GroupLemmas::taken_group))]
 fn rrset_at<N: ToName, D: RecordData>(
     records: &[Record<N, D>],
@@ -156,7 +156,7 @@ impl<N: ToName, D: RecordData + CanonicalOrd, Sort: Sorter> Model for SortedReco
 }
 
 impl<N: ToName, D: RecordData + CanonicalOrd> SortedRecords<N, D> {
-    /// No records, under the sorter of the standard library. Takes no memory.
+    /// Returns no records, under the sorter of the standard library. Takes no memory.
     pub fn default(alloc: Global) -> Self
         ensures { result ≡ [] }
     {
@@ -165,7 +165,7 @@ impl<N: ToName, D: RecordData + CanonicalOrd> SortedRecords<N, D> {
 }
 
 impl<N: ToName, D: RecordData + CanonicalOrd, Sort: Sorter> SortedRecords<N, D, Sort> {
-    /// No records. Takes no memory.
+    /// Returns no records. Takes no memory.
     #[tactic(auto, using(crate::proofs::OrderLemmas::sorted_nil))]
     pub fn new(alloc: Global) -> Self
         ensures { result ≡ [] }
@@ -182,7 +182,7 @@ impl<N: ToName, D: RecordData + CanonicalOrd, Sort: Sorter> SortedRecords<N, D, 
     ///
     /// # Errors
     ///
-    /// `SortError` where there was no memory, or where the sorter answers that.
+    /// `SortError` if there is no memory, or where the sorter answers that.
     pub fn from_vec(mut records: Vec<Record<N, D>>) -> Result<Self, SortError>
     where
         N: Drop,
@@ -201,7 +201,7 @@ impl<N: ToName, D: RecordData + CanonicalOrd, Sort: Sorter> SortedRecords<N, D, 
     ///
     /// # Errors
     ///
-    /// `OutOfMemory` where there was no memory, or where the sorter answers it.
+    /// `OutOfMemory` if there is no memory, or where the sorter answers it.
     pub fn from_iter<U: IntoIterator<Item = Record<N, D>>>(
         alloc: Global,
         records: U,
@@ -226,8 +226,8 @@ impl<N: ToName, D: RecordData + CanonicalOrd, Sort: Sorter> SortedRecords<N, D, 
     ///
     /// # Errors
     ///
-    /// `OutOfMemory` where there was no memory, or where the sorter answers it. What was stored is
-    /// then as it was.
+    /// `OutOfMemory` if there is no memory, or where the sorter answers it. What was stored is then
+    /// as it was.
     pub fn extend<U: IntoIterator<Item = Record<N, D>>>(
         &mut self,
         more: U,
@@ -349,8 +349,8 @@ impl<N: ToName, D: RecordData + CanonicalOrd, Sort: Sorter> SortedRecords<N, D, 
         }
     }
 
-    /// Whether a record stands here that is equal under the canonical order, whatever its TTL. By a
-    /// binary search.
+    /// Returns whether a record stands here that is equal under the canonical order, whatever its
+    /// TTL. By a binary search.
     pub fn contains(&self, wanted: &Record<N, D>) -> bool
         ensures { IsTrue result
             ↔ Holds (record_cmp N.labels D.rtype D.canonical_cmp) self.now wanted.now }
@@ -361,7 +361,7 @@ impl<N: ToName, D: RecordData + CanonicalOrd, Sort: Sorter> SortedRecords<N, D, 
         }
     }
 
-    /// The records of one owner after another.
+    /// Returns the records of one owner after another.
     pub fn owner_rrs(&self) -> RecordsIter<'_, N, D>
         ensures records { result ≡ self.now }
         ensures in_order { IsOneClass self.now → IsInOrder N.labels D.rtype self.now }
@@ -369,14 +369,14 @@ impl<N: ToName, D: RecordData + CanonicalOrd, Sort: Sorter> SortedRecords<N, D, 
         RecordsIter::new_from_owned(self.as_slice())
     }
 
-    /// The records of one owner and one type after another.
+    /// Returns the records of one owner and one type after another.
     pub fn rrsets(&self) -> RrsetIter<'_, N, D>
         ensures { result ≡ self.now }
     {
         RrsetIter::new_from_owned(self.as_slice())
     }
 
-    /// The first group of SOA records of one owner, whatever the owner.
+    /// Returns the first group of SOA records of one owner, whatever the owner.
     ///
     /// # Errors
     ///
@@ -391,8 +391,8 @@ impl<N: ToName, D: RecordData + CanonicalOrd, Sort: Sorter> SortedRecords<N, D, 
         rrset_at(records, first_of_type(records, Rtype::SOA))
     }
 
-    /// The first group of records of this owner and this type; the owner may be any name, not the
-    /// apex alone. Looks at one record after another.
+    /// Returns the first group of records of this owner and this type; the owner may be any name,
+    /// not the apex alone. Looks at one record after another.
     ///
     /// # Errors
     ///
@@ -410,28 +410,28 @@ impl<N: ToName, D: RecordData + CanonicalOrd, Sort: Sorter> SortedRecords<N, D, 
         rrset_at(records, first_place(records, apex, &None, &Some(rtype)))
     }
 
-    /// The number of records.
+    /// Returns the number of records.
     pub fn len(&self) -> usize
         ensures { result ≡ length self.now }
     {
         self.records.len()
     }
 
-    /// Whether there is no record.
+    /// Returns whether there is no record.
     pub fn is_empty(&self) -> bool
         ensures { IsTrue result ↔ (self.now ≡ []) }
     {
         self.records.is_empty()
     }
 
-    /// The records in order, one after another.
+    /// Returns the records in order, one after another.
     pub fn iter(&self) -> slice::Iter<'_, Record<N, D>>
         ensures { iter_rest result ≡ self.now }
     {
         self.records.iter()
     }
 
-    /// The records in order.
+    /// Returns the records in order.
     pub fn as_slice(&self) -> &[Record<N, D>]
         ensures records { result.now ≡ self.now }
         ensures sorted { IsStrictlySortedBy (record_cmp N.labels D.rtype D.canonical_cmp) self.now }
@@ -440,7 +440,7 @@ impl<N: ToName, D: RecordData + CanonicalOrd, Sort: Sorter> SortedRecords<N, D, 
         self.records.as_slice()
     }
 
-    /// The records in order, as a list. Takes no memory.
+    /// Returns the records in order, as a list. Takes no memory.
     pub fn into_inner(self) -> Vec<Record<N, D>>
         ensures records { result.items ≡ self }
         ensures sorted { IsStrictlySortedBy (record_cmp N.labels D.rtype D.canonical_cmp) self }
@@ -453,7 +453,7 @@ impl<N: ToName, D: RecordData + CanonicalOrd, Sort: Sorter> SortedRecords<N, D, 
     ///
     /// # Errors
     ///
-    /// `OutOfMemory` where there was no memory.
+    /// `OutOfMemory` if there is no memory.
     pub fn clone(&self) -> Result<Self, OutOfMemory>
     where
         N: ToName + Drop,

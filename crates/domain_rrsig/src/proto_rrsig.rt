@@ -41,9 +41,9 @@ pub type Numbers = ((u16, (u8, u8)), ((u32, (u32, u32)), u16));
 pub type ProtoFields<'a> = (Numbers, ParsedName<'a>);
 
 impl<N: ToName> ProtoRrsig<N> {
-    /// The fields: the type of the records that are signed, the algorithm of the key, how many
-    /// labels the owner has without a leading asterisk and the root, the TTL of the records, when
-    /// the signature ends to hold and when it begins, the tag of the key and its owner.
+    /// Returns the fields: the type of the records that are signed, the algorithm of the key, how
+    /// many labels the owner has without a leading asterisk and the root, the TTL of the records,
+    /// when the signature ends to hold and when it begins, the tag of the key and its owner.
     pub fn new(
         type_covered: Rtype,
         algorithm: SecurityAlgorithm,
@@ -69,7 +69,7 @@ impl<N: ToName> ProtoRrsig<N> {
         }
     }
 
-    /// The data with a signature.
+    /// Returns the data with a signature.
     ///
     /// # Errors
     ///
@@ -126,7 +126,7 @@ impl<N: ToName> ProtoRrsig<N> {
         }
     }
 
-    /// The numbers, in the order of the wire.
+    /// Returns the numbers, in the order of the wire.
     pub(crate) fn numbers(&self) -> Numbers
         ensures values { result ≡ rrsig_numbers_values self.now }
         ensures fits { Fits proto_rrsig (proto_rrsig_values self.now) }
@@ -140,7 +140,7 @@ impl<N: ToName> ProtoRrsig<N> {
         )
     }
 
-    /// The fields, in the order of the wire.
+    /// Returns the fields, in the order of the wire.
     pub(crate) fn fields(&self) -> ProtoFields<'_>
         ensures numbers { result.0 ≡ rrsig_numbers_values self.now }
         ensures signer { result.1 ≡ self.now.signer_name }
@@ -149,7 +149,7 @@ impl<N: ToName> ProtoRrsig<N> {
         (self.numbers(), self.signer_name.as_parsed())
     }
 
-    /// A copy. Uses the allocator of the name.
+    /// Returns a copy. Uses the allocator of the name.
     pub fn clone(&self) -> Result<Self, OutOfMemory>
         ensures { IfOk result (λ copy. copy ≡ self.now) }
     {

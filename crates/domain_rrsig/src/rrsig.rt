@@ -61,7 +61,7 @@ impl<O: Octets, N: ToName> Model for Rrsig<O, N> {
 /// At most 65,535 octets: the fields but the signature, and all octets that are left.
 type RrsigFields<'a> = (AtMost<MAX_RDLEN>, (ProtoFields<'a>, Rest<'a>));
 
-/// Whether fields and a signature have at most 65,535 octets.
+/// Returns whether fields and a signature have at most 65,535 octets.
 pub(crate) fn fits<O: Octets, N: ToName>(fields: &ProtoRrsig<N>, signature: &O) -> bool
     ensures { IsTrue result ↔ (length
         (rrsig_octets (rrsig_data fields.now (O.octets signature.now))) ≤ 65535) }
@@ -71,7 +71,8 @@ pub(crate) fn fits<O: Octets, N: ToName>(fields: &ProtoRrsig<N>, signature: &O) 
 }
 
 impl<O: Octets, N: ToName> Rrsig<O, N> {
-    /// The data of these fields, in the order of the wire (RFC 4034, section 3.1). Takes no memory.
+    /// Returns the data of these fields, in the order of the wire (RFC 4034, section 3.1). Takes no
+    /// memory.
     ///
     /// # Errors
     ///
@@ -110,7 +111,7 @@ impl<O: Octets, N: ToName> Rrsig<O, N> {
         fields.into_rrsig(signature)
     }
 
-    /// The data of these fields, which have at most 65,535 octets. Takes no memory.
+    /// Returns the data of these fields, which have at most 65,535 octets. Takes no memory.
     pub fn new_unchecked(
         type_covered: Rtype,
         algorithm: SecurityAlgorithm,
@@ -142,29 +143,29 @@ impl<O: Octets, N: ToName> Rrsig<O, N> {
         Rrsig { fields, signature }
     }
 
-    /// The type of the records that are signed (RFC 4034, section 3.1.1).
+    /// Returns the type of the records that are signed (RFC 4034, section 3.1.1).
     pub fn type_covered(&self) -> Rtype
         ensures { result ≡ self.now.fields.type_covered }
     {
         self.fields.type_covered
     }
 
-    /// The algorithm of the key (RFC 4034, section 3.1.2).
+    /// Returns the algorithm of the key (RFC 4034, section 3.1.2).
     pub fn algorithm(&self) -> SecurityAlgorithm
         ensures { result ≡ self.now.fields.algorithm }
     {
         self.fields.algorithm
     }
 
-    /// How many labels the owner of the records has, without a leading asterisk and the root
-    /// (RFC 4034, section 3.1.3).
+    /// Returns how many labels the owner of the records has, without a leading asterisk and the
+    /// root (RFC 4034, section 3.1.3).
     pub fn labels(&self) -> u8
         ensures { result ≡ self.now.fields.labels }
     {
         self.fields.labels
     }
 
-    /// The TTL of the records in their zone (RFC 4034, section 3.1.4).
+    /// Returns the TTL of the records in their zone (RFC 4034, section 3.1.4).
     pub fn original_ttl(&self) -> Ttl
         ensures { result ≡ self.now.fields.original_ttl }
     {
@@ -185,28 +186,28 @@ impl<O: Octets, N: ToName> Rrsig<O, N> {
         self.fields.inception
     }
 
-    /// The tag of the key (RFC 4034, section 3.1.6).
+    /// Returns the tag of the key (RFC 4034, section 3.1.6).
     pub fn key_tag(&self) -> u16
         ensures { result ≡ self.now.fields.key_tag }
     {
         self.fields.key_tag
     }
 
-    /// The owner of the key, as it is spelled (RFC 4034, section 3.1.7).
+    /// Returns the owner of the key, as it is spelled (RFC 4034, section 3.1.7).
     pub fn signer_name(&self) -> &N
         ensures { N.labels result.now ≡ self.now.fields.signer_name }
     {
         &self.fields.signer_name
     }
 
-    /// The signature (RFC 4034, section 3.1.8).
+    /// Returns the signature (RFC 4034, section 3.1.8).
     pub fn signature(&self) -> &O
         ensures { O.octets result.now ≡ self.now.signature }
     {
         &self.signature
     }
 
-    /// Whether the data with this signature in place of its own have at most 65,535 octets.
+    /// Returns whether the data with this signature in place of its own have at most 65,535 octets.
     pub fn fits_signature(&self, signature: &O) -> bool
         ensures { IsTrue result ↔ (length
             (rrsig_octets (rrsig_data self.now.fields (O.octets signature.now))) ≤ 65535) }
@@ -224,7 +225,7 @@ impl<O: Octets, N: ToName> Rrsig<O, N> {
         self.signature = signature;
     }
 
-    /// The same data over another name and other octets, which spell those of this.
+    /// Returns the same data over another name and other octets, which spell those of this.
     pub fn with_octets<P: Octets, M: ToName>(&self, signer_name: M, signature: P) -> Rrsig<P, M>
         requires signer { M.labels signer_name ≡ self.now.fields.signer_name }
         requires signature { P.octets signature ≡ self.now.signature }
@@ -234,7 +235,7 @@ impl<O: Octets, N: ToName> Rrsig<O, N> {
         Rrsig { fields, signature }
     }
 
-    /// The fields, in the order of the wire.
+    /// Returns the fields, in the order of the wire.
     pub(crate) fn fields(&self) -> RrsigFields<'_>
         ensures numbers { result.1.0.0 ≡ rrsig_numbers_values self.now.fields }
         ensures signer { result.1.0.1 ≡ self.now.fields.signer_name }
@@ -249,15 +250,15 @@ impl<O: Octets, N: ToName> Rrsig<O, N> {
 }
 
 impl<'a> Rrsig<&'a [u8], ParsedName<'a>> {
-    /// All octets that are left, as data. Takes no memory.
+    /// Returns all octets that are left, as data. Takes no memory.
     ///
     /// # Errors
     ///
     /// `Form("record data too long")` for over 65,535 octets, then the first fault in field order:
     /// a missing octet of a number is `ShortInput`; of the name, at the first label that is at
-    /// fault, a missing octet is `ShortInput`, a length over 63 or a pointer
-    /// `Form("compressed or bad label")`, a name over 255 octets `Form("long domain name")`. The
-    /// parser then stands where it stood.
+    /// fault, a missing octet is `ShortInput`, a length over 63 or a pointer `Form("compressed or
+    /// bad label")`, a name over 255 octets `Form("long domain name")`. The parser does not move
+    /// then.
     pub fn parse(parser: &mut Parser<'a>) -> Result<Self, ParseError>
         ensures { Reads rrsig rrsig_values fault_of parser.old parser.new result }
     {
@@ -309,8 +310,8 @@ impl<O: Octets, N: ToName> ComposeRecordData for Rrsig<O, N> {
 }
 
 impl<O: Octets, N: ToName> Rrsig<O, N> {
-    /// Whether a signature over other octets and names is the same. The case of the signer's name
-    /// is passed over.
+    /// Returns whether a signature over other octets and names is the same. The case of the
+    /// signer's name is passed over.
     pub fn eq_to<P: Octets, M: ToName>(&self, other: &Rrsig<P, M>) -> bool
         ensures value { result ≡ bytes_eq (rrsig_canonical self.now) (rrsig_canonical other.now) }
         ensures same { IsTrue result ↔ IsSameRrsig self.now other.now }
@@ -318,9 +319,9 @@ impl<O: Octets, N: ToName> Rrsig<O, N> {
         domain_fields::canonical_eq(&self.fields(), &other.fields())
     }
 
-    /// The order to a signature over other octets and names: by the fields in the order of the
-    /// wire, times as plain numbers, the signer's name by its lowered octets. This is the order of
-    /// the canonical octets.
+    /// Returns the order to a signature over other octets and names: by the fields in the order of
+    /// the wire, times as plain numbers, the signer's name by its lowered octets. This is the order
+    /// of the canonical octets.
     pub fn cmp_to<P: Octets, M: ToName>(&self, other: &Rrsig<P, M>) -> Ordering
         ensures { result ≡ slice_cmp nat_cmp (rrsig_canonical self.now)
             (rrsig_canonical other.now) }
@@ -328,7 +329,7 @@ impl<O: Octets, N: ToName> Rrsig<O, N> {
         self.fields().order(&other.fields())
     }
 
-    /// The canonical order to a signature over other octets and names, which is `cmp_to`.
+    /// Returns the canonical order to a signature over other octets and names, which is `cmp_to`.
     pub fn canonical_cmp_to<P: Octets, M: ToName>(&self, other: &Rrsig<P, M>) -> Ordering
         ensures { result ≡ slice_cmp nat_cmp (rrsig_canonical self.now)
             (rrsig_canonical other.now) }
@@ -396,7 +397,7 @@ impl<O: Octets, N: ToName> Hash for Rrsig<O, N> {
 }
 
 impl<O: Octets + Drop, N: ToName + Drop> Rrsig<O, N> {
-    /// A copy. Uses the allocators of the name and of the signature.
+    /// Returns a copy. Uses the allocators of the name and of the signature.
     pub fn clone(&self) -> Result<Self, OutOfMemory>
         ensures { IfOk result (λ copy. copy ≡ self.now) }
     {
@@ -458,7 +459,7 @@ type ScannedFields<N> = (
     ((u8, (u8, u32)), (Timestamp, (Timestamp, (u16, Scanned<N>)))),
 );
 
-/// All fields but the signature, one token each.
+/// Returns all fields but the signature, one token each.
 fn scan_fields<S: Scanner>(alloc: Global, scanner: &mut S) -> Result<ProtoRrsig<S::Name>, ScanError>
     ensures { ReadsTokens rrsig_fields_text rrsig_fields
         (RefusesRrsigFields S.Octets.Builder.limit) (S.tokens scanner.old) (S.tokens scanner.new)
@@ -482,9 +483,9 @@ fn scan_fields<S: Scanner>(alloc: Global, scanner: &mut S) -> Result<ProtoRrsig<
 }
 
 impl<O: FromBuilder + Drop, N: ToName + Drop> Rrsig<O, N> {
-    /// The data that all tokens left spell: the type covered by its name, algorithm, labels and TTL
-    /// in decimal, expiration and inception, the key tag in decimal, the signer's name, and the
-    /// signature in Base 64, in as many tokens as one likes, or in none.
+    /// Returns the data that all tokens left spell: the type covered by its name, algorithm, labels
+    /// and TTL in decimal, expiration and inception, the key tag in decimal, the signer's name, and
+    /// the signature in Base 64, in as many tokens as one likes, or in none.
     ///
     /// # Errors
     ///

@@ -64,15 +64,14 @@ impl Timestamp {
     /// How many octets it has on the wire.
     pub const COMPOSE_LEN: u16 = 4;
 
-    /// The number.
+    /// Returns the number.
     pub const fn into_int(self) -> u32
         ensures { result ≡ self }
     {
         self.0.into_int()
     }
 
-    /// The time stamp that comes next, four octets. Refuses, with `ShortInput`, where fewer are
-    /// left.
+    /// Returns the time stamp that comes next, four octets. Returns `ShortInput` if fewer are left.
     pub fn parse(parser: &mut Parser<'_>) -> Result<Timestamp, ParseError>
         ensures ok { IfOk result (λ stamp. Takes (to_be_bytes w32 stamp) parser.old parser.new) }
         ensures short { IsErr result ↔ (length parser.old.left < 4) }
@@ -97,9 +96,10 @@ impl Timestamp {
         self.0.compose(target)
     }
 
-    /// The time that is meant, in seconds since the start of 1970, where one asks at the reference:
-    /// the one in the 2^31 seconds before it or the 2^31 - 1 after it. Where that would be before
-    /// 1970 it is the number of the stamp itself. None where the time is not below 2^64.
+    /// Returns the time that is meant, in seconds since the start of 1970, where one asks at the
+    /// reference: the one in the 2^31 seconds before it or the 2^31 - 1 after it. Where that would
+    /// be before 1970 it is the number of the stamp itself. Returns `None` if the time is not below
+    /// 2^64.
     #[tactic(auto, using(std::proofs::lemmas::Grind::common_steps, crate::proofs::DataLemmas::after))]
     pub fn to_system_time(self, reference: u64) -> Option<u64>
         ensures time { IfSome result (TimeAt self reference) }
@@ -117,18 +117,18 @@ impl Timestamp {
         }
     }
 
-    /// The order of serial numbers: each stamp is before the 2,147,483,647 that follow it in the
-    /// circle. Two that are just half of the circle apart have none (RFC 1982, section 3.2).
+    /// Returns the order of serial numbers: each stamp is before the 2,147,483,647 that follow it
+    /// in the circle. Two that are just half of the circle apart have none (RFC 1982, section 3.2).
     pub fn partial_cmp(&self, other: &Timestamp) -> Option<Ordering>
         ensures { result ≡ serial_cmp self.now other.now }
     {
         self.0.partial_cmp(&other.0)
     }
 
-    /// The time that the next token spells: decimal digits, with one plus sign before them or none,
-    /// at most 10 characters. Refuses every other token, and a number over 32 bits, as
-    /// `Custom("illegal signature time")`, and a missing token as `EndOfEntry`. A token that is
-    /// refused is gone past too.
+    /// Returns the time that the next token spells: decimal digits, with one plus sign before them
+    /// or none, at most 10 characters. Refuses every other token, and a number over 32 bits, as
+    /// `Custom("illegal signature time")`, and a missing token as `EndOfEntry`. An error skips the
+    /// token too.
     pub fn scan<S: Scanner>(scanner: &mut S) -> Result<Timestamp, ScanError>
         ensures { ReadsTokens (OneToken TimeToken) (λ value. value) (RefusesToken IsNoTime)
             (S.tokens scanner.old) (S.tokens scanner.new) result }

@@ -229,10 +229,10 @@ module _ (L : List ZoneRecord) (a : Name) (names : List Name) (bits : Bool → O
     pub known : AllByRecursion (λ o. o ≡ owner_at L a o.name) left
     pub even : has_unequal_ttls L names ≡ list_any clashes_in left
     pub named : listed.is_full ≡ false → names ≡ listed.names.items ++ map name_of left
-    pub typed : listed.is_full ≡ false → map (λ n. bits (same_name n a) (owner_at L a n)) names ≡ listed.types.items ++ map bits_of left
+    pub typed : listed.is_full ≡ false → map (λ n. bits (same_name n a) (owner_at L a n)) names ≡ listed.types ++ map bits_of left
 
   pub at_start : {left : List OwnerRecords} {listed : ListedOwners} → left ≡ map (owner_at L a) names
-      → listed.names.items ≡ [] → listed.types.items ≡ [] → IsListing left listed
+      → listed.names.items ≡ [] → listed.types ≡ [] → IsListing left listed
   at_start all named typed = grind (arith, common_steps, all_known, any_map, names_back, map-map)
 
 module _ {L : List ZoneRecord} {a : Name} {names : List Name} {bits : Bool → OwnerRecords → Octets} {left : List OwnerRecords}
@@ -244,7 +244,7 @@ module _ {L : List ZoneRecord} {a : Name} {names : List Name} {bits : Bool → O
     -- one that is listed with its types, where there is memory
     pub next_listed : {more : ListedOwners} → has_clash o.records ≡ false → (more.is_full ≡ false → listed.is_full ≡ false)
         → (more.is_full ≡ false → more.names.items ≡ listed.names.items ++ o.name ∷ [])
-        → (more.is_full ≡ false → more.types.items ≡ listed.types.items ++ bits (same_name o.name a) o ∷ []) → IsListing L a names bits rest more
+        → (more.is_full ≡ false → more.types ≡ listed.types ++ bits (same_name o.name a) o ∷ []) → IsListing L a names bits rest more
     next_listed even room added typed = grind (arith, common_steps, append_assoc)
 
     pub next_uneven : has_clash o.records ≡ true → has_unequal_ttls L names ≡ true

@@ -175,7 +175,7 @@ pub record AreListed (bits : Bool → OwnerRecords → Octets) (L : List ZoneRec
     (names : List Name) (listed : ListedOwners) : Type 0 where
   pub even : has_unequal_ttls L names ≡ false
   pub named : listed.names.items ≡ names
-  pub typed : listed.types.items ≡ map (λ n. bits (same_name n a) (owner_at L a n)) names
+  pub typed : listed.types ≡ map (λ n. bits (same_name n a) (owner_at L a n)) names
 
 -- why they are not: one has unequal TTLs, or none has, and memory was wanting
 abbrev pub IsListingFault : List ZoneRecord → List Name → SigningError → Type 0

@@ -1,4 +1,4 @@
-//! What callers may take from definitions. A caller calls the law in its body.
+//! Laws about the definitions. A function uses a law by calling it in its body.
 ghost use Rattle.std.specs.Prelude.{◌≡◌, List, true};
 ghost use Rattle.domain_names.specs.Name.{same_name, before, Name};
 ghost use Rattle.domain_record.specs.declared.record.Record.{Record};
@@ -8,7 +8,7 @@ ghost use Rattle.domain_zone.specs.{Covering.{matches, covers}, Zone.{zone_of, O
 use domain_base::ToName;
 use domain_record::ZoneData;
 
-/// A pair of names matches and covers a name in each of its spellings alike.
+/// Whether a pair of names matches or covers a name does not depend on the case of letters.
 #[tactic(auto, using(crate::proofs::NameLemmas::one_lowered, crate::proofs::NameLemmas::before_right, crate::proofs::NameLemmas::before_left))]
 pub fn covering_ignores_case()
     ensures matches { (owner x y : Name) → same_name x y ≡ true
@@ -17,8 +17,8 @@ pub fn covering_ignores_case()
         → covers before owner next x ≡ covers before owner next y }
 {}
 
-/// The zone of records that are in order, as sorted records of one class are, has owners that never
-/// descend.
+/// The owners of a zone never descend if its records are in order, as sorted records of one class
+/// are.
 #[tactic(auto, using(std::proofs::lemmas::Grind::common_steps, crate::proofs::WalkLemmas::owners_in_order))]
 pub fn owners_never_descend<N: ToName, D: ZoneData>()
     ensures { (records : List (Record N D)) → IsInOrder N.labels D.rtype records

@@ -1,12 +1,10 @@
-//! What the records of a zone say: its zone cuts, the owners that its chains name, their types, the
-//! SOA and unequal TTLs.
+//! The records of a zone: its zone cuts, the owners of its chains, their types, the SOA record and
+//! unequal TTLs.
 //!
-//! The definitions stand in `specs/`, each a filter over the whole list of records. The code is
-//! what the generators of chains share: the SOA of the apex, the test on TTLs, the
-//! types of an owner, the owners that a chain lists, and `UnoccludedOwners`, the one walk over the
-//! records of a zone.
-//! The crates above may rely on this: `UnoccludedOwners` gives exactly the owners that the
-//! definitions say are not occluded, each with its records and whether it is a zone cut.
+//! Each definition in `specs/` is a filter over the whole list of records. The code is what the
+//! generators of both chains share. `UnoccludedOwners` is the only walk over the records of a zone.
+//! It returns exactly the owners that are not occluded by the definitions. Each comes with its
+//! records, and says whether it is a zone cut.
 #![tactic(auto)]
 
 pub mod laws;

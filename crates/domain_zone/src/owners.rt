@@ -1,4 +1,4 @@
-//! The owners of a zone that are not occluded, and the types of each, gathered into a set.
+//! The owners of a zone that are not occluded, and their types.
 ghost use Rattle.std.specs.Prelude.{◌≡◌, ◌&&◌, ◌||◌, ◌==◌, ℕ, ◌<◌, OnOk, ◌≤◌, false, IfNone, IfSome, ◌∷◌, ◌++◌, []};
 ghost use Rattle.std.specs.{Prelude.{Bool, IfOk, IfErr, IsOkAnd, map, not}, Option.option_map};
 ghost use Rattle.domain_base.specs.Types.{dnskey, ds, rrsig};
@@ -10,14 +10,14 @@ ghost use Rattle.domain_records.specs.Order.{HoldsPairwise, IsInOrder};
 ghost use Rattle.domain_octets.specs.Octets.{Octets};
 
 use domain_base::{ParsedName, Rtype, ToName};
-use domain_bitmap::{RtypeBitmap, RtypeBitmapBuilder};
-use domain_octets::{GrowingBuilder, Octets, OctetsFrom, OutOfMemory, SmallOctets};
+use domain_bitmap::{RtypeBitmap, RtypeBitmapBuilder, RtypeBitmaps};
+use domain_octets::{GrowingBuilder, OutOfMemory};
 use domain_record::{Record, ZoneData};
 use domain_records::{OwnerRrs, RecordsIter, SigningError, SliceRefsOrOwnedIterator};
 use std::alloc::Global;
 use std::marker::Model;
 
-/// Whether some record is of this type.
+/// Returns whether a record has this type.
 pub fn has_type<N: ToName, D: ZoneData>(
     mut records: SliceRefsOrOwnedIterator<'_, Record<N, D>>,
     wanted: Rtype,
@@ -32,7 +32,8 @@ pub fn has_type<N: ToName, D: ZoneData>(
     false
 }
 
-/// Whether a name that comes next is out of the zone, or at or below the last name that occludes.
+/// Returns whether the next name is outside of the zone, or at or below the last name that
+/// occludes.
 fn is_passed_over<N: ToName>(apex: &N, occluder: Option<&N>, name: &N) -> bool
     ensures { result ≡ is_passed_over (N.labels apex.now)
         (option_map (λ o. N.labels o.now) occluder.entry) (N.labels name.now) }
@@ -49,16 +50,16 @@ fn is_passed_over<N: ToName>(apex: &N, occluder: Option<&N>, name: &N) -> bool
 /// An owner of a zone that is not occluded.
 #[derive(Drop)]
 pub struct UnoccludedOwner<'a, N: ToName, D> {
-    /// The name, as its first record spells it.
+    /// The name, in the spelling of its first record.
     pub name: &'a N,
     /// Its records, in order.
     pub records: OwnerRrs<'a, N, D>,
-    /// Whether it is strictly below the apex and owns an NS record.
+    /// Whether it is strictly below the apex and owns NS records.
     pub is_zone_cut: bool,
 }
 
 impl<N: ToName, D: ZoneData> UnoccludedOwner<'_, N, D> {
-    /// Whether it is a zone cut without DS records (RFC 5155, section 6).
+    /// Returns whether it is a zone cut without DS records (RFC 5155, section 6).
     pub fn is_unsigned_cut(&self) -> bool
         ensures { result ≡ (self.now.is_zone_cut
             && not (has_type (zone_of N.labels D.rtype D.minimum self.now.records) ds)) }
@@ -68,8 +69,8 @@ impl<N: ToName, D: ZoneData> UnoccludedOwner<'_, N, D> {
 }
 
 /// An iterator over the owners at or below an apex that are not occluded, in canonical order, with
-/// or without unsigned delegations. The records of all others are passed over. Takes no memory;
-/// contracts see the list of the owners that are left.
+/// or without unsigned delegations. It skips the records of all others, and takes no memory.
+/// Contracts see the list of the owners that are left.
 #[derive(Drop)]
 pub struct UnoccludedOwners<'a, N: ToName, D: ZoneData> {
     apex: &'a N,
@@ -95,10 +96,10 @@ impl<'a, N: ToName, D: ZoneData> UnoccludedOwners<'a, N, D> {
     ghost use Rattle.domain_records.specs.Order.{IsInOrder};
     ghost use Rattle.domain_zone.specs.Zone.{covered_owners};
 
-    /// Over the owners of records in order, at or below the apex and not strictly below a zone cut;
-    /// where `without_unsigned` says so, without the zone cuts that own no DS record (RFC 5155,
-    /// section 6), and where `below_dname` does, without those strictly below a name at or below
-    /// the apex that owns a DNAME record (RFC 6672, section 2.4).
+    /// Returns an iterator over the owners of records in order. Owners strictly below a zone cut
+    /// are left out. `without_unsigned` also leaves out zone cuts without DS records (RFC 5155,
+    /// section 6). `below_dname` also leaves out owners strictly below an owner of a DNAME record
+    /// that is at or below the apex (RFC 6672, section 2.4).
     #[tactic(auto, using(crate::proofs::WalkLemmas::covered_first))]
     pub fn new(
         apex: &'a N,
@@ -153,18 +154,18 @@ impl<'a, N: ToName, D: ZoneData> Iterator for UnoccludedOwners<'a, N, D> {
     }
 }
 
-/// Whether a chain may list a type of an owner: at a zone cut those of NS and DS alone.
+/// Returns whether a chain may list a type of an owner: at a zone cut, only NS and DS.
 fn may_list(at_cut: bool, rtype: Rtype) -> bool
     ensures { result ≡ may_list at_cut rtype }
 {
     !at_cut || rtype == Rtype::NS || rtype == Rtype::DS
 }
 
-/// Adds a type to a set that grows.
+/// Adds a type to a set that grows. An error changes nothing.
 ///
 /// # Errors
 ///
-/// `OutOfMemory`; the set is then as it was.
+/// `OutOfMemory`.
 pub fn add_type<B: GrowingBuilder>(
     types: &mut RtypeBitmapBuilder<B>,
     rtype: Rtype,
@@ -175,12 +176,12 @@ pub fn add_type<B: GrowingBuilder>(
     types.add(rtype).map_err(|_| OutOfMemory)
 }
 
-/// Adds the types of an owner's records that a chain lists: all, and at a zone cut those of NS and
-/// DS alone (RFC 4035, section 2.3).
+/// Adds the types of an owner's records that a chain lists: all of them, or at a zone cut only NS
+/// and DS (RFC 4035, section 2.3).
 ///
 /// # Errors
 ///
-/// `OutOfMemory`; some types may then have been added.
+/// `OutOfMemory`. Some types may have been added then.
 #[tactic(auto, using(crate::proofs::GivenLemmas::list_more, crate::proofs::GivenLemmas::list_not))]
 pub fn add_types<B: GrowingBuilder, N: ToName, D: ZoneData>(
     types: &mut RtypeBitmapBuilder<B>,
@@ -199,7 +200,7 @@ pub fn add_types<B: GrowingBuilder, N: ToName, D: ZoneData>(
     Ok(())
 }
 
-/// Adds a type where it is wanted.
+/// Adds a type if it is wanted.
 fn add_wanted<B: GrowingBuilder>(
     types: &mut RtypeBitmapBuilder<B>,
     rtype: Rtype,
@@ -214,14 +215,15 @@ fn add_wanted<B: GrowingBuilder>(
     Ok(())
 }
 
-/// The types that a chain lists of an owner: RRSIG, a type of the chain's own, and DNSKEY, each
-/// where it is wanted, and those of the owner's records as `add_types` has them.
+/// Returns the types that a chain lists of an owner: RRSIG, the chain's own type and DNSKEY, each
+/// if it is wanted, and the types of `add_types`. Their octets use the memory of `buffer`, whose
+/// own octets are dropped.
 ///
 /// # Errors
 ///
 /// `OutOfMemory`.
 pub fn list_types<N: ToName, D: ZoneData>(
-    alloc: Global,
+    mut buffer: Vec<u8>,
     owner: &UnoccludedOwner<'_, N, D>,
     wants_rrsig: bool,
     own: Rtype,
@@ -234,7 +236,8 @@ pub fn list_types<N: ToName, D: ZoneData>(
         || lists_type owner.now.is_zone_cut
         (zone_of N.labels D.rtype D.minimum owner.now.records) t)) }
 {
-    let mut types = RtypeBitmapBuilder::<Vec<u8>>::new(alloc);
+    buffer.clear();
+    let mut types = RtypeBitmapBuilder::with_builder(buffer);
     add_wanted(&mut types, Rtype::RRSIG, wants_rrsig)?;
     add_wanted(&mut types, own, wants_own)?;
     add_wanted(&mut types, Rtype::DNSKEY, wants_dnskey)?;
@@ -242,7 +245,7 @@ pub fn list_types<N: ToName, D: ZoneData>(
     Ok(types.finalize())
 }
 
-/// Whether two records of one type other than RRSIG differ in their TTLs.
+/// Returns whether two records have the same type, other than RRSIG, and different TTLs.
 fn clash<N: ToName, D: ZoneData>(first: &Record<N, D>, second: &Record<N, D>) -> bool
     ensures { result ≡ clashes (as_zone_record N.labels D.rtype D.minimum first.now)
         (as_zone_record N.labels D.rtype D.minimum second.now) }
@@ -251,8 +254,8 @@ fn clash<N: ToName, D: ZoneData>(first: &Record<N, D>, second: &Record<N, D>) ->
     rtype == second.rtype() && rtype != Rtype::RRSIG && first.ttl() != second.ttl()
 }
 
-/// The first type other than RRSIG of which two of these records, whose types never descend, differ
-/// in their TTLs (RFC 2181, section 5.2); None where there is none. Looks at neighbours alone.
+/// Returns the first type, other than RRSIG, of which two records have different TTLs (RFC 2181,
+/// section 5.2). The types of the records never descend, so comparing neighbours is enough.
 pub fn uneven_type<N: ToName, D: ZoneData>(
     mut records: SliceRefsOrOwnedIterator<'_, Record<N, D>>,
 ) -> Option<Rtype>
@@ -275,73 +278,73 @@ pub fn uneven_type<N: ToName, D: ZoneData>(
     None
 }
 
-/// Names of a chain that own records, and the types of each. Once memory was wanting for one it is
-/// full, and is given no other: so the walk that gathers them goes on, and finds the faults of the
-/// owners that are left.
+/// Names of a chain that own records, and the types of each.
+///
+/// Out of memory for one name, the list is full, and gets no other name. The walk that fills it
+/// goes on, and finds the faults of the owners that are left.
 #[derive(Drop)]
 pub struct ListedOwners<'a> {
     /// The names.
     pub names: Vec<ParsedName<'a>>,
-    /// The types of each, whose octets mostly lie in the value itself.
-    pub types: Vec<RtypeBitmap<SmallOctets>>,
-    /// Whether memory was wanting.
+    /// The types of each.
+    pub types: RtypeBitmaps,
+    /// Whether there was no memory for a name.
     pub is_full: bool,
 }
 
 impl<'a> ListedOwners<'a> {
-    /// No owners. Takes no memory.
+    /// Returns a list without owners. Takes no memory.
     fn new(alloc: Global) -> Self
         ensures room { result.is_full ≡ false }
         ensures names { result.names.items ≡ [] }
-        ensures types { result.types.items ≡ [] }
+        ensures types { result.types ≡ [] }
     {
         ListedOwners {
             names: Vec::new(alloc),
-            types: Vec::new(alloc),
+            types: RtypeBitmaps::new(alloc),
             is_full: false,
         }
     }
 
-    /// Adds an owner with its types; where there was no memory for these, or is none to add them,
-    /// it is full.
-    fn add<O: Octets + Drop>(
+    /// Adds an owner with its types. It is full if there is no memory for them, or if they are an
+    /// error. Returns the octets of the types, as a buffer for those of the next owner.
+    fn add(
         &mut self,
         name: ParsedName<'a>,
-        types: Result<RtypeBitmap<O>, OutOfMemory>,
-    )
+        types: Result<RtypeBitmap<Vec<u8>>, OutOfMemory>,
+        alloc: Global,
+    ) -> Vec<u8>
         ensures room { self.new.is_full ≡ false → self.old.is_full ≡ false }
         ensures names { self.new.is_full ≡ false
             → self.new.names.items ≡ self.old.names.items ++ name.entry ∷ [] }
         ensures types { self.new.is_full ≡ false
-            → IsOkAnd types (λ own. self.new.types.items ≡ self.old.types.items ++ own ∷ []) }
+            → IsOkAnd types (λ own. self.new.types ≡ self.old.types ++ own ∷ []) }
     {
         let Ok(types) = types else {
             self.is_full = true;
-            return;
+            return Vec::new(alloc);
         };
-        let Ok(types) = RtypeBitmap::try_octets_from(*self.types.allocator(), types) else {
-            self.is_full = true;
-            return;
-        };
-        if self.types.push(types).is_err() || self.names.push(name).is_err() {
+        if self.types.push(&types).is_err() || self.names.push(name).is_err() {
             self.is_full = true;
         }
+        types.into_octets()
     }
 }
 
-/// Which types a chain lists of an owner.
+/// The types that a chain lists of an owner.
 pub trait ChainTypes {
-    /// The octets of the type bitmap of an owner, which is the apex or not.
+    /// The octets of the type bitmap of an owner. The first argument says whether it is the apex.
     ghost bits: { Self → Bool → OwnerRecords → Octets };
 
-    /// The types of an owner, which is the apex or not.
+    /// Returns the types of an owner. Their octets use the memory of `buffer`, whose own octets are
+    /// dropped.
     ///
     /// # Errors
     ///
     /// `OutOfMemory`.
     fn types_of<N: ToName, D: ZoneData>(
         &self,
-        alloc: Global,
+        buffer: Vec<u8>,
         owner: &UnoccludedOwner<'_, N, D>,
         is_apex: bool,
     ) -> Result<RtypeBitmap<Vec<u8>>, OutOfMemory>
@@ -349,12 +352,12 @@ pub trait ChainTypes {
             (as_owner_records N.labels D.rtype D.minimum owner.now)) };
 }
 
-/// The owners that `UnoccludedOwners::new` goes over, each with the types that a chain lists.
+/// Returns the owners of `UnoccludedOwners::new`, each with the types that a chain lists.
 ///
 /// # Errors
 ///
-/// `MultipleTtlValues` where two records of one of them and one type other than RRSIG differ in
-/// TTL; else `OutOfMemory`.
+/// `MultipleTtlValues` if two records of such an owner have the same type, other than RRSIG, and
+/// different TTLs. Otherwise `OutOfMemory`.
 pub fn list_owners<'a, N: ToName, D: ZoneData, T: ChainTypes>(
     alloc: Global,
     apex: &'a N,
@@ -375,6 +378,7 @@ pub fn list_owners<'a, N: ToName, D: ZoneData, T: ChainTypes>(
 {
     let mut left = UnoccludedOwners::new(apex, records, without_unsigned, below_dname);
     let mut owners = ListedOwners::new(alloc);
+    let mut buffer = Vec::new(alloc);
     'owners: while let Some(owner) = left.next() {
         if uneven_type(owner.records.records()).is_some() {
             return Err(SigningError::MultipleTtlValues);
@@ -382,8 +386,8 @@ pub fn list_owners<'a, N: ToName, D: ZoneData, T: ChainTypes>(
         if owners.is_full {
             continue;
         }
-        let listed = types.types_of(alloc, &owner, owner.name.name_eq(apex));
-        owners.add(owner.name.as_parsed(), listed);
+        let listed = types.types_of(buffer, &owner, owner.name.name_eq(apex));
+        buffer = owners.add(owner.name.as_parsed(), listed, alloc);
     }
     if owners.is_full {
         return Err(SigningError::OutOfMemory);

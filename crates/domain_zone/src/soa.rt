@@ -6,7 +6,7 @@ use domain_base::{Class, Rtype, ToName, Ttl};
 use domain_record::{Record, ZoneData};
 use domain_records::SliceRefsOrOwnedIterator;
 
-/// What the SOA record of an apex gives to a chain.
+/// The numbers of the SOA record of an apex that a chain needs.
 #[derive(Clone, Copy, Debug, PartialEq, Eq)]
 pub struct ApexSoa {
     /// The class of the record.
@@ -18,7 +18,7 @@ pub struct ApexSoa {
 }
 
 impl ApexSoa {
-    /// The TTL of a chain: the lesser of the MINIMUM and the TTL (RFC 9077, section 3.2).
+    /// Returns the TTL of a chain: the lesser of the MINIMUM and the TTL (RFC 9077, section 3.2).
     pub fn chain_ttl(&self) -> Ttl
         ensures { result ≡ chain_ttl self.now }
     {
@@ -26,7 +26,7 @@ impl ApexSoa {
     }
 }
 
-/// Whether the record is an SOA of the apex.
+/// Returns whether the record is an SOA record of the apex.
 fn is_soa_at<N: ToName, D: ZoneData>(apex: &N, candidate: &Record<N, D>) -> bool
     ensures { result ≡ is_soa (N.labels apex.now)
         (as_zone_record N.labels D.rtype D.minimum candidate.now) }
@@ -34,8 +34,8 @@ fn is_soa_at<N: ToName, D: ZoneData>(apex: &N, candidate: &Record<N, D>) -> bool
     candidate.rtype() == Rtype::SOA && candidate.owner().name_eq(apex)
 }
 
-/// What the SOA record of the apex gives to a chain; None where the apex does not own exactly one
-/// record of type SOA, or the data of that one tell no MINIMUM. Takes no memory.
+/// Returns the numbers of the SOA record of the apex. Returns `None` unless the apex owns exactly
+/// one record of type SOA, and its data have a MINIMUM. Takes no memory.
 pub fn find_soa<N: ToName, D: ZoneData>(
     apex: &N,
     mut records: SliceRefsOrOwnedIterator<'_, Record<N, D>>,

@@ -58,7 +58,7 @@ pub fn alike_of<'a, H: Nsec3Hasher>(
     }
 }
 
-/// The outcome, where it would be this one without these pairs: each of them is a fault.
+/// Returns the outcome, where it would be this one without these pairs: each of them is a fault.
 pub fn outcome_with(pairs: &[Alike<'_>], plain: Outcome) -> Outcome
     ensures { result ≡ outcome_with (map pair_of pairs.now) plain }
 {

@@ -18,7 +18,7 @@ pub struct Asked<'a> {
     pub parameters: Option<Nsec3Params>,
 }
 
-/// The name that a word spells, in the arena.
+/// Returns the name that a word spells, in the arena.
 fn stored_name<'a>(
     alloc: Global,
     arena: &'a Bump,
@@ -33,8 +33,8 @@ fn stored_name<'a>(
     Ok(ParsedName::over(wire))
 }
 
-/// What the words ask for: an apex, and after it the iterations and the salt of an NSEC3 chain or
-/// nothing. The apex lies in the arena.
+/// Returns what the words ask for: an apex, and after it the iterations and the salt of an NSEC3
+/// chain or nothing. The apex lies in the arena.
 ///
 /// # Errors
 ///

@@ -10,7 +10,7 @@ use std::alloc::{AllocError, Global};
 /// The number of the first word of a line's data, counted from 1.
 const FIRST: usize = 5;
 
-/// Whether all octets of a word are digits of Base 16, or of Base 64 and what fills it up.
+/// Returns whether all octets of a word are digits of Base 16, or of Base 64 and what fills it up.
 fn are_digits(form: &str, word: &str) -> bool {
     word.as_bytes().iter().all(|octet| match *octet {
         b'+' | b'/' | b'=' => form == BASE64,
@@ -19,8 +19,8 @@ fn are_digits(form: &str, word: &str) -> bool {
     })
 }
 
-/// The place of the first of these words, from a place on, that has an octet which is no digit of
-/// the form.
+/// Returns the place of the first of these words, from a place on, that has an octet which is no
+/// digit of the form.
 fn first_other(form: &str, words: &[&str], from: usize) -> Option<usize> {
     let after = words
         .get(from..)?
@@ -29,8 +29,8 @@ fn first_other(form: &str, words: &[&str], from: usize) -> Option<usize> {
     Some(from.saturating_add(after))
 }
 
-/// What is told of data in the generic form, and of which word, by its number; of this one where
-/// there are too few.
+/// Returns what is told of data in the generic form, and of which word, by its number; of this one
+/// where there are too few.
 fn told_of_generic(
     alloc: Global,
     rtype: Rtype,
@@ -64,8 +64,8 @@ fn told_of_generic(
     Ok((FIRST, text?))
 }
 
-/// What is told of data of which the word of this number in the line can't be read, and of which
-/// word, by its number: octets that are several words are read as one.
+/// Returns what is told of data of which the word of this number in the line can't be read, and of
+/// which word, by its number: octets that are several words are read as one.
 pub fn told_of_data(
     alloc: Global,
     rtype: Rtype,
@@ -104,7 +104,7 @@ pub fn told_of_data(
     Ok((place.saturating_add(FIRST), text))
 }
 
-/// What is told of data that end too early.
+/// Returns what is told of data that end too early.
 pub fn missing_data(alloc: Global, rtype: Rtype, data: &[&str]) -> Result<String, AllocError> {
     if data.first() == Some(&"\\#") {
         return format!(in alloc;

@@ -9,8 +9,8 @@ use denial_program::without_end;
 use std::alloc::{AllocError, Global};
 use std::str;
 
-/// What is wrong in a line, which stands with its end, and at which of its words, by its number
-/// counted from 1.
+/// Returns what is wrong in a line, which stands with its end, and at which of its words, by its
+/// number counted from 1.
 pub fn explain(alloc: Global, line: &[u8]) -> Result<(usize, String), AllocError> {
     let line = without_end(line);
     let mut words = Vec::new(alloc);
@@ -36,8 +36,8 @@ pub fn explain(alloc: Global, line: &[u8]) -> Result<(usize, String), AllocError
     explain_words(alloc, line, &words)
 }
 
-/// The directive of a zone file with which the words begin (RFC 1035, section 5.1; RFC 2308,
-/// section 4).
+/// Returns the directive of a zone file with which the words begin (RFC 1035, section 5.1; RFC
+/// 2308, section 4).
 fn directive_of(words: &[&str]) -> Option<&'static str> {
     let first = words.first()?;
     ["$ORIGIN", "$TTL", "$INCLUDE", "$GENERATE"]
@@ -78,7 +78,7 @@ fn explain_words(
     }
 }
 
-/// What is told of a word that is no data.
+/// Returns what is told of a word that is no data.
 fn told_of_word(
     alloc: Global,
     words: &[&str],
@@ -98,7 +98,7 @@ fn told_of_word(
     }
 }
 
-/// What is told of a part that is missing at the end of the line.
+/// Returns what is told of a part that is missing at the end of the line.
 fn told_of_missing(alloc: Global, data: &[&str], part: Part) -> Result<String, AllocError> {
     let text = match part {
         Part::Owner => "the owner is missing",

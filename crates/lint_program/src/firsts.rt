@@ -8,8 +8,8 @@ use domain_base::ParsedName;
 use std::alloc::AllocError;
 use std::collections::BTreeMap;
 
-/// The first record that came in the group of a record; takes in the record as the first where none
-/// did.
+/// Returns the first record that came in the group of a record; takes in the record as the first
+/// where none did.
 pub fn first_in_group<'z, 'a>(
     look: Look,
     apex: &'z ParsedName<'_>,

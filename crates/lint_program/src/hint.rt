@@ -6,8 +6,8 @@ use std::alloc::{AllocError, Global};
 /// How many octets of a word are quoted.
 const MOST_QUOTED: usize = 60;
 
-/// A word as it is quoted: each octet that is no character of ASCII as a backslash and its number,
-/// and of a long word the beginning.
+/// Returns a word as it is quoted: each octet that is no character of ASCII as a backslash and its
+/// number, and of a long word the beginning.
 pub fn quoted(alloc: Global, word: &[u8]) -> Result<String, AllocError> {
     let mut text = format!(in alloc; "'")?;
     for octet in word.iter().take(MOST_QUOTED) {
@@ -21,7 +21,7 @@ pub fn quoted(alloc: Global, word: &[u8]) -> Result<String, AllocError> {
     Ok(text)
 }
 
-/// What is wrong in a word that no record has, wherever it stands.
+/// Returns what is wrong in a word that no record has, wherever it stands.
 pub fn strange_trouble(word: &str) -> Option<&'static str> {
     const BRACKET: &str =
         "has a bracket, and none is read here: write the record on one line, as denial-zone does";
@@ -33,7 +33,7 @@ pub fn strange_trouble(word: &str) -> Option<&'static str> {
     }
 }
 
-/// How many seconds a unit of a TTL has, as zone files have them and records here do not.
+/// Returns how many seconds a unit of a TTL has, as zone files have them and records here do not.
 fn seconds_of_unit(unit: u8) -> Option<u64> {
     match unit.to_ascii_lowercase() {
         b's' => Some(1),
@@ -45,7 +45,8 @@ fn seconds_of_unit(unit: u8) -> Option<u64> {
     }
 }
 
-/// The seconds that a TTL with units has, as 1h30m. None where the word is no such TTL.
+/// Returns the seconds that a TTL with units has, as 1h30m. Returns `None` if the word is no such
+/// TTL.
 fn seconds_of(word: &str) -> Option<u64> {
     let mut all: u64 = 0;
     let mut number: Option<u64> = None;
@@ -64,7 +65,7 @@ fn seconds_of(word: &str) -> Option<u64> {
     Some(all)
 }
 
-/// What is wrong in a TTL; the word behind it is `next`.
+/// Returns what is wrong in a TTL; the word behind it is `next`.
 pub fn ttl_trouble(alloc: Global, word: &str, next: &str) -> Result<String, AllocError> {
     if let Some(seconds) = seconds_of(word) {
         return format!(in alloc; "write {seconds}, the seconds");
@@ -85,7 +86,7 @@ pub fn ttl_trouble(alloc: Global, word: &str, next: &str) -> Result<String, Allo
     format!(in alloc; "{trouble}")
 }
 
-/// What is wrong in a class.
+/// Returns what is wrong in a class.
 pub fn class_trouble(word: &str) -> &'static str {
     if Rtype::from_token(word).is_ok() {
         return "that is missing before it, as IN";
@@ -114,7 +115,7 @@ const OTHER_TYPES: [(&str, u16); 17] = [
     ("URI", 256),
 ];
 
-/// What is wrong in a type.
+/// Returns what is wrong in a type.
 pub fn type_trouble(alloc: Global, word: &str) -> Result<String, AllocError> {
     for (name, number) in OTHER_TYPES {
         if word.eq_ignore_ascii_case(name) {

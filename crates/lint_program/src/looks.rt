@@ -49,7 +49,7 @@ pub enum Reason {
 }
 
 impl Reason {
-    /// Whether it may be a fault, for which `denial` refuses the records.
+    /// Returns whether it may be a fault, for which `denial` refuses the records.
     pub fn fails(&self) -> bool
         ensures { result ≡ fails self.now }
     {
@@ -72,7 +72,7 @@ pub struct Placed<'z, 'a> {
 /// What puts records together: a name and a number.
 pub type Group<'z> = (Name<&'z [u8]>, u16);
 
-/// A name as a part of a group, in the octets where it lies.
+/// Returns a name as a part of a group, in the octets where it lies.
 fn named<'z>(name: &'z ParsedName<'_>) -> Name<&'z [u8]>
     ensures { result ≡ name.now }
 {
@@ -82,22 +82,22 @@ fn named<'z>(name: &'z ParsedName<'_>) -> Name<&'z [u8]>
     named
 }
 
-/// Whether it is an SOA record of the apex.
+/// Returns whether it is an SOA record of the apex.
 pub fn is_apex_soa(apex: &ParsedName<'_>, borrowed: &BorrowedRecord<'_>) -> bool
     ensures { result ≡ is_apex_soa apex.now borrowed.now }
 {
     borrowed.rtype() == Rtype::SOA && borrowed.owner().name_eq(apex)
 }
 
-/// Whether records of the type may stand beside a CNAME record (RFC 4034, section 2.5 and RFC 2181,
-/// section 10.1).
+/// Returns whether records of the type may stand beside a CNAME record (RFC 4034, section 2.5 and
+/// RFC 2181, section 10.1).
 fn stands_beside_alias(rtype: Rtype) -> bool
     ensures { result ≡ stands_beside_alias rtype }
 {
     rtype == Rtype::RRSIG || rtype == Rtype::NSEC
 }
 
-/// The group of a record.
+/// Returns the group of a record.
 pub fn group_of<'z>(
     look: Look,
     apex: &'z ParsedName<'_>,

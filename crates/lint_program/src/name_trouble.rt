@@ -4,7 +4,7 @@ use crate::wanted::NAME;
 
 const BAD_DIGITS: &str = "a backslash and a digit are followed by two more digits, up to \\255";
 
-/// What is wrong in a word that spells no name.
+/// Returns what is wrong in a word that spells no name.
 pub fn name_trouble(word: &str) -> &'static str {
     // How many octets the last label has, and all before it with their lengths; and behind a
     // backslash how many digits came, and their number.

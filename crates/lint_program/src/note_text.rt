@@ -8,7 +8,7 @@ use domain_base::{ParsedName, ToName};
 use std::alloc::{AllocError, Global};
 
 impl Reason {
-    /// What each note of this reason begins and ends with.
+    /// Returns what each note of this reason begins and ends with.
     pub fn frame(&self) -> (&'static str, &'static str)
         ensures { (result.0.now, result.1.now) ≡ frame self.now }
     {
@@ -32,8 +32,8 @@ impl Reason {
     }
 }
 
-/// What is told of a record for a reason, between the words that each note of it begins and ends
-/// with; `first` is the first before it in its group.
+/// Returns what is told of a record for a reason, between the words that each note of it begins and
+/// ends with; `first` is the first before it in its group.
 pub fn text_of(
     alloc: Global,
     apex: &ParsedName<'_>,

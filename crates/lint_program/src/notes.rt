@@ -18,7 +18,7 @@ use std::collections::BTreeMap;
 pub struct Note {
     /// Why.
     pub reason: Reason,
-    /// The number of the record's line; None where it is told of all.
+    /// The number of the record's line, or `None` if it is told of all.
     pub place: Option<u64>,
     /// What is told between the words that each note of this reason begins and ends with.
     pub text: String,
@@ -72,7 +72,7 @@ fn note_each<'z, 'a>(
     Ok(())
 }
 
-/// Whether the apex owns an SOA record.
+/// Returns whether the apex owns an SOA record.
 fn has_soa(apex: &ParsedName<'_>, records: &[BorrowedRecord<'_>]) -> bool
     ensures { result ≡ list_any (is_apex_soa apex.now) records.now }
 {
@@ -102,7 +102,7 @@ fn note_no_soa(
     Ok(())
 }
 
-/// What is told of records. Where lines were bad, that one is missing is not told.
+/// Returns what is told of records. Where lines were bad, that one is missing is not told.
 pub fn notes_of(
     alloc: Global,
     apex: &ParsedName<'_>,

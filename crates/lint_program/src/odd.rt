@@ -24,7 +24,7 @@ pub enum Shape {
 }
 
 impl Shape {
-    /// What data of the shape are.
+    /// Returns what data of the shape are.
     pub fn text(self) -> &'static str {
         match self {
             Shape::OneName => "one name",
@@ -38,8 +38,8 @@ impl Shape {
     }
 }
 
-/// The shape of data of a type. Anything for a type that is not looked at: those with data of their
-/// own are read by them.
+/// Returns the shape of data of a type. Anything for a type that is not looked at: those with data
+/// of their own are read by them.
 pub fn shape_of(rtype: Rtype) -> Shape
     ensures { result ≡ shape_of rtype }
 {
@@ -54,7 +54,7 @@ pub fn shape_of(rtype: Rtype) -> Shape
     }
 }
 
-/// Whether the octets are texts, each after an octet with its length, and at least one.
+/// Returns whether the octets are texts, each after an octet with its length, and at least one.
 fn are_texts(octets: &[u8]) -> bool
     ensures { IsTrue result ↔ AreTexts octets.now }
 {
@@ -69,7 +69,7 @@ fn are_texts(octets: &[u8]) -> bool
     left == 0 && !octets.is_empty()
 }
 
-/// Whether octets have the shape.
+/// Returns whether octets have the shape.
 pub fn is_such(shape: Shape, octets: &[u8]) -> bool
     ensures { IsTrue result ↔ IsSuch shape octets.now }
 {
@@ -84,7 +84,7 @@ pub fn is_such(shape: Shape, octets: &[u8]) -> bool
     }
 }
 
-/// Whether NSEC3PARAM data have further iterations or a salt (RFC 9276, section 3.1).
+/// Returns whether NSEC3PARAM data have further iterations or a salt (RFC 9276, section 3.1).
 pub fn has_extras(octets: &[u8]) -> bool
     ensures { result ≡ has_extras octets.now }
 {

@@ -14,8 +14,8 @@ pub enum Outcome {
 }
 
 impl Outcome {
-    /// The exit status of the program: 0 where nothing was found, 1 where there is a fault, for
-    /// which `denial nsec` refuses the input, and 3 where there are warnings alone.
+    /// Returns the exit status of the program: 0 where nothing was found, 1 where there is a fault,
+    /// for which `denial nsec` refuses the input, and 3 where there are warnings alone.
     pub fn status(&self) -> u8
         ensures { result ≡ exit_status self.now }
     {
@@ -26,7 +26,7 @@ impl Outcome {
         }
     }
 
-    /// Whether there is a fault.
+    /// Returns whether there is a fault.
     pub fn is_faulty(&self) -> bool
         ensures { result ≡ is_faulty self.now }
     {

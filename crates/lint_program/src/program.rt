@@ -29,8 +29,8 @@ use domain_dnssec::Nsec3Hasher;
 use std::alloc::Global;
 use std::io::{BufRead, Write};
 
-/// What was found but for names that hash alike, where these lines are bad, the records of the
-/// others are sorted, and this is told of them.
+/// Returns what was found but for names that hash alike, where these lines are bad, the records of
+/// the others are sorted, and this is told of them.
 fn outcome_of<'a>(
     alloc: Global,
     apex: &ParsedName<'a>,
@@ -58,9 +58,9 @@ fn outcome_of<'a>(
     }
 }
 
-/// What was found but for names that hash alike, where these lines are bad, these are the records
-/// of the others, and this is told of them; and the names that hash alike. Records of more than one
-/// class are a fault, and none of their names is told.
+/// Returns what was found but for names that hash alike, where these lines are bad, these are the
+/// records of the others, and this is told of them; and the names that hash alike. Records of more
+/// than one class are a fault, and none of their names is told.
 fn judged<'a, H: Nsec3Hasher>(
     alloc: Global,
     apex: &ParsedName<'a>,
@@ -96,10 +96,10 @@ fn judged<'a, H: Nsec3Hasher>(
 ///
 /// # Errors
 ///
-/// The first that stands: `Usage` where the words are no apex, nor an apex with such parameters;
-/// `Read` where the input could not be read; `Signing` where the hasher refuses a name of the
-/// chain; `Write` where the output could not be written; and `OutOfMemory` wherever it comes.
-/// Nothing is written before `Write`. No line and no record is an error.
+/// The first of these that applies: `Usage` where the words are no apex, nor an apex with such
+/// parameters; `Read` where the input could not be read; `Signing` where the hasher refuses a name
+/// of the chain; `Write` where the output could not be written; and `OutOfMemory` wherever it
+/// comes. Nothing is written before `Write`. No line and no record is an error.
 pub fn run_lint<R: BufRead, W: Write, H: Nsec3Hasher>(
     alloc: Global,
     words: &[String],

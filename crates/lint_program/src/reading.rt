@@ -41,14 +41,15 @@ pub struct Lines<'a> {
     ghost paired: { length places.items ≡ length records.items },
 }
 
-/// Whether the first word of a line ends with a dot.
+/// Returns whether the first word of a line ends with a dot.
 fn has_dot(line: &[u8]) -> bool {
     let mut words = line.split(|octet| *octet <= b' ');
     let first = words.find(|word| !word.is_empty());
     first.unwrap_or(line).ends_with(b".")
 }
 
-/// The lines that are no records, and the records of the others, with their octets in the arena.
+/// Returns the lines that are no records, and the records of the others, with their octets in the
+/// arena.
 ///
 /// # Errors
 ///

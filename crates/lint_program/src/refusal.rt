@@ -9,7 +9,8 @@ use std::alloc::{AllocError, Global};
 /// The refusal of a word that is not taken.
 const NOT_TAKEN: ScanError = ScanError::Custom("unknown record data");
 
-/// A refusal of one of so many words: of the last that was taken, or of the next where none was.
+/// Returns a refusal of one of so many words: of the last that was taken, or of the next where none
+/// was.
 fn refusal_at<S: Scanner>(
     scanner: &mut S,
     count: usize,
@@ -32,8 +33,8 @@ fn refusal_at<S: Scanner>(
     Ok(Some((number, part)))
 }
 
-/// The number of the first of these words that can't be read, where there is one, and what it was
-/// to be. Numbers are counted from 1; where a word is missing it is one more than there are.
+/// Returns the number of the first of these words that can't be read, where there is one, and what
+/// it was to be. Numbers are counted from 1; where a word is missing it is one more than there are.
 pub fn refusal_of(alloc: Global, words: &[&str]) -> Result<Option<(usize, Part)>, AllocError> {
     let count = words.len();
     let mut scanner = IterScanner::<ZoneOctets>::new(words);

@@ -15,7 +15,7 @@ use std::alloc::Global;
 use std::io;
 use std::io::Write;
 
-/// A text as it is printed: a question mark in the place of one with octets that are not.
+/// Returns a text as it is printed: a question mark in the place of one with octets that are not.
 fn printed(text: &str) -> &str
     ensures { All IsPrinted result.now }
 {

@@ -77,8 +77,8 @@ const NSEC3_FIELDS: [Field; 6] = [
     ("type", TYPE),
 ];
 
-/// The fields of the data of a type, of which the last may be several words; empty for a type whose
-/// data have no text of their own.
+/// Returns the fields of the data of a type, of which the last may be several words; empty for a
+/// type whose data have no text of their own.
 pub fn fields_of(rtype: Rtype) -> &'static [Field] {
     match rtype.to_int() {
         1 => &[(
@@ -110,7 +110,8 @@ pub fn fields_of(rtype: Rtype) -> &'static [Field] {
     }
 }
 
-/// The field of the data of a type that stands at a place, counted from 0: past the last, the last.
+/// Returns the field of the data of a type that stands at a place, counted from 0: past the last,
+/// the last.
 pub fn field_at(rtype: Rtype, place: usize) -> Option<Field> {
     let fields = fields_of(rtype);
     fields.get(place).or(fields.last()).copied()

@@ -1,6 +1,7 @@
 //! NSEC3 chains of small zones (RFC 5155, section 7.1), what their records prove and answer as a
 //! whole (RFC 5155, section 8), and which of them a server answers with (RFC 5155, section 7.2).
 use super::*;
+use std::fmt::Debug;
 
 /// A chain with its NSEC3PARAM record.
 type Made = Nsec3Records<OwnName, Vec<u8>>;
@@ -22,6 +23,20 @@ fn show(made: Result<Made, ChainError>, answers: &mut Answers) -> Answered {
     let made = answers.ok(made)?;
     answers.show_records(made.nsec3s.as_slice());
     answers.show("record", &made.nsec3param)
+}
+
+/// What records say that are read for each name, and a line more where they say another thing when
+/// they are read once.
+fn say_both<T: Debug + PartialEq, E: Debug + PartialEq>(
+    label: &str,
+    each: &Result<T, E>,
+    once: &Result<T, E>,
+    answers: &mut Answers,
+) -> Answered {
+    if each != once {
+        answers.echo("  another where the records are read once");
+    }
+    answers.debug_made(label, each)
 }
 
 /// Whether a copy of how denial is made is equal to it.
@@ -182,19 +197,32 @@ impl<H: Nsec3Hasher> Hashing<'_, H> {
     /// that was expanded from a wildcard, with the labels that signatures tell in place of a type.
     fn ask(&self, form: &str, chain: &Made, words: &[&str], answers: &mut Answers) -> Answered {
         let (alloc, apex, hasher, most) = (answers.alloc, self.0, self.2, MOST_ITERATIONS);
+        let index = answers.ok(Nsec3Index::new(alloc, apex, chain))?;
         if form == "expanded" {
             let name = answers.name(word(words, 0))?;
             let labels = word(words, 1).parse::<usize>().unwrap_or(0);
             let answer = judge_nsec3_expansion(alloc, apex, chain, &name, labels, most, hasher);
-            return answers.debug_made("answer", &answer);
+            let other = judge_nsec3_index_expansion(alloc, &index, &name, labels, most, hasher);
+            return say_both("answer", &answer, &other, answers);
+        }
+        if form == "within" {
+            let (name, rtype) = answers.question(words.get(1..).unwrap_or(&[]))?;
+            let limits = Nsec3Limits {
+                names: word(words, 0).parse::<usize>().unwrap_or(0),
+                ..Nsec3Limits::default()
+            };
+            let answer = judge_nsec3_within(alloc, &index, &name, rtype, &limits, hasher);
+            return answers.debug_made("within", &answer);
         }
         let (name, rtype) = answers.question(words)?;
         if form == "verdict" {
             let verdict = check_nsec3(alloc, apex, chain, &name, rtype, hasher);
-            answers.debug_made("verdict", &verdict)
+            let other = check_nsec3_index(alloc, &index, &name, rtype, hasher);
+            say_both("verdict", &verdict, &other, answers)
         } else {
             let answer = judge_nsec3(alloc, apex, chain, &name, rtype, most, hasher);
-            answers.debug_made("answer", &answer)
+            let other = judge_nsec3_index(alloc, &index, &name, rtype, most, hasher);
+            say_both("answer", &answer, &other, answers)
         }
     }
 
@@ -220,7 +248,7 @@ impl<H: Nsec3Hasher> Hashing<'_, H> {
             "copies" => self.copies(answers),
             "any" => self.of_any_order(words, answers),
             "borrowed" | "hashes" | "deny" | "denyout" => self.lent(form, words, answers),
-            "verdict" | "judge" | "expanded" => self.judge(form, words, answers),
+            "verdict" | "judge" | "expanded" | "within" => self.judge(form, words, answers),
             _ => self.made(form, words, answers),
         }
     }

@@ -119,6 +119,22 @@ fn without_types(answers: &mut Answers) -> Answered {
     show(&builder.finalize(), &[], answers)
 }
 
+/// A list of bitmaps, each of which a word spells, and what is at each place of it.
+fn list(words: &[&str], answers: &mut Answers) -> Answered {
+    let mut list = RtypeBitmaps::new(answers.alloc);
+    answers.show("empty", &list.is_empty());
+    for word in words {
+        let octets = answers.spelled(&[*word])?;
+        let bitmap = answers.ok(Bitmap::from_octets(octets.as_slice()))?;
+        answers.own(list.push(&bitmap))?;
+    }
+    say!(answers, show "empty": list.is_empty(), show "length": list.len());
+    for place in 0..list.len() {
+        answers.debug("at", &list.get(place));
+    }
+    answers.debug("at", &list.get(list.len()))
+}
+
 /// Types that are added to builders, and types that are then asked for.
 fn of_types(form: &str, words: &[&str], answers: &mut Answers) -> Answered {
     let (added, asked) = halves(words, "/");
@@ -153,6 +169,7 @@ pub fn answer(form: &str, words: &[&str], answers: &mut Answers) -> Answered {
         }
         "windows" => windows(answers),
         "default" => without_types(answers),
+        "list" => list(words, answers),
         "scan" => scan(words, answers),
         "errors" => say!(
             answers, show "text": RtypeBitmapError::ShortInput,

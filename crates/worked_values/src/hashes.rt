@@ -90,6 +90,32 @@ fn compare<E: Default + Debug + Drop>(a: &[u8], b: &[u8], answers: &mut Answers)
     say_methods!(answers, a.(canonical_cmp_to)(&b))
 }
 
+/// The hashes of four names by SHA-1, at once, and that of the last one alone. The names come after
+/// the salt, each in octets.
+pub fn digests(iterations: &str, words: &[&str], answers: &mut Answers) -> Answered {
+    let Some(iterations) = value::<u16>(iterations) else {
+        return answers.echo("  no number of iterations");
+    };
+    let salt = answers.spelled(&[word(words, 0)])?;
+    let first = answers.spelled(&[word(words, 1)])?;
+    let second = answers.spelled(&[word(words, 2)])?;
+    let third = answers.spelled(&[word(words, 3)])?;
+    let fourth = answers.spelled(&[word(words, 4)])?;
+    let names = [
+        first.as_slice(),
+        second.as_slice(),
+        third.as_slice(),
+        fourth.as_slice(),
+    ];
+    let (alloc, algorithm, salt) = (answers.alloc, Nsec3HashAlgorithm::SHA1, salt.as_slice());
+    let hashes = answers.own(Sha1Hasher.hash_four(alloc, names, algorithm, iterations, salt))?;
+    for hash in &hashes {
+        answers.octets("four", hash);
+    }
+    let last = answers.own(Sha1Hasher.hash(alloc, names[3], algorithm, iterations, salt))?;
+    answers.octets("one", &last)
+}
+
 /// Answers a vector on salts and hashes that has octets.
 fn of_octets(form: &str, first: &[u8], second: &[u8], answers: &mut Answers) -> Answered {
     match form {

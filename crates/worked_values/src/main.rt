@@ -14,8 +14,10 @@ use codecs::split_codec;
 use domain_base::*;
 use domain_bitmap::{CountedOctets as Counted, RtypeBitmap as Bitmap, *};
 use domain_codecs::{Codec, DecodeError, base16, base32, base64_standard};
+use domain_hasher::Nsec3Hasher;
 use domain_octets::*;
 use domain_rrsig::Timestamp;
+use domain_sha1::Sha1Hasher;
 use std::alloc::Global;
 use std::collections::{BTreeMap, HashMap};
 use std::fmt::{Debug, Display, Formatter, Result as Printed, Write};
@@ -37,6 +39,7 @@ impl Vectors for Values {
             "scan" => numbers::scanned(form, words, answers),
             "bitmap" => bitmaps::answer(form, words, answers),
             "counted" => hashes::answer(form, words, answers),
+            "digest" => hashes::digests(form, words, answers),
             _ => answers.echo("  no such subject"),
         }
     }

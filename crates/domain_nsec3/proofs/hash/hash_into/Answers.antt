@@ -11,4 +11,4 @@ returns-in_err-octets-clause-err g c =
     grind (arith, common_steps, first_refused)
 
 pub returns-clause-ok : goal.returns-clause-ok
-returns-clause-ok g c = all_hashed _ _ _ _ _ c.loop-place-test.false c.loop-place.invariant.0
+returns-clause-ok g c = all_hashed _ _ _ _ (grind (arith, common_steps)) c.loop-place.invariant.0

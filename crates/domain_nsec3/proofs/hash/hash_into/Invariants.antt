@@ -1,8 +1,8 @@
-use Rattle.std.specs.Prelude.{◌≡◌, ◌≤◌, length, vec_capacity, vec_len}
-use Rattle.domain_nsec3.{proofs.OwnerLemmas.AreHashed, specs.View.{hash_by, parameters_of}}
+use Rattle.std.specs.Prelude.{◌≡◌, ◌≤◌, length, vec_capacity}
+use Rattle.domain_nsec3.specs.{Steps.AreFirstHashes, View.{hash_by, parameters_of}}
 use Rattle.domain_nsec3.proofs.hash.hash_into.Given as goal
 
 abbrev pub invariant-loop-place : goal.invariant-loop-place
 invariant-loop-place g l =
-    AreHashed l.apex (hash_by (g.H.Nsec3Hasher.answer l.hasher) (parameters_of l.params)) l.names l.place l.hashed.items
-    × (vec_len l.hashed ≡ l.place) × (length l.names ≤ vec_capacity l.hashed)
+    AreFirstHashes l.apex (hash_by (g.H.Nsec3Hasher.answer l.hasher) (parameters_of l.params)) l.names l.hashed.items
+    × (length l.hashed.items ≡ l.place) × (length l.names ≤ vec_capacity l.hashed)

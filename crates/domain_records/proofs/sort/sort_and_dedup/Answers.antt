@@ -11,10 +11,10 @@ returns-then-are_strictly_sorted-clause-ok g c =
 pub returns-then-branch-clause-ok : goal.returns-then-branch-clause-ok
 returns-then-branch-clause-ok g c =
     let o = record_cmp_total g.N.ToName.labels g.D.RecordData.rtype g.D.CanonicalOrd.canonical_cmp g.met.D.CanonicalOrd.total in
-    union_distinct o _ _ _ c.in_ok-sort.ensures.ok (c.in_ok-sort.ensures.distinct c.if-branch.true)
+    union_distinct o _ _ _ c.in_ok-sort.ensures.ok.sorted (c.in_ok-sort.ensures.ok.apart c.if-branch.true)
 
 pub returns-clause-ok : goal.returns-clause-ok
 returns-clause-ok g c =
     let R = record_cmp g.N.ToName.labels g.D.RecordData.rtype g.D.CanonicalOrd.canonical_cmp in
     let o = record_cmp_total g.N.ToName.labels g.D.RecordData.rtype g.D.CanonicalOrd.canonical_cmp g.met.D.CanonicalOrd.total in
-    rw (dedup_same _ (eq_by_cmp R) _ (λ x y b f' x' y' k. search rules) _ _ c.dedup_by.ensures.filtered) (union_of o _ _ _ c.in_ok-sort.ensures.ok)
+    rw (dedup_same _ (eq_by_cmp R) _ (λ x y b f' x' y' k. search rules) _ _ c.dedup_by.ensures.filtered) (union_of o _ _ _ c.in_ok-sort.ensures.ok.sorted)

@@ -1,4 +1,4 @@
-use Rattle.std.proofs.{Common.{◌+◌, get_or, ap, ◌∙◌, arith}, lemmas.Grind.common_steps}
+use Rattle.std.proofs.{Common.{[], ◌+◌, get_or, ap, ◌∙◌, arith}, lemmas.Grind.common_steps}
 use Rattle.domain_nsec.{specs.Chain.as_link, proofs.ChainLemmas.{links_counted, link_borrowed}}
 use Rattle.domain_nsec.proofs.chain.NsecChain.lend.Goals as goal
 
@@ -16,6 +16,6 @@ returns-clause-some g c d =
       bits = (c.new-nsec.ensures i).types;
     })
     ∙ link_borrowed _ _ _ _ _ d _ _ _
-    c.self.invariant (omega arith) c.index.ensures (grind (arith, common_steps))
+    c.self.invariant (omega arith) c.index.ensures (c.in_ok-types.ensures.some [])
     (c.owner_or_apex-next.ensures ∙ ap (λ ns. get_or ns (c.args.place + 1) (g.N.ToName.labels c.self.inside.apex.now)) c.deref.ensures.value)
     ∙ ap (λ links. get_or links c.args.place d) c.self.view_is

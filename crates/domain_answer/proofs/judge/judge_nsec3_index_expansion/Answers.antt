@@ -1,0 +1,13 @@
+use Rattle.std.proofs.{Common.{arith, sym, ◌∙◌}, lemmas.Grind.common_steps}
+use Rattle.domain_answer.proofs.HashedAnswerLemmas.{expansion_judged}
+use Rattle.domain_answer.proofs.judge.judge_nsec3_index_expansion.Goals as goal
+
+pub returns-in-Match-clause-judged : goal.returns-in-Match-clause-judged
+returns-in-Match-clause-judged g c =
+    expansion_judged c.hashed_chains_are_known.ensures _ _ c.args.limit _ (grind (arith, common_steps)) c.args.labels
+    (rw c.apex-apex.ensures at (sym c.is_expanded.ensures ∙ c.if-not-is_expanded.false)) (grind (arith, common_steps))
+
+pub returns-in-NoMatch-clause-judged : goal.returns-in-NoMatch-clause-judged
+returns-in-NoMatch-clause-judged g c =
+    expansion_judged c.hashed_chains_are_known.ensures _ _ c.args.limit _ (grind (arith, common_steps)) c.args.labels
+    (rw c.apex-apex.ensures at (sym c.is_expanded.ensures ∙ c.if-not-is_expanded.false)) (grind (arith, common_steps))

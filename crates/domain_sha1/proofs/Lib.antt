@@ -1,0 +1,5 @@
+mod LaneLemmas
+mod RoundLemmas
+mod MessageLemmas
+mod IterateLemmas
+mod HashesLemmas
