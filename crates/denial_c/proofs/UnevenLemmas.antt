@@ -3,7 +3,7 @@ use Rattle.std.proofs.{lemmas.Grind.common_steps, Common.{◌≡◌, ℕ, ◌-�
 use Rattle.std.proofs.{Common.{append_assoc, append-nil, length-append, is_some, Some, None, Option}, lemmas.Bool.{eqb-false, eqb-true, false≢true, not-false}}
 use Rattle.std.{proofs.lemmas.{Bool.not-true, List.Folds.list_any-append}, specs.{Prelude.{Contains, filter}, List.{AllByRecursion, flat_map, list_any}}}
 use Rattle.domain_names.specs.Name.{Name}
-use Rattle.domain_dnssec.{specs.{AnyOrder.Sorts, RawRecords.raw_view}, proofs.AmongLemmas.{contains_in, in_contains}}
+use Rattle.domain_any_order.{specs.{AnyOrder.Sorts, RawRecords.raw_view}, proofs.AmongLemmas.{contains_in, in_contains}}
 use Rattle.domain_borrowed.specs.Data.{minimum_of, RawRecord, zone_of_raw, record_octets, IsRecord}
 use Rattle.domain_zone.specs.Zone.{OwnerRecords, owner_at, as_zone_record, ZoneRecord, clashes, has_clash, has_unequal_ttls, records_of, IsFirstClash}
 use Rattle.domain_zone.proofs.{GivenLemmas.{all_known, name_of, names_back}, WalkLemmas.{any_two, all_both, any_none, weaker}, PairLemmas.{In, all_in}}

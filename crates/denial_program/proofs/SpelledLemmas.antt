@@ -15,7 +15,7 @@ use Rattle.domain_rdata.specs.{Zone.{Kind, next_by_name, next_by_hash, params, p
 use Rattle.domain_rdata.specs.declared.zone_record_data.ZoneRecordData.{ZoneRecordData, TheVariants.{Soa, Nsec, Nsec3, Nsec3param, Unknown}}
 use Rattle.domain_plain.specs.Plain.{soa}
 use Rattle.domain_borrowed.specs.Data.{RawRecord, IsParam, param_record}
-use Rattle.domain_dnssec.{specs.RawRecords.{HaveOneChain, TellsMinimum, raw_record}, proofs.RawLemmas.one_chain}
+use Rattle.domain_any_order.{specs.RawRecords.{HaveOneChain, TellsMinimum, raw_record}, proofs.RawLemmas.one_chain}
 use Rattle.denial_program.specs.{Check.{IsNsecOf, IsNsec3Of}, Listing.{Give, GiveData}, Spelled.{LineText, SpelledRecord}}
 
 abbrev pub SpelledData : Type 0

@@ -7,9 +7,9 @@ use Rattle.domain_records.specs.declared.error.SigningError.TheVariants as signi
 use Rattle.domain_nsec.specs.Chain.{usual_config}
 use Rattle.domain_nsec3.specs.{Chain.ChainConfig, View.{HasherAnswer, hash_by, parameters_of}, declared.config.Nsec3ParamTtlMode.TheVariants.Soa}
 use Rattle.domain_borrowed.specs.Data.{RawRecord}
-use Rattle.domain_dnssec.specs.{AnyOrder.{AreMixed, Sorts as SortsBy, IsChainOf, HasNoChain, IsHashedChainOf, HasNoHashedChain}, RawRecords.raw_view}
-use Rattle.domain_dnssec.specs.declared.chain.ChainError.{ChainError}
-use Rattle.domain_dnssec.specs.declared.chain.ChainError.TheVariants as chain_error
+use Rattle.domain_any_order.specs.{AnyOrder.{AreMixed, Sorts as SortsBy, IsChainOf, HasNoChain, IsHashedChainOf, HasNoHashedChain}, RawRecords.raw_view}
+use Rattle.domain_any_order.specs.declared.error.ChainError.{ChainError}
+use Rattle.domain_any_order.specs.declared.error.ChainError.TheVariants as chain_error
 use Rattle.denial_program.specs.{Check.{HasNoNsec3Verdict, IsNsec3Verdict, IsNsecVerdict}, Command.{Asks, Params}, Run.IsOver, declared.answer.Reply.Reply}
 use Rattle.denial_program.specs.declared.{answer.Reply.TheVariants.{Nsecs, Nsec3s}, command.Command.{Command, TheVariants.{Chain, CheckNsec, CheckNsec3}}}
 use Rattle.denial_program.specs.{declared.fault.DenialFault.{DenialFault, TheVariants.{Unprepared, MixedClasses, Signing, OutOfMemory}}, Fault.prepare_error}

@@ -6,7 +6,7 @@ use Rattle.domain_record.specs.declared.record.Record.{Record}
 use Rattle.domain_rdata.specs.declared.zone_record_data.ZoneRecordData.{ZoneRecordData}
 use Rattle.domain_message.specs.Entry.{EntryText}
 use Rattle.domain_borrowed.specs.Data.{RawRecord}
-use Rattle.domain_dnssec.specs.RawRecords.{raw_record}
+use Rattle.domain_any_order.specs.RawRecords.{raw_record}
 
 abbrev pub SpelledRecord : Type 0
 SpelledRecord = Record Name (ZoneRecordData Octets Name)

@@ -19,10 +19,11 @@ use crate::verdict_text::VerdictText;
 use bumpalo::Bump;
 use domain_base::ParsedName;
 use domain_borrowed::BorrowedRecord;
-use domain_dnssec::{
-    GenerateNsec3Config, GenerateNsecConfig, InPlaceSorter, Nsec3Chain, Nsec3Hasher, NsecChain,
-    RecordsIter, Verdict,
-};
+use domain_checker::Verdict;
+use domain_hasher::Nsec3Hasher;
+use domain_nsec::{GenerateNsecConfig, NsecChain};
+use domain_nsec3::{GenerateNsec3Config, Nsec3Chain};
+use domain_records::{InPlaceSorter, RecordsIter};
 use std::alloc::Global;
 use std::io;
 use std::io::Write;

@@ -11,7 +11,9 @@ use crate::fault::DenialFault;
 use crate::line::ZoneName;
 use domain_base::ParsedName;
 use domain_borrowed::{BorrowedRecord, ReadAs, ReadNsec, ReadNsec3param};
-use domain_dnssec::{Nsec3Hasher, Nsec3Records, check_nsec, check_nsec3};
+use domain_checker::{check_nsec, check_nsec3};
+use domain_hasher::Nsec3Hasher;
+use domain_nsec3::Nsec3Records;
 use domain_octets::OutOfMemory;
 use std::alloc::Global;
 

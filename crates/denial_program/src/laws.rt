@@ -6,7 +6,7 @@ ghost use Rattle.domain_base.specs.Types as rtypes;
 ghost use Rattle.domain_nsec.specs.Chain.{Link};
 ghost use Rattle.domain_nsec3.specs.Chain.{HashedLink, ParamRecord};
 ghost use Rattle.domain_borrowed.specs.Data.{RawRecord, param_record, IsParam};
-ghost use Rattle.domain_dnssec.specs.RawRecords.{HaveOneChain};
+ghost use Rattle.domain_any_order.specs.RawRecords.{HaveOneChain};
 ghost use Rattle.denial_program.specs.{Check.{IsNsecOf, IsNsec3Of}, Listing.{Give, GiveData}};
 ghost use Rattle.denial_program.specs.Spelled.{LineText, SpelledRecord};
 ghost use Rattle.domain_names.specs.Name.{Tokens};

@@ -10,7 +10,7 @@ use crate::answer::write_answer;
 use crate::fault::DenialFault;
 use crate::prepare::{read_command, read_records};
 use bumpalo::Bump;
-use domain_dnssec::Nsec3Hasher;
+use domain_hasher::Nsec3Hasher;
 use std::alloc::Global;
 use std::io::{BufRead, Write};
 

@@ -2,7 +2,7 @@
 ghost use Rattle.std.specs.Prelude.{◌≡◌, IfErr, IfNone, IfOk, IfSome, OnOk};
 ghost use Rattle.domain_base.specs.Scan.{TakesToken};
 ghost use Rattle.domain_names.specs.Text.{NameText};
-ghost use Rattle.domain_dnssec.specs.RawRecords.{raw_data};
+ghost use Rattle.domain_any_order.specs.RawRecords.{raw_data};
 ghost use Rattle.denial_program.specs.Listing.{Refuses};
 
 use crate::arena::store_name;

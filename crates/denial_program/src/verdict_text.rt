@@ -4,7 +4,7 @@ ghost use Rattle.denial_program.specs.Check.{verdict_text};
 
 use crate::line::ZoneName;
 use domain_base::ToName;
-use domain_dnssec::Verdict;
+use domain_checker::Verdict;
 use std::fmt;
 
 /// A verdict on a name, as it is printed.

@@ -1,6 +1,1 @@
-pub mod AmongLemmas
-pub mod AnyOrderLemmas
-pub mod KeptLemmas
-pub mod MappedLemmas
-pub mod RawLemmas
 pub mod WireLemmas

@@ -19,8 +19,9 @@ use Rattle.domain_records.specs.declared.error.SigningError.TheVariants as signi
 use Rattle.domain_hasher.specs.declared.{error.Nsec3HashError.Nsec3HashError, hasher.HasherError.HasherError}
 use Rattle.domain_hasher.specs.declared.error.Nsec3HashError.TheVariants as hash_error
 use Rattle.domain_hasher.specs.declared.hasher.HasherError.TheVariants as hasher_error
-use Rattle.domain_dnssec.specs.declared.{chain.ChainError.ChainError, error.Error.Error}
-use Rattle.domain_dnssec.specs.declared.chain.ChainError.TheVariants as chain_error
+use Rattle.domain_any_order.specs.declared.error.ChainError.{ChainError}
+use Rattle.domain_dnssec.specs.declared.error.Error.{Error}
+use Rattle.domain_any_order.specs.declared.error.ChainError.TheVariants as chain_error
 use Rattle.domain_dnssec.specs.declared.error.Error.TheVariants as variant
 
 abbrev pub of_scanning : ScanError → Error

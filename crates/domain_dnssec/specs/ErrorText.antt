@@ -1,16 +1,9 @@
--- What the errors of this crate say.
+-- What the error of this crate says.
 use Rattle.std.specs.Prelude.{codes}
 use Rattle.domain_octets.specs.Octets.{Octets}
 use Rattle.domain_records.specs.Text.{signing_error_text}
-use Rattle.domain_dnssec.specs.declared.{chain.ChainError.ChainError, error.Error.Error}
-use Rattle.domain_dnssec.specs.declared.chain.ChainError.TheVariants as chain_error
+use Rattle.domain_dnssec.specs.declared.error.Error.{Error}
 use Rattle.domain_dnssec.specs.declared.error.Error.TheVariants as variant
-
-abbrev pub chain_error_text : ChainError → Octets
-chain_error_text chain_error.MixedClasses = codes "more than one class"
-chain_error_text (chain_error.Sort e) = codes "out of memory"
-chain_error_text (chain_error.Signing e) = signing_error_text e
-chain_error_text chain_error.OutOfMemory = codes "out of memory"
 
 abbrev pub error_text : Error → Octets
 error_text variant.EndOfEntry = codes "unexpected end of entry"

@@ -1,10 +1,10 @@
 pub mod AnyOrder
-pub mod RawRecords
 pub mod Error
 pub mod ErrorText
 pub mod Hashed
 pub mod ZoneData
 pub mod Wire
+pub use Rattle.domain_any_order.specs.RawRecords
 pub use Rattle.domain_zone.specs.Covering
 pub use Rattle.domain_zone.specs.Zone
 pub use Rattle.domain_zone.specs.Enclosers

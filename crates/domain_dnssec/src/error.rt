@@ -4,7 +4,7 @@ ghost use Rattle.domain_dnssec.specs.Error.{of_append, of_bitmap, of_chain, of_d
 ghost use Rattle.domain_dnssec.specs.ErrorText.{error_text};
 ghost use Rattle.domain_dnssec.specs.declared.error.Error.TheVariants as variant;
 
-use crate::ChainError;
+use domain_any_order::ChainError;
 use domain_base::{NameError, ParseError, ScanError};
 use domain_bitmap::{Nsec3SaltError, Nsec3SaltFromStrError, OwnerHashError, RtypeBitmapError};
 use domain_codecs::DecodeError;

@@ -17,18 +17,12 @@
 //! clauses cite.
 #![tactic(auto)]
 
-mod any_order;
-mod chain;
 mod config;
 mod error;
 pub mod laws;
 pub mod rdata;
 mod wire;
 
-pub use any_order::generate_nsec3s_of_records;
-pub use any_order::generate_nsecs_of_records;
-pub use any_order::sort_one_class;
-pub use chain::ChainError;
 pub use config::DenialConfig;
 pub use domain_answer::Answer;
 pub use domain_answer::Nsec3Limits;
@@ -38,6 +32,10 @@ pub use domain_answer::judge_nsec3_expansion;
 pub use domain_answer::judge_nsec3_index;
 pub use domain_answer::judge_nsec3_index_expansion;
 pub use domain_answer::judge_nsec3_within;
+pub use domain_any_order::ChainError;
+pub use domain_any_order::generate_nsec3s_of_records;
+pub use domain_any_order::generate_nsecs_of_records;
+pub use domain_any_order::sort_one_class;
 pub use domain_base::CanonicalOrd;
 pub use domain_base::Class;
 pub use domain_base::FromToken;

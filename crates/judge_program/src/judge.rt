@@ -13,7 +13,7 @@ use crate::told::{Parts, write_below};
 use denial_program::{DenialFault, Question, ZoneName, chain_of, fault_of, records_among};
 use domain_answer::{Answer, judge_nsec};
 use domain_borrowed::{BorrowedRecord, ReadNsec};
-use domain_dnssec::Nsec3Hasher;
+use domain_hasher::Nsec3Hasher;
 use std::alloc::Global;
 use std::io;
 use std::io::Write;

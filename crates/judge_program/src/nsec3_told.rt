@@ -20,8 +20,8 @@ use domain_answer::{Answer, judge_nsec3, judge_nsec3_expansion};
 use domain_base::{MAX_NAME, ParsedName, ToName};
 use domain_borrowed::ReadNsec3;
 use domain_checker::{Nsec3Encloser, Nsec3Found, find_nsec3, find_nsec3_encloser};
-use domain_dnssec::{Nsec3Hasher, Nsec3Records};
-use domain_hasher::Nsec3HashError;
+use domain_hasher::{Nsec3HashError, Nsec3Hasher};
+use domain_nsec3::Nsec3Records;
 use std::alloc::Global;
 
 /// What they tell of the closest encloser of a name.

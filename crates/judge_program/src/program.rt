@@ -8,7 +8,7 @@ use crate::command::command_of;
 use crate::judge::write_judged;
 use bumpalo::Bump;
 use denial_program::{DenialFault, read_records};
-use domain_dnssec::Nsec3Hasher;
+use domain_hasher::Nsec3Hasher;
 use std::alloc::Global;
 use std::io::{BufRead, Write};
 

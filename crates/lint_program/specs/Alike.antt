@@ -3,7 +3,7 @@ use Rattle.std.specs.Prelude.{◌≡◌, ◌⊎◌, ℕ, List, [], ◌∷◌, �
 use Rattle.domain_octets.specs.Octets.{Octets}
 use Rattle.domain_names.specs.{Text.name_text, Name.Name}
 use Rattle.domain_alike.specs.Alike.{AreAlike, IsFirstRefusal, Pair}
-use Rattle.domain_dnssec.specs.{AnyOrder.{AreMixed, OfZone}, RawRecords.raw_view}
+use Rattle.domain_any_order.specs.{AnyOrder.{AreMixed, OfZone}, RawRecords.raw_view}
 use Rattle.domain_borrowed.specs.Data.{RawRecord}
 use Rattle.domain_nsec3.specs.View.{HasherAnswer}
 use Rattle.denial_program.specs.{Answer.usual_nsec3_config, Command.Params, Text.lines_of}

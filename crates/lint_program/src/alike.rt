@@ -14,9 +14,9 @@ use denial_program::{DenialFault, Nsec3Params, ZoneOctets};
 use domain_alike::{Alike, alike_names};
 use domain_base::ParsedName;
 use domain_borrowed::BorrowedRecord;
-use domain_dnssec::{
-    GenerateNsec3Config, InPlaceSorter, Nsec3HashError, Nsec3Hasher, SigningError,
-};
+use domain_hasher::{Nsec3HashError, Nsec3Hasher};
+use domain_nsec3::GenerateNsec3Config;
+use domain_records::{InPlaceSorter, SigningError};
 use std::alloc::Global;
 
 /// Of the names of the NSEC3 chain that `denial nsec3` would make of sorted records with these

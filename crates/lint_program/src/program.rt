@@ -25,7 +25,7 @@ use denial_program::{DenialFault, Nsec3Params, fault_of, nsecs_of, sort_zone};
 use domain_alike::Alike;
 use domain_base::ParsedName;
 use domain_borrowed::BorrowedRecord;
-use domain_dnssec::Nsec3Hasher;
+use domain_hasher::Nsec3Hasher;
 use std::alloc::Global;
 use std::io::{BufRead, Write};
 

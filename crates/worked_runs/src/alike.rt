@@ -2,10 +2,13 @@
 use crate::outcome::{show, text_of};
 use denial_program::sort_zone;
 use domain_alike::{first_alike, write_lowered};
-use domain_base::{IterScanner, ParsedName, Scanner, ToName};
+use domain_base::{IterScanner, Name, ParsedName, Scanner, ToName};
 use domain_borrowed::{BorrowedRecord, read_record};
 use domain_codecs::Codec;
-use domain_dnssec::{GenerateNsec3Config, InPlaceSorter, Name, Nsec3Hasher, Parser};
+use domain_hasher::Nsec3Hasher;
+use domain_nsec3::GenerateNsec3Config;
+use domain_octets::Parser;
+use domain_records::InPlaceSorter;
 use lint_program::run_lint;
 use std::alloc::Global;
 use std::io;

@@ -2,7 +2,8 @@
 ghost use Rattle.std.specs.{Prelude.{Ok, length}, Int.{w64, to_be_bytes}};
 ghost use Rattle.domain_sha1.specs.Iterated.{sha1_answer};
 
-use domain_dnssec::{HasherError, Nsec3HashAlgorithm, Nsec3Hasher};
+use domain_base::Nsec3HashAlgorithm;
+use domain_hasher::{HasherError, Nsec3Hasher};
 use domain_sha1::Sha1Hasher;
 use std::alloc::Global;
 use std::cell::Cell;

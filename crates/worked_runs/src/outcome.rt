@@ -1,6 +1,6 @@
 //! What a run writes, or what it says of its fault.
 use denial_program::run_denial;
-use domain_dnssec::Nsec3Hasher;
+use domain_hasher::Nsec3Hasher;
 use domain_sha1::Sha1Hasher;
 use std::alloc::Global;
 use std::io;

@@ -1,7 +1,7 @@
 use Rattle.std.proofs.{Common.{◌∙◌, subst}, lemmas.List.Elements.All-contains_itself}
 use Rattle.domain_answer.specs.Reading.{IsAnswered}
 use Rattle.domain_checker.proofs.MeantLemmas.{contained_alike}
-use Rattle.domain_dnssec.proofs.AnyOrderLemmas.{of_zone}
+use Rattle.domain_any_order.proofs.AnyOrderLemmas.{of_zone}
 use Rattle.domain_dnssec.proofs.laws.answers_tell_of_records.Goals as goal
 
 pub returns-clause-some : goal.returns-clause-some

@@ -1,6 +1,6 @@
 use Rattle.std.proofs.{Common.{◌∙◌, subst}, lemmas.List.Elements.All-contains_itself}
 use Rattle.domain_checker.{proofs.MeantLemmas.contained_alike, specs.Verdict.IsProved}
-use Rattle.domain_dnssec.proofs.AnyOrderLemmas.{of_zone}
+use Rattle.domain_any_order.proofs.AnyOrderLemmas.{of_zone}
 use Rattle.domain_dnssec.proofs.laws.verdicts_tell_of_records.Goals as goal
 
 pub returns-clause-some : goal.returns-clause-some

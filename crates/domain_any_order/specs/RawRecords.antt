@@ -9,7 +9,7 @@ use Rattle.domain_rdata.specs.declared.zone_record_data.ZoneRecordData.{ZoneReco
 use Rattle.domain_nsec.specs.{Chain.Link, declared.config.GenerateNsecConfig.GenerateNsecConfig}
 use Rattle.domain_nsec3.specs.{Chain.{HashedLink, ParamRecord, ChainConfig}, declared.config.Nsec3ParamTtlMode.Nsec3ParamTtlMode}
 use Rattle.domain_borrowed.specs.Data.{RawData, RawRecord, data_cmp as raw_cmp, minimum_of, raw_record_of}
-use Rattle.domain_dnssec.specs.{AnyOrder.{View, seen, IsChainOf, HasNoChain, IsHashedChainOf, HasNoHashedChain}, declared.chain.ChainError.ChainError}
+use Rattle.domain_any_order.specs.{AnyOrder.{View, seen, IsChainOf, HasNoChain, IsHashedChainOf, HasNoHashedChain}, declared.error.ChainError.ChainError}
 
 -- the data of an SOA are read as such, and their MINIMUM has 32 bits (RFC 1035, section 3.3.13)
 abbrev pub TellsMinimum : {O N : Type 0} → ZoneRecordData O N → Type 0

@@ -1,7 +1,7 @@
 use Rattle.std.proofs.Common.{refl, ◌∙◌, subst}
 use Rattle.domain_records.specs.Order.{IsOneClass}
-use Rattle.domain_dnssec.specs.AnyOrder.{seen}
-use Rattle.domain_dnssec.proofs.any_order.sort_one_class.Goals as goal
+use Rattle.domain_any_order.specs.AnyOrder.{seen}
+use Rattle.domain_any_order.proofs.any_order.sort_one_class.Goals as goal
 
 -- of one class before they are sorted, and so after it
 pub returns-clause-one_class : goal.returns-clause-one_class

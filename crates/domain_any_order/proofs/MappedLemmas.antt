@@ -4,7 +4,7 @@ use Rattle.std.{proofs.lemmas.List.Elements.All-from_recursion, specs.{Prelude.{
 use Rattle.std.specs.{List.Sorted.IsStrictlySortedBy, Ordering.{is_eq, ordering_reverse}, declared.cmp.Ordering.{Ordering, TheVariants.{Less, Equal, Greater}}}
 use Rattle.domain_records.specs.Order.{IsUnion, first_equal}
 use Rattle.domain_zone.proofs.PairLemmas.{In, all_in, all_from_in, in_map, from_map, find_some}
-use Rattle.domain_dnssec.proofs.AmongLemmas.{contains_in, in_contains}
+use Rattle.domain_any_order.proofs.AmongLemmas.{contains_in, in_contains}
 
 itself : (o : Ordering) → o ≡ ordering_reverse o → o ≡ Equal
 itself Less e = absurd (cc)

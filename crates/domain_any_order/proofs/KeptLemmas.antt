@@ -9,7 +9,7 @@ use Rattle.domain_zone.specs.Zone.{is_soa, numbers_of, of_only, soa_of, as_zone_
 use Rattle.domain_zone.{specs.{Zone.{is_unoccluded, owns}, declared.soa.ApexSoa.ApexSoa}, proofs.NameLemmas.{one_lowered, lowered_below, same_lowered}}
 use Rattle.domain_zone.proofs.{NameLemmas.either_way, WalkLemmas.{any_filter, any_two, any_map}, PairLemmas.{In, in_filter, in_filtered, in_map, from_map}}
 use Rattle.domain_base.specs.Types.{ns, dname}
-use Rattle.domain_dnssec.{specs.AnyOrder.{Sorts, View, zone_seen}, proofs.AmongLemmas.{contains_in, in_contains, pair_of_two, all_pairs}}
+use Rattle.domain_any_order.{specs.AnyOrder.{Sorts, View, zone_seen}, proofs.AmongLemmas.{contains_in, in_contains, pair_of_two, all_pairs}}
 
 then_equal : (x y : Ordering) → ordering_then x y ≡ Equal → (x ≡ Equal) × (y ≡ Equal)
 then_equal x y e = grind (arith, common_steps)

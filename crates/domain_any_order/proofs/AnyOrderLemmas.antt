@@ -4,7 +4,7 @@ use Rattle.domain_record.specs.declared.record.Record.{Record}
 use Rattle.domain_names.specs.Name.{Name}
 use Rattle.domain_nsec.specs.{declared.config.GenerateNsecConfig.GenerateNsecConfig, Chain.IsFirstFault}
 use Rattle.domain_nsec3.specs.Chain.{ChainConfig, IsFirstFault as IsFirstHashedFault}
-use Rattle.domain_dnssec.specs.AnyOrder.{Sorts, OfZone, HasNoChain, HasNoHashedChain, View, chain_error_of, zone_seen}
+use Rattle.domain_any_order.specs.AnyOrder.{Sorts, OfZone, HasNoChain, HasNoHashedChain, View, chain_error_of, zone_seen}
 use Rattle.domain_records.specs.{Order.IsOneClass, declared.error.SigningError.SigningError}
 use Rattle.domain_zone.specs.Zone.{OwnersNeverDescend, ZoneRecord}
 

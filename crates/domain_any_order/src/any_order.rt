@@ -3,9 +3,9 @@ ghost use Rattle.std.specs.Prelude.{IfErr, IfOk};
 ghost use Rattle.domain_records.specs.Order.{IsOneClass};
 ghost use Rattle.domain_nsec.specs.Chain.{links_of};
 ghost use Rattle.domain_nsec3.specs.View.{as_param_record, config_of, hashed_links_of};
-ghost use Rattle.domain_dnssec.specs.AnyOrder.{HasNoChain, HasNoHashedChain, HasNoSet, IsChainOf, IsHashedChainOf, Sorts, seen};
+ghost use Rattle.domain_any_order.specs.AnyOrder.{HasNoChain, HasNoHashedChain, HasNoSet, IsChainOf, IsHashedChainOf, Sorts, seen};
 
-use crate::chain::ChainError;
+use crate::error::ChainError;
 use crate::laws::sorting_keeps_classes_and_records;
 use domain_base::{CanonicalOrd, MakeName, ToName};
 use domain_hasher::Nsec3Hasher;

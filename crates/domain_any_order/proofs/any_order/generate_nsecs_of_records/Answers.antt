@@ -1,4 +1,4 @@
-use Rattle.domain_dnssec.proofs.any_order.generate_nsecs_of_records.Goals as goal
+use Rattle.domain_any_order.proofs.any_order.generate_nsecs_of_records.Goals as goal
 
 pub returns-clause-ok : goal.returns-clause-ok
 returns-clause-ok g c = record {

@@ -1,7 +1,7 @@
 //! Why records have no chain.
 ghost use Rattle.std.specs.Prelude.{◌≡◌, Some};
-ghost use Rattle.domain_dnssec.specs.{AnyOrder.chain_error_of, ErrorText.chain_error_text};
-ghost use Rattle.domain_dnssec.specs.declared.chain.ChainError.TheVariants as chain_error;
+ghost use Rattle.domain_any_order.specs.{AnyOrder.chain_error_of, ErrorText.chain_error_text};
+ghost use Rattle.domain_any_order.specs.declared.error.ChainError.TheVariants as chain_error;
 
 use domain_records::{SigningError, SortError};
 use std::error::Error;

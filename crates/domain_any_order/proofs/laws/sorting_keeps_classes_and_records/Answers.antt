@@ -1,5 +1,5 @@
-use Rattle.domain_dnssec.proofs.KeptLemmas.{classes_kept, soa_among}
-use Rattle.domain_dnssec.proofs.laws.sorting_keeps_classes_and_records.Goals as goal
+use Rattle.domain_any_order.proofs.KeptLemmas.{classes_kept, soa_among}
+use Rattle.domain_any_order.proofs.laws.sorting_keeps_classes_and_records.Goals as goal
 
 pub returns-clause-classes : goal.returns-clause-classes
 returns-clause-classes g c = classes_kept

@@ -9,9 +9,9 @@ use Rattle.domain_records.specs.{Order.IsOneClass, declared.error.SigningError.{
 use Rattle.domain_zone.specs.Zone.{zone_of, ZoneRecord}
 use Rattle.domain_borrowed.{proofs.DataLemmas.minimum_last, specs.Data.{RawRecord, data_cmp as raw_cmp, data_cmp_total as raw_cmp_total}}
 use Rattle.domain_borrowed.specs.Data.{minimum_of as raw_minimum, zone_of_raw}
-use Rattle.domain_dnssec.specs.RawRecords.{HaveOneChain, TellMinima, TellsMinimum, raw_data, raw_record, raw_view, zone_view}
-use Rattle.domain_dnssec.specs.AnyOrder.{HasNone, IsWholeHashedChain, OfZone}
-use Rattle.domain_dnssec.{specs.declared.chain.ChainError.{ChainError, TheVariants.{MixedClasses, Sort, Signing, OutOfMemory}}, proofs.MappedLemmas.sets_back}
+use Rattle.domain_any_order.specs.RawRecords.{HaveOneChain, TellMinima, TellsMinimum, raw_data, raw_record, raw_view, zone_view}
+use Rattle.domain_any_order.specs.AnyOrder.{HasNone, IsWholeHashedChain, OfZone}
+use Rattle.domain_any_order.{specs.declared.error.ChainError.{ChainError, TheVariants.{MixedClasses, Sort, Signing, OutOfMemory}}, proofs.MappedLemmas.sets_back}
 use Rattle.domain_nsec.specs.Chain.{IsChain, IsFaultless, IsFirstFault}
 use Rattle.domain_nsec3.specs.Chain.{IsReady, IsFirstFault as IsFirstHashedFault}
 

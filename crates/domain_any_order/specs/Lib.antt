@@ -1,0 +1,3 @@
+pub mod AnyOrder
+pub mod RawRecords
+pub mod ErrorText
