@@ -11,7 +11,8 @@ use Rattle.domain_borrowed.{proofs.DataLemmas.minimum_last, specs.Data.{RawRecor
 use Rattle.domain_borrowed.specs.Data.{minimum_of as raw_minimum, zone_of_raw}
 use Rattle.domain_any_order.specs.RawRecords.{HaveOneChain, TellMinima, TellsMinimum, raw_data, raw_record, raw_view, zone_view}
 use Rattle.domain_any_order.specs.AnyOrder.{HasNone, IsWholeHashedChain, OfZone}
-use Rattle.domain_any_order.{specs.declared.error.ChainError.{ChainError, TheVariants.{MixedClasses, Sort, Signing, OutOfMemory}}, proofs.MappedLemmas.sets_back}
+use Rattle.domain_any_order.specs.declared.error.ChainError.{ChainError, TheVariants.{MixedClasses, Sort, Signing, OutOfMemory}}
+use Rattle.domain_any_order.proofs.MappedLemmas.{sets_back}
 use Rattle.domain_nsec.specs.Chain.{IsChain, IsFaultless, IsFirstFault}
 use Rattle.domain_nsec3.specs.Chain.{IsReady, IsFirstFault as IsFirstHashedFault}
 
