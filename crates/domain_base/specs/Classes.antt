@@ -1,4 +1,4 @@
--- The class of records that definitions name, by its number (RFC 1035, section 3.2.4).
+-- The number of the class that definitions use (RFC 1035, section 3.2.4).
 use Rattle.std.specs.Prelude.{ℕ}
 
 -- the Internet

@@ -1,8 +1,8 @@
--- Types of records that definitions name, by their numbers (RFC 1035, section 3.2.2, and the
--- documents that added to it); Numbers.antt has all that have a name.
+-- The numbers of the types of records that definitions use (RFC 1035, section 3.2.2, and the
+-- documents that added to it). Numbers.antt has all types that have a name.
 use Rattle.std.specs.Prelude.{ℕ, List}
 
--- types of records by their numbers
+-- types of records, each as its number
 abbrev pub Rtypes : Type 0
 Rtypes = List ℕ
 

@@ -1,4 +1,4 @@
-//! The numbers of algorithms.
+//! Algorithm numbers.
 ghost use Rattle.std.specs.{Prelude.{◌≡◌, ℕ, Some}, Fmt.decimal};
 ghost use Rattle.domain_base.specs.Scan.{IsNumber, IsNoNumber, OneToken, ReadsTokens, RefusesToken};
 
@@ -7,7 +7,7 @@ use domain_names::ScanError;
 use std::fmt;
 use std::marker::{Model, PhantomData};
 
-/// An algorithm of a kind: a number of 8 bits.
+/// An algorithm of kind `K`: a number of 8 bits.
 #[derive_where(Clone, Copy, PartialEq, Eq, PartialOrd, Ord, Hash)]
 pub struct Algorithm<K>(u8, #[derive_where(skip)] PhantomData<K>);
 
@@ -34,9 +34,9 @@ impl<K> Algorithm<K> {
         self.0
     }
 
-    /// Returns the algorithm that the next token spells: a decimal number of at most 255. Any other
-    /// token is the error `Custom("decimal number expected")`, and a missing one is `EndOfEntry`.
-    /// An error skips the token too.
+    /// Parses the next token as the number of an algorithm: a decimal number of at most 255.
+    /// Returns `Custom("decimal number expected")` for any other token, and `EndOfEntry` if none is
+    /// left. An error skips the token too.
     pub fn scan<S: Scanner>(scanner: &mut S) -> Result<Algorithm<K>, ScanError>
         ensures { ReadsTokens (OneToken (IsNumber 8)) (λ value. value) (RefusesToken (IsNoNumber 8))
             (S.tokens scanner.old) (S.tokens scanner.new) result }
@@ -45,7 +45,7 @@ impl<K> Algorithm<K> {
     }
 }
 
-/// A decimal number of at most 255. Any other token is the error `Custom("decimal number
+/// Parses a decimal number of at most 255. Any other token is the error `Custom("decimal number
 /// expected")`.
 impl<K> FromToken for Algorithm<K> {
     ghost spells = { IsNumber 8 };
@@ -57,7 +57,7 @@ impl<K> FromToken for Algorithm<K> {
     }
 }
 
-/// The number in decimal digits.
+/// Writes the number in decimal digits.
 impl<K> fmt::Display for Algorithm<K> {
     ghost output = { λ a. Some (decimal a) };
 
@@ -66,7 +66,7 @@ impl<K> fmt::Display for Algorithm<K> {
     }
 }
 
-/// What a key or a signature is made by.
+/// The kind of algorithms that make keys and signatures.
 pub struct Signing;
 
 /// The algorithm of a key or of a signature: a number of 8 bits (RFC 4034, appendix A.1).
@@ -104,7 +104,7 @@ impl fmt::Debug for SecurityAlgorithm {
     }
 }
 
-/// What the digest of a key is made by.
+/// The kind of algorithms that make digests of keys.
 pub struct Digesting;
 
 /// The algorithm of the digest of a key: a number of 8 bits (RFC 4034, section 5.1.3).
@@ -127,7 +127,7 @@ impl fmt::Debug for DigestAlgorithm {
     }
 }
 
-/// What names are hashed by.
+/// The kind of algorithms that hash names.
 pub struct Hashing;
 
 /// The algorithm of the hashes of names: a number of 8 bits (RFC 5155, section 3.1.1).

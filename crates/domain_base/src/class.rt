@@ -44,9 +44,9 @@ impl Class {
         self.0
     }
 
-    /// Returns the class that the next token spells: its name or `CLASS` and its number, in either
-    /// case (RFC 3597, section 5). Any other token is the error `Custom("unknown class")`, and a
-    /// missing one is `EndOfEntry`. An error skips the token too.
+    /// Parses the next token as a class: its name, or `CLASS` and its number, in either case (RFC
+    /// 3597, section 5). Returns `Custom("unknown class")` for any other token, and `EndOfEntry` if
+    /// none is left. An error skips the token too.
     pub fn scan<S: Scanner>(scanner: &mut S) -> Result<Class, ScanError>
         ensures { ReadsTokens (OneToken ClassText) (λ value. value) (RefusesToken IsNoClass)
             (S.tokens scanner.old) (S.tokens scanner.new) result }
@@ -71,15 +71,15 @@ impl From<Class> for u16 {
     }
 }
 
-/// Returns the classes that are known by a name.
+/// Returns the classes that have a name.
 fn names() -> &'static [(u16, &'static str)]
     ensures { entries result.now ≡ class_names }
 {
     &[(1, "IN"), (3, "CH"), (4, "HS")]
 }
 
-/// The name of a class or `CLASS` and its number, in either case (RFC 3597, section 5). Any other
-/// token is the error `Custom("unknown class")`.
+/// Parses the name of a class, or `CLASS` and its number, in either case (RFC 3597, section 5). Any
+/// other token is the error `Custom("unknown class")`.
 impl FromToken for Class {
     ghost spells = { ClassText };
 
@@ -93,7 +93,7 @@ impl FromToken for Class {
     }
 }
 
-/// The class's name in capitals, or `CLASS` and its number.
+/// Writes the name of the class in capitals, or `CLASS` and its number.
 impl fmt::Display for Class {
     ghost output = { λ c. Some (class_text c) };
 

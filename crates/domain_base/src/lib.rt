@@ -1,13 +1,14 @@
-//! Names, and the numbers that stand beside them in records.
+//! Names, and the numbers in records.
 //!
-//! - The names of `domain_names`, handed on: [`Name`], [`ParsedName`], [`ToName`] and their order.
+//! - The names of `domain_names`, re-exported: [`Name`], [`ParsedName`], [`ToName`] and their
+//!   order.
 //! - [`Rtype`], [`Class`], [`Ttl`], [`Serial`] and the numbers of algorithms.
-//! - [`Scanner`] hands out the tokens of an entry of a zone file (RFC 1035, section 5.1), and
-//!   [`FromToken`] is a value that one token spells.
+//! - [`Scanner`] returns the tokens of an entry of a zone file (RFC 1035, section 5.1).
+//!   [`FromToken`] is the trait of values that one token spells.
 //!
-//! The crate above may rely on this: a contract sees a number as a number; what is read from octets
-//! or from a text is exactly a grammar, with the first fault as the refusal; and the module `laws`
-//! has what follows of names, of their order, and of texts.
+//! Other crates may rely on this. A contract sees a number as a number. Octets and texts are read
+//! by a grammar, and an error is the first fault. The module `laws` has the laws of names, of their
+//! order, and of texts.
 #![tactic(auto)]
 
 mod algorithm;

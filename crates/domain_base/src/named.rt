@@ -1,4 +1,4 @@
-//! Numbers that have names of their own.
+//! Numbers that may have a name.
 ghost use Rattle.std.specs.Prelude.{◌≡◌, ◌<◌, ℕ, length, IfSome, IfNone, MatchOption};
 ghost use Rattle.std.specs.{Option.option_map, Str.IsAscii, Fmt.WritesOnOk};
 ghost use Rattle.domain_base.specs.Numbers.{entries, number_named, name_of, HasPrefix, IsWithoutPrefix};
@@ -7,7 +7,7 @@ ghost use Rattle.domain_base.specs.Numbers.{NumberText, number_text};
 use crate::FromToken;
 use std::fmt;
 
-/// Returns the number that the table has for a name, in either case.
+/// Returns the number of a name in the table, in either case.
 #[tactic(auto, using(crate::proofs::TextLemmas::same_yes, crate::proofs::TextLemmas::same_no, std::proofs::lemmas::List::drop_more))]
 pub fn number_named(table: &[(u16, &str)], text: &str) -> Option<u16>
     ensures { result ≡ number_named (entries table.now) text.now }
@@ -20,7 +20,7 @@ pub fn number_named(table: &[(u16, &str)], text: &str) -> Option<u16>
     None
 }
 
-/// Returns the name that the table has for a number.
+/// Returns the name of a number in the table.
 pub fn name_of<'a>(table: &[(u16, &'a str)], number: u16) -> Option<&'a str>
     ensures { option_map (λ name. name.now) result ≡ name_of (entries table.now) number }
 {
@@ -32,7 +32,7 @@ pub fn name_of<'a>(table: &[(u16, &'a str)], number: u16) -> Option<&'a str>
     None
 }
 
-/// Returns what follows the prefix, in either case, where the text begins with it.
+/// Returns the text after the prefix, in either case, or None if the text does not begin with it.
 fn after_prefix<'a>(text: &'a str, prefix: &str) -> Option<&'a str>
     requires ascii { IsAscii prefix.now }
     requires some { 0 < length prefix.now }
@@ -48,7 +48,7 @@ fn after_prefix<'a>(text: &'a str, prefix: &str) -> Option<&'a str>
     Some(rest)
 }
 
-/// Returns the number that a text stands for: by its name, or by the prefix and decimal digits.
+/// Returns the number that a text spells: by its name, or by the prefix and decimal digits.
 #[tactic(auto, using(crate::specs::Numbers::by_name, crate::specs::Numbers::by_number, crate::proofs::TextLemmas::no_number, crate::proofs::TextLemmas::no_digits))]
 pub fn read_number(table: &[(u16, &str)], prefix: &str, text: &str) -> Option<u16>
     requires ascii { IsAscii prefix.now }
@@ -64,7 +64,7 @@ pub fn read_number(table: &[(u16, &str)], prefix: &str, text: &str) -> Option<u1
     u16::from_token(digits).ok()
 }
 
-/// Writes the name of a number, or the prefix and its decimal digits.
+/// Writes the name of a number, or the prefix and the number in decimal digits.
 pub fn write_number<W: fmt::Write>(
     table: &[(u16, &str)],
     prefix: &str,

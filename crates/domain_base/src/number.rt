@@ -1,10 +1,10 @@
-//! Numbers as text.
+//! Decimal numbers.
 ghost use Rattle.domain_base.specs.Scan.{IsNumber, IsNoNumber};
 
 use crate::FromToken;
 use domain_names::ScanError;
 
-/// One or more decimal digits without a sign, at most 4,294,967,295.
+/// Parses one or more decimal digits without a sign, at most 4,294,967,295.
 impl FromToken for u32 {
     ghost spells = { IsNumber 32 };
 
@@ -20,7 +20,7 @@ impl FromToken for u32 {
     }
 }
 
-/// One or more decimal digits without a sign, at most 65,535.
+/// Parses one or more decimal digits without a sign, at most 65,535.
 impl FromToken for u16 {
     ghost spells = { IsNumber 16 };
 
@@ -32,7 +32,7 @@ impl FromToken for u16 {
     }
 }
 
-/// One or more decimal digits without a sign, at most 255.
+/// Parses one or more decimal digits without a sign, at most 255.
 impl FromToken for u8 {
     ghost spells = { IsNumber 8 };
 

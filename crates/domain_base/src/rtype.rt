@@ -23,10 +23,10 @@ impl Model for Rtype {
 }
 
 impl Rtype {
-    /// An address of a host (RFC 1035).
+    /// The address of a host (RFC 1035).
     pub const A: Rtype = Rtype(1);
 
-    /// A name server that is authoritative for a zone (RFC 1035).
+    /// An authoritative name server of a zone (RFC 1035).
     pub const NS: Rtype = Rtype(2);
 
     /// The canonical name of an alias (RFC 1035).
@@ -50,7 +50,7 @@ impl Rtype {
     /// An IPv6 address of a host (RFC 3596).
     pub const AAAA: Rtype = Rtype(28);
 
-    /// The place of a service (RFC 2782).
+    /// The location of a service (RFC 2782).
     pub const SRV: Rtype = Rtype(33);
 
     /// A naming authority pointer (RFC 3403).
@@ -101,7 +101,7 @@ impl Rtype {
     /// A service binding for HTTPS (RFC 9460).
     pub const HTTPS: Rtype = Rtype(65);
 
-    /// A sender policy (RFC 7208).
+    /// The Sender Policy Framework (RFC 7208).
     pub const SPF: Rtype = Rtype(99);
 
     /// An authorization of certification authorities (RFC 8659).
@@ -121,9 +121,9 @@ impl Rtype {
         self.0
     }
 
-    /// Returns the type that the next token spells: its name or `TYPE` and its number, in either
-    /// case (RFC 3597, section 5). Any other token is the error `Custom("unknown record type")`,
-    /// and a missing one is `EndOfEntry`. An error skips the token too.
+    /// Parses the next token as a type: its name, or `TYPE` and its number, in either case (RFC
+    /// 3597, section 5). Returns `Custom("unknown record type")` for any other token, and
+    /// `EndOfEntry` if none is left. An error skips the token too.
     pub fn scan<S: Scanner>(scanner: &mut S) -> Result<Rtype, ScanError>
         ensures { ReadsTokens (OneToken TypeText) (λ value. value) (RefusesToken IsNoType)
             (S.tokens scanner.old) (S.tokens scanner.new) result }
@@ -148,8 +148,8 @@ impl From<Rtype> for u16 {
     }
 }
 
-/// Returns the types that are known by a name, those first that zones and their chains have most
-/// of, since a table is looked through from its beginning.
+/// Returns the types that have a name. A table is searched from its beginning, so the types that
+/// zones and their chains have most of come first.
 fn names() -> &'static [(u16, &'static str)]
     ensures { entries result.now ≡ type_names }
 {
@@ -185,8 +185,8 @@ fn names() -> &'static [(u16, &'static str)]
     ]
 }
 
-/// The name of a type or `TYPE` and its number, in either case (RFC 3597, section 5). Any other
-/// token is the error `Custom("unknown record type")`.
+/// Parses the name of a type, or `TYPE` and its number, in either case (RFC 3597, section 5). Any
+/// other token is the error `Custom("unknown record type")`.
 impl FromToken for Rtype {
     ghost spells = { TypeText };
 
@@ -200,7 +200,7 @@ impl FromToken for Rtype {
     }
 }
 
-/// The type's name in capitals, or `TYPE` and its number.
+/// Writes the name of the type in capitals, or `TYPE` and its number.
 impl fmt::Display for Rtype {
     ghost output = { λ r. Some (type_text r) };
 

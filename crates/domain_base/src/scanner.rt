@@ -15,28 +15,28 @@ use domain_octets::{EmptyBuilder, FromBuilder};
 use std::alloc::Global;
 use std::marker::{Model, PhantomData};
 
-/// The tokens of one entry of a zone file that are left to be read (RFC 1035, section 5.1).
+/// A reader of the tokens of one entry of a zone file (RFC 1035, section 5.1).
 pub trait Scanner {
-    /// What octets that tokens stand for are put in.
+    /// The octets that tokens are decoded into.
     type Octets: FromBuilder;
 
     /// Names over such octets.
     type Name: ToName;
 
-    /// The tokens that are left, each as its characters' octets.
+    /// The tokens that are left, each as octets.
     ghost tokens: { Self → Tokens };
 
-    /// Returns the next token, which stays where it is.
+    /// Returns the next token without skipping it, or None if no token is left.
     fn first_token(&self) -> Option<&str>
         ensures { MatchOption result (tokens self.now ≡ []) (λ t. (rest : Tokens)
             × (tokens self.now ≡ t.now ∷ rest)) };
 
-    /// Goes past the next token, if there is one.
+    /// Skips the next token, if there is one.
     fn skip_token(&mut self)
         ensures { tokens self.new ≡ drop 1 (tokens self.old) };
 
-    /// Hands the next token to a function, as it stands, goes past it, and answers what the
-    /// function answers. Where no token is left, answers `EndOfEntry`.
+    /// Passes the next token to a function as it is, skips it, and returns the function's result.
+    /// Returns `EndOfEntry` if no token is left.
     final fn scan_ascii_str<T, F: FnOnce(&str) -> T>(&mut self, f: F) -> Result<T, ScanError>
     where
         Self: Sized,
@@ -55,24 +55,24 @@ pub trait Scanner {
         Ok(value)
     }
 
-    /// Returns the name that the next token spells (RFC 1035, section 5.1), with or without a last
-    /// dot: in either case it is absolute. An error skips the token too.
+    /// Parses the next token as a name (RFC 1035, section 5.1). The last dot is optional: the name
+    /// is absolute in either case. An error skips the token too.
     ///
-    /// Refuses a token that is no name as `Custom("illegal name")`, and a name for which the
-    /// builder has no room or no memory.
+    /// Returns `Custom("illegal name")` if the token is not a name. Returns an error of the builder
+    /// if it has no room for the name, or if there is no memory.
     fn scan_name(&mut self, alloc: Global) -> Result<Self::Name, ScanError>
         ensures { ReadsTokens (OneToken NameText) Self.Name.labels
             (RefusesToken (NameTextFault Self.Octets.Builder.limit)) (tokens self.old)
             (tokens self.new) result };
 
-    /// Returns an empty builder of octets.
+    /// Returns an empty builder.
     fn octets_builder(&self, alloc: Global) -> <Self::Octets as FromBuilder>::Builder
         ensures { Self.Octets.Builder.octets result ≡ [] };
 
-    /// Returns the octets that the next token stands for. An error skips the token too.
+    /// Decodes the next token. An error skips the token too.
     ///
-    /// Refuses a token that stands for none as `Custom("illegal data")`, and then octets for which
-    /// the builder has no room or no memory.
+    /// Returns `Custom("illegal data")` if the token does not encode octets. Otherwise returns an
+    /// error of the builder if it has no room for the octets, or if there is no memory.
     fn convert_token(&mut self, alloc: Global, codec: Codec) -> Result<Self::Octets, ScanError>
         ensures read { ReadsTokens (OneToken (Decodes codec)) Self.Octets.octets
             (RefusesToken (CodecFault codec Self.Octets.Builder.limit)) (tokens self.old)
@@ -80,12 +80,11 @@ pub trait Scanner {
         ensures room { IsErrOf result ScanError.ShortBuf
             ↔ TokenHasNoRoom codec Self.Octets.Builder.limit (tokens self.old) };
 
-    /// Returns the octets that all tokens that are left stand for when they are joined. No tokens
-    /// are the empty text.
+    /// Joins all tokens that are left, and decodes the result. No tokens are the empty text.
     ///
-    /// Refuses a text that stands for no octets as `Custom("illegal data")`, and then octets for
-    /// which the builder has no room or no memory. The tokens that are left then are an end of
-    /// those before.
+    /// Returns `Custom("illegal data")` if the text does not encode octets. Otherwise returns an
+    /// error of the builder if it has no room for the octets, or if there is no memory. After an
+    /// error the tokens left are an end of those before.
     fn convert_entry(&mut self, alloc: Global, codec: Codec) -> Result<Self::Octets, ScanError>
         ensures ok { IfOk result (λ octets.
             Decodes codec (concat (tokens self.old)) (Self.Octets.octets octets)) }
@@ -96,7 +95,7 @@ pub trait Scanner {
             HasRoom Self.Octets.Builder.limit (length (Self.Octets.octets octets))) }
         ensures end { IsEnd (tokens self.new) (tokens self.old) };
 
-    /// Returns whether tokens are left.
+    /// Returns whether any token is left.
     final fn continues(&self) -> bool
     where
         Self: Sized,
@@ -106,7 +105,7 @@ pub trait Scanner {
     }
 }
 
-/// Tokens in a slice.
+/// A scanner of the tokens in a slice.
 #[derive(Drop)]
 pub struct IterScanner<'a, O> {
     left: &'a [&'a str],
@@ -120,7 +119,7 @@ impl<'a, O> Model for IterScanner<'a, O> {
 }
 
 impl<'a, O> IterScanner<'a, O> {
-    /// Returns a scanner of these tokens, none of which is read yet.
+    /// Returns a scanner of these tokens, at the first of them.
     pub fn new(tokens: &'a [&'a str]) -> Self
         ensures { result ≡ map (λ token. token.now) tokens.now }
     {
@@ -185,7 +184,7 @@ where
     }
 }
 
-/// Returns what is said of a text that is not decoded.
+/// Returns the error of scanning for an error of decoding.
 #[tactic(auto, using(std::proofs::lemmas::Grind::common_steps, domain_codecs::proofs::RefusalLemmas::refused_char, domain_codecs::proofs::RefusalLemmas::refused_length))]
 fn refusal(error: DecodeError) -> ScanError
     ensures fault { (codec : Codec) (limit : Option ℕ) (text : Octets)
@@ -202,20 +201,20 @@ fn refusal(error: DecodeError) -> ScanError
 
 /// A value that one token spells.
 pub trait FromToken {
-    /// The token spells the value.
+    /// Whether the token spells the value.
     ghost spells: { Token → Self → Type 0 };
 
-    /// Why a token is refused.
+    /// Whether the token has this fault.
     ghost refuses: { ScanFault → Token → Type 0 };
 
-    /// Returns the value that a token spells.
+    /// Parses a token.
     fn from_token(token: &str) -> Result<Self, ScanError>
     where
         Self: Sized,
         ensures ok { IfOk result (spells token.now) }
         ensures err { IfErr result (λ e. refuses (scan_fault_of e) token.now) };
 
-    /// Returns the value that the next token spells. An error skips the token too.
+    /// Parses the next token. Returns `EndOfEntry` if none is left. An error skips the token too.
     #[tactic(auto, using(crate::proofs::TextLemmas::no_token))]
     final fn scan<S: Scanner>(scanner: &mut S) -> Result<Self, ScanError>
     where

@@ -15,7 +15,7 @@ use std::str::FromStr;
 
 const _: () = prove!(Serial::COMPOSE_LEN as usize == size_of::<u32>());
 
-/// A serial number: 32 bits, in a circle (RFC 1982).
+/// A serial number: 32 bits, ordered in a circle (RFC 1982).
 #[derive(Clone, Copy, Debug, PartialEq)]
 pub struct Serial(u32);
 
@@ -36,7 +36,7 @@ impl From<u32> for Serial {
 }
 
 impl Serial {
-    /// How many octets it has on the wire.
+    /// The length of the wire form in octets.
     pub const COMPOSE_LEN: u16 = 4;
 
     /// Returns the number.
@@ -46,8 +46,7 @@ impl Serial {
         self.0
     }
 
-    /// Returns the serial number that comes next, four octets. Returns `ShortInput` if fewer are
-    /// left.
+    /// Reads a serial number, four octets. Returns `ShortInput` if fewer are left.
     pub fn parse(parser: &mut Parser<'_>) -> Result<Serial, ParseError>
         ensures ok { IfOk result (λ serial. Takes (to_be_bytes w32 serial) parser.old parser.new) }
         ensures short { IsErr result ↔ (length parser.old.left < 4) }
@@ -57,7 +56,7 @@ impl Serial {
         Ok(Serial(parser.parse_u32()?))
     }
 
-    /// Appends its four octets.
+    /// Appends the four octets of the number.
     pub fn compose<B: OctetsBuilder>(&self, target: &mut B) -> Result<(), AppendError>
         ensures ok { OnOk result (B.octets target.new ≡ B.octets target.old
             ++ to_be_bytes w32 self.now) }
@@ -69,8 +68,9 @@ impl Serial {
         target.append_slice(&self.0.to_be_bytes())
     }
 
-    /// Returns the order of serial numbers: each is before the 2,147,483,647 that follow it in the
-    /// circle. Two that are just half of the circle apart have none (RFC 1982, section 3.2).
+    /// Returns the order of serial numbers: each is less than the 2,147,483,647 numbers that follow
+    /// it in the circle. Two that are exactly half of the circle apart have no order (RFC 1982,
+    /// section 3.2).
     pub fn partial_cmp(&self, other: &Serial) -> Option<Ordering>
         ensures { result ≡ serial_cmp self.now other.now }
     {
@@ -87,8 +87,8 @@ impl Serial {
     }
 }
 
-/// Decimal digits, with one plus sign before them or none. Refuses every other text, and a number
-/// over 32 bits, as `Custom("decimal number expected")`.
+/// Parses decimal digits, with at most one plus sign before them. Any other text, and a number over
+/// 32 bits, is the error `Custom("decimal number expected")`.
 impl FromStr for Serial {
     type Err = ScanError;
 
@@ -102,7 +102,7 @@ impl FromStr for Serial {
     }
 }
 
-/// The order of the plain numbers.
+/// Orders serial numbers as plain numbers.
 impl CanonicalOrd for Serial {
     ghost canonical_cmp = { nat_cmp };
 
@@ -113,7 +113,7 @@ impl CanonicalOrd for Serial {
     }
 }
 
-/// The number in decimal digits.
+/// Writes the number in decimal digits.
 impl fmt::Display for Serial {
     ghost output = { λ s. Some (decimal s) };
 

@@ -7,8 +7,8 @@ use domain_names::ScanError;
 use std::fmt;
 use std::marker::Model;
 
-/// How long a record may be cached, in seconds: a number of 32 bits (RFC 1035, section 3.2.1;
-/// RFC 2181, section 8).
+/// The time in seconds for which a record may be cached: a number of 32 bits (RFC 1035, section
+/// 3.2.1; RFC 2181, section 8).
 #[derive(Clone, Copy, Debug, PartialEq, Eq, PartialOrd, Ord, Hash)]
 pub struct Ttl(u32);
 
@@ -21,21 +21,21 @@ impl Model for Ttl {
 }
 
 impl Ttl {
-    /// So many seconds.
+    /// Returns a time of this many seconds.
     pub const fn from_secs(seconds: u32) -> Ttl
         ensures { result ≡ seconds }
     {
         Ttl(seconds)
     }
 
-    /// So many minutes.
+    /// Returns a time of this many minutes.
     pub const fn from_mins(minutes: u16) -> Ttl
         ensures { result ≡ 60 * minutes }
     {
         Ttl(60 * minutes as u32)
     }
 
-    /// So many hours.
+    /// Returns a time of this many hours.
     pub const fn from_hours(hours: u16) -> Ttl
         ensures { result ≡ 3600 * hours }
     {
@@ -49,9 +49,9 @@ impl Ttl {
         self.0
     }
 
-    /// Returns the seconds that the next token spells: a decimal number of at most 32 bits. Any
-    /// other token is the error `Custom("decimal number expected")`, and a missing one is
-    /// `EndOfEntry`. An error skips the token too.
+    /// Parses the next token as seconds: a decimal number of at most 32 bits. Returns
+    /// `Custom("decimal number expected")` for any other token, and `EndOfEntry` if none is left.
+    /// An error skips the token too.
     pub fn scan<S: Scanner>(scanner: &mut S) -> Result<Ttl, ScanError>
         ensures { ReadsTokens (OneToken (IsNumber 32)) (λ value. value)
             (RefusesToken (IsNoNumber 32)) (S.tokens scanner.old) (S.tokens scanner.new) result }
@@ -60,8 +60,8 @@ impl Ttl {
     }
 }
 
-/// A decimal number of seconds of at most 32 bits. Any other token is the error `Custom("decimal
-/// number expected")`.
+/// Parses a decimal number of seconds, of at most 32 bits. Any other token is the error
+/// `Custom("decimal number expected")`.
 impl FromToken for Ttl {
     ghost spells = { IsNumber 32 };
 
@@ -72,7 +72,7 @@ impl FromToken for Ttl {
     }
 }
 
-/// The number of seconds in decimal digits.
+/// Writes the number of seconds in decimal digits.
 impl fmt::Display for Ttl {
     ghost output = { λ t. Some (decimal t) };
 

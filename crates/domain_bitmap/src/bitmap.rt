@@ -1,4 +1,4 @@
-//! Sets of types as octets.
+//! Sets of types in wire form.
 ghost use Rattle.std.specs.Prelude.{◌≡◌, ◌↔◌, ◌<◌, ◌^◌, ◌++◌, ◌+◌, length, [], IsTrue, IsOk, IfOk, IfErr};
 ghost use Rattle.std.specs.Prelude.{OnOk, OnErr, IsErrOf, IsNone, ℕ, Some};
 ghost use Rattle.std.specs.{Ordering.nat_cmp, Cmp.Lexicographic.{slice_cmp, nat_list_cmp_total}};
@@ -20,7 +20,7 @@ use std::alloc::Global;
 use std::cmp::Ordering;
 use std::fmt;
 
-/// Octets that are a list of blocks of types.
+/// The kind of octets that are a list of blocks of types.
 pub struct Blocks;
 
 impl OctetsKind for Blocks {
@@ -37,17 +37,17 @@ impl OctetsKind for Blocks {
     }
 }
 
-/// A list of blocks of types (RFC 4034, section 4.1.2), seen as its octets.
+/// A list of blocks of types (RFC 4034, section 4.1.2). Contracts see its octets.
 pub type RtypeBitmap<O> = CheckedOctets<O, Blocks>;
 
 impl<O: Octets> RtypeBitmap<O> {
-    /// Octets that are a list of blocks, each of 1 to 32 octets. Windows may come in any order and
-    /// more than once, and octets may be zero. Takes no memory.
+    /// Returns the bitmap with these octets, if they are a list of blocks, each of 1 to 32 octets.
+    /// Windows may come in any order and more than once, and octets may be zero. Does not allocate.
     ///
     /// # Errors
     ///
-    /// The first fault: at each block `ShortInput` where its length is missing, `BadRtypeBitmap`
-    /// where that is not 1 to 32, then `ShortInput` where octets are missing.
+    /// The first fault decides. For each block, it is `ShortInput` if the length is missing,
+    /// `BadRtypeBitmap` if the length is not 1 to 32, and then `ShortInput` if octets are missing.
     #[tactic(auto, using(crate::proofs::BlockLemmas::no_fault))]
     pub fn from_octets(octets: O) -> Result<Self, RtypeBitmapError>
     where
@@ -60,8 +60,8 @@ impl<O: Octets> RtypeBitmap<O> {
         Ok(RtypeBitmap::from_octets_unchecked(octets))
     }
 
-    /// Returns whether the first block of the type's window has the bit of the type. Of a bitmap
-    /// that a builder made this says whether the type was added.
+    /// Returns whether the first block of the type's window has the bit of the type. For a bitmap
+    /// from a builder, this is whether the type was added.
     #[tactic(auto, using(std::proofs::lemmas::Grind::common_steps), unfolding(crate::specs::Blocks::contains_type))]
     pub fn contains(&self, rtype: Rtype) -> bool
         ensures { result ≡ contains_type self.now rtype }
@@ -84,7 +84,7 @@ impl<O: Octets> RtypeBitmap<O> {
         self.iter().next().is_none()
     }
 
-    /// Returns the length of the octets, which must be below 65,536.
+    /// Returns the number of octets, which must be below 65,536.
     pub fn compose_len(&self) -> u16
         requires { length self.now < 2 ^ 16 }
         ensures { result ≡ length self.now }
@@ -108,7 +108,7 @@ impl<O: FromBuilder> RtypeBitmap<O>
 where
     O::Builder: EmptyBuilder,
 {
-    /// Returns a builder of such bitmaps that holds no types. Takes no memory.
+    /// Returns a builder of such bitmaps, without types. Does not allocate.
     pub fn builder(alloc: Global) -> RtypeBitmapBuilder<O::Builder>
         ensures empty { result ≡ [] }
     {
@@ -117,11 +117,11 @@ where
 }
 
 impl<'a> RtypeBitmap<&'a [u8]> {
-    /// Returns all octets that are left, as a bitmap. Takes no memory.
+    /// Reads all octets that are left as a bitmap. Does not allocate.
     ///
     /// # Errors
     ///
-    /// That of the first fault, as `from_octets`. The parser does not move then.
+    /// The first fault decides, as in `from_octets`. After an error the parser is unchanged.
     #[tactic(auto, using(crate::proofs::BlockLemmas::parse_steps))]
     pub fn parse(parser: &mut Parser<'a>) -> Result<Self, ParseError>
         ensures ok { IsOk result ↔ IsBitmap parser.old.left }
@@ -137,7 +137,7 @@ impl<'a> RtypeBitmap<&'a [u8]> {
     }
 }
 
-/// Adds the types that all tokens that are left spell.
+/// Adds the types that the remaining tokens spell.
 fn add_all<B: OctetsBuilder, S: Scanner>(
     builder: &mut RtypeBitmapBuilder<B>,
     scanner: &mut S,
@@ -164,13 +164,13 @@ impl<O: FromBuilder> RtypeBitmap<O>
 where
     O::Builder: EmptyBuilder + Truncate + FreezeBuilder<Frozen = O> + Drop,
 {
-    /// Returns the types that all tokens that are left spell, one each (RFC 4034, section 4.2).
+    /// Parses all remaining tokens as types, one for each token (RFC 4034, section 4.2).
     ///
     /// # Errors
     ///
-    /// At the first token that is refused: `Custom("unknown record type")` where it spells no type,
-    /// else `ShortBuf` where the builder has no room for the type's window, or `OutOfMemory`. The
-    /// tokens after it are left.
+    /// The first token with a fault decides: `Custom("unknown record type")` if it spells no type,
+    /// or else `ShortBuf` if the builder has no room for the window of the type, or `OutOfMemory`.
+    /// The tokens after it are left.
     #[tactic(auto, using(std::proofs::lemmas::Grind::common_steps, crate::proofs::BitmapLemmas::built_steps))]
     pub fn scan<S: Scanner>(alloc: Global, scanner: &mut S) -> Result<Self, ScanError>
         ensures ok { IfOk result (λ bitmap. (types : Rtypes)
@@ -186,7 +186,7 @@ where
     }
 }
 
-/// The types with one space between them (RFC 4034, section 4.2).
+/// Writes the types with one space between them (RFC 4034, section 4.2).
 impl<O: Octets> fmt::Display for RtypeBitmap<O> {
     ghost output = { λ b. Some (types_text (types_of b)) };
 
@@ -209,7 +209,7 @@ impl<O: Octets> fmt::Debug for RtypeBitmap<O> {
     }
 }
 
-/// A token for each type.
+/// Writes a token for each type.
 impl<O: Octets> ZonefileFmt for RtypeBitmap<O> {
     ghost pieces = { λ b. type_pieces (types_of b) };
 

@@ -1,19 +1,19 @@
-//! Octets read as blocks.
+//! The blocks in the octets of a bitmap.
 ghost use Rattle.std.specs.Prelude.{◌≡◌, ℕ, ◌+◌, ◌*◌, ◌/◌, ◌%◌, ◌<◌, ◌≤◌, ◌∷◌, [], length, IfSome, IfNone, MatchResult};
 ghost use Rattle.domain_bitmap.specs.Blocks.{has_bit, IsBitmap, blocks_of, block_types_from, FirstBlockFault};
 
 use crate::RtypeBitmapError;
 use domain_base::Rtype;
 
-/// How many octets a block has at most: those of 256 types.
+/// The greatest number of octets of a block: 32, for 256 types.
 const MAX_LEN: usize = 32;
 
-/// A block: the number of its window, and its octets.
+/// A block: the number of its window and its octets.
 #[derive(Clone, Copy)]
 pub(crate) struct Window<'a> {
     /// The number of the window.
     pub number: u8,
-    /// The octets, without zero octets at the end that were left out.
+    /// The octets of the window. Zero octets at the end may be left out.
     pub octets: &'a [u8],
 }
 
@@ -39,7 +39,7 @@ pub(crate) fn check(octets: &[u8]) -> Result<(), RtypeBitmapError>
     Ok(())
 }
 
-/// Returns the first block, and the blocks after it.
+/// Returns the first block and the octets of the blocks after it, or None if there is no block.
 #[tactic(auto, using(std::proofs::lemmas::Grind::common_steps, crate::proofs::BlockLemmas::block_reads))]
 pub(crate) fn split_block(blocks: &[u8]) -> Option<(Window<'_>, &[u8])>
     requires { IsBitmap blocks.now }
@@ -60,8 +60,8 @@ pub(crate) fn split_block(blocks: &[u8]) -> Option<(Window<'_>, &[u8])>
     }
 }
 
-/// Returns the window of a type, the octet within the window, and the bit within the octet, the
-/// most significant bit being the first (RFC 4034, section 4.1.2).
+/// Returns the window of a type, its octet within the window, and its bit within the octet. Bit 0
+/// is the most significant bit (RFC 4034, section 4.1.2).
 pub(crate) fn split_rtype(rtype: Rtype) -> (u8, usize, u8)
     ensures window { result.0 ≡ rtype / 256 }
     ensures octet { result.1 ≡ rtype % 256 / 8 }
@@ -77,7 +77,7 @@ pub(crate) fn split_rtype(rtype: Rtype) -> (u8, usize, u8)
     )
 }
 
-/// Returns whether an octet of a window has a bit set, the most significant bit being the first.
+/// Returns whether a bit of an octet of a window is set. Bit 0 is the most significant bit.
 #[tactic(auto, using(crate::proofs::BitLemmas::bit_reads), unfolding(crate::specs::Blocks::has_bit))]
 pub(crate) fn is_set(octets: &[u8], octet: usize, bit: u8) -> bool
     requires { bit < 8 }
@@ -89,8 +89,8 @@ pub(crate) fn is_set(octets: &[u8], octet: usize, bit: u8) -> bool
     }
 }
 
-/// Returns the first place in a window, from one on, whose bit is set. What is left of an octet is
-/// passed at once where it has no bits.
+/// Returns the first place in a window, from `from` on, whose bit is set. Skips the rest of an
+/// octet at once if it has no bits.
 pub(crate) fn first_set(octets: &[u8], from: usize) -> Option<usize>
     requires { length octets.now ≤ 32 }
     ensures none { IfNone result ((w : ℕ)

@@ -1,4 +1,5 @@
-//! The blocks that a builder holds: 34 octets each, in the order of adding.
+//! The builder of bitmaps. It holds blocks of 34 octets each, in the order in which they were
+//! added.
 ghost use Rattle.std.specs.Prelude.{◌≡◌, ◌+◌, ◌*◌, ◌/◌, ◌<◌, ◌≤◌, ◌++◌, ◌↔◌, false, length, take, IfSome};
 ghost use Rattle.std.specs.Prelude.{IfNone, ◌-◌, ◌^◌, slice_index, slice_set, bit_or, ℕ, ◌%◌, ◌∷◌, replicate};
 ghost use Rattle.std.specs.Prelude.{◌||◌, ◌==◌, [], OnOk, OnErr, IfOk, if◌then◌else◌, IsErrOf, IsNone};
@@ -17,10 +18,10 @@ use domain_octets::{
 use std::alloc::Global;
 use std::marker::Model;
 
-/// The octets of a block in a builder: its window, its length, and the 32 octets of the window.
+/// The length of a block in a builder: its window, its length, and the 32 octets of the window.
 const SLOT: usize = 34;
 
-/// Returns the place of the first block of a window, if there is one.
+/// Returns the place of the first block of a window, or None if it has no block.
 #[tactic(auto, using(crate::proofs::BitmapLemmas::window_absent))]
 fn find_slot(slots: &[u8], window: u8) -> Option<usize>
     ensures found { IfSome result (λ j. (j < length slots.now / 34)
@@ -44,7 +45,7 @@ fn empty_slot(window: u8) -> [u8; 34]
     slot
 }
 
-/// Returns how many octets are left without the zero octets at the end.
+/// Returns the number of octets up to the last one that is not zero.
 #[tactic(auto, using(crate::proofs::BitLemmas::trim_steps))]
 fn used_len(octets: &[u8]) -> usize
     ensures trimmed { trimmed octets.now ≡ take result octets.now }
@@ -57,8 +58,8 @@ fn used_len(octets: &[u8]) -> usize
     len
 }
 
-/// Sets a bit of an octet of the block at a place, the most significant bit being the first. Takes
-/// no memory.
+/// Sets a bit of an octet of the block at place `j`. Bit 0 is the most significant bit. Does not
+/// allocate.
 #[tactic(auto, using(std::proofs::lemmas::Nat::one_shl))]
 fn set_bit<B: OctetsBuilder>(buffer: &mut B, j: usize, octet: usize, bit: u8)
     requires block { j < length (B.octets buffer.old) / 34 }
@@ -71,8 +72,8 @@ fn set_bit<B: OctetsBuilder>(buffer: &mut B, j: usize, octet: usize, bit: u8)
     slots[SLOT * j + 2 + octet] |= 1 << (7 - bit);
 }
 
-/// A set of types to which types are added. It is seen as the octets of its buffer: what it holds
-/// is told by `holds` and `has_window`.
+/// A set of types that types can be added to. Contracts see the octets of its buffer: `holds` and
+/// `has_window` say what is in them.
 #[derive(Debug, Drop)]
 pub struct RtypeBitmapBuilder<B: OctetsBuilder> {
     buffer: B,
@@ -87,7 +88,7 @@ impl<B: OctetsBuilder> Model for RtypeBitmapBuilder<B> {
 }
 
 impl RtypeBitmapBuilder<Vec<u8>> {
-    /// Returns a builder over a vector that holds no types. Takes no memory.
+    /// Returns a builder over a vector, without types. Does not allocate.
     pub fn new_vec(alloc: Global) -> Self
         ensures empty { result ≡ [] }
     {
@@ -98,7 +99,7 @@ impl RtypeBitmapBuilder<Vec<u8>> {
 }
 
 impl<B: EmptyBuilder> RtypeBitmapBuilder<B> {
-    /// Returns a builder that holds no types. Takes no memory.
+    /// Returns a builder without types. Does not allocate.
     pub fn new(alloc: Global) -> Self
         ensures empty { result ≡ [] }
     {
@@ -116,7 +117,7 @@ impl<B: EmptyBuilder> RtypeBitmapBuilder<B> {
 }
 
 impl<B: OctetsBuilder> RtypeBitmapBuilder<B> {
-    /// Returns a builder over an empty buffer. Takes no memory.
+    /// Returns a builder over an empty buffer. Does not allocate.
     pub fn with_builder(buffer: B) -> Self
         requires { B.octets buffer ≡ [] }
         ensures empty { result ≡ [] }
@@ -133,8 +134,8 @@ impl<B: OctetsBuilder> RtypeBitmapBuilder<B> {
         })
     }
 
-    /// Returns the place of the first block of a window. If the window has none, a block without
-    /// types is appended.
+    /// Returns the place of the first block of a window. Appends a block without types if the
+    /// window has none.
     #[tactic(auto, using(crate::proofs::BitmapLemmas::block_steps))]
     fn window_block(&mut self, window: u8) -> Result<usize, AppendError>
         ensures place { IfOk result (λ j. (j < length self.new / 34)
@@ -159,13 +160,13 @@ impl<B: OctetsBuilder> RtypeBitmapBuilder<B> {
         Ok(j)
     }
 
-    /// Adds a type. A type whose window has a block already takes no memory and is never refused.
-    /// An error changes nothing.
+    /// Adds a type. Always succeeds without allocation if the type's window already has a block.
+    /// After an error the builder is unchanged.
     ///
     /// # Errors
     ///
-    /// `ShortBuf` where there is no block of the type's window, and the buffer has no place for
-    /// another 34 octets. `OutOfMemory` if there is no memory for them.
+    /// `ShortBuf` if the type's window has no block and the buffer has no room for another 34
+    /// octets. `OutOfMemory` if there is no memory for them.
     #[tactic(auto, using(std::proofs::lemmas::Grind::common_steps, crate::proofs::BitmapLemmas::set_steps))]
     pub fn add(&mut self, rtype: Rtype) -> Result<(), AppendError>
         ensures ok { OnOk result ((t : ℕ) → t < 65536
@@ -188,8 +189,8 @@ impl<B: OctetsBuilder> RtypeBitmapBuilder<B> {
         Ok(())
     }
 
-    /// Returns the bitmap of the types that were added: the only one that holds them. Takes no
-    /// memory.
+    /// Returns the bitmap of the types that were added, in the one spelling that the RFC allows.
+    /// Does not allocate.
     #[tactic(auto, using(std::proofs::lemmas::Grind::common_steps, crate::proofs::BitmapLemmas::built_steps))]
     pub fn finalize(self) -> RtypeBitmap<B::Frozen>
     where
@@ -203,14 +204,14 @@ impl<B: OctetsBuilder> RtypeBitmapBuilder<B> {
     }
 }
 
-/// How many windows there are.
+/// The number of windows.
 const WINDOWS: usize = 256;
 
-/// How many octets all windows have, 32 each.
+/// The number of octets of all windows, 32 for each.
 const TABLE: usize = 8192;
 
-/// Copies the octets of the block at a place to its window's place in a table of all windows. Bits
-/// that are set there stay set.
+/// Copies the octets of the block at place `j` to the place of its window in a table of all
+/// windows. Bits that are already set there stay set.
 fn copy_block(table: &mut [u8], slots: &[u8], j: usize)
     requires all { length table.old ≡ 8192 }
     requires inside { j < length slots.now / 34 }
@@ -223,7 +224,7 @@ fn copy_block(table: &mut [u8], slots: &[u8], j: usize)
     }
 }
 
-/// Copies all blocks into a table of zeros, and notes which windows have a block.
+/// Copies all blocks into a table of zeros, and records which windows have a block.
 #[tactic(auto, using(std::proofs::lemmas::Grind::common_steps, crate::proofs::BitLemmas::bit_reads), unfolding(crate::specs::Blocks::holds, crate::specs::Blocks::has_window))]
 fn fill(table: &mut [u8], present: &mut [bool], slots: &[u8])
     requires table { (i : ℕ) → slice_index table.old i ≡ 0 }
@@ -244,7 +245,7 @@ fn fill(table: &mut [u8], present: &mut [bool], slots: &[u8])
     }
 }
 
-/// Writes octets over those from a place on.
+/// Overwrites octets, from position `at` on.
 #[tactic(auto, using(std::proofs::lemmas::Grind::common_steps))]
 fn write_at(slots: &mut [u8], at: usize, octets: &[u8])
     requires { at + length octets.now ≤ length slots.old }
@@ -254,8 +255,8 @@ fn write_at(slots: &mut [u8], at: usize, octets: &[u8])
     slots[at..end].copy_from_slice(octets);
 }
 
-/// Writes the block of a window, cut after its last octet with a type, and returns where it ends. A
-/// window without types has no block.
+/// Writes the block of a window up to its last octet with a type, and returns where it ends. Writes
+/// nothing for a window without types.
 #[tactic(auto, using(std::proofs::lemmas::Grind::common_steps, crate::proofs::BitmapLemmas::block_written))]
 fn write_block(slots: &mut [u8], end: usize, window: u8, octets: &[u8]) -> usize
     requires room { end + 34 ≤ length slots.old }
@@ -294,7 +295,7 @@ fn pack_all(slots: &mut [u8]) -> usize
     end
 }
 
-/// Cuts the only block, and returns where it ends.
+/// Shortens the only block to its last octet with a type, and returns where it ends.
 #[tactic(auto, using(std::proofs::lemmas::Grind::common_steps, crate::proofs::BitmapLemmas::one_steps))]
 fn pack_one(slots: &mut [u8]) -> usize
     requires { length slots.old ≡ 34 }
@@ -309,8 +310,8 @@ fn pack_one(slots: &mut [u8]) -> usize
     len + 2
 }
 
-/// Writes a builder's blocks in the order of their windows, each cut after its last octet with a
-/// type, and returns where they end.
+/// Writes the blocks of a builder in the order of their windows, each up to its last octet with a
+/// type. Returns where they end.
 #[tactic(auto, using(crate::proofs::BitmapLemmas::holds_nothing))]
 fn pack(slots: &mut [u8]) -> usize
     requires { length slots.old % 34 ≡ 0 }

@@ -1,4 +1,4 @@
-//! Octets that pass a test: those of a bitmap, of a salt and of a hash.
+//! Octets of a kind that is checked: bitmaps, salts and hashes.
 ghost use Rattle.std.specs.Prelude.{◌≡◌, ◌↔◌, Some, IsTrue, IfOk, IsNone, refl, bytes_eq, length};
 ghost use Rattle.std.specs.{declared.cmp.Ordering.Ordering, Ordering.nat_cmp};
 ghost use Rattle.std.specs.Cmp.{IsTotalOrder, partial_equiv_from_equiv, po};
@@ -14,25 +14,25 @@ use std::cmp::Ordering;
 use std::hash::{Hash, Hasher};
 use std::marker::{Model, PhantomData};
 
-/// A kind of octets: which are of it, and their canonical order.
+/// A kind of octets: a condition on them, and their canonical order.
 pub trait OctetsKind {
     /// The greatest length, in octets.
     const MAX_LEN: usize;
 
-    /// The octets are of the kind.
+    /// Whether octets are of this kind.
     ghost holds: { Octets → Type 0 };
 
-    /// Their canonical order.
+    /// The canonical order of octets of this kind.
     ghost order: { Octets → Octets → Ordering };
 
-    /// Their canonical order.
+    /// Returns the canonical order of octets of this kind.
     fn order(a: &[u8], b: &[u8]) -> Ordering
         ensures { result ≡ order a.now b.now };
 
     ghost total: { IsTotalOrder order };
 }
 
-/// Octets of a kind, seen as these.
+/// Octets of kind `K`. Contracts see the octets.
 #[derive(Drop)]
 pub struct CheckedOctets<O: Octets, K: OctetsKind> {
     octets: O,
@@ -51,7 +51,7 @@ impl<O: Octets, K: OctetsKind> CheckedOctets<O, K> {
     /// The greatest length, in octets.
     pub const MAX_LEN: usize = K::MAX_LEN;
 
-    /// Returns these octets, which are of the kind. Takes no memory.
+    /// Returns the value with these octets, which must be of the kind. Does not allocate.
     pub fn from_octets_unchecked(octets: O) -> Self
         requires { K.holds (O.octets octets) }
         ensures { result ≡ O.octets octets }
@@ -62,7 +62,7 @@ impl<O: Octets, K: OctetsKind> CheckedOctets<O, K> {
         }
     }
 
-    /// Returns the same over other octets, which are the same. Takes no memory.
+    /// Returns the same value over an equal list of octets. Does not allocate.
     pub fn with_octets<P: Octets>(&self, octets: P) -> CheckedOctets<P, K>
         requires { P.octets octets ≡ self.now }
         ensures { result ≡ self.now }
@@ -86,7 +86,7 @@ impl<O: Octets, K: OctetsKind> CheckedOctets<O, K> {
         octets
     }
 
-    /// Returns the octets as a slice. They are of the kind, wherever they came from.
+    /// Returns the octets as one slice. They are of the kind.
     pub fn as_slice(&self) -> &[u8]
         ensures octets { result.now ≡ self.now }
         ensures holds { K.holds self.now }
@@ -116,7 +116,7 @@ impl<O: Octets, K: OctetsKind> CheckedOctets<O, K> {
         self.as_slice().cmp(other.as_slice())
     }
 
-    /// Returns the canonical order, also where others hold the octets.
+    /// Returns the canonical order. The two values may hold their octets in different types.
     pub fn canonical_cmp_to<P: Octets>(&self, other: &CheckedOctets<P, K>) -> Ordering
         ensures { result ≡ K.order self.now other.now }
     {
@@ -156,7 +156,7 @@ impl<O: Octets, K: OctetsKind> Eq for CheckedOctets<O, K> {
     ghost laws = { nat_list_eq_equiv };
 }
 
-/// The lexicographic order.
+/// The lexicographic order of the octets.
 impl<O: Octets, K: OctetsKind> PartialOrd for CheckedOctets<O, K> {
     ghost partial_cmp = { λ a b. Some (slice_cmp nat_cmp a b) };
 
@@ -167,7 +167,7 @@ impl<O: Octets, K: OctetsKind> PartialOrd for CheckedOctets<O, K> {
     }
 }
 
-/// The lexicographic order.
+/// The lexicographic order of the octets.
 impl<O: Octets, K: OctetsKind> Ord for CheckedOctets<O, K> {
     ghost cmp = { slice_cmp nat_cmp };
 

@@ -1,5 +1,5 @@
-//! Octets that an octet counts: salts and hashes of owner names (RFC 5155, sections 3.1.5 and
-//! 3.1.7).
+//! Octets that a length octet precedes on the wire: salts and hashes of owner names (RFC 5155,
+//! sections 3.1.5 and 3.1.7).
 ghost use Rattle.std.specs.Prelude.{◌≡◌, ◌≤◌, ◌↔◌, ◌∷◌, [], length, IsOk, IfOk, IfErr, OnErr};
 ghost use Rattle.domain_octets.specs.Octets.{Takes};
 ghost use Rattle.domain_codecs.specs.Codec.{Decodes};
@@ -15,10 +15,10 @@ use std::alloc::Global;
 use std::cmp::Ordering;
 use std::marker::PhantomData;
 
-/// The greatest number that one octet holds.
+/// The greatest number that fits in one octet.
 const MAX_LEN: usize = 255;
 
-/// At most 255 octets, of which `E` refuses more.
+/// The kind of lists of at most 255 octets. `E` is the error for more.
 pub struct Counted<E>(PhantomData<E>);
 
 impl<E> OctetsKind for Counted<E> {
@@ -30,18 +30,19 @@ impl<E> OctetsKind for Counted<E> {
 
     ghost total = { by_length_total };
 
-    /// Returns the order of the wire forms, in which the length comes first.
+    /// Returns the order of the wire forms: the length comes first.
     fn order(a: &[u8], b: &[u8]) -> Ordering {
         a.len().cmp(&b.len()).then_with(|| a.cmp(b))
     }
 }
 
-/// At most 255 octets, which one octet counts on the wire. `E` tells what they are: it is the error
-/// that refuses more.
+/// At most 255 octets, which a length octet precedes on the wire. `E` is the error for more, and
+/// says what the octets are.
 pub type CountedOctets<O, E> = CheckedOctets<O, Counted<E>>;
 
 impl<O: Octets, E> CountedOctets<O, E> {
-    /// Returns these octets. Refuses exactly over 255. Takes no memory.
+    /// Returns the value with these octets. Returns an error if and only if there are more than
+    /// 255. Does not allocate.
     pub fn from_octets(octets: O) -> Result<Self, E>
     where
         O: Drop,
@@ -57,7 +58,7 @@ impl<O: Octets, E> CountedOctets<O, E> {
 }
 
 impl<O: EmptyOctets, E> CountedOctets<O, E> {
-    /// Returns no octets. Takes no memory.
+    /// Returns a value without octets. Does not allocate.
     pub fn empty(alloc: Global) -> Self
         ensures { result ≡ [] }
     {
@@ -66,7 +67,8 @@ impl<O: EmptyOctets, E> CountedOctets<O, E> {
 }
 
 impl<E: Default> CountedOctets<Bytes, E> {
-    /// Returns these shared octets. Refuses exactly over 255. Takes no memory.
+    /// Returns the value with these shared octets. Returns an error if and only if there are more
+    /// than 255. Does not allocate.
     pub fn from_bytes(octets: Bytes) -> Result<Self, E>
         ensures ok { IsOk result ↔ (length octets ≤ 255) }
         ensures octets { IfOk result (λ counted. counted ≡ octets) }
@@ -76,7 +78,8 @@ impl<E: Default> CountedOctets<Bytes, E> {
 }
 
 impl<'a, E> CountedOctets<&'a [u8], E> {
-    /// Returns these borrowed octets. Refuses exactly over 255. Takes no memory.
+    /// Returns the value with these borrowed octets. Returns an error if and only if there are more
+    /// than 255. Does not allocate.
     pub fn from_slice(octets: &'a [u8]) -> Result<Self, E>
     where
         E: Default,
@@ -86,8 +89,8 @@ impl<'a, E> CountedOctets<&'a [u8], E> {
         CountedOctets::from_octets(octets)
     }
 
-    /// Returns a length octet and so many octets. Returns `ShortInput` if octets are missing; the
-    /// parser does not move then. Takes no memory.
+    /// Reads a length octet and then as many octets. Returns `ShortInput` if octets are missing;
+    /// the parser is then unchanged. Does not allocate.
     #[tactic(auto, using(crate::proofs::TextLemmas::cut_at_length))]
     pub fn parse(parser: &mut Parser<'a>) -> Result<Self, ParseError>
         ensures ok { IfOk result (λ counted.
@@ -104,8 +107,7 @@ impl<'a, E> CountedOctets<&'a [u8], E> {
 }
 
 impl<O: FromBuilder + Drop, E: Default + Drop> CountedOctets<O, E> {
-    /// Returns the octets that the next token stands for. Refuses those over 255 with
-    /// `Custom(long)`.
+    /// Decodes the next token. Returns `Custom(long)` if it encodes more than 255 octets.
     pub(crate) fn scan_token<S: Scanner<Octets = O>>(
         alloc: Global,
         scanner: &mut S,

@@ -1,4 +1,4 @@
-//! Why octets are no list of blocks.
+//! The error of reading octets as a list of blocks.
 ghost use Rattle.std.specs.Prelude.{◌≡◌, Some};
 ghost use Rattle.domain_names.specs.Wire.{fault_of};
 ghost use Rattle.domain_bitmap.specs.Blocks.{bitmap_fault_of, bitmap_error_text};
@@ -7,17 +7,17 @@ use domain_base::ParseError;
 use std::error::Error;
 use std::fmt;
 
-/// Why octets are no list of blocks.
+/// The error of reading octets as a list of blocks.
 #[derive(Clone, Copy, Debug, PartialEq, Eq)]
 pub enum RtypeBitmapError {
     /// The octets end within a block.
     ShortInput,
-    /// A block has no octets or more than 32.
+    /// A block has no octets, or more than 32.
     BadRtypeBitmap,
 }
 
 impl fmt::Display for RtypeBitmapError {
-    // These texts stand once more in specs/Blocks.antt: both change together.
+    // specs/Blocks.antt repeats these texts: change both together.
     ghost output = { λ e. Some (bitmap_error_text e) };
 
     fn fmt<W: fmt::Write>(&self, f: &mut fmt::Formatter<W>) -> fmt::Result {

@@ -1,4 +1,4 @@
-//! The types of a bitmap, one after another.
+//! An iterator over the types of a bitmap.
 ghost use Rattle.std.specs.{Prelude.{◌≡◌, ◌<◌, ◌≤◌}, Iterator.{YieldsFirst, item_count}};
 ghost use Rattle.domain_bitmap.specs.Blocks.{IsBitmap, types_of, types_from, blocks_of};
 
@@ -8,7 +8,8 @@ use domain_base::Rtype;
 use domain_octets::Octets;
 use std::marker::Model;
 
-/// The types that are left, block by block as their bits stand. It is seen as their list.
+/// An iterator over types, block by block, in the order of their bits. Contracts see the list of
+/// the types that are left.
 #[derive(Drop)]
 pub struct RtypeBitmapIter<'a> {
     blocks: &'a [u8],
@@ -28,7 +29,8 @@ impl<'a> Model for RtypeBitmapIter<'a> {
 }
 
 impl<O: Octets> RtypeBitmap<O> {
-    /// Returns the types whose bits are set, block by block as they stand.
+    /// Returns an iterator over the types whose bits are set, block by block, in the order of their
+    /// bits.
     #[tactic(auto, using(crate::proofs::BlockLemmas::types_from_start))]
     pub fn iter(&self) -> RtypeBitmapIter<'_>
         ensures { result ≡ types_of self.now }

@@ -1,5 +1,5 @@
-//! What holds of the octets of sets of types, of octets that are read as such, and of their texts
-//! and those of salts. A caller calls the law in its body.
+//! Laws of bitmaps, of octets that are read as bitmaps, and of the printed forms of bitmaps and
+//! salts. To use a law, call it in the body of your function.
 ghost use Rattle.std.specs.Prelude.{◌≡◌, ◌≢◌, ◌<◌, ◌≤◌, length, ◌↔◌, ℕ, Bool, Option, codes};
 ghost use Rattle.domain_codecs.specs.declared.codec.Codec.TheVariants.{Base32Hex};
 ghost use Rattle.domain_octets.specs.{Text.{words_of, IsWord}, Octets.{Octets, AreOctets}};
@@ -10,14 +10,14 @@ ghost use Rattle.domain_bitmap.specs.{Blocks.{types_of, types_below}, Text.{Coun
 ghost use Rattle.domain_bitmap.specs.Text.{OwnerHashText, SaltText, salt_text, RefusesTypes, TypeTexts};
 ghost use Rattle.domain_bitmap.specs.Text.{is_among, types_text};
 
-/// Two bitmaps that builders made have the same octets exactly where the same types were added.
+/// Two bitmaps from builders have the same octets if and only if the same types were added.
 pub fn built_bitmaps_are_sets()
     ensures { (p q : ℕ → Bool) → (bitmap_octets p ≡ bitmap_octets q)
         ↔ ((t : ℕ) → t < 65536 → p t ≡ q t) }
 {}
 
-/// A bitmap that a builder made contains exactly the types that were added, and gives them in
-/// ascending order. It has 34 octets for each of 256 windows at most.
+/// A bitmap from a builder contains exactly the types that were added, and returns them in
+/// ascending order. It has at most 34 octets for each of the 256 windows.
 #[tactic(auto, using(std::proofs::lemmas::Grind::common_steps, crate::proofs::BitmapLemmas::type_laws))]
 pub fn built_bitmaps_give_their_types()
     ensures contains { (types : ℕ → Bool) (t : ℕ) → t < 65536
@@ -26,16 +26,16 @@ pub fn built_bitmaps_give_their_types()
     ensures fits { (types : ℕ → Bool) → length (bitmap_octets types) ≤ 8704 }
 {}
 
-/// Octets that are a list of blocks are those of a builder exactly where their windows ascend
-/// strictly and no block ends in a zero octet.
+/// A list of blocks is one that a builder can make if and only if its windows strictly ascend and
+/// no block ends in a zero octet.
 #[tactic(auto, using(crate::proofs::BitmapLemmas::shortest_laws))]
 pub fn built_bitmaps_are_shortest()
     ensures { (octets : Octets) → IsBitmap octets
         → ((types : ℕ → Bool) × (octets ≡ bitmap_octets types)) ↔ IsShortest octets }
 {}
 
-/// The words of what a bitmap is written as spell the types that it has, and the bitmap of these is
-/// the same one, if its windows ascend strictly and no block ends in a zero octet.
+/// The words of a printed bitmap spell the types that it has. The bitmap of these types is the same
+/// one, if its windows strictly ascend and no block ends in a zero octet.
 #[tactic(auto, using(crate::proofs::TextLemmas::types_back, crate::proofs::TextLemmas::bitmap_back))]
 pub fn bitmaps_are_read_back()
     ensures types { (octets : Octets) → IsBitmap octets
@@ -44,7 +44,7 @@ pub fn bitmaps_are_read_back()
         → bitmap_octets (is_among (types_of octets)) ≡ octets }
 {}
 
-/// What a salt is written as is read back, and is one word.
+/// The printed form of a salt parses to the same salt, and is one word.
 #[tactic(auto, using(crate::proofs::TextLemmas::salt_back, crate::proofs::TextLemmas::salt_word))]
 pub fn salts_are_read_back()
     ensures salt { (octets : Octets) → AreOctets octets → length octets ≤ 255
@@ -52,7 +52,7 @@ pub fn salts_are_read_back()
     ensures word { (octets : Octets) → IsWord (salt_text octets) }
 {}
 
-/// Tokens spell one list of types at most, and a text one salt and one hash at most.
+/// Tokens spell at most one list of types, and a text spells at most one salt and one hash.
 #[tactic(auto, using(crate::proofs::TextLemmas::spelled_once, crate::proofs::TextLemmas::salt_once, crate::proofs::TextLemmas::hash_once))]
 pub fn types_and_hashes_are_spelled_once()
     ensures types { (tokens : Tokens) (x y : Rtypes) → TypeTexts tokens x → TypeTexts tokens y
@@ -61,8 +61,8 @@ pub fn types_and_hashes_are_spelled_once()
     ensures hash { (text x y : Octets) → OwnerHashText text x → OwnerHashText text y → x ≡ y }
 {}
 
-/// Tokens that are refused as types, and texts that are refused as a salt or as a hash, but for
-/// want of room or of memory, spell none, over builders with any limit.
+/// Tokens that are rejected as types spell none, and a text that is rejected as a salt or a hash
+/// spells none. This excludes lack of room and of memory, and holds for builders with any limit.
 #[tactic(auto, using(crate::proofs::TextLemmas::types_refused, crate::proofs::TextLemmas::salt_excludes, crate::proofs::TextLemmas::hash_excludes))]
 pub fn refused_tokens_spell_no_types()
     ensures types { (limit : Option ℕ) (old new : Tokens) (types : Rtypes) (fault : ScanFault)
@@ -74,9 +74,9 @@ pub fn refused_tokens_spell_no_types()
         → IsOfTokens limit fault → OwnerHashText text hash → ⊥ }
 {}
 
-/// Tokens are refused as types, but for want of room or of memory, for one reason, and the tokens
-/// that are left then are determined. A text is refused as a salt or as a hash, but for want of
-/// memory, for one reason. Both over builders with any limit.
+/// Tokens are rejected as types for one fault, which also determines the tokens left. This excludes
+/// lack of room and of memory. A text is rejected as a salt or a hash for one fault, except lack of
+/// memory. Both hold for builders with any limit.
 #[tactic(auto, using(crate::proofs::TextLemmas::types_one_fault, crate::proofs::TextLemmas::salt_one_fault, crate::proofs::TextLemmas::counted_one_fault))]
 pub fn types_and_hashes_have_one_fault()
     ensures types { (limit : Option ℕ) (old m n : Tokens) (x y : ScanFault)

@@ -1,4 +1,4 @@
-//! Lists of type bitmaps that take little memory.
+//! Lists of bitmaps that take little memory.
 ghost use Rattle.std.specs.Prelude.{◌≡◌, ◌≤◌, ◌∷◌, ◌++◌, ◌↔◌, [], length, slice_index, slice_index_or, IsTrue, IfSome, IfNone, OnOk, OnErr};
 ghost use Rattle.domain_octets.specs.Octets.{Octets};
 
@@ -7,12 +7,12 @@ use domain_octets::{Octets, OutOfMemory};
 use std::alloc::Global;
 use std::marker::Model;
 
-/// A list of bitmaps whose octets are one after another in one vector. Each bitmap takes 8 octets
-/// and its own. Contracts see the list of their octets.
+/// A list of bitmaps, with all octets in one vector. Each bitmap takes its octets and 8 more.
+/// Contracts see the list of their octets.
 #[derive(Drop)]
 pub struct RtypeBitmaps {
     octets: Vec<u8>,
-    /// The place after the last octet of each bitmap.
+    /// For each bitmap, the position after its last octet.
     ends: Vec<usize>,
 }
 
@@ -29,7 +29,7 @@ impl Model for RtypeBitmaps {
 }
 
 impl RtypeBitmaps {
-    /// Returns a list without bitmaps. Takes no memory.
+    /// Returns a list without bitmaps. Does not allocate.
     pub fn new(alloc: Global) -> Self
         ensures { result ≡ [] }
     {
@@ -55,25 +55,25 @@ impl RtypeBitmaps {
         self.ends.is_empty()
     }
 
-    /// Appends a copy of a bitmap. An error changes nothing.
+    /// Appends a copy of a bitmap. After an error the list is unchanged.
     ///
     /// # Errors
     ///
-    /// `OutOfMemory` if there is no memory for its octets or for the place of their end.
+    /// `OutOfMemory` if there is no memory for its octets or for the position of their end.
     #[tactic(auto, using(std::proofs::lemmas::Grind::common_steps, crate::proofs::ListLemmas::push_steps))]
     pub fn push<O: Octets>(&mut self, types: &RtypeBitmap<O>) -> Result<(), OutOfMemory>
         ensures ok { OnOk result (self.new ≡ self.old ++ types.now ∷ []) }
         ensures err { OnErr result (self.new ≡ self.old) }
     {
-        // With room for its end, the copy of the octets is the last thing that can be refused.
+        // This reserves room for the end, so that only the copy of the octets can still fail.
         self.ends.reserve(1)?;
         self.octets.extend_from_slice(types.as_slice())?;
         self.ends.push(self.octets.len())?;
         Ok(())
     }
 
-    /// Returns the bitmap at a place, or `None` past the last one, in constant time. Takes no
-    /// memory.
+    /// Returns the bitmap at a place, or `None` if the list has no more than `place`. Takes
+    /// constant time, and does not allocate.
     #[tactic(auto, using(crate::proofs::ListLemmas::get_steps))]
     pub fn get(&self, place: usize) -> Option<RtypeBitmap<&[u8]>>
         ensures some { IfSome result (λ types. (d : Octets)
@@ -89,7 +89,7 @@ impl RtypeBitmaps {
     }
 }
 
-/// Returns the place of the first octet of a bitmap: the end of the bitmap before it.
+/// Returns the position of the first octet of a bitmap: the end of the bitmap before it.
 fn start_at(ends: &[usize], place: usize) -> usize
     requires { place ≤ length ends.now }
     ensures { result ≡ slice_index (0 ∷ ends.now) place }

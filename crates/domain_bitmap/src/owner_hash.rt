@@ -1,4 +1,4 @@
-//! Hashed owner names (RFC 5155, section 3.1.7), and their text (section 3.3).
+//! Hashed owner names (RFC 5155, section 3.1.7), and their presentation format (section 3.3).
 ghost use Rattle.std.specs.Prelude.{IfOk, IfErr, Some, codes};
 ghost use Rattle.domain_codecs.specs.Base32.{base32_upper};
 ghost use Rattle.domain_codecs.specs.declared.codec.Codec.TheVariants as codec;
@@ -16,7 +16,7 @@ use std::fmt;
 /// The hash of an owner name: at most 255 octets (RFC 5155, section 3.1.7).
 pub type OwnerHash<O> = CountedOctets<O, OwnerHashError>;
 
-/// Octets are no hash: there are over 255.
+/// The error for a hash of more than 255 octets.
 #[derive(Clone, Copy, Debug, Default, PartialEq, Eq)]
 pub struct OwnerHashError;
 
@@ -30,7 +30,7 @@ impl fmt::Display for OwnerHashError {
 
 impl Error for OwnerHashError {}
 
-/// The octets in Base 32 hex without padding, in upper case.
+/// Writes the octets in Base 32 hex, in upper case and without padding.
 impl<O: Octets> fmt::Display for OwnerHash<O> {
     ghost output = { λ h. Some (base32_upper h) };
 
@@ -49,11 +49,11 @@ impl<O: FromBuilder + Drop> OwnerHash<O>
 where
     O::Builder: EmptyBuilder + Drop,
 {
-    /// Returns the hash that a text in Base 32 hex stands for, in either case and without padding.
+    /// Decodes a hash in Base 32 hex, in either case and without padding.
     ///
     /// # Errors
     ///
-    /// Those of the codec, and `ShortBuf` for over 255 octets too.
+    /// Those of the codec, and `ShortBuf` also for more than 255 octets.
     pub fn from_str(alloc: Global, text: &str) -> Result<Self, DecodeError>
         ensures ok { IfOk result (OwnerHashText text.now) }
         ensures err { IfErr result (HashFault O.Builder.limit text.now) }
@@ -67,13 +67,12 @@ where
 }
 
 impl<O: FromBuilder + Drop> OwnerHash<O> {
-    /// Returns the hash that the next token stands for in Base 32 hex. An error skips the token
-    /// too.
+    /// Decodes the next token as a hash in Base 32 hex. An error skips the token too.
     ///
     /// # Errors
     ///
-    /// `Custom("illegal data")` where the token is not in Base 32 hex, else lack of room or of
-    /// memory, else `Custom("illegal owner name hash")` where it stands for over 255 octets.
+    /// `Custom("illegal data")` if the token is not in Base 32 hex, or else lack of room or of
+    /// memory, or else `Custom("illegal owner name hash")` if it encodes more than 255 octets.
     pub fn scan<S: Scanner<Octets = O>>(alloc: Global, scanner: &mut S) -> Result<Self, ScanError>
         ensures { ReadsTokens (OneToken OwnerHashText) (λ hash. hash)
             (RefusesToken (CountedFault codec.Base32Hex (codes "illegal owner name hash")

@@ -1,4 +1,5 @@
-//! The salt of hashed owner names (RFC 5155, section 3.1.5), and its text (section 3.3).
+//! The salt of hashed owner names (RFC 5155, section 3.1.5), and its presentation format (section
+//! 3.3).
 ghost use Rattle.std.specs.Prelude.{◌≡◌, ◌↔◌, IfOk, IfErr, IsTrue, Some, codes};
 ghost use Rattle.domain_base.specs.Scan.{OneToken, ReadsTokens, RefusesToken};
 ghost use Rattle.domain_bitmap.specs.Text.{SaltText, SaltFault, SaltTokenFault, BeginsWithDash, salt_error_text};
@@ -13,10 +14,10 @@ use std::alloc::Global;
 use std::error::Error;
 use std::fmt;
 
-/// The octets that are hashed after a name, at most 255 (RFC 5155, section 3.1.5).
+/// A salt: at most 255 octets that are hashed after a name (RFC 5155, section 3.1.5).
 pub type Nsec3Salt<O> = CountedOctets<O, Nsec3SaltError>;
 
-/// Octets are no salt: there are over 255.
+/// The error for a salt of more than 255 octets.
 #[derive(Clone, Copy, Debug, Default, PartialEq, Eq)]
 pub struct Nsec3SaltError;
 
@@ -30,12 +31,12 @@ impl fmt::Display for Nsec3SaltError {
 
 impl Error for Nsec3SaltError {}
 
-/// Why a text is no salt.
+/// The error of reading a salt from text.
 #[derive(Clone, Copy, Debug, PartialEq, Eq)]
 pub enum Nsec3SaltFromStrError {
-    /// It is not in Base 16, or its octets have no room or no memory.
+    /// The text is not in Base 16, or there is no room or no memory for the octets.
     DecodeError(DecodeError),
-    /// It stands for over 255 octets.
+    /// The text encodes more than 255 octets.
     Nsec3SaltError(Nsec3SaltError),
 }
 
@@ -52,7 +53,7 @@ impl fmt::Display for Nsec3SaltFromStrError {
 
 impl Error for Nsec3SaltFromStrError {}
 
-/// The octets in Base 16, in upper case, and a dash for none.
+/// Writes the octets in Base 16, in upper case, or a dash if there are none.
 impl<O: Octets> fmt::Display for Nsec3Salt<O> {
     ghost output = { λ s. Some (salt_text s) };
 
@@ -75,12 +76,12 @@ impl<O: FromBuilder + Drop> Nsec3Salt<O>
 where
     O::Builder: EmptyBuilder + Drop,
 {
-    /// Returns the salt that a text in Base 16 stands for, in either case; a dash alone is the salt
-    /// of no octets.
+    /// Decodes a salt in Base 16, in either case. A single dash is the salt without octets.
     ///
     /// # Errors
     ///
-    /// First those of Base 16, then lack of room or of memory, then a salt of over 255 octets.
+    /// First the errors of Base 16, then lack of room or of memory, then a salt of more than 255
+    /// octets.
     #[tactic(auto, using(std::proofs::lemmas::Grind::common_steps, crate::proofs::TextLemmas::salt_texts))]
     pub fn from_str(alloc: Global, text: &str) -> Result<Self, Nsec3SaltFromStrError>
         ensures ok { IfOk result (SaltText text.now) }
@@ -100,7 +101,7 @@ where
     }
 }
 
-/// Returns whether a token begins with a dash, and whether that is all of it.
+/// Returns whether a token begins with a dash, and whether it is a single dash.
 fn dash(token: &str) -> (bool, bool)
     ensures begins { IsTrue result.0 ↔ BeginsWithDash token.now }
     ensures alone { IsTrue result.1 ↔ (token.now ≡ codes "-") }
@@ -113,14 +114,14 @@ fn dash(token: &str) -> (bool, bool)
 }
 
 impl<O: FromBuilder + Drop> Nsec3Salt<O> {
-    /// Returns the salt that the next token stands for in Base 16; a dash alone is the salt of no
-    /// octets. An error skips the token too.
+    /// Decodes the next token as a salt in Base 16. A single dash is the salt without octets. An
+    /// error skips the token too.
     ///
     /// # Errors
     ///
-    /// `Custom("illegal NSEC3 salt")` for a dash with something after it, `Custom("illegal data")`
-    /// for another token that is not in Base 16, else lack of room or of memory, else
-    /// `Custom("illegal NSEC3 salt")` where it stands for over 255 octets.
+    /// `Custom("illegal NSEC3 salt")` for a dash with something after it. For any other token,
+    /// `Custom("illegal data")` if it is not in Base 16, or else lack of room or of memory, or else
+    /// `Custom("illegal NSEC3 salt")` if it encodes more than 255 octets.
     #[tactic(auto, using(std::proofs::lemmas::Grind::common_steps, crate::proofs::TextLemmas::salt_steps))]
     pub fn scan<S: Scanner<Octets = O>>(alloc: Global, scanner: &mut S) -> Result<Self, ScanError>
         ensures { ReadsTokens (OneToken SaltText) (λ salt. salt)
@@ -146,7 +147,7 @@ impl<O: FromBuilder + Drop> Nsec3Salt<O> {
     }
 }
 
-/// The comment on a salt of so many octets.
+/// The comment on a salt with this number of octets.
 #[derive(Drop)]
 struct SaltLength(usize);
 
@@ -158,7 +159,7 @@ impl fmt::Display for SaltLength {
     }
 }
 
-/// A block of the salt's text and a comment on its length in octets.
+/// Writes a block with the salt's printed form and a comment on its length in octets.
 impl<O: Octets> ZonefileFmt for Nsec3Salt<O> {
     ghost pieces = { salt_pieces };
 

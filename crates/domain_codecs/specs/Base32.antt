@@ -1,4 +1,4 @@
--- numbers as bits, the highest first
+-- Octets and digits of Base 32 hex as bits, the highest bit first.
 use Rattle.std.specs.{Prelude.{ℕ, ◌-◌, ◌*◌, ◌/◌, ◌%◌, [], ◌∷◌, ◌++◌, length, replicate, ◌+◌, ◌^◌, ◌<◌, ◌==◌, nat_le, nat_lt, All, map}}
 use Rattle.std.specs.{Prelude.if◌then◌else◌, List.flat_map}
 use Rattle.domain_octets.specs.Octets.{Octets}
@@ -36,7 +36,7 @@ base32_from scale rest (octet ∷ octets) =
     ∷ base32_from narrow (value % wide % narrow) octets)
     else ((value / wide) ∷ base32_from wide (value % wide) octets)
 
--- the digits of five octets that are one number, the first of them highest
+-- the digits of five octets, which are given as one number in big-endian order
 abbrev pub eight_digits : ℕ → Octets
 eight_digits n =
     (n / 2 ^ 35 % 32) ∷ (n / 2 ^ 30 % 32) ∷ (n / 2 ^ 25 % 32) ∷ (n / 2 ^ 20 % 32)

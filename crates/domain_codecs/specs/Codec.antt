@@ -1,4 +1,4 @@
--- octets as text: Base 16, Base 32 with the extended hex alphabet, and Base 64 (RFC 4648)
+-- Octets as text: Base 16, Base 32 with the extended hex alphabet, and Base 64 (RFC 4648).
 use Rattle.std.specs.Prelude.{◌≡◌, ℕ, ◌+◌, ◌-◌, ◌*◌, ◌/◌, ◌%◌, ◌<◌, ◌==◌, ◌||◌, ◌&&◌, nat_le, Bool, true, false, not, [], ◌∷◌, map, length}
 use Rattle.std.specs.{Prelude.{Ok, if◌then◌else◌, Option, Some, None, IsNone, is_some, unwrap_or, ◌≤◌, ◌++◌, codes}, List.{AllPass, find}, Char.encode_utf8}
 use Rattle.base64.specs.Engines.{standard}

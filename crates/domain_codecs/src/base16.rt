@@ -34,13 +34,13 @@ pub fn encode_string(alloc: Global, octets: &[u8]) -> Result<String, OutOfMemory
     Ok(hex::encode_upper(alloc, octets)?)
 }
 
-/// The digits, in lower case.
+/// The digits in lower case.
 const LOWER: &[u8; 16] = b"0123456789abcdef";
 
-/// The digits, in upper case.
+/// The digits in upper case.
 const UPPER: &[u8; 16] = b"0123456789ABCDEF";
 
-/// How many octets are written at a time.
+/// The number of octets that are written at a time.
 const GROUP: usize = 32;
 
 /// Writes the digits of octets to a buffer, in the case of the alphabet, and returns them as text.

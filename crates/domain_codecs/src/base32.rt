@@ -57,13 +57,13 @@ pub fn digit_or_zero(c: u8) -> u32
     }
 }
 
-/// The digits, in lower case.
+/// The digits in lower case.
 const LOWER: &[u8; 32] = b"0123456789abcdefghijklmnopqrstuv";
 
-/// The digits, in upper case.
+/// The digits in upper case.
 const UPPER: &[u8; 32] = b"0123456789ABCDEFGHIJKLMNOPQRSTUV";
 
-/// Returns five octets as one number, the first of them highest.
+/// Returns five octets as one number in big-endian order.
 fn number_of(five: &[u8; 5]) -> u64
     ensures { eight_digits result ≡ base32_from 1 0 five.now }
 {
@@ -88,7 +88,7 @@ fn spell(alphabet: &[u8; 32], number: u64) -> [u8; 8]
     ]
 }
 
-/// The remaining digits of octets, each a number below 32. Does not allocate.
+/// The digits of octets that are left to be read, each a number below 32. Does not allocate.
 #[derive(Drop)]
 pub struct Digits<'a> {
     octets: &'a [u8],
@@ -104,14 +104,14 @@ impl<'a> Model for Digits<'a> {
 }
 
 impl<'a> Digits<'a> {
-    /// Returns all digits of these octets.
+    /// Returns the digits of these octets.
     pub fn new(octets: &'a [u8]) -> Self
         ensures { result ≡ base32_from 1 0 octets.now }
     {
         Digits { octets }
     }
 
-    /// Takes the next five octets, or those that are left and zeros after them. Returns them as a
+    /// Reads the next five octets, or those that are left, with zeros after them. Returns them as a
     /// number, with the count of their digits, or None if no octets are left.
     #[tactic(auto, using(std::proofs::lemmas::Grind::common_steps, crate::proofs::Base32Lemmas::next_number_steps))]
     fn next_number(&mut self) -> Option<(u64, usize)>

@@ -24,7 +24,7 @@ pub enum DecodeError {
     IllegalChar(char),
     /// The text ends too early, or its padding is wrong.
     ShortInput,
-    /// The octets do not fit into their builder.
+    /// The octets do not fit in their builder.
     ShortBuf,
     /// Memory ran out.
     OutOfMemory,

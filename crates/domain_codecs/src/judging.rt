@@ -8,7 +8,7 @@ use crate::joined::Joined;
 use crate::{Codec, DecodeError, base32};
 use base64::engine::general_purpose::STANDARD;
 
-/// Returns whether texts of the codec can have a character.
+/// Returns whether a text of the codec can have a character.
 fn is_digit(codec: Codec, c: u8) -> bool
     ensures { result ≡ is_digit codec c }
 {
@@ -50,7 +50,7 @@ fn first_other(codec: Codec, text: &Joined<'_>) -> Option<u8>
     }
 }
 
-/// Returns whether joined texts encode octets in Base 64: each 64 characters 48 octets, and the
+/// Returns whether joined texts are Base 64: each piece of 64 characters encodes 48 octets, and the
 /// last piece at most 48.
 #[tactic(auto, using(crate::proofs::JoinedLemmas::base64_steps))]
 fn is_base64(text: &Joined<'_>) -> bool

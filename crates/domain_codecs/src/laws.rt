@@ -1,5 +1,5 @@
-//! Theorems about Base 16, Base 32 with the extended hex alphabet, and Base 64. A caller calls a
-//! law in its body.
+//! Laws of Base 16, of Base 32 with the extended hex alphabet, and of Base 64. To use a law, call
+//! it in the body of your function.
 ghost use Rattle.std.specs.{Prelude.{◌≡◌, ◌≢◌, ◌<◌, ◌^◌, ℕ, []}, Fmt.decimal, List.flat_map};
 ghost use Rattle.std.specs.{Ordering.nat_cmp, Cmp.Lexicographic.slice_cmp};
 ghost use Rattle.domain_codecs.specs.Base32.{base32_from, base32_lower, base32_upper, digit_bits, filled_bits};
@@ -32,7 +32,8 @@ pub fn base32_reads_back()
     ensures { (octets : Octets) → AreOctets octets → IsBase32 (base32_lower octets) octets }
 {}
 
-/// So does text in upper case, text in Base 16 in either case, and text in Base 64.
+/// Text in Base 32 hex in upper case, in Base 16 in either case, and in Base 64 also decodes to the
+/// octets that were encoded.
 pub fn texts_read_back()
     ensures base16_lower { (octets : Octets) → AreOctets octets
         → Decodes codec.Base16 (encode_lower octets) octets }
@@ -50,7 +51,7 @@ pub fn texts_stand_for_octets_once()
         → x ≡ y }
 {}
 
-/// A decimal number is one word, and so is the text of some octets in each codec.
+/// A decimal number is one word, and so is the text of octets in each codec, unless there are none.
 #[tactic(auto, using(domain_octets::proofs::WordLemmas::decimal_word, crate::proofs::CodecLemmas::lower_hex_word, crate::proofs::CodecLemmas::upper_hex_word, crate::proofs::CodecLemmas::lower_base32_word, crate::proofs::CodecLemmas::upper_base32_word, crate::proofs::CodecLemmas::base64_word))]
 pub fn texts_are_words()
     ensures decimal { (n : ℕ) → n < 2 ^ 64 → IsWord (decimal n) }

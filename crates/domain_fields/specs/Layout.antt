@@ -14,14 +14,14 @@ use Rattle.std.specs.Hash as fed
 
 -- ---- the kinds of fields of data on the wire
 
--- octet, short, long: numbers of 8, 16 and 32 bits
--- name, spelled_name: a name, which the canonical form lowers, or keeps as it is spelled (RFC 4034,
--- section 6.2; RFC 6840, section 5.1)
--- counted: a length octet and so many octets
--- exactly: so many octets
--- at_most: no octets, and at most so many after it
+-- octet, short, long: a number of 8, 16 or 32 bits
+-- name: a name, which the canonical form lowers (RFC 4034, section 6.2; RFC 6840, section 5.1)
+-- spelled_name: a name that the canonical form leaves as it is spelled (by the same sections)
+-- counted: a length octet and as many octets
+-- exactly: this number of octets
+-- at_most: no octets, with at most this number of octets after them
 -- rest: all octets that are left
--- types: a type bitmap, which all octets that are left are (RFC 4034, section 4.1.2)
+-- types: all octets that are left, which are a type bitmap (RFC 4034, section 4.1.2)
 pub data Field : Type 0 where
   octet : Field
   short : Field
@@ -58,7 +58,7 @@ field_octets (at_most limit) v = []
 field_octets rest octets = octets
 field_octets types octets = octets
 
--- the values that have octets
+-- the values that have a wire form
 abbrev pub FieldFits : (f : Field) → Value f → Type 0
 FieldFits octet n = n < 2 ^ 8
 FieldFits short n = n < 2 ^ 16
@@ -71,7 +71,7 @@ FieldFits (at_most limit) v = Unit {0}
 FieldFits rest octets = AreOctets octets
 FieldFits types octets = IsBitmap octets
 
--- what may stand after the field
+-- the octets that can follow the field
 abbrev pub FieldEnds : Field → Octets → Type 0
 FieldEnds (at_most limit) after = length after ≤ limit
 FieldEnds rest after = after ≡ []
@@ -83,17 +83,17 @@ abbrev pub lower_field : (f : Field) → Value f → Value f
 lower_field name labels = lowered labels
 lower_field _ v = v
 
--- octets do not begin with so many
+-- there are fewer than `count` octets
 pub record IsCut (octets : Octets) (count : ℕ) (fault : Fault) : Type 0 where
   pub short : length octets < count
   pub early : fault ≡ ends_early
 
--- more octets than so many
+-- there are more than `limit` octets
 pub record IsLong (octets : Octets) (limit : ℕ) (fault : Fault) : Type 0 where
   pub long : limit < length octets
   pub said : fault ≡ malformed (codes "record data too long")
 
--- why octets begin with no value of the field
+-- the fault of octets that do not begin with a value of the field
 abbrev pub FieldFault : Field → Octets → Fault → Type 0
 FieldFault octet octets fault = IsCut octets 1 fault
 FieldFault short octets fault = IsCut octets 2 fault
@@ -106,7 +106,7 @@ FieldFault (at_most limit) octets fault = IsLong octets limit fault
 FieldFault rest octets fault = ⊥
 FieldFault types octets fault = BitmapFault octets fault
 
--- ---- what a fault of octets is called
+-- ---- the names of the faults of octets
 
 abbrev pub wire_fault_of : WireFault → Fault
 wire_fault_of ShortInput = ends_early
@@ -126,7 +126,7 @@ abbrev pub Values : Layout → Type 0
 Values (one f) = Value f
 Values (a ▸ b) = Values a × Values b
 
--- the octets of data
+-- the wire form of the data
 unfoldable pub octets_of : (l : Layout) → Values l → Octets
 octets_of (one f) v = field_octets f v
 octets_of (a ▸ b) v = octets_of a v.0 ++ octets_of b v.1
@@ -135,18 +135,18 @@ abbrev pub Fits : (l : Layout) → Values l → Type 0
 Fits (one f) v = FieldFits f v
 Fits (a ▸ b) v = Fits a v.0 × Fits b v.1
 
--- what may stand after the data
+-- the octets that can follow the data
 abbrev pub Ends : (l : Layout) → Values l → Octets → Type 0
 Ends (one f) v after = FieldEnds f after
 Ends (a ▸ b) v after = Ends a v.0 (octets_of b v.1 ++ after) × Ends b v.1 after
 
--- the octets begin with these data, and these are left
+-- the octets begin with these data, and `after` is left
 pub record Begins (l : Layout) (octets : Octets) (values : Values l) (after : Octets) : Type 0 where
   pub parts : octets ≡ octets_of l values ++ after
   pub fits : Fits l values
   pub ends : Ends l values after
 
--- the first fault in field order
+-- the first fault, in field order
 pub data FirstFault : Layout → Octets → Fault → Type 0 where
   in_field : (f : Field) (octets : Octets) (fault : Fault) → FieldFault f octets fault
       → FirstFault (one f) octets fault
@@ -155,7 +155,7 @@ pub data FirstFault : Layout → Octets → Fault → Type 0 where
   in_later : (a b : Layout) (octets : Octets) (values : Values a) (after : Octets) (fault : Fault)
       → Begins a octets values after → FirstFault b after fault → FirstFault (a ▸ b) octets fault
 
--- the octets of these values are read as them, in no other way, and nothing is left
+-- the octets of these values are read as these values, in no other way, and nothing is left
 pub record ParsesBack (l : Layout) (values : Values l) : Type 0 where
   pub begins : Begins l (octets_of l values) values []
   pub alone : (others : Values l) (after : Octets) → Begins l (octets_of l values) others after
@@ -171,7 +171,7 @@ lower (a ▸ b) v = (lower a v.0, lower b v.1)
 abbrev pub canonical_of : (l : Layout) → Values l → Octets
 canonical_of l v = octets_of l (lower l v)
 
--- of the octets on the wire and those of the canonical form, those of this form
+-- the octets in this form, given the wire form and the canonical form
 abbrev pub in_form : Form → Octets → Octets → Octets
 in_form Wire octets canonical = octets
 in_form Canonical octets canonical = canonical
@@ -180,7 +180,7 @@ in_form Canonical octets canonical = canonical
 abbrev pub canonical_order : (l : Layout) → Values l → Values l → Ordering
 canonical_order l v w = slice_cmp nat_cmp (canonical_of l v) (canonical_of l w)
 
--- one can tell where the field ends
+-- whether the end of the field is known from its octets
 abbrev pub is_delimited_field : Field → Bool
 is_delimited_field rest = false
 is_delimited_field types = false
@@ -190,17 +190,17 @@ abbrev pub is_delimited : Layout → Bool
 is_delimited (one f) = is_delimited_field f
 is_delimited (a ▸ b) = is_delimited a && is_delimited b
 
--- only the last field takes the rest
+-- only the last field takes the rest of the octets
 abbrev pub splits : Layout → Bool
 splits (one f) = true
 splits (a ▸ b) = is_delimited a && splits b
 
--- it has gone on over what is no longer left
+-- the position went on by as many octets as are no longer left
 pub record GoesOn (old new : Place) : Type 0 where
   pub whole : new.pos + length new.left ≡ old.pos + length old.left
 
--- what is promised of reading data from a place: what they are, and that a refusal names the first
--- fault and leaves the place
+-- the result of reading data from a place: the data, or the first fault, which leaves the place
+-- unchanged
 pub record Reads {D E : Type 0} (l : Layout) (values : D → Values l) (fault : E → Fault)
     (old new : Place) (result : Result D E) : Type 0 where
   pub ok : IfOk result (λ d. Begins l old.left (values d) new.left)
@@ -215,33 +215,33 @@ pub record Appended (limit : Option ℕ) (old new octets : Octets) : Type 0 wher
   pub all : new ≡ old ++ octets
   pub room : IsOver limit (length old + length octets) → ⊥
 
--- a beginning of the octets was appended
+-- the first part of the octets was appended
 pub record Began (old new octets : Octets) : Type 0 where
   pub front : Octets
   pub back : Octets
   pub parts : octets ≡ front ++ back
   pub new_is : new ≡ old ++ front
 
--- what a refusal leaves, and why it came
+-- what is appended after an error, and why the error comes
 abbrev pub Stops : Option ℕ → AppendError → Octets → Octets → Octets → Type 0
 Stops limit ShortBuf old new octets =
     Began old new octets × IsOver limit (length old + length octets)
 Stops limit OutOfMemory old new octets = Began old new octets × IsNone limit
 
--- what appending octets to a builder answers and leaves
+-- the result of appending octets to a builder, and the octets in it afterwards
 abbrev pub Appends : {X : Type 0} → Option ℕ → Result X AppendError → Octets → Octets
     → Octets → Type 0
 Appends limit (Ok x) old new octets = Appended limit old new octets
 Appends limit (Err e) old new octets = Stops limit e old new octets
 
--- ---- what the impls of comparisons cite
+-- ---- what implementations of comparison traits cite
 
--- equal octets are fed alike
+-- equal octets feed a hasher the same
 pub fed_alike : {D : Type 0} (octets : D → Octets)
     → Alike (on octets bytes_eq) (λ d. flat_map fed.u8 (octets d))
 fed_alike octets = on_Alike octets (same_Alike (flat_map fed.u8) bytes_decides)
 
--- octets that the order does not tell apart are equal
+-- octets that tie in the order are equal
 pub tied_octets : {D : Type 0} (octets : D → Octets) (x y : D)
     → on octets bytes_eq x y ≡ eq_by_cmp (on octets (slice_cmp nat_cmp)) x y
 tied_octets octets x y = texts_ties (octets x) (octets y)
@@ -256,16 +256,16 @@ pub ties_of_both : {D : Type 0} (labels : D → Name) (octets : D → Octets) (x
 ties_of_both labels octets x y =
     both_tied _ _ _ _ (same_name_ties (labels x) (labels y)) (texts_ties (octets x) (octets y))
 
--- ---- Copies of data are equal under the canonical order.
+-- ---- copies of data tie in the canonical order
 
--- data with the same fields are equal
+-- data with the same fields tie
 pub same_values_tie : {D : Type 0} (l : Layout) (values : D → Values l) (d copy : D)
     → values copy ≡ values d
     → on (λ x. canonical_of l (values x)) (slice_cmp nat_cmp) d copy ≡ Equal
 same_values_tie l values d copy same =
     rw same (tied_itself nat_list_cmp_total (canonical_of l (values d)))
 
--- a copy stands at the place of its original in the order of octets
+-- a copy ties with its original in the order of octets
 pub copies_tied : {D : Type 0} (octets : D → Octets) (value copy : D) → copy ≡ value
     → on octets (slice_cmp nat_cmp) value copy ≡ Equal
 copies_tied octets value copy same =
@@ -274,6 +274,6 @@ copies_tied octets value copy same =
 
 -- ---- numbers whose bits are flags
 
--- the flags have this bit
+-- whether the flags have this bit
 abbrev pub has_flag : ℕ → ℕ → Bool
 has_flag flag flags = not (bit_and flags flag == 0)

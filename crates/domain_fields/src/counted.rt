@@ -1,4 +1,4 @@
-//! Octets that are counted.
+//! Octets with a length octet before them.
 ghost use Rattle.std.specs.Prelude.{◌≡◌, ◌≤◌, refl, length};
 ghost use Rattle.domain_fields.specs.Layout.{counted, one};
 
@@ -8,7 +8,7 @@ use domain_octets::{AppendError, OctetsBuilder, laws};
 use std::cmp::Ordering;
 use std::hash::Hasher;
 
-/// At most 255 octets, after an octet that counts them.
+/// At most 255 octets, with a length octet before them.
 #[derive(Drop)]
 pub struct Counted<'a> {
     octets: &'a [u8],
@@ -16,7 +16,7 @@ pub struct Counted<'a> {
 }
 
 impl<'a> Counted<'a> {
-    /// Returns these octets, and their count before them.
+    /// Returns these octets, with their length before them.
     pub fn new(octets: &'a [u8]) -> Self
         requires { length octets.now ≤ 255 }
         ensures { result.octets.now ≡ octets.now }
@@ -24,7 +24,7 @@ impl<'a> Counted<'a> {
         Counted { octets }
     }
 
-    /// Returns the octets, without the count.
+    /// Returns the octets, without the length.
     pub fn as_slice(&self) -> &'a [u8]
         ensures octets { result.now ≡ self.now.octets.now }
         ensures fits { length result.now ≤ 255 }
@@ -32,7 +32,7 @@ impl<'a> Counted<'a> {
         self.octets
     }
 
-    /// Returns the count and the octets, which are written, compared and hashed as these two
+    /// Returns the length and the octets, which are written, compared and hashed as these two
     /// fields.
     fn parts(&self) -> (u8, Rest<'a>)
         ensures { (result.0 ≡ length self.now.octets.now) × (result.1.0.now ≡ self.now.octets.now) }

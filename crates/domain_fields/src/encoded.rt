@@ -1,4 +1,4 @@
-//! Octets that are written in a codec.
+//! Octets that print in a codec.
 ghost use Rattle.std.specs.Prelude.{Some};
 ghost use Rattle.hex.specs.Hex.{encode_lower, encode_upper};
 ghost use Rattle.base64.specs.{GeneralPurpose.encode_of, Engines.standard};
@@ -6,7 +6,7 @@ ghost use Rattle.base64.specs.{GeneralPurpose.encode_of, Engines.standard};
 use domain_codecs::{base16, base64_standard};
 use std::fmt;
 
-/// Octets in Base 64 (RFC 4648, section 4).
+/// Octets that print in Base 64 (RFC 4648, section 4).
 #[derive(Drop)]
 pub struct InBase64<'a>(pub &'a [u8]);
 
@@ -18,7 +18,7 @@ impl<'a> fmt::Display for InBase64<'a> {
     }
 }
 
-/// Octets in Base 16, in upper case (RFC 4648, section 8).
+/// Octets that print in Base 16, in upper case (RFC 4648, section 8).
 #[derive(Drop)]
 pub struct InBase16<'a>(pub &'a [u8]);
 
@@ -30,7 +30,7 @@ impl<'a> fmt::Display for InBase16<'a> {
     }
 }
 
-/// Octets in Base 16, in lower case.
+/// Octets that print in Base 16, in lower case.
 #[derive(Drop)]
 pub struct InLowerBase16<'a>(pub &'a [u8]);
 

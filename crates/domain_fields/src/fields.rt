@@ -1,4 +1,5 @@
-//! The fields of record data: how they are written, compared and hashed, once for every type.
+//! The fields of record data. How they are written, compared and hashed is defined once for all
+//! types.
 ghost use Rattle.std.specs.Prelude.{◌≡◌, ◌≤◌, ◌-◌, ◌↔◌, SomeIff, IsTrue, true, refl, length, take};
 ghost use Rattle.std.specs.{Prelude.{drop, fold, map, bytes_eq}, List.flat_map};
 ghost use Rattle.std.specs.{Char.to_ascii_lowercase, Ordering.nat_cmp, Cmp.Lexicographic.slice_cmp};
@@ -18,18 +19,19 @@ use std::hash::Hasher;
 /// The greatest length of the data of a record, in octets (RFC 1035, section 3.2.1).
 pub const MAX_RDLEN: usize = 65535;
 
-/// Fields, in the order of the wire.
+/// A list of fields, in the order of the wire.
 pub trait Fields {
     ghost layout: { Layout };
 
     ghost values: { Self → Values layout };
 
-    /// Returns how many octets are left of so many after the fields, or `None` if they don't fit.
+    /// Returns how many of `limit` octets are left after the fields, or `None` if the fields do not
+    /// fit.
     fn room_after(&self, limit: usize) -> Option<usize>
         ensures { SomeIff result (length (octets_of layout (values self.now)) ≤ limit)
             (limit - length (octets_of layout (values self.now))) };
 
-    /// Appends the octets of a form.
+    /// Appends the octets in this form.
     fn put<B: OctetsBuilder>(&self, form: Form, target: &mut B) -> Result<(), AppendError>
         ensures { Appends B.limit result (B.octets target.old) (B.octets target.new)
             (in_form form (octets_of layout (values self.now))
@@ -39,36 +41,36 @@ pub trait Fields {
     fn order(&self, other: &Self) -> Ordering
         ensures { result ≡ canonical_order layout (values self.now) (values other.now) };
 
-    /// Returns the order of the canonical octets and of as many other octets, and what follows
-    /// those.
+    /// Compares the canonical octets with as many of the other octets. Returns the order, and the
+    /// other octets that are left.
     fn order_from<'o>(&self, octets: &'o [u8]) -> (Ordering, &'o [u8])
         ensures order { result.0 ≡ slice_cmp nat_cmp (canonical_of layout (values self.now))
             (take (length (canonical_of layout (values self.now))) octets.now) }
         ensures rest { result.1.now ≡ drop (length (canonical_of layout (values self.now)))
             octets.now };
 
-    /// Feeds the canonical octets.
+    /// Feeds the canonical octets to a hasher.
     fn feed<H: Hasher>(&self, state: &mut H)
         ensures { state.new ≡ fold H.write state.old
             (flat_map fed.u8 (canonical_of layout (values self.now))) };
 
-    /// Does nothing; its clause says that the values have octets.
+    /// Does nothing. Its clause says that the values have a wire form.
     fn fits(&self)
         ensures { Fits layout (values self.now) };
 }
 
-/// Fields of which one can tell where they end: all but those that take the rest of the octets.
+/// Fields whose end is known from their octets: all except those that take the rest of the octets.
 pub trait Delimited: Fields {
     ghost delimited: { is_delimited Self.layout ≡ true };
 }
 
-/// A field whose octets are at hand, and are those of its canonical form too.
+/// A field whose octets can be borrowed, and are the same in the canonical form.
 trait Octeted {
     ghost field: { Field };
 
     ghost value: { Self → Value field };
 
-    /// Returns the octets; those of a number are put into the buffer.
+    /// Returns the octets. Those of a number are written to the buffer.
     fn octets<'o>(&'o self, buffer: &'o mut [u8; 4]) -> &'o [u8]
         ensures octets { result.now ≡ field_octets field (value self.now) }
         ensures fits { FieldFits field (value self.now) };
@@ -76,19 +78,19 @@ trait Octeted {
     ghost keeps: { (v : Value field) → lower_field field v ≡ v };
 }
 
-/// All octets that are left.
+/// The field of all octets that are left.
 #[derive(Drop)]
 pub struct Rest<'a>(pub &'a [u8]);
 
-/// So many octets.
+/// A field of exactly `COUNT` octets.
 #[derive(Drop)]
 pub struct Exactly<const COUNT: usize>(pub [u8; COUNT]);
 
-/// No octets, and no more than so many after it.
+/// A field without octets, after which at most `LIMIT` octets are left.
 #[derive(Drop)]
 pub struct AtMost<const LIMIT: usize>;
 
-/// A name that the canonical form keeps. One that it lowers is a `ParsedName` alone.
+/// A name that the canonical form does not lower. A plain `ParsedName` is one that it lowers.
 #[derive(Drop)]
 pub struct Spelled<N>(pub N);
 
@@ -110,7 +112,7 @@ pub fn canonical_cmp_octets<F: Fields>(fields: &F, octets: &[u8]) -> Ordering
     order.then(end.cmp(rest))
 }
 
-/// Returns whether the canonical octets of fields are the same.
+/// Returns whether the canonical octets of two lists of fields are the same.
 #[tactic(auto, using(crate::proofs::LayoutLemmas::equal_octets))]
 pub fn canonical_eq<F: Fields>(fields: &F, other: &F) -> bool
     ensures octets { result ≡ bytes_eq (canonical_of F.layout (F.values fields.now))
@@ -123,7 +125,7 @@ pub fn canonical_eq<F: Fields>(fields: &F, other: &F) -> bool
     fields.order(other).is_eq()
 }
 
-/// Returns the first octets, up to so many, and the others.
+/// Returns the first `count` octets, or all if there are fewer, and the others.
 fn split_up_to(octets: &[u8], count: usize) -> (&[u8], &[u8])
     ensures front { result.0.now ≡ take count octets.now }
     ensures back { result.1.now ≡ drop count octets.now }
@@ -131,7 +133,7 @@ fn split_up_to(octets: &[u8], count: usize) -> (&[u8], &[u8])
     octets.split_at(count.min(octets.len()))
 }
 
-/// Returns the order of octets, lowered, and of others.
+/// Returns the order of the lowered octets of `a` and the octets of `b`.
 fn lowered_with_octets_cmp(a: &[u8], b: &[u8]) -> Ordering
     ensures { result ≡ slice_cmp nat_cmp (map to_ascii_lowercase a.now) b.now }
 {
@@ -140,7 +142,7 @@ fn lowered_with_octets_cmp(a: &[u8], b: &[u8]) -> Ordering
         .cmp(b.iter().copied())
 }
 
-/// Returns the octets of a number, put into a buffer.
+/// Writes the octets of a number to the front of a buffer, and returns them.
 fn put_number<'o>(buffer: &'o mut [u8; 4], octets: &[u8]) -> &'o [u8]
     requires { length octets.now ≤ 4 }
     ensures { result.now ≡ octets.now }

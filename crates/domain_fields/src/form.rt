@@ -1,10 +1,10 @@
 //! The forms that record data are written in.
 
-/// The octets that data are written as.
+/// The form in which data are written.
 #[derive(Clone, Copy, Debug, PartialEq, Eq)]
 pub enum Form {
-    /// Those on the wire, with names as they are spelled.
+    /// The wire form, with names as they are spelled.
     Wire,
-    /// Those that are signed and ordered, with names lowered (RFC 4034, section 6.2).
+    /// The canonical form, with names lowered, for signatures and order (RFC 4034, section 6.2).
     Canonical,
 }

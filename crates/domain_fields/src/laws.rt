@@ -1,5 +1,5 @@
-//! What holds of all fields, on the wire, in canonical order and as tokens.
-//! A caller calls the law in its body.
+//! Laws of all fields, on the wire, in canonical order and as tokens. To use a law, call it in the
+//! body of your function.
 ghost use Rattle.std.specs.{Prelude.{◌≡◌, ℕ, ◌++◌, [], Option, true}, List.AllByRecursion};
 ghost use Rattle.std.specs.Ordering.{ordering_then};
 ghost use Rattle.domain_octets.specs.{Text.IsWord, Octets.Octets};
@@ -8,7 +8,7 @@ ghost use Rattle.domain_fields.specs.Layout.{Field, Layout, one, ◌▸◌, Valu
 ghost use Rattle.domain_fields.specs.Layout.{ParsesBack, splits, is_delimited, canonical_order};
 ghost use Rattle.domain_fields.specs.Scan.{is_printed, printed, Scans, Refuses, IsExact};
 
-/// Octets begin with data of given fields in one way at most, and in none where they have a fault.
+/// Octets begin with data of given fields in at most one way, and in no way if they have a fault.
 pub fn reading_is_exact()
     ensures one { (l : Layout) (octets : Octets) (v w : Values l) (r s : Octets) → splits l ≡ true
         → Begins l octets v r → Begins l octets w s → (v ≡ w) × (r ≡ s) }
@@ -16,21 +16,21 @@ pub fn reading_is_exact()
         → splits l ≡ true → (v : Values l) (r : Octets) → Begins l octets v r → ⊥ }
 {}
 
-/// Octets have one first fault at most.
+/// Octets have at most one first fault.
 #[tactic(auto, using(crate::proofs::ExactLemmas::one_fault))]
 pub fn octets_have_one_first_fault()
     ensures { (l : Layout) (octets : Octets) (x y : Fault) → FirstFault l octets x
         → FirstFault l octets y → splits l ≡ true → x ≡ y }
 {}
 
-/// Octets that were composed of values that fit parse back to these values, and nothing is left.
+/// Octets that were composed from values that fit parse back to these values, and nothing is left.
 #[tactic(auto, using(crate::proofs::ExactLemmas::parses_back))]
 pub fn composed_data_parses_back()
     ensures { (l : Layout) (v : Values l) → splits l ≡ true → Fits l v → Ends l v []
         → ParsesBack l v }
 {}
 
-/// In the order of canonical octets earlier fields decide before later ones.
+/// In the order of canonical octets, earlier fields decide before later ones.
 #[tactic(auto, using(crate::proofs::LayoutLemmas::order_both))]
 pub fn fields_decide_in_order()
     ensures { (a b : Layout) (v w : Values a) (x y : Values b) → is_delimited a ≡ true
@@ -39,10 +39,10 @@ pub fn fields_decide_in_order()
         ≡ ordering_then (canonical_order a v w) (canonical_order b x y) }
 {}
 
-/// Tokens begin with the values of a list of fields in one way at most: the values and the tokens
-/// that are left are determined (RFC 1035, section 5.1). Those that are refused, but for want of
-/// room or of memory, begin with none, and have one first fault, over builders with any limit. One
-/// field has one fault of any kind.
+/// Tokens begin with the values of a list of fields in at most one way, which determines the values
+/// and the tokens left (RFC 1035, section 5.1). Tokens with a fault begin with no such values, and
+/// have one first fault, for builders with any limit. This excludes lack of room and of memory. A
+/// single field has one fault of any kind.
 #[tactic(auto, using(crate::proofs::ScanLemmas::one_field_one_fault))]
 pub fn texts_of_fields_are_exact()
     ensures fields { (limit : Option ℕ) (l : Layout) → IsExact (IsOfTokens limit) (Scans l)
@@ -51,8 +51,8 @@ pub fn texts_of_fields_are_exact()
         → Refuses limit (one f) old m x → Refuses limit (one f) old n y → (x ≡ y) × (m ≡ n) }
 {}
 
-/// What numbers and names are written as, a token each, is read as these values, and what follows
-/// is left. Each of these tokens is one word.
+/// The printed forms of numbers and names, one token each, parse to these values, and the tokens
+/// after them are left. Each of these tokens is one word.
 #[tactic(auto, using(crate::proofs::ScanLemmas::fields_back, crate::proofs::ScanLemmas::fields_words))]
 pub fn fields_are_read_back()
     ensures values { (l : Layout) (v : Values l) (after : Tokens) → is_printed l ≡ true → Fits l v

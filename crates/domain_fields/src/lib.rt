@@ -1,14 +1,20 @@
 //! The fields of record data.
 //!
-//! The data of a type is described once, as a list of fields (`specs/Layout.antt`): numbers, names,
-//! counted octets, octets to the end and type bitmaps (RFC 1035, section 3.3; RFC 4034). Its
-//! octets, how they are read and their first fault, its canonical octets (RFC 4034, section 6.2),
-//! its canonical order, what is hashed of it and the tokens that spell it follow from that
-//! description, for each kind of field by one impl of [`Fields`], one of [`ReadFields`] and one of
-//! [`ScanFields`]. `specs/Scan.antt` puts grammars of tokens together; [`InBase64`] and its kin
-//! show octets in a codec. The crates above may rely on this: values are octets, which are read in
-//! one way at most and parse back to what was composed (the module `laws`), and the order of values
-//! is the lexicographic order of their canonical octets.
+//! The data of a type are described once, as a list of fields (`specs/Layout.antt`): numbers,
+//! names, counted octets, octets to the end and type bitmaps (RFC 1035, section 3.3; RFC 4034).
+//! From that description follow:
+//!
+//! - the octets, how they are read, and their first fault;
+//! - the canonical octets (RFC 4034, section 6.2), the canonical order, and what is hashed;
+//! - the tokens that spell the data.
+//!
+//! Each kind of field has one implementation of [`Fields`], one of [`ReadFields`] and one of
+//! [`ScanFields`]. `specs/Scan.antt` combines grammars of tokens. [`InBase64`] and similar types
+//! print octets in a codec.
+//!
+//! Other crates may rely on this. Octets are read as values in at most one way, and composed values
+//! parse back to themselves (the module `laws`). Values are ordered by their canonical octets,
+//! lexicographically.
 #![tactic(auto)]
 
 mod counted;

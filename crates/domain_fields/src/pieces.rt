@@ -1,4 +1,4 @@
-//! Pieces of a zone file, written one after another.
+//! Lists of pieces of zone file text.
 ghost use Rattle.std.specs.{Prelude.{◌≡◌, ◌++◌, ◌∷◌, [], List, Option, IfSome, OnOk}, Option.option_map};
 ghost use Rattle.domain_octets.specs.Text.{PieceText, token, comment, opens, closes};
 ghost use Rattle.domain_fields.specs.Scan.{both_pieces};
@@ -6,12 +6,12 @@ ghost use Rattle.domain_fields.specs.Scan.{both_pieces};
 use domain_octets::{Formatter, OutOfMemory};
 use std::fmt::Display;
 
-/// Pieces of a zone file.
+/// A list of pieces of zone file text.
 pub trait Pieces {
-    /// The pieces, where all of them have a text.
+    /// The pieces, if all of them have a printed form.
     ghost pieces: { Self → Option (List PieceText) };
 
-    /// Writes them.
+    /// Writes the pieces.
     fn write<F: Formatter>(&self, formatter: &mut F) -> Result<(), OutOfMemory>
         ensures { IfSome (pieces self.now) (λ pieces.
             OnOk result (F.pieces formatter.new ≡ F.pieces formatter.old ++ pieces)) };
@@ -55,7 +55,7 @@ impl<P: Pieces> Pieces for Block<P> {
     }
 }
 
-/// The pieces of the first, and then those of the second.
+/// The pieces of the first value, and then those of the second.
 impl<A: Pieces, B: Pieces> Pieces for (A, B) {
     ghost pieces = { λ p. both_pieces (A.pieces p.0) (B.pieces p.1) };
 

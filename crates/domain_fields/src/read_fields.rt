@@ -1,4 +1,4 @@
-//! The fields of record data, read from octets.
+//! Reading the fields of record data from octets.
 ghost use Rattle.domain_fields.specs.Layout.{wire_fault_of, Reads};
 
 use crate::WireFault;
@@ -10,8 +10,8 @@ use domain_octets::{Parser, laws};
 
 /// Fields that are read from octets, in the order of the wire.
 pub trait ReadFields<'a>: Fields + Drop {
-    /// Reads the fields that the octets begin with; what follows them is left. Refuses with the
-    /// first fault in field order, and the parser then stands where it stood. Takes no memory.
+    /// Reads the fields that the octets begin with. Returns the first fault in field order as an
+    /// error; the parser is then unchanged. Does not allocate.
     fn read(parser: &mut Parser<'a>) -> Result<Self, WireFault>
     where
         Self: Sized,

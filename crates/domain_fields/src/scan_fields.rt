@@ -1,4 +1,4 @@
-//! The fields of record data as tokens.
+//! Reading the fields of record data from tokens.
 ghost use Rattle.std.specs.Net.{Addr.ipv4_octets, Grammar.IsDotted};
 ghost use Rattle.domain_fields.specs.Layout.{octet, short, long, name, exactly, one};
 ghost use Rattle.domain_fields.specs.Scan.{Scans, Refuses, IsNoAddress, Both, RefusesBoth};
@@ -12,14 +12,14 @@ use std::net::Ipv4Addr;
 
 /// Fields that are read from tokens, in order.
 pub trait ScanFields<S: Scanner> {
-    /// The tokens that spell the fields, and those that are left.
+    /// The grammar of the fields: tokens that spell them, and the tokens left.
     ghost text: { Grammar Self };
 
-    /// Tokens that are refused, those that are left then, and why.
+    /// The faults of tokens: the tokens, those left after the error, and the fault.
     ghost refuses: { Refusal };
 
-    /// Reads the fields. A refusal names the first field that was refused; the tokens left are then
-    /// an end of those before.
+    /// Reads the fields. The error is that of the first field with a fault. After an error the
+    /// tokens left are an end of those before.
     fn scan(alloc: Global, scanner: &mut S) -> Result<Self, ScanError>
     where
         Self: Sized,
@@ -43,8 +43,8 @@ impl<N: ToName> Model for Scanned<N> {
 #[derive(Clone, Copy)]
 pub struct Address(pub Ipv4Addr);
 
-/// Four decimal numbers of at most 255 without leading zeros, and dots between them. Any other
-/// token is the error `Custom("illegal IPv4 address")`.
+/// Parses four decimal numbers of at most 255, without leading zeros and with dots between them.
+/// Any other token is the error `Custom("illegal IPv4 address")`.
 impl FromToken for Address {
     ghost spells = { λ text a. IsDotted text (ipv4_octets a.0) };
 

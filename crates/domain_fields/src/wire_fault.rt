@@ -1,4 +1,4 @@
-//! Why octets are no data.
+//! The error of reading record data from octets.
 ghost use Rattle.std.specs.Prelude.{◌≡◌};
 ghost use Rattle.domain_names.specs.Wire.{fault_of, name_fault_of};
 ghost use Rattle.domain_bitmap.specs.Blocks.{bitmap_fault_of};
@@ -6,18 +6,18 @@ ghost use Rattle.domain_bitmap.specs.Blocks.{bitmap_fault_of};
 use domain_base::{NameError, ParseError};
 use domain_bitmap::RtypeBitmapError;
 
-/// The first fault of octets that are to begin with fields: a `ParseError` without its text.
+/// The first fault of octets that are read as fields: a `ParseError` without its text.
 #[derive(Clone, Copy, Debug, PartialEq, Eq)]
 pub enum WireFault {
     /// The octets end within a field.
     ShortInput,
-    /// A label has over 63 octets, or is a pointer to another place in a message.
+    /// A label has more than 63 octets, or is a compression pointer.
     BadLabel,
-    /// A name has over 255 octets.
+    /// A name has more than 255 octets.
     LongName,
-    /// There are more octets than the data may have.
+    /// There are more octets than the data can have.
     LongData,
-    /// A block of a type bitmap has no or over 32 octets.
+    /// A block of a type bitmap has no octets, or more than 32.
     BadBitmap,
 }
 

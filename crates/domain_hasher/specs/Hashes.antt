@@ -2,12 +2,12 @@
 use Rattle.std.specs.Prelude.{ℕ, List, [], ◌∷◌, Result, Ok, Err}
 use Rattle.domain_octets.specs.Octets.{Octets}
 
--- a hash before those of the other names, or their refusal
+-- a hash and the hashes of the other names, or the error of these
 abbrev pub put_first : Octets → Result (List Octets) ℕ → Result (List Octets) ℕ
 put_first hash (Ok hashes) = Ok (hash ∷ hashes)
 put_first hash (Err n) = Err n
 
--- the hashes of names by what a hasher answers for each, or else the first refusal
+-- the hashes of several names, or the first error, given the result of the hasher for each name
 abbrev pub all_hashes : List (Result Octets ℕ) → Result (List Octets) ℕ
 all_hashes [] = Ok []
 all_hashes (Err n ∷ answers) = Err n

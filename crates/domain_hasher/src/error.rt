@@ -1,4 +1,4 @@
-//! Why names were not hashed.
+//! The errors of making a chain of hashed names.
 ghost use Rattle.std.specs.Prelude.{◌≡◌, Some};
 ghost use Rattle.domain_hasher.specs.ErrorText.{hash_error_text};
 ghost use Rattle.domain_hasher.specs.declared.error.Nsec3HashError.TheVariants as nsec3_hash_error;
@@ -8,26 +8,26 @@ use std::alloc::{AllocError, AllocFailed};
 use std::error::Error;
 use std::fmt;
 
-/// Why a chain of hashed names was not made (RFC 5155, section 7.1).
+/// The error of making a chain of hashed names (RFC 5155, section 7.1).
 #[derive(Clone, Copy, Debug, PartialEq, Eq)]
 pub enum Nsec3HashError {
-    /// The hasher refused, with its own number for the reason.
+    /// The hasher returned an error, with a number of its own.
     Hasher(u8),
-    /// Octets were not appended. No call of these crates answers it.
+    /// Octets were not appended. No function of these crates returns this error.
     AppendError,
-    /// A hash has no octets, or too many for the first label of an owner: over 39, which are 63
-    /// digits of Base 32.
+    /// A hash is empty, or too long for the first label of an owner. At most 39 octets fit, which
+    /// are 63 digits of Base 32.
     OwnerHashError,
-    /// The owner of a hash would be longer than a name may be: over 255 octets.
+    /// The owner of a hash would have more than 255 octets, the most that a name can have.
     Nsec3NameTooLong,
-    /// Two names have one hash.
+    /// Two names have the same hash.
     CollisionDetected,
-    /// There was no memory.
+    /// Memory ran out.
     OutOfMemory,
 }
 
 impl fmt::Display for Nsec3HashError {
-    // These texts stand once more in specs/ErrorText.antt: both change together.
+    // specs/ErrorText.antt repeats these texts: change both together.
     ghost output = { λ e. Some (hash_error_text e) };
 
     fn fmt<W: fmt::Write>(&self, f: &mut fmt::Formatter<W>) -> fmt::Result {

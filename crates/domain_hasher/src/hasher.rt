@@ -1,4 +1,4 @@
-//! Hashes of owner names.
+//! Hashing of owner names.
 ghost use Rattle.std.specs.Prelude.{◌≡◌, ℕ, List, Result, Ok, Err, IfOk, IsErrOf, map};
 ghost use Rattle.domain_hasher.specs.Hashes.{all_hashes};
 ghost use Rattle.domain_hasher.specs.declared.hasher.HasherError.TheVariants as hasher_error;
@@ -9,12 +9,12 @@ use std::alloc::{AllocError, Global};
 use std::error::Error;
 use std::fmt;
 
-/// Why a hasher gave no hash.
+/// The error of hashing a name.
 #[derive(Clone, Copy, Debug, PartialEq, Eq)]
 pub enum HasherError {
-    /// The hasher refuses these arguments, with a number of its own for the reason.
+    /// The hasher does not accept these arguments. The number of the reason is its own.
     Refused(u8),
-    /// There was no memory.
+    /// Memory ran out.
     OutOfMemory,
 }
 
@@ -22,7 +22,7 @@ impl fmt::Display for HasherError {
     ghost use Rattle.std.specs.Prelude.{Some};
     ghost use Rattle.domain_hasher.specs.ErrorText.{hasher_error_text};
 
-    // These texts stand once more in specs/ErrorText.antt: both change together.
+    // specs/ErrorText.antt repeats these texts: change both together.
     ghost output = { λ e. Some (hasher_error_text e) };
 
     fn fmt<W: fmt::Write>(&self, f: &mut fmt::Formatter<W>) -> fmt::Result {
@@ -51,18 +51,18 @@ impl From<AllocError> for HasherError {
     }
 }
 
-/// The digest of owner names (RFC 5155, section 5), which the caller of this crate hands in.
+/// A hasher of owner names (RFC 5155, section 5). The caller of this crate passes it.
 pub trait Nsec3Hasher {
-    /// What it answers for the octets of a name, the number of an algorithm, a number of iterations
-    /// and a salt: the octets of a hash, or the number of its refusal.
+    /// The result for the octets of a name, the number of an algorithm, a number of iterations and
+    /// a salt: the octets of the hash, or the number of the error.
     ghost answer: { Self → List ℕ → ℕ → ℕ → List ℕ → Result (List ℕ) ℕ };
 
-    /// Whether it may want memory.
+    /// Whether the hasher may run out of memory.
     ghost takes_memory: { Self → Type 0 };
 
-    /// The hash of a name, which is given by the octets of its wire form in lower case. But for
-    /// want of memory the answer depends on the hasher and these arguments alone; `OutOfMemory`
-    /// comes from a hasher that takes memory.
+    /// Returns the hash of a name, which is given as the octets of its wire form in lower case. The
+    /// result depends only on the hasher and these arguments, except that memory can run out.
+    /// `OutOfMemory` comes only from a hasher that allocates.
     fn hash(
         &self,
         alloc: Global,
@@ -77,12 +77,12 @@ pub trait Nsec3Hasher {
             → answer self.now name.now algorithm iterations salt.now ≡ Err n }
         ensures memory { IsErrOf result HasherError.OutOfMemory → takes_memory self.now };
 
-    /// Returns the hashes of four names, in their order, with the arguments of `hash`. A hasher may
-    /// compute them side by side; otherwise `hash` gives one after another.
+    /// Returns the hashes of four names in order, with the other arguments of `hash`. A hasher may
+    /// compute them in parallel. By default, `hash` computes one after another.
     ///
     /// # Errors
     ///
-    /// `Refused` with the number of the first name that the hasher refuses, and `OutOfMemory`.
+    /// `Refused` with the number of the first name that has this error, or `OutOfMemory`.
     fn hash_four(
         &self,
         alloc: Global,

@@ -1,7 +1,7 @@
 //! Hashers of owner names (RFC 5155, section 5).
 //!
-//! What a hasher is, as the crates of NSEC3 chains ask it, and why a chain of hashed names is
-//! refused. `domain_sha1` has the hasher of SHA-1.
+//! The trait of hashers that the crates of NSEC3 chains use, and the errors of making a chain of
+//! hashed names. `domain_sha1` has the hasher for SHA-1.
 #![tactic(auto)]
 
 mod error;

@@ -12,7 +12,7 @@ use domain_codecs::Codec;
 use domain_octets::Octets;
 use domain_record::LongRecordData;
 
-/// What signatures are checked with.
+/// The kind of DNSKEY data: a key of a zone.
 pub struct ZoneKey;
 
 impl KeyKind for ZoneKey {
@@ -29,16 +29,16 @@ impl KeyKind for ZoneKey {
     }
 }
 
-/// A key with which signatures of a zone's records are checked (RFC 4034, section 2), as data of at
-/// most 65,535 octets: flags, protocol, algorithm, and the key.
+/// A key that signatures of a zone's records are checked with (RFC 4034, section 2): flags,
+/// protocol, algorithm and key. The data have at most 65,535 octets.
 pub type Dnskey<O> = KeyData<O, ZoneKey>;
 
 impl<O: Octets> Dnskey<O> {
-    /// Returns the data of these fields. Takes no memory.
+    /// Returns the data with these fields. Does not allocate.
     ///
     /// # Errors
     ///
-    /// `LongRecordData` exactly where the data would have over 65,535 octets.
+    /// `LongRecordData` if and only if the data would have more than 65,535 octets.
     pub fn new(
         flags: u16,
         protocol: u8,
@@ -55,7 +55,7 @@ impl<O: Octets> Dnskey<O> {
         Dnskey::from_fields(flags, protocol, algorithm.to_int(), public_key)
     }
 
-    /// Returns the data of these fields, which have at most 65,535 octets. Takes no memory.
+    /// Returns the data with these fields, which have at most 65,535 octets. Does not allocate.
     pub fn new_unchecked(
         flags: u16,
         protocol: u8,
@@ -90,14 +90,14 @@ impl<O: Octets> Dnskey<O> {
         SecurityAlgorithm::from_int(self.second)
     }
 
-    /// Returns the key, in the form of its algorithm (RFC 4034, section 2.1.4).
+    /// Returns the key, in the format of its algorithm (RFC 4034, section 2.1.4).
     pub fn public_key(&self) -> &O
         ensures { O.octets result.now ≡ dnskey_public_key self.now }
     {
         self.as_octets()
     }
 
-    /// Returns the key alone.
+    /// Returns only the key.
     pub fn into_public_key(self) -> O
         ensures { O.octets result ≡ dnskey_public_key self }
     {
@@ -119,16 +119,16 @@ impl<O: Octets> Dnskey<O> {
         self.number & flags::REVOKED != 0
     }
 
-    /// Returns whether other zones may point to the key: flag 0x0001. A hint, on which no
-    /// validation may rest (RFC 4034, section 2.1.1).
+    /// Returns whether other zones may point to the key: flag 0x0001. This is a hint, and
+    /// validation must not depend on it (RFC 4034, section 2.1.1).
     pub fn is_secure_entry_point(&self) -> bool
         ensures { result ≡ is_secure_entry_point (dnskey_flags self.now) }
     {
         self.number & flags::SECURE_ENTRY_POINT != 0
     }
 
-    /// Returns the tag by which DS and RRSIG records name the key (RFC 4034, appendix B), for every
-    /// algorithm. For RSA over MD5 and a key of fewer than three octets it is 0.
+    /// Returns the tag by which DS and RRSIG records refer to the key (RFC 4034, appendix B), for
+    /// every algorithm. For RSA over MD5 it is 0 if the key has fewer than three octets.
     #[tactic(auto, unfolding(domain_fields::specs::Layout::octets_of))]
     pub fn key_tag(&self) -> u16
         ensures { result ≡ key_tag_of self.now }

@@ -11,7 +11,7 @@ use domain_codecs::Codec;
 use domain_octets::Octets;
 use domain_record::LongRecordData;
 
-/// What names a key.
+/// The kind of DS data: the digest of a key.
 pub struct Digest;
 
 impl KeyKind for Digest {
@@ -28,17 +28,16 @@ impl KeyKind for Digest {
     }
 }
 
-/// The digest of a key of a child zone, by which its parent zone vouches for that key (RFC 4034,
-/// section 5), as data of at most 65,535 octets: key tag, algorithm, type of the digest, and the
-/// digest.
+/// The digest of a key of a child zone, with which the parent zone confirms that key (RFC 4034,
+/// section 5): key tag, algorithm, digest type and digest. The data have at most 65,535 octets.
 pub type Ds<O> = KeyData<O, Digest>;
 
 impl<O: Octets> Ds<O> {
-    /// Returns the data of these fields. Takes no memory.
+    /// Returns the data with these fields. Does not allocate.
     ///
     /// # Errors
     ///
-    /// `LongRecordData` exactly where the data would have over 65,535 octets.
+    /// `LongRecordData` if and only if the data would have more than 65,535 octets.
     pub fn new(
         key_tag: u16,
         algorithm: SecurityAlgorithm,
@@ -55,7 +54,7 @@ impl<O: Octets> Ds<O> {
         Ds::from_fields(key_tag, algorithm.to_int(), digest_type.to_int(), digest)
     }
 
-    /// Returns the data of these fields, which have at most 65,535 octets. Takes no memory.
+    /// Returns the data with these fields, which have at most 65,535 octets. Does not allocate.
     pub fn new_unchecked(
         key_tag: u16,
         algorithm: SecurityAlgorithm,
@@ -97,7 +96,7 @@ impl<O: Octets> Ds<O> {
         self.as_octets()
     }
 
-    /// Returns the digest alone.
+    /// Returns only the digest.
     pub fn into_digest(self) -> O
         ensures { O.octets result ≡ ds_digest self }
     {

@@ -13,7 +13,7 @@ pub const REVOKED: u16 = 0x0080;
 /// Other zones may point to the key.
 pub const SECURE_ENTRY_POINT: u16 = 0x0001;
 
-/// The names of the flags that are set, as a comment.
+/// A comment with the names of the flags that are set.
 #[derive(Drop)]
 pub struct FlagsComment(pub u16);
 

@@ -1,4 +1,4 @@
-//! What the data of keys and of digests of keys have in common: numbers, and then octets.
+//! What DNSKEY and DS data have in common: three numbers and then octets.
 ghost use Rattle.std.specs.Prelude.{◌≡◌, ◌≤◌, ◌↔◌, ℕ, Some, IsTrue, IsOk, IfOk, IsNone, length, refl, bytes_eq};
 ghost use Rattle.std.specs.{List.flat_map, Ordering.{on, nat_cmp}, Cmp.{partial_equiv_from_equiv, po}};
 ghost use Rattle.std.specs.Cmp.Lexicographic.{slice_cmp, on_texts, on_texts_equal};
@@ -33,30 +33,30 @@ use std::fmt;
 use std::hash::{Hash, Hasher};
 use std::marker::{Model, PhantomData};
 
-/// How many octets may follow the first four, in data of at most 65,535.
+/// The greatest number of octets after the first four, in data of at most 65,535 octets.
 const MOST: usize = 65531;
 
 /// A number of 16 bits, two of 8 bits, and all octets that are left, at most `MOST`.
 type KeyFields<'a> = (u16, (u8, (u8, (AtMost<MOST>, Rest<'a>))));
 
-/// A kind of data: a key or the digest of a key.
+/// A kind of data: a key, or the digest of a key.
 pub trait KeyKind {
-    /// The number of the type of its records.
+    /// The number of the type of the records.
     ghost rtype: { ℕ };
 
-    /// The codec in which its octets are written.
+    /// The codec in which the octets print.
     ghost codec: { Codec };
 
-    /// Returns the type of its records.
+    /// Returns the type of the records.
     fn rtype() -> Rtype
         ensures { result ≡ rtype };
 
-    /// Returns the codec in which its octets are written.
+    /// Returns the codec in which the octets print.
     fn codec() -> Codec
         ensures { result ≡ codec };
 }
 
-/// Numbers and octets of a kind, as data of at most 65,535 octets.
+/// Numbers and octets of kind `K`. The data have at most 65,535 octets.
 #[derive(Drop)]
 pub struct KeyData<O: Octets, K: KeyKind> {
     pub(crate) number: u16,
@@ -83,7 +83,7 @@ impl<O: Octets, K: KeyKind> Model for KeyData<O, K> {
 }
 
 impl<O: Octets, K: KeyKind> KeyData<O, K> {
-    /// Returns the data of these fields, if they have at most 65,535 octets.
+    /// Returns the data with these fields, if they have at most 65,535 octets.
     #[tactic(auto, unfolding(domain_fields::specs::Layout::octets_of))]
     pub(crate) fn from_fields(
         number: u16,
@@ -103,7 +103,7 @@ impl<O: Octets, K: KeyKind> KeyData<O, K> {
         Ok(KeyData::from_fields_unchecked(number, first, second, octets))
     }
 
-    /// Returns the data of these fields, which have at most 65,535 octets.
+    /// Returns the data with these fields, which have at most 65,535 octets.
     #[tactic(auto, unfolding(domain_fields::specs::Layout::octets_of))]
     pub(crate) fn from_fields_unchecked(number: u16, first: u8, second: u8, octets: O) -> Self
         requires { length (key_octets (key_data number first second (O.octets octets))) ≤ 65535 }
@@ -118,7 +118,7 @@ impl<O: Octets, K: KeyKind> KeyData<O, K> {
         }
     }
 
-    /// Returns the same over other octets, which are the same. Takes no memory.
+    /// Returns the same data over an equal list of octets. Does not allocate.
     #[tactic(auto, unfolding(domain_fields::specs::Layout::octets_of))]
     pub fn with_octets<P: Octets>(&self, octets: P) -> KeyData<P, K>
         requires { P.octets octets ≡ self.now.octets }
@@ -141,7 +141,7 @@ impl<O: Octets, K: KeyKind> KeyData<O, K> {
         &self.octets
     }
 
-    /// Returns the octets alone.
+    /// Returns only the octets.
     pub fn into_octets(self) -> O
         ensures { O.octets result ≡ self.octets }
     {
@@ -149,8 +149,8 @@ impl<O: Octets, K: KeyKind> KeyData<O, K> {
         octets
     }
 
-    /// Returns the same data, held otherwise. What `From` makes of the octets must be at most
-    /// 65,531.
+    /// Converts the octets with `From`, and keeps the numbers. The result of `From` must have at
+    /// most 65,531 octets.
     pub fn convert<P: Octets + From<O>>(self) -> KeyData<P, K>
         requires { (octets : O) (made : P) → O.octets octets ≡ self.octets
             → P.from_gives octets made → length (P.octets made) ≤ 65531 }
@@ -183,12 +183,12 @@ impl<O: Octets, K: KeyKind> KeyData<O, K> {
 }
 
 impl<'a, K: KeyKind> KeyData<&'a [u8], K> {
-    /// Returns all octets that are left, as data. Takes no memory.
+    /// Reads all octets that are left as data. Does not allocate.
     ///
     /// # Errors
     ///
-    /// `ShortInput` for fewer than four octets, then `Form("record data too long")` for over
-    /// 65,535. The parser does not move then.
+    /// `ShortInput` for fewer than four octets, or else `Form("record data too long")` for more
+    /// than 65,535. After an error the parser is unchanged.
     pub fn parse(parser: &mut Parser<'a>) -> Result<Self, ParseError>
         ensures { Reads key_fields key_values fault_of parser.old parser.new result }
     {
@@ -204,14 +204,14 @@ impl<'a, K: KeyKind> KeyData<&'a [u8], K> {
 }
 
 impl<O: FromBuilder + Drop, K: KeyKind> KeyData<O, K> {
-    /// Returns the data that all tokens left spell: the numbers in decimal, and the octets in Base
-    /// 64 for a key, or in Base 16 for a digest, in as many tokens as one likes, or in none.
+    /// Parses all remaining tokens as data: the numbers in decimal, and the octets in Base 64 for a
+    /// key, or in Base 16 for a digest. The octets are in any number of tokens, or in none.
     ///
     /// # Errors
     ///
-    /// That of the first of the numbers that is refused, then that of the codec, then
-    /// `Custom("record data too long")` for data of over 65,535 octets. The tokens left are then an
-    /// end of those before.
+    /// The error of the first number that has one, or else that of the codec, or else
+    /// `Custom("record data too long")` for data of more than 65,535 octets. The tokens left are
+    /// then an end of those before.
     #[tactic(auto, unfolding(domain_fields::specs::Layout::octets_of))]
     pub fn scan<S: Scanner<Octets = O>>(alloc: Global, scanner: &mut S) -> Result<Self, ScanError>
         ensures { ReadsTokens (AllTokens (KeyText K.codec)) (λ d. d)
@@ -269,7 +269,7 @@ impl<O: Octets, K: KeyKind> ComposeRecordData for KeyData<O, K> {
 }
 
 impl<O: Octets, K: KeyKind> KeyData<O, K> {
-    /// Returns whether data over other octets are the same.
+    /// Returns whether data over other octets are equal.
     pub fn eq_to<P: Octets>(&self, other: &KeyData<P, K>) -> bool
         ensures value { result ≡ bytes_eq (key_octets self.now) (key_octets other.now) }
         ensures same { IsTrue result ↔ (self.now ≡ other.now) }
@@ -277,15 +277,14 @@ impl<O: Octets, K: KeyKind> KeyData<O, K> {
         domain_fields::canonical_eq(&self.fields(), &other.fields())
     }
 
-    /// Returns the order to data over other octets: by one field after the other, which is the
-    /// order of the octets.
+    /// Compares with data over other octets, field by field. This is the order of the octets.
     pub fn cmp_to<P: Octets>(&self, other: &KeyData<P, K>) -> Ordering
         ensures { result ≡ slice_cmp nat_cmp (key_octets self.now) (key_octets other.now) }
     {
         self.fields().order(&other.fields())
     }
 
-    /// Returns the canonical order to data over other octets, which is `cmp_to`.
+    /// Compares with data over other octets in canonical order, which is that of `cmp_to`.
     pub fn canonical_cmp_to<P: Octets>(&self, other: &KeyData<P, K>) -> Ordering
         ensures { result ≡ slice_cmp nat_cmp (key_octets self.now) (key_octets other.now) }
     {
@@ -378,8 +377,8 @@ impl<S: Octets + Drop, O: CopyOctets, K: KeyKind> OctetsFrom<KeyData<S, K>> for 
     }
 }
 
-/// Flags, protocol, algorithm and the key in Base 64, with single spaces; the last one stays where
-/// the key is empty.
+/// Writes flags, protocol, algorithm and the key in Base 64, with single spaces. If the key is
+/// empty, the text ends in a space.
 impl<O: Octets> fmt::Display for Dnskey<O> {
     ghost output = { λ d. Some (dnskey_text d) };
 
@@ -401,7 +400,7 @@ impl<O: Octets> fmt::Debug for Dnskey<O> {
     }
 }
 
-/// The fields, with comments that name the flags, the protocol and the key tag.
+/// Writes the fields, with comments on the flags, the protocol and the key tag.
 impl<O: Octets> ZonefileFmt for Dnskey<O> {
     ghost pieces = { dnskey_pieces };
 
@@ -418,8 +417,8 @@ impl<O: Octets> ZonefileFmt for Dnskey<O> {
     }
 }
 
-/// Key tag, algorithm, type of the digest and the digest in Base 16, in lower case, with single
-/// spaces; the last one stays where the digest is empty.
+/// Writes key tag, algorithm, digest type and the digest in Base 16, in lower case, with single
+/// spaces. If the digest is empty, the text ends in a space.
 impl<O: Octets> fmt::Display for Ds<O> {
     ghost output = { λ d. Some (ds_text d) };
 
@@ -442,7 +441,7 @@ impl<O: Octets> fmt::Debug for Ds<O> {
     }
 }
 
-/// The fields, with a comment that names the key tag; the digest is in upper case.
+/// Writes the fields, with a comment on the key tag. The digest is in upper case.
 impl<O: Octets> ZonefileFmt for Ds<O> {
     ghost pieces = { ds_pieces };
 

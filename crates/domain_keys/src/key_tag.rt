@@ -2,7 +2,7 @@
 ghost use Rattle.std.specs.Prelude.{◌≡◌, ◌≤◌, ◌+◌, ◌*◌, ◌%◌, length};
 ghost use Rattle.domain_keys.specs.Keys.{weighed, with_carry, rsa_md5_tag};
 
-/// Returns the sum of octets, in which those at even places weigh 256.
+/// Returns the sum of octets, where those at even positions count 256-fold.
 pub fn weighed(octets: &[u8]) -> u32
     requires { length octets.now ≤ 65531 }
     ensures value { result ≡ weighed octets.now }
@@ -27,7 +27,8 @@ pub fn with_carry(sum: u32) -> u16
     ((sum + sum / 65536) % 65536) as u16
 }
 
-/// Returns the third and the second octet from the end; 0 where there are fewer than three octets.
+/// Returns the third and the second octet from the end as a number, or 0 if there are fewer than
+/// three octets.
 pub fn rsa_md5_tag(key: &[u8]) -> u16
     ensures { result ≡ rsa_md5_tag key.now }
 {

@@ -1,12 +1,13 @@
-//! What holds of the texts of keys and digests. A caller calls the law in its body.
+//! Laws of the printed forms of keys and digests. To use a law, call it in the body of your
+//! function.
 ghost use Rattle.std.specs.Prelude.{ℕ, Option};
 ghost use Rattle.domain_codecs.specs.declared.codec.Codec.{Codec};
 ghost use Rattle.domain_names.specs.Text.{IsOfTokens};
 ghost use Rattle.domain_fields.specs.Scan.{IsExactEntry};
 ghost use Rattle.domain_keys.specs.Keys.{KeyText, RefusesKey};
 
-/// Tokens spell one key or digest at most, and none where they are refused, but for want of room or
-/// of memory, which is for one reason, over builders with any limit and in either codec.
+/// Tokens spell at most one key or digest. Tokens with a fault spell none, and have one fault, for
+/// builders with any limit and in either codec. This excludes lack of room and of memory.
 pub fn key_texts_are_exact()
     ensures { (codec : Codec) (limit : Option ℕ)
         → IsExactEntry (IsOfTokens limit) (KeyText codec) (RefusesKey codec limit) }

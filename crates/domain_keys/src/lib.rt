@@ -2,14 +2,14 @@
 //!
 //! - [`Dnskey`] is a key of a zone (RFC 4034, section 2), with its flags and its key tag (RFC 4034,
 //!   appendix B).
-//! - [`Ds`] is the digest by which a parent zone names such a key (RFC 4034, section 5).
-//! - Both are [`KeyData`] of their kinds: three numbers and octets, with which all that does not
-//!   depend on what they mean is done once. `specs/Keys.antt` says which number is which.
+//! - [`Ds`] is the digest by which a parent zone refers to such a key (RFC 4034, section 5).
+//! - Both are [`KeyData`] of their kinds: three numbers and octets. All that does not depend on
+//!   their meaning is done there, once for both. `specs/Keys.antt` says which number is which.
 //!
-//! The crates above may rely on this: data has at most 65,535 octets, by invariant, and is numbers
-//! and octets in clauses, whatever holds them. Its octets, what reads them, its tokens and its
-//! pieces are grammars (`specs/Keys.antt`); both orders are the lexicographic one of the octets,
-//! equality and `Hash` agree with them, and none takes memory.
+//! Other crates may rely on this. Data have at most 65,535 octets, by an invariant. Contracts see
+//! numbers and octets, whatever type holds them. Octets, tokens and pieces are read and written by
+//! grammars (`specs/Keys.antt`). Both orders are the lexicographic order of the octets, and
+//! equality and `Hash` agree with them. None of these allocates.
 #![tactic(auto)]
 
 pub mod data_laws;

@@ -1,4 +1,4 @@
--- Laws of names that the impls of comparisons cite.
+-- Laws of names that implementations of comparison traits cite.
 use Rattle.std.proofs.{Common.{◌≡◌, ◌∷◌, ◌++◌, Some, false, List, [], reverse, refl, sym, ap, ◌∙◌}, lemmas.List.{reverse-append, reverse-reverse}}
 use Rattle.std.specs.{declared.cmp.Ordering.{Ordering, TheVariants.{Less, Equal, Greater}}, Cmp.{IsTotalOrder, IsEquivalence, IsPartialOrder, tied_itself}}
 use Rattle.std.specs.Cmp.{on_equiv, po, both_ways, Equal-is, Lexicographic.{slice_cmp, nat_list_cmp_total, lists_total, lists_equiv, nat_list_eq_equiv}}
@@ -64,7 +64,7 @@ between_names above x y z x_below z_below x_y y_z =
     (rw (← from_root-below z above z_below) y_z) in
     below-from_root y above found.0 found.1
 
--- names that tie in the order are the same
+-- names that tie in the order have the same lowered labels
 pub tied_same : (x y : Name) → canonical_cmp x y ≡ Equal → lowered x ≡ lowered y
 unfolding canonical_cmp
 tied_same x y tie =
@@ -90,6 +90,6 @@ same_name_equiv = on_equiv lowered (lists_equiv nat_list_eq_equiv)
 pub canonical_po : IsPartialOrder same_name (λ x y. Some (canonical_cmp x y))
 canonical_po = po canonical_cmp_total same_name_ties
 
--- what is fed from the lowered labels is fed alike
+-- names that differ at most in case feed a hasher the same, if it is fed from the lowered labels
 pub same_name_fed : (F : Name → HashWrites) → Alike same_name (λ name. F (lowered name))
 same_name_fed F = on_Alike lowered (same_Alike F (pointwise_decides bytes_decides))

@@ -54,11 +54,11 @@ pub record IsAtOrBelow (name above : Name) : Type 0 where
 abbrev pub IsSame : Name → Name → Type 0
 IsSame x y = lowered x ≡ lowered y
 
--- a test of the same
+-- whether two names differ at most in the case of letters, as a Bool
 abbrev pub same_name : Name → Name → Bool
 same_name = on lowered (pointwise (pointwise nat_eq))
 
--- a test of being at or below
+-- whether the name is at or below `above`, as a Bool
 abbrev pub is_at_or_below : Name → Name → Bool
 is_at_or_below name above = ends_with (pointwise nat_eq) (lowered name) (lowered above)
 
@@ -84,11 +84,11 @@ from_root name = reverse (lowered name)
 unfoldable pub canonical_cmp : Name → Name → Ordering
 canonical_cmp = on from_root (slice_cmp (slice_cmp nat_cmp))
 
--- a test of coming strictly before in that order
+-- whether `x` comes strictly before `y` in that order, as a Bool
 abbrev pub before : Name → Name → Bool
 before x y = is_lt (canonical_cmp x y)
 
--- coming before or being equal in that order
+-- `x` comes before `y` in that order, or ties with it
 abbrev pub IsUpTo : Name → Name → Type 0
 IsUpTo x y = is_gt (canonical_cmp x y) ≡ false
 

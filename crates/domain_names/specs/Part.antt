@@ -5,12 +5,12 @@ use Rattle.std.specs.{Cmp.Lexicographic.slice_cmp}
 use Rattle.domain_octets.specs.Octets.{Octets}
 use Rattle.domain_names.specs.Name.{Name, Label}
 
--- the name ends in the shared labels, and right below them has this label or none
+-- the name ends in the shared labels, and has this label right below them, or no further label
 abbrev pub EndsIn : Name → Option Label → Name → Type 0
 EndsIn name None shared = name ≡ shared
 EndsIn name (Some label) shared = (front : Name) × (name ≡ front ++ label ∷ shared)
 
--- two names end in labels that they share octet for octet, and right below these have those labels
+-- two names end in the same labels, octet for octet, and have these labels right below them
 pub record Part (xs ys : Name) (x y : Option Label) (shared : Name) : Type 0 where
   pub left : EndsIn xs x shared
   pub right : EndsIn ys y shared

@@ -15,7 +15,7 @@ use Rattle.domain_names.specs.declared.error.ScanError.TheVariants as scan_error
 abbrev pub is_printable : ℕ → Bool
 is_printable c = nat_le space c && nat_le c tilde
 
--- three digits, the first of which is a, for an octet
+-- the octet that `a` and the next two digits spell, and the number of characters of the escape
 abbrev pub decimal_at : ℕ → Octets → Option (ℕ × ℕ)
 decimal_at a (b ∷ c ∷ text) =
     let value = (a - digit_zero) * 100 + (b - digit_zero) * 10 + (c - digit_zero) in
@@ -23,8 +23,8 @@ decimal_at a (b ∷ c ∷ text) =
 decimal_at a (b ∷ []) = None
 decimal_at a [] = None
 
--- the characters after a backslash: three digits for an octet, or any other printable character
--- for itself
+-- the octet that the characters after a backslash spell, and the number of characters of the
+-- escape: three digits spell an octet, and any other printable character spells itself
 abbrev pub escape_at : Octets → Option (ℕ × ℕ)
 escape_at [] = None
 escape_at (a ∷ text) =
@@ -38,8 +38,8 @@ symbol_at (c ∷ text) =
     if c == backslash then escape_at text
     else (if (is_printable c && not (c == dot)) then Some (c, 1) else None)
 
--- the text begins with the text of this label, up to the first place where no octet of a label
--- stands: at its end, at a dot, and at what is wrong there; that and the rest follow it
+-- the text begins with this label in presentation format; the label ends where the text has no
+-- further octet of a label: at its end, at a dot, or at an illegal character; `after` begins there
 pub data LabelText : Octets → Label → Octets → Type 0 where
   ends : (text : Octets) → symbol_at text ≡ None → LabelText text [] text
   octet : (text : Octets) (label : Label) (after : Octets) (c used : ℕ)
@@ -50,7 +50,7 @@ pub data LabelText : Octets → Label → Octets → Type 0 where
 abbrev pub HasNoLabel : Octets → Type 0
 HasNoLabel text = (label : Label) (after : Octets) → LabelText text label after → 63 < length label
 
--- the text begins with no label that can stand after these octets of a name
+-- no label that the text begins with is valid and fits in a name after these octets
 abbrev pub HasNoLabelAfter : Octets → Octets → Type 0
 HasNoLabelAfter wire text = (label : Label) (after : Octets) → LabelText text label after
     → IsLabel label → 255 ≤ length wire + length label
@@ -73,17 +73,17 @@ pub data NameText : Octets → Name → Type 0 where
   of_labels : (text : Octets) (labels : Name) → LabelTexts text labels → IsName labels
       → NameText text labels
 
--- no name has this text
+-- the text is not the text of any name
 abbrev pub IsNoName : Octets → Type 0
 IsNoName text = (labels : Name) → NameText text labels → ⊥
 
--- a character that has a special meaning: " $ ( ) . ; @ \
+-- a character that has a special meaning in zone files: " $ ( ) . ; @ \
 abbrev pub is_special : ℕ → Bool
 is_special c =
     c == quote || c == dollar || c == left_parenthesis || c == right_parenthesis || c == dot
     || c == semicolon || c == at_sign || c == backslash
 
--- an octet within a label
+-- the printed form of an octet within a label
 unfoldable pub octet_text : ℕ → Octets
 octet_text c =
     if is_special c then backslash ∷ c ∷ []
@@ -94,24 +94,24 @@ octet_text c =
 abbrev pub label_text : Label → Octets
 label_text = flat_map octet_text
 
--- each label after a dot
+-- the printed labels, each after a dot
 abbrev pub dotted_text : Name → Octets
 dotted_text [] = []
 dotted_text (label ∷ labels) = dot ∷ (label_text label ++ dotted_text labels)
 
--- labels with dots between them
+-- the printed labels with dots between them
 abbrev pub name_text : Name → Octets
 name_text [] = []
 name_text (label ∷ labels) = label_text label ++ dotted_text labels
 
--- ---- the reasons why a text is rejected, and the errors
+-- ---- the faults of texts, and the errors
 
--- the reason why a builder rejects the octets of a token
+-- the error of scanning that an error of the builder becomes
 abbrev pub scan_error_of : AppendError → ScanError
 scan_error_of append_error.ShortBuf = ShortBuf
 scan_error_of append_error.OutOfMemory = OutOfMemory
 
--- what an error says
+-- a fault of scanning, as an error reports it
 pub data ScanFault : Type 0 where
   entry_ends : ScanFault
   illegal : Octets → ScanFault
@@ -131,7 +131,7 @@ IsOfTokens limit (illegal said) = Unit {0}
 IsOfTokens limit no_room = limit ≡ None
 IsOfTokens limit no_memory = ⊥
 
--- the reason why a text is not read as a name into octets with this limit
+-- the fault of a text that is read as a name into octets with this limit
 abbrev pub NameTextFault : Option ℕ → ScanFault → Octets → Type 0
 NameTextFault limit entry_ends text = ⊥
 NameTextFault limit (illegal said) text = (said ≡ codes "illegal name") × IsNoName text
@@ -139,7 +139,7 @@ NameTextFault limit no_room text =
     (labels : Name) × NameText text labels × IsOver limit (length (wire_of labels))
 NameTextFault limit no_memory text = ((labels : Name) × NameText text labels) × IsNone limit
 
--- ---- what errors say
+-- ---- the texts of errors
 
 abbrev pub name_error_text : NameError → Octets
 name_error_text name_error.ShortInput = codes "unexpected end of input"

@@ -36,7 +36,7 @@ pub data Fault : Type 0 where
   ends_early : Fault
   malformed : Octets → Fault
 
--- what an error says
+-- the fault that an error reports
 abbrev pub fault_of : ParseError → Fault
 fault_of parse_error.ShortInput = ends_early
 fault_of (parse_error.Form text) = malformed text.now

@@ -8,8 +8,8 @@ use domain_octets::{AppendError, OutOfMemory, ParseError};
 use std::error::Error;
 use std::fmt;
 
-/// The reason why octets do not begin with a name (RFC 1035, section 3.1): a `ParseError` without
-/// its text.
+/// The error of reading a name from the front of octets (RFC 1035, section 3.1): a `ParseError`
+/// without its text.
 #[derive(Clone, Copy, Debug, PartialEq, Eq)]
 pub enum NameError {
     /// The octets end within the name.
@@ -21,7 +21,7 @@ pub enum NameError {
 }
 
 impl fmt::Display for NameError {
-    // These texts stand once more in specs/Text.antt: both change together.
+    // specs/Text.antt repeats these texts: change both together.
     ghost output = { λ e. Some (name_error_text e) };
 
     fn fmt<W: fmt::Write>(&self, f: &mut fmt::Formatter<W>) -> fmt::Result {
@@ -47,21 +47,21 @@ impl From<NameError> for ParseError {
     }
 }
 
-/// The error of reading a text, or the tokens of an entry.
+/// The error of scanning a text, or the tokens of an entry.
 #[derive(Clone, Copy, Debug, PartialEq, Eq)]
 pub enum ScanError {
     /// A token is missing.
     EndOfEntry,
-    /// A text is malformed, in the way that this message says.
+    /// A text is malformed, as this message says.
     Custom(&'static str),
-    /// The octets that a token encodes do not fit into their builder.
+    /// The octets that a token encodes do not fit in their builder.
     ShortBuf,
     /// Memory ran out.
     OutOfMemory,
 }
 
 impl fmt::Display for ScanError {
-    // These texts stand once more in specs/Text.antt: both change together.
+    // specs/Text.antt repeats these texts: change both together.
     ghost output = { λ e. Some (scan_error_text e) };
 
     fn fmt<W: fmt::Write>(&self, f: &mut fmt::Formatter<W>) -> fmt::Result {

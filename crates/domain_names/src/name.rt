@@ -116,8 +116,8 @@ impl<O: FromBuilder> Name<O> {
     ///
     /// # Errors
     ///
-    /// `Custom("illegal name")` if the text is not a name. An error of the builder if the name does
-    /// not fit or memory runs out.
+    /// `Custom("illegal name")` if the text is not a name, `ShortBuf` if the builder has no room
+    /// for the name, and `OutOfMemory` if there is no memory.
     #[tactic(auto, using(crate::proofs::WireLemmas::wire_steps))]
     pub fn from_str(alloc: Global, text: &str) -> Result<Self, ScanError>
         ensures ok { IfOk result (NameText text.now) }

@@ -68,7 +68,7 @@ impl<'a> ParsedName<'a> {
         ParsedName { wire }
     }
 
-    /// Returns the name with this wire form. Errors are those of `Name::from_octets`.
+    /// Returns the name with this wire form. The errors are those of `Name::from_octets`.
     pub fn from_slice(octets: &'a [u8]) -> Result<Self, ParseError>
         ensures ok { IfOk result (λ name. octets.now ≡ wire_of name) }
         ensures err { IfErr result (λ e. WholeNameFault octets.now (fault_of e)) }

@@ -17,7 +17,7 @@ fn same_last_eight(a: &[u8], b: &[u8]) -> bool
     }
 }
 
-/// Returns a number of octets that two lists end in alike, counted by eights.
+/// Returns a multiple of eight: a number of octets in which the ends of both lists are the same.
 fn equal_eights(a: &[u8], b: &[u8]) -> usize
     ensures { EndAlike a.now b.now result }
 {
@@ -28,7 +28,7 @@ fn equal_eights(a: &[u8], b: &[u8]) -> usize
     count
 }
 
-/// Returns how many octets two names end in alike, including the root.
+/// Returns a number of octets in which the ends of two names are the same. It includes the root.
 #[tactic(auto, using(crate::proofs::PartLemmas::alike_steps))]
 fn equal_end(a: &[u8], b: &[u8]) -> usize
     requires a { IsWire a.now }
@@ -106,8 +106,8 @@ fn part<'a>(a: &'a [u8], b: &'a [u8]) -> (End<'a>, End<'a>)
     (x, y)
 }
 
-/// Returns the order that the labels decide at which two names part, or None if they differ in case
-/// only. A name without such a label comes first.
+/// Returns the order of the labels right below the shared end, or None if they differ only in case.
+/// A name without such a label comes first.
 fn order_below(x: Option<&[u8]>, y: Option<&[u8]>) -> Option<Ordering>
     ensures { result ≡ order_below (option_map (λ l. l.now) x.entry)
         (option_map (λ l. l.now) y.entry) }
@@ -123,7 +123,7 @@ fn order_below(x: Option<&[u8]>, y: Option<&[u8]>) -> Option<Ordering>
     }
 }
 
-/// Returns the canonical order.
+/// Returns the canonical order of two names.
 #[tactic(auto, using(crate::proofs::PartLemmas::parted))]
 pub(crate) fn canonical_cmp(a: &[u8], b: &[u8]) -> Ordering
     requires a { IsWire a.now }
@@ -137,8 +137,8 @@ pub(crate) fn canonical_cmp(a: &[u8], b: &[u8]) -> Ordering
     }
 }
 
-/// Returns the canonical order, and how many labels the names share: those of the end at which they
-/// part, unless the labels below it differ in case only.
+/// Returns the canonical order and the number of shared labels. These are the labels of the shared
+/// end, unless the labels right below it differ only in case.
 #[tactic(auto, using(crate::proofs::PartLemmas::parted))]
 pub fn compare(a: &[u8], b: &[u8]) -> Comparison
     requires a { IsWire a.now }
@@ -156,8 +156,8 @@ pub fn compare(a: &[u8], b: &[u8]) -> Comparison
     }
 }
 
-/// Returns whether a name is at or below another. The longest end of the name that has no more
-/// octets than the other decides.
+/// Returns whether a name is at or below another. Compares only the longest end of the name that
+/// has at most as many octets as the other.
 #[tactic(auto, using(crate::proofs::PartLemmas::below_steps))]
 pub fn is_at_or_below(name: &[u8], above: &[u8]) -> bool
     requires name { IsWire name.now }

@@ -1,4 +1,4 @@
-//! Names as text (RFC 1035, section 5.1).
+//! The presentation format of names (RFC 1035, section 5.1).
 ghost use Rattle.std.specs.Prelude.{◌≡◌, ◌≢◌, ℕ, Some, None, drop, slice_index, ◌+◌, ◌<◌, ◌≤◌, ◌∷◌, ◌++◌, [], ◌⊎◌, length, take, IfSome, IfNone, IsSome, OnSome, OnOk, IsTrue, ◌↔◌};
 ghost use Rattle.std.specs.{Fmt.WritesOnOk, Str.IsAscii};
 ghost use Rattle.domain_octets.specs.{Text.dot, Octets.Octets};
@@ -12,7 +12,8 @@ use crate::wire::{MAX_LABEL_LEN, MAX_NAME};
 use domain_octets::{AppendError, ArrayBuilder, Octets, OctetsBuilder, Truncate};
 use std::fmt;
 
-/// Returns the octet that a text within a label begins with, and how many characters spell it.
+/// Returns the octet that a text within a label begins with, and the number of characters that
+/// spell it.
 #[tactic(auto, unfolding(crate::specs::Text::symbol_at))]
 fn symbol_at(text: &[u8]) -> Option<(u8, usize)>
     ensures value { result ≡ symbol_at text.now }
@@ -31,7 +32,7 @@ fn symbol_at(text: &[u8]) -> Option<(u8, usize)>
     }
 }
 
-/// Returns whether a character stands for itself within a label. Tests lower case letters first.
+/// Returns whether a character represents itself within a label. Tests lower case letters first.
 fn is_plain(octet: u8) -> bool
     ensures { IsTrue result → (octet ≢ 92) × (octet ≢ 46) × (32 ≤ octet) × (octet ≤ 126) }
 {
@@ -39,7 +40,8 @@ fn is_plain(octet: u8) -> bool
         || (octet != b'\\' && octet != b'.' && octet >= b' ' && octet <= b'~')
 }
 
-/// Returns how many characters at the front of a text stand for themselves within a label.
+/// Returns the number of characters at the front of a text that represent themselves within a
+/// label.
 #[tactic(auto, using(std::proofs::lemmas::Grind::common_steps, crate::proofs::TextLemmas::plain_symbol))]
 fn plain_len(text: &[u8]) -> usize
     ensures within { result ≤ length text.now }
@@ -133,9 +135,9 @@ fn read_labels(wire: &mut ArrayBuilder<MAX_NAME>, text: &[u8]) -> Option<()>
     }
 }
 
-/// Writes the length of each label before it, in octets that are one octet and then a text without
-/// a last dot. Goes from the end of the text to its beginning. Returns None if a character does not
-/// stand for itself, or if a label is empty or too long.
+/// Writes the length of each label into the octet before it. `octets` holds one octet and then the
+/// first `end` octets of the text. Works from the end to the beginning. Returns None if a character
+/// does not represent itself, or if a label is empty or too long.
 #[tactic(auto, using(crate::proofs::TextLemmas::backward_steps))]
 fn put_lengths(octets: &mut [u8], text: &[u8], end: usize) -> Option<()>
     requires end { IsBefore [] (drop end text.now) }
@@ -189,7 +191,7 @@ fn text_end(text: &[u8]) -> usize
 }
 
 /// Writes the wire form of the name in a text into an empty builder, if all characters of its
-/// labels stand for themselves. Otherwise the content of the builder has no meaning.
+/// labels represent themselves. Otherwise the content of the builder has no meaning.
 fn read_plain_name(wire: &mut ArrayBuilder<MAX_NAME>, text: &[u8]) -> Option<()>
     requires { wire.old ≡ [] }
     ensures { OnSome result ((labels : Name) × NameText text.now labels
@@ -328,7 +330,7 @@ fn dotted<'a>(name: &[u8], buffer: &'a mut [u8; MAX_NAME]) -> Option<&'a [u8]>
     Some(text)
 }
 
-/// Writes labels of any octets with dots between them.
+/// Writes the labels, which may have any octets, with dots between them.
 fn write_labels<W: fmt::Write>(name: &[u8], f: &mut fmt::Formatter<W>) -> fmt::Result
     requires { IsWire name.now }
     ensures { WritesOnOk W.write_str_gives f.old result (name_text (labels_of name.now)) f.new }

@@ -77,7 +77,7 @@ fn same_first_eight(a: &[u8], b: &[u8]) -> bool
     }
 }
 
-/// Returns a number of octets that two lists begin with alike, counted by eights.
+/// Returns a multiple of eight: a number of octets in which the starts of both lists are the same.
 fn equal_start(a: &[u8], b: &[u8]) -> usize
     ensures { BeginAlike a.now b.now result }
 {
@@ -88,7 +88,7 @@ fn equal_start(a: &[u8], b: &[u8]) -> usize
     count
 }
 
-/// Returns the order of octets with A to Z lowered. Octets that are the same are not lowered.
+/// Returns the order of octets with A to Z lowered. Octets that are equal are compared as they are.
 #[tactic(auto, using(crate::proofs::OrderLemmas::alike_ties, crate::proofs::OrderLemmas::lengths_decide))]
 pub(crate) fn lowered_octets_cmp(a: &[u8], b: &[u8]) -> Ordering
     ensures { result ≡ slice_cmp nat_cmp (map to_ascii_lowercase a.now)
@@ -106,8 +106,8 @@ pub(crate) fn lowered_octets_cmp(a: &[u8], b: &[u8]) -> Ordering
     a.len().cmp(&b.len())
 }
 
-/// Returns the canonical order, and how many labels are shared. Cuts the longer name to as many
-/// labels as the other has, and compares both from the leaf on until the rests are the same. The
+/// Returns the canonical order and the number of shared labels. Cuts the longer name to the number
+/// of labels of the other, and compares both from the leaf on until the rests are the same. The
 /// differing labels nearest the root decide, and all labels above these are shared.
 #[tactic(auto, using(crate::proofs::OrderLemmas::comparing_steps))]
 pub(crate) fn compare_from_leaf(a: &[u8], b: &[u8]) -> Comparison

@@ -1,9 +1,9 @@
--- Texts of zone files: characters by name, the pieces of a text, and the words of a line.
+-- Zone file text: characters by name, the pieces of a text, and the words of a line.
 use Rattle.std.specs.Prelude.{ℕ, List, [], ◌∷◌, string_bytes, ◌≡◌, ◌≢◌, ◌==◌, ◌||◌, Bool, false, ◌++◌, map, if◌then◌else◌}
 use Rattle.std.specs.{List.{join_with_byte, AllByRecursion}, Borrow.Bor}
 use Rattle.domain_octets.specs.{declared.formatter.Piece.{Piece, TheVariants.{Token, Comment, Open, Close}}, Octets.Octets}
 
--- ---- Characters of zone files by name, as the octets that stand for them (RFC 20).
+-- ---- characters of zone files by name, as their octets (RFC 20)
 
 abbrev pub tab : ℕ
 tab = 9
@@ -56,7 +56,7 @@ backslash = 92
 abbrev pub tilde : ℕ
 tilde = 126
 
--- ---- the pieces of a zone file's text
+-- ---- the pieces of zone file text
 
 -- a token, a comment, or the beginning or end of a block in which lines may break
 pub data PieceText : Type 0 where
@@ -80,29 +80,29 @@ tokens_of (piece ∷ pieces) = tokens_of pieces
 abbrev pub simple_text : List PieceText → Octets
 simple_text pieces = join_with_byte space (tokens_of pieces)
 
--- ---- the words of a text, as a reader of zone files takes them as tokens (RFC 1035, section 5.1)
+-- ---- the words of a text, as a parser of zone files takes them as tokens (RFC 1035, section 5.1)
 
--- spaces and tabs separate words
+-- a space or a tab, which separate words
 abbrev pub is_blank : ℕ → Bool
 is_blank c = (c == space) || (c == tab)
 
--- a word, where any of its characters has come
+-- the word that was read so far, or nothing if it is empty
 abbrev pub word_if_any : Octets → List Octets
 word_if_any [] = []
 word_if_any (c ∷ word) = (c ∷ word) ∷ []
 
--- the words of a text, after a word that has begun
+-- the words of the rest of a text, where the given characters of a word have been read
 unfoldable pub words_after : Octets → Octets → List Octets
 words_after word [] = word_if_any word
 words_after word (c ∷ text) =
     if is_blank c then word_if_any word ++ words_after [] text
     else words_after (word ++ c ∷ []) text
 
--- what stands between the blanks of a text, where that is not empty
+-- the nonempty parts of a text between its blanks
 abbrev pub words_of : Octets → List Octets
 words_of text = words_after [] text
 
--- words were appended of a text, from its first on, and these are left
+-- some words of the text were appended, from the first on, and `left` are the others
 pub record HasWords (old : List (Bor Octets)) (text : Octets) (new : List (Bor Octets)) : Type 0 where
   pub left : List Octets
   pub same : map (λ w. w.now) new ++ left ≡ map (λ w. w.now) old ++ words_of text

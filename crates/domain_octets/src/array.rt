@@ -11,7 +11,7 @@ use arrayvec::ArrayVec;
 use std::alloc::Global;
 use std::marker::Model;
 
-/// At most `K` octets, which lie in the value itself.
+/// At most `K` octets, stored in the value itself.
 #[derive(Drop)]
 pub struct ArrayBuilder<const K: usize> {
     octets: ArrayVec<u8, K>,
@@ -24,7 +24,7 @@ impl<const K: usize> Model for ArrayBuilder<K> {
 }
 
 impl<const K: usize> ArrayBuilder<K> {
-    /// One without octets. Takes no memory.
+    /// Returns a builder without octets. Does not allocate.
     pub fn new() -> Self
         ensures { result ≡ [] }
     {
@@ -37,7 +37,7 @@ impl<const K: usize> ArrayBuilder<K> {
 impl<const K: usize> TryClone for ArrayBuilder<K> {
     ghost is_clone = { λ b copy. copy ≡ b };
 
-    /// Returns a copy. Takes no memory.
+    /// Returns a copy. Does not allocate.
     fn try_clone(&self) -> Result<Self, OutOfMemory>
         ensures copy { IfOk result (λ copy. copy ≡ self.now) }
         ensures always { IsOk result }

@@ -1,4 +1,4 @@
-//! Empty octets, and octets that are made of others.
+//! Empty octets, and octets that are copied or converted from others.
 ghost use Rattle.std.specs.Prelude.{◌≡◌, ℕ, ◌↔◌, [], Option, None, Some, length, IfOk, IsNone, IsErrOf};
 ghost use Rattle.domain_octets.specs.Octets.{IsOver};
 
@@ -8,7 +8,7 @@ use std::alloc::Global;
 
 /// Octets that can be empty.
 pub trait EmptyOctets: Octets {
-    /// Returns no octets. Takes no memory.
+    /// Returns an empty value. Does not allocate.
     fn empty(alloc: Global) -> Self
     where
         Self: Sized,
@@ -17,7 +17,7 @@ pub trait EmptyOctets: Octets {
 
 /// Octets that can be copied from others.
 pub trait CopyOctets: Octets {
-    /// How many octets there can be at most. Where there is no limit, memory is taken for them.
+    /// The greatest number of octets that fit. None: no limit, and memory is allocated for them.
     ghost capacity: { Option ℕ };
 
     /// Returns a copy of these octets. Returns `ShortBuf` if there is no room for them, and
@@ -30,19 +30,19 @@ pub trait CopyOctets: Octets {
         ensures memory { IsErrOf result AppendError.OutOfMemory → IsNone capacity };
 }
 
-/// A value that can be made of another one, over other octets.
+/// A value that can be made from another one, over other octets.
 pub trait OctetsFrom<S> {
-    /// They are the same value.
+    /// The two are the same value.
     ghost is_same: { S → Self → Type 0 };
 
-    /// There is no room for the value.
+    /// Whether the value does not fit.
     ghost has_no_room: { S → Type 0 };
 
-    /// Memory is taken for the value.
+    /// Whether memory is allocated for the value.
     ghost takes_memory: { Type 0 };
 
-    /// Returns the same value over these octets. Returns `ShortBuf` if there is no room for it, and
-    /// `OutOfMemory` if there is no memory.
+    /// Returns the same value over octets of this type. Returns `ShortBuf` if there is no room for
+    /// it, and `OutOfMemory` if there is no memory.
     fn try_octets_from(alloc: Global, source: S) -> Result<Self, AppendError>
     where
         Self: Sized,
@@ -51,19 +51,19 @@ pub trait OctetsFrom<S> {
         ensures memory { IsErrOf result AppendError.OutOfMemory → takes_memory };
 }
 
-/// A value that turns into one that stands on octets of its own.
+/// A value that can be turned into one over other octets.
 pub trait FlattenInto<T> {
-    /// They are the same value.
+    /// The two are the same value.
     ghost is_same: { Self → T → Type 0 };
 
-    /// There is no room for the value.
+    /// Whether the value does not fit.
     ghost has_no_room: { Self → Type 0 };
 
-    /// Memory is taken for the value.
+    /// Whether memory is allocated for the value.
     ghost takes_memory: { Type 0 };
 
-    /// Returns the same value over octets of its own. Returns `ShortBuf` if there is no room for
-    /// it, and `OutOfMemory` if there is no memory.
+    /// Returns the same value over octets of the target type. Returns `ShortBuf` if there is no
+    /// room for it, and `OutOfMemory` if there is no memory.
     fn try_flatten_into(self, alloc: Global) -> Result<T, AppendError>
     where
         Self: Sized,
@@ -128,7 +128,7 @@ impl<S: Octets + Drop, O: CopyOctets> OctetsFrom<S> for O {
     }
 }
 
-/// What can be made of a value is what it turns into.
+/// A value turns into each type that can be made from it.
 impl<S, T: OctetsFrom<S>> FlattenInto<T> for S {
     ghost is_same = { λ source made. T.OctetsFrom.is_same source made };
 

@@ -1,4 +1,4 @@
-//! Why octets were not appended or not read, and lack of memory.
+//! The errors of appending and reading octets, and the out-of-memory error.
 ghost use Rattle.std.specs.Prelude.{◌≡◌, Some, codes};
 ghost use Rattle.domain_octets.specs.Octets.{append_error_text, parse_error_text};
 ghost use Rattle.domain_octets.specs.declared.error.AppendError.TheVariants as append_error;
@@ -7,7 +7,7 @@ use std::alloc::{AllocError, AllocFailed};
 use std::error::Error;
 use std::fmt;
 
-/// Want of memory: an allocation was refused.
+/// Out of memory: an allocation failed.
 #[derive(Clone, Copy, Debug, PartialEq, Eq)]
 pub struct OutOfMemory;
 
@@ -33,17 +33,17 @@ impl<T: Drop> From<AllocFailed<T>> for OutOfMemory {
     }
 }
 
-/// Why a builder did not append octets.
+/// The error of appending octets to a builder.
 #[derive(Clone, Copy, Debug, PartialEq, Eq)]
 pub enum AppendError {
-    /// The builder has a limit, and the octets would pass it.
+    /// The octets would exceed the limit of the builder.
     ShortBuf,
     /// There was no memory.
     OutOfMemory,
 }
 
 impl fmt::Display for AppendError {
-    // These texts stand once more in specs/Octets.antt: both change together.
+    // specs/Octets.antt repeats these texts: change both together.
     ghost output = { λ e. Some (append_error_text e) };
 
     fn fmt<W: fmt::Write>(&self, f: &mut fmt::Formatter<W>) -> fmt::Result {
@@ -72,17 +72,17 @@ impl From<AllocError> for AppendError {
     }
 }
 
-/// Why octets were not read.
+/// The error of reading octets.
 #[derive(Clone, Copy, Debug, PartialEq, Eq)]
 pub enum ParseError {
     /// The octets end too early.
     ShortInput,
-    /// The octets are not of the form that is wanted.
+    /// The octets are not of the expected form.
     Form(&'static str),
 }
 
 impl fmt::Display for ParseError {
-    // These texts stand once more in specs/Octets.antt: both change together.
+    // specs/Octets.antt repeats these texts: change both together.
     ghost output = { λ e. Some (parse_error_text e) };
 
     fn fmt<W: fmt::Write>(&self, f: &mut fmt::Formatter<W>) -> fmt::Result {

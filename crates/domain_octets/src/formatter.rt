@@ -1,4 +1,4 @@
-//! The pieces of a zone file's text, and what takes them.
+//! The pieces of zone file text, and the trait that takes them.
 ghost use Rattle.std.specs.Prelude.{◌≡◌, ◌++◌, ◌∷◌, [], List, IfSome, map, OnOk, OnErr};
 ghost use Rattle.domain_octets.specs.Text.{PieceText, piece_text, token, comment, opens, closes};
 
@@ -7,22 +7,22 @@ use std::alloc::Global;
 use std::fmt::Display;
 use std::marker::Model;
 
-/// A piece of a zone file's text.
+/// A piece of zone file text.
 #[derive(Debug, PartialEq, Eq, Drop)]
 pub enum Piece {
     /// A token.
     Token(String),
-    /// A comment on what stands before it.
+    /// A comment on what comes before it.
     Comment(String),
-    /// The beginning of a block, within which lines may break.
+    /// The beginning of a block, in which lines may break.
     Open,
     /// The end of a block.
     Close,
 }
 
-/// What takes the pieces of a zone file's text, one after another.
+/// A sink for the pieces of zone file text, in their order.
 pub trait Formatter {
-    /// The pieces that it has taken.
+    /// The pieces taken so far.
     ghost pieces: { Self → List PieceText };
 
     /// Takes a token.
@@ -62,7 +62,7 @@ impl Model for PieceFormatter {
 }
 
 impl PieceFormatter {
-    /// One that has no pieces yet.
+    /// Returns a formatter without pieces.
     pub fn new(alloc: Global) -> Self
         ensures { result ≡ [] }
     {
@@ -72,7 +72,7 @@ impl PieceFormatter {
         }
     }
 
-    /// Returns the pieces in their order.
+    /// Returns the pieces in order.
     pub fn pieces(&self) -> &[Piece]
         ensures { map piece_text result.now ≡ self.now }
     {

@@ -1,17 +1,17 @@
-//! Octets: what holds them, builds them and reads them, and the pieces of the texts of zone files.
+//! Octets: traits and types that hold, build and read them, and the pieces of zone file text.
 //!
-//! - [`Octets`] are read as one slice; [`OctetsBuilder`] takes octets at its end, whole or not at
-//!   all, and answers `ShortBuf` exactly where its limit would be passed.
-//! - [`SmallOctets`] hold up to 30 octets in the value itself, and take memory only for more;
-//!   [`ArrayBuilder`] has room in the value itself alone.
-//! - [`Parser`] reads from the front, numbers with the octet that weighs most first (RFC 1035,
-//!   section 2.3.2), and stands where it stood after a refusal.
-//! - [`push_words`] takes the words of a line.
-//! - [`Formatter`] takes the pieces of a zone file's text, and [`ZonefileFmt`] is a value that has
+//! - [`Octets`] reads a value as one slice. [`OctetsBuilder`] appends all the given octets or none,
+//!   and returns `ShortBuf` if and only if they would exceed its limit.
+//! - [`SmallOctets`] holds up to 30 octets in the value itself, and allocates only for more.
+//!   [`ArrayBuilder`] has room only in the value itself.
+//! - [`Parser`] reads from the front, numbers in big-endian order (RFC 1035, section 2.3.2). After
+//!   an error it is where it was before.
+//! - [`push_words`] splits a line into its words.
+//! - [`Formatter`] collects the pieces of zone file text. [`ZonefileFmt`] is the trait of values
+//!   that a zone file shows in such pieces.
 //!   some.
-//!
-//! The crate above may rely on this: a contract sees each value as its list of octets; a refused
-//! call leaves that list, or a parser's place, as it was.
+//! Other crates may rely on this. A contract sees each value as its list of octets. A call that
+//! fails leaves that list, or the position of a parser, unchanged.
 #![tactic(auto)]
 
 mod array;

@@ -1,11 +1,11 @@
-//! Octets that lie together.
+//! Values that can be read as one slice of octets.
 ghost use Rattle.std.specs.Prelude.{◌≡◌, IfOk, IsOk};
 ghost use Rattle.domain_octets.specs.Octets.{Octets};
 
 use crate::OutOfMemory;
 use bytes::Bytes;
 
-/// A value that can be copied, which may take memory.
+/// A value that can be copied. A copy may allocate.
 pub trait TryClone {
     /// The second value is a copy of the first.
     ghost is_clone: { Self → Self → Type 0 };
@@ -22,7 +22,7 @@ pub trait Octets: TryClone {
     /// The octets.
     ghost octets: { Self → Octets };
 
-    /// Returns the octets in one slice.
+    /// Returns the octets as one slice.
     fn as_slice(&self) -> &[u8]
         ensures { result.now ≡ octets self.now };
 
@@ -50,7 +50,7 @@ impl TryClone for Bytes {
 impl<'a> TryClone for &'a [u8] {
     ghost is_clone = { λ s copy. copy.now ≡ s.now };
 
-    /// Returns the slice itself. Takes no memory.
+    /// Returns the slice itself. Does not allocate.
     fn try_clone(&self) -> Result<&'a [u8], OutOfMemory>
         ensures copy { IfOk result (λ copy. copy.now ≡ self.now.now) }
         ensures always { IsOk result }

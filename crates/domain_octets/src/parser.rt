@@ -6,9 +6,9 @@ ghost use Rattle.domain_octets.specs.Octets.{Place, Takes};
 use crate::ParseError;
 use std::marker::Model;
 
-/// Octets of which some have been read: those of a message, or of a part of one.
+/// A parser of octets: a message, or a part of one.
 ///
-/// A read that is refused leaves the parser where it stood.
+/// A read that fails leaves the parser unchanged.
 #[derive(Drop)]
 pub struct Parser<'a> {
     left: &'a [u8],
@@ -24,7 +24,7 @@ impl<'a> Model for Parser<'a> {
 }
 
 impl<'a> Parser<'a> {
-    /// Returns a parser over these octets, none of which are read yet.
+    /// Returns a parser over these octets, at the first of them.
     pub fn new(octets: &'a [u8]) -> Self
         ensures { result ≡ record { pos = 0; left = octets.now } }
     {
@@ -34,28 +34,28 @@ impl<'a> Parser<'a> {
         }
     }
 
-    /// Returns how many octets have been read.
+    /// Returns the number of octets that have been read.
     pub fn pos(&self) -> usize
         ensures { result ≡ self.now.pos }
     {
         self.pos
     }
 
-    /// Returns how many octets are left.
+    /// Returns the number of octets that are left.
     pub fn remaining(&self) -> usize
         ensures { result ≡ length self.now.left }
     {
         self.left.len()
     }
 
-    /// Returns the octets that are left, which stay unread.
+    /// Returns the octets that are left, without reading them.
     pub fn peek_all(&self) -> &'a [u8]
         ensures { result.now ≡ self.now.left }
     {
         self.left
     }
 
-    /// Returns a parser that stands where this one does.
+    /// Returns a parser at the same position over the same octets.
     pub fn fork(&self) -> Parser<'a>
         ensures { result ≡ self.now }
     {
@@ -65,7 +65,7 @@ impl<'a> Parser<'a> {
         }
     }
 
-    /// Goes past so many octets.
+    /// Skips the next `count` octets.
     pub fn advance(&mut self, count: usize)
         requires { count ≤ length self.old.left }
         ensures { self.new ≡ record {
@@ -77,7 +77,7 @@ impl<'a> Parser<'a> {
         self.pos += count;
     }
 
-    /// Returns the next octets, so many. Returns `ShortInput` if fewer are left.
+    /// Returns the next `count` octets. Returns `ShortInput` if fewer are left.
     pub fn parse_octets(&mut self, count: usize) -> Result<&'a [u8], ParseError>
         ensures ok { IfOk result (λ octets. Takes octets.now self.old self.new
             × (length octets.now ≡ count)) }
@@ -94,7 +94,7 @@ impl<'a> Parser<'a> {
         Ok(octets)
     }
 
-    /// Returns a number of one octet. Returns `ShortInput` if no octet is left.
+    /// Reads a number of one octet. Returns `ShortInput` if no octet is left.
     pub fn parse_u8(&mut self) -> Result<u8, ParseError>
         ensures ok { IfOk result (λ n. Takes (n ∷ []) self.old self.new) }
         ensures short { IsErr result ↔ (length self.old.left < 1) }
@@ -105,8 +105,8 @@ impl<'a> Parser<'a> {
         Ok(octets[0])
     }
 
-    /// Returns a number of two octets, the first of which weighs most (RFC 1035, section 2.3.2).
-    /// Returns `ShortInput` if fewer are left.
+    /// Reads a number of two octets in big-endian order (RFC 1035, section 2.3.2). Returns
+    /// `ShortInput` if fewer are left.
     pub fn parse_u16(&mut self) -> Result<u16, ParseError>
         ensures ok { IfOk result (λ n. Takes (to_be_bytes w16 n) self.old self.new) }
         ensures short { IsErr result ↔ (length self.old.left < 2) }
@@ -117,8 +117,8 @@ impl<'a> Parser<'a> {
         Ok(u16::from_be_bytes([octets[0], octets[1]]))
     }
 
-    /// Returns a number of four octets, the first of which weighs most (RFC 1035, section 2.3.2).
-    /// Returns `ShortInput` if fewer are left.
+    /// Reads a number of four octets in big-endian order (RFC 1035, section 2.3.2). Returns
+    /// `ShortInput` if fewer are left.
     pub fn parse_u32(&mut self) -> Result<u32, ParseError>
         ensures ok { IfOk result (λ n. Takes (to_be_bytes w32 n) self.old self.new) }
         ensures short { IsErr result ↔ (length self.old.left < 4) }

@@ -1,4 +1,4 @@
-//! Octets that lie in the value itself where they are few.
+//! Octets that are stored in the value itself if they are few.
 ghost use Rattle.std.specs.Prelude.{◌≡◌, ◌≤◌, ◌+◌, ◌++◌, None, refl, length, IfOk, IsErrOf, IsOk};
 ghost use Rattle.std.{specs.{Prelude.{OnErr, OnOk}, List.refill}, proofs.Common.sym};
 ghost use Rattle.domain_octets.specs.Octets.{room_inside, refilled, Octets};
@@ -11,16 +11,17 @@ use smallvec::SmallVec;
 use std::alloc::Global;
 use std::marker::Model;
 
-/// How many octets lie in the value itself at most.
+/// The greatest number of octets that are stored in the value itself.
 const INSIDE: usize = 30;
 
-/// Octets of which up to 30 lie in the value itself. Only more than 30 take memory of their own.
+/// A list of octets, up to 30 of which are stored in the value itself. Only more than 30 are
+/// allocated.
 #[derive(Drop)]
 pub struct SmallOctets {
     octets: SmallVec<u8, INSIDE>,
 }
 
-/// The builder of [`SmallOctets`], which are what they are built in.
+/// The builder of [`SmallOctets`]: the same type.
 pub type SmallBuilder = SmallOctets;
 
 impl Model for SmallOctets {
@@ -32,8 +33,8 @@ impl Model for SmallOctets {
 }
 
 impl SmallOctets {
-    /// Returns a copy of these octets. Takes no memory where there are at most 30, and answers
-    /// `OutOfMemory` where there is none for more.
+    /// Returns a copy of these octets. Allocates only for more than 30. Returns `OutOfMemory` if
+    /// there is no memory for these.
     #[inline]
     pub fn from_slice(alloc: Global, octets: &[u8]) -> Result<Self, OutOfMemory>
         ensures ok { IfOk result (λ copy. copy ≡ octets.now) }
@@ -48,7 +49,7 @@ impl SmallOctets {
 impl TryClone for SmallOctets {
     ghost is_clone = { λ s copy. copy ≡ s };
 
-    /// Returns a copy. Takes no memory where there are at most 30 octets.
+    /// Returns a copy. Does not allocate for at most 30 octets.
     #[inline]
     fn try_clone(&self) -> Result<Self, OutOfMemory>
         ensures copy { IfOk result (λ copy. copy ≡ self.now) }
@@ -74,7 +75,7 @@ impl OctetsBuilder for SmallOctets {
 
     ghost with_octets = { λ s xs. refill (length s) s xs };
 
-    /// Takes no memory where there are then at most 30 octets.
+    /// Does not allocate if there are at most 30 octets afterwards.
     #[inline]
     fn append_slice(&mut self, slice: &[u8]) -> Result<(), AppendError>
         ensures ok { OnOk result (self.new ≡ self.old ++ slice.now) }
@@ -145,7 +146,7 @@ impl FromBuilder for SmallOctets {
         builder
     }
 
-    /// Takes no memory where there are at most 30 octets.
+    /// Does not allocate for at most 30 octets.
     fn from_octets(alloc: Global, octets: &[u8]) -> Result<Self, AppendError> {
         Self::copy_octets(alloc, octets)
     }

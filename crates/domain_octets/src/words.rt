@@ -7,10 +7,10 @@ use crate::OutOfMemory;
 use memchr::memchr2;
 use smallvec::SmallVec;
 
-/// The words of a line. Those of most records, up to eight, take no memory.
+/// The words of a line. Up to eight, as in most records, are not allocated.
 pub type LineWords<'a> = SmallVec<&'a str, 8>;
 
-/// Appends a word, if it has octets.
+/// Appends a word if it is not empty.
 fn push_word<'a>(words: &mut LineWords<'a>, word: &'a str) -> Result<(), OutOfMemory>
     ensures ok { OnOk result (map (λ w. w.now) words.new.items
         ≡ map (λ w. w.now) words.old.items ++ word_if_any word.now) }
@@ -24,13 +24,13 @@ fn push_word<'a>(words: &mut LineWords<'a>, word: &'a str) -> Result<(), OutOfMe
     Ok(())
 }
 
-/// Appends the words of a line: what stands between its spaces and tabs, where that is not empty
-/// (RFC 1035, section 5.1).
+/// Appends the words of a line: the nonempty parts between its spaces and tabs (RFC 1035, section
+/// 5.1).
 ///
 /// # Errors
 ///
-/// `OutOfMemory` where the list has no room for them and there is no memory for more. Some of them,
-/// from the first on, then stand there.
+/// `OutOfMemory` if the list has no room for the words and there is no memory for more. The list
+/// then holds some of them, from the first on.
 #[tactic(auto, using(crate::proofs::WordLemmas::pushing_steps))]
 pub fn push_words<'a>(words: &mut LineWords<'a>, line: &'a str) -> Result<(), OutOfMemory>
     ensures ok { OnOk result (map (λ w. w.now) words.new.items

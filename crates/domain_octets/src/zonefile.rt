@@ -1,28 +1,28 @@
-//! Values that a zone file shows in pieces.
+//! Values that a zone file shows in pieces of text.
 ghost use Rattle.std.specs.Prelude.{◌≡◌, ◌++◌, List, map, IfOk, OnOk, string_bytes};
 ghost use Rattle.domain_octets.specs.Text.{PieceText, piece_text, simple_text};
 
 use crate::{Formatter, OutOfMemory, Piece, PieceFormatter};
 use std::alloc::Global;
 
-/// How the pieces of a zone file's text are put together.
+/// How pieces of zone file text are joined.
 #[derive(Clone, Copy, Debug, PartialEq, Eq)]
 pub enum DisplayKind {
-    /// The tokens in one line, with one space between them.
+    /// The tokens on one line, with one space between them.
     Simple,
 }
 
 /// A value that a zone file shows in pieces.
 pub trait ZonefileFmt {
-    /// Its pieces.
+    /// The pieces of the value.
     ghost pieces: { Self → List PieceText };
 
-    /// Writes its pieces.
+    /// Writes the pieces of the value.
     fn fmt<F: Formatter>(&self, formatter: &mut F) -> Result<(), OutOfMemory>
         ensures { OnOk result (F.pieces formatter.new ≡ F.pieces formatter.old
             ++ pieces self.now) };
 
-    /// Returns its text in one line.
+    /// Returns the printed form of the value, on one line.
     final fn display_zonefile(
         &self,
         alloc: Global,

@@ -1,4 +1,4 @@
--- Plain data, in the order of the wire, and data of any type as text.
+-- Plain data, in the order of the wire, and data of any type in presentation format.
 use Rattle.std.specs.{Prelude.{ℕ, ◌≡◌, Option, Some, ◌≢◌, ◌==◌, [], ◌∷◌, ◌++◌, length, codes, if◌then◌else◌}, Net.Addr.ipv4_octets}
 use Rattle.std.specs.{List.join_with_byte, Fmt.decimal}
 use Rattle.domain_octets.specs.{Octets.Octets, Text.space}
@@ -10,7 +10,7 @@ use Rattle.hex.specs.Hex.{encode_upper}
 use Rattle.domain_codecs.specs.declared.codec.Codec.TheVariants.{Base16}
 use Rattle.domain_base.specs.Scan.{OneToken, Grammar, Refusal, IsNumber, IsNoNumber, RefusesToken}
 
--- ---- data of a type that is not known, as clauses see them
+-- ---- data of an unknown type, as contracts see them
 
 pub record UnknownData (O : Type 0) : Type 0 where
   pub rtype : ℕ
@@ -47,7 +47,7 @@ mx = one short ▸ one name
 abbrev pub mx_values : {N : Type 0} → (N → Name) → Mx N → Values mx
 mx_values labels d = (d.preference, labels d.exchange)
 
--- the octets as they are, as many as a record can hold (RFC 3597, section 5; RFC 1035,
+-- the octets as they are, at most as many as a record can hold (RFC 3597, section 5; RFC 1035,
 -- section 3.2.1)
 abbrev pub unknown : Layout
 unknown = one (at_most 65535) ▸ one rest
@@ -55,9 +55,9 @@ unknown = one (at_most 65535) ▸ one rest
 abbrev pub unknown_values : {O : Type 0} → (O → Octets) → UnknownData O → Values unknown
 unknown_values octets d = (tt, octets d.«data»)
 
--- ---- SOA data over other names, and as text
+-- ---- SOA data over other names, and in presentation format
 
--- each name stands for the other one, and the numbers are the same
+-- each name is the same as the other one, and the numbers are the same
 pub record IsSoaWith {M N : Type 0} (is_same : M → N → Type 0) (source : Soa M)
     (made : Soa N) : Type 0 where
   pub mname : is_same source.mname made.mname
@@ -72,37 +72,37 @@ pub record IsSoaWith {M N : Type 0} (is_same : M → N → Type 0) (source : Soa
 abbrev pub soa_text : {N : Type 0} → (N → Name) → Soa N → Option Octets
 soa_text labels d = Some (join_with_byte space (printed soa (soa_values labels d)))
 
--- ---- data of any type as text (RFC 3597, section 5)
+-- ---- data of any type in presentation format (RFC 3597, section 5)
 
--- what generic text begins with
+-- the first token of generic text
 abbrev pub generic_mark : Token
 generic_mark = codes "\\#"
 
--- the mark and the number of octets
+-- the token is the mark; generic text begins with the mark and the number of octets
 abbrev pub IsMark : Token → Unit {0} → Type 0
 IsMark text mark = text ≡ generic_mark
 
 abbrev pub generic_head : Grammar (Unit {0} × ℕ)
 generic_head = Both (OneToken IsMark) (OneToken (IsNumber 16))
 
--- and the octets in Base 16, in any number of tokens
+-- the tokens spell the octets: the mark and their number, and then Base 16 in any number of tokens
 abbrev pub GenericText : Tokens → Octets → Type 0
 GenericText tokens octets = Spells generic_head Base16 tokens (tt, length octets) octets
 
--- a token is not the mark
+-- the token is not the mark, and this is the fault
 pub record IsNoMark (fault : ScanFault) (text : Token) : Type 0 where
   pub said : fault ≡ illegal (codes "illegal data")
   pub other : text ≢ generic_mark
 
--- the first field that is refused, over octets that have this limit, and the tokens that are left
--- then: octets are counted where they have room
+-- the first fault, for octets with this limit, and the tokens that are left after it; the number of
+-- octets is compared only if there is room for them
 abbrev pub GenericFault : Option ℕ → Refusal
 GenericFault limit =
     RefusesData generic_head
     (RefusesBoth (OneToken IsMark) (RefusesToken IsNoMark) (RefusesToken (IsNoNumber 16))) limit
     (λ head octets. head.1 ≢ length octets) (codes "illegal data") Base16
 
--- the mark, the number of octets, and the octets in upper case; for no octets the text ends after
+-- the mark, the number of octets, and the octets in upper case; without octets the text ends after
 -- the number
 abbrev pub generic_text : Octets → Octets
 generic_text octets =

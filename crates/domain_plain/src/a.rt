@@ -1,4 +1,4 @@
-//! Addresses of hosts.
+//! The A type: IPv4 addresses of hosts.
 ghost use Rattle.std.specs.Prelude.{◌≡◌, refl, IfOk, IsOk, Some};
 ghost use Rattle.std.specs.{Net.{Addr.ipv4_octets, Text.ipv4_text}, Ordering.{on, nat_cmp}};
 ghost use Rattle.std.specs.Cmp.Lexicographic.{slice_cmp, on_texts};
@@ -20,25 +20,25 @@ use std::cmp::Ordering;
 use std::fmt;
 use std::net::Ipv4Addr;
 
-/// An IPv4 address of a host (RFC 1035, section 3.4.1).
+/// The IPv4 address of a host (RFC 1035, section 3.4.1).
 #[derive(Clone, Copy, Debug, PartialEq, Eq)]
 pub struct A {
     addr: Ipv4Addr,
 }
 
 impl A {
-    /// Returns the data of this address.
+    /// Returns the data with this address.
     pub fn new(addr: Ipv4Addr) -> Self
         ensures { result ≡ record { addr = addr } }
     {
         A { addr }
     }
 
-    /// Returns the data that the octets begin with: an address; what follows is left.
+    /// Reads an address from the front of the octets, and leaves the octets after it.
     ///
     /// # Errors
     ///
-    /// `ShortInput` for fewer than four octets. The parser does not move then.
+    /// `ShortInput` if fewer than four octets are left. The parser is then unchanged.
     pub fn parse<'a>(parser: &mut Parser<'a>) -> Result<Self, ParseError>
         ensures { Reads a a_values fault_of parser.old parser.new result }
     {
@@ -46,8 +46,8 @@ impl A {
         Ok(A::new(Ipv4Addr::from(octets)))
     }
 
-    /// Returns the data that the tokens begin with: an address. After an error, a suffix of the
-    /// tokens is left.
+    /// Parses an address from the front of the tokens. After an error, a suffix of the tokens is
+    /// left.
     pub fn scan<S: Scanner>(alloc: Global, scanner: &mut S) -> Result<Self, ScanError>
         ensures { ReadsTokens (Scans a) a_values (Refuses S.Octets.Builder.limit a)
             (S.tokens scanner.old) (S.tokens scanner.new) result }
@@ -74,7 +74,7 @@ impl A {
 impl TryClone for A {
     ghost is_clone = { λ d copy. copy.addr ≡ d.addr };
 
-    /// Returns a copy. Takes no memory.
+    /// Returns a copy. Does not allocate.
     fn try_clone(&self) -> Result<Self, OutOfMemory>
         ensures copy { IfOk result (λ copy. copy.addr ≡ self.now.addr) }
         ensures always { IsOk result }
@@ -153,7 +153,7 @@ impl CanonicalOrd for A {
     }
 }
 
-/// The address, as four decimal numbers with dots between them.
+/// Writes the address as four decimal numbers with dots between them.
 impl fmt::Display for A {
     ghost output = { λ d. Some (ipv4_text (ipv4_octets d.addr)) };
 

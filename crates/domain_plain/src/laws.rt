@@ -1,4 +1,4 @@
-//! What holds of data of the types of this crate. A caller calls the law in its body.
+//! Laws of data of the types of this crate. To use a law, call it in the body of your function.
 ghost use Rattle.std.specs.Prelude.{ℕ, ◌<◌, ◌≤◌, ◌++◌, [], Option, IfSome, length, codes};
 ghost use Rattle.std.specs.{Fmt.decimal, Net.{Addr.ipv4_octets, Text.ipv4_text}};
 ghost use Rattle.domain_octets.specs.{Text.words_of, Octets.{Octets, AreOctets}};
@@ -12,7 +12,7 @@ use domain_base::ToName;
 use domain_fields::Fields;
 use domain_octets::Octets;
 
-/// The octets that an address is composed to parse back to it, and nothing is left.
+/// The wire form of an address parses back to it, and nothing is left.
 #[tactic(auto, using(domain_fields::proofs::ExactLemmas::parses_back))]
 pub fn a_parses_back(value: &A)
     ensures { ParsesBack a (a_values value.now) }
@@ -20,7 +20,7 @@ pub fn a_parses_back(value: &A)
     value.fields().fits();
 }
 
-/// So does a name server.
+/// The wire form of NS data parses back to them, and nothing is left.
 #[tactic(auto, using(domain_fields::proofs::ExactLemmas::parses_back))]
 pub fn ns_parses_back<N: ToName>(value: &Ns<N>)
     ensures { ParsesBack ns (ns_values N.labels value.now) }
@@ -28,7 +28,7 @@ pub fn ns_parses_back<N: ToName>(value: &Ns<N>)
     value.fields().fits();
 }
 
-/// So does the start of a zone.
+/// The wire form of SOA data parses back to them, and nothing is left.
 #[tactic(auto, using(domain_fields::proofs::ExactLemmas::parses_back))]
 pub fn soa_parses_back<N: ToName>(value: &Soa<N>)
     ensures { ParsesBack soa (soa_values N.labels value.now) }
@@ -36,7 +36,7 @@ pub fn soa_parses_back<N: ToName>(value: &Soa<N>)
     value.fields().fits();
 }
 
-/// So does a mail exchange.
+/// The wire form of MX data parses back to them, and nothing is left.
 #[tactic(auto, using(domain_fields::proofs::ExactLemmas::parses_back))]
 pub fn mx_parses_back<N: ToName>(value: &Mx<N>)
     ensures { ParsesBack mx (mx_values N.labels value.now) }
@@ -44,21 +44,21 @@ pub fn mx_parses_back<N: ToName>(value: &Mx<N>)
     value.fields().fits();
 }
 
-/// So does data of any type.
+/// The wire form of data of any type parses back to them, and nothing is left.
 pub fn unknown_data_parses_back<O: Octets>(value: &UnknownRecordData<O>)
     ensures { ParsesBack unknown (unknown_values O.octets value.now) }
 {
     let _fields = value.fields();
 }
 
-/// Tokens spell octets in the generic form in one way at most, and in none where they are refused,
-/// but for want of room or of memory, which is for one reason, over builders with any limit.
+/// Tokens spell octets in the generic form in at most one way. Tokens with a fault spell none, and
+/// have one fault, for builders with any limit. This excludes lack of room and of memory.
 pub fn generic_text_is_exact()
     ensures { (limit : Option ℕ) → IsExactEntry (IsOfTokens limit) GenericText
         (GenericFault limit) }
 {}
 
-/// The words of what an address is written as spell it.
+/// The words of a printed address spell it.
 #[tactic(auto, using(crate::proofs::PlainLemmas::a_back))]
 pub fn a_reads_back(value: &A)
     ensures { Scans a (words_of (ipv4_text (ipv4_octets value.now.addr))) (a_values value.now) [] }
@@ -66,7 +66,7 @@ pub fn a_reads_back(value: &A)
     value.fields().fits();
 }
 
-/// So do those of a name server.
+/// The words of printed NS data spell these data.
 pub fn ns_reads_back<N: ToName>(value: &Ns<N>)
     ensures { Scans ns (words_of (name_text (N.labels value.now.nsdname) ++ codes "."))
         (ns_values N.labels value.now) [] }
@@ -74,7 +74,7 @@ pub fn ns_reads_back<N: ToName>(value: &Ns<N>)
     value.fields().fits();
 }
 
-/// So do those of the start of a zone.
+/// The words of printed SOA data spell these data.
 pub fn soa_reads_back<N: ToName>(value: &Soa<N>)
     ensures { IfSome (soa_text N.labels value.now) (λ text.
         Scans soa (words_of text) (soa_values N.labels value.now) []) }
@@ -82,7 +82,7 @@ pub fn soa_reads_back<N: ToName>(value: &Soa<N>)
     value.fields().fits();
 }
 
-/// So do those of a mail exchange.
+/// The words of printed MX data spell these data.
 pub fn mx_reads_back<N: ToName>(value: &Mx<N>)
     ensures { Scans mx (words_of (decimal value.now.preference ++ codes " "
         ++ name_text (N.labels value.now.exchange) ++ codes "."))
@@ -91,7 +91,7 @@ pub fn mx_reads_back<N: ToName>(value: &Mx<N>)
     value.fields().fits();
 }
 
-/// So do those of data in the generic form, of any type.
+/// The words of data of any type in the generic form spell these data.
 #[tactic(auto, using(std::proofs::lemmas::Grind::common_steps, crate::proofs::PlainLemmas::generic_back))]
 pub fn generic_data_reads_back()
     ensures { (octets : Octets) → AreOctets octets → length octets ≤ 65535

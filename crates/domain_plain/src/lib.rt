@@ -1,13 +1,13 @@
-//! Plain data of records.
+//! Plain record data.
 //!
-//! The data of the types A, NS, SOA and MX (RFC 1035, section 3) and of types that are not known
-//! (RFC 3597).
+//! The data of the types A, NS, SOA and MX (RFC 1035, section 3) and of unknown types (RFC 3597).
 //!
-//! The data of a type is a list of fields (`domain_fields`), from which its octets, its canonical
-//! octets, its order, what is hashed of it and the tokens that spell it follow. The crates above
-//! may rely on this: data is octets, which are read in one way at most and parse back to what was
-//! composed (the module `laws`), and `canonical_cmp` is the lexicographic order of canonical
-//! octets.
+//! The data of a type are a list of fields (`domain_fields`). From it follow their octets, their
+//! canonical octets, their order, what is hashed, and the tokens that spell them.
+//!
+//! Other crates may rely on this. Octets are read as data in at most one way, and composed data
+//! parse back to themselves (the module `laws`). `canonical_cmp` is the lexicographic order of
+//! canonical octets.
 #![tactic(auto)]
 
 mod a;

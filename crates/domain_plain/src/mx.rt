@@ -1,4 +1,4 @@
-//! Mail exchanges.
+//! The MX type: mail exchanges.
 ghost use Rattle.std.specs.Prelude.{◌≡◌, ◌++◌, refl, IfOk, Some, codes};
 ghost use Rattle.std.specs.{Ordering.{on, nat_cmp}, Cmp.Lexicographic.{slice_cmp, on_texts}};
 ghost use Rattle.std.specs.Fmt.{decimal};
@@ -19,7 +19,7 @@ use std::alloc::Global;
 use std::cmp::Ordering;
 use std::fmt;
 
-/// A host that takes mail for the owner, and how much it is preferred (RFC 1035, section 3.3.9).
+/// A host that accepts mail for the owner, and its preference (RFC 1035, section 3.3.9).
 #[derive(Debug, Drop)]
 pub struct Mx<N> {
     preference: u16,
@@ -27,7 +27,7 @@ pub struct Mx<N> {
 }
 
 impl<N> Mx<N> {
-    /// Returns the data of this exchange.
+    /// Returns the data with this preference and host.
     pub fn new(preference: u16, exchange: N) -> Self
         ensures { result ≡ record { preference = preference; exchange = exchange } }
     {
@@ -37,7 +37,7 @@ impl<N> Mx<N> {
         }
     }
 
-    /// Returns the preference: the lowest one is tried first.
+    /// Returns the preference. The lowest one is tried first.
     pub fn preference(&self) -> u16
         ensures { result ≡ self.now.preference }
     {
@@ -94,8 +94,8 @@ impl<M, N: OctetsFrom<M>> OctetsFrom<Mx<M>> for Mx<N> {
 }
 
 impl<N: ToName> Mx<N> {
-    /// Returns the data that the tokens begin with: a decimal number and a name. After an error, a
-    /// suffix of the tokens is left.
+    /// Parses a decimal number and a name from the front of the tokens. After an error, a suffix of
+    /// the tokens is left.
     pub fn scan<S: Scanner<Name = N>>(alloc: Global, scanner: &mut S) -> Result<Self, ScanError>
     where
         N: Drop,
@@ -117,15 +117,15 @@ impl<N: ToName> Mx<N> {
 }
 
 impl<'a> Mx<ParsedName<'a>> {
-    /// Returns the data that the octets begin with: a number of two octets and a name; what follows
-    /// is left.
+    /// Reads a number of two octets and a name from the front of the octets, and leaves the octets
+    /// after them.
     ///
     /// # Errors
     ///
-    /// The first fault in field order: a missing octet of the number is `ShortInput`; of a name, at
-    /// the first label that is at fault, a missing octet is `ShortInput`, a length over 63 or a
-    /// pointer `Form("compressed or bad label")`, a name over 255 octets `Form("long domain
-    /// name")`. The parser does not move then.
+    /// The first fault in field order. For the number, it is `ShortInput` if an octet is missing.
+    /// For the name, the first label with a fault decides: `ShortInput` if an octet is missing,
+    /// `Form("compressed or bad label")` at a length over 63 or a pointer, and `Form("long domain
+    /// name")` at more than 255 octets. After an error the parser is unchanged.
     pub fn parse(parser: &mut Parser<'a>) -> Result<Self, ParseError>
         ensures { Reads mx (mx_values (λ name. name)) fault_of parser.old parser.new result }
     {
@@ -185,7 +185,7 @@ impl<N: ToName> CanonicalOrd for Mx<N> {
     }
 }
 
-/// The preference, and the name with its last dot.
+/// Writes the preference, and the name with its last dot.
 impl<N: ToName> fmt::Display for Mx<N> {
     ghost output = { λ d. Some (decimal d.preference ++ codes " " ++ name_text (N.labels d.exchange)
         ++ codes ".") };

@@ -1,4 +1,4 @@
-//! Name servers.
+//! The NS type: name servers.
 ghost use Rattle.std.specs.Prelude.{◌≡◌, ◌++◌, refl, IfOk, Some, codes};
 ghost use Rattle.std.specs.{Ordering.{on, nat_cmp}, Cmp.Lexicographic.{slice_cmp, on_texts}};
 ghost use Rattle.domain_names.specs.{Text.name_text, Wire.fault_of};
@@ -18,14 +18,14 @@ use std::alloc::Global;
 use std::cmp::Ordering;
 use std::fmt;
 
-/// A name server that is authoritative for the owner's zone (RFC 1035, section 3.3.11).
+/// An authoritative name server of the owner's zone (RFC 1035, section 3.3.11).
 #[derive(Debug, Drop)]
 pub struct Ns<N> {
     nsdname: N,
 }
 
 impl<N> Ns<N> {
-    /// Returns the data of this server.
+    /// Returns the data with this server.
     pub fn new(nsdname: N) -> Self
         ensures { result ≡ record { nsdname = nsdname } }
     {
@@ -78,8 +78,7 @@ impl<M, N: OctetsFrom<M>> OctetsFrom<Ns<M>> for Ns<N> {
 }
 
 impl<N: ToName> Ns<N> {
-    /// Returns the data that the tokens begin with: a name. After an error, a suffix of the tokens
-    /// is left.
+    /// Parses a name from the front of the tokens. After an error, a suffix of the tokens is left.
     pub fn scan<S: Scanner<Name = N>>(alloc: Global, scanner: &mut S) -> Result<Self, ScanError>
     where
         N: Drop,
@@ -99,13 +98,13 @@ impl<N: ToName> Ns<N> {
 }
 
 impl<'a> Ns<ParsedName<'a>> {
-    /// Returns the data that the octets begin with: a name; what follows is left.
+    /// Reads a name from the front of the octets, and leaves the octets after it.
     ///
     /// # Errors
     ///
-    /// The first fault in field order: of a name, at the first label that is at fault, a missing
-    /// octet is `ShortInput`, a length over 63 or a pointer `Form("compressed or bad label")`, a
-    /// name over 255 octets `Form("long domain name")`. The parser does not move then.
+    /// The first label with a fault decides: `ShortInput` if an octet is missing, `Form("compressed
+    /// or bad label")` at a length over 63 or a pointer, and `Form("long domain name")` at more
+    /// than 255 octets. After an error the parser is unchanged.
     pub fn parse(parser: &mut Parser<'a>) -> Result<Self, ParseError>
         ensures { Reads ns (ns_values (λ name. name)) fault_of parser.old parser.new result }
     {
@@ -164,7 +163,7 @@ impl<N: ToName> CanonicalOrd for Ns<N> {
     }
 }
 
-/// The name with its last dot.
+/// Writes the name with its last dot.
 impl<N: ToName> fmt::Display for Ns<N> {
     ghost output = { λ d. Some (name_text (N.labels d.nsdname) ++ codes ".") };
 

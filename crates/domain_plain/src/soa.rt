@@ -1,4 +1,4 @@
-//! Starts of zones.
+//! The SOA type: starts of zones of authority.
 ghost use Rattle.std.specs.{Prelude.{◌≡◌, ◌⊎◌, refl, IfOk}, Ordering.{on, nat_cmp}};
 ghost use Rattle.std.specs.Cmp.Lexicographic.{slice_cmp, on_texts};
 ghost use Rattle.domain_names.specs.Wire.{fault_of};
@@ -30,7 +30,7 @@ pub struct Soa<N> {
     minimum: Ttl,
 }
 
-/// Serial, refresh, retry, expire and minimum.
+/// The serial, refresh, retry, expire and minimum fields.
 type SoaNumbers = ((u32, (u32, u32)), (u32, u32));
 
 type SoaFields<'a> = ((ParsedName<'a>, ParsedName<'a>), SoaNumbers);
@@ -38,7 +38,7 @@ type SoaFields<'a> = ((ParsedName<'a>, ParsedName<'a>), SoaNumbers);
 type ScannedSoa<N> = ((Scanned<N>, Scanned<N>), SoaNumbers);
 
 impl<N> Soa<N> {
-    /// Returns the data of these fields.
+    /// Returns the data with these fields.
     pub fn new(
         mname: N,
         rname: N,
@@ -83,35 +83,35 @@ impl<N> Soa<N> {
         &self.rname
     }
 
-    /// Returns the version of the zone.
+    /// Returns the serial number: the version of the zone.
     pub fn serial(&self) -> u32
         ensures { result ≡ self.now.serial }
     {
         self.serial
     }
 
-    /// How long a secondary server waits before it asks for changes.
+    /// Returns the time that a secondary server waits before it asks for changes.
     pub fn refresh(&self) -> Ttl
         ensures { result ≡ self.now.refresh }
     {
         self.refresh
     }
 
-    /// How long it waits before it asks again.
+    /// Returns the time that a secondary server waits before it asks again.
     pub fn retry(&self) -> Ttl
         ensures { result ≡ self.now.retry }
     {
         self.retry
     }
 
-    /// How long it may answer without having reached its primary server.
+    /// Returns the time that a secondary server may answer without reaching its primary server.
     pub fn expire(&self) -> Ttl
         ensures { result ≡ self.now.expire }
     {
         self.expire
     }
 
-    /// How long a negative answer may be cached (RFC 2308, section 4).
+    /// Returns the time for which a negative answer may be cached (RFC 2308, section 4).
     pub fn minimum(&self) -> Ttl
         ensures { result ≡ self.now.minimum }
     {
@@ -131,7 +131,7 @@ impl<N> Soa<N> {
         )
     }
 
-    /// Returns the data of these names and numbers.
+    /// Returns the data with these names and numbers.
     fn of_parts(mname: N, rname: N, numbers: SoaNumbers) -> Self
         ensures { result ≡ record {
           mname = mname;
@@ -206,8 +206,8 @@ impl<M, N: OctetsFrom<M> + Drop> OctetsFrom<Soa<M>> for Soa<N> {
 }
 
 impl<N: ToName> Soa<N> {
-    /// Returns the data that the tokens begin with: two names and five decimal numbers. After an
-    /// error, a suffix of the tokens is left.
+    /// Parses two names and five decimal numbers from the front of the tokens. After an error, a
+    /// suffix of the tokens is left.
     pub fn scan<S: Scanner<Name = N>>(alloc: Global, scanner: &mut S) -> Result<Self, ScanError>
     where
         N: Drop,
@@ -237,15 +237,15 @@ impl<N: ToName> Soa<N> {
 }
 
 impl<'a> Soa<ParsedName<'a>> {
-    /// Returns the data that the octets begin with: two names and five numbers of four octets; what
-    /// follows is left.
+    /// Reads two names and five numbers of four octets from the front of the octets, and leaves the
+    /// octets after them.
     ///
     /// # Errors
     ///
-    /// The first fault in field order: of a name, at the first label that is at fault, a missing
-    /// octet is `ShortInput`, a length over 63 or a pointer `Form("compressed or bad label")`, a
-    /// name over 255 octets `Form("long domain name")`; a missing octet of a number is
-    /// `ShortInput`. The parser does not move then.
+    /// The first fault in field order. For a name, the first label with a fault decides:
+    /// `ShortInput` if an octet is missing, `Form("compressed or bad label")` at a length over 63
+    /// or a pointer, and `Form("long domain name")` at more than 255 octets. For a number, it is
+    /// `ShortInput` if an octet is missing. After an error the parser is unchanged.
     pub fn parse(parser: &mut Parser<'a>) -> Result<Self, ParseError>
         ensures { Reads soa (soa_values (λ name. name)) fault_of parser.old parser.new result }
     {
@@ -306,7 +306,7 @@ impl<N: ToName> CanonicalOrd for Soa<N> {
     }
 }
 
-/// The two names with their last dots, and the numbers, with single spaces between them.
+/// Writes the two names with their last dots, and the numbers, with single spaces between them.
 impl<N: ToName> fmt::Display for Soa<N> {
     ghost output = { soa_text N.labels };
 

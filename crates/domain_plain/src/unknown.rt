@@ -1,4 +1,4 @@
-//! Data of types that are not known, and their text (RFC 3597, section 5).
+//! Data of unknown types, and their presentation format (RFC 3597, section 5).
 ghost use Rattle.std.specs.Prelude.{◌≡◌, ◌≤◌, ◌↔◌, length, IsOk, IsNone, IfOk, Some};
 ghost use Rattle.std.specs.Ordering.{on, nat_cmp};
 ghost use Rattle.std.specs.Cmp.Lexicographic.{slice_cmp, on_texts};
@@ -25,7 +25,7 @@ use std::cmp::Ordering;
 use std::fmt;
 use std::marker::Model;
 
-/// Data of any type, as at most 65,535 octets (RFC 3597).
+/// Data of any type, with at most 65,535 octets (RFC 3597).
 #[derive(Drop)]
 pub struct UnknownRecordData<O: Octets> {
     rtype: Rtype,
@@ -44,11 +44,11 @@ impl<O: Octets> Model for UnknownRecordData<O> {
 }
 
 impl<O: Octets> UnknownRecordData<O> {
-    /// Data of a type.
+    /// Returns data of this type with these octets.
     ///
     /// # Errors
     ///
-    /// `LongRecordData` exactly where there are over 65,535 octets.
+    /// `LongRecordData` if and only if there are more than 65,535 octets.
     pub fn from_octets(rtype: Rtype, data: O) -> Result<Self, LongRecordData>
     where
         O: Drop,
@@ -68,7 +68,7 @@ impl<O: Octets> UnknownRecordData<O> {
         self.rtype
     }
 
-    /// Returns the octets of the data, of which there are at most 65,535.
+    /// Returns the octets of the data, at most 65,535.
     pub fn data(&self) -> &O
         ensures octets { result.now ≡ self.now.«data» }
         ensures fits { length (O.octets self.now.«data») ≤ 65535 }
@@ -99,11 +99,11 @@ impl<O: Octets> UnknownRecordData<O> {
     }
 }
 
-/// The token that generic text begins with.
+/// The first token of generic text.
 #[derive(Drop)]
 struct GenericMark;
 
-/// A backslash and `#`. Any other token is the error `Custom("illegal data")`.
+/// Parses a backslash and `#`. Any other token is the error `Custom("illegal data")`.
 impl FromToken for GenericMark {
     ghost spells = { IsMark };
 
@@ -134,16 +134,19 @@ impl<S: Scanner> ScanFields<S> for GenericMark {
 }
 
 impl<O: FromBuilder> UnknownRecordData<O> {
-    /// Returns the data of a type that the tokens spell in generic form: `\#`, the number of
-    /// octets, and the octets in Base 16, in any number of tokens.
+    /// Parses all tokens as data of a type in the generic form: `\#`, the number of octets, and the
+    /// octets in Base 16, in any number of tokens.
     ///
     /// # Errors
     ///
-    /// `EndOfEntry` where the mark or the number is missing; `Custom("illegal data")` for another
-    /// token in place of the mark; `Custom("decimal number expected")` for what is no number of at
-    /// most 65,535; `Custom("illegal data")` for what is no Base 16; `ShortBuf` and `OutOfMemory`
-    /// where the octets have no room or no memory; and `Custom("illegal data")` where they have,
-    /// but are another number of octets. After an error, a suffix of the tokens is left.
+    /// The first of these, after which a suffix of the tokens is left:
+    ///
+    /// - `EndOfEntry` if the mark or the number is missing.
+    /// - `Custom("illegal data")` if another token is in place of the mark.
+    /// - `Custom("decimal number expected")` if the next token is not a number of at most 65,535.
+    /// - `Custom("illegal data")` if the rest is not Base 16.
+    /// - `ShortBuf` and `OutOfMemory` if there is no room or no memory for the octets.
+    /// - `Custom("illegal data")` if the number of octets is another one.
     pub fn scan<S: Scanner<Octets = O>>(
         alloc: Global,
         rtype: Rtype,
@@ -165,11 +168,12 @@ impl<O: FromBuilder> UnknownRecordData<O> {
 }
 
 impl<'a> UnknownRecordData<&'a [u8]> {
-    /// Data of a type: all octets that are left.
+    /// Reads all octets that are left, as data of this type.
     ///
     /// # Errors
     ///
-    /// `Form("record data too long")` for over 65,535 octets. The parser does not move then.
+    /// `Form("record data too long")` if there are more than 65,535 octets. The parser is then
+    /// unchanged.
     pub fn parse(rtype: Rtype, parser: &mut Parser<'a>) -> Result<Self, ParseError>
         ensures read { Reads unknown (unknown_values (λ octets. octets.now)) fault_of parser.old
             parser.new result }
@@ -261,8 +265,8 @@ impl<O: Octets> CanonicalOrd for UnknownRecordData<O> {
     }
 }
 
-/// The generic form: `\#`, the number of octets, and the octets in Base 16 in upper case, if there
-/// are any.
+/// Writes the generic form: `\#`, the number of octets, and the octets in Base 16 in upper case, if
+/// there are any.
 impl<O: Octets> fmt::Display for UnknownRecordData<O> {
     ghost output = { λ d. Some (generic_text (O.octets d.«data»)) };
 
@@ -278,7 +282,7 @@ impl<O: Octets> fmt::Display for UnknownRecordData<O> {
     }
 }
 
-/// The type and the octets.
+/// Writes the type and the octets.
 impl<O: Octets> fmt::Debug for UnknownRecordData<O> {
     fn fmt<W: fmt::Write>(&self, f: &mut fmt::Formatter<W>) -> fmt::Result {
         f.debug_struct("UnknownRecordData")

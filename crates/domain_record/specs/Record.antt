@@ -1,4 +1,4 @@
--- Records: their canonical order and equality, their text and their copies.
+-- Records: their canonical order, their equality, their printed form and their copies.
 use Rattle.std.specs.{Prelude.{ℕ, Bool, nat_eq, [], ◌∷◌, ◌++◌, Option, Some, ◌≡◌}, declared.cmp.Ordering.Ordering, Ordering.{nat_cmp, on, then_cmp, eq_of_both}}
 use Rattle.std.specs.Cmp.{IsTotalOrder, on_total, then_total, nat_cmp_total, IsPartialEquivalence, IsEquivalence, on_per, and_per, on_equiv, and_equiv}
 use Rattle.std.specs.{Cmp.{nat_eq_equiv, partial_equiv_from_equiv}, Borrow.{Lends, Fml, RattleType, MutBor}, Fmt.{decimal, ◌++?◌}}
@@ -27,7 +27,7 @@ record_cmp_total labels rtype data_cmp total =
     (then_total (on_total (λ r. rtype r.«data») nat_cmp_total)
     (on_total (λ r. r.«data») total)))
 
--- the same owner, class and data; the TTL is not compared (RFC 2136, section 1.1)
+-- the records have the same owner, class and data; the TTL is not compared (RFC 2136, section 1.1)
 abbrev pub record_eq : {N D : Type 0} → (N → Name) → (D → D → Bool) → Record N D → Record N D → Bool
 record_eq labels data_eq =
     eq_of_both (eq_of_both (on (λ r. labels r.owner) same_name) (on (λ r. r.class) nat_eq))
@@ -45,14 +45,14 @@ record_eq_equiv labels data_eq laws =
     and_equiv (and_equiv (on_equiv (λ r. labels r.owner) same_name_equiv)
     (on_equiv (λ r. r.class) nat_eq_equiv)) (on_equiv (λ r. r.«data») laws)
 
--- ---- What a record ends as, where a `&mut` to its data is returned.
+-- ---- the record after a mutable borrow of its data ends
 
--- once the borrow r ends, the record has the data last written through r, and its other fields are
--- as they were
+-- once the borrow `r` ends, the record has the data last written through `r`, and its other fields
+-- are unchanged
 abbrev pub LendsData : (N D : RattleType) → MutBor (Record N.Denot D.Denot) → MutBor D.Denot → Fml
 LendsData N D s r = Lends (the_row N D) D s r (λ w. record s.now { «data» = w })
 
--- ---- Records as text.
+-- ---- the printed form of records
 
 -- a class with a space before and after it
 abbrev pub spaced_class : ℕ → Octets
@@ -67,9 +67,9 @@ record_text labels rtype data_text r =
     ++? Some (space ∷ []) ++? Some (class_text r.class) ++? Some (space ∷ [])
     ++? Some (type_text (rtype r.«data»)) ++? Some (space ∷ []) ++? data_text r.«data»
 
--- ---- Records that stand for others: copies, and records over other names and data.
+-- ---- copies of records, and records over other names and data
 
--- the owner and the data stand for the others, and the class and the TTL are the same
+-- the owner and the data are copies of the others, and the class and the TTL are the same
 pub record IsRecordClone {M E N D : Type 0} (is_owner_clone : M → N → Type 0)
     (is_data_clone : E → D → Type 0) (r : Record M E) (copy : Record N D) : Type 0 where
   pub owner : is_owner_clone r.owner copy.owner

@@ -1,10 +1,10 @@
-//! Two values that were made one after the other.
+//! Two values that are made one after the other.
 ghost use Rattle.std.specs.Prelude.{◌≡◌, ◌↔◌, ◌⊎◌, Ok, IfOk, IsErrOf};
 
 use domain_octets::AppendError;
 
-/// Both values. Returns `ShortBuf` where there was no room for one of them, and else `OutOfMemory`
-/// where one was not made.
+/// Returns both values. Returns `ShortBuf` if one of them has this error, or else `OutOfMemory` if
+/// one of them has that error.
 pub fn both<A: Drop, B: Drop>(
     first: Result<A, AppendError>,
     second: Result<B, AppendError>,

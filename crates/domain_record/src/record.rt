@@ -10,7 +10,8 @@ use std::alloc::Global;
 use std::cmp::Ordering;
 use std::fmt;
 
-/// A record: data of one class at an owner, and how long it may be cached (RFC 1035, section 3.2).
+/// A record: an owner, a class, the time in seconds for which it may be cached, and data (RFC 1035,
+/// section 3.2).
 #[derive(Debug, Drop)]
 pub struct Record<N, D> {
     owner: N,
@@ -46,7 +47,7 @@ impl<N, D> Record<N, D> {
         self.class
     }
 
-    /// How long the record may be cached.
+    /// Returns the time for which the record may be cached.
     pub fn ttl(&self) -> Ttl
         ensures { result ≡ self.now.ttl }
     {
@@ -72,7 +73,7 @@ impl<N, D> Record<N, D> {
         (self.owner, self.class, self.ttl, self.data)
     }
 
-    /// Gives the record another TTL.
+    /// Replaces the TTL.
     pub fn set_ttl(&mut self, ttl: Ttl)
         ensures { self.new ≡ record {
           owner = self.old.owner;
@@ -84,7 +85,7 @@ impl<N, D> Record<N, D> {
         self.ttl = ttl;
     }
 
-    /// Returns the data, for writing.
+    /// Returns a mutable borrow of the data.
     pub fn data_mut(&mut self) -> &mut D
         ensures* writes_back { sem 𝓛 (LendsData N.row D.row self.entry result) }
         ensures value { result.now ≡ self.old.«data» }
@@ -102,7 +103,7 @@ impl<N, D: RecordData> Record<N, D> {
     }
 }
 
-// By owner, class and data. The TTL is not compared.
+// Compares owner, class and data. The TTL is not compared.
 impl<N: ToName, D: PartialEq> PartialEq for Record<N, D> {
     ghost use Rattle.domain_record.specs.Record.{record_eq, record_eq_partial};
 
@@ -121,13 +122,13 @@ impl<N: ToName, D: Eq> Eq for Record<N, D> {
     ghost laws = { record_eq_equiv N.labels D.eq D.Eq.laws };
 }
 
-/// Data whose copies are of the same type and equal under the canonical order.
+/// Data whose copies have the same type and tie with them in the canonical order.
 pub trait CloneRecordData: RecordData + CanonicalOrd + TryClone {
-    /// A copy is of the same type.
+    /// A copy has the same type.
     ghost clone_rtype: { (value copy : Self) → Self.is_clone value copy
         → Self.rtype copy ≡ Self.rtype value };
 
-    /// A copy is equal under the canonical order.
+    /// A copy ties with its original in the canonical order.
     ghost clone_canonical: { (value copy : Self) → Self.is_clone value copy
         → Self.canonical_cmp value copy ≡ Equal };
 }
@@ -143,7 +144,7 @@ impl<N: TryClone + Drop, D: TryClone> Record<N, D> {
     }
 }
 
-// The owner and the data are copies, and the class and the TTL are the same.
+// Copies the owner and the data. The class and the TTL are the same.
 impl<N: TryClone + Drop, D: TryClone> TryClone for Record<N, D> {
     ghost is_clone = { IsRecordClone N.is_clone D.is_clone };
 
@@ -152,7 +153,7 @@ impl<N: TryClone + Drop, D: TryClone> TryClone for Record<N, D> {
     }
 }
 
-// The owner and the data are made of the others, and the class and the TTL are the same.
+// Converts the owner and the data. The class and the TTL are the same.
 impl<M, E, N: OctetsFrom<M> + Drop, D: OctetsFrom<E> + Drop> OctetsFrom<Record<M, E>>
     for Record<N, D> {
     ghost is_same = { IsRecordClone N.is_same D.is_same };
@@ -170,7 +171,7 @@ impl<M, E, N: OctetsFrom<M> + Drop, D: OctetsFrom<E> + Drop> OctetsFrom<Record<M
     }
 }
 
-// By class, owner, type and data. The TTL is not compared.
+// Compares class, owner, type and data, in this order. The TTL is not compared.
 impl<N: ToName, D: RecordData + CanonicalOrd> CanonicalOrd for Record<N, D> {
     ghost use Rattle.domain_record.specs.Record.{record_cmp, record_cmp_total};
 
@@ -187,7 +188,7 @@ impl<N: ToName, D: RecordData + CanonicalOrd> CanonicalOrd for Record<N, D> {
     }
 }
 
-/// A class with a space before and after it. That of nearly all records is written in one piece.
+/// A class with a space before and after it. The most common class is written in one piece.
 #[derive(Drop)]
 struct Spaced(Class);
 
@@ -204,8 +205,8 @@ impl fmt::Display for Spaced {
     }
 }
 
-/// The owner with its last dot, the TTL, the class, the type and the data, with single spaces
-/// between them.
+/// Writes the owner with its last dot, the TTL, the class, the type and the data, with single
+/// spaces between them.
 impl<N: ToName, D: RecordData + fmt::Display> fmt::Display for Record<N, D> {
     ghost use Rattle.domain_record.specs.Record.{record_text};
 

@@ -1,4 +1,4 @@
-//! Data of records.
+//! The traits of record data.
 ghost use Rattle.std.specs.Prelude.{◌≡◌, ◌≤◌, ◌↔◌, ◌-◌, ℕ, Option, Some, SomeIff, length, IsTrue, IfOk, IfErr};
 ghost use Rattle.std.specs.{Prelude.{OnErr, IfNone, MatchOption, codes}, Ordering.nat_cmp};
 ghost use Rattle.std.specs.Cmp.Lexicographic.{slice_cmp};
@@ -13,7 +13,7 @@ use std::cmp::Ordering;
 use std::error::Error;
 use std::fmt;
 
-/// The data of a record would have over 65,535 octets, more than a record can hold (RFC 1035,
+/// The error for record data of more than 65,535 octets, which a record cannot hold (RFC 1035,
 /// section 3.2.1).
 #[derive(Clone, Copy, Debug, PartialEq, Eq)]
 pub struct LongRecordData;
@@ -28,9 +28,9 @@ impl fmt::Display for LongRecordData {
 
 impl Error for LongRecordData {}
 
-/// The data of a record.
+/// Record data.
 pub trait RecordData {
-    /// The number of the data's type.
+    /// The number of the type of the data.
     ghost rtype: { Self → ℕ };
 
     /// Returns the type of the data.
@@ -38,36 +38,36 @@ pub trait RecordData {
         ensures { result ≡ rtype self.now };
 }
 
-/// The data of a record as the chains of its zone see it: its type and, of an SOA, the MINIMUM.
+/// Record data as the chains of the zone see them: their type and, for an SOA, the MINIMUM field.
 pub trait ZoneData: RecordData {
-    /// The MINIMUM field of the data of an SOA, in seconds (RFC 1035, section 3.3.13), or `None`
-    /// for data that have no such field.
+    /// The MINIMUM field of SOA data, in seconds (RFC 1035, section 3.3.13), or `None` for data
+    /// without this field.
     ghost minimum: { Self → Option ℕ };
 
-    /// How long a negative answer from a zone that starts with these data may be cached (RFC 2308,
-    /// section 4): the MINIMUM field of an SOA, or `None` for data that have no such field.
+    /// Returns the MINIMUM field of SOA data, or `None` for data without this field. It is the time
+    /// for which a negative answer from a zone with this SOA may be cached (RFC 2308, section 4).
     fn soa_minimum(&self) -> Option<Ttl>
         ensures { result ≡ minimum self.now };
 }
 
 /// Data that can be read from the octets of a record (RFC 1035, section 3.2.1).
 pub trait ParseRecordData<'a>: RecordData {
-    /// The data is that of records of this type.
+    /// Whether records of this type have such data.
     ghost is_read: { ℕ → Type 0 };
 
-    /// The kinds of its fields, in the order of the wire.
+    /// The kinds of the fields, in the order of the wire.
     ghost layout: { Layout };
 
-    /// Their values.
+    /// The values of the fields.
     ghost values: { Self → Values layout };
 
-    /// Returns the data that the octets of a record of this type begin with; None, and nothing is
-    /// read, for every other type. Takes no memory.
+    /// Reads data from the octets of a record of this type. Returns None and reads nothing for any
+    /// other type. Does not allocate.
     ///
     /// # Errors
     ///
-    /// The first fault in field order, as `parse` of the data's type says. The parser does not move
-    /// then.
+    /// The first fault in field order, as for `parse` of the type of the data. After an error the
+    /// parser is unchanged.
     fn parse_rdata(rtype: Rtype, parser: &mut Parser<'a>) -> Result<Option<Self>, ParseError>
     where
         Self: Sized,
@@ -84,36 +84,36 @@ pub trait ParseRecordData<'a>: RecordData {
 /// Data that can be written in wire form (RFC 1035, section 3.2.1) and in canonical form (RFC 4034,
 /// section 6.2).
 pub trait ComposeRecordData: RecordData {
-    /// The octets of the data.
+    /// The octets of the wire form.
     ghost octets: { Self → Octets };
 
-    /// The octets of their canonical form.
+    /// The octets of the canonical form.
     ghost canonical: { Self → Octets };
 
-    /// Returns how many octets are left of so many after the data, or `None` if they don't fit.
+    /// Returns how many of `limit` octets are left after the data, or `None` if the data do not
+    /// fit.
     fn room_after(&self, limit: usize) -> Option<usize>
         ensures { SomeIff result (length (octets self.now) ≤ limit)
             (limit - length (octets self.now)) };
 
-    /// Appends the octets of a form. A refusal leaves what stood, and a beginning of the octets.
+    /// Appends the octets in this form. After an error a first part of the octets may be appended.
     fn compose_in<B: OctetsBuilder>(&self, form: Form, target: &mut B) -> Result<(), AppendError>
         ensures { Appends B.limit result (B.octets target.old) (B.octets target.new)
             (in_form form (octets self.now) (canonical self.now)) };
 
-    /// Returns the lexicographic order of the canonical octets and of other octets. Takes no
-    /// memory.
+    /// Returns the lexicographic order of the canonical octets and other octets. Does not allocate.
     fn canonical_cmp_octets(&self, other: &[u8]) -> Ordering
         ensures { result ≡ slice_cmp nat_cmp (canonical self.now) other.now };
 
-    /// Returns whether the data have at most 65,535 octets, as many as a record can hold.
+    /// Returns whether the data have at most 65,535 octets, the most that a record can hold.
     fn fits_rdlen(&self) -> bool
         ensures { IsTrue result ↔ (length (octets self.now) ≤ 65535) }
     {
         self.room_after(MAX_RDLEN).is_some()
     }
 
-    /// Returns how many octets the data have. Names are never compressed, so `compress` changes
-    /// nothing.
+    /// Returns the number of octets of the data. Names are never compressed, so `compress` has no
+    /// effect.
     fn rdlen(&self, _compress: bool) -> Option<u16>
         requires { length (octets self.now) ≤ 65535 }
         ensures { result ≡ Some (length (octets self.now)) }
@@ -122,7 +122,7 @@ pub trait ComposeRecordData: RecordData {
         Some((MAX_RDLEN - left) as u16)
     }
 
-    /// Appends the octets. A refusal leaves what stood, and a beginning of the octets.
+    /// Appends the wire form. After an error a first part of the octets may be appended.
     fn compose_rdata<B: OctetsBuilder>(&self, target: &mut B) -> Result<(), AppendError>
         ensures { Appends B.limit result (B.octets target.old) (B.octets target.new)
             (octets self.now) }
@@ -130,8 +130,7 @@ pub trait ComposeRecordData: RecordData {
         self.compose_in(Form::Wire, target)
     }
 
-    /// Appends the octets of the canonical form. A refusal leaves what stood, and a beginning of
-    /// the octets.
+    /// Appends the canonical form. After an error a first part of the octets may be appended.
     fn compose_canonical_rdata<B: OctetsBuilder>(&self, target: &mut B) -> Result<(), AppendError>
         ensures { Appends B.limit result (B.octets target.old) (B.octets target.new)
             (canonical self.now) }

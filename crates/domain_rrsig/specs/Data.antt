@@ -1,4 +1,4 @@
--- The data of signatures: times, the order of the wire, and text.
+-- RRSIG data: times, the order of the wire, and the presentation format.
 use Rattle.std.specs.Prelude.{◌≡◌, ◌≢◌, ℕ, ◌+◌, ◌%◌, ◌<◌, ◌≤◌, ◌^◌, length, codes, Result, MatchResult, Option, List, [], ◌∷◌, ◌++◌}
 use Rattle.std.specs.{Str.Parse.without_leading_plus, Fmt.decimal, List.join_with_byte}
 use Rattle.domain_octets.specs.{Octets.Octets, Text.{space, PieceText, token, comment, opens, closes}}
@@ -11,25 +11,25 @@ use Rattle.base64.specs.{GeneralPurpose.encode_of, Engines.standard}
 
 -- ---- times of signatures: seconds since 1970 modulo 2^32 (RFC 4034, section 3.1.5)
 
--- a time that the stamp stands for, less than half of the circle from the reference, or half of it
--- before
+-- a time with this stamp that is less than 2^31 seconds from the reference, or exactly 2^31 seconds
+-- before it
 pub record IsNear (stamp reference time : ℕ) : Type 0 where
   pub congruent : time % 2 ^ 32 ≡ stamp
   pub not_before : reference ≤ time + 2 ^ 31
   pub not_after : time < reference + 2 ^ 31
 
--- that time, or the stamp itself where that would be before 1970
+-- the time that is near the reference, or the stamp itself if that time would be before 1970
 pub data TimeAt (stamp reference : ℕ) : ℕ → Type 0 where
   nearest : (time : ℕ) → IsNear stamp reference time → TimeAt stamp reference time
   before_1970 : ((time : ℕ) → IsNear stamp reference time → ⊥) → TimeAt stamp reference stamp
 
--- decimal digits, with one plus sign before them or none; a text of 14 characters would be a date,
--- which is not read
+-- decimal digits, with at most one plus sign before them; a text of 14 characters would be a date,
+-- which is not accepted
 pub record TimeText (text : Octets) (stamp : ℕ) : Type 0 where
   pub number : IsNumber 32 (without_leading_plus text) stamp
   pub no_date : length text ≢ 14
 
--- a token has at most 10 characters
+-- decimal digits, with at most one plus sign before them, at most 10 characters
 pub record TimeToken (text : Token) (stamp : ℕ) : Type 0 where
   pub number : IsNumber 32 (without_leading_plus text) stamp
   pub brief : length text ≤ 10
@@ -38,14 +38,15 @@ pub record IsNoTime (fault : ScanFault) (text : Token) : Type 0 where
   pub said : fault ≡ illegal (codes "illegal signature time")
   pub none : (stamp : ℕ) → TimeToken text stamp → ⊥
 
--- the stamp of a text, or a refusal of a text that has none
+-- the result of reading a text as a time: the stamp, or an error for a text that has none
 abbrev pub ReadsTime : {E : Type 0} → Octets → Result ℕ E → Type 0
 ReadsTime text result =
     MatchResult result (TimeText text) (λ e. (stamp : ℕ) → TimeText text stamp → ⊥)
 
--- ---- the data of signatures, in the order of the wire
+-- ---- RRSIG data, in the order of the wire
 
--- what is signed of a signature's data (RFC 4034, section 3.1.8.1): all fields but the signature
+-- the part of RRSIG data that is signed (RFC 4034, section 3.1.8.1): all fields except the
+-- signature
 pub record ProtoRrsigData : Type 0 where
   pub type_covered : ℕ
   pub algorithm : ℕ
@@ -69,7 +70,7 @@ proto_rrsig_data type_covered algorithm labels original_ttl expiration inception
       signer_name = signer_name;
     }
 
--- type covered, algorithm, labels, original TTL, expiration, inception and key tag
+-- the fields type covered, algorithm, labels, original TTL, expiration, inception and key tag
 abbrev pub rrsig_numbers : Layout
 rrsig_numbers = (one short ▸ one octet ▸ one octet) ▸ (one long ▸ one long ▸ one long) ▸ one short
 
@@ -85,14 +86,14 @@ of_numbers numbers signer_name =
     proto_rrsig_data numbers.0.0 numbers.0.1.0 numbers.0.1.1 numbers.1.0.0 numbers.1.0.1.0
     numbers.1.0.1.1 numbers.1.1 signer_name
 
--- those numbers and the name of the signer
+-- these numbers and the name of the signer
 abbrev pub proto_rrsig : Layout
 proto_rrsig = rrsig_numbers ▸ one name
 
 abbrev pub proto_rrsig_values : ProtoRrsigData → Values proto_rrsig
 proto_rrsig_values d = (rrsig_numbers_values d, d.signer_name)
 
--- a signature
+-- RRSIG data: the fields, and the signature
 pub record RrsigData : Type 0 where
   pub fields : ProtoRrsigData
   pub signature : Octets
@@ -100,8 +101,7 @@ pub record RrsigData : Type 0 where
 abbrev pub rrsig_data : ProtoRrsigData → Octets → RrsigData
 rrsig_data fields signature = record { fields = fields; signature = signature }
 
--- those fields, and the signature, where the data have at most 65,535 octets (RFC 4034,
--- section 3.1)
+-- these fields and the signature, for data of at most 65,535 octets (RFC 4034, section 3.1)
 abbrev pub rrsig : Layout
 rrsig = one (at_most 65535) ▸ proto_rrsig ▸ one rest
 
@@ -111,19 +111,18 @@ rrsig_values d = (tt, (proto_rrsig_values d.fields, d.signature))
 abbrev pub rrsig_octets : RrsigData → Octets
 rrsig_octets d = octets_of rrsig (rrsig_values d)
 
--- the octets of the canonical form, in which the name of the signer is lowered (RFC 4034,
--- section 6.2)
+-- the octets in canonical form, with the name of the signer lowered (RFC 4034, section 6.2)
 abbrev pub rrsig_canonical : RrsigData → Octets
 rrsig_canonical d = canonical_of rrsig (rrsig_values d)
 
--- the same but for the case of letters in the name of the signer
+-- the data are the same, except for the case of letters in the name of the signer
 pub record IsSameRrsig (a b : RrsigData) : Type 0 where
   pub numbers : rrsig_numbers_values a.fields ≡ rrsig_numbers_values b.fields
   pub signer : IsSame a.fields.signer_name b.fields.signer_name
   pub signature : a.signature ≡ b.signature
 
--- ---- signatures as tokens (RFC 4034, section 3.2): fields, and then octets, which all tokens that are
--- left spell together
+-- ---- signatures as tokens (RFC 4034, section 3.2): fields, and then octets that all remaining
+-- tokens spell together
 
 -- algorithm, labels and the TTL
 abbrev pub lengths : Layout
@@ -133,7 +132,7 @@ lengths = one octet ▸ one octet ▸ one long
 abbrev pub signer : Layout
 signer = one short ▸ one name
 
--- all fields but the signature, in the order of their tokens
+-- all fields except the signature, in the order of their tokens
 abbrev pub RrsigFields : Type 0
 RrsigFields = ℕ × (Values lengths × (ℕ × (ℕ × Values signer)))
 
@@ -158,7 +157,7 @@ RefusesRrsigFields limit =
     (RefusesBoth (OneToken TimeToken) (RefusesToken IsNoTime)
     (RefusesBoth (OneToken TimeToken) (RefusesToken IsNoTime) (Refuses limit signer))))
 
--- those fields, and the signature in Base 64
+-- these fields, and the signature in Base 64
 pub record RrsigText (tokens : Tokens) (d : RrsigData) : Type 0 where
   pub spelled : Spells rrsig_fields_text Base64 tokens (rrsig_fields d.fields) d.signature
   pub fits : length (rrsig_octets d) ≤ 65535
@@ -169,23 +168,24 @@ RefusesRrsig limit =
     (λ fields octets. 65535 < 18 + length (wire_of fields.1.1.1.1.1) + length octets)
     (codes "record data too long") Base64
 
--- ---- signatures as text (RFC 4034, section 3.2), and in the pieces of a zone file
+-- ---- signatures in presentation format (RFC 4034, section 3.2), and as pieces of zone file text
 
--- a name with its last dot
+-- the printed form of a name, with its last dot
 abbrev pub dotted : Name → Octets
 dotted labels = name_text labels ++ codes "."
 
--- all fields but the signature
+-- the printed forms of all fields except the signature
 abbrev pub rrsig_words : ProtoRrsigData → Tokens
 rrsig_words d =
     type_text d.type_covered ∷ decimal d.algorithm ∷ decimal d.labels ∷ decimal d.original_ttl
     ∷ decimal d.expiration ∷ decimal d.inception ∷ decimal d.key_tag ∷ dotted d.signer_name ∷ []
 
--- all fields with single spaces
+-- the printed forms of all fields, with single spaces
 abbrev pub rrsig_text : RrsigData → Octets
 rrsig_text d = join_with_byte space (rrsig_words d.fields ++ encode_of standard d.signature ∷ [])
 
--- comments name what is not evident
+-- the pieces of a signature, with comments on all fields except type covered, algorithm and
+-- signature
 abbrev pub rrsig_pieces : RrsigData → List PieceText
 rrsig_pieces d =
     opens ∷ token (type_text d.fields.type_covered) ∷ token (decimal d.fields.algorithm)

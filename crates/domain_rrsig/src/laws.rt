@@ -1,5 +1,5 @@
-//! What holds of the octets and the texts of signatures (RFC 4034, section 3).
-//! A caller calls the law in its body.
+//! Laws of the octets and the printed forms of signatures (RFC 4034, section 3). To use a law, call
+//! it in the body of your function.
 ghost use Rattle.std.specs.{Prelude.{◌<◌, ◌^◌, ℕ, Option}, Fmt.decimal};
 ghost use Rattle.domain_octets.specs.Text.{words_of};
 ghost use Rattle.domain_names.specs.{Text.IsOfTokens, Name.Tokens};
@@ -11,8 +11,8 @@ use crate::Rrsig;
 use domain_base::ToName;
 use domain_octets::Octets;
 
-/// The octets of a signature's data are read as these fields, in no other way, and nothing is left.
-/// The signer's name comes back as it is spelled.
+/// The octets of RRSIG data are read as these fields, in no other way, and nothing is left. The
+/// signer's name keeps its spelling.
 #[tactic(auto, using(crate::proofs::DataLemmas::rrsig_back))]
 pub fn rrsig_parses_back<O: Octets, N: ToName>(value: &Rrsig<O, N>)
     ensures { ParsesBack rrsig (rrsig_values value.now) }
@@ -20,7 +20,7 @@ pub fn rrsig_parses_back<O: Octets, N: ToName>(value: &Rrsig<O, N>)
     let _fields = value.fields();
 }
 
-/// The words of what a signature's data are written as spell these data.
+/// The words of printed RRSIG data spell these data.
 #[tactic(auto, using(crate::proofs::DataLemmas::rrsig_text_back))]
 pub fn rrsig_reads_back<O: Octets, N: ToName>(value: &Rrsig<O, N>)
     ensures { RrsigText (words_of (rrsig_text value.now)) value.now }
@@ -28,14 +28,14 @@ pub fn rrsig_reads_back<O: Octets, N: ToName>(value: &Rrsig<O, N>)
     let _fields = value.fields();
 }
 
-/// What a time is written as is read back, as a token and by itself.
+/// The printed form of a time parses to the same time, as a token and as a text.
 pub fn times_are_read_back()
     ensures token { (stamp : ℕ) → stamp < 2 ^ 32 → TimeToken (decimal stamp) stamp }
     ensures text { (stamp : ℕ) → stamp < 2 ^ 32 → TimeText (decimal stamp) stamp }
 {}
 
-/// Tokens spell the data of one signature at most, and of none where they are refused, but for want
-/// of room or of memory, which is for one reason, over builders with any limit.
+/// Tokens spell the data of at most one signature. Tokens with a fault spell none, and have one
+/// fault, for builders with any limit. This excludes lack of room and of memory.
 pub fn signature_texts_are_exact()
     ensures { (limit : Option ℕ) → IsExactEntry (IsOfTokens limit) RrsigText
         (RefusesRrsig limit) }

@@ -1,13 +1,13 @@
 //! Signatures of records.
 //!
-//! - [`Rrsig`] is a signature (RFC 4034, section 3), and [`ProtoRrsig`] its fields before it is
-//!   made.
-//! - [`Timestamp`] is when a signature begins or ends to hold.
+//! - [`Rrsig`] is a signature (RFC 4034, section 3). [`ProtoRrsig`] is its fields before there is a
+//!   signature.
+//! - [`Timestamp`] is the time at which the validity of a signature begins or ends.
 //!
-//! The crates above may rely on this: data has at most 65,535 octets, by invariant, and is numbers,
-//! labels and octets in clauses, whatever holds them. Its octets, what reads them, its tokens and
-//! its pieces are grammars (`specs/Data.antt`); both orders are the lexicographic one of the
-//! canonical octets, equality and `Hash` agree with them, and none takes memory.
+//! Other crates may rely on this. Data have at most 65,535 octets, by an invariant. Contracts see
+//! numbers, labels and octets, whatever type holds them. Octets, tokens and pieces are read and
+//! written by grammars (`specs/Data.antt`). Both orders are the lexicographic order of the
+//! canonical octets, and equality and `Hash` agree with them. None of these allocates.
 #![tactic(auto)]
 
 pub mod laws;

@@ -1,4 +1,4 @@
-//! What is signed of a signature's data (RFC 4034, section 3.1.8.1).
+//! The part of RRSIG data that is signed (RFC 4034, section 3.1.8.1).
 ghost use Rattle.std.specs.Prelude.{◌≡◌, ◌≤◌, ◌↔◌, ◌+◌, IsOk, IfOk, length};
 ghost use Rattle.domain_fields.specs.Layout.{Fits, octets_of, canonical_of, Appends};
 ghost use Rattle.domain_rrsig.specs.Data.{proto_rrsig, proto_rrsig_values, proto_rrsig_data, rrsig_octets, rrsig_data, rrsig_numbers_values, of_numbers};
@@ -11,8 +11,8 @@ use domain_octets::{AppendError, Octets, OctetsBuilder, OutOfMemory, TryClone};
 use domain_record::LongRecordData;
 use std::marker::Model;
 
-/// The fields of a signature's data before there is a signature (RFC 4034, section 3.1). A signer
-/// signs their octets, followed by the records.
+/// The fields of RRSIG data before there is a signature (RFC 4034, section 3.1). A signer signs
+/// their octets, followed by the records.
 #[derive(Drop)]
 pub struct ProtoRrsig<N: ToName> {
     pub(crate) type_covered: Rtype,
@@ -34,16 +34,16 @@ impl<N: ToName> Model for ProtoRrsig<N> {
         d.expiration d.inception d.key_tag (N.labels d.signer_name) };
 }
 
-/// A number of 16 bits and two of 8 bits, three of 32 bits, and one of 16 bits.
+/// The numbers of RRSIG data: of 16, 8 and 8 bits, three of 32 bits, and one of 16 bits.
 pub type Numbers = ((u16, (u8, u8)), ((u32, (u32, u32)), u16));
 
-/// The numbers, and a name.
+/// The numbers and the signer's name.
 pub type ProtoFields<'a> = (Numbers, ParsedName<'a>);
 
 impl<N: ToName> ProtoRrsig<N> {
-    /// Returns the fields: the type of the records that are signed, the algorithm of the key, how
-    /// many labels the owner has without a leading asterisk and the root, the TTL of the records,
-    /// when the signature ends to hold and when it begins, the tag of the key and its owner.
+    /// Returns these fields: the type of the signed records, the algorithm of the key, the number
+    /// of labels of their owner without a leading asterisk and the root, the TTL of the records,
+    /// the end and the beginning of the signature's validity, the tag of the key, and its owner.
     pub fn new(
         type_covered: Rtype,
         algorithm: SecurityAlgorithm,
@@ -69,11 +69,11 @@ impl<N: ToName> ProtoRrsig<N> {
         }
     }
 
-    /// Returns the data with a signature.
+    /// Returns the data with this signature.
     ///
     /// # Errors
     ///
-    /// `LongRecordData` exactly where the data would have over 65,535 octets.
+    /// `LongRecordData` if and only if the data would have more than 65,535 octets.
     pub fn into_rrsig<O: Octets + Drop>(self, signature: O) -> Result<Rrsig<O, N>, LongRecordData>
     where
         N: Drop,
@@ -90,8 +90,8 @@ impl<N: ToName> ProtoRrsig<N> {
         })
     }
 
-    /// Appends the octets, with the name as it is spelled. A refusal leaves what stood, and a
-    /// beginning of the octets.
+    /// Appends the wire form, with the name as it is spelled. After an error a first part of the
+    /// octets may be appended.
     pub fn compose<B: OctetsBuilder>(&self, target: &mut B) -> Result<(), AppendError>
         ensures { Appends B.limit result (B.octets target.old) (B.octets target.new)
             (octets_of proto_rrsig (proto_rrsig_values self.now)) }
@@ -99,8 +99,8 @@ impl<N: ToName> ProtoRrsig<N> {
         self.fields().put(Form::Wire, target)
     }
 
-    /// Appends the octets of the canonical form, in which the name is lowered (RFC 4034,
-    /// section 6.2). A refusal leaves what stood, and a beginning of the octets.
+    /// Appends the canonical form, with the name lowered (RFC 4034, section 6.2). After an error a
+    /// first part of the octets may be appended.
     pub fn compose_canonical<B: OctetsBuilder>(&self, target: &mut B) -> Result<(), AppendError>
         ensures { Appends B.limit result (B.octets target.old) (B.octets target.new)
             (canonical_of proto_rrsig (proto_rrsig_values self.now)) }
@@ -108,7 +108,7 @@ impl<N: ToName> ProtoRrsig<N> {
         self.fields().put(Form::Canonical, target)
     }
 
-    /// Fields of these numbers and this name.
+    /// Returns the fields with these numbers and this name.
     pub(crate) fn of_parts(numbers: Numbers, signer_name: N) -> Self
         ensures { result ≡ of_numbers numbers (N.labels signer_name) }
     {

@@ -38,7 +38,7 @@ use std::fmt;
 use std::hash::{Hash, Hasher};
 use std::marker::Model;
 
-/// A signature of the records of one owner, class and type (RFC 4034, section 3), as data of at
+/// A signature of the records of one owner, class and type (RFC 4034, section 3). The data have at
 /// most 65,535 octets.
 #[derive(Drop)]
 pub struct Rrsig<O: Octets, N: ToName> {
@@ -58,10 +58,10 @@ impl<O: Octets, N: ToName> Model for Rrsig<O, N> {
         ≤ 65535 };
 }
 
-/// At most 65,535 octets: the fields but the signature, and all octets that are left.
+/// The fields except the signature, and all octets after them. Together at most 65,535 octets.
 type RrsigFields<'a> = (AtMost<MAX_RDLEN>, (ProtoFields<'a>, Rest<'a>));
 
-/// Returns whether fields and a signature have at most 65,535 octets.
+/// Returns whether these fields and this signature have at most 65,535 octets.
 pub(crate) fn fits<O: Octets, N: ToName>(fields: &ProtoRrsig<N>, signature: &O) -> bool
     ensures { IsTrue result ↔ (length
         (rrsig_octets (rrsig_data fields.now (O.octets signature.now))) ≤ 65535) }
@@ -71,12 +71,12 @@ pub(crate) fn fits<O: Octets, N: ToName>(fields: &ProtoRrsig<N>, signature: &O) 
 }
 
 impl<O: Octets, N: ToName> Rrsig<O, N> {
-    /// Returns the data of these fields, in the order of the wire (RFC 4034, section 3.1). Takes no
-    /// memory.
+    /// Returns the data with these fields, in the order of the wire (RFC 4034, section 3.1). Does
+    /// not allocate.
     ///
     /// # Errors
     ///
-    /// `LongRecordData` exactly where the data would have over 65,535 octets.
+    /// `LongRecordData` if and only if the data would have more than 65,535 octets.
     pub fn new(
         type_covered: Rtype,
         algorithm: SecurityAlgorithm,
@@ -111,7 +111,7 @@ impl<O: Octets, N: ToName> Rrsig<O, N> {
         fields.into_rrsig(signature)
     }
 
-    /// Returns the data of these fields, which have at most 65,535 octets. Takes no memory.
+    /// Returns the data with these fields, which have at most 65,535 octets. Does not allocate.
     pub fn new_unchecked(
         type_covered: Rtype,
         algorithm: SecurityAlgorithm,
@@ -143,7 +143,7 @@ impl<O: Octets, N: ToName> Rrsig<O, N> {
         Rrsig { fields, signature }
     }
 
-    /// Returns the type of the records that are signed (RFC 4034, section 3.1.1).
+    /// Returns the type of the signed records (RFC 4034, section 3.1.1).
     pub fn type_covered(&self) -> Rtype
         ensures { result ≡ self.now.fields.type_covered }
     {
@@ -157,8 +157,8 @@ impl<O: Octets, N: ToName> Rrsig<O, N> {
         self.fields.algorithm
     }
 
-    /// Returns how many labels the owner of the records has, without a leading asterisk and the
-    /// root (RFC 4034, section 3.1.3).
+    /// Returns the number of labels of the records' owner, without a leading asterisk and the root
+    /// (RFC 4034, section 3.1.3).
     pub fn labels(&self) -> u8
         ensures { result ≡ self.now.fields.labels }
     {
@@ -172,14 +172,14 @@ impl<O: Octets, N: ToName> Rrsig<O, N> {
         self.fields.original_ttl
     }
 
-    /// When the signature ends to hold (RFC 4034, section 3.1.5).
+    /// Returns the end of the signature's validity (RFC 4034, section 3.1.5).
     pub fn expiration(&self) -> Timestamp
         ensures { result ≡ self.now.fields.expiration }
     {
         self.fields.expiration
     }
 
-    /// When the signature begins to hold (RFC 4034, section 3.1.5).
+    /// Returns the beginning of the signature's validity (RFC 4034, section 3.1.5).
     pub fn inception(&self) -> Timestamp
         ensures { result ≡ self.now.fields.inception }
     {
@@ -207,7 +207,7 @@ impl<O: Octets, N: ToName> Rrsig<O, N> {
         &self.signature
     }
 
-    /// Returns whether the data with this signature in place of its own have at most 65,535 octets.
+    /// Returns whether the data would have at most 65,535 octets with this signature.
     pub fn fits_signature(&self, signature: &O) -> bool
         ensures { IsTrue result ↔ (length
             (rrsig_octets (rrsig_data self.now.fields (O.octets signature.now))) ≤ 65535) }
@@ -215,7 +215,7 @@ impl<O: Octets, N: ToName> Rrsig<O, N> {
         fits(&self.fields, signature)
     }
 
-    /// Replaces the signature by one with which the data have at most 65,535 octets.
+    /// Replaces the signature. The data must have at most 65,535 octets with the new one.
     pub fn set_signature(&mut self, signature: O)
     where
         O: Drop,
@@ -225,7 +225,7 @@ impl<O: Octets, N: ToName> Rrsig<O, N> {
         self.signature = signature;
     }
 
-    /// Returns the same data over another name and other octets, which spell those of this.
+    /// Returns the same data over a name with the same labels and an equal list of octets.
     pub fn with_octets<P: Octets, M: ToName>(&self, signer_name: M, signature: P) -> Rrsig<P, M>
         requires signer { M.labels signer_name ≡ self.now.fields.signer_name }
         requires signature { P.octets signature ≡ self.now.signature }
@@ -250,15 +250,15 @@ impl<O: Octets, N: ToName> Rrsig<O, N> {
 }
 
 impl<'a> Rrsig<&'a [u8], ParsedName<'a>> {
-    /// Returns all octets that are left, as data. Takes no memory.
+    /// Reads all octets that are left as data. Does not allocate.
     ///
     /// # Errors
     ///
-    /// `Form("record data too long")` for over 65,535 octets, then the first fault in field order:
-    /// a missing octet of a number is `ShortInput`; of the name, at the first label that is at
-    /// fault, a missing octet is `ShortInput`, a length over 63 or a pointer `Form("compressed or
-    /// bad label")`, a name over 255 octets `Form("long domain name")`. The parser does not move
-    /// then.
+    /// `Form("record data too long")` if there are more than 65,535 octets, or else the first fault
+    /// in field order. For a number, it is `ShortInput` if an octet is missing. For the name, the
+    /// first label with a fault decides: `ShortInput` if an octet is missing, `Form("compressed or
+    /// bad label")` at a length over 63 or a pointer, and `Form("long domain name")` at more than
+    /// 255 octets. After an error the parser is unchanged.
     pub fn parse(parser: &mut Parser<'a>) -> Result<Self, ParseError>
         ensures { Reads rrsig rrsig_values fault_of parser.old parser.new result }
     {
@@ -310,8 +310,8 @@ impl<O: Octets, N: ToName> ComposeRecordData for Rrsig<O, N> {
 }
 
 impl<O: Octets, N: ToName> Rrsig<O, N> {
-    /// Returns whether a signature over other octets and names is the same. The case of the
-    /// signer's name is passed over.
+    /// Returns whether a signature over another name and other octets is equal. Ignores the case of
+    /// the signer's name.
     pub fn eq_to<P: Octets, M: ToName>(&self, other: &Rrsig<P, M>) -> bool
         ensures value { result ≡ bytes_eq (rrsig_canonical self.now) (rrsig_canonical other.now) }
         ensures same { IsTrue result ↔ IsSameRrsig self.now other.now }
@@ -319,9 +319,9 @@ impl<O: Octets, N: ToName> Rrsig<O, N> {
         domain_fields::canonical_eq(&self.fields(), &other.fields())
     }
 
-    /// Returns the order to a signature over other octets and names: by the fields in the order of
-    /// the wire, times as plain numbers, the signer's name by its lowered octets. This is the order
-    /// of the canonical octets.
+    /// Compares with a signature over another name and other octets, field by field in the order of
+    /// the wire. Times compare as plain numbers, and the signer's name by its lowered octets. This
+    /// is the order of the canonical octets.
     pub fn cmp_to<P: Octets, M: ToName>(&self, other: &Rrsig<P, M>) -> Ordering
         ensures { result ≡ slice_cmp nat_cmp (rrsig_canonical self.now)
             (rrsig_canonical other.now) }
@@ -329,7 +329,8 @@ impl<O: Octets, N: ToName> Rrsig<O, N> {
         self.fields().order(&other.fields())
     }
 
-    /// Returns the canonical order to a signature over other octets and names, which is `cmp_to`.
+    /// Compares with a signature over another name and other octets in canonical order, which is
+    /// that of `cmp_to`.
     pub fn canonical_cmp_to<P: Octets, M: ToName>(&self, other: &Rrsig<P, M>) -> Ordering
         ensures { result ≡ slice_cmp nat_cmp (rrsig_canonical self.now)
             (rrsig_canonical other.now) }
@@ -453,13 +454,13 @@ impl<S: Octets + Drop, N: ToName + Drop, O: CopyOctets + Drop> OctetsFrom<Rrsig<
     }
 }
 
-/// All fields but the signature, in the order of their tokens.
+/// All fields except the signature, in the order of their tokens.
 type ScannedFields<N> = (
     Rtype,
     ((u8, (u8, u32)), (Timestamp, (Timestamp, (u16, Scanned<N>)))),
 );
 
-/// Returns all fields but the signature, one token each.
+/// Parses all fields except the signature, one token for each.
 fn scan_fields<S: Scanner>(alloc: Global, scanner: &mut S) -> Result<ProtoRrsig<S::Name>, ScanError>
     ensures { ReadsTokens rrsig_fields_text rrsig_fields
         (RefusesRrsigFields S.Octets.Builder.limit) (S.tokens scanner.old) (S.tokens scanner.new)
@@ -483,15 +484,15 @@ fn scan_fields<S: Scanner>(alloc: Global, scanner: &mut S) -> Result<ProtoRrsig<
 }
 
 impl<O: FromBuilder + Drop, N: ToName + Drop> Rrsig<O, N> {
-    /// Returns the data that all tokens left spell: the type covered by its name, algorithm, labels
-    /// and TTL in decimal, expiration and inception, the key tag in decimal, the signer's name, and
-    /// the signature in Base 64, in as many tokens as one likes, or in none.
+    /// Parses all remaining tokens as data: the name of the type covered; algorithm, labels and TTL
+    /// in decimal; expiration and inception; the key tag in decimal; the signer's name; and the
+    /// signature in Base 64, in any number of tokens, or in none.
     ///
     /// # Errors
     ///
-    /// That of the first field that is refused, then that of the codec, then
-    /// `Custom("record data too long")` for data of over 65,535 octets. The tokens left are then an
-    /// end of those before.
+    /// The error of the first field that has one, or else that of the codec, or else
+    /// `Custom("record data too long")` for data of more than 65,535 octets. The tokens left are
+    /// then an end of those before.
     pub fn scan<S: Scanner<Octets = O, Name = N>>(
         alloc: Global,
         scanner: &mut S,
@@ -508,8 +509,8 @@ impl<O: FromBuilder + Drop, N: ToName + Drop> Rrsig<O, N> {
     }
 }
 
-/// The fields with single spaces, the TTL in seconds, the signer's name with its last dot, and the
-/// signature in Base 64; the last space stays where the signature is empty.
+/// Writes the fields with single spaces: the TTL in seconds, the signer's name with its last dot,
+/// and the signature in Base 64. If the signature is empty, the text ends in a space.
 impl<O: Octets, N: ToName> fmt::Display for Rrsig<O, N> {
     ghost output = { λ d. Some (rrsig_text d) };
 
@@ -546,7 +547,8 @@ impl<O: Octets, N: ToName + fmt::Debug> fmt::Debug for Rrsig<O, N> {
     }
 }
 
-/// The fields, with comments that name all but the type covered, the algorithm and the signature.
+/// Writes the fields, with comments on all except the type covered, the algorithm and the
+/// signature.
 impl<O: Octets, N: ToName> ZonefileFmt for Rrsig<O, N> {
     ghost pieces = { rrsig_pieces };
 

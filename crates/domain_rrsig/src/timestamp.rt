@@ -1,4 +1,4 @@
-//! Times of signatures (RFC 4034, section 3.1.5).
+//! The times of signatures (RFC 4034, section 3.1.5).
 ghost use Rattle.std.specs.Prelude.{◌≡◌, ◌≤◌, ◌<◌, ◌+◌, ◌^◌, ◌++◌, ◌∷◌, [], ◌↔◌, ℕ, length, codes};
 ghost use Rattle.std.specs.Prelude.{Some, IfSome, IsNone, IsErr, IfOk, IfErr, OnOk, OnErr, IsErrOf};
 ghost use Rattle.std.specs.{Fmt.decimal, Int.{w32, to_be_bytes}, Ordering.nat_cmp};
@@ -19,12 +19,12 @@ use std::str::FromStr;
 
 const _: () = prove!(Timestamp::COMPOSE_LEN == Serial::COMPOSE_LEN);
 
-/// When a signature begins or ends to hold: seconds since the start of 1970, without leap seconds,
-/// modulo 2^32 (RFC 4034, section 3.1.5).
+/// The time at which the validity of a signature begins or ends: seconds since the start of 1970,
+/// without leap seconds, modulo 2^32 (RFC 4034, section 3.1.5).
 ///
-/// Which of the times that a stamp stands for is meant depends on when one asks (`to_system_time`).
-/// Stamps are ordered in a circle, as serial numbers are (RFC 1982), so they have no operators of
-/// order.
+/// A time stamp stands for many times. `to_system_time` returns the one that is meant at a
+/// reference time. Time stamps are ordered in a circle, as serial numbers are (RFC 1982), so they
+/// have no comparison operators.
 #[derive(Clone, Copy, Debug, PartialEq)]
 pub struct Timestamp(Serial);
 
@@ -38,7 +38,7 @@ impl Model for Timestamp {
     ghost inverse = { λ n. record { 0 = n } };
 }
 
-/// A text is no time of a signature.
+/// The error for a text that is not the time of a signature.
 #[derive(Clone, Copy, Debug)]
 pub struct IllegalSignatureTime;
 
@@ -61,7 +61,7 @@ impl From<u32> for Timestamp {
 }
 
 impl Timestamp {
-    /// How many octets it has on the wire.
+    /// The length of the wire form in octets.
     pub const COMPOSE_LEN: u16 = 4;
 
     /// Returns the number.
@@ -71,7 +71,7 @@ impl Timestamp {
         self.0.into_int()
     }
 
-    /// Returns the time stamp that comes next, four octets. Returns `ShortInput` if fewer are left.
+    /// Reads a time stamp, four octets. Returns `ShortInput` if fewer are left.
     pub fn parse(parser: &mut Parser<'_>) -> Result<Timestamp, ParseError>
         ensures ok { IfOk result (λ stamp. Takes (to_be_bytes w32 stamp) parser.old parser.new) }
         ensures short { IsErr result ↔ (length parser.old.left < 4) }
@@ -84,7 +84,7 @@ impl Timestamp {
         }
     }
 
-    /// Appends its four octets.
+    /// Appends the four octets of the number.
     pub fn compose<B: OctetsBuilder>(&self, target: &mut B) -> Result<(), AppendError>
         ensures ok { OnOk result (B.octets target.new ≡ B.octets target.old
             ++ to_be_bytes w32 self.now) }
@@ -96,10 +96,10 @@ impl Timestamp {
         self.0.compose(target)
     }
 
-    /// Returns the time that is meant, in seconds since the start of 1970, where one asks at the
-    /// reference: the one in the 2^31 seconds before it or the 2^31 - 1 after it. Where that would
-    /// be before 1970 it is the number of the stamp itself. Returns `None` if the time is not below
-    /// 2^64.
+    /// Returns the time that is meant at the reference time, both in seconds since the start of
+    /// 1970. It is the time within the 2^31 seconds before the reference or the 2^31 - 1 seconds
+    /// after it. If that is before 1970, it is the number of the stamp. Returns `None` if the time
+    /// is not below 2^64.
     #[tactic(auto, using(std::proofs::lemmas::Grind::common_steps, crate::proofs::DataLemmas::after))]
     pub fn to_system_time(self, reference: u64) -> Option<u64>
         ensures time { IfSome result (TimeAt self reference) }
@@ -117,18 +117,18 @@ impl Timestamp {
         }
     }
 
-    /// Returns the order of serial numbers: each stamp is before the 2,147,483,647 that follow it
-    /// in the circle. Two that are just half of the circle apart have none (RFC 1982, section 3.2).
+    /// Returns the order of serial numbers: each stamp is less than the 2,147,483,647 stamps that
+    /// follow it in the circle. Two that are exactly half of the circle apart have no order (RFC
+    /// 1982, section 3.2).
     pub fn partial_cmp(&self, other: &Timestamp) -> Option<Ordering>
         ensures { result ≡ serial_cmp self.now other.now }
     {
         self.0.partial_cmp(&other.0)
     }
 
-    /// Returns the time that the next token spells: decimal digits, with one plus sign before them
-    /// or none, at most 10 characters. Refuses every other token, and a number over 32 bits, as
-    /// `Custom("illegal signature time")`, and a missing token as `EndOfEntry`. An error skips the
-    /// token too.
+    /// Parses the next token as a time: decimal digits, with at most one plus sign before them, at
+    /// most 10 characters. Returns `Custom("illegal signature time")` for any other token and for a
+    /// number over 32 bits, and `EndOfEntry` if no token is left. An error skips the token too.
     pub fn scan<S: Scanner>(scanner: &mut S) -> Result<Timestamp, ScanError>
         ensures { ReadsTokens (OneToken TimeToken) (λ value. value) (RefusesToken IsNoTime)
             (S.tokens scanner.old) (S.tokens scanner.new) result }
@@ -137,7 +137,7 @@ impl Timestamp {
     }
 }
 
-/// The order of the plain numbers.
+/// Orders time stamps as plain numbers.
 impl CanonicalOrd for Timestamp {
     ghost canonical_cmp = { nat_cmp };
 
@@ -148,8 +148,8 @@ impl CanonicalOrd for Timestamp {
     }
 }
 
-/// Decimal digits, with one plus sign before them or none. Refuses every other text, a number over
-/// 32 bits, and a text of 14 characters, which would be a date.
+/// Parses decimal digits, with at most one plus sign before them. Rejects any other text, a number
+/// over 32 bits, and a text of 14 characters, which would be a date.
 impl FromStr for Timestamp {
     type Err = IllegalSignatureTime;
 
@@ -166,8 +166,8 @@ impl FromStr for Timestamp {
     }
 }
 
-/// Decimal digits, with one plus sign before them or none, at most 10 characters. Refuses every
-/// other token, and a number over 32 bits, as `Custom("illegal signature time")`.
+/// Parses decimal digits, with at most one plus sign before them, at most 10 characters. Any other
+/// token, and a number over 32 bits, is the error `Custom("illegal signature time")`.
 impl FromToken for Timestamp {
     ghost spells = { TimeToken };
 
@@ -194,7 +194,7 @@ impl<S: Scanner> ScanFields<S> for Timestamp {
     }
 }
 
-/// The number in decimal digits.
+/// Writes the number in decimal digits.
 impl fmt::Display for Timestamp {
     ghost output = { λ t. Some (decimal t) };
 
@@ -203,7 +203,7 @@ impl fmt::Display for Timestamp {
     }
 }
 
-/// The number, as a token.
+/// Writes the number as a token.
 impl ZonefileFmt for Timestamp {
     ghost pieces = { λ t. token (decimal t) ∷ [] };
 
