@@ -92,7 +92,7 @@ contains_type octets t = in_first_block (blocks_of octets) t
 abbrev pub last_octet : Octets → ℕ
 last_octet octets = slice_index octets (length octets - 1)
 
--- the windows of blocks strictly ascend, `low` at least, and no block ends in a zero octet
+-- the windows of blocks strictly ascend from at least `low`, and no block ends in a zero octet
 abbrev pub AreShortest : ℕ → List Block → Type 0
 AreShortest low [] = Unit {0}
 AreShortest low (block ∷ blocks) =

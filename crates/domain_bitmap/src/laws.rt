@@ -62,7 +62,7 @@ pub fn types_and_hashes_are_spelled_once()
 {}
 
 /// Tokens that are rejected as types spell none, and a text that is rejected as a salt or a hash
-/// spells none. This excludes lack of room and of memory, and holds for builders with any limit.
+/// spells none, for builders with any limit. Lack of room or of memory is no such rejection.
 #[tactic(auto, using(crate::proofs::TextLemmas::types_refused, crate::proofs::TextLemmas::salt_excludes, crate::proofs::TextLemmas::hash_excludes))]
 pub fn refused_tokens_spell_no_types()
     ensures types { (limit : Option ℕ) (old new : Tokens) (types : Rtypes) (fault : ScanFault)
@@ -74,9 +74,9 @@ pub fn refused_tokens_spell_no_types()
         → IsOfTokens limit fault → OwnerHashText text hash → ⊥ }
 {}
 
-/// Tokens are rejected as types for one fault, which also determines the tokens left. This excludes
-/// lack of room and of memory. A text is rejected as a salt or a hash for one fault, except lack of
-/// memory. Both hold for builders with any limit.
+/// Tokens are rejected as types for one fault, which also determines the tokens left. Lack of room
+/// or of memory is no such fault. A text is rejected as a salt or a hash for one fault, except lack
+/// of memory. Both hold for builders with any limit.
 #[tactic(auto, using(crate::proofs::TextLemmas::types_one_fault, crate::proofs::TextLemmas::salt_one_fault, crate::proofs::TextLemmas::counted_one_fault))]
 pub fn types_and_hashes_have_one_fault()
     ensures types { (limit : Option ℕ) (old m n : Tokens) (x y : ScanFault)

@@ -71,8 +71,11 @@ impl<O: FromBuilder + Drop> OwnerHash<O> {
     ///
     /// # Errors
     ///
-    /// `Custom("illegal data")` if the token is not in Base 32 hex, or else lack of room or of
-    /// memory, or else `Custom("illegal owner name hash")` if it encodes more than 255 octets.
+    /// The first of these:
+    ///
+    /// - `Custom("illegal data")` if the token is not in Base 32 hex.
+    /// - An error of the builder if there is no room or no memory for the octets.
+    /// - `Custom("illegal owner name hash")` if there are more than 255 octets.
     pub fn scan<S: Scanner<Octets = O>>(alloc: Global, scanner: &mut S) -> Result<Self, ScanError>
         ensures { ReadsTokens (OneToken OwnerHashText) (λ hash. hash)
             (RefusesToken (CountedFault codec.Base32Hex (codes "illegal owner name hash")

@@ -119,9 +119,12 @@ impl<O: FromBuilder + Drop> Nsec3Salt<O> {
     ///
     /// # Errors
     ///
-    /// `Custom("illegal NSEC3 salt")` for a dash with something after it. For any other token,
-    /// `Custom("illegal data")` if it is not in Base 16, or else lack of room or of memory, or else
-    /// `Custom("illegal NSEC3 salt")` if it encodes more than 255 octets.
+    /// The first of these:
+    ///
+    /// - `Custom("illegal NSEC3 salt")` for a dash with something after it.
+    /// - `Custom("illegal data")` if another token is not in Base 16.
+    /// - An error of the builder if there is no room or no memory for the octets.
+    /// - `Custom("illegal NSEC3 salt")` if there are more than 255 octets.
     #[tactic(auto, using(std::proofs::lemmas::Grind::common_steps, crate::proofs::TextLemmas::salt_steps))]
     pub fn scan<S: Scanner<Octets = O>>(alloc: Global, scanner: &mut S) -> Result<Self, ScanError>
         ensures { ReadsTokens (OneToken SaltText) (λ salt. salt)

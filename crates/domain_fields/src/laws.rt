@@ -39,10 +39,10 @@ pub fn fields_decide_in_order()
         ≡ ordering_then (canonical_order a v w) (canonical_order b x y) }
 {}
 
-/// Tokens begin with the values of a list of fields in at most one way, which determines the values
-/// and the tokens left (RFC 1035, section 5.1). Tokens with a fault begin with no such values, and
-/// have one first fault, for builders with any limit. This excludes lack of room and of memory. A
-/// single field has one fault of any kind.
+/// Tokens begin with the values of a list of fields in at most one way. The values and the tokens
+/// left are determined (RFC 1035, section 5.1). Tokens with a fault begin with no such values, and
+/// have one first fault, for builders with any limit. Lack of room or of memory is no such fault. A
+/// single field has at most one fault, of any kind.
 #[tactic(auto, using(crate::proofs::ScanLemmas::one_field_one_fault))]
 pub fn texts_of_fields_are_exact()
     ensures fields { (limit : Option ℕ) (l : Layout) → IsExact (IsOfTokens limit) (Scans l)

@@ -209,9 +209,9 @@ impl<O: FromBuilder + Drop, K: KeyKind> KeyData<O, K> {
     ///
     /// # Errors
     ///
-    /// The error of the first number that has one, or else that of the codec, or else
-    /// `Custom("record data too long")` for data of more than 65,535 octets. The tokens left are
-    /// then an end of those before.
+    /// The error of the first number that has one, then that of the codec, then `Custom("record
+    /// data too long")` for data of more than 65,535 octets. The tokens left are then an end of
+    /// those before.
     #[tactic(auto, unfolding(domain_fields::specs::Layout::octets_of))]
     pub fn scan<S: Scanner<Octets = O>>(alloc: Global, scanner: &mut S) -> Result<Self, ScanError>
         ensures { ReadsTokens (AllTokens (KeyText K.codec)) (λ d. d)

@@ -23,7 +23,7 @@ abbrev pub IsOver : Option ℕ → ℕ → Type 0
 IsOver None count = ⊥
 IsOver (Some limit) count = limit < count
 
--- a builder with this limit can hold `count` octets
+-- a builder with this limit can hold `count` octets: they are within the limit, or there is none
 abbrev pub HasRoom : Option ℕ → ℕ → Type 0
 HasRoom limit count = IsOver limit count → ⊥
 
@@ -47,7 +47,7 @@ pub record Place : Type 0 where
   pub pos : ℕ
   pub left : Octets
 
--- reading went on by exactly these octets
+-- exactly these octets were read
 pub record Takes (octets : Octets) (old new : Place) : Type 0 where
   pub parts : old.left ≡ octets ++ new.left
   pub moved : new.pos ≡ old.pos + length octets

@@ -4,8 +4,8 @@
 //!   and returns `ShortBuf` if and only if they would exceed its limit.
 //! - [`SmallOctets`] holds up to 30 octets in the value itself, and allocates only for more.
 //!   [`ArrayBuilder`] has room only in the value itself.
-//! - [`Parser`] reads from the front, numbers in big-endian order (RFC 1035, section 2.3.2). After
-//!   an error it is where it was before.
+//! - [`Parser`] reads octets from the front, and numbers in big-endian order (RFC 1035, section
+//!   2.3.2). An error leaves its position unchanged.
 //! - [`push_words`] splits a line into its words.
 //! - [`Formatter`] collects the pieces of zone file text. [`ZonefileFmt`] is the trait of values
 //!   that a zone file shows in such pieces.

@@ -52,7 +52,7 @@ pub fn unknown_data_parses_back<O: Octets>(value: &UnknownRecordData<O>)
 }
 
 /// Tokens spell octets in the generic form in at most one way. Tokens with a fault spell none, and
-/// have one fault, for builders with any limit. This excludes lack of room and of memory.
+/// have one fault, for builders with any limit. Lack of room or of memory is no such fault.
 pub fn generic_text_is_exact()
     ensures { (limit : Option ℕ) → IsExactEntry (IsOfTokens limit) GenericText
         (GenericFault limit) }

@@ -35,7 +35,7 @@ pub fn times_are_read_back()
 {}
 
 /// Tokens spell the data of at most one signature. Tokens with a fault spell none, and have one
-/// fault, for builders with any limit. This excludes lack of room and of memory.
+/// fault, for builders with any limit. Lack of room or of memory is no such fault.
 pub fn signature_texts_are_exact()
     ensures { (limit : Option ℕ) → IsExactEntry (IsOfTokens limit) RrsigText
         (RefusesRrsig limit) }

@@ -41,9 +41,13 @@ pub type Numbers = ((u16, (u8, u8)), ((u32, (u32, u32)), u16));
 pub type ProtoFields<'a> = (Numbers, ParsedName<'a>);
 
 impl<N: ToName> ProtoRrsig<N> {
-    /// Returns these fields: the type of the signed records, the algorithm of the key, the number
-    /// of labels of their owner without a leading asterisk and the root, the TTL of the records,
-    /// the end and the beginning of the signature's validity, the tag of the key, and its owner.
+    /// Returns these fields, in this order:
+    ///
+    /// - the type of the signed records, and the algorithm of the key;
+    /// - the number of labels of the records' owner, without a leading asterisk and the root;
+    /// - the TTL of the records;
+    /// - the end and the beginning of the signature's validity;
+    /// - the tag of the key, and its owner.
     pub fn new(
         type_covered: Rtype,
         algorithm: SecurityAlgorithm,

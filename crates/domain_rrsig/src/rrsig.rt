@@ -484,15 +484,19 @@ fn scan_fields<S: Scanner>(alloc: Global, scanner: &mut S) -> Result<ProtoRrsig<
 }
 
 impl<O: FromBuilder + Drop, N: ToName + Drop> Rrsig<O, N> {
-    /// Parses all remaining tokens as data: the name of the type covered; algorithm, labels and TTL
-    /// in decimal; expiration and inception; the key tag in decimal; the signer's name; and the
-    /// signature in Base 64, in any number of tokens, or in none.
+    /// Parses all remaining tokens as data:
+    ///
+    /// - the type covered, by its name or as `TYPE` and its number;
+    /// - algorithm, labels and TTL in decimal;
+    /// - expiration, inception, and the key tag in decimal;
+    /// - the signer's name;
+    /// - the signature in Base 64, in any number of tokens, or in none.
     ///
     /// # Errors
     ///
-    /// The error of the first field that has one, or else that of the codec, or else
-    /// `Custom("record data too long")` for data of more than 65,535 octets. The tokens left are
-    /// then an end of those before.
+    /// The error of the first field that has one, then that of the codec, then `Custom("record data
+    /// too long")` for data of more than 65,535 octets. The tokens left are then an end of those
+    /// before.
     pub fn scan<S: Scanner<Octets = O, Name = N>>(
         alloc: Global,
         scanner: &mut S,
