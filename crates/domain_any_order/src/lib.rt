@@ -1,5 +1,6 @@
-//! The NSEC and the NSEC3 chain of a zone whose records come in any order (RFC 4034, section 4;
-//! RFC 5155, section 7.1): they are sorted, tested to be of one class, and then their chain is made.
+//! The NSEC and the NSEC3 chain of a zone whose records come in any order (RFC 4034, section 4; RFC
+//! 5155, section 7.1). The records are sorted, checked to be of one class, and then their chain is
+//! made.
 #![tactic(auto)]
 
 mod any_order;
