@@ -425,7 +425,7 @@ impl<O: Octets> Nsec3<O> {
     }
 }
 
-/// Writes the types, with a space before each.
+/// The types, printed with a space before each.
 #[derive(Drop)]
 struct AfterSpaces<'a, O: Octets>(&'a RtypeBitmap<O>);
 
@@ -460,7 +460,7 @@ fn usual_params(numbers: HashNumbers, salt: &[u8]) -> Option<&'static str>
     }
 }
 
-/// Writes the parameters, with a space after each. Those of nearly all zones are written in one
+/// The parameters, printed with a space after each. Those of nearly all zones are written in one
 /// piece.
 #[derive(Drop)]
 struct BeforeHash<'a, O: Octets>(HashNumbers, &'a Nsec3Salt<O>);
