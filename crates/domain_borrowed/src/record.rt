@@ -304,6 +304,10 @@ pub fn compose_parts<N: ToName, D: ComposeRecordData, B: OctetsBuilder>(
 }
 
 /// Appends the record as a message has it, like `compose_parts`.
+///
+/// # Errors
+///
+/// Those of `compose_parts`.
 pub fn compose_record<N: ToName, D: ComposeRecordData, B: OctetsBuilder>(
     source: &Record<N, D>,
     target: &mut B,

@@ -256,7 +256,7 @@ where
     Ok(make_owner(alloc, &apex, hash.as_slice())?)
 }
 
-/// Returns a hash with the place of its name, if it is of use as a hash below the apex.
+/// Returns a hash with the place of its name, if it can be used as a hash below the apex.
 fn place_hash(apex: &ParsedName<'_>, hash: &[u8], place: usize) -> Option<Hashed>
     ensures { IfSome result (IsPlacedHash apex.now hash.now place) }
 {
