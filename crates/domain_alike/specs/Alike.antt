@@ -1,4 +1,4 @@
--- Names of an NSEC3 chain that hash alike (RFC 5155, section 7.1).
+-- Names of an NSEC3 chain that have the same hash (RFC 5155, section 7.1).
 use Rattle.std.specs.{Prelude.{◌≡◌, ◌⊎◌, ℕ, true, false, All, List, Ok, Err, Option, Some, None, map, Bool, [], ◌∷◌, filter, Vec}, List.{list_any, find}}
 use Rattle.std.specs.{List.{flat_map, AllByRecursion, Sorted.IsStrictlySortedBy}, BTreeMap.BTreeMap, Cmp.Lexicographic.slice_cmp, Ordering.{is_eq, nat_cmp}}
 use Rattle.domain_octets.specs.Octets.{Octets}
@@ -10,15 +10,15 @@ use Rattle.domain_alike.specs.declared.alike.Alike.{Alike}
 use Rattle.domain_hasher.specs.declared.error.Nsec3HashError.TheVariants as hash_error
 use Rattle.std.specs.BTreeMap as tree
 
--- a name, and another that has its hash
+-- a name, and another name that has its hash
 abbrev pub Pair : Type 0
 Pair = Name × Name
 
 abbrev pub pair_of : Alike → Pair
 pair_of alike = (alike.later, alike.first)
 
--- a name of the chain, and the first of those that have its hash, which comes before it in
--- canonical order
+-- a name of the chain, and the first name that has its hash, which comes before it in canonical
+-- order
 pub record IsAlike (L : List ZoneRecord) (a : Name) (config : ChainConfig) (pair : Pair)
     : Type 0 where
   pub later : is_chain_name L a config pair.0 ≡ true
@@ -28,7 +28,8 @@ pub record IsAlike (L : List ZoneRecord) (a : Name) (config : ChainConfig) (pair
   pub first : (y : Name) → is_chain_name L a config y ≡ true
       → hash_of config y ≡ hash_of config pair.0 → before y pair.1 ≡ false
 
--- such pairs, in canonical order, one for each name of the chain that has the hash of one before it
+-- such pairs, in canonical order, one for each name of the chain that has the hash of an earlier
+-- name
 pub record AreAlike (L : List ZoneRecord) (a : Name) (config : ChainConfig) (pairs : List Pair)
     : Type 0 where
   pub told : All (IsAlike L a config) pairs
@@ -37,19 +38,19 @@ pub record AreAlike (L : List ZoneRecord) (a : Name) (config : ChainConfig) (pai
       → list_any (λ p. same_name p.0 x) pairs ≡ true
   pub ascend : IsStrictlySortedBy canonical_cmp (map (λ p. p.0) pairs)
 
--- such a pair, whose name is the first in canonical order that has the hash of one before it
+-- such a pair, whose name is the first in canonical order that has the hash of an earlier name
 pub record IsFirstAlike (L : List ZoneRecord) (a : Name) (config : ChainConfig) (pair : Pair)
     : Type 0 where
   pub alike : IsAlike L a config pair
   pub least : (x y : Name) → is_chain_name L a config x ≡ true → is_chain_name L a config y ≡ true
       → before y x ≡ true → hash_of config y ≡ hash_of config x → before x pair.0 ≡ false
 
--- this is the first pair, or there is none, so that no two names of the chain have one hash
+-- this is the first pair, or there is none and no two names of the chain have the same hash
 abbrev pub IsFirstPair : List ZoneRecord → Name → ChainConfig → Option Pair → Type 0
 IsFirstPair L a config None = ¬ (HasCollision L a config)
 IsFirstPair L a config (Some pair) = IsFirstAlike L a config pair
 
--- the hasher refuses the hash of a name of the chain, and of none before it
+-- the hasher returns this error for a name of the chain, and a hash for each name before it
 pub record IsFirstRefusal (L : List ZoneRecord) (a : Name) (config : ChainConfig) (number : ℕ)
     : Type 0 where
   pub name : Name
@@ -58,34 +59,34 @@ pub record IsFirstRefusal (L : List ZoneRecord) (a : Name) (config : ChainConfig
   pub first : (y : Name) → is_chain_name L a config y ≡ true → before y name ≡ true
       → (h : Octets) × (hash_of config y ≡ Ok h)
 
--- no memory, or the refusal of a number
+-- out of memory, or the hasher's error with a number for which `refused` holds
 abbrev pub IsRefusedBy : (ℕ → Type 0) → Nsec3HashError → Type 0
 IsRefusedBy refused e =
     (e ≡ hash_error.OutOfMemory) ⊎ ((n : ℕ) × (e ≡ hash_error.Hasher n) × refused n)
 
--- ---- The names of a list that hash alike, and how they are found.
+-- ---- The names of a list that have the same hash, and how they are found.
 
--- the answer is this hash
+-- the hasher's result is this hash
 abbrev pub is_hash : HashAnswer → Octets → Bool
 is_hash (Ok g) h = is_eq (slice_cmp nat_cmp g h)
 is_hash (Err n) h = false
 
--- the first of these names that has the hash, where the answer is one
+-- the first of these names that has the hash, if the hasher's result is one
 abbrev pub first_with : Hash → List Name → HashAnswer → Option Name
 first_with hash names (Ok h) = find (λ n. is_hash (hash_name hash n) h) names
 first_with hash names (Err n) = None
 
--- the map has of each hash the first of these names
+-- the map has for each hash the first of these names that has it
 abbrev pub AreFirstNames : {A : Type 0} → Hash → List Name → BTreeMap (Vec ℕ A) Name → Type 0
 AreFirstNames hash names firsts =
     (k : Vec ℕ _) → tree.get (λ x y. slice_cmp nat_cmp x.items y.items) firsts k
     ≡ first_with hash names (Ok k.items)
 
--- of these names the first before this one that has its hash
+-- the first of these names that comes before n and has its hash
 abbrev pub first_before : Hash → List Name → Name → Option Name
 first_before hash names n = first_with hash (filter (λ y. before y n) names) (hash_name hash n)
 
--- a name with one that has its hash, where there is one
+-- n with a name that has its hash, if there is one
 abbrev pub pair_with : Name → Option Name → List Pair
 pair_with n None = []
 pair_with n (Some first) = (n, first) ∷ []
@@ -93,7 +94,7 @@ pair_with n (Some first) = (n, first) ∷ []
 abbrev pub IsHashed : Hash → Name → Type 0
 IsHashed hash n = (h : Octets) × (hash_name hash n ≡ Ok h)
 
--- these are the pairs of some of the names, none of which is refused
+-- these are the pairs of the names `some`, each of which has a hash
 pub record ArePairs (hash : Hash) (names some : List Name) (pairs : List Pair) : Type 0 where
   pub hashed : AllByRecursion (IsHashed hash) some
   pub are : pairs ≡ flat_map (λ n. pair_with n (first_before hash names n)) some

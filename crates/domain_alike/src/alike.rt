@@ -1,4 +1,4 @@
-//! Which names of a chain hash alike.
+//! Names of a chain that have the same hash.
 ghost use Rattle.std.specs.Prelude.{◌≡◌, ◌++◌, ◌∷◌, [], List, Ok, IfErr, IfOk, map, option_map};
 ghost use Rattle.domain_names.specs.Name.{Name};
 ghost use Rattle.domain_nsec3.specs.{Chain.{Hash, hash_name}, View.config_of};
@@ -16,16 +16,16 @@ use domain_octets::{Octets, OutOfMemory, TryClone};
 use std::alloc::Global;
 use std::collections::BTreeMap;
 
-/// A name, and the first in canonical order that has its hash, which is another.
+/// A name, and the first other name in canonical order that has the same hash.
 #[derive(Drop)]
 pub struct Alike<'a> {
     /// The name.
     pub later: ParsedName<'a>,
-    /// The first that has its hash.
+    /// The first name in canonical order that has its hash.
     pub first: ParsedName<'a>,
 }
 
-/// Returns the first name that came with this hash; takes in the name as the first where none did.
+/// Returns the first name that was added with this hash. If there is none, adds this name.
 fn first_of_hash<'a>(
     firsts: &mut BTreeMap<Vec<u8>, ParsedName<'a>>,
     hash: Vec<u8>,
@@ -43,15 +43,16 @@ fn first_of_hash<'a>(
     Ok(None)
 }
 
-/// Of the names of the NSEC3 chain of sorted records each that has the hash of one before it in
-/// canonical order, with the first that has it; they stand in canonical order. What else the zone
-/// lacks for a chain, as an SOA record, is not asked.
+/// Returns each name of the NSEC3 chain of sorted records that has the hash of an earlier one in
+/// canonical order, with the first name that has it. The result is in canonical order. Other
+/// reasons why the zone has no chain, such as no SOA record, are not checked.
 ///
-/// Takes memory for each name: its hash is looked for in a map.
+/// Takes memory for each name, in a map of hashes.
 ///
 /// # Errors
 ///
-/// `Hasher` with what the hasher refuses of the first name that it refuses, and `OutOfMemory`.
+/// `Hasher` with the number of the hasher's error for the first name that has one, and
+/// `OutOfMemory` if there is no memory.
 pub fn alike_names<'a, O: Octets, S, H: Nsec3Hasher>(
     alloc: Global,
     apex: &ParsedName<'a>,
@@ -83,8 +84,9 @@ pub fn alike_names<'a, O: Octets, S, H: Nsec3Hasher>(
     Ok(pairs)
 }
 
-/// Returns the first name in canonical order of the NSEC3 chain of sorted records that has the hash
-/// of one before it, with the first that has it. Returns `None` if no two names have one hash.
+/// Returns the first name, in canonical order, of the NSEC3 chain of sorted records that has the
+/// hash of an earlier one, with the first name that has it. Returns `None` if no two names have the
+/// same hash.
 ///
 /// Takes memory as [`alike_names`] does.
 ///

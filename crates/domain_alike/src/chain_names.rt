@@ -13,9 +13,9 @@ use domain_records::RecordsIter;
 use domain_zone::UnoccludedOwners;
 use std::alloc::Global;
 
-/// Returns the owners at or below the apex that are not occluded, in canonical order. Unsigned
-/// delegations are left out where `without_unsigned` says so, and names below the owner of a DNAME
-/// record where `below_dname` does.
+/// Returns the owners at or below the apex that are not occluded, in canonical order. If
+/// `without_unsigned` is true, leaves out unsigned delegations. If `below_dname` is true, leaves
+/// out names below the owner of a DNAME record.
 fn owners_of<'a>(
     alloc: Global,
     apex: &ParsedName<'a>,
@@ -37,9 +37,9 @@ fn owners_of<'a>(
 }
 
 /// Returns the names of the NSEC3 chain of sorted records, in canonical order: the owners that are
-/// not occluded, and the empty non-terminals over them. Unsigned delegations are left out where
-/// `without_unsigned` says so, and names below the owner of a DNAME record where `below_dname`
-/// does.
+/// not occluded, and the empty non-terminals over them. If `without_unsigned` is true, leaves out
+/// unsigned delegations. If `below_dname` is true, leaves out names below the owner of a DNAME
+/// record.
 pub fn chain_names<'a>(
     alloc: Global,
     apex: &ParsedName<'a>,

@@ -4,8 +4,8 @@ ghost use Rattle.domain_names.specs.Name.{lowered, wire_of};
 
 use domain_base::{MAX_NAME, ParsedName, ToName};
 
-/// Writes the wire form of a name in lower case, as it is hashed, to the beginning of a buffer.
-/// What follows it stays.
+/// Writes the wire form of a name in lower case, as it is hashed, to the front of a buffer. The
+/// octets after it stay.
 pub fn write_lowered(name: &ParsedName<'_>, buffer: &mut [u8; MAX_NAME])
     ensures { buffer.new
         ≡ wire_of (lowered name.now) ++ drop (length (wire_of name.now)) buffer.old }

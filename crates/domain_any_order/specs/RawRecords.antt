@@ -1,4 +1,4 @@
--- Records whose data are of all types, as records whose data are octets.
+-- Records with data of all types, seen as records whose data are octets.
 use Rattle.std.specs.Prelude.{◌≢◌, ◌<◌, ◌^◌, List, All}
 use Rattle.domain_octets.specs.Octets.{Octets}
 use Rattle.domain_names.specs.Name.{Name}
@@ -11,7 +11,7 @@ use Rattle.domain_nsec3.specs.{Chain.{HashedLink, ParamRecord, ChainConfig}, dec
 use Rattle.domain_borrowed.specs.Data.{RawData, RawRecord, data_cmp as raw_cmp, minimum_of, raw_record_of}
 use Rattle.domain_any_order.specs.{AnyOrder.{View, seen, IsChainOf, HasNoChain, IsHashedChainOf, HasNoHashedChain}, declared.error.ChainError.ChainError}
 
--- the data of an SOA are read as such, and their MINIMUM has 32 bits (RFC 1035, section 3.3.13)
+-- data of type SOA are parsed, and their MINIMUM has 32 bits (RFC 1035, section 3.3.13)
 abbrev pub TellsMinimum : {O N : Type 0} → ZoneRecordData O N → Type 0
 TellsMinimum (Soa d) = d.minimum < 2 ^ 32
 TellsMinimum (Unknown d) = d.rtype ≢ rtypes.soa
@@ -28,15 +28,15 @@ module _ {O N : Type 0} (octets : O → Octets) (labels : N → Name) where
   abbrev pub raw_record : Record N (ZoneRecordData O N) → RawRecord
   raw_record = raw_record_of labels rtype_of (canonical_octets octets labels)
 
--- how records of octets are seen, and records of data of all types
+-- how records whose data are octets are seen, and (`zone_view`) records with data of all types
 abbrev pub raw_view : View Name RawData
 raw_view = seen (λ n. n) (λ d. d.rtype) minimum_of raw_cmp
 
 abbrev pub zone_view : {O N : Type 0} → (O → Octets) → (N → Name) → View N (ZoneRecordData O N)
 zone_view octets labels = seen labels rtype_of zone_minimum_of (data_cmp octets labels)
 
--- the chain of records of octets is that of these records too, and where there is none, these have
--- none either, for the same reason
+-- a chain of the records of octets is also a chain of the given records; a reason why the former
+-- have none is also a reason for the latter
 pub record HaveOneChain {O N : Type 0} (octets : O → Octets) (labels : N → Name)
     (raw : List RawRecord) (given : List (Record N (ZoneRecordData O N))) : Type 0 where
   pub nsecs : (apex : Name) (config : GenerateNsecConfig) (links : List Link)

@@ -1,4 +1,4 @@
-//! Chains of records that are sorted first.
+//! Chains of records that come in any order and are sorted first.
 ghost use Rattle.std.specs.Prelude.{IfErr, IfOk};
 ghost use Rattle.domain_records.specs.Order.{IsOneClass};
 ghost use Rattle.domain_nsec.specs.Chain.{links_of};
@@ -17,11 +17,12 @@ use domain_record::{Record, ZoneData};
 use domain_records::{RecordsIter, SortedRecords, Sorter};
 use std::alloc::Global;
 
-/// Returns the records of one class, sorted; of equal records the earliest is kept.
+/// Sorts records of one class, and keeps the earliest of equal ones.
 ///
 /// # Errors
 ///
-/// `MixedClasses` where the records are not of one class, and else `Sort`.
+/// `MixedClasses` if the records are not of one class. Otherwise `Sort` if there is no memory to
+/// sort them.
 pub fn sort_one_class<N: ToName, D: ZoneData + CanonicalOrd>(
     records: Vec<Record<N, D>>,
 ) -> Result<SortedRecords<N, D>, ChainError>
@@ -41,15 +42,17 @@ where
     Ok(sorted)
 }
 
-/// Returns the NSEC chain of the zone that records in any order are: they are sorted, and of equal
-/// records the earliest is kept.
+/// Returns the NSEC chain of a zone whose records come in any order. Sorts the records, and keeps
+/// the earliest of equal ones.
 ///
 /// # Errors
 ///
-/// The first of these that applies: `MixedClasses` where the records are not of one class;
-/// `Signing` with the first fault of the zone; and `OutOfMemory`, only where it has none. Before a
-/// fault of the zone is known, `Sort` if there is no memory to sort them, which only the sort
-/// answers.
+/// The first of these that applies:
+///
+/// - `MixedClasses` if the records are not of one class.
+/// - `Sort` if there is no memory to sort them. The zone may then have faults.
+/// - `Signing` with the first fault of the zone.
+/// - `OutOfMemory` if there is no memory for the chain. The zone then has no fault.
 #[tactic(auto, using(crate::proofs::AnyOrderLemmas::no_chain))]
 pub fn generate_nsecs_of_records<O, N: MakeName, D: ZoneData + CanonicalOrd>(
     alloc: Global,
@@ -71,15 +74,18 @@ where
     Ok(generate_nsecs(alloc, apex, sorted.owner_rrs(), config)?)
 }
 
-/// Returns the NSEC3 chain of the zone that records in any order are, with its NSEC3PARAM record:
-/// they are sorted, and of equal records the earliest is kept.
+/// Returns the NSEC3 chain and the NSEC3PARAM record of a zone whose records come in any order.
+/// Sorts the records, and keeps the earliest of equal ones.
 ///
 /// # Errors
 ///
-/// The first of these that applies: `MixedClasses` where the records are not of one class;
-/// `Signing` with the first fault of the zone; and `OutOfMemory`, only where it has none but, where
-/// it has one, a fault of hashing. Before a fault of the zone is known, `Sort` if there is no
-/// memory to sort them, which only the sort answers.
+/// The first of these that applies:
+///
+/// - `MixedClasses` if the records are not of one class.
+/// - `Sort` if there is no memory to sort them. The zone may then have faults.
+/// - `Signing` with the first fault of the zone.
+/// - `OutOfMemory` if there is no memory for the chain. The zone then has no fault, except perhaps
+///   one of hashing.
 #[tactic(auto, using(crate::proofs::AnyOrderLemmas::no_hashed_chain))]
 pub fn generate_nsec3s_of_records<
     S: Sorter,

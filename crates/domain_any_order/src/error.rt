@@ -7,16 +7,16 @@ use domain_records::{SigningError, SortError};
 use std::error::Error;
 use std::fmt;
 
-/// Why records have no chain. It is no `SigningError`, since the variants of that are those of the
-/// ported crate, and none of them says that records are of more than one class.
+/// Why records have no chain. This is not a `SigningError`: that has the variants of the ported
+/// crate, and none of them means records of more than one class.
 #[derive(Clone, Copy, Debug, PartialEq, Eq)]
 pub enum ChainError {
     /// The records are of more than one class.
     MixedClasses,
-    /// There was no memory to sort the records, which are of one class. Whether their zone has a
-    /// fault shows only when they are sorted.
+    /// There was no memory to sort the records, which are of one class. Faults of their zone show
+    /// only after the sort.
     Sort(SortError),
-    /// The first fault of their zone, which is never lack of memory.
+    /// The first fault of their zone, never out of memory.
     Signing(SigningError),
     /// There was no memory for the chain. The zone of the records has no fault, unless a name of an
     /// NSEC3 chain can't be hashed.
@@ -24,7 +24,7 @@ pub enum ChainError {
 }
 
 impl fmt::Display for ChainError {
-    // These texts stand once more in specs/ErrorText.antt: both change together.
+    // specs/ErrorText.antt repeats these texts: change both together.
     ghost output = { λ e. Some (chain_error_text e) };
 
     fn fmt<W: fmt::Write>(&self, f: &mut fmt::Formatter<W>) -> fmt::Result {
@@ -39,7 +39,7 @@ impl fmt::Display for ChainError {
 
 impl Error for ChainError {}
 
-/// Want of memory stays what it is; every other refusal is a fault of the zone.
+/// Out of memory remains `OutOfMemory`; every other error is a fault of the zone.
 impl From<SigningError> for ChainError {
     ghost from_gives = { λ source e. e ≡ chain_error_of source };
 

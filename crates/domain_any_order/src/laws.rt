@@ -1,4 +1,4 @@
-//! What callers may take from sorting. A caller calls the law in its body.
+//! Laws about sorting. A function uses a law by calling it in its body.
 ghost use Rattle.std.specs.Prelude.{◌≡◌, ◌↔◌, ℕ, Bool, true, Contains, List, Some, map};
 ghost use Rattle.domain_record.specs.declared.record.Record.{Record};
 ghost use Rattle.domain_names.specs.Name.{Name};
@@ -16,8 +16,9 @@ use domain_record::ZoneData;
 use domain_records::laws::sorted_records_are_in_order;
 use domain_zone::laws::owners_never_descend;
 
-/// The sorted set of records, however these are seen, has the owners of the list that was put in,
-/// each with the same types, and the same of them are not occluded: of equal records one stays.
+/// The sorted set of records has the owners of the original list, each with the same types, since
+/// one of several equal records is kept. The same owners are not occluded. This holds however the
+/// records are seen.
 #[tactic(auto, using(crate::proofs::KeptLemmas::owner_kept, crate::proofs::KeptLemmas::type_kept, crate::proofs::KeptLemmas::unoccluded_kept))]
 pub fn sorting_keeps_owners_and_types<N, D>()
     ensures owners { (v : View N D) (given sorted : List (Record N D)) → Sorts v given sorted
@@ -30,10 +31,10 @@ pub fn sorting_keeps_owners_and_types<N, D>()
         ≡ is_unoccluded below_dname (zone_seen v given) a n }
 {}
 
-/// Of the sorted set of records: it is of one class exactly where the list that was put in is; its
-/// SOA at an apex is a record of that list; and where it has unequal TTLs at a name, so has the
-/// list. The converse of the last two doesn't hold, since records that differ in TTL alone are
-/// equal, and one of them stays.
+/// The sorted set of records is of one class if and only if the original list is. Its SOA at an
+/// apex is a record of that list. If it has unequal TTLs at a name, so has the list. The converse
+/// of the last two does not hold: records that differ only in TTL are equal, and one of them is
+/// kept.
 #[tactic(auto, using(crate::proofs::KeptLemmas::clash_among))]
 pub fn sorting_keeps_classes_and_records<N, D>()
     ensures classes { (v : View N D) (given sorted : List (Record N D)) → Sorts v given sorted
@@ -47,8 +48,8 @@ pub fn sorting_keeps_classes_and_records<N, D>()
         → has_clash (records_of (zone_seen v given) n) ≡ true }
 {}
 
-/// The zone of sorted records of one class has owners that never descend, as the theorems on chains
-/// and verdicts ask.
+/// The owners of sorted records of one class never descend, as the theorems about chains and
+/// verdicts require.
 pub fn sorted_owners_never_descend<N: ToName, D: ZoneData + CanonicalOrd>()
     ensures { (given sorted : List (Record N D))
         → Sorts (seen N.labels D.rtype D.minimum D.canonical_cmp) given sorted → IsOneClass sorted
@@ -58,9 +59,10 @@ pub fn sorted_owners_never_descend<N: ToName, D: ZoneData + CanonicalOrd>()
     owners_never_descend::<N, D>();
 }
 
-/// Records whose data are octets in canonical form (RFC 4034, section 6.2), as `BorrowedRecord`
-/// has them, have the chain that the records have whose data these are, and where they have none,
-/// these have none, for the same reason. So a chain that was made of octets is one of the data that
+/// Takes records, and the same records with their data as octets in canonical form (RFC 4034,
+/// section 6.2), as in `BorrowedRecord`. A chain of the octets is the chain of the data; if the
+/// octets have none, the data have none, for the same reason. Data of type SOA must be parsed, and
+/// their MINIMUM must have 32 bits. So a chain that is made of octets is the chain of the data that
 /// were composed.
 pub fn octets_have_the_chain_of_their_data<O: Octets, N: ToName>()
     ensures { (given : List (Record N (ZoneRecordData O N))) → TellMinima given

@@ -1,4 +1,4 @@
--- Records whose data are octets: as links of chains, and as they stand in a message.
+-- Records whose data are octets: as links of chains, and as in a message.
 use Rattle.std.specs.{Prelude.{ℕ, ◌==◌, ◌-◌, List, length, drop, nat_lt, Option, Some, None, if◌then◌else◌, ◌≡◌, ◌++◌}, Int.w32}
 use Rattle.std.specs.{Int.from_be_bytes, declared.cmp.Ordering.Ordering, Ordering.{nat_cmp, on, then_cmp}, Cmp.{IsTotalOrder, on_total}}
 use Rattle.std.specs.Cmp.{then_total, nat_cmp_total, Lexicographic.{slice_cmp, on_texts}}
@@ -14,7 +14,7 @@ use Rattle.domain_base.specs.Types as rtypes
 
 -- ---- Records whose data are octets.
 
--- data of a type as octets
+-- data of a type, as octets
 pub record RawData : Type 0 where
   pub rtype : ℕ
   pub octets : Octets
@@ -22,7 +22,7 @@ pub record RawData : Type 0 where
 abbrev pub RawRecord : Type 0
 RawRecord = Record Name RawData
 
--- of an owner, a class, a TTL, a type and octets
+-- the record of an owner, a class, a TTL, a type and octets
 abbrev pub raw : Name → ℕ → ℕ → ℕ → Octets → RawRecord
 raw owner class ttl rtype octets =
     record {
@@ -32,7 +32,7 @@ raw owner class ttl rtype octets =
       «data» = record { rtype = rtype; octets = octets };
     }
 
--- the number that the last four octets are; None where there are less
+-- the last four octets as a number; None if there are fewer
 abbrev pub last_long : Octets → Option ℕ
 last_long octets =
     if nat_lt (length octets) 4 then None
@@ -42,12 +42,12 @@ last_long octets =
 abbrev pub minimum_of : RawData → Option ℕ
 minimum_of d = if d.rtype == rtypes.soa then last_long d.octets else None
 
--- what records say of a zone
+-- what these records say of a zone
 abbrev pub zone_of_raw : List RawRecord → List ZoneRecord
 zone_of_raw = zone_of (λ n. n) (λ d. d.rtype) minimum_of
 
--- by the number of the type, and then by octets: where these are in canonical form the canonical
--- order (RFC 4034, section 6.3)
+-- compares by the number of the type, and then by octets: the canonical order, if data are in
+-- canonical form (RFC 4034, section 6.3)
 abbrev pub data_cmp : RawData → RawData → Ordering
 data_cmp = then_cmp (on (λ d. d.rtype) nat_cmp) (on (λ d. d.octets) (slice_cmp nat_cmp))
 
@@ -65,7 +65,7 @@ next_values k = (k.next, k.bits)
 abbrev pub nsec_record : Link → RawRecord
 nsec_record k = raw k.owner k.class k.ttl rtypes.nsec (octets_of nsec (next_values k))
 
--- the next name and the bitmap have such octets
+-- the next name and the bitmap fit their fields
 abbrev pub IsNsec : Link → Type 0
 IsNsec k = Fits nsec (next_values k)
 
@@ -80,7 +80,7 @@ hash_values k =
 abbrev pub nsec3_record : HashedLink → RawRecord
 nsec3_record k = raw k.owner k.class k.ttl rtypes.nsec3 (octets_of nsec3 (hash_values k))
 
--- the fields and the bitmap have such octets
+-- the fields and the bitmap of NSEC3 data fit
 abbrev pub IsNsec3 : HashedLink → Type 0
 IsNsec3 k = Fits nsec3 (hash_values k)
 
@@ -91,15 +91,15 @@ param_values k =
     let p = k.parameters in
     ((p.algorithm, (k.flags, p.iterations)), p.salt)
 
--- the record of parameters (RFC 5155, section 4.2)
+-- the record of NSEC3 parameters (RFC 5155, section 4.2)
 abbrev pub param_record : ParamRecord → RawRecord
 param_record k = raw k.owner k.class k.ttl rtypes.nsec3param (octets_of nsec3param (param_values k))
 
--- the fields have such octets
+-- the values of NSEC3PARAM data fit their fields
 abbrev pub IsParam : ParamRecord → Type 0
 IsParam k = Fits nsec3param (param_values k)
 
--- ---- Records as they stand in a message, without compression (RFC 1035, sections 3.2.1 and 4.1.3).
+-- ---- Records as in a message, without compression (RFC 1035, sections 3.2.1 and 4.1.3).
 
 -- owner, type, class, TTL and the length of the data
 abbrev pub header : Layout
@@ -111,11 +111,11 @@ header_of r = (r.owner, (r.«data».rtype, (r.class, (r.ttl, length r.«data».o
 abbrev pub record_octets : RawRecord → Octets
 record_octets r = octets_of header (header_of r) ++ r.«data».octets
 
--- its parts have such octets
+-- the owner, type, class, TTL and length of the data fit their fields
 abbrev pub IsRecord : RawRecord → Type 0
 IsRecord r = Fits header (header_of r)
 
--- a record of an owner and data of any kind, with the octets of the data
+-- the record of an owner and data of any kind, with the octets of the data
 abbrev pub raw_record : {N D : Type 0} → (N → Name) → (D → ℕ) → (D → Octets) → N → ℕ → ℕ → D
     → RawRecord
 raw_record labels rtype octets owner class ttl d = raw (labels owner) class ttl (rtype d) (octets d)
@@ -124,7 +124,7 @@ abbrev pub raw_record_of : {N D : Type 0} → (N → Name) → (D → ℕ) → (
     → RawRecord
 raw_record_of labels rtype octets r = raw_record labels rtype octets r.owner r.class r.ttl r.«data»
 
--- octets that begin with both records begin with one record, and what follows it is the same
+-- octets that begin with both records begin with one record, and the same octets come after it
 pub record IsOneRecord (q r : RawRecord) (x y : Octets) : Type 0 where
   pub records : q ≡ r
   pub after : x ≡ y

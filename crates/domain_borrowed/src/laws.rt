@@ -1,4 +1,4 @@
-//! What holds of records and data as octets. A caller calls the law in its body.
+//! Laws about records and data as octets. A function uses a law by calling it in its body.
 ghost use Rattle.std.specs.Prelude.{◌≡◌, ◌<◌, ◌^◌, ◌++◌, Some};
 ghost use Rattle.domain_octets.specs.Octets.{Octets};
 ghost use Rattle.domain_base.specs.Types as rtypes;
@@ -8,7 +8,7 @@ ghost use Rattle.domain_plain.specs.{Plain.{soa, soa_values}, declared.soa.Soa.S
 
 use domain_base::ToName;
 
-/// Of the canonical octets of an SOA the MINIMUM is what `soa_minimum` reads: the last four.
+/// The last four of the canonical octets of an SOA are the MINIMUM, as `soa_minimum` reads it.
 pub fn minimum_is_last<N: ToName>()
     ensures { (d : Soa N) → d.minimum < 2 ^ 32 → minimum_of (record {
       rtype = rtypes.soa;
@@ -16,8 +16,8 @@ pub fn minimum_is_last<N: ToName>()
     }) ≡ Some d.minimum }
 {}
 
-/// Octets begin with one record at most: what was composed of a record is read as this record, and
-/// what follows it is left.
+/// Octets begin with at most one record: composed octets of a record are read as this record, and
+/// the octets after it are left.
 #[tactic(auto, using(crate::proofs::DataLemmas::same_record))]
 pub fn octets_begin_with_one_record()
     ensures { (q r : RawRecord) (x y : Octets) → IsRecord q → IsRecord r

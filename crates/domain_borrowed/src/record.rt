@@ -1,4 +1,4 @@
-//! Records that lie in octets (RFC 1035, section 4.1.3), and their data, also as those of chains.
+//! Records of borrowed octets (RFC 1035, section 4.1.3), and their data, also as data of chains.
 ghost use Rattle.std.specs.Prelude.{◌≡◌, ◌==◌, ◌&&◌, ◌≤◌, ◌++◌, ℕ, Bool, IfNone, IfSome, length};
 ghost use Rattle.domain_octets.specs.Octets.{Octets};
 ghost use Rattle.domain_base.specs.Types as rtypes;
@@ -19,7 +19,7 @@ use domain_record::{ComposeRecordData, Record, RecordData, ZoneData};
 use std::cmp::Ordering;
 use std::marker::Model;
 
-/// Returns the number that the last four octets are, or `None` if there are less.
+/// Returns the last four octets as a number, or `None` if there are fewer.
 fn last_long(octets: &[u8]) -> Option<Ttl>
     ensures { result ≡ last_long octets.now }
 {
@@ -29,7 +29,7 @@ fn last_long(octets: &[u8]) -> Option<Ttl>
     }
 }
 
-/// Data of any type, as octets that lie elsewhere: in a message, or in an arena.
+/// Data of any type, as octets borrowed from a message or an arena.
 #[derive(Drop)]
 pub struct BorrowedData<'a> {
     rtype: Rtype,
@@ -45,7 +45,7 @@ impl<'a> Model for BorrowedData<'a> {
 }
 
 impl<'a> BorrowedData<'a> {
-    /// Returns the data of a type that these octets are.
+    /// Returns data of a type with these octets.
     pub fn new(rtype: Rtype, octets: &'a [u8]) -> Self
         ensures { result ≡ record { rtype = rtype; octets = octets.now } }
     {
@@ -60,7 +60,7 @@ impl<'a> BorrowedData<'a> {
     }
 }
 
-// A copy is over the same octets.
+// A copy borrows the same octets.
 impl<'a> TryClone for BorrowedData<'a> {
     ghost is_clone = { λ d copy. copy ≡ d };
 
@@ -80,7 +80,7 @@ impl<'a> RecordData for BorrowedData<'a> {
     }
 }
 
-// The MINIMUM is the last field of an SOA, of four octets.
+// The MINIMUM is the last field of an SOA, in its last four octets.
 impl<'a> ZoneData for BorrowedData<'a> {
     ghost use Rattle.domain_borrowed.specs.Data.{minimum_of};
 
@@ -94,7 +94,8 @@ impl<'a> ZoneData for BorrowedData<'a> {
     }
 }
 
-// By the number of the type, and then by octets: of data in canonical form the canonical order.
+// By the number of the type, and then by octets: the canonical order, if data are in canonical
+// form.
 impl<'a> CanonicalOrd for BorrowedData<'a> {
     ghost use Rattle.domain_borrowed.specs.Data.{data_cmp, data_cmp_total};
 
@@ -110,42 +111,42 @@ impl<'a> CanonicalOrd for BorrowedData<'a> {
     }
 }
 
-/// A record that lies in octets, with its data unread.
+/// A record of borrowed octets, with its data not parsed.
 pub type BorrowedRecord<'a> = Record<ParsedName<'a>, BorrowedData<'a>>;
 
-/// An NSEC record that lies in octets.
+/// An NSEC record of borrowed octets.
 pub type ReadNsec<'a> = Record<ParsedName<'a>, Nsec<&'a [u8], ParsedName<'a>>>;
 
-/// An NSEC3 record that lies in octets.
+/// An NSEC3 record of borrowed octets.
 pub type ReadNsec3<'a> = Record<ParsedName<'a>, Nsec3<&'a [u8]>>;
 
-/// An NSEC3PARAM record that lies in octets.
+/// An NSEC3PARAM record of borrowed octets.
 pub type ReadNsec3param<'a> = Record<ParsedName<'a>, Nsec3param<&'a [u8]>>;
 
-/// A record of a chain that lies in octets, with its data read.
+/// A record of a chain of borrowed octets, with its data parsed.
 pub trait ReadAs<'a>: Drop {
-    /// What such records say.
+    /// The values of such records, as contracts see them.
     ghost Said: { Type 0 };
 
-    /// What this one says.
+    /// The value of this record.
     ghost said: { Self → Said };
 
-    /// The record that says so.
+    /// The record with this value.
     ghost raw: { Said → RawRecord };
 
-    /// Its parts have such octets.
+    /// The parts of this value fit their fields.
     ghost IsFit: { Said → Type 0 };
 
-    /// A record counts where an apex is asked for.
+    /// Whether a record counts for an apex.
     ghost counts: { Name → RawRecord → Bool };
 
-    /// Returns whether a record is of the type and, where such records tell of the apex alone, of
+    /// Returns whether a record is of the type and, if such records describe only the apex, is at
     /// the apex.
     fn counts<N: ToName>(borrowed: &BorrowedRecord<'a>, apex: &N) -> bool
         ensures { result ≡ counts (N.labels apex.now) borrowed.now };
 
-    /// Returns the record with its data read. Returns `None` if it is of another type, or the
-    /// octets are no such data, or more than these.
+    /// Returns the record with its data parsed. Returns `None` if it is of another type, or its
+    /// octets are not such data, or continue after them.
     fn read(borrowed: BorrowedRecord<'a>) -> Option<Self>
     where
         Self: Sized,
@@ -213,7 +214,7 @@ impl<'a> ReadAs<'a> for ReadNsec3<'a> {
     }
 }
 
-/// NSEC3PARAM data (RFC 5155, section 4.2), which tell of the apex alone.
+/// NSEC3PARAM data (RFC 5155, section 4.2), which describe only the apex.
 impl<'a> ReadAs<'a> for ReadNsec3param<'a> {
     ghost Said = { ParamRecord };
 
@@ -249,8 +250,8 @@ impl<'a> ReadAs<'a> for ReadNsec3param<'a> {
 /// Owner, type, class, TTL and the length of the data.
 type Header<'a> = (ParsedName<'a>, (u16, (u16, (u32, u16))));
 
-/// Returns the record that comes next, without compression. Returns `None` if the octets that are
-/// left begin with no record; some of them may be read then. Takes no memory.
+/// Reads the next record, without compression. Returns `None` if the octets that are left do not
+/// begin with a record; some of them may then have been read. Takes no memory.
 pub fn read_record<'a>(parser: &mut Parser<'a>) -> Option<BorrowedRecord<'a>>
     ensures some { IfSome result (λ r. (parser.old.left ≡ record_octets r ++ parser.new.left)
         × IsRecord r) }
@@ -270,14 +271,15 @@ pub fn read_record<'a>(parser: &mut Parser<'a>) -> Option<BorrowedRecord<'a>>
 }
 
 /// Appends a record of these parts as a message has it, without compression (RFC 1035, sections
-/// 3.2.1 and 4.1.3): owner, type, class, TTL, length of the data, data. It has such octets where
-/// its data have at most 65,535, which `fits_rdlen` tells. `laws::octets_begin_with_one_record`
-/// says that what was appended is read as this record and no other.
+/// 3.2.1 and 4.1.3): owner, type, class, TTL, length of the data, data. The data must have at most
+/// 65,535 octets, which `fits_rdlen` checks. By `laws::octets_begin_with_one_record` the octets are
+/// read as this record and no other.
 ///
 /// # Errors
 ///
-/// `ShortBuf` exactly where the octets would pass the limit of the builder; and `OutOfMemory`. Both
-/// leave what stood, and a beginning of the octets.
+/// `ShortBuf` if and only if the octets would exceed the limit of the builder, and `OutOfMemory` if
+/// there is no memory. Both keep the previous octets, and may leave a prefix of the new ones after
+/// them.
 #[tactic(auto, using(domain_fields::proofs::LayoutLemmas::appends_more))]
 pub fn compose_parts<N: ToName, D: ComposeRecordData, B: OctetsBuilder>(
     owner: &N,
@@ -301,7 +303,7 @@ pub fn compose_parts<N: ToName, D: ComposeRecordData, B: OctetsBuilder>(
     data.compose_rdata(target)
 }
 
-/// Appends the record as a message has it, as `compose_parts` does its parts.
+/// Appends the record as a message has it, like `compose_parts`.
 ///
 /// # Errors
 ///

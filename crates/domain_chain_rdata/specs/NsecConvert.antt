@@ -1,4 +1,4 @@
--- NSEC data copied, and made over other octets
+-- NSEC data that are copied, or made over other octets
 use Rattle.std.specs.Prelude.{◌≡◌}
 use Rattle.domain_chain_rdata.specs.declared.nsec.Nsec.{Nsec}
 
@@ -8,6 +8,6 @@ pub record IsSameNsec {S N O M : Type 0} (is_same_name : N → M → Type 0) (so
   pub next_name : is_same_name source.next_name made.next_name
   pub types : made.types ≡ source.types
 
--- of a copy the next name is a copy
+-- a copy, in which the next name is a copy
 abbrev pub IsNsecClone : {O N : Type 0} → (N → N → Type 0) → Nsec O N → Nsec O N → Type 0
 IsNsecClone is_name_clone = IsSameNsec is_name_clone

@@ -1,4 +1,4 @@
--- The data of chains: their fields in the order of the wire, and the flag of opt-out.
+-- The data of chains: their fields in wire order, and the Opt-Out flag.
 use Rattle.std.{proofs.Common.{bytes_eq, refl}, specs.{List.flat_map, Ordering.{on, eq_of_both}, Hash.Alike, Cmp.{first_so, second_so}}}
 use Rattle.std.specs.{Cmp.Lexicographic.bytes_decides, Prelude.{ℕ, Bool, bit_or, codes, if◌then◌else◌}}
 use Rattle.domain_octets.specs.Octets.{Octets}
@@ -7,7 +7,7 @@ use Rattle.domain_chain_rdata.specs.declared.{nsec.Nsec.Nsec, nsec3.Nsec3.Nsec3,
 use Rattle.domain_names.specs.{Name.{Name, same_name}, Laws.same_name_same}
 use Rattle.std.specs.Hash as fed
 
--- ---- the fields of record data, in the order of the wire
+-- ---- the fields of record data, in wire order
 
 -- the next name, whose case the canonical form keeps (RFC 6840, section 5.1), and the type bitmap
 -- (RFC 4034, section 4.1)
@@ -17,7 +17,8 @@ nsec = one spelled_name ▸ one types
 abbrev pub nsec_values : {O N : Type 0} → (N → Name) → Nsec O N → Values nsec
 nsec_values labels d = (labels d.next_name, d.types)
 
--- what is hashed of it: the next name lowered, since data that differ in its case alone are equal
+-- the fields that are hashed: the next name in lower case, since data that differ only in its case
+-- are equal
 abbrev pub nsec_hashed : Layout
 nsec_hashed = one name ▸ one types
 
@@ -25,7 +26,7 @@ nsec_hashed = one name ▸ one types
 abbrev pub hash_numbers : Layout
 hash_numbers = one octet ▸ one octet ▸ one short
 
--- those, and the salt (RFC 5155, section 4.2)
+-- these numbers, and the salt (RFC 5155, section 4.2)
 abbrev pub nsec3param : Layout
 nsec3param = hash_numbers ▸ one counted
 
@@ -35,7 +36,7 @@ nsec3param_values d = ((d.hash_algorithm, (d.flags, d.iterations)), d.salt)
 abbrev pub nsec3param_octets : {O : Type 0} → Nsec3param O → Octets
 nsec3param_octets d = octets_of nsec3param (nsec3param_values d)
 
--- the octets without the length of the salt: in their order salts are compared lexicographically
+-- the octets without the length of the salt: their order compares salts lexicographically
 abbrev pub uncounted : Layout
 uncounted = hash_numbers ▸ one rest
 
@@ -46,7 +47,7 @@ uncounted_octets d = octets_of uncounted (nsec3param_values d)
 abbrev pub hash_fields : Layout
 hash_fields = nsec3param ▸ one counted
 
--- those, and the type bitmap
+-- these fields, and the type bitmap
 abbrev pub nsec3 : Layout
 nsec3 = hash_fields ▸ one types
 
@@ -56,9 +57,9 @@ nsec3_values d = ((((d.hash_algorithm, (d.flags, d.iterations)), d.salt), d.next
 abbrev pub nsec3_octets : {O : Type 0} → Nsec3 O → Octets
 nsec3_octets d = octets_of nsec3 (nsec3_values d)
 
--- ---- what the impls of comparisons cite
+-- ---- laws that the impls of comparisons use
 
--- names that are the same and equal octets are fed alike
+-- data with the same names and equal octets feed a hasher the same
 pub nsec_fed : {D : Type 0} (labels : D → Name) (octets : D → Octets)
     → Alike (eq_of_both (on labels same_name) (on octets bytes_eq))
     (λ d. flat_map fed.u8 (canonical_of nsec_hashed (labels d, octets d)))
@@ -72,7 +73,7 @@ nsec_fed labels octets = record {
 
 -- ---- the flag of NSEC3 and NSEC3PARAM data (RFC 5155, section 3.1.2)
 
--- unsigned delegations may be left out of the chain
+-- the Opt-Out flag is set: unsigned delegations may be left out of the chain
 abbrev pub is_opt_out : ℕ → Bool
 is_opt_out = has_flag 1
 

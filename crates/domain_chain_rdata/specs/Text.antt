@@ -11,24 +11,24 @@ use Rattle.domain_codecs.specs.{Base32.base32_upper, declared.codec.Codec.TheVar
 
 -- ---- NSEC data as tokens and as pieces of a zone file
 
--- all tokens spell the types of a bitmap, one each
+-- all tokens are the types of a bitmap, one type a token
 pub record BitmapText (old : Tokens) (octets : Octets) (new : Tokens) : Type 0 where
   pub types : Rtypes
   pub spelled : TypeTexts old types
   pub built : octets ≡ bitmap_octets (is_among types)
   pub all : new ≡ []
 
--- the tokens are a name, and then types to the end, one a token (RFC 4034, section 4.2)
+-- the tokens are a name, and then types to the end, one type a token (RFC 4034, section 4.2)
 abbrev pub NsecText : Grammar (Values nsec)
 NsecText = Both (OneToken NameText) BitmapText
 
--- the first token that is refused: the name's, where names have the first limit, or a type's, where
--- bitmaps have the second
+-- the first token that is rejected: that of the name, if names have the first limit, or that of a
+-- type, if bitmaps have the second
 abbrev pub RefusesNsec : Option ℕ → Option ℕ → Refusal
 RefusesNsec names bitmaps =
     RefusesBoth (OneToken NameText) (RefusesToken (NameTextFault names)) (RefusesTypes bitmaps)
 
--- a reason that is neither want of room nor of memory, for a name or for a bitmap
+-- a reason that is neither lack of room nor of memory, for a name or for a bitmap
 abbrev pub IsOfNsec : Option ℕ → Option ℕ → ScanFault → Type 0
 IsOfNsec names bitmaps fault = IsOfTokens names fault × IsOfTokens bitmaps fault
 
@@ -40,25 +40,25 @@ nsec_pieces labels octets =
 -- ---- the parameters of the hashes of names as text (RFC 5155, section 4.3), and in the pieces of a
 -- zone file
 
--- the tokens begin with three numbers and a salt, and these are left
+-- the tokens begin with three numbers and a salt, and the other tokens are left
 abbrev pub Nsec3paramText : Grammar (Values nsec3param)
 Nsec3paramText = Both (Scans hash_numbers) (OneToken SaltText)
 
--- the first of those that is refused, where salts have this limit
+-- the first of these tokens that is rejected, if salts have this limit
 abbrev pub RefusesNsec3param : Option ℕ → Refusal
 RefusesNsec3param limit =
     RefusesBoth (Scans hash_numbers) (Refuses limit hash_numbers)
     (RefusesToken (SaltTokenFault limit))
 
--- the numbers with single spaces
+-- the numbers separated by single spaces
 unfoldable pub hash_numbers_text : Values hash_numbers → Octets
 hash_numbers_text v = decimal v.0 ++ codes " " ++ decimal v.1.0 ++ codes " " ++ decimal v.1.1
 
--- all fields with single spaces
+-- all fields separated by single spaces
 abbrev pub nsec3param_text : Values nsec3param → Octets
 nsec3param_text v = hash_numbers_text v.0 ++ codes " " ++ salt_text v.1
 
--- the pieces of the numbers, where this is the comment on the flags
+-- the pieces of the numbers, with this comment for the flags
 abbrev pub number_pieces : Octets → Values hash_numbers → List PieceText
 number_pieces flags_comment v =
     token (decimal v.0) ∷ token (decimal v.1.0) ∷ comment flags_comment ∷ token (decimal v.1.1)
@@ -70,7 +70,7 @@ nsec3param_pieces v =
 
 -- ---- NSEC3 data as text (RFC 5155, section 3.3), and in the pieces of a zone file
 
--- parameters, and a hash in Base 32 hex
+-- the parameters, and a hash in Base 32 hex
 abbrev pub HashText : Grammar (Values hash_fields)
 HashText = Both Nsec3paramText (OneToken OwnerHashText)
 
@@ -79,20 +79,20 @@ RefusesHash limit =
     RefusesBoth Nsec3paramText (RefusesNsec3param limit)
     (RefusesToken (CountedFault Base32Hex (codes "illegal owner name hash") limit))
 
--- those, and then types to the end
+-- the parameters and a hash, and then types to the end
 abbrev pub Nsec3Text : Grammar (Values nsec3)
 Nsec3Text = Both HashText BitmapText
 
--- the first token that is refused, where salts, hashes and bitmaps have this limit
+-- the first token that is rejected, if salts, hashes and bitmaps have this limit
 abbrev pub RefusesNsec3 : Option ℕ → Refusal
 RefusesNsec3 limit = RefusesBoth HashText (RefusesHash limit) (RefusesTypes limit)
 
--- the parameters with a space after each
+-- the parameters, with a space after each
 abbrev pub params_before_hash : Values hash_numbers → Octets → Octets
 params_before_hash numbers salt =
     hash_numbers_text numbers ++ codes " " ++ salt_text salt ++ codes " "
 
--- the fields with single spaces; there is none after the hash where there are no types
+-- the fields separated by single spaces, with none after the hash if there are no types
 abbrev pub nsec3_text : Values nsec3 → Octets
 nsec3_text v =
     params_before_hash v.0.0.0 v.0.0.1 ++ base32_upper v.0.1 ++ spaced_types (types_of v.1)

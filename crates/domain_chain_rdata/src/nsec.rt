@@ -1,4 +1,4 @@
-//! The next name and the types at a name: written, compared, hashed, copied.
+//! NSEC data, the next name and the types at a name: writing, comparing, hashing and copying.
 ghost use Rattle.std.specs.Prelude.{◌≡◌, ◌⊎◌, ◌&&◌, Some, IfOk, IsNone, length, refl, bytes_eq, ◌++◌, codes};
 ghost use Rattle.std.specs.{Ordering.{on, nat_cmp, then_cmp, eq_of_both, ordering_then}, Cmp.on_equiv};
 ghost use Rattle.std.specs.Cmp.{on_total, then_total, and_equiv, partial_equiv_from_equiv, po};
@@ -33,7 +33,7 @@ use std::hash::{Hash, Hasher};
 /// The next name and the types.
 pub type NsecFields<'a> = (Spelled<ParsedName<'a>>, RtypeBitmap<&'a [u8]>);
 
-/// The next owner of a zone's chain, and the types at this one (RFC 4034, section 4).
+/// NSEC data: the next owner of a zone's chain, and the types at this owner (RFC 4034, section 4).
 #[derive(Drop)]
 #[derive_where(Debug; N)]
 pub struct Nsec<O: Octets, N> {
@@ -74,7 +74,7 @@ impl<O: Octets, N> Nsec<O, N> {
 }
 
 impl<O: Octets, N: ToName> Nsec<O, N> {
-    /// Returns the fields, in the order of the wire.
+    /// Returns the fields, in wire order.
     pub(crate) fn fields(&self) -> NsecFields<'_>
         ensures { nsec_values N.labels self.now ≡ (result.0.0, result.1) }
     {
@@ -84,16 +84,18 @@ impl<O: Octets, N: ToName> Nsec<O, N> {
 }
 
 impl<'a> Nsec<&'a [u8], ParsedName<'a>> {
-    /// Returns the data that all octets that are left are: a name, and then a type bitmap (RFC
-    /// 4034, section 4.1). Takes no memory.
+    /// Parses all octets that are left as a name and a type bitmap (RFC 4034, section 4.1). Takes
+    /// no memory.
     ///
     /// # Errors
     ///
-    /// The first fault in field order: of the name, at the first label that is at fault, a missing
-    /// octet is `ShortInput`, a length over 63 or a pointer `Form("compressed or bad label")`, a
-    /// name over 255 octets `Form("long domain name")`; of the bitmap, a missing octet is
-    /// `ShortInput` and a block of no or over 32 octets `Form("invalid NSEC bitmap")`. The parser
-    /// does not move then.
+    /// The first fault in field order, in a name at its first faulty label. The parser does not
+    /// move then.
+    ///
+    /// - `ShortInput` if an octet of the name or of the bitmap is missing.
+    /// - `Form("compressed or bad label")` if a label is longer than 63 octets, or is a pointer.
+    /// - `Form("long domain name")` if the name is longer than 255 octets.
+    /// - `Form("invalid NSEC bitmap")` if a block of the bitmap has no octets or more than 32.
     pub fn parse(parser: &mut Parser<'a>) -> Result<Self, ParseError>
         ensures { Reads nsec (nsec_values (λ name. name)) fault_of parser.old parser.new result }
     {
@@ -155,8 +157,8 @@ impl<O: Octets, N: ToName> CanonicalOrd for Nsec<O, N> {
 }
 
 impl<O: Octets, N: ToName> Nsec<O, N> {
-    /// Returns whether data over other octets and names are the same: the next names but for the
-    /// case of letters, and the bitmaps' octets. Takes no memory.
+    /// Returns whether the data are equal: the next names except for the case of letters, and the
+    /// octets of the bitmaps. The types of octets and names may differ. Takes no memory.
     pub fn eq_to<P: Octets, M: ToName>(&self, other: &Nsec<P, M>) -> bool
         ensures { result ≡ (same_name (N.labels self.now.next_name) (M.labels other.now.next_name)
             && bytes_eq self.now.types other.now.types) }
@@ -164,8 +166,8 @@ impl<O: Octets, N: ToName> Nsec<O, N> {
         self.next_name().name_eq(other.next_name()) && self.types().eq_to(other.types())
     }
 
-    /// Returns the order of the next names, and then of the bitmaps' octets, also of data over
-    /// other octets and names. Takes no memory.
+    /// Compares the next names, and then the octets of the bitmaps. The types of octets and names
+    /// may differ. Takes no memory.
     pub fn cmp_to<P: Octets, M: ToName>(&self, other: &Nsec<P, M>) -> Ordering
         ensures { result ≡ ordering_then
             (name_cmp (N.labels self.now.next_name) (M.labels other.now.next_name))
@@ -176,7 +178,7 @@ impl<O: Octets, N: ToName> Nsec<O, N> {
             .then_with(|| self.types().cmp_to(other.types()))
     }
 
-    /// Returns the canonical order, also of data over other octets and names. Takes no memory.
+    /// Compares in canonical order. The types of octets and names may differ. Takes no memory.
     pub fn canonical_cmp_to<P: Octets, M: ToName>(&self, other: &Nsec<P, M>) -> Ordering
         ensures { result ≡ slice_cmp nat_cmp (canonical_of nsec (nsec_values N.labels self.now))
             (canonical_of nsec (nsec_values M.labels other.now)) }
@@ -232,7 +234,7 @@ impl<O: Octets, N: ToName> Ord for Nsec<O, N> {
     }
 }
 
-/// The octets of the next name, lowered, and then those of the bitmap.
+/// Hashes the octets of the next name in lower case, and then those of the bitmap.
 impl<O: Octets, N: ToName> Hash for Nsec<O, N> {
     ghost hash_input = { λ d. flat_map fed.u8 (canonical_of nsec_hashed (nsec_values N.labels d)) };
 
@@ -292,14 +294,16 @@ impl<O: FromBuilder, N: ToName> Nsec<O, N>
 where
     O::Builder: EmptyBuilder + Truncate + FreezeBuilder<Frozen = O> + Drop,
 {
-    /// Returns the data that all tokens that are left spell: a name, and then types, one each (RFC
-    /// 4034, section 4.2).
+    /// Reads all tokens that are left as a name and types, one type a token (RFC 4034, section
+    /// 4.2).
     ///
     /// # Errors
     ///
-    /// As the first token that is refused says: `EndOfEntry` where there is none, `Custom("illegal
-    /// name")`, `Custom("unknown record type")`, `ShortBuf` and `OutOfMemory` where a name or the
-    /// bitmap has no room or no memory. After an error, a suffix of the tokens is left.
+    /// That of the first token that is rejected. After an error, a suffix of the tokens is left.
+    ///
+    /// - `EndOfEntry` if the token is missing.
+    /// - `Custom("illegal name")` or `Custom("unknown record type")` if it is not of its form.
+    /// - `ShortBuf` or `OutOfMemory` if a name or the bitmap has no room or no memory.
     pub fn scan<S: Scanner<Name = N>>(alloc: Global, scanner: &mut S) -> Result<Self, ScanError>
     where
         N: Drop,
@@ -313,8 +317,8 @@ where
     }
 }
 
-/// The next name with its last dot, a space, and the types with single spaces; the space stays
-/// where there are no types.
+/// Writes the next name with its last dot, a space, and the types separated by single spaces. The
+/// space remains if there are no types.
 impl<O: Octets, N: ToName> fmt::Display for Nsec<O, N> {
     ghost output = { λ d. Some (name_text (N.labels d.next_name) ++ codes ". "
         ++ types_text (types_of d.types)) };
@@ -326,7 +330,7 @@ impl<O: Octets, N: ToName> fmt::Display for Nsec<O, N> {
     }
 }
 
-/// A block of the next name with its last dot and a token for each type.
+/// Writes a block of the next name with its last dot and a token for each type.
 impl<O: Octets, N: ToName> ZonefileFmt for Nsec<O, N> {
     ghost pieces = { λ d. nsec_pieces (N.labels d.next_name) d.types };
 

@@ -1,4 +1,5 @@
-//! The next hash and the types at a hashed name: written, compared, hashed, copied.
+//! NSEC3 data, the next hash and the types at a hashed name: writing, comparing, hashing and
+//! copying.
 ghost use Rattle.std.specs.Prelude.{◌≡◌, ◌↔◌, ◌⊎◌, Some, IsTrue, IfOk, IsNone, length, refl, bytes_eq, IfSome};
 ghost use Rattle.std.specs.{Ordering.{on, nat_cmp}, Cmp.{partial_equiv_from_equiv, po}};
 ghost use Rattle.std.specs.{Cmp.Lexicographic.{slice_cmp, on_texts, on_texts_equal}, List.flat_map};
@@ -30,8 +31,8 @@ use std::cmp::Ordering;
 use std::fmt;
 use std::hash::{Hash, Hasher};
 
-/// The next hash of a zone's chain, how names are hashed, and the types at the name that this one
-/// is the hash of (RFC 5155, section 3).
+/// NSEC3 data: how names are hashed, the next hash of a zone's chain, and the types at the name
+/// whose hash is in this record's owner (RFC 5155, section 3).
 #[derive(Drop)]
 #[derive_where(Debug)]
 pub struct Nsec3<O: Octets> {
@@ -75,7 +76,7 @@ impl<O: Octets> Nsec3<O> {
         }
     }
 
-    /// Returns the data with these parameters.
+    /// Returns the data with these parameters, next hash and types.
     pub(crate) fn of_params(
         params: Nsec3param<O>,
         next_owner: OwnerHash<O>,
@@ -88,7 +89,7 @@ impl<O: Octets> Nsec3<O> {
         Nsec3::new(hash_algorithm, flags, iterations, salt, next_owner, types)
     }
 
-    /// Returns the algorithm of the hash (RFC 5155, section 3.1.1).
+    /// Returns the hash algorithm (RFC 5155, section 3.1.1).
     pub fn hash_algorithm(&self) -> Nsec3HashAlgorithm
         ensures { result ≡ self.now.hash_algorithm }
     {
@@ -102,7 +103,7 @@ impl<O: Octets> Nsec3<O> {
         self.flags
     }
 
-    /// Returns whether the bit of opt-out, 0x01, is set: unsigned delegations may be left out
+    /// Returns whether the Opt-Out bit, 0x01, is set. Unsigned delegations may then be left out
     /// between this hash and the next (RFC 5155, section 3.1.2.1).
     pub fn opt_out(&self) -> bool
         ensures { result ≡ is_opt_out self.now.flags }
@@ -110,14 +111,14 @@ impl<O: Octets> Nsec3<O> {
         has_opt_out(self.flags)
     }
 
-    /// How often the hash is taken again (RFC 5155, section 3.1.3).
+    /// Returns the number of additional iterations of the hash (RFC 5155, section 3.1.3).
     pub fn iterations(&self) -> u16
         ensures { result ≡ self.now.iterations }
     {
         self.iterations
     }
 
-    /// Returns what is hashed after a name (RFC 5155, section 3.1.5).
+    /// Returns the salt, which is hashed after a name (RFC 5155, section 3.1.5).
     pub fn salt(&self) -> &Nsec3Salt<O>
         ensures { result.now ≡ self.now.salt }
     {
@@ -156,7 +157,7 @@ impl<O: Octets> Nsec3<O> {
         self.types = types;
     }
 
-    /// Returns the first three fields.
+    /// Returns the first three fields: hash algorithm, flags and iterations.
     pub(crate) fn numbers(&self) -> HashNumbers
         ensures { result ≡ (nsec3_values self.now).0.0.0 }
     {
@@ -166,7 +167,7 @@ impl<O: Octets> Nsec3<O> {
         )
     }
 
-    /// Returns the fields, in the order of the wire.
+    /// Returns the fields, in wire order.
     pub(crate) fn fields(&self) -> Nsec3Fields<'_>
         ensures values { nsec3_values self.now ≡ (
           ((result.0.0.0, result.0.0.1.octets.now), result.0.1.octets.now),
@@ -188,14 +189,15 @@ impl<O: Octets> Nsec3<O> {
 }
 
 impl<'a> Nsec3<&'a [u8]> {
-    /// Returns the data that all octets that are left are: hash algorithm, flags, iterations, a
-    /// counted salt, a counted hash, and then a type bitmap (RFC 5155, section 3.2). Takes no
-    /// memory.
+    /// Parses all octets that are left as hash algorithm, flags, iterations, a counted salt, a
+    /// counted hash and a type bitmap (RFC 5155, section 3.2). Takes no memory.
     ///
     /// # Errors
     ///
-    /// The first fault in field order: a missing octet is `ShortInput`; of the bitmap, a block of
-    /// no or over 32 octets is `Form("invalid NSEC bitmap")`. The parser does not move then.
+    /// The first fault in field order. The parser does not move then.
+    ///
+    /// - `ShortInput` if an octet is missing.
+    /// - `Form("invalid NSEC bitmap")` if a block of the bitmap has no octets or more than 32.
     pub fn parse(parser: &mut Parser<'a>) -> Result<Self, ParseError>
         ensures { Reads nsec3 nsec3_values fault_of parser.old parser.new result }
     {
@@ -257,7 +259,7 @@ impl<O: Octets> CanonicalOrd for Nsec3<O> {
 }
 
 impl<O: Octets> Nsec3<O> {
-    /// Returns whether data over other octets are the same. Takes no memory.
+    /// Returns whether the data are equal. The types of octets may differ. Takes no memory.
     pub fn eq_to<P: Octets>(&self, other: &Nsec3<P>) -> bool
         ensures value { result ≡ bytes_eq (nsec3_octets self.now) (nsec3_octets other.now) }
         ensures same { IsTrue result ↔ (nsec3_values self.now ≡ nsec3_values other.now) }
@@ -265,15 +267,15 @@ impl<O: Octets> Nsec3<O> {
         domain_fields::canonical_eq(&self.fields(), &other.fields())
     }
 
-    /// Returns the order by the fields in the order of the wire, shorter salts and hashes first,
-    /// also of data over other octets. This is the order of the octets. Takes no memory.
+    /// Compares the fields in wire order, with shorter salts and hashes first. This is the order of
+    /// the octets. The types of octets may differ. Takes no memory.
     pub fn cmp_to<P: Octets>(&self, other: &Nsec3<P>) -> Ordering
         ensures { result ≡ slice_cmp nat_cmp (nsec3_octets self.now) (nsec3_octets other.now) }
     {
         self.fields().order(&other.fields())
     }
 
-    /// Returns the canonical order, which is `cmp_to`.
+    /// Compares in canonical order, which is that of `cmp_to`.
     pub fn canonical_cmp_to<P: Octets>(&self, other: &Nsec3<P>) -> Ordering
         ensures { result ≡ slice_cmp nat_cmp (nsec3_octets self.now) (nsec3_octets other.now) }
     {
@@ -319,7 +321,7 @@ impl<O: Octets> Ord for Nsec3<O> {
     }
 }
 
-/// The octets.
+/// Hashes the octets.
 impl<O: Octets> Hash for Nsec3<O> {
     ghost hash_input = { λ d. flat_map fed.u8 (nsec3_octets d) };
 
@@ -384,16 +386,18 @@ impl<O: FromBuilder + Drop> Nsec3<O>
 where
     O::Builder: EmptyBuilder + Truncate + FreezeBuilder<Frozen = O> + Drop,
 {
-    /// Returns the data that all tokens that are left spell: hash algorithm, flags and iterations
-    /// in decimal, the salt in Base 16 or as a dash, the next hash in Base 32 hex, and then types,
-    /// one each.
+    /// Reads all tokens that are left: hash algorithm, flags and iterations in decimal, the salt in
+    /// Base 16 or as a dash, the next hash in Base 32 hex, and types, one type a token.
     ///
     /// # Errors
     ///
-    /// That of the first token that is refused: `EndOfEntry` where there is none,
-    /// `Custom("decimal number expected")`, what `scan` of the salt and of the hash says,
-    /// `Custom("unknown record type")`, `ShortBuf` and `OutOfMemory` where the bitmap has no room
-    /// or no memory. The tokens left are then an end of those before.
+    /// That of the first token that is rejected. After an error, a suffix of the tokens is left.
+    ///
+    /// - `EndOfEntry` if the token is missing.
+    /// - `Custom("decimal number expected")` or `Custom("unknown record type")` if it is not of its
+    ///   form.
+    /// - What `scan` of the salt or of the hash returns.
+    /// - `ShortBuf` or `OutOfMemory` if the bitmap has no room or no memory.
     pub fn scan<S: Scanner<Octets = O>>(alloc: Global, scanner: &mut S) -> Result<Self, ScanError>
         ensures read { ReadsTokens Nsec3Text nsec3_values (RefusesNsec3 O.Builder.limit)
             (S.tokens scanner.old) (S.tokens scanner.new) result }
@@ -409,7 +413,7 @@ where
 }
 
 impl<O: Octets> Nsec3<O> {
-    /// Returns the comment on the flags.
+    /// Returns the comment for the flags.
     fn flags_comment(&self) -> &'static str
         ensures { result.now ≡ opt_out_comment self.now.flags }
     {
@@ -421,7 +425,7 @@ impl<O: Octets> Nsec3<O> {
     }
 }
 
-/// The types, a space before each.
+/// The types, printed with a space before each.
 #[derive(Drop)]
 struct AfterSpaces<'a, O: Octets>(&'a RtypeBitmap<O>);
 
@@ -438,8 +442,9 @@ impl<'a, O: Octets> fmt::Display for AfterSpaces<'a, O> {
     }
 }
 
-/// Returns the parameters that a zone should have, as they are written before a hash: SHA-1, with
-/// opt-out or not, no iterations and no salt (RFC 9276, section 3.1).
+/// Returns the text of the recommended parameters, with a space after each, as it is written before
+/// the hash. They are SHA-1, with or without Opt-Out, no iterations and no salt (RFC 9276, section
+/// 3.1). Returns `None` for any other parameters.
 #[tactic(auto, using(crate::proofs::TextLemmas::usual_text))]
 fn usual_params(numbers: HashNumbers, salt: &[u8]) -> Option<&'static str>
     ensures { IfSome result (λ text. text.now ≡ params_before_hash numbers salt.now) }
@@ -455,7 +460,8 @@ fn usual_params(numbers: HashNumbers, salt: &[u8]) -> Option<&'static str>
     }
 }
 
-/// The parameters, a space after each. Those of nearly all zones are written in one piece.
+/// The parameters, printed with a space after each. Those of nearly all zones are written in one
+/// piece.
 #[derive(Drop)]
 struct BeforeHash<'a, O: Octets>(HashNumbers, &'a Nsec3Salt<O>);
 
@@ -473,7 +479,8 @@ impl<'a, O: Octets> fmt::Display for BeforeHash<'a, O> {
     }
 }
 
-/// The fields with single spaces. There is none after the hash where there are no types.
+/// Writes the fields separated by single spaces. There is no space after the hash if there are no
+/// types.
 impl<O: Octets> fmt::Display for Nsec3<O> {
     ghost output = { λ d. Some (nsec3_text (nsec3_values d)) };
 
@@ -484,8 +491,8 @@ impl<O: Octets> fmt::Display for Nsec3<O> {
     }
 }
 
-/// The fields, with comments on the flags, of which it names opt-out alone, the iterations and the
-/// salt.
+/// Writes the fields with comments for the flags, the iterations and the salt. The comment for the
+/// flags names only Opt-Out.
 impl<O: Octets> ZonefileFmt for Nsec3<O> {
     ghost pieces = { λ d. nsec3_pieces (nsec3_values d) };
 

@@ -1,5 +1,5 @@
-//! What holds of the octets and the tokens of hashed names (RFC 5155, sections 3 and 4).
-//! A caller calls the law in its body.
+//! Laws about the octets and the tokens of NSEC3 and NSEC3PARAM data (RFC 5155, sections 3 and 4).
+//! A function uses a law by calling it in its body.
 ghost use Rattle.std.specs.Prelude.{◌≢◌, ℕ, [], Option};
 ghost use Rattle.domain_octets.specs.Text.{words_of};
 ghost use Rattle.domain_names.specs.Text.{IsOfTokens};
@@ -12,7 +12,7 @@ ghost use Rattle.domain_chain_rdata.specs.Rdata.{nsec3, nsec3_values, nsec3param
 use crate::{Nsec3, Nsec3param};
 use domain_octets::Octets;
 
-/// The octets of parameters are read as these parameters, in no other way, and nothing is left.
+/// The octets of parameters parse back as these parameters, in no other way, and nothing is left.
 #[tactic(auto, using(crate::proofs::TextLemmas::params_back))]
 pub fn nsec3param_parses_back<O: Octets>(value: &Nsec3param<O>)
     ensures { ParsesBack nsec3param (nsec3param_values value.now) }
@@ -20,8 +20,8 @@ pub fn nsec3param_parses_back<O: Octets>(value: &Nsec3param<O>)
     let _fields = value.fields();
 }
 
-/// The octets of NSEC3 data are read as these fields, the last a type bitmap, in no other way, and
-/// nothing is left.
+/// The octets of NSEC3 data parse back as these fields, the last one a type bitmap, in no other
+/// way, and nothing is left.
 #[tactic(auto, using(crate::proofs::TextLemmas::nsec3_back))]
 pub fn nsec3_parses_back<O: Octets>(value: &Nsec3<O>)
     ensures { ParsesBack nsec3 (nsec3_values value.now) }
@@ -29,9 +29,10 @@ pub fn nsec3_parses_back<O: Octets>(value: &Nsec3<O>)
     let _fields = value.fields();
 }
 
-/// Tokens begin with parameters, with parameters and a hash, or with NSEC3 data in one way at most:
-/// the values and the tokens that are left are determined. Those that are refused, but for want of
-/// room or of memory, spell none, and are refused for one reason, over builders with any limit.
+/// Tokens begin with parameters, with parameters and a hash, or with NSEC3 data in at most one way:
+/// the values and the tokens that are left are determined. Tokens that are rejected for another
+/// reason than room or memory spell no such data, and are rejected for one reason only. This holds
+/// for builders with any limit.
 pub fn hash_texts_are_exact()
     ensures params { (limit : Option ℕ) → IsExact (IsOfTokens limit) Nsec3paramText
         (RefusesNsec3param limit) }
@@ -40,7 +41,7 @@ pub fn hash_texts_are_exact()
         (RefusesNsec3 limit) }
 {}
 
-/// The words of what parameters are written as spell them.
+/// The words of written parameters scan back as these parameters.
 pub fn nsec3param_reads_back<O: Octets>(value: &Nsec3param<O>)
     ensures { Nsec3paramText (words_of (nsec3param_text (nsec3param_values value.now)))
         (nsec3param_values value.now) [] }
@@ -48,9 +49,10 @@ pub fn nsec3param_reads_back<O: Octets>(value: &Nsec3param<O>)
     let _fields = value.fields();
 }
 
-/// The words of what NSEC3 data with a hash of one octet or more are written as spell the same
-/// parameters, hash and types. They spell the same bitmap too, if its windows ascend strictly and
-/// no block ends in a zero octet. A hash of no octets is written as nothing, and is not read back.
+/// The words of written NSEC3 data scan back as the same parameters, hash and types, if the hash
+/// has at least one octet. They scan back as the same bitmap too, if its windows ascend strictly
+/// and no block ends in a zero octet. A hash without octets is written as nothing, and does not
+/// scan back.
 pub fn nsec3_reads_back<O: Octets>(value: &Nsec3<O>)
     ensures types { value.now.next_owner ≢ []
         → Nsec3Text (words_of (nsec3_text (nsec3_values value.now)))

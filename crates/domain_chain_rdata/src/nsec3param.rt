@@ -1,4 +1,4 @@
-//! The parameters of the hashes of a zone's names (RFC 5155, section 4).
+//! NSEC3PARAM data: the parameters of the hashes of a zone's names (RFC 5155, section 4).
 ghost use Rattle.std.specs.Prelude.{◌≡◌, ◌↔◌, [], Some, IsTrue, IfOk, length, refl, bytes_eq, IsNone, ◌++◌};
 ghost use Rattle.std.specs.{Prelude.OnOk, List.flat_map, Ordering.{on, nat_cmp}, Cmp.partial_equiv_from_equiv};
 ghost use Rattle.std.specs.Cmp.{po, Lexicographic.{slice_cmp, on_texts, on_texts_equal}};
@@ -27,11 +27,11 @@ use std::cmp::Ordering;
 use std::fmt;
 use std::hash::{Hash, Hasher};
 
-/// The bit of the flags that says that unsigned delegations may be left out of the chain (RFC 5155,
+/// The Opt-Out bit of the flags: unsigned delegations may be left out of the chain (RFC 5155,
 /// section 3.1.2.1).
 const OPT_OUT: u8 = 0x01;
 
-/// How the names of a zone are hashed (RFC 5155, section 4).
+/// NSEC3PARAM data: how the names of a zone are hashed (RFC 5155, section 4).
 #[derive(Drop)]
 #[derive_where(Debug)]
 pub struct Nsec3param<O: Octets> {
@@ -44,10 +44,10 @@ pub struct Nsec3param<O: Octets> {
 /// Hash algorithm, flags and iterations.
 pub type HashNumbers = (u8, (u8, u16));
 
-/// Those, and the salt.
+/// Hash algorithm, flags, iterations and salt.
 pub type ParamFields<'a> = (HashNumbers, Counted<'a>);
 
-/// Returns whether the flags have the bit of opt-out.
+/// Returns whether the flags have the Opt-Out bit.
 pub fn has_opt_out(flags: u8) -> bool
     ensures { result ≡ is_opt_out flags }
 {
@@ -77,8 +77,8 @@ impl<O: Octets> Nsec3param<O> {
         }
     }
 
-    /// SHA-1, no flags, no extra iterations and no salt, as RFC 9276, section 3.1, asks of zones.
-    /// Takes no memory.
+    /// Returns the parameters that RFC 9276, section 3.1, recommends for zones: SHA-1, no flags, no
+    /// extra iterations and no salt. Takes no memory.
     pub fn default(alloc: Global) -> Self
     where
         O: EmptyOctets,
@@ -95,7 +95,7 @@ impl<O: Octets> Nsec3param<O> {
         Ok(Nsec3param::new(self.hash_algorithm, self.flags, self.iterations, salt))
     }
 
-    /// Returns the algorithm of the hash (RFC 5155, section 4.1.1).
+    /// Returns the hash algorithm (RFC 5155, section 4.1.1).
     pub fn hash_algorithm(&self) -> Nsec3HashAlgorithm
         ensures { result ≡ self.now.hash_algorithm }
     {
@@ -109,42 +109,42 @@ impl<O: Octets> Nsec3param<O> {
         self.flags
     }
 
-    /// Sets the bit of opt-out, 0x01.
+    /// Sets the Opt-Out bit, 0x01.
     pub fn set_opt_out_flag(&mut self)
         ensures { self.new ≡ record self.old { flags = with_opt_out self.old.flags } }
     {
         self.flags = self.flags | OPT_OUT;
     }
 
-    /// Returns whether the bit of opt-out is set.
+    /// Returns whether the Opt-Out bit is set.
     pub fn opt_out_flag(&self) -> bool
         ensures { result ≡ is_opt_out self.now.flags }
     {
         has_opt_out(self.flags)
     }
 
-    /// How often the hash is taken again (RFC 5155, section 4.1.3).
+    /// Returns the number of additional iterations of the hash (RFC 5155, section 4.1.3).
     pub fn iterations(&self) -> u16
         ensures { result ≡ self.now.iterations }
     {
         self.iterations
     }
 
-    /// Returns what is hashed after a name (RFC 5155, section 4.1.5).
+    /// Returns the salt, which is hashed after a name (RFC 5155, section 4.1.5).
     pub fn salt(&self) -> &Nsec3Salt<O>
         ensures { result.now ≡ self.now.salt }
     {
         &self.salt
     }
 
-    /// Returns the salt alone.
+    /// Returns the salt, and drops the rest.
     pub fn into_salt(self) -> Nsec3Salt<O>
         ensures { result ≡ self.salt }
     {
         self.salt
     }
 
-    /// Returns the fields but the salt.
+    /// Returns all fields except the salt.
     pub(crate) fn numbers(&self) -> HashNumbers
         ensures { result ≡ (nsec3param_values self.now).0 }
     {
@@ -154,7 +154,7 @@ impl<O: Octets> Nsec3param<O> {
         )
     }
 
-    /// Returns the fields, in the order of the wire.
+    /// Returns the fields, in wire order.
     pub(crate) fn fields(&self) -> ParamFields<'_>
         ensures values { nsec3param_values self.now ≡ (result.0, result.1.octets.now) }
         ensures fits { Fits nsec3param (nsec3param_values self.now) }
@@ -164,7 +164,7 @@ impl<O: Octets> Nsec3param<O> {
         (self.numbers(), Counted::new(salt))
     }
 
-    /// Returns the numbers, and the octets of the salt.
+    /// Returns the numbers, and the octets of the salt without their count.
     fn uncounted(&self) -> (HashNumbers, Rest<'_>)
         ensures values { nsec3param_values self.now ≡ (result.0, result.1.0.now) }
         ensures fits { Fits uncounted (nsec3param_values self.now) }
@@ -174,7 +174,7 @@ impl<O: Octets> Nsec3param<O> {
     }
 }
 
-/// Returns the parameters that were read.
+/// Returns the parameters of these fields.
 pub fn params_of<'a>(fields: ParamFields<'a>) -> Nsec3param<&'a [u8]>
     ensures { nsec3param_values result ≡ (fields.entry.0, fields.entry.1.octets.now) }
 {
@@ -188,12 +188,12 @@ pub fn params_of<'a>(fields: ParamFields<'a>) -> Nsec3param<&'a [u8]>
 }
 
 impl<'a> Nsec3param<&'a [u8]> {
-    /// Returns the data that the octets begin with (RFC 5155, section 4.2); what follows is left.
+    /// Parses parameters from the front of the octets, and leaves the rest (RFC 5155, section 4.2).
     /// Takes no memory.
     ///
     /// # Errors
     ///
-    /// `ShortInput` where an octet is missing. The parser does not move then.
+    /// `ShortInput` if an octet is missing. The parser does not move then.
     pub fn parse(parser: &mut Parser<'a>) -> Result<Self, ParseError>
         ensures { Reads nsec3param nsec3param_values fault_of parser.old parser.new result }
     {
@@ -249,7 +249,7 @@ impl<O: Octets> ComposeRecordData for Nsec3param<O> {
 }
 
 impl<O: Octets> Nsec3param<O> {
-    /// Returns whether parameters over other octets are the same. Takes no memory.
+    /// Returns whether the parameters are equal. The types of octets may differ. Takes no memory.
     pub fn eq_to<P: Octets>(&self, other: &Nsec3param<P>) -> bool
         ensures value { result ≡ bytes_eq (uncounted_octets self.now) (uncounted_octets other.now) }
         ensures same { IsTrue result ↔ (nsec3param_values self.now ≡ nsec3param_values other.now) }
@@ -257,8 +257,8 @@ impl<O: Octets> Nsec3param<O> {
         domain_fields::canonical_eq(&self.uncounted(), &other.uncounted())
     }
 
-    /// Returns the order by hash algorithm, flags, iterations and salt, salts in lexicographic
-    /// order, also of parameters over other octets. Takes no memory.
+    /// Compares by hash algorithm, flags, iterations and salt, with salts in lexicographic order.
+    /// The types of octets may differ. Takes no memory.
     pub fn cmp_to<P: Octets>(&self, other: &Nsec3param<P>) -> Ordering
         ensures { result ≡ slice_cmp nat_cmp (uncounted_octets self.now)
             (uncounted_octets other.now) }
@@ -267,8 +267,8 @@ impl<O: Octets> Nsec3param<O> {
         mine.order(&theirs)
     }
 
-    /// Returns the canonical order, in which shorter salts come first, also of parameters over
-    /// other octets. Takes no memory.
+    /// Compares in canonical order, in which shorter salts come first. The types of octets may
+    /// differ. Takes no memory.
     pub fn canonical_cmp_to<P: Octets>(&self, other: &Nsec3param<P>) -> Ordering
         ensures { result ≡ slice_cmp nat_cmp (nsec3param_octets self.now)
             (nsec3param_octets other.now) }
@@ -325,7 +325,7 @@ impl<O: Octets> Ord for Nsec3param<O> {
     }
 }
 
-/// The numbers and the octets of the salt.
+/// Hashes the numbers and the octets of the salt.
 impl<O: Octets> Hash for Nsec3param<O> {
     ghost hash_input = { λ d. flat_map fed.u8 (uncounted_octets d) };
 
@@ -365,12 +365,12 @@ impl<S: Octets + Drop, O: CopyOctets> OctetsFrom<Nsec3param<S>> for Nsec3param<O
 }
 
 impl<O: FromBuilder + Drop> Nsec3param<O> {
-    /// Returns the data that the tokens begin with: hash algorithm, flags and iterations in
+    /// Reads parameters from the front of the tokens: hash algorithm, flags and iterations in
     /// decimal, and the salt in Base 16 or as a dash.
     ///
     /// # Errors
     ///
-    /// That of the first field that is refused. The tokens left are then an end of those before.
+    /// That of the first field that is rejected. After an error, a suffix of the tokens is left.
     pub fn scan<S: Scanner<Octets = O>>(alloc: Global, scanner: &mut S) -> Result<Self, ScanError>
         ensures read { ReadsTokens Nsec3paramText nsec3param_values
             (RefusesNsec3param O.Builder.limit) (S.tokens scanner.old) (S.tokens scanner.new)
@@ -387,7 +387,7 @@ impl<O: FromBuilder + Drop> Nsec3param<O> {
     }
 }
 
-/// Hash algorithm, flags, iterations and salt, with single spaces.
+/// Writes hash algorithm, flags, iterations and salt, separated by single spaces.
 impl<O: Octets> fmt::Display for Nsec3param<O> {
     ghost output = { λ d. Some (nsec3param_text (nsec3param_values d)) };
 
@@ -399,7 +399,7 @@ impl<O: Octets> fmt::Display for Nsec3param<O> {
     }
 }
 
-/// Returns the pieces of the numbers, where this is the comment on the flags.
+/// Writes the pieces of the numbers, with this comment for the flags.
 #[tactic(auto, using(std::proofs::lemmas::Grind::common_steps, crate::proofs::TextLemmas::numbers_written))]
 pub fn write_numbers<F: Formatter>(
     numbers: HashNumbers,
@@ -417,7 +417,7 @@ pub fn write_numbers<F: Formatter>(
     formatter.write_comment(&"iterations")
 }
 
-/// The fields, with comments on the flags, the iterations and the salt.
+/// Writes the fields with comments for the flags, the iterations and the salt.
 impl<O: Octets> ZonefileFmt for Nsec3param<O> {
     ghost pieces = { λ d. nsec3param_pieces (nsec3param_values d) };
 

@@ -1,5 +1,5 @@
-//! What holds of the octets and the text of NSEC data (RFC 4034, section 4).
-//! A caller calls the law in its body.
+//! Laws about the octets and the text of NSEC data (RFC 4034, section 4). A function uses a law by
+//! calling it in its body.
 ghost use Rattle.std.specs.Prelude.{ℕ, ◌++◌, [], Option, codes};
 ghost use Rattle.domain_octets.specs.Text.{words_of};
 ghost use Rattle.domain_names.specs.Text.{name_text};
@@ -13,8 +13,8 @@ use domain_base::ToName;
 use domain_fields::Fields;
 use domain_octets::Octets;
 
-/// The octets of NSEC data are read as this name and this type bitmap, in no other way, and nothing
-/// is left.
+/// The octets of NSEC data parse back as this name and this type bitmap, in no other way, and
+/// nothing is left.
 #[tactic(auto, using(crate::proofs::TextLemmas::nsec_back))]
 pub fn nsec_parses_back<O: Octets, N: ToName>(value: &Nsec<O, N>)
     ensures { ParsesBack nsec (nsec_values N.labels value.now) }
@@ -22,7 +22,7 @@ pub fn nsec_parses_back<O: Octets, N: ToName>(value: &Nsec<O, N>)
     value.fields().fits();
 }
 
-/// The words of what NSEC data are written as spell the same name and the same types. They spell
+/// The words of written NSEC data scan back as the same name and the same types. They scan back as
 /// the same bitmap too, if its windows ascend strictly and no block ends in a zero octet.
 #[tactic(auto, using(crate::proofs::TextLemmas::nsec_text_back, crate::proofs::TextLemmas::nsec_text_same))]
 pub fn nsec_reads_back<O: Octets, N: ToName>(value: &Nsec<O, N>)
@@ -38,8 +38,9 @@ pub fn nsec_reads_back<O: Octets, N: ToName>(value: &Nsec<O, N>)
     value.fields().fits();
 }
 
-/// Tokens begin with NSEC data in one way at most, and those that are refused, but for want of room
-/// or of memory, spell none, and are refused for one reason, over builders with any limit.
+/// Tokens begin with NSEC data in at most one way. Tokens that are rejected for another reason than
+/// room or memory spell no NSEC data, and are rejected for one reason only. This holds for builders
+/// with any limit.
 pub fn nsec_texts_are_exact()
     ensures { (names bitmaps : Option ℕ) → IsExact (IsOfNsec names bitmaps) NsecText
         (RefusesNsec names bitmaps) }

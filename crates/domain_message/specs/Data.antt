@@ -8,14 +8,14 @@ use Rattle.domain_message.specs.{Name.{NameAt, LabelsFault}, declared.{parts.Par
 use Rattle.domain_message.specs.declared.parts.Part.TheVariants as part
 use Rattle.domain_message.specs.declared.name.NameFault.TheVariants as name_fault
 
--- their data are one name: NS, MD, MF, CNAME, MB, MG, MR, PTR
+-- types whose data are one name: NS, MD, MF, CNAME, MB, MG, MR, PTR
 abbrev pub is_one_name : ℕ → Bool
 is_one_name rtype =
     rtype == rtypes.ns || rtype == 3 || rtype == 4 || rtype == rtypes.cname || rtype == 7
     || rtype == 8 || rtype == 9 || rtype == rtypes.ptr
 
--- the types whose data may hold compressed names, which are those of RFC 1035 (RFC 3597,
--- section 4), and what their data are made up of; the third has the number of MINFO
+-- the types whose data may hold compressed names, which are those of RFC 1035 (RFC 3597, section
+-- 4), and the parts of their data; 14 is the number of MINFO
 abbrev pub parts_of : ℕ → Option (List Part)
 parts_of rtype =
     if is_one_name rtype then Some (part.Name ∷ [])
@@ -24,26 +24,27 @@ parts_of rtype =
     else (if rtype == rtypes.mx then Some (part.Plain 2 ∷ part.Name ∷ [])
     else None)))
 
--- these octets stand at a place of the message, up to another place
+-- these are the count octets of the message from place at, up to place end
 pub record OctetsAt (message : Octets) (at count : ℕ) (octets : Octets) (end : ℕ) : Type 0 where
   pub inside : at + count ≤ length message
   pub are : octets ≡ take count (drop at message)
   pub end_is : end ≡ at + count
 
--- a part stands at a place of the message, and has these octets without compression
+-- the part of the message from place at up to place end has these octets without compression
 abbrev pub PartAt : Octets → Part → ℕ → Octets → ℕ → Type 0
 PartAt message (part.Plain count) at octets end = OctetsAt message at count octets end
 PartAt message part.Name at octets end =
     (name : Name) × NameAt message at name end × (octets ≡ wire_of name)
 
--- parts stand there one after another
+-- the parts of the message, one after another, from place at up to place end, have these octets
+-- without compression
 abbrev pub PartsAt : Octets → List Part → ℕ → Octets → ℕ → Type 0
 PartsAt message [] at octets end = (octets ≡ []) × (end ≡ at)
 PartsAt message (first ∷ parts) at octets end =
     (front back : Octets) × (between : ℕ) × PartAt message first at front between
     × PartsAt message parts between back end × (octets ≡ front ++ back)
 
--- why a part does not stand at a place
+-- why a part is not at a place
 abbrev pub PartFault : Octets → Part → ℕ → NameFault → Type 0
 PartFault message (part.Plain count) at fault =
     (length message < at + count) × (fault ≡ name_fault.ShortInput)
@@ -57,7 +58,7 @@ PartsFault message (first ∷ parts) at fault =
     ⊎ ((front : Octets) × (between : ℕ) × PartAt message first at front between
     × PartsFault message parts between fault)
 
--- so many octets that stand at a place are data of a type, and have these octets without
+-- the count octets at a place are data of a type with these parts, and have these octets without
 -- compression
 abbrev pub PlacedAt : Octets → Option (List Part) → ℕ → ℕ → Octets → Type 0
 PlacedAt message None at count octets = OctetsAt message at count octets (at + count)
@@ -66,7 +67,7 @@ PlacedAt message (Some parts) at count octets = PartsAt message parts at octets 
 abbrev pub DataAt : Octets → ℕ → ℕ → ℕ → Octets → Type 0
 DataAt message rtype = PlacedAt message (parts_of rtype)
 
--- how many octets a part has at most, and parts together
+-- the greatest number of octets of a part, and of parts together
 abbrev pub part_room : Part → ℕ
 part_room (part.Plain count) = count
 part_room part.Name = 255

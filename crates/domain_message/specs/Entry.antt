@@ -1,5 +1,5 @@
 -- an entry of a zone file that is one record in one line (RFC 1035, section 5.1), and why a line is
--- none
+-- not one
 use Rattle.std.specs.Prelude.{◌≡◌, ◌≢◌, ℕ, Option, [], ◌∷◌, slice_index}
 use Rattle.domain_octets.specs.{Text.{semicolon, words_of}, Octets.Octets}
 use Rattle.domain_base.specs.{Numbers.{ClassText, TypeText, IsNoClass, IsNoType}, Scan.{TakesToken, RefusesToken, IsNumber, IsNoNumber}}
@@ -8,7 +8,7 @@ use Rattle.domain_record.specs.declared.record.Record.{Record}
 use Rattle.domain_rdata.specs.{Scan.{RefusesRdata, RdataText}, declared.zone_record_data.ZoneRecordData.ZoneRecordData}
 use Rattle.domain_message.specs.declared.line.LineError.{LineError, TheVariants.{NoEntry, Owner, Ttl, Class, Rtype, RecordData, Trailing, OutOfMemory}}
 
--- the tokens begin with a name, a TTL, a class, a type, and these are left
+-- the tokens begin with a name, a TTL, a class or a type, and the other tokens are left
 abbrev pub OwnerTaken : Name → Tokens → Tokens → Type 0
 OwnerTaken owner = TakesToken (λ token. NameText token owner)
 
@@ -21,7 +21,7 @@ ClassTaken class = TakesToken (λ token. ClassText token class)
 abbrev pub TypeTaken : ℕ → Tokens → Tokens → Type 0
 TypeTaken rtype = TakesToken (λ token. TypeText token rtype)
 
--- the tokens begin with the last three of these, one after another
+-- the tokens begin with a TTL, a class and a type, one after another, and the others are left
 pub record NumbersTaken (ttl class rtype : ℕ) (tokens after : Tokens) : Type 0 where
   pub behind_ttl : Tokens
   pub behind_class : Tokens
@@ -29,8 +29,8 @@ pub record NumbersTaken (ttl class rtype : ℕ) (tokens after : Tokens) : Type 0
   pub classed : ClassTaken class behind_ttl behind_class
   pub typed : TypeTaken rtype behind_class after
 
--- the tokens spell what stands behind the owner of a record: its TTL, class, type and data, and
--- nothing more
+-- the tokens spell the part of a record after its owner: its TTL, class, type and data, and nothing
+-- more
 pub record BodyText {O N : Type 0} (octets : O → Octets) (labels : N → Name) (tokens : Tokens)
     (ttl class : ℕ) (d : ZoneRecordData O N) : Type 0 where
   pub rtype : ℕ
@@ -38,7 +38,7 @@ pub record BodyText {O N : Type 0} (octets : O → Octets) (labels : N → Name)
   pub numbers : NumbersTaken ttl class rtype tokens data_tokens
   pub spelled : RdataText octets labels rtype data_tokens d []
 
--- the tokens spell a record: its owner, and what stands behind it
+-- the tokens spell a record: its owner, and the part after it
 pub record EntryText {O N : Type 0} (octets : O → Octets) (labels : N → Name) (tokens : Tokens)
     (r : Record N (ZoneRecordData O N)) : Type 0 where
   pub behind : Tokens
@@ -56,8 +56,8 @@ pub record LineText {O N : Type 0} (octets : O → Octets) (labels : N → Name)
   pub seen : IsNoEntry (words_of line) → ⊥
   pub spelled : EntryText octets labels (words_of line) r
 
--- why tokens spell nothing that stands behind an owner: one of the three numbers, the data, or
--- tokens behind the data
+-- why tokens do not spell the part of a record after its owner: one of the three numbers or the
+-- data is rejected, or tokens are left after the data
 unfoldable pub RefusesBody : {O N : Type 0} → (O → Octets) → (N → Name) → Option ℕ → Tokens
     → LineError → Type 0
 RefusesBody octets labels limit tokens (Ttl e) =
@@ -77,7 +77,8 @@ RefusesBody {O} {N} octets labels limit tokens Trailing =
     × RdataText octets labels rtype after d left × (left ≢ [])
 RefusesBody octets labels limit tokens _ = ⊥
 
--- why tokens spell no record: their first is no owner, or what stands behind it
+-- why tokens do not spell a record: the first is not an owner, or the others do not spell the part
+-- after it
 abbrev pub RefusesEntry : {O N : Type 0} → (O → Octets) → (N → Name) → Option ℕ → Tokens
     → LineError → Type 0
 RefusesEntry octets labels limit tokens (Owner e) =
@@ -86,7 +87,7 @@ RefusesEntry octets labels limit tokens error =
     (owner : Name) × (behind : Tokens) × OwnerTaken owner tokens behind
     × RefusesBody octets labels limit behind error
 
--- an error that is one of the tokens, and not of room or of memory
+-- an error in the tokens, not of room or of memory
 abbrev pub IsOfLine : Option ℕ → LineError → Type 0
 IsOfLine limit (Owner e) = IsOfTokens limit (scan_fault_of e)
 IsOfLine limit (Ttl e) = IsOfTokens limit (scan_fault_of e)
@@ -96,7 +97,7 @@ IsOfLine limit (RecordData e) = IsOfTokens limit (scan_fault_of e)
 IsOfLine limit OutOfMemory = ⊥
 IsOfLine limit _ = Unit {0}
 
--- why a line spells no record
+-- why a line does not spell a record
 pub data RefusesLine {O N : Type 0} (octets : O → Octets) (labels : N → Name) (limit : Option ℕ)
     (line : Octets) (error : LineError) : Type 0 where
   no_entry : IsNoEntry (words_of line) → error ≡ NoEntry

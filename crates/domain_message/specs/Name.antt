@@ -1,21 +1,21 @@
--- names in a message, where an end of a name may stand at an earlier place, and why none stands
--- at a place (RFC 1035, section 4.1.4)
+-- names in a message, where the end of a name may be at an earlier place, and why a place holds no
+-- name (RFC 1035, section 4.1.4)
 use Rattle.std.specs.Prelude.{◌≡◌, ℕ, ◌+◌, ◌/◌, ◌%◌, ◌<◌, ◌≤◌, [], ◌∷◌, ◌++◌, length, drop, Result, Ok, Err}
 use Rattle.domain_octets.specs.Octets.{Octets}
 use Rattle.domain_names.specs.Name.{IsLabel, IsName, Name}
 use Rattle.domain_message.specs.declared.name.NameFault.{NameFault}
 use Rattle.domain_message.specs.declared.name.NameFault.TheVariants as name_fault
 
--- a pointer to a place: two bits that are set, and the place in 14 bits
+-- a pointer to a place: two set bits, and the place in 14 bits
 abbrev pub pointer_octets : ℕ → Octets
 pointer_octets target = (192 + target / 256) ∷ (target % 256) ∷ []
 
--- a pointer that is not to the place of the labels before it, and not to a later one
+-- a pointer from labels at place at to an earlier place
 pub record IsBackward (at target : ℕ) : Type 0 where
   pub earlier : target < at
   pub fits : target < 16384
 
--- what is wrong behind labels that began at a place, when so many octets of the name are read
+-- the fault after labels that began at place at, if used octets of the name have been read
 pub data EndFault (at used : ℕ) : Octets → NameFault → Type 0 where
   no_octet : EndFault at used [] name_fault.ShortInput
   half_pointer : (high : ℕ) → 192 ≤ high → EndFault at used (high ∷ []) name_fault.ShortInput
@@ -28,23 +28,24 @@ pub data EndFault (at used : ℕ) : Octets → NameFault → Type 0 where
   cut_label : (len : ℕ) (after : Octets) → 0 < len → len ≤ 63 → used + len + 2 ≤ 255
       → length after < len → EndFault at used (len ∷ after) name_fault.ShortInput
 
--- what labels at a place come to: the labels and the place behind them, or their first fault
+-- the result of reading labels at a place: the labels and the place after them, or their first
+-- fault
 abbrev pub Outcome : Type 0
 Outcome = Result (Name × ℕ) NameFault
 
--- these labels stand before the others
+-- the result with these labels in front
 abbrev pub behind : Name → Outcome → Outcome
 behind labels (Ok r) = Ok (labels ++ r.0, r.1)
 behind labels (Err fault) = Err fault
 
--- the place behind the labels is this one
+-- the result with this place as the place after the labels
 abbrev pub up_to : ℕ → Outcome → Outcome
 up_to end (Ok r) = Ok (r.0, end)
 up_to end (Err fault) = Err fault
 
--- what labels come to that began at a place and go on at another, when so many octets of the name
--- are read: the root stands there, or a label with room for the root behind it, or a pointer to an
--- earlier place where they go on, or there is a fault
+-- the result of labels that began at place start and continue at place at, after used octets of the
+-- name; there is the root, a label with room for the root after it, a pointer to an earlier place
+-- where they continue, or a fault
 pub data ComesTo (message : Octets) : ℕ → ℕ → ℕ → Outcome → Type 0 where
   root : (start at used : ℕ) (after : Octets) → drop at message ≡ 0 ∷ after
       → ComesTo message start at used (Ok ([], at + 1))
@@ -59,11 +60,11 @@ pub data ComesTo (message : Octets) : ℕ → ℕ → ℕ → Outcome → Type 0
   at_fault : (start at used : ℕ) (fault : NameFault) → EndFault start used (drop at message) fault
       → ComesTo message start at used (Err fault)
 
--- at a place of the message stands this name, up to another place
+-- the message holds this name from place at up to place end
 pub record NameAt (message : Octets) (at : ℕ) (name : Name) (end : ℕ) : Type 0 where
   pub stands : ComesTo message at at 0 (Ok (name, end))
   pub valid : IsName name
 
--- the first fault of labels at a place, when so many octets of the name are read
+-- the first fault of the labels at a place, after used octets of the name
 abbrev pub LabelsFault : Octets → ℕ → ℕ → NameFault → Type 0
 LabelsFault message at used fault = ComesTo message at at used (Err fault)

@@ -1,4 +1,5 @@
--- records in a message (RFC 1035, section 4.1.3), when two are alike, and why none is read at a place
+-- records in a message (RFC 1035, section 4.1.3), when two are alike, and why no record is read at
+-- a place
 use Rattle.std.specs.Prelude.{◌≡◌, ◌≢◌, ◌⊎◌, ℕ, ◌+◌, ◌<◌, ◌≤◌, List, length, drop, Option, Some}
 use Rattle.domain_octets.specs.{Octets.{IsOver, Octets}, declared.error.AppendError.AppendError}
 use Rattle.domain_octets.specs.declared.error.AppendError.TheVariants as append_error
@@ -16,7 +17,7 @@ use Rattle.domain_message.specs.declared.name.NameFault.TheVariants as name_faul
 abbrev pub numbers : Layout
 numbers = one short ▸ one short ▸ one long ▸ one short
 
--- the owner and these numbers stand at a place, up to another
+-- the message holds this owner and these numbers from place at up to another place
 pub record HeaderAt (message : Octets) (at : ℕ) (owner : Name) (v : Values numbers)
     (place : ℕ) : Type 0 where
   pub owner_end : ℕ
@@ -32,12 +33,12 @@ message_error_of name_fault.BadLabelType = BadLabelType
 message_error_of name_fault.ForwardPointer = ForwardPointer
 message_error_of name_fault.LongName = LongName
 
--- why a builder did not take octets
+-- the error of a message for an error of a builder
 abbrev pub append_refusal_of : AppendError → MessageError
 append_refusal_of append_error.ShortBuf = ShortBuf
 append_refusal_of append_error.OutOfMemory = OutOfMemory
 
--- why no name is read: its first fault, or a name stands there, and there is no memory for it
+-- why no name is read: its first fault, or there is a name and no memory for it
 abbrev pub RefusesName : Octets → ℕ → MessageError → Type 0
 RefusesName message at ShortInput = LabelsFault message at 0 name_fault.ShortInput
 RefusesName message at BadLabelType = LabelsFault message at 0 name_fault.BadLabelType
@@ -46,14 +47,14 @@ RefusesName message at LongName = LabelsFault message at 0 name_fault.LongName
 RefusesName message at OutOfMemory = (name : Name) × (end : ℕ) × NameAt message at name end
 RefusesName message at _ = ⊥
 
--- the first fault of the owner, or the message ends within the numbers behind it
+-- the first fault of the owner, or the message ends within the numbers after it
 pub data HeaderFault (message : Octets) (at : ℕ) (fault : NameFault) : Type 0 where
   in_owner : LabelsFault message at 0 fault → HeaderFault message at fault
   cut_numbers : (owner : Name) (owner_end : ℕ) → NameAt message at owner owner_end
       → length message < owner_end + 10 → fault ≡ name_fault.ShortInput
       → HeaderFault message at fault
 
--- so many octets at a place are these data, and have these octets without compression
+-- the count octets at a place are these data
 pub record IsDataAt {O N : Type 0} (octets : O → Octets) (labels : N → Name) (message : Octets)
     (rtype place count : ℕ) (d : ZoneRecordData O N) : Type 0 where
   pub wire : Octets
@@ -61,7 +62,7 @@ pub record IsDataAt {O N : Type 0} (octets : O → Octets) (labels : N → Name)
   pub placed : DataAt message rtype place count wire
   pub read : AreData octets labels rtype wire d
 
--- a record stands at a place of the message, up to another
+-- the message holds this record from place at up to place end
 pub record RecordAt {O N : Type 0} (octets : O → Octets) (labels : N → Name) (message : Octets)
     (at : ℕ) (r : Record N (ZoneRecordData O N)) (end : ℕ) : Type 0 where
   pub rtype : ℕ
@@ -71,8 +72,8 @@ pub record RecordAt {O N : Type 0} (octets : O → Octets) (labels : N → Name)
   pub holds : IsDataAt octets labels message rtype place count r.«data»
   pub end_is : end ≡ place + count
 
--- why octets are not turned into data of a type of this kind: they are no such data, or they or a
--- part of them have no room or no memory
+-- why octets do not become data of a type of this kind: they are not such data, or they or a part
+-- of them have no room, or there is no memory
 abbrev pub OctetsRefusal : Option ℕ → Option Kind → Octets → MessageError → Type 0
 OctetsRefusal limit known wire IllegalData =
     (kind : Kind) × (known ≡ Some kind) × (AreOfKind kind wire → ⊥)
@@ -83,9 +84,9 @@ OctetsRefusal limit known wire ShortBuf =
 OctetsRefusal limit known wire OutOfMemory = Unit {0}
 OctetsRefusal limit known wire _ = ⊥
 
--- why no data of a type are read at a place, of so many octets: the message ends within them; a
--- part of the data of a type whose names may be compressed has a fault; the parts end elsewhere;
--- or their octets without compression are refused
+-- why no data of a type are read from count octets at a place: the message ends within them; a part
+-- of data that may be compressed has a fault; the parts end elsewhere; or their octets without
+-- compression are rejected
 pub data RefusesData (limit : Option ℕ) (message : Octets) (rtype place count : ℕ)
     (error : MessageError) : Type 0 where
   cut : length message < place + count → error ≡ ShortInput
@@ -111,7 +112,7 @@ pub data RefusesRecord (limit : Option ℕ) (message : Octets) (at : ℕ)
 
 -- ---- records that differ at most in how their octets are held
 
--- the same owner, spelled alike, class, TTL, type and octets of data
+-- the same owner in the same spelling, class, TTL, type and octets of data
 pub record AreAlike {O N : Type 0} (octets : O → Octets) (labels : N → Name)
     (r s : Record N (ZoneRecordData O N)) : Type 0 where
   pub owners : labels r.owner ≡ labels s.owner
@@ -120,7 +121,7 @@ pub record AreAlike {O N : Type 0} (octets : O → Octets) (labels : N → Name)
   pub types : rtype_of r.«data» ≡ rtype_of s.«data»
   pub wires : wire_octets octets labels r.«data» ≡ wire_octets octets labels s.«data»
 
--- an error that is one of the message, and not of room or of memory
+-- an error in the message, not of room or of memory
 pub record IsOfMessage (error : MessageError) : Type 0 where
   pub not_room : error ≢ ShortBuf
   pub not_memory : error ≢ OutOfMemory

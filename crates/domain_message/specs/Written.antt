@@ -7,12 +7,12 @@ use Rattle.domain_record.specs.declared.record.Record.{Record}
 use Rattle.domain_rdata.specs.{Zone.{HasExactOctets, rtype_of, wire_octets}, declared.zone_record_data.ZoneRecordData.{ZoneRecordData, TheVariants.Unknown}}
 use Rattle.domain_message.specs.{Data.parts_of, Record.numbers}
 
--- octets are of a type whose names are never compressed
+-- data held as octets are of a type whose names are never compressed
 abbrev pub HasNoParts : {O N : Type 0} → ZoneRecordData O N → Type 0
 HasNoParts (Unknown d) = parts_of d.rtype ≡ None
 HasNoParts _ = Unit {0}
 
--- octets are of a type that has no other form, and whose names are never compressed
+-- data held as octets are of a type without another form, whose names are never compressed
 abbrev pub HasExactWire : {O N : Type 0} → ZoneRecordData O N → Type 0
 HasExactWire d = HasExactOctets d × HasNoParts d
 

@@ -1,4 +1,4 @@
-//! Why no record was read.
+//! Why a name or a record in a message was not read.
 ghost use Rattle.std.specs.Prelude.{◌≡◌, Some};
 ghost use Rattle.domain_message.specs.ErrorText.{message_error_text};
 ghost use Rattle.domain_message.specs.Record.{append_refusal_of, message_error_of};
@@ -9,20 +9,20 @@ use domain_octets::{AppendError, OutOfMemory};
 use std::error::Error;
 use std::fmt;
 
-/// Why no name or no record was read at a place of a message.
+/// Why the name or the record at a place of a message was not read.
 #[derive(Clone, Copy, Debug, PartialEq, Eq)]
 pub enum MessageError {
-    /// The message ends within it.
+    /// The message ends within the name or the record.
     ShortInput,
-    /// A label begins with the bits 01 or 10, which are of no type (RFC 1035, section 4.1.4).
+    /// A label begins with the bits 01 or 10, which no label type uses (RFC 1035, section 4.1.4).
     BadLabelType,
-    /// A pointer is not to a place before the labels that it follows.
+    /// A pointer does not point to a place before the labels that it follows.
     ForwardPointer,
-    /// A name has over 255 octets.
+    /// A name is longer than 255 octets.
     LongName,
     /// The fields of the data end elsewhere than their length says.
     DataLength,
-    /// The octets of the data are no data of the type.
+    /// The octets of the data are not data of the type.
     IllegalData,
     /// The octets of the data, or a part of them, have no room in their builder.
     ShortBuf,
@@ -31,7 +31,7 @@ pub enum MessageError {
 }
 
 impl fmt::Display for MessageError {
-    // These texts stand once more in specs/ErrorText.antt: both change together.
+    // specs/ErrorText.antt repeats these texts: change both together.
     ghost output = { λ e. Some (message_error_text e) };
 
     fn fmt<W: fmt::Write>(&self, f: &mut fmt::Formatter<W>) -> fmt::Result {

@@ -1,4 +1,4 @@
-//! What stands before the data of a record in a message.
+//! The fields before the data of a record in a message.
 ghost use Rattle.std.specs.Prelude.{◌≡◌, ◌+◌, ◌<◌, ◌≤◌, length, IfOk, IfErr};
 ghost use Rattle.domain_names.specs.Name.{wire_of, Name};
 ghost use Rattle.domain_octets.specs.Octets.{Octets};
@@ -11,7 +11,7 @@ use domain_base::{Class, Rtype, Ttl};
 use domain_fields::ReadFields;
 use domain_octets::Parser;
 
-/// What stands before the data of a record.
+/// The fields before the data of a record.
 #[derive(Drop)]
 pub(crate) struct Header {
     /// The octets of the owner, without compression.
@@ -20,9 +20,9 @@ pub(crate) struct Header {
     pub rtype: Rtype,
     /// The class.
     pub class: Class,
-    /// How long the record may be cached.
+    /// How long the record may be cached, in seconds.
     pub ttl: Ttl,
-    /// How many octets the data have.
+    /// The number of octets of the data.
     pub count: usize,
     /// The place of the data.
     pub place: usize,
@@ -31,7 +31,8 @@ pub(crate) struct Header {
 /// The type, the class, the TTL and the length of the data.
 type Numbers = (u16, (u16, (u32, u16)));
 
-/// Returns the numbers that octets begin with. Refuses exactly fewer than ten octets.
+/// Returns the numbers at the front of the octets. Returns an error if and only if there are fewer
+/// than ten octets.
 #[tactic(auto, using(crate::proofs::RecordLemmas::begins_count, crate::proofs::RecordLemmas::numbers_cut))]
 fn read_numbers(octets: &[u8]) -> Result<Numbers, NameFault>
     ensures ok { IfOk result (λ n. (behind : Octets) × Begins numbers octets.now n behind) }
@@ -45,7 +46,7 @@ fn read_numbers(octets: &[u8]) -> Result<Numbers, NameFault>
     }
 }
 
-/// Returns what stands before the data of the record that stands at a place of a message.
+/// Returns the fields before the data of the record at a place of a message.
 pub(crate) fn header_at(message: &[u8], at: usize) -> Result<Header, NameFault>
     ensures ok { IfOk result (λ h. (owner : Name) × HeaderAt message.now at owner
         (h.rtype, (h.class, (h.ttl, h.count))) h.place × (h.owner ≡ wire_of owner)) }

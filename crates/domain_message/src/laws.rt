@@ -1,4 +1,5 @@
-//! What holds of names and records in messages and in lines. A caller calls the law in its body.
+//! Laws about names and records in messages and in lines. A function uses a law by calling it in
+//! its body.
 ghost use Rattle.std.specs.Prelude.{IfSome, Option, ◌≡◌, ◌+◌, ◌++◌, ◌<◌, ℕ, length, drop};
 ghost use Rattle.domain_octets.specs.Octets.{Octets};
 ghost use Rattle.domain_names.specs.Name.{wire_of, IsName, Name};
@@ -18,7 +19,7 @@ use domain_rdata::ZoneRecordData;
 use domain_rdata::laws::{data_is_read_back, octets_are_read_back};
 use domain_record::{Record, RecordData};
 
-/// At a place of a message stands one name at most, and none where labels have a fault (RFC 1035,
+/// A place of a message holds at most one name, and none if its labels have a fault (RFC 1035,
 /// section 4.1.4).
 #[tactic(auto, using(crate::proofs::NameLemmas::one_name, crate::proofs::NameLemmas::no_fault))]
 pub fn one_name_stands_at_a_place()
@@ -28,8 +29,8 @@ pub fn one_name_stands_at_a_place()
         → NameAt message at name end → LabelsFault message at 0 fault → ⊥ }
 {}
 
-/// At a place of a message stands one record at most, and none where `read_record` refuses it but
-/// for want of room or of memory.
+/// A place of a message holds at most one record, and none if `read_record` rejects it for another
+/// reason than room or memory.
 pub fn one_record_stands_at_a_place<O: Octets, N: ToName>()
     ensures one { (message : Octets) (at : ℕ) (r s : Record N (ZoneRecordData O N)) (end far : ℕ)
         → RecordAt O.octets N.labels message at r end → RecordAt O.octets N.labels message at s far
@@ -39,8 +40,8 @@ pub fn one_record_stands_at_a_place<O: Octets, N: ToName>()
         → IsOfMessage error → RecordAt O.octets N.labels message at r end → ⊥ }
 {}
 
-/// A name that is written without compression stands where it was written, up to where its octets
-/// end.
+/// A name that is written without compression is read back at the place where it was written. It
+/// ends where its octets end.
 #[tactic(auto, using(crate::proofs::NameLemmas::in_full_at))]
 pub fn written_names_are_read_back()
     ensures { (message after : Octets) (at : ℕ) (name : Name) → IsName name
@@ -48,8 +49,8 @@ pub fn written_names_are_read_back()
         → NameAt message at name (at + length (wire_of name)) }
 {}
 
-/// A line spells one record at most, and none where `scan_record` refuses it but for want of room
-/// or of memory.
+/// A line spells at most one record, and none if `scan_record` rejects it for another reason than
+/// room or memory.
 pub fn one_record_is_spelled_by_a_line<O: Octets, N: ToName>()
     ensures one { (line : Octets) (r s : Record N (ZoneRecordData O N))
         → LineText O.octets N.labels line r → LineText O.octets N.labels line s
@@ -59,7 +60,7 @@ pub fn one_record_is_spelled_by_a_line<O: Octets, N: ToName>()
         → IsOfLine limit error → LineText O.octets N.labels line r → ⊥ }
 {}
 
-/// What a record is written as is a line that spells it, if the text tells all of its data.
+/// A written record is a line that spells this record, if the text of its data determines the data.
 pub fn written_records_are_read_back<O: Octets, N: ToName>(value: &Record<N, ZoneRecordData<O, N>>)
     ensures { HasExactText O.octets value.now.«data»
         → IfSome (record_text N.labels rtype_of (data_text O.octets N.labels) value.now) (λ text.
@@ -72,7 +73,7 @@ pub fn written_records_are_read_back<O: Octets, N: ToName>(value: &Record<N, Zon
     let _rtype = value.data().rtype().to_int();
 }
 
-/// The octets that data are written as are these data, and nothing more.
+/// The octets of data parse back as these data, and nothing is left, if `HasExactWire` holds.
 pub fn written_data_are_read_back<O: Octets, N: ToName>(value: &ZoneRecordData<O, N>)
     ensures { HasExactWire value.now → AreData O.octets N.labels (rtype_of value.now)
         (wire_octets O.octets N.labels value.now) value.now }
@@ -80,8 +81,9 @@ pub fn written_data_are_read_back<O: Octets, N: ToName>(value: &ZoneRecordData<O
     octets_are_read_back(value);
 }
 
-/// A record that is written into a message without compression stands where it was written, up to
-/// where its octets end, if its data fit into a record.
+/// A record that is written into a message without compression is read back at the place where it
+/// was written, if its data fit into a record and `HasExactWire` holds. It ends where its octets
+/// end.
 #[tactic(auto, using(crate::proofs::RecordLemmas::record_stands))]
 pub fn written_records_stand<O: Octets, N: ToName>(value: &Record<N, ZoneRecordData<O, N>>)
     ensures { (message after : Octets) (at : ℕ)

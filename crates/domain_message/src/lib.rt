@@ -1,4 +1,4 @@
-//! Records that are read: from the octets of a message, and from a line of a zone's text.
+//! Reading records, from the octets of a message and from a line of a zone file.
 #![tactic(auto)]
 
 mod error;

@@ -1,4 +1,4 @@
-//! Records in lines of a zone's text.
+//! Records in lines of a zone file.
 ghost use Rattle.std.specs.Prelude.{◌≡◌, ◌↔◌, IsTrue, false, IfOk, IfErr, None, Some};
 ghost use Rattle.domain_message.specs.ErrorText.{line_error_text};
 ghost use Rattle.domain_octets.specs.Text.{is_blank, words_of};
@@ -18,32 +18,32 @@ use std::alloc::Global;
 use std::error::Error;
 use std::fmt;
 
-/// A record that has octets of its own.
+/// A record that owns its octets.
 pub type OwnedRecord = Record<Name<Vec<u8>>, ZoneRecordData<Vec<u8>, Name<Vec<u8>>>>;
 
-/// Why tokens, or a line, spell no record.
+/// Why tokens, or a line, do not spell a record.
 #[derive(Clone, Copy, Debug, PartialEq, Eq)]
 pub enum LineError {
     /// The line is blank, or a comment.
     NoEntry,
-    /// The first token is missing, or no name.
+    /// The first token is missing, or is not a name.
     Owner(ScanError),
-    /// The second is missing, or no number of 32 bits.
+    /// The second token is missing, or is not a number of 32 bits.
     Ttl(ScanError),
-    /// The third is missing, or no class.
+    /// The third token is missing, or is not a class.
     Class(ScanError),
-    /// The fourth is missing, or no type that is known by that name.
+    /// The fourth token is missing, or is not the name of a known type.
     Rtype(ScanError),
-    /// Those behind it do not begin with data of the type.
+    /// The tokens after it do not begin with data of the type.
     RecordData(ScanError),
-    /// There are tokens behind the data.
+    /// There are tokens after the data.
     Trailing,
     /// There was no memory for the words of the line.
     OutOfMemory,
 }
 
 impl fmt::Display for LineError {
-    // These texts stand once more in specs/ErrorText.antt: both change together.
+    // specs/ErrorText.antt repeats these texts: change both together.
     ghost output = { λ e. Some (line_error_text e) };
 
     fn fmt<W: fmt::Write>(&self, f: &mut fmt::Formatter<W>) -> fmt::Result {
@@ -71,8 +71,8 @@ impl From<OutOfMemory> for LineError {
 }
 
 impl LineError {
-    /// Returns whether memory was wanting, so that it is not known whether there is a record. Of
-    /// lack of room it says nothing, which octets without a limit never have.
+    /// Returns whether memory ran out, so it is not known whether there is a record. It does not
+    /// report lack of room, which octets without a limit never have.
     pub fn is_out_of_memory(&self) -> bool
         ensures { (result ≡ false) ↔ IsOfLine None self.now }
     {
@@ -88,13 +88,12 @@ impl LineError {
     }
 }
 
-/// Returns the record of this owner whose TTL, class, type and data the tokens spell, all that are
-/// left.
+/// Reads all tokens that are left as the TTL, class, type and data of a record with this owner.
 ///
 /// # Errors
 ///
-/// The first of these parts that is missing or refused, with what is said of it; `Trailing` where
-/// tokens are left behind the data.
+/// That of the first part that is missing or rejected, with its `ScanError`; `Trailing` if tokens
+/// are left after the data.
 #[tactic(auto, unfolding(crate::specs::Entry::RefusesBody))]
 pub fn scan_behind_owner<W: Drop, O, N, S: Scanner<Name = N, Octets = O>>(
     alloc: Global,
@@ -133,13 +132,13 @@ where
     Ok(Record::new(owner, class, ttl, data))
 }
 
-/// Returns the record that tokens spell: its owner, TTL, class, type and data (RFC 1035, section
-/// 5.1), all that are left. Names are absolute, with or without a last dot.
+/// Reads all tokens that are left as a record: its owner, TTL, class, type and data (RFC 1035,
+/// section 5.1). Names are absolute, with or without a last dot.
 ///
 /// # Errors
 ///
-/// The first of these parts that is missing or refused, with what is said of it; `Trailing` where
-/// tokens are left behind the data.
+/// That of the first part that is missing or rejected, with its `ScanError`; `Trailing` if tokens
+/// are left after the data.
 pub fn scan_entry<O: FromBuilder + Drop, N: MakeName + Drop, S: Scanner<Name = N, Octets = O>>(
     alloc: Global,
     scanner: &mut S,
@@ -164,8 +163,8 @@ fn is_blank(octet: u8) -> bool
     octet == b' ' || octet == b'\t'
 }
 
-/// Returns whether a line is blank, or a comment: whether its first octet that is no space and no
-/// tab is a semicolon (RFC 1035, section 5.1).
+/// Returns whether a line is blank, or a comment: whether it has only spaces and tabs, or the first
+/// other octet is a semicolon (RFC 1035, section 5.1).
 #[tactic(auto, using(crate::proofs::OneLineLemmas::blank_passed, crate::proofs::OneLineLemmas::entry_begins))]
 pub fn is_no_entry(line: &[u8]) -> bool
     ensures { IsTrue result ↔ IsNoEntry (words_of line.now) }
@@ -178,16 +177,16 @@ pub fn is_no_entry(line: &[u8]) -> bool
     true
 }
 
-/// Returns the record that a line of a zone's text spells, in the form that this library prints
-/// (RFC 1035, section 5.1): owner, TTL, class, type and data, and spaces or tabs between them.
-/// Names are absolute, with or without a last dot. For other octets, or tokens from elsewhere,
-/// there is `scan_entry`.
+/// Reads a line of a zone file as a record, in the form that this library prints (RFC 1035, section
+/// 5.1): owner, TTL, class, type and data, separated by spaces or tabs. Names are absolute, with or
+/// without a last dot. For other types of octets, or tokens from elsewhere, use `scan_entry`.
 ///
 /// # Errors
 ///
-/// `NoEntry` where the line is blank or its first word begins with a semicolon; else the first of
-/// its parts that is missing or refused, with what is said of it, and `Trailing` where words are
-/// left behind the data. `OutOfMemory` if there is no memory for the words of the line.
+/// - `NoEntry` if the line is blank, or its first word begins with a semicolon.
+/// - Otherwise that of the first part that is missing or rejected, with its `ScanError`, and
+///   `Trailing` if words are left after the data.
+/// - `OutOfMemory` if there is no memory for the words of the line.
 #[tactic(auto, using(std::proofs::lemmas::Grind::common_steps, crate::proofs::OneLineLemmas::line_refused))]
 pub fn scan_record(alloc: Global, line: &str) -> Result<OwnedRecord, LineError>
     ensures ok { IfOk result (LineText (λ o. o.items) (λ n. n) line.now) }

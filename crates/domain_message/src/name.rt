@@ -1,4 +1,4 @@
-//! Names in a message, whose ends may stand at earlier places (RFC 1035, section 4.1.4).
+//! Names in a message, whose ends may be at earlier places (RFC 1035, section 4.1.4).
 ghost use Rattle.std.specs.Prelude.{◌≡◌, ◌<◌, ◌≤◌, length, drop, IfOk, IfErr};
 ghost use Rattle.domain_names.specs.Name.{wire_of, Name};
 ghost use Rattle.domain_message.specs.{Name.{EndFault, LabelsFault, NameAt}, Record.RefusesName, Steps.IsStep};
@@ -8,44 +8,44 @@ use domain_base::MakeName;
 use domain_octets::{ArrayBuilder, Octets, OctetsBuilder};
 use std::alloc::Global;
 
-/// The greatest length of a name.
+/// The greatest length of a name, in octets.
 const MAX_LEN: usize = 255;
 
-/// The greatest length of a label.
+/// The greatest length of a label, in octets.
 const MAX_LABEL_LEN: usize = 63;
 
-/// What the first octet of a pointer has at least: its two bits.
+/// The least first octet of a pointer: its two highest bits are set.
 const POINTER: u8 = 192;
 
 /// The octets of a name.
 pub(crate) type NameOctets = ArrayBuilder<MAX_LEN>;
 
-/// Why no name stands at a place of a message.
+/// Why a place of a message does not hold a name.
 #[derive(Clone, Copy, Debug, PartialEq, Eq)]
 pub enum NameFault {
     /// The message ends within the name.
     ShortInput,
-    /// A label begins with the bits 01 or 10, which are of no type (RFC 1035, section 4.1.4).
+    /// A label begins with the bits 01 or 10, which no label type uses (RFC 1035, section 4.1.4).
     BadLabelType,
-    /// A pointer is not to a place before the labels that it follows.
+    /// A pointer does not point to a place before the labels that it follows.
     ForwardPointer,
-    /// The name has over 255 octets.
+    /// The name is longer than 255 octets.
     LongName,
 }
 
-/// What stands at a place of a name.
+/// A step of a name.
 #[derive(Clone, Copy)]
 enum Step {
     /// The root.
     Root,
-    /// A label, which ends at this place.
+    /// A label that ends at this place.
     Label(usize),
     /// A pointer to this place.
     Pointer(usize),
 }
 
-/// Returns what stands at a place behind labels that began at another, when so many octets of the
-/// name were read before.
+/// Returns the step at place `at`, after labels that began at place `start` and after `used` octets
+/// of the name.
 #[tactic(auto, using(std::proofs::lemmas::Grind::common_steps, crate::proofs::NameLemmas::place_steps))]
 fn step_at(message: &[u8], start: usize, at: usize, used: usize) -> Result<Step, NameFault>
     requires { used < 255 }
@@ -82,8 +82,7 @@ fn step_at(message: &[u8], start: usize, at: usize, used: usize) -> Result<Step,
     Ok(Step::Label(at + 1 + len))
 }
 
-/// Returns the name that stands at a place of a message, as its octets without compression, and the
-/// place after it.
+/// Returns the name at a place of a message, as octets without compression, and the place after it.
 #[tactic(auto, using(std::proofs::lemmas::Grind::common_steps, crate::proofs::NameLemmas::name_steps))]
 pub(crate) fn name_at(message: &[u8], at: usize) -> Result<(NameOctets, usize), NameFault>
     ensures ok { IfOk result (λ r. (name : Name) × NameAt message.now at name r.1
@@ -117,17 +116,20 @@ pub(crate) fn name_at(message: &[u8], at: usize) -> Result<(NameOctets, usize), 
     }
 }
 
-/// Returns the name that stands at a place of a message (RFC 1035, section 4.1.4), in octets of its
-/// own, and the place after it. A pointer must be to a place before the labels that it follows, so
-/// that pointers lead nowhere twice; of its two octets the place after the name is the one behind
-/// the first pointer. The place may be any, also the end of the message.
+/// Returns the name at a place of a message (RFC 1035, section 4.1.4), in octets of its own, and
+/// the place after it. A pointer must point to a place before the labels that it follows, so
+/// pointers never loop. If the name has a pointer, the place after it is the one after the first
+/// pointer's two octets. `at` may be any place, including the end of the message.
 ///
 /// # Errors
 ///
-/// The first fault on the way along the labels: `ShortInput` where the message ends within a label
-/// or a pointer, or before the root, `BadLabelType`, `ForwardPointer`, and `LongName` where the
-/// labels would be over 255 octets with the root. `OutOfMemory` where a name stands there, and
-/// there is no memory for it.
+/// The first fault along the labels:
+///
+/// - `ShortInput` if the message ends within a label or a pointer, or before the root.
+/// - `BadLabelType` or `ForwardPointer` for a label or a pointer.
+/// - `LongName` if the labels with the root would be longer than 255 octets.
+///
+/// `OutOfMemory` if there is a name, and no memory for it.
 #[tactic(auto, using(std::proofs::lemmas::Grind::common_steps, crate::proofs::NameLemmas::wire_steps))]
 pub fn read_name<N: MakeName>(
     alloc: Global,

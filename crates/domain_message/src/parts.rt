@@ -1,4 +1,4 @@
-//! What data are made up of whose names may be compressed.
+//! The parts of data whose names may be compressed.
 ghost use Rattle.std.specs.Prelude.{◌≡◌, ◌≤◌, ◌+◌, ◌++◌, length, Some, None, IfOk, IfErr, IfSome, IfNone};
 ghost use Rattle.domain_octets.specs.Octets.{Octets};
 ghost use Rattle.domain_message.specs.Data.{is_one_name, parts_of, parts_room, part_room, PartAt, PartsAt, PartFault, PartsFault};
@@ -8,8 +8,8 @@ use crate::name::name_at;
 use domain_base::Rtype;
 use domain_octets::{ArrayBuilder, Octets, OctetsBuilder};
 
-/// The greatest length of such data without compression: those of an SOA, two names and five
-/// numbers.
+/// The greatest length of such data without compression, in octets. It is that of SOA data: two
+/// names and five numbers.
 const ROOM: usize = 530;
 
 /// The octets of such data without compression.
@@ -18,21 +18,21 @@ pub(crate) type PartsOctets = ArrayBuilder<ROOM>;
 /// A part of data.
 #[derive(Clone, Copy)]
 pub(crate) enum Part {
-    /// So many octets, as they are.
+    /// This many octets, as they are.
     Plain(usize),
     /// A name.
     Name,
 }
 
-/// Returns whether the data of a type are one name.
+/// Returns whether the data of a type are a single name.
 fn is_one_name(number: u16) -> bool
     ensures { result ≡ is_one_name number }
 {
     (number >= 2 && number <= 5) || (number >= 7 && number <= 9) || number == 12
 }
 
-/// Returns what the data of a type are made up of, or `None` for a type whose data hold no
-/// compressed names.
+/// Returns the parts of the data of a type, or `None` for a type whose data have no compressed
+/// names.
 pub(crate) fn parts_of(rtype: Rtype) -> Option<&'static [Part]>
     ensures some { IfSome result (λ parts. parts_of rtype ≡ Some parts.now) }
     ensures none { IfNone result (parts_of rtype ≡ None) }
@@ -54,8 +54,7 @@ pub(crate) fn parts_of(rtype: Rtype) -> Option<&'static [Part]>
     None
 }
 
-/// Appends the octets of a part that stands at a place, without compression, and answers the place
-/// after it.
+/// Appends the octets of the part at a place, without compression, and returns the place after it.
 fn expand_part(
     message: &[u8],
     part: Part,
@@ -89,8 +88,8 @@ fn expand_part(
     }
 }
 
-/// Appends the octets of parts that stand at a place, without compression, and answers the place
-/// after them.
+/// Appends the octets of the parts at a place, without compression, and returns the place after
+/// them.
 pub(crate) fn expand(
     message: &[u8],
     parts: &[Part],

@@ -24,7 +24,7 @@ fn copied<O: FromBuilder>(alloc: Global, octets: &[u8]) -> Result<O, MessageErro
     Ok(O::from_octets(alloc, octets)?)
 }
 
-/// Returns the octets of data of a type that stand at a place, without compression.
+/// Returns the octets of the data of a type at a place, without compression.
 fn octets_at<O: FromBuilder>(
     alloc: Global,
     message: &[u8],
@@ -49,7 +49,7 @@ fn octets_at<O: FromBuilder>(
     copied(alloc, octets.as_slice())
 }
 
-/// Why octets are no data, as they were refused.
+/// Returns the error of a message for an error of parsing octets as data.
 fn refusal(error: ScanError) -> MessageError
     ensures { (limit : Option ℕ) (known : Option Kind) (wire : Octets)
         → OctetsFault limit known wire (scan_fault_of error)
@@ -63,7 +63,7 @@ fn refusal(error: ScanError) -> MessageError
     }
 }
 
-/// Returns the data of a type that stand at a place, of so many octets.
+/// Returns the data of a type at a place, which have `count` octets.
 fn data_at<O: FromBuilder + Drop, N: MakeName + Drop>(
     alloc: Global,
     message: &[u8],
@@ -86,20 +86,25 @@ fn data_at<O: FromBuilder + Drop, N: MakeName + Drop>(
     }
 }
 
-/// Returns the record that stands at a place of a message (RFC 1035, section 4.1.3), over octets of
-/// its own, and the place after it. Pointers of the owner are followed, and those of names in the
-/// data of the types of RFC 1035, which alone may be compressed (RFC 3597, section 4): NS, SOA, MX,
-/// and, held as octets, MD, MF, CNAME, MB, MG, MR, PTR and MINFO. The octets of data of other types
-/// are taken as they stand.
+/// Returns the record at a place of a message (RFC 1035, section 4.1.3), in octets of its own, and
+/// the place after it. It follows pointers in the owner, and in names in the data of the types of
+/// RFC 1035: only these may be compressed (RFC 3597, section 4). They are NS, SOA, MX, and, held as
+/// octets, MD, MF, CNAME, MB, MG, MR, PTR and MINFO. It takes the octets of data of other types
+/// unchanged.
 ///
 /// # Errors
 ///
-/// The first fault in the order of the wire: those of `read_name` of the owner, and of the names of
-/// data that may be compressed; `ShortInput` where the message ends within the record; `DataLength`
-/// where such data end elsewhere than their length says; `IllegalData` where the octets are no data
-/// of the type. `ShortBuf` where the octets of the data, or a part that is held by itself, have no
-/// room in their builder, and `OutOfMemory`, once all but whether they are data of the type is
-/// known.
+/// The first fault in wire order:
+///
+/// - Those of `read_name`, for the owner and for names in data that may be compressed.
+/// - `ShortInput` if the message ends within the record.
+/// - `DataLength` if data that may be compressed end elsewhere than their length says.
+/// - `IllegalData` if the octets are not data of the type.
+/// - `ShortBuf` if the octets of the data, or a part that is held in octets of its own, have no
+///   room in their builder.
+///
+/// `OutOfMemory` if there is no memory. The record then has none of these faults, except perhaps
+/// `IllegalData` or `ShortBuf`.
 #[tactic(auto, using(std::proofs::lemmas::Grind::common_steps, crate::proofs::NameLemmas::wire_steps))]
 pub fn read_record<O: FromBuilder + Drop, N: MakeName + Drop>(
     alloc: Global,

@@ -1,5 +1,5 @@
--- The NSEC chain of a zone (RFC 4034, section 4; RFC 4035, section 2.3), when there is none, and how
--- its records are seen.
+-- The NSEC chain of a zone (RFC 4034, section 4; RFC 4035, section 2.3), when there is none, and
+-- how its records are seen.
 use Rattle.std.specs.Prelude.{ℕ, Bool, true, false, ◌&&◌, ◌||◌, ◌==◌, List, [], ◌∷◌, map, slice_index_or, Some, None, ◌≡◌, ◌≢◌, All}
 use Rattle.domain_bitmap.specs.Bitmap.{bitmap_octets}
 use Rattle.domain_records.specs.declared.error.SigningError.{SigningError, TheVariants.{EmptyRecordSlice, SoaRecordCouldNotBeDetermined}}
@@ -32,16 +32,16 @@ link_of owner next numbers bits =
       bits = bits;
     }
 
--- names with their bits as links, each to the next name, the last one to the apex
+-- these names with their bits as links, each to the next name, the last one to the apex
 abbrev pub links_in : ApexSoa → Name → List Name → List (List ℕ) → List Link
 links_in numbers a [] bits = []
 links_in numbers a (n ∷ names) [] = []
 links_in numbers a (n ∷ names) (b ∷ bits) =
     link_of n (slice_index_or names 0 a) numbers b ∷ links_in numbers a names bits
 
--- the types that the NSEC record of an owner with these records lists: RRSIG and NSEC, since both
--- will stand there; DNSKEY where it is assumed; and the types of the records, at a zone cut NS and
--- DS alone
+-- the types that the NSEC record of an owner with these records lists: RRSIG and NSEC, which the
+-- owner will have; DNSKEY if it is assumed; and the types of the records, at a zone cut only NS and
+-- DS
 abbrev pub is_listed : Bool → Bool → List ZoneRecord → ℕ → Bool
 is_listed assumed cut rs t =
     ((t == rrsig) || (t == nsec) || (assumed && (t == dnskey))) || lists_type cut rs t
@@ -50,9 +50,9 @@ abbrev pub nsec_lists : List ZoneRecord → Name → Bool → Name → ℕ → B
 nsec_lists L a assume n t =
     is_listed (assume && same_name n a) (is_zone_cut L a n) (records_of L n) t
 
--- one record for each owner that is not occluded, in canonical order, that points to the next one,
--- the last one to the apex; each with the class of the SOA, the lesser of its MINIMUM and TTL, and
--- the types of its owner
+-- one record for each owner that is not occluded, in canonical order; each points to the next
+-- owner, the last one to the apex, and has the class of the SOA, the lesser of its MINIMUM and TTL,
+-- and the types of its owner
 pub record IsChain (L : List ZoneRecord) (a : Name) (config : GenerateNsecConfig)
     (links : List Link) : Type 0 where
   pub numbers : ApexSoa
@@ -63,13 +63,13 @@ pub record IsChain (L : List ZoneRecord) (a : Name) (config : GenerateNsecConfig
   pub bits : All (λ k. k.bits
       ≡ bitmap_octets (nsec_lists L a config.assume_dnskeys_will_be_added k.owner)) links
 
--- no fault stands
+-- the zone has no fault
 abbrev pub IsFaultless : List ZoneRecord → Name → GenerateNsecConfig → Type 0
 IsFaultless L a config =
     (soa_of L a ≢ None)
     × (has_unequal_ttls L (unoccluded_owners config.occlude_below_dname L a) ≡ false)
 
--- the error is the first fault that stands or, where none does, want of memory
+-- the error is the first fault of the zone, or `OutOfMemory` if the zone has no fault
 abbrev pub IsFirstFault : List ZoneRecord → Name → GenerateNsecConfig → SigningError → Type 0
 IsFirstFault L a config SoaRecordCouldNotBeDetermined = soa_of L a ≡ None
 IsFirstFault L a config MultipleTtlValues =
@@ -79,7 +79,8 @@ IsFirstFault L a config EmptyRecordSlice = ⊥
 IsFirstFault L a config (Nsec3HashingError e) = ⊥
 IsFirstFault L a config OutOfMemory = IsFaultless L a config
 
--- how `GenerateNsecConfig::new` has it: DNSKEY records are assumed, and names below a DNAME stay
+-- the configuration of `GenerateNsecConfig::new`: assumes DNSKEY records, and keeps names below a
+-- DNAME
 abbrev pub usual_config : GenerateNsecConfig
 usual_config = record { assume_dnskeys_will_be_added = true; occlude_below_dname = false }
 

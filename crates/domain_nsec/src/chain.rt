@@ -1,4 +1,4 @@
-//! The NSEC chain of a zone, whose records are made one by one, or all at once.
+//! The NSEC chain of a zone. Its records are made one by one, or all at once.
 ghost use Rattle.std.specs.Prelude.{◌≡◌, ◌≤◌, ◌↔◌, [], length, slice_index_or, IsTrue, IfErr, IfOk, IfNone, IfSome, OnOk};
 ghost use Rattle.domain_records.specs.Order.{IsOneClass, IsInOrder};
 ghost use Rattle.domain_zone.specs.Zone.{zone_of};
@@ -16,14 +16,14 @@ use domain_zone::{ApexSoa, find_soa, list_owners};
 use std::alloc::Global;
 use std::marker::Model;
 
-/// A record of a chain whose names and types lie in the records of the zone and in the chain.
+/// A record of a chain that borrows its names and types from the zone's records and from the chain.
 pub type BorrowedNsec<'a> = Record<ParsedName<'a>, Nsec<&'a [u8], ParsedName<'a>>>;
 
 /// The NSEC chain of a zone before its records are made. It lends one record at a time. Contracts
-/// see the links that its records have.
+/// see the links of its records.
 ///
 /// It borrows the octets of the names from the records of the zone. Each name takes 24 octets, for
-/// the place of its octets and of its types, and the octets of its types.
+/// the places of its octets and of its types, and the octets of its types.
 #[derive(Drop)]
 pub struct NsecChain<'a, N: ToName> {
     apex: &'a N,
@@ -43,8 +43,8 @@ impl<'a, N: ToName> Model for NsecChain<'a, N> {
     ghost invariant = { λ c. length c.names.items ≡ length c.types };
 }
 
-/// Returns the owner at a place, or the apex past the last one: so the last record points to the
-/// apex.
+/// Returns the owner at a place. Past the last one it returns the apex, so the last record points
+/// to the apex.
 fn owner_or_apex<'s, N: ToName>(
     owners: &'s [ParsedName<'s>],
     place: usize,
@@ -72,9 +72,9 @@ impl<'a, N: ToName> NsecChain<'a, N> {
         }
     }
 
-    /// Returns the NSEC chain of a zone (RFC 4034, section 4; RFC 4035, section 2.3): the chain
-    /// that `generate_nsecs` gives, with the same refusals, before its records are made. It borrows
-    /// the octets of their names from the records of the zone.
+    /// Returns the NSEC chain of a zone (RFC 4034, section 4; RFC 4035, section 2.3), before its
+    /// records are made. It is the chain of `generate_nsecs`, with the same errors. It borrows the
+    /// octets of the names from the records of the zone.
     ///
     /// # Errors
     ///
@@ -105,7 +105,7 @@ impl<'a, N: ToName> NsecChain<'a, N> {
         Ok(NsecChain::new(apex, soa, owners.names, owners.types))
     }
 
-    /// Returns how many records the chain has.
+    /// Returns the number of records of the chain.
     #[tactic(auto, using(crate::proofs::ChainLemmas::links_counted))]
     pub fn len(&self) -> usize
         ensures { result ≡ length self.now }
@@ -113,7 +113,7 @@ impl<'a, N: ToName> NsecChain<'a, N> {
         self.names.len()
     }
 
-    /// Returns whether the chain has no records. That of a zone has one for the apex.
+    /// Returns whether the chain has no records. The chain of a zone has one for the apex.
     pub fn is_empty(&self) -> bool
         ensures { IsTrue result ↔ (self.now ≡ []) }
     {
@@ -133,8 +133,8 @@ impl<'a, N: ToName> NsecChain<'a, N> {
         Some(&self.names[place])
     }
 
-    /// Returns the record at a place, in canonical order, which borrows from the chain, or `None`
-    /// past the last one. Takes no memory.
+    /// Returns the record at a place, in canonical order, or `None` past the last one. The record
+    /// borrows from the chain. Takes no memory.
     pub fn lend(&self, place: usize) -> Option<BorrowedNsec<'_>>
         ensures some { IfSome result (λ made. (d : Link)
             → as_link (λ n. n) made ≡ slice_index_or self.now place d) }
@@ -151,7 +151,7 @@ impl<'a, N: ToName> NsecChain<'a, N> {
     }
 }
 
-/// Returns the record in octets of its own.
+/// Returns a copy of the record, in octets of its own.
 fn copy_record<O: FromBuilder, N: MakeName>(
     alloc: Global,
     borrowed: &BorrowedNsec<'_>,
@@ -194,26 +194,29 @@ impl<'a, N: MakeName> NsecChain<'a, N> {
     }
 }
 
-/// Returns the NSEC chain of a zone (RFC 4034, section 4; RFC 4035, section 2.3): one record for
-/// each owner that is at or below the apex and not strictly below a zone cut, in canonical order.
-/// Where the configuration says so, owners strictly below an owner of a DNAME record, the apex
-/// among them, are left out as well (RFC 6672, section 2.4).
+/// Returns the NSEC chain of a zone (RFC 4034, section 4; RFC 4035, section 2.3). It has one record
+/// for each owner that is at or below the apex and not strictly below a zone cut, in canonical
+/// order. If the configuration says so, it also leaves out owners strictly below an owner of a
+/// DNAME record, which may be the apex (RFC 6672, section 2.4).
 ///
-/// Each record points to the next owner, the last one to the apex. It has the class of the SOA, and
-/// the lesser of the SOA's MINIMUM and TTL as its TTL in seconds (RFC 9077, section 3.2). It lists
-/// the types of its owner with RRSIG and NSEC, at a zone cut only NS and DS of them, and at the
-/// apex DNSKEY where the configuration assumes it. Names keep the spelling of their first record,
-/// the last next name that of the argument.
+/// Each record points to the next owner, the last one to the apex. It has the class of the SOA. Its
+/// TTL in seconds is the lesser of the SOA's MINIMUM and TTL (RFC 9077, section 3.2). It lists
+/// RRSIG, NSEC and the types of its owner, at a zone cut only NS and DS of them. At the apex it
+/// also lists DNSKEY if the configuration assumes it. Names have the spelling of their first
+/// record; the last next name has the spelling of `apex`.
 ///
-/// The records are those of one class in canonical order; records of owners outside the zone are
-/// passed over.
+/// The records must be of one class and in canonical order. Records of owners outside the zone are
+/// ignored.
 ///
 /// # Errors
 ///
-/// The first of these that applies: `SoaRecordCouldNotBeDetermined` where the apex does not own
-/// exactly one record of type SOA, or its data tell no MINIMUM; `MultipleTtlValues` where two
-/// records of one owner of the chain and one type other than RRSIG differ in TTL; and
-/// `OutOfMemory`, so that this says too that no other fault stands.
+/// The first of these that applies:
+///
+/// - `SoaRecordCouldNotBeDetermined` if the apex does not own exactly one record of type SOA, or
+///   its data have no MINIMUM.
+/// - `MultipleTtlValues` if two records of one owner of the chain, and of one type other than
+///   RRSIG, differ in TTL.
+/// - `OutOfMemory` if there is no memory. The zone then has none of the other faults.
 pub fn generate_nsecs<O, N: MakeName, D: ZoneData>(
     alloc: Global,
     apex: &N,
@@ -227,7 +230,7 @@ where
     requires one_class { IsOneClass records }
     requires in_order { IsInOrder N.labels D.rtype records }
 
-    // Ok is exactly the chain, and comes only where no fault stands.
+    // Ok is exactly the chain, and is returned only if the zone has no fault.
     ensures chain { IfOk result (λ nsecs. IsChain (zone_of N.labels D.rtype D.minimum records.entry)
         (N.labels apex.now) config.now (links_of N.labels nsecs.items)) }
     ensures faultless { OnOk result (IsFaultless (zone_of N.labels D.rtype D.minimum records.entry)
@@ -235,8 +238,8 @@ where
     ensures fault { IfErr result (IsFirstFault (zone_of N.labels D.rtype D.minimum records.entry)
         (N.labels apex.now) config.now) }
 
-    // What the chain says of every name of the zone; it begins and ends at the apex, and its
-    // owners ascend.
+    // What the chain says of every name of the zone. It begins and ends at the apex, and its owners
+    // ascend.
     ensures means { IfOk result (λ nsecs. MeansTheZone
         (zone_of N.labels D.rtype D.minimum records.entry) (N.labels apex.now) config.now
         (links_of N.labels nsecs.items)) }

@@ -1,4 +1,4 @@
-//! How chains are made, and the types that their records list.
+//! How to make a chain, and the types that its records list.
 ghost use Rattle.std.specs.Prelude.{◌≡◌, true, false};
 
 use domain_base::{Rtype, ToName};
@@ -7,19 +7,21 @@ use domain_octets::OutOfMemory;
 use domain_record::ZoneData;
 use domain_zone::{ChainTypes, UnoccludedOwner, list_types};
 
-/// How an NSEC chain is made.
+/// How to make an NSEC chain.
 #[derive(Clone, Copy, Debug, PartialEq, Eq)]
 pub struct GenerateNsecConfig {
-    /// Whether DNSKEY records will be added at the apex once the chain is made, so that its bitmap
+    /// Whether DNSKEY records will be added at the apex once the chain is made. Its bitmap then
     /// lists their type already.
     pub assume_dnskeys_will_be_added: bool,
-    /// Whether names strictly below a name of the zone that owns a DNAME record are left out, as
-    /// those below a zone cut are: no data may stand there (RFC 6672, section 2.4). An own option.
+    /// Whether to leave out names strictly below a name of the zone that owns a DNAME record, like
+    /// those below a zone cut: no data may exist there (RFC 6672, section 2.4). The ported crate
+    /// has no such option.
     pub occlude_below_dname: bool,
 }
 
 impl GenerateNsecConfig {
-    /// DNSKEY records are assumed, and names below a DNAME stay in the chain.
+    /// Returns the configuration that assumes DNSKEY records, and keeps names below a DNAME in the
+    /// chain.
     pub fn new() -> Self
         ensures { result ≡ record {
           assume_dnskeys_will_be_added = true;
@@ -32,7 +34,7 @@ impl GenerateNsecConfig {
         }
     }
 
-    /// Returns the same, except that no DNSKEY records are assumed. The other field stays as it is.
+    /// Returns the same configuration, except that it assumes no DNSKEY records.
     pub fn without_assuming_dnskeys_will_be_added(self) -> Self
         ensures { result ≡ record self { assume_dnskeys_will_be_added = false } }
     {
@@ -42,8 +44,7 @@ impl GenerateNsecConfig {
         }
     }
 
-    /// Returns the same, except that names below a DNAME are left out. The other field stays as it
-    /// is.
+    /// Returns the same configuration, except that it leaves out names below a DNAME.
     pub fn with_occlude_below_dname(self) -> Self
         ensures { result ≡ record self { occlude_below_dname = true } }
     {
@@ -54,7 +55,7 @@ impl GenerateNsecConfig {
     }
 }
 
-/// DNSKEY records are assumed, and names below a DNAME stay in the chain.
+/// The default assumes DNSKEY records, and keeps names below a DNAME in the chain.
 impl Default for GenerateNsecConfig {
     ghost is_default = { λ config. config ≡ record {
       assume_dnskeys_will_be_added = true;
@@ -66,8 +67,8 @@ impl Default for GenerateNsecConfig {
     }
 }
 
-/// The types of an owner's NSEC record: RRSIG and NSEC, DNSKEY where it is assumed, and those of
-/// its records.
+/// The types of an owner's NSEC record: RRSIG, NSEC, at the apex DNSKEY if it is assumed, and the
+/// types of the owner's records.
 impl ChainTypes for GenerateNsecConfig {
     ghost use Rattle.std.specs.Prelude.{◌&&◌};
     ghost use Rattle.domain_bitmap.specs.Bitmap.{bitmap_octets};

@@ -1,4 +1,4 @@
-//! What callers may take from the definition of a chain. A caller calls the law in its body.
+//! Laws about the definition of a chain. A function uses a law by calling it in its body.
 ghost use Rattle.std.specs.Prelude.{◌≡◌, ℕ, Bool, List, true};
 ghost use Rattle.domain_names.specs.Name.{same_name, Name};
 ghost use Rattle.domain_zone.specs.Zone.{OwnersNeverDescend, ZoneRecord};
@@ -13,8 +13,7 @@ pub fn types_ignore_case()
         → (t : ℕ) → nsec_lists L a assume x t ≡ nsec_lists L a assume y t }
 {}
 
-/// What the chain of records in order says of every name follows from the chain alone, however it
-/// was made.
+/// What a chain says of every name follows from the chain, however it was made.
 pub fn chains_mean_the_zone()
     ensures { (L : List ZoneRecord) (a : Name) (config : GenerateNsecConfig) (links : List Link)
         → OwnersNeverDescend L → IsChain L a config links → MeansTheZone L a config links }

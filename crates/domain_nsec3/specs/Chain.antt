@@ -18,15 +18,15 @@ use Rattle.domain_hasher.specs.declared.error.Nsec3HashError.TheVariants as hash
 
 -- ---- How an NSEC3 chain is made, as its definitions see it.
 
--- what is answered for a name: the octets of its hash, or the number of a refusal
+-- the result for a name: the octets of its hash, or the number of an error
 abbrev pub HashAnswer : Type 0
 HashAnswer = Result (Octets) ℕ
 
--- a hasher with its parameters: what it answers for octets
+-- a hasher with its parameters: its result for these octets
 abbrev pub Hash : Type 0
 Hash = Octets → HashAnswer
 
--- algorithm, iterations and salt, as each record of a chain tells them (RFC 5155, section 3.1)
+-- algorithm, iterations and salt, as in each record of a chain (RFC 5155, section 3.1)
 pub record Parameters : Type 0 where
   pub algorithm : ℕ
   pub iterations : ℕ
@@ -47,8 +47,8 @@ hash_name hash n = hash (wire_of (lowered n))
 abbrev pub hash_of : ChainConfig → Name → HashAnswer
 hash_of config = hash_name config.hash
 
--- unsigned delegations are left out: this is chosen, and the flags say that it may be so (RFC 5155,
--- section 6)
+-- unsigned delegations are left out: the configuration says so, and the flags have the Opt-Out bit
+-- (RFC 5155, section 6)
 abbrev pub excludes : ChainConfig → Bool
 excludes config = is_opt_out config.flags && config.exclude_unsigned
 
@@ -59,11 +59,11 @@ excludes config = is_opt_out config.flags && config.exclude_unsigned
 abbrev pub is_unsigned_cut : List ZoneRecord → Name → Name → Bool
 is_unsigned_cut L a n = is_zone_cut L a n && not (has_type (records_of L n) ds)
 
--- one that is left out of the chain (RFC 5155, section 6)
+-- an unsigned zone cut that is left out of the chain (RFC 5155, section 6)
 abbrev pub is_excluded : List ZoneRecord → Name → ChainConfig → Name → Bool
 is_excluded L a config n = excludes config && is_unsigned_cut L a n
 
--- the original owner names of the chain (RFC 5155, section 1.3), but for empty non-terminals: the
+-- the original owner names of the chain (RFC 5155, section 1.3), except empty non-terminals: the
 -- owners that are not occluded, without those that are left out
 abbrev pub original_owners : List ZoneRecord → Name → ChainConfig → List Name
 original_owners L a config =
@@ -83,15 +83,15 @@ is_empty L a config x =
 abbrev pub is_chain_name : List ZoneRecord → Name → ChainConfig → Name → Bool
 is_chain_name L a config x = is_original_owner L a config x || is_empty L a config x
 
--- the types that the NSEC3 record of an owner with these records lists: RRSIG, but at a zone cut
--- without DS, where nothing is signed; at the apex NSEC3PARAM, and DNSKEY where it is assumed; and
--- the types of the records, at a zone cut NS and DS alone
+-- the types that the NSEC3 record of an owner with these records lists: RRSIG, except at a zone cut
+-- without DS, where nothing is signed; at the apex NSEC3PARAM, and DNSKEY if it is assumed; and the
+-- types of the records, at a zone cut only NS and DS
 abbrev pub is_listed : Bool → Bool → Bool → Bool → List ZoneRecord → ℕ → Bool
 is_listed unsigned at_apex assumed cut rs t =
     (((t == rrsig) && not unsigned) || ((t == nsec3param) && at_apex) || ((t == dnskey) && assumed))
     || lists_type cut rs t
 
--- none for a name that owns nothing
+-- the types that the NSEC3 record of n lists, none if n owns nothing
 abbrev pub nsec3_lists : List ZoneRecord → Name → ChainConfig → Name → ℕ → Bool
 nsec3_lists L a config n t =
     owns L n
@@ -120,8 +120,8 @@ pub record HashedName : Type 0 where
   pub name : Name
   pub hash : Octets
 
--- a number of octets can be a hash: the length of what is next stands in one octet, and the text of
--- the hash is one label, which has room for 63 digits
+-- octets that can be a hash: the length of a next hash is in one octet, and the text of the hash is
+-- one label, which has room for 63 digits
 abbrev pub IsHash : Octets → Type 0
 IsHash v = (0 < length v) × (length v < 40) × All (λ octet. octet < 256) v
 
@@ -137,17 +137,17 @@ abbrev pub cycle : {X : Type 0} → List X → List (X × X)
 cycle [] = []
 cycle (u ∷ us) = pairs (u ∷ us) u
 
--- the owner and the next hash of a link; of two hashes, those of the record that leads from one to
--- the other
+-- the owner and the next hash, of a link, and of the record that leads from the first hash of a
+-- pair to the second
 abbrev pub ends : HashedLink → Name × Octets
 ends k = (k.owner, k.next)
 
 abbrev pub ends_of : Name → Octets × Octets → Name × Octets
 ends_of a p = (hashed_owner a p.0, p.1)
 
--- one record for each name of the chain, ascending by the octets of their hashes, that points to
--- the next hash, the last one to the first; each of class IN, with the lesser of the SOA's MINIMUM
--- and TTL, the parameters and flags, and the types of its name
+-- one record for each name of the chain, in ascending order of the octets of their hashes; each
+-- points to the next hash, the last one to the first, and has class IN, the lesser of the SOA's
+-- MINIMUM and TTL, the parameters and flags, and the types of its name
 pub record IsHashedChain (L : List ZoneRecord) (a : Name) (config : ChainConfig)
     (links : List HashedLink) : Type 0 where
   pub numbers : ApexSoa
@@ -171,14 +171,14 @@ pub record ParamRecord : Type 0 where
   pub parameters : Parameters
   pub flags : ℕ
 
--- its TTL, by the mode
+-- the TTL of the NSEC3PARAM record, by the mode
 abbrev pub param_ttl : Nsec3ParamTtlMode → ApexSoa → ℕ
 param_ttl (Fixed ttl) numbers = ttl
 param_ttl Soa numbers = numbers.ttl
 param_ttl SoaMinimum numbers = numbers.minimum
 
--- the NSEC3PARAM record of a chain: at the apex, as it is spelled, of class IN, with a TTL by the
--- mode, and with parameters and flags as they are configured (RFC 5155, section 4)
+-- the NSEC3PARAM record of a chain: at the apex, in its spelling, of class IN, with a TTL by the
+-- mode, and with the parameters and flags of the configuration (RFC 5155, section 4)
 pub record IsChainParam (L : List ZoneRecord) (a : Name) (config : ChainConfig)
     (mode : Nsec3ParamTtlMode) (r : ParamRecord) : Type 0 where
   pub numbers : ApexSoa
@@ -191,15 +191,15 @@ pub record IsChainParam (L : List ZoneRecord) (a : Name) (config : ChainConfig)
     flags = config.flags;
   }
 
--- what an NSEC3 chain hands out: its links, and the record that tells its parameters
+-- an NSEC3 chain as contracts see it: its links, and its NSEC3PARAM record
 pub record ChainRecords : Type 0 where
   pub links : List HashedLink
   pub param : ParamRecord
 
 -- ---- When a zone has no NSEC3 chain.
 
--- why a hash is of no use: it is refused, else has no octets or over 39, else the owner of its
--- record is longer than a name may be
+-- why a hash cannot be used: the hasher returned an error; else it has no octets or more than 39;
+-- else the owner of its record is longer than 255 octets
 abbrev pub hash_fault : Name → HashAnswer → Option Nsec3HashError
 hash_fault a (Err n) = Some (hash_error.Hasher n)
 hash_fault a (Ok h) =
@@ -207,7 +207,8 @@ hash_fault a (Ok h) =
     else if nat_lt 255 (length (wire_of (hashed_owner a h))) then Some hash_error.Nsec3NameTooLong
     else None
 
--- why there is no hash: no memory, of which this is said, or the refusal of a number
+-- why there is no hash: out of memory, and then `memory` holds; or the hasher's error with a number
+-- for which `refused` holds
 abbrev pub IsNoHash : (ℕ → Type 0) → Type 0 → Nsec3HashError → Type 0
 IsNoHash refused memory e =
     ((e ≡ hash_error.OutOfMemory) × memory) ⊎ ((n : ℕ) × (e ≡ hash_error.Hasher n) × refused n)
@@ -218,7 +219,7 @@ is_hashed_before L a config x y =
     if is_original_owner L a config x then not (is_original_owner L a config y) || before x y
     else not (is_original_owner L a config y) && before x y
 
--- the first name of the chain whose hash is of no use, and why
+-- e says why the hash of a name of the chain cannot be used, and the name is the first such name
 pub record IsFirstHashFault (L : List ZoneRecord) (a : Name) (config : ChainConfig)
     (e : Nsec3HashError) : Type 0 where
   pub name : Name
@@ -227,12 +228,12 @@ pub record IsFirstHashFault (L : List ZoneRecord) (a : Name) (config : ChainConf
   pub first : (y : Name) → is_chain_name L a config y ≡ true
       → is_hashed_before L a config y name ≡ true → hash_fault a (hash_of config y) ≡ None
 
--- the hashes of all names of the chain are of use
+-- the hashes of all names of the chain can be used
 abbrev pub AreAllHashed : List ZoneRecord → Name → ChainConfig → Type 0
 AreAllHashed L a config =
     (x : Name) → is_chain_name L a config x ≡ true → hash_fault a (hash_of config x) ≡ None
 
--- two names of the chain have one hash
+-- two names of the chain have the same hash
 pub record HasCollision (L : List ZoneRecord) (a : Name) (config : ChainConfig) : Type 0 where
   pub x : Name
   pub y : Name
@@ -241,7 +242,7 @@ pub record HasCollision (L : List ZoneRecord) (a : Name) (config : ChainConfig) 
   pub apart : same_name x y ≡ false
   pub alike : hash_of config x ≡ hash_of config y
 
--- neither fault stands that comes before those of hashing
+-- the zone has neither of the faults that come before those of hashing
 pub record IsReady (L : List ZoneRecord) (a : Name) (config : ChainConfig) : Type 0 where
   pub soa : soa_of L a ≢ None
   pub ttls : has_unequal_ttls L (original_owners L a config) ≡ false
@@ -254,8 +255,8 @@ IsFirstHashingFault L a config hash_error.AppendError = ⊥
 IsFirstHashingFault L a config hash_error.OutOfMemory = ⊥
 IsFirstHashingFault L a config e = IsFirstHashFault L a config e
 
--- the error is the first fault that stands, or want of memory, which leaves open whether one of
--- hashing stands: hashes take memory themselves
+-- the error is the first fault of the zone, or `OutOfMemory`, which leaves open whether there is a
+-- fault of hashing, since hashes take memory too
 abbrev pub IsFirstFault : List ZoneRecord → Name → ChainConfig → SigningError → Type 0
 IsFirstFault L a config SoaRecordCouldNotBeDetermined = soa_of L a ≡ None
 IsFirstFault L a config MultipleTtlValues =
@@ -265,7 +266,7 @@ IsFirstFault L a config (Nsec3HashingError e) =
 IsFirstFault L a config EmptyRecordSlice = ⊥
 IsFirstFault L a config OutOfMemory = IsReady L a config
 
--- no fault stands
+-- the zone has no fault
 pub record IsFaultless (L : List ZoneRecord) (a : Name) (config : ChainConfig) : Type 0 where
   pub ready : IsReady L a config
   pub hashed : AreAllHashed L a config

@@ -1,4 +1,4 @@
--- What the NSEC3 chain of a zone says of names, also of those that no record holds (RFC 5155,
+-- What the NSEC3 chain of a zone says of names, including those that no record holds (RFC 5155,
 -- sections 7.2 and 8).
 use Rattle.std.specs.{Prelude.{ℕ, Bool, true, false, List, map, Some, Ok, ◌≡◌, slice_get, ◌+◌, ◌<◌, length, All}, List.Sorted.IsStrictlySortedBy}
 use Rattle.std.specs.{Ordering.{nat_cmp, is_lt}, Cmp.Lexicographic.slice_cmp}
@@ -9,32 +9,33 @@ use Rattle.domain_chain_rdata.specs.Rdata.{is_opt_out}
 use Rattle.domain_zone.specs.{Covering.{matches, covers, matches_or_covers}, Enclosers.IsClosestEncloser, Zone.{ZoneRecord, is_zone_cut, is_unoccluded}}
 use Rattle.domain_nsec3.specs.Chain.{HashedLink, hashed_owner, ChainConfig, hash_of, original_owners, is_original_owner, is_chain_name, nsec3_lists}
 
--- the order of hashes: octet by octet, and what is absent comes first
+-- the order of hashes: octet by octet, and a hash comes after each of its own prefixes
 abbrev pub octets_before : Octets → Octets → Bool
 octets_before u v = is_lt (slice_cmp nat_cmp u v)
 
--- the hash of x is v, and no other name of the chain has it
+-- the hash of x is v, and no other name of the chain has this hash
 pub record IsAlone (L : List ZoneRecord) (a : Name) (config : ChainConfig) (x : Name) (v : Octets)
     : Type 0 where
   pub known : hash_of config x ≡ Ok v
   pub alone : (y : Name) → is_chain_name L a config y ≡ true → hash_of config y ≡ Ok v
       → same_name y x ≡ true
 
--- that holds of x and of each of its ancestors at or below the apex
+-- x and each of its ancestors at or below the apex has a hash that no other name of the chain has
 abbrev pub AreAlone : List ZoneRecord → Name → ChainConfig → Name → Type 0
 AreAlone L a config x =
     (d : Name) → is_at_or_below x d ≡ true → is_at_or_below d a ≡ true
     → (v : Octets) × IsAlone L a config d v
 
--- a record of the chain at a place, and the octets that the first label of its owner spells
+-- k is the record of the chain at this place, and h the octets whose text is the first label of its
+-- owner
 pub record IsRecordOf (a : Name) (links : List HashedLink) (place : ℕ) (k : HashedLink)
     (h : Octets) : Type 0 where
   pub there : slice_get links place ≡ Some k
   pub spelled : k.owner ≡ hashed_owner a h
   pub octets : All (λ octet. octet < 256) h
 
--- exactly one record matches or covers the hash v of x; it matches exactly where x is a name of the
--- chain, and then lists its types
+-- exactly one record matches or covers the hash v of x; it matches if and only if x is a name of
+-- the chain, and then lists the types of x
 pub record IsMatchedOrCoveredOnce (L : List ZoneRecord) (a : Name) (config : ChainConfig)
     (links : List HashedLink) (x : Name) (v : Octets) : Type 0 where
   pub place : ℕ
@@ -48,8 +49,8 @@ pub record IsMatchedOrCoveredOnce (L : List ZoneRecord) (a : Name) (config : Cha
   pub bits : is_chain_name L a config x ≡ true
       → link.bits ≡ bitmap_octets (nsec3_lists L a config x)
 
--- that holds of each name at or below the apex, also one that no record holds, but those that share
--- a hash with a name of the chain: the chain denies exactly what the zone does not hold
+-- this holds for each name at or below the apex whose hash no other name of the chain has, even if
+-- no record holds the name: the chain denies exactly what the zone does not hold
 pub record MirrorsZone (L : List ZoneRecord) (a : Name) (config : ChainConfig)
     (links : List HashedLink) : Type 0 where
   pub each : (x : Name) (v : Octets) → is_at_or_below x a ≡ true → IsAlone L a config x v
@@ -66,7 +67,7 @@ pub record IsMatched (a : Name) (config : ChainConfig) (links : List HashedLink)
   pub known : hash_of config x ≡ Ok value
   pub says : matches octets_before hash value ≡ true
 
--- some record with these flags covers it
+-- some record with the flags of the configuration covers the hash of x
 pub record IsCovered (a : Name) (config : ChainConfig) (links : List HashedLink) (x : Name)
     : Type 0 where
   pub place : ℕ
@@ -84,8 +85,8 @@ pub record IsNextCloser (x e d : Name) : Type 0 where
   pub below : is_strictly_below d e ≡ true
   pub longer : length d ≡ length e + 1
 
--- of the names from x up to the apex those are matched that the closest encloser e is at or below,
--- and no others; where x is longer than e, the next closer name is covered
+-- among the names from x up to the apex, those at or above the closest encloser e are matched, and
+-- no others; if x is longer than e, the next closer name is covered
 pub record TellsEncloserOf (L : List ZoneRecord) (a : Name) (config : ChainConfig)
     (links : List HashedLink) (x e : Name) : Type 0 where
   pub runs : (d : Name) → is_at_or_below x d ≡ true → is_at_or_below d a ≡ true
@@ -94,8 +95,8 @@ pub record TellsEncloserOf (L : List ZoneRecord) (a : Name) (config : ChainConfi
       → is_at_or_below e d ≡ false → ¬ (IsMatched a config links d)
   pub next : (d : Name) → IsNextCloser x e d → IsCovered a config links d
 
--- each name at or below the apex has a closest encloser, and that holds of it where the name shares
--- no hash, nor does an ancestor
+-- each name at or below the apex has a closest encloser; the chain shows it if neither the name nor
+-- an ancestor shares its hash with another name of the chain
 pub record TellsEncloser (L : List ZoneRecord) (a : Name) (config : ChainConfig)
     (links : List HashedLink) : Type 0 where
   pub encloser : (x : Name) → is_at_or_below x a ≡ true
@@ -104,13 +105,14 @@ pub record TellsEncloser (L : List ZoneRecord) (a : Name) (config : ChainConfig)
       → IsClosestEncloser (original_owners L a config) a x e
       → TellsEncloserOf L a config links x e
 
--- a zone cut of the chain is the closest encloser of what is strictly below it
+-- a zone cut of the chain is the closest encloser of each name strictly below it
 pub record CutsEnclose (L : List ZoneRecord) (a : Name) (config : ChainConfig) : Type 0 where
   pub each : (c x : Name) → is_zone_cut L a c ≡ true → is_original_owner L a config c ≡ true
       → is_strictly_below x c ≡ true → IsClosestEncloser (original_owners L a config) a x c
 
--- the next closer name of a zone cut that is left out is covered by a record with the flag of
--- opt-out
+-- a zone cut may be left out only with the Opt-Out flag; a record with this flag then covers its
+-- next closer name, unless the zone cut or an ancestor shares its hash with another name of the
+-- chain
 pub record CoversExcluded (L : List ZoneRecord) (a : Name) (config : ChainConfig)
     (links : List HashedLink) : Type 0 where
   pub flag : (c : Name) → is_zone_cut L a c ≡ true
@@ -126,7 +128,7 @@ pub record CoversExcluded (L : List ZoneRecord) (a : Name) (config : ChainConfig
 abbrev pub OwnersAscend : List HashedLink → Type 0
 OwnersAscend links = IsStrictlySortedBy canonical_cmp (map (λ k. k.owner) links)
 
--- what the chain of a zone says of every name, with the order of its owners
+-- what the chain of a zone says of every name, and the order of its owners
 pub record MeansTheZone (L : List ZoneRecord) (a : Name) (config : ChainConfig)
     (links : List HashedLink) : Type 0 where
   pub ascent : OwnersAscend links

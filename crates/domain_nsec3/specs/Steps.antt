@@ -12,17 +12,17 @@ use Rattle.domain_nsec3.specs.declared.{chain.HashedChain.HashedChain, hash.Hash
 
 -- ---- The names above a name, and lists of names in canonical order.
 
--- those with more than so many labels, the shortest first
+-- the names above a name that have more than n labels, the shortest first
 abbrev pub above_with_more : ℕ → Name → List Name
 above_with_more n [] = []
 above_with_more n (label ∷ x) = if nat_lt n (length x) then above_with_more n x ++ x ∷ [] else []
 
--- the empty non-terminals over these owners, or with the owners all that exists over them
+-- x is an empty non-terminal over these owners; if `with_owners` is true, x exists over them
 abbrev pub is_over : Bool → List Name → Name → Name → Bool
 is_over with_owners owners a x =
     if with_owners then exists_over owners a x else is_empty_nonterminal owners a x
 
--- exactly the names that pass the test, each once, in canonical order
+-- these are exactly the names that pass the test, each once, in canonical order
 pub record IsListOf (test : Name → Bool) (names : List Name) : Type 0 where
   pub ascend : IsStrictlySortedBy canonical_cmp names
   pub exactly : (x : Name) → list_any (λ n. same_name n x) names ≡ test x
@@ -30,19 +30,19 @@ pub record IsListOf (test : Name → Bool) (names : List Name) : Type 0 where
 -- ---- The steps of the generator: the empty non-terminals of owners, the hashes of all, and the links that
 -- these make.
 
--- owners, and then the empty non-terminals that they make
+-- these owners, and then the empty non-terminals over them
 pub record AreWithEmpty (a : Name) (owners names : List Name) : Type 0 where
   pub empty : List Name
   pub listed : IsListOf (is_empty_nonterminal owners a) empty
   pub are : names ≡ owners ++ empty
 
--- the hash is that of the name, and is of use
+-- h is the hash of the name, and can be used
 pub record IsHashed (a : Name) (hash : Hash) (n : Name) (h : Octets) : Type 0 where
   pub known : hash_name hash n ≡ Ok h
   pub sound : hash_fault a (Ok h) ≡ None
   pub octets : All (λ octet. octet < 256) h
 
--- the error is want of memory, or tells why the hash of the name is of no use
+-- the error is `OutOfMemory`, or says why the hash of the name cannot be used
 abbrev pub IsRefusal : Name → HashAnswer → Nsec3HashError → Type 0
 IsRefusal a answer e = (e ≡ OutOfMemory) ⊎ (hash_fault a answer ≡ Some e)
 
@@ -50,12 +50,12 @@ IsRefusal a answer e = (e ≡ OutOfMemory) ⊎ (hash_fault a answer ≡ Some e)
 abbrev pub name_at : List Name → Hashed → Name
 name_at names h = slice_index_or names h.place []
 
--- it is that of one of these names
+-- h is the hash of one of these names, and can be used
 pub record IsHashOf (a : Name) (hash : Hash) (names : List Name) (h : Hashed) : Type 0 where
   pub inside : h.place < length names
   pub is : IsHashed a hash (name_at names h) h.hash
 
--- a hash that is of use, with the place of its name
+-- h is this hash, which can be used, with the place of its name
 pub record IsPlacedHash (a : Name) (hash : Octets) (place : ℕ) (h : Hashed) : Type 0 where
   pub there : h.place ≡ place
   pub is : h.hash ≡ hash
@@ -74,7 +74,7 @@ pub record AreHashesOf (a : Name) (hash : Hash) (names : List Name) (hashed : Li
   pub moved : IsPermutation names (map (name_at names) hashed)
   pub each : All (IsHashOf a hash names) hashed
 
--- the first of these names whose hash is of no use
+-- e says why a hash of these names cannot be used, and the name is the first such name
 pub record IsFirstRefused (a : Name) (hash : Hash) (names : List Name) (e : Nsec3HashError)
     : Type 0 where
   pub before : List Name
@@ -84,7 +84,7 @@ pub record IsFirstRefused (a : Name) (hash : Hash) (names : List Name) (e : Nsec
   pub sound : All (λ n. hash_fault a (hash_name hash n) ≡ None) before
   pub fault : hash_fault a (hash_name hash name) ≡ Some e
 
--- two neighbours are alike
+-- two neighbouring hashes are equal
 pub record HasAlikeNeighbours (hashed : List Hashed) : Type 0 where
   pub place : ℕ
   pub inside : place + 1 < length hashed
@@ -94,21 +94,21 @@ pub record HasAlikeNeighbours (hashed : List Hashed) : Type 0 where
   pub second : other ≡ slice_index_or hashed (place + 1) other
   pub alike : one.hash ≡ other.hash
 
--- the hashes of these names ascend
+-- the hashes of these names, in ascending order
 pub record AreOrderedHashes (a : Name) (hash : Hash) (names : List Name) (hashed : List Hashed)
     : Type 0 where
   pub hashes : AreHashesOf a hash names hashed
   pub ascend : IsStrictlySortedBy (slice_cmp nat_cmp) (map (λ h. h.hash) hashed)
 
--- want of memory, or the first fault of hashing these names: one is refused, or all are of use, and
--- two are alike
+-- `OutOfMemory`, or the first fault of hashing these names: one hash cannot be used, or all can,
+-- and two are equal
 abbrev pub IsHashingFault : Name → Hash → List Name → Nsec3HashError → Type 0
 IsHashingFault a hash names e =
     (e ≡ OutOfMemory)
     ⊎ (IsFirstRefused a hash names e ⊎ ((e ≡ CollisionDetected) × (ordered : List Hashed)
     × AreHashesOf a hash names ordered × HasAlikeNeighbours ordered))
 
--- all hashes of a chain are of use below an apex
+-- all hashes of this chain can be used below this apex
 abbrev pub AreUsable : Name → HashedChain → Type 0
 AreUsable a chain = All (λ h. hash_fault a (Ok h.hash) ≡ None) chain.hashed.items
 
@@ -121,8 +121,8 @@ pub record Common : Type 0 where
 abbrev pub common_of : {O : Type 0} → Nsec3param O → ℕ → Common
 common_of p ttl = record { ttl = ttl; parameters = parameters_of p; flags = p.flags }
 
--- the link from a hash to the next one; the types are those of the first names, and the others have
--- none
+-- the link from a hash to the next one; `types` holds the types of the first names, and the other
+-- names have none
 abbrev pub link_to : Name → Common → List Octets → Hashed → Octets → HashedLink
 link_to a p types h next = record {
   owner = hashed_owner a h.hash;
@@ -134,6 +134,6 @@ link_to a p types h next = record {
   bits = slice_index_or types h.place [];
 }
 
--- the links of a chain below an apex
+-- the links of this chain below this apex
 abbrev pub links_in : Name → HashedChain → Common → List HashedLink
 links_in a chain p = map (λ q. link_to a p chain.types q.0 q.1.hash) (cycle chain.hashed.items)

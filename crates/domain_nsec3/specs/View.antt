@@ -10,7 +10,7 @@ use Rattle.domain_base.specs.{Numbers.{class_text, type_text}, Types.nsec3}
 
 -- ---- How configurations, and records of NSEC3 and NSEC3PARAM data, are seen.
 
--- what a hasher answers for octets, an algorithm, iterations and a salt
+-- the result of a hasher for octets, an algorithm, iterations and a salt
 abbrev pub HasherAnswer : Type 0
 HasherAnswer = Octets → ℕ → ℕ → Octets → HashAnswer
 
@@ -37,7 +37,7 @@ config_of answer config =
       occlude_below_dname = config.occlude_below_dname;
     }
 
--- the link of data at an owner, of a class and with a TTL
+-- the link of NSEC3 data with this owner, class and TTL
 abbrev pub link_with : {O : Type 0} → Name → ℕ → ℕ → Nsec3 O → HashedLink
 link_with owner class ttl d =
     record {
@@ -69,8 +69,7 @@ as_param_record labels r =
 
 -- ---- NSEC3 records as text.
 
--- the owner with its last dot, the TTL, the class, the type and the data, with single spaces
--- between them; the data are algorithm, flags, iterations, salt, next hash and types
+-- ---- NSEC3 records as text.
 abbrev pub link_text : HashedLink → Octets
 link_text k =
     let p = k.parameters in
@@ -78,12 +77,12 @@ link_text k =
     ++ (class_text k.class ++ (codes " " ++ (type_text nsec3 ++ (codes " "
     ++ nsec3_text ((((p.algorithm, (k.flags, p.iterations)), p.salt), k.next), k.bits))))))))
 
--- an apex behind the text of a hash, with a dot before it and at its end; the root is one dot
+-- the apex after the text of a hash, with a dot before it and at its end; the root is one dot
 abbrev pub apex_text : Name → Octets
 apex_text [] = codes "."
 apex_text (label ∷ above) = codes "." ++ (name_text (label ∷ above) ++ codes ".")
 
--- what the records of one chain have alike between their hash and their data
+-- the text that the records of one chain share between their hash and their data
 abbrev pub shared_text : Name → ℕ → Octets
 shared_text a ttl = apex_text a ++ (codes " " ++ (decimal ttl ++ codes " IN NSEC3 "))
 

@@ -1,5 +1,5 @@
-//! Records of a chain that take no memory, since they borrow what the chain holds, and their copies
-//! in octets of their own.
+//! Records of a chain that take no memory, since they borrow from the chain, and copies of them in
+//! octets of their own.
 ghost use Rattle.std.specs.Prelude.{◌≡◌, ◌<◌, [], IfOk, Ok, Some, length, slice_index_or};
 ghost use Rattle.domain_base.specs.Classes.{in_class};
 ghost use Rattle.domain_nsec3.specs.{Chain.HashedLink, Steps.{common_of, links_in, AreUsable}, View.{link_text, shared_text}};
@@ -17,13 +17,12 @@ use std::alloc::Global;
 use std::fmt;
 use std::marker::Model;
 
-/// A record of a chain. It borrows its octets from the chain. Contracts see its link. It is of
-/// class IN.
+/// A record of a chain, of class IN. It borrows its octets from the chain. Contracts see its link.
 #[derive(Drop)]
 pub struct BorrowedNsec3<'a> {
     owner: HashedOwner<'a>,
     hash: &'a [u8],
-    /// What is printed between the hash and the data.
+    /// The text between the hash and the data.
     shared: &'a str,
     ttl: Ttl,
     data: Nsec3<&'a [u8]>,
@@ -44,14 +43,14 @@ impl<'a> Model for BorrowedNsec3<'a> {
 }
 
 impl<'a> BorrowedNsec3<'a> {
-    /// Returns the owner: the text of a hash as a label before the apex.
+    /// Returns the owner: the text of the hash as a label before the apex.
     pub fn owner(&self) -> &HashedOwner<'a>
         ensures { result.now ≡ self.now.owner }
     {
         &self.owner
     }
 
-    /// How long the record may be cached.
+    /// Returns how long the record may be cached, in seconds.
     pub fn ttl(&self) -> Ttl
         ensures { result ≡ self.now.ttl }
     {
@@ -66,8 +65,8 @@ impl<'a> BorrowedNsec3<'a> {
     }
 }
 
-/// The owner with its last dot, the TTL, the class, the type and the data, with single spaces
-/// between them.
+/// The owner with its last dot, the TTL, the class, the type and the data, separated by single
+/// spaces.
 impl fmt::Display for BorrowedNsec3<'_> {
     ghost output = { λ k. Some (link_text k) };
 
@@ -79,7 +78,7 @@ impl fmt::Display for BorrowedNsec3<'_> {
     }
 }
 
-/// Returns the types at a place; past the end there are none.
+/// Returns the types at a place, or no types past the end.
 fn lend_types<'a>(types: &'a RtypeBitmaps, place: usize) -> RtypeBitmap<&'a [u8]>
     ensures { result ≡ slice_index_or types.now place [] }
 {
@@ -93,8 +92,8 @@ fn lend_types<'a>(types: &'a RtypeBitmaps, place: usize) -> RtypeBitmap<&'a [u8]
     types
 }
 
-/// Returns the record at a place of a chain, whose parameters are those of an NSEC3PARAM record. It
-/// points to the hash after its own, the last one to the first.
+/// Returns the record at a place of a chain, with the parameters of an NSEC3PARAM record. It points
+/// to the next hash, the last one to the first.
 pub(crate) fn lend_record<'a, O: Octets>(
     chain: &'a HashedChain,
     at: usize,
@@ -132,7 +131,7 @@ pub(crate) fn lend_record<'a, O: Octets>(
     }
 }
 
-/// Returns a copy of octets.
+/// Returns a copy of the octets.
 fn copy_octets<O: FromBuilder>(alloc: Global, octets: &[u8]) -> Result<O, OutOfMemory>
 where
     O::Builder: GrowingBuilder,
@@ -141,7 +140,7 @@ where
     O::from_octets(alloc, octets).map_err(|_| OutOfMemory)
 }
 
-/// Returns a copy of a record.
+/// Returns a copy of the record.
 pub(crate) fn copy_record<O: FromBuilder, N: MakeName>(
     alloc: Global,
     borrowed: &BorrowedNsec3<'_>,
@@ -168,7 +167,7 @@ where
     Ok(Record::new(owner, Class::IN, borrowed.ttl(), data))
 }
 
-/// Returns a copy of the record of parameters.
+/// Returns a copy of the NSEC3PARAM record.
 pub(crate) fn copy_param<O: Octets, N: MakeName>(
     alloc: Global,
     borrowed: &Record<ParsedName<'_>, Nsec3param<O>>,

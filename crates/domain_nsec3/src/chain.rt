@@ -25,8 +25,8 @@ use domain_records::{RecordsIter, SigningError, Sorter};
 use domain_zone::{ApexSoa, ListedOwners, list_owners};
 use std::alloc::Global;
 
-/// Adds the names above a name that have more than so many labels, the shortest first: so what is
-/// added to a list in canonical order leaves it in order, where the list has no name after it.
+/// Adds the names above a name that have more than `shared` labels, the shortest first. A list in
+/// canonical order, with no name after `name`, stays in order.
 fn push_ancestors<'a>(
     names: &mut Vec<ParsedName<'a>>,
     name: &ParsedName<'a>,
@@ -50,12 +50,13 @@ fn push_ancestors<'a>(
 }
 
 /// Returns the empty non-terminals over these owners, each once, in canonical order: the names at
-/// or below the apex that are above an owner and are none themselves (RFC 5155, section 1.3); the
-/// owners among them, where these are wanted. They lie in the octets of the owners.
+/// or below the apex that are above an owner and are not owners themselves (RFC 5155, section 1.3).
+/// If `with_owners` is true, returns the owners among them. The names borrow the octets of the
+/// owners.
 ///
-/// Each owner adds the names above it that it does not share with the owner before it. The owners
-/// are in order, so these are no owners, and stand after all that was added before. Takes the
-/// memory of the list.
+/// Each owner adds the names above it that it does not share with the previous owner. The owners
+/// are in order, so these names are not owners, and come after all names that were added before.
+/// Takes only the memory of the list.
 pub fn names_over<'a>(
     alloc: Global,
     apex: &ParsedName<'a>,
@@ -81,8 +82,9 @@ pub fn names_over<'a>(
     Ok(names)
 }
 
-/// A chain before its records are made: the hashes of its names, and the types of those names that
-/// own records, which come first among the names as they were hashed. The others have none.
+/// A chain before its records are made: the hashes of its names, and the types of the names that
+/// own records. These names are the first of the names as they were hashed. The others have no
+/// types.
 #[derive(Drop)]
 pub(crate) struct HashedChain {
     pub(crate) hashed: Vec<Hashed>,
@@ -99,7 +101,7 @@ pub(crate) fn sort_by_hash<S: Sorter>(hashed: &mut Vec<Hashed>) -> Result<(), Ou
     S::sort_by(hashed, |a, b| a.hash.compare(&b.hash))
 }
 
-/// Returns the hash after the one at a place; after the last one the first.
+/// Returns the hash after the one at a place, or the first one after the last.
 pub(crate) fn hash_after(hashed: &[Hashed], at: usize) -> &[u8]
     requires { at < length hashed.now }
     ensures { (d : Hashed) → result.now
@@ -111,7 +113,11 @@ pub(crate) fn hash_after(hashed: &[Hashed], at: usize) -> &[u8]
     hashed[0].hash.as_slice()
 }
 
-/// Returns the chain of these hashes, where no two of them are alike. Takes no memory.
+/// Returns the chain of these hashes if no two of them are equal. Takes no memory.
+///
+/// # Errors
+///
+/// `CollisionDetected` if two neighbours are equal.
 fn without_collision(
     hashed: Vec<Hashed>,
     types: RtypeBitmaps,
@@ -130,8 +136,8 @@ fn without_collision(
     Ok(HashedChain { hashed, types })
 }
 
-/// Returns a chain over these names, of which the first own records and have these types: each is
-/// hashed, in the order of the list, and then they are put in the order of their hashes.
+/// Returns a chain over these names, the first of which own records and have these types. Hashes
+/// the names in the order of the list, and then sorts the hashes.
 fn hash_chain<S: Sorter, H: Nsec3Hasher, O: Octets>(
     alloc: Global,
     hasher: &H,
@@ -154,8 +160,8 @@ fn hash_chain<S: Sorter, H: Nsec3Hasher, O: Octets>(
     Ok(without_collision(hashed, types)?)
 }
 
-/// Returns the names of a chain: these owners, which stand in canonical order from the apex on, and
-/// then their empty non-terminals.
+/// Returns the names of a chain: these owners, in canonical order from the apex on, and then their
+/// empty non-terminals.
 fn with_empty<'a>(
     alloc: Global,
     apex: &ParsedName<'a>,

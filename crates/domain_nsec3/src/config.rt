@@ -1,4 +1,4 @@
-//! How chains are made, and the types that their records list.
+//! How to make a chain, and the types that its records list.
 ghost use Rattle.std.specs.Prelude.{◌≡◌, true, false, [], IfOk};
 ghost use Rattle.domain_chain_rdata.specs.Rdata.{with_opt_out};
 ghost use Rattle.domain_zone.specs.declared.soa.ApexSoa.{ApexSoa};
@@ -27,28 +27,28 @@ pub enum Nsec3ParamTtlMode {
 }
 
 impl Nsec3ParamTtlMode {
-    /// Returns this TTL.
+    /// Returns the mode with this TTL.
     pub fn fixed(ttl: Ttl) -> Self
         ensures { result ≡ Nsec3ParamTtlMode.Fixed ttl }
     {
         Nsec3ParamTtlMode::Fixed(ttl)
     }
 
-    /// Returns the TTL of the SOA record.
+    /// Returns the mode that takes the TTL of the SOA record.
     pub fn soa() -> Self
         ensures { result ≡ Nsec3ParamTtlMode.Soa }
     {
         Nsec3ParamTtlMode::Soa
     }
 
-    /// Returns the MINIMUM field of the SOA record (RFC 2308, section 4).
+    /// Returns the mode that takes the MINIMUM field of the SOA record (RFC 2308, section 4).
     pub fn soa_minimum() -> Self
         ensures { result ≡ Nsec3ParamTtlMode.SoaMinimum }
     {
         Nsec3ParamTtlMode::SoaMinimum
     }
 
-    /// Returns the TTL that the mode says, in seconds.
+    /// Returns the TTL of this mode, in seconds.
     pub(crate) fn ttl(&self, soa: &ApexSoa) -> Ttl
         ensures { result ≡ param_ttl self.now soa.now }
     {
@@ -60,7 +60,7 @@ impl Nsec3ParamTtlMode {
     }
 }
 
-/// The TTL of the SOA record.
+/// The default is the TTL of the SOA record.
 impl Default for Nsec3ParamTtlMode {
     ghost is_default = { λ mode. mode ≡ ttl_mode.Soa };
 
@@ -69,31 +69,32 @@ impl Default for Nsec3ParamTtlMode {
     }
 }
 
-/// How an NSEC3 chain is made. `Sort` is what sorts the hashes.
+/// How to make an NSEC3 chain. `Sort` sorts the hashes.
 #[derive(Drop)]
 #[derive_where(Debug, PartialEq, Eq)]
 pub struct GenerateNsec3Config<O: Octets, Sort = DefaultSorter> {
-    /// Whether DNSKEY records will be added at the apex once the chain is made, so that its bitmap
+    /// Whether DNSKEY records will be added at the apex once the chain is made. Its bitmap then
     /// lists their type already.
     pub assume_dnskeys_will_be_added: bool,
-    /// How names are hashed, and the flags of all records (RFC 5155, section 3).
+    /// How to hash names, and the flags of all records (RFC 5155, section 3).
     pub params: Nsec3param<O>,
-    /// Whether zone cuts without DS records are left out where the flags have the bit of opt-out
-    /// (RFC 5155, section 6).
+    /// Whether to leave out zone cuts without DS records if the flags have the Opt-Out bit (RFC
+    /// 5155, section 6).
     pub opt_out_exclude_owner_names_of_unsigned_delegations: bool,
     /// Where the TTL of the NSEC3PARAM record comes from.
     pub nsec3param_ttl_mode: Nsec3ParamTtlMode,
-    /// Whether names strictly below a name of the zone that owns a DNAME record are left out, as
-    /// those below a zone cut are: no data may stand there (RFC 6672, section 2.4). An own option.
+    /// Whether to leave out names strictly below a name of the zone that owns a DNAME record, like
+    /// those below a zone cut: no data may exist there (RFC 6672, section 2.4). The ported crate
+    /// has no such option.
     pub occlude_below_dname: bool,
     #[derive_where(skip)]
     sorter: PhantomData<Sort>,
 }
 
 impl<O: Octets, Sort> GenerateNsec3Config<O, Sort> {
-    /// DNSKEY records are assumed, unsigned delegations are left out where the parameters have the
-    /// flag of opt-out, the NSEC3PARAM record has the TTL of the SOA record, and names below a
-    /// DNAME stay in the chain. The parameters are taken as they are.
+    /// Returns the configuration with these parameters, unchanged. It assumes DNSKEY records, and
+    /// leaves out unsigned delegations if the parameters have the Opt-Out flag. The NSEC3PARAM
+    /// record has the TTL of the SOA record. Names below a DNAME stay in the chain.
     pub fn new(params: Nsec3param<O>) -> Self
         ensures params { result.params ≡ params }
         ensures dnskeys { result.assume_dnskeys_will_be_added ≡ true }
@@ -111,8 +112,8 @@ impl<O: Octets, Sort> GenerateNsec3Config<O, Sort> {
         }
     }
 
-    /// Returns the same with the parameters of `Nsec3param::default`: SHA-1, no flags, no extra
-    /// iterations and no salt.
+    /// Returns the configuration of `new` with the parameters of `Nsec3param::default`: SHA-1, no
+    /// flags, no extra iterations and no salt.
     pub fn default(alloc: Global) -> Self
     where
         O: EmptyOctets,
@@ -140,8 +141,7 @@ impl<O: Octets, Sort> GenerateNsec3Config<O, Sort> {
         })
     }
 
-    /// Returns the same, but with another TTL of the NSEC3PARAM record. The other fields stay as
-    /// they are.
+    /// Returns the same configuration, with another TTL mode of the NSEC3PARAM record.
     pub fn with_ttl_mode(mut self, mode: Nsec3ParamTtlMode) -> Self
         ensures { result ≡ record self { nsec3param_ttl_mode = mode } }
     {
@@ -149,8 +149,8 @@ impl<O: Octets, Sort> GenerateNsec3Config<O, Sort> {
         self
     }
 
-    /// Returns the same, except that the parameters have the bit of opt-out (RFC 5155, section
-    /// 3.1.2.1). The other bits and fields stay as they are.
+    /// Returns the same configuration, with the Opt-Out bit set in the parameters (RFC 5155,
+    /// section 3.1.2.1). The other bits stay as they are.
     pub fn with_opt_out(mut self) -> Self
         ensures { result ≡ record self {
           params = record self.params { flags = with_opt_out self.params.flags };
@@ -160,8 +160,8 @@ impl<O: Octets, Sort> GenerateNsec3Config<O, Sort> {
         self
     }
 
-    /// Returns the same, except that no unsigned delegation is left out, whatever the flags say.
-    /// The other fields stay as they are.
+    /// Returns the same configuration, except that it leaves out no unsigned delegation, whatever
+    /// the flags are.
     pub fn without_opt_out_excluding_owner_names_of_unsigned_delegations(mut self) -> Self
         ensures { result ≡ record self {
           opt_out_exclude_owner_names_of_unsigned_delegations = false;
@@ -171,8 +171,7 @@ impl<O: Octets, Sort> GenerateNsec3Config<O, Sort> {
         self
     }
 
-    /// Returns the same, except that no DNSKEY records are assumed. The other fields stay as they
-    /// are.
+    /// Returns the same configuration, except that it assumes no DNSKEY records.
     pub fn without_assuming_dnskeys_will_be_added(mut self) -> Self
         ensures { result ≡ record self { assume_dnskeys_will_be_added = false } }
     {
@@ -180,8 +179,7 @@ impl<O: Octets, Sort> GenerateNsec3Config<O, Sort> {
         self
     }
 
-    /// Returns the same, except that names below a DNAME are left out. The other fields stay as
-    /// they are.
+    /// Returns the same configuration, except that it leaves out names below a DNAME.
     pub fn with_occlude_below_dname(mut self) -> Self
         ensures { result ≡ record self { occlude_below_dname = true } }
     {
@@ -190,8 +188,7 @@ impl<O: Octets, Sort> GenerateNsec3Config<O, Sort> {
     }
 }
 
-/// The same as `new`, for the sorter of the standard library, so that the parameters alone tell the
-/// type.
+/// The same as `new`, for the default sorter, so that the type follows from the parameters.
 impl<O: Octets> From<Nsec3param<O>> for GenerateNsec3Config<O, DefaultSorter> {
     ghost from_gives = { λ params config. (config.params ≡ params)
         × (config.assume_dnskeys_will_be_added ≡ true)

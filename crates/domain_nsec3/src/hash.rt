@@ -1,4 +1,4 @@
-//! Hashes of names, each in place, and their text.
+//! Hashes of names, each stored inline, and their text.
 ghost use Rattle.std.specs.Prelude.{◌≡◌, ◌≤◌, length, take, map, ◌+◌, ◌<◌, ◌++◌, ◌∷◌, ◌⊎◌, [], Ok, Err, Some, None};
 ghost use Rattle.std.specs.Prelude.{All, IfOk, IfErr, IfSome, IsErrOf, OnOk, OnSome, vec_capacity, vec_len};
 ghost use Rattle.std.specs.{Ordering.nat_cmp, Cmp.Lexicographic.slice_cmp, Fmt.WritesOnOk};
@@ -21,7 +21,7 @@ use std::cmp::Ordering;
 use std::fmt;
 use std::marker::Model;
 
-/// Room for the text of a hash that is a label, of at most 63 octets, and seven octets more: digits
+/// Room for the text of a hash that is a label, of at most 63 octets, and seven more octets: digits
 /// are written eight at a time.
 const MAX_TEXT: usize = 70;
 
@@ -44,10 +44,10 @@ pub(crate) fn display_hash<W: fmt::Write>(hash: &[u8], f: &mut fmt::Formatter<W>
     f.write_str(unsafe { str::from_utf8_unchecked(text) })
 }
 
-/// The greatest length of a hash whose text is one label.
+/// The greatest length of a hash whose text fits in one label.
 pub(crate) const MAX_HASH: usize = 39;
 
-/// At most 39 octets, which lie in the value itself: so a list of hashes takes one piece of memory.
+/// At most 39 octets, stored inline, so a list of hashes takes one allocation.
 #[derive(Drop)]
 pub(crate) struct NameHash {
     octets: [u8; MAX_HASH],
@@ -66,7 +66,7 @@ impl Model for NameHash {
 }
 
 impl NameHash {
-    /// These octets.
+    /// Returns a copy of these octets.
     pub(crate) fn new(hash: &[u8]) -> Self
         requires { length hash.now ≤ 39 }
         ensures { result ≡ hash.now }
@@ -79,7 +79,7 @@ impl NameHash {
         }
     }
 
-    /// The octets.
+    /// Returns the octets.
     pub(crate) fn as_slice(&self) -> &[u8]
         ensures { result.now ≡ self.now }
     {
@@ -94,14 +94,15 @@ impl NameHash {
     }
 }
 
-/// A name of a chain: its hash, and its place among the names as they were hashed.
+/// A hashed name of a chain: its hash, and its place among the names as they were hashed.
 #[derive(Drop)]
 pub(crate) struct Hashed {
     pub(crate) hash: NameHash,
     pub(crate) place: usize,
 }
 
-/// Whether octets are of use as a hash below an apex. Else tells the first reason why not.
+/// Checks that octets can be used as a hash below an apex. Otherwise returns the first reason why
+/// not.
 #[tactic(auto, using(std::proofs::lemmas::Grind::common_steps, domain_octets::proofs::WordLemmas::octets_from_type, crate::proofs::OwnerLemmas::owner_length))]
 fn check_hash(apex: &ParsedName<'_>, hash: &[u8]) -> Result<(), Nsec3HashError>
     ensures ok { OnOk result (hash_fault apex.now (Ok hash.now) ≡ None) }
@@ -119,12 +120,12 @@ fn check_hash(apex: &ParsedName<'_>, hash: &[u8]) -> Result<(), Nsec3HashError>
     Ok(())
 }
 
-/// The hash of a name by these parameters, of the octets of its wire form in lower case; a refusal
-/// of the hasher is one of the chain.
+/// Returns the hash of a name by these parameters. `wire` is the wire form of the name in lower
+/// case.
 ///
 /// # Errors
 ///
-/// `Hasher` with the number of the hasher's refusal, and `OutOfMemory` where it has none.
+/// `Hasher` with the number of the hasher's error, and `OutOfMemory` if the hasher has no memory.
 pub fn hash_wire<H: Nsec3Hasher, O: Octets>(
     alloc: Global,
     hasher: &H,
@@ -145,7 +146,7 @@ pub fn hash_wire<H: Nsec3Hasher, O: Octets>(
     }
 }
 
-/// The hash of a name by these parameters, where it is of use.
+/// Returns the hash of a name by these parameters, if it can be used.
 fn hash_checked<H: Nsec3Hasher, O: Octets>(
     alloc: Global,
     hasher: &H,
@@ -166,7 +167,7 @@ fn hash_checked<H: Nsec3Hasher, O: Octets>(
     Ok(hash)
 }
 
-/// Writes octets from a place in a buffer on, and gives the place after them.
+/// Writes octets at a place in a buffer, and returns the place after them.
 fn put_octets(buffer: &mut [u8], at: usize, octets: &[u8]) -> usize
     requires { at + length octets.now ≤ length buffer.old }
     ensures end { result ≡ at + length octets.now }
@@ -191,8 +192,8 @@ fn join_label<'a>(buffer: &'a mut [u8], label: &[u8], above: &[u8]) -> &'a [u8]
     &buffer[..end]
 }
 
-/// The owner of the record of a hash: the text of the hash in lower case as a label before the
-/// apex.
+/// Returns the owner of the record of a hash: the text of the hash in lower case as a label before
+/// the apex.
 pub(crate) fn make_owner<N: MakeName>(
     alloc: Global,
     apex: &ParsedName<'_>,
@@ -208,14 +209,15 @@ pub(crate) fn make_owner<N: MakeName>(
     Ok(N::make(alloc, join_label(&mut wire, label, above))?)
 }
 
-/// The owner of the NSEC3 record of a name (RFC 5155, section 3): the hash of the name, in lower
-/// case, as a label before the apex.
+/// Returns the owner of the NSEC3 record of a name (RFC 5155, section 3): the hash of the name, in
+/// lower case, as a label before the apex.
 ///
 /// # Errors
 ///
-/// The first that stands: what the hasher refuses as `Hasher`; `OwnerHashError` where the hash has
-/// no octets or over 39; `Nsec3NameTooLong` where the owner would be over 255 octets; and
-/// `OutOfMemory`. Only where the hasher has none may one of these faults stand beside that.
+/// The first of these that applies: `Hasher` if the hasher returns an error; `OwnerHashError` if
+/// the hash has no octets or more than 39; `Nsec3NameTooLong` if the owner would be longer than 255
+/// octets; and `OutOfMemory`. With `OutOfMemory`, one of the other faults may exist too only if the
+/// hasher takes memory.
 pub fn mk_hashed_nsec3_owner_name<H: Nsec3Hasher, O: Octets, N: MakeName>(
     alloc: Global,
     name: &N,
@@ -241,7 +243,7 @@ where
         (record { algorithm = algorithm; iterations = iterations; salt = salt.now }))
         (N.labels name.now))) }
 
-    // The name takes memory once it is known that no fault of the hash stands.
+    // The name takes memory only after the hash is known to have no fault.
     ensures memory { IsErrOf result hash_error.OutOfMemory → H.takes_memory hasher.now
         ⊎ (hash_fault (N.labels apex.now) (hash_name (hash_by (H.answer hasher.now)
         (record { algorithm = algorithm; iterations = iterations; salt = salt.now }))
@@ -254,7 +256,7 @@ where
     Ok(make_owner(alloc, &apex, hash.as_slice())?)
 }
 
-/// Returns a hash with the place of its name, if it is of use as a hash below the apex.
+/// Returns a hash with the place of its name, if it can be used as a hash below the apex.
 fn place_hash(apex: &ParsedName<'_>, hash: &[u8], place: usize) -> Option<Hashed>
     ensures { IfSome result (IsPlacedHash apex.now hash.now place) }
 {
@@ -263,8 +265,8 @@ fn place_hash(apex: &ParsedName<'_>, hash: &[u8], place: usize) -> Option<Hashed
     Some(Hashed { hash, place })
 }
 
-/// Returns the hashes of four names, in their order; nothing if the hasher refuses one of them, or
-/// is out of memory.
+/// Returns the hashes of four names, in their order, or `None` if the hasher returns an error for
+/// one of them.
 fn hash_four<H: Nsec3Hasher, O: Octets>(
     alloc: Global,
     hasher: &H,
@@ -292,7 +294,7 @@ fn hash_four<H: Nsec3Hasher, O: Octets>(
 }
 
 /// Appends the hashes of the next four names to those of the names before them, each with the place
-/// of its name; returns whether it did. It appends nothing if one of the four is refused, or if the
+/// of its name. Appends nothing and returns `None` if one of the four has an error, or if the
 /// hasher is out of memory.
 fn push_four<H: Nsec3Hasher, O: Octets>(
     alloc: Global,
@@ -327,7 +329,7 @@ fn push_four<H: Nsec3Hasher, O: Octets>(
 }
 
 /// Appends the hashes of names to an empty list with room for them, four at a time, each with the
-/// place of its name; stops before four names that `push_four` does not append.
+/// place of its name. Stops before four names that `push_four` does not append.
 fn hash_fours<H: Nsec3Hasher, O: Octets>(
     alloc: Global,
     hasher: &H,
@@ -350,9 +352,9 @@ fn hash_fours<H: Nsec3Hasher, O: Octets>(
     hashed
 }
 
-/// The hashes of names, each with the place of its name, in their order, in a list that has room
-/// for them; else the first refusal. Four names at a time are passed to the hasher, as long as none
-/// is refused. Takes no memory but the hasher's.
+/// Returns the hashes of names, each with the place of its name, in the list `hashed` that has room
+/// for them, or the first error. Passes the hasher four names at a time, as long as none has an
+/// error. Takes no memory except the hasher's.
 pub(crate) fn hash_into<H: Nsec3Hasher, O: Octets>(
     alloc: Global,
     hasher: &H,
@@ -381,8 +383,8 @@ pub(crate) fn hash_into<H: Nsec3Hasher, O: Octets>(
 }
 
 /// The owner of the record of a hash (RFC 5155, section 3): the text of the hash in lower case as a
-/// label before the apex. Contracts see the name. It holds the hash and the apex, and is spelled
-/// only where it is printed or made. It prints with its last dot.
+/// label before the apex. Contracts see the name. It stores the hash and the apex, and spells out
+/// the name only when it is printed or made. It prints with its last dot.
 #[derive(Drop)]
 pub struct HashedOwner<'a> {
     apex: ParsedName<'a>,
@@ -403,7 +405,7 @@ impl<'a> Model for HashedOwner<'a> {
 }
 
 impl<'a> HashedOwner<'a> {
-    /// The owner of the record of a hash below an apex.
+    /// Returns the owner of the record of a hash below an apex.
     pub(crate) fn new(apex: ParsedName<'a>, hash: &'a [u8]) -> Self
         requires { hash_fault apex (Ok hash.now) ≡ None }
         ensures { result ≡ hashed_owner apex.entry hash.now }
@@ -411,7 +413,7 @@ impl<'a> HashedOwner<'a> {
         HashedOwner { apex, hash }
     }
 
-    /// The name, in octets of its own.
+    /// Returns the name, in octets of its own.
     pub fn make<N: MakeName>(&self, alloc: Global) -> Result<N, OutOfMemory>
         ensures { IfOk result (λ owner. N.labels owner ≡ self.now) }
     {

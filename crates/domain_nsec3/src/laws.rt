@@ -1,4 +1,4 @@
-//! What holds of the names of a chain. A caller calls the law in its body.
+//! Laws about the names of a chain. A function uses a law by calling it in its body.
 ghost use Rattle.std.specs.Prelude.{◌≡◌, ℕ, true, false, List};
 ghost use Rattle.domain_zone.specs.Enclosers.{exists_over, is_empty_nonterminal, IsClosestEncloser};
 ghost use Rattle.domain_zone.specs.Zone.{ZoneRecord, is_zone_cut};
@@ -7,8 +7,8 @@ ghost use Rattle.domain_nsec3.specs.Chain.{HashedLink, IsHashedChain, ChainConfi
 ghost use Rattle.domain_nsec3.specs.Chain.{is_original_owner, is_chain_name, is_empty, nsec3_lists};
 ghost use Rattle.domain_nsec3.specs.Meaning.{CutsEnclose, MeansTheZone};
 
-/// The names of the chain are those that exist over its original owner names that own records: so
-/// each name above one, at or below the apex, is one too.
+/// The names of the chain are those that exist over its original owner names that own records. So
+/// each name above one of them, at or below the apex, is one too.
 #[tactic(auto, using(crate::proofs::OwnerLemmas::existing_are, crate::proofs::OwnerLemmas::empty_are))]
 pub fn names_exist()
     ensures existing { (L : List ZoneRecord) (a : Name) (config : ChainConfig) (x : Name)
@@ -18,9 +18,9 @@ pub fn names_exist()
         → is_empty_nonterminal (original_owners L a config) a x ≡ is_empty L a config x }
 {}
 
-/// Of the names from a name up to the apex those are names of the chain that its closest encloser
-/// is at or below. A zone cut of the chain is the closest encloser of what is strictly below it;
-/// one that is left out is no name of the chain.
+/// Among the names from `x` up to the apex, those at or above the closest encloser of `x` are names
+/// of the chain, and no others. A zone cut of the chain is the closest encloser of each name
+/// strictly below it. A zone cut that is left out is not a name of the chain.
 #[tactic(auto, using(crate::proofs::OwnerLemmas::runs_to_encloser, crate::proofs::OwnerLemmas::cut_encloses, crate::proofs::OwnerLemmas::cut_is_out))]
 pub fn names_end_at_the_encloser()
     ensures runs { (L : List ZoneRecord) (a : Name) (config : ChainConfig) (x e d : Name)
@@ -41,7 +41,7 @@ pub fn types_ignore_case()
         → (t : ℕ) → nsec3_lists L a config x t ≡ nsec3_lists L a config y t }
 {}
 
-/// What the chain says of every name follows from the chain alone, however it was made.
+/// What a chain says of every name follows from the chain, however it was made.
 pub fn chains_mean_the_zone()
     ensures { (L : List ZoneRecord) (a : Name) (config : ChainConfig) (links : List HashedLink)
         → IsHashedChain L a config links → MeansTheZone L a config links }

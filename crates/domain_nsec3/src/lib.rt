@@ -1,11 +1,12 @@
 //! The NSEC3 chain of a zone (RFC 5155, section 7.1).
 //!
 //! `Nsec3Chain::generate` gathers the original owner names of a zone and their empty non-terminals,
-//! hashes them, and gives exactly the defined chain, or the first fault that stands. The chain
-//! lends its records one by one, and hands all of them out; `generate_nsec3s` is both at once,
-//! under the name of the ported crate. The definitions stand in `specs/`, over those of
-//! `domain_zone`. The crates above may rely on this: exactly one record of the chain matches or
-//! covers the hash of each name of the zone.
+//! hashes them, and returns exactly the defined chain, or the first fault of the zone. The chain
+//! lends its records one by one, or returns all of them. `generate_nsec3s` does both steps, under
+//! the name of the ported crate. The definitions are in `specs/`, on top of those of `domain_zone`.
+//!
+//! The crates above may rely on this: exactly one record of the chain matches or covers the hash of
+//! each name of the zone.
 #![tactic(auto)]
 
 mod borrowed;

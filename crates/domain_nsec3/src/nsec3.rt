@@ -1,4 +1,4 @@
-//! The NSEC3 chain of a zone, whose records are made one by one, or all at once.
+//! The NSEC3 chain of a zone. Its records are made one by one, or all at once.
 ghost use Rattle.std.specs.Prelude.{◌≡◌, ◌<◌, ◌≤◌, ◌↔◌, [], All, length, slice_index_or, IsTrue, IfErr, IfOk, IfNone, IfSome, OnOk, string_bytes};
 ghost use Rattle.domain_base.specs.Classes.{in_class};
 ghost use Rattle.domain_records.specs.Order.{IsOneClass, IsInOrder};
@@ -22,8 +22,8 @@ use std::alloc::Global;
 use std::marker::Model;
 
 /// The NSEC3 chain of a zone before its records are made, and its NSEC3PARAM record (RFC 5155,
-/// section 7.1). It lends one NSEC3 record at a time. Contracts see the links that its records
-/// have, and the NSEC3PARAM record.
+/// section 7.1). It lends one NSEC3 record at a time. Contracts see the links of its records, and
+/// the NSEC3PARAM record.
 ///
 /// It borrows the apex. Each name takes 48 octets. A name that owns records takes 8 octets more,
 /// and the octets of its types.
@@ -32,7 +32,7 @@ pub struct Nsec3Chain<'a, O: Octets> {
     chain: HashedChain,
     ttl: Ttl,
     nsec3param: Record<ParsedName<'a>, Nsec3param<O>>,
-    /// What all records have alike between their hash and their data, when printed.
+    /// The text that all records share between their hash and their data.
     shared: String,
 }
 
@@ -71,7 +71,7 @@ fn param_record<'a, S, O: Octets, N: ToName>(
     Ok(Record::new(apex.as_parsed(), Class::IN, ttl, params))
 }
 
-/// Returns what the records of a chain have alike between their hash and their data.
+/// Returns the text that the records of a chain share between their hash and their data.
 fn shared_text(alloc: Global, apex: &ParsedName<'_>, ttl: Ttl) -> Result<String, OutOfMemory>
     ensures { IfOk result (λ text. string_bytes text ≡ shared_text apex.now ttl) }
 {
@@ -90,8 +90,8 @@ fn as_octets(hash: &[u8]) -> &[u8]
 }
 
 impl<'a, O: Octets> Nsec3Chain<'a, O> {
-    /// Returns the NSEC3 chain of a zone and its NSEC3PARAM record (RFC 5155, section 7.1): those
-    /// that `generate_nsec3s` gives, with the same refusals, before the records are made. It
+    /// Returns the NSEC3 chain of a zone and its NSEC3PARAM record (RFC 5155, section 7.1), before
+    /// the records are made. They are those of `generate_nsec3s`, with the same errors. The result
     /// borrows the apex; the records of the zone are only read.
     ///
     /// # Errors
@@ -110,7 +110,7 @@ impl<'a, O: Octets> Nsec3Chain<'a, O> {
         requires one_class { IsOneClass records }
         requires in_order { IsInOrder N.labels D.rtype records }
 
-        // Ok is exactly the chain, and comes only where no fault stands.
+        // Ok is exactly the chain, and is returned only if the zone has no fault.
         ensures chain { IfOk result (λ made. IsHashedChain
             (zone_of N.labels D.rtype D.minimum records.entry) (N.labels apex.now)
             (config_of (H.answer hasher.now) config.now) made.links) }
@@ -140,7 +140,7 @@ impl<'a, O: Octets> Nsec3Chain<'a, O> {
         })
     }
 
-    /// Returns how many NSEC3 records the chain has.
+    /// Returns the number of NSEC3 records of the chain.
     #[tactic(auto, using(crate::proofs::ChainLemmas::links_counted))]
     pub fn len(&self) -> usize
         ensures { result ≡ length self.now.links }
@@ -148,7 +148,7 @@ impl<'a, O: Octets> Nsec3Chain<'a, O> {
         self.chain.hashed.len()
     }
 
-    /// Returns whether the chain has no NSEC3 records. That of a zone has one for the apex.
+    /// Returns whether the chain has no NSEC3 records. The chain of a zone has one for the apex.
     pub fn is_empty(&self) -> bool
         ensures { IsTrue result ↔ (self.now.links ≡ []) }
     {
@@ -162,8 +162,8 @@ impl<'a, O: Octets> Nsec3Chain<'a, O> {
         &self.nsec3param
     }
 
-    /// Returns the record at a place, in the order of hashes, which borrows from the chain, or
-    /// `None` past the last one. Takes no memory.
+    /// Returns the record at a place, in the order of hashes, or `None` past the last one. The
+    /// record borrows from the chain. Takes no memory.
     #[tactic(auto, using(crate::proofs::ChainLemmas::links_counted))]
     pub fn lend(&self, place: usize) -> Option<BorrowedNsec3<'_>>
         ensures some { IfSome result (λ made. (d : HashedLink)
@@ -176,8 +176,7 @@ impl<'a, O: Octets> Nsec3Chain<'a, O> {
         Some(lend_record(&self.chain, place, self.ttl, &self.nsec3param, &self.shared))
     }
 
-    /// Returns the hash that the owner of the record at a place spells, or `None` past the last
-    /// one.
+    /// Returns the hash in the owner of the record at a place, or `None` past the last one.
     pub fn hash_at(&self, place: usize) -> Option<&[u8]>
         ensures some { IfSome result (λ hash. (k : HashedLink)
             × IsRecordOf self.now.param.owner self.now.links place k hash.now) }
@@ -215,7 +214,7 @@ impl<'a, O: FromBuilder> Nsec3Chain<'a, O> {
     }
 }
 
-/// The NSEC3 chain of a zone, and the record that tells its parameters (RFC 5155, section 7.1).
+/// The NSEC3 chain of a zone, and its NSEC3PARAM record (RFC 5155, section 7.1).
 #[derive(Drop)]
 pub struct Nsec3Records<N, O: Octets> {
     /// The records of the chain, in the order of their hashes.
@@ -225,7 +224,7 @@ pub struct Nsec3Records<N, O: Octets> {
 }
 
 impl<N, O: Octets> Nsec3Records<N, O> {
-    /// Returns these records.
+    /// Returns the chain of these records.
     pub fn new(nsec3s: Vec<Record<N, Nsec3<O>>>, nsec3param: Record<N, Nsec3param<O>>) -> Self
         ensures { result ≡ record { nsec3s = nsec3s; nsec3param = nsec3param } }
     {
@@ -233,33 +232,39 @@ impl<N, O: Octets> Nsec3Records<N, O> {
     }
 }
 
-/// Returns the NSEC3 chain of a zone, and its NSEC3PARAM record (RFC 5155, section 7.1): one record
-/// for each original owner name. These are the owners that are at or below the apex and not
-/// strictly below a zone cut, and the empty non-terminals above them. Zone cuts without DS records
-/// are left out where the configuration says so and the flags have the bit of opt-out, and so are
-/// names strictly below an owner of a DNAME record where the configuration says so.
+/// Returns the NSEC3 chain of a zone, and its NSEC3PARAM record (RFC 5155, section 7.1). The chain
+/// has one record for each original owner name. These are the owners at or below the apex that are
+/// not strictly below a zone cut, and the empty non-terminals above them. It leaves out zone cuts
+/// without DS records if the configuration says so and the flags have the Opt-Out bit. If the
+/// configuration says so, it also leaves out names strictly below an owner of a DNAME record.
 ///
-/// The records stand in the order of their hashes, each points to the next hash, the last one to
-/// the first. Each is of class IN, has the lesser of the SOA's MINIMUM and TTL as its TTL in
-/// seconds (RFC 9077, section 3.2), and the parameters and flags of the configuration. It lists the
-/// types of its original owner, at a zone cut only NS and DS of them; RRSIG, but at a zone cut
-/// without DS; and at the apex NSEC3PARAM, and DNSKEY where the configuration assumes it. An empty
-/// non-terminal has no types. Owners are the lower-case text of the hash as a label before the
-/// apex, which keeps the argument's spelling.
+/// The records are in the order of their hashes. Each points to the next hash, the last one to the
+/// first. Each is of class IN, and has the parameters and flags of the configuration. Its TTL in
+/// seconds is the lesser of the SOA's MINIMUM and TTL (RFC 9077, section 3.2). Its owner is the
+/// lower-case text of the hash as a label before the apex, in the spelling of `apex`.
 ///
-/// The records are those of one class in canonical order; records of owners outside the zone are
-/// passed over.
+/// Each record lists the types of its original owner name, at a zone cut only NS and DS of them. It
+/// also lists RRSIG, except at a zone cut without DS. At the apex it also lists NSEC3PARAM, and
+/// DNSKEY if the configuration assumes it. An empty non-terminal has no types.
+///
+/// The records must be of one class and in canonical order. Records of owners outside the zone are
+/// ignored.
 ///
 /// # Errors
 ///
-/// The first of these that applies: `SoaRecordCouldNotBeDetermined` where the apex does not own
-/// exactly one record of type SOA, or its data tell no MINIMUM; `MultipleTtlValues` where two
-/// records of one owner of the chain and one type other than RRSIG differ in TTL; for the first
-/// name of the chain, owners before empty non-terminals and each in canonical order, whose hash is
-/// of no use, `Nsec3HashingError` with `Hasher`, `OwnerHashError` or `Nsec3NameTooLong`; the same
-/// with `CollisionDetected` where two names of the chain have one hash; and `OutOfMemory`, which
-/// says that neither of the first two faults stands and leaves those of hashing open, since hashes
-/// take memory.
+/// The first of these that applies:
+///
+/// - `SoaRecordCouldNotBeDetermined` if the apex does not own exactly one record of type SOA, or
+///   its data have no MINIMUM.
+/// - `MultipleTtlValues` if two records of one owner of the chain, and of one type other than
+///   RRSIG, differ in TTL.
+/// - `Nsec3HashingError` with `Hasher`, `OwnerHashError` or `Nsec3NameTooLong`, for the first name
+///   of the chain whose hash cannot be used. Owners come before empty non-terminals, both in
+///   canonical order.
+/// - `Nsec3HashingError` with `CollisionDetected` if two names of the chain have the same hash.
+///
+/// `OutOfMemory` if there is no memory. The zone then has neither of the first two faults. It may
+/// have a fault of hashing, since hashes take memory.
 pub fn generate_nsec3s<S: Sorter, H: Nsec3Hasher, O, N: MakeName, D: ZoneData>(
     alloc: Global,
     apex: &N,
@@ -274,7 +279,7 @@ where
     requires one_class { IsOneClass records }
     requires in_order { IsInOrder N.labels D.rtype records }
 
-    // Ok is exactly the chain, and comes only where no fault stands.
+    // Ok is exactly the chain, and is returned only if the zone has no fault.
     ensures chain { IfOk result (λ made. IsHashedChain
         (zone_of N.labels D.rtype D.minimum records.entry) (N.labels apex.now)
         (config_of (H.answer hasher.now) config.now) (hashed_links_of N.labels made.nsec3s.items)) }
@@ -287,7 +292,7 @@ where
     ensures fault { IfErr result (IsFirstFault (zone_of N.labels D.rtype D.minimum records.entry)
         (N.labels apex.now) (config_of (H.answer hasher.now) config.now)) }
 
-    // What the chain says of every name of the zone; its owners ascend as their hashes do.
+    // What the chain says of every name of the zone. Its owners ascend as their hashes do.
     ensures means { IfOk result (λ made. MeansTheZone
         (zone_of N.labels D.rtype D.minimum records.entry) (N.labels apex.now)
         (config_of (H.answer hasher.now) config.now) (hashed_links_of N.labels made.nsec3s.items)) }

@@ -1,4 +1,4 @@
--- Record data as tokens and as octets, and why they are refused (RFC 1035, section 5.1; RFC 3597).
+-- Record data as tokens and as octets, and why they are rejected (RFC 1035, section 5.1; RFC 3597).
 use Rattle.std.specs.Prelude.{◌≡◌, ℕ, None, [], ◌∷◌, ◌⊎◌, ◌<◌, ◌||◌, length, codes, Bool, true, false, IsTrue, Option, Some, IsNone, Result, IfOk, IfErr}
 use Rattle.domain_octets.specs.Octets.{Octets, IsOver}
 use Rattle.domain_names.specs.{Name.{Tokens, Name}, Text.{ScanFault, entry_ends, illegal, no_room, no_memory, scan_fault_of}}
@@ -14,12 +14,12 @@ use Rattle.domain_chain_rdata.specs.Text.{RefusesNsec, RefusesNsec3, RefusesNsec
 
 -- ---- record data as tokens and as octets (RFC 1035, section 5.1; RFC 3597, section 5)
 
--- the tokens begin with the content in the text form of its kind, and these are left
+-- the tokens begin with the content in the text form of its kind, and the other tokens are left
 abbrev pub ContentText : Tokens → Content → Tokens → Type 0
 ContentText old (fields k v) new = FieldsText k old v new
 ContentText old (mere o) new = ⊥
 
--- the tokens begin with the data in the text form of their type, and these are left
+-- the tokens begin with the data in the text form of their type, and the other tokens are left
 abbrev pub OwnText : {O N : Type 0} → (O → Octets) → (N → Name) → ℕ → Tokens
     → ZoneRecordData O N → Tokens → Type 0
 OwnText octets labels rtype old d new =
@@ -41,7 +41,7 @@ abbrev pub IsGeneric : Tokens → Type 0
 IsGeneric tokens = (more : Tokens) × (tokens ≡ generic_mark ∷ more)
 
 -- the tokens begin with the data of a type, in the text form of that type or in the generic form,
--- and these are left
+-- and the other tokens are left
 pub data RdataText {O N : Type 0} (octets : O → Octets) (labels : N → Name) (rtype : ℕ)
     (old : Tokens) (d : ZoneRecordData O N) (new : Tokens) : Type 0 where
   own : (IsGeneric old → ⊥) → OwnText octets labels rtype old d new
@@ -49,10 +49,10 @@ pub data RdataText {O N : Type 0} (octets : O → Octets) (labels : N → Name) 
   generic : (wire : Octets) → GenericText old wire → AreData octets labels rtype wire d → new ≡ []
       → RdataText octets labels rtype old d new
 
--- ---- why record data are refused, in the text form of their type or in the generic form (RFC 1035,
--- section 5.1, and RFC 3597, section 5)
+-- ---- why record data are rejected, in the text form of their type or in the generic form (RFC
+-- 1035, section 5.1, and RFC 3597, section 5)
 
--- the first field of that form that is refused, where octets have this limit, and the tokens that
+-- the first field of the text form that is rejected, if octets have this limit, and the tokens that
 -- are left then
 abbrev pub RefusesKind : Option ℕ → Kind → Refusal
 RefusesKind limit (plain l) = Refuses limit l
@@ -62,8 +62,8 @@ RefusesKind limit next_by_name = RefusesNsec limit limit
 RefusesKind limit next_by_hash = RefusesNsec3 limit
 RefusesKind limit params = RefusesNsec3param limit
 
--- tokens are refused as the text form of a type: at a field of that form, or, before any token is
--- taken, since the type has none
+-- why tokens are rejected as the text form of a type: a field of that form is rejected, or the type
+-- has no such form, and no token is taken
 abbrev pub RefusesKnown : Option ℕ → Option Kind → Refusal
 RefusesKnown limit (Some kind) old new fault = RefusesKind limit kind old new fault
 RefusesKnown limit None old new fault =
@@ -72,11 +72,11 @@ RefusesKnown limit None old new fault =
 abbrev pub RefusesOwn : Option ℕ → ℕ → Refusal
 RefusesOwn limit rtype = RefusesKnown limit (kind_of rtype)
 
--- all the octets are data of a kind on the wire
+-- all of the octets are data of a kind, in wire form
 abbrev pub AreOfKind : Kind → Octets → Type 0
 AreOfKind kind wire = (v : Values (layout_of kind)) × AreFields kind wire v
 
--- a value of the fields that is held as octets of its own
+-- part is a value of these fields that is held as octets of its own
 abbrev pub IsHeld : (l : Layout) → Values l → Octets → Type 0
 IsHeld (one counted) v part = v ≡ part
 IsHeld (one rest) v part = v ≡ part
@@ -84,30 +84,30 @@ IsHeld (one types) v part = v ≡ part
 IsHeld (a ▸ b) v part = IsHeld a v.0 part ⊎ IsHeld b v.1 part
 IsHeld _ v part = ⊥
 
--- such a part of those data
+-- part is such a value in these data
 pub record IsPart (wire : Octets) (kind : Kind) (part : Octets) : Type 0 where
   pub values : Values (layout_of kind)
   pub whole : AreFields kind wire values
   pub held : IsHeld (layout_of kind) values part
 
--- why octets are not copied into octets that have this limit
+-- why octets are not copied into octets with this limit
 abbrev pub CopyFault : Option ℕ → Octets → ScanFault → Type 0
 CopyFault limit octets entry_ends = ⊥
 CopyFault limit octets (illegal said) = ⊥
 CopyFault limit octets no_room = IsOver limit (length octets)
 CopyFault limit octets no_memory = IsNone limit
 
--- whether there is a name among the fields
+-- one of the fields is a name
 abbrev pub has_name : Layout → Bool
 has_name (one name) = true
 has_name (one spelled_name) = true
 has_name (a ▸ b) = has_name a || has_name b
 has_name _ = false
 
--- why the octets of a generic form are not turned into data over octets that have this limit: they
--- are no such data, or they are, and a part has no room, or there is no memory for a name, or for a
--- part, which takes some where octets have no limit; those of a type that has no text form of its
--- own are not refused, since any octets are its data
+-- why the octets of a generic form do not become data over octets with this limit: they are not
+-- such data; or a part has no room; or there is no memory, for a name, or for a part if octets have
+-- no limit; octets of a type without a text form of its own have no fault, since any octets are its
+-- data
 abbrev pub OctetsFault : Option ℕ → Option Kind → Octets → ScanFault → Type 0
 OctetsFault limit None wire fault = ⊥
 OctetsFault limit (Some kind) wire entry_ends = ⊥
@@ -119,15 +119,15 @@ OctetsFault limit (Some kind) wire no_memory =
     (AreOfKind kind wire × IsTrue (has_name (layout_of kind)))
     ⊎ ((part : Octets) × IsPart wire kind part × IsNone limit)
 
--- what is promised of the octets of a generic form as data of a kind
+-- what parsing the octets of a generic form as data of a kind guarantees
 pub record FromOctets {D : Type 0} (limit : Option ℕ) (kind : Kind)
     (values : D → Values (layout_of kind)) (wire : Octets) (result : Result D ScanError) : Type 0 where
   pub ok : IfOk result (λ d. AreFields kind wire (values d))
   pub err : IfErr result (λ e. OctetsFault limit (Some kind) wire (scan_fault_of e))
 
--- why tokens are refused as data of a type, where octets have this limit, and the tokens that are
--- left then: the mark of the generic form at their head decides what they are held to; text in that
--- form may still hold octets that are no data of the type
+-- why tokens are rejected as data of a type, if octets have this limit, and the tokens that are
+-- left then; the mark of the generic form as first token decides which form applies; a well-formed
+-- generic form may hold octets that are not data of the type
 pub data RefusesRdata (limit : Option ℕ) (rtype : ℕ) (old new : Tokens)
     (fault : ScanFault) : Type 0 where
   in_own : (IsGeneric old → ⊥) → RefusesOwn limit rtype old new fault

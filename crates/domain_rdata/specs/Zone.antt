@@ -1,4 +1,4 @@
--- Data of all types as one type: the tables that have a row for each type, and what follows of them.
+-- Data of all types as one type: the tables with a row for each type, and what follows from them.
 use Rattle.std.specs.Prelude.{[], ◌≡◌, ℕ, ◌==◌, ◌++◌, Option, Some, None, codes, refl, if◌then◌else◌, ◌≢◌, ◌≤◌, length}
 use Rattle.std.specs.{declared.cmp.Ordering.Ordering, Fmt.decimal, Net.{Addr.ipv4_octets, Text.ipv4_text}, Ordering.{nat_cmp, on, then_cmp}}
 use Rattle.std.specs.{Ordering.ordering_then, Cmp.{IsTotalOrder, on_total, then_total, nat_cmp_total, tied_itself, Lexicographic.slice_cmp}}
@@ -18,9 +18,9 @@ use Rattle.domain_rdata.specs.declared.zone_record_data.ZoneRecordData.{ZoneReco
 use Rattle.domain_rdata.specs.declared.zone_record_data.ZoneRecordData.TheVariants.{Nsec, Nsec3, Nsec3param, Unknown}
 use Rattle.domain_base.specs.Types as rtypes
 
--- ---- kinds of data: of what fields they are made up, and how these stand in octets and as tokens
+-- ---- kinds of data: their fields, and their form in octets and as tokens
 
--- of fields of one token each, or in a way of their own
+-- how data are composed: of fields of one token each, or in a way of their own
 pub data Kind : Type 0 where
   plain : Layout → Kind
   key : Codec → Kind
@@ -29,7 +29,7 @@ pub data Kind : Type 0 where
   next_by_hash : Kind
   params : Kind
 
--- the fields, in the order of the wire
+-- the fields, in wire order
 abbrev pub layout_of : Kind → Layout
 layout_of (plain l) = l
 layout_of (key codec) = key_fields
@@ -38,18 +38,18 @@ layout_of next_by_name = nsec
 layout_of next_by_hash = nsec3
 layout_of params = nsec3param
 
--- all the octets are these values on the wire
+-- all of the octets are these values, in wire form
 abbrev pub AreFields : (k : Kind) → Octets → Values (layout_of k) → Type 0
 AreFields k wire v = Begins (layout_of k) wire v []
 
--- data with these values
+-- the key data with these values
 abbrev pub key_of : Values key_fields → KeyData
 key_of v = key_data v.0 v.1.0 v.1.1.0 v.1.1.1.1
 
 abbrev pub rrsig_of : Values rrsig → RrsigData
 rrsig_of v = rrsig_data (of_numbers v.1.0.0 v.1.0.1) v.1.1
 
--- the tokens begin with these values in the text form of the kind, and the last are left
+-- the tokens begin with these values in the text form of the kind, and the other tokens are left
 abbrev pub FieldsText : (k : Kind) → Grammar (Values (layout_of k))
 FieldsText (plain l) = Scans l
 FieldsText (key codec) = AllTokens (λ old v. KeyText codec old (key_of v))
@@ -58,10 +58,11 @@ FieldsText next_by_name = NsecText
 FieldsText next_by_hash = Nsec3Text
 FieldsText params = Nsec3paramText
 
--- ---- data of all types as one type: the tables that have a row for each type, and what follows of them
+-- ---- data of all types as one type: the tables with a row for each type, and what follows from
+-- them
 
--- the types that have data of their own, with a text form, and of what kind these are; those of all
--- others are mere octets
+-- the kind of a type that has data of its own, with a text form; None for all other types, whose
+-- data are just octets
 abbrev pub kind_of : ℕ → Option Kind
 kind_of rtype =
     if rtype == rtypes.a then Some (plain a)
@@ -76,7 +77,7 @@ kind_of rtype =
     else (if rtype == rtypes.nsec3param then Some params
     else None)))))))))
 
--- the number of the data's type
+-- the number of the type of the data
 abbrev pub rtype_of : {O N : Type 0} → ZoneRecordData O N → ℕ
 rtype_of (A d) = rtypes.a
 rtype_of (Ns d) = rtypes.ns
@@ -90,7 +91,7 @@ rtype_of (Nsec3 d) = rtypes.nsec3
 rtype_of (Nsec3param d) = rtypes.nsec3param
 rtype_of (Unknown d) = d.rtype
 
--- what data hold: values of the fields of a kind, or mere octets
+-- what data hold: values of the fields of a kind, or just octets
 pub data Content : Type 0 where
   fields : (k : Kind) → Values (layout_of k) → Content
   mere : Octets → Content
@@ -108,8 +109,8 @@ content_of octets labels (Nsec3 d) = fields next_by_hash (nsec3_values d)
 content_of octets labels (Nsec3param d) = fields params (nsec3param_values d)
 content_of octets labels (Unknown d) = mere (octets d.«data»)
 
--- the text form of their type (RFC 1035, section 5.1); of data that are held as octets the generic
--- form (RFC 3597, section 5)
+-- the text form of the data's type (RFC 1035, section 5.1), or the generic form for data that are
+-- held as octets (RFC 3597, section 5)
 abbrev pub data_text : {O N : Type 0} → (O → Octets) → (N → Name) → ZoneRecordData O N
     → Option Octets
 data_text octets labels (A d) = Some (ipv4_text (ipv4_octets d.addr))
@@ -126,9 +127,9 @@ data_text octets labels (Nsec3 d) = Some (nsec3_text (nsec3_values d))
 data_text octets labels (Nsec3param d) = Some (nsec3param_text (nsec3param_values d))
 data_text octets labels (Unknown d) = Some (generic_text (octets d.«data»))
 
--- ---- what follows of the tables
+-- ---- what follows from the tables
 
--- fields are of the kind of the type
+-- the kind of the fields, if there are fields, is the kind of the type
 abbrev pub IsOfKind : Option Kind → Content → Type 0
 IsOfKind known (fields k v) = known ≡ Some k
 IsOfKind known (mere o) = Unit {0}
@@ -143,7 +144,7 @@ abbrev pub minimum_of : {O N : Type 0} → ZoneRecordData O N → Option ℕ
 minimum_of (Soa d) = Some d.minimum
 minimum_of _ = None
 
--- the octets on the wire
+-- the octets in wire form
 abbrev pub content_octets : Content → Octets
 content_octets (fields k v) = octets_of (layout_of k) v
 content_octets (mere o) = octets_of unknown (tt, o)
@@ -151,7 +152,7 @@ content_octets (mere o) = octets_of unknown (tt, o)
 abbrev pub wire_octets : {O N : Type 0} → (O → Octets) → (N → Name) → ZoneRecordData O N → Octets
 wire_octets octets labels d = content_octets (content_of octets labels d)
 
--- the octets of the canonical form (RFC 4034, section 6.2)
+-- the octets in canonical form (RFC 4034, section 6.2)
 abbrev pub content_canonical : Content → Octets
 content_canonical (fields k v) = canonical_of (layout_of k) v
 content_canonical (mere o) = canonical_of unknown (tt, o)
@@ -160,7 +161,7 @@ abbrev pub canonical_octets : {O N : Type 0} → (O → Octets) → (N → Name)
     → ZoneRecordData O N → Octets
 canonical_octets octets labels d = content_canonical (content_of octets labels d)
 
--- by the number of the type, and then by canonical octets
+-- compares by the number of the type, and then by canonical octets
 abbrev pub data_cmp : {O N : Type 0} → (O → Octets) → (N → Name) → ZoneRecordData O N
     → ZoneRecordData O N → Ordering
 data_cmp octets labels =
@@ -171,7 +172,7 @@ pub data_cmp_total : {O N : Type 0} (octets : O → Octets) (labels : N → Name
 data_cmp_total octets labels =
     then_total (on_total rtype_of nat_cmp_total) (on_texts (canonical_octets octets labels))
 
--- ---- data of all types copied
+-- ---- copies of data of all types
 
 -- the same type, and the same numbers, labels and octets
 pub record IsZoneClone {O N : Type 0} (octets : O → Octets) (labels : N → Name)
@@ -180,12 +181,12 @@ pub record IsZoneClone {O N : Type 0} (octets : O → Octets) (labels : N → Na
   pub contents : content_of octets labels copy ≡ content_of octets labels d
 
 module _ {O N : Type 0} (octets : O → Octets) (labels : N → Name) where
-  -- a copy is of the same type
+  -- a copy has the same type
   pub same_rtype : (d copy : ZoneRecordData O N) → IsZoneClone octets labels d copy
       → rtype_of copy ≡ rtype_of d
   same_rtype d copy same = same.rtypes
 
-  -- a copy stands at the place of its original in canonical order
+  -- a copy is equal to its original in canonical order
   pub zone_copies_tie : (d copy : ZoneRecordData O N) → IsZoneClone octets labels d copy
       → data_cmp octets labels d copy ≡ Equal
   zone_copies_tie d copy same =
@@ -194,17 +195,17 @@ module _ {O N : Type 0} (octets : O → Octets) (labels : N → Name) where
       (content_canonical (same.contents i))))
       ∙ tied_itself (data_cmp_total octets labels) d
 
--- ---- data whose text, or whose octets, tell all of them
+-- ---- data that are determined by their text, or by their octets
 
--- a bitmap is in its shortest form, a hash has an octet, and octets are of a type that has no other
--- form and fit into a record
+-- their text determines these data: a bitmap is in its shortest form, a hash has an octet, and data
+-- held as octets are of a type without another form and fit into a record
 abbrev pub HasExactText : {O N : Type 0} → (O → Octets) → ZoneRecordData O N → Type 0
 HasExactText octets (Nsec d) = IsShortest d.types
 HasExactText octets (Nsec3 d) = (d.next_owner ≢ []) × IsShortest d.types
 HasExactText octets (Unknown d) = (kind_of d.rtype ≡ None) × (length (octets d.«data») ≤ 65535)
 HasExactText octets _ = Unit {0}
 
--- octets are of a type that has no other form
+-- their octets determine these data: data held as octets are of a type without another form
 abbrev pub HasExactOctets : {O N : Type 0} → ZoneRecordData O N → Type 0
 HasExactOctets (Unknown d) = kind_of d.rtype ≡ None
 HasExactOctets _ = Unit {0}

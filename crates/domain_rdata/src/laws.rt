@@ -1,4 +1,4 @@
-//! What holds of the tokens that spell data. A caller calls the law in its body.
+//! Laws about the tokens and octets of data. A function uses a law by calling it in its body.
 ghost use Rattle.std.specs.Prelude.{◌≡◌, [], IfSome, ℕ};
 ghost use Rattle.domain_octets.specs.Text.{words_of};
 ghost use Rattle.domain_rdata.specs.Zone.{HasExactOctets, HasExactText, data_text, wire_octets, rtype_of};
@@ -21,7 +21,7 @@ use domain_plain::laws::{
 };
 use domain_rrsig::laws::{rrsig_parses_back, rrsig_reads_back};
 
-/// Tokens begin with data of a type in one way at most: the octets of the data and the tokens that
+/// Tokens begin with data of a type in at most one way: the octets of the data and the tokens that
 /// are left are determined (RFC 1035, section 5.1).
 pub fn data_is_spelled_once<O: Octets, N: ToName>()
     ensures octets { (rtype : ℕ) (old m n : Tokens) (d e : ZoneRecordData O N)
@@ -32,7 +32,8 @@ pub fn data_is_spelled_once<O: Octets, N: ToName>()
         → RdataText O.octets N.labels rtype old e n → m ≡ n }
 {}
 
-/// The words of what data are written as spell these data, if the text tells all of them.
+/// The words of written data scan back as these data, if their text determines them
+/// (`HasExactText`).
 pub fn data_is_read_back<O: Octets, N: ToName>(value: &ZoneRecordData<O, N>)
     ensures { HasExactText O.octets value.now
         → IfSome (data_text O.octets N.labels value.now) (λ text.
@@ -59,7 +60,8 @@ pub fn data_is_read_back<O: Octets, N: ToName>(value: &ZoneRecordData<O, N>)
     }
 }
 
-/// The octets that data are written as are these data, and nothing more.
+/// The octets of data parse back as these data, and nothing is left, if the octets determine the
+/// data (`HasExactOctets`).
 pub fn octets_are_read_back<O: Octets, N: ToName>(value: &ZoneRecordData<O, N>)
     ensures { HasExactOctets value.now → AreData O.octets N.labels (rtype_of value.now)
         (wire_octets O.octets N.labels value.now) value.now }

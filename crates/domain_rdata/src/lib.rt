@@ -1,14 +1,14 @@
 //! Data of all types as one type.
 //!
-//! `ZoneRecordData` holds the data of any type; types that have no variant of their own are held as
+//! `ZoneRecordData` holds the data of any type. Types without a variant of their own are held as
 //! octets (RFC 3597).
 //!
-//! The data of each type, records and the traits of data come from the crates below, and are named
-//! here too, so that a user of record data names this crate alone.
+//! This crate re-exports the data of each type, records and the traits of data from the crates
+//! below, so a user of record data needs this crate only.
 //!
 //! The crates above may rely on this: data of all types is ordered by type and then by canonical
-//! octets, also between data that is known and the same octets held as unknown, and the order takes
-//! no memory.
+//! octets, and no comparison takes memory. This also holds between known data and the same octets
+//! held as unknown data.
 #![tactic(auto)]
 
 pub mod laws;

@@ -1,4 +1,4 @@
-//! Data of all types from the octets of their generic form.
+//! Data of all types, parsed from the octets of their generic form.
 #![tactic(auto, using(crate::proofs::ScanLemmas::made))]
 
 ghost use Rattle.std.specs.Prelude.{◌≡◌, ◌<◌, ◌≤◌, ◌⊎◌, [], true, Some, None, codes, length, IfOk, IfErr, OnOk};
@@ -29,7 +29,7 @@ fn name_like<N: MakeName, M: ToName>(alloc: Global, name: &M) -> Result<N, OutOf
     N::make(alloc, name.as_wire())
 }
 
-/// Returns a copy of octets. Refuses with `ShortBuf` or `OutOfMemory` alone.
+/// Returns a copy of octets. The only errors are `ShortBuf` and `OutOfMemory`.
 fn octets_like<O: FromBuilder>(alloc: Global, octets: &[u8]) -> Result<O, ScanError>
     ensures ok { IfOk result (λ made. O.octets made ≡ octets.now) }
     ensures err { IfErr result (λ e. CopyFault O.Builder.limit octets.now (scan_fault_of e)) }
@@ -37,7 +37,7 @@ fn octets_like<O: FromBuilder>(alloc: Global, octets: &[u8]) -> Result<O, ScanEr
     Ok(O::from_octets(alloc, octets)?)
 }
 
-/// Octets are no data of the type that is asked, or go on after them.
+/// The octets are not data of the wanted type, or continue after such data.
 #[derive(Drop)]
 struct IllegalData;
 
@@ -49,8 +49,8 @@ impl From<IllegalData> for ScanError {
     }
 }
 
-/// Returns the data of a type that all of the octets are. Refuses exactly octets that are no such
-/// data.
+/// Parses all of the octets as data of a type. Returns an error if and only if the octets are not
+/// such data.
 fn whole<'a, D: ParseRecordData<'a> + Drop>(
     rtype: Rtype,
     octets: &'a [u8],
@@ -74,14 +74,14 @@ fn whole<'a, D: ParseRecordData<'a> + Drop>(
     }
 }
 
-/// Returns the address that octets are.
+/// Parses the octets as an IPv4 address.
 fn a_of(octets: &[u8]) -> Result<A, ScanError>
     ensures { FromOctets None (plain a) a_values octets.now result }
 {
     Ok(whole(Rtype::A, octets)?)
 }
 
-/// Returns the name of a server that octets are.
+/// Parses the octets as the name of a server.
 fn ns_of<N: MakeName>(alloc: Global, octets: &[u8]) -> Result<Ns<N>, ScanError>
     ensures { FromOctets None (plain ns) (ns_values N.labels) octets.now result }
 {
@@ -89,7 +89,7 @@ fn ns_of<N: MakeName>(alloc: Global, octets: &[u8]) -> Result<Ns<N>, ScanError>
     Ok(Ns::new(name_like(alloc, data.nsdname())?))
 }
 
-/// Returns the start of a zone that octets are.
+/// Parses the octets as SOA data.
 fn soa_of<N: MakeName + Drop>(alloc: Global, octets: &[u8]) -> Result<Soa<N>, ScanError>
     ensures { FromOctets None (plain soa) (soa_values N.labels) octets.now result }
 {
@@ -107,7 +107,7 @@ fn soa_of<N: MakeName + Drop>(alloc: Global, octets: &[u8]) -> Result<Soa<N>, Sc
     ))
 }
 
-/// Returns the mail exchange that octets are.
+/// Parses the octets as a mail exchange.
 fn mx_of<N: MakeName>(alloc: Global, octets: &[u8]) -> Result<Mx<N>, ScanError>
     ensures { FromOctets None (plain mx) (mx_values N.labels) octets.now result }
 {
@@ -115,7 +115,7 @@ fn mx_of<N: MakeName>(alloc: Global, octets: &[u8]) -> Result<Mx<N>, ScanError>
     Ok(Mx::new(data.preference(), name_like(alloc, data.exchange())?))
 }
 
-/// Returns the key, or the digest of a key, that octets are.
+/// Parses the octets as a key, or as the digest of a key.
 fn key_of<O: FromBuilder + Drop, K: KeyKind>(
     alloc: Global,
     octets: &[u8],
@@ -127,7 +127,7 @@ fn key_of<O: FromBuilder + Drop, K: KeyKind>(
     Ok(data.with_octets(key))
 }
 
-/// Returns the next name and the types that octets are.
+/// Parses the octets as a next name and types.
 fn nsec_of<O: FromBuilder + Drop, N: MakeName + Drop>(
     alloc: Global,
     octets: &[u8],
@@ -140,7 +140,7 @@ fn nsec_of<O: FromBuilder + Drop, N: MakeName + Drop>(
     Ok(Nsec::new(next_name, data.types().with_octets(types)))
 }
 
-/// Returns the signature that octets are.
+/// Parses the octets as a signature.
 fn rrsig_of<O: FromBuilder + Drop, N: MakeName + Drop>(
     alloc: Global,
     octets: &[u8],
@@ -153,7 +153,7 @@ fn rrsig_of<O: FromBuilder + Drop, N: MakeName + Drop>(
     Ok(data.with_octets(signer_name, signature))
 }
 
-/// Returns the parameters that octets are.
+/// Parses the octets as NSEC3 parameters.
 fn nsec3param_of<O: FromBuilder + Drop>(
     alloc: Global,
     octets: &[u8],
@@ -170,7 +170,7 @@ fn nsec3param_of<O: FromBuilder + Drop>(
     ))
 }
 
-/// Returns the next hash and the types that octets are.
+/// Parses the octets as a next hash and types.
 fn nsec3_of<O: FromBuilder + Drop>(alloc: Global, octets: &[u8]) -> Result<Nsec3<O>, ScanError>
     ensures { FromOctets O.Builder.limit next_by_hash nsec3_values octets.now result }
 {
@@ -189,15 +189,16 @@ fn nsec3_of<O: FromBuilder + Drop>(alloc: Global, octets: &[u8]) -> Result<Nsec3
 }
 
 impl<O: FromBuilder, N: ToName> ZoneRecordData<O, N> {
-    /// Returns the data of a type that these octets are on the wire, as a message has them but
-    /// without compressed names (RFC 1035, section 3.3; RFC 3597, section 4). Data of a type that
-    /// is not known are any octets, at most 65,535.
+    /// Parses all of the octets as data of a type in wire form, with uncompressed names (RFC 1035,
+    /// section 3.3; RFC 3597, section 4). Data of an unknown type are any octets, at most 65,535.
     ///
     /// # Errors
     ///
-    /// `Custom("record data too long")` exactly where there are over 65,535 octets;
-    /// `Custom("illegal data")` exactly where they are no data of the type; `ShortBuf` and
-    /// `OutOfMemory` where they are, and a part has no room or no memory.
+    /// - `Custom("record data too long")` if and only if there are more than 65,535 octets.
+    /// - `Custom("illegal data")` if and only if the octets, at most 65,535, are not data of the
+    ///   type.
+    /// - `ShortBuf` or `OutOfMemory` if they are data of the type, and a part has no room or no
+    ///   memory.
     pub fn from_octets(alloc: Global, rtype: Rtype, octets: O) -> Result<Self, ScanError>
     where
         O: Drop,
@@ -215,12 +216,12 @@ impl<O: FromBuilder, N: ToName> ZoneRecordData<O, N> {
         }
     }
 
-    /// Returns the data that the octets of a generic form are.
+    /// Parses all octets of a generic form as data of its type.
     ///
     /// # Errors
     ///
-    /// `Custom("illegal data")` exactly where they are no data of the type; `ShortBuf` and
-    /// `OutOfMemory` where they are, and a part has no room or no memory.
+    /// - `Custom("illegal data")` if and only if the octets are not data of the type.
+    /// - `ShortBuf` or `OutOfMemory` if they are, and a part has no room or no memory.
     pub(crate) fn from_generic(alloc: Global, data: UnknownRecordData<O>) -> Result<Self, ScanError>
     where
         O: Drop,

@@ -1,5 +1,4 @@
-//! Data of all types as one type: the variants, the types that have one, and what is done with the
-//! data whatever their type.
+//! Data of all types as one type: its variants, their types, and what applies to data of all types.
 ghost use Rattle.std.specs.Prelude.{◌≡◌, ◌↔◌, IsTrue, IfErr, IfOk};
 ghost use Rattle.std.specs.{Ordering.nat_cmp, Cmp.Lexicographic.slice_cmp};
 ghost use Rattle.domain_names.specs.{Text.{IsOfTokens, scan_fault_of}, Name.Tokens};
@@ -30,13 +29,13 @@ pub enum ZoneRecordData<O: Octets, N: ToName> {
     A(A),
     /// A name server.
     Ns(Ns<N>),
-    /// The start of a zone.
+    /// The start of a zone of authority (SOA).
     Soa(Soa<N>),
     /// A mail exchange.
     Mx(Mx<N>),
     /// A key of a zone.
     Dnskey(Dnskey<O>),
-    /// The digest of a key of a child zone.
+    /// The digest of a child zone's key.
     Ds(Ds<O>),
     /// A signature.
     Rrsig(Rrsig<O, N>),
@@ -44,17 +43,17 @@ pub enum ZoneRecordData<O: Octets, N: ToName> {
     Nsec(Nsec<O, N>),
     /// The next hash and the types at a hashed name.
     Nsec3(Nsec3<O>),
-    /// How the names of a zone are hashed.
+    /// The parameters of the hashes of a zone's names.
     Nsec3param(Nsec3param<O>),
-    /// Data of any type, as octets. Under a type that has a variant of its own they are not data of
-    /// that type to those who look at variants: an SOA that is held so is no SOA to a generator.
+    /// Data of any type, as octets. Code that matches on variants does not see them as data of
+    /// their type: for a generator, an SOA in this variant has no MINIMUM.
     Unknown(UnknownRecordData<O>),
 }
 
-/// What is done in one way with data of all types that have a form of their own: the one list of
-/// these, each by the number of its type and by its variant.
+/// Handles data of all types that have a variant of their own. This is the only list of these
+/// types, each with its constant and its variant.
 macro_rules! with_types {
-    // What is done with the data, whatever their type.
+    // An expression on the data, whatever their type.
     ([$($number:ident $kind:ident)*] of $all:expr, $data:ident => $done:expr) => {
         match $all {
             $(ZoneRecordData::$kind($data) => $done,)*
@@ -79,7 +78,7 @@ macro_rules! with_types {
             _ => unreachable!(),
         }
     };
-    // The data of a type that tokens begin with.
+    // The data of a type, read from the front of the tokens.
     ([$($number:ident $kind:ident)*] scan $alloc:expr, $rtype:expr, $scanner:expr) => {
         return_of_type!($rtype;
             $($number => $kind($kind::scan($alloc, $scanner)?),)*
@@ -94,8 +93,8 @@ macro_rules! with_types {
     };
 }
 
-/// Returns the data of a type, made as the row of the type says; what is given last for a type that
-/// has none.
+/// Returns from the function with the data of the row whose type matches, or evaluates to the last
+/// expression if no row matches.
 macro_rules! return_of_type {
     ($rtype:expr; $($number:ident => $data:ident($made:expr),)* _ => $other:expr) => {{
         $(if $rtype == Rtype::$number {
@@ -134,7 +133,7 @@ impl<O: Octets, N: ToName> ZoneData for ZoneRecordData<O, N> {
 impl<O: Octets, N: ToName> ZoneRecordData<O, N> {
     ghost use Rattle.domain_rdata.specs.Zone.{rtype_of, canonical_octets};
 
-    /// Returns the order of the canonical octets of data of one type.
+    /// Compares the canonical octets of data of one type.
     #[tactic(auto, using(crate::proofs::ScanLemmas::turned), unfolding(domain_fields::specs::Layout::octets_of))]
     fn same_type_cmp(&self, other: &Self) -> Ordering
         requires { rtype_of self.now ≡ rtype_of other.now }
@@ -205,7 +204,7 @@ impl<O: Octets + Drop, N: ToName + Drop> CloneRecordData for ZoneRecordData<O, N
     ghost clone_canonical = { zone_copies_tie O.octets N.labels };
 }
 
-/// Returns whether the tokens begin with the mark of the generic form.
+/// Returns whether the tokens begin with `\#`, the mark of the generic form.
 fn is_generic<S: Scanner>(scanner: &S) -> bool
     ensures { IsTrue result ↔ IsGeneric (S.tokens scanner.now) }
 {
@@ -219,12 +218,12 @@ impl<O: FromBuilder, N: ToName> ZoneRecordData<O, N>
 where
     O::Builder: EmptyBuilder + Truncate + FreezeBuilder<Frozen = O> + Drop,
 {
-    /// Returns the data of a type that the tokens begin with, in the text form of that type.
+    /// Reads data of a type from the front of the tokens, in the text form of that type.
     ///
     /// # Errors
     ///
-    /// What the first field that is refused says, or `Custom("unknown record data")`, before any
-    /// token is taken, for a type that has no text form of its own.
+    /// That of the first field that is rejected. `Custom("unknown record data")` for a type without
+    /// a text form of its own; no token is then taken.
     fn scan_own<S: Scanner<Name = N, Octets = O>>(
         alloc: Global,
         rtype: Rtype,
@@ -240,21 +239,26 @@ where
         with_types!(scan alloc, rtype, scanner)
     }
 
-    /// Returns the data of a type that the tokens begin with: in the text form of that type, or,
-    /// where the first token is `\#`, in the generic form of any type (RFC 3597, section 5), whose
-    /// octets must be exactly data of the type. Data of types that have no variant of their own are
-    /// held as octets.
+    /// Reads data of a type from the front of the tokens, in the text form of that type. If the
+    /// first token is `\#`, reads all tokens as the generic form of any type (RFC 3597, section 5),
+    /// whose octets must be exactly data of the type. Data of types without a variant of their own
+    /// are held as octets.
     ///
     /// # Errors
     ///
-    /// What the first field that is refused says, of the type's own text form or, after `\#`, of
-    /// the generic form: `EndOfEntry` where it is missing, `Custom` where it is not of its form,
-    /// `ShortBuf` and `OutOfMemory` where the octets of a name or of data have no room or no
-    /// memory. Without the mark, `Custom("unknown record data")` for a type that has no text form
-    /// of its own, and no token is taken. With it, once all tokens are read, `Custom("illegal
-    /// data")` exactly where the octets are no data of the type, and, where they are, `ShortBuf` or
-    /// `OutOfMemory` for a part that has no room or no memory. After an error, a suffix of the
-    /// tokens is left.
+    /// After an error, a suffix of the tokens is left. In the text form of the type:
+    ///
+    /// - `Custom("unknown record data")` if the type has no text form of its own. No token is
+    ///   taken.
+    /// - Otherwise the error of the first field that is rejected: `EndOfEntry` if it is missing,
+    ///   `Custom` if it is not of its form, `ShortBuf` or `OutOfMemory` if the octets of a name or
+    ///   of data have no room or no memory.
+    ///
+    /// In the generic form:
+    ///
+    /// - The error of the first field after `\#` that is rejected, as above.
+    /// - `Custom("illegal data")` if and only if the octets of the form are not data of the type.
+    /// - `ShortBuf` or `OutOfMemory` if they are, and a part has no room or no memory.
     #[tactic(auto, using(std::proofs::lemmas::Grind::common_steps, crate::proofs::ScanLemmas::scan_steps))]
     pub fn scan_rdata<S: Scanner<Name = N, Octets = O>>(
         alloc: Global,
@@ -270,7 +274,8 @@ where
             RefusesRdata O.Builder.limit rtype (S.tokens scanner.old) (S.tokens scanner.new)
             (scan_fault_of e)) }
 
-        // What is refused, but for want of room or of memory, spells no data of the type.
+        // Tokens that are rejected for another reason than room or memory spell no data of the
+        // type.
         ensures spells_none { IfErr result (λ e.
             IsOfTokens O.Builder.limit (scan_fault_of e)
             → (d : ZoneRecordData O N) (after : Tokens)
@@ -284,7 +289,7 @@ where
     }
 }
 
-/// The text form of the data's type; the generic form for data that are held as octets.
+/// Writes the text form of the data's type, or the generic form for data that are held as octets.
 impl<O: Octets, N: ToName> fmt::Display for ZoneRecordData<O, N> {
     ghost output = { data_text O.octets N.labels };
 

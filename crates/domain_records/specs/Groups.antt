@@ -1,4 +1,4 @@
--- Groups of records: of one owner, of one owner and type, how these are looked up, and what adding
+-- Groups of records: of one owner, or of one owner and type; how to look them up; and what adding
 -- and removing leave.
 use Rattle.std.specs.{List.{AllByRecursion, AllAdjacentBelow, slice_get}, Prelude.{◌≡◌, ℕ, ◌+◌, ◌<◌, ◌≤◌, Bool, true, false, List, [], ◌∷◌, ◌++◌, length}}
 use Rattle.std.specs.Prelude.{Option, MatchOption, if◌then◌else◌, slice_index_or, ◌==◌, ◌&&◌, Any, ◌≢◌, Result, Some, None, Ok, MatchResult, drop, map, remove}
@@ -13,22 +13,22 @@ use denote.Ref.{Bor}
 
 -- ---- Groups of a list: its maximal runs.
 
--- x before the runs gs
+-- the runs gs with the element x put in front
 abbrev pub add_to : {X : Type 0} → (X → X → Bool) → X → List (List X) → List (List X)
 add_to same x [] = (x ∷ []) ∷ []
 add_to same x ([] ∷ gs) = (x ∷ []) ∷ gs
 add_to same x ((y ∷ ys) ∷ gs) = if same x y then (x ∷ y ∷ ys) ∷ gs else (x ∷ []) ∷ (y ∷ ys) ∷ gs
 
--- the maximal runs of neighbours that are the same
+-- the maximal runs of neighbours for which `same` holds
 unfoldable pub runs : {X : Type 0} → (X → X → Bool) → List X → List (List X)
 runs same [] = []
 runs same (x ∷ xs) = add_to same x (runs same xs)
 
--- neighbours are the same
+-- `same` holds for all neighbours
 abbrev pub HoldsOfNeighbours : {X : Type 0} → (X → X → Bool) → List X → Type 0
 HoldsOfNeighbours same xs = AllAdjacentBelow (λ x y. same x y ≡ true) xs (length xs)
 
--- one run: at least one element, and neighbours are the same
+-- a run: at least one element, and `same` holds for all neighbours
 pub record IsRun {X : Type 0} (same : X → X → Bool) (xs : List X) : Type 0 where
   pub some : 0 < length xs
   pub alike : HoldsOfNeighbours same xs
@@ -41,18 +41,18 @@ pub record IsFirstRun {X : Type 0} (same : X → X → Bool) (xs : List X) (n : 
   pub ends : (k : ℕ) (d : X) → k + 1 ≡ n → n < length xs
       → same (slice_index_or xs k d) (slice_index_or xs n d) ≡ false
 
--- a call that hands out the first of the runs of s, and leaves t
+-- a call that returns the first run of s, and leaves t
 abbrev pub TakesRun : {X : Type 0} → (X → X → Bool) → List X → Option (List X) → List X → Type 0
 TakesRun same s r t =
     MatchOption r ((s ≡ []) × (t ≡ [])) (λ g. (s ≡ g ++ t) × (runs same s ≡ g ∷ runs same t))
 
--- one run, by recursion
+-- xs is one run, by recursion
 abbrev pub IsOneRun : {X : Type 0} → (X → X → Bool) → List X → Type 0
 IsOneRun same [] = ⊥
 IsOneRun same (x ∷ []) = Unit {0}
 IsOneRun same (x ∷ y ∷ ys) = (same x y ≡ true) × IsOneRun same (y ∷ ys)
 
--- the last of a group (x, or the last of xs) and the first of the next differ
+-- `same` does not hold for the last element of a group and the first element of the next one
 abbrev pub EndsBefore : {X : Type 0} → (X → X → Bool) → List X → List X → Type 0
 EndsBefore same [] h = Unit {0}
 EndsBefore same (x ∷ []) [] = Unit {0}
@@ -77,14 +77,14 @@ pub record AreGroups {X : Type 0} (same : X → X → Bool) (xs : List X)
 
 -- ---- Records of one owner, and of one owner and type.
 
--- the owners agree but for the case of letters
+-- the owners are equal except for the case of letters
 abbrev pub same_owner : {N D : Type 0} → (N → Name) → Record N D → Record N D → Bool
 same_owner labels r s = same_name (labels r.owner) (labels s.owner)
 
 abbrev pub same_type : {N D : Type 0} → (D → ℕ) → Record N D → Record N D → Bool
 same_type rtype r s = rtype r.«data» == rtype s.«data»
 
--- one owner and one type
+-- the owner and the type are the same
 abbrev pub same_rrset : {N D : Type 0} → (N → Name) → (D → ℕ) → Record N D → Record N D → Bool
 same_rrset labels rtype r s = same_owner labels r s && same_type rtype r s
 
@@ -94,30 +94,30 @@ same_class r s = r.class == s.class
 abbrev pub same_ttl : {N D : Type 0} → Record N D → Record N D → Bool
 same_ttl r s = r.ttl == s.ttl
 
--- by owner in the canonical order of names, and then by type, s isn't before r
+-- s is not before r, by owner in the canonical order of names, and then by type
 abbrev pub may_follow : {N D : Type 0} → (N → Name) → (D → ℕ) → Record N D → Record N D → Bool
 may_follow labels rtype r s =
     is_le (then_cmp (on (λ t. labels t.owner) canonical_cmp) (on (λ t. rtype t.«data») nat_cmp) r s)
 
--- the list isn't empty, and P holds of its first element
+-- the list is not empty, and P holds for its first element
 abbrev pub HasFirst : {X : Type 0} → (X → Type 0) → List X → Type 0
 HasFirst P [] = ⊥
 HasFirst P (x ∷ xs) = P x
 
--- P holds of the first element, if there is one
+-- P holds for the first element, if there is one
 abbrev pub IfFirst : {X : Type 0} → (X → Type 0) → List X → Type 0
 IfFirst P [] = Unit {0}
 IfFirst P (x ∷ xs) = P x
 
--- new is what is left of old without the elements at the front of which P doesn't hold
+-- new is old without the elements at the front for which P does not hold
 pub record SkipsTo {X : Type 0} (P : X → Type 0) (old new : List X) : Type 0 where
   pub skipped : List X
   pub joined : old ≡ skipped ++ new
   pub before : AllByRecursion (λ x. ¬ (P x)) skipped
   pub begins : IfFirst P new
 
--- the records of an owner other than the apex, some of them NS: a delegation (RFC 4034,
--- section 4.1.2), where the owner is in the zone
+-- the records of an owner other than the apex, with an NS record among them: a delegation if the
+-- owner is in the zone (RFC 4034, section 4.1.2)
 pub record IsZoneCut {N D : Type 0} (labels : N → Name) (rtype : D → ℕ) (apex : Name)
     (records : List (Record N D)) : Type 0 where
   pub below : HasFirst (λ r. ¬ (IsSame (labels r.owner) apex)) records
@@ -125,8 +125,8 @@ pub record IsZoneCut {N D : Type 0} (labels : N → Name) (rtype : D → ℕ) (a
 
 -- ---- Records of one owner and one type (RFC 2181, section 5).
 
--- no two differ in TTL, unless the type of the first is RRSIG: records of that type are grouped,
--- but no RRset (RFC 4034, section 3)
+-- no two records differ in TTL, unless the first is an RRSIG: records of that type are grouped, but
+-- do not form an RRset (RFC 4034, section 3)
 abbrev pub HasOneTtl : {N D : Type 0} → (D → ℕ) → List (Record N D) → Type 0
 HasOneTtl rtype records =
     IfFirst (λ r. rtype r.«data» ≢ rrsig) records → HoldsPairwise (λ r s. r.ttl ≡ s.ttl) records
@@ -136,20 +136,20 @@ pub record IsRrset {N D : Type 0} (rtype : D → ℕ) (records : List (Record N 
   pub some : 0 < length records
   pub one_ttl : HasOneTtl rtype records
 
--- why records are no RRset
+-- why records are not an RRset
 abbrev pub IsNoRrset : {N D : Type 0} → (D → ℕ) → List (Record N D) → SigningError → Type 0
 IsNoRrset rtype records EmptyRecordSlice = records ≡ []
 IsNoRrset rtype records MultipleTtlValues = (0 < length records) × ¬ (HasOneTtl rtype records)
 IsNoRrset rtype records _ = ⊥
 
--- the group as an RRset, or its refusal, exactly by its own TTLs
+-- the group as an RRset if it has one TTL, else the error `MultipleTtlValues`
 abbrev pub IsRrsetOf : {N D : Type 0} → (D → ℕ) → List (Record N D)
     → Result (List (Record N D)) SigningError → Type 0
 IsRrsetOf rtype group item =
     MatchResult item (λ set. (set ≡ group) × HasOneTtl rtype group)
     (λ e. (e ≡ MultipleTtlValues) × ¬ (HasOneTtl rtype group))
 
--- a call that hands out the first group of s, or refuses it, and leaves t
+-- a call that returns the first group of s as an RRset, or its error, and leaves t
 abbrev pub TakesRrset : {N D : Type 0} → (Record N D → Record N D → Bool) → (D → ℕ)
     → List (Record N D) → Option (Result (List (Record N D)) SigningError)
     → List (Record N D) → Type 0
@@ -157,17 +157,18 @@ TakesRrset {N} {D} same rtype s r t =
     MatchOption r ((s ≡ []) × (t ≡ [])) (λ item. (group : List (Record N D)) × (s ≡ group ++ t)
     × (runs same s ≡ group ∷ runs same t) × IsRrsetOf rtype group item)
 
--- a group whose first record passes the test
+-- a group whose first element passes the test
 abbrev pub begins_with : {X : Type 0} → (X → Bool) → List X → Bool
 begins_with p [] = false
 begins_with p (x ∷ xs) = p x
 
--- the group that begins at that place
+-- the group that begins at this place
 abbrev pub group_at : {X : Type 0} → (X → X → Bool) → List X → Option ℕ → Option (List X)
 group_at same xs None = None
 group_at same xs (Some i) = slice_get (runs same (drop i xs)) 0
 
--- the group that was found, if there is one, as an RRset, or its refusal
+-- a look-up's result: nothing if no group was found; else the group as an RRset if it has one TTL,
+-- or the error `MultipleTtlValues`
 abbrev pub IsFound : {N D : Type 0} → (D → ℕ) → Option (List (Record N D))
     → Result (Option (List (Record N D))) SigningError → Type 0
 IsFound rtype None found = found ≡ Ok None
@@ -175,21 +176,21 @@ IsFound rtype (Some group) found =
     MatchResult found (λ set. (set ≡ Some group) × HasOneTtl rtype group)
     (λ e. (e ≡ MultipleTtlValues) × ¬ (HasOneTtl rtype group))
 
--- ---- How records are looked up by owner, class and type.
+-- ---- How to look up records by owner, class and type.
 
--- nothing is asked, or this number
+-- no number is given, or n is that number
 abbrev pub is_asked : Option ℕ → ℕ → Bool
 is_asked None n = true
 is_asked (Some m) n = n == m
 
--- a record of this owner, and of the class and the type that are asked
+-- a record of this owner, and of this class and type if they are given
 abbrev pub matches : {N D : Type 0} → (N → Name) → (D → ℕ) → Name → Option ℕ → Option ℕ
     → Record N D → Bool
 matches labels rtype owner class type r =
     same_name (labels r.owner) owner && (is_asked class r.class && is_asked type (rtype r.«data»))
 
--- the place of the first element of which P holds with `true`, if there is one; of those before it
--- P holds with `false`
+-- the place of the first element for which P holds with `true`, if there is one; for all elements
+-- before it P holds with `false`
 abbrev pub IsFirst : {X : Type 0} → (X → Bool → Type 0) → List X → Option ℕ → Type 0
 IsFirst {X} P xs None = (k : ℕ) (d : X) → k < length xs → P (slice_index_or xs k d) false
 IsFirst {X} P xs (Some i) =
@@ -202,38 +203,39 @@ IsFirstPlace p = IsFirst (λ x b. p x ≡ b)
 
 -- ---- Slices of values and of references.
 
--- the elements of a slice, or what the references of a slice point to
+-- the elements of a slice, or the values that the references of a slice point to
 abbrev pub items_of : {T : Type 0} → SliceRefsOrOwned T → List T
 items_of (Refs r) = map (λ p. p.now) r.refs.now
 items_of (Owned s) = s.now
 
--- ---- What the calls of sorted records add, remove and change.
+-- ---- What the calls on sorted records add, remove and change.
 
--- what `into_iter` made of more gave xs, and then ended
+-- the iterator that `into_iter` makes of `more` yields xs, and then ends
 abbrev pub Gives : {U I X : Type 0} → (U → I → Type 0) → (I → Option X → I → Type 0) → U
     → List X → Type 0
 Gives {U} {I} into next more xs = (it : I) × into more it × Drains next it xs
 
--- the record that comes back
+-- the record that an error of `insert` returns
 abbrev pub refused : {N D : Type 0} → InsertError N D → Record N D
 refused (Present r) = r
 refused (OutOfMemory r) = r
 
--- without the first element that passes the test
+-- the list without the first element that passes the test
 abbrev pub without_first : {X : Type 0} → (X → Bool) → List X → List X
 without_first p [] = []
 without_first p (x ∷ xs) = if p x then xs else x ∷ without_first p xs
 
--- the first element at which the closure answers true, if there is one
+-- the place of the first element for which the closure returns true, if there is one
 abbrev pub IsFirstMatch : {F X : Type 0} → Shared F (Bor X × Unit {0}) Bool → F → List X
     → Option ℕ → Type 0
 IsFirstMatch g f = IsFirst (FnReturnsAt g f)
 
--- new is the sorted set xs with x, unless an equal one stands
+-- new is the sorted set xs with x added, or xs itself if it holds an equal element
 abbrev pub AddsIfAbsent : {X : Type 0} → (X → X → Ordering) → List X → X → List X → Type 0
 AddsIfAbsent R xs x new = (Holds R xs x × (new ≡ xs)) ⊎ (¬ (Holds R xs x) × Adds R xs x new)
 
--- the record at that place is taken out, and put in with other data; with no place nothing changes
+-- the record at place i is removed, and added with the data e if no equal record is left; without a
+-- place nothing changes
 abbrev pub Updates : {N D : Type 0} → (Record N D → Record N D → Ordering) → Option ℕ → D
     → List (Record N D) → List (Record N D) → Type 0
 Updates R None e xs new = new ≡ xs

@@ -1,4 +1,4 @@
--- Records of one class in order, lists as sorted sets, and lists in the order of places.
+-- Records of one class in order, lists as sorted sets, and lists in the order of their places.
 use Rattle.std.specs.Prelude.{◌≡◌, ℕ, ◌≤◌, List, [], ◌∷◌, ◌<◌, length, slice_index, slice_index_or, Option, Bool, IsTrue, All, Any, Contains, find, insert}
 use Rattle.std.specs.{Prelude.IsPermutation, List.{AllByRecursion, AllAdjacentBelow, Sorted.{IsStrictlySortedBy, IsSorted}}, declared.cmp.Ordering.Ordering}
 use Rattle.std.specs.{declared.cmp.Ordering.TheVariants.{Less, Equal}, Ordering.{nat_cmp, on, then_cmp, is_eq}, Fn.{Mut, AlwaysReturns}}
@@ -8,17 +8,17 @@ use denote.Ref.{Bor}
 
 -- ---- Records of one class, in order of owner and type.
 
--- P holds of each element and each one after it
+-- P holds for each element and each one after it
 abbrev pub HoldsPairwise : {X : Type 0} → (X → X → Type 0) → List X → Type 0
 HoldsPairwise P [] = Unit {0}
 HoldsPairwise P (x ∷ xs) = AllByRecursion (P x) xs × HoldsPairwise P xs
 
--- all have one class
+-- all records have the same class
 abbrev pub IsOneClass : {N D : Type 0} → List (Record N D) → Type 0
 IsOneClass = HoldsPairwise (λ r s. r.class ≡ s.class)
 
--- the owner of s doesn't come before that of r in the canonical order of names (RFC 4034,
--- section 6.1), and where they have one owner, the type of s isn't less
+-- the owner of s does not come before that of r in the canonical order of names (RFC 4034, section
+-- 6.1); if the owners are the same, the type of s is not less
 pub record MayFollow {N D : Type 0} (labels : N → Name) (rtype : D → ℕ)
     (r s : Record N D) : Type 0 where
   pub owner : IsUpTo (labels r.owner) (labels s.owner)
@@ -30,18 +30,18 @@ IsInOrder labels rtype = HoldsPairwise (MayFollow labels rtype)
 
 -- ---- The canonical order of records in two parts.
 
--- by class, then owner in the order of names
+-- compares by class, then by owner in the order of names
 abbrev pub owner_cmp : {N D : Type 0} → (N → Name) → Record N D → Record N D → Ordering
 owner_cmp labels = then_cmp (on (λ r. r.class) nat_cmp) (on (λ r. labels r.owner) canonical_cmp)
 
--- by type, then the canonical order of the data
+-- compares by type, then by the canonical order of the data
 abbrev pub rest_cmp : {N D : Type 0} → (D → ℕ) → (D → D → Ordering) → Record N D → Record N D
     → Ordering
 rest_cmp rtype data_cmp = then_cmp (on (λ r. rtype r.«data») nat_cmp) (on (λ r. r.«data») data_cmp)
 
--- ---- The elements of a list, put into another order by their places.
+-- ---- The elements of a list, reordered by their places.
 
--- the rank of a place is where it stands in the list of places
+-- the rank of a place is its position in the list of places
 pub record AreRanks (places ranks : List ℕ) : Type 0 where
   pub many : length ranks ≡ length places
   pub place : (k : ℕ) → k < length places
@@ -49,13 +49,14 @@ pub record AreRanks (places ranks : List ℕ) : Type 0 where
   pub rank : (k : ℕ) → k < length places
       → (slice_index ranks k < length places) × (slice_index places (slice_index ranks k) ≡ k)
 
--- new has at each rank what stood in xs at the place of that rank
+-- new has at each rank the element of xs at the place of that rank
 pub record IsArranged {X : Type 0} (xs : List X) (places : List ℕ) (new : List X) : Type 0 where
   pub many : length new ≡ length xs
   pub each : (k : ℕ) (d : X) → k < length xs
       → slice_index_or new k d ≡ slice_index_or xs (slice_index places k) d
 
--- by R of what stands at them, and then by the places themselves; d stands past the end of the list
+-- compares two places by R of the elements there, and then by the places themselves; past the end
+-- of the list the element is d
 unfoldable pub compared_places : {X : Type 0} → (X → X → Ordering) → List X → X → ℕ → ℕ → Ordering
 compared_places R xs d = then_cmp (on (λ k. slice_index_or xs k d) R) nat_cmp
 
@@ -64,7 +65,7 @@ abbrev pub AreAscending : {X : Type 0} → (X → X → Ordering) → List X →
 AreAscending R xs d places =
     AllAdjacentBelow (λ a b. compared_places R xs d a b ≡ Less) places (length places)
 
--- what stands at each place is less by R than what stands at the next, so that no two are equal
+-- the element at each place is less by R than the element at the next place, so no two are equal
 abbrev pub AreDistinct : {X : Type 0} → (X → X → Ordering) → List X → X → List ℕ → Type 0
 AreDistinct R xs d places =
     AllAdjacentBelow (λ a b. R (slice_index_or xs a d) (slice_index_or xs b d) ≡ Less) places
@@ -79,12 +80,12 @@ pub record AreInOrder {X : Type 0} (R : X → X → Ordering) (xs : List X) (d :
 
 -- ---- Lists as sorted sets, by an order R.
 
--- each call from f on, at two references, answers what R gives
+-- each call from f on, at two references, returns what R gives
 abbrev pub AnswersBy : {F X : Type 0} → Mut F (Bor X × (Bor X × Unit {0})) Ordering
     → (X → X → Ordering) → F → Type 0
 AnswersBy g R = AlwaysReturns g (λ a r. r ≡ R a.0.now a.1.0.now)
 
--- an element that R calls equal to x stands in xs
+-- xs holds an element that R calls equal to x
 abbrev pub Holds : {X : Type 0} → (X → X → Ordering) → List X → X → Type 0
 Holds R xs x = Any (λ y. R y x ≡ Equal) xs
 
@@ -92,36 +93,36 @@ Holds R xs x = Any (λ y. R y x ≡ Equal) xs
 abbrev pub first_equal : {X : Type 0} → (X → X → Ordering) → X → List X → Option X
 first_equal R x xs = find (λ y. is_eq (R y x)) xs
 
--- new is the sorted set of xs: of those that R calls equal, one
+-- new is the sorted set of xs: it holds one of the elements that R calls equal
 pub record IsSortedSetOf {X : Type 0} (R : X → X → Ordering) (xs new : List X) : Type 0 where
   pub sorted : IsStrictlySortedBy R new
   pub among : All (Contains xs) new
   pub each : (x : X) → Contains xs x → Holds R new x
 
--- of those that R calls equal, new has the first of xs
+-- new holds the first in xs of the elements that R calls equal
 abbrev pub KeepsEarliest : {X : Type 0} → (X → X → Ordering) → List X → List X → Type 0
 KeepsEarliest {X} R xs new = (x : X) → first_equal R x new ≡ first_equal R x xs
 
--- new is xs in order, and where the sorter is stable the earliest of equals comes first
+-- new is xs in order; if the sorter is stable, the earliest of equal elements comes first
 pub record IsSortOf {X : Type 0} (stable : Bool) (R : X → X → Ordering)
     (xs new : List X) : Type 0 where
   pub moved : IsPermutation xs new
   pub sorted : IsSorted R new
   pub earliest : IsTrue stable → KeepsEarliest R xs new
 
--- new is the sorted set of xs, and where the sorter is stable it has the earliest of equals
+-- new is the sorted set of xs; if the sorter is stable, it holds the earliest of equal elements
 pub record IsUnion {X : Type 0} (stable : Bool) (R : X → X → Ordering)
     (xs new : List X) : Type 0 where
   pub set : IsSortedSetOf R xs new
   pub earliest : IsTrue stable → KeepsEarliest R xs new
 
--- new has the elements of xs and x, in order
+-- new holds x and the elements of xs, in order
 pub record Adds {X : Type 0} (R : X → X → Ordering) (xs : List X) (x : X)
     (new : List X) : Type 0 where
   pub sorted : IsStrictlySortedBy R new
   pub moved : IsPermutation (x ∷ xs) new
 
--- no element that R calls equal to x stands in xs, and x goes to place i
+-- xs holds no element that R calls equal to x, and x goes to place i
 pub record GoesTo {X : Type 0} (R : X → X → Ordering) (xs : List X) (x : X) (i : ℕ) : Type 0 where
   pub in_range : i ≤ length xs
   pub absent : ¬ (Holds R xs x)

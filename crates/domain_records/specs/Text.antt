@@ -10,9 +10,9 @@ use denote.Ref.{Bor, MutBor}
 use Rattle.domain_records.specs.declared.error.InsertError.TheVariants as insert_error
 use Rattle.domain_records.specs.declared.error.SigningError.TheVariants as signing_error
 
--- ---- What errors say, and what a refusal of hashing is to those who sign.
+-- ---- What errors say, and the signing error for a hash error.
 
--- of a chain that could not be made
+-- the text of a signing error
 abbrev pub signing_error_text : SigningError → Octets
 signing_error_text signing_error.EmptyRecordSlice = codes "signing fault"
 signing_error_text signing_error.MultipleTtlValues = codes "RRset with more than one TTL"
@@ -20,19 +20,19 @@ signing_error_text signing_error.SoaRecordCouldNotBeDetermined = codes "no singl
 signing_error_text (signing_error.Nsec3HashingError e) = hash_error_text e
 signing_error_text signing_error.OutOfMemory = codes "out of memory"
 
--- of a record that was not put in
+-- the text of an error of `insert`
 abbrev pub insert_error_text : {N D : Type 0} → InsertError N D → Octets
 insert_error_text (insert_error.Present r) = codes "record already present"
 insert_error_text (insert_error.OutOfMemory r) = codes "out of memory"
 
--- want of memory stays what it is
+-- the signing error for a hash error; out of memory remains `OutOfMemory`
 abbrev pub signing_error_of : Nsec3HashError → SigningError
 signing_error_of OutOfMemory = signing_error.OutOfMemory
 signing_error_of e = signing_error.Nsec3HashingError e
 
 -- ---- Records as text.
 
--- the texts of the elements, one after another, or `None` where the text of one isn't known
+-- the texts of the elements, one after another, or `None` if the text of one is not known
 abbrev pub texts : {X : Type 0} → (X → Option Octets) → List X → Option Octets
 texts output [] = Some []
 texts output (x ∷ xs) = output x ++? texts output xs
@@ -40,12 +40,12 @@ texts output (x ∷ xs) = output x ++? texts output xs
 abbrev pub is_soa : {N D : Type 0} → (D → ℕ) → Record N D → Bool
 is_soa rtype r = rtype r.«data» == soa
 
--- the SOA records, and then the others, each in order
+-- the SOA records and then the others, each part in order
 abbrev pub soa_first : {N D : Type 0} → (D → ℕ) → List (Record N D) → List (Record N D)
 soa_first rtype records =
     filter (is_soa rtype) records ++ filter (λ r. not (is_soa rtype r)) records
 
--- a call of f at x, over a writer, answered `Ok`: the writer was w before and v after it
+-- a call of f with x and a writer that returned `Ok`; the writer was w before it and v after it
 pub record Comments {F X W : Type 0}
     (g : Shared F (Bor X × (MutBor W × Unit {0})) (Result (Unit {0}) Error × (MutBor W × Unit {0})))
     (f : F) (x : X) (w v : W) : Type 0 where
@@ -57,7 +57,7 @@ pub record Comments {F X W : Type 0}
   pub called : g.post f (shown, (target, tt)) (Ok tt, (left, tt))
   pub after : left.now ≡ v
 
--- from w to v: the text of x, what f wrote at it, and a line feed
+-- from w to v: the text of x, what f wrote for it, and a line feed
 abbrev pub WritesLine : {F X W : Type 0} → (W → Octets → W → Type 0) → (X → Option Octets)
     → Shared F (Bor X × (MutBor W × Unit {0})) (Result (Unit {0}) Error × (MutBor W × Unit {0})) → F
     → W → X → W → Type 0

@@ -1,4 +1,4 @@
-//! Why records were not put in or signed.
+//! Errors of inserting, sorting and signing records.
 ghost use Rattle.std.specs.Prelude.{◌≡◌, Some, codes};
 ghost use Rattle.domain_records.specs.declared.error.SigningError.TheVariants as signing_error;
 ghost use Rattle.domain_records.specs.{Groups.refused, Text.{signing_error_of, signing_error_text}};
@@ -10,8 +10,8 @@ use domain_record::Record;
 use std::error::Error;
 use std::fmt;
 
-/// Records were not sorted, since there was no memory for it. Only this crate makes it, so that
-/// whoever has one has seen a sort refused.
+/// The records were not sorted: out of memory. Only this crate can construct the error, so a value
+/// of it means that a sort failed.
 #[derive(Clone, Copy, Debug, PartialEq, Eq)]
 pub struct SortError {
     pub(crate) reason: OutOfMemory,
@@ -30,20 +30,20 @@ impl Error for SortError {}
 /// Why records were not signed.
 #[derive(Clone, Copy, Debug, PartialEq, Eq)]
 pub enum SigningError {
-    /// A group of records holds none.
+    /// A group has no records.
     EmptyRecordSlice,
-    /// Records of one owner and one type differ in their TTLs (RFC 2181, section 5.2).
+    /// Two records of one owner and one type differ in TTL (RFC 2181, section 5.2).
     MultipleTtlValues,
     /// The apex doesn't own exactly one SOA record.
     SoaRecordCouldNotBeDetermined,
-    /// A name was not hashed, or its hash is of no use.
+    /// A name could not be hashed, or its hash cannot be used.
     Nsec3HashingError(Nsec3HashError),
     /// There was no memory.
     OutOfMemory,
 }
 
 impl fmt::Display for SigningError {
-    // These texts stand once more in specs/Text.antt: both change together.
+    // specs/Text.antt repeats these texts: change both together.
     ghost output = { λ e. Some (signing_error_text e) };
 
     fn fmt<W: fmt::Write>(&self, f: &mut fmt::Formatter<W>) -> fmt::Result {
@@ -61,7 +61,7 @@ impl fmt::Display for SigningError {
 
 impl Error for SigningError {}
 
-/// Want of memory stays what it is; every other refusal is one of hashing.
+/// Out of memory remains `OutOfMemory`; every other error becomes `Nsec3HashingError`.
 impl From<Nsec3HashError> for SigningError {
     ghost from_gives = { λ h e. e ≡ signing_error_of h };
 
@@ -81,17 +81,17 @@ impl From<OutOfMemory> for SigningError {
     }
 }
 
-/// Why a record was not put in. Each variant hands the record back.
+/// Why a record was not inserted. Each variant returns the record.
 #[derive(Debug, Drop)]
 pub enum InsertError<N, D> {
-    /// A record that is equal under the canonical order stands there already.
+    /// A record that is equal under the canonical order is already present.
     Present(Record<N, D>),
     /// There was no memory.
     OutOfMemory(Record<N, D>),
 }
 
 impl<N, D> InsertError<N, D> {
-    /// Returns the record that was not put in.
+    /// Returns the record that was not inserted.
     pub fn into_record(self) -> Record<N, D>
         ensures { result ≡ refused self }
     {
@@ -103,7 +103,7 @@ impl<N, D> InsertError<N, D> {
 }
 
 impl<N, D> fmt::Display for InsertError<N, D> {
-    // These texts stand once more in specs/Text.antt: both change together.
+    // specs/Text.antt repeats these texts: change both together.
     ghost output = { λ e. Some (insert_error_text e) };
 
     fn fmt<W: fmt::Write>(&self, f: &mut fmt::Formatter<W>) -> fmt::Result {

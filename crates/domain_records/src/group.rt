@@ -1,5 +1,4 @@
-//! Groups of neighbours: the records of one owner, and those of one owner and one type, one group
-//! after another.
+//! Groups of neighbours: runs of records that share their owner, or their owner and type.
 ghost use Rattle.std.specs.Prelude.{◌≡◌, ◌<◌, ◌↔◌, [], length, map, Any, Bool, IsTrue, IfOk, IfErr, slice_index_or};
 ghost use Rattle.std.specs.{Option.{ForSome, option_map}, Iterator.item_count};
 ghost use Rattle.domain_names.specs.Name.{IsAtOrBelow};
@@ -14,7 +13,7 @@ use domain_base::{Class, Rtype, ToName, Ttl};
 use domain_record::{Record, RecordData};
 use std::marker::{Model, PhantomData};
 
-/// What tells whether two neighbours belong to one group.
+/// A test whether two neighbours belong to one group.
 pub trait Grouping<T> {
     /// The test.
     ghost same: { T → T → Bool };
@@ -114,7 +113,7 @@ fn first_run<T, G: Grouping<T>>(records: &SliceRefsOrOwned<'_, T>) -> usize
     n
 }
 
-/// Takes the first group from the front.
+/// Removes the first group from the front and returns it, or `None` if nothing is left.
 #[tactic(auto, using(std::proofs::lemmas::Grind::common_steps, crate::proofs::GroupLemmas::runs_first))]
 pub(crate) fn take_group<'a, T, G: Grouping<T>>(
     left: &mut SliceRefsOrOwned<'a, T>,
@@ -132,7 +131,7 @@ pub(crate) fn take_group<'a, T, G: Grouping<T>>(
     Some(group)
 }
 
-/// Returns whether the elements are one group, or none.
+/// Returns whether the elements form one group, or there are none.
 pub(crate) fn is_one_run<T, G: Grouping<T>>(records: &SliceRefsOrOwned<'_, T>) -> bool
     ensures { IsTrue result ↔ HoldsOfNeighbours G.same (items_of records.now) }
 {
@@ -159,8 +158,8 @@ impl<'a, N: ToName, D> Model for OwnerRrs<'a, N, D> {
 }
 
 impl<'a, N: ToName, D> OwnerRrs<'a, N, D> {
-    /// Returns the owner, as the first record spells it. The owners of the others differ from it in
-    /// the case of letters at most.
+    /// Returns the owner, in the spelling of the first record. The owners of the other records
+    /// differ from it at most in the case of letters.
     pub fn owner(&self) -> &'a N
         ensures { HasFirst (λ r. r.owner ≡ result.now) self.now }
     {
@@ -174,8 +173,8 @@ impl<'a, N: ToName, D> OwnerRrs<'a, N, D> {
         self.records.at(0).class()
     }
 
-    /// Returns whether some record is NS, and the owner is not the apex. For an owner in the zone
-    /// it then is a delegation.
+    /// Returns whether the owner is not the apex, and some record is of type NS. For an owner in
+    /// the zone, this is a delegation.
     pub fn is_zone_cut(&self, apex: &N) -> bool
     where
         D: RecordData,
@@ -192,7 +191,7 @@ impl<'a, N: ToName, D> OwnerRrs<'a, N, D> {
         self.owner().ends_with(apex)
     }
 
-    /// Returns the groups of records of one type, in the order in which they stand.
+    /// Returns an iterator over the groups of records of one type, in order.
     pub fn rrsets(&self) -> OwnerRrsIter<'a, N, D>
     where
         D: RecordData,
@@ -210,7 +209,7 @@ impl<'a, N: ToName, D> OwnerRrs<'a, N, D> {
         }
     }
 
-    /// Returns the records in order.
+    /// Returns an iterator over the records, in order.
     pub fn records(&self) -> SliceRefsOrOwnedIterator<'a, Record<N, D>>
         ensures { result ≡ self.now }
     {
@@ -218,7 +217,7 @@ impl<'a, N: ToName, D> OwnerRrs<'a, N, D> {
     }
 }
 
-/// Returns whether some record is of this type.
+/// Returns whether some record is of type `wanted`.
 fn has_type<N, D: RecordData>(records: &SliceRefsOrOwned<'_, Record<N, D>>, wanted: Rtype) -> bool
     ensures { IsTrue result ↔ Any (λ r. D.rtype r.«data» ≡ wanted) (items_of records.now) }
 {
@@ -226,9 +225,8 @@ fn has_type<N, D: RecordData>(records: &SliceRefsOrOwned<'_, Record<N, D>>, want
     records.first_match(&is_wanted).is_some()
 }
 
-/// An iterator over the groups of records of one owner, in the order in which they stand. The
-/// groups borrow from the records, and outlive the iterator. Contracts see the list of the records
-/// that are left.
+/// An iterator over the groups of records of one owner, in order. The groups borrow from the
+/// records and outlive the iterator. Contracts see the list of the records that are left.
 #[derive(Drop)]
 pub struct RecordsIter<'a, N: ToName, D> {
     left: SliceRefsOrOwned<'a, Record<N, D>>,
@@ -245,21 +243,21 @@ impl<'a, N: ToName, D> Model for RecordsIter<'a, N, D> {
 }
 
 impl<'a, N: ToName, D> RecordsIter<'a, N, D> {
-    /// Over the records of a slice.
+    /// Returns an iterator over the records of a slice.
     pub fn new(records: SliceRefsOrOwned<'a, Record<N, D>>) -> Self
         ensures { result ≡ items_of records.entry }
     {
         RecordsIter { left: records }
     }
 
-    /// Over the records that the references point to, in their order.
+    /// Returns an iterator over the records that the references point to, in their order.
     pub fn new_from_refs(records: &'a [&'a Record<N, D>]) -> Self
         ensures { result ≡ map (λ p. p.now) records.now }
     {
         RecordsIter::new(SliceRefsOrOwned::new_from_refs(records))
     }
 
-    /// Over records that lie together.
+    /// Returns an iterator over the records of a slice of owned records.
     pub fn new_from_owned(records: &'a [Record<N, D>]) -> Self
         ensures { result ≡ records.now }
     {
@@ -273,7 +271,7 @@ impl<'a, N: ToName, D> RecordsIter<'a, N, D> {
         self.left.len() == 0
     }
 
-    /// Returns the first record left.
+    /// Returns the first record that is left.
     pub fn first(&self) -> &'a Record<N, D>
         requires { 0 < length self.now }
         ensures { HasFirst (λ r. r ≡ result.now) self.now }
@@ -281,15 +279,15 @@ impl<'a, N: ToName, D> RecordsIter<'a, N, D> {
         self.left.at(0)
     }
 
-    /// Returns the records that are left, one after another.
+    /// Returns an iterator over the records that are left.
     pub fn records(&self) -> SliceRefsOrOwnedIterator<'a, Record<N, D>>
         ensures { result ≡ self.now }
     {
         self.left.iter()
     }
 
-    /// Drops records from the front while their owners are not at or below the apex, all where none
-    /// is.
+    /// Drops records from the front until an owner is at or below the apex. Drops all of them if no
+    /// owner is.
     pub fn skip_before(&mut self, apex: &N)
         ensures { SkipsTo (λ r. IsAtOrBelow (N.labels r.owner) (N.labels apex.now))
             self.old self.new }
@@ -299,7 +297,7 @@ impl<'a, N: ToName, D> RecordsIter<'a, N, D> {
         self.left = self.left.back(n);
     }
 
-    /// Returns whether the records left have one class. It holds where none is left.
+    /// Returns whether all records that are left have the same class. True if none is left.
     #[tactic(auto, using(crate::proofs::OrderLemmas::one_class))]
     pub fn is_one_class(&self) -> bool
         ensures { IsTrue result ↔ IsOneClass self.now }
@@ -309,9 +307,9 @@ impl<'a, N: ToName, D> RecordsIter<'a, N, D> {
 }
 
 impl<'a, N: ToName, D: RecordData> RecordsIter<'a, N, D> {
-    /// Returns whether the owners of the records left never descend in the canonical order of names
-    /// (RFC 4034, section 6.1), and their types never descend within an owner. It holds where no
-    /// record is left.
+    /// Returns whether the owners of the records that are left never descend in the canonical order
+    /// of names (RFC 4034, section 6.1), and their types never descend within an owner. True if
+    /// none is left.
     #[tactic(auto, using(crate::proofs::OrderLemmas::in_order))]
     pub fn is_in_order(&self) -> bool
         ensures { IsTrue result ↔ IsInOrder N.labels D.rtype self.now }
@@ -333,10 +331,11 @@ impl<'a, N: ToName, D> Iterator for RecordsIter<'a, N, D> {
     }
 }
 
-/// Records that are taken for an RRset: at least one, and all with one TTL unless the first is an
-/// RRSIG (RFC 2181, section 5.2). It borrows them. Contracts see the list of the records.
+/// Records that form an RRset: at least one, and all with the same TTL unless the first is an RRSIG
+/// (RFC 2181, section 5.2). It borrows them. Contracts see the list of the records.
 ///
-/// That they share owner, class and type is not tested here: the iterators see to owner and type.
+/// This type does not check that they share owner, class and type. The iterators ensure it for
+/// owner and type.
 #[derive(Debug, Drop)]
 pub struct Rrset<'a, N, D: RecordData> {
     records: SliceRefsOrOwned<'a, Record<N, D>>,
@@ -354,7 +353,7 @@ impl<'a, N, D: RecordData> Model for Rrset<'a, N, D> {
     ghost invariant = { λ s. IsRrset D.rtype (items_of s.records) };
 }
 
-/// Returns whether the records have one TTL, or the first is an RRSIG.
+/// Returns whether all records have the same TTL, or the first is an RRSIG.
 #[tactic(auto, using(crate::proofs::OrderLemmas::one_ttl))]
 fn has_one_ttl<N, D: RecordData>(records: &SliceRefsOrOwned<'_, Record<N, D>>) -> bool
     requires { 0 < length (items_of records.now) }
@@ -368,8 +367,8 @@ impl<'a, N, D: RecordData> Rrset<'a, N, D> {
     ///
     /// # Errors
     ///
-    /// `EmptyRecordSlice` where there is no record, and `MultipleTtlValues` where the TTLs differ
-    /// and the first record is not an RRSIG.
+    /// `EmptyRecordSlice` if there is no record, and `MultipleTtlValues` if the TTLs differ and the
+    /// first record is not an RRSIG.
     pub fn new(records: SliceRefsOrOwned<'a, Record<N, D>>) -> Result<Self, SigningError>
         ensures ok { IfOk result
             (λ set. (set ≡ items_of records.entry) × IsRrset D.rtype (items_of records.entry)) }
@@ -384,8 +383,11 @@ impl<'a, N, D: RecordData> Rrset<'a, N, D> {
         Ok(Rrset { records })
     }
 
-    /// Returns the records that the references point to, as an RRset. Its errors are those of
-    /// `new`.
+    /// Returns the records that the references point to, as an RRset.
+    ///
+    /// # Errors
+    ///
+    /// Those of `new`.
     pub fn new_from_refs(records: &'a [&'a Record<N, D>]) -> Result<Self, SigningError>
         ensures ok { IfOk result
             (λ set. (set ≡ map (λ p. p.now) records.now)
@@ -395,7 +397,11 @@ impl<'a, N, D: RecordData> Rrset<'a, N, D> {
         Rrset::new(SliceRefsOrOwned::new_from_refs(records))
     }
 
-    /// Records that lie together, as an RRset. Its errors are those of `new`.
+    /// Returns a slice of owned records as an RRset.
+    ///
+    /// # Errors
+    ///
+    /// Those of `new`.
     pub fn new_from_owned(records: &'a [Record<N, D>]) -> Result<Self, SigningError>
         ensures ok { IfOk result (λ set. (set ≡ records.now) × IsRrset D.rtype records.now) }
         ensures err { IfErr result (IsNoRrset D.rtype records.now) }
@@ -424,7 +430,8 @@ impl<'a, N, D: RecordData> Rrset<'a, N, D> {
         self.first().rtype()
     }
 
-    /// Returns the TTL of the first record, which is that of all unless the first is an RRSIG.
+    /// Returns the TTL of the first record. All records have this TTL, unless the first is an
+    /// RRSIG.
     pub fn ttl(&self) -> Ttl
         ensures first { HasFirst (λ r. r.ttl ≡ result) self.now }
         ensures one { HasOneTtl D.rtype self.now }
@@ -439,7 +446,7 @@ impl<'a, N, D: RecordData> Rrset<'a, N, D> {
         self.records.at(0)
     }
 
-    /// Returns the records in order.
+    /// Returns an iterator over the records, in order.
     pub fn iter(&self) -> SliceRefsOrOwnedIterator<'a, Record<N, D>>
         ensures { result ≡ self.now }
     {
@@ -471,20 +478,20 @@ impl<'a, N, D: RecordData> Rrset<'a, N, D> {
     }
 }
 
-/// An iterator over groups of records as RRsets, in the order in which they stand; `G` tells which
-/// records belong together. A group whose TTLs differ is answered by `MultipleTtlValues`, and the
-/// iterator goes on after it. Contracts see the list of the records that are left.
+/// An iterator over groups of records as RRsets, in order; `G` says which records belong together.
+/// For a group whose TTLs differ, and whose first record is not an RRSIG, it returns
+/// `MultipleTtlValues` and continues after it. Contracts see the list of the records that are left.
 #[derive(Drop)]
 pub struct RrsetGroups<'a, N, D: RecordData, G: Grouping<Record<N, D>>> {
     left: SliceRefsOrOwned<'a, Record<N, D>>,
     grouping: PhantomData<G>,
 }
 
-/// An iterator over the groups of records of one owner and one type. The class is not looked at.
+/// An iterator over the groups of records of one owner and one type. It ignores the class.
 pub type RrsetIter<'a, N, D> = RrsetGroups<'a, N, D, ByRrset>;
 
-/// An iterator over the groups of records of one type within the records of one owner. The class is
-/// not looked at.
+/// An iterator over the groups of records of one type within the records of one owner. It ignores
+/// the class.
 pub type OwnerRrsIter<'a, N, D> = RrsetGroups<'a, N, D, ByType>;
 
 impl<'a, N, D: RecordData, G: Grouping<Record<N, D>>> Model for RrsetGroups<'a, N, D, G> {
@@ -498,7 +505,7 @@ impl<'a, N, D: RecordData, G: Grouping<Record<N, D>>> Model for RrsetGroups<'a, 
 }
 
 impl<'a, N, D: RecordData, G: Grouping<Record<N, D>>> RrsetGroups<'a, N, D, G> {
-    /// Over the records of a slice.
+    /// Returns an iterator over the groups in the records of a slice.
     pub fn new(records: SliceRefsOrOwned<'a, Record<N, D>>) -> Self
         ensures { result ≡ items_of records.entry }
     {
@@ -508,14 +515,15 @@ impl<'a, N, D: RecordData, G: Grouping<Record<N, D>>> RrsetGroups<'a, N, D, G> {
         }
     }
 
-    /// Over the records that the references point to, in their order.
+    /// Returns an iterator over the groups in the records that the references point to, in their
+    /// order.
     pub fn new_from_refs(records: &'a [&'a Record<N, D>]) -> Self
         ensures { result ≡ map (λ p. p.now) records.now }
     {
         RrsetGroups::new(SliceRefsOrOwned::new_from_refs(records))
     }
 
-    /// Over records that lie together.
+    /// Returns an iterator over the groups in a slice of owned records.
     pub fn new_from_owned(records: &'a [Record<N, D>]) -> Self
         ensures { result ≡ records.now }
     {

@@ -1,4 +1,4 @@
-//! Slices of values, and of references to values.
+//! Slices of values, and slices of references to values.
 ghost use Rattle.std.specs.Prelude.{◌≡◌, ◌≤◌, ◌<◌, length, take, drop, slice_get, map};
 ghost use Rattle.std.specs.Iterator.{YieldsFirstRef, item_count};
 ghost use Rattle.domain_records.specs.Groups.{IsFirstMatch, items_of};
@@ -12,7 +12,7 @@ pub struct RefSlice<'a, T> {
     refs: &'a [&'a T],
 }
 
-/// A slice of values, or of references to values that lie elsewhere.
+/// A slice of values, or of references to values.
 #[derive(Debug, Drop)]
 pub enum SliceRefsOrOwned<'a, T> {
     /// References.
@@ -36,14 +36,14 @@ fn item_at<T>(items: &[T], i: usize) -> &T
 }
 
 impl<'a, T> SliceRefsOrOwned<'a, T> {
-    /// Returns what the references point to, in their order.
+    /// Returns a slice of the values that the references point to, in their order.
     pub fn new_from_refs(refs: &'a [&'a T]) -> Self
         ensures { items_of result ≡ map (λ p. p.now) refs.now }
     {
         SliceRefsOrOwned::Refs(RefSlice { refs })
     }
 
-    /// Returns the values of a slice.
+    /// Returns a slice of these values.
     pub fn new_from_owned(owned: &'a [T]) -> Self
         ensures { items_of result ≡ owned.now }
     {
@@ -71,7 +71,7 @@ impl<'a, T> SliceRefsOrOwned<'a, T> {
         }
     }
 
-    /// Returns the first so many values.
+    /// Returns the first `n` values.
     pub fn front(&self, n: usize) -> SliceRefsOrOwned<'a, T>
         requires { n ≤ length (items_of self.now) }
         ensures { items_of result ≡ take n (items_of self.now) }
@@ -82,7 +82,7 @@ impl<'a, T> SliceRefsOrOwned<'a, T> {
         }
     }
 
-    /// Returns all values but the first so many.
+    /// Returns all values after the first `n`.
     pub fn back(&self, n: usize) -> SliceRefsOrOwned<'a, T>
         requires { n ≤ length (items_of self.now) }
         ensures { items_of result ≡ drop n (items_of self.now) }
@@ -93,7 +93,7 @@ impl<'a, T> SliceRefsOrOwned<'a, T> {
         }
     }
 
-    /// Returns the place of the first value of which the test answers true.
+    /// Returns the place of the first value for which `test` returns true.
     pub(crate) fn first_match<F: Fn(&T) -> bool>(&self, test: &F) -> Option<usize>
         requires { F.IsAlwaysCallable test.now }
         ensures { IsFirstMatch F.Fn test.now (items_of self.now) result }
@@ -106,7 +106,7 @@ impl<'a, T> SliceRefsOrOwned<'a, T> {
         None
     }
 
-    /// Returns the values in order. What the iterator hands out outlives it.
+    /// Returns an iterator over the values, in order. Its items outlive it.
     pub fn iter(&self) -> SliceRefsOrOwnedIterator<'a, T>
         ensures { result ≡ items_of self.now }
     {

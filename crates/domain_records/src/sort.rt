@@ -17,8 +17,8 @@ use domain_record::{Record, RecordData};
 use std::alloc::Global;
 use std::cmp::Ordering;
 
-/// A way to sort a list. Implement it to sort with other resources than those of `DefaultSorter`,
-/// such as threads.
+/// A way to sort a list. Implement it to sort with other resources than `DefaultSorter` does, such
+/// as threads.
 pub trait Sorter {
     /// Whether equal elements keep their order.
     ghost is_stable: { Bool };
@@ -27,7 +27,7 @@ pub trait Sorter {
     ///
     /// # Errors
     ///
-    /// `OutOfMemory`.
+    /// `OutOfMemory` if there is no memory.
     fn sort_by<T, F: Fn(&T, &T) -> Ordering>(
         records: &mut Vec<T>,
         compare: F,
@@ -101,9 +101,9 @@ fn with_label(key: u128, label: &[u8]) -> u128 {
     })
 }
 
-/// Returns a key for a name: 21 digits of six bits of its labels below the last `shared` labels,
-/// beginning with the last one. Names in canonical order that share these labels have keys that do
-/// not descend.
+/// Returns a key for a name: 21 six-bit digits of its labels below the last `shared` labels,
+/// beginning with the last of them. Names in canonical order that share these labels have keys that
+/// do not descend.
 ///
 /// The key is a hint: no clause states its order. Compare the names to confirm what keys suggest.
 pub fn owner_key<N: ToName>(name: &N, shared: usize) -> u128 {
@@ -336,8 +336,8 @@ fn count_of_owner<N: ToName, D>(
     runs.len()
 }
 
-/// Returns the places of the records in the order of sorted runs, and within an owner in the order
-/// of the records.
+/// Returns the places of the records, in the order of the sorted runs, and within an owner in the
+/// order of the records.
 fn places_of<N: ToName, D: RecordData + CanonicalOrd>(
     alloc: Global,
     records: &[Record<N, D>],
@@ -361,7 +361,7 @@ fn places_of<N: ToName, D: RecordData + CanonicalOrd>(
     Ok(places)
 }
 
-/// Returns the places of the records in an order by the keys of their owners, which is canonical
+/// Returns the places of the records in the order of the keys of their owners. This is canonical
 /// order unless keys mislead. Of equal records the earliest comes first.
 fn likely_places<N: ToName, D: RecordData + CanonicalOrd, S: Sorter>(
     alloc: Global,
@@ -435,7 +435,7 @@ fn arrange<T>(items: &mut [T], places: &mut [usize], ranks: &mut [usize])
     }
 }
 
-/// Sorts items by the sorter alone. An error leaves the list as it was.
+/// Sorts items with the sorter only. An error leaves the list as it was.
 fn sort_whole<T: CanonicalOrd, S: Sorter>(items: &mut Vec<T>) -> Result<(), OutOfMemory>
     ensures ok { OnOk result
         (IsSortOf S.is_stable T.canonical_cmp items.old.items items.new.items) }
@@ -482,8 +482,8 @@ fn sort<N: ToName, D: RecordData + CanonicalOrd, S: Sorter>(
     Ok(false)
 }
 
-/// Sorts records in canonical order, and keeps the earliest of equal ones. Records that are in
-/// order are looked at once. An error leaves the list as it was.
+/// Sorts records in canonical order, and keeps the earliest of equal ones if the sorter is stable.
+/// Looks once at records that are in order already. An error leaves the list as it was.
 #[tactic(auto, using(std::proofs::lemmas::Grind::common_steps))]
 pub(crate) fn sort_and_dedup<N: ToName + Drop, D: RecordData + CanonicalOrd + Drop, S: Sorter>(
     records: &mut Vec<Record<N, D>>,

@@ -1,5 +1,5 @@
-//! Sorted records: lists as sorted sets, how records are looked up by owner, class and type, and
-//! the records of a zone.
+//! Sorted records: lists as sorted sets, look-ups by owner, class and type, and the records of a
+//! zone.
 ghost use Rattle.std.specs.Prelude.{◌≡◌, ◌↔◌, ◌<◌, ◌≤◌, ◌==◌, ◌++◌, ℕ, [], List, length, not, filter, find};
 ghost use Rattle.std.specs.Prelude.{Option, IsTrue, IfOk, IfErr, OnOk, OnErr, IsErrOf, vec_len, vec_capacity};
 ghost use Rattle.std.specs.{List.{AllZip, list_any}, Fmt.WritesText, Slice.Iter.iter_rest, Option.ForSome};
@@ -24,7 +24,8 @@ use std::alloc::Global;
 use std::marker::{Model, PhantomData};
 use std::{fmt, slice};
 
-/// Where an equal element stands, or where `item` goes, by a binary search.
+/// Searches for an equal item, by a binary search. Returns `Ok` if there is one, or `Err` with the
+/// place where `item` goes.
 fn search<T: CanonicalOrd>(items: &[T], item: &T) -> Result<usize, usize>
     requires { IsStrictlySortedBy T.canonical_cmp items.now }
     ensures found { IfOk result (λ _. Holds T.canonical_cmp items.now item.now) }
@@ -33,7 +34,7 @@ fn search<T: CanonicalOrd>(items: &[T], item: &T) -> Result<usize, usize>
     items.binary_search_by(|stored| stored.canonical_cmp(item))
 }
 
-/// Puts an item in its place, unless an equal one stands. It takes no memory.
+/// Inserts an item in order, unless an equal one is present. Takes no memory.
 fn insert_if_absent<T: CanonicalOrd + Drop>(items: &mut Vec<T>, item: T)
     requires sorted { IsStrictlySortedBy T.canonical_cmp items.old.items }
     requires room { vec_len items.old < vec_capacity items.old }
@@ -45,7 +46,7 @@ fn insert_if_absent<T: CanonicalOrd + Drop>(items: &mut Vec<T>, item: T)
     }
 }
 
-/// Puts items at the end. An error leaves the list as it was.
+/// Appends items. An error leaves the list as it was.
 fn append<T: Drop, U: IntoIterator<Item = T>>(
     items: &mut Vec<T>,
     more: U,
@@ -65,7 +66,7 @@ fn append<T: Drop, U: IntoIterator<Item = T>>(
     Ok(())
 }
 
-/// Copies of the items, in the same order.
+/// Returns copies of the items, in the same order.
 #[tactic(auto, using(std::proofs::lemmas::List::Elements::all_zip_more))]
 fn clone_all<T: TryClone + Drop>(items: &[T], alloc: Global) -> Result<Vec<T>, OutOfMemory>
     ensures { IfOk result (λ copies. AllZip T.is_clone items.now copies.items) }
@@ -77,7 +78,7 @@ fn clone_all<T: TryClone + Drop>(items: &[T], alloc: Global) -> Result<Vec<T>, O
     Ok(copies)
 }
 
-/// Returns whether the record has this owner, and the class and the type that are asked.
+/// Returns whether the record has this owner, class and type. `None` matches any class or type.
 fn is_wanted<N: ToName, D: RecordData>(
     stored: &Record<N, D>,
     owner: &N,
@@ -92,8 +93,8 @@ fn is_wanted<N: ToName, D: RecordData>(
         && stored.rtype() == (*rtype).unwrap_or(stored.rtype())
 }
 
-/// Returns the place of the first record of this owner, of the class and the type that are asked.
-/// Looks at one record after another.
+/// Returns the place of the first record with this owner, class and type. `None` matches any class
+/// or type. Looks at one record after another.
 #[tactic(auto, using(std::proofs::lemmas::Grind::common_steps, crate::proofs::GroupLemmas::first_by))]
 fn first_place<N: ToName, D: RecordData>(
     records: &[Record<N, D>],
@@ -117,7 +118,7 @@ fn first_of_type<N, D: RecordData>(records: &[Record<N, D>], rtype: Rtype) -> Op
     SliceRefsOrOwned::new_from_owned(records).first_match(&is_wanted)
 }
 
-/// Returns the records of one owner and one type that begin at a place.
+/// Returns the group of records of one owner and one type that begins at a place.
 #[tactic(auto, using(crate::proofs::GroupLemmas::taken_group))]
 fn rrset_at<N: ToName, D: RecordData>(
     records: &[Record<N, D>],
@@ -156,7 +157,7 @@ impl<N: ToName, D: RecordData + CanonicalOrd, Sort: Sorter> Model for SortedReco
 }
 
 impl<N: ToName, D: RecordData + CanonicalOrd> SortedRecords<N, D> {
-    /// Returns no records, under the sorter of the standard library. Takes no memory.
+    /// Returns an empty list that uses the default sorter. Takes no memory.
     pub fn default(alloc: Global) -> Self
         ensures { result ≡ [] }
     {
@@ -165,7 +166,7 @@ impl<N: ToName, D: RecordData + CanonicalOrd> SortedRecords<N, D> {
 }
 
 impl<N: ToName, D: RecordData + CanonicalOrd, Sort: Sorter> SortedRecords<N, D, Sort> {
-    /// Returns no records. Takes no memory.
+    /// Returns an empty list. Takes no memory.
     #[tactic(auto, using(crate::proofs::OrderLemmas::sorted_nil))]
     pub fn new(alloc: Global) -> Self
         ensures { result ≡ [] }
@@ -177,12 +178,12 @@ impl<N: ToName, D: RecordData + CanonicalOrd, Sort: Sorter> SortedRecords<N, D, 
     }
 
     /// Sorts the records, and keeps one of those that are equal under the canonical order: the
-    /// earliest, where the sorter is stable. Names are compared rarely where neighbours often have
-    /// one owner.
+    /// earliest, if the sorter is stable. Compares few names if neighbours often have the same
+    /// owner.
     ///
     /// # Errors
     ///
-    /// `SortError` if there is no memory, or where the sorter answers that.
+    /// `SortError` if there is no memory, or if the sorter returns `OutOfMemory`.
     pub fn from_vec(mut records: Vec<Record<N, D>>) -> Result<Self, SortError>
     where
         N: Drop,
@@ -197,11 +198,11 @@ impl<N: ToName, D: RecordData + CanonicalOrd, Sort: Sorter> SortedRecords<N, D, 
         })
     }
 
-    /// Takes the records that an iterator gives, as `from_vec` does.
+    /// Collects and sorts the items of an iterator, as `from_vec` does.
     ///
     /// # Errors
     ///
-    /// `OutOfMemory` if there is no memory, or where the sorter answers it.
+    /// `OutOfMemory` if there is no memory, or if the sorter returns it.
     pub fn from_iter<U: IntoIterator<Item = Record<N, D>>>(
         alloc: Global,
         records: U,
@@ -220,14 +221,13 @@ impl<N: ToName, D: RecordData + CanonicalOrd, Sort: Sorter> SortedRecords<N, D, 
         Ok(all)
     }
 
-    /// Puts records in, and keeps one of those that are equal under the canonical order: the
-    /// earliest, where the sorter is stable, and those that were stored count as earlier. Sorts as
-    /// `from_vec` does.
+    /// Adds records, and keeps one of those that are equal under the canonical order: the earliest,
+    /// if the sorter is stable. Stored records count as earlier. Sorts as `from_vec` does.
     ///
     /// # Errors
     ///
-    /// `OutOfMemory` if there is no memory, or where the sorter answers it. What was stored is then
-    /// as it was.
+    /// `OutOfMemory` if there is no memory, or if the sorter returns it. The stored records are
+    /// then unchanged.
     pub fn extend<U: IntoIterator<Item = Record<N, D>>>(
         &mut self,
         more: U,
@@ -252,13 +252,13 @@ impl<N: ToName, D: RecordData + CanonicalOrd, Sort: Sorter> SortedRecords<N, D, 
         result
     }
 
-    /// Puts one record in, by a binary search. For many records `extend` is meant.
+    /// Inserts one record, by a binary search. For many records use `extend`.
     ///
     /// # Errors
     ///
-    /// `Present` exactly where a record stands that is equal under the canonical order, whatever
-    /// its TTL, and `OutOfMemory`. Both hand the record back, and what was stored is then as it
-    /// was.
+    /// `Present` if and only if a record is present that is equal under the canonical order,
+    /// whatever its TTL. `OutOfMemory` if there is no memory. Both return the record, and leave the
+    /// stored records unchanged.
     pub fn insert(&mut self, added: Record<N, D>) -> Result<(), InsertError<N, D>>
         ensures ok { OnOk result (Adds (record_cmp N.labels D.rtype D.canonical_cmp) self.old
             added self.new) }
@@ -278,8 +278,8 @@ impl<N: ToName, D: RecordData + CanonicalOrd, Sort: Sorter> SortedRecords<N, D, 
         }
     }
 
-    /// Takes out all records of this owner, of the class and the type that are asked: `None` asks
-    /// for any. Answers whether there was one. Takes no memory.
+    /// Removes all records with this owner, class and type. `None` matches any class or type.
+    /// Returns whether there was one. Takes no memory.
     pub fn remove_all_by_name_class_rtype(
         &mut self,
         name: &N,
@@ -305,8 +305,8 @@ impl<N: ToName, D: RecordData + CanonicalOrd, Sort: Sorter> SortedRecords<N, D, 
         }
     }
 
-    /// Takes out the first record of this owner, of the class and the type that are asked: `None`
-    /// asks for any. Answers whether there was one. Takes no memory.
+    /// Removes the first record with this owner, class and type. `None` matches any class or type.
+    /// Returns whether there was one. Takes no memory.
     pub fn remove_first_by_name_class_rtype(
         &mut self,
         name: &N,
@@ -330,9 +330,9 @@ impl<N: ToName, D: RecordData + CanonicalOrd, Sort: Sorter> SortedRecords<N, D, 
         }
     }
 
-    /// Gives the first record that the matcher passes other data, and moves it to its place. It is
-    /// dropped where a record stands there that is equal under the canonical order. Where the
-    /// matcher passes none, nothing changes. Takes no memory.
+    /// Replaces the data of the first record for which `matcher` returns true, and moves the record
+    /// to its new place. Drops it if a record is present that is equal under the canonical order.
+    /// Changes nothing if `matcher` returns true for no record. Takes no memory.
     pub fn update_data<F: Fn(&Record<N, D>) -> bool>(&mut self, matcher: F, data: D)
     where
         N: Drop,
@@ -349,8 +349,8 @@ impl<N: ToName, D: RecordData + CanonicalOrd, Sort: Sorter> SortedRecords<N, D, 
         }
     }
 
-    /// Returns whether a record stands here that is equal under the canonical order, whatever its
-    /// TTL. By a binary search.
+    /// Returns whether a record is present that is equal under the canonical order, whatever its
+    /// TTL. Uses a binary search.
     pub fn contains(&self, wanted: &Record<N, D>) -> bool
         ensures { IsTrue result
             ↔ Holds (record_cmp N.labels D.rtype D.canonical_cmp) self.now wanted.now }
@@ -361,7 +361,7 @@ impl<N: ToName, D: RecordData + CanonicalOrd, Sort: Sorter> SortedRecords<N, D, 
         }
     }
 
-    /// Returns the records of one owner after another.
+    /// Returns an iterator over the groups of records of one owner.
     pub fn owner_rrs(&self) -> RecordsIter<'_, N, D>
         ensures records { result ≡ self.now }
         ensures in_order { IsOneClass self.now → IsInOrder N.labels D.rtype self.now }
@@ -369,7 +369,7 @@ impl<N: ToName, D: RecordData + CanonicalOrd, Sort: Sorter> SortedRecords<N, D, 
         RecordsIter::new_from_owned(self.as_slice())
     }
 
-    /// Returns the records of one owner and one type after another.
+    /// Returns an iterator over the groups of records of one owner and one type.
     pub fn rrsets(&self) -> RrsetIter<'_, N, D>
         ensures { result ≡ self.now }
     {
@@ -380,7 +380,7 @@ impl<N: ToName, D: RecordData + CanonicalOrd, Sort: Sorter> SortedRecords<N, D, 
     ///
     /// # Errors
     ///
-    /// `MultipleTtlValues` where the TTLs of that group differ.
+    /// `MultipleTtlValues` if the TTLs of that group differ.
     #[tactic(auto, using(crate::proofs::GroupLemmas::found_by))]
     pub fn find_soa(&self) -> Result<Option<Rrset<'_, N, D>>, SigningError>
         ensures { IsFound D.rtype
@@ -391,12 +391,12 @@ impl<N: ToName, D: RecordData + CanonicalOrd, Sort: Sorter> SortedRecords<N, D, 
         rrset_at(records, first_of_type(records, Rtype::SOA))
     }
 
-    /// Returns the first group of records of this owner and this type; the owner may be any name,
-    /// not the apex alone. Looks at one record after another.
+    /// Returns the first group of records of this owner and type. The owner may be any name, not
+    /// only the apex. Looks at one record after another.
     ///
     /// # Errors
     ///
-    /// `MultipleTtlValues` where the TTLs of that group differ, and their type is not RRSIG.
+    /// `MultipleTtlValues` if the TTLs of that group differ, and its type is not RRSIG.
     pub fn find_apex_rtype(
         &self,
         apex: &N,
@@ -424,7 +424,7 @@ impl<N: ToName, D: RecordData + CanonicalOrd, Sort: Sorter> SortedRecords<N, D, 
         self.records.is_empty()
     }
 
-    /// Returns the records in order, one after another.
+    /// Returns an iterator over the records, in order.
     pub fn iter(&self) -> slice::Iter<'_, Record<N, D>>
         ensures { iter_rest result ≡ self.now }
     {
@@ -440,7 +440,7 @@ impl<N: ToName, D: RecordData + CanonicalOrd, Sort: Sorter> SortedRecords<N, D, 
         self.records.as_slice()
     }
 
-    /// Returns the records in order, as a list. Takes no memory.
+    /// Returns the records in order, as a `Vec`. Takes no memory.
     pub fn into_inner(self) -> Vec<Record<N, D>>
         ensures records { result.items ≡ self }
         ensures sorted { IsStrictlySortedBy (record_cmp N.labels D.rtype D.canonical_cmp) self }
@@ -449,7 +449,7 @@ impl<N: ToName, D: RecordData + CanonicalOrd, Sort: Sorter> SortedRecords<N, D, 
         records
     }
 
-    /// Copies of the records, in the same order. Uses the allocator of the records.
+    /// Returns copies of the records, in the same order. Uses the allocator of the records.
     ///
     /// # Errors
     ///
@@ -467,7 +467,8 @@ impl<N: ToName, D: RecordData + CanonicalOrd, Sort: Sorter> SortedRecords<N, D, 
         })
     }
 
-    /// Writes the SOA records and then the others, each in order, with nothing between them.
+    /// Writes the SOA records and then the others, each part in order, with nothing between
+    /// records.
     ///
     /// # Errors
     ///
@@ -482,8 +483,8 @@ impl<N: ToName, D: RecordData + CanonicalOrd, Sort: Sorter> SortedRecords<N, D, 
         write_soa_first(self.as_slice(), target, &Plain)
     }
 
-    /// Writes the SOA records and then the others, each in order, and after each what `comment`
-    /// writes at it and one line feed.
+    /// Writes the SOA records and then the others, each part in order. After each record it writes
+    /// what `comment` writes for it, and a line feed.
     ///
     /// # Errors
     ///

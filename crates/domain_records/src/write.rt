@@ -1,4 +1,4 @@
-//! Records as text, those of type SOA first.
+//! Records as text, SOA records first.
 ghost use Rattle.std.specs.Prelude.{◌∷◌, [], filter, OnOk};
 ghost use Rattle.std.specs.{Bool.beq, Fmt.WritesText, List.FoldsTo};
 ghost use Rattle.domain_records.specs.Text.{is_soa, soa_first, WritesLine};
@@ -9,10 +9,10 @@ use std::fmt;
 
 /// A way to write an element.
 pub trait Line<T, W> {
-    /// What a call asks.
+    /// What a call requires.
     ghost is_ready: { Self → Type 0 };
 
-    /// What a call that doesn't fail makes of the writer.
+    /// How a call that succeeds changes the writer.
     ghost writes: { Self → W → T → W → Type 0 };
 
     /// Writes an element.
@@ -21,7 +21,7 @@ pub trait Line<T, W> {
         ensures { OnOk result (writes self.now target.old item.now target.new) };
 }
 
-/// The text of an element alone.
+/// Writes an element and nothing else.
 pub struct Plain;
 
 impl<T: fmt::Display, W: fmt::Write> Line<T, W> for Plain {
@@ -34,7 +34,7 @@ impl<T: fmt::Display, W: fmt::Write> Line<T, W> for Plain {
     }
 }
 
-/// The text of an element, its comment and a line feed.
+/// Writes an element, its comment and a line feed.
 #[derive(Drop)]
 pub struct Commented<F> {
     pub(crate) comment: F,
@@ -53,7 +53,7 @@ impl<T: fmt::Display, W: fmt::Write, F: Fn(&T, &mut W) -> fmt::Result> Line<T, W
     }
 }
 
-/// Writes a record, if it is of type SOA, or if it is not.
+/// Writes the record if it is of type SOA and `of_soa` is true, or if neither holds.
 fn write_picked<N, D: RecordData, W, L: Line<Record<N, D>, W>>(
     item: &Record<N, D>,
     of_soa: bool,
@@ -70,7 +70,7 @@ fn write_picked<N, D: RecordData, W, L: Line<Record<N, D>, W>>(
     line.put(item, target)
 }
 
-/// Writes the records of type SOA, or the others, in their order.
+/// Writes the records of type SOA if `of_soa` is true, else all others, in order.
 fn write_part<N, D: RecordData, W, L: Line<Record<N, D>, W>>(
     records: &[Record<N, D>],
     of_soa: bool,
@@ -87,7 +87,7 @@ fn write_part<N, D: RecordData, W, L: Line<Record<N, D>, W>>(
     Ok(())
 }
 
-/// Writes the records of type SOA, and then the others, each in their order.
+/// Writes the records of type SOA and then the others, each part in order.
 pub(crate) fn write_soa_first<N, D: RecordData, W, L: Line<Record<N, D>, W>>(
     records: &[Record<N, D>],
     target: &mut W,

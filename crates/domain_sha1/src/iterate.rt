@@ -8,7 +8,7 @@ use crate::message::pad;
 use crate::rounds::compress;
 use std::simd::u32x4;
 
-/// Returns a word of a block.
+/// Returns word `i` of a block.
 #[inline(always)]
 fn load_word(block: &[u8; 64], i: usize) -> u32
     requires { i < 16 }

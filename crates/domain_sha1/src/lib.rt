@@ -1,9 +1,8 @@
 //! Hashes of owner names by SHA-1 (RFC 5155, section 5).
 //!
-//! `Sha1Hasher` is the hasher that NSEC3 chains are made with in practice: SHA-1 is the one
-//! algorithm that RFC 5155 has. The crates above may rely on this: it answers the iterated digest
-//! of `specs/Iterated`, for every name, salt and number of iterations, and refuses every other
-//! algorithm.
+//! `Sha1Hasher` is the hasher for NSEC3 chains in practice: SHA-1 is the only algorithm of RFC
+//! 5155. The crates above may rely on this: it returns the iterated digest of `specs/Iterated` for
+//! every name, salt and number of iterations, and an error for every other algorithm.
 //!
 //! Four names are hashed side by side: a vector of `std::simd` holds a word of each of four
 //! messages. `lanes` has the operations on words, `rounds` the compression function of SHA-1,
@@ -25,18 +24,18 @@ use message::{ONE_BLOCK, digest, pad};
 use sha1::Sha1;
 use std::alloc::{AllocError, Global};
 
-/// The number of the refusal of an algorithm other than SHA-1.
+/// The number of the error for an algorithm other than SHA-1.
 pub const OTHER_ALGORITHM: u8 = 1;
 
-/// The greatest length of a salt that is one block with a digest before it.
+/// The greatest length of a salt, in octets, that fits in one block after a digest.
 const MAX_SALT: usize = 35;
 
-/// The hasher of SHA-1, algorithm 1 of RFC 5155, section 11. It refuses every other algorithm, with
-/// the number 1.
+/// The hasher of SHA-1, algorithm 1 of RFC 5155, section 11. For every other algorithm it returns
+/// the error with the number 1.
 #[derive(Clone, Copy, Debug, Default, PartialEq, Eq)]
 pub struct Sha1Hasher;
 
-/// The digest of octets with a salt after them.
+/// Returns the digest of octets followed by a salt.
 fn salted(octets: &[u8], salt: &[u8]) -> [u8; 20]
     ensures { result ≡ sha1 (octets.now ++ salt.now) }
 {
@@ -46,8 +45,8 @@ fn salted(octets: &[u8], salt: &[u8]) -> [u8; 20]
     hasher.finalize()
 }
 
-/// The digest of a name, and then so many times the digest of the one before it (RFC 5155,
-/// section 5).
+/// Returns the digest of a name with the salt, digested again with the salt `iterations` times (RFC
+/// 5155, section 5).
 #[tactic(auto, unfolding(crate::specs::Iterated::iterated))]
 fn hash_name(name: &[u8], iterations: u16, salt: &[u8]) -> [u8; 20]
     ensures { result ≡ iterated salt.now name.now iterations }
@@ -59,7 +58,8 @@ fn hash_name(name: &[u8], iterations: u16, salt: &[u8]) -> [u8; 20]
     digest
 }
 
-/// Whether each name with the salt is a message of one block, and so is a digest with the salt.
+/// Returns whether each name with the salt is a message of one block, and so is a digest with the
+/// salt.
 fn fit_one_block(a: &[u8], b: &[u8], c: &[u8], d: &[u8], salt: &[u8]) -> bool
     ensures { IsTrue result → (length salt.now ≤ 35)
         × (length a.now + length salt.now ≤ 55) × (length b.now + length salt.now ≤ 55)
@@ -69,7 +69,7 @@ fn fit_one_block(a: &[u8], b: &[u8], c: &[u8], d: &[u8], salt: &[u8]) -> bool
     salt.len() <= MAX_SALT && longest <= ONE_BLOCK - salt.len()
 }
 
-/// Returns the digests of four names, which it computes side by side.
+/// Returns the digests of four names, computed side by side.
 fn hash_side_by_side(
     a: &[u8],
     b: &[u8],
@@ -112,7 +112,7 @@ fn hash_names(a: &[u8], b: &[u8], c: &[u8], d: &[u8], iterations: u16, salt: &[u
     ]
 }
 
-/// Copies a digest into a list of its own.
+/// Copies a digest into a `Vec` of its own.
 fn list_digest(alloc: Global, digest: &[u8; 20]) -> Result<Vec<u8>, AllocError>
     ensures { IfOk result (λ hash. hash.items ≡ digest.now) }
 {
@@ -121,7 +121,7 @@ fn list_digest(alloc: Global, digest: &[u8; 20]) -> Result<Vec<u8>, AllocError>
     Ok(hash)
 }
 
-/// Copies four digests, each into a list of its own.
+/// Copies four digests, each into a `Vec` of its own.
 fn list_digests(alloc: Global, digests: &[[u8; 20]; 4]) -> Result<[Vec<u8>; 4], AllocError>
     ensures { IfOk result (λ hashes. map (λ hash. hash.items) hashes ≡ digests.now) }
 {

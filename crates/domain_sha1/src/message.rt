@@ -5,10 +5,11 @@ ghost use Rattle.domain_sha1.specs.Lanes.{lane};
 
 use std::simd::u32x4;
 
-/// The greatest length of a message that is one block with its padding.
+/// The greatest length of a message, in octets, that is one block with its padding.
 pub(crate) const ONE_BLOCK: usize = 55;
 
-/// Writes octets into a block behind those that it begins with. The rest of the block is zeros.
+/// Writes octets into a block at place `at`, after the octets there. The rest of the block is
+/// zeros.
 #[inline(always)]
 fn put(block: &mut [u8; 64], at: usize, octets: &[u8])
     requires { at + length octets.now ≤ 64 }
@@ -18,7 +19,7 @@ fn put(block: &mut [u8; 64], at: usize, octets: &[u8])
     block[at..at + octets.len()].copy_from_slice(octets);
 }
 
-/// Returns the one block of a message, which is given in two parts.
+/// Returns the padded block of the message `octets` followed by `salt`.
 #[inline(always)]
 pub(crate) fn pad(octets: &[u8], salt: &[u8]) -> [u8; 64]
     requires { length octets.now + length salt.now ≤ 55 }

@@ -16,7 +16,7 @@ fn next_word(w: &[u32x4; 80], t: usize) -> u32x4
     mix(w[t - 3], w[t - 8], w[t - 14], w[t - 16])
 }
 
-/// Writes the schedules of blocks behind their words, which are the first 16.
+/// Writes the schedule of each block after its 16 words at the front of the buffer.
 #[inline(always)]
 fn extend(w: &mut [u32x4; 80])
     ensures words { (j : ℕ) (b : List ℕ) → j < 4 → take 16 (lane j w.old) ≡ first_words b 16
@@ -28,7 +28,7 @@ fn extend(w: &mut [u32x4; 80])
     }
 }
 
-/// Runs a round, with the result of its function.
+/// Runs a round, given the result of its function.
 #[inline(always)]
 fn round(v: [u32x4; 5], f: u32x4, k: u32, word: u32x4) -> [u32x4; 5]
     ensures { (j : ℕ) → j < 4
@@ -39,7 +39,7 @@ fn round(v: [u32x4; 5], f: u32x4, k: u32, word: u32x4) -> [u32x4; 5]
     [sum, a, rotate(b, 30), c, d]
 }
 
-/// Runs a round of the first twenty.
+/// Runs one of the first twenty rounds.
 #[inline(always)]
 fn choose_round(v: [u32x4; 5], w: &[u32x4; 80], t: usize) -> [u32x4; 5]
     requires { t < 20 }
@@ -49,7 +49,7 @@ fn choose_round(v: [u32x4; 5], w: &[u32x4; 80], t: usize) -> [u32x4; 5]
     round(v, choose(v[1], v[2], v[3]), 0x5A82_7999, w[t])
 }
 
-/// Runs a round of the second twenty.
+/// Runs one of the second twenty rounds.
 #[inline(always)]
 fn parity_round(v: [u32x4; 5], w: &[u32x4; 80], t: usize) -> [u32x4; 5]
     requires low { 20 ≤ t }
@@ -60,7 +60,7 @@ fn parity_round(v: [u32x4; 5], w: &[u32x4; 80], t: usize) -> [u32x4; 5]
     round(v, parity(v[1], v[2], v[3]), 0x6ED9_EBA1, w[t])
 }
 
-/// Runs a round of the third twenty.
+/// Runs one of the third twenty rounds.
 #[inline(always)]
 fn majority_round(v: [u32x4; 5], w: &[u32x4; 80], t: usize) -> [u32x4; 5]
     requires low { 40 ≤ t }
@@ -71,7 +71,7 @@ fn majority_round(v: [u32x4; 5], w: &[u32x4; 80], t: usize) -> [u32x4; 5]
     round(v, majority(v[1], v[2], v[3]), 0x8F1B_BCDC, w[t])
 }
 
-/// Runs a round of the last twenty.
+/// Runs one of the last twenty rounds.
 #[inline(always)]
 fn last_round(v: [u32x4; 5], w: &[u32x4; 80], t: usize) -> [u32x4; 5]
     requires low { 60 ≤ t }
@@ -82,7 +82,7 @@ fn last_round(v: [u32x4; 5], w: &[u32x4; 80], t: usize) -> [u32x4; 5]
     round(v, parity(v[1], v[2], v[3]), 0xCA62_C1D6, w[t])
 }
 
-/// Runs the first twenty rounds. Five at a time need no moves of the working variables.
+/// Runs the first twenty rounds. Groups of five need no moves of the working variables.
 #[inline(always)]
 fn choose_rounds(v: [u32x4; 5], w: &[u32x4; 80]) -> [u32x4; 5]
     ensures { (j : ℕ) (h : List ℕ) → j < 4 → lane j v ≡ rounds h (lane j w.now) 0
@@ -101,7 +101,7 @@ fn choose_rounds(v: [u32x4; 5], w: &[u32x4; 80]) -> [u32x4; 5]
     v
 }
 
-/// Runs the second twenty rounds. Five at a time need no moves of the working variables.
+/// Runs the second twenty rounds. Groups of five need no moves of the working variables.
 #[inline(always)]
 fn parity_rounds(v: [u32x4; 5], w: &[u32x4; 80]) -> [u32x4; 5]
     ensures { (j : ℕ) (h : List ℕ) → j < 4 → lane j v ≡ rounds h (lane j w.now) 20
@@ -120,7 +120,7 @@ fn parity_rounds(v: [u32x4; 5], w: &[u32x4; 80]) -> [u32x4; 5]
     v
 }
 
-/// Runs the third twenty rounds. Five at a time need no moves of the working variables.
+/// Runs the third twenty rounds. Groups of five need no moves of the working variables.
 #[inline(always)]
 fn majority_rounds(v: [u32x4; 5], w: &[u32x4; 80]) -> [u32x4; 5]
     ensures { (j : ℕ) (h : List ℕ) → j < 4 → lane j v ≡ rounds h (lane j w.now) 40
@@ -139,7 +139,7 @@ fn majority_rounds(v: [u32x4; 5], w: &[u32x4; 80]) -> [u32x4; 5]
     v
 }
 
-/// Runs the last twenty rounds. Five at a time need no moves of the working variables.
+/// Runs the last twenty rounds. Groups of five need no moves of the working variables.
 #[inline(always)]
 fn last_rounds(v: [u32x4; 5], w: &[u32x4; 80]) -> [u32x4; 5]
     ensures { (j : ℕ) (h : List ℕ) → j < 4 → lane j v ≡ rounds h (lane j w.now) 60
@@ -168,8 +168,8 @@ fn run_rounds(state: [u32x4; 5], w: &[u32x4; 80]) -> [u32x4; 5]
     last_rounds(third, w)
 }
 
-/// Returns the states after one more block of each message. The words of the blocks are the first
-/// 16 of the buffer, which stay. The schedule overwrites the others.
+/// Returns the states after one more block of each message. The first 16 vectors of the buffer are
+/// the words of the blocks, and are kept. The schedule overwrites the others.
 pub(crate) fn compress(state: [u32x4; 5], w: &mut [u32x4; 80]) -> [u32x4; 5]
     ensures state { (j : ℕ) (b : List ℕ) → j < 4 → take 16 (lane j w.old) ≡ first_words b 16
         → lane j result ≡ compress (lane j state) b }

@@ -1,6 +1,6 @@
--- What a pair of an owner and a next value in a strict order says of other values (RFC 4034,
--- section 4.1.1; RFC 5155, section 1.3). NSEC takes the canonical order of names, NSEC3 the order
--- of the octets of hashes.
+-- What a pair of an owner and a next value says of other values, in a strict order (RFC 4034,
+-- section 4.1.1; RFC 5155, section 1.3). For NSEC the order is the canonical order of names, for
+-- NSEC3 the order of the octets of hashes.
 use Rattle.std.specs.{Prelude.{Bool, not, ◌&&◌, ◌||◌, cond, List, [], ◌∷◌, ◌++◌, drop}, List.zip}
 
 module _ {X : Type 0} where
@@ -8,8 +8,9 @@ module _ {X : Type 0} where
   abbrev pub matches : (X → X → Bool) → X → X → Bool
   matches lt owner x = not (lt owner x || lt x owner)
 
-  -- x lies strictly after the owner and before the next value; where the next value is not after
-  -- the owner, as in the last record of a chain, x lies on either side of the two
+  -- x is strictly after the owner and strictly before the next value; if the next value is not
+  -- after the owner, as in the last record of a chain, x is after the owner or before the next
+  -- value
   abbrev pub covers : (X → X → Bool) → X → X → X → Bool
   covers lt owner next x =
       not (matches lt owner x)

@@ -32,8 +32,7 @@ pub fn has_type<N: ToName, D: ZoneData>(
     false
 }
 
-/// Returns whether the next name is outside of the zone, or at or below the last name that
-/// occludes.
+/// Returns whether a name is outside of the zone, or at or below the last name that occludes.
 fn is_passed_over<N: ToName>(apex: &N, occluder: Option<&N>, name: &N) -> bool
     ensures { result ≡ is_passed_over (N.labels apex.now)
         (option_map (λ o. N.labels o.now) occluder.entry) (N.labels name.now) }
@@ -69,8 +68,8 @@ impl<N: ToName, D: ZoneData> UnoccludedOwner<'_, N, D> {
 }
 
 /// An iterator over the owners at or below an apex that are not occluded, in canonical order, with
-/// or without unsigned delegations. It skips the records of all others, and takes no memory.
-/// Contracts see the list of the owners that are left.
+/// or without unsigned delegations. It skips all other records, and takes no memory. Contracts see
+/// the list of the owners that are left.
 #[derive(Drop)]
 pub struct UnoccludedOwners<'a, N: ToName, D: ZoneData> {
     apex: &'a N,
@@ -96,10 +95,11 @@ impl<'a, N: ToName, D: ZoneData> UnoccludedOwners<'a, N, D> {
     ghost use Rattle.domain_records.specs.Order.{IsInOrder};
     ghost use Rattle.domain_zone.specs.Zone.{covered_owners};
 
-    /// Returns an iterator over the owners of records in order. Owners strictly below a zone cut
-    /// are left out. `without_unsigned` also leaves out zone cuts without DS records (RFC 5155,
-    /// section 6). `below_dname` also leaves out owners strictly below an owner of a DNAME record
-    /// that is at or below the apex (RFC 6672, section 2.4).
+    /// Returns an iterator over the owners at or below the apex of records that are in order. It
+    /// leaves out owners strictly below a zone cut. If `without_unsigned` is true, it also leaves
+    /// out zone cuts without DS records (RFC 5155, section 6). If `below_dname` is true, it also
+    /// leaves out owners strictly below an owner of a DNAME record that is at or below the apex
+    /// (RFC 6672, section 2.4).
     #[tactic(auto, using(crate::proofs::WalkLemmas::covered_first))]
     pub fn new(
         apex: &'a N,
@@ -165,7 +165,7 @@ fn may_list(at_cut: bool, rtype: Rtype) -> bool
 ///
 /// # Errors
 ///
-/// `OutOfMemory`.
+/// `OutOfMemory` if there is no memory.
 pub fn add_type<B: GrowingBuilder>(
     types: &mut RtypeBitmapBuilder<B>,
     rtype: Rtype,
@@ -181,7 +181,7 @@ pub fn add_type<B: GrowingBuilder>(
 ///
 /// # Errors
 ///
-/// `OutOfMemory`. Some types may have been added then.
+/// `OutOfMemory` if there is no memory. Some types may then have been added.
 #[tactic(auto, using(crate::proofs::GivenLemmas::list_more, crate::proofs::GivenLemmas::list_not))]
 pub fn add_types<B: GrowingBuilder, N: ToName, D: ZoneData>(
     types: &mut RtypeBitmapBuilder<B>,
@@ -200,7 +200,7 @@ pub fn add_types<B: GrowingBuilder, N: ToName, D: ZoneData>(
     Ok(())
 }
 
-/// Adds a type if it is wanted.
+/// Adds a type if `wanted` is true.
 fn add_wanted<B: GrowingBuilder>(
     types: &mut RtypeBitmapBuilder<B>,
     rtype: Rtype,
@@ -215,13 +215,13 @@ fn add_wanted<B: GrowingBuilder>(
     Ok(())
 }
 
-/// Returns the types that a chain lists of an owner: RRSIG, the chain's own type and DNSKEY, each
-/// if it is wanted, and the types of `add_types`. Their octets use the memory of `buffer`, whose
-/// own octets are dropped.
+/// Returns the types that a chain lists for an owner: those of `add_types`, and RRSIG, the type
+/// `own` and DNSKEY, each if it is wanted. The result uses the memory of `buffer`, whose contents
+/// are dropped.
 ///
 /// # Errors
 ///
-/// `OutOfMemory`.
+/// `OutOfMemory` if there is no memory.
 pub fn list_types<N: ToName, D: ZoneData>(
     mut buffer: Vec<u8>,
     owner: &UnoccludedOwner<'_, N, D>,
@@ -278,15 +278,15 @@ pub fn uneven_type<N: ToName, D: ZoneData>(
     None
 }
 
-/// Names of a chain that own records, and the types of each.
+/// The names of a chain that own records, and the types of each.
 ///
-/// Out of memory for one name, the list is full, and gets no other name. The walk that fills it
-/// goes on, and finds the faults of the owners that are left.
+/// If there is no memory for a name, the list is full and gets no more names. The walk that fills
+/// it continues, and finds the faults of the owners that are left.
 #[derive(Drop)]
 pub struct ListedOwners<'a> {
     /// The names.
     pub names: Vec<ParsedName<'a>>,
-    /// The types of each.
+    /// The types of each name.
     pub types: RtypeBitmaps,
     /// Whether there was no memory for a name.
     pub is_full: bool,
@@ -306,8 +306,9 @@ impl<'a> ListedOwners<'a> {
         }
     }
 
-    /// Adds an owner with its types. It is full if there is no memory for them, or if they are an
-    /// error. Returns the octets of the types, as a buffer for those of the next owner.
+    /// Adds an owner with its types. The list becomes full if there is no memory for them, or if
+    /// `types` is an error. Returns the octets of the types, as a buffer for the types of the next
+    /// owner.
     fn add(
         &mut self,
         name: ParsedName<'a>,
@@ -331,17 +332,17 @@ impl<'a> ListedOwners<'a> {
     }
 }
 
-/// The types that a chain lists of an owner.
+/// The types that a chain lists for an owner.
 pub trait ChainTypes {
     /// The octets of the type bitmap of an owner. The first argument says whether it is the apex.
     ghost bits: { Self → Bool → OwnerRecords → Octets };
 
-    /// Returns the types of an owner. Their octets use the memory of `buffer`, whose own octets are
+    /// Returns the types of an owner. The result uses the memory of `buffer`, whose contents are
     /// dropped.
     ///
     /// # Errors
     ///
-    /// `OutOfMemory`.
+    /// `OutOfMemory` if there is no memory.
     fn types_of<N: ToName, D: ZoneData>(
         &self,
         buffer: Vec<u8>,
@@ -352,12 +353,12 @@ pub trait ChainTypes {
             (as_owner_records N.labels D.rtype D.minimum owner.now)) };
 }
 
-/// Returns the owners of `UnoccludedOwners::new`, each with the types that a chain lists.
+/// Returns the owners of `UnoccludedOwners::new`, each with the types that a chain lists for it.
 ///
 /// # Errors
 ///
 /// `MultipleTtlValues` if two records of such an owner have the same type, other than RRSIG, and
-/// different TTLs. Otherwise `OutOfMemory`.
+/// different TTLs. Otherwise `OutOfMemory` if there is no memory.
 pub fn list_owners<'a, N: ToName, D: ZoneData, T: ChainTypes>(
     alloc: Global,
     apex: &'a N,

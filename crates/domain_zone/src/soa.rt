@@ -6,7 +6,7 @@ use domain_base::{Class, Rtype, ToName, Ttl};
 use domain_record::{Record, ZoneData};
 use domain_records::SliceRefsOrOwnedIterator;
 
-/// The numbers of the SOA record of an apex that a chain needs.
+/// The fields of the SOA record of an apex that a chain needs.
 #[derive(Clone, Copy, Debug, PartialEq, Eq)]
 pub struct ApexSoa {
     /// The class of the record.
@@ -34,8 +34,8 @@ fn is_soa_at<N: ToName, D: ZoneData>(apex: &N, candidate: &Record<N, D>) -> bool
     candidate.rtype() == Rtype::SOA && candidate.owner().name_eq(apex)
 }
 
-/// Returns the numbers of the SOA record of the apex. Returns `None` unless the apex owns exactly
-/// one record of type SOA, and its data have a MINIMUM. Takes no memory.
+/// Returns the class, TTL and MINIMUM of the SOA record of the apex. Returns `None` unless the apex
+/// owns exactly one record of type SOA, and its data have a MINIMUM. Takes no memory.
 pub fn find_soa<N: ToName, D: ZoneData>(
     apex: &N,
     mut records: SliceRefsOrOwnedIterator<'_, Record<N, D>>,
