@@ -27,9 +27,10 @@ pub enum Answer {
     /// The name exists but owns no records of the type: it owns records of other types, or is an
     /// empty non-terminal (RFC 2308, section 2.2).
     NoData,
-    /// There is no such name, and the wildcard below its closest encloser owns records of the type
-    /// or is a zone cut (RFC 4592, section 3.3). The closest encloser has so many labels, as the
-    /// signatures of the expanded records say in their field Labels (RFC 4035, section 5.3.4).
+    /// The name does not exist, and the wildcard below its closest encloser owns records of the
+    /// type or is a zone cut (RFC 4592, section 3.3). The number counts the labels of the closest
+    /// encloser, as does the Labels field in the signatures of the expanded records (RFC 4035,
+    /// section 5.3.4).
     Wildcard(usize),
     /// The name does not exist, and the wildcard below its closest encloser owns a CNAME record,
     /// which answers in place of the type. The number counts the labels of the closest encloser.

@@ -157,9 +157,8 @@ pub fn hashed_whole_chains_prove_all()
     hashed_chains_are_known();
 }
 
-/// The whole NSEC3 chain of a zone proves, for each name that was expanded from a wildcard, that
-/// the next closer name does not exist. This holds if the name does not exist and no name of the
-/// chain has its hash.
+/// For each name that was expanded from a wildcard, the whole NSEC3 chain of a zone proves that the
+/// next closer name does not exist, if it does not and no name of the chain has its hash.
 #[tactic(auto, using(crate::proofs::HashedAnswerLemmas::whole_closer))]
 pub fn hashed_whole_chains_prove_expansions()
     ensures { (L : List ZoneRecord) (a : Name) (config : ChainConfig) (links : List HashedLink)
