@@ -31,7 +31,7 @@ pub(crate) enum Fault {
     /// Records of one owner and one type differ in their TTLs; the one at this offset has another
     /// TTL than those before it.
     Ttls(usize),
-    /// The chain has so many octets, for which there is no room.
+    /// The chain has this number of octets, and the buffer has no room for it.
     ShortBuffer(usize),
     /// The salt has over 255 octets.
     LongSalt,
