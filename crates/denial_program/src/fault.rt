@@ -71,7 +71,8 @@ impl fmt::Display for DenialFault {
 const USAGE: &str = "usage: denial nsec APEX | denial nsec3 APEX ITERATIONS SALT [optout] \
      | denial check nsec APEX NAME TYPE | denial check nsec3 APEX NAME TYPE";
 
-/// Returns an error of a device is that device's fault, unless it is lack of memory.
+/// Converts an error of a device to the fault of that device, or to `OutOfMemory` if the error is
+/// out of memory.
 pub fn fault_of(error: &io::Error, fault: DenialFault) -> DenialFault
     ensures either { (result ≡ fault) ⊎ (result ≡ denial_fault.OutOfMemory) }
     ensures memory { (result ≡ denial_fault.OutOfMemory)

@@ -28,7 +28,7 @@ pub enum Line<'a> {
     Nothing,
     /// A record, with its owner and the canonical form of its data in an arena.
     Record(BorrowedRecord<'a>),
-    /// None of these.
+    /// The line is none of these.
     Bad,
 }
 
