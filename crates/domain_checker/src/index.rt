@@ -262,9 +262,9 @@ impl<'a, O: Octets, N: ToName> Model for Nsec3Index<'a, O, N> {
 }
 
 impl<'a, O: Octets, N: ToName> Nsec3Index<'a, O, N> {
-    /// Reads the owner of each record once (RFC 5155, section 3). A record is ignored if its
-    /// algorithm, iterations or salt differ from those of the NSEC3PARAM record, or if its owner is
-    /// not one label in Base 32 hex before the apex. Classes, TTLs and flags are not compared.
+    /// Reads the owner of each record once (RFC 5155, section 3). A record is ignored if it differs
+    /// from the NSEC3PARAM record in algorithm, iterations or salt. It is also ignored if its owner
+    /// is not one label in Base 32 hex before the apex. Classes, TTLs and flags are not compared.
     ///
     /// If no two records match or cover the same hash, as in a chain, they are sorted, and each
     /// hash is found by a search. Otherwise they are compared one by one, in their order.

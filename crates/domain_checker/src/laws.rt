@@ -77,9 +77,9 @@ pub fn whole_chains_prove_all()
     chains_are_known();
 }
 
-/// The whole NSEC3 chain of a zone proves what the zone says of a name and a type, unless another
-/// name of the chain has the hash of the name or of an ancestor at or below the apex. The zone says
-/// something of each name and type.
+/// The whole NSEC3 chain of a zone proves what the zone says of a name and a type. For this, no
+/// other name of the chain may have the hash of the name or of an ancestor at or below the apex.
+/// The zone says something of each name and type.
 #[tactic(auto, using(crate::proofs::HashedVerdictLemmas::whole_chain_proves, crate::proofs::HashedVerdictLemmas::hashed_zone_says))]
 pub fn whole_hashed_chains_prove_all()
     ensures zone { (L : List ZoneRecord) (a : Name) (config : ChainConfig)

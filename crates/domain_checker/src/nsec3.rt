@@ -204,9 +204,9 @@ fn look_up<'a, A: ToName, O: Octets, N: ToName, H: Nsec3Hasher>(
 /// if they match neither the name nor an ancestor at or below the apex, or if the name is not at or
 /// below the apex.
 ///
-/// The records may be any, in any order, with repeats. A record is ignored if its algorithm,
-/// iterations or salt differ from those of the NSEC3PARAM record, or if its owner is not one label
-/// in Base 32 hex before the apex. Classes, TTLs and flags are not compared.
+/// The records may be any, in any order, with repeats. A record is ignored if it differs from the
+/// NSEC3PARAM record in algorithm, iterations or salt. It is also ignored if its owner is not one
+/// label in Base 32 hex before the apex. Classes, TTLs and flags are not compared.
 ///
 /// Names are hashed with the parameters of the NSEC3PARAM record, from the name towards the apex,
 /// up to the first that a record matches. No name is hashed twice. A name that is not at or below
@@ -351,8 +351,9 @@ pub(crate) fn found_verdict<A: ToName, O: Octets, N: ToName>(
 /// Returns what records of an NSEC3 chain prove about a name and a type (RFC 5155, section 8).
 ///
 /// The records may be any of the zone's chain, in any order, with repeats. A record is ignored if
-/// its algorithm, iterations or salt differ from those of the NSEC3PARAM record, or if its owner is
-/// not one label in Base 32 hex before the apex. Classes, TTLs and flags are not compared.
+/// it differs from the NSEC3PARAM record in algorithm, iterations or salt. It is also ignored if
+/// its owner is not one label in Base 32 hex before the apex. Classes, TTLs and flags are not
+/// compared.
 ///
 /// Names are hashed with the parameters of the NSEC3PARAM record, from the name towards the apex,
 /// up to the first that a record matches. No name is hashed twice. A name that is not at or below
