@@ -261,8 +261,8 @@ proved_expansion L a config listed x n =
     (if not (is_covered (chain_records a config listed) closer) then NotProven else
     missing_closer config n)
 
--- the answer is what the records prove about any zone whose chain they are from, except for TTLs,
--- classes and the case of letters, in any order, with repeats, if no other name of the chain has
+-- the answer is what the records, in any order, with repeats, prove about any zone whose chain they
+-- are from; TTLs, classes and the case of letters may differ, and no other name of the chain has
 -- the hash of the next closer name
 abbrev pub IsExpansionAnswered : HashedRecords → Name → ℕ → Answer → Type 0
 IsExpansionAnswered R x n answer =

@@ -138,8 +138,8 @@ pub fn expansions_ignore_case_and_ttl()
         → IsExpansionRead (with_links R other) x n answer }
 {}
 
-/// The whole NSEC3 chain of a zone proves what the zone answers for every name and type, unless a
-/// hash that is looked up belongs to another name of the chain. The zone has an answer for each.
+/// The whole NSEC3 chain of a zone proves what the zone answers for every name and type. For this,
+/// no other name of the chain may have a hash that is looked up. The zone has an answer for each.
 #[tactic(auto, using(crate::proofs::HashedAnswerLemmas::whole_proves, crate::proofs::HashedAnswerLemmas::zone_says))]
 pub fn hashed_whole_chains_prove_all()
     ensures zone { (L : List ZoneRecord) (a : Name) (config : ChainConfig)
@@ -158,7 +158,8 @@ pub fn hashed_whole_chains_prove_all()
 }
 
 /// For each name that was expanded from a wildcard, the whole NSEC3 chain of a zone proves that the
-/// next closer name does not exist, if it does not and no name of the chain has its hash.
+/// next closer name does not exist. This holds if that name does not exist and no name of the chain
+/// has its hash.
 #[tactic(auto, using(crate::proofs::HashedAnswerLemmas::whole_closer))]
 pub fn hashed_whole_chains_prove_expansions()
     ensures { (L : List ZoneRecord) (a : Name) (config : ChainConfig) (links : List HashedLink)

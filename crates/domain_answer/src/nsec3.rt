@@ -136,8 +136,9 @@ fn read_wildcard<A: ToName, O: Octets, N: ToName, M: ToName, H: Nsec3Hasher>(
 /// section 8; RFC 6840, sections 4.1, 4.3 and 4.4).
 ///
 /// The records may be any of the zone's chain, in any order, with repeats. A record is ignored if
-/// its algorithm, iterations or salt differ from those of the NSEC3PARAM record, or if its owner is
-/// not one label in Base 32 hex before the apex. Classes, TTLs and flags are not compared.
+/// it differs from the NSEC3PARAM record in algorithm, iterations or salt. It is also ignored if
+/// its owner is not one label in Base 32 hex before the apex. Classes, TTLs and flags are not
+/// compared.
 ///
 /// If the NSEC3PARAM record has more iterations than the limit, nothing is hashed, and the answer
 /// is `TooManyIterations` (RFC 9276, section 3.2). Otherwise names are hashed from the name towards
