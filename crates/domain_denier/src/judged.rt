@@ -112,9 +112,9 @@ pub(crate) fn of_wildcard<A: ToName, N: ToName>(
 }
 
 /// Returns the place of the record that matches or covers the wildcard below the closest encloser
-/// of a name, which has `count` labels, and what this record and the first one say of the name. The
-/// first record denies the name. If the first does not match or cover the wildcard, what the
-/// suggested record says of the wildcard is the answer of both.
+/// of a name, and what this record and the first one say of the name. The closest encloser has
+/// `count` labels. The first record denies the name. If the first does not match or cover the
+/// wildcard, what the suggested record says of the wildcard is the answer of both.
 pub(crate) fn second_of<A: ToName, N: ToName, M: ToName>(
     apex: &A,
     chain: &NsecChain<'_, N>,

@@ -8,10 +8,11 @@
 //! records, a question costs about twenty comparisons of names. `NsecDenier`, made once for a
 //! chain, does the same by comparing only the names that decide what a record says.
 //!
-//! `deny_nsec3` picks the records of an NSEC3 chain, which `judge_nsec3` accepts: the one that
-//! matches the closest encloser of the name, the one that covers the name one label longer, and the
-//! one of the wildcard, each if the answer rests on it. It hashes the names from the name up to the
-//! closest encloser and, if needed, the wildcard, and searches for each hash in the same way.
+//! `deny_nsec3` picks the records of an NSEC3 chain, which `judge_nsec3` accepts. They are the
+//! record that matches the closest encloser of the name, the one that covers the name one label
+//! longer, and the one of the wildcard. Each is picked if the answer rests on it. It hashes the
+//! names from the name up to the closest encloser and, if needed, the wildcard, and searches for
+//! each hash in the same way.
 #![tactic(auto)]
 
 mod encloser;

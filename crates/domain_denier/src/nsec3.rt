@@ -89,9 +89,9 @@ fn opt_out_at<O: Octets>(chain: &Nsec3Chain<'_, O>, place: Option<usize>) -> Opt
     Some(lend_at(chain, place?).data().opt_out())
 }
 
-/// Returns what the records of the closest encloser and of the next closer name say of a name, and
-/// the place of the second record if the answer rests on it. No wildcard is looked up for a name
-/// that does not exist.
+/// Returns what the records of the closest encloser and of the next closer name say of a name. Also
+/// returns the place of the second record, if the answer rests on it. No wildcard is looked up for
+/// a name that does not exist.
 fn first_answer<O: Octets, M: ToName>(
     chain: &Nsec3Chain<'_, O>,
     encloser: PlacedEncloser,
