@@ -24,8 +24,8 @@ pub(crate) fn verdict_told(verdict: Result<Verdict, Fault>) -> (u32, usize)
     }
 }
 
-/// Returns the number of a whole answer or a fault, and the number of labels of the zone cut, the
-/// owner of the DNAME record or the closest encloser, or 0 if there is none.
+/// Returns the number of a whole answer or a fault, and a number of labels, or 0 if there is none.
+/// The labels are those of the zone cut, the owner of the DNAME record or the closest encloser.
 pub(crate) fn answer_told(answer: Result<Answer, Fault>) -> (u32, usize)
     ensures { result ≡ told_by answer_told answer }
 {

@@ -13,8 +13,8 @@ use domain_sha1::Sha1Hasher;
 use std::alloc::Global;
 
 /// Returns whether two names of the NSEC3 chain of the records of the class in `records` have the
-/// same hash. If so, the first name in canonical order that has the hash of an earlier one is
-/// written to `later`, and the first name that has its hash to `earlier`, both in lower case.
+/// same hash. If so, writes the first name in canonical order that has the hash of an earlier one
+/// to `later`, and the first name that has its hash to `earlier`. Both are in lower case.
 ///
 /// # Errors
 ///

@@ -1,11 +1,12 @@
-//! Denial of existence for C: what the NSEC or NSEC3 records of a message answer to a question
-//! about a name and a type as a whole, and what they prove about one name and one type (RFC 4035,
-//! section 5.4; RFC 5155, section 8).
+//! Denial of existence for C (RFC 4035, section 5.4; RFC 5155, section 8). The functions return
+//! what the NSEC or NSEC3 records of a message answer to a question as a whole, and what they prove
+//! about one name and one type. Others make the chains of a zone.
 //!
-//! Names and records are passed as octets, in wire format without compression. Each function
-//! returns what `judge_nsec`, `judge_nsec3` or `judge_nsec3_expansion` of `domain_answer`, or
-//! `check_nsec` or `check_nsec3` of `domain_checker`, returns for these records, or the reason why
-//! there is none. `include/denial.h` describes the functions and their numbers for C.
+//! Names and records are passed as octets, in wire format without compression. Each function that
+//! judges or checks returns what `judge_nsec`, `judge_nsec3` or `judge_nsec3_expansion` of
+//! `domain_answer`, or `check_nsec` or `check_nsec3` of `domain_checker`, returns for these
+//! records, or the reason why there is none. `include/denial.h` describes the functions and their
+//! numbers for C.
 #![tactic(auto)]
 
 ghost use Rattle.std.specs.Prelude.{◌≡◌, false};
